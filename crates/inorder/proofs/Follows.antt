@@ -22,7 +22,6 @@ use Rattle.inorder.specs.Tenants.{Addr, Busy, Done, Fate, IsThere, Live, Miss, O
 use Rattle.inorder.specs.Theorem.{IsInOrder}
 use Rattle.inorder.specs.Unit.{at, creator, front_pc, last_writer, value_of}
 use Rattle.inorder.proofs.Basics.{eqb_self, fetched_at, last_writer_below, length_put, length_write, number_there, put_in, put_out, read_other, read_same, read_zero, value_of_more}
-use Rattle.inorder.proofs.Kept.{sound}
 use Rattle.inorder.proofs.Sound.{DoneIs, FateIs, GoesOn, HasRead, IsInPlace, IsOwn, IsSettled, IsSound, IsSoundAt, LoadIs, Needs, SettledBy, ValueIs}
 
 pub settled_cases : (st : Standing) (f : Fate) → SettledBy st f → (st ≡ Squashed) ⊎ ((st ≡ Retired) × (commits_by st f ≡ true))

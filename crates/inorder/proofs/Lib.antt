@@ -3,3 +3,8 @@ mod Sound
 mod Grows
 mod Follows
 mod Kept
+mod Stations
+mod Commits
+mod Tags
+mod StationsShown
+mod OperandsShown
