@@ -1,5 +1,5 @@
 -- Numbers as bytes, the lowest first.
-use Rattle.std.specs.Prelude.{ℕ, zero, suc, ◌+◌, ◌*◌, ◌/◌, ◌%◌, Option, Some, None}
+use Rattle.std.specs.Prelude.{ℕ, zero, suc, ◌+◌, ◌*◌}
 
 -- the number in w bytes from an address on
 abbrev pub little_endian : (ℕ → ℕ) → ℕ → ℕ → ℕ

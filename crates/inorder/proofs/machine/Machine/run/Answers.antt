@@ -6,7 +6,6 @@ use Rattle.isa.specs.declared.op.Kind.TheVariants.{Computes, Jumps, Links, Loads
 use Rattle.isa.specs.declared.stop.Outcome.{Outcome}
 use Rattle.isa.specs.declared.stop.Outcome.TheVariants.{Value, Next, Address, Stop as Stops}
 use Rattle.isa.specs.Instruction.{kind}
-use Rattle.isa.specs.Operations.{outcome}
 use Rattle.isa.specs.Programs.{Program, instr_at}
 use Rattle.inorder.specs.declared.machine.Stepped.TheVariants.{Ran as HasRan}
 use Rattle.inorder.specs.Machine.{State, Ran, Goes, Halts, after_access, ran, fetched, step}
