@@ -49,7 +49,7 @@ leaves P ts t (Miss x) e c s h = absurd h
 leaves P ts t (Stopped x) e c s h = absurd (true≢false (sym c))
 
 -- its computed next pc is where the path goes on
-next_done : (P : Program) (t : Tenant) (v : ℕ) (k : Kind) → kind_of P t ≡ k → GoesOn k t.pc t.next → DoneIs P t v k → computed_next P t ≡ t.next
+pub next_done : (P : Program) (t : Tenant) (v : ℕ) (k : Kind) → kind_of P t ≡ k → GoesOn k t.pc t.next → DoneIs P t v k → computed_next P t ≡ t.next
 next_done P t v Computes ek g d = rw d.0 (sym g)
 next_done P t v Jumps ek g d = rw d.0 (sym d.1)
 next_done P t v Links ek g d = rw d.0 (sym d.1)

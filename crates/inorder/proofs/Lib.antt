@@ -8,3 +8,6 @@ mod Commits
 mod Tags
 mod StationsShown
 mod OperandsShown
+mod Words
+mod WordsKept
+mod Fated

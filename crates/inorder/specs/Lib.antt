@@ -12,3 +12,4 @@ pub mod Laws
 pub mod StationWords
 pub mod OperandWords
 pub mod Fates
+pub mod Numbers
