@@ -12,15 +12,15 @@ use Rattle.isa.specs.declared.op.Kind.TheVariants.{Computes, Jumps, Links, Loads
 use Rattle.isa.specs.declared.stop.Outcome.{Outcome}
 use Rattle.isa.specs.declared.stop.Outcome.TheVariants.{Address, Next, Stop as Stops, Value}
 use Rattle.isa.specs.declared.stop.Stop.{Stop}
-use Rattle.inorder.specs.Bytes.{little_endian}
 use Rattle.inorder.specs.Committed.{commits, commits_by, committed, with_stored, with_tenant}
 use Rattle.inorder.specs.Machine.{Goes, Halts, State, advanced, after_access, fetched, ran, step, store_bytes, write}
-use Rattle.inorder.specs.Memory.{Stored, byte_after, byte_at, byte_of, covers, stored, stored_by}
+use Rattle.inorder.specs.Memory.{Stored, byte_after, byte_at, covers, stored, stored_by}
 use Rattle.inorder.specs.Runs.{after, next_state, stop, stop_of, then_state, then_stop}
 use Rattle.inorder.specs.Steps.{CanRetire}
 use Rattle.inorder.specs.Tenants.{Addr, Busy, Done, Fate, IsThere, Live, Miss, Open, Operand, Retired, Squashed, Standing, Stopped, Tenant, computed, computed_next, destination_of, instr, kind_of, next_by, on_path, operand_value, stands_on_path}
 use Rattle.inorder.specs.Theorem.{IsInOrder}
 use Rattle.inorder.specs.Unit.{at, creator, front_pc, last_writer, value_of}
+use Rattle.lsq.specs.Bytes.{byte_of, little_endian}
 use Rattle.inorder.proofs.Basics.{eqb_self, fetched_at, last_writer_below, length_put, length_write, number_there, put_in, put_out, read_other, read_same, read_zero, value_of_more}
 use Rattle.inorder.proofs.Sound.{DoneIs, FateIs, GoesOn, HasRead, IsInPlace, IsOwn, IsSettled, IsSound, IsSoundAt, LoadIs, Needs, SettledBy, ValueIs}
 

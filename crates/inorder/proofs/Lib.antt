@@ -11,3 +11,4 @@ mod OperandsShown
 mod Words
 mod WordsKept
 mod Fated
+mod Loads

@@ -19,11 +19,12 @@ use Rattle.inorder.specs.declared.history.Step.TheVariants.{Let, On}
 use Rattle.inorder.specs.declared.history.Supply.{Supply}
 use Rattle.inorder.specs.declared.history.Supply.TheVariants.{From, Known}
 use Rattle.inorder.specs.Legal.{Allowed, AreAllowed, May, Taken, applied, changed, reached}
-use Rattle.inorder.specs.Memory.{Stored, byte_after, byte_at, byte_of, covers, joined, little_endian_if_there, load_value, raw, stored}
+use Rattle.inorder.specs.Memory.{Stored, byte_after, byte_at, covers, load_value, raw, stored}
 use Rattle.inorder.specs.Numbers.{AreWords, FateIsWord, HasWords, IsWord, ValuesAreWords}
 use Rattle.inorder.specs.Steps.{MayLet, MaySupply, finished, let_operand, made_at_end, mended_as, new_tenant}
 use Rattle.inorder.specs.Tenants.{Addr, Busy, Done, Fate, Miss, Open, Stopped, Tenant, computed, instr, kind_of, made_at_let}
 use Rattle.inorder.specs.Unit.{Sizes, UpdateUnit, at, creator, front_pc, made_by, next_station, older, recent, value_of, younger}
+use Rattle.lsq.specs.Bytes.{byte_of, joined, little_endian_if_there}
 use Rattle.inorder.proofs.Basics.{split_at}
 use Rattle.inorder.proofs.Grows.{all_grows, all_mid}
 use Rattle.inorder.proofs.Kept.{parts}

@@ -1,4 +1,3 @@
-pub mod Bytes
 pub mod Machine
 pub mod Runs
 pub mod Tenants
@@ -13,3 +12,4 @@ pub mod StationWords
 pub mod OperandWords
 pub mod Fates
 pub mod Numbers
+pub mod Loads

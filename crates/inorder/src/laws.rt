@@ -10,6 +10,7 @@ ghost use Rattle.inorder.specs.StationWords.{StationsFollow};
 ghost use Rattle.inorder.specs.OperandWords.{OperandsFollow};
 ghost use Rattle.inorder.specs.Fates.{FatesFollow};
 ghost use Rattle.inorder.specs.Numbers.{ValuesAreWords};
+ghost use Rattle.inorder.specs.Loads.{LoadsAreAnswered};
 
 /// Whatever steps were taken, what the unit has committed is the state of the in-order machine
 /// after as many instructions, and a stop that has retired is that machine's stop.
@@ -58,4 +59,11 @@ pub fn fates_follow()
 /// Each value, address and pc of a tenant is a 32-bit word, where the program's numbers are.
 pub fn values_are_words()
     ensures { (p : Program) (c : Sizes) (history : List Taken) → ValuesAreWords p c history }
+{}
+
+/// The rule for loads is right over the live loads and stores. Where it forwards or says memory, the
+/// load may complete, with the bytes of the last older stores or of the committed memory. Where it
+/// blocks, it names an older live store that has no address or overlaps the load.
+pub fn loads_are_answered_right()
+    ensures { (p : Program) (c : Sizes) (history : List Taken) → LoadsAreAnswered p c history }
 {}
