@@ -12,3 +12,9 @@ mod Words
 mod WordsKept
 mod Fated
 mod Loads
+mod Examples
+mod LoopRun
+mod WrongPathRun
+mod StoreRun
+mod ReletRun
+mod DeadLinkRun
