@@ -14,7 +14,7 @@ use Rattle.inorder.specs.Unit.{Sizes, recent}
 use Rattle.inorder.proofs.Examples.{apart, computes_not_links, done_not_stop, less, retired_not_live, squashed_not_live, squashed_not_retired, taken}
 
 -- addiu $1,$0,1 / addiu $3,$0,3 / beq $0,$0,E / addu $2,$1,$1 / E: addu $4,$3,$3 / break
-abbrev dead_link : Program
+abbrev pub dead_link : Program
 dead_link =
     record {
       code =
@@ -27,11 +27,11 @@ dead_link =
       bytes = [];
     }
 
-abbrev ring_of_four : Sizes
+abbrev pub ring_of_four : Sizes
 ring_of_four = record { ring = 4; queue = 4; first_tag = 1 }
 
 -- A tenant on the wrong path is linked to the first instruction, which is at work
-abbrev linked_on_the_wrong_path : List Taken
+abbrev pub linked_on_the_wrong_path : List Taken
 linked_on_the_wrong_path =
     taken 3 (On 2 Finish) ∷
     taken 3 (On 2 Claim) ∷
@@ -76,7 +76,7 @@ linked_on_the_wrong_path_allowed = (
 )
 
 -- Its station is let again, and the new tenant is linked to another creator
-abbrev linked_elsewhere : List Taken
+abbrev pub linked_elsewhere : List Taken
 linked_elsewhere =
     taken 0 (On 4 (Link Second)) ∷
     taken 0 (On 4 (Link First)) ∷
@@ -105,7 +105,7 @@ linked_elsewhere_allowed = (
 )
 
 -- The old links are served, and give the new tenant nothing
-abbrev old_link_served : List Taken
+abbrev pub old_link_served : List Taken
 old_link_served =
     taken 2 (On 3 (Deliver Second)) ∷
     taken 2 (On 3 (Deliver First)) ∷
@@ -126,7 +126,7 @@ old_link_served_allowed = (
 )
 
 -- The new tenant gets its own sources, and all retire in order
-abbrev links_ended : List Taken
+abbrev pub links_ended : List Taken
 links_ended =
     taken 1 (On 5 (Retire 0)) ∷
     taken 2 (On 5 Finish) ∷

@@ -18,3 +18,5 @@ mod WrongPathRun
 mod StoreRun
 mod ReletRun
 mod DeadLinkRun
+mod Forbidden
+mod Refused

@@ -15,7 +15,7 @@ use Rattle.inorder.specs.Unit.{Sizes}
 use Rattle.inorder.proofs.Examples.{apart, computes_not_links, done_not_stop, less, retired_not_live, squashed_not_live, squashed_not_retired, taken}
 
 -- addiu $1,$0,3 / L: addiu $1,$1,-1 / bne $1,$0,L / break
-abbrev loop : Program
+abbrev pub loop : Program
 loop =
     record {
       code =
@@ -26,11 +26,11 @@ loop =
       bytes = [];
     }
 
-abbrev two_stations : Sizes
+abbrev pub two_stations : Sizes
 two_stations = record { ring = 2; queue = 2; first_tag = 1 }
 
 -- The counter is 3, then 2; the second instruction waited for the first
-abbrev counted_to_two : List Taken
+abbrev pub counted_to_two : List Taken
 counted_to_two =
     taken 1 (On 1 (Retire 0)) ∷
     taken 1 (On 0 (Retire 0)) ∷
@@ -79,7 +79,7 @@ counted_to_two_allowed = (
 )
 
 -- The branch was predicted not taken, and is mended; the break behind it is squashed
-abbrev taken_once : List Taken
+abbrev pub taken_once : List Taken
 taken_once =
     taken 1 (On 2 (Retire 0)) ∷
     taken 0 (On 2 Mend) ∷
@@ -124,7 +124,7 @@ taken_once_allowed = (
 )
 
 -- A second time round, where the branch waits for the counter
-abbrev counted_to_one : List Taken
+abbrev pub counted_to_one : List Taken
 counted_to_one =
     taken 1 (On 4 (Retire 0)) ∷
     taken 3 (On 5 Finish) ∷
@@ -169,7 +169,7 @@ counted_to_one_allowed = (
 )
 
 -- The second misprediction
-abbrev taken_twice : List Taken
+abbrev pub taken_twice : List Taken
 taken_twice =
     taken 1 (On 5 (Retire 0)) ∷
     taken 0 (On 5 Mend) ∷
@@ -194,7 +194,7 @@ taken_twice_allowed = (
 )
 
 -- The branch is not taken, as predicted, and the break retires
-abbrev left_the_loop : List Taken
+abbrev pub left_the_loop : List Taken
 left_the_loop =
     taken 1 (On 9 (Retire 0)) ∷
     taken 2 (On 9 Finish) ∷

@@ -14,7 +14,7 @@ use Rattle.inorder.specs.Unit.{Sizes, recent}
 use Rattle.inorder.proofs.Examples.{done_not_stop, less, retired_not_live, squashed_not_live, squashed_not_retired, taken}
 
 -- beq $0,$0,E / addiu $1,$0,1 / E: addiu $2,$0,2 / break
-abbrev relets : Program
+abbrev pub relets : Program
 relets =
     record {
       code =
@@ -25,11 +25,11 @@ relets =
       bytes = [];
     }
 
-abbrev four : Sizes
+abbrev pub four : Sizes
 four = record { ring = 4; queue = 4; first_tag = 1 }
 
 -- Caller 2 holds a job on the wrong path when the branch is found to be a miss
-abbrev job_on_the_wrong_path : List Taken
+abbrev pub job_on_the_wrong_path : List Taken
 job_on_the_wrong_path =
     taken 3 (On 0 Finish) ∷
     taken 3 (On 0 Claim) ∷
@@ -62,7 +62,7 @@ job_on_the_wrong_path_allowed = (
 )
 
 -- Its station is let again, under the next tag
-abbrev relet : List Taken
+abbrev pub relet : List Taken
 relet =
     taken 0 (Let 2 0x40000c (Known 0) (Known 0)) ∷
     taken 0 (On 0 Mend) ∷
@@ -87,7 +87,7 @@ relet_allowed = (
 )
 
 -- All retire in order; the old job is never finished
-abbrev relet_ended : List Taken
+abbrev pub relet_ended : List Taken
 relet_ended =
     taken 1 (On 4 (Retire 0)) ∷
     taken 3 (On 4 Finish) ∷

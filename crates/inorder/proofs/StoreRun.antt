@@ -13,7 +13,7 @@ use Rattle.inorder.specs.Unit.{Sizes}
 use Rattle.inorder.proofs.Examples.{addr_not_stop, apart, computes_not_links, computes_not_stores, done_not_stop, less, retired_not_live, taken}
 
 -- .space 4 / addiu $1,$0,-1 / sw $1,0($0) / sb $0,1($0) / lw $2,0($0) / break
-abbrev bytes_and_words : Program
+abbrev pub bytes_and_words : Program
 bytes_and_words =
     record {
       code =
@@ -25,11 +25,11 @@ bytes_and_words =
       bytes = replicate 4 0;
     }
 
-abbrev four_entries : Sizes
+abbrev pub four_entries : Sizes
 four_entries = record { ring = 4; queue = 4; first_tag = 1 }
 
 -- Load and stores have their addresses; the word store still waits for its data
-abbrev stores_have_addresses : List Taken
+abbrev pub stores_have_addresses : List Taken
 stores_have_addresses =
     taken 3 (On 2 Finish) ∷
     taken 3 (On 2 Claim) ∷
@@ -82,7 +82,7 @@ stores_have_addresses_allowed = (
 )
 
 -- The load takes three bytes of the word store and one of the byte store
-abbrev word_read : List Taken
+abbrev pub word_read : List Taken
 word_read =
     taken 1 (On 3 Load) ∷
     taken 2 (On 1 (Deliver Second)) ∷
@@ -107,7 +107,7 @@ word_read_allowed = (
 )
 
 -- All retire in order
-abbrev bytes_ended : List Taken
+abbrev pub bytes_ended : List Taken
 bytes_ended =
     taken 1 (On 4 (Retire 0)) ∷
     taken 2 (On 4 Finish) ∷
@@ -154,7 +154,7 @@ unfolding instr_at computed_by jump_target checked_address loaded
 bytes_committed = refl
 
 -- .space 4 / addiu $1,$0,7 / sw $1,0($0) / lw $2,0($0) / break
-abbrev forwards : Program
+abbrev pub forwards : Program
 forwards =
     record {
       code =
@@ -165,11 +165,11 @@ forwards =
       bytes = replicate 4 0;
     }
 
-abbrev two_entries : Sizes
+abbrev pub two_entries : Sizes
 two_entries = record { ring = 4; queue = 2; first_tag = 1 }
 
 -- The load has its address before the older store has one
-abbrev load_has_address : List Taken
+abbrev pub load_has_address : List Taken
 load_has_address =
     taken 2 (On 2 Finish) ∷
     taken 2 (On 2 Claim) ∷
@@ -206,7 +206,7 @@ load_has_address_allowed = (
 )
 
 -- The store has address and data, and the load takes its word while the store is live
-abbrev word_forwarded : List Taken
+abbrev pub word_forwarded : List Taken
 word_forwarded =
     taken 1 (On 2 Load) ∷
     taken 2 (On 1 (Deliver Second)) ∷
@@ -239,7 +239,7 @@ word_forwarded_allowed = (
 )
 
 -- All retire in order
-abbrev forward_ended : List Taken
+abbrev pub forward_ended : List Taken
 forward_ended =
     taken 1 (On 3 (Retire 0)) ∷
     taken 3 (On 3 Finish) ∷

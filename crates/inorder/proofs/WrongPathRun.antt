@@ -14,7 +14,7 @@ use Rattle.inorder.specs.Unit.{Sizes}
 use Rattle.inorder.proofs.Examples.{done_not_stop, less, retired_not_live, squashed_not_live, squashed_not_retired, taken}
 
 -- beq $0,$0,E / lw $1,1($0) / E: break
-abbrev skips : Program
+abbrev pub skips : Program
 skips =
     record {
       code =
@@ -24,11 +24,11 @@ skips =
       bytes = [];
     }
 
-abbrev four_stations : Sizes
+abbrev pub four_stations : Sizes
 four_stations = record { ring = 4; queue = 2; first_tag = 1 }
 
 -- Let, Let, Let: the branch is predicted not taken
-abbrev all_let : List Taken
+abbrev pub all_let : List Taken
 all_let =
     taken 0 (Let 2 0x40000c (Known 0) (Known 0)) ∷
     taken 0 (Let 1 0x400008 (Known 0) (Known 0)) ∷
@@ -49,7 +49,7 @@ all_let_allowed = (
 )
 
 -- The load behind the branch has stopped, its address being odd, and the branch is a miss
-abbrev fault_on_the_wrong_path : List Taken
+abbrev pub fault_on_the_wrong_path : List Taken
 fault_on_the_wrong_path =
     taken 2 (On 0 Finish) ∷
     taken 2 (On 0 Claim) ∷
@@ -74,7 +74,7 @@ fault_on_the_wrong_path_allowed = (
 )
 
 -- Recovered: the younger two are squashed, and the branch is mended
-abbrev recovered : List Taken
+abbrev pub recovered : List Taken
 recovered =
     taken 0 (On 0 Mend) ∷
     taken 0 (On 1 Squash) ∷
@@ -95,7 +95,7 @@ recovered_allowed = (
 )
 
 -- Let, Ran, Retired
-abbrev let_again : List Taken
+abbrev pub let_again : List Taken
 let_again =
     taken 1 (On 0 (Retire 0)) ∷
     taken 2 (On 3 Finish) ∷
@@ -120,7 +120,7 @@ let_again_allowed = (
 )
 
 -- Over: the break on the right path retires
-abbrev ended : List Taken
+abbrev pub ended : List Taken
 ended =
     taken 1 (On 3 (Retire 0)) ∷
     let_again

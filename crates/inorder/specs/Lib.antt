@@ -13,3 +13,4 @@ pub mod OperandWords
 pub mod Fates
 pub mod Numbers
 pub mod Loads
+pub mod Guards
