@@ -3,7 +3,7 @@ use Rattle.std.proofs.Common.{◌≡◌, ◌≢◌, ◌⊎◌, ℕ, zero, suc, �
 use Rattle.std.specs.Prelude.{slice_index}
 use Rattle.std.proofs.lemmas.Option.{slice_get-get_or}
 use Rattle.isa.specs.Programs.{Program, address, instr_at, instr_of}
-use Rattle.inorder.specs.Bytes.{little_endian}
+use Rattle.lsq.specs.Bytes.{little_endian}
 use Rattle.inorder.specs.Machine.{store_bytes, write}
 use Rattle.inorder.specs.Memory.{byte_of, joined, little_endian_if_there}
 use Rattle.inorder.specs.Tenants.{Tenant, destination_of, on_path}

@@ -12,7 +12,7 @@ use Rattle.isa.specs.declared.op.Kind.TheVariants.{Computes, Jumps, Links, Loads
 use Rattle.isa.specs.declared.stop.Outcome.{Outcome}
 use Rattle.isa.specs.declared.stop.Outcome.TheVariants.{Address, Next, Stop as Stops, Value}
 use Rattle.isa.specs.declared.stop.Stop.{Stop}
-use Rattle.inorder.specs.Bytes.{little_endian}
+use Rattle.lsq.specs.Bytes.{little_endian}
 use Rattle.inorder.specs.Committed.{commits, commits_by, committed, with_stored, with_tenant}
 use Rattle.inorder.specs.Machine.{Goes, Halts, State, advanced, after_access, fetched, ran, step, store_bytes, write}
 use Rattle.inorder.specs.Memory.{Stored, byte_after, byte_at, byte_of, covers, stored, stored_by}

@@ -1,4 +1,3 @@
-pub mod Bytes
 pub mod Machine
 pub mod Runs
 pub mod Tenants
