@@ -1,0 +1,5 @@
+mod Basics
+mod Sound
+mod Grows
+mod Follows
+mod Kept

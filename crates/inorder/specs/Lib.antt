@@ -1,0 +1,13 @@
+pub mod Machine
+pub mod Runs
+pub mod Tenants
+pub mod Unit
+pub mod Memory
+pub mod Committed
+pub mod Steps
+pub mod Legal
+pub mod Theorem
+pub mod Laws
+pub mod StationWords
+pub mod OperandWords
+pub mod Fates
