@@ -1,5 +1,5 @@
 -- One entry of a list changed.
-use Rattle.std.proofs.Common.{◌≡◌, ℕ, zero, suc, ◌+◌, ◌<◌, ◌≤◌, List, [], ◌∷◌, length, get_or, refl, ap, ◌∙◌, arith, slice_set}
+use Rattle.std.proofs.Common.{◌≡◌, ℕ, zero, suc, ◌<◌, List, [], ◌∷◌, length, get_or, refl, ap, ◌∙◌, arith, slice_set}
 use Rattle.std.specs.List.{refill}
 use Rattle.std.proofs.Math.ListN.{length-set}
 use Rattle.arrayvec.specs.ArrayVec.{ArrayVec}

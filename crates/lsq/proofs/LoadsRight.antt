@@ -1,15 +1,14 @@
 -- The rule for loads gives what the last older stores leave.
-use Rattle.std.proofs.Common.{◌≡◌, ◌⊎◌, ℕ, ◌+◌, ◌-◌, ◌<◌, ◌≤◌, ◌^◌, Bool, true, false, cond, ◌&&◌, leb, List, [], ◌∷◌, ◌++◌, length, get_or, Option, Some, None, refl, sym, ap, ◌∙◌, subst, inl, inr, arith, true≢false, leb-true, length-append}
+use Rattle.std.proofs.Common.{◌≡◌, ◌⊎◌, ℕ, ◌+◌, ◌-◌, ◌<◌, ◌≤◌, ◌^◌, Bool, true, false, cond, ◌&&◌, leb, List, ◌∷◌, ◌++◌, length, Option, Some, None, refl, sym, ap, ◌∙◌, subst, inl, inr, arith, true≢false, leb-true, length-append}
 use Rattle.std.proofs.Math.Seq.{get_or-append_seam}
 use Rattle.std.proofs.lemmas.Option.{slice_get-get_or}
 use Rattle.std.specs.List.{slice_get, AllByRecursion}
-use Rattle.std.specs.Option.{is_some, is_none, IsNone}
+use Rattle.std.specs.Option.{is_none, IsNone}
 use Rattle.lsq.specs.declared.entry.Entry.{Entry}
-use Rattle.lsq.specs.declared.answer.Answer.{Answer}
 use Rattle.lsq.specs.declared.answer.Answer.TheVariants.{Forward, Memory, Blocked}
 use Rattle.lsq.specs.Bytes.{byte_of, little_endian}
 use Rattle.lsq.specs.Entries.{bytes}
-use Rattle.lsq.specs.LoadRule.{lacks_address, overlaps, covers, taken_from, forwarded, by_overlap, by_lacking, youngest, answer_over}
+use Rattle.lsq.specs.LoadRule.{lacks_address, overlaps, taken_from, forwarded, by_overlap, by_lacking, youngest, answer_over}
 use Rattle.lsq.specs.LastStores.{byte_after, byte_left, HasAddress, ReadsStores, ReadsMemory, WaitsFor}
 use Rattle.lsq.proofs.Youngest.{FoundIs, SplitsAt, youngest_is}
 use Rattle.lsq.proofs.LittleEndian.{byte_of-fits, little_endian-fits, byte_of-little_endian, if_there-some, if_there-same}

@@ -1,5 +1,5 @@
 -- What the code takes from a store is the bytes of the load.
-use Rattle.std.proofs.Common.{◌≡◌, ℕ, ◌+◌, ◌-◌, ◌*◌, ◌/◌, ◌%◌, ◌^◌, ◌≤◌, Bool, true, cond, ◌&&◌, leb, Option, Some, None, refl, sym, ap, ◌∙◌, arith, le-leb}
+use Rattle.std.proofs.Common.{◌≡◌, ℕ, ◌+◌, ◌-◌, ◌*◌, ◌/◌, ◌%◌, ◌^◌, ◌≤◌, Bool, true, cond, ◌&&◌, leb, Option, Some, None, sym, ap, ◌∙◌, le-leb}
 use Rattle.lsq.specs.Bytes.{byte_of, little_endian}
 use Rattle.lsq.specs.LoadRule.{covers, taken_from}
 use Rattle.lsq.proofs.LittleEndian.{little_endian-from}

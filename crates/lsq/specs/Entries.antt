@@ -1,5 +1,5 @@
 -- The entries of a queue, the oldest first.
-use Rattle.std.specs.Prelude.{ℕ, zero, suc, Bool, true, false, List, [], ◌∷◌, Option, Some, None, slice_get, option_and_then}
+use Rattle.std.specs.Prelude.{ℕ, zero, suc, Bool, false, List, [], ◌∷◌, Option, Some, None, slice_get, option_and_then}
 use Rattle.lsq.specs.declared.entry.Entry.{Entry}
 use Rattle.lsq.specs.declared.entry.Width.{Width}
 use Rattle.lsq.specs.declared.entry.Width.TheVariants.{Byte, Half, Word}

@@ -1,5 +1,5 @@
 -- What a load has to read: each byte from the last older store to it.
-use Rattle.std.specs.Prelude.{◌≡◌, ℕ, ◌+◌, ◌-◌, ◌<◌, ◌^◌, ◌⊎◌, Bool, true, false, ◌&&◌, IsTrue, IsSome, IsNone, List, [], ◌∷◌, Option, Some, None, nat_lt, nat_le, if◌then◌else◌, slice_get, option_map}
+use Rattle.std.specs.Prelude.{◌≡◌, ℕ, ◌+◌, ◌-◌, ◌<◌, ◌^◌, ◌⊎◌, Bool, true, ◌&&◌, IsTrue, IsSome, IsNone, List, [], ◌∷◌, Option, Some, nat_lt, nat_le, if◌then◌else◌, slice_get, option_map}
 use Rattle.std.specs.List.{AllByRecursion}
 use Rattle.lsq.specs.declared.entry.Entry.{Entry}
 use Rattle.lsq.specs.Bytes.{byte_of, little_endian_if_there}

@@ -68,9 +68,9 @@ fn youngest_overlapping(older: &[Entry], address: u32, width: Width) -> Option<(
     let mut at = older.len();
     while at > 0 {
         at -= 1;
-        let entry = older[at];
-        if overlaps(&entry, address, width) {
-            return Some((at, entry));
+        let store = older[at];
+        if overlaps(&store, address, width) {
+            return Some((at, store));
         }
     }
     None

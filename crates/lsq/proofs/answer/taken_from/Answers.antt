@@ -1,4 +1,4 @@
-use Rattle.std.proofs.Common.{◌≡◌, ◌+◌, ◌≤◌, ◌∙◌, ap, arith, Option, Some}
+use Rattle.std.proofs.Common.{◌+◌, ◌≤◌, ◌∙◌, ap, arith, Some}
 use Rattle.lsq.specs.Entries.{bytes}
 use Rattle.lsq.proofs.Taken.{taken_is}
 use Rattle.lsq.proofs.answer.taken_from.Goals as goal
