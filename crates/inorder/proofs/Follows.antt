@@ -12,17 +12,16 @@ use Rattle.isa.specs.declared.op.Kind.TheVariants.{Computes, Jumps, Links, Loads
 use Rattle.isa.specs.declared.stop.Outcome.{Outcome}
 use Rattle.isa.specs.declared.stop.Outcome.TheVariants.{Address, Next, Stop as Stops, Value}
 use Rattle.isa.specs.declared.stop.Stop.{Stop}
-use Rattle.lsq.specs.Bytes.{little_endian}
 use Rattle.inorder.specs.Committed.{commits, commits_by, committed, with_stored, with_tenant}
 use Rattle.inorder.specs.Machine.{Goes, Halts, State, advanced, after_access, fetched, ran, step, store_bytes, write}
-use Rattle.inorder.specs.Memory.{Stored, byte_after, byte_at, byte_of, covers, stored, stored_by}
+use Rattle.inorder.specs.Memory.{Stored, byte_after, byte_at, covers, stored, stored_by}
 use Rattle.inorder.specs.Runs.{after, next_state, stop, stop_of, then_state, then_stop}
 use Rattle.inorder.specs.Steps.{CanRetire}
 use Rattle.inorder.specs.Tenants.{Addr, Busy, Done, Fate, IsThere, Live, Miss, Open, Operand, Retired, Squashed, Standing, Stopped, Tenant, computed, computed_next, destination_of, instr, kind_of, next_by, on_path, operand_value, stands_on_path}
 use Rattle.inorder.specs.Theorem.{IsInOrder}
 use Rattle.inorder.specs.Unit.{at, creator, front_pc, last_writer, value_of}
+use Rattle.lsq.specs.Bytes.{byte_of, little_endian}
 use Rattle.inorder.proofs.Basics.{eqb_self, fetched_at, last_writer_below, length_put, length_write, number_there, put_in, put_out, read_other, read_same, read_zero, value_of_more}
-use Rattle.inorder.proofs.Kept.{sound}
 use Rattle.inorder.proofs.Sound.{DoneIs, FateIs, GoesOn, HasRead, IsInPlace, IsOwn, IsSettled, IsSound, IsSoundAt, LoadIs, Needs, SettledBy, ValueIs}
 
 pub settled_cases : (st : Standing) (f : Fate) → SettledBy st f → (st ≡ Squashed) ⊎ ((st ≡ Retired) × (commits_by st f ≡ true))
@@ -50,7 +49,7 @@ leaves P ts t (Miss x) e c s h = absurd h
 leaves P ts t (Stopped x) e c s h = absurd (true≢false (sym c))
 
 -- its computed next pc is where the path goes on
-next_done : (P : Program) (t : Tenant) (v : ℕ) (k : Kind) → kind_of P t ≡ k → GoesOn k t.pc t.next → DoneIs P t v k → computed_next P t ≡ t.next
+pub next_done : (P : Program) (t : Tenant) (v : ℕ) (k : Kind) → kind_of P t ≡ k → GoesOn k t.pc t.next → DoneIs P t v k → computed_next P t ≡ t.next
 next_done P t v Computes ek g d = rw d.0 (sym g)
 next_done P t v Jumps ek g d = rw d.0 (sym d.1)
 next_done P t v Links ek g d = rw d.0 (sym d.1)

@@ -165,14 +165,14 @@ link_grows P ts t Second = record { index = refl; next = refl; path = refl; made
 
 -- Deliver
 
-no_first : (k : Kind) (b : Option ℕ) → Needs k None b → ⊥
+pub no_first : (k : Kind) (b : Option ℕ) → Needs k None b → ⊥
 no_first Stores b h = let e = h.1 in cc
 no_first Computes b h = let e = h.0.1 in cc
 no_first Jumps b h = let e = h.0.1 in cc
 no_first Links b h = let e = h.0.1 in cc
 no_first Loads b h = let e = h.0.1 in cc
 
-no_second : (k : Kind) (a : Option ℕ) → k ≢ Stores → Needs k a None → ⊥
+pub no_second : (k : Kind) (a : Option ℕ) → k ≢ Stores → Needs k a None → ⊥
 no_second Stores a n h = n refl
 no_second Computes a n h = let e = h.1.1 in cc
 no_second Jumps a n h = let e = h.1.1 in cc

@@ -3,3 +3,12 @@ mod Sound
 mod Grows
 mod Follows
 mod Kept
+mod Stations
+mod Commits
+mod Tags
+mod StationsShown
+mod OperandsShown
+mod Words
+mod WordsKept
+mod Fated
+mod Loads

@@ -11,3 +11,5 @@ pub mod Laws
 pub mod StationWords
 pub mod OperandWords
 pub mod Fates
+pub mod Numbers
+pub mod Loads
