@@ -6,5 +6,6 @@ pub mod history;
 mod laws;
 mod machine;
 
+pub use data::{number, store};
 pub use laws::one_thread_unit_is_right;
 pub use machine::{Ended, Machine, Stepped};
