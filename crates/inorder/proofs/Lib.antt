@@ -1,5 +1,10 @@
-mod Basics
-mod Sound
-mod Grows
-mod Follows
-mod Kept
+pub mod Basics
+pub mod Sound
+pub mod Grows
+pub mod Follows
+pub mod Kept
+pub mod Stations
+pub mod Commits
+pub mod Tags
+pub mod StationsShown
+pub mod OperandsShown

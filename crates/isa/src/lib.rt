@@ -23,3 +23,6 @@ pub use program::Program;
 pub use reg::Reg;
 pub use semantics::{loaded, outcome, pc_plus_4};
 pub use stop::{Outcome, Stop};
+
+#[cfg(test)]
+mod tests;
