@@ -1,10 +1,13 @@
-mod Basics
-mod Sound
-mod Grows
-mod Follows
-mod Kept
-mod Stations
-mod Commits
-mod Tags
-mod StationsShown
-mod OperandsShown
+pub mod Basics
+pub mod Sound
+pub mod Grows
+pub mod Follows
+pub mod Kept
+pub mod Stations
+pub mod Commits
+pub mod Tags
+pub mod StationsShown
+pub mod OperandsShown
+pub mod Positions
+pub mod Moves
+pub mod Letting

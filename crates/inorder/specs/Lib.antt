@@ -12,3 +12,7 @@ pub mod Laws
 pub mod StationWords
 pub mod OperandWords
 pub mod Fates
+pub mod Replies
+pub mod History
+pub mod Wakes
+pub mod Callers
