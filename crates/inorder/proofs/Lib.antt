@@ -12,3 +12,6 @@ pub mod Words
 pub mod WordsKept
 pub mod Fated
 pub mod Loads
+pub mod Positions
+pub mod Moves
+pub mod Letting
