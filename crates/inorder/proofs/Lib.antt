@@ -11,3 +11,6 @@ pub mod OperandsShown
 pub mod Positions
 pub mod Moves
 pub mod Letting
+pub mod Ends
+pub mod Creators
+pub mod Loading
