@@ -15,3 +15,6 @@ pub mod Loads
 pub mod Positions
 pub mod Moves
 pub mod Letting
+pub mod Ends
+pub mod Creators
+pub mod Loading
