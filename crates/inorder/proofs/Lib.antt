@@ -1,22 +1,28 @@
-mod Basics
-mod Sound
-mod Grows
-mod Follows
-mod Kept
-mod Stations
-mod Commits
-mod Tags
-mod StationsShown
-mod OperandsShown
-mod Words
-mod WordsKept
-mod Fated
-mod Loads
+pub mod Basics
+pub mod Sound
+pub mod Grows
+pub mod Follows
+pub mod Kept
+pub mod Stations
+pub mod Commits
+pub mod Tags
+pub mod StationsShown
+pub mod OperandsShown
+pub mod Words
+pub mod WordsKept
+pub mod Fated
+pub mod Loads
+pub mod Forbidden
+pub mod Positions
+pub mod Moves
+pub mod Letting
+pub mod Ends
+pub mod Creators
+pub mod Loading
 mod Examples
 mod LoopRun
 mod WrongPathRun
 mod StoreRun
 mod ReletRun
 mod DeadLinkRun
-mod Forbidden
 mod Refused

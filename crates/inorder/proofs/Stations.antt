@@ -215,7 +215,7 @@ placed_at C U p t h e on = mid (younger U p) (subst (ArePlaced C) (split_at U p 
     mid [] q = q.0 on
     mid (y ∷ ys) q = mid ys q.1
 
-last_at : (U : List Tenant) (p : ℕ) (t : Tenant) → AreApart U → at U p ≡ Some t → t.standing ≡ Live → AllByRecursion (λ u. u.station ≢ t.station) (younger U p)
+pub last_at : (U : List Tenant) (p : ℕ) (t : Tenant) → AreApart U → at U p ≡ Some t → t.standing ≡ Live → AllByRecursion (λ u. u.station ≢ t.station) (younger U p)
 last_at U p t h e live = mid (younger U p) (subst AreApart (split_at U p t e) h)
   where
     mid : (ys : List Tenant) → AreApart (ys ++ t ∷ older U p) → AllByRecursion (λ u. u.station ≢ t.station) ys

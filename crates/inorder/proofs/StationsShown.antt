@@ -25,7 +25,7 @@ not_same : (a b : ℕ) → a ≢ b → eqb a b ≡ false
 not_same a b ne = ne_eqb a b ne
 
 -- a live tenant is the last of its station, whatever it becomes
-last_live : (t u : Tenant) (ts ys : List Tenant) → t.standing ≡ Live → u.station ≡ t.station → AreApart (ys ++ t ∷ ts) → last_of (ys ++ u ∷ ts) t.station ≡ Some u
+pub last_live : (t u : Tenant) (ts ys : List Tenant) → t.standing ≡ Live → u.station ≡ t.station → AreApart (ys ++ t ∷ ts) → last_of (ys ++ u ∷ ts) t.station ≡ Some u
 last_live t u ts [] live e h = ap (λ b. cond b (Some u) (last_of ts t.station)) (ap (λ q. eqb q t.station) e ∙ eqb_self t.station)
 last_live t u ts (y ∷ ys) live e h =
     let ne : y.station ≢ t.station = λ same. all_mid (IsElsewhere y) t ts ys h.0 live (sym same) in

@@ -14,3 +14,7 @@ pub mod Fates
 pub mod Numbers
 pub mod Loads
 pub mod Guards
+pub mod Replies
+pub mod History
+pub mod Wakes
+pub mod Callers

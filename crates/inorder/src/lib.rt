@@ -7,6 +7,7 @@ pub mod history;
 mod laws;
 mod machine;
 
+pub use data::{number, store};
 pub use guards::{
     a_load_passes_no_unknown_store, a_miss_does_not_retire, a_retired_stop_ends_the_unit,
     a_squashed_tenant_stays_squashed, a_tenant_is_claimed_once, recovery_restores,
