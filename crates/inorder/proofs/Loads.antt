@@ -7,8 +7,8 @@ use Rattle.std.proofs.lemmas.List.{take-map, take_at, map-append, append-nil}
 use Rattle.std.proofs.lemmas.Option.{slice_get-map}
 use Rattle.lsq.proofs.StoresLeft.{byte_left-append}
 use Rattle.lsq.proofs.LoadsRight.{forward_is, memory_is, blocked_is_right}
-use Rattle.isa.specs.Instruction.{width}
-use Rattle.isa.specs.Programs.{Program}
+use Rattle.isa.specs.Instruction.{kind, width}
+use Rattle.isa.specs.Programs.{Program, address}
 use Rattle.isa.specs.declared.op.Kind.{Kind}
 use Rattle.isa.specs.declared.op.Kind.TheVariants.{Computes, Jumps, Links, Loads, Stores}
 use Rattle.isa.specs.declared.op.Op.{Op}
@@ -18,6 +18,7 @@ use Rattle.isa.specs.declared.stop.Stop.{Stop}
 use Rattle.lsq.specs.declared.answer.Answer.TheVariants.{Blocked, Forward, Memory}
 use Rattle.lsq.specs.declared.entry.Entry.{Entry}
 use Rattle.inorder.specs.Committed.{commits, commits_by, committed}
+use Rattle.inorder.specs.History.{entry, front, own}
 use Rattle.inorder.specs.Legal.{Taken, reached}
 use Rattle.inorder.specs.Loads.{LoadsAreAnswered, WaitsForStore, access_width, address_by, content_by, entry_in, entry_of, is_store, live_accesses, place_of, queue_of, with_access}
 use Rattle.inorder.specs.Machine.{State}

@@ -1,5 +1,5 @@
 -- A loop on two stations, with two mispredictions, as a whole legal run.
-use Rattle.std.proofs.Common.{◌≡◌, List, [], ◌∷◌, replicate, Some, refl, sym, true, true≢false}
+use Rattle.std.proofs.Common.{◌≡◌, ◌≢◌, ℕ, List, [], ◌∷◌, replicate, Some, None, refl, sym, true, false, true≢false}
 use Rattle.isa.specs.declared.stop.Stop.TheVariants.{Break as BreakStop}
 use Rattle.isa.specs.Operations.{checked_address, computed_by, jump_target, loaded}
 use Rattle.isa.specs.Programs.{Program, instr_at}
@@ -11,7 +11,10 @@ use Rattle.inorder.specs.declared.history.Supply.TheVariants.{From, Known}
 use Rattle.inorder.specs.Committed.{committed}
 use Rattle.inorder.specs.Legal.{AreAllowed, Taken, reached}
 use Rattle.inorder.specs.Runs.{after, stop}
+use Rattle.inorder.specs.Tenants.{needs}
 use Rattle.inorder.specs.Unit.{Sizes}
+use Rattle.lsq.specs.Entries.{bytes}
+use Rattle.lsq.specs.LoadRule.{youngest}
 use Rattle.inorder.proofs.Examples.{apart, computes_not_links, done_not_stop, less, retired_not_live, squashed_not_live, squashed_not_retired, taken}
 
 -- addiu $1,$0,3 / L: addiu $1,$1,-1 / bne $1,$0,L / break

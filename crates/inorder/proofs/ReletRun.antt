@@ -1,5 +1,6 @@
 -- A station let again while a job of its old tenant is out, as a whole legal run.
-use Rattle.std.proofs.Common.{◌≡◌, List, [], ◌∷◌, replicate, refl, sym, true≢false}
+use Rattle.std.proofs.Common.{◌≡◌, ◌≢◌, ℕ, List, [], ◌∷◌, replicate, Some, None, refl, sym, true, false, true≢false}
+use Rattle.isa.specs.declared.stop.Stop.TheVariants.{Break as BreakStop}
 use Rattle.isa.specs.Operations.{checked_address, computed_by, jump_target, loaded}
 use Rattle.isa.specs.Programs.{Program, instr_at}
 use Rattle.isa.specs.declared.op.Op.TheVariants.{Addiu, Beq, Break}
@@ -9,8 +10,10 @@ use Rattle.inorder.specs.declared.history.Supply.TheVariants.{Known}
 use Rattle.inorder.specs.Committed.{committed}
 use Rattle.inorder.specs.Legal.{AreAllowed, Taken, reached}
 use Rattle.inorder.specs.StationWords.{live_word, station_word}
-use Rattle.inorder.specs.Tenants.{Open}
+use Rattle.inorder.specs.Tenants.{Open, needs}
 use Rattle.inorder.specs.Unit.{Sizes, recent}
+use Rattle.lsq.specs.Entries.{bytes}
+use Rattle.lsq.specs.LoadRule.{youngest}
 use Rattle.inorder.proofs.Examples.{done_not_stop, less, retired_not_live, squashed_not_live, squashed_not_retired, taken}
 
 -- beq $0,$0,E / addiu $1,$0,1 / E: addiu $2,$0,2 / break

@@ -1,5 +1,7 @@
 -- Loads over live stores, as whole legal runs.
-use Rattle.std.proofs.Common.{◌≡◌, List, [], ◌∷◌, replicate, refl, sym, true, true≢false}
+use Rattle.std.proofs.Common.{◌≡◌, ◌≢◌, ℕ, List, [], ◌∷◌, replicate, Some, None, refl, sym, true, false, true≢false}
+use Rattle.isa.specs.declared.stop.Stop.TheVariants.{Break as BreakStop}
+use Rattle.isa.specs.Instruction.{kind}
 use Rattle.isa.specs.Operations.{checked_address, computed_by, jump_target, loaded}
 use Rattle.isa.specs.Programs.{Program, instr_at}
 use Rattle.isa.specs.declared.op.Op.TheVariants.{Addiu, Break, Lw, Sb, Sw}
@@ -9,7 +11,9 @@ use Rattle.inorder.specs.declared.history.Step.TheVariants.{Let, On}
 use Rattle.inorder.specs.declared.history.Supply.TheVariants.{From, Known}
 use Rattle.inorder.specs.Committed.{committed}
 use Rattle.inorder.specs.Legal.{AreAllowed, Taken, reached}
+use Rattle.inorder.specs.Tenants.{needs}
 use Rattle.inorder.specs.Unit.{Sizes}
+use Rattle.lsq.specs.Entries.{bytes}
 use Rattle.inorder.proofs.Examples.{addr_not_stop, apart, computes_not_links, computes_not_stores, done_not_stop, less, retired_not_live, taken}
 
 -- .space 4 / addiu $1,$0,-1 / sw $1,0($0) / sb $0,1($0) / lw $2,0($0) / break

@@ -1,5 +1,5 @@
 -- A fault on the wrong path, squashed by recovery, as a whole legal run.
-use Rattle.std.proofs.Common.{◌≡◌, List, [], ◌∷◌, replicate, Some, refl, sym, true≢false}
+use Rattle.std.proofs.Common.{◌≡◌, ◌≢◌, ℕ, List, [], ◌∷◌, replicate, Some, None, refl, sym, true, false, true≢false}
 use Rattle.isa.specs.declared.stop.Stop.TheVariants.{Break as BreakStop}
 use Rattle.isa.specs.Operations.{checked_address, computed_by, jump_target, loaded}
 use Rattle.isa.specs.Programs.{Program, instr_at}
@@ -10,7 +10,10 @@ use Rattle.inorder.specs.declared.history.Supply.TheVariants.{Known}
 use Rattle.inorder.specs.Committed.{committed}
 use Rattle.inorder.specs.Legal.{AreAllowed, Taken, reached}
 use Rattle.inorder.specs.Runs.{stop}
+use Rattle.inorder.specs.Tenants.{needs}
 use Rattle.inorder.specs.Unit.{Sizes}
+use Rattle.lsq.specs.Entries.{bytes}
+use Rattle.lsq.specs.LoadRule.{youngest}
 use Rattle.inorder.proofs.Examples.{done_not_stop, less, retired_not_live, squashed_not_live, squashed_not_retired, taken}
 
 -- beq $0,$0,E / lw $1,1($0) / E: break

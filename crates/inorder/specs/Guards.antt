@@ -8,6 +8,7 @@ use Rattle.inorder.specs.declared.history.Act.TheVariants.{Claim, Finish, Load, 
 use Rattle.inorder.specs.declared.history.Step.TheVariants.{On}
 use Rattle.inorder.specs.Legal.{Allowed, AreAllowed, Taken, applied, reached}
 use Rattle.inorder.specs.StationWords.{ChangesStation}
+use Rattle.inorder.specs.Steps.{mended}
 use Rattle.inorder.specs.Tenants.{Addr, Busy, Live, Miss, Open, Retired, Squashed, Stopped, Tenant, kind_of}
 use Rattle.inorder.specs.Unit.{Sizes, at, creator, front_pc, older}
 
