@@ -6,3 +6,9 @@ pub mod Groups
 pub mod StationWords
 pub mod Building
 pub mod Stays
+pub mod Claiming
+pub mod Finishing
+pub mod Leaving
+pub mod Settling
+pub mod Drafting
+pub mod Reading
