@@ -1,0 +1,9 @@
+use Rattle.std.proofs.Common.{sym}
+use Rattle.text.proofs.Splits.{split_none, split_some}
+use Rattle.text.proofs.cuts.cut.Goals as goal
+
+pub returns-in-None-clause-parts : goal.returns-in-None-clause-parts
+returns-in-None-clause-parts c = split_none _ c.args.text.now (sym c.in-None.ensures)
+
+pub returns-in-Some-clause-parts : goal.returns-in-Some-clause-parts
+returns-in-Some-clause-parts c = split_some _ c.args.text.now _ _ _ c.in-Some.i (sym c.in-Some.ensures) c.split_at.ensures.front c.split_at.ensures.back c.split_at-in-Some.ensures.back
