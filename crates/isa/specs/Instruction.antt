@@ -1,0 +1,125 @@
+-- What an instruction reads, writes and names.
+use Rattle.std.specs.Prelude.{ℕ, ◌+◌, ◌%◌, ◌^◌, Bool, true, false, ◌==◌, if◌then◌else◌, Option, Some, None}
+use Rattle.isa.specs.declared.op.Op.{Op}
+use Rattle.isa.specs.declared.op.Op.TheVariants.{Addu, Subu, Add, Sub, And, Or, Xor, Nor, Slt, Sltu, Sllv, Srlv, Srav, Lui, Lb, Lbu, Lh, Lhu, Lw, Sb, Sh, Sw, Beq, Bne, Blez, Bgtz, Bltz, Bgez, J, Jal, Jr, Jalr, Break}
+use Rattle.isa.specs.declared.op.Kind.{Kind}
+use Rattle.isa.specs.declared.op.Kind.TheVariants.{Computes, Jumps, Links, Loads, Stores}
+use Rattle.isa.specs.declared.instr.Instr.{Instr}
+
+-- the address behind the instruction at pc
+abbrev pub pc_plus_4 : ℕ → ℕ
+pc_plus_4 pc = (pc + 4) % 2 ^ 32
+
+-- what an operation does
+abbrev pub kind : Op → Kind
+kind Lb = Loads
+kind Lbu = Loads
+kind Lh = Loads
+kind Lhu = Loads
+kind Lw = Loads
+kind Sb = Stores
+kind Sh = Stores
+kind Sw = Stores
+kind Beq = Jumps
+kind Bne = Jumps
+kind Blez = Jumps
+kind Bgtz = Jumps
+kind Bltz = Jumps
+kind Bgez = Jumps
+kind J = Jumps
+kind Jr = Jumps
+kind Jal = Links
+kind Jalr = Links
+kind _ = Computes
+
+-- the bytes that a load or store reaches
+abbrev pub width : Op → ℕ
+width Lb = 1
+width Lbu = 1
+width Sb = 1
+width Lh = 2
+width Lhu = 2
+width Sh = 2
+width _ = 4
+
+-- it is a conditional branch
+abbrev pub is_branch : Op → Bool
+is_branch Beq = true
+is_branch Bne = true
+is_branch Blez = true
+is_branch Bgtz = true
+is_branch Bltz = true
+is_branch Bgez = true
+is_branch _ = false
+
+-- it has a source 1
+abbrev pub reads_first : Op → Bool
+reads_first Lui = false
+reads_first J = false
+reads_first Jal = false
+reads_first Break = false
+reads_first _ = true
+
+-- it has a source 2
+abbrev pub reads_second : Op → Bool
+reads_second Addu = true
+reads_second Subu = true
+reads_second Add = true
+reads_second Sub = true
+reads_second And = true
+reads_second Or = true
+reads_second Xor = true
+reads_second Nor = true
+reads_second Slt = true
+reads_second Sltu = true
+reads_second Sllv = true
+reads_second Srlv = true
+reads_second Srav = true
+reads_second Sb = true
+reads_second Sh = true
+reads_second Sw = true
+reads_second Beq = true
+reads_second Bne = true
+reads_second _ = false
+
+-- operations of this kind write a register
+abbrev pub kind_writes : Kind → Bool
+kind_writes Jumps = false
+kind_writes Stores = false
+kind_writes _ = true
+
+-- it writes a register
+abbrev pub writes : Op → Bool
+writes Break = false
+writes op = kind_writes (kind op)
+
+-- the register of source k, if the instruction has that source
+abbrev pub source : ℕ → Instr → Option ℕ
+source k i =
+    if k == 1 then (if reads_first i.op then Some i.first else None)
+    else if k == 2 then (if reads_second i.op then Some i.second else None)
+    else None
+
+-- the register that an instruction writes, if any
+abbrev pub written : Instr → Option ℕ
+written i = if writes i.op then Some i.target else None
+
+-- the register that an instruction of a kind changes: 0 for none, since a write to register 0 is dropped
+abbrev pub destination_by : Kind → ℕ → ℕ
+destination_by Jumps r = 0
+destination_by Stores r = 0
+destination_by _ r = r
+
+abbrev pub destination : Instr → ℕ
+destination i = destination_by (kind i.op) i.target
+
+-- the pc behind the instruction at pc, or none where a predictor is asked for it
+abbrev pub fixed_next_by : Op → ℕ → ℕ → Option ℕ
+fixed_next_by J pc to = Some to
+fixed_next_by Jal pc to = Some to
+fixed_next_by Jr pc to = None
+fixed_next_by Jalr pc to = None
+fixed_next_by op pc to = if is_branch op then None else Some (pc_plus_4 pc)
+
+abbrev pub fixed_next : Instr → ℕ → Option ℕ
+fixed_next i pc = fixed_next_by i.op pc i.number

@@ -1,0 +1,6 @@
+pub mod Registers
+pub mod Instruction
+pub mod Operations
+pub mod Programs
+pub mod Settings
+pub mod Prediction

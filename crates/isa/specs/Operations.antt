@@ -1,0 +1,140 @@
+-- What each operation comes to: MIPS I's integer operations, without delay slots.
+use Rattle.std.specs.Prelude.{ℕ, ℤ, pos, negsuc, ◌+◌, ◌-◌, ◌*◌, ◌/◌, ◌%◌, ◌^◌, ◌≤◌, ◌+ℤ◌, ◌-ℤ◌, Bool, true, false, not, ◌&&◌, ⊤, ◌==◌, nat_lt, nat_le, int_lt, int_le, if◌then◌else◌, bit_and, bit_or, bit_xor, Result, Ok, Err}
+use Rattle.std.specs.Int.{Width, w8, w16, w32, cast_signed, cast_unsigned, int_div_euclid}
+use Rattle.isa.specs.declared.op.Op.{Op}
+use Rattle.isa.specs.declared.op.Op.TheVariants.{Addu, Subu, Add, Sub, And, Or, Xor, Nor, Slt, Sltu, Sll, Srl, Sra, Sllv, Srlv, Srav, Addiu, Addi, Slti, Sltiu, Andi, Ori, Xori, Lui, Lb, Lh, Beq, Bne, Blez, Bgtz, Bltz, Bgez, Jr, Jalr}
+use Rattle.isa.specs.declared.op.Kind.{Kind}
+use Rattle.isa.specs.declared.op.Kind.TheVariants.{Computes, Jumps, Links, Loads, Stores}
+use Rattle.isa.specs.declared.instr.Instr.{Instr}
+use Rattle.isa.specs.declared.stop.Stop.{Stop}
+use Rattle.isa.specs.declared.stop.Stop.TheVariants.{Break as BreakStop, Overflow, Unaligned, OutOfRange, BadPc}
+use Rattle.isa.specs.declared.stop.Outcome.{Outcome}
+use Rattle.isa.specs.declared.stop.Outcome.TheVariants.{Value, Next, Address, Stop as Stops}
+use Rattle.isa.specs.Instruction.{kind, width, pc_plus_4}
+
+-- the number of a stop
+abbrev pub code_of : Stop → ℕ
+code_of BreakStop = 0
+code_of Overflow = 1
+code_of Unaligned = 2
+code_of OutOfRange = 3
+code_of BadPc = 4
+
+-- a word, read as two's complement
+abbrev pub signed : ℕ → ℤ
+signed a = cast_signed w32 a
+
+-- a whole number is from -2^31 to 2^31 - 1
+abbrev pub fits_word : ℤ → Bool
+fits_word z = int_le (negsuc (2 ^ 31 - 1)) z && int_lt z (pos (2 ^ 31))
+
+-- a whole number as a word, if it fits
+abbrev pub fitted : ℤ → Result ℕ Stop
+fitted z = if fits_word z then Ok (cast_unsigned w32 z) else Err Overflow
+
+abbrev pub sum : ℕ → ℕ → ℕ
+sum a b = (a + b) % 2 ^ 32
+
+abbrev pub difference : ℕ → ℕ → ℕ
+difference a b = (a + (2 ^ 32 - b)) % 2 ^ 32
+
+abbrev pub checked_sum : ℕ → ℕ → Result ℕ Stop
+checked_sum a b = fitted (signed a +ℤ signed b)
+
+abbrev pub checked_difference : ℕ → ℕ → Result ℕ Stop
+checked_difference a b = fitted (signed a -ℤ signed b)
+
+abbrev pub flag : Bool → Result ℕ Stop
+flag true = Ok 1
+flag false = Ok 0
+
+abbrev pub shifted_left : ℕ → ℕ → ℕ
+shifted_left a n = (a * 2 ^ n) % 2 ^ 32
+
+-- the sign bit comes in: the signed number divided by a power of two, rounded down
+abbrev pub shifted_signed : ℕ → ℕ → ℕ
+shifted_signed a n = cast_unsigned w32 (int_div_euclid (signed a) (pos (2 ^ n)))
+
+-- what a computing operation comes to: its value, or a stop. Others have no row of their own
+unfoldable pub computed_by : Op → ℕ → ℕ → ℕ → Result ℕ Stop
+computed_by Addu a b i = Ok (sum a b)
+computed_by Subu a b i = Ok (difference a b)
+computed_by Add a b i = checked_sum a b
+computed_by Sub a b i = checked_difference a b
+computed_by And a b i = Ok (bit_and a b)
+computed_by Or a b i = Ok (bit_or a b)
+computed_by Xor a b i = Ok (bit_xor a b)
+computed_by Nor a b i = Ok (2 ^ 32 - 1 - bit_or a b)
+computed_by Slt a b i = flag (int_lt (signed a) (signed b))
+computed_by Sltu a b i = flag (nat_lt a b)
+computed_by Sll a b i = Ok (shifted_left a (i % 32))
+computed_by Srl a b i = Ok (a / 2 ^ (i % 32))
+computed_by Sra a b i = Ok (shifted_signed a (i % 32))
+computed_by Sllv a b i = Ok (shifted_left a (b % 32))
+computed_by Srlv a b i = Ok (a / 2 ^ (b % 32))
+computed_by Srav a b i = Ok (shifted_signed a (b % 32))
+computed_by Addiu a b i = Ok (sum a i)
+computed_by Addi a b i = checked_sum a i
+computed_by Slti a b i = flag (int_lt (signed a) (signed i))
+computed_by Sltiu a b i = flag (nat_lt a i)
+computed_by Andi a b i = Ok (bit_and a i)
+computed_by Ori a b i = Ok (bit_or a i)
+computed_by Xori a b i = Ok (bit_xor a i)
+computed_by Lui a b i = Ok (shifted_left i 16)
+computed_by _ a b i = Err BreakStop
+
+-- where a branch at pc goes on
+abbrev pub taken_if : Bool → ℕ → ℕ → ℕ
+taken_if taken pc to = if taken then to else pc_plus_4 pc
+
+-- where a branch or jump at pc goes on
+unfoldable pub jump_target : Op → ℕ → ℕ → ℕ → ℕ → ℕ
+jump_target Beq pc a b to = taken_if (a == b) pc to
+jump_target Bne pc a b to = taken_if (not (a == b)) pc to
+jump_target Blez pc a b to = taken_if (int_le (signed a) (pos 0)) pc to
+jump_target Bgtz pc a b to = taken_if (int_lt (pos 0) (signed a)) pc to
+jump_target Bltz pc a b to = taken_if (int_lt (signed a) (pos 0)) pc to
+jump_target Bgez pc a b to = taken_if (int_le (pos 0) (signed a)) pc to
+jump_target Jr pc a b to = a
+jump_target Jalr pc a b to = a
+jump_target _ pc a b to = to
+
+-- an access of w bytes at an address, to a memory of this size
+unfoldable pub checked_address : ℕ → ℕ → ℕ → Result ℕ Stop
+checked_address w at size =
+    if at % w == 0 then (if nat_le (at + w) size then Ok at else Err OutOfRange) else Err Unaligned
+
+abbrev pub as_value : Result ℕ Stop → Outcome
+as_value (Ok v) = Value v
+as_value (Err c) = Stops c
+
+abbrev pub as_address : Result ℕ Stop → Outcome
+as_address (Ok at) = Address at
+as_address (Err c) = Stops c
+
+-- the outcome of an operation of each kind
+abbrev pub outcome_by : Kind → Instr → ℕ → ℕ → ℕ → ℕ → Outcome
+outcome_by Computes i pc a b size = as_value (computed_by i.op a b i.number)
+outcome_by Jumps i pc a b size = Next (jump_target i.op pc a b i.number)
+outcome_by Links i pc a b size = Next (jump_target i.op pc a b i.number)
+outcome_by Loads i pc a b size = as_address (checked_address (width i.op) (sum a i.number) size)
+outcome_by Stores i pc a b size = as_address (checked_address (width i.op) (sum a i.number) size)
+
+-- what an instruction at pc comes to, where its sources are a and b and data memory has this size
+abbrev pub outcome : Instr → ℕ → ℕ → ℕ → ℕ → Outcome
+outcome i pc a b size = outcome_by (kind i.op) i pc a b size
+
+-- n, whose width is given, read as two's complement, as a word
+abbrev pub extended : Width → ℕ → ℕ
+extended w n = cast_unsigned w32 (cast_signed w n)
+
+-- a load's bytes as its value
+unfoldable pub loaded : Op → ℕ → ℕ
+loaded Lb raw = extended w8 (raw % 2 ^ 8)
+loaded Lh raw = extended w16 (raw % 2 ^ 16)
+loaded _ raw = raw
+
+-- an address is that of an access of w bytes inside the memory
+abbrev pub IsInside : Outcome → ℕ → ℕ → Type 0
+IsInside (Address at) w size = at + w ≤ size
+IsInside _ w size = ⊤

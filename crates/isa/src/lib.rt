@@ -1,0 +1,23 @@
+//! The integer operations of MIPS I without delay slots: what they are, what each comes to, and the
+//! programs, configurations and predictors that every machine here shares.
+#![tactic(auto)]
+
+mod config;
+mod end;
+mod instr;
+mod op;
+mod predictor;
+mod program;
+mod reg;
+mod semantics;
+mod stop;
+
+pub use config::{BadConfig, Config};
+pub use end::{End, Ending};
+pub use instr::Instr;
+pub use op::{Kind, Op};
+pub use predictor::{Bimod, NotTaken, Predictor, Taken};
+pub use program::Program;
+pub use reg::Reg;
+pub use semantics::{loaded, outcome, pc_plus_4};
+pub use stop::{Outcome, Stop};

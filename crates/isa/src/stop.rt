@@ -1,0 +1,46 @@
+//! What an instruction comes to, and why a program stops.
+ghost use Rattle.std.specs.Prelude.{◌≡◌};
+ghost use Rattle.isa.specs.Operations.{code_of};
+
+/// Why a program stops. A stop writes nothing and leaves the pc at the stopping instruction.
+#[derive(Clone, Copy, Debug, PartialEq, Eq)]
+pub enum Stop {
+    /// `break`.
+    Break,
+    /// The signed sum or difference of `add`, `addi` or `sub` does not fit 32 bits.
+    Overflow,
+    /// The address of a halfword is odd, or that of a word is no multiple of 4.
+    Unaligned,
+    /// The access is aligned and reaches past the end of data memory.
+    OutOfRange,
+    /// The pc is the address of no instruction.
+    BadPc,
+}
+
+impl Stop {
+    /// Its number, 0 to 4.
+    pub fn code(self) -> u32
+        ensures { result ≡ code_of self }
+    {
+        match self {
+            Stop::Break => 0,
+            Stop::Overflow => 1,
+            Stop::Unaligned => 2,
+            Stop::OutOfRange => 3,
+            Stop::BadPc => 4,
+        }
+    }
+}
+
+/// What an instruction comes to.
+#[derive(Clone, Copy, Debug, PartialEq, Eq)]
+pub enum Outcome {
+    /// The value for its register.
+    Value(u32),
+    /// The pc at which a branch or jump goes on.
+    Next(u32),
+    /// The address of a load or store, aligned and inside data memory.
+    Address(u32),
+    /// It stops.
+    Stop(Stop),
+}
