@@ -5,6 +5,7 @@
 mod config;
 mod end;
 mod instr;
+mod listing;
 mod op;
 mod predictor;
 mod program;
@@ -15,6 +16,7 @@ mod stop;
 pub use config::{BadConfig, Config};
 pub use end::{End, Ending};
 pub use instr::Instr;
+pub use listing::{FaultKind, TextFault, parse};
 pub use op::{Kind, Op};
 pub use predictor::{Bimod, NotTaken, Predictor, Taken};
 pub use program::Program;

@@ -14,8 +14,8 @@ pub use cuts::cut;
 pub use label::next_label;
 pub use line::{before_comment, next_line};
 pub use name::{is_name, is_plain_text};
-pub use number::{begins_number, decimal_in, number_in};
-pub use operand::{count_operands, next_operand, operand_part};
+pub use number::{begins_number, decimal_in, first_is, number_in};
+pub use operand::{count_operands, next_operand, only_operand, operand_part, parenthesized};
 
 #[cfg(test)]
 mod tests;

@@ -1,6 +1,6 @@
 //! Numbers: an optional sign, then decimal or hexadecimal digits.
 
-ghost use Rattle.std.specs.Prelude.{◌≡◌, ◌≤◌};
+ghost use Rattle.std.specs.Prelude.{◌≡◌, ◌≤◌, IfSome};
 ghost use Rattle.std.specs.Option.{option_map};
 ghost use Rattle.text.specs.Number.{capped, first_is, numeral, has_leading_zero, decimal, starts_hex, magnitude};
 ghost use Rattle.text.specs.Number.{begins_number, without_sign, at_most, number_in, decimal_in};
@@ -60,7 +60,8 @@ fn magnitude(text: &[u8]) -> Option<u64>
     }
 }
 
-fn first_is(text: &[u8], b: u8) -> bool
+/// Whether the text begins with this byte.
+pub fn first_is(text: &[u8], b: u8) -> bool
     ensures { result ≡ first_is b text.now }
 {
     !text.is_empty() && text[0] == b
@@ -78,7 +79,8 @@ fn without_sign(text: &[u8]) -> &[u8]
 }
 
 fn at_most(most: u32, found: Option<u64>) -> Option<u32>
-    ensures { result ≡ at_most most found }
+    ensures value { result ≡ at_most most found }
+    ensures small { IfSome result (λ n. n ≤ most) }
 {
     match found {
         Some(value) if value <= u64::from(most) => Some(value as u32),
@@ -111,7 +113,8 @@ pub fn number_in(text: &[u8], below: u32, above: u32) -> Option<u32>
 /// A decimal number without a sign, at most `most`.
 #[tactic(auto, unfolding(crate::specs::Number::decimal_in), using(crate::proofs::Numbers::at_most_capped))]
 pub fn decimal_in(text: &[u8], most: u32) -> Option<u32>
-    ensures { result ≡ decimal_in most text.now }
+    ensures value { result ≡ decimal_in most text.now }
+    ensures small { IfSome result (λ n. n ≤ most) }
 {
     at_most(most, decimal(text))
 }

@@ -1,8 +1,8 @@
 //! The operands of a statement, between commas.
 
-ghost use Rattle.std.specs.Prelude.{◌≡◌, ◌∷◌, ◌<◌, Some, length, IfSome};
+ghost use Rattle.std.specs.Prelude.{◌≡◌, ◌∷◌, ◌<◌, ◌-◌, Some, length, IfSome, ℕ, List};
 ghost use Rattle.std.specs.Option.{option_map};
-ghost use Rattle.text.specs.Operand.{operands, operands_left};
+ghost use Rattle.text.specs.Operand.{operands, operands_left, only, parenthesized, before_close};
 
 use crate::blank::trim;
 use crate::cuts::cut;
@@ -38,4 +38,37 @@ pub fn count_operands(part: Option<&[u8]>) -> usize
         rest = after;
     }
     n
+}
+
+/// The operand that is left, where there is only one.
+pub fn only_operand(part: Option<&[u8]>) -> Option<&[u8]>
+    ensures { option_map (λ t. t.now) result
+        ≡ only (operands_left (option_map (λ t. t.now) part.entry)) }
+{
+    let (operand, rest) = next_operand(part?);
+    match rest {
+        None => Some(operand),
+        Some(_) => None,
+    }
+}
+
+fn before_close(text: &[u8]) -> Option<&[u8]>
+    ensures { option_map (λ t. t.now) result ≡ before_close (Some text.now) }
+{
+    let n = text.len();
+    if n > 0 && text[n - 1] == b')' {
+        Some(&text[..n - 1])
+    } else {
+        None
+    }
+}
+
+/// Of an operand `a(b)` both parts, without the blanks at their ends.
+#[tactic(auto, unfolding(crate::specs::Operand::parenthesized))]
+pub fn parenthesized(text: &[u8]) -> Option<(&[u8], &[u8])>
+    ensures { option_map (λ p. (p.0.now, p.1.now)) result ≡ parenthesized text.now }
+{
+    let (front, rest) = cut(text, b'(');
+    let inner = before_close(rest?)?;
+    Some((trim(front), trim(inner)))
 }
