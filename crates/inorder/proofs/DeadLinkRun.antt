@@ -10,7 +10,9 @@ use Rattle.inorder.specs.declared.history.Supply.TheVariants.{From, Known}
 use Rattle.inorder.specs.Committed.{committed}
 use Rattle.inorder.specs.Legal.{AreAllowed, Taken, reached}
 use Rattle.inorder.specs.OperandWords.{operand_word}
-use Rattle.inorder.specs.Unit.{Sizes, recent}
+use Rattle.inorder.specs.StationWords.{IsFree, live_word, station_word}
+use Rattle.inorder.specs.Tenants.{Busy, Done, Open, Tenant}
+use Rattle.inorder.specs.Unit.{Sizes, creator, recent}
 use Rattle.inorder.proofs.Examples.{apart, computes_not_links, done_not_stop, less, retired_not_live, squashed_not_live, squashed_not_retired, taken}
 
 -- addiu $1,$0,1 / addiu $3,$0,3 / beq $0,$0,E / addu $2,$1,$1 / E: addu $4,$3,$3 / break
@@ -125,6 +127,23 @@ old_link_served_allowed = (
   record { tenant = _; is = refl; may = record { in_time = true; way = refl; waits = refl; value = 1; is_made = refl } },
 )
 
+-- The first instruction has retired, and the second is at work
+abbrev pub as_in_the_picture : List Taken
+as_in_the_picture =
+    taken 3 (On 1 Claim) ∷
+    taken 1 (On 0 (Retire 0)) ∷
+    old_link_served
+
+as_in_the_picture_allowed : AreAllowed dead_link ring_of_four as_in_the_picture
+unfolding instr_at computed_by jump_target checked_address loaded
+as_in_the_picture_allowed = (
+  (
+    old_link_served_allowed,
+    record { tenant = _; is = refl; may = record { small = less _ _ refl; live = refl; oldest = tt; no_stop = tt; can = tt } },
+  ),
+  record { tenant = _; is = refl; may = record { live = refl; fate = refl; needs = refl } },
+)
+
 -- The new tenant gets its own sources, and all retire in order
 abbrev pub links_ended : List Taken
 links_ended =
@@ -135,14 +154,12 @@ links_ended =
     taken 1 (On 4 (Retire 0)) ∷
     taken 1 (On 2 (Retire 0)) ∷
     taken 1 (On 1 (Retire 0)) ∷
-    taken 1 (On 0 (Retire 0)) ∷
     taken 3 (On 4 Finish) ∷
     taken 3 (On 4 Claim) ∷
     taken 3 (On 4 (Deliver Second)) ∷
     taken 3 (On 4 (Deliver First)) ∷
     taken 3 (On 1 Finish) ∷
-    taken 3 (On 1 Claim) ∷
-    old_link_served
+    as_in_the_picture
 
 links_ended_allowed : AreAllowed dead_link ring_of_four links_ended
 unfolding instr_at computed_by jump_target checked_address loaded
@@ -158,22 +175,16 @@ links_ended_allowed = (
                   (
                     (
                       (
-                        (
-                          (
-                            old_link_served_allowed,
-                            record { tenant = _; is = refl; may = record { live = refl; fate = refl; needs = refl } },
-                          ),
-                          record { tenant = _; is = refl; may = record { live = refl; fate = refl } },
-                        ),
-                        record { tenant = _; is = refl; may = record { in_time = true; way = refl; waits = refl; value = 3; is_made = refl } },
+                        as_in_the_picture_allowed,
+                        record { tenant = _; is = refl; may = record { live = refl; fate = refl } },
                       ),
                       record { tenant = _; is = refl; may = record { in_time = true; way = refl; waits = refl; value = 3; is_made = refl } },
                     ),
-                    record { tenant = _; is = refl; may = record { live = refl; fate = refl; needs = refl } },
+                    record { tenant = _; is = refl; may = record { in_time = true; way = refl; waits = refl; value = 3; is_made = refl } },
                   ),
-                  record { tenant = _; is = refl; may = record { live = refl; fate = refl } },
+                  record { tenant = _; is = refl; may = record { live = refl; fate = refl; needs = refl } },
                 ),
-                record { tenant = _; is = refl; may = record { small = less _ _ refl; live = refl; oldest = tt; no_stop = tt; can = tt } },
+                record { tenant = _; is = refl; may = record { live = refl; fate = refl } },
               ),
               record { tenant = _; is = refl; may = record { small = less _ _ refl; live = refl; oldest = (retired_not_live, tt); no_stop = ((λ e c. done_not_stop 1 c), tt); can = tt } },
             ),
@@ -194,6 +205,25 @@ links_ended_allowed = (
 still_waits : (operand_word (recent (reached dead_link ring_of_four old_link_served)) 3 First ≡ Some (record { tag = 2; value = None })) × (operand_word (recent (reached dead_link ring_of_four old_link_served)) 3 Second ≡ Some (record { tag = 2; value = None }))
 unfolding instr_at computed_by jump_target checked_address loaded
 still_waits = (refl, refl)
+
+abbrev pub picture : List Tenant
+picture = (reached dead_link ring_of_four as_in_the_picture).tenants
+
+-- What the ring shows then
+ring_then :
+    (station_word ring_of_four picture 0 ≡ record { tag = 2; state = IsFree; value = Some 1 }) ×
+    (station_word ring_of_four picture 1 ≡ live_word 1 (Busy 3)) ×
+    (station_word ring_of_four picture 2 ≡ live_word 1 (Done 0x00400010)) ×
+    (station_word ring_of_four picture 3 ≡ live_word 2 Open)
+unfolding instr_at computed_by jump_target checked_address loaded
+ring_then = (refl, refl, refl, refl)
+
+-- And the create vector: the wrong path creates nothing
+creators_then :
+    (creator dead_link picture 1 ≡ Some 0) × (creator dead_link picture 2 ≡ None) ×
+    (creator dead_link picture 3 ≡ Some 1) × (creator dead_link picture 4 ≡ Some 4)
+unfolding instr_at computed_by jump_target checked_address loaded
+creators_then = (refl, refl, refl, refl)
 
 links_committed : committed dead_link (reached dead_link ring_of_four links_ended).tenants ≡
     record { registers = 0 ∷ 1 ∷ 0 ∷ 3 ∷ 6 ∷ replicate 27 0; memory = []; pc = 0x00400014; count = 4 }
