@@ -14,7 +14,10 @@ pub admits : (P : Program) → Admits (Kept P) 0
 admits P published views kept =
     record {
       snapshot = kept.snapshot;
-      seen = λ seat seen at. ⊎_elim (kept.seen seat seen) (λ (is : 0 ≡ seen). subst (λ (n : ℕ). n ≤ published.n) is zero-le) (at_snoc views 0 seen seat at);
+      seen = λ seat seen at. ⊎_elim
+          (kept.seen seat seen)
+          (λ (is : 0 ≡ seen). subst (λ (n : ℕ). n ≤ published.n) is zero-le)
+          (at_snoc views 0 seen seat at);
     }
 
 -- Somebody steps to a snapshot that is no older
@@ -25,7 +28,8 @@ rises P seat had_seen before next is later views kept at = (
   record {
     snapshot = is;
     seen = λ other seen there. ⊎_elim
-        (λ (own : (other ≡ seat) × (next.n ≡ seen)). subst (λ (n : ℕ). n ≤ next.n) own.1 (le_refl next.n))
+        (λ (own : (other ≡ seat) × (next.n ≡ seen)).
+        subst (λ (n : ℕ). n ≤ next.n) own.1 (le_refl next.n))
         (λ (foreign : (other ≢ seat) × (get_elem? views other ≡ some seen)).
         le_trans (kept.seen other seen foreign.1) later)
         (at_set views seat other next.n seen there);

@@ -1,4 +1,4 @@
-//! Snapshots of a run: one publisher shows in-order states of a program, and snappers take the newest.
+//! Snapshots of a run: one publisher shows in-order states of a program, snappers take the newest.
 #![tactic(auto)]
 
 mod mark;

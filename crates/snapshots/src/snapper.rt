@@ -31,12 +31,13 @@ pub struct Snapper<J: Naming> {
 }
 
 impl<J: Naming> Model for Snapper<J> {
-    ghost use Rattle.std.specs.Prelude.{ℕ, max, option_map, unwrap_or};
+    ghost use Rattle.std.specs.Prelude.{ℕ, max};
+    ghost use Rattle.std.specs.Option.{option_map_or};
     ghost use Rattle.left_right.specs.Sides.{view as seen_by};
 
     ghost Value = { ℕ };
 
-    ghost view = { λ s. max (unwrap_or (option_map (λ reader. seen_by reader.place) s.reader) 0) s.floor };
+    ghost view = { λ s. max (option_map_or (λ reader. seen_by reader.place) s.reader 0) s.floor };
 }
 
 // Takes a snapshot that is not below the floor. The rule keeps it from being below what the reader
