@@ -1,8 +1,8 @@
 //! Instructions.
 ghost use Rattle.std.specs.Prelude.{◌≡◌};
-ghost use Rattle.isa.specs.Instruction.{source as source_of, written as written_of, fixed_next as fixed_next_of};
+ghost use Rattle.isa.specs.Instruction.{source as source_of, written as written_of, fixed_next as fixed_next_of, destination as destination_of};
 
-use crate::{Op, Reg, pc_plus_4};
+use crate::{Kind, Op, Reg, pc_plus_4};
 
 /// An instruction: its operation, registers and number.
 #[derive(Clone, Copy, Debug, PartialEq, Eq)]
@@ -31,6 +31,30 @@ impl Instr {
             1 if self.op.reads_first() => Some(self.first),
             2 if self.op.reads_second() => Some(self.second),
             _ => None,
+        }
+    }
+
+    /// The register of source 1; register 0 where it has none.
+    pub fn first(&self) -> Reg
+        ensures { result ≡ self.now.first }
+    {
+        self.first
+    }
+
+    /// The register of source 2; register 0 where it has none.
+    pub fn second(&self) -> Reg
+        ensures { result ≡ self.now.second }
+    {
+        self.second
+    }
+
+    /// The register that it changes; register 0, which never changes, where it changes none.
+    pub fn destination(&self) -> Reg
+        ensures { result ≡ destination_of self.now }
+    {
+        match self.op.kind() {
+            Kind::Jumps | Kind::Stores => Reg::ZERO,
+            _ => self.target,
         }
     }
 

@@ -6,6 +6,7 @@ mod config;
 mod end;
 mod instr;
 mod listing;
+mod memory;
 mod op;
 mod predictor;
 mod program;
@@ -17,9 +18,13 @@ pub use config::{BadConfig, Config};
 pub use end::{End, Ending};
 pub use instr::Instr;
 pub use listing::{FaultKind, TextFault, parse};
+pub use memory::Memory;
 pub use op::{Kind, Op};
 pub use predictor::{Bimod, NotTaken, Predictor, Taken};
 pub use program::Program;
 pub use reg::Reg;
 pub use semantics::{loaded, outcome, pc_plus_4};
 pub use stop::{Outcome, Stop};
+
+#[cfg(test)]
+mod tests;

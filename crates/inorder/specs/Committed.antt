@@ -1,0 +1,43 @@
+-- What a unit has committed.
+use Rattle.std.specs.Prelude.{ℕ, suc, Bool, true, false, List, [], ◌∷◌, Option, Some, None, unwrap_or, if◌then◌else◌}
+use Rattle.isa.specs.Programs.{Program}
+use Rattle.inorder.specs.Machine.{State, start, store_bytes, write}
+use Rattle.inorder.specs.Memory.{Stored, stored}
+use Rattle.inorder.specs.Tenants.{Fate, Retired, Standing, Stopped, Tenant, computed_next, destination_of}
+
+abbrev pub commits_by : Standing → Fate → Bool
+commits_by Retired (Stopped c) = false
+commits_by Retired _ = true
+commits_by _ _ = false
+
+-- A tenant commits when it has retired and is no stop
+abbrev pub commits : Tenant → Bool
+commits t = commits_by t.standing t.fate
+
+-- The registers with what a tenant made
+abbrev pub with_write : Program → Tenant → List ℕ → List ℕ
+with_write P t registers = write registers (destination_of P t) (unwrap_or t.made 0)
+
+-- The memory with a store
+abbrev pub with_stored : Option Stored → List ℕ → List ℕ
+with_stored None memory = memory
+with_stored (Some s) memory = store_bytes memory s.at s.width (unwrap_or s.content 0)
+
+-- The state with a tenant's write and store
+abbrev pub with_tenant : Program → Tenant → State → State
+with_tenant P t s =
+    record {
+      registers = with_write P t s.registers;
+      memory = with_stored (stored P t) s.memory;
+      pc = computed_next P t;
+      count = suc s.count;
+    }
+
+-- The start state with the writes and stores of the tenants that commit, the oldest first
+abbrev pub committed : Program → List Tenant → State
+committed P [] = start P
+committed P (t ∷ ts) = if commits t then with_tenant P t (committed P ts) else committed P ts
+
+-- The state that a new tenant finds where all before it have left
+abbrev pub ahead : Program → List Tenant → State
+ahead P ts = committed P ts

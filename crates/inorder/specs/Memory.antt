@@ -1,0 +1,51 @@
+-- Memory as the older stores of the path leave it, and what a load reads.
+use Rattle.std.specs.Prelude.{ℕ, ◌+◌, ◌-◌, Bool, true, ◌&&◌, List, [], ◌∷◌, Option, Some, None, option_map, unwrap_or, nat_le, nat_lt, if◌then◌else◌, slice_index}
+use Rattle.isa.specs.Instruction.{width}
+use Rattle.isa.specs.Operations.{loaded}
+use Rattle.isa.specs.Programs.{Program}
+use Rattle.isa.specs.declared.instr.Instr.{Instr}
+use Rattle.isa.specs.declared.op.Kind.{Kind}
+use Rattle.isa.specs.declared.op.Kind.TheVariants.{Stores}
+use Rattle.inorder.specs.Tenants.{Addr, Fate, Tenant, instr, kind_of, on_path}
+use Rattle.inorder.specs.Unit.{at}
+use Rattle.lsq.specs.Bytes.{byte_of, little_endian_if_there}
+
+-- A store of the path whose address is known, with its data if that was delivered
+pub record Stored : Type 0 where
+  pub at : ℕ
+  pub width : ℕ
+  pub content : Option ℕ
+
+abbrev pub stored_by : Bool → Kind → Fate → ℕ → Option ℕ → Option Stored
+stored_by true Stores (Addr a) w d = Some (record { at = a; width = w; content = d })
+stored_by _ _ _ w d = None
+
+abbrev pub stored : Program → Tenant → Option Stored
+stored P t = stored_by (on_path t) (kind_of P t) t.fate (width (instr P t).op) t.second.value
+
+-- It writes the byte at x
+abbrev pub covers : Stored → ℕ → Bool
+covers s x = nat_le s.at x && nat_lt x (s.at + s.width)
+
+abbrev pub byte_after : Option Stored → ℕ → Option ℕ → Option ℕ
+byte_after None x before = before
+byte_after (Some s) x before =
+    if covers s x then option_map (byte_of (x - s.at)) s.content else before
+
+-- The byte at x of the last store of the path to it, if its data is there; without such a store that
+-- of the start memory
+abbrev pub byte_at : Program → List Tenant → ℕ → Option ℕ
+byte_at P [] x = Some (slice_index P.bytes x)
+byte_at P (t ∷ ts) x = byte_after (stored P t) x (byte_at P ts x)
+
+-- The bytes of a load at address a, by the stores before it
+abbrev pub raw_at : Program → List Tenant → Instr → ℕ → Option ℕ
+raw_at P ts i a = little_endian_if_there (byte_at P ts) a (width i.op)
+
+abbrev pub raw : Program → List Tenant → Instr → Fate → Option ℕ
+raw P ts i (Addr a) = raw_at P ts i a
+raw P ts i _ = None
+
+-- The value of a load
+abbrev pub load_value : Program → List Tenant → Tenant → ℕ
+load_value P ts t = loaded (instr P t).op (unwrap_or (raw P ts (instr P t) t.fate) 0)

@@ -1,0 +1,65 @@
+-- What the operand words of a station show, and how each step moves them.
+use Rattle.std.specs.Prelude.{◌≡◌, ◌≢◌, ◌⊎◌, ℕ, List, Option, Some, None, ◌==◌, if◌then◌else◌}
+use Rattle.isa.specs.Programs.{Program}
+use Rattle.inorder.specs.declared.history.Act.{Act}
+use Rattle.inorder.specs.declared.history.Act.TheVariants.{Deliver}
+use Rattle.inorder.specs.declared.history.Source.{Source}
+use Rattle.inorder.specs.declared.history.Source.TheVariants.{First, Second}
+use Rattle.inorder.specs.declared.history.Step.TheVariants.{Let, On}
+use Rattle.inorder.specs.declared.history.Supply.{Supply}
+use Rattle.inorder.specs.declared.history.Supply.TheVariants.{From, Known}
+use Rattle.inorder.specs.Legal.{Allowed, AreAllowed, Taken, applied, reached}
+use Rattle.inorder.specs.StationWords.{last_of}
+use Rattle.inorder.specs.Tenants.{Tenant, operand}
+use Rattle.inorder.specs.Unit.{Sizes, UpdateUnit, at, next_station, next_tag, older, recent, value_of}
+
+-- The tag of the station's last tenant, and the value of that tenant's source, or none while it waits
+pub record OperandWord : Type 0 where
+  pub tag : ℕ
+  pub value : Option ℕ
+
+abbrev pub operand_word_of : Source → Option Tenant → Option OperandWord
+operand_word_of k None = None
+operand_word_of k (Some t) = Some (record { tag = t.tag; value = (operand k t).value })
+
+abbrev pub operand_word : List Tenant → ℕ → Source → Option OperandWord
+operand_word ts s k = operand_word_of k (last_of ts s)
+
+abbrev pub supply_of : Source → Supply → Supply → Supply
+supply_of First first second = first
+supply_of Second first second = second
+
+abbrev pub supplied : Supply → Option ℕ
+supplied (Known v) = Some v
+supplied From = None
+
+-- Any act but a delivery
+abbrev pub KeepsOperands : Act → Type 0
+KeepsOperands (Deliver k) = ⊥
+KeepsOperands _ = Unit {0}
+
+-- How a step moves the operand words
+pub record MovesOperands (P : Program) (C : Sizes) (U : UpdateUnit) (by : ℕ) : Type 0 where
+  -- a let gives both operands of its station, with its tag
+  pub after_let : (index predicted : ℕ) (first second : Supply) (s : ℕ) (k : Source) →
+      operand_word (recent (applied P C U by (Let index predicted first second))) s k ≡
+      (if next_station C (recent U) == s
+      then Some (record { tag = next_tag C (recent U); value = supplied (supply_of k first second) })
+      else operand_word (recent U) s k)
+  -- a delivery to the last tenant of a station gives its operand the value
+  pub to_last : (p : ℕ) (k : Source) (t : Tenant) → Allowed P C U by (On p (Deliver k)) →
+      at U.tenants p ≡ Some t → last_of (recent U) t.station ≡ Some t →
+      operand_word (recent (applied P C U by (On p (Deliver k)))) t.station k ≡
+      Some (record { tag = t.tag; value = value_of (older U.tenants p) (operand k t).creator })
+  -- and changes no other operand; one to an older tenant of the station changes none
+  pub elsewhere : (p : ℕ) (k : Source) (t : Tenant) (s : ℕ) (j : Source) →
+      Allowed P C U by (On p (Deliver k)) → at U.tenants p ≡ Some t →
+      (last_of (recent U) s ≢ Some t) ⊎ (j ≢ k) →
+      operand_word (recent (applied P C U by (On p (Deliver k)))) s j ≡ operand_word (recent U) s j
+  pub kept : (p : ℕ) (act : Act) (s : ℕ) (j : Source) → KeepsOperands act →
+      Allowed P C U by (On p act) →
+      operand_word (recent (applied P C U by (On p act))) s j ≡ operand_word (recent U) s j
+
+abbrev pub OperandsFollow : Program → Sizes → List Taken → ℕ → Type 0
+OperandsFollow P C history by =
+    AreAllowed P C history → MovesOperands P C (reached P C history) by

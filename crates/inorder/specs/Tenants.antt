@@ -1,0 +1,139 @@
+-- A tenant: one use of a reservation station by an instruction in flight.
+use Rattle.std.specs.Prelude.{◌≡◌, ◌≢◌, ℕ, Bool, true, false, ◌&&◌, length, Option, Some, None, unwrap_or, if◌then◌else◌}
+use Rattle.isa.specs.Instruction.{destination, kind, pc_plus_4}
+use Rattle.isa.specs.Operations.{outcome}
+use Rattle.isa.specs.Programs.{Program, instr_of}
+use Rattle.isa.specs.declared.instr.Instr.{Instr}
+use Rattle.isa.specs.declared.op.Kind.{Kind}
+use Rattle.isa.specs.declared.op.Kind.TheVariants.{Links, Loads, Stores}
+use Rattle.isa.specs.declared.stop.Outcome.{Outcome}
+use Rattle.isa.specs.declared.stop.Outcome.TheVariants.{Next}
+use Rattle.isa.specs.declared.stop.Stop.{Stop}
+use Rattle.inorder.specs.declared.history.Source.{Source}
+use Rattle.inorder.specs.declared.history.Source.TheVariants.{First, Second}
+
+-- How a source gets its value: it was known at the let, or comes from its creator. Then no link was
+-- asked for yet, or one was, in time or after the creator had made its value
+pub data Way : Type 0 where
+  AtLet : Way
+  Unlinked : Way
+  Linked : (in_time : Bool) → Way
+
+-- One source of a tenant
+pub record Operand : Type 0 where
+  pub creator : Option ℕ  -- the position of the tenant that makes its value
+  pub way : Way
+  pub value : Option ℕ  -- delivered
+
+-- How far a tenant has come
+pub data Fate : Type 0 where
+  Open : Fate
+  Busy : (by : ℕ) → Fate
+  Addr : (at : ℕ) → Fate
+  Done : (value : ℕ) → Fate
+  Miss : (next : ℕ) → Fate
+  Stopped : (code : Stop) → Fate
+
+-- Whether it has left, and how
+pub data Standing : Type 0 where
+  Live : Standing
+  Retired : Standing
+  Squashed : Standing
+
+pub record Tenant : Type 0 where
+  pub station : ℕ
+  pub tag : ℕ
+  pub index : ℕ  -- of its instruction
+  pub pc : ℕ
+  pub predicted : ℕ
+  pub next : ℕ  -- the predicted next pc, or the computed one once it was mended
+  pub first : Operand
+  pub second : Operand
+  pub made : Option ℕ  -- for its register
+  pub fate : Fate
+  pub standing : Standing
+
+abbrev pub operand : Source → Tenant → Operand
+operand First t = t.first
+operand Second t = t.second
+
+abbrev pub with_operand : Source → Tenant → Operand → Tenant
+with_operand First t o = record t { first = o }
+with_operand Second t o = record t { second = o }
+
+-- Its instruction
+abbrev pub instr : Program → Tenant → Instr
+instr P t = instr_of P t.index
+
+abbrev pub kind_of : Program → Tenant → Kind
+kind_of P t = kind (instr P t).op
+
+-- The register that a tenant writes; 0 where it writes none
+abbrev pub destination_of : Program → Tenant → ℕ
+destination_of P t = destination (instr P t)
+
+abbrev pub stands_on_path : Standing → Bool
+stands_on_path Squashed = false
+stands_on_path _ = true
+
+-- The path is the tenants that are not squashed
+abbrev pub on_path : Tenant → Bool
+on_path t = stands_on_path t.standing
+
+abbrev pub stands_live : Standing → Bool
+stands_live Live = true
+stands_live _ = false
+
+-- Of the path, those that have not retired
+abbrev pub is_live : Tenant → Bool
+is_live t = stands_live t.standing
+
+abbrev pub IsNotLive : Tenant → Type 0
+IsNotLive t = t.standing ≢ Live
+
+-- What is made from the start: a jump that links knows its return address
+abbrev pub made_at_let : Kind → ℕ → Option ℕ
+made_at_let Links pc = Some (pc_plus_4 pc)
+made_at_let _ pc = None
+
+-- It reaches memory
+abbrev pub is_access : Kind → Bool
+is_access Loads = true
+is_access Stores = true
+is_access _ = false
+
+abbrev pub is_live_access : Program → Tenant → Bool
+is_live_access P t = is_live t && is_access (kind_of P t)
+
+-- A store needs its base alone for a claim, all others need both sources
+abbrev pub needs : Kind → Source → Bool
+needs Stores Second = false
+needs _ k = true
+
+-- The least source that a claim needs and that is not delivered
+abbrev pub missing_of : Kind → Option ℕ → Option ℕ → Option Source
+missing_of k None second = Some First
+missing_of k (Some v) None = if needs k Second then Some Second else None
+missing_of k (Some v) (Some w) = None
+
+abbrev pub missing : Program → Tenant → Option Source
+missing P t = missing_of (kind_of P t) t.first.value t.second.value
+
+abbrev pub IsThere : Option ℕ → Type 0
+IsThere v = (n : ℕ) × (v ≡ Some n)
+
+-- The delivered value, or 0 while there is none
+abbrev pub operand_value : Operand → ℕ
+operand_value o = unwrap_or o.value 0
+
+-- The outcome of the delivered sources
+abbrev pub computed : Program → Tenant → Outcome
+computed P t = outcome (instr P t) t.pc (operand_value t.first) (operand_value t.second) (length P.bytes)
+
+abbrev pub next_by : ℕ → Outcome → ℕ
+next_by pc (Next x) = x
+next_by pc _ = pc_plus_4 pc
+
+-- Where it goes on by its outcome
+abbrev pub computed_next : Program → Tenant → ℕ
+computed_next P t = next_by t.pc (computed P t)

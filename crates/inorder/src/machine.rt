@@ -1,0 +1,174 @@
+//! The in-order machine.
+ghost use Rattle.std.specs.Prelude.{◌≡◌, ◌<◌, ◌≤◌, ◌+◌, ◌^◌, ◌-◌, length, slice_index, IfOk};
+ghost use Rattle.inorder.specs.Machine.{write as written, step as step_of, start, advanced, after_access};
+ghost use Rattle.isa.specs.Instruction.{kind as kind_of, width as width_of};
+ghost use Rattle.inorder.specs.Runs.{Running, IsStep, end_from, ending};
+
+use crate::data::{number, store};
+use isa::{Instr, Kind, Memory, Outcome, Program, Reg, Stop, loaded, outcome, pc_plus_4};
+use std::alloc::Global;
+use std::marker::Model;
+
+/// What a step answers.
+#[derive(Clone, Copy, Debug, PartialEq, Eq)]
+pub enum Stepped {
+    /// One instruction was run.
+    Ran,
+    /// The instruction at the pc stops; nothing was changed, and each later step answers the same.
+    Stopped(Stop),
+}
+
+/// How a run ends.
+#[derive(Clone, Copy, Debug, PartialEq, Eq)]
+pub enum Ended {
+    /// The instruction at the pc stops.
+    Stopped(Stop),
+    /// The count has reached the limit, whatever the next step would do.
+    Limit,
+}
+
+fn read(registers: &[u32; 32], r: Reg) -> u32
+    ensures { result ≡ slice_index registers.now r }
+{
+    registers[r.number() as usize]
+}
+
+fn write(registers: &mut [u32; 32], r: Reg, value: u32)
+    ensures { registers.new ≡ written registers.old r value }
+{
+    if r.number() != 0 {
+        registers[r.number() as usize] = value;
+    }
+}
+
+/// A machine that runs a program one instruction after another.
+#[derive(Drop)]
+pub struct Machine<'a> {
+    program: &'a Program,
+    registers: [u32; 32],
+    memory: Vec<u8>,
+    pc: u32,
+    count: u64,
+}
+
+impl<'a> Model for Machine<'a> {
+    ghost Value = { Running };
+
+    ghost view = { λ m. record { program = m.program.now; state = record { registers = m.registers; memory = m.memory.items; pc = m.pc; count = m.count } } };
+
+    ghost invariant = { λ m. (length m.memory.items ≡ length m.program.now.bytes) × (length m.memory.items ≤ 65536) };
+}
+
+impl<'a> Machine<'a> {
+    /// A machine at the start of a program: registers 0, memory as the directives give it, pc 0x00400000.
+    pub fn new(alloc: Global, program: &'a Program) -> Result<Self, Memory>
+        ensures { IfOk result (λ m. m ≡ record { program = program.now; state = start program.now }) }
+    {
+        let memory = Vec::from_slice(alloc, program.bytes())?;
+        Ok(Machine {
+            program,
+            registers: [0; 32],
+            memory,
+            pc: Program::START,
+            count: 0,
+        })
+    }
+
+    /// How many instructions it has run.
+    pub fn count(&self) -> u64
+        ensures { result ≡ self.now.state.count }
+    {
+        self.count
+    }
+
+    /// The address of the instruction that the next step runs.
+    pub fn pc(&self) -> u32
+        ensures { result ≡ self.now.state.pc }
+    {
+        self.pc
+    }
+
+    /// What a register holds.
+    pub fn register(&self, r: Reg) -> u32
+        ensures { result ≡ slice_index self.now.state.registers r }
+    {
+        read(&self.registers, r)
+    }
+
+    /// The registers, register 0 first.
+    pub fn registers(&self) -> &[u32; 32]
+        ensures { result.now ≡ self.now.state.registers }
+    {
+        &self.registers
+    }
+
+    /// The bytes of data memory.
+    pub fn memory(&self) -> &[u8]
+        ensures { result.now ≡ self.now.state.memory }
+    {
+        self.memory.as_slice()
+    }
+
+    /// Runs one instruction, or says why it stops.
+    pub fn step(&mut self) -> Stepped
+        requires { self.old.state.count < 2 ^ 64 - 1 }
+        ensures { IsStep self.old result self.new (step_of self.old.program self.old.state) }
+    {
+        let Some(instr) = self.program.fetch(self.pc) else {
+            return Stepped::Stopped(Stop::BadPc);
+        };
+        let a = read(&self.registers, instr.first());
+        let b = read(&self.registers, instr.second());
+        match outcome(&instr, self.pc, a, b, self.program.size()) {
+            Outcome::Stop(stop) => return Stepped::Stopped(stop),
+            Outcome::Value(value) => self.advance(&instr, value, pc_plus_4(self.pc)),
+            Outcome::Next(next) => self.advance(&instr, pc_plus_4(self.pc), next),
+            Outcome::Address(address) => self.access(&instr, address as usize, b),
+        }
+        Stepped::Ran
+    }
+
+    fn advance(&mut self, instr: &Instr, value: u32, next: u32)
+        requires { self.old.state.count < 2 ^ 64 - 1 }
+        ensures { self.new ≡ record self.old { state = advanced self.old.state instr.now value self.old.state.memory next } }
+    {
+        write(&mut self.registers, instr.destination(), value);
+        self.pc = next;
+        self.count += 1;
+    }
+
+    // the load or store at an address, with what source 2 holds
+    fn access(&mut self, instr: &Instr, address: usize, b: u32)
+        requires count { self.old.state.count < 2 ^ 64 - 1 }
+        requires inside { address + width_of instr.now.op ≤ length self.old.program.bytes }
+        requires source { b ≡ slice_index self.old.state.registers instr.now.second }
+        ensures { self.new ≡ record self.old { state = after_access (kind_of instr.now.op) self.old.state instr.now address } }
+    {
+        let width = instr.op().width() as usize;
+        let next = pc_plus_4(self.pc);
+        match instr.op().kind() {
+            Kind::Stores => {
+                store(self.memory.as_mut_slice(), address, width, b);
+                self.advance(instr, 0, next);
+            }
+            _ => {
+                let raw = number(self.memory.as_slice(), address, width);
+                self.advance(instr, loaded(instr.op(), raw), next);
+            }
+        }
+    }
+
+    /// Runs until the next instruction stops, or the count has reached the limit.
+    pub fn run(&mut self, limit: u64) -> Ended
+        ensures program { self.new.program ≡ self.old.program }
+        ensures end { (ending result, self.new.state) ≡ end_from self.old.program (limit - self.old.state.count) self.old.state }
+    {
+        while self.count() < limit {
+            match self.step() {
+                Stepped::Ran => {}
+                Stepped::Stopped(stop) => return Ended::Stopped(stop),
+            }
+        }
+        Ended::Limit
+    }
+}

@@ -1,0 +1,20 @@
+//! Want of memory.
+use std::alloc::{AllocError, AllocFailed};
+use thiserror::Error;
+
+/// Memory was asked for and refused. Nothing was changed.
+#[derive(Clone, Copy, Debug, Drop, PartialEq, Eq, Error)]
+#[error("out of memory")]
+pub struct Memory;
+
+impl From<AllocError> for Memory {
+    fn from(_error: AllocError) -> Memory {
+        Memory
+    }
+}
+
+impl<T: Drop> From<AllocFailed<T>> for Memory {
+    fn from(_error: AllocFailed<T>) -> Memory {
+        Memory
+    }
+}

@@ -1,0 +1,16 @@
+//! The load/store queue: memory instructions in program order, and the rule for one load over the
+//! older stores.
+#![tactic(auto)]
+
+mod answer;
+mod entry;
+mod law;
+mod queue;
+
+pub use answer::Answer;
+pub use entry::{Entry, Width};
+pub use law::loads_read_the_last_stores;
+pub use queue::{Full, MOST_ENTRIES, Queue};
+
+#[cfg(test)]
+mod tests;
