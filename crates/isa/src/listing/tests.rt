@@ -198,14 +198,14 @@ fn judged(line: u64, code: u8) -> Option<TextFault> {
 
 #[test]
 fn each_beginning_is_judged(rt: HostRuntime) -> Result<(), Fail> {
-    // each line, and what each of its beginnings is, from the empty one on
-    let lines: [(&[u8], &[u8]); 6] = [
-        (b".space 4", b"ouuuuuppo"),
-        (b"addiu $1,$0,-1", b"ouuppppppppppno"),
-        (b"sw $1,0($0)", b"oupppppppppo"),
-        (b"sb $0,1($0)", b"oupppppppppo"),
-        (b"lw $2,0($0)", b"oupppppppppo"),
-        (b"break", b"ouuuuo"),
+    // each line, what each beginning of it is, and how many instructions there are behind it
+    let lines: [(&[u8], &[u8], usize); 6] = [
+        (b".space 4\n", b"uuuuuppoo", 0),
+        (b"addiu $1,$0,-1\n", b"uuppppppppppnoo", 1),
+        (b"sw $1,0($0)\n", b"upppppppppoo", 2),
+        (b"sb $0,1($0)\n", b"upppppppppoo", 3),
+        (b"lw $2,0($0)\n", b"upppppppppoo", 4),
+        (b"break\n", b"uuuuoo", 5),
     ];
     let wanted = [
         instr(Op::Addiu, 1, 0, 0, 0xffff_ffff),
@@ -214,27 +214,24 @@ fn each_beginning_is_judged(rt: HostRuntime) -> Result<(), Fail> {
         instr(Op::Lw, 2, 0, 0, 0),
         instr(Op::Break, 0, 0, 0, 0),
     ];
-    let mut before = Vec::new(rt.alloc());
-    let mut whole = 0;
-    for (line, codes) in lines {
-        for n in 0..=line.len() {
-            let mut text = before.clone()?;
-            text.extend_from_slice(&line[..n])?;
+    let mut text = Vec::new(rt.alloc());
+    let mut line = 1u64;
+    for (bytes, codes, count) in lines {
+        for (b, code) in bytes.iter().zip(codes) {
+            text.push(*b)?;
             let parsed = parse(rt.alloc(), text.as_slice());
-            let fault = judged(whole as u64 + 1, codes[n]);
             if let Ok(program) = &parsed {
-                let complete = if n == line.len() { whole + 1 } else { whole };
-                assert_eq!(rt; program.size(), if complete > 0 { 4 } else { 0 });
-                assert_eq!(rt; program.len(), if complete > 0 { complete - 1 } else { 0 });
-                for i in 0..program.len() {
-                    assert_eq!(rt; *program.instr(i), wanted[i]);
+                assert_eq!(rt; program.size(), 4);
+                assert_eq!(rt; program.len(), count);
+                for (i, instr) in wanted.iter().enumerate() {
+                    if i < program.len() {
+                        assert_eq!(rt; *program.instr(i), *instr);
+                    }
                 }
             }
-            assert_eq!(rt; parsed.err(), fault);
+            assert_eq!(rt; parsed.err(), judged(line, *code));
         }
-        before.extend_from_slice(line)?;
-        before.push(b'\n')?;
-        whole += 1;
+        line = line.saturating_add(1);
     }
     Ok(())
 }
