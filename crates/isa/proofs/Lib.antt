@@ -5,3 +5,4 @@ pub mod Statements
 pub mod Rows
 pub mod Behind
 pub mod Whole
+pub mod Examples
