@@ -1,6 +1,5 @@
 -- Why words are refused.
-use Rattle.std.proofs.Common.{◌≡◌, ◌∙◌, ◌≢◌, sym, ap, subst, List, [], ◌∷◌, Option, Some, None, codes, inl, inr, ◌⊎◌, option_map, arith, refl}
-use Rattle.std.proofs.lemmas.Option.{none-some}
+use Rattle.std.proofs.Common.{◌≡◌, sym, ap, subst, List, [], Option, Some, codes, inl, inr, arith}
 use Rattle.clap.specs.Words.{Row, Text, fault_of, kind_of, subcommand_of}
 use Rattle.clap.specs.Kinds.{HasKind, IsAmong, Kinds}
 use Rattle.clap.specs.declared.error.Error.{Error}

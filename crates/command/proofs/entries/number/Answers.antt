@@ -1,4 +1,4 @@
-use Rattle.std.proofs.Common.{◌≡◌, ◌∙◌, sym, subst, ℕ, Option}
+use Rattle.std.proofs.Common.{◌∙◌, sym, subst, Option}
 use Rattle.clap.specs.Words.{Text, found_of}
 use Rattle.clap.proofs.WalkLemmas.{first_value-rows}
 use Rattle.command.specs.Values.{IsNumberFrom}

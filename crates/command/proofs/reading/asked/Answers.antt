@@ -1,8 +1,8 @@
-use Rattle.std.proofs.Common.{◌≡◌, ◌∙◌, sym, ap, subst, codes, map, List, [], true, refl}
+use Rattle.std.proofs.Common.{◌≡◌, ◌∙◌, sym, ap, subst, codes, map, List, [], refl}
 use Rattle.std.proofs.lemmas.Bool.{false≢true}
 use Rattle.std.proofs.lemmas.Result.{IfOk-weaker, IfErr-weaker}
 use Rattle.clap.specs.Words.{App, Row, Text, app_of, fault_of, found_of, rows_of, is_simple_and_free}
-use Rattle.clap.specs.Kinds.{HasKind, Kinds}
+use Rattle.clap.specs.Kinds.{HasKind}
 use Rattle.command.specs.Tool.{tool}
 use Rattle.command.proofs.Building.{tool-is_free}
 use Rattle.command.proofs.Entered.{entered, named}

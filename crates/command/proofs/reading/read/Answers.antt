@@ -1,4 +1,4 @@
-use Rattle.std.proofs.Common.{◌≡◌, ◌∙◌, sym, ap, subst, codes, min, refl}
+use Rattle.std.proofs.Common.{◌∙◌, sym, ap, subst, codes, refl}
 use Rattle.clap.specs.Words.{found_of, rows_of}
 use Rattle.clap.proofs.WalkLemmas.{first_value-rows}
 use Rattle.isa.specs.Settings.{Settings}
