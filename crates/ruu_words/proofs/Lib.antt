@@ -12,3 +12,5 @@ pub mod Leaving
 pub mod Settling
 pub mod Drafting
 pub mod Reading
+pub mod Delivery
+pub mod Linking
