@@ -14,3 +14,4 @@ pub mod Letting
 pub mod Ends
 pub mod Creators
 pub mod Loading
+pub mod Histories

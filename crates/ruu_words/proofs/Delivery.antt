@@ -38,7 +38,7 @@ use Rattle.ruu_words.specs.Kinds.{Delivers, HasLink, HasMade, IsTenant}
 use Rattle.ruu_words.proofs.Building.{looks}
 use Rattle.ruu_words.proofs.General.{Plan, Plans}
 use Rattle.ruu_words.proofs.Groups.{SameDraft, draft_stays, info_stays, link_other, operand_drafted}
-use Rattle.ruu_words.proofs.Histories.{allowed_steps, unit_lasts, unit_sound}
+use Rattle.inorder.proofs.Histories.{allowed_steps, unit_lasts, unit_sound}
 use Rattle.ruu_words.proofs.Packing.{same_word}
 use Rattle.ruu_words.proofs.Reading.{Among, among, has_last, its_operand, operand_last, waits}
 use Rattle.ruu_words.proofs.StationWords.{find_last}
@@ -156,7 +156,7 @@ module _ (P : Program) (C : Sizes) where
 
   -- A delivery that finds the word of the operand that waits: `more` are events that it adds behind itself
   module _ (id : ℕ) (h : List Entry) (d : Draft) (legal : IsLegal P C h) (draft : IsDraft P C (unit_of P C h) d) (s : ℕ) (k : Source) (g val old n new r q : ℕ) (old_is : IsOperandOf (record { tag = g; value = None }) old) (new_is : IsOperandOf (record { tag = g; value = Some val }) new)
-    (i : IsTenant (unit_of P C h) r s g (HasLink k q)) (made : HasMade (unit_of P C h) q val) (hit : n ≡ old) (content : IsOperand (operand_word (recent (operand_unit P C (unit_of P C h) d k)) s k) n) where
+      (i : IsTenant (unit_of P C h) r s g (HasLink k q)) (made : HasMade (unit_of P C h) q val) (hit : n ≡ old) (content : IsOperand (operand_word (recent (operand_unit P C (unit_of P C h) d k)) s k) n) where
     tag_found : i.tenant.tag ≡ tag_of n
     tag_found = i.tag_is ∙ (sym old_is.tag ∙ sym (ap tag_of hit))
 

@@ -30,7 +30,7 @@ use Rattle.ruu_words.specs.Content.{Content, IsDraft, IsInfo, IsInfoOf, IsLink, 
 use Rattle.ruu_words.specs.Fields.{index_of, predicted_of}
 use Rattle.ruu_words.specs.Kinds.{Drafts, Lets}
 use Rattle.ruu_words.proofs.General.{Plans}
-use Rattle.ruu_words.proofs.Histories.{allowed_steps}
+use Rattle.inorder.proofs.Histories.{allowed_steps}
 use Rattle.ruu_words.proofs.Stays.{front_stays}
 
 module _ (P : Program) (C : Sizes) (index predicted : ℕ) (first second : Supply) where

@@ -37,7 +37,7 @@ use Rattle.ruu_words.proofs.Building.{looks}
 use Rattle.ruu_words.proofs.Delivery.{source_same}
 use Rattle.ruu_words.proofs.General.{Plans}
 use Rattle.ruu_words.proofs.Groups.{WasLinked, draft_stays, info_stays, link_stays, operand_drafted}
-use Rattle.ruu_words.proofs.Histories.{allowed_steps, unit_sound}
+use Rattle.inorder.proofs.Histories.{allowed_steps, unit_sound}
 use Rattle.ruu_words.proofs.Stays.{any_stays, front_stays, tenant_stays_apart}
 
 -- What a link changes
