@@ -11,7 +11,7 @@ use Rattle.inorder.specs.declared.history.Step.TheVariants.{Let, On}
 use Rattle.inorder.specs.Committed.{commits, commits_by, committed, with_tenant}
 use Rattle.inorder.specs.Laws.{HistoryGrows, IsNoRetire, OnlyRetirementsCommit}
 use Rattle.inorder.specs.Legal.{Allowed, AreAllowed, May, Taken, applied, changed, reached}
-use Rattle.inorder.specs.Machine.{State, step}
+use Rattle.inorder.specs.Machine.{State}
 use Rattle.inorder.specs.Runs.{after}
 use Rattle.inorder.specs.Steps.{finished, mended_as, retired}
 use Rattle.inorder.specs.Tenants.{Addr, Busy, Done, Fate, Live, Miss, Open, Stopped, Tenant, computed, stands_on_path}
@@ -36,7 +36,7 @@ over P t u ts (y ∷ ys) live s = go (commits y) refl (over P t u ts ys live s.1
         absurd (subst (λ x. SettledBy x t.fate) live (all_mid IsSettled t ts ys ((s.0.placed (ap stands_on_path r)).settled r)))
     go false e more = committed_if P y (ys ++ u ∷ ts) false e ∙ more
 
-by_retire : (P : Program) (C : Sizes) (U : UpdateUnit) (by p n : ℕ) (t : Tenant) → IsSound P U.tenants → Allowed P C U by (On p (Retire n)) → at U.tenants p ≡ Some t → committed P (applied P C U by (On p (Retire n))).tenants ≡ cond (commits (retired t n)) (with_tenant P (retired t n) (committed P U.tenants)) (committed P U.tenants)
+pub by_retire : (P : Program) (C : Sizes) (U : UpdateUnit) (by p n : ℕ) (t : Tenant) → IsSound P U.tenants → Allowed P C U by (On p (Retire n)) → at U.tenants p ≡ Some t → committed P (applied P C U by (On p (Retire n))).tenants ≡ cond (commits (retired t n)) (with_tenant P (retired t n) (committed P U.tenants)) (committed P U.tenants)
 by_retire P C U by p n t sound a e =
     ap (committed P) (parts P vs by p (Retire n) t e)
     ∙ over P t (retired t n) ts ys live s
@@ -125,7 +125,7 @@ count_kept P C U by (On p act) other a =
     ∙ count_same P t t' (older ts p) (younger ts p) (act_stays P by act (younger ts p) t (older ts p) (is_other p act other) a.may)
     ∙ ap (λ V. (committed P V).count) (sym (split_at ts p t a.is))
 
-by_others : (P : Program) (C : Sizes) (U : UpdateUnit) (by : ℕ) (s : Step) → IsSound P U.tenants → IsNoRetire s → Allowed P C U by s → committed P (applied P C U by s).tenants ≡ committed P U.tenants
+pub by_others : (P : Program) (C : Sizes) (U : UpdateUnit) (by : ℕ) (s : Step) → IsSound P U.tenants → IsNoRetire s → Allowed P C U by s → committed P (applied P C U by s).tenants ≡ committed P U.tenants
 by_others P C U by s sound other a =
     let before = state_of P U.tenants sound in
     let now = state_of P (applied P C U by s).tenants (kept P C U by s a sound) in

@@ -8,6 +8,11 @@ pub mod Commits
 pub mod Tags
 pub mod StationsShown
 pub mod OperandsShown
+pub mod Words
+pub mod WordsKept
+pub mod Fated
+pub mod Loads
+pub mod Forbidden
 pub mod Positions
 pub mod Moves
 pub mod Letting
@@ -15,3 +20,10 @@ pub mod Ends
 pub mod Creators
 pub mod Loading
 pub mod Histories
+mod Examples
+mod LoopRun
+mod WrongPathRun
+mod StoreRun
+mod ReletRun
+mod DeadLinkRun
+mod Refused

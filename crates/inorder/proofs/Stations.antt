@@ -12,7 +12,6 @@ use Rattle.inorder.specs.declared.history.Step.{Step}
 use Rattle.inorder.specs.declared.history.Step.TheVariants.{Let, On}
 use Rattle.inorder.specs.Laws.{IsRing}
 use Rattle.inorder.specs.Legal.{Allowed, AreAllowed, May, Taken, applied, changed, reached}
-use Rattle.inorder.specs.Runs.{after}
 use Rattle.inorder.specs.Steps.{finished, mended_as, new_tenant}
 use Rattle.inorder.specs.Tenants.{Addr, Busy, Done, Fate, IsNotLive, Live, Miss, Open, Retired, Squashed, Standing, Stopped, Tenant, computed, is_live, on_path, stands_live, stands_on_path}
 use Rattle.inorder.specs.Unit.{Sizes, UpdateUnit, at, how_many, next_station, older, recent, younger}
@@ -216,7 +215,7 @@ placed_at C U p t h e on = mid (younger U p) (subst (ArePlaced C) (split_at U p 
     mid [] q = q.0 on
     mid (y ∷ ys) q = mid ys q.1
 
-last_at : (U : List Tenant) (p : ℕ) (t : Tenant) → AreApart U → at U p ≡ Some t → t.standing ≡ Live → AllByRecursion (λ u. u.station ≢ t.station) (younger U p)
+pub last_at : (U : List Tenant) (p : ℕ) (t : Tenant) → AreApart U → at U p ≡ Some t → t.standing ≡ Live → AllByRecursion (λ u. u.station ≢ t.station) (younger U p)
 last_at U p t h e live = mid (younger U p) (subst AreApart (split_at U p t e) h)
   where
     mid : (ys : List Tenant) → AreApart (ys ++ t ∷ older U p) → AllByRecursion (λ u. u.station ≢ t.station) ys

@@ -1,4 +1,3 @@
-pub mod Bytes
 pub mod Machine
 pub mod Runs
 pub mod Tenants
@@ -12,6 +11,9 @@ pub mod Laws
 pub mod StationWords
 pub mod OperandWords
 pub mod Fates
+pub mod Numbers
+pub mod Loads
+pub mod Guards
 pub mod Replies
 pub mod History
 pub mod Wakes

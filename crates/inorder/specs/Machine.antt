@@ -11,7 +11,7 @@ use Rattle.isa.specs.Registers.{register_count}
 use Rattle.isa.specs.Instruction.{kind, destination, width, pc_plus_4}
 use Rattle.isa.specs.Operations.{outcome, loaded}
 use Rattle.isa.specs.Programs.{Program, text_start, instr_at}
-use Rattle.inorder.specs.Bytes.{little_endian}
+use Rattle.lsq.specs.Bytes.{little_endian}
 
 pub record State : Type 0 where
   pub registers : List ℕ

@@ -1,5 +1,5 @@
 -- Memory as the older stores of the path leave it, and what a load reads.
-use Rattle.std.specs.Prelude.{ℕ, zero, suc, ◌+◌, ◌-◌, ◌*◌, ◌/◌, ◌%◌, Bool, true, ◌&&◌, List, [], ◌∷◌, Option, Some, None, option_map, unwrap_or, nat_le, nat_lt, if◌then◌else◌, slice_index}
+use Rattle.std.specs.Prelude.{ℕ, ◌+◌, ◌-◌, Bool, true, ◌&&◌, List, [], ◌∷◌, Option, Some, None, option_map, unwrap_or, nat_le, nat_lt, if◌then◌else◌, slice_index}
 use Rattle.isa.specs.Instruction.{width}
 use Rattle.isa.specs.Operations.{loaded}
 use Rattle.isa.specs.Programs.{Program}
@@ -7,7 +7,7 @@ use Rattle.isa.specs.declared.instr.Instr.{Instr}
 use Rattle.isa.specs.declared.op.Kind.{Kind}
 use Rattle.isa.specs.declared.op.Kind.TheVariants.{Stores}
 use Rattle.inorder.specs.Tenants.{Addr, Fate, Tenant, instr, kind_of, on_path}
-use Rattle.inorder.specs.Unit.{at}
+use Rattle.lsq.specs.Bytes.{byte_of, little_endian_if_there}
 
 -- A store of the path whose address is known, with its data if that was delivered
 pub record Stored : Type 0 where
@@ -22,11 +22,7 @@ stored_by _ _ _ w d = None
 abbrev pub stored : Program → Tenant → Option Stored
 stored P t = stored_by (on_path t) (kind_of P t) t.fate (width (instr P t).op) t.second.value
 
--- Byte k of a number, the lowest first
-abbrev pub byte_of : ℕ → ℕ → ℕ
-byte_of zero v = v % 256
-byte_of (suc k) v = byte_of k (v / 256)
-
+-- It writes the byte at x
 abbrev pub covers : Stored → ℕ → Bool
 covers s x = nat_le s.at x && nat_lt x (s.at + s.width)
 
@@ -35,19 +31,11 @@ byte_after None x before = before
 byte_after (Some s) x before =
     if covers s x then option_map (byte_of (x - s.at)) s.content else before
 
--- The byte at x of the last store of the path to it, if its data is there; else that of the start memory
+-- The byte at x of the last store of the path to it, if its data is there; without such a store that
+-- of the start memory
 abbrev pub byte_at : Program → List Tenant → ℕ → Option ℕ
 byte_at P [] x = Some (slice_index P.bytes x)
 byte_at P (t ∷ ts) x = byte_after (stored P t) x (byte_at P ts x)
-
-abbrev pub joined : Option ℕ → Option ℕ → Option ℕ
-joined (Some b) (Some n) = Some (b + 256 * n)
-joined _ _ = None
-
--- w bytes from x on as a number, the lowest first, if each is there
-abbrev pub little_endian_if_there : (ℕ → Option ℕ) → ℕ → ℕ → Option ℕ
-little_endian_if_there byte x zero = Some 0
-little_endian_if_there byte x (suc w) = joined (byte x) (little_endian_if_there byte (x + 1) w)
 
 -- The bytes of a load at address a, by the stores before it
 abbrev pub raw_at : Program → List Tenant → Instr → ℕ → Option ℕ

@@ -1,6 +1,6 @@
 //! Little endian numbers in data memory.
 ghost use Rattle.std.specs.Prelude.{◌≡◌, ◌<◌, ◌≤◌, ◌+◌, ◌^◌, length, slice_index};
-ghost use Rattle.inorder.specs.Bytes.{little_endian};
+ghost use Rattle.lsq.specs.Bytes.{little_endian};
 ghost use Rattle.inorder.specs.Machine.{store_bytes};
 
 /// The number in `width` bytes from `at` on.

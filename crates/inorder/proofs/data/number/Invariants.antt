@@ -1,5 +1,5 @@
 use Rattle.std.proofs.Common.{◌≡◌, ◌<◌, ◌+◌, ◌-◌, ◌^◌, slice_index}
-use Rattle.inorder.specs.Bytes.{little_endian}
+use Rattle.lsq.specs.Bytes.{little_endian}
 use Rattle.inorder.proofs.data.number.Given as goal
 
 abbrev pub invariant-loop-k : goal.invariant-loop-k
