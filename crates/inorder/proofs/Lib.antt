@@ -27,3 +27,5 @@ mod StoreRun
 mod ReletRun
 mod DeadLinkRun
 mod Refused
+pub mod Serving
+pub mod Waking

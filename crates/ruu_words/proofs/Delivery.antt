@@ -13,6 +13,7 @@ use Rattle.inorder.specs.declared.history.Source.{Source}
 use Rattle.inorder.specs.declared.history.Source.TheVariants.{First, Second}
 use Rattle.inorder.specs.declared.history.Step.{Step}
 use Rattle.inorder.specs.declared.history.Step.TheVariants.{On}
+use Rattle.inorder.specs.Callers.{HasMade}
 use Rattle.inorder.specs.History.{IsLegal, entry, taken_of, unit_of}
 use Rattle.inorder.specs.Legal.{Allowed, AreAllowed, applied}
 use Rattle.inorder.specs.OperandWords.{operand_word, operand_word_of}
@@ -25,6 +26,7 @@ use Rattle.inorder.proofs.Creators.{value_by}
 use Rattle.inorder.proofs.Moves.{Goes, goes}
 use Rattle.inorder.proofs.OperandsShown.{operands_follow}
 use Rattle.inorder.proofs.Positions.{at_below, at_more, at_new}
+use Rattle.inorder.proofs.Serving.{made_stays, source_same}
 use Rattle.inorder.proofs.StationsShown.{stations_follow}
 use Rattle.inorder.proofs.Tags.{AreTagged, names_one, tagged}
 use Rattle.ruu_words.specs.declared.place.Place.{Place}
@@ -34,7 +36,7 @@ use Rattle.ruu_words.specs.declared.rule.Draft.TheVariants.{Nothing, Of}
 use Rattle.ruu_words.specs.declared.rule.View.{View}
 use Rattle.ruu_words.specs.Content.{Content, IsDraft, IsOperand, IsOperandOf, IsStation, has_operand, operand_unit, with_new}
 use Rattle.ruu_words.specs.Fields.{state_of, tag_of}
-use Rattle.ruu_words.specs.Kinds.{Delivers, HasLink, HasMade, IsTenant}
+use Rattle.ruu_words.specs.Kinds.{Delivers, HasLink, IsTenant}
 use Rattle.ruu_words.proofs.Building.{looks}
 use Rattle.ruu_words.proofs.General.{Plan, Plans}
 use Rattle.ruu_words.proofs.Groups.{SameDraft, draft_stays, info_stays, link_other, operand_drafted}
@@ -44,20 +46,9 @@ use Rattle.ruu_words.proofs.Reading.{Among, among, has_last, its_operand, operan
 use Rattle.ruu_words.proofs.StationWords.{find_last}
 use Rattle.ruu_words.proofs.Stays.{tenant_stays}
 
-pub source_same : (j k : Source) → (j ≡ k) ⊎ (j ≢ k)
-source_same First First = inl refl
-source_same First Second = inr (λ e. cc e)
-source_same Second First = inr (λ e. cc e)
-source_same Second Second = inl refl
-
 module _ (P : Program) (C : Sizes) where
   pub link_on : (k : Source) (q : ℕ) (by : ℕ) (s : Step) (t t' : Tenant) → Goes by s t t' → HasLink k q t → HasLink k q t'
   link_on k q by s t t' m l = record { in_time = l.in_time; way = m.linked k l.in_time l.way; creator = m.creator k ∙ l.creator }
-
-  pub made_stays : (q v : ℕ) (more seen : List Entry) → IsLegal P C (more ++ seen) → HasMade (unit_of P C seen) q v → HasMade (unit_of P C (more ++ seen)) q v
-  made_stays q v more seen legal made = unit_lasts P C (λ U. HasMade U q v)
-      (λ U by s a ok m. let g = goes P C U by s a ok q m.tenant m.is in record { tenant = g.tenant; is = g.is; made = g.goes.made v m.made })
-      more seen legal made
 
   -- where an operand word has the tag of a tenant, that tenant is the last one that these words follow
   its_last : (h : List Entry) (legal : IsLegal P C h) (W : List Tenant) → Among P C h legal W → (s : ℕ) (k : Source) (n : ℕ) → IsOperand (operand_word W s k) n → (p : ℕ) (t : Tenant) → at (unit_of P C h).tenants p ≡ Some t → t.station ≡ s → t.tag ≡ tag_of n → last_of W s ≡ Some t
@@ -197,7 +188,7 @@ module _ (P : Program) (C : Sizes) where
   deliver_plan id v s k g val old new r q old_is new_is asks made between d legal apart caller mine draft n small content =
       let h : List Entry = between ++ v.seen in
       let i = tenant_stays P C r s g (HasLink k q) (λ by step t t' m f. link_on k q by step t t' m f) between v.seen legal asks in
-      let m = made_stays q val between v.seen legal made in
+      let m = made_stays P C q val between v.seen legal made in
       exchanged n old new (λ z. Plan P C id h d (Operand s k) z (Delivers P C s k g old n))
       (λ hit. delivers id h d legal draft s k g val old n new r q old_is new_is i m hit content (Delivers P C s k g old n)
       (inl (hit, record { p = r; tenant = record { tenant = i.tenant; is = i.is; station_is = i.station_is; tag_is = i.tag_is; fact = tt }; added = refl })))

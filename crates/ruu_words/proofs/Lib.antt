@@ -15,3 +15,4 @@ pub mod Delivery
 pub mod Linking
 pub mod Opening
 pub mod Views
+pub mod Walking

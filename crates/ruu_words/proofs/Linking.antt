@@ -22,6 +22,7 @@ use Rattle.inorder.proofs.Letting.{IsBesides}
 use Rattle.inorder.proofs.Moves.{Goes, IsActed, IsLeft, IsNoLink, IsNoLinkAct, at_changed, came, goes}
 use Rattle.inorder.proofs.OperandsShown.{operands_follow}
 use Rattle.inorder.proofs.Positions.{younger_at}
+use Rattle.inorder.proofs.Serving.{linked_creator, linked_way, other_way, source_same}
 use Rattle.inorder.proofs.Sound.{IsSound}
 use Rattle.inorder.proofs.Stations.{is_ring, stands}
 use Rattle.inorder.proofs.StationsShown.{stations_follow}
@@ -34,29 +35,10 @@ use Rattle.ruu_words.specs.Content.{Content, IsDraft, IsLink, IsLinked, IsStatio
 use Rattle.ruu_words.specs.Fields.{pack_link}
 use Rattle.ruu_words.specs.Kinds.{Asks, IsAny, IsTenant, ReadsLink}
 use Rattle.ruu_words.proofs.Building.{looks}
-use Rattle.ruu_words.proofs.Delivery.{source_same}
 use Rattle.ruu_words.proofs.General.{Plans}
 use Rattle.ruu_words.proofs.Groups.{WasLinked, draft_stays, info_stays, link_stays, operand_drafted}
 use Rattle.inorder.proofs.Histories.{allowed_steps, unit_sound}
 use Rattle.ruu_words.proofs.Stays.{any_stays, front_stays, tenant_stays_apart}
-
--- What a link changes
-
-pub linked_way : (ts : List Tenant) (k : Source) (t : Tenant) → (operand k (linked ts t k)).way ≡ Linked (is_none (value_of ts (operand k t).creator))
-linked_way ts First t = refl
-linked_way ts Second t = refl
-
-other_way : (ts : List Tenant) (j k : Source) (t : Tenant) → j ≢ k → (operand j (linked ts t k)).way ≡ (operand j t).way
-other_way ts First First t ne = absurd (ne refl)
-other_way ts First Second t ne = refl
-other_way ts Second First t ne = refl
-other_way ts Second Second t ne = absurd (ne refl)
-
-linked_creator : (ts : List Tenant) (j k : Source) (t : Tenant) → (operand j (linked ts t k)).creator ≡ (operand j t).creator
-linked_creator ts First First t = refl
-linked_creator ts First Second t = refl
-linked_creator ts Second First t = refl
-linked_creator ts Second Second t = refl
 
 linked_name : (ts : List Tenant) (k : Source) (t : Tenant) → ((linked ts t k).station ≡ t.station) × ((linked ts t k).tag ≡ t.tag)
 linked_name ts First t = (refl, refl)
