@@ -28,6 +28,7 @@ pub mod Letting
 pub mod Ends
 pub mod Creators
 pub mod Loading
+pub mod Histories
 mod Examples
 mod LoopRun
 mod WrongPathRun
@@ -35,3 +36,5 @@ mod StoreRun
 mod ReletRun
 mod DeadLinkRun
 mod Refused
+pub mod Serving
+pub mod Waking

@@ -10,6 +10,9 @@ ghost use Rattle.inorder.specs.StationWords.{StationsFollow};
 ghost use Rattle.inorder.specs.OperandWords.{OperandsFollow};
 ghost use Rattle.inorder.specs.Fates.{FatesFollow};
 ghost use Rattle.inorder.specs.Numbers.{ValuesAreWords};
+ghost use Rattle.inorder.specs.declared.history.Entry.{Entry};
+ghost use Rattle.inorder.specs.History.{IsLegal};
+ghost use Rattle.inorder.specs.Wakes.{AreMarked, LosesNoWake};
 ghost use Rattle.inorder.specs.Loads.{LoadsAreAnswered};
 
 /// Whatever steps were taken, what the unit has committed is the state of the in-order machine
@@ -70,4 +73,10 @@ pub fn values_are_words()
 /// blocks, it names an older live store that has no address or overlaps the load.
 pub fn loads_are_answered_right()
     ensures { (p : Program) (c : Sizes) (history : List Taken) → LoadsAreAnswered p c history }
+{}
+
+/// Where each value that a finish or a load made was carried along its links, and each source that
+/// comes from its creator was asked for, no open tenant waits for a value that is there.
+pub fn no_wake_is_lost()
+    ensures { (p : Program) (c : Sizes) (history : List Entry) → IsLegal p c history → AreMarked p c history → LosesNoWake p c history }
 {}

@@ -19,6 +19,7 @@ use Rattle.inorder.specs.Unit.{Sizes, UpdateUnit, at, creator, next_station, nex
 use Rattle.inorder.proofs.Creators.{are_older, at_cases}
 use Rattle.inorder.proofs.Letting.{LetStays, let_lasts}
 use Rattle.inorder.proofs.Positions.{at_below, at_more}
+use Rattle.inorder.proofs.Serving.{not_linked}
 use Rattle.inorder.proofs.StationsShown.{stations_follow}
 use Rattle.ruu_words.specs.declared.place.Place.{Place}
 use Rattle.ruu_words.specs.declared.place.Place.TheVariants.{Info, Link, Operand, Station}
@@ -30,7 +31,7 @@ use Rattle.ruu_words.specs.Content.{Content, IsDraft, IsInfo, IsInfoOf, IsLink, 
 use Rattle.ruu_words.specs.Fields.{index_of, predicted_of}
 use Rattle.ruu_words.specs.Kinds.{Drafts, Lets}
 use Rattle.ruu_words.proofs.General.{Plans}
-use Rattle.ruu_words.proofs.Histories.{allowed_steps}
+use Rattle.inorder.proofs.Histories.{allowed_steps}
 use Rattle.ruu_words.proofs.Stays.{front_stays}
 
 module _ (P : Program) (C : Sizes) (index predicted : ℕ) (first second : Supply) where
@@ -144,18 +145,6 @@ module _ (P : Program) (C : Sizes) (index predicted : ℕ) (first second : Suppl
 -- Link words where a tenant is let
 
 module _ (P : Program) (C : Sizes) (index predicted : ℕ) (first second : Supply) where
-  not_linked : (U : UpdateUnit) (k : Source) (b : Bool) → (operand k (new_tenant P C U index predicted first second)).way ≢ Linked b
-  not_linked U First b e = way_of first (creator P U.tenants (instr_of P index).first) e
-    where
-      way_of : (w : Supply) (c : Option ℕ) → (let_operand c w).way ≢ Linked b
-      way_of (Known v) c e = cc e
-      way_of From c e = cc e
-  not_linked U Second b e = way_of second (creator P U.tenants (instr_of P index).second) e
-    where
-      way_of : (w : Supply) (c : Option ℕ) → (let_operand c w).way ≢ Linked b
-      way_of (Known v) c e = cc e
-      way_of From c e = cc e
-
   link_let : (h : List Entry) → IsLegal P C h → (p c : ℕ) (k : Source) (n : ℕ) → IsLink (unit_of P C h).tenants p c k n → IsLink (new_tenant P C (unit_of P C h) index predicted first second ∷ (unit_of P C h).tenants) p c k n
   link_let h legal p c k n l = record {
     names = ⊎_elim (λ e. inl e) (λ (z : NamesLink us p c k n). inr (record {
@@ -175,7 +164,7 @@ module _ (P : Program) (C : Sizes) (index predicted : ℕ) (first second : Suppl
         let low = are_older P C (taken_of h) (allowed_steps P C h legal) r consumer k q old i.creator in
         let below = at_below us r consumer old in absurd (omega (arith, new.0)))
         (at_cases t us q producer i.producer_is))
-        (λ (new : (r ≡ length us) × (t ≡ consumer)). absurd (not_linked (unit_of P C h) k i.in_time (ap (λ x. (operand k x).way) new.1 ∙ i.way)))
+        (λ (new : (r ≡ length us) × (t ≡ consumer)). absurd (not_linked P C (unit_of P C h) index predicted first second k i.in_time (ap (λ x. (operand k x).way) new.1 ∙ i.way)))
         (at_cases t us r consumer i.consumer_is);
   }
     where

@@ -15,7 +15,7 @@ use Rattle.ruu_words.specs.declared.rule.View.{View}
 use Rattle.ruu_words.specs.Content.{Content, IsDraft}
 use Rattle.ruu_words.specs.Places.{IsPlace, index}
 use Rattle.ruu_words.specs.Rule.{Fits, IsAlive, IsCaller, IsGrown, IsKept, Keeps, Tells}
-use Rattle.ruu_words.proofs.Histories.{own-append, own_none, own_of_other, starts_longer, starts_same}
+use Rattle.inorder.proofs.Histories.{own-append, own_none, own_of_other, starts_longer, starts_same}
 use Rattle.ruu_words.proofs.Placing.{written}
 
 pub below_length : {A : Type 0} (l : List A) (j : ℕ) (a : A) → get_elem? l j ≡ some a → j < length l

@@ -1,6 +1,5 @@
 pub mod Packing
 pub mod Placing
-pub mod Histories
 pub mod General
 pub mod Groups
 pub mod StationWords
@@ -12,3 +11,8 @@ pub mod Leaving
 pub mod Settling
 pub mod Drafting
 pub mod Reading
+pub mod Delivery
+pub mod Linking
+pub mod Opening
+pub mod Views
+pub mod Walking

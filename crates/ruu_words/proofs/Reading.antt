@@ -38,7 +38,7 @@ use Rattle.ruu_words.specs.Kinds.{IsClosed, IsTenant, ReadsInfo, ReadsOperand, R
 use Rattle.ruu_words.specs.Rule.{IsCaller}
 use Rattle.ruu_words.proofs.Building.{looks, tells}
 use Rattle.ruu_words.proofs.General.{Plans}
-use Rattle.ruu_words.proofs.Histories.{allowed_steps, unit_sound}
+use Rattle.inorder.proofs.Histories.{allowed_steps, unit_sound}
 use Rattle.ruu_words.proofs.StationWords.{find_last}
 use Rattle.ruu_words.proofs.Stays.{tenant_stays, was_open_stays}
 

@@ -9,7 +9,7 @@ use Rattle.inorder.specs.declared.history.Entry.{Entry}
 use Rattle.inorder.specs.declared.history.Event.{Event}
 use Rattle.inorder.specs.declared.history.Event.TheVariants.{Does, Marks, Refuses}
 use Rattle.inorder.specs.declared.history.Mark.{Mark}
-use Rattle.inorder.specs.declared.history.Mark.TheVariants.{Asked}
+use Rattle.inorder.specs.declared.history.Mark.TheVariants.{Asked, Walked}
 use Rattle.inorder.specs.declared.history.Refusal.{Refusal}
 use Rattle.inorder.specs.declared.history.Refusal.TheVariants.{Empty, Moved, NotDone, NotOpen, Stale, Waiting}
 use Rattle.inorder.specs.declared.history.Source.{Source}
@@ -66,11 +66,6 @@ pub record HasLink (k : Source) (q : ℕ) (t : Tenant) : Type 0 where
   pub way : (operand k t).way ≡ Linked in_time
   pub creator : (operand k t).creator ≡ Some q
 
-pub record HasMade (U : UpdateUnit) (q v : ℕ) : Type 0 where
-  pub tenant : Tenant
-  pub is : at U.tenants q ≡ Some tenant
-  pub made : tenant.made ≡ Some v
-
 -- An operand word with the tag of a tenant of the station is that tenant's, and with another tag that
 -- tenant is not live
 pub record SaysOperand (U : UpdateUnit) (s : ℕ) (k : Source) (n : ℕ) : Type 0 where
@@ -107,6 +102,10 @@ module _ (P : Program) (C : Sizes) where
     pub draft : Draft
     pub proper : IsDraft P C (unit_of P C h) draft
     pub content : Content P C (unit_of P C h) draft x n
+
+  -- The last load of a walk along the links of tenant q
+  pub record Walks (q : ℕ) (h : List Entry) (d : Draft) (events : List Event) : Type 0 where
+    pub added : events ≡ Marks (Walked q) ∷ []
 
   -- Loads of a claim
 
