@@ -4,3 +4,4 @@ pub mod Operations
 pub mod Programs
 pub mod Settings
 pub mod Prediction
+pub mod Report

@@ -10,6 +10,7 @@ mod op;
 mod predictor;
 mod program;
 mod reg;
+mod report;
 mod semantics;
 mod stop;
 
@@ -21,6 +22,7 @@ pub use op::{Kind, Op};
 pub use predictor::{Bimod, NotTaken, Predictor, Taken};
 pub use program::Program;
 pub use reg::Reg;
+pub use report::report_text;
 pub use semantics::{loaded, outcome, pc_plus_4};
 pub use stop::{Outcome, Stop};
 
