@@ -3,11 +3,10 @@ use Rattle.std.proofs.Common.{◌≡◌, ◌≢◌, ◌⊎◌, ℕ, zero, suc, �
 use Rattle.std.specs.Prelude.{slice_index}
 use Rattle.std.proofs.lemmas.Option.{slice_get-get_or}
 use Rattle.isa.specs.Programs.{Program, address, instr_at, instr_of}
-use Rattle.lsq.specs.Bytes.{little_endian}
 use Rattle.inorder.specs.Machine.{store_bytes, write}
-use Rattle.inorder.specs.Memory.{byte_of, joined, little_endian_if_there}
 use Rattle.inorder.specs.Tenants.{Tenant, destination_of, on_path}
 use Rattle.inorder.specs.Unit.{at, last_writer, older, replaced, value_of, younger}
+use Rattle.lsq.specs.Bytes.{byte_of, joined, little_endian, little_endian_if_there}
 
 -- a test, with its equation
 pub bool_cases : (b : Bool) → (b ≡ true) ⊎ (b ≡ false)

@@ -12,17 +12,16 @@ use Rattle.isa.specs.declared.op.Kind.TheVariants.{Computes, Jumps, Links, Loads
 use Rattle.isa.specs.declared.stop.Outcome.{Outcome}
 use Rattle.isa.specs.declared.stop.Outcome.TheVariants.{Address, Next, Stop as Stops, Value}
 use Rattle.isa.specs.declared.stop.Stop.{Stop}
-use Rattle.lsq.specs.Bytes.{little_endian}
 use Rattle.inorder.specs.Committed.{commits, commits_by, committed, with_stored, with_tenant}
 use Rattle.inorder.specs.Machine.{Goes, Halts, State, advanced, after_access, fetched, ran, step, store_bytes, write}
-use Rattle.inorder.specs.Memory.{Stored, byte_after, byte_at, byte_of, covers, stored, stored_by}
+use Rattle.inorder.specs.Memory.{Stored, byte_after, byte_at, covers, stored, stored_by}
 use Rattle.inorder.specs.Runs.{after, next_state, stop, stop_of, then_state, then_stop}
 use Rattle.inorder.specs.Steps.{CanRetire}
 use Rattle.inorder.specs.Tenants.{Addr, Busy, Done, Fate, IsThere, Live, Miss, Open, Operand, Retired, Squashed, Standing, Stopped, Tenant, computed, computed_next, destination_of, instr, kind_of, next_by, on_path, operand_value, stands_on_path}
 use Rattle.inorder.specs.Theorem.{IsInOrder}
 use Rattle.inorder.specs.Unit.{at, creator, front_pc, last_writer, value_of}
+use Rattle.lsq.specs.Bytes.{byte_of, little_endian}
 use Rattle.inorder.proofs.Basics.{eqb_self, fetched_at, last_writer_below, length_put, length_write, number_there, put_in, put_out, read_other, read_same, read_zero, value_of_more}
-use Rattle.inorder.proofs.Kept.{sound}
 use Rattle.inorder.proofs.Sound.{DoneIs, FateIs, GoesOn, HasRead, IsInPlace, IsOwn, IsSettled, IsSound, IsSoundAt, LoadIs, Needs, SettledBy, ValueIs}
 
 pub settled_cases : (st : Standing) (f : Fate) → SettledBy st f → (st ≡ Squashed) ⊎ ((st ≡ Retired) × (commits_by st f ≡ true))
@@ -38,7 +37,7 @@ settled_cases Retired (Stopped c) h = absurd h
 -- What a tenant that retired and is no stop leaves
 
 -- a retired tenant that is no stop is done, or a store with its data
-abbrev Leaves : Program → List Tenant → Tenant → Type 0
+abbrev pub Leaves : Program → List Tenant → Tenant → Type 0
 Leaves P ts t = ((v : ℕ) × (t.fate ≡ Done v) × DoneIs P t v (kind_of P t)) ⊎ ((a : ℕ) × (t.fate ≡ Addr a) × (computed P t ≡ Address a) × (kind_of P t ≡ Stores) × IsThere t.second.value)
 
 leaves : (P : Program) (ts : List Tenant) (t : Tenant) (f : Fate) → t.fate ≡ f → commits_by Retired f ≡ true → FateIs P t f → CanRetire (kind_of P t) t.second.value f → Leaves P ts t
@@ -50,14 +49,14 @@ leaves P ts t (Miss x) e c s h = absurd h
 leaves P ts t (Stopped x) e c s h = absurd (true≢false (sym c))
 
 -- its computed next pc is where the path goes on
-next_done : (P : Program) (t : Tenant) (v : ℕ) (k : Kind) → kind_of P t ≡ k → GoesOn k t.pc t.next → DoneIs P t v k → computed_next P t ≡ t.next
+pub next_done : (P : Program) (t : Tenant) (v : ℕ) (k : Kind) → kind_of P t ≡ k → GoesOn k t.pc t.next → DoneIs P t v k → computed_next P t ≡ t.next
 next_done P t v Computes ek g d = rw d.0 (sym g)
 next_done P t v Jumps ek g d = rw d.0 (sym d.1)
 next_done P t v Links ek g d = rw d.0 (sym d.1)
 next_done P t v Loads ek g d = rw d.0.1 (sym g)
 next_done P t v Stores ek g d = absurd d
 
-next_leaves : (P : Program) (ts : List Tenant) (t : Tenant) → GoesOn (kind_of P t) t.pc t.next → Leaves P ts t → computed_next P t ≡ t.next
+pub next_leaves : (P : Program) (ts : List Tenant) (t : Tenant) → GoesOn (kind_of P t) t.pc t.next → Leaves P ts t → computed_next P t ≡ t.next
 next_leaves P ts t g l =
     ⊎_elim
     (λ d. next_done P t d.0 (kind_of P t) refl g d.2)
@@ -66,7 +65,7 @@ next_leaves P ts t g l =
 
 -- The pc
 
-committed_pc : (P : Program) (ts : List Tenant) → IsSound P ts → AllByRecursion IsSettled ts → (committed P ts).pc ≡ front_pc ts
+pub committed_pc : (P : Program) (ts : List Tenant) → IsSound P ts → AllByRecursion IsSettled ts → (committed P ts).pc ≡ front_pc ts
 committed_pc P [] s h = refl
 committed_pc P (t ∷ ts) s h = go (settled_cases t.standing t.fate h.0) (committed_pc P ts s.1 h.1)
   where
@@ -81,7 +80,7 @@ committed_pc P (t ∷ ts) s h = go (settled_cases t.standing t.fate h.0) (commit
 
 -- Registers
 
-length_registers : (P : Program) (ts : List Tenant) → length (committed P ts).registers ≡ 32
+pub length_registers : (P : Program) (ts : List Tenant) → length (committed P ts).registers ≡ 32
 length_registers P [] = length-replicate {A = ℕ} 32 0
 length_registers P (t ∷ ts) = go (commits t) refl (length_registers P ts)
   where
@@ -89,7 +88,7 @@ length_registers P (t ∷ ts) = go (commits t) refl (length_registers P ts)
     go true e more = rw e (length_write (committed P ts).registers (destination_of P t) (unwrap_or t.made 0) ∙ more)
     go false e more = rw e more
 
-register_zero : (P : Program) (ts : List Tenant) → slice_index (committed P ts).registers 0 ≡ 0
+pub register_zero : (P : Program) (ts : List Tenant) → slice_index (committed P ts).registers 0 ≡ 0
 register_zero P [] = refl
 register_zero P (t ∷ ts) = go (commits t) refl (register_zero P ts)
   where
@@ -105,7 +104,7 @@ made_done P t v r Links ek d e = rw d.2 refl
 made_done P t v r Loads ek d e = rw d.1 refl
 made_done P t v r Stores ek d e = absurd d
 
-made_leaves : (P : Program) (ts : List Tenant) (t : Tenant) (r : ℕ) → Leaves P ts t → destination_of P t ≡ suc r → t.made ≡ Some (unwrap_or t.made 0)
+pub made_leaves : (P : Program) (ts : List Tenant) (t : Tenant) (r : ℕ) → Leaves P ts t → destination_of P t ≡ suc r → t.made ≡ Some (unwrap_or t.made 0)
 made_leaves P ts t r l e =
     ⊎_elim
     (λ d. made_done P t d.0 r (kind_of P t) refl d.2 e)
@@ -117,7 +116,7 @@ made_leaves P ts t r l e =
 pub committed_if : (P : Program) (t : Tenant) (ts : List Tenant) (b : Bool) → commits t ≡ b → committed P (t ∷ ts) ≡ cond b (with_tenant P t (committed P ts)) (committed P ts)
 committed_if P t ts b e = ap (λ x. cond x (with_tenant P t (committed P ts)) (committed P ts)) e
 
-writer_if : (P : Program) (t : Tenant) (ts : List Tenant) (r : ℕ) (b : Bool) → (on_path t && eqb (destination_of P t) r) ≡ b → last_writer P (t ∷ ts) r ≡ cond b (Some (length ts)) (last_writer P ts r)
+pub writer_if : (P : Program) (t : Tenant) (ts : List Tenant) (r : ℕ) (b : Bool) → (on_path t && eqb (destination_of P t) r) ≡ b → last_writer P (t ∷ ts) r ≡ cond b (Some (length ts)) (last_writer P ts r)
 writer_if P t ts r b e = ap (λ x. cond x (Some (length ts)) (last_writer P ts r)) e
 
 pub byte_if : (P : Program) (t : Tenant) (ts : List Tenant) (x : ℕ) (o : Option Stored) → stored P t ≡ o → byte_at P (t ∷ ts) x ≡ byte_after o x (byte_at P ts x)
@@ -136,7 +135,7 @@ pub squashed_stores : (P : Program) (t : Tenant) → t.standing ≡ Squashed →
 squashed_stores P t e = ap (λ b. stored_by b (kind_of P t) t.fate (width (instr P t).op) t.second.value) (squashed_off t e)
 
 -- what a retired tenant that commits leaves
-retired_leaves : (P : Program) (t : Tenant) (ts : List Tenant) → IsSoundAt P ts t → t.standing ≡ Retired → commits t ≡ true → Leaves P ts t
+pub retired_leaves : (P : Program) (t : Tenant) (ts : List Tenant) → IsSoundAt P ts t → t.standing ≡ Retired → commits t ≡ true → Leaves P ts t
 retired_leaves P t ts s e c =
     leaves P ts t t.fate refl (ap (λ x. commits_by x t.fate) (sym e) ∙ c) s.own.fate ((s.placed (retired_on t e)).can e)
 
@@ -145,11 +144,11 @@ zeros zero i = refl
 zeros (suc n) zero = refl
 zeros (suc n) (suc i) = zeros n i
 
-value_of_last : (t : Tenant) (ts : List Tenant) → value_of (t ∷ ts) (Some (length ts)) ≡ t.made
+pub value_of_last : (t : Tenant) (ts : List Tenant) → value_of (t ∷ ts) (Some (length ts)) ≡ t.made
 value_of_last t ts = ap (λ b. Rattle.inorder.specs.Unit.made_by (cond b (Some t) (at ts (length ts)))) (eqb_self (length ts))
 
 -- the last writer of a register has made what was committed to it
-register_given : (P : Program) → (ts : List Tenant) → IsSound P ts → AllByRecursion IsSettled ts → (r : ℕ) → suc r < 32 → value_of ts (last_writer P ts (suc r)) ≡ Some (slice_index (committed P ts).registers (suc r))
+pub register_given : (P : Program) → (ts : List Tenant) → IsSound P ts → AllByRecursion IsSettled ts → (r : ℕ) → suc r < 32 → value_of ts (last_writer P ts (suc r)) ≡ Some (slice_index (committed P ts).registers (suc r))
 register_given P [] s h r lt = ap Some (sym (zeros 32 (suc r)))
 register_given P (t ∷ ts) s h r lt = go (settled_cases t.standing t.fate h.0) (register_given P ts s.1 h.1 r lt)
   where
@@ -355,7 +354,7 @@ no_write s i v v' m n e =
     ap (λ q. record { registers = write s.registers q v; memory = m; pc = n; count = suc s.count }) e
     ∙ sym (ap (λ q. record { registers = write s.registers q v'; memory = m; pc = n; count = suc s.count }) e)
 
-stored_done : (b : Bool) (k : Kind) (v w : ℕ) (d : Option ℕ) → stored_by b k (Done v) w d ≡ None
+pub stored_done : (b : Bool) (k : Kind) (v w : ℕ) (d : Option ℕ) → stored_by b k (Done v) w d ≡ None
 stored_done true Stores v w d = refl
 stored_done true Computes v w d = refl
 stored_done true Jumps v w d = refl

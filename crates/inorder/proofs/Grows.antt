@@ -8,10 +8,11 @@ use Rattle.isa.specs.declared.instr.Instr.{Instr}
 use Rattle.isa.specs.declared.op.Kind.{Kind}
 use Rattle.isa.specs.declared.op.Kind.TheVariants.{Computes, Jumps, Links, Loads, Stores}
 use Rattle.isa.specs.declared.stop.Outcome.{Outcome}
-use Rattle.inorder.specs.Memory.{Stored, byte_after, byte_at, byte_of, covers, stored}
+use Rattle.inorder.specs.Memory.{Stored, byte_after, byte_at, covers, stored}
 use Rattle.inorder.specs.Steps.{HasAddress}
 use Rattle.inorder.specs.Tenants.{Addr, Busy, Done, Fate, IsNotLive, Live, Miss, Open, Retired, Squashed, Standing, Stopped, Tenant, instr, kind_of, on_path, stands_on_path}
 use Rattle.inorder.specs.Unit.{at, can_be_written, creator, front_pc, last_writer, made_by, value_of}
+use Rattle.lsq.specs.Bytes.{byte_of}
 use Rattle.inorder.proofs.Basics.{number_stays}
 use Rattle.inorder.proofs.Sound.{HasRead, IsInPlace, IsOwn, IsSettled, IsSound, IsSoundAt, LoadIs, SettledBy}
 
@@ -44,7 +45,7 @@ pub all_mid : (Q : Tenant → Type 0) (t : Tenant) (ts ys : List Tenant) → All
 all_mid Q t ts [] h = h.0
 all_mid Q t ts (y ∷ ys) h = all_mid Q t ts ys h.1
 
-same_length : (t t' : Tenant) (ts ys : List Tenant) → length (ys ++ t ∷ ts) ≡ length (ys ++ t' ∷ ts)
+pub same_length : (t t' : Tenant) (ts ys : List Tenant) → length (ys ++ t ∷ ts) ≡ length (ys ++ t' ∷ ts)
 same_length t t' ts [] = refl
 same_length t t' ts (y ∷ ys) = ap suc (same_length t t' ts ys)
 
@@ -61,7 +62,7 @@ made_at_grows t t' ts (y ∷ ys) g p v e =
     go true more h = h
     go false more h = more h
 
-value_of_grows : (t t' : Tenant) (ts ys : List Tenant) → MadeGrows t t' → (c : Option ℕ) (v : ℕ) → value_of (ys ++ t ∷ ts) c ≡ Some v → value_of (ys ++ t' ∷ ts) c ≡ Some v
+pub value_of_grows : (t t' : Tenant) (ts ys : List Tenant) → MadeGrows t t' → (c : Option ℕ) (v : ℕ) → value_of (ys ++ t ∷ ts) c ≡ Some v → value_of (ys ++ t' ∷ ts) c ≡ Some v
 value_of_grows t t' ts ys g None v e = e
 value_of_grows t t' ts ys g (Some p) v e = made_at_grows t t' ts ys g p v e
 
@@ -73,10 +74,10 @@ writer_grows P t t' ts (y ∷ ys) r e f =
     ap (λ n. cond (on_path y && eqb (destination (instr P y)) r) (Some n) (last_writer P (ys ++ t' ∷ ts) r)) (sym (same_length t t' ts ys))
     ∙ ap (cond (on_path y && eqb (destination (instr P y)) r) (Some (length (ys ++ t ∷ ts)))) (writer_grows P t t' ts ys r e f)
 
-creator_grows : (P : Program) (t t' : Tenant) (ts ys : List Tenant) (r : ℕ) → t'.index ≡ t.index → on_path t' ≡ on_path t → creator P (ys ++ t' ∷ ts) r ≡ creator P (ys ++ t ∷ ts) r
+pub creator_grows : (P : Program) (t t' : Tenant) (ts ys : List Tenant) (r : ℕ) → t'.index ≡ t.index → on_path t' ≡ on_path t → creator P (ys ++ t' ∷ ts) r ≡ creator P (ys ++ t ∷ ts) r
 creator_grows P t t' ts ys r e f = ap (λ c. cond (can_be_written r) c None) (writer_grows P t t' ts ys r e f)
 
-front_grows : (t t' : Tenant) (ts ys : List Tenant) → t'.next ≡ t.next → on_path t' ≡ on_path t → front_pc (ys ++ t' ∷ ts) ≡ front_pc (ys ++ t ∷ ts)
+pub front_grows : (t t' : Tenant) (ts ys : List Tenant) → t'.next ≡ t.next → on_path t' ≡ on_path t → front_pc (ys ++ t' ∷ ts) ≡ front_pc (ys ++ t ∷ ts)
 front_grows t t' ts [] e f = ap (λ b. cond b t'.next (front_pc ts)) f ∙ ap (λ n. cond (on_path t) n (front_pc ts)) e
 front_grows t t' ts (y ∷ ys) e f = ap (cond (on_path y) y.next) (front_grows t t' ts ys e f)
 
@@ -116,7 +117,7 @@ byte_grows P t t' ts [] x b g h = byte_under (stored P t) (stored P t') x b (byt
 byte_grows P t t' ts (y ∷ ys) x b g h = byte_over (stored P y) x b (byte_at P (ys ++ t ∷ ts) x) (byte_at P (ys ++ t' ∷ ts) x) (byte_grows P t t' ts ys x b g) h
 
 -- a load
-read_grows : (P : Program) (t t' : Tenant) (ts ys : List Tenant) (i : Instr) (o : Outcome) (v : ℕ) → Grows P t t' → HasRead P (ys ++ t ∷ ts) i o v → HasRead P (ys ++ t' ∷ ts) i o v
+pub read_grows : (P : Program) (t t' : Tenant) (ts ys : List Tenant) (i : Instr) (o : Outcome) (v : ℕ) → Grows P t t' → HasRead P (ys ++ t ∷ ts) i o v → HasRead P (ys ++ t' ∷ ts) i o v
 read_grows P t t' ts ys i o v g r =
     let s = g.stores (all_mid (HasAddress P) t ts ys r.addresses) in
     record {

@@ -159,20 +159,20 @@ link_sound : (P : Program) (ts : List Tenant) (t : Tenant) (k : Source) → IsSo
 link_sound P ts t First s = record { own = record { first = s.own.first; second = s.own.second; place = s.own.place; inside = s.own.inside; goes_on = s.own.goes_on; fate = s.own.fate }; placed = λ on. let q = s.placed on in record { first = q.first; second = q.second; pc = q.pc; load = q.load; settled = q.settled; can = q.can } }
 link_sound P ts t Second s = record { own = record { first = s.own.first; second = s.own.second; place = s.own.place; inside = s.own.inside; goes_on = s.own.goes_on; fate = s.own.fate }; placed = λ on. let q = s.placed on in record { first = q.first; second = q.second; pc = q.pc; load = q.load; settled = q.settled; can = q.can } }
 
-link_grows : (P : Program) (ts : List Tenant) (t : Tenant) (k : Source) → Grows P t (linked ts t k)
+pub link_grows : (P : Program) (ts : List Tenant) (t : Tenant) (k : Source) → Grows P t (linked ts t k)
 link_grows P ts t First = record { index = refl; next = refl; path = refl; made = λ v e. e; address = λ h. h; stores = λ h. stores_self (stored P t); settled = λ h. h }
 link_grows P ts t Second = record { index = refl; next = refl; path = refl; made = λ v e. e; address = λ h. h; stores = λ h. stores_self (stored P t); settled = λ h. h }
 
 -- Deliver
 
-no_first : (k : Kind) (b : Option ℕ) → Needs k None b → ⊥
+pub no_first : (k : Kind) (b : Option ℕ) → Needs k None b → ⊥
 no_first Stores b h = let e = h.1 in cc
 no_first Computes b h = let e = h.0.1 in cc
 no_first Jumps b h = let e = h.0.1 in cc
 no_first Links b h = let e = h.0.1 in cc
 no_first Loads b h = let e = h.0.1 in cc
 
-no_second : (k : Kind) (a : Option ℕ) → k ≢ Stores → Needs k a None → ⊥
+pub no_second : (k : Kind) (a : Option ℕ) → k ≢ Stores → Needs k a None → ⊥
 no_second Stores a n h = n refl
 no_second Computes a n h = let e = h.1.1 in cc
 no_second Jumps a n h = let e = h.1.1 in cc
@@ -269,7 +269,7 @@ deliver_sound P ts t Second m s =
       placed = λ on. let q = s.placed on in record { first = q.first; second = q.second; pc = q.pc; load = second_load P ts (instr P t) (kind_of P t) _ _ t.pc t.predicted t.next t.made t.first.value t.standing t.fate f; settled = q.settled; can = λ e. second_can (kind_of P t) _ t.fate (subst (λ w. CanRetire (kind_of P t) w t.fate) m.waits (q.can e)) };
     }
 
-deliver_grows : (P : Program) (ts : List Tenant) (t : Tenant) (k : Source) → MayDeliver ts t k → Grows P t (delivered ts t k)
+pub deliver_grows : (P : Program) (ts : List Tenant) (t : Tenant) (k : Source) → MayDeliver ts t k → Grows P t (delivered ts t k)
 deliver_grows P ts t First m = record { index = refl; next = refl; path = refl; made = λ v e. e; address = λ h. h; stores = λ h. stores_self (stored P t); settled = λ h. h }
 deliver_grows P ts t Second m =
     record {
@@ -312,7 +312,7 @@ claim_sound P ts t caller m s =
       placed = λ on. let q = s.placed on in record { first = q.first; second = q.second; pc = q.pc; load = load_busy P ts (instr P t) _ caller (kind_of P t); settled = λ e. live_not_retired t m.live e; can = λ e. live_not_retired t m.live e };
     }
 
-claim_grows : (P : Program) (t : Tenant) (caller : ℕ) → MayClaim P t → Grows P t (record t { fate = Busy caller })
+pub claim_grows : (P : Program) (t : Tenant) (caller : ℕ) → MayClaim P t → Grows P t (record t { fate = Busy caller })
 claim_grows P t caller m = fresh_grows P t _ m.live (λ h st. let a = h m.live st in let e = a.1 in let o = m.fate in cc) refl refl refl (λ v e. e)
 
 -- Finish
@@ -434,7 +434,7 @@ finish_sound P ts t caller o e m s = go o e
     go (Address q) e' = remade P ts t (Addr q) t.made m.live (busy.0 ∙ address_early i t.pc _ _ _ (kind_of P t) q e', e', busy.2) (load_addr P ts i _ q (kind_of P t)) s
     go (Stops c) e' = remade P ts t (Stopped c) t.made m.live ((λ n. busy.0 ∙ halt_early i t.pc _ _ _ (kind_of P t) c e'), e', busy.2) (load_ends P ts i _ c (kind_of P t)) s
 
-finish_grows : (P : Program) (ts : List Tenant) (t : Tenant) (caller : ℕ) (o : Outcome) → computed P t ≡ o → MayFinish t caller → IsSoundAt P ts t → Grows P t (finished t o)
+pub finish_grows : (P : Program) (ts : List Tenant) (t : Tenant) (caller : ℕ) (o : Outcome) → computed P t ≡ o → MayFinish t caller → IsSoundAt P ts t → Grows P t (finished t o)
 finish_grows P ts t caller o e m s = go o e
   where
     busy : FateIs P t (Busy caller)
@@ -472,7 +472,7 @@ load_may P ts t m s =
           addresses = m.addresses;
         }
 
-load_may_grow : (P : Program) (ts : List Tenant) (t : Tenant) → MayLoad P ts t → IsSoundAt P ts t → Grows P t (settled P ts t)
+pub load_may_grow : (P : Program) (ts : List Tenant) (t : Tenant) → MayLoad P ts t → IsSoundAt P ts t → Grows P t (settled P ts t)
 load_may_grow P ts t m s =
     fresh_grows P t _ m.live (λ h st. let k = m.kind in cc) refl refl refl (λ w x. let none : t.made ≡ None = addr.0 in absurd (cc))
   where
@@ -519,7 +519,7 @@ retire_sound P ts t n m s =
       placed = λ on. record { first = q.first; second = q.second; pc = q.pc; load = q.load; settled = λ e. settled_from ts m.oldest m.no_stop; can = λ e. m.can };
     }
 
-retire_grows : (P : Program) (ts : List Tenant) (t : Tenant) (n : ℕ) → MayRetire P n ts t → IsSoundAt P ts t → Grows P t (retired t n)
+pub retire_grows : (P : Program) (ts : List Tenant) (t : Tenant) (n : ℕ) → MayRetire P n ts t → IsSoundAt P ts t → Grows P t (retired t n)
 retire_grows P ts t n m s =
     let f = subst (λ st. FateBy (kind_of P t) (computed P t) t.pc t.predicted t.next t.made t.first.value t.second.value st t.fate) m.live s.own.fate in
     record {

@@ -49,7 +49,7 @@ OnlyRetirementsCommit P C history by =
     AreAllowed P C history → Commits P C (reached P C history) by
 
 -- A beginning of an allowed history is allowed, and has committed no more
-pub record Grows (P : Program) (C : Sizes) (more history : List Taken) : Type 0 where
+pub record HistoryGrows (P : Program) (C : Sizes) (more history : List Taken) : Type 0 where
   pub allowed : AreAllowed P C (more ++ history) → AreAllowed P C history
   pub count : AreAllowed P C (more ++ history) →
       (committed P (reached P C history).tenants).count ≤

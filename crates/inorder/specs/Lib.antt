@@ -11,3 +11,9 @@ pub mod Laws
 pub mod StationWords
 pub mod OperandWords
 pub mod Fates
+pub mod Numbers
+pub mod Loads
+pub mod Replies
+pub mod History
+pub mod Wakes
+pub mod Callers

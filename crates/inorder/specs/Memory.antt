@@ -1,13 +1,13 @@
 -- Memory as the older stores of the path leave it, and what a load reads.
-use Rattle.std.specs.Prelude.{ℕ, zero, suc, ◌+◌, ◌-◌, ◌*◌, ◌/◌, ◌%◌, Bool, true, ◌&&◌, List, [], ◌∷◌, Option, Some, None, option_map, unwrap_or, nat_le, nat_lt, if◌then◌else◌, slice_index}
+use Rattle.std.specs.Prelude.{ℕ, ◌+◌, ◌-◌, Bool, true, ◌&&◌, List, [], ◌∷◌, Option, Some, None, option_map, unwrap_or, nat_le, nat_lt, if◌then◌else◌, slice_index}
 use Rattle.isa.specs.Instruction.{width}
 use Rattle.isa.specs.Operations.{loaded}
 use Rattle.isa.specs.Programs.{Program}
 use Rattle.isa.specs.declared.instr.Instr.{Instr}
 use Rattle.isa.specs.declared.op.Kind.{Kind}
 use Rattle.isa.specs.declared.op.Kind.TheVariants.{Stores}
-pub use Rattle.lsq.specs.Bytes.{byte_of, joined, little_endian_if_there}
 use Rattle.inorder.specs.Tenants.{Addr, Fate, Tenant, instr, kind_of, on_path}
+use Rattle.lsq.specs.Bytes.{byte_of, little_endian_if_there}
 
 -- A store of the path whose address is known, with its data if that was delivered
 pub record Stored : Type 0 where
@@ -22,6 +22,7 @@ stored_by _ _ _ w d = None
 abbrev pub stored : Program → Tenant → Option Stored
 stored P t = stored_by (on_path t) (kind_of P t) t.fate (width (instr P t).op) t.second.value
 
+-- It writes the byte at x
 abbrev pub covers : Stored → ℕ → Bool
 covers s x = nat_le s.at x && nat_lt x (s.at + s.width)
 
@@ -30,7 +31,8 @@ byte_after None x before = before
 byte_after (Some s) x before =
     if covers s x then option_map (byte_of (x - s.at)) s.content else before
 
--- The byte at x of the last store of the path to it, if its data is there; else that of the start memory
+-- The byte at x of the last store of the path to it, if its data is there; without such a store that
+-- of the start memory
 abbrev pub byte_at : Program → List Tenant → ℕ → Option ℕ
 byte_at P [] x = Some (slice_index P.bytes x)
 byte_at P (t ∷ ts) x = byte_after (stored P t) x (byte_at P ts x)

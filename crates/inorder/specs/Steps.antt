@@ -1,5 +1,5 @@
 -- The steps of the one-thread unit: where each is allowed, and what it does.
-use Rattle.std.specs.Prelude.{◌≡◌, ◌≢◌, ℕ, ◌^◌, ◌<◌, Bool, true, ◌&&◌, List, length, Option, Some, None, ◌==◌, IfSome, is_none, if◌then◌else◌}
+use Rattle.std.specs.Prelude.{◌≡◌, ◌≢◌, ℕ, ◌^◌, ◌<◌, Bool, true, List, length, Option, Some, None, ◌==◌, IfSome, is_none, if◌then◌else◌}
 use Rattle.std.specs.List.{AllByRecursion}
 use Rattle.isa.specs.Instruction.{fixed_next, kind}
 use Rattle.isa.specs.Programs.{Program, address, instr_of}
@@ -12,7 +12,7 @@ use Rattle.inorder.specs.declared.history.Source.{Source}
 use Rattle.inorder.specs.declared.history.Supply.{Supply}
 use Rattle.inorder.specs.declared.history.Supply.TheVariants.{From, Known}
 use Rattle.inorder.specs.Memory.{load_value, raw_at}
-use Rattle.inorder.specs.Tenants.{Addr, AtLet, Busy, Done, Fate, IsNotLive, IsThere, Linked, Live, Miss, Open, Operand, Retired, Squashed, Stopped, Tenant, Unlinked, instr, is_access, is_live, kind_of, made_at_let, missing, operand, with_operand}
+use Rattle.inorder.specs.Tenants.{Addr, AtLet, Busy, Done, Fate, IsNotLive, IsThere, Linked, Live, Miss, Open, Operand, Retired, Squashed, Stopped, Tenant, Unlinked, instr, is_access, is_live, is_live_access, kind_of, made_at_let, missing, operand, with_operand}
 use Rattle.inorder.specs.Unit.{Sizes, UpdateUnit, at, creator, front_pc, how_many, next_station, next_tag, recent, value_of, younger}
 
 -- Let
@@ -36,7 +36,7 @@ MaySupply P U station c From = MayComeFrom P U station c
 pub record MayLet (P : Program) (C : Sizes) (U : UpdateUnit) (index predicted : ℕ) (first second : Supply) : Type 0 where
   pub room : how_many is_live U.tenants < C.ring
   pub queue : is_access (kind (instr_of P index).op) ≡ true →
-      how_many (λ t. is_live t && is_access (kind_of P t)) U.tenants < C.queue
+      how_many (is_live_access P) U.tenants < C.queue
   pub is_there : index < length P.code
   pub pc : front_pc U.tenants ≡ address index
   pub small : predicted < 2 ^ 32

@@ -1,5 +1,5 @@
 -- A tenant: one use of a reservation station by an instruction in flight.
-use Rattle.std.specs.Prelude.{◌≡◌, ◌≢◌, ℕ, Bool, true, false, length, Option, Some, None, unwrap_or, if◌then◌else◌}
+use Rattle.std.specs.Prelude.{◌≡◌, ◌≢◌, ℕ, Bool, true, false, ◌&&◌, length, Option, Some, None, unwrap_or, if◌then◌else◌}
 use Rattle.isa.specs.Instruction.{destination, kind, pc_plus_4}
 use Rattle.isa.specs.Operations.{outcome}
 use Rattle.isa.specs.Programs.{Program, instr_of}
@@ -101,6 +101,9 @@ abbrev pub is_access : Kind → Bool
 is_access Loads = true
 is_access Stores = true
 is_access _ = false
+
+abbrev pub is_live_access : Program → Tenant → Bool
+is_live_access P t = is_live t && is_access (kind_of P t)
 
 -- A store needs its base alone for a claim, all others need both sources
 abbrev pub needs : Kind → Source → Bool

@@ -1,6 +1,7 @@
 //! What the callers of a unit do and are told. Contracts alone speak of these types: no value of them is made.
 
 /// The number of one of the two sources of an instruction.
+#[derive(Clone, Copy)]
 pub enum Source {
     First,
     Second,

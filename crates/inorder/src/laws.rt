@@ -1,12 +1,69 @@
-//! What holds of every unit that legal steps reach. Each function is a law: it does nothing, and its contract is proved.
+//! What holds of every unit that legal steps reach. Each function is a law: it does nothing, and its
+//! contract is proved.
 ghost use Rattle.std.specs.Prelude.{List, ℕ};
 ghost use Rattle.isa.specs.Programs.{Program};
 ghost use Rattle.inorder.specs.Unit.{Sizes};
 ghost use Rattle.inorder.specs.Legal.{Taken};
 ghost use Rattle.inorder.specs.Theorem.{IsRight};
+ghost use Rattle.inorder.specs.Laws.{StandsRight, NamesOne, OnlyRetirementsCommit, HistoryGrows};
+ghost use Rattle.inorder.specs.StationWords.{StationsFollow};
+ghost use Rattle.inorder.specs.OperandWords.{OperandsFollow};
+ghost use Rattle.inorder.specs.Fates.{FatesFollow};
+ghost use Rattle.inorder.specs.Numbers.{ValuesAreWords};
+ghost use Rattle.inorder.specs.Loads.{LoadsAreAnswered};
 
 /// Whatever steps were taken, what the unit has committed is the state of the in-order machine
 /// after as many instructions, and a stop that has retired is that machine's stop.
 pub fn one_thread_unit_is_right()
     ensures { (p : Program) (c : Sizes) (history : List Taken) → IsRight p c history }
+{}
+
+/// At most as many tenants are live as there are stations. Each tenant of the path has the station
+/// of its place on the path, and a live one is the last of its station.
+pub fn ring_is_right()
+    ensures { (p : Program) (c : Sizes) (history : List Taken) → StandsRight p c history }
+{}
+
+/// A station and a tag name one tenant of all that were ever let.
+pub fn a_tag_names_one_tenant()
+    ensures { (p : Program) (c : Sizes) (history : List Taken) → NamesOne p c history }
+{}
+
+/// A retirement commits its tenant, unless that is a stop. No other step commits anything.
+pub fn only_retirements_commit()
+    ensures { (p : Program) (c : Sizes) (history : List Taken) (by : ℕ) → OnlyRetirementsCommit p c history by }
+{}
+
+/// What a longer history keeps of its beginning.
+pub fn histories_grow()
+    ensures { (p : Program) (c : Sizes) (more history : List Taken) → HistoryGrows p c more history }
+{}
+
+/// A live tenant is what its station shows, a station that is not free shows one live tenant, and
+/// each step moves the words of the stations as stated.
+pub fn stations_follow()
+    ensures { (p : Program) (c : Sizes) (history : List Taken) (by : ℕ) → StationsFollow p c history by }
+{}
+
+/// A let sets both operands of its station, a delivery to the last tenant of a station sets one,
+/// and nothing else changes an operand.
+pub fn operands_follow()
+    ensures { (p : Program) (c : Sizes) (history : List Taken) (by : ℕ) → OperandsFollow p c history by }
+{}
+
+/// What the fate of a tenant says of its outcome, of what it made and of where it goes on.
+pub fn fates_follow()
+    ensures { (p : Program) (c : Sizes) (history : List Taken) → FatesFollow p c history }
+{}
+
+/// Each value, address and pc of a tenant is a 32-bit word, where the program's numbers are.
+pub fn values_are_words()
+    ensures { (p : Program) (c : Sizes) (history : List Taken) → ValuesAreWords p c history }
+{}
+
+/// The rule for loads is right over the live loads and stores. Where it forwards or says memory, the
+/// load may complete, with the bytes of the last older stores or of the committed memory. Where it
+/// blocks, it names an older live store that has no address or overlaps the load.
+pub fn loads_are_answered_right()
+    ensures { (p : Program) (c : Sizes) (history : List Taken) → LoadsAreAnswered p c history }
 {}

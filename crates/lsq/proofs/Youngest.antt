@@ -1,5 +1,5 @@
 -- The youngest entry that passes a test is found from the young end, and splits the list.
-use Rattle.std.proofs.Common.{◌≡◌, ℕ, ◌+◌, ◌<◌, ◌≤◌, Bool, true, false, cond, List, [], ◌∷◌, ◌++◌, length, get_or, take, drop, Option, Some, None, refl, sym, ap, ◌∙◌, subst, arith, add-zero, add-one, append_assoc}
+use Rattle.std.proofs.Common.{◌≡◌, ℕ, ◌+◌, ◌<◌, Bool, true, false, cond, List, [], ◌∷◌, ◌++◌, length, get_or, take, Option, Some, None, refl, sym, ap, ◌∙◌, arith}
 use Rattle.std.proofs.lemmas.List.{take_more, length-take-le}
 use Rattle.std.specs.List.{AllByRecursion}
 use Rattle.lsq.specs.declared.entry.Entry.{Entry}
@@ -18,29 +18,37 @@ or_older-none None = refl
 or_older-none (Some p) = refl
 
 -- with one more young entry
-pub youngest_from-snoc : (test : Entry → Bool) (es : List Entry) (e : Entry) (at n : ℕ) → n ≡ at + length es → youngest_from at test (es ++ e ∷ []) ≡ or_older (this_one test n e) (youngest_from at test es)
+pub youngest_from-snoc : (test : Entry → Bool) (es : List Entry) (e : Entry) (at n : ℕ) → n ≡ at + length es
+    → youngest_from at test (es ++ e ∷ []) ≡ or_older (this_one test n e) (youngest_from at test es)
 youngest_from-snoc test [] e at n h =
     let same : n ≡ at = omega arith in
     ap (λ (m : ℕ). this_one test m e) (sym same) ∙ sym (or_older-none (this_one test n e))
 youngest_from-snoc test (x ∷ xs) e at n h =
-    ap (λ (o : Option (ℕ × Entry)). or_older o (this_one test at x)) (youngest_from-snoc test xs e (at + 1) n (omega arith))
+    ap (λ (o : Option (ℕ × Entry)). or_older o (this_one test at x))
+    (youngest_from-snoc test xs e (at + 1) n (omega arith))
     ∙ or_older-assoc (this_one test n e) (youngest_from (at + 1) test xs) (this_one test at x)
 
 -- the first n entries, of which the one at i is the last
-pub youngest_step : (test : Entry → Bool) (es : List Entry) (n i : ℕ) (d : Entry) → n ≡ i + 1 → i < length es → youngest test (take n es) ≡ or_older (this_one test i (get_or es i d)) (youngest test (take i es))
+pub youngest_step : (test : Entry → Bool) (es : List Entry) (n i : ℕ) (d : Entry) → n ≡ i + 1 → i < length es
+    → youngest test (take n es) ≡ or_older (this_one test i (get_or es i d)) (youngest test (take i es))
 youngest_step test es n i d s h =
     let more : take n es ≡ take i es ++ get_or es i d ∷ [] = ap (λ (k : ℕ). take k es) s ∙ take_more es i d h in
     let len : i ≡ 0 + length (take i es) = omega (arith, length-take-le i es (omega arith)) in
-    ap (λ (xs : List Entry). youngest_from 0 test xs) more ∙ youngest_from-snoc test (take i es) (get_or es i d) 0 i len
+    ap (λ (xs : List Entry). youngest_from 0 test xs) more
+    ∙ youngest_from-snoc test (take i es) (get_or es i d) 0 i len
 
 -- the one at i does not pass
-pub youngest_passed : (test : Entry → Bool) (es : List Entry) (n i : ℕ) (d : Entry) → n ≡ i + 1 → i < length es → test (get_or es i d) ≡ false → youngest test es ≡ youngest test (take n es) → youngest test es ≡ youngest test (take i es)
+pub youngest_passed : (test : Entry → Bool) (es : List Entry) (n i : ℕ) (d : Entry) → n ≡ i + 1 → i < length es
+    → test (get_or es i d) ≡ false → youngest test es ≡ youngest test (take n es)
+    → youngest test es ≡ youngest test (take i es)
 youngest_passed test es n i d s h fails same =
     same ∙ youngest_step test es n i d s h
     ∙ ap (λ (b : Bool). or_older (cond b (Some (i, get_or es i d)) None) (youngest test (take i es))) fails
 
 -- the one at i passes
-pub youngest_found : (test : Entry → Bool) (es : List Entry) (n i : ℕ) (d : Entry) → n ≡ i + 1 → i < length es → test (get_or es i d) ≡ true → youngest test es ≡ youngest test (take n es) → youngest test es ≡ Some (i, get_or es i d)
+pub youngest_found : (test : Entry → Bool) (es : List Entry) (n i : ℕ) (d : Entry) → n ≡ i + 1 → i < length es
+    → test (get_or es i d) ≡ true → youngest test es ≡ youngest test (take n es)
+    → youngest test es ≡ Some (i, get_or es i d)
 youngest_found test es n i d s h passes same =
     same ∙ youngest_step test es n i d s h
     ∙ ap (λ (b : Bool). or_older (cond b (Some (i, get_or es i d)) None) (youngest test (take i es))) passes
@@ -67,7 +75,8 @@ pub youngest_is : (test : Entry → Bool) (es : List Entry) (at : ℕ) → Found
 youngest_is test [] at = tt
 youngest_is test (e ∷ es) at = go (youngest_from (at + 1) test es) (youngest_is test es (at + 1)) (test e) refl
   where
-    go : (o : Option (ℕ × Entry)) → FoundIs test (at + 1) es o → (b : Bool) → test e ≡ b → FoundIs test at (e ∷ es) (or_older o (cond b (Some (at, e)) None))
+    go : (o : Option (ℕ × Entry)) → FoundIs test (at + 1) es o → (b : Bool) → test e ≡ b
+        → FoundIs test at (e ∷ es) (or_older o (cond b (Some (at, e)) None))
     go None none true passes =
         record { older = []; younger = es; parts = refl; place_is = omega arith; passes = passes; none_younger = none }
     go None none false fails = (fails, none)
@@ -79,3 +88,6 @@ youngest_is test (e ∷ es) at = go (youngest_from (at + 1) test es) (youngest_i
       passes = s.passes;
       none_younger = s.none_younger;
     }
+
+-- a search from the young end goes on, or ends
+pub ruleset found_or_passed = (youngest_passed, youngest_found)

@@ -1,7 +1,7 @@
 //! The rule for one load over the older stores.
-ghost use Rattle.std.specs.Prelude.{◌≡◌, ◌+◌, ◌-◌, ◌*◌, ◌/◌, ◌%◌, ◌^◌, ◌<◌, ◌≤◌, IsSome};
+ghost use Rattle.std.specs.Prelude.{◌≡◌, ◌+◌, ◌%◌, ◌^◌, IsSome};
 ghost use Rattle.lsq.specs.Entries.{bytes, load_at};
-ghost use Rattle.lsq.specs.LoadRule.{lacks_address, overlaps, covers, taken_from, youngest, answer_over, answer};
+ghost use Rattle.lsq.specs.LoadRule.{lacks_address, overlaps, taken_from, youngest, answer_over, answer};
 
 use crate::{Entry, Queue, Width};
 
@@ -45,7 +45,7 @@ fn answer_over(older: &[Entry], address: u32, width: Width) -> Answer
 }
 
 // The youngest store without its address, with its place.
-#[tactic(auto, using(crate::proofs::Youngest::youngest_passed, crate::proofs::Youngest::youngest_found))]
+#[tactic(auto, using(crate::proofs::Youngest::found_or_passed))]
 fn youngest_lacking(older: &[Entry]) -> Option<(usize, Entry)>
     ensures { result ≡ youngest lacks_address older.now }
 {
@@ -61,16 +61,16 @@ fn youngest_lacking(older: &[Entry]) -> Option<(usize, Entry)>
 }
 
 // The youngest store that overlaps a load, with its place.
-#[tactic(auto, using(crate::proofs::Youngest::youngest_passed, crate::proofs::Youngest::youngest_found))]
+#[tactic(auto, using(crate::proofs::Youngest::found_or_passed))]
 fn youngest_overlapping(older: &[Entry], address: u32, width: Width) -> Option<(usize, Entry)>
     ensures { result ≡ youngest (overlaps address (bytes width)) older.now }
 {
     let mut at = older.len();
     while at > 0 {
         at -= 1;
-        let entry = older[at];
-        if overlaps(&entry, address, width) {
-            return Some((at, entry));
+        let store = older[at];
+        if overlaps(&store, address, width) {
+            return Some((at, store));
         }
     }
     None
@@ -104,7 +104,8 @@ fn end_of(address: u32, width: Width) -> u64
 
 // The bytes of a load from the data of a store, where it has them all.
 fn taken_from(store: &Entry, address: u32, width: Width) -> Option<u32>
-    ensures { result ≡ taken_from store.now.address (bytes store.now.width) store.now.content address (bytes width) }
+    ensures { let stored = bytes store.now.width in
+        result ≡ taken_from store.now.address stored store.now.content address (bytes width) }
 {
     let base = store.address?;
     let content = store.content?;

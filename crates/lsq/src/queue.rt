@@ -67,7 +67,7 @@ impl Queue {
         ensures full { OnErr result (length self.old.entries ≡ self.old.capacity) }
         ensures err { OnErr result (self.new ≡ self.old) }
     {
-        if self.entries.len() == self.capacity {
+        if self.len() == self.capacity {
             return Err(Full);
         }
         self.entries.push(entry);

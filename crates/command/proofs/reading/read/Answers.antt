@@ -1,0 +1,35 @@
+use Rattle.std.proofs.Common.{◌≡◌, ◌∙◌, sym, ap, subst, codes, min, refl}
+use Rattle.clap.specs.Words.{found_of, rows_of}
+use Rattle.clap.proofs.WalkLemmas.{first_value-rows}
+use Rattle.isa.specs.Settings.{Settings}
+use Rattle.command.specs.Values.{is_true}
+use Rattle.command.specs.Request.{IsAskedBy}
+use Rattle.command.proofs.reading.read.Goals as goal
+
+pub returns-clause-ok : goal.returns-clause-ok
+returns-clause-ok c =
+    let found = found_of c.args.matches.now in
+    let settings : Settings = record {
+      ring = c.in_ok-ring.ring;
+      queue = c.min.result;
+      units = c.in_ok-units.units;
+      places = 1;
+      first_tag = 1;
+      limit = c.in_ok-limit.limit;
+      turns = c.in_ok-turns.turns;
+    } in
+    let held : IsAskedBy (rows_of found) (record { file = c.in_ok-file.file; config = settings; predictor = c.in_ok-predictor.predictor; alone = c.is_true-alone.result }) = record {
+      file = c.in_ok-file.ensures.ok;
+      ring = c.in_ok-ring.ensures.ok.reads;
+      queue = record { wanted = c.in_ok-queue.queue; reads = c.in_ok-queue.ensures.ok; cut = c.min.ensures };
+      units = c.in_ok-units.ensures.ok;
+      predictor = c.in_ok-predictor.ensures.ok;
+      turns = c.in_ok-turns.ensures.ok;
+      limit = c.in_ok-limit.ensures.ok;
+      alone = c.is_true-alone.ensures ∙ ap is_true (c.get_str.ensures ∙ first_value-rows found (codes "alone"));
+      one_place = refl;
+      first_tag = refl;
+      valid = c.in-Ok.ensures.valid;
+    } in
+    subst (λ (s : Settings). IsAskedBy (rows_of found) (record { file = c.in_ok-file.file; config = s; predictor = c.in_ok-predictor.predictor; alone = c.is_true-alone.result }))
+    (sym c.in-Ok.ensures.ok) held

@@ -1,0 +1,4 @@
+pub mod Tool
+pub mod Values
+pub mod Request
+pub mod Statuses

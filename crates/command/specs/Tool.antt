@@ -1,0 +1,40 @@
+-- The command line, as clap reads it.
+use Rattle.std.specs.Prelude.{◌≡◌, Some, codes, true, false}
+use Rattle.clap.specs.Words.{App, Rule, Text, app_of, new_app, new_rule, rule_of, with_rule, with_subcommand}
+use Rattle.clap.specs.declared.builder.arg.Arg.{Arg}
+use Rattle.clap.specs.declared.builder.command.Command.{Command}
+use Rattle.clap.specs.declared.builder.command.Command.TheViews.{out-Command}
+use Rattle.clap.specs.declared.builder.action.ArgAction.TheVariants.{SetTrue}
+
+-- the file of the listing
+abbrev pub file_rule : Rule
+file_rule = record (new_rule (codes "FILE")) { required = true }
+
+-- an option with one value
+abbrev pub option_rule : Text → Rule
+option_rule name = record (new_rule name) { long = Some name; value_names = 1 }
+
+-- a flag
+abbrev pub flag_rule : Text → Rule
+flag_rule name = record (new_rule name) { long = Some name; action = Some SetTrue }
+
+-- the commands
+abbrev pub run : App
+run = with_rule (with_rule (with_rule (with_rule (with_rule (with_rule (with_rule (with_rule
+    (new_app (codes "run")) file_rule)
+    (option_rule (codes "ruu-size"))) (option_rule (codes "lsq-size")))
+    (option_rule (codes "units"))) (option_rule (codes "bpred")))
+    (option_rule (codes "turns"))) (option_rule (codes "limit"))) (flag_rule (codes "alone"))
+
+abbrev pub tool : App
+tool = with_subcommand (new_app (codes "ruu")) run.top
+
+-- the argument stands for this rule, in its own command alone
+pub record IsArg (rule : Rule) (arg : Arg) : Type 0 where
+  pub is : rule_of arg ≡ rule
+  pub local : arg.global ≡ false
+
+-- the command stands for this one, and shares no argument with those below it
+pub record IsCommand (app : App) (command : Command) : Type 0 where
+  pub is : app_of command ≡ app
+  pub local : (out-Command command).has_globals ≡ false

@@ -1,0 +1,41 @@
+-- What the text of an option stands for.
+use Rattle.std.specs.Prelude.{◌≡◌, ◌≤◌, ◌^◌, ◌-◌, ℕ, Bool, true, false, Option, Some, None, codes, min}
+use Rattle.std.specs.Str.Parse.{IsNumeral, digits_value, without_leading_plus}
+use Rattle.std.specs.Str.{bytes_eq}
+use Rattle.clap.specs.Words.{Text}
+use Rattle.command.specs.declared.request.BranchPredictor.{BranchPredictor}
+use Rattle.command.specs.declared.request.BranchPredictor.TheVariants.{NotTaken, Taken, Bimod}
+
+-- n is what the text's decimal digits write, and the default without a text
+abbrev pub IsNumber : ℕ → Option Text → ℕ → Type 0
+IsNumber default None n = n ≡ default
+IsNumber default (Some text) n =
+    IsNumeral 10 (without_leading_plus text) × (n ≡ digits_value 10 (without_leading_plus text))
+
+-- the same, and n is in the range of its option
+pub record IsNumberFrom (least most default : ℕ) (text : Option Text) (n : ℕ) : Type 0 where
+  pub reads : IsNumber default text n
+  pub above : least ≤ n
+  pub below : n ≤ most
+
+-- the queue size of the text, cut to the ring size
+pub record IsQueueCut (text : Option Text) (ring queue : ℕ) : Type 0 where
+  pub wanted : ℕ
+  pub reads : IsNumberFrom 2 32 8 text wanted
+  pub cut : queue ≡ min wanted ring
+
+-- the word of a predictor
+abbrev pub word_of : BranchPredictor → Text
+word_of NotTaken = codes "nottaken"
+word_of Taken = codes "taken"
+word_of Bimod = codes "bimod"
+
+-- the text is the predictor's word, or there is none and it is the default
+abbrev pub IsPredictor : Option Text → BranchPredictor → Type 0
+IsPredictor None predictor = predictor ≡ Bimod
+IsPredictor (Some text) predictor = text ≡ word_of predictor
+
+-- the flag was given
+abbrev pub is_true : Option Text → Bool
+is_true None = false
+is_true (Some text) = bytes_eq text (codes "true")

@@ -1,0 +1,14 @@
+//! The command line of `ruu`, and the run that it asks for.
+#![tactic(auto)]
+
+mod entries;
+mod no_run;
+mod options;
+mod reading;
+mod refusals;
+mod request;
+mod values;
+
+pub use no_run::{NoRun, status};
+pub use reading::asked;
+pub use request::{Asked, BranchPredictor};

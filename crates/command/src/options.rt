@@ -1,0 +1,81 @@
+//! The command line, as `clap` reads it and as its help shows it.
+ghost use Rattle.std.specs.Prelude.{◌≡◌, IfOk};
+ghost use Rattle.clap.specs.Words.{app_of};
+ghost use Rattle.command.specs.Tool.{IsArg, IsCommand, tool, run, file_rule, option_rule, flag_rule};
+
+use clap::{Arg, ArgAction, Command};
+use std::alloc::{AllocError, Global};
+
+/// The command line of `ruu`.
+pub(crate) fn command<'a>(alloc: Global) -> Result<Command<'a>, AllocError>
+    ensures { IfOk result (λ c. app_of c ≡ tool) }
+{
+    let run = run(alloc)?;
+    let top = Command::new(alloc, "ruu");
+    let named = top.about(ABOUT);
+    named.subcommand(run)
+}
+
+fn run<'a>(alloc: Global) -> Result<Command<'a>, AllocError>
+    ensures { IfOk result (IsCommand run) }
+{
+    let top = Command::new(alloc, "run");
+    let named = top.about(RUN);
+    let ended = named.after_help(STATUSES);
+    ended
+        .arg(file(alloc))?
+        .arg(option(alloc, "ruu-size", RING))?
+        .arg(option(alloc, "lsq-size", QUEUE))?
+        .arg(option(alloc, "units", UNITS))?
+        .arg(option(alloc, "bpred", PREDICTOR))?
+        .arg(option(alloc, "turns", TURNS))?
+        .arg(option(alloc, "limit", LIMIT))?
+        .arg(flag(alloc, "alone", ALONE))
+}
+
+const ABOUT: &str =
+    "An out-of-order core with a register update unit. 'ruu run --help' shows the options.";
+
+const RUN: &str = "Runs a listing of MIPS I instructions and writes a report of how it ended";
+
+const FILE: &str = "The listing: one instruction a line";
+
+const RING: &str = "Reservation stations: 2, 4, 8, 16 or 32 [default: 16]";
+
+const QUEUE: &str = "Loads and stores in flight: 2 to 32, at most --ruu-size [default: 8]";
+
+const UNITS: &str = "Threads that execute instructions: 1 to 64 [default: 2]";
+
+const PREDICTOR: &str = "Branch predictor: nottaken, taken or bimod [default: bimod]";
+
+const TURNS: &str = "Turns of each thread: 1 to 4294967295 [default: 4294967295]";
+
+const LIMIT: &str = "Instructions to run at most: 0 to 4294967295 [default: 1000000]";
+
+const ALONE: &str = "Run the unit on one thread";
+
+const STATUSES: &str = "\
+Exit status: 0 the listing ran to a break, 1 it stopped otherwise, 2 a fault in its text,
+3 a mistake on the command line, 4 the limit of instructions or turns was reached,
+5 no memory, no thread, or a file could not be opened, read or written.";
+
+fn file<'a>(alloc: Global) -> Arg<'a>
+    ensures { IsArg file_rule result }
+{
+    let file = Arg::new(alloc, "FILE");
+    file.required(true).help(FILE)
+}
+
+fn option<'a>(alloc: Global, name: &'a str, help: &'a str) -> Arg<'a>
+    ensures { IsArg (option_rule name.now) result }
+{
+    let option = Arg::new(alloc, name);
+    option.long(name).value_name("VALUE").help(help)
+}
+
+fn flag<'a>(alloc: Global, name: &'a str, help: &'a str) -> Arg<'a>
+    ensures { IsArg (flag_rule name.now) result }
+{
+    let flag = Arg::new(alloc, name);
+    flag.long(name).action(ArgAction::SetTrue).help(help)
+}

@@ -1,0 +1,54 @@
+//! Reading a command line.
+ghost use Rattle.std.specs.Prelude.{IfOk, IfErr, map};
+ghost use Rattle.clap.specs.Words.{found_of, rows_of};
+ghost use Rattle.command.specs.Request.{IsAskedBy, IsAskedIn, IsRefusedBy, IsRefusedIn};
+
+use crate::entries::{file, number, predictor};
+use crate::options::command;
+use crate::refusals::{refused, usage};
+use crate::values::is_true;
+use crate::{Asked, NoRun};
+use clap::ArgMatches;
+use isa::Config;
+use std::alloc::Global;
+
+/// What the words ask for, of which the first is the program's name. Where it refuses them, `NoRun` has what to
+/// print and `status` the exit status.
+pub fn asked<'a>(alloc: Global, words: &'a [&'a str]) -> Result<Asked<'a>, NoRun>
+    ensures ok { IfOk result (IsAskedIn (map (λ w. w.now) words.entry.now)) }
+    ensures err { IfErr result (IsRefusedIn (map (λ w. w.now) words.entry.now)) }
+{
+    let command = command(alloc)?;
+    match command.try_get_matches_from(words) {
+        Ok(matches) => match matches.subcommand_matches("run") {
+            Some(found) => read(alloc, found),
+            None => Err(usage(alloc, "there is no command")),
+        },
+        Err(error) => Err(refused(alloc, &error)),
+    }
+}
+
+// What the matches hold, and the defaults where they hold nothing. The ring size is looked at last, since a
+// mistake elsewhere comes before it.
+fn read<'a>(alloc: Global, matches: &ArgMatches<'a>) -> Result<Asked<'a>, NoRun>
+    ensures ok { IfOk result (IsAskedBy (rows_of (found_of matches.now))) }
+    ensures err { IfErr result (IsRefusedBy (rows_of (found_of matches.now))) }
+{
+    let file = file(alloc, matches)?;
+    let queue = number(alloc, matches, "lsq-size", 2, 32, 8)?;
+    let units = number(alloc, matches, "units", 1, 64, 2)?;
+    let predictor = predictor(alloc, matches)?;
+    let turns = number(alloc, matches, "turns", 1, 0xffff_ffff, 0xffff_ffff)?;
+    let limit = number(alloc, matches, "limit", 0, 0xffff_ffff, 1_000_000)?;
+    let alone = is_true(matches.get_str("alone"));
+    let ring = number(alloc, matches, "ruu-size", 0, u64::MAX, 16)?;
+    let Ok(config) = Config::new(ring, queue.min(ring), units, 1, 1, limit, turns) else {
+        return Err(NoRun::Ring);
+    };
+    Ok(Asked {
+        file,
+        config,
+        predictor,
+        alone,
+    })
+}

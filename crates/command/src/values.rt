@@ -1,0 +1,61 @@
+//! What the text of an option stands for.
+ghost use Rattle.std.specs.Prelude.{◌≡◌, ◌≤◌, ℕ, IfSome, IfNone};
+ghost use Rattle.std.specs.Option.{option_map};
+ghost use Rattle.command.specs.Values.{IsNumberFrom, IsPredictor, word_of, is_true};
+
+use crate::BranchPredictor;
+
+/// The number of the text, or the default without one, if it is in its range.
+pub(crate) fn number_in(text: Option<&str>, least: u64, most: u64, default: u64) -> Option<u64>
+    ensures some { IfSome result (IsNumberFrom least most default (option_map (λ t. t.now) text.entry)) }
+    ensures none { IfNone result ((n : ℕ) → ¬ (IsNumberFrom least most default (option_map (λ t. t.now) text.entry) n)) }
+{
+    let number = match text {
+        None => default,
+        Some(text) => text.parse::<u64>().ok()?,
+    };
+    if number < least || most < number {
+        return None;
+    }
+    Some(number)
+}
+
+fn word_of(predictor: BranchPredictor) -> &'static str
+    ensures { result.now ≡ word_of predictor }
+{
+    match predictor {
+        BranchPredictor::NotTaken => "nottaken",
+        BranchPredictor::Taken => "taken",
+        BranchPredictor::Bimod => "bimod",
+    }
+}
+
+/// The predictor that the text names, or the default without one.
+pub(crate) fn predictor_in(text: Option<&str>) -> Option<BranchPredictor>
+    ensures some { IfSome result (IsPredictor (option_map (λ t. t.now) text.entry)) }
+    ensures none { IfNone result ((p : BranchPredictor) → ¬ (IsPredictor (option_map (λ t. t.now) text.entry) p)) }
+{
+    let Some(text) = text else {
+        return Some(BranchPredictor::Bimod);
+    };
+    if text == word_of(BranchPredictor::NotTaken) {
+        return Some(BranchPredictor::NotTaken);
+    }
+    if text == word_of(BranchPredictor::Taken) {
+        return Some(BranchPredictor::Taken);
+    }
+    if text == word_of(BranchPredictor::Bimod) {
+        return Some(BranchPredictor::Bimod);
+    }
+    None
+}
+
+/// The flag was given.
+pub(crate) fn is_true(text: Option<&str>) -> bool
+    ensures { result ≡ is_true (option_map (λ t. t.now) text.entry) }
+{
+    match text {
+        Some(text) => text == "true",
+        None => false,
+    }
+}

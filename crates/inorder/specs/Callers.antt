@@ -1,0 +1,82 @@
+-- What the callers of a shared unit know before they step: it stays true while only others step.
+use Rattle.std.specs.Prelude.{◌≡◌, ◌≢◌, ◌⊎◌, ℕ, ◌<◌, Some, None}
+use Rattle.isa.specs.Programs.{Program}
+use Rattle.isa.specs.declared.stop.Outcome.{Outcome}
+use Rattle.inorder.specs.declared.history.Source.{Source}
+use Rattle.inorder.specs.Memory.{load_value}
+use Rattle.inorder.specs.Replies.{Has}
+use Rattle.inorder.specs.Steps.{CanRetire, IsNoRetiredStop, MayLoad}
+use Rattle.inorder.specs.Tenants.{Busy, Fate, Live, Miss, Squashed, Tenant, Unlinked, computed, kind_of, missing, operand}
+use Rattle.inorder.specs.Unit.{UpdateUnit, at, older}
+
+-- A unit
+
+-- This caller has claimed the tenant, and may finish it unless it was squashed
+pub record IsHeld (by : ℕ) (t : Tenant) : Type 0 where
+  pub fate : t.fate ≡ Busy by
+  pub stays : (t.standing ≡ Live) ⊎ (t.standing ≡ Squashed)
+
+-- Its needed sources are delivered
+abbrev pub IsReady : Program → Tenant → Type 0
+IsReady P t = missing P t ≡ None
+
+-- It has claimed the tenant, whose outcome is this one
+pub record HasJob (P : Program) (by predicted : ℕ) (outcome : Outcome) (t : Tenant) : Type 0 where
+  pub held : IsHeld by t
+  pub ready : IsReady P t
+  pub computes : computed P t ≡ outcome
+  pub predicted_is : t.predicted ≡ predicted
+
+-- The front
+
+-- Source k was let to come from tenant q, and was not asked for
+pub record CanAsk (k : Source) (q : ℕ) (t : Tenant) : Type 0 where
+  pub way : (operand k t).way ≡ Unlinked
+  pub creator : (operand k t).creator ≡ Some q
+
+-- No tenant after p is of this station
+abbrev pub IsLastAt : UpdateUnit → ℕ → ℕ → Type 0
+IsLastAt U p station =
+    (q : ℕ) (u : Tenant) → p < q → at U.tenants q ≡ Some u → u.station ≢ station
+
+pub record IsMissing (x : ℕ) (t : Tenant) : Type 0 where
+  pub live : t.standing ≡ Live
+  pub fate : t.fate ≡ Miss x
+
+-- No younger tenant is live
+abbrev pub IsYoungest : UpdateUnit → ℕ → Type 0
+IsYoungest U p =
+    (q : ℕ) (t : Tenant) → p < q → at U.tenants q ≡ Some t → t.standing ≢ Live
+
+-- The youngest live tenant may be squashed, since an older one is a live miss
+pub record CanSquash (U : UpdateUnit) (p : ℕ) : Type 0 where
+  pub tenant : Has U p (λ t. t.standing ≡ Live)
+  pub youngest : IsYoungest U p
+  pub q : ℕ
+  pub x : ℕ
+  pub before : q < p
+  pub miss : Has U q (IsMissing x)
+
+-- The youngest live tenant is a miss
+pub record CanMend (U : UpdateUnit) (p x : ℕ) : Type 0 where
+  pub miss : Has U p (IsMissing x)
+  pub youngest : IsYoungest U p
+
+-- The back
+
+-- The oldest live tenant may retire, with this fate
+pub record CanLeave (P : Program) (U : UpdateUnit) (p : ℕ) (f : Fate) : Type 0 where
+  pub tenant : Tenant
+  pub is : at U.tenants p ≡ Some tenant
+  pub live : tenant.standing ≡ Live
+  pub oldest : (q : ℕ) (u : Tenant) → q < p → at U.tenants q ≡ Some u → u.standing ≢ Live
+  pub no_stop : (q : ℕ) (u : Tenant) → q < p → at U.tenants q ≡ Some u → IsNoRetiredStop u
+  pub fate : tenant.fate ≡ f
+  pub can : CanRetire (kind_of P tenant) tenant.second.value f
+
+-- A load may be answered, with this value
+pub record CanLoad (P : Program) (U : UpdateUnit) (p value : ℕ) : Type 0 where
+  pub tenant : Tenant
+  pub is : at U.tenants p ≡ Some tenant
+  pub may : MayLoad P (older U.tenants p) tenant
+  pub value_is : load_value P (older U.tenants p) tenant ≡ value

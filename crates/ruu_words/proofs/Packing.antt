@@ -1,0 +1,39 @@
+-- Packed words read back as their fields, and the words of the layout's examples.
+use Rattle.std.proofs.Common.{◌≡◌, ℕ, ◌^◌, ◌<◌, refl, arith}
+use Rattle.ruu_words.specs.declared.operand.OperandState.TheVariants.{Val}
+use Rattle.ruu_words.specs.declared.station.StationState.TheVariants.{Done, Free, Open}
+use Rattle.ruu_words.specs.Fields.{last_tag, pack, pack_info, pack_link, state_of, tag_count, tag_of, value_of}
+use Rattle.ruu_words.specs.Laws.{FieldsMakeTheWord, InfosReadBack, LinksReadBack, WordsReadBack}
+use Rattle.ruu_words.specs.States.{state_code}
+
+pub words_read_back : WordsReadBack
+words_read_back tag state value small_tag small_state small_value =
+    record { word = omega arith; tag_is = omega arith; state_is = omega arith; value_is = omega arith }
+
+pub infos_read_back : InfosReadBack
+infos_read_back index predicted small_index small_predicted =
+    record { word = omega arith; index_is = omega arith; predicted_is = omega arith }
+
+pub links_read_back : LinksReadBack
+links_read_back producer consumer small_producer small_consumer =
+    record { word = omega arith; producer_is = omega arith; consumer_is = omega arith }
+
+pub same_word : FieldsMakeTheWord
+same_word n m a b c = omega arith
+
+-- The examples
+
+station_open : pack 2 (state_code Open) 0 ≡ 0x0000002100000000
+station_open = refl
+
+station_done : pack 1 (state_code Done) 5 ≡ 0x0000001400000005
+station_done = refl
+
+station_spent : pack last_tag (state_code Free) 0 ≡ 0xfffffff000000000
+station_spent = refl
+
+link_of_first_tags : pack_link 1 1 ≡ 0x0000001000000100
+link_of_first_tags = refl
+
+info_of_the_second : pack_info 1 0x00400008 ≡ 0x0000000100400008
+info_of_the_second = refl

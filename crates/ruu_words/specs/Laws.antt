@@ -1,0 +1,48 @@
+-- What holds of every word and of every place.
+use Rattle.std.specs.Prelude.{◌≡◌, ◌≢◌, ℕ, ◌^◌, ◌<◌, List, length, slice_index, slice_set}
+use Rattle.ruu_words.specs.declared.place.Place.{Place}
+use Rattle.ruu_words.specs.Fields.{consumer_of, index_of, pack, pack_info, pack_link, predicted_of, producer_of, state_of, tag_count, tag_of, value_of}
+use Rattle.ruu_words.specs.Places.{IsPlace, index, words_for}
+
+-- A packed word reads back as its fields, and a word is the packed one of its fields
+pub record ReadsBack (tag state value : ℕ) : Type 0 where
+  pub word : pack tag state value < 2 ^ 64
+  pub tag_is : tag_of (pack tag state value) ≡ tag
+  pub state_is : state_of (pack tag state value) ≡ state
+  pub value_is : value_of (pack tag state value) ≡ value
+
+abbrev pub WordsReadBack : Type 0
+WordsReadBack =
+    (tag state value : ℕ) → tag < tag_count → state < 16 → value < 2 ^ 32 → ReadsBack tag state value
+
+pub record InfoReadsBack (index predicted : ℕ) : Type 0 where
+  pub word : pack_info index predicted < 2 ^ 64
+  pub index_is : index_of (pack_info index predicted) ≡ index
+  pub predicted_is : predicted_of (pack_info index predicted) ≡ predicted
+
+abbrev pub InfosReadBack : Type 0
+InfosReadBack =
+    (index predicted : ℕ) → index < 2 ^ 32 → predicted < 2 ^ 32 → InfoReadsBack index predicted
+
+pub record LinkReadsBack (producer consumer : ℕ) : Type 0 where
+  pub word : pack_link producer consumer < 2 ^ 64
+  pub producer_is : producer_of (pack_link producer consumer) ≡ producer
+  pub consumer_is : consumer_of (pack_link producer consumer) ≡ consumer
+
+abbrev pub LinksReadBack : Type 0
+LinksReadBack =
+    (producer consumer : ℕ) → producer < tag_count → consumer < tag_count → LinkReadsBack producer consumer
+
+-- Two words with the same fields are one
+abbrev pub FieldsMakeTheWord : Type 0
+FieldsMakeTheWord =
+    (n m : ℕ) → tag_of n ≡ tag_of m → state_of n ≡ state_of m → value_of n ≡ value_of m → n ≡ m
+
+-- Places with one index are one, and a write at one leaves the others
+pub record PlacesAreApart (n : ℕ) : Type 0 where
+  pub inside : (x : Place) → IsPlace n x → index n x < words_for n
+  pub one : (x y : Place) → IsPlace n x → IsPlace n y → index n x ≡ index n y → x ≡ y
+  pub written : (words : List ℕ) (x : Place) (v : ℕ) → length words ≡ words_for n → IsPlace n x →
+      slice_index (slice_set words (index n x) v) (index n x) ≡ v
+  pub others : (words : List ℕ) (x y : Place) (v : ℕ) → IsPlace n x → IsPlace n y → x ≢ y →
+      slice_index (slice_set words (index n x) v) (index n y) ≡ slice_index words (index n y)

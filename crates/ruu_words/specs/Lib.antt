@@ -1,0 +1,4 @@
+pub mod Fields
+pub mod States
+pub mod Places
+pub mod Laws

@@ -1,0 +1,16 @@
+//! What holds of the words. Each function is a law: it does nothing, and its contract is proved.
+ghost use Rattle.std.specs.Prelude.{ℕ};
+ghost use Rattle.ruu_words.specs.Laws.{WordsReadBack, InfosReadBack, LinksReadBack, FieldsMakeTheWord, PlacesAreApart};
+
+/// A packed word reads back as its fields, and has no other content.
+pub fn words_read_back()
+    ensures words { WordsReadBack }
+    ensures infos { InfosReadBack }
+    ensures links { LinksReadBack }
+    ensures fields { FieldsMakeTheWord }
+{}
+
+/// The places of the table are apart, for any number of stations.
+pub fn places_are_apart()
+    ensures { (stations : ℕ) → PlacesAreApart stations }
+{}

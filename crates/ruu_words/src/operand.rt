@@ -1,0 +1,56 @@
+//! Operand words.
+ghost use Rattle.std.specs.Prelude.{◌≡◌, ◌<◌};
+ghost use Rattle.ruu_words.specs.Fields.{tag_count, pack, tag_of, state_of, value_of};
+ghost use Rattle.ruu_words.specs.States.{IsOperandCode, operand_code};
+
+/// Whether a source has its value.
+#[derive(Clone, Copy, Debug, PartialEq, Eq)]
+pub enum OperandState {
+    Wait,
+    Val,
+}
+
+/// What an operand word holds.
+#[derive(Clone, Copy, Debug, PartialEq, Eq)]
+pub struct OperandWord {
+    /// The tag of the tenant whose source this is.
+    pub tag: u32,
+    pub state: OperandState,
+    /// 0 while the source waits.
+    pub value: u32,
+}
+
+impl OperandWord {
+    /// Bits 63 to 36 are the tag, 35 to 32 the state, 31 to 0 the value.
+    pub fn pack(self) -> u64
+        requires tag { self.tag < tag_count }
+        ensures { result ≡ pack self.tag (operand_code self.state) self.value }
+    {
+        let state: u64 = match self.state {
+            OperandState::Wait => 1,
+            OperandState::Val => 2,
+        };
+        let tag = u64::from(self.tag);
+        (tag << 36) + (state << 32) + u64::from(self.value)
+    }
+
+    /// The fields of a word.
+    pub fn unpack(word: u64) -> OperandWord
+        requires state { IsOperandCode (state_of word) }
+        ensures tag { result.tag ≡ tag_of word }
+        ensures state { operand_code result.state ≡ state_of word }
+        ensures value { result.value ≡ value_of word }
+    {
+        let code = (word >> 32) & 15;
+        let state = if code == 1 {
+            OperandState::Wait
+        } else {
+            OperandState::Val
+        };
+        OperandWord {
+            tag: (word >> 36) as u32,
+            state,
+            value: (word & 0xffff_ffff) as u32,
+        }
+    }
+}

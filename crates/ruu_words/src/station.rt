@@ -1,0 +1,105 @@
+//! Station words.
+ghost use Rattle.std.specs.Prelude.{◌≡◌, ◌<◌, ◌≤◌, ◌+◌, ◌^◌};
+ghost use Rattle.ruu_words.specs.Fields.{tag_count, last_tag, pack, tag_of, state_of, value_of};
+ghost use Rattle.ruu_words.specs.States.{state_count, state_code};
+
+/// How far the last tenant of a station has come.
+#[derive(Clone, Copy, Debug, PartialEq, Eq)]
+pub enum StationState {
+    /// No tenant is live here. The tag is the next tenant's.
+    Free,
+    Open,
+    Busy,
+    /// A load or store with its address.
+    Addr,
+    Done,
+    /// A branch that goes on elsewhere than predicted.
+    Miss,
+    Stop,
+}
+
+impl StationState {
+    /// Its number in a word.
+    pub fn code(self) -> u64
+        ensures code { result ≡ state_code self }
+        ensures small { result < state_count }
+    {
+        match self {
+            StationState::Free => 0,
+            StationState::Open => 1,
+            StationState::Busy => 2,
+            StationState::Addr => 3,
+            StationState::Done => 4,
+            StationState::Miss => 5,
+            StationState::Stop => 6,
+        }
+    }
+
+    /// The state with this number.
+    pub fn of(code: u64) -> StationState
+        requires small { code < state_count }
+        ensures { state_code result ≡ code }
+    {
+        match code {
+            0 => StationState::Free,
+            1 => StationState::Open,
+            2 => StationState::Busy,
+            3 => StationState::Addr,
+            4 => StationState::Done,
+            5 => StationState::Miss,
+            _ => StationState::Stop,
+        }
+    }
+}
+
+/// What the word of a station holds.
+#[derive(Clone, Copy, Debug, PartialEq, Eq)]
+pub struct StationWord {
+    pub tag: u32,
+    pub state: StationState,
+    /// The address where the state is `Addr`, the value or next pc where it is `Done`, the next pc
+    /// where it is `Miss`, the code of the stop where it is `Stop`. A free station keeps the value
+    /// that its last tenant left. Else it is 0.
+    pub value: u32,
+}
+
+impl StationWord {
+    /// Bits 63 to 36 are the tag, 35 to 32 the state, 31 to 0 the value.
+    pub fn pack(self) -> u64
+        requires tag { self.tag < tag_count }
+        ensures { result ≡ pack self.tag (state_code self.state) self.value }
+    {
+        let tag = u64::from(self.tag);
+        let state = self.state.code();
+        (tag << 36) + (state << 32) + u64::from(self.value)
+    }
+
+    /// The fields of a word.
+    pub fn unpack(word: u64) -> StationWord
+        requires state { state_of word < state_count }
+        ensures tag { result.tag ≡ tag_of word }
+        ensures state { state_code result.state ≡ state_of word }
+        ensures value { result.value ≡ value_of word }
+    {
+        let state = StationState::of((word >> 32) & 15);
+        StationWord {
+            tag: (word >> 36) as u32,
+            state,
+            value: (word & 0xffff_ffff) as u32,
+        }
+    }
+
+    /// The word once its tenant has left: free, with the next tag.
+    pub fn left(self, value: u32) -> StationWord
+        requires tag { self.tag < last_tag }
+        ensures tag { result.tag ≡ self.tag + 1 }
+        ensures state { state_code result.state ≡ 0 }
+        ensures value { result.value ≡ value }
+    {
+        StationWord {
+            tag: self.tag + 1,
+            state: StationState::Free,
+            value,
+        }
+    }
+}

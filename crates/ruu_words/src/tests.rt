@@ -1,0 +1,64 @@
+//! The words of the table of layouts.
+use crate::{
+    InfoWord, LinkWord, OperandState, OperandWord, Place, StationState, StationWord, word_count,
+};
+use inorder::history::Source;
+
+#[test]
+fn words_are_those_of_the_layout(rt: HostRuntime) {
+    let words = [
+        (2, StationState::Open, 0, 0x0000_0021_0000_0000),
+        (1, StationState::Done, 5, 0x0000_0014_0000_0005),
+        (268_435_455, StationState::Free, 0, 0xffff_fff0_0000_0000),
+    ];
+    for (tag, state, value, word) in words {
+        let fields = StationWord { tag, state, value };
+        assert_eq!(rt; fields.pack(), word);
+        assert_eq!(rt; StationWord::unpack(word), fields);
+    }
+}
+
+#[test]
+fn other_words_are_those_of_the_layout(rt: HostRuntime) {
+    let link = LinkWord {
+        producer: 1,
+        consumer: 1,
+    };
+    assert_eq!(rt; link.pack(), 0x0000_0010_0000_0100);
+    assert_eq!(rt; LinkWord::unpack(0x0000_0010_0000_0100), Some(link));
+    assert_eq!(rt; LinkWord::unpack(0), None);
+    let info = InfoWord {
+        index: 1,
+        predicted: 0x0040_0008,
+    };
+    assert_eq!(rt; info.pack(), 0x0000_0001_0040_0008);
+    assert_eq!(rt; InfoWord::unpack(0x0000_0001_0040_0008), info);
+    let operand = OperandWord {
+        tag: 2,
+        state: OperandState::Val,
+        value: 7,
+    };
+    assert_eq!(rt; operand.pack(), 0x0000_0022_0000_0007);
+    assert_eq!(rt; OperandWord::unpack(0x0000_0022_0000_0007), operand);
+}
+
+#[test]
+fn words_stand_at_their_places(rt: HostRuntime) {
+    let places = [
+        (Place::Station(3), 3),
+        (Place::Info(3), 7),
+        (Place::Operand(3, Source::Second), 15),
+        (Place::Link(3, 3, Source::Second), 47),
+    ];
+    for (place, index) in places {
+        assert_eq!(rt; place.index(4), index);
+    }
+    assert_eq!(rt; word_count(4), 48);
+    let left = StationWord {
+        tag: 1,
+        state: StationState::Stop,
+        value: 0,
+    }
+    .left(7);
+    assert_eq!(rt; left.pack(), 0x0000_0020_0000_0007);
+}

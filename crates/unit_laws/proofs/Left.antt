@@ -1,0 +1,43 @@
+-- Who has left, in a unit that has not ended.
+use Rattle.std.proofs.Common.{◌≡◌, true, false, List, ◌∷◌, ◌++◌, refl, sym, ap, ◌∙◌, subst}
+use Rattle.std.specs.List.{AllByRecursion}
+use Rattle.isa.specs.Programs.{Program}
+use Rattle.inorder.specs.Committed.{commits, commits_by, committed}
+use Rattle.inorder.specs.Steps.{IsNoRetiredStop}
+use Rattle.inorder.specs.Tenants.{Addr, Busy, Done, Fate, Live, Miss, Open, Retired, Stopped, Tenant, stands_on_path}
+use Rattle.inorder.proofs.Commits.{over}
+use Rattle.inorder.proofs.Follows.{committed_if}
+use Rattle.inorder.proofs.Sound.{IsSettled, IsSound, SettledBy}
+
+-- a retired tenant that is no stop, and all before it, have left
+pub retired_all : (P : Program) (t : Tenant) (ts : List Tenant) → IsSound P (t ∷ ts) → t.standing ≡ Retired → IsNoRetiredStop t → AllByRecursion IsSettled (t ∷ ts)
+retired_all P t ts s e n = (here t.fate refl, (s.0.placed (ap stands_on_path e)).settled e)
+  where
+    go : (f : Fate) → t.fate ≡ f → SettledBy Retired f
+    go Open q = tt
+    go (Busy x) q = tt
+    go (Addr x) q = tt
+    go (Done x) q = tt
+    go (Miss x) q = tt
+    go (Stopped x) q = absurd (n e x q)
+
+    here : (f : Fate) → t.fate ≡ f → SettledBy t.standing t.fate
+    here f q = subst (λ x. SettledBy x t.fate) (sym e) (subst (SettledBy Retired) (sym q) (go f q))
+
+pub live_commits : (t : Tenant) → t.standing ≡ Live → commits t ≡ false
+live_commits t e = ap (λ s. commits_by s t.fate) e
+
+pub retired_commits : (t : Tenant) → t.standing ≡ Retired → IsNoRetiredStop t → commits t ≡ true
+retired_commits t e n = ap (λ s. commits_by s t.fate) e ∙ go t.fate refl
+  where
+    go : (f : Fate) → t.fate ≡ f → commits_by Retired f ≡ true
+    go Open q = refl
+    go (Busy x) q = refl
+    go (Addr x) q = refl
+    go (Done x) q = refl
+    go (Miss x) q = refl
+    go (Stopped x) q = absurd (n e x q)
+
+-- nobody after a live tenant has committed
+pub committed_middle : (P : Program) (ys : List Tenant) (t : Tenant) (ts : List Tenant) → t.standing ≡ Live → IsSound P (ys ++ t ∷ ts) → committed P (ys ++ t ∷ ts) ≡ committed P ts
+committed_middle P ys t ts e s = over P t t ts ys e s ∙ committed_if P t ts false (live_commits t e)

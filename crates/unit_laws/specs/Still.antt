@@ -1,0 +1,22 @@
+-- Units in which nothing is on its way.
+use Rattle.std.specs.Prelude.{◌≡◌, Bool, List, [], ◌∷◌, None}
+use Rattle.inorder.specs.Tenants.{Busy, Fate, Linked, Operand, Tenant}
+use Rattle.inorder.specs.Unit.{value_of}
+
+-- A link was asked for
+abbrev pub IsLinked : Operand → Type 0
+IsLinked o = (in_time : Bool) × (o.way ≡ Linked in_time)
+
+-- A source holds what its creator has made, or is linked while that has made nothing
+pub record IsStill (ts : List Tenant) (o : Operand) : Type 0 where
+  pub value : o.value ≡ value_of ts o.creator
+  pub way : o.value ≡ None → IsLinked o
+
+abbrev pub IsNotBusy : Fate → Type 0
+IsNotBusy (Busy by) = ⊥
+IsNotBusy _ = Unit {0}
+
+-- Every delivery that is permitted was made, and nobody is busy
+abbrev pub AreStill : List Tenant → Type 0
+AreStill [] = Unit {0}
+AreStill (t ∷ ts) = (IsStill ts t.first × IsStill ts t.second × IsNotBusy t.fate) × AreStill ts

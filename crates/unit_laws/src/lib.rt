@@ -1,0 +1,2 @@
+//! What several steps of one caller come to in the one-thread unit.
+#![tactic(auto)]
