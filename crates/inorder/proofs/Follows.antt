@@ -13,6 +13,7 @@ use Rattle.isa.specs.declared.stop.Outcome.{Outcome}
 use Rattle.isa.specs.declared.stop.Outcome.TheVariants.{Address, Next, Stop as Stops, Value}
 use Rattle.isa.specs.declared.stop.Stop.{Stop}
 use Rattle.inorder.specs.Committed.{commits, commits_by, committed, with_stored, with_tenant}
+use Rattle.inorder.specs.History.{own}
 use Rattle.inorder.specs.Machine.{Goes, Halts, State, advanced, after_access, fetched, ran, step, store_bytes, write}
 use Rattle.inorder.specs.Memory.{Stored, byte_after, byte_at, covers, stored, stored_by}
 use Rattle.inorder.specs.Runs.{after, next_state, stop, stop_of, then_state, then_stop}

@@ -3,13 +3,14 @@ use Rattle.std.proofs.Common.{◌≡◌, ℕ, suc, ◌-◌, Bool, true, false, c
 use Rattle.std.specs.List.{AllByRecursion}
 use Rattle.std.specs.Prelude.{option_map}
 use Rattle.isa.specs.Instruction.{destination, width}
-use Rattle.isa.specs.Programs.{Program, instr_of}
+use Rattle.isa.specs.Programs.{Program, address, instr_of}
 use Rattle.isa.specs.declared.instr.Instr.{Instr}
 use Rattle.isa.specs.declared.op.Kind.{Kind}
 use Rattle.isa.specs.declared.op.Kind.TheVariants.{Computes, Jumps, Links, Loads, Stores}
 use Rattle.isa.specs.declared.stop.Outcome.{Outcome}
-use Rattle.inorder.specs.Memory.{Stored, byte_after, byte_at, covers, stored}
-use Rattle.inorder.specs.Steps.{HasAddress}
+use Rattle.inorder.specs.History.{own}
+use Rattle.inorder.specs.Memory.{Stored, byte_after, byte_at, covers, raw, stored}
+use Rattle.inorder.specs.Steps.{HasAddress, settled}
 use Rattle.inorder.specs.Tenants.{Addr, Busy, Done, Fate, IsNotLive, Live, Miss, Open, Retired, Squashed, Standing, Stopped, Tenant, instr, kind_of, on_path, stands_on_path}
 use Rattle.inorder.specs.Unit.{at, can_be_written, creator, front_pc, last_writer, made_by, value_of}
 use Rattle.lsq.specs.Bytes.{byte_of}

@@ -7,8 +7,8 @@ use Rattle.std.proofs.lemmas.List.{take-map, take_at, map-append, append-nil}
 use Rattle.std.proofs.lemmas.Option.{slice_get-map}
 use Rattle.lsq.proofs.StoresLeft.{byte_left-append}
 use Rattle.lsq.proofs.LoadsRight.{forward_is, memory_is, blocked_is_right}
-use Rattle.isa.specs.Instruction.{width}
-use Rattle.isa.specs.Programs.{Program}
+use Rattle.isa.specs.Instruction.{kind, width}
+use Rattle.isa.specs.Programs.{Program, address}
 use Rattle.isa.specs.declared.op.Kind.{Kind}
 use Rattle.isa.specs.declared.op.Kind.TheVariants.{Computes, Jumps, Links, Loads, Stores}
 use Rattle.isa.specs.declared.op.Op.{Op}
@@ -18,6 +18,7 @@ use Rattle.isa.specs.declared.stop.Stop.{Stop}
 use Rattle.lsq.specs.declared.answer.Answer.TheVariants.{Blocked, Forward, Memory}
 use Rattle.lsq.specs.declared.entry.Entry.{Entry}
 use Rattle.inorder.specs.Committed.{commits, commits_by, committed}
+use Rattle.inorder.specs.History.{entry, front, own}
 use Rattle.inorder.specs.Legal.{Taken, reached}
 use Rattle.inorder.specs.Loads.{LoadsAreAnswered, WaitsForStore, access_width, address_by, content_by, entry_in, entry_of, is_store, live_accesses, place_of, queue_of, with_access}
 use Rattle.inorder.specs.Machine.{State}
@@ -319,7 +320,7 @@ starts_of P ts (y ∷ ys) =
     let new = with_access (is_live_access P y) (length (ys ++ ts), entry_of P y) in
     record { more = s.more ++ new; is = ap (λ es. es ++ new) s.is ∙ append_assoc (live_accesses P ts) s.more new }
 
-at_older : (ts ys : List Tenant) (t : Tenant) (q : ℕ) → q < length ts → at (ys ++ t ∷ ts) q ≡ at ts q
+pub at_older : (ts ys : List Tenant) (t : Tenant) (q : ℕ) → q < length ts → at (ys ++ t ∷ ts) q ≡ at ts q
 at_older ts [] t q l = ap (λ b. cond b (Some t) (at ts q)) (eqb_less q (length ts) l)
 at_older ts (y ∷ ys) t q l =
     let less : q < length (ys ++ t ∷ ts) = omega (arith, length-append ys (t ∷ ts)) in
@@ -331,7 +332,7 @@ sound_tail P t ts [] s = s.1
 sound_tail P t ts (y ∷ ys) s = sound_tail P t ts ys s.1
 
 -- so many tenants are before a position
-older_length : (ts : List Tenant) (p : ℕ) (t : Tenant) → at ts p ≡ Some t → length (older ts p) ≡ p
+pub older_length : (ts : List Tenant) (p : ℕ) (t : Tenant) → at ts p ≡ Some t → length (older ts p) ≡ p
 older_length [] p t e = absurd (cc)
 older_length (u ∷ us) p t e = go (eqb p (length us)) refl e (older_length us p t)
   where

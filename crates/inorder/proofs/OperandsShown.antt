@@ -17,7 +17,7 @@ use Rattle.inorder.specs.Steps.{delivered, finished, mended_as, new_tenant}
 use Rattle.inorder.specs.Tenants.{Addr, Busy, Done, Fate, Miss, Open, Stopped, Tenant, computed, operand}
 use Rattle.inorder.specs.Unit.{Sizes, UpdateUnit, at, next_station, next_tag, older, recent, value_of, younger}
 use Rattle.inorder.proofs.Basics.{eqb_less, eqb_self, split_at}
-use Rattle.inorder.proofs.Kept.{parts}
+use Rattle.inorder.proofs.Kept.{kept, parts}
 use Rattle.inorder.proofs.Tags.{AreTagged, higher, same_place, tagged}
 
 -- The last tenant of a station, as seen by a function of it

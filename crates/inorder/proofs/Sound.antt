@@ -9,8 +9,9 @@ use Rattle.isa.specs.declared.op.Kind.{Kind}
 use Rattle.isa.specs.declared.op.Kind.TheVariants.{Computes, Jumps, Links, Loads, Stores}
 use Rattle.isa.specs.declared.stop.Outcome.{Outcome}
 use Rattle.isa.specs.declared.stop.Outcome.TheVariants.{Address, Next, Stop as Stops, Value}
-use Rattle.inorder.specs.Memory.{raw_at}
-use Rattle.inorder.specs.Steps.{CanRetire, HasAddress}
+use Rattle.inorder.specs.History.{own}
+use Rattle.inorder.specs.Memory.{raw, raw_at}
+use Rattle.inorder.specs.Steps.{CanRetire, HasAddress, settled}
 use Rattle.inorder.specs.Tenants.{Addr, Busy, Done, Fate, IsThere, Live, Miss, Open, Operand, Retired, Squashed, Standing, Stopped, Tenant, computed, instr, kind_of, made_at_let, on_path}
 use Rattle.inorder.specs.Unit.{creator, front_pc, value_of}
 

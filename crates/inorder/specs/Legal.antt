@@ -5,6 +5,7 @@ use Rattle.inorder.specs.declared.history.Act.{Act}
 use Rattle.inorder.specs.declared.history.Act.TheVariants.{Claim, Deliver, Finish, Link, Load, Mend, Retire, Squash}
 use Rattle.inorder.specs.declared.history.Step.{Step}
 use Rattle.inorder.specs.declared.history.Step.TheVariants.{Let, On}
+use Rattle.inorder.specs.Machine.{step}
 use Rattle.inorder.specs.Steps.{MayClaim, MayDeliver, MayFinish, MayLet, MayLink, MayLoad, MayMend, MayRetire, MaySquash, delivered, finished, linked, mended, new_tenant, retired, settled, squashed}
 use Rattle.inorder.specs.Tenants.{Busy, Tenant, computed}
 use Rattle.inorder.specs.Unit.{Sizes, UpdateUnit, at, empty_unit, older, replaced, younger}

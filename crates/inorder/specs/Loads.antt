@@ -1,7 +1,7 @@
 -- The live loads and stores as the queue of the rule for loads, and that the rule is right.
 use Rattle.std.specs.Prelude.{◌≡◌, ◌⊎◌, ℕ, ◌<◌, Bool, true, false, IsTrue, IsNone, List, [], ◌∷◌, ◌++◌, map, length, Option, Some, None, slice_get, slice_index}
-use Rattle.isa.specs.Instruction.{width}
-use Rattle.isa.specs.Programs.{Program}
+use Rattle.isa.specs.Instruction.{kind, width}
+use Rattle.isa.specs.Programs.{Program, address}
 use Rattle.isa.specs.declared.op.Kind.{Kind}
 use Rattle.isa.specs.declared.op.Kind.TheVariants.{Loads, Stores}
 use Rattle.isa.specs.declared.op.Op.{Op}
@@ -19,6 +19,7 @@ use Rattle.inorder.specs.Steps.{MayLoad}
 use Rattle.inorder.specs.Tenants.{Addr, Done, Fate, Live, Tenant, computed, instr, is_live_access, kind_of}
 use Rattle.inorder.specs.Unit.{Sizes, at, older}
 use Rattle.lsq.specs.Bytes.{little_endian}
+use Rattle.lsq.specs.Entries.{bytes}
 use Rattle.lsq.specs.LoadRule.{answer, overlaps}
 
 abbrev pub access_width : Op → Width

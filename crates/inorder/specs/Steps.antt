@@ -12,8 +12,10 @@ use Rattle.inorder.specs.declared.history.Source.{Source}
 use Rattle.inorder.specs.declared.history.Supply.{Supply}
 use Rattle.inorder.specs.declared.history.Supply.TheVariants.{From, Known}
 use Rattle.inorder.specs.Memory.{load_value, raw_at}
-use Rattle.inorder.specs.Tenants.{Addr, AtLet, Busy, Done, Fate, IsNotLive, IsThere, Linked, Live, Miss, Open, Operand, Retired, Squashed, Stopped, Tenant, Unlinked, instr, is_access, is_live, is_live_access, kind_of, made_at_let, missing, operand, with_operand}
+use Rattle.inorder.specs.Tenants.{Addr, AtLet, Busy, Done, Fate, IsNotLive, IsThere, Linked, Live, Miss, Open, Operand, Retired, Squashed, Stopped, Tenant, Unlinked, instr, is_access, is_live, is_live_access, kind_of, made_at_let, missing, needs, operand, with_operand}
 use Rattle.inorder.specs.Unit.{Sizes, UpdateUnit, at, creator, front_pc, how_many, next_station, next_tag, recent, value_of, younger}
+use Rattle.lsq.specs.Entries.{bytes}
+use Rattle.lsq.specs.LoadRule.{youngest}
 
 -- Let
 

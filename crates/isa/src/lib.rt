@@ -5,6 +5,7 @@
 mod config;
 mod end;
 mod instr;
+mod listing;
 mod memory;
 mod op;
 mod predictor;
@@ -17,6 +18,7 @@ mod stop;
 pub use config::{BadConfig, Config};
 pub use end::{End, Ending};
 pub use instr::Instr;
+pub use listing::{FaultKind, TextFault, parse};
 pub use memory::Memory;
 pub use op::{Kind, Op};
 pub use predictor::{Bimod, NotTaken, Predictor, Taken};

@@ -1,2 +1,14 @@
 pub mod Packing
 pub mod Placing
+pub mod Histories
+pub mod General
+pub mod Groups
+pub mod StationWords
+pub mod Building
+pub mod Stays
+pub mod Claiming
+pub mod Finishing
+pub mod Leaving
+pub mod Settling
+pub mod Drafting
+pub mod Reading
