@@ -3,6 +3,8 @@ use Rattle.std.specs.Prelude.{ℕ, ◌+◌, ◌/◌, ◌%◌, ◌^◌, ◌==◌,
 use Rattle.std.specs.Int.{w32, from_le_bytes}
 use Rattle.isa.specs.declared.stop.Stop.{Stop}
 use Rattle.isa.specs.declared.stop.Stop.TheVariants.{Break, Overflow, Unaligned, OutOfRange, BadPc}
+use Rattle.isa.specs.declared.listing.fault.FaultKind.{FaultKind}
+use Rattle.isa.specs.Reading.{fault_name}
 use Rattle.isa.specs.declared.end.Ending.{Ending}
 use Rattle.isa.specs.declared.end.Ending.TheVariants.{Stop as ByStop, Limit}
 use Rattle.isa.specs.declared.end.End.{End}
@@ -76,3 +78,8 @@ report ending count pc registers memory =
 -- the report of the end of a run
 abbrev pub report_of : End → List ℕ
 report_of e = report e.outcome e.n e.pc e.registers e.memory.items
+
+-- the line of a fault of a listing, in place of a report
+abbrev pub fault_line : (line : ℕ) → FaultKind → List ℕ
+fault_line line kind =
+    codes "fault line " ++ (decimal line ++ (codes " " ++ (fault_name kind ++ newline)))

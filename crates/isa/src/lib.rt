@@ -24,7 +24,7 @@ pub use op::{Kind, Op};
 pub use predictor::{Bimod, NotTaken, Predictor, Taken};
 pub use program::Program;
 pub use reg::Reg;
-pub use report::report_text;
+pub use report::{fault_text, report_text};
 pub use semantics::{loaded, outcome, pc_plus_4};
 pub use stop::{Outcome, Stop};
 

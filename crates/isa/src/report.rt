@@ -1,8 +1,8 @@
 //! The report of a run as text.
 ghost use Rattle.std.specs.Prelude.{◌≡◌, ◌++◌, Some, OnOk, IfOk, length, string_bytes};
-ghost use Rattle.isa.specs.Report.{report_of, hexadecimal, register_lines, memory_lines, word_line, stop_word, ending_words};
+ghost use Rattle.isa.specs.Report.{report_of, fault_line, hexadecimal, register_lines, memory_lines, word_line, stop_word, ending_words};
 
-use crate::{End, Ending, Stop};
+use crate::{End, Ending, Stop, TextFault};
 use std::alloc::{AllocError, Global};
 use std::fmt;
 
@@ -103,6 +103,15 @@ pub fn report_text(alloc: Global, end: &End) -> Result<String, AllocError>
     push_registers(&mut out, &end.registers)?;
     push_memory(&mut out, end.memory.as_slice())?;
     Ok(out)
+}
+
+/// The line that names the fault of a listing, in place of a report.
+pub fn fault_text(alloc: Global, fault: &TextFault) -> Result<String, AllocError>
+    ensures { IfOk result (λ text. string_bytes text ≡ fault_line fault.now.line fault.now.kind) }
+{
+    let line = fault.line;
+    let name = fault.kind.name();
+    format!(in alloc; "fault line {line} {name}\n")
 }
 
 #[cfg(test)]

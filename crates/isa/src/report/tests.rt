@@ -51,3 +51,11 @@ fn the_first_line_says_how_the_run_ended(rt: HostRuntime) -> Result<(), Fail> {
     }
     Ok(())
 }
+
+#[test]
+fn a_fault_is_named_with_its_line(rt: HostRuntime) -> Result<(), Fail> {
+    let kind = FaultKind::BadOperands;
+    let text = fault_text(rt.alloc(), &TextFault { line: 3, kind })?;
+    assert_eq!(rt; text.as_str(), "fault line 3 BadOperands\n");
+    Ok(())
+}
