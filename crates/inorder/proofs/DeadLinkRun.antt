@@ -1,6 +1,5 @@
 -- A link that died with its tenant, as a whole legal run.
-use Rattle.std.proofs.Common.{◌≡◌, ◌≢◌, ℕ, List, [], ◌∷◌, replicate, Some, None, refl, sym, true, false, true≢false}
-use Rattle.isa.specs.declared.stop.Stop.TheVariants.{Break as BreakStop}
+use Rattle.std.proofs.Common.{◌≡◌, List, [], ◌∷◌, replicate, Some, None, refl, sym, true, true≢false}
 use Rattle.isa.specs.Operations.{checked_address, computed_by, jump_target, loaded}
 use Rattle.isa.specs.Programs.{Program, instr_at}
 use Rattle.isa.specs.declared.op.Op.TheVariants.{Addiu, Addu, Beq, Break}
@@ -12,10 +11,8 @@ use Rattle.inorder.specs.Committed.{committed}
 use Rattle.inorder.specs.Legal.{AreAllowed, Taken, reached}
 use Rattle.inorder.specs.OperandWords.{operand_word}
 use Rattle.inorder.specs.StationWords.{IsFree, live_word, station_word}
-use Rattle.inorder.specs.Tenants.{Busy, Done, Open, Tenant, needs}
+use Rattle.inorder.specs.Tenants.{Busy, Done, Open, Tenant}
 use Rattle.inorder.specs.Unit.{Sizes, creator, recent}
-use Rattle.lsq.specs.Entries.{bytes}
-use Rattle.lsq.specs.LoadRule.{youngest}
 use Rattle.inorder.proofs.Examples.{apart, computes_not_links, done_not_stop, less, retired_not_live, squashed_not_live, squashed_not_retired, taken}
 
 -- addiu $1,$0,1 / addiu $3,$0,3 / beq $0,$0,E / addu $2,$1,$1 / E: addu $4,$3,$3 / break
@@ -61,13 +58,65 @@ linked_on_the_wrong_path_allowed = (
               (
                 (
                   tt,
-                  record { room = less _ _ refl; queue = λ e. absurd (true≢false (sym e)); is_there = less _ _ refl; pc = refl; small = less _ _ refl; predicts = refl; first_is = refl; second_is = refl },
+                  record {
+                    room = less _ _ refl;
+                    queue = λ e. absurd (true≢false (sym e));
+                    is_there = less _ _ refl;
+                    pc = refl;
+                    small = less _ _ refl;
+                    predicts = refl;
+                    first_is = refl;
+                    second_is = refl;
+                  },
                 ),
-                record { room = less _ _ refl; queue = λ e. absurd (true≢false (sym e)); is_there = less _ _ refl; pc = refl; small = less _ _ refl; predicts = refl; first_is = refl; second_is = refl },
+                record {
+                  room = less _ _ refl;
+                  queue = λ e. absurd (true≢false (sym e));
+                  is_there = less _ _ refl;
+                  pc = refl;
+                  small = less _ _ refl;
+                  predicts = refl;
+                  first_is = refl;
+                  second_is = refl;
+                },
               ),
-              record { room = less _ _ refl; queue = λ e. absurd (true≢false (sym e)); is_there = less _ _ refl; pc = refl; small = less _ _ refl; predicts = tt; first_is = refl; second_is = refl },
+              record {
+                room = less _ _ refl;
+                queue = λ e. absurd (true≢false (sym e));
+                is_there = less _ _ refl;
+                pc = refl;
+                small = less _ _ refl;
+                predicts = tt;
+                first_is = refl;
+                second_is = refl;
+              },
             ),
-            record { room = less _ _ refl; queue = λ e. absurd (true≢false (sym e)); is_there = less _ _ refl; pc = refl; small = less _ _ refl; predicts = refl; first_is = record { p = 0; tenant = _; creates = refl; is = refl; waits = computes_not_links; other = apart 0 3 refl; last = (apart 2 0 refl, (apart 1 0 refl, tt)) }; second_is = record { p = 0; tenant = _; creates = refl; is = refl; waits = computes_not_links; other = apart 0 3 refl; last = (apart 2 0 refl, (apart 1 0 refl, tt)) } },
+            record {
+              room = less _ _ refl;
+              queue = λ e. absurd (true≢false (sym e));
+              is_there = less _ _ refl;
+              pc = refl;
+              small = less _ _ refl;
+              predicts = refl;
+              first_is = record {
+                p = 0;
+                tenant = _;
+                creates = refl;
+                is = refl;
+                waits = computes_not_links;
+                other = apart 0 3 refl;
+                last = (apart 2 0 refl, (apart 1 0 refl, tt));
+              };
+              second_is = record {
+                p = 0;
+                tenant = _;
+                creates = refl;
+                is = refl;
+                waits = computes_not_links;
+                other = apart 0 3 refl;
+                last = (apart 2 0 refl, (apart 1 0 refl, tt));
+              };
+            },
           ),
           record { tenant = _; is = refl; may = record { way = refl } },
         ),
@@ -98,11 +147,53 @@ linked_elsewhere_allowed = (
       (
         (
           linked_on_the_wrong_path_allowed,
-          record { tenant = _; is = refl; may = record { live = refl; youngest = tt; p = 2; miss = _; x = 0x400010; miss_at = refl; miss_live = refl; miss_fate = refl } },
+          record {
+            tenant = _;
+            is = refl;
+            may = record {
+              live = refl;
+              youngest = tt;
+              p = 2;
+              miss = _;
+              x = 0x400010;
+              miss_at = refl;
+              miss_live = refl;
+              miss_fate = refl;
+            };
+          },
         ),
-        record { tenant = _; is = refl; may = record { live = refl; youngest = (squashed_not_live, tt); x = 0x400010; fate = refl } },
+        record {
+          tenant = _;
+          is = refl;
+          may = record { live = refl; youngest = (squashed_not_live, tt); x = 0x400010; fate = refl };
+        },
       ),
-      record { room = less _ _ refl; queue = λ e. absurd (true≢false (sym e)); is_there = less _ _ refl; pc = refl; small = less _ _ refl; predicts = refl; first_is = record { p = 1; tenant = _; creates = refl; is = refl; waits = computes_not_links; other = apart 1 3 refl; last = (apart 3 1 refl, (apart 2 1 refl, tt)) }; second_is = record { p = 1; tenant = _; creates = refl; is = refl; waits = computes_not_links; other = apart 1 3 refl; last = (apart 3 1 refl, (apart 2 1 refl, tt)) } },
+      record {
+        room = less _ _ refl;
+        queue = λ e. absurd (true≢false (sym e));
+        is_there = less _ _ refl;
+        pc = refl;
+        small = less _ _ refl;
+        predicts = refl;
+        first_is = record {
+          p = 1;
+          tenant = _;
+          creates = refl;
+          is = refl;
+          waits = computes_not_links;
+          other = apart 1 3 refl;
+          last = (apart 3 1 refl, (apart 2 1 refl, tt));
+        };
+        second_is = record {
+          p = 1;
+          tenant = _;
+          creates = refl;
+          is = refl;
+          waits = computes_not_links;
+          other = apart 1 3 refl;
+          last = (apart 3 1 refl, (apart 2 1 refl, tt));
+        };
+      },
     ),
     record { tenant = _; is = refl; may = record { way = refl } },
   ),
@@ -125,9 +216,17 @@ old_link_served_allowed = (
       linked_elsewhere_allowed,
       record { tenant = _; is = refl; may = record { live = refl; fate = refl } },
     ),
-    record { tenant = _; is = refl; may = record { in_time = true; way = refl; waits = refl; value = 1; is_made = refl } },
+    record {
+      tenant = _;
+      is = refl;
+      may = record { in_time = true; way = refl; waits = refl; value = 1; is_made = refl };
+    },
   ),
-  record { tenant = _; is = refl; may = record { in_time = true; way = refl; waits = refl; value = 1; is_made = refl } },
+  record {
+    tenant = _;
+    is = refl;
+    may = record { in_time = true; way = refl; waits = refl; value = 1; is_made = refl };
+  },
 )
 
 -- The first instruction has retired, and the second is at work
@@ -142,7 +241,11 @@ unfolding instr_at computed_by jump_target checked_address loaded
 as_in_the_picture_allowed = (
   (
     old_link_served_allowed,
-    record { tenant = _; is = refl; may = record { small = less _ _ refl; live = refl; oldest = tt; no_stop = tt; can = tt } },
+    record {
+      tenant = _;
+      is = refl;
+      may = record { small = less _ _ refl; live = refl; oldest = tt; no_stop = tt; can = tt };
+    },
   ),
   record { tenant = _; is = refl; may = record { live = refl; fate = refl; needs = refl } },
 )
@@ -181,31 +284,111 @@ links_ended_allowed = (
                         as_in_the_picture_allowed,
                         record { tenant = _; is = refl; may = record { live = refl; fate = refl } },
                       ),
-                      record { tenant = _; is = refl; may = record { in_time = true; way = refl; waits = refl; value = 3; is_made = refl } },
+                      record {
+                        tenant = _;
+                        is = refl;
+                        may = record {
+                          in_time = true;
+                          way = refl;
+                          waits = refl;
+                          value = 3;
+                          is_made = refl;
+                        };
+                      },
                     ),
-                    record { tenant = _; is = refl; may = record { in_time = true; way = refl; waits = refl; value = 3; is_made = refl } },
+                    record {
+                      tenant = _;
+                      is = refl;
+                      may = record { in_time = true; way = refl; waits = refl; value = 3; is_made = refl };
+                    },
                   ),
                   record { tenant = _; is = refl; may = record { live = refl; fate = refl; needs = refl } },
                 ),
                 record { tenant = _; is = refl; may = record { live = refl; fate = refl } },
               ),
-              record { tenant = _; is = refl; may = record { small = less _ _ refl; live = refl; oldest = (retired_not_live, tt); no_stop = ((λ e c. done_not_stop 1 c), tt); can = tt } },
+              record {
+                tenant = _;
+                is = refl;
+                may = record {
+                  small = less _ _ refl;
+                  live = refl;
+                  oldest = (retired_not_live, tt);
+                  no_stop = ((λ e c. done_not_stop 1 c), tt);
+                  can = tt;
+                };
+              },
             ),
-            record { tenant = _; is = refl; may = record { small = less _ _ refl; live = refl; oldest = (retired_not_live, (retired_not_live, tt)); no_stop = ((λ e c. done_not_stop 3 c), ((λ e c. done_not_stop 1 c), tt)); can = tt } },
+            record {
+              tenant = _;
+              is = refl;
+              may = record {
+                small = less _ _ refl;
+                live = refl;
+                oldest = (retired_not_live, (retired_not_live, tt));
+                no_stop = ((λ e c. done_not_stop 3 c), ((λ e c. done_not_stop 1 c), tt));
+                can = tt;
+              };
+            },
           ),
-          record { tenant = _; is = refl; may = record { small = less _ _ refl; live = refl; oldest = (squashed_not_live, (retired_not_live, (retired_not_live, (retired_not_live, tt)))); no_stop = ((λ e. absurd (squashed_not_retired e)), ((λ e c. done_not_stop 0x400010 c), ((λ e c. done_not_stop 3 c), ((λ e c. done_not_stop 1 c), tt)))); can = tt } },
+          record {
+            tenant = _;
+            is = refl;
+            may = record {
+              small = less _ _ refl;
+              live = refl;
+              oldest = (squashed_not_live, (retired_not_live, (retired_not_live, (retired_not_live, tt))));
+              no_stop = (
+                (λ e. absurd (squashed_not_retired e)),
+                (
+                  (λ e c. done_not_stop 0x400010 c),
+                  ((λ e c. done_not_stop 3 c), ((λ e c. done_not_stop 1 c), tt)),
+                ),
+              );
+              can = tt;
+            };
+          },
         ),
-        record { room = less _ _ refl; queue = λ e. absurd (true≢false (sym e)); is_there = less _ _ refl; pc = refl; small = less _ _ refl; predicts = refl; first_is = refl; second_is = refl },
+        record {
+          room = less _ _ refl;
+          queue = λ e. absurd (true≢false (sym e));
+          is_there = less _ _ refl;
+          pc = refl;
+          small = less _ _ refl;
+          predicts = refl;
+          first_is = refl;
+          second_is = refl;
+        },
       ),
       record { tenant = _; is = refl; may = record { live = refl; fate = refl; needs = refl } },
     ),
     record { tenant = _; is = refl; may = record { live = refl; fate = refl } },
   ),
-  record { tenant = _; is = refl; may = record { small = less _ _ refl; live = refl; oldest = (retired_not_live, (squashed_not_live, (retired_not_live, (retired_not_live, (retired_not_live, tt))))); no_stop = ((λ e c. done_not_stop 6 c), ((λ e. absurd (squashed_not_retired e)), ((λ e c. done_not_stop 0x400010 c), ((λ e c. done_not_stop 3 c), ((λ e c. done_not_stop 1 c), tt))))); can = tt } },
+  record {
+    tenant = _;
+    is = refl;
+    may = record {
+      small = less _ _ refl;
+      live = refl;
+      oldest = (
+        retired_not_live,
+        (squashed_not_live, (retired_not_live, (retired_not_live, (retired_not_live, tt)))),
+      );
+      no_stop = (
+        (λ e c. done_not_stop 6 c),
+        (
+          (λ e. absurd (squashed_not_retired e)),
+          ((λ e c. done_not_stop 0x400010 c), ((λ e c. done_not_stop 3 c), ((λ e c. done_not_stop 1 c), tt))),
+        ),
+      );
+      can = tt;
+    };
+  },
 )
 
 -- The operands of station 3 are those of its new tenant, and still wait
-still_waits : (operand_word (recent (reached dead_link ring_of_four old_link_served)) 3 First ≡ Some (record { tag = 2; value = None })) × (operand_word (recent (reached dead_link ring_of_four old_link_served)) 3 Second ≡ Some (record { tag = 2; value = None }))
+still_waits : (operand_word (recent (reached dead_link ring_of_four old_link_served)) 3 First ≡ Some
+    (record { tag = 2; value = None })) × (operand_word (recent
+    (reached dead_link ring_of_four old_link_served)) 3 Second ≡ Some (record { tag = 2; value = None }))
 unfolding instr_at computed_by jump_target checked_address loaded
 still_waits = (refl, refl)
 

@@ -1,7 +1,14 @@
 pub mod Basics
 pub mod Sound
 pub mod Grows
+pub mod SettledRegisters
+pub mod SettledMemory
+pub mod InOrderStep
 pub mod Follows
+pub mod LetKept
+pub mod DeliveryKept
+pub mod FinishKept
+pub mod LeaveKept
 pub mod Kept
 pub mod Stations
 pub mod Commits
@@ -11,6 +18,8 @@ pub mod OperandsShown
 pub mod Words
 pub mod WordsKept
 pub mod Fated
+pub mod QueueBytes
+pub mod QueuePlaces
 pub mod Loads
 pub mod Forbidden
 pub mod Positions

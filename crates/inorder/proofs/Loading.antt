@@ -14,10 +14,9 @@ use Rattle.inorder.specs.declared.history.Step.{Step}
 use Rattle.inorder.specs.declared.history.Step.TheVariants.{Let, On}
 use Rattle.inorder.specs.Callers.{CanLoad}
 use Rattle.inorder.specs.Legal.{Allowed, May, MayAct, applied, change_at, changed}
-use Rattle.inorder.specs.Memory.{load_value, raw, raw_at}
+use Rattle.inorder.specs.Memory.{raw, raw_at}
 use Rattle.inorder.specs.Replies.{IsStale}
-use Rattle.inorder.specs.Steps.{MayLoad}
-use Rattle.inorder.specs.Tenants.{Addr, IsNotLive, Live, Squashed, Tenant, computed, instr, kind_of}
+use Rattle.inorder.specs.Tenants.{Addr, IsNotLive, Live, Squashed, Tenant, instr, kind_of}
 use Rattle.inorder.specs.Unit.{Sizes, UpdateUnit, at, older, replaced, younger}
 use Rattle.inorder.proofs.Basics.{eqb_less, replaced_split, split_at}
 use Rattle.inorder.proofs.Ends.{Acted, IsNotBacks, IsNotBacksAct, at_older, exact, is_squashed, retires, stands_on}

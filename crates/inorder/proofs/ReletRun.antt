@@ -1,6 +1,5 @@
 -- A station let again while a job of its old tenant is out, as a whole legal run.
-use Rattle.std.proofs.Common.{◌≡◌, ◌≢◌, ℕ, List, [], ◌∷◌, replicate, Some, None, refl, sym, true, false, true≢false}
-use Rattle.isa.specs.declared.stop.Stop.TheVariants.{Break as BreakStop}
+use Rattle.std.proofs.Common.{◌≡◌, List, [], ◌∷◌, replicate, refl, sym, true≢false}
 use Rattle.isa.specs.Operations.{checked_address, computed_by, jump_target, loaded}
 use Rattle.isa.specs.Programs.{Program, instr_at}
 use Rattle.isa.specs.declared.op.Op.TheVariants.{Addiu, Beq, Break}
@@ -10,10 +9,8 @@ use Rattle.inorder.specs.declared.history.Supply.TheVariants.{Known}
 use Rattle.inorder.specs.Committed.{committed}
 use Rattle.inorder.specs.Legal.{AreAllowed, Taken, reached}
 use Rattle.inorder.specs.StationWords.{live_word, station_word}
-use Rattle.inorder.specs.Tenants.{Open, needs}
+use Rattle.inorder.specs.Tenants.{Open}
 use Rattle.inorder.specs.Unit.{Sizes, recent}
-use Rattle.lsq.specs.Entries.{bytes}
-use Rattle.lsq.specs.LoadRule.{youngest}
 use Rattle.inorder.proofs.Examples.{done_not_stop, less, retired_not_live, squashed_not_live, squashed_not_retired, taken}
 
 -- beq $0,$0,E / addiu $1,$0,1 / E: addiu $2,$0,2 / break
@@ -51,11 +48,38 @@ job_on_the_wrong_path_allowed = (
         (
           (
             tt,
-            record { room = less _ _ refl; queue = λ e. absurd (true≢false (sym e)); is_there = less _ _ refl; pc = refl; small = less _ _ refl; predicts = tt; first_is = refl; second_is = refl },
+            record {
+              room = less _ _ refl;
+              queue = λ e. absurd (true≢false (sym e));
+              is_there = less _ _ refl;
+              pc = refl;
+              small = less _ _ refl;
+              predicts = tt;
+              first_is = refl;
+              second_is = refl;
+            },
           ),
-          record { room = less _ _ refl; queue = λ e. absurd (true≢false (sym e)); is_there = less _ _ refl; pc = refl; small = less _ _ refl; predicts = refl; first_is = refl; second_is = refl },
+          record {
+            room = less _ _ refl;
+            queue = λ e. absurd (true≢false (sym e));
+            is_there = less _ _ refl;
+            pc = refl;
+            small = less _ _ refl;
+            predicts = refl;
+            first_is = refl;
+            second_is = refl;
+          },
         ),
-        record { room = less _ _ refl; queue = λ e. absurd (true≢false (sym e)); is_there = less _ _ refl; pc = refl; small = less _ _ refl; predicts = refl; first_is = refl; second_is = refl },
+        record {
+          room = less _ _ refl;
+          queue = λ e. absurd (true≢false (sym e));
+          is_there = less _ _ refl;
+          pc = refl;
+          small = less _ _ refl;
+          predicts = refl;
+          first_is = refl;
+          second_is = refl;
+        },
       ),
       record { tenant = _; is = refl; may = record { live = refl; fate = refl; needs = refl } },
     ),
@@ -80,13 +104,57 @@ relet_allowed = (
     (
       (
         job_on_the_wrong_path_allowed,
-        record { tenant = _; is = refl; may = record { live = refl; youngest = tt; p = 0; miss = _; x = 0x400008; miss_at = refl; miss_live = refl; miss_fate = refl } },
+        record {
+          tenant = _;
+          is = refl;
+          may = record {
+            live = refl;
+            youngest = tt;
+            p = 0;
+            miss = _;
+            x = 0x400008;
+            miss_at = refl;
+            miss_live = refl;
+            miss_fate = refl;
+          };
+        },
       ),
-      record { tenant = _; is = refl; may = record { live = refl; youngest = (squashed_not_live, tt); p = 0; miss = _; x = 0x400008; miss_at = refl; miss_live = refl; miss_fate = refl } },
+      record {
+        tenant = _;
+        is = refl;
+        may = record {
+          live = refl;
+          youngest = (squashed_not_live, tt);
+          p = 0;
+          miss = _;
+          x = 0x400008;
+          miss_at = refl;
+          miss_live = refl;
+          miss_fate = refl;
+        };
+      },
     ),
-    record { tenant = _; is = refl; may = record { live = refl; youngest = (squashed_not_live, (squashed_not_live, tt)); x = 0x400008; fate = refl } },
+    record {
+      tenant = _;
+      is = refl;
+      may = record {
+        live = refl;
+        youngest = (squashed_not_live, (squashed_not_live, tt));
+        x = 0x400008;
+        fate = refl;
+      };
+    },
   ),
-  record { room = less _ _ refl; queue = λ e. absurd (true≢false (sym e)); is_there = less _ _ refl; pc = refl; small = less _ _ refl; predicts = refl; first_is = refl; second_is = refl },
+  record {
+    room = less _ _ refl;
+    queue = λ e. absurd (true≢false (sym e));
+    is_there = less _ _ refl;
+    pc = refl;
+    small = less _ _ refl;
+    predicts = refl;
+    first_is = refl;
+    second_is = refl;
+  },
 )
 
 -- All retire in order; the old job is never finished
@@ -117,17 +185,59 @@ relet_ended_allowed = (
               ),
               record { tenant = _; is = refl; may = record { live = refl; fate = refl } },
             ),
-            record { tenant = _; is = refl; may = record { small = less _ _ refl; live = refl; oldest = tt; no_stop = tt; can = tt } },
+            record {
+              tenant = _;
+              is = refl;
+              may = record { small = less _ _ refl; live = refl; oldest = tt; no_stop = tt; can = tt };
+            },
           ),
-          record { tenant = _; is = refl; may = record { small = less _ _ refl; live = refl; oldest = (squashed_not_live, (squashed_not_live, (retired_not_live, tt))); no_stop = ((λ e. absurd (squashed_not_retired e)), ((λ e. absurd (squashed_not_retired e)), ((λ e c. done_not_stop 0x400008 c), tt))); can = tt } },
+          record {
+            tenant = _;
+            is = refl;
+            may = record {
+              small = less _ _ refl;
+              live = refl;
+              oldest = (squashed_not_live, (squashed_not_live, (retired_not_live, tt)));
+              no_stop = (
+                (λ e. absurd (squashed_not_retired e)),
+                ((λ e. absurd (squashed_not_retired e)), ((λ e c. done_not_stop 0x400008 c), tt)),
+              );
+              can = tt;
+            };
+          },
         ),
-        record { room = less _ _ refl; queue = λ e. absurd (true≢false (sym e)); is_there = less _ _ refl; pc = refl; small = less _ _ refl; predicts = refl; first_is = refl; second_is = refl },
+        record {
+          room = less _ _ refl;
+          queue = λ e. absurd (true≢false (sym e));
+          is_there = less _ _ refl;
+          pc = refl;
+          small = less _ _ refl;
+          predicts = refl;
+          first_is = refl;
+          second_is = refl;
+        },
       ),
       record { tenant = _; is = refl; may = record { live = refl; fate = refl; needs = refl } },
     ),
     record { tenant = _; is = refl; may = record { live = refl; fate = refl } },
   ),
-  record { tenant = _; is = refl; may = record { small = less _ _ refl; live = refl; oldest = (retired_not_live, (squashed_not_live, (squashed_not_live, (retired_not_live, tt)))); no_stop = ((λ e c. done_not_stop 2 c), ((λ e. absurd (squashed_not_retired e)), ((λ e. absurd (squashed_not_retired e)), ((λ e c. done_not_stop 0x400008 c), tt)))); can = tt } },
+  record {
+    tenant = _;
+    is = refl;
+    may = record {
+      small = less _ _ refl;
+      live = refl;
+      oldest = (retired_not_live, (squashed_not_live, (squashed_not_live, (retired_not_live, tt))));
+      no_stop = (
+        (λ e c. done_not_stop 2 c),
+        (
+          (λ e. absurd (squashed_not_retired e)),
+          ((λ e. absurd (squashed_not_retired e)), ((λ e c. done_not_stop 0x400008 c), tt)),
+        ),
+      );
+      can = tt;
+    };
+  },
 )
 
 -- Station 1 shows the new tenant, open, with tag 2

@@ -7,7 +7,6 @@ use Rattle.isa.specs.declared.op.Kind.TheVariants.{Computes, Jumps, Links, Loads
 use Rattle.isa.specs.declared.stop.Outcome.TheVariants.{Address, Next, Stop as Stops, Value}
 use Rattle.isa.specs.declared.stop.Stop.{Stop}
 use Rattle.inorder.specs.Legal.{AreAllowed, Taken, reached}
-use Rattle.inorder.specs.Runs.{stop}
 use Rattle.inorder.specs.Tenants.{Addr, Done, Miss, Open, Operand, Stopped, Tenant, computed, computed_next, kind_of, missing}
 use Rattle.inorder.specs.Unit.{Sizes, at, older, value_of}
 

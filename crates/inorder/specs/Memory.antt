@@ -7,7 +7,6 @@ use Rattle.isa.specs.declared.instr.Instr.{Instr}
 use Rattle.isa.specs.declared.op.Kind.{Kind}
 use Rattle.isa.specs.declared.op.Kind.TheVariants.{Stores}
 use Rattle.inorder.specs.Tenants.{Addr, Fate, Tenant, instr, kind_of, on_path}
-use Rattle.inorder.specs.Unit.{at}
 use Rattle.lsq.specs.Bytes.{byte_of, little_endian_if_there}
 
 -- A store of the path whose address is known, with its data if that was delivered
@@ -32,8 +31,8 @@ byte_after None x before = before
 byte_after (Some s) x before =
     if covers s x then option_map (byte_of (x - s.at)) s.content else before
 
--- The byte at x of the last store of the path to it, if its data is there; without such a store that
--- of the start memory
+-- The byte at x of the last store of the path to it, if its data is there; without such a store
+-- that of the start memory
 abbrev pub byte_at : Program → List Tenant → ℕ → Option ℕ
 byte_at P [] x = Some (slice_index P.bytes x)
 byte_at P (t ∷ ts) x = byte_after (stored P t) x (byte_at P ts x)

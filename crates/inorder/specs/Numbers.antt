@@ -4,7 +4,6 @@ use Rattle.isa.specs.Programs.{Program, instr_of}
 use Rattle.inorder.specs.Legal.{AreAllowed, Taken, reached}
 use Rattle.inorder.specs.Tenants.{Addr, Done, Fate, Miss, Tenant}
 use Rattle.inorder.specs.Unit.{Sizes, at}
-use Rattle.lsq.specs.Entries.{bytes}
 
 abbrev pub IsWord : ℕ → Type 0
 IsWord n = n < 2 ^ 32

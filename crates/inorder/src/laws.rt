@@ -31,24 +31,28 @@ pub fn a_tag_names_one_tenant()
 
 /// A retirement commits its tenant, unless that is a stop. No other step commits anything.
 pub fn only_retirements_commit()
-    ensures { (p : Program) (c : Sizes) (history : List Taken) (by : ℕ) → OnlyRetirementsCommit p c history by }
+    ensures { (p : Program) (c : Sizes) (history : List Taken) (by : ℕ) →
+        OnlyRetirementsCommit p c history by }
 {}
 
 /// What a longer history keeps of its beginning.
 pub fn histories_grow()
-    ensures { (p : Program) (c : Sizes) (more history : List Taken) → HistoryGrows p c more history }
+    ensures { (p : Program) (c : Sizes) (more history : List Taken) →
+        HistoryGrows p c more history }
 {}
 
 /// A live tenant is what its station shows, a station that is not free shows one live tenant, and
 /// each step moves the words of the stations as stated.
 pub fn stations_follow()
-    ensures { (p : Program) (c : Sizes) (history : List Taken) (by : ℕ) → StationsFollow p c history by }
+    ensures { (p : Program) (c : Sizes) (history : List Taken) (by : ℕ) →
+        StationsFollow p c history by }
 {}
 
 /// A let sets both operands of its station, a delivery to the last tenant of a station sets one,
 /// and nothing else changes an operand.
 pub fn operands_follow()
-    ensures { (p : Program) (c : Sizes) (history : List Taken) (by : ℕ) → OperandsFollow p c history by }
+    ensures { (p : Program) (c : Sizes) (history : List Taken) (by : ℕ) →
+        OperandsFollow p c history by }
 {}
 
 /// What the fate of a tenant says of its outcome, of what it made and of where it goes on.
