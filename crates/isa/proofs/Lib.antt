@@ -1,3 +1,5 @@
+pub mod HexDigits
+pub mod WordLines
 pub mod LabelTable
 pub mod Bytes
 pub mod Slots

@@ -11,3 +11,4 @@ pub mod Forms
 pub mod Statement
 pub mod Listing
 pub mod Held
+pub mod Report

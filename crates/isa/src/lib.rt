@@ -11,6 +11,7 @@ mod op;
 mod predictor;
 mod program;
 mod reg;
+mod report;
 mod semantics;
 mod stop;
 
@@ -23,6 +24,7 @@ pub use op::{Kind, Op};
 pub use predictor::{Bimod, NotTaken, Predictor, Taken};
 pub use program::Program;
 pub use reg::Reg;
+pub use report::{fault_text, report_text};
 pub use semantics::{loaded, outcome, pc_plus_4};
 pub use stop::{Outcome, Stop};
 
