@@ -34,4 +34,5 @@ mod WrongPathRun
 mod StoreRun
 mod ReletRun
 mod DeadLinkRun
+mod TurnsRun
 mod Refused
