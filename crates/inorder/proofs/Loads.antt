@@ -1,14 +1,13 @@
 -- The rule for loads is right.
-use Rattle.std.proofs.Common.{◌≡◌, ◌⊎◌, ℕ, zero, suc, ◌+◌, ◌<◌, ◌≤◌, Bool, true, false, cond, ◌&&◌, eqb, List, [], ◌∷◌, ◌++◌, map, length, Option, Some, None, refl, sym, ap, ◌∙◌, subst, inl, inr, ⊎_elim, arith, true≢false, append_assoc, length-append, eqb-true}
+use Rattle.std.proofs.Common.{◌≡◌, ℕ, ◌+◌, ◌≤◌, true, false, ◌&&◌, List, [], ◌∷◌, ◌++◌, map, length, Option, Some, None, refl, sym, ap, ◌∙◌, subst, inl, inr, ⊎_elim, arith, append_assoc}
 use Rattle.std.specs.List.{AllByRecursion}
 use Rattle.std.specs.Option.{option_and_then}
-use Rattle.std.specs.Prelude.{slice_index, slice_get, is_some, option_map, IsSome, take}
-use Rattle.std.proofs.lemmas.List.{take-map, take_at, map-append, append-nil}
+use Rattle.std.specs.Prelude.{slice_index, slice_get, is_some, option_map, take}
+use Rattle.std.proofs.lemmas.List.{take-map, take_at}
 use Rattle.std.proofs.lemmas.Option.{slice_get-map}
-use Rattle.lsq.proofs.StoresLeft.{byte_left-append}
 use Rattle.lsq.proofs.LoadsRight.{forward_is, memory_is, blocked_is_right}
-use Rattle.isa.specs.Instruction.{kind, width}
-use Rattle.isa.specs.Programs.{Program, address}
+use Rattle.isa.specs.Instruction.{width}
+use Rattle.isa.specs.Programs.{Program}
 use Rattle.isa.specs.declared.op.Kind.TheVariants.{Loads, Stores}
 use Rattle.lsq.specs.declared.answer.Answer.TheVariants.{Blocked, Forward, Memory}
 use Rattle.lsq.specs.declared.entry.Entry.{Entry}
