@@ -29,3 +29,5 @@ mod DeadLinkRun
 mod Refused
 pub mod Serving
 pub mod Waking
+pub mod Heads
+pub mod Makers
