@@ -1,5 +1,6 @@
 -- What the creator of a source that comes from it is, and when it has made its value.
 use Rattle.std.proofs.Common.{◌≡◌, ◌≢◌, ◌⊎◌, ℕ, zero, suc, ◌<◌, Bool, true, false, cond, ◌&&◌, eqb, List, [], ◌∷◌, ◌++◌, length, Option, Some, None, refl, sym, ap, ◌∙◌, subst, inl, inr, ⊎_elim, arith, eqb-true, true≢false}
+use Rattle.std.specs.Prelude.{is_none}
 use Rattle.isa.specs.Instruction.{destination, destination_by, kind}
 use Rattle.isa.specs.Programs.{Program, instr_of}
 use Rattle.isa.specs.declared.op.Kind.{Kind}
@@ -17,16 +18,17 @@ use Rattle.inorder.specs.declared.history.Supply.{Supply}
 use Rattle.inorder.specs.declared.history.Supply.TheVariants.{From, Known}
 use Rattle.inorder.specs.Legal.{Allowed, AreAllowed, May, Taken, applied, changed, reached}
 use Rattle.inorder.specs.StationWords.{left_value}
-use Rattle.inorder.specs.Steps.{CanRetire, MayLet, MaySupply, finished, let_operand, made_at_end, mended_as, new_tenant}
-use Rattle.inorder.specs.Tenants.{Addr, AtLet, Busy, Done, Fate, IsThere, Live, Miss, Open, Retired, Squashed, Standing, Stopped, Tenant, computed, destination_of, instr, kind_of, made_at_let, on_path, operand, stands_on_path}
-use Rattle.inorder.specs.Unit.{Sizes, UpdateUnit, at, can_be_written, creator, last_writer, next_station, older, recent, younger}
+use Rattle.inorder.specs.Steps.{CanRetire, MayLet, MaySupply, finished, let_operand, linked, made_at_end, mended_as, new_tenant}
+use Rattle.inorder.specs.Tenants.{Addr, AtLet, Busy, Done, Fate, IsThere, Linked, Live, Miss, Open, Retired, Squashed, Standing, Stopped, Tenant, Unlinked, computed, destination_of, instr, kind_of, made_at_let, on_path, operand, stands_on_path}
+use Rattle.inorder.specs.Unit.{Sizes, UpdateUnit, at, can_be_written, creator, last_writer, made_by, next_station, older, recent, value_of, younger}
 use Rattle.inorder.proofs.Basics.{Below, eqb_less, last_writer_below, split_at}
-use Rattle.inorder.proofs.Creators.{at_cases}
-use Rattle.inorder.proofs.Ends.{Acted, exact}
+use Rattle.inorder.proofs.Creators.{are_older, at_cases}
+use Rattle.inorder.proofs.Ends.{Acted, at_older, exact}
 use Rattle.inorder.proofs.Grows.{sound_mid}
 use Rattle.inorder.proofs.Kept.{sound}
-use Rattle.inorder.proofs.Moves.{IsActed, IsLeft, at_changed, came, goes}
+use Rattle.inorder.proofs.Moves.{Backward, IsActed, IsLeft, IsNoLink, IsNoLinkAct, at_changed, came, goes}
 use Rattle.inorder.proofs.Positions.{at_below, at_more, at_new}
+use Rattle.inorder.proofs.Serving.{linked_way, not_linked, other_way, source_same}
 use Rattle.inorder.proofs.Sound.{DoneBy, FateBy, IsSound, IsSoundAt}
 use Rattle.inorder.proofs.Stations.{finished_station, mended_station}
 
@@ -263,3 +265,100 @@ module _ (P : Program) (us : List Tenant) (ok : IsSound P us) (q : ℕ) (u : Ten
       go (Busy by) e c = absurd (subst (CanRetire (kind_of P u) u.second.value) e c)
       go (Addr a) e c = absurd (not_stores (subst (CanRetire (kind_of P u) u.second.value) e c).0)
       go (Miss x) e c = absurd (subst (CanRetire (kind_of P u) u.second.value) e c)
+
+-- A link that came too late: the creator has made its value
+
+pub record IsLate (us : List Tenant) (c : Option ℕ) : Type 0 where
+  pub q : ℕ
+  pub value : ℕ
+  pub tenant : Tenant
+  pub creates : c ≡ Some q
+  pub is : at us q ≡ Some tenant
+  pub made : tenant.made ≡ Some value
+
+abbrev pub AreLate : List Tenant → Type 0
+AreLate us = (r : ℕ) (t : Tenant) (k : Source) → at us r ≡ Some t → (operand k t).way ≡ Linked false → IsLate us (operand k t).creator
+
+late_by_link : (us : List Tenant) (c : Option ℕ) (q : ℕ) (u : Tenant) → c ≡ Some q → at us q ≡ Some u → is_none u.made ≡ false → IsLate us c
+late_by_link us c q u e is late = go u.made refl late
+  where
+    go : (o : Option ℕ) → u.made ≡ o → is_none o ≡ false → IsLate us c
+    go None f l = absurd (true≢false l)
+    go (Some v) f l = record { q = q; value = v; tenant = u; creates = e; is = is; made = f }
+
+late_kept : (P : Program) (C : Sizes) (ss : List Taken) (by : ℕ) (s : Step) → AreAllowed P C ss → Allowed P C (reached P C ss) by s → AreLate (reached P C ss).tenants → AreLate (applied P C (reached P C ss) by s).tenants
+late_kept P C ss by (Let index predicted first second) are a all r t k is late = ⊎_elim
+    (λ old. let x = all r t k old late in record { q = x.q; value = x.value; tenant = x.tenant; creates = x.creates; is = at_more (new_tenant P C U index predicted first second) U.tenants x.q x.tenant x.is; made = x.made })
+    (λ (new : (r ≡ length U.tenants) × (new_tenant P C U index predicted first second ≡ t)). absurd (not_linked P C U index predicted first second k false (ap (λ z. (operand k z).way) new.1 ∙ late)))
+    (at_cases (new_tenant P C U index predicted first second) U.tenants r t is)
+  where
+    U : UpdateUnit
+    U = reached P C ss
+late_kept P C ss by (On p act) are a all r t k is late = ⊎_elim
+    (λ (x : IsLate us (operand k was.tenant).creator). moved x (was.goes.creator k ∙ x.creates))
+    (λ x. x)
+    (go act refl)
+  where
+    U : UpdateUnit
+    U = reached P C ss
+
+    us : List Tenant
+    us = (reached P C ss).tenants
+
+    ok : IsSound P (reached P C ss).tenants
+    ok = sound P C ss are
+
+    was : Backward by (On p act) (reached P C ss).tenants r t
+    was = came P C (reached P C ss) by p act a (sound P C ss are) r t is
+
+    V : List Tenant
+    V = (applied P C (reached P C ss) by (On p act)).tenants
+
+    moved : (x : IsLate us (operand k was.tenant).creator) → (operand k t).creator ≡ Some x.q → IsLate V (operand k t).creator
+    moved x e =
+        let g = goes P C (reached P C ss) by (On p act) a (sound P C ss are) x.q x.tenant x.is in
+        record { q = x.q; value = x.value; tenant = g.tenant; creates = e; is = g.is; made = g.goes.made x.value x.made }
+
+    plain : IsNoLink (On p act) → IsLate us (operand k was.tenant).creator
+    plain n = all r was.tenant k was.is (sym (was.goes.way n k) ∙ late)
+
+    by_link : (j : Source) → act ≡ Link j → IsLate us (operand k was.tenant).creator
+    by_link j e = ⊎_elim
+        (λ (z : IsActed P us by p act a.tenant r was.tenant).
+        let same : t ≡ linked (older us p) a.tenant j = found t (linked (older us p) a.tenant j) (sym is ∙ (z.now ∙ ap (λ x. Some (changed P by x a.tenant (older us p))) e)) in ⊎_elim
+        (λ (kj : k ≡ j).
+        let unlinked : (operand k a.tenant).way ≡ Unlinked = ap (λ x. (operand x a.tenant).way) kj ∙ (subst (λ x. May P by x (younger us p) a.tenant (older us p)) e a.may).way in
+        let m = have_makers P C ss are p a.tenant k a.is (λ w. let x = sym unlinked ∙ w in cc x) in
+        let low = are_older P C ss are p a.tenant k m.q a.is m.creates in
+        let there = at_older us p m.q m.tenant (at_below us p a.tenant a.is) low m.is in
+        let worth : value_of (older us p) (operand k a.tenant).creator ≡ m.tenant.made = ap (value_of (older us p)) m.creates ∙ ap made_by there in
+        let way : (operand k t).way ≡ Linked (is_none (value_of (older us p) (operand k a.tenant).creator)) =
+        ap (λ x. (operand k x).way) same ∙ (ap (λ x. (operand k (linked (older us p) a.tenant x)).way) (sym kj) ∙ linked_way (older us p) k a.tenant) in
+        let is_late : is_none m.tenant.made ≡ false = sym (ap is_none worth) ∙ same_bool (is_none (value_of (older us p) (operand k a.tenant).creator)) false (sym way ∙ late) in
+        late_by_link us (operand k was.tenant).creator m.q m.tenant (ap (λ x. (operand k x).creator) z.tenant ∙ m.creates) m.is is_late)
+        (λ (ne : k ≢ j). all r was.tenant k was.is (ap (λ x. (operand k x).way) z.tenant ∙ (sym (other_way (older us p) k j a.tenant ne) ∙ (ap (λ x. (operand k x).way) (sym same) ∙ late))))
+        (source_same k j))
+        (λ (z : IsLeft P us by p act r was.tenant).
+        let same : t ≡ was.tenant = found t was.tenant (sym is ∙ z.now) in
+        all r was.tenant k was.is (ap (λ x. (operand k x).way) (sym same) ∙ late))
+        (at_changed P us by p act a.tenant a.is r was.tenant was.is)
+      where
+        same_bool : (x y : Bool) → Linked x ≡ Linked y → x ≡ y
+        same_bool x y e = cc e
+
+    Plain : Act → Type 0
+    Plain x = IsNoLinkAct x
+
+    go : (x : Act) → act ≡ x → IsLate us (operand k was.tenant).creator ⊎ IsLate V (operand k t).creator
+    go (Link j) e = inl (by_link j e)
+    go (Deliver j) e = inl (plain (subst Plain (sym e) tt))
+    go Claim e = inl (plain (subst Plain (sym e) tt))
+    go Finish e = inl (plain (subst Plain (sym e) tt))
+    go Load e = inl (plain (subst Plain (sym e) tt))
+    go (Retire n) e = inl (plain (subst Plain (sym e) tt))
+    go Squash e = inl (plain (subst Plain (sym e) tt))
+    go Mend e = inl (plain (subst Plain (sym e) tt))
+
+pub are_late : (P : Program) (C : Sizes) (ss : List Taken) → AreAllowed P C ss → AreLate (reached P C ss).tenants
+are_late P C [] a r t k is late = absurd (cc is)
+are_late P C (s ∷ ss) a r t k is late = late_kept P C ss s.by s.step a.0 a.1 (are_late P C ss a.0) r t k is late

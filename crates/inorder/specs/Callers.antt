@@ -6,7 +6,7 @@ use Rattle.inorder.specs.declared.history.Source.{Source}
 use Rattle.inorder.specs.Memory.{load_value}
 use Rattle.inorder.specs.Replies.{Has}
 use Rattle.inorder.specs.Steps.{CanRetire, IsNoRetiredStop, MayLoad}
-use Rattle.inorder.specs.Tenants.{Addr, Busy, Fate, IsNotLive, IsThere, Linked, Live, Miss, Retired, Squashed, Standing, Tenant, Unlinked, computed, kind_of, missing, operand}
+use Rattle.inorder.specs.Tenants.{Addr, Busy, Fate, IsNotLive, IsThere, Linked, Live, Miss, Retired, Squashed, Standing, Tenant, Unlinked, computed, kind_of, missing, on_path, operand}
 use Rattle.inorder.specs.Unit.{Sizes, UpdateUnit, at, how_many, older}
 
 -- Anybody
@@ -47,6 +47,13 @@ pub record HasJob (P : Program) (by predicted : ℕ) (outcome : Outcome) (t : Te
 pub record CanAsk (k : Source) (q : ℕ) (t : Tenant) : Type 0 where
   pub way : (operand k t).way ≡ Unlinked
   pub creator : (operand k t).creator ≡ Some q
+
+-- Source k was asked for from tenant q, and the tenant was not squashed
+pub record HasAsked (k : Source) (q : ℕ) (t : Tenant) : Type 0 where
+  pub in_time : Bool
+  pub way : (operand k t).way ≡ Linked in_time
+  pub creator : (operand k t).creator ≡ Some q
+  pub path : on_path t ≡ true
 
 -- No tenant after p is of this station
 abbrev pub IsLastAt : UpdateUnit → ℕ → ℕ → Type 0

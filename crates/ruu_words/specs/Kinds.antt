@@ -15,7 +15,7 @@ use Rattle.inorder.specs.declared.history.Refusal.TheVariants.{Empty, Moved, Not
 use Rattle.inorder.specs.declared.history.Source.{Source}
 use Rattle.inorder.specs.declared.history.Step.TheVariants.{Let, On}
 use Rattle.inorder.specs.declared.history.Supply.{Supply}
-use Rattle.inorder.specs.Callers.{IsHead}
+use Rattle.inorder.specs.Callers.{HasMade, IsHead}
 use Rattle.inorder.specs.History.{unit_of}
 use Rattle.inorder.specs.Replies.{IsDelivered, IsOpen, IsSquashed}
 use Rattle.inorder.specs.StationWords.{live_word, station_word}
@@ -66,6 +66,13 @@ pub record HasLink (k : Source) (q : ℕ) (t : Tenant) : Type 0 where
   pub in_time : Bool
   pub way : (operand k t).way ≡ Linked in_time
   pub creator : (operand k t).creator ≡ Some q
+
+-- A station that is neither free nor done has made nothing for a register
+abbrev pub IsUnmade : ℕ → Type 0
+IsUnmade n = (n ≢ 0) × (n ≢ 4)
+
+abbrev pub IsMade : ℕ → Type 0
+IsMade n = (n ≡ 0) ⊎ (n ≡ 4)
 
 -- A state in which a tenant cannot retire: open, busy, or a miss
 abbrev pub IsEarly : ℕ → Type 0
@@ -119,6 +126,19 @@ module _ (P : Program) (C : Sizes) where
   -- A load with which its caller is refused
   pub record Tells (r : Refusal) (h : List Entry) (d : Draft) (events : List Event) : Type 0 where
     pub added : events ≡ Refuses r ∷ []
+
+  -- The look of a question at the station of the creator q of source k of tenant r: the creator is live and
+  -- not done, so that the source was asked for in time, or it has made the value of the word
+  abbrev pub Questions : (r : ℕ) (k : Source) (q n : ℕ) → List Entry → Draft → List Event → Type 0
+  Questions r k q n h d events =
+      (IsUnmade (state_of n) × (events ≡ Marks (Asked r k) ∷ []))
+      ⊎ (IsMade (state_of n) × (events ≡ []) × HasMade (unit_of P C h) q (value_of n))
+
+  -- The exchange that ends a question: the source has its value
+  abbrev pub Answers : (r : ℕ) (k : Source) (old n : ℕ) → List Entry → Draft → List Event → Type 0
+  Answers r k old n h d events =
+      ((n ≡ old) × (events ≡ Marks (Asked r k) ∷ Does (On r (Deliver k)) ∷ []))
+      ⊎ ((n ≢ old) × (events ≡ Marks (Asked r k) ∷ []))
 
   -- Loads of a retirement
 
