@@ -39,3 +39,5 @@ mod TurnsRun
 mod Refused
 pub mod Serving
 pub mod Waking
+pub mod Heads
+pub mod Makers
