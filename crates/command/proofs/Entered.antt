@@ -17,7 +17,7 @@ both (Some p) x y first second =
     ap₂ (λ a b. Some (a, b)) one two
 
 first_of_two : {X Y Z : Type 0} (f : X → Y) (g : X → Z) (o : Option X)
-  → option_map (λ (p : Y × Z). p.0) (option_map (λ x. (f x, g x)) o) ≡ option_map f o
+    → option_map (λ (p : Y × Z). p.0) (option_map (λ x. (f x, g x)) o) ≡ option_map f o
 first_of_two f g None = refl
 first_of_two f g (Some x) = refl
 

@@ -7,6 +7,8 @@ mod options;
 mod reading;
 mod refusals;
 mod request;
+#[cfg(test)]
+mod tests;
 mod values;
 
 pub use no_run::{NoRun, status};

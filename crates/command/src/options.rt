@@ -24,12 +24,12 @@ fn run<'a>(alloc: Global) -> Result<Command<'a>, AllocError>
     let ended = named.after_help(STATUSES);
     ended
         .arg(file(alloc))?
-        .arg(option(alloc, "ruu-size", RING))?
-        .arg(option(alloc, "lsq-size", QUEUE))?
-        .arg(option(alloc, "units", UNITS))?
-        .arg(option(alloc, "bpred", PREDICTOR))?
-        .arg(option(alloc, "turns", TURNS))?
-        .arg(option(alloc, "limit", LIMIT))?
+        .arg(option(alloc, "ruu-size", "N", RING))?
+        .arg(option(alloc, "lsq-size", "N", QUEUE))?
+        .arg(option(alloc, "units", "N", UNITS))?
+        .arg(option(alloc, "bpred", "NAME", PREDICTOR))?
+        .arg(option(alloc, "turns", "N", TURNS))?
+        .arg(option(alloc, "limit", "N", LIMIT))?
         .arg(flag(alloc, "alone", ALONE))
 }
 
@@ -66,11 +66,11 @@ fn file<'a>(alloc: Global) -> Arg<'a>
     file.required(true).help(FILE)
 }
 
-fn option<'a>(alloc: Global, name: &'a str, help: &'a str) -> Arg<'a>
+fn option<'a>(alloc: Global, name: &'a str, value: &'a str, help: &'a str) -> Arg<'a>
     ensures { IsArg (option_rule name.now) result }
 {
     let option = Arg::new(alloc, name);
-    option.long(name).value_name("VALUE").help(help)
+    option.long(name).value_name(value).help(help)
 }
 
 fn flag<'a>(alloc: Global, name: &'a str, help: &'a str) -> Arg<'a>

@@ -11,12 +11,13 @@ use crate::{Asked, NoRun};
 use clap::ArgMatches;
 use isa::Config;
 use std::alloc::Global;
+use std::convert::AsStr;
 
 /// What the words ask for, of which the first is the program's name. Where it refuses them, `NoRun` has what to
 /// print and `status` the exit status.
-pub fn asked<'a>(alloc: Global, words: &'a [&'a str]) -> Result<Asked<'a>, NoRun>
-    ensures ok { IfOk result (IsAskedIn (map (λ w. w.now) words.entry.now)) }
-    ensures err { IfErr result (IsRefusedIn (map (λ w. w.now) words.entry.now)) }
+pub fn asked<'a, S: AsStr>(alloc: Global, words: &'a [S]) -> Result<Asked<'a>, NoRun>
+    ensures ok { IfOk result (IsAskedIn (map S.text words.entry.now)) }
+    ensures err { IfErr result (IsRefusedIn (map S.text words.entry.now)) }
 {
     let command = command(alloc)?;
     match command.try_get_matches_from(words) {

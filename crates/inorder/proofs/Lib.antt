@@ -12,9 +12,18 @@ pub mod Words
 pub mod WordsKept
 pub mod Fated
 pub mod Loads
+pub mod Forbidden
 pub mod Positions
 pub mod Moves
 pub mod Letting
 pub mod Ends
 pub mod Creators
 pub mod Loading
+pub mod Histories
+mod Examples
+mod LoopRun
+mod WrongPathRun
+mod StoreRun
+mod ReletRun
+mod DeadLinkRun
+mod Refused

@@ -319,7 +319,7 @@ starts_of P ts (y ∷ ys) =
     let new = with_access (is_live_access P y) (length (ys ++ ts), entry_of P y) in
     record { more = s.more ++ new; is = ap (λ es. es ++ new) s.is ∙ append_assoc (live_accesses P ts) s.more new }
 
-at_older : (ts ys : List Tenant) (t : Tenant) (q : ℕ) → q < length ts → at (ys ++ t ∷ ts) q ≡ at ts q
+pub at_older : (ts ys : List Tenant) (t : Tenant) (q : ℕ) → q < length ts → at (ys ++ t ∷ ts) q ≡ at ts q
 at_older ts [] t q l = ap (λ b. cond b (Some t) (at ts q)) (eqb_less q (length ts) l)
 at_older ts (y ∷ ys) t q l =
     let less : q < length (ys ++ t ∷ ts) = omega (arith, length-append ys (t ∷ ts)) in
@@ -331,7 +331,7 @@ sound_tail P t ts [] s = s.1
 sound_tail P t ts (y ∷ ys) s = sound_tail P t ts ys s.1
 
 -- so many tenants are before a position
-older_length : (ts : List Tenant) (p : ℕ) (t : Tenant) → at ts p ≡ Some t → length (older ts p) ≡ p
+pub older_length : (ts : List Tenant) (p : ℕ) (t : Tenant) → at ts p ≡ Some t → length (older ts p) ≡ p
 older_length [] p t e = absurd (cc)
 older_length (u ∷ us) p t e = go (eqb p (length us)) refl e (older_length us p t)
   where

@@ -198,6 +198,17 @@ free_of n (t ∷ ts) k h = go (eqb t.station n.station) refl (free_of n ts k h.1
     go true q more = subst Goal (sym q) (gone t.standing refl (eqb-true t.station n.station q))
     go false q more = subst Goal (sym q) more
 
+-- only a live tenant changes its station
+pub acts_live : (P : Program) (by : ℕ) (act : Act) (ys : List Tenant) (t : Tenant) (ts : List Tenant) → ChangesStation act → May P by act ys t ts → t.standing ≡ Live
+acts_live P by (Link k) ys t ts c m = absurd c
+acts_live P by (Deliver k) ys t ts c m = absurd c
+acts_live P by Claim ys t ts c m = m.live
+acts_live P by Finish ys t ts c m = m.live
+acts_live P by Load ys t ts c m = m.live
+acts_live P by (Retire n) ys t ts c m = m.live
+acts_live P by Squash ys t ts c m = m.live
+acts_live P by Mend ys t ts c m = m.live
+
 module _ (P : Program) (C : Sizes) (U : UpdateUnit) (by : ℕ) (sound_U : IsSound P U.tenants) (st : Stands C (recent U)) (tags : AreTagged C (recent U)) where
   before_let : (index predicted : ℕ) (first second : Supply) → Allowed P C U by (Let index predicted first second) → ((station_word C (recent U) (next_station C (recent U))).state ≡ IsFree) × ((station_word C (recent U) (next_station C (recent U))).tag ≡ next_tag C (recent U))
   before_let index predicted first second a =
@@ -224,20 +235,10 @@ module _ (P : Program) (C : Sizes) (U : UpdateUnit) (by : ℕ) (sound_U : IsSoun
       ∙ shown_live C t u (older ts p) (younger ts p) s live (same_place P by act t (older ts p)).0 (subst AreApart split st.apart) (subst (AreTagged C) split tags)
       ∙ ap (λ W. cond (eqb t.station s) (word_of (suc t.tag) (Some u)) (station_word C W s)) (sym split)
 
-  acts_live : (act : Act) (ys : List Tenant) (t : Tenant) (ts : List Tenant) → ChangesStation act → May P by act ys t ts → t.standing ≡ Live
-  acts_live (Link k) ys t ts c m = absurd c
-  acts_live (Deliver k) ys t ts c m = absurd c
-  acts_live Claim ys t ts c m = m.live
-  acts_live Finish ys t ts c m = m.live
-  acts_live Load ys t ts c m = m.live
-  acts_live (Retire n) ys t ts c m = m.live
-  acts_live Squash ys t ts c m = m.live
-  acts_live Mend ys t ts c m = m.live
-
   after_act : (p : ℕ) (act : Act) (t : Tenant) (s : ℕ) → ChangesStation act → Allowed P C U by (On p act) → at U.tenants p ≡ Some t → station_word C (recent (applied P C U by (On p act))) s ≡ cond (eqb t.station s) (word_of (suc t.tag) (Some (changed P by act t (older U.tenants p)))) (station_word C (recent U) s)
   after_act p act t s c a e =
       let same : a.tenant ≡ t = let f = a.is in cc (sym f ∙ e) in
-      let live : t.standing ≡ Live = ap (λ x. x.standing) (sym same) ∙ acts_live act (younger U.tenants p) a.tenant (older U.tenants p) c a.may in
+      let live : t.standing ≡ Live = ap (λ x. x.standing) (sym same) ∙ acts_live P by act (younger U.tenants p) a.tenant (older U.tenants p) c a.may in
       at_station p act t s live e
 
   same_word : (act : Act) (t : Tenant) (ts : List Tenant) (n : ℕ) → KeepsStations act → word_of n (Some (changed P by act t ts)) ≡ word_of n (Some t)

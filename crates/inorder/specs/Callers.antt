@@ -6,7 +6,7 @@ use Rattle.inorder.specs.declared.history.Source.{Source}
 use Rattle.inorder.specs.Memory.{load_value}
 use Rattle.inorder.specs.Replies.{Has}
 use Rattle.inorder.specs.Steps.{CanRetire, IsNoRetiredStop, MayLoad}
-use Rattle.inorder.specs.Tenants.{Busy, Fate, Live, Miss, Squashed, Tenant, Unlinked, computed, kind_of, missing, operand}
+use Rattle.inorder.specs.Tenants.{Addr, Busy, Fate, Live, Miss, Squashed, Tenant, Unlinked, computed, kind_of, missing, operand}
 use Rattle.inorder.specs.Unit.{UpdateUnit, at, older}
 
 -- A unit
@@ -74,9 +74,10 @@ pub record CanLeave (P : Program) (U : UpdateUnit) (p : ℕ) (f : Fate) : Type 0
   pub fate : tenant.fate ≡ f
   pub can : CanRetire (kind_of P tenant) tenant.second.value f
 
--- A load may be answered, with this value
-pub record CanLoad (P : Program) (U : UpdateUnit) (p value : ℕ) : Type 0 where
+-- A load from this address may be answered, with this value
+pub record CanLoad (P : Program) (U : UpdateUnit) (p address value : ℕ) : Type 0 where
   pub tenant : Tenant
   pub is : at U.tenants p ≡ Some tenant
   pub may : MayLoad P (older U.tenants p) tenant
+  pub fate : tenant.fate ≡ Addr address
   pub value_is : load_value P (older U.tenants p) tenant ≡ value

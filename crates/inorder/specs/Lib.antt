@@ -13,6 +13,7 @@ pub mod OperandWords
 pub mod Fates
 pub mod Numbers
 pub mod Loads
+pub mod Guards
 pub mod Replies
 pub mod History
 pub mod Wakes

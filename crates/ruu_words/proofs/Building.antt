@@ -25,7 +25,7 @@ use Rattle.ruu_words.specs.declared.rule.Draft.{Draft}
 use Rattle.ruu_words.specs.Content.{Content, IsDraft, IsStation}
 use Rattle.ruu_words.proofs.General.{Plan}
 use Rattle.ruu_words.proofs.Groups.{MayStep, draft_stays, info_stays, link_other, operand_drafted}
-use Rattle.ruu_words.proofs.Histories.{allowed_steps, unit_sound}
+use Rattle.inorder.proofs.Histories.{allowed_steps, unit_sound}
 
 -- an act that changes a station is no link
 no_link : (act : Act) → ChangesStation act → IsNoLinkAct act

@@ -15,7 +15,7 @@ use Rattle.ruu_words.specs.declared.rule.View.{View}
 use Rattle.ruu_words.specs.Content.{Content, IsDraft}
 use Rattle.ruu_words.specs.Places.{IsPlace, index}
 use Rattle.ruu_words.specs.Rule.{Fits, IsAlive, IsCaller, IsGrown, IsKept, Keeps, Tells}
-use Rattle.ruu_words.proofs.Histories.{own-append, own_none, own_of_other, starts_longer, starts_same}
+use Rattle.inorder.proofs.Histories.{own-append, own_none, own_of_other, starts_longer, starts_same}
 use Rattle.ruu_words.proofs.Placing.{written}
 
 pub below_length : {A : Type 0} (l : List A) (j : ℕ) (a : A) → get_elem? l j ≡ some a → j < length l
@@ -37,6 +37,12 @@ pub record Plan (P : Program) (C : Sizes) (id : ℕ) (h : List Entry) (d : Draft
 -- the view of a seat after its step
 abbrev pub stepped_view : View → List Entry → Draft → View
 stepped_view v h d = record { role = v.role; seen = h; told = v.told; draft = d }
+
+module _ (P : Program) (C : Sizes) where
+  -- The one obligation of each kind of step: a plan at each history that goes on from what was seen, with no entry of the caller in between
+  abbrev pub Plans : ℕ → View → Place → (ℕ → ℕ) → (ℕ → List Entry → Draft → List Event → Type 0) → Type 0
+  Plans id v x f Kind = (between : List Entry) (d : Draft) → IsLegal P C (between ++ v.seen) → own id between ≡ [] → IsCaller v.role id → (id ≡ front → v.draft ≡ d) → IsDraft P C (unit_of P C (between ++ v.seen)) d
+      → (n : ℕ) → n < 18446744073709551616 → Content P C (unit_of P C (between ++ v.seen)) d x n → Plan P C id (between ++ v.seen) d x (f n) (Kind n)
 
 module _ (P : Program) (C : Sizes) (opening : List Entry) where
   pub kept_after : (id : ℕ) (s : State ℕ View) (h : List Entry) (d : Draft) → IsKept P C opening s h d → (v : View) → get_elem? s.views id ≡ some v → (x : Place) (new : ℕ) → IsPlace C.ring x
@@ -79,14 +85,9 @@ module _ (P : Program) (C : Sizes) (opening : List Entry) where
         proper = p.proper;
       }
 
-  -- The one obligation of each kind of step: a plan at each history that goes on from what was seen, with no entry of the caller in between
-  abbrev pub Plans : ℕ → View → Place → (ℕ → ℕ) → (ℕ → List Entry → Draft → List Event → Type 0) → Type 0
-  Plans id v x f Kind = (between : List Entry) (d : Draft) → IsLegal P C (between ++ v.seen) → own id between ≡ [] → IsCaller v.role id → (id ≡ front → v.draft ≡ d) → IsDraft P C (unit_of P C (between ++ v.seen)) d
-      → (n : ℕ) → n < 18446744073709551616 → Content P C (unit_of P C (between ++ v.seen)) d x n → Plan P C id (between ++ v.seen) d x (f n) (Kind n)
-
   -- `tell n` is what a step tells of: the number found, or at a store the number stored
   pub allowed : (slots id : ℕ) (me : Me ℕ View) (x : Place) (f tell : ℕ → ℕ) (Kind : ℕ → List Entry → Draft → List Event → Type 0) (z : Step ℕ) → IsPlace C.ring x → IsAlive me.0.role
-      → Plans id me.0 x f (λ n. Kind (tell n)) → Allows (Keeps P C opening) slots id me (index C.ring x) f (λ n found. Tells P C id Kind z me (tell n) found)
+      → Plans P C id me.0 x f (λ n. Kind (tell n)) → Allows (Keeps P C opening) slots id me (index C.ring x) f (λ n found. Tells P C id Kind z me (tell n) found)
   allowed slots id me x f tell Kind z fits alive plans s kept _ here small =
       let h : List Entry = kept.history in let d : Draft = kept.draft in let k : IsKept P C opening s h d = kept.kept in let v : View = me.0 in
       let fit : Fits opening h id v = k.views id v here in
@@ -120,5 +121,5 @@ module _ (P : Program) (C : Sizes) (opening : List Entry) where
 
   -- the same, where the code gives the index
   pub allowed_at : (slots id : ℕ) (me : Me ℕ View) (x : Place) (i : ℕ) (f tell : ℕ → ℕ) (Kind : ℕ → List Entry → Draft → List Event → Type 0) (z : Step ℕ) → index C.ring x ≡ i → IsPlace C.ring x → IsAlive me.0.role
-      → Plans id me.0 x f (λ n. Kind (tell n)) → Allows (Keeps P C opening) slots id me i f (λ n found. Tells P C id Kind z me (tell n) found)
+      → Plans P C id me.0 x f (λ n. Kind (tell n)) → Allows (Keeps P C opening) slots id me i f (λ n found. Tells P C id Kind z me (tell n) found)
   allowed_at slots id me x i f tell Kind z is fits alive plans = subst (λ (j : ℕ). Allows (Keeps P C opening) slots id me j f (λ n found. Tells P C id Kind z me (tell n) found)) is (allowed slots id me x f tell Kind z fits alive plans)

@@ -12,7 +12,7 @@ use Rattle.inorder.proofs.StationsShown.{stations_follow}
 use Rattle.inorder.proofs.Tags.{names_one, tagged}
 use Rattle.ruu_words.specs.Content.{IsStation}
 use Rattle.ruu_words.specs.Fields.{state_of, tag_of, value_of}
-use Rattle.ruu_words.proofs.Histories.{allowed_steps}
+use Rattle.inorder.proofs.Histories.{allowed_steps}
 use Rattle.ruu_words.proofs.Packing.{same_word}
 
 -- the last tenant of a station stands somewhere

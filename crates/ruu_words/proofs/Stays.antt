@@ -24,7 +24,7 @@ use Rattle.inorder.proofs.Letting.{IsBesides}
 use Rattle.inorder.proofs.Moves.{Goes, goes}
 use Rattle.inorder.proofs.Sound.{IsSound, Needs}
 use Rattle.ruu_words.specs.Kinds.{IsAny, IsTenant}
-use Rattle.ruu_words.proofs.Histories.{starts_longer, unit_lasts, unit_lasts_apart}
+use Rattle.inorder.proofs.Histories.{starts_longer, unit_lasts, unit_lasts_apart}
 
 -- Who steps
 

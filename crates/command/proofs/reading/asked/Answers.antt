@@ -10,8 +10,8 @@ use Rattle.command.proofs.NotAsked.{not_asked_in, refused_by_clap, refused_in}
 use Rattle.command.proofs.reading.asked.Goals as goal
 
 pub returns-in-Some-clause-ok : goal.returns-in-Some-clause-ok
-returns-in-Some-clause-ok c =
-    let words : List Text = map (λ w. w.now) c.args.words.now in
+returns-in-Some-clause-ok g c =
+    let words : List Text = map g.S.AsStr.text c.args.words.now in
     let rows : List Row = rows_of (found_of c.in-Some.found.now) in
     let is = c.in_ok-command.ensures in
     let taken : fault_of tool words ≡ [] = sym (ap (λ (a : App). fault_of a words) is) ∙ c.in-Ok.ensures.kinds (ap is_simple_and_free is ∙ tool-is_free) in
@@ -19,8 +19,8 @@ returns-in-Some-clause-ok c =
     IfOk-weaker c.read.result _ _ (λ asked held. record { rows = rows; taken = taken; matches = matches; held = held }) c.read.ensures.ok
 
 pub returns-in-Some-clause-err : goal.returns-in-Some-clause-err
-returns-in-Some-clause-err c =
-    let words : List Text = map (λ w. w.now) c.args.words.now in
+returns-in-Some-clause-err g c =
+    let words : List Text = map g.S.AsStr.text c.args.words.now in
     let rows : List Row = rows_of (found_of c.in-Some.found.now) in
     let is = c.in_ok-command.ensures in
     let taken : fault_of tool words ≡ [] = sym (ap (λ (a : App). fault_of a words) is) ∙ c.in-Ok.ensures.kinds (ap is_simple_and_free is ∙ tool-is_free) in
@@ -28,15 +28,15 @@ returns-in-Some-clause-err c =
     IfErr-weaker c.read.result _ _ (λ e refused. refused_in words rows e taken matches refused) c.read.ensures.err
 
 pub returns-in-Ok-clause-err : goal.returns-in-Ok-clause-err
-returns-in-Ok-clause-err c =
-    let words : List Text = map (λ w. w.now) c.args.words.now in
+returns-in-Ok-clause-err g c =
+    let words : List Text = map g.S.AsStr.text c.args.words.now in
     not_asked_in words c.usage.result c.usage.ensures (λ asked is.
     let run = named (app_of c.in_ok-command.command) words c.in-Ok.matches (codes "run") is.rows c.in_ok-command.ensures c.in-Ok.ensures.matches is.matches in
     false≢true (c.in-None.ensures.found.1 run))
 
 pub returns-clause-err : goal.returns-clause-err
-returns-clause-err c =
-    let words : List Text = map (λ w. w.now) c.args.words.now in
+returns-clause-err g c =
+    let words : List Text = map g.S.AsStr.text c.args.words.now in
     let is = c.in_ok-command.ensures in
     let has : HasKind (fault_of tool words) c.in-Err.error = subst (λ (a : App). HasKind (fault_of a words) c.in-Err.error) is
     (c.in-Err.ensures.kinds (ap is_simple_and_free is ∙ tool-is_free)) in

@@ -37,7 +37,7 @@ pub own_of_other : (by other : ℕ) (es : List Event) → other ≢ by → own b
 own_of_other by other [] h = refl
 own_of_other by other (e ∷ es) h = own_else by (entry other e) (map (entry other) es) h ∙ own_of_other by other es h
 
-no_length : (l : List Entry) → length l ≡ 0 → l ≡ []
+pub no_length : (l : List Entry) → length l ≡ 0 → l ≡ []
 no_length [] e = refl
 no_length (x ∷ xs) e = absurd (omega arith)
 
