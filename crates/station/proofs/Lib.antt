@@ -1,0 +1,5 @@
+pub mod Allowing
+pub mod Looks
+pub mod SameUnit
+pub mod Adding
+pub mod Seated

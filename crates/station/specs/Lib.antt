@@ -1,0 +1,4 @@
+pub mod Seats
+pub mod Making
+pub mod Steps
+pub mod Looking

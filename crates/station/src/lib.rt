@@ -1,0 +1,15 @@
+//! The words that callers share, their seats, and every call on them. Each step is one load, store,
+//! swap or compare-exchange of one word; no call waits, and none but `Core::make` takes memory.
+#![tactic(auto)]
+
+mod answers;
+mod cores;
+mod look;
+mod meet;
+mod seat;
+mod steps;
+
+pub use answers::{Seen, SourceState};
+pub use cores::Core;
+pub use ruu_words::StationState;
+pub use seat::{BackSeat, FrontSeat, Part, SeatOf, UnitSeat};
