@@ -3,3 +3,5 @@ pub mod Looks
 pub mod SameUnit
 pub mod Adding
 pub mod Seated
+pub mod Given
+pub mod LettingOut

@@ -2,3 +2,4 @@ pub mod Seats
 pub mod Making
 pub mod Steps
 pub mod Looking
+pub mod Letting

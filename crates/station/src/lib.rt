@@ -4,10 +4,12 @@
 
 mod answers;
 mod cores;
+mod dispatch;
 mod look;
 mod meet;
 mod seat;
 mod steps;
+mod words;
 
 pub use answers::{Seen, SourceState};
 pub use cores::Core;
