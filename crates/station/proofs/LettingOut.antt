@@ -9,11 +9,13 @@ use Rattle.inorder.specs.declared.history.Step.TheVariants.{Let}
 use Rattle.inorder.specs.History.{Adds, IsLegal, StartsWith, entry, front, own, taken_of, unit_of}
 use Rattle.inorder.specs.Replies.{last_tag}
 use Rattle.inorder.specs.StationWords.{station_word}
-use Rattle.inorder.specs.Unit.{Sizes, UpdateUnit, next_station, next_tag, recent}
+use Rattle.inorder.specs.Tenants.{on_path}
+use Rattle.inorder.specs.Unit.{Sizes, UpdateUnit, how_many, next_station, next_tag, recent}
 use Rattle.inorder.proofs.Histories.{allowed_steps}
 use Rattle.inorder.proofs.StationsShown.{stations_follow}
 use Rattle.ruu_words.specs.declared.rule.Draft.{Draft}
 use Rattle.ruu_words.specs.declared.rule.Draft.TheVariants.{Nothing}
+use Rattle.ruu_words.specs.declared.rule.Role.TheVariants.{Front}
 use Rattle.ruu_words.specs.declared.rule.View.{View}
 use Rattle.ruu_words.specs.Content.{IsStation}
 use Rattle.ruu_words.specs.Fields.{tag_of}
@@ -22,6 +24,7 @@ use Rattle.ruu_words.specs.Rule.{Grows}
 use Rattle.ruu_words.proofs.Drafting.{still_let}
 use Rattle.station.specs.declared.answers.Tenant.{Tenant}
 use Rattle.station.specs.Letting.{IsFronts, IsLetOut, MayLetOut, let_of, supply_of}
+use Rattle.station.specs.Seats.{IsSeated}
 use Rattle.station.proofs.Adding.{adds_on, adds_these}
 
 -- a caller that has added nothing
@@ -92,3 +95,18 @@ module _ (P : Program) (C : Sizes) (by : ℕ) (t : Tenant) (old : List Entry) wh
   goes_from id e draft next station tag v w Kind r g none is =
       let same = subst (λ i. (z : Grows P C i v.0 w.0 Kind) × (z.events ≡ [])) e (g, none) in
       goes_on draft next station tag v w Kind r same.0 same.1 is
+
+-- the front's seat behind a let
+pub seated_out : (P : Program) (C : Sizes) (by station ring : ℕ) (t : Tenant) (old : List Entry) (me : Me ℕ View) → ring ≡ C.ring → station ≡ next_station C (recent (unit_of P C old)) → IsFronts by Nothing me → me.1 ≡ []
+    → IsLetOut P C by t old me.0.seen → IsSeated P C Front by ((station + 1) % ring) me
+seated_out P C by station ring t old me ring_is station_is fronts slots out =
+    let n : ℕ = how_many on_path (unit_of P C out.point).tenants in
+    let was : station ≡ n % C.ring = station_is ∙ sym out.station in
+    let one : n + 1 ≡ suc n = omega arith in
+    let next : (station + 1) % ring ≡ suc n % C.ring = (λ i. (was i + 1) % ring_is i) ∙ (mod-add-mod n C.ring 1 ∙ ap (λ z. z % C.ring) one) in
+    record {
+      role_is = fronts.role;
+      slots = slots;
+      legal = out.adds.legal;
+      knows = (fronts.by_is, fronts.draft_is, next ∙ sym (ap (λ h. next_station C (recent (unit_of P C h))) out.is));
+    }

@@ -11,7 +11,7 @@ mod seat;
 mod steps;
 mod words;
 
-pub use answers::{Seen, SourceState};
+pub use answers::{Seen, SourceState, Supply, Tenant};
 pub use cores::Core;
 pub use ruu_words::StationState;
 pub use seat::{BackSeat, FrontSeat, Part, SeatOf, UnitSeat};
