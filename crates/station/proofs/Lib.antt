@@ -5,3 +5,5 @@ pub mod Adding
 pub mod Seated
 pub mod Given
 pub mod LettingOut
+pub mod Reading
+pub mod Claimed

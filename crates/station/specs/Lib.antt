@@ -3,3 +3,4 @@ pub mod Making
 pub mod Steps
 pub mod Looking
 pub mod Letting
+pub mod Claiming

@@ -11,7 +11,7 @@ pub struct Seen<S> {
 #[derive(Clone, Copy, Debug, PartialEq, Eq)]
 pub enum SourceState {
     /// No tenant was let at the station yet.
-    None,
+    Unset,
     Wait,
     Val,
 }

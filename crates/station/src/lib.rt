@@ -13,5 +13,6 @@ mod words;
 
 pub use answers::{Seen, SourceState, Supply, Tenant};
 pub use cores::Core;
+pub use inorder::history::Source;
 pub use ruu_words::StationState;
 pub use seat::{BackSeat, FrontSeat, Part, SeatOf, UnitSeat};

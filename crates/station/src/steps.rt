@@ -7,10 +7,12 @@ ghost use Rattle.ruu_words.specs.Places.{IsPlace, index};
 ghost use Rattle.ruu_words.specs.Rule.{Kept};
 ghost use Rattle.station.specs.Steps.{IsAt};
 
+mod claim;
 mod dispatch;
 mod look;
 
 use atomic_table::{Play, Seat, Shared};
+pub(crate) use claim::{claim_tenant, peek, read_info, read_source, recheck};
 pub(crate) use dispatch::{let_tenant, store_first, store_info, store_second};
 pub(crate) use look::look;
 use ruu_words::Place;
