@@ -4,3 +4,4 @@ pub mod Steps
 pub mod Looking
 pub mod Letting
 pub mod Claiming
+pub mod Writeback

@@ -52,12 +52,7 @@ impl Core {
     }
 
     /// The operand word of source k of a station.
-    pub fn operand(
-        &self,
-        seat: &mut BackSeat,
-        station: usize,
-        k: Source,
-    ) -> Seen<SourceState>
+    pub fn operand(&self, seat: &mut BackSeat, station: usize, k: Source) -> Seen<SourceState>
         requires core { seat.old.core ≡ self.now }
         requires station { station < self.now.sizes.ring }
         ensures kept { IsSame seat.old seat.new }

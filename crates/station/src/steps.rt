@@ -10,6 +10,7 @@ ghost use Rattle.station.specs.Steps.{IsAt};
 mod claim;
 mod dispatch;
 mod look;
+mod writeback;
 
 use atomic_table::{Play, Seat, Shared};
 pub(crate) use claim::{claim_tenant, peek, read_info, read_source, recheck};
@@ -17,6 +18,7 @@ pub(crate) use dispatch::{let_tenant, store_first, store_info, store_second};
 pub(crate) use look::look;
 use ruu_words::Place;
 use ruu_words::rule::{OneHistory, Setup, View};
+pub(crate) use writeback::{deliver, finish_tenant, read_link, settle_tenant};
 
 pub(crate) type Words = Shared<u8, View, Setup, OneHistory>;
 

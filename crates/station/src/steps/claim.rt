@@ -19,12 +19,7 @@ use ruu_words::rule::View;
 use std::marker::Brand;
 
 /// Looks for an open tenant, and tells where there is none.
-pub(crate) fn peek(
-    words: &Words,
-    ring: usize,
-    seat: &mut Seat<u8, View>,
-    station: usize,
-) -> u64
+pub(crate) fn peek(words: &Words, ring: usize, seat: &mut Seat<u8, View>, station: usize) -> u64
     requires of { IsAt words.now.table_id words.now.key ring seat.old.table_id }
     requires place { station < ring }
     requires role { seat.old.me.0.role ≡ Worker }
@@ -107,5 +102,13 @@ pub(crate) fn claim_tenant(
     ensures same { (seat.new.table_id ≡ seat.old.table_id) × (seat.new.id ≡ seat.old.id) }
     ensures step { Grown words.now.key seat.old.id seat.old.me seat.new.me (Claims words.now.key.program (sizes_of words.now.key) station (tag_of old) old result) }
 {
-    exchange::<Brand, usize>(words, ring, seat, Place::Station(station), old, new, station)
+    exchange::<Brand, usize>(
+        words,
+        ring,
+        seat,
+        Place::Station(station),
+        old,
+        new,
+        station,
+    )
 }

@@ -8,4 +8,4 @@ returns-clause-reply c =
     let core = c.args.self.now in
     let h = c.read-word.new.seat.seen in
     subst (λ (z : ℕ × ℕ). SeesInfo core.program core.sizes h c.args.station z.0 z.1) (λ i. (sym c.unpack-index.ensures.index i, sym c.unpack-index.ensures.predicted i))
-        (sees_info core.program core.sizes h c.read-word.ensures.history.legal c.args.station c.read-word.result c.read-word.ensures.reply)
+    (sees_info core.program core.sizes h c.read-word.ensures.history.legal c.args.station c.read-word.result c.read-word.ensures.reply)

@@ -21,5 +21,5 @@ exchange-requires-clause-may c =
     let s = c.args.station in
     let x = Station s in
     allows key c.args.ring c.args.words.now.table_id.slots id me x (λ n. either (n == c.args.old) c.args.new n) (λ n. n) (Claims P C s (tag_of c.args.old) c.args.old) (step c.args.words.now.table_id.slots (index c.args.ring x) c.args.old c.args.new none)
-        c.requires.of.ring_is c.requires.place (subst IsAlive (sym c.requires.role) tt)
-        (claim_plan P C id me.0 s (tag_of c.args.old) c.args.old c.args.new c.requires.seen.p c.requires.role c.requires.old c.requires.new c.requires.seen.named c.requires.seen.was)
+    c.requires.of.ring_is c.requires.place (subst IsAlive (sym c.requires.role) tt)
+    (claim_plan P C id me.0 s (tag_of c.args.old) c.args.old c.args.new c.requires.seen.p c.requires.role c.requires.old c.requires.new c.requires.seen.named c.requires.seen.was)

@@ -20,5 +20,5 @@ load-requires-clause-may c =
     let s = c.args.station in
     let x = Station s in
     allows key c.args.ring c.args.words.now.table_id.slots id me x (λ n. n) (λ n. n) (Peeks P C s) (step c.args.words.now.table_id.slots (index c.args.ring x) 0 0 none)
-        c.requires.of.ring_is c.requires.place (subst IsAlive (sym c.requires.role) tt)
-        (peek_plan P C id me.0 s c.requires.role)
+    c.requires.of.ring_is c.requires.place (subst IsAlive (sym c.requires.role) tt)
+    (peek_plan P C id me.0 s c.requires.role)

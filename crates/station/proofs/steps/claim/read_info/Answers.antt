@@ -20,5 +20,5 @@ load-requires-clause-may c =
     let s = c.args.station in
     let x = Info s in
     allows key c.args.ring c.args.words.now.table_id.slots id me x (λ n. n) (λ n. n) (ReadsInfo P C s) (step c.args.words.now.table_id.slots (index c.args.ring x) 0 0 none)
-        c.requires.of.ring_is c.requires.place (subst IsAlive (sym c.requires.role) tt)
-        (info_read_plan P C id me.0 s)
+    c.requires.of.ring_is c.requires.place (subst IsAlive (sym c.requires.role) tt)
+    (info_read_plan P C id me.0 s)

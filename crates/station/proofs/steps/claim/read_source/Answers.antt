@@ -21,5 +21,5 @@ load-requires-clause-may c =
     let s = c.args.station in
     let x = Operand s c.args.k in
     allows key c.args.ring c.args.words.now.table_id.slots id me x (λ n. n) (λ n. n) (ReadsSource P C s c.args.tag c.args.k) (step c.args.words.now.table_id.slots (index c.args.ring x) 0 0 none)
-        c.requires.of.ring_is c.requires.place (subst IsAlive (sym c.requires.role) tt)
-        (source_plan P C id me.0 s c.args.tag c.requires.seen.p c.args.k c.requires.role (next_named P C me.0.seen c.requires.seen.p s c.args.tag c.args.k c.requires.seen.named) c.requires.seen.was)
+    c.requires.of.ring_is c.requires.place (subst IsAlive (sym c.requires.role) tt)
+    (source_plan P C id me.0 s c.args.tag c.requires.seen.p c.args.k c.requires.role (next_named P C me.0.seen c.requires.seen.p s c.args.tag c.args.k c.requires.seen.named) c.requires.seen.was)

@@ -21,5 +21,5 @@ load-requires-clause-may c =
     let s = c.args.station in
     let x = Station s in
     allows key c.args.ring c.args.words.now.table_id.slots id me x (λ n. n) (λ n. n) (Rechecks P C s (tag_of c.args.old) c.args.old) (step c.args.words.now.table_id.slots (index c.args.ring x) 0 0 none)
-        c.requires.of.ring_is c.requires.place (subst IsAlive (sym c.requires.role) tt)
-        (recheck_plan P C id me.0 s (tag_of c.args.old) c.args.old c.requires.seen.p c.requires.role c.requires.word c.requires.seen.named c.requires.seen.was)
+    c.requires.of.ring_is c.requires.place (subst IsAlive (sym c.requires.role) tt)
+    (recheck_plan P C id me.0 s (tag_of c.args.old) c.args.old c.requires.seen.p c.requires.role c.requires.word c.requires.seen.named c.requires.seen.was)

@@ -23,5 +23,5 @@ store-requires-clause-may c =
     let U = unit_of P C me.0.seen in
     let x = Info c.args.station in
     allows_store key c.args.ring c.args.words.now.table_id.slots id me x c.args.word (λ _. Drafts P C (draft_of InfoAlone t)) (step c.args.words.now.table_id.slots (index c.args.ring x) c.args.word 0 none)
-        c.requires.of.ring_is c.requires.place (subst IsAlive (sym c.requires.front.role) tt)
-        (info_plan P C t.index t.predicted (supply_of t.sources.0) (supply_of t.sources.1) id me.0 c.args.station c.args.word c.requires.front.by_is c.requires.front.draft_is c.requires.may.may c.requires.may.tag c.requires.station c.requires.index c.requires.predicted)
+    c.requires.of.ring_is c.requires.place (subst IsAlive (sym c.requires.front.role) tt)
+    (info_plan P C t.index t.predicted (supply_of t.sources.0) (supply_of t.sources.1) id me.0 c.args.station c.args.word c.requires.front.by_is c.requires.front.draft_is c.requires.may.may c.requires.may.tag c.requires.station c.requires.index c.requires.predicted)
