@@ -201,7 +201,7 @@ source_given P ts s h (suc r) = go (ltb (suc r) 32) refl
 
 -- Memory
 
-length_memory : (P : Program) (ts : List Tenant) → length (committed P ts).memory ≡ length P.bytes
+pub length_memory : (P : Program) (ts : List Tenant) → length (committed P ts).memory ≡ length P.bytes
 length_memory P [] = refl
 length_memory P (t ∷ ts) = ap (λ u. length u.memory) (committed_if P t ts (commits t) refl) ∙ go (commits t) (length_memory P ts)
   where
@@ -297,7 +297,7 @@ byte_given P (t ∷ ts) s h x l = go (settled_cases t.standing t.fate h.0) (byte
 -- One step
 
 -- an access that has an address is inside the memory
-reached_in : (w a size q : ℕ) → checked_address w a size ≡ Ok q → q + w ≤ size
+pub reached_in : (w a size q : ℕ) → checked_address w a size ≡ Ok q → q + w ≤ size
 unfolding checked_address
 reached_in w a size q h = go (eqb (a % w) 0) refl (leb (a + w) size) refl
   where
@@ -309,7 +309,7 @@ reached_in w a size q h = go (eqb (a % w) 0) refl (leb (a + w) size) refl
     go true e false e' = let no = rw (e, e') at h in absurd (cc)
     go false e b' e' = let no = rw e at h in absurd (cc)
 
-address_in : (r : Result ℕ Stop) (q : ℕ) → as_address r ≡ Address q → r ≡ Ok q
+pub address_in : (r : Result ℕ Stop) (q : ℕ) → as_address r ≡ Address q → r ≡ Ok q
 address_in (Ok a) q h = ap Ok (cc)
 address_in (Err c) q h = absurd (cc)
 

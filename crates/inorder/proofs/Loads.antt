@@ -173,7 +173,7 @@ stop_stores true Loads c w d = refl
 stop_stores false k c w d = refl
 
 -- with nobody live, nobody is in the queue
-none_live : (P : Program) (ts : List Tenant) → AllByRecursion IsSettled ts → live_accesses P ts ≡ []
+pub none_live : (P : Program) (ts : List Tenant) → AllByRecursion IsSettled ts → live_accesses P ts ≡ []
 none_live P [] h = refl
 none_live P (t ∷ ts) h = ap (λ es. es ++ with_access (is_live_access P t) (length ts, entry_of P t)) (none_live P ts h.1) ∙ go t.standing t.fate h.0
   where
@@ -183,7 +183,7 @@ none_live P (t ∷ ts) h = ap (λ es. es ++ with_access (is_live_access P t) (le
     go Squashed f s = refl
 
 -- the queue with one more tenant
-queue_more : (P : Program) (t : Tenant) (ts : List Tenant) (b : Bool) → is_live_access P t ≡ b → queue_of P (t ∷ ts) ≡ queue_of P ts ++ map entry_in (with_access b (length ts, entry_of P t))
+pub queue_more : (P : Program) (t : Tenant) (ts : List Tenant) (b : Bool) → is_live_access P t ≡ b → queue_of P (t ∷ ts) ≡ queue_of P ts ++ map entry_in (with_access b (length ts, entry_of P t))
 queue_more P t ts b e =
     map-append entry_in (live_accesses P ts) (with_access (is_live_access P t) (length ts, entry_of P t))
     ∙ ap (λ c. queue_of P ts ++ map entry_in (with_access c (length ts, entry_of P t))) e
@@ -410,7 +410,7 @@ module _ (P : Program) (ts : List Tenant) (p : ℕ) (t : Tenant) (a : ℕ) (soun
       ap (λ k. load_by (is_store k) (address_by k t.fate (computed P t)) (access_width (instr P t).op)) ek
       ∙ ap (λ f. load_by false (address_by Loads f (computed P t)) (access_width (instr P t).op)) ef
 
-  answers : answer (queue_of P ts) (place_of P ts p) ≡ answer_over (queue_of P before) a w
+  pub answers : answer (queue_of P ts) (place_of P ts p) ≡ answer_over (queue_of P before) a w
   answers =
       ap (λ o. answer_to (option_and_then (λ x. load_by x.store x.address x.width) o) (queue_of P ts) (place_of P ts p)) there
       ∙ ap (λ o. answer_to o (queue_of P ts) (place_of P ts p)) is_load
@@ -429,13 +429,13 @@ module _ (P : Program) (ts : List Tenant) (p : ℕ) (t : Tenant) (a : ℕ) (soun
   may : AllByRecursion Rattle.lsq.specs.LastStores.HasAddress (queue_of P before) → (n : ℕ) → raw_at P before (instr P t) a ≡ Some n → MayLoad P before t
   may k n r = record { live = live; kind = ek; a = a; fate = ef; addresses = known P before k; bytes = n; read = r }
 
-  forward : (raw : ℕ) → answer (queue_of P ts) (place_of P ts p) ≡ Forward raw → MayLoad P before t × (raw_at P before (instr P t) a ≡ Some raw)
+  pub forward : (raw : ℕ) → answer (queue_of P ts) (place_of P ts p) ≡ Forward raw → MayLoad P before t × (raw_at P before (instr P t) a ≡ Some raw)
   forward raw h =
       let f = forward_is (queue_of P before) a w raw (sym answers ∙ h) in
       let r = reads ∙ f.number start_byte in
       (may f.known raw r, r)
 
-  from_memory : answer (queue_of P ts) (place_of P ts p) ≡ Memory → MayLoad P before t × (raw_at P before (instr P t) a ≡ Some (little_endian (slice_index (committed P ts).memory) a w))
+  pub from_memory : answer (queue_of P ts) (place_of P ts p) ≡ Memory → MayLoad P before t × (raw_at P before (instr P t) a ≡ Some (little_endian (slice_index (committed P ts).memory) a w))
   from_memory h =
       let m = memory_is (queue_of P before) a w (sym answers ∙ h) in
       let r =
