@@ -12,13 +12,12 @@ use Rattle.unit.specs.declared.bench.Turn.TheVariants.{Let, Loaded, Over, Ran, R
 use Rattle.unit.specs.declared.dispatch.Fetched.{Fetched}
 use Rattle.unit.specs.declared.leaver.Leaver.{Leaver}
 use Rattle.unit.specs.declared.pipeline.Pipeline.{Pipeline}
-use Rattle.unit.specs.declared.station.Station.{Station}
 use Rattle.unit.specs.Givers.{NoneGives}
-use Rattle.unit.specs.Leavers.{IsAsked, IsTold, leaver}
+use Rattle.unit.specs.Leavers.{IsAsked, leaver}
 use Rattle.unit.specs.Notes.{AreNoted, miss_in}
 use Rattle.unit.specs.Stages.{CanLet, RecoversTo}
 use Rattle.unit.specs.StandsFor.{HasStopped, IsUnit, OverIs, StandsFor, sizes}
-use Rattle.unit.specs.Turns.{Before, Core, Does, Falls, Guesses, IsPlain, IsSame, IsTurn, Moved, Moves, Trains, Turned, rank}
+use Rattle.unit.specs.Turns.{Before, Core, Does, Falls, Guesses, IsPlain, IsSame, IsTurn, Moves, Trains, Turned, rank}
 use Rattle.unit.specs.Window.{let_at}
 use Rattle.unit.proofs.EndTurns.{window_room}
 use Rattle.unit.proofs.Idle.{Shows, same_rest}

@@ -16,15 +16,15 @@ use Rattle.inorder.specs.declared.history.Act.TheVariants.{Retire}
 use Rattle.inorder.specs.declared.history.Step.TheVariants.{On}
 use Rattle.inorder.specs.Committed.{commits, commits_by, committed, with_stored, with_tenant}
 use Rattle.inorder.specs.Machine.{State, write}
-use Rattle.inorder.specs.Memory.{Stored, stored, stored_by}
+use Rattle.inorder.specs.Memory.{stored, stored_by}
 use Rattle.inorder.specs.Steps.{CanRetire, IsNoRetiredStop, MayRetire, made_at_end, retired}
-use Rattle.inorder.specs.Tenants.{Addr, Busy, Done, Fate, IsNotLive, IsThere, Live, Miss, Open, Retired as RetiredStanding, Stopped, Tenant, computed, computed_next, destination_of, instr, kind_of, operand_value, stands_on_path}
+use Rattle.inorder.specs.Tenants.{Addr, Busy, Done, Fate, IsThere, Miss, Open, Retired as RetiredStanding, Stopped, Tenant, computed, computed_next, destination_of, instr, kind_of, operand_value, stands_on_path}
 use Rattle.inorder.specs.Unit.{Sizes, UpdateUnit, at, how_many}
 use Rattle.inorder.proofs.Commits.{over}
-use Rattle.inorder.proofs.Follows.{Leaves, address_in, committed_if, length_memory, next_leaves, reached_in, stored_done}
-use Rattle.inorder.proofs.Sound.{DoneIs, FateIs, IsSound, IsSoundAt}
+use Rattle.inorder.proofs.Follows.{address_in, committed_if, length_memory, next_leaves, reached_in, stored_done}
+use Rattle.inorder.proofs.Sound.{FateIs, IsSound, IsSoundAt}
 use Rattle.inorder.proofs.Stations.{Stands, last_at}
-use Rattle.unit_laws.specs.Moves.{IsReached, Leads, with_tenants}
+use Rattle.unit_laws.specs.Moves.{Leads, with_tenants}
 use Rattle.unit_laws.specs.Still.{AreStill, IsNotBusy}
 use Rattle.unit_laws.proofs.Alike.{still_put, stops_put}
 use Rattle.unit_laws.proofs.Left.{live_commits}
@@ -40,13 +40,13 @@ use Rattle.unit.specs.declared.station.Stage.{Stage}
 use Rattle.unit.specs.declared.station.Stage.TheVariants.{Open as Opens, Addr as HasAddr, Done as IsDone, Miss as Misses, Stops}
 use Rattle.unit.specs.declared.station.Station.{Station}
 use Rattle.unit.specs.Givers.{NoneGives, given_at, gives}
-use Rattle.unit.specs.Leavers.{leaver, leaver_by, leaver_of, told_by, told_of}
+use Rattle.unit.specs.Leavers.{leaver, leaver_of, told_by, told_of}
 use Rattle.unit.specs.Leaves.{CanLeave, HasEnded, LeavesTo, RetiresTo, memory_with, with_station}
 use Rattle.unit.specs.Loads.{AreInside, load_in, waits_by}
 use Rattle.unit.specs.Notes.{miss_in}
 use Rattle.unit.specs.Stages.{CannotLet, NoInstr, NoRoom, QueueFull}
 use Rattle.unit.specs.StandsFor.{HasStopped, IsUnit, OverIs, StandsFor, sizes}
-use Rattle.unit.specs.Turns.{Before, Falls, Moved, Moves, Nowhere, Now, Retires}
+use Rattle.unit.specs.Turns.{Falls, Moved, Moves, Nowhere, Now, Retires}
 use Rattle.unit.specs.Window.{miss_of, operands_by, operands_in, source_in, stage_of, station_of, where_open, window}
 use Rattle.unit.proofs.Found.{Found, drop_first, found, nobody, window_behind, window_middle}
 use Rattle.unit.proofs.Leavers.{leaver_put, leaver_retire, leavers_set, told_done, told_live, told_store}

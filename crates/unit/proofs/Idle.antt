@@ -10,7 +10,7 @@ use Rattle.unit.specs.Leaves.{CanLeave, RetiresTo}
 use Rattle.unit.specs.Loads.{load_in}
 use Rattle.unit.specs.Notes.{AreNoted, miss_in}
 use Rattle.unit.specs.Stages.{CannotLet, LoadsTo, RunsTo}
-use Rattle.unit.specs.StandsFor.{IsUnit, StandsFor}
+use Rattle.unit.specs.StandsFor.{IsUnit}
 use Rattle.unit.specs.Turns.{Falls, IsPlain, IsSame, Moves, rank}
 use Rattle.unit.specs.Window.{operands_in}
 use Rattle.unit.proofs.EndTurns.{Refused, can_leave, retires_falls, retires_turn, window_room}

@@ -1,16 +1,16 @@
 -- Who has left a station, step by step.
-use Rattle.std.proofs.Common.{◌≡◌, ◌≢◌, ◌⊎◌, ℕ, zero, suc, ◌+◌, ◌%◌, ◌<◌, Bool, true, false, cond, eqb, List, [], ◌∷◌, ◌++◌, length, Option, Some, None, refl, sym, ap, ◌∙◌, subst, inl, inr, ⊎_elim, arith, eq-eqb, ne_eqb, eqb-true, true≢false}
+use Rattle.std.proofs.Common.{◌≡◌, ◌≢◌, ◌⊎◌, ℕ, zero, suc, ◌<◌, Bool, true, false, cond, eqb, List, [], ◌∷◌, ◌++◌, length, Option, Some, None, refl, sym, ap, ◌∙◌, subst, inl, inr, ⊎_elim, arith, eq-eqb, ne_eqb, eqb-true, true≢false}
 use Rattle.std.specs.Prelude.{slice_get, slice_set}
 use Rattle.std.specs.List.{AllByRecursion}
 use Rattle.isa.specs.Instruction.{fixed_next, fixed_next_by, kind}
 use Rattle.isa.specs.Programs.{Program, instr_of}
 use Rattle.isa.specs.declared.op.Kind.{Kind}
-use Rattle.isa.specs.declared.op.Kind.TheVariants.{Computes, Jumps, Links, Loads, Stores}
+use Rattle.isa.specs.declared.op.Kind.TheVariants.{Jumps, Links, Stores}
 use Rattle.isa.specs.declared.op.Op.{Op}
 use Rattle.isa.specs.declared.op.Op.TheVariants.{Beq, Bne, Blez, Bgtz, Bltz, Bgez, J, Jal, Jr, Jalr}
 use Rattle.isa.specs.declared.stop.Outcome.{Outcome}
-use Rattle.inorder.specs.Steps.{retired, squashed}
-use Rattle.inorder.specs.Tenants.{Addr, Busy, Done, Fate, Live, Miss, Open, Retired, Squashed, Standing, Stopped, Tenant, instr, kind_of}
+use Rattle.inorder.specs.Steps.{squashed}
+use Rattle.inorder.specs.Tenants.{Live, Retired, Squashed, Standing, Tenant, instr, kind_of}
 use Rattle.inorder.proofs.Sound.{DoneBy}
 use Rattle.unit_laws.proofs.Alike.{AreAlike, IsAlike}
 use Rattle.unit_laws.proofs.Recovery.{gone, gone_by, mended_to}

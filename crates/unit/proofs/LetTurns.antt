@@ -1,26 +1,24 @@
 -- The turn Let is steps of the unit.
-use Rattle.std.proofs.Common.{◌≡◌, ◌≢◌, ℕ, suc, ◌+◌, ◌%◌, ◌^◌, ◌<◌, ◌≤◌, Bool, true, cond, eqb, List, [], ◌∷◌, ◌++◌, length, Option, Some, None, refl, sym, ap, ◌∙◌, subst, arith}
+use Rattle.std.proofs.Common.{◌≡◌, ℕ, ◌+◌, ◌%◌, ◌^◌, ◌<◌, ◌≤◌, cond, eqb, List, [], ◌∷◌, ◌++◌, length, Some, None, refl, sym, ap, ◌∙◌, subst, arith}
 use Rattle.std.specs.Prelude.{IfSome, slice_get, slice_set}
 use Rattle.std.specs.List.{AllByRecursion}
-use Rattle.isa.specs.Instruction.{destination, fixed_next, kind}
-use Rattle.isa.specs.Programs.{Program, instr_at, instr_of}
+use Rattle.isa.specs.Instruction.{fixed_next, kind}
+use Rattle.isa.specs.Programs.{Program, instr_of}
 use Rattle.inorder.specs.declared.history.Step.{Step}
 use Rattle.inorder.specs.declared.history.Step.TheVariants.{Let as LetStep}
 use Rattle.inorder.specs.Committed.{committed}
 use Rattle.inorder.specs.Laws.{IsNoRetire}
 use Rattle.inorder.specs.Steps.{IsNoRetiredStop, new_tenant}
-use Rattle.inorder.specs.Tenants.{Live, Retired, Tenant, is_access, is_live, is_live_access, stands_live}
-use Rattle.inorder.specs.Unit.{Sizes, UpdateUnit, front_pc, how_many, next_station}
+use Rattle.inorder.specs.Tenants.{Live, Retired, Tenant, is_access}
+use Rattle.inorder.specs.Unit.{Sizes, UpdateUnit, front_pc, next_station}
 use Rattle.inorder.proofs.Sound.{IsSound}
-use Rattle.unit_laws.specs.Moves.{IsLink, IsReached, Leads, with_tenants}
+use Rattle.unit_laws.specs.Moves.{IsLink, IsReached, with_tenants}
 use Rattle.unit_laws.specs.Still.{AreStill}
 use Rattle.unit_laws.proofs.Creators.{IsAt, found_at}
 use Rattle.unit_laws.proofs.Dispatch.{LetRun, MayEnter, let_run}
 use Rattle.unit_laws.proofs.Sequences.{all_more, all_weaker, committed_on, link_quiet, reach_on, sound_of, stands_of}
 use Rattle.unit.specs.declared.dispatch.Fetched.{Fetched}
-use Rattle.unit.specs.declared.leaver.Leaver.{Leaver}
 use Rattle.unit.specs.declared.pipeline.Pipeline.{Pipeline}
-use Rattle.unit.specs.declared.station.Station.{Station}
 use Rattle.unit.specs.Givers.{NoneGives}
 use Rattle.unit.specs.Leavers.{leaver, told_of}
 use Rattle.unit.specs.Notes.{miss_in}

@@ -11,10 +11,10 @@ use Rattle.unit.specs.Notes.{AreNoted, AreSettled, miss_in, missed_after, settle
 use Rattle.isa.specs.declared.op.Kind.{Kind}
 use Rattle.isa.specs.declared.op.Kind.TheVariants.{Computes, Jumps, Links, Loads, Stores}
 use Rattle.unit.specs.declared.execute.Operands.{Operands}
-use Rattle.unit.specs.Loads.{load_in, waits, waits_by}
-use Rattle.unit.specs.Window.{let_at, mended, miss_of, operands_in, where_open}
+use Rattle.unit.specs.Loads.{load_in, waits_by}
+use Rattle.unit.specs.Window.{miss_of, operands_in, where_open}
 use Rattle.unit.proofs.Entries.{answered_waits}
-use Rattle.unit.proofs.Scan.{Place, get_end, get_left, place_at, set_middle, take_middle}
+use Rattle.unit.proofs.Scan.{get_end, get_left, place_at, set_middle}
 
 -- What a list gives at a place where another station stands
 

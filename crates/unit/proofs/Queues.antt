@@ -1,30 +1,28 @@
 -- The queue of a window is that of its unit, but for the addresses of loads that are done.
 use Rattle.std.proofs.Common.{◌≡◌, ◌≢◌, ℕ, zero, suc, ◌+◌, ◌<◌, ◌≤◌, Bool, true, false, cond, ◌&&◌, List, [], ◌∷◌, ◌++◌, map, length, take, Option, Some, None, refl, sym, ap, ◌∙◌, subst, arith, length-append, true≢false}
-use Rattle.std.specs.Prelude.{slice_get, is_none, slice_index}
+use Rattle.std.specs.Prelude.{slice_get, is_none}
 use Rattle.std.specs.List.{AllByRecursion}
-use Rattle.isa.specs.Instruction.{kind, width}
 use Rattle.isa.specs.Programs.{Program}
 use Rattle.isa.specs.declared.op.Kind.{Kind}
 use Rattle.isa.specs.declared.op.Kind.TheVariants.{Computes, Jumps, Links, Loads, Stores}
 use Rattle.isa.specs.declared.stop.Outcome.{Outcome}
-use Rattle.isa.specs.declared.stop.Outcome.TheVariants.{Address, Next, Stop as Halt, Value}
 use Rattle.inorder.specs.Committed.{committed}
-use Rattle.inorder.specs.Loads.{access_width, address_by, content_by, entry_in, entry_of, is_store, live_accesses, queue_of, with_access}
+use Rattle.inorder.specs.Loads.{access_width, address_by, content_by, entry_in, entry_of, is_store, queue_of}
 use Rattle.inorder.specs.Steps.{IsNoRetiredStop}
-use Rattle.inorder.specs.Tenants.{Addr, Busy, Done, Fate, Live, Miss, Open, Retired, Squashed, Standing, Stopped, Tenant, computed, instr, is_access, is_live, is_live_access, kind_of, stands_live, stands_on_path}
+use Rattle.inorder.specs.Tenants.{Addr, Busy, Done, Fate, Live, Miss, Open, Retired, Squashed, Standing, Stopped, Tenant, computed, instr, is_access, kind_of, stands_live, stands_on_path}
 use Rattle.inorder.proofs.Follows.{committed_if, squashed_not}
 use Rattle.inorder.proofs.Loads.{none_live, queue_more}
 use Rattle.inorder.proofs.Sound.{IsSound}
 use Rattle.lsq.specs.declared.entry.Entry.{Entry}
 use Rattle.lsq.specs.Entries.{bytes}
-use Rattle.lsq.specs.LoadRule.{answer_over, by_lacking, by_overlap, forwarded, lacks_address, or_older, overlaps, taken_from, youngest, youngest_from, meets}
+use Rattle.lsq.specs.LoadRule.{answer_over, by_lacking, by_overlap, lacks_address, or_older, overlaps, youngest, youngest_from, meets}
 use Rattle.unit_laws.specs.Still.{AreStill}
 use Rattle.unit_laws.proofs.Left.{live_commits, retired_all}
 use Rattle.unit.specs.declared.station.Station.{Station}
 use Rattle.unit.specs.Loads.{address_of, entries, entry, entry_at, with_entry}
 use Rattle.unit.specs.Window.{reaches_memory, source_in, stage_of, station_of, window}
 use Rattle.unit.proofs.Entries.{entries_left}
-use Rattle.unit.proofs.Scan.{get_end, take_left, take_middle}
+use Rattle.unit.proofs.Scan.{get_end, take_middle}
 use Rattle.unit.proofs.Windows.{none_left, source_worth, window_if, window_live}
 
 -- Two entries that are the same, or no stores

@@ -1,15 +1,15 @@
 -- The turns Ran and Loaded are steps of the unit.
-use Rattle.std.proofs.Common.{◌≡◌, ◌≢◌, ℕ, suc, ◌+◌, ◌<◌, ◌≤◌, Bool, true, false, cond, eqb, List, [], ◌∷◌, ◌++◌, length, take, Option, Some, None, refl, sym, ap, ◌∙◌, subst, arith, append_assoc}
-use Rattle.std.specs.Prelude.{slice_get, slice_set, slice_index, unwrap_or}
+use Rattle.std.proofs.Common.{◌≡◌, ℕ, Bool, true, false, cond, eqb, List, [], ◌∷◌, ◌++◌, length, take, Option, Some, None, refl, sym, ap, ◌∙◌, subst, append_assoc}
+use Rattle.std.specs.Prelude.{slice_set, slice_index, unwrap_or}
 use Rattle.std.specs.List.{AllByRecursion}
-use Rattle.isa.specs.Instruction.{kind, width}
+use Rattle.isa.specs.Instruction.{width}
 use Rattle.isa.specs.Operations.{loaded, outcome}
 use Rattle.isa.specs.Programs.{Program}
 use Rattle.isa.specs.declared.op.Kind.{Kind}
 use Rattle.isa.specs.declared.op.Kind.TheVariants.{Computes, Jumps, Links, Loads, Stores}
 use Rattle.isa.specs.declared.stop.Outcome.{Outcome}
 use Rattle.isa.specs.declared.stop.Outcome.TheVariants.{Address, Next, Stop, Value}
-use Rattle.inorder.specs.declared.history.Act.TheVariants.{Claim, Finish, Load}
+use Rattle.inorder.specs.declared.history.Act.TheVariants.{Load}
 use Rattle.inorder.specs.declared.history.Step.{Step}
 use Rattle.inorder.specs.declared.history.Step.TheVariants.{On}
 use Rattle.inorder.specs.Committed.{committed}
@@ -17,11 +17,10 @@ use Rattle.inorder.specs.Laws.{IsNoRetire}
 use Rattle.inorder.specs.Loads.{queue_of}
 use Rattle.inorder.specs.Memory.{raw_at, load_value, raw}
 use Rattle.inorder.specs.Steps.{IsNoRetiredStop, MayClaim, MayLoad, finished as tenant_finished, settled}
-use Rattle.inorder.specs.Tenants.{Addr, Busy, Done, Fate, Live, Miss, Open, Stopped, Tenant, computed, instr, kind_of, missing_of, operand_value, stands_on_path}
+use Rattle.inorder.specs.Tenants.{Addr, Busy, Done, Fate, Live, Miss, Open, Stopped, Tenant, computed, instr, kind_of, operand_value}
 use Rattle.inorder.specs.Unit.{Sizes, UpdateUnit, older}
-use Rattle.inorder.proofs.Basics.{number_there}
 use Rattle.inorder.proofs.Loads.{answers, forward, from_memory}
-use Rattle.inorder.proofs.Sound.{FateIs, IsSound}
+use Rattle.inorder.proofs.Sound.{IsSound}
 use Rattle.lsq.specs.Bytes.{little_endian}
 use Rattle.lsq.specs.declared.answer.Answer.{Answer}
 use Rattle.lsq.specs.declared.answer.Answer.TheVariants.{Blocked, Forward, Memory}
@@ -36,8 +35,7 @@ use Rattle.unit_laws.proofs.Sequences.{all_more, all_weaker, committed_on, deliv
 use Rattle.unit.specs.declared.bench.Turn.TheVariants.{Loaded, Ran}
 use Rattle.unit.specs.declared.execute.Operands.{Operands}
 use Rattle.unit.specs.declared.pipeline.Pipeline.{Pipeline}
-use Rattle.unit.specs.declared.station.Stage.{Stage}
-use Rattle.unit.specs.declared.station.Stage.TheVariants.{Open as Opens, Addr as HasAddr, Done as IsDone, Miss as Misses, Stops}
+use Rattle.unit.specs.declared.station.Stage.TheVariants.{Done as IsDone, Miss as Misses}
 use Rattle.unit.specs.declared.station.Station.{Station}
 use Rattle.unit.specs.Givers.{NoneGives}
 use Rattle.unit.specs.Leavers.{leaver}
@@ -48,12 +46,12 @@ use Rattle.unit.specs.StandsFor.{OverIs, StandsFor, sizes}
 use Rattle.unit.specs.Turns.{Moved, Moves, NoLet}
 use Rattle.unit.specs.Window.{finished, operands_by, operands_in, source_in, stage_of, station_of, where_open, window}
 use Rattle.unit.proofs.Entries.{answered_waits}
-use Rattle.unit.proofs.Found.{Found, window_alike, window_middle}
+use Rattle.unit.proofs.Found.{window_alike, window_middle}
 use Rattle.unit.proofs.Leavers.{leaver_alike, leaver_put, told_live}
 use Rattle.unit.proofs.Noted.{given_station}
 use Rattle.unit.proofs.Queues.{answer_like, queue_like}
 use Rattle.unit.proofs.Scan.{set_middle}
-use Rattle.unit.proofs.Tests.{AreNeeded, HasSources, NoneIs, all_blocked, has_sources, needed_are, no_claim, no_let, no_miss}
+use Rattle.unit.proofs.Tests.{AreNeeded, HasSources, all_blocked, has_sources, needed_are, no_claim, no_let, no_miss}
 use Rattle.unit.proofs.Turns.{FoundIn, found_in, none_in, oldest_is, stand_on}
 
 -- A tenant that is open, and its operands

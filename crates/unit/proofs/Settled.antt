@@ -1,5 +1,5 @@
 -- What a settled station does not give.
-use Rattle.std.proofs.Common.{◌≡◌, ℕ, Bool, true, false, List, take, Option, Some, None, refl, sym, ap, ◌∙◌, true≢false}
+use Rattle.std.proofs.Common.{◌≡◌, ℕ, true, false, List, Option, Some, None, refl, sym, true≢false}
 use Rattle.std.specs.Prelude.{slice_get, is_some}
 use Rattle.isa.specs.Instruction.{kind}
 use Rattle.isa.specs.declared.op.Kind.{Kind}

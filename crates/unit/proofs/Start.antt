@@ -1,8 +1,6 @@
 -- Which fields some unit stands behind.
 use Rattle.std.proofs.Common.{◌≡◌, ℕ, ◌-◌, ◌<◌, ◌≤◌, zero, suc, Bool, false, List, [], ◌∷◌, length, drop, Option, Some, None, refl, sym, ap, ◌∙◌, subst, arith, true≢false}
 use Rattle.std.specs.Prelude.{slice_get, slice_set, replicate}
-use Rattle.isa.specs.Programs.{Program}
-use Rattle.isa.specs.declared.stop.Stop.{Stop}
 use Rattle.inorder.specs.Machine.{start}
 use Rattle.unit_laws.specs.Moves.{IsReached}
 use Rattle.unit.specs.declared.bench.Turn.{Turn}
@@ -13,7 +11,7 @@ use Rattle.unit.specs.declared.station.Stage.TheVariants.{Open, Addr, Done, Miss
 use Rattle.unit.specs.declared.station.Station.{Station}
 use Rattle.unit.specs.Leaves.{LeavesTo, RetiresTo}
 use Rattle.unit.specs.Notes.{AreNoted}
-use Rattle.unit.specs.StandsFor.{IsUnit, OverIs, StandsFor, sizes}
+use Rattle.unit.specs.StandsFor.{IsUnit, OverIs, sizes}
 use Rattle.unit.specs.Turns.{IsSame, Moves}
 use Rattle.unit.proofs.Noted.{noted_drop}
 

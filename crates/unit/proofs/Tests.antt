@@ -1,17 +1,16 @@
 -- What the tests on the stations say of the tenants.
-use Rattle.std.proofs.Common.{◌≡◌, ◌≢◌, ℕ, zero, suc, ◌+◌, ◌<◌, ◌≤◌, Bool, true, false, ◌&&◌, List, [], ◌∷◌, ◌++◌, length, take, Option, Some, None, refl, sym, ap, ◌∙◌, subst, arith, append_assoc, length-append}
+use Rattle.std.proofs.Common.{◌≡◌, ◌≢◌, ℕ, ◌<◌, ◌≤◌, false, List, [], ◌∷◌, ◌++◌, length, Option, Some, None, refl, sym, ap, ◌∙◌, subst, arith, append_assoc, length-append}
 use Rattle.std.specs.Prelude.{slice_get, unwrap_or}
 use Rattle.std.specs.List.{AllByRecursion}
 use Rattle.isa.specs.Instruction.{kind, width}
-use Rattle.isa.specs.Programs.{Program, address, instr_at, instr_of}
+use Rattle.isa.specs.Programs.{Program, instr_at, instr_of}
 use Rattle.isa.specs.declared.op.Kind.{Kind}
 use Rattle.isa.specs.declared.op.Kind.TheVariants.{Computes, Jumps, Links, Loads, Stores}
 use Rattle.isa.specs.declared.op.Op.{Op}
-use Rattle.inorder.specs.declared.history.Source.{Source}
 use Rattle.inorder.specs.declared.history.Source.TheVariants.{First, Second}
 use Rattle.inorder.specs.Committed.{committed}
 use Rattle.inorder.specs.Loads.{queue_of}
-use Rattle.inorder.specs.Steps.{IsNoRetiredStop, MayClaim, MayLet}
+use Rattle.inorder.specs.Steps.{IsNoRetiredStop, MayClaim}
 use Rattle.inorder.specs.Tenants.{Addr, Busy, Done, Fate, Live, Miss, Open, Retired, Squashed, Standing, Stopped, Tenant, instr, kind_of, missing_of, stands_live, stands_on_path}
 use Rattle.inorder.specs.Unit.{Sizes, UpdateUnit, creator, value_of}
 use Rattle.inorder.proofs.Basics.{fetched_at}
@@ -19,12 +18,11 @@ use Rattle.inorder.proofs.Sound.{IsInPlace, IsSound}
 use Rattle.lsq.specs.declared.answer.Answer.{Answer}
 use Rattle.lsq.specs.declared.answer.Answer.TheVariants.{Blocked, Forward, Memory}
 use Rattle.lsq.specs.LoadRule.{answer_over}
-use Rattle.unit_laws.specs.Still.{AreStill, IsNotBusy, IsStill}
+use Rattle.unit_laws.specs.Still.{AreStill}
 use Rattle.unit_laws.proofs.Left.{committed_middle}
 use Rattle.unit_laws.proofs.Middle.{sound_from}
 use Rattle.unit.specs.declared.execute.Operands.{Operands}
 use Rattle.unit.specs.declared.station.Station.{Station}
-use Rattle.unit.specs.declared.station.Stage.{Stage}
 use Rattle.unit.specs.Blocked.{AreBlocked, IsBlocked}
 use Rattle.unit.specs.Givers.{NoneGives, given_at, gives}
 use Rattle.unit.specs.Loads.{entries, load_by, load_in, value_by, waits_by}

@@ -1,32 +1,29 @@
 -- The turn Recovered is steps of the unit.
-use Rattle.std.proofs.Common.{◌≡◌, ◌≢◌, ℕ, suc, ◌+◌, ◌<◌, ◌≤◌, Bool, List, [], ◌∷◌, ◌++◌, length, take, Option, Some, None, refl, sym, ap, ◌∙◌, subst, arith}
-use Rattle.std.specs.Prelude.{slice_get, slice_set}
+use Rattle.std.proofs.Common.{◌≡◌, ℕ, ◌<◌, Bool, List, [], ◌∷◌, ◌++◌, length, take, Option, Some, None, sym, ap, ◌∙◌, subst}
+use Rattle.std.specs.Prelude.{slice_get}
 use Rattle.std.specs.List.{AllByRecursion}
 use Rattle.isa.specs.Programs.{Program}
 use Rattle.inorder.specs.declared.history.Act.TheVariants.{Mend}
-use Rattle.inorder.specs.declared.history.Step.{Step}
 use Rattle.inorder.specs.declared.history.Step.TheVariants.{On}
 use Rattle.inorder.specs.Committed.{committed}
 use Rattle.inorder.specs.Laws.{IsNoRetire}
 use Rattle.inorder.specs.Steps.{IsNoRetiredStop}
-use Rattle.inorder.specs.Tenants.{Addr, Busy, Done, Fate, Live, Miss, Open, Stopped, Tenant}
+use Rattle.inorder.specs.Tenants.{Addr, Busy, Done, Fate, Miss, Open, Stopped, Tenant}
 use Rattle.inorder.specs.Unit.{Sizes, UpdateUnit}
-use Rattle.inorder.proofs.Sound.{IsSound}
-use Rattle.unit_laws.specs.Moves.{IsReached, IsSquash, Leads, with_tenants}
+use Rattle.unit_laws.specs.Moves.{IsSquash, Leads, with_tenants}
 use Rattle.unit_laws.specs.Still.{AreStill}
 use Rattle.unit_laws.proofs.Recovery.{RecoverRun, gone, mended_to, recover_run}
 use Rattle.unit_laws.proofs.Sequences.{all_weaker, committed_on, reach_on, sound_of, squash_quiet}
 use Rattle.unit.specs.declared.bench.Turn.{Turn}
-use Rattle.unit.specs.declared.bench.Turn.TheVariants.{Let, Loaded, Over, Ran, Recovered, Retired}
+use Rattle.unit.specs.declared.bench.Turn.TheVariants.{Recovered}
 use Rattle.unit.specs.declared.pipeline.Pipeline.{Pipeline}
-use Rattle.unit.specs.declared.station.Stage.{Stage}
 use Rattle.unit.specs.declared.station.Station.{Station}
 use Rattle.unit.specs.Givers.{NoneGives, gives}
 use Rattle.unit.specs.Leavers.{leaver}
 use Rattle.unit.specs.Notes.{miss_in}
 use Rattle.unit.specs.Stages.{RecoversTo}
 use Rattle.unit.specs.StandsFor.{OverIs, StandsFor, sizes}
-use Rattle.unit.specs.Turns.{IsNoMiss, Moved, Moves}
+use Rattle.unit.specs.Turns.{Moved, Moves}
 use Rattle.unit.specs.Window.{mended, miss_of, stage_of, station_of, window}
 use Rattle.unit.proofs.Found.{Found, found, window_gone, window_middle}
 use Rattle.unit.proofs.Leavers.{leaver_recover}

@@ -2,14 +2,13 @@
 use Rattle.std.specs.Prelude.{◌≡◌, ◌≤◌, ◌+◌, ◌-◌, ◌%◌, ℕ, suc, List, [], drop, Option, Some, None, unwrap_or, slice_set}
 use Rattle.isa.specs.Instruction.{width}
 use Rattle.isa.specs.declared.instr.Instr.{Instr}
-use Rattle.isa.specs.declared.stop.Stop.{Stop}
 use Rattle.isa.specs.declared.stop.Stop.TheVariants.{BadPc}
 use Rattle.inorder.specs.Machine.{State, store_bytes, write}
 use Rattle.unit.specs.declared.bench.Turn.{Turn}
 use Rattle.unit.specs.declared.bench.Turn.TheVariants.{Over, Retired}
 use Rattle.unit.specs.declared.pipeline.Pipeline.{Pipeline}
 use Rattle.unit.specs.declared.station.Stage.{Stage}
-use Rattle.unit.specs.declared.station.Stage.TheVariants.{Open, Addr, Done, Miss, Stops}
+use Rattle.unit.specs.declared.station.Stage.TheVariants.{Addr, Done, Stops}
 use Rattle.unit.specs.declared.station.Station.{Station}
 use Rattle.unit.specs.Leavers.{leaver_of}
 use Rattle.unit.specs.Window.{source_in}

@@ -1,5 +1,5 @@
 -- Loads over the live memory instructions before them.
-use Rattle.std.specs.Prelude.{◌≡◌, ◌<◌, ◌≤◌, is_some, ℕ, zero, suc, ◌+◌, Bool, true, false, List, [], ◌∷◌, ◌++◌, length, take, Option, Some, None, if◌then◌else◌, slice_index, slice_get}
+use Rattle.std.specs.Prelude.{◌≡◌, ◌<◌, ◌≤◌, is_some, ℕ, zero, suc, ◌+◌, Bool, false, List, [], ◌∷◌, ◌++◌, length, take, Option, Some, None, if◌then◌else◌, slice_index, slice_get}
 use Rattle.isa.specs.Instruction.{kind, width}
 use Rattle.isa.specs.Operations.{loaded}
 use Rattle.isa.specs.declared.op.Kind.{Kind}

@@ -1,5 +1,5 @@
 -- What a turn is: the first of these that is possible, as steps of the unit.
-use Rattle.std.specs.Prelude.{◌≡◌, ◌≢◌, ◌⊎◌, ℕ, zero, suc, ◌+◌, ◌*◌, ◌^◌, ◌<◌, ◌≤◌, List, [], ◌∷◌, ◌++◌, length, Option, Some, None}
+use Rattle.std.specs.Prelude.{◌≡◌, ◌≢◌, ℕ, zero, suc, ◌+◌, ◌*◌, ◌^◌, ◌<◌, List, [], ◌∷◌, ◌++◌, length, Option, None}
 use Rattle.std.specs.List.{AllByRecursion}
 use Rattle.isa.specs.Instruction.{fixed_next}
 use Rattle.isa.specs.Programs.{Program, instr_at, instr_of}
@@ -23,7 +23,7 @@ use Rattle.unit.specs.declared.station.Station.{Station}
 use Rattle.unit.specs.declared.leaver.Leaver.{Leaver}
 use Rattle.unit.specs.Leavers.{IsAsked, IsTold, leaver}
 use Rattle.unit.specs.Blocked.{AreBlocked}
-use Rattle.unit.specs.StandsFor.{HasStopped, IsUnit, StandsFor, sizes}
+use Rattle.unit.specs.StandsFor.{HasStopped, StandsFor, sizes}
 use Rattle.unit_laws.specs.Moves.{IsDeliver, IsLink, IsReached, IsSquash, Leads}
 use Rattle.unit_laws.specs.Still.{AreStill}
 

@@ -1,4 +1,4 @@
-use Rattle.std.proofs.Common.{◌≡◌, ◌<◌, ◌≤◌, ℕ, None}
+use Rattle.std.proofs.Common.{◌≡◌, ◌<◌, ℕ, None}
 use Rattle.unit.specs.Givers.{gives}
 use Rattle.unit.specs.Window.{operands_in}
 use Rattle.unit.proofs.execute.oldest_ready.Given as goal

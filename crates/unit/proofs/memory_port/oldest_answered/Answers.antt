@@ -1,4 +1,4 @@
-use Rattle.std.proofs.Common.{◌≡◌, ◌<◌, length, sym, ap, arith}
+use Rattle.std.proofs.Common.{length, ap, arith}
 use Rattle.unit.proofs.Entries.{entries_length}
 use Rattle.unit.proofs.memory_port.oldest_answered.Goals as goal
 

@@ -1,4 +1,4 @@
-use Rattle.std.proofs.Common.{◌≡◌, ◌<◌, ◌≤◌, ℕ, None, length}
+use Rattle.std.proofs.Common.{◌≡◌, ◌<◌, ℕ, None}
 use Rattle.unit.specs.Givers.{gives}
 use Rattle.unit.specs.Loads.{entries, load_in}
 use Rattle.unit.proofs.memory_port.oldest_answered.Given as goal

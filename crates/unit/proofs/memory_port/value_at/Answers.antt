@@ -1,4 +1,4 @@
-use Rattle.std.proofs.Common.{◌≡◌, ◌-◌, length, sym, ap, ◌∙◌, subst}
+use Rattle.std.proofs.Common.{◌-◌, sym, ap, ◌∙◌}
 use Rattle.lsq.specs.LoadRule.{answer}
 use Rattle.unit.specs.Loads.{value_by}
 use Rattle.unit.proofs.Entries.{asked_right}

@@ -1,4 +1,4 @@
-use Rattle.std.proofs.Common.{◌≡◌, ◌<◌, ◌≤◌, ℕ, None}
+use Rattle.std.proofs.Common.{◌≡◌, ◌<◌, ℕ, None}
 use Rattle.unit.specs.Givers.{gives}
 use Rattle.unit.specs.Notes.{miss_in}
 use Rattle.unit.proofs.recovery.oldest_miss.Given as goal

@@ -1,4 +1,4 @@
-use Rattle.std.proofs.Common.{◌≡◌, ◌≢◌, ◌≤◌, ◌-◌, Some, sym, ap, ◌∙◌, arith}
+use Rattle.std.proofs.Common.{◌≢◌, Some, sym, ◌∙◌, arith}
 use Rattle.std.specs.Prelude.{slice_index}
 use Rattle.unit.proofs.Sources.{source_found, source_nowhere, source_passed}
 use Rattle.unit.proofs.source.source.Goals as goal

@@ -1,5 +1,5 @@
 -- A run goes on as the in-order machine does.
-use Rattle.std.proofs.Common.{◌≡◌, ◌<◌, ◌≤◌, ◌-◌, refl, sym, ap, ◌∙◌, subst, arith}
+use Rattle.std.proofs.Common.{◌<◌, ◌-◌, ap, ◌∙◌, subst, arith}
 use Rattle.inorder.specs.Runs.{end_from}
 use Rattle.unit.specs.StandsFor.{IsUnit}
 use Rattle.unit.proofs.BenchTurns.{moves_of}

@@ -1,6 +1,5 @@
 use Rattle.std.proofs.Common.{◌≡◌, ◌-◌}
 use Rattle.inorder.specs.Runs.{end_from}
-use Rattle.unit.specs.Turns.{IsSame}
 use Rattle.unit.proofs.Ends.{left}
 use Rattle.unit.proofs.bench.Bench.run_to.Given as goal
 

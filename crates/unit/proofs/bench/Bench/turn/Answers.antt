@@ -1,10 +1,10 @@
 -- Each return of a turn.
-use Rattle.std.proofs.Common.{◌≡◌, ◌<◌, ◌≤◌, ◌^◌, Some, None, refl, sym, ap, ◌∙◌, subst}
+use Rattle.std.proofs.Common.{◌≡◌, None, refl, sym, subst}
 use Rattle.unit.specs.Givers.{NoneGives}
 use Rattle.unit.specs.Notes.{miss_in}
 use Rattle.unit.specs.Stages.{CanLet, NextIs}
 use Rattle.unit.specs.StandsFor.{IsUnit}
-use Rattle.unit.specs.Turns.{Core, Falls, IsTurn}
+use Rattle.unit.specs.Turns.{Falls, IsTurn}
 use Rattle.unit.specs.declared.bench.Turn.TheVariants.{Let, Recovered}
 use Rattle.unit.proofs.BenchTurns.{core, guess_fixed, let_core, let_shows, plain_turn, recovered_shows}
 use Rattle.unit.proofs.EndTurns.{window_room}

@@ -1,4 +1,4 @@
-use Rattle.std.proofs.Common.{◌≡◌, Some, refl, sym, ap, ◌∙◌, subst}
+use Rattle.std.proofs.Common.{refl, sym, ◌∙◌, subst}
 use Rattle.unit.specs.Notes.{AreNoted}
 use Rattle.unit.specs.Stages.{FirstAnswered}
 use Rattle.unit.proofs.Noted.{noted_loaded}

@@ -1,5 +1,5 @@
 -- Each answer of a turn that asks no predictor.
-use Rattle.std.proofs.Common.{◌≡◌, sym, subst}
+use Rattle.std.proofs.Common.{sym, subst}
 use Rattle.unit.specs.Givers.{NoneGives}
 use Rattle.unit.specs.Loads.{load_in}
 use Rattle.unit.proofs.EndTurns.{are_inside}

@@ -1,4 +1,4 @@
-use Rattle.std.proofs.Common.{refl, sym, ap, ◌∙◌, ◌≤◌, ◌<◌, arith}
+use Rattle.std.proofs.Common.{refl, arith}
 use Rattle.unit.proofs.Start.{start_unit}
 use Rattle.unit.proofs.pipeline.Pipeline.new.Goals as goal
 

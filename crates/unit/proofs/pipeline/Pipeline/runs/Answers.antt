@@ -1,5 +1,4 @@
-use Rattle.std.proofs.Common.{◌≡◌, Some, refl, sym, ap, ◌∙◌, subst}
-use Rattle.std.specs.Prelude.{slice_set}
+use Rattle.std.proofs.Common.{sym, ◌∙◌, subst}
 use Rattle.unit.specs.Notes.{AreNoted}
 use Rattle.unit.specs.Stages.{FirstReady}
 use Rattle.unit.proofs.Noted.{noted_ran}
