@@ -1,6 +1,6 @@
 -- What the building of the command line comes to.
-use Rattle.std.proofs.Common.{◌≡◌, ◌∙◌, ap₂, true, false, ◌||◌, refl}
-use Rattle.clap.specs.Words.{AddsArg, AddsSubcommand, App, Rule, is_simple, shape_of, with_rule, with_subcommand}
+use Rattle.std.proofs.Common.{◌≡◌, ◌∙◌, ap₂, true, ◌||◌, refl}
+use Rattle.clap.specs.Words.{AddsArg, App, Rule, is_simple, with_rule}
 use Rattle.clap.specs.Faults.{is_simple_and_free}
 use Rattle.clap.proofs.OnLiterals.{clap_on_literals}
 use Rattle.clap.specs.declared.builder.arg.Arg.{Arg}

@@ -1,5 +1,6 @@
 -- What a command line asks for, and why it is refused.
-use Rattle.std.specs.Prelude.{◌≡◌, ◌≢◌, ◌^◌, ◌-◌, ℕ, ⊤, false, List, [], Some, codes}
+use Rattle.std.specs.Prelude.{◌≡◌, ◌≢◌, ◌^◌, ◌-◌, ℕ, ⊤, false}
+use Rattle.std.specs.Prelude.{List, [], Some, codes}
 use Rattle.clap.specs.Words.{Row, Text, first_of, subcommand_of, fault_of}
 use Rattle.clap.specs.Kinds.{IsAmong}
 use Rattle.clap.specs.declared.error.kind.ErrorKind.{ErrorKind}
@@ -11,6 +12,10 @@ use Rattle.command.specs.declared.no_run.NoRun.TheVariants as no
 use Rattle.command.specs.Tool.{tool}
 use Rattle.command.specs.Values.{IsNumber, IsNumberFrom, IsQueueCut, IsPredictor, is_true}
 
+-- the greatest limit and number of turns
+abbrev pub greatest : ℕ
+greatest = 2 ^ 32 - 1
+
 -- file, values and flag are those that the rows hold, or the defaults, each in its range
 pub record IsAskedBy (rows : List Row) (asked : Asked) : Type 0 where
   pub file : first_of (codes "FILE") rows ≡ Some asked.file.now
@@ -18,8 +23,8 @@ pub record IsAskedBy (rows : List Row) (asked : Asked) : Type 0 where
   pub queue : IsQueueCut (first_of (codes "lsq-size") rows) asked.config.ring asked.config.queue
   pub units : IsNumberFrom 1 64 2 (first_of (codes "units") rows) asked.config.units
   pub predictor : IsPredictor (first_of (codes "bpred") rows) asked.predictor
-  pub turns : IsNumberFrom 1 (2 ^ 32 - 1) (2 ^ 32 - 1) (first_of (codes "turns") rows) asked.config.turns
-  pub limit : IsNumberFrom 0 (2 ^ 32 - 1) 1000000 (first_of (codes "limit") rows) asked.config.limit
+  pub turns : IsNumberFrom 1 greatest greatest (first_of (codes "turns") rows) asked.config.turns
+  pub limit : IsNumberFrom 0 greatest 1000000 (first_of (codes "limit") rows) asked.config.limit
   pub alone : asked.alone ≡ is_true (first_of (codes "alone") rows)
   pub one_place : asked.config.places ≡ 1
   pub first_tag : asked.config.first_tag ≡ 1

@@ -1,10 +1,21 @@
 -- What the text of an option stands for.
-use Rattle.std.specs.Prelude.{◌≡◌, ◌≤◌, ◌^◌, ◌-◌, ℕ, Bool, true, false, Option, Some, None, codes, min}
+use Rattle.std.specs.Prelude.{◌≡◌, ◌≤◌, ℕ, Bool, false, Option, Some, None, codes, min}
+use Rattle.std.specs.Prelude.{option_map}
+use Rattle.std.specs.Borrow.{Bor}
 use Rattle.std.specs.Str.Parse.{IsNumeral, digits_value, without_leading_plus}
 use Rattle.std.specs.Str.{bytes_eq}
-use Rattle.clap.specs.Words.{Text}
+use Rattle.clap.specs.Words.{Text, first_of, found_of, rows_of}
+use Rattle.clap.specs.declared.parser.matches.ArgMatches.{ArgMatches}
 use Rattle.command.specs.declared.request.BranchPredictor.{BranchPredictor}
 use Rattle.command.specs.declared.request.BranchPredictor.TheVariants.{NotTaken, Taken, Bimod}
+
+-- the text behind a reference
+abbrev pub text_of : Option (Bor Text) → Option Text
+text_of = option_map (λ text. text.now)
+
+-- the first value that the matches have for an id
+abbrev pub value_in : ArgMatches → Text → Option Text
+value_in matches id = first_of id (rows_of (found_of matches))
 
 -- n is what the text's decimal digits write, and the default without a text
 abbrev pub IsNumber : ℕ → Option Text → ℕ → Type 0
@@ -17,6 +28,10 @@ pub record IsNumberFrom (least most default : ℕ) (text : Option Text) (n : ℕ
   pub reads : IsNumber default text n
   pub above : least ≤ n
   pub below : n ≤ most
+
+-- the text stands for no number in the range
+abbrev pub IsNoNumberFrom : (least most default : ℕ) → Option Text → Type 0
+IsNoNumberFrom least most default text = (n : ℕ) → ¬ (IsNumberFrom least most default text n)
 
 -- the queue size of the text, cut to the ring size
 pub record IsQueueCut (text : Option Text) (ring queue : ℕ) : Type 0 where
@@ -34,6 +49,10 @@ word_of Bimod = codes "bimod"
 abbrev pub IsPredictor : Option Text → BranchPredictor → Type 0
 IsPredictor None predictor = predictor ≡ Bimod
 IsPredictor (Some text) predictor = text ≡ word_of predictor
+
+-- the text is no predictor's word
+abbrev pub IsNoPredictor : Option Text → Type 0
+IsNoPredictor text = (predictor : BranchPredictor) → ¬ (IsPredictor text predictor)
 
 -- the flag was given
 abbrev pub is_true : Option Text → Bool

@@ -1,7 +1,7 @@
 //! The entries of the matches, each read as what it stands for.
-ghost use Rattle.std.specs.Prelude.{◌≡◌, ℕ, IfOk, IfErr, Some, None, codes};
-ghost use Rattle.clap.specs.Words.{first_of, found_of, rows_of};
-ghost use Rattle.command.specs.Values.{IsNumberFrom, IsPredictor};
+ghost use Rattle.std.specs.Prelude.{◌≡◌, IfOk, IfErr, Some, None, codes};
+ghost use Rattle.command.specs.Values.{IsNumberFrom, IsNoNumberFrom, IsPredictor, IsNoPredictor};
+ghost use Rattle.command.specs.Values.{value_in};
 ghost use Rattle.command.specs.Request.{IsUsage};
 
 use crate::refusals::{bad_number, usage};
@@ -10,10 +10,11 @@ use crate::{BranchPredictor, NoRun};
 use clap::ArgMatches;
 use std::alloc::Global;
 
+/// The file of the listing.
 pub(crate) fn file<'a>(alloc: Global, matches: &ArgMatches<'a>) -> Result<&'a str, NoRun>
-    ensures ok { IfOk result (λ file. first_of (codes "FILE") (rows_of (found_of matches.now)) ≡ Some file.now) }
+    ensures ok { IfOk result (λ file. value_in matches.now (codes "FILE") ≡ Some file.now) }
     ensures usage { IfErr result IsUsage }
-    ensures err { IfErr result (λ _. first_of (codes "FILE") (rows_of (found_of matches.now)) ≡ None) }
+    ensures err { IfErr result (λ _. value_in matches.now (codes "FILE") ≡ None) }
 {
     let text = matches.get_str("FILE");
     match text {
@@ -22,6 +23,7 @@ pub(crate) fn file<'a>(alloc: Global, matches: &ArgMatches<'a>) -> Result<&'a st
     }
 }
 
+/// The number of an option, if it is in its range.
 pub(crate) fn number<'a>(
     alloc: Global,
     matches: &ArgMatches<'a>,
@@ -30,9 +32,11 @@ pub(crate) fn number<'a>(
     most: u64,
     default: u64,
 ) -> Result<u64, NoRun>
-    ensures ok { IfOk result (IsNumberFrom least most default (first_of name.now (rows_of (found_of matches.now)))) }
+    ensures ok { IfOk result (IsNumberFrom least most default
+        (value_in matches.now name.now)) }
     ensures usage { IfErr result IsUsage }
-    ensures err { IfErr result (λ _. (n : ℕ) → ¬ (IsNumberFrom least most default (first_of name.now (rows_of (found_of matches.now))) n)) }
+    ensures err { IfErr result (λ _. IsNoNumberFrom least most default
+        (value_in matches.now name.now)) }
 {
     let text = matches.get_str(name);
     match number_in(text, least, most, default) {
@@ -41,13 +45,14 @@ pub(crate) fn number<'a>(
     }
 }
 
+/// The predictor of `--bpred`.
 pub(crate) fn predictor<'a>(
     alloc: Global,
     matches: &ArgMatches<'a>,
 ) -> Result<BranchPredictor, NoRun>
-    ensures ok { IfOk result (IsPredictor (first_of (codes "bpred") (rows_of (found_of matches.now)))) }
+    ensures ok { IfOk result (IsPredictor (value_in matches.now (codes "bpred"))) }
     ensures usage { IfErr result IsUsage }
-    ensures err { IfErr result (λ _. (p : BranchPredictor) → ¬ (IsPredictor (first_of (codes "bpred") (rows_of (found_of matches.now))) p)) }
+    ensures err { IfErr result (λ _. IsNoPredictor (value_in matches.now (codes "bpred"))) }
 {
     let text = matches.get_str("bpred");
     match predictor_in(text) {

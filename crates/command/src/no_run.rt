@@ -5,7 +5,8 @@ ghost use Rattle.command.specs.Statuses.{status_of};
 use std::alloc::{AllocError, AllocFailed};
 use std::fmt;
 
-/// Why a command line gives no run. Its `Display` is the text to print, without a line feed at its end.
+/// Why a command line gives no run. Its `Display` is the text to print. `Ring` and `Memory` have
+/// no line feed at the end of theirs.
 #[derive(Drop)]
 pub enum NoRun {
     /// Help was asked for; this is its text.

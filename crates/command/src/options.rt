@@ -1,7 +1,8 @@
 //! The command line, as `clap` reads it and as its help shows it.
 ghost use Rattle.std.specs.Prelude.{◌≡◌, IfOk};
 ghost use Rattle.clap.specs.Words.{app_of};
-ghost use Rattle.command.specs.Tool.{IsArg, IsCommand, tool, run, file_rule, option_rule, flag_rule};
+ghost use Rattle.command.specs.Tool.{IsArg, IsCommand, tool, run};
+ghost use Rattle.command.specs.Tool.{file_rule, option_rule, flag_rule};
 
 use clap::{Arg, ArgAction, Command};
 use std::alloc::{AllocError, Global};

@@ -13,8 +13,8 @@ use isa::Config;
 use std::alloc::Global;
 use std::convert::AsStr;
 
-/// What the words ask for, of which the first is the program's name. Where it refuses them, `NoRun` has what to
-/// print and `status` the exit status.
+/// What the words ask for, of which the first is the program's name. Where they are refused,
+/// `NoRun` has what to print, and `status` gives the exit status.
 pub fn asked<'a, S: AsStr>(alloc: Global, words: &'a [S]) -> Result<Asked<'a>, NoRun>
     ensures ok { IfOk result (IsAskedIn (map S.text words.entry.now)) }
     ensures err { IfErr result (IsRefusedIn (map S.text words.entry.now)) }
@@ -29,8 +29,8 @@ pub fn asked<'a, S: AsStr>(alloc: Global, words: &'a [S]) -> Result<Asked<'a>, N
     }
 }
 
-// What the matches hold, and the defaults where they hold nothing. The ring size is looked at last, since a
-// mistake elsewhere comes before it.
+// What the matches hold, and the defaults where they hold nothing. The ring size is looked at
+// last, since a mistake elsewhere comes before it.
 fn read<'a>(alloc: Global, matches: &ArgMatches<'a>) -> Result<Asked<'a>, NoRun>
     ensures ok { IfOk result (IsAskedBy (rows_of (found_of matches.now))) }
     ensures err { IfErr result (IsRefusedBy (rows_of (found_of matches.now))) }

@@ -4,15 +4,19 @@ use std::alloc::Global;
 
 /// Ring, queue, units, turns and limit.
 fn sizes(alloc: Global, words: &[&str]) -> Option<[u32; 5]> {
-    let asked = asked(alloc, words).ok()?;
-    let config = asked.config;
-    Some([
-        config.ring(),
-        config.queue(),
-        config.units(),
-        config.turns(),
-        config.limit(),
-    ])
+    match asked(alloc, words) {
+        Ok(asked) => {
+            let config = asked.config;
+            Some([
+                config.ring(),
+                config.queue(),
+                config.units(),
+                config.turns(),
+                config.limit(),
+            ])
+        },
+        Err(_no_run) => None,
+    }
 }
 
 fn is_usage(no_run: &NoRun) -> bool {
@@ -24,16 +28,17 @@ const DEFAULTS: [u32; 5] = [16, 8, 2, 4_294_967_295, 1_000_000];
 #[test]
 fn has_defaults(rt: HostRuntime) {
     let words = ["ruu", "run", "sum.s"];
-    let asked = asked(rt.alloc(), words.as_slice());
-    assert!(rt; asked.is_ok());
-    if let Ok(asked) = asked {
-        assert_eq!(rt; asked.file, "sum.s");
-        assert!(rt; asked.predictor == BranchPredictor::Bimod);
-        assert!(rt; !asked.alone);
-        assert_eq!(rt; asked.config.places(), 1);
-        assert_eq!(rt; asked.config.first_tag(), 1);
-    }
     assert_eq!(rt; sizes(rt.alloc(), words.as_slice()), Some(DEFAULTS));
+    match asked(rt.alloc(), words.as_slice()) {
+        Ok(asked) => {
+            assert_eq!(rt; asked.file, "sum.s");
+            assert!(rt; asked.predictor == BranchPredictor::Bimod);
+            assert!(rt; !asked.alone);
+            assert_eq!(rt; asked.config.places(), 1);
+            assert_eq!(rt; asked.config.first_tag(), 1);
+        },
+        Err(_no_run) => assert!(rt; false),
+    }
 }
 
 #[test]
@@ -90,12 +95,13 @@ fn takes_a_predictor_and_a_flag(rt: HostRuntime) {
     ];
     for (word, wanted) in cases {
         let words = ["ruu", "run", "--alone", "--bpred", word, "--", "-x.s"];
-        let asked = asked(rt.alloc(), words.as_slice());
-        assert!(rt; asked.is_ok(), "{word}");
-        if let Ok(asked) = asked {
-            assert!(rt; asked.predictor == wanted, "{word}");
-            assert!(rt; asked.alone);
-            assert_eq!(rt; asked.file, "-x.s");
+        match asked(rt.alloc(), words.as_slice()) {
+            Ok(asked) => {
+                assert!(rt; asked.predictor == wanted, "{word}");
+                assert!(rt; asked.alone);
+                assert_eq!(rt; asked.file, "-x.s");
+            },
+            Err(_no_run) => assert!(rt; false, "{word}"),
         }
     }
 }

@@ -33,17 +33,22 @@ abbrev pub Takes : {R : Type 0} → (R → Option (List ℕ)) → (old new : Cou
 Takes remaining old new bytes = Consumes (known_by remaining old) (known_by remaining new) bytes
 
 -- the reader lost a beginning of its known bytes, of no more than most
-abbrev pub TakesUpTo : {R : Type 0} → (most : ℕ) → (R → Option (List ℕ)) → (old new : Counted R) → Type 0
-TakesUpTo most remaining old new = (bytes : List ℕ) × (length bytes ≤ most) × Takes remaining old new bytes
+abbrev pub TakesUpTo : {R : Type 0} → (most : ℕ) → (R → Option (List ℕ)) → (old new : Counted R)
+    → Type 0
+TakesUpTo most remaining old new =
+    (bytes : List ℕ) × (length bytes ≤ most) × Takes remaining old new bytes
 
 -- what stands behind before in after is what the reader lost
-abbrev pub TakesOnto : {R : Type 0} → (R → Option (List ℕ)) → (old new : Counted R) → (before after : List ℕ) → Type 0
-TakesOnto remaining old new before after = (bytes : List ℕ) × Takes remaining old new bytes × (after ≡ before ++ bytes)
+abbrev pub TakesOnto : {R : Type 0} → (R → Option (List ℕ)) → (old new : Counted R)
+    → (before after : List ℕ) → Type 0
+TakesOnto remaining old new before after =
+    (bytes : List ℕ) × Takes remaining old new bytes × (after ≡ before ++ bytes)
 
 -- the writer's known bytes stay, and these stand behind them
 abbrev pub Gives : {W : Type 0} → (W → Option (List ℕ)) → (old new : Counted W) → List ℕ → Type 0
 Gives contents old new text = Appends (known_by contents old) (known_by contents new) text
 
 -- the writer got a proper beginning of the text
-abbrev pub GivesPart : {W : Type 0} → (W → Option (List ℕ)) → (old new : Counted W) → List ℕ → Type 0
+abbrev pub GivesPart : {W : Type 0} → (W → Option (List ℕ)) → (old new : Counted W)
+    → List ℕ → Type 0
 GivesPart contents old new text = (n : ℕ) × (n < length text) × Gives contents old new (take n text)

@@ -11,32 +11,39 @@ use Rattle.inorder.specs.declared.history.Step.TheVariants.{Let, On}
 use Rattle.inorder.specs.Committed.{commits, commits_by, committed, with_tenant}
 use Rattle.inorder.specs.Laws.{HistoryGrows, IsNoRetire, OnlyRetirementsCommit}
 use Rattle.inorder.specs.Legal.{Allowed, AreAllowed, May, Taken, applied, changed, reached}
-use Rattle.inorder.specs.Machine.{State}
+use Rattle.inorder.specs.Machine.{State, step}
 use Rattle.inorder.specs.Runs.{after}
 use Rattle.inorder.specs.Steps.{finished, mended_as, retired}
 use Rattle.inorder.specs.Tenants.{Addr, Busy, Done, Fate, Live, Miss, Open, Stopped, Tenant, computed, stands_on_path}
 use Rattle.inorder.specs.Unit.{Sizes, UpdateUnit, at, older, younger}
 use Rattle.inorder.proofs.Basics.{split_at}
-use Rattle.inorder.proofs.Follows.{commits_retired, committed_if, state_of}
+use Rattle.inorder.proofs.Follows.{commits_retired, state_of}
 use Rattle.inorder.proofs.Grows.{all_mid}
 use Rattle.inorder.proofs.Kept.{kept, parts, sound}
+use Rattle.inorder.proofs.SettledRegisters.{committed_if}
 use Rattle.inorder.proofs.Sound.{IsSettled, IsSound, SettledBy}
 
 live_not : (t : Tenant) → t.standing ≡ Live → commits t ≡ false
 live_not t e = ap (λ s. commits_by s t.fate) e
 
 -- nobody after a live tenant has committed
-pub over : (P : Program) (t u : Tenant) (ts ys : List Tenant) → t.standing ≡ Live → IsSound P (ys ++ t ∷ ts) → committed P (ys ++ u ∷ ts) ≡ committed P (u ∷ ts)
+pub over : (P : Program) (t u : Tenant) (ts ys : List Tenant) → t.standing ≡ Live → IsSound P (ys ++ t ∷ ts) →
+    committed P (ys ++ u ∷ ts) ≡ committed P (u ∷ ts)
 over P t u ts [] live s = refl
 over P t u ts (y ∷ ys) live s = go (commits y) refl (over P t u ts ys live s.1)
   where
-    go : (b : Bool) → commits y ≡ b → committed P (ys ++ u ∷ ts) ≡ committed P (u ∷ ts) → committed P (y ∷ (ys ++ u ∷ ts)) ≡ committed P (u ∷ ts)
+    go : (b : Bool) → commits y ≡ b → committed P (ys ++ u ∷ ts) ≡ committed P (u ∷ ts) →
+        committed P (y ∷ (ys ++ u ∷ ts)) ≡ committed P (u ∷ ts)
     go true e more =
         let r = commits_retired y.standing y.fate e in
-        absurd (subst (λ x. SettledBy x t.fate) live (all_mid IsSettled t ts ys ((s.0.placed (ap stands_on_path r)).settled r)))
+        absurd (subst (λ x. SettledBy x t.fate) live
+        (all_mid IsSettled t ts ys ((s.0.placed (ap stands_on_path r)).settled r)))
     go false e more = committed_if P y (ys ++ u ∷ ts) false e ∙ more
 
-pub by_retire : (P : Program) (C : Sizes) (U : UpdateUnit) (by p n : ℕ) (t : Tenant) → IsSound P U.tenants → Allowed P C U by (On p (Retire n)) → at U.tenants p ≡ Some t → committed P (applied P C U by (On p (Retire n))).tenants ≡ cond (commits (retired t n)) (with_tenant P (retired t n) (committed P U.tenants)) (committed P U.tenants)
+pub by_retire : (P : Program) (C : Sizes) (U : UpdateUnit) (by p n : ℕ) (t : Tenant) → IsSound P U.tenants →
+    Allowed P C U by (On p (Retire n)) → at U.tenants p ≡ Some t →
+    committed P (applied P C U by (On p (Retire n))).tenants ≡ cond (commits (retired t n)) (with_tenant P
+    (retired t n) (committed P U.tenants)) (committed P U.tenants)
 by_retire P C U by p n t sound a e =
     ap (committed P) (parts P vs by p (Retire n) t e)
     ∙ over P t (retired t n) ts ys live s
@@ -61,21 +68,28 @@ by_retire P C U by p n t sound a e =
     s = subst (IsSound P) (split_at vs p t e) sound
 
     before : committed P vs ≡ committed P ts
-    before = ap (committed P) (split_at vs p t e) ∙ over P t t ts ys live s ∙ committed_if P t ts false (live_not t live)
+    before =
+        ap (committed P) (split_at vs p t e) ∙ over P t t ts ys live s
+        ∙ committed_if P t ts false (live_not t live)
 
 -- The other steps keep the count, and so the state
 
-count_same : (P : Program) (t t' : Tenant) (ts ys : List Tenant) → commits t' ≡ commits t → (committed P (ys ++ t' ∷ ts)).count ≡ (committed P (ys ++ t ∷ ts)).count
+count_same : (P : Program) (t t' : Tenant) (ts ys : List Tenant) → commits t' ≡ commits t →
+    (committed P (ys ++ t' ∷ ts)).count ≡ (committed P (ys ++ t ∷ ts)).count
 count_same P t t' ts [] e = go (commits t') (commits t) e
   where
-    go : (b c : Bool) → b ≡ c → (cond b (with_tenant P t' (committed P ts)) (committed P ts)).count ≡ (cond c (with_tenant P t (committed P ts)) (committed P ts)).count
+    go : (b c : Bool) → b ≡ c →
+        (cond b (with_tenant P t' (committed P ts)) (committed P ts)).count ≡ (cond c
+        (with_tenant P t (committed P ts)) (committed P ts)).count
     go true true f = refl
     go false false f = refl
     go true false f = absurd (cc)
     go false true f = absurd (cc)
 count_same P t t' ts (y ∷ ys) e = go (commits y) (count_same P t t' ts ys e)
   where
-    go : (b : Bool) → (committed P (ys ++ t' ∷ ts)).count ≡ (committed P (ys ++ t ∷ ts)).count → (cond b (with_tenant P y (committed P (ys ++ t' ∷ ts))) (committed P (ys ++ t' ∷ ts))).count ≡ (cond b (with_tenant P y (committed P (ys ++ t ∷ ts))) (committed P (ys ++ t ∷ ts))).count
+    go : (b : Bool) → (committed P (ys ++ t' ∷ ts)).count ≡ (committed P (ys ++ t ∷ ts)).count →
+        (cond b (with_tenant P y (committed P (ys ++ t' ∷ ts))) (committed P (ys ++ t' ∷ ts))).count ≡ (cond b
+        (with_tenant P y (committed P (ys ++ t ∷ ts))) (committed P (ys ++ t ∷ ts))).count
     go true f = ap suc f
     go false f = f
 
@@ -93,14 +107,16 @@ mend_stays t (Done v) e = refl
 mend_stays t (Miss v) e = ap (λ s. commits_by s (Done v)) e ∙ sym (live_not t e)
 mend_stays t (Stopped v) e = refl
 
-act_stays : (P : Program) (by : ℕ) (act : Act) (ys : List Tenant) (t : Tenant) (ts : List Tenant) → ((n : ℕ) → act ≢ Retire n) → May P by act ys t ts → commits (changed P by act t ts) ≡ commits t
+act_stays : (P : Program) (by : ℕ) (act : Act) (ys : List Tenant) (t : Tenant) (ts : List Tenant) →
+    ((n : ℕ) → act ≢ Retire n) → May P by act ys t ts → commits (changed P by act t ts) ≡ commits t
 act_stays P by (Link First) ys t ts other m = refl
 act_stays P by (Link Second) ys t ts other m = refl
 act_stays P by (Deliver First) ys t ts other m = refl
 act_stays P by (Deliver Second) ys t ts other m = refl
 act_stays P by Claim ys t ts other m = ap (λ s. commits_by s (Busy by)) m.live ∙ sym (live_not t m.live)
 act_stays P by Finish ys t ts other m = finish_stays t (computed P t) m.live
-act_stays P by Load ys t ts other m = ap (λ s. commits_by s (changed P by Load t ts).fate) m.live ∙ sym (live_not t m.live)
+act_stays P by Load ys t ts other m =
+    ap (λ s. commits_by s (changed P by Load t ts).fate) m.live ∙ sym (live_not t m.live)
 act_stays P by (Retire n) ys t ts other m = absurd (other n refl)
 act_stays P by Squash ys t ts other m = sym (live_not t m.live)
 act_stays P by Mend ys t ts other m = mend_stays t t.fate m.live
@@ -115,25 +131,30 @@ is_other p Load h n e = cc
 is_other p Squash h n e = cc
 is_other p Mend h n e = cc
 
-count_kept : (P : Program) (C : Sizes) (U : UpdateUnit) (by : ℕ) (s : Step) → IsNoRetire s → Allowed P C U by s → (committed P (applied P C U by s).tenants).count ≡ (committed P U.tenants).count
+count_kept : (P : Program) (C : Sizes) (U : UpdateUnit) (by : ℕ) (s : Step) → IsNoRetire s →
+    Allowed P C U by s → (committed P (applied P C U by s).tenants).count ≡ (committed P U.tenants).count
 count_kept P C U by (Let index predicted first second) other a = refl
 count_kept P C U by (On p act) other a =
     let ts = U.tenants in
     let t = a.tenant in
     let t' = changed P by act t (older ts p) in
     ap (λ V. (committed P V).count) (parts P ts by p act t a.is)
-    ∙ count_same P t t' (older ts p) (younger ts p) (act_stays P by act (younger ts p) t (older ts p) (is_other p act other) a.may)
+    ∙ count_same P t t' (older ts p) (younger ts p) (act_stays P by act (younger ts p) t (older ts p)
+    (is_other p act other) a.may)
     ∙ ap (λ V. (committed P V).count) (sym (split_at ts p t a.is))
 
-pub by_others : (P : Program) (C : Sizes) (U : UpdateUnit) (by : ℕ) (s : Step) → IsSound P U.tenants → IsNoRetire s → Allowed P C U by s → committed P (applied P C U by s).tenants ≡ committed P U.tenants
+pub by_others : (P : Program) (C : Sizes) (U : UpdateUnit) (by : ℕ) (s : Step) → IsSound P U.tenants →
+    IsNoRetire s → Allowed P C U by s → committed P (applied P C U by s).tenants ≡ committed P U.tenants
 by_others P C U by s sound other a =
     let before = state_of P U.tenants sound in
     let now = state_of P (applied P C U by s).tenants (kept P C U by s a sound) in
     let same = count_kept P C U by s other a in
-    let both : Some (committed P (applied P C U by s).tenants) ≡ Some (committed P U.tenants) = sym now ∙ ap (after P) same ∙ before in
+    let both : Some (committed P (applied P C U by s).tenants) ≡ Some (committed P U.tenants) = sym now
+    ∙ ap (after P) same ∙ before in
     cc both
 
-pub all_commits : (P : Program) (C : Sizes) (history : List Taken) (by : ℕ) → OnlyRetirementsCommit P C history by
+pub all_commits : (P : Program) (C : Sizes) (history : List Taken) (by : ℕ) →
+    OnlyRetirementsCommit P C history by
 all_commits P C history by a =
     let U = reached P C history in
     let s = sound P C history a in
@@ -146,25 +167,31 @@ one_more true P t s = omega arith
 one_more false P t s = omega arith
 
 -- one step more
-step_count : (P : Program) (C : Sizes) (U : UpdateUnit) (by : ℕ) (s : Step) → IsSound P U.tenants → Allowed P C U by s → (committed P U.tenants).count ≤ (committed P (applied P C U by s).tenants).count
+step_count : (P : Program) (C : Sizes) (U : UpdateUnit) (by : ℕ) (s : Step) → IsSound P U.tenants →
+    Allowed P C U by s → (committed P U.tenants).count ≤ (committed P (applied P C U by s).tenants).count
 step_count P C U by (On p (Retire n)) s a =
     let e = ap (λ v. v.count) (by_retire P C U by p n a.tenant s a a.is) in
     let m = one_more (commits (retired a.tenant n)) P (retired a.tenant n) (committed P U.tenants) in
     omega (arith, e, m)
-step_count P C U by (Let index predicted first second) s a = let e = count_kept P C U by (Let index predicted first second) tt a in omega (arith, e)
+step_count P C U by (Let index predicted first second) s a =
+    let e = count_kept P C U by (Let index predicted first second) tt a in omega (arith, e)
 step_count P C U by (On p (Link k)) s a = let e = count_kept P C U by (On p (Link k)) tt a in omega (arith, e)
-step_count P C U by (On p (Deliver k)) s a = let e = count_kept P C U by (On p (Deliver k)) tt a in omega (arith, e)
+step_count P C U by (On p (Deliver k)) s a =
+    let e = count_kept P C U by (On p (Deliver k)) tt a in omega (arith, e)
 step_count P C U by (On p Claim) s a = let e = count_kept P C U by (On p Claim) tt a in omega (arith, e)
 step_count P C U by (On p Finish) s a = let e = count_kept P C U by (On p Finish) tt a in omega (arith, e)
 step_count P C U by (On p Load) s a = let e = count_kept P C U by (On p Load) tt a in omega (arith, e)
 step_count P C U by (On p Squash) s a = let e = count_kept P C U by (On p Squash) tt a in omega (arith, e)
 step_count P C U by (On p Mend) s a = let e = count_kept P C U by (On p Mend) tt a in omega (arith, e)
 
-allowed_before : (P : Program) (C : Sizes) (more history : List Taken) → AreAllowed P C (more ++ history) → AreAllowed P C history
+allowed_before : (P : Program) (C : Sizes) (more history : List Taken) → AreAllowed P C (more ++ history) →
+    AreAllowed P C history
 allowed_before P C [] history a = a
 allowed_before P C (s ∷ more) history a = allowed_before P C more history a.0
 
-count_before : (P : Program) (C : Sizes) (more history : List Taken) → AreAllowed P C (more ++ history) → (committed P (reached P C history).tenants).count ≤ (committed P (reached P C (more ++ history)).tenants).count
+count_before : (P : Program) (C : Sizes) (more history : List Taken) → AreAllowed P C (more ++ history) →
+    (committed P (reached P C history).tenants).count ≤ (committed P
+    (reached P C (more ++ history)).tenants).count
 count_before P C [] history a = omega arith
 count_before P C (s ∷ more) history a =
     let e = count_before P C more history a.0 in
@@ -172,4 +199,5 @@ count_before P C (s ∷ more) history a =
     omega (arith, e, f)
 
 pub grows : (P : Program) (C : Sizes) (more history : List Taken) → HistoryGrows P C more history
-grows P C more history = record { allowed = allowed_before P C more history; count = count_before P C more history }
+grows P C more history =
+    record { allowed = allowed_before P C more history; count = count_before P C more history }

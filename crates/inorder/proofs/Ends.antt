@@ -1,6 +1,5 @@
 -- What of the oldest and of the youngest live tenant the steps of others keep.
-use Rattle.std.proofs.Common.{◌≡◌, ◌≢◌, ◌⊎◌, ℕ, ◌<◌, Bool, true, false, cond, eqb, eqb-true, List, [], ◌∷◌, length, Option, Some, None, refl, sym, ap, ◌∙◌, subst, inl, inr, ⊎_elim, arith}
-use Rattle.std.specs.List.{AllByRecursion}
+use Rattle.std.proofs.Common.{◌≡◌, ◌≢◌, ◌⊎◌, ℕ, ◌<◌, Bool, true, false, cond, eqb, eqb-true, List, [], ◌∷◌, length, Option, Some, refl, sym, ap, ◌∙◌, subst, inl, inr, ⊎_elim, arith}
 use Rattle.isa.specs.Instruction.{kind}
 use Rattle.isa.specs.Programs.{Program, instr_of}
 use Rattle.isa.specs.declared.op.Kind.{Kind}
@@ -13,12 +12,12 @@ use Rattle.inorder.specs.Callers.{CanLeave, CanMend, CanSquash, IsMissing, IsYou
 use Rattle.inorder.specs.Legal.{Allowed, May, applied, changed}
 use Rattle.inorder.specs.Replies.{Has}
 use Rattle.inorder.specs.Steps.{CanRetire, IsNoRetiredStop, MayMend, MayRetire, MaySquash, new_tenant}
-use Rattle.inorder.specs.Tenants.{Addr, Busy, Done, Fate, IsNotLive, Live, Miss, Open, Retired, Standing, Stopped, Tenant, computed, kind_of}
+use Rattle.inorder.specs.Tenants.{Addr, Busy, Done, Fate, IsNotLive, Live, Miss, Open, Retired, Stopped, Tenant, computed, kind_of}
 use Rattle.inorder.specs.Unit.{Sizes, UpdateUnit, at, older, younger}
 use Rattle.inorder.proofs.Basics.{eqb_less}
 use Rattle.inorder.proofs.Letting.{IsBesides, IsBesidesAct}
 use Rattle.inorder.proofs.Moves.{IsActed, IsLeft, at_changed, came, goes}
-use Rattle.inorder.proofs.Positions.{all_at, at_below, at_more, at_there, not_eqb, older_at, older_from, younger_at, younger_from}
+use Rattle.inorder.proofs.Positions.{all_at, at_below, at_more, at_there, not_eqb, older_at, older_from, younger_from}
 use Rattle.inorder.proofs.Sound.{IsSound}
 use Rattle.inorder.proofs.Stations.{finished_station, mended_station}
 

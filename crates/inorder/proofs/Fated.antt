@@ -1,16 +1,18 @@
 -- What the fate of a tenant of a sound unit says.
 use Rattle.std.proofs.Common.{◌≡◌, ◌≢◌, ℕ, List, Option, Some, None, refl, subst}
-use Rattle.isa.specs.Programs.{Program}
+use Rattle.isa.specs.Programs.{Program, address}
 use Rattle.isa.specs.declared.op.Kind.{Kind}
 use Rattle.isa.specs.declared.op.Kind.TheVariants.{Computes, Jumps, Links, Loads, Stores}
 use Rattle.inorder.specs.Fates.{DoneSays, FateSays, FatesFollow, FollowsFrom}
 use Rattle.inorder.specs.Legal.{Taken, reached}
+use Rattle.inorder.specs.Runs.{stop}
 use Rattle.inorder.specs.Tenants.{Addr, Busy, Done, Fate, Miss, Open, Stopped, Tenant, kind_of, missing_of}
 use Rattle.inorder.specs.Unit.{Sizes, older, younger}
 use Rattle.inorder.proofs.Basics.{split_at}
-use Rattle.inorder.proofs.Follows.{next_done}
+use Rattle.inorder.proofs.DeliveryKept.{no_first, no_second}
 use Rattle.inorder.proofs.Grows.{sound_mid}
-use Rattle.inorder.proofs.Kept.{no_first, no_second, sound}
+use Rattle.inorder.proofs.Kept.{sound}
+use Rattle.inorder.proofs.SettledRegisters.{next_done}
 use Rattle.inorder.proofs.Sound.{DoneIs, FateIs, IsOwn, IsSound, Needs}
 
 done_says : (P : Program) (t : Tenant) (v : ℕ) (k : Kind) → DoneIs P t v k → DoneSays P t v k
@@ -34,7 +36,8 @@ none_missing Jumps (Some a) None n = absurd (no_second Jumps (Some a) (λ e. abs
 none_missing Links (Some a) None n = absurd (no_second Links (Some a) (λ e. absurd (cc)) n)
 none_missing Loads (Some a) None n = absurd (no_second Loads (Some a) (λ e. absurd (cc)) n)
 
-claimed_needs : (P : Program) (t : Tenant) (f : Fate) → f ≢ Open → FateIs P t f → Needs (kind_of P t) t.first.value t.second.value
+claimed_needs : (P : Program) (t : Tenant) (f : Fate) → f ≢ Open → FateIs P t f →
+    Needs (kind_of P t) t.first.value t.second.value
 claimed_needs P t Open n h = absurd (n refl)
 claimed_needs P t (Busy by) n h = h.2
 claimed_needs P t (Addr a) n h = h.2
@@ -50,14 +53,22 @@ fate_says P ts t own =
       goes_on = λ v e. next_done P t v (kind_of P t) refl own.goes_on (subst (FateIs P t) e own.fate).0;
       miss = λ x e. (subst (FateIs P t) e own.fate).1;
       stop = λ c e. (subst (FateIs P t) e own.fate).1;
-      claimed = λ n. none_missing (kind_of P t) t.first.value t.second.value (claimed_needs P t t.fate n own.fate);
+      claimed =
+          λ n. none_missing (kind_of P t) t.first.value t.second.value (claimed_needs P t t.fate n own.fate);
     }
 
 pub follows_from : (P : Program) (ts : List Tenant) (t : Tenant) → IsOwn P ts t → FollowsFrom P ts t
 follows_from P ts t own =
-    record { fate = fate_says P ts t own; first = own.first; second = own.second; pc = own.place; inside = own.inside }
+    record {
+      fate = fate_says P ts t own;
+      first = own.first;
+      second = own.second;
+      pc = own.place;
+      inside = own.inside;
+    }
 
 pub fates_follow : (P : Program) (C : Sizes) (history : List Taken) → FatesFollow P C history
 fates_follow P C history p t a e =
     let ts = (reached P C history).tenants in
-    follows_from P (older ts p) t (sound_mid P t (older ts p) (younger ts p) (subst (IsSound P) (split_at ts p t e) (sound P C history a))).own
+    follows_from P (older ts p) t (sound_mid P t (older ts p) (younger ts p)
+    (subst (IsSound P) (split_at ts p t e) (sound P C history a))).own

@@ -19,7 +19,8 @@ use Rattle.inorder.proofs.Sound.{HasRead, IsInPlace, IsOwn, IsSettled, IsSound, 
 -- a store stays, and may get its data
 abbrev pub StoredGrows : Option Stored → Option Stored → Type 0
 StoredGrows None None = Unit {0}
-StoredGrows (Some s) (Some s') = (s'.at ≡ s.at) × (s'.width ≡ s.width) × ((d : ℕ) → s.content ≡ Some d → s'.content ≡ Some d)
+StoredGrows (Some s) (Some s') =
+    (s'.at ≡ s.at) × (s'.width ≡ s.width) × ((d : ℕ) → s.content ≡ Some d → s'.content ≡ Some d)
 StoredGrows _ _ = ⊥
 
 abbrev pub MadeGrows : Tenant → Tenant → Type 0
@@ -37,7 +38,8 @@ pub record Grows (P : Program) (t t' : Tenant) : Type 0 where
 
 -- Lists with one tenant changed
 
-pub all_grows : (Q : Tenant → Type 0) (t t' : Tenant) (ts ys : List Tenant) → (Q t → Q t') → AllByRecursion Q (ys ++ t ∷ ts) → AllByRecursion Q (ys ++ t' ∷ ts)
+pub all_grows : (Q : Tenant → Type 0) (t t' : Tenant) (ts ys : List Tenant) → (Q t → Q t') →
+    AllByRecursion Q (ys ++ t ∷ ts) → AllByRecursion Q (ys ++ t' ∷ ts)
 all_grows Q t t' ts [] f h = (f h.0, h.1)
 all_grows Q t t' ts (y ∷ ys) f h = (h.0, all_grows Q t t' ts ys f h.1)
 
@@ -49,52 +51,68 @@ pub same_length : (t t' : Tenant) (ts ys : List Tenant) → length (ys ++ t ∷ 
 same_length t t' ts [] = refl
 same_length t t' ts (y ∷ ys) = ap suc (same_length t t' ts ys)
 
-made_at_grows : (t t' : Tenant) (ts ys : List Tenant) → MadeGrows t t' → (p v : ℕ) → made_by (at (ys ++ t ∷ ts) p) ≡ Some v → made_by (at (ys ++ t' ∷ ts) p) ≡ Some v
+made_at_grows : (t t' : Tenant) (ts ys : List Tenant) → MadeGrows t t' → (p v : ℕ) →
+    made_by (at (ys ++ t ∷ ts) p) ≡ Some v → made_by (at (ys ++ t' ∷ ts) p) ≡ Some v
 made_at_grows t t' ts [] g p v e = go (eqb p (length ts)) e
   where
-    go : (b : Bool) → made_by (cond b (Some t) (at ts p)) ≡ Some v → made_by (cond b (Some t') (at ts p)) ≡ Some v
+    go : (b : Bool) → made_by (cond b (Some t) (at ts p)) ≡ Some v →
+        made_by (cond b (Some t') (at ts p)) ≡ Some v
     go true h = g v h
     go false h = h
 made_at_grows t t' ts (y ∷ ys) g p v e =
-    go (eqb p (length (ys ++ t' ∷ ts))) (made_at_grows t t' ts ys g p v) (subst (λ n. made_by (cond (eqb p n) (Some y) (at (ys ++ t ∷ ts) p)) ≡ Some v) (same_length t t' ts ys) e)
+    go (eqb p (length (ys ++ t' ∷ ts))) (made_at_grows t t' ts ys g p v) (subst
+    (λ n. made_by (cond (eqb p n) (Some y) (at (ys ++ t ∷ ts) p)) ≡ Some v) (same_length t t' ts ys) e)
   where
-    go : (b : Bool) → (made_by (at (ys ++ t ∷ ts) p) ≡ Some v → made_by (at (ys ++ t' ∷ ts) p) ≡ Some v) → made_by (cond b (Some y) (at (ys ++ t ∷ ts) p)) ≡ Some v → made_by (cond b (Some y) (at (ys ++ t' ∷ ts) p)) ≡ Some v
+    go : (b : Bool) → (made_by (at (ys ++ t ∷ ts) p) ≡ Some v → made_by (at (ys ++ t' ∷ ts) p) ≡ Some v) →
+        made_by (cond b (Some y) (at (ys ++ t ∷ ts) p)) ≡ Some v →
+        made_by (cond b (Some y) (at (ys ++ t' ∷ ts) p)) ≡ Some v
     go true more h = h
     go false more h = more h
 
-pub value_of_grows : (t t' : Tenant) (ts ys : List Tenant) → MadeGrows t t' → (c : Option ℕ) (v : ℕ) → value_of (ys ++ t ∷ ts) c ≡ Some v → value_of (ys ++ t' ∷ ts) c ≡ Some v
+pub value_of_grows : (t t' : Tenant) (ts ys : List Tenant) → MadeGrows t t' → (c : Option ℕ) (v : ℕ) →
+    value_of (ys ++ t ∷ ts) c ≡ Some v → value_of (ys ++ t' ∷ ts) c ≡ Some v
 value_of_grows t t' ts ys g None v e = e
 value_of_grows t t' ts ys g (Some p) v e = made_at_grows t t' ts ys g p v e
 
-writer_grows : (P : Program) (t t' : Tenant) (ts ys : List Tenant) (r : ℕ) → t'.index ≡ t.index → on_path t' ≡ on_path t → last_writer P (ys ++ t' ∷ ts) r ≡ last_writer P (ys ++ t ∷ ts) r
+writer_grows : (P : Program) (t t' : Tenant) (ts ys : List Tenant) (r : ℕ) → t'.index ≡ t.index →
+    on_path t' ≡ on_path t → last_writer P (ys ++ t' ∷ ts) r ≡ last_writer P (ys ++ t ∷ ts) r
 writer_grows P t t' ts [] r e f =
     ap (λ b. cond (b && eqb (destination (instr P t')) r) (Some (length ts)) (last_writer P ts r)) f
     ∙ ap (λ k. cond (on_path t && eqb (destination (instr_of P k)) r) (Some (length ts)) (last_writer P ts r)) e
 writer_grows P t t' ts (y ∷ ys) r e f =
-    ap (λ n. cond (on_path y && eqb (destination (instr P y)) r) (Some n) (last_writer P (ys ++ t' ∷ ts) r)) (sym (same_length t t' ts ys))
-    ∙ ap (cond (on_path y && eqb (destination (instr P y)) r) (Some (length (ys ++ t ∷ ts)))) (writer_grows P t t' ts ys r e f)
+    ap (λ n. cond (on_path y && eqb (destination (instr P y)) r) (Some n) (last_writer P (ys ++ t' ∷ ts) r))
+    (sym (same_length t t' ts ys))
+    ∙ ap (cond (on_path y && eqb (destination (instr P y)) r) (Some (length (ys ++ t ∷ ts))))
+    (writer_grows P t t' ts ys r e f)
 
-pub creator_grows : (P : Program) (t t' : Tenant) (ts ys : List Tenant) (r : ℕ) → t'.index ≡ t.index → on_path t' ≡ on_path t → creator P (ys ++ t' ∷ ts) r ≡ creator P (ys ++ t ∷ ts) r
+pub creator_grows : (P : Program) (t t' : Tenant) (ts ys : List Tenant) (r : ℕ) → t'.index ≡ t.index →
+    on_path t' ≡ on_path t → creator P (ys ++ t' ∷ ts) r ≡ creator P (ys ++ t ∷ ts) r
 creator_grows P t t' ts ys r e f = ap (λ c. cond (can_be_written r) c None) (writer_grows P t t' ts ys r e f)
 
-pub front_grows : (t t' : Tenant) (ts ys : List Tenant) → t'.next ≡ t.next → on_path t' ≡ on_path t → front_pc (ys ++ t' ∷ ts) ≡ front_pc (ys ++ t ∷ ts)
-front_grows t t' ts [] e f = ap (λ b. cond b t'.next (front_pc ts)) f ∙ ap (λ n. cond (on_path t) n (front_pc ts)) e
+pub front_grows : (t t' : Tenant) (ts ys : List Tenant) → t'.next ≡ t.next → on_path t' ≡ on_path t →
+    front_pc (ys ++ t' ∷ ts) ≡ front_pc (ys ++ t ∷ ts)
+front_grows t t' ts [] e f =
+    ap (λ b. cond b t'.next (front_pc ts)) f ∙ ap (λ n. cond (on_path t) n (front_pc ts)) e
 front_grows t t' ts (y ∷ ys) e f = ap (cond (on_path y) y.next) (front_grows t t' ts ys e f)
 
 -- bytes
-byte_over : (o : Option Stored) (x b : ℕ) (q q' : Option ℕ) → (q ≡ Some b → q' ≡ Some b) → byte_after o x q ≡ Some b → byte_after o x q' ≡ Some b
+byte_over : (o : Option Stored) (x b : ℕ) (q q' : Option ℕ) → (q ≡ Some b → q' ≡ Some b) →
+    byte_after o x q ≡ Some b → byte_after o x q' ≡ Some b
 byte_over None x b q q' f h = f h
 byte_over (Some s) x b q q' f h = go (covers s x) h
   where
-    go : (y : Bool) → cond y (option_map (byte_of (x - s.at)) s.content) q ≡ Some b → cond y (option_map (byte_of (x - s.at)) s.content) q' ≡ Some b
+    go : (y : Bool) → cond y (option_map (byte_of (x - s.at)) s.content) q ≡ Some b →
+        cond y (option_map (byte_of (x - s.at)) s.content) q' ≡ Some b
     go true e = e
     go false e = f e
 
-mapped_grows : (f : ℕ → ℕ) (c c' : Option ℕ) (b : ℕ) → ((d : ℕ) → c ≡ Some d → c' ≡ Some d) → option_map f c ≡ Some b → option_map f c' ≡ Some b
+mapped_grows : (f : ℕ → ℕ) (c c' : Option ℕ) (b : ℕ) → ((d : ℕ) → c ≡ Some d → c' ≡ Some d) →
+    option_map f c ≡ Some b → option_map f c' ≡ Some b
 mapped_grows f None c' b g h = absurd (cc)
 mapped_grows f (Some d) c' b g h = ap (option_map f) (g d refl) ∙ h
 
-byte_under : (o o' : Option Stored) (x b : ℕ) (q : Option ℕ) → StoredGrows o o' → byte_after o x q ≡ Some b → byte_after o' x q ≡ Some b
+byte_under : (o o' : Option Stored) (x b : ℕ) (q : Option ℕ) → StoredGrows o o' → byte_after o x q ≡ Some b →
+    byte_after o' x q ≡ Some b
 byte_under None None x b q g h = h
 byte_under None (Some s') x b q g h = absurd g
 byte_under (Some s) None x b q g h = absurd g
@@ -108,28 +126,37 @@ byte_under (Some s) (Some s') x b q g h =
         ap (λ n. covers (record { at = n; width = s'.width; content = s'.content }) x) g.0
         ∙ ap (λ n. covers (record { at = s.at; width = n; content = s'.content }) x) g.1
 
-    go : (y : Bool) → cond y (option_map (byte_of (x - s.at)) s.content) q ≡ Some b → cond y (option_map (byte_of (x - s.at)) s'.content) q ≡ Some b
+    go : (y : Bool) → cond y (option_map (byte_of (x - s.at)) s.content) q ≡ Some b →
+        cond y (option_map (byte_of (x - s.at)) s'.content) q ≡ Some b
     go true e = mapped_grows (byte_of (x - s.at)) s.content s'.content b g.2 e
     go false e = e
 
-byte_grows : (P : Program) (t t' : Tenant) (ts ys : List Tenant) (x b : ℕ) → StoredGrows (stored P t) (stored P t') → byte_at P (ys ++ t ∷ ts) x ≡ Some b → byte_at P (ys ++ t' ∷ ts) x ≡ Some b
+byte_grows : (P : Program) (t t' : Tenant) (ts ys : List Tenant) (x b : ℕ) →
+    StoredGrows (stored P t) (stored P t') → byte_at P (ys ++ t ∷ ts) x ≡ Some b →
+    byte_at P (ys ++ t' ∷ ts) x ≡ Some b
 byte_grows P t t' ts [] x b g h = byte_under (stored P t) (stored P t') x b (byte_at P ts x) g h
-byte_grows P t t' ts (y ∷ ys) x b g h = byte_over (stored P y) x b (byte_at P (ys ++ t ∷ ts) x) (byte_at P (ys ++ t' ∷ ts) x) (byte_grows P t t' ts ys x b g) h
+byte_grows P t t' ts (y ∷ ys) x b g h =
+    byte_over (stored P y) x b (byte_at P (ys ++ t ∷ ts) x) (byte_at P (ys ++ t' ∷ ts) x)
+    (byte_grows P t t' ts ys x b g) h
 
 -- a load
-pub read_grows : (P : Program) (t t' : Tenant) (ts ys : List Tenant) (i : Instr) (o : Outcome) (v : ℕ) → Grows P t t' → HasRead P (ys ++ t ∷ ts) i o v → HasRead P (ys ++ t' ∷ ts) i o v
+pub read_grows : (P : Program) (t t' : Tenant) (ts ys : List Tenant) (i : Instr) (o : Outcome) (v : ℕ) →
+    Grows P t t' → HasRead P (ys ++ t ∷ ts) i o v → HasRead P (ys ++ t' ∷ ts) i o v
 read_grows P t t' ts ys i o v g r =
     let s = g.stores (all_mid (HasAddress P) t ts ys r.addresses) in
     record {
       a = r.a;
       n = r.n;
       computes = r.computes;
-      raw = number_stays (byte_at P (ys ++ t ∷ ts)) (byte_at P (ys ++ t' ∷ ts)) r.a (width i.op) r.n (λ x b. byte_grows P t t' ts ys x b s) r.raw;
+      raw =
+          number_stays (byte_at P (ys ++ t ∷ ts)) (byte_at P (ys ++ t' ∷ ts)) r.a (width i.op) r.n
+          (λ x b. byte_grows P t t' ts ys x b s) r.raw;
       value = r.value;
       addresses = all_grows (HasAddress P) t t' ts ys g.address r.addresses;
     }
 
-load_grows : (P : Program) (t t' : Tenant) (ts ys : List Tenant) (i : Instr) (o : Outcome) (k : Kind) (f : Fate) → Grows P t t' → LoadIs P (ys ++ t ∷ ts) i o k f → LoadIs P (ys ++ t' ∷ ts) i o k f
+load_grows : (P : Program) (t t' : Tenant) (ts ys : List Tenant) (i : Instr) (o : Outcome) (k : Kind)
+    (f : Fate) → Grows P t t' → LoadIs P (ys ++ t ∷ ts) i o k f → LoadIs P (ys ++ t' ∷ ts) i o k f
 load_grows P t t' ts ys i o Loads (Done v) g l = read_grows P t t' ts ys i o v g l
 load_grows P t t' ts ys i o Loads Open g l = tt
 load_grows P t t' ts ys i o Loads (Busy c) g l = tt
@@ -142,7 +169,8 @@ load_grows P t t' ts ys i o Links f g l = tt
 load_grows P t t' ts ys i o Stores f g l = tt
 
 -- a younger tenant
-own_grows : (P : Program) (t t' : Tenant) (ts ys : List Tenant) (y : Tenant) → MadeGrows t t' → IsOwn P (ys ++ t ∷ ts) y → IsOwn P (ys ++ t' ∷ ts) y
+own_grows : (P : Program) (t t' : Tenant) (ts ys : List Tenant) (y : Tenant) → MadeGrows t t' →
+    IsOwn P (ys ++ t ∷ ts) y → IsOwn P (ys ++ t' ∷ ts) y
 own_grows P t t' ts ys y g o =
     record {
       first = λ v e. value_of_grows t t' ts ys g y.first.creator v (o.first v e);
@@ -153,7 +181,8 @@ own_grows P t t' ts ys y g o =
       fate = o.fate;
     }
 
-placed_grows : (P : Program) (t t' : Tenant) (ts ys : List Tenant) (y : Tenant) → Grows P t t' → IsInPlace P (ys ++ t ∷ ts) y → IsInPlace P (ys ++ t' ∷ ts) y
+placed_grows : (P : Program) (t t' : Tenant) (ts ys : List Tenant) (y : Tenant) → Grows P t t' →
+    IsInPlace P (ys ++ t ∷ ts) y → IsInPlace P (ys ++ t' ∷ ts) y
 placed_grows P t t' ts ys y g o =
     record {
       first = o.first ∙ sym (creator_grows P t t' ts ys (instr P y).first g.index g.path);
@@ -165,16 +194,25 @@ placed_grows P t t' ts ys y g o =
     }
 
 -- a tenant grows
-pub grow_sound : (P : Program) (t t' : Tenant) (ts ys : List Tenant) → Grows P t t' → IsSoundAt P ts t' → IsSound P (ys ++ t ∷ ts) → IsSound P (ys ++ t' ∷ ts)
+pub grow_sound : (P : Program) (t t' : Tenant) (ts ys : List Tenant) → Grows P t t' → IsSoundAt P ts t' →
+    IsSound P (ys ++ t ∷ ts) → IsSound P (ys ++ t' ∷ ts)
 grow_sound P t t' ts [] g new s = (new, s.1)
-grow_sound P t t' ts (y ∷ ys) g new s =
-    (record { own = own_grows P t t' ts ys y g.made s.0.own; placed = λ e. placed_grows P t t' ts ys y g (s.0.placed e) }, grow_sound P t t' ts ys g new s.1)
+grow_sound P t t' ts (y ∷ ys) g new s = (
+  record {
+    own = own_grows P t t' ts ys y g.made s.0.own;
+    placed = λ e. placed_grows P t t' ts ys y g (s.0.placed e);
+  },
+  grow_sound P t t' ts ys g new s.1,
+)
 
 -- the youngest live tenant changes, or leaves the path
-pub end_sound : (P : Program) (t t' : Tenant) (ts ys : List Tenant) → MadeGrows t t' → t.standing ≡ Live → AllByRecursion IsNotLive ys → IsSoundAt P ts t' → IsSound P (ys ++ t ∷ ts) → IsSound P (ys ++ t' ∷ ts)
+pub end_sound : (P : Program) (t t' : Tenant) (ts ys : List Tenant) → MadeGrows t t' → t.standing ≡ Live →
+    AllByRecursion IsNotLive ys → IsSoundAt P ts t' → IsSound P (ys ++ t ∷ ts) → IsSound P (ys ++ t' ∷ ts)
 end_sound P t t' ts [] g live last new s = (new, s.1)
-end_sound P t t' ts (y ∷ ys) g live last new s =
-    (record { own = own_grows P t t' ts ys y g s.0.own; placed = λ e. absurd (off y.standing refl e) }, end_sound P t t' ts ys g live last.1 new s.1)
+end_sound P t t' ts (y ∷ ys) g live last new s = (
+  record { own = own_grows P t t' ts ys y g s.0.own; placed = λ e. absurd (off y.standing refl e) },
+  end_sound P t t' ts ys g live last.1 new s.1,
+)
   where
     off : (st : Standing) → y.standing ≡ st → on_path y ≡ true → ⊥
     off Live e on = last.0 e

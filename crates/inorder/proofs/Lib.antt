@@ -1,7 +1,14 @@
 pub mod Basics
 pub mod Sound
 pub mod Grows
+pub mod SettledRegisters
+pub mod SettledMemory
+pub mod InOrderStep
 pub mod Follows
+pub mod LetKept
+pub mod DeliveryKept
+pub mod FinishKept
+pub mod LeaveKept
 pub mod Kept
 pub mod Stations
 pub mod Commits
@@ -11,6 +18,8 @@ pub mod OperandsShown
 pub mod Words
 pub mod WordsKept
 pub mod Fated
+pub mod QueueBytes
+pub mod QueuePlaces
 pub mod Loads
 pub mod Forbidden
 pub mod Positions
@@ -19,6 +28,7 @@ pub mod Letting
 pub mod Ends
 pub mod Creators
 pub mod Loading
+pub mod Histories
 mod Examples
 mod LoopRun
 mod WrongPathRun
@@ -26,3 +36,5 @@ mod StoreRun
 mod ReletRun
 mod DeadLinkRun
 mod Refused
+pub mod Serving
+pub mod Waking

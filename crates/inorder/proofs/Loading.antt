@@ -14,10 +14,9 @@ use Rattle.inorder.specs.declared.history.Step.{Step}
 use Rattle.inorder.specs.declared.history.Step.TheVariants.{Let, On}
 use Rattle.inorder.specs.Callers.{CanLoad}
 use Rattle.inorder.specs.Legal.{Allowed, May, MayAct, applied, change_at, changed}
-use Rattle.inorder.specs.Memory.{load_value, raw, raw_at}
+use Rattle.inorder.specs.Memory.{raw, raw_at}
 use Rattle.inorder.specs.Replies.{IsStale}
-use Rattle.inorder.specs.Steps.{MayLoad}
-use Rattle.inorder.specs.Tenants.{Addr, IsNotLive, Live, Squashed, Tenant, computed, instr, kind_of}
+use Rattle.inorder.specs.Tenants.{Addr, IsNotLive, Live, Squashed, Tenant, instr, kind_of}
 use Rattle.inorder.specs.Unit.{Sizes, UpdateUnit, at, older, replaced, younger}
 use Rattle.inorder.proofs.Basics.{eqb_less, replaced_split, split_at}
 use Rattle.inorder.proofs.Ends.{Acted, IsNotBacks, IsNotBacksAct, at_older, exact, is_squashed, retires, stands_on}
@@ -157,42 +156,50 @@ reads_stays P C U by s b may ok p a v c =
     (exact P C U by s may p c.t c.is)
 
 -- between the two ways to say it
-reads_of : (P : Program) (U : UpdateUnit) (p v : ℕ) (c : CanLoad P U p v) → Reads P U p c.may.a v
-reads_of P U p v c =
-    let us = U.tenants in let i = instr P c.tenant in
+reads_of : (P : Program) (U : UpdateUnit) (p a v : ℕ) → CanLoad P U p a v → Reads P U p a v
+reads_of P U p a v c =
+    let us = U.tenants in
+    let i = instr P c.tenant in
+    let same : c.may.a ≡ a = one c.may.a a (sym c.may.fate ∙ c.fate) in
+    let raw_is : raw_at P (older us p) i a ≡ Some c.may.bytes = ap (raw_at P (older us p) i) (sym same) ∙ c.may.read in
     record {
       t = c.tenant;
       is = c.is;
       live = c.may.live;
       kind_is = c.may.kind;
-      fate = c.may.fate;
+      fate = c.fate;
       read = record {
-        a = c.may.a;
+        a = a;
         n = c.may.bytes;
         computes = refl;
-        raw = c.may.read;
-        value = sym c.value_is ∙ (ap (λ f. loaded i.op (unwrap_or (raw P (older us p) i f) 0)) c.may.fate ∙ ap (λ z. loaded i.op (unwrap_or z 0)) c.may.read);
+        raw = raw_is;
+        value = sym c.value_is ∙ (ap (λ f. loaded i.op (unwrap_or (raw P (older us p) i f) 0)) c.fate ∙ ap (λ z. loaded i.op (unwrap_or z 0)) raw_is);
         addresses = c.may.addresses;
       };
     }
+  where
+    one : (x y : ℕ) → Addr x ≡ Addr y → x ≡ y
+    one x y e = cc e
 
-of_reads : (P : Program) (U : UpdateUnit) (p a v : ℕ) → Reads P U p a v → CanLoad P U p v
+of_reads : (P : Program) (U : UpdateUnit) (p a v : ℕ) → Reads P U p a v → CanLoad P U p a v
 of_reads P U p a v c =
-    let us = U.tenants in let i = instr P c.t in
+    let us = U.tenants in
+    let i = instr P c.t in
     let same : a ≡ c.read.a = cc c.read.computes in
     let raw_is : raw_at P (older us p) i a ≡ Some c.read.n = ap (raw_at P (older us p) i) same ∙ c.read.raw in
     record {
       tenant = c.t;
       is = c.is;
       may = record { live = c.live; kind = c.kind_is; a = a; fate = c.fate; addresses = c.read.addresses; bytes = c.read.n; read = raw_is };
+      fate = c.fate;
       value_is = ap (λ f. loaded i.op (unwrap_or (raw P (older us p) i f) 0)) c.fate ∙ (ap (λ z. loaded i.op (unwrap_or z 0)) raw_is ∙ sym c.read.value);
     }
 
-pub load_stays : (P : Program) (C : Sizes) (U : UpdateUnit) (by : ℕ) (s : Step) → IsNotBacks s → Allowed P C U by s → IsSound P U.tenants → (p v : ℕ) → CanLoad P U p v → CanLoad P (applied P C U by s) p v ⊎ IsStale (applied P C U by s) p
-load_stays P C U by s b may ok p v c = ⊎_elim
-    (λ r. inl (of_reads P (applied P C U by s) p c.may.a v r))
+pub load_stays : (P : Program) (C : Sizes) (U : UpdateUnit) (by : ℕ) (s : Step) → IsNotBacks s → Allowed P C U by s → IsSound P U.tenants → (p a v : ℕ) → CanLoad P U p a v → CanLoad P (applied P C U by s) p a v ⊎ IsStale (applied P C U by s) p
+load_stays P C U by s b may ok p a v c = ⊎_elim
+    (λ r. inl (of_reads P (applied P C U by s) p a v r))
     (λ g. inr g)
-    (reads_stays P C U by s b may ok p c.may.a v (reads_of P U p v c))
+    (reads_stays P C U by s b may ok p a v (reads_of P U p a v c))
 
 pub gone_stays : (P : Program) (C : Sizes) (U : UpdateUnit) (by : ℕ) (s : Step) → Allowed P C U by s → (p : ℕ) → IsStale U p → IsStale (applied P C U by s) p
 gone_stays P C U by s may p g = ⊎_elim

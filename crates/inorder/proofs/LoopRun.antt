@@ -57,9 +57,35 @@ counted_to_two_allowed = (
                 (
                   (
                     tt,
-                    record { room = less _ _ refl; queue = λ e. absurd (true≢false (sym e)); is_there = less _ _ refl; pc = refl; small = less _ _ refl; predicts = refl; first_is = refl; second_is = refl },
+                    record {
+                      room = less _ _ refl;
+                      queue = λ e. absurd (true≢false (sym e));
+                      is_there = less _ _ refl;
+                      pc = refl;
+                      small = less _ _ refl;
+                      predicts = refl;
+                      first_is = refl;
+                      second_is = refl;
+                    },
                   ),
-                  record { room = less _ _ refl; queue = λ e. absurd (true≢false (sym e)); is_there = less _ _ refl; pc = refl; small = less _ _ refl; predicts = refl; first_is = record { p = 0; tenant = _; creates = refl; is = refl; waits = computes_not_links; other = apart 0 1 refl; last = tt }; second_is = refl },
+                  record {
+                    room = less _ _ refl;
+                    queue = λ e. absurd (true≢false (sym e));
+                    is_there = less _ _ refl;
+                    pc = refl;
+                    small = less _ _ refl;
+                    predicts = refl;
+                    first_is = record {
+                      p = 0;
+                      tenant = _;
+                      creates = refl;
+                      is = refl;
+                      waits = computes_not_links;
+                      other = apart 0 1 refl;
+                      last = tt;
+                    };
+                    second_is = refl;
+                  },
                 ),
                 record { tenant = _; is = refl; may = record { way = refl } },
               ),
@@ -67,15 +93,33 @@ counted_to_two_allowed = (
             ),
             record { tenant = _; is = refl; may = record { live = refl; fate = refl } },
           ),
-          record { tenant = _; is = refl; may = record { in_time = true; way = refl; waits = refl; value = 3; is_made = refl } },
+          record {
+            tenant = _;
+            is = refl;
+            may = record { in_time = true; way = refl; waits = refl; value = 3; is_made = refl };
+          },
         ),
         record { tenant = _; is = refl; may = record { live = refl; fate = refl; needs = refl } },
       ),
       record { tenant = _; is = refl; may = record { live = refl; fate = refl } },
     ),
-    record { tenant = _; is = refl; may = record { small = less _ _ refl; live = refl; oldest = tt; no_stop = tt; can = tt } },
+    record {
+      tenant = _;
+      is = refl;
+      may = record { small = less _ _ refl; live = refl; oldest = tt; no_stop = tt; can = tt };
+    },
   ),
-  record { tenant = _; is = refl; may = record { small = less _ _ refl; live = refl; oldest = (retired_not_live, tt); no_stop = ((λ e c. done_not_stop 3 c), tt); can = tt } },
+  record {
+    tenant = _;
+    is = refl;
+    may = record {
+      small = less _ _ refl;
+      live = refl;
+      oldest = (retired_not_live, tt);
+      no_stop = ((λ e c. done_not_stop 3 c), tt);
+      can = tt;
+    };
+  },
 )
 
 -- The branch was predicted not taken, and is mended; the break behind it is squashed
@@ -104,9 +148,27 @@ taken_once_allowed = (
               (
                 (
                   counted_to_two_allowed,
-                  record { room = less _ _ refl; queue = λ e. absurd (true≢false (sym e)); is_there = less _ _ refl; pc = refl; small = less _ _ refl; predicts = tt; first_is = refl; second_is = refl },
+                  record {
+                    room = less _ _ refl;
+                    queue = λ e. absurd (true≢false (sym e));
+                    is_there = less _ _ refl;
+                    pc = refl;
+                    small = less _ _ refl;
+                    predicts = tt;
+                    first_is = refl;
+                    second_is = refl;
+                  },
                 ),
-                record { room = less _ _ refl; queue = λ e. absurd (true≢false (sym e)); is_there = less _ _ refl; pc = refl; small = less _ _ refl; predicts = refl; first_is = refl; second_is = refl },
+                record {
+                  room = less _ _ refl;
+                  queue = λ e. absurd (true≢false (sym e));
+                  is_there = less _ _ refl;
+                  pc = refl;
+                  small = less _ _ refl;
+                  predicts = refl;
+                  first_is = refl;
+                  second_is = refl;
+                },
               ),
               record { tenant = _; is = refl; may = record { live = refl; fate = refl; needs = refl } },
             ),
@@ -116,11 +178,38 @@ taken_once_allowed = (
         ),
         record { tenant = _; is = refl; may = record { live = refl; fate = refl } },
       ),
-      record { tenant = _; is = refl; may = record { live = refl; youngest = tt; p = 2; miss = _; x = 0x400004; miss_at = refl; miss_live = refl; miss_fate = refl } },
+      record {
+        tenant = _;
+        is = refl;
+        may = record {
+          live = refl;
+          youngest = tt;
+          p = 2;
+          miss = _;
+          x = 0x400004;
+          miss_at = refl;
+          miss_live = refl;
+          miss_fate = refl;
+        };
+      },
     ),
-    record { tenant = _; is = refl; may = record { live = refl; youngest = (squashed_not_live, tt); x = 0x400004; fate = refl } },
+    record {
+      tenant = _;
+      is = refl;
+      may = record { live = refl; youngest = (squashed_not_live, tt); x = 0x400004; fate = refl };
+    },
   ),
-  record { tenant = _; is = refl; may = record { small = less _ _ refl; live = refl; oldest = (retired_not_live, (retired_not_live, tt)); no_stop = ((λ e c. done_not_stop 2 c), ((λ e c. done_not_stop 3 c), tt)); can = tt } },
+  record {
+    tenant = _;
+    is = refl;
+    may = record {
+      small = less _ _ refl;
+      live = refl;
+      oldest = (retired_not_live, (retired_not_live, tt));
+      no_stop = ((λ e c. done_not_stop 2 c), ((λ e c. done_not_stop 3 c), tt));
+      can = tt;
+    };
+  },
 )
 
 -- A second time round, where the branch waits for the counter
@@ -149,9 +238,35 @@ counted_to_one_allowed = (
               (
                 (
                   taken_once_allowed,
-                  record { room = less _ _ refl; queue = λ e. absurd (true≢false (sym e)); is_there = less _ _ refl; pc = refl; small = less _ _ refl; predicts = refl; first_is = refl; second_is = refl },
+                  record {
+                    room = less _ _ refl;
+                    queue = λ e. absurd (true≢false (sym e));
+                    is_there = less _ _ refl;
+                    pc = refl;
+                    small = less _ _ refl;
+                    predicts = refl;
+                    first_is = refl;
+                    second_is = refl;
+                  },
                 ),
-                record { room = less _ _ refl; queue = λ e. absurd (true≢false (sym e)); is_there = less _ _ refl; pc = refl; small = less _ _ refl; predicts = tt; first_is = record { p = 4; tenant = _; creates = refl; is = refl; waits = computes_not_links; other = apart 1 0 refl; last = tt }; second_is = refl },
+                record {
+                  room = less _ _ refl;
+                  queue = λ e. absurd (true≢false (sym e));
+                  is_there = less _ _ refl;
+                  pc = refl;
+                  small = less _ _ refl;
+                  predicts = tt;
+                  first_is = record {
+                    p = 4;
+                    tenant = _;
+                    creates = refl;
+                    is = refl;
+                    waits = computes_not_links;
+                    other = apart 1 0 refl;
+                    last = tt;
+                  };
+                  second_is = refl;
+                },
               ),
               record { tenant = _; is = refl; may = record { way = refl } },
             ),
@@ -159,13 +274,30 @@ counted_to_one_allowed = (
           ),
           record { tenant = _; is = refl; may = record { live = refl; fate = refl } },
         ),
-        record { tenant = _; is = refl; may = record { in_time = true; way = refl; waits = refl; value = 1; is_made = refl } },
+        record {
+          tenant = _;
+          is = refl;
+          may = record { in_time = true; way = refl; waits = refl; value = 1; is_made = refl };
+        },
       ),
       record { tenant = _; is = refl; may = record { live = refl; fate = refl; needs = refl } },
     ),
     record { tenant = _; is = refl; may = record { live = refl; fate = refl } },
   ),
-  record { tenant = _; is = refl; may = record { small = less _ _ refl; live = refl; oldest = (squashed_not_live, (retired_not_live, (retired_not_live, (retired_not_live, tt)))); no_stop = ((λ e. absurd (squashed_not_retired e)), ((λ e c. done_not_stop 0x400004 c), ((λ e c. done_not_stop 2 c), ((λ e c. done_not_stop 3 c), tt)))); can = tt } },
+  record {
+    tenant = _;
+    is = refl;
+    may = record {
+      small = less _ _ refl;
+      live = refl;
+      oldest = (squashed_not_live, (retired_not_live, (retired_not_live, (retired_not_live, tt))));
+      no_stop = (
+        (λ e. absurd (squashed_not_retired e)),
+        ((λ e c. done_not_stop 0x400004 c), ((λ e c. done_not_stop 2 c), ((λ e c. done_not_stop 3 c), tt))),
+      );
+      can = tt;
+    };
+  },
 )
 
 -- The second misprediction
@@ -184,13 +316,58 @@ taken_twice_allowed = (
     (
       (
         counted_to_one_allowed,
-        record { room = less _ _ refl; queue = λ e. absurd (true≢false (sym e)); is_there = less _ _ refl; pc = refl; small = less _ _ refl; predicts = refl; first_is = refl; second_is = refl },
+        record {
+          room = less _ _ refl;
+          queue = λ e. absurd (true≢false (sym e));
+          is_there = less _ _ refl;
+          pc = refl;
+          small = less _ _ refl;
+          predicts = refl;
+          first_is = refl;
+          second_is = refl;
+        },
       ),
-      record { tenant = _; is = refl; may = record { live = refl; youngest = tt; p = 5; miss = _; x = 0x400004; miss_at = refl; miss_live = refl; miss_fate = refl } },
+      record {
+        tenant = _;
+        is = refl;
+        may = record {
+          live = refl;
+          youngest = tt;
+          p = 5;
+          miss = _;
+          x = 0x400004;
+          miss_at = refl;
+          miss_live = refl;
+          miss_fate = refl;
+        };
+      },
     ),
-    record { tenant = _; is = refl; may = record { live = refl; youngest = (squashed_not_live, tt); x = 0x400004; fate = refl } },
+    record {
+      tenant = _;
+      is = refl;
+      may = record { live = refl; youngest = (squashed_not_live, tt); x = 0x400004; fate = refl };
+    },
   ),
-  record { tenant = _; is = refl; may = record { small = less _ _ refl; live = refl; oldest = (retired_not_live, (squashed_not_live, (retired_not_live, (retired_not_live, (retired_not_live, tt))))); no_stop = ((λ e c. done_not_stop 1 c), ((λ e. absurd (squashed_not_retired e)), ((λ e c. done_not_stop 0x400004 c), ((λ e c. done_not_stop 2 c), ((λ e c. done_not_stop 3 c), tt))))); can = tt } },
+  record {
+    tenant = _;
+    is = refl;
+    may = record {
+      small = less _ _ refl;
+      live = refl;
+      oldest = (
+        retired_not_live,
+        (squashed_not_live, (retired_not_live, (retired_not_live, (retired_not_live, tt)))),
+      );
+      no_stop = (
+        (λ e c. done_not_stop 1 c),
+        (
+          (λ e. absurd (squashed_not_retired e)),
+          ((λ e c. done_not_stop 0x400004 c), ((λ e c. done_not_stop 2 c), ((λ e c. done_not_stop 3 c), tt))),
+        ),
+      );
+      can = tt;
+    };
+  },
 )
 
 -- The branch is not taken, as predicted, and the break retires
@@ -229,9 +406,35 @@ left_the_loop_allowed = (
                         (
                           (
                             taken_twice_allowed,
-                            record { room = less _ _ refl; queue = λ e. absurd (true≢false (sym e)); is_there = less _ _ refl; pc = refl; small = less _ _ refl; predicts = refl; first_is = refl; second_is = refl },
+                            record {
+                              room = less _ _ refl;
+                              queue = λ e. absurd (true≢false (sym e));
+                              is_there = less _ _ refl;
+                              pc = refl;
+                              small = less _ _ refl;
+                              predicts = refl;
+                              first_is = refl;
+                              second_is = refl;
+                            },
                           ),
-                          record { room = less _ _ refl; queue = λ e. absurd (true≢false (sym e)); is_there = less _ _ refl; pc = refl; small = less _ _ refl; predicts = tt; first_is = record { p = 7; tenant = _; creates = refl; is = refl; waits = computes_not_links; other = apart 1 0 refl; last = tt }; second_is = refl },
+                          record {
+                            room = less _ _ refl;
+                            queue = λ e. absurd (true≢false (sym e));
+                            is_there = less _ _ refl;
+                            pc = refl;
+                            small = less _ _ refl;
+                            predicts = tt;
+                            first_is = record {
+                              p = 7;
+                              tenant = _;
+                              creates = refl;
+                              is = refl;
+                              waits = computes_not_links;
+                              other = apart 1 0 refl;
+                              last = tt;
+                            };
+                            second_is = refl;
+                          },
                         ),
                         record { tenant = _; is = refl; may = record { way = refl } },
                       ),
@@ -239,27 +442,161 @@ left_the_loop_allowed = (
                     ),
                     record { tenant = _; is = refl; may = record { live = refl; fate = refl } },
                   ),
-                  record { tenant = _; is = refl; may = record { in_time = true; way = refl; waits = refl; value = 0; is_made = refl } },
+                  record {
+                    tenant = _;
+                    is = refl;
+                    may = record { in_time = true; way = refl; waits = refl; value = 0; is_made = refl };
+                  },
                 ),
                 record { tenant = _; is = refl; may = record { live = refl; fate = refl; needs = refl } },
               ),
               record { tenant = _; is = refl; may = record { live = refl; fate = refl } },
             ),
-            record { tenant = _; is = refl; may = record { small = less _ _ refl; live = refl; oldest = (squashed_not_live, (retired_not_live, (retired_not_live, (squashed_not_live, (retired_not_live, (retired_not_live, (retired_not_live, tt))))))); no_stop = ((λ e. absurd (squashed_not_retired e)), ((λ e c. done_not_stop 0x400004 c), ((λ e c. done_not_stop 1 c), ((λ e. absurd (squashed_not_retired e)), ((λ e c. done_not_stop 0x400004 c), ((λ e c. done_not_stop 2 c), ((λ e c. done_not_stop 3 c), tt))))))); can = tt } },
+            record {
+              tenant = _;
+              is = refl;
+              may = record {
+                small = less _ _ refl;
+                live = refl;
+                oldest = (
+                  squashed_not_live,
+                  (
+                    retired_not_live,
+                    (
+                      retired_not_live,
+                      (squashed_not_live, (retired_not_live, (retired_not_live, (retired_not_live, tt)))),
+                    ),
+                  ),
+                );
+                no_stop = (
+                  (λ e. absurd (squashed_not_retired e)),
+                  (
+                    (λ e c. done_not_stop 0x400004 c),
+                    (
+                      (λ e c. done_not_stop 1 c),
+                      (
+                        (λ e. absurd (squashed_not_retired e)),
+                        (
+                          (λ e c. done_not_stop 0x400004 c),
+                          ((λ e c. done_not_stop 2 c), ((λ e c. done_not_stop 3 c), tt)),
+                        ),
+                      ),
+                    ),
+                  ),
+                );
+                can = tt;
+              };
+            },
           ),
-          record { room = less _ _ refl; queue = λ e. absurd (true≢false (sym e)); is_there = less _ _ refl; pc = refl; small = less _ _ refl; predicts = refl; first_is = refl; second_is = refl },
+          record {
+            room = less _ _ refl;
+            queue = λ e. absurd (true≢false (sym e));
+            is_there = less _ _ refl;
+            pc = refl;
+            small = less _ _ refl;
+            predicts = refl;
+            first_is = refl;
+            second_is = refl;
+          },
         ),
-        record { tenant = _; is = refl; may = record { small = less _ _ refl; live = refl; oldest = (retired_not_live, (squashed_not_live, (retired_not_live, (retired_not_live, (squashed_not_live, (retired_not_live, (retired_not_live, (retired_not_live, tt)))))))); no_stop = ((λ e c. done_not_stop 0 c), ((λ e. absurd (squashed_not_retired e)), ((λ e c. done_not_stop 0x400004 c), ((λ e c. done_not_stop 1 c), ((λ e. absurd (squashed_not_retired e)), ((λ e c. done_not_stop 0x400004 c), ((λ e c. done_not_stop 2 c), ((λ e c. done_not_stop 3 c), tt)))))))); can = tt } },
+        record {
+          tenant = _;
+          is = refl;
+          may = record {
+            small = less _ _ refl;
+            live = refl;
+            oldest = (
+              retired_not_live,
+              (
+                squashed_not_live,
+                (
+                  retired_not_live,
+                  (
+                    retired_not_live,
+                    (squashed_not_live, (retired_not_live, (retired_not_live, (retired_not_live, tt)))),
+                  ),
+                ),
+              ),
+            );
+            no_stop = (
+              (λ e c. done_not_stop 0 c),
+              (
+                (λ e. absurd (squashed_not_retired e)),
+                (
+                  (λ e c. done_not_stop 0x400004 c),
+                  (
+                    (λ e c. done_not_stop 1 c),
+                    (
+                      (λ e. absurd (squashed_not_retired e)),
+                      (
+                        (λ e c. done_not_stop 0x400004 c),
+                        ((λ e c. done_not_stop 2 c), ((λ e c. done_not_stop 3 c), tt)),
+                      ),
+                    ),
+                  ),
+                ),
+              ),
+            );
+            can = tt;
+          };
+        },
       ),
       record { tenant = _; is = refl; may = record { live = refl; fate = refl; needs = refl } },
     ),
     record { tenant = _; is = refl; may = record { live = refl; fate = refl } },
   ),
-  record { tenant = _; is = refl; may = record { small = less _ _ refl; live = refl; oldest = (retired_not_live, (retired_not_live, (squashed_not_live, (retired_not_live, (retired_not_live, (squashed_not_live, (retired_not_live, (retired_not_live, (retired_not_live, tt))))))))); no_stop = ((λ e c. done_not_stop 0x40000c c), ((λ e c. done_not_stop 0 c), ((λ e. absurd (squashed_not_retired e)), ((λ e c. done_not_stop 0x400004 c), ((λ e c. done_not_stop 1 c), ((λ e. absurd (squashed_not_retired e)), ((λ e c. done_not_stop 0x400004 c), ((λ e c. done_not_stop 2 c), ((λ e c. done_not_stop 3 c), tt))))))))); can = tt } },
+  record {
+    tenant = _;
+    is = refl;
+    may = record {
+      small = less _ _ refl;
+      live = refl;
+      oldest = (
+        retired_not_live,
+        (
+          retired_not_live,
+          (
+            squashed_not_live,
+            (
+              retired_not_live,
+              (
+                retired_not_live,
+                (squashed_not_live, (retired_not_live, (retired_not_live, (retired_not_live, tt)))),
+              ),
+            ),
+          ),
+        ),
+      );
+      no_stop = (
+        (λ e c. done_not_stop 0x40000c c),
+        (
+          (λ e c. done_not_stop 0 c),
+          (
+            (λ e. absurd (squashed_not_retired e)),
+            (
+              (λ e c. done_not_stop 0x400004 c),
+              (
+                (λ e c. done_not_stop 1 c),
+                (
+                  (λ e. absurd (squashed_not_retired e)),
+                  (
+                    (λ e c. done_not_stop 0x400004 c),
+                    ((λ e c. done_not_stop 2 c), ((λ e c. done_not_stop 3 c), tt)),
+                  ),
+                ),
+              ),
+            ),
+          ),
+        ),
+      );
+      can = tt;
+    };
+  },
 )
 
 -- Seven instructions have committed, the counter is 0, and the pc is that of the break
-loop_committed : committed loop (reached loop two_stations left_the_loop).tenants ≡ record { registers = replicate 32 0; memory = []; pc = 0x0040000c; count = 7 }
+loop_committed : committed loop (reached loop two_stations left_the_loop).tenants ≡
+    record { registers = replicate 32 0; memory = []; pc = 0x0040000c; count = 7 }
 unfolding instr_at computed_by jump_target checked_address loaded
 loop_committed = refl
 

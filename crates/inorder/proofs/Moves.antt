@@ -1,5 +1,5 @@
 -- What an allowed step does to each tenant.
-use Rattle.std.proofs.Common.{◌≡◌, ◌≢◌, ◌⊎◌, ℕ, ◌<◌, Bool, true, false, cond, eqb, List, length, Option, Some, None, refl, sym, ap, ◌∙◌, subst, inl, inr, ⊎_elim, arith}
+use Rattle.std.proofs.Common.{◌≡◌, ◌≢◌, ◌⊎◌, ℕ, Bool, true, false, cond, eqb, List, length, Option, Some, refl, sym, ap, ◌∙◌, subst, inl, inr, ⊎_elim, arith}
 use mathlib.Core.Logic.{dite}
 use native.Mathlib.Decide.{ℕ_discrete}
 use Rattle.isa.specs.Programs.{Program}
@@ -14,7 +14,7 @@ use Rattle.inorder.specs.declared.history.Step.TheVariants.{Let, On}
 use Rattle.inorder.specs.Callers.{IsHeld}
 use Rattle.inorder.specs.Legal.{Allowed, May, MayAct, applied, change_at, changed}
 use Rattle.inorder.specs.Replies.{IsOpen}
-use Rattle.inorder.specs.Steps.{CanRetire, MayDeliver, MayLink, delivered, finished, linked, mended_as, new_tenant}
+use Rattle.inorder.specs.Steps.{CanRetire, finished, linked, mended_as, new_tenant}
 use Rattle.inorder.specs.Tenants.{Addr, Busy, Done, Fate, Linked, Live, Miss, Open, Operand, Retired, Squashed, Standing, Stopped, Tenant, computed, kind_of, operand, with_operand}
 use Rattle.inorder.specs.Unit.{Sizes, UpdateUnit, at, older, replaced, younger}
 use Rattle.inorder.proofs.Basics.{split_at}

@@ -11,17 +11,19 @@ use Rattle.inorder.specs.declared.history.Step.TheVariants.{Let, On}
 use Rattle.inorder.specs.declared.history.Supply.{Supply}
 use Rattle.inorder.specs.declared.history.Supply.TheVariants.{From, Known}
 use Rattle.inorder.specs.Legal.{Allowed, Taken, applied, changed, reached}
-use Rattle.inorder.specs.OperandWords.{KeepsOperands, MovesOperands, OperandsFollow, operand_word, operand_word_of, supplied, supply_of}
+use Rattle.inorder.specs.OperandWords.{let_word, KeepsOperands, MovesOperands, OperandsFollow, operand_word, operand_word_of, supplied, supply_of}
 use Rattle.inorder.specs.StationWords.{last_of}
 use Rattle.inorder.specs.Steps.{delivered, finished, mended_as, new_tenant}
 use Rattle.inorder.specs.Tenants.{Addr, Busy, Done, Fate, Miss, Open, Stopped, Tenant, computed, operand}
 use Rattle.inorder.specs.Unit.{Sizes, UpdateUnit, at, next_station, next_tag, older, recent, value_of, younger}
 use Rattle.inorder.proofs.Basics.{eqb_less, eqb_self, split_at}
-use Rattle.inorder.proofs.Kept.{parts}
+use Rattle.inorder.proofs.Kept.{kept, parts}
 use Rattle.inorder.proofs.Tags.{AreTagged, higher, same_place, tagged}
 
 -- The last tenant of a station, as seen by a function of it
-seen_same : {X : Type 0} (g : Option Tenant → X) (t u : Tenant) (ts ys : List Tenant) (s : ℕ) → u.station ≡ t.station → g (Some u) ≡ g (Some t) → g (last_of (ys ++ u ∷ ts) s) ≡ g (last_of (ys ++ t ∷ ts) s)
+seen_same : {X : Type 0} (g : Option Tenant → X) (t u : Tenant) (ts ys : List Tenant) (s : ℕ) →
+    u.station ≡ t.station → g (Some u) ≡ g (Some t) →
+    g (last_of (ys ++ u ∷ ts) s) ≡ g (last_of (ys ++ t ∷ ts) s)
 seen_same g t u ts [] s e f = ap (λ q. g (cond (eqb q s) (Some u) (last_of ts s))) e ∙ go (eqb t.station s)
   where
     go : (b : Bool) → g (cond b (Some u) (last_of ts s)) ≡ g (cond b (Some t) (last_of ts s))
@@ -29,7 +31,8 @@ seen_same g t u ts [] s e f = ap (λ q. g (cond (eqb q s) (Some u) (last_of ts s
     go false = refl
 seen_same g t u ts (y ∷ ys) s e f = go (eqb y.station s) (seen_same g t u ts ys s e f)
   where
-    go : (b : Bool) → g (last_of (ys ++ u ∷ ts) s) ≡ g (last_of (ys ++ t ∷ ts) s) → g (cond b (Some y) (last_of (ys ++ u ∷ ts) s)) ≡ g (cond b (Some y) (last_of (ys ++ t ∷ ts) s))
+    go : (b : Bool) → g (last_of (ys ++ u ∷ ts) s) ≡ g (last_of (ys ++ t ∷ ts) s) →
+        g (cond b (Some y) (last_of (ys ++ u ∷ ts) s)) ≡ g (cond b (Some y) (last_of (ys ++ t ∷ ts) s))
     go true h = refl
     go false h = h
 
@@ -38,17 +41,24 @@ mid_at : (t : Tenant) (ts ys : List Tenant) → at (ys ++ t ∷ ts) (length ts) 
 mid_at t ts [] = ap (λ b. cond b (Some t) (at ts (length ts))) (eqb_self (length ts))
 mid_at t ts (y ∷ ys) =
     let less : length ts < length (ys ++ t ∷ ts) = omega (arith, length-append ys (t ∷ ts)) in
-    ap (λ b. cond b (Some y) (at (ys ++ t ∷ ts) (length ts))) (eqb_less (length ts) (length (ys ++ t ∷ ts)) less) ∙ mid_at t ts ys
+    ap (λ b. cond b (Some y) (at (ys ++ t ∷ ts) (length ts))) (eqb_less (length ts)
+    (length (ys ++ t ∷ ts)) less) ∙ mid_at t ts ys
 
 -- where t is the last, another in its place is the last
-last_here : (C : Sizes) (t u : Tenant) (ts ys : List Tenant) → u.station ≡ t.station → AreTagged C (ys ++ t ∷ ts) → last_of (ys ++ t ∷ ts) t.station ≡ Some t → last_of (ys ++ u ∷ ts) t.station ≡ Some u
-last_here C t u ts [] e tags h = ap (λ b. cond b (Some u) (last_of ts t.station)) (ap (λ q. eqb q t.station) e ∙ eqb_self t.station)
+last_here : (C : Sizes) (t u : Tenant) (ts ys : List Tenant) → u.station ≡ t.station →
+    AreTagged C (ys ++ t ∷ ts) → last_of (ys ++ t ∷ ts) t.station ≡ Some t →
+    last_of (ys ++ u ∷ ts) t.station ≡ Some u
+last_here C t u ts [] e tags h =
+    ap (λ b. cond b (Some u) (last_of ts t.station)) (ap (λ q. eqb q t.station) e ∙ eqb_self t.station)
 last_here C t u ts (y ∷ ys) e tags h = go (eqb y.station t.station) refl (last_here C t u ts ys e tags.1)
   where
-    head : (b : Bool) → eqb y.station t.station ≡ b → cond b (Some y) (last_of (ys ++ t ∷ ts) t.station) ≡ Some t
+    head : (b : Bool) → eqb y.station t.station ≡ b →
+        cond b (Some y) (last_of (ys ++ t ∷ ts) t.station) ≡ Some t
     head b g = ap (λ x. cond x (Some y) (last_of (ys ++ t ∷ ts) t.station)) (sym g) ∙ h
 
-    go : (b : Bool) → eqb y.station t.station ≡ b → (last_of (ys ++ t ∷ ts) t.station ≡ Some t → last_of (ys ++ u ∷ ts) t.station ≡ Some u) → last_of (y ∷ (ys ++ u ∷ ts)) t.station ≡ Some u
+    go : (b : Bool) → eqb y.station t.station ≡ b →
+        (last_of (ys ++ t ∷ ts) t.station ≡ Some t → last_of (ys ++ u ∷ ts) t.station ≡ Some u) →
+        last_of (y ∷ (ys ++ u ∷ ts)) t.station ≡ Some u
     go true g rest =
         let is : y ≡ t = cc (head true g) in
         let low = higher C y t (ys ++ t ∷ ts) (length ts) tags (mid_at t ts ys) (ap (λ z. z.station) is) in
@@ -57,31 +67,39 @@ last_here C t u ts (y ∷ ys) e tags h = go (eqb y.station t.station) refl (last
     go false g rest = ap (λ x. cond x (Some y) (last_of (ys ++ u ∷ ts) t.station)) g ∙ rest (head false g)
 
 -- where it is not, nothing changes
-last_not : (t u : Tenant) (ts ys : List Tenant) (s : ℕ) → u.station ≡ t.station → last_of (ys ++ t ∷ ts) s ≢ Some t → last_of (ys ++ u ∷ ts) s ≡ last_of (ys ++ t ∷ ts) s
+last_not : (t u : Tenant) (ts ys : List Tenant) (s : ℕ) → u.station ≡ t.station →
+    last_of (ys ++ t ∷ ts) s ≢ Some t → last_of (ys ++ u ∷ ts) s ≡ last_of (ys ++ t ∷ ts) s
 last_not t u ts [] s e h = ap (λ q. cond (eqb q s) (Some u) (last_of ts s)) e ∙ go (eqb t.station s) h
   where
-    go : (b : Bool) → cond b (Some t) (last_of ts s) ≢ Some t → cond b (Some u) (last_of ts s) ≡ cond b (Some t) (last_of ts s)
+    go : (b : Bool) → cond b (Some t) (last_of ts s) ≢ Some t →
+        cond b (Some u) (last_of ts s) ≡ cond b (Some t) (last_of ts s)
     go true n = absurd (n refl)
     go false n = refl
 last_not t u ts (y ∷ ys) s e h = go (eqb y.station s) h (last_not t u ts ys s e)
   where
-    go : (b : Bool) → cond b (Some y) (last_of (ys ++ t ∷ ts) s) ≢ Some t → (last_of (ys ++ t ∷ ts) s ≢ Some t → last_of (ys ++ u ∷ ts) s ≡ last_of (ys ++ t ∷ ts) s) → cond b (Some y) (last_of (ys ++ u ∷ ts) s) ≡ cond b (Some y) (last_of (ys ++ t ∷ ts) s)
+    go : (b : Bool) → cond b (Some y) (last_of (ys ++ t ∷ ts) s) ≢ Some t →
+        (last_of (ys ++ t ∷ ts) s ≢ Some t → last_of (ys ++ u ∷ ts) s ≡ last_of (ys ++ t ∷ ts) s) →
+        cond b (Some y) (last_of (ys ++ u ∷ ts) s) ≡ cond b (Some y) (last_of (ys ++ t ∷ ts) s)
     go true n rest = refl
     go false n rest = rest n
 
 -- what a delivery leaves of the tenant
-given_operand : (ts : List Tenant) (t : Tenant) (k : Source) → operand_word_of k (Some (delivered ts t k)) ≡ Some (record { tag = t.tag; value = value_of ts (operand k t).creator })
+given_operand : (ts : List Tenant) (t : Tenant) (k : Source) →
+    operand_word_of k (Some (delivered ts t k)) ≡ Some
+    (record { tag = t.tag; value = value_of ts (operand k t).creator })
 given_operand ts t First = refl
 given_operand ts t Second = refl
 
-other_operand : (ts : List Tenant) (t : Tenant) (j k : Source) → j ≢ k → operand_word_of j (Some (delivered ts t k)) ≡ operand_word_of j (Some t)
+other_operand : (ts : List Tenant) (t : Tenant) (j k : Source) → j ≢ k →
+    operand_word_of j (Some (delivered ts t k)) ≡ operand_word_of j (Some t)
 other_operand ts t First First h = absurd (h refl)
 other_operand ts t First Second h = refl
 other_operand ts t Second First h = refl
 other_operand ts t Second Second h = absurd (h refl)
 
 -- what the other acts leave
-kept_operand : (P : Program) (by : ℕ) (act : Act) (t : Tenant) (ts : List Tenant) (j : Source) → KeepsOperands act → operand_word_of j (Some (changed P by act t ts)) ≡ operand_word_of j (Some t)
+kept_operand : (P : Program) (by : ℕ) (act : Act) (t : Tenant) (ts : List Tenant) (j : Source) →
+    KeepsOperands act → operand_word_of j (Some (changed P by act t ts)) ≡ operand_word_of j (Some t)
 kept_operand P by (Deliver w) t ts j k = absurd k
 kept_operand P by (Link First) t ts First k = refl
 kept_operand P by (Link First) t ts Second k = refl
@@ -119,48 +137,74 @@ kept_operand P by Mend t ts j k = go t.fate j
 
 module _ (P : Program) (C : Sizes) (U : UpdateUnit) (by : ℕ) (tags : AreTagged C (recent U)) where
   -- what a let gives
-  let_operands : (index predicted : ℕ) (first second : Supply) (k : Source) → operand_word_of k (Some (new_tenant P C U index predicted first second)) ≡ Some (record { tag = next_tag C (recent U); value = supplied (supply_of k first second) })
+  let_operands : (index predicted : ℕ) (first second : Supply) (k : Source) →
+      operand_word_of k (Some (new_tenant P C U index predicted first second)) ≡ Some
+      (let_word (next_tag C (recent U)) (supply_of k first second))
   let_operands index predicted (Known v) second First = refl
   let_operands index predicted From second First = refl
   let_operands index predicted first (Known v) Second = refl
   let_operands index predicted first From Second = refl
 
-  after_let : (index predicted : ℕ) (first second : Supply) (s : ℕ) (k : Source) → operand_word (recent (applied P C U by (Let index predicted first second))) s k ≡ cond (eqb (next_station C (recent U)) s) (Some (record { tag = next_tag C (recent U); value = supplied (supply_of k first second) })) (operand_word (recent U) s k)
+  after_let : (index predicted : ℕ) (first second : Supply) (s : ℕ) (k : Source) →
+      operand_word (recent (applied P C U by (Let index predicted first second))) s k ≡ cond (eqb
+      (next_station C (recent U)) s) (Some
+      (let_word (next_tag C (recent U)) (supply_of k first second))) (operand_word
+      (recent U) s k)
   after_let index predicted first second s k = go (eqb (next_station C (recent U)) s)
     where
-      go : (b : Bool) → operand_word_of k (cond b (Some (new_tenant P C U index predicted first second)) (last_of (recent U) s)) ≡ cond b (Some (record { tag = next_tag C (recent U); value = supplied (supply_of k first second) })) (operand_word (recent U) s k)
+      go : (b : Bool) →
+          operand_word_of k (cond b (Some (new_tenant P C U index predicted first second))
+          (last_of (recent U) s)) ≡ cond b (Some
+          (let_word (next_tag C (recent U)) (supply_of k first second))) (operand_word
+          (recent U) s k)
       go true = let_operands index predicted first second k
       go false = refl
 
-  to_last : (p : ℕ) (k : Source) (t : Tenant) → at U.tenants p ≡ Some t → last_of (recent U) t.station ≡ Some t → operand_word (recent (applied P C U by (On p (Deliver k)))) t.station k ≡ Some (record { tag = t.tag; value = value_of (older U.tenants p) (operand k t).creator })
+  to_last : (p : ℕ) (k : Source) (t : Tenant) → at U.tenants p ≡ Some t →
+      last_of (recent U) t.station ≡ Some t →
+      operand_word (recent (applied P C U by (On p (Deliver k)))) t.station k ≡ Some
+      (record { tag = t.tag; value = value_of (older U.tenants p) (operand k t).creator })
   to_last p k t e h =
       let ts = U.tenants in
       let split = split_at ts p t e in
       let u = delivered (older ts p) t k in
       let same = (same_place P by (Deliver k) t (older ts p)).0 in
-      let last = last_here C t u (older ts p) (younger ts p) same (subst (AreTagged C) split tags) (ap (λ W. last_of W t.station) (sym split) ∙ h) in
-      ap (λ W. operand_word W t.station k) (parts P ts by p (Deliver k) t e) ∙ ap (operand_word_of k) last ∙ given_operand (older ts p) t k
+      let last = last_here C t u (older ts p) (younger ts p) same (subst (AreTagged C) split tags) (ap
+      (λ W. last_of W t.station) (sym split) ∙ h) in
+      ap (λ W. operand_word W t.station k) (parts P ts by p (Deliver k) t e) ∙ ap (operand_word_of k) last
+      ∙ given_operand (older ts p) t k
 
-  elsewhere : (p : ℕ) (k : Source) (t : Tenant) (s : ℕ) (j : Source) → at U.tenants p ≡ Some t → (last_of (recent U) s ≢ Some t) ⊎ (j ≢ k) → operand_word (recent (applied P C U by (On p (Deliver k)))) s j ≡ operand_word (recent U) s j
+  elsewhere : (p : ℕ) (k : Source) (t : Tenant) (s : ℕ) (j : Source) → at U.tenants p ≡ Some t →
+      (last_of (recent U) s ≢ Some t) ⊎ (j ≢ k) →
+      operand_word (recent (applied P C U by (On p (Deliver k)))) s j ≡ operand_word (recent U) s j
   elsewhere p k t s j e h =
       let ts = U.tenants in
       let split = split_at ts p t e in
       let u = delivered (older ts p) t k in
       let same = (same_place P by (Deliver k) t (older ts p)).0 in
-      let n : (last_of ts s ≢ Some t) → operand_word (younger ts p ++ u ∷ older ts p) s j ≡ operand_word (younger ts p ++ t ∷ older ts p) s j =
-      λ ne. ap (operand_word_of j) (last_not t u (older ts p) (younger ts p) s same (λ x. ne (ap (λ W. last_of W s) split ∙ x)))
+      let n : (last_of ts s ≢ Some t) →
+      operand_word (younger ts p ++ u ∷ older ts p) s j ≡ operand_word
+      (younger ts p ++ t ∷ older ts p) s j =
+      λ ne. ap (operand_word_of j) (last_not t u (older ts p) (younger ts p) s same
+      (λ x. ne (ap (λ W. last_of W s) split ∙ x)))
       in
-      let m : (j ≢ k) → operand_word (younger ts p ++ u ∷ older ts p) s j ≡ operand_word (younger ts p ++ t ∷ older ts p) s j =
-      λ ne. seen_same (operand_word_of j) t u (older ts p) (younger ts p) s same (other_operand (older ts p) t j k ne)
+      let m : (j ≢ k) →
+      operand_word (younger ts p ++ u ∷ older ts p) s j ≡ operand_word
+      (younger ts p ++ t ∷ older ts p) s j =
+      λ ne. seen_same (operand_word_of j) t u (older ts p) (younger ts p) s same (other_operand
+      (older ts p) t j k ne)
       in
-      ap (λ W. operand_word W s j) (parts P ts by p (Deliver k) t e) ∙ ⊎_elim n m h ∙ ap (λ W. operand_word W s j) (sym split)
+      ap (λ W. operand_word W s j) (parts P ts by p (Deliver k) t e) ∙ ⊎_elim n m h
+      ∙ ap (λ W. operand_word W s j) (sym split)
 
-  operands_kept : (p : ℕ) (act : Act) (s : ℕ) (j : Source) → KeepsOperands act → Allowed P C U by (On p act) → operand_word (recent (applied P C U by (On p act))) s j ≡ operand_word (recent U) s j
+  operands_kept : (p : ℕ) (act : Act) (s : ℕ) (j : Source) → KeepsOperands act → Allowed P C U by (On p act) →
+      operand_word (recent (applied P C U by (On p act))) s j ≡ operand_word (recent U) s j
   operands_kept p act s j k a =
       let ts = U.tenants in
       let t = a.tenant in
       ap (λ W. operand_word W s j) (parts P ts by p act t a.is)
-      ∙ seen_same (operand_word_of j) t (changed P by act t (older ts p)) (older ts p) (younger ts p) s (same_place P by act t (older ts p)).0 (kept_operand P by act t (older ts p) j k)
+      ∙ seen_same (operand_word_of j) t (changed P by act t (older ts p)) (older ts p) (younger ts p) s
+      (same_place P by act t (older ts p)).0 (kept_operand P by act t (older ts p) j k)
       ∙ ap (λ W. operand_word W s j) (sym (split_at ts p t a.is))
 
   moves_operands : MovesOperands P C U by

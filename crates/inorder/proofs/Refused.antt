@@ -19,11 +19,14 @@ use Rattle.inorder.proofs.StoreRun.{bytes_and_words, forwards, four_entries, loa
 use Rattle.inorder.proofs.WrongPathRun.{fault_on_the_wrong_path, four_stations, recovered, skips}
 
 -- the fate and standing of the tenant at a position
-fate_is : (o : Option Tenant) (t : Tenant) (f : Fate) → o ≡ Some t → option_map (λ u. u.fate) o ≡ Some f → t.fate ≡ f
+fate_is : (o : Option Tenant) (t : Tenant) (f : Fate) → o ≡ Some t → option_map (λ u. u.fate) o ≡ Some f →
+    t.fate ≡ f
 fate_is o t f e h = let both : Some t.fate ≡ Some f = sym (ap (option_map (λ u. u.fate)) e) ∙ h in cc both
 
-standing_is : (o : Option Tenant) (t : Tenant) (s : Standing) → o ≡ Some t → option_map (λ u. u.standing) o ≡ Some s → t.standing ≡ s
-standing_is o t s e h = let both : Some t.standing ≡ Some s = sym (ap (option_map (λ u. u.standing)) e) ∙ h in cc both
+standing_is : (o : Option Tenant) (t : Tenant) (s : Standing) → o ≡ Some t →
+    option_map (λ u. u.standing) o ≡ Some s → t.standing ≡ s
+standing_is o t s e h =
+    let both : Some t.standing ≡ Some s = sym (ap (option_map (λ u. u.standing)) e) ∙ h in cc both
 
 busy_not_open : (by : ℕ) → Busy by ≢ Open
 busy_not_open by e = cc
@@ -35,27 +38,34 @@ open_not_addr : (a : ℕ) → Open ≢ Addr a
 open_not_addr a e = cc
 
 -- A branch that is a miss retires only after it was mended
-miss_retires_not : ¬ Allowed skips four_stations (reached skips four_stations fault_on_the_wrong_path) 1 (On 0 (Retire 0))
+miss_retires_not : ¬ Allowed skips four_stations (reached skips four_stations fault_on_the_wrong_path) 1 (On 0
+    (Retire 0))
 unfolding instr_at computed_by jump_target checked_address loaded
-miss_retires_not a = subst (CanRetire (kind_of skips a.tenant) a.tenant.second.value) (fate_is _ a.tenant (Miss 0x00400008) a.is refl) a.may.can
+miss_retires_not a =
+    subst (CanRetire (kind_of skips a.tenant) a.tenant.second.value) (fate_is _ a.tenant
+    (Miss 0x00400008) a.is refl) a.may.can
 
 -- The fault on the wrong path ends nothing: it is not the oldest, and squashed it is not live
-wrong_path_stop_retires_not : ¬ Allowed skips four_stations (reached skips four_stations recovered) 1 (On 1 (Retire 0))
+wrong_path_stop_retires_not : ¬ Allowed skips four_stations (reached skips four_stations recovered) 1 (On 1
+    (Retire 0))
 unfolding instr_at computed_by jump_target checked_address loaded
 wrong_path_stop_retires_not a = squashed_not_live (sym (standing_is _ a.tenant Squashed a.is refl) ∙ a.may.live)
 
 -- A load waits for the address of each older live store
-load_passes_no_store : ¬ Allowed forwards two_entries (reached forwards two_entries load_has_address) 1 (On 2 Load)
+load_passes_no_store : ¬ Allowed forwards two_entries (reached forwards two_entries load_has_address) 1
+    (On 2 Load)
 unfolding instr_at computed_by jump_target checked_address loaded
 load_passes_no_store a = let known = a.may.addresses.0 refl refl in open_not_addr known.0 known.1
 
 -- A byte is not forwarded to a word: the rule names the byte store
-byte_blocks_word : answer (queue_of bytes_and_words (reached bytes_and_words four_entries stores_have_addresses).tenants) 2 ≡ Blocked 1
+byte_blocks_word : answer (queue_of bytes_and_words
+    (reached bytes_and_words four_entries stores_have_addresses).tenants) 2 ≡ Blocked 1
 unfolding instr_at computed_by jump_target checked_address loaded
 byte_blocks_word = refl
 
 -- A store without its address blocks, whatever it will be
-unknown_store_blocks : answer (queue_of forwards (reached forwards two_entries load_has_address).tenants) 1 ≡ Blocked 0
+unknown_store_blocks : answer (queue_of forwards (reached forwards two_entries load_has_address).tenants) 1 ≡
+    Blocked 0
 unfolding instr_at computed_by jump_target checked_address loaded
 unknown_store_blocks = refl
 
@@ -72,7 +82,8 @@ second_claim a = busy_not_open 2 (sym (fate_is _ a.tenant (Busy 2) a.is refl) �
 -- A finish is that of the caller that has the job
 other_callers_finish : ¬ Allowed relets four (reached relets four job_on_the_wrong_path) 3 (On 1 Finish)
 unfolding instr_at computed_by jump_target checked_address loaded
-other_callers_finish a = apart 2 3 refl (busy_by_one 2 3 (sym (fate_is _ a.tenant (Busy 2) a.is refl) ∙ a.may.fate))
+other_callers_finish a =
+    apart 2 3 refl (busy_by_one 2 3 (sym (fate_is _ a.tenant (Busy 2) a.is refl) ∙ a.may.fate))
 
 -- A job on the wrong path is stale once its tenant was squashed, also where the station was let again
 stale_finish : ¬ Allowed relets four (reached relets four relet) 2 (On 1 Finish)
@@ -80,7 +91,8 @@ unfolding instr_at computed_by jump_target checked_address loaded
 stale_finish a = squashed_not_live (sym (standing_is _ a.tenant Squashed a.is refl) ∙ a.may.live)
 
 -- The wrong path creates nothing once it is squashed
-wrong_path_creates : creator dead_link (reached dead_link ring_of_four linked_on_the_wrong_path).tenants 2 ≡ Some 3
+wrong_path_creates : creator dead_link (reached dead_link ring_of_four linked_on_the_wrong_path).tenants 2 ≡
+    Some 3
 unfolding instr_at computed_by jump_target checked_address loaded
 wrong_path_creates = refl
 

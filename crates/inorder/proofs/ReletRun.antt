@@ -48,11 +48,38 @@ job_on_the_wrong_path_allowed = (
         (
           (
             tt,
-            record { room = less _ _ refl; queue = λ e. absurd (true≢false (sym e)); is_there = less _ _ refl; pc = refl; small = less _ _ refl; predicts = tt; first_is = refl; second_is = refl },
+            record {
+              room = less _ _ refl;
+              queue = λ e. absurd (true≢false (sym e));
+              is_there = less _ _ refl;
+              pc = refl;
+              small = less _ _ refl;
+              predicts = tt;
+              first_is = refl;
+              second_is = refl;
+            },
           ),
-          record { room = less _ _ refl; queue = λ e. absurd (true≢false (sym e)); is_there = less _ _ refl; pc = refl; small = less _ _ refl; predicts = refl; first_is = refl; second_is = refl },
+          record {
+            room = less _ _ refl;
+            queue = λ e. absurd (true≢false (sym e));
+            is_there = less _ _ refl;
+            pc = refl;
+            small = less _ _ refl;
+            predicts = refl;
+            first_is = refl;
+            second_is = refl;
+          },
         ),
-        record { room = less _ _ refl; queue = λ e. absurd (true≢false (sym e)); is_there = less _ _ refl; pc = refl; small = less _ _ refl; predicts = refl; first_is = refl; second_is = refl },
+        record {
+          room = less _ _ refl;
+          queue = λ e. absurd (true≢false (sym e));
+          is_there = less _ _ refl;
+          pc = refl;
+          small = less _ _ refl;
+          predicts = refl;
+          first_is = refl;
+          second_is = refl;
+        },
       ),
       record { tenant = _; is = refl; may = record { live = refl; fate = refl; needs = refl } },
     ),
@@ -77,13 +104,57 @@ relet_allowed = (
     (
       (
         job_on_the_wrong_path_allowed,
-        record { tenant = _; is = refl; may = record { live = refl; youngest = tt; p = 0; miss = _; x = 0x400008; miss_at = refl; miss_live = refl; miss_fate = refl } },
+        record {
+          tenant = _;
+          is = refl;
+          may = record {
+            live = refl;
+            youngest = tt;
+            p = 0;
+            miss = _;
+            x = 0x400008;
+            miss_at = refl;
+            miss_live = refl;
+            miss_fate = refl;
+          };
+        },
       ),
-      record { tenant = _; is = refl; may = record { live = refl; youngest = (squashed_not_live, tt); p = 0; miss = _; x = 0x400008; miss_at = refl; miss_live = refl; miss_fate = refl } },
+      record {
+        tenant = _;
+        is = refl;
+        may = record {
+          live = refl;
+          youngest = (squashed_not_live, tt);
+          p = 0;
+          miss = _;
+          x = 0x400008;
+          miss_at = refl;
+          miss_live = refl;
+          miss_fate = refl;
+        };
+      },
     ),
-    record { tenant = _; is = refl; may = record { live = refl; youngest = (squashed_not_live, (squashed_not_live, tt)); x = 0x400008; fate = refl } },
+    record {
+      tenant = _;
+      is = refl;
+      may = record {
+        live = refl;
+        youngest = (squashed_not_live, (squashed_not_live, tt));
+        x = 0x400008;
+        fate = refl;
+      };
+    },
   ),
-  record { room = less _ _ refl; queue = λ e. absurd (true≢false (sym e)); is_there = less _ _ refl; pc = refl; small = less _ _ refl; predicts = refl; first_is = refl; second_is = refl },
+  record {
+    room = less _ _ refl;
+    queue = λ e. absurd (true≢false (sym e));
+    is_there = less _ _ refl;
+    pc = refl;
+    small = less _ _ refl;
+    predicts = refl;
+    first_is = refl;
+    second_is = refl;
+  },
 )
 
 -- All retire in order; the old job is never finished
@@ -114,17 +185,59 @@ relet_ended_allowed = (
               ),
               record { tenant = _; is = refl; may = record { live = refl; fate = refl } },
             ),
-            record { tenant = _; is = refl; may = record { small = less _ _ refl; live = refl; oldest = tt; no_stop = tt; can = tt } },
+            record {
+              tenant = _;
+              is = refl;
+              may = record { small = less _ _ refl; live = refl; oldest = tt; no_stop = tt; can = tt };
+            },
           ),
-          record { tenant = _; is = refl; may = record { small = less _ _ refl; live = refl; oldest = (squashed_not_live, (squashed_not_live, (retired_not_live, tt))); no_stop = ((λ e. absurd (squashed_not_retired e)), ((λ e. absurd (squashed_not_retired e)), ((λ e c. done_not_stop 0x400008 c), tt))); can = tt } },
+          record {
+            tenant = _;
+            is = refl;
+            may = record {
+              small = less _ _ refl;
+              live = refl;
+              oldest = (squashed_not_live, (squashed_not_live, (retired_not_live, tt)));
+              no_stop = (
+                (λ e. absurd (squashed_not_retired e)),
+                ((λ e. absurd (squashed_not_retired e)), ((λ e c. done_not_stop 0x400008 c), tt)),
+              );
+              can = tt;
+            };
+          },
         ),
-        record { room = less _ _ refl; queue = λ e. absurd (true≢false (sym e)); is_there = less _ _ refl; pc = refl; small = less _ _ refl; predicts = refl; first_is = refl; second_is = refl },
+        record {
+          room = less _ _ refl;
+          queue = λ e. absurd (true≢false (sym e));
+          is_there = less _ _ refl;
+          pc = refl;
+          small = less _ _ refl;
+          predicts = refl;
+          first_is = refl;
+          second_is = refl;
+        },
       ),
       record { tenant = _; is = refl; may = record { live = refl; fate = refl; needs = refl } },
     ),
     record { tenant = _; is = refl; may = record { live = refl; fate = refl } },
   ),
-  record { tenant = _; is = refl; may = record { small = less _ _ refl; live = refl; oldest = (retired_not_live, (squashed_not_live, (squashed_not_live, (retired_not_live, tt)))); no_stop = ((λ e c. done_not_stop 2 c), ((λ e. absurd (squashed_not_retired e)), ((λ e. absurd (squashed_not_retired e)), ((λ e c. done_not_stop 0x400008 c), tt)))); can = tt } },
+  record {
+    tenant = _;
+    is = refl;
+    may = record {
+      small = less _ _ refl;
+      live = refl;
+      oldest = (retired_not_live, (squashed_not_live, (squashed_not_live, (retired_not_live, tt))));
+      no_stop = (
+        (λ e c. done_not_stop 2 c),
+        (
+          (λ e. absurd (squashed_not_retired e)),
+          ((λ e. absurd (squashed_not_retired e)), ((λ e c. done_not_stop 0x400008 c), tt)),
+        ),
+      );
+      can = tt;
+    };
+  },
 )
 
 -- Station 1 shows the new tenant, open, with tag 2

@@ -38,14 +38,17 @@ DoneIs P t v k = DoneBy (computed P t) t.pc t.next t.made v k
 
 abbrev pub FateBy : Kind → Outcome → ℕ → ℕ → ℕ → Option ℕ → Option ℕ → Option ℕ → Standing → Fate → Type 0
 FateBy k o pc predicted next made a b st Open = (made ≡ made_at_let k pc) × (next ≡ predicted)
-FateBy k o pc predicted next made a b st (Busy by) = (made ≡ made_at_let k pc) × (next ≡ predicted) × Needs k a b
+FateBy k o pc predicted next made a b st (Busy by) =
+    (made ≡ made_at_let k pc) × (next ≡ predicted) × Needs k a b
 FateBy k o pc predicted next made a b st (Addr q) = (made ≡ None) × (o ≡ Address q) × Needs k a b
 FateBy k o pc predicted next made a b st (Done v) = DoneBy o pc next made v k × Needs k a b
 FateBy k o pc predicted next made a b st (Miss x) = (made ≡ made_at_let k pc) × (o ≡ Next x) × Needs k a b
-FateBy k o pc predicted next made a b st (Stopped c) = (st ≢ Retired → made ≡ None) × (o ≡ Stops c) × Needs k a b
+FateBy k o pc predicted next made a b st (Stopped c) =
+    (st ≢ Retired → made ≡ None) × (o ≡ Stops c) × Needs k a b
 
 abbrev pub FateIs : Program → Tenant → Fate → Type 0
-FateIs P t f = FateBy (kind_of P t) (computed P t) t.pc t.predicted t.next t.made t.first.value t.second.value t.standing f
+FateIs P t f =
+    FateBy (kind_of P t) (computed P t) t.pc t.predicted t.next t.made t.first.value t.second.value t.standing f
 
 -- only a jump goes on elsewhere than behind itself
 abbrev pub GoesOn : Kind → ℕ → ℕ → Type 0

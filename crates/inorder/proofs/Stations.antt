@@ -12,6 +12,7 @@ use Rattle.inorder.specs.declared.history.Step.{Step}
 use Rattle.inorder.specs.declared.history.Step.TheVariants.{Let, On}
 use Rattle.inorder.specs.Laws.{IsRing}
 use Rattle.inorder.specs.Legal.{Allowed, AreAllowed, May, Taken, applied, changed, reached}
+use Rattle.inorder.specs.Runs.{after}
 use Rattle.inorder.specs.Steps.{finished, mended_as, new_tenant}
 use Rattle.inorder.specs.Tenants.{Addr, Busy, Done, Fate, IsNotLive, Live, Miss, Open, Retired, Squashed, Standing, Stopped, Tenant, computed, is_live, on_path, stands_live, stands_on_path}
 use Rattle.inorder.specs.Unit.{Sizes, UpdateUnit, at, how_many, next_station, older, recent, younger}
@@ -60,62 +61,88 @@ count_append : (f : Tenant → Bool) (xs ys : List Tenant) → how_many f (xs ++
 count_append f [] ys = omega arith
 count_append f (x ∷ xs) ys = go (f x) (count_append f xs ys)
   where
-    go : (b : Bool) → how_many f (xs ++ ys) ≡ how_many f xs + how_many f ys → cond b (suc (how_many f (xs ++ ys))) (how_many f (xs ++ ys)) ≡ cond b (suc (how_many f xs)) (how_many f xs) + how_many f ys
+    go : (b : Bool) → how_many f (xs ++ ys) ≡ how_many f xs + how_many f ys →
+        cond b (suc (how_many f (xs ++ ys))) (how_many f (xs ++ ys)) ≡ cond b (suc (how_many f xs))
+        (how_many f xs) + how_many f ys
     go true e = omega arith
     go false e = e
 
 -- all tenants of the path after a live one are live
-live_after : (P : Program) (t : Tenant) (ts ys : List Tenant) → t.standing ≡ Live → IsSound P (ys ++ t ∷ ts) → how_many on_path ys ≤ how_many is_live ys
+live_after : (P : Program) (t : Tenant) (ts ys : List Tenant) → t.standing ≡ Live → IsSound P (ys ++ t ∷ ts) →
+    how_many on_path ys ≤ how_many is_live ys
 live_after P t ts [] live s = omega arith
 live_after P t ts (y ∷ ys) live s = go y.standing refl (live_after P t ts ys live s.1)
   where
-    go : (st : Standing) → y.standing ≡ st → how_many on_path ys ≤ how_many is_live ys → cond (stands_on_path y.standing) (suc (how_many on_path ys)) (how_many on_path ys) ≤ cond (stands_live y.standing) (suc (how_many is_live ys)) (how_many is_live ys)
-    go Live e h = subst (λ x. cond (stands_on_path x) (suc (how_many on_path ys)) (how_many on_path ys) ≤ cond (stands_live x) (suc (how_many is_live ys)) (how_many is_live ys)) (sym e) (omega arith)
-    go Squashed e h = subst (λ x. cond (stands_on_path x) (suc (how_many on_path ys)) (how_many on_path ys) ≤ cond (stands_live x) (suc (how_many is_live ys)) (how_many is_live ys)) (sym e) h
+    go : (st : Standing) → y.standing ≡ st → how_many on_path ys ≤ how_many is_live ys →
+        cond (stands_on_path y.standing) (suc (how_many on_path ys)) (how_many on_path ys) ≤ cond
+        (stands_live y.standing) (suc (how_many is_live ys)) (how_many is_live ys)
+    go Live e h =
+        subst (λ x. cond (stands_on_path x) (suc (how_many on_path ys)) (how_many on_path ys) ≤ cond
+        (stands_live x) (suc (how_many is_live ys)) (how_many is_live ys)) (sym e) (omega arith)
+    go Squashed e h =
+        subst (λ x. cond (stands_on_path x) (suc (how_many on_path ys)) (how_many on_path ys) ≤ cond
+        (stands_live x) (suc (how_many is_live ys)) (how_many is_live ys)) (sym e) h
     go Retired e h =
         let q = all_mid IsSettled t ts ys ((s.0.placed (ap stands_on_path e)).settled e) in
         absurd (subst (λ x. SettledBy x t.fate) live q)
 
 -- the next station is that of no live tenant
-elsewhere : (P : Program) (C : Sizes) (n : Tenant) (ys : List Tenant) (t : Tenant) (ts : List Tenant) → n.station ≡ next_station C (ys ++ t ∷ ts) → how_many is_live (ys ++ t ∷ ts) < C.ring → IsSound P (ys ++ t ∷ ts) → ArePlaced C (t ∷ ts) → IsElsewhere n t
+elsewhere : (P : Program) (C : Sizes) (n : Tenant) (ys : List Tenant) (t : Tenant) (ts : List Tenant) →
+    n.station ≡ next_station C (ys ++ t ∷ ts) → how_many is_live (ys ++ t ∷ ts) < C.ring →
+    IsSound P (ys ++ t ∷ ts) → ArePlaced C (t ∷ ts) → IsElsewhere n t
 elsewhere P C n ys t ts e room s placed live same =
     let a = live_after P t ts ys live s in
     let on : on_path t ≡ true = ap stands_on_path live in
     let is : is_live t ≡ true = ap stands_live live in
-    let c1 : how_many on_path (t ∷ ts) ≡ suc (how_many on_path ts) = ap (λ b. cond b (suc (how_many on_path ts)) (how_many on_path ts)) on in
-    let c2 : how_many is_live (t ∷ ts) ≡ suc (how_many is_live ts) = ap (λ b. cond b (suc (how_many is_live ts)) (how_many is_live ts)) is in
+    let c1 : how_many on_path (t ∷ ts) ≡ suc (how_many on_path ts) = ap (λ b. cond b
+    (suc (how_many on_path ts)) (how_many on_path ts)) on in
+    let c2 : how_many is_live (t ∷ ts) ≡ suc (how_many is_live ts) = ap (λ b. cond b
+    (suc (how_many is_live ts)) (how_many is_live ts)) is in
     let d1 = count_append on_path ys (t ∷ ts) in
     let d2 = count_append is_live ys (t ∷ ts) in
     let far : how_many on_path (ys ++ t ∷ ts) ≡ how_many on_path ts + suc (how_many on_path ys) = omega arith in
     apart (how_many on_path ts) (suc (how_many on_path ys)) C.ring (omega arith) (omega arith)
     (sym (ap (λ x. x % C.ring) far) ∙ sym e ∙ sym same ∙ placed.0 on)
 
-pub all_elsewhere : (P : Program) (C : Sizes) (n : Tenant) (U ys ts : List Tenant) → U ≡ ys ++ ts → n.station ≡ next_station C U → how_many is_live U < C.ring → IsSound P U → ArePlaced C ts → AllByRecursion (IsElsewhere n) ts
+pub all_elsewhere : (P : Program) (C : Sizes) (n : Tenant) (U ys ts : List Tenant) → U ≡ ys ++ ts →
+    n.station ≡ next_station C U → how_many is_live U < C.ring → IsSound P U → ArePlaced C ts →
+    AllByRecursion (IsElsewhere n) ts
 all_elsewhere P C n U ys [] q e room s placed = tt
 all_elsewhere P C n U ys (t ∷ ts) q e room s placed =
-    let here = elsewhere P C n ys t ts (e ∙ ap (next_station C) q) (subst (λ V. how_many is_live V < C.ring) q room) (subst (IsSound P) q s) placed in
+    let here = elsewhere P C n ys t ts (e
+    ∙ ap (next_station C) q) (subst (λ V. how_many is_live V < C.ring) q room) (subst
+    (IsSound P) q s) placed in
     let q' : U ≡ (ys ++ t ∷ []) ++ ts = q ∙ sym (append_assoc ys (t ∷ []) ts) in
     (here, all_elsewhere P C n U (ys ++ t ∷ []) ts q' e room s placed.1)
 
-let_stands : (P : Program) (C : Sizes) (U : List Tenant) (n : Tenant) → n.station ≡ next_station C U → n.standing ≡ Live → how_many is_live U < C.ring → IsSound P U → Stands C U → Stands C (n ∷ U)
+let_stands : (P : Program) (C : Sizes) (U : List Tenant) (n : Tenant) → n.station ≡ next_station C U →
+    n.standing ≡ Live → how_many is_live U < C.ring → IsSound P U → Stands C U → Stands C (n ∷ U)
 let_stands P C U n e live room sound st =
     record {
-      room = subst (λ b. cond b (suc (how_many is_live U)) (how_many is_live U) ≤ C.ring) (sym (ap stands_live live)) room;
+      room =
+          subst (λ b. cond b (suc (how_many is_live U)) (how_many is_live U) ≤ C.ring) (sym
+          (ap stands_live live)) room;
       placed = ((λ on. e), st.placed);
       apart = (all_elsewhere P C n U [] U refl e room sound st.placed, st.apart);
     }
 
 -- A tenant changes, and keeps its station
 
-count_same : (f : Tenant → Bool) (t t' : Tenant) (ts ys : List Tenant) → f t' ≡ f t → how_many f (ys ++ t' ∷ ts) ≡ how_many f (ys ++ t ∷ ts)
+count_same : (f : Tenant → Bool) (t t' : Tenant) (ts ys : List Tenant) → f t' ≡ f t →
+    how_many f (ys ++ t' ∷ ts) ≡ how_many f (ys ++ t ∷ ts)
 count_same f t t' ts [] e = ap (λ b. cond b (suc (how_many f ts)) (how_many f ts)) e
 count_same f t t' ts (y ∷ ys) e = ap (λ n. cond (f y) (suc n) n) (count_same f t t' ts ys e)
 
-fewer : (t t' : Tenant) (ts ys : List Tenant) → (t'.standing ≡ Live → t.standing ≡ Live) → how_many is_live (ys ++ t' ∷ ts) ≤ how_many is_live (ys ++ t ∷ ts)
+fewer : (t t' : Tenant) (ts ys : List Tenant) → (t'.standing ≡ Live → t.standing ≡ Live) →
+    how_many is_live (ys ++ t' ∷ ts) ≤ how_many is_live (ys ++ t ∷ ts)
 fewer t t' ts [] f = go t'.standing t.standing f
   where
-    go : (a b : Standing) → (a ≡ Live → b ≡ Live) → cond (stands_live a) (suc (how_many is_live ts)) (how_many is_live ts) ≤ cond (stands_live b) (suc (how_many is_live ts)) (how_many is_live ts)
-    go Live b g = subst (λ x. suc (how_many is_live ts) ≤ cond (stands_live x) (suc (how_many is_live ts)) (how_many is_live ts)) (sym (g refl)) (omega arith)
+    go : (a b : Standing) → (a ≡ Live → b ≡ Live) →
+        cond (stands_live a) (suc (how_many is_live ts)) (how_many is_live ts) ≤ cond (stands_live b) (suc
+        (how_many is_live ts)) (how_many is_live ts)
+    go Live b g =
+        subst (λ x. suc (how_many is_live ts) ≤ cond (stands_live x) (suc (how_many is_live ts))
+        (how_many is_live ts)) (sym (g refl)) (omega arith)
     go Retired Live g = omega arith
     go Retired Retired g = omega arith
     go Retired Squashed g = omega arith
@@ -124,56 +151,88 @@ fewer t t' ts [] f = go t'.standing t.standing f
     go Squashed Squashed g = omega arith
 fewer t t' ts (y ∷ ys) f = go (is_live y) (fewer t t' ts ys f)
   where
-    go : (b : Bool) → how_many is_live (ys ++ t' ∷ ts) ≤ how_many is_live (ys ++ t ∷ ts) → cond b (suc (how_many is_live (ys ++ t' ∷ ts))) (how_many is_live (ys ++ t' ∷ ts)) ≤ cond b (suc (how_many is_live (ys ++ t ∷ ts))) (how_many is_live (ys ++ t ∷ ts))
+    go : (b : Bool) → how_many is_live (ys ++ t' ∷ ts) ≤ how_many is_live (ys ++ t ∷ ts) →
+        cond b (suc (how_many is_live (ys ++ t' ∷ ts))) (how_many is_live (ys ++ t' ∷ ts)) ≤ cond b (suc
+        (how_many is_live (ys ++ t ∷ ts))) (how_many is_live (ys ++ t ∷ ts))
     go true h = omega arith
     go false h = h
 
-placed_same : (C : Sizes) (t t' : Tenant) (ts ys : List Tenant) → t'.station ≡ t.station → on_path t' ≡ on_path t → ArePlaced C (ys ++ t ∷ ts) → ArePlaced C (ys ++ t' ∷ ts)
+placed_same : (C : Sizes) (t t' : Tenant) (ts ys : List Tenant) → t'.station ≡ t.station →
+    on_path t' ≡ on_path t → ArePlaced C (ys ++ t ∷ ts) → ArePlaced C (ys ++ t' ∷ ts)
 placed_same C t t' ts [] e f h = ((λ on. e ∙ h.0 (sym f ∙ on)), h.1)
-placed_same C t t' ts (y ∷ ys) e f h = ((λ on. h.0 on ∙ sym (ap (λ n. n % C.ring) (count_same on_path t t' ts ys f))), placed_same C t t' ts ys e f h.1)
+placed_same C t t' ts (y ∷ ys) e f h = (
+  (λ on. h.0 on ∙ sym (ap (λ n. n % C.ring) (count_same on_path t t' ts ys f))),
+  placed_same C t t' ts ys e f h.1,
+)
 
-placed_end : (P : Program) (C : Sizes) (t t' : Tenant) (ts ys : List Tenant) → t.standing ≡ Live → on_path t' ≡ false → AllByRecursion IsNotLive ys → IsSound P (ys ++ t ∷ ts) → ArePlaced C (ys ++ t ∷ ts) → ArePlaced C (ys ++ t' ∷ ts)
+placed_end : (P : Program) (C : Sizes) (t t' : Tenant) (ts ys : List Tenant) → t.standing ≡ Live →
+    on_path t' ≡ false → AllByRecursion IsNotLive ys → IsSound P (ys ++ t ∷ ts) → ArePlaced C (ys ++ t ∷ ts) →
+    ArePlaced C (ys ++ t' ∷ ts)
 placed_end P C t t' ts [] live off last s h = ((λ on. absurd (true≢false (sym on ∙ off))), h.1)
-placed_end P C t t' ts (y ∷ ys) live off last s h = ((λ on. absurd (gone y.standing refl on)), placed_end P C t t' ts ys live off last.1 s.1 h.1)
+placed_end P C t t' ts (y ∷ ys) live off last s h =
+    ((λ on. absurd (gone y.standing refl on)), placed_end P C t t' ts ys live off last.1 s.1 h.1)
   where
     gone : (st : Standing) → y.standing ≡ st → on_path y ≡ true → ⊥
     gone Live e on = last.0 e
     gone Squashed e on = true≢false (sym on ∙ ap stands_on_path e)
-    gone Retired e on = subst (λ x. SettledBy x t.fate) live (all_mid IsSettled t ts ys ((s.0.placed on).settled e))
+    gone Retired e on =
+        subst (λ x. SettledBy x t.fate) live (all_mid IsSettled t ts ys ((s.0.placed on).settled e))
 
-apart_same : (t t' : Tenant) (ts ys : List Tenant) → t'.station ≡ t.station → (t'.standing ≡ Live → t.standing ≡ Live) → AreApart (ys ++ t ∷ ts) → AreApart (ys ++ t' ∷ ts)
+apart_same : (t t' : Tenant) (ts ys : List Tenant) → t'.station ≡ t.station →
+    (t'.standing ≡ Live → t.standing ≡ Live) → AreApart (ys ++ t ∷ ts) → AreApart (ys ++ t' ∷ ts)
 apart_same t t' ts [] e f h = (all_from ts h.0, h.1)
   where
     all_from : (us : List Tenant) → AllByRecursion (IsElsewhere t) us → AllByRecursion (IsElsewhere t') us
     all_from [] q = tt
     all_from (u ∷ us) q = ((λ live same. q.0 live (same ∙ e)), all_from us q.1)
-apart_same t t' ts (y ∷ ys) e f h = (all_grows (IsElsewhere y) t t' ts ys (λ q live same. q (f live) (sym e ∙ same)) h.0, apart_same t t' ts ys e f h.1)
+apart_same t t' ts (y ∷ ys) e f h = (
+  all_grows (IsElsewhere y) t t' ts ys (λ q live same. q (f live) (sym e ∙ same)) h.0,
+  apart_same t t' ts ys e f h.1,
+)
 
-stands_same : (C : Sizes) (t t' : Tenant) (ts ys : List Tenant) → t'.station ≡ t.station → t'.standing ≡ t.standing → Stands C (ys ++ t ∷ ts) → Stands C (ys ++ t' ∷ ts)
+stands_same : (C : Sizes) (t t' : Tenant) (ts ys : List Tenant) → t'.station ≡ t.station →
+    t'.standing ≡ t.standing → Stands C (ys ++ t ∷ ts) → Stands C (ys ++ t' ∷ ts)
 stands_same C t t' ts ys e f s =
     let less = fewer t t' ts ys (λ live. sym f ∙ live) in
-    record { room = omega (arith, s.room); placed = placed_same C t t' ts ys e (ap stands_on_path f) s.placed; apart = apart_same t t' ts ys e (λ live. sym f ∙ live) s.apart }
+    record {
+      room = omega (arith, s.room);
+      placed = placed_same C t t' ts ys e (ap stands_on_path f) s.placed;
+      apart = apart_same t t' ts ys e (λ live. sym f ∙ live) s.apart;
+    }
 
-stands_retired : (C : Sizes) (t t' : Tenant) (ts ys : List Tenant) → t'.station ≡ t.station → t.standing ≡ Live → t'.standing ≡ Retired → Stands C (ys ++ t ∷ ts) → Stands C (ys ++ t' ∷ ts)
+stands_retired : (C : Sizes) (t t' : Tenant) (ts ys : List Tenant) → t'.station ≡ t.station →
+    t.standing ≡ Live → t'.standing ≡ Retired → Stands C (ys ++ t ∷ ts) → Stands C (ys ++ t' ∷ ts)
 stands_retired C t t' ts ys e live off s =
     let less = fewer t t' ts ys (λ x. live) in
-    record { room = omega (arith, s.room); placed = placed_same C t t' ts ys e (ap stands_on_path off ∙ sym (ap stands_on_path live)) s.placed; apart = apart_same t t' ts ys e (λ x. live) s.apart }
+    record {
+      room = omega (arith, s.room);
+      placed = placed_same C t t' ts ys e (ap stands_on_path off ∙ sym (ap stands_on_path live)) s.placed;
+      apart = apart_same t t' ts ys e (λ x. live) s.apart;
+    }
 
-stands_squashed : (P : Program) (C : Sizes) (t t' : Tenant) (ts ys : List Tenant) → t'.station ≡ t.station → t.standing ≡ Live → t'.standing ≡ Squashed → AllByRecursion IsNotLive ys → IsSound P (ys ++ t ∷ ts) → Stands C (ys ++ t ∷ ts) → Stands C (ys ++ t' ∷ ts)
+stands_squashed : (P : Program) (C : Sizes) (t t' : Tenant) (ts ys : List Tenant) → t'.station ≡ t.station →
+    t.standing ≡ Live → t'.standing ≡ Squashed → AllByRecursion IsNotLive ys → IsSound P (ys ++ t ∷ ts) →
+    Stands C (ys ++ t ∷ ts) → Stands C (ys ++ t' ∷ ts)
 stands_squashed P C t t' ts ys e live off last sound s =
     let less = fewer t t' ts ys (λ x. live) in
-    record { room = omega (arith, s.room); placed = placed_end P C t t' ts ys live (ap stands_on_path off) last sound s.placed; apart = apart_same t t' ts ys e (λ x. live) s.apart }
+    record {
+      room = omega (arith, s.room);
+      placed = placed_end P C t t' ts ys live (ap stands_on_path off) last sound s.placed;
+      apart = apart_same t t' ts ys e (λ x. live) s.apart;
+    }
 
 -- Any act
 
 -- the station and standing of what a finish or a mend leaves
-pub finished_station : (t : Tenant) (o : Outcome) → ((finished t o).station ≡ t.station) × ((finished t o).standing ≡ t.standing)
+pub finished_station : (t : Tenant) (o : Outcome) →
+    ((finished t o).station ≡ t.station) × ((finished t o).standing ≡ t.standing)
 finished_station t (Value v) = (refl, refl)
 finished_station t (Next v) = (refl, refl)
 finished_station t (Address v) = (refl, refl)
 finished_station t (Stops v) = (refl, refl)
 
-pub mended_station : (t : Tenant) (f : Fate) → ((mended_as t f).station ≡ t.station) × ((mended_as t f).standing ≡ t.standing)
+pub mended_station : (t : Tenant) (f : Fate) →
+    ((mended_as t f).station ≡ t.station) × ((mended_as t f).standing ≡ t.standing)
 mended_station t Open = (refl, refl)
 mended_station t (Busy v) = (refl, refl)
 mended_station t (Addr v) = (refl, refl)
@@ -181,41 +240,50 @@ mended_station t (Done v) = (refl, refl)
 mended_station t (Miss v) = (refl, refl)
 mended_station t (Stopped v) = (refl, refl)
 
-act_stands : (P : Program) (C : Sizes) (by : ℕ) (act : Act) (ys : List Tenant) (t : Tenant) (ts : List Tenant) → May P by act ys t ts → IsSound P (ys ++ t ∷ ts) → Stands C (ys ++ t ∷ ts) → Stands C (ys ++ changed P by act t ts ∷ ts)
+act_stands : (P : Program) (C : Sizes) (by : ℕ) (act : Act) (ys : List Tenant) (t : Tenant)
+    (ts : List Tenant) → May P by act ys t ts → IsSound P (ys ++ t ∷ ts) → Stands C (ys ++ t ∷ ts) →
+    Stands C (ys ++ changed P by act t ts ∷ ts)
 act_stands P C by (Link First) ys t ts m so q = stands_same C t _ ts ys refl refl q
 act_stands P C by (Link Second) ys t ts m so q = stands_same C t _ ts ys refl refl q
 act_stands P C by (Deliver First) ys t ts m so q = stands_same C t _ ts ys refl refl q
 act_stands P C by (Deliver Second) ys t ts m so q = stands_same C t _ ts ys refl refl q
 act_stands P C by Claim ys t ts m so q = stands_same C t _ ts ys refl refl q
-act_stands P C by Finish ys t ts m so q = let e = finished_station t (computed P t) in stands_same C t _ ts ys e.0 e.1 q
+act_stands P C by Finish ys t ts m so q =
+    let e = finished_station t (computed P t) in stands_same C t _ ts ys e.0 e.1 q
 act_stands P C by Load ys t ts m so q = stands_same C t _ ts ys refl refl q
 act_stands P C by (Retire n) ys t ts m so q = stands_retired C t _ ts ys refl m.live refl q
 act_stands P C by Squash ys t ts m so q = stands_squashed P C t _ ts ys refl m.live refl m.youngest so q
 act_stands P C by Mend ys t ts m so q = let e = mended_station t t.fate in stands_same C t _ ts ys e.0 e.1 q
 
-stands_kept : (P : Program) (C : Sizes) (U : UpdateUnit) (by : ℕ) (s : Step) → Allowed P C U by s → IsSound P U.tenants → Stands C (recent U) → Stands C (recent (applied P C U by s))
+stands_kept : (P : Program) (C : Sizes) (U : UpdateUnit) (by : ℕ) (s : Step) → Allowed P C U by s →
+    IsSound P U.tenants → Stands C (recent U) → Stands C (recent (applied P C U by s))
 stands_kept P C U by (Let index predicted first second) a s st =
     let_stands P C U.tenants (new_tenant P C U index predicted first second) refl refl a.room s st
 stands_kept P C U by (On p act) a s st =
     let ts = U.tenants in
     let split = split_at ts p a.tenant a.is in
-    let after = act_stands P C by act (younger ts p) a.tenant (older ts p) a.may (subst (IsSound P) split s) (subst (Stands C) split st) in
+    let after = act_stands P C by act (younger ts p) a.tenant (older ts p) a.may (subst (IsSound P) split s)
+    (subst (Stands C) split st) in
     subst (Stands C) (sym (parts P ts by p act a.tenant a.is)) after
 
-pub stands : (P : Program) (C : Sizes) (ss : List Taken) → AreAllowed P C ss → Stands C (recent (reached P C ss))
+pub stands : (P : Program) (C : Sizes) (ss : List Taken) → AreAllowed P C ss →
+    Stands C (recent (reached P C ss))
 stands P C [] a = record { room = omega arith; placed = tt; apart = tt }
 stands P C (s ∷ ss) a = stands_kept P C (reached P C ss) s.by s.step a.1 (sound P C ss a.0) (stands P C ss a.0)
 
 -- Read at a position
 
-placed_at : (C : Sizes) (U : List Tenant) (p : ℕ) (t : Tenant) → ArePlaced C U → at U p ≡ Some t → on_path t ≡ true → t.station ≡ how_many on_path (older U p) % C.ring
+placed_at : (C : Sizes) (U : List Tenant) (p : ℕ) (t : Tenant) → ArePlaced C U → at U p ≡ Some t →
+    on_path t ≡ true → t.station ≡ how_many on_path (older U p) % C.ring
 placed_at C U p t h e on = mid (younger U p) (subst (ArePlaced C) (split_at U p t e) h)
   where
-    mid : (ys : List Tenant) → ArePlaced C (ys ++ t ∷ older U p) → t.station ≡ how_many on_path (older U p) % C.ring
+    mid : (ys : List Tenant) → ArePlaced C (ys ++ t ∷ older U p) →
+        t.station ≡ how_many on_path (older U p) % C.ring
     mid [] q = q.0 on
     mid (y ∷ ys) q = mid ys q.1
 
-pub last_at : (U : List Tenant) (p : ℕ) (t : Tenant) → AreApart U → at U p ≡ Some t → t.standing ≡ Live → AllByRecursion (λ u. u.station ≢ t.station) (younger U p)
+pub last_at : (U : List Tenant) (p : ℕ) (t : Tenant) → AreApart U → at U p ≡ Some t → t.standing ≡ Live →
+    AllByRecursion (λ u. u.station ≢ t.station) (younger U p)
 last_at U p t h e live = mid (younger U p) (subst AreApart (split_at U p t e) h)
   where
     mid : (ys : List Tenant) → AreApart (ys ++ t ∷ older U p) → AllByRecursion (λ u. u.station ≢ t.station) ys
@@ -223,4 +291,9 @@ last_at U p t h e live = mid (younger U p) (subst AreApart (split_at U p t e) h)
     mid (y ∷ ys) q = ((λ same. all_mid (IsElsewhere y) t (older U p) ys q.0 live (sym same)), mid ys q.1)
 
 pub is_ring : (C : Sizes) (U : List Tenant) → Stands C U → IsRing C U
-is_ring C U s = record { room = s.room; place = λ p t e on. placed_at C U p t s.placed e on; last = λ p t e live. last_at U p t s.apart e live }
+is_ring C U s =
+    record {
+      room = s.room;
+      place = λ p t e on. placed_at C U p t s.placed e on;
+      last = λ p t e live. last_at U p t s.apart e live;
+    }

@@ -10,11 +10,11 @@ use Rattle.inorder.specs.declared.history.Supply.{Supply}
 use Rattle.inorder.specs.Legal.{Allowed, May, Taken, applied, changed, reached}
 use Rattle.inorder.specs.StationWords.{ChangesStation, HasFate, IsFree, KeepsStations, Moves, NamedBy, StationsFollow, last_of, live_word, station_word, word_by, word_of}
 use Rattle.inorder.specs.Steps.{new_tenant}
-use Rattle.inorder.specs.Tenants.{Addr, Busy, Done, Fate, Live, Miss, Open, Retired, Squashed, Standing, Stopped, Tenant}
+use Rattle.inorder.specs.Tenants.{Addr, Busy, Done, Fate, Live, Miss, Open, Retired, Squashed, Standing, Stopped, Tenant, is_live}
 use Rattle.inorder.specs.Unit.{Sizes, UpdateUnit, at, how_many, next_station, next_tag, older, recent, tag_after, younger}
 use Rattle.inorder.proofs.Basics.{eqb_self, split_at}
 use Rattle.inorder.proofs.Grows.{all_mid}
-use Rattle.inorder.proofs.Kept.{parts, sound}
+use Rattle.inorder.proofs.Kept.{kept, parts, sound}
 use Rattle.inorder.proofs.Sound.{IsSound}
 use Rattle.inorder.proofs.Stations.{AreApart, IsElsewhere, Stands, all_elsewhere, stands}
 use Rattle.inorder.proofs.Tags.{AreTagged, count_same, same_place, tagged}
@@ -25,63 +25,85 @@ not_same : (a b : ℕ) → a ≢ b → eqb a b ≡ false
 not_same a b ne = ne_eqb a b ne
 
 -- a live tenant is the last of its station, whatever it becomes
-pub last_live : (t u : Tenant) (ts ys : List Tenant) → t.standing ≡ Live → u.station ≡ t.station → AreApart (ys ++ t ∷ ts) → last_of (ys ++ u ∷ ts) t.station ≡ Some u
-last_live t u ts [] live e h = ap (λ b. cond b (Some u) (last_of ts t.station)) (ap (λ q. eqb q t.station) e ∙ eqb_self t.station)
+pub last_live : (t u : Tenant) (ts ys : List Tenant) → t.standing ≡ Live → u.station ≡ t.station →
+    AreApart (ys ++ t ∷ ts) → last_of (ys ++ u ∷ ts) t.station ≡ Some u
+last_live t u ts [] live e h =
+    ap (λ b. cond b (Some u) (last_of ts t.station)) (ap (λ q. eqb q t.station) e ∙ eqb_self t.station)
 last_live t u ts (y ∷ ys) live e h =
     let ne : y.station ≢ t.station = λ same. all_mid (IsElsewhere y) t ts ys h.0 live (sym same) in
-    ap (λ b. cond b (Some y) (last_of (ys ++ u ∷ ts) t.station)) (not_same y.station t.station ne) ∙ last_live t u ts ys live e h.1
+    ap (λ b. cond b (Some y) (last_of (ys ++ u ∷ ts) t.station)) (not_same y.station t.station ne)
+    ∙ last_live t u ts ys live e h.1
 
-last_other : (t u : Tenant) (ts ys : List Tenant) (s : ℕ) → t.station ≢ s → u.station ≡ t.station → last_of (ys ++ u ∷ ts) s ≡ last_of (ys ++ t ∷ ts) s
+last_other : (t u : Tenant) (ts ys : List Tenant) (s : ℕ) → t.station ≢ s → u.station ≡ t.station →
+    last_of (ys ++ u ∷ ts) s ≡ last_of (ys ++ t ∷ ts) s
 last_other t u ts [] s ne e =
     ap (λ b. cond b (Some u) (last_of ts s)) (ap (λ q. eqb q s) e ∙ not_same t.station s ne)
     ∙ sym (ap (λ b. cond b (Some t) (last_of ts s)) (not_same t.station s ne))
 last_other t u ts (y ∷ ys) s ne e = ap (cond (eqb y.station s) (Some y)) (last_other t u ts ys s ne e)
 
 -- the tag after a live tenant
-tag_live : (C : Sizes) (t u : Tenant) (ts ys : List Tenant) → t.standing ≡ Live → u.station ≡ t.station → AreApart (ys ++ t ∷ ts) → AreTagged C (ys ++ t ∷ ts) → tag_after C (ys ++ u ∷ ts) t.station ≡ suc t.tag
+tag_live : (C : Sizes) (t u : Tenant) (ts ys : List Tenant) → t.standing ≡ Live → u.station ≡ t.station →
+    AreApart (ys ++ t ∷ ts) → AreTagged C (ys ++ t ∷ ts) → tag_after C (ys ++ u ∷ ts) t.station ≡ suc t.tag
 tag_live C t u ts [] live e a h =
-    let c = ap (λ b. cond b (suc (how_many (λ x. eqb x.station t.station) ts)) (how_many (λ x. eqb x.station t.station) ts)) (ap (λ q. eqb q t.station) e ∙ eqb_self t.station) in
+    let c = ap (λ b. cond b (suc (how_many (λ x. eqb x.station t.station) ts))
+    (how_many (λ x. eqb x.station t.station) ts)) (ap (λ q. eqb q t.station) e ∙ eqb_self t.station) in
     let g = h.0 in
     omega arith
 tag_live C t u ts (y ∷ ys) live e a h =
     let ne : y.station ≢ t.station = λ same. all_mid (IsElsewhere y) t ts ys a.0 live (sym same) in
-    ap (λ b. C.first_tag + cond b (suc (how_many (λ x. eqb x.station t.station) (ys ++ u ∷ ts))) (how_many (λ x. eqb x.station t.station) (ys ++ u ∷ ts))) (not_same y.station t.station ne) ∙ tag_live C t u ts ys live e a.1 h.1
+    ap (λ b. C.first_tag + cond b (suc (how_many (λ x. eqb x.station t.station) (ys ++ u ∷ ts)))
+    (how_many (λ x. eqb x.station t.station) (ys ++ u ∷ ts))) (not_same y.station t.station ne)
+    ∙ tag_live C t u ts ys live e a.1 h.1
 
 -- What a station shows where a live tenant changes
-shown_live : (C : Sizes) (t u : Tenant) (ts ys : List Tenant) (s : ℕ) → t.standing ≡ Live → u.station ≡ t.station → AreApart (ys ++ t ∷ ts) → AreTagged C (ys ++ t ∷ ts) → station_word C (ys ++ u ∷ ts) s ≡ cond (eqb t.station s) (word_of (suc t.tag) (Some u)) (station_word C (ys ++ t ∷ ts) s)
+shown_live : (C : Sizes) (t u : Tenant) (ts ys : List Tenant) (s : ℕ) → t.standing ≡ Live →
+    u.station ≡ t.station → AreApart (ys ++ t ∷ ts) → AreTagged C (ys ++ t ∷ ts) →
+    station_word C (ys ++ u ∷ ts) s ≡ cond (eqb t.station s) (word_of (suc t.tag) (Some u)) (station_word C
+    (ys ++ t ∷ ts) s)
 shown_live C t u ts ys s live e a h = go (eqb t.station s) refl
   where
-    go : (b : Bool) → eqb t.station s ≡ b → station_word C (ys ++ u ∷ ts) s ≡ cond b (word_of (suc t.tag) (Some u)) (station_word C (ys ++ t ∷ ts) s)
+    go : (b : Bool) → eqb t.station s ≡ b →
+        station_word C (ys ++ u ∷ ts) s ≡ cond b (word_of (suc t.tag) (Some u)) (station_word C
+        (ys ++ t ∷ ts) s)
     go true q =
         let same : t.station ≡ s = eqb-true t.station s q in
         ap (station_word C (ys ++ u ∷ ts)) (sym same)
         ∙ ap (λ n. word_of n (last_of (ys ++ u ∷ ts) t.station)) (tag_live C t u ts ys live e a h)
         ∙ ap (word_of (suc t.tag)) (last_live t u ts ys live e a)
     go false q =
-        let ne : t.station ≢ s = λ same. true≢false (sym (ap (eqb t.station) (sym same) ∙ eqb_self t.station) ∙ q) in
+        let ne : t.station ≢ s = λ same. true≢false (sym (ap (eqb t.station) (sym same) ∙ eqb_self t.station)
+        ∙ q) in
         ap (λ n. word_of (C.first_tag + n) (last_of (ys ++ u ∷ ts) s)) (count_same t u ts ys s e)
         ∙ ap (word_of (tag_after C (ys ++ t ∷ ts) s)) (last_other t u ts ys s ne e)
 
-shown_same : (C : Sizes) (t u : Tenant) (ts ys : List Tenant) (s : ℕ) → u.station ≡ t.station → ((n : ℕ) → word_of n (Some u) ≡ word_of n (Some t)) → station_word C (ys ++ u ∷ ts) s ≡ station_word C (ys ++ t ∷ ts) s
+shown_same : (C : Sizes) (t u : Tenant) (ts ys : List Tenant) (s : ℕ) → u.station ≡ t.station →
+    ((n : ℕ) → word_of n (Some u) ≡ word_of n (Some t)) →
+    station_word C (ys ++ u ∷ ts) s ≡ station_word C (ys ++ t ∷ ts) s
 shown_same C t u ts ys s e f =
-    ap (λ n. word_of (C.first_tag + n) (last_of (ys ++ u ∷ ts) s)) (count_same t u ts ys s e) ∙ last ys (tag_after C (ys ++ t ∷ ts) s)
+    ap (λ n. word_of (C.first_tag + n) (last_of (ys ++ u ∷ ts) s)) (count_same t u ts ys s e)
+    ∙ last ys (tag_after C (ys ++ t ∷ ts) s)
   where
-    here : (b : Bool) (n : ℕ) → word_of n (cond b (Some u) (last_of ts s)) ≡ word_of n (cond b (Some t) (last_of ts s))
+    here : (b : Bool) (n : ℕ) →
+        word_of n (cond b (Some u) (last_of ts s)) ≡ word_of n (cond b (Some t) (last_of ts s))
     here true n = f n
     here false n = refl
 
-    one : (b : Bool) (y : Tenant) (n : ℕ) (q r : Option Tenant) → word_of n q ≡ word_of n r → word_of n (cond b (Some y) q) ≡ word_of n (cond b (Some y) r)
+    one : (b : Bool) (y : Tenant) (n : ℕ) (q r : Option Tenant) → word_of n q ≡ word_of n r →
+        word_of n (cond b (Some y) q) ≡ word_of n (cond b (Some y) r)
     one true y n q r g = refl
     one false y n q r g = g
 
-    last : (ys : List Tenant) (n : ℕ) → word_of n (last_of (ys ++ u ∷ ts) s) ≡ word_of n (last_of (ys ++ t ∷ ts) s)
+    last : (ys : List Tenant) (n : ℕ) →
+        word_of n (last_of (ys ++ u ∷ ts) s) ≡ word_of n (last_of (ys ++ t ∷ ts) s)
     last [] n = ap (λ q. word_of n (cond (eqb q s) (Some u) (last_of ts s))) e ∙ here (eqb t.station s) n
-    last (y ∷ ys) n = one (eqb y.station s) y n (last_of (ys ++ u ∷ ts) s) (last_of (ys ++ t ∷ ts) s) (last ys n)
+    last (y ∷ ys) n =
+        one (eqb y.station s) y n (last_of (ys ++ u ∷ ts) s) (last_of (ys ++ t ∷ ts) s) (last ys n)
 
 -- The clauses
 
 -- a live tenant is what its station shows
-is_shown : (C : Sizes) (ts : List Tenant) → Stands C ts → (p : ℕ) (t : Tenant) → at ts p ≡ Some t → t.standing ≡ Live → station_word C ts t.station ≡ live_word t.tag t.fate
+is_shown : (C : Sizes) (ts : List Tenant) → Stands C ts → (p : ℕ) (t : Tenant) → at ts p ≡ Some t →
+    t.standing ≡ Live → station_word C ts t.station ≡ live_word t.tag t.fate
 is_shown C ts s p t e live =
     let split = split_at ts p t e in
     let last = last_live t t (older ts p) (younger ts p) live refl (subst AreApart split s.apart) in
@@ -91,16 +113,17 @@ is_shown C ts s p t e live =
 
 -- the last tenant of a station is at a position, and nobody after it has its station
 record LastAt (ts : List Tenant) (s : ℕ) (t : Tenant) : Type 0 where
-  p : ℕ
-  is : at ts p ≡ Some t
-  station : t.station ≡ s
-  alone : AllByRecursion (λ u. u.station ≢ s) (younger ts p)
+  pub p : ℕ
+  pub is : at ts p ≡ Some t
+  pub station : t.station ≡ s
+  pub alone : AllByRecursion (λ u. u.station ≢ s) (younger ts p)
 
 below : (ts : List Tenant) (p : ℕ) (t : Tenant) → at ts p ≡ Some t → p < length ts
 below [] p t e = absurd (cc)
 below (u ∷ us) p t e = go (eqb p (length us)) refl e (below us p t)
   where
-    go : (b : Bool) → eqb p (length us) ≡ b → cond b (Some u) (at us p) ≡ Some t → (at us p ≡ Some t → p < length us) → p < suc (length us)
+    go : (b : Bool) → eqb p (length us) ≡ b → cond b (Some u) (at us p) ≡ Some t →
+        (at us p ≡ Some t → p < length us) → p < suc (length us)
     go true h e rest = let s = eqb-true p (length us) h in omega (arith, s)
     go false h e rest = let s = rest e in omega (arith, s)
 
@@ -108,7 +131,8 @@ last_at : (ts : List Tenant) (s : ℕ) (t : Tenant) → last_of ts s ≡ Some t 
 last_at [] s t e = absurd (cc)
 last_at (u ∷ us) s t e = go (eqb u.station s) refl e (last_at us s t)
   where
-    go : (b : Bool) → eqb u.station s ≡ b → cond b (Some u) (last_of us s) ≡ Some t → (last_of us s ≡ Some t → LastAt us s t) → LastAt (u ∷ us) s t
+    go : (b : Bool) → eqb u.station s ≡ b → cond b (Some u) (last_of us s) ≡ Some t →
+        (last_of us s ≡ Some t → LastAt us s t) → LastAt (u ∷ us) s t
     go true h e rest =
         let same : u ≡ t = cc in
         let here = eqb_self (length us) in
@@ -116,7 +140,9 @@ last_at (u ∷ us) s t e = go (eqb u.station s) refl e (last_at us s t)
           p = length us;
           is = ap (λ b. cond b (Some u) (at us (length us))) here ∙ e;
           station = ap (λ v. v.station) (sym same) ∙ eqb-true u.station s h;
-          alone = subst (λ b. AllByRecursion (λ v. v.station ≢ s) (cond b [] (u ∷ younger us (length us)))) (sym here) tt;
+          alone =
+              subst (λ b. AllByRecursion (λ v. v.station ≢ s) (cond b [] (u ∷ younger us (length us))))
+              (sym here) tt;
         }
     go false h e rest =
         let r = rest e in
@@ -127,7 +153,9 @@ last_at (u ∷ us) s t e = go (eqb u.station s) refl e (last_at us s t)
           p = r.p;
           is = ap (λ b. cond b (Some u) (at us r.p)) off ∙ r.is;
           station = r.station;
-          alone = subst (λ b. AllByRecursion (λ v. v.station ≢ s) (cond b [] (u ∷ younger us r.p))) (sym off) (apart, r.alone);
+          alone =
+              subst (λ b. AllByRecursion (λ v. v.station ≢ s) (cond b [] (u ∷ younger us r.p))) (sym off)
+              (apart, r.alone);
         }
 
 -- the fate that a live word shows
@@ -148,7 +176,8 @@ live_tag tag (Miss x) = refl
 live_tag tag (Stopped c) = refl
 
 -- a station that is not free shows a live tenant
-named : (C : Sizes) (ts : List Tenant) → Stands C ts → (s : ℕ) → (station_word C ts s).state ≢ IsFree → NamedBy C ts s
+named : (C : Sizes) (ts : List Tenant) → Stands C ts → (s : ℕ) → (station_word C ts s).state ≢ IsFree →
+    NamedBy C ts s
 named C ts st s busy = go (last_of ts s) refl
   where
     Goal : Type 0
@@ -157,7 +186,8 @@ named C ts st s busy = go (last_of ts s) refl
     shows : (o : Option Tenant) → last_of ts s ≡ o → (word_of (tag_after C ts s) o).state ≢ IsFree
     shows o e free = busy (ap (λ q. (word_of (tag_after C ts s) q).state) e ∙ free)
 
-    is_live : (t : Tenant) (x : Standing) → t.standing ≡ x → (word_by (tag_after C ts s) x t.tag t.fate t.made).state ≢ IsFree → t.standing ≡ Live
+    is_live : (t : Tenant) (x : Standing) → t.standing ≡ x →
+        (word_by (tag_after C ts s) x t.tag t.fate t.made).state ≢ IsFree → t.standing ≡ Live
     is_live t Live e h = e
     is_live t Retired e h = absurd (h refl)
     is_live t Squashed e h = absurd (h refl)
@@ -182,24 +212,38 @@ named C ts st s busy = go (last_of ts s) refl
         }
 
 -- nobody alive has the station, so that it is free
-free_of : (n : Tenant) (ts : List Tenant) (k : ℕ) → AllByRecursion (IsElsewhere n) ts → ((word_of k (last_of ts n.station)).state ≡ IsFree) × ((word_of k (last_of ts n.station)).tag ≡ k)
+free_of : (n : Tenant) (ts : List Tenant) (k : ℕ) → AllByRecursion (IsElsewhere n) ts →
+    ((word_of k (last_of ts n.station)).state ≡ IsFree) × ((word_of k (last_of ts n.station)).tag ≡ k)
 free_of n [] k h = (refl, refl)
 free_of n (t ∷ ts) k h = go (eqb t.station n.station) refl (free_of n ts k h.1)
   where
-    gone : (st : Standing) → t.standing ≡ st → t.station ≡ n.station → ((word_by k t.standing t.tag t.fate t.made).state ≡ IsFree) × ((word_by k t.standing t.tag t.fate t.made).tag ≡ k)
+    gone : (st : Standing) → t.standing ≡ st → t.station ≡ n.station →
+        ((word_by k t.standing t.tag t.fate t.made).state ≡ IsFree) ×
+        ((word_by k t.standing t.tag t.fate t.made).tag ≡ k)
     gone Live e same = absurd (h.0 e same)
-    gone Retired e same = (ap (λ st. (word_by k st t.tag t.fate t.made).state) e, ap (λ st. (word_by k st t.tag t.fate t.made).tag) e)
-    gone Squashed e same = (ap (λ st. (word_by k st t.tag t.fate t.made).state) e, ap (λ st. (word_by k st t.tag t.fate t.made).tag) e)
+    gone Retired e same = (
+      ap (λ st. (word_by k st t.tag t.fate t.made).state) e,
+      ap (λ st. (word_by k st t.tag t.fate t.made).tag) e,
+    )
+    gone Squashed e same = (
+      ap (λ st. (word_by k st t.tag t.fate t.made).state) e,
+      ap (λ st. (word_by k st t.tag t.fate t.made).tag) e,
+    )
 
     Goal : Bool → Type 0
-    Goal b = ((word_of k (cond b (Some t) (last_of ts n.station))).state ≡ IsFree) × ((word_of k (cond b (Some t) (last_of ts n.station))).tag ≡ k)
+    Goal b =
+        ((word_of k (cond b (Some t) (last_of ts n.station))).state ≡ IsFree) ×
+        ((word_of k (cond b (Some t) (last_of ts n.station))).tag ≡ k)
 
-    go : (b : Bool) → eqb t.station n.station ≡ b → ((word_of k (last_of ts n.station)).state ≡ IsFree) × ((word_of k (last_of ts n.station)).tag ≡ k) → Goal (eqb t.station n.station)
+    go : (b : Bool) → eqb t.station n.station ≡ b →
+        ((word_of k (last_of ts n.station)).state ≡ IsFree) × ((word_of k (last_of ts n.station)).tag ≡ k) →
+        Goal (eqb t.station n.station)
     go true q more = subst Goal (sym q) (gone t.standing refl (eqb-true t.station n.station q))
     go false q more = subst Goal (sym q) more
 
 -- only a live tenant changes its station
-pub acts_live : (P : Program) (by : ℕ) (act : Act) (ys : List Tenant) (t : Tenant) (ts : List Tenant) → ChangesStation act → May P by act ys t ts → t.standing ≡ Live
+pub acts_live : (P : Program) (by : ℕ) (act : Act) (ys : List Tenant) (t : Tenant) (ts : List Tenant) →
+    ChangesStation act → May P by act ys t ts → t.standing ≡ Live
 acts_live P by (Link k) ys t ts c m = absurd c
 acts_live P by (Deliver k) ys t ts c m = absurd c
 acts_live P by Claim ys t ts c m = m.live
@@ -209,39 +253,57 @@ acts_live P by (Retire n) ys t ts c m = m.live
 acts_live P by Squash ys t ts c m = m.live
 acts_live P by Mend ys t ts c m = m.live
 
-module _ (P : Program) (C : Sizes) (U : UpdateUnit) (by : ℕ) (sound_U : IsSound P U.tenants) (st : Stands C (recent U)) (tags : AreTagged C (recent U)) where
-  before_let : (index predicted : ℕ) (first second : Supply) → Allowed P C U by (Let index predicted first second) → ((station_word C (recent U) (next_station C (recent U))).state ≡ IsFree) × ((station_word C (recent U) (next_station C (recent U))).tag ≡ next_tag C (recent U))
+module _ (P : Program) (C : Sizes) (U : UpdateUnit) (by : ℕ) (sound_U : IsSound P U.tenants) (st : Stands C
+    (recent U)) (tags : AreTagged C (recent U)) where
+  before_let : (index predicted : ℕ) (first second : Supply) →
+      Allowed P C U by (Let index predicted first second) →
+      ((station_word C (recent U) (next_station C (recent U))).state ≡ IsFree) ×
+      ((station_word C (recent U) (next_station C (recent U))).tag ≡ next_tag C (recent U))
   before_let index predicted first second a =
       let n = new_tenant P C U index predicted first second in
-      free_of n (recent U) (next_tag C (recent U)) (all_elsewhere P C n (recent U) [] (recent U) refl refl a.room sound_U st.placed)
+      free_of n (recent U) (next_tag C (recent U)) (all_elsewhere P C n (recent U) []
+      (recent U) refl refl a.room sound_U st.placed)
 
-  after_let : (index predicted : ℕ) (first second : Supply) (s : ℕ) → station_word C (recent (applied P C U by (Let index predicted first second))) s ≡ cond (eqb (next_station C (recent U)) s) (live_word (next_tag C (recent U)) Open) (station_word C (recent U) s)
+  after_let : (index predicted : ℕ) (first second : Supply) (s : ℕ) →
+      station_word C (recent (applied P C U by (Let index predicted first second))) s ≡ cond (eqb
+      (next_station C (recent U)) s) (live_word (next_tag C (recent U)) Open) (station_word C (recent U) s)
   after_let index predicted first second s = go (eqb (next_station C (recent U)) s) refl
     where
       vs : List Tenant
       vs = recent U
 
-      go : (b : Bool) → eqb (next_station C vs) s ≡ b → word_of (C.first_tag + cond b (suc (how_many (λ u. eqb u.station s) vs)) (how_many (λ u. eqb u.station s) vs)) (cond b (Some (new_tenant P C U index predicted first second)) (last_of vs s)) ≡ cond b (live_word (next_tag C vs) Open) (station_word C vs s)
+      go : (b : Bool) → eqb (next_station C vs) s ≡ b →
+          word_of (C.first_tag + cond b (suc (how_many (λ u. eqb u.station s) vs))
+          (how_many (λ u. eqb u.station s) vs)) (cond b (Some (new_tenant P C U index predicted first second))
+          (last_of vs s)) ≡ cond b (live_word (next_tag C vs) Open) (station_word C vs s)
       go true e = refl
       go false e = refl
 
   -- an act on a live tenant
-  at_station : (p : ℕ) (act : Act) (t : Tenant) (s : ℕ) → t.standing ≡ Live → at U.tenants p ≡ Some t → station_word C (recent (applied P C U by (On p act))) s ≡ cond (eqb t.station s) (word_of (suc t.tag) (Some (changed P by act t (older U.tenants p)))) (station_word C (recent U) s)
+  at_station : (p : ℕ) (act : Act) (t : Tenant) (s : ℕ) → t.standing ≡ Live → at U.tenants p ≡ Some t →
+      station_word C (recent (applied P C U by (On p act))) s ≡ cond (eqb t.station s) (word_of (suc t.tag)
+      (Some (changed P by act t (older U.tenants p)))) (station_word C (recent U) s)
   at_station p act t s live e =
       let ts = U.tenants in
       let u = changed P by act t (older ts p) in
       let split = split_at ts p t e in
       ap (λ W. station_word C W s) (parts P ts by p act t e)
-      ∙ shown_live C t u (older ts p) (younger ts p) s live (same_place P by act t (older ts p)).0 (subst AreApart split st.apart) (subst (AreTagged C) split tags)
+      ∙ shown_live C t u (older ts p) (younger ts p) s live (same_place P by act t (older ts p)).0
+      (subst AreApart split st.apart) (subst (AreTagged C) split tags)
       ∙ ap (λ W. cond (eqb t.station s) (word_of (suc t.tag) (Some u)) (station_word C W s)) (sym split)
 
-  after_act : (p : ℕ) (act : Act) (t : Tenant) (s : ℕ) → ChangesStation act → Allowed P C U by (On p act) → at U.tenants p ≡ Some t → station_word C (recent (applied P C U by (On p act))) s ≡ cond (eqb t.station s) (word_of (suc t.tag) (Some (changed P by act t (older U.tenants p)))) (station_word C (recent U) s)
+  after_act : (p : ℕ) (act : Act) (t : Tenant) (s : ℕ) → ChangesStation act → Allowed P C U by (On p act) →
+      at U.tenants p ≡ Some t →
+      station_word C (recent (applied P C U by (On p act))) s ≡ cond (eqb t.station s) (word_of (suc t.tag)
+      (Some (changed P by act t (older U.tenants p)))) (station_word C (recent U) s)
   after_act p act t s c a e =
       let same : a.tenant ≡ t = let f = a.is in cc (sym f ∙ e) in
-      let live : t.standing ≡ Live = ap (λ x. x.standing) (sym same) ∙ acts_live P by act (younger U.tenants p) a.tenant (older U.tenants p) c a.may in
+      let live : t.standing ≡ Live = ap (λ x. x.standing) (sym same)
+      ∙ acts_live P by act (younger U.tenants p) a.tenant (older U.tenants p) c a.may in
       at_station p act t s live e
 
-  same_word : (act : Act) (t : Tenant) (ts : List Tenant) (n : ℕ) → KeepsStations act → word_of n (Some (changed P by act t ts)) ≡ word_of n (Some t)
+  same_word : (act : Act) (t : Tenant) (ts : List Tenant) (n : ℕ) → KeepsStations act →
+      word_of n (Some (changed P by act t ts)) ≡ word_of n (Some t)
   same_word (Link First) t ts n k = refl
   same_word (Link Second) t ts n k = refl
   same_word (Deliver First) t ts n k = refl
@@ -253,12 +315,14 @@ module _ (P : Program) (C : Sizes) (U : UpdateUnit) (by : ℕ) (sound_U : IsSoun
   same_word Squash t ts n k = absurd k
   same_word Mend t ts n k = absurd k
 
-  station_kept : (p : ℕ) (act : Act) (s : ℕ) → KeepsStations act → Allowed P C U by (On p act) → station_word C (recent (applied P C U by (On p act))) s ≡ station_word C (recent U) s
+  station_kept : (p : ℕ) (act : Act) (s : ℕ) → KeepsStations act → Allowed P C U by (On p act) →
+      station_word C (recent (applied P C U by (On p act))) s ≡ station_word C (recent U) s
   station_kept p act s k a =
       let ts = U.tenants in
       let t = a.tenant in
       ap (λ W. station_word C W s) (parts P ts by p act t a.is)
-      ∙ shown_same C t (changed P by act t (older ts p)) (older ts p) (younger ts p) s (same_place P by act t (older ts p)).0 (λ n. same_word act t (older ts p) n k)
+      ∙ shown_same C t (changed P by act t (older ts p)) (older ts p) (younger ts p) s (same_place P by act t
+      (older ts p)).0 (λ n. same_word act t (older ts p) n k)
       ∙ ap (λ W. station_word C W s) (sym (split_at ts p t a.is))
 
   moves : Moves P C U by
@@ -273,6 +337,13 @@ module _ (P : Program) (C : Sizes) (U : UpdateUnit) (by : ℕ) (sound_U : IsSoun
 pub stations_follow : (P : Program) (C : Sizes) (history : List Taken) (by : ℕ) → StationsFollow P C history by
 stations_follow P C history by =
     record {
-      shows = λ a. let st = stands P C history a in record { live = is_shown C (recent (reached P C history)) st; names = named C (recent (reached P C history)) st };
-      moves = λ a. moves P C (reached P C history) by (sound P C history a) (stands P C history a) (tagged P C history a);
+      shows =
+          λ a. let st = stands P C history a in
+          record {
+            live = is_shown C (recent (reached P C history)) st;
+            names = named C (recent (reached P C history)) st;
+          };
+      moves =
+          λ a. moves P C (reached P C history) by (sound P C history a) (stands P C history a)
+          (tagged P C history a);
     }

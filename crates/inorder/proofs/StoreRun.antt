@@ -58,15 +58,59 @@ stores_have_addresses_allowed = (
                   (
                     (
                       tt,
-                      record { room = less _ _ refl; queue = λ e. absurd (true≢false (sym e)); is_there = less _ _ refl; pc = refl; small = less _ _ refl; predicts = refl; first_is = refl; second_is = refl },
+                      record {
+                        room = less _ _ refl;
+                        queue = λ e. absurd (true≢false (sym e));
+                        is_there = less _ _ refl;
+                        pc = refl;
+                        small = less _ _ refl;
+                        predicts = refl;
+                        first_is = refl;
+                        second_is = refl;
+                      },
                     ),
-                    record { room = less _ _ refl; queue = λ e. less _ _ refl; is_there = less _ _ refl; pc = refl; small = less _ _ refl; predicts = refl; first_is = refl; second_is = record { p = 0; tenant = _; creates = refl; is = refl; waits = computes_not_links; other = apart 0 1 refl; last = tt } },
+                    record {
+                      room = less _ _ refl;
+                      queue = λ e. less _ _ refl;
+                      is_there = less _ _ refl;
+                      pc = refl;
+                      small = less _ _ refl;
+                      predicts = refl;
+                      first_is = refl;
+                      second_is = record {
+                        p = 0;
+                        tenant = _;
+                        creates = refl;
+                        is = refl;
+                        waits = computes_not_links;
+                        other = apart 0 1 refl;
+                        last = tt;
+                      };
+                    },
                   ),
                   record { tenant = _; is = refl; may = record { way = refl } },
                 ),
-                record { room = less _ _ refl; queue = λ e. less _ _ refl; is_there = less _ _ refl; pc = refl; small = less _ _ refl; predicts = refl; first_is = refl; second_is = refl },
+                record {
+                  room = less _ _ refl;
+                  queue = λ e. less _ _ refl;
+                  is_there = less _ _ refl;
+                  pc = refl;
+                  small = less _ _ refl;
+                  predicts = refl;
+                  first_is = refl;
+                  second_is = refl;
+                },
               ),
-              record { room = less _ _ refl; queue = λ e. less _ _ refl; is_there = less _ _ refl; pc = refl; small = less _ _ refl; predicts = refl; first_is = refl; second_is = refl },
+              record {
+                room = less _ _ refl;
+                queue = λ e. less _ _ refl;
+                is_there = less _ _ refl;
+                pc = refl;
+                small = less _ _ refl;
+                predicts = refl;
+                first_is = refl;
+                second_is = refl;
+              },
             ),
             record { tenant = _; is = refl; may = record { live = refl; fate = refl; needs = refl } },
           ),
@@ -101,9 +145,25 @@ word_read_allowed = (
       ),
       record { tenant = _; is = refl; may = record { live = refl; fate = refl } },
     ),
-    record { tenant = _; is = refl; may = record { in_time = true; way = refl; waits = refl; value = 0xffffffff; is_made = refl } },
+    record {
+      tenant = _;
+      is = refl;
+      may = record { in_time = true; way = refl; waits = refl; value = 0xffffffff; is_made = refl };
+    },
   ),
-  record { tenant = _; is = refl; may = record { live = refl; kind = refl; a = 0; fate = refl; addresses = ((λ l k. (1, refl)), ((λ l k. (0, refl)), ((λ l k. absurd (computes_not_stores k)), tt))); bytes = 0xffff00ff; read = refl } },
+  record {
+    tenant = _;
+    is = refl;
+    may = record {
+      live = refl;
+      kind = refl;
+      a = 0;
+      fate = refl;
+      addresses = ((λ l k. (1, refl)), ((λ l k. (0, refl)), ((λ l k. absurd (computes_not_stores k)), tt)));
+      bytes = 0xffff00ff;
+      read = refl;
+    };
+  },
 )
 
 -- All retire in order
@@ -130,26 +190,90 @@ bytes_ended_allowed = (
             (
               (
                 word_read_allowed,
-                record { tenant = _; is = refl; may = record { small = less _ _ refl; live = refl; oldest = tt; no_stop = tt; can = tt } },
+                record {
+                  tenant = _;
+                  is = refl;
+                  may = record { small = less _ _ refl; live = refl; oldest = tt; no_stop = tt; can = tt };
+                },
               ),
-              record { room = less _ _ refl; queue = λ e. absurd (true≢false (sym e)); is_there = less _ _ refl; pc = refl; small = less _ _ refl; predicts = refl; first_is = refl; second_is = refl },
+              record {
+                room = less _ _ refl;
+                queue = λ e. absurd (true≢false (sym e));
+                is_there = less _ _ refl;
+                pc = refl;
+                small = less _ _ refl;
+                predicts = refl;
+                first_is = refl;
+                second_is = refl;
+              },
             ),
-            record { tenant = _; is = refl; may = record { small = less _ _ refl; live = refl; oldest = (retired_not_live, tt); no_stop = ((λ e c. done_not_stop 0xffffffff c), tt); can = (refl, (0xffffffff, refl)) } },
+            record {
+              tenant = _;
+              is = refl;
+              may = record {
+                small = less _ _ refl;
+                live = refl;
+                oldest = (retired_not_live, tt);
+                no_stop = ((λ e c. done_not_stop 0xffffffff c), tt);
+                can = (refl, (0xffffffff, refl));
+              };
+            },
           ),
-          record { tenant = _; is = refl; may = record { small = less _ _ refl; live = refl; oldest = (retired_not_live, (retired_not_live, tt)); no_stop = ((λ e c. addr_not_stop 0 c), ((λ e c. done_not_stop 0xffffffff c), tt)); can = (refl, (0, refl)) } },
+          record {
+            tenant = _;
+            is = refl;
+            may = record {
+              small = less _ _ refl;
+              live = refl;
+              oldest = (retired_not_live, (retired_not_live, tt));
+              no_stop = ((λ e c. addr_not_stop 0 c), ((λ e c. done_not_stop 0xffffffff c), tt));
+              can = (refl, (0, refl));
+            };
+          },
         ),
-        record { tenant = _; is = refl; may = record { small = less _ _ refl; live = refl; oldest = (retired_not_live, (retired_not_live, (retired_not_live, tt))); no_stop = ((λ e c. addr_not_stop 1 c), ((λ e c. addr_not_stop 0 c), ((λ e c. done_not_stop 0xffffffff c), tt))); can = tt } },
+        record {
+          tenant = _;
+          is = refl;
+          may = record {
+            small = less _ _ refl;
+            live = refl;
+            oldest = (retired_not_live, (retired_not_live, (retired_not_live, tt)));
+            no_stop = (
+              (λ e c. addr_not_stop 1 c),
+              ((λ e c. addr_not_stop 0 c), ((λ e c. done_not_stop 0xffffffff c), tt)),
+            );
+            can = tt;
+          };
+        },
       ),
       record { tenant = _; is = refl; may = record { live = refl; fate = refl; needs = refl } },
     ),
     record { tenant = _; is = refl; may = record { live = refl; fate = refl } },
   ),
-  record { tenant = _; is = refl; may = record { small = less _ _ refl; live = refl; oldest = (retired_not_live, (retired_not_live, (retired_not_live, (retired_not_live, tt)))); no_stop = ((λ e c. done_not_stop 0xffff00ff c), ((λ e c. addr_not_stop 1 c), ((λ e c. addr_not_stop 0 c), ((λ e c. done_not_stop 0xffffffff c), tt)))); can = tt } },
+  record {
+    tenant = _;
+    is = refl;
+    may = record {
+      small = less _ _ refl;
+      live = refl;
+      oldest = (retired_not_live, (retired_not_live, (retired_not_live, (retired_not_live, tt))));
+      no_stop = (
+        (λ e c. done_not_stop 0xffff00ff c),
+        ((λ e c. addr_not_stop 1 c), ((λ e c. addr_not_stop 0 c), ((λ e c. done_not_stop 0xffffffff c), tt))),
+      );
+      can = tt;
+    };
+  },
 )
 
 -- The byte store is seen in the word that was loaded, and in memory
 bytes_committed : committed bytes_and_words (reached bytes_and_words four_entries bytes_ended).tenants ≡
-    record { registers = 0 ∷ 0xffffffff ∷ 0xffff00ff ∷ replicate 29 0; memory = 255 ∷ 0 ∷ 255 ∷ 255 ∷ []; pc = 0x00400010; count = 4 }
+    record {
+      registers = 0 ∷ 0xffffffff ∷ 0xffff00ff ∷ replicate 29 0;
+      memory = 255 ∷ 0 ∷ 255 ∷ 255 ∷ [];
+      pc = 0x00400010;
+      count = 4;
+    }
 unfolding instr_at computed_by jump_target checked_address loaded
 bytes_committed = refl
 
@@ -190,15 +314,59 @@ load_has_address_allowed = (
           (
             (
               tt,
-              record { room = less _ _ refl; queue = λ e. absurd (true≢false (sym e)); is_there = less _ _ refl; pc = refl; small = less _ _ refl; predicts = refl; first_is = refl; second_is = refl },
+              record {
+                room = less _ _ refl;
+                queue = λ e. absurd (true≢false (sym e));
+                is_there = less _ _ refl;
+                pc = refl;
+                small = less _ _ refl;
+                predicts = refl;
+                first_is = refl;
+                second_is = refl;
+              },
             ),
-            record { room = less _ _ refl; queue = λ e. less _ _ refl; is_there = less _ _ refl; pc = refl; small = less _ _ refl; predicts = refl; first_is = refl; second_is = record { p = 0; tenant = _; creates = refl; is = refl; waits = computes_not_links; other = apart 0 1 refl; last = tt } },
+            record {
+              room = less _ _ refl;
+              queue = λ e. less _ _ refl;
+              is_there = less _ _ refl;
+              pc = refl;
+              small = less _ _ refl;
+              predicts = refl;
+              first_is = refl;
+              second_is = record {
+                p = 0;
+                tenant = _;
+                creates = refl;
+                is = refl;
+                waits = computes_not_links;
+                other = apart 0 1 refl;
+                last = tt;
+              };
+            },
           ),
           record { tenant = _; is = refl; may = record { way = refl } },
         ),
-        record { room = less _ _ refl; queue = λ e. less _ _ refl; is_there = less _ _ refl; pc = refl; small = less _ _ refl; predicts = refl; first_is = refl; second_is = refl },
+        record {
+          room = less _ _ refl;
+          queue = λ e. less _ _ refl;
+          is_there = less _ _ refl;
+          pc = refl;
+          small = less _ _ refl;
+          predicts = refl;
+          first_is = refl;
+          second_is = refl;
+        },
       ),
-      record { room = less _ _ refl; queue = λ e. absurd (true≢false (sym e)); is_there = less _ _ refl; pc = refl; small = less _ _ refl; predicts = refl; first_is = refl; second_is = refl },
+      record {
+        room = less _ _ refl;
+        queue = λ e. absurd (true≢false (sym e));
+        is_there = less _ _ refl;
+        pc = refl;
+        small = less _ _ refl;
+        predicts = refl;
+        first_is = refl;
+        second_is = refl;
+      },
     ),
     record { tenant = _; is = refl; may = record { live = refl; fate = refl; needs = refl } },
   ),
@@ -233,9 +401,25 @@ word_forwarded_allowed = (
       ),
       record { tenant = _; is = refl; may = record { live = refl; fate = refl } },
     ),
-    record { tenant = _; is = refl; may = record { in_time = true; way = refl; waits = refl; value = 7; is_made = refl } },
+    record {
+      tenant = _;
+      is = refl;
+      may = record { in_time = true; way = refl; waits = refl; value = 7; is_made = refl };
+    },
   ),
-  record { tenant = _; is = refl; may = record { live = refl; kind = refl; a = 0; fate = refl; addresses = ((λ l k. (0, refl)), ((λ l k. absurd (computes_not_stores k)), tt)); bytes = 7; read = refl } },
+  record {
+    tenant = _;
+    is = refl;
+    may = record {
+      live = refl;
+      kind = refl;
+      a = 0;
+      fate = refl;
+      addresses = ((λ l k. (0, refl)), ((λ l k. absurd (computes_not_stores k)), tt));
+      bytes = 7;
+      read = refl;
+    };
+  },
 )
 
 -- All retire in order
@@ -258,17 +442,51 @@ forward_ended_allowed = (
         (
           (
             word_forwarded_allowed,
-            record { tenant = _; is = refl; may = record { small = less _ _ refl; live = refl; oldest = tt; no_stop = tt; can = tt } },
+            record {
+              tenant = _;
+              is = refl;
+              may = record { small = less _ _ refl; live = refl; oldest = tt; no_stop = tt; can = tt };
+            },
           ),
-          record { tenant = _; is = refl; may = record { small = less _ _ refl; live = refl; oldest = (retired_not_live, tt); no_stop = ((λ e c. done_not_stop 7 c), tt); can = (refl, (7, refl)) } },
+          record {
+            tenant = _;
+            is = refl;
+            may = record {
+              small = less _ _ refl;
+              live = refl;
+              oldest = (retired_not_live, tt);
+              no_stop = ((λ e c. done_not_stop 7 c), tt);
+              can = (refl, (7, refl));
+            };
+          },
         ),
-        record { tenant = _; is = refl; may = record { small = less _ _ refl; live = refl; oldest = (retired_not_live, (retired_not_live, tt)); no_stop = ((λ e c. addr_not_stop 0 c), ((λ e c. done_not_stop 7 c), tt)); can = tt } },
+        record {
+          tenant = _;
+          is = refl;
+          may = record {
+            small = less _ _ refl;
+            live = refl;
+            oldest = (retired_not_live, (retired_not_live, tt));
+            no_stop = ((λ e c. addr_not_stop 0 c), ((λ e c. done_not_stop 7 c), tt));
+            can = tt;
+          };
+        },
       ),
       record { tenant = _; is = refl; may = record { live = refl; fate = refl; needs = refl } },
     ),
     record { tenant = _; is = refl; may = record { live = refl; fate = refl } },
   ),
-  record { tenant = _; is = refl; may = record { small = less _ _ refl; live = refl; oldest = (retired_not_live, (retired_not_live, (retired_not_live, tt))); no_stop = ((λ e c. done_not_stop 7 c), ((λ e c. addr_not_stop 0 c), ((λ e c. done_not_stop 7 c), tt))); can = tt } },
+  record {
+    tenant = _;
+    is = refl;
+    may = record {
+      small = less _ _ refl;
+      live = refl;
+      oldest = (retired_not_live, (retired_not_live, (retired_not_live, tt)));
+      no_stop = ((λ e c. done_not_stop 7 c), ((λ e c. addr_not_stop 0 c), ((λ e c. done_not_stop 7 c), tt)));
+      can = tt;
+    };
+  },
 )
 
 forward_committed : committed forwards (reached forwards two_entries forward_ended).tenants ≡

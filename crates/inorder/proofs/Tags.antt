@@ -19,16 +19,23 @@ abbrev pub AreTagged : Sizes → List Tenant → Type 0
 AreTagged C [] = Unit {0}
 AreTagged C (t ∷ ts) = (t.tag ≡ tag_after C ts t.station) × AreTagged C ts
 
-pub count_same : (t t' : Tenant) (ts ys : List Tenant) (s : ℕ) → t'.station ≡ t.station → how_many (λ u. eqb u.station s) (ys ++ t' ∷ ts) ≡ how_many (λ u. eqb u.station s) (ys ++ t ∷ ts)
-count_same t t' ts [] s e = ap (λ q. cond (eqb q s) (suc (how_many (λ u. eqb u.station s) ts)) (how_many (λ u. eqb u.station s) ts)) e
+pub count_same : (t t' : Tenant) (ts ys : List Tenant) (s : ℕ) → t'.station ≡ t.station →
+    how_many (λ u. eqb u.station s) (ys ++ t' ∷ ts) ≡ how_many (λ u. eqb u.station s) (ys ++ t ∷ ts)
+count_same t t' ts [] s e =
+    ap (λ q. cond (eqb q s) (suc (how_many (λ u. eqb u.station s) ts)) (how_many (λ u. eqb u.station s) ts)) e
 count_same t t' ts (y ∷ ys) s e = ap (λ n. cond (eqb y.station s) (suc n) n) (count_same t t' ts ys s e)
 
-tagged_same : (C : Sizes) (t t' : Tenant) (ts ys : List Tenant) → t'.station ≡ t.station → t'.tag ≡ t.tag → AreTagged C (ys ++ t ∷ ts) → AreTagged C (ys ++ t' ∷ ts)
+tagged_same : (C : Sizes) (t t' : Tenant) (ts ys : List Tenant) → t'.station ≡ t.station → t'.tag ≡ t.tag →
+    AreTagged C (ys ++ t ∷ ts) → AreTagged C (ys ++ t' ∷ ts)
 tagged_same C t t' ts [] e f h = (f ∙ h.0 ∙ ap (tag_after C ts) (sym e), h.1)
-tagged_same C t t' ts (y ∷ ys) e f h = (h.0 ∙ ap (λ n. C.first_tag + n) (sym (count_same t t' ts ys y.station e)), tagged_same C t t' ts ys e f h.1)
+tagged_same C t t' ts (y ∷ ys) e f h = (
+  h.0 ∙ ap (λ n. C.first_tag + n) (sym (count_same t t' ts ys y.station e)),
+  tagged_same C t t' ts ys e f h.1,
+)
 
 -- an act leaves station and tag
-pub same_place : (P : Program) (by : ℕ) (act : Act) (t : Tenant) (ts : List Tenant) → ((changed P by act t ts).station ≡ t.station) × ((changed P by act t ts).tag ≡ t.tag)
+pub same_place : (P : Program) (by : ℕ) (act : Act) (t : Tenant) (ts : List Tenant) →
+    ((changed P by act t ts).station ≡ t.station) × ((changed P by act t ts).tag ≡ t.tag)
 same_place P by (Link First) t ts = (refl, refl)
 same_place P by (Link Second) t ts = (refl, refl)
 same_place P by (Deliver First) t ts = (refl, refl)
@@ -54,20 +61,24 @@ same_place P by Mend t ts = go t.fate
     go (Miss v) = (refl, refl)
     go (Stopped v) = (refl, refl)
 
-tagged_kept : (P : Program) (C : Sizes) (U : UpdateUnit) (by : ℕ) (s : Step) → Allowed P C U by s → AreTagged C (recent U) → AreTagged C (recent (applied P C U by s))
+tagged_kept : (P : Program) (C : Sizes) (U : UpdateUnit) (by : ℕ) (s : Step) → Allowed P C U by s →
+    AreTagged C (recent U) → AreTagged C (recent (applied P C U by s))
 tagged_kept P C U by (Let index predicted first second) a h = (refl, h)
 tagged_kept P C U by (On p act) a h =
     let ts = U.tenants in
     let t = a.tenant in
     let q = same_place P by act t (older ts p) in
-    subst (AreTagged C) (sym (parts P ts by p act t a.is)) (tagged_same C t _ (older ts p) (younger ts p) q.0 q.1 (subst (AreTagged C) (split_at ts p t a.is) h))
+    subst (AreTagged C) (sym (parts P ts by p act t a.is)) (tagged_same C t _ (older ts p)
+    (younger ts p) q.0 q.1 (subst (AreTagged C) (split_at ts p t a.is) h))
 
-pub tagged : (P : Program) (C : Sizes) (ss : List Taken) → AreAllowed P C ss → AreTagged C (recent (reached P C ss))
+pub tagged : (P : Program) (C : Sizes) (ss : List Taken) → AreAllowed P C ss →
+    AreTagged C (recent (reached P C ss))
 tagged P C [] a = tt
 tagged P C (s ∷ ss) a = tagged_kept P C (reached P C ss) s.by s.step a.1 (tagged P C ss a.0)
 
 -- a younger tenant of a station has a higher tag
-pub higher : (C : Sizes) (t u : Tenant) (ts : List Tenant) (q : ℕ) → AreTagged C (t ∷ ts) → at ts q ≡ Some u → t.station ≡ u.station → u.tag < t.tag
+pub higher : (C : Sizes) (t u : Tenant) (ts : List Tenant) (q : ℕ) → AreTagged C (t ∷ ts) → at ts q ≡ Some u →
+    t.station ≡ u.station → u.tag < t.tag
 higher C t u ts q h e same = omega (arith, h.0, below ts q h.1 e)
   where
     Goal : List Tenant → Type 0
@@ -85,19 +96,28 @@ higher C t u ts q h e same = omega (arith, h.0, below ts q h.1 e)
         go true r rest =
             let is : v ≡ u = cc (ap (λ x. cond x (Some v) (at vs q)) (sym r) ∙ f) in
             let station : v.station ≡ t.station = ap (λ x. x.station) is ∙ sym same in
-            let c = ap (λ x. C.first_tag + cond x (suc (how_many (λ w. eqb w.station t.station) vs)) (how_many (λ w. eqb w.station t.station) vs)) (ap (λ x. eqb x t.station) station ∙ eqb_self t.station) in
-            let tag : u.tag ≡ tag_after C vs t.station = ap (λ x. x.tag) (sym is) ∙ g.0 ∙ ap (tag_after C vs) station in
+            let c = ap (λ x. C.first_tag + cond x (suc (how_many (λ w. eqb w.station t.station) vs))
+            (how_many (λ w. eqb w.station t.station) vs)) (ap (λ x. eqb x t.station) station
+            ∙ eqb_self t.station) in
+            let tag : u.tag ≡ tag_after C vs t.station = ap (λ x. x.tag) (sym is) ∙ g.0
+            ∙ ap (tag_after C vs) station in
             omega arith
-        go false r rest = more (eqb v.station t.station) (how_many (λ w. eqb w.station t.station) vs) (rest (ap (λ x. cond x (Some v) (at vs q)) (sym r) ∙ f))
+        go false r rest =
+            more (eqb v.station t.station) (how_many (λ w. eqb w.station t.station) vs) (rest
+            (ap (λ x. cond x (Some v) (at vs q)) (sym r) ∙ f))
 
-pub names_one : (C : Sizes) (U : List Tenant) (p q : ℕ) (t u : Tenant) → AreTagged C U → at U p ≡ Some t → at U q ≡ Some u → t.station ≡ u.station → t.tag ≡ u.tag → p ≡ q
+pub names_one : (C : Sizes) (U : List Tenant) (p q : ℕ) (t u : Tenant) → AreTagged C U → at U p ≡ Some t →
+    at U q ≡ Some u → t.station ≡ u.station → t.tag ≡ u.tag → p ≡ q
 names_one C [] p q t u h e f same tag = absurd (cc)
-names_one C (v ∷ vs) p q t u h e f same tag = go (eqb p (length vs)) refl (eqb q (length vs)) refl (names_one C vs p q t u h.1)
+names_one C (v ∷ vs) p q t u h e f same tag =
+    go (eqb p (length vs)) refl (eqb q (length vs)) refl (names_one C vs p q t u h.1)
   where
-    head : (r : ℕ) (w : Tenant) (b : Bool) → eqb r (length vs) ≡ b → at (v ∷ vs) r ≡ Some w → cond b (Some v) (at vs r) ≡ Some w
+    head : (r : ℕ) (w : Tenant) (b : Bool) → eqb r (length vs) ≡ b → at (v ∷ vs) r ≡ Some w →
+        cond b (Some v) (at vs r) ≡ Some w
     head r w b g i = ap (λ x. cond x (Some v) (at vs r)) (sym g) ∙ i
 
-    go : (b : Bool) → eqb p (length vs) ≡ b → (b' : Bool) → eqb q (length vs) ≡ b' → (at vs p ≡ Some t → at vs q ≡ Some u → t.station ≡ u.station → t.tag ≡ u.tag → p ≡ q) → p ≡ q
+    go : (b : Bool) → eqb p (length vs) ≡ b → (b' : Bool) → eqb q (length vs) ≡ b' →
+        (at vs p ≡ Some t → at vs q ≡ Some u → t.station ≡ u.station → t.tag ≡ u.tag → p ≡ q) → p ≡ q
     go true x true y rest = eqb-true p (length vs) x ∙ sym (eqb-true q (length vs) y)
     go true x false y rest =
         let is : v ≡ t = cc (head p t true x e) in

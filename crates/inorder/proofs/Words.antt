@@ -43,7 +43,8 @@ flag_word false = omega arith
 shifted_word : (a n : ℕ) → IsWord a → IsWord (shifted_signed a n)
 shifted_word a n h = go (ltb a (2 ^ 31))
   where
-    go : (b : Bool) → IsWord (cast_unsigned w32 (int_div_euclid (cond b (pos a) (negsuc (2 ^ 32 - suc a))) (pos (2 ^ n))))
+    go : (b : Bool) →
+        IsWord (cast_unsigned w32 (int_div_euclid (cond b (pos a) (negsuc (2 ^ 32 - suc a))) (pos (2 ^ n))))
     go true = word_div a n h
     go false = omega arith
 
@@ -171,7 +172,8 @@ address_word : (r : Result ℕ Stop) → IfOk r IsWord → OutcomeIsWord (as_add
 address_word (Ok v) h = h
 address_word (Err c) h = tt
 
-pub outcome_words : (k : Kind) (i : Instr) (pc a b size : ℕ) → IsWord i.number → IsWord a → IsWord b → OutcomeIsWord (outcome_by k i pc a b size)
+pub outcome_words : (k : Kind) (i : Instr) (pc a b size : ℕ) → IsWord i.number → IsWord a → IsWord b →
+    OutcomeIsWord (outcome_by k i pc a b size)
 outcome_words Computes i pc a b size n u v = value_word _ (computed_words i.op a b i.number u v n)
 outcome_words Jumps i pc a b size n u v = jump_words i.op pc a b i.number u n
 outcome_words Links i pc a b size n u v = jump_words i.op pc a b i.number u n

@@ -55,15 +55,18 @@ byte_at_small : (P : Program) → HasWords P → (ts : List Tenant) (x : ℕ) �
 byte_at_small P w [] x = w.bytes x
 byte_at_small P w (t ∷ ts) x = after_small (stored P t) x (byte_at P ts x) (byte_at_small P w ts x)
 
-joined_small : (b q : Option ℕ) (m : ℕ) → IfSome b IsByte → IfSome q (λ n. n < m) → IfSome (joined b q) (λ n. n < 256 * m)
+joined_small : (b q : Option ℕ) (m : ℕ) → IfSome b IsByte → IfSome q (λ n. n < m) →
+    IfSome (joined b q) (λ n. n < 256 * m)
 joined_small (Some b) (Some n) m u v = omega arith
 joined_small (Some b) None m u v = tt
 joined_small None q m u v = tt
 
-number_small : (byte : ℕ → Option ℕ) → ((x : ℕ) → IfSome (byte x) IsByte) → (a w : ℕ) → IfSome (little_endian_if_there byte a w) (λ n. n < 256 ^ w)
+number_small : (byte : ℕ → Option ℕ) → ((x : ℕ) → IfSome (byte x) IsByte) → (a w : ℕ) →
+    IfSome (little_endian_if_there byte a w) (λ n. n < 256 ^ w)
 number_small byte h a zero = omega arith
 number_small byte h a (suc w) =
-    let more = joined_small (byte a) (little_endian_if_there byte (a + 1) w) (256 ^ w) (h a) (number_small byte h (a + 1) w) in
+    let more = joined_small (byte a) (little_endian_if_there byte (a + 1) w) (256 ^ w) (h a)
+    (number_small byte h (a + 1) w) in
     subst (λ m. IfSome (little_endian_if_there byte a (suc w)) (λ n. n < m)) (omega arith) more
 
 width_small : (op : Op) → width op ≤ 4
@@ -124,7 +127,8 @@ width_cases op (Some n) h = small (width op) (width_small op) h
     small (suc (suc (suc (suc (suc w))))) l h = absurd (omega arith)
 
 raw_word : (P : Program) → HasWords P → (ts : List Tenant) (i : Instr) (f : Fate) → IfSome (raw P ts i f) IsWord
-raw_word P w ts i (Addr a) = width_cases i.op _ (number_small (byte_at P ts) (byte_at_small P w ts) a (width i.op))
+raw_word P w ts i (Addr a) =
+    width_cases i.op _ (number_small (byte_at P ts) (byte_at_small P w ts) a (width i.op))
 raw_word P w ts i Open = tt
 raw_word P w ts i (Busy c) = tt
 raw_word P w ts i (Done c) = tt
@@ -136,7 +140,8 @@ or_zero None h = omega arith
 or_zero (Some v) h = h
 
 load_word : (P : Program) → HasWords P → (ts : List Tenant) (t : Tenant) → IsWord (load_value P ts t)
-load_word P w ts t = loaded_words (instr P t).op _ (or_zero (raw P ts (instr P t) t.fate) (raw_word P w ts (instr P t) t.fate))
+load_word P w ts t =
+    loaded_words (instr P t).op _ (or_zero (raw P ts (instr P t) t.fate) (raw_word P w ts (instr P t) t.fate))
 
 -- values
 
@@ -155,7 +160,8 @@ value_words : (ts : List Tenant) → AllByRecursion AreWords ts → (c : Option 
 value_words ts h None = omega arith
 value_words ts h (Some p) = made_words ts h p
 
-supply_word : (P : Program) (U : UpdateUnit) (station : ℕ) (c : Option ℕ) (s : Supply) → AllByRecursion AreWords U.tenants → MaySupply P U station c s → IfSome (let_operand c s).value IsWord
+supply_word : (P : Program) (U : UpdateUnit) (station : ℕ) (c : Option ℕ) (s : Supply) →
+    AllByRecursion AreWords U.tenants → MaySupply P U station c s → IfSome (let_operand c s).value IsWord
 supply_word P U station c (Known v) h m = some_word (value_of U.tenants c) v m (value_words U.tenants h c)
 supply_word P U station c From h m = tt
 
@@ -166,24 +172,40 @@ made_at_let_word Jumps pc = tt
 made_at_let_word Loads pc = tt
 made_at_let_word Stores pc = tt
 
-let_words : (P : Program) (C : Sizes) (U : UpdateUnit) (index predicted : ℕ) (first second : Supply) → HasWords P → MayLet P C U index predicted first second → AllByRecursion AreWords U.tenants → AreWords (new_tenant P C U index predicted first second)
+let_words : (P : Program) (C : Sizes) (U : UpdateUnit) (index predicted : ℕ) (first second : Supply) →
+    HasWords P → MayLet P C U index predicted first second → AllByRecursion AreWords U.tenants →
+    AreWords (new_tenant P C U index predicted first second)
 let_words P C U index predicted first second w m h =
     record {
       pc = let e = m.pc in let i = m.is_there in let c = w.code in omega (arith, e, i, c);
       predicted = m.small;
       next = m.small;
-      first = supply_word P U (next_station C (recent U)) (creator P U.tenants (instr_of P index).first) first h m.first_is;
-      second = supply_word P U (next_station C (recent U)) (creator P U.tenants (instr_of P index).second) second h m.second_is;
+      first =
+          supply_word P U (next_station C (recent U)) (creator P U.tenants
+          (instr_of P index).first) first h m.first_is;
+      second =
+          supply_word P U (next_station C (recent U)) (creator P U.tenants
+          (instr_of P index).second) second h m.second_is;
       made = made_at_let_word (kind (instr_of P index).op) (front_pc U.tenants);
       fate = tt;
     }
 
 -- another fate, and what is made
-remade_words : (t : Tenant) (f : Fate) (made : Option ℕ) → FateIsWord f → IfSome made IsWord → AreWords t → AreWords (record t { fate = f; made = made })
+remade_words : (t : Tenant) (f : Fate) (made : Option ℕ) → FateIsWord f → IfSome made IsWord → AreWords t →
+    AreWords (record t { fate = f; made = made })
 remade_words t f made u v h =
-    record { pc = h.pc; predicted = h.predicted; next = h.next; first = h.first; second = h.second; made = v; fate = u }
+    record {
+      pc = h.pc;
+      predicted = h.predicted;
+      next = h.next;
+      first = h.first;
+      second = h.second;
+      made = v;
+      fate = u;
+    }
 
-finish_words : (P : Program) → HasWords P → (t : Tenant) (o : Outcome) → OutcomeIsWord o → AreWords t → AreWords (finished t o)
+finish_words : (P : Program) → HasWords P → (t : Tenant) (o : Outcome) → OutcomeIsWord o → AreWords t →
+    AreWords (finished t o)
 finish_words P w t (Value v) u h = remade_words t (Done v) (Some v) u u h
 finish_words P w t (Next x) u h = remade_words t _ t.made (go (eqb x t.predicted)) h.made h
   where
@@ -193,7 +215,8 @@ finish_words P w t (Next x) u h = remade_words t _ t.made (go (eqb x t.predicted
 finish_words P w t (Address a) u h = remade_words t (Addr a) t.made u h.made h
 finish_words P w t (Stops c) u h = remade_words t (Stopped c) t.made tt h.made h
 
-end_word : (f : Fate) (made : Option ℕ) (n : ℕ) → IsWord n → IfSome made IsWord → IfSome (made_at_end f made n) IsWord
+end_word : (f : Fate) (made : Option ℕ) (n : ℕ) → IsWord n → IfSome made IsWord →
+    IfSome (made_at_end f made n) IsWord
 end_word (Stopped c) made n u h = u
 end_word Open made n u h = h
 end_word (Busy c) made n u h = h
@@ -201,18 +224,75 @@ end_word (Addr c) made n u h = h
 end_word (Done c) made n u h = h
 end_word (Miss c) made n u h = h
 
-act_words : (P : Program) → HasWords P → (by : ℕ) (act : Act) (ys : List Tenant) (t : Tenant) (ts : List Tenant) → May P by act ys t ts → AllByRecursion AreWords ts → AreWords t → AreWords (changed P by act t ts)
-act_words P w by (Link First) ys t ts m us h = record { pc = h.pc; predicted = h.predicted; next = h.next; first = h.first; second = h.second; made = h.made; fate = h.fate }
-act_words P w by (Link Second) ys t ts m us h = record { pc = h.pc; predicted = h.predicted; next = h.next; first = h.first; second = h.second; made = h.made; fate = h.fate }
-act_words P w by (Deliver First) ys t ts m us h = record { pc = h.pc; predicted = h.predicted; next = h.next; first = value_words ts us t.first.creator; second = h.second; made = h.made; fate = h.fate }
-act_words P w by (Deliver Second) ys t ts m us h = record { pc = h.pc; predicted = h.predicted; next = h.next; first = h.first; second = value_words ts us t.second.creator; made = h.made; fate = h.fate }
+act_words : (P : Program) → HasWords P →
+    (by : ℕ) (act : Act) (ys : List Tenant) (t : Tenant) (ts : List Tenant) → May P by act ys t ts →
+    AllByRecursion AreWords ts → AreWords t → AreWords (changed P by act t ts)
+act_words P w by (Link First) ys t ts m us h =
+    record {
+      pc = h.pc;
+      predicted = h.predicted;
+      next = h.next;
+      first = h.first;
+      second = h.second;
+      made = h.made;
+      fate = h.fate;
+    }
+act_words P w by (Link Second) ys t ts m us h =
+    record {
+      pc = h.pc;
+      predicted = h.predicted;
+      next = h.next;
+      first = h.first;
+      second = h.second;
+      made = h.made;
+      fate = h.fate;
+    }
+act_words P w by (Deliver First) ys t ts m us h =
+    record {
+      pc = h.pc;
+      predicted = h.predicted;
+      next = h.next;
+      first = value_words ts us t.first.creator;
+      second = h.second;
+      made = h.made;
+      fate = h.fate;
+    }
+act_words P w by (Deliver Second) ys t ts m us h =
+    record {
+      pc = h.pc;
+      predicted = h.predicted;
+      next = h.next;
+      first = h.first;
+      second = value_words ts us t.second.creator;
+      made = h.made;
+      fate = h.fate;
+    }
 act_words P w by Claim ys t ts m us h = remade_words t (Busy by) t.made tt h.made h
 act_words P w by Finish ys t ts m us h =
-    finish_words P w t (computed P t) (outcome_words (kind_of P t) (instr P t) t.pc _ _ (length P.bytes) (w.numbers t.index) (or_zero t.first.value h.first) (or_zero t.second.value h.second)) h
-act_words P w by Load ys t ts m us h = let u = load_word P w ts t in remade_words t (Done (load_value P ts t)) (Some (load_value P ts t)) u u h
+    finish_words P w t (computed P t) (outcome_words (kind_of P t) (instr P t) t.pc _ _ (length P.bytes)
+    (w.numbers t.index) (or_zero t.first.value h.first) (or_zero t.second.value h.second)) h
+act_words P w by Load ys t ts m us h =
+    let u = load_word P w ts t in remade_words t (Done (load_value P ts t)) (Some (load_value P ts t)) u u h
 act_words P w by (Retire n) ys t ts m us h =
-    record { pc = h.pc; predicted = h.predicted; next = h.next; first = h.first; second = h.second; made = end_word t.fate t.made n m.small h.made; fate = h.fate }
-act_words P w by Squash ys t ts m us h = record { pc = h.pc; predicted = h.predicted; next = h.next; first = h.first; second = h.second; made = h.made; fate = h.fate }
+    record {
+      pc = h.pc;
+      predicted = h.predicted;
+      next = h.next;
+      first = h.first;
+      second = h.second;
+      made = end_word t.fate t.made n m.small h.made;
+      fate = h.fate;
+    }
+act_words P w by Squash ys t ts m us h =
+    record {
+      pc = h.pc;
+      predicted = h.predicted;
+      next = h.next;
+      first = h.first;
+      second = h.second;
+      made = h.made;
+      fate = h.fate;
+    }
 act_words P w by Mend ys t ts m us h = go t.fate h.fate
   where
     go : (f : Fate) → FateIsWord f → AreWords (mended_as t f)
@@ -220,27 +300,44 @@ act_words P w by Mend ys t ts m us h = go t.fate h.fate
     go (Busy v) u = h
     go (Addr v) u = h
     go (Done v) u = h
-    go (Miss x) u = record { pc = h.pc; predicted = h.predicted; next = u; first = h.first; second = h.second; made = h.made; fate = u }
+    go (Miss x) u =
+        record {
+          pc = h.pc;
+          predicted = h.predicted;
+          next = u;
+          first = h.first;
+          second = h.second;
+          made = h.made;
+          fate = u;
+        }
     go (Stopped v) u = h
 
-words_tail : (t : Tenant) (ts ys : List Tenant) → AllByRecursion AreWords (ys ++ t ∷ ts) → AllByRecursion AreWords ts
+words_tail : (t : Tenant) (ts ys : List Tenant) → AllByRecursion AreWords (ys ++ t ∷ ts) →
+    AllByRecursion AreWords ts
 words_tail t ts [] h = h.1
 words_tail t ts (y ∷ ys) h = words_tail t ts ys h.1
 
-words_kept : (P : Program) (C : Sizes) → HasWords P → (U : UpdateUnit) (by : ℕ) (s : Step) → Allowed P C U by s → AllByRecursion AreWords U.tenants → AllByRecursion AreWords (applied P C U by s).tenants
-words_kept P C w U by (Let index predicted first second) a h = (let_words P C U index predicted first second w a h, h)
+words_kept : (P : Program) (C : Sizes) → HasWords P → (U : UpdateUnit) (by : ℕ) (s : Step) →
+    Allowed P C U by s → AllByRecursion AreWords U.tenants →
+    AllByRecursion AreWords (applied P C U by s).tenants
+words_kept P C w U by (Let index predicted first second) a h =
+    (let_words P C U index predicted first second w a h, h)
 words_kept P C w U by (On p act) a h =
     let ts = U.tenants in
     let t = a.tenant in
     let parted = subst (AllByRecursion AreWords) (split_at ts p t a.is) h in
-    let new = act_words P w by act (younger ts p) t (older ts p) a.may (words_tail t (older ts p) (younger ts p) parted) in
-    subst (AllByRecursion AreWords) (sym (parts P ts by p act t a.is)) (all_grows AreWords t (changed P by act t (older ts p)) (older ts p) (younger ts p) new parted)
+    let new = act_words P w by act (younger ts p) t (older ts p) a.may (words_tail t (older ts p)
+    (younger ts p) parted) in
+    subst (AllByRecursion AreWords) (sym (parts P ts by p act t a.is)) (all_grows AreWords t
+    (changed P by act t (older ts p)) (older ts p) (younger ts p) new parted)
 
-words : (P : Program) (C : Sizes) → HasWords P → (ss : List Taken) → AreAllowed P C ss → AllByRecursion AreWords (reached P C ss).tenants
+words : (P : Program) (C : Sizes) → HasWords P → (ss : List Taken) → AreAllowed P C ss →
+    AllByRecursion AreWords (reached P C ss).tenants
 words P C w [] a = tt
 words P C w (s ∷ ss) a = words_kept P C w (reached P C ss) s.by s.step a.1 (words P C w ss a.0)
 
 pub values_are_words : (P : Program) (C : Sizes) (history : List Taken) → ValuesAreWords P C history
 values_are_words P C history w a p t e =
     let ts = (reached P C history).tenants in
-    all_mid AreWords t (older ts p) (younger ts p) (subst (AllByRecursion AreWords) (split_at ts p t e) (words P C w history a))
+    all_mid AreWords t (older ts p) (younger ts p) (subst (AllByRecursion AreWords) (split_at ts p t e)
+    (words P C w history a))

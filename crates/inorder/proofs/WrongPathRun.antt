@@ -41,11 +41,38 @@ all_let_allowed = (
   (
     (
       tt,
-      record { room = less _ _ refl; queue = λ e. absurd (true≢false (sym e)); is_there = less _ _ refl; pc = refl; small = less _ _ refl; predicts = tt; first_is = refl; second_is = refl },
+      record {
+        room = less _ _ refl;
+        queue = λ e. absurd (true≢false (sym e));
+        is_there = less _ _ refl;
+        pc = refl;
+        small = less _ _ refl;
+        predicts = tt;
+        first_is = refl;
+        second_is = refl;
+      },
     ),
-    record { room = less _ _ refl; queue = λ e. less _ _ refl; is_there = less _ _ refl; pc = refl; small = less _ _ refl; predicts = refl; first_is = refl; second_is = refl },
+    record {
+      room = less _ _ refl;
+      queue = λ e. less _ _ refl;
+      is_there = less _ _ refl;
+      pc = refl;
+      small = less _ _ refl;
+      predicts = refl;
+      first_is = refl;
+      second_is = refl;
+    },
   ),
-  record { room = less _ _ refl; queue = λ e. absurd (true≢false (sym e)); is_there = less _ _ refl; pc = refl; small = less _ _ refl; predicts = refl; first_is = refl; second_is = refl },
+  record {
+    room = less _ _ refl;
+    queue = λ e. absurd (true≢false (sym e));
+    is_there = less _ _ refl;
+    pc = refl;
+    small = less _ _ refl;
+    predicts = refl;
+    first_is = refl;
+    second_is = refl;
+  },
 )
 
 -- The load behind the branch has stopped, its address being odd, and the branch is a miss
@@ -87,11 +114,46 @@ recovered_allowed = (
   (
     (
       fault_on_the_wrong_path_allowed,
-      record { tenant = _; is = refl; may = record { live = refl; youngest = tt; p = 0; miss = _; x = 0x400008; miss_at = refl; miss_live = refl; miss_fate = refl } },
+      record {
+        tenant = _;
+        is = refl;
+        may = record {
+          live = refl;
+          youngest = tt;
+          p = 0;
+          miss = _;
+          x = 0x400008;
+          miss_at = refl;
+          miss_live = refl;
+          miss_fate = refl;
+        };
+      },
     ),
-    record { tenant = _; is = refl; may = record { live = refl; youngest = (squashed_not_live, tt); p = 0; miss = _; x = 0x400008; miss_at = refl; miss_live = refl; miss_fate = refl } },
+    record {
+      tenant = _;
+      is = refl;
+      may = record {
+        live = refl;
+        youngest = (squashed_not_live, tt);
+        p = 0;
+        miss = _;
+        x = 0x400008;
+        miss_at = refl;
+        miss_live = refl;
+        miss_fate = refl;
+      };
+    },
   ),
-  record { tenant = _; is = refl; may = record { live = refl; youngest = (squashed_not_live, (squashed_not_live, tt)); x = 0x400008; fate = refl } },
+  record {
+    tenant = _;
+    is = refl;
+    may = record {
+      live = refl;
+      youngest = (squashed_not_live, (squashed_not_live, tt));
+      x = 0x400008;
+      fate = refl;
+    };
+  },
 )
 
 -- Let, Ran, Retired
@@ -110,13 +172,26 @@ let_again_allowed = (
     (
       (
         recovered_allowed,
-        record { room = less _ _ refl; queue = λ e. absurd (true≢false (sym e)); is_there = less _ _ refl; pc = refl; small = less _ _ refl; predicts = refl; first_is = refl; second_is = refl },
+        record {
+          room = less _ _ refl;
+          queue = λ e. absurd (true≢false (sym e));
+          is_there = less _ _ refl;
+          pc = refl;
+          small = less _ _ refl;
+          predicts = refl;
+          first_is = refl;
+          second_is = refl;
+        },
       ),
       record { tenant = _; is = refl; may = record { live = refl; fate = refl; needs = refl } },
     ),
     record { tenant = _; is = refl; may = record { live = refl; fate = refl } },
   ),
-  record { tenant = _; is = refl; may = record { small = less _ _ refl; live = refl; oldest = tt; no_stop = tt; can = tt } },
+  record {
+    tenant = _;
+    is = refl;
+    may = record { small = less _ _ refl; live = refl; oldest = tt; no_stop = tt; can = tt };
+  },
 )
 
 -- Over: the break on the right path retires
@@ -129,11 +204,25 @@ ended_allowed : AreAllowed skips four_stations ended
 unfolding instr_at computed_by jump_target checked_address loaded
 ended_allowed = (
   let_again_allowed,
-  record { tenant = _; is = refl; may = record { small = less _ _ refl; live = refl; oldest = (squashed_not_live, (squashed_not_live, (retired_not_live, tt))); no_stop = ((λ e. absurd (squashed_not_retired e)), ((λ e. absurd (squashed_not_retired e)), ((λ e c. done_not_stop 0x400008 c), tt))); can = tt } },
+  record {
+    tenant = _;
+    is = refl;
+    may = record {
+      small = less _ _ refl;
+      live = refl;
+      oldest = (squashed_not_live, (squashed_not_live, (retired_not_live, tt)));
+      no_stop = (
+        (λ e. absurd (squashed_not_retired e)),
+        ((λ e. absurd (squashed_not_retired e)), ((λ e c. done_not_stop 0x400008 c), tt)),
+      );
+      can = tt;
+    };
+  },
 )
 
 -- The fault on the wrong path has left nothing: one instruction has committed
-skips_committed : committed skips (reached skips four_stations ended).tenants ≡ record { registers = replicate 32 0; memory = []; pc = 0x00400008; count = 1 }
+skips_committed : committed skips (reached skips four_stations ended).tenants ≡
+    record { registers = replicate 32 0; memory = []; pc = 0x00400008; count = 1 }
 unfolding instr_at computed_by jump_target checked_address loaded
 skips_committed = refl
 

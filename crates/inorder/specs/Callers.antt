@@ -1,13 +1,27 @@
 -- What the callers of a shared unit know before they step: it stays true while only others step.
-use Rattle.std.specs.Prelude.{◌≡◌, ◌≢◌, ◌⊎◌, ℕ, ◌<◌, Some, None}
+use Rattle.std.specs.Prelude.{◌≡◌, ◌≢◌, ◌⊎◌, ℕ, ◌<◌, true, Some, None}
 use Rattle.isa.specs.Programs.{Program}
 use Rattle.isa.specs.declared.stop.Outcome.{Outcome}
 use Rattle.inorder.specs.declared.history.Source.{Source}
 use Rattle.inorder.specs.Memory.{load_value}
 use Rattle.inorder.specs.Replies.{Has}
 use Rattle.inorder.specs.Steps.{CanRetire, IsNoRetiredStop, MayLoad}
-use Rattle.inorder.specs.Tenants.{Busy, Fate, Live, Miss, Squashed, Tenant, Unlinked, computed, kind_of, missing, operand}
+use Rattle.inorder.specs.Tenants.{Addr, Busy, Fate, IsNotLive, IsThere, Linked, Live, Miss, Squashed, Tenant, Unlinked, computed, kind_of, missing, operand}
 use Rattle.inorder.specs.Unit.{UpdateUnit, at, older}
+
+-- Anybody
+
+-- Tenant q has made this value
+pub record HasMade (U : UpdateUnit) (q value : ℕ) : Type 0 where
+  pub tenant : Tenant
+  pub is : at U.tenants q ≡ Some tenant
+  pub made : tenant.made ≡ Some value
+
+-- Each source k of a tenant of this station that was linked to q in time is delivered, or its tenant has left
+abbrev pub IsServed : UpdateUnit → ℕ → ℕ → Source → Type 0
+IsServed U q station k =
+    (p : ℕ) (t : Tenant) → at U.tenants p ≡ Some t → t.station ≡ station → (operand k t).creator ≡ Some q →
+    (operand k t).way ≡ Linked true → IsThere (operand k t).value ⊎ IsNotLive t
 
 -- A unit
 
@@ -74,9 +88,10 @@ pub record CanLeave (P : Program) (U : UpdateUnit) (p : ℕ) (f : Fate) : Type 0
   pub fate : tenant.fate ≡ f
   pub can : CanRetire (kind_of P tenant) tenant.second.value f
 
--- A load may be answered, with this value
-pub record CanLoad (P : Program) (U : UpdateUnit) (p value : ℕ) : Type 0 where
+-- A load from this address may be answered, with this value
+pub record CanLoad (P : Program) (U : UpdateUnit) (p address value : ℕ) : Type 0 where
   pub tenant : Tenant
   pub is : at U.tenants p ≡ Some tenant
   pub may : MayLoad P (older U.tenants p) tenant
+  pub fate : tenant.fate ≡ Addr address
   pub value_is : load_value P (older U.tenants p) tenant ≡ value

@@ -44,8 +44,8 @@ LoadWaits P C history =
     at (reached P C history).tenants q ≡ Some t → t.standing ≡ Live → kind_of P t ≡ Stores →
     (a : ℕ) × (t.fate ≡ Addr a)
 
--- A squash leaves the create vector and the front pc that the tenants before the squashed one define.
--- A mended tenant goes on where its outcome says
+-- A squash leaves the create vector and the front pc that the tenants before the squashed one
+-- define. A mended tenant goes on where its outcome says
 pub record Restores (P : Program) (C : Sizes) (history : List Taken) : Type 0 where
   pub creators : (by p r : ℕ) → AreAllowed P C history →
       Allowed P C (reached P C history) by (On p Squash) →

@@ -1,5 +1,5 @@
 -- Where the tenants of a unit stand, what a step commits, and what a longer history keeps.
-use Rattle.std.specs.Prelude.{◌≡◌, ◌≢◌, ℕ, ◌%◌, ◌≤◌, true, List, ◌++◌, Some, if◌then◌else◌}
+use Rattle.std.specs.Prelude.{⊤, ◌≡◌, ◌≢◌, ℕ, ◌%◌, ◌≤◌, true, List, ◌++◌, Some, if◌then◌else◌}
 use Rattle.std.specs.List.{AllByRecursion}
 use Rattle.isa.specs.Programs.{Program}
 use Rattle.inorder.specs.declared.history.Act.TheVariants.{Retire}
@@ -34,13 +34,16 @@ NamesOne P C history = AreAllowed P C history → Names (recent (reached P C his
 
 abbrev pub IsNoRetire : Step → Type 0
 IsNoRetire (On p (Retire n)) = ⊥
-IsNoRetire _ = Unit {0}
+IsNoRetire _ = ⊤
 
 -- A retirement commits its tenant, unless that is a stop, and nothing else commits anything
 pub record Commits (P : Program) (C : Sizes) (U : UpdateUnit) (by : ℕ) : Type 0 where
-  pub by_retire : (p n : ℕ) (t : Tenant) → Allowed P C U by (On p (Retire n)) → at U.tenants p ≡ Some t →
+  pub by_retire : (p n : ℕ) (t : Tenant) → Allowed P C U by (On p (Retire n)) →
+      at U.tenants p ≡ Some t →
       committed P (applied P C U by (On p (Retire n))).tenants ≡
-      (if commits (retired t n) then with_tenant P (retired t n) (committed P U.tenants) else committed P U.tenants)
+      (if commits (retired t n)
+      then with_tenant P (retired t n) (committed P U.tenants)
+      else committed P U.tenants)
   pub by_others : (s : Step) → IsNoRetire s → Allowed P C U by s →
       committed P (applied P C U by s).tenants ≡ committed P U.tenants
 

@@ -1,5 +1,5 @@
 -- Legal steps: which step a caller may take in a unit, and the unit after it.
-use Rattle.std.specs.Prelude.{◌≡◌, ℕ, List, [], ◌∷◌, Option, Some, None}
+use Rattle.std.specs.Prelude.{⊤, ◌≡◌, ℕ, List, [], ◌∷◌, Option, Some, None}
 use Rattle.isa.specs.Programs.{Program}
 use Rattle.inorder.specs.declared.history.Act.{Act}
 use Rattle.inorder.specs.declared.history.Act.TheVariants.{Claim, Deliver, Finish, Link, Load, Mend, Retire, Squash}
@@ -64,5 +64,5 @@ reached P C (s ∷ ss) = applied P C (reached P C ss) s.by s.step
 
 -- Each step was allowed in the unit that the steps before it reach
 abbrev pub AreAllowed : Program → Sizes → List Taken → Type 0
-AreAllowed P C [] = Unit {0}
+AreAllowed P C [] = ⊤
 AreAllowed P C (s ∷ ss) = AreAllowed P C ss × Allowed P C (reached P C ss) s.by s.step

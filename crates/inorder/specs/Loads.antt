@@ -89,19 +89,20 @@ pub record WaitsForStore (P : Program) (ts : List Tenant) (p a w place : ℕ) : 
   pub why : IsNone (entry_of P store).address ⊎ IsTrue (overlaps a w (entry_of P store))
 
 -- The answer of the rule to the load t at position p, whose address is a
-pub record IsAnsweredRight (P : Program) (ts : List Tenant) (p : ℕ) (t : Tenant) (a : ℕ) : Type 0 where
-  pub place : slice_get (live_accesses P ts) (place_of P ts p) ≡ Some (p, entry_of P t)
-  -- where it forwards, Load is allowed, and the bytes are those of the load
-  pub forward : (bytes : ℕ) → answer (queue_of P ts) (place_of P ts p) ≡ Forward bytes →
-      MayLoad P (older ts p) t × (raw_at P (older ts p) (instr P t) a ≡ Some bytes)
-  -- where it says memory, Load is allowed, and the bytes are those of the committed memory
-  pub memory : answer (queue_of P ts) (place_of P ts p) ≡ Memory →
-      MayLoad P (older ts p) t ×
-      (raw_at P (older ts p) (instr P t) a ≡
-      Some (little_endian (slice_index (committed P ts).memory) a (width (instr P t).op)))
-  -- where it blocks, there is such a store
-  pub blocked : (k : ℕ) → answer (queue_of P ts) (place_of P ts p) ≡ Blocked k →
-      WaitsForStore P ts p a (width (instr P t).op) k
+pub record IsAnsweredRight (P : Program) (ts : List Tenant) (p : ℕ) (t : Tenant) (a : ℕ) : Type 0
+  where
+    pub place : slice_get (live_accesses P ts) (place_of P ts p) ≡ Some (p, entry_of P t)
+    -- where it forwards, Load is allowed, and the bytes are those of the load
+    pub forward : (bytes : ℕ) → answer (queue_of P ts) (place_of P ts p) ≡ Forward bytes →
+        MayLoad P (older ts p) t × (raw_at P (older ts p) (instr P t) a ≡ Some bytes)
+    -- where it says memory, Load is allowed, and the bytes are those of the committed memory
+    pub memory : answer (queue_of P ts) (place_of P ts p) ≡ Memory →
+        MayLoad P (older ts p) t ×
+        (raw_at P (older ts p) (instr P t) a ≡
+        Some (little_endian (slice_index (committed P ts).memory) a (width (instr P t).op)))
+    -- where it blocks, there is such a store
+    pub blocked : (k : ℕ) → answer (queue_of P ts) (place_of P ts p) ≡ Blocked k →
+        WaitsForStore P ts p a (width (instr P t).op) k
 
 abbrev pub LoadsAreAnswered : Program → Sizes → List Taken → Type 0
 LoadsAreAnswered P C history =

@@ -31,8 +31,8 @@ byte_after None x before = before
 byte_after (Some s) x before =
     if covers s x then option_map (byte_of (x - s.at)) s.content else before
 
--- The byte at x of the last store of the path to it, if its data is there; without such a store that
--- of the start memory
+-- The byte at x of the last store of the path to it, if its data is there; without such a store
+-- that of the start memory
 abbrev pub byte_at : Program → List Tenant → ℕ → Option ℕ
 byte_at P [] x = Some (slice_index P.bytes x)
 byte_at P (t ∷ ts) x = byte_after (stored P t) x (byte_at P ts x)

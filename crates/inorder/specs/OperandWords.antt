@@ -1,5 +1,5 @@
 -- What the operand words of a station show, and how each step moves them.
-use Rattle.std.specs.Prelude.{◌≡◌, ◌≢◌, ◌⊎◌, ℕ, List, Option, Some, None, ◌==◌, if◌then◌else◌}
+use Rattle.std.specs.Prelude.{⊤, ◌≡◌, ◌≢◌, ◌⊎◌, ℕ, List, Option, Some, None, ◌==◌, if◌then◌else◌}
 use Rattle.isa.specs.Programs.{Program}
 use Rattle.inorder.specs.declared.history.Act.{Act}
 use Rattle.inorder.specs.declared.history.Act.TheVariants.{Deliver}
@@ -13,7 +13,8 @@ use Rattle.inorder.specs.StationWords.{last_of}
 use Rattle.inorder.specs.Tenants.{Tenant, operand}
 use Rattle.inorder.specs.Unit.{Sizes, UpdateUnit, at, next_station, next_tag, older, recent, value_of}
 
--- The tag of the station's last tenant, and the value of that tenant's source, or none while it waits
+-- The tag of the station's last tenant, and the value of that tenant's source, or none while it
+-- waits
 pub record OperandWord : Type 0 where
   pub tag : ℕ
   pub value : Option ℕ
@@ -33,10 +34,14 @@ abbrev pub supplied : Supply → Option ℕ
 supplied (Known v) = Some v
 supplied From = None
 
+-- An operand of a new tenant
+abbrev pub let_word : ℕ → Supply → OperandWord
+let_word tag s = record { tag = tag; value = supplied s }
+
 -- Any act but a delivery
 abbrev pub KeepsOperands : Act → Type 0
 KeepsOperands (Deliver k) = ⊥
-KeepsOperands _ = Unit {0}
+KeepsOperands _ = ⊤
 
 -- How a step moves the operand words
 pub record MovesOperands (P : Program) (C : Sizes) (U : UpdateUnit) (by : ℕ) : Type 0 where
@@ -44,7 +49,7 @@ pub record MovesOperands (P : Program) (C : Sizes) (U : UpdateUnit) (by : ℕ) :
   pub after_let : (index predicted : ℕ) (first second : Supply) (s : ℕ) (k : Source) →
       operand_word (recent (applied P C U by (Let index predicted first second))) s k ≡
       (if next_station C (recent U) == s
-      then Some (record { tag = next_tag C (recent U); value = supplied (supply_of k first second) })
+      then Some (let_word (next_tag C (recent U)) (supply_of k first second))
       else operand_word (recent U) s k)
   -- a delivery to the last tenant of a station gives its operand the value
   pub to_last : (p : ℕ) (k : Source) (t : Tenant) → Allowed P C U by (On p (Deliver k)) →

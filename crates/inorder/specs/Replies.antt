@@ -1,13 +1,13 @@
 -- When each reply is allowed, by the unit at its point. A reply that is not here names the step that was made.
-use Rattle.std.specs.Prelude.{◌≡◌, ◌≢◌, ◌⊎◌, ℕ, ◌-◌, ◌^◌, ◌<◌, Bool, true, ◌&&◌, List, length, Some, None, if◌then◌else◌}
+use Rattle.std.specs.Prelude.{◌≡◌, ◌≢◌, ℕ, ◌-◌, ◌^◌, ◌<◌, true, ◌&&◌, length, Some, None, if◌then◌else◌}
 use Rattle.std.specs.List.{AllByRecursion}
 use Rattle.isa.specs.Instruction.{kind}
 use Rattle.isa.specs.Programs.{Program, address, instr_at, instr_of}
 use Rattle.isa.specs.declared.stop.Stop.{Stop}
 use Rattle.inorder.specs.declared.history.Source.{Source}
 use Rattle.inorder.specs.declared.history.Source.TheVariants.{First, Second}
-use Rattle.inorder.specs.Steps.{CanRetire, IsNoRetiredStop, MayRetire}
-use Rattle.inorder.specs.Tenants.{Busy, IsNotLive, IsThere, Linked, Live, Miss, Open, Retired, Squashed, Stopped, Tenant, is_access, is_live, kind_of, missing, needs, operand, operand_value}
+use Rattle.inorder.specs.Steps.{CanRetire, IsNoRetiredStop}
+use Rattle.inorder.specs.Tenants.{IsNotLive, IsThere, Linked, Live, Miss, Open, Retired, Squashed, Stopped, Tenant, is_access, is_live, kind_of, missing, needs, operand, operand_value}
 use Rattle.inorder.specs.Unit.{Sizes, UpdateUnit, at, front_pc, how_many, next_tag, older, recent}
 
 -- No tenant gets this tag, so that the tag behind each tenant's has its bits too

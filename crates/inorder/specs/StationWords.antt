@@ -1,5 +1,5 @@
 -- What the word of a station shows, and how each step moves it.
-use Rattle.std.specs.Prelude.{◌≡◌, ◌≢◌, ℕ, suc, List, [], ◌∷◌, Option, Some, None, ◌==◌, if◌then◌else◌}
+use Rattle.std.specs.Prelude.{⊤, ◌≡◌, ◌≢◌, ℕ, suc, List, [], ◌∷◌, Option, Some, None, ◌==◌, if◌then◌else◌}
 use Rattle.std.specs.List.{AllByRecursion}
 use Rattle.isa.specs.Operations.{code_of}
 use Rattle.isa.specs.Programs.{Program}
@@ -56,7 +56,8 @@ abbrev pub last_of : List Tenant → ℕ → Option Tenant
 last_of [] s = None
 last_of (t ∷ ts) s = if t.station == s then Some t else last_of ts s
 
--- A station shows its last tenant while that one is live, and else that it is free, with its next tag
+-- A station shows its last tenant while that one is live, and else that it is free, with its next
+-- tag
 abbrev pub station_word : Sizes → List Tenant → ℕ → StationWord
 station_word C ts s = word_of (tag_after C ts s) (last_of ts s)
 
@@ -64,11 +65,11 @@ station_word C ts s = word_of (tag_after C ts s) (last_of ts s)
 abbrev pub ChangesStation : Act → Type 0
 ChangesStation (Link k) = ⊥
 ChangesStation (Deliver k) = ⊥
-ChangesStation _ = Unit {0}
+ChangesStation _ = ⊤
 
 abbrev pub KeepsStations : Act → Type 0
-KeepsStations (Link k) = Unit {0}
-KeepsStations (Deliver k) = Unit {0}
+KeepsStations (Link k) = ⊤
+KeepsStations (Deliver k) = ⊤
 KeepsStations _ = ⊥
 
 -- A fate by the state and value of a word

@@ -1,5 +1,5 @@
 -- The steps of the one-thread unit: where each is allowed, and what it does.
-use Rattle.std.specs.Prelude.{◌≡◌, ◌≢◌, ℕ, ◌^◌, ◌<◌, Bool, true, List, length, Option, Some, None, ◌==◌, IfSome, is_none, if◌then◌else◌}
+use Rattle.std.specs.Prelude.{⊤, ◌≡◌, ◌≢◌, ℕ, ◌^◌, ◌<◌, Bool, true, List, length, Option, Some, None, ◌==◌, IfSome, is_none, if◌then◌else◌}
 use Rattle.std.specs.List.{AllByRecursion}
 use Rattle.isa.specs.Instruction.{fixed_next, kind}
 use Rattle.isa.specs.Programs.{Program, address, instr_of}
@@ -33,7 +33,8 @@ MaySupply P U station c (Known v) = value_of U.tenants c ≡ Some v
 MaySupply P U station c From = MayComeFrom P U station c
 
 -- Any word where a predictor is asked
-pub record MayLet (P : Program) (C : Sizes) (U : UpdateUnit) (index predicted : ℕ) (first second : Supply) : Type 0 where
+pub record MayLet (P : Program) (C : Sizes) (U : UpdateUnit) (index predicted : ℕ)
+    (first second : Supply) : Type 0 where
   pub room : how_many is_live U.tenants < C.ring
   pub queue : is_access (kind (instr_of P index).op) ≡ true →
       how_many (is_live_access P) U.tenants < C.queue
@@ -41,8 +42,10 @@ pub record MayLet (P : Program) (C : Sizes) (U : UpdateUnit) (index predicted : 
   pub pc : front_pc U.tenants ≡ address index
   pub small : predicted < 2 ^ 32
   pub predicts : IfSome (fixed_next (instr_of P index) (front_pc U.tenants)) (λ x. predicted ≡ x)
-  pub first_is : MaySupply P U (next_station C (recent U)) (creator P U.tenants (instr_of P index).first) first
-  pub second_is : MaySupply P U (next_station C (recent U)) (creator P U.tenants (instr_of P index).second) second
+  pub first_is : MaySupply P U (next_station C (recent U))
+      (creator P U.tenants (instr_of P index).first) first
+  pub second_is : MaySupply P U (next_station C (recent U))
+      (creator P U.tenants (instr_of P index).second) second
 
 abbrev pub let_operand : Option ℕ → Supply → Operand
 let_operand c (Known v) = record { creator = c; way = AtLet; value = Some v }
@@ -74,7 +77,8 @@ pub record MayLink (t : Tenant) (k : Source) : Type 0 where
 -- A link is in time while the creator has made nothing
 abbrev pub linked : List Tenant → Tenant → Source → Tenant
 linked ts t k =
-    with_operand k t (record (operand k t) { way = Linked (is_none (value_of ts (operand k t).creator)) })
+    with_operand k t
+    (record (operand k t) { way = Linked (is_none (value_of ts (operand k t).creator)) })
 
 -- Deliver
 
@@ -86,7 +90,8 @@ pub record MayDeliver (ts : List Tenant) (t : Tenant) (k : Source) : Type 0 wher
   pub is_made : value_of ts (operand k t).creator ≡ Some value
 
 abbrev pub delivered : List Tenant → Tenant → Source → Tenant
-delivered ts t k = with_operand k t (record (operand k t) { value = value_of ts (operand k t).creator })
+delivered ts t k =
+    with_operand k t (record (operand k t) { value = value_of ts (operand k t).creator })
 
 -- Claim
 
@@ -129,8 +134,8 @@ settled P ts t = record t { fate = Done (load_value P ts t); made = Some (load_v
 
 -- With this fate a tenant can retire: it is done, a store with address and data, or a stop
 abbrev pub CanRetire : Kind → Option ℕ → Fate → Type 0
-CanRetire k second (Done v) = Unit {0}
-CanRetire k second (Stopped c) = Unit {0}
+CanRetire k second (Done v) = ⊤
+CanRetire k second (Stopped c) = ⊤
 CanRetire k second (Addr a) = (k ≡ Stores) × IsThere second
 CanRetire k second _ = ⊥
 

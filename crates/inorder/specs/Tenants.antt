@@ -128,7 +128,8 @@ operand_value o = unwrap_or o.value 0
 
 -- The outcome of the delivered sources
 abbrev pub computed : Program → Tenant → Outcome
-computed P t = outcome (instr P t) t.pc (operand_value t.first) (operand_value t.second) (length P.bytes)
+computed P t =
+    outcome (instr P t) t.pc (operand_value t.first) (operand_value t.second) (length P.bytes)
 
 abbrev pub next_by : ℕ → Outcome → ℕ
 next_by pc (Next x) = x

@@ -42,7 +42,8 @@ how_many test (t ∷ ts) = if test t then suc (how_many test ts) else how_many t
 
 -- Station and tag
 
--- The configuration of a unit: stations, live loads and stores, and the tag of each station's first tenant
+-- The configuration of a unit: the stations, the most live loads and stores, and the tag of each
+-- station's first tenant
 pub record Sizes : Type 0 where
   pub ring : ℕ
   pub queue : ℕ

@@ -1,4 +1,5 @@
-//! What the callers of a unit do and are told. Contracts alone speak of these types: no value of them is made.
+//! What the callers of a unit do and are told. Contracts alone speak of these types: no value of
+//! them is made.
 
 /// The number of one of the two sources of an instruction.
 #[derive(Clone, Copy)]

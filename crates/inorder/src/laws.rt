@@ -10,6 +10,9 @@ ghost use Rattle.inorder.specs.StationWords.{StationsFollow};
 ghost use Rattle.inorder.specs.OperandWords.{OperandsFollow};
 ghost use Rattle.inorder.specs.Fates.{FatesFollow};
 ghost use Rattle.inorder.specs.Numbers.{ValuesAreWords};
+ghost use Rattle.inorder.specs.declared.history.Entry.{Entry};
+ghost use Rattle.inorder.specs.History.{IsLegal};
+ghost use Rattle.inorder.specs.Wakes.{AreMarked, LosesNoWake};
 ghost use Rattle.inorder.specs.Loads.{LoadsAreAnswered};
 
 /// Whatever steps were taken, what the unit has committed is the state of the in-order machine
@@ -31,24 +34,28 @@ pub fn a_tag_names_one_tenant()
 
 /// A retirement commits its tenant, unless that is a stop. No other step commits anything.
 pub fn only_retirements_commit()
-    ensures { (p : Program) (c : Sizes) (history : List Taken) (by : ℕ) → OnlyRetirementsCommit p c history by }
+    ensures { (p : Program) (c : Sizes) (history : List Taken) (by : ℕ) →
+        OnlyRetirementsCommit p c history by }
 {}
 
 /// What a longer history keeps of its beginning.
 pub fn histories_grow()
-    ensures { (p : Program) (c : Sizes) (more history : List Taken) → HistoryGrows p c more history }
+    ensures { (p : Program) (c : Sizes) (more history : List Taken) →
+        HistoryGrows p c more history }
 {}
 
 /// A live tenant is what its station shows, a station that is not free shows one live tenant, and
 /// each step moves the words of the stations as stated.
 pub fn stations_follow()
-    ensures { (p : Program) (c : Sizes) (history : List Taken) (by : ℕ) → StationsFollow p c history by }
+    ensures { (p : Program) (c : Sizes) (history : List Taken) (by : ℕ) →
+        StationsFollow p c history by }
 {}
 
 /// A let sets both operands of its station, a delivery to the last tenant of a station sets one,
 /// and nothing else changes an operand.
 pub fn operands_follow()
-    ensures { (p : Program) (c : Sizes) (history : List Taken) (by : ℕ) → OperandsFollow p c history by }
+    ensures { (p : Program) (c : Sizes) (history : List Taken) (by : ℕ) →
+        OperandsFollow p c history by }
 {}
 
 /// What the fate of a tenant says of its outcome, of what it made and of where it goes on.
@@ -66,4 +73,10 @@ pub fn values_are_words()
 /// blocks, it names an older live store that has no address or overlaps the load.
 pub fn loads_are_answered_right()
     ensures { (p : Program) (c : Sizes) (history : List Taken) → LoadsAreAnswered p c history }
+{}
+
+/// Where each value that a finish or a load made was carried along its links, and each source that
+/// comes from its creator was asked for, no open tenant waits for a value that is there.
+pub fn no_wake_is_lost()
+    ensures { (p : Program) (c : Sizes) (history : List Entry) → IsLegal p c history → AreMarked p c history → LosesNoWake p c history }
 {}

@@ -4,3 +4,11 @@ pub mod Operations
 pub mod Programs
 pub mod Settings
 pub mod Prediction
+pub mod Reading
+pub mod RegisterNames
+pub mod Operands
+pub mod Forms
+pub mod Statement
+pub mod Listing
+pub mod Held
+pub mod Report

@@ -1,5 +1,5 @@
 -- A program, as definitions and contracts see it.
-use Rattle.std.specs.Prelude.{ℕ, ◌+◌, ◌-◌, ◌*◌, ◌/◌, List, Option, Some, None, ◌==◌, if◌then◌else◌, slice_get, slice_index_or}
+use Rattle.std.specs.Prelude.{ℕ, ◌+◌, ◌-◌, ◌*◌, ◌/◌, List, Option, None, ◌==◌, if◌then◌else◌, slice_get, slice_index_or}
 use Rattle.isa.specs.declared.op.Op.TheVariants.{Break}
 use Rattle.isa.specs.declared.instr.Instr.{Instr}
 

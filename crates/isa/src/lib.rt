@@ -5,22 +5,26 @@
 mod config;
 mod end;
 mod instr;
+mod listing;
 mod memory;
 mod op;
 mod predictor;
 mod program;
 mod reg;
+mod report;
 mod semantics;
 mod stop;
 
 pub use config::{BadConfig, Config};
 pub use end::{End, Ending};
 pub use instr::Instr;
+pub use listing::{FaultKind, TextFault, parse};
 pub use memory::Memory;
 pub use op::{Kind, Op};
 pub use predictor::{Bimod, NotTaken, Predictor, Taken};
 pub use program::Program;
 pub use reg::Reg;
+pub use report::{fault_text, report_text};
 pub use semantics::{loaded, outcome, pc_plus_4};
 pub use stop::{Outcome, Stop};
 

@@ -5,10 +5,6 @@ use Rattle.std.specs.Prelude.{ℕ, ◌+◌, ◌-◌, ◌*◌, ◌/◌, ◌%◌, 
 abbrev pub tag_count : ℕ
 tag_count = 2 ^ 28
 
--- No tenant gets this tag, so that the tag behind each tenant's has its bits too
-abbrev pub last_tag : ℕ
-last_tag = 2 ^ 28 - 1
-
 -- Station and operand words: bits 63 to 36 are the tag, 35 to 32 the state, 31 to 0 the value
 abbrev pub pack : ℕ → ℕ → ℕ → ℕ
 pack tag state value = tag * 2 ^ 36 + state * 2 ^ 32 + value

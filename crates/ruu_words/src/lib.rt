@@ -7,6 +7,7 @@ mod laws;
 mod link;
 mod operand;
 mod place;
+pub mod rule;
 mod station;
 
 pub use info::InfoWord;

@@ -1,6 +1,7 @@
 //! Station words.
 ghost use Rattle.std.specs.Prelude.{◌≡◌, ◌<◌, ◌≤◌, ◌+◌, ◌^◌};
-ghost use Rattle.ruu_words.specs.Fields.{tag_count, last_tag, pack, tag_of, state_of, value_of};
+ghost use Rattle.inorder.specs.Replies.{last_tag};
+ghost use Rattle.ruu_words.specs.Fields.{tag_count, pack, tag_of, state_of, value_of};
 ghost use Rattle.ruu_words.specs.States.{state_count, state_code};
 
 /// How far the last tenant of a station has come.

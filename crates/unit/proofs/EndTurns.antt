@@ -21,7 +21,9 @@ use Rattle.inorder.specs.Steps.{CanRetire, IsNoRetiredStop, MayRetire, made_at_e
 use Rattle.inorder.specs.Tenants.{Addr, Busy, Done, Fate, IsThere, Miss, Open, Retired as RetiredStanding, Stopped, Tenant, computed, computed_next, destination_of, instr, kind_of, operand_value, stands_on_path}
 use Rattle.inorder.specs.Unit.{Sizes, UpdateUnit, at, how_many}
 use Rattle.inorder.proofs.Commits.{over}
-use Rattle.inorder.proofs.Follows.{address_in, committed_if, length_memory, next_leaves, reached_in, stored_done}
+use Rattle.inorder.proofs.InOrderStep.{address_in, reached_in, stored_done}
+use Rattle.inorder.proofs.SettledMemory.{length_memory}
+use Rattle.inorder.proofs.SettledRegisters.{committed_if, next_leaves}
 use Rattle.inorder.proofs.Sound.{FateIs, IsSound, IsSoundAt}
 use Rattle.inorder.proofs.Stations.{Stands, last_at}
 use Rattle.unit_laws.specs.Moves.{Leads, with_tenants}

@@ -6,7 +6,7 @@ use Rattle.isa.specs.declared.op.Kind.{Kind}
 use Rattle.isa.specs.declared.op.Kind.TheVariants.{Computes, Jumps, Links, Loads, Stores}
 use Rattle.isa.specs.declared.op.Op.{Op}
 use Rattle.inorder.specs.Loads.{access_width, is_store}
-use Rattle.inorder.proofs.Loads.{same_width}
+use Rattle.inorder.proofs.QueueBytes.{same_width}
 use Rattle.lsq.specs.declared.entry.Entry.{Entry}
 use Rattle.lsq.specs.Entries.{bytes, load_at, load_by as access_by}
 use Rattle.lsq.specs.LoadRule.{answer, answer_over, answer_to}

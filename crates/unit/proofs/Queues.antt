@@ -10,8 +10,8 @@ use Rattle.inorder.specs.Committed.{committed}
 use Rattle.inorder.specs.Loads.{access_width, address_by, content_by, entry_in, entry_of, is_store, queue_of}
 use Rattle.inorder.specs.Steps.{IsNoRetiredStop}
 use Rattle.inorder.specs.Tenants.{Addr, Busy, Done, Fate, Live, Miss, Open, Retired, Squashed, Standing, Stopped, Tenant, computed, instr, is_access, kind_of, stands_live, stands_on_path}
-use Rattle.inorder.proofs.Follows.{committed_if, squashed_not}
-use Rattle.inorder.proofs.Loads.{none_live, queue_more}
+use Rattle.inorder.proofs.SettledRegisters.{committed_if, squashed_not}
+use Rattle.inorder.proofs.QueueBytes.{none_live, queue_more}
 use Rattle.inorder.proofs.Sound.{IsSound}
 use Rattle.lsq.specs.declared.entry.Entry.{Entry}
 use Rattle.lsq.specs.Entries.{bytes}

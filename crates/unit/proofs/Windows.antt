@@ -8,7 +8,7 @@ use Rattle.inorder.specs.Steps.{IsNoRetiredStop}
 use Rattle.inorder.specs.Tenants.{Live, Retired, Squashed, Standing, Tenant, destination_of, is_access, is_live, is_live_access, kind_of, on_path, stands_live, stands_on_path}
 use Rattle.inorder.specs.Unit.{creator, front_pc, how_many, last_writer, value_of}
 use Rattle.inorder.proofs.Basics.{last_writer_below, value_of_more}
-use Rattle.inorder.proofs.Follows.{committed_if, committed_pc, register_given, squashed_not, value_of_last, writer_if}
+use Rattle.inorder.proofs.SettledRegisters.{committed_if, committed_pc, register_given, squashed_not, value_of_last, writer_if}
 use Rattle.inorder.proofs.Sound.{IsSettled, IsSound, SettledBy}
 use Rattle.unit_laws.proofs.Left.{live_commits, retired_all, retired_commits}
 use Rattle.unit.specs.declared.station.Station.{Station}

@@ -1,7 +1,8 @@
-use Rattle.std.proofs.Common.{◌≡◌, ◌∙◌, sym, ap, subst, codes, min, refl}
+use Rattle.std.proofs.Common.{◌∙◌, sym, ap, subst, codes, refl}
 use Rattle.clap.specs.Words.{found_of, rows_of}
 use Rattle.clap.proofs.WalkLemmas.{first_value-rows}
 use Rattle.isa.specs.Settings.{Settings}
+use Rattle.command.specs.declared.request.Asked.{Asked}
 use Rattle.command.specs.Values.{is_true}
 use Rattle.command.specs.Request.{IsAskedBy}
 use Rattle.command.proofs.reading.read.Goals as goal
@@ -18,10 +19,20 @@ returns-clause-ok c =
       limit = c.in_ok-limit.limit;
       turns = c.in_ok-turns.turns;
     } in
-    let held : IsAskedBy (rows_of found) (record { file = c.in_ok-file.file; config = settings; predictor = c.in_ok-predictor.predictor; alone = c.is_true-alone.result }) = record {
+    let request : Settings → Asked = λ s. record {
+      file = c.in_ok-file.file;
+      config = s;
+      predictor = c.in_ok-predictor.predictor;
+      alone = c.is_true-alone.result;
+    } in
+    let held : IsAskedBy (rows_of found) (request settings) = record {
       file = c.in_ok-file.ensures.ok;
       ring = c.in_ok-ring.ensures.ok.reads;
-      queue = record { wanted = c.in_ok-queue.queue; reads = c.in_ok-queue.ensures.ok; cut = c.min.ensures };
+      queue = record {
+        wanted = c.in_ok-queue.queue;
+        reads = c.in_ok-queue.ensures.ok;
+        cut = c.min.ensures;
+      };
       units = c.in_ok-units.ensures.ok;
       predictor = c.in_ok-predictor.ensures.ok;
       turns = c.in_ok-turns.ensures.ok;
@@ -31,5 +42,4 @@ returns-clause-ok c =
       first_tag = refl;
       valid = c.in-Ok.ensures.valid;
     } in
-    subst (λ (s : Settings). IsAskedBy (rows_of found) (record { file = c.in_ok-file.file; config = s; predictor = c.in_ok-predictor.predictor; alone = c.is_true-alone.result }))
-    (sym c.in-Ok.ensures.ok) held
+    subst (λ (s : Settings). IsAskedBy (rows_of found) (request s)) (sym c.in-Ok.ensures.ok) held

@@ -1,0 +1,50 @@
+-- What is written for a listing, and what its status is.
+use Rattle.std.specs.Prelude.{ℕ, List, Result, Ok, Err}
+use Rattle.isa.specs.declared.stop.Stop.TheVariants.{Break as BreakStop}
+use Rattle.isa.specs.declared.end.Ending.{Ending}
+use Rattle.isa.specs.declared.end.Ending.TheVariants.{Stop as ByStop, Limit as ByLimit}
+use Rattle.isa.specs.declared.end.End.{End}
+use Rattle.isa.specs.declared.listing.fault.FaultKind.{FaultKind}
+use Rattle.isa.specs.Programs.{Program}
+use Rattle.isa.specs.Listing.{listing}
+use Rattle.isa.specs.Report.{report, fault_line}
+use Rattle.inorder.specs.Machine.{State}
+use Rattle.inorder.specs.Runs.{end_of}
+use Rattle.bench.specs.declared.outcome.Status.{Status}
+use Rattle.bench.specs.declared.outcome.Status.TheVariants.{Break, Stopped, TextFault, Limit}
+
+-- the most bytes that are taken from a reader: one more than a listing may have
+abbrev pub most_taken : ℕ
+most_taken = 4194305
+
+-- the end of a run as its ending and state
+abbrev pub end_state : End → Ending × State
+end_state e =
+    (e.outcome, record { registers = e.registers; memory = e.memory.items; pc = e.pc; count = e.n })
+
+-- the report of a run
+abbrev pub report_of_run : Ending × State → List ℕ
+report_of_run e = report e.0 e.1.count e.1.pc e.1.registers e.1.memory
+
+-- the text for a program that may run so many instructions, or for the fault of a listing
+abbrev pub text_for : (limit : ℕ) → Result Program (ℕ × FaultKind) → List ℕ
+text_for limit (Ok P) = report_of_run (end_of P limit)
+text_for limit (Err f) = fault_line f.0 f.1
+
+-- the text that is written for the bytes of a listing
+unfoldable pub text_of : (limit : ℕ) → List ℕ → List ℕ
+text_of limit bytes = text_for limit (listing bytes)
+
+-- the status of a run by how it ended
+abbrev pub ending_status : Ending → Status
+ending_status (ByStop BreakStop) = Break
+ending_status (ByStop _) = Stopped
+ending_status ByLimit = Limit
+
+abbrev pub status_for : (limit : ℕ) → Result Program (ℕ × FaultKind) → Status
+status_for limit (Ok P) = ending_status (end_of P limit).0
+status_for limit (Err f) = TextFault
+
+-- the status for the bytes of a listing
+unfoldable pub status_of : (limit : ℕ) → List ℕ → Status
+status_of limit bytes = status_for limit (listing bytes)

@@ -1,0 +1,13 @@
+//! The one-thread unit, and a listing's way from the bytes of a reader to those of a writer.
+#![tactic(auto)]
+
+mod bytes;
+mod outcome;
+mod run;
+
+pub use bytes::alone;
+pub use devices::Counted;
+pub use outcome::{Fault, Status};
+
+#[cfg(test)]
+mod tests;

@@ -1,0 +1,76 @@
+//! What a listing comes to, and why none was run.
+ghost use Rattle.std.specs.Prelude.{◌≡◌};
+ghost use Rattle.bench.specs.Answer.{ending_status};
+ghost use Rattle.bench.specs.declared.outcome.Fault.TheVariants.{Memory as WantsMemory, Write as Unwritten};
+ghost use Rattle.bench.specs.Faults.{input_fault};
+
+use devices::{InputFault, WriteFailed};
+use isa::{Ending, Memory, Stop};
+use thiserror::Error;
+
+/// What a listing came to, once all was written.
+#[derive(Clone, Copy, Debug, PartialEq, Eq)]
+pub enum Status {
+    /// The run was ended by `break`.
+    Break,
+    /// The run was ended by another stop.
+    Stopped,
+    /// The listing has a fault; its line was written.
+    TextFault,
+    /// The run has reached the limit.
+    Limit,
+}
+
+impl Status {
+    /// The status of a run that ended so.
+    pub(crate) fn of(ending: Ending) -> Status
+        ensures { result ≡ ending_status ending }
+    {
+        match ending {
+            Ending::Stop(Stop::Break) => Status::Break,
+            Ending::Stop(_) => Status::Stopped,
+            Ending::Limit => Status::Limit,
+        }
+    }
+}
+
+/// Why there is no answer, or only a beginning of it.
+#[derive(Clone, Copy, Debug, PartialEq, Eq, Error)]
+pub enum Fault {
+    /// The reader failed. Nothing was written.
+    #[error("the input could not be read")]
+    Read,
+    /// Memory was refused. Nothing was written.
+    #[error("out of memory")]
+    Memory,
+    /// The writer failed, or took no byte. What went out is a beginning of the text.
+    #[error("the output could not be written")]
+    Write,
+}
+
+impl From<InputFault> for Fault {
+    ghost from_gives = { λ e f. f ≡ input_fault e };
+
+    fn from(fault: InputFault) -> Fault {
+        match fault {
+            InputFault::Read => Fault::Read,
+            InputFault::Memory => Fault::Memory,
+        }
+    }
+}
+
+impl From<Memory> for Fault {
+    ghost from_gives = { λ _ f. f ≡ WantsMemory };
+
+    fn from(_memory: Memory) -> Fault {
+        Fault::Memory
+    }
+}
+
+impl From<WriteFailed> for Fault {
+    ghost from_gives = { λ _ f. f ≡ Unwritten };
+
+    fn from(_failed: WriteFailed) -> Fault {
+        Fault::Write
+    }
+}

@@ -1,0 +1,100 @@
+-- On histories: their moments, the entries of one caller, and what stays.
+use Rattle.std.proofs.Common.{◌≡◌, ◌≢◌, ℕ, cond, List, [], ◌∷◌, ◌++◌, map, length, sym, refl, ap, ◌∙◌, arith, append_assoc, length-append, eq-eqb, ne_eqb}
+use mathlib.Core.Logic.{dite}
+use native.Mathlib.Decide.{ℕ_discrete}
+use Rattle.isa.specs.Programs.{Program}
+use Rattle.inorder.specs.declared.history.Entry.{Entry}
+use Rattle.inorder.specs.declared.history.Event.{Event}
+use Rattle.inorder.specs.declared.history.Event.TheVariants.{Does, Marks, Refuses}
+use Rattle.inorder.specs.declared.history.Step.{Step}
+use Rattle.inorder.specs.History.{IsLegal, IsTheirs, MayAdd, StartsWith, entry, own, taken_of, unit_of, with_event}
+use Rattle.inorder.specs.Legal.{Allowed, AreAllowed, applied}
+use Rattle.inorder.specs.Unit.{Sizes, UpdateUnit}
+use Rattle.inorder.proofs.Kept.{sound}
+use Rattle.inorder.proofs.Sound.{IsSound}
+
+pub starts_same : (h : List Entry) → StartsWith h h
+starts_same h = record { more = []; is = refl }
+
+pub starts_longer : (h point more : List Entry) → StartsWith h point → StartsWith (more ++ h) point
+starts_longer h point more s = record { more = more ++ s.more; is = ap (λ z. more ++ z) s.is ∙ sym (append_assoc more s.more point) }
+
+-- The entries of one caller
+
+own_here : (by : ℕ) (e : Entry) (es : List Entry) → e.by ≡ by → own by (e ∷ es) ≡ e ∷ own by es
+own_here by e es h = ap (λ b. cond b (e ∷ own by es) (own by es)) (eq-eqb e.by by h)
+
+own_else : (by : ℕ) (e : Entry) (es : List Entry) → e.by ≢ by → own by (e ∷ es) ≡ own by es
+own_else by e es h = ap (λ b. cond b (e ∷ own by es) (own by es)) (ne_eqb e.by by h)
+
+pub own-append : (by : ℕ) (xs ys : List Entry) → own by (xs ++ ys) ≡ own by xs ++ own by ys
+own-append by [] ys = refl
+own-append by (x ∷ xs) ys = dite (ℕ_discrete x.by by)
+    (λ h. own_here by x (xs ++ ys) h ∙ (ap (λ z. x ∷ z) (own-append by xs ys) ∙ ap (λ z. z ++ own by ys) (sym (own_here by x xs h))))
+    (λ h. own_else by x (xs ++ ys) h ∙ (own-append by xs ys ∙ ap (λ z. z ++ own by ys) (sym (own_else by x xs h))))
+
+pub own_of_other : (by other : ℕ) (es : List Event) → other ≢ by → own by (map (entry other) es) ≡ []
+own_of_other by other [] h = refl
+own_of_other by other (e ∷ es) h = own_else by (entry other e) (map (entry other) es) h ∙ own_of_other by other es h
+
+pub no_length : (l : List Entry) → length l ≡ 0 → l ≡ []
+no_length [] e = refl
+no_length (x ∷ xs) e = absurd (omega arith)
+
+-- where the caller's entries were all there before, none is in what came after
+pub own_none : (by : ℕ) (more seen : List Entry) → own by (more ++ seen) ≡ own by seen → own by more ≡ []
+own_none by more seen e = let s = ap (λ l. length l) (sym (own-append by more seen) ∙ e) in let n = length-append (own by more) (own by seen) in no_length (own by more) (omega arith)
+
+-- What stays
+
+module _ (P : Program) (C : Sizes) where
+  pub legal_before : (more seen : List Entry) → IsLegal P C (more ++ seen) → IsLegal P C seen
+  legal_before [] seen l = l
+  legal_before (e ∷ more) seen l = legal_before more seen l.0
+
+  -- the steps of a legal history are allowed
+  pub allowed_steps : (h : List Entry) → IsLegal P C h → AreAllowed P C (taken_of h)
+  allowed_steps [] l = tt
+  allowed_steps (e ∷ h) l = go e.event (allowed_steps h l.0) l.1
+    where
+      go : (x : Event) → AreAllowed P C (taken_of h) → MayAdd P C h e.by x → AreAllowed P C (with_event e.by x (taken_of h))
+      go (Does s) a m = (a, m.1)
+      go (Refuses r) a m = a
+      go (Marks k) a m = a
+
+  pub unit_sound : (h : List Entry) → IsLegal P C h → IsSound P (unit_of P C h).tenants
+  unit_sound h legal = sound P C (taken_of h) (allowed_steps h legal)
+
+  -- what each allowed entry keeps is true after all of them
+  pub lasts : (Q : List Entry → Type 0) → ((h : List Entry) (e : Entry) → IsLegal P C h → Q h → MayAdd P C h e.by e.event → Q (e ∷ h)) → (more seen : List Entry) → IsLegal P C (more ++ seen) → Q seen → Q (more ++ seen)
+  lasts Q keeps [] seen l q = q
+  lasts Q keeps (e ∷ more) seen l q = keeps (more ++ seen) e l.0 (lasts Q keeps more seen l.0 q) l.1
+
+  -- the same of the entries of other callers
+  pub lasts_apart : (by : ℕ) (Q : List Entry → Type 0) → ((h : List Entry) (e : Entry) → IsLegal P C h → Q h → MayAdd P C h e.by e.event → e.by ≢ by → Q (e ∷ h))
+      → (more seen : List Entry) → IsLegal P C (more ++ seen) → own by more ≡ [] → Q seen → Q (more ++ seen)
+  lasts_apart by Q keeps [] seen l none q = q
+  lasts_apart by Q keeps (e ∷ more) seen l none q = dite (ℕ_discrete e.by by)
+      (λ h. let n = ap (λ z. length z) (sym (own_here by e more h) ∙ none) in absurd (omega arith))
+      (λ h. keeps (more ++ seen) e l.0 (lasts_apart by Q keeps more seen l.0 (sym (own_else by e more h) ∙ none) q) l.1 h)
+
+  -- the same of a fact about the unit, which each step keeps
+  pub unit_lasts : (Q : UpdateUnit → Type 0) → ((U : UpdateUnit) (by : ℕ) (s : Step) → Allowed P C U by s → IsSound P U.tenants → Q U → Q (applied P C U by s))
+      → (more seen : List Entry) → IsLegal P C (more ++ seen) → Q (unit_of P C seen) → Q (unit_of P C (more ++ seen))
+  unit_lasts Q keeps more seen legal q = lasts (λ h. Q (unit_of P C h)) (λ h e l x may. go h e.by e.event l may x) more seen legal q
+    where
+      go : (h : List Entry) (by : ℕ) (x : Event) → IsLegal P C h → MayAdd P C h by x → Q (unit_of P C h) → Q (unit_of P C (entry by x ∷ h))
+      go h by (Does s) l may q = keeps (unit_of P C h) by s may.1 (unit_sound h l) q
+      go h by (Refuses r) l may q = q
+      go h by (Marks k) l may q = q
+
+  -- or each step of another caller
+  pub unit_lasts_apart : (id : ℕ) (Q : UpdateUnit → Type 0)
+      → ((U : UpdateUnit) (by : ℕ) (s : Step) → by ≢ id → IsTheirs C U by s → Allowed P C U by s → IsSound P U.tenants → Q U → Q (applied P C U by s))
+      → (more seen : List Entry) → IsLegal P C (more ++ seen) → own id more ≡ [] → Q (unit_of P C seen) → Q (unit_of P C (more ++ seen))
+  unit_lasts_apart id Q keeps more seen legal none q = lasts_apart id (λ h. Q (unit_of P C h)) (λ h e l x may other. go h e.by e.event l may other x) more seen legal none q
+    where
+      go : (h : List Entry) (by : ℕ) (x : Event) → IsLegal P C h → MayAdd P C h by x → by ≢ id → Q (unit_of P C h) → Q (unit_of P C (entry by x ∷ h))
+      go h by (Does s) l may other q = keeps (unit_of P C h) by s other may.0 may.1 (unit_sound h l) q
+      go h by (Refuses r) l may other q = q
+      go h by (Marks k) l may other q = q

@@ -1,0 +1,10 @@
+pub mod HexDigits
+pub mod WordLines
+pub mod LabelTable
+pub mod Bytes
+pub mod Slots
+pub mod Statements
+pub mod Rows
+pub mod Behind
+pub mod Whole
+pub mod Examples

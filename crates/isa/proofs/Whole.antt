@@ -1,0 +1,89 @@
+-- All lines of a listing.
+use Rattle.std.proofs.Common.{◌≡◌, ℕ, ◌+◌, ◌≤◌, ◌<◌, List, [], ◌∷◌, ◌++◌, length, Some, None, Result, Err, refl, sym, ap, ◌∙◌, subst, append_assoc, arith}
+use Rattle.std.specs.Borrow.{Bor}
+use Rattle.std.specs.BTreeMap.{BTreeMap}
+use Rattle.std.specs.Map.{lookup}
+use Rattle.std.proofs.lemmas.Bool.{lt-ltb, le-ltb}
+use Rattle.std.proofs.lemmas.List.{append-nil, length-append}
+use Rattle.text.specs.Line.{lines_of}
+use Rattle.isa.specs.declared.instr.Instr.{Instr}
+use Rattle.isa.specs.declared.listing.fault.FaultKind.{FaultKind}
+use Rattle.isa.specs.declared.listing.fault.FaultKind.TheVariants.{TooLong}
+use Rattle.isa.specs.declared.listing.line.Target.{Target}
+use Rattle.isa.specs.Listing.{Lines, table, numbered, memory, fault_in, first_fault, resolved, with_bytes, listing}
+use Rattle.isa.specs.Held.{IsTable, IsRead, rows}
+
+-- the lines before, which have no fault, and those that are left
+pub record LinesSoFar (m : BTreeMap (Bor (List ℕ)) ℕ) (code : List Instr) (ts : List Target) (bytes : List ℕ) (number : ℕ) (left all : Lines) : Type 0 where
+  pub before : Lines
+  pub count : length before ≡ number
+  pub read : IsRead before m code ts bytes
+  pub fault : first_fault before left ≡ first_fault [] all
+  pub whole : before ++ left ≡ all
+
+module _ (m : BTreeMap (Bor (List ℕ)) ℕ) (code : List Instr) (ts : List Target) (bytes : List ℕ) (number : ℕ) (left all : Lines)
+    (so_far : LinesSoFar m code ts bytes number left all) where
+  pub so_far_more : (m' : BTreeMap (Bor (List ℕ)) ℕ) (code' : List Instr) (ts' : List Target) (bytes' : List ℕ) (l : List ℕ) (ls : Lines) → left ≡ l ∷ ls
+      → ((before : Lines) → length before + 1 ≡ number + 1 → IsRead before m code ts bytes
+      → (fault_in before l ≡ None) × IsRead (before ++ l ∷ []) m' code' ts' bytes')
+      → LinesSoFar m' code' ts' bytes' (number + 1) ls all
+  unfolding first_fault
+  so_far_more m' code' ts' bytes' l ls is step =
+      let one = step so_far.before (omega (arith, so_far.count)) so_far.read in
+      let fault : first_fault so_far.before (l ∷ ls) ≡ first_fault [] all = rw is at so_far.fault in
+      let whole : so_far.before ++ l ∷ ls ≡ all = rw is at so_far.whole in
+      record {
+        before = so_far.before ++ l ∷ [];
+        count = omega (arith, so_far.count, length-append so_far.before (l ∷ []));
+        read = one.1;
+        fault = rw one.0 at fault;
+        whole = append_assoc so_far.before (l ∷ []) ls ∙ whole;
+      }
+
+  pub so_far_fault : (l : List ℕ) (ls : Lines) (k : FaultKind) → left ≡ l ∷ ls
+      → ((before : Lines) → IsRead before m code ts bytes → fault_in before l ≡ Some k) → first_fault [] all ≡ Some (number + 1, k)
+  unfolding first_fault
+  so_far_fault l ls k is step =
+      let fault : first_fault so_far.before (l ∷ ls) ≡ first_fault [] all = rw is at so_far.fault in
+      sym fault ∙ rw (step so_far.before so_far.read, so_far.count) refl
+
+  pub so_far_done : left ≡ [] → (first_fault [] all ≡ None) × IsRead all m code ts bytes
+  unfolding first_fault
+  so_far_done is =
+      let fault : first_fault so_far.before [] ≡ first_fault [] all = rw is at so_far.fault in
+      let whole : so_far.before ++ [] ≡ all = rw is at so_far.whole in
+      (sym fault, subst (λ (ls : Lines). IsRead ls m code ts bytes) (sym (append-nil so_far.before) ∙ whole) so_far.read)
+
+pub so_far_start : (m : BTreeMap (Bor (List ℕ)) ℕ) (code : List Instr) (ts : List Target) (bytes : List ℕ) (all : Lines)
+    → m.entries ≡ [] → code ≡ [] → ts ≡ [] → bytes ≡ [] → LinesSoFar m code ts bytes 0 all all
+unfolding table numbered memory
+so_far_start m code ts bytes all no_labels no_code no_targets no_bytes = record {
+  before = [];
+  count = refl;
+  read = record {
+    labels = λ name. ap (lookup _) no_labels;
+    length_is = ap length no_code ∙ sym (ap length no_targets);
+    code_is = rw no_code refl;
+    bytes_are = no_bytes;
+  };
+  fault = refl;
+  whole = refl;
+}
+
+-- ---- the whole
+
+pub listing_long : (bytes : List ℕ) → 4194304 < length bytes → listing bytes ≡ Err (0, TooLong)
+unfolding listing
+listing_long bytes lt = rw (lt-ltb 4194304 (length bytes) lt) refl
+
+pub listing_fault : (bytes : List ℕ) (f : ℕ × FaultKind) → length bytes ≤ 4194304 → first_fault [] (lines_of bytes) ≡ Some f → listing bytes ≡ Err f
+unfolding listing
+listing_fault bytes f le e = rw (le-ltb 4194304 (length bytes) le, e) refl
+
+pub listing_done : (text : List ℕ) (m : BTreeMap (Bor (List ℕ)) ℕ) (code : List Instr) (ts : List Target) (bytes : List ℕ)
+    (r : Result (List Instr) (ℕ × FaultKind)) → length text ≤ 4194304 → (first_fault [] (lines_of text) ≡ None) × IsRead (lines_of text) m code ts bytes
+    → ((pairs : List (List ℕ × ℕ)) → IsTable m pairs → resolved pairs (rows code ts) ≡ r) → listing text ≡ with_bytes bytes r
+unfolding listing
+listing_done text m code ts bytes r le e all =
+    let one : resolved (table 0 (lines_of text)) (numbered 1 (lines_of text)) ≡ r = rw e.1.code_is at (all _ e.1.labels) in
+    rw (le-ltb 4194304 (length text) le, e.0, e.1.bytes_are) (ap (with_bytes (memory (lines_of text))) one)

@@ -1,0 +1,47 @@
+-- What the reader of a listing holds behind the lines that it has read.
+use Rattle.std.specs.Prelude.{◌≡◌, ℕ, ◌++◌, List, [], ◌∷◌, length, Option, Result, Ok}
+use Rattle.std.specs.Borrow.{Bor}
+use Rattle.std.specs.BTreeMap.{BTreeMap, get_by}
+use Rattle.std.specs.Cmp.Lexicographic.{slice_cmp}
+use Rattle.std.specs.Ordering.{nat_cmp}
+use Rattle.std.specs.Map.{lookup}
+use Rattle.std.specs.Str.{bytes_eq}
+use Rattle.isa.specs.declared.listing.fault.FaultKind.{FaultKind}
+use Rattle.isa.specs.declared.instr.Instr.{Instr}
+use Rattle.isa.specs.declared.listing.line.Target.{Target}
+use Rattle.std.specs.Option.{option_map}
+use Rattle.isa.specs.Statement.{Parsed, Line}
+use Rattle.isa.specs.Listing.{Lines, table, numbered, memory}
+
+-- the map has at each name what the list has first
+abbrev pub IsTable : BTreeMap (Bor (List ℕ)) ℕ → List (List ℕ × ℕ) → Type 0
+IsTable m pairs = (name : List ℕ) → get_by (λ k. slice_cmp nat_cmp name k.now) m ≡ lookup (λ k. bytes_eq k name) pairs
+
+-- the label that an instruction names
+abbrev pub name_of : Target → Option (List ℕ)
+name_of t = option_map (λ name. name.now) t.label
+
+-- instructions with the numbers of their lines and their labels
+abbrev pub rows : List Instr → List Target → List (ℕ × Parsed)
+rows [] ts = []
+rows (i ∷ is) [] = []
+rows (i ∷ is) (t ∷ ts) = (t.line, record { instr = i; label = name_of t }) ∷ rows is ts
+
+-- bytes were read and added
+pub record IsAppended (read : Result (List ℕ) FaultKind) (old new : List ℕ) : Type 0 where
+  pub bytes : List ℕ
+  pub grown : new ≡ old ++ bytes
+  pub is : read ≡ Ok bytes
+
+-- a statement was read: its instructions are these, and its bytes were added
+pub record IsAdded (read : Result Line FaultKind) (code : List Parsed) (old new : List ℕ) : Type 0 where
+  pub bytes : List ℕ
+  pub grown : new ≡ old ++ bytes
+  pub is : read ≡ Ok (record { code = code; bytes = bytes })
+
+-- what is held behind the lines before
+pub record IsRead (before : Lines) (m : BTreeMap (Bor (List ℕ)) ℕ) (code : List Instr) (ts : List Target) (bytes : List ℕ) : Type 0 where
+  pub labels : IsTable m (table 0 before)
+  pub length_is : length code ≡ length ts
+  pub code_is : rows code ts ≡ numbered 1 before
+  pub bytes_are : bytes ≡ memory before

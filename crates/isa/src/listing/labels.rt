@@ -1,0 +1,33 @@
+//! The labels of a line.
+ghost use Rattle.std.specs.Prelude.{◌≡◌, ◌≢◌, ◌++◌, ℕ, List, true, false, IfOk, IfErr};
+ghost use Rattle.text.specs.Label.{labels_of, statement_of};
+ghost use Rattle.isa.specs.Listing.{is_double, at};
+ghost use Rattle.isa.specs.Held.{IsTable};
+
+use super::fault::FaultKind;
+use std::collections::BTreeMap;
+use text::{next_label, trim};
+
+/// Adds the labels at the front of a line, and gives its statement.
+pub fn add_labels<'a>(
+    labels: &mut BTreeMap<&'a [u8], u32>,
+    code: &'a [u8],
+    address: u32,
+) -> Result<&'a [u8], FaultKind>
+    ensures ok { IfOk result (λ text. text.now ≡ statement_of code.entry.now) }
+    ensures single { IfOk result (λ text. (pairs : List (List ℕ × ℕ)) → IsTable labels.old pairs
+        → (is_double address pairs (labels_of code.entry.now) ≡ false)
+        × IsTable labels.new (pairs ++ at address (labels_of code.entry.now))) }
+    ensures kind { IfErr result (λ e. e ≢ FaultKind.Memory → e ≡ FaultKind.DoubleLabel) }
+    ensures double { IfErr result (λ e. e ≢ FaultKind.Memory → (pairs : List (List ℕ × ℕ))
+        → IsTable labels.old pairs → is_double address pairs (labels_of code.entry.now) ≡ true) }
+{
+    let mut rest = code;
+    while let Some((name, after)) = next_label(rest) {
+        if labels.insert(name, address)?.is_some() {
+            return Err(FaultKind::DoubleLabel);
+        }
+        rest = after;
+    }
+    Ok(trim(rest))
+}

@@ -1,0 +1,125 @@
+-- A step on one place that adds events of its caller, and may change the front's let in progress, keeps the rule.
+use Rattle.std.proofs.Common.{◌≡◌, ◌≢◌, ℕ, zero, suc, ◌<◌, ◌≤◌, List, [], ◌∷◌, ◌++◌, map, length, slice_index, slice_set, sym, refl, ap, ◌∙◌, subst, ⊎_elim, arith, length-set}
+use mathlib.Core.Option.{some, some-ne-none}
+use lib.ListN.{get_elem?}
+use Rattle.atomic_table.specs.Table.{Allows, Me, State, Step, keeps, stepped}
+use Rattle.atomic_table.proofs.Lists.{at_set}
+use Rattle.isa.specs.Programs.{Program}
+use Rattle.inorder.specs.declared.history.Entry.{Entry}
+use Rattle.inorder.specs.declared.history.Event.{Event}
+use Rattle.inorder.specs.History.{IsLegal, StartsWith, entry, front, own, unit_of}
+use Rattle.inorder.specs.Unit.{Sizes}
+use Rattle.ruu_words.specs.declared.place.Place.{Place}
+use Rattle.ruu_words.specs.declared.rule.Draft.{Draft}
+use Rattle.ruu_words.specs.declared.rule.View.{View}
+use Rattle.ruu_words.specs.Content.{Content, IsDraft}
+use Rattle.ruu_words.specs.Places.{IsPlace, index}
+use Rattle.ruu_words.specs.Rule.{Fits, IsAlive, IsCaller, IsGrown, IsKept, Keeps, Tells}
+use Rattle.inorder.proofs.Histories.{own-append, own_none, own_of_other, starts_longer, starts_same}
+use Rattle.ruu_words.proofs.Placing.{written}
+
+pub below_length : {A : Type 0} (l : List A) (j : ℕ) (a : A) → get_elem? l j ≡ some a → j < length l
+below_length [] j a e = absurd (some-ne-none a (sym e))
+below_length (x ∷ xs) zero a e = omega arith
+below_length (x ∷ xs) (suc j) a e = let h = below_length xs j a e in omega arith
+
+-- What a step on place x shows, where history h and the let in progress d may be there: the events that it adds, and that the words are then those of the unit after them
+pub record Plan (P : Program) (C : Sizes) (id : ℕ) (h : List Entry) (d : Draft) (x : Place) (new : ℕ) (Kind : List Entry → Draft → List Event → Type 0) : Type 0 where
+  pub events : List Event
+  pub draft : Draft
+  pub mine : id ≢ front → draft ≡ d
+  pub legal : IsLegal P C (map (entry id) events ++ h)
+  pub proper : IsDraft P C (unit_of P C (map (entry id) events ++ h)) draft
+  pub here : Content P C (unit_of P C (map (entry id) events ++ h)) draft x new
+  pub else : (y : Place) (n : ℕ) → IsPlace C.ring y → y ≢ x → Content P C (unit_of P C h) d y n → Content P C (unit_of P C (map (entry id) events ++ h)) draft y n
+  pub kind : Kind h draft events
+
+-- the view of a seat after its step
+abbrev pub stepped_view : View → List Entry → Draft → View
+stepped_view v h d = record { role = v.role; seen = h; told = v.told; draft = d }
+
+module _ (P : Program) (C : Sizes) where
+  -- The one obligation of each kind of step: a plan at each history that goes on from what was seen, with no entry of the caller in between
+  abbrev pub Plans : ℕ → View → Place → (ℕ → ℕ) → (ℕ → List Entry → Draft → List Event → Type 0) → Type 0
+  Plans id v x f Kind = (between : List Entry) (d : Draft) → IsLegal P C (between ++ v.seen) → own id between ≡ [] → IsCaller v.role id → (id ≡ front → v.draft ≡ d) → IsDraft P C (unit_of P C (between ++ v.seen)) d
+      → (n : ℕ) → n < 18446744073709551616 → Content P C (unit_of P C (between ++ v.seen)) d x n → Plan P C id (between ++ v.seen) d x (f n) (Kind n)
+
+module _ (P : Program) (C : Sizes) (opening : List Entry) where
+  pub kept_after : (id : ℕ) (s : State ℕ View) (h : List Entry) (d : Draft) → IsKept P C opening s h d → (v : View) → get_elem? s.views id ≡ some v → (x : Place) (new : ℕ) → IsPlace C.ring x
+      → (Kind : List Entry → Draft → List Event → Type 0) (p : Plan P C id h d x new Kind) → (rest : List (ℕ × ℕ)) → (IsAlive v.role → StartsWith h opening)
+      → IsKept P C opening (stepped s (index C.ring x) new id rest (stepped_view v (map (entry id) p.events ++ h) p.draft) keeps) (map (entry id) p.events ++ h) p.draft
+  kept_after id s h d k v here x new fits Kind p rest goes_on =
+      let more : List Entry = map (entry id) p.events in
+      let w : View = stepped_view v (more ++ h) p.draft in
+      let f = k.views id v here in
+      record {
+        legal = p.legal;
+        wide = length-set s.words (index C.ring x) new ∙ k.wide;
+        words = λ y place. ⊎_elim
+            (λ (t : (x ≡ y) × (slice_index (slice_set s.words (index C.ring x) new) (index C.ring y) ≡ new)).
+            subst (λ (z : Place × ℕ). Content P C (unit_of P C (more ++ h)) p.draft z.0 z.1) (λ j. (t.0 j, sym t.1 j)) p.here)
+            (λ (t : (index C.ring x ≢ index C.ring y) × (slice_index (slice_set s.words (index C.ring x) new) (index C.ring y) ≡ slice_index s.words (index C.ring y))).
+            subst (λ (z : ℕ). Content P C (unit_of P C (more ++ h)) p.draft y z) (sym t.1) (p.else y (slice_index s.words (index C.ring y)) place (λ e. t.0 (ap (index C.ring) (sym e))) (k.words y place)))
+            (written C.ring s.words x y new k.wide fits place);
+        views = λ j u e. ⊎_elim
+            (λ (t : (j ≡ id) × (w ≡ u)). subst (λ (z : ℕ × View). Fits opening (more ++ h) z.0 z.1) (λ l. (sym t.0 l, t.1 l)) (record { begins = starts_same (more ++ h); told = starts_longer h v.told more f.told; opened = λ alive. starts_longer h opening more (goes_on alive); all_own = λ _. refl; caller = f.caller }))
+            (λ (t : (j ≢ id) × (get_elem? s.views j ≡ some u)). let g = k.views j u t.1 in
+            record {
+              begins = starts_longer h u.seen more g.begins;
+              told = starts_longer h u.told more g.told;
+              opened = g.opened;
+              all_own = λ alive. own-append j more h ∙ (ap (λ (z : List Entry). z ++ own j h) (own_of_other j id p.events (λ e. t.0 (sym e))) ∙ g.all_own alive);
+              caller = g.caller;
+            })
+            (at_set s.views id j w u e);
+        grown = λ j u e. subst (λ (z : ℕ). IsGrown u.role z) (sym (length-set s.views id w)) (⊎_elim
+            (λ (t : (j ≡ id) × (w ≡ u)). subst (λ (z : View). IsGrown z.role (length s.views)) t.1 (k.grown id v here))
+            (λ (t : (j ≢ id) × (get_elem? s.views j ≡ some u)). k.grown j u t.1)
+            (at_set s.views id j w u e));
+        others = λ j above. let wide = length-set s.views id w in let there = below_length s.views id v here in let above' : length s.views ≤ j = omega arith in let apart : id ≢ j = λ e. omega arith in
+            own-append j more h ∙ (ap (λ (z : List Entry). z ++ own j h) (own_of_other j id p.events apart) ∙ k.others j above');
+        draft = λ u e. ⊎_elim
+            (λ (t : (front ≡ id) × (w ≡ u)). ap (λ (z : View). z.draft) (sym t.1))
+            (λ (t : (front ≢ id) × (get_elem? s.views front ≡ some u)). k.draft u t.1 ∙ sym (p.mine (λ e. t.0 (sym e))))
+            (at_set s.views id front w u e);
+        proper = p.proper;
+      }
+
+  -- `tell n` is what a step tells of: the number found, or at a store the number stored
+  pub allowed : (slots id : ℕ) (me : Me ℕ View) (x : Place) (f tell : ℕ → ℕ) (Kind : ℕ → List Entry → Draft → List Event → Type 0) (z : Step ℕ) → IsPlace C.ring x → IsAlive me.0.role
+      → Plans P C id me.0 x f (λ n. Kind (tell n)) → Allows (Keeps P C opening) slots id me (index C.ring x) f (λ n found. Tells P C id Kind z me (tell n) found)
+  allowed slots id me x f tell Kind z fits alive plans s kept _ here small =
+      let h : List Entry = kept.history in let d : Draft = kept.draft in let k : IsKept P C opening s h d = kept.kept in let v : View = me.0 in
+      let fit : Fits opening h id v = k.views id v here in
+      let between : List Entry = fit.begins.more in
+      let is : h ≡ between ++ v.seen = fit.begins.is in
+      let k' : IsKept P C opening s (between ++ v.seen) d = subst (λ (x : List Entry). IsKept P C opening s x d) is k in
+      let apart : own id between ≡ [] = own_none id between v.seen (sym (ap (λ (x : List Entry). own id x) is) ∙ fit.all_own alive) in
+      let n : ℕ = slice_index s.words (index C.ring x) in
+      let mine : id ≡ front → v.draft ≡ d = λ e. k.draft v (subst (λ (j : ℕ). get_elem? s.views j ≡ some v) e here) in
+      let p : Plan P C id (between ++ v.seen) d x (f n) (Kind (tell n)) = plans between d k'.legal apart fit.caller mine k'.proper n small (k'.words x fits) in
+      let all : List Entry = map (entry id) p.events ++ (between ++ v.seen) in
+      let done : IsKept P C opening (stepped s (index C.ring x) (f n) id me.1 (stepped_view v all p.draft) keeps) all p.draft = kept_after id s (between ++ v.seen) d k' v here x (f n) fits (Kind (tell n)) p me.1 (λ a. starts_longer v.seen opening between (fit.opened a)) in (
+        stepped_view v all p.draft,
+        keeps,
+        tt,
+        record { history = all; draft = p.draft; kept = done },
+        record {
+          grows = record {
+            between = between;
+            events = p.events;
+            not_own = apart;
+            is = refl;
+            legal = p.legal;
+            role = refl;
+            told = starts_longer (between ++ v.seen) v.told (map (entry id) p.events) (subst (λ (x : List Entry). StartsWith x v.told) is fit.told);
+            kind = p.kind;
+          };
+          slots = refl;
+        },
+      )
+
+  -- the same, where the code gives the index
+  pub allowed_at : (slots id : ℕ) (me : Me ℕ View) (x : Place) (i : ℕ) (f tell : ℕ → ℕ) (Kind : ℕ → List Entry → Draft → List Event → Type 0) (z : Step ℕ) → index C.ring x ≡ i → IsPlace C.ring x → IsAlive me.0.role
+      → Plans P C id me.0 x f (λ n. Kind (tell n)) → Allows (Keeps P C opening) slots id me i f (λ n found. Tells P C id Kind z me (tell n) found)
+  allowed_at slots id me x i f tell Kind z is fits alive plans = subst (λ (j : ℕ). Allows (Keeps P C opening) slots id me j f (λ n found. Tells P C id Kind z me (tell n) found)) is (allowed slots id me x f tell Kind z fits alive plans)

@@ -1,0 +1,62 @@
+-- The rule holds at the start, for a table that goes on from no other.
+use Rattle.std.proofs.Common.{◌≡◌, ℕ, zero, suc, ◌+◌, List, [], ◌∷◌, slice_index, Some, None, refl, sym, ap, ◌∙◌, subst, inl, arith}
+use mathlib.Core.Option.{some, some-injective, some-ne-none}
+use lib.ListN.{get_elem?}
+use Rattle.atomic_table.specs.Table.{opening}
+use Rattle.isa.specs.Programs.{Program}
+use Rattle.inorder.specs.declared.history.Source.{Source}
+use Rattle.inorder.specs.StationWords.{IsFree}
+use Rattle.inorder.specs.Tenants.{Tenant}
+use Rattle.inorder.specs.Unit.{Sizes, at, empty_unit}
+use Rattle.ruu_words.specs.declared.place.Place.{Place}
+use Rattle.ruu_words.specs.declared.place.Place.TheVariants.{Info, Link, Operand, Station}
+use Rattle.ruu_words.specs.declared.rule.Draft.TheVariants.{Nothing}
+use Rattle.ruu_words.specs.declared.rule.Role.TheVariants.{Start}
+use Rattle.ruu_words.specs.declared.rule.Setup.{Setup}
+use Rattle.ruu_words.specs.declared.rule.View.{View}
+use Rattle.ruu_words.specs.Content.{Content, IsLink, IsStation}
+use Rattle.ruu_words.specs.Fields.{pack}
+use Rattle.ruu_words.specs.Places.{IsPlace, index}
+use Rattle.ruu_words.specs.Rule.{Fits, IsGrown, IsStart, Keeps, Kept, first_view, opening_of, sizes_of, view}
+
+free_word : (g n : ℕ) → n ≡ pack g 0 0 → IsStation (record { tag = g + 0; state = IsFree; value = Some 0 }) n
+free_word g n e = record { tag = omega arith; state = omega arith; value = omega arith }
+
+no_link : (p c : ℕ) (k : Source) (n : ℕ) → n ≡ 0 → IsLink [] p c k n
+no_link p c k n e = record { names = inl e; stands = λ q r producer consumer i live f g. absurd (none r consumer i.consumer_is) }
+  where
+    none : (r : ℕ) (t : Tenant) → at [] r ≡ Some t → ⊥
+    none r t e = cc e
+
+first_only : (id : ℕ) (v : View) → get_elem? (view Start [] Nothing ∷ []) id ≡ some v → (id ≡ 0) × (view Start [] Nothing ≡ v)
+first_only zero v e = (refl, some-injective (view Start [] Nothing) v e)
+first_only (suc id) v e = absurd (some-ne-none v (sym e))
+
+content : (P : Program) (C : Sizes) (ws : List ℕ) → IsStart C ws → (x : Place) → IsPlace C.ring x → Content P C empty_unit Nothing x (slice_index ws (index C.ring x))
+content P C ws start (Station s) h = free_word C.first_tag (slice_index ws s) (start.stations s h)
+content P C ws start (Info s) h = start.others (C.ring + s) (omega arith)
+content P C ws start (Operand s k) h = start.others (index C.ring (Operand s k)) (omega arith)
+content P C ws start (Link p c k) h = no_link p c k (slice_index ws (index C.ring (Link p c k))) (start.others (index C.ring (Link p c k)) (omega arith))
+
+pub opens : (P : Program) (C : Sizes) (ws : List ℕ) → IsStart C ws → Keeps P C [] (opening ws [] (view Start [] Nothing))
+opens P C ws start = record {
+  history = [];
+  draft = Nothing;
+  kept = record {
+    legal = tt;
+    wide = start.wide;
+    words = content P C ws start;
+    views = λ id v e. let f = first_only id v e in
+        subst (λ (z : View). Fits [] [] id z) f.1 (record { begins = record { more = []; is = refl }; told = record { more = []; is = refl }; opened = λ _. record { more = []; is = refl }; all_own = λ _. refl; caller = f.0 });
+    grown = λ id v e. let f = first_only id v e in subst (λ (z : View). IsGrown z.role 1) f.1 refl;
+    others = λ id _. refl;
+    draft = λ v e. let f = first_only 0 v e in ap (λ (z : View). z.draft) (sym f.1);
+    proper = tt;
+  };
+}
+
+-- for a setup whose badge is blank
+pub opens_first : (c : Setup) (ws : List ℕ) → c.opening.views ≡ [] → IsStart (sizes_of c) ws → Kept c (opening ws [] (first_view c))
+opens_first c ws blank start =
+    let none : opening_of c ≡ [] = ap Rattle.ruu_words.specs.Rule.seen_by blank in
+    subst (λ (h : List Rattle.inorder.specs.declared.history.Entry.Entry). Keeps c.program (sizes_of c) h (opening ws [] (view Start h Nothing))) (sym none) (opens c.program (sizes_of c) ws start)

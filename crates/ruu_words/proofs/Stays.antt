@@ -1,0 +1,146 @@
+-- What a caller has seen of a tenant stays true.
+use Rattle.std.proofs.Common.{◌≡◌, ◌≢◌, ℕ, List, [], ◌∷◌, ◌++◌, Option, Some, None, true, false, Bool, cond, refl, sym, ap, ◌∙◌, subst}
+use Rattle.std.specs.Prelude.{length, unwrap_or}
+use Rattle.isa.specs.Instruction.{kind}
+use Rattle.isa.specs.Operations.{outcome, outcome_by}
+use Rattle.isa.specs.Programs.{Program, instr_of}
+use Rattle.isa.specs.declared.instr.Instr.{Instr}
+use Rattle.isa.specs.declared.op.Kind.{Kind}
+use Rattle.isa.specs.declared.op.Kind.TheVariants.{Computes, Jumps, Links, Loads, Stores}
+use Rattle.inorder.specs.declared.history.Act.{Act}
+use Rattle.inorder.specs.declared.history.Act.TheVariants.{Claim, Deliver, Finish, Link, Load, Mend, Retire, Squash}
+use Rattle.inorder.specs.declared.history.Entry.{Entry}
+use Rattle.inorder.specs.declared.history.Source.TheVariants.{First, Second}
+use Rattle.inorder.specs.declared.history.Step.{Step}
+use Rattle.inorder.specs.declared.history.Step.TheVariants.{Let, On}
+use Rattle.inorder.specs.Callers.{IsReady}
+use Rattle.inorder.specs.History.{IsLegal, IsTheirs, WasOpen, back, front, own, unit_of}
+use Rattle.inorder.specs.Legal.{Allowed, applied}
+use Rattle.inorder.specs.Replies.{IsOpen}
+use Rattle.inorder.specs.Tenants.{Tenant, computed, kind_of, missing_of, operand_value}
+use Rattle.inorder.specs.Unit.{Sizes, UpdateUnit}
+use Rattle.inorder.proofs.Ends.{IsNotBacks}
+use Rattle.inorder.proofs.Letting.{IsBesides}
+use Rattle.inorder.proofs.Moves.{Goes, goes}
+use Rattle.inorder.proofs.Sound.{IsSound, Needs}
+use Rattle.ruu_words.specs.Kinds.{IsAny, IsTenant}
+use Rattle.inorder.proofs.Histories.{starts_longer, unit_lasts, unit_lasts_apart}
+
+-- Who steps
+
+-- only the front makes other steps than these
+pub besides_of : (C : Sizes) (U : UpdateUnit) (by : ℕ) (s : Step) → IsTheirs C U by s → by ≢ front → IsBesides s
+besides_of C U by (Let index predicted first second) h ne = absurd (ne h.0)
+besides_of C U by (On p act) h ne = go act h
+  where
+    go : (act : Act) → Rattle.inorder.specs.History.IsTheirAct by act → Rattle.inorder.proofs.Letting.IsBesidesAct act
+    go (Link k) h = absurd (ne h)
+    go (Deliver k) h = tt
+    go Claim h = tt
+    go Finish h = tt
+    go Load h = tt
+    go (Retire n) h = tt
+    go Squash h = absurd (ne h)
+    go Mend h = absurd (ne h)
+
+-- only the back loads and retires
+pub not_backs : (C : Sizes) (U : UpdateUnit) (by : ℕ) (s : Step) → IsTheirs C U by s → by ≢ back → IsNotBacks s
+not_backs C U by (Let index predicted first second) h ne = tt
+not_backs C U by (On p act) h ne = go act h
+  where
+    go : (act : Act) → Rattle.inorder.specs.History.IsTheirAct by act → Rattle.inorder.proofs.Ends.IsNotBacksAct act
+    go (Link k) h = tt
+    go (Deliver k) h = tt
+    go Claim h = tt
+    go Finish h = tt
+    go Load h = absurd (ne h)
+    go (Retire n) h = absurd (ne h)
+    go Squash h = tt
+    go Mend h = tt
+
+module _ (P : Program) (C : Sizes) where
+  -- what the front has seen, and others keep
+  pub front_stays : (Q : UpdateUnit → Type 0) → ((U : UpdateUnit) (by : ℕ) (s : Step) → IsBesides s → Allowed P C U by s → IsSound P U.tenants → Q U → Q (applied P C U by s))
+      → (more seen : List Entry) → IsLegal P C (more ++ seen) → own front more ≡ [] → Q (unit_of P C seen) → Q (unit_of P C (more ++ seen))
+  front_stays Q keeps more seen legal none q = unit_lasts_apart P C front Q (λ U by s other theirs a ok x. keeps U by s (besides_of C U by s theirs other) a ok x) more seen legal none q
+
+  -- what the back has seen, and others keep
+  pub back_stays : (Q : UpdateUnit → Type 0) → ((U : UpdateUnit) (by : ℕ) (s : Step) → IsNotBacks s → Allowed P C U by s → IsSound P U.tenants → Q U → Q (applied P C U by s))
+      → (more seen : List Entry) → IsLegal P C (more ++ seen) → own back more ≡ [] → Q (unit_of P C seen) → Q (unit_of P C (more ++ seen))
+  back_stays Q keeps more seen legal none q = unit_lasts_apart P C back Q (λ U by s other theirs a ok x. keeps U by s (not_backs C U by s theirs other) a ok x) more seen legal none q
+
+  -- a fact of a tenant that each step keeps
+  pub tenant_stays : (p s g : ℕ) (Fact : Tenant → Type 0) → ((by : ℕ) (step : Step) (t t' : Tenant) → Goes by step t t' → Fact t → Fact t') → (more seen : List Entry) → IsLegal P C (more ++ seen) → IsTenant (unit_of P C seen) p s g Fact → IsTenant (unit_of P C (more ++ seen)) p s g Fact
+  tenant_stays p s g Fact keeps more seen legal i = unit_lasts P C (λ U. IsTenant U p s g Fact)
+      (λ U by step a ok q. let m = goes P C U by step a ok p q.tenant q.is in
+      record { tenant = m.tenant; is = m.is; station_is = m.goes.station ∙ q.station_is; tag_is = m.goes.tag ∙ q.tag_is; fact = keeps by step q.tenant m.tenant m.goes q.fact })
+      more seen legal i
+
+  pub any_stays : (p s g : ℕ) (more seen : List Entry) → IsLegal P C (more ++ seen) → IsTenant (unit_of P C seen) p s g IsAny → IsTenant (unit_of P C (more ++ seen)) p s g IsAny
+  any_stays p s g more seen legal i = tenant_stays p s g IsAny (λ by step t t' m f. tt) more seen legal i
+
+  -- the same of what the steps of other callers keep
+  pub tenant_stays_apart : (id p s g : ℕ) (Fact : Tenant → Type 0)
+      → ((U : UpdateUnit) (by : ℕ) (step : Step) (t t' : Tenant) → by ≢ id → IsTheirs C U by step → Allowed P C U by step → Goes by step t t' → Fact t → Fact t')
+      → (more seen : List Entry) → IsLegal P C (more ++ seen) → own id more ≡ [] → IsTenant (unit_of P C seen) p s g Fact → IsTenant (unit_of P C (more ++ seen)) p s g Fact
+  tenant_stays_apart id p s g Fact keeps more seen legal none i = unit_lasts_apart P C id (λ U. IsTenant U p s g Fact)
+      (λ U by step other theirs a ok q. let m = goes P C U by step a ok p q.tenant q.is in
+      record { tenant = m.tenant; is = m.is; station_is = m.goes.station ∙ q.station_is; tag_is = m.goes.tag ∙ q.tag_is; fact = keeps U by step q.tenant m.tenant other theirs a m.goes q.fact })
+      more seen legal none i
+
+  -- What a tenant was when it was open
+  pub record IsSince (u t : Tenant) : Type 0 where
+    pub opens : IsOpen t → IsOpen u
+    pub index : t.index ≡ u.index
+    pub predicted : t.predicted ≡ u.predicted
+
+  -- a tenant that is open was open before, with the same instruction: so an info word that was read in between is its own
+  pub opened_before : (p s g : ℕ) (more seen : List Entry) → IsLegal P C (more ++ seen) → (i : IsTenant (unit_of P C seen) p s g IsAny) → (j : IsTenant (unit_of P C (more ++ seen)) p s g IsOpen) → IsSince i.tenant j.tenant
+  opened_before p s g more seen legal i j =
+      let k = tenant_stays p s g (IsSince i.tenant) since more seen legal (record { tenant = i.tenant; is = i.is; station_is = i.station_is; tag_is = i.tag_is; fact = record { opens = λ o. o; index = refl; predicted = refl } }) in
+      subst (IsSince i.tenant) (same k.tenant j.tenant (sym k.is ∙ j.is)) k.fact
+    where
+      since : (by : ℕ) (step : Step) (t t' : Tenant) → Goes by step t t' → IsSince i.tenant t → IsSince i.tenant t'
+      since by step t t' m f = record { opens = λ o. f.opens (m.opens o); index = m.index ∙ f.index; predicted = m.predicted ∙ f.predicted }
+
+      same : (t u : Tenant) → Some t ≡ Some u → t ≡ u
+      same t u e = cc e
+
+  pub was_open_stays : (more seen : List Entry) (p : ℕ) → WasOpen P C seen p → WasOpen P C (more ++ seen) p
+  was_open_stays more seen p w = record { point = w.point; starts = starts_longer seen w.point more w.starts; opened = w.opened }
+
+-- Sources that are delivered stay so, and with them the outcome
+
+missing_stays : (k : Kind) (a b a' b' : Option ℕ) → ((v : ℕ) → a ≡ Some v → a' ≡ Some v) → ((v : ℕ) → b ≡ Some v → b' ≡ Some v) → missing_of k a b ≡ None → missing_of k a' b' ≡ None
+missing_stays k None b a' b' f g e = absurd (cc)
+missing_stays k (Some v) (Some w) a' b' f g e = λ i. missing_of k (f v refl i) (g w refl i)
+missing_stays Computes (Some v) None a' b' f g e = absurd (cc)
+missing_stays Jumps (Some v) None a' b' f g e = absurd (cc)
+missing_stays Links (Some v) None a' b' f g e = absurd (cc)
+missing_stays Loads (Some v) None a' b' f g e = absurd (cc)
+missing_stays Stores (Some v) None a' b' f g e = ap (λ z. missing_of Stores z b') (f v refl) ∙ go b'
+  where
+    go : (b : Option ℕ) → missing_of Stores (Some v) b ≡ None
+    go None = refl
+    go (Some w) = refl
+
+pub ready_stays : (P : Program) (by : ℕ) (s : Step) (t t' : Tenant) → Goes by s t t' → IsReady P t → IsReady P t'
+ready_stays P by s t t' m n =
+    ap (λ i. missing_of (kind (instr_of P i).op) t'.first.value t'.second.value) m.index
+    ∙ missing_stays (kind_of P t) t.first.value t.second.value t'.first.value t'.second.value (m.value First) (m.value Second) n
+
+outcome_same : (k : Kind) (i : Instr) (pc size : ℕ) (a b a' b' : Option ℕ) → ((v : ℕ) → a ≡ Some v → a' ≡ Some v) → ((v : ℕ) → b ≡ Some v → b' ≡ Some v) → missing_of k a b ≡ None
+    → outcome_by k i pc (unwrap_or a' 0) (unwrap_or b' 0) size ≡ outcome_by k i pc (unwrap_or a 0) (unwrap_or b 0) size
+outcome_same k i pc size None b a' b' f g e = absurd (cc)
+outcome_same k i pc size (Some v) (Some w) a' b' f g e = λ j. outcome_by k i pc (unwrap_or (f v refl j) 0) (unwrap_or (g w refl j) 0) size
+outcome_same Computes i pc size (Some v) None a' b' f g e = absurd (cc)
+outcome_same Jumps i pc size (Some v) None a' b' f g e = absurd (cc)
+outcome_same Links i pc size (Some v) None a' b' f g e = absurd (cc)
+outcome_same Loads i pc size (Some v) None a' b' f g e = absurd (cc)
+outcome_same Stores i pc size (Some v) None a' b' f g e = λ j. outcome_by Stores i pc (unwrap_or (f v refl j) 0) 0 size
+
+pub computed_stays : (P : Program) (by : ℕ) (s : Step) (t t' : Tenant) → Goes by s t t' → IsReady P t → computed P t' ≡ computed P t
+computed_stays P by s t t' m n =
+    ap (λ k. outcome (instr_of P k) t'.pc (operand_value t'.first) (operand_value t'.second) (length P.bytes)) m.index
+    ∙ (ap (λ x. outcome (instr_of P t.index) x (operand_value t'.first) (operand_value t'.second) (length P.bytes)) m.pc
+    ∙ outcome_same (kind_of P t) (instr_of P t.index) t.pc (length P.bytes) t.first.value t.second.value t'.first.value t'.second.value (m.value First) (m.value Second) n)

@@ -1,0 +1,120 @@
+-- What is always true of the table, and what a step tells.
+use Rattle.std.specs.Prelude.{◌≡◌, ℕ, ◌<◌, ◌≤◌, List, [], ◌∷◌, ◌++◌, map, length, slice_index}
+use mathlib.Core.Option.{some}
+use lib.ListN.{get_elem?}
+use Rattle.atomic_table.specs.Table.{Me, State, Step}
+use Rattle.isa.specs.Programs.{Program}
+use Rattle.inorder.specs.declared.history.Entry.{Entry}
+use Rattle.inorder.specs.declared.history.Event.{Event}
+use Rattle.inorder.specs.History.{IsLegal, IsUnit, StartsWith, back, entry, front, own, unit_of}
+use Rattle.inorder.specs.Unit.{Sizes}
+use Rattle.ruu_words.specs.declared.place.Place.{Place}
+use Rattle.ruu_words.specs.declared.rule.Draft.{Draft}
+use Rattle.ruu_words.specs.declared.rule.Draft.TheVariants.{Nothing}
+use Rattle.ruu_words.specs.declared.rule.Role.{Role}
+use Rattle.ruu_words.specs.declared.rule.Role.TheVariants.{Back, Front, Spent, Start, Worker}
+use Rattle.ruu_words.specs.declared.rule.Setup.{Setup}
+use Rattle.ruu_words.specs.declared.rule.View.{View}
+use Rattle.ruu_words.specs.Content.{Content, IsDraft}
+use Rattle.ruu_words.specs.Fields.{pack}
+use Rattle.ruu_words.specs.Places.{IsPlace, index, words_for}
+
+abbrev pub sizes_of : Setup → Sizes
+sizes_of c = record { ring = c.ring; queue = c.queue; first_tag = c.first_tag }
+
+-- The history that a table opens with: that of the seat it goes on from, or none
+
+abbrev pub seen_by : List View → List Entry
+seen_by [] = []
+seen_by (v ∷ vs) = v.seen
+
+abbrev pub opening_of : Setup → List Entry
+opening_of c = seen_by c.opening.views
+
+-- Views
+
+abbrev pub view : Role → List Entry → Draft → View
+view role seen draft = record { role = role; seen = seen; told = []; draft = draft }
+
+-- What the first seat knows
+abbrev pub first_view : Setup → View
+first_view c = view Start (opening_of c) Nothing
+
+-- The same seat, told of what another has seen
+abbrev pub informed : View → View → View
+informed v w = record { role = v.role; seen = v.seen; told = w.seen; draft = v.draft }
+
+-- Roles. The first seat is the front's once the back's is cut from it, and a spent one makes no calls
+
+abbrev pub IsCaller : Role → ℕ → Type 0
+IsCaller Start id = id ≡ front
+IsCaller Front id = id ≡ front
+IsCaller Back id = id ≡ back
+IsCaller Worker id = IsUnit id
+IsCaller Spent id = IsUnit id
+
+abbrev pub IsAlive : Role → Type 0
+IsAlive Spent = ⊥
+IsAlive _ = Unit {0}
+
+-- The number of seats that there are at least
+abbrev pub IsGrown : Role → ℕ → Type 0
+IsGrown Start n = n ≡ 1
+IsGrown _ n = 2 ≤ n
+
+-- What a seat has seen begins the history, and has all entries of its caller; it goes on from the
+-- history that the table opened with
+pub record Fits (opening h : List Entry) (id : ℕ) (v : View) : Type 0 where
+  pub begins : StartsWith h v.seen
+  pub told : StartsWith h v.told
+  pub opened : IsAlive v.role → StartsWith v.seen opening
+  pub all_own : IsAlive v.role → own id h ≡ own id v.seen
+  pub caller : IsCaller v.role id
+
+-- The rule, for a history h and a let in progress d
+pub record IsKept (P : Program) (C : Sizes) (opening : List Entry) (s : State ℕ View) (h : List Entry) (d : Draft) : Type 0 where
+  pub legal : IsLegal P C h
+  pub wide : length s.words ≡ words_for C.ring
+  -- each word is what the unit of the history says
+  pub words : (x : Place) → IsPlace C.ring x →
+      Content P C (unit_of P C h) d x (slice_index s.words (index C.ring x))
+  -- each seat has seen a beginning of the history
+  pub views : (id : ℕ) (v : View) → get_elem? s.views id ≡ some v → Fits opening h id v
+  pub grown : (id : ℕ) (v : View) → get_elem? s.views id ≡ some v → IsGrown v.role (length s.views)
+  -- nobody else has added anything
+  pub others : (id : ℕ) → length s.views ≤ id → own id h ≡ own id opening
+  -- the let in progress is part of the front's view, and allowed
+  pub draft : (v : View) → get_elem? s.views front ≡ some v → v.draft ≡ d
+  pub proper : IsDraft P C (unit_of P C h) d
+
+-- There is one legal history
+pub record Keeps (P : Program) (C : Sizes) (opening : List Entry) (s : State ℕ View) : Type 0 where
+  pub history : List Entry
+  pub draft : Draft
+  pub kept : IsKept P C opening s history draft
+
+abbrev pub Kept : Setup → State ℕ View → Type 0
+Kept c s = Keeps c.program (sizes_of c) (opening_of c) s
+
+-- The words at the start: each station is free, with the first tag, and all others are 0
+pub record IsStart (C : Sizes) (words : List ℕ) : Type 0 where
+  pub wide : length words ≡ words_for C.ring
+  pub stations : (s : ℕ) → s < C.ring → slice_index words s ≡ pack C.first_tag 0 0
+  pub others : (i : ℕ) → C.ring ≤ i → slice_index words i ≡ 0
+
+-- What a step tells: its caller has seen the history before the step, added these events, and `Kind` says
+-- which, for the history before them and the let in progress behind them
+pub record Grows (P : Program) (C : Sizes) (by : ℕ) (v w : View) (Kind : List Entry → Draft → List Event → Type 0) : Type 0 where
+  pub between : List Entry
+  pub events : List Event
+  pub not_own : own by between ≡ []
+  pub is : w.seen ≡ map (entry by) events ++ (between ++ v.seen)
+  pub legal : IsLegal P C w.seen
+  pub role : w.role ≡ v.role
+  pub told : StartsWith w.seen v.told
+  pub kind : Kind (between ++ v.seen) w.draft events
+
+-- Of a step: the number found, or at a store the number stored, is n
+pub record Tells (P : Program) (C : Sizes) (by : ℕ) (Kind : ℕ → List Entry → Draft → List Event → Type 0) (s : Step ℕ) (me : Me ℕ View) (n : ℕ) (found : Me ℕ View) : Type 0 where
+  pub grows : Grows P C by me.0 found.0 (Kind n)
+  pub slots : found.1 ≡ me.1

@@ -1,0 +1,68 @@
+//! What a table of these words is made for, what its seats know, and its rule.
+use atomic_table::{Badge, Play, TableRule};
+use inorder::history::{Entry, Supply};
+use isa::Program;
+use std::collections::LinkedList;
+use std::marker::Brand;
+
+/// The program and the sizes of a unit, and what its table opens with.
+#[derive(Drop)]
+pub struct Setup {
+    pub program: Program,
+    pub ring: usize,
+    pub queue: usize,
+    pub first_tag: u32,
+    /// The seat of another table whose history this one goes on from. A blank one is none.
+    pub opening: Badge<View>,
+}
+
+/// Who a seat belongs to.
+pub enum Role {
+    /// The first seat, which becomes the front's once the back's is cut from it.
+    Start,
+    Front,
+    Back,
+    Worker,
+    /// A seat that makes no calls any more.
+    Spent,
+}
+
+/// Which words of the tenant in progress are stored.
+pub enum Stage {
+    Info,
+    FirstOperand,
+    BothOperands,
+}
+
+/// The tenant that the front is about to let: the index of its instruction, its predicted next pc,
+/// and its sources.
+pub enum Draft {
+    Nothing,
+    Of(Stage, u64, u64, Supply, Supply),
+}
+
+/// What a seat at the table knows. No value of it is made.
+pub struct View {
+    pub role: Role,
+    pub seen: LinkedList<Entry>,
+    /// What another seat had seen that this one met. A look makes it part of `seen`.
+    pub told: LinkedList<Entry>,
+    pub draft: Draft,
+}
+
+/// The rule of the table: its words are those of the unit of one legal history.
+pub struct OneHistory;
+
+impl TableRule<u8, View, Setup> for OneHistory {
+    ghost use Rattle.std.specs.Prelude.{[]};
+    ghost use Rattle.ruu_words.specs.Rule.{Kept, first_view};
+
+    ghost holds = { Kept };
+
+    ghost first = { first_view };
+}
+
+// What a step tells is picked where it is made.
+impl Play<u8, View> for Brand {
+    ghost then = { λ _ _ _ _. Unit {0} };
+}

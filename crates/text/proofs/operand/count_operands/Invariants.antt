@@ -1,0 +1,14 @@
+use Rattle.std.proofs.Common.{◌≡◌, ◌+◌, ◌≤◌, length}
+use Rattle.std.specs.Option.{option_map}
+use Rattle.text.specs.Operand.{operands_left}
+use Rattle.text.proofs.Splits.{size_left}
+use Rattle.text.proofs.operand.count_operands.Given as goal
+
+abbrev pub invariant-loop-rest : goal.invariant-loop-rest
+invariant-loop-rest l = record {
+  count : l.n + length (operands_left (option_map (λ t. t.now) l.rest)) ≡ length (operands_left (option_map (λ t. t.now) l.part));
+  size : l.n + size_left (option_map (λ t. t.now) l.rest) ≤ size_left (option_map (λ t. t.now) l.part);
+}
+
+abbrev pub decreases-loop-rest : goal.decreases-loop-rest
+decreases-loop-rest l = size_left (option_map (λ t. t.now) l.rest)
