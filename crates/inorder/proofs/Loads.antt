@@ -103,7 +103,7 @@ module _ (P : Program) (ts : List Tenant) (p : ℕ) (t : Tenant) (a : ℕ) (soun
       ap (λ k. load_by (is_store k) (address_by k t.fate (computed P t)) (access_width (instr P t).op)) ek
       ∙ ap (λ f. load_by false (address_by Loads f (computed P t)) (access_width (instr P t).op)) ef
 
-  answers : answer (queue_of P ts) (place_of P ts p) ≡ answer_over (queue_of P before) a w
+  pub answers : answer (queue_of P ts) (place_of P ts p) ≡ answer_over (queue_of P before) a w
   answers =
       ap (λ o. answer_to (option_and_then (λ x. load_by x.store x.address x.width) o) (queue_of P ts)
       (place_of P ts p)) there
@@ -125,14 +125,14 @@ module _ (P : Program) (ts : List Tenant) (p : ℕ) (t : Tenant) (a : ℕ) (soun
   may k n r =
       record { live = live; kind = ek; a = a; fate = ef; addresses = known P before k; bytes = n; read = r }
 
-  forward : (raw : ℕ) → answer (queue_of P ts) (place_of P ts p) ≡ Forward raw →
+  pub forward : (raw : ℕ) → answer (queue_of P ts) (place_of P ts p) ≡ Forward raw →
       MayLoad P before t × (raw_at P before (instr P t) a ≡ Some raw)
   forward raw h =
       let f = forward_is (queue_of P before) a w raw (sym answers ∙ h) in
       let r = reads ∙ f.number start_byte in
       (may f.known raw r, r)
 
-  from_memory : answer (queue_of P ts) (place_of P ts p) ≡ Memory →
+  pub from_memory : answer (queue_of P ts) (place_of P ts p) ≡ Memory →
       MayLoad P before t × (raw_at P before (instr P t) a ≡ Some
       (little_endian (slice_index (committed P ts).memory) a w))
   from_memory h =
