@@ -8,6 +8,7 @@ mod run;
 pub use bytes::alone;
 pub use devices::Counted;
 pub use outcome::{Fault, Status};
+pub use unit::{Bench, Turn};
 
 #[cfg(test)]
 mod tests;
