@@ -7,3 +7,4 @@ pub mod Given
 pub mod LettingOut
 pub mod Reading
 pub mod Claimed
+pub mod Mending

@@ -27,7 +27,7 @@ use Rattle.station.specs.Seats.{IsSeated, Knows}
 use Rattle.station.specs.Steps.{Grown, Sees}
 use Rattle.station.proofs.SameUnit.{Unit_of, unit_at}
 
-how_many_same : (f : Tenant → Bool) (t t' : Tenant) (ts ys : List Tenant) → f t' ≡ f t → how_many f (ys ++ t' ∷ ts) ≡ how_many f (ys ++ t ∷ ts)
+pub how_many_same : (f : Tenant → Bool) (t t' : Tenant) (ts ys : List Tenant) → f t' ≡ f t → how_many f (ys ++ t' ∷ ts) ≡ how_many f (ys ++ t ∷ ts)
 how_many_same f t t' ts [] e = ap (λ b. cond b (suc (how_many f ts)) (how_many f ts)) e
 how_many_same f t t' ts (y ∷ ys) e = ap (λ n. cond (f y) (suc n) n) (how_many_same f t t' ts ys e)
 

@@ -5,3 +5,4 @@ pub mod Looking
 pub mod Letting
 pub mod Claiming
 pub mod Writeback
+pub mod Recovery

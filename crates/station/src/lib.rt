@@ -7,6 +7,7 @@ mod cores;
 mod dispatch;
 mod look;
 mod meet;
+mod recovery;
 mod seat;
 mod steps;
 mod words;

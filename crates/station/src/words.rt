@@ -1,7 +1,7 @@
 //! Words, made and read.
 ghost use Rattle.std.specs.Prelude.{◌≡◌, ◌<◌};
 ghost use Rattle.inorder.specs.StationWords.{live_word};
-ghost use Rattle.inorder.specs.Tenants.{Open};
+ghost use Rattle.inorder.specs.Tenants.{Done, Open};
 ghost use Rattle.ruu_words.specs.Content.{IsOperandOf, IsStation};
 ghost use Rattle.ruu_words.specs.Fields.{state_of, tag_count, tag_of, value_of};
 ghost use Rattle.station.specs.Letting.{given_value};
@@ -60,6 +60,19 @@ pub(crate) fn open_word(tag: u32) -> u64
         tag,
         state: StationState::Open,
         value: 0,
+    };
+    word.pack()
+}
+
+/// The word of a tenant that is done.
+pub(crate) fn done_word(tag: u32, value: u32) -> u64
+    requires { tag < tag_count }
+    ensures { IsStation (live_word tag (Done value)) result }
+{
+    let word = StationWord {
+        tag,
+        state: StationState::Done,
+        value,
     };
     word.pack()
 }

@@ -1,0 +1,131 @@
+-- The steps of mending a miss.
+use Rattle.std.proofs.Common.{◌≡◌, ℕ, suc, ◌%◌, List, [], ◌∷◌, ◌++◌, map, cond, Some, refl, sym, ap, ◌∙◌, subst, inl}
+use Rattle.atomic_table.specs.Table.{Me}
+use Rattle.isa.specs.Programs.{Program}
+use Rattle.inorder.specs.declared.history.Act.TheVariants.{Mend}
+use Rattle.inorder.specs.declared.history.Entry.{Entry}
+use Rattle.inorder.specs.declared.history.Event.{Event}
+use Rattle.inorder.specs.declared.history.Event.TheVariants.{Does}
+use Rattle.inorder.specs.declared.history.Step.TheVariants.{On}
+use Rattle.inorder.specs.Callers.{CanMend}
+use Rattle.inorder.specs.History.{Adds, IsLegal, entry, front, own, unit_of}
+use Rattle.inorder.specs.Legal.{Allowed, applied}
+use Rattle.inorder.specs.StationWords.{live_word, station_word, word_of}
+use Rattle.inorder.specs.Steps.{mended, mended_as}
+use Rattle.inorder.specs.Tenants.{Done, Fate, Live, Miss, Tenant, on_path, stands_on_path}
+use Rattle.inorder.specs.Unit.{Sizes, UpdateUnit, how_many, next_station, older, recent, younger}
+use Rattle.inorder.proofs.Basics.{split_at}
+use Rattle.inorder.proofs.Ends.{may_mend, mend_stays}
+use Rattle.inorder.proofs.Kept.{parts}
+use Rattle.inorder.proofs.Stations.{mended_station}
+use Rattle.ruu_words.specs.declared.place.Place.TheVariants.{Station}
+use Rattle.ruu_words.specs.declared.rule.Draft.{Draft}
+use Rattle.ruu_words.specs.declared.rule.Draft.TheVariants.{Nothing}
+use Rattle.ruu_words.specs.declared.rule.Role.TheVariants.{Front}
+use Rattle.ruu_words.specs.declared.rule.View.{View}
+use Rattle.ruu_words.specs.Content.{IsStation}
+use Rattle.ruu_words.specs.Fields.{tag_of, value_of}
+use Rattle.ruu_words.specs.Kinds.{IsAny, IsTenant}
+use Rattle.ruu_words.specs.Rule.{Grows}
+use Rattle.ruu_words.proofs.Building.{changes}
+use Rattle.ruu_words.proofs.General.{Plan, Plans}
+use Rattle.ruu_words.proofs.StationWords.{its_word, one_at, still_live}
+use Rattle.ruu_words.proofs.Stays.{any_stays, front_stays}
+use Rattle.station.specs.Letting.{IsFronts}
+use Rattle.station.specs.Recovery.{HasMiss, IsMended, Mends}
+use Rattle.station.specs.Seats.{IsSeated}
+use Rattle.station.proofs.Adding.{adds_on, adds_these}
+use Rattle.station.proofs.Seated.{how_many_same, next_stays}
+
+mended_word : (t : Tenant) (k x n : ℕ) (f : Fate) → f ≡ Miss x → t.standing ≡ Live → IsStation (live_word t.tag (Done x)) n → IsStation (word_of k (Some (mended_as t f))) n
+mended_word t k x n f e live w = subst (λ f. IsStation (word_of k (Some (mended_as t f))) n) (sym e) (still_live t.standing k t.tag (Done x) t.made n live w)
+
+module _ (P : Program) (C : Sizes) where
+  -- a miss that the front has seen is still there
+  pub miss_on : (s g x : ℕ) (more seen : List Entry) → IsLegal P C (more ++ seen) → own front more ≡ [] → HasMiss P C seen s g x → HasMiss P C (more ++ seen) s g x
+  miss_on s g x more seen legal none m = record {
+    p = m.p;
+    named = any_stays P C m.p s g more seen legal m.named;
+    can = front_stays P C (λ U. CanMend U m.p x) (λ U by st b a ok q. mend_stays P C U by st b a ok m.p x q) more seen legal none m.can;
+  }
+
+  pub mends_plan : (id : ℕ) (v : View) (s g x new : ℕ) → id ≡ front → v.draft ≡ Nothing → HasMiss P C v.seen s g x → IsStation (live_word g (Done x)) new → Plans P C id v (Station s) (λ _. new) (λ _. Mends P C s)
+  mends_plan id v s g x new is_front none miss word between d legal apart caller mine draft n small content =
+      let h : List Entry = between ++ v.seen in
+      let U : UpdateUnit = unit_of P C h in
+      let now : HasMiss P C h s g x = miss_on s g x between v.seen legal (subst (λ z. own z between ≡ []) is_front apart) miss in
+      let p : ℕ = now.p in
+      let c : CanMend U p x = now.can in
+      let t : Tenant = c.miss.tenant in
+      let one : now.named.tenant ≡ t = one_at P C h legal p now.named.tenant t now.named.is c.miss.is in
+      let at_s : t.station ≡ s = ap (λ (z : Tenant). z.station) (sym one) ∙ now.named.station_is in
+      let tag : t.tag ≡ g = ap (λ (z : Tenant). z.tag) (sym one) ∙ now.named.tag_is in
+      let quiet : d ≡ Nothing = sym (mine is_front) ∙ none in
+      let fits : IsStation (live_word t.tag (Done x)) new = subst (λ (z : ℕ). IsStation (live_word z (Done x)) new) (sym tag) word in
+      subst (λ z. Plan P C id h d (Station z) new (Mends P C s)) at_s
+      (changes P C id h d legal draft p Mend t tt (inl quiet) is_front (record { tenant = t; is = c.miss.is; may = may_mend U p x c }) c.miss.is new
+      (mended_word t (suc t.tag) x new t.fate c.miss.fact.fate c.miss.fact.live fits)
+      (Mends P C s) (record { tag = g; next = x; miss = now; added = refl; draft = quiet }))
+
+  -- the word that a look at it finds
+  pub miss_word : (h : List Entry) → IsLegal P C h → (s g x n : ℕ) → HasMiss P C h s g x → IsStation (station_word C (recent (unit_of P C h)) s) n → (tag_of n ≡ g) × (value_of n ≡ x)
+  miss_word h legal s g x n m word =
+      let t : Tenant = m.can.miss.tenant in
+      let one : m.named.tenant ≡ t = one_at P C h legal m.p m.named.tenant t m.named.is m.can.miss.is in
+      let at_s : t.station ≡ s = ap (λ (z : Tenant). z.station) (sym one) ∙ m.named.station_is in
+      let w = its_word P C h legal m.p s n t m.can.miss.is at_s m.can.miss.fact.live word in
+      let it : IsStation (live_word t.tag (Miss x)) n = subst (λ f. IsStation (live_word t.tag f) n) m.can.miss.fact.fate w in
+      (it.tag ∙ (ap (λ (z : Tenant). z.tag) (sym one) ∙ m.named.tag_is), it.value)
+
+  -- mending leaves the path
+  pub next_after : (U : UpdateUnit) (by p : ℕ) → Allowed P C U by (On p Mend) → next_station C (recent (applied P C U by (On p Mend))) ≡ next_station C (recent U)
+  next_after U by p a =
+      let us = U.tenants in
+      let t = a.tenant in
+      let ts = older us p in
+      let ys = younger us p in
+      let same = ap stands_on_path (mended_station t t.fate).1 in
+      ap (λ n. n % C.ring) (ap (how_many on_path) (parts P us by p Mend t a.is) ∙ (how_many_same on_path t (mended t) ts ys same ∙ sym (ap (how_many on_path) (split_at us p t a.is))))
+
+  -- the look and the write together
+  pub mended_out : (by s : ℕ) (v0 v1 w : View) (Kind : List Entry → Draft → List Event → Type 0) (g1 : Grows P C by v0 v1 Kind) → g1.events ≡ [] → Grows P C by v1 w (Mends P C s) → IsMended P C by s v0.seen w.seen
+  mended_out by s v0 v1 w Kind g1 none g2 =
+      let m = g2.kind in
+      record {
+        point = g2.between ++ v1.seen;
+        tag = m.tag;
+        next = m.next;
+        miss = m.miss;
+        adds = adds_on P C by v0.seen v1.seen w.seen [] (Does (On m.miss.p Mend) ∷ []) (adds_these P C by v0 v1 Kind [] g1 none) (adds_these P C by v1 w (Mends P C s) (Does (On m.miss.p Mend) ∷ []) g2 m.added);
+      }
+
+  station_on : (more seen : List Entry) → IsLegal P C (more ++ seen) → own front more ≡ [] → next_station C (recent (unit_of P C (more ++ seen))) ≡ next_station C (recent (unit_of P C seen))
+  station_on more seen legal none = front_stays P C (λ U. next_station C (recent U) ≡ next_station C (recent (unit_of P C seen))) (λ U b st ok a sound q. next_stays P C U b st ok a sound ∙ q) more seen legal none refl
+
+  -- the front's next station stays
+  pub next_out : (by s : ℕ) (v0 v1 w : View) (Kind : List Entry → Draft → List Event → Type 0) (g1 : Grows P C by v0 v1 Kind) → g1.events ≡ [] → Grows P C by v1 w (Mends P C s) → by ≡ front
+      → next_station C (recent (unit_of P C w.seen)) ≡ next_station C (recent (unit_of P C v0.seen))
+  next_out by s v0 v1 w Kind g1 none g2 is =
+      let seen1 : v1.seen ≡ g1.between ++ v0.seen = g1.is ∙ ap (λ es. map (entry by) es ++ (g1.between ++ v0.seen)) none in
+      let h : List Entry = g2.between ++ v1.seen in
+      let p : ℕ = g2.kind.miss.p in
+      let seen2 : w.seen ≡ entry by (Does (On p Mend)) ∷ h = g2.is ∙ ap (λ es. map (entry by) es ++ h) g2.kind.added in
+      let legal2 : IsLegal P C (entry by (Does (On p Mend)) ∷ h) = subst (IsLegal P C) seen2 g2.legal in
+      let legal1 : IsLegal P C (g1.between ++ v0.seen) = subst (IsLegal P C) seen1 g1.legal in
+      let none1 : own front g1.between ≡ [] = subst (λ i. own i g1.between ≡ []) is g1.not_own in
+      let none2 : own front g2.between ≡ [] = subst (λ i. own i g2.between ≡ []) is g2.not_own in
+      ap (λ z. next_station C (recent (unit_of P C z))) seen2
+      ∙ (next_after (unit_of P C h) by p legal2.1.1
+      ∙ (station_on g2.between v1.seen legal2.0 none2
+      ∙ (ap (λ z. next_station C (recent (unit_of P C z))) seen1
+      ∙ station_on g1.between v0.seen legal1 none1)))
+
+-- the front's seat behind it
+pub seated_mended : (P : Program) (C : Sizes) (by station s : ℕ) (old : List Entry) (me : Me ℕ View) → station ≡ next_station C (recent (unit_of P C old)) → IsFronts by Nothing me → me.1 ≡ [] → IsMended P C by s old me.0.seen
+    → next_station C (recent (unit_of P C me.0.seen)) ≡ next_station C (recent (unit_of P C old)) → IsSeated P C Front by station me
+seated_mended P C by station s old me is fronts slots out next = record {
+  role_is = fronts.role;
+  slots = slots;
+  legal = out.adds.legal;
+  knows = (fronts.by_is, fronts.draft_is, is ∙ sym next);
+}

@@ -1,0 +1,42 @@
+-- Mending a miss.
+use Rattle.std.specs.Prelude.{◌≡◌, ℕ, List, [], ◌∷◌}
+use Rattle.isa.specs.Programs.{Program}
+use Rattle.inorder.specs.declared.history.Act.TheVariants.{Mend}
+use Rattle.inorder.specs.declared.history.Entry.{Entry}
+use Rattle.inorder.specs.declared.history.Event.{Event}
+use Rattle.inorder.specs.declared.history.Event.TheVariants.{Does}
+use Rattle.inorder.specs.declared.history.Step.TheVariants.{On}
+use Rattle.inorder.specs.Callers.{CanMend}
+use Rattle.inorder.specs.History.{Adds, unit_of}
+use Rattle.inorder.specs.Unit.{Sizes, next_station, recent}
+use Rattle.ruu_words.specs.declared.rule.Draft.{Draft}
+use Rattle.ruu_words.specs.declared.rule.Draft.TheVariants.{Nothing}
+use Rattle.ruu_words.specs.Kinds.{IsAny, IsTenant}
+
+-- In what was seen the station's tenant with this tag is a miss that goes on at `next`, and the
+-- youngest live tenant
+pub record HasMiss (P : Program) (C : Sizes) (seen : List Entry) (station tag next : ℕ) : Type 0 where
+  pub p : ℕ
+  pub named : IsTenant (unit_of P C seen) p station tag IsAny
+  pub can : CanMend (unit_of P C seen) p next
+
+pub record SeesMiss (P : Program) (C : Sizes) (seen : List Entry) (station : ℕ) : Type 0 where
+  pub tag : ℕ
+  pub next : ℕ
+  pub miss : HasMiss P C seen station tag next
+
+-- What the write tells: the miss was mended, and no let is in progress
+pub record Mends (P : Program) (C : Sizes) (s : ℕ) (h : List Entry) (d : Draft) (events : List Event) : Type 0 where
+  pub tag : ℕ
+  pub next : ℕ
+  pub miss : HasMiss P C h s tag next
+  pub added : events ≡ Does (On miss.p Mend) ∷ []
+  pub draft : d ≡ Nothing
+
+-- The station's miss was mended
+pub record IsMended (P : Program) (C : Sizes) (by station : ℕ) (old new : List Entry) : Type 0 where
+  pub point : List Entry
+  pub tag : ℕ
+  pub next : ℕ
+  pub miss : HasMiss P C point station tag next
+  pub adds : Adds P C by old new (Does (On miss.p Mend) ∷ [])

@@ -1,0 +1,36 @@
+//! The writes with which the front ends a miss.
+ghost use Rattle.std.specs.Prelude.{◌≡◌, ◌<◌};
+ghost use Rattle.inorder.specs.StationWords.{live_word};
+ghost use Rattle.inorder.specs.Tenants.{Done};
+ghost use Rattle.ruu_words.specs.declared.rule.Draft.TheVariants.{Nothing};
+ghost use Rattle.ruu_words.specs.Content.{IsStation};
+ghost use Rattle.ruu_words.specs.Fields.{tag_of, value_of};
+ghost use Rattle.ruu_words.specs.Rule.{sizes_of};
+ghost use Rattle.station.specs.Letting.{IsFronts};
+ghost use Rattle.station.specs.Recovery.{HasMiss, Mends};
+ghost use Rattle.station.specs.Steps.{Grown, IsAt};
+
+use super::{Words, swap};
+use atomic_table::Seat;
+use ruu_words::Place;
+use ruu_words::rule::View;
+use std::marker::Brand;
+
+/// Swaps the word of a miss for that of a tenant that is done.
+pub(crate) fn mend_tenant(
+    words: &Words,
+    ring: usize,
+    seat: &mut Seat<u8, View>,
+    station: usize,
+    word: u64,
+)
+    requires of { IsAt words.now.table_id words.now.key ring seat.old.table_id }
+    requires place { station < ring }
+    requires front { IsFronts seat.old.id Nothing seat.old.me }
+    requires word { IsStation (live_word (tag_of word) (Done (value_of word))) word }
+    requires miss { HasMiss words.now.key.program (sizes_of words.now.key) seat.old.me.0.seen station (tag_of word) (value_of word) }
+    ensures same { (seat.new.table_id ≡ seat.old.table_id) × (seat.new.id ≡ seat.old.id) }
+    ensures step { Grown words.now.key seat.old.id seat.old.me seat.new.me (Mends words.now.key.program (sizes_of words.now.key) station) }
+{
+    swap::<Brand, usize>(words, ring, seat, Place::Station(station), word, station);
+}
