@@ -12,6 +12,8 @@ mod recovery;
 mod retire;
 mod source;
 mod station;
+#[cfg(test)]
+mod tests;
 mod window;
 
 pub use bench::{Bench, Turn};
