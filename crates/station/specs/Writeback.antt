@@ -9,7 +9,8 @@ use Rattle.inorder.specs.OperandWords.{OperandWord}
 use Rattle.inorder.specs.Replies.{IsStale}
 use Rattle.inorder.specs.Tenants.{Tenant}
 use Rattle.inorder.specs.Unit.{Sizes}
-use Rattle.ruu_words.specs.Kinds.{HasLink, HasMade, IsAny, IsTenant}
+use Rattle.ruu_words.specs.Kinds.{HasLink, IsAny, IsTenant}
+use Rattle.inorder.specs.Callers.{HasMade}
 
 -- In what was seen there is a tenant of this station and tag, and this is true of it
 pub record HasTenant (P : Program) (C : Sizes) (seen : List Entry) (station tag : ℕ) (Fact : Tenant → Type 0) : Type 0 where
