@@ -1,5 +1,5 @@
 -- A source that is given at a let.
-use Rattle.std.proofs.Common.{◌≡◌, ℕ, Option}
+use Rattle.std.proofs.Common.{ℕ, Option}
 use Rattle.inorder.specs.Steps.{let_operand}
 use Rattle.ruu_words.specs.Content.{IsOperandOf}
 use Rattle.station.specs.declared.answers.Supply.{Supply as Given}

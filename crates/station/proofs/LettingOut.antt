@@ -1,12 +1,11 @@
 -- The steps of a let, one after another: what the front knew stays true up to the last.
-use Rattle.std.proofs.Common.{◌≡◌, ℕ, suc, ◌+◌, ◌%◌, ◌<◌, ◌≤◌, List, [], ◌∷◌, ◌++◌, map, refl, sym, ap, ◌∙◌, subst, arith}
+use Rattle.std.proofs.Common.{◌≡◌, ℕ, suc, ◌+◌, ◌%◌, ◌<◌, List, [], ◌∷◌, ◌++◌, map, refl, sym, ap, ◌∙◌, subst, arith}
 use Rattle.std.proofs.Math.Nat.{mod-add-mod}
 use Rattle.atomic_table.specs.Table.{Me}
 use Rattle.isa.specs.Programs.{Program}
 use Rattle.inorder.specs.declared.history.Entry.{Entry}
 use Rattle.inorder.specs.declared.history.Event.{Event}
-use Rattle.inorder.specs.declared.history.Step.TheVariants.{Let}
-use Rattle.inorder.specs.History.{Adds, IsLegal, StartsWith, entry, front, own, taken_of, unit_of}
+use Rattle.inorder.specs.History.{Adds, IsLegal, entry, front, own, taken_of, unit_of}
 use Rattle.inorder.specs.Replies.{last_tag}
 use Rattle.inorder.specs.StationWords.{station_word}
 use Rattle.inorder.specs.Tenants.{on_path}

@@ -1,5 +1,5 @@
 -- The steps of mending a miss.
-use Rattle.std.proofs.Common.{◌≡◌, ℕ, suc, ◌%◌, List, [], ◌∷◌, ◌++◌, map, cond, Some, refl, sym, ap, ◌∙◌, subst, inl}
+use Rattle.std.proofs.Common.{◌≡◌, ℕ, suc, ◌%◌, List, [], ◌∷◌, ◌++◌, map, Some, refl, sym, ap, ◌∙◌, subst, inl}
 use Rattle.atomic_table.specs.Table.{Me}
 use Rattle.isa.specs.Programs.{Program}
 use Rattle.inorder.specs.declared.history.Act.TheVariants.{Mend}
@@ -8,7 +8,7 @@ use Rattle.inorder.specs.declared.history.Event.{Event}
 use Rattle.inorder.specs.declared.history.Event.TheVariants.{Does}
 use Rattle.inorder.specs.declared.history.Step.TheVariants.{On}
 use Rattle.inorder.specs.Callers.{CanMend}
-use Rattle.inorder.specs.History.{Adds, IsLegal, entry, front, own, unit_of}
+use Rattle.inorder.specs.History.{IsLegal, entry, front, own, unit_of}
 use Rattle.inorder.specs.Legal.{Allowed, applied}
 use Rattle.inorder.specs.StationWords.{live_word, station_word, word_of}
 use Rattle.inorder.specs.Steps.{mended, mended_as}
@@ -25,7 +25,6 @@ use Rattle.ruu_words.specs.declared.rule.Role.TheVariants.{Front}
 use Rattle.ruu_words.specs.declared.rule.View.{View}
 use Rattle.ruu_words.specs.Content.{IsStation}
 use Rattle.ruu_words.specs.Fields.{tag_of, value_of}
-use Rattle.ruu_words.specs.Kinds.{IsAny, IsTenant}
 use Rattle.ruu_words.specs.Rule.{Grows}
 use Rattle.ruu_words.proofs.Building.{changes}
 use Rattle.ruu_words.proofs.General.{Plan, Plans}

@@ -1,5 +1,5 @@
 -- What info words and operand words say.
-use Rattle.std.proofs.Common.{◌≡◌, ℕ, zero, suc, ◌/◌, ◌%◌, List, Option, Some, None, refl, sym, ap, ◌∙◌, subst, arith}
+use Rattle.std.proofs.Common.{◌≡◌, ℕ, List, Option, Some, None, refl, sym, ap, ◌∙◌, subst, arith}
 use Rattle.isa.specs.Programs.{Program}
 use Rattle.inorder.specs.declared.history.Entry.{Entry}
 use Rattle.inorder.specs.declared.history.Source.{Source}
@@ -7,7 +7,7 @@ use Rattle.inorder.specs.declared.history.Source.TheVariants.{First}
 use Rattle.inorder.specs.History.{IsLegal, unit_of}
 use Rattle.inorder.specs.OperandWords.{OperandWord, operand_word, operand_word_of}
 use Rattle.inorder.specs.StationWords.{last_of}
-use Rattle.inorder.specs.Tenants.{Live, Tenant, operand}
+use Rattle.inorder.specs.Tenants.{Live, Tenant}
 use Rattle.inorder.specs.Unit.{Sizes, at, recent}
 use Rattle.ruu_words.specs.declared.rule.Draft.{Draft}
 use Rattle.ruu_words.specs.declared.rule.Draft.TheVariants.{Nothing, Of}

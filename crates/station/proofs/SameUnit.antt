@@ -1,5 +1,5 @@
 -- The program and the sizes of a call are those of its core, of its table and of its seat.
-use Rattle.std.proofs.Common.{◌≡◌, ℕ, ◌+◌, ◌*◌, ◌<◌, ◌≤◌, List, sym, ap, ◌∙◌, arith}
+use Rattle.std.proofs.Common.{◌≡◌, ℕ, ◌+◌, ◌*◌, ◌<◌, ◌≤◌, List, ap, ◌∙◌, arith}
 use Rattle.atomic_table.specs.Seated.{TableId}
 use Rattle.isa.specs.Programs.{Program}
 use Rattle.inorder.specs.declared.history.Entry.{Entry}

@@ -13,7 +13,7 @@ use Rattle.inorder.specs.Replies.{last_tag}
 use Rattle.inorder.specs.Steps.{MayLet}
 use Rattle.inorder.specs.Unit.{Sizes, UpdateUnit, next_station, next_tag, recent}
 use Rattle.ruu_words.specs.declared.rule.Draft.{Draft}
-use Rattle.ruu_words.specs.declared.rule.Draft.TheVariants.{Nothing, Of}
+use Rattle.ruu_words.specs.declared.rule.Draft.TheVariants.{Of}
 use Rattle.ruu_words.specs.declared.rule.Role.TheVariants.{Front}
 use Rattle.ruu_words.specs.declared.rule.Stage.{Stage}
 use Rattle.ruu_words.specs.declared.rule.View.{View}

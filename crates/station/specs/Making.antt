@@ -2,7 +2,7 @@
 use Rattle.std.specs.Prelude.{◌≡◌, ℕ, ◌≤◌, ◌<◌, []}
 use Rattle.isa.specs.Programs.{Program}
 use Rattle.isa.specs.Settings.{Settings}
-use Rattle.inorder.specs.History.{back, front}
+use Rattle.inorder.specs.History.{front}
 use Rattle.inorder.specs.Replies.{last_tag}
 use Rattle.ruu_words.specs.declared.rule.Setup.{Setup}
 use Rattle.ruu_words.specs.Places.{words_for}

@@ -8,7 +8,7 @@ use Rattle.inorder.specs.declared.history.Event.TheVariants.{Does}
 use Rattle.inorder.specs.declared.history.Step.TheVariants.{On}
 use Rattle.inorder.specs.Callers.{CanMend}
 use Rattle.inorder.specs.History.{Adds, unit_of}
-use Rattle.inorder.specs.Unit.{Sizes, next_station, recent}
+use Rattle.inorder.specs.Unit.{Sizes}
 use Rattle.ruu_words.specs.declared.rule.Draft.{Draft}
 use Rattle.ruu_words.specs.declared.rule.Draft.TheVariants.{Nothing}
 use Rattle.ruu_words.specs.Kinds.{IsAny, IsTenant}

@@ -1,4 +1,4 @@
-use Rattle.std.proofs.Common.{◌≡◌, ℕ, List, [], ◌∷◌, ◌++◌, map, refl, sym, ap, ◌∙◌, subst}
+use Rattle.std.proofs.Common.{◌≡◌, ℕ, List, ◌++◌, map, refl, sym, ap, ◌∙◌, subst}
 use Rattle.atomic_table.specs.Table.{Me}
 use Rattle.inorder.specs.declared.history.Entry.{Entry}
 use Rattle.inorder.specs.History.{entry, unit_of}
@@ -12,7 +12,7 @@ use Rattle.ruu_words.specs.declared.rule.View.{View}
 use Rattle.ruu_words.specs.Content.{IsOperandOf, IsStation}
 use Rattle.ruu_words.specs.Kinds.{Drafts, Lets}
 use Rattle.ruu_words.specs.Rule.{Grows, sizes_of}
-use Rattle.station.specs.Letting.{IsLetOut, draft_of, given_value, supply_of}
+use Rattle.station.specs.Letting.{draft_of, given_value, supply_of}
 use Rattle.station.specs.Steps.{Sees}
 use Rattle.station.proofs.LettingOut.{Ready, goes_from, lets_out, starts, tag_found}
 use Rattle.station.proofs.dispatch.dispatch.Goals as goal

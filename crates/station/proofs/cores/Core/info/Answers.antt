@@ -1,4 +1,4 @@
-use Rattle.std.proofs.Common.{◌≡◌, ℕ, sym, subst}
+use Rattle.std.proofs.Common.{ℕ, sym, subst}
 use Rattle.station.specs.Looking.{SeesInfo}
 use Rattle.station.proofs.Reading.{sees_info}
 use Rattle.station.proofs.cores.Core.info.Goals as goal

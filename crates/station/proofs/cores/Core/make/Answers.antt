@@ -1,5 +1,5 @@
-use Rattle.std.proofs.Common.{◌≡◌, ℕ, ◌<◌, ◌*◌, ◌+◌, sym, ap, ◌∙◌, subst, rules, arith, length}
-use Rattle.ruu_words.specs.declared.rule.Role.TheVariants.{Front, Start}
+use Rattle.std.proofs.Common.{◌≡◌, sym, ap, ◌∙◌, subst, rules, length}
+use Rattle.ruu_words.specs.declared.rule.Role.TheVariants.{Front}
 use Rattle.ruu_words.specs.Rule.{IsAlive, IsStart, opening_of, sizes_of}
 use Rattle.ruu_words.proofs.Opening.{opens_first}
 use Rattle.ruu_words.proofs.Views.{splits_back, splits_unit}

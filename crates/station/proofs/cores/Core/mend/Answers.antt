@@ -1,4 +1,4 @@
-use Rattle.std.proofs.Common.{◌≡◌, ℕ, ◌+◌, ◌%◌, sym, ap, ◌∙◌, subst}
+use Rattle.std.proofs.Common.{◌≡◌, ℕ, sym, ◌∙◌, subst}
 use Rattle.ruu_words.specs.declared.rule.Role.TheVariants.{Front}
 use Rattle.ruu_words.specs.Rule.{sizes_of}
 use Rattle.station.specs.Seats.{IsSeated}

@@ -6,7 +6,7 @@ use Rattle.ruu_words.specs.declared.rule.View.{View}
 use Rattle.ruu_words.specs.declared.place.Place.TheVariants.{Station}
 use Rattle.ruu_words.specs.Rule.{opening_of, sizes_of}
 use Rattle.ruu_words.proofs.Views.{joins, splits_unit}
-use Rattle.station.specs.Seats.{Caller, IsSeated}
+use Rattle.station.specs.Seats.{IsSeated}
 use Rattle.station.specs.Steps.{Sees}
 use Rattle.station.proofs.Adding.{adds_these}
 use Rattle.station.proofs.SameUnit.{Unit_of, not_empty, of_seat, of_table, unit_at}

@@ -1,8 +1,8 @@
-use Rattle.std.proofs.Common.{◌≡◌, ℕ, sym, subst}
+use Rattle.std.proofs.Common.{sym, subst}
 use mathlib.Core.Option.{none}
 use Rattle.atomic_table.specs.Table.{step}
 use Rattle.inorder.specs.History.{unit_of}
-use Rattle.ruu_words.specs.declared.rule.Stage.TheVariants.{BothOperands, FirstOperand, Info as InfoAlone}
+use Rattle.ruu_words.specs.declared.rule.Stage.TheVariants.{Info as InfoAlone}
 use Rattle.ruu_words.specs.declared.place.Place.TheVariants.{Info}
 use Rattle.ruu_words.specs.Kinds.{Drafts}
 use Rattle.ruu_words.specs.Places.{index}

@@ -1,4 +1,4 @@
-use Rattle.ruu_words.specs.declared.rule.Stage.TheVariants.{BothOperands, FirstOperand, Info as InfoAlone}
+use Rattle.ruu_words.specs.declared.rule.Stage.TheVariants.{Info as InfoAlone}
 use Rattle.ruu_words.specs.Kinds.{Drafts}
 use Rattle.ruu_words.specs.Rule.{Tells, sizes_of}
 use Rattle.station.specs.Letting.{draft_of}

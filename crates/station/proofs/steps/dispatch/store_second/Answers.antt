@@ -1,9 +1,9 @@
-use Rattle.std.proofs.Common.{◌≡◌, ℕ, sym, subst}
+use Rattle.std.proofs.Common.{sym, subst}
 use mathlib.Core.Option.{none}
 use Rattle.atomic_table.specs.Table.{step}
-use Rattle.inorder.specs.declared.history.Source.TheVariants.{First, Second}
+use Rattle.inorder.specs.declared.history.Source.TheVariants.{Second}
 use Rattle.inorder.specs.History.{unit_of}
-use Rattle.ruu_words.specs.declared.rule.Stage.TheVariants.{BothOperands, FirstOperand, Info as InfoAlone}
+use Rattle.ruu_words.specs.declared.rule.Stage.TheVariants.{BothOperands}
 use Rattle.ruu_words.specs.declared.place.Place.TheVariants.{Operand}
 use Rattle.ruu_words.specs.Kinds.{Drafts}
 use Rattle.ruu_words.specs.Places.{index}
