@@ -46,7 +46,13 @@ fn a_chain_of_additions_takes_these_turns(rt: HostRuntime) -> Result<(), Fail> {
 
 #[test]
 fn no_instruction_is_over_at_once(rt: HostRuntime) -> Result<(), Fail> {
-    takes_turns(&rt, rt.alloc(), b"", &config(16, 8)?, &[Turn::Over(Stop::BadPc)])
+    takes_turns(
+        &rt,
+        rt.alloc(),
+        b"",
+        &config(16, 8)?,
+        &[Turn::Over(Stop::BadPc)],
+    )
 }
 
 #[test]
@@ -102,7 +108,8 @@ fn same_end(rt: &impl Abort, alloc: Global, program: &Program, ring: u64) -> Res
 
 #[test]
 fn a_loop_of_calls_and_stores_ends_as_in_order(rt: HostRuntime) -> Result<(), Fail> {
-    let listing = b".space 8\nori $1,$0,20\nL: sw $1,0($0)\nsb $1,1($0)\nlw $2,0($0)\naddu $3,$3,$2\nsw $3,4($0)\nlhu $4,6($0)\njal F\naddiu $1,$1,-1\nbne $1,$0,L\nbreak\nF: xor $6,$6,$4\njr $ra\n";
+    let listing =
+        b".space 8\nori $1,$0,20\nL: sw $1,0($0)\nsb $1,1($0)\nlw $2,0($0)\naddu $3,$3,$2\nsw $3,4($0)\nlhu $4,6($0)\njal F\naddiu $1,$1,-1\nbne $1,$0,L\nbreak\nF: xor $6,$6,$4\njr $ra\n";
     let program = parse(rt.alloc(), listing)?;
     for ring in [2, 4, 8, 16, 32] {
         same_end(&rt, rt.alloc(), &program, ring)?;
