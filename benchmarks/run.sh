@@ -25,7 +25,10 @@ for program in loop mixed; do
   ratio "in-order machine, $program" "$here" "$(least 3 "$work/interpreter")"
 done
 
-python3 benchmarks/listing.py > "$work/listing.s"
 cc -O2 -o "$work/split" benchmarks/split.c
-here=$(least 2 sh -c "crates/speed/out/speed < $work/listing.s")
-ratio "parser, 4 MB of labels" "$here" "$(least 3 "$work/split" "$work/listing.s")"
+for width in 40 12; do
+  python3 benchmarks/listing.py $width > "$work/listing.s"
+  labels=$(grep -c : "$work/listing.s")
+  here=$(least 2 sh -c "crates/speed/out/speed < $work/listing.s")
+  ratio "parser, $labels labels" "$here" "$(least 3 "$work/split" "$work/listing.s")"
+done

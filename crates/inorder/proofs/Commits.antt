@@ -11,7 +11,7 @@ use Rattle.inorder.specs.declared.history.Step.TheVariants.{Let, On}
 use Rattle.inorder.specs.Committed.{commits, commits_by, committed, with_tenant}
 use Rattle.inorder.specs.Laws.{HistoryGrows, IsNoRetire, OnlyRetirementsCommit}
 use Rattle.inorder.specs.Legal.{Allowed, AreAllowed, May, Taken, applied, changed, reached}
-use Rattle.inorder.specs.Machine.{State, step}
+use Rattle.inorder.specs.Machine.{State}
 use Rattle.inorder.specs.Runs.{after}
 use Rattle.inorder.specs.Steps.{finished, mended_as, retired}
 use Rattle.inorder.specs.Tenants.{Addr, Busy, Done, Fate, Live, Miss, Open, Stopped, Tenant, computed, stands_on_path}

@@ -1,10 +1,9 @@
 -- A tenant that is linked or gets a value stays sound, and grows.
-use Rattle.std.proofs.Common.{◌≡◌, ◌≢◌, ℕ, Bool, true, false, cond, eqb, List, [], ◌∷◌, ◌++◌, length, Option, Some, None, Ok, Err, refl, sym, ap, ◌∙◌, subst, true≢false, eqb-true, subst₂}
-use Rattle.std.specs.List.{AllByRecursion}
-use Rattle.std.specs.Prelude.{unwrap_or, Result, IfSome}
+use Rattle.std.proofs.Common.{◌≡◌, ◌≢◌, ℕ, Bool, true, false, List, length, Option, Some, None, refl, sym, ap, ◌∙◌, subst, subst₂}
+use Rattle.std.specs.Prelude.{unwrap_or}
 use Rattle.isa.specs.Instruction.{kind, width}
 use Rattle.isa.specs.Operations.{outcome_by}
-use Rattle.isa.specs.Programs.{Program, address, instr_of}
+use Rattle.isa.specs.Programs.{Program, instr_of}
 use Rattle.isa.specs.declared.instr.Instr.{Instr}
 use Rattle.isa.specs.declared.op.Kind.{Kind}
 use Rattle.isa.specs.declared.op.Kind.TheVariants.{Computes, Jumps, Links, Loads, Stores}
@@ -12,7 +11,7 @@ use Rattle.isa.specs.declared.stop.Outcome.{Outcome}
 use Rattle.inorder.specs.declared.history.Source.{Source}
 use Rattle.inorder.specs.declared.history.Source.TheVariants.{First, Second}
 use Rattle.inorder.specs.Memory.{Stored, stored, stored_by}
-use Rattle.inorder.specs.Steps.{CanRetire, HasAddress, MayDeliver, delivered, linked, settled}
+use Rattle.inorder.specs.Steps.{CanRetire, HasAddress, MayDeliver, delivered, linked}
 use Rattle.inorder.specs.Tenants.{Addr, Busy, Done, Fate, Live, Miss, Open, Retired, Standing, Stopped, Tenant, computed, instr, kind_of, on_path, operand_value, stands_on_path}
 use Rattle.inorder.specs.Unit.{value_of}
 use Rattle.inorder.proofs.Grows.{Grows, MadeGrows, StoredGrows}

@@ -205,7 +205,7 @@ can_more k k' b b' (Miss x) e g c = absurd c
 can_more k k' b b' (Stopped x) e g c = tt
 
 -- a retired tenant keeps its fate, and none retires here
-retired_on : (P : Program) (by : ℕ) (act : Act) (ys : List Tenant) (t : Tenant) (ts : List Tenant) → IsNotBacksAct act → May P by act ys t ts → (changed P by act t ts).standing ≡ Retired → (t.standing ≡ Retired) × ((changed P by act t ts).fate ≡ t.fate)
+pub retired_on : (P : Program) (by : ℕ) (act : Act) (ys : List Tenant) (t : Tenant) (ts : List Tenant) → IsNotBacksAct act → May P by act ys t ts → (changed P by act t ts).standing ≡ Retired → (t.standing ≡ Retired) × ((changed P by act t ts).fate ≡ t.fate)
 retired_on P by (Link First) ys t ts b m e = (e, refl)
 retired_on P by (Link Second) ys t ts b m e = (e, refl)
 retired_on P by (Deliver First) ys t ts b m e = (e, refl)

@@ -1,7 +1,6 @@
 -- A tenant that is claimed, finished or loaded stays sound, and grows.
-use Rattle.std.proofs.Common.{◌≡◌, ◌≢◌, ℕ, Bool, true, false, cond, eqb, List, [], ◌∷◌, ◌++◌, length, Option, Some, None, Ok, Err, refl, sym, ap, ◌∙◌, subst, true≢false, eqb-true, subst₂}
-use Rattle.std.specs.List.{AllByRecursion}
-use Rattle.std.specs.Prelude.{unwrap_or, Result, IfSome}
+use Rattle.std.proofs.Common.{◌≡◌, ◌≢◌, ℕ, Bool, true, false, cond, eqb, List, Option, Some, None, Ok, Err, refl, sym, ap, ◌∙◌, subst, eqb-true}
+use Rattle.std.specs.Prelude.{unwrap_or, Result}
 use Rattle.isa.specs.Operations.{as_address, as_value, loaded, outcome_by}
 use Rattle.isa.specs.Programs.{Program}
 use Rattle.isa.specs.declared.instr.Instr.{Instr}

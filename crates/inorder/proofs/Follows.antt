@@ -1,8 +1,6 @@
 -- What a sound unit has committed is in order.
-use Rattle.std.proofs.Common.{◌≡◌, ◌≢◌, ◌⊎◌, ℕ, zero, suc, ◌+◌, ◌-◌, ◌%◌, ◌<◌, ◌≤◌, Bool, true, false, cond, ◌&&◌, eqb, leb, ltb, List, [], ◌∷◌, length, replicate, Option, Some, None, Ok, Err, refl, sym, ap, ◌∙◌, subst, inl, inr, ⊎_elim, arith, true≢false, eqb-true, false-eqb, leb-true, ltb-true, leb-false, ltb-false}
+use Rattle.std.proofs.Common.{◌≡◌, ℕ, Bool, true, false, eqb, List, [], ◌∷◌, length, Some, refl, sym, ap, ◌∙◌, subst, ⊎_elim, true≢false}
 use Rattle.std.specs.List.{AllByRecursion}
-use Rattle.std.specs.Prelude.{unwrap_or, slice_index, option_map, Result}
-use Rattle.std.proofs.lemmas.List.{length-replicate, get_or_past}
 use Rattle.isa.specs.Programs.{Program}
 use Rattle.isa.specs.declared.stop.Stop.{Stop}
 use Rattle.inorder.specs.Committed.{commits, commits_by, committed, with_tenant}

@@ -7,7 +7,6 @@ use Rattle.inorder.specs.declared.history.Act.TheVariants.{Mend, Squash}
 use Rattle.inorder.specs.declared.history.Step.TheVariants.{On}
 use Rattle.inorder.specs.Guards.{IsClaimedOnce, LoadWaits, MissStays, Restores, SquashedStays, StopEnds}
 use Rattle.inorder.specs.Legal.{Allowed, AreAllowed, Taken, applied, reached}
-use Rattle.inorder.specs.Runs.{after}
 use Rattle.inorder.specs.Steps.{CanRetire, HasAddress, IsNoRetiredStop, mended, mended_as, squashed}
 use Rattle.inorder.specs.Tenants.{Busy, IsNotLive, Live, Miss, Retired, Squashed, Standing, Tenant, destination_of, kind_of, on_path, stands_on_path}
 use Rattle.inorder.specs.Unit.{Sizes, at, can_be_written, creator, front_pc, last_writer, older, younger}

@@ -1,8 +1,7 @@
 -- A tenant whose older ones have all left does what the in-order machine does.
-use Rattle.std.proofs.Common.{◌≡◌, ◌≢◌, ◌⊎◌, ℕ, zero, suc, ◌+◌, ◌-◌, ◌%◌, ◌<◌, ◌≤◌, Bool, true, false, cond, ◌&&◌, eqb, leb, ltb, List, [], ◌∷◌, length, replicate, Option, Some, None, Ok, Err, refl, sym, ap, ◌∙◌, subst, inl, inr, ⊎_elim, arith, true≢false, eqb-true, false-eqb, leb-true, ltb-true, leb-false, ltb-false}
+use Rattle.std.proofs.Common.{◌≡◌, ℕ, suc, ◌+◌, ◌%◌, ◌≤◌, Bool, true, false, eqb, leb, List, length, Option, Some, None, Ok, Err, refl, sym, ap, ◌∙◌, subst, arith, leb-true}
 use Rattle.std.specs.List.{AllByRecursion}
-use Rattle.std.specs.Prelude.{unwrap_or, slice_index, option_map, Result}
-use Rattle.std.proofs.lemmas.List.{length-replicate, get_or_past}
+use Rattle.std.specs.Prelude.{unwrap_or, slice_index, Result}
 use Rattle.isa.specs.Instruction.{destination, destination_by, pc_plus_4, width}
 use Rattle.isa.specs.Operations.{as_address, checked_address, loaded, outcome_by}
 use Rattle.isa.specs.Programs.{Program, instr_at}
@@ -12,12 +11,12 @@ use Rattle.isa.specs.declared.op.Kind.TheVariants.{Computes, Jumps, Links, Loads
 use Rattle.isa.specs.declared.stop.Outcome.{Outcome}
 use Rattle.isa.specs.declared.stop.Outcome.TheVariants.{Address, Next, Stop as Stops, Value}
 use Rattle.isa.specs.declared.stop.Stop.{Stop}
-use Rattle.inorder.specs.Committed.{committed, with_stored, with_tenant}
+use Rattle.inorder.specs.Committed.{ahead, committed, with_stored, with_tenant}
 use Rattle.inorder.specs.Machine.{Goes, Halts, State, advanced, after_access, fetched, ran, step, store_bytes, write}
 use Rattle.inorder.specs.Memory.{byte_at, stored, stored_by}
 use Rattle.inorder.specs.Steps.{CanRetire}
 use Rattle.inorder.specs.Tenants.{Addr, Busy, Done, Fate, IsThere, Miss, Open, Operand, Stopped, Tenant, computed, computed_next, destination_of, instr, kind_of, next_by, on_path, operand_value}
-use Rattle.inorder.specs.Unit.{at, creator, value_of}
+use Rattle.inorder.specs.Unit.{creator, value_of}
 use Rattle.lsq.specs.Bytes.{little_endian}
 use Rattle.inorder.proofs.Basics.{fetched_at, number_there}
 use Rattle.inorder.proofs.SettledMemory.{byte_given}
@@ -52,11 +51,11 @@ load_in P t a ek h =
 -- a source that was delivered has its register's value
 pub source_read : (P : Program) → (ts : List Tenant) → IsSound P ts → AllByRecursion IsSettled ts →
     (s : Operand) (r : ℕ) → ValueIs ts s → s.creator ≡ creator P ts r → IsThere s.value →
-    slice_index (committed P ts).registers r ≡ operand_value s
+    slice_index (ahead P ts).registers r ≡ operand_value s
 source_read P ts sound h s r value creates there =
-    let e : Some there.0 ≡ Some (slice_index (committed P ts).registers r) =
+    let e : Some there.0 ≡ Some (slice_index (ahead P ts).registers r) =
     sym (value there.0 there.1) ∙ ap (value_of ts) creates ∙ source_given P ts sound h r in
-    let e' : there.0 ≡ slice_index (committed P ts).registers r = cc e in
+    let e' : there.0 ≡ slice_index (ahead P ts).registers r = cc e in
     sym e' ∙ sym (ap (λ v. unwrap_or v 0) there.1)
 
 -- the outcome of the needed sources
@@ -181,11 +180,11 @@ module _ (P : Program) (ts : List Tenant) (t : Tenant) (sound : IsSound P ts) (h
   pc_same = committed_pc P ts sound h ∙ sym placed.pc
 
   pub first_read : IsThere t.first.value →
-      slice_index (committed P ts).registers (instr P t).first ≡ operand_value t.first
+      slice_index (ahead P ts).registers (instr P t).first ≡ operand_value t.first
   first_read = source_read P ts sound h t.first (instr P t).first own.first placed.first
 
   pub second_read : IsThere t.second.value →
-      slice_index (committed P ts).registers (instr P t).second ≡ operand_value t.second
+      slice_index (ahead P ts).registers (instr P t).second ≡ operand_value t.second
   second_read = source_read P ts sound h t.second (instr P t).second own.second placed.second
 
   pub step_is : Needs (kind_of P t) t.first.value t.second.value →

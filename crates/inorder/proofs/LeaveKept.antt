@@ -1,13 +1,12 @@
 -- A tenant that retires, is squashed or is mended stays sound.
-use Rattle.std.proofs.Common.{◌≡◌, ◌≢◌, ℕ, Bool, true, false, cond, eqb, List, [], ◌∷◌, ◌++◌, length, Option, Some, None, Ok, Err, refl, sym, ap, ◌∙◌, subst, true≢false, eqb-true, subst₂}
+use Rattle.std.proofs.Common.{◌≡◌, ℕ, List, [], ◌∷◌, Option, Some, None, refl, sym, subst, true≢false}
 use Rattle.std.specs.List.{AllByRecursion}
-use Rattle.std.specs.Prelude.{unwrap_or, Result, IfSome}
 use Rattle.isa.specs.Instruction.{width}
-use Rattle.isa.specs.Programs.{Program, address}
+use Rattle.isa.specs.Programs.{Program}
 use Rattle.isa.specs.declared.op.Kind.{Kind}
 use Rattle.isa.specs.declared.stop.Outcome.{Outcome}
 use Rattle.inorder.specs.Memory.{stored, stored_by}
-use Rattle.inorder.specs.Steps.{IsNoRetiredStop, MayRetire, made_at_end, retired, settled, squashed}
+use Rattle.inorder.specs.Steps.{IsNoRetiredStop, MayRetire, made_at_end, retired, squashed}
 use Rattle.inorder.specs.Tenants.{Addr, Busy, Done, Fate, IsNotLive, Live, Miss, Open, Retired, Squashed, Standing, Stopped, Tenant, computed, instr, kind_of}
 use Rattle.inorder.proofs.DeliveryKept.{live_not_retired, live_on, live_unsettled, stores_self}
 use Rattle.inorder.proofs.FinishKept.{next_goes_on, next_is_done, next_load}

@@ -1,7 +1,6 @@
 -- A new tenant is sound.
-use Rattle.std.proofs.Common.{◌≡◌, ◌≢◌, ℕ, Bool, true, false, cond, eqb, List, [], ◌∷◌, ◌++◌, length, Option, Some, None, Ok, Err, refl, sym, ap, ◌∙◌, subst, true≢false, eqb-true, subst₂}
-use Rattle.std.specs.List.{AllByRecursion}
-use Rattle.std.specs.Prelude.{unwrap_or, Result, IfSome}
+use Rattle.std.proofs.Common.{◌≡◌, ℕ, List, Option, Some, refl, ap, ◌∙◌}
+use Rattle.std.specs.Prelude.{IfSome}
 use Rattle.isa.specs.Instruction.{fixed_next_by, kind}
 use Rattle.isa.specs.Programs.{Program, instr_of}
 use Rattle.isa.specs.declared.instr.Instr.{Instr}
@@ -12,7 +11,7 @@ use Rattle.isa.specs.declared.op.Op.TheVariants.{Add, Addi, Addiu, Addu, And, An
 use Rattle.isa.specs.declared.stop.Outcome.{Outcome}
 use Rattle.inorder.specs.declared.history.Supply.{Supply}
 use Rattle.inorder.specs.declared.history.Supply.TheVariants.{From, Known}
-use Rattle.inorder.specs.Steps.{MayLet, MaySupply, let_operand, new_tenant, settled}
+use Rattle.inorder.specs.Steps.{MayLet, MaySupply, let_operand, new_tenant}
 use Rattle.inorder.specs.Tenants.{Open, Tenant}
 use Rattle.inorder.specs.Unit.{Sizes, UpdateUnit, creator, front_pc, next_station, recent}
 use Rattle.inorder.proofs.Sound.{GoesOn, IsSoundAt, LoadIs, ValueIs}

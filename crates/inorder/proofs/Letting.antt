@@ -44,7 +44,7 @@ besides_grows P by (Retire n) ys t ts b m q = retire_grows P ts t n m q
 besides_grows P by Squash ys t ts b m q = absurd b
 besides_grows P by Mend ys t ts b m q = absurd b
 
-how_many_same : (f : Tenant → Bool) (t t' : Tenant) (ts ys : List Tenant) → f t' ≡ f t → how_many f (ys ++ t' ∷ ts) ≡ how_many f (ys ++ t ∷ ts)
+pub how_many_same : (f : Tenant → Bool) (t t' : Tenant) (ts ys : List Tenant) → f t' ≡ f t → how_many f (ys ++ t' ∷ ts) ≡ how_many f (ys ++ t ∷ ts)
 how_many_same f t t' ts [] e = ap (λ b. cond b (suc (how_many f ts)) (how_many f ts)) e
 how_many_same f t t' ts (y ∷ ys) e = ap (λ n. cond (f y) (suc n) n) (how_many_same f t t' ts ys e)
 

@@ -35,6 +35,9 @@ mod WrongPathRun
 mod StoreRun
 mod ReletRun
 mod DeadLinkRun
+mod TurnsRun
 mod Refused
 pub mod Serving
 pub mod Waking
+pub mod Heads
+pub mod Makers

@@ -1,14 +1,13 @@
 -- The rule for loads is right.
-use Rattle.std.proofs.Common.{◌≡◌, ◌⊎◌, ℕ, zero, suc, ◌+◌, ◌<◌, ◌≤◌, Bool, true, false, cond, ◌&&◌, eqb, List, [], ◌∷◌, ◌++◌, map, length, Option, Some, None, refl, sym, ap, ◌∙◌, subst, inl, inr, ⊎_elim, arith, true≢false, append_assoc, length-append, eqb-true}
+use Rattle.std.proofs.Common.{◌≡◌, ℕ, ◌+◌, ◌≤◌, true, false, ◌&&◌, List, [], ◌∷◌, ◌++◌, map, length, Option, Some, None, refl, sym, ap, ◌∙◌, subst, inl, inr, ⊎_elim, arith, append_assoc}
 use Rattle.std.specs.List.{AllByRecursion}
 use Rattle.std.specs.Option.{option_and_then}
-use Rattle.std.specs.Prelude.{slice_index, slice_get, is_some, option_map, IsSome, take}
-use Rattle.std.proofs.lemmas.List.{take-map, take_at, map-append, append-nil}
+use Rattle.std.specs.Prelude.{slice_index, slice_get, is_some, option_map, take}
+use Rattle.std.proofs.lemmas.List.{take-map, take_at}
 use Rattle.std.proofs.lemmas.Option.{slice_get-map}
-use Rattle.lsq.proofs.StoresLeft.{byte_left-append}
 use Rattle.lsq.proofs.LoadsRight.{forward_is, memory_is, blocked_is_right}
-use Rattle.isa.specs.Instruction.{kind, width}
-use Rattle.isa.specs.Programs.{Program, address}
+use Rattle.isa.specs.Instruction.{width}
+use Rattle.isa.specs.Programs.{Program}
 use Rattle.isa.specs.declared.op.Kind.TheVariants.{Loads, Stores}
 use Rattle.lsq.specs.declared.answer.Answer.TheVariants.{Blocked, Forward, Memory}
 use Rattle.lsq.specs.declared.entry.Entry.{Entry}
@@ -104,7 +103,7 @@ module _ (P : Program) (ts : List Tenant) (p : ℕ) (t : Tenant) (a : ℕ) (soun
       ap (λ k. load_by (is_store k) (address_by k t.fate (computed P t)) (access_width (instr P t).op)) ek
       ∙ ap (λ f. load_by false (address_by Loads f (computed P t)) (access_width (instr P t).op)) ef
 
-  answers : answer (queue_of P ts) (place_of P ts p) ≡ answer_over (queue_of P before) a w
+  pub answers : answer (queue_of P ts) (place_of P ts p) ≡ answer_over (queue_of P before) a w
   answers =
       ap (λ o. answer_to (option_and_then (λ x. load_by x.store x.address x.width) o) (queue_of P ts)
       (place_of P ts p)) there
@@ -126,14 +125,14 @@ module _ (P : Program) (ts : List Tenant) (p : ℕ) (t : Tenant) (a : ℕ) (soun
   may k n r =
       record { live = live; kind = ek; a = a; fate = ef; addresses = known P before k; bytes = n; read = r }
 
-  forward : (raw : ℕ) → answer (queue_of P ts) (place_of P ts p) ≡ Forward raw →
+  pub forward : (raw : ℕ) → answer (queue_of P ts) (place_of P ts p) ≡ Forward raw →
       MayLoad P before t × (raw_at P before (instr P t) a ≡ Some raw)
   forward raw h =
       let f = forward_is (queue_of P before) a w raw (sym answers ∙ h) in
       let r = reads ∙ f.number start_byte in
       (may f.known raw r, r)
 
-  from_memory : answer (queue_of P ts) (place_of P ts p) ≡ Memory →
+  pub from_memory : answer (queue_of P ts) (place_of P ts p) ≡ Memory →
       MayLoad P before t × (raw_at P before (instr P t) a ≡ Some
       (little_endian (slice_index (committed P ts).memory) a w))
   from_memory h =

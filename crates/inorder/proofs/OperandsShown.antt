@@ -11,13 +11,13 @@ use Rattle.inorder.specs.declared.history.Step.TheVariants.{Let, On}
 use Rattle.inorder.specs.declared.history.Supply.{Supply}
 use Rattle.inorder.specs.declared.history.Supply.TheVariants.{From, Known}
 use Rattle.inorder.specs.Legal.{Allowed, Taken, applied, changed, reached}
-use Rattle.inorder.specs.OperandWords.{let_word, KeepsOperands, MovesOperands, OperandsFollow, operand_word, operand_word_of, supplied, supply_of}
+use Rattle.inorder.specs.OperandWords.{let_word, KeepsOperands, MovesOperands, OperandsFollow, operand_word, operand_word_of, supply_of}
 use Rattle.inorder.specs.StationWords.{last_of}
 use Rattle.inorder.specs.Steps.{delivered, finished, mended_as, new_tenant}
 use Rattle.inorder.specs.Tenants.{Addr, Busy, Done, Fate, Miss, Open, Stopped, Tenant, computed, operand}
 use Rattle.inorder.specs.Unit.{Sizes, UpdateUnit, at, next_station, next_tag, older, recent, value_of, younger}
 use Rattle.inorder.proofs.Basics.{eqb_less, eqb_self, split_at}
-use Rattle.inorder.proofs.Kept.{kept, parts}
+use Rattle.inorder.proofs.Kept.{parts}
 use Rattle.inorder.proofs.Tags.{AreTagged, higher, same_place, tagged}
 
 -- The last tenant of a station, as seen by a function of it

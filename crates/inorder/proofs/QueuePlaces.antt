@@ -1,12 +1,7 @@
 -- What stands at the places of a unit's queue.
-use Rattle.std.proofs.Common.{◌≡◌, ◌⊎◌, ℕ, zero, suc, ◌+◌, ◌<◌, ◌≤◌, Bool, true, false, cond, ◌&&◌, eqb, List, [], ◌∷◌, ◌++◌, map, length, Option, Some, None, refl, sym, ap, ◌∙◌, subst, inl, inr, ⊎_elim, arith, true≢false, append_assoc, length-append, eqb-true}
-use Rattle.std.specs.List.{AllByRecursion}
-use Rattle.std.specs.Option.{option_and_then}
-use Rattle.std.specs.Prelude.{slice_index, slice_get, is_some, option_map, IsSome, take}
-use Rattle.std.proofs.lemmas.List.{take-map, take_at, map-append, append-nil}
-use Rattle.std.proofs.lemmas.Option.{slice_get-map}
-use Rattle.lsq.proofs.StoresLeft.{byte_left-append}
-use Rattle.lsq.proofs.LoadsRight.{forward_is, memory_is, blocked_is_right}
+use Rattle.std.proofs.Common.{◌≡◌, ℕ, ◌<◌, Bool, true, false, cond, ◌&&◌, eqb, List, [], ◌∷◌, ◌++◌, length, Some, refl, sym, ap, ◌∙◌, ⊎_elim, arith, true≢false, append_assoc, length-append, eqb-true}
+use Rattle.std.specs.Prelude.{slice_get}
+use Rattle.std.proofs.lemmas.List.{append-nil}
 use Rattle.isa.specs.Programs.{Program}
 use Rattle.lsq.specs.declared.entry.Entry.{Entry}
 use Rattle.inorder.specs.Loads.{entry_of, live_accesses, with_access}

@@ -1,19 +1,22 @@
 -- Steps that are not allowed in the units of the example runs.
-use Rattle.std.proofs.Common.{◌≡◌, ◌≢◌, ℕ, Option, Some, None, refl, sym, ap, ◌∙◌, subst}
+use Rattle.std.proofs.Common.{List, [], ◌∷◌, arith, ◌≡◌, ◌≢◌, ℕ, Option, Some, None, refl, sym, ap, ◌∙◌, subst}
 use Rattle.std.specs.Prelude.{option_map}
 use Rattle.isa.specs.Operations.{checked_address, computed_by, jump_target, loaded}
 use Rattle.isa.specs.Programs.{instr_at}
 use Rattle.inorder.specs.declared.history.Act.TheVariants.{Claim, Finish, Load, Retire}
-use Rattle.inorder.specs.declared.history.Step.TheVariants.{On}
+use Rattle.inorder.specs.declared.history.Step.TheVariants.{Let, On}
+use Rattle.inorder.specs.declared.history.Supply.{Supply}
+use Rattle.inorder.specs.declared.history.Supply.TheVariants.{From, Known}
 use Rattle.lsq.specs.declared.answer.Answer.TheVariants.{Blocked, Forward}
-use Rattle.inorder.specs.Legal.{Allowed, reached}
+use Rattle.inorder.specs.Legal.{Allowed, Taken, reached}
 use Rattle.inorder.specs.Loads.{queue_of}
 use Rattle.inorder.specs.Steps.{CanRetire}
 use Rattle.inorder.specs.Tenants.{Addr, Busy, Fate, Miss, Open, Squashed, Standing, Tenant, kind_of}
 use Rattle.inorder.specs.Unit.{creator}
 use Rattle.lsq.specs.LoadRule.{answer}
 use Rattle.inorder.proofs.DeadLinkRun.{dead_link, linked_elsewhere, linked_on_the_wrong_path, ring_of_four}
-use Rattle.inorder.proofs.Examples.{apart, squashed_not_live}
+use Rattle.inorder.proofs.Examples.{apart, squashed_not_live, taken}
+use Rattle.inorder.proofs.LoopRun.{loop, two_stations}
 use Rattle.inorder.proofs.ReletRun.{four, job_on_the_wrong_path, relet, relets}
 use Rattle.inorder.proofs.StoreRun.{bytes_and_words, forwards, four_entries, load_has_address, stores_have_addresses, two_entries, word_forwarded}
 use Rattle.inorder.proofs.WrongPathRun.{fault_on_the_wrong_path, four_stations, recovered, skips}
@@ -99,3 +102,28 @@ wrong_path_creates = refl
 squashed_creates_nothing : creator dead_link (reached dead_link ring_of_four linked_elsewhere).tenants 2 ≡ None
 unfolding instr_at computed_by jump_target checked_address loaded
 squashed_creates_nothing = refl
+
+-- With as many live tenants as stations nothing is let
+abbrev ring_of_two_is_full : List Taken
+ring_of_two_is_full =
+    taken 0 (Let 1 0x400008 From (Known 0)) ∷
+    taken 0 (Let 0 0x400004 (Known 0) (Known 0)) ∷
+    []
+
+full_ring : (by index predicted : ℕ) (first second : Supply) → ¬ Allowed loop two_stations
+    (reached loop two_stations ring_of_two_is_full) by (Let index predicted first second)
+unfolding instr_at computed_by jump_target checked_address loaded
+full_ring by index predicted first second a = let room = a.room in absurd (omega arith)
+
+-- With as many live loads and stores as the queue has room for, no third one is let, though a station is free
+abbrev queue_of_two_is_full : List Taken
+queue_of_two_is_full =
+    taken 0 (Let 2 0x40000c (Known 0) (Known 0)) ∷
+    taken 0 (Let 1 0x400008 (Known 0) From) ∷
+    taken 0 (Let 0 0x400004 (Known 0) (Known 0)) ∷
+    []
+
+full_queue : (by predicted : ℕ) (first second : Supply) → ¬ Allowed bytes_and_words two_entries
+    (reached bytes_and_words two_entries queue_of_two_is_full) by (Let 3 predicted first second)
+unfolding instr_at computed_by jump_target checked_address loaded
+full_queue by predicted first second a = let room = a.queue refl in absurd (omega arith)

@@ -1,14 +1,14 @@
 -- Where all tenants have left, the path's pc and registers are the committed ones.
-use Rattle.std.proofs.Common.{◌≡◌, ◌≢◌, ◌⊎◌, ℕ, zero, suc, ◌+◌, ◌-◌, ◌%◌, ◌<◌, ◌≤◌, Bool, true, false, cond, ◌&&◌, eqb, leb, ltb, List, [], ◌∷◌, length, replicate, Option, Some, None, Ok, Err, refl, sym, ap, ◌∙◌, subst, inl, inr, ⊎_elim, arith, true≢false, eqb-true, false-eqb, leb-true, ltb-true, leb-false, ltb-false}
+use Rattle.std.proofs.Common.{◌≡◌, ◌≢◌, ◌⊎◌, ℕ, zero, suc, ◌<◌, ◌≤◌, Bool, true, false, cond, ◌&&◌, eqb, ltb, List, [], ◌∷◌, length, replicate, Option, Some, None, refl, sym, ap, ◌∙◌, subst, inl, inr, ⊎_elim, arith, true≢false, eqb-true, false-eqb, ltb-true, ltb-false}
 use Rattle.std.specs.List.{AllByRecursion}
-use Rattle.std.specs.Prelude.{unwrap_or, slice_index, option_map, Result}
+use Rattle.std.specs.Prelude.{unwrap_or, slice_index}
 use Rattle.std.proofs.lemmas.List.{length-replicate, get_or_past}
 use Rattle.isa.specs.Instruction.{pc_plus_4, width}
 use Rattle.isa.specs.Programs.{Program}
 use Rattle.isa.specs.declared.op.Kind.{Kind}
 use Rattle.isa.specs.declared.op.Kind.TheVariants.{Computes, Jumps, Links, Loads, Stores}
 use Rattle.isa.specs.declared.stop.Outcome.TheVariants.{Address}
-use Rattle.inorder.specs.Committed.{commits, commits_by, committed, with_tenant}
+use Rattle.inorder.specs.Committed.{ahead, commits, commits_by, committed, with_tenant}
 use Rattle.inorder.specs.Machine.{State, write}
 use Rattle.inorder.specs.Memory.{Stored, byte_after, byte_at, stored, stored_by}
 use Rattle.inorder.specs.Steps.{CanRetire}
@@ -161,10 +161,10 @@ pub value_of_last : (t : Tenant) (ts : List Tenant) → value_of (t ∷ ts) (Som
 value_of_last t ts =
     ap (λ b. Rattle.inorder.specs.Unit.made_by (cond b (Some t) (at ts (length ts)))) (eqb_self (length ts))
 
--- the last writer of a register has made what was committed to it
+-- the last writer of a register has made what a new tenant finds there
 pub register_given : (P : Program) → (ts : List Tenant) → IsSound P ts → AllByRecursion IsSettled ts →
     (r : ℕ) → suc r < 32 →
-    value_of ts (last_writer P ts (suc r)) ≡ Some (slice_index (committed P ts).registers (suc r))
+    value_of ts (last_writer P ts (suc r)) ≡ Some (slice_index (ahead P ts).registers (suc r))
 register_given P [] s h r lt = ap Some (sym (zeros 32 (suc r)))
 register_given P (t ∷ ts) s h r lt = go (settled_cases t.standing t.fate h.0) (register_given P ts s.1 h.1 r lt)
   where
@@ -215,7 +215,7 @@ register_given P (t ∷ ts) s h r lt = go (settled_cases t.standing t.fate h.0) 
 
 -- what a source's creator makes is in its register
 pub source_given : (P : Program) → (ts : List Tenant) → IsSound P ts → AllByRecursion IsSettled ts → (r : ℕ) →
-    value_of ts (creator P ts r) ≡ Some (slice_index (committed P ts).registers r)
+    value_of ts (creator P ts r) ≡ Some (slice_index (ahead P ts).registers r)
 source_given P ts s h zero = ap Some (sym (register_zero P ts))
 source_given P ts s h (suc r) = go (ltb (suc r) 32) refl
   where

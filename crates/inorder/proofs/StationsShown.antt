@@ -10,11 +10,11 @@ use Rattle.inorder.specs.declared.history.Supply.{Supply}
 use Rattle.inorder.specs.Legal.{Allowed, May, Taken, applied, changed, reached}
 use Rattle.inorder.specs.StationWords.{ChangesStation, HasFate, IsFree, KeepsStations, Moves, NamedBy, StationsFollow, last_of, live_word, station_word, word_by, word_of}
 use Rattle.inorder.specs.Steps.{new_tenant}
-use Rattle.inorder.specs.Tenants.{Addr, Busy, Done, Fate, Live, Miss, Open, Retired, Squashed, Standing, Stopped, Tenant, is_live}
+use Rattle.inorder.specs.Tenants.{Addr, Busy, Done, Fate, Live, Miss, Open, Retired, Squashed, Standing, Stopped, Tenant}
 use Rattle.inorder.specs.Unit.{Sizes, UpdateUnit, at, how_many, next_station, next_tag, older, recent, tag_after, younger}
 use Rattle.inorder.proofs.Basics.{eqb_self, split_at}
 use Rattle.inorder.proofs.Grows.{all_mid}
-use Rattle.inorder.proofs.Kept.{kept, parts, sound}
+use Rattle.inorder.proofs.Kept.{parts, sound}
 use Rattle.inorder.proofs.Sound.{IsSound}
 use Rattle.inorder.proofs.Stations.{AreApart, IsElsewhere, Stands, all_elsewhere, stands}
 use Rattle.inorder.proofs.Tags.{AreTagged, count_same, same_place, tagged}

@@ -1,13 +1,13 @@
 -- What the callers of a shared unit know before they step: it stays true while only others step.
-use Rattle.std.specs.Prelude.{◌≡◌, ◌≢◌, ◌⊎◌, ℕ, ◌<◌, true, Some, None}
+use Rattle.std.specs.Prelude.{◌≡◌, ◌≢◌, ◌⊎◌, ℕ, ◌%◌, ◌<◌, Bool, true, false, Some, None}
 use Rattle.isa.specs.Programs.{Program}
 use Rattle.isa.specs.declared.stop.Outcome.{Outcome}
 use Rattle.inorder.specs.declared.history.Source.{Source}
 use Rattle.inorder.specs.Memory.{load_value}
 use Rattle.inorder.specs.Replies.{Has}
 use Rattle.inorder.specs.Steps.{CanRetire, IsNoRetiredStop, MayLoad}
-use Rattle.inorder.specs.Tenants.{Addr, Busy, Fate, IsNotLive, IsThere, Linked, Live, Miss, Squashed, Tenant, Unlinked, computed, kind_of, missing, operand}
-use Rattle.inorder.specs.Unit.{UpdateUnit, at, older}
+use Rattle.inorder.specs.Tenants.{Addr, Busy, Fate, IsNotLive, IsThere, Linked, Live, Miss, Retired, Squashed, Standing, Tenant, Unlinked, computed, kind_of, missing, on_path, operand}
+use Rattle.inorder.specs.Unit.{Sizes, UpdateUnit, at, how_many, older}
 
 -- Anybody
 
@@ -48,6 +48,13 @@ pub record CanAsk (k : Source) (q : ℕ) (t : Tenant) : Type 0 where
   pub way : (operand k t).way ≡ Unlinked
   pub creator : (operand k t).creator ≡ Some q
 
+-- Source k was asked for from tenant q, and the tenant was not squashed
+pub record HasAsked (k : Source) (q : ℕ) (t : Tenant) : Type 0 where
+  pub in_time : Bool
+  pub way : (operand k t).way ≡ Linked in_time
+  pub creator : (operand k t).creator ≡ Some q
+  pub path : on_path t ≡ true
+
 -- No tenant after p is of this station
 abbrev pub IsLastAt : UpdateUnit → ℕ → ℕ → Type 0
 IsLastAt U p station =
@@ -77,6 +84,30 @@ pub record CanMend (U : UpdateUnit) (p x : ℕ) : Type 0 where
   pub youngest : IsYoungest U p
 
 -- The back
+
+abbrev pub stands_retired : Standing → Bool
+stands_retired Retired = true
+stands_retired _ = false
+
+abbrev pub is_retired : Tenant → Bool
+is_retired t = stands_retired t.standing
+
+-- Where the oldest live tenant stands, if there is one
+abbrev pub head_station : Sizes → UpdateUnit → ℕ
+head_station C U = how_many is_retired U.tenants % C.ring
+
+-- No stop has retired
+abbrev pub GoesOn : UpdateUnit → Type 0
+GoesOn U = (p : ℕ) (t : Tenant) → at U.tenants p ≡ Some t → IsNoRetiredStop t
+
+-- The oldest live tenant, where no stop has retired
+pub record IsHead (U : UpdateUnit) (p : ℕ) (Fact : Tenant → Type 0) : Type 0 where
+  pub tenant : Tenant
+  pub is : at U.tenants p ≡ Some tenant
+  pub live : tenant.standing ≡ Live
+  pub oldest : (q : ℕ) (u : Tenant) → q < p → at U.tenants q ≡ Some u → u.standing ≢ Live
+  pub goes_on : GoesOn U
+  pub fact : Fact tenant
 
 -- The oldest live tenant may retire, with this fate
 pub record CanLeave (P : Program) (U : UpdateUnit) (p : ℕ) (f : Fate) : Type 0 where

@@ -1,8 +1,9 @@
 //! Programs.
-ghost use Rattle.std.specs.Prelude.{◌≡◌, ◌<◌, ◌≤◌, ◌%◌, ◌↔◌, IsTrue, length, slice_index};
+ghost use Rattle.std.specs.Prelude.{◌≡◌, ◌<◌, ◌≤◌, ◌%◌, ◌↔◌, IfOk, IsTrue, length, slice_index};
 ghost use Rattle.isa.specs.Programs.{Program as Text, instr_at, instr_of};
 
-use crate::Instr;
+use crate::{Instr, Memory};
+use std::alloc::Global;
 use std::marker::Model;
 
 /// The instructions of a listing, and the bytes that its data memory starts with. Instruction i stands at
@@ -38,6 +39,15 @@ impl Program {
         ensures { result ≡ record { code = code.items; bytes = bytes.items } }
     {
         Program { code, bytes }
+    }
+
+    /// The same program once more, in memory of its own.
+    pub fn copied(&self, alloc: Global) -> Result<Program, Memory>
+        ensures { IfOk result (λ p. p ≡ self.now) }
+    {
+        let code = self.code.as_slice().to_vec(alloc)?;
+        let bytes = self.bytes.as_slice().to_vec(alloc)?;
+        Ok(Program { code, bytes })
     }
 
     /// How many instructions there are, at most 16,384.

@@ -127,7 +127,7 @@ module _ (P : Program) (C : Sizes) where
       (draft_stays P C U id (On r (Deliver k)) d (inr tt) may (unit_sound P C h legal) draft).1 c
   others id h d legal draft r s k t is station_is may (Link x c k') n other l = link_other P C (unit_of P C h) id r (Deliver k) tt may (unit_sound P C h legal) x c k' n l
 
-  by_value : (g : ℕ) (o : Option ℕ) (n old : ℕ) → IsOperandOf (record { tag = g; value = None }) old → IsOperandOf (record { tag = g; value = o }) n → n ≢ old → (w : ℕ) × (o ≡ Some w)
+  pub by_value : (g : ℕ) (o : Option ℕ) (n old : ℕ) → IsOperandOf (record { tag = g; value = None }) old → IsOperandOf (record { tag = g; value = o }) n → n ≢ old → (w : ℕ) × (o ≡ Some w)
   by_value g None n old a b ne = absurd (ne (same_word n old (b.tag ∙ sym a.tag) (b.state ∙ sym a.state) (b.value ∙ sym a.value)))
   by_value g (Some w) n old a b ne = (w, refl)
 

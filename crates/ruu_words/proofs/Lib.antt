@@ -16,3 +16,4 @@ pub mod Linking
 pub mod Opening
 pub mod Views
 pub mod Walking
+pub mod Ending

@@ -15,6 +15,7 @@ use Rattle.inorder.specs.declared.history.Refusal.TheVariants.{Empty, Moved, Not
 use Rattle.inorder.specs.declared.history.Source.{Source}
 use Rattle.inorder.specs.declared.history.Step.TheVariants.{Let, On}
 use Rattle.inorder.specs.declared.history.Supply.{Supply}
+use Rattle.inorder.specs.Callers.{HasMade, IsHead}
 use Rattle.inorder.specs.History.{unit_of}
 use Rattle.inorder.specs.Replies.{IsDelivered, IsOpen, IsSquashed}
 use Rattle.inorder.specs.StationWords.{live_word, station_word}
@@ -66,6 +67,21 @@ pub record HasLink (k : Source) (q : ℕ) (t : Tenant) : Type 0 where
   pub way : (operand k t).way ≡ Linked in_time
   pub creator : (operand k t).creator ≡ Some q
 
+-- A station that is neither free nor done has made nothing for a register
+abbrev pub IsUnmade : ℕ → Type 0
+IsUnmade n = (n ≢ 0) × (n ≢ 4)
+
+abbrev pub IsMade : ℕ → Type 0
+IsMade n = (n ≡ 0) ⊎ (n ≡ 4)
+
+-- A state in which a tenant cannot retire: open, busy, or a miss
+abbrev pub IsEarly : ℕ → Type 0
+IsEarly n = (n ≡ 1) ⊎ (n ≡ 2) ⊎ (n ≡ 5)
+
+-- It has its address, is done or stops
+abbrev pub IsLate : ℕ → Type 0
+IsLate n = (n ≡ 3) ⊎ (n ≡ 4) ⊎ (n ≡ 6)
+
 -- An operand word with the tag of a tenant of the station is that tenant's, and with another tag that
 -- tenant is not live
 pub record SaysOperand (U : UpdateUnit) (s : ℕ) (k : Source) (n : ℕ) : Type 0 where
@@ -106,6 +122,41 @@ module _ (P : Program) (C : Sizes) where
   -- The last load of a walk along the links of tenant q
   pub record Walks (q : ℕ) (h : List Entry) (d : Draft) (events : List Event) : Type 0 where
     pub added : events ≡ Marks (Walked q) ∷ []
+
+  -- A load with which its caller is refused
+  pub record Tells (r : Refusal) (h : List Entry) (d : Draft) (events : List Event) : Type 0 where
+    pub added : events ≡ Refuses r ∷ []
+
+  -- The look of a question at the station of the creator q of source k of tenant r: the creator is live and
+  -- not done, so that the source was asked for in time, or it has made the value of the word
+  abbrev pub Questions : (r : ℕ) (k : Source) (q n : ℕ) → List Entry → Draft → List Event → Type 0
+  Questions r k q n h d events =
+      (IsUnmade (state_of n) × (events ≡ Marks (Asked r k) ∷ []))
+      ⊎ (IsMade (state_of n) × (events ≡ []) × HasMade (unit_of P C h) q (value_of n))
+
+  -- The exchange that ends a question: the source has its value
+  abbrev pub Answers : (r : ℕ) (k : Source) (old n : ℕ) → List Entry → Draft → List Event → Type 0
+  Answers r k old n h d events =
+      ((n ≡ old) × (events ≡ Marks (Asked r k) ∷ Does (On r (Deliver k)) ∷ []))
+      ⊎ ((n ≢ old) × (events ≡ Marks (Asked r k) ∷ []))
+
+  -- Loads of a retirement
+
+  -- The look at the station of the oldest live tenant: nobody is live, or that tenant cannot retire yet, or
+  -- it has its address, is done or stops
+  abbrev pub Heads : (s n : ℕ) → List Entry → Draft → List Event → Type 0
+  Heads s n h d events =
+      ((state_of n ≡ 0) × (events ≡ Refuses Empty ∷ []))
+      ⊎ (IsEarly (state_of n) × (events ≡ Refuses NotDone ∷ []))
+      ⊎ (IsLate (state_of n) × (events ≡ [])
+      × ((p : ℕ) × IsHead (unit_of P C h) p (λ t. (t.station ≡ s) × IsStation (live_word t.tag t.fate) n)))
+
+  -- The load of the data of the oldest store: it is there, or the store cannot retire yet
+  abbrev pub ReadsData : (p n : ℕ) → List Entry → Draft → List Event → Type 0
+  ReadsData p n h d events =
+      ((state_of n ≡ 2) × (events ≡ [])
+      × IsHead (unit_of P C h) p (λ t. t.second.value ≡ Some (value_of n)))
+      ⊎ ((state_of n ≢ 2) × (events ≡ Refuses NotDone ∷ []))
 
   -- Loads of a claim
 

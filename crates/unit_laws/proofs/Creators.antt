@@ -14,7 +14,7 @@ use Rattle.inorder.specs.Steps.{IsNoRetiredStop, MayComeFrom}
 use Rattle.inorder.specs.Tenants.{Addr, Busy, Done, Fate, Live, Miss, Open, Retired, Squashed, Standing, Stopped, Tenant, computed, destination_of, instr, is_live, kind_of, on_path, operand_value, stands_on_path}
 use Rattle.inorder.specs.Unit.{Sizes, UpdateUnit, at, creator, how_many, last_writer, made_by, next_station, older, value_of, younger}
 use Rattle.inorder.proofs.Basics.{Below, eqb_less, eqb_self, last_writer_below, split_at}
-use Rattle.inorder.proofs.Follows.{made_leaves, retired_leaves, writer_if}
+use Rattle.inorder.proofs.SettledRegisters.{made_leaves, retired_leaves, writer_if}
 use Rattle.inorder.proofs.Grows.{all_mid}
 use Rattle.inorder.proofs.Sound.{FateBy, IsSound, IsSoundAt}
 use Rattle.inorder.proofs.Stations.{IsElsewhere, Stands, all_elsewhere, last_at}

@@ -6,7 +6,7 @@ use Rattle.inorder.specs.Committed.{commits, commits_by, committed}
 use Rattle.inorder.specs.Steps.{IsNoRetiredStop}
 use Rattle.inorder.specs.Tenants.{Addr, Busy, Done, Fate, Live, Miss, Open, Retired, Stopped, Tenant, stands_on_path}
 use Rattle.inorder.proofs.Commits.{over}
-use Rattle.inorder.proofs.Follows.{committed_if}
+use Rattle.inorder.proofs.SettledRegisters.{committed_if}
 use Rattle.inorder.proofs.Sound.{IsSettled, IsSound, SettledBy}
 
 -- a retired tenant that is no stop, and all before it, have left

@@ -1,0 +1,9 @@
+pub mod Allowing
+pub mod Looks
+pub mod SameUnit
+pub mod Adding
+pub mod Seated
+pub mod Given
+pub mod LettingOut
+pub mod Reading
+pub mod Claimed

@@ -1,0 +1,58 @@
+-- What info words and operand words say.
+use Rattle.std.proofs.Common.{◌≡◌, ℕ, zero, suc, ◌/◌, ◌%◌, List, Option, Some, None, refl, sym, ap, ◌∙◌, subst, arith}
+use Rattle.isa.specs.Programs.{Program}
+use Rattle.inorder.specs.declared.history.Entry.{Entry}
+use Rattle.inorder.specs.declared.history.Source.{Source}
+use Rattle.inorder.specs.declared.history.Source.TheVariants.{First}
+use Rattle.inorder.specs.History.{IsLegal, unit_of}
+use Rattle.inorder.specs.OperandWords.{OperandWord, operand_word, operand_word_of}
+use Rattle.inorder.specs.StationWords.{last_of}
+use Rattle.inorder.specs.Tenants.{Live, Tenant, operand}
+use Rattle.inorder.specs.Unit.{Sizes, at, recent}
+use Rattle.ruu_words.specs.declared.rule.Draft.{Draft}
+use Rattle.ruu_words.specs.declared.rule.Draft.TheVariants.{Nothing, Of}
+use Rattle.ruu_words.specs.declared.rule.Stage.TheVariants.{BothOperands}
+use Rattle.ruu_words.specs.declared.place.Place.TheVariants.{Info, Operand}
+use Rattle.ruu_words.specs.Content.{IsDraft, IsInfo, IsOperand, info_unit, operand_code, operand_unit}
+use Rattle.ruu_words.specs.Fields.{index_of, predicted_of, state_of, tag_of, value_of}
+use Rattle.ruu_words.proofs.Reading.{operand_last}
+use Rattle.station.specs.declared.answers.Seen.{Seen}
+use Rattle.station.specs.declared.answers.SourceState.{SourceState}
+use Rattle.station.specs.Looking.{SeesInfo, SeesOperand, SeesWord, ShowsInfo, ShowsOperand, source_state, source_state_of}
+
+shows_info : (o : Option Tenant) (n : ℕ) → IsInfo o n → ShowsInfo o (index_of n) (predicted_of n)
+shows_info None n e = (omega arith, omega arith)
+shows_info (Some t) n i = (i.index, i.predicted)
+
+by_code : (v : Option ℕ) → source_state_of (operand_code v) ≡ source_state v
+by_code None = refl
+by_code (Some v) = refl
+
+shows_operand : (o : Option OperandWord) (n : ℕ) → IsOperand o n → ShowsOperand o (tag_of n) (source_state_of (state_of n)) (value_of n)
+shows_operand None n e = (ap tag_of e, ap (λ z. source_state_of (state_of z)) e, ap value_of e)
+shows_operand (Some o) n i = (i.tag, ap source_state_of i.state ∙ by_code o.value, i.value)
+
+module _ (P : Program) (C : Sizes) (h : List Entry) (legal : IsLegal P C h) where
+  -- a live tenant is the last of its station, also beside a let in progress
+  info_last : (d : Draft) → IsDraft P C (unit_of P C h) d → (p : ℕ) (t : Tenant) → at (unit_of P C h).tenants p ≡ Some t → t.standing ≡ Live → last_of (recent (info_unit P C (unit_of P C h) d)) t.station ≡ Some t
+  info_last Nothing proper p t is live = operand_last P C h legal Nothing First proper p t is live
+  info_last (Of stage index predicted first second) proper p t is live = operand_last P C h legal (Of BothOperands index predicted first second) First proper p t is live
+
+  pub sees_info : (s n : ℕ) → SeesWord P C h (Info s) n → SeesInfo P C h s (index_of n) (predicted_of n)
+  sees_info s n w = record {
+    draft = w.draft;
+    proper = w.proper;
+    shows = shows_info (last_of (recent (info_unit P C (unit_of P C h) w.draft)) s) n w.content;
+    its = λ p t is station live. subst (λ o. ShowsInfo o (index_of n) (predicted_of n)) (ap (last_of (recent (info_unit P C (unit_of P C h) w.draft))) (sym station) ∙ info_last w.draft w.proper p t is live)
+        (shows_info (last_of (recent (info_unit P C (unit_of P C h) w.draft)) s) n w.content);
+  }
+
+  pub sees_operand : (s : ℕ) (k : Source) (n : ℕ) (seen : Seen SourceState) → seen.tag ≡ tag_of n → seen.state ≡ source_state_of (state_of n) → seen.value ≡ value_of n → SeesWord P C h (Operand s k) n → SeesOperand P C h s k seen
+  sees_operand s k n seen tag state value w =
+      let all : ShowsOperand (operand_word (recent (operand_unit P C (unit_of P C h) w.draft k)) s k) seen.tag seen.state seen.value = subst (λ (z : ℕ × (SourceState × ℕ)). ShowsOperand (operand_word (recent (operand_unit P C (unit_of P C h) w.draft k)) s k) z.0 z.1.0 z.1.1) (λ i. (sym tag i, (sym state i, sym value i))) (shows_operand (operand_word (recent (operand_unit P C (unit_of P C h) w.draft k)) s k) n w.content) in
+      record {
+        draft = w.draft;
+        proper = w.proper;
+        shows = all;
+        its = λ p t is station live. subst (λ o. ShowsOperand (operand_word_of k o) seen.tag seen.state seen.value) (ap (last_of (recent (operand_unit P C (unit_of P C h) w.draft k))) (sym station) ∙ operand_last P C h legal w.draft k w.proper p t is live) all;
+      }

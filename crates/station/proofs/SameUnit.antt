@@ -1,0 +1,31 @@
+-- The program and the sizes of a call are those of its core, of its table and of its seat.
+use Rattle.std.proofs.Common.{◌≡◌, ℕ, ◌+◌, ◌*◌, ◌<◌, ◌≤◌, List, sym, ap, ◌∙◌, arith}
+use Rattle.atomic_table.specs.Seated.{TableId}
+use Rattle.isa.specs.Programs.{Program}
+use Rattle.inorder.specs.declared.history.Entry.{Entry}
+use Rattle.inorder.specs.Unit.{Sizes}
+use Rattle.ruu_words.specs.declared.rule.Setup.{Setup}
+use Rattle.ruu_words.specs.Places.{words_for}
+use Rattle.ruu_words.specs.Rule.{sizes_of}
+use Rattle.station.specs.Making.{IsCore}
+use Rattle.station.specs.Seats.{Caller, TheCore, core_of}
+
+-- A program and sizes
+abbrev pub Unit_of : Type 0
+Unit_of = Program × Sizes
+
+abbrev pub unit_at : Setup → Unit_of
+unit_at c = (c.program, sizes_of c)
+
+abbrev pub unit_in : TheCore → Unit_of
+unit_in c = (c.program, c.sizes)
+
+pub of_table : (words : ℕ) (key setup : Setup) (id : TableId) (core : TheCore) → IsCore words key setup → core_of id setup ≡ core → unit_at key ≡ unit_in core
+of_table words key setup id core is e = ap unit_at is.key_is ∙ ap unit_in e
+
+pub of_seat : (id : TableId) (value : Setup) (by : ℕ) (seen : List Entry) (seat : Caller) (core : TheCore) → record { core = core_of id value; by = by; seen = seen } ≡ seat → seat.core ≡ core → unit_at value ≡ unit_in core
+of_seat id value by seen seat core e f = ap (λ (z : Caller). unit_in z.core) e ∙ ap unit_in f
+
+-- a table has words
+pub not_empty : (n w : ℕ) → w ≡ words_for n → 2 ≤ n → 0 < w
+not_empty n w e h = let square : ℕ = n * n in let f : w ≡ 4 * n + 2 * square = e in omega arith

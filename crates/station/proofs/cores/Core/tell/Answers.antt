@@ -1,0 +1,58 @@
+use Rattle.std.proofs.Common.{◌≡◌, ℕ, List, [], sym, ap, ◌∙◌, subst, rules}
+use Rattle.atomic_table.specs.Table.{Me}
+use Rattle.inorder.specs.declared.history.Entry.{Entry}
+use Rattle.inorder.specs.History.{Adds}
+use Rattle.ruu_words.specs.declared.rule.View.{View}
+use Rattle.ruu_words.specs.declared.place.Place.TheVariants.{Station}
+use Rattle.ruu_words.specs.Rule.{opening_of, sizes_of}
+use Rattle.ruu_words.proofs.Views.{joins, splits_unit}
+use Rattle.station.specs.Seats.{Caller, IsSeated}
+use Rattle.station.specs.Steps.{Sees}
+use Rattle.station.proofs.Adding.{adds_these}
+use Rattle.station.proofs.SameUnit.{Unit_of, not_empty, of_seat, of_table, unit_at}
+use Rattle.station.proofs.Seated.{informed_seated, is_alive, is_begun, seated_at}
+use Rattle.station.proofs.cores.Core.tell.Goals as goal
+
+pub split_seat-note-requires : goal.split_seat-note-requires
+split_seat-note-requires g c =
+    let key = c.self.inside.table.shared.key in
+    let s = c.from.inside.seat in
+    let value = c.from.inside.setup.value in
+    let begun = is_begun value.program (sizes_of value) g.P.Part.role s.id c.from.inside.station s.me c.from.invariant in
+    let alive = is_alive value.program (sizes_of value) g.P.Part.role s.id c.from.inside.station s.me c.from.invariant in
+    (search rules, not_empty c.self.inside.setup.ring c.self.inside.table.shared.table_id.words c.self.invariant.wide c.self.invariant.least, splits_unit key.program (sizes_of key) (opening_of key) s.id s.me.0 begun alive)
+
+pub join_seat-requires : goal.join_seat-requires
+join_seat-requires g c =
+    let key = c.self.inside.table.shared.key in
+    let note = c.split_seat-note.result in (
+      search rules,
+      search rules,
+      search rules,
+      not_empty c.self.inside.setup.ring c.self.inside.table.shared.table_id.words c.self.invariant.wide c.self.invariant.least,
+      joins key.program (sizes_of key) (opening_of key) c.to.inside.seat.id c.to.inside.seat.me.0 note.id note.me.0 (ap (λ m. m.0.role) c.split_seat-note.ensures.4),
+    )
+
+pub invariant_of-to : goal.invariant_of-to
+invariant_of-to g c =
+    let key = c.self.inside.table.shared.key in
+    let s = c.to.inside.seat in
+    let mid = c.join_seat.new.seat in
+    let value = c.to.inside.setup.value in
+    let table = of_table _ key c.self.inside.setup _ c.args.self.now c.self.invariant c.self.view_is in
+    let seat = of_seat _ value _ _ c.args.to.now c.args.self.now c.to.view_is c.requires.to in
+    let told = informed_seated value.program (sizes_of value) g.Q.Part.role s.id c.to.inside.station s.me c.split_seat-note.result.me.0 c.to.invariant in
+    let joined : IsSeated value.program (sizes_of value) g.Q.Part.role mid.id c.to.inside.station mid.me = subst (λ (z : ℕ × Me ℕ View). IsSeated value.program (sizes_of value) g.Q.Part.role z.0 c.to.inside.station z.1) (λ i. (sym c.join_seat.ensures.1 i, sym c.join_seat.ensures.2 i)) told in
+    subst (λ i. IsSeated value.program (sizes_of value) g.Q.Part.role i c.to.inside.station c.look.new.seat.me) (sym c.look.ensures.same.1)
+    (seated_at (unit_at value) key g.Q.Part.role mid.id c.to.inside.station mid.me c.look.new.seat.me (Station 0) c.look.result (seat ∙ sym table) joined c.look.ensures.step)
+
+pub returns-clause-history : goal.returns-clause-history
+returns-clause-history g c =
+    let key = c.self.inside.table.shared.key in
+    let mid = c.join_seat.new.seat in
+    let table = of_table _ key c.self.inside.setup _ c.args.self.now c.self.invariant c.self.view_is in
+    let step = c.look.ensures.step in
+    let adds = adds_these key.program (sizes_of key) mid.id mid.me.0 c.look.new.seat.me.0 (Sees key.program (sizes_of key) mid.id mid.me.0 (Station 0) c.look.result) [] step.grows step.grows.kind.none in
+    let by : mid.id ≡ c.args.to.now.by = c.join_seat.ensures.1 ∙ ap (λ z. z.by) c.to.view_is in
+    let seen : mid.me.0.seen ≡ c.args.to.now.seen = ap (λ m. m.0.seen) c.join_seat.ensures.2 ∙ ap (λ z. z.seen) c.to.view_is in
+    subst (λ (z : Unit_of × (ℕ × List Entry)). Adds z.0.0 z.0.1 z.1.0 z.1.1 c.look.new.seat.me.0.seen []) (λ i. (table i, (by i, seen i))) adds

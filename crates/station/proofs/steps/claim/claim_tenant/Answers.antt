@@ -1,0 +1,25 @@
+use Rattle.std.proofs.Common.{◌≡◌, ℕ, ◌==◌, sym, subst}
+use mathlib.Core.Option.{none}
+use prog.Atomic.{either}
+use Rattle.atomic_table.specs.Table.{step}
+use Rattle.ruu_words.specs.Fields.{tag_of}
+use Rattle.ruu_words.specs.declared.place.Place.TheVariants.{Station}
+use Rattle.ruu_words.specs.Kinds.{Claims}
+use Rattle.ruu_words.specs.Places.{index}
+use Rattle.ruu_words.specs.Rule.{IsAlive, sizes_of}
+use Rattle.ruu_words.proofs.Claiming.{claim_plan}
+use Rattle.station.proofs.Allowing.{allows}
+use Rattle.station.proofs.steps.claim.claim_tenant.Goals as goal
+
+pub exchange-requires-clause-may : goal.exchange-requires-clause-may
+exchange-requires-clause-may c =
+    let key = c.args.words.now.key in
+    let P = key.program in
+    let C = sizes_of key in
+    let id = c.args.seat.now.id in
+    let me = c.args.seat.now.me in
+    let s = c.args.station in
+    let x = Station s in
+    allows key c.args.ring c.args.words.now.table_id.slots id me x (λ n. either (n == c.args.old) c.args.new n) (λ n. n) (Claims P C s (tag_of c.args.old) c.args.old) (step c.args.words.now.table_id.slots (index c.args.ring x) c.args.old c.args.new none)
+    c.requires.of.ring_is c.requires.place (subst IsAlive (sym c.requires.role) tt)
+    (claim_plan P C id me.0 s (tag_of c.args.old) c.args.old c.args.new c.requires.seen.p c.requires.role c.requires.old c.requires.new c.requires.seen.named c.requires.seen.was)

@@ -1,0 +1,25 @@
+use Rattle.std.proofs.Common.{◌≡◌, ℕ, ◌==◌, sym, subst}
+use mathlib.Core.Option.{none}
+use prog.Atomic.{either}
+use Rattle.atomic_table.specs.Table.{step}
+use Rattle.ruu_words.specs.declared.place.Place.TheVariants.{Operand}
+use Rattle.ruu_words.specs.Kinds.{ReadsSource}
+use Rattle.ruu_words.specs.Places.{index}
+use Rattle.ruu_words.specs.Rule.{IsAlive, sizes_of}
+use Rattle.ruu_words.proofs.Reading.{source_plan}
+use Rattle.station.proofs.Claimed.{next_named}
+use Rattle.station.proofs.Allowing.{allows}
+use Rattle.station.proofs.steps.claim.read_source.Goals as goal
+
+pub load-requires-clause-may : goal.load-requires-clause-may
+load-requires-clause-may c =
+    let key = c.args.words.now.key in
+    let P = key.program in
+    let C = sizes_of key in
+    let id = c.args.seat.now.id in
+    let me = c.args.seat.now.me in
+    let s = c.args.station in
+    let x = Operand s c.args.k in
+    allows key c.args.ring c.args.words.now.table_id.slots id me x (λ n. n) (λ n. n) (ReadsSource P C s c.args.tag c.args.k) (step c.args.words.now.table_id.slots (index c.args.ring x) 0 0 none)
+    c.requires.of.ring_is c.requires.place (subst IsAlive (sym c.requires.role) tt)
+    (source_plan P C id me.0 s c.args.tag c.requires.seen.p c.args.k c.requires.role (next_named P C me.0.seen c.requires.seen.p s c.args.tag c.args.k c.requires.seen.named) c.requires.seen.was)

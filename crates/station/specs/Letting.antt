@@ -1,0 +1,56 @@
+-- Letting a tenant out.
+use Rattle.std.specs.Prelude.{◌≡◌, ℕ, ◌<◌, List, [], ◌∷◌, Option, Some, None}
+use Rattle.atomic_table.specs.Table.{Me}
+use Rattle.isa.specs.Programs.{Program}
+use Rattle.inorder.specs.declared.history.Entry.{Entry}
+use Rattle.inorder.specs.declared.history.Event.{Event}
+use Rattle.inorder.specs.declared.history.Event.TheVariants.{Does}
+use Rattle.inorder.specs.declared.history.Step.TheVariants.{Let}
+use Rattle.inorder.specs.declared.history.Supply.{Supply}
+use Rattle.inorder.specs.declared.history.Supply.TheVariants.{From, Known}
+use Rattle.inorder.specs.History.{Adds, entry, front, unit_of}
+use Rattle.inorder.specs.Replies.{last_tag}
+use Rattle.inorder.specs.Steps.{MayLet}
+use Rattle.inorder.specs.Unit.{Sizes, UpdateUnit, next_station, next_tag, recent}
+use Rattle.ruu_words.specs.declared.rule.Draft.{Draft}
+use Rattle.ruu_words.specs.declared.rule.Draft.TheVariants.{Nothing, Of}
+use Rattle.ruu_words.specs.declared.rule.Role.TheVariants.{Front}
+use Rattle.ruu_words.specs.declared.rule.Stage.{Stage}
+use Rattle.ruu_words.specs.declared.rule.View.{View}
+use Rattle.station.specs.declared.answers.Supply.{Supply as Given}
+use Rattle.station.specs.declared.answers.Supply.TheVariants.{From as GivenFrom, Known as GivenKnown}
+use Rattle.station.specs.declared.answers.Tenant.{Tenant}
+
+-- The source as the unit sees it: the tenant that a source comes from is its creator
+abbrev pub supply_of : Given → Supply
+supply_of (GivenKnown v) = Known v
+supply_of (GivenFrom station tag) = From
+
+-- The value that it has from the start
+abbrev pub given_value : Given → Option ℕ
+given_value (GivenKnown v) = Some v
+given_value (GivenFrom station tag) = None
+
+abbrev pub draft_of : Stage → Tenant → Draft
+draft_of stage t = Of stage t.index t.predicted (supply_of t.sources.0) (supply_of t.sources.1)
+
+abbrev pub let_of : Tenant → Event
+let_of t = Does (Let t.index t.predicted (supply_of t.sources.0) (supply_of t.sources.1))
+
+-- This tenant may be let, and its tag has its bits
+pub record MayLetOut (P : Program) (C : Sizes) (U : UpdateUnit) (t : Tenant) : Type 0 where
+  pub may : MayLet P C U t.index t.predicted (supply_of t.sources.0) (supply_of t.sources.1)
+  pub tag : next_tag C (recent U) < last_tag
+
+-- It is the front's seat, between two steps, with this let in progress
+pub record IsFronts (by : ℕ) (draft : Draft) (me : Me ℕ View) : Type 0 where
+  pub role : me.0.role ≡ Front
+  pub by_is : by ≡ front
+  pub draft_is : me.0.draft ≡ draft
+
+-- The tenant was let, by the last entry of what was seen
+pub record IsLetOut (P : Program) (C : Sizes) (by : ℕ) (t : Tenant) (old new : List Entry) : Type 0 where
+  pub adds : Adds P C by old new (let_of t ∷ [])
+  pub point : List Entry
+  pub is : new ≡ entry by (let_of t) ∷ point
+  pub station : next_station C (recent (unit_of P C point)) ≡ next_station C (recent (unit_of P C old))

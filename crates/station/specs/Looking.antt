@@ -1,0 +1,71 @@
+-- What the reading calls answer.
+use Rattle.std.specs.Prelude.{◌≡◌, ℕ, List, Option, Some, None, ◌==◌, if◌then◌else◌}
+use Rattle.isa.specs.Programs.{Program}
+use Rattle.inorder.specs.declared.history.Entry.{Entry}
+use Rattle.inorder.specs.History.{unit_of}
+use Rattle.inorder.specs.declared.history.Source.{Source}
+use Rattle.inorder.specs.OperandWords.{OperandWord, operand_word}
+use Rattle.inorder.specs.StationWords.{StationWord, last_of, station_word}
+use Rattle.inorder.specs.Tenants.{Live, Tenant, operand}
+use Rattle.inorder.specs.Unit.{Sizes, at, recent}
+use Rattle.ruu_words.specs.declared.place.Place.{Place}
+use Rattle.ruu_words.specs.declared.rule.Draft.{Draft}
+use Rattle.ruu_words.specs.declared.station.StationState.{StationState}
+use Rattle.ruu_words.specs.Content.{Content, HasValue, IsDraft, code, info_unit, operand_unit, operand_value}
+use Rattle.ruu_words.specs.States.{state_code}
+use Rattle.station.specs.declared.answers.Seen.{Seen}
+use Rattle.station.specs.declared.answers.SourceState.{SourceState}
+use Rattle.station.specs.declared.answers.SourceState.TheVariants.{Unset, Val, Wait}
+
+-- The word at this point, with some let in progress
+pub record SeesWord (P : Program) (C : Sizes) (h : List Entry) (x : Place) (n : ℕ) : Type 0 where
+  pub draft : Draft
+  pub proper : IsDraft P C (unit_of P C h) draft
+  pub content : Content P C (unit_of P C h) draft x n
+
+-- The fields of a station's word. A value without meaning may be any
+pub record Shows (word : StationWord) (tag : ℕ) (state : StationState) (value : ℕ) : Type 0 where
+  pub tag_is : tag ≡ word.tag
+  pub state_is : state_code state ≡ code word.state
+  pub value_is : HasValue word.value value
+
+abbrev pub SeesStation : Program → Sizes → List Entry → ℕ → Seen StationState → Type 0
+SeesStation P C h s seen =
+    Shows (station_word C (recent (unit_of P C h)) s) seen.tag seen.state seen.value
+
+-- The fields of an info word; 0 where the station has had no tenant
+abbrev pub ShowsInfo : Option Tenant → ℕ → ℕ → Type 0
+ShowsInfo None index predicted = (index ≡ 0) × (predicted ≡ 0)
+ShowsInfo (Some t) index predicted = (index ≡ t.index) × (predicted ≡ t.predicted)
+
+-- An info word is that of the station's last tenant, or of the let in progress
+pub record SeesInfo (P : Program) (C : Sizes) (h : List Entry) (s index predicted : ℕ) : Type 0 where
+  pub draft : Draft
+  pub proper : IsDraft P C (unit_of P C h) draft
+  pub shows : ShowsInfo (last_of (recent (info_unit P C (unit_of P C h) draft)) s) index predicted
+  -- so it is that of each live tenant of the station
+  pub its : (p : ℕ) (t : Tenant) → at (unit_of P C h).tenants p ≡ Some t → t.station ≡ s →
+      t.standing ≡ Live → (index ≡ t.index) × (predicted ≡ t.predicted)
+
+-- By the number in the word
+abbrev pub source_state_of : ℕ → SourceState
+source_state_of n = if n == 0 then Unset else if n == 1 then Wait else Val
+
+abbrev pub source_state : Option ℕ → SourceState
+source_state None = Wait
+source_state (Some v) = Val
+
+-- The fields of an operand word
+abbrev pub ShowsOperand : Option OperandWord → ℕ → SourceState → ℕ → Type 0
+ShowsOperand None tag state value = (tag ≡ 0) × (state ≡ Unset) × (value ≡ 0)
+ShowsOperand (Some o) tag state value =
+    (tag ≡ o.tag) × (state ≡ source_state o.value) × (value ≡ operand_value o.value)
+
+-- An operand word is that of the station's last tenant, or of the let in progress
+pub record SeesOperand (P : Program) (C : Sizes) (h : List Entry) (s : ℕ) (k : Source) (seen : Seen SourceState) : Type 0 where
+  pub draft : Draft
+  pub proper : IsDraft P C (unit_of P C h) draft
+  pub shows : ShowsOperand (operand_word (recent (operand_unit P C (unit_of P C h) draft k)) s k) seen.tag seen.state seen.value
+  -- so it is that of each live tenant of the station
+  pub its : (p : ℕ) (t : Tenant) → at (unit_of P C h).tenants p ≡ Some t → t.station ≡ s →
+      t.standing ≡ Live → ShowsOperand (Some (record { tag = t.tag; value = (operand k t).value })) seen.tag seen.state seen.value

@@ -1,0 +1,42 @@
+-- A new core.
+use Rattle.std.specs.Prelude.{◌≡◌, ℕ, ◌≤◌, ◌<◌, []}
+use Rattle.isa.specs.Programs.{Program}
+use Rattle.isa.specs.Settings.{Settings}
+use Rattle.inorder.specs.History.{back, front}
+use Rattle.inorder.specs.Replies.{last_tag}
+use Rattle.ruu_words.specs.declared.rule.Setup.{Setup}
+use Rattle.ruu_words.specs.Places.{words_for}
+use Rattle.station.specs.Seats.{Caller, TheCore}
+
+-- The table is made for this setup
+pub record IsCore (words : ℕ) (key setup : Setup) : Type 0 where
+  pub wide : words ≡ words_for setup.ring
+  pub key_is : key ≡ setup
+  pub least : 2 ≤ setup.ring
+  pub most : setup.ring ≤ 32
+
+-- A seat of this core that has seen nothing
+pub record IsNew (core : TheCore) (seat : Caller) : Type 0 where
+  pub core_is : seat.core ≡ core
+  pub seen : seat.seen ≡ []
+
+-- A core for this program and configuration, with its first seats
+pub record IsMade (P : Program) (config : Settings) (core : TheCore) (front_seat back_seat unit_seat : Caller) : Type 0 where
+  pub program : core.program ≡ P
+  pub sizes : core.sizes ≡ record { ring = config.ring; queue = config.queue; first_tag = config.first_tag }
+  pub opening : core.opening ≡ []
+  pub front_is : IsNew core front_seat
+  pub back_is : IsNew core back_seat
+  pub unit_is : IsNew core unit_seat
+  pub front_by : front_seat.by ≡ front
+
+-- The setup of a new core
+pub record IsSetup (P : Program) (config : Settings) (setup : Setup) : Type 0 where
+  pub program : setup.program ≡ P
+  pub ring : setup.ring ≡ config.ring
+  pub queue : setup.queue ≡ config.queue
+  pub first_tag : setup.first_tag ≡ config.first_tag
+  pub opening : setup.opening.views ≡ []
+  pub least : 2 ≤ setup.ring
+  pub most : setup.ring ≤ 32
+  pub tag : setup.first_tag < last_tag

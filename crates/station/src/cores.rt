@@ -1,0 +1,129 @@
+//! Cores.
+ghost use Rattle.std.specs.Prelude.{◌≡◌, ◌≤◌, ◌<◌, IfOk};
+ghost use Rattle.ruu_words.specs.Fields.{tag_count};
+ghost use Rattle.ruu_words.specs.Rule.{IsStart, sizes_of};
+ghost use Rattle.station.specs.Making.{IsMade, IsSetup};
+
+use crate::seat::{BackSeat, FrontSeat, SeatOf, UnitSeat};
+use atomic_table::{Badge, Split, Table};
+use isa::{Config, Memory, Program};
+use ruu_words::rule::{OneHistory, Setup, View};
+use ruu_words::{StationState, StationWord, word_count};
+use std::alloc::Global;
+use std::marker::Model;
+
+/// The shared words of one unit, and a copy of its program.
+#[derive(Drop)]
+pub struct Core {
+    pub(crate) table: Table<u8, View, Setup, OneHistory, Global>,
+    pub(crate) setup: Setup,
+}
+
+impl Model for Core {
+    ghost use Rattle.station.specs.Making.{IsCore};
+    ghost use Rattle.station.specs.Seats.{TheCore, core_of};
+
+    ghost Value = { TheCore };
+
+    ghost view = { λ c. core_of c.table.shared.table_id c.setup };
+
+    ghost invariant = { λ c. IsCore c.table.shared.table_id.words c.table.shared.key c.setup };
+}
+
+// The first seat becomes the front's, and the back's is new.
+struct BackCut;
+
+impl Split<View> for BackCut {
+    ghost use Rattle.ruu_words.specs.Rule.{view};
+    ghost use Rattle.ruu_words.specs.declared.rule.Draft.TheVariants.{Nothing};
+    ghost use Rattle.ruu_words.specs.declared.rule.Role.TheVariants.{Back, Front};
+
+    ghost left = { λ v. view Front v.seen v.draft };
+
+    ghost right = { λ v. view Back v.seen Nothing };
+}
+
+// A new unit seat has seen what this seat has seen.
+pub(crate) struct UnitCut;
+
+impl Split<View> for UnitCut {
+    ghost use Rattle.ruu_words.specs.Rule.{view};
+    ghost use Rattle.ruu_words.specs.declared.rule.Draft.TheVariants.{Nothing};
+    ghost use Rattle.ruu_words.specs.declared.rule.Role.TheVariants.{Worker};
+
+    ghost left = { λ v. view v.role v.seen v.draft };
+
+    ghost right = { λ v. view Worker v.seen Nothing };
+}
+
+fn setup_of(alloc: Global, program: &Program, config: &Config) -> Result<Setup, Memory>
+    ensures { IfOk result (λ s. IsSetup program.now config.now s) }
+{
+    let program = program.copied(alloc)?;
+    let ring = config.ring() as usize;
+    let queue = config.queue() as usize;
+    let first_tag = config.first_tag();
+    let opening = Badge::blank();
+    Ok(Setup {
+        program,
+        ring,
+        queue,
+        first_tag,
+        opening,
+    })
+}
+
+// Each station is free, with the first tag, and all other words are 0.
+fn first_words(alloc: Global, setup: &Setup) -> Result<Vec<u64>, Memory>
+    requires ring { setup.now.ring ≤ 32 }
+    requires tag { setup.now.first_tag < tag_count }
+    ensures { IfOk result (λ words. IsStart (sizes_of setup.now) words.items) }
+{
+    let free = StationWord {
+        tag: setup.first_tag,
+        state: StationState::Free,
+        value: 0,
+    };
+    let word = free.pack();
+    let count = word_count(setup.ring);
+    let mut words = Vec::from_elem(alloc, 0, count)?;
+    for s in 0..setup.ring {
+        words[s] = word;
+    }
+    Ok(words)
+}
+
+impl Core {
+    /// A core for this program, with the front's seat, the back's and a unit's. None has seen anything.
+    pub fn make(
+        alloc: Global,
+        program: &Program,
+        config: &Config,
+    ) -> Result<(Core, FrontSeat, BackSeat, UnitSeat), Memory>
+        ensures { IfOk result (λ t. IsMade program.now config.now t.0 t.1 t.2 t.3) }
+    {
+        let setup = setup_of(alloc, program, config)?;
+        let words = first_words(alloc, &setup)?;
+        let (table, mut first) = Table::of_words(alloc, words.as_slice(), &setup)?;
+        let back = table.shared.split_seat::<BackCut>(&mut first);
+        let unit = table.shared.split_seat::<UnitCut>(&mut first);
+        let front_seat = SeatOf::first_seat(first, &setup);
+        let back_seat = SeatOf::first_seat(back, &setup);
+        let unit_seat = SeatOf::first_seat(unit, &setup);
+        Ok((Core { table, setup }, front_seat, back_seat, unit_seat))
+    }
+
+    /// How many reservation stations there are.
+    pub fn ring(&self) -> usize
+        ensures { result ≡ self.now.sizes.ring }
+    {
+        self.setup.ring
+    }
+
+    /// How many loads and stores are in flight at most.
+    pub fn queue(&self) -> usize
+        ensures { result ≡ self.now.sizes.queue }
+    {
+        self.setup.queue
+    }
+}

@@ -1,0 +1,73 @@
+//! Lets.
+ghost use Rattle.std.specs.Prelude.{◌≡◌, ◌<◌, [], ◌∷◌};
+ghost use Rattle.inorder.specs.History.{Adds, IsLegal, unit_of};
+ghost use Rattle.inorder.specs.Unit.{next_station, next_tag, recent};
+ghost use Rattle.ruu_words.specs.declared.rule.Draft.TheVariants.{Nothing};
+ghost use Rattle.ruu_words.specs.Rule.{sizes_of};
+ghost use Rattle.station.specs.Letting.{IsFronts, IsLetOut, MayLetOut, let_of};
+ghost use Rattle.station.specs.Seats.{IsSame};
+ghost use Rattle.station.specs.Steps.{IsAt};
+
+use crate::answers::Tenant;
+use crate::cores::Core;
+use crate::seat::FrontSeat;
+use crate::steps::{Words, let_tenant, look, store_first, store_info, store_second};
+use crate::words::{open_word, operand_word, tag_in};
+use atomic_table::Seat;
+use ruu_words::rule::View;
+use ruu_words::{InfoWord, Place};
+
+// Stores the words of the tenant, the station's last, and gives its tag.
+fn dispatch(
+    words: &Words,
+    ring: usize,
+    seat: &mut Seat<u8, View>,
+    station: usize,
+    tenant: Tenant,
+) -> u32
+    requires of { IsAt words.now.table_id words.now.key ring seat.old.table_id }
+    requires place { station < ring }
+    requires legal { IsLegal words.now.key.program (sizes_of words.now.key) seat.old.me.0.seen }
+    requires front { IsFronts seat.old.id Nothing seat.old.me }
+    requires may { MayLetOut words.now.key.program (sizes_of words.now.key) (unit_of words.now.key.program (sizes_of words.now.key) seat.old.me.0.seen) tenant }
+    requires station { next_station (sizes_of words.now.key) (recent (unit_of words.now.key.program (sizes_of words.now.key) seat.old.me.0.seen)) ≡ station }
+    ensures same { (seat.new.table_id ≡ seat.old.table_id) × (seat.new.id ≡ seat.old.id) }
+    ensures slots { seat.new.me.1 ≡ seat.old.me.1 }
+    ensures front { IsFronts seat.old.id Nothing seat.new.me }
+    ensures tag { result ≡ next_tag (sizes_of words.now.key) (recent (unit_of words.now.key.program (sizes_of words.now.key) seat.old.me.0.seen)) }
+    ensures out { IsLetOut words.now.key.program (sizes_of words.now.key) seat.old.id tenant seat.old.me.0.seen seat.new.me.0.seen }
+{
+    let found = look(words, ring, seat, Place::Station(station));
+    let tag = tag_in(found);
+    let info = InfoWord {
+        index: tenant.index,
+        predicted: tenant.predicted,
+    };
+    let info_word = info.pack();
+    let first = operand_word(tag, tenant.sources.0);
+    let second = operand_word(tag, tenant.sources.1);
+    let open = open_word(tag);
+    store_info(words, ring, seat, station, info_word, tenant);
+    store_first(words, ring, seat, station, first, tenant);
+    store_second(words, ring, seat, station, second, tenant);
+    let_tenant(words, ring, seat, station, open, tenant);
+    tag
+}
+
+impl Core {
+    /// Lets a tenant out to the next station and gives its tag. It may be let in what the front has
+    /// seen; its tag and where its sources come from are then those of the unit.
+    pub fn let_out(&self, seat: &mut FrontSeat, tenant: Tenant) -> u32
+        requires core { seat.old.core ≡ self.now }
+        requires may { MayLetOut self.now.program self.now.sizes (unit_of self.now.program self.now.sizes seat.old.seen) tenant }
+        ensures kept { IsSame seat.old seat.new }
+        ensures history { Adds self.now.program self.now.sizes seat.old.by seat.old.seen seat.new.seen (let_of tenant ∷ []) }
+        ensures reply { result ≡ next_tag self.now.sizes (recent (unit_of self.now.program self.now.sizes seat.old.seen)) }
+    {
+        let ring = self.setup.ring;
+        let station = seat.station;
+        let tag = dispatch(&self.table.shared, ring, &mut seat.seat, station, tenant);
+        seat.station = (station + 1) % ring;
+        tag
+    }
+}

@@ -1,0 +1,18 @@
+//! The words that callers share, their seats, and every call on them. Each step is one load, store,
+//! swap or compare-exchange of one word; no call waits, and none but `Core::make` takes memory.
+#![tactic(auto)]
+
+mod answers;
+mod cores;
+mod dispatch;
+mod look;
+mod meet;
+mod seat;
+mod steps;
+mod words;
+
+pub use answers::{Seen, SourceState, Supply, Tenant};
+pub use cores::Core;
+pub use inorder::history::Source;
+pub use ruu_words::StationState;
+pub use seat::{BackSeat, FrontSeat, Part, SeatOf, UnitSeat};

@@ -1,0 +1,70 @@
+//! Reading calls.
+ghost use Rattle.std.specs.Prelude.{◌≡◌, ◌<◌, []};
+ghost use Rattle.inorder.specs.History.{Adds};
+ghost use Rattle.ruu_words.specs.Places.{IsPlace};
+ghost use Rattle.station.specs.Looking.{SeesInfo, SeesOperand, SeesStation, SeesWord};
+ghost use Rattle.station.specs.Seats.{IsSame};
+
+use crate::answers::{Seen, SourceState};
+use crate::cores::Core;
+use crate::seat::{BackSeat, Part, SeatOf};
+use crate::steps;
+use crate::words::{source_state, tag_in, value_in};
+use inorder::history::Source;
+use ruu_words::{InfoWord, Place, StationState, StationWord};
+
+impl Core {
+    // Looks at any word.
+    pub(crate) fn read<P: Part>(&self, seat: &mut SeatOf<P>, place: Place) -> u64
+        requires core { seat.old.core ≡ self.now }
+        requires place { IsPlace self.now.sizes.ring place }
+        ensures kept { IsSame seat.old seat.new }
+        ensures history { Adds self.now.program self.now.sizes seat.old.by seat.old.seen seat.new.seen [] }
+        ensures reply { SeesWord self.now.program self.now.sizes seat.new.seen place result }
+    {
+        steps::look(&self.table.shared, self.setup.ring, &mut seat.seat, place)
+    }
+
+    /// The word of a station.
+    pub fn look<P: Part>(&self, seat: &mut SeatOf<P>, station: usize) -> Seen<StationState>
+        requires core { seat.old.core ≡ self.now }
+        requires station { station < self.now.sizes.ring }
+        ensures kept { IsSame seat.old seat.new }
+        ensures history { Adds self.now.program self.now.sizes seat.old.by seat.old.seen seat.new.seen [] }
+        ensures reply { SeesStation self.now.program self.now.sizes seat.new.seen station result }
+    {
+        let word = self.read(seat, Place::Station(station));
+        let StationWord { tag, state, value } = StationWord::unpack(word);
+        Seen { tag, state, value }
+    }
+
+    /// The info word of a station: the index of an instruction, and its predicted next pc.
+    pub fn info(&self, seat: &mut BackSeat, station: usize) -> (u32, u32)
+        requires core { seat.old.core ≡ self.now }
+        requires station { station < self.now.sizes.ring }
+        ensures kept { IsSame seat.old seat.new }
+        ensures history { Adds self.now.program self.now.sizes seat.old.by seat.old.seen seat.new.seen [] }
+        ensures reply { SeesInfo self.now.program self.now.sizes seat.new.seen station result.0 result.1 }
+    {
+        let word = self.read(seat, Place::Info(station));
+        let InfoWord { index, predicted } = InfoWord::unpack(word);
+        (index, predicted)
+    }
+
+    /// The operand word of source k of a station.
+    pub fn operand(&self, seat: &mut BackSeat, station: usize, k: Source) -> Seen<SourceState>
+        requires core { seat.old.core ≡ self.now }
+        requires station { station < self.now.sizes.ring }
+        ensures kept { IsSame seat.old seat.new }
+        ensures history { Adds self.now.program self.now.sizes seat.old.by seat.old.seen seat.new.seen [] }
+        ensures reply { SeesOperand self.now.program self.now.sizes seat.new.seen station k result }
+    {
+        let word = self.read(seat, Place::Operand(station, k));
+        let state = source_state(word);
+        Seen {
+            tag: tag_in(word),
+            state,
+            value: value_in(word),
+        }
+    }
+}

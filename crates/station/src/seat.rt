@@ -1,0 +1,89 @@
+//! Seats.
+use atomic_table::Seat;
+use inorder::history::Entry;
+use ruu_words::rule::{Setup, View};
+use std::marker::{Model, PhantomData};
+use std::snapshot::Snapshot;
+
+/// Whose seat it is.
+pub trait Part {
+    ghost use Rattle.ruu_words.specs.declared.rule.Role.{Role};
+
+    ghost role: { Role };
+}
+
+/// The front's part.
+#[derive(Drop)]
+pub struct FrontPart;
+
+impl Part for FrontPart {
+    ghost use Rattle.ruu_words.specs.declared.rule.Role.TheVariants.{Front};
+
+    ghost role = { Front };
+}
+
+/// The back's part.
+#[derive(Drop)]
+pub struct BackPart;
+
+impl Part for BackPart {
+    ghost use Rattle.ruu_words.specs.declared.rule.Role.TheVariants.{Back};
+
+    ghost role = { Back };
+}
+
+/// A unit's part.
+#[derive(Drop)]
+pub struct UnitPart;
+
+impl Part for UnitPart {
+    ghost use Rattle.ruu_words.specs.declared.rule.Role.TheVariants.{Worker};
+
+    ghost role = { Worker };
+}
+
+/// A seat at one core. Contracts see which core it is, the caller's number and what it has seen.
+#[derive(Drop)]
+pub struct SeatOf<P: Part> {
+    pub(crate) seat: Seat<u8, View>,
+    pub(crate) setup: Snapshot<Setup>,
+    // where the front's next tenant goes
+    pub(crate) station: usize,
+    pub(crate) part: PhantomData<P>,
+}
+
+impl<P: Part> Model for SeatOf<P> {
+    ghost use Rattle.ruu_words.specs.Rule.{sizes_of};
+    ghost use Rattle.station.specs.Seats.{Caller, IsSeated, core_of};
+
+    ghost Value = { Caller };
+
+    ghost view = { λ s. record { core = core_of s.seat.table_id s.setup.value; by = s.seat.id; seen = s.seat.me.0.seen } };
+
+    ghost invariant = { λ s. IsSeated s.setup.value.program (sizes_of s.setup.value) P.role s.seat.id s.station s.seat.me };
+}
+
+impl<P: Part> SeatOf<P> {
+    ghost use Rattle.std.specs.Prelude.{◌≡◌};
+    ghost use Rattle.ruu_words.specs.Rule.{sizes_of};
+    ghost use Rattle.station.specs.Seats.{IsSeated, core_of};
+
+    // A seat at a core where nothing was done yet.
+    pub(crate) fn first_seat(seat: Seat<u8, View>, setup: &Setup) -> SeatOf<P>
+        requires { IsSeated setup.now.program (sizes_of setup.now) P.role seat.id 0 seat.me }
+        ensures { result ≡ record { core = core_of seat.table_id setup.now; by = seat.id; seen = seat.me.0.seen } }
+    {
+        SeatOf {
+            seat,
+            setup: Snapshot::of(setup),
+            station: 0,
+            part: PhantomData,
+        }
+    }
+}
+
+pub type FrontSeat = SeatOf<FrontPart>;
+
+pub type BackSeat = SeatOf<BackPart>;
+
+pub type UnitSeat = SeatOf<UnitPart>;

@@ -1,0 +1,22 @@
+//! Loads that add nothing.
+ghost use Rattle.std.specs.Prelude.{◌≡◌, ◌<◌};
+ghost use Rattle.ruu_words.specs.Places.{IsPlace};
+ghost use Rattle.ruu_words.specs.Rule.{IsAlive, sizes_of};
+ghost use Rattle.station.specs.Steps.{Grown, IsAt, Sees};
+
+use super::{Words, load};
+use atomic_table::Seat;
+use ruu_words::Place;
+use ruu_words::rule::View;
+use std::marker::Brand;
+
+/// Looks at a word.
+pub(crate) fn look(words: &Words, ring: usize, seat: &mut Seat<u8, View>, place: Place) -> u64
+    requires of { IsAt words.now.table_id words.now.key ring seat.old.table_id }
+    requires place { IsPlace ring place }
+    requires alive { IsAlive seat.old.me.0.role }
+    ensures same { (seat.new.table_id ≡ seat.old.table_id) × (seat.new.id ≡ seat.old.id) }
+    ensures step { Grown words.now.key seat.old.id seat.old.me seat.new.me (Sees words.now.key.program (sizes_of words.now.key) seat.old.id seat.old.me.0 place result) }
+{
+    load::<Brand, ()>(words, ring, seat, place, ())
+}

@@ -1,0 +1,65 @@
+//! Words, made and read.
+ghost use Rattle.std.specs.Prelude.{◌≡◌, ◌<◌};
+ghost use Rattle.inorder.specs.StationWords.{live_word};
+ghost use Rattle.inorder.specs.Tenants.{Open};
+ghost use Rattle.ruu_words.specs.Content.{IsOperandOf, IsStation};
+ghost use Rattle.ruu_words.specs.Fields.{state_of, tag_count, tag_of, value_of};
+ghost use Rattle.station.specs.Letting.{given_value};
+ghost use Rattle.station.specs.Looking.{source_state_of};
+
+use crate::answers::{SourceState, Supply};
+use ruu_words::{OperandState, OperandWord, StationState, StationWord};
+
+/// The tag of a station's or an operand's word.
+pub(crate) fn tag_in(word: u64) -> u32
+    ensures value { result ≡ tag_of word }
+    ensures small { result < tag_count }
+{
+    (word >> 36) as u32
+}
+
+/// The value in a station's or an operand's word.
+pub(crate) fn value_in(word: u64) -> u32
+    ensures { result ≡ value_of word }
+{
+    (word & 0xffff_ffff) as u32
+}
+
+/// What an operand word says of its source.
+pub(crate) fn source_state(word: u64) -> SourceState
+    ensures { result ≡ source_state_of (state_of word) }
+{
+    let code = (word >> 32) & 15;
+    if code == 0 {
+        SourceState::Unset
+    } else if code == 1 {
+        SourceState::Wait
+    } else {
+        SourceState::Val
+    }
+}
+
+/// The operand word of a source that is given at a let.
+pub(crate) fn operand_word(tag: u32, source: Supply) -> u64
+    requires { tag < tag_count }
+    ensures { IsOperandOf (record { tag = tag; value = given_value source }) result }
+{
+    let (state, value) = match source {
+        Supply::Known(value) => (OperandState::Val, value),
+        Supply::From { .. } => (OperandState::Wait, 0),
+    };
+    OperandWord { tag, state, value }.pack()
+}
+
+/// The word of an open tenant.
+pub(crate) fn open_word(tag: u32) -> u64
+    requires { tag < tag_count }
+    ensures { IsStation (live_word tag Open) result }
+{
+    let word = StationWord {
+        tag,
+        state: StationState::Open,
+        value: 0,
+    };
+    word.pack()
+}

@@ -1,0 +1,135 @@
+-- The turns, with what they do to the predictor.
+use Rattle.std.proofs.Common.{◌≡◌, ◌≢◌, ℕ, suc, ◌+◌, ◌-◌, ◌%◌, ◌^◌, ◌<◌, ◌≤◌, Bool, List, [], ◌∷◌, ◌++◌, length, Option, Some, None, refl, sym, ap, ◌∙◌, subst, arith, mod-lt}
+use Rattle.std.specs.Prelude.{IfSome, slice_get, slice_set}
+use Rattle.isa.specs.Instruction.{fixed_next}
+use Rattle.isa.specs.Programs.{Program, instr_of}
+use Rattle.isa.specs.declared.instr.Instr.{Instr}
+use Rattle.isa.specs.declared.stop.Stop.{Stop}
+use Rattle.inorder.specs.Unit.{Sizes, UpdateUnit, front_pc, next_station}
+use Rattle.unit_laws.specs.Moves.{IsReached}
+use Rattle.unit.specs.declared.bench.Turn.{Turn}
+use Rattle.unit.specs.declared.bench.Turn.TheVariants.{Let, Loaded, Over, Ran, Recovered, Retired}
+use Rattle.unit.specs.declared.dispatch.Fetched.{Fetched}
+use Rattle.unit.specs.declared.leaver.Leaver.{Leaver}
+use Rattle.unit.specs.declared.pipeline.Pipeline.{Pipeline}
+use Rattle.unit.specs.Givers.{NoneGives}
+use Rattle.unit.specs.Leavers.{IsAsked, leaver}
+use Rattle.unit.specs.Notes.{AreNoted, miss_in}
+use Rattle.unit.specs.Stages.{CanLet, RecoversTo}
+use Rattle.unit.specs.StandsFor.{HasStopped, IsUnit, OverIs, StandsFor, sizes}
+use Rattle.unit.specs.Turns.{Before, Core, Does, Falls, Guesses, IsPlain, IsSame, IsTurn, Moves, Trains, Turned, rank}
+use Rattle.unit.specs.Window.{let_at}
+use Rattle.unit.proofs.EndTurns.{window_room}
+use Rattle.unit.proofs.Idle.{Shows, same_rest}
+use Rattle.unit.proofs.LetTurns.{LetTurned, let_turn}
+use Rattle.unit.proofs.Noted.{noted_more}
+use Rattle.unit.proofs.Ranks.{let_falls, recover_falls}
+use Rattle.unit.proofs.Start.{unit_next}
+use Rattle.unit.proofs.Turns.{recovered_turn}
+
+abbrev pub core : {S : Type 0} → Pipeline → S → Core S
+core b s = record { pipeline = b; predictor = s }
+
+-- The unit has ended before
+
+pub before_moves : (b : Pipeline) (c : Stop) → b.over ≡ Some c → Moves b (Over c) b
+before_moves b c e U r s = let o : HasStopped U.tenants c = subst (OverIs U.tenants) e s.over in record { unit = U; reached = r; stands = s; does = Before o refl }
+
+-- Recovered
+
+pub recovered_shows : (b later : Pipeline) → IsUnit b → b.over ≡ None → RecoversTo b.window later.window → later ≡ record b { window = later.window; missed = later.missed; settled = later.settled } → AreNoted later.missed later.settled later.window → Shows b Recovered later
+recovered_shows b later h none to rest noted =
+    let turn = recovered_turn b later none to rest in
+    let same = same_rest b later later.window later.missed later.settled rest in
+    record {
+      turn = turn;
+      falls = (ap (λ x. x.committed) rest, recover_falls b.window later.window (window_room b h) to);
+      unit = unit_next b later Recovered h turn same (ap (λ x. length x.leavers) rest ∙ h.leavers) noted;
+      same = same;
+    }
+
+-- A turn that is no let leaves the predictor
+
+module _ {S : Type 0} (Predicts : S → ℕ → Instr → ℕ → S → Type 0) (Learns : S → ℕ → ℕ → S → Type 0) where
+  plain_trains : (P : Program) (C : Sizes) (U V : UpdateUnit) (answer : Turn) (d : Does P C U V answer) (old new : S) → IsPlain answer → new ≡ old → Trains Predicts Learns P C U V answer d old new
+  plain_trains P C U V Recovered d old new p e = e
+  plain_trains P C U V Ran d old new p e = e
+  plain_trains P C U V Loaded d old new p e = e
+  plain_trains P C U V Retired d old new p e = e
+  plain_trains P C U V (Over c) d old new p e = e
+  plain_trains P C U V Let d old new p e = absurd p
+
+  pub plain_turn : (b later : Core S) (answer : Turn) → IsPlain answer → Moves b.pipeline answer later.pipeline → later.predictor ≡ b.predictor → IsTurn Predicts Learns b answer later
+  plain_turn b later answer p m e U r s =
+      let x = m U r s in
+      record {
+        unit = x.unit;
+        reached = x.reached;
+        stands = x.stands;
+        does = x.does;
+        trains = plain_trains b.pipeline.program.now (sizes b.pipeline) U x.unit answer x.does b.predictor later.predictor p e;
+      }
+
+  pub moves_of : (b later : Core S) (answer : Turn) → IsTurn Predicts Learns b answer later → Moves b.pipeline answer later.pipeline
+  moves_of b later answer t U r s = let x = t U r s in record { unit = x.unit; reached = x.reached; stands = x.stands; does = x.does }
+
+  -- a guess where the next pc is fixed is that
+  pub guess_fixed : (f : Option ℕ) (pc : ℕ) (i : Instr) (guess : ℕ) (old new : S) → IsAsked Predicts f pc i guess old new → IfSome f (λ x. guess ≡ x)
+  guess_fixed None pc i guess old new a = tt
+  guess_fixed (Some x) pc i guess old new a = a.0
+
+  -- the let trains as it guesses
+  pub let_turned : (b later : Core S) (f : Fetched) (guess : ℕ) (left : Option Leaver) → slice_get b.pipeline.leavers ((b.pipeline.committed.count + length b.pipeline.window) % b.pipeline.ring) ≡ Some left → Guesses Predicts Learns left f.instr f.pc guess b.predictor later.predictor → ((U : UpdateUnit) → IsReached b.pipeline.program.now (sizes b.pipeline) U → StandsFor b.pipeline U → LetTurned b.pipeline U f guess later.pipeline) → IsTurn Predicts Learns b Let later
+  let_turned b later f guess left el g h U r s = go (h U r s)
+    where
+      go : LetTurned b.pipeline U f guess later.pipeline → Turned Predicts Learns b U Let later
+      go x =
+          let both : Some left ≡ Some (leaver b.pipeline.program.now U.tenants (next_station (sizes b.pipeline) U.tenants)) = sym el ∙ x.leaver in
+          let same : left ≡ leaver b.pipeline.program.now U.tenants (next_station (sizes b.pipeline) U.tenants) = cc both in
+          let one = subst (λ l. Guesses Predicts Learns l f.instr f.pc guess b.predictor later.predictor) same g in
+          let two = subst (λ i. Guesses Predicts Learns (leaver b.pipeline.program.now U.tenants (next_station (sizes b.pipeline) U.tenants)) i f.pc guess b.predictor later.predictor) (sym x.instr) one in
+          let three = subst (λ p. Guesses Predicts Learns (leaver b.pipeline.program.now U.tenants (next_station (sizes b.pipeline) U.tenants)) (instr_of b.pipeline.program.now x.does.index) p guess b.predictor later.predictor) (sym x.front) two in
+          let four = subst (λ n. Guesses Predicts Learns (leaver b.pipeline.program.now U.tenants (next_station (sizes b.pipeline) U.tenants)) (instr_of b.pipeline.program.now x.does.index) (front_pc U.tenants) n b.predictor later.predictor) (sym x.predicted) three in
+          record { unit = x.unit; reached = x.reached; stands = x.stands; does = x.does; trains = four }
+
+-- Let
+
+pub let_shows : (b later : Pipeline) (f : Fetched) (guess : ℕ) → IsUnit b → b.over ≡ None → NoneGives miss_in b.window → CanLet b.program.now b.ring b.queue b.committed.pc b.window f → guess < 2 ^ 32 → IfSome (fixed_next f.instr f.pc) (λ x. guess ≡ x) → later.window ≡ b.window ++ let_at f.instr f.pc guess ∷ [] → later.leavers ≡ slice_set b.leavers ((b.committed.count + length b.window) % b.ring) None → later ≡ record b { window = later.window; leavers = later.leavers } → Shows b Let later
+let_shows b later f guess h none nm to small predicts wl ll rest =
+    record { turn = turn; falls = falls; unit = unit_next b later Let h turn same long noted; same = same }
+  where
+    less : (b.committed.count + length b.window) % b.ring < b.ring
+    less = mod-lt (b.committed.count + length b.window) h.room
+
+    turn : Moves b Let later
+    turn U r s =
+        let x = let_turn b later f guess ((b.committed.count + length b.window) % b.ring) none h.room h.ring h.leavers nm to small predicts refl less wl ll rest U r s in
+        record { unit = x.unit; reached = x.reached; stands = x.stands; does = x.does }
+
+    room : length b.window < 32
+    room = omega (arith, to.room, h.ring)
+
+    falls : Falls Let b later
+    falls = (ap (λ x. x.committed) rest, subst (λ W. rank 32 W < rank 32 b.window) (sym wl) (let_falls b.window (let_at f.instr f.pc guess) room (omega arith)))
+
+    same : IsSame b later
+    same = record { program = ap (λ x. x.program) rest; ring = ap (λ x. x.ring) rest; queue = ap (λ x. x.queue) rest; first_tag = ap (λ x. x.first_tag) rest }
+
+    long : length later.leavers ≡ 32
+    long = ap length ll ∙ Rattle.std.proofs.Common.length-set b.leavers _ _ ∙ h.leavers
+
+    noted : AreNoted later.missed later.settled later.window
+    noted =
+        subst (λ m. AreNoted m later.settled later.window) (sym (ap (λ x. x.missed) rest))
+        (subst (λ n. AreNoted b.missed n later.window) (sym (ap (λ x. x.settled) rest)) (subst (AreNoted b.missed b.settled) (sym wl) (noted_more b.missed b.settled b.window (let_at f.instr f.pc guess) refl h.noted)))
+
+pub let_room : (b : Pipeline) (f : Fetched) → IsUnit b → CanLet b.program.now b.ring b.queue b.committed.pc b.window f → length b.window < 32
+let_room b f h to = omega (arith, to.room, h.ring)
+
+-- the let of a core
+module _ {S : Type 0} (Predicts : S → ℕ → Instr → ℕ → S → Type 0) (Learns : S → ℕ → ℕ → S → Type 0) where
+  pub let_core : (b later : Core S) (f : Fetched) (guess : ℕ) (left : Option Leaver) → IsUnit b.pipeline → b.pipeline.over ≡ None → NoneGives miss_in b.pipeline.window → CanLet b.pipeline.program.now b.pipeline.ring b.pipeline.queue b.pipeline.committed.pc b.pipeline.window f → guess < 2 ^ 32 → slice_get b.pipeline.leavers ((b.pipeline.committed.count + length b.pipeline.window) % b.pipeline.ring) ≡ Some left → Guesses Predicts Learns left f.instr f.pc guess b.predictor later.predictor → later.pipeline.window ≡ b.pipeline.window ++ let_at f.instr f.pc guess ∷ [] → later.pipeline.leavers ≡ slice_set b.pipeline.leavers ((b.pipeline.committed.count + length b.pipeline.window) % b.pipeline.ring) None → later.pipeline ≡ record b.pipeline { window = later.pipeline.window; leavers = later.pipeline.leavers } → IsTurn Predicts Learns b Let later
+  let_core b later f guess left h none nm to small el g wl ll rest =
+      let fixed = guess_fixed Predicts Learns (fixed_next f.instr f.pc) f.pc f.instr guess g.middle later.predictor g.asked in
+      let less : (b.pipeline.committed.count + length b.pipeline.window) % b.pipeline.ring < b.pipeline.ring = mod-lt (b.pipeline.committed.count + length b.pipeline.window) h.room in
+      let_turned Predicts Learns b later f guess left el g (λ U r s. let_turn b.pipeline later.pipeline f guess ((b.pipeline.committed.count + length b.pipeline.window) % b.pipeline.ring) none h.room h.ring h.leavers nm to small fixed refl less wl ll rest U r s)

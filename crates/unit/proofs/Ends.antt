@@ -1,0 +1,106 @@
+-- How a run ends.
+use Rattle.std.proofs.Common.{◌≡◌, ℕ, suc, ◌+◌, ◌-◌, ◌*◌, ◌^◌, ◌<◌, ◌≤◌, Some, refl, sym, ap, ◌∙◌, subst, arith, suc-mul}
+use Rattle.isa.specs.Programs.{Program}
+use Rattle.isa.specs.declared.stop.Stop.{Stop}
+use Rattle.isa.specs.declared.end.Ending.TheVariants.{Stop as ByStop, Limit as ByLimit}
+use Rattle.inorder.specs.Committed.{committed}
+use Rattle.inorder.specs.Machine.{Goes, Halts, Ran as RanStep, State, fetched, step}
+use Rattle.inorder.specs.Runs.{after, end_after, end_from, next_state, stop, stop_of, then_state, then_stop}
+use Rattle.inorder.specs.Unit.{Sizes, UpdateUnit}
+use Rattle.inorder.proofs.Follows.{in_order}
+use Rattle.unit_laws.specs.Moves.{IsReached}
+use Rattle.unit_laws.proofs.Sequences.{sound_of}
+use Rattle.unit.specs.declared.bench.Turn.{Turn}
+use Rattle.unit.specs.declared.bench.Turn.TheVariants.{Let, Loaded, Over, Ran, Recovered, Retired}
+use Rattle.unit.specs.declared.pipeline.Pipeline.{Pipeline}
+use Rattle.unit.specs.StandsFor.{IsUnit, sizes}
+use Rattle.unit.specs.Turns.{Before, Falls, IsOver, IsSame, Moves, Now, Nowhere, rank}
+use Rattle.unit.proofs.Ranks.{rank_bound}
+
+state_is : (b : Pipeline) → IsUnit b → after b.program.now b.committed.count ≡ Some b.committed
+state_is b h =
+    let P = b.program.now in
+    let e = (in_order P h.unit.tenants (sound_of P (sizes b) h.unit h.reached)).state in
+    subst (λ s. after P s.count ≡ Some s) (sym h.stands.committed) e
+
+-- the code of an over is that of the machine in order
+over_stop : (P : Program) (C : Sizes) (U V : UpdateUnit) (c : Stop) → IsReached P C U → IsReached P C V → IsOver P C U V c → stop P (committed P V.tenants).count ≡ Some c
+over_stop P C U V c r q (Before s e) = (in_order P V.tenants (sound_of P C V q)).stops s.p s.tenant c s.is s.retired s.fate
+over_stop P C U V c r q (Now k s) = (in_order P V.tenants (sound_of P C V q)).stops s.p s.tenant c s.is s.retired s.fate
+over_stop P C U V c r q (Nowhere b l n e) =
+    ap (λ W. stop P (committed P W.tenants).count) e
+    ∙ ap (then_stop P) (in_order P U.tenants (sound_of P C U r)).state
+    ∙ ap (λ i. stop_of (fetched P (committed P U.tenants) i)) n
+    ∙ ap Some (sym b)
+
+over_is : (b later : Pipeline) (c : Stop) → IsUnit b → Moves b (Over c) later → IsSame b later → stop b.program.now later.committed.count ≡ Some c
+over_is b later c h t e =
+    let P = b.program.now in
+    let n = t h.unit h.reached h.stands in
+    let same : later.committed ≡ committed P n.unit.tenants = n.stands.committed ∙ ap (λ Q. committed Q n.unit.tenants) (ap (λ p. p.now) e.program) in
+    ap (λ s. stop P s.count) same ∙ over_stop P (sizes b) h.unit n.unit c h.reached n.reached n.does
+
+-- the state behind a turn is that of the machine in order
+state_next : (b later : Pipeline) (answer : Turn) → IsUnit b → Moves b answer later → IsSame b later → after b.program.now later.committed.count ≡ Some later.committed
+state_next b later answer h t e =
+    let P = b.program.now in
+    let n = t h.unit h.reached h.stands in
+    let same : later.committed ≡ committed P n.unit.tenants = n.stands.committed ∙ ap (λ Q. committed Q n.unit.tenants) (ap (λ p. p.now) e.program) in
+    subst (λ s. after P s.count ≡ Some s) (sym same) (in_order P n.unit.tenants (sound_of P (sizes b) n.unit n.reached)).state
+
+-- One more step of the machine in order
+
+goes_of : (r : RanStep) (t : State) → next_state r ≡ Some t → r ≡ Goes t
+goes_of (Goes s) t e = let same : s ≡ t = cc in ap Goes same
+goes_of (Halts c) t e = absurd (cc)
+
+halts_of : (r : RanStep) (c : Stop) → stop_of r ≡ Some c → r ≡ Halts c
+halts_of (Goes s) c e = absurd (cc)
+halts_of (Halts d) c e = let same : d ≡ c = cc in ap Halts same
+
+end_goes : (P : Program) (k : ℕ) (s t : State) → step P s ≡ Goes t → end_from P (suc k) s ≡ end_from P k t
+end_goes P k s t e = ap (end_after (end_from P k) s) e
+
+end_halts : (P : Program) (k : ℕ) (s : State) (c : Stop) → step P s ≡ Halts c → end_from P (suc k) s ≡ (ByStop c, s)
+end_halts P k s c e = ap (end_after (end_from P k) s) e
+
+-- where the run goes on from later, it ends as from b
+pub ends_same : (limit : ℕ) (b later : Pipeline) (answer : Turn) → IsUnit b → Moves b answer later → IsSame b later → b.committed.count < limit → ((c : Stop) → answer ≡ Over c → ⊥) → Falls answer b later → end_from b.program.now (limit - later.committed.count) later.committed ≡ end_from b.program.now (limit - b.committed.count) b.committed
+ends_same limit b later Recovered h l e q n f = ap (λ s. end_from b.program.now (limit - s.count) s) f.0
+ends_same limit b later Let h l e q n f = ap (λ s. end_from b.program.now (limit - s.count) s) f.0
+ends_same limit b later Ran h l e q n f = ap (λ s. end_from b.program.now (limit - s.count) s) f.0
+ends_same limit b later Loaded h l e q n f = ap (λ s. end_from b.program.now (limit - s.count) s) f.0
+ends_same limit b later (Over c) h l e q n f = absurd (n c refl)
+ends_same limit b later Retired h l e q n f =
+    let P = b.program.now in
+    let next : after P later.committed.count ≡ Some later.committed = state_next b later Retired h l e in
+    let came : next_state (step P b.committed) ≡ Some later.committed = sym (ap (then_state P) (state_is b h)) ∙ sym (ap (after P) f) ∙ next in
+    let k : limit - b.committed.count ≡ suc (limit - later.committed.count) = omega (arith, q, f) in
+    sym (ap (λ x. end_from P x b.committed) k ∙ end_goes P (limit - later.committed.count) b.committed later.committed (goes_of (step P b.committed) later.committed came))
+
+-- the run is over
+pub ends_over : (limit : ℕ) (b later : Pipeline) (c : Stop) → IsUnit b → Moves b (Over c) later → IsSame b later → b.committed.count < limit → Falls (Over c) b later → (ByStop c, later.committed) ≡ end_from b.program.now (limit - b.committed.count) b.committed
+ends_over limit b later c h t e q f =
+    let P = b.program.now in
+    let stops : stop_of (step P b.committed) ≡ Some c = sym (ap (then_stop P) (state_is b h)) ∙ ap (λ s. stop P s.count) (sym f) ∙ over_is b later c h t e in
+    let k : limit - b.committed.count ≡ suc (limit - b.committed.count - 1) = omega (arith, q) in
+    ap (λ s. (ByStop c, s)) f ∙ sym (ap (λ x. end_from P x b.committed) k ∙ end_halts P (limit - b.committed.count - 1) b.committed c (halts_of (step P b.committed) c stops))
+
+pub ends_limit : (limit : ℕ) (b : Pipeline) → limit ≤ b.committed.count → (ByLimit, b.committed) ≡ end_from b.program.now (limit - b.committed.count) b.committed
+ends_limit limit b h = let k : limit - b.committed.count ≡ 0 = omega (arith, h) in sym (ap (λ x. end_from b.program.now x b.committed) k)
+
+-- The measure of a run
+
+abbrev pub left : ℕ → Pipeline → ℕ
+left limit b = (limit - b.committed.count) * 7 ^ 32 + rank 32 b.window
+
+pub left_falls : (limit : ℕ) (b later : Pipeline) (answer : Turn) → b.committed.count < limit → ((c : Stop) → answer ≡ Over c → ⊥) → Falls answer b later → left limit later < left limit b
+left_falls limit b later Recovered h n f = let e = ap (λ s. (limit - s.count) * 7 ^ 32) f.0 in omega (arith, e, f.1)
+left_falls limit b later Let h n f = let e = ap (λ s. (limit - s.count) * 7 ^ 32) f.0 in omega (arith, e, f.1)
+left_falls limit b later Ran h n f = let e = ap (λ s. (limit - s.count) * 7 ^ 32) f.0 in omega (arith, e, f.1)
+left_falls limit b later Loaded h n f = let e = ap (λ s. (limit - s.count) * 7 ^ 32) f.0 in omega (arith, e, f.1)
+left_falls limit b later Retired h n f =
+    let e : limit - b.committed.count ≡ suc (limit - later.committed.count) = omega (arith, h, f) in
+    let m = ap (λ x. x * 7 ^ 32) e ∙ suc-mul (limit - later.committed.count) (7 ^ 32) in
+    omega (arith, m, rank_bound 32 later.window)
+left_falls limit b later (Over c) h n f = absurd (n c refl)

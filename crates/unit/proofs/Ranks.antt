@@ -1,0 +1,118 @@
+-- The measure falls.
+use Rattle.std.proofs.Common.{◌≡◌, ℕ, zero, suc, ◌*◌, ◌^◌, ◌<◌, ◌≤◌, Bool, true, false, cond, eqb, List, [], ◌∷◌, ◌++◌, length, take, Option, Some, refl, sym, ap, ◌∙◌, subst, arith, append-nil, mul-le-mul_right, suc-mul, length-append}
+use Rattle.std.specs.Prelude.{slice_set}
+use Rattle.std.proofs.Math.Nat.{pow-succ'}
+use Rattle.isa.specs.Instruction.{kind}
+use Rattle.isa.specs.Operations.{outcome}
+use Rattle.isa.specs.declared.op.Kind.{Kind}
+use Rattle.isa.specs.declared.op.Kind.TheVariants.{Computes, Jumps, Links, Loads, Stores}
+use Rattle.isa.specs.declared.stop.Outcome.{Outcome}
+use Rattle.isa.specs.declared.stop.Outcome.TheVariants.{Address, Next, Stop, Value}
+use Rattle.unit.specs.declared.execute.Operands.{Operands}
+use Rattle.unit.specs.declared.station.Station.{Station}
+use Rattle.unit.specs.declared.station.Stage.{Stage}
+use Rattle.unit.specs.declared.station.Stage.TheVariants.{Open, Addr, Done, Miss, Stops}
+use Rattle.unit.specs.Loads.{load_in, waits_by}
+use Rattle.unit.specs.Notes.{miss_in}
+use Rattle.unit.specs.Stages.{LoadsTo, RecoversTo, RunsTo}
+use Rattle.unit.specs.Turns.{digit, rank}
+use Rattle.unit.specs.Window.{finished, mended, miss_of, operands_in, where_open}
+use Rattle.unit.proofs.Entries.{answered_waits}
+use Rattle.unit.proofs.Noted.{given_station}
+use Rattle.unit.proofs.Scan.{Place, place_at, set_middle, take_middle}
+
+digit_most : (s : Stage) → digit s ≤ 5
+digit_most Open = omega arith
+digit_most (Addr a) = omega arith
+digit_most Done = omega arith
+digit_most (Miss x) = omega arith
+digit_most (Stops c) = omega arith
+
+pow_next : (k : ℕ) → 7 ^ suc k ≡ 7 * 7 ^ k
+pow_next k = pow-succ' 7 k
+
+pub rank_bound : (k : ℕ) (ws : List Station) → rank k ws < 7 ^ k
+rank_bound zero ws = omega arith
+rank_bound (suc k) [] = omega (arith, rank_bound k [], pow_next k)
+rank_bound (suc k) (w ∷ ws) = let m = mul-le-mul_right (7 ^ k) (digit_most w.stage) in omega (arith, rank_bound k ws, pow_next k, m)
+
+-- a list whose first digit is at least d
+abbrev Leads : List Station → ℕ → Type 0
+Leads [] d = d ≤ 6
+Leads (w ∷ ws) d = d ≤ digit w.stage
+
+rank_less : (k : ℕ) (xs : List Station) (w : Station) (zs us : List Station) → length xs < k → Leads us (suc (digit w.stage)) → rank k (xs ++ w ∷ zs) < rank k (xs ++ us)
+rank_less zero xs w zs us h l = absurd (omega (arith, h))
+rank_less (suc k) [] w zs [] h l = let m = mul-le-mul_right (7 ^ k) l in omega (arith, m, rank_bound k zs, suc-mul (digit w.stage) (7 ^ k))
+rank_less (suc k) [] w zs (u ∷ us) h l = let m = mul-le-mul_right (7 ^ k) l in omega (arith, m, rank_bound k zs, suc-mul (digit w.stage) (7 ^ k))
+rank_less (suc k) (x ∷ xs) w zs us h l = let less : length xs < k = omega arith in let more = rank_less k xs w zs us less l in omega (arith, more)
+
+-- one station gets a lower digit, whatever stands behind it
+lower : (W W' zs : List Station) (i : ℕ) (w v : Station) → length W ≤ 32 → (p : Place W i w) → W' ≡ p.xs ++ v ∷ zs → suc (digit v.stage) ≤ digit w.stage → rank 32 W' < rank 32 W
+lower W W' zs i w v room p new less =
+    let few : length p.xs < 32 = omega (arith, room, ap length p.is, length-append p.xs (w ∷ p.zs)) in
+    subst (λ l. rank 32 l < rank 32 W) (sym new) (subst (λ l. rank 32 (p.xs ++ v ∷ zs) < rank 32 l) (sym p.is) (rank_less 32 p.xs v zs (w ∷ p.zs) few less))
+
+set_place : (W : List Station) (i : ℕ) (w v : Station) (p : Place W i w) → slice_set W i v ≡ p.xs ++ v ∷ p.zs
+set_place W i w v p = ap (λ l. slice_set l i v) p.is ∙ ap (λ k. slice_set (p.xs ++ w ∷ p.zs) k v) p.place ∙ set_middle p.xs p.zs w v
+
+miss_digit : (s : Stage) (x : ℕ) → miss_of s ≡ Some x → digit s ≡ 2
+miss_digit Open x e = absurd (cc)
+miss_digit (Addr a) x e = absurd (cc)
+miss_digit Done x e = absurd (cc)
+miss_digit (Miss y) x e = refl
+miss_digit (Stops c) x e = absurd (cc)
+
+pub recover_falls : (W W' : List Station) → length W ≤ 32 → RecoversTo W W' → rank 32 W' < rank 32 W
+recover_falls W W' room r =
+    let p = place_at W r.i r.w r.is in
+    let taken : take r.i W ≡ p.xs = ap (λ k. take k W) p.place ∙ ap (take (length p.xs)) p.is ∙ take_middle p.xs (r.w ∷ p.zs) in
+    let two : digit r.w.stage ≡ 2 = miss_digit r.w.stage r.x (given_station miss_in W r.i r.w r.x r.is r.first.here) in
+    lower W W' [] r.i r.w (mended r.w r.x) room p (r.new ∙ ap (λ l. l ++ mended r.w r.x ∷ []) taken) (omega (arith, two))
+
+pub let_falls : (W : List Station) (w : Station) → length W < 32 → digit w.stage ≤ 5 → rank 32 (W ++ w ∷ []) < rank 32 W
+let_falls W w room most = subst (λ l. rank 32 (W ++ w ∷ []) < rank 32 l) (append-nil W) (rank_less 32 W w [] [] room (omega (arith, most)))
+
+finished_digit : (w : Station) (o : Outcome) → digit (finished w o).stage ≤ 3
+finished_digit w (Value v) = omega arith
+finished_digit w (Address v) = omega arith
+finished_digit w (Stop v) = omega arith
+finished_digit w (Next x) = go (eqb x w.predicted)
+  where
+    go : (t : Bool) → digit (cond t Done (Miss x)) ≤ 3
+    go true = omega arith
+    go false = omega arith
+
+open_digit : (s : Stage) (o : Option Operands) (x : Operands) → where_open s o ≡ Some x → digit s ≡ 5
+open_digit Open o x e = refl
+open_digit (Addr a) o x e = absurd (cc)
+open_digit Done o x e = absurd (cc)
+open_digit (Miss y) o x e = absurd (cc)
+open_digit (Stops c) o x e = absurd (cc)
+
+pub run_falls : (g : List ℕ) (size : ℕ) (W W' : List Station) → length W ≤ 32 → RunsTo g size W W' → rank 32 W' < rank 32 W
+run_falls g size W W' room r =
+    let p = place_at W r.i r.w r.is in
+    let v = finished r.w (outcome r.w.instr r.w.pc r.o.a r.o.b size) in
+    let five : digit r.w.stage ≡ 5 = open_digit r.w.stage _ r.o (given_station (operands_in g) W r.i r.w r.o r.is r.first.here) in
+    let low = finished_digit r.w (outcome r.w.instr r.w.pc r.o.a r.o.b size) in
+    lower W W' p.zs r.i r.w v room p (r.new ∙ set_place W r.i r.w v p) (omega (arith, five, low))
+
+waits_digit : (k : Kind) (s : Stage) (a : ℕ) → waits_by k s ≡ Some a → digit s ≡ 3
+waits_digit Loads (Addr b) a e = refl
+waits_digit Loads Open a e = absurd (cc)
+waits_digit Loads Done a e = absurd (cc)
+waits_digit Loads (Miss x) a e = absurd (cc)
+waits_digit Loads (Stops c) a e = absurd (cc)
+waits_digit Computes s a e = absurd (cc)
+waits_digit Jumps s a e = absurd (cc)
+waits_digit Links s a e = absurd (cc)
+waits_digit Stores s a e = absurd (cc)
+
+pub load_falls : (g m : List ℕ) (W W' : List Station) → length W ≤ 32 → LoadsTo g m W W' → rank 32 W' < rank 32 W
+load_falls g m W W' room r =
+    let p = place_at W r.i r.w r.is in
+    let v = record r.w { stage = Done; made = Some r.value } in
+    let a = answered_waits g m (take r.i W) r.w r.value (given_station (load_in g m) W r.i r.w r.value r.is r.first.here) in
+    let three : digit r.w.stage ≡ 3 = waits_digit (kind r.w.instr.op) r.w.stage a.0 a.1 in
+    lower W W' p.zs r.i r.w v room p (r.new ∙ set_place W r.i r.w v p) (omega (arith, three))

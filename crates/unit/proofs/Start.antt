@@ -1,0 +1,109 @@
+-- Which fields some unit stands behind.
+use Rattle.std.proofs.Common.{◌≡◌, ℕ, ◌-◌, ◌<◌, ◌≤◌, zero, suc, Bool, false, List, [], ◌∷◌, length, drop, Option, Some, None, refl, sym, ap, ◌∙◌, subst, arith, true≢false}
+use Rattle.std.specs.Prelude.{slice_get, slice_set, replicate}
+use Rattle.inorder.specs.Machine.{start}
+use Rattle.unit_laws.specs.Moves.{IsReached}
+use Rattle.unit.specs.declared.bench.Turn.{Turn}
+use Rattle.unit.specs.declared.leaver.Leaver.{Leaver}
+use Rattle.unit.specs.declared.pipeline.Pipeline.{Pipeline}
+use Rattle.unit.specs.declared.station.Stage.{Stage}
+use Rattle.unit.specs.declared.station.Stage.TheVariants.{Open, Addr, Done, Miss, Stops}
+use Rattle.unit.specs.declared.station.Station.{Station}
+use Rattle.unit.specs.Leaves.{LeavesTo, RetiresTo}
+use Rattle.unit.specs.Notes.{AreNoted}
+use Rattle.unit.specs.StandsFor.{IsUnit, OverIs, sizes}
+use Rattle.unit.specs.Turns.{IsSame, Moves}
+use Rattle.unit.proofs.Noted.{noted_drop}
+
+-- each of n options is none
+abbrev nobody : Option Leaver
+nobody = None
+
+nones : (n s : ℕ) → s < n → slice_get (replicate n nobody) s ≡ Some nobody
+nones zero s h = absurd (omega (arith, h))
+nones (suc n) zero h = refl
+nones (suc n) (suc s) h = let less : s < n = omega arith in nones n s less
+
+pub start_unit : (b : Pipeline) → b.window ≡ [] → b.committed ≡ start b.program.now → b.over ≡ None → b.leavers ≡ replicate 32 nobody → b.settled ≡ 0 → 0 < b.ring → b.ring ≤ 32 → 2 ≤ b.queue → IsUnit b
+start_unit b w c o l z room most least =
+    record {
+      unit = Rattle.inorder.specs.Unit.empty_unit;
+      reached = record { history = []; allowed = tt; is = refl };
+      stands = record {
+        window = w;
+        committed = c;
+        leavers = λ s h. let less : s < 32 = omega (arith, h, most) in ap (λ x. slice_get x s) l ∙ nones 32 s less;
+        over = subst (OverIs []) (sym o) (tt, tt);
+      };
+      room = room;
+      ring = most;
+      least = least;
+      leavers = ap length l;
+      noted = record {
+        no_miss = λ q k h. let no : k < 0 = subst (λ W. k < length W) w h in absurd (omega (arith, no));
+        are_settled = record { inside = omega (arith, z); each = λ k h. let no : k < 0 = subst (λ n. k < n) z h in absurd (omega (arith, no)) };
+      };
+    }
+
+pub unit_next : (b later : Pipeline) (answer : Turn) → IsUnit b → Moves b answer later → IsSame b later → length later.leavers ≡ 32 → AreNoted later.missed later.settled later.window → IsUnit later
+unit_next b later answer h t e l n = go (t h.unit h.reached h.stands)
+  where
+    go : Rattle.unit.specs.Turns.Moved b h.unit answer later → IsUnit later
+    go x =
+        record {
+          unit = x.unit;
+          reached = subst (λ P. IsReached P (sizes later) x.unit) (sym (ap (λ p. p.now) e.program)) (subst (λ C. IsReached b.program.now C x.unit) same x.reached);
+          stands = x.stands;
+          room = subst (λ r. 0 < r) (sym e.ring) h.room;
+          ring = subst (λ r. r ≤ 32) (sym e.ring) h.ring;
+          least = subst (λ r. 2 ≤ r) (sym e.queue) h.least;
+          leavers = l;
+          noted = n;
+        }
+      where
+        same : sizes b ≡ sizes later
+        same =
+            ap (λ r. record { ring = r; queue = b.queue; first_tag = b.first_tag }) (sym e.ring)
+            ∙ ap (λ q. record { ring = later.ring; queue = q; first_tag = b.first_tag }) (sym e.queue)
+            ∙ ap (λ f. record { ring = later.ring; queue = later.queue; first_tag = f }) (sym e.first_tag)
+
+-- what a retirement keeps
+pub record IsKept (b later : Pipeline) : Type 0 where
+  pub same : IsSame b later
+  pub leavers : length later.leavers ≡ length b.leavers
+  pub noted : AreNoted later.missed later.settled later.window
+
+set_long : (xs : List (Option Leaver)) (k : ℕ) (v : Option Leaver) → length (slice_set xs k v) ≡ length xs
+set_long xs k v = Rattle.std.proofs.Common.length-set xs k v
+
+pub retires_keeps : (b later : Pipeline) (answer : Turn) → AreNoted b.missed b.settled b.window → RetiresTo b (slice_get b.window 0) answer later → IsKept b later
+retires_keeps b later answer n to = go (slice_get b.window 0) to
+  where
+    plain : (b' : Pipeline) → later ≡ b' → IsKept b b' → IsKept b later
+    plain b' e k = subst (IsKept b) (sym e) k
+
+    goes : (w : Station) → (later ≡ record b { window = drop 1 b.window; committed = Rattle.unit.specs.Leaves.with_station w b.committed; leavers = slice_set b.leavers (Rattle.std.specs.Prelude.◌%◌ (Rattle.std.specs.Prelude.◌+◌ b.committed.count 0) b.ring) (Rattle.unit.specs.Leavers.leaver_of w); settled = b.settled - 1 }) → IsKept b later
+    goes w e =
+        plain _ e
+        (record {
+          same = record { program = refl; ring = refl; queue = refl; first_tag = refl };
+          leavers = set_long b.leavers _ _;
+          noted = noted_drop b.missed b.settled b.window n;
+        })
+
+    by : (w : Station) (g : Stage) → LeavesTo b w g answer later → IsKept b later
+    by w (Stops c) l =
+        plain _ l.1
+        (record {
+          same = record { program = refl; ring = refl; queue = refl; first_tag = refl };
+          leavers = refl;
+          noted = noted_drop b.missed b.settled b.window n;
+        })
+    by w Open l = goes w l.1
+    by w (Addr a) l = goes w l.1
+    by w Done l = goes w l.1
+    by w (Miss x) l = goes w l.1
+
+    go : (o : Option Station) → RetiresTo b o answer later → IsKept b later
+    go None l = plain b l.1 (record { same = record { program = refl; ring = refl; queue = refl; first_tag = refl }; leavers = refl; noted = n })
+    go (Some w) l = by w w.stage l

@@ -1,0 +1,139 @@
+-- The turn Recovered is steps of the unit.
+use Rattle.std.proofs.Common.{◌≡◌, ℕ, ◌<◌, Bool, List, [], ◌∷◌, ◌++◌, length, take, Option, Some, None, sym, ap, ◌∙◌, subst}
+use Rattle.std.specs.Prelude.{slice_get}
+use Rattle.std.specs.List.{AllByRecursion}
+use Rattle.isa.specs.Programs.{Program}
+use Rattle.inorder.specs.declared.history.Act.TheVariants.{Mend}
+use Rattle.inorder.specs.declared.history.Step.TheVariants.{On}
+use Rattle.inorder.specs.Committed.{committed}
+use Rattle.inorder.specs.Laws.{IsNoRetire}
+use Rattle.inorder.specs.Steps.{IsNoRetiredStop}
+use Rattle.inorder.specs.Tenants.{Addr, Busy, Done, Fate, Miss, Open, Stopped, Tenant}
+use Rattle.inorder.specs.Unit.{Sizes, UpdateUnit}
+use Rattle.unit_laws.specs.Moves.{IsSquash, Leads, with_tenants}
+use Rattle.unit_laws.specs.Still.{AreStill}
+use Rattle.unit_laws.proofs.Recovery.{RecoverRun, gone, mended_to, recover_run}
+use Rattle.unit_laws.proofs.Sequences.{all_weaker, committed_on, reach_on, sound_of, squash_quiet}
+use Rattle.unit.specs.declared.bench.Turn.{Turn}
+use Rattle.unit.specs.declared.bench.Turn.TheVariants.{Recovered}
+use Rattle.unit.specs.declared.pipeline.Pipeline.{Pipeline}
+use Rattle.unit.specs.declared.station.Station.{Station}
+use Rattle.unit.specs.Givers.{NoneGives, gives}
+use Rattle.unit.specs.Leavers.{leaver}
+use Rattle.unit.specs.Notes.{miss_in}
+use Rattle.unit.specs.Stages.{RecoversTo}
+use Rattle.unit.specs.StandsFor.{OverIs, StandsFor, sizes}
+use Rattle.unit.specs.Turns.{Moved, Moves}
+use Rattle.unit.specs.Window.{mended, miss_of, stage_of, station_of, window}
+use Rattle.unit.proofs.Found.{Found, found, window_gone, window_middle}
+use Rattle.unit.proofs.Leavers.{leaver_recover}
+use Rattle.unit.proofs.Noted.{given_station}
+use Rattle.unit.proofs.Scan.{take_middle}
+use Rattle.unit.proofs.Tests.{NoneIs, gives_left, no_miss, none_is}
+
+-- What was found in the window of a unit
+pub record FoundIn (P : Program) (W : List Station) (U : List Tenant) (i : ℕ) (w : Station) : Type 0 where
+  pub found : Found P U i w
+  pub whole : W ≡ window P found.ts ++ station_of P found.t ∷ window P found.ys
+  pub taken : take i W ≡ window P found.ts
+
+pub found_in : (P : Program) (W : List Station) (U : List Tenant) (i : ℕ) (w : Station) → W ≡ window P U → slice_get W i ≡ Some w → FoundIn P W U i w
+found_in P W U i w e h = go (found P U i w (ap (λ l. slice_get l i) (sym e) ∙ h))
+  where
+    go : Found P U i w → FoundIn P W U i w
+    go f =
+        let whole : W ≡ window P f.ts ++ station_of P f.t ∷ window P f.ys = e ∙ ap (window P) f.split ∙ window_middle P f.ys f.t f.ts f.live in
+        record {
+          found = f;
+          whole = whole;
+          taken = ap (λ k. take k W) f.place ∙ ap (take (length (window P f.ts))) whole ∙ take_middle (window P f.ts) (station_of P f.t ∷ window P f.ys);
+        }
+
+-- what the stations before it do not give, the tenants before it do not give
+pub oldest_is : {X : Type 0} → (give : List Station → Station → Option X) (P : Program) (W : List Station) (U : List Tenant) (i : ℕ) (w : Station) → (f : FoundIn P W U i w) → ((k : ℕ) → k < i → gives give W k ≡ None) → NoneIs give P f.found.ts
+oldest_is give P W U i w f first =
+    none_is give P f.found.ts
+    (λ k h. sym (gives_left give (window P f.found.ts) (station_of P f.found.t ∷ window P f.found.ys) k h) ∙ ap (λ l. gives give l k) (sym f.whole) ∙ first k (subst (λ n. k < n) (sym f.found.place) h))
+
+pub none_in : {X : Type 0} → (give : List Station → Station → Option X) (P : Program) (W : List Station) (U : List Tenant) → W ≡ window P U → NoneGives give W → NoneIs give P U
+none_in give P W U e h = none_is give P U (λ k l. ap (λ x. gives give x k) (sym e) ∙ h k (subst (λ x. k < length x) (sym e) l))
+
+-- The fields stand for a unit where nothing was committed
+pub stand_on : (b : Pipeline) (W : List Station) (m : Bool) (n : ℕ) (U V : UpdateUnit) → b.over ≡ None → StandsFor b U → committed b.program.now V.tenants ≡ committed b.program.now U.tenants → ((s : ℕ) → leaver b.program.now V.tenants s ≡ leaver b.program.now U.tenants s) → W ≡ window b.program.now V.tenants → AllByRecursion IsNoRetiredStop V.tenants → AreStill V.tenants → StandsFor (record b { window = W; missed = m; settled = n }) V
+stand_on b W m n U V none s c l w ns still =
+    record {
+      window = w;
+      committed = s.committed ∙ sym c;
+      leavers = λ k h. s.leavers k h ∙ ap Some (sym (l k));
+      over = subst (OverIs V.tenants) (sym none) (ns, still);
+    }
+
+-- What is remembered does not matter
+pub moves_from : (b b' : Pipeline) (m : Bool) (n : ℕ) (answer : Turn) (later : Pipeline) → b' ≡ record b { missed = m; settled = n } → Moves b' answer later → Moves b answer later
+moves_from b b' m n answer later e h = go (subst (λ x. Moves x answer later) e h)
+  where
+    go : Moves (record b { missed = m; settled = n }) answer later → Moves b answer later
+    go h U r s =
+        let x = h U r (record { window = s.window; committed = s.committed; leavers = s.leavers; over = s.over }) in
+        record { unit = x.unit; reached = x.reached; stands = x.stands; does = x.does }
+
+miss_fate : (f : Fate) (x : ℕ) → miss_of (stage_of f) ≡ Some x → f ≡ Miss x
+miss_fate Open x e = absurd (cc)
+miss_fate (Busy c) x e = absurd (cc)
+miss_fate (Addr c) x e = absurd (cc)
+miss_fate (Done c) x e = absurd (cc)
+miss_fate (Miss y) x e = let same : y ≡ x = cc in ap Miss same
+miss_fate (Stopped c) x e = absurd (cc)
+
+-- Recovered
+
+pub recovered_turn : (b later : Pipeline) → b.over ≡ None → RecoversTo b.window later.window → later ≡ record b { window = later.window; missed = later.missed; settled = later.settled } → Moves b Recovered later
+recovered_turn b later none to rest U r s = subst (Moved b U Recovered) (sym rest) (go (found_in P b.window U.tenants to.i to.w s.window to.is))
+  where
+    P : Program
+    P = b.program.now
+
+    C : Sizes
+    C = sizes b
+
+    over : AllByRecursion IsNoRetiredStop U.tenants × AreStill U.tenants
+    over = subst (OverIs U.tenants) none s.over
+
+    now : Pipeline
+    now = record b { window = later.window; missed = later.missed; settled = later.settled }
+
+    go : FoundIn P b.window U.tenants to.i to.w → Moved b U Recovered now
+    go f = with (recover_run P C 0 U f.found.ys f.found.t f.found.ts to.x f.found.live miss)
+      where
+        t : Tenant
+        t = f.found.t
+
+        ts : List Tenant
+        ts = f.found.ts
+
+        ys : List Tenant
+        ys = f.found.ys
+
+        miss : t.fate ≡ Miss to.x
+        miss = miss_fate t.fate to.x (ap (λ w. miss_of w.stage) f.found.station ∙ given_station miss_in b.window to.i to.w to.x to.is to.first.here)
+
+        V : UpdateUnit
+        V = with_tenants U (gone ys ++ mended_to to.x t ∷ ts)
+
+        shown : later.window ≡ window P V.tenants
+        shown =
+            to.new
+            ∙ ap (λ l. l ++ mended to.w to.x ∷ []) f.taken
+            ∙ ap (λ w. window P ts ++ mended w to.x ∷ []) (sym f.found.station)
+            ∙ sym (window_gone P ys (mended_to to.x t) ts f.found.live)
+
+        with : RecoverRun P C 0 U ys t ts to.x → Moved b U Recovered now
+        with k =
+            let steps = On (length ts) Mend ∷ k.squashes in
+            let leads : Leads P C 0 U steps V = subst (λ X. Leads P C 0 (with_tenants U X) steps V) (sym f.found.split) k.leads in
+            record {
+              unit = V;
+              reached = reach_on P C 0 U steps V r leads;
+              stands = stand_on b later.window later.missed later.settled U V none s (committed_on P C 0 U steps V leads (sound_of P C U r) (tt, all_weaker IsSquash IsNoRetire squash_quiet k.squashes k.are)) (λ n. leaver_recover P n ys t ts to.x f.found.live ∙ ap (λ X. leaver P X n) (sym f.found.split)) shown (k.stops (subst (AllByRecursion IsNoRetiredStop) f.found.split over.0)) (k.still (subst AreStill f.found.split over.1));
+              does = record { ys = ys; tenant = t; ts = ts; stands = f.found.split; live = f.found.live; x = to.x; miss = miss; oldest = no_miss P ts (oldest_is miss_in P b.window U.tenants to.i to.w f to.first.first); squashes = k.squashes; are = k.are; leads = leads };
+            }

@@ -1,0 +1,198 @@
+-- What a window says of its unit.
+use Rattle.std.proofs.Common.{◌≡◌, ℕ, zero, suc, ◌+◌, ◌-◌, ◌<◌, ◌≤◌, ltb, ltb-true, Bool, true, false, cond, ◌&&◌, eqb, List, [], ◌∷◌, ◌++◌, length, Some, None, refl, sym, ap, ◌∙◌, arith, append_assoc, append-nil, length-append}
+use Rattle.std.specs.Prelude.{slice_get, slice_index}
+use Rattle.std.specs.List.{AllByRecursion}
+use Rattle.isa.specs.Programs.{Program}
+use Rattle.inorder.specs.Committed.{committed}
+use Rattle.inorder.specs.Steps.{IsNoRetiredStop}
+use Rattle.inorder.specs.Tenants.{Live, Retired, Squashed, Standing, Tenant, destination_of, is_access, is_live, is_live_access, kind_of, on_path, stands_live, stands_on_path}
+use Rattle.inorder.specs.Unit.{creator, front_pc, how_many, last_writer, value_of}
+use Rattle.inorder.proofs.Basics.{last_writer_below, value_of_more}
+use Rattle.inorder.proofs.SettledRegisters.{committed_if, committed_pc, register_given, squashed_not, value_of_last, writer_if}
+use Rattle.inorder.proofs.Sound.{IsSettled, IsSound, SettledBy}
+use Rattle.unit_laws.proofs.Left.{live_commits, retired_all, retired_commits}
+use Rattle.unit.specs.declared.station.Station.{Station}
+use Rattle.unit.specs.Window.{access_at, accesses, next_after, next_in, register_after, register_in, source_in, station_of, window}
+use Rattle.unit.proofs.Scan.{get_end, get_left, register_end}
+
+-- The list
+
+pub window_if : (P : Program) (t : Tenant) (ts : List Tenant) (b : Bool) → is_live t ≡ b → window P (t ∷ ts) ≡ cond b (window P ts ++ station_of P t ∷ []) (window P ts)
+window_if P t ts b e = ap (λ x. cond x (window P ts ++ station_of P t ∷ []) (window P ts)) e
+
+pub window_live : (P : Program) (t : Tenant) (ts : List Tenant) → t.standing ≡ Live → window P (t ∷ ts) ≡ window P ts ++ station_of P t ∷ []
+window_live P t ts e = window_if P t ts true (ap stands_live e)
+
+pub window_append : (P : Program) (ys us : List Tenant) → window P (ys ++ us) ≡ window P us ++ window P ys
+window_append P [] us = sym (append-nil (window P us))
+window_append P (y ∷ ys) us = go (is_live y) refl (window_append P ys us)
+  where
+    go : (b : Bool) → is_live y ≡ b → window P (ys ++ us) ≡ window P us ++ window P ys → window P (y ∷ (ys ++ us)) ≡ window P us ++ window P (y ∷ ys)
+    go true e more =
+        window_if P y (ys ++ us) true e
+        ∙ ap (λ x. x ++ station_of P y ∷ []) more
+        ∙ append_assoc (window P us) (window P ys) (station_of P y ∷ [])
+        ∙ ap (λ x. window P us ++ x) (sym (window_if P y ys true e))
+    go false e more = window_if P y (ys ++ us) false e ∙ more ∙ ap (λ x. window P us ++ x) (sym (window_if P y ys false e))
+
+pub window_length : (P : Program) (U : List Tenant) → length (window P U) ≡ how_many is_live U
+window_length P [] = refl
+window_length P (t ∷ ts) = go (is_live t) refl (window_length P ts)
+  where
+    go : (b : Bool) → is_live t ≡ b → length (window P ts) ≡ how_many is_live ts → length (cond b (window P ts ++ station_of P t ∷ []) (window P ts)) ≡ cond b (suc (how_many is_live ts)) (how_many is_live ts)
+    go true e more = omega (arith, more, length-append (window P ts) (station_of P t ∷ []))
+    go false e more = more
+
+-- Live accesses are counted in the window
+
+accesses_left : (xs zs : List Station) (k : ℕ) → k ≤ length xs → accesses (xs ++ zs) k ≡ accesses xs k
+accesses_left xs zs zero h = refl
+accesses_left xs zs (suc k) h =
+    let less : k < length xs = omega arith in
+    let le : k ≤ length xs = omega arith in
+    ap (λ n. n + access_at (slice_get (xs ++ zs) k)) (accesses_left xs zs k le) ∙ ap (λ o. accesses xs k + access_at o) (get_left xs zs k less)
+
+accesses_end : (xs : List Station) (w : Station) → accesses (xs ++ w ∷ []) (suc (length xs)) ≡ accesses xs (length xs) + access_at (Some w)
+accesses_end xs w =
+    let le : length xs ≤ length xs = omega arith in
+    ap (λ n. n + access_at (slice_get (xs ++ w ∷ []) (length xs))) (accesses_left xs (w ∷ []) (length xs) le)
+    ∙ ap (λ o. accesses xs (length xs) + access_at o) (get_end xs [] w)
+
+pub window_accesses : (P : Program) (U : List Tenant) → accesses (window P U) (length (window P U)) ≡ how_many (is_live_access P) U
+window_accesses P [] = refl
+window_accesses P (t ∷ ts) = go t.standing refl (window_accesses P ts)
+  where
+    W : List Station
+    W = window P ts
+
+    count : ℕ
+    count = how_many (is_live_access P) ts
+
+    all : List Station → ℕ
+    all l = accesses l (length l)
+
+    gone : stands_live t.standing ≡ false → all W ≡ count → all (window P (t ∷ ts)) ≡ cond (stands_live t.standing && is_access (kind_of P t)) (suc count) count
+    gone e more = ap all (window_if P t ts false e) ∙ more ∙ sym (ap (λ b. cond (b && is_access (kind_of P t)) (suc count) count) e)
+
+    on : (b : Bool) → accesses W (length W) ≡ count → accesses W (length W) + cond b 1 0 ≡ cond b (suc count) count
+    on true more = omega (arith, more)
+    on false more = omega (arith, more)
+
+    go : (st : Standing) → t.standing ≡ st → all W ≡ count → all (window P (t ∷ ts)) ≡ cond (stands_live t.standing && is_access (kind_of P t)) (suc count) count
+    go Live e more =
+        let long : length (W ++ station_of P t ∷ []) ≡ suc (length W) = omega (arith, length-append W (station_of P t ∷ [])) in
+        ap all (window_live P t ts e)
+        ∙ ap (accesses (W ++ station_of P t ∷ [])) long
+        ∙ accesses_end W (station_of P t)
+        ∙ on (is_access (kind_of P t)) more
+        ∙ sym (ap (λ s. cond (stands_live s && is_access (kind_of P t)) (suc count) count) e)
+    go Retired e more = gone (ap stands_live e) more
+    go Squashed e more = gone (ap stands_live e) more
+
+-- Nobody is live where all have left
+
+pub none_left : (P : Program) (ts : List Tenant) → AllByRecursion IsSettled ts → window P ts ≡ []
+none_left P [] h = refl
+none_left P (t ∷ ts) h = go t.standing refl h.0 (none_left P ts h.1)
+  where
+    go : (st : Standing) → t.standing ≡ st → SettledBy st t.fate → window P ts ≡ [] → window P (t ∷ ts) ≡ []
+    go Live e q more = absurd q
+    go Retired e q more = window_if P t ts false (ap stands_live e) ∙ more
+    go Squashed e q more = window_if P t ts false (ap stands_live e) ∙ more
+
+-- Registers
+
+-- the value of register r, by the tenants and by the window
+pub writer_worth : (P : Program) (U : List Tenant) → IsSound P U → AllByRecursion IsNoRetiredStop U → (r : ℕ) → suc r < 32 → value_of U (last_writer P U (suc r)) ≡ register_in (suc r) (Some (slice_index (committed P U).registers (suc r))) (window P U)
+writer_worth P [] s n r lt = register_given P [] s tt r lt
+writer_worth P (t ∷ ts) s n r lt = go t.standing refl (writer_worth P ts s.1 n.1 r lt)
+  where
+    regs : List Tenant → ℕ
+    regs V = slice_index (committed P V).registers (suc r)
+
+    off : (t.standing ≡ Squashed) → value_of (t ∷ ts) (last_writer P (t ∷ ts) (suc r)) ≡ value_of ts (last_writer P ts (suc r))
+    off e =
+        ap (value_of (t ∷ ts)) (writer_if P t ts (suc r) false (ap (λ x. stands_on_path x && eqb (destination_of P t) (suc r)) e))
+        ∙ value_of_more t ts (last_writer P ts (suc r)) (last_writer_below P ts (suc r))
+
+    on : (b : Bool) → eqb (destination_of P t) (suc r) ≡ b → t.standing ≡ Live → value_of ts (last_writer P ts (suc r)) ≡ register_in (suc r) (Some (regs ts)) (window P ts) → value_of (t ∷ ts) (last_writer P (t ∷ ts) (suc r)) ≡ register_after (suc r) (register_in (suc r) (Some (regs ts)) (window P ts)) (Some (station_of P t))
+    on true b e more =
+        ap (value_of (t ∷ ts)) (writer_if P t ts (suc r) true (ap (λ x. stands_on_path x && eqb (destination_of P t) (suc r)) e ∙ b))
+        ∙ value_of_last t ts
+        ∙ sym (ap (λ x. cond x t.made (register_in (suc r) (Some (regs ts)) (window P ts))) b)
+    on false b e more =
+        ap (value_of (t ∷ ts)) (writer_if P t ts (suc r) false (ap (λ x. stands_on_path x && eqb (destination_of P t) (suc r)) e ∙ b))
+        ∙ value_of_more t ts (last_writer P ts (suc r)) (last_writer_below P ts (suc r))
+        ∙ more
+        ∙ sym (ap (λ x. cond x t.made (register_in (suc r) (Some (regs ts)) (window P ts))) b)
+
+    go : (st : Standing) → t.standing ≡ st → value_of ts (last_writer P ts (suc r)) ≡ register_in (suc r) (Some (regs ts)) (window P ts) → value_of (t ∷ ts) (last_writer P (t ∷ ts) (suc r)) ≡ register_in (suc r) (Some (regs (t ∷ ts))) (window P (t ∷ ts))
+    go Live e more =
+        on (eqb (destination_of P t) (suc r)) refl e more
+        ∙ sym (register_end (suc r) (Some (regs ts)) (window P ts) (station_of P t))
+        ∙ sym (ap (register_in (suc r) (Some (regs ts))) (window_live P t ts e))
+        ∙ sym (ap (λ c. register_in (suc r) (Some (slice_index c.registers (suc r))) (window P (t ∷ ts))) (committed_if P t ts false (live_commits t e)))
+    go Squashed e more =
+        off e
+        ∙ more
+        ∙ sym (ap (register_in (suc r) (Some (regs ts))) (window_if P t ts false (ap stands_live e)))
+        ∙ sym (ap (λ c. register_in (suc r) (Some (slice_index c.registers (suc r))) (window P (t ∷ ts))) (committed_if P t ts false (squashed_not t e)))
+    go Retired e more =
+        let all = retired_all P t ts s e n.0 in
+        register_given P (t ∷ ts) s all r lt ∙ sym (ap (register_in (suc r) (Some (regs (t ∷ ts)))) (none_left P (t ∷ ts) all))
+
+pub source_worth : (P : Program) (U : List Tenant) → IsSound P U → AllByRecursion IsNoRetiredStop U → (r : ℕ) → value_of U (creator P U r) ≡ source_in (committed P U).registers (window P U) r
+source_worth P U s n zero = refl
+source_worth P U s n (suc r) = go (ltb (suc r) 32) refl
+  where
+    go : (b : Bool) → ltb (suc r) 32 ≡ b → value_of U (cond b (last_writer P U (suc r)) None) ≡ cond b (register_in (suc r) (Some (slice_index (committed P U).registers (suc r))) (window P U)) (Some 0)
+    go true e = writer_worth P U s n r (ltb-true (suc r) 32 e)
+    go false e = refl
+
+-- The front pc
+
+next_end : (pc : ℕ) (ws : List Station) (w : Station) → next_in pc (ws ++ w ∷ []) ≡ w.next
+next_end pc ws w =
+    let last : length (ws ++ w ∷ []) - 1 ≡ length ws = omega (arith, length-append ws (w ∷ [])) in
+    ap (λ k. next_after pc (slice_get (ws ++ w ∷ []) k)) last ∙ ap (next_after pc) (get_end ws [] w)
+
+pub front_worth : (P : Program) (U : List Tenant) → IsSound P U → AllByRecursion IsNoRetiredStop U → front_pc U ≡ next_in (committed P U).pc (window P U)
+front_worth P [] s n = refl
+front_worth P (t ∷ ts) s n = go t.standing refl (front_worth P ts s.1 n.1)
+  where
+    front_if : (b : Bool) → on_path t ≡ b → front_pc (t ∷ ts) ≡ cond b t.next (front_pc ts)
+    front_if b e = ap (λ x. cond x t.next (front_pc ts)) e
+
+    go : (st : Standing) → t.standing ≡ st → front_pc ts ≡ next_in (committed P ts).pc (window P ts) → front_pc (t ∷ ts) ≡ next_in (committed P (t ∷ ts)).pc (window P (t ∷ ts))
+    go Live e more =
+        front_if true (ap stands_on_path e)
+        ∙ sym (next_end (committed P (t ∷ ts)).pc (window P ts) (station_of P t))
+        ∙ sym (ap (next_in (committed P (t ∷ ts)).pc) (window_live P t ts e))
+    go Squashed e more =
+        front_if false (ap stands_on_path e)
+        ∙ more
+        ∙ sym (ap (λ c. next_in c.pc (window P ts)) (committed_if P t ts false (squashed_not t e)))
+        ∙ sym (ap (next_in (committed P (t ∷ ts)).pc) (window_if P t ts false (ap stands_live e)))
+    go Retired e more =
+        let all = retired_all P t ts s e n.0 in
+        sym (committed_pc P (t ∷ ts) s all) ∙ sym (ap (next_in (committed P (t ∷ ts)).pc) (none_left P (t ∷ ts) all))
+
+-- The path: those that have committed, and the window
+
+pub path_length : (P : Program) (U : List Tenant) → AllByRecursion IsNoRetiredStop U → how_many on_path U ≡ (committed P U).count + length (window P U)
+path_length P [] n = refl
+path_length P (t ∷ ts) n = go t.standing refl (path_length P ts n.1)
+  where
+    W : List Station
+    W = window P ts
+
+    path_if : (b : Bool) → on_path t ≡ b → how_many on_path (t ∷ ts) ≡ cond b (suc (how_many on_path ts)) (how_many on_path ts)
+    path_if b e = ap (λ x. cond x (suc (how_many on_path ts)) (how_many on_path ts)) e
+
+    go : (st : Standing) → t.standing ≡ st → how_many on_path ts ≡ (committed P ts).count + length W → how_many on_path (t ∷ ts) ≡ (committed P (t ∷ ts)).count + length (window P (t ∷ ts))
+    go Live e more =
+        omega (arith, more, path_if true (ap stands_on_path e), ap length (window_live P t ts e), length-append W (station_of P t ∷ []), ap (λ c. c.count) (committed_if P t ts false (live_commits t e)))
+    go Squashed e more =
+        omega (arith, more, path_if false (ap stands_on_path e), ap length (window_if P t ts false (ap stands_live e)), ap (λ c. c.count) (committed_if P t ts false (squashed_not t e)))
+    go Retired e more =
+        omega (arith, more, path_if true (ap stands_on_path e), ap length (window_if P t ts false (ap stands_live e)), ap (λ c. c.count) (committed_if P t ts true (retired_commits t e n.0)))

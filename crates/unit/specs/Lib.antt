@@ -1,0 +1,10 @@
+pub mod Window
+pub mod Givers
+pub mod Loads
+pub mod Notes
+pub mod Stages
+pub mod Leaves
+pub mod Leavers
+pub mod StandsFor
+pub mod Blocked
+pub mod Turns

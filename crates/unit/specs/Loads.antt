@@ -1,0 +1,81 @@
+-- Loads over the live memory instructions before them.
+use Rattle.std.specs.Prelude.{◌≡◌, ◌<◌, ◌≤◌, is_some, ℕ, zero, suc, ◌+◌, Bool, false, List, [], ◌∷◌, ◌++◌, length, take, Option, Some, None, if◌then◌else◌, slice_index, slice_get}
+use Rattle.isa.specs.Instruction.{kind, width}
+use Rattle.isa.specs.Operations.{loaded}
+use Rattle.isa.specs.declared.op.Kind.{Kind}
+use Rattle.isa.specs.declared.op.Kind.TheVariants.{Loads as LoadKind}
+use Rattle.isa.specs.declared.op.Op.{Op}
+use Rattle.inorder.specs.Loads.{access_width, content_by, is_store}
+use Rattle.lsq.specs.Bytes.{little_endian}
+use Rattle.lsq.specs.declared.answer.Answer.{Answer}
+use Rattle.lsq.specs.declared.answer.Answer.TheVariants.{Blocked, Forward, Memory}
+use Rattle.lsq.specs.declared.entry.Entry.{Entry}
+use Rattle.lsq.specs.LoadRule.{answer_over}
+use Rattle.unit.specs.declared.station.Stage.{Stage}
+use Rattle.unit.specs.declared.station.Stage.TheVariants.{Addr}
+use Rattle.unit.specs.declared.station.Station.{Station}
+use Rattle.unit.specs.Window.{reaches_memory, source_in}
+
+abbrev pub address_of : Stage → Option ℕ
+address_of (Addr a) = Some a
+address_of _ = None
+
+-- What the queue holds of a memory instruction behind these stations
+abbrev pub entry : List ℕ → List Station → Station → Entry
+entry registers ws w =
+    record {
+      store = is_store (kind w.instr.op);
+      width = access_width w.instr.op;
+      address = address_of w.stage;
+      content = content_by (kind w.instr.op) (source_in registers ws w.instr.second);
+    }
+
+abbrev pub entry_at : List ℕ → List Station → Option Station → ℕ → Option Entry
+entry_at registers W None i = None
+entry_at registers W (Some w) i = if reaches_memory w.instr.op then Some (entry registers (take i W) w) else None
+
+abbrev pub with_entry : List Entry → Option Entry → List Entry
+with_entry es None = es
+with_entry es (Some e) = es ++ e ∷ []
+
+-- The queue of the first k stations
+abbrev pub entries : List ℕ → List Station → ℕ → List Entry
+entries registers W zero = []
+entries registers W (suc k) = with_entry (entries registers W k) (entry_at registers W (slice_get W k) k)
+
+-- The address of a load that waits for its value
+abbrev pub waits_by : Kind → Stage → Option ℕ
+waits_by LoadKind (Addr a) = Some a
+waits_by _ _ = None
+
+abbrev pub waits : Station → Option ℕ
+waits w = waits_by (kind w.instr.op) w.stage
+
+-- The value of a load of an address, by the rule's answer
+abbrev pub value_by : Answer → List ℕ → Op → ℕ → Option ℕ
+value_by (Forward raw) memory op a = Some (loaded op raw)
+value_by Memory memory op a = Some (loaded op (little_endian (slice_index memory) a (width op)))
+value_by (Blocked place) memory op a = None
+
+abbrev pub load_by : List Entry → List ℕ → Op → Option ℕ → Option ℕ
+load_by es memory op None = None
+load_by es memory op (Some a) = value_by (answer_over es a (width op)) memory op a
+
+-- The value of a load behind these stations, if it is one with its address that is not blocked
+abbrev pub load_in : List ℕ → List ℕ → List Station → Station → Option ℕ
+load_in registers memory ws w = load_by (entries registers ws (length ws)) memory w.instr.op (waits w)
+
+-- An access with its address is inside the memory
+abbrev pub IsInside : ℕ → Station → Type 0
+IsInside size w = (a : ℕ) → w.stage ≡ Addr a → a + width w.instr.op ≤ size
+
+abbrev pub AreInside : ℕ → List Station → Type 0
+AreInside size W = (k : ℕ) (w : Station) → slice_get W k ≡ Some w → IsInside size w
+
+abbrev pub waits_at : Option Station → Bool
+waits_at None = false
+waits_at (Some w) = is_some (waits w)
+
+-- No load waits for its value
+abbrev pub NoneWaits : List Station → Type 0
+NoneWaits W = (k : ℕ) → k < length W → waits_at (slice_get W k) ≡ false

@@ -1,0 +1,39 @@
+-- What the unit remembers of its window, so as not to search all of it.
+use Rattle.std.specs.Prelude.{◌≡◌, ◌<◌, ◌≤◌, ℕ, Bool, true, false, List, length, Option, Some, None, slice_get}
+use Rattle.isa.specs.Instruction.{kind}
+use Rattle.isa.specs.declared.op.Kind.{Kind}
+use Rattle.isa.specs.declared.op.Kind.TheVariants.{Stores as StoreKind}
+use Rattle.unit.specs.declared.station.Stage.{Stage}
+use Rattle.unit.specs.declared.station.Stage.TheVariants.{Addr, Done, Miss, Stops}
+use Rattle.unit.specs.declared.station.Station.{Station}
+use Rattle.unit.specs.Givers.{NoneGives}
+use Rattle.unit.specs.Window.{miss_of}
+
+-- It is done, a stop, or a store with its address
+abbrev pub settled_by : Kind → Stage → Bool
+settled_by _ Done = true
+settled_by _ (Stops c) = true
+settled_by StoreKind (Addr a) = true
+settled_by _ _ = false
+
+abbrev pub settled_at : Option Station → Bool
+settled_at None = false
+settled_at (Some w) = settled_by (kind w.instr.op) w.stage
+
+-- The first n stations are settled
+pub record AreSettled (n : ℕ) (W : List Station) : Type 0 where
+  pub inside : n ≤ length W
+  pub each : (k : ℕ) → k < n → settled_at (slice_get W k) ≡ true
+
+abbrev pub miss_in : List Station → Station → Option ℕ
+miss_in ws w = miss_of w.stage
+
+-- No station is a miss unless `missed` is set, and the first `settled` are settled
+pub record AreNoted (missed : Bool) (settled : ℕ) (W : List Station) : Type 0 where
+  pub no_miss : missed ≡ false → NoneGives miss_in W
+  pub are_settled : AreSettled settled W
+
+-- Whether some station is a miss, where one gets this stage
+abbrev pub missed_after : Bool → Stage → Bool
+missed_after missed (Miss x) = true
+missed_after missed _ = missed

@@ -1,0 +1,79 @@
+-- What each stage of a turn does to the window.
+use Rattle.std.specs.Prelude.{◌≡◌, ◌<◌, ◌≤◌, ℕ, true, List, [], ◌∷◌, ◌++◌, length, take, Option, Some, None, slice_get, slice_set}
+use Rattle.isa.specs.Operations.{outcome}
+use Rattle.isa.specs.Programs.{Program, instr_at}
+use Rattle.isa.specs.declared.instr.Instr.{Instr}
+use Rattle.unit.specs.declared.dispatch.Fetched.{Fetched}
+use Rattle.unit.specs.declared.execute.Operands.{Operands}
+use Rattle.unit.specs.declared.execute.Ready.{Ready}
+use Rattle.unit.specs.declared.memory_port.Answered.{Answered}
+use Rattle.unit.specs.declared.recovery.Missed.{Missed}
+use Rattle.unit.specs.declared.station.Station.{Station}
+use Rattle.unit.specs.declared.station.Stage.TheVariants.{Done}
+use Rattle.unit.specs.Givers.{FirstGives, NoneGives}
+use Rattle.unit.specs.Loads.{load_in}
+use Rattle.unit.specs.Notes.{miss_in}
+use Rattle.unit.specs.Window.{accesses, finished, mended, next_in, operands_in, reaches_memory}
+
+-- The oldest miss is mended, and all after it are gone
+pub record RecoversTo (W W' : List Station) : Type 0 where
+  pub i : ℕ
+  pub w : Station
+  pub x : ℕ
+  pub first : FirstGives miss_in W i x
+  pub is : slice_get W i ≡ Some w
+  pub new : W' ≡ take i W ++ mended w x ∷ []
+
+-- The next instruction can be let
+pub record CanLet (P : Program) (ring queue pc : ℕ) (W : List Station) (f : Fetched) : Type 0 where
+  pub room : length W < ring
+  pub place : f.pc ≡ next_in pc W
+  pub is : instr_at P f.pc ≡ Some f.instr
+  pub free : reaches_memory f.instr.op ≡ true → accesses W (length W) < queue
+
+-- There is an instruction, but it reaches memory and the queue is full
+pub record IsQueueFull (P : Program) (queue pc : ℕ) (W : List Station) : Type 0 where
+  pub instr : Instr
+  pub is : instr_at P (next_in pc W) ≡ Some instr
+  pub reaches : reaches_memory instr.op ≡ true
+  pub full : queue ≤ accesses W (length W)
+
+-- No room, no instruction, or no room in the queue
+pub data CannotLet (P : Program) (ring queue pc : ℕ) (W : List Station) : Type 0 where
+  NoRoom : ring ≤ length W → CannotLet P ring queue pc W
+  NoInstr : instr_at P (next_in pc W) ≡ None → CannotLet P ring queue pc W
+  QueueFull : IsQueueFull P queue pc W → CannotLet P ring queue pc W
+
+abbrev pub NextIs : Program → ℕ → ℕ → ℕ → List Station → Option Fetched → Type 0
+NextIs P ring queue pc W None = CannotLet P ring queue pc W
+NextIs P ring queue pc W (Some f) = CanLet P ring queue pc W f
+
+abbrev pub FirstReady : List ℕ → List Station → Option Ready → Type 0
+FirstReady registers W None = NoneGives (operands_in registers) W
+FirstReady registers W (Some r) = FirstGives (operands_in registers) W r.at r.operands
+
+-- The oldest station that can be claimed is finished
+pub record RunsTo (registers : List ℕ) (size : ℕ) (W W' : List Station) : Type 0 where
+  pub i : ℕ
+  pub w : Station
+  pub o : Operands
+  pub first : FirstGives (operands_in registers) W i o
+  pub is : slice_get W i ≡ Some w
+  pub new : W' ≡ slice_set W i (finished w (outcome w.instr w.pc o.a o.b size))
+
+abbrev pub FirstAnswered : List ℕ → List ℕ → List Station → Option Answered → Type 0
+FirstAnswered registers memory W None = NoneGives (load_in registers memory) W
+FirstAnswered registers memory W (Some l) = FirstGives (load_in registers memory) W l.at l.value
+
+-- The oldest load that is not blocked gets its value
+pub record LoadsTo (registers memory : List ℕ) (W W' : List Station) : Type 0 where
+  pub i : ℕ
+  pub w : Station
+  pub value : ℕ
+  pub first : FirstGives (load_in registers memory) W i value
+  pub is : slice_get W i ≡ Some w
+  pub new : W' ≡ slice_set W i (record w { stage = Done; made = Some value })
+
+abbrev pub FirstMiss : List Station → Option Missed → Type 0
+FirstMiss W None = NoneGives miss_in W
+FirstMiss W (Some m) = FirstGives miss_in W m.at m.next

@@ -1,0 +1,48 @@
+-- The units that the fields stand for.
+use Rattle.std.specs.Prelude.{◌≡◌, ◌<◌, ◌≤◌, ℕ, List, length, Option, Some, None, slice_get}
+use Rattle.std.specs.List.{AllByRecursion}
+use Rattle.isa.specs.declared.stop.Stop.{Stop}
+use Rattle.inorder.specs.Committed.{committed}
+use Rattle.inorder.specs.Steps.{IsNoRetiredStop}
+use Rattle.inorder.specs.Tenants.{Retired, Stopped, Tenant}
+use Rattle.inorder.specs.Unit.{Sizes, UpdateUnit, at}
+use Rattle.unit.specs.declared.pipeline.Pipeline.{Pipeline}
+use Rattle.unit.specs.Leavers.{leaver}
+use Rattle.unit.specs.Notes.{AreNoted}
+use Rattle.unit.specs.Window.{window}
+use Rattle.unit_laws.specs.Moves.{IsReached}
+use Rattle.unit_laws.specs.Still.{AreStill}
+
+abbrev pub sizes : Pipeline → Sizes
+sizes b = record { ring = b.ring; queue = b.queue; first_tag = b.first_tag }
+
+-- A stop with this code has retired
+pub record HasStopped (ts : List Tenant) (c : Stop) : Type 0 where
+  pub p : ℕ
+  pub tenant : Tenant
+  pub is : at ts p ≡ Some tenant
+  pub retired : tenant.standing ≡ Retired
+  pub fate : tenant.fate ≡ Stopped c
+
+-- The unit goes on, and every delivery that is due was made; or it has ended with a code
+abbrev pub OverIs : List Tenant → Option Stop → Type 0
+OverIs ts None = AllByRecursion IsNoRetiredStop ts × AreStill ts
+OverIs ts (Some c) = HasStopped ts c
+
+-- The fields are those of the unit U
+pub record StandsFor (b : Pipeline) (U : UpdateUnit) : Type 0 where
+  pub window : b.window ≡ window b.program.now U.tenants
+  pub committed : b.committed ≡ committed b.program.now U.tenants
+  pub leavers : (s : ℕ) → s < b.ring → slice_get b.leavers s ≡ Some (leaver b.program.now U.tenants s)
+  pub over : OverIs U.tenants b.over
+
+-- Some unit that legal steps reach stands behind the fields
+pub record IsUnit (b : Pipeline) : Type 0 where
+  pub unit : UpdateUnit
+  pub reached : IsReached b.program.now (sizes b) unit
+  pub stands : StandsFor b unit
+  pub room : 0 < b.ring
+  pub ring : b.ring ≤ 32
+  pub least : 2 ≤ b.queue
+  pub leavers : length b.leavers ≡ 32
+  pub noted : AreNoted b.missed b.settled b.window

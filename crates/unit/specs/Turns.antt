@@ -1,0 +1,200 @@
+-- What a turn is: the first of these that is possible, as steps of the unit.
+use Rattle.std.specs.Prelude.{◌≡◌, ◌≢◌, ℕ, zero, suc, ◌+◌, ◌*◌, ◌^◌, ◌<◌, List, [], ◌∷◌, ◌++◌, length, Option, None}
+use Rattle.std.specs.List.{AllByRecursion}
+use Rattle.isa.specs.Instruction.{fixed_next}
+use Rattle.isa.specs.Programs.{Program, instr_at, instr_of}
+use Rattle.isa.specs.declared.instr.Instr.{Instr}
+use Rattle.isa.specs.declared.stop.Stop.{Stop}
+use Rattle.isa.specs.declared.stop.Stop.TheVariants.{BadPc}
+use Rattle.inorder.specs.declared.history.Act.TheVariants.{Claim, Finish, Load, Mend, Retire}
+use Rattle.inorder.specs.declared.history.Step.{Step}
+use Rattle.inorder.specs.declared.history.Step.TheVariants.{Let as LetStep, On}
+use Rattle.inorder.specs.declared.history.Supply.{Supply}
+use Rattle.inorder.specs.Committed.{committed}
+use Rattle.inorder.specs.Steps.{MayClaim, MayLet}
+use Rattle.inorder.specs.Tenants.{IsNotLive, Live, Miss, Tenant}
+use Rattle.inorder.specs.Unit.{Sizes, UpdateUnit, front_pc, next_station}
+use Rattle.unit.specs.declared.bench.Turn.{Turn}
+use Rattle.unit.specs.declared.bench.Turn.TheVariants.{Let, Loaded, Over, Ran, Recovered, Retired}
+use Rattle.unit.specs.declared.pipeline.Pipeline.{Pipeline}
+use Rattle.unit.specs.declared.station.Stage.{Stage}
+use Rattle.unit.specs.declared.station.Stage.TheVariants.{Open, Addr, Miss as Misses}
+use Rattle.unit.specs.declared.station.Station.{Station}
+use Rattle.unit.specs.declared.leaver.Leaver.{Leaver}
+use Rattle.unit.specs.Leavers.{IsAsked, IsTold, leaver}
+use Rattle.unit.specs.Blocked.{AreBlocked}
+use Rattle.unit.specs.StandsFor.{HasStopped, StandsFor, sizes}
+use Rattle.unit_laws.specs.Moves.{IsDeliver, IsLink, IsReached, IsSquash, Leads}
+use Rattle.unit_laws.specs.Still.{AreStill}
+
+abbrev pub IsNoMiss : Tenant → Type 0
+IsNoMiss t = t.standing ≡ Live → (x : ℕ) → t.fate ≢ Miss x
+
+abbrev pub IsUnclaimable : Program → Tenant → Type 0
+IsUnclaimable P t = MayClaim P t → ⊥
+
+-- No let is legal
+abbrev pub NoLet : Program → Sizes → UpdateUnit → Type 0
+NoLet P C U = (index predicted : ℕ) (first second : Supply) → MayLet P C U index predicted first second → ⊥
+
+-- The tenant t stands in the unit, with ys after it and ts before it
+abbrev pub IsIn : UpdateUnit → List Tenant → Tenant → List Tenant → Type 0
+IsIn U ys t ts = U.tenants ≡ ys ++ t ∷ ts
+
+-- The oldest miss: all after it are squashed, and it is mended
+pub record Recovers (P : Program) (C : Sizes) (U V : UpdateUnit) : Type 0 where
+  pub ys : List Tenant
+  pub tenant : Tenant
+  pub ts : List Tenant
+  pub stands : IsIn U ys tenant ts
+  pub live : tenant.standing ≡ Live
+  pub x : ℕ
+  pub miss : tenant.fate ≡ Miss x
+  pub oldest : AllByRecursion IsNoMiss ts
+  pub squashes : List Step
+  pub are : AllByRecursion IsSquash squashes
+  pub leads : Leads P C 0 U (On (length ts) Mend ∷ squashes) V
+
+-- A tenant is let, with its links
+pub record Lets (P : Program) (C : Sizes) (U V : UpdateUnit) : Type 0 where
+  pub no_miss : AllByRecursion IsNoMiss U.tenants
+  pub index : ℕ
+  pub predicted : ℕ
+  pub first : Supply
+  pub second : Supply
+  pub links : List Step
+  pub are : AllByRecursion IsLink links
+  pub leads : Leads P C 0 U (links ++ LetStep index predicted first second ∷ []) V
+
+-- The oldest tenant that can be claimed is claimed and finished, and every delivery that is due is made
+pub record Runs (P : Program) (C : Sizes) (U V : UpdateUnit) : Type 0 where
+  pub no_miss : AllByRecursion IsNoMiss U.tenants
+  pub no_let : NoLet P C U
+  pub ys : List Tenant
+  pub tenant : Tenant
+  pub ts : List Tenant
+  pub stands : IsIn U ys tenant ts
+  pub oldest : AllByRecursion (IsUnclaimable P) ts
+  pub delivers : List Step
+  pub are : AllByRecursion IsDeliver delivers
+  pub leads : Leads P C 0 U (delivers ++ On (length ts) Finish ∷ On (length ts) Claim ∷ []) V
+  pub every : AreStill V.tenants
+
+-- The oldest load with its address that no store blocks gets its value, and every delivery that is due is made
+pub record LoadsOne (P : Program) (C : Sizes) (U V : UpdateUnit) : Type 0 where
+  pub no_miss : AllByRecursion IsNoMiss U.tenants
+  pub no_let : NoLet P C U
+  pub no_claim : AllByRecursion (IsUnclaimable P) U.tenants
+  pub ys : List Tenant
+  pub tenant : Tenant
+  pub ts : List Tenant
+  pub stands : IsIn U ys tenant ts
+  pub oldest : AreBlocked P ts
+  pub delivers : List Step
+  pub are : AllByRecursion IsDeliver delivers
+  pub leads : Leads P C 0 U (delivers ++ On (length ts) Load ∷ []) V
+  pub every : AreStill V.tenants
+
+-- The oldest live tenant retires
+pub record Retires (P : Program) (C : Sizes) (U V : UpdateUnit) : Type 0 where
+  pub no_miss : AllByRecursion IsNoMiss U.tenants
+  pub no_let : NoLet P C U
+  pub no_claim : AllByRecursion (IsUnclaimable P) U.tenants
+  pub no_load : AreBlocked P U.tenants
+  pub ys : List Tenant
+  pub tenant : Tenant
+  pub ts : List Tenant
+  pub stands : IsIn U ys tenant ts
+  pub leads : Leads P C 0 U (On (length ts) (Retire 0) ∷ []) V
+
+-- The unit has ended before, or a stop retires, or nobody is live and there is no instruction
+pub data IsOver (P : Program) (C : Sizes) (U V : UpdateUnit) (c : Stop) : Type 0 where
+  Before : HasStopped V.tenants c → V ≡ U → IsOver P C U V c
+  Now : Retires P C U V → HasStopped V.tenants c → IsOver P C U V c
+  Nowhere : c ≡ BadPc → AllByRecursion IsNotLive U.tenants → instr_at P (committed P U.tenants).pc ≡ None → V ≡ U → IsOver P C U V c
+
+abbrev pub Does : Program → Sizes → UpdateUnit → UpdateUnit → Turn → Type 0
+Does P C U V Recovered = Recovers P C U V
+Does P C U V Let = Lets P C U V
+Does P C U V Ran = Runs P C U V
+Does P C U V Loaded = LoadsOne P C U V
+Does P C U V Retired = Retires P C U V
+Does P C U V (Over c) = IsOver P C U V c
+
+-- For each unit that b stands for, the turn makes steps that lead to one that the later fields stand for
+pub record Moved (b : Pipeline) (U : UpdateUnit) (answer : Turn) (later : Pipeline) : Type 0 where
+  pub unit : UpdateUnit
+  pub reached : IsReached b.program.now (sizes b) unit
+  pub stands : StandsFor later unit
+  pub does : Does b.program.now (sizes b) U unit answer
+
+abbrev pub Moves : Pipeline → Turn → Pipeline → Type 0
+Moves b answer later =
+    (U : UpdateUnit) → IsReached b.program.now (sizes b) U → StandsFor b U → Moved b U answer later
+
+-- The measure: a turn that retires nothing lowers a number below 7 ^ 32, and one that retires raises the count
+
+abbrev pub digit : Stage → ℕ
+digit Open = 5
+digit (Addr a) = 3
+digit (Misses x) = 2
+digit _ = 1
+
+-- k places from the oldest on
+abbrev pub rank : ℕ → List Station → ℕ
+rank zero ws = 0
+rank (suc k) [] = 6 * 7 ^ k + rank k []
+rank (suc k) (w ∷ ws) = digit w.stage * 7 ^ k + rank k ws
+
+abbrev pub Falls : Turn → Pipeline → Pipeline → Type 0
+Falls (Over c) b later = later.committed ≡ b.committed
+Falls Retired b later = later.committed.count ≡ suc b.committed.count
+Falls _ b later = (later.committed ≡ b.committed) × (rank 32 later.window < rank 32 b.window)
+
+-- The sizes and the program stay
+pub record IsSame (b later : Pipeline) : Type 0 where
+  pub program : later.program ≡ b.program
+  pub ring : later.ring ≡ b.ring
+  pub queue : later.queue ≡ b.queue
+  pub first_tag : later.first_tag ≡ b.first_tag
+
+-- Any turn but a let
+abbrev pub IsPlain : Turn → Type 0
+IsPlain Let = ⊥
+IsPlain _ = Unit {0}
+
+-- The predictor is told, and then asked
+pub record Guesses {S : Type 0} (Predicts : S → ℕ → Instr → ℕ → S → Type 0) (Learns : S → ℕ → ℕ → S → Type 0) (left : Option Leaver) (i : Instr) (pc predicted : ℕ) (old new : S) : Type 0 where
+  pub middle : S
+  pub told : IsTold Learns left old middle
+  pub asked : IsAsked Predicts (fixed_next i pc) pc i predicted middle new
+
+-- What the turn does to the predictor: a let tells it of who has left the station, and then asks it for the
+-- next pc of the new tenant, if that is not fixed; nothing else changes it
+abbrev pub Trains : {S : Type 0} → (S → ℕ → Instr → ℕ → S → Type 0) → (S → ℕ → ℕ → S → Type 0) → (P : Program) → (C : Sizes) → (U V : UpdateUnit) → (answer : Turn) → Does P C U V answer → S → S → Type 0
+Trains Predicts Learns P C U V Let d old new =
+    Guesses Predicts Learns (leaver P U.tenants (next_station C U.tenants)) (instr_of P d.index) (front_pc U.tenants) d.predicted old new
+Trains Predicts Learns P C U V Recovered d old new = new ≡ old
+Trains Predicts Learns P C U V Ran d old new = new ≡ old
+Trains Predicts Learns P C U V Loaded d old new = new ≡ old
+Trains Predicts Learns P C U V Retired d old new = new ≡ old
+Trains Predicts Learns P C U V (Over c) d old new = new ≡ old
+
+-- The fields of a bench
+pub record Core (S : Type 0) : Type 0 where
+  pub pipeline : Pipeline
+  pub predictor : S
+
+pub record Turned {S : Type 0} (Predicts : S → ℕ → Instr → ℕ → S → Type 0) (Learns : S → ℕ → ℕ → S → Type 0) (b : Core S) (U : UpdateUnit) (answer : Turn) (later : Core S) : Type 0 where
+  pub unit : UpdateUnit
+  pub reached : IsReached b.pipeline.program.now (sizes b.pipeline) unit
+  pub stands : StandsFor later.pipeline unit
+  pub does : Does b.pipeline.program.now (sizes b.pipeline) U unit answer
+  pub trains : Trains Predicts Learns b.pipeline.program.now (sizes b.pipeline) U unit answer does b.predictor later.predictor
+
+-- For each unit that the bench stands for, the turn makes steps that lead to one that it stands for then, and
+-- changes the predictor by them
+abbrev pub IsTurn : {S : Type 0} → (S → ℕ → Instr → ℕ → S → Type 0) → (S → ℕ → ℕ → S → Type 0) → Core S → Turn → Core S → Type 0
+IsTurn Predicts Learns b answer later =
+    (U : UpdateUnit) → IsReached b.pipeline.program.now (sizes b.pipeline) U → StandsFor b.pipeline U →
+    Turned Predicts Learns b U answer later

@@ -1,0 +1,122 @@
+-- The live tenants as a list of stations, the oldest first, and what one of them reads.
+use Rattle.std.specs.Prelude.{ℕ, zero, suc, ◌+◌, ◌-◌, Bool, List, [], ◌∷◌, ◌++◌, length, Option, Some, None, ◌==◌, if◌then◌else◌, slice_index, slice_get, unwrap_or}
+use Rattle.isa.specs.Instruction.{destination, kind}
+use Rattle.isa.specs.Programs.{Program}
+use Rattle.isa.specs.declared.instr.Instr.{Instr}
+use Rattle.isa.specs.declared.op.Kind.{Kind}
+use Rattle.isa.specs.declared.op.Kind.TheVariants.{Stores as StoreKind}
+use Rattle.isa.specs.declared.op.Op.{Op}
+use Rattle.isa.specs.declared.stop.Outcome.{Outcome}
+use Rattle.isa.specs.declared.stop.Outcome.TheVariants.{Address, Next, Stop, Value}
+use Rattle.inorder.specs.Tenants.{Fate, Tenant, destination_of, instr, is_access, is_live, made_at_let}
+use Rattle.inorder.specs.Tenants.{Open as OpenFate, Busy, Addr as AddrFate, Done as DoneFate, Miss as MissFate, Stopped}
+use Rattle.inorder.specs.Unit.{can_be_written}
+use Rattle.unit.specs.declared.execute.Operands.{Operands}
+use Rattle.unit.specs.declared.station.Stage.{Stage}
+use Rattle.unit.specs.declared.station.Stage.TheVariants.{Open, Addr, Done, Miss, Stops}
+use Rattle.unit.specs.declared.station.Station.{Station}
+
+-- How far a tenant has come, as its station says it
+abbrev pub stage_of : Fate → Stage
+stage_of OpenFate = Open
+stage_of (Busy by) = Open
+stage_of (AddrFate a) = Addr a
+stage_of (DoneFate v) = Done
+stage_of (MissFate x) = Miss x
+stage_of (Stopped c) = Stops c
+
+-- What a station keeps of its tenant
+abbrev pub station_of : Program → Tenant → Station
+station_of P t =
+    record {
+      instr = instr P t;
+      destination = destination_of P t;
+      pc = t.pc;
+      predicted = t.predicted;
+      next = t.next;
+      made = t.made;
+      stage = stage_of t.fate;
+    }
+
+-- The stations of the live tenants, the oldest first
+abbrev pub window : Program → List Tenant → List Station
+window P [] = []
+window P (t ∷ ts) = if is_live t then window P ts ++ station_of P t ∷ [] else window P ts
+
+-- What register r holds behind a station, where it held v before it; none while its writer has made nothing
+abbrev pub register_after : ℕ → Option ℕ → Option Station → Option ℕ
+register_after r v None = v
+register_after r v (Some w) = if w.destination == r then w.made else v
+
+abbrev pub register_in : ℕ → Option ℕ → List Station → Option ℕ
+register_in r v [] = v
+register_in r v (w ∷ ws) = register_in r (register_after r v (Some w)) ws
+
+-- What an instruction behind these stations reads from register r
+abbrev pub source_in : List ℕ → List Station → ℕ → Option ℕ
+source_in registers ws r =
+    if can_be_written r then register_in r (Some (slice_index registers r)) ws else Some 0
+
+-- What a claim needs, if it is there; 0 for a store's data that is not there yet
+abbrev pub operands_by : Kind → Option ℕ → Option ℕ → Option Operands
+operands_by StoreKind (Some a) b = Some (record { a = a; b = unwrap_or b 0 })
+operands_by _ (Some a) (Some b) = Some (record { a = a; b = b })
+operands_by _ _ _ = None
+
+abbrev pub where_open : Stage → Option Operands → Option Operands
+where_open Open o = o
+where_open _ o = None
+
+-- The sources of a station behind these, if it can be claimed
+abbrev pub operands_in : List ℕ → List Station → Station → Option Operands
+operands_in registers ws w =
+    where_open w.stage
+    (operands_by (kind w.instr.op) (source_in registers ws w.instr.first) (source_in registers ws w.instr.second))
+
+-- What a station becomes by its outcome
+abbrev pub finished : Station → Outcome → Station
+finished w (Value v) = record w { stage = Done; made = Some v }
+finished w (Next x) = record w { stage = if x == w.predicted then Done else Miss x }
+finished w (Address a) = record w { stage = Addr a }
+finished w (Stop c) = record w { stage = Stops c }
+
+-- The computed next pc of a miss
+abbrev pub miss_of : Stage → Option ℕ
+miss_of (Miss x) = Some x
+miss_of _ = None
+
+abbrev pub mended : Station → ℕ → Station
+mended w x = record w { stage = Done; next = x }
+
+-- The station of an instruction that is let at a pc
+abbrev pub let_at : Instr → ℕ → ℕ → Station
+let_at i pc predicted =
+    record {
+      instr = i;
+      destination = destination i;
+      pc = pc;
+      predicted = predicted;
+      next = predicted;
+      made = made_at_let (kind i.op) pc;
+      stage = Open;
+    }
+
+abbrev pub next_after : ℕ → Option Station → ℕ
+next_after pc None = pc
+next_after pc (Some w) = w.next
+
+-- Where the path goes on, from the committed pc
+abbrev pub next_in : ℕ → List Station → ℕ
+next_in pc ws = next_after pc (slice_get ws (length ws - 1))
+
+abbrev pub reaches_memory : Op → Bool
+reaches_memory op = is_access (kind op)
+
+abbrev pub access_at : Option Station → ℕ
+access_at None = 0
+access_at (Some w) = if reaches_memory w.instr.op then 1 else 0
+
+-- How many of the first k stations reach memory
+abbrev pub accesses : List Station → ℕ → ℕ
+accesses ws zero = 0
+accesses ws (suc k) = accesses ws k + access_at (slice_get ws k)

@@ -1,0 +1,141 @@
+//! The one-thread unit, as its callers see it.
+ghost use Rattle.std.specs.Prelude.{◌≡◌, ◌<◌, ◌-◌, ◌^◌, nat_lt, IfOk};
+ghost use Rattle.inorder.specs.Machine.{start};
+ghost use Rattle.inorder.specs.Runs.{end_from};
+ghost use Rattle.unit.specs.Turns.{Falls, Guesses, IsSame, IsTurn};
+
+use crate::dispatch::Fetched;
+use crate::leaver::Leaver;
+use crate::pipeline::Pipeline;
+use isa::{Config, End, Ending, Memory, Predictor, Program, Stop};
+use std::alloc::Global;
+use std::marker::Model;
+
+/// What a turn did.
+#[derive(Clone, Copy, Debug, PartialEq, Eq)]
+pub enum Turn {
+    /// All tenants behind the oldest miss were squashed, and it was mended.
+    Recovered,
+    /// The next instruction has entered a station.
+    Let,
+    /// The oldest tenant that can be claimed was claimed and finished.
+    Ran,
+    /// The oldest load that is not blocked got its value.
+    Loaded,
+    /// The oldest tenant retired.
+    Retired,
+    /// The unit has ended.
+    Over(Stop),
+}
+
+/// An out-of-order unit that one caller turns. Its predictor is asked for the next pc of a conditional branch,
+/// `jr` or `jalr` when that is let, and told how such an instruction went on when its station is let again, if
+/// it has retired.
+#[derive(Drop)]
+pub struct Bench<'a, P: Predictor + Drop> {
+    pipeline: Pipeline<'a>,
+    predictor: P,
+}
+
+impl<'a, P: Predictor + Drop> Model for Bench<'a, P> {
+    ghost use Rattle.unit.specs.StandsFor.{IsUnit};
+    ghost use Rattle.unit.specs.Turns.{Core};
+
+    ghost Value = { Core P };
+
+    ghost view = { λ b. record { pipeline = b.pipeline; predictor = b.predictor } };
+
+    ghost invariant = { λ b. IsUnit b.pipeline };
+}
+
+// Tells the predictor of who has left, and asks it where the next instruction goes on, unless that is fixed.
+fn guess<P: Predictor>(predictor: &mut P, left: Option<Leaver>, next: &Fetched) -> u32
+    ensures { Guesses P.Predicts P.Learns left next.now.instr next.now.pc result predictor.old predictor.new }
+{
+    if let Some(leaver) = left {
+        predictor.told(leaver.pc, leaver.next);
+    }
+    match next.instr.fixed_next(next.pc) {
+        Some(fixed) => fixed,
+        None => predictor.predict(next.pc, &next.instr),
+    }
+}
+
+impl<'a, P: Predictor + Drop> Bench<'a, P> {
+    /// The unit at the start of a program.
+    pub fn new(
+        alloc: Global,
+        program: &'a Program,
+        config: &Config,
+        predictor: P,
+    ) -> Result<Self, Memory>
+        ensures start { IfOk result (λ b. b.pipeline.committed ≡ start program.now) }
+        ensures program { IfOk result (λ b. b.pipeline.program.now ≡ program.now) }
+        ensures predictor { IfOk result (λ b. b.predictor ≡ predictor) }
+    {
+        let pipeline = Pipeline::new(alloc, program, config)?;
+        Ok(Bench {
+            pipeline,
+            predictor,
+        })
+    }
+
+    /// The count of instructions can still grow.
+    pub fn has_room(&self) -> bool
+        ensures { result ≡ nat_lt self.now.pipeline.committed.count (2 ^ 64 - 1) }
+    {
+        self.pipeline.committed.count() < 0xffff_ffff_ffff_ffff
+    }
+
+    /// Does the first turn that is possible, in the order of `Turn`. The turn that retires a stop answers Over,
+    /// and so does each later one, which changes nothing.
+    pub fn turn(&mut self) -> Turn
+        requires { self.old.pipeline.committed.count < 2 ^ 64 - 1 }
+        ensures turn { IsTurn P.Predicts P.Learns self.old result self.new }
+        ensures falls { Falls result self.old.pipeline self.new.pipeline }
+        ensures same { IsSame self.old.pipeline self.new.pipeline }
+    {
+        if let Some(code) = self.pipeline.over {
+            return Turn::Over(code);
+        }
+        if self.pipeline.recovers() {
+            return Turn::Recovered;
+        }
+        if let Some(next) = self.pipeline.next() {
+            let left = self.pipeline.leaver();
+            let predicted = guess(&mut self.predictor, left, &next);
+            self.pipeline.let_out(next, predicted);
+            return Turn::Let;
+        }
+        self.pipeline.moves()
+    }
+
+    // Turns until it stops, or its count has reached a limit.
+    fn run_to(&mut self, limit: u64) -> Ending
+        ensures { (result, self.new.pipeline.committed) ≡ end_from self.old.pipeline.program.now (limit - self.old.pipeline.committed.count) self.old.pipeline.committed }
+    {
+        while self.pipeline.committed.count() < limit {
+            if let Turn::Over(code) = self.turn() {
+                return Ending::Stop(code);
+            }
+        }
+        Ending::Limit
+    }
+
+    /// Runs until it stops, or its count has reached a limit: as the in-order machine does.
+    pub fn run(self, limit: u64) -> End
+        ensures { (result.outcome, record { registers = result.registers; memory = result.memory.items; pc = result.pc; count = result.n }) ≡ end_from self.entry.pipeline.program.now (limit - self.entry.pipeline.committed.count) self.entry.pipeline.committed }
+    {
+        let mut bench = self;
+        let outcome = bench.run_to(limit);
+        let committed = bench.pipeline.committed;
+        let registers = committed.registers;
+        End {
+            n: committed.count,
+            pc: committed.pc,
+            outcome,
+            registers,
+            memory: committed.memory,
+        }
+    }
+}

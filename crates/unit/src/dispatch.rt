@@ -1,0 +1,138 @@
+//! Dispatch.
+ghost use Rattle.std.specs.Prelude.{◌≡◌, ◌<◌, ◌≤◌, ◌-◌, ◌+◌, ◌%◌, [], ◌∷◌, ◌++◌, length, take, slice_get, slice_set, Some, None};
+ghost use Rattle.inorder.specs.Tenants.{made_at_let as made_at_let_of};
+ghost use Rattle.unit.specs.Stages.{NextIs};
+ghost use Rattle.unit.specs.Window.{accesses as accesses_of, access_at as access_at_of, let_at, next_in, reaches_memory};
+
+use crate::leaver::Leaver;
+use crate::pipeline::Pipeline;
+use crate::station::{Stage, Station};
+use crate::window::Window;
+use isa::{Instr, Kind, Op, pc_plus_4};
+
+/// The instruction that can be let, and its pc.
+#[derive(Clone, Copy)]
+pub struct Fetched {
+    pub instr: Instr,
+    pub pc: u32,
+}
+
+// What an instruction at `pc` has made from the start.
+fn made_at_let(kind: Kind, pc: u32) -> Option<u32>
+    ensures { result ≡ made_at_let_of kind pc }
+{
+    match kind {
+        Kind::Links => Some(pc_plus_4(pc)),
+        _ => None,
+    }
+}
+
+/// It reaches memory.
+pub fn is_access(op: Op) -> bool
+    ensures { result ≡ reaches_memory op }
+{
+    matches!(op.kind(), Kind::Loads | Kind::Stores)
+}
+
+// The station of a new tenant.
+fn new_station(next: Fetched, predicted: u32) -> Station
+    ensures { result ≡ let_at next.instr next.pc predicted }
+{
+    Station {
+        instr: next.instr,
+        destination: next.instr.destination(),
+        pc: next.pc,
+        predicted,
+        next: predicted,
+        made: made_at_let(next.instr.op().kind(), next.pc),
+        stage: Stage::Open,
+    }
+}
+
+// 1 for a tenant that reaches memory, else 0.
+fn access_at(window: &Window, i: usize) -> usize
+    ensures value { result ≡ access_at_of (slice_get window.now i) }
+    ensures small { result ≤ 1 }
+{
+    match window.at(i) {
+        Some(station) if is_access(station.instr.op()) => 1,
+        _ => 0,
+    }
+}
+
+// How many live tenants reach memory.
+fn accesses(window: &Window) -> usize
+    ensures { result ≡ accesses_of window.now (length window.now) }
+{
+    let mut count = 0;
+    for i in 0..window.len() {
+        count += access_at(window, i);
+    }
+    count
+}
+
+impl<'a> Pipeline<'a> {
+    /// The station of the tenant at `i`, live or to be let.
+    pub fn station_at(&self, i: usize) -> usize
+        requires room { 0 < self.now.ring }
+        requires most { self.now.ring ≤ 32 }
+        requires near { i ≤ 32 }
+        ensures value { result ≡ (self.now.committed.count + i) % self.now.ring }
+        ensures small { result < self.now.ring }
+    {
+        let oldest = (self.committed.count() % (self.ring as u64)) as usize;
+        (oldest + i) % self.ring
+    }
+
+    // Where the path goes on.
+    fn front_pc(&self) -> u32
+        ensures { result ≡ next_in self.now.committed.pc self.now.window }
+    {
+        match self.window.len().checked_sub(1) {
+            None => self.committed.pc(),
+            Some(last) => match self.window.at(last) {
+                None => self.committed.pc(),
+                Some(station) => station.next,
+            },
+        }
+    }
+
+    /// The next instruction, if it can be let.
+    pub fn next(&self) -> Option<Fetched>
+        ensures { NextIs self.now.program.now self.now.ring self.now.queue self.now.committed.pc self.now.window result }
+    {
+        if self.ring <= self.window.len() {
+            return None;
+        }
+        let pc = self.front_pc();
+        let instr = self.program.fetch(pc)?;
+        if is_access(instr.op()) && self.queue <= accesses(&self.window) {
+            return None;
+        }
+        Some(Fetched { instr, pc })
+    }
+
+    /// Who has left the station that is let next, if the predictor is told of it.
+    pub fn leaver(&self) -> Option<Leaver>
+        requires room { 0 < self.now.ring }
+        requires most { self.now.ring ≤ 32 }
+        ensures { slice_get self.now.leavers ((self.now.committed.count + length self.now.window) % self.now.ring) ≡ Some result }
+    {
+        let station = self.station_at(self.window.len());
+        self.leavers[station]
+    }
+
+    /// Lets the next instruction.
+    pub fn let_out(&mut self, next: Fetched, predicted: u32)
+        requires room { 0 < self.old.ring }
+        requires most { self.old.ring ≤ 32 }
+        requires free { length self.old.window < 32 }
+        ensures window { self.new.window ≡ self.old.window ++ let_at next.instr next.pc predicted ∷ [] }
+        ensures leavers { self.new.leavers ≡ slice_set self.old.leavers ((self.old.committed.count + length self.old.window) % self.old.ring) None }
+        ensures rest { self.new ≡ record self.old { window = self.new.window; leavers = self.new.leavers } }
+    {
+        let station = self.station_at(self.window.len());
+        self.leavers[station] = None;
+        self.window.push(new_station(next, predicted));
+    }
+}

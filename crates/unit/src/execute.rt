@@ -1,0 +1,176 @@
+//! Execution.
+ghost use Rattle.std.specs.Prelude.{◌≡◌, ◌<◌, ◌≤◌, [], ◌∷◌, ◌++◌, length, take, slice_get, None};
+ghost use Rattle.unit.specs.Givers.{Chosen, NoneGives, gives};
+ghost use Rattle.unit.specs.Notes.{AreNoted, AreSettled, missed_after, settled_at, settled_by};
+ghost use Rattle.unit.specs.Stages.{FirstReady, RunsTo};
+ghost use Rattle.unit.specs.Window.{finished as finished_of, operands_by, operands_in};
+ghost use Rattle.isa.specs.Instruction.{kind as kind_of};
+
+use crate::committed::Committed;
+use crate::pipeline::Pipeline;
+use crate::source::source;
+use crate::station::{Stage, Station};
+use crate::window::Window;
+use isa::{Kind, Outcome, outcome};
+
+/// The sources of a tenant that can be claimed; 0 for one that is not there and not needed.
+#[derive(Clone, Copy)]
+pub struct Operands {
+    pub a: u32,
+    pub b: u32,
+}
+
+/// The place of a tenant that can be claimed, and its sources.
+#[derive(Clone, Copy)]
+pub struct Ready {
+    pub at: usize,
+    pub operands: Operands,
+}
+
+// What is needed, if it is there.
+fn needed(kind: Kind, a: Option<u32>, b: Option<u32>) -> Option<Operands>
+    ensures { result ≡ operands_by kind a b }
+{
+    match (kind, a, b) {
+        (Kind::Stores, Some(a), b) => Some(Operands {
+            a,
+            b: b.unwrap_or(0),
+        }),
+        (_, Some(a), Some(b)) => Some(Operands { a, b }),
+        _ => None,
+    }
+}
+
+// What a station needs, if it can be claimed behind the first `i`.
+fn sources(window: &Window, committed: &Committed, i: usize, station: Station) -> Option<Operands>
+    requires { i ≤ length window.now }
+    ensures { result ≡ operands_in committed.now.registers (take i window.now) station }
+{
+    let Stage::Open = station.stage else {
+        return None;
+    };
+    let a = source(window, committed, i, station.instr.first());
+    let b = source(window, committed, i, station.instr.second());
+    needed(station.instr.op().kind(), a, b)
+}
+
+// What the station at `i` needs, if it can be claimed.
+fn sources_at(window: &Window, committed: &Committed, i: usize) -> Option<Operands>
+    requires { i ≤ length window.now }
+    ensures { result ≡ gives (operands_in committed.now.registers) window.now i }
+{
+    match window.at(i) {
+        None => None,
+        Some(station) => sources(window, committed, i, station),
+    }
+}
+
+// The oldest station that can be claimed; those before `from` can not.
+fn oldest_ready(window: &Window, committed: &Committed, from: usize) -> Option<Ready>
+    requires { AreSettled from window.now }
+    ensures { FirstReady committed.now.registers window.now result }
+{
+    for at in from..window.len() {
+        if let Some(operands) = sources_at(window, committed, at) {
+            return Some(Ready { at, operands });
+        }
+    }
+    None
+}
+
+// It has ended, or is a store with its address.
+fn is_settled(station: Station) -> bool
+    ensures { result ≡ settled_by (kind_of station.instr.op) station.stage }
+{
+    match station.stage {
+        Stage::Done | Stage::Stops(_) => true,
+        Stage::Addr(_) => matches!(station.instr.op().kind(), Kind::Stores),
+        _ => false,
+    }
+}
+
+fn is_settled_at(window: &Window, i: usize) -> bool
+    ensures { result ≡ settled_at (slice_get window.now i) }
+{
+    match window.at(i) {
+        None => false,
+        Some(station) => is_settled(station),
+    }
+}
+
+// How many of the oldest are settled, where as many as `from` are known to be.
+fn settled(window: &Window, from: usize) -> usize
+    requires { AreSettled from window.now }
+    ensures { AreSettled result window.now }
+{
+    for i in from..window.len() {
+        if !is_settled_at(window, i) {
+            return i;
+        }
+    }
+    window.len()
+}
+
+// The station where its instruction came to this.
+fn finished(station: Station, outcome: Outcome) -> Station
+    ensures { result ≡ finished_of station outcome }
+{
+    match outcome {
+        Outcome::Value(v) => Station {
+            stage: Stage::Done,
+            made: Some(v),
+            ..station
+        },
+        Outcome::Next(x) => Station {
+            stage: if x == station.predicted {
+                Stage::Done
+            } else {
+                Stage::Miss(x)
+            },
+            ..station
+        },
+        Outcome::Address(a) => Station {
+            stage: Stage::Addr(a),
+            ..station
+        },
+        Outcome::Stop(c) => Station {
+            stage: Stage::Stops(c),
+            ..station
+        },
+    }
+}
+
+// Some station is a miss, where one gets this stage.
+fn missed_by(missed: bool, stage: Stage) -> bool
+    ensures { result ≡ missed_after missed stage }
+{
+    match stage {
+        Stage::Miss(_) => true,
+        _ => missed,
+    }
+}
+
+impl<'a> Pipeline<'a> {
+    /// Claims and finishes the oldest tenant that can be claimed.
+    pub fn runs(&mut self) -> bool
+        requires { AreNoted self.old.missed self.old.settled self.old.window }
+        ensures window { Chosen result (RunsTo self.old.committed.registers (length self.old.program.now.bytes) self.old.window self.new.window) (NoneGives (operands_in self.old.committed.registers) self.old.window) }
+        ensures same { Chosen result (Unit {0}) (self.new.window ≡ self.old.window) }
+        ensures rest { self.new ≡ record self.old { window = self.new.window; missed = self.new.missed; settled = self.new.settled } }
+        ensures noted { AreNoted self.new.missed self.new.settled self.new.window }
+    {
+        self.settled = settled(&self.window, self.settled);
+        let Some(ready) = oldest_ready(&self.window, &self.committed, self.settled) else {
+            return false;
+        };
+        let Some(station) = self.window.at(ready.at) else {
+            return false;
+        };
+        let Operands { a, b } = ready.operands;
+        let outcome = outcome(&station.instr, station.pc, a, b, self.program.size());
+        let later = finished(station, outcome);
+        self.missed = missed_by(self.missed, later.stage);
+        self.window.put(ready.at, later);
+        true
+    }
+}

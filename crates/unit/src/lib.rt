@@ -1,0 +1,17 @@
+//! The one-thread unit: an out-of-order core that one caller turns.
+#![tactic(auto)]
+
+mod bench;
+mod committed;
+mod dispatch;
+mod execute;
+mod leaver;
+mod memory_port;
+mod pipeline;
+mod recovery;
+mod retire;
+mod source;
+mod station;
+mod window;
+
+pub use bench::{Bench, Turn};

@@ -1,0 +1,77 @@
+//! The stations, the committed state, and the turns that ask no predictor.
+ghost use Rattle.std.specs.Prelude.{◌≡◌, ◌<◌, ◌≤◌, ◌-◌, ◌^◌, None, IfOk};
+ghost use Rattle.inorder.specs.Machine.{start};
+ghost use Rattle.unit.specs.Givers.{NoneGives};
+ghost use Rattle.unit.specs.Notes.{miss_in};
+ghost use Rattle.unit.specs.Stages.{CannotLet};
+ghost use Rattle.unit.specs.StandsFor.{IsUnit};
+ghost use Rattle.unit.specs.Turns.{Falls, IsPlain, IsSame, Moves};
+
+use crate::bench::Turn;
+use crate::committed::Committed;
+use crate::leaver::Leaver;
+use crate::window::Window;
+use isa::{Config, Memory, Program, Stop};
+use std::alloc::Global;
+
+#[derive(Drop)]
+pub struct Pipeline<'a> {
+    pub program: &'a Program,
+    pub ring: usize,
+    pub queue: usize,
+    pub first_tag: u32,
+    pub window: Window,
+    pub committed: Committed,
+    // by station, who has left it
+    pub leavers: [Option<Leaver>; 32],
+    pub over: Option<Stop>,
+    // no station is a miss unless this is set
+    pub missed: bool,
+    // as many of the oldest are done, stops, or stores with their address
+    pub settled: usize,
+}
+
+impl<'a> Pipeline<'a> {
+    pub fn new(alloc: Global, program: &'a Program, config: &Config) -> Result<Self, Memory>
+        ensures unit { IfOk result (λ b. IsUnit b) }
+        ensures start { IfOk result (λ b. b.committed ≡ start program.now) }
+        ensures program { IfOk result (λ b. b.program.now ≡ program.now) }
+    {
+        let window = Window::new(alloc)?;
+        let committed = Committed::new(alloc, program)?;
+        Ok(Pipeline {
+            program,
+            ring: config.ring() as usize,
+            queue: config.queue() as usize,
+            first_tag: config.first_tag(),
+            window,
+            committed,
+            leavers: [None; 32],
+            over: None,
+            missed: false,
+            settled: 0,
+        })
+    }
+
+    /// A turn where nothing recovers and nothing can be let.
+    pub fn moves(&mut self) -> Turn
+        requires unit { IsUnit self.old }
+        requires count { self.old.committed.count < 2 ^ 64 - 1 }
+        requires open { self.old.over ≡ None }
+        requires miss { NoneGives miss_in self.old.window }
+        requires lets { CannotLet self.old.program.now self.old.ring self.old.queue self.old.committed.pc self.old.window }
+        ensures turn { Moves self.old result self.new }
+        ensures falls { Falls result self.old self.new }
+        ensures unit { IsUnit self.new }
+        ensures same { IsSame self.old self.new }
+        ensures plain { IsPlain result }
+    {
+        if self.runs() {
+            return Turn::Ran;
+        }
+        if self.loads() {
+            return Turn::Loaded;
+        }
+        self.retires()
+    }
+}

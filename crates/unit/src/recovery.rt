@@ -1,0 +1,69 @@
+//! Recovery from a miss.
+ghost use Rattle.std.specs.Prelude.{◌≡◌, ◌<◌, ◌≤◌, [], ◌∷◌, ◌++◌, length, take, slice_get, None};
+ghost use Rattle.unit.specs.Givers.{Chosen, NoneGives, gives};
+ghost use Rattle.unit.specs.Notes.{AreNoted, miss_in};
+ghost use Rattle.unit.specs.Stages.{FirstMiss, RecoversTo};
+
+use crate::pipeline::Pipeline;
+use crate::station::{Stage, Station};
+use crate::window::Window;
+
+/// The place of a miss, and its computed next pc.
+#[derive(Clone, Copy)]
+pub struct Missed {
+    pub at: usize,
+    pub next: u32,
+}
+
+// Where the station at `i` has to go on, if it is a miss.
+fn next_at(window: &Window, i: usize) -> Option<u32>
+    ensures { result ≡ gives miss_in window.now i }
+{
+    match window.at(i)?.stage {
+        Stage::Miss(next) => Some(next),
+        _ => None,
+    }
+}
+
+// The oldest miss.
+fn oldest_miss(window: &Window) -> Option<Missed>
+    ensures { FirstMiss window.now result }
+{
+    for at in 0..window.len() {
+        if let Some(next) = next_at(window, at) {
+            return Some(Missed { at, next });
+        }
+    }
+    None
+}
+
+impl<'a> Pipeline<'a> {
+    /// Squashes all tenants after the oldest miss, and mends it.
+    pub fn recovers(&mut self) -> bool
+        requires room { length self.old.window ≤ 32 }
+        requires noted { AreNoted self.old.missed self.old.settled self.old.window }
+        ensures window { Chosen result (RecoversTo self.old.window self.new.window) (NoneGives miss_in self.old.window) }
+        ensures same { Chosen result (Unit {0}) (self.new ≡ self.old) }
+        ensures rest { self.new ≡ record self.old { window = self.new.window; missed = self.new.missed; settled = self.new.settled } }
+        ensures noted { AreNoted self.new.missed self.new.settled self.new.window }
+    {
+        if !self.missed {
+            return false;
+        }
+        let Some(miss) = oldest_miss(&self.window) else {
+            return false;
+        };
+        let Some(station) = self.window.at(miss.at) else {
+            return false;
+        };
+        self.window.cut(miss.at);
+        self.window.push(Station {
+            stage: Stage::Done,
+            next: miss.next,
+            ..station
+        });
+        self.missed = false;
+        self.settled = self.settled.min(miss.at);
+        true
+    }
+}
