@@ -2,3 +2,4 @@ pub mod Tool
 pub mod Values
 pub mod Request
 pub mod Statuses
+pub mod Went

@@ -7,10 +7,14 @@ mod options;
 mod reading;
 mod refusals;
 mod request;
+mod running;
 #[cfg(test)]
 mod tests;
 mod values;
+mod went;
 
 pub use no_run::{NoRun, status};
 pub use reading::asked;
 pub use request::{Asked, BranchPredictor};
+pub use running::go;
+pub use went::{Line, Refusal, Went};
