@@ -17,3 +17,4 @@ pub mod Opening
 pub mod Views
 pub mod Walking
 pub mod Ending
+pub mod Asking

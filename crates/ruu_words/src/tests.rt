@@ -1,5 +1,4 @@
 //! The words of the table of layouts.
-use crate::rule::Setup;
 use crate::{
     InfoWord, LinkWord, OperandState, OperandWord, Place, StationState, StationWord, word_count,
 };
@@ -62,11 +61,4 @@ fn words_stand_at_their_places(rt: HostRuntime) {
     }
     .left(7);
     assert_eq!(rt; left.pack(), 0x0000_0020_0000_0007);
-}
-
-fn is_shared<T: Send + Sync>() {}
-
-#[test]
-fn threads_share_a_setup() {
-    is_shared::<Setup>();
 }
