@@ -10,10 +10,10 @@ mod memory_port;
 mod pipeline;
 mod recovery;
 mod retire;
+#[cfg(test)]
+mod rows;
 mod source;
 mod station;
-#[cfg(test)]
-mod tests;
 mod window;
 
 pub use bench::{Bench, Turn};
