@@ -2,7 +2,10 @@ pub mod Seats
 pub mod Making
 pub mod Steps
 pub mod Looking
+pub mod Moments
 pub mod Letting
 pub mod Claiming
 pub mod Writeback
+pub mod Asking
+pub mod Retirement
 pub mod Recovery
