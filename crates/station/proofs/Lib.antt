@@ -2,9 +2,11 @@ pub mod Allowing
 pub mod Looks
 pub mod SameUnit
 pub mod Adding
+pub mod Backs
 pub mod Seated
 pub mod Given
 pub mod LettingOut
 pub mod Reading
 pub mod Claimed
 pub mod Mending
+pub mod Squashing

@@ -12,7 +12,9 @@ mod seat;
 mod steps;
 mod words;
 
-pub use answers::{Ask, Claim, Finish, Job, Last, Retire, Seen, Settle, SourceState, Supply, Tenant};
+pub use answers::{
+    Ask, Claim, Finish, Job, Last, Retire, Seen, Settle, SourceState, Supply, Tenant,
+};
 pub use cores::Core;
 pub use inorder::history::Source;
 pub use ruu_words::StationState;
