@@ -143,7 +143,9 @@ impl Core {
 
     /// How many reservation stations there are.
     pub fn ring(&self) -> usize
-        ensures { result ≡ self.now.sizes.ring }
+        ensures value { result ≡ self.now.sizes.ring }
+        ensures least { 2 ≤ result }
+        ensures most { result ≤ 32 }
     {
         self.ring
     }
