@@ -8,3 +8,5 @@ pub mod LettingOut
 pub mod Reading
 pub mod Claimed
 pub mod Mending
+pub mod Carrying
+pub mod Writing

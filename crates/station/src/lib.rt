@@ -8,11 +8,16 @@ mod dispatch;
 mod look;
 mod meet;
 mod recovery;
+mod results;
 mod seat;
 mod steps;
+mod walk;
 mod words;
+mod writeback;
 
-pub use answers::{Ask, Claim, Finish, Job, Last, Retire, Seen, Settle, SourceState, Supply, Tenant};
+pub use answers::{
+    Ask, Claim, Finish, Job, Last, Retire, Seen, Settle, SourceState, Supply, Tenant,
+};
 pub use cores::Core;
 pub use inorder::history::Source;
 pub use ruu_words::StationState;
