@@ -10,3 +10,6 @@ pub mod Reading
 pub mod Claimed
 pub mod Mending
 pub mod Squashing
+pub mod Carrying
+pub mod Writing
+pub mod Settled

@@ -124,6 +124,7 @@ impl Core {
         requires key { table.shared.key ≡ setup }
         requires least { 2 ≤ setup.ring }
         requires most { setup.ring ≤ 32 }
+        requires from_one { 1 ≤ setup.first_tag }
         ensures { result ≡ core_of table.shared.table_id setup }
     {
         let Setup {

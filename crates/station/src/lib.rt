@@ -8,9 +8,12 @@ mod dispatch;
 mod look;
 mod meet;
 mod recovery;
+mod results;
 mod seat;
 mod steps;
+mod walk;
 mod words;
+mod writeback;
 
 pub use answers::{
     Ask, Claim, Finish, Job, Last, Retire, Seen, Settle, SourceState, Supply, Tenant,

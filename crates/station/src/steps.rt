@@ -11,6 +11,7 @@ mod claim;
 mod dispatch;
 mod leave;
 mod look;
+mod walk;
 mod writeback;
 
 use atomic_table::{Play, Seat, Shared};
@@ -20,6 +21,7 @@ pub(crate) use leave::{mend_tenant, squash_tenant};
 pub(crate) use look::look;
 use ruu_words::Place;
 use ruu_words::rule::{OneHistory, Setup, View};
+pub(crate) use walk::end_walk;
 pub(crate) use writeback::{deliver, finish_tenant, read_link, settle_tenant};
 
 pub(crate) type Words = Shared<u8, View, Setup, OneHistory>;
