@@ -9,8 +9,9 @@ mod machine;
 
 pub use data::{number, store};
 pub use guards::{
-    a_load_passes_no_unknown_store, a_miss_does_not_retire, a_retired_stop_ends_the_unit,
-    a_squashed_tenant_stays_squashed, a_tenant_is_claimed_once, recovery_restores,
+    a_delivery_reaches_who_asked, a_load_passes_no_unknown_store, a_miss_does_not_retire,
+    a_retired_stop_ends_the_unit, a_squashed_tenant_stays_squashed, a_tenant_is_claimed_once,
+    recovery_restores,
 };
 pub use laws::{
     a_tag_names_one_tenant, fates_follow, histories_grow, loads_are_answered_right,
