@@ -45,3 +45,4 @@ pub mod Serving
 pub mod Waking
 pub mod Heads
 pub mod Makers
+pub mod EachAnswered

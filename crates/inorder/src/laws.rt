@@ -14,6 +14,7 @@ ghost use Rattle.inorder.specs.declared.history.Entry.{Entry};
 ghost use Rattle.inorder.specs.History.{IsLegal};
 ghost use Rattle.inorder.specs.Wakes.{AreMarked, LosesNoWake};
 ghost use Rattle.inorder.specs.Loads.{LoadsAreAnswered};
+ghost use Rattle.inorder.specs.Answered.{FinishIsAnswered, ClaimIsAnswered, RetirementIsAnswered};
 
 /// Whatever steps were taken, what the unit has committed is the state of the in-order machine
 /// after as many instructions, and a stop that has retired is that machine's stop.
@@ -79,4 +80,19 @@ pub fn loads_are_answered_right()
 /// comes from its creator was asked for, no open tenant waits for a value that is there.
 pub fn no_wake_is_lost()
     ensures { (p : Program) (c : Sizes) (history : List Entry) → IsLegal p c history → AreMarked p c history → LosesNoWake p c history }
+{}
+
+/// Who has claimed a tenant may finish it, or is told that it is stale.
+pub fn a_finish_is_answered()
+    ensures { (p : Program) (c : Sizes) (history : List Entry) → FinishIsAnswered p c history }
+{}
+
+/// A station has a tenant that may be claimed or waits for a source, or is told not to be open.
+pub fn a_claim_is_answered()
+    ensures { (p : Program) (c : Sizes) (history : List Entry) → ClaimIsAnswered p c history }
+{}
+
+/// A retirement is allowed, or is refused for one reason.
+pub fn a_retirement_is_answered()
+    ensures { (p : Program) (c : Sizes) (history : List Entry) → IsLegal p c history → RetirementIsAnswered p c history }
 {}

@@ -14,8 +14,9 @@ pub use guards::{
     recovery_restores,
 };
 pub use laws::{
-    a_tag_names_one_tenant, fates_follow, histories_grow, loads_are_answered_right,
-    no_wake_is_lost, one_thread_unit_is_right, only_retirements_commit, operands_follow,
-    ring_is_right, stations_follow, values_are_words,
+    a_claim_is_answered, a_finish_is_answered, a_retirement_is_answered, a_tag_names_one_tenant,
+    fates_follow, histories_grow, loads_are_answered_right, no_wake_is_lost,
+    one_thread_unit_is_right, only_retirements_commit, operands_follow, ring_is_right,
+    stations_follow, values_are_words,
 };
 pub use machine::{Ended, Machine, Stepped};
