@@ -39,6 +39,7 @@ mod DeadLinkRun
 mod TurnsRun
 mod Refused
 pub mod SharedRun
+mod SharedWakes
 mod SharedWrongPath
 mod NotLegal
 pub mod Serving

@@ -307,7 +307,7 @@ over =
     does back (On 1 (Retire 0)) ∷
     relet
 
-over_legal : IsLegal adds two_stations over
+pub over_legal : IsLegal adds two_stations over
 unfolding instr_at computed_by jump_target checked_address loaded
 over_legal = (
   (
