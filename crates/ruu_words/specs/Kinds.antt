@@ -17,7 +17,7 @@ use Rattle.inorder.specs.declared.history.Step.TheVariants.{Let, On}
 use Rattle.inorder.specs.declared.history.Supply.{Supply}
 use Rattle.inorder.specs.Callers.{HasMade, IsHead}
 use Rattle.inorder.specs.History.{unit_of}
-use Rattle.inorder.specs.Replies.{IsDelivered, IsOpen, IsSquashed}
+use Rattle.inorder.specs.Replies.{Has, IsDelivered, IsLinkedSource, IsOpen, IsSquashed}
 use Rattle.inorder.specs.StationWords.{live_word, station_word}
 use Rattle.inorder.specs.Tenants.{Addr, Done, Fate, Linked, Live, Miss, Stopped, Tenant, computed, missing, operand}
 use Rattle.inorder.specs.Unit.{Sizes, UpdateUnit, at, recent}
@@ -133,6 +133,13 @@ module _ (P : Program) (C : Sizes) where
   Questions r k q n h d events =
       (IsUnmade (state_of n) × (events ≡ Marks (Asked r k) ∷ []))
       ⊎ (IsMade (state_of n) × (events ≡ []) × HasMade (unit_of P C h) q (value_of n))
+
+  -- The same look, with what it finds of the creator: one that is live and not done has made nothing
+  pub record QuestionsCreator (r : ℕ) (k : Source) (q n : ℕ) (h : List Entry) (d : Draft)
+      (events : List Event) : Type 0 where
+    pub questions : Questions r k q n h d events
+    pub nothing : IsUnmade (state_of n) → Has (unit_of P C h) q (λ t. t.made ≡ None)
+    pub linked : IsUnmade (state_of n) → IsLinkedSource (unit_of P C h) r k
 
   -- The exchange that ends a question: the source has its value
   abbrev pub Answers : (r : ℕ) (k : Source) (old n : ℕ) → List Entry → Draft → List Event → Type 0
