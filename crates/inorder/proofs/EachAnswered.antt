@@ -8,20 +8,19 @@ use Rattle.isa.specs.Programs.{Program}
 use Rattle.isa.specs.declared.op.Kind.{Kind}
 use Rattle.isa.specs.declared.op.Kind.TheVariants.{Computes, Jumps, Links, Loads, Stores}
 use Rattle.isa.specs.declared.stop.Stop.{Stop}
-use Rattle.inorder.specs.declared.history.Act.TheVariants.{Claim, Finish, Retire}
+use Rattle.inorder.specs.declared.history.Act.TheVariants.{Claim, Finish}
 use Rattle.inorder.specs.declared.history.Entry.{Entry}
 use Rattle.inorder.specs.declared.history.Event.TheVariants.{Does, Refuses}
-use Rattle.inorder.specs.declared.history.Refusal.TheVariants.{Empty, NotDone, NotOpen, Over, Stale, Waiting}
+use Rattle.inorder.specs.declared.history.Refusal.TheVariants.{Empty, NotDone, Over, Stale, Waiting}
 use Rattle.inorder.specs.declared.history.Source.{Source}
 use Rattle.inorder.specs.declared.history.Step.TheVariants.{On}
-use Rattle.inorder.specs.Answered.{ClaimIsAnswered, FinishIsAnswered, IsClaimedOrWaits, MayRetireOne, RetirementIsAnswered}
+use Rattle.inorder.specs.Answered.{ClaimIsAnswered, FinishIsAnswered, MayRetireOne, RetirementIsAnswered}
 use Rattle.inorder.specs.History.{IsLegal, IsUnit, IsUnitOrBack, MayAdd, back, taken_of, unit_of}
-use Rattle.inorder.specs.Replies.{HasNoOpen, IsEmpty, IsNotDone, IsOpen, IsOver, IsRetiredStop}
+use Rattle.inorder.specs.Replies.{IsOpen, IsRetiredStop}
 use Rattle.inorder.specs.Steps.{CanRetire, IsNoRetiredStop}
-use Rattle.inorder.specs.Tenants.{Addr, Busy, Done, Fate, IsNotLive, IsThere, Live, Miss, Open, Retired, Squashed, Standing, Stopped, Tenant, kind_of, missing, on_path, stands_on_path}
+use Rattle.inorder.specs.Tenants.{Addr, Busy, Done, Fate, IsNotLive, Live, Miss, Open, Retired, Squashed, Standing, Stopped, Tenant, kind_of, missing, stands_on_path}
 use Rattle.inorder.specs.Unit.{Sizes, at, older, younger}
 use Rattle.inorder.proofs.Basics.{split_at}
-use Rattle.inorder.proofs.Creators.{at_cases}
 use Rattle.inorder.proofs.Examples.{less}
 use Rattle.inorder.proofs.Forbidden.{stop_ends}
 use Rattle.inorder.proofs.Grows.{sound_mid}

@@ -1,5 +1,5 @@
 -- What the example runs share: one step and its caller, one entry, and what differs.
-use Rattle.std.proofs.Common.{◌≡◌, ◌≢◌, ◌⊎◌, ℕ, ◌<◌, ltb, eqb, Bool, true, false, Option, Some, None, refl, sym, ◌∙◌, subst, arith, ltb-true, false-eqb}
+use Rattle.std.proofs.Common.{◌≡◌, ◌≢◌, ◌⊎◌, ℕ, ◌<◌, ltb, eqb, Bool, true, false, Option, Some, None, sym, ◌∙◌, subst, arith, ltb-true, false-eqb}
 use Rattle.std.specs.List.{AllByRecursion}
 use Rattle.isa.specs.declared.op.Kind.TheVariants.{Computes, Jumps, Links, Loads, Stores}
 use Rattle.isa.specs.declared.stop.Stop.{Stop}
@@ -13,7 +13,7 @@ use Rattle.inorder.specs.declared.history.Step.{Step}
 use Rattle.inorder.specs.History.{IsUnit, IsWalked, entry}
 use Rattle.inorder.specs.Legal.{Taken}
 use Rattle.inorder.specs.Replies.{HasNoOpen, IsOpen}
-use Rattle.inorder.specs.Tenants.{Addr, AtLet, Busy, Done, Fate, IsNotLive, IsThere, Linked, Live, Miss, Open, Retired, Squashed, Stopped, Tenant, operand}
+use Rattle.inorder.specs.Tenants.{Addr, AtLet, Busy, Done, IsNotLive, IsThere, Linked, Live, Open, Retired, Squashed, Stopped, Tenant, operand}
 use Rattle.inorder.specs.Unit.{UpdateUnit}
 use Rattle.inorder.proofs.Positions.{all_at}
 

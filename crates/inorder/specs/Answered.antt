@@ -1,5 +1,5 @@
--- Each call of a unit and of the back has an answer, in every legal history: its step is allowed, or a
--- refusal is.
+-- Each call of a unit and of the back has an answer, in every legal history: its step is allowed,
+-- or a refusal is.
 use Rattle.std.specs.Prelude.{◌≡◌, ◌⊎◌, ℕ, List, Some}
 use Rattle.isa.specs.Programs.{Program}
 use Rattle.inorder.specs.declared.history.Act.TheVariants.{Claim, Finish, Retire}

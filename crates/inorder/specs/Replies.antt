@@ -1,4 +1,5 @@
--- When each reply is allowed, by the unit at its point. A reply that is not here names the step that was made.
+-- When each reply is allowed, by the unit at its point. A reply that is not here names the step
+-- that was made.
 use Rattle.std.specs.Prelude.{◌≡◌, ◌≢◌, ℕ, ◌-◌, ◌^◌, ◌<◌, Bool, true, ◌&&◌, length, Some, None, if◌then◌else◌}
 use Rattle.std.specs.List.{AllByRecursion}
 use Rattle.isa.specs.Instruction.{kind}

@@ -31,8 +31,8 @@ pub fn a_load_passes_no_unknown_store()
     ensures { (p : Program) (c : Sizes) (history : List Taken) → LoadWaits p c history }
 {}
 
-/// A delivery gives a source that was asked for what its creator has made, and no other step changes
-/// the value of any source.
+/// A delivery gives a source that was asked for what its creator has made, and no other step
+/// changes the value of any source.
 pub fn a_delivery_reaches_who_asked()
     ensures { (p : Program) (c : Sizes) (history : List Taken) → Delivers p c history }
 {}

@@ -1,5 +1,5 @@
-//! What holds of every unit that legal steps reach. Each function is a law: it does nothing, and its
-//! contract is proved.
+//! What holds of every unit that legal steps reach. Each function is a law: it does nothing, and
+//! its contract is proved.
 ghost use Rattle.std.specs.Prelude.{List, ℕ};
 ghost use Rattle.isa.specs.Programs.{Program};
 ghost use Rattle.inorder.specs.Unit.{Sizes};
@@ -69,9 +69,9 @@ pub fn values_are_words()
     ensures { (p : Program) (c : Sizes) (history : List Taken) → ValuesAreWords p c history }
 {}
 
-/// The rule for loads is right over the live loads and stores. Where it forwards or says memory, the
-/// load may complete, with the bytes of the last older stores or of the committed memory. Where it
-/// blocks, it names an older live store that has no address or overlaps the load.
+/// The rule for loads is right over the live loads and stores. Where it forwards or says memory,
+/// the load may complete, with the bytes of the last older stores or of the committed memory. Where
+/// it blocks, it names an older live store that has no address or overlaps the load.
 pub fn loads_are_answered_right()
     ensures { (p : Program) (c : Sizes) (history : List Taken) → LoadsAreAnswered p c history }
 {}
@@ -79,7 +79,8 @@ pub fn loads_are_answered_right()
 /// Where each value that a finish or a load made was carried along its links, and each source that
 /// comes from its creator was asked for, no open tenant waits for a value that is there.
 pub fn no_wake_is_lost()
-    ensures { (p : Program) (c : Sizes) (history : List Entry) → IsLegal p c history → AreMarked p c history → LosesNoWake p c history }
+    ensures { (p : Program) (c : Sizes) (history : List Entry) →
+        IsLegal p c history → AreMarked p c history → LosesNoWake p c history }
 {}
 
 /// Who has claimed a tenant may finish it, or is told that it is stale.
@@ -94,5 +95,6 @@ pub fn a_claim_is_answered()
 
 /// A retirement is allowed, or is refused for one reason.
 pub fn a_retirement_is_answered()
-    ensures { (p : Program) (c : Sizes) (history : List Entry) → IsLegal p c history → RetirementIsAnswered p c history }
+    ensures { (p : Program) (c : Sizes) (history : List Entry) →
+        IsLegal p c history → RetirementIsAnswered p c history }
 {}
