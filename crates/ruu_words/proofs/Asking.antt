@@ -1,5 +1,5 @@
 -- What follows the store of a link: the look at the creator's station, and the exchange.
-use Rattle.std.proofs.Common.{◌≡◌, ◌≢◌, ◌⊎◌, ℕ, suc, ◌<◌, ◌==◌, Bool, true, false, cond, eqb, List, [], ◌∷◌, ◌++◌, map, length, Option, Some, None, refl, sym, ap, ◌∙◌, subst, inl, inr, ⊎_elim, arith, eq-eqb, eqb-true, ne_eqb, true≢false}
+use Rattle.std.proofs.Common.{◌≡◌, ◌≢◌, ◌⊎◌, ℕ, ◌<◌, ◌==◌, Bool, true, false, cond, eqb, List, [], ◌∷◌, ◌++◌, map, length, Some, None, refl, sym, ap, ◌∙◌, subst, inl, inr, ⊎_elim, eq-eqb, ne_eqb, true≢false}
 use prog.Atomic.{either}
 use Rattle.atomic_table.proofs.Lists.{exchanged}
 use Rattle.isa.specs.Programs.{Program}
@@ -19,16 +19,16 @@ use Rattle.inorder.specs.Callers.{HasAsked, HasMade, IsLastAt}
 use Rattle.inorder.specs.History.{IsLegal, MayMark, entry, front, own, taken_of, unit_of}
 use Rattle.inorder.specs.Legal.{Allowed, May, applied, changed}
 use Rattle.inorder.specs.OperandWords.{operand_word, operand_word_of}
-use Rattle.inorder.specs.Replies.{Has, IsAskedInTime, IsDelivered}
-use Rattle.inorder.specs.StationWords.{last_of, left_value, live_word, station_word, word_by, word_of}
+use Rattle.inorder.specs.Replies.{Has, IsAskedInTime, IsDelivered, IsLinkedSource}
+use Rattle.inorder.specs.StationWords.{last_of, live_word, station_word, word_by, word_of}
 use Rattle.inorder.specs.Steps.{delivered}
-use Rattle.inorder.specs.Tenants.{Addr, Busy, Done, Fate, IsThere, Linked, Live, Miss, Open, Retired, Squashed, Standing, Stopped, Tenant, computed, kind_of, on_path, operand, stands_on_path}
-use Rattle.inorder.specs.Unit.{Sizes, UpdateUnit, at, older, recent, tag_after, value_of, younger}
+use Rattle.inorder.specs.Tenants.{Addr, Busy, Done, Fate, Linked, Live, Miss, Open, Retired, Squashed, Standing, Stopped, Tenant, computed, kind_of, on_path, operand, stands_on_path}
+use Rattle.inorder.specs.Unit.{Sizes, UpdateUnit, at, made_by, older, recent, tag_after, value_of, younger}
 use Rattle.inorder.proofs.Creators.{are_older, value_by}
 use Rattle.inorder.proofs.Ends.{Acted, at_older, exact}
 use Rattle.inorder.proofs.Histories.{allowed_steps, unit_sound}
 use Rattle.inorder.proofs.Letting.{IsBesides, IsBesidesAct}
-use Rattle.inorder.proofs.Makers.{IsWriter, Unmade, are_late, have_makers, left_when_retired, made_when_done, path_maker, stops_made, unmade_before}
+use Rattle.inorder.proofs.Makers.{IsWriter, are_late, have_makers, left_when_retired, made_when_done, path_maker, stops_made, unmade_before}
 use Rattle.inorder.proofs.Moves.{IsActed, IsLeft, at_changed, goes}
 use Rattle.inorder.proofs.Positions.{at_below, at_more, at_new}
 use Rattle.inorder.proofs.Serving.{made_stays}
@@ -39,9 +39,9 @@ use Rattle.ruu_words.specs.declared.place.Place.TheVariants.{Operand, Station}
 use Rattle.ruu_words.specs.declared.rule.Draft.{Draft}
 use Rattle.ruu_words.specs.declared.rule.Draft.TheVariants.{Nothing}
 use Rattle.ruu_words.specs.declared.rule.View.{View}
-use Rattle.ruu_words.specs.Content.{Content, HasValue, IsDraft, IsOperand, IsOperandOf, IsStation, operand_unit}
-use Rattle.ruu_words.specs.Fields.{state_of, tag_of, value_of as value_in}
-use Rattle.ruu_words.specs.Kinds.{Answers, HasLink, IsAny, IsMade, IsTenant, IsUnmade, Questions}
+use Rattle.ruu_words.specs.Content.{HasValue, IsOperand, IsOperandOf, IsStation, operand_unit}
+use Rattle.ruu_words.specs.Fields.{state_of, value_of as value_in}
+use Rattle.ruu_words.specs.Kinds.{Answers, HasLink, IsAny, IsMade, IsTenant, IsUnmade, Questions, QuestionsCreator}
 use Rattle.ruu_words.proofs.Building.{looks, marks}
 use Rattle.ruu_words.proofs.Delivery.{by_value, delivers, link_on}
 use Rattle.ruu_words.proofs.General.{Plan, Plans}
@@ -153,21 +153,21 @@ module _ (P : Program) (C : Sizes) where
             apart v e = cc e
 
     -- by its word
-    pub says : (n : ℕ) → IsStation (station_word C (recent U) p) n → (IsUnmade (state_of n) × IsAskedInTime U r k) ⊎ (IsMade (state_of n) × HasMade U q (value_in n))
-    says n w = go u.standing refl
+    pub made_by_word : (n : ℕ) → IsStation (station_word C (recent U) p) n → (IsUnmade (state_of n) × (u.made ≡ None)) ⊎ (IsMade (state_of n) × HasMade U q (value_in n))
+    made_by_word n w = go u.standing refl
       where
         made : (v : ℕ) → u.made ≡ Some v → value_in n ≡ v → HasMade U q (value_in n)
         made v e f = record { tenant = u; is = is_q; made = e ∙ ap Some (sym f) }
 
-        live : u.standing ≡ Live → (f : Fate) → u.fate ≡ f → IsStation (live_word u.tag f) n → (IsUnmade (state_of n) × IsAskedInTime U r k) ⊎ (IsMade (state_of n) × HasMade U q (value_in n))
+        live : u.standing ≡ Live → (f : Fate) → u.fate ≡ f → IsStation (live_word u.tag f) n → (IsUnmade (state_of n) × (u.made ≡ None)) ⊎ (IsMade (state_of n) × HasMade U q (value_in n))
         live l (Done v) e x = inr (inr x.state, made v (made_when_done P us (unit_sound P C h legal) q u is_q maker_waits writer v e) x.value)
-        live l Open e x = inl (not_ends (state_of n) 1 x.state (λ z. cc z) (λ z. cc z), in_time (unmade_before P us (unit_sound P C h legal) q u is_q maker_waits writer Open e tt l))
-        live l (Busy by) e x = inl (not_ends (state_of n) 2 x.state (λ z. cc z) (λ z. cc z), in_time (unmade_before P us (unit_sound P C h legal) q u is_q maker_waits writer (Busy by) e tt l))
-        live l (Addr a) e x = inl (not_ends (state_of n) 3 x.state (λ z. cc z) (λ z. cc z), in_time (unmade_before P us (unit_sound P C h legal) q u is_q maker_waits writer (Addr a) e tt l))
-        live l (Miss a) e x = inl (not_ends (state_of n) 5 x.state (λ z. cc z) (λ z. cc z), in_time (unmade_before P us (unit_sound P C h legal) q u is_q maker_waits writer (Miss a) e tt l))
-        live l (Stopped c) e x = inl (not_ends (state_of n) 6 x.state (λ z. cc z) (λ z. cc z), in_time (unmade_before P us (unit_sound P C h legal) q u is_q maker_waits writer (Stopped c) e tt l))
+        live l Open e x = inl (not_ends (state_of n) 1 x.state (λ z. cc z) (λ z. cc z), (unmade_before P us (unit_sound P C h legal) q u is_q maker_waits writer Open e tt l))
+        live l (Busy by) e x = inl (not_ends (state_of n) 2 x.state (λ z. cc z) (λ z. cc z), (unmade_before P us (unit_sound P C h legal) q u is_q maker_waits writer (Busy by) e tt l))
+        live l (Addr a) e x = inl (not_ends (state_of n) 3 x.state (λ z. cc z) (λ z. cc z), (unmade_before P us (unit_sound P C h legal) q u is_q maker_waits writer (Addr a) e tt l))
+        live l (Miss a) e x = inl (not_ends (state_of n) 5 x.state (λ z. cc z) (λ z. cc z), (unmade_before P us (unit_sound P C h legal) q u is_q maker_waits writer (Miss a) e tt l))
+        live l (Stopped c) e x = inl (not_ends (state_of n) 6 x.state (λ z. cc z) (λ z. cc z), (unmade_before P us (unit_sound P C h legal) q u is_q maker_waits writer (Stopped c) e tt l))
 
-        go : (st : Standing) → u.standing ≡ st → (IsUnmade (state_of n) × IsAskedInTime U r k) ⊎ (IsMade (state_of n) × HasMade U q (value_in n))
+        go : (st : Standing) → u.standing ≡ st → (IsUnmade (state_of n) × (u.made ≡ None)) ⊎ (IsMade (state_of n) × HasMade U q (value_in n))
         go Live l = live l u.fate refl (its_word P C h legal q p n u is_q at_p l w)
         go Squashed gone = absurd (true≢false (sym writer.path ∙ ap stands_on_path gone))
         go Retired gone =
@@ -178,19 +178,59 @@ module _ (P : Program) (C : Sizes) where
             let value : value_in n ≡ m.0 = subst (λ o. HasValue o (value_in n)) m.1 free.value in
             inr (inl free.state, made m.0 m.2 value)
 
-  pub question_plan : (id : ℕ) (v : View) (p g r q : ℕ) (k : Source) → id ≡ front → Has (unit_of P C v.seen) r (HasAsked k q) → IsTenant (unit_of P C v.seen) q p g IsAny → IsLastAt (unit_of P C v.seen) q p
-      → Plans P C id v (Station p) (λ n. n) (Questions P C r k q)
-  question_plan id v p g r q k is_front asked creator last between d legal apart caller mine draft n small content =
+    pub says : (n : ℕ) → IsStation (station_word C (recent U) p) n → (IsUnmade (state_of n) × IsAskedInTime U r k) ⊎ (IsMade (state_of n) × HasMade U q (value_in n))
+    says n w = ⊎_elim (λ x. inl (x.0, in_time x.1)) (λ x. inr x) (made_by_word n w)
+
+    -- a creator that has made nothing leaves the source linked
+    pub still_linked : u.made ≡ None → IsLinkedSource U r k
+    still_linked none = record {
+      tenant = i.tenant;
+      is = i.is;
+      fact = record {
+        in_time = i.fact.in_time;
+        way = i.fact.way;
+        unmade = ap (value_of us) i.fact.creator ∙ (ap made_by is_q ∙ none);
+      };
+    }
+
+  pub question_creator_plan : (id : ℕ) (v : View) (p g r q : ℕ) (k : Source) → id ≡ front → Has (unit_of P C v.seen) r (HasAsked k q) → IsTenant (unit_of P C v.seen) q p g IsAny → IsLastAt (unit_of P C v.seen) q p
+      → Plans P C id v (Station p) (λ n. n) (QuestionsCreator P C r k q)
+  question_creator_plan id v p g r q k is_front asked creator last between d legal apart caller mine draft n small content =
       let h : List Entry = between ++ v.seen in
       let none : own front between ≡ [] = subst (λ z. own z between ≡ []) is_front apart in
       let i = front_stays P C (λ U. Has U r (HasAsked k q)) (λ U by s b a ok x. asked_stays P C k q r U by s b a ok x) between v.seen legal none asked in
       let j = any_stays P C q p g between v.seen legal creator in
       let l = front_stays P C (λ U. IsLastAt U q p) (λ U by s b a ok x. last_stays P C U by s b a ok q p x) between v.seen legal none last in ⊎_elim
-      (λ (x : IsUnmade (state_of n) × IsAskedInTime (unit_of P C h) r k).
-      marks P C id h d legal draft (Station p) n (Asked r k) (is_front, inr x.1) content (Questions P C r k q n) (inl (x.0, refl)))
+      (λ (x : IsUnmade (state_of n) × (j.tenant.made ≡ None)).
+      marks P C id h d legal draft (Station p) n (Asked r k) (is_front, inr (in_time h legal r q p k i j.tenant j.is j.station_is l x.1)) content (QuestionsCreator P C r k q n)
+      (record {
+        questions = inl (x.0, refl);
+        nothing = λ un. record { tenant = j.tenant; is = j.is; fact = x.1 };
+        linked = λ un. still_linked h legal r q p k i j.tenant j.is j.station_is l x.1;
+      }))
       (λ (x : IsMade (state_of n) × HasMade (unit_of P C h) q (value_in n)).
-      looks P C id h d legal draft (Station p) n content (Questions P C r k q n) (inr (x.0, refl, x.1)))
-      (says h legal r q p k i j.tenant j.is j.station_is l n content)
+      looks P C id h d legal draft (Station p) n content (QuestionsCreator P C r k q n)
+      (record {
+        questions = inr (x.0, refl, x.1);
+        nothing = λ un. absurd (⊎_elim un.0 un.1 x.0);
+        linked = λ un. absurd (⊎_elim un.0 un.1 x.0);
+      }))
+      (made_by_word h legal r q p k i j.tenant j.is j.station_is l n content)
+
+  pub question_plan : (id : ℕ) (v : View) (p g r q : ℕ) (k : Source) → id ≡ front → Has (unit_of P C v.seen) r (HasAsked k q) → IsTenant (unit_of P C v.seen) q p g IsAny → IsLastAt (unit_of P C v.seen) q p
+      → Plans P C id v (Station p) (λ n. n) (Questions P C r k q)
+  question_plan id v p g r q k is_front asked creator last between d legal apart caller mine draft n small content =
+      let plan = question_creator_plan id v p g r q k is_front asked creator last between d legal apart caller mine draft n small content in
+      record {
+        events = plan.events;
+        draft = plan.draft;
+        mine = plan.mine;
+        legal = plan.legal;
+        proper = plan.proper;
+        here = plan.here;
+        else = plan.else;
+        kind = plan.kind.questions;
+      }
 
   -- The exchange
 
