@@ -1,5 +1,5 @@
 -- The steps of a let, one after another: what the front knew stays true up to the last.
-use Rattle.std.proofs.Common.{◌≡◌, ℕ, suc, ◌+◌, ◌%◌, ◌<◌, List, [], ◌∷◌, ◌++◌, map, refl, sym, ap, ◌∙◌, subst, arith}
+use Rattle.std.proofs.Common.{◌≡◌, ℕ, suc, ◌+◌, ◌%◌, ◌<◌, Bool, List, [], ◌∷◌, ◌++◌, map, refl, sym, ap, ◌∙◌, subst, arith}
 use Rattle.std.proofs.Math.Nat.{mod-add-mod}
 use Rattle.atomic_table.specs.Table.{Me}
 use Rattle.isa.specs.Programs.{Program}
@@ -96,9 +96,9 @@ module _ (P : Program) (C : Sizes) (by : ℕ) (t : Tenant) (old : List Entry) wh
       goes_on draft next station tag v w Kind r same.0 same.1 is
 
 -- the front's seat behind a let
-pub seated_out : (P : Program) (C : Sizes) (by station ring : ℕ) (t : Tenant) (old : List Entry) (me : Me ℕ View) → ring ≡ C.ring → station ≡ next_station C (recent (unit_of P C old)) → IsFronts by Nothing me → me.1 ≡ []
-    → IsLetOut P C by t old me.0.seen → IsSeated P C Front by ((station + 1) % ring) me
-seated_out P C by station ring t old me ring_is station_is fronts slots out =
+pub seated_out : (P : Program) (C : Sizes) (by station ring : ℕ) (over : Bool) (t : Tenant) (old : List Entry) (me : Me ℕ View) → ring ≡ C.ring → station ≡ next_station C (recent (unit_of P C old)) → IsFronts by Nothing me → me.1 ≡ []
+    → IsLetOut P C by t old me.0.seen → IsSeated P C Front by ((station + 1) % ring) over me
+seated_out P C by station ring over t old me ring_is station_is fronts slots out =
     let n : ℕ = how_many on_path (unit_of P C out.point).tenants in
     let was : station ≡ n % C.ring = station_is ∙ sym out.station in
     let one : n + 1 ≡ suc n = omega arith in

@@ -2,6 +2,7 @@ pub mod Allowing
 pub mod Looks
 pub mod SameUnit
 pub mod Adding
+pub mod Backs
 pub mod Seated
 pub mod Given
 pub mod LettingOut
@@ -10,3 +11,4 @@ pub mod Claimed
 pub mod Mending
 pub mod Carrying
 pub mod Writing
+pub mod Squashing

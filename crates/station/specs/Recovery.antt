@@ -46,6 +46,18 @@ pub record MaySquash (P : Program) (C : Sizes) (seen : List Entry) : Type 0 wher
   pub p : ℕ
   pub can : CanSquash (unit_of P C seen) p
 
+-- In what was seen it is the station's tenant with this tag
+pub record HasYoungest (P : Program) (C : Sizes) (seen : List Entry) (station tag : ℕ) : Type 0 where
+  pub p : ℕ
+  pub named : IsTenant (unit_of P C seen) p station tag IsAny
+  pub can : CanSquash (unit_of P C seen) p
+
+-- What the write tells: it was squashed, and no let is in progress
+pub record Squashes (P : Program) (C : Sizes) (s g : ℕ) (h : List Entry) (d : Draft) (events : List Event) : Type 0 where
+  pub youngest : HasYoungest P C h s g
+  pub added : events ≡ Does (On youngest.p Squash) ∷ []
+  pub draft : d ≡ Nothing
+
 -- That tenant, of this station and tag, was squashed
 pub record IsSquashed (P : Program) (C : Sizes) (by station tag : ℕ) (old new : List Entry) : Type 0 where
   pub p : ℕ

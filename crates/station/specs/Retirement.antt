@@ -19,8 +19,8 @@ use Rattle.station.specs.declared.answers.Retire.TheVariants.{Empty, NotDone, Ov
 -- How the tenant ended
 abbrev pub EndsAs : Program → Last → Tenant → Type 0
 EndsAs P (WasDone v) t = t.fate ≡ Done v
-EndsAs P (Stored address data) t =
-    (kind_of P t ≡ Stores) × (t.fate ≡ Addr address) × (t.second.value ≡ Some data)
+EndsAs P (Stored address word) t =
+    (kind_of P t ≡ Stores) × (t.fate ≡ Addr address) × (t.second.value ≡ Some word)
 EndsAs P (WasStop code) t = t.fate ≡ Stopped code
 
 pub record IsLast (P : Program) (index : ℕ) (last : Last) (t : Tenant) : Type 0 where

@@ -17,7 +17,7 @@ mod writeback;
 use atomic_table::{Play, Seat, Shared};
 pub(crate) use claim::{claim_tenant, peek, read_info, read_source, recheck};
 pub(crate) use dispatch::{let_tenant, store_first, store_info, store_second};
-pub(crate) use leave::mend_tenant;
+pub(crate) use leave::{mend_tenant, squash_tenant};
 pub(crate) use look::look;
 use ruu_words::Place;
 use ruu_words::rule::{OneHistory, Setup, View};

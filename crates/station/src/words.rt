@@ -1,6 +1,7 @@
 //! Words, made and read.
-ghost use Rattle.std.specs.Prelude.{◌≡◌, ◌<◌};
-ghost use Rattle.inorder.specs.StationWords.{live_word};
+ghost use Rattle.std.specs.Prelude.{◌≡◌, suc, ◌<◌, Some};
+ghost use Rattle.inorder.specs.Replies.{last_tag};
+ghost use Rattle.inorder.specs.StationWords.{IsFree, live_word};
 ghost use Rattle.inorder.specs.Tenants.{Done, Open};
 ghost use Rattle.ruu_words.specs.Content.{IsOperandOf, IsStation};
 ghost use Rattle.ruu_words.specs.Fields.{state_of, tag_count, tag_of, value_of};
@@ -72,6 +73,19 @@ pub(crate) fn done_word(tag: u32, value: u32) -> u64
     let word = StationWord {
         tag,
         state: StationState::Done,
+        value,
+    };
+    word.pack()
+}
+
+/// The word of a station whose tenant with this tag has left: it is free, with the next tag.
+pub(crate) fn left_word(tag: u32, value: u32) -> u64
+    requires { tag < last_tag }
+    ensures { IsStation (record { tag = suc tag; state = IsFree; value = Some value }) result }
+{
+    let word = StationWord {
+        tag: tag + 1,
+        state: StationState::Free,
         value,
     };
     word.pack()

@@ -101,13 +101,7 @@ impl Core {
         ensures kept { IsSame seat.old seat.new }
         ensures reply { FinishAnswers self.now.program self.now.sizes seat.old.by seat.old.seen seat.new.seen job result }
     {
-        finish_job(
-            &self.table.shared,
-            self.setup.ring,
-            &mut seat.seat,
-            job,
-            outcome,
-        )
+        finish_job(&self.table.shared, self.ring, &mut seat.seat, job, outcome)
     }
 
     /// Writes the value of a load, and carries it to all who asked for it.
@@ -120,7 +114,7 @@ impl Core {
     {
         settle_load(
             &self.table.shared,
-            self.setup.ring,
+            self.ring,
             &mut seat.seat,
             station,
             tag,
