@@ -11,4 +11,5 @@ pub mod Claimed
 pub mod Mending
 pub mod Carrying
 pub mod Writing
+pub mod Asking
 pub mod Squashing

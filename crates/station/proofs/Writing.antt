@@ -110,7 +110,7 @@ module _ (P : Program) (C : Sizes) where
       }
 
   -- the tenant that an act changed
-  acted : (by p s g : ℕ) (act : Act) (F : Tenant → Type 0) (h : List Entry) → (legal : IsLegal P C (entry by (Does (On p act)) ∷ h)) → (i : IsTenant (unit_of P C h) p s g F) → (G : Tenant → Type 0) → G (changed P by act i.tenant (older (unit_of P C h).tenants p)) → IsTenant (unit_of P C (entry by (Does (On p act)) ∷ h)) p s g G
+  pub acted : (by p s g : ℕ) (act : Act) (F : Tenant → Type 0) (h : List Entry) → (legal : IsLegal P C (entry by (Does (On p act)) ∷ h)) → (i : IsTenant (unit_of P C h) p s g F) → (G : Tenant → Type 0) → G (changed P by act i.tenant (older (unit_of P C h).tenants p)) → IsTenant (unit_of P C (entry by (Does (On p act)) ∷ h)) p s g G
   acted by p s g act F h legal i G fact =
       let us = (unit_of P C h).tenants in
       let t = i.tenant in
