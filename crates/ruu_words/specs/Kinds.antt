@@ -16,7 +16,7 @@ use Rattle.inorder.specs.declared.history.Step.TheVariants.{Let, On}
 use Rattle.inorder.specs.declared.history.Supply.{Supply}
 use Rattle.inorder.specs.Callers.{HasMade, IsHead}
 use Rattle.inorder.specs.History.{unit_of}
-use Rattle.inorder.specs.Replies.{Has, IsDelivered, IsLinkedSource, IsOpen, IsSquashed}
+use Rattle.inorder.specs.Replies.{Has, IsAskedInTime, IsDelivered, IsOpen, IsSquashed}
 use Rattle.inorder.specs.StationWords.{live_word, station_word}
 use Rattle.inorder.specs.Tenants.{Addr, Done, Fate, Linked, Live, Miss, Stopped, Tenant, computed, missing, operand}
 use Rattle.inorder.specs.Unit.{Sizes, UpdateUnit, at, recent}
@@ -67,6 +67,11 @@ pub record HasLink (k : Source) (q : ℕ) (t : Tenant) : Type 0 where
   pub in_time : Bool
   pub way : (operand k t).way ≡ Linked in_time
   pub creator : (operand k t).creator ≡ Some q
+
+-- Source k of tenant r was asked for in time, and its creator q has made nothing
+pub record IsInTime (U : UpdateUnit) (r : ℕ) (k : Source) (q : ℕ) : Type 0 where
+  pub asked : IsAskedInTime U r k
+  pub unmade : Has U q (λ t. t.made ≡ None)
 
 -- A station that is neither free nor done has made nothing for a register
 abbrev pub IsUnmade : ℕ → Type 0
@@ -131,27 +136,21 @@ module _ (P : Program) (C : Sizes) where
   pub record Tells (r : Refusal) (h : List Entry) (d : Draft) (events : List Event) : Type 0 where
     pub added : events ≡ Refuses r ∷ []
 
-  -- The look of a question at the station of the creator q of source k of tenant r: the creator is
-  -- live and not done, so that the source was asked for in time, or it has made the value of the
-  -- word
+  -- The look of a question at the station of the creator q of source k of tenant r: the creator is live and
+  -- not done, so that the source was asked for in time, or it has made the value of the word. No let is in
+  -- progress
   abbrev pub Questions : (r : ℕ) (k : Source) (q n : ℕ) → List Entry → Draft → List Event → Type 0
   Questions r k q n h d events =
-      (IsUnmade (state_of n) × (events ≡ Marks (Asked r k) ∷ []))
-      ⊎ (IsMade (state_of n) × (events ≡ []) × HasMade (unit_of P C h) q (value_of n))
+      (d ≡ Nothing)
+      × ((IsUnmade (state_of n) × (events ≡ Marks (Asked r k) ∷ []) × IsInTime (unit_of P C h) r k q)
+      ⊎ (IsMade (state_of n) × (events ≡ []) × HasMade (unit_of P C h) q (value_of n)))
 
-  -- The same look, with what it finds of the creator: one that is live and not done has made
-  -- nothing
-  pub record QuestionsCreator (r : ℕ) (k : Source) (q n : ℕ) (h : List Entry) (d : Draft)
-      (events : List Event) : Type 0 where
-    pub questions : Questions r k q n h d events
-    pub nothing : IsUnmade (state_of n) → Has (unit_of P C h) q (λ t. t.made ≡ None)
-    pub linked : IsUnmade (state_of n) → IsLinkedSource (unit_of P C h) r k
-
-  -- The exchange that ends a question: the source has its value
+  -- The exchange that ends a question: the source has its value, or had it before
   abbrev pub Answers : (r : ℕ) (k : Source) (old n : ℕ) → List Entry → Draft → List Event → Type 0
   Answers r k old n h d events =
-      ((n ≡ old) × (events ≡ Marks (Asked r k) ∷ Does (On r (Deliver k)) ∷ []))
-      ⊎ ((n ≢ old) × (events ≡ Marks (Asked r k) ∷ []))
+      (d ≡ Nothing)
+      × (((n ≡ old) × (events ≡ Marks (Asked r k) ∷ Does (On r (Deliver k)) ∷ []))
+      ⊎ ((n ≢ old) × (events ≡ Marks (Asked r k) ∷ []) × IsDelivered (unit_of P C h) r k))
 
   -- Loads of a retirement
 
@@ -249,3 +248,4 @@ module _ (P : Program) (C : Sizes) where
   pub record Asks (r : ℕ) (k : Source) (h : List Entry) (d : Draft) (events : List Event) :
       Type 0 where
     pub added : events ≡ Does (On r (Link k)) ∷ []
+    pub draft : d ≡ Nothing

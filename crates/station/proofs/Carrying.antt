@@ -59,7 +59,7 @@ writer_alive Worker w = tt
 writer_alive Spent w = absurd w
 
 -- facts of two lists
-all_append : (Q : Event → Type 0) (xs ys : List Event) → AllByRecursion Q xs → AllByRecursion Q ys → AllByRecursion Q (xs ++ ys)
+pub all_append : (Q : Event → Type 0) (xs ys : List Event) → AllByRecursion Q xs → AllByRecursion Q ys → AllByRecursion Q (xs ++ ys)
 all_append Q [] ys a b = b
 all_append Q (x ∷ xs) ys a b = (a.0, all_append Q xs ys a.1 b)
 

@@ -9,7 +9,7 @@ pub mod LettingOut
 pub mod Reading
 pub mod Claimed
 pub mod Mending
-pub mod Squashing
 pub mod Carrying
 pub mod Writing
-pub mod Settled
+pub mod Asking
+pub mod Squashing

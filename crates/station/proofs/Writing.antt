@@ -1,5 +1,7 @@
 -- The exchanges of a writeback, and what is carried behind them.
 use Rattle.std.proofs.Common.{◌≡◌, ◌≢◌, ◌⊎◌, ℕ, ◌<◌, Bool, cond, List, [], ◌∷◌, ◌++◌, map, length, Some, refl, sym, ap, ◌∙◌, subst, inl, inr, ⊎_elim, arith}
+use Rattle.std.specs.List.{AllByRecursion}
+use Rattle.atomic_table.specs.Table.{Me}
 use Rattle.isa.specs.Operations.{outcome, outcome_by}
 use Rattle.isa.specs.Programs.{Program, instr_of}
 use Rattle.isa.specs.declared.instr.Instr.{Instr}
@@ -40,12 +42,16 @@ use Rattle.ruu_words.proofs.Settling.{load_lasts}
 use Rattle.ruu_words.proofs.StationWords.{its_word, one_at}
 use Rattle.ruu_words.proofs.Stays.{any_stays}
 use Rattle.station.specs.declared.answers.Job.{Job}
+use Rattle.station.specs.declared.answers.Settle.{Settle}
+use Rattle.station.specs.declared.answers.Settle.TheVariants.{Settled, Stale as StaleLoad}
 use Rattle.station.specs.Carrying.{HasCarried, HasMadeOf, HasValueOf, HasWalked, Makes, OfTenant}
 use Rattle.station.specs.Claiming.{Holds, IsJob, fields_of}
+use Rattle.station.specs.Seats.{IsSeated}
 use Rattle.station.specs.Steps.{Sees}
-use Rattle.station.specs.Writeback.{CanSettle, HasTenant, IsCarried, IsWalk, IsWritten, MaySettle, WasStale, outcome_of}
+use Rattle.station.specs.Writeback.{CanSettle, HasTenant, IsCarried, IsDeliveryOf, IsWalk, IsWritten, MaySettle, SettleAnswers, WasStale, outcome_of}
 use Rattle.station.proofs.Adding.{adds_on, adds_these}
-use Rattle.station.proofs.Carrying.{any_on, one_named}
+use Rattle.station.proofs.Backs.{IsNoRetirement, back_seated}
+use Rattle.station.proofs.Carrying.{all_append, any_on, one_named}
 
 -- A source that is not needed changes no outcome
 same_outcome : (k : Kind) (i : Instr) (pc a b size : ℕ) → outcome_by k i pc (cond (needs k First) a 0) (cond (needs k Second) b 0) size ≡ outcome_by k i pc a b size
@@ -104,7 +110,7 @@ module _ (P : Program) (C : Sizes) where
       }
 
   -- the tenant that an act changed
-  acted : (by p s g : ℕ) (act : Act) (F : Tenant → Type 0) (h : List Entry) → (legal : IsLegal P C (entry by (Does (On p act)) ∷ h)) → (i : IsTenant (unit_of P C h) p s g F) → (G : Tenant → Type 0) → G (changed P by act i.tenant (older (unit_of P C h).tenants p)) → IsTenant (unit_of P C (entry by (Does (On p act)) ∷ h)) p s g G
+  pub acted : (by p s g : ℕ) (act : Act) (F : Tenant → Type 0) (h : List Entry) → (legal : IsLegal P C (entry by (Does (On p act)) ∷ h)) → (i : IsTenant (unit_of P C h) p s g F) → (G : Tenant → Type 0) → G (changed P by act i.tenant (older (unit_of P C h).tenants p)) → IsTenant (unit_of P C (entry by (Does (On p act)) ∷ h)) p s g G
   acted by p s g act F h legal i G fact =
       let us = (unit_of P C h).tenants in
       let t = i.tenant in
@@ -264,3 +270,20 @@ module _ (P : Program) (C : Sizes) where
       (λ q i.
       let c : HasWalked P C by q mid new = subst (λ z. HasWalked P C z q mid new) is (walk q i) in
       (c.events, (c.walk, c.adds)))
+
+  -- Behind a settle
+
+  delivers_keep : (seen : List Entry) (q : ℕ) (es : List Event) → AllByRecursion (IsDeliveryOf P C seen q) es → AllByRecursion (IsNoRetirement P C) es
+  delivers_keep seen q [] all = tt
+  delivers_keep seen q (e ∷ es) all = (subst (IsNoRetirement P C) (sym all.0.is) tt, delivers_keep seen q es all.1)
+
+  walk_keeps : (seen : List Entry) (q : ℕ) (es : List Event) → IsWalk P C seen q es → AllByRecursion (IsNoRetirement P C) es
+  walk_keeps seen q es w = subst (AllByRecursion (IsNoRetirement P C)) (sym w.is) (tt, delivers_keep seen q w.deliveries w.each)
+
+  pub settled_seated : (by station s g : ℕ) (over : Bool) (v w : Me ℕ View) (a : Settle) → IsSeated P C Back by station over v → w.0.role ≡ v.0.role → w.1 ≡ v.1 → SettleAnswers P C by v.0.seen w.0.seen s g a → IsSeated P C Back by station over w
+  settled_seated by station s g over v w Settled seated role slots out =
+      let act : List Event = Does (On out.p Load) ∷ [] in
+      back_seated P C by station over v w (out.behind ++ act) seated role slots out.adds
+      (all_append (IsNoRetirement P C) out.behind act (walk_keeps w.0.seen out.p out.behind out.carried) (tt, tt))
+  settled_seated by station s g over v w StaleLoad seated role slots out =
+      back_seated P C by station over v w (Refuses (Stale out.p) ∷ []) seated role slots out.adds (tt, tt)

@@ -8,5 +8,6 @@ pub mod Claiming
 pub mod Writeback
 pub mod Carrying
 pub mod Asking
+pub mod Wakeup
 pub mod Retirement
 pub mod Recovery

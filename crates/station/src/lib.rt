@@ -11,6 +11,7 @@ mod recovery;
 mod results;
 mod seat;
 mod steps;
+mod wakeup;
 mod walk;
 mod words;
 mod writeback;

@@ -1,16 +1,16 @@
 //! The words of results, and what links say.
-ghost use Rattle.std.specs.Prelude.{ℕ, ◌≡◌, ◌<◌};
+ghost use Rattle.std.specs.Prelude.{ℕ, ◌≡◌, ◌<◌, IsTrue, false};
 ghost use Rattle.inorder.specs.StationWords.{live_word};
 ghost use Rattle.inorder.specs.Tenants.{Addr, Busy, Stopped};
 ghost use Rattle.isa.specs.declared.stop.Outcome.TheVariants.{Next};
 ghost use Rattle.ruu_words.specs.Content.{IsOperandOf, IsStation};
-ghost use Rattle.ruu_words.specs.Fields.{consumer_of, producer_of, tag_count};
-ghost use Rattle.ruu_words.specs.Kinds.{fate_of};
+ghost use Rattle.ruu_words.specs.Fields.{consumer_of, pack_link, producer_of, state_of, tag_count};
+ghost use Rattle.ruu_words.specs.Kinds.{IsMade, IsUnmade, fate_of};
 ghost use Rattle.station.specs.Writeback.{val_word, wait_word};
 
 use crate::words::done_word;
 use isa::{Outcome, Stop};
-use ruu_words::{OperandState, OperandWord, StationState, StationWord};
+use ruu_words::{LinkWord, OperandState, OperandWord, StationState, StationWord};
 
 /// The word of a tenant that a unit has claimed.
 pub(crate) fn claimed_word(tag: u32) -> u64
@@ -118,4 +118,22 @@ pub(crate) fn consumer_in(word: u64) -> u32
     ensures small { result < tag_count }
 {
     ((word >> 8) & 0xfff_ffff) as u32
+}
+
+/// The word of a link from a producer to a consumer.
+pub(crate) fn link_word(producer: u32, consumer: u32) -> u64
+    requires producer { producer < tag_count }
+    requires consumer { consumer < tag_count }
+    ensures { result ≡ pack_link producer consumer }
+{
+    LinkWord { producer, consumer }.pack()
+}
+
+/// A station that is free or done shows the value of its last tenant.
+pub(crate) fn shows_value(word: u64) -> bool
+    ensures made { IsTrue result → IsMade (state_of word) }
+    ensures unmade { (result ≡ false) → IsUnmade (state_of word) }
+{
+    let state = (word >> 32) & 15;
+    state == 0 || state == 4
 }

@@ -11,6 +11,7 @@ mod claim;
 mod dispatch;
 mod leave;
 mod look;
+mod wakeup;
 mod walk;
 mod writeback;
 
@@ -21,6 +22,7 @@ pub(crate) use leave::{mend_tenant, squash_tenant};
 pub(crate) use look::look;
 use ruu_words::Place;
 use ruu_words::rule::{OneHistory, Setup, View};
+pub(crate) use wakeup::{look_at_creator, store_link, take_value};
 pub(crate) use walk::end_walk;
 pub(crate) use writeback::{deliver, finish_tenant, read_link, settle_tenant};
 
