@@ -77,7 +77,7 @@ to_link : (k : Source) (q : ℕ) (t : Tenant) → HasAsked k q t → HasLink k q
 to_link k q t a = record { in_time = a.in_time; way = a.way; creator = a.creator }
 
 -- less is said of a tenant
-weaker : (U : UpdateUnit) (p s g : ℕ) (F G : Tenant → Type 0) → ((t : Tenant) → F t → G t) → IsTenant U p s g F → IsTenant U p s g G
+pub weaker : (U : UpdateUnit) (p s g : ℕ) (F G : Tenant → Type 0) → ((t : Tenant) → F t → G t) → IsTenant U p s g F → IsTenant U p s g G
 weaker U p s g F G f i = record { tenant = i.tenant; is = i.is; station_is = i.station_is; tag_is = i.tag_is; fact = f i.tenant i.fact }
 
 module _ (P : Program) (C : Sizes) where
@@ -132,14 +132,14 @@ module _ (P : Program) (C : Sizes) where
 
   -- What stays
 
-  path_stays : (U : UpdateUnit) (by : ℕ) (s : Step) → IsBesides s → Allowed P C U by s → (r : ℕ) → Has U r (λ t. on_path t ≡ true) → Has (applied P C U by s) r (λ t. on_path t ≡ true)
+  pub path_stays : (U : UpdateUnit) (by : ℕ) (s : Step) → IsBesides s → Allowed P C U by s → (r : ℕ) → Has U r (λ t. on_path t ≡ true) → Has (applied P C U by s) r (λ t. on_path t ≡ true)
   path_stays U by s b a r i = ⊎_elim
       (λ e. record { tenant = i.tenant; is = e; fact = i.fact })
       (λ (z : Acted P U by s (applied P C U by s).tenants r i.tenant).
       record { tenant = changed P by z.act i.tenant (older U.tenants r); is = z.now; fact = path_on P by z.act (younger U.tenants r) i.tenant (older U.tenants r) (subst IsBesides z.step b) z.may i.fact })
       (exact P C U by s a r i.tenant i.is)
 
-  last_on : (r s : ℕ) (more seen : List Entry) → IsLegal P C (more ++ seen) → own front more ≡ [] → IsLastAt (unit_of P C seen) r s → IsLastAt (unit_of P C (more ++ seen)) r s
+  pub last_on : (r s : ℕ) (more seen : List Entry) → IsLegal P C (more ++ seen) → own front more ≡ [] → IsLastAt (unit_of P C seen) r s → IsLastAt (unit_of P C (more ++ seen)) r s
   last_on r s more seen legal none last = front_stays P C (λ U. IsLastAt U r s) (λ U by st b a ok x. last_stays P C U by st b a ok r s x) more seen legal none last
 
   -- also under the front's link

@@ -13,4 +13,5 @@ pub mod Carrying
 pub mod Writing
 pub mod Asking
 pub mod Holding
+pub mod Staying
 pub mod Squashing
