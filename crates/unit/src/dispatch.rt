@@ -54,7 +54,7 @@ fn access_at(window: &Window, i: usize) -> usize
     ensures value { result ≡ access_at_of (slice_get window.now i) }
     ensures small { result ≤ 1 }
 {
-    match window.at(i) {
+    match window.peek(i) {
         Some(station) if is_access(station.instr.op()) => 1,
         _ => 0,
     }
@@ -71,6 +71,23 @@ fn accesses(window: &Window) -> usize
     count
 }
 
+// A number modulo the ring size, which is a power of two: a mask for each size.
+fn wrapped(n: u64, ring: usize) -> usize
+    requires { 0 < ring }
+    ensures value { result ≡ n % ring }
+    ensures small { result < ring }
+{
+    let rest = match ring {
+        2 => n % 2,
+        4 => n % 4,
+        8 => n % 8,
+        16 => n % 16,
+        32 => n % 32,
+        _ => n % (ring as u64),
+    };
+    rest as usize
+}
+
 impl<'a> Pipeline<'a> {
     /// The station of the tenant at `i`, live or to be let.
     pub fn station_at(&self, i: usize) -> usize
@@ -80,8 +97,8 @@ impl<'a> Pipeline<'a> {
         ensures value { result ≡ (self.now.committed.count + i) % self.now.ring }
         ensures small { result < self.now.ring }
     {
-        let oldest = (self.committed.count() % (self.ring as u64)) as usize;
-        (oldest + i) % self.ring
+        let oldest = wrapped(self.committed.count(), self.ring);
+        wrapped((oldest + i) as u64, self.ring)
     }
 
     // Where the path goes on.
@@ -90,7 +107,7 @@ impl<'a> Pipeline<'a> {
     {
         match self.window.len().checked_sub(1) {
             None => self.committed.pc(),
-            Some(last) => match self.window.at(last) {
+            Some(last) => match self.window.peek(last) {
                 None => self.committed.pc(),
                 Some(station) => station.next,
             },

@@ -42,9 +42,9 @@ fn needed(kind: Kind, a: Option<u32>, b: Option<u32>) -> Option<Operands>
 }
 
 // What a station needs, if it can be claimed behind the first `i`.
-fn sources(window: &Window, committed: &Committed, i: usize, station: Station) -> Option<Operands>
+fn sources(window: &Window, committed: &Committed, i: usize, station: &Station) -> Option<Operands>
     requires { i ≤ length window.now }
-    ensures { result ≡ operands_in committed.now.registers (take i window.now) station }
+    ensures { result ≡ operands_in committed.now.registers (take i window.now) station.now }
 {
     let Stage::Open = station.stage else {
         return None;
@@ -59,7 +59,7 @@ fn sources_at(window: &Window, committed: &Committed, i: usize) -> Option<Operan
     requires { i ≤ length window.now }
     ensures { result ≡ gives (operands_in committed.now.registers) window.now i }
 {
-    match window.at(i) {
+    match window.peek(i) {
         None => None,
         Some(station) => sources(window, committed, i, station),
     }
@@ -79,8 +79,8 @@ fn oldest_ready(window: &Window, committed: &Committed, from: usize) -> Option<R
 }
 
 // It has ended, or is a store with its address.
-fn is_settled(station: Station) -> bool
-    ensures { result ≡ settled_by (kind_of station.instr.op) station.stage }
+fn is_settled(station: &Station) -> bool
+    ensures { result ≡ settled_by (kind_of station.now.instr.op) station.now.stage }
 {
     match station.stage {
         Stage::Done | Stage::Stops(_) => true,
@@ -92,7 +92,7 @@ fn is_settled(station: Station) -> bool
 fn is_settled_at(window: &Window, i: usize) -> bool
     ensures { result ≡ settled_at (slice_get window.now i) }
 {
-    match window.at(i) {
+    match window.peek(i) {
         None => false,
         Some(station) => is_settled(station),
     }

@@ -45,9 +45,9 @@ fn address_of(stage: Stage) -> Option<u32>
 }
 
 // What the queue holds of the memory instruction at `i`.
-fn entry(window: &Window, committed: &Committed, i: usize, station: Station) -> Entry
+fn entry(window: &Window, committed: &Committed, i: usize, station: &Station) -> Entry
     requires { i ≤ length window.now }
-    ensures { result ≡ entry_of committed.now.registers (take i window.now) station }
+    ensures { result ≡ entry_of committed.now.registers (take i window.now) station.now }
 {
     let op = station.instr.op();
     Entry {
@@ -72,7 +72,7 @@ fn entry_at(window: &Window, committed: &Committed, i: usize) -> Option<Entry>
     requires { i ≤ length window.now }
     ensures { result ≡ entry_in committed.now.registers window.now (slice_get window.now i) i }
 {
-    match window.at(i) {
+    match window.peek(i) {
         Some(station) if is_access(station.instr.op()) => Some(entry(
             window, committed, i, station,
         )),
@@ -81,8 +81,8 @@ fn entry_at(window: &Window, committed: &Committed, i: usize) -> Option<Entry>
 }
 
 // The address of a load that waits for its value.
-fn waits(station: Station) -> Option<u32>
-    ensures { result ≡ waits_of station }
+fn waits(station: &Station) -> Option<u32>
+    ensures { result ≡ waits_of station.now }
 {
     match (station.instr.op().kind(), station.stage) {
         (Kind::Loads, Stage::Addr(a)) => Some(a),
@@ -93,7 +93,7 @@ fn waits(station: Station) -> Option<u32>
 fn waits_at(window: &Window, i: usize) -> bool
     ensures { result ≡ waits_at_of (slice_get window.now i) }
 {
-    match window.at(i) {
+    match window.peek(i) {
         None => false,
         Some(station) => waits(station).is_some(),
     }
@@ -134,7 +134,7 @@ fn value_at(queue: &Queue, window: &Window, committed: &Committed, i: usize) -> 
     requires queue { queue.now.entries ≡ entries committed.now.registers window.now (i + 1) }
     ensures { result ≡ gives (load_in committed.now.registers committed.now.memory) window.now i }
 {
-    let station = window.at(i)?;
+    let station = window.peek(i)?;
     let address = waits(station)?;
     let last = queue.len() - 1;
     value_of(queue.answer(last), committed, station.instr.op(), address)

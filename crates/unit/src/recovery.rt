@@ -19,7 +19,7 @@ pub struct Missed {
 fn next_at(window: &Window, i: usize) -> Option<u32>
     ensures { result ≡ gives miss_in window.now i }
 {
-    match window.at(i)?.stage {
+    match window.peek(i)?.stage {
         Stage::Miss(next) => Some(next),
         _ => None,
     }
