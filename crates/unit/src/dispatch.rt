@@ -1,7 +1,7 @@
 //! Dispatch.
 ghost use Rattle.std.specs.Prelude.{◌≡◌, ◌<◌, ◌≤◌, ◌-◌, ◌+◌, ◌%◌, [], ◌∷◌, ◌++◌, length, take, slice_get, slice_set, Some, None};
 ghost use Rattle.inorder.specs.Tenants.{made_at_let as made_at_let_of};
-ghost use Rattle.unit.specs.Stages.{NextIs};
+ghost use Rattle.unit.specs.Changes.{NextOf, next_place};
 ghost use Rattle.unit.specs.Window.{accesses as accesses_of, access_at as access_at_of, let_at, next_in, reaches_memory};
 
 use crate::leaver::Leaver;
@@ -116,7 +116,7 @@ impl<'a> Pipeline<'a> {
 
     /// The next instruction, if it can be let.
     pub fn next(&self) -> Option<Fetched>
-        ensures { NextIs self.now.program.now self.now.ring self.now.queue self.now.committed.pc self.now.window result }
+        ensures { NextOf self.now result }
     {
         if self.ring <= self.window.len() {
             return None;
@@ -133,7 +133,7 @@ impl<'a> Pipeline<'a> {
     pub fn leaver(&self) -> Option<Leaver>
         requires room { 0 < self.now.ring }
         requires most { self.now.ring ≤ 32 }
-        ensures { slice_get self.now.leavers ((self.now.committed.count + length self.now.window) % self.now.ring) ≡ Some result }
+        ensures { slice_get self.now.leavers (next_place self.now) ≡ Some result }
     {
         let station = self.station_at(self.window.len());
         self.leavers[station]
@@ -145,7 +145,7 @@ impl<'a> Pipeline<'a> {
         requires most { self.old.ring ≤ 32 }
         requires free { length self.old.window < 32 }
         ensures window { self.new.window ≡ self.old.window ++ let_at next.instr next.pc predicted ∷ [] }
-        ensures leavers { self.new.leavers ≡ slice_set self.old.leavers ((self.old.committed.count + length self.old.window) % self.old.ring) None }
+        ensures leavers { self.new.leavers ≡ slice_set self.old.leavers (next_place self.old) None }
         ensures rest { self.new ≡ record self.old { window = self.new.window; leavers = self.new.leavers } }
     {
         let station = self.station_at(self.window.len());

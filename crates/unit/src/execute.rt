@@ -1,8 +1,9 @@
 //! Execution.
 ghost use Rattle.std.specs.Prelude.{◌≡◌, ◌<◌, ◌≤◌, [], ◌∷◌, ◌++◌, length, take, slice_get, None};
-ghost use Rattle.unit.specs.Givers.{Chosen, NoneGives, gives};
+ghost use Rattle.unit.specs.Changes.{NoneRuns, RunsOldest, with_window};
+ghost use Rattle.unit.specs.Givers.{Chosen, gives};
 ghost use Rattle.unit.specs.Notes.{AreNoted, AreSettled, missed_after, settled_at, settled_by};
-ghost use Rattle.unit.specs.Stages.{FirstReady, RunsTo};
+ghost use Rattle.unit.specs.Stages.{FirstReady};
 ghost use Rattle.unit.specs.Window.{finished as finished_of, operands_by, operands_in};
 ghost use Rattle.isa.specs.Instruction.{kind as kind_of};
 
@@ -154,9 +155,9 @@ impl<'a> Pipeline<'a> {
     /// Claims and finishes the oldest tenant that can be claimed.
     pub fn runs(&mut self) -> bool
         requires { AreNoted self.old.missed self.old.settled self.old.window }
-        ensures window { Chosen result (RunsTo self.old.committed.registers (length self.old.program.now.bytes) self.old.window self.new.window) (NoneGives (operands_in self.old.committed.registers) self.old.window) }
+        ensures window { Chosen result (RunsOldest self.old self.new) (NoneRuns self.old) }
         ensures same { Chosen result (Unit {0}) (self.new.window ≡ self.old.window) }
-        ensures rest { self.new ≡ record self.old { window = self.new.window; missed = self.new.missed; settled = self.new.settled } }
+        ensures rest { self.new ≡ with_window self.old self.new.window self.new.missed self.new.settled }
         ensures noted { AreNoted self.new.missed self.new.settled self.new.window }
     {
         self.settled = settled(&self.window, self.settled);

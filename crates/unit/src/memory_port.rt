@@ -3,11 +3,12 @@ ghost use Rattle.std.specs.Prelude.{◌≡◌, ◌≢◌, ◌<◌, ◌≤◌, �
 ghost use Rattle.isa.specs.Instruction.{kind as kind_of, width as width_in};
 ghost use Rattle.lsq.specs.Entries.{load_at};
 ghost use Rattle.lsq.specs.LoadRule.{answer};
-ghost use Rattle.unit.specs.Givers.{Chosen, NoneGives, gives};
+ghost use Rattle.unit.specs.Changes.{LoadsOldest, NoneLoads};
+ghost use Rattle.unit.specs.Givers.{Chosen, gives};
 ghost use Rattle.inorder.specs.Loads.{access_width, is_store as is_store_of};
 ghost use Rattle.unit.specs.Loads.{AreInside, NoneWaits, address_of as address_by, entries, entry as entry_of, entry_at as entry_in, load_in, value_by, waits as waits_of, waits_at as waits_at_of, with_entry};
 ghost use Rattle.unit.specs.Notes.{AreNoted, AreSettled};
-ghost use Rattle.unit.specs.Stages.{FirstAnswered, LoadsTo};
+ghost use Rattle.unit.specs.Stages.{FirstAnswered};
 
 use crate::committed::Committed;
 use crate::dispatch::is_access;
@@ -171,7 +172,7 @@ impl<'a> Pipeline<'a> {
     pub fn loads(&mut self) -> bool
         requires inside { AreInside (length self.old.committed.memory) self.old.window }
         requires noted { AreNoted self.old.missed self.old.settled self.old.window }
-        ensures window { Chosen result (LoadsTo self.old.committed.registers self.old.committed.memory self.old.window self.new.window) (NoneGives (load_in self.old.committed.registers self.old.committed.memory) self.old.window) }
+        ensures window { Chosen result (LoadsOldest self.old self.new) (NoneLoads self.old) }
         ensures same { Chosen result (Unit {0}) (self.new ≡ self.old) }
         ensures rest { self.new ≡ record self.old { window = self.new.window } }
         ensures noted { AreNoted self.new.missed self.new.settled self.new.window }
