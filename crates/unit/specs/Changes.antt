@@ -1,5 +1,5 @@
 -- What each stage of a turn does to the fields.
-use Rattle.std.specs.Prelude.{◌≡◌, ℕ, ◌+◌, ◌-◌, ◌%◌, Bool, List, length, Option}
+use Rattle.std.specs.Prelude.{ℕ, ◌+◌, ◌-◌, ◌%◌, Bool, List, length, Option}
 use Rattle.isa.specs.declared.end.End.{End}
 use Rattle.isa.specs.declared.end.Ending.{Ending}
 use Rattle.inorder.specs.Machine.{State}

@@ -112,7 +112,7 @@ pub data IsOver (P : Program) (C : Sizes) (U V : UpdateUnit) (c : Stop) : Type 0
   Before : HasStopped V.tenants c → V ≡ U → IsOver P C U V c
   Now : Retires P C U V → HasStopped V.tenants c → IsOver P C U V c
   Nowhere : c ≡ BadPc → AllByRecursion IsNotLive U.tenants →
-            instr_at P (committed P U.tenants).pc ≡ None → V ≡ U → IsOver P C U V c
+      instr_at P (committed P U.tenants).pc ≡ None → V ≡ U → IsOver P C U V c
 
 abbrev pub Does : Program → Sizes → UpdateUnit → UpdateUnit → Turn → Type 0
 Does P C U V Recovered = Recovers P C U V
@@ -199,7 +199,7 @@ module _ {S : Type 0} (Predicts : S → ℕ → Instr → ℕ → S → Type 0) 
     pub stands : StandsFor later.pipeline unit
     pub does : Does b.pipeline.program.now (sizes b.pipeline) U unit answer
     pub trains :
-      Trains b.pipeline.program.now (sizes b.pipeline) U unit answer does b.predictor later.predictor
+        Trains b.pipeline.program.now (sizes b.pipeline) U unit answer does b.predictor later.predictor
 
   -- For each unit that the bench stands for, the turn makes steps that lead to one that it stands for then, and
   -- changes the predictor by them
