@@ -2,7 +2,7 @@
 ghost use Rattle.std.specs.Prelude.{◌≡◌, ◌<◌, ◌≤◌, [], ◌∷◌, ◌++◌, length, take, slice_get, None};
 ghost use Rattle.unit.specs.Changes.{NoneRecovers, RecoversOldest, with_window};
 ghost use Rattle.unit.specs.Givers.{Chosen, gives};
-ghost use Rattle.unit.specs.Notes.{AreNoted, miss_in};
+ghost use Rattle.unit.specs.Notes.{AreNoted, AreSettled, miss_in};
 ghost use Rattle.unit.specs.Stages.{FirstMiss};
 
 use crate::pipeline::Pipeline;
@@ -26,11 +26,12 @@ fn next_at(window: &Window, i: usize) -> Option<u32>
     }
 }
 
-// The oldest miss.
-fn oldest_miss(window: &Window) -> Option<Missed>
+// The oldest miss; it is none of those before `from`.
+fn oldest_miss(window: &Window, from: usize) -> Option<Missed>
+    requires { AreSettled from window.now }
     ensures { FirstMiss window.now result }
 {
-    for at in 0..window.len() {
+    for at in from..window.len() {
         if let Some(next) = next_at(window, at) {
             return Some(Missed { at, next });
         }
@@ -51,7 +52,7 @@ impl<'a> Pipeline<'a> {
         if !self.missed {
             return false;
         }
-        let Some(miss) = oldest_miss(&self.window) else {
+        let Some(miss) = oldest_miss(&self.window, self.settled) else {
             return false;
         };
         let Some(station) = self.window.at(miss.at) else {
