@@ -255,7 +255,7 @@ fn shows_help(rt: HostRuntime) {
 
 /// A line of the help for each option, with its range and its default.
 const HELP: [&str; 8] = [
-    "<FILE>  The listing: ",
+    "<FILE>  The listing, ",
     "--ruu-size <N>  Reservation stations: 2, 4, 8, 16 or 32 [default: 16]\n",
     "--lsq-size <N>  Loads and stores in flight: 2 to 32, at most --ruu-size [default: 8]\n",
     "--units <N>     Threads that execute instructions: 1 to 64 [default: 2]\n",
