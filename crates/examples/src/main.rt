@@ -2,7 +2,7 @@
 #![tactic(auto)]
 
 use bench::Counted;
-use command::{Went, asked, go};
+use command::{asked, go};
 use std::alloc::Global;
 use std::fs;
 use std::io::{self, ErrorKind};
@@ -25,14 +25,14 @@ fn main(rt: HostRuntime) -> io::Result<()> {
     for name in &names {
         let listing = read(&rt, name.as_str(), "s")?;
         let report = read(&rt, name.as_str(), "report")?;
-        let (first, text) = run(rt.alloc(), &[], listing.as_slice())?;
-        println!(rt; "{name}: status {}", first.status)?;
+        let (status, text) = run(rt.alloc(), &[], listing.as_slice())?;
+        println!(rt; "{name}: status {status}")?;
         if text != report {
             println!(rt; "{name}: another report")?;
         }
         for options in OPTIONS {
-            let (went, text) = run(rt.alloc(), options, listing.as_slice())?;
-            if went != first || text != report {
+            let (other, text) = run(rt.alloc(), options, listing.as_slice())?;
+            if other != status || text != report {
                 println!(rt; "{name}: another report with {options:?}")?;
             }
         }
@@ -57,8 +57,8 @@ fn read(rt: &HostRuntime, name: &str, kind: &str) -> io::Result<Vec<u8>> {
     fs::read(rt, path.as_str())
 }
 
-// How a listing goes with these options, and what is written.
-fn run(alloc: Global, options: &[&str], listing: &[u8]) -> io::Result<(Went, Vec<u8>)> {
+// The exit status of a listing's run with these options, and what is written.
+fn run(alloc: Global, options: &[&str], listing: &[u8]) -> io::Result<(u8, Vec<u8>)> {
     let mut words = Vec::new(alloc);
     words.extend_from_slice(&["ruu", "run", "listing"])?;
     words.extend_from_slice(options)?;
@@ -67,5 +67,5 @@ fn run(alloc: Global, options: &[&str], listing: &[u8]) -> io::Result<(Went, Vec
     };
     let mut text = Counted::new(Vec::new(alloc));
     let went = go(alloc, &asked, Some(Counted::new(listing)), &mut text);
-    Ok((went, text.into_inner()))
+    Ok((went.status, text.into_inner()))
 }
