@@ -15,20 +15,17 @@ mod statement;
 
 use crate::{Instr, Program};
 pub use fault::{FaultKind, TextFault};
+use labels::Labels;
 use line::{Target, read_line};
 use std::alloc::Global;
-use std::collections::BTreeMap;
+use std::collections::HashMap;
 use text::next_line;
 
 /// How many bytes a listing has at most.
 const MOST_TEXT: usize = 4_194_304;
 
 /// The address of a label, where the instruction has one.
-fn resolve<'a>(
-    labels: &BTreeMap<&'a [u8], u32>,
-    target: &Target<'a>,
-    number: u32,
-) -> Result<u32, TextFault>
+fn resolve<'a>(labels: &Labels<'a>, target: &Target<'a>, number: u32) -> Result<u32, TextFault>
     ensures ok { IfOk result (λ a. (pairs : List (List ℕ × ℕ)) → IsTable labels.now pairs
         → resolve_number pairs target.now.line number (name_of target.now) ≡ Ok a) }
     ensures kind { IfErr result (λ f. f.kind ≢ FaultKind.Memory) }
@@ -49,7 +46,7 @@ fn resolve<'a>(
 
 /// Gives each instruction the address of its label.
 fn resolve_all<'a>(
-    labels: &BTreeMap<&'a [u8], u32>,
+    labels: &Labels<'a>,
     code: &mut [Instr],
     targets: &[Target<'a>],
 ) -> Result<(), TextFault>
@@ -90,7 +87,7 @@ pub fn parse(alloc: Global, bytes: &[u8]) -> Result<Program, TextFault>
     if bytes.len() > MOST_TEXT {
         return Err(fault_at(0, FaultKind::TooLong));
     }
-    let mut labels = BTreeMap::new(alloc);
+    let mut labels = HashMap::new(alloc);
     let mut code = Vec::new(alloc);
     let mut targets = Vec::new(alloc);
     let mut memory = Vec::new(alloc);

@@ -5,12 +5,15 @@ ghost use Rattle.isa.specs.Listing.{is_double, at};
 ghost use Rattle.isa.specs.Held.{IsTable};
 
 use super::fault::FaultKind;
-use std::collections::BTreeMap;
+use std::collections::HashMap;
 use text::{next_label, trim};
+
+/// Names, each with the address that it stands for.
+pub type Labels<'a> = HashMap<&'a [u8], u32>;
 
 /// Adds the labels at the front of a line, and gives its statement.
 pub fn add_labels<'a>(
-    labels: &mut BTreeMap<&'a [u8], u32>,
+    labels: &mut Labels<'a>,
     code: &'a [u8],
     address: u32,
 ) -> Result<&'a [u8], FaultKind>
