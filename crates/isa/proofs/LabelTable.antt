@@ -6,7 +6,6 @@ use Rattle.std.specs.Map.{lookup}
 use Rattle.std.specs.Str.{bytes_eq}
 use Rattle.std.proofs.lemmas.Bool.{cases_Bool}
 use Rattle.std.proofs.lemmas.List.{append-nil}
-use Rattle.std.proofs.lemmas.Map.Text.{hash_map_updates_str}
 use Rattle.std.proofs.lemmas.Slice.Eq.{bytes_eq-Decides}
 use Rattle.isa.specs.Listing.{is_double, at}
 use Rattle.isa.specs.Held.{Labels, IsTable}
@@ -30,10 +29,11 @@ lookup_keep t [] k v e = rw e refl
 lookup_keep t (p ∷ ps) k v e = ap (cond (t p.0) (Some p.1)) (lookup_keep t ps k v e)
 
 -- one more label, which the map did not have
-pub table_more : (m m' : Labels) (now : List (List ℕ × ℕ)) (x : List ℕ) (n : ℕ) → IsTable m now → get_by (λ k. bytes_eq x k.now) m ≡ None
-    → UpdatesBy (λ x y. bytes_eq x.now y.now) (λ k. bytes_eq x k.now) m m' (Some n) → IsTable m' (now ++ (x, n) ∷ [])
+pub table_more : (m m' : Labels) (now : List (List ℕ × ℕ)) (x : List ℕ) (n : ℕ) → IsTable m now → get_by (λ k. bytes_eq x k.text.now) m ≡ None
+    → UpdatesBy (λ x y. bytes_eq x.text.now y.text.now) (λ k. bytes_eq x k.text.now) m m' (Some n) → IsTable m' (now ++ (x, n) ∷ [])
 table_more m m' now x n table absent updates q =
-    let e = hash_map_updates_str x m m' (Some n) updates q in
+    let e : get_by (λ k. bytes_eq q k.text.now) m' ≡ cond (bytes_eq x q) (Some n) (get_by (λ k. bytes_eq q k.text.now) m) =
+    updates.0 (record { text = record { ref_ptr = (0, 0); now = q } }) in
     elim (cases_Bool (bytes_eq x q)) [
       | inl is ↦
           let same : x ≡ q = (bytes_eq-Decides x q).0 is in
@@ -43,7 +43,7 @@ table_more m m' now x n table absent updates q =
     ]
 
 pub labels_more : (n : ℕ) (pairs : List (List ℕ × ℕ)) (m m' : Labels) (x : List ℕ) (rest xs all : List (List ℕ)) → rest ≡ x ∷ xs → LabelsSoFar n pairs m rest all
-    → get_by (λ k. bytes_eq x k.now) m ≡ None → UpdatesBy (λ x y. bytes_eq x.now y.now) (λ k. bytes_eq x k.now) m m' (Some n) → LabelsSoFar n pairs m' xs all
+    → get_by (λ k. bytes_eq x k.text.now) m ≡ None → UpdatesBy (λ x y. bytes_eq x.text.now y.text.now) (λ k. bytes_eq x k.text.now) m m' (Some n) → LabelsSoFar n pairs m' xs all
 labels_more n pairs m m' x rest xs all is so_far absent updates =
     let none : lookup (λ k. bytes_eq k x) so_far.now ≡ None = sym (so_far.table x) ∙ absent in
     record {
@@ -55,7 +55,7 @@ labels_more n pairs m m' x rest xs all is so_far absent updates =
 
 -- a label that the map has
 pub labels_double : (n : ℕ) (pairs : List (List ℕ × ℕ)) (m : Labels) (x : List ℕ) (rest xs all : List (List ℕ)) → rest ≡ x ∷ xs → LabelsSoFar n pairs m rest all
-    → is_some (get_by (λ k. bytes_eq x k.now) m) ≡ true → is_double n pairs all ≡ true
+    → is_some (get_by (λ k. bytes_eq x k.text.now) m) ≡ true → is_double n pairs all ≡ true
 labels_double n pairs m x rest xs all is so_far there =
     let found : is_some (lookup (λ k. bytes_eq k x) so_far.now) ≡ true = ap is_some (sym (so_far.table x)) ∙ there in
     so_far.double ∙ rw (is, found) refl

@@ -1,6 +1,5 @@
 -- What the reader of a listing holds behind the lines that it has read.
 use Rattle.std.specs.Prelude.{◌≡◌, ℕ, ◌++◌, List, [], ◌∷◌, length, Option, Result, Ok}
-use Rattle.std.specs.Borrow.{Bor}
 use Rattle.std.specs.HashMap.{HashMap, get_by}
 use Rattle.std.specs.declared.hash.FoldHasher.{FoldHasher}
 use Rattle.std.specs.declared.hash.BuildHasherDefault.{BuildHasherDefault}
@@ -8,6 +7,7 @@ use Rattle.std.specs.Map.{lookup}
 use Rattle.std.specs.Str.{bytes_eq}
 use Rattle.isa.specs.declared.listing.fault.FaultKind.{FaultKind}
 use Rattle.isa.specs.declared.instr.Instr.{Instr}
+use Rattle.isa.specs.declared.listing.labels.Name.{Name}
 use Rattle.isa.specs.declared.listing.line.Target.{Target}
 use Rattle.std.specs.Option.{option_map}
 use Rattle.isa.specs.Statement.{Parsed, Line}
@@ -15,11 +15,11 @@ use Rattle.isa.specs.Listing.{Lines, table, numbered, memory}
 
 -- names with their addresses, as the code holds them
 abbrev pub Labels : Type 0
-Labels = HashMap (Bor (List ℕ)) ℕ (BuildHasherDefault FoldHasher)
+Labels = HashMap Name ℕ (BuildHasherDefault FoldHasher)
 
 -- the map has at each name what the list has first
 abbrev pub IsTable : Labels → List (List ℕ × ℕ) → Type 0
-IsTable m pairs = (name : List ℕ) → get_by (λ k. bytes_eq name k.now) m ≡ lookup (λ k. bytes_eq k name) pairs
+IsTable m pairs = (name : List ℕ) → get_by (λ k. bytes_eq name k.text.now) m ≡ lookup (λ k. bytes_eq k name) pairs
 
 -- the label that an instruction names
 abbrev pub name_of : Target → Option (List ℕ)

@@ -15,7 +15,7 @@ mod statement;
 
 use crate::{Instr, Program};
 pub use fault::{FaultKind, TextFault};
-use labels::Labels;
+use labels::{Labels, Name};
 use line::{Target, read_line};
 use std::alloc::Global;
 use std::collections::HashMap;
@@ -35,7 +35,7 @@ fn resolve<'a>(labels: &Labels<'a>, target: &Target<'a>, number: u32) -> Result<
     let Some(name) = target.label else {
         return Ok(number);
     };
-    let Some(address) = labels.get(&name) else {
+    let Some(address) = labels.get(&Name { text: name }) else {
         return Err(TextFault {
             line: target.line,
             kind: FaultKind::UnknownLabel,
