@@ -1,5 +1,5 @@
 //! The listing language: from bytes to a program, or to the first fault.
-ghost use Rattle.std.specs.Prelude.{◌≡◌, ◌≢◌, ℕ, List, Ok, Err, length, OnOk, IfOk, IfErr};
+ghost use Rattle.std.specs.Prelude.{◌≡◌, ◌≢◌, ◌≤◌, ◌/◌, ℕ, List, Ok, Err, length, OnOk, IfOk, IfErr};
 ghost use Rattle.isa.specs.Listing.{resolve_number, resolved, listing};
 ghost use Rattle.isa.specs.Held.{IsTable, name_of, rows};
 
@@ -76,6 +76,14 @@ fn fault_at(line: u64, kind: FaultKind) -> TextFault
     }
 }
 
+/// How many labels to make room for: one for each colon, of which a comment may have any number.
+fn most_labels(bytes: &[u8]) -> usize
+    ensures { result ≤ length bytes.now / 4 }
+{
+    let colons = bytes.iter().filter(|b| **b == b':').count();
+    colons.min(bytes.len() / 4)
+}
+
 /// The program of a listing, or its first fault. A fault of a line has its number, counted from 1; a listing of more
 /// than 4,194,304 bytes and want of memory have line 0.
 pub fn parse(alloc: Global, bytes: &[u8]) -> Result<Program, TextFault>
@@ -87,7 +95,7 @@ pub fn parse(alloc: Global, bytes: &[u8]) -> Result<Program, TextFault>
     if bytes.len() > MOST_TEXT {
         return Err(fault_at(0, FaultKind::TooLong));
     }
-    let mut labels = HashMap::new(alloc);
+    let mut labels = HashMap::with_capacity(alloc, most_labels(bytes))?;
     let mut code = Vec::new(alloc);
     let mut targets = Vec::new(alloc);
     let mut memory = Vec::new(alloc);
