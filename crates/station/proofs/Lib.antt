@@ -8,5 +8,8 @@ pub mod Given
 pub mod LettingOut
 pub mod Reading
 pub mod Claimed
+pub mod Opened
+pub mod Stops
+pub mod Retiring
 pub mod Mending
 pub mod Squashing

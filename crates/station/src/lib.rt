@@ -3,11 +3,13 @@
 #![tactic(auto)]
 
 mod answers;
+mod claims;
 mod cores;
 mod dispatch;
 mod look;
 mod meet;
 mod recovery;
+mod retirement;
 mod seat;
 mod steps;
 mod words;
