@@ -3,12 +3,14 @@
 #![tactic(auto)]
 
 mod answers;
+mod claims;
 mod cores;
 mod dispatch;
 mod look;
 mod meet;
 mod recovery;
 mod results;
+mod retirement;
 mod seat;
 mod steps;
 mod wakeup;
