@@ -151,5 +151,6 @@ module _ (P : Program) (C : Sizes) where
     role_is = role ∙ s.role_is;
     slots = slots ∙ s.slots;
     legal = a.legal;
+    inside = s.inside;
     knows = back_on by station over v.0.seen w.0.seen es a keeps s.knows;
   }

@@ -8,6 +8,9 @@ pub mod Given
 pub mod LettingOut
 pub mod Reading
 pub mod Claimed
+pub mod Opened
+pub mod Stops
+pub mod Retiring
 pub mod Mending
 pub mod Carrying
 pub mod Writing

@@ -75,6 +75,7 @@ seated_on key role by station over v w x n s g =
       role_is = g.grows.role ∙ s.role_is;
       slots = g.slots ∙ s.slots;
       legal = g.grows.legal;
+      inside = s.inside;
       knows = go role s.knows seen legal;
     }
   where
@@ -101,7 +102,7 @@ front_begun r e f = cc
 
 -- a seat that was told of what another has seen
 pub informed_seated : (P : Program) (C : Sizes) (role : Role) (by station : ℕ) (over : Bool) (me : Me ℕ View) (w : View) → IsSeated P C role by station over me → IsSeated P C role by station over (informed me.0 w, me.1)
-informed_seated P C role by station over me w s = record { role_is = s.role_is; slots = s.slots; legal = s.legal; knows = go role s.knows }
+informed_seated P C role by station over me w s = record { role_is = s.role_is; slots = s.slots; legal = s.legal; inside = s.inside; knows = go role s.knows }
   where
     go : (r : Role) → Knows P C r by station over me.0 → Knows P C r by station over (informed me.0 w)
     go Start k = k

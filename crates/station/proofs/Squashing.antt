@@ -201,10 +201,11 @@ module _ (P : Program) (C : Sizes) where
         at_s ∙ (ap (λ n. n % C.ring) (sym counted) ∙ ap (λ h. next_station C (recent (U h))) (sym seen2))
 
 -- the front's seat behind it
-pub seated_squashed : (P : Program) (C : Sizes) (by station tag : ℕ) (over : Bool) (old : List Entry) (me : Me ℕ View) → IsFronts by Nothing me → me.1 ≡ [] → IsSquashed P C by station tag old me.0.seen → station ≡ next_station C (recent (unit_of P C me.0.seen)) → IsSeated P C Front by station over me
-seated_squashed P C by station tag over old me fronts slots out next = record {
+pub seated_squashed : (P : Program) (C : Sizes) (by station tag : ℕ) (over : Bool) (old : List Entry) (me : Me ℕ View) → station < C.ring → IsFronts by Nothing me → me.1 ≡ [] → IsSquashed P C by station tag old me.0.seen → station ≡ next_station C (recent (unit_of P C me.0.seen)) → IsSeated P C Front by station over me
+seated_squashed P C by station tag over old me small fronts slots out next = record {
   role_is = fronts.role;
   slots = slots;
   legal = out.adds.legal;
+  inside = small;
   knows = (fronts.by_is, fronts.draft_is, next);
 }

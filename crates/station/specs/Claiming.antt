@@ -1,5 +1,5 @@
 -- Claims.
-use Rattle.std.specs.Prelude.{◌≡◌, ℕ, true, List, [], ◌∷◌}
+use Rattle.std.specs.Prelude.{◌≡◌, ◌≢◌, ◌⊎◌, ℕ, Bool, true, false, List, [], ◌∷◌, Some, Result, Ok, Err}
 use Rattle.isa.specs.Programs.{Program}
 use Rattle.inorder.specs.declared.history.Act.TheVariants.{Claim as ClaimIt}
 use Rattle.inorder.specs.declared.history.Entry.{Entry}
@@ -11,9 +11,12 @@ use Rattle.inorder.specs.declared.history.Source.TheVariants.{First, Second}
 use Rattle.inorder.specs.declared.history.Step.TheVariants.{On}
 use Rattle.inorder.specs.Callers.{IsHeld, IsReady}
 use Rattle.inorder.specs.History.{Adds, WasOpen, unit_of}
-use Rattle.inorder.specs.Replies.{Has, IsNamed, JobFields, job_of}
-use Rattle.inorder.specs.Tenants.{IsThere, Tenant, kind_of, needs}
+use Rattle.inorder.specs.Replies.{Has, IsNamed, IsOpen, JobFields, job_of}
+use Rattle.inorder.specs.StationWords.{live_word}
+use Rattle.inorder.specs.Tenants.{Busy, IsThere, Tenant, kind_of, needs, operand}
 use Rattle.inorder.specs.Unit.{Sizes}
+use Rattle.ruu_words.specs.Content.{IsStation}
+use Rattle.ruu_words.specs.Fields.{state_of, tag_of, value_of}
 use Rattle.ruu_words.specs.Kinds.{IsTenant}
 use Rattle.station.specs.declared.answers.Claim.{Claim}
 use Rattle.station.specs.declared.answers.Claim.TheVariants.{Job as Claimed, Moved, NotOpen, Waiting}
@@ -75,3 +78,44 @@ ClaimAnswers P C by old new s (Waiting tag k) =
     IsRefused P C by old new s tag (λ p. Refuses (Waits p k))
 ClaimAnswers P C by old new s (Moved tag) =
     IsRefused P C by old new s tag (λ p. Refuses (HasMoved p))
+
+-- What the steps of a claim find and tell
+
+-- The word of a tenant that this tag names, claimed by anybody
+abbrev pub IsBusyWord : ℕ → ℕ → Type 0
+IsBusyWord tag word = (by : ℕ) → IsStation (live_word tag (Busy by)) word
+
+-- It was open when its info word was read
+pub record IsOpenAs (index predicted : ℕ) (t : Tenant) : Type 0 where
+  pub is_open : IsOpen t
+  pub index_is : t.index ≡ index
+  pub predicted_is : t.predicted ≡ predicted
+
+-- A word with the tag has the source's value or waits; with another tag its tenant has left
+abbrev pub SourceSays : (word tag : ℕ) → Source → Result ℕ Claim → Type 0
+SourceSays word tag k (Ok v) = (tag_of word ≡ tag) × (state_of word ≡ 2) × (v ≡ value_of word)
+SourceSays word tag k (Err refusal) =
+    ((tag_of word ≡ tag) × (state_of word ≢ 2) × (refusal ≡ Waiting tag k))
+    ⊎ ((tag_of word ≢ tag) × (refusal ≡ Moved tag))
+
+-- The value of a source where it is needed, and else 0
+abbrev pub SourceIs : Bool → Source → ℕ → Tenant → Type 0
+SourceIs true k v t = (operand k t).value ≡ Some v
+SourceIs false k v t = v ≡ 0
+
+pub record HasSource (P : Program) (C : Sizes) (by : ℕ) (old new : List Entry) (s tag : ℕ) (needed : Bool) (k : Source) (v : ℕ) : Type 0 where
+  pub p : ℕ
+  pub named : IsTenant (unit_of P C new) p s tag (SourceIs needed k v)
+  pub adds : Adds P C by old new []
+
+-- A tenant of the station was refused
+pub record IsTold (P : Program) (C : Sizes) (by : ℕ) (old new : List Entry) (s tag : ℕ) (refusal : ℕ → Event) : Type 0 where
+  pub p : ℕ
+  pub named : IsNamed (unit_of P C new) p s tag
+  pub adds : Adds P C by old new (refusal p ∷ [])
+
+abbrev pub SourceAnswers : Program → Sizes → ℕ → List Entry → List Entry → ℕ → ℕ → Source → Bool → Result ℕ Claim → Type 0
+SourceAnswers P C by old new s tag k needed (Ok v) = HasSource P C by old new s tag needed k v
+SourceAnswers P C by old new s tag k needed (Err refusal) =
+    ((refusal ≡ Waiting tag k) × IsTold P C by old new s tag (λ p. Refuses (Waits p k)))
+    ⊎ ((refusal ≡ Moved tag) × IsTold P C by old new s tag (λ p. Refuses (HasMoved p)))

@@ -1,5 +1,5 @@
 -- What contracts see of a core and of its seats, and what a seat's caller knows between its calls.
-use Rattle.std.specs.Prelude.{◌≡◌, ℕ, Bool, true, false, List, []}
+use Rattle.std.specs.Prelude.{◌≡◌, ℕ, ◌<◌, Bool, true, false, List, []}
 use Rattle.atomic_table.specs.Seated.{TableId}
 use Rattle.atomic_table.specs.Table.{Me}
 use Rattle.isa.specs.Programs.{Program}
@@ -61,4 +61,5 @@ pub record IsSeated (P : Program) (C : Sizes) (role : Role) (by station : ℕ) (
   pub role_is : me.0.role ≡ role
   pub slots : me.1 ≡ []
   pub legal : IsLegal P C me.0.seen
+  pub inside : station < C.ring
   pub knows : Knows P C role by station over me.0

@@ -3,6 +3,7 @@
 #![tactic(auto)]
 
 mod answers;
+mod claims;
 mod cores;
 mod dispatch;
 mod laws;
@@ -10,6 +11,7 @@ mod look;
 mod meet;
 mod recovery;
 mod results;
+mod retirement;
 mod seat;
 mod steps;
 mod wakeup;

@@ -53,6 +53,7 @@ fn squash_youngest(
     ensures same { (seat.new.table_id ≡ seat.old.table_id) × (seat.new.id ≡ seat.old.id) }
     ensures slots { seat.new.me.1 ≡ seat.old.me.1 }
     ensures front { IsFronts seat.old.id Nothing seat.new.me }
+    ensures inside { result.0 < ring }
     ensures squashed { IsSquashed words.now.key.program (sizes_of words.now.key) seat.old.id result.0 result.1 seat.old.me.0.seen seat.new.me.0.seen }
     ensures next { result.0 ≡ next_station (sizes_of words.now.key) (recent (unit_of words.now.key.program (sizes_of words.now.key) seat.new.me.0.seen)) }
 {

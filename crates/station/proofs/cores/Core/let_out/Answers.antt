@@ -18,5 +18,5 @@ invariant_of-seat c =
     let same : unit_at value ≡ unit_at key = seat ∙ sym table in
     let was : IsSeated key.program (sizes_of key) Front s.id station c.seat.inside.over s.me = subst (λ (z : Unit_of). IsSeated z.0 z.1 Front s.id station c.seat.inside.over s.me) same c.seat.invariant in
     let ring : c.self.inside.ring ≡ key.ring = sym c.self.invariant.ring_is in
-    let out : IsSeated key.program (sizes_of key) Front s.id ((station + 1) % c.self.inside.ring) c.seat.inside.over me = seated_out key.program (sizes_of key) s.id station c.self.inside.ring c.seat.inside.over c.args.tenant s.me.0.seen me ring was.knows.2 c.dispatch-tag.ensures.front (c.dispatch-tag.ensures.slots ∙ was.slots) c.dispatch-tag.ensures.out in
+    let out : IsSeated key.program (sizes_of key) Front s.id ((station + 1) % c.self.inside.ring) c.seat.inside.over me = seated_out key.program (sizes_of key) s.id station c.self.inside.ring c.seat.inside.over c.args.tenant s.me.0.seen me ring was.inside was.knows.2 c.dispatch-tag.ensures.front (c.dispatch-tag.ensures.slots ∙ was.slots) c.dispatch-tag.ensures.out in
     subst (λ (z : Unit_of × ℕ). IsSeated z.0.0 z.0.1 Front z.1 ((station + 1) % c.self.inside.ring) c.seat.inside.over me) (λ i. (sym same i, sym c.dispatch-tag.ensures.same.1 i)) out
