@@ -376,6 +376,42 @@ module _ (P : Program) (C : Sizes) where
       pub delivered_out : IsEnded
       delivered_out = ⊎_elim (λ hit. hit_end hit.1) (λ miss. miss_end miss.1 miss.2) told_end.1
 
+  -- The same, where the steps tell the rest
+
+  pub asked_now : {by s g a b : ℕ} {k : Source} {u v : View} → by ≡ front → MayAsk P C u.seen s g k a b → Grows P C by u v (Links P C s g k) → IsAskedNow by s g k a b u.seen v
+  asked_now {by} {s} {g} {a} {b} {k} {u} {v} is may e = asks_out by s g k a b u v is may e
+
+  pub found_by : (n : ℕ) → {by id s g a b : ℕ} {k : Source} {v w : View} → id ≡ by → Grows P C id v w (Finds P C s g k a b n) → Grows P C by v w (Finds P C s g k a b n)
+  found_by n {by} {id} {s} {g} {a} {b} {k} {v} {w} same e = subst (λ i. Grows P C i v w (Finds P C s g k a b n)) same e
+
+  -- what is so behind a look that finds a creator with nothing made
+  pub record IsLinked (by s g : ℕ) (k : Source) (a b : ℕ) (old : List Entry) (w : View) : Type 0 where
+    pub reply : AskAnswers P C by old w.seen s g k a b Linked
+    pub next : Next w.seen ≡ Next old
+
+  pub is_linked : (n : ℕ) → {by s g a b : ℕ} {k : Source} {old : List Entry} {v w : View} → by ≡ front → IsAskedNow by s g k a b old v → Grows P C by v w (Finds P C s g k a b n) → IsUnmade (state_of n) → IsLinked by s g k a b old w
+  is_linked n {by} {s} {g} {a} {b} {k} {old} {v} {w} is x e un = record { reply = linked_out by s g k a b n old v w is x e un; next = linked_next by s g k a b n old v w is x e un }
+
+  pub quiet_found : (n : ℕ) → {by s g a b : ℕ} {k : Source} {old : List Entry} {v w : View} → by ≡ front → IsAskedNow by s g k a b old v → Grows P C by v w (Finds P C s g k a b n) → w.draft ≡ Nothing
+  quiet_found n {by} {s} {g} {a} {b} {k} {old} {v} {w} is x e = quiet_mid by s g k a b n old v w is x e
+
+  pub answered_by : (n : ℕ) → {by s g a b tag value : ℕ} {k : Source} {old : List Entry} {v w : View} → tag ≡ g → value ≡ value_in n → by ≡ front → IsAskedNow by s g k a b old v → Grows P C by v w (Finds P C s g k a b n) → IsMade (state_of n) → CanAnswer P C w.seen s tag k value
+  answered_by n {by} {s} {g} {a} {b} {tag} {value} {k} {old} {v} {w} tag_is value_is is x e made =
+      subst (λ (z : ℕ × ℕ). CanAnswer P C w.seen s z.0 k z.1) (λ i. (sym tag_is i, sym value_is i)) (can_answer by s g k a b n old v w is x e made)
+
+  -- and behind the exchange
+  pub record IsAnswered (by s g : ℕ) (k : Source) (a b : ℕ) (old : List Entry) (y : View) : Type 0 where
+    pub reply : AskAnswers P C by old y.seen s g k a b Delivered
+    pub next : Next y.seen ≡ Next old
+    pub draft : y.draft ≡ Nothing
+
+  pub is_answered : (n o m : ℕ) → {by id s g tag a b : ℕ} {k : Source} {old : List Entry} {v w y : View} → by ≡ front → IsAskedNow by s g k a b old v → Grows P C by v w (Finds P C s g k a b n) → IsMade (state_of n) → id ≡ by → tag ≡ g → Grows P C id w y (Ends P C s tag k o m)
+      → IsAnswered by s g k a b old y
+  is_answered n o m {by} {id} {s} {g} {tag} {a} {b} {k} {old} {v} {w} {y} is x e made same tag_is f =
+      let f' : Grows P C by w y (Ends P C s g k o m) = subst (λ (z : ℕ × ℕ). Grows P C z.0 w y (Ends P C s z.1 k o m)) (λ i. (same i, tag_is i)) f in
+      let end = delivered_out by s g k a b n old v w is x e made o m y f' in
+      record { reply = end.reply; next = end.next; draft = quiet_end by s g k a b n old v w is x e made o m y f' }
+
 -- the front's seat behind it
 pub seated_asked : (P : Program) (C : Sizes) (by station : ℕ) (over : Bool) (old : List Entry) (me : Me ℕ View) (s g : ℕ) (k : Source) (a b : ℕ) (answer : Ask) → station ≡ next_station C (recent (unit_of P C old)) → IsFronts by Nothing me → me.1 ≡ [] → AskAnswers P C by old me.0.seen s g k a b answer
     → next_station C (recent (unit_of P C me.0.seen)) ≡ next_station C (recent (unit_of P C old)) → IsSeated P C Front by station over me
