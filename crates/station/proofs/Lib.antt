@@ -12,4 +12,7 @@ pub mod Opened
 pub mod Stops
 pub mod Retiring
 pub mod Mending
+pub mod Carrying
+pub mod Writing
+pub mod Asking
 pub mod Squashing

@@ -6,6 +6,8 @@ pub mod Moments
 pub mod Letting
 pub mod Claiming
 pub mod Writeback
+pub mod Carrying
 pub mod Asking
+pub mod Wakeup
 pub mod Retirement
 pub mod Recovery

@@ -16,6 +16,7 @@ pub record IsCore (words : ℕ) (key : Setup) (P : Program) (ring queue : ℕ) :
   pub queue_is : key.queue ≡ queue
   pub least : 2 ≤ ring
   pub most : ring ≤ 32
+  pub from_one : 1 ≤ key.first_tag
 
 -- A seat of this core that has seen nothing
 pub record IsNew (core : TheCore) (seat : Caller) : Type 0 where
@@ -42,3 +43,4 @@ pub record IsSetup (P : Program) (config : Settings) (setup : Setup) : Type 0 wh
   pub least : 2 ≤ setup.ring
   pub most : setup.ring ≤ 32
   pub tag : setup.first_tag < last_tag
+  pub from_one : 1 ≤ setup.first_tag

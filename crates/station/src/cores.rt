@@ -124,6 +124,7 @@ impl Core {
         requires key { table.shared.key ≡ setup }
         requires least { 2 ≤ setup.ring }
         requires most { setup.ring ≤ 32 }
+        requires from_one { 1 ≤ setup.first_tag }
         ensures { result ≡ core_of table.shared.table_id setup }
     {
         let Setup {
@@ -143,7 +144,9 @@ impl Core {
 
     /// How many reservation stations there are.
     pub fn ring(&self) -> usize
-        ensures { result ≡ self.now.sizes.ring }
+        ensures value { result ≡ self.now.sizes.ring }
+        ensures least { 2 ≤ result }
+        ensures most { result ≤ 32 }
     {
         self.ring
     }

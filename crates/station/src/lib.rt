@@ -9,10 +9,14 @@ mod dispatch;
 mod look;
 mod meet;
 mod recovery;
+mod results;
 mod retirement;
 mod seat;
 mod steps;
+mod wakeup;
+mod walk;
 mod words;
+mod writeback;
 
 pub use answers::{
     Ask, Claim, Finish, Job, Last, Retire, Seen, Settle, SourceState, Supply, Tenant,
