@@ -15,4 +15,5 @@ pub mod Mending
 pub mod Carrying
 pub mod Writing
 pub mod Asking
+pub mod Holding
 pub mod Squashing

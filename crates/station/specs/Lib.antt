@@ -11,3 +11,4 @@ pub mod Asking
 pub mod Wakeup
 pub mod Retirement
 pub mod Recovery
+pub mod Laws

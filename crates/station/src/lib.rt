@@ -6,6 +6,7 @@ mod answers;
 mod claims;
 mod cores;
 mod dispatch;
+mod laws;
 mod look;
 mod meet;
 mod recovery;
@@ -23,5 +24,6 @@ pub use answers::{
 };
 pub use cores::Core;
 pub use inorder::history::Source;
+pub use laws::jobs_stay;
 pub use ruu_words::StationState;
 pub use seat::{BackSeat, FrontSeat, Part, SeatOf, UnitSeat};
