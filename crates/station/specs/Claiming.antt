@@ -12,8 +12,10 @@ use Rattle.inorder.specs.declared.history.Step.TheVariants.{On}
 use Rattle.inorder.specs.Callers.{IsHeld, IsReady}
 use Rattle.inorder.specs.History.{Adds, WasOpen, unit_of}
 use Rattle.inorder.specs.Replies.{Has, IsNamed, IsOpen, JobFields, job_of}
-use Rattle.inorder.specs.Tenants.{IsThere, Tenant, kind_of, needs, operand}
+use Rattle.inorder.specs.StationWords.{live_word}
+use Rattle.inorder.specs.Tenants.{Busy, IsThere, Tenant, kind_of, needs, operand}
 use Rattle.inorder.specs.Unit.{Sizes}
+use Rattle.ruu_words.specs.Content.{IsStation}
 use Rattle.ruu_words.specs.Fields.{state_of, tag_of, value_of}
 use Rattle.ruu_words.specs.Kinds.{IsTenant}
 use Rattle.station.specs.declared.answers.Claim.{Claim}
@@ -78,6 +80,10 @@ ClaimAnswers P C by old new s (Moved tag) =
     IsRefused P C by old new s tag (λ p. Refuses (HasMoved p))
 
 -- What the steps of a claim find and tell
+
+-- The word of a tenant that this tag names, claimed by anybody
+abbrev pub IsBusyWord : ℕ → ℕ → Type 0
+IsBusyWord tag word = (by : ℕ) → IsStation (live_word tag (Busy by)) word
 
 -- It was open when its info word was read
 pub record IsOpenAs (index predicted : ℕ) (t : Tenant) : Type 0 where

@@ -12,10 +12,9 @@ ghost use Rattle.station.specs.Steps.{IsAt};
 
 use crate::answers::{Claim, Job};
 use crate::cores::Core;
-use crate::results::claimed_word;
 use crate::seat::UnitSeat;
 use crate::steps::{Words, claim_tenant, peek, read_info, read_source, recheck};
-use crate::words::{has_value, is_open, open_word, tag_in, value_in};
+use crate::words::{busy_word, has_value, is_open, open_word, tag_in, value_in};
 use atomic_table::Seat;
 use inorder::history::Source;
 use isa::{Kind, Program};
@@ -111,7 +110,7 @@ fn claim_open(
         Err(refusal) => return refusal,
     };
     let open = open_word(tag);
-    let busy = claimed_word(tag);
+    let busy = busy_word(tag);
     let found = claim_tenant(words, ring, seat, station, open, busy);
     if found != open {
         return Claim::Moved { tag };

@@ -6,6 +6,7 @@ ghost use Rattle.inorder.specs.StationWords.{IsFree, live_word};
 ghost use Rattle.inorder.specs.Tenants.{Done, Open};
 ghost use Rattle.ruu_words.specs.Content.{IsOperandOf, IsStation};
 ghost use Rattle.ruu_words.specs.Fields.{index_of, state_of, tag_count, tag_of, value_of};
+ghost use Rattle.station.specs.Claiming.{IsBusyWord};
 ghost use Rattle.station.specs.Letting.{given_value};
 ghost use Rattle.station.specs.Looking.{source_state_of};
 
@@ -83,6 +84,19 @@ pub(crate) fn open_word(tag: u32) -> u64
     let word = StationWord {
         tag,
         state: StationState::Open,
+        value: 0,
+    };
+    word.pack()
+}
+
+/// The word of a claimed tenant.
+pub(crate) fn busy_word(tag: u32) -> u64
+    requires { tag < tag_count }
+    ensures { IsBusyWord tag result }
+{
+    let word = StationWord {
+        tag,
+        state: StationState::Busy,
         value: 0,
     };
     word.pack()

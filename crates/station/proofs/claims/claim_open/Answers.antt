@@ -90,7 +90,7 @@ open_word-open-requires c =
 
 pub claim_tenant-found-requires-clause-new : goal.claim_tenant-found-requires-clause-new
 claim_tenant-found-requires-clause-new c =
-    subst (λ z. IsStation (record { tag = z; state = IsBusy; value = Some 0 }) c.claimed_word-busy.result) (sym c.open_word-open.ensures.tag) (c.claimed_word-busy.ensures 0)
+    subst (λ z. IsStation (record { tag = z; state = IsBusy; value = Some 0 }) c.busy_word-busy.result) (sym c.open_word-open.ensures.tag) (c.busy_word-busy.ensures 0)
 
 pub claim_tenant-found-requires-clause-seen : goal.claim_tenant-found-requires-clause-seen
 claim_tenant-found-requires-clause-seen c =
