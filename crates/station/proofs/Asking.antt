@@ -1,5 +1,5 @@
 -- The steps of a question, one after another.
-use Rattle.std.proofs.Common.{◌≡◌, ◌≢◌, ◌⊎◌, ℕ, ◌%◌, ◌<◌, ◌==◌, Bool, true, List, [], ◌∷◌, ◌++◌, map, Option, Some, None, refl, sym, ap, ◌∙◌, subst, inl, inr, ⊎_elim, arith}
+use Rattle.std.proofs.Common.{◌≡◌, ℕ, ◌%◌, ◌<◌, ◌==◌, Bool, true, List, [], ◌∷◌, ◌++◌, map, Some, refl, sym, ap, ◌∙◌, subst, inl, inr, ⊎_elim}
 use Rattle.std.specs.Prelude.{is_none}
 use prog.Atomic.{either}
 use Rattle.atomic_table.specs.Table.{Me}
@@ -13,14 +13,14 @@ use Rattle.inorder.specs.declared.history.Mark.TheVariants.{Asked}
 use Rattle.inorder.specs.declared.history.Source.{Source}
 use Rattle.inorder.specs.declared.history.Source.TheVariants.{First, Second}
 use Rattle.inorder.specs.declared.history.Step.{Step}
-use Rattle.inorder.specs.declared.history.Step.TheVariants.{Let, On}
+use Rattle.inorder.specs.declared.history.Step.TheVariants.{On}
 use Rattle.inorder.specs.Callers.{CanAsk, HasAsked, HasMade, IsLastAt}
 use Rattle.inorder.specs.History.{Adds, IsLegal, entry, front, own, unit_of}
 use Rattle.inorder.specs.Legal.{Allowed, applied, changed}
-use Rattle.inorder.specs.Replies.{Has, IsAskedInTime, IsDelivered, last_tag}
+use Rattle.inorder.specs.Replies.{Has, IsAskedInTime, IsDelivered}
 use Rattle.inorder.specs.Steps.{delivered, linked}
 use Rattle.inorder.specs.Tenants.{IsThere, Tenant, on_path, operand}
-use Rattle.inorder.specs.Unit.{Sizes, UpdateUnit, at, how_many, next_station, older, recent, value_of, younger}
+use Rattle.inorder.specs.Unit.{Sizes, UpdateUnit, how_many, next_station, older, recent, value_of, younger}
 use Rattle.inorder.proofs.Basics.{split_at}
 use Rattle.inorder.proofs.Ends.{Acted, exact}
 use Rattle.inorder.proofs.Histories.{legal_before, starts_longer, unit_sound}
@@ -28,7 +28,6 @@ use Rattle.inorder.proofs.Kept.{parts}
 use Rattle.inorder.proofs.Letting.{IsBesides}
 use Rattle.inorder.proofs.Moves.{came}
 use Rattle.inorder.proofs.Serving.{linked_creator, linked_way}
-use Rattle.inorder.proofs.Sound.{IsSound}
 use Rattle.ruu_words.specs.declared.place.Place.{Place}
 use Rattle.ruu_words.specs.declared.place.Place.TheVariants.{Link as LinkPlace, Operand, Station}
 use Rattle.ruu_words.specs.declared.rule.Draft.{Draft}

@@ -1,5 +1,5 @@
 -- What the front and the back may do stays so under the steps of others.
-use Rattle.std.proofs.Common.{◌≡◌, ℕ, ◌<◌, true, List, [], ◌++◌, Some, refl, sym, ap, ◌∙◌, subst}
+use Rattle.std.proofs.Common.{◌≡◌, ℕ, ◌<◌, true, List, [], ◌++◌, sym, ap, ◌∙◌, subst}
 use Rattle.isa.specs.Programs.{Program}
 use Rattle.inorder.specs.declared.history.Act.{Act}
 use Rattle.inorder.specs.declared.history.Act.TheVariants.{Claim, Deliver, Finish, Link, Load, Mend, Retire, Squash}
@@ -11,7 +11,7 @@ use Rattle.inorder.specs.Callers.{CanAsk, CanSquash}
 use Rattle.inorder.specs.History.{Adds, IsLegal, back, front, own, unit_of}
 use Rattle.inorder.specs.Replies.{Has, last_tag}
 use Rattle.inorder.specs.Tenants.{on_path}
-use Rattle.inorder.specs.Unit.{Sizes, next_tag, recent}
+use Rattle.inorder.specs.Unit.{Sizes}
 use Rattle.inorder.proofs.Ends.{squash_stays}
 use Rattle.inorder.proofs.Histories.{own_none}
 use Rattle.inorder.proofs.Letting.{IsBesides, IsBesidesAct}

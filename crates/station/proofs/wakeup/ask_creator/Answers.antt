@@ -1,4 +1,4 @@
-use Rattle.std.proofs.Common.{◌≡◌, ℕ, sym, ◌∙◌, arith}
+use Rattle.std.proofs.Common.{◌∙◌, arith}
 use Rattle.ruu_words.specs.Kinds.{IsAny}
 use Rattle.ruu_words.specs.Rule.{sizes_of}
 use Rattle.station.specs.Asking.{IsAsking}

@@ -1,4 +1,4 @@
-use Rattle.std.proofs.Common.{◌≡◌, ◌<◌, ℕ, sym, ◌∙◌, subst, refl, arith}
+use Rattle.std.proofs.Common.{◌≡◌, ◌<◌, sym, subst, refl, arith}
 use Rattle.inorder.specs.declared.history.Act.TheVariants.{Finish}
 use Rattle.inorder.specs.Callers.{HasJob}
 use Rattle.inorder.specs.StationWords.{live_word}
