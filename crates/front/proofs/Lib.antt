@@ -1,0 +1,9 @@
+pub mod Lists
+pub mod Trails
+pub mod Splitting
+pub mod Acts
+pub mod Places
+pub mod Stays
+pub mod LetKnown
+pub mod Cuts
+pub mod CutKnown

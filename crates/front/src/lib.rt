@@ -1,0 +1,18 @@
+//! Dispatch: the front lets instructions into stations in program order, follows the predictor, and recovers
+//! from its misses.
+#![tactic(auto)]
+
+mod answers;
+mod creators;
+mod dispatch;
+mod dispatcher;
+mod fetch;
+mod path;
+mod queue;
+mod record;
+mod recovery;
+mod supply;
+mod training;
+
+pub use answers::{Recovery, Turn};
+pub use dispatcher::Front;

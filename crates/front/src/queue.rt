@@ -1,0 +1,49 @@
+//! Whether the queue takes one more load or store.
+ghost use Rattle.std.specs.Prelude.{◌≡◌, []};
+ghost use Rattle.inorder.specs.History.{Adds, front, unit_of};
+ghost use Rattle.front.specs.Knows.{Knows};
+ghost use Rattle.front.specs.Queues.{AccessBefore, QueueSays};
+ghost use Rattle.station.specs.Seats.{IsSame};
+
+use crate::path::Path;
+use crate::record::{Record, Records};
+use station::{Core, FrontSeat, StationState};
+
+// The load or store that has `younger` younger ones.
+fn access_before(records: &Records, younger: usize) -> Option<Record>
+    ensures { AccessBefore records.now younger result }
+{
+    let mut left = younger;
+    let mut j = records.len();
+    while 0 < j {
+        j -= 1;
+        if let Some(record) = records.at(j) {
+            if record.access && left == 0 {
+                return Some(record);
+            }
+            if record.access {
+                left -= 1;
+            }
+        }
+    }
+    None
+}
+
+/// As many loads and stores are live as the queue takes: the oldest of so many has not left.
+pub fn queue_is_full(core: &Core, seat: &mut FrontSeat, path: &Path) -> bool
+    requires core { seat.old.core ≡ core.now }
+    requires by { seat.old.by ≡ front }
+    requires knows { Knows core.now.program core.now.sizes (unit_of core.now.program core.now.sizes seat.old.seen) path.now.records path.now.base }
+    ensures kept { IsSame seat.old seat.new }
+    ensures history { Adds core.now.program core.now.sizes front seat.old.seen seat.new.seen [] }
+    ensures reply { QueueSays core.now.program core.now.sizes (unit_of core.now.program core.now.sizes seat.new.seen) result }
+{
+    let Some(younger) = core.queue().checked_sub(1) else {
+        return true;
+    };
+    let Some(record) = access_before(&path.records, younger) else {
+        return false;
+    };
+    let seen = core.look(seat, record.station % core.ring());
+    seen.state != StationState::Free
+}
