@@ -38,7 +38,7 @@ same_tenant : (t u : Tenant) → Some t ≡ Some u → t ≡ u
 same_tenant t u e = cc e
 
 -- older ones that are live: a tenant of the path is live
-live_on : (P : Program) (t : Tenant) (ts : List Tenant) → IsSound P (t ∷ ts) → on_path t ≡ true → (q : ℕ) (u : Tenant) → at ts q ≡ Some u → u.standing ≡ Live → t.standing ≡ Live
+pub live_on : (P : Program) (t : Tenant) (ts : List Tenant) → IsSound P (t ∷ ts) → on_path t ≡ true → (q : ℕ) (u : Tenant) → at ts q ≡ Some u → u.standing ≡ Live → t.standing ≡ Live
 live_on P t ts ok on q u is live = go t.standing refl
   where
     go : (st : Standing) → t.standing ≡ st → t.standing ≡ Live
@@ -52,7 +52,7 @@ at_older_part ys t ts q u lt is =
     subst (λ z. at z q ≡ Some u) (older_middle ys t ts) (Rattle.inorder.proofs.Ends.at_older (ys ++ t ∷ ts) (length ts) q u below lt is)
 
 -- the youngest live tenant is the last of the path
-record IsThisOne (p : ℕ) (u : Tenant) (t : Tenant) (ts : List Tenant) : Type 0 where
+pub record IsThisOne (p : ℕ) (u : Tenant) (t : Tenant) (ts : List Tenant) : Type 0 where
   pub position : p ≡ length ts
   pub tenant : u ≡ t
 
@@ -89,7 +89,7 @@ module _ (P : Program) (C : Sizes) (U : UpdateUnit) (ok : IsSound P U.tenants) (
   acted p u is live youngest =
       this_one P o.ys t ts split_sound o.off o.on p u (subst (λ z. at z p ≡ Some u) o.split is) live (subst (λ z. AllByRecursion IsNotLive (younger z p)) o.split youngest)
 
-  at_last : at U.tenants x.at ≡ Some t
+  pub at_last : at U.tenants x.at ≡ Some t
   at_last = ap (at U.tenants) (ap (λ z. z.at) o.is) ∙ (ap (λ z. at z (length ts)) o.split ∙ at_middle o.ys t ts)
 
   pub youngest_last : IsYoungest U x.at

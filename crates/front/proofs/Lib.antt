@@ -7,3 +7,15 @@ pub mod Stays
 pub mod LetKnown
 pub mod Cuts
 pub mod CutKnown
+pub mod CreateVector
+pub mod Named
+pub mod Looks
+pub mod Misses
+pub mod Recovering
+pub mod Fronts
+pub mod Counts
+pub mod Stations
+pub mod Supplies
+pub mod Trained
+pub mod Pending
+pub mod InQueue

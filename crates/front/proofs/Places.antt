@@ -1,6 +1,6 @@
 -- Where the tenants of the path stand, and where the next one goes.
 use Rattle.std.proofs.Common.{◌≡◌, ◌≢◌, ℕ, suc, ◌+◌, ◌-◌, ◌*◌, ◌/◌, ◌%◌, ◌<◌, ◌≤◌, List, [], ◌∷◌, ◌++◌, length, Option, Some, None, refl, sym, ap, ◌∙◌, subst, ⊎_elim, arith, append_assoc, length-append, div-add-mod', mul-le-mul_right, suc-mul}
-use Rattle.std.proofs.Math.Nat.{mod-add-mod}
+use Rattle.std.proofs.Math.Nat.{add-mod_right, mod-add-mod, zero-mod}
 use Rattle.std.proofs.lemmas.Bool.{cases_lt}
 use Rattle.std.specs.Prelude.{slice_get}
 use Rattle.std.specs.List.{AllByRecursion}
@@ -44,7 +44,7 @@ pub oldest_next : (ring g : ℕ) (n : Note) (ns : List Note) → ArePlacedFrom r
 oldest_next ring g n ns a h = a.0 ∙ (sym (whole g ring) ∙ ap (λ z. (g + z) % ring) h)
   where
     whole : (g ring : ℕ) → (g + ring) % ring ≡ g % ring
-    whole g ring = Rattle.std.proofs.Common.mod-add-self g ring
+    whole g ring = add-mod_right g ring
 
 last_there : (xs : List Record) (x : Record) → last_of (xs ++ x ∷ []) ≡ Some x
 last_there xs x =
@@ -64,7 +64,9 @@ module _ (P : Program) (C : Sizes) (U : UpdateUnit) (records : List Record) (bas
   notes_length = ap (λ z. length z) k.are ∙ whats_length k.notes
 
   pub notes_placed : StandsRight C U.tenants → ArePlacedFrom C.ring (length k.gone) k.notes
-  notes_placed st = placed_rest C.ring 0 k.gone k.notes (subst (ArePlacedFrom C.ring 0) k.path (trail_placed P C U.tenants st.placed))
+  notes_placed st =
+      let none : 0 + length k.gone ≡ length k.gone = omega arith in
+      subst (λ z. ArePlacedFrom C.ring z k.notes) none (placed_rest C.ring 0 k.gone k.notes (subst (ArePlacedFrom C.ring 0) k.path (trail_placed P C U.tenants st.placed)))
 
   last_of_whole : (l : Last k.notes) → trail P U.tenants ≡ (k.gone ++ l.front) ++ l.one ∷ []
   last_of_whole l = k.path ∙ (ap (λ z. k.gone ++ z) l.is ∙ sym (append_assoc k.gone l.front (l.one ∷ [])))
@@ -90,7 +92,7 @@ module _ (P : Program) (C : Sizes) (U : UpdateUnit) (records : List Record) (bas
   -- the next tenant's station
   pub known_place : StandsRight C U.tenants → next_station C (recent U) ≡ next_place C.ring records
   known_place st = ⊎_elim
-      (λ e. ap (λ z. z % C.ring) (sym (trail_length P U.tenants) ∙ ap (λ z. length z) (no_path e)) ∙ sym (ap (place_after C.ring) (no_record e)))
+      (λ e. ap (λ z. z % C.ring) (sym (trail_length P U.tenants) ∙ ap (λ z. length z) (no_path e)) ∙ zero-mod C.ring ∙ sym (ap (place_after C.ring) (no_record e)))
       (λ (l : Last k.notes).
       let long = length-append l.front (l.one ∷ []) in
       let all : length k.notes ≡ length (l.front ++ l.one ∷ []) = ap (λ z. length z) l.is in

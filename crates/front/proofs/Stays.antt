@@ -49,7 +49,7 @@ quiet_of (On p (Retire n)) b = tt
 quiet_of (On p Squash) b = absurd b
 quiet_of (On p Mend) b = absurd b
 
-quiet_grows : (P : Program) (by : ℕ) (act : Act) (ys : List Tenant) (t : Tenant) (ts : List Tenant) → IsQuietAct act → May P by act ys t ts → IsSoundAt P ts t → Grows P t (changed P by act t ts)
+pub quiet_grows : (P : Program) (by : ℕ) (act : Act) (ys : List Tenant) (t : Tenant) (ts : List Tenant) → IsQuietAct act → May P by act ys t ts → IsSoundAt P ts t → Grows P t (changed P by act t ts)
 quiet_grows P by (Link k) ys t ts b m q = link_grows P ts t k
 quiet_grows P by (Deliver k) ys t ts b m q = besides_grows P by (Deliver k) ys t ts tt m q
 quiet_grows P by Claim ys t ts b m q = besides_grows P by Claim ys t ts tt m q

@@ -1,5 +1,5 @@
 -- Where the path goes on.
-use Rattle.std.specs.Prelude.{◌≡◌, ℕ, ◌+◌, ◌%◌, ◌-◌, ◌<◌, ◌≤◌, List, [], ◌∷◌, length, Option, Some, None, if◌then◌else◌, slice_get, is_none}
+use Rattle.std.specs.Prelude.{◌≡◌, ℕ, ◌+◌, ◌%◌, ◌-◌, ◌<◌, ◌≤◌, List, [], ◌∷◌, ◌++◌, length, Option, Some, None, if◌then◌else◌, slice_get, is_none}
 use Rattle.isa.specs.Instruction.{destination, fixed_next, kind, pc_plus_4}
 use Rattle.isa.specs.Programs.{text_start}
 use Rattle.inorder.specs.Machine.{write}
@@ -55,3 +55,8 @@ record_for f tag predicted =
       access = is_access (kind f.instr.op);
       guessed = is_none (fixed_next f.instr f.pc);
     }
+
+-- The youngest goes on elsewhere
+abbrev pub GoesOn : ℕ → List Record → List Record → Type 0
+GoesOn next old new =
+    (xs : List Record) (x : Record) → old ≡ xs ++ x ∷ [] → new ≡ xs ++ record x { next = next } ∷ []

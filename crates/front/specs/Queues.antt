@@ -1,7 +1,9 @@
 -- Whether the queue takes one more load or store.
 use Rattle.std.specs.Prelude.{◌≡◌, ℕ, suc, ◌<◌, ◌≤◌, Bool, true, false, List, [], ◌∷◌, ◌++◌, Option, Some, None, if◌then◌else◌}
+use Rattle.isa.specs.Instruction.{kind}
 use Rattle.isa.specs.Programs.{Program}
-use Rattle.inorder.specs.Tenants.{is_live_access}
+use Rattle.isa.specs.declared.instr.Instr.{Instr}
+use Rattle.inorder.specs.Tenants.{is_access, is_live_access}
 use Rattle.inorder.specs.Unit.{Sizes, UpdateUnit, how_many}
 use Rattle.front.specs.declared.record.Record.{Record}
 
@@ -26,6 +28,7 @@ AccessBefore records n (Some x) = IsBefore records n x
 abbrev pub live_accesses : Program → UpdateUnit → ℕ
 live_accesses P U = how_many (is_live_access P) U.tenants
 
-abbrev pub QueueSays : Program → Sizes → UpdateUnit → Bool → Type 0
-QueueSays P C U true = live_accesses P U ≡ C.queue
-QueueSays P C U false = live_accesses P U < C.queue
+-- The instruction is a load or store, and as many are live as the queue takes
+abbrev pub QueueSays : Program → Sizes → UpdateUnit → Instr → Bool → Type 0
+QueueSays P C U i true = (is_access (kind i.op) ≡ true) × (live_accesses P U ≡ C.queue)
+QueueSays P C U i false = is_access (kind i.op) ≡ true → live_accesses P U < C.queue

@@ -1,5 +1,5 @@
 -- What a recovery answers.
-use Rattle.std.specs.Prelude.{◌≡◌, ℕ, suc, ◌<◌, List, [], ◌∷◌, ◌++◌, map, length, take, Option, Some, None, slice_get}
+use Rattle.std.specs.Prelude.{◌≡◌, ℕ, suc, ◌<◌, List, [], ◌∷◌, map, length, take, Option, Some, None, slice_get}
 use Rattle.std.specs.List.{AllByRecursion}
 use Rattle.isa.specs.Programs.{Program}
 use Rattle.inorder.specs.declared.history.Act.TheVariants.{Mend, Squash}
@@ -76,8 +76,3 @@ pub record IsCut (P : Program) (C : Sizes) (old new : List Entry) (squashed : �
   pub squashes : List ℕ
   pub count : length squashes ≡ squashed
   pub adds : Adds P C front old new (map squash_event squashes)
-
--- The youngest goes on elsewhere
-abbrev pub Follows : ℕ → List Record → List Record → Type 0
-Follows next old new =
-    (xs : List Record) (x : Record) → old ≡ xs ++ x ∷ [] → new ≡ xs ++ record x { next = next } ∷ []

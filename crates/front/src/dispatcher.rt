@@ -1,6 +1,6 @@
 //! The front, as its callers see it.
 ghost use Rattle.std.specs.Prelude.{◌≡◌, ◌<◌, []};
-ghost use Rattle.inorder.specs.History.{Adds, StartsWith, front, unit_of};
+ghost use Rattle.inorder.specs.History.{Adds, IsLegal, StartsWith, front, unit_of};
 ghost use Rattle.front.specs.Fronts.{IsUnused};
 ghost use Rattle.front.specs.Knows.{Knows};
 ghost use Rattle.front.specs.Recoveries.{RecoverAnswers};
@@ -49,6 +49,7 @@ fn turn_on<P: Predictor>(
 ) -> Turn
     requires core { seat.old.core ≡ core.now }
     requires by { seat.old.by ≡ front }
+    requires legal { IsLegal core.now.program core.now.sizes seat.old.seen }
     requires program { program.now ≡ core.now.program }
     requires knows { Knows core.now.program core.now.sizes (unit_of core.now.program core.now.sizes seat.old.seen) path.old.records path.old.base }
     ensures kept { IsSame seat.old seat.new }
@@ -79,7 +80,8 @@ impl<'a, P: Predictor + Drop> Front<'a, P> {
         ensures predictor { result.predictor ≡ predictor }
     {
         // what a seat has seen is a legal history: each look says so
-        core.look(&mut seat, 0);
+        let ring = core.ring();
+        core.look(&mut seat, ring - 1);
         Front {
             seat,
             program,

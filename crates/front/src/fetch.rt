@@ -1,6 +1,6 @@
 //! What is let next, or why nothing is.
 ghost use Rattle.std.specs.Prelude.{◌≡◌, ◌≤◌, ◌<◌, [], IfOk, IfErr};
-ghost use Rattle.inorder.specs.History.{Adds, front, unit_of};
+ghost use Rattle.inorder.specs.History.{Adds, IsLegal, front, unit_of};
 ghost use Rattle.front.specs.Fetching.{CanFetch};
 ghost use Rattle.front.specs.Knows.{Knows};
 ghost use Rattle.front.specs.Turns.{Refuses};
@@ -9,7 +9,7 @@ ghost use Rattle.station.specs.Seats.{IsSame};
 use crate::answers::Turn;
 use crate::path::Path;
 use crate::queue::queue_is_full;
-use isa::{Instr, Kind, Program};
+use isa::{Instr, Program};
 use station::{Core, FrontSeat, StationState};
 
 // No tenant gets this tag.
@@ -33,6 +33,7 @@ pub fn fetch(
 ) -> Result<Fetched, Turn>
     requires core { seat.old.core ≡ core.now }
     requires by { seat.old.by ≡ front }
+    requires legal { IsLegal core.now.program core.now.sizes seat.old.seen }
     requires program { program.now ≡ core.now.program }
     requires knows { Knows core.now.program core.now.sizes (unit_of core.now.program core.now.sizes seat.old.seen) path.now.records path.now.base }
     ensures kept { IsSame seat.old seat.new }
@@ -49,8 +50,7 @@ pub fn fetch(
     let Some(instr) = program.fetch(pc) else {
         return Err(Turn::NoInstr);
     };
-    let access = matches!(instr.op().kind(), Kind::Loads | Kind::Stores);
-    if access && queue_is_full(core, seat, path) {
+    if queue_is_full(core, seat, path, &instr) {
         return Err(Turn::QueueFull);
     }
     if ahead.tag == LAST_TAG {

@@ -62,6 +62,7 @@ impl Path {
     /// Where all stations have had a tenant the next one goes to the oldest's: that one's value goes to the base
     /// registers.
     pub fn release(&mut self, ring: usize, left: u32) -> Option<Record>
+        requires { 0 < ring }
         ensures { Releases ring left self.old result self.new }
     {
         if self.records.len() < ring {

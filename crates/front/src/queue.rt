@@ -1,12 +1,13 @@
 //! Whether the queue takes one more load or store.
-ghost use Rattle.std.specs.Prelude.{◌≡◌, []};
-ghost use Rattle.inorder.specs.History.{Adds, front, unit_of};
+ghost use Rattle.std.specs.Prelude.{◌≡◌, ◌≤◌, []};
+ghost use Rattle.inorder.specs.History.{Adds, IsLegal, front, unit_of};
 ghost use Rattle.front.specs.Knows.{Knows};
 ghost use Rattle.front.specs.Queues.{AccessBefore, QueueSays};
 ghost use Rattle.station.specs.Seats.{IsSame};
 
 use crate::path::Path;
 use crate::record::{Record, Records};
+use isa::{Instr, Kind};
 use station::{Core, FrontSeat, StationState};
 
 // The load or store that has `younger` younger ones.
@@ -18,10 +19,10 @@ fn access_before(records: &Records, younger: usize) -> Option<Record>
     while 0 < j {
         j -= 1;
         if let Some(record) = records.at(j) {
-            if record.access && left == 0 {
-                return Some(record);
-            }
             if record.access {
+                if left == 0 {
+                    return Some(record);
+                }
                 left -= 1;
             }
         }
@@ -29,21 +30,26 @@ fn access_before(records: &Records, younger: usize) -> Option<Record>
     None
 }
 
-/// As many loads and stores are live as the queue takes: the oldest of so many has not left.
-pub fn queue_is_full(core: &Core, seat: &mut FrontSeat, path: &Path) -> bool
+/// The instruction is a load or store, and as many are live as the queue takes: the oldest of so many has not left.
+pub fn queue_is_full(core: &Core, seat: &mut FrontSeat, path: &Path, instr: &Instr) -> bool
     requires core { seat.old.core ≡ core.now }
     requires by { seat.old.by ≡ front }
+    requires legal { IsLegal core.now.program core.now.sizes seat.old.seen }
+    requires least { 2 ≤ core.now.sizes.ring }
     requires knows { Knows core.now.program core.now.sizes (unit_of core.now.program core.now.sizes seat.old.seen) path.now.records path.now.base }
     ensures kept { IsSame seat.old seat.new }
     ensures history { Adds core.now.program core.now.sizes front seat.old.seen seat.new.seen [] }
-    ensures reply { QueueSays core.now.program core.now.sizes (unit_of core.now.program core.now.sizes seat.new.seen) result }
+    ensures reply { QueueSays core.now.program core.now.sizes (unit_of core.now.program core.now.sizes seat.new.seen) instr.now result }
 {
+    if !matches!(instr.op().kind(), Kind::Loads | Kind::Stores) {
+        return false;
+    }
     let Some(younger) = core.queue().checked_sub(1) else {
         return true;
     };
     let Some(record) = access_before(&path.records, younger) else {
         return false;
     };
-    let seen = core.look(seat, record.station % core.ring());
+    let seen = core.look(seat, record.station);
     seen.state != StationState::Free
 }

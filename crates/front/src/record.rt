@@ -1,5 +1,6 @@
 //! What the front keeps of its tenants.
 ghost use Rattle.std.specs.Prelude.{◌≡◌, ◌<◌, ◌≤◌, ◌-◌, [], ◌∷◌, ◌++◌, length, take, slice_get, IfSome, IfNone};
+ghost use Rattle.front.specs.Path.{GoesOn};
 
 use arrayvec::ArrayVec;
 use std::marker::Model;
@@ -29,12 +30,14 @@ pub struct Records {
 }
 
 impl Model for Records {
-    ghost use Rattle.std.specs.Prelude.{List};
+    ghost use Rattle.std.specs.Prelude.{◌≤◌, List, length};
     ghost use Rattle.front.specs.declared.record.Record.{Record};
 
     ghost Value = { List Record };
 
     ghost view = { λ r. r.records.items };
+
+    ghost invariant = { λ r. length r.records.items ≤ 32 };
 }
 
 impl Records {
@@ -89,5 +92,14 @@ impl Records {
         ensures empty { IfNone result (self.new ≡ []) }
     {
         self.records.pop_at(0)
+    }
+
+    /// The youngest goes on elsewhere.
+    pub fn redirect(&mut self, next: u32)
+        ensures { GoesOn next self.old self.new }
+    {
+        if let Some(youngest) = self.records.pop() {
+            self.records.push(Record { next, ..youngest });
+        }
     }
 }

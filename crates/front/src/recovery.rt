@@ -1,13 +1,12 @@
 //! Recovery from a miss.
-ghost use Rattle.std.specs.Prelude.{◌≡◌, ◌<◌, ◌+◌, [], length, take};
-ghost use Rattle.inorder.specs.History.{Adds, front, unit_of};
+ghost use Rattle.std.specs.Prelude.{◌≡◌, ◌≤◌, ◌+◌, [], length, take};
+ghost use Rattle.inorder.specs.History.{Adds, IsLegal, front, unit_of};
 ghost use Rattle.front.specs.Knows.{Knows};
-ghost use Rattle.front.specs.Recoveries.{Finds, Follows, IsCut, IsMissAt, RecoverAnswers};
+ghost use Rattle.front.specs.Recoveries.{Finds, IsCut, IsMissAt, RecoverAnswers};
 ghost use Rattle.station.specs.Seats.{IsSame};
 
 use crate::answers::Recovery;
 use crate::path::Path;
-use crate::record::{Record, Records};
 use station::{Core, FrontSeat, StationState};
 
 /// A miss: its place among the tenants, its station, and where it goes on.
@@ -20,22 +19,22 @@ pub struct Missed {
 
 // Looks at the tenants from the oldest on, for the first miss.
 fn find_miss(core: &Core, seat: &mut FrontSeat, path: &Path) -> Option<Missed>
+    requires least { 2 ≤ core.now.sizes.ring }
     requires core { seat.old.core ≡ core.now }
     requires by { seat.old.by ≡ front }
+    requires legal { IsLegal core.now.program core.now.sizes seat.old.seen }
     requires knows { Knows core.now.program core.now.sizes (unit_of core.now.program core.now.sizes seat.old.seen) path.now.records path.now.base }
     ensures kept { IsSame seat.old seat.new }
     ensures history { Adds core.now.program core.now.sizes front seat.old.seen seat.new.seen [] }
     ensures reply { Finds core.now.program core.now.sizes seat.old.seen seat.new.seen path.now.records result }
 {
-    let ring = core.ring();
     for at in 0..path.records.len() {
         if let Some(record) = path.records.at(at) {
-            let station = record.station % ring;
-            let seen = core.look(seat, station);
+            let seen = core.look(seat, record.station);
             if seen.state == StationState::Miss {
                 return Some(Missed {
                     at,
-                    station,
+                    station: record.station,
                     next: seen.value,
                 });
             }
@@ -48,6 +47,7 @@ fn find_miss(core: &Core, seat: &mut FrontSeat, path: &Path) -> Option<Missed>
 fn squash_behind(core: &Core, seat: &mut FrontSeat, path: &mut Path, missed: Missed) -> usize
     requires core { seat.old.core ≡ core.now }
     requires by { seat.old.by ≡ front }
+    requires legal { IsLegal core.now.program core.now.sizes seat.old.seen }
     requires knows { Knows core.now.program core.now.sizes (unit_of core.now.program core.now.sizes seat.old.seen) path.old.records path.old.base }
     requires miss { IsMissAt core.now.program core.now.sizes seat.old.seen path.old.records missed }
     ensures kept { IsSame seat.old seat.new }
@@ -66,30 +66,23 @@ fn squash_behind(core: &Core, seat: &mut FrontSeat, path: &mut Path, missed: Mis
     squashed
 }
 
-// The path goes on at the computed next pc of its youngest tenant.
-fn follow(records: &mut Records, next: u32)
-    ensures { Follows next records.old records.new }
-{
-    if let Some(record) = records.pop() {
-        records.push(Record { next, ..record });
-    }
-}
-
 /// Recovers from the first miss that is found.
 pub fn recover_on(core: &Core, seat: &mut FrontSeat, path: &mut Path) -> Recovery
     requires core { seat.old.core ≡ core.now }
     requires by { seat.old.by ≡ front }
+    requires legal { IsLegal core.now.program core.now.sizes seat.old.seen }
     requires knows { Knows core.now.program core.now.sizes (unit_of core.now.program core.now.sizes seat.old.seen) path.old.records path.old.base }
     ensures kept { IsSame seat.old seat.new }
     ensures reply { RecoverAnswers core.now.program core.now.sizes seat.old.seen seat.new.seen result }
     ensures knows { Knows core.now.program core.now.sizes (unit_of core.now.program core.now.sizes seat.new.seen) path.new.records path.new.base }
 {
+    core.ring();
     let Some(missed) = find_miss(core, seat, path) else {
         return Recovery::NoMiss;
     };
     let squashed = squash_behind(core, seat, path, missed);
     core.mend(seat, missed.station);
-    follow(&mut path.records, missed.next);
+    path.records.redirect(missed.next);
     Recovery::Mended {
         station: missed.station,
         squashed,
