@@ -16,7 +16,8 @@ use Rattle.ruu_words.proofs.Stays.{front_stays}
 use Rattle.station.specs.Seats.{Caller, IsSame, TheCore}
 use Rattle.front.specs.declared.path.Path.{Path}
 use Rattle.front.specs.Creators.{creator_note, position}
-use Rattle.front.specs.Fronts.{IsFront}
+use Rattle.front.specs.declared.record.Record.{Record}
+use Rattle.front.specs.Fronts.{IsFront, IsUnused}
 use Rattle.front.specs.Knows.{Knows}
 use Rattle.front.specs.Trail.{trail}
 use Rattle.front.proofs.Splitting.{stays}
@@ -83,3 +84,17 @@ first_knows P C h legal none =
         go : (b : Bool) → value_of (unit_of P C h).tenants (position (cond b None None)) ≡ Some 0
         go true = refl
         go false = refl
+
+-- the first look of a seat that has let nothing
+pub new_front : (core : TheCore) (P : Program) (v w : Caller) (path : Path) → IsUnused core v → P ≡ core.program → IsSame v w → Adds core.program core.sizes v.by v.seen w.seen [] → path.records ≡ [] → path.base ≡ replicate 32 0 → IsFront P w path
+new_front core P v w path u e same adds none base =
+    let both : core ≡ w.core = sym u.core_is ∙ sym same.core in
+    let mine : Adds core.program core.sizes front v.seen w.seen [] = subst (λ i. Adds core.program core.sizes i v.seen w.seen []) u.by_is adds in
+    let own_none : own front w.seen ≡ [] = mine.mine ∙ u.none in
+    let knows : Knows core.program core.sizes (unit_of core.program core.sizes w.seen) path.records path.base = subst (λ (z : List Record × List ℕ). Knows core.program core.sizes (unit_of core.program core.sizes w.seen) z.0 z.1) (λ i. (sym none i, sym base i)) (first_knows core.program core.sizes w.seen adds.legal own_none) in
+    record {
+      by_is = same.by ∙ u.by_is;
+      program = e ∙ ap (λ (z : TheCore). z.program) both;
+      legal = subst (λ (z : TheCore). IsLegal z.program z.sizes w.seen) both adds.legal;
+      knows = subst (λ (z : TheCore). Knows z.program z.sizes (unit_of z.program z.sizes w.seen) path.records path.base) both knows;
+    }

@@ -159,3 +159,130 @@ pub live_behind : (P : Program) (us : List Tenant) → IsSound P us → (p q : �
 live_behind P us ok p q t u lt is live is' on =
     let split = split_at us q u is' in
     live_on P u (older us q) (sound_from P (younger us q) (u ∷ older us q) (subst (IsSound P) split ok)) on p t (at_older us q p t (at_below us q u is') lt is) live
+
+abbrev pub is_access_note : Note → Bool
+is_access_note n = n.what.access
+
+count_accesses : (xs : List Note) → count is_access_note xs ≡ accesses (whats xs)
+count_accesses [] = refl
+count_accesses (x ∷ xs) = ap (λ z. cond x.what.access (suc z) z) (count_accesses xs)
+
+-- a record in the midst
+pub record IsSplit (notes : List Note) (older : List Record) (x : Record) (younger : List Record) : Type 0 where
+  pub before : List Note
+  pub one : Note
+  pub after : List Note
+  pub is : notes ≡ before ++ one ∷ after
+  pub what : one.what ≡ x
+  pub rest : whats after ≡ younger
+
+pub split_whats : (notes : List Note) (older : List Record) (x : Record) (younger : List Record) → whats notes ≡ older ++ x ∷ younger → IsSplit notes older x younger
+split_whats [] [] x younger e = absurd (cc e)
+split_whats [] (y ∷ older) x younger e = absurd (cc e)
+split_whats (n ∷ notes) [] x younger e = record { before = []; one = n; after = notes; is = refl; what = head_of n.what x (whats notes) younger e; rest = tail_of n.what x (whats notes) younger e }
+  where
+    head_of : (a b : Record) (xs ys : List Record) → a ∷ xs ≡ b ∷ ys → a ≡ b
+    head_of a b xs ys e = cc e
+
+    tail_of : (a b : Record) (xs ys : List Record) → a ∷ xs ≡ b ∷ ys → xs ≡ ys
+    tail_of a b xs ys e = cc e
+split_whats (n ∷ notes) (y ∷ older) x younger e =
+    let s = split_whats notes older x younger (tail_of n.what y (whats notes) (older ++ x ∷ younger) e) in
+    record { before = n ∷ s.before; one = s.one; after = s.after; is = ap (λ z. n ∷ z) s.is; what = s.what; rest = s.rest }
+  where
+    tail_of : (a b : Record) (xs ys : List Record) → a ∷ xs ≡ b ∷ ys → xs ≡ ys
+    tail_of a b xs ys e = cc e
+
+access_on_path : (P : Program) (t : Tenant) → is_live_access P t ≡ true → on_path t ≡ true
+access_on_path P t h = go t.standing refl
+  where
+    go : (st : Standing) → t.standing ≡ st → on_path t ≡ true
+    go Live e = ap stands_on_path e
+    go Retired e = ap stands_on_path e
+    go Squashed e = let no : false ≡ true = sym (ap (λ z. stands_live z && is_access (kind_of P t)) e) ∙ h in absurd (cc no)
+
+access_only : (a b : Bool) → a && b ≡ true → b ≡ true
+access_only true b h = h
+access_only false b h = absurd (cc h)
+
+not_live_fails : (P : Program) (t : Tenant) → t.standing ≢ Live → is_live_access P t ≡ false
+not_live_fails P t ne = go t.standing refl
+  where
+    go : (st : Standing) → t.standing ≡ st → is_live_access P t ≡ false
+    go Live e = absurd (ne e)
+    go Retired e = ap (λ z. stands_live z && is_access (kind_of P t)) e
+    go Squashed e = ap (λ z. stands_live z && is_access (kind_of P t)) e
+
+retired_not : Retired ≢ Live
+retired_not e = cc e
+
+module _ (P : Program) (C : Sizes) (h : List Entry) (legal : IsLegal P C h) (records : List Record) (base : List ℕ) (k : Knows P C (unit_of P C h) records base) where
+  abbrev U : UpdateUnit
+  U = unit_of P C h
+
+  gone_fail : (n : Note) → IsGone U n → FailsAt P (is_live_access P) is_access_note U.tenants n
+  gone_fail n g t is = not_live_fails P t (λ live. retired_not (sym g.fact ∙ (ap (λ (z : Tenant). z.standing) (same_tenant g.tenant t (sym g.is ∙ is)) ∙ live)))
+
+  noted_says : (n : Note) → IsNoted P U.tenants n → SaysAt P (is_live_access P) is_access_note U.tenants n
+  noted_says n i t is test =
+      ap (λ (z : Record). z.access) (sym i.what) ∙ (ap (λ (z : Tenant). is_access (kind_of P z)) (same_tenant i.tenant t (sym i.is ∙ is)) ∙ access_only (is_live t) (is_access (kind_of P t)) test)
+
+  noted : AllByRecursion (IsNoted P U.tenants) k.notes
+  noted = notes_noted P C h legal records base (IsReused U) k
+
+  -- few are kept: few are live
+  pub few_live : live_accesses P U ≤ accesses records
+  few_live =
+      let few = at_most P (is_live_access P) is_access_note (access_on_path P) U.tenants k.gone k.notes k.path (all_map (IsGone U) (FailsAt P (is_live_access P) is_access_note U.tenants) gone_fail k.gone k.retired) (all_map (IsNoted P U.tenants) (SaysAt P (is_live_access P) is_access_note U.tenants) noted_says k.notes noted) in
+      subst (λ z. live_accesses P U ≤ z) (count_accesses k.notes ∙ ap accesses (sym k.are)) few
+
+  module _ (older : List Record) (x : Record) (younger : List Record) (are : records ≡ older ++ x ∷ younger) where
+    s : IsSplit k.notes older x younger
+    s = split_whats k.notes older x younger (sym k.are ∙ are)
+
+    whole : trail P U.tenants ≡ (k.gone ++ s.before) ++ s.one ∷ s.after
+    whole = k.path ∙ (ap (λ z. k.gone ++ z) s.is ∙ sym (append_assoc k.gone s.before (s.one ∷ s.after)))
+
+    order : IsOrdered (k.gone ++ s.before) s.one s.after
+    order = ordered P U.tenants (k.gone ++ s.before) s.one s.after whole
+
+    noted_all : AllByRecursion (IsNoted P U.tenants) (s.before ++ s.one ∷ s.after)
+    noted_all = subst (AllByRecursion (IsNoted P U.tenants)) s.is noted
+
+    pub one_noted : IsNoted P U.tenants s.one
+    one_noted = (all_rest (IsNoted P U.tenants) s.before (s.one ∷ s.after) noted_all).0
+
+    -- it has left: only younger ones are live
+    pub behind_left : one_noted.tenant.standing ≡ Retired → live_accesses P U ≤ accesses younger
+    behind_left gone =
+        let Fails = FailsAt P (is_live_access P) is_access_note U.tenants in
+        let before = all_two (IsNoted P U.tenants) (λ n. n.at < s.one.at) Fails older_fails s.before (all_front (IsNoted P U.tenants) s.before (s.one ∷ s.after) noted_all) (all_rest (λ n. n.at < s.one.at) k.gone s.before order.before) in
+        let first = all_map (IsGone U) Fails gone_fail k.gone k.retired in
+        let one : Fails s.one = gone_fail s.one (record { tenant = one_noted.tenant; is = one_noted.is; fact = gone }) in
+        let path : trail P U.tenants ≡ ((k.gone ++ s.before) ++ s.one ∷ []) ++ s.after = whole ∙ sym (append_assoc (k.gone ++ s.before) (s.one ∷ []) s.after) in
+        let few = at_most P (is_live_access P) is_access_note (access_on_path P) U.tenants ((k.gone ++ s.before) ++ s.one ∷ []) s.after path
+        (all_both Fails (k.gone ++ s.before) (s.one ∷ []) (all_both Fails k.gone s.before first before) (one, tt))
+        (all_map (IsNoted P U.tenants) (SaysAt P (is_live_access P) is_access_note U.tenants) noted_says s.after ((all_rest (IsNoted P U.tenants) s.before (s.one ∷ s.after) noted_all).1)) in
+        subst (λ z. live_accesses P U ≤ z) (count_accesses s.after ∙ ap accesses s.rest) few
+      where
+        older_fails : (n : Note) → IsNoted P U.tenants n → n.at < s.one.at → FailsAt P (is_live_access P) is_access_note U.tenants n
+        older_fails n i lt t is = not_live_fails P t (λ live. retired_not (sym gone ∙ live_behind P U.tenants (unit_sound P C h legal) n.at s.one.at t one_noted.tenant lt is live one_noted.is one_noted.on))
+
+    -- it is live: so are all younger ones
+    pub behind_live : one_noted.tenant.standing ≡ Live → x.access ≡ true → suc (accesses younger) ≤ live_accesses P U
+    behind_live live access =
+        let True = TrueAt P (is_live_access P) is_access_note U.tenants in
+        let after : AllByRecursion True s.after = all_two (IsNoted P U.tenants) (λ n. s.one.at < n.at) True younger_true s.after ((all_rest (IsNoted P U.tenants) s.before (s.one ∷ s.after) noted_all).1) order.after in
+        let one : True s.one = true_of s.one one_noted live in
+        let many = at_least P (is_live_access P) is_access_note U.tenants (k.gone ++ s.before) (s.one ∷ s.after) whole (one, after) in
+        let count_one : count is_access_note (s.one ∷ s.after) ≡ suc (accesses younger) = ap (λ b. cond b (suc (count is_access_note s.after)) (count is_access_note s.after)) (ap (λ (z : Record). z.access) s.what ∙ access) ∙ ap suc (count_accesses s.after ∙ ap accesses s.rest) in
+        subst (λ z. z ≤ live_accesses P U) count_one many
+      where
+        true_of : (n : Note) → (i : IsNoted P U.tenants n) → i.tenant.standing ≡ Live → TrueAt P (is_live_access P) is_access_note U.tenants n
+        true_of n i live t is access =
+            let one = same_tenant i.tenant t (sym i.is ∙ is) in
+            let its : is_access (kind_of P t) ≡ true = ap (λ (z : Tenant). is_access (kind_of P z)) (sym one) ∙ (ap (λ (z : Record). z.access) i.what ∙ access) in
+            ap (λ (z : Tenant). stands_live z.standing && is_access (kind_of P t)) (sym one) ∙ (ap (λ z. stands_live z && is_access (kind_of P t)) live ∙ its)
+
+        younger_true : (n : Note) → IsNoted P U.tenants n → s.one.at < n.at → TrueAt P (is_live_access P) is_access_note U.tenants n
+        younger_true n i lt = true_of n i (live_behind P U.tenants (unit_sound P C h legal) s.one.at n.at one_noted.tenant i.tenant lt one_noted.is live i.is i.on)

