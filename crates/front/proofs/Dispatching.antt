@@ -27,6 +27,8 @@ use Rattle.inorder.proofs.Positions.{at_below, at_more, at_new}
 use Rattle.unit_laws.proofs.Creators.{IsAt, found_at}
 use Rattle.ruu_words.specs.Kinds.{IsAny, IsTenant}
 use Rattle.ruu_words.proofs.Drafting.{still_let}
+use Rattle.ruu_words.proofs.Stays.{any_stays}
+use Rattle.station.proofs.Adding.{adds_on}
 use Rattle.station.specs.declared.answers.Supply.{Supply}
 use Rattle.station.specs.declared.answers.Supply.TheVariants.{From as GivenFrom, Known as GivenKnown}
 use Rattle.station.specs.declared.answers.Tenant.{Tenant as NewTenant}
@@ -38,12 +40,13 @@ use Rattle.front.specs.Creators.{supply_in}
 use Rattle.front.specs.Fetching.{IsNext}
 use Rattle.front.specs.Knows.{IsReady, Knows}
 use Rattle.front.specs.Path.{record_for}
-use Rattle.front.specs.Questions.{MayAskFor}
+use Rattle.front.specs.Questions.{Asks, IsDispatched}
 use Rattle.front.specs.Trail.{is_link, record_of}
 use Rattle.front.proofs.LetKnown.{let_known}
 use Rattle.front.proofs.Named.{stands_right}
 use Rattle.front.proofs.Pending.{IsPending, pending_stable}
-use Rattle.front.proofs.Places.{known_pc, known_place, notes_length}
+use Rattle.front.proofs.Places.{notes_length}
+use Rattle.front.proofs.Questioned.{HasAsked, has_asked, later}
 use Rattle.front.proofs.Splitting.{LastEvent, event_legal, last_event, no_event, stays, stays_behind}
 use Rattle.front.proofs.Stations.{live_fewer}
 use Rattle.front.proofs.Stays.{knows_stable, ready_stable}
@@ -69,15 +72,10 @@ index_of P f e =
 
 module _ (P : Program) (C : Sizes) (old : List Entry) (legal : IsLegal P C old) (records : List Record) (base : List ℕ) (k : IsReady P C (unit_of P C old) records base)
     (f : Fetched) (n : IsNext P C old f) (predicted index : ℕ) (small : predicted < 2 ^ 32) (fixed : IfSome (fixed_next f.instr f.pc) (λ x. predicted ≡ x)) (x : IsIndex P f index)
-    (first_small : f.instr.first < 32) (second_small : f.instr.second < 32) where
+    (first_small : f.instr.first < 32) (second_small : f.instr.second < 32)
+    (first second : Supply) (first_given : first ≡ supply_in records base f.instr.first) (second_given : second ≡ supply_in records base f.instr.second) where
   abbrev U : UpdateUnit
   U = unit_of P C old
-
-  abbrev first : Supply
-  first = supply_in records base f.instr.first
-
-  abbrev second : Supply
-  second = supply_in records base f.instr.second
 
   abbrev tenant : NewTenant
   tenant = record { index = index; predicted = predicted; sources = (first, second) }
@@ -96,12 +94,15 @@ module _ (P : Program) (C : Sizes) (old : List Entry) (legal : IsLegal P C old) 
     pc = sym n.pc ∙ x.pc;
     small = small;
     predicts = subst (λ (z : Instr × ℕ). IfSome (fixed_next z.0 z.1) (λ y. predicted ≡ y)) (λ i. (sym x.is i, n.pc i)) fixed;
-    first_is = subst (λ (i : Instr). MaySupply P U (next_station C (recent U)) (creator P U.tenants i.first) (supply_of first)) (sym x.is) (may_supply P C old legal records base k f.instr.first first_small);
-    second_is = subst (λ (i : Instr). MaySupply P U (next_station C (recent U)) (creator P U.tenants i.second) (supply_of second)) (sym x.is) (may_supply P C old legal records base k f.instr.second second_small);
+    first_is = subst (λ (i : Instr). MaySupply P U (next_station C (recent U)) (creator P U.tenants i.first) (supply_of first)) (sym x.is) (subst (λ s. MaySupply P U (next_station C (recent U)) (creator P U.tenants f.instr.first) (supply_of s)) (sym first_given) (may_supply P C old legal records base k f.instr.first first_small));
+    second_is = subst (λ (i : Instr). MaySupply P U (next_station C (recent U)) (creator P U.tenants i.second) (supply_of second)) (sym x.is) (subst (λ s. MaySupply P U (next_station C (recent U)) (creator P U.tenants f.instr.second) (supply_of s)) (sym second_given) (may_supply P C old legal records base k f.instr.second second_small));
   }
 
   pub may_let_out : MayLetOut P C U tenant
   may_let_out = record { may = may_let; tag = n.tag }
+
+  pub small_creator : (r : ℕ) → r < 32 → (given : Supply) → given ≡ supply_in records base r → (a g : ℕ) → given ≡ GivenFrom a g → a < C.ring
+  small_creator r r_small given e a g f = let d = comes_from P C old legal records base k r r_small a g (sym e ∙ f) in subst (λ z. z < C.ring) d.station d.giver.small
 
   -- behind it
   module _ (new : List Entry) (adds : Adds P C front old new (let_of tenant ∷ [])) (tag : ℕ) (tag_is : tag ≡ next_tag C (recent U)) where
@@ -171,9 +172,9 @@ module _ (P : Program) (C : Sizes) (old : List Entry) (legal : IsLegal P C old) 
     its_creator c (GivenFrom a g) = refl
 
     -- a source that comes from its creator
-    pub record Pends (k : Source) (a g : ℕ) : Type 0 where
+    pub record Pends (side : Source) (a g : ℕ) : Type 0 where
       pub q : ℕ
-      pub pending : IsPending k (length M.tenants) q f.station tag a g (unit_of P C new)
+      pub pending : IsPending side (length M.tenants) q f.station tag a g (unit_of P C new)
 
     pends : (s : Source) (r : ℕ) (r_small : r < 32) (given : Supply) → given ≡ supply_in records base r → (operand s new_one).creator ≡ creator P M.tenants r → ((a g : ℕ) → given ≡ GivenFrom a g → (operand s new_one).way ≡ Unlinked) → (a g : ℕ) → given ≡ GivenFrom a g → Pends s a g
     pends s r r_small given given_is c way a g e =
@@ -199,7 +200,52 @@ module _ (P : Program) (C : Sizes) (old : List Entry) (legal : IsLegal P C old) 
         record { q = d.n.at; pending = stays_behind P C (IsPending s (length M.tenants) d.n.at f.station tag a g) (pending_stable P C (length M.tenants) d.n.at f.station tag a g s) old new (let_of tenant) [] l pending }
 
     pub first_pends : (a g : ℕ) → first ≡ GivenFrom a g → Pends First a g
-    first_pends a g e = pends First f.instr.first first_small first refl (its_creator (creator P M.tenants (instr_of P index).first) first ∙ ap (λ (i : Instr). creator P M.tenants i.first) x.is) (λ a g e. unlinked (creator P M.tenants (instr_of P index).first) first a g e) a g e
+    first_pends a g e = pends First f.instr.first first_small first first_given (its_creator (creator P M.tenants (instr_of P index).first) first ∙ ap (λ (i : Instr). creator P M.tenants i.first) x.is) (λ a g e. unlinked (creator P M.tenants (instr_of P index).first) first a g e) a g e
 
     pub second_pends : (a g : ℕ) → second ≡ GivenFrom a g → Pends Second a g
-    second_pends a g e = pends Second f.instr.second second_small second refl (its_creator (creator P M.tenants (instr_of P index).second) second ∙ ap (λ (i : Instr). creator P M.tenants i.second) x.is) (λ a g e. unlinked (creator P M.tenants (instr_of P index).second) second a g e) a g e
+    second_pends a g e = pends Second f.instr.second second_small second second_given (its_creator (creator P M.tenants (instr_of P index).second) second ∙ ap (λ (i : Instr). creator P M.tenants i.second) x.is) (λ a g e. unlinked (creator P M.tenants (instr_of P index).second) second a g e) a g e
+
+    -- the whole, with its questions
+    module _ (mid end : List Entry) (asks_first : Asks P C new mid f.station tag First first) (asks_second : Asks P C mid end f.station tag Second second) where
+      named_after : IsTenant (unit_of P C new) (length M.tenants) f.station tag IsAny
+      named_after =
+          subst (λ z. IsTenant (unit_of P C z) (length M.tenants) f.station tag IsAny) (sym l.is) (any_stays P C (length M.tenants) f.station tag l.after (entry front (let_of tenant) ∷ point) l.legal named_new)
+
+      one : HasAsked P C new mid (length M.tenants) First first
+      one = has_asked P C new mid adds.legal (length M.tenants) f.station tag First first named_after asks_first
+
+      named_mid : IsTenant (unit_of P C mid) (length M.tenants) f.station tag IsAny
+      named_mid = later P C new mid one.events one.adds (length M.tenants) f.station tag named_after
+
+      two : HasAsked P C mid end (length M.tenants) Second second
+      two = has_asked P C mid end one.adds.legal (length M.tenants) f.station tag Second second named_mid asks_second
+
+      pub knows_end : Knows P C (unit_of P C end) (records ++ record_for f tag predicted ∷ []) base
+      knows_end = two.knows (records ++ record_for f tag predicted ∷ []) base (one.knows (records ++ record_for f tag predicted ∷ []) base knows_behind)
+
+      pub dispatched : IsDispatched P C old end f predicted tag
+      dispatched = record {
+        lets = record {
+          index = index;
+          first = supply_of first;
+          second = supply_of second;
+          point = point;
+          before = l.before;
+          behind = record {
+            more = two.adds.begins.more ++ (one.adds.begins.more ++ l.after);
+            is =
+                two.adds.begins.is
+                ∙ (ap (λ z. two.adds.begins.more ++ z) (one.adds.begins.is ∙ (ap (λ z. one.adds.begins.more ++ z) l.is ∙ sym (append_assoc one.adds.begins.more l.after (entry front (let_of tenant) ∷ point))))
+                ∙ sym (append_assoc two.adds.begins.more (one.adds.begins.more ++ l.after) (entry front (let_of tenant) ∷ point)));
+          };
+          station_is = place;
+          tag_is = tag_there;
+          pc_is = pc_there;
+          first_asked = one.events;
+          second_asked = two.events;
+          asks_first = one.asks;
+          asks_second = two.asks;
+          adds = adds_on P C front old mid end (one.events ++ let_of tenant ∷ []) two.events (adds_on P C front old new mid (let_of tenant ∷ []) one.events adds one.adds) two.adds;
+        };
+        instr = x.is;
+      }

@@ -175,11 +175,12 @@ pub record IsSplit (notes : List Note) (older : List Record) (x : Record) (young
   pub is : notes ≡ before ++ one ∷ after
   pub what : one.what ≡ x
   pub rest : whats after ≡ younger
+  pub prior : whats before ≡ older
 
 pub split_whats : (notes : List Note) (older : List Record) (x : Record) (younger : List Record) → whats notes ≡ older ++ x ∷ younger → IsSplit notes older x younger
 split_whats [] [] x younger e = absurd (cc e)
 split_whats [] (y ∷ older) x younger e = absurd (cc e)
-split_whats (n ∷ notes) [] x younger e = record { before = []; one = n; after = notes; is = refl; what = head_of n.what x (whats notes) younger e; rest = tail_of n.what x (whats notes) younger e }
+split_whats (n ∷ notes) [] x younger e = record { before = []; one = n; after = notes; is = refl; what = head_of n.what x (whats notes) younger e; rest = tail_of n.what x (whats notes) younger e; prior = refl }
   where
     head_of : (a b : Record) (xs ys : List Record) → a ∷ xs ≡ b ∷ ys → a ≡ b
     head_of a b xs ys e = cc e
@@ -188,8 +189,11 @@ split_whats (n ∷ notes) [] x younger e = record { before = []; one = n; after 
     tail_of a b xs ys e = cc e
 split_whats (n ∷ notes) (y ∷ older) x younger e =
     let s = split_whats notes older x younger (tail_of n.what y (whats notes) (older ++ x ∷ younger) e) in
-    record { before = n ∷ s.before; one = s.one; after = s.after; is = ap (λ z. n ∷ z) s.is; what = s.what; rest = s.rest }
+    record { before = n ∷ s.before; one = s.one; after = s.after; is = ap (λ z. n ∷ z) s.is; what = s.what; rest = s.rest; prior = λ i. head_of n.what y (whats notes) (older ++ x ∷ younger) e i ∷ s.prior i }
   where
+    head_of : (a b : Record) (xs ys : List Record) → a ∷ xs ≡ b ∷ ys → a ≡ b
+    head_of a b xs ys e = cc e
+
     tail_of : (a b : Record) (xs ys : List Record) → a ∷ xs ≡ b ∷ ys → xs ≡ ys
     tail_of a b xs ys e = cc e
 
@@ -237,7 +241,7 @@ module _ (P : Program) (C : Sizes) (h : List Entry) (legal : IsLegal P C h) (rec
       subst (λ z. live_accesses P U ≤ z) (count_accesses k.notes ∙ ap accesses (sym k.are)) few
 
   module _ (older : List Record) (x : Record) (younger : List Record) (are : records ≡ older ++ x ∷ younger) where
-    s : IsSplit k.notes older x younger
+    pub s : IsSplit k.notes older x younger
     s = split_whats k.notes older x younger (sym k.are ∙ are)
 
     whole : trail P U.tenants ≡ (k.gone ++ s.before) ++ s.one ∷ s.after

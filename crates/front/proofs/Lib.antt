@@ -19,5 +19,11 @@ pub mod Supplies
 pub mod Trained
 pub mod Pending
 pub mod InQueue
+pub mod Crowded
+pub mod Questioned
 pub mod Dispatching
+pub mod Releasing
 pub mod Moments
+pub mod Looked
+pub mod Recovered
+pub mod FirstMiss

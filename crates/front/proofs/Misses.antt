@@ -94,10 +94,10 @@ module _ (P : Program) (C : Sizes) where
           };
         }
 
-    gone_miss : (n : Note) → IsGone U n → (x : ℕ) (t : Tenant) → at U.tenants n.at ≡ Some t → ¬ IsMissing x t
+    pub gone_miss : (n : Note) → IsGone U n → (x : ℕ) (t : Tenant) → at U.tenants n.at ≡ Some t → ¬ IsMissing x t
     gone_miss n g x t is m = gone_live (sym g.fact ∙ (ap (λ (z : Tenant). z.standing) (same_tenant g.tenant t (sym g.is ∙ is)) ∙ m.live))
 
-    named_miss : (n : Note) → IsNoted P U.tenants n → IsNoMiss U n.what → (x : ℕ) (t : Tenant) → at U.tenants n.at ≡ Some t → ¬ IsMissing x t
+    pub named_miss : (n : Note) → IsNoted P U.tenants n → IsNoMiss U n.what → (x : ℕ) (t : Tenant) → at U.tenants n.at ≡ Some t → ¬ IsMissing x t
     named_miss n i none x t is m =
         let one = same_tenant i.tenant t (sym i.is ∙ is) in
         none n.at x t is (ap (λ (z : Tenant). z.station) (sym one) ∙ ap (λ (z : Record). z.station) i.what) (ap (λ (z : Tenant). z.tag) (sym one) ∙ ap (λ (z : Record). z.tag) i.what) m

@@ -47,9 +47,12 @@ module _ (P : Program) (C : Sizes) (h : List Entry) (legal : IsLegal P C h) wher
     notes_noted = all_rest (IsNoted P U.tenants) k.gone k.notes (subst (AllByRecursion (IsNoted P U.tenants)) k.path (trail_noted P U.tenants))
 
     -- each stands at a station
-    pub small_stations : 0 < C.ring → AllByRecursion (λ x. x.station < C.ring) records
-    small_stations pos = subst (AllByRecursion (λ x. x.station < C.ring)) (sym k.are) (all_whats (λ x. x.station < C.ring) k.notes (go (length k.gone) k.notes (notes_placed P C U records base Again k stands_right)))
+    pub notes_small : 0 < C.ring → AllByRecursion (λ n. n.what.station < C.ring) k.notes
+    notes_small pos = go (length k.gone) k.notes (notes_placed P C U records base Again k stands_right)
       where
         go : (g : ℕ) (ns : List Note) → ArePlacedFrom C.ring g ns → AllByRecursion (λ n. n.what.station < C.ring) ns
         go g [] a = tt
         go g (n ∷ ns) a = (subst (λ z. z < C.ring) (sym a.0) (mod-lt g pos), go (suc g) ns a.1)
+
+    pub small_stations : 0 < C.ring → AllByRecursion (λ x. x.station < C.ring) records
+    small_stations pos = subst (AllByRecursion (λ x. x.station < C.ring)) (sym k.are) (all_whats (λ x. x.station < C.ring) k.notes (notes_small pos))

@@ -1,5 +1,5 @@
 -- The last tenants of stations, and whether all stations are in use.
-use Rattle.std.proofs.Common.{◌≡◌, ◌≢◌, ◌⊎◌, ℕ, suc, ◌+◌, ◌<◌, ◌≤◌, Bool, true, false, cond, eqb, eqb-true, ne_eqb, List, [], ◌∷◌, ◌++◌, length, Option, Some, None, refl, sym, ap, ◌∙◌, subst, inl, inr, ⊎_elim, arith, true≢false, eq-eqb}
+use Rattle.std.proofs.Common.{◌≡◌, ◌≢◌, ◌⊎◌, ℕ, suc, ◌+◌, ◌%◌, ◌<◌, ◌≤◌, Bool, true, false, cond, eqb, eqb-true, ne_eqb, List, [], ◌∷◌, ◌++◌, length, Option, Some, None, refl, sym, ap, ◌∙◌, subst, inl, inr, ⊎_elim, arith, true≢false, eq-eqb}
 use Rattle.std.proofs.lemmas.Bool.{cases_lt}
 use Rattle.std.specs.List.{AllByRecursion}
 use Rattle.isa.specs.Programs.{Program}
@@ -170,7 +170,7 @@ module _ (P : Program) (C : Sizes) (h : List Entry) (legal : IsLegal P C h) wher
         let whole : C.ring ≡ length (n ∷ ns) = omega (arith, full, k.room, ap (λ z. length z) e) in
         let placed : ArePlacedFrom C.ring (length k.gone) (n ∷ ns) = subst (ArePlacedFrom C.ring (length k.gone)) e (notes_placed P C U records base (IsReused U) k (stands_right P C h legal)) in
         let count : how_many on_path U.tenants ≡ length k.gone + length (n ∷ ns) = whole_length P C U records base (IsReused U) k ∙ ap (λ z. length k.gone + length z) e in
-        let next : n.what.station ≡ next_station C (recent U) = oldest_next C.ring (length k.gone) n ns placed whole ∙ ap (λ z. Rattle.std.proofs.Common.◌%◌ z C.ring) (sym count) in
+        let next : n.what.station ≡ next_station C (recent U) = oldest_next C.ring (length k.gone) n ns placed whole ∙ ap (λ z. z % C.ring) (sym count) in
         let place : noted.tenant.station ≡ next_station C (recent U) = ap (λ (z : Record). z.station) noted.what ∙ next in
         let last : last_of U.tenants (next_station C (recent U)) ≡ Some noted.tenant = last_here U.tenants n.at (next_station C (recent U)) noted.tenant noted.is place (λ q u lt is same. newest q u lt is (same ∙ sym next)) in
         let word : station_word C (recent U) (next_station C (recent U)) ≡ word_by (next_tag C (recent U)) noted.tenant.standing noted.tenant.tag noted.tenant.fate noted.tenant.made = ap (word_of (next_tag C (recent U))) last in

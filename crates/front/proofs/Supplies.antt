@@ -29,7 +29,7 @@ use Rattle.front.specs.Knows.{IsNewest, IsReady, whats}
 use Rattle.front.specs.Trail.{Note, is_link, record_of, trail}
 use Rattle.front.proofs.CreateVector.{Creates, Kept, Older, creates, creator_is}
 use Rattle.front.proofs.Lists.{all_two}
-use Rattle.front.proofs.Named.{notes_noted, stands_right}
+use Rattle.front.proofs.Named.{notes_noted, notes_small, stands_right}
 use Rattle.front.proofs.Places.{others_next}
 use Rattle.front.proofs.Trails.{IsNoted}
 
@@ -67,6 +67,7 @@ pub record IsGiver (P : Program) (C : Sizes) (U : UpdateUnit) (n : Note) : Type 
   pub noted : IsNoted P U.tenants n
   pub newest : IsNewest U n
   pub other : n.what.station ≢ next_station C (recent U)
+  pub small : n.what.station < C.ring
 
 module _ (P : Program) (C : Sizes) (h : List Entry) (legal : IsLegal P C h) (records : List Record) (base : List ℕ) (k : IsReady P C (unit_of P C h) records base) where
   abbrev U : UpdateUnit
@@ -78,7 +79,9 @@ module _ (P : Program) (C : Sizes) (h : List Entry) (legal : IsLegal P C h) (rec
       let noted = notes_noted P C h legal records base _ s in
       let others = others_next P C U records base _ s (stands_right P C h legal) k.free in
       let both = all_two (IsNoted P U.tenants) (IsNewest U) (λ n. IsNoted P U.tenants n × IsNewest U n) (λ n a b. (a, b)) s.notes noted s.newest in
-      all_two (λ n. IsNoted P U.tenants n × IsNewest U n) _ (IsGiver P C U) (λ n a b. record { noted = a.0; newest = a.1; other = b }) s.notes both others
+      let small = notes_small P C h legal records base _ s (omega (arith, k.free)) in
+      let apart = all_two (λ n. n.what.station ≢ next_station C (recent U)) (λ n. n.what.station < C.ring) (λ n. (n.what.station ≢ next_station C (recent U)) × (n.what.station < C.ring)) (λ n a b. (a, b)) s.notes others small in
+      all_two (λ n. IsNoted P U.tenants n × IsNewest U n) (λ n. (n.what.station ≢ next_station C (recent U)) × (n.what.station < C.ring)) (IsGiver P C U) (λ n a b. record { noted = a.0; newest = a.1; other = b.0; small = b.1 }) s.notes both apart
 
   -- a source of register r
   module _ (r : ℕ) (small : r < 32) where

@@ -10,6 +10,7 @@ ghost use Rattle.station.specs.Seats.{IsSame};
 
 use crate::fetch::Fetched;
 use crate::path::Path;
+use crate::queue::reaches_memory;
 use crate::record::Record;
 use crate::supply::supply;
 use inorder::history::Source;
@@ -27,8 +28,8 @@ fn new_record(next: &Fetched, tag: u32, predicted: u32) -> Record
         pc: next.pc,
         next: predicted,
         destination: next.instr.destination().number(),
-        links: kind == Kind::Links,
-        access: matches!(kind, Kind::Loads | Kind::Stores),
+        links: matches!(kind, Kind::Links),
+        access: reaches_memory(&next.instr),
         guessed: next.instr.fixed_next(next.pc).is_none(),
     }
 }

@@ -43,9 +43,9 @@ pub fn fetch(
 {
     let station = path.next_station(core.ring());
     let ahead = core.look(seat, station);
-    if ahead.state != StationState::Free {
+    let StationState::Free = ahead.state else {
         return Err(Turn::Full);
-    }
+    };
     let pc = path.front_pc();
     let Some(instr) = program.fetch(pc) else {
         return Err(Turn::NoInstr);

@@ -1,5 +1,7 @@
 //! Whether the queue takes one more load or store.
 ghost use Rattle.std.specs.Prelude.{◌≡◌, ◌≤◌, []};
+ghost use Rattle.isa.specs.Instruction.{kind};
+ghost use Rattle.inorder.specs.Tenants.{is_access};
 ghost use Rattle.inorder.specs.History.{Adds, IsLegal, front, unit_of};
 ghost use Rattle.front.specs.Knows.{Knows};
 ghost use Rattle.front.specs.Queues.{AccessBefore, QueueSays};
@@ -9,6 +11,13 @@ use crate::path::Path;
 use crate::record::{Record, Records};
 use isa::{Instr, Kind};
 use station::{Core, FrontSeat, StationState};
+
+/// A load or store.
+pub fn reaches_memory(instr: &Instr) -> bool
+    ensures { result ≡ is_access (kind instr.now.op) }
+{
+    matches!(instr.op().kind(), Kind::Loads | Kind::Stores)
+}
 
 // The load or store that has `younger` younger ones.
 fn access_before(records: &Records, younger: usize) -> Option<Record>
@@ -41,15 +50,19 @@ pub fn queue_is_full(core: &Core, seat: &mut FrontSeat, path: &Path, instr: &Ins
     ensures history { Adds core.now.program core.now.sizes front seat.old.seen seat.new.seen [] }
     ensures reply { QueueSays core.now.program core.now.sizes (unit_of core.now.program core.now.sizes seat.new.seen) instr.now result }
 {
-    if !matches!(instr.op().kind(), Kind::Loads | Kind::Stores) {
+    if !reaches_memory(instr) {
         return false;
     }
-    let Some(younger) = core.queue().checked_sub(1) else {
+    let queue = core.queue();
+    if queue == 0 {
         return true;
-    };
-    let Some(record) = access_before(&path.records, younger) else {
+    }
+    let Some(record) = access_before(&path.records, queue - 1) else {
         return false;
     };
     let seen = core.look(seat, record.station);
-    seen.state != StationState::Free
+    if let StationState::Free = seen.state {
+        return false;
+    }
+    true
 }

@@ -29,15 +29,16 @@ fn find_miss(core: &Core, seat: &mut FrontSeat, path: &Path) -> Option<Missed>
     ensures reply { Finds core.now.program core.now.sizes seat.old.seen seat.new.seen path.now.records result }
 {
     for at in 0..path.records.len() {
-        if let Some(record) = path.records.at(at) {
-            let seen = core.look(seat, record.station);
-            if seen.state == StationState::Miss {
-                return Some(Missed {
-                    at,
-                    station: record.station,
-                    next: seen.value,
-                });
-            }
+        let Some(record) = path.records.at(at) else {
+            continue;
+        };
+        let seen = core.look(seat, record.station);
+        if let StationState::Miss = seen.state {
+            return Some(Missed {
+                at,
+                station: record.station,
+                next: seen.value,
+            });
         }
     }
     None
@@ -55,6 +56,7 @@ fn squash_behind(core: &Core, seat: &mut FrontSeat, path: &mut Path, missed: Mis
     ensures knows { Knows core.now.program core.now.sizes (unit_of core.now.program core.now.sizes seat.new.seen) path.new.records path.new.base }
     ensures miss { IsMissAt core.now.program core.now.sizes seat.new.seen path.new.records missed }
     ensures last { length path.new.records ≡ missed.at + 1 }
+    ensures rest { path.new.records ≡ take (missed.at + 1) path.old.records }
 {
     let all = path.records.len();
     while path.records.len() > missed.at + 1 {
