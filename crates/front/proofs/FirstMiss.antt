@@ -1,11 +1,11 @@
 -- The miss that a scan finds first is the oldest.
-use Rattle.std.proofs.Common.{◌≡◌, ◌≢◌, ◌⊎◌, ℕ, zero, suc, ◌+◌, ◌<◌, ◌≤◌, List, [], ◌∷◌, ◌++◌, length, take, drop, Option, Some, None, refl, sym, ap, ◌∙◌, subst, ⊎_elim, arith, append_assoc}
-use Rattle.std.proofs.lemmas.List.{take-append-drop}
+use Rattle.std.proofs.Common.{◌≡◌, ◌≢◌, ◌⊎◌, ℕ, zero, suc, ◌+◌, ◌<◌, ◌≤◌, List, [], ◌∷◌, ◌++◌, length, map, take, drop, Option, Some, None, refl, sym, ap, ◌∙◌, subst, ⊎_elim, arith, append_assoc}
+use Rattle.std.proofs.lemmas.List.{append-nil, take-append-drop}
 use Rattle.std.specs.List.{AllByRecursion}
 use Rattle.std.specs.Prelude.{slice_get}
 use Rattle.isa.specs.Programs.{Program}
 use Rattle.inorder.specs.declared.history.Entry.{Entry}
-use Rattle.inorder.specs.History.{IsLegal, StartsWith, unit_of}
+use Rattle.inorder.specs.History.{Adds, IsLegal, StartsWith, front, unit_of}
 use Rattle.inorder.specs.Callers.{IsMissing}
 use Rattle.inorder.specs.Tenants.{Tenant, on_path, stands_on_path}
 use Rattle.inorder.specs.Unit.{Sizes, UpdateUnit, at}
@@ -13,7 +13,11 @@ use Rattle.ruu_words.specs.Kinds.{IsAny, IsTenant}
 use Rattle.ruu_words.proofs.Stays.{any_stays}
 use Rattle.front.specs.declared.record.Record.{Record}
 use Rattle.front.specs.Knows.{IsGone, IsReused, Knows, whats}
-use Rattle.front.specs.Recoveries.{IsFirst, IsNoMiss}
+use Rattle.front.specs.Recoveries.{IsCut, IsFirst, IsMissAt, IsNoMiss, squash_event}
+use Rattle.front.specs.declared.recovery.Missed.{Missed}
+use Rattle.station.specs.Recovery.{IsMended as IsMendedThere}
+use Rattle.station.proofs.Adding.{adds_on}
+use Rattle.front.proofs.Recovered.{Mended, mend_done}
 use Rattle.front.specs.Trail.{Note, record_of, trail}
 use Rattle.front.proofs.InQueue.{IsOrdered, IsSplit, drop_get, ordered, split_whats}
 use Rattle.front.proofs.Lists.{all_both, all_front, all_map, all_rest, all_two}
@@ -95,3 +99,14 @@ module _ (P : Program) (C : Sizes) (h : List Entry) (legal : IsLegal P C h) (rec
       let there : IsTenant (unit_of P C new) s.one.at one.station one.tag IsAny = subst (λ z. IsTenant (unit_of P C z) s.one.at one.station one.tag IsAny) (sym starts.is) still in
       let same : p ≡ s.one.at = one_named P C new new_legal p s.one.at named.tenant there.tenant named.is there.is (named.station_is ∙ sym there.station_is) (named.tag_is ∙ sym there.tag_is) in
       λ q x u lt is m. trail_all P NoMissBefore U.tenants none_before q u is (ap stands_on_path m.live) (subst (λ z. q < z) same lt) x u is m
+
+-- The whole recovery
+pub recovered : (P : Program) (C : Sizes) (begin mid old new : List Entry) → IsLegal P C begin → (records : List Record) (base : List ℕ) → Knows P C (unit_of P C begin) records base → (m : Missed) → AllByRecursion (IsNoMiss (unit_of P C begin)) (take m.at records) → Adds P C front begin mid []
+    → (kept : List Record) (kept_base : List ℕ) → kept ≡ take (m.at + 1) records → Knows P C (unit_of P C old) kept kept_base → IsMissAt P C old kept m → length kept ≡ m.at + 1 → (squashed : ℕ) → IsCut P C mid old squashed → IsMendedThere P C front m.station old new → Mended P C begin new kept kept_base m squashed
+recovered P C begin mid old new legal records base k m first adds kept kept_base rest k' i long squashed cut s =
+    let events = map squash_event cut.squashes in
+    let both : Adds P C front begin old events = subst (λ z. Adds P C front begin old z) (append-nil events) (adds_on P C front begin mid old [] events adds cut.adds) in
+    let here : slice_get records m.at ≡ Some i.one = sym (get_taken records m.at) ∙ (ap (λ z. slice_get z m.at) (sym rest) ∙ i.here) in
+    let t = i.miss.tenant in
+    let oldest = is_first P C begin legal records base k m.at i.one here first old both.legal both.begins i.miss.p (record { tenant = t.tenant; is = t.is; station_is = t.station_is; tag_is = t.tag_is; fact = tt }) in
+    mend_done P C begin old new kept kept_base k' m i long oldest squashed (record { squashes = cut.squashes; count = cut.count; adds = both }) s

@@ -23,7 +23,9 @@ pub mod Crowded
 pub mod Questioned
 pub mod Dispatching
 pub mod Releasing
+pub mod Turned
 pub mod Moments
 pub mod Looked
+pub mod Popping
 pub mod Recovered
 pub mod FirstMiss

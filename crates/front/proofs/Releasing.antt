@@ -106,7 +106,7 @@ module _ (P : Program) (C : Sizes) (h : List Entry) (legal : IsLegal P C h) wher
               ap (λ z. value_of U.tenants (position z)) (noted_as true f (k.gone ++ n ∷ []) ∙ (newest_both None k.gone (n ∷ []) (suc r) ∙ (ap (λ b. cond b (Some n) (newest_note None k.gone (suc r))) g ∙ sym (noted_as true f k.gone))))
               ∙ other ne
 
-    next_is : (n : Note) (ns : List Note) → k.notes ≡ n ∷ ns → C.ring ≤ length records → n.what.station ≡ next_station C (recent U)
+    pub next_is : (n : Note) (ns : List Note) → k.notes ≡ n ∷ ns → C.ring ≤ length records → n.what.station ≡ next_station C (recent U)
     next_is n ns e full =
         let long = notes_length P C U records base (IsReused U) k in
         let whole : C.ring ≡ length (n ∷ ns) = omega (arith, full, long, k.room, ap (λ z. length z) e) in

@@ -11,6 +11,8 @@ mod path;
 mod queue;
 mod record;
 mod recovery;
+#[cfg(test)]
+mod rows;
 mod supply;
 mod training;
 
