@@ -18,3 +18,4 @@ pub mod Start
 pub mod Idle
 pub mod BenchTurns
 pub mod Ends
+pub mod Accesses
