@@ -18,4 +18,3 @@ pub mod Start
 pub mod Idle
 pub mod BenchTurns
 pub mod Ends
-pub mod Accesses

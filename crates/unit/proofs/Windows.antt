@@ -45,7 +45,7 @@ window_length P (t ∷ ts) = go (is_live t) refl (window_length P ts)
 
 -- Live accesses are counted in the window
 
-pub accesses_left : (xs zs : List Station) (k : ℕ) → k ≤ length xs → accesses (xs ++ zs) k ≡ accesses xs k
+accesses_left : (xs zs : List Station) (k : ℕ) → k ≤ length xs → accesses (xs ++ zs) k ≡ accesses xs k
 accesses_left xs zs zero h = refl
 accesses_left xs zs (suc k) h =
     let less : k < length xs = omega arith in

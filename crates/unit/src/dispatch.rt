@@ -50,35 +50,25 @@ fn new_station(next: Fetched, predicted: u32) -> Station
 }
 
 // 1 for a tenant that reaches memory, else 0.
-fn access_at(stations: &[Station], i: usize) -> usize
-    ensures value { result ≡ access_at_of (slice_get stations.now i) }
+fn access_at(window: &Window, i: usize) -> usize
+    ensures value { result ≡ access_at_of (slice_get window.now i) }
     ensures small { result ≤ 1 }
 {
-    match stations.get(i) {
+    match window.peek(i) {
         Some(station) if is_access(station.instr.op()) => 1,
         _ => 0,
     }
-}
-
-// How many of these tenants reach memory.
-fn accesses_in(stations: &[Station]) -> usize
-    ensures value { result ≡ accesses_of stations.now (length stations.now) }
-    ensures small { result ≤ length stations.now }
-{
-    let mut count = 0;
-    for i in 0..stations.len() {
-        count += access_at(stations, i);
-    }
-    count
 }
 
 // How many live tenants reach memory.
 fn accesses(window: &Window) -> usize
     ensures { result ≡ accesses_of window.now (length window.now) }
 {
-    let (front, back) = window.parts();
-    let older = accesses_in(front);
-    older + accesses_in(back)
+    let mut count = 0;
+    for i in 0..window.len() {
+        count += access_at(window, i);
+    }
+    count
 }
 
 // A number modulo the ring size, which is a power of two: a mask for each size.
