@@ -51,13 +51,6 @@ impl Window {
         self.stations.get(i)
     }
 
-    /// All stations in two runs, the oldest first.
-    pub fn parts(&self) -> (&[Station], &[Station])
-        ensures { result.0.now ++ result.1.now ≡ self.now }
-    {
-        self.stations.as_slices()
-    }
-
     pub fn put(&mut self, i: usize, station: Station)
         requires { i < length self.old }
         ensures { self.new ≡ slice_set self.old i station }
