@@ -27,3 +27,6 @@ pub use inorder::history::Source;
 pub use laws::{jobs_stay, mays_stay};
 pub use ruu_words::StationState;
 pub use seat::{BackSeat, FrontSeat, Part, SeatOf, UnitSeat};
+
+#[cfg(test)]
+mod tests;
