@@ -59,7 +59,7 @@ fn a_station_is_let_again_under_an_old_job(rt: HostRuntime) -> Result<(), Fail> 
     assert_eq!(rt; front.turn(&core), let_at(1, 1, 0x0040_0004));
     assert_eq!(rt; front.turn(&core), let_at(2, 1, 0x0040_0008));
     let Claim::Job(job) = core.claim(&mut one, 1) else {
-        return Err(Fail);
+        panic!(rt; "no job");
     };
     let branch = finish_one(&core, &program, &mut other, 0);
     assert_eq!(rt; branch, Some((Outcome::Next(0x0040_0008), FINISHED)));
@@ -88,7 +88,7 @@ fn a_link_dies_with_its_tenant(rt: HostRuntime) -> Result<(), Fail> {
     assert_eq!(rt; front.turn(&core), let_at(2, 1, 0x0040_0008));
     assert_eq!(rt; front.turn(&core), let_at(3, 1, 0x0040_000c));
     let Claim::Job(job) = core.claim(&mut one, 0) else {
-        return Err(Fail);
+        panic!(rt; "no job");
     };
     let branch = finish_one(&core, &program, &mut other, 2);
     assert_eq!(rt; branch, Some((Outcome::Next(0x0040_0010), FINISHED)));
@@ -103,7 +103,7 @@ fn a_link_dies_with_its_tenant(rt: HostRuntime) -> Result<(), Fail> {
     let three = finish_one(&core, &program, &mut other, 1);
     assert_eq!(rt; three, Some((Outcome::Value(3), FINISHED)));
     let Claim::Job(last) = core.claim(&mut other, 3) else {
-        return Err(Fail);
+        panic!(rt; "no job");
     };
     assert_eq!(rt; (last.a, last.b), (3, 3));
     let instr = program.instr(last.index as usize);
@@ -151,6 +151,7 @@ fn a_full_ring_waits_for_a_retirement(rt: HostRuntime) -> Result<(), Fail> {
 }
 
 // Answers 1, whatever it is asked.
+#[derive(Drop)]
 struct One;
 
 impl Predictor for One {
