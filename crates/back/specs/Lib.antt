@@ -1,0 +1,6 @@
+pub mod Backs
+pub mod Kept
+pub mod Commits
+pub mod Loads
+pub mod Refreshes
+pub mod Ends
