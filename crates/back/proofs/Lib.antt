@@ -1,0 +1,9 @@
+pub mod OwnEntries
+pub mod Committing
+pub mod UnitKept
+pub mod Retiring
+pub mod Starting
+pub mod SeatKept
+pub mod Calls
+pub mod Ranks
+pub mod RuleOver

@@ -20,6 +20,10 @@ pub record TheBack : Type 0 where
   pub ended : Option Stop
   pub shown : Snap
 
+abbrev pub back_of : Caller → Option Stop → Snap → TheBack
+back_of seat ended shown =
+    record { core = seat.core; by = seat.by; seen = seat.seen; ended = ended; shown = shown }
+
 -- The unit of what a caller has seen
 abbrev pub unit_in : TheCore → List Entry → UpdateUnit
 unit_in core seen = unit_of core.program core.sizes seen

@@ -1,5 +1,5 @@
 -- What a back keeps between its calls.
-use Rattle.std.specs.Prelude.{◌≡◌, ◌≤◌, ℕ, length, Option, Some, None}
+use Rattle.std.specs.Prelude.{◌≡◌, ◌≤◌, ℕ, Option, Some, None}
 use Rattle.isa.specs.Programs.{Program, instr_at}
 use Rattle.isa.specs.declared.stop.Stop.{Stop}
 use Rattle.isa.specs.declared.stop.Stop.TheVariants.{BadPc}
@@ -27,7 +27,6 @@ EndIs P U (Some code) = HasStopped P U code
 -- The unit that it has seen, and its fields
 pub record KeepsUnit (P : Program) (C : Sizes) (U : UpdateUnit) (state : State) (head : ℕ) (ended : Option Stop) : Type 0 where
   pub state_is : state ≡ committed P U.tenants
-  pub size : length state.memory ≡ length P.bytes
   pub head_is : head ≡ head_station C U
   pub end_is : EndIs P U ended
 

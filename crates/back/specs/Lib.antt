@@ -1,6 +1,7 @@
 pub mod Backs
 pub mod Kept
 pub mod Commits
+pub mod Retirement
 pub mod Loads
 pub mod Refreshes
 pub mod Ends

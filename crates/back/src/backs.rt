@@ -25,12 +25,12 @@ pub struct Back<J: Naming> {
 }
 
 impl<J: Naming> Model for Back<J> {
-    ghost use Rattle.back.specs.Backs.{TheBack};
+    ghost use Rattle.back.specs.Backs.{TheBack, back_of};
     ghost use Rattle.back.specs.Kept.{IsKept};
 
     ghost Value = { TheBack };
 
-    ghost view = { λ b. record { core = b.seat.core; by = b.seat.by; seen = b.seat.seen; ended = b.ended; shown = b.publisher } };
+    ghost view = { λ b. back_of b.seat b.ended b.publisher };
 
     ghost invariant = { λ b. IsKept J.program b.seat b.program b.committed b.head b.ended b.publisher };
 }
@@ -73,7 +73,7 @@ impl<J: Naming> Back<J> {
         match parts::<J>(alloc, program, config) {
             Ok((program, committed, publisher, snapper)) => {
                 let mut seat = seat;
-                core.look(&mut seat, 0);
+                core.look(&mut seat, core.ring() - 1);
                 let back = Back {
                     seat,
                     program,

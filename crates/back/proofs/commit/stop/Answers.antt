@@ -1,0 +1,9 @@
+use Rattle.back.proofs.OwnEntries.{cancel}
+use Rattle.back.proofs.Committing.{committed_as}
+use Rattle.back.proofs.UnitKept.{adds_keeps}
+use Rattle.back.proofs.Retiring.{still_stays}
+use Rattle.back.proofs.Starting.{starts}
+use Rattle.back.proofs.SeatKept.{kept_by}
+use Rattle.back.proofs.Calls.{is_same}
+use Rattle.back.proofs.Ranks.{same_rank}
+use Rattle.back.proofs.RuleOver.{whole_place}
