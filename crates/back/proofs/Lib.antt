@@ -7,3 +7,7 @@ pub mod SeatKept
 pub mod Calls
 pub mod Ranks
 pub mod RuleOver
+pub mod PortRule
+pub mod PortStays
+pub mod Seeing
+pub mod Searching

@@ -1,5 +1,5 @@
 -- Where the live tenants of a ring stand: one behind the other, from the oldest one on.
-use Rattle.std.proofs.Common.{◌≡◌, ◌≢◌, ◌⊎◌, ℕ, suc, ◌+◌, ◌%◌, ◌<◌, ◌≤◌, Bool, true, false, cond, eqb, eqb-true, eq-eqb, ◌-◌, List, [], ◌∷◌, ◌++◌, length, Some, refl, sym, ap, ◌∙◌, subst, inl, inr, ⊎_elim, elim, arith}
+use Rattle.std.proofs.Common.{◌≡◌, ◌≢◌, ◌⊎◌, ℕ, suc, ◌+◌, ◌%◌, ◌<◌, ◌≤◌, Bool, true, false, cond, eqb, eqb-true, eq-eqb, ◌-◌, List, [], ◌∷◌, ◌++◌, length, Some, refl, sym, ap, ◌∙◌, subst, inl, inr, ⊎_elim, arith}
 use Rattle.std.proofs.lemmas.Bool.{cases_lt}
 use Rattle.std.proofs.Math.Nat.{add-mod_right, mod-add-mod, mod-lt, mod-eq_of_lt}
 use Rattle.isa.specs.Programs.{Program}
@@ -94,12 +94,12 @@ at_rank (t ∷ ts) j l = go t.standing refl (at_rank ts j)
     go Live e more = elim (cases_lt j (how_many is_live ts)) [
       | inl small ↦ deeper (more small)
       | inr large ↦ (let one = live_counts t ts e in record {
-          q = length ts;
-          tenant = t;
-          is = at_new t ts;
-          live = e;
-          rank_is = ap (how_many is_live) (older_here t ts (length ts) refl) ∙ omega (arith, l, large, one);
-        })
+        q = length ts;
+        tenant = t;
+        is = at_new t ts;
+        live = e;
+        rank_is = ap (how_many is_live) (older_here t ts (length ts) refl) ∙ omega (arith, l, large, one);
+      })
     ]
 
 -- on the path, one is retired or live
@@ -153,11 +153,11 @@ mod_high a n l h =
 pub same_rank : (h i k n : ℕ) → h < n → i < n → k < n → (h + i) % n ≡ (h + k) % n → i ≡ k
 same_rank h i k n lh li lk e = elim (cases_lt (h + i) n) [
   | inl small ↦ elim (cases_lt (h + k) n) [
-      | inl small' ↦ (let a = mod_low (h + i) n small in let b = mod_low (h + k) n small' in omega (arith, a, b, e))
-      | inr large' ↦ (let a = mod_low (h + i) n small in let b = mod_high (h + k) n large' (omega (arith, lh, lk)) in omega (arith, a, b, e, lk, lh, li))
-    ]
+    | inl small' ↦ (let a = mod_low (h + i) n small in let b = mod_low (h + k) n small' in omega (arith, a, b, e))
+    | inr large' ↦ (let a = mod_low (h + i) n small in let b = mod_high (h + k) n large' (omega (arith, lh, lk)) in omega (arith, a, b, e, lk, lh, li))
+  ]
   | inr large ↦ elim (cases_lt (h + k) n) [
-      | inl small' ↦ (let a = mod_high (h + i) n large (omega (arith, lh, li)) in let b = mod_low (h + k) n small' in omega (arith, a, b, e, li, lh, lk))
-      | inr large' ↦ (let a = mod_high (h + i) n large (omega (arith, lh, li)) in let b = mod_high (h + k) n large' (omega (arith, lh, lk)) in omega (arith, a, b, e))
-    ]
+    | inl small' ↦ (let a = mod_high (h + i) n large (omega (arith, lh, li)) in let b = mod_low (h + k) n small' in omega (arith, a, b, e, li, lh, lk))
+    | inr large' ↦ (let a = mod_high (h + i) n large (omega (arith, lh, li)) in let b = mod_high (h + k) n large' (omega (arith, lh, lk)) in omega (arith, a, b, e))
+  ]
 ]

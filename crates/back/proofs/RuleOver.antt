@@ -1,5 +1,5 @@
 -- What the rule for loads says over the live loads and stores, by what is known of each.
-use Rattle.std.proofs.Common.{◌≡◌, ◌≢◌, ℕ, ◌+◌, ◌<◌, Bool, true, false, cond, List, [], ◌∷◌, ◌++◌, map, length, Option, Some, None, refl, sym, ap, ◌∙◌, subst, ⊎_elim, arith, append_assoc, length-map}
+use Rattle.std.proofs.Common.{◌≡◌, ℕ, suc, ◌<◌, Bool, true, false, cond, List, [], ◌∷◌, ◌++◌, map, length, Option, Some, None, refl, sym, ap, ◌∙◌, subst, ⊎_elim, arith, append_assoc}
 use Rattle.std.specs.Prelude.{slice_get}
 use Rattle.isa.specs.Instruction.{width}
 use Rattle.isa.specs.Programs.{Program}
@@ -21,8 +21,9 @@ use Rattle.inorder.proofs.QueueBytes.{get_end, get_front}
 use Rattle.inorder.proofs.QueuePlaces.{starts_of}
 use Rattle.inorder.proofs.Sound.{IsSound}
 
-abbrev Test : Type 0
-Test = Entry → Bool
+count : (xs : List (ℕ × Entry)) → length (map entry_in xs) ≡ length xs
+count [] = refl
+count (x ∷ xs) = ap suc (count xs)
 
 -- one tenant more
 pub grown : (P : Program) (T : Entry → Bool) (t : Tenant) (ts : List Tenant) → is_live_access P t ≡ true
@@ -30,7 +31,7 @@ pub grown : (P : Program) (T : Entry → Bool) (t : Tenant) (ts : List Tenant) �
 grown P T t ts b =
     ap (λ c. youngest T (map entry_in (live_accesses P ts ++ with_access c (length ts, entry_of P t)))) b
     ∙ (ap (youngest T) (map_end (live_accesses P ts) (length ts, entry_of P t))
-    ∙ youngest_from-snoc T (queue_of P ts) (entry_of P t) 0 (length (queue_of P ts)) refl)
+    ∙ youngest_from-snoc T (queue_of P ts) (entry_of P t) 0 (length (queue_of P ts)) (omega arith))
   where
     map_end : (xs : List (ℕ × Entry)) (y : ℕ × Entry) → map entry_in (xs ++ y ∷ []) ≡ map entry_in xs ++ entry_in y ∷ []
     map_end [] y = refl
@@ -86,7 +87,7 @@ found_in P T (t ∷ ts) q u is b e h = ⊎_elim
         let passes : T (entry_of P t) ≡ true = ap (λ x. T (entry_of P x)) et ∙ e in
         record {
           place = length (live_accesses P ts);
-          is = grown P T t ts c ∙ (λ i. or_older (cond (passes i) (Some (length-map entry_in (live_accesses P ts) i, entry_of P (et i))) None) (youngest T (queue_of P ts)));
+          is = grown P T t ts c ∙ (λ i. or_older (cond (passes i) (Some (count (live_accesses P ts) i, entry_of P (et i))) None) (youngest T (queue_of P ts)));
           there = ap (λ z. slice_get (live_accesses P ts ++ with_access z (length ts, entry_of P t)) (length (live_accesses P ts))) c
               ∙ (ap (λ es. slice_get es (length (live_accesses P ts))) (sym (no_more (live_accesses P ts ++ (length ts, entry_of P t) ∷ [])))
               ∙ (get_end (live_accesses P ts) (length ts, entry_of P t) [] ∙ (λ i. Some (sym eq i, entry_of P (et i)))));

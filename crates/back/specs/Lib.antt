@@ -3,5 +3,6 @@ pub mod Kept
 pub mod Commits
 pub mod Retirement
 pub mod Loads
+pub mod Port
 pub mod Refreshes
 pub mod Ends

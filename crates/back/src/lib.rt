@@ -7,6 +7,7 @@ mod backs;
 mod commit;
 mod committed;
 mod ends;
+mod port;
 mod refresh;
 mod seats;
 mod show;

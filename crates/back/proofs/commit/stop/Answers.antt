@@ -7,3 +7,7 @@ use Rattle.back.proofs.SeatKept.{kept_by}
 use Rattle.back.proofs.Calls.{is_same}
 use Rattle.back.proofs.Ranks.{same_rank}
 use Rattle.back.proofs.RuleOver.{whole_place}
+use Rattle.back.proofs.PortRule.{by_none}
+use Rattle.back.proofs.PortStays.{met_lasts}
+use Rattle.back.proofs.Seeing.{sees_entry}
+use Rattle.back.proofs.Searching.{found_stays}
