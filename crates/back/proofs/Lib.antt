@@ -11,3 +11,4 @@ pub mod PortRule
 pub mod PortStays
 pub mod Seeing
 pub mod Searching
+pub mod Answering

@@ -216,7 +216,7 @@ module _ (P : Program) (C : Sizes) (U : UpdateUnit) (ok : IsSound P U.tenants) (
     pub x : Older s
     x = older_at s h.bound
 
-    met : IsMet P a w e x.tenant
+    pub met : IsMet P a w e x.tenant
     met = h.it x.q x.tenant (let lt = x.before_it in omega (arith, lt, below)) x.is x.alive x.station
 
     known : youngest lacks_address (queue_of P before) ≡ None

@@ -1,7 +1,7 @@
 -- What the rule says of one store and a load, and the search among the older stores.
 use Rattle.std.proofs.Common.{◌≡◌, ◌⊎◌, ℕ, ◌+◌, ◌<◌, ◌≤◌, Bool, true, false, cond, ◌&&◌, List, [], ◌∷◌, length, Option, Some, None, refl, sym, ap, ◌∙◌, subst, inl, inr, ⊎_elim, arith, true≢false}
 use Rattle.std.proofs.lemmas.Bool.{cases_lt}
-use Rattle.std.specs.Prelude.{is_none}
+use Rattle.std.specs.Prelude.{is_none, is_some, not}
 use Rattle.isa.specs.Instruction.{width}
 use Rattle.isa.specs.Programs.{Program}
 use Rattle.isa.specs.declared.op.Kind.{Kind}
@@ -174,6 +174,17 @@ met_says e l content st b ad over =
     lacking : lacks_address e ≡ false
     lacking = ap (λ o. e.store && is_none o) ad ∙ and_false e.store
 
+-- nothing blocks: it is passed
+passes : (b c : Bool) (raw : Option ℕ) → raw ≡ None → ((i : ℕ) → answer_of b c raw ≡ Blocked i → ⊥) → answer_of b c raw ≡ Memory
+passes true c raw e n = absurd (n 0 refl)
+passes false true raw e n = absurd (n 0 (ap (forwarded 0) e))
+passes false false raw e n = refl
+
+pub memory_else : (e : QueueEntry) (l : Load) → e.content ≡ None → ((i : ℕ) → answer (e ∷ load_entry l ∷ []) 1 ≡ Blocked i → ⊥) → answer (e ∷ load_entry l ∷ []) 1 ≡ Memory
+memory_else e l c n =
+    let none = ap (λ d. taken_from e.address (bytes e.width) d l.address (width l.op)) c ∙ none_taken e.address (bytes e.width) l.address (width l.op) in
+    one_is e l ∙ passes (lacks_address e) (overlaps l.address (width l.op) e) (taken_from e.address (bytes e.width) e.content l.address (width l.op)) none (λ i h. n i (one_is e l ∙ h))
+
 -- The search
 
 pub fewer : (U : UpdateUnit) (n m station : ℕ) (Fact : Tenant → Type 0) → n ≤ m → AtStation U m station Fact → AtStation U n station Fact
@@ -239,3 +250,47 @@ module _ (P : Program) (C : Sizes) (old new : List Entry) (added : Adds P C back
     younger = λ j more lt. station_stays P C old new added n (behind head ring j) (IsPassed P a w) (passed_lasts P a w) few (h.younger j more lt);
     it = station_stays P C old new added n (behind head ring f.0) (IsMet P a w f.1) (met_lasts P a w f.1) few h.it;
   }
+
+-- one store further
+module _ (P : Program) (C : Sizes) (old mid new : List Entry) (before : Adds P C back old mid []) (added : Adds P C back mid new []) (head ring k k' place : ℕ) (l : Load) (next : k' ≡ k + 1) (small : k' ≤ place)
+    (e : QueueEntry) (shows : AtStation (unit_of P C new) (length (unit_of P C mid).tenants) (behind head ring k) (IsEntryOf P e)) where
+  abbrev n : ℕ
+  n = length (unit_of P C old).tenants
+
+  few : n ≤ length (unit_of P C mid).tenants
+  few = length_grows P C old mid before
+
+  abbrev Found_at : ℕ → List Entry → Option (ℕ × QueueEntry) → Type 0
+  Found_at x h o = HasFound P (unit_of P C h) n head ring x place l.address (width l.op) o
+
+  stayed : (o : Option (ℕ × QueueEntry)) → Found_at k' mid o → Found_at k' new o
+  stayed o h = found_stays P C mid new added n head ring k' place l.address (width l.op) few o h
+
+  -- of the tenant at the station
+  at_k : (Fact : Tenant → Type 0) → ((u : Tenant) → IsEntryOf P e u → Fact u) → AtStation (unit_of P C new) n (behind head ring k) Fact
+  at_k Fact f = weaker (unit_of P C new) n (behind head ring k) (IsEntryOf P e) Fact f (fewer (unit_of P C new) n (length (unit_of P C mid).tenants) (behind head ring k) (IsEntryOf P e) few shows)
+
+  below : k < place
+  below = omega (arith, next, small)
+
+  pub step_unknown : (o : Option (ℕ × QueueEntry)) → Found_at k' mid o → (i : ℕ) → answer (e ∷ load_entry l ∷ []) 1 ≡ Blocked i → e.address ≡ None → HasUnknown P (unit_of P C new) n head ring place k
+  step_unknown o h i ans none = unknown P (unit_of P C new) n head ring k k' place l.address (width l.op) next o below (stayed o h) (at_k (Lacks P) (λ u x. lacks_of e l P u x i ans none))
+
+  pub step_met : Found_at k' mid None → (i b : ℕ) → answer (e ∷ load_entry l ∷ []) 1 ≡ Blocked i → e.address ≡ Some b → HasMet P (unit_of P C new) n head ring k place l.address (width l.op) k e
+  step_met h i b ans ad = first_met P (unit_of P C new) n head ring k k' place l.address (width l.op) next e below (stayed None h) (at_k (IsMet P l.address (width l.op) e) (λ u x. met_of e l P u x i b ans ad))
+
+  pub step_known : (f : ℕ × QueueEntry) → Found_at k' mid (Some f) → (b : ℕ) → e.address ≡ Some b → Found_at k new (Some f)
+  step_known f h b ad = some_more P (unit_of P C new) n head ring k k' place l.address (width l.op) next f.0 f.1 (stayed (Some f) h) (at_k (IsKnown P) (λ u x. known_of e l P u x b ad))
+
+  pub step_memory : (o : Option (ℕ × QueueEntry)) → Found_at k' mid o → ((u : Tenant) → IsEntryOf P e u → IsPassed P l.address (width l.op) u) → Found_at k new o
+  step_memory None h f = none_more P (unit_of P C new) n head ring k k' place l.address (width l.op) next (stayed None h) (at_k (IsPassed P l.address (width l.op)) f)
+  step_memory (Some x) h f = some_more P (unit_of P C new) n head ring k k' place l.address (width l.op) next x.0 x.1 (stayed (Some x) h) (at_k (IsKnown P) (λ u i. (f u i).known))
+
+-- options
+pub is_nothing : {X : Type 0} → (o : Option X) (b : Bool) → is_some o ≡ not b → b ≡ true → o ≡ None
+is_nothing None b e f = refl
+is_nothing (Some x) b e f = absurd (true≢false (e ∙ ap not f))
+
+pub is_something : {X : Type 0} → (o : Option X) (b : Bool) → is_some o ≡ not b → b ≡ false → (x : X) × (o ≡ Some x)
+is_something None b e f = absurd (true≢false (sym (e ∙ ap not f)))
+is_something (Some x) b e f = (x, refl)

@@ -23,6 +23,7 @@ use Rattle.ruu_words.specs.Kinds.{IsTenant}
 use Rattle.ruu_words.specs.States.{state_code}
 use Rattle.ruu_words.proofs.Stays.{tenant_stays}
 use Rattle.station.specs.Looking.{Shows}
+use Rattle.station.specs.Seats.{Caller, IsSame}
 use Rattle.station.proofs.Adding.{adds_on}
 use Rattle.back.specs.Port.{AtStation, IsEntryOf, address_in, address_of, seen_as}
 use Rattle.back.proofs.OwnEntries.{added_legal}
@@ -101,3 +102,6 @@ module _ (P : Program) (C : Sizes) (old mid new : List Entry) (a : Adds P C back
 -- two looks in a row
 pub two_looks : (P : Program) (C : Sizes) (by by' : ℕ) (old mid new : List Entry) → by' ≡ by → Adds P C by old mid [] → Adds P C by' mid new [] → Adds P C by old new []
 two_looks P C by by' old mid new e a b = adds_on P C by old mid new [] [] a (subst (λ x. Adds P C x mid new []) e b)
+
+pub same_on : (u v x : Caller) → IsSame u v → IsSame v x → IsSame u x
+same_on u v x a b = record { core = b.core ∙ a.core; by = b.by ∙ a.by }

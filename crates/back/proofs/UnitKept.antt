@@ -133,7 +133,7 @@ IsQuiet (Marks m) = Unit {0}
 abbrev pub AreQuiet : List Entry → Type 0
 AreQuiet es = AllByRecursion (λ e. IsQuiet e.event) es
 
-not_retire : (s : Step) → IsNotBacks s → IsNoRetire s
+pub not_retire : (s : Step) → IsNotBacks s → IsNoRetire s
 not_retire (Let index predicted first second) b = tt
 not_retire (On p (Link k)) b = tt
 not_retire (On p (Deliver k)) b = tt

@@ -6,3 +6,4 @@ pub mod Loads
 pub mod Port
 pub mod Refreshes
 pub mod Ends
+pub mod Trials

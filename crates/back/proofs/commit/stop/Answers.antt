@@ -11,3 +11,4 @@ use Rattle.back.proofs.PortRule.{by_none}
 use Rattle.back.proofs.PortStays.{met_lasts}
 use Rattle.back.proofs.Seeing.{sees_entry}
 use Rattle.back.proofs.Searching.{found_stays}
+use Rattle.back.proofs.Answering.{shows_content}
