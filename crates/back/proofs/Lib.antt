@@ -12,3 +12,5 @@ pub mod PortStays
 pub mod Seeing
 pub mod Searching
 pub mod Answering
+pub mod Trying
+pub mod Settling

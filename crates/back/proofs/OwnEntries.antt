@@ -55,3 +55,25 @@ module _ (P : Program) (C : Sizes) (by : ℕ) (old new : List Entry) (events : L
 
   pub added_legal : IsLegal P C (a.begins.more ++ old)
   added_legal = subst (IsLegal P C) a.begins.is a.legal
+
+-- the last of a caller's entries in a list
+pub record EndsWith (by : ℕ) (es : List Entry) (e : Entry) : Type 0 where
+  pub later : List Entry
+  pub earlier : List Entry
+  pub is : es ≡ later ++ e ∷ earlier
+  pub not_own : own by earlier ≡ []
+
+pub split_last : (by : ℕ) (es xs : List Entry) (e : Entry) → own by es ≡ xs ++ e ∷ [] → EndsWith by es e
+split_last by [] [] e h = absurd (cc h)
+split_last by [] (x ∷ xs) e h = absurd (cc h)
+split_last by (y ∷ ys) [] e h = dite (ℕ_discrete y.by by)
+    (λ same. let z = heads y e (own by ys) [] (sym (own_first by y ys same) ∙ h) in
+    record { later = []; earlier = ys; is = ap (λ q. q ∷ ys) z.0; not_own = z.1 })
+    (λ other. let s = split_last by ys [] e (sym (own_skip by y ys other) ∙ h) in
+    record { later = y ∷ s.later; earlier = s.earlier; is = ap (λ q. y ∷ q) s.is; not_own = s.not_own })
+split_last by (y ∷ ys) (x ∷ xs) e h = dite (ℕ_discrete y.by by)
+    (λ same. let z = heads y x (own by ys) (xs ++ e ∷ []) (sym (own_first by y ys same) ∙ h) in
+    let s = split_last by ys xs e z.1 in
+    record { later = y ∷ s.later; earlier = s.earlier; is = ap (λ q. y ∷ q) s.is; not_own = s.not_own })
+    (λ other. let s = split_last by ys (x ∷ xs) e (sym (own_skip by y ys other) ∙ h) in
+    record { later = y ∷ s.later; earlier = s.earlier; is = ap (λ q. y ∷ q) s.is; not_own = s.not_own })

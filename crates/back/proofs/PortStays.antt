@@ -24,6 +24,7 @@ use Rattle.lsq.specs.LoadRule.{meets, overlaps}
 use Rattle.lsq.specs.Entries.{bytes}
 use Rattle.ruu_words.proofs.Stays.{back_stays}
 use Rattle.back.specs.Port.{AtStation, IsAsked, IsKnown, IsLoadOf, IsMet, IsPassed}
+use Rattle.back.specs.Trials.{IsShown}
 use Rattle.back.specs.declared.port.Load.{Load}
 use Rattle.back.proofs.OwnEntries.{added_legal, added_own}
 
@@ -161,6 +162,18 @@ module _ (P : Program) (C : Sizes) (old new : List Entry) (a : Adds P C back old
           }))
           (λ squashed. inr (record { tenant = m.tenant; is = m.is; fact = squashed }))
           (m.left.stays l.address it.fact.fate it.fact.load.live)
+
+  -- the same of what a station shows
+  pub shown_stays : (p station tag address : ℕ) → Has (unit_of P C old) p (IsShown station tag address) → Has (unit_of P C new) p (IsShown station tag address) ⊎ IsStale (unit_of P C new) p
+  shown_stays p station tag address q = to_new (λ U. Has U p (IsShown station tag address) ⊎ IsStale U p) (back_stays P C (λ U. Has U p (IsShown station tag address) ⊎ IsStale U p) step a.begins.more old legal none_own (inl q))
+    where
+      step : (U : UpdateUnit) (by : ℕ) (s : Step) → IsNotBacks s → Allowed P C U by s → IsSound P U.tenants → Has U p (IsShown station tag address) ⊎ IsStale U p → Has (applied P C U by s) p (IsShown station tag address) ⊎ IsStale (applied P C U by s) p
+      step U by s b al ok (inr gone) = inr (gone_stays P C U by s al p gone)
+      step U by s b al ok (inl it) =
+          let m = left_at P C U by s b al ok p it.tenant it.is in ⊎_elim
+          (λ live. inl (record { tenant = m.tenant; is = m.is; fact = record { live = live; station_is = m.left.station ∙ it.fact.station_is; tag_is = m.left.tag ∙ it.fact.tag_is; fate = m.left.fate address it.fact.fate } }))
+          (λ squashed. inr (record { tenant = m.tenant; is = m.is; fact = squashed }))
+          (m.left.stays address it.fact.fate it.fact.live)
 
 -- The facts of the port last
 

@@ -1,7 +1,7 @@
 -- What the rule says of one store and a load, and the search among the older stores.
 use Rattle.std.proofs.Common.{◌≡◌, ◌⊎◌, ℕ, ◌+◌, ◌<◌, ◌≤◌, Bool, true, false, cond, ◌&&◌, List, [], ◌∷◌, length, Option, Some, None, refl, sym, ap, ◌∙◌, subst, inl, inr, ⊎_elim, arith, true≢false}
 use Rattle.std.proofs.lemmas.Bool.{cases_lt}
-use Rattle.std.specs.Prelude.{is_none, is_some, not}
+use Rattle.std.specs.Prelude.{IfNone, IfSome, is_none, is_some, not}
 use Rattle.isa.specs.Instruction.{width}
 use Rattle.isa.specs.Programs.{Program}
 use Rattle.isa.specs.declared.op.Kind.{Kind}
@@ -294,3 +294,15 @@ is_nothing (Some x) b e f = absurd (true≢false (e ∙ ap not f))
 pub is_something : {X : Type 0} → (o : Option X) (b : Bool) → is_some o ≡ not b → b ≡ false → (x : X) × (o ≡ Some x)
 is_something None b e f = absurd (true≢false (sym (e ∙ ap not f)))
 is_something (Some x) b e f = (x, refl)
+
+pub some_of : {X : Type 0} → (o : Option X) → is_some o ≡ true → (x : X) × (o ≡ Some x)
+some_of None e = absurd (true≢false (sym e))
+some_of (Some x) e = (x, refl)
+
+pub if_none : {X : Type 0} → (o : Option X) (Q : Type 0) → (o ≡ None → Q) → IfNone o Q
+if_none None Q f = f refl
+if_none (Some x) Q f = tt
+
+pub if_some : {X : Type 0} → (o : Option X) (Q : X → Type 0) → ((x : X) → o ≡ Some x → Q x) → IfSome o Q
+if_some None Q f = tt
+if_some (Some x) Q f = f x refl

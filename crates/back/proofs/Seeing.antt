@@ -34,7 +34,7 @@ found t u e = cc e
 
 -- The address that a station shows is that of its live tenant
 
-by_code : (s : StationState) (v : ℕ) → address_in s v ≡ cond (eqb (state_code s) 3) (Some v) None
+pub by_code : (s : StationState) (v : ℕ) → address_in s v ≡ cond (eqb (state_code s) 3) (Some v) None
 by_code Free v = refl
 by_code ShowsOpen v = refl
 by_code ShowsBusy v = refl

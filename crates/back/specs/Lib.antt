@@ -7,3 +7,4 @@ pub mod Port
 pub mod Refreshes
 pub mod Ends
 pub mod Trials
+pub mod Scans

@@ -233,7 +233,9 @@ fn waiting(core: &Core, seat: &mut BackSeat, program: &Program, station: usize) 
     ensures inside { IfSome result (λ l. l.address + width_in l.op ≤ length core.now.program.bytes) }
 {
     let seen = core.look(seat, station);
-    let address = address(seen.state, seen.value)?;
+    let Some(address) = address(seen.state, seen.value) else {
+        return None;
+    };
     let (index, _) = core.info(seat, station);
     load_at(program, index as usize, seen.tag, address)
 }

@@ -12,3 +12,5 @@ use Rattle.back.proofs.PortStays.{met_lasts}
 use Rattle.back.proofs.Seeing.{sees_entry}
 use Rattle.back.proofs.Searching.{found_stays}
 use Rattle.back.proofs.Answering.{shows_content}
+use Rattle.back.proofs.Trying.{no_other}
+use Rattle.back.proofs.Settling.{may_settle}

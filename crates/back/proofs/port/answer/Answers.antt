@@ -33,7 +33,7 @@ returns-in_default-clause-ok c p asked =
     let r = none_answers d.program d.sizes old.seen new.seen a c.args.head c.args.at c.requires.head_is c.requires.head c.requires.at p l asked found in
     let memory : (committed d.program (unit_in d new.seen).tenants).memory ≡ c.args.committed.now.memory = ap (λ (s : State). s.memory) (committed_same d.program d.sizes old.seen new.seen a ∙ sym c.requires.state) in
     let read : little_endian (slice_index (committed d.program (unit_in d new.seen).tenants).memory) l.address (width l.op) ≡ c.number_at-raw.result =
-        (λ i. little_endian (slice_index (memory i)) l.address (sym c.width.ensures.value i)) ∙ sym c.number_at-raw.ensures in
+    (λ i. little_endian (slice_index (memory i)) l.address (sym c.width.ensures.value i)) ∙ sym c.number_at-raw.ensures in
     subst (λ v. CanLoad d.program (unit_in d new.seen) p l.address v ⊎ IsStale (unit_in d new.seen) p) (ap (loaded l.op) read ∙ sym c.loaded.ensures) r
 
 pub returns-in-Forward-clause-history : goal.returns-in-Forward-clause-history
