@@ -14,3 +14,4 @@ pub mod Searching
 pub mod Answering
 pub mod Trying
 pub mod Settling
+pub mod Scanning

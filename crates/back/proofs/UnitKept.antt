@@ -1,5 +1,5 @@
 -- What a back keeps stays true under every step that is no retirement.
-use Rattle.std.proofs.Common.{◌≡◌, ◌≢◌, ◌⊎◌, ℕ, ◌%◌, List, [], ◌∷◌, ◌++◌, map, length, Option, Some, None, refl, sym, ap, ◌∙◌, subst, ⊎_elim, arith}
+use Rattle.std.proofs.Common.{◌≡◌, ◌≢◌, ◌⊎◌, ℕ, ◌%◌, List, [], ◌∷◌, ◌++◌, map, length, Option, Some, None, refl, sym, ap, ◌∙◌, subst, ⊎_elim, append_assoc, arith}
 use Rattle.std.specs.List.{AllByRecursion}
 use mathlib.Core.Logic.{dite}
 use native.Mathlib.Decide.{ℕ_discrete}
@@ -27,7 +27,7 @@ use Rattle.inorder.proofs.Basics.{split_at}
 use Rattle.inorder.proofs.Commits.{by_others}
 use Rattle.inorder.proofs.Ends.{Acted, IsNotBacks, exact}
 use Rattle.inorder.proofs.Heads.{goes_on_stays, head_stays}
-use Rattle.inorder.proofs.Histories.{unit_sound}
+use Rattle.inorder.proofs.Histories.{legal_before, unit_sound}
 use Rattle.inorder.proofs.Kept.{parts}
 use Rattle.inorder.proofs.Moves.{IsActed, IsLeft, at_changed, came}
 use Rattle.inorder.proofs.Sound.{IsSound}
@@ -36,7 +36,8 @@ use Rattle.station.proofs.Seated.{how_many_same}
 use Rattle.back.specs.Commits.{IsRetiredStop}
 use Rattle.back.specs.Kept.{EndIs, HasStopped, KeepsUnit}
 use Rattle.back.specs.Kept.HasStopped.{ByStop, Nowhere}
-use Rattle.back.proofs.OwnEntries.{added_legal, added_own, own_first, own_skip}
+use Rattle.station.specs.Moments.{IsWithin}
+use Rattle.back.proofs.OwnEntries.{added_legal, added_own, cancel, own_first, own_skip}
 
 found : (t u : Tenant) → Some t ≡ Some u → t ≡ u
 found t u e = cc e
@@ -187,3 +188,51 @@ module _ (P : Program) (C : Sizes) where
         let legal = added_legal P C back old new events a in
         subst (λ h. KeepsUnit P C (unit_of P C h) state head ended) (sym a.begins.is)
         (quiet_keeps more old legal (all_quiet more old events legal (added_own P C back old new events a) quiet) k)
+
+-- the head at a moment of a call that retired nothing
+pub head_kept_on : (P : Program) (C : Sizes) (old new point : List Entry) (events : List Event) → Adds P C back old new events → AllByRecursion IsQuiet events → IsWithin old new point → head_station C (unit_of P C point) ≡ head_station C (unit_of P C old)
+head_kept_on P C old new point events a quiet w =
+    let more = a.begins.more in
+    let legal = added_legal P C back old new events a in
+    let all = all_quiet P C more old events legal (added_own P C back old new events a) quiet in
+    let late = w.before_return.more in
+    let early = w.behind_call.more in
+    let split : more ≡ late ++ early = cancel more (late ++ early) old (sym a.begins.is ∙ (w.before_return.is ∙ (ap (λ z. late ++ z) w.behind_call.is ∙ sym (append_assoc late early old)))) in
+    let early_quiet = second late early (subst AreQuiet split all) in
+    let point_legal = legal_before P C late point (subst (IsLegal P C) w.before_return.is a.legal) in
+    subst (λ h. head_station C (unit_of P C h) ≡ head_station C (unit_of P C old)) (sym w.behind_call.is) (go early (subst (IsLegal P C) w.behind_call.is point_legal) early_quiet)
+  where
+    second : (xs ys : List Entry) → AreQuiet (xs ++ ys) → AreQuiet ys
+    second [] ys h = h
+    second (x ∷ xs) ys h = second xs ys h.1
+
+    one : (h : List Entry) (e : Entry) → MayAdd P C h e.by e.event → IsQuiet e.event → head_station C (unit_of P C (e ∷ h)) ≡ head_station C (unit_of P C h)
+    one h e m q = kind e.event m q
+      where
+        kind : (x : Event) → MayAdd P C h e.by x → IsQuiet x → head_station C (unit_of P C (entry e.by x ∷ h)) ≡ head_station C (unit_of P C h)
+        kind (Does s) m q = head_kept P C (unit_of P C h) e.by s q m.1
+        kind (Refuses r) m q = refl
+        kind (Marks r) m q = refl
+
+    go : (es : List Entry) → IsLegal P C (es ++ old) → AreQuiet es → head_station C (unit_of P C (es ++ old)) ≡ head_station C (unit_of P C old)
+    go [] l q = refl
+    go (e ∷ es) l q = one (es ++ old) e l.1 q.0 ∙ go es l.0 q.1
+
+-- what was committed stays
+pub committed_kept : (P : Program) (C : Sizes) (old new : List Entry) (events : List Event) → Adds P C back old new events → AllByRecursion IsQuiet events → committed P (unit_of P C new).tenants ≡ committed P (unit_of P C old).tenants
+committed_kept P C old new events a quiet =
+    let more = a.begins.more in
+    let legal = added_legal P C back old new events a in
+    subst (λ h. committed P (unit_of P C h).tenants ≡ committed P (unit_of P C old).tenants) (sym a.begins.is) (go more legal (all_quiet P C more old events legal (added_own P C back old new events a) quiet))
+  where
+    one : (h : List Entry) (e : Entry) → IsLegal P C h → MayAdd P C h e.by e.event → IsQuiet e.event → committed P (unit_of P C (e ∷ h)).tenants ≡ committed P (unit_of P C h).tenants
+    one h e l m q = kind e.event m q
+      where
+        kind : (x : Event) → MayAdd P C h e.by x → IsQuiet x → committed P (unit_of P C (entry e.by x ∷ h)).tenants ≡ committed P (unit_of P C h).tenants
+        kind (Does s) m q = by_others P C (unit_of P C h) e.by s (unit_sound P C h l) q m.1
+        kind (Refuses r) m q = refl
+        kind (Marks r) m q = refl
+
+    go : (es : List Entry) → IsLegal P C (es ++ old) → AreQuiet es → committed P (unit_of P C (es ++ old)).tenants ≡ committed P (unit_of P C old).tenants
+    go [] l q = refl
+    go (e ∷ es) l q = one (es ++ old) e l.0 l.1 q.0 ∙ go es l.0 q.1

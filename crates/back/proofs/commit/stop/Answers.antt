@@ -14,3 +14,4 @@ use Rattle.back.proofs.Searching.{found_stays}
 use Rattle.back.proofs.Answering.{shows_content}
 use Rattle.back.proofs.Trying.{no_other}
 use Rattle.back.proofs.Settling.{may_settle}
+use Rattle.back.proofs.Scanning.{is_idle}

@@ -1,4 +1,4 @@
-use Rattle.std.proofs.Common.{◌≡◌, [], true≢false, sym, ap, ◌∙◌, subst, eqb-true, eq-eqb}
+use Rattle.std.proofs.Common.{◌≡◌, [], true≢false, sym, ap, ◌∙◌, subst, eq-eqb}
 use Rattle.std.specs.Prelude.{is_some}
 use Rattle.inorder.specs.History.{Adds}
 use Rattle.back.proofs.Searching.{some_of}
@@ -12,7 +12,7 @@ returns-then-seen-load-clause-still c shows p named asked =
     let a = subst (λ x. Adds d.program d.sizes x c.args.seat.now.seen c.look-seen.new.seat.seen []) c.requires.by c.look-seen.ensures.history in
     let there = some_of c.address.result (sym c.is_some.ensures ∙ shows) in
     still_there d.program d.sizes c.args.seat.now.seen c.look-seen.new.seat.seen a c.args.station seen.tag seen.state seen.value c.look-seen.ensures.reply c.args.load.now p named asked
-    (eqb-true seen.tag c.args.load.now.tag c.if-seen-load.true) there.0 (sym c.address.ensures ∙ there.1)
+    c.if-seen-load.true there.0 (sym c.address.ensures ∙ there.1)
 
 pub returns-then-seen-load-clause-gone : goal.returns-then-seen-load-clause-gone
 returns-then-seen-load-clause-gone c never p asked =
