@@ -236,6 +236,10 @@ pub head_fits : (head x ring r : ℕ) → head ≡ x % ring → r ≡ ring → 2
 head_fits head x ring r e f least most =
     let small : x % ring < ring = mod-lt x (omega (arith, f, least)) in omega (arith, e, f, most, small)
 
+pub head_small : (head x ring r : ℕ) → head ≡ x % ring → r ≡ ring → 2 ≤ r → head < r
+head_small head x ring r e f least =
+    let small : x % ring < ring = mod-lt x (omega (arith, f, least)) in omega (arith, e, f, small)
+
 -- the same, of what the fields are
 pub kept_as : (P : Program) (seat : Caller) (copy : Program) (state state' : State) (head ring ring' : ℕ) (ended ended' : Option Stop) (shown : Snap)
     → IsKept P seat copy state ((head + 1) % ring) ended shown → state ≡ state' → ring ≡ ring' → ended ≡ ended' → IsKept P seat copy state' ((head + 1) % ring') ended' shown

@@ -276,19 +276,19 @@ module _ (P : Program) (C : Sizes) (old new : List Entry) (head : ℕ) (head_is 
     older_waits_not o less h = elim (cases_lt (rank (unit_of P C old).tenants o) f.place) [
       | inl before ↦ f.before (rank (unit_of P C old).tenants o) before o (place_of o h)
       | inr behind_it ↦ record {
-          point = point;
-          within = f.when.within;
-          fact = λ w.
-              let u = since_at P C old point f.when.within.behind_call point_legal o h.tenant h.is in
-              let t = found u.tenant w.tenant (sym u.is ∙ w.is) in
-              let live_p = held.load.fact.load.live in
-              let its = stands_then o w.tenant w.is w.fact.load.live in
-              let same_st : w.tenant.station ≡ behind head C.ring (rank (unit_of P C old).tenants o) = ap (λ (z : Tenant). z.station) (sym t) ∙ (u.since.station ∙ station_is o h) in
-              let eq = same_rank head (rank U.tenants o) (rank (unit_of P C old).tenants o) C.ring inside (small_then o w.tenant w.is w.fact.load.live) (rank_in o h) (sym its ∙ same_st) in
-              let place_p = same_rank head (rank U.tenants f.p) f.place C.ring inside (small_then f.p held.load.tenant held.load.is live_p) f.bound (sym (stands_then f.p held.load.tenant held.load.is live_p) ∙ held.load.fact.station_is) in
-              let grows = rank_grows U.tenants o f.p w.tenant held.load.tenant w.is w.fact.load.live held.load.is less in
-              absurd (omega (arith, grows, place_p, eq, behind_it));
-        }
+        point = point;
+        within = f.when.within;
+        fact = λ w.
+            let u = since_at P C old point f.when.within.behind_call point_legal o h.tenant h.is in
+            let t = found u.tenant w.tenant (sym u.is ∙ w.is) in
+            let live_p = held.load.fact.load.live in
+            let its = stands_then o w.tenant w.is w.fact.load.live in
+            let same_st : w.tenant.station ≡ behind head C.ring (rank (unit_of P C old).tenants o) = ap (λ (z : Tenant). z.station) (sym t) ∙ (u.since.station ∙ station_is o h) in
+            let eq = same_rank head (rank U.tenants o) (rank (unit_of P C old).tenants o) C.ring inside (small_then o w.tenant w.is w.fact.load.live) (rank_in o h) (sym its ∙ same_st) in
+            let place_p = same_rank head (rank U.tenants f.p) f.place C.ring inside (small_then f.p held.load.tenant held.load.is live_p) f.bound (sym (stands_then f.p held.load.tenant held.load.is live_p) ∙ held.load.fact.station_is) in
+            let grows = rank_grows U.tenants o f.p w.tenant held.load.tenant w.is w.fact.load.live held.load.is less in
+            absurd (omega (arith, grows, place_p, eq, behind_it));
+      }
     ]
 
     pub is_blocked : HasFoundBlocked P C back old new load store

@@ -1,5 +1,5 @@
 //! The memory port: the loads from the oldest live tenant on.
-ghost use Rattle.std.specs.Prelude.{◌≡◌, ◌<◌};
+ghost use Rattle.std.specs.Prelude.{◌≡◌, ◌<◌, ◌≤◌};
 ghost use Rattle.inorder.specs.Callers.{head_station};
 ghost use Rattle.inorder.specs.Committed.{committed as committed_by};
 ghost use Rattle.inorder.specs.History.{IsLegal, back};
@@ -22,18 +22,20 @@ fn scan(
     program: &Program,
     committed: &Committed,
     head: usize,
+    ring: usize,
 ) -> Refresh
     requires core { seat.old.core ≡ core.now }
     requires by { seat.old.by ≡ back }
     requires legal { IsLegal core.now.program core.now.sizes seat.old.seen }
     requires program { program.now ≡ core.now.program }
-    requires head { head < core.now.sizes.ring }
+    requires ring { ring ≡ core.now.sizes.ring }
+    requires most { ring ≤ 32 }
+    requires head { head < ring }
     requires head_is { head ≡ head_station core.now.sizes (unit_in core.now seat.old.seen) }
     requires state { committed.now ≡ committed_by core.now.program (unit_in core.now seat.old.seen).tenants }
     ensures kept { IsSameSeat seat.old seat.new }
     ensures reply { RefreshAnswers core.now.program core.now.sizes seat.old.by seat.old.seen seat.new.seen result }
 {
-    let ring = core.ring();
     let mut blocked = None;
     for at in 0..ring {
         let station = (head + at) % ring;
@@ -68,12 +70,15 @@ impl<J: Naming> Back<J> {
         ensures kept { IsSame self.old self.new }
         ensures reply { RefreshAnswers core.now.program core.now.sizes self.old.by self.old.seen self.new.seen result }
     {
+        let ring = core.ring();
+        let head = self.head;
         scan(
             core,
             &mut self.seat,
             &self.program,
             &self.committed,
-            self.head,
+            head,
+            ring,
         )
     }
 }
