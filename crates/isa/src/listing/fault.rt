@@ -81,8 +81,8 @@ impl<T: Drop> From<AllocFailed<T>> for FaultKind {
     }
 }
 
-/// Why a listing was refused, and the line that has the fault, counted from 1. A listing that is too long as a whole,
-/// and want of memory, have line 0.
+/// Why a listing was refused, and the line that has the fault, counted from 1. A listing that is
+/// too long as a whole, and want of memory, have line 0.
 #[derive(Clone, Copy, Debug, PartialEq, Eq, Error)]
 #[error("line {line}: {kind}")]
 pub struct TextFault {
@@ -90,10 +90,10 @@ pub struct TextFault {
     pub kind: FaultKind,
 }
 
-impl<T: Drop> From<AllocFailed<T>> for TextFault {
+impl From<AllocError> for TextFault {
     ghost from_gives = { λ _ f. (f.line ≡ 0) × (f.kind ≡ Memory) };
 
-    fn from(_error: AllocFailed<T>) -> TextFault {
+    fn from(_error: AllocError) -> TextFault {
         TextFault {
             line: 0,
             kind: FaultKind::Memory,

@@ -5,10 +5,9 @@ ghost use Rattle.isa.specs.Held.{IsRead};
 
 use super::fault::FaultKind;
 use super::instruction::Draft;
-use super::labels::add_labels;
+use super::labels::{Labels, add_labels};
 use super::statement::statement;
 use crate::{Instr, Program};
-use std::collections::BTreeMap;
 use text::{before_comment, is_plain_text};
 
 /// What is to be resolved of an instruction: its label, if it has one, and the number of its line.
@@ -20,7 +19,7 @@ pub struct Target<'a> {
 
 /// Reads one line: its labels and its statement.
 pub fn read_line<'a>(
-    labels: &mut BTreeMap<&'a [u8], u32>,
+    labels: &mut Labels<'a>,
     code: &mut Vec<Instr>,
     targets: &mut Vec<Target<'a>>,
     memory: &mut Vec<u8>,
@@ -31,11 +30,13 @@ pub fn read_line<'a>(
     requires small_memory { length memory.old.items ≤ 65536 }
     ensures small_code { OnOk result (length code.new.items ≤ 16384) }
     ensures small_memory { OnOk result (length memory.new.items ≤ 65536) }
-    ensures aligned { OnOk result (length memory.old.items % 4 ≡ 0 → length memory.new.items % 4 ≡ 0) }
+    ensures aligned { OnOk result (length memory.old.items % 4 ≡ 0
+        → length memory.new.items % 4 ≡ 0) }
     ensures ok { OnOk result ((before : Lines) → length before + 1 ≡ number
         → IsRead before labels.old code.old.items targets.old.items memory.old.items
         → (fault_in before line.entry.now ≡ None)
-        × IsRead (before ++ line.entry.now ∷ []) labels.new code.new.items targets.new.items memory.new.items) }
+        × IsRead (before ++ line.entry.now ∷ []) labels.new code.new.items targets.new.items
+        memory.new.items) }
     ensures fault { IfErr result (λ e. e ≢ FaultKind.Memory → (before : Lines)
         → IsRead before labels.old code.old.items targets.old.items memory.old.items
         → fault_in before line.entry.now ≡ Some e) }
