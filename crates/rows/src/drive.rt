@@ -32,14 +32,17 @@ pub fn finish_one(core: &Core, program: &Program, seat: &mut UnitSeat, station: 
     requires station { station < core.now.sizes.ring }
     ensures kept { IsSame seat.old seat.new }
 {
-    match core.claim(seat, station) {
+    let finished = match core.claim(seat, station) {
         Claim::Job(job) => {
             let instr = program.instr(job.index as usize);
             let found = outcome(instr, job.pc, job.a, job.b, program.size());
-            core.finish(seat, job, found) == Finish::Finished
+            Some(core.finish(seat, job, found))
         }
-        Claim::NotOpen | Claim::Waiting { .. } | Claim::Moved { .. } => false,
-    }
+        Claim::NotOpen => None,
+        Claim::Waiting { tag: _, k: _ } => None,
+        Claim::Moved { tag: _ } => None,
+    };
+    finished == Some(Finish::Finished)
 }
 
 /// A commit, while the count can grow.

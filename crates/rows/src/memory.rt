@@ -75,7 +75,7 @@ fn load_behind_a_store<J: Naming, R: Wait + Abort>(
         (3, 0x0040_000c, Ending::Stop(Stop::Break))
     );
     assert_eq!(rt; (end.registers[1], end.registers[2]), (7, 7));
-    assert_eq!(rt; end.memory.as_slice(), &[7, 0, 0, 0]);
+    assert_eq!(rt; end.memory.as_slice(), [7, 0, 0, 0].as_slice());
     Ok(())
 }
 
