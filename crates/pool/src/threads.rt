@@ -1,0 +1,280 @@
+//! Starts the threads of a run, and joins them.
+ghost use Rattle.std.specs.Prelude.{◌≡◌, ◌+◌, ◌<◌, ◌≤◌, ◌^◌, IfOk};
+ghost use Rattle.isa.specs.Settings.{Settings};
+ghost use Rattle.pool.specs.Ledgers.{names_of};
+ghost use Rattle.pool.specs.Runs.{IsRight};
+
+use crate::answer::{Refusal, Run};
+use crate::book::{Blanks, Books, DispatchShare, Totals, UnitShare};
+use crate::commit::Committer;
+use crate::compute::work;
+use crate::dispatch::dispatch;
+use crate::floor::Floor;
+use crate::gate::Gate;
+use crate::watch::watch;
+use back::{Back, Naming, Snapper};
+use front::Front;
+use isa::{Config, Ending, Memory, Predictor, Program};
+use station::{Core, UnitSeat};
+use std::alloc::Global;
+use std::marker::Brand;
+use std::sync::Wait;
+use std::thread;
+use std::thread::{Scope, Threads};
+
+// Starts the units. Each has seen what the first seat has.
+fn start_units<'s, E: 's, K: Books + Send + Sync + 's, G: Gate + Sync + 's, R: Wait + Sync + 's>(
+    wait: &'s R,
+    scope: &Scope<'s, E>,
+    floor: &'s Floor<K>,
+    gate: &'s G,
+    units: u32,
+    seat: UnitSeat,
+    mut all: UnitShare<K>,
+) -> bool
+    requires core { seat.core ≡ floor.now.core }
+    requires program { floor.now.program ≡ floor.now.core.program }
+    requires units { units ≤ 64 }
+    requires parts { (all.claims.parts ≡ units) × (all.finishes.parts ≡ units) × (all.stale.parts ≡ units) }
+    requires fresh { (all.claims.amount ≡ 0) × (all.finishes.amount ≡ 0) × (all.stale.amount ≡ 0) }
+{
+    let mut rest = seat;
+    for unit in 0..units {
+        let mine = all.split_off();
+        let (own, others) = floor.core.split(rest);
+        rest = others;
+        let job = move ||
+            requires core { own.core ≡ floor.now.core }
+            requires program { floor.now.program ≡ floor.now.core.program }
+            requires unit { unit < 64 }
+            requires parts { (mine.claims.parts ≡ 1) × (mine.finishes.parts ≡ 1) × (mine.stale.parts ≡ 1) }
+        { work(wait, floor, gate, unit + 1, own, mine) };
+        if scope.spawn(job).is_err() {
+            return false;
+        }
+    }
+    true
+}
+
+// Starts the snapshot threads. A place that gives no snapper has none.
+fn start_snappers<'s, E: 's, J: Naming + Send + Sync + 's, K: Books + Send + Sync + 's, G: Gate + Sync + 's>(
+    scope: &Scope<'s, E>,
+    floor: &'s Floor<K>,
+    gate: &'s G,
+    places: u32,
+    mut first: Snapper<J>,
+) -> bool
+    requires { places ≤ 64 }
+{
+    for place in 1..places {
+        if let Ok(snapper) = first.another() {
+            let job = move ||
+                requires { place < 64 }
+            { watch(floor, gate, place + 1, snapper) };
+            if scope.spawn(job).is_err() {
+                return false;
+            }
+        }
+    }
+    scope.spawn(move || watch(floor, gate, 1, first)).is_ok()
+}
+
+// Starts all threads but the commit thread, which is the caller's own.
+fn start_all<
+    's,
+    E: 's,
+    J: Naming + Send + Sync + 's,
+    K: Books + Send + Sync + 's,
+    P: Predictor + Drop + Send + 's,
+    G: Gate + Sync + 's,
+    R: Wait + Sync + 's,
+>(
+    wait: &'s R,
+    scope: &Scope<'s, E>,
+    floor: &'s Floor<K>,
+    gate: &'s G,
+    config: Config,
+    front: Front<'s, P>,
+    seat: UnitSeat,
+    first: Snapper<J>,
+    dispatch_share: DispatchShare<K>,
+    unit_share: UnitShare<K>,
+) -> bool
+    requires front { front.core ≡ floor.now.core }
+    requires seat { seat.core ≡ floor.now.core }
+    requires program { floor.now.program ≡ floor.now.core.program }
+    requires parts { (unit_share.claims.parts ≡ config.units) × (unit_share.finishes.parts ≡ config.units) × (unit_share.stale.parts ≡ config.units) }
+    requires fresh { (unit_share.claims.amount ≡ 0) × (unit_share.finishes.amount ≡ 0) × (unit_share.stale.amount ≡ 0) }
+{
+    let job = move ||
+        requires { front.core ≡ floor.now.core }
+    { dispatch(wait, floor, front, dispatch_share) };
+    scope.spawn(job).is_ok()
+        && start_units(wait, scope, floor, gate, config.units(), seat, unit_share)
+        && start_snappers(scope, floor, gate, config.places(), first)
+}
+
+// Starts the threads, commits, and returns when each thread has ended.
+fn in_threads<
+    'x,
+    J: Naming + Send + Sync,
+    K: Books + Send + Sync,
+    P: Predictor + Drop + Send,
+    G: Gate + Sync,
+    R: Threads + Wait + Sync,
+>(
+    wait: &'x R,
+    floor: &'x Floor<K>,
+    gate: &'x G,
+    config: Config,
+    front: Front<'x, P>,
+    seat: UnitSeat,
+    first: Snapper<J>,
+    dispatch_share: DispatchShare<K>,
+    unit_share: UnitShare<K>,
+    committer: &'x mut Committer<J, K>,
+) -> Result<(), Refusal>
+    requires front { front.core ≡ floor.now.core }
+    requires seat { seat.core ≡ floor.now.core }
+    requires program { floor.now.program ≡ floor.now.core.program }
+    requires committer { committer.old ≡ floor.now.core }
+    requires parts { (unit_share.claims.parts ≡ config.units) × (unit_share.finishes.parts ≡ config.units) × (unit_share.stale.parts ≡ config.units) }
+    requires fresh { (unit_share.claims.amount ≡ 0) × (unit_share.finishes.amount ≡ 0) × (unit_share.stale.amount ≡ 0) }
+{
+    thread::scope(
+        thread::scope_env(),
+        wait,
+        move |scope| -> Result<(), Refusal>
+            requires front { front.core ≡ floor.now.core }
+            requires seat { seat.core ≡ floor.now.core }
+            requires program { floor.now.program ≡ floor.now.core.program }
+            requires committer { committer.now ≡ floor.now.core }
+            requires parts { (unit_share.claims.parts ≡ config.units) × (unit_share.finishes.parts ≡ config.units) × (unit_share.stale.parts ≡ config.units) }
+            requires fresh { (unit_share.claims.amount ≡ 0) × (unit_share.finishes.amount ≡ 0) × (unit_share.stale.amount ≡ 0) }
+        {
+            let started = start_all(
+                wait, scope, floor, gate, config, front, seat, first, dispatch_share, unit_share,
+            );
+            let result = if started {
+                committer.run(wait, floor, config.limit())
+            } else {
+                Ok(())
+            };
+            floor.close();
+            if !started {
+                Err(Refusal::Thread)
+            } else if result.is_err() {
+                Err(Refusal::Memory)
+            } else {
+                Ok(())
+            }
+        },
+    )
+}
+
+// A run that has its parts: how it ended.
+fn run_parts<
+    'x,
+    J: Naming + Send + Sync,
+    K: Books + Send + Sync,
+    P: Predictor + Drop + Send,
+    G: Gate + Sync,
+    R: Threads + Wait + Sync,
+>(
+    wait: &'x R,
+    floor: &'x Floor<K>,
+    gate: &'x G,
+    config: Config,
+    front: Front<'x, P>,
+    seat: UnitSeat,
+    first: Snapper<J>,
+    shares: (DispatchShare<K>, UnitShare<K>),
+    mut committer: Committer<J, K>,
+) -> Run
+    requires front { front.core ≡ floor.now.core }
+    requires seat { seat.core ≡ floor.now.core }
+    requires program { floor.now.program ≡ floor.now.core.program }
+    requires committer { committer ≡ floor.now.core }
+    requires parts { (shares.1.claims.parts ≡ config.units) × (shares.1.finishes.parts ≡ config.units) × (shares.1.stale.parts ≡ config.units) }
+    requires fresh { (shares.1.claims.amount ≡ 0) × (shares.1.finishes.amount ≡ 0) × (shares.1.stale.amount ≡ 0) }
+    ensures { IsRight J.program result }
+{
+    let (dispatch_share, unit_share) = shares;
+    let result = in_threads(
+        wait,
+        floor,
+        gate,
+        config,
+        front,
+        seat,
+        first,
+        dispatch_share,
+        unit_share,
+        &mut committer,
+    );
+    let (end, tally) = committer.end(wait, floor);
+    match (result, end.outcome) {
+        (Err(refusal), _) => Run::Refused(refusal),
+        (Ok(()), Ending::Stop(_)) => Run::Ended(end, tally),
+        (Ok(()), Ending::Limit) => Run::LimitReached(end, tally),
+    }
+}
+
+fn run_named<
+    'x,
+    J: Naming + Send + Sync,
+    K: Books + Send + Sync,
+    P: Predictor + Drop + Send,
+    G: Gate + Sync,
+    R: Threads + Wait + Sync,
+>(
+    wait: &'x R,
+    alloc: Global,
+    blanks: Blanks,
+    program: &'x Program,
+    config: &Config,
+    predictor: P,
+    gate: &'x G,
+) -> Result<Run, Memory>
+    requires program { program.now ≡ J.program }
+    requires names { names_of blanks ≡ K.names }
+    requires units { (blanks.claims.parts ≡ K.units) × (blanks.finishes.parts ≡ K.units) × (blanks.stale.parts ≡ K.units) × (K.units ≡ config.now.units) }
+    requires dispatch { (blanks.lets.parts ≡ 1) × (blanks.squashes.parts ≡ 1) × (blanks.mends.parts ≡ 1) }
+    requires commit { (blanks.loads.parts ≡ 1) × (blanks.retires.parts ≡ 1) }
+    ensures { IfOk result (λ run. IsRight J.program run) }
+{
+    let copy = program.copied(alloc)?;
+    let (core, front_seat, back_seat, unit_seat) = Core::make(alloc, program, config)?;
+    let (back, snapper) = Back::<J>::new(alloc, &core, back_seat, program, config)
+        .map_err(|refused| refused.0)?;
+    let front = Front::new(&core, front_seat, program, predictor);
+    let (totals, dispatch_share, unit_share, commit_share) = Totals::<K>::open(blanks);
+    let floor = Floor::new(core, copy, totals, config.turns());
+    let committer = Committer::<J, K>::new(back, commit_share);
+    let shares = (dispatch_share, unit_share);
+    Ok(run_parts(
+        wait, &floor, gate, *config, front, unit_seat, snapper, shares, committer,
+    ))
+}
+
+/// Runs a program on as many unit threads as the configuration says, beside one that dispatches, one
+/// that commits (the caller's own) and those that take snapshots. All have ended when it returns.
+pub fn run<'x, P: Predictor + Drop + Send, G: Gate + Sync, R: Threads + Wait + Sync>(
+    wait: &'x R,
+    alloc: Global,
+    program: &'x Program,
+    config: &Config,
+    predictor: P,
+    gate: &'x G,
+) -> Run
+    ensures { IsRight program.now result }
+{
+    let blanks = Blanks::new(config.units() as u64);
+    let result = run_named::<Brand, Brand, P, G, R>(
+        wait, alloc, blanks, program, config, predictor, gate,
+    );
+    match result {
+        Ok(run) => run,
+        Err(_) => Run::Refused(Refusal::Memory),
+    }
+}
