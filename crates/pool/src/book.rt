@@ -265,7 +265,9 @@ impl<K: Books> Totals<K> {
     ghost use Rattle.pool.specs.Ledgers.{names_of};
 
     /// An empty book, and the shares of its threads.
-    pub(crate) fn open(blanks: Blanks) -> (Totals<K>, DispatchShare<K>, UnitShare<K>, CommitShare<K>)
+    pub(crate) fn open(
+        blanks: Blanks,
+    ) -> (Totals<K>, DispatchShare<K>, UnitShare<K>, CommitShare<K>)
         requires names { names_of blanks ≡ K.names }
         requires units { (blanks.claims.parts ≡ K.units) × (blanks.finishes.parts ≡ K.units) × (blanks.stale.parts ≡ K.units) }
         requires dispatch { (blanks.lets.parts ≡ 1) × (blanks.squashes.parts ≡ 1) × (blanks.mends.parts ≡ 1) }

@@ -83,7 +83,12 @@ impl<J: Naming, K: Books> Committer<J, K> {
 
     /// Commits until the program has ended, the limit is reached or no turn is left, and shows the
     /// last state.
-    pub(crate) fn run<R: Wait>(&mut self, wait: &R, floor: &Floor<K>, limit: u32) -> Result<(), Memory>
+    pub(crate) fn run<R: Wait>(
+        &mut self,
+        wait: &R,
+        floor: &Floor<K>,
+        limit: u32,
+    ) -> Result<(), Memory>
         requires core { self.old ≡ floor.now.core }
     {
         for _ in 0..floor.turns {

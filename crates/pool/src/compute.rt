@@ -26,7 +26,13 @@ fn compute<K: Books>(floor: &Floor<K>, seat: &mut UnitSeat, job: Job) -> Finish
 }
 
 // Waits while the gate holds the unit and it has turns left, and says how many it has then.
-fn wait_at<K: Books, G: Gate>(floor: &Floor<K>, gate: &G, unit: u32, station: u32, turns: u32) -> u32
+fn wait_at<K: Books, G: Gate>(
+    floor: &Floor<K>,
+    gate: &G,
+    unit: u32,
+    station: u32,
+    turns: u32,
+) -> u32
     ensures { result ≤ turns }
 {
     let mut left = turns;
@@ -37,19 +43,30 @@ fn wait_at<K: Books, G: Gate>(floor: &Floor<K>, gate: &G, unit: u32, station: u3
     left
 }
 
+/// What a unit thread owns: its number from 1 on, its seat, and its share of the book.
+#[derive(Drop)]
+pub(crate) struct Worker<K: Books> {
+    pub unit: u32,
+    pub seat: UnitSeat,
+    pub share: UnitShare<K>,
+    ghost parts: { (share.claims.parts ≡ 1) × (share.finishes.parts ≡ 1) × (share.stale.parts ≡ 1) },
+}
+
 /// Claims the stations in ring order, one a turn, and finishes what it has claimed.
 pub(crate) fn work<K: Books, G: Gate, R: Wait>(
     wait: &R,
     floor: &Floor<K>,
     gate: &G,
-    unit: u32,
-    mut seat: UnitSeat,
-    mut mine: UnitShare<K>,
+    worker: Worker<K>,
 )
-    requires core { seat.core ≡ floor.now.core }
+    requires core { worker.seat.core ≡ floor.now.core }
     requires program { floor.now.program ≡ floor.now.core.program }
-    requires parts { (0 < mine.claims.parts) × (0 < mine.finishes.parts) × (0 < mine.stale.parts) }
 {
+    let Worker {
+        unit,
+        mut seat,
+        mut share,
+    } = worker;
     let mut done = Computed {
         claims: 0,
         finishes: 0,
@@ -78,5 +95,5 @@ pub(crate) fn work<K: Books, G: Gate, R: Wait>(
         }
         station = (station + 1) % ring;
     }
-    floor.book.lock(wait).add_computed(&mut mine, done);
+    floor.book.lock(wait).add_computed(&mut share, done);
 }

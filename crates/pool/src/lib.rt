@@ -16,3 +16,6 @@ pub use answer::{Refusal, Run, Tally};
 pub use book::Books;
 pub use gate::{Gate, Open};
 pub use threads::run;
+
+#[cfg(test)]
+mod tests;

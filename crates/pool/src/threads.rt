@@ -7,7 +7,7 @@ ghost use Rattle.pool.specs.Runs.{IsRight};
 use crate::answer::{Refusal, Run};
 use crate::book::{Blanks, Books, DispatchShare, Totals, UnitShare};
 use crate::commit::Committer;
-use crate::compute::work;
+use crate::compute::{Worker, work};
 use crate::dispatch::dispatch;
 use crate::floor::Floor;
 use crate::gate::Gate;
@@ -21,6 +21,23 @@ use std::marker::Brand;
 use std::sync::Wait;
 use std::thread;
 use std::thread::{Scope, Threads};
+
+fn start_unit<'s, E: 's, K: Books + Send + Sync + 's, G: Gate + Sync + 's, R: Wait + Sync + 's>(
+    wait: &'s R,
+    scope: &Scope<'s, E>,
+    floor: &'s Floor<K>,
+    gate: &'s G,
+    worker: Worker<K>,
+) -> bool
+    requires core { worker.seat.core ≡ floor.now.core }
+    requires program { floor.now.program ≡ floor.now.core.program }
+{
+    let job = move ||
+        requires core { worker.seat.core ≡ floor.now.core }
+        requires program { floor.now.program ≡ floor.now.core.program }
+    { work(wait, floor, gate, worker) };
+    scope.spawn(job).is_ok()
+}
 
 // Starts the units. Each has seen what the first seat has.
 fn start_units<'s, E: 's, K: Books + Send + Sync + 's, G: Gate + Sync + 's, R: Wait + Sync + 's>(
@@ -40,16 +57,15 @@ fn start_units<'s, E: 's, K: Books + Send + Sync + 's, G: Gate + Sync + 's, R: W
 {
     let mut rest = seat;
     for unit in 0..units {
-        let mine = all.split_off();
+        let share = all.split_off();
         let (own, others) = floor.core.split(rest);
         rest = others;
-        let job = move ||
-            requires core { own.core ≡ floor.now.core }
-            requires program { floor.now.program ≡ floor.now.core.program }
-            requires unit { unit < 64 }
-            requires parts { (mine.claims.parts ≡ 1) × (mine.finishes.parts ≡ 1) × (mine.stale.parts ≡ 1) }
-        { work(wait, floor, gate, unit + 1, own, mine) };
-        if scope.spawn(job).is_err() {
+        let worker = Worker {
+            unit: unit + 1,
+            seat: own,
+            share,
+        };
+        if !start_unit(wait, scope, floor, gate, worker) {
             return false;
         }
     }
@@ -57,7 +73,13 @@ fn start_units<'s, E: 's, K: Books + Send + Sync + 's, G: Gate + Sync + 's, R: W
 }
 
 // Starts the snapshot threads. A place that gives no snapper has none.
-fn start_snappers<'s, E: 's, J: Naming + Send + Sync + 's, K: Books + Send + Sync + 's, G: Gate + Sync + 's>(
+fn start_snappers<
+    's,
+    E: 's,
+    J: Naming + Send + Sync + 's,
+    K: Books + Send + Sync + 's,
+    G: Gate + Sync + 's,
+>(
     scope: &Scope<'s, E>,
     floor: &'s Floor<K>,
     gate: &'s G,
@@ -153,7 +175,16 @@ fn in_threads<
             requires fresh { (unit_share.claims.amount ≡ 0) × (unit_share.finishes.amount ≡ 0) × (unit_share.stale.amount ≡ 0) }
         {
             let started = start_all(
-                wait, scope, floor, gate, config, front, seat, first, dispatch_share, unit_share,
+                wait,
+                scope,
+                floor,
+                gate,
+                config,
+                front,
+                seat,
+                first,
+                dispatch_share,
+                unit_share,
             );
             let result = if started {
                 committer.run(wait, floor, config.limit())
@@ -245,8 +276,9 @@ fn run_named<
 {
     let copy = program.copied(alloc)?;
     let (core, front_seat, back_seat, unit_seat) = Core::make(alloc, program, config)?;
-    let (back, snapper) = Back::<J>::new(alloc, &core, back_seat, program, config)
-        .map_err(|refused| refused.0)?;
+    let (back, snapper) = Back::<J>::new(alloc, &core, back_seat, program, config).map_err(
+        |refused| refused.0,
+    )?;
     let front = Front::new(&core, front_seat, program, predictor);
     let (totals, dispatch_share, unit_share, commit_share) = Totals::<K>::open(blanks);
     let floor = Floor::new(core, copy, totals, config.turns());
