@@ -1,6 +1,6 @@
 #!/usr/bin/env bash
 # Prints how the parser, the in-order machine and the one-thread unit compare with plain C programs of the same work,
-# all measured in this run.
+# all measured in this run. The unit has a ring of 16 stations and the predictor bimod.
 set -eu
 cd "$(dirname "$0")/.."
 work=$(mktemp -d)
@@ -8,39 +8,39 @@ trap 'rm -rf "$work"' EXIT
 
 (cd crates/speed && rt run < /dev/null > "$work/build.log" 2>&1) || { cat "$work/build.log"; exit 1; }
 
-./ruu --help > /dev/null
-
-# the least of five times: field $1 of what the rest prints
-least() {
-  local field=$1
+# runs the yardstick and crate speed on a listing in turn, seven times
+measure() { # listing, yardstick with its arguments
+  local listing=$1
   shift
-  for _ in 1 2 3 4 5; do "$@" 2>&1; done | awk -v f="$field" 'NR == 1 || $f < least { least = $f } END { print least }'
+  for _ in 1 2 3 4 5 6 7; do
+    "$@" >> "$work/yardstick"
+    crates/speed/out/speed < "$listing" 2>> "$work/here"
+  done
 }
 
-# microseconds of a run on the one-thread unit
-on_the_unit() {
-  local from=$(date +%s%N)
-  crates/ruu/out/ruu run "$1" --limit 4294967295 > "$work/report"
-  echo $((($(date +%s%N) - from) / 1000))
+# the least of a column
+least() { # column, file
+  awk -v column="$1" 'NR == 1 || $column < least { least = $column } END { print least }' "$work/$2"
 }
 
-ratio() { # name, microseconds here, seconds in C
-  awk -v name="$1" -v here="$2" -v c="$3" 'BEGIN { printf "%-28s %9.1f ms   C %9.1f ms   ratio %.2f\n", name, here / 1000, c * 1000, here / 1e6 / c }'
+ratio() { # name, column of what is measured, in microseconds
+  awk -v name="$1" -v here="$(least "$2" here)" -v c="$(least 3 yardstick)" \
+    'BEGIN { printf "%-28s %9.1f ms   C %9.1f ms   ratio %.2f\n", name, here / 1000, c * 1000, here / 1e6 / c }'
 }
 
 for program in loop mixed; do
   python3 benchmarks/assemble.py "benchmarks/$program.s" > "$work/program.h"
   cc -O2 -I "$work" -o "$work/interpreter" benchmarks/interpreter.c
-  here=$(least 3 sh -c "crates/speed/out/speed < benchmarks/$program.s")
-  yardstick=$(least 3 "$work/interpreter")
-  ratio "in-order machine, $program" "$here" "$yardstick"
-  ratio "one-thread unit, $program" "$(least 1 on_the_unit "benchmarks/$program.s")" "$yardstick"
+  rm -f "$work/here" "$work/yardstick"
+  measure "benchmarks/$program.s" "$work/interpreter"
+  ratio "in-order machine, $program" 3
+  ratio "one-thread unit, $program" 4
 done
 
 cc -O2 -o "$work/split" benchmarks/split.c
 for width in 40 12; do
   python3 benchmarks/listing.py $width > "$work/listing.s"
-  labels=$(grep -c : "$work/listing.s")
-  here=$(least 2 sh -c "crates/speed/out/speed < $work/listing.s")
-  ratio "parser, $labels labels" "$here" "$(least 3 "$work/split" "$work/listing.s")"
+  rm -f "$work/here" "$work/yardstick"
+  measure "$work/listing.s" "$work/split" "$work/listing.s"
+  ratio "parser, $(grep -c : "$work/listing.s") labels" 2
 done

@@ -22,7 +22,7 @@ fn run<'a>(alloc: Global) -> Result<Command<'a>, AllocError>
 {
     let top = Command::new(alloc, "run");
     let named = top.about(RUN);
-    let ended = named.after_help(STATUSES);
+    let ended = named.after_help(NOTES);
     ended
         .arg(file(alloc))?
         .arg(option(alloc, "ruu-size", "N", RING))?
@@ -39,7 +39,7 @@ const ABOUT: &str =
 
 const RUN: &str = "Runs a listing of MIPS I instructions and writes a report of how it ended";
 
-const FILE: &str = "The listing: one instruction a line";
+const FILE: &str = "The listing, one instruction a line: docs/LISTING.md tells how to write one";
 
 const RING: &str = "Reservation stations: 2, 4, 8, 16 or 32 [default: 16]";
 
@@ -55,7 +55,9 @@ const LIMIT: &str = "Instructions to run at most: 0 to 4294967295 [default: 1000
 
 const ALONE: &str = "Run the unit on one thread";
 
-const STATUSES: &str = "\
+const NOTES: &str = "\
+Example: ruu run examples/sum.s --ruu-size 8 --bpred taken
+
 Exit status: 0 the listing ran to a break, 1 it stopped otherwise, 2 a fault in its text,
 3 a mistake on the command line, 4 the limit of instructions or turns was reached,
 5 no memory, no thread, or a file could not be opened, read or written.";

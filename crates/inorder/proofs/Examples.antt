@@ -1,14 +1,39 @@
--- What the example runs share: one step and its caller, and what differs.
-use Rattle.std.proofs.Common.{◌≡◌, ◌≢◌, ℕ, ◌<◌, ltb, eqb, true, false, sym, ltb-true, false-eqb}
+-- What the example runs share: one step and its caller, one entry, and what differs.
+use Rattle.std.proofs.Common.{◌≡◌, ◌≢◌, ◌⊎◌, ℕ, ◌<◌, ltb, eqb, Bool, true, false, Option, Some, None, sym, ◌∙◌, subst, arith, ltb-true, false-eqb}
+use Rattle.std.specs.List.{AllByRecursion}
 use Rattle.isa.specs.declared.op.Kind.TheVariants.{Computes, Jumps, Links, Loads, Stores}
 use Rattle.isa.specs.declared.stop.Stop.{Stop}
+use Rattle.inorder.specs.declared.history.Entry.{Entry}
+use Rattle.inorder.specs.declared.history.Event.TheVariants.{Does, Marks, Refuses}
+use Rattle.inorder.specs.declared.history.Mark.{Mark}
+use Rattle.inorder.specs.declared.history.Refusal.{Refusal}
+use Rattle.inorder.specs.declared.history.Source.{Source}
+use Rattle.inorder.specs.declared.history.Source.TheVariants.{First, Second}
 use Rattle.inorder.specs.declared.history.Step.{Step}
+use Rattle.inorder.specs.History.{IsUnit, IsWalked, entry}
 use Rattle.inorder.specs.Legal.{Taken}
-use Rattle.inorder.specs.Machine.{step}
-use Rattle.inorder.specs.Tenants.{Addr, Done, Live, Retired, Squashed, Stopped}
+use Rattle.inorder.specs.Replies.{HasNoOpen, IsOpen}
+use Rattle.inorder.specs.Tenants.{Addr, AtLet, Busy, Done, IsNotLive, IsThere, Linked, Live, Open, Retired, Squashed, Stopped, Tenant, operand}
+use Rattle.inorder.specs.Unit.{UpdateUnit}
+use Rattle.inorder.proofs.Positions.{all_at}
 
 abbrev pub taken : ℕ → Step → Taken
 taken by step = record { by = by; step = step }
+
+abbrev pub does : ℕ → Step → Entry
+does by step = entry by (Does step)
+
+abbrev pub refused : ℕ → Refusal → Entry
+refused by refusal = entry by (Refuses refusal)
+
+abbrev pub marks : ℕ → Mark → Entry
+marks by mark = entry by (Marks mark)
+
+pub unit_2 : IsUnit 2
+unit_2 = omega arith
+
+pub unit_3 : IsUnit 3
+unit_3 = omega arith
 
 pub less : (m n : ℕ) → ltb m n ≡ true → m < n
 less m n e = ltb-true m n e
@@ -45,3 +70,37 @@ jumps_not_stores e = cc
 
 pub loads_not_stores : Loads ≢ Stores
 loads_not_stores e = cc
+
+pub live_not_retired : Live ≢ Retired
+live_not_retired e = cc
+
+pub busy_not_open : (by : ℕ) → Busy by ≢ Open
+busy_not_open by e = cc
+
+pub at_let_not_linked : {in_time : Bool} → AtLet ≢ Linked in_time
+at_let_not_linked e = cc
+
+pub none_not_some : {X : Type 0} (x : X) → None ≢ Some x
+none_not_some x e = cc
+
+pub some_apart : (m n : ℕ) → eqb m n ≡ false → Some m ≢ Some n
+some_apart m n e same = let both : m ≡ n = cc same in apart m n e both
+
+-- What is true of a tenant is true of the one that stands there
+pub known : (Fact : Tenant → Type 0) (o : Option Tenant) (t u : Tenant) → o ≡ Some t → o ≡ Some u → Fact t → Fact u
+known Fact o t u e f fact = let same : t ≡ u = cc (sym e ∙ f) in subst Fact same fact
+
+-- One tenant after another: none of a station is open, and all links to a tenant were gone along
+
+pub none_open : (U : UpdateUnit) (s : ℕ) → AllByRecursion (λ t. t.station ≡ s → ¬ IsOpen t) U.tenants → HasNoOpen U s
+none_open U s all p t is at_s o = all_at (λ t. t.station ≡ s → ¬ IsOpen t) U.tenants all p t is at_s o
+
+abbrev pub IsServedBy : ℕ → Tenant → Source → Type 0
+IsServedBy q t k = (operand k t).creator ≡ Some q → (operand k t).way ≡ Linked true → IsThere (operand k t).value ⊎ IsNotLive t
+
+abbrev pub AreServedBy : ℕ → Tenant → Type 0
+AreServedBy q t = IsServedBy q t First × IsServedBy q t Second
+
+pub all_walked : (U : UpdateUnit) (q : ℕ) → AllByRecursion (AreServedBy q) U.tenants → IsWalked U q
+all_walked U q all p t First is creator way = (all_at (AreServedBy q) U.tenants all p t is).0 creator way
+all_walked U q all p t Second is creator way = (all_at (AreServedBy q) U.tenants all p t is).1 creator way

@@ -1,10 +1,7 @@
 -- The oldest live tenant: where it stands, and what of it the steps of others keep.
-use Rattle.std.proofs.Common.{◌≡◌, ◌≢◌, ◌⊎◌, ℕ, suc, ◌+◌, ◌%◌, ◌<◌, Bool, true, false, cond, eqb, List, [], ◌∷◌, ◌++◌, length, Option, Some, None, refl, sym, ap, ◌∙◌, subst, inl, inr, ⊎_elim, arith, eqb-true, true≢false}
-use mathlib.Core.Logic.{dite}
-use native.Mathlib.Decide.{ℕ_discrete}
+use Rattle.std.proofs.Common.{◌≡◌, ◌≢◌, ◌⊎◌, ℕ, suc, ◌%◌, ◌<◌, cond, List, [], ◌∷◌, ◌++◌, length, Some, refl, sym, ap, ◌∙◌, subst, inl, inr, ⊎_elim, arith}
 use Rattle.std.specs.List.{AllByRecursion}
 use Rattle.isa.specs.Programs.{Program}
-use Rattle.isa.specs.declared.stop.Stop.{Stop}
 use Rattle.inorder.specs.declared.history.Act.{Act}
 use Rattle.inorder.specs.declared.history.Act.TheVariants.{Claim, Deliver, Finish, Link, Load, Mend, Retire, Squash}
 use Rattle.inorder.specs.declared.history.Source.TheVariants.{First, Second}
@@ -12,19 +9,19 @@ use Rattle.inorder.specs.declared.history.Step.{Step}
 use Rattle.inorder.specs.declared.history.Step.TheVariants.{Let, On}
 use Rattle.inorder.specs.Callers.{GoesOn, IsHead, head_station, is_retired, stands_retired}
 use Rattle.inorder.specs.Laws.{IsRing}
-use Rattle.inorder.specs.Legal.{Allowed, May, applied, change_at, changed}
-use Rattle.inorder.specs.Replies.{Has, IsOver, IsRetiredStop}
+use Rattle.inorder.specs.Legal.{Allowed, May, applied, changed}
+use Rattle.inorder.specs.Replies.{IsOver, IsRetiredStop}
 use Rattle.inorder.specs.Steps.{IsNoRetiredStop, new_tenant}
-use Rattle.inorder.specs.Tenants.{Addr, Fate, IsNotLive, Live, Retired, Squashed, Standing, Stopped, Tenant, computed, on_path, stands_on_path}
+use Rattle.inorder.specs.Tenants.{Addr, IsNotLive, Live, Retired, Squashed, Standing, Tenant, computed, on_path, stands_on_path}
 use Rattle.inorder.specs.Unit.{Sizes, UpdateUnit, at, how_many, older, younger}
 use Rattle.inorder.proofs.Basics.{split_at}
 use Rattle.inorder.proofs.Creators.{at_cases}
-use Rattle.inorder.proofs.Ends.{Acted, IsNotBacks, IsNotBacksAct, exact, oldest_live, retired_on, still_no_stop, still_oldest}
+use Rattle.inorder.proofs.Ends.{Acted, IsNotBacks, IsNotBacksAct, exact, oldest_live, retired_on, still_oldest}
 use Rattle.inorder.proofs.Grows.{all_mid}
 use Rattle.inorder.proofs.Kept.{parts}
 use Rattle.inorder.proofs.Letting.{how_many_same}
 use Rattle.inorder.proofs.Moves.{came, goes}
-use Rattle.inorder.proofs.Positions.{all_at, all_from, at_below, at_more, at_new, older_from}
+use Rattle.inorder.proofs.Positions.{all_at, at_below, at_more, at_new, older_from}
 use Rattle.inorder.proofs.Sound.{IsSettled, IsSound, SettledBy}
 use Rattle.inorder.proofs.Stations.{finished_station, mended_station}
 

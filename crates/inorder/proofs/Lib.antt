@@ -22,6 +22,7 @@ pub mod QueueBytes
 pub mod QueuePlaces
 pub mod Loads
 pub mod Forbidden
+pub mod Delivered
 pub mod Positions
 pub mod Moves
 pub mod Letting
@@ -29,7 +30,7 @@ pub mod Ends
 pub mod Creators
 pub mod Loading
 pub mod Histories
-mod Examples
+pub mod Examples
 mod LoopRun
 mod WrongPathRun
 mod StoreRun
@@ -37,7 +38,12 @@ mod ReletRun
 mod DeadLinkRun
 mod TurnsRun
 mod Refused
+pub mod SharedRun
+mod SharedWakes
+mod SharedWrongPath
+mod NotLegal
 pub mod Serving
 pub mod Waking
 pub mod Heads
 pub mod Makers
+pub mod EachAnswered

@@ -1,7 +1,7 @@
 -- What the creator of a source that comes from it is, and when it has made its value.
-use Rattle.std.proofs.Common.{◌≡◌, ◌≢◌, ◌⊎◌, ℕ, zero, suc, ◌<◌, Bool, true, false, cond, ◌&&◌, eqb, List, [], ◌∷◌, ◌++◌, length, Option, Some, None, refl, sym, ap, ◌∙◌, subst, inl, inr, ⊎_elim, arith, eqb-true, true≢false}
+use Rattle.std.proofs.Common.{◌≡◌, ◌≢◌, ◌⊎◌, ℕ, zero, suc, ◌<◌, Bool, true, false, cond, ◌&&◌, eqb, List, [], ◌∷◌, length, Option, Some, None, refl, sym, ap, ◌∙◌, subst, inl, ⊎_elim, arith, eqb-true, true≢false}
 use Rattle.std.specs.Prelude.{is_none}
-use Rattle.isa.specs.Instruction.{destination, destination_by, kind}
+use Rattle.isa.specs.Instruction.{destination_by, kind}
 use Rattle.isa.specs.Programs.{Program, instr_of}
 use Rattle.isa.specs.declared.op.Kind.{Kind}
 use Rattle.isa.specs.declared.op.Kind.TheVariants.{Computes, Jumps, Links, Loads, Stores}
@@ -18,8 +18,8 @@ use Rattle.inorder.specs.declared.history.Supply.{Supply}
 use Rattle.inorder.specs.declared.history.Supply.TheVariants.{From, Known}
 use Rattle.inorder.specs.Legal.{Allowed, AreAllowed, May, Taken, applied, changed, reached}
 use Rattle.inorder.specs.StationWords.{left_value}
-use Rattle.inorder.specs.Steps.{CanRetire, MayLet, MaySupply, finished, let_operand, linked, made_at_end, mended_as, new_tenant}
-use Rattle.inorder.specs.Tenants.{Addr, AtLet, Busy, Done, Fate, IsThere, Linked, Live, Miss, Open, Retired, Squashed, Standing, Stopped, Tenant, Unlinked, computed, destination_of, instr, kind_of, made_at_let, on_path, operand, stands_on_path}
+use Rattle.inorder.specs.Steps.{CanRetire, MaySupply, finished, let_operand, linked, made_at_end, mended_as, new_tenant}
+use Rattle.inorder.specs.Tenants.{Addr, AtLet, Busy, Done, Fate, IsThere, Linked, Live, Miss, Open, Retired, Stopped, Tenant, Unlinked, computed, destination_of, instr, kind_of, made_at_let, on_path, operand, stands_on_path}
 use Rattle.inorder.specs.Unit.{Sizes, UpdateUnit, at, can_be_written, creator, last_writer, made_by, next_station, older, recent, value_of, younger}
 use Rattle.inorder.proofs.Basics.{Below, eqb_less, last_writer_below, split_at}
 use Rattle.inorder.proofs.Creators.{are_older, at_cases}

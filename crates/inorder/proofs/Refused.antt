@@ -15,7 +15,7 @@ use Rattle.inorder.specs.Tenants.{Addr, Busy, Fate, Miss, Open, Squashed, Standi
 use Rattle.inorder.specs.Unit.{creator}
 use Rattle.lsq.specs.LoadRule.{answer}
 use Rattle.inorder.proofs.DeadLinkRun.{dead_link, linked_elsewhere, linked_on_the_wrong_path, ring_of_four}
-use Rattle.inorder.proofs.Examples.{apart, squashed_not_live, taken}
+use Rattle.inorder.proofs.Examples.{apart, busy_not_open, squashed_not_live, taken}
 use Rattle.inorder.proofs.LoopRun.{loop, two_stations}
 use Rattle.inorder.proofs.ReletRun.{four, job_on_the_wrong_path, relet, relets}
 use Rattle.inorder.proofs.StoreRun.{bytes_and_words, forwards, four_entries, load_has_address, stores_have_addresses, two_entries, word_forwarded}
@@ -30,9 +30,6 @@ standing_is : (o : Option Tenant) (t : Tenant) (s : Standing) → o ≡ Some t �
     option_map (λ u. u.standing) o ≡ Some s → t.standing ≡ s
 standing_is o t s e h =
     let both : Some t.standing ≡ Some s = sym (ap (option_map (λ u. u.standing)) e) ∙ h in cc both
-
-busy_not_open : (by : ℕ) → Busy by ≢ Open
-busy_not_open by e = cc
 
 busy_by_one : (m n : ℕ) → Busy m ≡ Busy n → m ≡ n
 busy_by_one m n e = cc

@@ -1,5 +1,5 @@
 -- What stays of a value that was made: its sources that were linked in time are served, once and for all.
-use Rattle.std.proofs.Common.{◌≡◌, ◌≢◌, ◌⊎◌, ℕ, ◌%◌, ◌<◌, Bool, true, false, List, [], ◌∷◌, ◌++◌, length, Option, Some, None, refl, sym, ap, ◌∙◌, subst, inl, inr, ⊎_elim, arith}
+use Rattle.std.proofs.Common.{◌≡◌, ◌≢◌, ◌⊎◌, ℕ, ◌%◌, ◌<◌, Bool, true, false, List, [], ◌∷◌, ◌++◌, length, Option, Some, refl, sym, ap, ◌∙◌, subst, inl, inr, ⊎_elim, arith}
 use Rattle.std.specs.Prelude.{is_none}
 use Rattle.isa.specs.Programs.{Program, instr_of}
 use Rattle.inorder.specs.declared.history.Act.{Act}
@@ -18,8 +18,8 @@ use Rattle.inorder.specs.History.{IsLegal, IsWalked, MayAdd, entry, taken_of, un
 use Rattle.inorder.specs.Legal.{Allowed, applied, changed}
 use Rattle.inorder.specs.Replies.{last_tag}
 use Rattle.inorder.specs.Steps.{let_operand, linked, new_tenant}
-use Rattle.inorder.specs.Tenants.{IsNotLive, IsThere, Linked, Live, Tenant, operand}
-use Rattle.inorder.specs.Unit.{Sizes, UpdateUnit, at, creator, how_many, older, value_of}
+use Rattle.inorder.specs.Tenants.{IsNotLive, IsThere, Linked, Tenant, operand}
+use Rattle.inorder.specs.Unit.{Sizes, UpdateUnit, at, creator, older, value_of}
 use Rattle.inorder.proofs.Creators.{at_cases, value_by}
 use Rattle.inorder.proofs.Histories.{allowed_steps, lasts, unit_lasts, unit_sound}
 use Rattle.inorder.proofs.Moves.{Backward, Goes, IsActed, IsLeft, at_changed, came, goes}

@@ -1,5 +1,5 @@
 -- No lost wake.
-use Rattle.std.proofs.Common.{◌≡◌, ◌≢◌, ◌⊎◌, ℕ, true, List, [], ◌∷◌, ◌++◌, Some, refl, sym, ap, ◌∙◌, subst, inl, inr, ⊎_elim}
+use Rattle.std.proofs.Common.{◌≡◌, ℕ, true, List, ◌∷◌, ◌++◌, Some, sym, ap, ◌∙◌, subst, ⊎_elim}
 use Rattle.isa.specs.Programs.{Program}
 use Rattle.inorder.specs.declared.history.Entry.{Entry}
 use Rattle.inorder.specs.declared.history.Event.TheVariants.{Marks}
@@ -8,7 +8,7 @@ use Rattle.inorder.specs.declared.history.Mark.TheVariants.{Asked, Walked}
 use Rattle.inorder.specs.declared.history.Source.{Source}
 use Rattle.inorder.specs.Callers.{HasMade}
 use Rattle.inorder.specs.History.{IsLegal, MayMark, entry, unit_of}
-use Rattle.inorder.specs.Replies.{Has, IsAskedInTime, IsDelivered}
+use Rattle.inorder.specs.Replies.{IsAskedInTime, IsDelivered}
 use Rattle.inorder.specs.Tenants.{IsNotLive, IsThere, Linked, Tenant, operand}
 use Rattle.inorder.specs.Unit.{Sizes, UpdateUnit, at}
 use Rattle.inorder.specs.Wakes.{AreMarked, IsMarked, LosesNoWake}

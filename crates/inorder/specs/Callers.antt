@@ -17,11 +17,13 @@ pub record HasMade (U : UpdateUnit) (q value : ℕ) : Type 0 where
   pub is : at U.tenants q ≡ Some tenant
   pub made : tenant.made ≡ Some value
 
--- Each source k of a tenant of this station that was linked to q in time is delivered, or its tenant has left
+-- Each source k of a tenant of this station that was linked to q in time is delivered, or its
+-- tenant has left
 abbrev pub IsServed : UpdateUnit → ℕ → ℕ → Source → Type 0
 IsServed U q station k =
-    (p : ℕ) (t : Tenant) → at U.tenants p ≡ Some t → t.station ≡ station → (operand k t).creator ≡ Some q →
-    (operand k t).way ≡ Linked true → IsThere (operand k t).value ⊎ IsNotLive t
+    (p : ℕ) (t : Tenant) → at U.tenants p ≡ Some t → t.station ≡ station →
+    (operand k t).creator ≡ Some q → (operand k t).way ≡ Linked true →
+    IsThere (operand k t).value ⊎ IsNotLive t
 
 -- A unit
 

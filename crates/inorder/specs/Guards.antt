@@ -1,15 +1,17 @@
 -- What no step of a legal unit may do, and what a recovery restores.
-use Rattle.std.specs.Prelude.{◌≡◌, ◌≢◌, ℕ, ◌<◌, List, Some}
+use Rattle.std.specs.Prelude.{◌≡◌, ◌≢◌, ℕ, ◌<◌, Bool, List, Some, None}
 use Rattle.isa.specs.Programs.{Program}
 use Rattle.isa.specs.declared.op.Kind.TheVariants.{Stores}
 use Rattle.isa.specs.declared.stop.Stop.{Stop}
 use Rattle.inorder.specs.declared.history.Act.{Act}
-use Rattle.inorder.specs.declared.history.Act.TheVariants.{Claim, Finish, Load, Mend, Retire, Squash}
+use Rattle.inorder.specs.declared.history.Act.TheVariants.{Claim, Deliver, Finish, Load, Mend, Retire, Squash}
+use Rattle.inorder.specs.declared.history.Source.{Source}
+use Rattle.inorder.specs.declared.history.Step.{Step}
 use Rattle.inorder.specs.declared.history.Step.TheVariants.{On}
 use Rattle.inorder.specs.Legal.{Allowed, AreAllowed, Taken, applied, reached}
 use Rattle.inorder.specs.StationWords.{ChangesStation}
-use Rattle.inorder.specs.Tenants.{Addr, Busy, Live, Miss, Open, Retired, Squashed, Stopped, Tenant, kind_of}
-use Rattle.inorder.specs.Unit.{Sizes, at, creator, front_pc, older}
+use Rattle.inorder.specs.Tenants.{Addr, Busy, IsThere, Linked, Live, Miss, Open, Retired, Squashed, Stopped, Tenant, kind_of, operand}
+use Rattle.inorder.specs.Unit.{Sizes, at, creator, front_pc, older, value_of}
 
 -- A miss is mended before it retires
 abbrev pub MissStays : Program → Sizes → List Taken → Type 0
@@ -43,6 +45,31 @@ LoadWaits P C history =
     (by p q : ℕ) (t : Tenant) → Allowed P C (reached P C history) by (On p Load) → q < p →
     at (reached P C history).tenants q ≡ Some t → t.standing ≡ Live → kind_of P t ≡ Stores →
     (a : ℕ) × (t.fate ≡ Addr a)
+
+-- Source k was asked for, and has no value
+pub record AwaitsValue (k : Source) (t : Tenant) : Type 0 where
+  pub in_time : Bool
+  pub way : (operand k t).way ≡ Linked in_time
+  pub waits : (operand k t).value ≡ None
+
+-- A delivery gives a source that was asked for what its creator has made
+pub record IsGivenRight (ts : List Tenant) (k : Source) (t u : Tenant) : Type 0 where
+  pub asked : AwaitsValue k t
+  pub there : IsThere (operand k u).value
+  pub value : (operand k u).value ≡ value_of ts (operand k t).creator
+
+-- And no other step changes the value of any source
+pub record Delivers (P : Program) (C : Sizes) (history : List Taken) : Type 0 where
+  pub gives : (by p : ℕ) (k : Source) (t u : Tenant) →
+      Allowed P C (reached P C history) by (On p (Deliver k)) →
+      at (reached P C history).tenants p ≡ Some t →
+      at (applied P C (reached P C history) by (On p (Deliver k))).tenants p ≡ Some u →
+      IsGivenRight (older (reached P C history).tenants p) k t u
+  pub others : (by p : ℕ) (s : Step) (k : Source) (t u : Tenant) →
+      Allowed P C (reached P C history) by s → s ≢ On p (Deliver k) →
+      at (reached P C history).tenants p ≡ Some t →
+      at (applied P C (reached P C history) by s).tenants p ≡ Some u →
+      (operand k u).value ≡ (operand k t).value
 
 -- A squash leaves the create vector and the front pc that the tenants before the squashed one
 -- define. A mended tenant goes on where its outcome says

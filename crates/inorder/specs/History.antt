@@ -1,5 +1,5 @@
--- Legal histories of a shared unit. A history is a list of entries, the last one first, so that what was
--- there before an entry is what is behind it in the list.
+-- Legal histories of a shared unit. A history is a list of entries, the last one first, so that
+-- what was there before an entry is what is behind it in the list.
 use Rattle.std.specs.Prelude.{◌≡◌, ◌⊎◌, ℕ, ◌<◌, ◌≤◌, true, List, [], ◌∷◌, ◌++◌, map, Some, ◌==◌, if◌then◌else◌}
 use Rattle.isa.specs.Programs.{Program}
 use Rattle.inorder.specs.declared.history.Act.{Act}
@@ -75,7 +75,8 @@ IsTheirAct by Mend = by ≡ front
 
 -- The front lets no tenant with a spent tag
 abbrev pub IsTheirs : Sizes → UpdateUnit → ℕ → Step → Type 0
-IsTheirs C U by (Let index predicted first second) = (by ≡ front) × (next_tag C (recent U) < last_tag)
+IsTheirs C U by (Let index predicted first second) =
+    (by ≡ front) × (next_tag C (recent U) < last_tag)
 IsTheirs C U by (On p act) = IsTheirAct by act
 
 abbrev pub MayRefuse : Program → Sizes → List Entry → ℕ → Refusal → Type 0
@@ -87,7 +88,8 @@ MayRefuse P C h by NotDone = (by ≡ back) × IsNotDone P (unit_of P C h)
 MayRefuse P C h by Empty = (by ≡ back) × IsEmpty (unit_of P C h)
 MayRefuse P C h by Over = (by ≡ back) × IsOver (unit_of P C h)
 
--- Each source that was linked to q in time, before q made its value, is delivered, or its tenant has left
+-- Each source that was linked to q in time, before q made its value, is delivered, or its tenant
+-- has left
 abbrev pub IsWalked : UpdateUnit → ℕ → Type 0
 IsWalked U q =
     (p : ℕ) (t : Tenant) (k : Source) → at U.tenants p ≡ Some t → (operand k t).creator ≡ Some q →
@@ -116,9 +118,10 @@ abbrev pub own : ℕ → List Entry → List Entry
 own by [] = []
 own by (e ∷ h) = if e.by == by then e ∷ own by h else own by h
 
--- What a caller has seen has grown, and these events, the last one first, are all that it added itself.
--- Two such facts in a row are one, with the events of both
-pub record Adds (P : Program) (C : Sizes) (by : ℕ) (old new : List Entry) (events : List Event) : Type 0 where
+-- What a caller has seen has grown, and these events, the last one first, are all that it added
+-- itself. Two such facts in a row are one, with the events of both
+pub record Adds (P : Program) (C : Sizes) (by : ℕ) (old new : List Entry) (events : List Event) :
+    Type 0 where
   pub begins : StartsWith new old
   pub legal : IsLegal P C new
   pub mine : own by new ≡ map (entry by) events ++ own by old

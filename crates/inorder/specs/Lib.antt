@@ -18,3 +18,4 @@ pub mod Replies
 pub mod History
 pub mod Wakes
 pub mod Callers
+pub mod Answered

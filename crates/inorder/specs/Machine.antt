@@ -21,7 +21,13 @@ pub record State : Type 0 where
 
 -- registers 0, memory as the directives give it
 abbrev pub start : Program → State
-start P = record { registers = replicate register_count 0; memory = P.bytes; pc = text_start; count = 0 }
+start P =
+    record {
+      registers = replicate register_count 0;
+      memory = P.bytes;
+      pc = text_start;
+      count = 0;
+    }
 
 -- a write to register 0 is dropped
 abbrev pub write : List ℕ → ℕ → ℕ → List ℕ
@@ -36,14 +42,21 @@ store_bytes memory at (suc w) v = store_bytes (slice_set memory at (v % 256)) (a
 -- the state after an instruction that writes v and goes on at next
 abbrev pub advanced : State → Instr → ℕ → List ℕ → ℕ → State
 advanced s i v memory next =
-    record { registers = write s.registers (destination i) v; memory = memory; pc = next; count = suc s.count }
+    record {
+      registers = write s.registers (destination i) v;
+      memory = memory;
+      pc = next;
+      count = suc s.count;
+    }
 
 -- the state after a load or store at an address
 abbrev pub after_access : Kind → State → Instr → ℕ → State
 after_access Stores s i at =
-    advanced s i 0 (store_bytes s.memory at (width i.op) (slice_index s.registers i.second)) (pc_plus_4 s.pc)
+    advanced s i 0 (store_bytes s.memory at (width i.op) (slice_index s.registers i.second))
+    (pc_plus_4 s.pc)
 after_access _ s i at =
-    advanced s i (loaded i.op (little_endian (slice_index s.memory) at (width i.op))) s.memory (pc_plus_4 s.pc)
+    advanced s i (loaded i.op (little_endian (slice_index s.memory) at (width i.op))) s.memory
+    (pc_plus_4 s.pc)
 
 -- what a step comes to: the next state, or a stop
 pub data Ran : Type 0 where
@@ -61,7 +74,9 @@ ran s i (Stops c) = Halts c
 abbrev pub fetched : Program → State → Option Instr → Ran
 fetched P s None = Halts BadPc
 fetched P s (Some i) =
-    ran s i (outcome i s.pc (slice_index s.registers i.first) (slice_index s.registers i.second) (length P.bytes))
+    ran s i
+    (outcome i s.pc (slice_index s.registers i.first) (slice_index s.registers i.second)
+    (length P.bytes))
 
 -- one step
 abbrev pub step : Program → State → Ran

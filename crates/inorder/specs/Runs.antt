@@ -56,7 +56,8 @@ pub record Running : Type 0 where
 
 -- what a step of a machine answers and leaves: after a stop it is unchanged
 abbrev pub IsStep : Running → Stepped → Running → Ran → Type 0
-IsStep old answer new (Goes s) = (answer ≡ HasRan) × (new ≡ record { program = old.program; state = s })
+IsStep old answer new (Goes s) =
+    (answer ≡ HasRan) × (new ≡ record { program = old.program; state = s })
 IsStep old answer new (Halts c) = (answer ≡ Stopped c) × (new ≡ old)
 
 -- the answer of a run

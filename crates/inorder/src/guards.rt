@@ -3,7 +3,7 @@ ghost use Rattle.std.specs.Prelude.{List};
 ghost use Rattle.isa.specs.Programs.{Program};
 ghost use Rattle.inorder.specs.Unit.{Sizes};
 ghost use Rattle.inorder.specs.Legal.{Taken};
-ghost use Rattle.inorder.specs.Guards.{MissStays, SquashedStays, IsClaimedOnce, StopEnds, LoadWaits, Restores};
+ghost use Rattle.inorder.specs.Guards.{MissStays, SquashedStays, IsClaimedOnce, StopEnds, LoadWaits, Delivers, Restores};
 
 /// A misprediction is mended before it retires.
 pub fn a_miss_does_not_retire()
@@ -29,6 +29,12 @@ pub fn a_retired_stop_ends_the_unit()
 /// A load completes only where each older live store has its address.
 pub fn a_load_passes_no_unknown_store()
     ensures { (p : Program) (c : Sizes) (history : List Taken) → LoadWaits p c history }
+{}
+
+/// A delivery gives a source that was asked for what its creator has made, and no other step
+/// changes the value of any source.
+pub fn a_delivery_reaches_who_asked()
+    ensures { (p : Program) (c : Sizes) (history : List Taken) → Delivers p c history }
 {}
 
 /// A squash leaves the create vector and the front pc that the tenants before the squashed one

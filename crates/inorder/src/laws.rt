@@ -1,5 +1,5 @@
-//! What holds of every unit that legal steps reach. Each function is a law: it does nothing, and its
-//! contract is proved.
+//! What holds of every unit that legal steps reach. Each function is a law: it does nothing, and
+//! its contract is proved.
 ghost use Rattle.std.specs.Prelude.{List, ℕ};
 ghost use Rattle.isa.specs.Programs.{Program};
 ghost use Rattle.inorder.specs.Unit.{Sizes};
@@ -14,6 +14,7 @@ ghost use Rattle.inorder.specs.declared.history.Entry.{Entry};
 ghost use Rattle.inorder.specs.History.{IsLegal};
 ghost use Rattle.inorder.specs.Wakes.{AreMarked, LosesNoWake};
 ghost use Rattle.inorder.specs.Loads.{LoadsAreAnswered};
+ghost use Rattle.inorder.specs.Answered.{FinishIsAnswered, ClaimIsAnswered, RetirementIsAnswered};
 
 /// Whatever steps were taken, what the unit has committed is the state of the in-order machine
 /// after as many instructions, and a stop that has retired is that machine's stop.
@@ -68,9 +69,9 @@ pub fn values_are_words()
     ensures { (p : Program) (c : Sizes) (history : List Taken) → ValuesAreWords p c history }
 {}
 
-/// The rule for loads is right over the live loads and stores. Where it forwards or says memory, the
-/// load may complete, with the bytes of the last older stores or of the committed memory. Where it
-/// blocks, it names an older live store that has no address or overlaps the load.
+/// The rule for loads is right over the live loads and stores. Where it forwards or says memory,
+/// the load may complete, with the bytes of the last older stores or of the committed memory. Where
+/// it blocks, it names an older live store that has no address or overlaps the load.
 pub fn loads_are_answered_right()
     ensures { (p : Program) (c : Sizes) (history : List Taken) → LoadsAreAnswered p c history }
 {}
@@ -78,5 +79,22 @@ pub fn loads_are_answered_right()
 /// Where each value that a finish or a load made was carried along its links, and each source that
 /// comes from its creator was asked for, no open tenant waits for a value that is there.
 pub fn no_wake_is_lost()
-    ensures { (p : Program) (c : Sizes) (history : List Entry) → IsLegal p c history → AreMarked p c history → LosesNoWake p c history }
+    ensures { (p : Program) (c : Sizes) (history : List Entry) →
+        IsLegal p c history → AreMarked p c history → LosesNoWake p c history }
+{}
+
+/// Who has claimed a tenant may finish it, or is told that it is stale.
+pub fn a_finish_is_answered()
+    ensures { (p : Program) (c : Sizes) (history : List Entry) → FinishIsAnswered p c history }
+{}
+
+/// A station has a tenant that may be claimed or waits for a source, or is told not to be open.
+pub fn a_claim_is_answered()
+    ensures { (p : Program) (c : Sizes) (history : List Entry) → ClaimIsAnswered p c history }
+{}
+
+/// A retirement is allowed, or is refused for one reason.
+pub fn a_retirement_is_answered()
+    ensures { (p : Program) (c : Sizes) (history : List Entry) →
+        IsLegal p c history → RetirementIsAnswered p c history }
 {}

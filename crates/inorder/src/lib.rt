@@ -9,12 +9,14 @@ mod machine;
 
 pub use data::{number, store};
 pub use guards::{
-    a_load_passes_no_unknown_store, a_miss_does_not_retire, a_retired_stop_ends_the_unit,
-    a_squashed_tenant_stays_squashed, a_tenant_is_claimed_once, recovery_restores,
+    a_delivery_reaches_who_asked, a_load_passes_no_unknown_store, a_miss_does_not_retire,
+    a_retired_stop_ends_the_unit, a_squashed_tenant_stays_squashed, a_tenant_is_claimed_once,
+    recovery_restores,
 };
 pub use laws::{
-    a_tag_names_one_tenant, fates_follow, histories_grow, loads_are_answered_right,
-    no_wake_is_lost, one_thread_unit_is_right, only_retirements_commit, operands_follow,
-    ring_is_right, stations_follow, values_are_words,
+    a_claim_is_answered, a_finish_is_answered, a_retirement_is_answered, a_tag_names_one_tenant,
+    fates_follow, histories_grow, loads_are_answered_right, no_wake_is_lost,
+    one_thread_unit_is_right, only_retirements_commit, operands_follow, ring_is_right,
+    stations_follow, values_are_words,
 };
 pub use machine::{Ended, Machine, Stepped};

@@ -54,15 +54,26 @@ pub struct Machine<'a> {
 impl<'a> Model for Machine<'a> {
     ghost Value = { Running };
 
-    ghost view = { λ m. record { program = m.program.now; state = record { registers = m.registers; memory = m.memory.items; pc = m.pc; count = m.count } } };
+    ghost view = { λ m. record {
+      program = m.program.now;
+      state = record {
+        registers = m.registers;
+        memory = m.memory.items;
+        pc = m.pc;
+        count = m.count;
+      };
+    } };
 
-    ghost invariant = { λ m. (length m.memory.items ≡ length m.program.now.bytes) × (length m.memory.items ≤ 65536) };
+    ghost invariant = { λ m.
+        (length m.memory.items ≡ length m.program.now.bytes) × (length m.memory.items ≤ 65536) };
 }
 
 impl<'a> Machine<'a> {
-    /// A machine at the start of a program: registers 0, memory as the directives give it, pc 0x00400000.
+    /// A machine at the start of a program: registers 0, memory as the directives give it, pc
+    /// 0x00400000.
     pub fn new(alloc: Global, program: &'a Program) -> Result<Self, Memory>
-        ensures { IfOk result (λ m. m ≡ record { program = program.now; state = start program.now }) }
+        ensures { IfOk result (λ m.
+            m ≡ record { program = program.now; state = start program.now }) }
     {
         let memory = Vec::from_slice(alloc, program.bytes())?;
         Ok(Machine {
@@ -130,7 +141,9 @@ impl<'a> Machine<'a> {
 
     fn advance(&mut self, instr: &Instr, value: u32, next: u32)
         requires { self.old.state.count < 2 ^ 64 - 1 }
-        ensures { self.new ≡ record self.old { state = advanced self.old.state instr.now value self.old.state.memory next } }
+        ensures { self.new ≡ record self.old {
+          state = advanced self.old.state instr.now value self.old.state.memory next;
+        } }
     {
         write(&mut self.registers, instr.destination(), value);
         self.pc = next;
@@ -142,7 +155,9 @@ impl<'a> Machine<'a> {
         requires count { self.old.state.count < 2 ^ 64 - 1 }
         requires inside { address + width_of instr.now.op ≤ length self.old.program.bytes }
         requires source { b ≡ slice_index self.old.state.registers instr.now.second }
-        ensures { self.new ≡ record self.old { state = after_access (kind_of instr.now.op) self.old.state instr.now address } }
+        ensures { self.new ≡ record self.old {
+          state = after_access (kind_of instr.now.op) self.old.state instr.now address;
+        } }
     {
         let width = instr.op().width() as usize;
         let next = pc_plus_4(self.pc);
@@ -161,7 +176,8 @@ impl<'a> Machine<'a> {
     /// Runs until the next instruction stops, or the count has reached the limit.
     pub fn run(&mut self, limit: u64) -> Ended
         ensures program { self.new.program ≡ self.old.program }
-        ensures end { (ending result, self.new.state) ≡ end_from self.old.program (limit - self.old.state.count) self.old.state }
+        ensures end { (ending result, self.new.state) ≡
+            end_from self.old.program (limit - self.old.state.count) self.old.state }
     {
         while self.count() < limit {
             match self.step() {

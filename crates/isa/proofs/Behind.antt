@@ -1,8 +1,6 @@
 -- One line behind the lines before it.
 use Rattle.std.proofs.Common.{◌≡◌, ℕ, ◌+◌, ◌<◌, ◌≤◌, true, false, List, [], ◌∷◌, ◌++◌, length, map, Some, None, Result, Err, refl, sym, ap, ◌∙◌, subst, append_assoc, arith}
 use Rattle.std.specs.Prelude.{nat_lt}
-use Rattle.std.specs.Borrow.{Bor}
-use Rattle.std.specs.BTreeMap.{BTreeMap}
 use Rattle.std.proofs.lemmas.Bool.{lt-ltb, le-ltb}
 use Rattle.std.proofs.lemmas.List.{length-append, length-map, append-nil}
 use Rattle.std.proofs.lemmas.Grind.{flat_map-append}
@@ -16,7 +14,7 @@ use Rattle.isa.specs.declared.listing.line.Target.{Target}
 use Rattle.isa.specs.Programs.{address}
 use Rattle.isa.specs.Statement.{Parsed, Line, statement}
 use Rattle.isa.specs.Listing.{Lines, labels, read, code_in, bytes_in, at, table, numbered, memory, how_many, is_double, fault_of, fault_in}
-use Rattle.isa.specs.Held.{IsTable, IsAdded, IsRead, name_of, rows}
+use Rattle.isa.specs.Held.{Labels, IsTable, IsAdded, IsRead, name_of, rows}
 use Rattle.isa.proofs.Rows.{rows_length, rows_push}
 
 -- ---- one line more
@@ -53,7 +51,7 @@ memory_push before l = flat_map-append (λ l. bytes_in (read l)) before (l ∷ [
 
 -- ---- this line
 
-module _ (before : Lines) (line text : List ℕ) (m : BTreeMap (Bor (List ℕ)) ℕ) (code : List Instr) (ts : List Target) (bytes : List ℕ)
+module _ (before : Lines) (line text : List ℕ) (m : Labels) (code : List Instr) (ts : List Target) (bytes : List ℕ)
     (is : IsRead before m code ts bytes) (front : text ≡ before_comment line) where
   pub how_many_is : how_many before ≡ length code
   how_many_is = sym (ap length is.code_is) ∙ rows_length code ts is.length_is
@@ -77,7 +75,7 @@ module _ (before : Lines) (line text : List ℕ) (m : BTreeMap (Bor (List ℕ)) 
         rw (at_count, front) at (double (table 0 before) is.labels) in
         rw (is_plain, d) refl
 
-    module _ (m' : BTreeMap (Bor (List ℕ)) ℕ)
+    module _ (m' : Labels)
         (single : (pairs : List (List ℕ × ℕ)) → IsTable m pairs
         → (is_double a pairs (labels_of text) ≡ false) × IsTable m' (pairs ++ at a (labels_of text))) where
       fault_is : fault_in before line ≡ fault_of (length code) (length bytes) (statement (statement_of text))

@@ -1,7 +1,5 @@
 -- All lines of a listing.
 use Rattle.std.proofs.Common.{◌≡◌, ℕ, ◌+◌, ◌≤◌, ◌<◌, List, [], ◌∷◌, ◌++◌, length, Some, None, Result, Err, refl, sym, ap, ◌∙◌, subst, append_assoc, arith}
-use Rattle.std.specs.Borrow.{Bor}
-use Rattle.std.specs.BTreeMap.{BTreeMap}
 use Rattle.std.specs.Map.{lookup}
 use Rattle.std.proofs.lemmas.Bool.{lt-ltb, le-ltb}
 use Rattle.std.proofs.lemmas.List.{append-nil, length-append}
@@ -11,19 +9,19 @@ use Rattle.isa.specs.declared.listing.fault.FaultKind.{FaultKind}
 use Rattle.isa.specs.declared.listing.fault.FaultKind.TheVariants.{TooLong}
 use Rattle.isa.specs.declared.listing.line.Target.{Target}
 use Rattle.isa.specs.Listing.{Lines, table, numbered, memory, fault_in, first_fault, resolved, with_bytes, listing}
-use Rattle.isa.specs.Held.{IsTable, IsRead, rows}
+use Rattle.isa.specs.Held.{Labels, IsTable, IsRead, rows}
 
 -- the lines before, which have no fault, and those that are left
-pub record LinesSoFar (m : BTreeMap (Bor (List ℕ)) ℕ) (code : List Instr) (ts : List Target) (bytes : List ℕ) (number : ℕ) (left all : Lines) : Type 0 where
+pub record LinesSoFar (m : Labels) (code : List Instr) (ts : List Target) (bytes : List ℕ) (number : ℕ) (left all : Lines) : Type 0 where
   pub before : Lines
   pub count : length before ≡ number
   pub read : IsRead before m code ts bytes
   pub fault : first_fault before left ≡ first_fault [] all
   pub whole : before ++ left ≡ all
 
-module _ (m : BTreeMap (Bor (List ℕ)) ℕ) (code : List Instr) (ts : List Target) (bytes : List ℕ) (number : ℕ) (left all : Lines)
+module _ (m : Labels) (code : List Instr) (ts : List Target) (bytes : List ℕ) (number : ℕ) (left all : Lines)
     (so_far : LinesSoFar m code ts bytes number left all) where
-  pub so_far_more : (m' : BTreeMap (Bor (List ℕ)) ℕ) (code' : List Instr) (ts' : List Target) (bytes' : List ℕ) (l : List ℕ) (ls : Lines) → left ≡ l ∷ ls
+  pub so_far_more : (m' : Labels) (code' : List Instr) (ts' : List Target) (bytes' : List ℕ) (l : List ℕ) (ls : Lines) → left ≡ l ∷ ls
       → ((before : Lines) → length before + 1 ≡ number + 1 → IsRead before m code ts bytes
       → (fault_in before l ≡ None) × IsRead (before ++ l ∷ []) m' code' ts' bytes')
       → LinesSoFar m' code' ts' bytes' (number + 1) ls all
@@ -54,7 +52,7 @@ module _ (m : BTreeMap (Bor (List ℕ)) ℕ) (code : List Instr) (ts : List Targ
       let whole : so_far.before ++ [] ≡ all = rw is at so_far.whole in
       (sym fault, subst (λ (ls : Lines). IsRead ls m code ts bytes) (sym (append-nil so_far.before) ∙ whole) so_far.read)
 
-pub so_far_start : (m : BTreeMap (Bor (List ℕ)) ℕ) (code : List Instr) (ts : List Target) (bytes : List ℕ) (all : Lines)
+pub so_far_start : (m : Labels) (code : List Instr) (ts : List Target) (bytes : List ℕ) (all : Lines)
     → m.entries ≡ [] → code ≡ [] → ts ≡ [] → bytes ≡ [] → LinesSoFar m code ts bytes 0 all all
 unfolding table numbered memory
 so_far_start m code ts bytes all no_labels no_code no_targets no_bytes = record {
@@ -80,7 +78,7 @@ pub listing_fault : (bytes : List ℕ) (f : ℕ × FaultKind) → length bytes �
 unfolding listing
 listing_fault bytes f le e = rw (le-ltb 4194304 (length bytes) le, e) refl
 
-pub listing_done : (text : List ℕ) (m : BTreeMap (Bor (List ℕ)) ℕ) (code : List Instr) (ts : List Target) (bytes : List ℕ)
+pub listing_done : (text : List ℕ) (m : Labels) (code : List Instr) (ts : List Target) (bytes : List ℕ)
     (r : Result (List Instr) (ℕ × FaultKind)) → length text ≤ 4194304 → (first_fault [] (lines_of text) ≡ None) × IsRead (lines_of text) m code ts bytes
     → ((pairs : List (List ℕ × ℕ)) → IsTable m pairs → resolved pairs (rows code ts) ≡ r) → listing text ≡ with_bytes bytes r
 unfolding listing

@@ -1,21 +1,25 @@
 -- What the reader of a listing holds behind the lines that it has read.
 use Rattle.std.specs.Prelude.{◌≡◌, ℕ, ◌++◌, List, [], ◌∷◌, length, Option, Result, Ok}
-use Rattle.std.specs.Borrow.{Bor}
-use Rattle.std.specs.BTreeMap.{BTreeMap, get_by}
-use Rattle.std.specs.Cmp.Lexicographic.{slice_cmp}
-use Rattle.std.specs.Ordering.{nat_cmp}
+use Rattle.std.specs.HashMap.{HashMap, get_by}
+use Rattle.std.specs.declared.hash.FoldHasher.{FoldHasher}
+use Rattle.std.specs.declared.hash.BuildHasherDefault.{BuildHasherDefault}
 use Rattle.std.specs.Map.{lookup}
 use Rattle.std.specs.Str.{bytes_eq}
 use Rattle.isa.specs.declared.listing.fault.FaultKind.{FaultKind}
 use Rattle.isa.specs.declared.instr.Instr.{Instr}
+use Rattle.isa.specs.declared.listing.labels.Name.{Name}
 use Rattle.isa.specs.declared.listing.line.Target.{Target}
 use Rattle.std.specs.Option.{option_map}
 use Rattle.isa.specs.Statement.{Parsed, Line}
 use Rattle.isa.specs.Listing.{Lines, table, numbered, memory}
 
+-- names with their addresses, as the code holds them
+abbrev pub Labels : Type 0
+Labels = HashMap Name ℕ (BuildHasherDefault FoldHasher)
+
 -- the map has at each name what the list has first
-abbrev pub IsTable : BTreeMap (Bor (List ℕ)) ℕ → List (List ℕ × ℕ) → Type 0
-IsTable m pairs = (name : List ℕ) → get_by (λ k. slice_cmp nat_cmp name k.now) m ≡ lookup (λ k. bytes_eq k name) pairs
+abbrev pub IsTable : Labels → List (List ℕ × ℕ) → Type 0
+IsTable m pairs = (name : List ℕ) → get_by (λ k. bytes_eq name k.text.now) m ≡ lookup (λ k. bytes_eq k name) pairs
 
 -- the label that an instruction names
 abbrev pub name_of : Target → Option (List ℕ)
@@ -40,7 +44,7 @@ pub record IsAdded (read : Result Line FaultKind) (code : List Parsed) (old new 
   pub is : read ≡ Ok (record { code = code; bytes = bytes })
 
 -- what is held behind the lines before
-pub record IsRead (before : Lines) (m : BTreeMap (Bor (List ℕ)) ℕ) (code : List Instr) (ts : List Target) (bytes : List ℕ) : Type 0 where
+pub record IsRead (before : Lines) (m : Labels) (code : List Instr) (ts : List Target) (bytes : List ℕ) : Type 0 where
   pub labels : IsTable m (table 0 before)
   pub length_is : length code ≡ length ts
   pub code_is : rows code ts ≡ numbered 1 before

@@ -1,5 +1,5 @@
 //! The listing language: from bytes to a program, or to the first fault.
-ghost use Rattle.std.specs.Prelude.{◌≡◌, ◌≢◌, ℕ, List, Ok, Err, length, OnOk, IfOk, IfErr};
+ghost use Rattle.std.specs.Prelude.{◌≡◌, ◌≢◌, ◌≤◌, ◌/◌, ℕ, List, Ok, Err, length, OnOk, IfOk, IfErr};
 ghost use Rattle.isa.specs.Listing.{resolve_number, resolved, listing};
 ghost use Rattle.isa.specs.Held.{IsTable, name_of, rows};
 
@@ -15,20 +15,17 @@ mod statement;
 
 use crate::{Instr, Program};
 pub use fault::{FaultKind, TextFault};
+use labels::{Labels, Name};
 use line::{Target, read_line};
 use std::alloc::Global;
-use std::collections::BTreeMap;
+use std::collections::HashMap;
 use text::next_line;
 
 /// How many bytes a listing has at most.
 const MOST_TEXT: usize = 4_194_304;
 
 /// The address of a label, where the instruction has one.
-fn resolve<'a>(
-    labels: &BTreeMap<&'a [u8], u32>,
-    target: &Target<'a>,
-    number: u32,
-) -> Result<u32, TextFault>
+fn resolve<'a>(labels: &Labels<'a>, target: &Target<'a>, number: u32) -> Result<u32, TextFault>
     ensures ok { IfOk result (λ a. (pairs : List (List ℕ × ℕ)) → IsTable labels.now pairs
         → resolve_number pairs target.now.line number (name_of target.now) ≡ Ok a) }
     ensures kind { IfErr result (λ f. f.kind ≢ FaultKind.Memory) }
@@ -38,7 +35,7 @@ fn resolve<'a>(
     let Some(name) = target.label else {
         return Ok(number);
     };
-    let Some(address) = labels.get(&name) else {
+    let Some(address) = labels.get(&Name { text: name }) else {
         return Err(TextFault {
             line: target.line,
             kind: FaultKind::UnknownLabel,
@@ -49,7 +46,7 @@ fn resolve<'a>(
 
 /// Gives each instruction the address of its label.
 fn resolve_all<'a>(
-    labels: &BTreeMap<&'a [u8], u32>,
+    labels: &Labels<'a>,
     code: &mut [Instr],
     targets: &[Target<'a>],
 ) -> Result<(), TextFault>
@@ -79,6 +76,14 @@ fn fault_at(line: u64, kind: FaultKind) -> TextFault
     }
 }
 
+/// How many labels to make room for: one for each colon, of which a comment may have any number.
+fn most_labels(bytes: &[u8]) -> usize
+    ensures { result ≤ length bytes.now / 4 }
+{
+    let colons = bytes.iter().filter(|b| **b == b':').count();
+    colons.min(bytes.len() / 4)
+}
+
 /// The program of a listing, or its first fault. A fault of a line has its number, counted from 1; a listing of more
 /// than 4,194,304 bytes and want of memory have line 0.
 pub fn parse(alloc: Global, bytes: &[u8]) -> Result<Program, TextFault>
@@ -90,7 +95,7 @@ pub fn parse(alloc: Global, bytes: &[u8]) -> Result<Program, TextFault>
     if bytes.len() > MOST_TEXT {
         return Err(fault_at(0, FaultKind::TooLong));
     }
-    let mut labels = BTreeMap::new(alloc);
+    let mut labels = HashMap::with_capacity(alloc, most_labels(bytes))?;
     let mut code = Vec::new(alloc);
     let mut targets = Vec::new(alloc);
     let mut memory = Vec::new(alloc);

@@ -1,5 +1,6 @@
 //! Border values of the operations, the limits of a configuration, and what predictors learn.
 use crate::*;
+use std::test::Fail;
 
 const MINUS_1: u32 = 0xffff_ffff;
 
@@ -220,4 +221,90 @@ fn there_are_32_registers(rt: HostRuntime) {
     assert_eq!(rt; Reg::new(31), Some(Reg::LINK));
     assert_eq!(rt; Reg::new(32), None);
     assert_eq!(rt; Stop::BadPc.code(), 4);
+}
+
+#[test]
+fn sorts_operations(rt: HostRuntime) {
+    let cases: [(Op, Kind, u32, bool); 9] = [
+        (Op::Lui, Kind::Computes, 4, false),
+        (Op::Break, Kind::Computes, 4, false),
+        (Op::Lb, Kind::Loads, 1, false),
+        (Op::Lhu, Kind::Loads, 2, false),
+        (Op::Sh, Kind::Stores, 2, false),
+        (Op::Sw, Kind::Stores, 4, false),
+        (Op::Bgez, Kind::Jumps, 4, true),
+        (Op::Jr, Kind::Jumps, 4, false),
+        (Op::Jalr, Kind::Links, 4, false),
+    ];
+    for (op, kind, width, branch) in cases {
+        assert_eq!(rt; op.kind(), kind);
+        assert_eq!(rt; op.width(), width);
+        assert_eq!(rt; op.is_branch(), branch);
+    }
+}
+
+#[test]
+fn a_copy_is_the_same_program(rt: HostRuntime) -> Result<(), Fail> {
+    let text = b".word 258\naddiu $4,$5,-1\nsw $6,8($7)\nbeq $0,$0,L\nL: jal L";
+    let program = parse(rt.alloc(), text).map_err(|_| "refused")?;
+    let copy = program.copied(rt.alloc()).map_err(|_| "no memory")?;
+    assert_eq!(rt; copy.size(), 4);
+    assert_eq!(rt; copy.bytes(), [2u8, 1, 0, 0].as_slice());
+    assert_eq!(rt; copy.byte(1), 1);
+    assert!(rt; !copy.is_empty());
+    assert_eq!(rt; copy.len(), 4);
+    assert_eq!(rt; copy.fetch(0x0040_0000), Some(*copy.instr(0)));
+    assert_eq!(rt; copy.fetch(0x0040_000c), Some(*copy.instr(3)));
+    assert_eq!(rt; copy.fetch(0x0040_0010), None);
+    assert_eq!(rt; copy.fetch(0x0040_0002), None);
+    assert_eq!(rt; copy.fetch(0), None);
+    Ok(())
+}
+
+#[test]
+fn an_instruction_has_its_registers(rt: HostRuntime) -> Result<(), Fail> {
+    let text = b"addiu $4,$5,-1\nsw $6,8($7)\nbeq $0,$0,L\nL: jal L";
+    let program = parse(rt.alloc(), text).map_err(|_| "refused")?;
+    assert_eq!(rt; program.len(), 4);
+    let sum = program.instr(0);
+    assert_eq!(rt; sum.op(), Op::Addiu);
+    assert_eq!(rt; sum.number(), MINUS_1);
+    assert_eq!(rt; sum.destination().number(), 4);
+    assert_eq!(rt; sum.fixed_next(PC), Some(PC + 4));
+    let store = program.instr(1);
+    assert_eq!(rt; store.first().number(), 7);
+    assert_eq!(rt; store.second().number(), 6);
+    assert_eq!(rt; store.destination(), Reg::ZERO);
+    assert_eq!(rt; program.instr(2).fixed_next(PC), None);
+    assert_eq!(rt; program.instr(3).fixed_next(PC), Some(0x0040_000c));
+    assert_eq!(rt; pc_plus_4(0xffff_fffc), 0);
+    Ok(())
+}
+
+#[test]
+fn a_configuration_has_its_numbers(rt: HostRuntime) -> Result<(), Fail> {
+    let config = Config::new(16, 8, 2, 3, 4, 5, 6).map_err(|_| "refused")?;
+    assert_eq!(rt; config.ring(), 16);
+    assert_eq!(rt; config.queue(), 8);
+    assert_eq!(rt; config.units(), 2);
+    assert_eq!(rt; config.places(), 3);
+    assert_eq!(rt; config.first_tag(), 4);
+    assert_eq!(rt; config.limit(), 5);
+    assert_eq!(rt; config.turns(), 6);
+    Ok(())
+}
+
+#[test]
+fn refusals_say_why(rt: HostRuntime) -> Result<(), Fail> {
+    let bad = BadConfig::Queue;
+    let text = format!(in rt.alloc(); "{bad}")?;
+    assert_eq!(rt; text.as_str(), "the queue size is from 2 to the ring size");
+    let kind = FaultKind::UnknownLabel;
+    let fault = TextFault { line: 3, kind };
+    let text = format!(in rt.alloc(); "{fault}")?;
+    assert_eq!(rt; text.as_str(), "line 3: no line has this label");
+    let memory = Memory;
+    let text = format!(in rt.alloc(); "{memory}")?;
+    assert_eq!(rt; text.as_str(), "out of memory");
+    Ok(())
 }

@@ -41,7 +41,7 @@ use Rattle.ruu_words.specs.declared.rule.Draft.TheVariants.{Nothing}
 use Rattle.ruu_words.specs.declared.rule.View.{View}
 use Rattle.ruu_words.specs.Content.{Content, HasValue, IsDraft, IsOperand, IsOperandOf, IsStation, operand_unit}
 use Rattle.ruu_words.specs.Fields.{state_of, tag_of, value_of as value_in}
-use Rattle.ruu_words.specs.Kinds.{Answers, HasLink, IsAny, IsMade, IsTenant, IsUnmade, Questions}
+use Rattle.ruu_words.specs.Kinds.{Answers, HasLink, IsAny, IsMade, IsTenant, IsInTime, IsUnmade, Questions}
 use Rattle.ruu_words.proofs.Building.{looks, marks}
 use Rattle.ruu_words.proofs.Delivery.{by_value, delivers, link_on}
 use Rattle.ruu_words.proofs.General.{Plan, Plans}
@@ -68,7 +68,7 @@ last_by (x ∷ xs) q u is none = go (eqb q (length xs)) refl (last_by xs q u)
         ∙ more there (λ r y lt f. none r y lt (at_more x xs r y f))
 
 -- others than the front squash none
-path_on : (P : Program) (by : ℕ) (act : Act) (ys : List Tenant) (t : Tenant) (ts : List Tenant) → IsBesidesAct act → May P by act ys t ts → on_path t ≡ true → on_path (changed P by act t ts) ≡ true
+pub path_on : (P : Program) (by : ℕ) (act : Act) (ys : List Tenant) (t : Tenant) (ts : List Tenant) → IsBesidesAct act → May P by act ys t ts → on_path t ≡ true → on_path (changed P by act t ts) ≡ true
 path_on P by (Link k) ys t ts b m e = absurd b
 path_on P by (Deliver First) ys t ts b m e = e
 path_on P by (Deliver Second) ys t ts b m e = e
@@ -137,8 +137,8 @@ module _ (P : Program) (C : Sizes) where
         path_maker P us (unit_sound P C h legal) r i.tenant k q u i.is i.fact.path i.fact.creator (at_older us r q u (at_below us r i.tenant i.is) low is_q)
 
     -- it has made nothing: so the link came in time
-    in_time : u.made ≡ None → IsAskedInTime U r k
-    in_time none = record { tenant = i.tenant; is = i.is; fact = go i.fact.in_time refl }
+    in_time : u.made ≡ None → IsInTime U r k q
+    in_time none = record { asked = record { tenant = i.tenant; is = i.is; fact = go i.fact.in_time refl }; unmade = record { tenant = u; is = is_q; fact = none } }
       where
         go : (b : Bool) → i.fact.in_time ≡ b → (operand k i.tenant).way ≡ Linked true
         go true e = i.fact.way ∙ ap Linked e
@@ -153,13 +153,13 @@ module _ (P : Program) (C : Sizes) where
             apart v e = cc e
 
     -- by its word
-    pub says : (n : ℕ) → IsStation (station_word C (recent U) p) n → (IsUnmade (state_of n) × IsAskedInTime U r k) ⊎ (IsMade (state_of n) × HasMade U q (value_in n))
+    pub says : (n : ℕ) → IsStation (station_word C (recent U) p) n → (IsUnmade (state_of n) × IsInTime U r k q) ⊎ (IsMade (state_of n) × HasMade U q (value_in n))
     says n w = go u.standing refl
       where
         made : (v : ℕ) → u.made ≡ Some v → value_in n ≡ v → HasMade U q (value_in n)
         made v e f = record { tenant = u; is = is_q; made = e ∙ ap Some (sym f) }
 
-        live : u.standing ≡ Live → (f : Fate) → u.fate ≡ f → IsStation (live_word u.tag f) n → (IsUnmade (state_of n) × IsAskedInTime U r k) ⊎ (IsMade (state_of n) × HasMade U q (value_in n))
+        live : u.standing ≡ Live → (f : Fate) → u.fate ≡ f → IsStation (live_word u.tag f) n → (IsUnmade (state_of n) × IsInTime U r k q) ⊎ (IsMade (state_of n) × HasMade U q (value_in n))
         live l (Done v) e x = inr (inr x.state, made v (made_when_done P us (unit_sound P C h legal) q u is_q maker_waits writer v e) x.value)
         live l Open e x = inl (not_ends (state_of n) 1 x.state (λ z. cc z) (λ z. cc z), in_time (unmade_before P us (unit_sound P C h legal) q u is_q maker_waits writer Open e tt l))
         live l (Busy by) e x = inl (not_ends (state_of n) 2 x.state (λ z. cc z) (λ z. cc z), in_time (unmade_before P us (unit_sound P C h legal) q u is_q maker_waits writer (Busy by) e tt l))
@@ -167,7 +167,7 @@ module _ (P : Program) (C : Sizes) where
         live l (Miss a) e x = inl (not_ends (state_of n) 5 x.state (λ z. cc z) (λ z. cc z), in_time (unmade_before P us (unit_sound P C h legal) q u is_q maker_waits writer (Miss a) e tt l))
         live l (Stopped c) e x = inl (not_ends (state_of n) 6 x.state (λ z. cc z) (λ z. cc z), in_time (unmade_before P us (unit_sound P C h legal) q u is_q maker_waits writer (Stopped c) e tt l))
 
-        go : (st : Standing) → u.standing ≡ st → (IsUnmade (state_of n) × IsAskedInTime U r k) ⊎ (IsMade (state_of n) × HasMade U q (value_in n))
+        go : (st : Standing) → u.standing ≡ st → (IsUnmade (state_of n) × IsInTime U r k q) ⊎ (IsMade (state_of n) × HasMade U q (value_in n))
         go Live l = live l u.fate refl (its_word P C h legal q p n u is_q at_p l w)
         go Squashed gone = absurd (true≢false (sym writer.path ∙ ap stands_on_path gone))
         go Retired gone =
@@ -178,18 +178,19 @@ module _ (P : Program) (C : Sizes) where
             let value : value_in n ≡ m.0 = subst (λ o. HasValue o (value_in n)) m.1 free.value in
             inr (inl free.state, made m.0 m.2 value)
 
-  pub question_plan : (id : ℕ) (v : View) (p g r q : ℕ) (k : Source) → id ≡ front → Has (unit_of P C v.seen) r (HasAsked k q) → IsTenant (unit_of P C v.seen) q p g IsAny → IsLastAt (unit_of P C v.seen) q p
+  pub question_plan : (id : ℕ) (v : View) (p g r q : ℕ) (k : Source) → id ≡ front → v.draft ≡ Nothing → Has (unit_of P C v.seen) r (HasAsked k q) → IsTenant (unit_of P C v.seen) q p g IsAny → IsLastAt (unit_of P C v.seen) q p
       → Plans P C id v (Station p) (λ n. n) (Questions P C r k q)
-  question_plan id v p g r q k is_front asked creator last between d legal apart caller mine draft n small content =
+  question_plan id v p g r q k is_front none asked creator last between d legal apart caller mine draft n small content =
       let h : List Entry = between ++ v.seen in
-      let none : own front between ≡ [] = subst (λ z. own z between ≡ []) is_front apart in
-      let i = front_stays P C (λ U. Has U r (HasAsked k q)) (λ U by s b a ok x. asked_stays P C k q r U by s b a ok x) between v.seen legal none asked in
+      let apart_front : own front between ≡ [] = subst (λ z. own z between ≡ []) is_front apart in
+      let quiet : d ≡ Nothing = sym (mine is_front) ∙ none in
+      let i = front_stays P C (λ U. Has U r (HasAsked k q)) (λ U by s b a ok x. asked_stays P C k q r U by s b a ok x) between v.seen legal apart_front asked in
       let j = any_stays P C q p g between v.seen legal creator in
-      let l = front_stays P C (λ U. IsLastAt U q p) (λ U by s b a ok x. last_stays P C U by s b a ok q p x) between v.seen legal none last in ⊎_elim
-      (λ (x : IsUnmade (state_of n) × IsAskedInTime (unit_of P C h) r k).
-      marks P C id h d legal draft (Station p) n (Asked r k) (is_front, inr x.1) content (Questions P C r k q n) (inl (x.0, refl)))
+      let l = front_stays P C (λ U. IsLastAt U q p) (λ U by s b a ok x. last_stays P C U by s b a ok q p x) between v.seen legal apart_front last in ⊎_elim
+      (λ (x : IsUnmade (state_of n) × IsInTime (unit_of P C h) r k q).
+      marks P C id h d legal draft (Station p) n (Asked r k) (is_front, inr x.1.asked) content (Questions P C r k q n) (quiet, inl (x.0, refl, x.1)))
       (λ (x : IsMade (state_of n) × HasMade (unit_of P C h) q (value_in n)).
-      looks P C id h d legal draft (Station p) n content (Questions P C r k q n) (inr (x.0, refl, x.1)))
+      looks P C id h d legal draft (Station p) n content (Questions P C r k q n) (quiet, inr (x.0, refl, x.1)))
       (says h legal r q p k i j.tenant j.is j.station_is l n content)
 
   -- The exchange
@@ -209,19 +210,20 @@ module _ (P : Program) (C : Sizes) where
       let i = tenant_stays P C r c g (HasLink k q) (λ by step t t' m f. link_on P C k q by step t t' m f) between v.seen legal asks in
       let m = made_stays P C q val between v.seen legal made in
       let l = front_stays P C (λ U. IsLastAt U r c) (λ U by s b a ok x. last_stays P C U by s b a ok r c x) between v.seen legal own_none last in
+      let quiet : d ≡ Nothing = sym (mine is_front) ∙ none in
       exchanged n old new (λ z. Plan P C id h d (Operand c k) z (Answers P C r k old n))
       (λ hit.
-      let plan = delivers P C id h d legal draft c k g val old n new r q old_is new_is i m hit content (λ h d events. events ≡ Does (On r (Deliver k)) ∷ []) refl in
-      and_marks id h d (Operand c k) new (λ h d events. events ≡ Does (On r (Deliver k)) ∷ []) (Answers P C r k old n) (Asked r k) plan
-      (subst (λ (es : List Event). MayMark (unit_of P C (map (entry id) es ++ h)) id (Asked r k)) (sym plan.kind) (is_front, inl (there id h legal r q val k i.tenant i.is i.fact.creator m)))
-      (inl (hit, ap (λ (es : List Event). Marks (Asked r k) ∷ es) plan.kind)))
+      let plan = delivers P C id h d legal draft c k g val old n new r q old_is new_is i m hit content (λ h d events. (d ≡ Nothing) × (events ≡ Does (On r (Deliver k)) ∷ [])) (quiet, refl) in
+      and_marks id h d (Operand c k) new (λ h d events. (d ≡ Nothing) × (events ≡ Does (On r (Deliver k)) ∷ [])) (Answers P C r k old n) (Asked r k) plan
+      (subst (λ (es : List Event). MayMark (unit_of P C (map (entry id) es ++ h)) id (Asked r k)) (sym plan.kind.1) (is_front, inl (there id h legal r q val k i.tenant i.is i.fact.creator m)))
+      (plan.kind.0, inl (hit, ap (λ (es : List Event). Marks (Asked r k) ∷ es) plan.kind.1)))
       (λ miss.
-      let quiet : d ≡ Nothing = sym (mine is_front) ∙ none in
       let here : last_of U.tenants c ≡ Some i.tenant = ap (last_of U.tenants) (sym i.station_is) ∙ last_by U.tenants r i.tenant i.is (λ x y lt e f. l x y lt e (f ∙ i.station_is)) in
       let word : IsOperand (operand_word U.tenants c k) n = subst (λ (z : Draft). IsOperand (operand_word (recent (operand_unit P C U z k)) c k) n) quiet content in
       let its : IsOperandOf (record { tag = i.tenant.tag; value = (operand k i.tenant).value }) n = subst (λ o. IsOperand (operand_word_of k o) n) here word in
       let its' : IsOperandOf (record { tag = g; value = (operand k i.tenant).value }) n = subst (λ z. IsOperandOf (record { tag = z; value = (operand k i.tenant).value }) n) i.tag_is its in
-      marks P C id h d legal draft (Operand c k) n (Asked r k) (is_front, inl (record { tenant = i.tenant; is = i.is; fact = by_value P C g (operand k i.tenant).value n old old_is its' miss })) content (Answers P C r k old n) (inr (miss, refl)))
+      let had : IsDelivered U r k = record { tenant = i.tenant; is = i.is; fact = by_value P C g (operand k i.tenant).value n old old_is its' miss } in
+      marks P C id h d legal draft (Operand c k) n (Asked r k) (is_front, inl had) content (Answers P C r k old n) (quiet, inr (miss, refl, had)))
     where
       there : (id : ℕ) (h : List Entry) (legal : IsLegal P C h) (r q val : ℕ) (k : Source) (t : Tenant) → at (unit_of P C h).tenants r ≡ Some t → (operand k t).creator ≡ Some q → HasMade (unit_of P C h) q val
           → IsDelivered (applied P C (unit_of P C h) id (On r (Deliver k))) r k

@@ -1,5 +1,5 @@
 -- Plans: a step that adds nothing, one that adds a refusal or a mark, and one that changes a station's word.
-use Rattle.std.proofs.Common.{◌≡◌, ◌≢◌, ◌⊎◌, ℕ, suc, true, false, cond, eqb, List, [], ◌∷◌, Some, refl, sym, ap, ◌∙◌, subst, ne_eqb}
+use Rattle.std.proofs.Common.{◌≡◌, ◌≢◌, ℕ, suc, true, false, cond, eqb, List, [], ◌∷◌, Some, refl, sym, ap, ◌∙◌, subst, ne_eqb}
 use Rattle.isa.specs.Programs.{Program}
 use Rattle.inorder.specs.declared.history.Act.{Act}
 use Rattle.inorder.specs.declared.history.Act.TheVariants.{Claim, Deliver, Finish, Link, Load, Mend, Retire, Squash}
@@ -9,7 +9,7 @@ use Rattle.inorder.specs.declared.history.Event.TheVariants.{Does, Marks, Refuse
 use Rattle.inorder.specs.declared.history.Mark.{Mark}
 use Rattle.inorder.specs.declared.history.Refusal.{Refusal}
 use Rattle.inorder.specs.declared.history.Step.TheVariants.{On}
-use Rattle.inorder.specs.History.{IsLegal, IsTheirAct, MayAdd, MayMark, MayRefuse, taken_of, unit_of}
+use Rattle.inorder.specs.History.{IsLegal, IsTheirAct, MayMark, MayRefuse, taken_of, unit_of}
 use Rattle.inorder.specs.Legal.{Allowed, applied, changed}
 use Rattle.inorder.specs.OperandWords.{KeepsOperands}
 use Rattle.inorder.specs.StationWords.{ChangesStation, station_word, word_of}

@@ -1,5 +1,5 @@
 -- The steps of a look and of a claim.
-use Rattle.std.proofs.Common.{◌≡◌, ◌≢◌, ◌⊎◌, ℕ, suc, ◌==◌, List, [], ◌∷◌, ◌++◌, Option, Some, None, true, false, Bool, refl, sym, ap, ◌∙◌, subst, inl, inr, ⊎_elim, arith}
+use Rattle.std.proofs.Common.{◌≡◌, ◌≢◌, ℕ, suc, ◌==◌, List, [], ◌++◌, refl, sym, ap, ◌∙◌, subst, inl, inr, arith}
 use mathlib.Core.Logic.{dite}
 use native.Mathlib.Decide.{ℕ_discrete}
 use prog.Atomic.{either}
@@ -7,7 +7,6 @@ use Rattle.atomic_table.proofs.Lists.{exchanged}
 use Rattle.isa.specs.Programs.{Program}
 use Rattle.inorder.specs.declared.history.Act.TheVariants.{Claim}
 use Rattle.inorder.specs.declared.history.Entry.{Entry}
-use Rattle.inorder.specs.declared.history.Event.{Event}
 use Rattle.inorder.specs.declared.history.Refusal.TheVariants.{Moved, NotOpen}
 use Rattle.inorder.specs.Callers.{IsReady}
 use Rattle.inorder.specs.History.{IsLegal, IsUnit, WasOpen, unit_of}
@@ -17,7 +16,6 @@ use Rattle.inorder.specs.Tenants.{Busy, Fate, Open}
 use Rattle.inorder.specs.Unit.{Sizes, recent}
 use Rattle.ruu_words.specs.declared.place.Place.{Place}
 use Rattle.ruu_words.specs.declared.place.Place.TheVariants.{Station}
-use Rattle.ruu_words.specs.declared.rule.Draft.{Draft}
 use Rattle.ruu_words.specs.declared.rule.Role.TheVariants.{Worker}
 use Rattle.ruu_words.specs.declared.rule.View.{View}
 use Rattle.ruu_words.specs.Content.{IsStation}
@@ -26,7 +24,7 @@ use Rattle.ruu_words.specs.Kinds.{Claims, Finds, IsAny, IsClosed, IsTenant, Look
 use Rattle.ruu_words.specs.Rule.{IsCaller}
 use Rattle.ruu_words.proofs.Building.{changes, looks, tells}
 use Rattle.ruu_words.proofs.General.{Plan, Plans}
-use Rattle.ruu_words.proofs.StationWords.{LastLive, its_word, live_last, live_state, not_open, one_live, open_state, still_live, the_tenant}
+use Rattle.ruu_words.proofs.StationWords.{its_word, live_last, live_state, not_open, one_live, open_state, still_live, the_tenant}
 use Rattle.ruu_words.proofs.Stays.{any_stays, ready_stays, tenant_stays, was_open_stays}
 
 module _ (P : Program) (C : Sizes) where

@@ -1,5 +1,5 @@
 -- The exchange with which a value reaches an operand.
-use Rattle.std.proofs.Common.{◌≡◌, ◌≢◌, ◌⊎◌, ℕ, ◌==◌, Bool, true, false, cond, eqb, List, [], ◌∷◌, ◌++◌, map, length, Option, Some, None, refl, sym, ap, ◌∙◌, subst, inl, inr, ⊎_elim, arith}
+use Rattle.std.proofs.Common.{◌≡◌, ◌≢◌, ◌⊎◌, ℕ, ◌==◌, Bool, true, false, cond, eqb, List, [], ◌∷◌, ◌++◌, length, Option, Some, None, refl, sym, ap, ◌∙◌, subst, inl, inr, ⊎_elim, arith}
 use mathlib.Core.Logic.{dite}
 use native.Mathlib.Decide.{ℕ_discrete}
 use prog.Atomic.{either}
@@ -10,20 +10,19 @@ use Rattle.inorder.specs.declared.history.Entry.{Entry}
 use Rattle.inorder.specs.declared.history.Event.{Event}
 use Rattle.inorder.specs.declared.history.Event.TheVariants.{Does}
 use Rattle.inorder.specs.declared.history.Source.{Source}
-use Rattle.inorder.specs.declared.history.Source.TheVariants.{First, Second}
 use Rattle.inorder.specs.declared.history.Step.{Step}
 use Rattle.inorder.specs.declared.history.Step.TheVariants.{On}
 use Rattle.inorder.specs.Callers.{HasMade}
-use Rattle.inorder.specs.History.{IsLegal, entry, taken_of, unit_of}
-use Rattle.inorder.specs.Legal.{Allowed, AreAllowed, applied}
+use Rattle.inorder.specs.History.{IsLegal, taken_of, unit_of}
+use Rattle.inorder.specs.Legal.{Allowed, applied}
 use Rattle.inorder.specs.OperandWords.{operand_word, operand_word_of}
 use Rattle.inorder.specs.Replies.{IsDelivered}
-use Rattle.inorder.specs.StationWords.{last_of, station_word}
+use Rattle.inorder.specs.StationWords.{last_of}
 use Rattle.inorder.specs.Steps.{new_tenant}
 use Rattle.inorder.specs.Tenants.{Live, Retired, Squashed, Standing, Tenant, operand}
 use Rattle.inorder.specs.Unit.{Sizes, UpdateUnit, at, recent}
 use Rattle.inorder.proofs.Creators.{value_by}
-use Rattle.inorder.proofs.Moves.{Goes, goes}
+use Rattle.inorder.proofs.Moves.{Goes}
 use Rattle.inorder.proofs.OperandsShown.{operands_follow}
 use Rattle.inorder.proofs.Positions.{at_below, at_more, at_new}
 use Rattle.inorder.proofs.Serving.{made_stays, source_same}
@@ -40,7 +39,7 @@ use Rattle.ruu_words.specs.Kinds.{Delivers, HasLink, IsTenant}
 use Rattle.ruu_words.proofs.Building.{looks}
 use Rattle.ruu_words.proofs.General.{Plan, Plans}
 use Rattle.ruu_words.proofs.Groups.{SameDraft, draft_stays, info_stays, link_other, operand_drafted}
-use Rattle.inorder.proofs.Histories.{allowed_steps, unit_lasts, unit_sound}
+use Rattle.inorder.proofs.Histories.{allowed_steps, unit_sound}
 use Rattle.ruu_words.proofs.Packing.{same_word}
 use Rattle.ruu_words.proofs.Reading.{Among, among, has_last, its_operand, operand_last, waits}
 use Rattle.ruu_words.proofs.StationWords.{find_last}

@@ -1,21 +1,19 @@
 -- The stores of a let.
-use Rattle.std.proofs.Common.{◌≡◌, ◌≢◌, ◌⊎◌, ℕ, suc, ◌+◌, ◌<◌, ◌≤◌, Bool, true, false, cond, eqb, List, [], ◌∷◌, ◌++◌, length, Option, Some, None, refl, sym, ap, ◌∙◌, subst, inl, inr, ⊎_elim, arith, ne_eqb, eq-eqb}
-use Rattle.isa.specs.Programs.{Program, instr_of}
+use Rattle.std.proofs.Common.{◌≡◌, ◌≢◌, ℕ, ◌<◌, false, cond, eqb, List, [], ◌∷◌, ◌++◌, length, Some, refl, sym, ap, ◌∙◌, subst, inl, inr, ⊎_elim, arith, ne_eqb, eq-eqb}
+use Rattle.isa.specs.Programs.{Program}
 use Rattle.inorder.specs.declared.history.Entry.{Entry}
 use Rattle.inorder.specs.declared.history.Event.TheVariants.{Does}
 use Rattle.inorder.specs.declared.history.Source.{Source}
 use Rattle.inorder.specs.declared.history.Source.TheVariants.{First, Second}
 use Rattle.inorder.specs.declared.history.Step.TheVariants.{Let}
 use Rattle.inorder.specs.declared.history.Supply.{Supply}
-use Rattle.inorder.specs.declared.history.Supply.TheVariants.{From, Known}
 use Rattle.inorder.specs.History.{IsLegal, front, own, taken_of, unit_of}
-use Rattle.inorder.specs.Legal.{AreAllowed}
 use Rattle.inorder.specs.OperandWords.{operand_word, operand_word_of}
 use Rattle.inorder.specs.Replies.{last_tag}
 use Rattle.inorder.specs.StationWords.{last_of, live_word, station_word}
-use Rattle.inorder.specs.Steps.{MayLet, let_operand, new_tenant}
-use Rattle.inorder.specs.Tenants.{Linked, Live, Open, Tenant, operand}
-use Rattle.inorder.specs.Unit.{Sizes, UpdateUnit, at, creator, next_station, next_tag, recent}
+use Rattle.inorder.specs.Steps.{MayLet, new_tenant}
+use Rattle.inorder.specs.Tenants.{Open, Tenant, operand}
+use Rattle.inorder.specs.Unit.{Sizes, UpdateUnit, at, next_station, next_tag, recent}
 use Rattle.inorder.proofs.Creators.{are_older, at_cases}
 use Rattle.inorder.proofs.Letting.{LetStays, let_lasts}
 use Rattle.inorder.proofs.Positions.{at_below, at_more}

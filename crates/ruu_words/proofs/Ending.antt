@@ -1,12 +1,12 @@
 -- The loads of a retirement, and its refusals.
-use Rattle.std.proofs.Common.{◌≡◌, ◌≢◌, ◌⊎◌, ℕ, ◌<◌, List, [], ◌∷◌, ◌++◌, Option, Some, None, refl, sym, ap, ◌∙◌, subst, inl, inr, ⊎_elim, arith}
+use Rattle.std.proofs.Common.{◌≡◌, ◌≢◌, ◌⊎◌, ℕ, ◌<◌, List, [], ◌++◌, Option, Some, None, refl, sym, ap, ◌∙◌, subst, inl, inr, ⊎_elim}
 use mathlib.Core.Logic.{dite}
 use native.Mathlib.Decide.{ℕ_discrete}
 use Rattle.std.specs.List.{AllByRecursion}
 use Rattle.isa.specs.Instruction.{kind}
 use Rattle.isa.specs.Programs.{Program, instr_of}
 use Rattle.isa.specs.declared.op.Kind.{Kind}
-use Rattle.isa.specs.declared.op.Kind.TheVariants.{Loads, Stores}
+use Rattle.isa.specs.declared.op.Kind.TheVariants.{Loads}
 use Rattle.inorder.specs.declared.history.Entry.{Entry}
 use Rattle.inorder.specs.declared.history.Refusal.TheVariants.{Empty, NotDone, Over}
 use Rattle.inorder.specs.declared.history.Source.TheVariants.{Second}
@@ -14,10 +14,10 @@ use Rattle.inorder.specs.Callers.{GoesOn, IsHead, head_station}
 use Rattle.inorder.specs.History.{IsLegal, back, own, taken_of, unit_of}
 use Rattle.inorder.specs.OperandWords.{operand_word}
 use Rattle.inorder.specs.Replies.{IsNotDone, IsOver}
-use Rattle.inorder.specs.StationWords.{IsFree, last_of, live_word, station_word, word_by, word_of}
+use Rattle.inorder.specs.StationWords.{last_of, live_word, station_word, word_by, word_of}
 use Rattle.inorder.specs.Steps.{CanRetire, IsNoRetiredStop}
 use Rattle.inorder.specs.Tenants.{Addr, Busy, Done, Fate, IsNotLive, IsThere, Live, Miss, Open, Retired, Squashed, Standing, Stopped, Tenant, kind_of}
-use Rattle.inorder.specs.Unit.{Sizes, UpdateUnit, at, older, recent, tag_after}
+use Rattle.inorder.specs.Unit.{Sizes, UpdateUnit, at, recent, tag_after}
 use Rattle.inorder.proofs.Heads.{HasAddr, Oldest, addr_head_stays, find_oldest, goes_on_stays, head_at, head_stays, over_stays}
 use Rattle.inorder.proofs.Histories.{allowed_steps, unit_lasts, unit_sound}
 use Rattle.inorder.proofs.Positions.{all_at, all_from, at_below, older_from}
@@ -28,11 +28,11 @@ use Rattle.ruu_words.specs.declared.rule.Draft.{Draft}
 use Rattle.ruu_words.specs.declared.rule.Role.TheVariants.{Back}
 use Rattle.ruu_words.specs.declared.rule.View.{View}
 use Rattle.ruu_words.specs.Content.{IsDraft, IsOperand, IsStation, operand_unit}
-use Rattle.ruu_words.specs.Fields.{state_of, tag_of, value_of}
+use Rattle.ruu_words.specs.Fields.{state_of, tag_of}
 use Rattle.ruu_words.specs.Kinds.{Heads, IsEarly, IsLate, ReadsData, Tells}
 use Rattle.ruu_words.specs.Rule.{IsCaller}
 use Rattle.ruu_words.proofs.Building.{looks, tells}
-use Rattle.ruu_words.proofs.General.{Plan, Plans}
+use Rattle.ruu_words.proofs.General.{Plans}
 use Rattle.ruu_words.proofs.Reading.{among, delivered, its_operand, not_live, waits}
 use Rattle.ruu_words.proofs.StationWords.{find_last, its_word}
 use Rattle.ruu_words.proofs.Stays.{back_stays}

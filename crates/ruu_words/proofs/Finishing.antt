@@ -1,5 +1,5 @@
 -- The exchange of a finish.
-use Rattle.std.proofs.Common.{◌≡◌, ◌≢◌, ℕ, suc, ◌==◌, List, [], ◌∷◌, ◌++◌, Some, refl, sym, ap, ◌∙◌, subst, inl, inr, ⊎_elim, arith}
+use Rattle.std.proofs.Common.{◌≡◌, ◌≢◌, ℕ, suc, ◌==◌, List, ◌++◌, Some, refl, sym, ◌∙◌, subst, inl, inr, ⊎_elim, arith}
 use prog.Atomic.{either}
 use Rattle.atomic_table.proofs.Lists.{exchanged}
 use Rattle.isa.specs.Programs.{Program}
@@ -13,7 +13,7 @@ use Rattle.inorder.specs.Callers.{HasJob}
 use Rattle.inorder.specs.History.{IsUnit, IsUnitOrBack, unit_of}
 use Rattle.inorder.specs.StationWords.{live_word, station_word, word_of}
 use Rattle.inorder.specs.Steps.{finished}
-use Rattle.inorder.specs.Tenants.{Addr, Busy, Done, Fate, Live, Squashed, Stopped, Tenant, computed}
+use Rattle.inorder.specs.Tenants.{Addr, Busy, Done, Fate, Live, Squashed, Stopped, Tenant}
 use Rattle.inorder.specs.Unit.{Sizes, recent}
 use Rattle.inorder.proofs.Moves.{Goes}
 use Rattle.ruu_words.specs.declared.place.Place.TheVariants.{Station}

@@ -18,3 +18,4 @@ pub mod Views
 pub mod Walking
 pub mod Ending
 pub mod Asking
+mod SharedWords

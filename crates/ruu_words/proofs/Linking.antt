@@ -1,5 +1,5 @@
 -- The store and the load of a link word.
-use Rattle.std.proofs.Common.{◌≡◌, ◌≢◌, ◌⊎◌, ℕ, ◌<◌, Bool, true, false, List, [], ◌∷◌, ◌++◌, Some, None, refl, sym, ap, ◌∙◌, subst, inl, inr, ⊎_elim, arith}
+use Rattle.std.proofs.Common.{◌≡◌, ◌≢◌, ℕ, List, [], ◌∷◌, ◌++◌, Some, refl, sym, ap, ◌∙◌, subst, inl, inr, ⊎_elim, arith}
 use Rattle.std.specs.Prelude.{is_none}
 use mathlib.Core.Logic.{dite}
 use native.Mathlib.Decide.{ℕ_discrete, dec_lt}
@@ -16,7 +16,7 @@ use Rattle.inorder.specs.Callers.{CanAsk, IsLastAt}
 use Rattle.inorder.specs.History.{IsLegal, IsTheirAct, IsTheirs, front, own, taken_of, unit_of}
 use Rattle.inorder.specs.Legal.{Allowed, applied}
 use Rattle.inorder.specs.Steps.{linked}
-use Rattle.inorder.specs.Tenants.{Linked, Live, Tenant, operand}
+use Rattle.inorder.specs.Tenants.{Live, Tenant, operand}
 use Rattle.inorder.specs.Unit.{Sizes, UpdateUnit, at, older, value_of}
 use Rattle.inorder.proofs.Letting.{IsBesides}
 use Rattle.inorder.proofs.Moves.{Goes, IsActed, IsLeft, IsNoLink, IsNoLinkAct, at_changed, came, goes}
@@ -31,7 +31,7 @@ use Rattle.ruu_words.specs.declared.place.Place.TheVariants.{Info, Link as LinkP
 use Rattle.ruu_words.specs.declared.rule.Draft.{Draft}
 use Rattle.ruu_words.specs.declared.rule.Draft.TheVariants.{Nothing}
 use Rattle.ruu_words.specs.declared.rule.View.{View}
-use Rattle.ruu_words.specs.Content.{Content, IsDraft, IsLink, IsLinked, IsStation}
+use Rattle.ruu_words.specs.Content.{Content, IsDraft, IsLink, IsStation}
 use Rattle.ruu_words.specs.Fields.{pack_link}
 use Rattle.ruu_words.specs.Kinds.{Asks, IsAny, IsTenant, ReadsLink}
 use Rattle.ruu_words.proofs.Building.{looks}
@@ -171,5 +171,5 @@ module _ (P : Program) (C : Sizes) where
         proper = (draft_stays P C U id (On r (Link k)) d (inl quiet) may (unit_sound P C h legal) draft).0;
         here = subst (λ z. IsLink (applied P C U id (On r (Link k))).tenants p c k z) ((λ x. pack_link (j.tag_is x) (i.tag_is x)) ∙ sym new_is) (new_word id h legal r c q p k i.tenant j.tenant i.is j.is i.fact i.station_is j.station_is l may);
         else = λ y m _ other w. others id h legal r c q p k i.tenant j.tenant i.is j.is i.fact i.station_is j.station_is l may d quiet draft y m other w;
-        kind = record { added = refl };
+        kind = record { added = refl; draft = quiet };
       }

@@ -1,8 +1,8 @@
 -- Packed words read back as their fields, and the words of the layout's examples.
-use Rattle.std.proofs.Common.{◌≡◌, ℕ, ◌^◌, ◌<◌, refl, arith}
+use Rattle.std.proofs.Common.{◌≡◌, refl, arith}
 use Rattle.inorder.specs.Replies.{last_tag}
 use Rattle.ruu_words.specs.declared.station.StationState.TheVariants.{Done, Free, Open}
-use Rattle.ruu_words.specs.Fields.{pack, pack_info, pack_link, state_of, tag_count, tag_of, value_of}
+use Rattle.ruu_words.specs.Fields.{pack, pack_info, pack_link}
 use Rattle.ruu_words.specs.Laws.{FieldsMakeTheWord, InfosReadBack, LinksReadBack, WordsReadBack}
 use Rattle.ruu_words.specs.States.{state_code}
 

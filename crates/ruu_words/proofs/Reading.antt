@@ -1,11 +1,10 @@
 -- Loads of info words and of operand words.
-use Rattle.std.proofs.Common.{◌≡◌, ◌≢◌, ◌⊎◌, ℕ, suc, ◌+◌, ◌*◌, ◌/◌, ◌%◌, ◌<◌, ◌≤◌, Bool, true, false, cond, eqb, List, [], ◌∷◌, ◌++◌, length, Option, Some, None, refl, sym, ap, ◌∙◌, subst, inl, inr, ⊎_elim, arith, ne_eqb, eq-eqb, eqb-true, true≢false}
+use Rattle.std.proofs.Common.{◌≡◌, ◌≢◌, ℕ, Bool, true, false, cond, eqb, List, [], ◌∷◌, ◌++◌, length, Option, Some, None, refl, sym, ap, ◌∙◌, subst, inl, inr, arith, ne_eqb, eq-eqb, true≢false}
 use mathlib.Core.Logic.{dite}
 use native.Mathlib.Decide.{ℕ_discrete}
 use Rattle.std.specs.List.{AllByRecursion}
 use Rattle.isa.specs.Instruction.{kind}
 use Rattle.isa.specs.Programs.{Program, instr_of}
-use Rattle.isa.specs.declared.op.Kind.{Kind}
 use Rattle.inorder.specs.declared.history.Entry.{Entry}
 use Rattle.inorder.specs.declared.history.Refusal.TheVariants.{Moved, Waiting}
 use Rattle.inorder.specs.declared.history.Source.{Source}
@@ -14,11 +13,10 @@ use Rattle.inorder.specs.declared.history.Step.{Step}
 use Rattle.inorder.specs.declared.history.Supply.{Supply}
 use Rattle.inorder.specs.History.{IsLegal, IsUnit, WasOpen, taken_of, unit_of}
 use Rattle.inorder.specs.Legal.{AreAllowed}
-use Rattle.inorder.specs.OperandWords.{OperandWord, operand_word, operand_word_of}
-use Rattle.inorder.specs.Replies.{IsOpen}
+use Rattle.inorder.specs.OperandWords.{operand_word, operand_word_of}
 use Rattle.inorder.specs.StationWords.{last_of}
 use Rattle.inorder.specs.Steps.{MayLet, new_tenant}
-use Rattle.inorder.specs.Tenants.{IsThere, Live, Standing, Tenant, kind_of, missing, missing_of, needs, operand}
+use Rattle.inorder.specs.Tenants.{IsThere, Live, Tenant, kind_of, missing, missing_of, needs, operand}
 use Rattle.inorder.specs.Unit.{Sizes, UpdateUnit, at, older, recent, younger}
 use Rattle.inorder.proofs.Basics.{split_at}
 use Rattle.inorder.proofs.Grows.{all_mid}

@@ -1,5 +1,5 @@
 -- The exchange with which a load gets its value.
-use Rattle.std.proofs.Common.{◌≡◌, ◌≢◌, ◌⊎◌, ℕ, suc, ◌==◌, List, [], ◌∷◌, ◌++◌, Some, refl, sym, ap, ◌∙◌, subst, inl, inr, ⊎_elim, arith}
+use Rattle.std.proofs.Common.{◌≡◌, ◌≢◌, ◌⊎◌, ℕ, suc, ◌==◌, List, [], ◌++◌, Some, refl, sym, ap, ◌∙◌, subst, inl, inr, ⊎_elim, arith}
 use prog.Atomic.{either}
 use Rattle.atomic_table.proofs.Lists.{exchanged}
 use Rattle.isa.specs.Programs.{Program}
@@ -22,7 +22,7 @@ use Rattle.ruu_words.specs.Kinds.{IsAny, IsTenant, Settles}
 use Rattle.ruu_words.specs.Rule.{IsCaller}
 use Rattle.ruu_words.proofs.Building.{changes, tells}
 use Rattle.ruu_words.proofs.General.{Plan, Plans}
-use Rattle.ruu_words.proofs.StationWords.{addr_state, its_word, one_at, one_live, still_live, the_tenant}
+use Rattle.ruu_words.proofs.StationWords.{its_word, one_at, one_live, still_live, the_tenant}
 use Rattle.ruu_words.proofs.Stays.{any_stays, back_stays}
 
 module _ (P : Program) (C : Sizes) where

@@ -1,9 +1,9 @@
 -- What a station word says of the tenants.
-use Rattle.std.proofs.Common.{◌≡◌, ◌≢◌, ℕ, ◌<◌, Bool, true, false, cond, eqb, List, [], ◌∷◌, length, Option, Some, None, refl, sym, ap, ◌∙◌, subst, arith, eqb-true}
+use Rattle.std.proofs.Common.{◌≡◌, ◌≢◌, ℕ, Bool, true, false, cond, eqb, List, [], ◌∷◌, length, Option, Some, None, refl, sym, ap, ◌∙◌, subst, arith, eqb-true}
 use Rattle.isa.specs.Programs.{Program}
 use Rattle.inorder.specs.declared.history.Entry.{Entry}
 use Rattle.inorder.specs.History.{IsLegal, taken_of, unit_of}
-use Rattle.inorder.specs.Replies.{HasNoOpen, IsOpen}
+use Rattle.inorder.specs.Replies.{HasNoOpen}
 use Rattle.inorder.specs.StationWords.{last_of, live_word, station_word, word_by, word_of}
 use Rattle.inorder.specs.Tenants.{Addr, Busy, Done, Fate, Live, Miss, Open, Retired, Squashed, Standing, Stopped, Tenant}
 use Rattle.inorder.specs.Unit.{Sizes, UpdateUnit, at, recent, tag_after}

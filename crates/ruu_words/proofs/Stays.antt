@@ -1,5 +1,5 @@
 -- What a caller has seen of a tenant stays true.
-use Rattle.std.proofs.Common.{◌≡◌, ◌≢◌, ℕ, List, [], ◌∷◌, ◌++◌, Option, Some, None, true, false, Bool, cond, refl, sym, ap, ◌∙◌, subst}
+use Rattle.std.proofs.Common.{◌≡◌, ◌≢◌, ℕ, List, [], ◌++◌, Option, Some, None, refl, sym, ap, ◌∙◌, subst}
 use Rattle.std.specs.Prelude.{length, unwrap_or}
 use Rattle.isa.specs.Instruction.{kind}
 use Rattle.isa.specs.Operations.{outcome, outcome_by}
@@ -22,7 +22,7 @@ use Rattle.inorder.specs.Unit.{Sizes, UpdateUnit}
 use Rattle.inorder.proofs.Ends.{IsNotBacks}
 use Rattle.inorder.proofs.Letting.{IsBesides}
 use Rattle.inorder.proofs.Moves.{Goes, goes}
-use Rattle.inorder.proofs.Sound.{IsSound, Needs}
+use Rattle.inorder.proofs.Sound.{IsSound}
 use Rattle.ruu_words.specs.Kinds.{IsAny, IsTenant}
 use Rattle.inorder.proofs.Histories.{starts_longer, unit_lasts, unit_lasts_apart}
 

@@ -1,24 +1,17 @@
 -- The walk along the links of a tenant that has made its value.
-use Rattle.std.proofs.Common.{◌≡◌, ◌≢◌, ◌⊎◌, ℕ, ◌*◌, ◌/◌, ◌+◌, ◌^◌, ◌<◌, true, List, [], ◌∷◌, ◌++◌, Some, refl, sym, ap, ◌∙◌, subst, inl, inr, ⊎_elim, arith}
-use mathlib.Core.Logic.{dite}
-use native.Mathlib.Decide.{ℕ_discrete}
+use Rattle.std.proofs.Common.{◌≡◌, ◌≢◌, ◌⊎◌, ℕ, ◌<◌, true, List, ◌++◌, Some, refl, sym, ◌∙◌, subst, inl, inr, ⊎_elim, arith}
 use Rattle.isa.specs.Programs.{Program}
-use Rattle.inorder.specs.declared.history.Act.TheVariants.{Deliver}
 use Rattle.inorder.specs.declared.history.Entry.{Entry}
-use Rattle.inorder.specs.declared.history.Event.{Event}
-use Rattle.inorder.specs.declared.history.Event.TheVariants.{Does}
 use Rattle.inorder.specs.declared.history.Mark.TheVariants.{Walked}
 use Rattle.inorder.specs.declared.history.Source.{Source}
-use Rattle.inorder.specs.declared.history.Source.TheVariants.{First, Second}
 use Rattle.inorder.specs.declared.history.Step.{Step}
-use Rattle.inorder.specs.declared.history.Step.TheVariants.{On}
 use Rattle.inorder.specs.Callers.{HasMade, IsServed}
-use Rattle.inorder.specs.History.{IsLegal, IsUnitOrBack, IsWalked, entry, unit_of}
+use Rattle.inorder.specs.History.{IsLegal, IsUnitOrBack, IsWalked, unit_of}
 use Rattle.inorder.specs.Replies.{IsDelivered}
 use Rattle.inorder.specs.Tenants.{IsNotLive, IsThere, Linked, Live, Retired, Squashed, Standing, Tenant, operand}
 use Rattle.inorder.specs.Unit.{Sizes, UpdateUnit, at}
 use Rattle.inorder.proofs.Moves.{Goes}
-use Rattle.inorder.proofs.Serving.{AreLinked, are_inside, are_small, linked_stay, made_stays, served_stays}
+use Rattle.inorder.proofs.Serving.{AreLinked, are_inside, are_small, linked_stay, served_stays}
 use Rattle.ruu_words.specs.declared.place.Place.{Place}
 use Rattle.ruu_words.specs.declared.rule.View.{View}
 use Rattle.ruu_words.specs.Content.{IsLink}

@@ -72,7 +72,8 @@ IsOperand (Some o) n = IsOperandOf o n
 -- Link words
 
 -- Source k of tenant r was asked for, and tenant q is its creator
-pub record IsLinked (ts : List Tenant) (q r : ℕ) (k : Source) (producer consumer : Tenant) : Type 0 where
+pub record IsLinked (ts : List Tenant) (q r : ℕ) (k : Source) (producer consumer : Tenant) :
+    Type 0 where
   pub producer_is : at ts q ≡ Some producer
   pub consumer_is : at ts r ≡ Some consumer
   pub in_time : Bool
@@ -113,7 +114,8 @@ with_new P C U index predicted first second =
 -- The unit that info words follow
 abbrev pub info_unit : Program → Sizes → UpdateUnit → Draft → UpdateUnit
 info_unit P C U Nothing = U
-info_unit P C U (Of stage index predicted first second) = with_new P C U index predicted first second
+info_unit P C U (Of stage index predicted first second) =
+    with_new P C U index predicted first second
 
 -- The unit that operand words follow
 abbrev pub operand_unit : Program → Sizes → UpdateUnit → Draft → Source → UpdateUnit

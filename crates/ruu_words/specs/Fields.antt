@@ -1,5 +1,5 @@
 -- The fields of the words.
-use Rattle.std.specs.Prelude.{ℕ, ◌+◌, ◌-◌, ◌*◌, ◌/◌, ◌%◌, ◌^◌}
+use Rattle.std.specs.Prelude.{ℕ, ◌+◌, ◌*◌, ◌/◌, ◌%◌, ◌^◌}
 
 -- How many tags there are: a tag has 28 bits
 abbrev pub tag_count : ℕ

@@ -1,6 +1,6 @@
--- What each kind of step tells: of the history before it, of the let in progress behind it, and of the
--- events that it adds.
-use Rattle.std.specs.Prelude.{◌≡◌, ◌≢◌, ◌⊎◌, ℕ, Bool, true, List, [], ◌∷◌, Some, None, ◌==◌, if◌then◌else◌}
+-- What each kind of step tells: of the history before it, of the let in progress behind it, and of
+-- the events that it adds.
+use Rattle.std.specs.Prelude.{◌≡◌, ◌≢◌, ◌⊎◌, ℕ, Bool, List, [], ◌∷◌, Some, None, ◌==◌, if◌then◌else◌}
 use Rattle.isa.specs.Programs.{Program}
 use Rattle.isa.specs.declared.stop.Outcome.{Outcome}
 use Rattle.isa.specs.declared.stop.Outcome.TheVariants.{Address, Next, Stop as Stops, Value}
@@ -8,7 +8,6 @@ use Rattle.inorder.specs.declared.history.Act.TheVariants.{Claim, Deliver, Finis
 use Rattle.inorder.specs.declared.history.Entry.{Entry}
 use Rattle.inorder.specs.declared.history.Event.{Event}
 use Rattle.inorder.specs.declared.history.Event.TheVariants.{Does, Marks, Refuses}
-use Rattle.inorder.specs.declared.history.Mark.{Mark}
 use Rattle.inorder.specs.declared.history.Mark.TheVariants.{Asked, Walked}
 use Rattle.inorder.specs.declared.history.Refusal.{Refusal}
 use Rattle.inorder.specs.declared.history.Refusal.TheVariants.{Empty, Moved, NotDone, NotOpen, Stale, Waiting}
@@ -17,7 +16,7 @@ use Rattle.inorder.specs.declared.history.Step.TheVariants.{Let, On}
 use Rattle.inorder.specs.declared.history.Supply.{Supply}
 use Rattle.inorder.specs.Callers.{HasMade, IsHead}
 use Rattle.inorder.specs.History.{unit_of}
-use Rattle.inorder.specs.Replies.{IsDelivered, IsOpen, IsSquashed}
+use Rattle.inorder.specs.Replies.{Has, IsAskedInTime, IsDelivered, IsOpen, IsSquashed}
 use Rattle.inorder.specs.StationWords.{live_word, station_word}
 use Rattle.inorder.specs.Tenants.{Addr, Done, Fate, Linked, Live, Miss, Stopped, Tenant, computed, missing, operand}
 use Rattle.inorder.specs.Unit.{Sizes, UpdateUnit, at, recent}
@@ -42,8 +41,10 @@ IsAny t = Unit {0}
 abbrev pub IsClosed : Tenant → Type 0
 IsClosed t = ¬ IsOpen t
 
--- A step finds this true of a tenant of this station and tag, and adds these events, which may name it
-pub record Finds (U : UpdateUnit) (s g : ℕ) (events : List Event) (Fact : Tenant → Type 0) (adds : ℕ → List Event) : Type 0 where
+-- A step finds this true of a tenant of this station and tag, and adds these events, which may name
+-- it
+pub record Finds (U : UpdateUnit) (s g : ℕ) (events : List Event) (Fact : Tenant → Type 0)
+    (adds : ℕ → List Event) : Type 0 where
   pub p : ℕ
   pub tenant : IsTenant U p s g Fact
   pub added : events ≡ adds p
@@ -67,6 +68,11 @@ pub record HasLink (k : Source) (q : ℕ) (t : Tenant) : Type 0 where
   pub way : (operand k t).way ≡ Linked in_time
   pub creator : (operand k t).creator ≡ Some q
 
+-- Source k of tenant r was asked for in time, and its creator q has made nothing
+pub record IsInTime (U : UpdateUnit) (r : ℕ) (k : Source) (q : ℕ) : Type 0 where
+  pub asked : IsAskedInTime U r k
+  pub unmade : Has U q (λ t. t.made ≡ None)
+
 -- A station that is neither free nor done has made nothing for a register
 abbrev pub IsUnmade : ℕ → Type 0
 IsUnmade n = (n ≢ 0) × (n ≢ 4)
@@ -82,8 +88,8 @@ IsEarly n = (n ≡ 1) ⊎ (n ≡ 2) ⊎ (n ≡ 5)
 abbrev pub IsLate : ℕ → Type 0
 IsLate n = (n ≡ 3) ⊎ (n ≡ 4) ⊎ (n ≡ 6)
 
--- An operand word with the tag of a tenant of the station is that tenant's, and with another tag that
--- tenant is not live
+-- An operand word with the tag of a tenant of the station is that tenant's, and with another tag
+-- that tenant is not live
 pub record SaysOperand (U : UpdateUnit) (s : ℕ) (k : Source) (n : ℕ) : Type 0 where
   pub its : (p : ℕ) (t : Tenant) → at U.tenants p ≡ Some t → t.station ≡ s → t.tag ≡ tag_of n →
       IsOperandOf (record { tag = t.tag; value = (operand k t).value }) n
@@ -104,16 +110,19 @@ module _ (P : Program) (C : Sizes) where
     pub its : (p : ℕ) (t : Tenant) → at (unit_of P C h).tenants p ≡ Some t → t.station ≡ s →
         t.standing ≡ Live → IsInfoOf t n
 
-  pub record ReadsOperand (s : ℕ) (k : Source) (n : ℕ) (h : List Entry) (d : Draft) (events : List Event) : Type 0 where
+  pub record ReadsOperand (s : ℕ) (k : Source) (n : ℕ) (h : List Entry) (d : Draft)
+      (events : List Event) : Type 0 where
     pub none : events ≡ []
     pub says : SaysOperand (unit_of P C h) s k n
 
-  pub record ReadsLink (p c : ℕ) (k : Source) (n : ℕ) (h : List Entry) (d : Draft) (events : List Event) : Type 0 where
+  pub record ReadsLink (p c : ℕ) (k : Source) (n : ℕ) (h : List Entry) (d : Draft)
+      (events : List Event) : Type 0 where
     pub none : events ≡ []
     pub word : IsLink (unit_of P C h).tenants p c k n
 
   -- Any word, with the let in progress at its point
-  pub record Reads (x : Place) (n : ℕ) (h : List Entry) (d : Draft) (events : List Event) : Type 0 where
+  pub record Reads (x : Place) (n : ℕ) (h : List Entry) (d : Draft) (events : List Event) :
+      Type 0 where
     pub none : events ≡ []
     pub draft : Draft
     pub proper : IsDraft P C (unit_of P C h) draft
@@ -128,28 +137,32 @@ module _ (P : Program) (C : Sizes) where
     pub added : events ≡ Refuses r ∷ []
 
   -- The look of a question at the station of the creator q of source k of tenant r: the creator is live and
-  -- not done, so that the source was asked for in time, or it has made the value of the word
+  -- not done, so that the source was asked for in time, or it has made the value of the word. No let is in
+  -- progress
   abbrev pub Questions : (r : ℕ) (k : Source) (q n : ℕ) → List Entry → Draft → List Event → Type 0
   Questions r k q n h d events =
-      (IsUnmade (state_of n) × (events ≡ Marks (Asked r k) ∷ []))
-      ⊎ (IsMade (state_of n) × (events ≡ []) × HasMade (unit_of P C h) q (value_of n))
+      (d ≡ Nothing)
+      × ((IsUnmade (state_of n) × (events ≡ Marks (Asked r k) ∷ []) × IsInTime (unit_of P C h) r k q)
+      ⊎ (IsMade (state_of n) × (events ≡ []) × HasMade (unit_of P C h) q (value_of n)))
 
-  -- The exchange that ends a question: the source has its value
+  -- The exchange that ends a question: the source has its value, or had it before
   abbrev pub Answers : (r : ℕ) (k : Source) (old n : ℕ) → List Entry → Draft → List Event → Type 0
   Answers r k old n h d events =
-      ((n ≡ old) × (events ≡ Marks (Asked r k) ∷ Does (On r (Deliver k)) ∷ []))
-      ⊎ ((n ≢ old) × (events ≡ Marks (Asked r k) ∷ []))
+      (d ≡ Nothing)
+      × (((n ≡ old) × (events ≡ Marks (Asked r k) ∷ Does (On r (Deliver k)) ∷ []))
+      ⊎ ((n ≢ old) × (events ≡ Marks (Asked r k) ∷ []) × IsDelivered (unit_of P C h) r k))
 
   -- Loads of a retirement
 
-  -- The look at the station of the oldest live tenant: nobody is live, or that tenant cannot retire yet, or
-  -- it has its address, is done or stops
+  -- The look at the station of the oldest live tenant: nobody is live, or that tenant cannot retire
+  -- yet, or it has its address, is done or stops
   abbrev pub Heads : (s n : ℕ) → List Entry → Draft → List Event → Type 0
   Heads s n h d events =
       ((state_of n ≡ 0) × (events ≡ Refuses Empty ∷ []))
       ⊎ (IsEarly (state_of n) × (events ≡ Refuses NotDone ∷ []))
       ⊎ (IsLate (state_of n) × (events ≡ [])
-      × ((p : ℕ) × IsHead (unit_of P C h) p (λ t. (t.station ≡ s) × IsStation (live_word t.tag t.fate) n)))
+      × ((p : ℕ) ×
+      IsHead (unit_of P C h) p (λ t. (t.station ≡ s) × IsStation (live_word t.tag t.fate) n)))
 
   -- The load of the data of the oldest store: it is there, or the store cannot retire yet
   abbrev pub ReadsData : (p n : ℕ) → List Entry → Draft → List Event → Type 0
@@ -172,16 +185,19 @@ module _ (P : Program) (C : Sizes) where
       ((n ≡ old) × Finds (unit_of P C h) s g events IsOpen adds_nothing)
       ⊎ ((n ≢ old) × Finds (unit_of P C h) s g events IsClosed (refuses Moved))
 
-  -- The load of a needed source of the tenant with tag g finds its value, that it waits, or another tag
+  -- The load of a needed source of the tenant with tag g finds its value, that it waits, or another
+  -- tag
   abbrev pub ReadsSource : (s g : ℕ) (k : Source) (n : ℕ) → List Entry → Draft → List Event → Type 0
   ReadsSource s g k n h d events =
       ((tag_of n ≡ g) × (state_of n ≡ 2)
-      × Finds (unit_of P C h) s g events (λ t. (operand k t).value ≡ Some (value_of n)) adds_nothing)
+      × Finds (unit_of P C h) s g events (λ t. (operand k t).value ≡ Some (value_of n))
+      adds_nothing)
       ⊎ ((tag_of n ≡ g) × (state_of n ≢ 2)
       × Finds (unit_of P C h) s g events (λ t. missing P t ≡ Some k) (refuses (λ p. Waiting p k)))
       ⊎ ((tag_of n ≢ g) × Finds (unit_of P C h) s g events IsClosed (refuses Moved))
 
-  -- Exchanges of a station's word. Each finds the word `old`, that of its tenant with tag g, or another one
+  -- Exchanges of a station's word. Each finds the word `old`, that of its tenant with tag g, or
+  -- another one
 
   abbrev pub Claims : (s g old n : ℕ) → List Entry → Draft → List Event → Type 0
   Claims s g old n h d events =
@@ -190,7 +206,9 @@ module _ (P : Program) (C : Sizes) where
 
   abbrev pub Finishes : (s g : ℕ) → Outcome → (old n : ℕ) → List Entry → Draft → List Event → Type 0
   Finishes s g outcome old n h d events =
-      ((n ≡ old) × Finds (unit_of P C h) s g events (λ t. computed P t ≡ outcome) (λ p. Does (On p Finish) ∷ []))
+      ((n ≡ old)
+      × Finds (unit_of P C h) s g events (λ t. computed P t ≡ outcome)
+      (λ p. Does (On p Finish) ∷ []))
       ⊎ ((n ≢ old) × Finds (unit_of P C h) s g events IsSquashed (refuses Stale))
 
   abbrev pub Settles : (s g old n : ℕ) → List Entry → Draft → List Event → Type 0
@@ -198,9 +216,10 @@ module _ (P : Program) (C : Sizes) where
       ((n ≡ old) × Finds (unit_of P C h) s g events IsAny (λ p. Does (On p Load) ∷ []))
       ⊎ ((n ≢ old) × Finds (unit_of P C h) s g events IsSquashed (refuses Stale))
 
-  -- The exchange of an operand that waits, that of source k of the tenant with tag g, for its value. Where
-  -- it fails, that source has its value already, or the tenant has left
-  abbrev pub Delivers : (s : ℕ) (k : Source) (g old n : ℕ) → List Entry → Draft → List Event → Type 0
+  -- The exchange of an operand that waits, that of source k of the tenant with tag g, for its
+  -- value. Where it fails, that source has its value already, or the tenant has left
+  abbrev pub Delivers : (s : ℕ) (k : Source) (g old n : ℕ) →
+      List Entry → Draft → List Event → Type 0
   Delivers s k g old n h d events =
       ((n ≡ old) × Finds (unit_of P C h) s g events IsAny (λ r. Does (On r (Deliver k)) ∷ []))
       ⊎ ((n ≢ old) × (events ≡ [])
@@ -214,15 +233,19 @@ module _ (P : Program) (C : Sizes) where
     pub none : events ≡ []
     pub draft : d ≡ new
 
-  pub record Lets (index predicted : ℕ) (first second : Supply) (h : List Entry) (d : Draft) (events : List Event) : Type 0 where
+  pub record Lets (index predicted : ℕ) (first second : Supply) (h : List Entry) (d : Draft)
+      (events : List Event) : Type 0 where
     pub added : events ≡ Does (Let index predicted first second) ∷ []
     pub draft : d ≡ Nothing
 
   -- A tenant leaves or is mended by one write, and the word found was its own
-  pub record Writes (event : Event) (p s n : ℕ) (h : List Entry) (d : Draft) (events : List Event) : Type 0 where
+  pub record Writes (event : Event) (p s n : ℕ) (h : List Entry) (d : Draft)
+      (events : List Event) : Type 0 where
     pub added : events ≡ event ∷ []
     pub found : IsTenant (unit_of P C h) p s (tag_of n) (λ t. IsStation (live_word t.tag t.fate) n)
 
   -- The store of a link
-  pub record Asks (r : ℕ) (k : Source) (h : List Entry) (d : Draft) (events : List Event) : Type 0 where
+  pub record Asks (r : ℕ) (k : Source) (h : List Entry) (d : Draft) (events : List Event) :
+      Type 0 where
     pub added : events ≡ Does (On r (Link k)) ∷ []
+    pub draft : d ≡ Nothing

@@ -13,7 +13,8 @@ pub record ReadsBack (tag state value : ℕ) : Type 0 where
 
 abbrev pub WordsReadBack : Type 0
 WordsReadBack =
-    (tag state value : ℕ) → tag < tag_count → state < 16 → value < 2 ^ 32 → ReadsBack tag state value
+    (tag state value : ℕ) → tag < tag_count → state < 16 → value < 2 ^ 32 →
+    ReadsBack tag state value
 
 pub record InfoReadsBack (index predicted : ℕ) : Type 0 where
   pub word : pack_info index predicted < 2 ^ 64
@@ -31,7 +32,8 @@ pub record LinkReadsBack (producer consumer : ℕ) : Type 0 where
 
 abbrev pub LinksReadBack : Type 0
 LinksReadBack =
-    (producer consumer : ℕ) → producer < tag_count → consumer < tag_count → LinkReadsBack producer consumer
+    (producer consumer : ℕ) → producer < tag_count → consumer < tag_count →
+    LinkReadsBack producer consumer
 
 -- Two words with the same fields are one
 abbrev pub FieldsMakeTheWord : Type 0

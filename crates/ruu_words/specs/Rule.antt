@@ -44,7 +44,8 @@ first_view c = view Start (opening_of c) Nothing
 abbrev pub informed : View → View → View
 informed v w = record { role = v.role; seen = v.seen; told = w.seen; draft = v.draft }
 
--- Roles. The first seat is the front's once the back's is cut from it, and a spent one makes no calls
+-- Roles. The first seat is the front's once the back's is cut from it, and a spent one makes no
+-- calls
 
 abbrev pub IsCaller : Role → ℕ → Type 0
 IsCaller Start id = id ≡ front
@@ -72,7 +73,8 @@ pub record Fits (opening h : List Entry) (id : ℕ) (v : View) : Type 0 where
   pub caller : IsCaller v.role id
 
 -- The rule, for a history h and a let in progress d
-pub record IsKept (P : Program) (C : Sizes) (opening : List Entry) (s : State ℕ View) (h : List Entry) (d : Draft) : Type 0 where
+pub record IsKept (P : Program) (C : Sizes) (opening : List Entry) (s : State ℕ View)
+    (h : List Entry) (d : Draft) : Type 0 where
   pub legal : IsLegal P C h
   pub wide : length s.words ≡ words_for C.ring
   -- each word is what the unit of the history says
@@ -102,9 +104,10 @@ pub record IsStart (C : Sizes) (words : List ℕ) : Type 0 where
   pub stations : (s : ℕ) → s < C.ring → slice_index words s ≡ pack C.first_tag 0 0
   pub others : (i : ℕ) → C.ring ≤ i → slice_index words i ≡ 0
 
--- What a step tells: its caller has seen the history before the step, added these events, and `Kind` says
--- which, for the history before them and the let in progress behind them
-pub record Grows (P : Program) (C : Sizes) (by : ℕ) (v w : View) (Kind : List Entry → Draft → List Event → Type 0) : Type 0 where
+-- What a step tells: its caller has seen the history before the step, added these events, and
+-- `Kind` says which, for the history before them and the let in progress behind them
+pub record Grows (P : Program) (C : Sizes) (by : ℕ) (v w : View)
+    (Kind : List Entry → Draft → List Event → Type 0) : Type 0 where
   pub between : List Entry
   pub events : List Event
   pub not_own : own by between ≡ []
@@ -115,6 +118,8 @@ pub record Grows (P : Program) (C : Sizes) (by : ℕ) (v w : View) (Kind : List 
   pub kind : Kind (between ++ v.seen) w.draft events
 
 -- Of a step: the number found, or at a store the number stored, is n
-pub record Tells (P : Program) (C : Sizes) (by : ℕ) (Kind : ℕ → List Entry → Draft → List Event → Type 0) (s : Step ℕ) (me : Me ℕ View) (n : ℕ) (found : Me ℕ View) : Type 0 where
+pub record Tells (P : Program) (C : Sizes) (by : ℕ)
+    (Kind : ℕ → List Entry → Draft → List Event → Type 0) (s : Step ℕ) (me : Me ℕ View) (n : ℕ)
+    (found : Me ℕ View) : Type 0 where
   pub grows : Grows P C by me.0 found.0 (Kind n)
   pub slots : found.1 ≡ me.1

@@ -1,5 +1,5 @@
 -- The steps of a let, one after another: what the front knew stays true up to the last.
-use Rattle.std.proofs.Common.{◌≡◌, ℕ, suc, ◌+◌, ◌%◌, ◌<◌, List, [], ◌∷◌, ◌++◌, map, refl, sym, ap, ◌∙◌, subst, arith}
+use Rattle.std.proofs.Common.{◌≡◌, ℕ, suc, ◌+◌, ◌%◌, ◌<◌, Bool, List, [], ◌∷◌, ◌++◌, map, refl, sym, ap, ◌∙◌, subst, arith}
 use Rattle.std.proofs.Math.Nat.{mod-add-mod}
 use Rattle.atomic_table.specs.Table.{Me}
 use Rattle.isa.specs.Programs.{Program}
@@ -95,10 +95,13 @@ module _ (P : Program) (C : Sizes) (by : ℕ) (t : Tenant) (old : List Entry) wh
       let same = subst (λ i. (z : Grows P C i v.0 w.0 Kind) × (z.events ≡ [])) e (g, none) in
       goes_on draft next station tag v w Kind r same.0 same.1 is
 
+below_ring : (n r : ℕ) → 0 < r → n % r < r
+below_ring n r pos = omega arith
+
 -- the front's seat behind a let
-pub seated_out : (P : Program) (C : Sizes) (by station ring : ℕ) (t : Tenant) (old : List Entry) (me : Me ℕ View) → ring ≡ C.ring → station ≡ next_station C (recent (unit_of P C old)) → IsFronts by Nothing me → me.1 ≡ []
-    → IsLetOut P C by t old me.0.seen → IsSeated P C Front by ((station + 1) % ring) me
-seated_out P C by station ring t old me ring_is station_is fronts slots out =
+pub seated_out : (P : Program) (C : Sizes) (by station ring : ℕ) (over : Bool) (t : Tenant) (old : List Entry) (me : Me ℕ View) → ring ≡ C.ring → station < C.ring → station ≡ next_station C (recent (unit_of P C old)) → IsFronts by Nothing me → me.1 ≡ []
+    → IsLetOut P C by t old me.0.seen → IsSeated P C Front by ((station + 1) % ring) over me
+seated_out P C by station ring over t old me ring_is small station_is fronts slots out =
     let n : ℕ = how_many on_path (unit_of P C out.point).tenants in
     let was : station ≡ n % C.ring = station_is ∙ sym out.station in
     let one : n + 1 ≡ suc n = omega arith in
@@ -107,5 +110,6 @@ seated_out P C by station ring t old me ring_is station_is fronts slots out =
       role_is = fronts.role;
       slots = slots;
       legal = out.adds.legal;
+      inside = subst (λ r. (station + 1) % r < C.ring) (sym ring_is) (below_ring (station + 1) C.ring (omega arith));
       knows = (fronts.by_is, fronts.draft_is, next ∙ sym (ap (λ h. next_station C (recent (unit_of P C h))) out.is));
     }

@@ -1,5 +1,5 @@
 -- The steps of mending a miss.
-use Rattle.std.proofs.Common.{◌≡◌, ℕ, suc, ◌%◌, List, [], ◌∷◌, ◌++◌, map, Some, refl, sym, ap, ◌∙◌, subst, inl}
+use Rattle.std.proofs.Common.{◌≡◌, ℕ, suc, ◌%◌, ◌<◌, Bool, List, [], ◌∷◌, ◌++◌, map, Some, refl, sym, ap, ◌∙◌, subst, inl}
 use Rattle.atomic_table.specs.Table.{Me}
 use Rattle.isa.specs.Programs.{Program}
 use Rattle.inorder.specs.declared.history.Act.TheVariants.{Mend}
@@ -120,11 +120,12 @@ module _ (P : Program) (C : Sizes) where
       ∙ station_on g1.between v0.seen legal1 none1)))
 
 -- the front's seat behind it
-pub seated_mended : (P : Program) (C : Sizes) (by station s : ℕ) (old : List Entry) (me : Me ℕ View) → station ≡ next_station C (recent (unit_of P C old)) → IsFronts by Nothing me → me.1 ≡ [] → IsMended P C by s old me.0.seen
-    → next_station C (recent (unit_of P C me.0.seen)) ≡ next_station C (recent (unit_of P C old)) → IsSeated P C Front by station me
-seated_mended P C by station s old me is fronts slots out next = record {
+pub seated_mended : (P : Program) (C : Sizes) (by station s : ℕ) (over : Bool) (old : List Entry) (me : Me ℕ View) → station < C.ring → station ≡ next_station C (recent (unit_of P C old)) → IsFronts by Nothing me → me.1 ≡ [] → IsMended P C by s old me.0.seen
+    → next_station C (recent (unit_of P C me.0.seen)) ≡ next_station C (recent (unit_of P C old)) → IsSeated P C Front by station over me
+seated_mended P C by station s over old me small is fronts slots out next = record {
   role_is = fronts.role;
   slots = slots;
   legal = out.adds.legal;
+  inside = small;
   knows = (fronts.by_is, fronts.draft_is, is ∙ sym next);
 }

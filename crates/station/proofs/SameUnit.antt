@@ -7,7 +7,6 @@ use Rattle.inorder.specs.Unit.{Sizes}
 use Rattle.ruu_words.specs.declared.rule.Setup.{Setup}
 use Rattle.ruu_words.specs.Places.{words_for}
 use Rattle.ruu_words.specs.Rule.{sizes_of}
-use Rattle.station.specs.Making.{IsCore}
 use Rattle.station.specs.Seats.{Caller, TheCore, core_of}
 
 -- A program and sizes
@@ -20,8 +19,8 @@ unit_at c = (c.program, sizes_of c)
 abbrev pub unit_in : TheCore → Unit_of
 unit_in c = (c.program, c.sizes)
 
-pub of_table : (words : ℕ) (key setup : Setup) (id : TableId) (core : TheCore) → IsCore words key setup → core_of id setup ≡ core → unit_at key ≡ unit_in core
-of_table words key setup id core is e = ap unit_at is.key_is ∙ ap unit_in e
+pub of_table : (key : Setup) (id : TableId) (core : TheCore) → core_of id key ≡ core → unit_at key ≡ unit_in core
+of_table key id core e = ap unit_in e
 
 pub of_seat : (id : TableId) (value : Setup) (by : ℕ) (seen : List Entry) (seat : Caller) (core : TheCore) → record { core = core_of id value; by = by; seen = seen } ≡ seat → seat.core ≡ core → unit_at value ≡ unit_in core
 of_seat id value by seen seat core e f = ap (λ (z : Caller). unit_in z.core) e ∙ ap unit_in f

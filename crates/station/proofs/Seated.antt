@@ -22,6 +22,8 @@ use Rattle.ruu_words.specs.Rule.{IsAlive, informed, sizes_of}
 use Rattle.ruu_words.proofs.Stays.{front_stays}
 use Rattle.station.specs.Seats.{IsSeated, Knows}
 use Rattle.station.specs.Steps.{Grown, Sees}
+use Rattle.station.proofs.Adding.{adds_these}
+use Rattle.station.proofs.Backs.{back_on}
 use Rattle.station.proofs.SameUnit.{Unit_of, unit_at}
 
 pub how_many_same : (f : Tenant → Bool) (t t' : Tenant) (ts ys : List Tenant) → f t' ≡ f t → how_many f (ys ++ t' ∷ ts) ≡ how_many f (ys ++ t ∷ ts)
@@ -41,20 +43,20 @@ next_stays P C U by (On p act) b a sound =
     let same = (besides_grows P by act ys t ts b a.may own).path in
     ap (λ n. n % C.ring) (ap (how_many on_path) (parts P us by p act t a.is) ∙ (how_many_same on_path t (changed P by act t ts) ts ys same ∙ sym (ap (how_many on_path) split)))
 
-pub is_alive : (P : Program) (C : Sizes) (role : Role) (by station : ℕ) (me : Me ℕ View) → IsSeated P C role by station me → IsAlive me.0.role
-is_alive P C role by station me s = subst IsAlive (sym s.role_is) (go role s.knows)
+pub is_alive : (P : Program) (C : Sizes) (role : Role) (by station : ℕ) (over : Bool) (me : Me ℕ View) → IsSeated P C role by station over me → IsAlive me.0.role
+is_alive P C role by station over me s = subst IsAlive (sym s.role_is) (go role s.knows)
   where
-    go : (r : Role) → Knows P C r by station me.0 → IsAlive r
+    go : (r : Role) → Knows P C r by station over me.0 → IsAlive r
     go Start k = absurd k
     go Front k = tt
     go Back k = tt
     go Worker k = tt
     go Spent k = absurd k
 
-pub is_begun : (P : Program) (C : Sizes) (role : Role) (by station : ℕ) (me : Me ℕ View) → IsSeated P C role by station me → me.0.role ≢ Start
-is_begun P C role by station me s e = go role s.knows (sym s.role_is ∙ e)
+pub is_begun : (P : Program) (C : Sizes) (role : Role) (by station : ℕ) (over : Bool) (me : Me ℕ View) → IsSeated P C role by station over me → me.0.role ≢ Start
+is_begun P C role by station over me s e = go role s.knows (sym s.role_is ∙ e)
   where
-    go : (r : Role) → Knows P C r by station me.0 → r ≢ Start
+    go : (r : Role) → Knows P C r by station over me.0 → r ≢ Start
     go Start k e = absurd k
     go Front k e = cc
     go Back k e = cc
@@ -62,9 +64,9 @@ is_begun P C role by station me s e = go role s.knows (sym s.role_is ∙ e)
     go Spent k e = absurd k
 
 -- a seat after a look
-pub seated_on : (key : Setup) (role : Role) (by station : ℕ) (v w : Me ℕ View) (x : Place) (n : ℕ) → IsSeated key.program (sizes_of key) role by station v
-    → Grown key by v w (Sees key.program (sizes_of key) by v.0 x n) → IsSeated key.program (sizes_of key) role by station w
-seated_on key role by station v w x n s g =
+pub seated_on : (key : Setup) (role : Role) (by station : ℕ) (over : Bool) (v w : Me ℕ View) (x : Place) (n : ℕ) → IsSeated key.program (sizes_of key) role by station over v
+    → Grown key by v w (Sees key.program (sizes_of key) by v.0 x n) → IsSeated key.program (sizes_of key) role by station over w
+seated_on key role by station over v w x n s g =
     let P = key.program in
     let C = sizes_of key in
     let seen : w.0.seen ≡ g.grows.between ++ v.0.seen = g.grows.is ∙ ap (λ es. map (entry by) es ++ (g.grows.between ++ v.0.seen)) g.grows.kind.none in
@@ -73,10 +75,11 @@ seated_on key role by station v w x n s g =
       role_is = g.grows.role ∙ s.role_is;
       slots = g.slots ∙ s.slots;
       legal = g.grows.legal;
+      inside = s.inside;
       knows = go role s.knows seen legal;
     }
   where
-    go : (r : Role) → Knows key.program (sizes_of key) r by station v.0 → w.0.seen ≡ g.grows.between ++ v.0.seen → IsLegal key.program (sizes_of key) (g.grows.between ++ v.0.seen) → Knows key.program (sizes_of key) r by station w.0
+    go : (r : Role) → Knows key.program (sizes_of key) r by station over v.0 → w.0.seen ≡ g.grows.between ++ v.0.seen → IsLegal key.program (sizes_of key) (g.grows.between ++ v.0.seen) → Knows key.program (sizes_of key) r by station over w.0
     go Start k e l = absurd k
     go Front k e l =
         let P = key.program in
@@ -84,24 +87,24 @@ seated_on key role by station v w x n s g =
         let none : own front g.grows.between ≡ [] = subst (λ i. own i g.grows.between ≡ []) k.0 g.grows.not_own in
         let stay = front_stays P C (λ U. station ≡ next_station C (recent U)) (λ U b st ok a sound q. q ∙ sym (next_stays P C U b st ok a sound)) g.grows.between v.0.seen l none k.2 in
         (k.0, g.grows.kind.mine k.0 ∙ k.1, stay ∙ ap (λ h. next_station C (recent (unit_of P C h))) (sym e))
-    go Back k e l = tt
+    go Back k e l = back_on key.program (sizes_of key) by station over v.0.seen w.0.seen [] (adds_these key.program (sizes_of key) by v.0 w.0 (Sees key.program (sizes_of key) by v.0 x n) [] g.grows g.grows.kind.none) tt k
     go Worker k e l = tt
     go Spent k e l = absurd k
 
 -- the same, where the seat's program and sizes are those of the table
-pub seated_at : (z : Unit_of) (key : Setup) (role : Role) (by station : ℕ) (v w : Me ℕ View) (x : Place) (n : ℕ) → z ≡ unit_at key → IsSeated z.0 z.1 role by station v
-    → Grown key by v w (Sees key.program (sizes_of key) by v.0 x n) → IsSeated z.0 z.1 role by station w
-seated_at z key role by station v w x n e s g =
-    subst (λ (y : Unit_of). IsSeated y.0 y.1 role by station w) (sym e) (seated_on key role by station v w x n (subst (λ (y : Unit_of). IsSeated y.0 y.1 role by station v) e s) g)
+pub seated_at : (z : Unit_of) (key : Setup) (role : Role) (by station : ℕ) (over : Bool) (v w : Me ℕ View) (x : Place) (n : ℕ) → z ≡ unit_at key → IsSeated z.0 z.1 role by station over v
+    → Grown key by v w (Sees key.program (sizes_of key) by v.0 x n) → IsSeated z.0 z.1 role by station over w
+seated_at z key role by station over v w x n e s g =
+    subst (λ (y : Unit_of). IsSeated y.0 y.1 role by station over w) (sym e) (seated_on key role by station over v w x n (subst (λ (y : Unit_of). IsSeated y.0 y.1 role by station over v) e s) g)
 
 pub front_begun : (r : Role) → r ≡ Front → r ≢ Start
 front_begun r e f = cc
 
 -- a seat that was told of what another has seen
-pub informed_seated : (P : Program) (C : Sizes) (role : Role) (by station : ℕ) (me : Me ℕ View) (w : View) → IsSeated P C role by station me → IsSeated P C role by station (informed me.0 w, me.1)
-informed_seated P C role by station me w s = record { role_is = s.role_is; slots = s.slots; legal = s.legal; knows = go role s.knows }
+pub informed_seated : (P : Program) (C : Sizes) (role : Role) (by station : ℕ) (over : Bool) (me : Me ℕ View) (w : View) → IsSeated P C role by station over me → IsSeated P C role by station over (informed me.0 w, me.1)
+informed_seated P C role by station over me w s = record { role_is = s.role_is; slots = s.slots; legal = s.legal; inside = s.inside; knows = go role s.knows }
   where
-    go : (r : Role) → Knows P C r by station me.0 → Knows P C r by station (informed me.0 w)
+    go : (r : Role) → Knows P C r by station over me.0 → Knows P C r by station over (informed me.0 w)
     go Start k = k
     go Front k = k
     go Back k = k

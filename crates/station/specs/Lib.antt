@@ -2,7 +2,13 @@ pub mod Seats
 pub mod Making
 pub mod Steps
 pub mod Looking
+pub mod Moments
 pub mod Letting
 pub mod Claiming
 pub mod Writeback
+pub mod Carrying
+pub mod Asking
+pub mod Wakeup
+pub mod Retirement
 pub mod Recovery
+pub mod Laws

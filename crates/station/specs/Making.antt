@@ -8,12 +8,15 @@ use Rattle.ruu_words.specs.declared.rule.Setup.{Setup}
 use Rattle.ruu_words.specs.Places.{words_for}
 use Rattle.station.specs.Seats.{Caller, TheCore}
 
--- The table is made for this setup
-pub record IsCore (words : ℕ) (key setup : Setup) : Type 0 where
-  pub wide : words ≡ words_for setup.ring
-  pub key_is : key ≡ setup
-  pub least : 2 ≤ setup.ring
-  pub most : setup.ring ≤ 32
+-- The table is made for this program and these sizes
+pub record IsCore (words : ℕ) (key : Setup) (P : Program) (ring queue : ℕ) : Type 0 where
+  pub wide : words ≡ words_for ring
+  pub program : key.program ≡ P
+  pub ring_is : key.ring ≡ ring
+  pub queue_is : key.queue ≡ queue
+  pub least : 2 ≤ ring
+  pub most : ring ≤ 32
+  pub from_one : 1 ≤ key.first_tag
 
 -- A seat of this core that has seen nothing
 pub record IsNew (core : TheCore) (seat : Caller) : Type 0 where
@@ -40,3 +43,4 @@ pub record IsSetup (P : Program) (config : Settings) (setup : Setup) : Type 0 wh
   pub least : 2 ≤ setup.ring
   pub most : setup.ring ≤ 32
   pub tag : setup.first_tag < last_tag
+  pub from_one : 1 ≤ setup.first_tag

@@ -1,12 +1,12 @@
--- Mending a miss.
+-- Recovery: squashing what is younger than a miss, and mending it.
 use Rattle.std.specs.Prelude.{◌≡◌, ℕ, List, [], ◌∷◌}
 use Rattle.isa.specs.Programs.{Program}
-use Rattle.inorder.specs.declared.history.Act.TheVariants.{Mend}
+use Rattle.inorder.specs.declared.history.Act.TheVariants.{Mend, Squash}
 use Rattle.inorder.specs.declared.history.Entry.{Entry}
 use Rattle.inorder.specs.declared.history.Event.{Event}
 use Rattle.inorder.specs.declared.history.Event.TheVariants.{Does}
 use Rattle.inorder.specs.declared.history.Step.TheVariants.{On}
-use Rattle.inorder.specs.Callers.{CanMend}
+use Rattle.inorder.specs.Callers.{CanMend, CanSquash}
 use Rattle.inorder.specs.History.{Adds, unit_of}
 use Rattle.inorder.specs.Unit.{Sizes}
 use Rattle.ruu_words.specs.declared.rule.Draft.{Draft}
@@ -40,3 +40,27 @@ pub record IsMended (P : Program) (C : Sizes) (by station : ℕ) (old new : List
   pub next : ℕ
   pub miss : HasMiss P C point station tag next
   pub adds : Adds P C by old new (Does (On miss.p Mend) ∷ [])
+
+-- In what was seen there is a youngest live tenant, and an older live miss
+pub record MaySquash (P : Program) (C : Sizes) (seen : List Entry) : Type 0 where
+  pub p : ℕ
+  pub can : CanSquash (unit_of P C seen) p
+
+-- In what was seen it is the station's tenant with this tag
+pub record HasYoungest (P : Program) (C : Sizes) (seen : List Entry) (station tag : ℕ) : Type 0 where
+  pub p : ℕ
+  pub named : IsTenant (unit_of P C seen) p station tag IsAny
+  pub can : CanSquash (unit_of P C seen) p
+
+-- What the write tells: it was squashed, and no let is in progress
+pub record Squashes (P : Program) (C : Sizes) (s g : ℕ) (h : List Entry) (d : Draft) (events : List Event) : Type 0 where
+  pub youngest : HasYoungest P C h s g
+  pub added : events ≡ Does (On youngest.p Squash) ∷ []
+  pub draft : d ≡ Nothing
+
+-- That tenant, of this station and tag, was squashed
+pub record IsSquashed (P : Program) (C : Sizes) (by station tag : ℕ) (old new : List Entry) : Type 0 where
+  pub p : ℕ
+  pub named : IsTenant (unit_of P C new) p station tag IsAny
+  pub can : CanSquash (unit_of P C old) p
+  pub adds : Adds P C by old new (Does (On p Squash) ∷ [])

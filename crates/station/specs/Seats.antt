@@ -1,11 +1,13 @@
 -- What contracts see of a core and of its seats, and what a seat's caller knows between its calls.
-use Rattle.std.specs.Prelude.{◌≡◌, ℕ, List, []}
+use Rattle.std.specs.Prelude.{◌≡◌, ℕ, ◌<◌, Bool, true, false, List, []}
 use Rattle.atomic_table.specs.Seated.{TableId}
 use Rattle.atomic_table.specs.Table.{Me}
 use Rattle.isa.specs.Programs.{Program}
 use Rattle.inorder.specs.declared.history.Entry.{Entry}
-use Rattle.inorder.specs.History.{IsLegal, front, unit_of}
-use Rattle.inorder.specs.Unit.{Sizes, next_station, recent}
+use Rattle.inorder.specs.Callers.{GoesOn, head_station}
+use Rattle.inorder.specs.History.{IsLegal, back, front, unit_of}
+use Rattle.inorder.specs.Replies.{IsOver}
+use Rattle.inorder.specs.Unit.{Sizes, UpdateUnit, next_station, recent}
 use Rattle.ruu_words.specs.declared.rule.Draft.TheVariants.{Nothing}
 use Rattle.ruu_words.specs.declared.rule.Role.{Role}
 use Rattle.ruu_words.specs.declared.rule.Role.TheVariants.{Back, Front, Spent, Start, Worker}
@@ -34,18 +36,30 @@ pub record IsSame (v w : Caller) : Type 0 where
   pub core : w.core ≡ v.core
   pub by : w.by ≡ v.by
 
--- The front knows its next tenant's station, and that no let is in progress
-abbrev pub Knows : Program → Sizes → Role → ℕ → ℕ → View → Type 0
-Knows P C Front by station v =
+-- A stop has retired, or none has
+abbrev pub HasEnded : Bool → UpdateUnit → Type 0
+HasEnded true U = IsOver U
+HasEnded false U = GoesOn U
+
+-- Where the oldest live tenant stands, and whether a stop has retired
+pub record IsAtHead (C : Sizes) (U : UpdateUnit) (station : ℕ) (over : Bool) : Type 0 where
+  pub head : station ≡ head_station C U
+  pub ended : HasEnded over U
+
+-- The front knows its next tenant's station, and that no let is in progress; the back its oldest
+-- tenant's, and whether the run is over
+abbrev pub Knows : Program → Sizes → Role → ℕ → ℕ → Bool → View → Type 0
+Knows P C Front by station over v =
     (by ≡ front) × (v.draft ≡ Nothing) × (station ≡ next_station C (recent (unit_of P C v.seen)))
-Knows P C Back by station v = Unit {0}
-Knows P C Worker by station v = Unit {0}
-Knows P C Start by station v = ⊥
-Knows P C Spent by station v = ⊥
+Knows P C Back by station over v = by ≡ back → IsAtHead C (unit_of P C v.seen) station over
+Knows P C Worker by station over v = Unit {0}
+Knows P C Start by station over v = ⊥
+Knows P C Spent by station over v = ⊥
 
 -- A seat between two calls
-pub record IsSeated (P : Program) (C : Sizes) (role : Role) (by station : ℕ) (me : Me ℕ View) : Type 0 where
+pub record IsSeated (P : Program) (C : Sizes) (role : Role) (by station : ℕ) (over : Bool) (me : Me ℕ View) : Type 0 where
   pub role_is : me.0.role ≡ role
   pub slots : me.1 ≡ []
   pub legal : IsLegal P C me.0.seen
-  pub knows : Knows P C role by station me.0
+  pub inside : station < C.ring
+  pub knows : Knows P C role by station over me.0

@@ -1,4 +1,7 @@
 //! What the calls take and answer.
+use inorder::history::Source;
+use isa::Stop;
+
 /// A word as it was seen.
 #[derive(Clone, Copy)]
 pub struct Seen<S> {
@@ -31,4 +34,79 @@ pub struct Tenant {
     pub index: u32,
     pub predicted: u32,
     pub sources: (Supply, Supply),
+}
+
+/// A claimed tenant, with what its unit needs. `Core::finish` alone takes it.
+pub struct Job {
+    pub station: usize,
+    pub tag: u32,
+    pub index: u32,
+    pub pc: u32,
+    pub predicted: u32,
+    /// Source 1; 0 where the claim did not need it.
+    pub a: u32,
+    /// Source 2; 0 where the claim did not need it.
+    pub b: u32,
+}
+
+/// What a unit's claim answers.
+pub enum Claim {
+    Job(Job),
+    /// No tenant of the station is open.
+    NotOpen,
+    /// The tenant was open, and k is the least source that it needs and that has no value yet.
+    Waiting { tag: u32, k: Source },
+    /// The tenant was open, and is not open any more.
+    Moved { tag: u32 },
+}
+
+/// Whether a result reached its tenant.
+#[derive(Clone, Copy, Debug, PartialEq, Eq)]
+pub enum Finish {
+    Finished,
+    /// The tenant was squashed.
+    Stale,
+}
+
+/// Whether a load got its value.
+#[derive(Clone, Copy, Debug, PartialEq, Eq)]
+pub enum Settle {
+    Settled,
+    /// The load was squashed.
+    Stale,
+}
+
+/// What the question for a source answers.
+#[derive(Clone, Copy, Debug, PartialEq, Eq)]
+pub enum Ask {
+    /// The source has its value.
+    Delivered,
+    /// The creator has made nothing yet; who makes its value finds the link.
+    Linked,
+}
+
+/// How a retired tenant ended.
+#[derive(Clone, Copy)]
+pub enum Last {
+    Done(u32),
+    /// A store: its address and data.
+    Stored(u32, u32),
+    Stop(Stop),
+}
+
+/// What a retirement answers.
+#[derive(Clone, Copy)]
+pub enum Retire {
+    Retired {
+        station: usize,
+        tag: u32,
+        index: u32,
+        last: Last,
+    },
+    /// The oldest live tenant cannot retire yet.
+    NotDone,
+    /// Nobody is live.
+    Empty,
+    /// A stop has retired.
+    Over,
 }

@@ -1,8 +1,10 @@
 //! Cores.
 ghost use Rattle.std.specs.Prelude.{◌≡◌, ◌≤◌, ◌<◌, IfOk};
 ghost use Rattle.ruu_words.specs.Fields.{tag_count};
+ghost use Rattle.ruu_words.specs.Places.{words_for};
 ghost use Rattle.ruu_words.specs.Rule.{IsStart, sizes_of};
 ghost use Rattle.station.specs.Making.{IsMade, IsSetup};
+ghost use Rattle.station.specs.Seats.{core_of};
 
 use crate::seat::{BackSeat, FrontSeat, SeatOf, UnitSeat};
 use atomic_table::{Badge, Split, Table};
@@ -16,7 +18,9 @@ use std::marker::Model;
 #[derive(Drop)]
 pub struct Core {
     pub(crate) table: Table<u8, View, Setup, OneHistory, Global>,
-    pub(crate) setup: Setup,
+    pub(crate) program: Program,
+    pub(crate) ring: usize,
+    pub(crate) queue: usize,
 }
 
 impl Model for Core {
@@ -25,9 +29,9 @@ impl Model for Core {
 
     ghost Value = { TheCore };
 
-    ghost view = { λ c. core_of c.table.shared.table_id c.setup };
+    ghost view = { λ c. core_of c.table.shared.table_id c.table.shared.key };
 
-    ghost invariant = { λ c. IsCore c.table.shared.table_id.words c.table.shared.key c.setup };
+    ghost invariant = { λ c. IsCore c.table.shared.table_id.words c.table.shared.key c.program c.ring c.queue };
 }
 
 // The first seat becomes the front's, and the back's is new.
@@ -107,23 +111,50 @@ impl Core {
         let (table, mut first) = Table::of_words(alloc, words.as_slice(), &setup)?;
         let back = table.shared.split_seat::<BackCut>(&mut first);
         let unit = table.shared.split_seat::<UnitCut>(&mut first);
-        let front_seat = SeatOf::first_seat(first, &setup);
-        let back_seat = SeatOf::first_seat(back, &setup);
-        let unit_seat = SeatOf::first_seat(unit, &setup);
-        Ok((Core { table, setup }, front_seat, back_seat, unit_seat))
+        let front_seat = SeatOf::first_seat(first, &table.shared);
+        let back_seat = SeatOf::first_seat(back, &table.shared);
+        let unit_seat = SeatOf::first_seat(unit, &table.shared);
+        let core = Core::of(table, setup);
+        Ok((core, front_seat, back_seat, unit_seat))
+    }
+
+    // A table's setup cannot be shared by threads, and its parts can.
+    fn of(table: Table<u8, View, Setup, OneHistory, Global>, setup: Setup) -> Core
+        requires wide { table.shared.table_id.words ≡ words_for setup.ring }
+        requires key { table.shared.key ≡ setup }
+        requires least { 2 ≤ setup.ring }
+        requires most { setup.ring ≤ 32 }
+        requires from_one { 1 ≤ setup.first_tag }
+        ensures { result ≡ core_of table.shared.table_id setup }
+    {
+        let Setup {
+            program,
+            ring,
+            queue,
+            first_tag: _,
+            opening: _,
+        } = setup;
+        Core {
+            table,
+            program,
+            ring,
+            queue,
+        }
     }
 
     /// How many reservation stations there are.
     pub fn ring(&self) -> usize
-        ensures { result ≡ self.now.sizes.ring }
+        ensures value { result ≡ self.now.sizes.ring }
+        ensures least { 2 ≤ result }
+        ensures most { result ≤ 32 }
     {
-        self.setup.ring
+        self.ring
     }
 
     /// How many loads and stores are in flight at most.
     pub fn queue(&self) -> usize
         ensures { result ≡ self.now.sizes.queue }
     {
-        self.setup.queue
+        self.queue
     }
 }

@@ -64,7 +64,7 @@ impl Core {
         ensures history { Adds self.now.program self.now.sizes seat.old.by seat.old.seen seat.new.seen (let_of tenant ∷ []) }
         ensures reply { result ≡ next_tag self.now.sizes (recent (unit_of self.now.program self.now.sizes seat.old.seen)) }
     {
-        let ring = self.setup.ring;
+        let ring = self.ring;
         let station = seat.station;
         let tag = dispatch(&self.table.shared, ring, &mut seat.seat, station, tenant);
         seat.station = (station + 1) % ring;

@@ -22,7 +22,7 @@ impl Core {
         ensures history { Adds self.now.program self.now.sizes seat.old.by seat.old.seen seat.new.seen [] }
         ensures reply { SeesWord self.now.program self.now.sizes seat.new.seen place result }
     {
-        steps::look(&self.table.shared, self.setup.ring, &mut seat.seat, place)
+        steps::look(&self.table.shared, self.ring, &mut seat.seat, place)
     }
 
     /// The word of a station.

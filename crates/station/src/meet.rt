@@ -36,8 +36,9 @@ impl Core {
         let other = self.table.shared.split_seat::<UnitCut>(&mut seat.seat);
         let other_seat = SeatOf {
             seat: other,
-            setup: Snapshot::of(&self.setup),
+            words: Snapshot::of(&self.table.shared),
             station: 0,
+            over: false,
             part: PhantomData,
         };
         (seat, other_seat)
@@ -56,7 +57,7 @@ impl Core {
         self.table.shared.join_seat::<Told>(&mut to.seat, note);
         crate::steps::look(
             &self.table.shared,
-            self.setup.ring,
+            self.ring,
             &mut to.seat,
             Place::Station(0),
         );

@@ -5,14 +5,14 @@ ghost use Rattle.inorder.specs.Unit.{next_station, recent};
 ghost use Rattle.ruu_words.specs.declared.rule.Draft.TheVariants.{Nothing};
 ghost use Rattle.ruu_words.specs.Rule.{sizes_of};
 ghost use Rattle.station.specs.Letting.{IsFronts};
-ghost use Rattle.station.specs.Recovery.{IsMended, SeesMiss};
+ghost use Rattle.station.specs.Recovery.{IsMended, IsSquashed, MaySquash, SeesMiss};
 ghost use Rattle.station.specs.Seats.{IsSame};
 ghost use Rattle.station.specs.Steps.{IsAt};
 
 use crate::cores::Core;
 use crate::seat::FrontSeat;
-use crate::steps::{Words, look, mend_tenant};
-use crate::words::{done_word, tag_in, value_in};
+use crate::steps::{Words, look, mend_tenant, squash_tenant};
+use crate::words::{done_word, left_word, tag_in, value_in};
 use atomic_table::Seat;
 use ruu_words::Place;
 use ruu_words::rule::View;
@@ -37,7 +37,48 @@ fn mend_miss(words: &Words, ring: usize, seat: &mut Seat<u8, View>, station: usi
     mend_tenant(words, ring, seat, station, done);
 }
 
+// Looks at the last tenant of the path for its tag, and writes that it has left. Gives its station and tag.
+fn squash_youngest(
+    words: &Words,
+    ring: usize,
+    seat: &mut Seat<u8, View>,
+    next: usize,
+) -> (usize, u32)
+    requires of { IsAt words.now.table_id words.now.key ring seat.old.table_id }
+    requires place { next < ring }
+    requires legal { IsLegal words.now.key.program (sizes_of words.now.key) seat.old.me.0.seen }
+    requires front { IsFronts seat.old.id Nothing seat.old.me }
+    requires may { MaySquash words.now.key.program (sizes_of words.now.key) seat.old.me.0.seen }
+    requires next { next ≡ next_station (sizes_of words.now.key) (recent (unit_of words.now.key.program (sizes_of words.now.key) seat.old.me.0.seen)) }
+    ensures same { (seat.new.table_id ≡ seat.old.table_id) × (seat.new.id ≡ seat.old.id) }
+    ensures slots { seat.new.me.1 ≡ seat.old.me.1 }
+    ensures front { IsFronts seat.old.id Nothing seat.new.me }
+    ensures inside { result.0 < ring }
+    ensures squashed { IsSquashed words.now.key.program (sizes_of words.now.key) seat.old.id result.0 result.1 seat.old.me.0.seen seat.new.me.0.seen }
+    ensures next { result.0 ≡ next_station (sizes_of words.now.key) (recent (unit_of words.now.key.program (sizes_of words.now.key) seat.new.me.0.seen)) }
+{
+    let station = (next + ring - 1) % ring;
+    let found = look(words, ring, seat, Place::Station(station));
+    let tag = tag_in(found);
+    let free = left_word(tag, 0);
+    squash_tenant(words, ring, seat, station, tag, free);
+    (station, tag)
+}
+
 impl Core {
+    /// Squashes the youngest live tenant, and gives its station and tag.
+    pub fn squash(&self, seat: &mut FrontSeat) -> (usize, u32)
+        requires core { seat.old.core ≡ self.now }
+        requires may { MaySquash self.now.program self.now.sizes seat.old.seen }
+        ensures kept { IsSame seat.old seat.new }
+        ensures reply { IsSquashed self.now.program self.now.sizes seat.old.by result.0 result.1 seat.old.seen seat.new.seen }
+    {
+        let next = seat.station;
+        let left = squash_youngest(&self.table.shared, self.ring, &mut seat.seat, next);
+        seat.station = left.0;
+        left
+    }
+
     /// Mends the miss of a station, which is the youngest live tenant: the path goes on at its
     /// computed next pc.
     pub fn mend(&self, seat: &mut FrontSeat, station: usize)
@@ -47,6 +88,6 @@ impl Core {
         ensures kept { IsSame seat.old seat.new }
         ensures history { IsMended self.now.program self.now.sizes seat.old.by station seat.old.seen seat.new.seen }
     {
-        mend_miss(&self.table.shared, self.setup.ring, &mut seat.seat, station);
+        mend_miss(&self.table.shared, self.ring, &mut seat.seat, station);
     }
 }

@@ -1,7 +1,7 @@
 //! Seats.
+use crate::steps::Words;
 use atomic_table::Seat;
-use inorder::history::Entry;
-use ruu_words::rule::{Setup, View};
+use ruu_words::rule::View;
 use std::marker::{Model, PhantomData};
 use std::snapshot::Snapshot;
 
@@ -46,9 +46,11 @@ impl Part for UnitPart {
 #[derive(Drop)]
 pub struct SeatOf<P: Part> {
     pub(crate) seat: Seat<u8, View>,
-    pub(crate) setup: Snapshot<Setup>,
-    // where the front's next tenant goes
+    pub(crate) words: Snapshot<Words>,
+    // where the front's next tenant goes, or the back's oldest live tenant stands
     pub(crate) station: usize,
+    // the back has retired a stop
+    pub(crate) over: bool,
     pub(crate) part: PhantomData<P>,
 }
 
@@ -58,25 +60,26 @@ impl<P: Part> Model for SeatOf<P> {
 
     ghost Value = { Caller };
 
-    ghost view = { λ s. record { core = core_of s.seat.table_id s.setup.value; by = s.seat.id; seen = s.seat.me.0.seen } };
+    ghost view = { λ s. record { core = core_of s.seat.table_id s.words.value.key; by = s.seat.id; seen = s.seat.me.0.seen } };
 
-    ghost invariant = { λ s. IsSeated s.setup.value.program (sizes_of s.setup.value) P.role s.seat.id s.station s.seat.me };
+    ghost invariant = { λ s. IsSeated s.words.value.key.program (sizes_of s.words.value.key) P.role s.seat.id s.station s.over s.seat.me };
 }
 
 impl<P: Part> SeatOf<P> {
-    ghost use Rattle.std.specs.Prelude.{◌≡◌};
+    ghost use Rattle.std.specs.Prelude.{◌≡◌, false};
     ghost use Rattle.ruu_words.specs.Rule.{sizes_of};
     ghost use Rattle.station.specs.Seats.{IsSeated, core_of};
 
     // A seat at a core where nothing was done yet.
-    pub(crate) fn first_seat(seat: Seat<u8, View>, setup: &Setup) -> SeatOf<P>
-        requires { IsSeated setup.now.program (sizes_of setup.now) P.role seat.id 0 seat.me }
-        ensures { result ≡ record { core = core_of seat.table_id setup.now; by = seat.id; seen = seat.me.0.seen } }
+    pub(crate) fn first_seat(seat: Seat<u8, View>, words: &Words) -> SeatOf<P>
+        requires { IsSeated words.now.key.program (sizes_of words.now.key) P.role seat.id 0 false seat.me }
+        ensures { result ≡ record { core = core_of seat.table_id words.now.key; by = seat.id; seen = seat.me.0.seen } }
     {
         SeatOf {
             seat,
-            setup: Snapshot::of(setup),
+            words: Snapshot::of(words),
             station: 0,
+            over: false,
             part: PhantomData,
         }
     }

@@ -2,7 +2,8 @@
 use Rattle.std.specs.Prelude.{◌≡◌, ◌<◌, ℕ, Bool, true, false, List, length, take, Option, Some, None, slice_get}
 use Rattle.unit.specs.declared.station.Station.{Station}
 
-abbrev pub given_at : {X : Type 0} → (List Station → Station → Option X) → List Station → Option Station → ℕ → Option X
+abbrev pub given_at : {X : Type 0} → (List Station → Station → Option X) → List Station → Option Station → ℕ →
+    Option X
 given_at give W None i = None
 given_at give W (Some w) i = give (take i W) w
 
@@ -15,7 +16,8 @@ abbrev pub NoneGives : {X : Type 0} → (List Station → Station → Option X) 
 NoneGives give W = (k : ℕ) → k < length W → gives give W k ≡ None
 
 -- Station i is the first that gives something, and gives x
-pub record FirstGives {X : Type 0} (give : List Station → Station → Option X) (W : List Station) (i : ℕ) (x : X) : Type 0 where
+pub record FirstGives {X : Type 0} (give : List Station → Station → Option X) (W : List Station) (i : ℕ) (x : X)
+    : Type 0 where
   pub inside : i < length W
   pub here : gives give W i ≡ Some x
   pub first : (k : ℕ) → k < i → gives give W k ≡ None

@@ -35,6 +35,7 @@ IsTold Learns None old new = new ≡ old
 IsTold Learns (Some l) old new = Learns old l.pc l.next new
 
 -- The predictor is asked where an instruction goes on, unless that is fixed
-abbrev pub IsAsked : {S : Type 0} → (S → ℕ → Instr → ℕ → S → Type 0) → Option ℕ → ℕ → Instr → ℕ → S → S → Type 0
+abbrev pub IsAsked : {S : Type 0} → (S → ℕ → Instr → ℕ → S → Type 0) →
+    Option ℕ → ℕ → Instr → ℕ → S → S → Type 0
 IsAsked Predicts None pc i predicted old new = Predicts old pc i predicted new
 IsAsked Predicts (Some x) pc i predicted old new = (predicted ≡ x) × (new ≡ old)

@@ -2,6 +2,7 @@
 use Rattle.std.specs.Prelude.{◌≡◌, ◌≤◌, ◌+◌, ◌-◌, ◌%◌, ℕ, suc, List, [], drop, Option, Some, None, unwrap_or, slice_set}
 use Rattle.isa.specs.Instruction.{width}
 use Rattle.isa.specs.declared.instr.Instr.{Instr}
+use Rattle.isa.specs.declared.stop.Stop.{Stop}
 use Rattle.isa.specs.declared.stop.Stop.TheVariants.{BadPc}
 use Rattle.inorder.specs.Machine.{State, store_bytes, write}
 use Rattle.unit.specs.declared.bench.Turn.{Turn}
@@ -40,18 +41,23 @@ with_station w s =
       count = suc s.count;
     }
 
-abbrev pub LeavesTo : Pipeline → Station → Stage → Turn → Pipeline → Type 0
-LeavesTo b w (Stops c) answer later =
-    (answer ≡ Over c) × (later ≡ record b { window = drop 1 b.window; over = Some c; settled = b.settled - 1 })
-LeavesTo b w _ answer later =
-    (answer ≡ Retired) ×
-    (later ≡
+-- The fields behind a stop that retires
+abbrev pub ended : Pipeline → Stop → Pipeline
+ended b c = record b { window = drop 1 b.window; over = Some c; settled = b.settled - 1 }
+
+-- The fields behind any other station that retires
+abbrev pub left : Pipeline → Station → Pipeline
+left b w =
     record b {
       window = drop 1 b.window;
       committed = with_station w b.committed;
       leavers = slice_set b.leavers ((b.committed.count + 0) % b.ring) (leaver_of w);
       settled = b.settled - 1;
-    })
+    }
+
+abbrev pub LeavesTo : Pipeline → Station → Stage → Turn → Pipeline → Type 0
+LeavesTo b w (Stops c) answer later = (answer ≡ Over c) × (later ≡ ended b c)
+LeavesTo b w _ answer later = (answer ≡ Retired) × (later ≡ left b w)
 
 abbrev pub RetiresTo : Pipeline → Option Station → Turn → Pipeline → Type 0
 RetiresTo b None answer later = (answer ≡ Over BadPc) × (later ≡ b)

@@ -5,6 +5,7 @@ pub mod Notes
 pub mod Stages
 pub mod Leaves
 pub mod Leavers
+pub mod Changes
 pub mod StandsFor
 pub mod Blocked
 pub mod Turns

@@ -111,7 +111,8 @@ pub record Retires (P : Program) (C : Sizes) (U V : UpdateUnit) : Type 0 where
 pub data IsOver (P : Program) (C : Sizes) (U V : UpdateUnit) (c : Stop) : Type 0 where
   Before : HasStopped V.tenants c → V ≡ U → IsOver P C U V c
   Now : Retires P C U V → HasStopped V.tenants c → IsOver P C U V c
-  Nowhere : c ≡ BadPc → AllByRecursion IsNotLive U.tenants → instr_at P (committed P U.tenants).pc ≡ None → V ≡ U → IsOver P C U V c
+  Nowhere : c ≡ BadPc → AllByRecursion IsNotLive U.tenants →
+      instr_at P (committed P U.tenants).pc ≡ None → V ≡ U → IsOver P C U V c
 
 abbrev pub Does : Program → Sizes → UpdateUnit → UpdateUnit → Turn → Type 0
 Does P C U V Recovered = Recovers P C U V
@@ -163,38 +164,46 @@ abbrev pub IsPlain : Turn → Type 0
 IsPlain Let = ⊥
 IsPlain _ = Unit {0}
 
--- The predictor is told, and then asked
-pub record Guesses {S : Type 0} (Predicts : S → ℕ → Instr → ℕ → S → Type 0) (Learns : S → ℕ → ℕ → S → Type 0) (left : Option Leaver) (i : Instr) (pc predicted : ℕ) (old new : S) : Type 0 where
-  pub middle : S
-  pub told : IsTold Learns left old middle
-  pub asked : IsAsked Predicts (fixed_next i pc) pc i predicted middle new
-
--- What the turn does to the predictor: a let tells it of who has left the station, and then asks it for the
--- next pc of the new tenant, if that is not fixed; nothing else changes it
-abbrev pub Trains : {S : Type 0} → (S → ℕ → Instr → ℕ → S → Type 0) → (S → ℕ → ℕ → S → Type 0) → (P : Program) → (C : Sizes) → (U V : UpdateUnit) → (answer : Turn) → Does P C U V answer → S → S → Type 0
-Trains Predicts Learns P C U V Let d old new =
-    Guesses Predicts Learns (leaver P U.tenants (next_station C U.tenants)) (instr_of P d.index) (front_pc U.tenants) d.predicted old new
-Trains Predicts Learns P C U V Recovered d old new = new ≡ old
-Trains Predicts Learns P C U V Ran d old new = new ≡ old
-Trains Predicts Learns P C U V Loaded d old new = new ≡ old
-Trains Predicts Learns P C U V Retired d old new = new ≡ old
-Trains Predicts Learns P C U V (Over c) d old new = new ≡ old
-
 -- The fields of a bench
 pub record Core (S : Type 0) : Type 0 where
   pub pipeline : Pipeline
   pub predictor : S
 
-pub record Turned {S : Type 0} (Predicts : S → ℕ → Instr → ℕ → S → Type 0) (Learns : S → ℕ → ℕ → S → Type 0) (b : Core S) (U : UpdateUnit) (answer : Turn) (later : Core S) : Type 0 where
-  pub unit : UpdateUnit
-  pub reached : IsReached b.pipeline.program.now (sizes b.pipeline) unit
-  pub stands : StandsFor later.pipeline unit
-  pub does : Does b.pipeline.program.now (sizes b.pipeline) U unit answer
-  pub trains : Trains Predicts Learns b.pipeline.program.now (sizes b.pipeline) U unit answer does b.predictor later.predictor
+-- What a turn does to a predictor, by what it says of being asked and told
+module _ {S : Type 0} (Predicts : S → ℕ → Instr → ℕ → S → Type 0) (Learns : S → ℕ → ℕ → S → Type 0) where
+  -- It is told, and then asked
+  pub record Guesses (left : Option Leaver) (i : Instr) (pc predicted : ℕ) (old new : S) : Type 0 where
+    pub middle : S
+    pub told : IsTold Learns left old middle
+    pub asked : IsAsked Predicts (fixed_next i pc) pc i predicted middle new
 
--- For each unit that the bench stands for, the turn makes steps that lead to one that it stands for then, and
--- changes the predictor by them
-abbrev pub IsTurn : {S : Type 0} → (S → ℕ → Instr → ℕ → S → Type 0) → (S → ℕ → ℕ → S → Type 0) → Core S → Turn → Core S → Type 0
-IsTurn Predicts Learns b answer later =
-    (U : UpdateUnit) → IsReached b.pipeline.program.now (sizes b.pipeline) U → StandsFor b.pipeline U →
-    Turned Predicts Learns b U answer later
+  -- A let tells it of who has left the station, and then asks it for the next pc of the new tenant, if that is
+  -- not fixed
+  abbrev pub TrainsAtLet : (P : Program) (C : Sizes) (U V : UpdateUnit) → Lets P C U V → S → S → Type 0
+  TrainsAtLet P C U V d old new =
+      Guesses (leaver P U.tenants (next_station C U.tenants)) (instr_of P d.index) (front_pc U.tenants) d.predicted
+      old new
+
+  -- Nothing else changes it
+  abbrev pub Trains : (P : Program) (C : Sizes) (U V : UpdateUnit) (answer : Turn) → Does P C U V answer → S → S → Type 0
+  Trains P C U V Let d old new = TrainsAtLet P C U V d old new
+  Trains P C U V Recovered d old new = new ≡ old
+  Trains P C U V Ran d old new = new ≡ old
+  Trains P C U V Loaded d old new = new ≡ old
+  Trains P C U V Retired d old new = new ≡ old
+  Trains P C U V (Over c) d old new = new ≡ old
+
+  pub record Turned (b : Core S) (U : UpdateUnit) (answer : Turn) (later : Core S) : Type 0 where
+    pub unit : UpdateUnit
+    pub reached : IsReached b.pipeline.program.now (sizes b.pipeline) unit
+    pub stands : StandsFor later.pipeline unit
+    pub does : Does b.pipeline.program.now (sizes b.pipeline) U unit answer
+    pub trains :
+        Trains b.pipeline.program.now (sizes b.pipeline) U unit answer does b.predictor later.predictor
+
+  -- For each unit that the bench stands for, the turn makes steps that lead to one that it stands for then, and
+  -- changes the predictor by them
+  abbrev pub IsTurn : Core S → Turn → Core S → Type 0
+  IsTurn b answer later =
+      (U : UpdateUnit) → IsReached b.pipeline.program.now (sizes b.pipeline) U → StandsFor b.pipeline U →
+      Turned b U answer later

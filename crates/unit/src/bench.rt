@@ -1,7 +1,7 @@
 //! The one-thread unit, as its callers see it.
 ghost use Rattle.std.specs.Prelude.{◌≡◌, ◌<◌, ◌-◌, ◌^◌, nat_lt, IfOk};
 ghost use Rattle.inorder.specs.Machine.{start};
-ghost use Rattle.inorder.specs.Runs.{end_from};
+ghost use Rattle.unit.specs.Changes.{end_state, run_from};
 ghost use Rattle.unit.specs.Turns.{Falls, Guesses, IsSame, IsTurn};
 
 use crate::dispatch::Fetched;
@@ -112,7 +112,7 @@ impl<'a, P: Predictor + Drop> Bench<'a, P> {
 
     // Turns until it stops, or its count has reached a limit.
     fn run_to(&mut self, limit: u64) -> Ending
-        ensures { (result, self.new.pipeline.committed) ≡ end_from self.old.pipeline.program.now (limit - self.old.pipeline.committed.count) self.old.pipeline.committed }
+        ensures { (result, self.new.pipeline.committed) ≡ run_from self.old.pipeline limit }
     {
         while self.pipeline.committed.count() < limit {
             if let Turn::Over(code) = self.turn() {
@@ -124,7 +124,7 @@ impl<'a, P: Predictor + Drop> Bench<'a, P> {
 
     /// Runs until it stops, or its count has reached a limit: as the in-order machine does.
     pub fn run(self, limit: u64) -> End
-        ensures { (result.outcome, record { registers = result.registers; memory = result.memory.items; pc = result.pc; count = result.n }) ≡ end_from self.entry.pipeline.program.now (limit - self.entry.pipeline.committed.count) self.entry.pipeline.committed }
+        ensures { end_state result ≡ run_from self.entry.pipeline limit }
     {
         let mut bench = self;
         let outcome = bench.run_to(limit);

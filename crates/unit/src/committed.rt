@@ -84,7 +84,7 @@ impl Committed {
     pub fn advance(&mut self, r: Reg, v: u32, next: u32)
         requires { self.old.count < 2 ^ 64 - 1 }
         ensures registers { self.new.registers ≡ write self.old.registers r v }
-        ensures rest { self.new ≡ record { registers = self.new.registers; memory = self.old.memory; pc = next; count = suc self.old.count } }
+        ensures rest { self.new ≡ record self.old { registers = self.new.registers; pc = next; count = suc self.old.count } }
     {
         if r.number() != 0 {
             self.registers[r.number() as usize] = v;

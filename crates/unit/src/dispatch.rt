@@ -1,7 +1,7 @@
 //! Dispatch.
 ghost use Rattle.std.specs.Prelude.{◌≡◌, ◌<◌, ◌≤◌, ◌-◌, ◌+◌, ◌%◌, [], ◌∷◌, ◌++◌, length, take, slice_get, slice_set, Some, None};
 ghost use Rattle.inorder.specs.Tenants.{made_at_let as made_at_let_of};
-ghost use Rattle.unit.specs.Stages.{NextIs};
+ghost use Rattle.unit.specs.Changes.{NextOf, next_place};
 ghost use Rattle.unit.specs.Window.{accesses as accesses_of, access_at as access_at_of, let_at, next_in, reaches_memory};
 
 use crate::leaver::Leaver;
@@ -54,7 +54,7 @@ fn access_at(window: &Window, i: usize) -> usize
     ensures value { result ≡ access_at_of (slice_get window.now i) }
     ensures small { result ≤ 1 }
 {
-    match window.at(i) {
+    match window.peek(i) {
         Some(station) if is_access(station.instr.op()) => 1,
         _ => 0,
     }
@@ -71,6 +71,23 @@ fn accesses(window: &Window) -> usize
     count
 }
 
+// A number modulo the ring size, which is a power of two: a mask for each size.
+fn wrapped(n: u64, ring: usize) -> usize
+    requires { 0 < ring }
+    ensures value { result ≡ n % ring }
+    ensures small { result < ring }
+{
+    let rest = match ring {
+        2 => n % 2,
+        4 => n % 4,
+        8 => n % 8,
+        16 => n % 16,
+        32 => n % 32,
+        _ => n % (ring as u64),
+    };
+    rest as usize
+}
+
 impl<'a> Pipeline<'a> {
     /// The station of the tenant at `i`, live or to be let.
     pub fn station_at(&self, i: usize) -> usize
@@ -80,8 +97,8 @@ impl<'a> Pipeline<'a> {
         ensures value { result ≡ (self.now.committed.count + i) % self.now.ring }
         ensures small { result < self.now.ring }
     {
-        let oldest = (self.committed.count() % (self.ring as u64)) as usize;
-        (oldest + i) % self.ring
+        let oldest = wrapped(self.committed.count(), self.ring);
+        wrapped((oldest + i) as u64, self.ring)
     }
 
     // Where the path goes on.
@@ -90,7 +107,7 @@ impl<'a> Pipeline<'a> {
     {
         match self.window.len().checked_sub(1) {
             None => self.committed.pc(),
-            Some(last) => match self.window.at(last) {
+            Some(last) => match self.window.peek(last) {
                 None => self.committed.pc(),
                 Some(station) => station.next,
             },
@@ -99,7 +116,7 @@ impl<'a> Pipeline<'a> {
 
     /// The next instruction, if it can be let.
     pub fn next(&self) -> Option<Fetched>
-        ensures { NextIs self.now.program.now self.now.ring self.now.queue self.now.committed.pc self.now.window result }
+        ensures { NextOf self.now result }
     {
         if self.ring <= self.window.len() {
             return None;
@@ -116,7 +133,7 @@ impl<'a> Pipeline<'a> {
     pub fn leaver(&self) -> Option<Leaver>
         requires room { 0 < self.now.ring }
         requires most { self.now.ring ≤ 32 }
-        ensures { slice_get self.now.leavers ((self.now.committed.count + length self.now.window) % self.now.ring) ≡ Some result }
+        ensures { slice_get self.now.leavers (next_place self.now) ≡ Some result }
     {
         let station = self.station_at(self.window.len());
         self.leavers[station]
@@ -128,7 +145,7 @@ impl<'a> Pipeline<'a> {
         requires most { self.old.ring ≤ 32 }
         requires free { length self.old.window < 32 }
         ensures window { self.new.window ≡ self.old.window ++ let_at next.instr next.pc predicted ∷ [] }
-        ensures leavers { self.new.leavers ≡ slice_set self.old.leavers ((self.old.committed.count + length self.old.window) % self.old.ring) None }
+        ensures leavers { self.new.leavers ≡ slice_set self.old.leavers (next_place self.old) None }
         ensures rest { self.new ≡ record self.old { window = self.new.window; leavers = self.new.leavers } }
     {
         let station = self.station_at(self.window.len());

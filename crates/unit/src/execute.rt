@@ -1,8 +1,9 @@
 //! Execution.
 ghost use Rattle.std.specs.Prelude.{◌≡◌, ◌<◌, ◌≤◌, [], ◌∷◌, ◌++◌, length, take, slice_get, None};
-ghost use Rattle.unit.specs.Givers.{Chosen, NoneGives, gives};
+ghost use Rattle.unit.specs.Changes.{NoneRuns, RunsOldest, with_window};
+ghost use Rattle.unit.specs.Givers.{Chosen, gives};
 ghost use Rattle.unit.specs.Notes.{AreNoted, AreSettled, missed_after, settled_at, settled_by};
-ghost use Rattle.unit.specs.Stages.{FirstReady, RunsTo};
+ghost use Rattle.unit.specs.Stages.{FirstReady};
 ghost use Rattle.unit.specs.Window.{finished as finished_of, operands_by, operands_in};
 ghost use Rattle.isa.specs.Instruction.{kind as kind_of};
 
@@ -42,9 +43,9 @@ fn needed(kind: Kind, a: Option<u32>, b: Option<u32>) -> Option<Operands>
 }
 
 // What a station needs, if it can be claimed behind the first `i`.
-fn sources(window: &Window, committed: &Committed, i: usize, station: Station) -> Option<Operands>
+fn sources(window: &Window, committed: &Committed, i: usize, station: &Station) -> Option<Operands>
     requires { i ≤ length window.now }
-    ensures { result ≡ operands_in committed.now.registers (take i window.now) station }
+    ensures { result ≡ operands_in committed.now.registers (take i window.now) station.now }
 {
     let Stage::Open = station.stage else {
         return None;
@@ -59,7 +60,7 @@ fn sources_at(window: &Window, committed: &Committed, i: usize) -> Option<Operan
     requires { i ≤ length window.now }
     ensures { result ≡ gives (operands_in committed.now.registers) window.now i }
 {
-    match window.at(i) {
+    match window.peek(i) {
         None => None,
         Some(station) => sources(window, committed, i, station),
     }
@@ -79,8 +80,8 @@ fn oldest_ready(window: &Window, committed: &Committed, from: usize) -> Option<R
 }
 
 // It has ended, or is a store with its address.
-fn is_settled(station: Station) -> bool
-    ensures { result ≡ settled_by (kind_of station.instr.op) station.stage }
+fn is_settled(station: &Station) -> bool
+    ensures { result ≡ settled_by (kind_of station.now.instr.op) station.now.stage }
 {
     match station.stage {
         Stage::Done | Stage::Stops(_) => true,
@@ -92,7 +93,7 @@ fn is_settled(station: Station) -> bool
 fn is_settled_at(window: &Window, i: usize) -> bool
     ensures { result ≡ settled_at (slice_get window.now i) }
 {
-    match window.at(i) {
+    match window.peek(i) {
         None => false,
         Some(station) => is_settled(station),
     }
@@ -154,9 +155,9 @@ impl<'a> Pipeline<'a> {
     /// Claims and finishes the oldest tenant that can be claimed.
     pub fn runs(&mut self) -> bool
         requires { AreNoted self.old.missed self.old.settled self.old.window }
-        ensures window { Chosen result (RunsTo self.old.committed.registers (length self.old.program.now.bytes) self.old.window self.new.window) (NoneGives (operands_in self.old.committed.registers) self.old.window) }
+        ensures window { Chosen result (RunsOldest self.old self.new) (NoneRuns self.old) }
         ensures same { Chosen result (Unit {0}) (self.new.window ≡ self.old.window) }
-        ensures rest { self.new ≡ record self.old { window = self.new.window; missed = self.new.missed; settled = self.new.settled } }
+        ensures rest { self.new ≡ with_window self.old self.new.window self.new.missed self.new.settled }
         ensures noted { AreNoted self.new.missed self.new.settled self.new.window }
     {
         self.settled = settled(&self.window, self.settled);

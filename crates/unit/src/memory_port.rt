@@ -3,11 +3,12 @@ ghost use Rattle.std.specs.Prelude.{◌≡◌, ◌≢◌, ◌<◌, ◌≤◌, �
 ghost use Rattle.isa.specs.Instruction.{kind as kind_of, width as width_in};
 ghost use Rattle.lsq.specs.Entries.{load_at};
 ghost use Rattle.lsq.specs.LoadRule.{answer};
-ghost use Rattle.unit.specs.Givers.{Chosen, NoneGives, gives};
+ghost use Rattle.unit.specs.Changes.{LoadsOldest, NoneLoads};
+ghost use Rattle.unit.specs.Givers.{Chosen, gives};
 ghost use Rattle.inorder.specs.Loads.{access_width, is_store as is_store_of};
 ghost use Rattle.unit.specs.Loads.{AreInside, NoneWaits, address_of as address_by, entries, entry as entry_of, entry_at as entry_in, load_in, value_by, waits as waits_of, waits_at as waits_at_of, with_entry};
 ghost use Rattle.unit.specs.Notes.{AreNoted, AreSettled};
-ghost use Rattle.unit.specs.Stages.{FirstAnswered, LoadsTo};
+ghost use Rattle.unit.specs.Stages.{FirstAnswered};
 
 use crate::committed::Committed;
 use crate::dispatch::is_access;
@@ -45,9 +46,9 @@ fn address_of(stage: Stage) -> Option<u32>
 }
 
 // What the queue holds of the memory instruction at `i`.
-fn entry(window: &Window, committed: &Committed, i: usize, station: Station) -> Entry
+fn entry(window: &Window, committed: &Committed, i: usize, station: &Station) -> Entry
     requires { i ≤ length window.now }
-    ensures { result ≡ entry_of committed.now.registers (take i window.now) station }
+    ensures { result ≡ entry_of committed.now.registers (take i window.now) station.now }
 {
     let op = station.instr.op();
     Entry {
@@ -72,7 +73,7 @@ fn entry_at(window: &Window, committed: &Committed, i: usize) -> Option<Entry>
     requires { i ≤ length window.now }
     ensures { result ≡ entry_in committed.now.registers window.now (slice_get window.now i) i }
 {
-    match window.at(i) {
+    match window.peek(i) {
         Some(station) if is_access(station.instr.op()) => Some(entry(
             window, committed, i, station,
         )),
@@ -81,8 +82,8 @@ fn entry_at(window: &Window, committed: &Committed, i: usize) -> Option<Entry>
 }
 
 // The address of a load that waits for its value.
-fn waits(station: Station) -> Option<u32>
-    ensures { result ≡ waits_of station }
+fn waits(station: &Station) -> Option<u32>
+    ensures { result ≡ waits_of station.now }
 {
     match (station.instr.op().kind(), station.stage) {
         (Kind::Loads, Stage::Addr(a)) => Some(a),
@@ -93,7 +94,7 @@ fn waits(station: Station) -> Option<u32>
 fn waits_at(window: &Window, i: usize) -> bool
     ensures { result ≡ waits_at_of (slice_get window.now i) }
 {
-    match window.at(i) {
+    match window.peek(i) {
         None => false,
         Some(station) => waits(station).is_some(),
     }
@@ -134,7 +135,7 @@ fn value_at(queue: &Queue, window: &Window, committed: &Committed, i: usize) -> 
     requires queue { queue.now.entries ≡ entries committed.now.registers window.now (i + 1) }
     ensures { result ≡ gives (load_in committed.now.registers committed.now.memory) window.now i }
 {
-    let station = window.at(i)?;
+    let station = window.peek(i)?;
     let address = waits(station)?;
     let last = queue.len() - 1;
     value_of(queue.answer(last), committed, station.instr.op(), address)
@@ -171,7 +172,7 @@ impl<'a> Pipeline<'a> {
     pub fn loads(&mut self) -> bool
         requires inside { AreInside (length self.old.committed.memory) self.old.window }
         requires noted { AreNoted self.old.missed self.old.settled self.old.window }
-        ensures window { Chosen result (LoadsTo self.old.committed.registers self.old.committed.memory self.old.window self.new.window) (NoneGives (load_in self.old.committed.registers self.old.committed.memory) self.old.window) }
+        ensures window { Chosen result (LoadsOldest self.old self.new) (NoneLoads self.old) }
         ensures same { Chosen result (Unit {0}) (self.new ≡ self.old) }
         ensures rest { self.new ≡ record self.old { window = self.new.window } }
         ensures noted { AreNoted self.new.missed self.new.settled self.new.window }

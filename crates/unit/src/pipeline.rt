@@ -1,9 +1,7 @@
 //! The stations, the committed state, and the turns that ask no predictor.
 ghost use Rattle.std.specs.Prelude.{◌≡◌, ◌<◌, ◌≤◌, ◌-◌, ◌^◌, None, IfOk};
 ghost use Rattle.inorder.specs.Machine.{start};
-ghost use Rattle.unit.specs.Givers.{NoneGives};
-ghost use Rattle.unit.specs.Notes.{miss_in};
-ghost use Rattle.unit.specs.Stages.{CannotLet};
+ghost use Rattle.unit.specs.Changes.{NextOf, NoneRecovers};
 ghost use Rattle.unit.specs.StandsFor.{IsUnit};
 ghost use Rattle.unit.specs.Turns.{Falls, IsPlain, IsSame, Moves};
 
@@ -58,8 +56,8 @@ impl<'a> Pipeline<'a> {
         requires unit { IsUnit self.old }
         requires count { self.old.committed.count < 2 ^ 64 - 1 }
         requires open { self.old.over ≡ None }
-        requires miss { NoneGives miss_in self.old.window }
-        requires lets { CannotLet self.old.program.now self.old.ring self.old.queue self.old.committed.pc self.old.window }
+        requires miss { NoneRecovers self.old }
+        requires lets { NextOf self.old None }
         ensures turn { Moves self.old result self.new }
         ensures falls { Falls result self.old self.new }
         ensures unit { IsUnit self.new }

@@ -1,8 +1,9 @@
 //! Recovery from a miss.
 ghost use Rattle.std.specs.Prelude.{◌≡◌, ◌<◌, ◌≤◌, [], ◌∷◌, ◌++◌, length, take, slice_get, None};
-ghost use Rattle.unit.specs.Givers.{Chosen, NoneGives, gives};
-ghost use Rattle.unit.specs.Notes.{AreNoted, miss_in};
-ghost use Rattle.unit.specs.Stages.{FirstMiss, RecoversTo};
+ghost use Rattle.unit.specs.Changes.{NoneRecovers, RecoversOldest, with_window};
+ghost use Rattle.unit.specs.Givers.{Chosen, gives};
+ghost use Rattle.unit.specs.Notes.{AreNoted, AreSettled, miss_in};
+ghost use Rattle.unit.specs.Stages.{FirstMiss};
 
 use crate::pipeline::Pipeline;
 use crate::station::{Stage, Station};
@@ -19,17 +20,18 @@ pub struct Missed {
 fn next_at(window: &Window, i: usize) -> Option<u32>
     ensures { result ≡ gives miss_in window.now i }
 {
-    match window.at(i)?.stage {
+    match window.peek(i)?.stage {
         Stage::Miss(next) => Some(next),
         _ => None,
     }
 }
 
-// The oldest miss.
-fn oldest_miss(window: &Window) -> Option<Missed>
+// The oldest miss; it is none of those before `from`.
+fn oldest_miss(window: &Window, from: usize) -> Option<Missed>
+    requires { AreSettled from window.now }
     ensures { FirstMiss window.now result }
 {
-    for at in 0..window.len() {
+    for at in from..window.len() {
         if let Some(next) = next_at(window, at) {
             return Some(Missed { at, next });
         }
@@ -42,15 +44,15 @@ impl<'a> Pipeline<'a> {
     pub fn recovers(&mut self) -> bool
         requires room { length self.old.window ≤ 32 }
         requires noted { AreNoted self.old.missed self.old.settled self.old.window }
-        ensures window { Chosen result (RecoversTo self.old.window self.new.window) (NoneGives miss_in self.old.window) }
+        ensures window { Chosen result (RecoversOldest self.old self.new) (NoneRecovers self.old) }
         ensures same { Chosen result (Unit {0}) (self.new ≡ self.old) }
-        ensures rest { self.new ≡ record self.old { window = self.new.window; missed = self.new.missed; settled = self.new.settled } }
+        ensures rest { self.new ≡ with_window self.old self.new.window self.new.missed self.new.settled }
         ensures noted { AreNoted self.new.missed self.new.settled self.new.window }
     {
         if !self.missed {
             return false;
         }
-        let Some(miss) = oldest_miss(&self.window) else {
+        let Some(miss) = oldest_miss(&self.window, self.settled) else {
             return false;
         };
         let Some(station) = self.window.at(miss.at) else {

@@ -1,8 +1,7 @@
 //! Retirement.
 ghost use Rattle.std.specs.Prelude.{◌≡◌, ◌<◌, ◌≤◌, ◌+◌, ◌-◌, ◌%◌, ◌^◌, Some, drop, length, slice_get, slice_set};
 ghost use Rattle.unit.specs.declared.bench.Turn.TheVariants.{Over, Retired};
-ghost use Rattle.unit.specs.Leavers.{leaver_of};
-ghost use Rattle.unit.specs.Leaves.{CanLeave, HasEnded, LeavesTo, RetiresTo, with_station};
+ghost use Rattle.unit.specs.Leaves.{CanLeave, HasEnded, RetiresTo, ended, left, with_station};
 
 use crate::bench::Turn;
 use crate::leaver::{Leaver, told_of};
@@ -41,7 +40,7 @@ impl<'a> Pipeline<'a> {
     // The oldest tenant is a stop: it ends the unit.
     fn ends(&mut self, code: Stop) -> Turn
         ensures answer { result ≡ Over code }
-        ensures later { self.new ≡ record self.old { window = drop 1 self.old.window; over = Some code; settled = self.old.settled - 1 } }
+        ensures later { self.new ≡ ended self.old code }
     {
         self.over = Some(code);
         self.window.shift();
@@ -57,7 +56,7 @@ impl<'a> Pipeline<'a> {
         requires count { self.old.committed.count < 2 ^ 64 - 1 }
         requires can { HasEnded (length self.old.committed.memory) oldest.instr oldest.stage }
         ensures answer { result ≡ Retired }
-        ensures later { self.new ≡ record self.old { window = drop 1 self.old.window; committed = with_station oldest self.old.committed; leavers = slice_set self.old.leavers ((self.old.committed.count + 0) % self.old.ring) (leaver_of oldest); settled = self.old.settled - 1 } }
+        ensures later { self.new ≡ left self.old oldest }
     {
         let station = self.station_at(0);
         leave(&mut self.leavers, station, told_of(&oldest));

@@ -17,7 +17,7 @@ pub fn source(window: &Window, committed: &Committed, i: usize, r: Reg) -> Optio
     let mut j = i;
     while 0 < j {
         j -= 1;
-        if let Some(older) = window.at(j) {
+        if let Some(older) = window.peek(j) {
             if older.destination.number() == r.number() {
                 return older.made;
             }

@@ -1,5 +1,5 @@
 //! The stations of the live tenants, the oldest first.
-ghost use Rattle.std.specs.Prelude.{◌≡◌, ◌<◌, ◌≤◌, [], ◌∷◌, ◌++◌, length, take, drop, slice_get, slice_set, IfOk};
+ghost use Rattle.std.specs.Prelude.{◌≡◌, ◌<◌, ◌≤◌, [], ◌∷◌, ◌++◌, length, take, drop, slice_get, slice_set, option_copied, IfOk};
 
 use crate::station::Station;
 use circular_buffer::HeapCircularBuffer;
@@ -42,7 +42,13 @@ impl Window {
     pub fn at(&self, i: usize) -> Option<Station>
         ensures { result ≡ slice_get self.now i }
     {
-        self.stations.get(i).copied()
+        self.peek(i).copied()
+    }
+
+    pub fn peek(&self, i: usize) -> Option<&Station>
+        ensures { option_copied result ≡ slice_get self.now i }
+    {
+        self.stations.get(i)
     }
 
     pub fn put(&mut self, i: usize, station: Station)

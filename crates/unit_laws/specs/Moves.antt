@@ -19,7 +19,8 @@ MayRun P C by U [] = Unit {0}
 MayRun P C by U (s ∷ ss) = MayRun P C by U ss × Allowed P C (run_on P C by U ss) by s
 
 -- A caller's steps are allowed from U on, and lead to V
-pub record Leads (P : Program) (C : Sizes) (by : ℕ) (U : UpdateUnit) (steps : List Step) (V : UpdateUnit) : Type 0 where
+pub record Leads (P : Program) (C : Sizes) (by : ℕ) (U : UpdateUnit) (steps : List Step)
+    (V : UpdateUnit) : Type 0 where
   pub may : MayRun P C by U steps
   pub is : run_on P C by U steps ≡ V
 

@@ -1,6 +1,9 @@
-//! Programs with the reports of their runs, on a ring of 16 stations up to 1,000,000 instructions.
+//! Programs with the reports of their runs, by the one-thread unit and by the in-order machine; on a ring of 16
+//! stations up to 1,000,000 instructions where no more is said.
 use super::{LIMIT, answer, config};
 use crate::Status;
+use inorder::{Ended, Machine};
+use isa::{End, Ending, parse, report_text};
 use std::alloc::Global;
 use std::process::Abort;
 use std::test::Fail;
@@ -8,19 +11,46 @@ use std::test::Fail;
 /// What a listing shows, the listing, its report and its status.
 type Row = (&'static str, &'static str, &'static str, Status);
 
+/// The report of the in-order run.
+fn in_order(alloc: Global, listing: &[u8], limit: u64) -> Result<String, Fail> {
+    let program = parse(alloc, listing)?;
+    let mut machine = Machine::new(alloc, &program)?;
+    let outcome = match machine.run(limit) {
+        Ended::Stopped(stop) => Ending::Stop(stop),
+        Ended::Limit => Ending::Limit,
+    };
+    let memory = Vec::from_slice(alloc, machine.memory())?;
+    let end = End {
+        n: machine.count(),
+        pc: machine.pc(),
+        outcome,
+        registers: *machine.registers(),
+        memory,
+    };
+    Ok(report_text(alloc, &end)?)
+}
+
 fn check(rt: &impl Abort, alloc: Global, ring: u64, limit: u64, rows: &[Row]) -> Result<(), Fail> {
     let config = config(ring, limit)?;
     for (shown, listing, report, status) in rows {
         let (answered, text) = answer(alloc, listing.as_bytes(), &config)?;
         assert!(rt; text.as_slice() == report.as_bytes(), "{shown}");
         assert!(rt; answered == *status, "{shown}");
+        let machine = in_order(alloc, listing.as_bytes(), limit)?;
+        assert!(rt; machine.as_str() == *report, "{shown}, in order");
     }
     Ok(())
 }
 
 #[test]
 fn values_are_computed(rt: HostRuntime) -> Result<(), Fail> {
-    let rows: [Row; 7] = [
+    let rows: [Row; 8] = [
+        (
+            "a signed difference overflows",
+            "lui $1,0x8000\naddiu $2,$0,1\nsub $3,$1,$2\n",
+            "stop overflow\ncount 2\npc 0x00400008\nr1 0x80000000\nr2 0x00000001\n",
+            Status::Stopped,
+        ),
         (
             "the empty text has no instruction",
             "",
@@ -70,7 +100,14 @@ fn values_are_computed(rt: HostRuntime) -> Result<(), Fail> {
 
 #[test]
 fn memory_is_read_and_written(rt: HostRuntime) -> Result<(), Fail> {
-    let rows: [Row; 5] = [
+    let rows: [Row; 6] = [
+        (
+            "a halfword is stored, and read by bytes",
+            ".space 8\naddiu $1,$0,0x1234\nsh $1,6($0)\nlbu $2,7($0)\nlb $3,6($0)\nbreak\n",
+            "stop break\ncount 4\npc 0x00400010\n\
+             r1 0x00001234\nr2 0x00000012\nr3 0x00000034\nm 0x00000004 0x12340000\n",
+            Status::Break,
+        ),
         (
             "a byte is stored into a word",
             ".space 4\naddiu $1,$0,-1\nsw $1,0($0)\nsb $0,1($0)\nlw $2,0($0)\nbreak\n",
@@ -109,7 +146,13 @@ fn memory_is_read_and_written(rt: HostRuntime) -> Result<(), Fail> {
 
 #[test]
 fn jumps_go_where_they_say(rt: HostRuntime) -> Result<(), Fail> {
-    let rows: [Row; 4] = [
+    let rows: [Row; 5] = [
+        (
+            "what jal links is read where it goes",
+            "jal F\nF: nor $1,$31,$0\nbreak\n",
+            "stop break\ncount 2\npc 0x00400008\nr1 0xffbffffb\nr31 0x00400004\n",
+            Status::Break,
+        ),
         (
             "what a taken branch passes is not run",
             "beq $0,$0,E\nlw $1,1($0)\nE: break\n",

@@ -122,6 +122,37 @@ fn takes_all_options_at_once(rt: HostRuntime) {
 }
 
 #[test]
+fn cuts_the_queue_to_the_ring(rt: HostRuntime) {
+    let cases: [(&str, &str, u32); 9] = [
+        ("2", "2", 2),
+        ("2", "3", 2),
+        ("4", "3", 3),
+        ("4", "5", 4),
+        ("8", "32", 8),
+        ("16", "15", 15),
+        ("16", "17", 16),
+        ("32", "31", 31),
+        ("32", "32", 32),
+    ];
+    for (ring, queue, wanted) in cases {
+        let words = [
+            "ruu",
+            "run",
+            "sum.s",
+            "--lsq-size",
+            queue,
+            "--ruu-size",
+            ring,
+        ];
+        let sizes = sizes(rt.alloc(), words.as_slice());
+        assert!(rt;
+            sizes.is_some_and(|sizes| sizes[1] == wanted),
+            "{queue} with {ring}"
+        );
+    }
+}
+
+#[test]
 fn refuses_a_value_out_of_its_range(rt: HostRuntime) {
     let cases: [(&str, &str); 19] = [
         ("--lsq-size", "1"),
@@ -199,6 +230,14 @@ fn refuses_other_words(rt: HostRuntime) {
 }
 
 #[test]
+fn tells_of_want_of_memory(rt: HostRuntime) {
+    let no_run = NoRun::Memory;
+    assert_eq!(rt; status(&no_run), 5);
+    let text = no_run.to_string(rt.alloc());
+    assert!(rt; text.is_ok_and(|text| text.as_str() == "ruu: memory"));
+}
+
+#[test]
 fn shows_help(rt: HostRuntime) {
     let words = ["ruu", "run", "--help"];
     let Err(NoRun::Help(text)) = asked(rt.alloc(), words.as_slice()) else {
@@ -216,12 +255,12 @@ fn shows_help(rt: HostRuntime) {
 
 /// A line of the help for each option, with its range and its default.
 const HELP: [&str; 8] = [
-    "<FILE>",
+    "<FILE>  The listing, ",
     "--ruu-size <N>  Reservation stations: 2, 4, 8, 16 or 32 [default: 16]\n",
-    "--lsq-size <N>  ",
-    "--units <N>     ",
-    "--bpred <NAME>  ",
-    "--turns <N>     ",
-    "--limit <N>     ",
-    "--alone         ",
+    "--lsq-size <N>  Loads and stores in flight: 2 to 32, at most --ruu-size [default: 8]\n",
+    "--units <N>     Threads that execute instructions: 1 to 64 [default: 2]\n",
+    "--bpred <NAME>  Branch predictor: nottaken, taken or bimod [default: bimod]\n",
+    "--turns <N>     Turns of each thread: 1 to 4294967295 [default: 4294967295]\n",
+    "--limit <N>     Instructions to run at most: 0 to 4294967295 [default: 1000000]\n",
+    "--alone         Run the unit on one thread\n",
 ];

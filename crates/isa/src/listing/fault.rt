@@ -90,10 +90,10 @@ pub struct TextFault {
     pub kind: FaultKind,
 }
 
-impl<T: Drop> From<AllocFailed<T>> for TextFault {
+impl From<AllocError> for TextFault {
     ghost from_gives = { λ _ f. (f.line ≡ 0) × (f.kind ≡ Memory) };
 
-    fn from(_error: AllocFailed<T>) -> TextFault {
+    fn from(_error: AllocError) -> TextFault {
         TextFault {
             line: 0,
             kind: FaultKind::Memory,

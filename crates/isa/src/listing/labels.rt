@@ -1,16 +1,38 @@
 //! The labels of a line.
-ghost use Rattle.std.specs.Prelude.{◌≡◌, ◌≢◌, ◌++◌, ℕ, List, true, false, IfOk, IfErr};
+ghost use Rattle.std.specs.Prelude.{◌≡◌, ◌≢◌, ◌∷◌, ◌++◌, [], ℕ, List, true, false, IfOk, IfErr};
+ghost use Rattle.std.proofs.Common.{rules};
+ghost use Rattle.std.specs.Cmp.Rules.{hashing};
 ghost use Rattle.text.specs.Label.{labels_of, statement_of};
 ghost use Rattle.isa.specs.Listing.{is_double, at};
 ghost use Rattle.isa.specs.Held.{IsTable};
 
 use super::fault::FaultKind;
-use std::collections::BTreeMap;
+use std::collections::HashMap;
+use std::hash::{Hash, Hasher};
 use text::{next_label, trim};
+
+/// A name. It is hashed as a whole, and not byte by byte as a slice is.
+#[derive(Clone, Copy, PartialEq, Eq)]
+pub struct Name<'a> {
+    pub text: &'a [u8],
+}
+
+impl<'a> Hash for Name<'a> {
+    ghost hash_input = { λ name. name.text.now ∷ [] };
+
+    ghost respects_eq = { Prim.search (hashing, rules) };
+
+    fn hash<H: Hasher>(&self, state: &mut H) {
+        state.write(self.text);
+    }
+}
+
+/// Names, each with the address that it stands for.
+pub type Labels<'a> = HashMap<Name<'a>, u32>;
 
 /// Adds the labels at the front of a line, and gives its statement.
 pub fn add_labels<'a>(
-    labels: &mut BTreeMap<&'a [u8], u32>,
+    labels: &mut Labels<'a>,
     code: &'a [u8],
     address: u32,
 ) -> Result<&'a [u8], FaultKind>
@@ -23,8 +45,8 @@ pub fn add_labels<'a>(
         → IsTable labels.old pairs → is_double address pairs (labels_of code.entry.now) ≡ true) }
 {
     let mut rest = code;
-    while let Some((name, after)) = next_label(rest) {
-        if labels.insert(name, address)?.is_some() {
+    while let Some((text, after)) = next_label(rest) {
+        if labels.insert(Name { text }, address)?.is_some() {
             return Err(FaultKind::DoubleLabel);
         }
         rest = after;

@@ -5,10 +5,9 @@ ghost use Rattle.isa.specs.Held.{IsRead};
 
 use super::fault::FaultKind;
 use super::instruction::Draft;
-use super::labels::add_labels;
+use super::labels::{Labels, add_labels};
 use super::statement::statement;
 use crate::{Instr, Program};
-use std::collections::BTreeMap;
 use text::{before_comment, is_plain_text};
 
 /// What is to be resolved of an instruction: its label, if it has one, and the number of its line.
@@ -20,7 +19,7 @@ pub struct Target<'a> {
 
 /// Reads one line: its labels and its statement.
 pub fn read_line<'a>(
-    labels: &mut BTreeMap<&'a [u8], u32>,
+    labels: &mut Labels<'a>,
     code: &mut Vec<Instr>,
     targets: &mut Vec<Target<'a>>,
     memory: &mut Vec<u8>,

@@ -5,7 +5,7 @@ ghost use Rattle.inorder.specs.Tenants.{Busy, Open};
 ghost use Rattle.ruu_words.specs.declared.rule.Role.TheVariants.{Worker};
 ghost use Rattle.ruu_words.specs.Content.{IsStation};
 ghost use Rattle.ruu_words.specs.Fields.{tag_of};
-ghost use Rattle.ruu_words.specs.Kinds.{Claims, IsAny, Peeks, ReadsInfo, ReadsSource, Rechecks};
+ghost use Rattle.ruu_words.specs.Kinds.{Claims, IsAny, Peeks, ReadsSource, Rechecks};
 ghost use Rattle.ruu_words.specs.Rule.{sizes_of};
 ghost use Rattle.inorder.specs.Callers.{IsReady};
 ghost use Rattle.station.specs.Claiming.{HasSeen, IsNext};
@@ -27,22 +27,6 @@ pub(crate) fn peek(words: &Words, ring: usize, seat: &mut Seat<u8, View>, statio
     ensures step { Grown words.now.key seat.old.id seat.old.me seat.new.me (Peeks words.now.key.program (sizes_of words.now.key) station result) }
 {
     load::<Brand, usize>(words, ring, seat, Place::Station(station), station)
-}
-
-/// Reads the info word of a station.
-pub(crate) fn read_info(
-    words: &Words,
-    ring: usize,
-    seat: &mut Seat<u8, View>,
-    station: usize,
-) -> u64
-    requires of { IsAt words.now.table_id words.now.key ring seat.old.table_id }
-    requires place { station < ring }
-    requires role { seat.old.me.0.role ≡ Worker }
-    ensures same { (seat.new.table_id ≡ seat.old.table_id) × (seat.new.id ≡ seat.old.id) }
-    ensures step { Grown words.now.key seat.old.id seat.old.me seat.new.me (ReadsInfo words.now.key.program (sizes_of words.now.key) station result) }
-{
-    load::<Brand, usize>(words, ring, seat, Place::Info(station), station)
 }
 
 /// Looks again: the open tenant's word is still there, or it has moved.

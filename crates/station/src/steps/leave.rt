@@ -1,13 +1,13 @@
-//! The writes with which the front ends a miss.
-ghost use Rattle.std.specs.Prelude.{◌≡◌, ◌<◌};
-ghost use Rattle.inorder.specs.StationWords.{live_word};
+//! The writes with which a tenant is mended or leaves.
+ghost use Rattle.std.specs.Prelude.{◌≡◌, suc, ◌<◌, None};
+ghost use Rattle.inorder.specs.StationWords.{IsFree, live_word};
 ghost use Rattle.inorder.specs.Tenants.{Done};
 ghost use Rattle.ruu_words.specs.declared.rule.Draft.TheVariants.{Nothing};
 ghost use Rattle.ruu_words.specs.Content.{IsStation};
 ghost use Rattle.ruu_words.specs.Fields.{tag_of, value_of};
 ghost use Rattle.ruu_words.specs.Rule.{sizes_of};
 ghost use Rattle.station.specs.Letting.{IsFronts};
-ghost use Rattle.station.specs.Recovery.{HasMiss, Mends};
+ghost use Rattle.station.specs.Recovery.{HasMiss, HasYoungest, Mends, Squashes};
 ghost use Rattle.station.specs.Steps.{Grown, IsAt};
 
 use super::{Words, swap};
@@ -33,4 +33,25 @@ pub(crate) fn mend_tenant(
     ensures step { Grown words.now.key seat.old.id seat.old.me seat.new.me (Mends words.now.key.program (sizes_of words.now.key) station) }
 {
     swap::<Brand, usize>(words, ring, seat, Place::Station(station), word, station);
+}
+
+/// Swaps the word of the youngest live tenant for that of a free station.
+pub(crate) fn squash_tenant(
+    words: &Words,
+    ring: usize,
+    seat: &mut Seat<u8, View>,
+    station: usize,
+    tag: u32,
+    word: u64,
+)
+    requires of { IsAt words.now.table_id words.now.key ring seat.old.table_id }
+    requires place { station < ring }
+    requires front { IsFronts seat.old.id Nothing seat.old.me }
+    requires word { IsStation (record { tag = suc tag; state = IsFree; value = None }) word }
+    requires youngest { HasYoungest words.now.key.program (sizes_of words.now.key) seat.old.me.0.seen station tag }
+    ensures same { (seat.new.table_id ≡ seat.old.table_id) × (seat.new.id ≡ seat.old.id) }
+    ensures step { Grown words.now.key seat.old.id seat.old.me seat.new.me (Squashes words.now.key.program (sizes_of words.now.key) station tag) }
+{
+    let place = Place::Station(station);
+    swap::<Brand, (usize, u32)>(words, ring, seat, place, word, (station, tag));
 }

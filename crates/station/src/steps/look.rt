@@ -1,5 +1,6 @@
 //! Loads that add nothing.
 ghost use Rattle.std.specs.Prelude.{◌≡◌, ◌<◌};
+ghost use Rattle.ruu_words.specs.Kinds.{ReadsInfo};
 ghost use Rattle.ruu_words.specs.Places.{IsPlace};
 ghost use Rattle.ruu_words.specs.Rule.{IsAlive, sizes_of};
 ghost use Rattle.station.specs.Steps.{Grown, IsAt, Sees};
@@ -19,4 +20,20 @@ pub(crate) fn look(words: &Words, ring: usize, seat: &mut Seat<u8, View>, place:
     ensures step { Grown words.now.key seat.old.id seat.old.me seat.new.me (Sees words.now.key.program (sizes_of words.now.key) seat.old.id seat.old.me.0 place result) }
 {
     load::<Brand, ()>(words, ring, seat, place, ())
+}
+
+/// Reads the info word of a station.
+pub(crate) fn read_info(
+    words: &Words,
+    ring: usize,
+    seat: &mut Seat<u8, View>,
+    station: usize,
+) -> u64
+    requires of { IsAt words.now.table_id words.now.key ring seat.old.table_id }
+    requires place { station < ring }
+    requires alive { IsAlive seat.old.me.0.role }
+    ensures same { (seat.new.table_id ≡ seat.old.table_id) × (seat.new.id ≡ seat.old.id) }
+    ensures step { Grown words.now.key seat.old.id seat.old.me seat.new.me (ReadsInfo words.now.key.program (sizes_of words.now.key) station result) }
+{
+    load::<Brand, usize>(words, ring, seat, Place::Info(station), station)
 }

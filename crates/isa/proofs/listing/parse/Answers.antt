@@ -28,7 +28,7 @@ loop-rest-init c = record {
   small_memory = omega (arith, ap length c.new-memory.ensures.items);
   aligned = rw c.new-memory.ensures.items refl;
   size = omega arith;
-  lines = so_far_start _ _ _ _ _ c.new-labels.ensures.empty c.new-code.ensures.items c.new-targets.ensures.items c.new-memory.ensures.items;
+  lines = so_far_start _ _ _ _ _ c.in_ok-labels.ensures.empty c.new-code.ensures.items c.new-targets.ensures.items c.new-memory.ensures.items;
 }
 
 pub returns-in-Err-clause-fault : goal.returns-in-Err-clause-fault
@@ -54,7 +54,7 @@ loop-rest-preserved c = record {
 
 pub returns-in_err-resolve_all-clause-fault : goal.returns-in_err-resolve_all-clause-fault
 returns-in_err-resolve_all-clause-fault c =
-    let p = err_from_is_err_and c.from_residual.result c.from_residual.ensures.1 in
+    let p = err_from_is_err_and c.from_residual-in_err-resolve_all.result c.from_residual-in_err-resolve_all.ensures.1 in
     rw (p.1, p.2) (λ _.
     listing_done c.args.bytes.now _ _ _ _ _ c.if-bytes-gt-MOST_TEXT.false
     (so_far_done _ _ _ _ c.loop-rest.number _ _ c.loop-rest.invariant.lines (ap left_of c.in_default.is))

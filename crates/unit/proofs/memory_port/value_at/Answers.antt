@@ -1,4 +1,5 @@
 use Rattle.std.proofs.Common.{◌-◌, sym, ap, ◌∙◌}
+use Rattle.std.specs.Prelude.{option_copied}
 use Rattle.lsq.specs.LoadRule.{answer}
 use Rattle.unit.specs.Loads.{value_by}
 use Rattle.unit.proofs.Entries.{asked_right}
@@ -6,9 +7,9 @@ use Rattle.unit.proofs.memory_port.value_at.Goals as goal
 
 pub returns : goal.returns
 returns c =
-    let w = c.in_ok-station.station in
+    let w = c.in_ok-station.station.now in
     let memory = c.args.committed.now.memory in
-    let there = sym c.at.ensures ∙ c.in_ok-station.was in
+    let there = sym c.peek.ensures ∙ ap option_copied c.in_ok-station.was in
     let waits = sym c.waits.ensures ∙ c.in_ok-address.was in
     c.value_of.ensures
     ∙ ap (λ x. value_by x memory c.op.result c.in_ok-address.address) c.answer.ensures

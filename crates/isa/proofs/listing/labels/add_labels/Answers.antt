@@ -5,16 +5,16 @@ use Rattle.isa.proofs.listing.labels.add_labels.Goals as goal
 
 pub returns-then-is_some-clause-double : goal.returns-then-is_some-clause-double
 returns-then-is_some-clause-double c = λ _ pairs table.
-    labels_double c.args.address pairs c.loop-name.labels c.in-Some.name.now _ (labels_of c.in-Some.after.now) _ c.in-Some.ensures.label
-    (c.loop-name.invariant.labels pairs table) (rw (← c.in_ok-insert.ensures.old) (sym c.is_some.ensures ∙ c.if-is_some.true))
+    labels_double c.args.address pairs c.loop-text.labels c.in-Some.text.now _ (labels_of c.in-Some.after.now) _ c.in-Some.ensures.label
+    (c.loop-text.invariant.labels pairs table) (rw (← c.in_ok-insert.ensures.old) (sym c.is_some.ensures ∙ c.if-is_some.true))
 
-pub loop-name-preserved : goal.loop-name-preserved
-loop-name-preserved c = record {
-  text = sym c.in-Some.ensures.statement ∙ c.loop-name.invariant.text;
+pub loop-text-preserved : goal.loop-text-preserved
+loop-text-preserved c = record {
+  text = sym c.in-Some.ensures.statement ∙ c.loop-text.invariant.text;
   labels = λ pairs table.
-      labels_more c.args.address pairs c.loop-name.labels c.insert.new.self c.in-Some.name.now _ _ _ c.in-Some.ensures.label (c.loop-name.invariant.labels pairs table)
+      labels_more c.args.address pairs c.loop-text.labels c.insert.new.self c.in-Some.text.now _ _ _ c.in-Some.ensures.label (c.loop-text.invariant.labels pairs table)
       (sym c.in_ok-insert.ensures.old ∙ none_from_is_some _ (sym c.is_some.ensures ∙ c.if-is_some.false)) c.in_ok-insert.ensures.updates;
 }
 
 pub returns-clause-single : goal.returns-clause-single
-returns-clause-single c = λ pairs table. labels_done c.args.address pairs c.loop-name.labels _ _ c.in_default.ensures.no_label (c.loop-name.invariant.labels pairs table)
+returns-clause-single c = λ pairs table. labels_done c.args.address pairs c.loop-text.labels _ _ c.in_default.ensures.no_label (c.loop-text.invariant.labels pairs table)

@@ -4,11 +4,11 @@ use Rattle.isa.specs.Held.{IsTable}
 use Rattle.isa.proofs.LabelTable.{LabelsSoFar}
 use Rattle.isa.proofs.listing.labels.add_labels.Given as goal
 
-abbrev pub invariant-loop-name : goal.invariant-loop-name
-invariant-loop-name l = record {
+abbrev pub invariant-loop-text : goal.invariant-loop-text
+invariant-loop-text l = record {
   text : statement_of l.rest ≡ statement_of l.code;
   labels : (pairs : List (List ℕ × ℕ)) → IsTable l.fn.labels pairs → LabelsSoFar l.address pairs l.labels (labels_of l.rest) (labels_of l.code);
 }
 
-abbrev pub decreases-loop-name : goal.decreases-loop-name
-decreases-loop-name l = length l.rest
+abbrev pub decreases-loop-text : goal.decreases-loop-text
+decreases-loop-text l = length l.rest

@@ -1,4 +1,4 @@
-use Rattle.std.proofs.Common.{◌≡◌, ℕ, ◌+◌, ◌%◌, sym, ap, ◌∙◌, subst}
+use Rattle.std.proofs.Common.{◌≡◌, ℕ, ◌+◌, ◌%◌, sym, ◌∙◌, subst}
 use Rattle.ruu_words.specs.declared.rule.Role.TheVariants.{Front}
 use Rattle.ruu_words.specs.Rule.{sizes_of}
 use Rattle.station.specs.Seats.{IsSeated}
@@ -9,14 +9,14 @@ use Rattle.station.proofs.cores.Core.let_out.Goals as goal
 pub invariant_of-seat : goal.invariant_of-seat
 invariant_of-seat c =
     let key = c.self.inside.table.shared.key in
-    let value = c.seat.inside.setup.value in
+    let value = c.seat.inside.words.value.key in
     let s = c.seat.inside.seat in
     let station : ℕ = c.seat.inside.station in
     let me = c.dispatch-tag.new.seat.me in
-    let table = of_table _ key c.self.inside.setup _ c.args.self.now c.self.invariant c.self.view_is in
+    let table = of_table key _ c.args.self.now c.self.view_is in
     let seat = of_seat _ value _ _ c.args.seat.now c.args.self.now c.seat.view_is c.requires.core in
     let same : unit_at value ≡ unit_at key = seat ∙ sym table in
-    let was : IsSeated key.program (sizes_of key) Front s.id station s.me = subst (λ (z : Unit_of). IsSeated z.0 z.1 Front s.id station s.me) same c.seat.invariant in
-    let ring : c.self.inside.setup.ring ≡ key.ring = sym (ap (λ z. z.ring) c.self.invariant.key_is) in
-    let out : IsSeated key.program (sizes_of key) Front s.id ((station + 1) % c.self.inside.setup.ring) me = seated_out key.program (sizes_of key) s.id station c.self.inside.setup.ring c.args.tenant s.me.0.seen me ring was.knows.2 c.dispatch-tag.ensures.front (c.dispatch-tag.ensures.slots ∙ was.slots) c.dispatch-tag.ensures.out in
-    subst (λ (z : Unit_of × ℕ). IsSeated z.0.0 z.0.1 Front z.1 ((station + 1) % c.self.inside.setup.ring) me) (λ i. (sym same i, sym c.dispatch-tag.ensures.same.1 i)) out
+    let was : IsSeated key.program (sizes_of key) Front s.id station c.seat.inside.over s.me = subst (λ (z : Unit_of). IsSeated z.0 z.1 Front s.id station c.seat.inside.over s.me) same c.seat.invariant in
+    let ring : c.self.inside.ring ≡ key.ring = sym c.self.invariant.ring_is in
+    let out : IsSeated key.program (sizes_of key) Front s.id ((station + 1) % c.self.inside.ring) c.seat.inside.over me = seated_out key.program (sizes_of key) s.id station c.self.inside.ring c.seat.inside.over c.args.tenant s.me.0.seen me ring was.inside was.knows.2 c.dispatch-tag.ensures.front (c.dispatch-tag.ensures.slots ∙ was.slots) c.dispatch-tag.ensures.out in
+    subst (λ (z : Unit_of × ℕ). IsSeated z.0.0 z.0.1 Front z.1 ((station + 1) % c.self.inside.ring) c.seat.inside.over me) (λ i. (sym same i, sym c.dispatch-tag.ensures.same.1 i)) out

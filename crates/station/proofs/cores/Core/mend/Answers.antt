@@ -9,13 +9,13 @@ use Rattle.station.proofs.cores.Core.mend.Goals as goal
 pub invariant_of-seat : goal.invariant_of-seat
 invariant_of-seat c =
     let key = c.self.inside.table.shared.key in
-    let value = c.seat.inside.setup.value in
+    let value = c.seat.inside.words.value.key in
     let s = c.seat.inside.seat in
     let station : ℕ = c.seat.inside.station in
     let me = c.mend_miss.new.seat.me in
-    let table = of_table _ key c.self.inside.setup _ c.args.self.now c.self.invariant c.self.view_is in
+    let table = of_table key _ c.args.self.now c.self.view_is in
     let seat = of_seat _ value _ _ c.args.seat.now c.args.self.now c.seat.view_is c.requires.core in
     let same : unit_at value ≡ unit_at key = seat ∙ sym table in
-    let was : IsSeated key.program (sizes_of key) Front s.id station s.me = subst (λ (z : Unit_of). IsSeated z.0 z.1 Front s.id station s.me) same c.seat.invariant in
-    let out : IsSeated key.program (sizes_of key) Front s.id station me = seated_mended key.program (sizes_of key) s.id station c.args.station s.me.0.seen me was.knows.2 c.mend_miss.ensures.front (c.mend_miss.ensures.slots ∙ was.slots) c.mend_miss.ensures.mended c.mend_miss.ensures.next in
-    subst (λ (z : Unit_of × ℕ). IsSeated z.0.0 z.0.1 Front z.1 station me) (λ i. (sym same i, sym c.mend_miss.ensures.same.1 i)) out
+    let was : IsSeated key.program (sizes_of key) Front s.id station c.seat.inside.over s.me = subst (λ (z : Unit_of). IsSeated z.0 z.1 Front s.id station c.seat.inside.over s.me) same c.seat.invariant in
+    let out : IsSeated key.program (sizes_of key) Front s.id station c.seat.inside.over me = seated_mended key.program (sizes_of key) s.id station c.args.station c.seat.inside.over s.me.0.seen me was.inside was.knows.2 c.mend_miss.ensures.front (c.mend_miss.ensures.slots ∙ was.slots) c.mend_miss.ensures.mended c.mend_miss.ensures.next in
+    subst (λ (z : Unit_of × ℕ). IsSeated z.0.0 z.0.1 Front z.1 station c.seat.inside.over me) (λ i. (sym same i, sym c.mend_miss.ensures.same.1 i)) out

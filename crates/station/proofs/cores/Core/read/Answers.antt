@@ -12,16 +12,16 @@ pub invariant_of-seat : goal.invariant_of-seat
 invariant_of-seat g c =
     let key = c.self.inside.table.shared.key in
     let s = c.seat.inside.seat in
-    let table = of_table _ key c.self.inside.setup _ c.args.self.now c.self.invariant c.self.view_is in
-    let seat = of_seat _ c.seat.inside.setup.value _ _ c.args.seat.now c.args.self.now c.seat.view_is c.requires.core in
-    subst (λ i. IsSeated c.seat.inside.setup.value.program (sizes_of c.seat.inside.setup.value) g.P.Part.role i c.seat.inside.station c.look.new.seat.me) (sym c.look.ensures.same.1)
-    (seated_at (unit_at c.seat.inside.setup.value) key g.P.Part.role s.id c.seat.inside.station s.me c.look.new.seat.me c.args.place c.look.result (seat ∙ sym table) c.seat.invariant c.look.ensures.step)
+    let table = of_table key _ c.args.self.now c.self.view_is in
+    let seat = of_seat _ c.seat.inside.words.value.key _ _ c.args.seat.now c.args.self.now c.seat.view_is c.requires.core in
+    subst (λ i. IsSeated c.seat.inside.words.value.key.program (sizes_of c.seat.inside.words.value.key) g.P.Part.role i c.seat.inside.station c.seat.inside.over c.look.new.seat.me) (sym c.look.ensures.same.1)
+    (seated_at (unit_at c.seat.inside.words.value.key) key g.P.Part.role s.id c.seat.inside.station c.seat.inside.over s.me c.look.new.seat.me c.args.place c.look.result (seat ∙ sym table) c.seat.invariant c.look.ensures.step)
 
 pub returns-clause-history : goal.returns-clause-history
 returns-clause-history g c =
     let key = c.self.inside.table.shared.key in
     let s = c.seat.inside.seat in
-    let table = of_table _ key c.self.inside.setup _ c.args.self.now c.self.invariant c.self.view_is in
+    let table = of_table key _ c.args.self.now c.self.view_is in
     let step = c.look.ensures.step in
     let adds = adds_these key.program (sizes_of key) s.id s.me.0 c.look.new.seat.me.0 (Sees key.program (sizes_of key) s.id s.me.0 c.args.place c.look.result) [] step.grows step.grows.kind.none in
     subst (λ (z : Unit_of × Caller). Adds z.0.0 z.0.1 z.1.by z.1.seen c.look.new.seat.me.0.seen []) (λ i. (table i, c.seat.view_is i)) adds

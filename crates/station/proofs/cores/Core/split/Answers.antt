@@ -10,7 +10,7 @@ pub split_seat-other-requires : goal.split_seat-other-requires
 split_seat-other-requires c =
     let key = c.self.inside.table.shared.key in
     let s = c.seat.inside.seat in
-    let value = c.seat.inside.setup.value in
-    let begun = is_begun value.program (sizes_of value) Worker s.id c.seat.inside.station s.me c.seat.invariant in
-    let alive = is_alive value.program (sizes_of value) Worker s.id c.seat.inside.station s.me c.seat.invariant in
-    (search rules, not_empty c.self.inside.setup.ring c.self.inside.table.shared.table_id.words c.self.invariant.wide c.self.invariant.least, splits_unit key.program (sizes_of key) (opening_of key) s.id s.me.0 begun alive)
+    let value = c.seat.inside.words.value.key in
+    let begun = is_begun value.program (sizes_of value) Worker s.id c.seat.inside.station c.seat.inside.over s.me c.seat.invariant in
+    let alive = is_alive value.program (sizes_of value) Worker s.id c.seat.inside.station c.seat.inside.over s.me c.seat.invariant in
+    (search rules, not_empty c.self.inside.ring c.self.inside.table.shared.table_id.words c.self.invariant.wide c.self.invariant.least, splits_unit key.program (sizes_of key) (opening_of key) s.id s.me.0 begun alive)

@@ -17,10 +17,10 @@ pub split_seat-note-requires : goal.split_seat-note-requires
 split_seat-note-requires g c =
     let key = c.self.inside.table.shared.key in
     let s = c.from.inside.seat in
-    let value = c.from.inside.setup.value in
-    let begun = is_begun value.program (sizes_of value) g.P.Part.role s.id c.from.inside.station s.me c.from.invariant in
-    let alive = is_alive value.program (sizes_of value) g.P.Part.role s.id c.from.inside.station s.me c.from.invariant in
-    (search rules, not_empty c.self.inside.setup.ring c.self.inside.table.shared.table_id.words c.self.invariant.wide c.self.invariant.least, splits_unit key.program (sizes_of key) (opening_of key) s.id s.me.0 begun alive)
+    let value = c.from.inside.words.value.key in
+    let begun = is_begun value.program (sizes_of value) g.P.Part.role s.id c.from.inside.station c.from.inside.over s.me c.from.invariant in
+    let alive = is_alive value.program (sizes_of value) g.P.Part.role s.id c.from.inside.station c.from.inside.over s.me c.from.invariant in
+    (search rules, not_empty c.self.inside.ring c.self.inside.table.shared.table_id.words c.self.invariant.wide c.self.invariant.least, splits_unit key.program (sizes_of key) (opening_of key) s.id s.me.0 begun alive)
 
 pub join_seat-requires : goal.join_seat-requires
 join_seat-requires g c =
@@ -29,7 +29,7 @@ join_seat-requires g c =
       search rules,
       search rules,
       search rules,
-      not_empty c.self.inside.setup.ring c.self.inside.table.shared.table_id.words c.self.invariant.wide c.self.invariant.least,
+      not_empty c.self.inside.ring c.self.inside.table.shared.table_id.words c.self.invariant.wide c.self.invariant.least,
       joins key.program (sizes_of key) (opening_of key) c.to.inside.seat.id c.to.inside.seat.me.0 note.id note.me.0 (ap (λ m. m.0.role) c.split_seat-note.ensures.4),
     )
 
@@ -38,19 +38,19 @@ invariant_of-to g c =
     let key = c.self.inside.table.shared.key in
     let s = c.to.inside.seat in
     let mid = c.join_seat.new.seat in
-    let value = c.to.inside.setup.value in
-    let table = of_table _ key c.self.inside.setup _ c.args.self.now c.self.invariant c.self.view_is in
+    let value = c.to.inside.words.value.key in
+    let table = of_table key _ c.args.self.now c.self.view_is in
     let seat = of_seat _ value _ _ c.args.to.now c.args.self.now c.to.view_is c.requires.to in
-    let told = informed_seated value.program (sizes_of value) g.Q.Part.role s.id c.to.inside.station s.me c.split_seat-note.result.me.0 c.to.invariant in
-    let joined : IsSeated value.program (sizes_of value) g.Q.Part.role mid.id c.to.inside.station mid.me = subst (λ (z : ℕ × Me ℕ View). IsSeated value.program (sizes_of value) g.Q.Part.role z.0 c.to.inside.station z.1) (λ i. (sym c.join_seat.ensures.1 i, sym c.join_seat.ensures.2 i)) told in
-    subst (λ i. IsSeated value.program (sizes_of value) g.Q.Part.role i c.to.inside.station c.look.new.seat.me) (sym c.look.ensures.same.1)
-    (seated_at (unit_at value) key g.Q.Part.role mid.id c.to.inside.station mid.me c.look.new.seat.me (Station 0) c.look.result (seat ∙ sym table) joined c.look.ensures.step)
+    let told = informed_seated value.program (sizes_of value) g.Q.Part.role s.id c.to.inside.station c.to.inside.over s.me c.split_seat-note.result.me.0 c.to.invariant in
+    let joined : IsSeated value.program (sizes_of value) g.Q.Part.role mid.id c.to.inside.station c.to.inside.over mid.me = subst (λ (z : ℕ × Me ℕ View). IsSeated value.program (sizes_of value) g.Q.Part.role z.0 c.to.inside.station c.to.inside.over z.1) (λ i. (sym c.join_seat.ensures.1 i, sym c.join_seat.ensures.2 i)) told in
+    subst (λ i. IsSeated value.program (sizes_of value) g.Q.Part.role i c.to.inside.station c.to.inside.over c.look.new.seat.me) (sym c.look.ensures.same.1)
+    (seated_at (unit_at value) key g.Q.Part.role mid.id c.to.inside.station c.to.inside.over mid.me c.look.new.seat.me (Station 0) c.look.result (seat ∙ sym table) joined c.look.ensures.step)
 
 pub returns-clause-history : goal.returns-clause-history
 returns-clause-history g c =
     let key = c.self.inside.table.shared.key in
     let mid = c.join_seat.new.seat in
-    let table = of_table _ key c.self.inside.setup _ c.args.self.now c.self.invariant c.self.view_is in
+    let table = of_table key _ c.args.self.now c.self.view_is in
     let step = c.look.ensures.step in
     let adds = adds_these key.program (sizes_of key) mid.id mid.me.0 c.look.new.seat.me.0 (Sees key.program (sizes_of key) mid.id mid.me.0 (Station 0) c.look.result) [] step.grows step.grows.kind.none in
     let by : mid.id ≡ c.args.to.now.by = c.join_seat.ensures.1 ∙ ap (λ z. z.by) c.to.view_is in

@@ -1,13 +1,13 @@
 use Rattle.std.proofs.Common.{sym, subst}
 use mathlib.Core.Option.{none}
 use Rattle.atomic_table.specs.Table.{step}
-use Rattle.ruu_words.specs.declared.place.Place.TheVariants.{Info}
-use Rattle.ruu_words.specs.Kinds.{ReadsInfo}
+use Rattle.station.specs.Retirement.{LooksAtHead}
+use Rattle.ruu_words.specs.declared.place.Place.TheVariants.{Station}
 use Rattle.ruu_words.specs.Places.{index}
 use Rattle.ruu_words.specs.Rule.{IsAlive, sizes_of}
-use Rattle.ruu_words.proofs.Reading.{info_read_plan}
 use Rattle.station.proofs.Allowing.{allows}
-use Rattle.station.proofs.steps.claim.read_info.Goals as goal
+use Rattle.station.proofs.Retiring.{looks_plan}
+use Rattle.station.proofs.steps.retire.look_at_head.Goals as goal
 
 pub load-requires-clause-may : goal.load-requires-clause-may
 load-requires-clause-may c =
@@ -16,8 +16,7 @@ load-requires-clause-may c =
     let C = sizes_of key in
     let id = c.args.seat.now.id in
     let me = c.args.seat.now.me in
-    let s = c.args.station in
-    let x = Info s in
-    allows key c.args.ring c.args.words.now.table_id.slots id me x (λ n. n) (λ n. n) (ReadsInfo P C s) (step c.args.words.now.table_id.slots (index c.args.ring x) 0 0 none)
+    let x = Station c.args.station in
+    allows key c.args.ring c.args.words.now.table_id.slots id me x (λ n. n) (λ n. n) (LooksAtHead P C id c.args.station) (step c.args.words.now.table_id.slots (index c.args.ring x) 0 0 none)
     c.requires.of.ring_is c.requires.place (subst IsAlive (sym c.requires.role) tt)
-    (info_read_plan P C id me.0 s)
+    (looks_plan P C id me.0 c.args.station c.requires.role c.requires.head)

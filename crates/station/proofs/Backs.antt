@@ -1,0 +1,156 @@
+-- What the back knows of the oldest live tenant stays true, up to its own retirements.
+use Rattle.std.proofs.Common.{◌≡◌, ◌⊎◌, ℕ, ◌%◌, Bool, true, false, cond, eqb, List, [], ◌∷◌, ◌++◌, map, length, take, sym, refl, ap, ◌∙◌, subst, inl, inr, ⊎_elim, arith, length-append}
+use Rattle.std.proofs.Math.Seq.{take-append_seam}
+use Rattle.std.specs.List.{AllByRecursion}
+use Rattle.atomic_table.specs.Table.{Me}
+use Rattle.isa.specs.Programs.{Program}
+use Rattle.inorder.specs.declared.history.Act.TheVariants.{Claim, Deliver, Finish, Link, Load, Mend, Retire, Squash}
+use Rattle.inorder.specs.declared.history.Entry.{Entry}
+use Rattle.inorder.specs.declared.history.Event.{Event}
+use Rattle.inorder.specs.declared.history.Event.TheVariants.{Does, Marks, Refuses}
+use Rattle.inorder.specs.declared.history.Step.{Step}
+use Rattle.inorder.specs.declared.history.Step.TheVariants.{Let, On}
+use Rattle.inorder.specs.Callers.{GoesOn, head_station, is_retired}
+use Rattle.inorder.specs.History.{Adds, IsLegal, MayAdd, back, entry, own, unit_of}
+use Rattle.inorder.specs.Laws.{IsNoRetire}
+use Rattle.inorder.specs.Legal.{Allowed, applied, changed}
+use Rattle.inorder.specs.Steps.{IsNoRetiredStop}
+use Rattle.inorder.specs.Tenants.{Live, Tenant}
+use Rattle.inorder.specs.Unit.{Sizes, UpdateUnit, how_many, older, younger}
+use Rattle.inorder.proofs.Basics.{split_at}
+use Rattle.inorder.proofs.Ends.{IsNotBacks}
+use Rattle.inorder.proofs.Grows.{all_grows}
+use Rattle.inorder.proofs.Heads.{goes_on_stays, head_stays, over_stays}
+use Rattle.inorder.proofs.Histories.{own-append, unit_sound}
+use Rattle.inorder.proofs.Kept.{parts}
+use Rattle.inorder.proofs.Letting.{how_many_same}
+use Rattle.inorder.proofs.Positions.{all_at, all_from}
+use Rattle.inorder.proofs.Sound.{IsSound}
+use Rattle.ruu_words.specs.declared.rule.Role.TheVariants.{Back}
+use Rattle.ruu_words.specs.declared.rule.View.{View}
+use Rattle.station.specs.Seats.{HasEnded, IsAtHead, IsSeated}
+
+-- A step that is no retirement
+
+is_load_or_not : (s : Step) → IsNoRetire s → IsNotBacks s ⊎ ((p : ℕ) × (s ≡ On p Load))
+is_load_or_not (Let index predicted first second) h = inl tt
+is_load_or_not (On p (Link k)) h = inl tt
+is_load_or_not (On p (Deliver k)) h = inl tt
+is_load_or_not (On p Claim) h = inl tt
+is_load_or_not (On p Finish) h = inl tt
+is_load_or_not (On p Load) h = inr (p, refl)
+is_load_or_not (On p (Retire n)) h = absurd h
+is_load_or_not (On p Squash) h = inl tt
+is_load_or_not (On p Mend) h = inl tt
+
+live_goes_on : (t : Tenant) → t.standing ≡ Live → IsNoRetiredStop t
+live_goes_on t live gone c f = let x = sym live ∙ gone in absurd (cc x)
+
+module _ (P : Program) (C : Sizes) where
+  load_head : (U : UpdateUnit) (by p : ℕ) → Allowed P C U by (On p Load) → head_station C (applied P C U by (On p Load)) ≡ head_station C U
+  load_head U by p a =
+      let us = U.tenants in
+      let t = a.tenant in
+      let same = how_many_same is_retired t (changed P by Load t (older us p)) (older us p) (younger us p) refl in
+      λ i. (ap (how_many is_retired) (parts P us by p Load t a.is) ∙ (same ∙ ap (how_many is_retired) (sym (split_at us p t a.is)))) i % C.ring
+
+  load_goes_on : (U : UpdateUnit) (by p : ℕ) → Allowed P C U by (On p Load) → GoesOn U → GoesOn (applied P C U by (On p Load))
+  load_goes_on U by p a g =
+      let us = U.tenants in
+      let t = a.tenant in
+      let t' : Tenant = changed P by Load t (older us p) in
+      let all = all_from IsNoRetiredStop us g in
+      let now = all_grows IsNoRetiredStop t t' (older us p) (younger us p) (λ _. live_goes_on t' a.may.live) (subst (AllByRecursion IsNoRetiredStop) (split_at us p t a.is) all) in
+      all_at IsNoRetiredStop (applied P C U by (On p Load)).tenants (subst (AllByRecursion IsNoRetiredStop) (sym (parts P us by p Load t a.is)) now)
+
+  head_on : (U : UpdateUnit) (by : ℕ) (s : Step) → IsNoRetire s → Allowed P C U by s → head_station C (applied P C U by s) ≡ head_station C U
+  head_on U by s h a = ⊎_elim
+      (λ n. head_stays P C U by s n a)
+      (λ (l : (p : ℕ) × (s ≡ On p Load)). subst (λ z. head_station C (applied P C U by z) ≡ head_station C U) (sym l.1) (load_head U by l.0 (subst (Allowed P C U by) l.1 a)))
+      (is_load_or_not s h)
+
+  goes_on_on : (U : UpdateUnit) (by : ℕ) (s : Step) → IsNoRetire s → Allowed P C U by s → IsSound P U.tenants → GoesOn U → GoesOn (applied P C U by s)
+  goes_on_on U by s h a ok g = ⊎_elim
+      (λ n. goes_on_stays P C U by s n a ok g)
+      (λ (l : (p : ℕ) × (s ≡ On p Load)). subst (λ z. GoesOn (applied P C U by z)) (sym l.1) (load_goes_on U by l.0 (subst (Allowed P C U by) l.1 a) g))
+      (is_load_or_not s h)
+
+  ended_on : (over : Bool) (U : UpdateUnit) (by : ℕ) (s : Step) → IsNoRetire s → Allowed P C U by s → IsSound P U.tenants → HasEnded over U → HasEnded over (applied P C U by s)
+  ended_on true U by s h a ok o = over_stays P C U by s a o
+  ended_on false U by s h a ok g = goes_on_on U by s h a ok g
+
+  -- Entries that are no retirement
+
+  abbrev pub IsNoRetirement : Event → Type 0
+  IsNoRetirement (Does s) = IsNoRetire s
+  IsNoRetirement (Refuses r) = Unit {0}
+  IsNoRetirement (Marks m) = Unit {0}
+
+  abbrev pub Keeps : Entry → Type 0
+  Keeps e = IsNoRetirement e.event
+
+  only_back : (h : List Entry) (by : ℕ) (x : Event) → MayAdd P C h by x → eqb by back ≡ false → IsNoRetirement x
+  only_back h by (Does (Let index predicted first second)) may ne = tt
+  only_back h by (Does (On p (Link k))) may ne = tt
+  only_back h by (Does (On p (Deliver k))) may ne = tt
+  only_back h by (Does (On p Claim)) may ne = tt
+  only_back h by (Does (On p Finish)) may ne = tt
+  only_back h by (Does (On p Load)) may ne = tt
+  only_back h by (Does (On p (Retire n))) may ne = let e : false ≡ true = sym ne ∙ ap (λ z. eqb z back) may.0 in absurd (cc e)
+  only_back h by (Does (On p Squash)) may ne = tt
+  only_back h by (Does (On p Mend)) may ne = tt
+  only_back h by (Refuses r) may ne = tt
+  only_back h by (Marks m) may ne = tt
+
+  -- the back's own entries are no retirement, so that none is
+  all_keep : (more seen : List Entry) → IsLegal P C (more ++ seen) → AllByRecursion Keeps (own back more) → AllByRecursion Keeps more
+  all_keep [] seen legal h = tt
+  all_keep (e ∷ more) seen legal h = go (eqb e.by back) refl (all_keep more seen legal.0) h
+    where
+      go : (b : Bool) → eqb e.by back ≡ b → (AllByRecursion Keeps (own back more) → AllByRecursion Keeps more) → AllByRecursion Keeps (cond b (e ∷ own back more) (own back more)) → AllByRecursion Keeps (e ∷ more)
+      go true f rest a = (a.0, rest a.1)
+      go false f rest a = (only_back (more ++ seen) e.by e.event legal.1 f, rest a)
+
+  at_head_on : (station : ℕ) (over : Bool) (more seen : List Entry) → IsLegal P C (more ++ seen) → AllByRecursion Keeps more → IsAtHead C (unit_of P C seen) station over → IsAtHead C (unit_of P C (more ++ seen)) station over
+  at_head_on station over [] seen legal keeps i = i
+  at_head_on station over (e ∷ more) seen legal keeps i = go e.by e.event legal.1 keeps.0 (at_head_on station over more seen legal.0 keeps.1 i)
+    where
+      go : (by : ℕ) (x : Event) → MayAdd P C (more ++ seen) by x → IsNoRetirement x → IsAtHead C (unit_of P C (more ++ seen)) station over → IsAtHead C (unit_of P C (entry by x ∷ (more ++ seen))) station over
+      go by (Does s) may keep j = record {
+        head = j.head ∙ sym (head_on (unit_of P C (more ++ seen)) by s keep may.1);
+        ended = ended_on over (unit_of P C (more ++ seen)) by s keep may.1 (unit_sound P C (more ++ seen) legal.0) j.ended;
+      }
+      go by (Refuses r) may keep j = j
+      go by (Marks m) may keep j = j
+
+  same_end : (xs ys zs : List Entry) → xs ++ zs ≡ ys ++ zs → xs ≡ ys
+  same_end xs ys zs e =
+      let wide = ap (λ l. length l) e in
+      let lx = length-append xs zs in
+      let ly = length-append ys zs in
+      let same : length xs ≡ length ys = omega arith in
+      sym (take-append_seam xs zs) ∙ ((λ i. take (same i) (e i)) ∙ take-append_seam ys zs)
+
+  events_keep : (es : List Event) → AllByRecursion IsNoRetirement es → AllByRecursion Keeps (map (entry back) es)
+  events_keep [] h = tt
+  events_keep (e ∷ es) h = (h.0, events_keep es h.1)
+
+  -- behind a call that retires nobody
+  pub back_on : (by station : ℕ) (over : Bool) (old new : List Entry) (es : List Event) → Adds P C by old new es → AllByRecursion IsNoRetirement es
+      → (by ≡ back → IsAtHead C (unit_of P C old) station over) → by ≡ back → IsAtHead C (unit_of P C new) station over
+  back_on by station over old new es a keeps knows is =
+      let more : List Entry = a.begins.more in
+      let mine : own back new ≡ map (entry back) es ++ own back old = subst (λ z. own z new ≡ map (entry z) es ++ own z old) is a.mine in
+      let these : own back more ≡ map (entry back) es = same_end (own back more) (map (entry back) es) (own back old) (sym (own-append back more old) ∙ (ap (own back) (sym a.begins.is) ∙ mine)) in
+      let legal : IsLegal P C (more ++ old) = subst (IsLegal P C) a.begins.is a.legal in
+      let none = all_keep more old legal (subst (AllByRecursion Keeps) (sym these) (events_keep es keeps)) in
+      subst (λ h. IsAtHead C (unit_of P C h) station over) (sym a.begins.is) (at_head_on station over more old legal none (knows is))
+
+  pub back_seated : (by station : ℕ) (over : Bool) (v w : Me ℕ View) (es : List Event) → IsSeated P C Back by station over v → w.0.role ≡ v.0.role → w.1 ≡ v.1 → Adds P C by v.0.seen w.0.seen es → AllByRecursion IsNoRetirement es → IsSeated P C Back by station over w
+  back_seated by station over v w es s role slots a keeps = record {
+    role_is = role ∙ s.role_is;
+    slots = slots ∙ s.slots;
+    legal = a.legal;
+    inside = s.inside;
+    knows = back_on by station over v.0.seen w.0.seen es a keeps s.knows;
+  }

@@ -1,0 +1,211 @@
+-- The steps of squashing the youngest live tenant.
+use Rattle.std.proofs.Common.{◌≡◌, ℕ, suc, ◌+◌, ◌-◌, ◌%◌, ◌<◌, Bool, false, cond, List, [], ◌∷◌, ◌++◌, map, None, refl, sym, ap, ◌∙◌, subst, inl, ⊎_elim, arith}
+use mathlib.Core.Logic.{dite}
+use native.Mathlib.Decide.{ℕ_discrete}
+use Rattle.std.proofs.Math.Nat.{add-mod_left, mod-add-mod}
+use Rattle.std.proofs.lemmas.Bool.{cases_lt}
+use Rattle.std.specs.List.{AllByRecursion}
+use Rattle.atomic_table.specs.Table.{Me}
+use Rattle.isa.specs.Programs.{Program}
+use Rattle.inorder.specs.declared.history.Act.TheVariants.{Squash}
+use Rattle.inorder.specs.declared.history.Entry.{Entry}
+use Rattle.inorder.specs.declared.history.Event.{Event}
+use Rattle.inorder.specs.declared.history.Event.TheVariants.{Does}
+use Rattle.inorder.specs.declared.history.Step.TheVariants.{On}
+use Rattle.inorder.specs.Callers.{CanSquash}
+use Rattle.inorder.specs.History.{Adds, IsLegal, entry, front, own, taken_of, unit_of}
+use Rattle.inorder.specs.Replies.{last_tag}
+use Rattle.inorder.specs.StationWords.{IsFree, station_word}
+use Rattle.inorder.specs.Tenants.{IsNotLive, Live, Retired, Squashed, Standing, Tenant, on_path, stands_on_path}
+use Rattle.inorder.specs.Legal.{applied}
+use Rattle.inorder.specs.Steps.{squashed}
+use Rattle.inorder.specs.Unit.{Sizes, UpdateUnit, how_many, next_station, older, recent, younger}
+use Rattle.inorder.proofs.Basics.{split_at}
+use Rattle.inorder.proofs.Ends.{may_squash, squash_stays}
+use Rattle.inorder.proofs.Grows.{all_mid}
+use Rattle.inorder.proofs.Histories.{allowed_steps, unit_sound}
+use Rattle.inorder.proofs.Kept.{parts}
+use Rattle.inorder.proofs.Serving.{are_small}
+use Rattle.inorder.proofs.Sound.{IsSettled, IsSound, SettledBy}
+use Rattle.inorder.proofs.Stations.{is_ring, stands}
+use Rattle.ruu_words.specs.declared.place.Place.TheVariants.{Station}
+use Rattle.ruu_words.specs.declared.rule.Draft.{Draft}
+use Rattle.ruu_words.specs.declared.rule.Draft.TheVariants.{Nothing}
+use Rattle.ruu_words.specs.declared.rule.Role.TheVariants.{Front}
+use Rattle.ruu_words.specs.declared.rule.View.{View}
+use Rattle.ruu_words.specs.Content.{IsStation}
+use Rattle.ruu_words.specs.Fields.{tag_of}
+use Rattle.ruu_words.specs.Kinds.{IsAny, IsTenant}
+use Rattle.ruu_words.specs.Rule.{Grows}
+use Rattle.ruu_words.proofs.Building.{changes}
+use Rattle.ruu_words.proofs.General.{Plan, Plans}
+use Rattle.ruu_words.proofs.StationWords.{its_word, live_state, one_at}
+use Rattle.ruu_words.proofs.Stays.{any_stays, front_stays}
+use Rattle.station.specs.Letting.{IsFronts}
+use Rattle.station.specs.Recovery.{HasYoungest, IsSquashed, MaySquash, Squashes}
+use Rattle.station.specs.Seats.{IsSeated}
+use Rattle.station.proofs.Adding.{adds_on, adds_these}
+
+-- The path ends with the youngest live tenant
+
+abbrev IsOff : Tenant → Type 0
+IsOff y = on_path y ≡ false
+
+count_off : (ys zs : List Tenant) → AllByRecursion IsOff ys → how_many on_path (ys ++ zs) ≡ how_many on_path zs
+count_off [] zs h = refl
+count_off (y ∷ ys) zs h = ap (λ b. cond b (suc (how_many on_path (ys ++ zs))) (how_many on_path (ys ++ zs))) h.0 ∙ count_off ys zs h.1
+
+-- behind a live tenant none has retired
+off_path : (P : Program) (t : Tenant) (ts ys : List Tenant) → t.standing ≡ Live → AllByRecursion IsNotLive ys → IsSound P (ys ++ t ∷ ts) → AllByRecursion IsOff ys
+off_path P t ts [] live last s = tt
+off_path P t ts (y ∷ ys) live last s = (go y.standing refl, off_path P t ts ys live last.1 s.1)
+  where
+    go : (st : Standing) → y.standing ≡ st → on_path y ≡ false
+    go Live e = absurd (last.0 e)
+    go Squashed e = ap stands_on_path e
+    go Retired e = absurd (subst (λ x. SettledBy x t.fate) live (all_mid IsSettled t ts ys ((s.0.placed (ap stands_on_path e)).settled e)))
+
+module _ (P : Program) (C : Sizes) where
+  abbrev U : List Entry → UpdateUnit
+  U h = unit_of P C h
+
+  younger_off : (h : List Entry) → IsLegal P C h → (p : ℕ) → (c : CanSquash (U h) p) → AllByRecursion IsOff (younger (U h).tenants p)
+  younger_off h legal p c =
+      let us = (U h).tenants in
+      off_path P c.tenant.tenant (older us p) (younger us p) c.tenant.fact (may_squash (U h) p c).youngest (subst (IsSound P) (split_at us p c.tenant.tenant c.tenant.is) (unit_sound P C h legal))
+
+  path_counted : (h : List Entry) → IsLegal P C h → (p : ℕ) → (c : CanSquash (U h) p) → how_many on_path (U h).tenants ≡ suc (how_many on_path (older (U h).tenants p))
+  path_counted h legal p c =
+      let us = (U h).tenants in
+      let t = c.tenant.tenant in
+      ap (how_many on_path) (split_at us p t c.tenant.is)
+      ∙ (count_off (younger us p) (t ∷ older us p) (younger_off h legal p c)
+      ∙ ap (λ b. cond b (suc (how_many on_path (older us p))) (how_many on_path (older us p))) (ap stands_on_path c.tenant.fact))
+
+  its_place : (h : List Entry) → IsLegal P C h → (p : ℕ) → (c : CanSquash (U h) p) → c.tenant.tenant.station ≡ how_many on_path (older (U h).tenants p) % C.ring
+  its_place h legal p c =
+      let us = (U h).tenants in
+      (is_ring C us (stands P C (taken_of h) (allowed_steps P C h legal))).place p c.tenant.tenant c.tenant.is (ap stands_on_path c.tenant.fact)
+
+  one_back : (n r : ℕ) → 0 < r → (suc n % r + r - 1) % r ≡ n % r
+  one_back n r pos =
+      let x : ℕ = suc n % r in
+      let a : x + r - 1 ≡ x + (r - 1) = omega arith in
+      let b : suc n + (r - 1) ≡ r + n = omega arith in
+      ap (λ z. z % r) a ∙ (mod-add-mod (suc n) r (r - 1) ∙ (ap (λ z. z % r) b ∙ add-mod_left r n))
+
+  -- so it is the station before the next one
+  tail_is : (h : List Entry) → IsLegal P C h → (p next ring : ℕ) → (c : CanSquash (U h) p) → ring ≡ C.ring → next < ring → next ≡ next_station C (recent (U h)) → c.tenant.tenant.station ≡ (next + ring - 1) % ring
+  tail_is h legal p next ring c ring_is small e =
+      let n : ℕ = how_many on_path (older (U h).tenants p) in
+      let at_end : next ≡ suc n % ring = e ∙ (λ i. path_counted h legal p c i % sym ring_is i) in
+      its_place h legal p c ∙ (ap (λ z. n % z) (sym ring_is) ∙ (sym (one_back n ring (omega arith)) ∙ ap (λ z. (z + ring - 1) % ring) (sym at_end)))
+
+  pub youngest_in : (h : List Entry) → IsLegal P C h → (next ring : ℕ) → ring ≡ C.ring → next < ring → next ≡ next_station C (recent (U h)) → (m : MaySquash P C h) → HasYoungest P C h ((next + ring - 1) % ring) m.can.tenant.tenant.tag
+  youngest_in h legal next ring ring_is small e m = record {
+    p = m.p;
+    named = record { tenant = m.can.tenant.tenant; is = m.can.tenant.is; station_is = tail_is h legal m.p next ring m.can ring_is small e; tag_is = refl; fact = tt };
+    can = m.can;
+  }
+
+  -- what the front has seen of it stays
+  pub youngest_on : (s g : ℕ) (more seen : List Entry) → IsLegal P C (more ++ seen) → own front more ≡ [] → HasYoungest P C seen s g → HasYoungest P C (more ++ seen) s g
+  youngest_on s g more seen legal none y = record {
+    p = y.p;
+    named = any_stays P C y.p s g more seen legal y.named;
+    can = front_stays P C (λ U. CanSquash U y.p) (λ U by st b a ok q. squash_stays P C U by st b a ok y.p q) more seen legal none y.can;
+  }
+
+  same_tenant : (h : List Entry) → IsLegal P C h → (s g : ℕ) → (y : HasYoungest P C h s g) → y.named.tenant ≡ y.can.tenant.tenant
+  same_tenant h legal s g y = one_at P C h legal y.p y.named.tenant y.can.tenant.tenant y.named.is y.can.tenant.is
+
+  pub youngest_word : (h : List Entry) → IsLegal P C h → (s g n : ℕ) → HasYoungest P C h s g → IsStation (station_word C (recent (U h)) s) n → tag_of n ≡ g
+  youngest_word h legal s g n y word =
+      let live : y.named.tenant.standing ≡ Live = ap (λ (z : Tenant). z.standing) (same_tenant h legal s g y) ∙ y.can.tenant.fact in
+      let w = its_word P C h legal y.p s n y.named.tenant y.named.is y.named.station_is live word in
+      (live_state y.named.tenant.tag n y.named.tenant.fate w).0 ∙ y.named.tag_is
+
+  pub youngest_small : (h : List Entry) → IsLegal P C h → (s g : ℕ) → HasYoungest P C h s g → g < last_tag
+  youngest_small h legal s g y = subst (λ z. z < last_tag) y.named.tag_is (are_small P C h legal y.p y.named.tenant y.named.is)
+
+  pub squashes_plan : (id : ℕ) (v : View) (s g new : ℕ) → id ≡ front → v.draft ≡ Nothing → HasYoungest P C v.seen s g → IsStation (record { tag = suc g; state = IsFree; value = None }) new → Plans P C id v (Station s) (λ _. new) (λ _. Squashes P C s g)
+  squashes_plan id v s g new is_front none youngest word between d legal apart caller mine draft n small content =
+      let h : List Entry = between ++ v.seen in
+      let now : HasYoungest P C h s g = youngest_on s g between v.seen legal (subst (λ z. own z between ≡ []) is_front apart) youngest in
+      let t : Tenant = now.can.tenant.tenant in
+      let one : t ≡ now.named.tenant = sym (same_tenant h legal s g now) in
+      let at_s : t.station ≡ s = ap (λ (z : Tenant). z.station) one ∙ now.named.station_is in
+      let tag : t.tag ≡ g = ap (λ (z : Tenant). z.tag) one ∙ now.named.tag_is in
+      let quiet : d ≡ Nothing = sym (mine is_front) ∙ none in
+      subst (λ z. Plan P C id h d (Station z) new (Squashes P C s g)) at_s
+      (changes P C id h d legal draft now.p Squash t tt (inl quiet) is_front (record { tenant = t; is = now.can.tenant.is; may = may_squash (U h) now.p now.can }) now.can.tenant.is new
+      (subst (λ z. IsStation (record { tag = suc z; state = IsFree; value = None }) new) (sym tag) word)
+      (Squashes P C s g) (record { youngest = now; added = refl; draft = quiet }))
+
+  -- there is one youngest live tenant
+  one_youngest : (V : UpdateUnit) (p q : ℕ) → CanSquash V p → CanSquash V q → p ≡ q
+  one_youngest V p q a b = dite (ℕ_discrete p q) (λ e. e) (λ ne. ⊎_elim
+      (λ less. absurd (a.youngest q b.tenant.tenant less b.tenant.is b.tenant.fact))
+      (λ more. absurd (b.youngest p a.tenant.tenant (omega arith) a.tenant.is a.tenant.fact))
+      (cases_lt p q))
+
+  module _ (by s g : ℕ) (v0 v1 w : View) (Kind : List Entry → Draft → List Event → Type 0) (g1 : Grows P C by v0 v1 Kind) (none : g1.events ≡ []) (g2 : Grows P C by v1 w (Squashes P C s g)) (is : by ≡ front) where
+    abbrev mid : List Entry
+    mid = g1.between ++ v0.seen
+
+    abbrev last : List Entry
+    last = g2.between ++ v1.seen
+
+    seen1 : v1.seen ≡ mid
+    seen1 = g1.is ∙ ap (λ es. map (entry by) es ++ mid) none
+
+    seen2 : w.seen ≡ entry by (Does (On g2.kind.youngest.p Squash)) ∷ last
+    seen2 = g2.is ∙ ap (λ es. map (entry by) es ++ last) g2.kind.added
+
+    legal1 : IsLegal P C mid
+    legal1 = subst (IsLegal P C) seen1 g1.legal
+
+    legal2 : IsLegal P C (entry by (Does (On g2.kind.youngest.p Squash)) ∷ last)
+    legal2 = subst (IsLegal P C) seen2 g2.legal
+
+    can_stay : (p : ℕ) (more seen : List Entry) → IsLegal P C (more ++ seen) → own by more ≡ [] → CanSquash (U seen) p → CanSquash (U (more ++ seen)) p
+    can_stay p more seen legal apart c = front_stays P C (λ U. CanSquash U p) (λ U by st b a ok q. squash_stays P C U by st b a ok p q) more seen legal (subst (λ i. own i more ≡ []) is apart) c
+
+    -- the look and the write together
+    pub squashed_out : MaySquash P C v0.seen → IsSquashed P C by s g v0.seen w.seen
+    squashed_out m =
+        let p : ℕ = g2.kind.youngest.p in
+        let c1 : CanSquash (U v1.seen) m.p = subst (λ h. CanSquash (U h) m.p) (sym seen1) (can_stay m.p g1.between v0.seen legal1 g1.not_own m.can) in
+        let c2 : CanSquash (U last) m.p = can_stay m.p g2.between v1.seen legal2.0 g2.not_own c1 in
+        let one : p ≡ m.p = one_youngest (U last) p m.p g2.kind.youngest.can c2 in
+        let named = any_stays P C p s g (entry by (Does (On p Squash)) ∷ []) last legal2 g2.kind.youngest.named in
+        let adds = adds_on P C by v0.seen v1.seen w.seen [] (Does (On p Squash) ∷ []) (adds_these P C by v0 v1 Kind [] g1 none) (adds_these P C by v1 w (Squashes P C s g) (Does (On p Squash) ∷ []) g2 g2.kind.added) in
+        record {
+          p = m.p;
+          named = subst (λ (z : List Entry × ℕ). IsTenant (U z.0) z.1 s g IsAny) (λ i. (sym seen2 i, one i)) named;
+          can = m.can;
+          adds = subst (λ z. Adds P C by v0.seen w.seen (Does (On z Squash) ∷ [])) one adds;
+        }
+
+    -- the next tenant's station is that of the one that left
+    pub squashed_next : s ≡ next_station C (recent (U w.seen))
+    squashed_next =
+        let y = g2.kind.youngest in
+        let us = (U last).tenants in
+        let t = legal2.1.1.tenant in
+        let ts = older us y.p in
+        let ys = younger us y.p in
+        let after : (applied P C (U last) by (On y.p Squash)).tenants ≡ ys ++ squashed t ∷ ts = parts P us by y.p Squash t legal2.1.1.is in
+        let counted : how_many on_path (applied P C (U last) by (On y.p Squash)).tenants ≡ how_many on_path ts = ap (how_many on_path) after ∙ count_off ys (squashed t ∷ ts) (younger_off last legal2.0 y.p y.can) in
+        let at_s : s ≡ how_many on_path ts % C.ring = sym y.named.station_is ∙ (ap (λ (z : Tenant). z.station) (same_tenant last legal2.0 s g y) ∙ its_place last legal2.0 y.p y.can) in
+        at_s ∙ (ap (λ n. n % C.ring) (sym counted) ∙ ap (λ h. next_station C (recent (U h))) (sym seen2))
+
+-- the front's seat behind it
+pub seated_squashed : (P : Program) (C : Sizes) (by station tag : ℕ) (over : Bool) (old : List Entry) (me : Me ℕ View) → station < C.ring → IsFronts by Nothing me → me.1 ≡ [] → IsSquashed P C by station tag old me.0.seen → station ≡ next_station C (recent (unit_of P C me.0.seen)) → IsSeated P C Front by station over me
+seated_squashed P C by station tag over old me small fronts slots out next = record {
+  role_is = fronts.role;
+  slots = slots;
+  legal = out.adds.legal;
+  inside = small;
+  knows = (fronts.by_is, fronts.draft_is, next);
+}

@@ -1,0 +1,6 @@
+use Rattle.ruu_words.specs.Rule.{Tells, sizes_of}
+use Rattle.station.specs.Retirement.{LooksAtHead}
+use Rattle.station.proofs.steps.retire.look_at_head.Given as goal
+
+abbrev pub ghosts-load : goal.ghosts-load
+ghosts-load a = record { then = Tells a.words.now.key.program (sizes_of a.words.now.key) a.seat.now.id (LooksAtHead a.words.now.key.program (sizes_of a.words.now.key) a.seat.now.id a.about) }

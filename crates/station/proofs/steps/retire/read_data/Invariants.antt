@@ -1,0 +1,6 @@
+use Rattle.ruu_words.specs.Rule.{Tells, sizes_of}
+use Rattle.station.specs.Retirement.{FindsData}
+use Rattle.station.proofs.steps.retire.read_data.Given as goal
+
+abbrev pub ghosts-load : goal.ghosts-load
+ghosts-load a = record { then = Tells a.words.now.key.program (sizes_of a.words.now.key) a.seat.now.id (FindsData a.words.now.key.program (sizes_of a.words.now.key) a.about) }

@@ -1,0 +1,6 @@
+use Rattle.ruu_words.specs.Rule.{Tells, sizes_of}
+use Rattle.station.specs.Retirement.{Leaves}
+use Rattle.station.proofs.steps.retire.retire_tenant.Given as goal
+
+abbrev pub ghosts-swap : goal.ghosts-swap
+ghosts-swap a = record { then = Tells a.words.now.key.program (sizes_of a.words.now.key) a.seat.now.id (λ _. Leaves a.words.now.key.program (sizes_of a.words.now.key) a.about) }

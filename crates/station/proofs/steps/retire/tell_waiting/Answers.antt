@@ -1,0 +1,23 @@
+use Rattle.std.proofs.Common.{sym, subst}
+use mathlib.Core.Option.{none}
+use Rattle.atomic_table.specs.Table.{step}
+use Rattle.inorder.specs.declared.history.Refusal.TheVariants.{NotDone}
+use Rattle.ruu_words.specs.Kinds.{Tells}
+use Rattle.ruu_words.specs.declared.place.Place.TheVariants.{Station}
+use Rattle.ruu_words.specs.Places.{index}
+use Rattle.ruu_words.specs.Rule.{IsAlive, sizes_of}
+use Rattle.station.proofs.Allowing.{allows}
+use Rattle.station.proofs.Retiring.{waits_plan}
+use Rattle.station.proofs.steps.retire.tell_waiting.Goals as goal
+
+pub load-requires-clause-may : goal.load-requires-clause-may
+load-requires-clause-may c =
+    let key = c.args.words.now.key in
+    let P = key.program in
+    let C = sizes_of key in
+    let id = c.args.seat.now.id in
+    let me = c.args.seat.now.me in
+    let x = Station c.args.access.station in
+    allows key c.args.ring c.args.words.now.table_id.slots id me x (λ n. n) (λ n. n) (λ _. Tells P C NotDone) (step c.args.words.now.table_id.slots (index c.args.ring x) 0 0 none)
+    c.requires.of.ring_is c.requires.place (subst IsAlive (sym c.requires.role) tt)
+    (waits_plan P C id me.0 x c.args.access c.requires.role c.requires.access c.requires.load)

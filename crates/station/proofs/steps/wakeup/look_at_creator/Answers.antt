@@ -1,0 +1,22 @@
+use Rattle.std.proofs.Common.{sym, subst}
+use mathlib.Core.Option.{none}
+use Rattle.atomic_table.specs.Table.{step}
+use Rattle.ruu_words.specs.declared.place.Place.TheVariants.{Station}
+use Rattle.ruu_words.specs.Places.{index}
+use Rattle.ruu_words.specs.Rule.{IsAlive, sizes_of}
+use Rattle.station.specs.Wakeup.{Finds}
+use Rattle.station.proofs.Allowing.{allows}
+use Rattle.station.proofs.Asking.{finds_plan}
+use Rattle.station.proofs.steps.wakeup.look_at_creator.Goals as goal
+
+pub load-requires-clause-may : goal.load-requires-clause-may
+load-requires-clause-may c =
+    let key = c.args.words.now.key in
+    let P = key.program in
+    let C = sizes_of key in
+    let id = c.args.seat.now.id in
+    let me = c.args.seat.now.me in
+    let x = Station c.args.from.0 in
+    allows key c.args.ring c.args.words.now.table_id.slots id me x (λ n. n) (λ n. n) (Finds P C c.args.of.0 c.args.of.1 c.args.k c.args.from.0 c.args.from.1) (step c.args.words.now.table_id.slots (index c.args.ring x) 0 0 none)
+    c.requires.of.ring_is c.requires.from (subst IsAlive (sym c.requires.front.role) tt)
+    (finds_plan P C id me.0 c.args.of.0 c.args.of.1 c.args.k c.args.from.0 c.args.from.1 c.requires.front.by_is c.requires.front.draft_is c.requires.asked)

@@ -1,0 +1,25 @@
+use Rattle.std.proofs.Common.{◌==◌, sym, subst}
+use mathlib.Core.Option.{none}
+use prog.Atomic.{either}
+use Rattle.atomic_table.specs.Table.{step}
+use Rattle.ruu_words.specs.declared.place.Place.TheVariants.{Operand}
+use Rattle.ruu_words.specs.Fields.{tag_of, value_of}
+use Rattle.ruu_words.specs.Places.{index}
+use Rattle.ruu_words.specs.Rule.{IsAlive, sizes_of}
+use Rattle.station.specs.Wakeup.{Ends}
+use Rattle.station.proofs.Allowing.{allows}
+use Rattle.station.proofs.Asking.{ends_plan}
+use Rattle.station.proofs.steps.wakeup.take_value.Goals as goal
+
+pub exchange-requires-clause-may : goal.exchange-requires-clause-may
+exchange-requires-clause-may c =
+    let key = c.args.words.now.key in
+    let P = key.program in
+    let C = sizes_of key in
+    let id = c.args.seat.now.id in
+    let me = c.args.seat.now.me in
+    let x = Operand c.args.station c.args.k in
+    let old = c.args.old in
+    allows key c.args.ring c.args.words.now.table_id.slots id me x (λ n. either (n == old) c.args.new n) (λ n. n) (Ends P C c.args.station (tag_of old) c.args.k old) (step c.args.words.now.table_id.slots (index c.args.ring x) old c.args.new none)
+    c.requires.of.ring_is c.requires.place (subst IsAlive (sym c.requires.front.role) tt)
+    (ends_plan P C id me.0 c.args.station (tag_of old) c.args.k (value_of c.args.new) old c.args.new c.requires.front.by_is c.requires.front.draft_is c.requires.old c.requires.new c.requires.answer)

@@ -1,0 +1,21 @@
+-- Moments of a call.
+use Rattle.std.specs.Prelude.{ℕ, List}
+use Rattle.isa.specs.Programs.{Program}
+use Rattle.inorder.specs.declared.history.Entry.{Entry}
+use Rattle.inorder.specs.History.{StartsWith, unit_of}
+use Rattle.inorder.specs.Replies.{Has, IsOpen}
+use Rattle.inorder.specs.Unit.{Sizes, UpdateUnit}
+
+-- A moment of a call whose caller had seen `old` when it began, and has seen `new` at its return
+pub record IsWithin (old new point : List Entry) : Type 0 where
+  pub before_return : StartsWith new point
+  pub behind_call : StartsWith point old
+
+-- This was true of the unit at a moment of the call
+pub record WasOnce (P : Program) (C : Sizes) (old new : List Entry) (Fact : UpdateUnit → Type 0) : Type 0 where
+  pub point : List Entry
+  pub within : IsWithin old new point
+  pub fact : Fact (unit_of P C point)
+
+abbrev pub WasOpenOnce : Program → Sizes → List Entry → List Entry → ℕ → Type 0
+WasOpenOnce P C old new p = WasOnce P C old new (λ U. Has U p IsOpen)

@@ -1,0 +1,95 @@
+//! A value is carried along the links of its station.
+ghost use Rattle.std.specs.Prelude.{◌≡◌, ◌<◌, ◌≤◌};
+ghost use Rattle.inorder.specs.History.{IsLegal};
+ghost use Rattle.ruu_words.specs.Rule.{sizes_of};
+ghost use Rattle.station.specs.Carrying.{HasCarried, HasMadeOf, HasValueOf, HasWalked, IsServing, IsWriter, OfTenant};
+ghost use Rattle.station.specs.Steps.{IsAt};
+
+use crate::results::{consumer_in, producer_in, value_word, waiting_word};
+use crate::steps::{Words, deliver, end_walk, read_link};
+use atomic_table::Seat;
+use inorder::history::Source;
+use isa::Outcome;
+use ruu_words::rule::View;
+
+// Reads one link of the tenant's station, and takes the value to the consumer that it names.
+fn serve(
+    words: &Words,
+    ring: usize,
+    seat: &mut Seat<u8, View>,
+    from: (usize, u32),
+    to: usize,
+    k: Source,
+    value: u32,
+)
+    requires of { IsAt words.now.table_id words.now.key ring seat.old.table_id }
+    requires tags { 1 ≤ words.now.key.first_tag }
+    requires from { from.0 < ring }
+    requires to { to < ring }
+    requires writer { IsWriter seat.old.me.0.role }
+    requires legal { IsLegal words.now.key.program (sizes_of words.now.key) seat.old.me.0.seen }
+    requires made { HasValueOf words.now.key.program (sizes_of words.now.key) seat.old.me.0.seen from.0 from.1 value }
+    ensures same { (seat.new.table_id ≡ seat.old.table_id) × (seat.new.id ≡ seat.old.id) }
+    ensures slots { seat.new.me.1 ≡ seat.old.me.1 }
+    ensures role { seat.new.me.0.role ≡ seat.old.me.0.role }
+    ensures served { OfTenant words.now.key.program (sizes_of words.now.key) seat.old.me.0.seen from.0 from.1 (λ q. IsServing words.now.key.program (sizes_of words.now.key) seat.old.id q to k seat.old.me.0.seen seat.new.me.0.seen) }
+{
+    let link = read_link(words, ring, seat, from.0, to, k);
+    if producer_in(link) == from.1 {
+        let consumer = consumer_in(link);
+        let old = waiting_word(consumer);
+        let new = value_word(consumer, value);
+        deliver(words, ring, seat, to, k, old, new);
+    }
+}
+
+/// Takes the value of a station's tenant to all who asked for it in time.
+pub(crate) fn walk(
+    words: &Words,
+    ring: usize,
+    seat: &mut Seat<u8, View>,
+    from: (usize, u32),
+    value: u32,
+)
+    requires of { IsAt words.now.table_id words.now.key ring seat.old.table_id }
+    requires tags { 1 ≤ words.now.key.first_tag }
+    requires from { from.0 < ring }
+    requires writer { IsWriter seat.old.me.0.role }
+    requires legal { IsLegal words.now.key.program (sizes_of words.now.key) seat.old.me.0.seen }
+    requires made { HasValueOf words.now.key.program (sizes_of words.now.key) seat.old.me.0.seen from.0 from.1 value }
+    ensures same { (seat.new.table_id ≡ seat.old.table_id) × (seat.new.id ≡ seat.old.id) }
+    ensures slots { seat.new.me.1 ≡ seat.old.me.1 }
+    ensures role { seat.new.me.0.role ≡ seat.old.me.0.role }
+    ensures walked { OfTenant words.now.key.program (sizes_of words.now.key) seat.old.me.0.seen from.0 from.1 (λ q. HasWalked words.now.key.program (sizes_of words.now.key) seat.old.id q seat.old.me.0.seen seat.new.me.0.seen) }
+{
+    for to in 0..ring {
+        serve(words, ring, seat, from, to, Source::First, value);
+        serve(words, ring, seat, from, to, Source::Second, value);
+    }
+    end_walk(words, ring, seat, from.0, from.1, value);
+}
+
+/// The same where the outcome is a value; no other is carried.
+pub(crate) fn carry(
+    words: &Words,
+    ring: usize,
+    seat: &mut Seat<u8, View>,
+    from: (usize, u32),
+    outcome: Outcome,
+)
+    requires of { IsAt words.now.table_id words.now.key ring seat.old.table_id }
+    requires tags { 1 ≤ words.now.key.first_tag }
+    requires from { from.0 < ring }
+    requires writer { IsWriter seat.old.me.0.role }
+    requires legal { IsLegal words.now.key.program (sizes_of words.now.key) seat.old.me.0.seen }
+    requires made { HasMadeOf words.now.key.program (sizes_of words.now.key) seat.old.me.0.seen from.0 from.1 outcome }
+    ensures same { (seat.new.table_id ≡ seat.old.table_id) × (seat.new.id ≡ seat.old.id) }
+    ensures slots { seat.new.me.1 ≡ seat.old.me.1 }
+    ensures role { seat.new.me.0.role ≡ seat.old.me.0.role }
+    ensures carried { OfTenant words.now.key.program (sizes_of words.now.key) seat.old.me.0.seen from.0 from.1 (λ q. HasCarried words.now.key.program (sizes_of words.now.key) seat.old.id q outcome seat.old.me.0.seen seat.new.me.0.seen) }
+{
+    match outcome {
+        Outcome::Value(value) => walk(words, ring, seat, from, value),
+        Outcome::Next(_) | Outcome::Address(_) | Outcome::Stop(_) => {}
+    }
+}

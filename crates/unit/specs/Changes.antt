@@ -1,0 +1,61 @@
+-- What each stage of a turn does to the fields.
+use Rattle.std.specs.Prelude.{ℕ, ◌+◌, ◌-◌, ◌%◌, Bool, List, length, Option}
+use Rattle.isa.specs.declared.end.End.{End}
+use Rattle.isa.specs.declared.end.Ending.{Ending}
+use Rattle.inorder.specs.Machine.{State}
+use Rattle.inorder.specs.Runs.{end_from}
+use Rattle.unit.specs.declared.dispatch.Fetched.{Fetched}
+use Rattle.unit.specs.declared.pipeline.Pipeline.{Pipeline}
+use Rattle.unit.specs.declared.station.Station.{Station}
+use Rattle.unit.specs.Givers.{NoneGives}
+use Rattle.unit.specs.Loads.{load_in}
+use Rattle.unit.specs.Notes.{miss_in}
+use Rattle.unit.specs.Stages.{LoadsTo, NextIs, RecoversTo, RunsTo}
+use Rattle.unit.specs.Window.{operands_in}
+
+-- The window changes, and what is remembered of it
+abbrev pub with_window : Pipeline → List Station → Bool → ℕ → Pipeline
+with_window b window missed settled = record b { window = window; missed = missed; settled = settled }
+
+-- Recovery
+
+abbrev pub RecoversOldest : Pipeline → Pipeline → Type 0
+RecoversOldest b later = RecoversTo b.window later.window
+
+abbrev pub NoneRecovers : Pipeline → Type 0
+NoneRecovers b = NoneGives miss_in b.window
+
+-- Dispatch: what can be let next, and the station of the next tenant
+
+abbrev pub NextOf : Pipeline → Option Fetched → Type 0
+NextOf b next = NextIs b.program.now b.ring b.queue b.committed.pc b.window next
+
+abbrev pub next_place : Pipeline → ℕ
+next_place b = (b.committed.count + length b.window) % b.ring
+
+-- Execution
+
+abbrev pub RunsOldest : Pipeline → Pipeline → Type 0
+RunsOldest b later = RunsTo b.committed.registers (length b.program.now.bytes) b.window later.window
+
+abbrev pub NoneRuns : Pipeline → Type 0
+NoneRuns b = NoneGives (operands_in b.committed.registers) b.window
+
+-- The memory port
+
+abbrev pub LoadsOldest : Pipeline → Pipeline → Type 0
+LoadsOldest b later = LoadsTo b.committed.registers b.committed.memory b.window later.window
+
+abbrev pub NoneLoads : Pipeline → Type 0
+NoneLoads b = NoneGives (load_in b.committed.registers b.committed.memory) b.window
+
+-- Runs
+
+-- The in-order run from here until the count has reached a limit
+abbrev pub run_from : Pipeline → ℕ → Ending × State
+run_from b limit = end_from b.program.now (limit - b.committed.count) b.committed
+
+-- The end of a run as how it ended, and the state
+abbrev pub end_state : End → Ending × State
+end_state e =
+    (e.outcome, record { registers = e.registers; memory = e.memory.items; pc = e.pc; count = e.n })
