@@ -1,5 +1,5 @@
--- The exit statuses of the program.
-use Rattle.std.specs.Prelude.{ℕ}
+-- The exit statuses of a command line that gives no run, and what is printed for it.
+use Rattle.std.specs.Prelude.{ℕ, List, codes, string_bytes}
 use Rattle.command.specs.declared.no_run.NoRun.{NoRun}
 use Rattle.command.specs.declared.no_run.NoRun.TheVariants.{Help, Usage, Ring, Memory}
 
@@ -9,3 +9,10 @@ status_of (Help _) = 0
 status_of (Usage _) = 3
 status_of Ring = 3
 status_of Memory = 5
+
+-- its text; that of a ring size and of want of memory has no line feed
+abbrev pub no_run_text : NoRun → List ℕ
+no_run_text (Help text) = string_bytes text
+no_run_text (Usage text) = string_bytes text
+no_run_text Ring = codes "ruu: ruu-size must be 2, 4, 8, 16 or 32"
+no_run_text Memory = codes "ruu: memory"

@@ -1,6 +1,6 @@
 //! Why a command line gives no run.
-ghost use Rattle.std.specs.Prelude.{◌≡◌};
-ghost use Rattle.command.specs.Statuses.{status_of};
+ghost use Rattle.std.specs.Prelude.{◌≡◌, Some};
+ghost use Rattle.command.specs.Statuses.{status_of, no_run_text};
 
 use std::alloc::{AllocError, AllocFailed};
 use std::fmt;
@@ -31,6 +31,8 @@ pub fn status(no_run: &NoRun) -> u8
 }
 
 impl fmt::Display for NoRun {
+    ghost output = { λ no_run. Some (no_run_text no_run) };
+
     fn fmt<W: fmt::Write>(&self, f: &mut fmt::Formatter<W>) -> fmt::Result {
         match self {
             NoRun::Help(text) | NoRun::Usage(text) => f.write_str(text.as_str()),

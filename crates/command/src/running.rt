@@ -21,8 +21,9 @@ pub fn go<R: Read + Drop, W: Write>(
 ) -> Went
     requires reader_room { IfSome reader (λ r. failures_of r < 2 ^ 64 - 1) }
     requires writer_room { failures_of writer.old < 2 ^ 64 - 1 }
-    // Without a reader nothing is run.
+    // Without a reader nothing is run, and only then is opening blamed.
     ensures open { reader ≡ None → result ≡ refused Refusal.Open }
+    ensures opened { result.line ≡ Refused Refusal.Open → reader ≡ None }
     // The status and the text are those of the reader's bytes.
     ensures status { result.line ≡ Nothing → HoldsOfInput R.remaining reader (λ input.
         result.status ≡ status_number (status_of asked.now.config.limit input)) }

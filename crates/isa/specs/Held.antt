@@ -19,7 +19,8 @@ Labels = HashMap Name ℕ (BuildHasherDefault FoldHasher)
 
 -- the map has at each name what the list has first
 abbrev pub IsTable : Labels → List (List ℕ × ℕ) → Type 0
-IsTable m pairs = (name : List ℕ) → get_by (λ k. bytes_eq name k.text.now) m ≡ lookup (λ k. bytes_eq k name) pairs
+IsTable m pairs = (name : List ℕ)
+    → get_by (λ k. bytes_eq name k.text.now) m ≡ lookup (λ k. bytes_eq k name) pairs
 
 -- the label that an instruction names
 abbrev pub name_of : Target → Option (List ℕ)
@@ -38,13 +39,15 @@ pub record IsAppended (read : Result (List ℕ) FaultKind) (old new : List ℕ) 
   pub is : read ≡ Ok bytes
 
 -- a statement was read: its instructions are these, and its bytes were added
-pub record IsAdded (read : Result Line FaultKind) (code : List Parsed) (old new : List ℕ) : Type 0 where
+pub record IsAdded (read : Result Line FaultKind) (code : List Parsed) (old new : List ℕ)
+    : Type 0 where
   pub bytes : List ℕ
   pub grown : new ≡ old ++ bytes
   pub is : read ≡ Ok (record { code = code; bytes = bytes })
 
 -- what is held behind the lines before
-pub record IsRead (before : Lines) (m : Labels) (code : List Instr) (ts : List Target) (bytes : List ℕ) : Type 0 where
+pub record IsRead (before : Lines) (m : Labels) (code : List Instr) (ts : List Target)
+    (bytes : List ℕ) : Type 0 where
   pub labels : IsTable m (table 0 before)
   pub length_is : length code ≡ length ts
   pub code_is : rows code ts ≡ numbered 1 before

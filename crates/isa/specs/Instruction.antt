@@ -104,7 +104,8 @@ source k i =
 abbrev pub written : Instr → Option ℕ
 written i = if writes i.op then Some i.target else None
 
--- the register that an instruction of a kind changes: 0 for none, since a write to register 0 is dropped
+-- the register that an instruction of a kind changes: 0 for none, since a write to register 0 is
+-- dropped
 abbrev pub destination_by : Kind → ℕ → ℕ
 destination_by Jumps r = 0
 destination_by Stores r = 0

@@ -40,7 +40,8 @@ Lines = List (List ℕ)
 abbrev pub at : ℕ → List (List ℕ) → List (List ℕ × ℕ)
 at a names = map (λ x. (x, a)) names
 
--- the labels of lines, each with the address of the next instruction, the first of which is number n
+-- the labels of lines, each with the address of the next instruction, the first of which is number
+-- n
 unfoldable pub table : ℕ → Lines → List (List ℕ × ℕ)
 table n [] = []
 table n (l ∷ ls) = at (address n) (labels l) ++ table (n + length (code_in (read l))) ls
@@ -63,18 +64,22 @@ how_many ls = length (numbered 1 ls)
 -- a label stands among earlier ones, or twice
 abbrev pub is_double : ℕ → List (List ℕ × ℕ) → List (List ℕ) → Bool
 is_double a earlier [] = false
-is_double a earlier (x ∷ xs) = is_some (lookup (λ k. bytes_eq k x) earlier) || is_double a (earlier ++ (x, a) ∷ []) xs
+is_double a earlier (x ∷ xs) =
+    is_some (lookup (λ k. bytes_eq k x) earlier) || is_double a (earlier ++ (x, a) ∷ []) xs
 
 -- the fault of a statement behind n instructions and m bytes of data
 abbrev pub fault_of : ℕ → ℕ → Result Line FaultKind → Option FaultKind
-fault_of n m (Ok l) = if nat_lt 16384 (n + length l.code) || nat_lt 65536 (m + length l.bytes) then Some TooLong else None
+fault_of n m (Ok l) =
+    if nat_lt 16384 (n + length l.code) || nat_lt 65536 (m + length l.bytes) then Some TooLong
+    else None
 fault_of n m (Err k) = Some k
 
 -- the first fault of a line, behind the lines before it
 unfoldable pub fault_in : Lines → List ℕ → Option FaultKind
 fault_in before line =
     if not (is_plain_text (before_comment line)) then Some NotAscii
-    else (if is_double (address (how_many before)) (table 0 before) (labels line) then Some DoubleLabel
+    else (if is_double (address (how_many before)) (table 0 before) (labels line)
+    then Some DoubleLabel
     else fault_of (how_many before) (length (memory before)) (read line))
 
 -- the fault of line n, or that of the lines behind it
@@ -85,7 +90,8 @@ fault_at n None others = others
 -- the first line with a fault, and its fault, among lines behind those before
 unfoldable pub first_fault : Lines → Lines → Option (ℕ × FaultKind)
 first_fault before [] = None
-first_fault before (l ∷ ls) = fault_at (length before + 1) (fault_in before l) (first_fault (before ++ l ∷ []) ls)
+first_fault before (l ∷ ls) =
+    fault_at (length before + 1) (fault_in before l) (first_fault (before ++ l ∷ []) ls)
 
 -- ---- the program
 
@@ -108,16 +114,19 @@ abbrev pub resolve : List (List ℕ × ℕ) → ℕ × Parsed → Result Instr (
 resolve pairs d = numbered_with d.1.instr (resolve_number pairs d.0 d.1.instr.number d.1.label)
 
 -- an instruction before others; the first fault decides
-abbrev pub before_others : Result Instr (ℕ × FaultKind) → Result (List Instr) (ℕ × FaultKind) → Result (List Instr) (ℕ × FaultKind)
+abbrev pub before_others : Result Instr (ℕ × FaultKind) → Result (List Instr) (ℕ × FaultKind)
+    → Result (List Instr) (ℕ × FaultKind)
 before_others (Err f) others = Err f
 before_others (Ok i) (Err f) = Err f
 before_others (Ok i) (Ok is) = Ok (i ∷ is)
 
-unfoldable pub resolved : List (List ℕ × ℕ) → List (ℕ × Parsed) → Result (List Instr) (ℕ × FaultKind)
+unfoldable pub resolved : List (List ℕ × ℕ) → List (ℕ × Parsed)
+    → Result (List Instr) (ℕ × FaultKind)
 resolved pairs [] = Ok []
 resolved pairs (d ∷ ds) = before_others (resolve pairs d) (resolved pairs ds)
 
-abbrev pub with_bytes : List ℕ → Result (List Instr) (ℕ × FaultKind) → Result Program (ℕ × FaultKind)
+abbrev pub with_bytes : List ℕ → Result (List Instr) (ℕ × FaultKind)
+    → Result Program (ℕ × FaultKind)
 with_bytes bytes (Ok code) = Ok (record { code = code; bytes = bytes })
 with_bytes bytes (Err f) = Err f
 
@@ -126,8 +135,8 @@ abbrev pub program_of : Lines → Option (ℕ × FaultKind) → Result Program (
 program_of ls (Some fault) = Err fault
 program_of ls None = with_bytes (memory ls) (resolved (table 0 ls) (numbered 1 ls))
 
--- The program that a listing is, or its first fault with the number of its line, counted from 1. A listing that is too
--- long as a whole is refused at line 0.
+-- The program that a listing is, or its first fault with the number of its line, counted from 1. A
+-- listing that is too long as a whole is refused at line 0.
 unfoldable pub listing : List ℕ → Result Program (ℕ × FaultKind)
 listing bytes =
     if nat_lt 4194304 (length bytes) then Err (0, TooLong)

@@ -10,7 +10,8 @@ use Rattle.isa.specs.RegisterNames.{register}
 
 -- a number modulo 2^32, at most `below` behind a minus, and at most `above` without one
 unfoldable pub number : ℕ → ℕ → List ℕ → Result ℕ FaultKind
-number below above text = if begins_number text then ok_or (number_in below above text) BadNumber else Err BadOperands
+number below above text =
+    if begins_number text then ok_or (number_in below above text) BadNumber else Err BadOperands
 
 -- a number of 16 bits with a sign
 abbrev pub signed_half : List ℕ → Result ℕ FaultKind

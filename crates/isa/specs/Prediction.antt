@@ -13,7 +13,8 @@ counter_at pc = pc / 4 % 2048
 
 -- by its counter: the label of a conditional branch at 2 or 3
 abbrev pub two_bit : List ℕ → ℕ → Instr → ℕ
-two_bit counters pc i = if nat_le 2 (slice_index counters (counter_at pc)) then taken_target pc i else pc_plus_4 pc
+two_bit counters pc i =
+    if nat_le 2 (slice_index counters (counter_at pc)) then taken_target pc i else pc_plus_4 pc
 
 -- one up to 3 where the branch was taken, one down to 0 where it was not
 abbrev pub moved : ℕ → ℕ → ℕ → ℕ

@@ -18,8 +18,10 @@ address k = text_start + 4 * k
 
 -- the instruction at an address, if it is that of one
 unfoldable pub instr_at : Program → ℕ → Option Instr
-instr_at P pc = if address ((pc - text_start) / 4) == pc then slice_get P.code ((pc - text_start) / 4) else None
+instr_at P pc =
+    if address ((pc - text_start) / 4) == pc then slice_get P.code ((pc - text_start) / 4) else None
 
 -- instruction k, where it is in the program
 abbrev pub instr_of : Program → ℕ → Instr
-instr_of P k = slice_index_or P.code k (record { op = Break; target = 0; first = 0; second = 0; number = 0 })
+instr_of P k =
+    slice_index_or P.code k (record { op = Break; target = 0; first = 0; second = 0; number = 0 })

@@ -1,4 +1,5 @@
--- Readings of a text: what it means, or what is wrong with it. In a chain of readings the first fault decides.
+-- Readings of a text: what it means, or what is wrong with it. In a chain of readings the first
+-- fault decides.
 use Rattle.std.specs.Prelude.{◌≡◌, ℕ, List, codes, Result, Ok, Err}
 use Rattle.isa.specs.declared.listing.fault.FaultKind.{FaultKind}
 use Rattle.isa.specs.declared.listing.fault.FaultKind.TheVariants.{NotAscii, UnknownOp, BadRegister, BadNumber, BadOperands, UnknownLabel, DoubleLabel, TooLong, Memory}
@@ -9,7 +10,8 @@ Reads view (Ok x) read = read ≡ Ok (view x)
 Reads view (Err e) read = read ≡ Err e
 
 infixl 10 ◌>>=◌
-abbrev pub ◌>>=◌ : {A B : Type 0} → Result A FaultKind → (A → Result B FaultKind) → Result B FaultKind
+abbrev pub ◌>>=◌ : {A B : Type 0} → Result A FaultKind → (A → Result B FaultKind)
+    → Result B FaultKind
 (Ok x) >>= f = f x
 (Err e) >>= f = Err e
 

@@ -17,7 +17,8 @@ register_names =
     ∷ (codes "s0", 16) ∷ (codes "s1", 17) ∷ (codes "s2", 18) ∷ (codes "s3", 19)
     ∷ (codes "s4", 20) ∷ (codes "s5", 21) ∷ (codes "s6", 22) ∷ (codes "s7", 23)
     ∷ (codes "t8", 24) ∷ (codes "t9", 25) ∷ (codes "k0", 26) ∷ (codes "k1", 27)
-    ∷ (codes "gp", 28) ∷ (codes "sp", 29) ∷ (codes "fp", 30) ∷ (codes "s8", 30) ∷ (codes "ra", 31) ∷ []
+    ∷ (codes "gp", 28) ∷ (codes "sp", 29) ∷ (codes "fp", 30) ∷ (codes "s8", 30)
+    ∷ (codes "ra", 31) ∷ []
 
 abbrev pub first_some : Option ℕ → Option ℕ → Option ℕ
 first_some None other = other
@@ -25,7 +26,8 @@ first_some (Some n) other = Some n
 
 -- 0 to 31 without leading zeros, or a name in lower case
 unfoldable pub register_number : List ℕ → Option ℕ
-register_number text = first_some (decimal_in 31 text) (lookup (λ k. bytes_eq k text) register_names)
+register_number text =
+    first_some (decimal_in 31 text) (lookup (λ k. bytes_eq k text) register_names)
 
 -- the register of a number, if it has one
 abbrev pub existing : Option ℕ → Option ℕ
@@ -34,4 +36,6 @@ existing (Some n) = if nat_lt n register_count then Some n else None
 
 -- `$`, and a number or a name
 unfoldable pub register : List ℕ → Result ℕ FaultKind
-register text = if first_is 36 text then ok_or (existing (register_number (drop 1 text))) BadRegister else Err BadOperands
+register text =
+    if first_is 36 text then ok_or (existing (register_number (drop 1 text))) BadRegister
+    else Err BadOperands

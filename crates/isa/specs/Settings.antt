@@ -29,7 +29,9 @@ first_bad ring queue units places first_tag limit turns =
     if is_from_to 1 (2 ^ 28 - 2) first_tag then
     if is_from_to 0 (2 ^ 32 - 1) limit then
     if is_from_to 1 (2 ^ 32 - 1) turns then None
-    else Some Turns else Some Limit else Some Tag else Some Places else Some Units else Some Queue else Some Ring
+    else Some Turns else Some Limit else Some Tag else Some Places else Some Units
+    else Some Queue else Some Ring
 
 abbrev pub IsValid : (ring queue units places first_tag limit turns : ℕ) → Type 0
-IsValid ring queue units places first_tag limit turns = first_bad ring queue units places first_tag limit turns ≡ None
+IsValid ring queue units places first_tag limit turns =
+    first_bad ring queue units places first_tag limit turns ≡ None

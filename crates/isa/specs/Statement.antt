@@ -85,7 +85,8 @@ space parts = do
 -- `.word v,..`: each number as four bytes, the lowest first
 unfoldable pub words : List (List ℕ) → Result (List ℕ) FaultKind
 words [] = Ok []
-words (t ∷ ts) = number 2147483648 4294967295 t >>= λ n. words ts >>= λ bytes. Ok (to_le_bytes w32 n ++ bytes)
+words (t ∷ ts) =
+    number 2147483648 4294967295 t >>= λ n. words ts >>= λ bytes. Ok (to_le_bytes w32 n ++ bytes)
 
 -- one word or more
 abbrev pub data_words : List (List ℕ) → Result (List ℕ) FaultKind

@@ -39,9 +39,25 @@ pub struct Config {
 impl Model for Config {
     ghost Value = { Settings };
 
-    ghost view = { λ c. record { ring = c.ring; queue = c.queue; units = c.units; places = c.places; first_tag = c.first_tag; limit = c.limit; turns = c.turns } };
+    ghost view = { λ c. record {
+      ring = c.ring;
+      queue = c.queue;
+      units = c.units;
+      places = c.places;
+      first_tag = c.first_tag;
+      limit = c.limit;
+      turns = c.turns;
+    } };
 
-    ghost inverse = { λ s. record { ring = s.ring; queue = s.queue; units = s.units; places = s.places; first_tag = s.first_tag; limit = s.limit; turns = s.turns } };
+    ghost inverse = { λ s. record {
+      ring = s.ring;
+      queue = s.queue;
+      units = s.units;
+      places = s.places;
+      first_tag = s.first_tag;
+      limit = s.limit;
+      turns = s.turns;
+    } };
 
     ghost invariant = { λ c. IsValid c.ring c.queue c.units c.places c.first_tag c.limit c.turns };
 }
@@ -53,10 +69,11 @@ fn is_ring_size(ring: u64) -> bool
 }
 
 impl Config {
-    /// A configuration of `ring` reservation stations (2, 4, 8, 16 or 32), at most `queue` loads and stores in
-    /// flight (2 to `ring`), `units` unit seats and `places` snapshot places (1 to 64 each), tags from
-    /// `first_tag` on (1 to 2^28 - 2), at most `limit` instructions (0 to 2^32 - 1) and `turns` turns of each
-    /// thread (1 to 2^32 - 1). The first argument out of its range, in this order, is named.
+    /// A configuration of `ring` reservation stations (2, 4, 8, 16 or 32), at most `queue` loads
+    /// and stores in flight (2 to `ring`), `units` unit seats and `places` snapshot places (1 to 64
+    /// each), tags from `first_tag` on (1 to 2^28 - 2), at most `limit` instructions (from 0 to
+    /// 2^32 - 1) and `turns` turns of each thread (1 to 2^32 - 1). The first argument out of its
+    /// range, in this order, is named.
     pub fn new(
         ring: u64,
         queue: u64,
@@ -66,9 +83,19 @@ impl Config {
         limit: u64,
         turns: u64,
     ) -> Result<Config, BadConfig>
-        ensures ok { IfOk result (λ c. c ≡ record { ring = ring; queue = queue; units = units; places = places; first_tag = first_tag; limit = limit; turns = turns }) }
-        ensures valid { IfOk result (λ _. first_bad ring queue units places first_tag limit turns ≡ None) }
-        ensures err { IfErr result (λ bad. first_bad ring queue units places first_tag limit turns ≡ Some bad) }
+        ensures ok { IfOk result (λ c. c ≡ record {
+          ring = ring;
+          queue = queue;
+          units = units;
+          places = places;
+          first_tag = first_tag;
+          limit = limit;
+          turns = turns;
+        }) }
+        ensures valid { IfOk result (λ _.
+            first_bad ring queue units places first_tag limit turns ≡ None) }
+        ensures err { IfErr result (λ bad.
+            first_bad ring queue units places first_tag limit turns ≡ Some bad) }
     {
         if !is_ring_size(ring) {
             return Err(BadConfig::Ring);

@@ -76,7 +76,8 @@ impl Instr {
         self.number
     }
 
-    /// The pc behind it where that needs no prediction; None for a conditional branch, `jr` and `jalr`.
+    /// The pc behind it where that needs no prediction; None for a conditional branch, `jr` and
+    /// `jalr`.
     pub fn fixed_next(&self, pc: u32) -> Option<u32>
         ensures { result ≡ fixed_next_of self.now pc }
     {

@@ -84,8 +84,8 @@ fn most_labels(bytes: &[u8]) -> usize
     colons.min(bytes.len() / 4)
 }
 
-/// The program of a listing, or its first fault. A fault of a line has its number, counted from 1; a listing of more
-/// than 4,194,304 bytes and want of memory have line 0.
+/// The program of a listing, or its first fault. A fault of a line has its number, counted from 1;
+/// a listing of more than 4,194,304 bytes and want of memory have line 0.
 pub fn parse(alloc: Global, bytes: &[u8]) -> Result<Program, TextFault>
     ensures ok { IfOk result (λ program. listing bytes.now ≡ Ok program) }
     ensures fault { IfErr result (λ f. f.kind ≢ FaultKind.Memory

@@ -2,7 +2,8 @@
 ghost use Rattle.std.specs.Prelude.{◌≡◌, ◌<◌, ◌≤◌};
 ghost use Rattle.isa.specs.Instruction.{kind as kind_of, width as width_of, is_branch as is_branch_of, reads_first as reads_first_of, reads_second as reads_second_of, writes as writes_of};
 
-/// An operation, one for each row of the table of MIPS I integer operations. `nop` is `Sll` of zeros.
+/// An operation, one for each row of the table of MIPS I integer operations. `nop` is `Sll` of
+/// zeros.
 #[derive(Clone, Copy, Debug, PartialEq, Eq)]
 pub enum Op {
     Addu,

@@ -6,8 +6,8 @@ ghost use Rattle.isa.specs.Prediction.{taken_target, counter_at, trained, two_bi
 
 use crate::{Instr, pc_plus_4};
 
-/// What is asked for the next pc of a conditional branch, `jr` or `jalr`, and told how it turned out. Its answers
-/// may be any numbers: a wrong one costs time and changes no result.
+/// What is asked for the next pc of a conditional branch, `jr` or `jalr`, and told how it turned
+/// out. Its answers may be any numbers: a wrong one costs time and changes no result.
 pub trait Predictor {
     /// What an answer to `predict` is, and what the call makes of the predictor.
     ghost Predicts: { Self → ℕ → Instruction → ℕ → Self → Type 0 };
@@ -60,8 +60,9 @@ impl Predictor for Taken {
     fn told(&mut self, _pc: u32, _next: u32) {}
 }
 
-/// SimpleScalar's bimodal predictor: 2,048 two-bit counters, found by the low bits of the pc. A conditional
-/// branch is taken where its counter is 2 or 3; `jr` and `jalr` go on behind themselves.
+/// SimpleScalar's bimodal predictor: 2,048 two-bit counters, found by the low bits of the pc. A
+/// conditional branch is taken where its counter is 2 or 3; `jr` and `jalr` go on behind
+/// themselves.
 #[derive(Clone, Copy, Drop)]
 pub struct Bimod {
     counters: [u8; 2048],
@@ -79,7 +80,8 @@ impl Bimod {
 }
 
 impl Predictor for Bimod {
-    ghost Predicts = { λ old pc instr answer new. (answer ≡ two_bit old.counters pc instr) × (new ≡ old) };
+    ghost Predicts = { λ old pc instr answer new.
+        (answer ≡ two_bit old.counters pc instr) × (new ≡ old) };
 
     ghost Learns = { λ old pc next new. new.counters ≡ trained old.counters pc next };
 

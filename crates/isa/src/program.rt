@@ -6,8 +6,8 @@ use crate::{Instr, Memory};
 use std::alloc::Global;
 use std::marker::Model;
 
-/// The instructions of a listing, and the bytes that its data memory starts with. Instruction i stands at
-/// address 0x00400000 + 4i; data memory is the bytes from 0 on, apart from the text.
+/// The instructions of a listing, and the bytes that its data memory starts with. Instruction i
+/// stands at address 0x00400000 + 4i; data memory is the bytes from 0 on, apart from the text.
 #[derive(Drop)]
 pub struct Program {
     code: Vec<Instr>,
@@ -19,7 +19,8 @@ impl Model for Program {
 
     ghost view = { λ p. record { code = p.code.items; bytes = p.bytes.items } };
 
-    ghost invariant = { λ p. (length p.code.items ≤ 16384) × (length p.bytes.items ≤ 65536) × (length p.bytes.items % 4 ≡ 0) };
+    ghost invariant = { λ p. (length p.code.items ≤ 16384)
+        × (length p.bytes.items ≤ 65536) × (length p.bytes.items % 4 ≡ 0) };
 }
 
 impl Program {

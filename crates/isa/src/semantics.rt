@@ -117,8 +117,9 @@ fn checked_address(width: u32, at: u32, size: u32) -> Result<u32, Stop>
     }
 }
 
-/// What an instruction at `pc` comes to, where `a` and `b` are its sources 1 and 2 (anything where it has
-/// none) and data memory has `size` bytes. The rules are those of the MIPS I manual; jumps have no delay slot.
+/// What an instruction at `pc` comes to, where `a` and `b` are its sources 1 and 2 (anything where
+/// it has none) and data memory has `size` bytes. The rules are those of the MIPS I manual; jumps
+/// have no delay slot.
 pub fn outcome(instr: &Instr, pc: u32, a: u32, b: u32, size: u32) -> Outcome
     ensures value { result ≡ outcome_of instr.now pc a b size }
     ensures inside { IsInside result (width_of instr.now.op) size }

@@ -377,11 +377,12 @@ module _ (P : Program) (C : Sizes) where
       delivered_out = ⊎_elim (λ hit. hit_end hit.1) (λ miss. miss_end miss.1 miss.2) told_end.1
 
 -- the front's seat behind it
-pub seated_asked : (P : Program) (C : Sizes) (by station : ℕ) (over : Bool) (old : List Entry) (me : Me ℕ View) (s g : ℕ) (k : Source) (a b : ℕ) (answer : Ask) → station ≡ next_station C (recent (unit_of P C old)) → IsFronts by Nothing me → me.1 ≡ [] → AskAnswers P C by old me.0.seen s g k a b answer
+pub seated_asked : (P : Program) (C : Sizes) (by station : ℕ) (over : Bool) (old : List Entry) (me : Me ℕ View) (s g : ℕ) (k : Source) (a b : ℕ) (answer : Ask) → station < C.ring → station ≡ next_station C (recent (unit_of P C old)) → IsFronts by Nothing me → me.1 ≡ [] → AskAnswers P C by old me.0.seen s g k a b answer
     → next_station C (recent (unit_of P C me.0.seen)) ≡ next_station C (recent (unit_of P C old)) → IsSeated P C Front by station over me
-seated_asked P C by station over old me s g k a b answer is fronts slots out next = record {
+seated_asked P C by station over old me s g k a b answer small is fronts slots out next = record {
   role_is = fronts.role;
   slots = slots;
   legal = out.adds.legal;
+  inside = small;
   knows = (fronts.by_is, fronts.draft_is, is ∙ sym next);
 }

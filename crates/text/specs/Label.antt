@@ -1,5 +1,5 @@
--- The labels of a line, and its statement. A line is any number of labels, each a name and a colon, and
--- then at most one statement.
+-- The labels of a line, and its statement. A line is any number of labels, each a name and a colon,
+-- and then at most one statement.
 use Rattle.std.specs.Prelude.{ℕ, ◌==◌, List, [], ◌∷◌, if◌then◌else◌}
 use Rattle.std.specs.List.{slice_split, join_with_byte}
 use Rattle.text.specs.Blank.{trim}
@@ -15,7 +15,8 @@ labels_in (p ∷ q ∷ ps) = if is_name (trim p) then trim p ∷ labels_in (q �
 abbrev pub statement_in : List (List ℕ) → List ℕ
 statement_in [] = []
 statement_in (p ∷ []) = trim p
-statement_in (p ∷ q ∷ ps) = if is_name (trim p) then statement_in (q ∷ ps) else trim (join_with_byte 58 (p ∷ q ∷ ps))
+statement_in (p ∷ q ∷ ps) =
+    if is_name (trim p) then statement_in (q ∷ ps) else trim (join_with_byte 58 (p ∷ q ∷ ps))
 
 unfoldable pub labels_of : List ℕ → List (List ℕ)
 labels_of code = labels_in (slice_split (λ b. b == 58) code)

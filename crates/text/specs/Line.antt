@@ -3,8 +3,8 @@ use Rattle.std.specs.Prelude.{ℕ, ◌==◌, List, [], map, Option, Some, None}
 use Rattle.std.specs.List.{slice_split, before_first}
 use Rattle.std.specs.Str.Lines.{strip_carriage_return}
 
--- Lines end by a line feed, and the last one may lack it. A carriage return just before a line feed,
--- or at the very end, is dropped.
+-- Lines end by a line feed, and the last one may lack it. A carriage return just before a line
+-- feed, or at the very end, is dropped.
 abbrev pub lines_of : List ℕ → List (List ℕ)
 lines_of bytes = map strip_carriage_return (slice_split (λ b. b == 10) bytes)
 

@@ -9,7 +9,8 @@ goes_on_name b = is_ascii_alphanumeric b || (b == 95) || (b == 46)
 
 -- one or more of these, the first of which is no digit
 abbrev pub is_name : List ℕ → Bool
-is_name text = not (length text == 0) && (not (is_ascii_digit (slice_index text 0)) && list_all goes_on_name text)
+is_name text =
+    not (length text == 0) && (not (is_ascii_digit (slice_index text 0)) && list_all goes_on_name text)
 
 -- a tab, or 0x20 to 0x7e
 abbrev pub is_plain : ℕ → Bool

@@ -10,7 +10,8 @@ use Rattle.std.specs.Str.Parse.{digits_value}
 -- one digit or more
 unfoldable pub numeral : ℕ → List ℕ → Option ℕ
 numeral radix text =
-    if (length text == 0) || not (list_all (λ c. is_digit c radix) text) then None else Some (digits_value radix text)
+    if (length text == 0) || not (list_all (λ c. is_digit c radix) text) then None
+    else Some (digits_value radix text)
 
 -- The digits of a decimal number have no leading zero, but for 0 alone.
 abbrev pub has_leading_zero : List ℕ → Bool
@@ -21,7 +22,9 @@ decimal text = if has_leading_zero text then None else numeral 10 text
 
 -- `0x` or `0X`
 abbrev pub starts_hex : List ℕ → Bool
-starts_hex text = nat_lt 1 (length text) && ((slice_index text 0 == 48) && ((slice_index text 1 == 120) || (slice_index text 1 == 88)))
+starts_hex text =
+    nat_lt 1 (length text)
+    && ((slice_index text 0 == 48) && ((slice_index text 1 == 120) || (slice_index text 1 == 88)))
 
 -- a decimal number, or `0x` or `0X` and hexadecimal digits
 unfoldable pub magnitude : List ℕ → Option ℕ
@@ -38,7 +41,9 @@ first_is b text = not (length text == 0) && (slice_index text 0 == b)
 
 -- a digit, `+` or `-` is first
 abbrev pub begins_number : List ℕ → Bool
-begins_number text = not (length text == 0) && ((slice_index text 0 == 43) || ((slice_index text 0 == 45) || is_ascii_digit (slice_index text 0)))
+begins_number text =
+    not (length text == 0)
+    && ((slice_index text 0 == 43) || ((slice_index text 0 == 45) || is_ascii_digit (slice_index text 0)))
 
 -- behind a `+` or a `-`
 abbrev pub without_sign : List ℕ → List ℕ

@@ -25,13 +25,14 @@ only (t ∷ u ∷ ts) = None
 abbrev pub before_close : Option (List ℕ) → Option (List ℕ)
 before_close None = None
 before_close (Some text) =
-    if not (length text == 0) && (slice_index text (length text - 1) == 41) then Some (take (length text - 1) text) else None
+    if not (length text == 0) && (slice_index text (length text - 1) == 41)
+    then Some (take (length text - 1) text) else None
 
 abbrev pub both_trimmed : List ℕ → Option (List ℕ) → Option (List ℕ × List ℕ)
 both_trimmed front None = None
 both_trimmed front (Some inner) = Some (trim front, trim inner)
 
--- What stands before the first `(`, and what stands between it and a `)` at the end. None is for an operand that has
--- no `(`, or another last byte.
+-- What stands before the first `(`, and what stands between it and a `)` at the end. None is for an
+-- operand that has no `(`, or another last byte.
 unfoldable pub parenthesized : List ℕ → Option (List ℕ × List ℕ)
 parenthesized text = both_trimmed (before_first (λ b. b == 40) text) (before_close (after 40 text))

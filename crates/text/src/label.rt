@@ -8,8 +8,8 @@ use crate::blank::trim;
 use crate::cuts::cut;
 use crate::name::is_name;
 
-/// The label at the front of a line, and the text behind its colon. Where no label stands there, the
-/// whole text is the statement.
+/// The label at the front of a line, and the text behind its colon. Where no label stands there,
+/// the whole text is the statement.
 pub fn next_label(code: &[u8]) -> Option<(&[u8], &[u8])>
     ensures label { IfSome result (λ p. labels_of code.now ≡ p.0.now ∷ labels_of p.1.now) }
     ensures statement { IfSome result (λ p. statement_of code.now ≡ statement_of p.1.now) }

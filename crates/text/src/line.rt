@@ -20,7 +20,8 @@ fn without_return(line: &[u8]) -> &[u8]
 
 /// The first line, without what ends it, and what stands behind its line feed, if it has one.
 pub fn next_line(text: &[u8]) -> (&[u8], Option<&[u8]>)
-    ensures lines { lines_of text.now ≡ result.0.now ∷ lines_left (option_map (λ r. r.now) result.1) }
+    ensures lines { lines_of text.now
+        ≡ result.0.now ∷ lines_left (option_map (λ r. r.now) result.1) }
     ensures shorter { IfSome result.1 (λ r. length r.now < length text.now) }
 {
     let (line, rest) = cut(text, b'\n');

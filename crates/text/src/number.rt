@@ -95,8 +95,8 @@ pub fn begins_number(text: &[u8]) -> bool
     !text.is_empty() && (text[0] == b'+' || text[0] == b'-' || text[0].is_ascii_digit())
 }
 
-/// A number modulo 2^32: at most `below` behind a minus, and at most `above` without one. `None` is for
-/// a text that is no number, or one out of this range.
+/// A number modulo 2^32: at most `below` behind a minus, and at most `above` without one. `None` is
+/// for a text that is no number, or one out of this range.
 #[tactic(auto, unfolding(crate::specs::Number::number_in), using(crate::proofs::Numbers::at_most_capped))]
 pub fn number_in(text: &[u8], below: u32, above: u32) -> Option<u32>
     ensures { result ≡ number_in below above text.now }

@@ -28,9 +28,11 @@ pub fn space(part: Option<&[u8]>) -> Result<u32, FaultKind>
 
 /// Adds the bytes of the numbers, the lowest first.
 fn add_numbers(memory: &mut Vec<u8>, part: Option<&[u8]>) -> Result<(), FaultKind>
-    ensures ok { OnOk result (IsAppended (words (operands_left (option_map (λ t. t.now) part.entry)))
+    ensures ok { OnOk result (IsAppended
+        (words (operands_left (option_map (λ t. t.now) part.entry)))
         memory.old.items memory.new.items) }
-    ensures aligned { OnOk result (length memory.old.items % 4 ≡ 0 → length memory.new.items % 4 ≡ 0) }
+    ensures aligned { OnOk result (length memory.old.items % 4 ≡ 0
+        → length memory.new.items % 4 ≡ 0) }
     ensures fault { IfErr result (λ e. e ≢ FaultKind.Memory
         → words (operands_left (option_map (λ t. t.now) part.entry)) ≡ Err e) }
 {
@@ -47,8 +49,10 @@ fn add_numbers(memory: &mut Vec<u8>, part: Option<&[u8]>) -> Result<(), FaultKin
 /// Adds the bytes of `.word`.
 pub fn add_words(memory: &mut Vec<u8>, part: Option<&[u8]>) -> Result<(), FaultKind>
     ensures ok { OnOk result (IsAppended
-        (data_words (operands_left (option_map (λ t. t.now) part.entry))) memory.old.items memory.new.items) }
-    ensures aligned { OnOk result (length memory.old.items % 4 ≡ 0 → length memory.new.items % 4 ≡ 0) }
+        (data_words (operands_left (option_map (λ t. t.now) part.entry)))
+        memory.old.items memory.new.items) }
+    ensures aligned { OnOk result (length memory.old.items % 4 ≡ 0
+        → length memory.new.items % 4 ≡ 0) }
     ensures fault { IfErr result (λ e. e ≢ FaultKind.Memory
         → data_words (operands_left (option_map (λ t. t.now) part.entry)) ≡ Err e) }
 {

@@ -81,8 +81,8 @@ impl<T: Drop> From<AllocFailed<T>> for FaultKind {
     }
 }
 
-/// Why a listing was refused, and the line that has the fault, counted from 1. A listing that is too long as a whole,
-/// and want of memory, have line 0.
+/// Why a listing was refused, and the line that has the fault, counted from 1. A listing that is
+/// too long as a whole, and want of memory, have line 0.
 #[derive(Clone, Copy, Debug, PartialEq, Eq, Error)]
 #[error("line {line}: {kind}")]
 pub struct TextFault {

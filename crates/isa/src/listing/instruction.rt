@@ -74,7 +74,8 @@ fn fill_all<'a>(
         (filled slots.now (operands_left (option_map (λ t. t.now) part.entry)) (view draft.old)
         ≡ Ok (view draft.new)) }
     ensures err { IfErr result (λ e.
-        filled slots.now (operands_left (option_map (λ t. t.now) part.entry)) (view draft.old) ≡ Err e) }
+        filled slots.now (operands_left (option_map (λ t. t.now) part.entry)) (view draft.old)
+        ≡ Err e) }
 {
     let mut rest = part;
     for slot in slots {
@@ -94,7 +95,8 @@ pub fn instruction<'a>(
     part: Option<&'a [u8]>,
 ) -> Result<(), FaultKind>
     ensures ok { OnOk result
-        (instruction word.now (operands_left (option_map (λ t. t.now) part.entry)) ≡ Ok (view draft.new)) }
+        (instruction word.now (operands_left (option_map (λ t. t.now) part.entry))
+        ≡ Ok (view draft.new)) }
     ensures err { IfErr result (λ e.
         instruction word.now (operands_left (option_map (λ t. t.now) part.entry)) ≡ Err e) }
 {

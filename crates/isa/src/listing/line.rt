@@ -30,11 +30,13 @@ pub fn read_line<'a>(
     requires small_memory { length memory.old.items ≤ 65536 }
     ensures small_code { OnOk result (length code.new.items ≤ 16384) }
     ensures small_memory { OnOk result (length memory.new.items ≤ 65536) }
-    ensures aligned { OnOk result (length memory.old.items % 4 ≡ 0 → length memory.new.items % 4 ≡ 0) }
+    ensures aligned { OnOk result (length memory.old.items % 4 ≡ 0
+        → length memory.new.items % 4 ≡ 0) }
     ensures ok { OnOk result ((before : Lines) → length before + 1 ≡ number
         → IsRead before labels.old code.old.items targets.old.items memory.old.items
         → (fault_in before line.entry.now ≡ None)
-        × IsRead (before ++ line.entry.now ∷ []) labels.new code.new.items targets.new.items memory.new.items) }
+        × IsRead (before ++ line.entry.now ∷ []) labels.new code.new.items targets.new.items
+        memory.new.items) }
     ensures fault { IfErr result (λ e. e ≢ FaultKind.Memory → (before : Lines)
         → IsRead before labels.old code.old.items targets.old.items memory.old.items
         → fault_in before line.entry.now ≡ Some e) }

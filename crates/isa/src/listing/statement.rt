@@ -33,7 +33,8 @@ fn with_operands<'a>(
     ensures ok { IfOk result (λ found. IsAdded
         (with_operands word.now (operands_left (option_map (λ t. t.now) part.entry)))
         (code_if found (view draft.new)) memory.old.items memory.new.items) }
-    ensures aligned { OnOk result (length memory.old.items % 4 ≡ 0 → length memory.new.items % 4 ≡ 0) }
+    ensures aligned { OnOk result (length memory.old.items % 4 ≡ 0
+        → length memory.new.items % 4 ≡ 0) }
     ensures fault { IfErr result (λ e. e ≢ FaultKind.Memory
         → with_operands word.now (operands_left (option_map (λ t. t.now) part.entry)) ≡ Err e) }
 {
@@ -50,8 +51,8 @@ fn with_operands<'a>(
     Ok(true)
 }
 
-/// Reads a statement. The bytes of a directive are added to the memory. Where the statement is an instruction, the
-/// answer is yes, and the draft is that instruction.
+/// Reads a statement. The bytes of a directive are added to the memory. Where the statement is an
+/// instruction, the answer is yes, and the draft is that instruction.
 pub fn statement<'a>(
     memory: &mut Vec<u8>,
     draft: &mut Draft<'a>,
@@ -60,7 +61,8 @@ pub fn statement<'a>(
     requires small { length memory.old.items ≤ 65536 }
     ensures ok { IfOk result (λ found. IsAdded (statement text.now) (code_if found (view draft.new))
         memory.old.items memory.new.items) }
-    ensures aligned { OnOk result (length memory.old.items % 4 ≡ 0 → length memory.new.items % 4 ≡ 0) }
+    ensures aligned { OnOk result (length memory.old.items % 4 ≡ 0
+        → length memory.new.items % 4 ≡ 0) }
     ensures fault { IfErr result (λ e. e ≢ FaultKind.Memory → statement text.now ≡ Err e) }
 {
     if text.is_empty() {

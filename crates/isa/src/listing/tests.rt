@@ -185,7 +185,8 @@ fn limits_are_exact(rt: HostRuntime) -> Result<(), Fail> {
     Ok(())
 }
 
-// what a beginning of a line is: all right (o), an unknown word (u), bad operands (p) or a bad number (n)
+// what a beginning of a line is: all right (o), an unknown word (u), bad operands (p) or a bad
+// number (n)
 fn judged(line: u64, code: u8) -> Option<TextFault> {
     let kind = match code {
         b'u' => FaultKind::UnknownOp,

@@ -18,5 +18,5 @@ invariant_of-seat c =
     let seat = of_seat _ value _ _ c.args.seat.now c.args.self.now c.seat.view_is c.requires.core in
     let same : unit_at value ≡ unit_at key = seat ∙ sym table in
     let was : IsSeated key.program (sizes_of key) Front s.id station over s.me = subst (λ (z : Unit_of). IsSeated z.0 z.1 Front s.id station over s.me) same c.seat.invariant in
-    let out : IsSeated key.program (sizes_of key) Front s.id station over me = seated_asked key.program (sizes_of key) s.id station over s.me.0.seen me c.args.station c.args.tag c.args.k c.args.from.0 c.args.from.1 c.ask_creator.result was.knows.2 c.ask_creator.ensures.front (c.ask_creator.ensures.slots ∙ was.slots) c.ask_creator.ensures.reply c.ask_creator.ensures.next in
+    let out : IsSeated key.program (sizes_of key) Front s.id station over me = seated_asked key.program (sizes_of key) s.id station over s.me.0.seen me c.args.station c.args.tag c.args.k c.args.from.0 c.args.from.1 c.ask_creator.result was.inside was.knows.2 c.ask_creator.ensures.front (c.ask_creator.ensures.slots ∙ was.slots) c.ask_creator.ensures.reply c.ask_creator.ensures.next in
     subst (λ (z : Unit_of × ℕ). IsSeated z.0.0 z.0.1 Front z.1 station over me) (λ i. (sym same i, sym c.ask_creator.ensures.same.1 i)) out
