@@ -310,34 +310,3 @@ pub fn run<'x, P: Predictor + Drop + Send, G: Gate + Sync, R: Threads + Wait + S
         Err(_) => Run::Refused(Refusal::Memory),
     }
 }
-
-#[derive(Drop)]
-pub struct Hand {
-    seat: UnitSeat,
-}
-
-impl std::marker::Model for Hand {
-    ghost use Rattle.station.specs.Seats.{Caller};
-
-    ghost Value = { Caller };
-
-    ghost view = { λ h. h.seat };
-}
-
-fn eat_hand(hand: Hand) {
-    let _ = hand;
-}
-
-fn eat_seat(seat: UnitSeat) {
-    let _ = seat;
-}
-
-pub fn try_hand<'s, E: 's>(scope: &Scope<'s, E>, hand: Hand) -> bool {
-    let job = move || eat_hand(hand);
-    scope.spawn(job).is_ok()
-}
-
-pub fn try_seat<'s, E: 's>(scope: &Scope<'s, E>, seat: UnitSeat) -> bool {
-    let job = move || eat_seat(seat);
-    scope.spawn(job).is_ok()
-}
