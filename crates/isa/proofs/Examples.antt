@@ -1,12 +1,11 @@
 -- Operands and listings at the edges, computed by the definitions.
-use Rattle.std.proofs.Common.{◌≡◌, List, [], ◌∷◌, ◌++◌, Ok, Err, refl}
+use Rattle.std.proofs.Common.{◌≡◌, [], ◌∷◌, ◌++◌, Ok, Err, refl}
 use Rattle.std.specs.Prelude.{codes}
 use Rattle.text.specs.Label.{labels_of, statement_of}
 use Rattle.text.specs.Operand.{operands, parenthesized}
 use Rattle.text.specs.Number.{number_in, decimal_in, magnitude, decimal, numeral}
-use Rattle.isa.specs.declared.op.Op.TheVariants.{Addiu, J, Jal, Jalr, Sll, Sw, Break}
-use Rattle.isa.specs.declared.listing.fault.FaultKind.TheVariants.{NotAscii, UnknownOp, BadRegister, BadNumber, BadOperands, UnknownLabel, DoubleLabel, TooLong}
-use Rattle.isa.specs.Programs.{Program}
+use Rattle.isa.specs.declared.op.Op.TheVariants.{J, Jalr, Sll, Break}
+use Rattle.isa.specs.declared.listing.fault.FaultKind.TheVariants.{NotAscii, UnknownOp, BadRegister, BadNumber, BadOperands, UnknownLabel, DoubleLabel}
 use Rattle.isa.specs.RegisterNames.{register, register_number}
 use Rattle.isa.specs.Operands.{number, offset_and_register}
 use Rattle.isa.specs.Forms.{is_operation, form_with}

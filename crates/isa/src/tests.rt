@@ -245,19 +245,31 @@ fn sorts_operations(rt: HostRuntime) {
 
 #[test]
 fn a_copy_is_the_same_program(rt: HostRuntime) -> Result<(), Fail> {
-    let text = b".word 258\naddiu $4,$5,-1\nsw $6,8($7)\nbeq $0,$0,L\nL: jal L";
-    let program = parse(rt.alloc(), text).map_err(|_| "refused")?;
+    let program = parse(rt.alloc(), b".word 258\nj L\nL: break").map_err(|_| "refused")?;
     let copy = program.copied(rt.alloc()).map_err(|_| "no memory")?;
-    assert_eq!(rt; copy.size(), 4);
     assert_eq!(rt; copy.bytes(), [2u8, 1, 0, 0].as_slice());
     assert_eq!(rt; copy.byte(1), 1);
+    assert_eq!(rt; copy.size(), 4);
     assert!(rt; !copy.is_empty());
-    assert_eq!(rt; copy.len(), 4);
-    assert_eq!(rt; copy.fetch(0x0040_0000), Some(*copy.instr(0)));
-    assert_eq!(rt; copy.fetch(0x0040_000c), Some(*copy.instr(3)));
-    assert_eq!(rt; copy.fetch(0x0040_0010), None);
-    assert_eq!(rt; copy.fetch(0x0040_0002), None);
-    assert_eq!(rt; copy.fetch(0), None);
+    assert_eq!(rt; copy.len(), 2);
+    assert_eq!(rt; copy.instr(1).op(), Op::Break);
+    Ok(())
+}
+
+#[test]
+fn instructions_are_fetched_at_their_addresses(rt: HostRuntime) -> Result<(), Fail> {
+    let program = parse(rt.alloc(), b"j L\nL: break").map_err(|_| "refused")?;
+    let cases: [(u32, Option<Op>); 5] = [
+        (0x0040_0000, Some(Op::J)),
+        (0x0040_0004, Some(Op::Break)),
+        (0x0040_0008, None),
+        (0x0040_0002, None),
+        (0, None),
+    ];
+    for (pc, op) in cases {
+        let found = program.fetch(pc);
+        assert_eq!(rt; found.map(|instr| instr.op()), op);
+    }
     Ok(())
 }
 

@@ -1,5 +1,5 @@
 -- The steps of a question, one after another.
-use Rattle.std.proofs.Common.{◌≡◌, ◌≢◌, ◌⊎◌, ℕ, ◌%◌, ◌<◌, ◌==◌, Bool, true, List, [], ◌∷◌, ◌++◌, map, Option, Some, None, refl, sym, ap, ◌∙◌, subst, inl, inr, ⊎_elim, arith}
+use Rattle.std.proofs.Common.{◌≡◌, ℕ, ◌%◌, ◌<◌, ◌==◌, Bool, true, List, [], ◌∷◌, ◌++◌, map, Some, refl, sym, ap, ◌∙◌, subst, inl, inr, ⊎_elim}
 use Rattle.std.specs.Prelude.{is_none}
 use prog.Atomic.{either}
 use Rattle.atomic_table.specs.Table.{Me}
@@ -13,14 +13,14 @@ use Rattle.inorder.specs.declared.history.Mark.TheVariants.{Asked}
 use Rattle.inorder.specs.declared.history.Source.{Source}
 use Rattle.inorder.specs.declared.history.Source.TheVariants.{First, Second}
 use Rattle.inorder.specs.declared.history.Step.{Step}
-use Rattle.inorder.specs.declared.history.Step.TheVariants.{Let, On}
+use Rattle.inorder.specs.declared.history.Step.TheVariants.{On}
 use Rattle.inorder.specs.Callers.{CanAsk, HasAsked, HasMade, IsLastAt}
 use Rattle.inorder.specs.History.{Adds, IsLegal, entry, front, own, unit_of}
 use Rattle.inorder.specs.Legal.{Allowed, applied, changed}
-use Rattle.inorder.specs.Replies.{Has, IsAskedInTime, IsDelivered, last_tag}
+use Rattle.inorder.specs.Replies.{Has, IsAskedInTime, IsDelivered}
 use Rattle.inorder.specs.Steps.{delivered, linked}
 use Rattle.inorder.specs.Tenants.{IsThere, Tenant, on_path, operand}
-use Rattle.inorder.specs.Unit.{Sizes, UpdateUnit, at, how_many, next_station, older, recent, value_of, younger}
+use Rattle.inorder.specs.Unit.{Sizes, UpdateUnit, how_many, next_station, older, recent, value_of, younger}
 use Rattle.inorder.proofs.Basics.{split_at}
 use Rattle.inorder.proofs.Ends.{Acted, exact}
 use Rattle.inorder.proofs.Histories.{legal_before, starts_longer, unit_sound}
@@ -28,7 +28,6 @@ use Rattle.inorder.proofs.Kept.{parts}
 use Rattle.inorder.proofs.Letting.{IsBesides}
 use Rattle.inorder.proofs.Moves.{came}
 use Rattle.inorder.proofs.Serving.{linked_creator, linked_way}
-use Rattle.inorder.proofs.Sound.{IsSound}
 use Rattle.ruu_words.specs.declared.place.Place.{Place}
 use Rattle.ruu_words.specs.declared.place.Place.TheVariants.{Link as LinkPlace, Operand, Station}
 use Rattle.ruu_words.specs.declared.rule.Draft.{Draft}
@@ -77,7 +76,7 @@ to_link : (k : Source) (q : ℕ) (t : Tenant) → HasAsked k q t → HasLink k q
 to_link k q t a = record { in_time = a.in_time; way = a.way; creator = a.creator }
 
 -- less is said of a tenant
-weaker : (U : UpdateUnit) (p s g : ℕ) (F G : Tenant → Type 0) → ((t : Tenant) → F t → G t) → IsTenant U p s g F → IsTenant U p s g G
+pub weaker : (U : UpdateUnit) (p s g : ℕ) (F G : Tenant → Type 0) → ((t : Tenant) → F t → G t) → IsTenant U p s g F → IsTenant U p s g G
 weaker U p s g F G f i = record { tenant = i.tenant; is = i.is; station_is = i.station_is; tag_is = i.tag_is; fact = f i.tenant i.fact }
 
 module _ (P : Program) (C : Sizes) where
@@ -132,14 +131,14 @@ module _ (P : Program) (C : Sizes) where
 
   -- What stays
 
-  path_stays : (U : UpdateUnit) (by : ℕ) (s : Step) → IsBesides s → Allowed P C U by s → (r : ℕ) → Has U r (λ t. on_path t ≡ true) → Has (applied P C U by s) r (λ t. on_path t ≡ true)
+  pub path_stays : (U : UpdateUnit) (by : ℕ) (s : Step) → IsBesides s → Allowed P C U by s → (r : ℕ) → Has U r (λ t. on_path t ≡ true) → Has (applied P C U by s) r (λ t. on_path t ≡ true)
   path_stays U by s b a r i = ⊎_elim
       (λ e. record { tenant = i.tenant; is = e; fact = i.fact })
       (λ (z : Acted P U by s (applied P C U by s).tenants r i.tenant).
       record { tenant = changed P by z.act i.tenant (older U.tenants r); is = z.now; fact = path_on P by z.act (younger U.tenants r) i.tenant (older U.tenants r) (subst IsBesides z.step b) z.may i.fact })
       (exact P C U by s a r i.tenant i.is)
 
-  last_on : (r s : ℕ) (more seen : List Entry) → IsLegal P C (more ++ seen) → own front more ≡ [] → IsLastAt (unit_of P C seen) r s → IsLastAt (unit_of P C (more ++ seen)) r s
+  pub last_on : (r s : ℕ) (more seen : List Entry) → IsLegal P C (more ++ seen) → own front more ≡ [] → IsLastAt (unit_of P C seen) r s → IsLastAt (unit_of P C (more ++ seen)) r s
   last_on r s more seen legal none last = front_stays P C (λ U. IsLastAt U r s) (λ U by st b a ok x. last_stays P C U by st b a ok r s x) more seen legal none last
 
   -- also under the front's link
@@ -375,6 +374,42 @@ module _ (P : Program) (C : Sizes) where
 
       pub delivered_out : IsEnded
       delivered_out = ⊎_elim (λ hit. hit_end hit.1) (λ miss. miss_end miss.1 miss.2) told_end.1
+
+  -- The same, where the steps tell the rest
+
+  pub asked_now : {by s g a b : ℕ} {k : Source} {u v : View} → by ≡ front → MayAsk P C u.seen s g k a b → Grows P C by u v (Links P C s g k) → IsAskedNow by s g k a b u.seen v
+  asked_now {by} {s} {g} {a} {b} {k} {u} {v} is may e = asks_out by s g k a b u v is may e
+
+  pub found_by : (n : ℕ) → {by id s g a b : ℕ} {k : Source} {v w : View} → id ≡ by → Grows P C id v w (Finds P C s g k a b n) → Grows P C by v w (Finds P C s g k a b n)
+  found_by n {by} {id} {s} {g} {a} {b} {k} {v} {w} same e = subst (λ i. Grows P C i v w (Finds P C s g k a b n)) same e
+
+  -- what is so behind a look that finds a creator with nothing made
+  pub record IsLinked (by s g : ℕ) (k : Source) (a b : ℕ) (old : List Entry) (w : View) : Type 0 where
+    pub reply : AskAnswers P C by old w.seen s g k a b Linked
+    pub next : Next w.seen ≡ Next old
+
+  pub is_linked : (n : ℕ) → {by s g a b : ℕ} {k : Source} {old : List Entry} {v w : View} → by ≡ front → IsAskedNow by s g k a b old v → Grows P C by v w (Finds P C s g k a b n) → IsUnmade (state_of n) → IsLinked by s g k a b old w
+  is_linked n {by} {s} {g} {a} {b} {k} {old} {v} {w} is x e un = record { reply = linked_out by s g k a b n old v w is x e un; next = linked_next by s g k a b n old v w is x e un }
+
+  pub quiet_found : (n : ℕ) → {by s g a b : ℕ} {k : Source} {old : List Entry} {v w : View} → by ≡ front → IsAskedNow by s g k a b old v → Grows P C by v w (Finds P C s g k a b n) → w.draft ≡ Nothing
+  quiet_found n {by} {s} {g} {a} {b} {k} {old} {v} {w} is x e = quiet_mid by s g k a b n old v w is x e
+
+  pub answered_by : (n : ℕ) → {by s g a b tag value : ℕ} {k : Source} {old : List Entry} {v w : View} → tag ≡ g → value ≡ value_in n → by ≡ front → IsAskedNow by s g k a b old v → Grows P C by v w (Finds P C s g k a b n) → IsMade (state_of n) → CanAnswer P C w.seen s tag k value
+  answered_by n {by} {s} {g} {a} {b} {tag} {value} {k} {old} {v} {w} tag_is value_is is x e made =
+      subst (λ (z : ℕ × ℕ). CanAnswer P C w.seen s z.0 k z.1) (λ i. (sym tag_is i, sym value_is i)) (can_answer by s g k a b n old v w is x e made)
+
+  -- and behind the exchange
+  pub record IsAnswered (by s g : ℕ) (k : Source) (a b : ℕ) (old : List Entry) (y : View) : Type 0 where
+    pub reply : AskAnswers P C by old y.seen s g k a b Delivered
+    pub next : Next y.seen ≡ Next old
+    pub draft : y.draft ≡ Nothing
+
+  pub is_answered : (n o m : ℕ) → {by id s g tag a b : ℕ} {k : Source} {old : List Entry} {v w y : View} → by ≡ front → IsAskedNow by s g k a b old v → Grows P C by v w (Finds P C s g k a b n) → IsMade (state_of n) → id ≡ by → tag ≡ g → Grows P C id w y (Ends P C s tag k o m)
+      → IsAnswered by s g k a b old y
+  is_answered n o m {by} {id} {s} {g} {tag} {a} {b} {k} {old} {v} {w} {y} is x e made same tag_is f =
+      let f' : Grows P C by w y (Ends P C s g k o m) = subst (λ (z : ℕ × ℕ). Grows P C z.0 w y (Ends P C s z.1 k o m)) (λ i. (same i, tag_is i)) f in
+      let end = delivered_out by s g k a b n old v w is x e made o m y f' in
+      record { reply = end.reply; next = end.next; draft = quiet_end by s g k a b n old v w is x e made o m y f' }
 
 -- the front's seat behind it
 pub seated_asked : (P : Program) (C : Sizes) (by station : ℕ) (over : Bool) (old : List Entry) (me : Me ℕ View) (s g : ℕ) (k : Source) (a b : ℕ) (answer : Ask) → station < C.ring → station ≡ next_station C (recent (unit_of P C old)) → IsFronts by Nothing me → me.1 ≡ [] → AskAnswers P C by old me.0.seen s g k a b answer

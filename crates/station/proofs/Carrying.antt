@@ -1,5 +1,5 @@
 -- A value goes along the links of its station.
-use Rattle.std.proofs.Common.{◌≡◌, ◌≢◌, ◌⊎◌, ℕ, suc, ◌<◌, ◌≤◌, Bool, true, false, cond, eqb, List, [], ◌∷◌, ◌++◌, map, length, Some, refl, sym, ap, ◌∙◌, subst, inl, inr, ⊎_elim, arith}
+use Rattle.std.proofs.Common.{◌≡◌, ◌≢◌, ◌⊎◌, ℕ, suc, ◌<◌, ◌≤◌, Bool, true, false, cond, eqb, List, [], ◌∷◌, ◌++◌, map, length, Some, refl, sym, ap, ◌∙◌, subst, inl, ⊎_elim, arith}
 use Rattle.std.specs.List.{AllByRecursion}
 use mathlib.Core.Logic.{dite}
 use native.Mathlib.Decide.{ℕ_discrete}
@@ -14,7 +14,7 @@ use Rattle.inorder.specs.declared.history.Source.TheVariants.{First, Second}
 use Rattle.inorder.specs.declared.history.Step.TheVariants.{On}
 use Rattle.inorder.specs.Callers.{HasMade, IsServed}
 use Rattle.inorder.specs.History.{Adds, IsLegal, IsUnitOrBack, entry, taken_of, unit_of}
-use Rattle.inorder.specs.Legal.{Allowed, applied}
+use Rattle.inorder.specs.Legal.{Allowed}
 use Rattle.inorder.specs.Replies.{Has, IsDelivered}
 use Rattle.inorder.specs.Steps.{delivered}
 use Rattle.inorder.specs.Tenants.{Live, Tenant, operand}
@@ -24,13 +24,12 @@ use Rattle.inorder.proofs.Moves.{IsActed, IsLeft, at_changed, goes}
 use Rattle.inorder.proofs.Serving.{AreLinked, are_small, made_stays, served_stays}
 use Rattle.inorder.proofs.Tags.{AreTagged, tagged}
 use Rattle.ruu_words.specs.declared.place.Place.{Place}
-use Rattle.ruu_words.specs.declared.rule.Draft.{Draft}
 use Rattle.ruu_words.specs.declared.rule.Role.{Role}
 use Rattle.ruu_words.specs.declared.rule.Role.TheVariants.{Back, Front, Spent, Start, Worker}
 use Rattle.ruu_words.specs.declared.rule.View.{View}
 use Rattle.ruu_words.specs.Content.{NamesLink}
 use Rattle.ruu_words.specs.Fields.{consumer_of, pack_link, producer_of, tag_of}
-use Rattle.ruu_words.specs.Kinds.{Delivers, Finds, HasLink, IsAny, IsTenant, ReadsLink, Walks}
+use Rattle.ruu_words.specs.Kinds.{Delivers, Finds, HasLink, IsAny, IsTenant, ReadsLink}
 use Rattle.ruu_words.specs.Rule.{Grows, IsAlive, IsCaller}
 use Rattle.ruu_words.proofs.Building.{marks}
 use Rattle.ruu_words.proofs.Delivery.{link_on}

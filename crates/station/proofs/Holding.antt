@@ -14,17 +14,15 @@ use Rattle.inorder.specs.declared.history.Act.TheVariants.{Claim, Deliver, Finis
 use Rattle.inorder.specs.declared.history.Entry.{Entry}
 use Rattle.inorder.specs.declared.history.Event.{Event}
 use Rattle.inorder.specs.declared.history.Event.TheVariants.{Does, Marks, Refuses}
-use Rattle.inorder.specs.declared.history.Refusal.TheVariants.{Stale}
-use Rattle.inorder.specs.declared.history.Source.{Source}
 use Rattle.inorder.specs.declared.history.Source.TheVariants.{First, Second}
 use Rattle.inorder.specs.declared.history.Step.{Step}
 use Rattle.inorder.specs.declared.history.Step.TheVariants.{Let, On}
 use Rattle.inorder.specs.Callers.{IsHeld, IsReady}
 use Rattle.inorder.specs.History.{Adds, IsLegal, MayAdd, entry, own, unit_of}
 use Rattle.inorder.specs.Legal.{Allowed, May, applied, changed}
-use Rattle.inorder.specs.Replies.{Has, IsNamed, JobFields, job_of, needed}
+use Rattle.inorder.specs.Replies.{Has, JobFields, job_of, needed}
 use Rattle.inorder.specs.Steps.{CanRetire, new_tenant}
-use Rattle.inorder.specs.Tenants.{Busy, Live, Squashed, Tenant, kind_of, missing_of, needs, operand_value}
+use Rattle.inorder.specs.Tenants.{Tenant, kind_of, missing_of, needs, operand_value}
 use Rattle.inorder.specs.Unit.{Sizes, UpdateUnit, at, older, younger}
 use Rattle.inorder.proofs.Histories.{own-append, unit_lasts, unit_sound}
 use Rattle.inorder.proofs.Moves.{Goes, IsActed, IsLeft, at_changed, goes}

@@ -16,4 +16,5 @@ pub mod Carrying
 pub mod Writing
 pub mod Asking
 pub mod Holding
+pub mod Staying
 pub mod Squashing

@@ -1,5 +1,5 @@
 -- The exchanges of a writeback, and what is carried behind them.
-use Rattle.std.proofs.Common.{◌≡◌, ◌≢◌, ◌⊎◌, ℕ, ◌<◌, Bool, cond, List, [], ◌∷◌, ◌++◌, map, length, Some, refl, sym, ap, ◌∙◌, subst, inl, inr, ⊎_elim, arith}
+use Rattle.std.proofs.Common.{◌≡◌, ◌≢◌, ℕ, ◌<◌, Bool, cond, List, [], ◌∷◌, ◌++◌, map, length, Some, refl, sym, ap, ◌∙◌, subst, inl, inr, ⊎_elim}
 use Rattle.std.specs.List.{AllByRecursion}
 use Rattle.atomic_table.specs.Table.{Me}
 use Rattle.isa.specs.Operations.{outcome, outcome_by}
@@ -21,11 +21,11 @@ use Rattle.inorder.specs.Callers.{CanLoad, HasJob}
 use Rattle.inorder.specs.History.{Adds, IsLegal, back, entry, own, unit_of}
 use Rattle.inorder.specs.Legal.{Allowed, changed}
 use Rattle.inorder.specs.Memory.{load_value}
-use Rattle.inorder.specs.Replies.{IsNamed, IsSquashed, IsStale, JobFields, last_tag, needed}
+use Rattle.inorder.specs.Replies.{IsNamed, IsSquashed, IsStale, JobFields, last_tag}
 use Rattle.inorder.specs.StationWords.{station_word}
 use Rattle.inorder.specs.Steps.{finished}
 use Rattle.inorder.specs.Tenants.{Live, Squashed, Tenant, computed, kind_of, needs}
-use Rattle.inorder.specs.Unit.{Sizes, UpdateUnit, at, older, recent}
+use Rattle.inorder.specs.Unit.{Sizes, at, older}
 use Rattle.inorder.proofs.Moves.{IsActed, IsLeft, at_changed}
 use Rattle.inorder.proofs.Serving.{are_inside, are_small}
 use Rattle.inorder.proofs.Tags.{same_place}

@@ -6,14 +6,19 @@ use Rattle.inorder.specs.declared.history.Act.TheVariants.{Finish as FinishIt}
 use Rattle.inorder.specs.declared.history.Entry.{Entry}
 use Rattle.inorder.specs.declared.history.Event.{Event}
 use Rattle.inorder.specs.declared.history.Event.TheVariants.{Does}
+use Rattle.inorder.specs.declared.history.Source.{Source}
 use Rattle.inorder.specs.declared.history.Step.TheVariants.{On}
-use Rattle.inorder.specs.History.{Adds}
+use Rattle.inorder.specs.History.{Adds, back, front, unit_of}
 use Rattle.inorder.specs.Unit.{Sizes}
 use Rattle.station.specs.declared.answers.Claim.{Claim}
 use Rattle.station.specs.declared.answers.Finish.{Finish}
 use Rattle.station.specs.declared.answers.Job.{Job}
+use Rattle.station.specs.declared.answers.Tenant.{Tenant}
+use Rattle.station.specs.Asking.{MayAsk}
 use Rattle.station.specs.Claiming.{ClaimAnswers, Holds}
-use Rattle.station.specs.Writeback.{FinishAnswers}
+use Rattle.station.specs.Letting.{MayLetOut}
+use Rattle.station.specs.Recovery.{MaySquash, SeesMiss}
+use Rattle.station.specs.Writeback.{FinishAnswers, MaySettle}
 
 -- Tenant p is not finished by it
 abbrev pub IsNoFinish : ℕ → Event → Type 0
@@ -46,3 +51,21 @@ abbrev pub JobsStayFinishing : Type 0
 JobsStayFinishing =
     (P : Program) (C : Sizes) (by : ℕ) (old new : List Entry) (other : Job) (answer : Finish) (j : Job) →
     Holds P C by old j → AreTwo j other → FinishAnswers P C by old new other answer → Holds P C by new j
+
+-- What the front might do it still may, where it has only looked and met since
+pub record FrontMays (P : Program) (C : Sizes) (old new : List Entry) : Type 0 where
+  pub lets : (t : Tenant) → MayLetOut P C (unit_of P C old) t → MayLetOut P C (unit_of P C new) t
+  pub asks : (station tag : ℕ) (k : Source) (from_station from_tag : ℕ) →
+      MayAsk P C old station tag k from_station from_tag → MayAsk P C new station tag k from_station from_tag
+  pub squashes : MaySquash P C old → MaySquash P C new
+  pub mends : (station : ℕ) → SeesMiss P C old station → SeesMiss P C new station
+
+abbrev pub FrontsStay : Type 0
+FrontsStay =
+    (P : Program) (C : Sizes) (old new : List Entry) → Adds P C front old new [] → FrontMays P C old new
+
+-- and so the back
+abbrev pub BacksStay : Type 0
+BacksStay =
+    (P : Program) (C : Sizes) (old new : List Entry) (station tag value : ℕ) →
+    Adds P C back old new [] → MaySettle P C old station tag value → MaySettle P C new station tag value

@@ -24,6 +24,9 @@ pub use answers::{
 };
 pub use cores::Core;
 pub use inorder::history::Source;
-pub use laws::jobs_stay;
+pub use laws::{jobs_stay, mays_stay};
 pub use ruu_words::StationState;
 pub use seat::{BackSeat, FrontSeat, Part, SeatOf, UnitSeat};
+
+#[cfg(test)]
+mod tests;

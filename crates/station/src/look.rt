@@ -1,6 +1,7 @@
 //! Reading calls.
-ghost use Rattle.std.specs.Prelude.{◌≡◌, ◌<◌, []};
+ghost use Rattle.std.specs.Prelude.{◌≡◌, ◌<◌, ◌≤◌, []};
 ghost use Rattle.inorder.specs.History.{Adds};
+ghost use Rattle.inorder.specs.Replies.{last_tag};
 ghost use Rattle.ruu_words.specs.Places.{IsPlace};
 ghost use Rattle.station.specs.Looking.{SeesInfo, SeesOperand, SeesStation, SeesWord};
 ghost use Rattle.station.specs.Seats.{IsSame};
@@ -32,6 +33,7 @@ impl Core {
         ensures kept { IsSame seat.old seat.new }
         ensures history { Adds self.now.program self.now.sizes seat.old.by seat.old.seen seat.new.seen [] }
         ensures reply { SeesStation self.now.program self.now.sizes seat.new.seen station result }
+        ensures tag { result.tag ≤ last_tag }
     {
         let word = self.read(seat, Place::Station(station));
         let StationWord { tag, state, value } = StationWord::unpack(word);

@@ -1,7 +1,7 @@
 //! The words of results, and what links say.
-ghost use Rattle.std.specs.Prelude.{ℕ, ◌≡◌, ◌<◌, IsTrue, false};
+ghost use Rattle.std.specs.Prelude.{◌≡◌, ◌<◌, IsTrue, false};
 ghost use Rattle.inorder.specs.StationWords.{live_word};
-ghost use Rattle.inorder.specs.Tenants.{Addr, Busy, Stopped};
+ghost use Rattle.inorder.specs.Tenants.{Addr, Stopped};
 ghost use Rattle.isa.specs.declared.stop.Outcome.TheVariants.{Next};
 ghost use Rattle.ruu_words.specs.Content.{IsOperandOf, IsStation};
 ghost use Rattle.ruu_words.specs.Fields.{consumer_of, pack_link, producer_of, state_of, tag_count};
@@ -11,19 +11,6 @@ ghost use Rattle.station.specs.Writeback.{val_word, wait_word};
 use crate::words::done_word;
 use isa::{Outcome, Stop};
 use ruu_words::{LinkWord, OperandState, OperandWord, StationState, StationWord};
-
-/// The word of a tenant that a unit has claimed.
-pub(crate) fn claimed_word(tag: u32) -> u64
-    requires { tag < tag_count }
-    ensures { (by : ℕ) → IsStation (live_word tag (Busy by)) result }
-{
-    let word = StationWord {
-        tag,
-        state: StationState::Busy,
-        value: 0,
-    };
-    word.pack()
-}
 
 /// The word of a load or store with its address.
 pub(crate) fn address_word(tag: u32, address: u32) -> u64

@@ -10,11 +10,11 @@ ghost use Rattle.station.specs.Writeback.{FinishAnswers, MaySettle, SettleAnswer
 
 use crate::answers::{Finish, Job, Settle};
 use crate::cores::Core;
-use crate::results::{address_word, claimed_word, outcome_word};
+use crate::results::{address_word, outcome_word};
 use crate::seat::{BackSeat, UnitSeat};
 use crate::steps::{Words, finish_tenant, look, settle_tenant};
 use crate::walk::{carry, walk};
-use crate::words::{done_word, value_in};
+use crate::words::{busy_word, done_word, value_in};
 use atomic_table::Seat;
 use isa::Outcome;
 use ruu_words::Place;
@@ -49,7 +49,7 @@ fn finish_job(
         a: _,
         b: _,
     } = job;
-    let old = claimed_word(tag);
+    let old = busy_word(tag);
     let new = outcome_word(tag, predicted, outcome);
     let found = finish_tenant(words, ring, seat, station, old, new, predicted, outcome);
     if found != old {

@@ -164,13 +164,16 @@ fn repeated(rt: &HostRuntime, front: &[u8], text: &[u8], count: usize) -> Result
     Ok(all)
 }
 
+// 64 bytes
+const HASHES: &[u8] = b"################################################################";
+
 #[test]
 fn limits_are_exact(rt: HostRuntime) -> Result<(), Fail> {
     let cases: [(&[u8], &[u8], usize, Option<u64>); 8] = [
         (b"", b"nop\n", 16_384, None),
         (b"", b"nop\n", 16_385, Some(16_385)),
-        (b"", b"#", 4_194_304, None),
-        (b"", b"#", 4_194_305, Some(0)),
+        (b"", HASHES, 65_536, None),
+        (b"#", HASHES, 65_536, Some(0)),
         (b".word 0", b",0", 16_383, None),
         (b".word 0", b",0", 16_384, Some(1)),
         (b"", b".space 32768\n", 2, None),

@@ -1,7 +1,6 @@
-use Rattle.std.proofs.Common.{◌≡◌, ℕ, List, sym, ◌∙◌, subst}
-use Rattle.inorder.specs.declared.history.Entry.{Entry}
-use Rattle.ruu_words.specs.Fields.{producer_of, tag_of, value_of}
-use Rattle.ruu_words.specs.Kinds.{Delivers, ReadsLink}
+use Rattle.std.proofs.Common.{◌≡◌, ℕ, sym, ◌∙◌, subst}
+use Rattle.ruu_words.specs.Fields.{producer_of, tag_of}
+use Rattle.ruu_words.specs.Kinds.{Delivers}
 use Rattle.ruu_words.specs.Rule.{Grows, sizes_of}
 use Rattle.station.specs.Writeback.{CanDeliver}
 use Rattle.station.proofs.Carrying.{can_deliver, serves_nobody, serves_one}

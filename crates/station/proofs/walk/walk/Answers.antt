@@ -1,6 +1,5 @@
-use Rattle.std.proofs.Common.{◌≡◌, ℕ, suc, ◌+◌, ◌∙◌, arith}
+use Rattle.std.proofs.Common.{◌≡◌, ℕ, ◌+◌, ◌∙◌, arith}
 use Rattle.inorder.specs.declared.history.Source.TheVariants.{First, Second}
-use Rattle.inorder.specs.History.{IsLegal}
 use Rattle.ruu_words.specs.Rule.{sizes_of}
 use Rattle.station.specs.Carrying.{HasValueOf}
 use Rattle.station.proofs.Carrying.{all_served, carries_both, legal_behind, value_behind, walks_away}

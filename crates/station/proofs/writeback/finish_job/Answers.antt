@@ -1,4 +1,4 @@
-use Rattle.std.proofs.Common.{◌≡◌, ◌<◌, ℕ, sym, ◌∙◌, subst, refl, arith}
+use Rattle.std.proofs.Common.{◌≡◌, ◌<◌, sym, subst, refl, arith}
 use Rattle.inorder.specs.declared.history.Act.TheVariants.{Finish}
 use Rattle.inorder.specs.Callers.{HasJob}
 use Rattle.inorder.specs.StationWords.{live_word}
@@ -10,8 +10,8 @@ use Rattle.station.specs.Writeback.{HasTenant}
 use Rattle.station.proofs.Writing.{carried_legal, finish_all, finish_made, finish_out, finish_stale, job_held, station_inside, tag_small}
 use Rattle.station.proofs.writeback.finish_job.Goals as goal
 
-pub claimed_word-old-requires : goal.claimed_word-old-requires
-claimed_word-old-requires c =
+pub busy_word-old-requires : goal.busy_word-old-requires
+busy_word-old-requires c =
     let key = c.args.words.now.key in
     let P = key.program in
     let s = c.args.seat.now in
@@ -41,12 +41,12 @@ finish_tenant-found-requires-clause-place c =
 
 pub finish_tenant-found-requires-clause-old : goal.finish_tenant-found-requires-clause-old
 finish_tenant-found-requires-clause-old c =
-    let is = c.claimed_word-old.ensures c.args.seat.now.id in
+    let is = c.busy_word-old.ensures c.args.seat.now.id in
     record { tag = refl; state = is.state; value = is.value }
 
 pub finish_tenant-found-requires-clause-new : goal.finish_tenant-found-requires-clause-new
 finish_tenant-found-requires-clause-new c =
-    let tag : tag_of c.claimed_word-old.result ≡ c.args.job.tag = (c.claimed_word-old.ensures c.args.seat.now.id).tag in
+    let tag : tag_of c.busy_word-old.result ≡ c.args.job.tag = (c.busy_word-old.ensures c.args.seat.now.id).tag in
     subst (λ g. IsStation (live_word g (fate_of c.args.job.predicted c.args.outcome)) c.outcome_word-new.result) (sym tag) c.outcome_word-new.ensures
 
 pub finish_tenant-found-requires-clause-job : goal.finish_tenant-found-requires-clause-job
@@ -55,7 +55,7 @@ finish_tenant-found-requires-clause-job c =
     let P = key.program in
     let s = c.args.seat.now in
     let job = c.args.job in
-    let tag : tag_of c.claimed_word-old.result ≡ job.tag = (c.claimed_word-old.ensures s.id).tag in
+    let tag : tag_of c.busy_word-old.result ≡ job.tag = (c.busy_word-old.ensures s.id).tag in
     subst (λ g. HasTenant P (sizes_of key) s.me.0.seen job.station g (HasJob P s.id job.predicted c.args.outcome)) (sym tag)
     (job_held P (sizes_of key) s.id s.me.0.seen job c.args.outcome c.requires.job c.requires.outcome)
 
@@ -66,10 +66,10 @@ returns-then-found-old-clause-reply c =
     let C = sizes_of key in
     let s = c.args.seat.now in
     let job = c.args.job in
-    let old = c.claimed_word-old.result in
+    let old = c.busy_word-old.result in
     let n = c.finish_tenant-found.result in
     let w = c.finish_tenant-found.new.seat.me.0 in
-    let step = subst (λ g. Grows P C s.id s.me.0 w (Finishes P C job.station g c.args.outcome old n)) (c.claimed_word-old.ensures s.id).tag c.finish_tenant-found.ensures.step.grows in
+    let step = subst (λ g. Grows P C s.id s.me.0 w (Finishes P C job.station g c.args.outcome old n)) (c.busy_word-old.ensures s.id).tag c.finish_tenant-found.ensures.step.grows in
     finish_stale P C s.id job.station job.tag old n c.args.outcome s.me.0 w step c.if-found-old.true
 
 pub carry-requires-clause-from : goal.carry-requires-clause-from
@@ -88,10 +88,10 @@ carry-requires-clause-made c =
     let C = sizes_of key in
     let s = c.args.seat.now in
     let job = c.args.job in
-    let old = c.claimed_word-old.result in
+    let old = c.busy_word-old.result in
     let n = c.finish_tenant-found.result in
     let w = c.finish_tenant-found.new.seat.me.0 in
-    let step = subst (λ g. Grows P C s.id s.me.0 w (Finishes P C job.station g c.args.outcome old n)) (c.claimed_word-old.ensures s.id).tag c.finish_tenant-found.ensures.step.grows in
+    let step = subst (λ g. Grows P C s.id s.me.0 w (Finishes P C job.station g c.args.outcome old n)) (c.busy_word-old.ensures s.id).tag c.finish_tenant-found.ensures.step.grows in
     finish_made P C s.id job.station job.tag old n c.args.outcome s.me.0 w step c.if-found-old.false
 
 pub returns-clause-legal : goal.returns-clause-legal
@@ -101,10 +101,10 @@ returns-clause-legal c =
     let C = sizes_of key in
     let s = c.args.seat.now in
     let job = c.args.job in
-    let old = c.claimed_word-old.result in
+    let old = c.busy_word-old.result in
     let n = c.finish_tenant-found.result in
     let w = c.finish_tenant-found.new.seat.me.0 in
-    let step = subst (λ g. Grows P C s.id s.me.0 w (Finishes P C job.station g c.args.outcome old n)) (c.claimed_word-old.ensures s.id).tag c.finish_tenant-found.ensures.step.grows in
+    let step = subst (λ g. Grows P C s.id s.me.0 w (Finishes P C job.station g c.args.outcome old n)) (c.busy_word-old.ensures s.id).tag c.finish_tenant-found.ensures.step.grows in
     let out = finish_out P C s.id job.station job.tag old n c.args.outcome s.me.0 w step c.if-found-old.false in
     carried_legal P C s.id c.finish_tenant-found.new.seat.id job.station job.tag Finish c.args.outcome s.me.0.seen w.seen c.carry.new.seat.me.0.seen out c.carry.ensures.carried
 
@@ -115,9 +115,9 @@ returns-clause-reply c =
     let C = sizes_of key in
     let s = c.args.seat.now in
     let job = c.args.job in
-    let old = c.claimed_word-old.result in
+    let old = c.busy_word-old.result in
     let n = c.finish_tenant-found.result in
     let w = c.finish_tenant-found.new.seat.me.0 in
-    let step = subst (λ g. Grows P C s.id s.me.0 w (Finishes P C job.station g c.args.outcome old n)) (c.claimed_word-old.ensures s.id).tag c.finish_tenant-found.ensures.step.grows in
+    let step = subst (λ g. Grows P C s.id s.me.0 w (Finishes P C job.station g c.args.outcome old n)) (c.busy_word-old.ensures s.id).tag c.finish_tenant-found.ensures.step.grows in
     let out = finish_out P C s.id job.station job.tag old n c.args.outcome s.me.0 w step c.if-found-old.false in
     finish_all P C s.id c.finish_tenant-found.new.seat.id job.station job.tag c.args.outcome _ s.me.0.seen w.seen c.carry.new.seat.me.0.seen c.requires.outcome c.finish_tenant-found.ensures.same.1 out c.carry.ensures.carried

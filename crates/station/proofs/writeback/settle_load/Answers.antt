@@ -2,7 +2,7 @@ use Rattle.std.proofs.Common.{◌≡◌, ℕ, [], sym, ◌∙◌, subst, arith}
 use Rattle.inorder.specs.declared.history.Act.TheVariants.{Load}
 use Rattle.ruu_words.specs.declared.place.Place.TheVariants.{Station}
 use Rattle.ruu_words.specs.declared.rule.Role.TheVariants.{Back}
-use Rattle.ruu_words.specs.Fields.{tag_of, value_of}
+use Rattle.ruu_words.specs.Fields.{value_of}
 use Rattle.ruu_words.specs.Kinds.{IsAny, Settles}
 use Rattle.ruu_words.specs.Rule.{Grows, IsCaller, sizes_of}
 use Rattle.station.specs.Steps.{Sees}

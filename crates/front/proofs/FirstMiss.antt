@@ -1,0 +1,112 @@
+-- The miss that a scan finds first is the oldest.
+use Rattle.std.proofs.Common.{◌≡◌, ◌≢◌, ◌⊎◌, ℕ, zero, suc, ◌+◌, ◌<◌, ◌≤◌, List, [], ◌∷◌, ◌++◌, length, map, take, drop, Option, Some, None, refl, sym, ap, ◌∙◌, subst, ⊎_elim, arith, append_assoc}
+use Rattle.std.proofs.lemmas.List.{append-nil, take-append-drop}
+use Rattle.std.specs.List.{AllByRecursion}
+use Rattle.std.specs.Prelude.{slice_get}
+use Rattle.isa.specs.Programs.{Program}
+use Rattle.inorder.specs.declared.history.Entry.{Entry}
+use Rattle.inorder.specs.History.{Adds, IsLegal, StartsWith, front, unit_of}
+use Rattle.inorder.specs.Callers.{IsMissing}
+use Rattle.inorder.specs.Tenants.{Tenant, on_path, stands_on_path}
+use Rattle.inorder.specs.Unit.{Sizes, UpdateUnit, at}
+use Rattle.ruu_words.specs.Kinds.{IsAny, IsTenant}
+use Rattle.ruu_words.proofs.Stays.{any_stays}
+use Rattle.front.specs.declared.record.Record.{Record}
+use Rattle.front.specs.Knows.{IsGone, IsReused, Knows, whats}
+use Rattle.front.specs.Recoveries.{IsCut, IsFirst, IsMissAt, IsNoMiss, squash_event}
+use Rattle.front.specs.declared.recovery.Missed.{Missed}
+use Rattle.station.specs.Recovery.{IsMended as IsMendedThere}
+use Rattle.station.proofs.Adding.{adds_on}
+use Rattle.front.proofs.Recovered.{Mended, mend_done}
+use Rattle.front.specs.Trail.{Note, record_of, trail}
+use Rattle.front.proofs.InQueue.{IsOrdered, IsSplit, drop_get, ordered, split_whats}
+use Rattle.front.proofs.Lists.{all_both, all_front, all_map, all_rest, all_two}
+use Rattle.front.proofs.Misses.{gone_miss, named_miss}
+use Rattle.front.proofs.Named.{notes_noted, one_named}
+use Rattle.front.proofs.Trails.{IsNoted, trail_all}
+
+-- Lists
+
+pub take_whole : (xs : List Record) (n : ℕ) → length xs ≡ n → take n xs ≡ xs
+take_whole [] zero e = refl
+take_whole [] (suc n) e = refl
+take_whole (x ∷ xs) zero e = absurd (omega arith)
+take_whole (x ∷ xs) (suc n) e = ap (λ z. x ∷ z) (take_whole xs n (omega arith))
+
+pub take_fewer : (xs : List Record) (y : Record) (n : ℕ) → n ≤ length xs → take n (xs ++ y ∷ []) ≡ take n xs
+take_fewer [] y zero h = refl
+take_fewer [] y (suc n) h = absurd (omega arith)
+take_fewer (x ∷ xs) y zero h = refl
+take_fewer (x ∷ xs) y (suc n) h = ap (λ z. x ∷ z) (take_fewer xs y n (omega arith))
+
+pub get_taken : (xs : List Record) (i : ℕ) → slice_get (take (i + 1) xs) i ≡ slice_get xs i
+get_taken xs i = let one : i + 1 ≡ suc i = omega arith in ap (λ z. slice_get (take z xs) i) one ∙ go xs i
+  where
+    go : (xs : List Record) (i : ℕ) → slice_get (take (suc i) xs) i ≡ slice_get xs i
+    go [] i = refl
+    go (x ∷ xs) zero = refl
+    go (x ∷ xs) (suc i) = go xs i
+
+of_whats : (Q : Record → Type 0) (xs : List Note) → AllByRecursion Q (whats xs) → AllByRecursion (λ n. Q n.what) xs
+of_whats Q [] a = tt
+of_whats Q (x ∷ xs) a = (a.0, of_whats Q xs a.1)
+
+same_tenant : (t u : Tenant) → Some t ≡ Some u → t ≡ u
+same_tenant t u e = cc e
+
+less_not : (p q : ℕ) → p < q → p ≡ q → ⊥
+less_not p q h e = absurd (omega (arith, h, e))
+
+after_not : (p q : ℕ) → p < q → q < p → ⊥
+after_not p q h e = absurd (omega (arith, h, e))
+
+module _ (P : Program) (C : Sizes) (h : List Entry) (legal : IsLegal P C h) (records : List Record) (base : List ℕ) (k : Knows P C (unit_of P C h) records base)
+    (i : ℕ) (one : Record) (here : slice_get records i ≡ Some one) (first : AllByRecursion (IsNoMiss (unit_of P C h)) (take i records)) where
+  abbrev U : UpdateUnit
+  U = unit_of P C h
+
+  abbrev s : IsSplit k.notes (take i records) one (drop (suc i) records)
+  s = split_whats k.notes (take i records) one (drop (suc i) records) (sym k.are ∙ (sym (take-append-drop i records) ∙ ap (λ z. take i records ++ z) (drop_get records i one here)))
+
+  whole : trail P U.tenants ≡ (k.gone ++ s.before) ++ s.one ∷ s.after
+  whole = k.path ∙ (ap (λ z. k.gone ++ z) s.is ∙ sym (append_assoc k.gone s.before (s.one ∷ s.after)))
+
+  order : IsOrdered (k.gone ++ s.before) s.one s.after
+  order = ordered P U.tenants (k.gone ++ s.before) s.one s.after whole
+
+  noted_all : AllByRecursion (IsNoted P U.tenants) (s.before ++ s.one ∷ s.after)
+  noted_all = subst (AllByRecursion (IsNoted P U.tenants)) s.is (notes_noted P C h legal records base (IsReused U) k)
+
+  abbrev NoMissBefore : Note → Type 0
+  NoMissBefore n = n.at < s.one.at → (x : ℕ) (t : Tenant) → at U.tenants n.at ≡ Some t → ¬ IsMissing x t
+
+  none_before : AllByRecursion NoMissBefore (trail P U.tenants)
+  none_before =
+      let prior : AllByRecursion (λ n. IsNoMiss U n.what) s.before = of_whats (IsNoMiss U) s.before (subst (AllByRecursion (IsNoMiss U)) (sym s.prior) first) in
+      let gone = all_map (IsGone U) NoMissBefore (λ n g lt. gone_miss P C h legal records base k n g) k.gone k.retired in
+      let before = all_two (IsNoted P U.tenants) (λ n. IsNoMiss U n.what) NoMissBefore (λ n a b lt. named_miss P C h legal records base k n a b) s.before (all_front (IsNoted P U.tenants) s.before (s.one ∷ s.after) noted_all) prior in
+      let after = all_map (λ n. s.one.at < n.at) NoMissBefore (λ n gt lt x t is m. after_not n.at s.one.at lt gt) s.after order.after in
+      subst (AllByRecursion NoMissBefore) (sym whole)
+      (all_both NoMissBefore (k.gone ++ s.before) (s.one ∷ s.after) (all_both NoMissBefore k.gone s.before gone before) ((λ lt x t is m. less_not s.one.at s.one.at lt refl), after))
+
+  -- the miss that has its name is the first
+  pub is_first : (new : List Entry) → IsLegal P C new → StartsWith new h → (p : ℕ) → IsTenant (unit_of P C new) p one.station one.tag IsAny → IsFirst U p
+  is_first new new_legal starts p named =
+      let noted : IsNoted P U.tenants s.one = (all_rest (IsNoted P U.tenants) s.before (s.one ∷ s.after) noted_all).0 in
+      let t = noted.tenant in
+      let what : record_of P t ≡ one = noted.what ∙ s.what in
+      let still = any_stays P C s.one.at one.station one.tag starts.more h (subst (IsLegal P C) starts.is new_legal) (record { tenant = t; is = noted.is; station_is = ap (λ (z : Record). z.station) what; tag_is = ap (λ (z : Record). z.tag) what; fact = tt }) in
+      let there : IsTenant (unit_of P C new) s.one.at one.station one.tag IsAny = subst (λ z. IsTenant (unit_of P C z) s.one.at one.station one.tag IsAny) (sym starts.is) still in
+      let same : p ≡ s.one.at = one_named P C new new_legal p s.one.at named.tenant there.tenant named.is there.is (named.station_is ∙ sym there.station_is) (named.tag_is ∙ sym there.tag_is) in
+      λ q x u lt is m. trail_all P NoMissBefore U.tenants none_before q u is (ap stands_on_path m.live) (subst (λ z. q < z) same lt) x u is m
+
+-- The whole recovery
+pub recovered : (P : Program) (C : Sizes) (begin mid old new : List Entry) → IsLegal P C begin → (records : List Record) (base : List ℕ) → Knows P C (unit_of P C begin) records base → (m : Missed) → AllByRecursion (IsNoMiss (unit_of P C begin)) (take m.at records) → Adds P C front begin mid []
+    → (kept : List Record) (kept_base : List ℕ) → kept ≡ take (m.at + 1) records → Knows P C (unit_of P C old) kept kept_base → IsMissAt P C old kept m → length kept ≡ m.at + 1 → (squashed : ℕ) → IsCut P C mid old squashed → IsMendedThere P C front m.station old new → Mended P C begin new kept kept_base m squashed
+recovered P C begin mid old new legal records base k m first adds kept kept_base rest k' i long squashed cut s =
+    let events = map squash_event cut.squashes in
+    let both : Adds P C front begin old events = subst (λ z. Adds P C front begin old z) (append-nil events) (adds_on P C front begin mid old [] events adds cut.adds) in
+    let here : slice_get records m.at ≡ Some i.one = sym (get_taken records m.at) ∙ (ap (λ z. slice_get z m.at) (sym rest) ∙ i.here) in
+    let t = i.miss.tenant in
+    let oldest = is_first P C begin legal records base k m.at i.one here first old both.legal both.begins i.miss.p (record { tenant = t.tenant; is = t.is; station_is = t.station_is; tag_is = t.tag_is; fact = tt }) in
+    mend_done P C begin old new kept kept_base k' m i long oldest squashed (record { squashes = cut.squashes; count = cut.count; adds = both }) s

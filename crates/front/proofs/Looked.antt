@@ -1,0 +1,162 @@
+-- What the looks before a let tell: why nothing can be let, or that it can.
+use Rattle.std.proofs.Common.{◌≡◌, ◌≢◌, ℕ, ◌+◌, ◌<◌, ◌≤◌, true, false, List, [], ◌∷◌, length, Option, Some, None, refl, sym, ap, ◌∙◌, subst, arith, eqb}
+use Rattle.isa.specs.Programs.{Program, instr_at}
+use Rattle.isa.specs.declared.instr.Instr.{Instr}
+use Rattle.inorder.specs.declared.history.Entry.{Entry}
+use Rattle.inorder.specs.declared.history.Step.TheVariants.{Let, On}
+use Rattle.inorder.specs.History.{Adds, IsLegal, front, unit_of}
+use Rattle.inorder.specs.Legal.{Allowed, applied, changed}
+use Rattle.inorder.specs.Replies.{HasNoInstr, IsFull, IsQueueFull, IsSpent, last_tag}
+use Rattle.inorder.specs.Tenants.{Tenant}
+use Rattle.inorder.specs.Unit.{Sizes, UpdateUnit, at, how_many, next_station, next_tag, older, recent, tag_after, younger}
+use Rattle.inorder.proofs.Basics.{split_at}
+use Rattle.inorder.proofs.Kept.{parts}
+use Rattle.inorder.proofs.Moves.{goes}
+use Rattle.inorder.proofs.Tags.{count_same, same_place}
+use Rattle.ruu_words.specs.declared.station.StationState.{StationState}
+use Rattle.ruu_words.specs.declared.station.StationState.TheVariants.{Free}
+use Rattle.ruu_words.specs.Content.{HasValue}
+use Rattle.ruu_words.specs.Kinds.{IsTenant}
+use Rattle.station.specs.declared.answers.Seen.{Seen}
+use Rattle.station.specs.Looking.{SeesStation}
+use Rattle.station.specs.Moments.{WasOnce}
+use Rattle.station.proofs.Adding.{adds_on}
+use Rattle.inorder.specs.StationWords.{left_value}
+use Rattle.front.specs.declared.record.Record.{Record}
+use Rattle.front.specs.Fetching.{CanFetch, HasLeft, IsLeft, OldestLeft}
+use Rattle.front.specs.Knows.{IsReused, Knows, whats}
+use Rattle.front.specs.Path.{next_place, pc_behind}
+use Rattle.front.specs.Queues.{QueueSays}
+use Rattle.front.specs.Trail.{Note}
+use Rattle.front.specs.Turns.{NoInstrNow, QueueFullNow, SpentNow, WasNotFull}
+use Rattle.front.proofs.Acts.{gone_there}
+use Rattle.front.proofs.Moments.{at_end, before_end, looks_free, looks_full, looks_spent, no_instr, queue_free, queue_full, some_instr}
+use Rattle.front.proofs.Named.{stands_right}
+use Rattle.front.proofs.Places.{known_pc, known_place, notes_length}
+use Rattle.front.proofs.Splitting.{IsStable, stays}
+use Rattle.front.proofs.Stations.{next_tag_is, oldest_left}
+use Rattle.front.proofs.Stays.{knows_stable, place_stays, quiet_of}
+
+same_tenant : (t u : Tenant) → Some t ≡ Some u → t ≡ u
+same_tenant t u e = cc e
+
+-- What stays
+
+pub tag_stable : (P : Program) (C : Sizes) (n : ℕ) → IsStable P C (λ U. next_tag C (recent U) ≡ n)
+tag_stable P C n U by (Let i pr f g) b a ok e = absurd b
+tag_stable P C n U by (On p act) b a ok e =
+    let us = U.tenants in
+    let t = a.tenant in
+    let V = applied P C U by (On p act) in
+    let place : next_station C (recent V) ≡ next_station C (recent U) = place_stays P C U by (On p act) (quiet_of (On p act) b) a ok in
+    let count : how_many (λ u. eqb u.station (next_station C (recent U))) V.tenants ≡ how_many (λ u. eqb u.station (next_station C (recent U))) us =
+    ap (how_many (λ u. eqb u.station (next_station C (recent U)))) (parts P us by p act t a.is)
+    ∙ (count_same t (changed P by act t (older us p)) (older us p) (younger us p) (next_station C (recent U)) (same_place P by act t (older us p)).0
+    ∙ sym (ap (how_many (λ u. eqb u.station (next_station C (recent U)))) (split_at us p t a.is))) in
+    ap (tag_after C V.tenants) place ∙ (ap (λ z. C.first_tag + z) count ∙ e)
+
+pub left_stable : (P : Program) (C : Sizes) (p s g left : ℕ) → IsStable P C (λ U. IsTenant U p s g (HasLeft left))
+left_stable P C p s g left U by st b a ok i =
+    let z = gone_there P C U by st a ok p i.tenant i.is i.fact.retired in
+    let m = goes P C U by st a ok p i.tenant i.is in
+    let one = same_tenant m.tenant z.tenant (sym m.is ∙ z.is) in
+    record {
+      tenant = z.tenant;
+      is = z.is;
+      station_is = ap (λ (y : Tenant). y.station) (sym one) ∙ (m.goes.station ∙ i.station_is);
+      tag_is = ap (λ (y : Tenant). y.tag) (sym one) ∙ (m.goes.tag ∙ i.tag_is);
+      fact = record { retired = z.stays.standing; value = subst (λ y. HasValue y left) (λ j. left_value (sym z.stays.fate j) (sym z.stays.made j)) i.fact.value };
+    }
+
+-- the first of the notes
+record FirstNote (notes : List Note) (x : Record) : Type 0 where
+  pub one : Note
+  pub rest : List Note
+  pub is : notes ≡ one ∷ rest
+  pub what : one.what ≡ x
+
+first_note : (notes : List Note) (x : Record) (xs : List Record) → whats notes ≡ x ∷ xs → FirstNote notes x
+first_note [] x xs e = absurd (cc e)
+first_note (n ∷ ns) x xs e = record { one = n; rest = ns; is = refl; what = head_of n.what x (whats ns) xs e }
+  where
+    head_of : (a b : Record) (us vs : List Record) → a ∷ us ≡ b ∷ vs → a ≡ b
+    head_of a b us vs e = cc e
+
+module _ (P : Program) (C : Sizes) (old h : List Entry) (records : List Record) (base : List ℕ) (k : Knows P C (unit_of P C old) records base) (adds : Adds P C front old h [])
+    (ring station : ℕ) (ring_is : ring ≡ C.ring) (least : 2 ≤ ring) (station_is : station ≡ next_place ring records) (seen : Seen StationState) (sees : SeesStation P C h station seen) where
+  pub knows_now : Knows P C (unit_of P C h) records base
+  knows_now = stays P C (λ U. Knows P C U records base) (knows_stable P C records base) old h adds k
+
+  place : station ≡ next_station C (recent (unit_of P C h))
+  place = station_is ∙ (ap (λ z. next_place z records) ring_is ∙ sym (known_place P C (unit_of P C h) records base (IsReused (unit_of P C h)) knows_now (stands_right P C h adds.legal)))
+
+  sees_next : SeesStation P C h (next_station C (recent (unit_of P C h))) seen
+  sees_next = subst (λ z. SeesStation P C h z seen) place sees
+
+  some_room : 0 < C.ring
+  some_room = omega (arith, least, ring_is)
+
+  pub full_now : seen.state ≢ Free → WasOnce P C old h (IsFull C)
+  full_now ne = at_end P C (IsFull C) old h [] adds (looks_full P C h adds.legal seen sees_next ne)
+
+  module _ (free : seen.state ≡ Free) where
+    is_free : ¬ IsFull C (unit_of P C h)
+    is_free = looks_free P C h adds.legal seen sees_next records base knows_now some_room free
+
+    module _ (pc : ℕ) (pc_is : pc ≡ pc_behind records) where
+      pub no_instr_now : instr_at P pc ≡ None → NoInstrNow P C old h
+      no_instr_now e = record {
+        no_instr = at_end P C (HasNoInstr P) old h [] adds (no_instr P C h records base knows_now pc pc_is e);
+        not_full = at_end P C (λ U. ¬ IsFull C U) old h [] adds is_free;
+      }
+
+      module _ (i : Instr) (there : instr_at P pc ≡ Some i) (new : List Entry) (more : Adds P C front h new []) where
+        knows_new : Knows P C (unit_of P C new) records base
+        knows_new = stays P C (λ U. Knows P C U records base) (knows_stable P C records base) h new more knows_now
+
+        not_full_once : WasNotFull P C old new
+        not_full_once = before_end P C (λ U. ¬ IsFull C U) old h new [] [] adds more is_free
+
+        instr_once : WasOnce P C old new (λ U. ¬ HasNoInstr P U)
+        instr_once = before_end P C (λ U. ¬ HasNoInstr P U) old h new [] [] adds more (some_instr P C h records base knows_now pc i pc_is there)
+
+        both : Adds P C front old new []
+        both = adds_on P C front old h new [] [] adds more
+
+        pub queue_full_now : QueueSays P C (unit_of P C new) i true → QueueFullNow P C old new
+        queue_full_now q = record {
+          queue_full = at_end P C (IsQueueFull P C) old new [] both (queue_full P C new records base knows_new pc i pc_is there q);
+          not_full = not_full_once;
+          instr = instr_once;
+        }
+
+        pub spent_now : QueueSays P C (unit_of P C new) i false → seen.tag ≡ last_tag → SpentNow P C old new
+        spent_now q e = record {
+          spent = before_end P C (IsSpent C) old h new [] [] adds more (looks_spent P C h adds.legal seen sees_next free e);
+          not_full = not_full_once;
+          instr = instr_once;
+          room = at_end P C (λ U. ¬ IsQueueFull P C U) old new [] both (queue_free P C new records base knows_new pc i pc_is there q);
+        }
+
+        oldest : OldestLeft C (unit_of P C new) records seen.value
+        oldest x xs e many =
+            let f = first_note knows_now.notes x xs (sym knows_now.are ∙ e) in
+            let long : C.ring ≤ length knows_now.notes = subst (λ z. C.ring ≤ z) (notes_length P C (unit_of P C h) records base (IsReused (unit_of P C h)) knows_now) many in
+            let gone = oldest_left P C h adds.legal records base knows_now seen sees_next free f.one f.rest f.is long in
+            let still = stays P C (λ U. IsTenant U f.one.at f.one.what.station f.one.what.tag (HasLeft seen.value)) (left_stable P C f.one.at f.one.what.station f.one.what.tag seen.value) h new more gone in
+            record { p = f.one.at; tenant = subst (λ (z : Record). IsTenant (unit_of P C new) f.one.at z.station z.tag (HasLeft seen.value)) f.what still }
+
+        pub can_fetch : QueueSays P C (unit_of P C new) i false → seen.tag ≢ last_tag → seen.tag ≤ last_tag → station < ring → CanFetch P C new records (record { instr = i; pc = pc; station = station; left = seen.value })
+        can_fetch q ne most small =
+            let tag : next_tag C (recent (unit_of P C new)) ≡ seen.tag = stays P C (λ U. next_tag C (recent U) ≡ seen.tag) (tag_stable P C seen.tag) h new more (next_tag_is P C h adds.legal seen sees_next free) in
+            record {
+              next = record {
+                station = station_is ∙ (ap (λ z. next_place z records) ring_is ∙ sym (known_place P C (unit_of P C new) records base (IsReused (unit_of P C new)) knows_new (stands_right P C new more.legal)));
+                small = subst (λ z. station < z) ring_is small;
+                tag = omega (arith, tag, ne, most);
+                pc = pc_is ∙ sym (known_pc P C (unit_of P C new) records base (IsReused (unit_of P C new)) knows_new);
+                instr = there;
+                queue = q;
+              };
+              oldest = oldest;
+            }

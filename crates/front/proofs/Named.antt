@@ -1,0 +1,58 @@
+-- What is kept of a tenant names it.
+use Rattle.std.proofs.Common.{◌≡◌, ◌≢◌, ℕ, suc, ◌+◌, ◌%◌, ◌<◌, ◌≤◌, zero, List, [], ◌∷◌, ◌++◌, length, Option, Some, refl, sym, ap, ◌∙◌, subst, arith, mod-lt}
+use Rattle.std.specs.List.{AllByRecursion}
+use Rattle.std.specs.Prelude.{slice_get}
+use Rattle.isa.specs.Programs.{Program}
+use Rattle.inorder.specs.declared.history.Entry.{Entry}
+use Rattle.inorder.specs.History.{IsLegal, taken_of, unit_of}
+use Rattle.inorder.specs.Tenants.{Tenant, on_path}
+use Rattle.inorder.specs.Unit.{Sizes, UpdateUnit, at}
+use Rattle.inorder.proofs.Histories.{allowed_steps}
+use Rattle.inorder.proofs.Positions.{at_below, at_more}
+use Rattle.inorder.proofs.Stations.{Stands as StandsRight, stands}
+use Rattle.inorder.proofs.Tags.{names_one, tagged}
+use Rattle.front.specs.declared.record.Record.{Record}
+use Rattle.front.specs.Knows.{Stands, whats}
+use Rattle.front.specs.Trail.{Note, record_of, trail}
+use Rattle.front.proofs.Lists.{all_map, all_rest}
+use Rattle.front.proofs.Places.{notes_placed}
+use Rattle.front.proofs.Trails.{ArePlacedFrom, IsNoted, trail_noted}
+
+-- a fact of all records
+pub all_whats : (Q : Record → Type 0) (xs : List Note) → AllByRecursion (λ n. Q n.what) xs → AllByRecursion Q (whats xs)
+all_whats Q [] a = tt
+all_whats Q (x ∷ xs) a = (a.0, all_whats Q xs a.1)
+
+pub all_get : (Q : Record → Type 0) (xs : List Record) → AllByRecursion Q xs → (i : ℕ) (x : Record) → slice_get xs i ≡ Some x → Q x
+all_get Q [] a i x e = absurd (cc e)
+all_get Q (y ∷ xs) a zero x e = let same : y ≡ x = cc e in subst Q same a.0
+all_get Q (y ∷ xs) a (suc i) x e = all_get Q xs a.1 i x e
+
+pub at_past : (ys ts : List Tenant) (q : ℕ) (u : Tenant) → at ts q ≡ Some u → at (ys ++ ts) q ≡ Some u
+at_past [] ts q u e = e
+at_past (y ∷ ys) ts q u e = at_more y (ys ++ ts) q u (at_past ys ts q u e)
+
+module _ (P : Program) (C : Sizes) (h : List Entry) (legal : IsLegal P C h) where
+  abbrev U : UpdateUnit
+  U = unit_of P C h
+
+  pub stands_right : StandsRight C U.tenants
+  stands_right = stands P C (taken_of h) (allowed_steps P C h legal)
+
+  pub one_named : (p q : ℕ) (t u : Tenant) → at U.tenants p ≡ Some t → at U.tenants q ≡ Some u → t.station ≡ u.station → t.tag ≡ u.tag → p ≡ q
+  one_named p q t u e f = names_one C U.tenants p q t u (tagged P C (taken_of h) (allowed_steps P C h legal)) e f
+
+  module _ (records : List Record) (base : List ℕ) (Again : Note → Type 0) (k : Stands P C U records base Again) where
+    pub notes_noted : AllByRecursion (IsNoted P U.tenants) k.notes
+    notes_noted = all_rest (IsNoted P U.tenants) k.gone k.notes (subst (AllByRecursion (IsNoted P U.tenants)) k.path (trail_noted P U.tenants))
+
+    -- each stands at a station
+    pub notes_small : 0 < C.ring → AllByRecursion (λ n. n.what.station < C.ring) k.notes
+    notes_small pos = go (length k.gone) k.notes (notes_placed P C U records base Again k stands_right)
+      where
+        go : (g : ℕ) (ns : List Note) → ArePlacedFrom C.ring g ns → AllByRecursion (λ n. n.what.station < C.ring) ns
+        go g [] a = tt
+        go g (n ∷ ns) a = (subst (λ z. z < C.ring) (sym a.0) (mod-lt g pos), go (suc g) ns a.1)
+
+    pub small_stations : 0 < C.ring → AllByRecursion (λ x. x.station < C.ring) records
+    small_stations pos = subst (AllByRecursion (λ x. x.station < C.ring)) (sym k.are) (all_whats (λ x. x.station < C.ring) k.notes (notes_small pos))

@@ -1,0 +1,108 @@
+-- Where the tenants of the path stand, and where the next one goes.
+use Rattle.std.proofs.Common.{◌≡◌, ◌≢◌, ℕ, suc, ◌+◌, ◌-◌, ◌*◌, ◌/◌, ◌%◌, ◌<◌, ◌≤◌, List, [], ◌∷◌, ◌++◌, length, Option, Some, None, refl, sym, ap, ◌∙◌, subst, ⊎_elim, arith, append_assoc, length-append, div-add-mod', mul-le-mul_right, suc-mul}
+use Rattle.std.proofs.Math.Nat.{add-mod_right, mod-add-mod, zero-mod}
+use Rattle.std.proofs.lemmas.Bool.{cases_lt}
+use Rattle.std.specs.Prelude.{slice_get}
+use Rattle.std.specs.List.{AllByRecursion}
+use Rattle.isa.specs.Programs.{Program, text_start}
+use Rattle.inorder.specs.Tenants.{on_path}
+use Rattle.inorder.specs.Unit.{Sizes, UpdateUnit, front_pc, how_many, next_station, recent}
+use Rattle.inorder.proofs.Stations.{Stands as StandsRight}
+use Rattle.front.specs.declared.record.Record.{Record}
+use Rattle.front.specs.Knows.{Stands, whats}
+use Rattle.front.specs.Path.{last_of, next_place, pc_after, pc_behind, place_after}
+use Rattle.front.specs.Trail.{Note, trail}
+use Rattle.front.proofs.Lists.{Last, all_rest, last_cases, whats_append, whats_length}
+use Rattle.front.proofs.Trails.{ArePlacedFrom, IsLastOn, last_on, none_on, pc_none, pc_on, pc_past, placed_rest, trail_length, trail_placed}
+
+-- numbers that differ by less than n, and at all, differ modulo n
+apart : (a d n : ℕ) → 0 < d → d < n → (a + d) % n ≢ a % n
+apart a d n pos less same = ⊎_elim far near (cases_lt (a / n) ((a + d) / n))
+  where
+    e : a / n * n + a % n ≡ a
+    e = div-add-mod' a n
+
+    f : (a + d) / n * n + (a + d) % n ≡ a + d
+    f = div-add-mod' (a + d) n
+
+    far : a / n < (a + d) / n → ⊥
+    far h = let m = mul-le-mul_right n h in omega (arith, e, f, m, suc-mul (a / n) n)
+
+    near : (a + d) / n ≤ a / n → ⊥
+    near h = let m = mul-le-mul_right n h in omega (arith, e, f, m)
+
+-- fewer than all places: none is the next
+pub not_next : (ring g : ℕ) (ns : List Note) → ArePlacedFrom ring g ns → length ns < ring → AllByRecursion (λ n. n.what.station ≢ (g + length ns) % ring) ns
+not_next ring g [] a h = tt
+not_next ring g (n ∷ ns) a h =
+    let rest = not_next ring (suc g) ns a.1 (omega arith) in
+    let same : suc g + length ns ≡ g + suc (length ns) = omega arith in
+    ((λ e. apart g (suc (length ns)) ring (omega arith) h (sym e ∙ a.0)), subst (λ z. AllByRecursion (λ n. n.what.station ≢ z % ring) ns) same rest)
+
+-- all places: the oldest's is the next
+pub oldest_next : (ring g : ℕ) (n : Note) (ns : List Note) → ArePlacedFrom ring g (n ∷ ns) → ring ≡ length (n ∷ ns) → n.what.station ≡ (g + length (n ∷ ns)) % ring
+oldest_next ring g n ns a h = a.0 ∙ (sym (whole g ring) ∙ ap (λ z. (g + z) % ring) h)
+  where
+    whole : (g ring : ℕ) → (g + ring) % ring ≡ g % ring
+    whole g ring = add-mod_right g ring
+
+last_there : (xs : List Record) (x : Record) → last_of (xs ++ x ∷ []) ≡ Some x
+last_there xs x =
+    let long = length-append xs (x ∷ []) in
+    let n : length (xs ++ x ∷ []) - 1 ≡ length xs = omega arith in
+    ap (slice_get (xs ++ x ∷ [])) n ∙ at_end xs x
+  where
+    at_end : (xs : List Record) (x : Record) → slice_get (xs ++ x ∷ []) (length xs) ≡ Some x
+    at_end [] x = refl
+    at_end (y ∷ ys) x = at_end ys x
+
+module _ (P : Program) (C : Sizes) (U : UpdateUnit) (records : List Record) (base : List ℕ) (Again : Note → Type 0) (k : Stands P C U records base Again) where
+  pub whole_length : how_many on_path U.tenants ≡ length k.gone + length k.notes
+  whole_length = sym (trail_length P U.tenants) ∙ (ap (λ z. length z) k.path ∙ length-append k.gone k.notes)
+
+  pub notes_length : length records ≡ length k.notes
+  notes_length = ap (λ z. length z) k.are ∙ whats_length k.notes
+
+  pub notes_placed : StandsRight C U.tenants → ArePlacedFrom C.ring (length k.gone) k.notes
+  notes_placed st =
+      let none : 0 + length k.gone ≡ length k.gone = omega arith in
+      subst (λ z. ArePlacedFrom C.ring z k.notes) none (placed_rest C.ring 0 k.gone k.notes (subst (ArePlacedFrom C.ring 0) k.path (trail_placed P C U.tenants st.placed)))
+
+  last_of_whole : (l : Last k.notes) → trail P U.tenants ≡ (k.gone ++ l.front) ++ l.one ∷ []
+  last_of_whole l = k.path ∙ (ap (λ z. k.gone ++ z) l.is ∙ sym (append_assoc k.gone l.front (l.one ∷ [])))
+
+  last_record : (l : Last k.notes) → last_of records ≡ Some l.one.what
+  last_record l = ap last_of (k.are ∙ (ap whats l.is ∙ whats_append l.front (l.one ∷ []))) ∙ last_there (whats l.front) l.one.what
+
+  no_record : k.notes ≡ [] → last_of records ≡ None
+  no_record e = ap last_of (k.are ∙ ap whats e)
+
+  no_path : k.notes ≡ [] → trail P U.tenants ≡ []
+  no_path e = k.path ∙ (λ i. k.begun e i ++ e i)
+
+  -- the front pc
+  pub known_pc : front_pc U.tenants ≡ pc_behind records
+  known_pc = ⊎_elim
+      (λ e. pc_none U.tenants (none_on P U.tenants (no_path e)) ∙ sym (ap pc_after (no_record e)))
+      (λ (l : Last k.notes).
+      let o = last_on P U.tenants (k.gone ++ l.front) l.one (last_of_whole l) in
+      ap front_pc o.split ∙ (pc_past o.ys (o.tenant ∷ o.ts) o.off ∙ (pc_on o.tenant o.ts o.on ∙ (ap (λ z. z.what.next) (sym o.is) ∙ sym (ap pc_after (last_record l))))))
+      (last_cases k.notes)
+
+  -- the next tenant's station
+  pub known_place : StandsRight C U.tenants → next_station C (recent U) ≡ next_place C.ring records
+  known_place st = ⊎_elim
+      (λ e. ap (λ z. z % C.ring) (sym (trail_length P U.tenants) ∙ ap (λ z. length z) (no_path e)) ∙ zero-mod C.ring ∙ sym (ap (place_after C.ring) (no_record e)))
+      (λ (l : Last k.notes).
+      let long = length-append l.front (l.one ∷ []) in
+      let all : length k.notes ≡ length (l.front ++ l.one ∷ []) = ap (λ z. length z) l.is in
+      let count : how_many on_path U.tenants ≡ length k.gone + length l.front + 1 = omega (arith, whole_length, all, long) in
+      let its : l.one.what.station ≡ (length k.gone + length l.front) % C.ring = (placed_rest C.ring (length k.gone) l.front (l.one ∷ []) (subst (ArePlacedFrom C.ring (length k.gone)) l.is (notes_placed st))).0 in
+      ap (λ z. z % C.ring) count ∙ (sym (mod-add-mod (length k.gone + length l.front) C.ring 1) ∙ (ap (λ z. (z + 1) % C.ring) (sym its) ∙ sym (ap (place_after C.ring) (last_record l)))))
+      (last_cases k.notes)
+
+  -- with fewer tenants than stations, none of theirs is the next
+  pub others_next : StandsRight C U.tenants → length records < C.ring → AllByRecursion (λ n. n.what.station ≢ next_station C (recent U)) k.notes
+  others_next st h =
+      subst (λ z. AllByRecursion (λ n. n.what.station ≢ z % C.ring) k.notes) (sym whole_length)
+      (not_next C.ring (length k.gone) k.notes (notes_placed st) (subst (λ z. z < C.ring) notes_length h))

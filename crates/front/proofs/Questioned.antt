@@ -1,0 +1,69 @@
+-- The questions behind a let, one after another.
+use Rattle.std.proofs.Common.{◌≡◌, ℕ, ◌<◌, List, [], ◌∷◌, ◌++◌, length, Some, refl, sym, ap, ◌∙◌, subst, append_assoc}
+use Rattle.std.specs.List.{AllByRecursion}
+use Rattle.isa.specs.Programs.{Program}
+use Rattle.inorder.specs.declared.history.Entry.{Entry}
+use Rattle.inorder.specs.declared.history.Event.{Event}
+use Rattle.inorder.specs.declared.history.Event.TheVariants.{Does}
+use Rattle.inorder.specs.declared.history.Source.{Source}
+use Rattle.inorder.specs.declared.history.Source.TheVariants.{First, Second}
+use Rattle.inorder.specs.declared.history.Step.TheVariants.{Let}
+use Rattle.inorder.specs.History.{Adds, IsLegal, StartsWith, entry, front, unit_of}
+use Rattle.inorder.specs.Unit.{Sizes, UpdateUnit}
+use Rattle.inorder.proofs.Histories.{legal_before, starts_longer}
+use Rattle.ruu_words.specs.Kinds.{IsAny, IsTenant}
+use Rattle.ruu_words.proofs.Stays.{any_stays}
+use Rattle.station.specs.declared.answers.Supply.{Supply}
+use Rattle.station.specs.declared.answers.Supply.TheVariants.{From, Known}
+use Rattle.station.specs.Asking.{IsQuestion, MayAsk}
+use Rattle.station.specs.Letting.{let_of, supply_of}
+use Rattle.station.proofs.Adding.{adds_on}
+use Rattle.front.specs.declared.record.Record.{Record}
+use Rattle.front.specs.Knows.{Knows}
+use Rattle.front.specs.Questions.{Asks, MayAskFor}
+use Rattle.front.specs.Turns.{IsAskedFor}
+use Rattle.front.proofs.Named.{one_named}
+use Rattle.front.proofs.Pending.{IsPending, first_leaves, pending_stable, question_leaves}
+use Rattle.front.proofs.Splitting.{stays_under}
+use Rattle.front.proofs.Stays.{knows_stable}
+
+module _ (P : Program) (C : Sizes) where
+  -- it may be asked for
+  pub may_ask : (h : List Entry) (station tag : ℕ) (k : Source) (s : Supply) (r : ℕ) → ((a g : ℕ) → s ≡ From a g → a < C.ring) → ((a g : ℕ) → s ≡ From a g → (q : ℕ) × IsPending k r q station tag a g (unit_of P C h)) → MayAskFor P C h station tag k s
+  may_ask h station tag k (Known v) r small p = tt
+  may_ask h station tag k (From a g) r small p =
+      let x = p a g refl in
+      (small a g refl, record { r = r; q = x.0; asks = x.1.asks; last = x.1.last; creator = x.1.creator; creator_last = x.1.creator_last })
+
+  pub record HasAsked (old new : List Entry) (r : ℕ) (k : Source) (s : Supply) : Type 0 where
+    pub events : List Event
+    pub asks : IsAskedFor r k (supply_of s) events
+    pub adds : Adds P C front old new events
+    pub knows : (records : List Record) (base : List ℕ) → Knows P C (unit_of P C old) records base → Knows P C (unit_of P C new) records base
+
+  pub later : (old new : List Entry) (es : List Event) → Adds P C front old new es → (r station tag : ℕ) → IsTenant (unit_of P C old) r station tag IsAny → IsTenant (unit_of P C new) r station tag IsAny
+  later old new es a r station tag i =
+      subst (λ z. IsTenant (unit_of P C z) r station tag IsAny) (sym a.begins.is) (any_stays P C r station tag a.begins.more old (subst (IsLegal P C) a.begins.is a.legal) i)
+
+  pub has_asked : (old new : List Entry) → IsLegal P C old → (r station tag : ℕ) (k : Source) (s : Supply) → IsTenant (unit_of P C old) r station tag IsAny → Asks P C old new station tag k s → HasAsked old new r k s
+  has_asked old new legal r station tag k (Known v) i e = record {
+    events = [];
+    asks = refl;
+    adds = subst (λ h. Adds P C front old h []) (sym e) (record { begins = record { more = []; is = refl }; legal = legal; mine = refl });
+    knows = λ records base x. subst (λ h. Knows P C (unit_of P C h) records base) (sym e) x;
+  }
+  has_asked old new legal r station tag k (From a g) i w =
+      let now = later old new w.events w.adds r station tag i in
+      let same : w.r ≡ r = one_named P C new w.adds.legal w.r r w.named.tenant now.tenant w.named.is now.is (w.named.station_is ∙ sym now.station_is) (w.named.tag_is ∙ sym now.tag_is) in
+      record {
+        events = w.events;
+        asks = subst (λ z. IsQuestion z k w.events) same w.question;
+        adds = w.adds;
+        knows = λ records base x. stays_under P C (λ U. Knows P C U records base) (knows_stable P C records base) w.events (question_leaves P C records base w.r k w.events w.question) old new w.adds x;
+      }
+
+  -- the question for source 1 leaves source 2
+  pub second_still : (old new : List Entry) (station tag : ℕ) (s : Supply) → Asks P C old new station tag First s → (r q a g : ℕ) → IsPending Second r q station tag a g (unit_of P C old) → IsPending Second r q station tag a g (unit_of P C new)
+  second_still old new station tag (Known v) e r q a g i = subst (λ h. IsPending Second r q station tag a g (unit_of P C h)) (sym e) i
+  second_still old new station tag (From b c) w r q a g i =
+      stays_under P C (IsPending Second r q station tag a g) (pending_stable P C r q station tag a g Second) w.events (first_leaves P C r q station tag a g w.r w.events w.question) old new w.adds i

@@ -1,0 +1,192 @@
+-- The steps of a recovery, with what others add between them.
+use Rattle.std.proofs.Common.{◌≡◌, ◌≢◌, ◌⊎◌, ℕ, zero, suc, ◌+◌, ◌<◌, ◌≤◌, List, [], ◌∷◌, ◌++◌, length, take, Option, Some, None, refl, sym, ap, ◌∙◌, subst, inl, inr, ⊎_elim, arith, length-append, append_assoc}
+use Rattle.std.specs.List.{AllByRecursion}
+use Rattle.std.specs.Prelude.{slice_get}
+use Rattle.isa.specs.Programs.{Program}
+use Rattle.inorder.specs.declared.history.Act.{Act}
+use Rattle.inorder.specs.declared.history.Act.TheVariants.{Mend, Squash}
+use Rattle.inorder.specs.declared.history.Entry.{Entry}
+use Rattle.inorder.specs.declared.history.Event.TheVariants.{Does}
+use Rattle.inorder.specs.declared.history.Step.TheVariants.{On}
+use Rattle.inorder.specs.History.{Adds, IsLegal, entry, front, unit_of}
+use Rattle.inorder.specs.Callers.{CanMend, CanSquash, IsMissing}
+use Rattle.inorder.specs.Legal.{Allowed, applied}
+use Rattle.inorder.specs.Replies.{Has}
+use Rattle.inorder.specs.Tenants.{Tenant}
+use Rattle.inorder.specs.Unit.{Sizes, UpdateUnit, at}
+use Rattle.inorder.proofs.Ends.{miss_stays}
+use Rattle.inorder.proofs.Histories.{unit_sound}
+use Rattle.inorder.proofs.Moves.{IsActed, IsLeft, at_changed, goes}
+use Rattle.inorder.proofs.Positions.{at_below}
+use Rattle.inorder.proofs.Sound.{IsSound}
+use Rattle.unit_laws.proofs.Middle.{at_middle}
+use Rattle.ruu_words.specs.Kinds.{IsAny, IsTenant}
+use Rattle.ruu_words.proofs.Stays.{any_stays}
+use Rattle.front.specs.declared.record.Record.{Record}
+use Rattle.front.specs.Knows.{IsReused, Knows, whats}
+use Rattle.front.specs.Recoveries.{IsMiss}
+use Rattle.front.specs.Trail.{Note, record_of, trail}
+use Rattle.front.proofs.CutKnown.{acted, at_last, can_mend, can_squash, mend_known, squash_known}
+use Rattle.front.proofs.Cuts.{both_same, front_same}
+use Rattle.front.proofs.Lists.{Last, all_map, all_rest, last_cases, whats_append}
+use Rattle.front.proofs.Named.{all_get, all_whats, at_past, one_named}
+use Rattle.front.proofs.Splitting.{IsStable, event_legal, last_event, stays, stays_behind}
+use Rattle.front.proofs.Stays.{knows_stable}
+use Rattle.front.proofs.Trails.{IsLastOn, IsNoted, last_on, trail_noted}
+
+same_tenant : (t u : Tenant) → Some t ≡ Some u → t ≡ u
+same_tenant t u e = cc e
+
+no_records : (xs : List Record) (x : Record) → xs ++ x ∷ [] ≢ []
+no_records xs x e = let n = ap (λ z. length z) e in let m = length-append xs (x ∷ []) in absurd (omega arith)
+
+-- a live miss of this name
+abbrev pub IsMissOf : ℕ → Record → ℕ → UpdateUnit → Type 0
+IsMissOf p x next U = IsTenant U p x.station x.tag (IsMissing next)
+
+pub missing_stable : (P : Program) (C : Sizes) (p : ℕ) (x : Record) (next : ℕ) → IsStable P C (IsMissOf p x next)
+missing_stable P C p x next U by s b a ok i =
+    let m = miss_stays P C U by s b a p next (record { tenant = i.tenant; is = i.is; fact = i.fact }) in
+    let g = goes P C U by s a ok p i.tenant i.is in
+    let one = same_tenant g.tenant m.tenant (sym g.is ∙ m.is) in
+    record {
+      tenant = m.tenant;
+      is = m.is;
+      station_is = ap (λ (z : Tenant). z.station) (sym one) ∙ (g.goes.station ∙ i.station_is);
+      tag_is = ap (λ (z : Tenant). z.tag) (sym one) ∙ (g.goes.tag ∙ i.tag_is);
+      fact = m.fact;
+    }
+
+module _ (P : Program) (C : Sizes) (h : List Entry) (legal : IsLegal P C h) (rest : List Record) (one : Record) (base : List ℕ) (k : Knows P C (unit_of P C h) (rest ++ one ∷ []) base) where
+  abbrev U : UpdateUnit
+  U = unit_of P C h
+
+  ok : IsSound P U.tenants
+  ok = unit_sound P C h legal
+
+  pub youngest_note : Last k.notes
+  youngest_note = ⊎_elim (λ e. absurd (no_records rest one (k.are ∙ ap whats e))) (λ l. l) (last_cases k.notes)
+
+  abbrev fs : List Note
+  fs = youngest_note.front
+
+  abbrev x : Note
+  x = youngest_note.one
+
+  pub same_records : Rattle.front.proofs.Cuts.AreSame rest (whats fs) one x.what
+  same_records = both_same rest (whats fs) one x.what (k.are ∙ (ap whats youngest_note.is ∙ whats_append fs (x ∷ [])))
+
+  pub last_of_path : IsLastOn P U.tenants (k.gone ++ fs) x
+  last_of_path = last_on P U.tenants (k.gone ++ fs) x (k.path ∙ (ap (λ z. k.gone ++ z) youngest_note.is ∙ sym (append_assoc k.gone fs (x ∷ []))))
+
+  -- the tenants of the others are older
+  pub others_older : AllByRecursion (λ r. (p : ℕ) (t : Tenant) → at U.tenants p ≡ Some t → t.station ≡ r.station → t.tag ≡ r.tag → p < x.at) rest
+  others_older =
+      let o = last_of_path in
+      let Q : Record → Type 0 = λ r. (p : ℕ) (t : Tenant) → at U.tenants p ≡ Some t → t.station ≡ r.station → t.tag ≡ r.tag → p < x.at in
+      let noted : AllByRecursion (IsNoted P o.ts) fs = all_rest (IsNoted P o.ts) k.gone fs (subst (AllByRecursion (IsNoted P o.ts)) (sym o.before) (trail_noted P o.ts)) in
+      subst (AllByRecursion Q) (sym same_records.fronts) (all_whats Q fs (all_map (IsNoted P o.ts) (λ n. Q n.what) older fs noted))
+    where
+      older : (n : Note) → IsNoted P last_of_path.ts n → (p : ℕ) (t : Tenant) → at U.tenants p ≡ Some t → t.station ≡ n.what.station → t.tag ≡ n.what.tag → p < x.at
+      older n i p t is place tag =
+          let o = last_of_path in
+          let below = at_below o.ts n.at i.tenant i.is in
+          let there : at U.tenants n.at ≡ Some i.tenant = ap (λ z. at z n.at) o.split ∙ at_past o.ys (o.tenant ∷ o.ts) n.at i.tenant (Rattle.inorder.proofs.Positions.at_more o.tenant o.ts n.at i.tenant i.is) in
+          let same : p ≡ n.at = one_named P C h legal p n.at t i.tenant is there (place ∙ ap (λ (z : Record). z.station) (sym i.what)) (tag ∙ ap (λ (z : Record). z.tag) (sym i.what)) in
+          let last : x.at ≡ length o.ts = ap (λ (z : Note). z.at) o.is in
+          omega (arith, same, below, last)
+
+  pub miss_older : (i : ℕ) (r : Record) (next p : ℕ) → slice_get rest i ≡ Some r → IsMissOf p r next U → p < x.at
+  miss_older i r next p e m = all_get _ rest others_older i r e p m.tenant m.is m.station_is m.tag_is
+
+  -- the last one may be squashed
+  pub may_squash : (i : ℕ) (r : Record) (next p : ℕ) → slice_get rest i ≡ Some r → IsMissOf p r next U → CanSquash U x.at
+  may_squash i r next p e m = can_squash P C U ok (k.gone ++ fs) x last_of_path p next (miss_older i r next p e m) (record { tenant = m.tenant; is = m.is; fact = m.fact })
+
+  -- the last one's own tenant
+  pub last_position : (next p : ℕ) → IsMissOf p one next U → p ≡ x.at
+  last_position next p m =
+      let o = last_of_path in
+      let there = at_last P C U ok (k.gone ++ fs) x o in
+      let what : record_of P o.tenant ≡ one = ap (λ (z : Note). z.what) (sym o.is) ∙ sym same_records.ones in
+      one_named P C h legal p x.at m.tenant o.tenant m.is there (m.station_is ∙ ap (λ (z : Record). z.station) (sym what)) (m.tag_is ∙ ap (λ (z : Record). z.tag) (sym what))
+
+  pub last_missing : (next p : ℕ) → IsMissOf p one next U → Has U x.at (IsMissing next)
+  last_missing next p m = record { tenant = m.tenant; is = ap (at U.tenants) (sym (last_position next p m)) ∙ m.is; fact = m.fact }
+
+  pub may_mend : (next p : ℕ) → IsMissOf p one next U → CanMend U x.at next
+  may_mend next p m = can_mend P C U ok (k.gone ++ fs) x last_of_path next (last_missing next p m)
+
+  -- where a squash or a mending acts
+  pub acts_at : (p : ℕ) (u : Tenant) → at U.tenants p ≡ Some u → u.standing ≡ Rattle.inorder.specs.Tenants.Live → AllByRecursion Rattle.inorder.specs.Tenants.IsNotLive (Rattle.inorder.specs.Unit.younger U.tenants p) → p ≡ x.at
+  acts_at p u is live youngest = let o = last_of_path in (acted P C U ok (k.gone ++ fs) x o p u is live youngest).position ∙ ap (λ (z : Note). z.at) (sym o.is)
+
+-- an act elsewhere
+elsewhere : (P : Program) (C : Sizes) (U : UpdateUnit) (by p q : ℕ) (act : Act) (x : Record) (next : ℕ) → (a : Allowed P C U by (On p act)) → q ≢ p → IsMissOf q x next U → IsMissOf q x next (applied P C U by (On p act))
+elsewhere P C U by p q act x next a ne m = ⊎_elim
+    (λ (z : IsActed P U.tenants by p act a.tenant q m.tenant). absurd (ne z.position))
+    (λ (z : IsLeft P U.tenants by p act q m.tenant). record { tenant = m.tenant; is = z.now; station_is = m.station_is; tag_is = m.tag_is; fact = m.fact })
+    (at_changed P U.tenants by p act a.tenant a.is q m.tenant m.is)
+
+less_not : (p q : ℕ) → p < q → p ≢ q
+less_not p q h e = absurd (omega (arith, h, e))
+
+module _ (P : Program) (C : Sizes) (old new : List Entry) (rest : List Record) (one : Record) (base : List ℕ) (k : Knows P C (unit_of P C old) (rest ++ one ∷ []) base) where
+  -- behind a squash
+  pub record SquashedOne (i : ℕ) (r : Record) (next q : ℕ) : Type 0 where
+    pub knows : Knows P C (unit_of P C new) rest base
+    pub miss : IsMissOf q r next (unit_of P C new)
+
+  pub squash_step : (p : ℕ) → Adds P C front old new (Does (On p Squash) ∷ []) → (i : ℕ) (r : Record) (next q : ℕ) → slice_get rest i ≡ Some r → IsMissOf q r next (unit_of P C old) → SquashedOne i r next q
+  squash_step p adds i r next q e m =
+      let l = last_event P C front old new (Does (On p Squash)) [] adds in
+      let legal = event_legal P C old new (Does (On p Squash)) [] l in
+      let a = legal.1.1 in
+      let there = stays P C (λ U. Knows P C U (rest ++ one ∷ []) base) (knows_stable P C (rest ++ one ∷ []) base) old l.point l.before k in
+      let missing = stays P C (IsMissOf q r next) (missing_stable P C q r next) old l.point l.before m in
+      let ok = unit_sound P C l.point legal.0 in
+      let last = youngest_note P C l.point legal.0 rest one base there in
+      let some : rest ≢ [] = λ none. let no : slice_get [] i ≡ Some r = ap (λ z. slice_get z i) (sym none) ∙ e in absurd (cc no) in
+      let behind = squash_known P C (unit_of P C l.point) ok front p base a rest one there last.front last.one last.is some in
+      let at_p = acts_at P C l.point legal.0 rest one base there p a.tenant a.is a.may.live a.may.youngest in
+      let less = miss_older P C l.point legal.0 rest one base there i r next q e missing in
+      let ne : q ≢ p = less_not q p (subst (λ z. q < z) (sym at_p) less) in
+      record {
+        knows = stays_behind P C (λ U. Knows P C U rest base) (knows_stable P C rest base) old new (Does (On p Squash)) [] l behind;
+        miss = stays_behind P C (IsMissOf q r next) (missing_stable P C q r next) old new (Does (On p Squash)) [] l (elsewhere P C (unit_of P C l.point) front p q Squash r next a ne missing);
+      }
+
+  -- behind a mending
+  pub record MendedOne (p next : ℕ) : Type 0 where
+    pub knows : Knows P C (unit_of P C new) (rest ++ record one { next = next } ∷ []) base
+    pub named : IsTenant (unit_of P C new) p one.station one.tag IsAny
+    pub same : (q : ℕ) → IsMissOf q one next (unit_of P C old) → q ≡ p
+
+  pub mend_step : (p : ℕ) → Adds P C front old new (Does (On p Mend) ∷ []) → (next q : ℕ) → IsMissOf q one next (unit_of P C old) → MendedOne p next
+  mend_step p adds next q m =
+      let l = last_event P C front old new (Does (On p Mend)) [] adds in
+      let legal = event_legal P C old new (Does (On p Mend)) [] l in
+      let a = legal.1.1 in
+      let there = stays P C (λ U. Knows P C U (rest ++ one ∷ []) base) (knows_stable P C (rest ++ one ∷ []) base) old l.point l.before k in
+      let missing : IsMissOf q one next (unit_of P C l.point) = stays P C (IsMissOf q one next) (missing_stable P C q one next) old l.point l.before m in
+      let ok = unit_sound P C l.point legal.0 in
+      let last = youngest_note P C l.point legal.0 rest one base there in
+      let its = last_missing P C l.point legal.0 rest one base there next q missing in
+      let behind = mend_known P C (unit_of P C l.point) ok front p base a rest one there last.front last.one last.is next its in
+      let at_p = acts_at P C l.point legal.0 rest one base there p a.tenant a.is a.may.live a.may.youngest in
+      let at_q = last_position P C l.point legal.0 rest one base there next q missing in
+      let same : q ≡ p = at_q ∙ sym at_p in
+      let point_named : IsTenant (unit_of P C l.point) p one.station one.tag IsAny = subst (λ z. IsTenant (unit_of P C l.point) z one.station one.tag IsAny) same (record { tenant = missing.tenant; is = missing.is; station_is = missing.station_is; tag_is = missing.tag_is; fact = tt }) in
+      let long : (l.after ++ entry front (Does (On p Mend)) ∷ []) ++ l.point ≡ l.after ++ entry front (Does (On p Mend)) ∷ l.point = append_assoc l.after (entry front (Does (On p Mend)) ∷ []) l.point in
+      let named = any_stays P C p one.station one.tag (l.after ++ entry front (Does (On p Mend)) ∷ []) l.point (subst (IsLegal P C) (sym long) l.legal) point_named in
+      record {
+        knows = stays_behind P C (λ U. Knows P C U (rest ++ record one { next = next } ∷ []) base) (knows_stable P C (rest ++ record one { next = next } ∷ []) base) old new (Does (On p Mend)) [] l behind;
+        named = subst (λ z. IsTenant (unit_of P C z) p one.station one.tag IsAny) (long ∙ sym l.is) named;
+        same = λ r mr. one_named_old r q mr m ∙ same;
+      }
+    where
+      one_named_old : (r q : ℕ) → IsMissOf r one next (unit_of P C old) → IsMissOf q one next (unit_of P C old) → r ≡ q
+      one_named_old r q mr m = one_named P C old (adds_old) r q mr.tenant m.tenant mr.is m.is (mr.station_is ∙ sym m.station_is) (mr.tag_is ∙ sym m.tag_is)
+        where
+          adds_old : IsLegal P C old
+          adds_old = Rattle.inorder.proofs.Histories.legal_before P C adds.begins.more old (subst (IsLegal P C) adds.begins.is adds.legal)

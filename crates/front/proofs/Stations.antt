@@ -1,0 +1,199 @@
+-- The last tenants of stations, and whether all stations are in use.
+use Rattle.std.proofs.Common.{◌≡◌, ◌≢◌, ◌⊎◌, ℕ, suc, ◌+◌, ◌%◌, ◌<◌, ◌≤◌, Bool, true, false, cond, eqb, eqb-true, ne_eqb, List, [], ◌∷◌, ◌++◌, length, Option, Some, None, refl, sym, ap, ◌∙◌, subst, inl, inr, ⊎_elim, arith, true≢false, eq-eqb}
+use Rattle.std.proofs.lemmas.Bool.{cases_lt}
+use Rattle.std.specs.List.{AllByRecursion}
+use Rattle.isa.specs.Programs.{Program}
+use Rattle.inorder.specs.declared.history.Entry.{Entry}
+use Rattle.inorder.specs.declared.history.Supply.TheVariants.{Known}
+use Rattle.inorder.specs.History.{IsLegal, unit_of}
+use Rattle.inorder.specs.Callers.{IsLastAt, is_retired, stands_retired}
+use Rattle.inorder.specs.Replies.{IsFull}
+use Rattle.inorder.specs.StationWords.{IsFree, StationWord, last_of, left_value, station_word, word_by, word_of}
+use Rattle.inorder.specs.Steps.{new_tenant}
+use Rattle.inorder.specs.Tenants.{Live, Retired, Squashed, Standing, Tenant, is_live, on_path, stands_live, stands_on_path}
+use Rattle.inorder.specs.Unit.{Sizes, UpdateUnit, at, how_many, next_station, next_tag, older, recent, tag_after, younger}
+use Rattle.inorder.proofs.Basics.{split_at}
+use Rattle.inorder.proofs.Creators.{at_cases}
+use Rattle.inorder.proofs.Histories.{unit_sound}
+use Rattle.inorder.proofs.Positions.{all_at, at_below, at_more, at_new, younger_from}
+use Rattle.inorder.proofs.Stations.{IsElsewhere, all_elsewhere}
+use Rattle.ruu_words.specs.declared.station.StationState.{StationState}
+use Rattle.ruu_words.specs.declared.station.StationState.TheVariants.{Free}
+use Rattle.ruu_words.specs.Content.{HasValue, code}
+use Rattle.ruu_words.specs.Kinds.{IsTenant}
+use Rattle.ruu_words.specs.States.{state_code}
+use Rattle.station.specs.declared.answers.Seen.{Seen}
+use Rattle.station.specs.Looking.{SeesStation}
+use Rattle.front.specs.declared.record.Record.{Record}
+use Rattle.front.specs.Fetching.{HasLeft, IsLeft}
+use Rattle.front.specs.Knows.{IsGone, IsNewest, IsReused, Knows, Stands, whats}
+use Rattle.front.specs.Trail.{Note, record_of, trail}
+use Rattle.front.proofs.Counts.{SaysAt, FailsAt, at_most, count}
+use Rattle.front.proofs.Lists.{all_both, all_map, all_two}
+use Rattle.front.proofs.Looks.{free_is, live_there}
+use Rattle.front.proofs.Named.{notes_noted, stands_right}
+use Rattle.front.proofs.Places.{notes_length, notes_placed, oldest_next, whole_length}
+use Rattle.front.proofs.Trails.{ArePlacedFrom, IsNoted}
+
+same_tenant : (t u : Tenant) → Some t ≡ Some u → t ≡ u
+same_tenant t u e = cc e
+
+-- the last tenant of a station
+last_past : (s : ℕ) (ys ts : List Tenant) → AllByRecursion (λ u. u.station ≢ s) ys → last_of (ys ++ ts) s ≡ last_of ts s
+last_past s [] ts a = refl
+last_past s (y ∷ ys) ts a = ap (λ b. cond b (Some y) (last_of (ys ++ ts) s)) (ne_eqb y.station s a.0) ∙ last_past s ys ts a.1
+
+pub last_here : (us : List Tenant) (p s : ℕ) (t : Tenant) → at us p ≡ Some t → t.station ≡ s → IsLastAt (record { tenants = us }) p s → last_of us s ≡ Some t
+last_here us p s t is place last =
+    let others = younger_from (λ u. u.station ≢ s) us p (at_below us p t is) (λ q u lt e. last q u lt e) in
+    ap (λ z. last_of z s) (split_at us p t is)
+    ∙ (last_past s (younger us p) (t ∷ older us p) others
+    ∙ ap (λ b. cond b (Some t) (last_of (older us p) s)) (eq-eqb t.station s place))
+
+pub record LastSpot (us : List Tenant) (s : ℕ) (t : Tenant) : Type 0 where
+  pub p : ℕ
+  pub is : at us p ≡ Some t
+  pub place : t.station ≡ s
+  pub last : IsLastAt (record { tenants = us }) p s
+
+pub last_spot : (us : List Tenant) (s : ℕ) (t : Tenant) → last_of us s ≡ Some t → LastSpot us s t
+last_spot [] s t e = absurd (cc e)
+last_spot (u ∷ us) s t e = go (eqb u.station s) refl (last_spot us s t)
+  where
+    go : (b : Bool) → eqb u.station s ≡ b → (last_of us s ≡ Some t → LastSpot us s t) → LastSpot (u ∷ us) s t
+    go true f more =
+        let is : Some u ≡ Some t = ap (λ b. cond b (Some u) (last_of us s)) (sym f) ∙ e in
+        let same : u ≡ t = cc is in
+        record {
+          p = length us;
+          is = at_new u us ∙ is;
+          place = ap (λ (z : Tenant). z.station) (sym same) ∙ eqb-true u.station s f;
+          last = λ q v lt there. let b = at_below (u ∷ us) q v there in absurd (omega arith);
+        }
+    go false f more =
+        let l = more (ap (λ b. cond b (Some u) (last_of us s)) (sym f) ∙ e) in
+        record {
+          p = l.p;
+          is = at_more u us l.p t l.is;
+          place = l.place;
+          last = λ q v lt there. ⊎_elim
+              (λ old. l.last q v lt old)
+              (λ (n : (q ≡ length us) × (u ≡ v)). λ same. true≢false (sym (eq-eqb u.station s (ap (λ (z : Tenant). z.station) n.1 ∙ same)) ∙ f))
+              (at_cases u us q v there);
+        }
+
+live_on_path : (t : Tenant) → is_live t ≡ true → on_path t ≡ true
+live_on_path t h = go t.standing refl
+  where
+    go : (st : Standing) → t.standing ≡ st → on_path t ≡ true
+    go Live e = ap stands_on_path e
+    go Retired e = ap stands_on_path e
+    go Squashed e = let no : false ≡ true = sym (ap stands_live e) ∙ h in absurd (cc no)
+
+pub gone_fails : (U : UpdateUnit) (n : Note) → IsGone U n → (t : Tenant) → at U.tenants n.at ≡ Some t → is_live t ≡ false
+gone_fails U n g t is = ap (λ (z : Tenant). stands_live z.standing) (sym (same_tenant g.tenant t (sym g.is ∙ is))) ∙ ap stands_live g.fact
+
+count_all : (xs : List Note) → count (λ n. true) xs ≡ length xs
+count_all [] = refl
+count_all (x ∷ xs) = ap suc (count_all xs)
+
+-- those that have not left are among the last ones
+pub live_fewer : (P : Program) (U : UpdateUnit) (A B : List Note) → trail P U.tenants ≡ A ++ B → AllByRecursion (IsGone U) A → how_many is_live U.tenants ≤ length B
+live_fewer P U A B e a =
+    subst (λ z. how_many is_live U.tenants ≤ z) (count_all B)
+    (at_most P is_live (λ n. true) live_on_path U.tenants A B e (all_map (IsGone U) (FailsAt P is_live (λ n. true) U.tenants) (gone_fails U) A a) (says B))
+  where
+    says : (xs : List Note) → AllByRecursion (SaysAt P is_live (λ n. true) U.tenants) xs
+    says [] = tt
+    says (x ∷ xs) = ((λ t is h. refl), says xs)
+
+-- the free word of a station whose last tenant is on the path
+pub left_there : (t : Tenant) (k : ℕ) (w : StationWord) → w ≡ word_by k t.standing t.tag t.fate t.made → w.state ≡ IsFree → on_path t ≡ true → (left : ℕ) → HasValue w.value left → HasLeft left t
+left_there t k w e free on left v = go t.standing refl
+  where
+    live_state : (tag : ℕ) (f : Rattle.inorder.specs.Tenants.Fate) → (Rattle.inorder.specs.StationWords.live_word tag f).state ≢ IsFree
+    live_state tag Rattle.inorder.specs.Tenants.Open = λ x. cc x
+    live_state tag (Rattle.inorder.specs.Tenants.Busy by) = λ x. cc x
+    live_state tag (Rattle.inorder.specs.Tenants.Addr a) = λ x. cc x
+    live_state tag (Rattle.inorder.specs.Tenants.Done a) = λ x. cc x
+    live_state tag (Rattle.inorder.specs.Tenants.Miss a) = λ x. cc x
+    live_state tag (Rattle.inorder.specs.Tenants.Stopped c) = λ x. cc x
+
+    go : (st : Standing) → t.standing ≡ st → HasLeft left t
+    go Live f = absurd (live_state t.tag t.fate (ap (λ s. (word_by k s t.tag t.fate t.made).state) (sym f) ∙ (ap (λ (z : StationWord). z.state) (sym e) ∙ free)))
+    go Squashed f = absurd (true≢false (sym on ∙ ap stands_on_path f))
+    go Retired f =
+        let value : w.value ≡ left_value t.fate t.made = ap (λ (z : StationWord). z.value) (e ∙ ap (λ s. word_by k s t.tag t.fate t.made) f) in
+        record { retired = f; value = subst (λ z. HasValue z left) value v }
+
+module _ (P : Program) (C : Sizes) (h : List Entry) (legal : IsLegal P C h) where
+  abbrev U : UpdateUnit
+  U = unit_of P C h
+
+  -- a live tenant at the next station: all are in use
+  pub is_full : (p : ℕ) (t : Tenant) → at U.tenants p ≡ Some t → t.standing ≡ Live → t.station ≡ next_station C (recent U) → IsFull C U
+  is_full p t is live place =
+      let st = stands_right P C h legal in
+      let n = new_tenant P C U 0 0 (Known 0) (Known 0) in
+      ⊎_elim
+      (λ room. absurd (all_at (IsElsewhere n) U.tenants (all_elsewhere P C n U.tenants [] U.tenants refl refl room (unit_sound P C h legal) st.placed) p t is live place))
+      (λ (most : C.ring ≤ how_many is_live U.tenants). omega (arith, most, st.room))
+      (cases_lt (how_many is_live U.tenants) C.ring)
+
+  -- the next station's tag, where that is free
+  pub next_tag_is : (seen : Seen StationState) → SeesStation P C h (next_station C (recent U)) seen → seen.state ≡ Free → next_tag C (recent U) ≡ seen.tag
+  next_tag_is seen sees free = sym (sees.tag_is ∙ go (last_of (recent U) (next_station C (recent U))) (free_is _ (sym sees.state_is ∙ ap state_code free)))
+    where
+      live_state : (tag : ℕ) (f : Rattle.inorder.specs.Tenants.Fate) → (Rattle.inorder.specs.StationWords.live_word tag f).state ≢ IsFree
+      live_state tag Rattle.inorder.specs.Tenants.Open = λ x. cc x
+      live_state tag (Rattle.inorder.specs.Tenants.Busy by) = λ x. cc x
+      live_state tag (Rattle.inorder.specs.Tenants.Addr a) = λ x. cc x
+      live_state tag (Rattle.inorder.specs.Tenants.Done a) = λ x. cc x
+      live_state tag (Rattle.inorder.specs.Tenants.Miss a) = λ x. cc x
+      live_state tag (Rattle.inorder.specs.Tenants.Stopped c) = λ x. cc x
+
+      by : (k : ℕ) (t : Tenant) (st : Standing) → (word_by k st t.tag t.fate t.made).state ≡ IsFree → (word_by k st t.tag t.fate t.made).tag ≡ k
+      by k t Live e = absurd (live_state t.tag t.fate e)
+      by k t Retired e = refl
+      by k t Squashed e = refl
+
+      go : (o : Option Tenant) → (word_of (next_tag C (recent U)) o).state ≡ IsFree → (word_of (next_tag C (recent U)) o).tag ≡ next_tag C (recent U)
+      go None e = refl
+      go (Some t) e = by (next_tag C (recent U)) t t.standing e
+
+  module _ (records : List Record) (base : List ℕ) (k : Knows P C U records base) where
+    -- where all stations have had a tenant and the next one is free, the oldest has left
+    pub oldest_left : (seen : Seen StationState) → SeesStation P C h (next_station C (recent U)) seen → seen.state ≡ Free → (n : Note) (ns : List Note) → k.notes ≡ n ∷ ns → C.ring ≤ length k.notes → IsTenant U n.at n.what.station n.what.tag (HasLeft seen.value)
+    oldest_left seen sees free n ns e full =
+        let noted : IsNoted P U.tenants n = (subst (AllByRecursion (IsNoted P U.tenants)) e (notes_noted P C h legal records base (IsReused U) k)).0 in
+        let newest : IsNewest U n = (subst (AllByRecursion (IsNewest U)) e k.newest).0 in
+        let whole : C.ring ≡ length (n ∷ ns) = omega (arith, full, k.room, ap (λ z. length z) e) in
+        let placed : ArePlacedFrom C.ring (length k.gone) (n ∷ ns) = subst (ArePlacedFrom C.ring (length k.gone)) e (notes_placed P C U records base (IsReused U) k (stands_right P C h legal)) in
+        let count : how_many on_path U.tenants ≡ length k.gone + length (n ∷ ns) = whole_length P C U records base (IsReused U) k ∙ ap (λ z. length k.gone + length z) e in
+        let next : n.what.station ≡ next_station C (recent U) = oldest_next C.ring (length k.gone) n ns placed whole ∙ ap (λ z. z % C.ring) (sym count) in
+        let place : noted.tenant.station ≡ next_station C (recent U) = ap (λ (z : Record). z.station) noted.what ∙ next in
+        let last : last_of U.tenants (next_station C (recent U)) ≡ Some noted.tenant = last_here U.tenants n.at (next_station C (recent U)) noted.tenant noted.is place (λ q u lt is same. newest q u lt is (same ∙ sym next)) in
+        let word : station_word C (recent U) (next_station C (recent U)) ≡ word_by (next_tag C (recent U)) noted.tenant.standing noted.tenant.tag noted.tenant.fate noted.tenant.made = ap (word_of (next_tag C (recent U))) last in
+        record {
+          tenant = noted.tenant;
+          is = noted.is;
+          station_is = ap (λ (z : Record). z.station) noted.what;
+          tag_is = ap (λ (z : Record). z.tag) noted.what;
+          fact = left_there noted.tenant (next_tag C (recent U)) (station_word C (recent U) (next_station C (recent U))) word (free_is _ (sym sees.state_is ∙ ap state_code free)) noted.on seen.value sees.value_is;
+        }
+
+    -- a free next station: not all are in use
+    pub not_full : 0 < C.ring → (seen : Seen StationState) → SeesStation P C h (next_station C (recent U)) seen → seen.state ≡ Free → how_many is_live U.tenants < C.ring
+    not_full pos seen sees free = ⊎_elim
+        (λ few. let l = live_fewer P U k.gone k.notes k.path k.retired in omega (arith, l, few))
+        (λ full. go k.notes refl full)
+        (cases_lt (length k.notes) C.ring)
+      where
+        go : (xs : List Note) → k.notes ≡ xs → C.ring ≤ length k.notes → how_many is_live U.tenants < C.ring
+        go [] e full = absurd (omega (arith, full, pos, ap (λ z. length z) e))
+        go (n ∷ ns) e full =
+            let left = oldest_left seen sees free n ns e full in
+            let gone : IsGone U n = record { tenant = left.tenant; is = left.is; fact = left.fact.retired } in
+            let path : trail P U.tenants ≡ (k.gone ++ n ∷ []) ++ ns = k.path ∙ (ap (λ z. k.gone ++ z) e ∙ sym (Rattle.std.proofs.Common.append_assoc k.gone (n ∷ []) ns)) in
+            let l = live_fewer P U (k.gone ++ n ∷ []) ns path (all_both (IsGone U) k.gone (n ∷ []) k.retired (gone, tt)) in
+            omega (arith, l, k.room, ap (λ z. length z) e)

@@ -1,0 +1,157 @@
+-- What the predictor is told is what the last tenant of the station did.
+use Rattle.std.proofs.Common.{◌≡◌, ◌≢◌, ◌⊎◌, ℕ, ◌+◌, ◌<◌, ◌≤◌, Bool, true, false, ◌&&◌, cond, List, [], ◌∷◌, ◌++◌, length, Option, Some, None, refl, sym, ap, ◌∙◌, subst, ⊎_elim, arith, true≢false}
+use Rattle.std.specs.List.{AllByRecursion}
+use Rattle.isa.specs.Instruction.{pc_plus_4}
+use Rattle.isa.specs.Operations.{outcome_by}
+use Rattle.isa.specs.Programs.{Program}
+use Rattle.isa.specs.declared.op.Kind.{Kind}
+use Rattle.isa.specs.declared.op.Kind.TheVariants.{Computes, Jumps, Links, Loads, Stores}
+use Rattle.isa.specs.declared.stop.Outcome.{Outcome}
+use Rattle.isa.specs.declared.stop.Outcome.TheVariants.{Address, Next, Stop as Stops, Value}
+use Rattle.inorder.specs.declared.history.Entry.{Entry}
+use Rattle.inorder.specs.History.{IsLegal, unit_of}
+use Rattle.inorder.specs.Callers.{IsLastAt, is_retired, stands_retired}
+use Rattle.inorder.specs.StationWords.{last_of}
+use Rattle.inorder.specs.Steps.{CanRetire}
+use Rattle.inorder.specs.Tenants.{Addr, Busy, Done, Fate, Live, Miss, Open, Retired, Squashed, Standing, Stopped, Tenant, computed, computed_next, instr, kind_of, next_by, on_path, operand_value, stands_on_path}
+use Rattle.inorder.specs.Unit.{Sizes, UpdateUnit, at, next_station, older, recent, younger}
+use Rattle.inorder.proofs.Basics.{split_at}
+use Rattle.inorder.proofs.Fated.{follows_from}
+use Rattle.inorder.proofs.Grows.{sound_mid}
+use Rattle.inorder.proofs.Histories.{unit_sound}
+use Rattle.inorder.proofs.Sound.{GoesOn, IsSound, IsSoundAt}
+use Rattle.ruu_words.specs.Kinds.{IsTenant}
+use Rattle.front.specs.declared.record.Record.{Record}
+use Rattle.front.specs.Fetching.{HasLeft, IsLeft}
+use Rattle.front.specs.Knows.{IsGone, IsNewest, IsReused, Knows}
+use Rattle.front.specs.Training.{IsTold, ToldIf}
+use Rattle.front.specs.Trail.{Note, is_guessed, record_of, trail}
+use Rattle.front.proofs.Lists.{all_both, all_front, all_two}
+use Rattle.front.proofs.Named.{notes_noted, one_named, stands_right}
+use Rattle.front.proofs.Places.{notes_length, others_next}
+use Rattle.front.proofs.Stations.{last_here, last_spot}
+use Rattle.front.proofs.Trails.{IsNoted, trail_all, trail_noted}
+
+same_tenant : (t u : Tenant) → Some t ≡ Some u → t ≡ u
+same_tenant t u e = cc e
+
+-- Where a tenant that has retired went on
+
+plain_next : (k : Kind) (t : Tenant) (o : Outcome) → GoesOn k t.pc t.next → k ≢ Jumps → k ≢ Links → ((x : ℕ) → o ≢ Next x) → next_by t.pc o ≡ t.next
+plain_next Computes t o g a b n = plain o n ∙ sym g
+  where
+    plain : (o : Outcome) → ((x : ℕ) → o ≢ Next x) → next_by t.pc o ≡ pc_plus_4 t.pc
+    plain (Value v) n = refl
+    plain (Next x) n = absurd (n x refl)
+    plain (Address x) n = refl
+    plain (Stops c) n = refl
+plain_next Jumps t o g a b n = absurd (a refl)
+plain_next Links t o g a b n = absurd (b refl)
+plain_next Loads t o g a b n = plain o n ∙ sym g
+  where
+    plain : (o : Outcome) → ((x : ℕ) → o ≢ Next x) → next_by t.pc o ≡ pc_plus_4 t.pc
+    plain (Value v) n = refl
+    plain (Next x) n = absurd (n x refl)
+    plain (Address x) n = refl
+    plain (Stops c) n = refl
+plain_next Stores t o g a b n = plain o n ∙ sym g
+  where
+    plain : (o : Outcome) → ((x : ℕ) → o ≢ Next x) → next_by t.pc o ≡ pc_plus_4 t.pc
+    plain (Value v) n = refl
+    plain (Next x) n = absurd (n x refl)
+    plain (Address x) n = refl
+    plain (Stops c) n = refl
+
+jumps_go : (P : Program) (t : Tenant) → kind_of P t ≡ Jumps → (x : ℕ) × (computed P t ≡ Next x)
+jumps_go P t e = (_, ap (λ k. outcome_by k (instr P t) t.pc (operand_value t.first) (operand_value t.second) (length P.bytes)) e)
+
+links_go : (P : Program) (t : Tenant) → kind_of P t ≡ Links → (x : ℕ) × (computed P t ≡ Next x)
+links_go P t e = (_, ap (λ k. outcome_by k (instr P t) t.pc (operand_value t.first) (operand_value t.second) (length P.bytes)) e)
+
+no_jump : (P : Program) (t : Tenant) (o : Outcome) → computed P t ≡ o → ((x : ℕ) → o ≢ Next x) → kind_of P t ≢ Jumps
+no_jump P t o e n k = let g = jumps_go P t k in n g.0 (sym e ∙ g.1)
+
+no_link : (P : Program) (t : Tenant) (o : Outcome) → computed P t ≡ o → ((x : ℕ) → o ≢ Next x) → kind_of P t ≢ Links
+no_link P t o e n k = let g = links_go P t k in n g.0 (sym e ∙ g.1)
+
+address_not : (a x : ℕ) → Address a ≢ Next x
+address_not a x e = cc e
+
+stop_not : (c : _) (x : ℕ) → Stops c ≢ Next x
+stop_not c x e = cc e
+
+pub went_on : (P : Program) (us : List Tenant) → IsSound P us → (p : ℕ) (t : Tenant) → at us p ≡ Some t → t.standing ≡ Retired → computed_next P t ≡ t.next
+went_on P us ok p t is gone =
+    let s = sound_mid P t (older us p) (younger us p) (subst (IsSound P) (split_at us p t is) ok) in
+    let can = (s.placed (ap stands_on_path gone)).can gone in
+    go t.fate refl (subst (CanRetire (kind_of P t) t.second.value) refl can) s
+  where
+    away : (o : Outcome) → computed P t ≡ o → ((x : ℕ) → o ≢ Next x) → GoesOn (kind_of P t) t.pc t.next → computed_next P t ≡ t.next
+    away o e n g = ap (next_by t.pc) e ∙ plain_next (kind_of P t) t o g (no_jump P t o e n) (no_link P t o e n) n
+
+    go : (f : Fate) → t.fate ≡ f → CanRetire (kind_of P t) t.second.value t.fate → IsSoundAt P (older us p) t → computed_next P t ≡ t.next
+    go Open e c s = absurd (subst (CanRetire (kind_of P t) t.second.value) e c)
+    go (Busy by) e c s = absurd (subst (CanRetire (kind_of P t) t.second.value) e c)
+    go (Addr a) e c s = away (Address a) ((follows_from P (older us p) t s.own).fate.address a e) (λ x. address_not a x) s.own.goes_on
+    go (Done v) e c s = (follows_from P (older us p) t s.own).fate.goes_on v e
+    go (Miss x) e c s = absurd (subst (CanRetire (kind_of P t) t.second.value) e c)
+    go (Stopped c') e c s = away (Stops c') ((follows_from P (older us p) t s.own).fate.stop c' e) (λ x. stop_not c' x) s.own.goes_on
+
+module _ {S : Type 0} (Learns : S → ℕ → ℕ → S → Type 0) (P : Program) (C : Sizes) (h : List Entry) (legal : IsLegal P C h) (records : List Record) (base : List ℕ) (k : Knows P C (unit_of P C h) records base) where
+  abbrev U : UpdateUnit
+  U = unit_of P C h
+
+  abbrev next : ℕ
+  next = next_station C (recent U)
+
+  -- fewer tenants than stations: nobody is told of
+  pub nobody_told : length records < C.ring → (s : S) → IsTold Learns P (last_of (recent U) next) s s
+  nobody_told few s = go (last_of (recent U) next) refl
+    where
+      reused_never : (n : Note) → IsNoted P U.tenants n → IsReused U n → (t : Tenant) → at U.tenants n.at ≡ Some t → t.station ≡ next → IsLastAt U n.at next → ⊥
+      reused_never n i r t is place last =
+          let one = same_tenant i.tenant t (sym i.is ∙ is) in
+          let same : n.what.station ≡ next = ap (λ (z : Record). z.station) (sym i.what) ∙ (ap (λ (z : Tenant). z.station) one ∙ place) in
+          last r.p r.tenant.tenant r.behind r.tenant.is (r.tenant.fact ∙ same)
+
+      other_never : (n : Note) → IsNoted P U.tenants n → n.what.station ≢ next → (t : Tenant) → at U.tenants n.at ≡ Some t → t.station ≡ next → IsLastAt U n.at next → ⊥
+      other_never n i ne t is place last =
+          let one = same_tenant i.tenant t (sym i.is ∙ is) in
+          ne (ap (λ (z : Record). z.station) (sym i.what) ∙ (ap (λ (z : Tenant). z.station) one ∙ place))
+
+      all_never : AllByRecursion (λ n. (t : Tenant) → at U.tenants n.at ≡ Some t → t.station ≡ next → IsLastAt U n.at next → ⊥) (trail P U.tenants)
+      all_never =
+          let Q : Note → Type 0 = λ n. (t : Tenant) → at U.tenants n.at ≡ Some t → t.station ≡ next → IsLastAt U n.at next → ⊥ in
+          let noted : AllByRecursion (IsNoted P U.tenants) (k.gone ++ k.notes) = subst (AllByRecursion (IsNoted P U.tenants)) k.path (trail_noted P U.tenants) in
+          subst (AllByRecursion Q) (sym k.path)
+          (all_both Q k.gone k.notes
+          (all_two (IsNoted P U.tenants) (IsReused U) Q reused_never k.gone (all_front (IsNoted P U.tenants) k.gone k.notes noted) k.again)
+          (all_two (IsNoted P U.tenants) (λ n. n.what.station ≢ next) Q other_never k.notes (notes_noted P C h legal records base (IsReused U) k) (others_next P C U records base (IsReused U) k (stands_right P C h legal) few)))
+
+      by : (t : Tenant) (st : Standing) → t.standing ≡ st → last_of (recent U) next ≡ Some t → ToldIf Learns (stands_retired st && is_guessed P t) t.pc (computed_next P t) s s
+      by t Live e f = refl
+      by t Squashed e f = refl
+      by t Retired e f =
+          let l = last_spot U.tenants next t f in
+          absurd (trail_all P (λ n. (t : Tenant) → at U.tenants n.at ≡ Some t → t.station ≡ next → IsLastAt U n.at next → ⊥) U.tenants all_never l.p t l.is (ap stands_on_path e) t l.is l.place l.last)
+
+      go : (o : Option Tenant) → last_of (recent U) next ≡ o → IsTold Learns P o s s
+      go None e = refl
+      go (Some t) e = by t t.standing refl e
+
+  -- the oldest leaves: it is told of
+  pub oldest_told : (n : Note) (ns : List Note) → k.notes ≡ n ∷ ns → n.what.station ≡ next → (left : ℕ) → IsLeft U n.what left → (s s' : S) → ToldIf Learns n.what.guessed n.what.pc n.what.next s s' → IsTold Learns P (last_of (recent U) next) s s'
+  oldest_told n ns e place left gone s s' told =
+      let noted : IsNoted P U.tenants n = (subst (AllByRecursion (IsNoted P U.tenants)) e (notes_noted P C h legal records base (IsReused U) k)).0 in
+      let newest : IsNewest U n = (subst (AllByRecursion (IsNewest U)) e k.newest).0 in
+      let t = noted.tenant in
+      let i = gone.tenant in
+      let p : gone.p ≡ n.at = one_named P C h legal gone.p n.at i.tenant t i.is noted.is (i.station_is ∙ ap (λ (z : Record). z.station) (sym noted.what)) (i.tag_is ∙ ap (λ (z : Record). z.tag) (sym noted.what)) in
+      let one : i.tenant ≡ t = same_tenant i.tenant t (sym i.is ∙ (ap (at U.tenants) p ∙ noted.is)) in
+      let retired : t.standing ≡ Retired = ap (λ (z : Tenant). z.standing) (sym one) ∙ i.fact.retired in
+      let last : last_of U.tenants next ≡ Some t = last_here U.tenants n.at next t noted.is (ap (λ (z : Record). z.station) noted.what ∙ place) (λ q u lt is same. newest q u lt is (same ∙ sym place)) in
+      let went : computed_next P t ≡ n.what.next = went_on P U.tenants (unit_sound P C h legal) n.at t noted.is retired ∙ ap (λ (z : Record). z.next) noted.what in
+      let guessed : is_retired t && is_guessed P t ≡ n.what.guessed = ap (λ z. stands_retired z && is_guessed P t) retired ∙ ap (λ (z : Record). z.guessed) noted.what in
+      let pc : t.pc ≡ n.what.pc = ap (λ (z : Record). z.pc) noted.what in
+      subst (λ o. IsTold Learns P o s s') (sym last)
+      (subst (λ (z : Bool × (ℕ × ℕ)). ToldIf Learns z.0 z.1.0 z.1.1 s s') (λ j. (sym guessed j, (sym pc j, sym went j))) told)

@@ -1,0 +1,11 @@
+pub mod Trail
+pub mod Creators
+pub mod Path
+pub mod Knows
+pub mod Queues
+pub mod Fetching
+pub mod Training
+pub mod Turns
+pub mod Questions
+pub mod Recoveries
+pub mod Fronts

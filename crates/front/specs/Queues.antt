@@ -1,0 +1,34 @@
+-- Whether the queue takes one more load or store.
+use Rattle.std.specs.Prelude.{◌≡◌, ℕ, suc, ◌<◌, ◌≤◌, Bool, true, false, List, [], ◌∷◌, ◌++◌, Option, Some, None, if◌then◌else◌}
+use Rattle.isa.specs.Instruction.{kind}
+use Rattle.isa.specs.Programs.{Program}
+use Rattle.isa.specs.declared.instr.Instr.{Instr}
+use Rattle.inorder.specs.Tenants.{is_access, is_live_access}
+use Rattle.inorder.specs.Unit.{Sizes, UpdateUnit, how_many}
+use Rattle.front.specs.declared.record.Record.{Record}
+
+-- How many of them reach memory
+abbrev pub accesses : List Record → ℕ
+accesses [] = 0
+accesses (x ∷ xs) = if x.access then suc (accesses xs) else accesses xs
+
+-- It reaches memory, and so do n younger ones
+pub record IsBefore (records : List Record) (n : ℕ) (x : Record) : Type 0 where
+  pub older : List Record
+  pub younger : List Record
+  pub are : records ≡ older ++ x ∷ younger
+  pub access : x.access ≡ true
+  pub behind : accesses younger ≡ n
+
+abbrev pub AccessBefore : List Record → ℕ → Option Record → Type 0
+AccessBefore records n None = accesses records ≤ n
+AccessBefore records n (Some x) = IsBefore records n x
+
+-- How many loads and stores are live
+abbrev pub live_accesses : Program → UpdateUnit → ℕ
+live_accesses P U = how_many (is_live_access P) U.tenants
+
+-- The instruction is a load or store, and as many are live as the queue takes
+abbrev pub QueueSays : Program → Sizes → UpdateUnit → Instr → Bool → Type 0
+QueueSays P C U i true = (is_access (kind i.op) ≡ true) × (live_accesses P U ≡ C.queue)
+QueueSays P C U i false = is_access (kind i.op) ≡ true → live_accesses P U < C.queue

@@ -1,0 +1,78 @@
+-- What a recovery answers.
+use Rattle.std.specs.Prelude.{◌≡◌, ℕ, suc, ◌<◌, List, [], ◌∷◌, map, length, take, Option, Some, None, slice_get}
+use Rattle.std.specs.List.{AllByRecursion}
+use Rattle.isa.specs.Programs.{Program}
+use Rattle.inorder.specs.declared.history.Act.TheVariants.{Mend, Squash}
+use Rattle.inorder.specs.declared.history.Entry.{Entry}
+use Rattle.inorder.specs.declared.history.Event.{Event}
+use Rattle.inorder.specs.declared.history.Event.TheVariants.{Does}
+use Rattle.inorder.specs.declared.history.Step.TheVariants.{On}
+use Rattle.inorder.specs.Callers.{IsMissing}
+use Rattle.inorder.specs.History.{Adds, front, unit_of}
+use Rattle.inorder.specs.Replies.{Has, HasNoMiss}
+use Rattle.inorder.specs.Tenants.{Live, Miss, Tenant}
+use Rattle.inorder.specs.Unit.{Sizes, UpdateUnit, at}
+use Rattle.ruu_words.specs.Kinds.{IsAny, IsTenant}
+use Rattle.front.specs.declared.answers.Recovery.{Recovery}
+use Rattle.front.specs.declared.answers.Recovery.TheVariants.{Mended, NoMiss}
+use Rattle.front.specs.declared.record.Record.{Record}
+use Rattle.front.specs.declared.recovery.Missed.{Missed}
+
+abbrev pub squash_event : ℕ → Event
+squash_event p = Does (On p Squash)
+
+-- No tenant before p is a live miss
+abbrev pub IsFirst : UpdateUnit → ℕ → Type 0
+IsFirst U p =
+    (q x : ℕ) (t : Tenant) → q < p → at U.tenants q ≡ Some t → ¬ IsMissing x t
+
+-- A miss was mended behind the squashes of all younger tenants, the last one first. It was the oldest at the
+-- beginning of the call
+pub record IsMended (P : Program) (C : Sizes) (old new : List Entry) (station squashed : ℕ) : Type 0 where
+  pub p : ℕ
+  pub tag : ℕ
+  pub named : IsTenant (unit_of P C new) p station tag IsAny
+  pub first : IsFirst (unit_of P C old) p
+  pub squashes : List ℕ
+  pub count : length squashes ≡ squashed
+  pub adds : Adds P C front old new (Does (On p Mend) ∷ map squash_event squashes)
+
+abbrev pub RecoverAnswers : Program → Sizes → List Entry → List Entry → Recovery → Type 0
+RecoverAnswers P C old new (Mended station squashed) = IsMended P C old new station squashed
+RecoverAnswers P C old new NoMiss = Adds P C front old new [] × HasNoMiss (unit_of P C old)
+
+-- The stages of a recovery
+
+-- No live miss has this station and tag
+abbrev pub IsNoMiss : UpdateUnit → Record → Type 0
+IsNoMiss U r =
+    (p x : ℕ) (t : Tenant) → at U.tenants p ≡ Some t → t.station ≡ r.station → t.tag ≡ r.tag →
+    ¬ IsMissing x t
+
+-- In what was seen the tenant of this station and tag is a live miss that goes on at `next`
+pub record IsMiss (P : Program) (C : Sizes) (seen : List Entry) (r : Record) (next : ℕ) : Type 0 where
+  pub p : ℕ
+  pub tenant : IsTenant (unit_of P C seen) p r.station r.tag (IsMissing next)
+
+-- It is the one that was found
+pub record IsMissAt (P : Program) (C : Sizes) (seen : List Entry) (records : List Record) (m : Missed) : Type 0 where
+  pub one : Record
+  pub here : slice_get records m.at ≡ Some one
+  pub station : m.station ≡ one.station
+  pub small : m.station < C.ring
+  pub miss : IsMiss P C seen one m.next
+
+-- And it is the first
+pub record IsFound (P : Program) (C : Sizes) (old new : List Entry) (records : List Record) (m : Missed) : Type 0 where
+  pub miss : IsMissAt P C new records m
+  pub first : AllByRecursion (IsNoMiss (unit_of P C old)) (take m.at records)
+
+abbrev pub Finds : Program → Sizes → List Entry → List Entry → List Record → Option Missed → Type 0
+Finds P C old new records None = AllByRecursion (IsNoMiss (unit_of P C old)) records
+Finds P C old new records (Some m) = IsFound P C old new records m
+
+-- All behind one of the tenants were squashed
+pub record IsCut (P : Program) (C : Sizes) (old new : List Entry) (squashed : ℕ) : Type 0 where
+  pub squashes : List ℕ
+  pub count : length squashes ≡ squashed
+  pub adds : Adds P C front old new (map squash_event squashes)

@@ -1,0 +1,25 @@
+//! What the calls answer.
+
+/// What a turn answers.
+#[derive(Clone, Copy, Debug, PartialEq, Eq)]
+pub enum Turn {
+    /// All stations are in use.
+    Full,
+    /// The front pc is the address of no instruction.
+    NoInstr,
+    /// The instruction is a load or store, and as many as the queue takes are in flight.
+    QueueFull,
+    /// The next station has used up its tags.
+    Spent,
+    /// A tenant was let.
+    Let { station: usize, tag: u32, pc: u32 },
+}
+
+/// What a recovery answers.
+#[derive(Clone, Copy, Debug, PartialEq, Eq)]
+pub enum Recovery {
+    /// The miss of this station was mended, after that many younger tenants were squashed.
+    Mended { station: usize, squashed: usize },
+    /// There was no miss when the call began.
+    NoMiss,
+}

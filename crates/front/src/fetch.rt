@@ -1,0 +1,65 @@
+//! What is let next, or why nothing is.
+ghost use Rattle.std.specs.Prelude.{◌≡◌, ◌≤◌, ◌<◌, [], IfOk, IfErr};
+ghost use Rattle.inorder.specs.History.{Adds, IsLegal, front, unit_of};
+ghost use Rattle.front.specs.Fetching.{CanFetch};
+ghost use Rattle.front.specs.Knows.{Knows};
+ghost use Rattle.front.specs.Turns.{Refuses};
+ghost use Rattle.station.specs.Seats.{IsSame};
+
+use crate::answers::Turn;
+use crate::path::Path;
+use crate::queue::queue_is_full;
+use isa::{Instr, Program};
+use station::{Core, FrontSeat, StationState};
+
+// No tenant gets this tag.
+const LAST_TAG: u32 = 0x0fff_ffff;
+
+/// The next instruction, where it goes, and what the last tenant of its station left.
+#[derive(Clone, Copy)]
+pub struct Fetched {
+    pub instr: Instr,
+    pub pc: u32,
+    pub station: usize,
+    pub left: u32,
+}
+
+/// The instruction that can be let next, or why none can.
+pub fn fetch(
+    core: &Core,
+    seat: &mut FrontSeat,
+    path: &Path,
+    program: &Program,
+) -> Result<Fetched, Turn>
+    requires core { seat.old.core ≡ core.now }
+    requires by { seat.old.by ≡ front }
+    requires legal { IsLegal core.now.program core.now.sizes seat.old.seen }
+    requires program { program.now ≡ core.now.program }
+    requires knows { Knows core.now.program core.now.sizes (unit_of core.now.program core.now.sizes seat.old.seen) path.now.records path.now.base }
+    ensures kept { IsSame seat.old seat.new }
+    ensures history { Adds core.now.program core.now.sizes front seat.old.seen seat.new.seen [] }
+    ensures ok { IfOk result (CanFetch core.now.program core.now.sizes seat.new.seen path.now.records) }
+    ensures err { IfErr result (Refuses core.now.program core.now.sizes seat.old.seen seat.new.seen) }
+{
+    let station = path.next_station(core.ring());
+    let ahead = core.look(seat, station);
+    let StationState::Free = ahead.state else {
+        return Err(Turn::Full);
+    };
+    let pc = path.front_pc();
+    let Some(instr) = program.fetch(pc) else {
+        return Err(Turn::NoInstr);
+    };
+    if queue_is_full(core, seat, path, &instr) {
+        return Err(Turn::QueueFull);
+    }
+    if ahead.tag == LAST_TAG {
+        return Err(Turn::Spent);
+    }
+    Ok(Fetched {
+        instr,
+        pc,
+        station,
+        left: ahead.value,
+    })
+}

@@ -1,0 +1,20 @@
+//! Dispatch: the front lets instructions into stations in program order, follows the predictor, and recovers
+//! from its misses.
+#![tactic(auto)]
+
+mod answers;
+mod creators;
+mod dispatch;
+mod dispatcher;
+mod fetch;
+mod path;
+mod queue;
+mod record;
+mod recovery;
+#[cfg(test)]
+mod rows;
+mod supply;
+mod training;
+
+pub use answers::{Recovery, Turn};
+pub use dispatcher::Front;

@@ -1,0 +1,68 @@
+//! Whether the queue takes one more load or store.
+ghost use Rattle.std.specs.Prelude.{◌≡◌, ◌≤◌, []};
+ghost use Rattle.isa.specs.Instruction.{kind};
+ghost use Rattle.inorder.specs.Tenants.{is_access};
+ghost use Rattle.inorder.specs.History.{Adds, IsLegal, front, unit_of};
+ghost use Rattle.front.specs.Knows.{Knows};
+ghost use Rattle.front.specs.Queues.{AccessBefore, QueueSays};
+ghost use Rattle.station.specs.Seats.{IsSame};
+
+use crate::path::Path;
+use crate::record::{Record, Records};
+use isa::{Instr, Kind};
+use station::{Core, FrontSeat, StationState};
+
+/// A load or store.
+pub fn reaches_memory(instr: &Instr) -> bool
+    ensures { result ≡ is_access (kind instr.now.op) }
+{
+    matches!(instr.op().kind(), Kind::Loads | Kind::Stores)
+}
+
+// The load or store that has `younger` younger ones.
+fn access_before(records: &Records, younger: usize) -> Option<Record>
+    ensures { AccessBefore records.now younger result }
+{
+    let mut left = younger;
+    let mut j = records.len();
+    while 0 < j {
+        j -= 1;
+        if let Some(record) = records.at(j) {
+            if record.access {
+                if left == 0 {
+                    return Some(record);
+                }
+                left -= 1;
+            }
+        }
+    }
+    None
+}
+
+/// The instruction is a load or store, and as many are live as the queue takes: the oldest of so many has not left.
+pub fn queue_is_full(core: &Core, seat: &mut FrontSeat, path: &Path, instr: &Instr) -> bool
+    requires core { seat.old.core ≡ core.now }
+    requires by { seat.old.by ≡ front }
+    requires legal { IsLegal core.now.program core.now.sizes seat.old.seen }
+    requires least { 2 ≤ core.now.sizes.ring }
+    requires knows { Knows core.now.program core.now.sizes (unit_of core.now.program core.now.sizes seat.old.seen) path.now.records path.now.base }
+    ensures kept { IsSame seat.old seat.new }
+    ensures history { Adds core.now.program core.now.sizes front seat.old.seen seat.new.seen [] }
+    ensures reply { QueueSays core.now.program core.now.sizes (unit_of core.now.program core.now.sizes seat.new.seen) instr.now result }
+{
+    if !reaches_memory(instr) {
+        return false;
+    }
+    let queue = core.queue();
+    if queue == 0 {
+        return true;
+    }
+    let Some(record) = access_before(&path.records, queue - 1) else {
+        return false;
+    };
+    let seen = core.look(seat, record.station);
+    if let StationState::Free = seen.state {
+        return false;
+    }
+    true
+}

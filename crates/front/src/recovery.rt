@@ -1,0 +1,90 @@
+//! Recovery from a miss.
+ghost use Rattle.std.specs.Prelude.{◌≡◌, ◌≤◌, ◌+◌, [], length, take};
+ghost use Rattle.inorder.specs.History.{Adds, IsLegal, front, unit_of};
+ghost use Rattle.front.specs.Knows.{Knows};
+ghost use Rattle.front.specs.Recoveries.{Finds, IsCut, IsMissAt, RecoverAnswers};
+ghost use Rattle.station.specs.Seats.{IsSame};
+
+use crate::answers::Recovery;
+use crate::path::Path;
+use station::{Core, FrontSeat, StationState};
+
+/// A miss: its place among the tenants, its station, and where it goes on.
+#[derive(Clone, Copy)]
+pub struct Missed {
+    pub at: usize,
+    pub station: usize,
+    pub next: u32,
+}
+
+// Looks at the tenants from the oldest on, for the first miss.
+fn find_miss(core: &Core, seat: &mut FrontSeat, path: &Path) -> Option<Missed>
+    requires least { 2 ≤ core.now.sizes.ring }
+    requires core { seat.old.core ≡ core.now }
+    requires by { seat.old.by ≡ front }
+    requires legal { IsLegal core.now.program core.now.sizes seat.old.seen }
+    requires knows { Knows core.now.program core.now.sizes (unit_of core.now.program core.now.sizes seat.old.seen) path.now.records path.now.base }
+    ensures kept { IsSame seat.old seat.new }
+    ensures history { Adds core.now.program core.now.sizes front seat.old.seen seat.new.seen [] }
+    ensures reply { Finds core.now.program core.now.sizes seat.old.seen seat.new.seen path.now.records result }
+{
+    for at in 0..path.records.len() {
+        let Some(record) = path.records.at(at) else {
+            continue;
+        };
+        let seen = core.look(seat, record.station);
+        if let StationState::Miss = seen.state {
+            return Some(Missed {
+                at,
+                station: record.station,
+                next: seen.value,
+            });
+        }
+    }
+    None
+}
+
+// Squashes from the tail on until the miss is the youngest, and says how many.
+fn squash_behind(core: &Core, seat: &mut FrontSeat, path: &mut Path, missed: Missed) -> usize
+    requires core { seat.old.core ≡ core.now }
+    requires by { seat.old.by ≡ front }
+    requires legal { IsLegal core.now.program core.now.sizes seat.old.seen }
+    requires knows { Knows core.now.program core.now.sizes (unit_of core.now.program core.now.sizes seat.old.seen) path.old.records path.old.base }
+    requires miss { IsMissAt core.now.program core.now.sizes seat.old.seen path.old.records missed }
+    ensures kept { IsSame seat.old seat.new }
+    ensures history { IsCut core.now.program core.now.sizes seat.old.seen seat.new.seen result }
+    ensures knows { Knows core.now.program core.now.sizes (unit_of core.now.program core.now.sizes seat.new.seen) path.new.records path.new.base }
+    ensures miss { IsMissAt core.now.program core.now.sizes seat.new.seen path.new.records missed }
+    ensures last { length path.new.records ≡ missed.at + 1 }
+    ensures rest { path.new.records ≡ take (missed.at + 1) path.old.records }
+{
+    let all = path.records.len();
+    while path.records.len() > missed.at + 1 {
+        core.squash(seat);
+        path.records.pop();
+    }
+    all - path.records.len()
+}
+
+/// Recovers from the first miss that is found.
+pub fn recover_on(core: &Core, seat: &mut FrontSeat, path: &mut Path) -> Recovery
+    requires core { seat.old.core ≡ core.now }
+    requires by { seat.old.by ≡ front }
+    requires legal { IsLegal core.now.program core.now.sizes seat.old.seen }
+    requires knows { Knows core.now.program core.now.sizes (unit_of core.now.program core.now.sizes seat.old.seen) path.old.records path.old.base }
+    ensures kept { IsSame seat.old seat.new }
+    ensures reply { RecoverAnswers core.now.program core.now.sizes seat.old.seen seat.new.seen result }
+    ensures knows { Knows core.now.program core.now.sizes (unit_of core.now.program core.now.sizes seat.new.seen) path.new.records path.new.base }
+{
+    core.ring();
+    let Some(missed) = find_miss(core, seat, path) else {
+        return Recovery::NoMiss;
+    };
+    let squashed = squash_behind(core, seat, path, missed);
+    core.mend(seat, missed.station);
+    path.records.redirect(missed.next);
+    Recovery::Mended {
+        station: missed.station,
+        squashed,
+    }
+}
