@@ -109,15 +109,15 @@ module _ (P : Program) (C : Sizes) (r q station tag x g : ℕ) where
       link : KeepsEvent P C (IsPending Second r q station tag x g) (Does (On p (Link First)))
       link U a ok i = pending_stays P C U front (On p (Link First)) tt a ok Second r q station tag x g
           (λ t t' is is' m. ⊎_elim
-              (λ e. ap (λ (z : Tenant). z.second.way) (same_tenant t' t (sym is' ∙ e)))
-              (λ (z : Acted P U front (On p (Link First)) (applied P C U front (On p (Link First))).tenants r t).
-              let act : Link First ≡ z.act = act_of p z.p (Link First) z.act z.step in
-              let now : t' ≡ linked (older U.tenants r) t First = same_tenant t' (changed P front z.act t (older U.tenants r)) (sym is' ∙ z.now) ∙ ap (λ y. changed P front y t (older U.tenants r)) (sym act) in
-              ap (λ (z : Tenant). z.second.way) now)
-              (exact P C U front (On p (Link First)) a r t is))
+          (λ e. ap (λ (z : Tenant). z.second.way) (same_tenant t' t (sym is' ∙ e)))
+          (λ (z : Acted P U front (On p (Link First)) (applied P C U front (On p (Link First))).tenants r t).
+          let act : Link First ≡ z.act = act_of p z.p (Link First) z.act z.step in
+          let now : t' ≡ linked (older U.tenants r) t First = same_tenant t' (changed P front z.act t (older U.tenants r)) (sym is' ∙ z.now) ∙ ap (λ y. changed P front y t (older U.tenants r)) (sym act) in
+          ap (λ (z : Tenant). z.second.way) now)
+          (exact P C U front (On p (Link First)) a r t is))
           i
+      -- a question leaves what the front knows
 
-  -- a question leaves what the front knows
 pub question_leaves : (P : Program) (C : Sizes) (records : List Record) (base : List ℕ) (p : ℕ) (k : Source) (events : List Event) → IsQuestion p k events → AllByRecursion (KeepsEvent P C (λ U. Knows P C U records base)) events
 question_leaves P C records base p k events e = ⊎_elim
     (λ (f : events ≡ Marks (Asked p k) ∷ Does (On p (Link k)) ∷ []). subst (AllByRecursion (KeepsEvent P C (λ U. Knows P C U records base))) (sym f) (tt, (link, tt)))

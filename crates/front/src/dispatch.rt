@@ -3,7 +3,8 @@ ghost use Rattle.std.specs.Prelude.{◌≡◌, ◌<◌, ◌≤◌, IfSome};
 ghost use Rattle.inorder.specs.History.{IsLegal, front, unit_of};
 ghost use Rattle.isa.specs.Instruction.{fixed_next};
 ghost use Rattle.front.specs.Fetching.{IsNext};
-ghost use Rattle.front.specs.Knows.{IsReady, Knows};
+ghost use Rattle.front.specs.Fronts.{KnowsPath};
+ghost use Rattle.front.specs.Knows.{IsReady};
 ghost use Rattle.front.specs.Path.{record_for};
 ghost use Rattle.front.specs.Questions.{Asks, IsDispatched, MayAskFor};
 ghost use Rattle.station.specs.Seats.{IsSame};
@@ -43,7 +44,11 @@ fn ask(core: &Core, seat: &mut FrontSeat, station: usize, tag: u32, k: Source, f
     ensures kept { IsSame seat.old seat.new }
     ensures reply { Asks core.now.program core.now.sizes seat.old.seen seat.new.seen station tag k from }
 {
-    if let Supply::From { station: creator, tag: its_tag } = from {
+    if let Supply::From {
+        station: creator,
+        tag: its_tag,
+    } = from
+    {
         core.ask(seat, station, tag, k, (creator, its_tag));
     }
 }
@@ -65,7 +70,7 @@ pub fn dispatch(
     requires fixed { IfSome (fixed_next next.now.instr next.now.pc) (λ x. predicted ≡ x) }
     ensures kept { IsSame seat.old seat.new }
     ensures reply { IsDispatched core.now.program core.now.sizes seat.old.seen seat.new.seen next.now predicted result }
-    ensures knows { Knows core.now.program core.now.sizes (unit_of core.now.program core.now.sizes seat.new.seen) path.new.records path.new.base }
+    ensures knows { KnowsPath core.now seat.new.seen path.new }
 {
     let first = supply(path, next.instr.first());
     let second = supply(path, next.instr.second());

@@ -1,9 +1,7 @@
 //! The front, as its callers see it.
 ghost use Rattle.std.specs.Prelude.{◌≡◌, ◌<◌, []};
-ghost use Rattle.inorder.specs.History.{Adds, IsLegal, StartsWith, front, unit_of};
-ghost use Rattle.front.specs.Fronts.{IsUnused};
-ghost use Rattle.front.specs.Knows.{Knows};
-ghost use Rattle.front.specs.Recoveries.{RecoverAnswers};
+ghost use Rattle.inorder.specs.History.{Adds, IsLegal, StartsWith, front};
+ghost use Rattle.front.specs.Fronts.{AddsNothing, IsUnused, KnowsPath, RecoversTo, TurnsTo};
 ghost use Rattle.front.specs.Turns.{TurnAnswers};
 ghost use Rattle.station.specs.Looking.{SeesStation};
 ghost use Rattle.station.specs.Seats.{IsSame};
@@ -15,7 +13,7 @@ use crate::path::Path;
 use crate::recovery::recover_on;
 use crate::training::guess;
 use isa::{Predictor, Program};
-use station::{Core, FrontSeat, Part, Seen, SeatOf, StationState};
+use station::{Core, FrontSeat, Part, SeatOf, Seen, StationState};
 use std::marker::Model;
 
 /// The front of a core: it alone lets tenants, and squashes and mends. Its predictor is asked for the next pc of a
@@ -51,10 +49,10 @@ fn turn_on<P: Predictor>(
     requires by { seat.old.by ≡ front }
     requires legal { IsLegal core.now.program core.now.sizes seat.old.seen }
     requires program { program.now ≡ core.now.program }
-    requires knows { Knows core.now.program core.now.sizes (unit_of core.now.program core.now.sizes seat.old.seen) path.old.records path.old.base }
+    requires knows { KnowsPath core.now seat.old.seen path.old }
     ensures kept { IsSame seat.old seat.new }
     ensures reply { TurnAnswers P.Predicts P.Learns core.now.program core.now.sizes seat.old.seen seat.new.seen predictor.old predictor.new result }
-    ensures knows { Knows core.now.program core.now.sizes (unit_of core.now.program core.now.sizes seat.new.seen) path.new.records path.new.base }
+    ensures knows { KnowsPath core.now seat.new.seen path.new }
 {
     let next = match fetch(core, seat, path, program) {
         Ok(next) => next,
@@ -76,7 +74,7 @@ impl<'a, P: Predictor + Drop> Front<'a, P> {
         requires seat { IsUnused core.now seat }
         requires program { program.now ≡ core.now.program }
         ensures core { result.core ≡ core.now }
-        ensures history { Adds core.now.program core.now.sizes front seat.seen result.seen [] }
+        ensures history { AddsNothing core.now seat.seen result.seen }
         ensures predictor { result.predictor ≡ predictor }
     {
         // what a seat has seen is a legal history: each look says so
@@ -94,16 +92,22 @@ impl<'a, P: Predictor + Drop> Front<'a, P> {
     pub fn turn(&mut self, core: &Core) -> Turn
         requires { self.old.core ≡ core.now }
         ensures core { self.new.core ≡ core.now }
-        ensures reply { TurnAnswers P.Predicts P.Learns core.now.program core.now.sizes self.old.seen self.new.seen self.old.predictor self.new.predictor result }
+        ensures reply { TurnsTo P.Predicts P.Learns core.now self.old self.new result }
     {
-        turn_on(core, &mut self.seat, &mut self.path, self.program, &mut self.predictor)
+        turn_on(
+            core,
+            &mut self.seat,
+            &mut self.path,
+            self.program,
+            &mut self.predictor,
+        )
     }
 
     /// Looks for the oldest miss, squashes all tenants behind it, and mends it.
     pub fn recover(&mut self, core: &Core) -> Recovery
         requires { self.old.core ≡ core.now }
         ensures core { self.new.core ≡ core.now }
-        ensures reply { RecoverAnswers core.now.program core.now.sizes self.old.seen self.new.seen result }
+        ensures reply { RecoversTo core.now self.old self.new result }
         ensures predictor { self.new.predictor ≡ self.old.predictor }
     {
         recover_on(core, &mut self.seat, &mut self.path)
@@ -114,7 +118,7 @@ impl<'a, P: Predictor + Drop> Front<'a, P> {
         requires core { self.old.core ≡ core.now }
         requires station { station < core.now.sizes.ring }
         ensures core { self.new.core ≡ core.now }
-        ensures history { Adds core.now.program core.now.sizes front self.old.seen self.new.seen [] }
+        ensures history { AddsNothing core.now self.old.seen self.new.seen }
         ensures reply { SeesStation core.now.program core.now.sizes self.new.seen station result }
         ensures predictor { self.new.predictor ≡ self.old.predictor }
     {
@@ -126,7 +130,7 @@ impl<'a, P: Predictor + Drop> Front<'a, P> {
         requires core { self.old.core ≡ core.now }
         requires other { other.old.core ≡ core.now }
         ensures core { self.new.core ≡ core.now }
-        ensures history { Adds core.now.program core.now.sizes front self.old.seen self.new.seen [] }
+        ensures history { AddsNothing core.now self.old.seen self.new.seen }
         ensures told { StartsWith self.new.seen other.old.seen }
         ensures predictor { self.new.predictor ≡ self.old.predictor }
         ensures other_kept { IsSame other.old other.new }

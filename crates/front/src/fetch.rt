@@ -2,7 +2,7 @@
 ghost use Rattle.std.specs.Prelude.{◌≡◌, ◌≤◌, ◌<◌, [], IfOk, IfErr};
 ghost use Rattle.inorder.specs.History.{Adds, IsLegal, front, unit_of};
 ghost use Rattle.front.specs.Fetching.{CanFetch};
-ghost use Rattle.front.specs.Knows.{Knows};
+ghost use Rattle.front.specs.Fronts.{AddsNothing, KnowsPath};
 ghost use Rattle.front.specs.Turns.{Refuses};
 ghost use Rattle.station.specs.Seats.{IsSame};
 
@@ -35,9 +35,9 @@ pub fn fetch(
     requires by { seat.old.by ≡ front }
     requires legal { IsLegal core.now.program core.now.sizes seat.old.seen }
     requires program { program.now ≡ core.now.program }
-    requires knows { Knows core.now.program core.now.sizes (unit_of core.now.program core.now.sizes seat.old.seen) path.now.records path.now.base }
+    requires knows { KnowsPath core.now seat.old.seen path.now }
     ensures kept { IsSame seat.old seat.new }
-    ensures history { Adds core.now.program core.now.sizes front seat.old.seen seat.new.seen [] }
+    ensures history { AddsNothing core.now seat.old.seen seat.new.seen }
     ensures ok { IfOk result (CanFetch core.now.program core.now.sizes seat.new.seen path.now.records) }
     ensures err { IfErr result (Refuses core.now.program core.now.sizes seat.old.seen seat.new.seen) }
 {

@@ -3,7 +3,7 @@ ghost use Rattle.std.specs.Prelude.{◌≡◌, ◌≤◌, []};
 ghost use Rattle.isa.specs.Instruction.{kind};
 ghost use Rattle.inorder.specs.Tenants.{is_access};
 ghost use Rattle.inorder.specs.History.{Adds, IsLegal, front, unit_of};
-ghost use Rattle.front.specs.Knows.{Knows};
+ghost use Rattle.front.specs.Fronts.{AddsNothing, KnowsPath};
 ghost use Rattle.front.specs.Queues.{AccessBefore, QueueSays};
 ghost use Rattle.station.specs.Seats.{IsSame};
 
@@ -45,9 +45,9 @@ pub fn queue_is_full(core: &Core, seat: &mut FrontSeat, path: &Path, instr: &Ins
     requires by { seat.old.by ≡ front }
     requires legal { IsLegal core.now.program core.now.sizes seat.old.seen }
     requires least { 2 ≤ core.now.sizes.ring }
-    requires knows { Knows core.now.program core.now.sizes (unit_of core.now.program core.now.sizes seat.old.seen) path.now.records path.now.base }
+    requires knows { KnowsPath core.now seat.old.seen path.now }
     ensures kept { IsSame seat.old seat.new }
-    ensures history { Adds core.now.program core.now.sizes front seat.old.seen seat.new.seen [] }
+    ensures history { AddsNothing core.now seat.old.seen seat.new.seen }
     ensures reply { QueueSays core.now.program core.now.sizes (unit_of core.now.program core.now.sizes seat.new.seen) instr.now result }
 {
     if !reaches_memory(instr) {

@@ -1,7 +1,7 @@
 //! Recovery from a miss.
 ghost use Rattle.std.specs.Prelude.{◌≡◌, ◌≤◌, ◌+◌, [], length, take};
 ghost use Rattle.inorder.specs.History.{Adds, IsLegal, front, unit_of};
-ghost use Rattle.front.specs.Knows.{Knows};
+ghost use Rattle.front.specs.Fronts.{AddsNothing, KnowsPath};
 ghost use Rattle.front.specs.Recoveries.{Finds, IsCut, IsMissAt, RecoverAnswers};
 ghost use Rattle.station.specs.Seats.{IsSame};
 
@@ -23,9 +23,9 @@ fn find_miss(core: &Core, seat: &mut FrontSeat, path: &Path) -> Option<Missed>
     requires core { seat.old.core ≡ core.now }
     requires by { seat.old.by ≡ front }
     requires legal { IsLegal core.now.program core.now.sizes seat.old.seen }
-    requires knows { Knows core.now.program core.now.sizes (unit_of core.now.program core.now.sizes seat.old.seen) path.now.records path.now.base }
+    requires knows { KnowsPath core.now seat.old.seen path.now }
     ensures kept { IsSame seat.old seat.new }
-    ensures history { Adds core.now.program core.now.sizes front seat.old.seen seat.new.seen [] }
+    ensures history { AddsNothing core.now seat.old.seen seat.new.seen }
     ensures reply { Finds core.now.program core.now.sizes seat.old.seen seat.new.seen path.now.records result }
 {
     for at in 0..path.records.len() {
@@ -49,11 +49,11 @@ fn squash_behind(core: &Core, seat: &mut FrontSeat, path: &mut Path, missed: Mis
     requires core { seat.old.core ≡ core.now }
     requires by { seat.old.by ≡ front }
     requires legal { IsLegal core.now.program core.now.sizes seat.old.seen }
-    requires knows { Knows core.now.program core.now.sizes (unit_of core.now.program core.now.sizes seat.old.seen) path.old.records path.old.base }
+    requires knows { KnowsPath core.now seat.old.seen path.old }
     requires miss { IsMissAt core.now.program core.now.sizes seat.old.seen path.old.records missed }
     ensures kept { IsSame seat.old seat.new }
     ensures history { IsCut core.now.program core.now.sizes seat.old.seen seat.new.seen result }
-    ensures knows { Knows core.now.program core.now.sizes (unit_of core.now.program core.now.sizes seat.new.seen) path.new.records path.new.base }
+    ensures knows { KnowsPath core.now seat.new.seen path.new }
     ensures miss { IsMissAt core.now.program core.now.sizes seat.new.seen path.new.records missed }
     ensures last { length path.new.records ≡ missed.at + 1 }
     ensures rest { path.new.records ≡ take (missed.at + 1) path.old.records }
@@ -71,10 +71,10 @@ pub fn recover_on(core: &Core, seat: &mut FrontSeat, path: &mut Path) -> Recover
     requires core { seat.old.core ≡ core.now }
     requires by { seat.old.by ≡ front }
     requires legal { IsLegal core.now.program core.now.sizes seat.old.seen }
-    requires knows { Knows core.now.program core.now.sizes (unit_of core.now.program core.now.sizes seat.old.seen) path.old.records path.old.base }
+    requires knows { KnowsPath core.now seat.old.seen path.old }
     ensures kept { IsSame seat.old seat.new }
     ensures reply { RecoverAnswers core.now.program core.now.sizes seat.old.seen seat.new.seen result }
-    ensures knows { Knows core.now.program core.now.sizes (unit_of core.now.program core.now.sizes seat.new.seen) path.new.records path.new.base }
+    ensures knows { KnowsPath core.now seat.new.seen path.new }
 {
     core.ring();
     let Some(missed) = find_miss(core, seat, path) else {

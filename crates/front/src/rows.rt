@@ -1,11 +1,14 @@
 //! Turns and recoveries, by hand.
-ghost use Rattle.std.specs.Prelude.{◌≡◌, ◌<◌};
+ghost use Rattle.std.specs.Prelude.{◌≡◌, ◌<◌, IfSome};
+ghost use Rattle.inorder.specs.History.{IsLegal};
+ghost use Rattle.station.specs.Claiming.{Holds};
 ghost use Rattle.station.specs.Seats.{IsSame};
 
 use crate::{Front, Recovery, Turn};
 use isa::{Config, Instr, NotTaken, Outcome, Predictor, Program, outcome, parse};
-use station::{Claim, Core, Finish, Retire, Source, StationState, UnitSeat};
+use station::{BackSeat, Claim, Core, Finish, Job, Retire, Source, StationState, UnitSeat};
 use std::alloc::Global;
+use std::process::Abort;
 use std::test::Fail;
 
 fn made(
@@ -19,13 +22,81 @@ fn made(
     Ok((program, config))
 }
 
-// Claims the tenant of a station, and finishes it by its outcome.
-fn finish_one(
+fn let_at(station: usize, tag: u32, pc: u32) -> Turn {
+    Turn::Let { station, tag, pc }
+}
+
+// The front takes these turns.
+fn takes<'a, P: Predictor + Drop>(
+    rt: &impl Abort,
     core: &Core,
-    program: &Program,
-    seat: &mut UnitSeat,
-    station: usize,
-) -> Option<(Outcome, Finish)>
+    front: &mut Front<'a, P>,
+    turns: &[Turn],
+)
+    requires { front.old.core ≡ core.now }
+    ensures { front.new.core ≡ core.now }
+{
+    for turn in turns {
+        let taken = front.turn(core);
+        assert_eq!(rt; taken, *turn);
+    }
+}
+
+// What came of a job: its sources, its outcome, and the answer.
+#[derive(Clone, Copy, Debug, PartialEq)]
+struct Done {
+    a: u32,
+    b: u32,
+    outcome: Outcome,
+    finish: Finish,
+}
+
+fn finished(a: u32, b: u32, outcome: Outcome) -> Done {
+    Done {
+        a,
+        b,
+        outcome,
+        finish: Finish::Finished,
+    }
+}
+
+// Finishes a job by its outcome.
+fn finish_job(core: &Core, program: &Program, seat: &mut UnitSeat, job: Job) -> Done
+    requires core { seat.old.core ≡ core.now }
+    requires program { program.now ≡ core.now.program }
+    requires legal { IsLegal core.now.program core.now.sizes seat.old.seen }
+    requires job { Holds core.now.program core.now.sizes seat.old.by seat.old.seen job }
+    ensures kept { IsSame seat.old seat.new }
+{
+    let instr = program.instr(job.index as usize);
+    let found = outcome(instr, job.pc, job.a, job.b, program.size());
+    let (a, b) = (job.a, job.b);
+    let finish = core.finish(seat, job, found);
+    Done {
+        a,
+        b,
+        outcome: found,
+        finish,
+    }
+}
+
+// Claims the tenant of a station and finishes it.
+fn finish_one(core: &Core, program: &Program, seat: &mut UnitSeat, station: usize) -> Option<Done>
+    requires core { seat.old.core ≡ core.now }
+    requires program { program.now ≡ core.now.program }
+    requires station { station < core.now.sizes.ring }
+    ensures kept { IsSame seat.old seat.new }
+{
+    match core.claim(seat, station) {
+        Claim::Job(job) => Some(finish_job(core, program, seat, job)),
+        Claim::NotOpen => None,
+        Claim::Waiting { tag: _, k: _ } => None,
+        Claim::Moved { tag: _ } => None,
+    }
+}
+
+// Tries to claim the tenant of a station: its tag, and whether it waits for source 1.
+fn waits(core: &Core, program: &Program, seat: &mut UnitSeat, station: usize) -> Option<(u32, bool)>
     requires core { seat.old.core ≡ core.now }
     requires program { program.now ≡ core.now.program }
     requires station { station < core.now.sizes.ring }
@@ -33,18 +104,56 @@ fn finish_one(
 {
     match core.claim(seat, station) {
         Claim::Job(job) => {
-            let instr = program.instr(job.index as usize);
-            let found = outcome(instr, job.pc, job.a, job.b, program.size());
-            Some((found, core.finish(seat, job, found)))
+            finish_job(core, program, seat, job);
+            None
         }
-        Claim::NotOpen | Claim::Waiting { .. } | Claim::Moved { .. } => None,
+        Claim::NotOpen => None,
+        Claim::Waiting { tag, k } => Some((tag, matches!(k, Source::First))),
+        Claim::Moved { tag: _ } => None,
     }
 }
 
-const FINISHED: Finish = Finish::Finished;
+// A unit keeps the job of a station, while another finishes a branch, the front recovers from it and takes a turn.
+fn keeps<'a>(
+    rt: &impl Abort,
+    core: &Core,
+    program: &Program,
+    front: &mut Front<'a, NotTaken>,
+    units: (UnitSeat, UnitSeat),
+    stations: (usize, usize),
+    turn: Turn,
+) -> Option<(Option<Done>, Recovery, Done, UnitSeat)>
+    requires front { front.old.core ≡ core.now }
+    requires program { program.now ≡ core.now.program }
+    requires units { (units.0.core ≡ core.now) × (units.1.core ≡ core.now) }
+    requires stations { (stations.0 < core.now.sizes.ring) × (stations.1 < core.now.sizes.ring) }
+    ensures front { front.new.core ≡ core.now }
+    ensures unit { IfSome result (λ t. t.3.core ≡ core.now) }
+{
+    let (mut one, mut other) = units;
+    match core.claim(&mut one, stations.0) {
+        Claim::Job(job) => {
+            let branch = finish_one(core, program, &mut other, stations.1);
+            let recovery = front.recover(core);
+            takes(rt, core, front, &[turn]);
+            let kept = finish_job(core, program, &mut one, job);
+            Some((branch, recovery, kept, other))
+        }
+        Claim::NotOpen => None,
+        Claim::Waiting { tag: _, k: _ } => None,
+        Claim::Moved { tag: _ } => None,
+    }
+}
 
-fn let_at(station: usize, tag: u32, pc: u32) -> Turn {
-    Turn::Let { station, tag, pc }
+// The back retires the tenant of this station.
+fn retires(core: &Core, back: &mut BackSeat, station: usize) -> bool
+    requires { back.old.core ≡ core.now }
+    ensures { IsSame back.old back.new }
+{
+    match core.retire(back) {
+        Retire::Retired { station: left, .. } => left == station,
+        _ => false,
+    }
 }
 
 #[test]
@@ -54,82 +163,90 @@ fn a_station_is_let_again_under_an_old_job(rt: HostRuntime) -> Result<(), Fail> 
     let (core, seat, _back, unit) = Core::make(rt.alloc(), &program, &config)?;
     assert!(rt; core.ring() == 4);
     let mut front = Front::new(&core, seat, &program, NotTaken);
-    let (mut one, mut other) = core.split(unit);
-    assert_eq!(rt; front.turn(&core), let_at(0, 1, 0x0040_0000));
-    assert_eq!(rt; front.turn(&core), let_at(1, 1, 0x0040_0004));
-    assert_eq!(rt; front.turn(&core), let_at(2, 1, 0x0040_0008));
-    let Claim::Job(job) = core.claim(&mut one, 1) else {
-        panic!(rt; "no job");
+    let units = core.split(unit);
+    let lets = [
+        let_at(0, 1, 0x0040_0000),
+        let_at(1, 1, 0x0040_0004),
+        let_at(2, 1, 0x0040_0008),
+    ];
+    takes(&rt, &core, &mut front, &lets);
+    let again = let_at(1, 2, 0x0040_0008);
+    let kept = keeps(&rt, &core, &program, &mut front, units, (1, 0), again);
+    let Some((branch, recovery, stale, _other)) = kept else {
+        return Err(Fail::new("no job"));
     };
-    let branch = finish_one(&core, &program, &mut other, 0);
-    assert_eq!(rt; branch, Some((Outcome::Next(0x0040_0008), FINISHED)));
-    let mended = front.recover(&core);
-    assert_eq!(rt; mended, Recovery::Mended { station: 0, squashed: 2 });
-    assert_eq!(rt; front.turn(&core), let_at(1, 2, 0x0040_0008));
-    let instr = program.instr(job.index as usize);
-    let found = outcome(instr, job.pc, job.a, job.b, program.size());
-    assert_eq!(rt; core.finish(&mut one, job, found), Finish::Stale);
     let word = front.look(&core, 1);
+    assert_eq!(rt; branch, Some(finished(0, 0, Outcome::Next(0x0040_0008))));
+    assert_eq!(rt;
+        recovery,
+        Recovery::Mended {
+            station: 0,
+            squashed: 2
+        }
+    );
+    assert_eq!(rt; stale.finish, Finish::Stale);
     assert!(rt; word.tag == 2 && word.state == StationState::Open);
-    assert_eq!(rt; front.recover(&core), Recovery::NoMiss);
     Ok(())
 }
 
 #[test]
 fn a_link_dies_with_its_tenant(rt: HostRuntime) -> Result<(), Fail> {
-    let listing = b"addiu $1,$0,1\naddiu $3,$0,3\nbeq $0,$0,E\naddu $2,$1,$1\nE: addu $4,$3,$3\nbreak\n";
+    let listing =
+        b"addiu $1,$0,1\naddiu $3,$0,3\nbeq $0,$0,E\naddu $2,$1,$1\nE: addu $4,$3,$3\nbreak\n";
     let (program, config) = made(rt.alloc(), listing, 4, 1)?;
     let (core, seat, _back, unit) = Core::make(rt.alloc(), &program, &config)?;
     assert!(rt; core.ring() == 4);
     let mut front = Front::new(&core, seat, &program, NotTaken);
-    let (mut one, mut other) = core.split(unit);
-    assert_eq!(rt; front.turn(&core), let_at(0, 1, 0x0040_0000));
-    assert_eq!(rt; front.turn(&core), let_at(1, 1, 0x0040_0004));
-    assert_eq!(rt; front.turn(&core), let_at(2, 1, 0x0040_0008));
-    assert_eq!(rt; front.turn(&core), let_at(3, 1, 0x0040_000c));
-    let Claim::Job(job) = core.claim(&mut one, 0) else {
-        panic!(rt; "no job");
+    let units = core.split(unit);
+    let lets = [
+        let_at(0, 1, 0x0040_0000),
+        let_at(1, 1, 0x0040_0004),
+        let_at(2, 1, 0x0040_0008),
+        let_at(3, 1, 0x0040_000c),
+    ];
+    takes(&rt, &core, &mut front, &lets);
+    let again = let_at(3, 2, 0x0040_0010);
+    let kept = keeps(&rt, &core, &program, &mut front, units, (0, 2), again);
+    let Some((branch, recovery, one, mut other)) = kept else {
+        return Err(Fail::new("no job"));
     };
-    let branch = finish_one(&core, &program, &mut other, 2);
-    assert_eq!(rt; branch, Some((Outcome::Next(0x0040_0010), FINISHED)));
-    let mended = front.recover(&core);
-    assert_eq!(rt; mended, Recovery::Mended { station: 2, squashed: 1 });
-    assert_eq!(rt; front.turn(&core), let_at(3, 2, 0x0040_0010));
-    let instr = program.instr(job.index as usize);
-    let found = outcome(instr, job.pc, job.a, job.b, program.size());
-    assert_eq!(rt; core.finish(&mut one, job, found), FINISHED);
-    let waits = core.claim(&mut other, 3);
-    assert!(rt; matches!(waits, Claim::Waiting { tag: 2, k: Source::First }));
+    let waiting = waits(&core, &program, &mut other, 3);
     let three = finish_one(&core, &program, &mut other, 1);
-    assert_eq!(rt; three, Some((Outcome::Value(3), FINISHED)));
-    let Claim::Job(last) = core.claim(&mut other, 3) else {
-        panic!(rt; "no job");
-    };
-    assert_eq!(rt; (last.a, last.b), (3, 3));
-    let instr = program.instr(last.index as usize);
-    let found = outcome(instr, last.pc, last.a, last.b, program.size());
-    assert_eq!(rt; core.finish(&mut other, last, found), FINISHED);
+    let six = finish_one(&core, &program, &mut other, 3);
+    assert_eq!(rt; branch, Some(finished(0, 0, Outcome::Next(0x0040_0010))));
+    assert_eq!(rt;
+        recovery,
+        Recovery::Mended {
+            station: 2,
+            squashed: 1
+        }
+    );
+    assert_eq!(rt; one, finished(0, 0, Outcome::Value(1)));
+    assert_eq!(rt; waiting, Some((2, true)));
+    assert_eq!(rt; three, Some(finished(0, 0, Outcome::Value(3))));
+    assert_eq!(rt; six, Some(finished(3, 3, Outcome::Value(6))));
     Ok(())
 }
 
 #[test]
 fn a_station_whose_tags_are_spent_is_not_let(rt: HostRuntime) -> Result<(), Fail> {
     let listing = b"addiu $1,$0,5\naddu $2,$1,$1\nbreak\n";
-    let first_tag = 0x0fff_fffe;
     let (program, config) = made(rt.alloc(), listing, 2, 0x0fff_fffe)?;
     let (core, seat, mut back, mut unit) = Core::make(rt.alloc(), &program, &config)?;
     assert!(rt; core.ring() == 2);
     let mut front = Front::new(&core, seat, &program, NotTaken);
-    assert_eq!(rt; front.turn(&core), let_at(0, first_tag, 0x0040_0000));
-    assert_eq!(rt; front.turn(&core), let_at(1, first_tag, 0x0040_0004));
+    let lets = [
+        let_at(0, 0x0fff_fffe, 0x0040_0000),
+        let_at(1, 0x0fff_fffe, 0x0040_0004),
+    ];
+    takes(&rt, &core, &mut front, &lets);
     let five = finish_one(&core, &program, &mut unit, 0);
-    assert_eq!(rt; five, Some((Outcome::Value(5), FINISHED)));
     let ten = finish_one(&core, &program, &mut unit, 1);
-    assert_eq!(rt; ten, Some((Outcome::Value(10), FINISHED)));
-    assert!(rt; matches!(core.retire(&mut back), Retire::Retired { station: 0, .. }));
-    assert!(rt; matches!(core.retire(&mut back), Retire::Retired { station: 1, .. }));
-    assert_eq!(rt; front.turn(&core), Turn::Spent);
-    assert!(rt; matches!(core.retire(&mut back), Retire::Empty));
+    let retired = retires(&core, &mut back, 0) && retires(&core, &mut back, 1);
+    takes(&rt, &core, &mut front, &[Turn::Spent]);
+    assert_eq!(rt; five, Some(finished(0, 0, Outcome::Value(5))));
+    assert_eq!(rt; ten, Some(finished(5, 5, Outcome::Value(10))));
+    assert!(rt; retired);
     Ok(())
 }
 
@@ -140,13 +257,32 @@ fn a_full_ring_waits_for_a_retirement(rt: HostRuntime) -> Result<(), Fail> {
     let (core, seat, mut back, mut unit) = Core::make(rt.alloc(), &program, &config)?;
     assert!(rt; core.ring() == 2);
     let mut front = Front::new(&core, seat, &program, NotTaken);
-    assert_eq!(rt; front.turn(&core), let_at(0, 1, 0x0040_0000));
-    assert_eq!(rt; front.turn(&core), let_at(1, 1, 0x0040_0004));
-    assert_eq!(rt; front.turn(&core), Turn::Full);
+    let lets = [
+        let_at(0, 1, 0x0040_0000),
+        let_at(1, 1, 0x0040_0004),
+        Turn::Full,
+    ];
+    takes(&rt, &core, &mut front, &lets);
     let five = finish_one(&core, &program, &mut unit, 0);
-    assert_eq!(rt; five, Some((Outcome::Value(5), FINISHED)));
-    assert!(rt; matches!(core.retire(&mut back), Retire::Retired { station: 0, .. }));
-    assert_eq!(rt; front.turn(&core), let_at(0, 2, 0x0040_0008));
+    assert_eq!(rt; five, Some(finished(0, 0, Outcome::Value(5))));
+    assert!(rt; retires(&core, &mut back, 0));
+    takes(&rt, &core, &mut front, &[let_at(0, 2, 0x0040_0008)]);
+    Ok(())
+}
+
+#[test]
+fn the_queue_takes_two(rt: HostRuntime) -> Result<(), Fail> {
+    let listing = b".space 4\nlw $1,0($0)\nlw $2,0($0)\nlw $3,0($0)\nbreak\n";
+    let (program, config) = made(rt.alloc(), listing, 4, 1)?;
+    let (core, seat, _back, _unit) = Core::make(rt.alloc(), &program, &config)?;
+    let mut front = Front::new(&core, seat, &program, NotTaken);
+    let lets = [
+        let_at(0, 1, 0x0040_0000),
+        let_at(1, 1, 0x0040_0004),
+        Turn::QueueFull,
+    ];
+    takes(&rt, &core, &mut front, &lets);
+    assert_eq!(rt; front.recover(&core), Recovery::NoMiss);
     Ok(())
 }
 
@@ -172,24 +308,22 @@ fn a_predictor_may_answer_anything(rt: HostRuntime) -> Result<(), Fail> {
     let (core, seat, _back, mut unit) = Core::make(rt.alloc(), &program, &config)?;
     assert!(rt; core.ring() == 4);
     let mut front = Front::new(&core, seat, &program, One);
-    assert_eq!(rt; front.turn(&core), let_at(0, 1, 0x0040_0000));
-    assert_eq!(rt; front.turn(&core), Turn::NoInstr);
+    takes(
+        &rt,
+        &core,
+        &mut front,
+        &[let_at(0, 1, 0x0040_0000), Turn::NoInstr],
+    );
     let branch = finish_one(&core, &program, &mut unit, 0);
-    assert_eq!(rt; branch, Some((Outcome::Next(0x0040_0004), FINISHED)));
-    let mended = front.recover(&core);
-    assert_eq!(rt; mended, Recovery::Mended { station: 0, squashed: 0 });
-    assert_eq!(rt; front.turn(&core), let_at(1, 1, 0x0040_0004));
-    Ok(())
-}
-
-#[test]
-fn the_queue_takes_two(rt: HostRuntime) -> Result<(), Fail> {
-    let listing = b".space 4\nlw $1,0($0)\nlw $2,0($0)\nlw $3,0($0)\nbreak\n";
-    let (program, config) = made(rt.alloc(), listing, 4, 1)?;
-    let (core, seat, _back, _unit) = Core::make(rt.alloc(), &program, &config)?;
-    let mut front = Front::new(&core, seat, &program, NotTaken);
-    assert_eq!(rt; front.turn(&core), let_at(0, 1, 0x0040_0000));
-    assert_eq!(rt; front.turn(&core), let_at(1, 1, 0x0040_0004));
-    assert_eq!(rt; front.turn(&core), Turn::QueueFull);
+    let recovery = front.recover(&core);
+    assert_eq!(rt; branch, Some(finished(0, 0, Outcome::Next(0x0040_0004))));
+    assert_eq!(rt;
+        recovery,
+        Recovery::Mended {
+            station: 0,
+            squashed: 0
+        }
+    );
+    takes(&rt, &core, &mut front, &[let_at(1, 1, 0x0040_0004)]);
     Ok(())
 }

@@ -1,0 +1,17 @@
+pub mod OwnEntries
+pub mod Committing
+pub mod UnitKept
+pub mod Retiring
+pub mod Starting
+pub mod SeatKept
+pub mod Calls
+pub mod Ranks
+pub mod RuleOver
+pub mod PortRule
+pub mod PortStays
+pub mod Seeing
+pub mod Searching
+pub mod Answering
+pub mod Trying
+pub mod Settling
+pub mod Scanning

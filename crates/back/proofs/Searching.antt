@@ -1,0 +1,308 @@
+-- What the rule says of one store and a load, and the search among the older stores.
+use Rattle.std.proofs.Common.{◌≡◌, ◌⊎◌, ℕ, ◌+◌, ◌<◌, ◌≤◌, Bool, true, false, cond, ◌&&◌, List, [], ◌∷◌, length, Option, Some, None, refl, sym, ap, ◌∙◌, subst, inl, inr, ⊎_elim, arith, true≢false}
+use Rattle.std.proofs.lemmas.Bool.{cases_lt}
+use Rattle.std.specs.Prelude.{IfNone, IfSome, is_none, is_some, not}
+use Rattle.isa.specs.Instruction.{width}
+use Rattle.isa.specs.Programs.{Program}
+use Rattle.isa.specs.declared.op.Kind.{Kind}
+use Rattle.isa.specs.declared.op.Kind.TheVariants.{Stores}
+use Rattle.isa.specs.declared.stop.Outcome.{Outcome}
+use Rattle.lsq.specs.declared.answer.Answer.{Answer}
+use Rattle.lsq.specs.declared.answer.Answer.TheVariants.{Blocked, Forward, Memory}
+use Rattle.lsq.specs.declared.entry.Entry.{Entry as QueueEntry}
+use Rattle.lsq.specs.Entries.{bytes}
+use Rattle.lsq.specs.LoadRule.{answer, answer_over, by_lacking, by_overlap, forwarded, lacks_address, meets, overlaps, taken_from}
+use Rattle.inorder.specs.declared.history.Entry.{Entry}
+use Rattle.inorder.specs.History.{Adds, back, unit_of}
+use Rattle.inorder.specs.Loads.{access_width, address_by, entry_of, is_store}
+use Rattle.inorder.specs.Tenants.{Addr, Busy, Done, Fate, Miss, Open, Stopped, Tenant, computed, instr, kind_of}
+use Rattle.inorder.specs.Unit.{Sizes, UpdateUnit}
+use Rattle.inorder.proofs.QueueBytes.{same_width, store_is}
+use Rattle.back.specs.Port.{AtStation, HasFound, HasMet, HasUnknown, IsEntryOf, IsKnown, IsMet, IsPassed, Lacks, address_of, behind, load_entry}
+use Rattle.back.specs.declared.port.Load.{Load}
+use Rattle.back.proofs.PortStays.{known_lasts, length_grows, met_lasts, passed_lasts, station_stays}
+
+-- One store
+
+abbrev pub answer_of : Bool → Bool → Option ℕ → Answer
+answer_of true meets raw = Blocked 0
+answer_of false true raw = forwarded 0 raw
+answer_of false false raw = Memory
+
+over_one : (e : QueueEntry) (a w : ℕ) → answer_over (e ∷ []) a w ≡ answer_of (lacks_address e) (overlaps a w e) (taken_from e.address (bytes e.width) e.content a w)
+over_one e a w = go (lacks_address e) (overlaps a w e) refl
+  where
+    overlapping : (c : Bool) → by_overlap (cond c (Some (0, e)) None) a w ≡ answer_of false c (taken_from e.address (bytes e.width) e.content a w)
+    overlapping true = refl
+    overlapping false = refl
+
+    go : (b c : Bool) → overlaps a w e ≡ c → by_lacking (cond b (Some (0, e)) None) (e ∷ []) a w ≡ answer_of b c (taken_from e.address (bytes e.width) e.content a w)
+    go true c h = refl
+    go false c h = ap (λ x. by_overlap (cond x (Some (0, e)) None) a w) h ∙ overlapping c
+
+says_memory : (b c : Bool) (raw : Option ℕ) → answer_of b c raw ≡ Memory → (b ≡ false) × (c ≡ false)
+says_memory true c raw e = absurd (cc e)
+says_memory false true None e = absurd (cc e)
+says_memory false true (Some x) e = absurd (cc e)
+says_memory false false raw e = (refl, refl)
+
+-- it lacks its address, or overlaps and has not all the bytes
+pub data Blocks (b c : Bool) (raw : Option ℕ) : Type 0 where
+  Lacking : b ≡ true → Blocks b c raw
+  Overlapping : b ≡ false → c ≡ true → raw ≡ None → Blocks b c raw
+
+says_blocked : (b c : Bool) (raw : Option ℕ) (i : ℕ) → answer_of b c raw ≡ Blocked i → Blocks b c raw
+says_blocked true c raw i e = Lacking refl
+says_blocked false true None i e = Overlapping refl refl refl
+says_blocked false true (Some x) i e = absurd (cc e)
+says_blocked false false raw i e = absurd (cc e)
+
+says_forward : (b c : Bool) (raw : Option ℕ) (r : ℕ) → answer_of b c raw ≡ Forward r → (b ≡ false) × (c ≡ true) × (raw ≡ Some r)
+says_forward true c raw r e = absurd (cc e)
+says_forward false true None r e = absurd (cc e)
+says_forward false true (Some x) r e = (refl, refl, ap Some (cc e))
+says_forward false false raw r e = absurd (cc e)
+
+none_taken : (o : Option ℕ) (stored a w : ℕ) → taken_from o stored None a w ≡ None
+none_taken None stored a w = refl
+none_taken (Some b) stored a w = refl
+
+first_true : (a b : Bool) → (a && b) ≡ true → a ≡ true
+first_true true b e = refl
+first_true false b e = absurd (true≢false (sym e))
+
+and_false : (b : Bool) → (b && false) ≡ false
+and_false true = refl
+and_false false = refl
+
+by_stores : (f : Fate) (o : Outcome) → address_by Stores f o ≡ address_of f
+by_stores Open o = refl
+by_stores (Busy by) o = refl
+by_stores (Addr a) o = refl
+by_stores (Done v) o = refl
+by_stores (Miss x) o = refl
+by_stores (Stopped c) o = refl
+
+address_back : (f : Fate) (b : ℕ) → address_of f ≡ Some b → f ≡ Addr b
+address_back Open b e = absurd (cc e)
+address_back (Busy by) b e = absurd (cc e)
+address_back (Addr a) b e = ap Addr (cc e)
+address_back (Done v) b e = absurd (cc e)
+address_back (Miss x) b e = absurd (cc e)
+address_back (Stopped c) b e = absurd (cc e)
+
+module _ (e : QueueEntry) (l : Load) where
+  abbrev a : ℕ
+  a = l.address
+
+  abbrev w : ℕ
+  w = width l.op
+
+  abbrev raw_of : Option ℕ
+  raw_of = taken_from e.address (bytes e.width) e.content a w
+
+  pub one_is : answer (e ∷ load_entry l ∷ []) 1 ≡ answer_of (lacks_address e) (overlaps a w e) raw_of
+  one_is = ap (answer_over (e ∷ []) a) (same_width l.op) ∙ over_one e a w
+
+  pub no_forward : e.content ≡ None → (r : ℕ) → answer (e ∷ load_entry l ∷ []) 1 ≡ Forward r → ⊥
+  no_forward c r h =
+      let f = says_forward (lacks_address e) (overlaps a w e) raw_of r (sym one_is ∙ h) in
+      let none = sym f.2 ∙ (ap (λ d. taken_from e.address (bytes e.width) d a w) c ∙ none_taken e.address (bytes e.width) a w) in absurd (cc none)
+
+  -- what blocks is a store
+  blocks_store : Blocks (lacks_address e) (overlaps a w e) raw_of → e.store ≡ true
+  blocks_store (Lacking b) = first_true e.store (is_none e.address) b
+  blocks_store (Overlapping b c r) = first_true e.store (meets e.address (bytes e.width) a w) c
+
+  blocks_over : (b : ℕ) → e.address ≡ Some b → Blocks (lacks_address e) (overlaps a w e) raw_of → overlaps a w e ≡ true
+  blocks_over b ad (Lacking h) = let no = sym h ∙ (ap (λ o. e.store && is_none o) ad ∙ and_false e.store) in absurd (true≢false no)
+  blocks_over b ad (Overlapping h c r) = c
+
+  -- Of the tenant that the entry is of
+  module _ (P : Program) (u : Tenant) (i : IsEntryOf P e u) where
+    address_same : e.store ≡ true → (entry_of P u).address ≡ e.address
+    address_same st =
+        ap (λ k. address_by k u.fate (computed P u)) (store_is (kind_of P u) (sym i.store ∙ st))
+        ∙ (by_stores u.fate (computed P u) ∙ sym i.address)
+
+    overlaps_same : e.store ≡ true → overlaps a w (entry_of P u) ≡ overlaps a w e
+    overlaps_same st = λ j. (sym i.store j) && meets (address_same st j) (bytes (sym i.width j)) a w
+
+    known_by : (b : ℕ) → e.address ≡ Some b → IsKnown P u
+    known_by b ad = inr (b, address_back u.fate b (sym i.address ∙ ad))
+
+    pub passed_of : answer (e ∷ load_entry l ∷ []) 1 ≡ Memory → IsPassed P a w u
+    passed_of h =
+        let m = says_memory (lacks_address e) (overlaps a w e) raw_of (sym one_is ∙ h) in
+        go e.store refl e.address refl m.0 m.1
+      where
+        go : (b : Bool) → e.store ≡ b → (o : Option ℕ) → e.address ≡ o → lacks_address e ≡ false → overlaps a w e ≡ false → IsPassed P a w u
+        go false st o ad lacks over =
+            let no : is_store (kind_of P u) ≡ false = sym i.store ∙ st in
+            record { known = inl no; apart = ap (λ z. z && meets (entry_of P u).address (bytes (entry_of P u).width) a w) no }
+        go true st None ad lacks over = let x : true ≡ false = sym (λ j. (st j) && is_none (ad j)) ∙ lacks in absurd (true≢false x)
+        go true st (Some b) ad lacks over = record { known = known_by b ad; apart = overlaps_same st ∙ over }
+
+    pub lacks_of : (k : ℕ) → answer (e ∷ load_entry l ∷ []) 1 ≡ Blocked k → e.address ≡ None → Lacks P u
+    lacks_of k h ad =
+        let st = blocks_store (says_blocked (lacks_address e) (overlaps a w e) raw_of k (sym one_is ∙ h)) in
+        λ j. (sym i.store ∙ st) j && is_none ((address_same st ∙ ad) j)
+
+    pub met_of : (k b : ℕ) → answer (e ∷ load_entry l ∷ []) 1 ≡ Blocked k → e.address ≡ Some b → IsMet P a w e u
+    met_of k b h ad =
+        let blocks = says_blocked (lacks_address e) (overlaps a w e) raw_of k (sym one_is ∙ h) in
+        let st = blocks_store blocks in
+        record {
+          base = b;
+          store = sym i.store ∙ st;
+          fate = address_back u.fate b (sym i.address ∙ ad);
+          entry = λ j. record { store = st j; width = i.width j; address = ad j; content = i.content j };
+          meets = blocks_over b ad blocks;
+        }
+
+    pub known_of : (b : ℕ) → e.address ≡ Some b → IsKnown P u
+    known_of b ad = known_by b ad
+
+-- A store with its data
+
+pub met_says : (e : QueueEntry) (l : Load) (content : Option ℕ) → e.store ≡ true → (b : ℕ) → e.address ≡ Some b → overlaps l.address (width l.op) e ≡ true
+    → answer (record e { content = content } ∷ load_entry l ∷ []) 1 ≡ forwarded 0 (taken_from e.address (bytes e.width) content l.address (width l.op))
+met_says e l content st b ad over =
+    one_is (record e { content = content }) l
+    ∙ (λ j. answer_of (lacking j) (over j) (taken_from e.address (bytes e.width) content l.address (width l.op)))
+  where
+    lacking : lacks_address e ≡ false
+    lacking = ap (λ o. e.store && is_none o) ad ∙ and_false e.store
+
+-- nothing blocks: it is passed
+passes : (b c : Bool) (raw : Option ℕ) → raw ≡ None → ((i : ℕ) → answer_of b c raw ≡ Blocked i → ⊥) → answer_of b c raw ≡ Memory
+passes true c raw e n = absurd (n 0 refl)
+passes false true raw e n = absurd (n 0 (ap (forwarded 0) e))
+passes false false raw e n = refl
+
+pub memory_else : (e : QueueEntry) (l : Load) → e.content ≡ None → ((i : ℕ) → answer (e ∷ load_entry l ∷ []) 1 ≡ Blocked i → ⊥) → answer (e ∷ load_entry l ∷ []) 1 ≡ Memory
+memory_else e l c n =
+    let none = ap (λ d. taken_from e.address (bytes e.width) d l.address (width l.op)) c ∙ none_taken e.address (bytes e.width) l.address (width l.op) in
+    one_is e l ∙ passes (lacks_address e) (overlaps l.address (width l.op) e) (taken_from e.address (bytes e.width) e.content l.address (width l.op)) none (λ i h. n i (one_is e l ∙ h))
+
+-- The search
+
+pub fewer : (U : UpdateUnit) (n m station : ℕ) (Fact : Tenant → Type 0) → n ≤ m → AtStation U m station Fact → AtStation U n station Fact
+fewer U n m station Fact le h q u l is live st = h q u (omega (arith, l, le)) is live st
+
+pub weaker : (U : UpdateUnit) (n station : ℕ) (Fact Other : Tenant → Type 0) → ((u : Tenant) → Fact u → Other u) → AtStation U n station Fact → AtStation U n station Other
+weaker U n station Fact Other f h q u l is live st = f u (h q u l is live st)
+
+module _ (P : Program) (U : UpdateUnit) (n head ring k k' place a w : ℕ) (next : k' ≡ k + 1) where
+  here_or : (j : ℕ) → k ≤ j → (j ≡ k) ⊎ (k' ≤ j)
+  here_or j le = elim (cases_lt k j) [
+    | inl more ↦ inr (omega (arith, more, next))
+    | inr same ↦ inl (omega (arith, same, le))
+  ]
+
+  each_more : (Fact : Tenant → Type 0) → ((j : ℕ) → k' ≤ j → j < place → AtStation U n (behind head ring j) Fact) → AtStation U n (behind head ring k) Fact → (j : ℕ) → k ≤ j → j < place → AtStation U n (behind head ring j) Fact
+  each_more Fact h new j le lt = ⊎_elim
+      (λ (e : j ≡ k). subst (λ x. AtStation U n (behind head ring x) Fact) (sym e) new)
+      (λ more. h j more lt)
+      (here_or j le)
+
+  pub none_more : HasFound P U n head ring k' place a w None → AtStation U n (behind head ring k) (IsPassed P a w) → HasFound P U n head ring k place a w None
+  none_more h new = each_more (IsPassed P a w) h new
+
+  pub some_more : (s : ℕ) (e : QueueEntry) → HasMet P U n head ring k' place a w s e → AtStation U n (behind head ring k) (IsKnown P) → HasMet P U n head ring k place a w s e
+  some_more s e h new = record {
+    here = let l = h.here in omega (arith, l, next);
+    bound = h.bound;
+    known = each_more (IsKnown P) h.known new;
+    younger = h.younger;
+    it = h.it;
+  }
+
+  pub first_met : (e : QueueEntry) → k < place → HasFound P U n head ring k' place a w None → AtStation U n (behind head ring k) (IsMet P a w e) → HasMet P U n head ring k place a w k e
+  first_met e small h new = record {
+    here = omega arith;
+    bound = small;
+    known = each_more (IsKnown P) (λ j le lt. weaker U n (behind head ring j) (IsPassed P a w) (IsKnown P) (λ u x. x.known) (h j le lt))
+        (weaker U n (behind head ring k) (IsMet P a w e) (IsKnown P) (λ u x. inr (x.base, x.fate)) new);
+    younger = λ j more lt. h j (omega (arith, more, next)) lt;
+    it = new;
+  }
+
+  known_from : (o : Option (ℕ × QueueEntry)) → HasFound P U n head ring k' place a w o → (j : ℕ) → k' ≤ j → j < place → AtStation U n (behind head ring j) (IsKnown P)
+  known_from None h j le lt = weaker U n (behind head ring j) (IsPassed P a w) (IsKnown P) (λ u x. x.known) (h j le lt)
+  known_from (Some f) h j le lt = h.known j le lt
+
+  pub unknown : (o : Option (ℕ × QueueEntry)) → k < place → HasFound P U n head ring k' place a w o → AtStation U n (behind head ring k) (Lacks P) → HasUnknown P U n head ring place k
+  unknown o small h new = record {
+    bound = small;
+    younger = λ j more lt. known_from o h j (omega (arith, more, next)) lt;
+    it = new;
+  }
+
+-- what was found stays so
+module _ (P : Program) (C : Sizes) (old new : List Entry) (added : Adds P C back old new []) (n head ring k place a w : ℕ) (few : n ≤ length (unit_of P C old).tenants) where
+  pub found_stays : (o : Option (ℕ × QueueEntry)) → HasFound P (unit_of P C old) n head ring k place a w o → HasFound P (unit_of P C new) n head ring k place a w o
+  found_stays None h = λ j le lt. station_stays P C old new added n (behind head ring j) (IsPassed P a w) (passed_lasts P a w) few (h j le lt)
+  found_stays (Some f) h = record {
+    here = h.here;
+    bound = h.bound;
+    known = λ j le lt. station_stays P C old new added n (behind head ring j) (IsKnown P) (known_lasts P) few (h.known j le lt);
+    younger = λ j more lt. station_stays P C old new added n (behind head ring j) (IsPassed P a w) (passed_lasts P a w) few (h.younger j more lt);
+    it = station_stays P C old new added n (behind head ring f.0) (IsMet P a w f.1) (met_lasts P a w f.1) few h.it;
+  }
+
+-- one store further
+module _ (P : Program) (C : Sizes) (old mid new : List Entry) (before : Adds P C back old mid []) (added : Adds P C back mid new []) (head ring k k' place : ℕ) (l : Load) (next : k' ≡ k + 1) (small : k' ≤ place)
+    (e : QueueEntry) (shows : AtStation (unit_of P C new) (length (unit_of P C mid).tenants) (behind head ring k) (IsEntryOf P e)) where
+  abbrev n : ℕ
+  n = length (unit_of P C old).tenants
+
+  few : n ≤ length (unit_of P C mid).tenants
+  few = length_grows P C old mid before
+
+  abbrev Found_at : ℕ → List Entry → Option (ℕ × QueueEntry) → Type 0
+  Found_at x h o = HasFound P (unit_of P C h) n head ring x place l.address (width l.op) o
+
+  stayed : (o : Option (ℕ × QueueEntry)) → Found_at k' mid o → Found_at k' new o
+  stayed o h = found_stays P C mid new added n head ring k' place l.address (width l.op) few o h
+
+  -- of the tenant at the station
+  at_k : (Fact : Tenant → Type 0) → ((u : Tenant) → IsEntryOf P e u → Fact u) → AtStation (unit_of P C new) n (behind head ring k) Fact
+  at_k Fact f = weaker (unit_of P C new) n (behind head ring k) (IsEntryOf P e) Fact f (fewer (unit_of P C new) n (length (unit_of P C mid).tenants) (behind head ring k) (IsEntryOf P e) few shows)
+
+  below : k < place
+  below = omega (arith, next, small)
+
+  pub step_unknown : (o : Option (ℕ × QueueEntry)) → Found_at k' mid o → (i : ℕ) → answer (e ∷ load_entry l ∷ []) 1 ≡ Blocked i → e.address ≡ None → HasUnknown P (unit_of P C new) n head ring place k
+  step_unknown o h i ans none = unknown P (unit_of P C new) n head ring k k' place l.address (width l.op) next o below (stayed o h) (at_k (Lacks P) (λ u x. lacks_of e l P u x i ans none))
+
+  pub step_met : Found_at k' mid None → (i b : ℕ) → answer (e ∷ load_entry l ∷ []) 1 ≡ Blocked i → e.address ≡ Some b → HasMet P (unit_of P C new) n head ring k place l.address (width l.op) k e
+  step_met h i b ans ad = first_met P (unit_of P C new) n head ring k k' place l.address (width l.op) next e below (stayed None h) (at_k (IsMet P l.address (width l.op) e) (λ u x. met_of e l P u x i b ans ad))
+
+  pub step_known : (f : ℕ × QueueEntry) → Found_at k' mid (Some f) → (b : ℕ) → e.address ≡ Some b → Found_at k new (Some f)
+  step_known f h b ad = some_more P (unit_of P C new) n head ring k k' place l.address (width l.op) next f.0 f.1 (stayed (Some f) h) (at_k (IsKnown P) (λ u x. known_of e l P u x b ad))
+
+  pub step_memory : (o : Option (ℕ × QueueEntry)) → Found_at k' mid o → ((u : Tenant) → IsEntryOf P e u → IsPassed P l.address (width l.op) u) → Found_at k new o
+  step_memory None h f = none_more P (unit_of P C new) n head ring k k' place l.address (width l.op) next (stayed None h) (at_k (IsPassed P l.address (width l.op)) f)
+  step_memory (Some x) h f = some_more P (unit_of P C new) n head ring k k' place l.address (width l.op) next x.0 x.1 (stayed (Some x) h) (at_k (IsKnown P) (λ u i. (f u i).known))
+
+-- options
+pub is_nothing : {X : Type 0} → (o : Option X) (b : Bool) → is_some o ≡ not b → b ≡ true → o ≡ None
+is_nothing None b e f = refl
+is_nothing (Some x) b e f = absurd (true≢false (e ∙ ap not f))
+
+pub is_something : {X : Type 0} → (o : Option X) (b : Bool) → is_some o ≡ not b → b ≡ false → (x : X) × (o ≡ Some x)
+is_something None b e f = absurd (true≢false (sym (e ∙ ap not f)))
+is_something (Some x) b e f = (x, refl)
+
+pub some_of : {X : Type 0} → (o : Option X) → is_some o ≡ true → (x : X) × (o ≡ Some x)
+some_of None e = absurd (true≢false (sym e))
+some_of (Some x) e = (x, refl)
+
+pub if_none : {X : Type 0} → (o : Option X) (Q : Type 0) → (o ≡ None → Q) → IfNone o Q
+if_none None Q f = f refl
+if_none (Some x) Q f = tt
+
+pub if_some : {X : Type 0} → (o : Option X) (Q : X → Type 0) → ((x : X) → o ≡ Some x → Q x) → IfSome o Q
+if_some None Q f = tt
+if_some (Some x) Q f = f x refl

@@ -1,0 +1,208 @@
+-- What comes of a load that was answered.
+use Rattle.std.proofs.Common.{◌≡◌, ◌≢◌, ◌⊎◌, ℕ, ◌<◌, List, [], ◌∷◌, ◌++◌, map, length, Some, refl, sym, ap, ◌∙◌, subst, inl, inr, ⊎_elim, append_assoc, arith}
+use Rattle.std.proofs.lemmas.List.{append-nil}
+use mathlib.Core.Logic.{dite}
+use native.Mathlib.Decide.{ℕ_discrete}
+use Rattle.isa.specs.Programs.{Program}
+use Rattle.inorder.specs.declared.history.Act.{Act}
+use Rattle.inorder.specs.declared.history.Act.TheVariants.{Claim, Deliver, Finish, Link, Load as LoadIt, Mend, Retire, Squash}
+use Rattle.inorder.specs.declared.history.Entry.{Entry}
+use Rattle.inorder.specs.declared.history.Event.{Event}
+use Rattle.inorder.specs.declared.history.Event.TheVariants.{Does, Refuses}
+use Rattle.inorder.specs.declared.history.Refusal.TheVariants.{Stale}
+use Rattle.inorder.specs.declared.history.Source.TheVariants.{First, Second}
+use Rattle.inorder.specs.declared.history.Step.{Step}
+use Rattle.inorder.specs.declared.history.Step.TheVariants.{On}
+use Rattle.inorder.specs.Callers.{CanLoad}
+use Rattle.inorder.specs.History.{Adds, IsLegal, StartsWith, back, entry, own, taken_of, unit_of}
+use Rattle.inorder.specs.Laws.{Names}
+use Rattle.inorder.specs.Legal.{Allowed, May, applied, changed}
+use Rattle.inorder.specs.Memory.{load_value}
+use Rattle.inorder.specs.Replies.{Has, IsNamed, IsStale}
+use Rattle.inorder.specs.Tenants.{Done, Live, Squashed, Tenant}
+use Rattle.inorder.specs.Unit.{Sizes, UpdateUnit, at, older, recent, younger}
+use Rattle.inorder.proofs.Ends.{Acted, IsNotBacks, exact}
+use Rattle.inorder.proofs.Histories.{allowed_steps, legal_before, unit_lasts}
+use Rattle.inorder.proofs.Loading.{gone_stays, load_stays}
+use Rattle.inorder.proofs.Moves.{IsActed, IsLeft, at_changed}
+use Rattle.inorder.proofs.Positions.{at_below, at_there}
+use Rattle.inorder.proofs.Sound.{IsSound}
+use Rattle.inorder.proofs.Tags.{names_one, tagged}
+use Rattle.ruu_words.specs.Kinds.{IsAny, IsTenant}
+use Rattle.ruu_words.proofs.Stays.{any_stays, back_stays}
+use Rattle.station.specs.Moments.{WasOnce}
+use Rattle.station.specs.Writeback.{IsWalk, IsWritten, MaySettle, WasStale}
+use Rattle.station.proofs.Adding.{adds_on}
+use Rattle.back.specs.Loads.{IsWaitingLoad}
+use Rattle.back.specs.Port.{IsAsked, IsBlockedAt, IsLoadOf}
+use Rattle.back.specs.Refreshes.{IsTooLate}
+use Rattle.back.specs.Trials.{DidLoad, HasHeldBack, HasPassed, HoldsBack, IsLoadAt, NoOtherWaits, NoneWaits, SomeWaits}
+use Rattle.back.specs.declared.port.Load.{Load}
+use Rattle.back.proofs.OwnEntries.{EndsWith, added_legal, added_own, split_last}
+use Rattle.back.proofs.PortStays.{asked_stays}
+use Rattle.back.proofs.Trying.{once_later, once_now, starts_on}
+
+found : (t u : Tenant) → Some t ≡ Some u → t ≡ u
+found t u e = cc e
+
+apart : Live ≡ Squashed → ⊥
+apart x = cc x
+
+-- What is done stays done
+
+done_on : (P : Program) (by : ℕ) (act : Act) (ys : List Tenant) (t : Tenant) (ts : List Tenant) (v : ℕ) → May P by act ys t ts → t.fate ≡ Done v → (changed P by act t ts).fate ≡ Done v
+done_on P by (Link First) ys t ts v m e = e
+done_on P by (Link Second) ys t ts v m e = e
+done_on P by (Deliver First) ys t ts v m e = e
+done_on P by (Deliver Second) ys t ts v m e = e
+done_on P by Claim ys t ts v m e = let x = sym e ∙ m.fate in absurd (cc x)
+done_on P by Finish ys t ts v m e = let x = sym e ∙ m.fate in absurd (cc x)
+done_on P by LoadIt ys t ts v m e = let x = sym e ∙ m.fate in absurd (cc x)
+done_on P by (Retire n) ys t ts v m e = e
+done_on P by Squash ys t ts v m e = e
+done_on P by Mend ys t ts v m e = let x = sym e ∙ m.fate in absurd (cc x)
+
+done_stays : (P : Program) (C : Sizes) (p v : ℕ) (U : UpdateUnit) (by : ℕ) (s : Step) → Allowed P C U by s → Has U p (λ t. t.fate ≡ Done v) → Has (applied P C U by s) p (λ t. t.fate ≡ Done v)
+done_stays P C p v U by s a h = ⊎_elim
+    (λ e. record { tenant = h.tenant; is = e; fact = h.fact })
+    (λ (z : Acted P U by s (applied P C U by s).tenants p h.tenant).
+    record { tenant = changed P by z.act h.tenant (older U.tenants p); is = z.now; fact = done_on P by z.act (younger U.tenants p) h.tenant (older U.tenants p) v z.may h.fact })
+    (exact P C U by s a p h.tenant h.is)
+
+module _ (P : Program) (C : Sizes) (old new : List Entry) where
+  -- a tenant keeps its name
+  pub named_later : (events : List Event) → Adds P C back old new events → (p station tag : ℕ) → IsNamed (unit_of P C old) p station tag → IsNamed (unit_of P C new) p station tag
+  named_later events a p station tag n =
+      let i = any_stays P C p station tag a.begins.more old (subst (IsLegal P C) a.begins.is a.legal) (record { tenant = n.tenant; is = n.is; station_is = n.station_is; tag_is = n.tag_is; fact = tt }) in
+      subst (λ h. IsNamed (unit_of P C h) p station tag) (sym a.begins.is) (record { tenant = i.tenant; is = i.is; station_is = i.station_is; tag_is = i.tag_is })
+
+  names : IsLegal P C new → Names (recent (unit_of P C new))
+  names legal q r t u is is' st tg = names_one C (unit_of P C new).tenants q r t u (tagged P C (taken_of new) (allowed_steps P C new legal)) is is' st tg
+
+  one_named : IsLegal P C new → (p q station tag : ℕ) → IsNamed (unit_of P C new) p station tag → IsNamed (unit_of P C new) q station tag → p ≡ q
+  one_named legal p q station tag n m = names legal p q n.tenant m.tenant n.is m.is (n.station_is ∙ sym m.station_is) (n.tag_is ∙ sym m.tag_is)
+
+  -- A load that got its value is done with it
+  module _ (station tag p address v : ℕ) (named : IsNamed (unit_of P C old) p station tag) (can : CanLoad P (unit_of P C old) p address v ⊎ IsStale (unit_of P C old) p) where
+    pub is_done : (w : IsWritten P C back old new station tag LoadIt (λ q. IsWalk P C new q)) → IsTenant (unit_of P C new) w.p station tag (λ t. t.fate ≡ Done v)
+    is_done w =
+        let e = entry back (Does (On w.p LoadIt)) in
+        let own_is : own back w.adds.begins.more ≡ map (entry back) w.behind ++ e ∷ [] = added_own P C back old new (w.behind ++ Does (On w.p LoadIt) ∷ []) w.adds ∙ map_end w.behind (Does (On w.p LoadIt)) in
+        let s = split_last back w.adds.begins.more (map (entry back) w.behind) e own_is in
+        let before = s.earlier ++ old in
+        let new_is : new ≡ s.later ++ e ∷ before = w.adds.begins.is ∙ (ap (λ z. z ++ old) s.is ∙ append_assoc s.later (e ∷ s.earlier) old) in
+        let legal = subst (IsLegal P C) new_is w.adds.legal in
+        let here = legal_before P C s.later (e ∷ before) legal in
+        let same : p ≡ w.p = one_named w.adds.legal p w.p station tag (named_later (w.behind ++ Does (On w.p LoadIt) ∷ []) w.adds p station tag named) w.named in
+        let can_here = back_stays P C (λ U. CanLoad P U p address v ⊎ IsStale U p) step s.earlier old here.0 s.not_own can in
+        let done = at_load (unit_of P C before) w.p here.1.1 (subst (λ x. CanLoad P (unit_of P C before) x address v ⊎ IsStale (unit_of P C before) x) same can_here) in
+        let there = unit_lasts P C (λ U. Has U w.p (λ t. t.fate ≡ Done v)) (λ U by z al ok h. done_stays P C w.p v U by z al h) s.later (e ∷ before) legal done in
+        let now = subst (λ h. Has (unit_of P C h) w.p (λ t. t.fate ≡ Done v)) (sym new_is) there in
+        record { tenant = w.named.tenant; is = w.named.is; station_is = w.named.station_is; tag_is = w.named.tag_is; fact = subst (λ (x : Tenant). x.fate ≡ Done v) (found now.tenant w.named.tenant (sym now.is ∙ w.named.is)) now.fact }
+      where
+        map_end : (xs : List Event) (y : Event) → map (entry back) (xs ++ y ∷ []) ≡ map (entry back) xs ++ entry back y ∷ []
+        map_end [] y = refl
+        map_end (z ∷ xs) y = ap (λ q. entry back z ∷ q) (map_end xs y)
+
+        step : (U : UpdateUnit) (by : ℕ) (s : Step) → IsNotBacks s → Allowed P C U by s → IsSound P U.tenants → CanLoad P U p address v ⊎ IsStale U p → CanLoad P (applied P C U by s) p address v ⊎ IsStale (applied P C U by s) p
+        step U by s b al ok (inl c) = load_stays P C U by s b al ok p address v c
+        step U by s b al ok (inr g) = inr (gone_stays P C U by s al p g)
+
+        at_load : (U : UpdateUnit) (q : ℕ) (a : Allowed P C U back (On q LoadIt)) → CanLoad P U q address v ⊎ IsStale U q → Has (applied P C U back (On q LoadIt)) q (λ t. t.fate ≡ Done v)
+        at_load U q a (inl c) =
+            let same = found c.tenant a.tenant (sym c.is ∙ a.is) in
+            record {
+              tenant = changed P back LoadIt a.tenant (older U.tenants q);
+              is = ⊎_elim
+                  (λ (z : IsActed P U.tenants back q LoadIt a.tenant q a.tenant). z.now)
+                  (λ (z : IsLeft P U.tenants back q LoadIt q a.tenant). absurd (z.position refl))
+                  (at_changed P U.tenants back q LoadIt a.tenant a.is q a.tenant a.is);
+              fact = ap Done (ap (load_value P (older U.tenants q)) (sym same) ∙ c.value_is);
+            }
+        at_load U q a (inr g) = absurd (apart (sym a.may.live ∙ (ap (λ (z : Tenant). z.standing) (found a.tenant g.tenant (sym a.is ∙ g.is)) ∙ g.fact)))
+
+  -- One that came too late was squashed
+  pub is_gone : (station tag p : ℕ) → IsNamed (unit_of P C old) p station tag → (w : WasStale P C back old new station tag) → IsStale (unit_of P C new) p
+  is_gone station tag p named w =
+      let e = entry back (Refuses (Stale w.p)) in
+      let s = split_last back w.adds.begins.more [] e (added_own P C back old new (Refuses (Stale w.p) ∷ []) w.adds) in
+      let before = s.earlier ++ old in
+      let new_is : new ≡ s.later ++ e ∷ before = w.adds.begins.is ∙ (ap (λ z. z ++ old) s.is ∙ append_assoc s.later (e ∷ s.earlier) old) in
+      let legal = subst (IsLegal P C) new_is w.adds.legal in
+      let here = legal_before P C s.later (e ∷ before) legal in
+      let same : w.p ≡ p = sym (one_named w.adds.legal p w.p station tag (named_later (Refuses (Stale w.p) ∷ []) w.adds p station tag named) w.named) in
+      let there = unit_lasts P C (λ U. IsStale U w.p) (λ U by z al ok h. gone_stays P C U by z al w.p h) s.later (e ∷ before) legal here.1.1 in
+      subst (λ x. IsStale (unit_of P C new) x) same (subst (λ h. IsStale (unit_of P C h) w.p) (sym new_is) there)
+
+-- a squashed load does not wait
+pub stale_waits_not : (P : Program) (U : UpdateUnit) (p : ℕ) → IsStale U p → ¬ Has U p (IsWaitingLoad P)
+stale_waits_not P U p g w = apart (sym w.fact.load.live ∙ (ap (λ (z : Tenant). z.standing) (found w.tenant g.tenant (sym w.is ∙ g.is)) ∙ g.fact))
+
+pub may_settle : (P : Program) (C : Sizes) (seen : List Entry) (p station tag address v : ℕ) → IsNamed (unit_of P C seen) p station tag → CanLoad P (unit_of P C seen) p address v ⊎ IsStale (unit_of P C seen) p → MaySettle P C seen station tag v
+may_settle P C seen p station tag address v n c = record {
+  address = address;
+  can = record { p = p; named = record { tenant = n.tenant; is = n.is; station_is = n.station_is; tag_is = n.tag_is; fact = tt }; can = c };
+}
+
+-- The whole
+
+module _ (P : Program) (C : Sizes) (old mid late : List Entry) (first : Adds P C back old mid []) (then : Adds P C back mid late []) (station : ℕ) (l : Load) (w : SomeWaits P C old mid station l) where
+  both : Adds P C back old late []
+  both = adds_on P C back old mid late [] [] first then
+
+  pub named_late : IsNamed (unit_of P C late) w.p station l.tag
+  named_late = named_later P C mid late [] then w.p station l.tag w.named
+
+  pub asked_late : IsAsked P (unit_of P C late) w.p station l
+  asked_late = asked_stays P C mid late then w.p station l w.asked
+
+  module _ (new : List Entry) where
+    -- no other waits
+    others : StartsWith new late → NoOtherWaits P C old new station w.p
+    others starts q other h = once_later P C old mid new (λ U. ¬ Has U q (IsWaitingLoad P)) (starts_on new late mid starts then.begins) (w.others q other h)
+
+    none : StartsWith new late → ¬ Has (unit_of P C new) w.p (IsWaitingLoad P) → NoneWaits P C old new station
+    none starts no_wait q h = dite (ℕ_discrete q w.p)
+        (λ same. once_now P C old new (λ U. ¬ Has U q (IsWaitingLoad P)) (starts_on new late old starts both.begins) (λ x. no_wait (subst (λ z. Has (unit_of P C new) z (IsWaitingLoad P)) same x)))
+        (λ other. others starts q other h)
+
+    pub did_load : (address v : ℕ) → CanLoad P (unit_of P C late) w.p address v ⊎ IsStale (unit_of P C late) w.p → IsWritten P C back late new station l.tag LoadIt (λ q. IsWalk P C new q) → DidLoad P C back old new station l.tag v
+    did_load address v can x = record {
+      p = x.p;
+      tenant = is_done P C late new station l.tag w.p address v named_late can x;
+      carried = x.behind;
+      walk = x.carried;
+      adds = subst (λ es. Adds P C back old new es) (append-nil (x.behind ++ Does (On x.p LoadIt) ∷ [])) (adds_on P C back old late new [] (x.behind ++ Does (On x.p LoadIt) ∷ []) both x.adds);
+    }
+
+    pub came_late : WasStale P C back late new station l.tag → HasPassed P C back old new station
+    came_late x = record {
+      late = Refuses (Stale x.p) ∷ [];
+      are_late = ((x.p, refl), tt);
+      adds = adds_on P C back old late new [] (Refuses (Stale x.p) ∷ []) both x.adds;
+      none = none x.adds.begins (stale_waits_not P (unit_of P C new) w.p (is_gone P C late new station l.tag w.p named_late x));
+    }
+
+    module _ (last : Adds P C back late new []) where
+      pub has_gone : ¬ Has (unit_of P C new) w.p (IsWaitingLoad P) → HasPassed P C back old new station
+      has_gone no_wait = record { late = []; are_late = tt; adds = adds_on P C back old late new [] [] both last; none = none last.begins no_wait }
+
+      -- it is there, so it was not squashed before
+      not_stale : Has (unit_of P C new) w.p (IsLoadOf P station l) → ¬ IsStale (unit_of P C late) w.p
+      not_stale h g = stale_waits_not P (unit_of P C new) w.p
+          (subst (λ z. IsStale (unit_of P C z) w.p) (sym last.begins.is) (unit_lasts P C (λ U. IsStale U w.p) (λ U by z al ok x. gone_stays P C U by z al w.p x) last.begins.more late (subst (IsLegal P C) last.begins.is last.legal) g))
+          (record { tenant = h.tenant; is = h.is; fact = record { load = h.fact.load; address = l.address; fate = h.fact.fate } })
+
+      pub holds_back : (s : ℕ) → IsBlockedAt P (unit_of P C late) w.p s ⊎ IsStale (unit_of P C late) w.p → Has (unit_of P C new) w.p (IsLoadOf P station l) → HasHeldBack P C back old new station s
+      holds_back s b h = record {
+        adds = adds_on P C back old late new [] [] both last;
+        p = w.p;
+        when = once_later P C old late new (HoldsBack P w.p station s) last.begins (once_now P C old late (HoldsBack P w.p station s) both.begins (record {
+          blocked = ⊎_elim (λ x. x) (λ g. absurd (not_stale h g)) b;
+          load = ⊎_elim
+              (λ (x : Has (unit_of P C late) w.p (IsLoadOf P station l)). record { tenant = x.tenant; is = x.is; fact = record { load = x.fact.load; station_is = x.fact.station_is } })
+              (λ g. absurd (not_stale h g))
+              asked_late;
+        }));
+        others = others last.begins;
+      }

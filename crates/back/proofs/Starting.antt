@@ -1,0 +1,46 @@
+-- Where nothing has retired, nothing is committed.
+use Rattle.std.proofs.Common.{◌≡◌, ◌≢◌, ℕ, suc, ◌%◌, Bool, true, false, cond, List, [], ◌∷◌, None, refl, sym, ap, ◌∙◌, arith}
+use Rattle.std.proofs.Math.Nat.{zero-mod}
+use Rattle.isa.specs.Programs.{Program}
+use Rattle.inorder.specs.Callers.{GoesOn, is_retired, stands_retired}
+use Rattle.inorder.specs.Committed.{commits, commits_by, committed}
+use Rattle.inorder.specs.Machine.{start}
+use Rattle.inorder.specs.Steps.{IsNoRetiredStop}
+use Rattle.inorder.specs.Tenants.{Fate, Live, Retired, Squashed, Standing, Tenant}
+use Rattle.inorder.specs.Unit.{Sizes, UpdateUnit, at, how_many}
+use Rattle.inorder.proofs.Positions.{all_at}
+use Rattle.inorder.proofs.SettledRegisters.{committed_if}
+use Rattle.std.specs.List.{AllByRecursion}
+use Rattle.back.specs.Kept.{KeepsUnit}
+
+abbrev Not_retired : Tenant → Type 0
+Not_retired t = is_retired t ≡ false
+
+none_of : (ts : List Tenant) → how_many is_retired ts ≡ 0 → AllByRecursion Not_retired ts
+none_of [] e = tt
+none_of (t ∷ ts) e = go (is_retired t) refl e (none_of ts)
+  where
+    go : (b : Bool) → is_retired t ≡ b → cond b (suc (how_many is_retired ts)) (how_many is_retired ts) ≡ 0 → (how_many is_retired ts ≡ 0 → AllByRecursion Not_retired ts) → AllByRecursion Not_retired (t ∷ ts)
+    go true q e more = absurd (omega arith)
+    go false q e more = (q, more e)
+
+commits_not : (st : Standing) (f : Fate) → stands_retired st ≡ false → commits_by st f ≡ false
+commits_not Live f e = refl
+commits_not Squashed f e = refl
+commits_not Retired f e = absurd (cc e)
+
+committed_start : (P : Program) (ts : List Tenant) → AllByRecursion Not_retired ts → committed P ts ≡ start P
+committed_start P [] h = refl
+committed_start P (t ∷ ts) h = committed_if P t ts false (commits_not t.standing t.fate h.0) ∙ committed_start P ts h.1
+
+no_stop : (t : Tenant) → is_retired t ≡ false → IsNoRetiredStop t
+no_stop t e gone c f = let x = sym (ap stands_retired gone) ∙ e in absurd (cc x)
+
+pub starts : (P : Program) (C : Sizes) (U : UpdateUnit) → how_many is_retired U.tenants ≡ 0 → KeepsUnit P C U (start P) 0 None
+starts P C U e =
+    let none = none_of U.tenants e in
+    record {
+      state_is = sym (committed_start P U.tenants none);
+      head_is = sym (ap (λ n. n % C.ring) e ∙ zero-mod C.ring);
+      end_is = λ p t is. no_stop t (all_at Not_retired U.tenants none p t is);
+    }

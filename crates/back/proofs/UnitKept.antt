@@ -1,0 +1,238 @@
+-- What a back keeps stays true under every step that is no retirement.
+use Rattle.std.proofs.Common.{◌≡◌, ◌≢◌, ◌⊎◌, ℕ, ◌%◌, List, [], ◌∷◌, ◌++◌, map, length, Option, Some, None, refl, sym, ap, ◌∙◌, subst, ⊎_elim, append_assoc, arith}
+use Rattle.std.specs.List.{AllByRecursion}
+use mathlib.Core.Logic.{dite}
+use native.Mathlib.Decide.{ℕ_discrete}
+use Rattle.isa.specs.Programs.{Program, instr_at}
+use Rattle.isa.specs.declared.stop.Stop.{Stop}
+use Rattle.inorder.specs.declared.history.Act.{Act}
+use Rattle.inorder.specs.declared.history.Act.TheVariants.{Claim, Deliver, Finish, Link, Load, Mend, Retire, Squash}
+use Rattle.inorder.specs.declared.history.Entry.{Entry}
+use Rattle.inorder.specs.declared.history.Event.{Event}
+use Rattle.inorder.specs.declared.history.Event.TheVariants.{Does, Marks, Refuses}
+use Rattle.inorder.specs.declared.history.Source.TheVariants.{First, Second}
+use Rattle.inorder.specs.declared.history.Step.{Step}
+use Rattle.inorder.specs.declared.history.Step.TheVariants.{Let, On}
+use Rattle.inorder.specs.Callers.{GoesOn, head_station, is_retired}
+use Rattle.inorder.specs.Committed.{committed}
+use Rattle.inorder.specs.History.{Adds, IsLegal, MayAdd, back, entry, own, unit_of}
+use Rattle.inorder.specs.Laws.{IsNoRetire}
+use Rattle.inorder.specs.Legal.{Allowed, May, applied, changed}
+use Rattle.inorder.specs.Machine.{State}
+use Rattle.inorder.specs.Replies.{Has}
+use Rattle.inorder.specs.Steps.{IsNoRetiredStop, settled}
+use Rattle.inorder.specs.Tenants.{Live, Retired, Tenant}
+use Rattle.inorder.specs.Unit.{Sizes, UpdateUnit, at, how_many, older, younger}
+use Rattle.inorder.proofs.Basics.{split_at}
+use Rattle.inorder.proofs.Commits.{by_others}
+use Rattle.inorder.proofs.Ends.{Acted, IsNotBacks, exact}
+use Rattle.inorder.proofs.Heads.{goes_on_stays, head_stays}
+use Rattle.inorder.proofs.Histories.{legal_before, unit_sound}
+use Rattle.inorder.proofs.Kept.{parts}
+use Rattle.inorder.proofs.Moves.{IsActed, IsLeft, at_changed, came}
+use Rattle.inorder.proofs.Sound.{IsSound}
+use Rattle.ruu_words.proofs.Stays.{not_backs}
+use Rattle.station.proofs.Seated.{how_many_same}
+use Rattle.back.specs.Commits.{IsRetiredStop}
+use Rattle.back.specs.Kept.{EndIs, HasStopped, KeepsUnit}
+use Rattle.back.specs.Kept.HasStopped.{ByStop, Nowhere}
+use Rattle.station.specs.Moments.{IsWithin}
+use Rattle.back.proofs.OwnEntries.{added_legal, added_own, cancel, own_first, own_skip}
+
+found : (t u : Tenant) → Some t ≡ Some u → t ≡ u
+found t u e = cc e
+
+-- Steps
+
+live_goes_on : (t : Tenant) → t.standing ≡ Live → IsNoRetiredStop t
+live_goes_on t live = λ gone c f. let x = sym live ∙ gone in absurd (cc x)
+
+-- a load leaves the head and the retired ones as they are
+head_load : (P : Program) (C : Sizes) (U : UpdateUnit) (by p : ℕ) → Allowed P C U by (On p Load) → head_station C (applied P C U by (On p Load)) ≡ head_station C U
+head_load P C U by p a =
+    let us = U.tenants in
+    let t = a.tenant in
+    let same = how_many_same is_retired t (changed P by Load t (older us p)) (older us p) (younger us p) refl in
+    λ i. (ap (how_many is_retired) (parts P us by p Load t a.is) ∙ (same ∙ ap (how_many is_retired) (sym (split_at us p t a.is)))) i % C.ring
+
+goes_on_load : (P : Program) (C : Sizes) (U : UpdateUnit) (by p : ℕ) → Allowed P C U by (On p Load) → IsSound P U.tenants → GoesOn U → GoesOn (applied P C U by (On p Load))
+goes_on_load P C U by p a ok g q u is =
+    let us = U.tenants in
+    let was = came P C U by p Load a ok q u is in ⊎_elim
+    (λ (z : IsActed P us by p Load a.tenant q was.tenant). subst IsNoRetiredStop (found (changed P by Load a.tenant (older us p)) u (sym z.now ∙ is)) (live_goes_on (changed P by Load a.tenant (older us p)) a.may.live))
+    (λ (z : IsLeft P us by p Load q was.tenant). subst IsNoRetiredStop (found was.tenant u (sym z.now ∙ is)) (g q was.tenant was.is))
+    (at_changed P us by p Load a.tenant a.is q was.tenant was.is)
+
+pub head_kept : (P : Program) (C : Sizes) (U : UpdateUnit) (by : ℕ) (s : Step) → IsNoRetire s → Allowed P C U by s → head_station C (applied P C U by s) ≡ head_station C U
+head_kept P C U by (Let index predicted first second) n a = head_stays P C U by (Let index predicted first second) tt a
+head_kept P C U by (On p Load) n a = head_load P C U by p a
+head_kept P C U by (On p (Retire k)) n a = absurd n
+head_kept P C U by (On p (Link k)) n a = head_stays P C U by (On p (Link k)) tt a
+head_kept P C U by (On p (Deliver k)) n a = head_stays P C U by (On p (Deliver k)) tt a
+head_kept P C U by (On p Claim) n a = head_stays P C U by (On p Claim) tt a
+head_kept P C U by (On p Finish) n a = head_stays P C U by (On p Finish) tt a
+head_kept P C U by (On p Squash) n a = head_stays P C U by (On p Squash) tt a
+head_kept P C U by (On p Mend) n a = head_stays P C U by (On p Mend) tt a
+
+goes_on_kept : (P : Program) (C : Sizes) (U : UpdateUnit) (by : ℕ) (s : Step) → IsNoRetire s → Allowed P C U by s → IsSound P U.tenants → GoesOn U → GoesOn (applied P C U by s)
+goes_on_kept P C U by (Let index predicted first second) n a ok g = goes_on_stays P C U by (Let index predicted first second) tt a ok g
+goes_on_kept P C U by (On p Load) n a ok g = goes_on_load P C U by p a ok g
+goes_on_kept P C U by (On p (Retire k)) n a ok g = absurd n
+goes_on_kept P C U by (On p (Link k)) n a ok g = goes_on_stays P C U by (On p (Link k)) tt a ok g
+goes_on_kept P C U by (On p (Deliver k)) n a ok g = goes_on_stays P C U by (On p (Deliver k)) tt a ok g
+goes_on_kept P C U by (On p Claim) n a ok g = goes_on_stays P C U by (On p Claim) tt a ok g
+goes_on_kept P C U by (On p Finish) n a ok g = goes_on_stays P C U by (On p Finish) tt a ok g
+goes_on_kept P C U by (On p Squash) n a ok g = goes_on_stays P C U by (On p Squash) tt a ok g
+goes_on_kept P C U by (On p Mend) n a ok g = goes_on_stays P C U by (On p Mend) tt a ok g
+
+-- a retired tenant stays retired, with its fate
+pub record IsGone (t u : Tenant) : Type 0 where
+  pub standing : u.standing ≡ Retired
+  pub fate : u.fate ≡ t.fate
+
+pub gone_on : (P : Program) (by : ℕ) (act : Act) (ys : List Tenant) (t : Tenant) (ts : List Tenant) → May P by act ys t ts → t.standing ≡ Retired → IsGone t (changed P by act t ts)
+gone_on P by (Link First) ys t ts m r = record { standing = r; fate = refl }
+gone_on P by (Link Second) ys t ts m r = record { standing = r; fate = refl }
+gone_on P by (Deliver First) ys t ts m r = record { standing = r; fate = refl }
+gone_on P by (Deliver Second) ys t ts m r = record { standing = r; fate = refl }
+gone_on P by Claim ys t ts m r = let x = sym m.live ∙ r in absurd (cc x)
+gone_on P by Finish ys t ts m r = let x = sym m.live ∙ r in absurd (cc x)
+gone_on P by Load ys t ts m r = let x = sym m.live ∙ r in absurd (cc x)
+gone_on P by (Retire n) ys t ts m r = let x = sym m.live ∙ r in absurd (cc x)
+gone_on P by Squash ys t ts m r = let x = sym m.live ∙ r in absurd (cc x)
+gone_on P by Mend ys t ts m r = let x = sym m.live ∙ r in absurd (cc x)
+
+stop_kept : (P : Program) (C : Sizes) (U : UpdateUnit) (by : ℕ) (s : Step) (p : ℕ) (code : Stop) → Allowed P C U by s → Has U p (IsRetiredStop code) → Has (applied P C U by s) p (IsRetiredStop code)
+stop_kept P C U by s p code a h = ⊎_elim
+    (λ e. record { tenant = h.tenant; is = e; fact = h.fact })
+    (λ (z : Acted P U by s (applied P C U by s).tenants p h.tenant).
+    let g = gone_on P by z.act (younger U.tenants p) h.tenant (older U.tenants p) z.may h.fact.standing in
+    record { tenant = changed P by z.act h.tenant (older U.tenants p); is = z.now; fact = record { standing = g.standing; fate = g.fate ∙ h.fact.fate } })
+    (exact P C U by s a p h.tenant h.is)
+
+end_kept : (P : Program) (C : Sizes) (U : UpdateUnit) (by : ℕ) (s : Step) (ended : Option Stop) → IsNoRetire s → Allowed P C U by s → IsSound P U.tenants → EndIs P U ended → EndIs P (applied P C U by s) ended
+end_kept P C U by s None n a ok g = goes_on_kept P C U by s n a ok g
+end_kept P C U by s (Some code) n a ok (ByStop p h) = ByStop p (stop_kept P C U by s p code a h)
+end_kept P C U by s (Some code) n a ok (Nowhere is none g) =
+    Nowhere is (ap (λ c. instr_at P c.pc) (by_others P C U by s ok n a) ∙ none) (goes_on_kept P C U by s n a ok g)
+
+pub step_keeps : (P : Program) (C : Sizes) (state : State) (head : ℕ) (ended : Option Stop) (U : UpdateUnit) (by : ℕ) (s : Step) → IsNoRetire s → Allowed P C U by s → IsSound P U.tenants → KeepsUnit P C U state head ended → KeepsUnit P C (applied P C U by s) state head ended
+step_keeps P C state head ended U by s n a ok k = record {
+  state_is = k.state_is ∙ sym (by_others P C U by s ok n a);
+  head_is = k.head_is ∙ sym (head_kept P C U by s n a);
+  end_is = end_kept P C U by s ended n a ok k.end_is;
+}
+
+-- Histories
+
+-- an event that is no retirement
+abbrev pub IsQuiet : Event → Type 0
+IsQuiet (Does s) = IsNoRetire s
+IsQuiet (Refuses r) = Unit {0}
+IsQuiet (Marks m) = Unit {0}
+
+abbrev pub AreQuiet : List Entry → Type 0
+AreQuiet es = AllByRecursion (λ e. IsQuiet e.event) es
+
+pub not_retire : (s : Step) → IsNotBacks s → IsNoRetire s
+not_retire (Let index predicted first second) b = tt
+not_retire (On p (Link k)) b = tt
+not_retire (On p (Deliver k)) b = tt
+not_retire (On p Claim) b = tt
+not_retire (On p Finish) b = tt
+not_retire (On p Load) b = tt
+not_retire (On p (Retire n)) b = absurd b
+not_retire (On p Squash) b = tt
+not_retire (On p Mend) b = tt
+
+-- others retire nothing
+others_quiet : (P : Program) (C : Sizes) (h : List Entry) (e : Entry) → e.by ≢ back → MayAdd P C h e.by e.event → IsQuiet e.event
+others_quiet P C h e other m = go e.event m
+  where
+    go : (x : Event) → MayAdd P C h e.by x → IsQuiet x
+    go (Does s) m = not_retire s (not_backs C (unit_of P C h) e.by s m.0 other)
+    go (Refuses r) m = tt
+    go (Marks k) m = tt
+
+heads : (x y : Entry) (xs ys : List Entry) → x ∷ xs ≡ y ∷ ys → (x ≡ y) × (xs ≡ ys)
+heads x y xs ys e = (cc e, cc e)
+
+module _ (P : Program) (C : Sizes) where
+  pub all_quiet : (more seen : List Entry) (events : List Event) → IsLegal P C (more ++ seen) → own back more ≡ map (entry back) events → AllByRecursion IsQuiet events → AreQuiet more
+  all_quiet [] seen events legal mine quiet = tt
+  all_quiet (e ∷ more) seen events legal mine quiet = dite (ℕ_discrete e.by back)
+      (λ same. own_one events same mine quiet (λ xs m q. all_quiet more seen xs legal.0 m q))
+      (λ other. (others_quiet P C (more ++ seen) e other legal.1, all_quiet more seen events legal.0 (sym (own_skip back e more other) ∙ mine) quiet))
+    where
+      own_one : (events : List Event) → e.by ≡ back → own back (e ∷ more) ≡ map (entry back) events → AllByRecursion IsQuiet events
+          → ((xs : List Event) → own back more ≡ map (entry back) xs → AllByRecursion IsQuiet xs → AreQuiet more) → AreQuiet (e ∷ more)
+      own_one [] same mine quiet rest = let x = sym (own_first back e more same) ∙ mine in absurd (cc x)
+      own_one (x ∷ xs) same mine quiet rest =
+          let z = heads e (entry back x) (own back more) (map (entry back) xs) (sym (own_first back e more same) ∙ mine) in
+          (subst (λ (y : Entry). IsQuiet y.event) (sym z.0) quiet.0, rest xs z.1 quiet.1)
+
+  module _ (state : State) (head : ℕ) (ended : Option Stop) where
+    pub quiet_keeps : (more seen : List Entry) → IsLegal P C (more ++ seen) → AreQuiet more → KeepsUnit P C (unit_of P C seen) state head ended → KeepsUnit P C (unit_of P C (more ++ seen)) state head ended
+    quiet_keeps [] seen legal quiet k = k
+    quiet_keeps (e ∷ more) seen legal quiet k = go e.event legal.1 quiet.0 (quiet_keeps more seen legal.0 quiet.1 k)
+      where
+        go : (x : Event) → MayAdd P C (more ++ seen) e.by x → IsQuiet x → KeepsUnit P C (unit_of P C (more ++ seen)) state head ended → KeepsUnit P C (unit_of P C (entry e.by x ∷ (more ++ seen))) state head ended
+        go (Does s) m q k' = step_keeps P C state head ended (unit_of P C (more ++ seen)) e.by s q m.1 (unit_sound P C (more ++ seen) legal.0) k'
+        go (Refuses r) m q k' = k'
+        go (Marks r) m q k' = k'
+
+    -- what the back added is no retirement
+    pub adds_keeps : (old new : List Entry) (events : List Event) → Adds P C back old new events → AllByRecursion IsQuiet events → KeepsUnit P C (unit_of P C old) state head ended → KeepsUnit P C (unit_of P C new) state head ended
+    adds_keeps old new events a quiet k =
+        let more = a.begins.more in
+        let legal = added_legal P C back old new events a in
+        subst (λ h. KeepsUnit P C (unit_of P C h) state head ended) (sym a.begins.is)
+        (quiet_keeps more old legal (all_quiet more old events legal (added_own P C back old new events a) quiet) k)
+
+-- the head at a moment of a call that retired nothing
+pub head_kept_on : (P : Program) (C : Sizes) (old new point : List Entry) (events : List Event) → Adds P C back old new events → AllByRecursion IsQuiet events → IsWithin old new point → head_station C (unit_of P C point) ≡ head_station C (unit_of P C old)
+head_kept_on P C old new point events a quiet w =
+    let more = a.begins.more in
+    let legal = added_legal P C back old new events a in
+    let all = all_quiet P C more old events legal (added_own P C back old new events a) quiet in
+    let late = w.before_return.more in
+    let early = w.behind_call.more in
+    let split : more ≡ late ++ early = cancel more (late ++ early) old (sym a.begins.is ∙ (w.before_return.is ∙ (ap (λ z. late ++ z) w.behind_call.is ∙ sym (append_assoc late early old)))) in
+    let early_quiet = second late early (subst AreQuiet split all) in
+    let point_legal = legal_before P C late point (subst (IsLegal P C) w.before_return.is a.legal) in
+    subst (λ h. head_station C (unit_of P C h) ≡ head_station C (unit_of P C old)) (sym w.behind_call.is) (go early (subst (IsLegal P C) w.behind_call.is point_legal) early_quiet)
+  where
+    second : (xs ys : List Entry) → AreQuiet (xs ++ ys) → AreQuiet ys
+    second [] ys h = h
+    second (x ∷ xs) ys h = second xs ys h.1
+
+    one : (h : List Entry) (e : Entry) → MayAdd P C h e.by e.event → IsQuiet e.event → head_station C (unit_of P C (e ∷ h)) ≡ head_station C (unit_of P C h)
+    one h e m q = kind e.event m q
+      where
+        kind : (x : Event) → MayAdd P C h e.by x → IsQuiet x → head_station C (unit_of P C (entry e.by x ∷ h)) ≡ head_station C (unit_of P C h)
+        kind (Does s) m q = head_kept P C (unit_of P C h) e.by s q m.1
+        kind (Refuses r) m q = refl
+        kind (Marks r) m q = refl
+
+    go : (es : List Entry) → IsLegal P C (es ++ old) → AreQuiet es → head_station C (unit_of P C (es ++ old)) ≡ head_station C (unit_of P C old)
+    go [] l q = refl
+    go (e ∷ es) l q = one (es ++ old) e l.1 q.0 ∙ go es l.0 q.1
+
+-- what was committed stays
+pub committed_kept : (P : Program) (C : Sizes) (old new : List Entry) (events : List Event) → Adds P C back old new events → AllByRecursion IsQuiet events → committed P (unit_of P C new).tenants ≡ committed P (unit_of P C old).tenants
+committed_kept P C old new events a quiet =
+    let more = a.begins.more in
+    let legal = added_legal P C back old new events a in
+    subst (λ h. committed P (unit_of P C h).tenants ≡ committed P (unit_of P C old).tenants) (sym a.begins.is) (go more legal (all_quiet P C more old events legal (added_own P C back old new events a) quiet))
+  where
+    one : (h : List Entry) (e : Entry) → IsLegal P C h → MayAdd P C h e.by e.event → IsQuiet e.event → committed P (unit_of P C (e ∷ h)).tenants ≡ committed P (unit_of P C h).tenants
+    one h e l m q = kind e.event m q
+      where
+        kind : (x : Event) → MayAdd P C h e.by x → IsQuiet x → committed P (unit_of P C (entry e.by x ∷ h)).tenants ≡ committed P (unit_of P C h).tenants
+        kind (Does s) m q = by_others P C (unit_of P C h) e.by s (unit_sound P C h l) q m.1
+        kind (Refuses r) m q = refl
+        kind (Marks r) m q = refl
+
+    go : (es : List Entry) → IsLegal P C (es ++ old) → AreQuiet es → committed P (unit_of P C (es ++ old)).tenants ≡ committed P (unit_of P C old).tenants
+    go [] l q = refl
+    go (e ∷ es) l q = one (es ++ old) e l.0 l.1 q.0 ∙ go es l.0 q.1

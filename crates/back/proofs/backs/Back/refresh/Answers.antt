@@ -1,0 +1,31 @@
+use Rattle.std.proofs.Common.{◌≡◌, sym, ap, ◌∙◌, subst, arith}
+use Rattle.station.specs.Seats.{TheCore}
+use Rattle.back.specs.Backs.{IsSame, TheBack, back_of}
+use Rattle.back.specs.Refreshes.{RefreshAnswers}
+use Rattle.back.proofs.Calls.{head_small, is_same}
+use Rattle.back.proofs.Scanning.{is_calm}
+use Rattle.back.proofs.SeatKept.{kept_by}
+use Rattle.back.proofs.backs.Back.refresh.Goals as goal
+
+pub scan-requires-clause-head : goal.scan-requires-clause-head
+scan-requires-clause-head g c =
+    let core = ap (λ (s : TheBack). s.core) c.self.view_is ∙ c.requires.core in
+    head_small c.self.inside.head _ _ c.ring-ring.result c.self.invariant.unit.head_is (c.ring-ring.ensures.value ∙ sym (ap (λ (d : TheCore). d.sizes.ring) core)) c.ring-ring.ensures.least
+
+pub invariant_of-self : goal.invariant_of-self
+invariant_of-self g c =
+    let b = c.self.inside in
+    let core = ap (λ (s : TheBack). s.core) c.self.view_is ∙ c.requires.core in
+    let reply = subst (λ (d : TheCore). RefreshAnswers d.program d.sizes b.seat.by b.seat.seen c.scan.new.seat.seen c.scan.result) (sym core) c.scan.ensures.reply in
+    let calm = is_calm b.seat.core.program b.seat.core.sizes b.seat.by b.seat.seen c.scan.new.seat.seen c.scan.result reply in
+    kept_by g.J.Naming.program b.program b.committed b.head b.ended b.publisher b.seat c.scan.new.seat calm.events c.self.invariant c.scan.ensures.kept.core c.scan.ensures.kept.by calm.adds calm.quiet
+
+pub returns-clause-kept : goal.returns-clause-kept
+returns-clause-kept g c =
+    let b = c.self.inside in
+    let core = ap (λ (s : TheBack). s.core) c.self.view_is ∙ c.requires.core in
+    let reply = subst (λ (d : TheCore). RefreshAnswers d.program d.sizes b.seat.by b.seat.seen c.scan.new.seat.seen c.scan.result) (sym core) c.scan.ensures.reply in
+    let calm = is_calm b.seat.core.program b.seat.core.sizes b.seat.by b.seat.seen c.scan.new.seat.seen c.scan.result reply in
+    let kept = kept_by g.J.Naming.program b.program b.committed b.head b.ended b.publisher b.seat c.scan.new.seat calm.events c.self.invariant c.scan.ensures.kept.core c.scan.ensures.kept.by calm.adds calm.quiet in
+    subst (λ old. IsSame old (back_of c.scan.new.seat b.ended b.publisher)) c.self.view_is
+    (is_same g.J.Naming.program b.program b.committed b.head b.ended b.publisher b.seat c.scan.new.seat c.self.invariant kept c.scan.ensures.kept.core c.scan.ensures.kept.by)

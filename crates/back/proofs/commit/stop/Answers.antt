@@ -1,0 +1,17 @@
+use Rattle.back.proofs.OwnEntries.{cancel}
+use Rattle.back.proofs.Committing.{committed_as}
+use Rattle.back.proofs.UnitKept.{adds_keeps}
+use Rattle.back.proofs.Retiring.{still_stays}
+use Rattle.back.proofs.Starting.{starts}
+use Rattle.back.proofs.SeatKept.{kept_by}
+use Rattle.back.proofs.Calls.{is_same}
+use Rattle.back.proofs.Ranks.{same_rank}
+use Rattle.back.proofs.RuleOver.{whole_place}
+use Rattle.back.proofs.PortRule.{by_none}
+use Rattle.back.proofs.PortStays.{met_lasts}
+use Rattle.back.proofs.Seeing.{sees_entry}
+use Rattle.back.proofs.Searching.{found_stays}
+use Rattle.back.proofs.Answering.{shows_content}
+use Rattle.back.proofs.Trying.{no_other}
+use Rattle.back.proofs.Settling.{may_settle}
+use Rattle.back.proofs.Scanning.{is_idle}

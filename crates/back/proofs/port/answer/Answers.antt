@@ -1,0 +1,91 @@
+use Rattle.std.proofs.Common.{◌≡◌, ◌⊎◌, ◌+◌, ◌%◌, ℕ, [], ◌∷◌, length, refl, sym, ap, ◌∙◌, subst}
+use Rattle.std.specs.Prelude.{slice_index}
+use Rattle.isa.specs.Instruction.{width}
+use Rattle.isa.specs.Operations.{loaded}
+use Rattle.lsq.specs.Bytes.{little_endian}
+use Rattle.lsq.specs.LoadRule.{answer}
+use Rattle.inorder.specs.Callers.{CanLoad}
+use Rattle.inorder.specs.Committed.{committed}
+use Rattle.inorder.specs.History.{Adds, back}
+use Rattle.inorder.specs.Machine.{State}
+use Rattle.inorder.specs.Replies.{IsStale}
+use Rattle.back.specs.Backs.{unit_in}
+use Rattle.back.specs.Port.{AtStation, HasFound, content_in}
+use Rattle.back.proofs.Answering.{committed_same, forward_answers, none_answers, shows_content, unknown_answers, waiting_answers}
+use Rattle.back.proofs.Answering.{found_later}
+use Rattle.back.proofs.Seeing.{same_on, two_looks}
+use Rattle.back.proofs.port.answer.Goals as goal
+
+pub returns-in-Err-clause-err : goal.returns-in-Err-clause-err
+returns-in-Err-clause-err c p asked =
+    let d = c.args.core.now in
+    let a = subst (λ x. Adds d.program d.sizes x c.args.seat.now.seen c.search.new.seat.seen []) c.requires.by c.search.ensures.history in
+    unknown_answers d.program d.sizes c.args.seat.now.seen c.search.new.seat.seen a c.args.head c.args.at c.requires.head_is c.requires.head c.requires.at p c.args.load.now asked c.in-Err.k c.in-Err.ensures.err
+
+pub returns-in_default-clause-ok : goal.returns-in_default-clause-ok
+returns-in_default-clause-ok c p asked =
+    let d = c.args.core.now in
+    let l = c.args.load.now in
+    let old = c.args.seat.now in
+    let new = c.search.new.seat in
+    let a = subst (λ x. Adds d.program d.sizes x old.seen new.seen []) c.requires.by c.search.ensures.history in
+    let found = subst (λ o. HasFound d.program (unit_in d new.seen) (length (unit_in d old.seen).tenants) c.args.head d.sizes.ring 0 c.args.at l.address (width l.op) o) c.in_default.is c.in-Ok.ensures.ok in
+    let r = none_answers d.program d.sizes old.seen new.seen a c.args.head c.args.at c.requires.head_is c.requires.head c.requires.at p l asked found in
+    let memory : (committed d.program (unit_in d new.seen).tenants).memory ≡ c.args.committed.now.memory = ap (λ (s : State). s.memory) (committed_same d.program d.sizes old.seen new.seen a ∙ sym c.requires.state) in
+    let read : little_endian (slice_index (committed d.program (unit_in d new.seen).tenants).memory) l.address (width l.op) ≡ c.number_at-raw.result =
+    (λ i. little_endian (slice_index (memory i)) l.address (sym c.width.ensures.value i)) ∙ sym c.number_at-raw.ensures in
+    subst (λ v. CanLoad d.program (unit_in d new.seen) p l.address v ⊎ IsStale (unit_in d new.seen) p) (ap (loaded l.op) read ∙ sym c.loaded.ensures) r
+
+pub returns-in-Forward-clause-history : goal.returns-in-Forward-clause-history
+returns-in-Forward-clause-history c =
+    let d = c.args.core.now in
+    two_looks d.program d.sizes c.args.seat.now.by c.search.new.seat.by c.args.seat.now.seen c.search.new.seat.seen c.operand-data.new.seat.seen c.search.ensures.kept.by c.search.ensures.history c.operand-data.ensures.history
+
+pub returns-in-Forward-clause-ok : goal.returns-in-Forward-clause-ok
+returns-in-Forward-clause-ok c p asked =
+    let d = c.args.core.now in
+    let l = c.args.load.now in
+    let old = c.args.seat.now in
+    let mid = c.search.new.seat in
+    let new = c.operand-data.new.seat in
+    let k = c.in-Some.k in
+    let e = c.in-Some.store in
+    let word = c.operand-data.result in
+    let a = subst (λ x. Adds d.program d.sizes x old.seen mid.seen []) c.requires.by c.search.ensures.history in
+    let b = subst (λ x. Adds d.program d.sizes x mid.seen new.seen []) (c.search.ensures.kept.by ∙ c.requires.by) c.operand-data.ensures.history in
+    let whole = two_looks d.program d.sizes back back old.seen mid.seen new.seen refl a b in
+    let n = length (unit_in d old.seen).tenants in
+    let found = subst (λ o. HasFound d.program (unit_in d mid.seen) n c.args.head d.sizes.ring 0 c.args.at l.address (width l.op) o) c.in-Some.is c.in-Ok.ensures.ok in
+    let still = found_later d.program d.sizes old.seen mid.seen new.seen a b c.args.head d.sizes.ring 0 c.args.at l.address (width l.op) (k, e) found in
+    let shown = shows_content (unit_in d new.seen) ((c.args.head + k) % c.ring-ring.result) word.tag word.state word.value c.operand-data.ensures.reply.its n in
+    let shows = subst (λ r. AtStation (unit_in d new.seen) n ((c.args.head + k) % r) (λ u. u.second.value ≡ content_in word.state word.value)) c.ring-ring.ensures.value shown in
+    let says = (λ i. answer (record e { content = sym c.content-content.ensures i } ∷ sym c.entry_of.ensures i ∷ []) 1) ∙ sym c.ask.ensures in
+    subst (λ v. CanLoad d.program (unit_in d new.seen) p l.address v ⊎ IsStale (unit_in d new.seen) p) (sym c.loaded-in-Forward.ensures)
+    (forward_answers d.program d.sizes old.seen new.seen whole c.args.head c.args.at c.requires.head_is c.requires.head c.requires.at p l asked k e still (content_in word.state word.value) shows c.in-Forward.raw (says ∙ c.in-Forward.is))
+
+pub returns-in_default-ask : goal.returns-in_default-ask
+returns-in_default-ask c =
+    let d = c.args.core.now in
+    let l = c.args.load.now in
+    let old = c.args.seat.now in
+    let mid = c.search.new.seat in
+    let new = c.operand-data.new.seat in
+    let k = c.in-Some.k in
+    let e = c.in-Some.store in
+    let word = c.operand-data.result in
+    let a = subst (λ x. Adds d.program d.sizes x old.seen mid.seen []) c.requires.by c.search.ensures.history in
+    let b = subst (λ x. Adds d.program d.sizes x mid.seen new.seen []) (c.search.ensures.kept.by ∙ c.requires.by) c.operand-data.ensures.history in
+    let whole = two_looks d.program d.sizes back back old.seen mid.seen new.seen refl a b in
+    let n = length (unit_in d old.seen).tenants in
+    let found = subst (λ o. HasFound d.program (unit_in d mid.seen) n c.args.head d.sizes.ring 0 c.args.at l.address (width l.op) o) c.in-Some.is c.in-Ok.ensures.ok in
+    let still = found_later d.program d.sizes old.seen mid.seen new.seen a b c.args.head d.sizes.ring 0 c.args.at l.address (width l.op) (k, e) found in
+    let shown = shows_content (unit_in d new.seen) ((c.args.head + k) % c.ring-ring.result) word.tag word.state word.value c.operand-data.ensures.reply.its n in
+    let shows = subst (λ r. AtStation (unit_in d new.seen) n ((c.args.head + k) % r) (λ u. u.second.value ≡ content_in word.state word.value)) c.ring-ring.ensures.value shown in
+    let says = (λ i. answer (record e { content = sym c.content-content.ensures i } ∷ sym c.entry_of.ensures i ∷ []) 1) ∙ sym c.ask.ensures in
+    record {
+      kept = same_on old mid new c.search.ensures.kept c.operand-data.ensures.kept;
+      history = two_looks d.program d.sizes old.by mid.by old.seen mid.seen new.seen c.search.ensures.kept.by c.search.ensures.history c.operand-data.ensures.history;
+      bound = found.bound;
+      ok = tt;
+      err = λ p asked. waiting_answers d.program d.sizes old.seen new.seen whole c.args.head c.args.at c.requires.head_is c.requires.head c.requires.at p l asked k e still (content_in word.state word.value) shows (λ raw h. c.in_default-ask.not-Forward raw (sym says ∙ h));
+    }

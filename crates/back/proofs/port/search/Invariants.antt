@@ -1,0 +1,20 @@
+use Rattle.std.proofs.Common.{◌≡◌, ◌≤◌, [], length}
+use Rattle.isa.specs.Instruction.{width}
+use Rattle.inorder.specs.History.{Adds}
+use Rattle.station.specs.Seats.{IsSame}
+use Rattle.back.specs.Backs.{unit_in}
+use Rattle.back.specs.Port.{HasFound}
+use Rattle.back.proofs.port.search.Given as goal
+
+-- the stores from the k-th station on were looked at
+abbrev pub invariant-loop-k : goal.invariant-loop-k
+invariant-loop-k l =
+    record {
+      kept : IsSame l.fn.seat l.seat;
+      history : Adds l.core.program l.core.sizes l.fn.seat.by l.fn.seat.seen l.seat.seen [];
+      bound : l.k ≤ l.at;
+      found : HasFound l.core.program (unit_in l.core l.seat.seen) (length (unit_in l.core l.fn.seat.seen).tenants) l.head l.core.sizes.ring l.k l.at l.fn.load.address (width l.fn.load.op) l.found;
+    }
+
+abbrev pub decreases-loop-k : goal.decreases-loop-k
+decreases-loop-k l = l.k

@@ -1,0 +1,54 @@
+-- What contracts see of a back.
+use Rattle.std.specs.Prelude.{◌≡◌, ℕ, List, [], Option, None}
+use Rattle.isa.specs.declared.stop.Stop.{Stop}
+use Rattle.inorder.specs.declared.history.Entry.{Entry}
+use Rattle.inorder.specs.Callers.{is_retired}
+use Rattle.inorder.specs.Committed.{committed}
+use Rattle.inorder.specs.History.{Adds, unit_of}
+use Rattle.inorder.specs.Machine.{State, start}
+use Rattle.inorder.specs.Unit.{UpdateUnit, how_many}
+use Rattle.snapshots.specs.Snapshots.{opening}
+use Rattle.snapshots.specs.declared.snap.Snap.{Snap}
+use Rattle.station.specs.Seats.{Caller, TheCore}
+
+-- A back: its core, the number of its caller, what that caller has seen, the code with which it has ended,
+-- if it has, and the snapshot that it showed last
+pub record TheBack : Type 0 where
+  pub core : TheCore
+  pub by : ℕ
+  pub seen : List Entry
+  pub ended : Option Stop
+  pub shown : Snap
+
+abbrev pub back_of : Caller → Option Stop → Snap → TheBack
+back_of seat ended shown =
+    record { core = seat.core; by = seat.by; seen = seat.seen; ended = ended; shown = shown }
+
+-- The unit of what a caller has seen
+abbrev pub unit_in : TheCore → List Entry → UpdateUnit
+unit_in core seen = unit_of core.program core.sizes seen
+
+-- Its registers, memory, pc and n are what the unit has committed in what it has seen
+abbrev pub state_of : TheBack → State
+state_of b = committed b.core.program (unit_in b.core b.seen).tenants
+
+-- A seat whose caller has retired nothing: nobody else retires
+abbrev pub HasRetiredNothing : Caller → Type 0
+HasRetiredNothing seat = how_many is_retired (unit_in seat.core seat.seen).tenants ≡ 0
+
+-- A back with this seat, which has looked at the core once, at the start of the program
+pub record IsNew (seat : Caller) (b : TheBack) : Type 0 where
+  pub core : b.core ≡ seat.core
+  pub by : b.by ≡ seat.by
+  pub history : Adds seat.core.program seat.core.sizes seat.by seat.seen b.seen []
+  pub ended : b.ended ≡ None
+  pub shown : b.shown ≡ opening
+  pub state : state_of b ≡ start seat.core.program
+
+-- The same back, which may have seen more
+pub record IsSame (old new : TheBack) : Type 0 where
+  pub core : new.core ≡ old.core
+  pub by : new.by ≡ old.by
+  pub ended : new.ended ≡ old.ended
+  pub shown : new.shown ≡ old.shown
+  pub state : state_of new ≡ state_of old

@@ -1,0 +1,75 @@
+-- What `commit` answers.
+use Rattle.std.specs.Prelude.{◌≡◌, ℕ, suc, true, List, [], ◌∷◌, None, Some, IsSome}
+use Rattle.isa.specs.Programs.{instr_at}
+use Rattle.isa.specs.declared.stop.Stop.{Stop}
+use Rattle.isa.specs.declared.stop.Stop.TheVariants.{BadPc}
+use Rattle.inorder.specs.declared.history.Act.TheVariants.{Retire}
+use Rattle.inorder.specs.declared.history.Event.{Event}
+use Rattle.inorder.specs.declared.history.Event.TheVariants.{Does, Refuses}
+use Rattle.inorder.specs.declared.history.Refusal.TheVariants.{Empty as IsEmptyNow, NotDone as IsNotDoneNow}
+use Rattle.inorder.specs.declared.history.Step.TheVariants.{On}
+use Rattle.inorder.specs.Committed.{commits}
+use Rattle.inorder.specs.History.{Adds}
+use Rattle.inorder.specs.Replies.{Has}
+use Rattle.inorder.specs.Runs.{stop}
+use Rattle.inorder.specs.Tenants.{Retired as HasRetired, Stopped, Tenant}
+use Rattle.back.specs.Backs.{TheBack, state_of, unit_in}
+use Rattle.back.specs.declared.answers.Commit.{Commit}
+use Rattle.back.specs.declared.answers.Commit.TheVariants.{Empty, Ended, NotDone, Retired}
+
+-- These events are what it added to what it has seen
+abbrev pub HasAdded : TheBack → TheBack → List Event → Type 0
+HasAdded old new events = Adds old.core.program old.core.sizes old.by old.seen new.seen events
+
+-- It had not ended, and there was an instruction at its pc
+pub record WentOn (old : TheBack) : Type 0 where
+  pub not_ended : old.ended ≡ None
+  pub instr : IsSome (instr_at old.core.program (state_of old).pc)
+
+-- A tenant with this pc that has committed
+pub record IsCommitted (pc : ℕ) (t : Tenant) : Type 0 where
+  pub commits_it : commits t ≡ true
+  pub pc_is : t.pc ≡ pc
+
+-- A tenant retired and committed: the instruction at the pc was run, and n is the count behind it
+pub record HasCommitted (old new : TheBack) (pc n : ℕ) : Type 0 where
+  pub went_on : WentOn old
+  pub not_ended : new.ended ≡ None
+  pub p : ℕ
+  pub made : ℕ
+  pub tenant : Has (unit_in new.core new.seen) p (IsCommitted pc)
+  pub adds : HasAdded old new (Does (On p (Retire made)) ∷ [])
+  pub n_is : n ≡ (state_of new).count
+  pub one_more : n ≡ suc (state_of old).count
+
+-- It was refused, and nothing was committed
+pub record WasRefused (old new : TheBack) (event : Event) : Type 0 where
+  pub went_on : WentOn old
+  pub not_ended : new.ended ≡ None
+  pub adds : HasAdded old new (event ∷ [])
+  pub state : state_of new ≡ state_of old
+
+pub record IsRetiredStop (code : Stop) (t : Tenant) : Type 0 where
+  pub standing : t.standing ≡ HasRetired
+  pub fate : t.fate ≡ Stopped code
+
+-- How it ended: before this call, or where there is no instruction, or a stop retired
+pub data HowEnded (old new : TheBack) (code : Stop) : Type 0 where
+  Before : old.ended ≡ Some code → new ≡ old → HowEnded old new code
+  Nowhere : old.ended ≡ None → code ≡ BadPc → instr_at old.core.program (state_of old).pc ≡ None →
+      new ≡ record old { ended = Some BadPc } → HowEnded old new code
+  Stops : WentOn old → (p made : ℕ) → Has (unit_in new.core new.seen) p (IsRetiredStop code) →
+      HasAdded old new (Does (On p (Retire made)) ∷ []) → HowEnded old new code
+
+-- It has ended, with the code with which the machine in order stops there
+pub record HasEnded (old new : TheBack) (code : Stop) : Type 0 where
+  pub ended : new.ended ≡ Some code
+  pub how : HowEnded old new code
+  pub state : state_of new ≡ state_of old
+  pub stops : stop new.core.program (state_of new).count ≡ Some code
+
+abbrev pub CommitAnswers : TheBack → TheBack → Commit → Type 0
+CommitAnswers old new (Retired pc n) = HasCommitted old new pc n
+CommitAnswers old new NotDone = WasRefused old new (Refuses IsNotDoneNow)
+CommitAnswers old new Empty = WasRefused old new (Refuses IsEmptyNow)
+CommitAnswers old new (Ended code) = HasEnded old new code

@@ -1,0 +1,28 @@
+-- How a run ends.
+use Rattle.std.specs.Prelude.{◌≡◌, ℕ, Option, Some, None}
+use Rattle.isa.specs.Programs.{Program}
+use Rattle.isa.specs.declared.end.End.{End}
+use Rattle.isa.specs.declared.end.Ending.{Ending}
+use Rattle.isa.specs.declared.end.Ending.TheVariants.{Limit, Stop as ByStop}
+use Rattle.isa.specs.declared.stop.Stop.{Stop}
+use Rattle.inorder.specs.Machine.{State}
+use Rattle.inorder.specs.Runs.{after, stop}
+
+-- The state that an end holds
+abbrev pub state_in : End → State
+state_in e = record { registers = e.registers; memory = e.memory.items; pc = e.pc; count = e.n }
+
+-- The next step stops with the code of the outcome, if it has one
+abbrev pub StopsThere : Program → ℕ → Ending → Type 0
+StopsThere P n (ByStop code) = stop P n ≡ Some code
+StopsThere P n Limit = Unit {0}
+
+-- It holds the state of the machine in order after its n instructions, and a stop is that machine's next step
+pub record IsInOrder (P : Program) (e : End) : Type 0 where
+  pub state : after P e.n ≡ Some (state_in e)
+  pub stops : StopsThere P e.n e.outcome
+
+-- A run ends with the code with which the back has ended, if it has
+abbrev pub outcome_of : Option Stop → Ending
+outcome_of (Some code) = ByStop code
+outcome_of None = Limit

@@ -1,0 +1,39 @@
+-- What a back keeps between its calls.
+use Rattle.std.specs.Prelude.{◌≡◌, ◌≤◌, ℕ, Option, Some, None}
+use Rattle.isa.specs.Programs.{Program, instr_at}
+use Rattle.isa.specs.declared.stop.Stop.{Stop}
+use Rattle.isa.specs.declared.stop.Stop.TheVariants.{BadPc}
+use Rattle.inorder.specs.Callers.{GoesOn, head_station}
+use Rattle.inorder.specs.Committed.{committed}
+use Rattle.inorder.specs.History.{IsLegal, back}
+use Rattle.inorder.specs.Machine.{State}
+use Rattle.inorder.specs.Replies.{Has}
+use Rattle.inorder.specs.Unit.{Sizes, UpdateUnit}
+use Rattle.snapshots.specs.declared.snap.Snap.{Snap}
+use Rattle.station.specs.Seats.{Caller}
+use Rattle.back.specs.Backs.{unit_in}
+use Rattle.back.specs.Commits.{IsRetiredStop}
+
+-- Why it has ended with this code: a stop has retired, or its pc is the address of no instruction
+pub data HasStopped (P : Program) (U : UpdateUnit) (code : Stop) : Type 0 where
+  ByStop : (p : ℕ) → Has U p (IsRetiredStop code) → HasStopped P U code
+  Nowhere : code ≡ BadPc → instr_at P (committed P U.tenants).pc ≡ None → GoesOn U → HasStopped P U code
+
+-- It has not ended, and no stop has retired; or it has ended with a code
+abbrev pub EndIs : Program → UpdateUnit → Option Stop → Type 0
+EndIs P U None = GoesOn U
+EndIs P U (Some code) = HasStopped P U code
+
+-- The unit that it has seen, and its fields
+pub record KeepsUnit (P : Program) (C : Sizes) (U : UpdateUnit) (state : State) (head : ℕ) (ended : Option Stop) : Type 0 where
+  pub state_is : state ≡ committed P U.tenants
+  pub head_is : head ≡ head_station C U
+  pub end_is : EndIs P U ended
+
+pub record IsKept (P : Program) (seat : Caller) (copy : Program) (state : State) (head : ℕ) (ended : Option Stop) (shown : Snap) : Type 0 where
+  pub program : seat.core.program ≡ P
+  pub copied : copy ≡ P
+  pub by_is : seat.by ≡ back
+  pub legal : IsLegal P seat.core.sizes seat.seen
+  pub unit : KeepsUnit P seat.core.sizes (unit_in seat.core seat.seen) state head ended
+  pub later : shown.n ≤ state.count

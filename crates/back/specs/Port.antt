@@ -1,0 +1,120 @@
+-- What the memory port knows while it answers one load.
+use Rattle.std.specs.Prelude.{◌≡◌, ◌⊎◌, ◌+◌, ◌%◌, ◌<◌, ◌≤◌, ℕ, true, false, Option, Some, None}
+use Rattle.isa.specs.Instruction.{kind}
+use Rattle.isa.specs.Programs.{Program}
+use Rattle.isa.specs.declared.instr.Instr.{Instr}
+use Rattle.inorder.specs.Loads.{access_width, entry_of, is_store}
+use Rattle.inorder.specs.Replies.{Has, IsStale}
+use Rattle.inorder.specs.Tenants.{Addr, Fate, Live, Tenant, instr, kind_of}
+use Rattle.inorder.specs.Unit.{UpdateUnit, at}
+use Rattle.lsq.specs.declared.entry.Entry.{Entry as QueueEntry}
+use Rattle.lsq.specs.LoadRule.{lacks_address, overlaps}
+use Rattle.ruu_words.specs.declared.station.StationState.{StationState}
+use Rattle.ruu_words.specs.declared.station.StationState.TheVariants.{Addr as ShowsAddr}
+use Rattle.station.specs.declared.answers.SourceState.{SourceState}
+use Rattle.station.specs.declared.answers.SourceState.TheVariants.{Val}
+use Rattle.back.specs.Loads.{Blocks, IsLiveLoad}
+use Rattle.back.specs.declared.port.Load.{Load}
+
+-- The address that a station's word shows
+abbrev pub address_in : StationState → ℕ → Option ℕ
+address_in ShowsAddr value = Some value
+address_in _ value = None
+
+-- The data that an operand shows
+abbrev pub content_in : SourceState → ℕ → Option ℕ
+content_in Val value = Some value
+content_in _ value = None
+
+abbrev pub address_of : Fate → Option ℕ
+address_of (Addr a) = Some a
+address_of _ = None
+
+-- What the queue holds of an instruction whose station shows this
+abbrev pub seen_as : Instr → StationState → ℕ → QueueEntry
+seen_as i state value =
+    record {
+      store = is_store (kind i.op);
+      width = access_width i.op;
+      address = address_in state value;
+      content = None;
+    }
+
+-- The entry of a load
+abbrev pub load_entry : Load → QueueEntry
+load_entry l = record { store = false; width = access_width l.op; address = Some l.address; content = None }
+
+-- The k-th station behind the head's
+abbrev pub behind : ℕ → ℕ → ℕ → ℕ
+behind head ring k = (head + k) % ring
+
+-- This is so of each live tenant of the station that is one of the first n
+abbrev pub AtStation : UpdateUnit → ℕ → ℕ → (Tenant → Type 0) → Type 0
+AtStation U n station Fact =
+    (q : ℕ) (u : Tenant) → q < n → at U.tenants q ≡ Some u → u.standing ≡ Live → u.station ≡ station → Fact u
+
+-- The entry says what it is: a store or not, how wide, and its address; its data is not looked at
+pub record IsEntryOf (P : Program) (e : QueueEntry) (u : Tenant) : Type 0 where
+  pub store : e.store ≡ is_store (kind_of P u)
+  pub width : e.width ≡ access_width (instr P u).op
+  pub address : e.address ≡ address_of u.fate
+  pub content : e.content ≡ None
+
+-- No store, or one with its address
+abbrev pub IsKnown : Program → Tenant → Type 0
+IsKnown P u = (is_store (kind_of P u) ≡ false) ⊎ ((a : ℕ) × (u.fate ≡ Addr a))
+
+-- It does not wait for this one
+pub record IsPassed (P : Program) (a w : ℕ) (u : Tenant) : Type 0 where
+  pub known : IsKnown P u
+  pub apart : overlaps a w (entry_of P u) ≡ false
+
+-- A store with this entry, which overlaps it
+pub record IsMet (P : Program) (a w : ℕ) (e : QueueEntry) (u : Tenant) : Type 0 where
+  pub base : ℕ
+  pub store : is_store (kind_of P u) ≡ true
+  pub fate : u.fate ≡ Addr base
+  pub entry : e ≡ record { store = true; width = access_width (instr P u).op; address = Some base; content = None }
+  pub meets : overlaps a w e ≡ true
+
+abbrev pub Lacks : Program → Tenant → Type 0
+Lacks P u = lacks_address (entry_of P u) ≡ true
+
+-- The stores from the k-th station on up to that of the load have their addresses, and this is the youngest
+-- that overlaps it
+pub record HasMet (P : Program) (U : UpdateUnit) (n head ring k at a w s : ℕ) (e : QueueEntry) : Type 0 where
+  pub here : k ≤ s
+  pub bound : s < at
+  pub known : (j : ℕ) → k ≤ j → j < at → AtStation U n (behind head ring j) (IsKnown P)
+  pub younger : (j : ℕ) → s < j → j < at → AtStation U n (behind head ring j) (IsPassed P a w)
+  pub it : AtStation U n (behind head ring s) (IsMet P a w e)
+
+-- The same, where none may overlap it
+abbrev pub HasFound : Program → UpdateUnit → (n head ring k at a w : ℕ) → Option (ℕ × QueueEntry) → Type 0
+HasFound P U n head ring k at a w None =
+    (j : ℕ) → k ≤ j → j < at → AtStation U n (behind head ring j) (IsPassed P a w)
+HasFound P U n head ring k at a w (Some found) = HasMet P U n head ring k at a w found.0 found.1
+
+-- The youngest store without its address
+pub record HasUnknown (P : Program) (U : UpdateUnit) (n head ring at s : ℕ) : Type 0 where
+  pub bound : s < at
+  pub younger : (j : ℕ) → s < j → j < at → AtStation U n (behind head ring j) (IsKnown P)
+  pub it : AtStation U n (behind head ring s) (Lacks P)
+
+-- It is this load, and waits
+pub record IsLoadOf (P : Program) (station : ℕ) (l : Load) (t : Tenant) : Type 0 where
+  pub load : IsLiveLoad P t
+  pub station_is : t.station ≡ station
+  pub tag_is : t.tag ≡ l.tag
+  pub fate : t.fate ≡ Addr l.address
+  pub op_is : (instr P t).op ≡ l.op
+
+-- Unless it was squashed
+abbrev pub IsAsked : Program → UpdateUnit → ℕ → ℕ → Load → Type 0
+IsAsked P U p station l = Has U p (IsLoadOf P station l) ⊎ IsStale U p
+
+-- A store of this station blocks load p
+pub record IsBlockedAt (P : Program) (U : UpdateUnit) (p station : ℕ) : Type 0 where
+  pub q : ℕ
+  pub blocks : Blocks P U p q
+  pub store : Has U q (λ u. u.station ≡ station)

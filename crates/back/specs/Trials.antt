@@ -1,0 +1,95 @@
+-- What the memory port finds at one station.
+use Rattle.std.specs.Prelude.{◌≡◌, ◌≢◌, ◌<◌, ◌≤◌, ◌+◌, ◌&&◌, ℕ, List, [], ◌∷◌, ◌++◌, Option, Some, None, length, nat_lt, nat_le, if◌then◌else◌}
+use Rattle.std.specs.List.{AllByRecursion}
+use Rattle.isa.specs.Instruction.{kind, width}
+use Rattle.isa.specs.Programs.{Program, instr_of}
+use Rattle.isa.specs.declared.instr.Instr.{Instr}
+use Rattle.isa.specs.declared.op.Kind.{Kind}
+use Rattle.isa.specs.declared.op.Kind.TheVariants.{Loads}
+use Rattle.inorder.specs.declared.history.Act.TheVariants.{Load as LoadIt}
+use Rattle.inorder.specs.declared.history.Entry.{Entry}
+use Rattle.inorder.specs.declared.history.Event.{Event}
+use Rattle.inorder.specs.declared.history.Event.TheVariants.{Does}
+use Rattle.inorder.specs.declared.history.Step.TheVariants.{On}
+use Rattle.inorder.specs.History.{Adds, unit_of}
+use Rattle.inorder.specs.Replies.{Has, IsNamed}
+use Rattle.inorder.specs.Tenants.{Addr, Done, Live, Tenant}
+use Rattle.inorder.specs.Unit.{Sizes, UpdateUnit}
+use Rattle.ruu_words.specs.Kinds.{IsTenant}
+use Rattle.station.specs.Moments.{WasOnce}
+use Rattle.station.specs.Writeback.{IsWalk}
+use Rattle.back.specs.Loads.{IsLiveLoad, WasNotWaiting}
+use Rattle.back.specs.Port.{IsAsked, IsBlockedAt}
+use Rattle.back.specs.Refreshes.{IsTooLate}
+use Rattle.back.specs.declared.port.Load.{Load}
+use Rattle.back.specs.declared.port.Tried.{Tried}
+use Rattle.back.specs.declared.port.Tried.TheVariants.{Blocked, Loaded, Passed}
+
+-- The load of an instruction at an address, if it is one and inside the memory
+abbrev pub load_by : Kind → ℕ → Instr → ℕ → ℕ → Option Load
+load_by Loads size i tag address =
+    if nat_le (address + width i.op) size then Some (record { tag = tag; address = address; op = i.op }) else None
+load_by _ size i tag address = None
+
+abbrev pub load_at : Program → ℕ → ℕ → ℕ → Option Load
+load_at P index tag address =
+    if nat_lt index (length P.code)
+    then load_by (kind (instr_of P index).op) (length P.bytes) (instr_of P index) tag address
+    else None
+
+-- A live load of this station
+pub record IsLoadAt (P : Program) (station : ℕ) (t : Tenant) : Type 0 where
+  pub load : IsLiveLoad P t
+  pub station_is : t.station ≡ station
+
+-- A live tenant of this station, with this tag and address
+pub record IsShown (station tag address : ℕ) (t : Tenant) : Type 0 where
+  pub live : t.standing ≡ Live
+  pub station_is : t.station ≡ station
+  pub tag_is : t.tag ≡ tag
+  pub fate : t.fate ≡ Addr address
+
+-- No live load of the station waits, each at a moment of its own
+abbrev pub NoneWaits : Program → Sizes → List Entry → List Entry → ℕ → Type 0
+NoneWaits P C old new station = (q : ℕ) → Has (unit_of P C old) q (IsLoadAt P station) → WasNotWaiting P C old new q
+
+-- No other waits
+abbrev pub NoOtherWaits : Program → Sizes → List Entry → List Entry → ℕ → ℕ → Type 0
+NoOtherWaits P C old new station p =
+    (q : ℕ) → q ≢ p → Has (unit_of P C old) q (IsLoadAt P station) → WasNotWaiting P C old new q
+
+-- This one waits, unless it was squashed
+pub record SomeWaits (P : Program) (C : Sizes) (old new : List Entry) (station : ℕ) (l : Load) : Type 0 where
+  pub p : ℕ
+  pub named : IsNamed (unit_of P C new) p station l.tag
+  pub asked : IsAsked P (unit_of P C new) p station l
+  pub others : NoOtherWaits P C old new station p
+
+-- A store of station s blocks load p of this station
+pub record HoldsBack (P : Program) (p station s : ℕ) (U : UpdateUnit) : Type 0 where
+  pub blocked : IsBlockedAt P U p s
+  pub load : Has U p (IsLoadAt P station)
+
+pub record HasPassed (P : Program) (C : Sizes) (by : ℕ) (old new : List Entry) (station : ℕ) : Type 0 where
+  pub late : List Event
+  pub are_late : AllByRecursion IsTooLate late
+  pub adds : Adds P C by old new late
+  pub none : NoneWaits P C old new station
+
+pub record HasHeldBack (P : Program) (C : Sizes) (by : ℕ) (old new : List Entry) (station s : ℕ) : Type 0 where
+  pub adds : Adds P C by old new []
+  pub p : ℕ
+  pub when : WasOnce P C old new (HoldsBack P p station s)
+  pub others : NoOtherWaits P C old new station p
+
+pub record DidLoad (P : Program) (C : Sizes) (by : ℕ) (old new : List Entry) (station tag value : ℕ) : Type 0 where
+  pub p : ℕ
+  pub tenant : IsTenant (unit_of P C new) p station tag (λ t. t.fate ≡ Done value)
+  pub carried : List Event
+  pub walk : IsWalk P C new p carried
+  pub adds : Adds P C by old new (carried ++ Does (On p LoadIt) ∷ [])
+
+abbrev pub TriedAnswers : Program → Sizes → ℕ → List Entry → List Entry → ℕ → Tried → Type 0
+TriedAnswers P C by old new station Passed = HasPassed P C by old new station
+TriedAnswers P C by old new station (Blocked s) = HasHeldBack P C by old new station s
+TriedAnswers P C by old new station (Loaded tag value) = DidLoad P C by old new station tag value

@@ -1,0 +1,104 @@
+//! Backs.
+ghost use Rattle.std.specs.Prelude.{◌≡◌, IfOk, IfErr};
+ghost use Rattle.inorder.specs.Machine.{start};
+ghost use Rattle.back.specs.Backs.{HasRetiredNothing, IsNew, state_of};
+ghost use Rattle.snapshots.specs.Snapshots.{opening};
+
+use crate::committed::Committed;
+use isa::{Config, Memory, Program, Stop};
+use snapshots::{Naming, Publisher, Snapper};
+use station::{BackSeat, Core};
+use std::alloc::Global;
+use std::marker::Model;
+
+/// The commit side: the back's seat, the memory and the committed registers, pc and count of instructions, and
+/// the publisher of snapshots. To a contract it is what its seat has seen, and how it ended. It is no `Drop`:
+/// the one that holds it ends it.
+pub struct Back<J: Naming> {
+    pub(crate) seat: BackSeat,
+    pub(crate) program: Program,
+    pub(crate) committed: Committed,
+    // where the oldest live tenant stands, if there is one
+    pub(crate) head: usize,
+    pub(crate) ended: Option<Stop>,
+    pub(crate) publisher: Publisher<J>,
+}
+
+impl<J: Naming> Model for Back<J> {
+    ghost use Rattle.back.specs.Backs.{TheBack, back_of};
+    ghost use Rattle.back.specs.Kept.{IsKept};
+
+    ghost Value = { TheBack };
+
+    ghost view = { λ b. back_of b.seat b.ended b.publisher };
+
+    ghost invariant = { λ b. IsKept J.program b.seat b.program b.committed b.head b.ended b.publisher };
+}
+
+// What a back needs memory for. The publisher comes last, since it could not be given up without Wait.
+fn parts<J: Naming>(
+    alloc: Global,
+    program: &Program,
+    config: &Config,
+) -> Result<(Program, Committed, Publisher<J>, Snapper<J>), Memory>
+    ensures program { IfOk result (λ made. made.0 ≡ program.now) }
+    ensures committed { IfOk result (λ made. made.1 ≡ start program.now) }
+    ensures publisher { IfOk result (λ made. made.2 ≡ opening) }
+    ensures snapper { IfOk result (λ made. made.3 ≡ 0) }
+{
+    let copy = program.copied(alloc)?;
+    let committed = Committed::new(alloc, program)?;
+    let (publisher, snapper) = Publisher::new(alloc, config.places())?;
+    Ok((copy, committed, publisher, snapper))
+}
+
+impl<J: Naming> Back<J> {
+    /// A back at the start of a program, and the first snapper of what it shows. There can be as many snappers
+    /// at once as the configuration has places. At a refusal the seat is given back.
+    pub fn new(
+        alloc: Global,
+        core: &Core,
+        seat: BackSeat,
+        program: &Program,
+        config: &Config,
+    ) -> Result<(Back<J>, Snapper<J>), (Memory, BackSeat)>
+        requires core { seat.core ≡ core.now }
+        requires program { program.now ≡ core.now.program }
+        requires named { program.now ≡ J.program }
+        requires fresh { HasRetiredNothing seat }
+        ensures ok { IfOk result (λ made. IsNew seat made.0) }
+        ensures snapper { IfOk result (λ made. made.1 ≡ 0) }
+        ensures err { IfErr result (λ refused. refused.1 ≡ seat) }
+    {
+        match parts::<J>(alloc, program, config) {
+            Ok((program, committed, publisher, snapper)) => {
+                let mut seat = seat;
+                core.look(&mut seat, core.ring() - 1);
+                let back = Back {
+                    seat,
+                    program,
+                    committed,
+                    head: 0,
+                    ended: None,
+                    publisher,
+                };
+                Ok((back, snapper))
+            }
+            Err(memory) => Err((memory, seat)),
+        }
+    }
+
+    /// How many instructions it has committed.
+    pub fn n(&self) -> u64
+        ensures { result ≡ (state_of self.now).count }
+    {
+        self.committed.count()
+    }
+
+    /// The code that `commit` answered, once it has answered `Ended`.
+    pub fn ended(&self) -> Option<Stop>
+        ensures { result ≡ self.now.ended }
+    {
+        self.ended
+    }
+}

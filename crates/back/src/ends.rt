@@ -1,0 +1,48 @@
+//! The end of a back.
+ghost use Rattle.std.specs.Prelude.{◌≡◌};
+ghost use Rattle.back.specs.Backs.{state_of};
+ghost use Rattle.back.specs.Ends.{IsInOrder, outcome_of, state_in};
+
+use crate::backs::Back;
+use isa::{End, Ending, Stop};
+use snapshots::Naming;
+use std::sync::Wait;
+
+// How a run ends that has ended with this code, if it has.
+fn outcome(ended: Option<Stop>) -> Ending
+    ensures { result ≡ outcome_of ended }
+{
+    match ended {
+        Some(code) => Ending::Stop(code),
+        None => Ending::Limit,
+    }
+}
+
+impl<J: Naming> Back<J> {
+    /// The committed state, which is that of the machine in order after n instructions. The outcome is Limit
+    /// unless `commit` answered `Ended`. It waits until no snapper reads; from then on each is answered
+    /// `Gone`.
+    pub fn end<R: Wait>(self, wait: &R) -> End
+        ensures in_order { IsInOrder J.program result }
+        ensures state { state_in result ≡ state_of self }
+        ensures outcome { result.outcome ≡ outcome_of self.ended }
+    {
+        let Back {
+            seat: _,
+            program: _,
+            committed,
+            head: _,
+            ended,
+            publisher,
+        } = self;
+        publisher.end(wait);
+        let registers = committed.registers;
+        End {
+            n: committed.count,
+            pc: committed.pc,
+            outcome: outcome(ended),
+            registers,
+            memory: committed.memory,
+        }
+    }
+}

@@ -1,0 +1,17 @@
+//! The commit side of a shared unit: retirement in program order, the one memory port, and snapshots of what
+//! was committed.
+#![tactic(auto)]
+
+mod answers;
+mod backs;
+mod commit;
+mod committed;
+mod ends;
+mod port;
+mod refresh;
+mod seats;
+mod show;
+
+pub use answers::{Commit, Refresh};
+pub use backs::Back;
+pub use snapshots::{Gone, Mark, Naming, NoPlace, Snap, Snapper};

@@ -1,0 +1,294 @@
+//! The memory port: one load over the older stores.
+ghost use Rattle.std.specs.Prelude.{◌≡◌, ◌<◌, ◌≤◌, ◌+◌, ◌∷◌, ◌⊎◌, [], ℕ, IfErr, IfNone, IfOk, IfSome, IsSome, Some, false, true, length, slice_get};
+ghost use Rattle.isa.specs.Instruction.{width as width_in};
+ghost use Rattle.isa.specs.Operations.{loaded as loaded_as};
+ghost use Rattle.inorder.specs.Callers.{CanLoad, head_station};
+ghost use Rattle.inorder.specs.Committed.{committed as committed_by};
+ghost use Rattle.inorder.specs.History.{Adds, IsLegal, back};
+ghost use Rattle.inorder.specs.Loads.{access_width};
+ghost use Rattle.inorder.specs.Replies.{Has, IsNamed, IsStale};
+ghost use Rattle.lsq.specs.Entries.{bytes, load_by};
+ghost use Rattle.lsq.specs.LoadRule.{answer as answered, overlaps};
+ghost use Rattle.station.specs.Seats.{IsSame};
+ghost use Rattle.back.specs.Backs.{unit_in};
+ghost use Rattle.back.specs.Loads.{IsWaitingLoad};
+ghost use Rattle.back.specs.Trials.{NoneWaits, SomeWaits, TriedAnswers, load_at as load_in};
+ghost use Rattle.back.specs.Port.{AtStation, HasFound, HasUnknown, IsAsked, IsBlockedAt, IsEntryOf, IsLoadOf, address_in, behind, content_in, load_entry, seen_as};
+
+use crate::committed::Committed;
+use isa::{Instr, Kind, Op, Program, loaded};
+use lsq::{Answer, Entry, Queue, Width};
+use station::{BackSeat, Core, Settle, Source, SourceState, StationState};
+
+/// A load with its address.
+#[derive(Clone, Copy)]
+pub struct Load {
+    pub tag: u32,
+    pub address: u32,
+    pub op: Op,
+}
+
+/// What came of the load at one station.
+#[derive(Clone, Copy)]
+pub enum Tried {
+    /// No load waits there.
+    Passed,
+    /// It waits for the store of this station.
+    Blocked(usize),
+    /// It got its value: its tag, and the value.
+    Loaded(u32, u32),
+}
+
+fn width(op: Op) -> Width
+    ensures { result ≡ access_width op }
+{
+    match op {
+        Op::Lb | Op::Lbu | Op::Sb => Width::Byte,
+        Op::Lh | Op::Lhu | Op::Sh => Width::Half,
+        _ => Width::Word,
+    }
+}
+
+// The address that a station shows.
+fn address(state: StationState, value: u32) -> Option<u32>
+    ensures { result ≡ address_in state value }
+{
+    match state {
+        StationState::Addr => Some(value),
+        _ => None,
+    }
+}
+
+// What the queue holds of an instruction.
+fn entry(instr: &Instr, state: StationState, value: u32) -> Entry
+    ensures { result ≡ seen_as instr.now state value }
+{
+    Entry {
+        store: matches!(instr.op().kind(), Kind::Stores),
+        width: width(instr.op()),
+        address: address(state, value),
+        content: None,
+    }
+}
+
+// The data that an operand shows.
+fn content(state: SourceState, value: u32) -> Option<u32>
+    ensures { result ≡ content_in state value }
+{
+    match state {
+        SourceState::Val => Some(value),
+        _ => None,
+    }
+}
+
+fn entry_of(load: &Load) -> Entry
+    ensures { result ≡ load_entry load.now }
+{
+    Entry {
+        store: false,
+        width: width(load.op),
+        address: Some(load.address),
+        content: None,
+    }
+}
+
+// The answer of the rule to a load over one store.
+fn ask(store: Entry, load: Entry) -> Answer
+    requires { IsSome (load_by load.store load.address load.width) }
+    ensures { result ≡ answered (store ∷ load ∷ []) 1 }
+{
+    let mut queue = Queue::new(2);
+    let _ = queue.push(store);
+    let _ = queue.push(load);
+    queue.answer(1)
+}
+
+// Looks at a tenant. Its instruction is read first, so that the station's word is the newest that is known.
+fn look(core: &Core, seat: &mut BackSeat, program: &Program, station: usize) -> Entry
+    requires core { seat.old.core ≡ core.now }
+    requires by { seat.old.by ≡ back }
+    requires program { program.now ≡ core.now.program }
+    requires station { station < core.now.sizes.ring }
+    ensures kept { IsSame seat.old seat.new }
+    ensures history { Adds core.now.program core.now.sizes seat.old.by seat.old.seen seat.new.seen [] }
+    ensures shows { AtStation (unit_in core.now seat.new.seen) (length (unit_in core.now seat.old.seen).tenants) station (IsEntryOf core.now.program result) }
+{
+    let (index, _) = core.info(seat, station);
+    let seen = core.look(seat, station);
+    let index = index as usize;
+    if index < program.len() {
+        entry(program.instr(index), seen.state, seen.value)
+    } else {
+        Entry::default()
+    }
+}
+
+// The youngest older store that overlaps a load, if there is one; an error names the youngest that has no address.
+fn search(
+    core: &Core,
+    seat: &mut BackSeat,
+    program: &Program,
+    head: usize,
+    at: usize,
+    load: &Load,
+) -> Result<Option<(usize, Entry)>, usize>
+    requires core { seat.old.core ≡ core.now }
+    requires by { seat.old.by ≡ back }
+    requires legal { IsLegal core.now.program core.now.sizes seat.old.seen }
+    requires program { program.now ≡ core.now.program }
+    requires head { head < core.now.sizes.ring }
+    requires at { at < core.now.sizes.ring }
+    ensures kept { IsSame seat.old seat.new }
+    ensures history { Adds core.now.program core.now.sizes seat.old.by seat.old.seen seat.new.seen [] }
+    ensures ok { IfOk result (λ found. HasFound core.now.program (unit_in core.now seat.new.seen) (length (unit_in core.now seat.old.seen).tenants) head core.now.sizes.ring 0 at load.now.address (width_in load.now.op) found) }
+    ensures err { IfErr result (λ s. HasUnknown core.now.program (unit_in core.now seat.new.seen) (length (unit_in core.now seat.old.seen).tenants) head core.now.sizes.ring at s) }
+{
+    let ring = core.ring();
+    let asked = entry_of(load);
+    let mut found = None;
+    let mut k = at;
+    while k > 0 {
+        k -= 1;
+        let store = look(core, seat, program, (head + k) % ring);
+        if let Answer::Blocked(_) = ask(store, asked) {
+            if store.address.is_none() {
+                return Err(k);
+            }
+            if found.is_none() {
+                found = Some((k, store));
+            }
+        }
+    }
+    Ok(found)
+}
+
+// The value of a load by the rule for loads; an error names the store that blocks it.
+fn answer(
+    core: &Core,
+    seat: &mut BackSeat,
+    program: &Program,
+    committed: &Committed,
+    head: usize,
+    at: usize,
+    load: &Load,
+) -> Result<u32, usize>
+    requires core { seat.old.core ≡ core.now }
+    requires by { seat.old.by ≡ back }
+    requires legal { IsLegal core.now.program core.now.sizes seat.old.seen }
+    requires program { program.now ≡ core.now.program }
+    requires head { head < core.now.sizes.ring }
+    requires head_is { head ≡ head_station core.now.sizes (unit_in core.now seat.old.seen) }
+    requires at { at < core.now.sizes.ring }
+    requires state { committed.now ≡ committed_by core.now.program (unit_in core.now seat.old.seen).tenants }
+    requires inside { load.now.address + width_in load.now.op ≤ length committed.now.memory }
+    ensures kept { IsSame seat.old seat.new }
+    ensures history { Adds core.now.program core.now.sizes seat.old.by seat.old.seen seat.new.seen [] }
+    ensures bound { IfErr result (λ s. s < at) }
+    ensures ok { IfOk result (λ v. (p : ℕ) → IsAsked core.now.program (unit_in core.now seat.old.seen) p (behind head core.now.sizes.ring at) load.now → CanLoad core.now.program (unit_in core.now seat.new.seen) p load.now.address v ⊎ IsStale (unit_in core.now seat.new.seen) p) }
+    ensures err { IfErr result (λ s. (p : ℕ) → IsAsked core.now.program (unit_in core.now seat.old.seen) p (behind head core.now.sizes.ring at) load.now → IsBlockedAt core.now.program (unit_in core.now seat.new.seen) p (behind head core.now.sizes.ring s) ⊎ IsStale (unit_in core.now seat.new.seen) p) }
+{
+    let ring = core.ring();
+    let found = match search(core, seat, program, head, at, load) {
+        Ok(found) => found,
+        Err(k) => return Err(k),
+    };
+    let Some((k, store)) = found else {
+        let raw = committed.number_at(load.address as usize, load.op.width() as usize);
+        return Ok(loaded(load.op, raw));
+    };
+    let data = core.operand(seat, (head + k) % ring, Source::Second);
+    let content = content(data.state, data.value);
+    match ask(Entry { content, ..store }, entry_of(load)) {
+        Answer::Forward(raw) => Ok(loaded(load.op, raw)),
+        _ => Err(k),
+    }
+}
+
+// The load of an instruction, if it is one.
+fn load_at(program: &Program, index: usize, tag: u32, address: u32) -> Option<Load>
+    ensures { result ≡ load_in program.now index tag address }
+{
+    if index >= program.len() {
+        return None;
+    }
+    let op = program.instr(index).op();
+    match op.kind() {
+        Kind::Loads if u64::from(address) + u64::from(op.width()) <= u64::from(program.size()) => {
+            Some(Load { tag, address, op })
+        }
+        _ => None,
+    }
+}
+
+// The load of a station that has its address and waits.
+fn waiting(core: &Core, seat: &mut BackSeat, program: &Program, station: usize) -> Option<Load>
+    requires core { seat.old.core ≡ core.now }
+    requires by { seat.old.by ≡ back }
+    requires program { program.now ≡ core.now.program }
+    requires station { station < core.now.sizes.ring }
+    ensures kept { IsSame seat.old seat.new }
+    ensures history { Adds core.now.program core.now.sizes seat.old.by seat.old.seen seat.new.seen [] }
+    ensures none { IfNone result (NoneWaits core.now.program core.now.sizes seat.old.seen seat.new.seen station) }
+    ensures some { IfSome result (λ l. SomeWaits core.now.program core.now.sizes seat.old.seen seat.new.seen station l) }
+    ensures inside { IfSome result (λ l. l.address + width_in l.op ≤ length core.now.program.bytes) }
+{
+    let seen = core.look(seat, station);
+    let Some(address) = address(seen.state, seen.value) else {
+        return None;
+    };
+    let (index, _) = core.info(seat, station);
+    load_at(program, index as usize, seen.tag, address)
+}
+
+// The load still waits.
+fn is_still(core: &Core, seat: &mut BackSeat, station: usize, load: &Load) -> bool
+    requires core { seat.old.core ≡ core.now }
+    requires by { seat.old.by ≡ back }
+    requires station { station < core.now.sizes.ring }
+    ensures kept { IsSame seat.old seat.new }
+    ensures history { Adds core.now.program core.now.sizes seat.old.by seat.old.seen seat.new.seen [] }
+    ensures still { result ≡ true → (p : ℕ) → IsNamed (unit_in core.now seat.old.seen) p station load.now.tag → IsAsked core.now.program (unit_in core.now seat.old.seen) p station load.now → Has (unit_in core.now seat.new.seen) p (IsLoadOf core.now.program station load.now) }
+    ensures gone { result ≡ false → (p : ℕ) → IsAsked core.now.program (unit_in core.now seat.old.seen) p station load.now → ¬ Has (unit_in core.now seat.new.seen) p (IsWaitingLoad core.now.program) }
+{
+    let seen = core.look(seat, station);
+    seen.tag == load.tag && address(seen.state, seen.value).is_some()
+}
+
+/// Answers the load of a station, the `at`-th from the head on, if one waits there and nothing blocks it.
+pub(crate) fn try_load(
+    core: &Core,
+    seat: &mut BackSeat,
+    program: &Program,
+    committed: &Committed,
+    head: usize,
+    at: usize,
+) -> Tried
+    requires core { seat.old.core ≡ core.now }
+    requires by { seat.old.by ≡ back }
+    requires program { program.now ≡ core.now.program }
+    requires head { head < core.now.sizes.ring }
+    requires head_is { head ≡ head_station core.now.sizes (unit_in core.now seat.old.seen) }
+    requires at { at < core.now.sizes.ring }
+    requires state { committed.now ≡ committed_by core.now.program (unit_in core.now seat.old.seen).tenants }
+    ensures kept { IsSame seat.old seat.new }
+    ensures reply { TriedAnswers core.now.program core.now.sizes seat.old.by seat.old.seen seat.new.seen (behind head core.now.sizes.ring at) result }
+{
+    let ring = core.ring();
+    let station = (head + at) % ring;
+    let Some(load) = waiting(core, seat, program, station) else {
+        return Tried::Passed;
+    };
+    match answer(core, seat, program, committed, head, at, &load) {
+        Ok(value) => match core.settle(seat, station, load.tag, value) {
+            Settle::Settled => Tried::Loaded(load.tag, value),
+            Settle::Stale => Tried::Passed,
+        },
+        Err(k) => {
+            if is_still(core, seat, station, &load) {
+                Tried::Blocked((head + k) % ring)
+            } else {
+                Tried::Passed
+            }
+        }
+    }
+}

@@ -1,0 +1,84 @@
+//! The memory port: the loads from the oldest live tenant on.
+ghost use Rattle.std.specs.Prelude.{◌≡◌, ◌<◌, ◌≤◌};
+ghost use Rattle.inorder.specs.Callers.{head_station};
+ghost use Rattle.inorder.specs.Committed.{committed as committed_by};
+ghost use Rattle.inorder.specs.History.{IsLegal, back};
+ghost use Rattle.station.specs.Seats.{IsSame as IsSameSeat};
+ghost use Rattle.back.specs.Backs.{IsSame, unit_in};
+ghost use Rattle.back.specs.Refreshes.{RefreshAnswers};
+
+use crate::answers::Refresh;
+use crate::backs::Back;
+use crate::committed::Committed;
+use crate::port::{Tried, try_load};
+use isa::Program;
+use snapshots::Naming;
+use station::{BackSeat, Core};
+
+// Goes through the stations from the head on, up to the first load that gets its value.
+fn scan(
+    core: &Core,
+    seat: &mut BackSeat,
+    program: &Program,
+    committed: &Committed,
+    head: usize,
+    ring: usize,
+) -> Refresh
+    requires core { seat.old.core ≡ core.now }
+    requires by { seat.old.by ≡ back }
+    requires legal { IsLegal core.now.program core.now.sizes seat.old.seen }
+    requires program { program.now ≡ core.now.program }
+    requires ring { ring ≡ core.now.sizes.ring }
+    requires most { ring ≤ 32 }
+    requires head { head < ring }
+    requires head_is { head ≡ head_station core.now.sizes (unit_in core.now seat.old.seen) }
+    requires state { committed.now ≡ committed_by core.now.program (unit_in core.now seat.old.seen).tenants }
+    ensures kept { IsSameSeat seat.old seat.new }
+    ensures reply { RefreshAnswers core.now.program core.now.sizes seat.old.by seat.old.seen seat.new.seen result }
+{
+    let mut blocked = None;
+    for at in 0..ring {
+        let station = (head + at) % ring;
+        match try_load(core, seat, program, committed, head, at) {
+            Tried::Passed => {}
+            Tried::Blocked(store) => {
+                if blocked.is_none() {
+                    blocked = Some((station, store));
+                }
+            }
+            Tried::Loaded(tag, value) => {
+                return Refresh::Loaded {
+                    station,
+                    tag,
+                    value,
+                };
+            }
+        }
+    }
+    match blocked {
+        Some((load, store)) => Refresh::Blocked { load, store },
+        None => Refresh::Idle,
+    }
+}
+
+impl<J: Naming> Back<J> {
+    /// Answers the oldest load with its address that no store blocks, from the data of an older store or from
+    /// memory. It goes through the stations from the oldest live tenant's on. It looks at a load first, and at
+    /// the older stores afterwards, the youngest one first; and at a blocked load once more.
+    pub fn refresh(&mut self, core: &Core) -> Refresh
+        requires core { self.old.core ≡ core.now }
+        ensures kept { IsSame self.old self.new }
+        ensures reply { RefreshAnswers core.now.program core.now.sizes self.old.by self.old.seen self.new.seen result }
+    {
+        let ring = core.ring();
+        let head = self.head;
+        scan(
+            core,
+            &mut self.seat,
+            &self.program,
+            &self.committed,
+            head,
+            ring,
+        )
+    }
+}

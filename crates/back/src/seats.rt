@@ -1,0 +1,37 @@
+//! What the back's seat sees and is told.
+ghost use Rattle.std.specs.Prelude.{◌≡◌, ◌<◌, []};
+ghost use Rattle.inorder.specs.History.{Adds, StartsWith};
+ghost use Rattle.station.specs.Looking.{SeesStation};
+ghost use Rattle.station.specs.Seats.{IsSame as IsSameSeat};
+ghost use Rattle.back.specs.Backs.{IsSame};
+
+use crate::backs::Back;
+use snapshots::Naming;
+use station::{Core, Part, SeatOf, Seen, StationState};
+
+impl<J: Naming> Back<J> {
+    /// The word of a station.
+    pub fn look(&mut self, core: &Core, station: usize) -> Seen<StationState>
+        requires core { self.old.core ≡ core.now }
+        requires station { station < core.now.sizes.ring }
+        ensures kept { IsSame self.old self.new }
+        ensures history { Adds core.now.program core.now.sizes self.old.by self.old.seen self.new.seen [] }
+        ensures reply { SeesStation core.now.program core.now.sizes self.new.seen station result }
+    {
+        core.look(&mut self.seat, station)
+    }
+
+    /// Afterwards each has seen what either had seen. The back can meet any seat.
+    pub fn meet<P: Part>(&mut self, core: &Core, other: &mut SeatOf<P>)
+        requires core { self.old.core ≡ core.now }
+        requires other { other.old.core ≡ core.now }
+        ensures kept { IsSame self.old self.new }
+        ensures history { Adds core.now.program core.now.sizes self.old.by self.old.seen self.new.seen [] }
+        ensures told { StartsWith self.new.seen other.old.seen }
+        ensures other_kept { IsSameSeat other.old other.new }
+        ensures other_history { Adds core.now.program core.now.sizes other.old.by other.old.seen other.new.seen [] }
+        ensures other_told { StartsWith other.new.seen self.new.seen }
+    {
+        core.meet(&mut self.seat, other);
+    }
+}
