@@ -1,10 +1,12 @@
 //! What the dispatch thread does.
 ghost use Rattle.std.specs.Prelude.{◌≡◌};
+ghost use Rattle.front.specs.Fronts.{IsUnused};
 
 use crate::book::{Books, DispatchShare, Dispatched};
 use crate::floor::Floor;
 use front::{Front, Recovery, Turn};
 use isa::Predictor;
+use station::FrontSeat;
 use std::sync::Wait;
 use std::thread::yield_now;
 
@@ -29,15 +31,29 @@ fn step<P: Predictor + Drop, K: Books>(
     is_let
 }
 
+/// What the dispatch thread owns: the front's seat, a predictor, and its share of the book.
+#[derive(Drop)]
+pub(crate) struct Dispatcher<P: Drop, K: Books> {
+    pub seat: FrontSeat,
+    pub predictor: P,
+    pub share: DispatchShare<K>,
+}
+
 /// Lets instructions out, and recovers from misses.
 pub(crate) fn dispatch<P: Predictor + Drop, K: Books, R: Wait>(
     wait: &R,
     floor: &Floor<K>,
-    mut front: Front<P>,
-    mut mine: DispatchShare<K>,
+    dispatcher: Dispatcher<P, K>,
 )
-    requires { front.core ≡ floor.now.core }
+    requires seat { IsUnused floor.now.core dispatcher.seat }
+    requires program { floor.now.program ≡ floor.now.core.program }
 {
+    let Dispatcher {
+        seat,
+        predictor,
+        mut share,
+    } = dispatcher;
+    let mut front = Front::new(&floor.core, seat, &floor.program, predictor);
     let mut done = Dispatched {
         lets: 0,
         squashes: 0,
@@ -51,5 +67,5 @@ pub(crate) fn dispatch<P: Predictor + Drop, K: Books, R: Wait>(
             break;
         }
     }
-    floor.book.lock(wait).add_dispatched(&mut mine, done);
+    floor.book.lock(wait).add_dispatched(&mut share, done);
 }

@@ -1,19 +1,18 @@
 //! Starts the threads of a run, and joins them.
 ghost use Rattle.std.specs.Prelude.{◌≡◌, ◌+◌, ◌<◌, ◌≤◌, ◌^◌, IfOk};
-ghost use Rattle.isa.specs.Settings.{Settings};
+ghost use Rattle.front.specs.Fronts.{IsUnused};
 ghost use Rattle.pool.specs.Ledgers.{names_of};
 ghost use Rattle.pool.specs.Runs.{IsRight};
 
 use crate::answer::{Refusal, Run};
-use crate::book::{Blanks, Books, DispatchShare, Totals, UnitShare};
+use crate::book::{Blanks, Books, Totals, UnitShare};
 use crate::commit::Committer;
 use crate::compute::{Worker, work};
-use crate::dispatch::dispatch;
+use crate::dispatch::{Dispatcher, dispatch};
 use crate::floor::Floor;
 use crate::gate::Gate;
 use crate::watch::watch;
 use back::{Back, Naming, Snapper};
-use front::Front;
 use isa::{Config, Ending, Memory, Predictor, Program};
 use station::{Core, UnitSeat};
 use std::alloc::Global;
@@ -21,6 +20,23 @@ use std::marker::Brand;
 use std::sync::Wait;
 use std::thread;
 use std::thread::{Scope, Threads};
+
+fn start_dispatch<
+    's,
+    E: 's,
+    K: Books + Send + Sync + 's,
+    P: Predictor + Drop + Send + 's,
+    R: Wait + Sync + 's,
+>(wait: &'s R, scope: &Scope<'s, E>, floor: &'s Floor<K>, dispatcher: Dispatcher<P, K>) -> bool
+    requires seat { IsUnused floor.now.core dispatcher.seat }
+    requires program { floor.now.program ≡ floor.now.core.program }
+{
+    let job = move ||
+        requires seat { IsUnused floor.now.core dispatcher.seat }
+        requires program { floor.now.program ≡ floor.now.core.program }
+    { dispatch(wait, floor, dispatcher) };
+    scope.spawn(job).is_ok()
+}
 
 fn start_unit<'s, E: 's, K: Books + Send + Sync + 's, G: Gate + Sync + 's, R: Wait + Sync + 's>(
     wait: &'s R,
@@ -116,22 +132,18 @@ fn start_all<
     floor: &'s Floor<K>,
     gate: &'s G,
     config: Config,
-    front: Front<'s, P>,
+    dispatcher: Dispatcher<P, K>,
     seat: UnitSeat,
     first: Snapper<J>,
-    dispatch_share: DispatchShare<K>,
     unit_share: UnitShare<K>,
 ) -> bool
-    requires front { front.core ≡ floor.now.core }
+    requires front { IsUnused floor.now.core dispatcher.seat }
     requires seat { seat.core ≡ floor.now.core }
     requires program { floor.now.program ≡ floor.now.core.program }
     requires parts { (unit_share.claims.parts ≡ config.units) × (unit_share.finishes.parts ≡ config.units) × (unit_share.stale.parts ≡ config.units) }
     requires fresh { (unit_share.claims.amount ≡ 0) × (unit_share.finishes.amount ≡ 0) × (unit_share.stale.amount ≡ 0) }
 {
-    let job = move ||
-        requires { front.core ≡ floor.now.core }
-    { dispatch(wait, floor, front, dispatch_share) };
-    scope.spawn(job).is_ok()
+    start_dispatch(wait, scope, floor, dispatcher)
         && start_units(wait, scope, floor, gate, config.units(), seat, unit_share)
         && start_snappers(scope, floor, gate, config.places(), first)
 }
@@ -149,14 +161,13 @@ fn in_threads<
     floor: &'x Floor<K>,
     gate: &'x G,
     config: Config,
-    front: Front<'x, P>,
+    dispatcher: Dispatcher<P, K>,
     seat: UnitSeat,
     first: Snapper<J>,
-    dispatch_share: DispatchShare<K>,
     unit_share: UnitShare<K>,
     committer: &'x mut Committer<J, K>,
 ) -> Result<(), Refusal>
-    requires front { front.core ≡ floor.now.core }
+    requires front { IsUnused floor.now.core dispatcher.seat }
     requires seat { seat.core ≡ floor.now.core }
     requires program { floor.now.program ≡ floor.now.core.program }
     requires committer { committer.old ≡ floor.now.core }
@@ -167,7 +178,7 @@ fn in_threads<
         thread::scope_env(),
         wait,
         move |scope| -> Result<(), Refusal>
-            requires front { front.core ≡ floor.now.core }
+            requires front { IsUnused floor.now.core dispatcher.seat }
             requires seat { seat.core ≡ floor.now.core }
             requires program { floor.now.program ≡ floor.now.core.program }
             requires committer { committer.now ≡ floor.now.core }
@@ -175,16 +186,7 @@ fn in_threads<
             requires fresh { (unit_share.claims.amount ≡ 0) × (unit_share.finishes.amount ≡ 0) × (unit_share.stale.amount ≡ 0) }
         {
             let started = start_all(
-                wait,
-                scope,
-                floor,
-                gate,
-                config,
-                front,
-                seat,
-                first,
-                dispatch_share,
-                unit_share,
+                wait, scope, floor, gate, config, dispatcher, seat, first, unit_share,
             );
             let result = if started {
                 committer.run(wait, floor, config.limit())
@@ -216,30 +218,28 @@ fn run_parts<
     floor: &'x Floor<K>,
     gate: &'x G,
     config: Config,
-    front: Front<'x, P>,
+    dispatcher: Dispatcher<P, K>,
     seat: UnitSeat,
     first: Snapper<J>,
-    shares: (DispatchShare<K>, UnitShare<K>),
+    unit_share: UnitShare<K>,
     mut committer: Committer<J, K>,
 ) -> Run
-    requires front { front.core ≡ floor.now.core }
+    requires front { IsUnused floor.now.core dispatcher.seat }
     requires seat { seat.core ≡ floor.now.core }
     requires program { floor.now.program ≡ floor.now.core.program }
     requires committer { committer ≡ floor.now.core }
-    requires parts { (shares.1.claims.parts ≡ config.units) × (shares.1.finishes.parts ≡ config.units) × (shares.1.stale.parts ≡ config.units) }
-    requires fresh { (shares.1.claims.amount ≡ 0) × (shares.1.finishes.amount ≡ 0) × (shares.1.stale.amount ≡ 0) }
+    requires parts { (unit_share.claims.parts ≡ config.units) × (unit_share.finishes.parts ≡ config.units) × (unit_share.stale.parts ≡ config.units) }
+    requires fresh { (unit_share.claims.amount ≡ 0) × (unit_share.finishes.amount ≡ 0) × (unit_share.stale.amount ≡ 0) }
     ensures { IsRight J.program result }
 {
-    let (dispatch_share, unit_share) = shares;
     let result = in_threads(
         wait,
         floor,
         gate,
         config,
-        front,
+        dispatcher,
         seat,
         first,
-        dispatch_share,
         unit_share,
         &mut committer,
     );
@@ -279,13 +279,16 @@ fn run_named<
     let (back, snapper) = Back::<J>::new(alloc, &core, back_seat, program, config).map_err(
         |refused| refused.0,
     )?;
-    let front = Front::new(&core, front_seat, program, predictor);
-    let (totals, dispatch_share, unit_share, commit_share) = Totals::<K>::open(blanks);
+    let (totals, share, unit_share, commit_share) = Totals::<K>::open(blanks);
     let floor = Floor::new(core, copy, totals, config.turns());
     let committer = Committer::<J, K>::new(back, commit_share);
-    let shares = (dispatch_share, unit_share);
+    let dispatcher = Dispatcher {
+        seat: front_seat,
+        predictor,
+        share,
+    };
     Ok(run_parts(
-        wait, &floor, gate, *config, front, unit_seat, snapper, shares, committer,
+        wait, &floor, gate, *config, dispatcher, unit_seat, snapper, unit_share, committer,
     ))
 }
 
