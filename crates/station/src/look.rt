@@ -3,6 +3,7 @@ ghost use Rattle.std.specs.Prelude.{◌≡◌, ◌<◌, ◌≤◌, []};
 ghost use Rattle.inorder.specs.History.{Adds};
 ghost use Rattle.inorder.specs.Replies.{last_tag};
 ghost use Rattle.ruu_words.specs.Places.{IsPlace};
+ghost use Rattle.ruu_words.specs.Rule.{IsCaller};
 ghost use Rattle.station.specs.Looking.{SeesInfo, SeesOperand, SeesStation, SeesWord};
 ghost use Rattle.station.specs.Seats.{IsSame};
 
@@ -20,6 +21,7 @@ impl Core {
         requires core { seat.old.core ≡ self.now }
         requires place { IsPlace self.now.sizes.ring place }
         ensures kept { IsSame seat.old seat.new }
+        ensures caller { IsCaller P.role seat.old.by }
         ensures history { Adds self.now.program self.now.sizes seat.old.by seat.old.seen seat.new.seen [] }
         ensures reply { SeesWord self.now.program self.now.sizes seat.new.seen place result }
     {
@@ -31,6 +33,7 @@ impl Core {
         requires core { seat.old.core ≡ self.now }
         requires station { station < self.now.sizes.ring }
         ensures kept { IsSame seat.old seat.new }
+        ensures caller { IsCaller P.role seat.old.by }
         ensures history { Adds self.now.program self.now.sizes seat.old.by seat.old.seen seat.new.seen [] }
         ensures reply { SeesStation self.now.program self.now.sizes seat.new.seen station result }
         ensures tag { result.tag ≤ last_tag }

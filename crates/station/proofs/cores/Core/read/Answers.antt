@@ -1,6 +1,7 @@
-use Rattle.std.proofs.Common.{[], sym, ◌∙◌, subst}
+use Rattle.std.proofs.Common.{ℕ, [], sym, ap, ◌∙◌, subst}
 use Rattle.inorder.specs.History.{Adds}
-use Rattle.ruu_words.specs.Rule.{sizes_of}
+use Rattle.ruu_words.specs.declared.rule.Role.{Role}
+use Rattle.ruu_words.specs.Rule.{IsCaller, sizes_of}
 use Rattle.station.specs.Seats.{Caller, IsSeated}
 use Rattle.station.specs.Steps.{Sees}
 use Rattle.station.proofs.Adding.{adds_these}
@@ -25,3 +26,8 @@ returns-clause-history g c =
     let step = c.look.ensures.step in
     let adds = adds_these key.program (sizes_of key) s.id s.me.0 c.look.new.seat.me.0 (Sees key.program (sizes_of key) s.id s.me.0 c.args.place c.look.result) [] step.grows step.grows.kind.none in
     subst (λ (z : Unit_of × Caller). Adds z.0.0 z.0.1 z.1.by z.1.seen c.look.new.seat.me.0.seen []) (λ i. (table i, c.seat.view_is i)) adds
+
+pub returns-clause-caller : goal.returns-clause-caller
+returns-clause-caller g c =
+    let step = c.look.ensures.step in
+    subst (λ (z : Role × ℕ). IsCaller z.0 z.1) (λ i. (c.seat.invariant.role_is i, ap (λ (x : Caller). x.by) c.seat.view_is i)) step.grows.kind.caller

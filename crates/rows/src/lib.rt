@@ -1,0 +1,11 @@
+//! Rows by hand over the front, the back and units at one core.
+#![tactic(auto)]
+
+#[cfg(test)]
+mod drive;
+#[cfg(test)]
+mod memory;
+#[cfg(test)]
+mod snapshots_of_commits;
+#[cfg(test)]
+mod tags;

@@ -1,0 +1,90 @@
+//! Rings that are full, and tags that are spent.
+ghost use Rattle.std.specs.Prelude.{◌≡◌};
+
+use crate::drive::{commit, finish_one, let_at, made, retired};
+use back::{Back, Commit, Naming};
+use front::{Front, Turn};
+use isa::{Config, Ending, NotTaken, Program};
+use station::Core;
+use std::alloc::Global;
+use std::marker::Brand;
+use std::process::Abort;
+use std::sync::Wait;
+use std::test::Fail;
+
+const LISTING: &[u8] = b"addiu $1,$0,5\naddu $2,$1,$1\nbreak\n";
+
+fn spent_tags<J: Naming, R: Wait + Abort>(
+    rt: &R,
+    alloc: Global,
+    program: &Program,
+    config: &Config,
+) -> Result<(), Fail>
+    requires { program.now ≡ J.program }
+{
+    let (core, seat, back_seat, mut unit) = Core::make(alloc, program, config)?;
+    assert!(rt; core.ring() == 2);
+    let mut front = Front::new(&core, seat, program, NotTaken);
+    let first_tag = 0x0fff_fffe;
+    assert_eq!(rt; front.turn(&core), let_at(0, first_tag, 0x0040_0000));
+    assert_eq!(rt; front.turn(&core), let_at(1, first_tag, 0x0040_0004));
+    assert!(rt;
+        finish_one(&core, program, &mut unit, 0) && finish_one(&core, program, &mut unit, 1)
+    );
+    let Ok((mut back, _snapper)) = Back::<J>::new(alloc, &core, back_seat, program, config) else {
+        panic!(rt; "no memory for the back");
+    };
+    let first = commit(&mut back, &core);
+    let second = commit(&mut back, &core);
+    let spent = front.turn(&core);
+    let empty = commit(&mut back, &core);
+    let end = back.end(rt);
+    assert_eq!(rt; first, retired(0x0040_0000, 1));
+    assert_eq!(rt; second, retired(0x0040_0004, 2));
+    assert_eq!(rt; (spent, empty), (Turn::Spent, Some(Commit::Empty)));
+    assert_eq!(rt;
+        (end.n, end.pc, end.outcome),
+        (2, 0x0040_0008, Ending::Limit)
+    );
+    assert_eq!(rt; (end.registers[1], end.registers[2]), (5, 10));
+    Ok(())
+}
+
+#[test]
+fn tags_are_spent(rt: HostRuntime) -> Result<(), Fail> {
+    let (program, config) = made(rt.alloc(), LISTING, 2, 1, 0x0fff_fffe)?;
+    spent_tags::<Brand, _>(&rt, rt.alloc(), &program, &config)
+}
+
+fn full_ring<J: Naming, R: Wait + Abort>(
+    rt: &R,
+    alloc: Global,
+    program: &Program,
+    config: &Config,
+) -> Result<(), Fail>
+    requires { program.now ≡ J.program }
+{
+    let (core, seat, back_seat, mut unit) = Core::make(alloc, program, config)?;
+    assert!(rt; core.ring() == 2);
+    let mut front = Front::new(&core, seat, program, NotTaken);
+    assert_eq!(rt; front.turn(&core), let_at(0, 1, 0x0040_0000));
+    assert_eq!(rt; front.turn(&core), let_at(1, 1, 0x0040_0004));
+    assert_eq!(rt; front.turn(&core), Turn::Full);
+    assert!(rt; finish_one(&core, program, &mut unit, 0));
+    let Ok((mut back, _snapper)) = Back::<J>::new(alloc, &core, back_seat, program, config) else {
+        panic!(rt; "no memory for the back");
+    };
+    let first = commit(&mut back, &core);
+    let next = front.turn(&core);
+    let end = back.end(rt);
+    assert_eq!(rt; first, retired(0x0040_0000, 1));
+    assert_eq!(rt; next, let_at(0, 2, 0x0040_0008));
+    assert_eq!(rt; (end.n, end.pc), (1, 0x0040_0004));
+    Ok(())
+}
+
+#[test]
+fn a_full_ring_goes_on_after_a_commit(rt: HostRuntime) -> Result<(), Fail> {
+    let (program, config) = made(rt.alloc(), LISTING, 2, 1, 1)?;
+    full_ring::<Brand, _>(&rt, rt.alloc(), &program, &config)
+}
