@@ -1,18 +1,13 @@
 -- What an allowed step leaves of the facts about single tenants.
-use Rattle.std.proofs.Common.{◌≡◌, ◌≢◌, ℕ, ◌<◌, List, [], ◌∷◌, length, Option, Some, None, refl, sym, ap, ◌∙◌, subst, ⊎_elim, arith}
-use Rattle.std.specs.List.{AllByRecursion}
+use Rattle.std.proofs.Common.{◌≡◌, ℕ, List, Option, Some, None, refl, sym, ap, ◌∙◌, ⊎_elim}
 use Rattle.isa.specs.Programs.{Program}
 use Rattle.inorder.specs.declared.history.Act.{Act}
 use Rattle.inorder.specs.declared.history.Act.TheVariants.{Claim, Deliver, Finish, Link, Load, Mend, Retire, Squash}
 use Rattle.inorder.specs.declared.history.Source.TheVariants.{First, Second}
 use Rattle.inorder.specs.declared.history.Step.{Step}
-use Rattle.inorder.specs.declared.history.Step.TheVariants.{Let, On}
-use Rattle.inorder.specs.declared.history.Supply.{Supply}
-use Rattle.inorder.specs.Callers.{IsLastAt}
+use Rattle.inorder.specs.declared.history.Step.TheVariants.{On}
 use Rattle.inorder.specs.Legal.{Allowed, May, applied, changed}
-use Rattle.inorder.specs.Replies.{Has}
-use Rattle.inorder.specs.Steps.{new_tenant}
-use Rattle.inorder.specs.Tenants.{Fate, Live, Retired, Standing, Tenant}
+use Rattle.inorder.specs.Tenants.{Retired, Tenant}
 use Rattle.inorder.specs.Unit.{Sizes, UpdateUnit, at, made_by, older, value_of, younger}
 use Rattle.inorder.proofs.Ends.{Acted, exact}
 use Rattle.inorder.proofs.Moves.{came, goes}

@@ -1,11 +1,11 @@
 -- The look at the oldest of as many loads and stores as the queue takes.
-use Rattle.std.proofs.Common.{◌≡◌, ◌≢◌, ◌⊎◌, ℕ, suc, ◌+◌, ◌-◌, ◌<◌, ◌≤◌, true, false, List, [], ◌∷◌, ◌++◌, Option, Some, None, refl, sym, ap, ◌∙◌, subst, arith}
+use Rattle.std.proofs.Common.{◌≡◌, ◌≢◌, ℕ, suc, ◌≤◌, List, [], ◌∷◌, ◌++◌, Some, sym, ap, ◌∙◌, subst, arith}
 use Rattle.std.specs.List.{AllByRecursion}
 use Rattle.isa.specs.Programs.{Program}
 use Rattle.inorder.specs.declared.history.Entry.{Entry}
 use Rattle.inorder.specs.History.{IsLegal, unit_of}
 use Rattle.inorder.specs.StationWords.{NamedBy, last_of, station_word, word_by, word_of}
-use Rattle.inorder.specs.Tenants.{Live, Retired, Tenant}
+use Rattle.inorder.specs.Tenants.{Live, Tenant}
 use Rattle.inorder.specs.Unit.{Sizes, UpdateUnit, at, recent, tag_after}
 use Rattle.ruu_words.specs.declared.station.StationState.{StationState}
 use Rattle.ruu_words.specs.declared.station.StationState.TheVariants.{Free}
@@ -13,9 +13,8 @@ use Rattle.ruu_words.specs.States.{state_code}
 use Rattle.station.specs.declared.answers.Seen.{Seen}
 use Rattle.station.specs.Looking.{SeesStation}
 use Rattle.front.specs.declared.record.Record.{Record}
-use Rattle.front.specs.Knows.{IsNewest, IsReused, Knows}
-use Rattle.front.specs.Queues.{IsBefore, accesses, live_accesses}
-use Rattle.front.specs.Trail.{Note}
+use Rattle.front.specs.Knows.{IsNewest, Knows}
+use Rattle.front.specs.Queues.{IsBefore, live_accesses}
 use Rattle.front.proofs.InQueue.{IsSplit, behind_left, behind_live, one_noted, queue_room, s}
 use Rattle.front.proofs.Lists.{all_rest}
 use Rattle.front.proofs.Looks.{free_is, live_there, same_place}

@@ -1,5 +1,5 @@
 -- What the front knows behind a squash and a mending of its own.
-use Rattle.std.proofs.Common.{◌≡◌, ◌≢◌, ℕ, suc, ◌+◌, ◌<◌, ◌≤◌, false, true, List, [], ◌∷◌, ◌++◌, length, Some, refl, sym, ap, ◌∙◌, subst, ⊎_elim, arith, length-append, append_assoc, true≢false}
+use Rattle.std.proofs.Common.{◌≡◌, ◌≢◌, ℕ, ◌<◌, true, List, [], ◌∷◌, ◌++◌, length, Some, refl, sym, ap, ◌∙◌, subst, ⊎_elim, arith, length-append, append_assoc, true≢false}
 use Rattle.std.proofs.lemmas.Bool.{cases_lt}
 use Rattle.std.specs.List.{AllByRecursion}
 use Rattle.std.specs.Prelude.{slice_index}
@@ -11,18 +11,17 @@ use Rattle.inorder.specs.Callers.{CanMend, CanSquash, IsMissing, IsYoungest}
 use Rattle.inorder.specs.Legal.{Allowed, applied, changed}
 use Rattle.inorder.specs.Replies.{Has}
 use Rattle.inorder.specs.Steps.{mended, mended_as, squashed}
-use Rattle.inorder.specs.Tenants.{Done, IsNotLive, Live, Miss, Retired, Squashed, Standing, Tenant, on_path, stands_on_path}
+use Rattle.inorder.specs.Tenants.{IsNotLive, Live, Miss, Retired, Squashed, Standing, Tenant, on_path, stands_on_path}
 use Rattle.inorder.specs.Unit.{Sizes, UpdateUnit, at, older, younger}
 use Rattle.inorder.proofs.Kept.{parts}
-use Rattle.inorder.proofs.Positions.{all_at, at_below, younger_at}
-use Rattle.inorder.proofs.Basics.{split_at}
+use Rattle.inorder.proofs.Positions.{all_at, younger_at}
 use Rattle.inorder.proofs.Sound.{IsSettled, IsSound, SettledBy}
 use Rattle.inorder.proofs.Stations.{mended_station}
 use Rattle.unit_laws.proofs.Middle.{at_middle, older_middle, sound_from, younger_middle}
 use Rattle.front.specs.declared.record.Record.{Record}
 use Rattle.front.specs.Creators.{creator_note, position}
 use Rattle.front.specs.Knows.{IsGone, IsNewest, IsReused, Knows, whats}
-use Rattle.front.specs.Trail.{Note, note, record_of, trail}
+use Rattle.front.specs.Trail.{Note, note, trail}
 use Rattle.front.proofs.Acts.{still_gone, still_newest, still_reused, still_value}
 use Rattle.front.proofs.Lists.{all_both, all_front, all_map, all_rest, whats_append}
 use Rattle.front.proofs.Trails.{IsLastOn, IsOff, last_on, trail_off, trail_on, trail_past}

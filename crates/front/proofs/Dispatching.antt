@@ -1,30 +1,23 @@
 -- A let with its questions, and what the front knows behind them.
-use Rattle.std.proofs.Common.{◌≡◌, ◌≢◌, ℕ, ◌+◌, ◌-◌, ◌*◌, ◌/◌, ◌<◌, ◌≤◌, ◌^◌, true, List, [], ◌∷◌, ◌++◌, length, Option, Some, None, refl, sym, ap, ◌∙◌, subst, ⊎_elim, arith, append_assoc}
-use Rattle.std.specs.List.{AllByRecursion}
+use Rattle.std.proofs.Common.{◌≡◌, ℕ, ◌+◌, ◌-◌, ◌*◌, ◌/◌, ◌<◌, ◌^◌, List, [], ◌∷◌, ◌++◌, length, Option, Some, refl, sym, ap, ◌∙◌, subst, ⊎_elim, arith, append_assoc}
 use Rattle.std.specs.Prelude.{IfSome, is_none}
 use Rattle.isa.specs.Instruction.{destination, fixed_next, kind}
 use Rattle.isa.specs.Programs.{Program, address, instr_at, instr_of}
 use Rattle.isa.specs.declared.instr.Instr.{Instr}
 use Rattle.inorder.specs.declared.history.Entry.{Entry}
-use Rattle.inorder.specs.declared.history.Event.{Event}
-use Rattle.inorder.specs.declared.history.Event.TheVariants.{Does}
 use Rattle.inorder.specs.declared.history.Source.{Source}
 use Rattle.inorder.specs.declared.history.Source.TheVariants.{First, Second}
 use Rattle.inorder.specs.declared.history.Step.TheVariants.{Let}
-use Rattle.inorder.specs.declared.history.Supply.{Supply as Supplied}
-use Rattle.inorder.specs.declared.history.Supply.TheVariants.{From, Known}
-use Rattle.inorder.specs.History.{Adds, IsLegal, StartsWith, entry, front, own, unit_of}
-use Rattle.inorder.specs.Callers.{IsLastAt}
-use Rattle.inorder.specs.Legal.{Allowed, applied}
-use Rattle.inorder.specs.Replies.{last_tag}
+use Rattle.inorder.specs.History.{Adds, IsLegal, entry, front, unit_of}
+use Rattle.inorder.specs.Legal.{applied}
 use Rattle.inorder.specs.Steps.{MayLet, MaySupply, let_operand, new_tenant}
-use Rattle.inorder.specs.Tenants.{Tenant, Unlinked, is_access, is_live, kind_of, operand}
-use Rattle.inorder.specs.Unit.{Sizes, UpdateUnit, at, creator, front_pc, how_many, next_station, next_tag, recent}
+use Rattle.inorder.specs.Tenants.{Tenant, Unlinked, is_access, is_live, operand}
+use Rattle.inorder.specs.Unit.{Sizes, UpdateUnit, creator, front_pc, how_many, next_station, next_tag, recent}
 use Rattle.inorder.proofs.Creators.{at_cases}
-use Rattle.inorder.proofs.Histories.{legal_before, unit_sound}
+use Rattle.inorder.proofs.Histories.{unit_sound}
 use Rattle.inorder.proofs.Letting.{LetStays}
 use Rattle.inorder.proofs.Positions.{at_below, at_more, at_new}
-use Rattle.unit_laws.proofs.Creators.{IsAt, found_at}
+use Rattle.unit_laws.proofs.Creators.{found_at}
 use Rattle.ruu_words.specs.Kinds.{IsAny, IsTenant}
 use Rattle.ruu_words.proofs.Drafting.{still_let}
 use Rattle.ruu_words.proofs.Stays.{any_stays}
@@ -32,7 +25,6 @@ use Rattle.station.proofs.Adding.{adds_on}
 use Rattle.station.specs.declared.answers.Supply.{Supply}
 use Rattle.station.specs.declared.answers.Supply.TheVariants.{From as GivenFrom, Known as GivenKnown}
 use Rattle.station.specs.declared.answers.Tenant.{Tenant as NewTenant}
-use Rattle.station.specs.Asking.{MayAsk}
 use Rattle.station.specs.Letting.{MayLetOut, let_of, supply_of}
 use Rattle.front.specs.declared.fetch.Fetched.{Fetched}
 use Rattle.front.specs.declared.record.Record.{Record}
@@ -50,7 +42,7 @@ use Rattle.front.proofs.Questioned.{HasAsked, has_asked, later}
 use Rattle.front.proofs.Splitting.{LastEvent, event_legal, last_event, no_event, stays, stays_behind}
 use Rattle.front.proofs.Stations.{live_fewer}
 use Rattle.front.proofs.Stays.{knows_stable, ready_stable}
-use Rattle.front.proofs.Supplies.{ComesFrom, comes_from, may_supply}
+use Rattle.front.proofs.Supplies.{comes_from, may_supply}
 
 -- The instruction by its address
 

@@ -1,5 +1,5 @@
 -- Loads and stores among what is kept of the path, and those that are live.
-use Rattle.std.proofs.Common.{◌≡◌, ◌≢◌, ◌⊎◌, ℕ, zero, suc, ◌+◌, ◌-◌, ◌<◌, ◌≤◌, Bool, true, false, ◌&&◌, cond, List, [], ◌∷◌, ◌++◌, length, take, drop, Option, Some, None, refl, sym, ap, ◌∙◌, subst, inl, inr, ⊎_elim, arith, append_assoc, true≢false}
+use Rattle.std.proofs.Common.{◌≡◌, ◌≢◌, ℕ, zero, suc, ◌-◌, ◌<◌, ◌≤◌, Bool, true, false, ◌&&◌, cond, List, [], ◌∷◌, ◌++◌, length, take, drop, Some, None, refl, sym, ap, ◌∙◌, subst, ⊎_elim, arith, append_assoc}
 use Rattle.std.proofs.lemmas.List.{append-nil, take-append-drop}
 use Rattle.std.specs.List.{AllByRecursion}
 use Rattle.std.specs.Prelude.{slice_get}
@@ -10,7 +10,6 @@ use Rattle.inorder.specs.declared.history.Step.{Step}
 use Rattle.inorder.specs.declared.history.Step.TheVariants.{Let, On}
 use Rattle.inorder.specs.History.{IsLegal, unit_of}
 use Rattle.inorder.specs.Legal.{Allowed, applied, changed}
-use Rattle.inorder.specs.Steps.{new_tenant}
 use Rattle.inorder.specs.Tenants.{Live, Retired, Squashed, Standing, Tenant, is_access, is_live, is_live_access, kind_of, on_path, stands_live, stands_on_path}
 use Rattle.inorder.specs.Unit.{Sizes, UpdateUnit, at, how_many, older, younger}
 use Rattle.inorder.proofs.Basics.{split_at}
@@ -25,10 +24,10 @@ use Rattle.unit_laws.proofs.Middle.{sound_from}
 use Rattle.front.specs.declared.record.Record.{Record}
 use Rattle.front.specs.Knows.{IsGone, IsReused, Knows, whats}
 use Rattle.front.specs.Queues.{accesses, live_accesses}
-use Rattle.front.specs.Trail.{Note, note, record_of, trail}
+use Rattle.front.specs.Trail.{Note, note, trail}
 use Rattle.front.proofs.Counts.{FailsAt, SaysAt, TrueAt, at_least, at_most, count}
 use Rattle.front.proofs.CutKnown.{live_on}
-use Rattle.front.proofs.Lists.{Last, all_both, all_front, all_map, all_rest, all_two, last_cases, last_not, last_same}
+use Rattle.front.proofs.Lists.{Last, all_both, all_front, all_map, all_rest, all_two, last_cases, last_same}
 use Rattle.front.proofs.Named.{notes_noted}
 use Rattle.front.proofs.Trails.{IsNoted, trail_noted, trail_off, trail_on}
 

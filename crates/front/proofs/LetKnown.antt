@@ -1,6 +1,5 @@
 -- What the front knows behind a let of its own.
-use Rattle.std.proofs.Common.{◌≡◌, ◌≢◌, ◌⊎◌, ℕ, suc, ◌+◌, ◌<◌, ◌≤◌, List, [], ◌∷◌, ◌++◌, length, refl, sym, ap, ◌∙◌, subst, ⊎_elim, arith, length-append, append_assoc}
-use Rattle.std.specs.List.{AllByRecursion}
+use Rattle.std.proofs.Common.{◌≡◌, ◌≢◌, ◌⊎◌, ℕ, ◌<◌, List, [], ◌∷◌, ◌++◌, length, refl, sym, ap, ◌∙◌, subst, ⊎_elim, arith, length-append, append_assoc}
 use Rattle.std.specs.Prelude.{slice_index}
 use Rattle.isa.specs.Programs.{Program}
 use Rattle.inorder.specs.declared.history.Step.TheVariants.{Let}
@@ -8,15 +7,15 @@ use Rattle.inorder.specs.declared.history.Supply.{Supply}
 use Rattle.inorder.specs.Legal.{Allowed, applied}
 use Rattle.inorder.specs.Steps.{new_tenant}
 use Rattle.inorder.specs.Tenants.{Tenant}
-use Rattle.inorder.specs.Unit.{Sizes, UpdateUnit, at, next_station, recent}
+use Rattle.inorder.specs.Unit.{Sizes, UpdateUnit, next_station, recent}
 use Rattle.inorder.proofs.Creators.{at_cases}
 use Rattle.inorder.proofs.Positions.{at_below, at_new}
 use Rattle.inorder.proofs.Sound.{IsSound}
 use Rattle.inorder.proofs.Stations.{Stands as StandsRight}
 use Rattle.front.specs.declared.record.Record.{Record}
 use Rattle.front.specs.Creators.{creator_note, position}
-use Rattle.front.specs.Knows.{IsGone, IsNewest, IsReady, IsReused, Knows, whats}
-use Rattle.front.specs.Trail.{Note, note, record_of, trail}
+use Rattle.front.specs.Knows.{IsGone, IsNewest, IsReady, IsReused, Knows}
+use Rattle.front.specs.Trail.{Note, note, record_of}
 use Rattle.front.proofs.Acts.{still_gone, still_reused, still_value}
 use Rattle.front.proofs.Lists.{all_both, all_map, all_two, last_not, whats_append}
 use Rattle.front.proofs.Places.{notes_length, others_next}

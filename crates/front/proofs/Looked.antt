@@ -1,14 +1,14 @@
 -- What the looks before a let tell: why nothing can be let, or that it can.
-use Rattle.std.proofs.Common.{◌≡◌, ◌≢◌, ℕ, ◌+◌, ◌<◌, ◌≤◌, true, false, List, [], ◌∷◌, length, Option, Some, None, refl, sym, ap, ◌∙◌, subst, arith, eqb}
+use Rattle.std.proofs.Common.{◌≡◌, ◌≢◌, ℕ, ◌+◌, ◌<◌, ◌≤◌, true, false, List, [], ◌∷◌, length, Some, None, refl, sym, ap, ◌∙◌, subst, arith, eqb}
 use Rattle.isa.specs.Programs.{Program, instr_at}
 use Rattle.isa.specs.declared.instr.Instr.{Instr}
 use Rattle.inorder.specs.declared.history.Entry.{Entry}
 use Rattle.inorder.specs.declared.history.Step.TheVariants.{Let, On}
-use Rattle.inorder.specs.History.{Adds, IsLegal, front, unit_of}
-use Rattle.inorder.specs.Legal.{Allowed, applied, changed}
+use Rattle.inorder.specs.History.{Adds, front, unit_of}
+use Rattle.inorder.specs.Legal.{applied, changed}
 use Rattle.inorder.specs.Replies.{HasNoInstr, IsFull, IsQueueFull, IsSpent, last_tag}
 use Rattle.inorder.specs.Tenants.{Tenant}
-use Rattle.inorder.specs.Unit.{Sizes, UpdateUnit, at, how_many, next_station, next_tag, older, recent, tag_after, younger}
+use Rattle.inorder.specs.Unit.{Sizes, how_many, next_station, next_tag, older, recent, tag_after, younger}
 use Rattle.inorder.proofs.Basics.{split_at}
 use Rattle.inorder.proofs.Kept.{parts}
 use Rattle.inorder.proofs.Moves.{goes}
@@ -23,7 +23,7 @@ use Rattle.station.specs.Moments.{WasOnce}
 use Rattle.station.proofs.Adding.{adds_on}
 use Rattle.inorder.specs.StationWords.{left_value}
 use Rattle.front.specs.declared.record.Record.{Record}
-use Rattle.front.specs.Fetching.{CanFetch, HasLeft, IsLeft, OldestLeft}
+use Rattle.front.specs.Fetching.{CanFetch, HasLeft, OldestLeft}
 use Rattle.front.specs.Knows.{IsReused, Knows, whats}
 use Rattle.front.specs.Path.{next_place, pc_behind}
 use Rattle.front.specs.Queues.{QueueSays}

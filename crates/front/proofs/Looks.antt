@@ -1,14 +1,13 @@
 -- What a look at a station shows of the tenants there.
-use Rattle.std.proofs.Common.{◌≡◌, ◌≢◌, ◌⊎◌, ℕ, ◌<◌, ◌≤◌, List, [], ◌∷◌, Option, Some, None, refl, sym, ap, ◌∙◌, subst, inl, inr, ⊎_elim, arith}
+use Rattle.std.proofs.Common.{◌≡◌, ◌≢◌, ℕ, List, Some, refl, sym, ap, ◌∙◌, subst, ⊎_elim, arith}
 use Rattle.std.proofs.lemmas.Bool.{cases_lt}
-use Rattle.std.specs.List.{AllByRecursion}
 use Rattle.isa.specs.Programs.{Program}
 use Rattle.inorder.specs.declared.history.Entry.{Entry}
 use Rattle.inorder.specs.History.{IsLegal, front, taken_of, unit_of}
 use Rattle.inorder.specs.Callers.{IsLastAt, IsMissing}
 use Rattle.inorder.specs.StationWords.{HasFate, IsBusy as IsBusyState, IsDone as IsDoneState, IsFree, IsMiss as IsMissState, IsOpen as IsOpenState, IsAddr as IsAddrState, IsStop as IsStopState, NamedBy, StationState as Shown, StationWord, last_of, live_word, station_word, word_by, word_of}
-use Rattle.inorder.specs.Tenants.{Fate, Live, Miss, Retired, Squashed, Standing, Tenant}
-use Rattle.inorder.specs.Unit.{Sizes, UpdateUnit, at, recent, younger}
+use Rattle.inorder.specs.Tenants.{Miss, Tenant}
+use Rattle.inorder.specs.Unit.{Sizes, UpdateUnit, at, recent}
 use Rattle.inorder.proofs.Histories.{allowed_steps}
 use Rattle.inorder.proofs.Positions.{younger_at}
 use Rattle.inorder.proofs.StationsShown.{stations_follow}

@@ -1,5 +1,5 @@
 -- Misses: what a look at each tenant says of them.
-use Rattle.std.proofs.Common.{◌≡◌, ◌≢◌, ◌⊎◌, ℕ, zero, suc, ◌+◌, ◌<◌, ◌≤◌, true, List, [], ◌∷◌, ◌++◌, length, take, Option, Some, None, refl, sym, ap, ◌∙◌, subst, inl, inr, ⊎_elim, arith}
+use Rattle.std.proofs.Common.{◌≡◌, ◌≢◌, ℕ, zero, suc, ◌+◌, true, List, [], ◌∷◌, take, Some, sym, ap, ◌∙◌, subst, arith}
 use Rattle.std.specs.List.{AllByRecursion}
 use Rattle.std.specs.Prelude.{slice_get}
 use Rattle.isa.specs.Programs.{Program}
@@ -7,21 +7,18 @@ use Rattle.inorder.specs.declared.history.Entry.{Entry}
 use Rattle.inorder.specs.History.{Adds, IsLegal, front, unit_of}
 use Rattle.inorder.specs.Callers.{IsMissing}
 use Rattle.inorder.specs.Replies.{Has, HasNoMiss}
-use Rattle.inorder.specs.Tenants.{Live, Miss, Retired, Tenant, on_path, stands_on_path}
-use Rattle.inorder.specs.Unit.{Sizes, UpdateUnit, at, recent}
+use Rattle.inorder.specs.Tenants.{Live, Retired, Tenant, on_path, stands_on_path}
+use Rattle.inorder.specs.Unit.{Sizes, UpdateUnit, at}
 use Rattle.inorder.proofs.Ends.{miss_stays}
-use Rattle.inorder.proofs.Histories.{unit_sound}
-use Rattle.inorder.proofs.Moves.{goes}
 use Rattle.ruu_words.specs.declared.station.StationState.{StationState}
 use Rattle.ruu_words.specs.declared.station.StationState.TheVariants.{Free, Miss as MissState}
-use Rattle.ruu_words.specs.Kinds.{IsTenant}
 use Rattle.ruu_words.proofs.Stays.{tenant_stays}
 use Rattle.station.specs.declared.answers.Seen.{Seen}
 use Rattle.station.specs.Looking.{SeesStation}
 use Rattle.front.specs.declared.record.Record.{Record}
-use Rattle.front.specs.Knows.{IsGone, IsNewest, IsReused, Knows, Stands, whats}
-use Rattle.front.specs.Recoveries.{IsFirst, IsMiss, IsNoMiss}
-use Rattle.front.specs.Trail.{Note, record_of, trail}
+use Rattle.front.specs.Knows.{IsGone, IsNewest, IsReused, Knows, whats}
+use Rattle.front.specs.Recoveries.{IsMiss, IsNoMiss}
+use Rattle.front.specs.Trail.{Note, record_of}
 use Rattle.front.proofs.Lists.{all_both, all_map, all_two}
 use Rattle.front.proofs.Looks.{finds_miss, live_there, same_place, shows_miss}
 use Rattle.front.proofs.Named.{all_get, all_whats, notes_noted}

@@ -9,9 +9,9 @@ use Rattle.inorder.specs.History.{Adds, IsLegal, front, unit_of}
 use Rattle.inorder.specs.Replies.{HasNoInstr, IsFull, IsQueueFull, IsSpent, last_tag}
 use Rattle.inorder.specs.StationWords.{NamedBy}
 use Rattle.inorder.specs.Tenants.{is_access}
-use Rattle.inorder.specs.Unit.{Sizes, UpdateUnit, front_pc, next_station, next_tag, recent}
+use Rattle.inorder.specs.Unit.{Sizes, UpdateUnit, next_station, recent}
 use Rattle.inorder.proofs.Basics.{fetched_at}
-use Rattle.inorder.proofs.Histories.{starts_longer, starts_same}
+use Rattle.inorder.proofs.Histories.{starts_same}
 use Rattle.ruu_words.specs.declared.station.StationState.{StationState}
 use Rattle.ruu_words.specs.declared.station.StationState.TheVariants.{Free}
 use Rattle.station.specs.declared.answers.Seen.{Seen}
@@ -21,7 +21,6 @@ use Rattle.front.specs.declared.record.Record.{Record}
 use Rattle.front.specs.Knows.{IsReused, Knows}
 use Rattle.front.specs.Path.{pc_behind}
 use Rattle.front.specs.Queues.{QueueSays, live_accesses}
-use Rattle.front.specs.Turns.{NoInstrNow, QueueFullNow, SpentNow, WasNotFull}
 use Rattle.front.proofs.Looks.{live_there}
 use Rattle.front.proofs.Places.{known_pc}
 use Rattle.front.proofs.Stations.{is_full, next_tag_is, not_full}

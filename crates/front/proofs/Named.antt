@@ -1,20 +1,20 @@
 -- What is kept of a tenant names it.
-use Rattle.std.proofs.Common.{◌≡◌, ◌≢◌, ℕ, suc, ◌+◌, ◌%◌, ◌<◌, ◌≤◌, zero, List, [], ◌∷◌, ◌++◌, length, Option, Some, refl, sym, ap, ◌∙◌, subst, arith, mod-lt}
+use Rattle.std.proofs.Common.{◌≡◌, ℕ, suc, ◌<◌, zero, List, [], ◌∷◌, ◌++◌, length, Some, sym, subst, mod-lt}
 use Rattle.std.specs.List.{AllByRecursion}
 use Rattle.std.specs.Prelude.{slice_get}
 use Rattle.isa.specs.Programs.{Program}
 use Rattle.inorder.specs.declared.history.Entry.{Entry}
 use Rattle.inorder.specs.History.{IsLegal, taken_of, unit_of}
-use Rattle.inorder.specs.Tenants.{Tenant, on_path}
+use Rattle.inorder.specs.Tenants.{Tenant}
 use Rattle.inorder.specs.Unit.{Sizes, UpdateUnit, at}
 use Rattle.inorder.proofs.Histories.{allowed_steps}
-use Rattle.inorder.proofs.Positions.{at_below, at_more}
+use Rattle.inorder.proofs.Positions.{at_more}
 use Rattle.inorder.proofs.Stations.{Stands as StandsRight, stands}
 use Rattle.inorder.proofs.Tags.{names_one, tagged}
 use Rattle.front.specs.declared.record.Record.{Record}
 use Rattle.front.specs.Knows.{Stands, whats}
-use Rattle.front.specs.Trail.{Note, record_of, trail}
-use Rattle.front.proofs.Lists.{all_map, all_rest}
+use Rattle.front.specs.Trail.{Note}
+use Rattle.front.proofs.Lists.{all_rest}
 use Rattle.front.proofs.Places.{notes_placed}
 use Rattle.front.proofs.Trails.{ArePlacedFrom, IsNoted, trail_noted}
 

@@ -1,5 +1,5 @@
 -- A source that comes from its creator and was not asked for yet: it can be asked for.
-use Rattle.std.proofs.Common.{◌≡◌, ◌≢◌, ℕ, ◌<◌, true, List, [], ◌∷◌, length, Option, Some, None, refl, sym, ap, ◌∙◌, subst, ⊎_elim, arith}
+use Rattle.std.proofs.Common.{◌≡◌, ℕ, List, [], ◌∷◌, Some, sym, ap, ◌∙◌, subst, ⊎_elim}
 use Rattle.std.specs.List.{AllByRecursion}
 use Rattle.isa.specs.Programs.{Program}
 use Rattle.inorder.specs.declared.history.Act.{Act}
@@ -12,7 +12,7 @@ use Rattle.inorder.specs.declared.history.Source.TheVariants.{First, Second}
 use Rattle.inorder.specs.declared.history.Step.{Step}
 use Rattle.inorder.specs.declared.history.Step.TheVariants.{Let, On}
 use Rattle.inorder.specs.History.{front}
-use Rattle.inorder.specs.Callers.{CanAsk, IsLastAt}
+use Rattle.inorder.specs.Callers.{IsLastAt}
 use Rattle.inorder.specs.Legal.{Allowed, applied, changed}
 use Rattle.inorder.specs.Steps.{linked}
 use Rattle.inorder.specs.Tenants.{Tenant, on_path, operand}
@@ -28,7 +28,7 @@ use Rattle.station.specs.Asking.{IsAsking, IsQuestion}
 use Rattle.front.specs.Knows.{Knows}
 use Rattle.front.specs.declared.record.Record.{Record}
 use Rattle.front.proofs.Splitting.{IsStable, KeepsEvent}
-use Rattle.front.proofs.Stays.{IsQuiet, IsQuietAct, knows_stays, quiet_grows, quiet_of}
+use Rattle.front.proofs.Stays.{IsQuiet, knows_stays, quiet_grows, quiet_of}
 
 pub record IsPending (k : Source) (r q station tag s g : ℕ) (U : UpdateUnit) : Type 0 where
   pub asks : IsTenant U r station tag (IsAsking k q)

@@ -1,10 +1,10 @@
 -- Where the tenants of the path stand, and where the next one goes.
-use Rattle.std.proofs.Common.{◌≡◌, ◌≢◌, ℕ, suc, ◌+◌, ◌-◌, ◌*◌, ◌/◌, ◌%◌, ◌<◌, ◌≤◌, List, [], ◌∷◌, ◌++◌, length, Option, Some, None, refl, sym, ap, ◌∙◌, subst, ⊎_elim, arith, append_assoc, length-append, div-add-mod', mul-le-mul_right, suc-mul}
+use Rattle.std.proofs.Common.{◌≡◌, ◌≢◌, ℕ, suc, ◌+◌, ◌-◌, ◌*◌, ◌/◌, ◌%◌, ◌<◌, ◌≤◌, List, [], ◌∷◌, ◌++◌, length, Some, None, refl, sym, ap, ◌∙◌, subst, ⊎_elim, arith, append_assoc, length-append, div-add-mod', mul-le-mul_right, suc-mul}
 use Rattle.std.proofs.Math.Nat.{add-mod_right, mod-add-mod, zero-mod}
 use Rattle.std.proofs.lemmas.Bool.{cases_lt}
 use Rattle.std.specs.Prelude.{slice_get}
 use Rattle.std.specs.List.{AllByRecursion}
-use Rattle.isa.specs.Programs.{Program, text_start}
+use Rattle.isa.specs.Programs.{Program}
 use Rattle.inorder.specs.Tenants.{on_path}
 use Rattle.inorder.specs.Unit.{Sizes, UpdateUnit, front_pc, how_many, next_station, recent}
 use Rattle.inorder.proofs.Stations.{Stands as StandsRight}
@@ -12,8 +12,8 @@ use Rattle.front.specs.declared.record.Record.{Record}
 use Rattle.front.specs.Knows.{Stands, whats}
 use Rattle.front.specs.Path.{last_of, next_place, pc_after, pc_behind, place_after}
 use Rattle.front.specs.Trail.{Note, trail}
-use Rattle.front.proofs.Lists.{Last, all_rest, last_cases, whats_append, whats_length}
-use Rattle.front.proofs.Trails.{ArePlacedFrom, IsLastOn, last_on, none_on, pc_none, pc_on, pc_past, placed_rest, trail_length, trail_placed}
+use Rattle.front.proofs.Lists.{Last, last_cases, whats_append, whats_length}
+use Rattle.front.proofs.Trails.{ArePlacedFrom, last_on, none_on, pc_none, pc_on, pc_past, placed_rest, trail_length, trail_placed}
 
 -- numbers that differ by less than n, and at all, differ modulo n
 apart : (a d n : ℕ) → 0 < d → d < n → (a + d) % n ≢ a % n

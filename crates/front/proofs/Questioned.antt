@@ -1,23 +1,18 @@
 -- The questions behind a let, one after another.
-use Rattle.std.proofs.Common.{◌≡◌, ℕ, ◌<◌, List, [], ◌∷◌, ◌++◌, length, Some, refl, sym, ap, ◌∙◌, subst, append_assoc}
-use Rattle.std.specs.List.{AllByRecursion}
+use Rattle.std.proofs.Common.{◌≡◌, ℕ, ◌<◌, List, [], refl, sym, ◌∙◌, subst}
 use Rattle.isa.specs.Programs.{Program}
 use Rattle.inorder.specs.declared.history.Entry.{Entry}
 use Rattle.inorder.specs.declared.history.Event.{Event}
-use Rattle.inorder.specs.declared.history.Event.TheVariants.{Does}
 use Rattle.inorder.specs.declared.history.Source.{Source}
 use Rattle.inorder.specs.declared.history.Source.TheVariants.{First, Second}
-use Rattle.inorder.specs.declared.history.Step.TheVariants.{Let}
-use Rattle.inorder.specs.History.{Adds, IsLegal, StartsWith, entry, front, unit_of}
-use Rattle.inorder.specs.Unit.{Sizes, UpdateUnit}
-use Rattle.inorder.proofs.Histories.{legal_before, starts_longer}
+use Rattle.inorder.specs.History.{Adds, IsLegal, front, unit_of}
+use Rattle.inorder.specs.Unit.{Sizes}
 use Rattle.ruu_words.specs.Kinds.{IsAny, IsTenant}
 use Rattle.ruu_words.proofs.Stays.{any_stays}
 use Rattle.station.specs.declared.answers.Supply.{Supply}
 use Rattle.station.specs.declared.answers.Supply.TheVariants.{From, Known}
-use Rattle.station.specs.Asking.{IsQuestion, MayAsk}
-use Rattle.station.specs.Letting.{let_of, supply_of}
-use Rattle.station.proofs.Adding.{adds_on}
+use Rattle.station.specs.Asking.{IsQuestion}
+use Rattle.station.specs.Letting.{supply_of}
 use Rattle.front.specs.declared.record.Record.{Record}
 use Rattle.front.specs.Knows.{Knows}
 use Rattle.front.specs.Questions.{Asks, MayAskFor}

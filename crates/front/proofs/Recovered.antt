@@ -1,17 +1,13 @@
 -- A recovery as a whole.
-use Rattle.std.proofs.Common.{◌≡◌, ◌≢◌, ◌⊎◌, ℕ, zero, suc, ◌+◌, ◌-◌, ◌<◌, ◌≤◌, List, [], ◌∷◌, ◌++◌, length, map, take, Option, Some, None, refl, sym, ap, ◌∙◌, subst, inl, inr, ⊎_elim, arith, length-append}
-use Rattle.std.specs.List.{AllByRecursion}
+use Rattle.std.proofs.Common.{◌≡◌, ℕ, zero, suc, ◌+◌, ◌<◌, List, [], ◌∷◌, ◌++◌, length, map, take, Some, sym, ap, ◌∙◌, subst, arith, length-append}
 use Rattle.std.specs.Prelude.{slice_get}
 use Rattle.isa.specs.Programs.{Program}
-use Rattle.inorder.specs.declared.history.Act.TheVariants.{Mend, Squash}
+use Rattle.inorder.specs.declared.history.Act.TheVariants.{Mend}
 use Rattle.inorder.specs.declared.history.Entry.{Entry}
-use Rattle.inorder.specs.declared.history.Event.{Event}
 use Rattle.inorder.specs.declared.history.Event.TheVariants.{Does}
 use Rattle.inorder.specs.declared.history.Step.TheVariants.{On}
 use Rattle.inorder.specs.History.{Adds, IsLegal, front, unit_of}
-use Rattle.inorder.specs.Callers.{CanSquash, IsMissing}
-use Rattle.inorder.specs.Tenants.{Tenant}
-use Rattle.inorder.specs.Unit.{Sizes, UpdateUnit, at}
+use Rattle.inorder.specs.Unit.{Sizes}
 use Rattle.ruu_words.specs.Kinds.{IsAny, IsTenant}
 use Rattle.station.specs.Recovery.{IsMended as IsMendedThere, IsSquashed as IsSquashedThere, MaySquash, SeesMiss}
 use Rattle.station.proofs.Adding.{adds_on}
@@ -19,8 +15,8 @@ use Rattle.front.specs.declared.record.Record.{Record}
 use Rattle.front.specs.declared.recovery.Missed.{Missed}
 use Rattle.front.specs.Knows.{Knows}
 use Rattle.front.specs.Path.{GoesOn}
-use Rattle.front.specs.Recoveries.{IsCut, IsFirst, IsFound, IsMended, IsMiss, IsMissAt, squash_event}
-use Rattle.front.proofs.Recovering.{last_position, may_mend, may_squash, mend_step, squash_step, youngest_note}
+use Rattle.front.specs.Recoveries.{IsCut, IsFirst, IsMended, IsMissAt, squash_event}
+use Rattle.front.proofs.Recovering.{last_position, may_mend, may_squash, mend_step, squash_step}
 
 -- Lists
 

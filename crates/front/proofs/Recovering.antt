@@ -1,5 +1,5 @@
 -- The steps of a recovery, with what others add between them.
-use Rattle.std.proofs.Common.{◌≡◌, ◌≢◌, ◌⊎◌, ℕ, zero, suc, ◌+◌, ◌<◌, ◌≤◌, List, [], ◌∷◌, ◌++◌, length, take, Option, Some, None, refl, sym, ap, ◌∙◌, subst, inl, inr, ⊎_elim, arith, length-append, append_assoc}
+use Rattle.std.proofs.Common.{◌≡◌, ◌≢◌, ℕ, ◌<◌, List, [], ◌∷◌, ◌++◌, length, Some, sym, ap, ◌∙◌, subst, ⊎_elim, arith, length-append, append_assoc}
 use Rattle.std.specs.List.{AllByRecursion}
 use Rattle.std.specs.Prelude.{slice_get}
 use Rattle.isa.specs.Programs.{Program}
@@ -19,13 +19,11 @@ use Rattle.inorder.proofs.Histories.{unit_sound}
 use Rattle.inorder.proofs.Moves.{IsActed, IsLeft, at_changed, goes}
 use Rattle.inorder.proofs.Positions.{at_below}
 use Rattle.inorder.proofs.Sound.{IsSound}
-use Rattle.unit_laws.proofs.Middle.{at_middle}
 use Rattle.ruu_words.specs.Kinds.{IsAny, IsTenant}
 use Rattle.ruu_words.proofs.Stays.{any_stays}
 use Rattle.front.specs.declared.record.Record.{Record}
-use Rattle.front.specs.Knows.{IsReused, Knows, whats}
-use Rattle.front.specs.Recoveries.{IsMiss}
-use Rattle.front.specs.Trail.{Note, record_of, trail}
+use Rattle.front.specs.Knows.{Knows, whats}
+use Rattle.front.specs.Trail.{Note, record_of}
 use Rattle.front.proofs.CutKnown.{acted, at_last, can_mend, can_squash, mend_known, squash_known}
 use Rattle.front.proofs.Cuts.{both_same, front_same}
 use Rattle.front.proofs.Lists.{Last, all_map, all_rest, last_cases, whats_append}

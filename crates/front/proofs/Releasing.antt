@@ -1,5 +1,5 @@
 -- The oldest goes to the base registers.
-use Rattle.std.proofs.Common.{◌≡◌, ◌≢◌, ◌⊎◌, ℕ, zero, suc, ◌+◌, ◌%◌, ◌<◌, ◌≤◌, Bool, true, false, cond, eqb, eqb-true, List, [], ◌∷◌, ◌++◌, length, Option, Some, None, refl, sym, ap, ◌∙◌, subst, inl, inr, ⊎_elim, arith, append_assoc, true≢false}
+use Rattle.std.proofs.Common.{◌≡◌, ◌≢◌, ◌⊎◌, ℕ, zero, suc, ◌+◌, ◌%◌, ◌<◌, ◌≤◌, Bool, true, false, cond, eqb, eqb-true, List, [], ◌∷◌, ◌++◌, length, Option, Some, None, refl, sym, ap, ◌∙◌, subst, inl, inr, arith, append_assoc, true≢false}
 use Rattle.std.proofs.lemmas.Bool.{le-leb}
 use Rattle.std.specs.List.{AllByRecursion}
 use Rattle.std.specs.Prelude.{slice_index}
@@ -10,27 +10,25 @@ use Rattle.isa.specs.declared.stop.Stop.{Stop}
 use Rattle.inorder.specs.declared.history.Entry.{Entry}
 use Rattle.inorder.specs.History.{IsLegal, taken_of, unit_of}
 use Rattle.inorder.specs.Machine.{write}
-use Rattle.inorder.specs.StationWords.{left_value}
-use Rattle.inorder.specs.Tenants.{IsThere, Retired, Stopped, Tenant, destination_of, kind_of, on_path, stands_on_path}
+use Rattle.inorder.specs.Tenants.{IsThere, Stopped, Tenant, destination_of, kind_of, stands_on_path}
 use Rattle.inorder.specs.Unit.{Sizes, UpdateUnit, at, can_be_written, made_by, next_station, recent, value_of}
 use Rattle.inorder.proofs.Basics.{length_write, read_other, read_same, read_zero}
 use Rattle.inorder.proofs.Histories.{allowed_steps, unit_sound}
 use Rattle.inorder.proofs.Positions.{not_eqb}
 use Rattle.inorder.proofs.Makers.{left_when_retired, stops_made}
 use Rattle.ruu_words.specs.Content.{HasValue}
-use Rattle.ruu_words.specs.Kinds.{IsTenant}
 use Rattle.front.specs.declared.path.Path.{Path}
 use Rattle.front.specs.declared.record.Record.{Record}
 use Rattle.front.specs.Creators.{creator_note, newest_note, position}
 use Rattle.front.specs.Fetching.{HasLeft, IsLeft, OldestLeft}
 use Rattle.front.specs.Knows.{IsGone, IsNewest, IsReady, IsReused, Knows, Stands, whats}
 use Rattle.front.specs.Path.{Releases, made_of}
-use Rattle.front.specs.Trail.{Note, is_link, record_of, trail}
-use Rattle.front.proofs.CreateVector.{after_note, newest_both}
+use Rattle.front.specs.Trail.{Note, is_link, record_of}
+use Rattle.front.proofs.CreateVector.{newest_both}
 use Rattle.front.proofs.Lists.{all_both, all_map, whats_length}
 use Rattle.front.proofs.Named.{notes_noted, one_named, stands_right}
 use Rattle.front.proofs.Places.{notes_length, notes_placed, oldest_next, whole_length}
-use Rattle.front.proofs.Supplies.{is_links, link_made}
+use Rattle.front.proofs.Supplies.{link_made}
 use Rattle.front.proofs.Trails.{ArePlacedFrom, IsNoted}
 
 same_tenant : (t u : Tenant) → Some t ≡ Some u → t ≡ u

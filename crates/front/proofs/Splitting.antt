@@ -8,14 +8,13 @@ use Rattle.inorder.specs.declared.history.Entry.{Entry}
 use Rattle.inorder.specs.declared.history.Event.{Event}
 use Rattle.inorder.specs.declared.history.Event.TheVariants.{Does, Marks, Refuses}
 use Rattle.inorder.specs.declared.history.Step.{Step}
-use Rattle.inorder.specs.History.{Adds, IsLegal, MayAdd, entry, front, own, unit_of}
+use Rattle.inorder.specs.History.{Adds, IsLegal, entry, front, own, unit_of}
 use Rattle.inorder.specs.Legal.{Allowed, applied}
 use Rattle.inorder.specs.Unit.{Sizes, UpdateUnit}
 use Rattle.inorder.proofs.Histories.{legal_before, own-append, unit_sound}
 use Rattle.inorder.proofs.Letting.{IsBesides}
 use Rattle.inorder.proofs.Sound.{IsSound}
-use Rattle.ruu_words.proofs.Stays.{besides_of, front_stays}
-use Rattle.station.proofs.Adding.{adds_on}
+use Rattle.ruu_words.proofs.Stays.{front_stays}
 
 own_here : (by : ℕ) (e : Entry) (es : List Entry) → e.by ≡ by → own by (e ∷ es) ≡ e ∷ own by es
 own_here by e es h = ap (λ b. cond b (e ∷ own by es) (own by es)) (eq-eqb e.by by h)

@@ -6,12 +6,12 @@ use Rattle.isa.specs.Programs.{Program}
 use Rattle.inorder.specs.declared.history.Entry.{Entry}
 use Rattle.inorder.specs.declared.history.Supply.TheVariants.{Known}
 use Rattle.inorder.specs.History.{IsLegal, unit_of}
-use Rattle.inorder.specs.Callers.{IsLastAt, is_retired, stands_retired}
+use Rattle.inorder.specs.Callers.{IsLastAt}
 use Rattle.inorder.specs.Replies.{IsFull}
 use Rattle.inorder.specs.StationWords.{IsFree, StationWord, last_of, left_value, station_word, word_by, word_of}
 use Rattle.inorder.specs.Steps.{new_tenant}
 use Rattle.inorder.specs.Tenants.{Live, Retired, Squashed, Standing, Tenant, is_live, on_path, stands_live, stands_on_path}
-use Rattle.inorder.specs.Unit.{Sizes, UpdateUnit, at, how_many, next_station, next_tag, older, recent, tag_after, younger}
+use Rattle.inorder.specs.Unit.{Sizes, UpdateUnit, at, how_many, next_station, next_tag, older, recent, younger}
 use Rattle.inorder.proofs.Basics.{split_at}
 use Rattle.inorder.proofs.Creators.{at_cases}
 use Rattle.inorder.proofs.Histories.{unit_sound}
@@ -19,20 +19,20 @@ use Rattle.inorder.proofs.Positions.{all_at, at_below, at_more, at_new, younger_
 use Rattle.inorder.proofs.Stations.{IsElsewhere, all_elsewhere}
 use Rattle.ruu_words.specs.declared.station.StationState.{StationState}
 use Rattle.ruu_words.specs.declared.station.StationState.TheVariants.{Free}
-use Rattle.ruu_words.specs.Content.{HasValue, code}
+use Rattle.ruu_words.specs.Content.{HasValue}
 use Rattle.ruu_words.specs.Kinds.{IsTenant}
 use Rattle.ruu_words.specs.States.{state_code}
 use Rattle.station.specs.declared.answers.Seen.{Seen}
 use Rattle.station.specs.Looking.{SeesStation}
 use Rattle.front.specs.declared.record.Record.{Record}
-use Rattle.front.specs.Fetching.{HasLeft, IsLeft}
-use Rattle.front.specs.Knows.{IsGone, IsNewest, IsReused, Knows, Stands, whats}
-use Rattle.front.specs.Trail.{Note, record_of, trail}
+use Rattle.front.specs.Fetching.{HasLeft}
+use Rattle.front.specs.Knows.{IsGone, IsNewest, IsReused, Knows}
+use Rattle.front.specs.Trail.{Note, trail}
 use Rattle.front.proofs.Counts.{SaysAt, FailsAt, at_most, count}
-use Rattle.front.proofs.Lists.{all_both, all_map, all_two}
-use Rattle.front.proofs.Looks.{free_is, live_there}
+use Rattle.front.proofs.Lists.{all_both, all_map}
+use Rattle.front.proofs.Looks.{free_is}
 use Rattle.front.proofs.Named.{notes_noted, stands_right}
-use Rattle.front.proofs.Places.{notes_length, notes_placed, oldest_next, whole_length}
+use Rattle.front.proofs.Places.{notes_placed, oldest_next, whole_length}
 use Rattle.front.proofs.Trails.{ArePlacedFrom, IsNoted}
 
 same_tenant : (t u : Tenant) → Some t ≡ Some u → t ≡ u

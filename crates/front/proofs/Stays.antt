@@ -1,22 +1,19 @@
 -- What the front knows stays true under the steps of others, and under links and deliveries of its own.
-use Rattle.std.proofs.Common.{◌≡◌, ◌⊎◌, ℕ, ◌%◌, ◌<◌, List, [], ◌∷◌, ◌++◌, length, Some, refl, sym, ap, ◌∙◌, subst, inl, inr, ⊎_elim}
-use Rattle.std.specs.List.{AllByRecursion}
+use Rattle.std.proofs.Common.{◌≡◌, ℕ, ◌%◌, List, length, sym, ap, ◌∙◌, subst, inl, inr, ⊎_elim}
 use Rattle.std.specs.Prelude.{slice_index, is_none}
 use Rattle.isa.specs.Instruction.{destination, fixed_next, kind}
 use Rattle.isa.specs.Programs.{Program, instr_of}
 use Rattle.inorder.specs.declared.history.Act.{Act}
 use Rattle.inorder.specs.declared.history.Act.TheVariants.{Claim, Deliver, Finish, Link, Load, Mend, Retire, Squash}
-use Rattle.inorder.specs.declared.history.Event.{Event}
-use Rattle.inorder.specs.declared.history.Event.TheVariants.{Does, Marks, Refuses}
 use Rattle.inorder.specs.declared.history.Step.{Step}
 use Rattle.inorder.specs.declared.history.Step.TheVariants.{Let, On}
 use Rattle.inorder.specs.Legal.{Allowed, May, applied, changed}
-use Rattle.inorder.specs.Tenants.{Tenant, is_access, on_path}
-use Rattle.inorder.specs.Unit.{Sizes, UpdateUnit, at, how_many, next_station, older, recent, value_of, younger}
+use Rattle.inorder.specs.Tenants.{Tenant, is_access}
+use Rattle.inorder.specs.Unit.{Sizes, UpdateUnit, next_station, older, recent, younger}
 use Rattle.inorder.proofs.Basics.{split_at}
 use Rattle.inorder.proofs.Grows.{Grows, sound_mid}
 use Rattle.inorder.proofs.Kept.{link_grows, parts}
-use Rattle.inorder.proofs.Letting.{IsBesides, IsBesidesAct, besides_grows}
+use Rattle.inorder.proofs.Letting.{IsBesides, besides_grows}
 use Rattle.inorder.proofs.Moves.{changed_goes}
 use Rattle.inorder.proofs.Sound.{IsSound, IsSoundAt}
 use Rattle.front.specs.declared.record.Record.{Record}

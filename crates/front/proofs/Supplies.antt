@@ -1,5 +1,5 @@
 -- What a new tenant is given: it is right, and what comes from its creator can be asked for.
-use Rattle.std.proofs.Common.{◌≡◌, ◌≢◌, ℕ, ◌+◌, ◌<◌, ◌≤◌, Bool, true, false, cond, List, [], ◌∷◌, ◌++◌, length, Option, Some, None, refl, sym, ap, ◌∙◌, subst, ⊎_elim, arith, true≢false}
+use Rattle.std.proofs.Common.{◌≡◌, ◌≢◌, ℕ, ◌<◌, Bool, true, false, cond, List, ◌++◌, length, Option, Some, refl, sym, ap, ◌∙◌, subst, arith, true≢false}
 use Rattle.std.specs.List.{AllByRecursion}
 use Rattle.std.specs.Prelude.{slice_index}
 use Rattle.isa.specs.Instruction.{pc_plus_4}
@@ -10,9 +10,7 @@ use Rattle.isa.specs.declared.op.Kind.TheVariants.{Computes, Jumps, Links, Loads
 use Rattle.isa.specs.declared.stop.Outcome.{Outcome}
 use Rattle.isa.specs.declared.stop.Outcome.TheVariants.{Address, Next, Stop as Stops}
 use Rattle.inorder.specs.declared.history.Entry.{Entry}
-use Rattle.inorder.specs.declared.history.Source.{Source}
 use Rattle.inorder.specs.History.{IsLegal, unit_of}
-use Rattle.inorder.specs.Callers.{IsLastAt}
 use Rattle.inorder.specs.Steps.{MayComeFrom, MaySupply}
 use Rattle.inorder.specs.Tenants.{Addr, Busy, Done, Fate, Miss, Open, Standing, Stopped, Tenant, computed, instr, kind_of, operand_value}
 use Rattle.inorder.specs.Unit.{Sizes, UpdateUnit, at, creator, made_by, next_station, older, recent, value_of, younger}
@@ -20,13 +18,13 @@ use Rattle.inorder.proofs.Basics.{split_at}
 use Rattle.inorder.proofs.Grows.{sound_mid}
 use Rattle.inorder.proofs.Histories.{unit_sound}
 use Rattle.inorder.proofs.Positions.{at_below, younger_from}
-use Rattle.inorder.proofs.Sound.{FateBy, IsSound, IsSoundAt}
+use Rattle.inorder.proofs.Sound.{FateBy, IsSound}
 use Rattle.station.specs.declared.answers.Supply.TheVariants.{From as GivenFrom, Known as GivenKnown}
 use Rattle.station.specs.Letting.{supply_of}
 use Rattle.front.specs.declared.record.Record.{Record}
-use Rattle.front.specs.Creators.{creator_in, creator_note, position, supply_by, supply_in}
-use Rattle.front.specs.Knows.{IsNewest, IsReady, whats}
-use Rattle.front.specs.Trail.{Note, is_link, record_of, trail}
+use Rattle.front.specs.Creators.{creator_note, position, supply_by, supply_in}
+use Rattle.front.specs.Knows.{IsNewest, IsReady}
+use Rattle.front.specs.Trail.{Note, is_link}
 use Rattle.front.proofs.CreateVector.{Creates, Kept, Older, creates, creator_is}
 use Rattle.front.proofs.Lists.{all_two}
 use Rattle.front.proofs.Named.{notes_noted, notes_small, stands_right}

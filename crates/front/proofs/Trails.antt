@@ -1,15 +1,15 @@
 -- The path of a unit as a list.
-use Rattle.std.proofs.Common.{◌≡◌, ◌≢◌, ◌⊎◌, ℕ, suc, ◌+◌, ◌%◌, ◌<◌, Bool, true, false, cond, List, [], ◌∷◌, ◌++◌, length, Option, Some, None, refl, sym, ap, ◌∙◌, subst, inl, inr, ⊎_elim, arith, length-append, true≢false, append_assoc}
+use Rattle.std.proofs.Common.{◌≡◌, ℕ, suc, ◌+◌, ◌%◌, Bool, true, false, cond, List, [], ◌∷◌, ◌++◌, length, Some, refl, sym, ap, ◌∙◌, subst, ⊎_elim, arith, length-append, true≢false}
 use Rattle.std.specs.List.{AllByRecursion}
 use Rattle.isa.specs.Programs.{Program, text_start}
 use Rattle.inorder.specs.Tenants.{Tenant, on_path}
 use Rattle.inorder.specs.Unit.{Sizes, at, front_pc, how_many}
 use Rattle.inorder.proofs.Creators.{at_cases}
 use Rattle.inorder.proofs.Grows.{same_length}
-use Rattle.inorder.proofs.Positions.{at_below, at_more, at_new}
+use Rattle.inorder.proofs.Positions.{at_more, at_new}
 use Rattle.inorder.proofs.Stations.{ArePlaced}
 use Rattle.front.specs.Trail.{Note, note, record_of, trail}
-use Rattle.front.proofs.Lists.{Last, all_both, all_front, all_map, all_rest, last_not, last_same}
+use Rattle.front.proofs.Lists.{all_both, all_front, all_map, all_rest, last_not, last_same}
 
 abbrev pub IsOff : Tenant → Type 0
 IsOff t = on_path t ≡ false

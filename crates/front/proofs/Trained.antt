@@ -1,5 +1,5 @@
 -- What the predictor is told is what the last tenant of the station did.
-use Rattle.std.proofs.Common.{◌≡◌, ◌≢◌, ◌⊎◌, ℕ, ◌+◌, ◌<◌, ◌≤◌, Bool, true, false, ◌&&◌, cond, List, [], ◌∷◌, ◌++◌, length, Option, Some, None, refl, sym, ap, ◌∙◌, subst, ⊎_elim, arith, true≢false}
+use Rattle.std.proofs.Common.{◌≡◌, ◌≢◌, ℕ, ◌<◌, Bool, ◌&&◌, List, ◌∷◌, ◌++◌, length, Option, Some, None, refl, sym, ap, ◌∙◌, subst}
 use Rattle.std.specs.List.{AllByRecursion}
 use Rattle.isa.specs.Instruction.{pc_plus_4}
 use Rattle.isa.specs.Operations.{outcome_by}
@@ -13,22 +13,21 @@ use Rattle.inorder.specs.History.{IsLegal, unit_of}
 use Rattle.inorder.specs.Callers.{IsLastAt, is_retired, stands_retired}
 use Rattle.inorder.specs.StationWords.{last_of}
 use Rattle.inorder.specs.Steps.{CanRetire}
-use Rattle.inorder.specs.Tenants.{Addr, Busy, Done, Fate, Live, Miss, Open, Retired, Squashed, Standing, Stopped, Tenant, computed, computed_next, instr, kind_of, next_by, on_path, operand_value, stands_on_path}
+use Rattle.inorder.specs.Tenants.{Addr, Busy, Done, Fate, Live, Miss, Open, Retired, Squashed, Standing, Stopped, Tenant, computed, computed_next, instr, kind_of, next_by, operand_value, stands_on_path}
 use Rattle.inorder.specs.Unit.{Sizes, UpdateUnit, at, next_station, older, recent, younger}
 use Rattle.inorder.proofs.Basics.{split_at}
 use Rattle.inorder.proofs.Fated.{follows_from}
 use Rattle.inorder.proofs.Grows.{sound_mid}
 use Rattle.inorder.proofs.Histories.{unit_sound}
 use Rattle.inorder.proofs.Sound.{GoesOn, IsSound, IsSoundAt}
-use Rattle.ruu_words.specs.Kinds.{IsTenant}
 use Rattle.front.specs.declared.record.Record.{Record}
-use Rattle.front.specs.Fetching.{HasLeft, IsLeft}
-use Rattle.front.specs.Knows.{IsGone, IsNewest, IsReused, Knows}
+use Rattle.front.specs.Fetching.{IsLeft}
+use Rattle.front.specs.Knows.{IsNewest, IsReused, Knows}
 use Rattle.front.specs.Training.{IsTold, ToldIf}
-use Rattle.front.specs.Trail.{Note, is_guessed, record_of, trail}
+use Rattle.front.specs.Trail.{Note, is_guessed, trail}
 use Rattle.front.proofs.Lists.{all_both, all_front, all_two}
 use Rattle.front.proofs.Named.{notes_noted, one_named, stands_right}
-use Rattle.front.proofs.Places.{notes_length, others_next}
+use Rattle.front.proofs.Places.{others_next}
 use Rattle.front.proofs.Stations.{last_here, last_spot}
 use Rattle.front.proofs.Trails.{IsNoted, trail_all, trail_noted}
 

@@ -2,7 +2,7 @@
 use Rattle.std.proofs.Common.{◌≡◌, ℕ, ◌<◌, ◌≤◌, List, [], ◌∷◌, ◌++◌, length, Option, Some, None, refl, sym, ap, ◌∙◌, subst, arith}
 use Rattle.std.proofs.lemmas.List.{append-nil}
 use Rattle.isa.specs.Instruction.{fixed_next}
-use Rattle.isa.specs.Programs.{Program, instr_of}
+use Rattle.isa.specs.Programs.{Program}
 use Rattle.isa.specs.declared.instr.Instr.{Instr}
 use Rattle.inorder.specs.declared.history.Entry.{Entry}
 use Rattle.inorder.specs.declared.history.Event.TheVariants.{Does}
@@ -16,7 +16,7 @@ use Rattle.front.specs.declared.fetch.Fetched.{Fetched}
 use Rattle.front.specs.declared.path.Path.{Path}
 use Rattle.front.specs.declared.record.Record.{Record}
 use Rattle.front.specs.Fetching.{HasLeft, IsLeft, OldestLeft}
-use Rattle.front.specs.Knows.{IsReused, Knows, whats}
+use Rattle.front.specs.Knows.{Knows, whats}
 use Rattle.front.specs.Path.{Releases}
 use Rattle.front.specs.Questions.{IsDispatched}
 use Rattle.front.specs.Training.{Guesses, IsAsked, IsTold, ToldIf, ToldOf}

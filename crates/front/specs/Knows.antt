@@ -4,8 +4,8 @@ use Rattle.std.specs.List.{AllByRecursion}
 use Rattle.isa.specs.Programs.{Program}
 use Rattle.inorder.specs.Callers.{IsLastAt}
 use Rattle.inorder.specs.Replies.{Has}
-use Rattle.inorder.specs.Tenants.{Retired, Tenant}
-use Rattle.inorder.specs.Unit.{Sizes, UpdateUnit, at, next_station, recent, value_of}
+use Rattle.inorder.specs.Tenants.{Retired}
+use Rattle.inorder.specs.Unit.{Sizes, UpdateUnit, next_station, recent, value_of}
 use Rattle.front.specs.declared.record.Record.{Record}
 use Rattle.front.specs.Creators.{creator_note, position}
 use Rattle.front.specs.Trail.{Note, trail}

@@ -1,5 +1,5 @@
 -- What a recovery answers.
-use Rattle.std.specs.Prelude.{◌≡◌, ℕ, suc, ◌<◌, List, [], ◌∷◌, map, length, take, Option, Some, None, slice_get}
+use Rattle.std.specs.Prelude.{◌≡◌, ℕ, ◌<◌, List, [], ◌∷◌, map, length, take, Option, Some, None, slice_get}
 use Rattle.std.specs.List.{AllByRecursion}
 use Rattle.isa.specs.Programs.{Program}
 use Rattle.inorder.specs.declared.history.Act.TheVariants.{Mend, Squash}
@@ -9,8 +9,8 @@ use Rattle.inorder.specs.declared.history.Event.TheVariants.{Does}
 use Rattle.inorder.specs.declared.history.Step.TheVariants.{On}
 use Rattle.inorder.specs.Callers.{IsMissing}
 use Rattle.inorder.specs.History.{Adds, front, unit_of}
-use Rattle.inorder.specs.Replies.{Has, HasNoMiss}
-use Rattle.inorder.specs.Tenants.{Live, Miss, Tenant}
+use Rattle.inorder.specs.Replies.{HasNoMiss}
+use Rattle.inorder.specs.Tenants.{Tenant}
 use Rattle.inorder.specs.Unit.{Sizes, UpdateUnit, at}
 use Rattle.ruu_words.specs.Kinds.{IsAny, IsTenant}
 use Rattle.front.specs.declared.answers.Recovery.{Recovery}

@@ -1,5 +1,5 @@
 -- A let with its questions.
-use Rattle.std.proofs.Common.{◌≡◌, ◌<◌, ◌/◌, ℕ, [], ◌∷◌, ◌++◌, refl, sym, ap, ◌∙◌, subst}
+use Rattle.std.proofs.Common.{◌≡◌, ◌<◌, ◌/◌, [], ◌∷◌, ◌++◌, sym, ap, ◌∙◌, subst}
 use Rattle.inorder.specs.declared.history.Source.TheVariants.{First, Second}
 use Rattle.inorder.specs.History.{Adds, front, unit_of}
 use Rattle.station.specs.Letting.{let_of}

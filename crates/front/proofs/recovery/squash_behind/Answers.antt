@@ -1,13 +1,12 @@
 -- Squashes from the tail on.
-use Rattle.std.proofs.Common.{◌≡◌, ◌<◌, ◌≤◌, ◌+◌, ◌-◌, ℕ, List, [], ◌∷◌, ◌++◌, length, take, Option, Some, None, sym, ap, ◌∙◌, subst, arith, length-append}
+use Rattle.std.proofs.Common.{◌≡◌, ◌<◌, ◌+◌, ◌-◌, [], ◌∷◌, ◌++◌, length, take, sym, ap, ◌∙◌, subst, arith, length-append}
 use Rattle.inorder.specs.History.{front, unit_of}
 use Rattle.station.specs.Recovery.{IsSquashed}
-use Rattle.front.specs.declared.record.Record.{Record}
 use Rattle.front.specs.Knows.{Knows}
 use Rattle.front.specs.Recoveries.{IsMissAt}
 use Rattle.front.proofs.FirstMiss.{take_fewer}
-use Rattle.front.proofs.Popping.{Popped, popped}
-use Rattle.front.proofs.Recovered.{CutOne, cut_more, squash_allowed, squash_done}
+use Rattle.front.proofs.Popping.{popped}
+use Rattle.front.proofs.Recovered.{cut_more, squash_allowed, squash_done}
 use Rattle.front.proofs.recovery.squash_behind.Goals as goal
 
 pub squash-requires-clause-may : goal.squash-requires-clause-may

@@ -1,5 +1,5 @@
 use Rattle.std.proofs.Common.{◌≡◌, ◌+◌, ◌-◌, ◌≤◌, length, take}
-use Rattle.inorder.specs.History.{IsLegal, front, unit_of}
+use Rattle.inorder.specs.History.{IsLegal, unit_of}
 use Rattle.front.specs.Knows.{Knows}
 use Rattle.front.specs.Recoveries.{IsCut, IsMissAt}
 use Rattle.station.specs.Seats.{IsSame}

@@ -1,5 +1,3 @@
-use Rattle.std.proofs.Common.{◌≡◌, [], sym, ap, ◌∙◌, subst}
-use Rattle.inorder.specs.History.{Adds, front}
 use Rattle.front.proofs.Fronts.{new_front}
 use Rattle.front.proofs.dispatcher.Front.new.Goals as goal
 
