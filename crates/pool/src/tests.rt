@@ -10,6 +10,7 @@ use std::test::Fail;
 use std::thread::Threads;
 
 /// Where a run is not as the rows have it.
+#[derive(Clone, Copy)]
 pub(crate) struct Shape {
     pub ring: u64,
     pub units: u64,

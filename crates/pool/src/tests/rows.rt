@@ -18,13 +18,7 @@ fn check<R: Threads + Wait + Sync + Abort>(
 ) -> Result<(), Fail> {
     for (shown, listing, expected) in rows {
         for units in [1, 4] {
-            let shape = Shape {
-                ring: shape.ring,
-                units,
-                first_tag: shape.first_tag,
-                limit: shape.limit,
-                turns: shape.turns,
-            };
+            let shape = Shape { units, ..*shape };
             let run = run_listing(rt, alloc, listing.as_bytes(), &shape, &Open)?;
             let text = report(alloc, &run)?;
             assert!(*rt; text.as_bytes() == expected.as_bytes(), "{shown}");
