@@ -1,0 +1,26 @@
+-- What a run answers.
+use Rattle.std.specs.Prelude.{◌≡◌}
+use Rattle.isa.specs.declared.end.End.{End}
+use Rattle.isa.specs.declared.end.Ending.{Ending}
+use Rattle.isa.specs.declared.end.Ending.TheVariants.{Limit, Stop as ByStop}
+use Rattle.isa.specs.Programs.{Program}
+use Rattle.back.specs.Ends.{IsInOrder}
+use Rattle.pool.specs.declared.answer.Run.{Run}
+use Rattle.pool.specs.declared.answer.Run.TheVariants.{Ended, LimitReached, Refused}
+use Rattle.pool.specs.declared.answer.Tally.{Tally}
+
+abbrev pub HasStopped : Ending → Type 0
+HasStopped (ByStop code) = Unit {0}
+HasStopped Limit = ⊥
+
+-- The registers, memory and pc are those of the machine in order after n instructions; n is how many
+-- retired
+pub record IsAfter (P : Program) (end : End) (tally : Tally) : Type 0 where
+  pub in_order : IsInOrder P end
+  pub retires : tally.retires ≡ end.n
+
+-- Where the run has ended, that machine stops there, with the same code
+abbrev pub IsRight : Program → Run → Type 0
+IsRight P (Ended end tally) = IsAfter P end tally × HasStopped end.outcome
+IsRight P (LimitReached end tally) = IsAfter P end tally × (end.outcome ≡ Limit)
+IsRight P (Refused why) = Unit {0}

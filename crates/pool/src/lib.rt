@@ -1,0 +1,21 @@
+//! Threads round one unit: one dispatches, one commits, some compute, some take snapshots. All are
+//! joined before the answer.
+#![tactic(auto)]
+
+mod answer;
+mod book;
+mod commit;
+mod compute;
+mod dispatch;
+mod floor;
+mod gate;
+mod threads;
+mod watch;
+
+pub use answer::{Refusal, Run, Tally};
+pub use book::Books;
+pub use gate::{Gate, Open};
+pub use threads::run;
+
+#[cfg(test)]
+mod tests;

@@ -1,0 +1,101 @@
+//! What a gate sees, and what the tally counts.
+use super::{Shape, plain, run_listing};
+use crate::{Gate, Open, Run, Tally};
+use snapshots::Snap;
+use std::process::Abort;
+use std::sync::atomic::AtomicU64;
+use std::sync::atomic::Ordering::SeqCst;
+use std::test::*;
+
+// Holds the first unit that asks until another has asked.
+#[derive(Drop)]
+struct Turnstile {
+    first: AtomicU64,
+    other: AtomicU64,
+    told: AtomicU64,
+}
+
+impl Gate for Turnstile {
+    fn held(&self, unit: u32, _station: u32) -> bool {
+        let unit = unit as u64;
+        let first = match self.first.compare_exchange(0, unit, SeqCst, SeqCst) {
+            Ok(_) => unit,
+            Err(first) => first,
+        };
+        if first == unit {
+            self.other.load(SeqCst) == 0
+        } else {
+            self.other.store(unit, SeqCst);
+            false
+        }
+    }
+
+    fn seen(&self, place: u32, _snap: &Snap) {
+        if place == 1 {
+            self.told.store(1, SeqCst);
+        }
+    }
+}
+
+#[test]
+fn two_units_work_at_once(rt: HostRuntime) -> Result<(), Fail> {
+    let gate = Turnstile {
+        first: AtomicU64::new(0),
+        other: AtomicU64::new(0),
+        told: AtomicU64::new(0),
+    };
+    let shape = Shape {
+        turns: 50_000_000,
+        ..plain(2)
+    };
+    let listing = b"addiu $1,$0,1\naddiu $2,$0,2\nbreak\n";
+    let run = run_listing(&rt, rt.alloc(), listing, &shape, &gate)?;
+    let Run::Ended(end, _) = run else {
+        return Err(Fail::from("ended"));
+    };
+    assert_eq!(rt; end.n, 2);
+    assert!(rt; gate.other.load(SeqCst) != 0);
+    assert_eq!(rt; gate.told.load(SeqCst), 1);
+    Ok(())
+}
+
+const LISTING: &[u8] = b"addiu $1,$0,5\naddu $2,$1,$1\nbreak\n";
+
+#[test]
+fn each_step_is_counted_once(rt: HostRuntime) -> Result<(), Fail> {
+    let expected = Tally {
+        lets: 3,
+        claims: 3,
+        finishes: 3,
+        stale: 0,
+        loads: 0,
+        retires: 2,
+        squashes: 0,
+        mends: 0,
+    };
+    for units in [1, 4] {
+        let run = run_listing(&rt, rt.alloc(), LISTING, &plain(units), &Open)?;
+        let Run::Ended(_, tally) = run else {
+            return Err(Fail::from("ended"));
+        };
+        assert_eq!(rt; tally, expected);
+    }
+    Ok(())
+}
+
+#[test]
+fn spent_tags_end_a_run(rt: HostRuntime) -> Result<(), Fail> {
+    let shape = Shape {
+        ring: 2,
+        first_tag: 268_435_454,
+        turns: 1_000,
+        ..plain(1)
+    };
+    let run = run_listing(&rt, rt.alloc(), LISTING, &shape, &Open)?;
+    let Run::LimitReached(end, tally) = run else {
+        return Err(Fail::from("limit"));
+    };
+    assert!(rt; end.n <= 2);
+    assert_eq!(rt; tally.retires, end.n);
+    Ok(())
+}
