@@ -6,6 +6,8 @@ mod drive;
 #[cfg(test)]
 mod memory;
 #[cfg(test)]
+mod old_jobs;
+#[cfg(test)]
 mod snapshots_of_commits;
 #[cfg(test)]
 mod tags;
