@@ -6,4 +6,10 @@ mod claims;
 #[cfg(test)]
 mod drive;
 #[cfg(test)]
+mod memory;
+#[cfg(test)]
+mod old_jobs;
+#[cfg(test)]
+mod snapshots_of_commits;
+#[cfg(test)]
 mod tags;
