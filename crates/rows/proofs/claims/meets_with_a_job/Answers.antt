@@ -1,4 +1,4 @@
-use Rattle.std.proofs.Common.{◌≡◌, List, [], sym, ◌∙◌, subst}
+use Rattle.std.proofs.Common.{List, [], sym, ◌∙◌, subst}
 use Rattle.inorder.specs.declared.history.Entry.{Entry}
 use Rattle.inorder.specs.History.{Adds}
 use Rattle.station.specs.Claiming.{Holds}
