@@ -12,14 +12,6 @@ use std::process::Abort;
 use std::sync::Wait;
 use std::test::Fail;
 
-// What a snapper takes once it has learnt a mark.
-fn taken<J: Naming>(snapper: &mut Snapper<J>, mark: &Option<Mark>) -> Option<Snap> {
-    if let Some(mark) = mark {
-        snapper.learn(mark);
-    }
-    snapper.take().ok()
-}
-
 fn tries<J: Naming>(snapper: &mut Snapper<J>, most: u32) -> Option<Snapper<J>> {
     for _ in 0..most {
         if let Ok(other) = snapper.another() {
@@ -29,17 +21,14 @@ fn tries<J: Naming>(snapper: &mut Snapper<J>, most: u32) -> Option<Snapper<J>> {
     None
 }
 
-// Two that learn the mark take the same, again and again.
-fn take_alike<J: Naming>(rt: &impl Abort, snapper: &mut Snapper<J>, mark: Option<Mark>) -> Snap {
-    assert_eq!(rt; mark, Some(Mark { n: 3 }));
-    let Some(snap) = taken(snapper, &mark) else {
-        panic!(rt; "no snapshot");
-    };
+// Two snappers that learn the mark take the same, again and again.
+fn take_alike<J: Naming>(rt: &impl Abort, snapper: &mut Snapper<J>, mark: &Mark) -> Snap {
+    snapper.learn(mark);
+    let snap = snapper.take().expect(rt, "no snapshot");
     assert_eq!(rt; snapper.take(), Ok(snap));
-    let Some(mut other) = tries(snapper, 1000) else {
-        panic!(rt; "no second place");
-    };
-    assert_eq!(rt; taken(&mut other, &mark), Some(snap));
+    let mut other = tries(snapper, 1000).expect(rt, "no second place");
+    other.learn(mark);
+    assert_eq!(rt; other.take(), Ok(snap));
     snap
 }
 
@@ -70,9 +59,10 @@ fn three_commits<J: Naming, R: Wait + Abort>(
         retired(0x0040_0008, 3),
     ];
     commits(rt, &core, &mut back, &answers);
-    let mark = back.show(rt).ok();
-    let snap = take_alike(rt, &mut snapper, mark);
+    let mark = back.show(rt).expect(rt, "nothing was shown");
+    let snap = take_alike(rt, &mut snapper, &mark);
     let end = back.end(rt);
+    assert_eq!(rt; mark, Mark { n: 3 });
     assert_eq!(rt; (snapper.take(), snapper.take()), (Err(Gone), Err(Gone)));
     assert_eq!(rt; (snap.n, snap.pc), (3, 0x0040_000c));
     let registers = (snap.registers[1], snap.registers[2], snap.registers[3]);
