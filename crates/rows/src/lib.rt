@@ -10,6 +10,8 @@ mod memory;
 #[cfg(test)]
 mod old_jobs;
 #[cfg(test)]
+mod retirement;
+#[cfg(test)]
 mod snapshots_of_commits;
 #[cfg(test)]
 mod tags;

@@ -128,6 +128,42 @@ fn a_load_reads_committed_memory_past_another_store(rt: HostRuntime) -> Result<(
     from_memory::<Brand, _>(&rt, rt.alloc(), &program, &config)
 }
 
+fn part_of_a_store<J: Naming, R: Wait + Abort>(
+    rt: &R,
+    alloc: Global,
+    program: &Program,
+    config: &Config,
+) -> Result<(), Fail>
+    requires { program.now ≡ J.program }
+{
+    let (core, seat, back_seat, mut unit) = Core::make(alloc, program, config)?;
+    assert!(rt; core.ring() == 4);
+    let mut front = Front::new(&core, seat, program, NotTaken);
+    let lets = [let_at(0, 1, 0x0040_0000), let_at(1, 1, 0x0040_0004)];
+    takes(rt, &core, &mut front, &lets);
+    assert!(rt; finish_one(&core, program, &mut unit, 0));
+    assert!(rt; finish_one(&core, program, &mut unit, 1));
+    let (mut back, _snapper) = back_at::<J>(alloc, &core, back_seat, program, config)?;
+    let blocked = back.refresh(&core);
+    let store = [retired(0x0040_0000, 1), Commit::NotDone];
+    commits(rt, &core, &mut back, &store);
+    let found = back.refresh(&core);
+    commits(rt, &core, &mut back, &[retired(0x0040_0004, 2)]);
+    let end = back.end(rt);
+    assert_eq!(rt; blocked, Refresh::Blocked { load: 1, store: 0 });
+    assert_eq!(rt; found, loaded(1, 0x1122_0044));
+    assert_eq!(rt; end.registers[2], 0x1122_0044);
+    assert_eq!(rt; end.memory.as_slice(), [0x44, 0, 0x22, 0x11].as_slice());
+    Ok(())
+}
+
+#[test]
+fn a_load_waits_until_a_store_of_a_part_is_committed(rt: HostRuntime) -> Result<(), Fail> {
+    let listing = b".word 0x11223344\nsb $0,1($0)\nlw $2,0($0)\nbreak\n";
+    let (program, config) = made(rt.alloc(), listing, 4, 1, 1)?;
+    part_of_a_store::<Brand, _>(&rt, rt.alloc(), &program, &config)
+}
+
 fn fault<J: Naming, R: Wait + Abort>(
     rt: &R,
     alloc: Global,
