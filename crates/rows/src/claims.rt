@@ -2,9 +2,9 @@
 ghost use Rattle.std.specs.Prelude.{◌≡◌, ◌<◌, ◌≤◌};
 ghost use Rattle.station.specs.Seats.{IsSame};
 
-use crate::drive::{finish_one, let_at, made};
-use front::Front;
-use isa::{NotTaken, Program, outcome};
+use crate::drive::{finish_job, finish_one, let_at, made, takes};
+use front::{Front, Turn};
+use isa::{NotTaken, Program};
 use station::{Claim, Core, Finish, Source, UnitSeat};
 use std::process::Abort;
 use std::test::Fail;
@@ -34,10 +34,8 @@ fn claim(core: &Core, program: &Program, seat: &mut UnitSeat, station: usize) ->
 {
     match core.claim(seat, station) {
         Claim::Job(job) => {
-            let instr = program.instr(job.index as usize);
             let (a, b) = (job.a, job.b);
-            let found = outcome(instr, job.pc, a, b, program.size());
-            let finish = core.finish(seat, job, found);
+            let finish = finish_job(core, program, seat, job);
             Claimed::Job { a, b, finish }
         }
         Claim::NotOpen => Claimed::NotOpen,
@@ -51,14 +49,17 @@ fn claim(core: &Core, program: &Program, seat: &mut UnitSeat, station: usize) ->
 
 const LISTING: &[u8] = b"addiu $1,$0,5\naddu $2,$1,$1\nbreak\n";
 
+fn first_two() -> [Turn; 2] {
+    [let_at(0, 1, 0x0040_0000), let_at(1, 1, 0x0040_0004)]
+}
+
 #[test]
 fn a_value_comes_along_its_links(rt: HostRuntime) -> Result<(), Fail> {
     let (program, config) = made(rt.alloc(), LISTING, 4, 1, 1)?;
     let (core, seat, _back, mut unit) = Core::make(rt.alloc(), &program, &config)?;
     assert!(rt; core.ring() == 4);
     let mut front = Front::new(&core, seat, &program, NotTaken);
-    assert_eq!(rt; front.turn(&core), let_at(0, 1, 0x0040_0000));
-    assert_eq!(rt; front.turn(&core), let_at(1, 1, 0x0040_0004));
+    takes(&rt, &core, &mut front, &first_two());
     let waiting = Claimed::Waiting {
         tag: 1,
         first: true,
@@ -76,9 +77,9 @@ fn a_question_finds_a_value_that_is_there(rt: HostRuntime) -> Result<(), Fail> {
     let (core, seat, _back, mut unit) = Core::make(rt.alloc(), &program, &config)?;
     assert!(rt; core.ring() == 4);
     let mut front = Front::new(&core, seat, &program, NotTaken);
-    assert_eq!(rt; front.turn(&core), let_at(0, 1, 0x0040_0000));
+    takes(&rt, &core, &mut front, &[let_at(0, 1, 0x0040_0000)]);
     assert!(rt; finish_one(&core, &program, &mut unit, 0));
-    assert_eq!(rt; front.turn(&core), let_at(1, 1, 0x0040_0004));
+    takes(&rt, &core, &mut front, &[let_at(1, 1, 0x0040_0004)]);
     assert_eq!(rt; claim(&core, &program, &mut unit, 1), job(5, 5));
     Ok(())
 }
@@ -100,9 +101,7 @@ fn meets_with_a_job(
             core.meet(one, other);
             let first = claim(core, program, other, 0);
             let second = claim(core, program, other, 1);
-            let instr = program.instr(job.index as usize);
-            let found = outcome(instr, job.pc, job.a, job.b, program.size());
-            let finish = core.finish(one, job, found);
+            let finish = finish_job(core, program, one, job);
             Some((first, second, finish))
         }
         Claim::NotOpen => None,
@@ -117,8 +116,7 @@ fn who_meets_a_claimer_finds_its_claim(rt: HostRuntime) -> Result<(), Fail> {
     let (core, seat, _back, unit) = Core::make(rt.alloc(), &program, &config)?;
     let (mut one, mut other) = core.split(unit);
     let mut front = Front::new(&core, seat, &program, NotTaken);
-    assert_eq!(rt; front.turn(&core), let_at(0, 1, 0x0040_0000));
-    assert_eq!(rt; front.turn(&core), let_at(1, 1, 0x0040_0004));
+    takes(&rt, &core, &mut front, &first_two());
     front.meet(&core, &mut one);
     let waiting = Claimed::Waiting {
         tag: 1,
@@ -139,8 +137,7 @@ fn two_units_claim_apart(rt: HostRuntime) -> Result<(), Fail> {
     let (core, seat, _back, unit) = Core::make(rt.alloc(), &program, &config)?;
     let (mut one, mut other) = core.split(unit);
     let mut front = Front::new(&core, seat, &program, NotTaken);
-    assert_eq!(rt; front.turn(&core), let_at(0, 1, 0x0040_0000));
-    assert_eq!(rt; front.turn(&core), let_at(1, 1, 0x0040_0004));
+    takes(&rt, &core, &mut front, &first_two());
     front.meet(&core, &mut one);
     let answers = meets_with_a_job(&core, &program, &mut one, &mut other);
     assert_eq!(rt;

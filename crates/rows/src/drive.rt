@@ -1,12 +1,16 @@
 //! What the rows have in common.
-ghost use Rattle.std.specs.Prelude.{◌≡◌, ◌<◌};
+ghost use Rattle.std.specs.Prelude.{◌≡◌, ◌<◌, IfOk};
+ghost use Rattle.inorder.specs.History.{IsLegal};
+ghost use Rattle.back.specs.Backs.{HasRetiredNothing};
+ghost use Rattle.station.specs.Claiming.{Holds};
 ghost use Rattle.station.specs.Seats.{IsSame};
 
-use back::{Back, Commit, Mark, Naming, Snap, Snapper};
-use front::Turn;
-use isa::{Config, Program, outcome, parse};
-use station::{Claim, Core, Finish, UnitSeat};
+use back::{Back, Commit, Naming, Snapper};
+use front::{Front, Turn};
+use isa::{Config, Predictor, Program, outcome, parse};
+use station::{BackSeat, Claim, Core, Finish, Job, UnitSeat};
 use std::alloc::Global;
+use std::process::Abort;
 use std::test::Fail;
 
 pub fn made(
@@ -25,6 +29,35 @@ pub fn let_at(station: usize, tag: u32, pc: u32) -> Turn {
     Turn::Let { station, tag, pc }
 }
 
+/// The front takes these turns.
+pub fn takes<'a, P: Predictor + Drop>(
+    rt: &impl Abort,
+    core: &Core,
+    front: &mut Front<'a, P>,
+    turns: &[Turn],
+)
+    requires { front.old.core ≡ core.now }
+    ensures { front.new.core ≡ core.now }
+{
+    for turn in turns {
+        let taken = front.turn(core);
+        assert_eq!(rt; taken, *turn);
+    }
+}
+
+/// Finishes a job by its outcome.
+pub fn finish_job(core: &Core, program: &Program, seat: &mut UnitSeat, job: Job) -> Finish
+    requires core { seat.old.core ≡ core.now }
+    requires program { program.now ≡ core.now.program }
+    requires legal { IsLegal core.now.program core.now.sizes seat.old.seen }
+    requires job { Holds core.now.program core.now.sizes seat.old.by seat.old.seen job }
+    ensures kept { IsSame seat.old seat.new }
+{
+    let instr = program.instr(job.index as usize);
+    let found = outcome(instr, job.pc, job.a, job.b, program.size());
+    core.finish(seat, job, found)
+}
+
 /// Claims the tenant of a station, and finishes it by its outcome.
 pub fn finish_one(core: &Core, program: &Program, seat: &mut UnitSeat, station: usize) -> bool
     requires core { seat.old.core ≡ core.now }
@@ -32,23 +65,38 @@ pub fn finish_one(core: &Core, program: &Program, seat: &mut UnitSeat, station: 
     requires station { station < core.now.sizes.ring }
     ensures kept { IsSame seat.old seat.new }
 {
-    let finished = match core.claim(seat, station) {
-        Claim::Job(job) => {
-            let instr = program.instr(job.index as usize);
-            let found = outcome(instr, job.pc, job.a, job.b, program.size());
-            Some(core.finish(seat, job, found))
-        }
-        Claim::NotOpen => None,
-        Claim::Waiting { tag: _, k: _ } => None,
-        Claim::Moved { tag: _ } => None,
-    };
-    finished == Some(Finish::Finished)
+    match core.claim(seat, station) {
+        Claim::Job(job) => finish_job(core, program, seat, job) == Finish::Finished,
+        Claim::NotOpen => false,
+        Claim::Waiting { tag: _, k: _ } => false,
+        Claim::Moved { tag: _ } => false,
+    }
 }
 
-/// A commit, while the count can grow.
-pub fn commit<J: Naming>(back: &mut Back<J>, core: &Core) -> Option<Commit>
+/// The back of a core, and the first snapper of what it shows.
+pub fn back_at<J: Naming>(
+    alloc: Global,
+    core: &Core,
+    seat: BackSeat,
+    program: &Program,
+    config: &Config,
+) -> Result<(Back<J>, Snapper<J>), Fail>
+    requires core { seat.core ≡ core.now }
+    requires program { program.now ≡ core.now.program }
+    requires named { program.now ≡ J.program }
+    requires fresh { HasRetiredNothing seat }
+    ensures { IfOk result (λ made. made.0.core ≡ core.now) }
+{
+    match Back::<J>::new(alloc, core, seat, program, config) {
+        Ok(made) => Ok(made),
+        Err((memory, _)) => Err(memory.into()),
+    }
+}
+
+// A commit, while the count can grow.
+fn commit<J: Naming>(core: &Core, back: &mut Back<J>) -> Option<Commit>
     requires { back.old.core ≡ core.now }
-    ensures { back.new.core ≡ back.old.core }
+    ensures { back.new.core ≡ core.now }
 {
     if back.n() < 0xffff_ffff_ffff_ffff {
         Some(back.commit(core))
@@ -57,24 +105,17 @@ pub fn commit<J: Naming>(back: &mut Back<J>, core: &Core) -> Option<Commit>
     }
 }
 
-/// So many commits.
-pub fn commits<J: Naming>(back: &mut Back<J>, core: &Core, most: u32)
+/// The back's commits answer these.
+pub fn commits<J: Naming>(rt: &impl Abort, core: &Core, back: &mut Back<J>, answers: &[Commit])
     requires { back.old.core ≡ core.now }
-    ensures { back.new.core ≡ back.old.core }
+    ensures { back.new.core ≡ core.now }
 {
-    for _ in 0..most {
-        commit(back, core);
+    for answer in answers {
+        let committed = commit(core, back);
+        assert_eq!(rt; committed, Some(*answer));
     }
 }
 
-pub fn retired(pc: u32, n: u64) -> Option<Commit> {
-    Some(Commit::Retired { pc, n })
-}
-
-/// What a snapper takes once it has learnt a mark.
-pub fn taken<J: Naming>(snapper: &mut Snapper<J>, mark: &Option<Mark>) -> Option<Snap> {
-    if let Some(mark) = mark {
-        snapper.learn(mark);
-    }
-    snapper.take().ok()
+pub fn retired(pc: u32, n: u64) -> Commit {
+    Commit::Retired { pc, n }
 }

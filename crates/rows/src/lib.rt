@@ -6,4 +6,12 @@ mod claims;
 #[cfg(test)]
 mod drive;
 #[cfg(test)]
+mod memory;
+#[cfg(test)]
+mod old_jobs;
+#[cfg(test)]
+mod retirement;
+#[cfg(test)]
+mod snapshots_of_commits;
+#[cfg(test)]
 mod tags;

@@ -1,8 +1,8 @@
 //! Rings that are full, and tags that are spent.
 ghost use Rattle.std.specs.Prelude.{◌≡◌};
 
-use crate::drive::{commit, finish_one, let_at, made, retired};
-use back::{Back, Commit, Naming};
+use crate::drive::{back_at, commits, finish_one, let_at, made, retired, takes};
+use back::{Commit, Naming};
 use front::{Front, Turn};
 use isa::{Config, Ending, NotTaken, Program};
 use station::Core;
@@ -25,23 +25,19 @@ fn spent_tags<J: Naming, R: Wait + Abort>(
     let (core, seat, back_seat, mut unit) = Core::make(alloc, program, config)?;
     assert!(rt; core.ring() == 2);
     let mut front = Front::new(&core, seat, program, NotTaken);
-    let first_tag = 0x0fff_fffe;
-    assert_eq!(rt; front.turn(&core), let_at(0, first_tag, 0x0040_0000));
-    assert_eq!(rt; front.turn(&core), let_at(1, first_tag, 0x0040_0004));
-    assert!(rt;
-        finish_one(&core, program, &mut unit, 0) && finish_one(&core, program, &mut unit, 1)
-    );
-    let Ok((mut back, _snapper)) = Back::<J>::new(alloc, &core, back_seat, program, config) else {
-        panic!(rt; "no memory for the back");
-    };
-    let first = commit(&mut back, &core);
-    let second = commit(&mut back, &core);
-    let spent = front.turn(&core);
-    let empty = commit(&mut back, &core);
+    let lets = [
+        let_at(0, 0x0fff_fffe, 0x0040_0000),
+        let_at(1, 0x0fff_fffe, 0x0040_0004),
+    ];
+    takes(rt, &core, &mut front, &lets);
+    assert!(rt; finish_one(&core, program, &mut unit, 0));
+    assert!(rt; finish_one(&core, program, &mut unit, 1));
+    let (mut back, _snapper) = back_at::<J>(alloc, &core, back_seat, program, config)?;
+    let both = [retired(0x0040_0000, 1), retired(0x0040_0004, 2)];
+    commits(rt, &core, &mut back, &both);
+    takes(rt, &core, &mut front, &[Turn::Spent]);
+    commits(rt, &core, &mut back, &[Commit::Empty]);
     let end = back.end(rt);
-    assert_eq!(rt; first, retired(0x0040_0000, 1));
-    assert_eq!(rt; second, retired(0x0040_0004, 2));
-    assert_eq!(rt; (spent, empty), (Turn::Spent, Some(Commit::Empty)));
     assert_eq!(rt;
         (end.n, end.pc, end.outcome),
         (2, 0x0040_0008, Ending::Limit)
@@ -67,18 +63,17 @@ fn full_ring<J: Naming, R: Wait + Abort>(
     let (core, seat, back_seat, mut unit) = Core::make(alloc, program, config)?;
     assert!(rt; core.ring() == 2);
     let mut front = Front::new(&core, seat, program, NotTaken);
-    assert_eq!(rt; front.turn(&core), let_at(0, 1, 0x0040_0000));
-    assert_eq!(rt; front.turn(&core), let_at(1, 1, 0x0040_0004));
-    assert_eq!(rt; front.turn(&core), Turn::Full);
+    let lets = [
+        let_at(0, 1, 0x0040_0000),
+        let_at(1, 1, 0x0040_0004),
+        Turn::Full,
+    ];
+    takes(rt, &core, &mut front, &lets);
     assert!(rt; finish_one(&core, program, &mut unit, 0));
-    let Ok((mut back, _snapper)) = Back::<J>::new(alloc, &core, back_seat, program, config) else {
-        panic!(rt; "no memory for the back");
-    };
-    let first = commit(&mut back, &core);
-    let next = front.turn(&core);
+    let (mut back, _snapper) = back_at::<J>(alloc, &core, back_seat, program, config)?;
+    commits(rt, &core, &mut back, &[retired(0x0040_0000, 1)]);
+    takes(rt, &core, &mut front, &[let_at(0, 2, 0x0040_0008)]);
     let end = back.end(rt);
-    assert_eq!(rt; first, retired(0x0040_0000, 1));
-    assert_eq!(rt; next, let_at(0, 2, 0x0040_0008));
     assert_eq!(rt; (end.n, end.pc), (1, 0x0040_0004));
     Ok(())
 }

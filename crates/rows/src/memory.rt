@@ -1,0 +1,196 @@
+//! Loads behind stores.
+ghost use Rattle.std.specs.Prelude.{◌≡◌, ◌≤◌};
+
+use crate::drive::{back_at, commits, finish_one, let_at, made, retired, takes};
+use back::{Back, Commit, Naming, Refresh};
+use front::Front;
+use isa::{Config, Ending, NotTaken, Program, Stop};
+use station::{Core, UnitSeat};
+use std::alloc::Global;
+use std::marker::Brand;
+use std::process::Abort;
+use std::sync::Wait;
+use std::test::Fail;
+
+const BLOCKED: Refresh = Refresh::Blocked { load: 2, store: 1 };
+
+fn loaded(station: usize, value: u32) -> Refresh {
+    Refresh::Loaded {
+        station,
+        tag: 1,
+        value,
+    }
+}
+
+// The address of the load comes first, then that of the store, and its data last.
+fn forwards<J: Naming>(
+    rt: &impl Abort,
+    core: &Core,
+    program: &Program,
+    unit: &mut UnitSeat,
+    back: &mut Back<J>,
+)
+    requires unit { unit.old.core ≡ core.now }
+    requires back { back.old.core ≡ core.now }
+    requires program { program.now ≡ core.now.program }
+    requires ring { 4 ≤ core.now.sizes.ring }
+{
+    assert_eq!(rt; back.refresh(core), Refresh::Idle);
+    assert!(rt; finish_one(core, program, unit, 2));
+    assert_eq!(rt; back.refresh(core), BLOCKED);
+    assert!(rt; finish_one(core, program, unit, 1));
+    assert_eq!(rt; back.refresh(core), BLOCKED);
+    assert!(rt; finish_one(core, program, unit, 0));
+    assert_eq!(rt; back.refresh(core), loaded(2, 7));
+    let answers = [
+        retired(0x0040_0000, 1),
+        retired(0x0040_0004, 2),
+        retired(0x0040_0008, 3),
+        Commit::NotDone,
+    ];
+    commits(rt, core, back, &answers);
+    assert!(rt; finish_one(core, program, unit, 3));
+    let ended = Commit::Ended(Stop::Break);
+    commits(rt, core, back, &[ended, ended]);
+}
+
+fn load_behind_a_store<J: Naming, R: Wait + Abort>(
+    rt: &R,
+    alloc: Global,
+    program: &Program,
+    config: &Config,
+) -> Result<(), Fail>
+    requires { program.now ≡ J.program }
+{
+    let (core, seat, back_seat, mut unit) = Core::make(alloc, program, config)?;
+    assert!(rt; core.ring() == 4);
+    let mut front = Front::new(&core, seat, program, NotTaken);
+    let lets = [
+        let_at(0, 1, 0x0040_0000),
+        let_at(1, 1, 0x0040_0004),
+        let_at(2, 1, 0x0040_0008),
+        let_at(3, 1, 0x0040_000c),
+    ];
+    takes(rt, &core, &mut front, &lets);
+    let (mut back, _snapper) = back_at::<J>(alloc, &core, back_seat, program, config)?;
+    forwards(rt, &core, program, &mut unit, &mut back);
+    let end = back.end(rt);
+    assert_eq!(rt;
+        (end.n, end.pc, end.outcome),
+        (3, 0x0040_000c, Ending::Stop(Stop::Break))
+    );
+    assert_eq!(rt; (end.registers[1], end.registers[2]), (7, 7));
+    assert_eq!(rt; end.memory.as_slice(), [7, 0, 0, 0].as_slice());
+    Ok(())
+}
+
+#[test]
+fn a_load_waits_for_the_data_of_a_store(rt: HostRuntime) -> Result<(), Fail> {
+    let listing = b".space 4\naddiu $1,$0,7\nsw $1,0($0)\nlw $2,0($0)\nbreak\n";
+    let (program, config) = made(rt.alloc(), listing, 4, 1, 1)?;
+    load_behind_a_store::<Brand, _>(&rt, rt.alloc(), &program, &config)
+}
+
+fn from_memory<J: Naming, R: Wait + Abort>(
+    rt: &R,
+    alloc: Global,
+    program: &Program,
+    config: &Config,
+) -> Result<(), Fail>
+    requires { program.now ≡ J.program }
+{
+    let (core, seat, back_seat, mut unit) = Core::make(alloc, program, config)?;
+    assert!(rt; core.ring() == 4);
+    let mut front = Front::new(&core, seat, program, NotTaken);
+    let lets = [let_at(0, 1, 0x0040_0000), let_at(1, 1, 0x0040_0004)];
+    takes(rt, &core, &mut front, &lets);
+    assert!(rt; finish_one(&core, program, &mut unit, 0));
+    assert!(rt; finish_one(&core, program, &mut unit, 1));
+    let (mut back, _snapper) = back_at::<J>(alloc, &core, back_seat, program, config)?;
+    let found = back.refresh(&core);
+    let answers = [
+        retired(0x0040_0000, 1),
+        retired(0x0040_0004, 2),
+        Commit::Ended(Stop::BadPc),
+    ];
+    commits(rt, &core, &mut back, &answers);
+    let end = back.end(rt);
+    assert_eq!(rt; found, loaded(1, 0xffff_ff80));
+    assert_eq!(rt; (end.n, end.outcome), (2, Ending::Stop(Stop::BadPc)));
+    assert_eq!(rt; end.registers[1], 0xffff_ff80);
+    Ok(())
+}
+
+#[test]
+fn a_load_reads_committed_memory_past_another_store(rt: HostRuntime) -> Result<(), Fail> {
+    let listing = b".word 0x80,9\nsb $0,4($0)\nlb $1,0($0)\n";
+    let (program, config) = made(rt.alloc(), listing, 4, 1, 1)?;
+    from_memory::<Brand, _>(&rt, rt.alloc(), &program, &config)
+}
+
+fn part_of_a_store<J: Naming, R: Wait + Abort>(
+    rt: &R,
+    alloc: Global,
+    program: &Program,
+    config: &Config,
+) -> Result<(), Fail>
+    requires { program.now ≡ J.program }
+{
+    let (core, seat, back_seat, mut unit) = Core::make(alloc, program, config)?;
+    assert!(rt; core.ring() == 4);
+    let mut front = Front::new(&core, seat, program, NotTaken);
+    let lets = [let_at(0, 1, 0x0040_0000), let_at(1, 1, 0x0040_0004)];
+    takes(rt, &core, &mut front, &lets);
+    assert!(rt; finish_one(&core, program, &mut unit, 0));
+    assert!(rt; finish_one(&core, program, &mut unit, 1));
+    let (mut back, _snapper) = back_at::<J>(alloc, &core, back_seat, program, config)?;
+    let blocked = back.refresh(&core);
+    let store = [retired(0x0040_0000, 1), Commit::NotDone];
+    commits(rt, &core, &mut back, &store);
+    let found = back.refresh(&core);
+    commits(rt, &core, &mut back, &[retired(0x0040_0004, 2)]);
+    let end = back.end(rt);
+    assert_eq!(rt; blocked, Refresh::Blocked { load: 1, store: 0 });
+    assert_eq!(rt; found, loaded(1, 0x1122_0044));
+    assert_eq!(rt; end.registers[2], 0x1122_0044);
+    assert_eq!(rt; end.memory.as_slice(), [0x44, 0, 0x22, 0x11].as_slice());
+    Ok(())
+}
+
+#[test]
+fn a_load_waits_until_a_store_of_a_part_is_committed(rt: HostRuntime) -> Result<(), Fail> {
+    let listing = b".word 0x11223344\nsb $0,1($0)\nlw $2,0($0)\nbreak\n";
+    let (program, config) = made(rt.alloc(), listing, 4, 1, 1)?;
+    part_of_a_store::<Brand, _>(&rt, rt.alloc(), &program, &config)
+}
+
+fn fault<J: Naming, R: Wait + Abort>(
+    rt: &R,
+    alloc: Global,
+    program: &Program,
+    config: &Config,
+) -> Result<(), Fail>
+    requires { program.now ≡ J.program }
+{
+    let (core, seat, back_seat, mut unit) = Core::make(alloc, program, config)?;
+    assert!(rt; core.ring() == 4);
+    let mut front = Front::new(&core, seat, program, NotTaken);
+    takes(rt, &core, &mut front, &[let_at(0, 1, 0x0040_0000)]);
+    assert!(rt; finish_one(&core, program, &mut unit, 0));
+    let (mut back, _snapper) = back_at::<J>(alloc, &core, back_seat, program, config)?;
+    let idle = back.refresh(&core);
+    commits(rt, &core, &mut back, &[Commit::Ended(Stop::Unaligned)]);
+    let end = back.end(rt);
+    assert_eq!(rt; idle, Refresh::Idle);
+    assert_eq!(rt;
+        (end.n, end.pc, end.outcome),
+        (0, 0x0040_0000, Ending::Stop(Stop::Unaligned))
+    );
+    Ok(())
+}
+
+#[test]
+fn an_unaligned_load_stops(rt: HostRuntime) -> Result<(), Fail> {
+    let (program, config) = made(rt.alloc(), b"lw $1,2($0)\n", 4, 1, 1)?;
+    fault::<Brand, _>(&rt, rt.alloc(), &program, &config)
+}

@@ -1,0 +1,54 @@
+//! What the back sees of a station that it retires.
+ghost use Rattle.std.specs.Prelude.{◌≡◌};
+
+use crate::drive::{back_at, commits, finish_one, let_at, made, retired, takes};
+use back::{Commit, Naming};
+use front::Front;
+use isa::{Config, NotTaken, Program, Stop};
+use station::{Core, StationState};
+use std::alloc::Global;
+use std::marker::Brand;
+use std::process::Abort;
+use std::sync::Wait;
+use std::test::Fail;
+
+fn met_a_unit<J: Naming, R: Wait + Abort>(
+    rt: &R,
+    alloc: Global,
+    program: &Program,
+    config: &Config,
+) -> Result<(), Fail>
+    requires { program.now ≡ J.program }
+{
+    let (core, seat, back_seat, mut unit) = Core::make(alloc, program, config)?;
+    assert!(rt; core.ring() == 2);
+    let mut front = Front::new(&core, seat, program, NotTaken);
+    let lets = [let_at(0, 1, 0x0040_0000), let_at(1, 1, 0x0040_0004)];
+    takes(rt, &core, &mut front, &lets);
+    let (mut back, _snapper) = back_at::<J>(alloc, &core, back_seat, program, config)?;
+    assert!(rt; finish_one(&core, program, &mut unit, 0));
+    back.meet(&core, &mut unit);
+    let done = back.look(&core, 0);
+    commits(
+        rt,
+        &core,
+        &mut back,
+        &[retired(0x0040_0000, 1), Commit::NotDone],
+    );
+    let free = back.look(&core, 0);
+    assert!(rt; finish_one(&core, program, &mut unit, 1));
+    let going = back.ended();
+    commits(rt, &core, &mut back, &[Commit::Ended(Stop::Break)]);
+    let ended = back.ended();
+    back.end(rt);
+    assert!(rt; done.state == StationState::Done && (done.tag, done.value) == (1, 5));
+    assert!(rt; free.state == StationState::Free && free.tag == 2);
+    assert_eq!(rt; (going, ended), (None, Some(Stop::Break)));
+    Ok(())
+}
+
+#[test]
+fn a_station_that_is_left_has_the_next_tag(rt: HostRuntime) -> Result<(), Fail> {
+    let (program, config) = made(rt.alloc(), b"addiu $1,$0,5\nbreak\n", 2, 1, 1)?;
+    met_a_unit::<Brand, _>(&rt, rt.alloc(), &program, &config)
+}

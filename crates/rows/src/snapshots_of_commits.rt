@@ -1,0 +1,146 @@
+//! Snapshots of what was committed.
+ghost use Rattle.std.specs.Prelude.{◌≡◌};
+
+use crate::drive::{back_at, commits, finish_one, let_at, made, retired, takes};
+use back::{Back, Gone, Mark, Naming, NoPlace, Snap, Snapper};
+use front::Front;
+use isa::{Config, NotTaken, Program};
+use station::Core;
+use std::alloc::Global;
+use std::marker::Brand;
+use std::process::Abort;
+use std::sync::Wait;
+use std::test::Fail;
+
+fn tries<J: Naming>(snapper: &mut Snapper<J>, most: u32) -> Option<Snapper<J>> {
+    for _ in 0..most {
+        if let Ok(other) = snapper.another() {
+            return Some(other);
+        }
+    }
+    None
+}
+
+// Two snappers that learn the mark take the same, again and again.
+fn take_alike<J: Naming>(rt: &impl Abort, snapper: &mut Snapper<J>, mark: &Mark) -> Snap {
+    snapper.learn(mark);
+    let snap = snapper.take().expect(rt, "no snapshot");
+    assert_eq!(rt; snapper.take(), Ok(snap));
+    let mut other = tries(snapper, 1000).expect(rt, "no second place");
+    other.learn(mark);
+    assert_eq!(rt; other.take(), Ok(snap));
+    snap
+}
+
+fn three_commits<J: Naming, R: Wait + Abort>(
+    rt: &R,
+    alloc: Global,
+    program: &Program,
+    config: &Config,
+) -> Result<(), Fail>
+    requires { program.now ≡ J.program }
+{
+    let (core, seat, back_seat, mut unit) = Core::make(alloc, program, config)?;
+    assert!(rt; core.ring() == 4);
+    let mut front = Front::new(&core, seat, program, NotTaken);
+    let lets = [
+        let_at(0, 1, 0x0040_0000),
+        let_at(1, 1, 0x0040_0004),
+        let_at(2, 1, 0x0040_0008),
+    ];
+    takes(rt, &core, &mut front, &lets);
+    assert!(rt; finish_one(&core, program, &mut unit, 0));
+    assert!(rt; finish_one(&core, program, &mut unit, 1));
+    assert!(rt; finish_one(&core, program, &mut unit, 2));
+    let (mut back, mut snapper) = back_at::<J>(alloc, &core, back_seat, program, config)?;
+    let answers = [
+        retired(0x0040_0000, 1),
+        retired(0x0040_0004, 2),
+        retired(0x0040_0008, 3),
+    ];
+    commits(rt, &core, &mut back, &answers);
+    let mark = back.show(rt).expect(rt, "nothing was shown");
+    let snap = take_alike(rt, &mut snapper, &mark);
+    let end = back.end(rt);
+    assert_eq!(rt; mark, Mark { n: 3 });
+    assert_eq!(rt; (snapper.take(), snapper.take()), (Err(Gone), Err(Gone)));
+    assert_eq!(rt; (snap.n, snap.pc), (3, 0x0040_000c));
+    let registers = (snap.registers[1], snap.registers[2], snap.registers[3]);
+    assert_eq!(rt; registers, (1, 2, 3));
+    assert_eq!(rt; end.registers, snap.registers);
+    Ok(())
+}
+
+#[test]
+fn a_mark_names_what_is_taken(rt: HostRuntime) -> Result<(), Fail> {
+    let listing = b"addiu $1,$0,1\naddiu $2,$0,2\naddiu $3,$0,3\nbreak\n";
+    let (program, config) = made(rt.alloc(), listing, 4, 2, 1)?;
+    three_commits::<Brand, _>(&rt, rt.alloc(), &program, &config)
+}
+
+// What is refused memory, here or there, is tried once more.
+fn refused_once<J: Naming, R: Wait + Abort>(
+    rt: &R,
+    alloc: Global,
+    program: &Program,
+    config: &Config,
+) -> Result<(), Fail>
+    requires { program.now ≡ J.program }
+{
+    let Ok((core, seat, back_seat, mut unit)) = Core::make(alloc, program, config) else {
+        return Ok(());
+    };
+    assert!(rt; core.ring() == 4);
+    let mut front = Front::new(&core, seat, program, NotTaken);
+    takes(rt, &core, &mut front, &[let_at(0, 1, 0x0040_0000)]);
+    assert!(rt; finish_one(&core, program, &mut unit, 0));
+    let (mut back, mut snapper) = match Back::<J>::new(alloc, &core, back_seat, program, config) {
+        Ok(made) => made,
+        Err((_, seat)) => back_at::<J>(alloc, &core, seat, program, config)?,
+    };
+    commits(rt, &core, &mut back, &[retired(0x0040_0000, 1)]);
+    let first = back.show(rt).ok();
+    let before = snapper.take().ok();
+    let second = back.show(rt).ok();
+    let after = snapper.take().ok();
+    let end = back.end(rt);
+    let shown = if first.is_some() { 1 } else { 0 };
+    assert_eq!(rt; before.map(|snap| snap.n), Some(shown));
+    assert_eq!(rt;
+        (first.or(second), after.map(|snap| snap.n)),
+        (Some(Mark { n: 1 }), Some(1))
+    );
+    assert_eq!(rt; (end.n, end.registers[1]), (1, 1));
+    Ok(())
+}
+
+#[test]
+fn what_is_refused_memory_is_done_at_the_next_try(rt: HostRuntime) -> Result<(), Fail> {
+    let listing = b"addiu $1,$0,1\nbreak\n";
+    let (program, config) = made(rt.alloc(), listing, 4, 1, 1)?;
+    refused_once::<Brand, _>(&rt, rt.alloc(), &program, &config)
+}
+
+fn one_place<J: Naming, R: Wait + Abort>(
+    rt: &R,
+    alloc: Global,
+    program: &Program,
+    config: &Config,
+) -> Result<(), Fail>
+    requires { program.now ≡ J.program }
+{
+    let (core, _seat, back_seat, _unit) = Core::make(alloc, program, config)?;
+    let (back, mut snapper) = back_at::<J>(alloc, &core, back_seat, program, config)?;
+    let second = snapper.another().map(|_| ());
+    let taken = snapper.take().ok();
+    back.end(rt);
+    assert_eq!(rt; second, Err(NoPlace));
+    assert_eq!(rt; taken.map(|snap| (snap.n, snap.pc)), Some((0, 0x0040_0000)));
+    Ok(())
+}
+
+#[test]
+fn one_place_takes_no_second_snapper(rt: HostRuntime) -> Result<(), Fail> {
+    let (program, config) = made(rt.alloc(), b"break\n", 2, 1, 1)?;
+    one_place::<Brand, _>(&rt, rt.alloc(), &program, &config)
+}
