@@ -1,2 +1,3 @@
+pub mod Committing
 pub mod Ledgers
 pub mod Runs

@@ -1,5 +1,5 @@
 -- What a run answers.
-use Rattle.std.specs.Prelude.{◌≡◌}
+use Rattle.std.specs.Prelude.{◌≡◌, ◌≤◌, ℕ}
 use Rattle.isa.specs.declared.end.End.{End}
 use Rattle.isa.specs.declared.end.Ending.{Ending}
 use Rattle.isa.specs.declared.end.Ending.TheVariants.{Limit, Stop as ByStop}
@@ -24,3 +24,9 @@ abbrev pub IsRight : Program → Run → Type 0
 IsRight P (Ended end tally) = IsAfter P end tally × HasStopped end.outcome
 IsRight P (LimitReached end tally) = IsAfter P end tally × (end.outcome ≡ Limit)
 IsRight P (Refused why) = Unit {0}
+
+-- It has run no instruction past the limit
+abbrev pub IsWithin : ℕ → Run → Type 0
+IsWithin limit (Ended end tally) = end.n ≤ limit
+IsWithin limit (LimitReached end tally) = end.n ≤ limit
+IsWithin limit (Refused why) = Unit {0}

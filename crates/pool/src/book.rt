@@ -5,7 +5,8 @@ use crate::answer::Tally;
 use std::marker::{Brand, PhantomData};
 use std::sync::ledger::{Blank, Book, Ledger, Share};
 
-/// Which ledgers a book keeps, and into how many parts each is cut.
+/// What is fixed for one run, in the proof alone: the ledgers of its book, into how many parts each is cut, and
+/// the limit of instructions.
 pub trait Books {
     ghost use Rattle.std.specs.Prelude.{ℕ};
     ghost use Rattle.pool.specs.Ledgers.{Names};
@@ -14,12 +15,16 @@ pub trait Books {
 
     // of those of the units; the others are one thread's
     ghost units: { ℕ };
+
+    ghost limit: { ℕ };
 }
 
 impl Books for Brand {
     ghost names = { record { lets = 0; claims = 0; finishes = 0; stale = 0; loads = 0; retires = 0; squashes = 0; mends = 0 } };
 
     ghost units = { 0 };
+
+    ghost limit = { 0 };
 }
 
 pub(crate) struct Lets<K> {
@@ -311,7 +316,11 @@ impl<K: Books> Totals<K> {
         (totals, dispatch, units, commit)
     }
 
-    pub(crate) fn add_dispatched(&mut self, mine: &mut DispatchShare<K>, done: Dispatched) {
+    pub(crate) fn add_dispatched(&mut self, mine: &mut DispatchShare<K>, done: Dispatched)
+        ensures lets { mine.new.lets.amount ≡ mine.old.lets.amount + done.lets }
+        ensures squashes { mine.new.squashes.amount ≡ mine.old.squashes.amount + done.squashes }
+        ensures mends { mine.new.mends.amount ≡ mine.old.mends.amount + done.mends }
+    {
         self.lets.add(&mut mine.lets, done.lets);
         self.squashes.add(&mut mine.squashes, done.squashes);
         self.mends.add(&mut mine.mends, done.mends);
@@ -319,6 +328,9 @@ impl<K: Books> Totals<K> {
 
     pub(crate) fn add_computed(&mut self, mine: &mut UnitShare<K>, done: Computed)
         requires { (0 < mine.old.claims.parts) × (0 < mine.old.finishes.parts) × (0 < mine.old.stale.parts) }
+        ensures claims { mine.new.claims.amount ≡ mine.old.claims.amount + done.claims }
+        ensures finishes { mine.new.finishes.amount ≡ mine.old.finishes.amount + done.finishes }
+        ensures stale { mine.new.stale.amount ≡ mine.old.stale.amount + done.stale }
     {
         self.claims.add(&mut mine.claims, done.claims);
         self.finishes.add(&mut mine.finishes, done.finishes);
@@ -328,7 +340,8 @@ impl<K: Books> Totals<K> {
     /// The whole tally, where all threads have added what they did: its retirements are those of
     /// the commit thread.
     pub(crate) fn close(&mut self, mine: &mut CommitShare<K>, done: Committed) -> Tally
-        ensures { result.retires ≡ (mine.old.retires.amount + done.retires) % 2 ^ 64 }
+        ensures loads { mine.new.loads.amount ≡ mine.old.loads.amount + done.loads }
+        ensures retires { result.retires ≡ (mine.old.retires.amount + done.retires) % 2 ^ 64 }
     {
         self.loads.add(&mut mine.loads, done.loads);
         self.retires.add(&mut mine.retires, done.retires);

@@ -6,6 +6,7 @@ ghost use Rattle.station.specs.Claiming.{Holds};
 use crate::book::{Books, Computed, UnitShare};
 use crate::floor::Floor;
 use crate::gate::Gate;
+use crate::rest::Rest;
 use isa::outcome;
 use station::{Claim, Finish, Job, UnitSeat};
 use std::sync::Wait;
@@ -74,11 +75,13 @@ pub(crate) fn work<K: Books, G: Gate, R: Wait>(
     };
     let ring = floor.core.ring();
     let mut left = floor.turns;
+    let mut rest = Rest::after(ring as u32);
     let mut station = 0;
     while 0 < left {
         left -= 1;
         match floor.core.claim(&mut seat, station) {
             Claim::Job(job) => {
+                rest.begin_again();
                 done.claims = done.claims.wrapping_add(1);
                 left = wait_at(floor, gate, unit, station as u32, left);
                 match compute(floor, &mut seat, job) {
@@ -86,9 +89,9 @@ pub(crate) fn work<K: Books, G: Gate, R: Wait>(
                     Finish::Stale => done.stale = done.stale.wrapping_add(1),
                 }
             }
-            Claim::NotOpen => yield_now(),
-            Claim::Waiting { tag: _, k: _ } => yield_now(),
-            Claim::Moved { tag: _ } => yield_now(),
+            Claim::NotOpen => rest.rest(),
+            Claim::Waiting { tag: _, k: _ } => rest.rest(),
+            Claim::Moved { tag: _ } => rest.rest(),
         }
         if floor.is_closed() {
             break;

@@ -4,11 +4,14 @@ ghost use Rattle.front.specs.Fronts.{IsUnused};
 
 use crate::book::{Books, DispatchShare, Dispatched};
 use crate::floor::Floor;
+use crate::rest::Rest;
 use front::{Front, Recovery, Turn};
 use isa::Predictor;
 use station::FrontSeat;
 use std::sync::Wait;
-use std::thread::yield_now;
+
+// After so many fruitless turns it lets another thread run.
+const PATIENCE: u32 = 8;
 
 // One recovery, and one let where there is no miss. False where there was nothing to do.
 fn step<P: Predictor + Drop, K: Books>(
@@ -59,9 +62,12 @@ pub(crate) fn dispatch<P: Predictor + Drop, K: Books, R: Wait>(
         squashes: 0,
         mends: 0,
     };
+    let mut rest = Rest::after(PATIENCE);
     for _ in 0..floor.turns {
-        if !step(floor, &mut front, &mut done) {
-            yield_now();
+        if step(floor, &mut front, &mut done) {
+            rest.begin_again();
+        } else {
+            rest.rest();
         }
         if floor.is_closed() {
             break;

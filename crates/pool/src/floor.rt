@@ -2,9 +2,9 @@
 use crate::book::{Books, Totals};
 use isa::Program;
 use station::Core;
-use std::sync::Mutex;
-use std::sync::atomic::AtomicBool;
 use std::sync::atomic::Ordering::{Acquire, Release};
+use std::sync::atomic::{AtomicBool, AtomicU64};
+use std::sync::{Mutex, Wait};
 
 /// The unit and what goes with it. Each thread has the same number of turns.
 #[derive(Drop)]
@@ -14,6 +14,8 @@ pub(crate) struct Floor<K: Books> {
     pub book: Mutex<Totals<K>>,
     pub turns: u32,
     closed: AtomicBool,
+    // how often there was something new to see: a snapshot, or the end
+    news: AtomicU64,
 }
 
 impl<K: Books> Floor<K> {
@@ -30,16 +32,34 @@ impl<K: Books> Floor<K> {
             book: Mutex::new(totals),
             turns,
             closed: AtomicBool::new(false),
+            news: AtomicU64::new(0),
         }
     }
 
     /// Tells all threads to end.
     pub(crate) fn close(&self) {
         self.closed.store(true, Release);
+        self.tell();
     }
 
     /// All threads are to end.
     pub(crate) fn is_closed(&self) -> bool {
         self.closed.load(Acquire)
+    }
+
+    /// Wakes those that wait for something new to see.
+    pub(crate) fn tell(&self) {
+        self.news.fetch_add(1, Release);
+        self.news.wake_all();
+    }
+
+    /// How often there was something new to see.
+    pub(crate) fn news(&self) -> u64 {
+        self.news.load(Acquire)
+    }
+
+    /// Waits until there is more that is new than this. It may also return for no reason.
+    pub(crate) fn wait_for_more<R: Wait>(&self, wait: &R, news: u64) {
+        self.news.park(wait, (news & 0xffff_ffff) as u32);
     }
 }

@@ -9,6 +9,7 @@ mod compute;
 mod dispatch;
 mod floor;
 mod gate;
+mod rest;
 mod threads;
 mod watch;
 

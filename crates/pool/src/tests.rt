@@ -1,4 +1,5 @@
 //! Runs in threads.
+mod ends;
 mod gates;
 mod rows;
 
@@ -14,6 +15,7 @@ use std::thread::Threads;
 pub(crate) struct Shape {
     pub ring: u64,
     pub units: u64,
+    pub places: u64,
     pub first_tag: u64,
     pub limit: u64,
     pub turns: u64,
@@ -23,6 +25,7 @@ fn plain(units: u64) -> Shape {
     Shape {
         ring: 16,
         units,
+        places: 1,
         first_tag: 1,
         limit: 1_000_000,
         turns: 0xffff_ffff,
@@ -40,7 +43,7 @@ fn run_listing<R: Threads + Wait + Sync, G: Gate + Sync>(
         shape.ring,
         shape.ring.min(8),
         shape.units,
-        1,
+        shape.places,
         shape.first_tag,
         shape.limit,
         shape.turns,

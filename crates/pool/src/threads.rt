@@ -2,7 +2,7 @@
 ghost use Rattle.std.specs.Prelude.{◌≡◌, ◌+◌, ◌<◌, ◌≤◌, ◌^◌, IfOk};
 ghost use Rattle.front.specs.Fronts.{IsUnused};
 ghost use Rattle.pool.specs.Ledgers.{names_of};
-ghost use Rattle.pool.specs.Runs.{IsRight};
+ghost use Rattle.pool.specs.Runs.{IsRight, IsWithin};
 
 use crate::answer::{Refusal, Run};
 use crate::book::{Blanks, Books, Totals, UnitShare};
@@ -95,7 +95,9 @@ fn start_snappers<
     J: Naming + Send + Sync + 's,
     K: Books + Send + Sync + 's,
     G: Gate + Sync + 's,
+    R: Wait + Sync + 's,
 >(
+    wait: &'s R,
     scope: &Scope<'s, E>,
     floor: &'s Floor<K>,
     gate: &'s G,
@@ -108,13 +110,15 @@ fn start_snappers<
         if let Ok(snapper) = first.another() {
             let job = move ||
                 requires { place < 64 }
-            { watch(floor, gate, place + 1, snapper) };
+            { watch(wait, floor, gate, place + 1, snapper) };
             if scope.spawn(job).is_err() {
                 return false;
             }
         }
     }
-    scope.spawn(move || watch(floor, gate, 1, first)).is_ok()
+    scope
+        .spawn(move || watch(wait, floor, gate, 1, first))
+        .is_ok()
 }
 
 // Starts all threads but the commit thread, which is the caller's own.
@@ -145,7 +149,7 @@ fn start_all<
 {
     start_dispatch(wait, scope, floor, dispatcher)
         && start_units(wait, scope, floor, gate, config.units(), seat, unit_share)
-        && start_snappers(scope, floor, gate, config.places(), first)
+        && start_snappers(wait, scope, floor, gate, config.places(), first)
 }
 
 // Starts the threads, commits, and returns when each thread has ended.
@@ -170,7 +174,7 @@ fn in_threads<
     requires front { IsUnused floor.now.core dispatcher.seat }
     requires seat { seat.core ≡ floor.now.core }
     requires program { floor.now.program ≡ floor.now.core.program }
-    requires committer { committer.old ≡ floor.now.core }
+    requires core { committer.old.back.core ≡ floor.now.core }
     requires parts { (unit_share.claims.parts ≡ config.units) × (unit_share.finishes.parts ≡ config.units) × (unit_share.stale.parts ≡ config.units) }
     requires fresh { (unit_share.claims.amount ≡ 0) × (unit_share.finishes.amount ≡ 0) × (unit_share.stale.amount ≡ 0) }
 {
@@ -181,7 +185,7 @@ fn in_threads<
             requires front { IsUnused floor.now.core dispatcher.seat }
             requires seat { seat.core ≡ floor.now.core }
             requires program { floor.now.program ≡ floor.now.core.program }
-            requires committer { committer.now ≡ floor.now.core }
+            requires core { committer.now.back.core ≡ floor.now.core }
             requires parts { (unit_share.claims.parts ≡ config.units) × (unit_share.finishes.parts ≡ config.units) × (unit_share.stale.parts ≡ config.units) }
             requires fresh { (unit_share.claims.amount ≡ 0) × (unit_share.finishes.amount ≡ 0) × (unit_share.stale.amount ≡ 0) }
         {
@@ -189,18 +193,15 @@ fn in_threads<
                 wait, scope, floor, gate, config, dispatcher, seat, first, unit_share,
             );
             let result = if started {
-                committer.run(wait, floor, config.limit())
+                match committer.run(wait, floor) {
+                    Ok(()) => Ok(()),
+                    Err(_) => Err(Refusal::Memory),
+                }
             } else {
-                Ok(())
+                Err(Refusal::Thread)
             };
             floor.close();
-            if !started {
-                Err(Refusal::Thread)
-            } else if result.is_err() {
-                Err(Refusal::Memory)
-            } else {
-                Ok(())
-            }
+            result
         },
     )
 }
@@ -227,10 +228,12 @@ fn run_parts<
     requires front { IsUnused floor.now.core dispatcher.seat }
     requires seat { seat.core ≡ floor.now.core }
     requires program { floor.now.program ≡ floor.now.core.program }
-    requires committer { committer ≡ floor.now.core }
+    requires core { committer.back.core ≡ floor.now.core }
+    requires limit { config.limit ≡ K.limit }
     requires parts { (unit_share.claims.parts ≡ config.units) × (unit_share.finishes.parts ≡ config.units) × (unit_share.stale.parts ≡ config.units) }
     requires fresh { (unit_share.claims.amount ≡ 0) × (unit_share.finishes.amount ≡ 0) × (unit_share.stale.amount ≡ 0) }
-    ensures { IsRight J.program result }
+    ensures right { IsRight J.program result }
+    ensures within { IsWithin config.limit result }
 {
     let result = in_threads(
         wait,
@@ -269,10 +272,12 @@ fn run_named<
 ) -> Result<Run, Memory>
     requires program { program.now ≡ J.program }
     requires names { names_of blanks ≡ K.names }
+    requires limit { config.now.limit ≡ K.limit }
     requires units { (blanks.claims.parts ≡ K.units) × (blanks.finishes.parts ≡ K.units) × (blanks.stale.parts ≡ K.units) × (K.units ≡ config.now.units) }
     requires dispatch { (blanks.lets.parts ≡ 1) × (blanks.squashes.parts ≡ 1) × (blanks.mends.parts ≡ 1) }
     requires commit { (blanks.loads.parts ≡ 1) × (blanks.retires.parts ≡ 1) }
-    ensures { IfOk result (λ run. IsRight J.program run) }
+    ensures right { IfOk result (λ run. IsRight J.program run) }
+    ensures within { IfOk result (λ run. IsWithin config.now.limit run) }
 {
     let copy = program.copied(alloc)?;
     let (core, front_seat, back_seat, unit_seat) = Core::make(alloc, program, config)?;
@@ -281,7 +286,7 @@ fn run_named<
     )?;
     let (totals, share, unit_share, commit_share) = Totals::<K>::open(blanks);
     let floor = Floor::new(core, copy, totals, config.turns());
-    let committer = Committer::<J, K>::new(back, commit_share);
+    let committer = Committer::<J, K>::new(back, commit_share, config.limit(), config.turns());
     let dispatcher = Dispatcher {
         seat: front_seat,
         predictor,
@@ -302,7 +307,8 @@ pub fn run<'x, P: Predictor + Drop + Send, G: Gate + Sync, R: Threads + Wait + S
     predictor: P,
     gate: &'x G,
 ) -> Run
-    ensures { IsRight program.now result }
+    ensures right { IsRight program.now result }
+    ensures within { IsWithin config.now.limit result }
 {
     let blanks = Blanks::new(config.units() as u64);
     let result = run_named::<Brand, Brand, P, G, R>(

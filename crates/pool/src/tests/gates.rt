@@ -83,19 +83,44 @@ fn each_step_is_counted_once(rt: HostRuntime) -> Result<(), Fail> {
     Ok(())
 }
 
+// Which places were told of a snapshot.
+#[derive(Drop)]
+struct Places {
+    first: AtomicU64,
+    others: AtomicU64,
+}
+
+impl Gate for Places {
+    fn held(&self, _unit: u32, _station: u32) -> bool {
+        false
+    }
+
+    fn seen(&self, place: u32, _snap: &Snap) {
+        if place == 1 {
+            self.first.store(1, SeqCst);
+        } else {
+            self.others.store(1, SeqCst);
+        }
+    }
+}
+
+// A place may be refused while it is free, so that one run may show the first place alone.
 #[test]
-fn spent_tags_end_a_run(rt: HostRuntime) -> Result<(), Fail> {
+fn snapshots_are_taken_at_several_places(rt: HostRuntime) -> Result<(), Fail> {
     let shape = Shape {
-        ring: 2,
-        first_tag: 268_435_454,
-        turns: 1_000,
+        places: 4,
         ..plain(1)
     };
-    let run = run_listing(&rt, rt.alloc(), LISTING, &shape, &Open)?;
-    let Run::LimitReached(end, tally) = run else {
-        return Err(Fail::from("limit"));
-    };
-    assert!(rt; end.n <= 2);
-    assert_eq!(rt; tally.retires, end.n);
-    Ok(())
+    for _ in 0..100 {
+        let gate = Places {
+            first: AtomicU64::new(0),
+            others: AtomicU64::new(0),
+        };
+        run_listing(&rt, rt.alloc(), LISTING, &shape, &gate)?;
+        assert_eq!(rt; gate.first.load(SeqCst), 1);
+        if gate.others.load(SeqCst) == 1 {
+            return Ok(());
+        }
+    }
+    Err(Fail::from("no other place"))
 }

@@ -1,0 +1,94 @@
+//! How runs end.
+use super::{Shape, plain, report, run_listing};
+use crate::{Gate, Open, Run};
+use snapshots::Snap;
+use std::process::Abort;
+use std::test::*;
+
+const LISTING: &[u8] = b"addiu $1,$0,5\naddu $2,$1,$1\nbreak\n";
+
+const LOOP: &[u8] = b"ori $1,$0,300\nL: addiu $1,$1,-1\nbne $1,$0,L\nbreak\n";
+
+// Holds each unit for as long as it asks.
+#[derive(Drop)]
+struct Shut;
+
+impl Gate for Shut {
+    fn held(&self, _unit: u32, _station: u32) -> bool {
+        true
+    }
+
+    fn seen(&self, _place: u32, _snap: &Snap) {}
+}
+
+#[test]
+fn a_limit_of_0_runs_nothing(rt: HostRuntime) -> Result<(), Fail> {
+    let shape = Shape {
+        limit: 0,
+        ..plain(2)
+    };
+    let run = run_listing(&rt, rt.alloc(), LISTING, &shape, &Open)?;
+    let text = report(rt.alloc(), &run)?;
+    assert!(rt; matches!(run, Run::LimitReached(..)));
+    assert!(rt; text.as_bytes() == b"limit\ncount 0\npc 0x00400000\n".as_slice());
+    Ok(())
+}
+
+#[test]
+fn one_turn_runs_one_instruction_at_most(rt: HostRuntime) -> Result<(), Fail> {
+    let shape = Shape {
+        turns: 1,
+        ..plain(2)
+    };
+    let run = run_listing(&rt, rt.alloc(), LISTING, &shape, &Open)?;
+    let text = report(rt.alloc(), &run)?;
+    let Run::LimitReached(end, _) = run else {
+        return Err(Fail::from("limit"));
+    };
+    let expected: &[u8] = if end.n == 0 {
+        b"limit\ncount 0\npc 0x00400000\n"
+    } else {
+        b"limit\ncount 1\npc 0x00400004\nr1 0x00000005\n"
+    };
+    assert!(rt; text.as_bytes() == expected);
+    Ok(())
+}
+
+#[test]
+fn units_that_are_always_held_use_up_their_turns(rt: HostRuntime) -> Result<(), Fail> {
+    let shape = Shape {
+        turns: 1_000,
+        ..plain(2)
+    };
+    let run = run_listing(&rt, rt.alloc(), LISTING, &shape, &Shut)?;
+    let Run::LimitReached(end, _) = run else {
+        return Err(Fail::from("limit"));
+    };
+    assert!(rt; end.n <= 2);
+    Ok(())
+}
+
+#[test]
+fn many_units_end_promptly(rt: HostRuntime) -> Result<(), Fail> {
+    let run = run_listing(&rt, rt.alloc(), LOOP, &plain(64), &Open)?;
+    let text = report(rt.alloc(), &run)?;
+    assert!(rt; text.as_bytes() == b"stop break\ncount 601\npc 0x0040000c\n".as_slice());
+    Ok(())
+}
+
+#[test]
+fn spent_tags_end_a_run(rt: HostRuntime) -> Result<(), Fail> {
+    let shape = Shape {
+        ring: 2,
+        first_tag: 268_435_454,
+        turns: 1_000,
+        ..plain(1)
+    };
+    let run = run_listing(&rt, rt.alloc(), LISTING, &shape, &Open)?;
+    let Run::LimitReached(end, tally) = run else {
+        return Err(Fail::from("limit"));
+    };
+    assert!(rt; end.n <= 2);
+    assert_eq!(rt; tally.retires, end.n);
+    Ok(())
+}
