@@ -1,3 +1,4 @@
+mod Answered
 mod Building
 mod Entered
 mod NotAsked

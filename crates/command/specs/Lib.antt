@@ -3,3 +3,4 @@ pub mod Values
 pub mod Request
 pub mod Statuses
 pub mod Went
+pub mod Answers

@@ -1,16 +1,21 @@
 -- How a run went.
-use Rattle.std.specs.Prelude.{ℕ, Result, Ok, Err, List, [], ◌++◌, codes, Option, IfSome}
+use Rattle.std.specs.Prelude.{◌≡◌, ℕ, Bool, true, false, ⊤, Result, Ok, Err, List, [], ◌++◌, codes, decimal, Option, IfSome}
 use Rattle.devices.specs.Counted.{known_by}
 use Rattle.devices.specs.declared.counted.Counted.{Counted}
+use Rattle.devices.specs.declared.input.InputFault.{InputFault}
+use Rattle.devices.specs.declared.input.InputFault.TheVariants as input
 use Rattle.bench.specs.declared.outcome.Fault.{Fault}
 use Rattle.bench.specs.declared.outcome.Fault.TheVariants as fault
 use Rattle.bench.specs.declared.outcome.Status.{Status}
 use Rattle.bench.specs.declared.outcome.Status.TheVariants as end
+use Rattle.pool.specs.declared.answer.Tally.{Tally as Totals}
+use Rattle.pool.specs.declared.answer.Refusal.{Refusal as PoolRefusal}
+use Rattle.pool.specs.declared.answer.Refusal.TheVariants as pool
 use Rattle.command.specs.declared.went.Went.{Went}
 use Rattle.command.specs.declared.went.Line.{Line}
-use Rattle.command.specs.declared.went.Line.TheVariants.{Nothing, Refused}
+use Rattle.command.specs.declared.went.Line.TheVariants.{Nothing, Tally, Refused}
 use Rattle.command.specs.declared.went.Refusal.{Refusal}
-use Rattle.command.specs.declared.went.Refusal.TheVariants.{Open, Read, Memory, Write}
+use Rattle.command.specs.declared.went.Refusal.TheVariants.{Open, Read, Memory, Thread, Write}
 
 -- the exit status of a run that was written down
 abbrev pub status_number : Status → ℕ
@@ -19,29 +24,64 @@ status_number end.Stopped = 1
 status_number end.TextFault = 2
 status_number end.Limit = 4
 
+-- a run whose text was written whole
+abbrev pub written : Status → Line → Went
+written status line = record { status = status_number status; line = line }
+
 -- a run that was refused
 abbrev pub refused : Refusal → Went
 refused refusal = record { status = 5; line = Refused refusal }
+
+-- what is refused where the input was not read to its end, by the one-thread unit, by the threads
+abbrev pub input_refusal : InputFault → Refusal
+input_refusal input.Read = Read
+input_refusal input.Memory = Memory
 
 abbrev pub refusal_of : Fault → Refusal
 refusal_of fault.Read = Read
 refusal_of fault.Memory = Memory
 refusal_of fault.Write = Write
 
--- what an answer of the one-thread unit comes to
-abbrev pub went_of : Result Status Fault → Went
-went_of (Ok status) = record { status = status_number status; line = Nothing }
-went_of (Err fault) = refused (refusal_of fault)
+abbrev pub pool_refusal : PoolRefusal → Refusal
+pool_refusal pool.Memory = Memory
+pool_refusal pool.Thread = Thread
+
+-- a run, or its refusal
+abbrev pub went_of : Result Went Refusal → Went
+went_of (Ok went) = went
+went_of (Err refusal) = refused refusal
+
+-- the whole text was written
+abbrev pub IsWritten : Line → Type 0
+IsWritten Nothing = ⊤
+IsWritten (Tally totals) = ⊤
+IsWritten (Refused refusal) = ⊥
+
+-- it may be told of a run without threads: none was refused, and none has counted
+abbrev pub IsOfOneThread : Line → Type 0
+IsOfOneThread Nothing = ⊤
+IsOfOneThread (Tally totals) = ⊥
+IsOfOneThread (Refused Thread) = ⊥
+IsOfOneThread (Refused refusal) = ⊤
 
 -- the line for standard error
 abbrev pub refusal_text : Refusal → List ℕ
 refusal_text Open = codes "open"
 refusal_text Read = codes "read"
 refusal_text Memory = codes "memory"
+refusal_text Thread = codes "thread"
 refusal_text Write = codes "write"
+
+abbrev pub tally_text : Totals → List ℕ
+tally_text t =
+    codes "tally lets " ++ (decimal t.lets ++ (codes " claims " ++ (decimal t.claims
+    ++ (codes " finishes " ++ (decimal t.finishes ++ (codes " stale " ++ (decimal t.stale
+    ++ (codes " loads " ++ (decimal t.loads ++ (codes " retires " ++ (decimal t.retires
+    ++ (codes " squashes " ++ (decimal t.squashes ++ (codes " mends " ++ decimal t.mends))))))))))))))
 
 abbrev pub line_text : Line → List ℕ
 line_text Nothing = []
+line_text (Tally totals) = tally_text totals
 line_text (Refused refusal) = codes "ruu: " ++ refusal_text refusal
 
 -- P of the bytes that the reader has left, if there is a reader that tells them

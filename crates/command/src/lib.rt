@@ -3,13 +3,16 @@
 
 mod entries;
 mod no_run;
+mod one_thread;
 mod options;
 mod reading;
 mod refusals;
 mod request;
 mod running;
+mod statuses;
 #[cfg(test)]
 mod tests;
+mod threads;
 mod values;
 mod went;
 

@@ -2,19 +2,29 @@
 mod command_lines;
 mod failing;
 mod runs;
+mod tallies;
 
 use crate::{Went, asked, go};
-use bench::Counted;
+use devices::Counted;
+use pool::Open;
 use std::alloc::Global;
 use std::convert::AsStr;
+use std::sync::Wait;
 use std::test::Fail;
+use std::thread::Threads;
 
 /// How a listing goes under a command line, and what is written.
-fn answer<S: AsStr>(alloc: Global, words: &[S], listing: &[u8]) -> Result<(Went, Vec<u8>), Fail> {
+fn answer<R: Threads + Wait + Sync, S: AsStr>(
+    wait: &R,
+    alloc: Global,
+    words: &[S],
+    listing: &[u8],
+) -> Result<(Went, Vec<u8>), Fail> {
     let Ok(asked) = asked(alloc, words) else {
         return Err(Fail::new("there is no run"));
     };
     let mut writer = Counted::new(Vec::new(alloc));
-    let went = go(alloc, &asked, Some(Counted::new(listing)), &mut writer);
+    let reader = Counted::new(listing);
+    let went = go(wait, alloc, &asked, Some(reader), &mut writer, &Open);
     Ok((went, writer.into_inner()))
 }

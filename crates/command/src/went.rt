@@ -1,7 +1,13 @@
 //! How a run went.
-ghost use Rattle.std.specs.Prelude.{Some};
+ghost use Rattle.std.specs.Prelude.{◌≡◌, Some};
 ghost use Rattle.command.specs.Went.{line_text, refusal_text};
+ghost use Rattle.command.specs.Went.{input_refusal, refusal_of, pool_refusal};
+ghost use Rattle.command.specs.declared.went.Refusal.TheVariants.{Memory, Write};
 
+use bench::Fault;
+use devices::{InputFault, WriteFailed};
+use pool::Tally;
+use std::alloc::AllocError;
 use std::fmt;
 
 /// How a run went: the exit status of the program, and what standard error is told.
@@ -16,6 +22,8 @@ pub struct Went {
 pub enum Line {
     /// Nothing, not even an empty line.
     Nothing,
+    /// What the threads of a run did, once its report was written.
+    Tally(Tally),
     /// There was no run to its end.
     Refused(Refusal),
 }
@@ -29,6 +37,8 @@ pub enum Refusal {
     Read,
     /// Memory ran out.
     Memory,
+    /// A thread could not be started.
+    Thread,
     /// The report could not be written.
     Write,
 }
@@ -39,6 +49,18 @@ impl fmt::Display for Line {
     fn fmt<W: fmt::Write>(&self, f: &mut fmt::Formatter<W>) -> fmt::Result {
         match self {
             Line::Nothing => Ok(()),
+            Line::Tally(tally) => write!(
+                f,
+                "tally lets {} claims {} finishes {} stale {} loads {} retires {} squashes {} mends {}",
+                tally.lets,
+                tally.claims,
+                tally.finishes,
+                tally.stale,
+                tally.loads,
+                tally.retires,
+                tally.squashes,
+                tally.mends,
+            ),
             Line::Refused(refusal) => write!(f, "ruu: {refusal}"),
         }
     }
@@ -52,7 +74,58 @@ impl fmt::Display for Refusal {
             Refusal::Open => "open",
             Refusal::Read => "read",
             Refusal::Memory => "memory",
+            Refusal::Thread => "thread",
             Refusal::Write => "write",
         })
+    }
+}
+
+impl From<InputFault> for Refusal {
+    ghost from_gives = { λ e refusal. refusal ≡ input_refusal e };
+
+    fn from(fault: InputFault) -> Refusal {
+        match fault {
+            InputFault::Read => Refusal::Read,
+            InputFault::Memory => Refusal::Memory,
+        }
+    }
+}
+
+impl From<AllocError> for Refusal {
+    ghost from_gives = { λ _ refusal. refusal ≡ Memory };
+
+    fn from(_error: AllocError) -> Refusal {
+        Refusal::Memory
+    }
+}
+
+impl From<WriteFailed> for Refusal {
+    ghost from_gives = { λ _ refusal. refusal ≡ Write };
+
+    fn from(_failed: WriteFailed) -> Refusal {
+        Refusal::Write
+    }
+}
+
+impl From<Fault> for Refusal {
+    ghost from_gives = { λ e refusal. refusal ≡ refusal_of e };
+
+    fn from(fault: Fault) -> Refusal {
+        match fault {
+            Fault::Read => Refusal::Read,
+            Fault::Memory => Refusal::Memory,
+            Fault::Write => Refusal::Write,
+        }
+    }
+}
+
+impl From<pool::Refusal> for Refusal {
+    ghost from_gives = { λ e refusal. refusal ≡ pool_refusal e };
+
+    fn from(refusal: pool::Refusal) -> Refusal {
+        match refusal {
+            pool::Refusal::Memory => Refusal::Memory,
+            pool::Refusal::Thread => Refusal::Thread,
+        }
     }
 }

@@ -1,6 +1,7 @@
 //! Files that do not open, readers and writers that fail.
 use crate::{Line, Refusal, Went, asked, go};
-use bench::Counted;
+use devices::Counted;
+use pool::{Open, Tally};
 use std::alloc::Global;
 use std::io::{self, ErrorKind, Read, Write};
 use std::test::Fail;
@@ -15,7 +16,12 @@ const FAULTY: &[u8] = b"nop\nnop\nadd $1,$2\n";
 
 const FAULT: &[u8] = b"fault line 3 BadOperands\n";
 
-const WORDS: [&str; 3] = ["ruu", "run", "double.s"];
+/// With threads, and without.
+const FORMS: [&[&str]; 3] = [
+    &["ruu", "run", "double.s"],
+    &["ruu", "run", "double.s", "--units", "4"],
+    &["ruu", "run", "double.s", "--alone"],
+];
 
 /// Gives the first bytes of the listing, one a call, and then fails.
 #[derive(Drop)]
@@ -84,28 +90,14 @@ fn refused(refusal: Refusal) -> Went {
 
 #[test]
 fn a_file_that_does_not_open_is_blamed(rt: HostRuntime) -> Result<(), Fail> {
-    let Ok(asked) = asked(rt.alloc(), WORDS.as_slice()) else {
-        return Err(Fail::new("there is no run"));
-    };
-    let reader: Option<Counted<FailingReader>> = None;
-    let mut writer = Counted::new(FailingWriter::new(rt.alloc(), 0, false));
-    let went = go(rt.alloc(), &asked, reader, &mut writer);
-    assert_eq!(rt; went, refused(Refusal::Open));
-    assert_eq!(rt; writer.failures(), 0);
-    assert!(rt; writer.into_inner().taken.is_empty());
-    Ok(())
-}
-
-#[test]
-fn a_reader_that_fails_is_blamed_and_nothing_is_written(rt: HostRuntime) -> Result<(), Fail> {
-    let Ok(asked) = asked(rt.alloc(), WORDS.as_slice()) else {
-        return Err(Fail::new("there is no run"));
-    };
-    for most in [0, 1, 20, LISTING.len()] {
-        let reader = Counted::new(FailingReader { given: 0, most });
+    for form in FORMS {
+        let Ok(asked) = asked(rt.alloc(), form) else {
+            return Err(Fail::new("there is no run"));
+        };
+        let reader: Option<Counted<FailingReader>> = None;
         let mut writer = Counted::new(FailingWriter::new(rt.alloc(), 0, false));
-        let went = go(rt.alloc(), &asked, Some(reader), &mut writer);
-        assert_eq!(rt; went, refused(Refusal::Read), "after {most} bytes");
+        let went = go(&rt, rt.alloc(), &asked, reader, &mut writer, &Open);
+        assert_eq!(rt; went, refused(Refusal::Open));
         assert_eq!(rt; writer.failures(), 0);
         assert!(rt; writer.into_inner().taken.is_empty());
     }
@@ -113,19 +105,39 @@ fn a_reader_that_fails_is_blamed_and_nothing_is_written(rt: HostRuntime) -> Resu
 }
 
 #[test]
+fn a_reader_that_fails_is_blamed_and_nothing_is_written(rt: HostRuntime) -> Result<(), Fail> {
+    for form in FORMS {
+        let Ok(asked) = asked(rt.alloc(), form) else {
+            return Err(Fail::new("there is no run"));
+        };
+        for most in 0..=LISTING.len() {
+            let reader = Counted::new(FailingReader { given: 0, most });
+            let mut writer = Counted::new(FailingWriter::new(rt.alloc(), 0, false));
+            let went = go(&rt, rt.alloc(), &asked, Some(reader), &mut writer, &Open);
+            assert_eq!(rt; went, refused(Refusal::Read), "after {most} bytes");
+            assert_eq!(rt; writer.failures(), 0);
+            assert!(rt; writer.into_inner().taken.is_empty());
+        }
+    }
+    Ok(())
+}
+
+#[test]
 fn a_writer_that_fails_is_blamed_and_keeps_a_beginning(rt: HostRuntime) -> Result<(), Fail> {
-    let Ok(asked) = asked(rt.alloc(), WORDS.as_slice()) else {
-        return Err(Fail::new("there is no run"));
-    };
-    for (listing, text) in [(LISTING, REPORT), (FAULTY, FAULT)] {
-        for is_silent in [false, true] {
-            for room in 0..text.len() {
-                let reader = Counted::new(listing);
-                let mut writer = Counted::new(FailingWriter::new(rt.alloc(), room, is_silent));
-                let went = go(rt.alloc(), &asked, Some(reader), &mut writer);
-                assert_eq!(rt; went, refused(Refusal::Write), "after {room} bytes");
-                assert_eq!(rt; writer.failures(), 1);
-                assert_eq!(rt; writer.into_inner().taken.as_slice(), &text[..room]);
+    for form in FORMS {
+        let Ok(asked) = asked(rt.alloc(), form) else {
+            return Err(Fail::new("there is no run"));
+        };
+        for (listing, text) in [(LISTING, REPORT), (FAULTY, FAULT)] {
+            for is_silent in [false, true] {
+                for room in 0..text.len() {
+                    let reader = Counted::new(listing);
+                    let mut writer = Counted::new(FailingWriter::new(rt.alloc(), room, is_silent));
+                    let went = go(&rt, rt.alloc(), &asked, Some(reader), &mut writer, &Open);
+                    assert_eq!(rt; went, refused(Refusal::Write), "after {room} bytes");
+                    assert_eq!(rt; writer.failures(), 1);
+                    assert_eq!(rt; writer.into_inner().taken.as_slice(), &text[..room]);
+                }
             }
         }
     }
@@ -134,28 +146,47 @@ fn a_writer_that_fails_is_blamed_and_keeps_a_beginning(rt: HostRuntime) -> Resul
 
 #[test]
 fn a_writer_with_just_enough_room_gets_the_whole_text(rt: HostRuntime) -> Result<(), Fail> {
-    let Ok(asked) = asked(rt.alloc(), WORDS.as_slice()) else {
-        return Err(Fail::new("there is no run"));
-    };
-    for (listing, text, status) in [(LISTING, REPORT, 0), (FAULTY, FAULT, 2)] {
-        let reader = Counted::new(listing);
-        let mut writer = Counted::new(FailingWriter::new(rt.alloc(), text.len(), false));
-        let went = go(rt.alloc(), &asked, Some(reader), &mut writer);
-        assert_eq!(rt; went.status, status);
-        assert_eq!(rt; went.line, Line::Nothing);
-        assert_eq!(rt; writer.failures(), 0);
-        assert_eq!(rt; writer.into_inner().taken.as_slice(), text);
+    for form in FORMS {
+        let Ok(asked) = asked(rt.alloc(), form) else {
+            return Err(Fail::new("there is no run"));
+        };
+        for (listing, text, status) in [(LISTING, REPORT, 0), (FAULTY, FAULT, 2)] {
+            let reader = Counted::new(listing);
+            let mut writer = Counted::new(FailingWriter::new(rt.alloc(), text.len(), false));
+            let went = go(&rt, rt.alloc(), &asked, Some(reader), &mut writer, &Open);
+            assert_eq!(rt; went.status, status);
+            assert!(rt; !matches!(went.line, Line::Refused(_)));
+            assert_eq!(rt; writer.failures(), 0);
+            assert_eq!(rt; writer.into_inner().taken.as_slice(), text);
+        }
     }
     Ok(())
 }
 
+const TALLY: Tally = Tally {
+    lets: 1,
+    claims: 20,
+    finishes: 300,
+    stale: 4,
+    loads: 50,
+    retires: 600,
+    squashes: 7,
+    mends: 18_446_744_073_709_551_615,
+};
+
 #[test]
-fn a_line_names_what_was_refused(rt: HostRuntime) -> Result<(), Fail> {
-    let lines: [(Line, &str); 5] = [
+fn a_line_names_what_was_refused_or_done(rt: HostRuntime) -> Result<(), Fail> {
+    let lines: [(Line, &str); 7] = [
         (Line::Nothing, ""),
+        (
+            Line::Tally(TALLY),
+            "tally lets 1 claims 20 finishes 300 stale 4 loads 50 retires 600 squashes 7 \
+             mends 18446744073709551615",
+        ),
         (Line::Refused(Refusal::Open), "ruu: open"),
         (Line::Refused(Refusal::Read), "ruu: read"),
         (Line::Refused(Refusal::Memory), "ruu: memory"),
+        (Line::Refused(Refusal::Thread), "ruu: thread"),
         (Line::Refused(Refusal::Write), "ruu: write"),
     ];
     for (line, text) in lines {

@@ -3,7 +3,9 @@ use super::answer;
 use crate::Line;
 use std::alloc::{AllocError, Global};
 use std::process::Abort;
+use std::sync::Wait;
 use std::test::Fail;
+use std::thread::Threads;
 
 /// What a listing shows, the options, the listing, its report and the status.
 type Row = (
@@ -36,14 +38,28 @@ fn words<'a>(
     Ok(words)
 }
 
-fn check(rt: &impl Abort, alloc: Global, rows: &[Row]) -> Result<(), Fail> {
+/// The line goes with the form: a tally where threads have run the listing.
+fn is_line(line: Line, form: &[&str], status: u8) -> bool {
+    let is_alone = form.iter().any(|word| *word == "--alone");
+    match line {
+        Line::Nothing => is_alone || status == 2,
+        Line::Tally(_) => !is_alone && status != 2,
+        Line::Refused(_) => false,
+    }
+}
+
+fn check<R: Threads + Wait + Sync + Abort>(
+    rt: &R,
+    alloc: Global,
+    rows: &[Row],
+) -> Result<(), Fail> {
     for (shown, options, listing, report, status) in rows {
         for form in FORMS {
             let words = words(alloc, options, form)?;
-            let (went, text) = answer(alloc, words.as_slice(), listing.as_bytes())?;
-            assert!(rt; text.as_slice() == report.as_bytes(), "{shown} {form:?}");
-            assert!(rt; went.status == *status, "{shown} {form:?}");
-            assert!(rt; went.line == Line::Nothing, "{shown} {form:?}");
+            let (went, text) = answer(rt, alloc, words.as_slice(), listing.as_bytes())?;
+            assert!(*rt; text.as_slice() == report.as_bytes(), "{shown} {form:?}");
+            assert!(*rt; went.status == *status, "{shown} {form:?}");
+            assert!(*rt; is_line(went.line, form, *status), "{shown} {form:?}");
         }
     }
     Ok(())

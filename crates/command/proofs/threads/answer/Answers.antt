@@ -1,0 +1,12 @@
+use Rattle.std.proofs.Common.{sym, string_bytes}
+use Rattle.isa.specs.Listing.{listing}
+use Rattle.command.proofs.Answered.{pool_answers}
+use Rattle.command.proofs.threads.answer.Goals as goal
+
+pub returns-in_ok-text-in-Ok-clause-ok : goal.returns-in_ok-text-in-Ok-clause-ok
+returns-in_ok-text-in-Ok-clause-ok g c =
+    let ended = c.in_ok-end-in-Ok in
+    pool_answers c.args.asked.now (listing c.args.bytes.now) c.in-Ok.program c.predicted-run.result ended.end ended.tally
+    c.status_of.result (string_bytes c.in_ok-text-in-Ok.text) c.written.result
+    c.requires.threads c.in-Ok.ensures.ok c.predicted-run.ensures (sym ended.ensures) c.status_of.ensures
+    c.in_ok-text-in-Ok.ensures c.written.ensures

@@ -1,0 +1,62 @@
+-- What is told of a listing.
+use Rattle.std.specs.Prelude.{◌≡◌, ℕ, Bool, true, false, Result, Ok, Err, List, Option, Some}
+use Rattle.isa.specs.declared.end.End.{End}
+use Rattle.isa.specs.declared.end.Ending.{Ending}
+use Rattle.isa.specs.declared.listing.fault.FaultKind.{FaultKind}
+use Rattle.isa.specs.Listing.{listing}
+use Rattle.isa.specs.Programs.{Program}
+use Rattle.isa.specs.Report.{fault_line}
+use Rattle.inorder.specs.Machine.{State}
+use Rattle.inorder.specs.Runs.{after, end_of}
+use Rattle.back.specs.Ends.{StopsThere}
+use Rattle.bench.specs.Answer.{ending_status, report_of_run}
+use Rattle.bench.specs.declared.outcome.Status.TheVariants.{TextFault}
+use Rattle.pool.specs.declared.answer.Run.{Run}
+use Rattle.pool.specs.declared.answer.Run.TheVariants as run
+use Rattle.pool.specs.declared.answer.Tally.{Tally as Totals}
+use Rattle.command.specs.declared.request.Asked.{Asked}
+use Rattle.command.specs.declared.went.Line.{Line}
+use Rattle.command.specs.declared.went.Line.TheVariants.{Nothing, Tally, Refused}
+use Rattle.command.specs.declared.went.Refusal.{Refusal}
+use Rattle.command.specs.declared.went.Went.{Went}
+use Rattle.command.specs.Went.{pool_refusal, status_number, written}
+
+-- how and where a run ends: on one thread as the machine in order does, which may make so many
+-- steps; on several threads behind some steps of that machine, and if by a stop, by its next step
+abbrev pub IsEnd : (is_alone : Bool) → (limit : ℕ) → Program → Ending → State → Type 0
+IsEnd true limit P ending state = ◌≡◌ {A = Ending × State} (ending, state) (end_of P limit)
+IsEnd false limit P ending state =
+    (after P state.count ≡ Some state) × StopsThere P state.count ending
+
+-- the line that comes with a report of so many instructions
+abbrev pub IsLineWith : (is_alone : Bool) → (count : ℕ) → Line → Type 0
+IsLineWith true count line = line ≡ Nothing
+IsLineWith false count Nothing = ⊥
+IsLineWith false count (Tally totals) = totals.retires ≡ count
+IsLineWith false count (Refused refusal) = ⊥
+
+-- the text is the report of an end that the program may have, with its status and line
+pub record IsReport (asked : Asked) (P : Program) (text : List ℕ) (went : Went) : Type 0 where
+  pub ending : Ending
+  pub state : State
+  pub is : IsEnd asked.alone asked.config.limit P ending state
+  pub report : text ≡ report_of_run (ending, state)
+  pub status : went.status ≡ status_number (ending_status ending)
+  pub line : IsLineWith asked.alone state.count went.line
+
+-- what is told of the program of a listing, or of its fault
+abbrev pub IsAnswer : Asked → Result Program (ℕ × FaultKind) → List ℕ → Went → Type 0
+IsAnswer asked (Ok P) text went = IsReport asked P text went
+IsAnswer asked (Err f) text went = (text ≡ fault_line f.0 f.1) × (went ≡ written TextFault Nothing)
+
+-- P of the text of some answer to the bytes of a listing
+pub record HasAnswer (asked : Asked) (bytes : List ℕ) (went : Went) (P : List ℕ → Type 0) : Type 0 where
+  pub text : List ℕ
+  pub is : IsAnswer asked (listing bytes) text went
+  pub holds : P text
+
+-- the end and the tally of a run on several threads, or what it could not have
+abbrev pub ended_of : Run → Result (End × Totals) Refusal
+ended_of (run.Ended end totals) = Ok (end, totals)
+ended_of (run.LimitReached end totals) = Ok (end, totals)
+ended_of (run.Refused why) = Err (pool_refusal why)

@@ -1,0 +1,109 @@
+//! A run on several threads.
+ghost use Rattle.std.specs.Prelude.{◌≡◌, ◌≢◌, ◌+◌, ◌-◌, ◌^◌, ◌<◌, IfSome, IfOk, IfErr, OnOk, false, string_bytes};
+ghost use Rattle.isa.specs.Listing.{listing};
+ghost use Rattle.devices.specs.Counted.{failures_of, known_by, Gives, GivesPart};
+ghost use Rattle.pool.specs.Runs.{IsRight};
+ghost use Rattle.command.specs.Answers.{HasAnswer, IsAnswer, ended_of};
+ghost use Rattle.command.specs.Went.{IsWritten};
+ghost use Rattle.command.specs.declared.went.Went.{Went};
+
+use crate::statuses::{status_of, written};
+use crate::{Asked, BranchPredictor, Line, Refusal, Went};
+use bench::Status;
+use devices::{Counted, read_up_to, write_whole};
+use isa::{Bimod, End, FaultKind, NotTaken, Program, Taken, fault_text, parse, report_text};
+use pool::{Gate, Run, Tally};
+use std::alloc::Global;
+use std::io::{Read, Write};
+use std::sync::Wait;
+use std::thread::Threads;
+
+/// The most bytes that are taken: one more than a listing may have.
+const MOST_TAKEN: usize = 4_194_305;
+
+/// Reads the listing, runs it on threads and writes its report.
+pub(crate) fn run<T: Threads + Wait + Sync, R: Read, W: Write, G: Gate + Sync>(
+    wait: &T,
+    alloc: Global,
+    asked: &Asked<'_>,
+    reader: &mut Counted<R>,
+    writer: &mut Counted<W>,
+    gate: &G,
+) -> Result<Went, Refusal>
+    requires reader_room { failures_of reader.old < 2 ^ 64 - 1 }
+    requires writer_room { failures_of writer.old < 2 ^ 64 - 1 }
+    requires threads { asked.now.alone ≡ false }
+    ensures ok { IfOk result (λ went. IfSome (known_by R.remaining reader.old) (λ input.
+        HasAnswer asked.now input went (Gives W.contents writer.old writer.new))) }
+    ensures line { IfOk result (λ went. IsWritten went.line) }
+    ensures quiet { OnOk result (failures_of writer.new ≡ failures_of writer.old) }
+    ensures opened { IfErr result (λ refusal. refusal ≢ Refusal.Open) }
+    ensures write { IfErr result (λ refusal. refusal ≡ Refusal.Write →
+        failures_of writer.new ≡ failures_of writer.old + 1) }
+    ensures part { IfErr result (λ refusal. refusal ≡ Refusal.Write →
+        IfSome (known_by R.remaining reader.old) (λ input. (went : Went) ×
+        HasAnswer asked.now input went (GivesPart W.contents writer.old writer.new))) }
+    ensures silent { IfErr result (λ refusal. refusal ≢ Refusal.Write → writer.new ≡ writer.old) }
+{
+    let listing = read_up_to(alloc, reader, MOST_TAKEN)?;
+    let (went, text) = answer(wait, alloc, asked, listing.as_slice(), gate)?;
+    write_whole(writer, text.as_str().as_bytes())?;
+    Ok(went)
+}
+
+// What is told of a listing, and what is written for it.
+fn answer<T: Threads + Wait + Sync, G: Gate + Sync>(
+    wait: &T,
+    alloc: Global,
+    asked: &Asked<'_>,
+    bytes: &[u8],
+    gate: &G,
+) -> Result<(Went, String), Refusal>
+    requires threads { asked.now.alone ≡ false }
+    ensures ok { IfOk result (λ answer.
+        IsAnswer asked.now (listing bytes.now) (string_bytes answer.1) answer.0) }
+    ensures line { IfOk result (λ answer. IsWritten answer.0.line) }
+    ensures opened { IfErr result (λ refusal. refusal ≢ Refusal.Open) }
+    ensures unwritten { IfErr result (λ refusal. refusal ≢ Refusal.Write) }
+{
+    match parse(alloc, bytes) {
+        Ok(program) => {
+            let run = predicted(wait, alloc, asked, &program, gate);
+            let (end, tally) = ended(run)?;
+            let text = report_text(alloc, &end)?;
+            Ok((written(status_of(end.outcome), Line::Tally(tally)), text))
+        },
+        Err(fault) if fault.kind == FaultKind::Memory => Err(Refusal::Memory),
+        Err(fault) => {
+            let text = fault_text(alloc, &fault)?;
+            Ok((written(Status::TextFault, Line::Nothing), text))
+        },
+    }
+}
+
+// With the predictor that is asked for.
+fn predicted<T: Threads + Wait + Sync, G: Gate + Sync>(
+    wait: &T,
+    alloc: Global,
+    asked: &Asked<'_>,
+    program: &Program,
+    gate: &G,
+) -> Run
+    ensures { IsRight program.now result }
+{
+    let config = &asked.config;
+    match asked.predictor {
+        BranchPredictor::NotTaken => pool::run(wait, alloc, program, config, NotTaken, gate),
+        BranchPredictor::Taken => pool::run(wait, alloc, program, config, Taken, gate),
+        BranchPredictor::Bimod => pool::run(wait, alloc, program, config, Bimod::new(), gate),
+    }
+}
+
+fn ended(run: Run) -> Result<(End, Tally), Refusal>
+    ensures { result ≡ ended_of run }
+{
+    match run {
+        Run::Ended(end, tally) | Run::LimitReached(end, tally) => Ok((end, tally)),
+        Run::Refused(refusal) => Err(Refusal::from(refusal)),
+    }
+}
