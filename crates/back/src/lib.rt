@@ -15,3 +15,6 @@ mod show;
 pub use answers::{Commit, Refresh};
 pub use backs::Back;
 pub use snapshots::{Gone, Mark, Naming, NoPlace, Snap, Snapper};
+
+#[cfg(test)]
+mod tests;

@@ -13,6 +13,8 @@ use isa::{Config, Program, outcome, parse};
 use std::alloc::Global;
 use std::test::Fail;
 
+mod memory;
+
 fn make(alloc: Global, listing: &[u8]) -> Result<(Program, Config), Fail> {
     let program = parse(alloc, listing)?;
     let config = Config::new(4, 2, 1, 1, 1, 1_000, 1_000)?;
