@@ -1,6 +1,7 @@
 #!/usr/bin/env bash
 # Prints how the parser, the in-order machine and the one-thread unit compare with plain C programs of the same work,
-# all measured in this run. The unit has a ring of 16 stations and the predictor bimod.
+# and how the unit shared by threads compares with the one-thread unit, all measured in this run. The unit has a ring
+# of 16 stations and the predictor bimod. The threads run on the processors that this script may use (taskset).
 set -eu
 cd "$(dirname "$0")/.."
 work=$(mktemp -d)
@@ -43,4 +44,16 @@ for width in 40 12; do
   rm -f "$work/here" "$work/yardstick"
   measure "$work/listing.s" "$work/split" "$work/listing.s"
   ratio "parser, $(grep -c : "$work/listing.s") labels" 2
+done
+
+# 300,000 instructions by threads, and by the one-thread unit in the same process, five times; the best of each
+for program in loop mixed; do
+  for units in 1 2 4 64; do
+    rm -f "$work/here"
+    for _ in 1 2 3 4 5; do
+      crates/speed/out/speed $units 300000 < "benchmarks/$program.s" 2>> "$work/here"
+    done
+    awk -v name="threads, $program, $units units" -v alone="$(least 3 here)" -v pool="$(least 4 here)" \
+      'BEGIN { printf "%-28s %9.0f instructions/s   one thread %9.0f   ratio %.3f\n", name, 3e11 / pool, 3e11 / alone, alone / pool }'
+  done
 done

@@ -9,6 +9,10 @@ const LISTING: &[u8] = b"addiu $1,$0,5\naddu $2,$1,$1\nbreak\n";
 
 const LOOP: &[u8] = b"ori $1,$0,300\nL: addiu $1,$1,-1\nbne $1,$0,L\nbreak\n";
 
+const NOTHING: &str = "limit\ncount 0\npc 0x00400000\n";
+
+const ONE: &str = "limit\ncount 1\npc 0x00400004\nr1 0x00000005\n";
+
 // Holds each unit for as long as it asks.
 #[derive(Drop)]
 struct Shut;
@@ -30,7 +34,7 @@ fn a_limit_of_0_runs_nothing(rt: HostRuntime) -> Result<(), Fail> {
     let run = run_listing(&rt, rt.alloc(), LISTING, &shape, &Open)?;
     let text = report(rt.alloc(), &run)?;
     assert!(rt; matches!(run, Run::LimitReached(..)));
-    assert!(rt; text.as_bytes() == b"limit\ncount 0\npc 0x00400000\n".as_slice());
+    assert!(rt; text.as_bytes() == NOTHING.as_bytes());
     Ok(())
 }
 
@@ -42,15 +46,10 @@ fn one_turn_runs_one_instruction_at_most(rt: HostRuntime) -> Result<(), Fail> {
     };
     let run = run_listing(&rt, rt.alloc(), LISTING, &shape, &Open)?;
     let text = report(rt.alloc(), &run)?;
-    let Run::LimitReached(end, _) = run else {
-        return Err(Fail::from("limit"));
-    };
-    let expected: &[u8] = if end.n == 0 {
-        b"limit\ncount 0\npc 0x00400000\n"
-    } else {
-        b"limit\ncount 1\npc 0x00400004\nr1 0x00000005\n"
-    };
-    assert!(rt; text.as_bytes() == expected);
+    let none = text.as_bytes() == NOTHING.as_bytes();
+    let one = text.as_bytes() == ONE.as_bytes();
+    assert!(rt; matches!(run, Run::LimitReached(..)));
+    assert!(rt; none || one);
     Ok(())
 }
 

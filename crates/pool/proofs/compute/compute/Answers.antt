@@ -1,4 +1,4 @@
-use Rattle.std.proofs.Common.{◌≡◌, ◌<◌, length, subst, sym, ap}
+use Rattle.std.proofs.Common.{◌<◌, length, subst, sym}
 use Rattle.isa.specs.Programs.{Program}
 use Rattle.pool.proofs.Inside.{inside}
 use Rattle.pool.proofs.compute.compute.Goals as goal

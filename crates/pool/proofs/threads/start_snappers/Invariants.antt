@@ -1,4 +1,3 @@
-use Rattle.std.specs.Prelude.{◌≡◌}
 use Rattle.pool.proofs.threads.start_snappers.Given as goal
 
 abbrev pub invariant-loop-place : goal.invariant-loop-place
