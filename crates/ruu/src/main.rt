@@ -1,12 +1,15 @@
 //! The program `ruu`: its words, its file and its standard streams.
 #![tactic(auto)]
 
-use bench::Counted;
 use command::{Asked, Line, NoRun, asked, go, status};
+use devices::Counted;
+use pool::Open;
 use std::env;
 use std::fs::File;
 use std::io::ErrorKind;
 use std::process::ExitCode;
+use std::sync::Wait;
+use std::thread::Threads;
 
 fn main(rt: HostRuntime) -> ExitCode {
     let words = match words(&rt) {
@@ -14,7 +17,7 @@ fn main(rt: HostRuntime) -> ExitCode {
         Err(no_run) => return refuse(&rt, &no_run),
     };
     match asked(rt.alloc(), words.as_slice()) {
-        Ok(asked) => run(&rt, &asked),
+        Ok(asked) => run(&rt, &rt, &asked),
         Err(no_run) => refuse(&rt, &no_run),
     }
 }
@@ -40,10 +43,10 @@ fn refuse(rt: &HostRuntime, no_run: &NoRun) -> ExitCode {
     ExitCode::from(status(no_run))
 }
 
-fn run(rt: &HostRuntime, asked: &Asked<'_>) -> ExitCode {
+fn run<T: Threads + Wait + Sync>(rt: &HostRuntime, wait: &T, asked: &Asked<'_>) -> ExitCode {
     let reader = File::open(rt, asked.file).ok().map(Counted::new);
     let mut writer = Counted::new(rt.stdout());
-    let went = go(rt.alloc(), asked, reader, &mut writer);
+    let went = go(wait, rt.alloc(), asked, reader, &mut writer, &Open);
     if went.line != Line::Nothing {
         let _ = eprintln!(rt; "{}", went.line);
     }
