@@ -5,7 +5,7 @@ use Rattle.isa.specs.Instruction.{width}
 use Rattle.isa.specs.Operations.{loaded}
 use Rattle.isa.specs.Programs.{Program}
 use Rattle.lsq.specs.Bytes.{little_endian}
-use Rattle.lsq.specs.declared.answer.Answer.TheVariants.{Blocked, Forward}
+use Rattle.lsq.specs.declared.answer.Answer.TheVariants.{Forward}
 use Rattle.lsq.specs.declared.entry.Entry.{Entry as QueueEntry}
 use Rattle.lsq.specs.Entries.{bytes}
 use Rattle.lsq.specs.LoadRule.{answer, forwarded, overlaps, taken_from}

@@ -1,21 +1,19 @@
 -- What the calls of a back answer, from what its seat was answered.
-use Rattle.std.proofs.Common.{◌≡◌, ◌≤◌, ◌<◌, ◌%◌, ◌+◌, ℕ, suc, length, List, [], ◌∷◌, ◌++◌, Option, Some, None, refl, sym, ap, ◌∙◌, subst, rules, append_assoc, arith, zero-le}
-use Rattle.std.specs.Prelude.{IsSome, is_some}
+use Rattle.std.proofs.Common.{◌≡◌, ◌≤◌, ◌<◌, ◌%◌, ◌+◌, ℕ, suc, length, [], ◌∷◌, ◌++◌, Option, Some, None, refl, sym, ap, ◌∙◌, subst, rules, append_assoc, arith, zero-le}
+use Rattle.std.specs.Prelude.{IsSome}
 use Rattle.isa.specs.Programs.{Program, instr_at}
 use Rattle.isa.specs.declared.instr.Instr.{Instr}
 use Rattle.isa.specs.declared.stop.Stop.{Stop}
 use Rattle.isa.specs.declared.stop.Stop.TheVariants.{BadPc}
-use Rattle.inorder.specs.declared.history.Entry.{Entry}
 use Rattle.inorder.specs.declared.history.Event.{Event}
 use Rattle.inorder.specs.declared.history.Event.TheVariants.{Does, Refuses}
 use Rattle.inorder.specs.declared.history.Refusal.TheVariants.{Over}
 use Rattle.inorder.specs.Callers.{GoesOn}
-use Rattle.inorder.specs.Committed.{commits, committed}
 use Rattle.inorder.specs.History.{Adds, IsLegal, back, entry, unit_of}
 use Rattle.inorder.specs.Machine.{State, start}
 use Rattle.inorder.specs.Replies.{IsOver}
 use Rattle.inorder.specs.Runs.{stop}
-use Rattle.inorder.specs.Unit.{Sizes, UpdateUnit, at}
+use Rattle.inorder.specs.Unit.{UpdateUnit, at}
 use Rattle.inorder.specs.declared.history.Act.TheVariants.{Retire}
 use Rattle.inorder.specs.declared.history.Step.TheVariants.{On}
 use Rattle.inorder.proofs.SettledMemory.{length_memory}
@@ -23,15 +21,15 @@ use Rattle.std.proofs.Math.Nat.{mod-lt}
 use Rattle.inorder.proofs.Histories.{legal_before}
 use Rattle.snapshots.specs.declared.snap.Snap.{Snap}
 use Rattle.station.specs.Retirement.{EndsAs, IsRetired}
-use Rattle.station.specs.Seats.{Caller, IsSame as IsSameSeat}
+use Rattle.station.specs.Seats.{Caller}
 use Rattle.station.specs.declared.answers.Last.{Last}
 use Rattle.station.specs.declared.answers.Last.TheVariants.{Done, Stop as WasStop, Stored}
 use Rattle.snapshots.specs.Snapshots.{opening}
 use Rattle.back.specs.Backs.{HasRetiredNothing, IsNew, IsSame, back_of, state_of, unit_in}
-use Rattle.back.specs.Commits.{HasCommitted, HasEnded, HowEnded, IsCommitted, IsRetiredStop, WasRefused, WentOn}
+use Rattle.back.specs.Commits.{HasCommitted, HasEnded, WasRefused, WentOn}
 use Rattle.back.specs.Commits.HowEnded.{Before, Nowhere, Stops}
-use Rattle.back.specs.Kept.{EndIs, HasStopped, IsKept, KeepsUnit}
-use Rattle.back.specs.Kept.HasStopped.{ByStop, Nowhere as StopsNowhere}
+use Rattle.back.specs.Kept.{IsKept, KeepsUnit}
+use Rattle.back.specs.Kept.HasStopped.{Nowhere as StopsNowhere}
 use Rattle.back.specs.Retirement.{IsInside, stop_in, with_last}
 use Rattle.back.proofs.OwnEntries.{added_legal, added_own, split_own}
 use Rattle.back.proofs.Retiring.{HasRetired, commits_still, has_retired}

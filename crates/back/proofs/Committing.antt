@@ -9,7 +9,7 @@ use Rattle.inorder.specs.Committed.{commits, commits_by, with_stored, with_tenan
 use Rattle.inorder.specs.Machine.{State, store_bytes, write}
 use Rattle.inorder.specs.Memory.{stored, stored_by}
 use Rattle.inorder.specs.Steps.{made_at_end, retired}
-use Rattle.inorder.specs.Tenants.{Addr, Done, Retired, Stopped, Tenant, computed, computed_next, destination_of, instr, kind_of, next_by}
+use Rattle.inorder.specs.Tenants.{Addr, Done, Retired, Tenant, computed, computed_next, destination_of, instr, kind_of, next_by}
 use Rattle.inorder.proofs.InOrderStep.{address_in, reached_in, stored_done}
 use Rattle.inorder.proofs.Sound.{DoneIs, FateIs}
 use Rattle.station.specs.declared.answers.Last.{Last}

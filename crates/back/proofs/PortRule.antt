@@ -1,16 +1,12 @@
 -- What was seen of the older stores answers a load.
-use Rattle.std.proofs.Common.{◌≡◌, ℕ, ◌+◌, ◌%◌, ◌<◌, ◌≤◌, Bool, true, false, ◌&&◌, List, length, Option, Some, None, refl, sym, ap, ◌∙◌, subst, inl, inr, arith, true≢false, unwrap_or, zero-le}
+use Rattle.std.proofs.Common.{◌≡◌, ℕ, ◌+◌, ◌%◌, ◌<◌, ◌≤◌, Bool, true, false, ◌&&◌, List, length, Some, None, refl, sym, ap, ◌∙◌, subst, inl, inr, arith, true≢false, unwrap_or, zero-le}
 use Rattle.std.proofs.lemmas.Bool.{cases_lt}
 use Rattle.std.specs.Prelude.{slice_index, is_none}
-use Rattle.isa.specs.Instruction.{kind, width}
+use Rattle.isa.specs.Instruction.{width}
 use Rattle.isa.specs.Operations.{loaded}
 use Rattle.isa.specs.Programs.{Program}
-use Rattle.isa.specs.declared.op.Kind.{Kind}
-use Rattle.isa.specs.declared.op.Kind.TheVariants.{Loads, Stores}
-use Rattle.isa.specs.declared.stop.Outcome.{Outcome}
 use Rattle.lsq.specs.Bytes.{little_endian}
-use Rattle.lsq.specs.declared.answer.Answer.{Answer}
-use Rattle.lsq.specs.declared.answer.Answer.TheVariants.{Blocked, Forward, Memory}
+use Rattle.lsq.specs.declared.answer.Answer.TheVariants.{Blocked}
 use Rattle.lsq.specs.declared.entry.Entry.{Entry}
 use Rattle.lsq.specs.Entries.{bytes}
 use Rattle.lsq.specs.LoadRule.{answer, lacks_address, overlaps, taken_from, youngest}
@@ -21,18 +17,18 @@ use Rattle.inorder.specs.Loads.{access_width, address_by, content_by, entry_of, 
 use Rattle.inorder.specs.Memory.{raw, raw_at}
 use Rattle.inorder.specs.Replies.{Has}
 use Rattle.inorder.specs.Steps.{MayLoad}
-use Rattle.inorder.specs.Tenants.{Addr, Done, Fate, Live, Tenant, computed, instr, is_access, is_live, is_live_access, kind_of, stands_live}
-use Rattle.inorder.specs.Unit.{Sizes, UpdateUnit, at, how_many, older, younger}
+use Rattle.inorder.specs.Tenants.{Addr, Live, Tenant, computed, instr, is_access, is_live_access, kind_of, stands_live}
+use Rattle.inorder.specs.Unit.{Sizes, UpdateUnit, at, older, younger}
 use Rattle.inorder.proofs.Basics.{split_at}
 use Rattle.inorder.proofs.Loads.{forward, from_memory}
 use Rattle.inorder.proofs.Positions.{at_below}
-use Rattle.inorder.proofs.QueueBytes.{same_width, store_accesses, store_is}
+use Rattle.inorder.proofs.QueueBytes.{store_accesses, store_is}
 use Rattle.inorder.proofs.QueuePlaces.{access_live, at_older, older_length}
 use Rattle.inorder.proofs.Sound.{IsSound}
-use Rattle.back.specs.Loads.{Blocks, IsLiveLoad, IsLiveStore, IsWaitingLoad}
-use Rattle.back.specs.Port.{AtStation, HasFound, HasMet, HasUnknown, IsBlockedAt, IsKnown, IsLoadOf, IsMet, IsPassed, Lacks, behind}
+use Rattle.back.specs.Loads.{IsWaitingLoad}
+use Rattle.back.specs.Port.{AtStation, HasFound, HasMet, HasUnknown, IsBlockedAt, IsKnown, IsLoadOf, IsMet, IsPassed, behind}
 use Rattle.back.specs.declared.port.Load.{Load}
-use Rattle.back.proofs.Ranks.{HasRank, at_rank, rank, rank_grows, rank_less, rank_small, same_rank, stands_at}
+use Rattle.back.proofs.Ranks.{at_rank, rank, rank_grows, rank_less, rank_small, same_rank, stands_at}
 use Rattle.back.proofs.RuleOver.{FoundIn, blocked_answer, blocked_lacking, forward_answer, found_in, memory_answer, none_in, whole_place}
 
 -- One that is known has its address, if it is a store

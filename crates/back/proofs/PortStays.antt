@@ -1,5 +1,5 @@
 -- What the port has seen stays true under the steps of others.
-use Rattle.std.proofs.Common.{◌≡◌, ◌⊎◌, ℕ, ◌<◌, ◌≤◌, Bool, false, true, ◌&&◌, List, [], ◌∷◌, ◌++◌, length, Some, None, refl, sym, ap, ◌∙◌, subst, inl, inr, ⊎_elim, arith}
+use Rattle.std.proofs.Common.{◌≡◌, ◌⊎◌, ℕ, ◌≤◌, Bool, false, true, ◌&&◌, List, [], ◌++◌, length, Some, None, refl, sym, ap, ◌∙◌, subst, inl, inr, ⊎_elim, arith}
 use Rattle.isa.specs.Instruction.{kind}
 use Rattle.isa.specs.Programs.{Program, instr_of}
 use Rattle.inorder.specs.declared.history.Act.{Act}
@@ -23,7 +23,7 @@ use Rattle.lsq.specs.declared.entry.Entry.{Entry as QueueEntry}
 use Rattle.lsq.specs.LoadRule.{meets, overlaps}
 use Rattle.lsq.specs.Entries.{bytes}
 use Rattle.ruu_words.proofs.Stays.{back_stays}
-use Rattle.back.specs.Port.{AtStation, IsAsked, IsKnown, IsLoadOf, IsMet, IsPassed}
+use Rattle.back.specs.Port.{AtStation, IsAsked, IsKnown, IsMet, IsPassed}
 use Rattle.back.specs.Trials.{IsShown}
 use Rattle.back.specs.declared.port.Load.{Load}
 use Rattle.back.proofs.OwnEntries.{added_legal, added_own}

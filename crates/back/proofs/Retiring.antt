@@ -1,12 +1,11 @@
 -- A retirement commits what its answer says.
-use Rattle.std.proofs.Common.{◌≡◌, ◌≢◌, ◌⊎◌, ℕ, suc, ◌+◌, ◌%◌, ◌<◌, Bool, true, false, cond, List, [], ◌∷◌, ◌++◌, length, Option, Some, None, refl, sym, ap, ◌∙◌, subst, ⊎_elim, append_assoc, arith}
+use Rattle.std.proofs.Common.{◌≡◌, ◌≢◌, ℕ, suc, ◌+◌, ◌%◌, Bool, true, false, cond, List, [], ◌∷◌, ◌++◌, length, Some, None, refl, sym, ap, ◌∙◌, subst, ⊎_elim, append_assoc, arith}
 use Rattle.std.specs.List.{AllByRecursion}
 use Rattle.std.proofs.Math.Nat.{suc-mod}
 use Rattle.isa.specs.Instruction.{kind}
 use Rattle.isa.specs.Programs.{Program, instr_at, instr_of}
 use Rattle.isa.specs.declared.instr.Instr.{Instr}
 use Rattle.isa.specs.declared.stop.Stop.{Stop}
-use Rattle.inorder.specs.declared.history.Act.{Act}
 use Rattle.inorder.specs.declared.history.Act.TheVariants.{Retire}
 use Rattle.inorder.specs.declared.history.Entry.{Entry}
 use Rattle.inorder.specs.declared.history.Event.TheVariants.{Does}
@@ -14,8 +13,8 @@ use Rattle.inorder.specs.declared.history.Source.TheVariants.{Second}
 use Rattle.inorder.specs.declared.history.Step.{Step}
 use Rattle.inorder.specs.declared.history.Step.TheVariants.{On}
 use Rattle.inorder.specs.Callers.{GoesOn, head_station, is_retired, stands_retired}
-use Rattle.inorder.specs.Committed.{commits, commits_by, committed, with_tenant}
-use Rattle.inorder.specs.History.{Adds, IsLegal, back, entry, own, unit_of}
+use Rattle.inorder.specs.Committed.{commits, commits_by, committed}
+use Rattle.inorder.specs.History.{Adds, IsLegal, back, entry, unit_of}
 use Rattle.inorder.specs.Legal.{Allowed, applied, changed}
 use Rattle.inorder.specs.Machine.{State}
 use Rattle.inorder.specs.Replies.{Has}
@@ -27,20 +26,19 @@ use Rattle.inorder.proofs.Commits.{by_retire, over}
 use Rattle.inorder.proofs.Ends.{Acted, exact}
 use Rattle.inorder.proofs.Grows.{sound_mid}
 use Rattle.inorder.proofs.Histories.{legal_before, unit_lasts, unit_sound}
-use Rattle.inorder.proofs.Kept.{kept, parts}
+use Rattle.inorder.proofs.Kept.{parts}
 use Rattle.inorder.proofs.Moves.{IsActed, IsLeft, at_changed, came, goes}
 use Rattle.inorder.proofs.SettledRegisters.{committed_if, committed_pc}
 use Rattle.inorder.proofs.Sound.{IsSettled, IsSound, IsSoundAt, SettledBy}
 use Rattle.station.specs.declared.answers.Last.{Last}
 use Rattle.station.specs.declared.answers.Last.TheVariants.{Done as WasDone, Stop as WasStop, Stored}
-use Rattle.station.specs.Retirement.{EndsAs, IsLast, IsRetired}
-use Rattle.back.specs.Commits.{IsCommitted, IsRetiredStop}
+use Rattle.station.specs.Retirement.{EndsAs, IsRetired}
 use Rattle.back.specs.Kept.{EndIs, KeepsUnit}
 use Rattle.back.specs.Kept.HasStopped.{ByStop}
 use Rattle.back.specs.Retirement.{IsInside, stop_in, with_last}
 use Rattle.back.proofs.Committing.{committed_as, inside_as}
-use Rattle.back.proofs.OwnEntries.{IsSplit, added_legal, added_own, split_own}
-use Rattle.back.proofs.UnitKept.{AreQuiet, IsGone, IsQuiet, all_quiet, gone_on, quiet_keeps}
+use Rattle.back.proofs.OwnEntries.{IsSplit, added_own, split_own}
+use Rattle.back.proofs.UnitKept.{all_quiet, gone_on, quiet_keeps}
 
 found : (t u : Tenant) → Some t ≡ Some u → t ≡ u
 found t u e = cc e

@@ -1,14 +1,14 @@
 -- What the rule for loads says over the live loads and stores, by what is known of each.
-use Rattle.std.proofs.Common.{◌≡◌, ℕ, suc, ◌<◌, Bool, true, false, cond, List, [], ◌∷◌, ◌++◌, map, length, Option, Some, None, refl, sym, ap, ◌∙◌, subst, ⊎_elim, arith, append_assoc}
+use Rattle.std.proofs.Common.{◌≡◌, ℕ, suc, ◌<◌, Bool, true, false, cond, List, [], ◌∷◌, ◌++◌, map, length, Some, None, refl, sym, ap, ◌∙◌, ⊎_elim, arith, append_assoc}
 use Rattle.std.specs.Prelude.{slice_get}
 use Rattle.isa.specs.Instruction.{width}
 use Rattle.isa.specs.Programs.{Program}
-use Rattle.isa.specs.declared.op.Kind.TheVariants.{Loads, Stores}
+use Rattle.isa.specs.declared.op.Kind.TheVariants.{Loads}
 use Rattle.lsq.specs.declared.answer.Answer.{Answer}
 use Rattle.lsq.specs.declared.answer.Answer.TheVariants.{Blocked, Forward, Memory}
 use Rattle.lsq.specs.declared.entry.Entry.{Entry}
 use Rattle.lsq.specs.Entries.{bytes}
-use Rattle.lsq.specs.LoadRule.{answer, answer_over, by_lacking, by_overlap, forwarded, lacks_address, or_older, overlaps, taken_from, youngest, youngest_from}
+use Rattle.lsq.specs.LoadRule.{answer, answer_over, by_lacking, by_overlap, forwarded, lacks_address, or_older, overlaps, taken_from, youngest}
 use Rattle.lsq.proofs.Youngest.{this_one, youngest_from-snoc}
 use Rattle.inorder.specs.Loads.{entry_in, entry_of, live_accesses, place_of, queue_of, with_access}
 use Rattle.inorder.specs.Tenants.{Addr, Live, Tenant, instr, is_live_access, kind_of}

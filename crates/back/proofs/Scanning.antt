@@ -1,5 +1,5 @@
 -- What was found of all stations answers the call.
-use Rattle.std.proofs.Common.{◌≡◌, ◌≢◌, ◌⊎◌, ℕ, ◌+◌, ◌%◌, ◌<◌, ◌≤◌, List, [], ◌∷◌, ◌++◌, map, length, Option, Some, None, refl, sym, ap, ◌∙◌, subst, inl, inr, ⊎_elim, append_assoc, arith, zero-le}
+use Rattle.std.proofs.Common.{◌≡◌, ◌≢◌, ◌⊎◌, ℕ, ◌+◌, ◌%◌, ◌<◌, List, [], ◌∷◌, ◌++◌, Option, Some, None, refl, sym, ap, ◌∙◌, subst, inl, inr, ⊎_elim, append_assoc, arith}
 use Rattle.std.specs.List.{AllByRecursion}
 use Rattle.std.proofs.lemmas.Bool.{cases_lt}
 use mathlib.Core.Logic.{dite}
@@ -13,28 +13,26 @@ use Rattle.inorder.specs.declared.history.Act.TheVariants.{Load as LoadIt}
 use Rattle.inorder.specs.declared.history.Step.TheVariants.{On}
 use Rattle.inorder.specs.Callers.{head_station}
 use Rattle.inorder.specs.Committed.{committed}
-use Rattle.inorder.specs.History.{Adds, IsLegal, StartsWith, back, own, taken_of, unit_of}
+use Rattle.inorder.specs.History.{Adds, IsLegal, StartsWith, back, taken_of, unit_of}
 use Rattle.inorder.specs.Replies.{Has, IsNamed}
 use Rattle.inorder.specs.Tenants.{Live, Retired, Squashed, Standing, Tenant}
 use Rattle.inorder.specs.Unit.{Sizes, UpdateUnit, at}
-use Rattle.inorder.proofs.Histories.{allowed_steps, legal_before, starts_longer, starts_same, unit_sound}
+use Rattle.inorder.proofs.Histories.{allowed_steps, legal_before, starts_same, unit_sound}
 use Rattle.inorder.proofs.Stations.{is_ring, stands}
-use Rattle.ruu_words.specs.Kinds.{IsAny, IsTenant}
-use Rattle.ruu_words.proofs.Stays.{any_stays, tenant_stays}
-use Rattle.station.specs.Moments.{IsWithin, WasOnce}
+use Rattle.ruu_words.proofs.Stays.{tenant_stays}
+use Rattle.station.specs.Moments.{WasOnce}
 use Rattle.station.specs.Writeback.{IsDeliveryOf, IsWalk}
 use Rattle.station.proofs.Adding.{adds_on}
 use Rattle.back.specs.Loads.{Blocks, IsLiveLoad, IsWaitingLoad, WasBlocked, WasNotWaiting}
-use Rattle.back.specs.Port.{IsBlockedAt, behind}
+use Rattle.back.specs.Port.{behind}
 use Rattle.back.specs.Refreshes.{HasFoundBlocked, HasLoaded, HasLoadedNothing, IsTooLate, RefreshAnswers, WasBlockedBy, WasIdle}
 use Rattle.back.specs.declared.answers.Refresh.{Refresh}
 use Rattle.back.specs.declared.answers.Refresh.TheVariants.{Blocked, Idle, Loaded}
 use Rattle.back.specs.Scans.{EachBehind, FirstIs, IsFirst, Scanned}
 use Rattle.back.specs.Trials.{DidLoad, HasHeldBack, HasPassed, HoldsBack, IsLoadAt, NoOtherWaits, NoneWaits}
-use Rattle.back.proofs.OwnEntries.{added_own, cancel}
 use Rattle.back.proofs.Ranks.{rank, rank_grows, rank_small, same_rank, stands_at}
-use Rattle.back.proofs.Trying.{once_earlier, once_later, once_now, starts_on}
-use Rattle.back.proofs.UnitKept.{AreQuiet, IsQuiet, all_quiet, committed_kept, head_kept_on}
+use Rattle.back.proofs.Trying.{once_earlier, once_later, once_now}
+use Rattle.back.proofs.UnitKept.{IsQuiet, committed_kept, head_kept_on}
 
 found : (t u : Tenant) → Some t ≡ Some u → t ≡ u
 found t u e = cc e

@@ -4,7 +4,6 @@ use Rattle.std.proofs.lemmas.Bool.{cases_lt}
 use Rattle.std.specs.Prelude.{IfNone, IfSome, is_none, is_some, not}
 use Rattle.isa.specs.Instruction.{width}
 use Rattle.isa.specs.Programs.{Program}
-use Rattle.isa.specs.declared.op.Kind.{Kind}
 use Rattle.isa.specs.declared.op.Kind.TheVariants.{Stores}
 use Rattle.isa.specs.declared.stop.Outcome.{Outcome}
 use Rattle.lsq.specs.declared.answer.Answer.{Answer}
@@ -14,8 +13,8 @@ use Rattle.lsq.specs.Entries.{bytes}
 use Rattle.lsq.specs.LoadRule.{answer, answer_over, by_lacking, by_overlap, forwarded, lacks_address, meets, overlaps, taken_from}
 use Rattle.inorder.specs.declared.history.Entry.{Entry}
 use Rattle.inorder.specs.History.{Adds, back, unit_of}
-use Rattle.inorder.specs.Loads.{access_width, address_by, entry_of, is_store}
-use Rattle.inorder.specs.Tenants.{Addr, Busy, Done, Fate, Miss, Open, Stopped, Tenant, computed, instr, kind_of}
+use Rattle.inorder.specs.Loads.{address_by, entry_of, is_store}
+use Rattle.inorder.specs.Tenants.{Addr, Busy, Done, Fate, Miss, Open, Stopped, Tenant, computed, kind_of}
 use Rattle.inorder.specs.Unit.{Sizes, UpdateUnit}
 use Rattle.inorder.proofs.QueueBytes.{same_width, store_is}
 use Rattle.back.specs.Port.{AtStation, HasFound, HasMet, HasUnknown, IsEntryOf, IsKnown, IsMet, IsPassed, Lacks, address_of, behind, load_entry}

@@ -1,16 +1,15 @@
 -- What a back keeps, where its seat has seen more.
-use Rattle.std.proofs.Common.{◌≡◌, ◌≤◌, ℕ, List, Option, Some, None, refl, sym, ap, ◌∙◌, subst, length}
+use Rattle.std.proofs.Common.{◌≡◌, ℕ, List, Option, Some, None, sym, ap, ◌∙◌, subst}
 use Rattle.std.specs.List.{AllByRecursion}
 use Rattle.isa.specs.Programs.{Program}
-use Rattle.isa.specs.declared.end.End.{End}
 use Rattle.isa.specs.declared.stop.Stop.{Stop}
 use Rattle.inorder.specs.declared.history.Entry.{Entry}
 use Rattle.inorder.specs.declared.history.Event.{Event}
 use Rattle.inorder.specs.Committed.{committed}
-use Rattle.inorder.specs.History.{Adds, IsLegal, back, taken_of, unit_of}
+use Rattle.inorder.specs.History.{Adds, IsLegal, back, unit_of}
 use Rattle.inorder.specs.Machine.{State, fetched}
 use Rattle.inorder.specs.Runs.{after, stop, stop_of, then_stop}
-use Rattle.inorder.specs.Unit.{Sizes, UpdateUnit}
+use Rattle.inorder.specs.Unit.{Sizes}
 use Rattle.inorder.proofs.Follows.{state_of as in_order_state, stops_of}
 use Rattle.inorder.proofs.Histories.{unit_sound}
 use Rattle.snapshots.specs.declared.snap.Snap.{Snap}

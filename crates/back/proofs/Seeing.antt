@@ -1,17 +1,14 @@
 -- What looks at a station show of its live tenant.
-use Rattle.std.proofs.Common.{◌≡◌, ℕ, ◌<◌, ◌≤◌, Bool, true, false, cond, eqb, List, [], ◌++◌, length, Option, Some, None, refl, sym, ap, ◌∙◌, subst, arith}
+use Rattle.std.proofs.Common.{◌≡◌, ℕ, ◌<◌, cond, eqb, List, [], length, Some, None, refl, sym, ap, ◌∙◌, subst, arith}
 use Rattle.isa.specs.Programs.{Program, instr_of}
 use Rattle.inorder.specs.declared.history.Entry.{Entry}
-use Rattle.inorder.specs.declared.history.Step.{Step}
 use Rattle.inorder.specs.History.{Adds, IsLegal, back, taken_of, unit_of}
-use Rattle.inorder.specs.Legal.{reached}
 use Rattle.inorder.specs.StationWords.{live_word, station_word}
-use Rattle.inorder.specs.Tenants.{Addr, Busy, Done, Fate, Live, Miss, Open, Stopped, Tenant, instr}
-use Rattle.inorder.specs.Unit.{Sizes, UpdateUnit, at, older, recent, younger}
+use Rattle.inorder.specs.Tenants.{Addr, Busy, Done, Fate, Live, Miss, Open, Stopped, Tenant}
+use Rattle.inorder.specs.Unit.{Sizes, at, older, recent, younger}
 use Rattle.inorder.proofs.Basics.{split_at}
 use Rattle.inorder.proofs.Grows.{sound_mid}
 use Rattle.inorder.proofs.Histories.{allowed_steps, unit_sound}
-use Rattle.inorder.proofs.Moves.{Goes}
 use Rattle.inorder.proofs.Positions.{at_there}
 use Rattle.inorder.proofs.Sound.{IsSound}
 use Rattle.inorder.proofs.StationsShown.{stations_follow}
@@ -19,7 +16,6 @@ use Rattle.lsq.specs.declared.entry.Entry.{Entry as QueueEntry}
 use Rattle.ruu_words.specs.declared.station.StationState.{StationState}
 use Rattle.ruu_words.specs.declared.station.StationState.TheVariants.{Free, Open as ShowsOpen, Busy as ShowsBusy, Addr as ShowsAddr, Done as ShowsDone, Miss as ShowsMiss, Stop as ShowsStop}
 use Rattle.ruu_words.specs.Content.{HasValue, code}
-use Rattle.ruu_words.specs.Kinds.{IsTenant}
 use Rattle.ruu_words.specs.States.{state_code}
 use Rattle.ruu_words.proofs.Stays.{tenant_stays}
 use Rattle.station.specs.Looking.{Shows}

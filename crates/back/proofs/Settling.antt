@@ -1,5 +1,5 @@
 -- What comes of a load that was answered.
-use Rattle.std.proofs.Common.{◌≡◌, ◌≢◌, ◌⊎◌, ℕ, ◌<◌, List, [], ◌∷◌, ◌++◌, map, length, Some, refl, sym, ap, ◌∙◌, subst, inl, inr, ⊎_elim, append_assoc, arith}
+use Rattle.std.proofs.Common.{◌≡◌, ◌⊎◌, ℕ, List, [], ◌∷◌, ◌++◌, map, Some, refl, sym, ap, ◌∙◌, subst, inl, inr, ⊎_elim, append_assoc}
 use Rattle.std.proofs.lemmas.List.{append-nil}
 use mathlib.Core.Logic.{dite}
 use native.Mathlib.Decide.{ℕ_discrete}
@@ -20,25 +20,22 @@ use Rattle.inorder.specs.Legal.{Allowed, May, applied, changed}
 use Rattle.inorder.specs.Memory.{load_value}
 use Rattle.inorder.specs.Replies.{Has, IsNamed, IsStale}
 use Rattle.inorder.specs.Tenants.{Done, Live, Squashed, Tenant}
-use Rattle.inorder.specs.Unit.{Sizes, UpdateUnit, at, older, recent, younger}
+use Rattle.inorder.specs.Unit.{Sizes, UpdateUnit, older, recent, younger}
 use Rattle.inorder.proofs.Ends.{Acted, IsNotBacks, exact}
 use Rattle.inorder.proofs.Histories.{allowed_steps, legal_before, unit_lasts}
 use Rattle.inorder.proofs.Loading.{gone_stays, load_stays}
 use Rattle.inorder.proofs.Moves.{IsActed, IsLeft, at_changed}
-use Rattle.inorder.proofs.Positions.{at_below, at_there}
 use Rattle.inorder.proofs.Sound.{IsSound}
 use Rattle.inorder.proofs.Tags.{names_one, tagged}
-use Rattle.ruu_words.specs.Kinds.{IsAny, IsTenant}
+use Rattle.ruu_words.specs.Kinds.{IsTenant}
 use Rattle.ruu_words.proofs.Stays.{any_stays, back_stays}
-use Rattle.station.specs.Moments.{WasOnce}
 use Rattle.station.specs.Writeback.{IsWalk, IsWritten, MaySettle, WasStale}
 use Rattle.station.proofs.Adding.{adds_on}
 use Rattle.back.specs.Loads.{IsWaitingLoad}
 use Rattle.back.specs.Port.{IsAsked, IsBlockedAt, IsLoadOf}
-use Rattle.back.specs.Refreshes.{IsTooLate}
-use Rattle.back.specs.Trials.{DidLoad, HasHeldBack, HasPassed, HoldsBack, IsLoadAt, NoOtherWaits, NoneWaits, SomeWaits}
+use Rattle.back.specs.Trials.{DidLoad, HasHeldBack, HasPassed, HoldsBack, NoOtherWaits, NoneWaits, SomeWaits}
 use Rattle.back.specs.declared.port.Load.{Load}
-use Rattle.back.proofs.OwnEntries.{EndsWith, added_legal, added_own, split_last}
+use Rattle.back.proofs.OwnEntries.{added_own, split_last}
 use Rattle.back.proofs.PortStays.{asked_stays}
 use Rattle.back.proofs.Trying.{once_later, once_now, starts_on}
 

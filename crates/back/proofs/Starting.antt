@@ -1,13 +1,13 @@
 -- Where nothing has retired, nothing is committed.
-use Rattle.std.proofs.Common.{◌≡◌, ◌≢◌, ℕ, suc, ◌%◌, Bool, true, false, cond, List, [], ◌∷◌, None, refl, sym, ap, ◌∙◌, arith}
+use Rattle.std.proofs.Common.{◌≡◌, suc, ◌%◌, Bool, true, false, cond, List, [], ◌∷◌, None, refl, sym, ap, ◌∙◌, arith}
 use Rattle.std.proofs.Math.Nat.{zero-mod}
 use Rattle.isa.specs.Programs.{Program}
-use Rattle.inorder.specs.Callers.{GoesOn, is_retired, stands_retired}
-use Rattle.inorder.specs.Committed.{commits, commits_by, committed}
+use Rattle.inorder.specs.Callers.{is_retired, stands_retired}
+use Rattle.inorder.specs.Committed.{commits_by, committed}
 use Rattle.inorder.specs.Machine.{start}
 use Rattle.inorder.specs.Steps.{IsNoRetiredStop}
 use Rattle.inorder.specs.Tenants.{Fate, Live, Retired, Squashed, Standing, Tenant}
-use Rattle.inorder.specs.Unit.{Sizes, UpdateUnit, at, how_many}
+use Rattle.inorder.specs.Unit.{Sizes, UpdateUnit, how_many}
 use Rattle.inorder.proofs.Positions.{all_at}
 use Rattle.inorder.proofs.SettledRegisters.{committed_if}
 use Rattle.std.specs.List.{AllByRecursion}

@@ -1,5 +1,5 @@
 -- What is found at one station.
-use Rattle.std.proofs.Common.{◌≡◌, ◌≢◌, ◌⊎◌, ℕ, ◌+◌, ◌<◌, ◌≤◌, Bool, true, false, cond, eqb, eqb-true, leb, leb-true, ltb, ltb-true, List, [], ◌++◌, length, Option, Some, None, refl, sym, ap, ◌∙◌, subst, inl, inr, ⊎_elim, arith, true≢false}
+use Rattle.std.proofs.Common.{◌≡◌, ◌≢◌, ◌⊎◌, ℕ, ◌+◌, ◌<◌, ◌≤◌, Bool, true, false, cond, eqb, eqb-true, leb, leb-true, ltb, List, [], length, Some, None, refl, sym, ap, ◌∙◌, subst, inl, inr, ⊎_elim, arith}
 use Rattle.std.proofs.lemmas.Bool.{cases_lt, le-leb, lt-ltb}
 use mathlib.Core.Logic.{dite}
 use native.Mathlib.Decide.{ℕ_discrete}
@@ -13,7 +13,7 @@ use Rattle.inorder.specs.History.{Adds, IsLegal, StartsWith, back, taken_of, uni
 use Rattle.inorder.specs.Laws.{IsRing, Names}
 use Rattle.inorder.specs.Replies.{Has, IsNamed, IsStale}
 use Rattle.inorder.specs.StationWords.{IsAddr, IsBusy, IsDone, IsFree, IsMiss, IsOpen, IsStop, HasFate, StationState as State, live_word, station_word}
-use Rattle.inorder.specs.Tenants.{Addr, Busy, Done, Fate, Live, Miss, Open, Squashed, Stopped, Tenant, instr, kind_of}
+use Rattle.inorder.specs.Tenants.{Addr, Busy, Done, Fate, Live, Miss, Open, Squashed, Stopped, Tenant}
 use Rattle.inorder.specs.Unit.{Sizes, UpdateUnit, at, older, recent, younger}
 use Rattle.inorder.proofs.Basics.{split_at}
 use Rattle.inorder.proofs.Grows.{sound_mid}
@@ -28,8 +28,8 @@ use Rattle.ruu_words.specs.declared.station.StationState.{StationState}
 use Rattle.ruu_words.specs.Content.{HasValue, code}
 use Rattle.ruu_words.specs.States.{state_code}
 use Rattle.station.specs.Looking.{Shows}
-use Rattle.station.specs.Moments.{IsWithin, WasOnce}
-use Rattle.back.specs.Loads.{IsLiveLoad, IsWaitingLoad, WasNotWaiting}
+use Rattle.station.specs.Moments.{WasOnce}
+use Rattle.back.specs.Loads.{IsWaitingLoad}
 use Rattle.back.specs.Port.{IsAsked, IsLoadOf, address_in, address_of}
 use Rattle.back.specs.Trials.{IsLoadAt, IsShown, NoOtherWaits, NoneWaits, SomeWaits, load_at, load_by}
 use Rattle.back.specs.declared.port.Load.{Load}

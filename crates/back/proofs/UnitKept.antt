@@ -1,5 +1,5 @@
 -- What a back keeps stays true under every step that is no retirement.
-use Rattle.std.proofs.Common.{◌≡◌, ◌≢◌, ◌⊎◌, ℕ, ◌%◌, List, [], ◌∷◌, ◌++◌, map, length, Option, Some, None, refl, sym, ap, ◌∙◌, subst, ⊎_elim, append_assoc, arith}
+use Rattle.std.proofs.Common.{◌≡◌, ◌≢◌, ℕ, ◌%◌, List, [], ◌∷◌, ◌++◌, map, Option, Some, None, refl, sym, ap, ◌∙◌, subst, ⊎_elim, append_assoc}
 use Rattle.std.specs.List.{AllByRecursion}
 use mathlib.Core.Logic.{dite}
 use native.Mathlib.Decide.{ℕ_discrete}
@@ -20,9 +20,9 @@ use Rattle.inorder.specs.Laws.{IsNoRetire}
 use Rattle.inorder.specs.Legal.{Allowed, May, applied, changed}
 use Rattle.inorder.specs.Machine.{State}
 use Rattle.inorder.specs.Replies.{Has}
-use Rattle.inorder.specs.Steps.{IsNoRetiredStop, settled}
+use Rattle.inorder.specs.Steps.{IsNoRetiredStop}
 use Rattle.inorder.specs.Tenants.{Live, Retired, Tenant}
-use Rattle.inorder.specs.Unit.{Sizes, UpdateUnit, at, how_many, older, younger}
+use Rattle.inorder.specs.Unit.{Sizes, UpdateUnit, how_many, older, younger}
 use Rattle.inorder.proofs.Basics.{split_at}
 use Rattle.inorder.proofs.Commits.{by_others}
 use Rattle.inorder.proofs.Ends.{Acted, IsNotBacks, exact}
@@ -34,7 +34,7 @@ use Rattle.inorder.proofs.Sound.{IsSound}
 use Rattle.ruu_words.proofs.Stays.{not_backs}
 use Rattle.station.proofs.Seated.{how_many_same}
 use Rattle.back.specs.Commits.{IsRetiredStop}
-use Rattle.back.specs.Kept.{EndIs, HasStopped, KeepsUnit}
+use Rattle.back.specs.Kept.{EndIs, KeepsUnit}
 use Rattle.back.specs.Kept.HasStopped.{ByStop, Nowhere}
 use Rattle.station.specs.Moments.{IsWithin}
 use Rattle.back.proofs.OwnEntries.{added_legal, added_own, cancel, own_first, own_skip}

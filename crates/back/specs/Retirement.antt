@@ -1,9 +1,9 @@
 -- What a retirement does to what was committed.
-use Rattle.std.specs.Prelude.{◌≡◌, ◌+◌, ◌≤◌, ℕ, suc, Option, Some, None}
+use Rattle.std.specs.Prelude.{◌+◌, ◌≤◌, ℕ, suc, Option, Some, None}
 use Rattle.isa.specs.Instruction.{destination, kind, pc_plus_4, width}
 use Rattle.isa.specs.declared.instr.Instr.{Instr}
 use Rattle.isa.specs.declared.op.Kind.{Kind}
-use Rattle.isa.specs.declared.op.Kind.TheVariants.{Computes, Jumps, Links, Loads, Stores}
+use Rattle.isa.specs.declared.op.Kind.TheVariants.{Jumps, Links}
 use Rattle.isa.specs.declared.stop.Stop.{Stop}
 use Rattle.inorder.specs.Machine.{State, store_bytes, write}
 use Rattle.station.specs.declared.answers.Last.{Last}

@@ -1,28 +1,75 @@
 //! Calls on one back, by hand; and want of memory.
-ghost use Rattle.std.specs.Prelude.{◌≡◌};
+ghost use Rattle.std.specs.Prelude.{◌≡◌, ◌<◌, [], IfSome, length};
+ghost use Rattle.isa.specs.Instruction.{fixed_next};
+ghost use Rattle.isa.specs.Programs.{address, instr_of};
+ghost use Rattle.inorder.specs.Replies.{last_tag};
+ghost use Rattle.station.specs.Seats.{IsSame};
 
 use crate::{Back, Commit, Mark, Naming, Refresh};
-use isa::{Config, Ending, Memory, Program, Stop, parse};
-use station::{Core, StationState};
+use isa::{Config, Ending, Memory, Program, Stop, outcome, parse};
+use station::{Claim, Core, Finish, FrontSeat, StationState, Supply, Tenant, UnitSeat};
 use std::alloc::Global;
 use std::marker::Brand;
 use std::process::Abort;
 use std::sync::Wait;
 use std::test::Fail;
 
+// Lets the first instruction, whose sources are 0.
+fn let_first(core: &Core, seat: &mut FrontSeat, predicted: u32) -> u32
+    requires core { seat.old.core ≡ core.now }
+    requires new { seat.old.seen ≡ [] }
+    requires there { 0 < length core.now.program.code }
+    requires room { (0 < core.now.sizes.ring) × (0 < core.now.sizes.queue) }
+    requires tag { core.now.sizes.first_tag < last_tag }
+    requires predicted { IfSome (fixed_next (instr_of core.now.program 0) (address 0)) (λ x. predicted ≡ x) }
+    ensures kept { IsSame seat.old seat.new }
+{
+    let tenant = Tenant {
+        index: 0,
+        predicted,
+        sources: (Supply::Known(0), Supply::Known(0)),
+    };
+    core.let_out(seat, tenant)
+}
+
+// Claims the tenant of a station, and finishes it by its outcome.
+fn finish_one(core: &Core, program: &Program, seat: &mut UnitSeat, station: usize) -> bool
+    requires core { seat.old.core ≡ core.now }
+    requires program { program.now ≡ core.now.program }
+    requires station { station < core.now.sizes.ring }
+    ensures kept { IsSame seat.old seat.new }
+{
+    let finished = match core.claim(seat, station) {
+        Claim::Job(job) => {
+            let instr = program.instr(job.index as usize);
+            let found = outcome(instr, job.pc, job.a, job.b, program.size());
+            Some(core.finish(seat, job, found))
+        }
+        Claim::NotOpen => None,
+        Claim::Waiting { tag: _, k: _ } => None,
+        Claim::Moved { tag: _ } => None,
+    };
+    finished == Some(Finish::Finished)
+}
+
 // A back that is refused memory is made at the next try, with the seat that was given back; and a snapshot that
-// is refused memory is shown at the next try.
+// is refused memory is not shown, and is at the next try.
 fn next_try<J: Naming, R: Wait + Abort>(
     rt: &R,
     alloc: Global,
     program: &Program,
     config: &Config,
 ) -> Result<(), Fail>
-    requires { program.now ≡ J.program }
+    requires program { program.now ≡ J.program }
+    requires tag { config.now.first_tag < last_tag }
 {
-    let Ok((core, _seat, back_seat, _unit)) = Core::make(alloc, program, config) else {
+    let Ok((core, mut seat, back_seat, mut unit)) = Core::make(alloc, program, config) else {
         return Ok(());
     };
+    assert!(rt; 0 < program.len() && core.ring() == 4 && core.queue() == 2);
+    let predicted = program.instr(0).fixed_next(Program::START);
+    let_first(&core, &mut seat, predicted.unwrap_or(0));
+    assert!(rt; finish_one(&core, program, &mut unit, 0));
     let made = match Back::<J>::new(alloc, &core, back_seat, program, config) {
         Ok(made) => Ok(made),
         Err((Memory, seat)) => Back::<J>::new(alloc, &core, seat, program, config),
@@ -30,16 +77,25 @@ fn next_try<J: Naming, R: Wait + Abort>(
     let Ok((mut back, mut snapper)) = made else {
         panic!(rt; "a seat that is given back serves again");
     };
+    let committed = back.commit(&core);
     let first = back.show(rt).ok();
     let before = snapper.take().ok();
     let second = back.show(rt).ok();
     let after = snapper.take().ok();
     let n = back.n();
     let end = back.end(rt);
-    assert_eq!(rt; first.or(second), Some(Mark { n: 0 }));
-    assert_eq!(rt; before.map(|snap| snap.pc), Some(Program::START));
-    assert_eq!(rt; after.map(|snap| snap.n), Some(0));
-    assert_eq!(rt; (n, end.n, end.pc), (0, 0, Program::START));
+    let shown = if first.is_some() { 1 } else { 0 };
+    assert_eq!(rt;
+        committed,
+        Commit::Retired {
+            pc: Program::START,
+            n: 1
+        }
+    );
+    assert_eq!(rt; before.map(|snap| snap.n), Some(shown));
+    assert_eq!(rt; first.or(second), Some(Mark { n: 1 }));
+    assert_eq!(rt; after.map(|snap| (snap.n, snap.registers[1])), Some((1, 1)));
+    assert_eq!(rt; (n, end.n, end.registers[1]), (1, 1, 1));
     Ok(())
 }
 

@@ -1,4 +1,4 @@
-use Rattle.std.proofs.Common.{◌≡◌, [], true≢false, sym, ap, ◌∙◌, subst, eq-eqb}
+use Rattle.std.proofs.Common.{[], true≢false, sym, ap, ◌∙◌, subst, eq-eqb}
 use Rattle.std.specs.Prelude.{is_some}
 use Rattle.inorder.specs.History.{Adds}
 use Rattle.back.proofs.Searching.{some_of}

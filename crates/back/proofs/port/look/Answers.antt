@@ -1,4 +1,4 @@
-use Rattle.std.proofs.Common.{◌≡◌, [], length, ap, ◌∙◌, subst, arith}
+use Rattle.std.proofs.Common.{[], length, ap, ◌∙◌, subst, arith}
 use Rattle.isa.specs.Programs.{Program, instr_of}
 use Rattle.inorder.specs.History.{Adds}
 use Rattle.back.specs.Port.{seen_as}

@@ -1,4 +1,4 @@
-use Rattle.std.proofs.Common.{◌≡◌, ◌+◌, ◌-◌, ◌%◌, ◌≤◌, ℕ, [], ◌∷◌, length, Option, Some, None, sym, ap, ◌∙◌, subst, arith}
+use Rattle.std.proofs.Common.{◌≡◌, ◌+◌, ◌-◌, ◌%◌, [], ◌∷◌, length, sym, ap, ◌∙◌, subst, arith}
 use Rattle.isa.specs.Instruction.{width}
 use Rattle.inorder.specs.History.{Adds}
 use Rattle.lsq.specs.declared.entry.Entry.{Entry as QueueEntry}

@@ -1,4 +1,4 @@
-use Rattle.std.proofs.Common.{◌≡◌, ◌≤◌, [], length}
+use Rattle.std.proofs.Common.{◌≤◌, [], length}
 use Rattle.isa.specs.Instruction.{width}
 use Rattle.inorder.specs.History.{Adds}
 use Rattle.station.specs.Seats.{IsSame}

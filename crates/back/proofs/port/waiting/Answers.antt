@@ -1,4 +1,4 @@
-use Rattle.std.proofs.Common.{◌≡◌, ◌≤◌, ◌+◌, [], length, sym, ap, ◌∙◌, subst}
+use Rattle.std.proofs.Common.{◌≤◌, ◌+◌, [], length, sym, ap, ◌∙◌, subst}
 use Rattle.isa.specs.Instruction.{width}
 use Rattle.isa.specs.Programs.{Program}
 use Rattle.inorder.specs.History.{Adds}

@@ -1,11 +1,10 @@
-use Rattle.std.proofs.Common.{◌≡◌, ◌+◌, ◌%◌, ◌<◌, ℕ, Some, refl, sym, ap, ◌∙◌, subst, arith}
+use Rattle.std.proofs.Common.{◌≡◌, ◌+◌, ◌%◌, ◌<◌, ℕ, Some, refl, sym, ◌∙◌, subst, arith}
 use Rattle.inorder.specs.History.{back}
-use Rattle.back.specs.Backs.{unit_in}
 use Rattle.back.specs.Port.{behind}
 use Rattle.back.specs.Refreshes.{HasFoundBlocked, HasLoaded, WasIdle}
 use Rattle.back.specs.Scans.{Scanned}
 use Rattle.back.specs.Trials.{DidLoad, HasHeldBack, HasPassed}
-use Rattle.back.proofs.Scanning.{head_now, held_first, held_more, is_blocked, is_idle, loaded_on, nothing_yet, passed_on, state_now}
+use Rattle.back.proofs.Scanning.{head_now, held_first, held_more, is_blocked, is_idle, loaded_on, passed_on, state_now}
 use Rattle.back.proofs.Searching.{is_nothing, is_something}
 use Rattle.back.proofs.Seeing.{same_on}
 use Rattle.back.proofs.refresh.scan.Goals as goal

@@ -1,4 +1,3 @@
-use Rattle.std.proofs.Common.{◌≡◌}
 use Rattle.inorder.specs.History.{back}
 use Rattle.station.specs.Seats.{IsSame}
 use Rattle.back.specs.Scans.{Scanned}

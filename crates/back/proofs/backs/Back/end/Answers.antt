@@ -1,9 +1,7 @@
-use Rattle.std.proofs.Common.{◌≡◌, ℕ, Option, Some, None, ap, ◌∙◌, sym, subst}
-use Rattle.isa.specs.Programs.{Program}
-use Rattle.isa.specs.declared.stop.Stop.{Stop}
+use Rattle.std.proofs.Common.{◌≡◌, Some, sym, subst}
 use Rattle.inorder.specs.Machine.{State}
-use Rattle.inorder.specs.Runs.{after, stop}
-use Rattle.back.specs.Ends.{IsInOrder, StopsThere, outcome_of}
+use Rattle.inorder.specs.Runs.{after}
+use Rattle.back.specs.Ends.{StopsThere, outcome_of}
 use Rattle.back.proofs.SeatKept.{after_is, outcome_stops, plain}
 use Rattle.back.proofs.backs.Back.end.Goals as goal
 

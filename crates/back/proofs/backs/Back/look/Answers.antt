@@ -1,8 +1,7 @@
-use Rattle.std.proofs.Common.{◌≡◌, [], sym, ap, ◌∙◌, subst}
+use Rattle.std.proofs.Common.{[], sym, ap, ◌∙◌, subst}
 use Rattle.inorder.specs.History.{Adds}
 use Rattle.station.specs.Seats.{TheCore}
 use Rattle.back.specs.Backs.{IsSame, TheBack, back_of}
-use Rattle.back.specs.Kept.{IsKept}
 use Rattle.back.proofs.Calls.{is_same}
 use Rattle.back.proofs.SeatKept.{kept_by}
 use Rattle.back.proofs.backs.Back.look.Goals as goal

@@ -1,4 +1,4 @@
-use Rattle.std.proofs.Common.{◌≡◌, [], sym, ap, ◌∙◌, subst, arith}
+use Rattle.std.proofs.Common.{[], sym, ap, ◌∙◌, subst, arith}
 use Rattle.inorder.specs.History.{Adds}
 use Rattle.inorder.specs.Machine.{start}
 use Rattle.station.specs.Seats.{TheCore}

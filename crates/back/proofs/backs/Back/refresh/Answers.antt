@@ -1,4 +1,4 @@
-use Rattle.std.proofs.Common.{◌≡◌, sym, ap, ◌∙◌, subst, arith}
+use Rattle.std.proofs.Common.{sym, ap, ◌∙◌, subst}
 use Rattle.station.specs.Seats.{TheCore}
 use Rattle.back.specs.Backs.{IsSame, TheBack, back_of}
 use Rattle.back.specs.Refreshes.{RefreshAnswers}

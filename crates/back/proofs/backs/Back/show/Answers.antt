@@ -1,6 +1,5 @@
-use Rattle.std.proofs.Common.{◌≡◌, Some, ap, ◌∙◌, sym, subst}
+use Rattle.std.proofs.Common.{ap, sym, subst}
 use Rattle.std.specs.Prelude.{option_map}
-use Rattle.inorder.specs.Machine.{State}
 use Rattle.snapshots.specs.Snapshots.{IsSnapshotOf, snapshot}
 use Rattle.back.proofs.SeatKept.{after_is, plain}
 use Rattle.back.proofs.backs.Back.show.Goals as goal
