@@ -1,15 +1,17 @@
 -- What is told of a listing, from what is known of its end.
-use Rattle.std.proofs.Common.{◌≡◌, ◌∙◌, ℕ, Bool, true, false, List, length, take, refl, ap, sym, subst, arith, inl, inr, Option, Some, None, Result, Ok, Err, IfSome, IfOk, IfErr, IsErrAnd}
+use Rattle.std.proofs.Common.{◌≡◌, ◌∙◌, ℕ, true, false, List, length, take, refl, ap, ap₂, sym, subst, arith, inl, inr, Option, Some, None, Result, Ok, Err, IfSome, IfOk, IfErr, IsErrAnd}
 use Rattle.std.proofs.lemmas.Bool.{cases_lt, lt-ltb}
 use Rattle.std.proofs.lemmas.List.{length-take, take_all}
 use Rattle.isa.specs.declared.end.End.{End}
+use Rattle.isa.specs.declared.end.Ending.{Ending}
 use Rattle.isa.specs.declared.listing.fault.FaultKind.{FaultKind}
 use Rattle.isa.specs.Listing.{listing}
 use Rattle.isa.specs.Programs.{Program}
 use Rattle.isa.specs.Report.{fault_line, report_of}
+use Rattle.inorder.specs.Machine.{State}
 use Rattle.inorder.specs.Runs.{end_of}
-use Rattle.back.specs.Ends.{IsInOrder, state_in}
-use Rattle.bench.specs.Answer.{most_taken, status_for, status_of, text_for, text_of, ending_status}
+use Rattle.back.specs.Ends.{state_in}
+use Rattle.bench.specs.Answer.{most_taken, status_for, status_of, text_for, text_of, ending_status, report_of_run}
 use Rattle.bench.specs.declared.outcome.Fault.{Fault}
 use Rattle.bench.specs.declared.outcome.Fault.TheVariants as fault
 use Rattle.bench.specs.declared.outcome.Status.{Status}
@@ -25,7 +27,7 @@ use Rattle.command.specs.declared.went.Refusal.{Refusal}
 use Rattle.command.specs.declared.went.Refusal.TheVariants.{Write}
 use Rattle.command.specs.declared.went.Went.{Went}
 use Rattle.command.specs.Answers.{HasAnswer, IsAnswer, IsEnd, IsLineWith, IsReport, ended_of}
-use Rattle.command.specs.Went.{IsOfOneThread, IsWritten, refusal_of, went_of, written}
+use Rattle.command.specs.Went.{IsOfOneThread, IsWritten, refusal_of, status_number, went_of, written}
 
 -- ---- one thread
 
@@ -42,6 +44,21 @@ alone_for asked is (Ok P) =
       line = subst (λ b. IsLineWith b end.1.count Nothing) (sym is) refl;
     }
 alone_for asked is (Err f) = (refl, refl)
+
+-- on one thread an answer is the text and the status of the one-thread unit, and no line
+pub alone_is : (asked : Asked) → asked.alone ≡ true → (found : Result Program (ℕ × FaultKind)) (text : List ℕ) (went : Went)
+    → IsAnswer asked found text went
+    → (text ≡ text_for asked.config.limit found) × (went ≡ written (status_for asked.config.limit found) Nothing)
+alone_is asked is (Ok P) text went answer =
+    let limit = asked.config.limit in
+    let end : ◌≡◌ {A = Ending × State} (answer.ending, answer.state) (end_of P limit) =
+    subst (λ b. IsEnd b limit P answer.ending answer.state) is answer.is in
+    let line : went.line ≡ Nothing = subst (λ b. IsLineWith b answer.state.count went.line) is answer.line in
+    let told : ℕ → Line → Went = λ n l. record { status = n; line = l } in (
+      answer.report ∙ ap report_of_run end,
+      ap₂ told (answer.status ∙ ap (λ (e : Ending × State). status_number (ending_status e.0)) end) line,
+    )
+alone_is asked is (Err f) text went answer = answer
 
 -- the text and the status of the one-thread unit are an answer
 pub alone_answers : (asked : Asked) → asked.alone ≡ true → (known : Option (List ℕ)) (status : Status) (P : List ℕ → Type 0)

@@ -1,5 +1,5 @@
 -- What is told of a listing.
-use Rattle.std.specs.Prelude.{◌≡◌, ℕ, Bool, true, false, Result, Ok, Err, List, Option, Some}
+use Rattle.std.specs.Prelude.{◌≡◌, ℕ, Bool, true, false, Result, Ok, Err, List, Some}
 use Rattle.isa.specs.declared.end.End.{End}
 use Rattle.isa.specs.declared.end.Ending.{Ending}
 use Rattle.isa.specs.declared.listing.fault.FaultKind.{FaultKind}

@@ -1,5 +1,5 @@
 -- How a run went.
-use Rattle.std.specs.Prelude.{◌≡◌, ℕ, Bool, true, false, ⊤, Result, Ok, Err, List, [], ◌++◌, codes, decimal, Option, IfSome}
+use Rattle.std.specs.Prelude.{ℕ, ⊤, Result, Ok, Err, List, [], ◌++◌, codes, decimal, Option, IfSome}
 use Rattle.devices.specs.Counted.{known_by}
 use Rattle.devices.specs.declared.counted.Counted.{Counted}
 use Rattle.devices.specs.declared.input.InputFault.{InputFault}

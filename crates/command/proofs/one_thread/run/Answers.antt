@@ -1,4 +1,4 @@
-use Rattle.std.proofs.Common.{◌≡◌, sym, subst, IfSome}
+use Rattle.std.proofs.Common.{sym, subst, IfSome}
 use Rattle.devices.specs.Counted.{Gives, GivesPart}
 use Rattle.command.specs.Answers.{HasAnswer}
 use Rattle.command.specs.declared.went.Went.{Went}
