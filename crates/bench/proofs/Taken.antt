@@ -9,7 +9,7 @@ use Rattle.bench.specs.declared.outcome.Fault.TheVariants.{Write}
 use Rattle.bench.specs.Answer.{most_taken, text_for, text_of, status_for, status_of}
 
 -- the listing that a part of the input is, is that of the whole
-listing_taken : (input : List ℕ) → listing (take most_taken input) ≡ listing input
+pub listing_taken : (input : List ℕ) → listing (take most_taken input) ≡ listing input
 unfolding listing
 listing_taken input = elim (cases_lt 4194304 (length input)) [
   | inl more ↦ rw (lt-ltb 4194304 (length input) more, lt-ltb 4194304 (length (take most_taken input)) (omega (arith, length-take most_taken input))) refl

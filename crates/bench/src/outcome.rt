@@ -23,7 +23,7 @@ pub enum Status {
 
 impl Status {
     /// The status of a run that ended so.
-    pub(crate) fn of(ending: Ending) -> Status
+    pub fn of(ending: Ending) -> Status
         ensures { result ≡ ending_status ending }
     {
         match ending {

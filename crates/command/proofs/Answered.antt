@@ -1,7 +1,5 @@
 -- What is told of a listing, from what is known of its end.
-use Rattle.std.proofs.Common.{◌≡◌, ◌∙◌, ℕ, true, false, List, length, take, refl, ap, ap₂, sym, subst, arith, inl, inr, Option, Some, None, Result, Ok, Err, IfSome, IfOk, IfErr, IsErrAnd}
-use Rattle.std.proofs.lemmas.Bool.{cases_lt, lt-ltb}
-use Rattle.std.proofs.lemmas.List.{length-take, take_all}
+use Rattle.std.proofs.Common.{◌≡◌, ◌≤◌, ◌∙◌, ℕ, true, false, List, take, refl, ap, ap₂, sym, subst, arith, Option, Some, None, Result, Ok, Err, IfSome, IfOk, IfErr, IsErrAnd}
 use Rattle.isa.specs.declared.end.End.{End}
 use Rattle.isa.specs.declared.end.Ending.{Ending}
 use Rattle.isa.specs.declared.listing.fault.FaultKind.{FaultKind}
@@ -12,6 +10,7 @@ use Rattle.inorder.specs.Machine.{State}
 use Rattle.inorder.specs.Runs.{end_of}
 use Rattle.back.specs.Ends.{state_in}
 use Rattle.bench.specs.Answer.{most_taken, status_for, status_of, text_for, text_of, ending_status, report_of_run}
+use Rattle.bench.proofs.Taken.{listing_taken}
 use Rattle.bench.specs.declared.outcome.Fault.{Fault}
 use Rattle.bench.specs.declared.outcome.Fault.TheVariants as fault
 use Rattle.bench.specs.declared.outcome.Status.{Status}
@@ -19,7 +18,7 @@ use Rattle.bench.specs.declared.outcome.Status.TheVariants.{TextFault}
 use Rattle.pool.specs.declared.answer.Run.{Run}
 use Rattle.pool.specs.declared.answer.Run.TheVariants as run
 use Rattle.pool.specs.declared.answer.Tally.{Tally as Totals}
-use Rattle.pool.specs.Runs.{IsAfter, IsRight}
+use Rattle.pool.specs.Runs.{IsAfter, IsRight, IsWithin}
 use Rattle.command.specs.declared.request.Asked.{Asked}
 use Rattle.command.specs.declared.went.Line.{Line}
 use Rattle.command.specs.declared.went.Line.TheVariants.{Nothing, Refused, Tally}
@@ -105,13 +104,29 @@ after_of P (run.LimitReached e t) end totals right is =
     subst (λ (p : End × Totals). IsAfter P p.0 p.1) same right.0
 after_of P (run.Refused why) end totals right is = absurd (grind arith)
 
+-- it has run no instruction past the limit
+within_of : (limit : ℕ) (r : Run) (end : End) (totals : Totals) → IsWithin limit r → ended_of r ≡ Ok (end, totals)
+    → end.n ≤ limit
+within_of limit (run.Ended e t) end totals within is =
+    let same : ◌≡◌ {A = End × Totals} (e, t) (end, totals) = cc in
+    subst (λ (p : End × Totals). p.0.n ≤ limit) same within
+within_of limit (run.LimitReached e t) end totals within is =
+    let same : ◌≡◌ {A = End × Totals} (e, t) (end, totals) = cc in
+    subst (λ (p : End × Totals). p.0.n ≤ limit) same within
+within_of limit (run.Refused why) end totals within is = absurd (grind arith)
+
 -- the report of that end
 pool_reports : (asked : Asked) (P : Program) (end : End) (totals : Totals) → asked.alone ≡ false → IsAfter P end totals
+    → end.n ≤ asked.config.limit
     → IsReport asked P (report_of end) (written (ending_status end.outcome) (Tally totals))
-pool_reports asked P end totals is after = record {
+pool_reports asked P end totals is after within = record {
   ending = end.outcome;
   state = state_in end;
-  is = subst (λ b. IsEnd b asked.config.limit P end.outcome (state_in end)) (sym is) (after.in_order.state, after.in_order.stops);
+  is = subst (λ b. IsEnd b asked.config.limit P end.outcome (state_in end)) (sym is) (record {
+    reached = after.in_order.state;
+    stops = after.in_order.stops;
+    within = within;
+  });
   report = refl;
   status = refl;
   line = subst (λ b. IsLineWith b end.n (Tally totals)) (sym is) after.retires;
@@ -120,10 +135,11 @@ pool_reports asked P end totals is after = record {
 -- the text and what is told where the threads have run the program of a listing
 pub pool_answers : (asked : Asked) (found : Result Program (ℕ × FaultKind)) (P : Program) (r : Run) (end : End) (totals : Totals)
     (status : Status) (text : List ℕ) (went : Went) → asked.alone ≡ false → found ≡ Ok P → IsRight P r
-    → ended_of r ≡ Ok (end, totals) → status ≡ ending_status end.outcome → text ≡ report_of end
+    → IsWithin asked.config.limit r → ended_of r ≡ Ok (end, totals) → status ≡ ending_status end.outcome → text ≡ report_of end
     → went ≡ written status (Tally totals) → IsAnswer asked found text went
-pool_answers asked found P r end totals status text went is parsed right ended same reported told =
-    rw (parsed, reported, told, same) (pool_reports asked P end totals is (after_of P r end totals right ended))
+pool_answers asked found P r end totals status text went is parsed right within ended same reported told =
+    rw (parsed, reported, told, same) (pool_reports asked P end totals is (after_of P r end totals right ended)
+    (within_of asked.config.limit r end totals within ended))
 
 -- and where it has a fault
 pub fault_answers : (asked : Asked) (found : Result Program (ℕ × FaultKind)) (line : ℕ) (kind : FaultKind)
@@ -132,14 +148,6 @@ pub fault_answers : (asked : Asked) (found : Result Program (ℕ × FaultKind)) 
 fault_answers asked found line kind text went parsed same told = rw parsed (same, told)
 
 -- ---- reading
-
--- one byte more than a listing may have is enough to know it
-listing_taken : (input : List ℕ) → listing (take most_taken input) ≡ listing input
-unfolding listing
-listing_taken input = elim (cases_lt 4194304 (length input)) [
-  | inl more ↦ rw (lt-ltb 4194304 (length input) more, lt-ltb 4194304 (length (take most_taken input)) (omega (arith, length-take most_taken input))) refl
-  | inr less ↦ ap listing (take_all most_taken input (omega arith))
-]
 
 -- an answer to the bytes that were taken is one to all
 pub answer_taken : (asked : Asked) (known : Option (List ℕ)) (bytes slice text out : List ℕ) (went : Went) (P : List ℕ → Type 0)

@@ -1,5 +1,5 @@
 -- What is told of a listing.
-use Rattle.std.specs.Prelude.{◌≡◌, ℕ, Bool, true, false, Result, Ok, Err, List, Some}
+use Rattle.std.specs.Prelude.{◌≡◌, ◌≤◌, ℕ, Bool, true, false, Result, Ok, Err, List, Some}
 use Rattle.isa.specs.declared.end.End.{End}
 use Rattle.isa.specs.declared.end.Ending.{Ending}
 use Rattle.isa.specs.declared.listing.fault.FaultKind.{FaultKind}
@@ -21,12 +21,18 @@ use Rattle.command.specs.declared.went.Refusal.{Refusal}
 use Rattle.command.specs.declared.went.Went.{Went}
 use Rattle.command.specs.Went.{pool_refusal, status_number, written}
 
--- how and where a run ends: on one thread as the machine in order does, which may make so many
--- steps; on several threads behind some steps of that machine, and if by a stop, by its next step
+-- the end of a run on several threads: behind some steps of the machine in order, no more than the
+-- limit, and if by a stop, by its next step
+pub record IsEndOfThreads (limit : ℕ) (P : Program) (ending : Ending) (state : State) : Type 0 where
+  pub reached : after P state.count ≡ Some state
+  pub stops : StopsThere P state.count ending
+  pub within : state.count ≤ limit
+
+-- how and where a run ends that may make so many steps: on one thread as the machine in order does,
+-- on several threads as above
 abbrev pub IsEnd : (is_alone : Bool) → (limit : ℕ) → Program → Ending → State → Type 0
 IsEnd true limit P ending state = ◌≡◌ {A = Ending × State} (ending, state) (end_of P limit)
-IsEnd false limit P ending state =
-    (after P state.count ≡ Some state) × StopsThere P state.count ending
+IsEnd false limit P ending state = IsEndOfThreads limit P ending state
 
 -- the line that comes with a report of so many instructions
 abbrev pub IsLineWith : (is_alone : Bool) → (count : ℕ) → Line → Type 0

@@ -2,12 +2,12 @@
 ghost use Rattle.std.specs.Prelude.{◌≡◌, ◌≢◌, ◌+◌, ◌-◌, ◌^◌, ◌<◌, IfSome, IfOk, IfErr, OnOk, false, string_bytes};
 ghost use Rattle.isa.specs.Listing.{listing};
 ghost use Rattle.devices.specs.Counted.{failures_of, known_by, Gives, GivesPart};
-ghost use Rattle.pool.specs.Runs.{IsRight};
+ghost use Rattle.pool.specs.Runs.{IsRight, IsWithin};
 ghost use Rattle.command.specs.Answers.{HasAnswer, IsAnswer, ended_of};
 ghost use Rattle.command.specs.Went.{IsWritten};
 ghost use Rattle.command.specs.declared.went.Went.{Went};
 
-use crate::statuses::{status_of, written};
+use crate::statuses::written;
 use crate::{Asked, BranchPredictor, Line, Refusal, Went};
 use bench::Status;
 use devices::{Counted, read_up_to, write_whole};
@@ -71,7 +71,7 @@ fn answer<T: Threads + Wait + Sync, G: Gate + Sync>(
             let run = predicted(wait, alloc, asked, &program, gate);
             let (end, tally) = ended(run)?;
             let text = report_text(alloc, &end)?;
-            Ok((written(status_of(end.outcome), Line::Tally(tally)), text))
+            Ok((written(Status::of(end.outcome), Line::Tally(tally)), text))
         },
         Err(fault) if fault.kind == FaultKind::Memory => Err(Refusal::Memory),
         Err(fault) => {
@@ -89,7 +89,8 @@ fn predicted<T: Threads + Wait + Sync, G: Gate + Sync>(
     program: &Program,
     gate: &G,
 ) -> Run
-    ensures { IsRight program.now result }
+    ensures right { IsRight program.now result }
+    ensures within { IsWithin asked.now.config.limit result }
 {
     let config = &asked.config;
     match asked.predictor {

@@ -7,6 +7,6 @@ pub returns-in_ok-text-in-Ok-clause-ok : goal.returns-in_ok-text-in-Ok-clause-ok
 returns-in_ok-text-in-Ok-clause-ok g c =
     let ended = c.in_ok-end-in-Ok in
     pool_answers c.args.asked.now (listing c.args.bytes.now) c.in-Ok.program c.predicted-run.result ended.end ended.tally
-    c.status_of.result (string_bytes c.in_ok-text-in-Ok.text) c.written.result
-    c.requires.threads c.in-Ok.ensures.ok c.predicted-run.ensures (sym ended.ensures) c.status_of.ensures
-    c.in_ok-text-in-Ok.ensures c.written.ensures
+    c.of.result (string_bytes c.in_ok-text-in-Ok.text) c.written.result
+    c.requires.threads c.in-Ok.ensures.ok c.predicted-run.ensures.right c.predicted-run.ensures.within
+    (sym ended.ensures) c.of.ensures c.in_ok-text-in-Ok.ensures c.written.ensures
