@@ -1,12 +1,17 @@
 //! Runs a listing on one thread, from standard input to standard output.
 #![tactic(auto)]
 
+ghost use Rattle.std.specs.Prelude.{◌≡◌, IfSome};
+
 use bench::{Counted, Fault, Status, alone};
 use isa::{Config, NotTaken};
 use std::process::ExitCode;
 
 /// Ring 16, queue 8, one seat, one place, first tag 1, and 1,000,000 instructions at most.
-fn config() -> Option<Config> {
+fn config() -> Option<Config>
+    ensures sizes { IfSome result (λ c. (c.ring ≡ 16) × (c.queue ≡ 8)) }
+    ensures limit { IfSome result (λ c. c.limit ≡ 1000000) }
+{
     Config::new(16, 8, 1, 1, 1, 1_000_000, 0xffff_ffff).ok()
 }
 

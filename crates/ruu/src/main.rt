@@ -1,6 +1,10 @@
 //! The program `ruu`: its words, its file and its standard streams.
 #![tactic(auto)]
 
+ghost use Rattle.std.specs.Prelude.{◌≡◌};
+ghost use Rattle.std.specs.Process.{exit_status};
+ghost use Rattle.command.specs.Statuses.{status_of};
+
 use command::{Asked, Line, NoRun, asked, go, status};
 use devices::Counted;
 use pool::Open;
@@ -34,7 +38,9 @@ fn words(rt: &HostRuntime) -> Result<Vec<String>, NoRun> {
 }
 
 // A failure to print changes no status.
-fn refuse(rt: &HostRuntime, no_run: &NoRun) -> ExitCode {
+fn refuse(rt: &HostRuntime, no_run: &NoRun) -> ExitCode
+    ensures { exit_status result ≡ status_of no_run.now }
+{
     let _ = match no_run {
         NoRun::Help(text) => print!(rt; "{text}"),
         NoRun::Usage(text) => eprint!(rt; "{text}"),
