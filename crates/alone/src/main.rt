@@ -1,7 +1,9 @@
 //! Runs a listing on one thread, from standard input to standard output.
 #![tactic(auto)]
 
-ghost use Rattle.std.specs.Prelude.{◌≡◌, IfSome};
+ghost use Rattle.std.specs.Prelude.{◌≡◌, IfSome, IsSome};
+ghost use Rattle.std.specs.Process.{exit_status};
+ghost use Rattle.alone.specs.Statuses.{status_of};
 
 use bench::{Counted, Fault, Status, alone};
 use isa::{Config, NotTaken};
@@ -9,10 +11,41 @@ use std::process::ExitCode;
 
 /// Ring 16, queue 8, one seat, one place, first tag 1, and 1,000,000 instructions at most.
 fn config() -> Option<Config>
+    ensures there { IsSome result }
     ensures sizes { IfSome result (λ c. (c.ring ≡ 16) × (c.queue ≡ 8)) }
     ensures limit { IfSome result (λ c. c.limit ≡ 1000000) }
 {
     Config::new(16, 8, 1, 1, 1, 1_000_000, 0xffff_ffff).ok()
+}
+
+fn status(answer: Result<Status, Fault>) -> u8
+    ensures { result ≡ status_of answer }
+{
+    match answer {
+        Ok(Status::Break) => 0,
+        Ok(Status::Stopped) => 1,
+        Ok(Status::TextFault) => 2,
+        Ok(Status::Limit) => 4,
+        Err(_) => 5,
+    }
+}
+
+fn word(fault: Fault) -> &'static str {
+    match fault {
+        Fault::Memory => "memory",
+        Fault::Read => "read",
+        Fault::Write => "write",
+    }
+}
+
+// A failure to print changes no status.
+fn end(rt: &HostRuntime, answer: Result<Status, Fault>) -> ExitCode
+    ensures { exit_status result ≡ status_of answer }
+{
+    if let Err(fault) = answer {
+        let _ = eprintln!(rt; "ruu: {}", word(fault));
+    }
+    ExitCode::from(status(answer))
 }
 
 fn main(rt: HostRuntime) -> ExitCode {
@@ -21,15 +54,6 @@ fn main(rt: HostRuntime) -> ExitCode {
     };
     let mut reader = Counted::new(rt.stdin());
     let mut writer = Counted::new(rt.stdout());
-    let word = match alone(rt.alloc(), &mut reader, &mut writer, &config, NotTaken) {
-        Ok(Status::Break) => return ExitCode::SUCCESS,
-        Ok(Status::Stopped) => return ExitCode::from(1),
-        Ok(Status::TextFault) => return ExitCode::from(2),
-        Ok(Status::Limit) => return ExitCode::from(4),
-        Err(Fault::Memory) => "memory",
-        Err(Fault::Read) => "read",
-        Err(Fault::Write) => "write",
-    };
-    let _ = eprintln!(rt; "ruu: {word}");
-    ExitCode::from(5)
+    let answer = alone(rt.alloc(), &mut reader, &mut writer, &config, NotTaken);
+    end(&rt, answer)
 }

@@ -1,6 +1,7 @@
 //! Listings with their reports, and devices that fail.
 mod failing;
 mod faults;
+mod pairs;
 mod rows;
 
 use crate::{Counted, Status, alone};

@@ -1,53 +1,68 @@
 -- Only retirements commit.
-use Rattle.std.proofs.Common.{◌≡◌, ◌≢◌, ◌≤◌, arith, ℕ, suc, Bool, true, false, cond, List, [], ◌∷◌, ◌++◌, Some, refl, sym, ap, ◌∙◌, subst}
+use Rattle.std.proofs.Common.{◌≡◌, ◌≢◌, ◌≤◌, arith, ℕ, suc, Bool, true, false, cond, not, ◌&&◌, List, [], ◌∷◌, ◌++◌, Some, refl, sym, ap, ◌∙◌, subst}
 use Rattle.isa.specs.Programs.{Program}
 use Rattle.isa.specs.declared.stop.Outcome.{Outcome}
-use Rattle.isa.specs.declared.stop.Outcome.TheVariants.{Address, Next, Stop as Stops, Value}
+use Rattle.isa.specs.declared.stop.Outcome.TheVariants.{Address, Next, Pair, Stop as Stops, Value}
 use Rattle.inorder.specs.declared.history.Act.{Act}
 use Rattle.inorder.specs.declared.history.Act.TheVariants.{Claim, Deliver, Finish, Link, Load, Mend, Retire, Squash}
 use Rattle.inorder.specs.declared.history.Source.TheVariants.{First, Second}
 use Rattle.inorder.specs.declared.history.Step.{Step}
 use Rattle.inorder.specs.declared.history.Step.TheVariants.{Let, On}
-use Rattle.inorder.specs.Committed.{commits, commits_by, committed, with_tenant}
-use Rattle.inorder.specs.Laws.{HistoryGrows, IsNoRetire, OnlyRetirementsCommit}
+use Rattle.inorder.specs.Committed.{ahead, commits, commits_by, committed, completes, with_tenant}
+use Rattle.inorder.specs.Laws.{HistoryGrows, IsNoRetire}
 use Rattle.inorder.specs.Legal.{Allowed, AreAllowed, May, Taken, applied, changed, reached}
 use Rattle.inorder.specs.Machine.{State}
 use Rattle.inorder.specs.Runs.{after}
 use Rattle.inorder.specs.Steps.{finished, mended_as, retired}
-use Rattle.inorder.specs.Tenants.{Addr, Busy, Done, Fate, Live, Miss, Open, Stopped, Tenant, computed, stands_on_path}
+use Rattle.inorder.specs.Tenants.{Addr, Busy, Done, Fate, Live, Miss, Open, Stopped, Tenant, computed, is_first, stands_on_path}
 use Rattle.inorder.specs.Unit.{Sizes, UpdateUnit, at, older, younger}
 use Rattle.inorder.proofs.Basics.{split_at}
 use Rattle.inorder.proofs.Follows.{commits_retired, state_of}
 use Rattle.inorder.proofs.Grows.{all_mid}
 use Rattle.inorder.proofs.Kept.{kept, parts, sound}
-use Rattle.inorder.proofs.SettledRegisters.{committed_if}
-use Rattle.inorder.proofs.Sound.{IsSettled, IsSound, SettledBy}
+use Rattle.inorder.proofs.SettledRegisters.{ahead_if, committed_if, same_rest}
+use Rattle.inorder.proofs.Sound.{IsSettled, IsSound, IsSoundAt, SettledBy}
 
-live_not : (t : Tenant) → t.standing ≡ Live → commits t ≡ false
+pub live_not : (t : Tenant) → t.standing ≡ Live → commits t ≡ false
 live_not t e = ap (λ s. commits_by s t.fate) e
 
 -- nobody after a live tenant has committed
+later : (P : Program) (t u : Tenant) (ts ys : List Tenant) (y : Tenant) → t.standing ≡ Live →
+    IsSoundAt P (ys ++ t ∷ ts) y → commits y ≡ false
+later P t u ts ys y live s = go (commits y) refl
+  where
+    go : (b : Bool) → commits y ≡ b → commits y ≡ false
+    go true e =
+        let r = commits_retired y.standing y.fate e in
+        absurd (subst (λ x. SettledBy x t.fate) live
+        (all_mid IsSettled t ts ys ((s.placed (ap stands_on_path r)).settled r)))
+    go false e = e
+
+-- nor completed an instruction
+pub not_complete : (P : Program) (y : Tenant) → commits y ≡ false → completes P y ≡ false
+not_complete P y e = ap (λ b. b && not (is_first P y)) e
+
 pub over : (P : Program) (t u : Tenant) (ts ys : List Tenant) → t.standing ≡ Live → IsSound P (ys ++ t ∷ ts) →
     committed P (ys ++ u ∷ ts) ≡ committed P (u ∷ ts)
 over P t u ts [] live s = refl
-over P t u ts (y ∷ ys) live s = go (commits y) refl (over P t u ts ys live s.1)
-  where
-    go : (b : Bool) → commits y ≡ b → committed P (ys ++ u ∷ ts) ≡ committed P (u ∷ ts) →
-        committed P (y ∷ (ys ++ u ∷ ts)) ≡ committed P (u ∷ ts)
-    go true e more =
-        let r = commits_retired y.standing y.fate e in
-        absurd (subst (λ x. SettledBy x t.fate) live
-        (all_mid IsSettled t ts ys ((s.0.placed (ap stands_on_path r)).settled r)))
-    go false e more = committed_if P y (ys ++ u ∷ ts) false e ∙ more
+over P t u ts (y ∷ ys) live s =
+    committed_if P y (ys ++ u ∷ ts) false (not_complete P y (later P t u ts ys y live s.0)) ∙ over P t u ts ys live s.1
+
+pub over_ahead : (P : Program) (t u : Tenant) (ts ys : List Tenant) → t.standing ≡ Live → IsSound P (ys ++ t ∷ ts) →
+    ahead P (ys ++ u ∷ ts) ≡ ahead P (u ∷ ts)
+over_ahead P t u ts [] live s = refl
+over_ahead P t u ts (y ∷ ys) live s =
+    ahead_if P y (ys ++ u ∷ ts) false (later P t u ts ys y live s.0) ∙ over_ahead P t u ts ys live s.1
 
 pub by_retire : (P : Program) (C : Sizes) (U : UpdateUnit) (by p n : ℕ) (t : Tenant) → IsSound P U.tenants →
     Allowed P C U by (On p (Retire n)) → at U.tenants p ≡ Some t →
-    committed P (applied P C U by (On p (Retire n))).tenants ≡ cond (commits (retired t n)) (with_tenant P
-    (retired t n) (committed P U.tenants)) (committed P U.tenants)
+    committed P (applied P C U by (On p (Retire n))).tenants ≡ cond (completes P (retired t n)) (with_tenant P
+    (retired t n) (ahead P U.tenants)) (committed P U.tenants)
 by_retire P C U by p n t sound a e =
     ap (committed P) (parts P vs by p (Retire n) t e)
     ∙ over P t (retired t n) ts ys live s
-    ∙ ap (λ v. cond (commits (retired t n)) (with_tenant P (retired t n) v) v) (sym before)
+    ∙ ap (λ v. cond (completes P (retired t n)) (with_tenant P (retired t n) (ahead P ts)) v) (sym before)
+    ∙ ap (λ v. cond (completes P (retired t n)) (with_tenant P (retired t n) v) (committed P vs)) (sym before_ahead)
   where
     vs : List Tenant
     vs = U.tenants
@@ -70,34 +85,39 @@ by_retire P C U by p n t sound a e =
     before : committed P vs ≡ committed P ts
     before =
         ap (committed P) (split_at vs p t e) ∙ over P t t ts ys live s
-        ∙ committed_if P t ts false (live_not t live)
+        ∙ committed_if P t ts false (not_complete P t (live_not t live))
+
+    before_ahead : ahead P vs ≡ ahead P ts
+    before_ahead =
+        ap (ahead P) (split_at vs p t e) ∙ over_ahead P t t ts ys live s
+        ∙ ahead_if P t ts false (live_not t live)
 
 -- The other steps keep the count, and so the state
 
-count_same : (P : Program) (t t' : Tenant) (ts ys : List Tenant) → commits t' ≡ commits t →
+count_if : (P : Program) (t : Tenant) (ts : List Tenant) →
+    (committed P (t ∷ ts)).count ≡ cond (completes P t) (suc (committed P ts).count) (committed P ts).count
+count_if P t ts = go (completes P t)
+  where
+    go : (b : Bool) → (cond b (with_tenant P t (ahead P ts)) (committed P ts)).count ≡ cond b
+        (suc (committed P ts).count) (committed P ts).count
+    go true = ap suc (sym (same_rest P ts).2)
+    go false = refl
+
+count_same : (P : Program) (t t' : Tenant) (ts ys : List Tenant) → completes P t' ≡ completes P t →
     (committed P (ys ++ t' ∷ ts)).count ≡ (committed P (ys ++ t ∷ ts)).count
-count_same P t t' ts [] e = go (commits t') (commits t) e
-  where
-    go : (b c : Bool) → b ≡ c →
-        (cond b (with_tenant P t' (committed P ts)) (committed P ts)).count ≡ (cond c
-        (with_tenant P t (committed P ts)) (committed P ts)).count
-    go true true f = refl
-    go false false f = refl
-    go true false f = absurd (cc)
-    go false true f = absurd (cc)
-count_same P t t' ts (y ∷ ys) e = go (commits y) (count_same P t t' ts ys e)
-  where
-    go : (b : Bool) → (committed P (ys ++ t' ∷ ts)).count ≡ (committed P (ys ++ t ∷ ts)).count →
-        (cond b (with_tenant P y (committed P (ys ++ t' ∷ ts))) (committed P (ys ++ t' ∷ ts))).count ≡ (cond b
-        (with_tenant P y (committed P (ys ++ t ∷ ts))) (committed P (ys ++ t ∷ ts))).count
-    go true f = ap suc f
-    go false f = f
+count_same P t t' ts [] e =
+    count_if P t' ts ∙ ap (λ b. cond b (suc (committed P ts).count) (committed P ts).count) e ∙ sym (count_if P t ts)
+count_same P t t' ts (y ∷ ys) e =
+    count_if P y (ys ++ t' ∷ ts)
+    ∙ ap (λ n. cond (completes P y) (suc n) n) (count_same P t t' ts ys e)
+    ∙ sym (count_if P y (ys ++ t ∷ ts))
 
 finish_stays : (t : Tenant) (o : Outcome) → t.standing ≡ Live → commits (finished t o) ≡ commits t
 finish_stays t (Value v) e = ap (λ s. commits_by s (Done v)) e ∙ sym (live_not t e)
 finish_stays t (Next v) e = ap (λ s. commits_by s (finished t (Next v)).fate) e ∙ sym (live_not t e)
 finish_stays t (Address v) e = ap (λ s. commits_by s (Addr v)) e ∙ sym (live_not t e)
 finish_stays t (Stops v) e = ap (λ s. commits_by s (Stopped v)) e ∙ sym (live_not t e)
+finish_stays t (Pair l h) e = ap (λ s. commits_by s (Done l)) e ∙ sym (live_not t e)
 
 mend_stays : (t : Tenant) (f : Fate) → t.standing ≡ Live → commits (mended_as t f) ≡ commits t
 mend_stays t Open e = refl
@@ -107,7 +127,7 @@ mend_stays t (Done v) e = refl
 mend_stays t (Miss v) e = ap (λ s. commits_by s (Done v)) e ∙ sym (live_not t e)
 mend_stays t (Stopped v) e = refl
 
-act_stays : (P : Program) (by : ℕ) (act : Act) (ys : List Tenant) (t : Tenant) (ts : List Tenant) →
+pub act_stays : (P : Program) (by : ℕ) (act : Act) (ys : List Tenant) (t : Tenant) (ts : List Tenant) →
     ((n : ℕ) → act ≢ Retire n) → May P by act ys t ts → commits (changed P by act t ts) ≡ commits t
 act_stays P by (Link First) ys t ts other m = refl
 act_stays P by (Link Second) ys t ts other m = refl
@@ -121,7 +141,41 @@ act_stays P by (Retire n) ys t ts other m = absurd (other n refl)
 act_stays P by Squash ys t ts other m = sym (live_not t m.live)
 act_stays P by Mend ys t ts other m = mend_stays t t.fate m.live
 
-is_other : (p : ℕ) (act : Act) → IsNoRetire (On p act) → (n : ℕ) → act ≢ Retire n
+half_stays : (P : Program) (by : ℕ) (act : Act) (t : Tenant) (ts : List Tenant) →
+    is_first P (changed P by act t ts) ≡ is_first P t
+half_stays P by (Link First) t ts = refl
+half_stays P by (Link Second) t ts = refl
+half_stays P by (Deliver First) t ts = refl
+half_stays P by (Deliver Second) t ts = refl
+half_stays P by Claim t ts = refl
+half_stays P by Finish t ts = go (computed P t)
+  where
+    go : (o : Outcome) → is_first P (finished t o) ≡ is_first P t
+    go (Value v) = refl
+    go (Next v) = refl
+    go (Address v) = refl
+    go (Stops v) = refl
+    go (Pair l h) = refl
+half_stays P by Load t ts = refl
+half_stays P by (Retire n) t ts = refl
+half_stays P by Squash t ts = refl
+half_stays P by Mend t ts = go t.fate
+  where
+    go : (f : Fate) → is_first P (mended_as t f) ≡ is_first P t
+    go Open = refl
+    go (Busy v) = refl
+    go (Addr v) = refl
+    go (Done v) = refl
+    go (Miss v) = refl
+    go (Stopped v) = refl
+
+both_stay : (P : Program) (by : ℕ) (act : Act) (ys : List Tenant) (t : Tenant) (ts : List Tenant) →
+    ((n : ℕ) → act ≢ Retire n) → May P by act ys t ts → completes P (changed P by act t ts) ≡ completes P t
+both_stay P by act ys t ts other m =
+    ap (λ b. b && not (is_first P (changed P by act t ts))) (act_stays P by act ys t ts other m)
+    ∙ ap (λ b. commits t && not b) (half_stays P by act t ts)
+
+pub is_other : (p : ℕ) (act : Act) → IsNoRetire (On p act) → (n : ℕ) → act ≢ Retire n
 is_other p (Retire m) h n e = h
 is_other p (Link k) h n e = cc
 is_other p (Deliver k) h n e = cc
@@ -139,7 +193,7 @@ count_kept P C U by (On p act) other a =
     let t = a.tenant in
     let t' = changed P by act t (older ts p) in
     ap (λ V. (committed P V).count) (parts P ts by p act t a.is)
-    ∙ count_same P t t' (older ts p) (younger ts p) (act_stays P by act (younger ts p) t (older ts p)
+    ∙ count_same P t t' (older ts p) (younger ts p) (both_stay P by act (younger ts p) t (older ts p)
     (is_other p act other) a.may)
     ∙ ap (λ V. (committed P V).count) (sym (split_at ts p t a.is))
 
@@ -153,25 +207,18 @@ by_others P C U by s sound other a =
     ∙ ap (after P) same ∙ before in
     cc both
 
-pub all_commits : (P : Program) (C : Sizes) (history : List Taken) (by : ℕ) →
-    OnlyRetirementsCommit P C history by
-all_commits P C history by a =
-    let U = reached P C history in
-    let s = sound P C history a in
-    record { by_retire = λ p n t. by_retire P C U by p n t s; by_others = λ step. by_others P C U by step s }
-
 -- A longer history
 
-one_more : (b : Bool) (P : Program) (t : Tenant) (s : State) → s.count ≤ (cond b (with_tenant P t s) s).count
-one_more true P t s = omega arith
-one_more false P t s = omega arith
+one_more : (b : Bool) (P : Program) (t : Tenant) (a s : State) → s.count ≡ a.count → s.count ≤ (cond b (with_tenant P t a) s).count
+one_more true P t a s e = omega (arith, e)
+one_more false P t a s e = omega arith
 
 -- one step more
 step_count : (P : Program) (C : Sizes) (U : UpdateUnit) (by : ℕ) (s : Step) → IsSound P U.tenants →
     Allowed P C U by s → (committed P U.tenants).count ≤ (committed P (applied P C U by s).tenants).count
 step_count P C U by (On p (Retire n)) s a =
     let e = ap (λ v. v.count) (by_retire P C U by p n a.tenant s a a.is) in
-    let m = one_more (commits (retired a.tenant n)) P (retired a.tenant n) (committed P U.tenants) in
+    let m = one_more (completes P (retired a.tenant n)) P (retired a.tenant n) (ahead P U.tenants) (committed P U.tenants) (same_rest P U.tenants).2 in
     omega (arith, e, m)
 step_count P C U by (Let index predicted first second) s a =
     let e = count_kept P C U by (Let index predicted first second) tt a in omega (arith, e)

@@ -1,5 +1,6 @@
 -- Creators are older than the tenants whose sources they give.
 use Rattle.std.proofs.Common.{◌≡◌, ◌⊎◌, ℕ, ◌<◌, Bool, true, false, cond, eqb, List, [], ◌∷◌, length, Option, Some, None, refl, sym, ap, ◌∙◌, subst, inl, inr, ⊎_elim, eqb-true}
+use Rattle.isa.specs.Instruction.{first_of, second_of}
 use Rattle.isa.specs.Programs.{Program, instr_of}
 use Rattle.inorder.specs.declared.history.Source.{Source}
 use Rattle.inorder.specs.declared.history.Source.TheVariants.{First, Second}
@@ -42,8 +43,12 @@ let_creator c (Known v) = refl
 let_creator c From = refl
 
 pub new_older : (P : Program) (C : Sizes) (U : UpdateUnit) (index predicted : ℕ) (first second : Supply) (k : Source) (q : ℕ) → (operand k (new_tenant P C U index predicted first second)).creator ≡ Some q → q < length U.tenants
-new_older P C U index predicted first second First q e = subst (λ z. Below z (length U.tenants)) (sym (let_creator (creator P U.tenants (instr_of P index).first) first) ∙ e) (creator_below P U.tenants (instr_of P index).first)
-new_older P C U index predicted first second Second q e = subst (λ z. Below z (length U.tenants)) (sym (let_creator (creator P U.tenants (instr_of P index).second) second) ∙ e) (creator_below P U.tenants (instr_of P index).second)
+new_older P C U index predicted first second First q e =
+    subst (λ z. Below z (length U.tenants)) (sym (let_creator (creator P U.tenants (first_of (instr_of P index))) first) ∙ e)
+    (creator_below P U.tenants (first_of (instr_of P index)))
+new_older P C U index predicted first second Second q e =
+    subst (λ z. Below z (length U.tenants)) (sym (let_creator (creator P U.tenants (second_of (instr_of P index))) second) ∙ e)
+    (creator_below P U.tenants (second_of (instr_of P index)))
 
 older_kept : (P : Program) (C : Sizes) (U : UpdateUnit) (by : ℕ) (s : Step) → Allowed P C U by s → IsSound P U.tenants → AreOlder U.tenants → AreOlder (applied P C U by s).tenants
 older_kept P C U by (Let index predicted first second) a ok o r t k q is e = ⊎_elim

@@ -412,6 +412,6 @@ unfolding instr_at computed_by jump_target checked_address loaded
 creators_then = (refl, refl, refl, refl)
 
 links_committed : committed dead_link (reached dead_link ring_of_four links_ended).tenants ≡
-    record { registers = 0 ∷ 1 ∷ 0 ∷ 3 ∷ 6 ∷ replicate 27 0; memory = []; pc = 0x00400014; count = 4 }
+    record { registers = 0 ∷ 1 ∷ 0 ∷ 3 ∷ 6 ∷ replicate 29 0; memory = []; pc = 0x00400014; count = 4 }
 unfolding instr_at computed_by jump_target checked_address loaded
 links_committed = refl

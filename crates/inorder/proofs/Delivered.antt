@@ -2,7 +2,7 @@
 use Rattle.std.proofs.Common.{◌≡◌, ◌≢◌, ℕ, List, ◌∷◌, Some, refl, sym, ap, ◌∙◌, subst, ⊎_elim}
 use Rattle.isa.specs.Programs.{Program}
 use Rattle.isa.specs.declared.stop.Outcome.{Outcome}
-use Rattle.isa.specs.declared.stop.Outcome.TheVariants.{Address, Next, Stop as Stops, Value}
+use Rattle.isa.specs.declared.stop.Outcome.TheVariants.{Pair, Address, Next, Stop as Stops, Value}
 use Rattle.inorder.specs.declared.history.Act.{Act}
 use Rattle.inorder.specs.declared.history.Act.TheVariants.{Claim, Deliver, Finish, Link, Load, Mend, Retire, Squash}
 use Rattle.inorder.specs.declared.history.Source.{Source}
@@ -44,10 +44,12 @@ finish_gives_none t First (Value v) = refl
 finish_gives_none t First (Next x) = refl
 finish_gives_none t First (Address a) = refl
 finish_gives_none t First (Stops c) = refl
+finish_gives_none t First (Pair l h) = refl
 finish_gives_none t Second (Value v) = refl
 finish_gives_none t Second (Next x) = refl
 finish_gives_none t Second (Address a) = refl
 finish_gives_none t Second (Stops c) = refl
+finish_gives_none t Second (Pair l h) = refl
 
 -- an act other than a delivery to source k leaves its value
 act_keeps : (P : Program) (by p : ℕ) (act : Act) (ys : List Tenant) (t : Tenant) (ts : List Tenant) (k : Source) →

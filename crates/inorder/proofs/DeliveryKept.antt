@@ -5,6 +5,7 @@ use Rattle.isa.specs.Instruction.{kind, width}
 use Rattle.isa.specs.Operations.{outcome_by}
 use Rattle.isa.specs.Programs.{Program, instr_of}
 use Rattle.isa.specs.declared.instr.Instr.{Instr}
+use Rattle.isa.specs.declared.op.Half.{Half}
 use Rattle.isa.specs.declared.op.Kind.{Kind}
 use Rattle.isa.specs.declared.op.Kind.TheVariants.{Computes, Jumps, Links, Loads, Stores}
 use Rattle.isa.specs.declared.stop.Outcome.{Outcome}
@@ -43,10 +44,11 @@ not_stored false k f w d h = refl
 
 -- a live tenant that is no store with an address
 pub fresh_grows : (P : Program) (t t' : Tenant) → t.standing ≡ Live → (HasAddress P t → kind_of P t ≢ Stores) →
-    t'.index ≡ t.index → t'.next ≡ t.next → t'.standing ≡ t.standing → MadeGrows t t' → Grows P t t'
-fresh_grows P t t' live fresh index next standing made =
+    t'.index ≡ t.index → t'.half ≡ t.half → t'.next ≡ t.next → t'.standing ≡ t.standing → MadeGrows t t' → Grows P t t'
+fresh_grows P t t' live fresh index half next standing made =
     record {
       index = index;
+      half = half;
       next = next;
       path = ap stands_on_path standing;
       made = made;
@@ -79,6 +81,7 @@ link_sound P ts t First s =
             first = q.first;
             second = q.second;
             pc = q.pc;
+            half = q.half;
             load = q.load;
             settled = q.settled;
             can = q.can;
@@ -99,6 +102,7 @@ link_sound P ts t Second s =
             first = q.first;
             second = q.second;
             pc = q.pc;
+            half = q.half;
             load = q.load;
             settled = q.settled;
             can = q.can;
@@ -109,6 +113,7 @@ pub link_grows : (P : Program) (ts : List Tenant) (t : Tenant) (k : Source) → 
 link_grows P ts t First =
     record {
       index = refl;
+      half = refl;
       next = refl;
       path = refl;
       made = λ v e. e;
@@ -119,6 +124,7 @@ link_grows P ts t First =
 link_grows P ts t Second =
     record {
       index = refl;
+      half = refl;
       next = refl;
       path = refl;
       made = λ v e. e;
@@ -183,17 +189,17 @@ second_store o pc pr nx made a w st (Done q) h = h
 second_store o pc pr nx made a w st (Miss q) h = h
 second_store o pc pr nx made a w st (Stopped q) h = h
 
-pub second_fate : (k : Kind) (i : Instr) (pc x size pr nx : ℕ) (made a w : Option ℕ) (st : Standing) (f : Fate)
-    (q : ℕ) → FateBy k (outcome_by k i pc x q size) pc pr nx made a None st f →
-    FateBy k (outcome_by k i pc x (unwrap_or w 0) size) pc pr nx made a w st f
-second_fate Stores i pc x size pr nx made a w st f q h = second_store _ pc pr nx made a w st f h
-second_fate Computes i pc x size pr nx made a w st f q h =
+pub second_fate : (k : Kind) (i : Instr) (half : Half) (pc x size pr nx : ℕ) (made a w : Option ℕ) (st : Standing) (f : Fate)
+    (q : ℕ) → FateBy k (outcome_by k i half pc x q size) pc pr nx made a None st f →
+    FateBy k (outcome_by k i half pc x (unwrap_or w 0) size) pc pr nx made a w st f
+second_fate Stores i half pc x size pr nx made a w st f q h = second_store _ pc pr nx made a w st f h
+second_fate Computes i half pc x size pr nx made a w st f q h =
     second_others Computes _ _ pc pr nx made a w st f (λ e. absurd (cc)) h
-second_fate Jumps i pc x size pr nx made a w st f q h =
+second_fate Jumps i half pc x size pr nx made a w st f q h =
     second_others Jumps _ _ pc pr nx made a w st f (λ e. absurd (cc)) h
-second_fate Links i pc x size pr nx made a w st f q h =
+second_fate Links i half pc x size pr nx made a w st f q h =
     second_others Links _ _ pc pr nx made a w st f (λ e. absurd (cc)) h
-second_fate Loads i pc x size pr nx made a w st f q h =
+second_fate Loads i half pc x size pr nx made a w st f q h =
     second_others Loads _ _ pc pr nx made a w st f (λ e. absurd (cc)) h
 
 pub second_load : (P : Program) (ts : List Tenant) (i : Instr) (k : Kind) (o o' : Outcome) (pc pr nx : ℕ)
@@ -253,6 +259,7 @@ deliver_sound P ts t First m s =
             first = q.first;
             second = q.second;
             pc = q.pc;
+            half = q.half;
             load = first_load P ts (instr P t)
                 (kind_of P t) _ _ t.pc t.predicted t.next t.made t.second.value t.standing t.fate f;
             settled = q.settled;
@@ -270,7 +277,7 @@ deliver_sound P ts t Second m s =
             place = s.own.place;
             inside = s.own.inside;
             goes_on = s.own.goes_on;
-            fate = second_fate (kind_of P t) (instr P t) t.pc (operand_value t.first)
+            fate = second_fate (kind_of P t) (instr P t) t.half t.pc (operand_value t.first)
                 (length P.bytes) t.predicted t.next t.made t.first.value
                 (value_of ts t.second.creator) t.standing t.fate (operand_value t.second) f;
           };
@@ -280,6 +287,7 @@ deliver_sound P ts t Second m s =
             first = q.first;
             second = q.second;
             pc = q.pc;
+            half = q.half;
             load = second_load P ts (instr P t)
                 (kind_of P t) _ _ t.pc t.predicted t.next t.made t.first.value t.standing t.fate f;
             settled = q.settled;
@@ -293,6 +301,7 @@ pub deliver_grows : (P : Program) (ts : List Tenant) (t : Tenant) (k : Source) �
 deliver_grows P ts t First m =
     record {
       index = refl;
+      half = refl;
       next = refl;
       path = refl;
       made = λ v e. e;
@@ -303,6 +312,7 @@ deliver_grows P ts t First m =
 deliver_grows P ts t Second m =
     record {
       index = refl;
+      half = refl;
       next = refl;
       path = refl;
       made = λ v e. e;

@@ -2,7 +2,7 @@
 use Rattle.std.proofs.Common.{◌≡◌, ℕ, suc, ◌-◌, Bool, true, false, cond, ◌&&◌, eqb, List, [], ◌∷◌, ◌++◌, length, Option, Some, None, refl, sym, ap, ◌∙◌, subst, true≢false}
 use Rattle.std.specs.List.{AllByRecursion}
 use Rattle.std.specs.Prelude.{option_map}
-use Rattle.isa.specs.Instruction.{destination, width}
+use Rattle.isa.specs.Instruction.{destination, first_of, is_first_half, second_of, width}
 use Rattle.isa.specs.Programs.{Program, instr_of}
 use Rattle.isa.specs.declared.instr.Instr.{Instr}
 use Rattle.isa.specs.declared.op.Kind.{Kind}
@@ -10,8 +10,8 @@ use Rattle.isa.specs.declared.op.Kind.TheVariants.{Computes, Jumps, Links, Loads
 use Rattle.isa.specs.declared.stop.Outcome.{Outcome}
 use Rattle.inorder.specs.Memory.{Stored, byte_after, byte_at, covers, stored}
 use Rattle.inorder.specs.Steps.{HasAddress}
-use Rattle.inorder.specs.Tenants.{Addr, Busy, Done, Fate, IsNotLive, Live, Miss, Open, Retired, Squashed, Standing, Stopped, Tenant, instr, kind_of, on_path, stands_on_path}
-use Rattle.inorder.specs.Unit.{at, can_be_written, creator, front_pc, last_writer, made_by, value_of}
+use Rattle.inorder.specs.Tenants.{Addr, Busy, Done, Fate, IsNotLive, Live, Miss, Open, Retired, Squashed, Standing, Stopped, Tenant, destination_of, instr, is_first, kind_of, on_path, stands_on_path}
+use Rattle.inorder.specs.Unit.{at, can_be_written, creator, front_half, front_pc, half_after, last_writer, made_by, value_of}
 use Rattle.lsq.specs.Bytes.{byte_of}
 use Rattle.inorder.proofs.Basics.{number_stays}
 use Rattle.inorder.proofs.Sound.{HasRead, IsInPlace, IsOwn, IsSettled, IsSound, IsSoundAt, LoadIs, SettledBy}
@@ -29,6 +29,7 @@ MadeGrows t t' = (v : ℕ) → t.made ≡ Some v → t'.made ≡ Some v
 -- what the tenants after it rest on
 pub record Grows (P : Program) (t t' : Tenant) : Type 0 where
   pub index : t'.index ≡ t.index
+  pub half : t'.half ≡ t.half
   pub next : t'.next ≡ t.next
   pub path : on_path t' ≡ on_path t
   pub made : MadeGrows t t'
@@ -75,19 +76,28 @@ value_of_grows t t' ts ys g None v e = e
 value_of_grows t t' ts ys g (Some p) v e = made_at_grows t t' ts ys g p v e
 
 writer_grows : (P : Program) (t t' : Tenant) (ts ys : List Tenant) (r : ℕ) → t'.index ≡ t.index →
-    on_path t' ≡ on_path t → last_writer P (ys ++ t' ∷ ts) r ≡ last_writer P (ys ++ t ∷ ts) r
-writer_grows P t t' ts [] r e f =
-    ap (λ b. cond (b && eqb (destination (instr P t')) r) (Some (length ts)) (last_writer P ts r)) f
-    ∙ ap (λ k. cond (on_path t && eqb (destination (instr_of P k)) r) (Some (length ts)) (last_writer P ts r)) e
-writer_grows P t t' ts (y ∷ ys) r e f =
-    ap (λ n. cond (on_path y && eqb (destination (instr P y)) r) (Some n) (last_writer P (ys ++ t' ∷ ts) r))
+    t'.half ≡ t.half → on_path t' ≡ on_path t → last_writer P (ys ++ t' ∷ ts) r ≡ last_writer P (ys ++ t ∷ ts) r
+writer_grows P t t' ts [] r e h f =
+    ap (λ b. cond (b && eqb (destination (instr P t') t'.half) r) (Some (length ts)) (last_writer P ts r)) f
+    ∙ ap (λ k. cond (on_path t && eqb (destination (instr_of P k) t'.half) r) (Some (length ts)) (last_writer P ts r)) e
+    ∙ ap (λ k. cond (on_path t && eqb (destination (instr P t) k) r) (Some (length ts)) (last_writer P ts r)) h
+writer_grows P t t' ts (y ∷ ys) r e h f =
+    ap (λ n. cond (on_path y && eqb (destination_of P y) r) (Some n) (last_writer P (ys ++ t' ∷ ts) r))
     (sym (same_length t t' ts ys))
-    ∙ ap (cond (on_path y && eqb (destination (instr P y)) r) (Some (length (ys ++ t ∷ ts))))
-    (writer_grows P t t' ts ys r e f)
+    ∙ ap (cond (on_path y && eqb (destination_of P y) r) (Some (length (ys ++ t ∷ ts))))
+    (writer_grows P t t' ts ys r e h f)
 
 pub creator_grows : (P : Program) (t t' : Tenant) (ts ys : List Tenant) (r : ℕ) → t'.index ≡ t.index →
-    on_path t' ≡ on_path t → creator P (ys ++ t' ∷ ts) r ≡ creator P (ys ++ t ∷ ts) r
-creator_grows P t t' ts ys r e f = ap (λ c. cond (can_be_written r) c None) (writer_grows P t t' ts ys r e f)
+    t'.half ≡ t.half → on_path t' ≡ on_path t → creator P (ys ++ t' ∷ ts) r ≡ creator P (ys ++ t ∷ ts) r
+creator_grows P t t' ts ys r e h f = ap (λ c. cond (can_be_written r) c None) (writer_grows P t t' ts ys r e h f)
+
+pub half_grows : (P : Program) (t t' : Tenant) (ts ys : List Tenant) → t'.index ≡ t.index → t'.half ≡ t.half →
+    on_path t' ≡ on_path t → front_half P (ys ++ t' ∷ ts) ≡ front_half P (ys ++ t ∷ ts)
+half_grows P t t' ts [] e h f =
+    ap (λ b. cond b (half_after (is_first P t')) (front_half P ts)) f
+    ∙ ap (λ k. cond (on_path t) (half_after (is_first_half (instr_of P k).op t'.half)) (front_half P ts)) e
+    ∙ ap (λ k. cond (on_path t) (half_after (is_first_half (instr P t).op k)) (front_half P ts)) h
+half_grows P t t' ts (y ∷ ys) e h f = ap (cond (on_path y) (half_after (is_first P y))) (half_grows P t t' ts ys e h f)
 
 pub front_grows : (t t' : Tenant) (ts ys : List Tenant) → t'.next ≡ t.next → on_path t' ≡ on_path t →
     front_pc (ys ++ t' ∷ ts) ≡ front_pc (ys ++ t ∷ ts)
@@ -185,9 +195,10 @@ placed_grows : (P : Program) (t t' : Tenant) (ts ys : List Tenant) (y : Tenant) 
     IsInPlace P (ys ++ t ∷ ts) y → IsInPlace P (ys ++ t' ∷ ts) y
 placed_grows P t t' ts ys y g o =
     record {
-      first = o.first ∙ sym (creator_grows P t t' ts ys (instr P y).first g.index g.path);
-      second = o.second ∙ sym (creator_grows P t t' ts ys (instr P y).second g.index g.path);
+      first = o.first ∙ sym (creator_grows P t t' ts ys (first_of (instr P y)) g.index g.half g.path);
+      second = o.second ∙ sym (creator_grows P t t' ts ys (second_of (instr P y)) g.index g.half g.path);
       pc = o.pc ∙ sym (front_grows t t' ts ys g.next g.path);
+      half = o.half ∙ sym (half_grows P t t' ts ys g.index g.half g.path);
       load = load_grows P t t' ts ys (instr P y) _ (kind_of P y) y.fate g o.load;
       settled = λ e. all_grows IsSettled t t' ts ys g.settled (o.settled e);
       can = o.can;

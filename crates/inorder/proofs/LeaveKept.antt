@@ -7,7 +7,7 @@ use Rattle.isa.specs.declared.op.Kind.{Kind}
 use Rattle.isa.specs.declared.stop.Outcome.{Outcome}
 use Rattle.inorder.specs.Memory.{stored, stored_by}
 use Rattle.inorder.specs.Steps.{IsNoRetiredStop, MayRetire, made_at_end, retired, squashed}
-use Rattle.inorder.specs.Tenants.{Addr, Busy, Done, Fate, IsNotLive, Live, Miss, Open, Retired, Squashed, Standing, Stopped, Tenant, computed, instr, kind_of}
+use Rattle.inorder.specs.Tenants.{Addr, Busy, Done, Fate, IsNotLive, Live, Miss, Open, Retired, Squashed, Standing, Stopped, Tenant, behind, computed, instr, kind_of}
 use Rattle.inorder.proofs.DeliveryKept.{live_not_retired, live_on, live_unsettled, stores_self}
 use Rattle.inorder.proofs.FinishKept.{next_goes_on, next_is_done, next_load}
 use Rattle.inorder.proofs.Grows.{Grows, StoredGrows}
@@ -69,6 +69,7 @@ retire_sound P ts t n m s =
             first = q.first;
             second = q.second;
             pc = q.pc;
+            half = q.half;
             load = q.load;
             settled = λ e. settled_from ts m.oldest m.no_stop;
             can = λ e. m.can;
@@ -82,6 +83,7 @@ retire_grows P ts t n m s =
     (computed P t) t.pc t.predicted t.next t.made t.first.value t.second.value st t.fate) m.live s.own.fate in
     record {
       index = refl;
+      half = refl;
       next = refl;
       path = sym (live_on t m.live);
       made =
@@ -138,8 +140,8 @@ mend_sound P ts t x live e s =
             second = s.own.second;
             place = s.own.place;
             inside = s.own.inside;
-            goes_on = next_goes_on (instr P t) t.pc _ _ _ (kind_of P t) x f.1;
-            fate = (next_is_done (instr P t) t.pc _ _ _ (kind_of P t) x x t.made f.1 refl f.0, f.2);
+            goes_on = next_goes_on (instr P t) t.half t.pc _ _ _ (kind_of P t) x f.1 (behind P t);
+            fate = (next_is_done (instr P t) t.half t.pc _ _ _ (kind_of P t) x x t.made f.1 refl f.0, f.2);
           };
       placed =
           λ on. let q = s.placed on in
@@ -147,7 +149,8 @@ mend_sound P ts t x live e s =
             first = q.first;
             second = q.second;
             pc = q.pc;
-            load = next_load (instr P t) t.pc _ _ _ P ts (kind_of P t) x (Done x) f.1;
+            half = q.half;
+            load = next_load (instr P t) t.half t.pc _ _ _ P ts (kind_of P t) x (Done x) f.1;
             settled = λ r. live_not_retired t live r;
             can = λ r. live_not_retired t live r;
           };

@@ -2,7 +2,8 @@
 use Rattle.std.proofs.Common.{◌≡◌, ◌≢◌, ℕ, suc, ◌+◌, ◌%◌, ◌≤◌, Bool, true, false, cond, ◌&&◌, eqb, List, [], ◌∷◌, ◌++◌, length, Option, Some, refl, sym, ap, ◌∙◌, subst, arith}
 use Rattle.std.specs.List.{AllByRecursion}
 use Rattle.std.specs.Prelude.{IfSome}
-use Rattle.isa.specs.Instruction.{fixed_next, kind}
+use Rattle.isa.specs.Instruction.{first_of, fixed_next, kind, second_of}
+use Rattle.isa.specs.declared.op.Half.{Half}
 use Rattle.isa.specs.Programs.{Program, instr_of}
 use Rattle.inorder.specs.declared.history.Act.{Act}
 use Rattle.inorder.specs.declared.history.Act.TheVariants.{Claim, Deliver, Finish, Link, Load, Mend, Retire, Squash}
@@ -13,9 +14,9 @@ use Rattle.inorder.specs.declared.history.Supply.TheVariants.{From, Known}
 use Rattle.inorder.specs.Legal.{Allowed, May, MayAct, applied, change_at, changed}
 use Rattle.inorder.specs.Steps.{MayLet, MaySupply, let_operand, new_tenant}
 use Rattle.inorder.specs.Tenants.{Live, Open, Retired, Squashed, Standing, Tenant, computed, is_access, is_live, kind_of, made_at_let, on_path, stands_live}
-use Rattle.inorder.specs.Unit.{Sizes, UpdateUnit, at, creator, front_pc, how_many, next_station, next_tag, older, younger}
+use Rattle.inorder.specs.Unit.{Sizes, UpdateUnit, at, creator, front_half, front_pc, how_many, next_station, next_tag, older, younger}
 use Rattle.inorder.proofs.Basics.{split_at}
-use Rattle.inorder.proofs.Grows.{Grows, creator_grows, front_grows, same_length, sound_mid, value_of_grows}
+use Rattle.inorder.proofs.Grows.{Grows, creator_grows, front_grows, half_grows, same_length, sound_mid, value_of_grows}
 use Rattle.inorder.proofs.Kept.{claim_grows, deliver_grows, finish_grows, load_may_grow, parts, retire_grows}
 use Rattle.inorder.proofs.Moves.{Forward, changed_goes, goes_at}
 use Rattle.inorder.proofs.Sound.{IsSound, IsSoundAt}
@@ -115,8 +116,11 @@ module _ (P : Program) (C : Sizes) (t t' : Tenant) (ts ys : List Tenant) (g : Gr
   same_pc : front_pc vs ≡ front_pc us
   same_pc = front_grows t t' ts ys g.next g.path
 
+  same_half : front_half P vs ≡ front_half P us
+  same_half = half_grows P t t' ts ys g.index g.half g.path
+
   same_creator : (r : ℕ) → creator P vs r ≡ creator P us r
-  same_creator r = creator_grows P t t' ts ys r g.index g.path
+  same_creator r = creator_grows P t t' ts ys r g.index g.half g.path
 
   same_new : (index predicted : ℕ) (first second : Supply) → new_tenant P C V index predicted first second ≡ new_tenant P C U index predicted first second
   same_new index predicted first second =
@@ -125,11 +129,12 @@ module _ (P : Program) (C : Sizes) (t t' : Tenant) (ts ys : List Tenant) (g : Gr
         station = same_station j;
         tag = same_tag j;
         index = index;
+        half = same_half j;
         pc = same_pc j;
         predicted = predicted;
         next = predicted;
-        first = let_operand (same_creator i.first j) first;
-        second = let_operand (same_creator i.second j) second;
+        first = let_operand (same_creator (first_of i) j) first;
+        second = let_operand (same_creator (second_of i) j) second;
         made = made_at_let (kind i.op) (same_pc j);
         fate = Open;
         standing = Live;
@@ -167,9 +172,11 @@ module _ (P : Program) (C : Sizes) (t t' : Tenant) (ts ys : List Tenant) (g : Gr
         is_there = m.is_there;
         pc = same_pc ∙ m.pc;
         small = m.small;
-        predicts = subst (λ x. IfSome (fixed_next i x) (λ z. predicted ≡ z)) (sym same_pc) m.predicts;
-        first_is = subst (λ (z : ℕ × Option ℕ). MaySupply P V z.0 z.1 first) (λ j. (sym same_station j, sym (same_creator i.first) j)) (may_supply (next_station C us) (creator P us i.first) first goes m.first_is);
-        second_is = subst (λ (z : ℕ × Option ℕ). MaySupply P V z.0 z.1 second) (λ j. (sym same_station j, sym (same_creator i.second) j)) (may_supply (next_station C us) (creator P us i.second) second goes m.second_is);
+        predicts = subst (λ (x : Half × ℕ). IfSome (fixed_next i x.0 x.1) (λ z. predicted ≡ z)) (λ j. (sym same_half j, sym same_pc j)) m.predicts;
+        first_is = subst (λ (z : ℕ × Option ℕ). MaySupply P V z.0 z.1 first) (λ j. (sym same_station j, sym (same_creator (first_of i)) j))
+            (may_supply (next_station C us) (creator P us (first_of i)) first goes m.first_is);
+        second_is = subst (λ (z : ℕ × Option ℕ). MaySupply P V z.0 z.1 second) (λ j. (sym same_station j, sym (same_creator (second_of i)) j))
+            (may_supply (next_station C us) (creator P us (second_of i)) second goes m.second_is);
       }
 
 -- What stays of a let: that it is allowed, and the tenant

@@ -12,9 +12,12 @@ pub mod LeaveKept
 pub mod Kept
 pub mod Stations
 pub mod Commits
+pub mod AheadKept
 pub mod Tags
 pub mod StationsShown
 pub mod OperandsShown
+pub mod Pairs
+pub mod Halves
 pub mod Words
 pub mod WordsKept
 pub mod Fated
@@ -37,6 +40,7 @@ mod StoreRun
 mod ReletRun
 mod DeadLinkRun
 mod TurnsRun
+mod PairRun
 mod Refused
 pub mod SharedRun
 mod SharedWakes

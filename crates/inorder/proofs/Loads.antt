@@ -23,7 +23,7 @@ use Rattle.lsq.specs.Entries.{bytes, load_by}
 use Rattle.lsq.specs.LastStores.{WaitsFor, byte_left, number_left}
 use Rattle.lsq.specs.LoadRule.{answer, answer_over, answer_to, overlaps}
 use Rattle.inorder.proofs.Basics.{number_there, split_at}
-use Rattle.inorder.proofs.Commits.{over}
+use Rattle.inorder.proofs.Commits.{not_complete, over}
 use Rattle.inorder.proofs.Grows.{sound_mid}
 use Rattle.inorder.proofs.InOrderStep.{load_in}
 use Rattle.inorder.proofs.Kept.{sound}
@@ -61,7 +61,7 @@ module _ (P : Program) (ts : List Tenant) (p : ℕ) (t : Tenant) (a : ℕ) (soun
   same_memory =
       ap (λ u. u.memory) (sym
       (ap (committed P) split ∙ over P t t before (younger ts p) live sound_at
-      ∙ committed_if P t before false (ap (λ y. commits_by y t.fate) live)))
+      ∙ committed_if P t before false (not_complete P t (ap (λ y. commits_by y t.fate) live))))
 
   -- its place
   position : length before ≡ p

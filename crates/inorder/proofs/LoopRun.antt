@@ -596,7 +596,7 @@ left_the_loop_allowed = (
 
 -- Seven instructions have committed, the counter is 0, and the pc is that of the break
 loop_committed : committed loop (reached loop two_stations left_the_loop).tenants ≡
-    record { registers = replicate 32 0; memory = []; pc = 0x0040000c; count = 7 }
+    record { registers = replicate 34 0; memory = []; pc = 0x0040000c; count = 7 }
 unfolding instr_at computed_by jump_target checked_address loaded
 loop_committed = refl
 

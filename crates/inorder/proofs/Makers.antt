@@ -1,12 +1,12 @@
 -- What the creator of a source that comes from it is, and when it has made its value.
 use Rattle.std.proofs.Common.{◌≡◌, ◌≢◌, ◌⊎◌, ℕ, zero, suc, ◌<◌, Bool, true, false, cond, ◌&&◌, eqb, List, [], ◌∷◌, length, Option, Some, None, refl, sym, ap, ◌∙◌, subst, inl, ⊎_elim, arith, eqb-true, true≢false}
 use Rattle.std.specs.Prelude.{is_none}
-use Rattle.isa.specs.Instruction.{destination_by, kind}
+use Rattle.isa.specs.Instruction.{first_of, second_of, target_of, destination_by, kind}
 use Rattle.isa.specs.Programs.{Program, instr_of}
 use Rattle.isa.specs.declared.op.Kind.{Kind}
 use Rattle.isa.specs.declared.op.Kind.TheVariants.{Computes, Jumps, Links, Loads, Stores}
 use Rattle.isa.specs.declared.stop.Outcome.{Outcome}
-use Rattle.isa.specs.declared.stop.Outcome.TheVariants.{Address, Next, Stop as Stops, Value}
+use Rattle.isa.specs.declared.stop.Outcome.TheVariants.{Pair, Address, Next, Stop as Stops, Value}
 use Rattle.isa.specs.declared.stop.Stop.{Stop}
 use Rattle.inorder.specs.declared.history.Act.{Act}
 use Rattle.inorder.specs.declared.history.Act.TheVariants.{Claim, Deliver, Finish, Link, Load, Mend, Retire, Squash}
@@ -74,6 +74,8 @@ not_at_let P by Finish ys t ts k m e = go (computed P t) k e
     go (Address v) Second e = e
     go (Stops v) First e = e
     go (Stops v) Second e = e
+    go (Pair v h) First e = e
+    go (Pair v h) Second e = e
 not_at_let P by Load ys t ts First m e = e
 not_at_let P by Load ys t ts Second m e = e
 not_at_let P by (Retire n) ys t ts First m e = e
@@ -97,8 +99,8 @@ makers_kept P C U by (Let index predicted first second) a ok all r t k is ne = �
     n = new_tenant P C U index predicted first second
 
     mine : (k : Source) → (operand k n).way ≢ AtLet → HasMaker P U.tenants (operand k n).creator
-    mine First ne = let_maker P U (next_station C (recent U)) (creator P U.tenants (instr_of P index).first) first a.first_is ne
-    mine Second ne = let_maker P U (next_station C (recent U)) (creator P U.tenants (instr_of P index).second) second a.second_is ne
+    mine First ne = let_maker P U (next_station C (recent U)) (creator P U.tenants (first_of (instr_of P index))) first a.first_is ne
+    mine Second ne = let_maker P U (next_station C (recent U)) (creator P U.tenants (second_of (instr_of P index))) second a.second_is ne
 makers_kept P C U by (On p act) a ok all r t k is ne =
     let V = applied P C U by (On p act) in
     let was = came P C U by p act a ok r t is in
@@ -164,9 +166,10 @@ path_maker P us ok r t k q u is on from there =
     let placed = s.placed on in
     go k from placed.first placed.second
   where
-    go : (k : Source) → (operand k t).creator ≡ Some q → t.first.creator ≡ creator P (older us r) (instr P t).first → t.second.creator ≡ creator P (older us r) (instr P t).second → IsWriter P u
-    go First e a b = creator_is_writer P (older us r) (instr P t).first q u (sym a ∙ e) there
-    go Second e a b = creator_is_writer P (older us r) (instr P t).second q u (sym b ∙ e) there
+    go : (k : Source) → (operand k t).creator ≡ Some q → t.first.creator ≡ creator P (older us r) (first_of (instr P t)) →
+        t.second.creator ≡ creator P (older us r) (second_of (instr P t)) → IsWriter P u
+    go First e a b = creator_is_writer P (older us r) (first_of (instr P t)) q u (sym a ∙ e) there
+    go Second e a b = creator_is_writer P (older us r) (second_of (instr P t)) q u (sym b ∙ e) there
 
 -- A stop that has retired has what it took as made
 
@@ -219,10 +222,10 @@ module _ (P : Program) (us : List Tenant) (ok : IsSound P us) (q : ℕ) (u : Ten
   own_sound = sound_mid P u (older us q) (younger us q) (subst (IsSound P) (split_at us q u is) ok)
 
   not_jumps : kind_of P u ≢ Jumps
-  not_jumps e = writer.writes (ap (λ k. destination_by k (instr P u).target) e)
+  not_jumps e = writer.writes (ap (λ k. destination_by k (target_of (instr P u) u.half)) e)
 
   not_stores : kind_of P u ≢ Stores
-  not_stores e = writer.writes (ap (λ k. destination_by k (instr P u).target) e)
+  not_stores e = writer.writes (ap (λ k. destination_by k (target_of (instr P u) u.half)) e)
 
   none_at_let : (k : Kind) → k ≢ Links → (pc : ℕ) → made_at_let k pc ≡ None
   none_at_let Computes ne pc = refl

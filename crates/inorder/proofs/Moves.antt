@@ -4,7 +4,7 @@ use mathlib.Core.Logic.{dite}
 use native.Mathlib.Decide.{ℕ_discrete}
 use Rattle.isa.specs.Programs.{Program}
 use Rattle.isa.specs.declared.stop.Outcome.{Outcome}
-use Rattle.isa.specs.declared.stop.Outcome.TheVariants.{Address, Next, Stop as Stops, Value}
+use Rattle.isa.specs.declared.stop.Outcome.TheVariants.{Pair, Address, Next, Stop as Stops, Value}
 use Rattle.inorder.specs.declared.history.Act.{Act}
 use Rattle.inorder.specs.declared.history.Act.TheVariants.{Claim, Deliver, Finish, Link, Load, Mend, Retire, Squash}
 use Rattle.inorder.specs.declared.history.Source.{Source}
@@ -15,10 +15,11 @@ use Rattle.inorder.specs.Callers.{IsHeld}
 use Rattle.inorder.specs.Legal.{Allowed, May, MayAct, applied, change_at, changed}
 use Rattle.inorder.specs.Replies.{IsOpen}
 use Rattle.inorder.specs.Steps.{CanRetire, finished, linked, mended_as, new_tenant}
-use Rattle.inorder.specs.Tenants.{Addr, Busy, Done, Fate, Linked, Live, Miss, Open, Operand, Retired, Squashed, Standing, Stopped, Tenant, computed, kind_of, operand, with_operand}
+use Rattle.inorder.specs.Tenants.{Addr, Busy, Done, Fate, Linked, Live, Miss, Open, Operand, Retired, Squashed, Standing, Stopped, Tenant, computed, kind_of, operand, with_operand, instr}
 use Rattle.inorder.specs.Unit.{Sizes, UpdateUnit, at, older, replaced, younger}
 use Rattle.inorder.proofs.Basics.{split_at}
 use Rattle.inorder.proofs.Grows.{MadeGrows, sound_mid}
+use Rattle.inorder.proofs.FinishKept.{never_pair}
 use Rattle.inorder.proofs.Kept.{finish_grows, load_may_grow, retire_grows}
 use Rattle.inorder.proofs.Positions.{at_below, at_more, at_replaced_else, at_replaced_here, at_there, length_replaced}
 use Rattle.inorder.proofs.Sound.{IsSound, IsSoundAt}
@@ -36,6 +37,7 @@ pub record Goes (by : ℕ) (s : Step) (t t' : Tenant) : Type 0 where
   pub station : t'.station ≡ t.station
   pub tag : t'.tag ≡ t.tag
   pub index : t'.index ≡ t.index
+  pub half : t'.half ≡ t.half
   pub predicted : t'.predicted ≡ t.predicted
   pub pc : t'.pc ≡ t.pc
   pub creator : (k : Source) → (operand k t').creator ≡ (operand k t).creator
@@ -53,6 +55,7 @@ stays by s t = record {
   station = refl;
   tag = refl;
   index = refl;
+  half = refl;
   predicted = refl;
   pc = refl;
   creator = λ k. refl;
@@ -75,6 +78,7 @@ module _ (by : ℕ) (s : Step) (t : Tenant) (fate : Fate) (standing : Standing) 
     station = refl;
     tag = refl;
     index = refl;
+    half = refl;
     predicted = refl;
     pc = refl;
     creator = both_creator;
@@ -119,6 +123,7 @@ module _ (by : ℕ) (s : Step) (t : Tenant) (k : Source) (o : Operand) where
         station = refl;
         tag = refl;
         index = refl;
+        half = refl;
         predicted = refl;
         pc = refl;
         creator = creators;
@@ -150,6 +155,7 @@ module _ (by : ℕ) (s : Step) (t : Tenant) (k : Source) (o : Operand) where
         station = refl;
         tag = refl;
         index = refl;
+        half = refl;
         predicted = refl;
         pc = refl;
         creator = creators;
@@ -205,6 +211,7 @@ changed_goes P by p Finish ys t ts m q = go (computed P t) refl
         neither false f = cc
     go (Address a) e = refated by (On p Finish) t (Addr a) t.standing t.made t.next (λ e. e) (λ v e. e) (λ l f. absurd (cc)) (none_held _)
     go (Stops c) e = refated by (On p Finish) t (Stopped c) t.standing t.made t.next (λ e. e) (λ v e. e) (λ l f. absurd (cc)) (none_held _)
+    go (Pair l h) e = absurd (never_pair (instr P t) t.half t.pc _ _ _ (kind_of P t) l h e)
 changed_goes P by p Load ys t ts m q =
     refated by (On p Load) t (Done _) t.standing (Some _) t.next (λ e. e) (load_may_grow P ts t m q).made (λ l f. absurd (cc)) (λ c n b. let f = b.fate in let was = m.fate in absurd (cc))
 changed_goes P by p (Retire n) ys t ts m q =

@@ -2,7 +2,7 @@
 use Rattle.std.proofs.Common.{◌≡◌, ◌≢◌, ◌⊎◌, ℕ, ◌<◌, Bool, true, false, cond, eqb, List, [], ◌∷◌, ◌++◌, length, Option, Some, refl, sym, ap, ◌∙◌, subst, ⊎_elim, arith, length-append}
 use Rattle.isa.specs.Programs.{Program}
 use Rattle.isa.specs.declared.stop.Outcome.{Outcome}
-use Rattle.isa.specs.declared.stop.Outcome.TheVariants.{Address, Next, Stop as Stops, Value}
+use Rattle.isa.specs.declared.stop.Outcome.TheVariants.{Pair, Address, Next, Stop as Stops, Value}
 use Rattle.inorder.specs.declared.history.Act.{Act}
 use Rattle.inorder.specs.declared.history.Act.TheVariants.{Claim, Deliver, Finish, Link, Load, Mend, Retire, Squash}
 use Rattle.inorder.specs.declared.history.Source.{Source}
@@ -118,6 +118,8 @@ kept_operand P by Finish t ts j k = go (computed P t) j
     go (Address v) Second = refl
     go (Stops v) First = refl
     go (Stops v) Second = refl
+    go (Pair v h) First = refl
+    go (Pair v h) Second = refl
 kept_operand P by Load t ts First k = refl
 kept_operand P by Load t ts Second k = refl
 kept_operand P by (Retire n) t ts First k = refl

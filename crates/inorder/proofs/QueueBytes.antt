@@ -9,7 +9,7 @@ use Rattle.isa.specs.Programs.{Program}
 use Rattle.isa.specs.declared.op.Kind.{Kind}
 use Rattle.isa.specs.declared.op.Kind.TheVariants.{Computes, Jumps, Links, Loads, Stores}
 use Rattle.isa.specs.declared.op.Op.{Op}
-use Rattle.isa.specs.declared.op.Op.TheVariants.{Add, Addi, Addiu, Addu, And, Andi, Beq, Bgez, Bgtz, Blez, Bltz, Bne, Break, J, Jal, Jalr, Jr, Lb, Lbu, Lh, Lhu, Lui, Lw, Nor, Or, Ori, Sb, Sh, Sll, Sllv, Slt, Slti, Sltiu, Sltu, Sra, Srav, Srl, Srlv, Sub, Subu, Sw, Xor, Xori}
+use Rattle.isa.specs.declared.op.Op.TheVariants.{Mult, Multu, Div, Divu, Mflo, Mfhi, Mtlo, Mthi, Add, Addi, Addiu, Addu, And, Andi, Beq, Bgez, Bgtz, Blez, Bltz, Bne, Break, J, Jal, Jalr, Jr, Lb, Lbu, Lh, Lhu, Lui, Lw, Nor, Or, Ori, Sb, Sh, Sll, Sllv, Slt, Slti, Sltiu, Sltu, Sra, Srav, Srl, Srlv, Sub, Subu, Sw, Xor, Xori}
 use Rattle.isa.specs.declared.stop.Outcome.{Outcome}
 use Rattle.isa.specs.declared.stop.Stop.{Stop}
 use Rattle.lsq.specs.declared.entry.Entry.{Entry}
@@ -24,6 +24,7 @@ use Rattle.lsq.specs.Entries.{bytes}
 use Rattle.lsq.specs.LastStores.{byte_by, byte_left}
 use Rattle.inorder.proofs.SettledMemory.{byte_given}
 use Rattle.inorder.proofs.SettledRegisters.{byte_if, committed_if, retired_on, squashed_not, squashed_stores}
+use Rattle.inorder.proofs.Commits.{not_complete}
 use Rattle.inorder.proofs.Sound.{IsSettled, IsSound, SettledBy}
 
 -- Lists
@@ -70,6 +71,14 @@ same_width Sra = refl
 same_width Sllv = refl
 same_width Srlv = refl
 same_width Srav = refl
+same_width Mult = refl
+same_width Multu = refl
+same_width Div = refl
+same_width Divu = refl
+same_width Mflo = refl
+same_width Mfhi = refl
+same_width Mtlo = refl
+same_width Mthi = refl
 same_width Addiu = refl
 same_width Addi = refl
 same_width Slti = refl
@@ -212,7 +221,7 @@ byte_left_live P (t ∷ ts) s x l = go t.standing refl (byte_left_live P ts s.1 
     off c st q more =
         byte_if P t ts x None st
         ∙ more
-        ∙ ap (byte_left (queue_of P ts) x) (ap read (sym (committed_if P t ts false c)))
+        ∙ ap (byte_left (queue_of P ts) x) (ap read (sym (committed_if P t ts false (not_complete P t c))))
         ∙ sym (ap (λ es. byte_left es x (read (committed P (t ∷ ts)))) (queue_more P t ts false q)
         ∙ byte_left-append (queue_of P ts) [] x _)
 
@@ -234,7 +243,7 @@ byte_left_live P (t ∷ ts) s x l = go t.standing refl (byte_left_live P ts s.1 
             ∙ ap (λ v. byte_by (is_store (kind_of P t)) (address_by (kind_of P t) t.fate (computed P t)) v
             (content_by (kind_of P t) t.second.value) x (byte_at P ts x)) (sym (same_width (instr P t).op))
             ∙ ap (λ y. Rattle.lsq.specs.LastStores.byte_after (entry_of P t) x y) (more
-            ∙ ap (byte_left (queue_of P ts) x) (ap read (sym (committed_if P t ts false not))))
+            ∙ ap (byte_left (queue_of P ts) x) (ap read (sym (committed_if P t ts false (not_complete P t not)))))
             ∙ sym (ap (λ es. byte_left es x (read (committed P (t ∷ ts)))) (queue_more P t ts true q)
             ∙ byte_left-append (queue_of P ts) (entry_of P t ∷ []) x _)
         by_access false a =

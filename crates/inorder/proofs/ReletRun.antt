@@ -246,6 +246,6 @@ unfolding instr_at computed_by jump_target checked_address loaded
 relet_word = refl
 
 relet_committed : committed relets (reached relets four relet_ended).tenants ≡
-    record { registers = 0 ∷ 0 ∷ 2 ∷ replicate 29 0; memory = []; pc = 0x0040000c; count = 2 }
+    record { registers = 0 ∷ 0 ∷ 2 ∷ replicate 31 0; memory = []; pc = 0x0040000c; count = 2 }
 unfolding instr_at computed_by jump_target checked_address loaded
 relet_committed = refl

@@ -1,6 +1,7 @@
 -- What stays of a value that was made: its sources that were linked in time are served, once and for all.
 use Rattle.std.proofs.Common.{◌≡◌, ◌≢◌, ◌⊎◌, ℕ, ◌%◌, ◌<◌, Bool, true, false, List, [], ◌∷◌, ◌++◌, length, Option, Some, refl, sym, ap, ◌∙◌, subst, inl, inr, ⊎_elim, arith}
 use Rattle.std.specs.Prelude.{is_none}
+use Rattle.isa.specs.Instruction.{first_of, second_of}
 use Rattle.isa.specs.Programs.{Program, instr_of}
 use Rattle.inorder.specs.declared.history.Act.{Act}
 use Rattle.inorder.specs.declared.history.Act.TheVariants.{Claim, Deliver, Finish, Link, Load, Mend, Retire, Squash}
@@ -50,12 +51,12 @@ linked_creator ts Second Second t = refl
 
 -- a new tenant has asked for nothing
 pub not_linked : (P : Program) (C : Sizes) (U : UpdateUnit) (index predicted : ℕ) (first second : Supply) (k : Source) (b : Bool) → (operand k (new_tenant P C U index predicted first second)).way ≢ Linked b
-not_linked P C U index predicted first second First b e = way_of first (creator P U.tenants (instr_of P index).first) e
+not_linked P C U index predicted first second First b e = way_of first (creator P U.tenants (first_of (instr_of P index))) e
   where
     way_of : (w : Supply) (c : Option ℕ) → (let_operand c w).way ≢ Linked b
     way_of (Known v) c e = cc e
     way_of From c e = cc e
-not_linked P C U index predicted first second Second b e = way_of second (creator P U.tenants (instr_of P index).second) e
+not_linked P C U index predicted first second Second b e = way_of second (creator P U.tenants (second_of (instr_of P index))) e
   where
     way_of : (w : Supply) (c : Option ℕ) → (let_operand c w).way ≢ Linked b
     way_of (Known v) c e = cc e

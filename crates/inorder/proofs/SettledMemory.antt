@@ -6,30 +6,58 @@ use Rattle.isa.specs.Instruction.{width}
 use Rattle.isa.specs.Programs.{Program}
 use Rattle.isa.specs.declared.op.Kind.{Kind}
 use Rattle.isa.specs.declared.op.Kind.TheVariants.{Computes, Jumps, Links, Loads, Stores}
-use Rattle.inorder.specs.Committed.{commits, committed, with_stored, with_tenant}
+use Rattle.inorder.specs.Committed.{ahead, commits, committed, with_retired, with_stored}
 use Rattle.inorder.specs.Machine.{State, store_bytes}
 use Rattle.inorder.specs.Memory.{Stored, byte_after, byte_at, covers, stored, stored_by}
-use Rattle.inorder.specs.Tenants.{Addr, Busy, Done, Fate, IsThere, Miss, Open, Retired, Squashed, Stopped, Tenant, instr, kind_of, on_path}
+use Rattle.inorder.specs.Tenants.{Addr, Busy, Done, Fate, IsThere, Miss, Open, Retired, Squashed, Stopped, Tenant, instr, is_first, kind_of, on_path}
 use Rattle.lsq.specs.Bytes.{byte_of}
 use Rattle.inorder.proofs.Basics.{length_put, put_in, put_out}
-use Rattle.inorder.proofs.SettledRegisters.{Leaves, byte_if, committed_if, retired_leaves, settled_cases, squashed_not, squashed_stores}
+use Rattle.inorder.proofs.Pairs.{first_half_computes}
+use Rattle.inorder.proofs.SettledRegisters.{Leaves, ahead_if, byte_if, same_rest, retired_leaves, settled_cases, squashed_not, squashed_stores}
 use Rattle.inorder.proofs.Sound.{IsSettled, IsSound}
 
 -- Memory
 
-pub length_memory : (P : Program) (ts : List Tenant) → length (committed P ts).memory ≡ length P.bytes
-length_memory P [] = refl
-length_memory P (t ∷ ts) =
-    ap (λ u. length u.memory) (committed_if P t ts (commits t) refl) ∙ go (commits t) (length_memory P ts)
+-- a first half stores nothing
+pub half_memory : (b : Bool) (P : Program) (t : Tenant) (s : State) → is_first P t ≡ b →
+    (with_retired b P t s).memory ≡ with_stored (stored P t) s.memory
+half_memory false P t s e = refl
+half_memory true P t s e = sym (ap (λ o. with_stored o s.memory) none)
+  where
+    no : (b : Bool) → stored_by b Computes t.fate (width (instr P t).op) t.second.value ≡ None
+    no true = refl
+    no false = refl
+
+    none : stored P t ≡ None
+    none =
+        ap (λ k. stored_by (on_path t) k t.fate (width (instr P t).op) t.second.value)
+        (first_half_computes (instr P t).op t.half e) ∙ no (on_path t)
+
+pub ahead_memory : (P : Program) (t : Tenant) (ts : List Tenant) (b : Bool) → commits t ≡ b →
+    (ahead P (t ∷ ts)).memory ≡ cond b (with_stored (stored P t) (ahead P ts).memory) (ahead P ts).memory
+ahead_memory P t ts b e = ap (λ u. u.memory) (ahead_if P t ts b e) ∙ go b
+  where
+    go : (b : Bool) → (cond b (with_retired (is_first P t) P t (ahead P ts)) (ahead P ts)).memory ≡ cond b
+        (with_stored (stored P t) (ahead P ts).memory) (ahead P ts).memory
+    go true = half_memory (is_first P t) P t (ahead P ts) refl
+    go false = refl
+
+length_ahead : (P : Program) (ts : List Tenant) → length (ahead P ts).memory ≡ length P.bytes
+length_ahead P [] = refl
+length_ahead P (t ∷ ts) =
+    ap (λ u. length u) (ahead_memory P t ts (commits t) refl) ∙ go (commits t) (length_ahead P ts)
   where
     kept : (o : Option Stored) (m : List ℕ) → length (with_stored o m) ≡ length m
     kept None m = refl
     kept (Some s) m = length_put m s.at s.width (unwrap_or s.content 0)
 
-    go : (b : Bool) → length (committed P ts).memory ≡ length P.bytes →
-        length (cond b (with_tenant P t (committed P ts)) (committed P ts)).memory ≡ length P.bytes
-    go true more = kept (stored P t) (committed P ts).memory ∙ more
+    go : (b : Bool) → length (ahead P ts).memory ≡ length P.bytes →
+        length (cond b (with_stored (stored P t) (ahead P ts).memory) (ahead P ts).memory) ≡ length P.bytes
+    go true more = kept (stored P t) (ahead P ts).memory ∙ more
     go false more = more
+
+pub length_memory : (P : Program) (ts : List Tenant) → length (committed P ts).memory ≡ length P.bytes
+length_memory P ts = ap (λ m. length m) (same_rest P ts).0 ∙ length_ahead P ts
 
 -- a store that leaves has its data
 abbrev pub HasContent : Option Stored → Type 0
@@ -103,22 +131,27 @@ byte_stored (Some s) m x h l = go (leb s.at x) refl (ltb x (s.at + s.width)) ref
         outside (inr (ltb-false x (s.at + s.width) e')) (ap (λ y. y && ltb x (s.at + s.width)) e ∙ e')
     go false e b' e' = outside (inl (leb-false s.at x e)) (ap (λ y. y && ltb x (s.at + s.width)) e)
 
-pub byte_given : (P : Program) (ts : List Tenant) → IsSound P ts → AllByRecursion IsSettled ts → (x : ℕ) →
-    x < length P.bytes → byte_at P ts x ≡ Some (slice_index (committed P ts).memory x)
-byte_given P [] s h x l = refl
-byte_given P (t ∷ ts) s h x l = go (settled_cases t.standing t.fate h.0) (byte_given P ts s.1 h.1 x l)
+byte_ahead : (P : Program) (ts : List Tenant) → IsSound P ts → AllByRecursion IsSettled ts → (x : ℕ) →
+    x < length P.bytes → byte_at P ts x ≡ Some (slice_index (ahead P ts).memory x)
+byte_ahead P [] s h x l = refl
+byte_ahead P (t ∷ ts) s h x l = go (settled_cases t.standing t.fate h.0) (byte_ahead P ts s.1 h.1 x l)
   where
-    read : State → Option ℕ
-    read u = Some (slice_index u.memory x)
+    read : List ℕ → Option ℕ
+    read u = Some (slice_index u x)
 
     go : (t.standing ≡ Squashed) ⊎ ((t.standing ≡ Retired) × (commits t ≡ true)) →
-        byte_at P ts x ≡ read (committed P ts) → byte_at P (t ∷ ts) x ≡ read (committed P (t ∷ ts))
+        byte_at P ts x ≡ read (ahead P ts).memory → byte_at P (t ∷ ts) x ≡ read (ahead P (t ∷ ts)).memory
     go (inl e) more =
         byte_if P t ts x None (squashed_stores P t e) ∙ more
-        ∙ sym (ap read (committed_if P t ts false (squashed_not t e)))
+        ∙ sym (ap read (ahead_memory P t ts false (squashed_not t e)))
     go (inr e) more =
         let content = content_leaves P ts t (retired_leaves P t ts s.0 e.0 e.1) in
-        let l' : x < length (committed P ts).memory = omega (arith, length_memory P ts) in
+        let l' : x < length (ahead P ts).memory = omega (arith, length_ahead P ts) in
         ap (byte_after (stored P t) x) more
-        ∙ byte_stored (stored P t) (committed P ts).memory x content l'
-        ∙ sym (ap read (committed_if P t ts true e.1))
+        ∙ byte_stored (stored P t) (ahead P ts).memory x content l'
+        ∙ sym (ap read (ahead_memory P t ts true e.1))
+
+pub byte_given : (P : Program) (ts : List Tenant) → IsSound P ts → AllByRecursion IsSettled ts → (x : ℕ) →
+    x < length P.bytes → byte_at P ts x ≡ Some (slice_index (committed P ts).memory x)
+byte_given P ts s h x l =
+    byte_ahead P ts s h x l ∙ ap (λ m. Some (slice_index m x)) (sym (same_rest P ts).0)

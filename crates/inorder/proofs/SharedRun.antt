@@ -367,7 +367,7 @@ over_legal = (
 
 -- Two instructions have committed: $1 is 5 and $2 is 10, as in order, and the stop is that machine's
 shared_committed : committed adds (unit_of adds two_stations over).tenants ≡
-    record { registers = 0 ∷ 5 ∷ 10 ∷ replicate 29 0; memory = []; pc = 0x00400008; count = 2 }
+    record { registers = 0 ∷ 5 ∷ 10 ∷ replicate 31 0; memory = []; pc = 0x00400008; count = 2 }
 unfolding instr_at computed_by jump_target checked_address loaded
 shared_committed = refl
 

@@ -1,7 +1,7 @@
 -- What holds of each tenant of a reached unit, and what follows of one whose older tenants have all left.
 use Rattle.std.proofs.Common.{◌≡◌, ◌≢◌, ℕ, ◌<◌, true, List, [], ◌∷◌, length, Option, Some, None}
 use Rattle.std.specs.List.{AllByRecursion}
-use Rattle.isa.specs.Instruction.{pc_plus_4}
+use Rattle.isa.specs.Instruction.{first_of, pc_plus_4, second_of}
 use Rattle.isa.specs.Operations.{loaded}
 use Rattle.isa.specs.Programs.{Program, address}
 use Rattle.isa.specs.declared.instr.Instr.{Instr}
@@ -11,8 +11,8 @@ use Rattle.isa.specs.declared.stop.Outcome.{Outcome}
 use Rattle.isa.specs.declared.stop.Outcome.TheVariants.{Address, Next, Stop as Stops, Value}
 use Rattle.inorder.specs.Memory.{raw_at}
 use Rattle.inorder.specs.Steps.{CanRetire, HasAddress}
-use Rattle.inorder.specs.Tenants.{Addr, Busy, Done, Fate, IsThere, Live, Miss, Open, Operand, Retired, Squashed, Standing, Stopped, Tenant, computed, instr, kind_of, made_at_let, on_path}
-use Rattle.inorder.specs.Unit.{creator, front_pc, value_of}
+use Rattle.inorder.specs.Tenants.{Addr, Busy, Done, Fate, IsThere, Live, Miss, Open, Operand, Retired, Squashed, Standing, Stopped, Tenant, behind, computed, instr, kind_of, made_at_let, on_path}
+use Rattle.inorder.specs.Unit.{creator, front_half, front_pc, value_of}
 
 -- a delivered value is what the creator has made
 abbrev pub ValueIs : List Tenant → Operand → Type 0
@@ -52,9 +52,9 @@ FateIs P t f =
 
 -- only a jump goes on elsewhere than behind itself
 abbrev pub GoesOn : Kind → ℕ → ℕ → Type 0
-GoesOn Jumps pc next = Unit {0}
-GoesOn Links pc next = Unit {0}
-GoesOn _ pc next = next ≡ pc_plus_4 pc
+GoesOn Jumps after next = Unit {0}
+GoesOn Links after next = Unit {0}
+GoesOn _ after next = next ≡ after
 
 -- what holds of each tenant, on the path or not
 pub record IsOwn (P : Program) (ts : List Tenant) (t : Tenant) : Type 0 where
@@ -62,7 +62,7 @@ pub record IsOwn (P : Program) (ts : List Tenant) (t : Tenant) : Type 0 where
   pub second : ValueIs ts t.second
   pub place : t.pc ≡ address t.index
   pub inside : t.index < length P.code
-  pub goes_on : GoesOn (kind_of P t) t.pc t.next
+  pub goes_on : GoesOn (kind_of P t) (behind P t) t.next
   pub fate : FateIs P t t.fate
 
 -- a load has read what the older stores of the path leave
@@ -90,9 +90,10 @@ IsSettled t = SettledBy t.standing t.fate
 
 -- what holds of a tenant of the path
 pub record IsInPlace (P : Program) (ts : List Tenant) (t : Tenant) : Type 0 where
-  pub first : t.first.creator ≡ creator P ts (instr P t).first
-  pub second : t.second.creator ≡ creator P ts (instr P t).second
+  pub first : t.first.creator ≡ creator P ts (first_of (instr P t))
+  pub second : t.second.creator ≡ creator P ts (second_of (instr P t))
   pub pc : t.pc ≡ front_pc ts
+  pub half : t.half ≡ front_half P ts
   pub load : LoadIs P ts (instr P t) (computed P t) (kind_of P t) t.fate
   pub settled : t.standing ≡ Retired → AllByRecursion IsSettled ts
   pub can : t.standing ≡ Retired → CanRetire (kind_of P t) t.second.value t.fate

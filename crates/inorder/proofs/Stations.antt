@@ -4,7 +4,7 @@ use Rattle.std.proofs.lemmas.Bool.{cases_lt}
 use Rattle.std.specs.List.{AllByRecursion}
 use Rattle.isa.specs.Programs.{Program}
 use Rattle.isa.specs.declared.stop.Outcome.{Outcome}
-use Rattle.isa.specs.declared.stop.Outcome.TheVariants.{Address, Next, Stop as Stops, Value}
+use Rattle.isa.specs.declared.stop.Outcome.TheVariants.{Address, Next, Pair, Stop as Stops, Value}
 use Rattle.inorder.specs.declared.history.Act.{Act}
 use Rattle.inorder.specs.declared.history.Act.TheVariants.{Claim, Deliver, Finish, Link, Load, Mend, Retire, Squash}
 use Rattle.inorder.specs.declared.history.Source.TheVariants.{First, Second}
@@ -229,6 +229,7 @@ finished_station t (Value v) = (refl, refl)
 finished_station t (Next v) = (refl, refl)
 finished_station t (Address v) = (refl, refl)
 finished_station t (Stops v) = (refl, refl)
+finished_station t (Pair l h) = (refl, refl)
 
 pub mended_station : (t : Tenant) (f : Fate) →
     ((mended_as t f).station ≡ t.station) × ((mended_as t f).standing ≡ t.standing)

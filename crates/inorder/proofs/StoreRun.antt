@@ -269,7 +269,7 @@ bytes_ended_allowed = (
 -- The byte store is seen in the word that was loaded, and in memory
 bytes_committed : committed bytes_and_words (reached bytes_and_words four_entries bytes_ended).tenants ≡
     record {
-      registers = 0 ∷ 0xffffffff ∷ 0xffff00ff ∷ replicate 29 0;
+      registers = 0 ∷ 0xffffffff ∷ 0xffff00ff ∷ replicate 31 0;
       memory = 255 ∷ 0 ∷ 255 ∷ 255 ∷ [];
       pc = 0x00400010;
       count = 4;
@@ -490,6 +490,6 @@ forward_ended_allowed = (
 )
 
 forward_committed : committed forwards (reached forwards two_entries forward_ended).tenants ≡
-    record { registers = 0 ∷ 7 ∷ 7 ∷ replicate 29 0; memory = 7 ∷ 0 ∷ 0 ∷ 0 ∷ []; pc = 0x0040000c; count = 3 }
+    record { registers = 0 ∷ 7 ∷ 7 ∷ replicate 31 0; memory = 7 ∷ 0 ∷ 0 ∷ 0 ∷ []; pc = 0x0040000c; count = 3 }
 unfolding instr_at computed_by jump_target checked_address loaded
 forward_committed = refl

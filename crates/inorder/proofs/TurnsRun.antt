@@ -193,6 +193,6 @@ last_turns_allowed = (
 )
 
 turns_committed : committed skips (reached skips four_stations last_turns).tenants ≡
-    record { registers = replicate 32 0; memory = []; pc = 0x00400008; count = 1 }
+    record { registers = replicate 34 0; memory = []; pc = 0x00400008; count = 1 }
 unfolding instr_at computed_by jump_target checked_address loaded
 turns_committed = refl

@@ -1,17 +1,21 @@
 -- What the operations and loads make of words is words.
-use Rattle.std.proofs.Common.{◌≡◌, ℕ, suc, ◌+◌, ◌-◌, ◌*◌, ◌/◌, ◌%◌, ◌^◌, ◌<◌, Bool, true, false, cond, eqb, leb, ltb, Ok, Err, refl, arith}
-use Rattle.std.specs.Prelude.{◌+ℤ◌, ◌-ℤ◌, Result, IfOk, ℤ, pos, negsuc, int_lt, ⊤}
+use Rattle.std.proofs.Common.{◌≡◌, ℕ, zero, suc, ◌+◌, ◌-◌, ◌*◌, ◌/◌, ◌%◌, ◌^◌, ◌<◌, ◌≤◌, Bool, true, false, cond, eqb, leb, ltb, Ok, Err, refl, arith}
+use Rattle.std.specs.Prelude.{◌+ℤ◌, ◌-ℤ◌, Result, IfOk, ℤ, pos, negsuc, neg_ℤ, int_lt, int_div, int_rem, unsigned_abs, ⊤}
+use Rattle.std.specs.Ordering.{int_eq}
 use Rattle.std.specs.Int.{w32, w8, w16, cast_unsigned, int_div_euclid}
 use Rattle.std.specs.Int.Bits.{and_lt}
 use Rattle.std.proofs.lemmas.Nat.{or_of_32, xor_of_32}
 use Rattle.isa.specs.Operations.{as_address, as_value, checked_address, computed_by, extended, fits_word, fitted, flag, jump_target, loaded, outcome_by, shifted_left, shifted_signed, signed, taken_if}
+use Rattle.isa.specs.Products.{divided, half_of, product, signed_divided, signed_product}
 use Rattle.isa.specs.declared.instr.Instr.{Instr}
+use Rattle.isa.specs.declared.op.Half.{Half}
+use Rattle.isa.specs.declared.op.Half.TheVariants.{High, Low}
 use Rattle.isa.specs.declared.op.Kind.{Kind}
 use Rattle.isa.specs.declared.op.Kind.TheVariants.{Computes, Jumps, Links, Loads, Stores}
 use Rattle.isa.specs.declared.op.Op.{Op}
-use Rattle.isa.specs.declared.op.Op.TheVariants.{Add, Addi, Addiu, Addu, And, Andi, Beq, Bgez, Bgtz, Blez, Bltz, Bne, Break, J, Jal, Jalr, Jr, Lb, Lbu, Lh, Lhu, Lui, Lw, Nor, Or, Ori, Sb, Sh, Sll, Sllv, Slt, Slti, Sltiu, Sltu, Sra, Srav, Srl, Srlv, Sub, Subu, Sw, Xor, Xori}
+use Rattle.isa.specs.declared.op.Op.TheVariants.{Mult, Multu, Div, Divu, Mflo, Mfhi, Mtlo, Mthi, Add, Addi, Addiu, Addu, And, Andi, Beq, Bgez, Bgtz, Blez, Bltz, Bne, Break, J, Jal, Jalr, Jr, Lb, Lbu, Lh, Lhu, Lui, Lw, Nor, Or, Ori, Sb, Sh, Sll, Sllv, Slt, Slti, Sltiu, Sltu, Sra, Srav, Srl, Srlv, Sub, Subu, Sw, Xor, Xori}
 use Rattle.isa.specs.declared.stop.Outcome.{Outcome}
-use Rattle.isa.specs.declared.stop.Outcome.TheVariants.{Address, Next, Stop as Stops, Value}
+use Rattle.isa.specs.declared.stop.Outcome.TheVariants.{Pair, Address, Next, Stop as Stops, Value}
 use Rattle.isa.specs.declared.stop.Stop.{Stop}
 use Rattle.isa.specs.declared.stop.Stop.TheVariants.{OutOfRange, Overflow, Unaligned}
 use Rattle.inorder.specs.Memory.{raw}
@@ -51,52 +55,118 @@ shifted_word a n h = go (ltb a (2 ^ 31))
 shifted_left_word : (a n : ℕ) → IsWord (shifted_left a n)
 shifted_left_word a n = word_sum (a * 2 ^ n)
 
+-- products and quotients
+half_word : (half : Half) (n : ℕ) → IsWord (half_of half n)
+half_word Low n = omega arith
+half_word High n = omega arith
+
+divided_word : (half : Half) (a b : ℕ) → IsWord a → IsWord b → IsWord (divided half a b)
+divided_word Low a b h g = go (eqb b 0)
+  where
+    go : (z : Bool) → IsWord (cond z 0 (a / b))
+    go true = omega arith
+    go false = grind arith
+divided_word High a b h g = go (eqb b 0)
+  where
+    go : (z : Bool) → IsWord (cond z a (a % b))
+    go true = h
+    go false = grind arith
+
+-- at most 2^31 away from 0
+abbrev IsNear : ℤ → Type 0
+IsNear z = unsigned_abs z ≤ 2 ^ 31
+
+signed_near : (a : ℕ) → IsWord a → IsNear (signed a)
+signed_near a h = go (ltb a (2 ^ 31)) refl
+  where
+    go : (b : Bool) → ltb a (2 ^ 31) ≡ b → IsNear (cond b (pos a) (negsuc (2 ^ 32 - suc a)))
+    go true e = grind arith
+    go false e = grind arith
+
+near_word : (z : ℤ) → IsNear z → IsWord (cast_unsigned w32 z)
+near_word (pos n) h = omega arith
+near_word (negsuc n) h = omega arith
+
+neg_near : (n : ℕ) → n ≤ 2 ^ 31 → IsNear (neg_ℤ (pos n))
+neg_near zero h = omega arith
+neg_near (suc n) h = h
+
+quotient_near : (a b : ℤ) → IsNear a → IsNear (int_div a b)
+quotient_near (pos a) (pos b) h = grind arith
+quotient_near (pos a) (negsuc b) h = neg_near (a / suc b) (grind arith)
+quotient_near (negsuc a) (pos b) h = neg_near (suc a / b) (grind arith)
+quotient_near (negsuc a) (negsuc b) h = grind arith
+
+remainder_near : (a b : ℤ) → IsNear a → IsNear (int_rem a b)
+remainder_near (pos a) b h = grind arith
+remainder_near (negsuc a) b h = neg_near (suc a % unsigned_abs b) (grind arith)
+
+signed_divided_word : (half : Half) (a b : ℕ) → IsWord a → IsWord b → IsWord (signed_divided half (signed a) (signed b))
+signed_divided_word Low a b h g = go (int_eq (signed b) (pos 0))
+  where
+    go : (z : Bool) → IsWord (cond z 0 (cast_unsigned w32 (int_div (signed a) (signed b))))
+    go true = omega arith
+    go false = near_word (int_div (signed a) (signed b)) (quotient_near (signed a) (signed b) (signed_near a h))
+signed_divided_word High a b h g = go (int_eq (signed b) (pos 0))
+  where
+    go : (z : Bool) → IsWord (cond z (cast_unsigned w32 (signed a)) (cast_unsigned w32 (int_rem (signed a) (signed b))))
+    go true = near_word (signed a) (signed_near a h)
+    go false = near_word (int_rem (signed a) (signed b)) (remainder_near (signed a) (signed b) (signed_near a h))
+
 -- the tables
-computed_words : (op : Op) (a b i : ℕ) → IsWord a → IsWord b → IsWord i → IfOk (computed_by op a b i) IsWord
+computed_words : (op : Op) (half : Half) (a b i : ℕ) → IsWord a → IsWord b → IsWord i → IfOk (computed_by op half a b i) IsWord
 unfolding computed_by
-computed_words Addu a b i u v w = word_sum (a + b)
-computed_words Subu a b i u v w = word_sum (a + (2 ^ 32 - b))
-computed_words Add a b i u v w = fitted_word (signed a +ℤ signed b)
-computed_words Sub a b i u v w = fitted_word (signed a -ℤ signed b)
-computed_words And a b i u v w = and_lt 32 a b u v
-computed_words Or a b i u v w = or_of_32 a b u v
-computed_words Xor a b i u v w = xor_of_32 a b u v
-computed_words Nor a b i u v w = omega arith
-computed_words Slt a b i u v w = flag_word (int_lt (signed a) (signed b))
-computed_words Sltu a b i u v w = flag_word (ltb a b)
-computed_words Sll a b i u v w = shifted_left_word a (i % 32)
-computed_words Srl a b i u v w = word_div a (i % 32) u
-computed_words Sra a b i u v w = shifted_word a (i % 32) u
-computed_words Sllv a b i u v w = shifted_left_word a (b % 32)
-computed_words Srlv a b i u v w = word_div a (b % 32) u
-computed_words Srav a b i u v w = shifted_word a (b % 32) u
-computed_words Addiu a b i u v w = word_sum (a + i)
-computed_words Addi a b i u v w = fitted_word (signed a +ℤ signed i)
-computed_words Slti a b i u v w = flag_word (int_lt (signed a) (signed i))
-computed_words Sltiu a b i u v w = flag_word (ltb a i)
-computed_words Andi a b i u v w = and_lt 32 a i u w
-computed_words Ori a b i u v w = or_of_32 a i u w
-computed_words Xori a b i u v w = xor_of_32 a i u w
-computed_words Lui a b i u v w = shifted_left_word i 16
-computed_words Lb a b i u v w = tt
-computed_words Lbu a b i u v w = tt
-computed_words Lh a b i u v w = tt
-computed_words Lhu a b i u v w = tt
-computed_words Lw a b i u v w = tt
-computed_words Sb a b i u v w = tt
-computed_words Sh a b i u v w = tt
-computed_words Sw a b i u v w = tt
-computed_words Beq a b i u v w = tt
-computed_words Bne a b i u v w = tt
-computed_words Blez a b i u v w = tt
-computed_words Bgtz a b i u v w = tt
-computed_words Bltz a b i u v w = tt
-computed_words Bgez a b i u v w = tt
-computed_words J a b i u v w = tt
-computed_words Jal a b i u v w = tt
-computed_words Jr a b i u v w = tt
-computed_words Jalr a b i u v w = tt
-computed_words Break a b i u v w = tt
+computed_words Addu half a b i u v w = word_sum (a + b)
+computed_words Subu half a b i u v w = word_sum (a + (2 ^ 32 - b))
+computed_words Add half a b i u v w = fitted_word (signed a +ℤ signed b)
+computed_words Sub half a b i u v w = fitted_word (signed a -ℤ signed b)
+computed_words And half a b i u v w = and_lt 32 a b u v
+computed_words Or half a b i u v w = or_of_32 a b u v
+computed_words Xor half a b i u v w = xor_of_32 a b u v
+computed_words Nor half a b i u v w = omega arith
+computed_words Slt half a b i u v w = flag_word (int_lt (signed a) (signed b))
+computed_words Sltu half a b i u v w = flag_word (ltb a b)
+computed_words Sll half a b i u v w = shifted_left_word a (i % 32)
+computed_words Srl half a b i u v w = word_div a (i % 32) u
+computed_words Sra half a b i u v w = shifted_word a (i % 32) u
+computed_words Sllv half a b i u v w = shifted_left_word a (b % 32)
+computed_words Srlv half a b i u v w = word_div a (b % 32) u
+computed_words Srav half a b i u v w = shifted_word a (b % 32) u
+computed_words Mult half a b i u v w = half_word half (signed_product (signed a) (signed b))
+computed_words Multu half a b i u v w = half_word half (product a b)
+computed_words Div half a b i u v w = signed_divided_word half a b u v
+computed_words Divu half a b i u v w = divided_word half a b u v
+computed_words Mflo half a b i u v w = u
+computed_words Mfhi half a b i u v w = u
+computed_words Mtlo half a b i u v w = u
+computed_words Mthi half a b i u v w = u
+computed_words Addiu half a b i u v w = word_sum (a + i)
+computed_words Addi half a b i u v w = fitted_word (signed a +ℤ signed i)
+computed_words Slti half a b i u v w = flag_word (int_lt (signed a) (signed i))
+computed_words Sltiu half a b i u v w = flag_word (ltb a i)
+computed_words Andi half a b i u v w = and_lt 32 a i u w
+computed_words Ori half a b i u v w = or_of_32 a i u w
+computed_words Xori half a b i u v w = xor_of_32 a i u w
+computed_words Lui half a b i u v w = shifted_left_word i 16
+computed_words Lb half a b i u v w = tt
+computed_words Lbu half a b i u v w = tt
+computed_words Lh half a b i u v w = tt
+computed_words Lhu half a b i u v w = tt
+computed_words Lw half a b i u v w = tt
+computed_words Sb half a b i u v w = tt
+computed_words Sh half a b i u v w = tt
+computed_words Sw half a b i u v w = tt
+computed_words Beq half a b i u v w = tt
+computed_words Bne half a b i u v w = tt
+computed_words Blez half a b i u v w = tt
+computed_words Bgtz half a b i u v w = tt
+computed_words Bltz half a b i u v w = tt
+computed_words Bgez half a b i u v w = tt
+computed_words J half a b i u v w = tt
+computed_words Jal half a b i u v w = tt
+computed_words Jr half a b i u v w = tt
+computed_words Jalr half a b i u v w = tt
+computed_words Break half a b i u v w = tt
 
 taken_word : (b : Bool) (pc to : ℕ) → IsWord to → IsWord (taken_if b pc to)
 taken_word true pc to h = h
@@ -128,6 +198,14 @@ jump_words Sra pc a b to u w = w
 jump_words Sllv pc a b to u w = w
 jump_words Srlv pc a b to u w = w
 jump_words Srav pc a b to u w = w
+jump_words Mult pc a b to u w = w
+jump_words Multu pc a b to u w = w
+jump_words Div pc a b to u w = w
+jump_words Divu pc a b to u w = w
+jump_words Mflo pc a b to u w = w
+jump_words Mfhi pc a b to u w = w
+jump_words Mtlo pc a b to u w = w
+jump_words Mthi pc a b to u w = w
 jump_words Addiu pc a b to u w = w
 jump_words Addi pc a b to u w = w
 jump_words Slti pc a b to u w = w
@@ -163,6 +241,7 @@ OutcomeIsWord (Value v) = IsWord v
 OutcomeIsWord (Next x) = IsWord x
 OutcomeIsWord (Address a) = IsWord a
 OutcomeIsWord (Stops c) = ⊤
+OutcomeIsWord (Pair l h) = IsWord l
 
 value_word : (r : Result ℕ Stop) → IfOk r IsWord → OutcomeIsWord (as_value r)
 value_word (Ok v) h = h
@@ -172,13 +251,13 @@ address_word : (r : Result ℕ Stop) → IfOk r IsWord → OutcomeIsWord (as_add
 address_word (Ok v) h = h
 address_word (Err c) h = tt
 
-pub outcome_words : (k : Kind) (i : Instr) (pc a b size : ℕ) → IsWord i.number → IsWord a → IsWord b →
-    OutcomeIsWord (outcome_by k i pc a b size)
-outcome_words Computes i pc a b size n u v = value_word _ (computed_words i.op a b i.number u v n)
-outcome_words Jumps i pc a b size n u v = jump_words i.op pc a b i.number u n
-outcome_words Links i pc a b size n u v = jump_words i.op pc a b i.number u n
-outcome_words Loads i pc a b size n u v = address_word _ (address_words _ _ size (word_sum (a + i.number)))
-outcome_words Stores i pc a b size n u v = address_word _ (address_words _ _ size (word_sum (a + i.number)))
+pub outcome_words : (k : Kind) (i : Instr) (half : Half) (pc a b size : ℕ) → IsWord i.number → IsWord a → IsWord b →
+    OutcomeIsWord (outcome_by k i half pc a b size)
+outcome_words Computes i half pc a b size n u v = value_word _ (computed_words i.op half a b i.number u v n)
+outcome_words Jumps i half pc a b size n u v = jump_words i.op pc a b i.number u n
+outcome_words Links i half pc a b size n u v = jump_words i.op pc a b i.number u n
+outcome_words Loads i half pc a b size n u v = address_word _ (address_words _ _ size (word_sum (a + i.number)))
+outcome_words Stores i half pc a b size n u v = address_word _ (address_words _ _ size (word_sum (a + i.number)))
 
 extended_8 : (n : ℕ) → n < 2 ^ 8 → IsWord (extended w8 n)
 extended_8 n h = go (ltb n (2 ^ 7))
@@ -214,6 +293,14 @@ loaded_words Sra raw h = h
 loaded_words Sllv raw h = h
 loaded_words Srlv raw h = h
 loaded_words Srav raw h = h
+loaded_words Mult raw h = h
+loaded_words Multu raw h = h
+loaded_words Div raw h = h
+loaded_words Divu raw h = h
+loaded_words Mflo raw h = h
+loaded_words Mfhi raw h = h
+loaded_words Mtlo raw h = h
+loaded_words Mthi raw h = h
 loaded_words Addiu raw h = h
 loaded_words Addi raw h = h
 loaded_words Slti raw h = h

@@ -2,15 +2,15 @@
 use Rattle.std.proofs.Common.{◌≡◌, ℕ, zero, suc, ◌+◌, ◌-◌, ◌*◌, ◌/◌, ◌^◌, ◌<◌, ◌≤◌, Bool, true, false, cond, eqb, List, [], ◌∷◌, ◌++◌, length, Option, Some, None, sym, subst, arith}
 use Rattle.std.specs.List.{AllByRecursion}
 use Rattle.std.specs.Prelude.{IfSome, option_map, unwrap_or}
-use Rattle.isa.specs.Instruction.{kind, width}
+use Rattle.isa.specs.Instruction.{first_of, second_of, kind, width}
 use Rattle.isa.specs.Programs.{Program, instr_of}
 use Rattle.isa.specs.declared.instr.Instr.{Instr}
 use Rattle.isa.specs.declared.op.Kind.{Kind}
 use Rattle.isa.specs.declared.op.Kind.TheVariants.{Computes, Jumps, Links, Loads, Stores}
 use Rattle.isa.specs.declared.op.Op.{Op}
-use Rattle.isa.specs.declared.op.Op.TheVariants.{Add, Addi, Addiu, Addu, And, Andi, Beq, Bgez, Bgtz, Blez, Bltz, Bne, Break, J, Jal, Jalr, Jr, Lb, Lbu, Lh, Lhu, Lui, Lw, Nor, Or, Ori, Sb, Sh, Sll, Sllv, Slt, Slti, Sltiu, Sltu, Sra, Srav, Srl, Srlv, Sub, Subu, Sw, Xor, Xori}
+use Rattle.isa.specs.declared.op.Op.TheVariants.{Mult, Multu, Div, Divu, Mflo, Mfhi, Mtlo, Mthi, Add, Addi, Addiu, Addu, And, Andi, Beq, Bgez, Bgtz, Blez, Bltz, Bne, Break, J, Jal, Jalr, Jr, Lb, Lbu, Lh, Lhu, Lui, Lw, Nor, Or, Ori, Sb, Sh, Sll, Sllv, Slt, Slti, Sltiu, Sltu, Sra, Srav, Srl, Srlv, Sub, Subu, Sw, Xor, Xori}
 use Rattle.isa.specs.declared.stop.Outcome.{Outcome}
-use Rattle.isa.specs.declared.stop.Outcome.TheVariants.{Address, Next, Stop as Stops, Value}
+use Rattle.isa.specs.declared.stop.Outcome.TheVariants.{Pair, Address, Next, Stop as Stops, Value}
 use Rattle.inorder.specs.declared.history.Act.{Act}
 use Rattle.inorder.specs.declared.history.Act.TheVariants.{Claim, Deliver, Finish, Link, Load, Mend, Retire, Squash}
 use Rattle.inorder.specs.declared.history.Source.TheVariants.{First, Second}
@@ -86,6 +86,14 @@ width_small Sra = omega arith
 width_small Sllv = omega arith
 width_small Srlv = omega arith
 width_small Srav = omega arith
+width_small Mult = omega arith
+width_small Multu = omega arith
+width_small Div = omega arith
+width_small Divu = omega arith
+width_small Mflo = omega arith
+width_small Mfhi = omega arith
+width_small Mtlo = omega arith
+width_small Mthi = omega arith
 width_small Addiu = omega arith
 width_small Addi = omega arith
 width_small Slti = omega arith
@@ -182,10 +190,10 @@ let_words P C U index predicted first second w m h =
       next = m.small;
       first =
           supply_word P U (next_station C (recent U)) (creator P U.tenants
-          (instr_of P index).first) first h m.first_is;
+          (first_of (instr_of P index))) first h m.first_is;
       second =
           supply_word P U (next_station C (recent U)) (creator P U.tenants
-          (instr_of P index).second) second h m.second_is;
+          (second_of (instr_of P index))) second h m.second_is;
       made = made_at_let_word (kind (instr_of P index).op) (front_pc U.tenants);
       fate = tt;
     }
@@ -214,6 +222,7 @@ finish_words P w t (Next x) u h = remade_words t _ t.made (go (eqb x t.predicted
     go false = u
 finish_words P w t (Address a) u h = remade_words t (Addr a) t.made u h.made h
 finish_words P w t (Stops c) u h = remade_words t (Stopped c) t.made tt h.made h
+finish_words P w t (Pair l r) u h = remade_words t (Done l) (Some l) u u h
 
 end_word : (f : Fate) (made : Option ℕ) (n : ℕ) → IsWord n → IfSome made IsWord →
     IfSome (made_at_end f made n) IsWord
@@ -269,7 +278,7 @@ act_words P w by (Deliver Second) ys t ts m us h =
     }
 act_words P w by Claim ys t ts m us h = remade_words t (Busy by) t.made tt h.made h
 act_words P w by Finish ys t ts m us h =
-    finish_words P w t (computed P t) (outcome_words (kind_of P t) (instr P t) t.pc _ _ (length P.bytes)
+    finish_words P w t (computed P t) (outcome_words (kind_of P t) (instr P t) t.half t.pc _ _ (length P.bytes)
     (w.numbers t.index) (or_zero t.first.value h.first) (or_zero t.second.value h.second)) h
 act_words P w by Load ys t ts m us h =
     let u = load_word P w ts t in remade_words t (Done (load_value P ts t)) (Some (load_value P ts t)) u u h

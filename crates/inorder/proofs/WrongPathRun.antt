@@ -222,7 +222,7 @@ ended_allowed = (
 
 -- The fault on the wrong path has left nothing: one instruction has committed
 skips_committed : committed skips (reached skips four_stations ended).tenants ≡
-    record { registers = replicate 32 0; memory = []; pc = 0x00400008; count = 1 }
+    record { registers = replicate 34 0; memory = []; pc = 0x00400008; count = 1 }
 unfolding instr_at computed_by jump_target checked_address loaded
 skips_committed = refl
 

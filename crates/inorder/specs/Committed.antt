@@ -1,9 +1,9 @@
 -- What a unit has committed.
-use Rattle.std.specs.Prelude.{ℕ, suc, Bool, true, false, List, [], ◌∷◌, Option, Some, None, unwrap_or, if◌then◌else◌}
+use Rattle.std.specs.Prelude.{ℕ, suc, Bool, true, false, List, [], ◌∷◌, Option, Some, None, unwrap_or, if◌then◌else◌, ◌&&◌, not}
 use Rattle.isa.specs.Programs.{Program}
 use Rattle.inorder.specs.Machine.{State, start, store_bytes, write}
 use Rattle.inorder.specs.Memory.{Stored, stored}
-use Rattle.inorder.specs.Tenants.{Fate, Retired, Standing, Stopped, Tenant, computed_next, destination_of}
+use Rattle.inorder.specs.Tenants.{Fate, Retired, Standing, Stopped, Tenant, computed_next, destination_of, is_first}
 
 abbrev pub commits_by : Standing → Fate → Bool
 commits_by Retired (Stopped c) = false
@@ -33,11 +33,27 @@ with_tenant P t s =
       count = suc s.count;
     }
 
--- The start state with the writes and stores of the tenants that commit, the oldest first
+-- The state with the write of a first half: pc and count pass over it
+abbrev pub with_first : Program → Tenant → State → State
+with_first P t s = record s { registers = with_write P t s.registers }
+
+-- The state with what a tenant that commits leaves, where it is a first half or not
+abbrev pub with_retired : Bool → Program → Tenant → State → State
+with_retired true P t s = with_first P t s
+with_retired false P t s = with_tenant P t s
+
+-- The state that a new tenant finds where all before it have left: the start state with the writes
+-- and stores of the tenants that commit, the oldest first
+abbrev pub ahead : Program → List Tenant → State
+ahead P [] = start P
+ahead P (t ∷ ts) = if commits t then with_retired (is_first P t) P t (ahead P ts) else ahead P ts
+
+-- With this tenant an instruction commits: a first half waits for its second
+abbrev pub completes : Program → Tenant → Bool
+completes P t = commits t && not (is_first P t)
+
+-- What whole instructions have left: the start state with the writes and stores of the tenants up
+-- to the last that completes an instruction
 abbrev pub committed : Program → List Tenant → State
 committed P [] = start P
-committed P (t ∷ ts) = if commits t then with_tenant P t (committed P ts) else committed P ts
-
--- The state that a new tenant finds where all before it have left
-abbrev pub ahead : Program → List Tenant → State
-ahead P ts = committed P ts
+committed P (t ∷ ts) = if completes P t then with_tenant P t (ahead P ts) else committed P ts

@@ -4,11 +4,12 @@ use Rattle.isa.specs.declared.instr.Instr.{Instr}
 use Rattle.isa.specs.declared.stop.Stop.{Stop}
 use Rattle.isa.specs.declared.stop.Stop.TheVariants.{BadPc}
 use Rattle.isa.specs.declared.stop.Outcome.{Outcome}
-use Rattle.isa.specs.declared.stop.Outcome.TheVariants.{Value, Next, Address, Stop as Stops}
+use Rattle.isa.specs.declared.stop.Outcome.TheVariants.{Value, Next, Address, Stop as Stops, Pair}
+use Rattle.isa.specs.declared.op.Half.TheVariants.{Low, High}
 use Rattle.isa.specs.declared.op.Kind.{Kind}
 use Rattle.isa.specs.declared.op.Kind.TheVariants.{Stores}
 use Rattle.isa.specs.Registers.{register_count}
-use Rattle.isa.specs.Instruction.{kind, destination, width, pc_plus_4}
+use Rattle.isa.specs.Instruction.{kind, destination, first_of, second_of, width, pc_plus_4}
 use Rattle.isa.specs.Operations.{outcome, loaded}
 use Rattle.isa.specs.Programs.{Program, text_start, instr_at}
 use Rattle.lsq.specs.Bytes.{little_endian}
@@ -43,7 +44,7 @@ store_bytes memory at (suc w) v = store_bytes (slice_set memory at (v % 256)) (a
 abbrev pub advanced : State → Instr → ℕ → List ℕ → ℕ → State
 advanced s i v memory next =
     record {
-      registers = write s.registers (destination i) v;
+      registers = write s.registers (destination i Low) v;
       memory = memory;
       pc = next;
       count = suc s.count;
@@ -52,11 +53,21 @@ advanced s i v memory next =
 -- the state after a load or store at an address
 abbrev pub after_access : Kind → State → Instr → ℕ → State
 after_access Stores s i at =
-    advanced s i 0 (store_bytes s.memory at (width i.op) (slice_index s.registers i.second))
+    advanced s i 0 (store_bytes s.memory at (width i.op) (slice_index s.registers (second_of i)))
     (pc_plus_4 s.pc)
 after_access _ s i at =
     advanced s i (loaded i.op (little_endian (slice_index s.memory) at (width i.op))) s.memory
     (pc_plus_4 s.pc)
+
+-- the state after an instruction that writes LO and HI
+abbrev pub after_pair : State → Instr → ℕ → ℕ → State
+after_pair s i low high =
+    record {
+      registers = write (write s.registers (destination i Low) low) (destination i High) high;
+      memory = s.memory;
+      pc = pc_plus_4 s.pc;
+      count = suc s.count;
+    }
 
 -- what a step comes to: the next state, or a stop
 pub data Ran : Type 0 where
@@ -69,13 +80,14 @@ ran s i (Value v) = Goes (advanced s i v s.memory (pc_plus_4 s.pc))
 ran s i (Next x) = Goes (advanced s i (pc_plus_4 s.pc) s.memory x)
 ran s i (Address at) = Goes (after_access (kind i.op) s i at)
 ran s i (Stops c) = Halts c
+ran s i (Pair low high) = Goes (after_pair s i low high)
 
 -- the instruction at the pc, if there is one
 abbrev pub fetched : Program → State → Option Instr → Ran
 fetched P s None = Halts BadPc
 fetched P s (Some i) =
     ran s i
-    (outcome i s.pc (slice_index s.registers i.first) (slice_index s.registers i.second)
+    (outcome i s.pc (slice_index s.registers (first_of i)) (slice_index s.registers (second_of i))
     (length P.bytes))
 
 -- one step

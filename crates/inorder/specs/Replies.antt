@@ -2,6 +2,7 @@
 -- that was made.
 use Rattle.std.specs.Prelude.{◌≡◌, ◌≢◌, ℕ, ◌-◌, ◌^◌, ◌<◌, Bool, true, ◌&&◌, length, Some, None, if◌then◌else◌}
 use Rattle.std.specs.List.{AllByRecursion}
+use Rattle.isa.specs.declared.op.Half.{Half}
 use Rattle.isa.specs.Instruction.{kind}
 use Rattle.isa.specs.Programs.{Program, address, instr_at, instr_of}
 use Rattle.isa.specs.declared.stop.Stop.{Stop}
@@ -82,6 +83,7 @@ pub record JobFields : Type 0 where
   pub station : ℕ
   pub tag : ℕ
   pub index : ℕ
+  pub half : Half
   pub pc : ℕ
   pub predicted : ℕ
   pub first : ℕ
@@ -93,6 +95,7 @@ job_of P t =
       station = t.station;
       tag = t.tag;
       index = t.index;
+      half = t.half;
       pc = t.pc;
       predicted = t.predicted;
       first = needed P First t;

@@ -1,19 +1,19 @@
 -- The steps of the one-thread unit: where each is allowed, and what it does.
 use Rattle.std.specs.Prelude.{⊤, ◌≡◌, ◌≢◌, ℕ, ◌^◌, ◌<◌, Bool, true, List, length, Option, Some, None, ◌==◌, IfSome, is_none, if◌then◌else◌}
 use Rattle.std.specs.List.{AllByRecursion}
-use Rattle.isa.specs.Instruction.{fixed_next, kind}
+use Rattle.isa.specs.Instruction.{first_of, fixed_next, kind, second_of}
 use Rattle.isa.specs.Programs.{Program, address, instr_of}
 use Rattle.isa.specs.declared.op.Kind.{Kind}
 use Rattle.isa.specs.declared.op.Kind.TheVariants.{Links, Loads, Stores}
 use Rattle.isa.specs.declared.stop.Outcome.{Outcome}
-use Rattle.isa.specs.declared.stop.Outcome.TheVariants.{Address, Next, Stop as Stops, Value}
+use Rattle.isa.specs.declared.stop.Outcome.TheVariants.{Address, Next, Pair, Stop as Stops, Value}
 use Rattle.isa.specs.declared.stop.Stop.{Stop}
 use Rattle.inorder.specs.declared.history.Source.{Source}
 use Rattle.inorder.specs.declared.history.Supply.{Supply}
 use Rattle.inorder.specs.declared.history.Supply.TheVariants.{From, Known}
 use Rattle.inorder.specs.Memory.{load_value, raw_at}
 use Rattle.inorder.specs.Tenants.{Addr, AtLet, Busy, Done, Fate, IsNotLive, IsThere, Linked, Live, Miss, Open, Operand, Retired, Squashed, Stopped, Tenant, Unlinked, instr, is_access, is_live, is_live_access, kind_of, made_at_let, missing, operand, with_operand}
-use Rattle.inorder.specs.Unit.{Sizes, UpdateUnit, at, creator, front_pc, how_many, next_station, next_tag, recent, value_of, younger}
+use Rattle.inorder.specs.Unit.{Sizes, UpdateUnit, at, creator, front_half, front_pc, how_many, next_station, next_tag, recent, value_of, younger}
 
 -- Let
 
@@ -41,11 +41,13 @@ pub record MayLet (P : Program) (C : Sizes) (U : UpdateUnit) (index predicted : 
   pub is_there : index < length P.code
   pub pc : front_pc U.tenants ≡ address index
   pub small : predicted < 2 ^ 32
-  pub predicts : IfSome (fixed_next (instr_of P index) (front_pc U.tenants)) (λ x. predicted ≡ x)
+  pub predicts :
+      IfSome (fixed_next (instr_of P index) (front_half P U.tenants) (front_pc U.tenants))
+      (λ x. predicted ≡ x)
   pub first_is : MaySupply P U (next_station C (recent U))
-      (creator P U.tenants (instr_of P index).first) first
+      (creator P U.tenants (first_of (instr_of P index))) first
   pub second_is : MaySupply P U (next_station C (recent U))
-      (creator P U.tenants (instr_of P index).second) second
+      (creator P U.tenants (second_of (instr_of P index))) second
 
 abbrev pub let_operand : Option ℕ → Supply → Operand
 let_operand c (Known v) = record { creator = c; way = AtLet; value = Some v }
@@ -57,11 +59,12 @@ new_tenant P C U index predicted first second =
       station = next_station C (recent U);
       tag = next_tag C (recent U);
       index = index;
+      half = front_half P U.tenants;
       pc = front_pc U.tenants;
       predicted = predicted;
       next = predicted;
-      first = let_operand (creator P U.tenants (instr_of P index).first) first;
-      second = let_operand (creator P U.tenants (instr_of P index).second) second;
+      first = let_operand (creator P U.tenants (first_of (instr_of P index))) first;
+      second = let_operand (creator P U.tenants (second_of (instr_of P index))) second;
       made = made_at_let (kind (instr_of P index).op) (front_pc U.tenants);
       fate = Open;
       standing = Live;
@@ -111,6 +114,7 @@ finished t (Value v) = record t { fate = Done v; made = Some v }
 finished t (Next x) = record t { fate = if x == t.predicted then Done x else Miss x }
 finished t (Address a) = record t { fate = Addr a }
 finished t (Stops c) = record t { fate = Stopped c }
+finished t (Pair low high) = record t { fate = Done low; made = Some low }
 
 -- Load
 

@@ -1,9 +1,10 @@
 -- A tenant: one use of a reservation station by an instruction in flight.
 use Rattle.std.specs.Prelude.{◌≡◌, ◌≢◌, ℕ, Bool, true, false, ◌&&◌, length, Option, Some, None, unwrap_or, if◌then◌else◌}
-use Rattle.isa.specs.Instruction.{destination, kind, pc_plus_4}
-use Rattle.isa.specs.Operations.{outcome}
+use Rattle.isa.specs.Instruction.{destination, is_first_half, kind, pc_plus_4}
+use Rattle.isa.specs.Operations.{outcome_of}
 use Rattle.isa.specs.Programs.{Program, instr_of}
 use Rattle.isa.specs.declared.instr.Instr.{Instr}
+use Rattle.isa.specs.declared.op.Half.{Half}
 use Rattle.isa.specs.declared.op.Kind.{Kind}
 use Rattle.isa.specs.declared.op.Kind.TheVariants.{Links, Loads, Stores}
 use Rattle.isa.specs.declared.stop.Outcome.{Outcome}
@@ -44,6 +45,7 @@ pub record Tenant : Type 0 where
   pub station : ℕ
   pub tag : ℕ
   pub index : ℕ  -- of its instruction
+  pub half : Half  -- of its instruction
   pub pc : ℕ
   pub predicted : ℕ
   pub next : ℕ  -- the predicted next pc, or the computed one once it was mended
@@ -68,9 +70,13 @@ instr P t = instr_of P t.index
 abbrev pub kind_of : Program → Tenant → Kind
 kind_of P t = kind (instr P t).op
 
+-- It is the first of two halves
+abbrev pub is_first : Program → Tenant → Bool
+is_first P t = is_first_half (instr P t).op t.half
+
 -- The register that a tenant writes; 0 where it writes none
 abbrev pub destination_of : Program → Tenant → ℕ
-destination_of P t = destination (instr P t)
+destination_of P t = destination (instr P t) t.half
 
 abbrev pub stands_on_path : Standing → Bool
 stands_on_path Squashed = false
@@ -129,12 +135,22 @@ operand_value o = unwrap_or o.value 0
 -- The outcome of the delivered sources
 abbrev pub computed : Program → Tenant → Outcome
 computed P t =
-    outcome (instr P t) t.pc (operand_value t.first) (operand_value t.second) (length P.bytes)
+    outcome_of (instr P t) t.half t.pc (operand_value t.first) (operand_value t.second)
+    (length P.bytes)
+
+-- The pc behind a tenant at pc: that of the second half behind a first half
+abbrev pub behind_by : Bool → ℕ → ℕ
+behind_by true pc = pc
+behind_by false pc = pc_plus_4 pc
+
+-- The pc behind it, where it does not jump
+abbrev pub behind : Program → Tenant → ℕ
+behind P t = behind_by (is_first P t) t.pc
 
 abbrev pub next_by : ℕ → Outcome → ℕ
-next_by pc (Next x) = x
-next_by pc _ = pc_plus_4 pc
+next_by after (Next x) = x
+next_by after _ = after
 
 -- Where it goes on by its outcome
 abbrev pub computed_next : Program → Tenant → ℕ
-computed_next P t = next_by t.pc (computed P t)
+computed_next P t = next_by (behind P t) (computed P t)

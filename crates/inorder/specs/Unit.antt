@@ -1,9 +1,11 @@
 -- The one-thread unit: all tenants ever let, the youngest first, so that the tenants before one are
 -- the rest of the list from it on. A tenant's position is how many are before it.
-use Rattle.std.specs.Prelude.{ℕ, zero, suc, ◌+◌, ◌%◌, Bool, false, ◌&&◌, List, [], ◌∷◌, length, Option, Some, None, ◌==◌, nat_lt, if◌then◌else◌}
+use Rattle.std.specs.Prelude.{ℕ, zero, suc, ◌+◌, ◌%◌, Bool, true, false, ◌&&◌, List, [], ◌∷◌, length, Option, Some, None, ◌==◌, nat_lt, if◌then◌else◌}
+use Rattle.isa.specs.declared.op.Half.{Half}
+use Rattle.isa.specs.declared.op.Half.TheVariants.{High, Low}
 use Rattle.isa.specs.Programs.{Program}
 use Rattle.isa.specs.Registers.{register_count}
-use Rattle.inorder.specs.Tenants.{Tenant, destination_of, on_path}
+use Rattle.inorder.specs.Tenants.{Tenant, destination_of, is_first, on_path}
 
 pub record UpdateUnit : Type 0 where
   pub tenants : List Tenant
@@ -90,3 +92,13 @@ creator P ts r = if can_be_written r then last_writer P ts r else None
 abbrev pub front_pc : List Tenant → ℕ
 front_pc [] = 0x00400000
 front_pc (t ∷ ts) = if on_path t then t.next else front_pc ts
+
+-- The half that comes behind a tenant: behind a first half its second
+abbrev pub half_after : Bool → Half
+half_after true = High
+half_after false = Low
+
+-- The half that comes next on the path
+abbrev pub front_half : Program → List Tenant → Half
+front_half P [] = Low
+front_half P (t ∷ ts) = if on_path t then half_after (is_first P t) else front_half P ts

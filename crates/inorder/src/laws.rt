@@ -33,7 +33,8 @@ pub fn a_tag_names_one_tenant()
     ensures { (p : Program) (c : Sizes) (history : List Taken) → NamesOne p c history }
 {}
 
-/// A retirement commits its tenant, unless that is a stop. No other step commits anything.
+/// A retirement commits its tenant, unless that is a stop; the write of a first half waits, and is
+/// committed with its second half. No other step commits anything.
 pub fn only_retirements_commit()
     ensures { (p : Program) (c : Sizes) (history : List Taken) (by : ℕ) →
         OnlyRetirementsCommit p c history by }

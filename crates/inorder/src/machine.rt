@@ -1,11 +1,11 @@
 //! The in-order machine.
 ghost use Rattle.std.specs.Prelude.{◌≡◌, ◌<◌, ◌≤◌, ◌+◌, ◌^◌, ◌-◌, length, slice_index, IfOk};
-ghost use Rattle.inorder.specs.Machine.{write as written, step as step_of, start, advanced, after_access};
-ghost use Rattle.isa.specs.Instruction.{kind as kind_of, width as width_of};
+ghost use Rattle.inorder.specs.Machine.{write as written, step as step_of, start, advanced, after_access, after_pair};
+ghost use Rattle.isa.specs.Instruction.{kind as kind_of, width as width_of, second_of};
 ghost use Rattle.inorder.specs.Runs.{Running, IsStep, end_from, ending};
 
 use crate::data::{number, store};
-use isa::{Instr, Kind, Memory, Outcome, Program, Reg, Stop, loaded, outcome, pc_plus_4};
+use isa::{Half, Instr, Kind, Memory, Outcome, Program, Reg, Stop, loaded, outcome, pc_plus_4};
 use std::alloc::Global;
 use std::marker::Model;
 
@@ -27,13 +27,13 @@ pub enum Ended {
     Limit,
 }
 
-fn read(registers: &[u32; 32], r: Reg) -> u32
+fn read(registers: &[u32; 34], r: Reg) -> u32
     ensures { result ≡ slice_index registers.now r }
 {
     registers[r.number() as usize]
 }
 
-fn write(registers: &mut [u32; 32], r: Reg, value: u32)
+fn write(registers: &mut [u32; 34], r: Reg, value: u32)
     ensures { registers.new ≡ written registers.old r value }
 {
     if r.number() != 0 {
@@ -45,7 +45,7 @@ fn write(registers: &mut [u32; 32], r: Reg, value: u32)
 #[derive(Drop)]
 pub struct Machine<'a> {
     program: &'a Program,
-    registers: [u32; 32],
+    registers: [u32; 34],
     memory: Vec<u8>,
     pc: u32,
     count: u64,
@@ -78,7 +78,7 @@ impl<'a> Machine<'a> {
         let memory = Vec::from_slice(alloc, program.bytes())?;
         Ok(Machine {
             program,
-            registers: [0; 32],
+            registers: [0; 34],
             memory,
             pc: Program::START,
             count: 0,
@@ -107,7 +107,7 @@ impl<'a> Machine<'a> {
     }
 
     /// The registers, register 0 first.
-    pub fn registers(&self) -> &[u32; 32]
+    pub fn registers(&self) -> &[u32; 34]
         ensures { result.now ≡ self.now.state.registers }
     {
         &self.registers
@@ -134,6 +134,7 @@ impl<'a> Machine<'a> {
             Outcome::Stop(stop) => return Stepped::Stopped(stop),
             Outcome::Value(value) => self.advance(&instr, value, pc_plus_4(self.pc)),
             Outcome::Next(next) => self.advance(&instr, pc_plus_4(self.pc), next),
+            Outcome::Pair(low, high) => self.advance_pair(&instr, low, high),
             Outcome::Address(address) => self.access(&instr, address as usize, b),
         }
         Stepped::Ran
@@ -145,16 +146,27 @@ impl<'a> Machine<'a> {
           state = advanced self.old.state instr.now value self.old.state.memory next;
         } }
     {
-        write(&mut self.registers, instr.destination(), value);
+        write(&mut self.registers, instr.destination(Half::Low), value);
         self.pc = next;
         self.count += 1;
+    }
+
+    // the instruction that makes values for LO and HI
+    fn advance_pair(&mut self, instr: &Instr, low: u32, high: u32)
+        requires { self.old.state.count < 2 ^ 64 - 1 }
+        ensures { self.new ≡ record self.old {
+          state = after_pair self.old.state instr.now low high;
+        } }
+    {
+        self.advance(instr, low, pc_plus_4(self.pc));
+        write(&mut self.registers, instr.destination(Half::High), high);
     }
 
     // the load or store at an address, with what source 2 holds
     fn access(&mut self, instr: &Instr, address: usize, b: u32)
         requires count { self.old.state.count < 2 ^ 64 - 1 }
         requires inside { address + width_of instr.now.op ≤ length self.old.program.bytes }
-        requires source { b ≡ slice_index self.old.state.registers instr.now.second }
+        requires source { b ≡ slice_index self.old.state.registers (second_of instr.now) }
         ensures { self.new ≡ record self.old {
           state = after_access (kind_of instr.now.op) self.old.state instr.now address;
         } }

@@ -16,6 +16,7 @@ use Rattle.isa.specs.Statement.{Parsed, Line, statement}
 use Rattle.isa.specs.Listing.{Lines, labels, read, code_in, bytes_in, at, table, numbered, memory, how_many, is_double, fault_of, fault_in}
 use Rattle.isa.specs.Held.{Labels, IsTable, IsAdded, IsRead, name_of, rows}
 use Rattle.isa.proofs.Rows.{rows_length, rows_push}
+use Rattle.isa.proofs.Statements.{statement_empty}
 
 -- ---- one line more
 
@@ -159,3 +160,7 @@ module _ (before : Lines) (line text : List ℕ) (m : Labels) (code : List Instr
           bytes_are = added.grown ∙ sym (bytes_are _ added.is);
         },
       )
+
+-- a line that is a label and nothing else
+pub adds_nothing : (text bytes : List ℕ) → statement_of text ≡ [] → IsAdded (statement (statement_of text)) [] bytes bytes
+adds_nothing text bytes none = record { bytes = []; grown = sym (append-nil bytes); is = ap statement none ∙ statement_empty [] refl }

@@ -1,12 +1,13 @@
 -- The map of labels and a list of pairs, label after label.
 use Rattle.std.proofs.Common.{◌≡◌, ℕ, Bool, true, false, cond, List, [], ◌∷◌, ◌++◌, Option, Some, None, refl, sym, ap, ◌∙◌, subst, append_assoc, inl, inr}
-use Rattle.std.specs.Prelude.{is_some}
+use Rattle.std.specs.Prelude.{is_some, ◌||◌}
 use Rattle.std.specs.HashMap.{UpdatesBy, get_by}
 use Rattle.std.specs.Map.{lookup}
 use Rattle.std.specs.Str.{bytes_eq}
 use Rattle.std.proofs.lemmas.Bool.{cases_Bool}
 use Rattle.std.proofs.lemmas.List.{append-nil}
 use Rattle.std.proofs.lemmas.Slice.Eq.{bytes_eq-Decides}
+use Rattle.text.specs.Label.{labels_of}
 use Rattle.isa.specs.Listing.{is_double, at}
 use Rattle.isa.specs.Held.{Labels, IsTable}
 
@@ -42,22 +43,42 @@ table_more m m' now x n table absent updates q =
       | inr not ↦ e ∙ rw not (table q ∙ sym (lookup_keep (λ k. bytes_eq k q) now x n not))
     ]
 
+-- one label, which the map did not have, or has
+pub one_more : (n : ℕ) (pairs : List (List ℕ × ℕ)) (m m' : Labels) (x : List ℕ) → IsTable m pairs → get_by (λ k. bytes_eq x k.text.now) m ≡ None
+    → UpdatesBy (λ x y. bytes_eq x.text.now y.text.now) (λ k. bytes_eq x k.text.now) m m' (Some n)
+    → (is_double n pairs (x ∷ []) ≡ false) × IsTable m' (pairs ++ (x, n) ∷ [])
+one_more n pairs m m' x table absent updates =
+    let none : lookup (λ k. bytes_eq k x) pairs ≡ None = sym (table x) ∙ absent in
+    (rw none refl, table_more m m' pairs x n table absent updates)
+
+pub one_double : (n : ℕ) (pairs : List (List ℕ × ℕ)) (m : Labels) (x : List ℕ) → IsTable m pairs → is_some (get_by (λ k. bytes_eq x k.text.now) m) ≡ true
+    → is_double n pairs (x ∷ []) ≡ true
+one_double n pairs m x table there =
+    let found : is_some (lookup (λ k. bytes_eq k x) pairs) ≡ true = ap is_some (sym (table x)) ∙ there in
+    rw found refl
+
+alone : (b : Bool) → (b || false) ≡ b
+alone true = refl
+alone false = refl
+
+-- one label of several
 pub labels_more : (n : ℕ) (pairs : List (List ℕ × ℕ)) (m m' : Labels) (x : List ℕ) (rest xs all : List (List ℕ)) → rest ≡ x ∷ xs → LabelsSoFar n pairs m rest all
-    → get_by (λ k. bytes_eq x k.text.now) m ≡ None → UpdatesBy (λ x y. bytes_eq x.text.now y.text.now) (λ k. bytes_eq x k.text.now) m m' (Some n) → LabelsSoFar n pairs m' xs all
-labels_more n pairs m m' x rest xs all is so_far absent updates =
-    let none : lookup (λ k. bytes_eq k x) so_far.now ≡ None = sym (so_far.table x) ∙ absent in
+    → ((now : List (List ℕ × ℕ)) → IsTable m now → (is_double n now (x ∷ []) ≡ false) × IsTable m' (now ++ (x, n) ∷ [])) → LabelsSoFar n pairs m' xs all
+labels_more n pairs m m' x rest xs all is so_far single =
+    let one = single so_far.now so_far.table in
+    let none : is_some (lookup (λ k. bytes_eq k x) so_far.now) ≡ false = sym (alone _) ∙ one.0 in
     record {
       now = so_far.now ++ (x, n) ∷ [];
-      table = table_more m m' so_far.now x n so_far.table absent updates;
+      table = one.1;
       double = so_far.double ∙ rw (is, none) refl;
       whole = so_far.whole ∙ rw (is, append_assoc) refl;
     }
 
--- a label that the map has
+-- a label that is there
 pub labels_double : (n : ℕ) (pairs : List (List ℕ × ℕ)) (m : Labels) (x : List ℕ) (rest xs all : List (List ℕ)) → rest ≡ x ∷ xs → LabelsSoFar n pairs m rest all
-    → is_some (get_by (λ k. bytes_eq x k.text.now) m) ≡ true → is_double n pairs all ≡ true
-labels_double n pairs m x rest xs all is so_far there =
-    let found : is_some (lookup (λ k. bytes_eq k x) so_far.now) ≡ true = ap is_some (sym (so_far.table x)) ∙ there in
+    → ((now : List (List ℕ × ℕ)) → IsTable m now → is_double n now (x ∷ []) ≡ true) → is_double n pairs all ≡ true
+labels_double n pairs m x rest xs all is so_far double =
+    let found : is_some (lookup (λ k. bytes_eq k x) so_far.now) ≡ true = sym (alone _) ∙ double so_far.now so_far.table in
     so_far.double ∙ rw (is, found) refl
 
 -- no label is left
@@ -75,3 +96,13 @@ labels_start n pairs m all table = record { now = pairs; table = table; double =
 pub none_from_is_some : (o : Option ℕ) → is_some o ≡ false → o ≡ None
 none_from_is_some None e = refl
 none_from_is_some (Some x) e = absurd cc
+
+-- a text of one label
+module _ (text name : List ℕ) (is : labels_of text ≡ name ∷ []) (m m' : Labels) (n : ℕ) where
+  pub only_double : ((pairs : List (List ℕ × ℕ)) → IsTable m pairs → is_double n pairs (name ∷ []) ≡ true)
+      → (pairs : List (List ℕ × ℕ)) → IsTable m pairs → is_double n pairs (labels_of text) ≡ true
+  only_double double pairs table = rw is (double pairs table)
+
+  pub only_single : ((pairs : List (List ℕ × ℕ)) → IsTable m pairs → (is_double n pairs (name ∷ []) ≡ false) × IsTable m' (pairs ++ (name, n) ∷ []))
+      → (pairs : List (List ℕ × ℕ)) → IsTable m pairs → (is_double n pairs (labels_of text) ≡ false) × IsTable m' (pairs ++ at n (labels_of text))
+  only_single single pairs table = rw is (single pairs table)

@@ -2,7 +2,10 @@ pub mod HexDigits
 pub mod WordLines
 pub mod LabelTable
 pub mod Bytes
+pub mod WideProducts
+pub mod Quotients
 pub mod Slots
+pub mod FormSearch
 pub mod Statements
 pub mod Rows
 pub mod Behind

@@ -1,15 +1,15 @@
 -- All lines of a listing.
-use Rattle.std.proofs.Common.{◌≡◌, ℕ, ◌+◌, ◌≤◌, ◌<◌, List, [], ◌∷◌, ◌++◌, length, Some, None, Result, Err, refl, sym, ap, ◌∙◌, subst, append_assoc, arith}
+use Rattle.std.proofs.Common.{◌≡◌, ℕ, ◌+◌, ◌≤◌, ◌<◌, List, [], ◌∷◌, ◌++◌, length, Option, Some, None, Result, Err, refl, sym, ap, ◌∙◌, subst, append_assoc, arith}
 use Rattle.std.specs.Map.{lookup}
 use Rattle.std.proofs.lemmas.Bool.{lt-ltb, le-ltb}
 use Rattle.std.proofs.lemmas.List.{append-nil, length-append}
-use Rattle.text.specs.Line.{lines_of}
+use Rattle.text.specs.Line.{lines_of, lines_left}
 use Rattle.isa.specs.declared.instr.Instr.{Instr}
 use Rattle.isa.specs.declared.listing.fault.FaultKind.{FaultKind}
 use Rattle.isa.specs.declared.listing.fault.FaultKind.TheVariants.{TooLong}
 use Rattle.isa.specs.declared.listing.line.Target.{Target}
-use Rattle.isa.specs.Listing.{Lines, table, numbered, memory, fault_in, first_fault, resolved, with_bytes, listing}
-use Rattle.isa.specs.Held.{Labels, IsTable, IsRead, rows}
+use Rattle.isa.specs.Listing.{Lines, table, numbered, memory, first_fault, resolved, with_bytes, listing}
+use Rattle.isa.specs.Held.{Labels, IsTable, IsRead, IsReadLine, IsFaultLine, rows}
 
 -- the lines before, which have no fault, and those that are left
 pub record LinesSoFar (m : Labels) (code : List Instr) (ts : List Target) (bytes : List ℕ) (number : ℕ) (left all : Lines) : Type 0 where
@@ -21,29 +21,30 @@ pub record LinesSoFar (m : Labels) (code : List Instr) (ts : List Target) (bytes
 
 module _ (m : Labels) (code : List Instr) (ts : List Target) (bytes : List ℕ) (number : ℕ) (left all : Lines)
     (so_far : LinesSoFar m code ts bytes number left all) where
-  pub so_far_more : (m' : Labels) (code' : List Instr) (ts' : List Target) (bytes' : List ℕ) (l : List ℕ) (ls : Lines) → left ≡ l ∷ ls
-      → ((before : Lines) → length before + 1 ≡ number + 1 → IsRead before m code ts bytes
-      → (fault_in before l ≡ None) × IsRead (before ++ l ∷ []) m' code' ts' bytes')
-      → LinesSoFar m' code' ts' bytes' (number + 1) ls all
+  pub so_far_more : (m' : Labels) (code' : List Instr) (ts' : List Target) (bytes' text : List ℕ) (rest : Option (List ℕ)) → left ≡ lines_of text
+      → ((before : Lines) → length before + 1 ≡ number + 1 → IsRead before m code ts bytes → IsReadLine before text rest m' code' ts' bytes')
+      → LinesSoFar m' code' ts' bytes' (number + 1) (lines_left rest) all
   unfolding first_fault
-  so_far_more m' code' ts' bytes' l ls is step =
+  so_far_more m' code' ts' bytes' text rest is step =
       let one = step so_far.before (omega (arith, so_far.count)) so_far.read in
-      let fault : first_fault so_far.before (l ∷ ls) ≡ first_fault [] all = rw is at so_far.fault in
-      let whole : so_far.before ++ l ∷ ls ≡ all = rw is at so_far.whole in
+      let ls : Lines = lines_left rest in
+      let fault : first_fault so_far.before (one.line ∷ ls) ≡ first_fault [] all = rw (is ∙ one.lines) at so_far.fault in
+      let whole : so_far.before ++ one.line ∷ ls ≡ all = rw (is ∙ one.lines) at so_far.whole in
       record {
-        before = so_far.before ++ l ∷ [];
-        count = omega (arith, so_far.count, length-append so_far.before (l ∷ []));
-        read = one.1;
-        fault = rw one.0 at fault;
-        whole = append_assoc so_far.before (l ∷ []) ls ∙ whole;
+        before = so_far.before ++ one.line ∷ [];
+        count = omega (arith, so_far.count, length-append so_far.before (one.line ∷ []));
+        read = one.read;
+        fault = rw one.fault at fault;
+        whole = append_assoc so_far.before (one.line ∷ []) ls ∙ whole;
       }
 
-  pub so_far_fault : (l : List ℕ) (ls : Lines) (k : FaultKind) → left ≡ l ∷ ls
-      → ((before : Lines) → IsRead before m code ts bytes → fault_in before l ≡ Some k) → first_fault [] all ≡ Some (number + 1, k)
+  pub so_far_fault : (text : List ℕ) (k : FaultKind) → left ≡ lines_of text
+      → ((before : Lines) → IsRead before m code ts bytes → IsFaultLine before text k) → first_fault [] all ≡ Some (number + 1, k)
   unfolding first_fault
-  so_far_fault l ls k is step =
-      let fault : first_fault so_far.before (l ∷ ls) ≡ first_fault [] all = rw is at so_far.fault in
-      sym fault ∙ rw (step so_far.before so_far.read, so_far.count) refl
+  so_far_fault text k is step =
+      let one = step so_far.before so_far.read in
+      let fault : first_fault so_far.before (one.line ∷ one.others) ≡ first_fault [] all = rw (is ∙ one.lines) at so_far.fault in
+      sym fault ∙ rw (one.fault, so_far.count) refl
 
   pub so_far_done : left ≡ [] → (first_fault [] all ≡ None) × IsRead all m code ts bytes
   unfolding first_fault

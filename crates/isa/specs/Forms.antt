@@ -5,6 +5,7 @@ use Rattle.std.specs.Borrow.{Bor}
 use Rattle.std.specs.Str.{str_eq_ignore_ascii_case}
 use Rattle.isa.specs.declared.op.Op.{Op}
 use Rattle.isa.specs.declared.op.Op.TheVariants.{Addu, Subu, Add, Sub, And, Or, Xor, Nor, Slt, Sltu, Sll, Srl, Sra, Sllv, Srlv, Srav}
+use Rattle.isa.specs.declared.op.Op.TheVariants.{Mult, Multu, Div, Divu, Mflo, Mfhi, Mtlo, Mthi}
 use Rattle.isa.specs.declared.op.Op.TheVariants.{Addiu, Addi, Slti, Sltiu, Andi, Ori, Xori, Lui, Lb, Lbu, Lh, Lhu, Lw, Sb, Sh, Sw}
 use Rattle.isa.specs.declared.op.Op.TheVariants.{Beq, Bne, Blez, Bgtz, Bltz, Bgez, J, Jal, Jr, Jalr, Break}
 use Rattle.isa.specs.declared.listing.fault.FaultKind.{FaultKind}
@@ -34,6 +35,14 @@ forms =
     ∷ (codes "sllv", (Sllv, Into ∷ First ∷ Second ∷ []))
     ∷ (codes "srlv", (Srlv, Into ∷ First ∷ Second ∷ []))
     ∷ (codes "srav", (Srav, Into ∷ First ∷ Second ∷ []))
+    ∷ (codes "mult", (Mult, First ∷ Second ∷ []))
+    ∷ (codes "multu", (Multu, First ∷ Second ∷ []))
+    ∷ (codes "div", (Div, First ∷ Second ∷ []))
+    ∷ (codes "divu", (Divu, First ∷ Second ∷ []))
+    ∷ (codes "mflo", (Mflo, Into ∷ []))
+    ∷ (codes "mfhi", (Mfhi, Into ∷ []))
+    ∷ (codes "mtlo", (Mtlo, First ∷ []))
+    ∷ (codes "mthi", (Mthi, First ∷ []))
     ∷ (codes "addiu", (Addiu, Into ∷ First ∷ S16 ∷ []))
     ∷ (codes "addi", (Addi, Into ∷ First ∷ S16 ∷ []))
     ∷ (codes "slti", (Slti, Into ∷ First ∷ S16 ∷ []))

@@ -1,5 +1,5 @@
 -- What the reader of a listing holds behind the lines that it has read.
-use Rattle.std.specs.Prelude.{◌≡◌, ℕ, ◌++◌, List, [], ◌∷◌, length, Option, Result, Ok}
+use Rattle.std.specs.Prelude.{◌≡◌, ℕ, ◌++◌, List, [], ◌∷◌, length, Option, Some, None, Result, Ok}
 use Rattle.std.specs.HashMap.{HashMap, get_by}
 use Rattle.std.specs.declared.hash.FoldHasher.{FoldHasher}
 use Rattle.std.specs.declared.hash.BuildHasherDefault.{BuildHasherDefault}
@@ -11,7 +11,8 @@ use Rattle.isa.specs.declared.listing.labels.Name.{Name}
 use Rattle.isa.specs.declared.listing.line.Target.{Target}
 use Rattle.std.specs.Option.{option_map}
 use Rattle.isa.specs.Statement.{Parsed, Line}
-use Rattle.isa.specs.Listing.{Lines, table, numbered, memory}
+use Rattle.text.specs.Line.{lines_of, lines_left}
+use Rattle.isa.specs.Listing.{Lines, table, numbered, memory, fault_in}
 
 -- names with their addresses, as the code holds them
 abbrev pub Labels : Type 0
@@ -52,3 +53,18 @@ pub record IsRead (before : Lines) (m : Labels) (code : List Instr) (ts : List T
   pub length_is : length code ≡ length ts
   pub code_is : rows code ts ≡ numbered 1 before
   pub bytes_are : bytes ≡ memory before
+
+-- the first line of a text was read: it has no fault, and this is held behind it
+pub record IsReadLine (before : Lines) (text : List ℕ) (rest : Option (List ℕ)) (m : Labels)
+    (code : List Instr) (ts : List Target) (bytes : List ℕ) : Type 0 where
+  pub line : List ℕ
+  pub lines : lines_of text ≡ line ∷ lines_left rest
+  pub fault : fault_in before line ≡ None
+  pub read : IsRead (before ++ line ∷ []) m code ts bytes
+
+-- the first line of a text has this fault
+pub record IsFaultLine (before : Lines) (text : List ℕ) (kind : FaultKind) : Type 0 where
+  pub line : List ℕ
+  pub others : Lines
+  pub lines : lines_of text ≡ line ∷ others
+  pub fault : fault_in before line ≡ Some kind

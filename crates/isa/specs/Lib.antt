@@ -1,5 +1,6 @@
 pub mod Registers
 pub mod Instruction
+pub mod Products
 pub mod Operations
 pub mod Programs
 pub mod Settings

@@ -2,15 +2,18 @@
 use Rattle.std.specs.Prelude.{ℕ, ℤ, pos, negsuc, ◌+◌, ◌-◌, ◌*◌, ◌/◌, ◌%◌, ◌^◌, ◌≤◌, ◌+ℤ◌, ◌-ℤ◌, Bool, true, false, not, ◌&&◌, ⊤, ◌==◌, nat_lt, nat_le, int_lt, int_le, if◌then◌else◌, bit_and, bit_or, bit_xor, Result, Ok, Err}
 use Rattle.std.specs.Int.{Width, w8, w16, w32, cast_signed, cast_unsigned, int_div_euclid}
 use Rattle.isa.specs.declared.op.Op.{Op}
-use Rattle.isa.specs.declared.op.Op.TheVariants.{Addu, Subu, Add, Sub, And, Or, Xor, Nor, Slt, Sltu, Sll, Srl, Sra, Sllv, Srlv, Srav, Addiu, Addi, Slti, Sltiu, Andi, Ori, Xori, Lui, Lb, Lh, Beq, Bne, Blez, Bgtz, Bltz, Bgez, Jr, Jalr}
+use Rattle.isa.specs.declared.op.Op.TheVariants.{Addu, Subu, Add, Sub, And, Or, Xor, Nor, Slt, Sltu, Sll, Srl, Sra, Sllv, Srlv, Srav, Mult, Multu, Div, Divu, Mflo, Mfhi, Mtlo, Mthi, Addiu, Addi, Slti, Sltiu, Andi, Ori, Xori, Lui, Lb, Lh, Beq, Bne, Blez, Bgtz, Bltz, Bgez, Jr, Jalr}
+use Rattle.isa.specs.declared.op.Half.{Half}
+use Rattle.isa.specs.declared.op.Half.TheVariants.{Low, High}
 use Rattle.isa.specs.declared.op.Kind.{Kind}
 use Rattle.isa.specs.declared.op.Kind.TheVariants.{Computes, Jumps, Links, Loads, Stores}
 use Rattle.isa.specs.declared.instr.Instr.{Instr}
 use Rattle.isa.specs.declared.stop.Stop.{Stop}
 use Rattle.isa.specs.declared.stop.Stop.TheVariants.{Break as BreakStop, Overflow, Unaligned, OutOfRange, BadPc}
 use Rattle.isa.specs.declared.stop.Outcome.{Outcome}
-use Rattle.isa.specs.declared.stop.Outcome.TheVariants.{Value, Next, Address, Stop as Stops}
-use Rattle.isa.specs.Instruction.{kind, width, pc_plus_4}
+use Rattle.isa.specs.declared.stop.Outcome.TheVariants.{Value, Next, Address, Stop as Stops, Pair}
+use Rattle.isa.specs.Instruction.{kind, width, pc_plus_4, is_pair}
+use Rattle.isa.specs.Products.{half_of, product, signed_product, divided, signed_divided}
 
 -- the number of a stop
 abbrev pub code_of : Stop → ℕ
@@ -55,33 +58,42 @@ shifted_left a n = (a * 2 ^ n) % 2 ^ 32
 abbrev pub shifted_signed : ℕ → ℕ → ℕ
 shifted_signed a n = cast_unsigned w32 (int_div_euclid (signed a) (pos (2 ^ n)))
 
--- what a computing operation comes to: its value, or a stop. Others have no row of their own
-unfoldable pub computed_by : Op → ℕ → ℕ → ℕ → Result ℕ Stop
-computed_by Addu a b i = Ok (sum a b)
-computed_by Subu a b i = Ok (difference a b)
-computed_by Add a b i = checked_sum a b
-computed_by Sub a b i = checked_difference a b
-computed_by And a b i = Ok (bit_and a b)
-computed_by Or a b i = Ok (bit_or a b)
-computed_by Xor a b i = Ok (bit_xor a b)
-computed_by Nor a b i = Ok (2 ^ 32 - 1 - bit_or a b)
-computed_by Slt a b i = flag (int_lt (signed a) (signed b))
-computed_by Sltu a b i = flag (nat_lt a b)
-computed_by Sll a b i = Ok (shifted_left a (i % 32))
-computed_by Srl a b i = Ok (a / 2 ^ (i % 32))
-computed_by Sra a b i = Ok (shifted_signed a (i % 32))
-computed_by Sllv a b i = Ok (shifted_left a (b % 32))
-computed_by Srlv a b i = Ok (a / 2 ^ (b % 32))
-computed_by Srav a b i = Ok (shifted_signed a (b % 32))
-computed_by Addiu a b i = Ok (sum a i)
-computed_by Addi a b i = checked_sum a i
-computed_by Slti a b i = flag (int_lt (signed a) (signed i))
-computed_by Sltiu a b i = flag (nat_lt a i)
-computed_by Andi a b i = Ok (bit_and a i)
-computed_by Ori a b i = Ok (bit_or a i)
-computed_by Xori a b i = Ok (bit_xor a i)
-computed_by Lui a b i = Ok (shifted_left i 16)
-computed_by _ a b i = Err BreakStop
+-- what a half of a computing operation comes to: its value, or a stop. Others have no row of their
+-- own
+unfoldable pub computed_by : Op → Half → ℕ → ℕ → ℕ → Result ℕ Stop
+computed_by Addu half a b i = Ok (sum a b)
+computed_by Subu half a b i = Ok (difference a b)
+computed_by Add half a b i = checked_sum a b
+computed_by Sub half a b i = checked_difference a b
+computed_by And half a b i = Ok (bit_and a b)
+computed_by Or half a b i = Ok (bit_or a b)
+computed_by Xor half a b i = Ok (bit_xor a b)
+computed_by Nor half a b i = Ok (2 ^ 32 - 1 - bit_or a b)
+computed_by Slt half a b i = flag (int_lt (signed a) (signed b))
+computed_by Sltu half a b i = flag (nat_lt a b)
+computed_by Sll half a b i = Ok (shifted_left a (i % 32))
+computed_by Srl half a b i = Ok (a / 2 ^ (i % 32))
+computed_by Sra half a b i = Ok (shifted_signed a (i % 32))
+computed_by Sllv half a b i = Ok (shifted_left a (b % 32))
+computed_by Srlv half a b i = Ok (a / 2 ^ (b % 32))
+computed_by Srav half a b i = Ok (shifted_signed a (b % 32))
+computed_by Mult half a b i = Ok (half_of half (signed_product (signed a) (signed b)))
+computed_by Multu half a b i = Ok (half_of half (product a b))
+computed_by Div half a b i = Ok (signed_divided half (signed a) (signed b))
+computed_by Divu half a b i = Ok (divided half a b)
+computed_by Mflo half a b i = Ok a
+computed_by Mfhi half a b i = Ok a
+computed_by Mtlo half a b i = Ok a
+computed_by Mthi half a b i = Ok a
+computed_by Addiu half a b i = Ok (sum a i)
+computed_by Addi half a b i = checked_sum a i
+computed_by Slti half a b i = flag (int_lt (signed a) (signed i))
+computed_by Sltiu half a b i = flag (nat_lt a i)
+computed_by Andi half a b i = Ok (bit_and a i)
+computed_by Ori half a b i = Ok (bit_or a i)
+computed_by Xori half a b i = Ok (bit_xor a i)
+computed_by Lui half a b i = Ok (shifted_left i 16)
+computed_by _ half a b i = Err BreakStop
 
 -- where a branch at pc goes on
 abbrev pub taken_if : Bool → ℕ → ℕ → ℕ
@@ -112,17 +124,32 @@ abbrev pub as_address : Result ℕ Stop → Outcome
 as_address (Ok at) = Address at
 as_address (Err c) = Stops c
 
--- the outcome of an operation of each kind
-abbrev pub outcome_by : Kind → Instr → ℕ → ℕ → ℕ → ℕ → Outcome
-outcome_by Computes i pc a b size = as_value (computed_by i.op a b i.number)
-outcome_by Jumps i pc a b size = Next (jump_target i.op pc a b i.number)
-outcome_by Links i pc a b size = Next (jump_target i.op pc a b i.number)
-outcome_by Loads i pc a b size = as_address (checked_address (width i.op) (sum a i.number) size)
-outcome_by Stores i pc a b size = as_address (checked_address (width i.op) (sum a i.number) size)
+-- the outcome of a half, by the kind of its operation
+abbrev pub outcome_by : Kind → Instr → Half → ℕ → ℕ → ℕ → ℕ → Outcome
+outcome_by Computes i half pc a b size = as_value (computed_by i.op half a b i.number)
+outcome_by Jumps i half pc a b size = Next (jump_target i.op pc a b i.number)
+outcome_by Links i half pc a b size = Next (jump_target i.op pc a b i.number)
+outcome_by Loads i half pc a b size = as_address (checked_address (width i.op) (sum a i.number) size)
+outcome_by Stores i half pc a b size = as_address (checked_address (width i.op) (sum a i.number) size)
+
+-- what a half of an instruction at pc comes to, where its sources are a and b and data memory has
+-- this size
+abbrev pub outcome_of : Instr → Half → ℕ → ℕ → ℕ → ℕ → Outcome
+outcome_of i half pc a b size = outcome_by (kind i.op) i half pc a b size
+
+-- the outcomes of two halves, as one
+abbrev pub paired : Outcome → Outcome → Outcome
+paired (Value l) (Value h) = Pair l h
+paired o p = o
+
+-- the outcome of an instruction that has two halves, or one
+abbrev pub outcome_if : Bool → Instr → ℕ → ℕ → ℕ → ℕ → Outcome
+outcome_if true i pc a b size = paired (outcome_of i Low pc a b size) (outcome_of i High pc a b size)
+outcome_if false i pc a b size = outcome_of i Low pc a b size
 
 -- what an instruction at pc comes to, where its sources are a and b and data memory has this size
 abbrev pub outcome : Instr → ℕ → ℕ → ℕ → ℕ → Outcome
-outcome i pc a b size = outcome_by (kind i.op) i pc a b size
+outcome i pc a b size = outcome_if (is_pair i.op) i pc a b size
 
 -- n, whose width is given, read as two's complement, as a word
 abbrev pub extended : Width → ℕ → ℕ

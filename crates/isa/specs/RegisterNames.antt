@@ -5,7 +5,7 @@ use Rattle.std.specs.Str.{bytes_eq}
 use Rattle.text.specs.Number.{first_is, decimal_in}
 use Rattle.isa.specs.declared.listing.fault.FaultKind.{FaultKind}
 use Rattle.isa.specs.declared.listing.fault.FaultKind.TheVariants.{BadOperands, BadRegister}
-use Rattle.isa.specs.Registers.{register_count}
+use Rattle.isa.specs.Registers.{general_count}
 
 -- the names, by the conventions of MIPS
 abbrev pub register_names : List (List ℕ × ℕ)
@@ -32,7 +32,7 @@ register_number text =
 -- the register of a number, if it has one
 abbrev pub existing : Option ℕ → Option ℕ
 existing None = None
-existing (Some n) = if nat_lt n register_count then Some n else None
+existing (Some n) = if nat_lt n general_count then Some n else None
 
 -- `$`, and a number or a name
 unfoldable pub register : List ℕ → Result ℕ FaultKind

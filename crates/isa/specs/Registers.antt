@@ -1,6 +1,17 @@
 -- The registers.
 use Rattle.std.specs.Prelude.{ℕ}
 
+-- the general ones, which a listing can name
+abbrev pub general_count : ℕ
+general_count = 32
+
+-- LO and HI, which multiplications and divisions write
+abbrev pub lo : ℕ
+lo = 32
+
+abbrev pub hi : ℕ
+hi = 33
+
 -- how many there are
 abbrev pub register_count : ℕ
-register_count = 32
+register_count = 34

@@ -8,6 +8,7 @@ use Rattle.isa.specs.Reading.{fault_name}
 use Rattle.isa.specs.declared.end.Ending.{Ending}
 use Rattle.isa.specs.declared.end.Ending.TheVariants.{Stop as ByStop, Limit}
 use Rattle.isa.specs.declared.end.End.{End}
+use Rattle.isa.specs.Registers.{lo, hi}
 
 -- a digit below 16: 0 to 9, then a to f
 abbrev pub hex_digit : ℕ → ℕ
@@ -41,10 +42,15 @@ ending_words Limit = codes "limit"
 abbrev pub newline : List ℕ
 newline = 10 ∷ []
 
-abbrev pub register_line : ℕ → ℕ → List ℕ
-register_line r value = codes "r" ++ (decimal r ++ (codes " " ++ (hexadecimal value ++ newline)))
+-- what a report calls register r
+abbrev pub register_name : ℕ → List ℕ
+register_name r =
+    if r == lo then codes "lo" else if r == hi then codes "hi" else codes "r" ++ decimal r
 
--- a line for each register, from number r on, that is not 0
+abbrev pub register_line : ℕ → ℕ → List ℕ
+register_line r value = register_name r ++ (codes " " ++ (hexadecimal value ++ newline))
+
+-- a line for each register, from number r on, that is not 0: the general ones, LO, and HI
 abbrev pub register_lines : ℕ → List ℕ → List ℕ
 register_lines r [] = []
 register_lines r (v ∷ vs) = (if v == 0 then [] else register_line r v) ++ register_lines (r + 1) vs

@@ -7,8 +7,9 @@ use Rattle.std.specs.Str.{str_eq_ignore_ascii_case}
 use Rattle.text.specs.Blank.{is_blank}
 use Rattle.text.specs.Operand.{operands, only}
 use Rattle.isa.specs.declared.op.Op.{Op}
-use Rattle.isa.specs.declared.op.Op.TheVariants.{Jal, Jalr}
+use Rattle.isa.specs.declared.op.Op.TheVariants.{Mflo, Mfhi, Mtlo, Mthi, Jal, Jalr}
 use Rattle.isa.specs.declared.instr.Instr.{Instr}
+use Rattle.isa.specs.Registers.{lo, hi}
 use Rattle.isa.specs.declared.listing.fault.FaultKind.{FaultKind}
 use Rattle.isa.specs.declared.listing.fault.FaultKind.TheVariants.{BadOperands, BadNumber}
 use Rattle.isa.specs.declared.listing.form.Slot.{Slot}
@@ -26,15 +27,30 @@ pub record Parsed : Type 0 where
   pub instr : Instr
   pub label : Option (List ℕ)
 
--- the register that `jal` writes, and `jalr` where it names none
-abbrev pub linked : Op → ℕ
-linked Jal = 31
-linked Jalr = 31
-linked _ = 0
+-- the register that `jal` writes, and `jalr` where it names none, and that of a move to LO or HI
+abbrev pub implied_target : Op → ℕ
+implied_target Jal = 31
+implied_target Jalr = 31
+implied_target Mtlo = lo
+implied_target Mthi = hi
+implied_target _ = 0
+
+-- the register that a move from LO or HI reads
+abbrev pub implied_source : Op → ℕ
+implied_source Mflo = lo
+implied_source Mfhi = hi
+implied_source _ = 0
 
 -- an operation before its operands
 abbrev pub bare : Op → Instr
-bare op = record { op = op; target = linked op; first = 0; second = 0; number = 0 }
+bare op =
+    record {
+      op = op;
+      target = implied_target op;
+      first = implied_source op;
+      second = 0;
+      number = 0;
+    }
 
 abbrev pub with_target : ℕ → Parsed → Parsed
 with_target r p = record { instr = record p.instr { target = r }; label = p.label }

@@ -16,7 +16,7 @@ pub struct End {
     /// The address at which the next instruction would run, or of the one that stops.
     pub pc: u32,
     pub outcome: Ending,
-    pub registers: [u32; 32],
+    pub registers: [u32; 34],
     /// The bytes of data memory.
     pub memory: Vec<u8>,
 }

@@ -9,6 +9,7 @@ mod listing;
 mod memory;
 mod op;
 mod predictor;
+mod products;
 mod program;
 mod reg;
 mod report;
@@ -20,12 +21,12 @@ pub use end::{End, Ending};
 pub use instr::Instr;
 pub use listing::{FaultKind, TextFault, parse};
 pub use memory::Memory;
-pub use op::{Kind, Op};
+pub use op::{Half, Kind, Op};
 pub use predictor::{Bimod, NotTaken, Predictor, Taken};
 pub use program::Program;
 pub use reg::Reg;
 pub use report::{fault_text, report_text};
-pub use semantics::{loaded, outcome, pc_plus_4};
+pub use semantics::{loaded, outcome, outcome_of, pc_plus_4};
 pub use stop::{Outcome, Stop};
 
 #[cfg(test)]

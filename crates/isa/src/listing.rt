@@ -16,10 +16,9 @@ mod statement;
 use crate::{Instr, Program};
 pub use fault::{FaultKind, TextFault};
 use labels::{Labels, Name};
-use line::{Target, read_line};
+use line::{Target, read_first_line};
 use std::alloc::Global;
 use std::collections::HashMap;
-use text::next_line;
 
 /// How many bytes a listing has at most.
 const MOST_TEXT: usize = 4_194_304;
@@ -80,7 +79,10 @@ fn fault_at(line: u64, kind: FaultKind) -> TextFault
 fn most_labels(bytes: &[u8]) -> usize
     ensures { result ≤ length bytes.now / 4 }
 {
-    let colons = bytes.iter().filter(|b| **b == b':').count();
+    let mut colons = 0;
+    for b in bytes {
+        colons += usize::from(*b == b':');
+    }
     colons.min(bytes.len() / 4)
 }
 
@@ -102,20 +104,19 @@ pub fn parse(alloc: Global, bytes: &[u8]) -> Result<Program, TextFault>
     let mut number = 0;
     let mut rest = Some(bytes);
     while let Some(text) = rest {
-        let (line, after) = next_line(text);
         number += 1;
-        let went = read_line(
+        let went = read_first_line(
             &mut labels,
             &mut code,
             &mut targets,
             &mut memory,
-            line,
+            text,
             number,
         );
-        if let Err(kind) = went {
-            return Err(fault_at(number, kind));
+        match went {
+            Ok(after) => rest = after,
+            Err(kind) => return Err(fault_at(number, kind)),
         }
-        rest = after;
     }
     resolve_all(&labels, code.as_mut_slice(), targets.as_slice())?;
     Ok(Program::new(code, memory))

@@ -1,6 +1,6 @@
 //! Operations.
 ghost use Rattle.std.specs.Prelude.{◌≡◌, ◌<◌, ◌≤◌};
-ghost use Rattle.isa.specs.Instruction.{kind as kind_of, width as width_of, is_branch as is_branch_of, reads_first as reads_first_of, reads_second as reads_second_of, writes as writes_of};
+ghost use Rattle.isa.specs.Instruction.{kind as kind_of, width as width_of, is_branch as is_branch_of, is_pair as is_pair_of, reads_first as reads_first_of, reads_second as reads_second_of, writes as writes_of};
 
 /// An operation, one for each row of the table of MIPS I integer operations. `nop` is `Sll` of
 /// zeros.
@@ -22,6 +22,14 @@ pub enum Op {
     Sllv,
     Srlv,
     Srav,
+    Mult,
+    Multu,
+    Div,
+    Divu,
+    Mflo,
+    Mfhi,
+    Mtlo,
+    Mthi,
     Addiu,
     Addi,
     Slti,
@@ -49,6 +57,14 @@ pub enum Op {
     Jr,
     Jalr,
     Break,
+}
+
+/// A half of a multiplication or division: the first writes LO, the second HI. Any other
+/// instruction has the low half alone.
+#[derive(Clone, Copy, Debug, PartialEq, Eq)]
+pub enum Half {
+    Low,
+    High,
 }
 
 /// What an operation does.
@@ -104,6 +120,13 @@ impl Op {
         )
     }
 
+    /// It makes two values, one for LO and one for HI.
+    pub fn is_pair(self) -> bool
+        ensures { result ≡ is_pair_of self }
+    {
+        matches!(self, Op::Mult | Op::Multu | Op::Div | Op::Divu)
+    }
+
     pub(crate) fn reads_first(self) -> bool
         ensures { result ≡ reads_first_of self }
     {
@@ -116,6 +139,7 @@ impl Op {
         match self {
             Op::Addu | Op::Subu | Op::Add | Op::Sub | Op::And | Op::Or | Op::Xor | Op::Nor => true,
             Op::Slt | Op::Sltu | Op::Sllv | Op::Srlv | Op::Srav => true,
+            Op::Mult | Op::Multu | Op::Div | Op::Divu => true,
             Op::Sb | Op::Sh | Op::Sw | Op::Beq | Op::Bne => true,
             _ => false,
         }

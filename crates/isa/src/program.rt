@@ -44,7 +44,8 @@ impl Program {
 
     /// The same program once more, in memory of its own.
     pub fn copied(&self, alloc: Global) -> Result<Program, Memory>
-        ensures { IfOk result (λ p. p ≡ self.now) }
+        ensures same { IfOk result (λ p. p ≡ self.now) }
+        ensures small { IfOk result (λ p. length p.code ≤ 16384) }
     {
         let code = self.code.as_slice().to_vec(alloc)?;
         let bytes = self.bytes.as_slice().to_vec(alloc)?;
@@ -79,9 +80,9 @@ impl Program {
     pub fn fetch(&self, pc: u32) -> Option<Instr>
         ensures { result ≡ instr_at self.now pc }
     {
-        let index = pc.saturating_sub(Program::START) / 4;
-        if u64::from(index) * 4 + u64::from(Program::START) == u64::from(pc) {
-            self.code.get(index as usize).copied()
+        let offset = pc.wrapping_sub(Program::START);
+        if offset % 4 == 0 {
+            self.code.get((offset / 4) as usize).copied()
         } else {
             None
         }

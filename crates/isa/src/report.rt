@@ -1,6 +1,6 @@
 //! The report of a run as text.
 ghost use Rattle.std.specs.Prelude.{◌≡◌, ◌++◌, Some, OnOk, IfOk, length, string_bytes};
-ghost use Rattle.isa.specs.Report.{report_of, fault_line, hexadecimal, register_lines, memory_lines, word_line, stop_word, ending_words};
+ghost use Rattle.isa.specs.Report.{report_of, fault_line, hexadecimal, register_name, register_lines, memory_lines, word_line, stop_word, ending_words};
 
 use crate::{End, Ending, Stop, TextFault};
 use std::alloc::{AllocError, Global};
@@ -44,15 +44,32 @@ impl fmt::Display for Hexadecimal {
     }
 }
 
+// what a report calls a register
+#[derive(Clone, Copy)]
+struct Name(usize);
+
+impl fmt::Display for Name {
+    ghost output = { λ name. Some (register_name name.0) };
+
+    fn fmt<W: fmt::Write>(&self, f: &mut fmt::Formatter<W>) -> fmt::Result {
+        match self.0 {
+            32 => f.write_str("lo"),
+            33 => f.write_str("hi"),
+            number => write!(f, "r{number}"),
+        }
+    }
+}
+
 // the lines of the registers that are not 0
-fn push_registers(out: &mut String, registers: &[u32; 32]) -> Result<(), AllocError>
+fn push_registers(out: &mut String, registers: &[u32; 34]) -> Result<(), AllocError>
     ensures { OnOk result (string_bytes out.new
         ≡ string_bytes out.old ++ register_lines 0 registers.now) }
 {
     for (r, value) in registers.iter().enumerate() {
         if *value != 0 {
+            let name = Name(r);
             let value = Hexadecimal(*value);
-            write!(out, "r{r} {value}\n")?;
+            write!(out, "{name} {value}\n")?;
         }
     }
     Ok(())

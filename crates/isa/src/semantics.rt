@@ -1,10 +1,13 @@
 //! What each operation comes to.
-ghost use Rattle.std.specs.Prelude.{◌≡◌, ◌<◌, ◌≤◌, ◌+◌, IfOk};
+ghost use Rattle.std.specs.Prelude.{◌≡◌, ℕ, ◌<◌, ◌≤◌, ◌+◌, true, Ok, IfOk};
+ghost use Rattle.isa.specs.declared.op.Half.TheVariants.{Low, High};
+ghost use Rattle.isa.specs.declared.op.Kind.TheVariants.{Computes};
 ghost use Rattle.std.specs.Int.{w32};
-ghost use Rattle.isa.specs.Instruction.{pc_plus_4 as pc_plus_4_of, width as width_of};
-ghost use Rattle.isa.specs.Operations.{signed, fitted, flag as flag_of, shifted_signed as shifted_signed_by, computed_by, jump_target as jump_target_of, checked_address as checked_address_of, outcome as outcome_of, loaded as loaded_of, IsInside};
+ghost use Rattle.isa.specs.Instruction.{is_pair as is_pair_of, kind as kind_of, pc_plus_4 as pc_plus_4_of, width as width_of};
+ghost use Rattle.isa.specs.Operations.{signed, fitted, flag as flag_of, shifted_signed as shifted_signed_by, computed_by, jump_target as jump_target_of, checked_address as checked_address_of, outcome as whole_outcome, outcome_of as half_outcome, loaded as loaded_of, IsInside};
 
-use crate::{Instr, Kind, Op, Outcome, Stop};
+use crate::products::{divided, product, signed_divided, signed_product};
+use crate::{Half, Instr, Kind, Op, Outcome, Stop};
 
 /// The address behind the instruction at `pc`.
 pub fn pc_plus_4(pc: u32) -> u32
@@ -44,10 +47,43 @@ fn flag(holds: bool) -> Result<u32, Stop>
     Ok(u32::from(holds))
 }
 
+// The values of a multiplication or division for LO and HI. It stands apart, so that the code of
+// the other operations needs no room for it.
+#[inline(never)]
 #[tactic(auto, unfolding(crate::specs::Operations::computed_by))]
-fn computed(op: Op, a: u32, b: u32, i: u32) -> Result<u32, Stop>
-    ensures { result ≡ computed_by op a b i }
+fn pair_values(op: Op, a: u32, b: u32) -> (u32, u32)
+    requires { is_pair_of op ≡ true }
+    ensures computes { kind_of op ≡ Computes }
+    ensures low { (i : ℕ) → computed_by op Low a b i ≡ Ok result.0 }
+    ensures high { (i : ℕ) → computed_by op High a b i ≡ Ok result.1 }
 {
+    let (x, y) = (a.cast_signed(), b.cast_signed());
+    match op {
+        Op::Mult => (
+            signed_product(Half::Low, x, y),
+            signed_product(Half::High, x, y),
+        ),
+        Op::Multu => (product(Half::Low, a, b), product(Half::High, a, b)),
+        Op::Div => (
+            signed_divided(Half::Low, x, y),
+            signed_divided(Half::High, x, y),
+        ),
+        _ => (divided(Half::Low, a, b), divided(Half::High, a, b)),
+    }
+}
+
+#[inline(always)]
+#[tactic(auto, unfolding(crate::specs::Operations::computed_by))]
+fn computed(op: Op, half: Half, a: u32, b: u32, i: u32) -> Result<u32, Stop>
+    ensures { result ≡ computed_by op half a b i }
+{
+    if op.is_pair() {
+        let (low, high) = pair_values(op, a, b);
+        return Ok(match half {
+            Half::Low => low,
+            Half::High => high,
+        });
+    }
     match op {
         Op::Addu => Ok(a.wrapping_add(b)),
         Op::Subu => Ok(a.wrapping_sub(b)),
@@ -65,6 +101,7 @@ fn computed(op: Op, a: u32, b: u32, i: u32) -> Result<u32, Stop>
         Op::Sllv => Ok(a.wrapping_shl(b)),
         Op::Srlv => Ok(a.wrapping_shr(b)),
         Op::Srav => Ok(shifted_signed(a, b % 32)),
+        Op::Mflo | Op::Mfhi | Op::Mtlo | Op::Mthi => Ok(a),
         Op::Addiu => Ok(a.wrapping_add(i)),
         Op::Addi => checked_sum(a, i),
         Op::Slti => flag(a.cast_signed() < i.cast_signed()),
@@ -83,6 +120,7 @@ fn taken_if(taken: bool, pc: u32, to: u32) -> u32
     if taken { to } else { pc_plus_4(pc) }
 }
 
+#[inline(always)]
 #[tactic(auto, unfolding(crate::specs::Operations::jump_target))]
 fn jump_target(op: Op, pc: u32, a: u32, b: u32, to: u32) -> u32
     ensures { result ≡ jump_target_of op pc a b to }
@@ -120,13 +158,29 @@ fn checked_address(width: u32, at: u32, size: u32) -> Result<u32, Stop>
 /// What an instruction at `pc` comes to, where `a` and `b` are its sources 1 and 2 (anything where
 /// it has none) and data memory has `size` bytes. The rules are those of the MIPS I manual; jumps
 /// have no delay slot.
+#[inline(always)]
 pub fn outcome(instr: &Instr, pc: u32, a: u32, b: u32, size: u32) -> Outcome
-    ensures value { result ≡ outcome_of instr.now pc a b size }
+    ensures value { result ≡ whole_outcome instr.now pc a b size }
+    ensures inside { IsInside result (width_of instr.now.op) size }
+{
+    if instr.op.is_pair() {
+        let (low, high) = pair_values(instr.op, a, b);
+        Outcome::Pair(low, high)
+    } else {
+        outcome_of(instr, Half::Low, pc, a, b, size)
+    }
+}
+
+/// What a half of an instruction at `pc` comes to, as `outcome` has it for the whole: of a
+/// multiplication or division its own value.
+#[inline(always)]
+pub fn outcome_of(instr: &Instr, half: Half, pc: u32, a: u32, b: u32, size: u32) -> Outcome
+    ensures value { result ≡ half_outcome instr.now half pc a b size }
     ensures inside { IsInside result (width_of instr.now.op) size }
 {
     let op = instr.op;
     match op.kind() {
-        Kind::Computes => match computed(op, a, b, instr.number) {
+        Kind::Computes => match computed(op, half, a, b, instr.number) {
             Ok(value) => Outcome::Value(value),
             Err(stop) => Outcome::Stop(stop),
         },

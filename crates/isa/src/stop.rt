@@ -43,4 +43,6 @@ pub enum Outcome {
     Address(u32),
     /// It stops.
     Stop(Stop),
+    /// It makes these values for LO and HI.
+    Pair(u32, u32),
 }

@@ -11,13 +11,7 @@ const MOST: u32 = 0x7fff_ffff;
 const PC: u32 = 0x0040_0010;
 
 fn instr(op: Op, number: u32) -> Instr {
-    Instr {
-        op,
-        target: Reg::LINK,
-        first: Reg::ZERO,
-        second: Reg::ZERO,
-        number,
-    }
+    Instr::new(op, Reg::LINK, Reg::ZERO, Reg::ZERO, number)
 }
 
 #[test]
@@ -157,7 +151,10 @@ fn names_registers_of_an_instruction(rt: HostRuntime) {
         assert_eq!(rt; i.source(1), if first { Some(Reg::ZERO) } else { None });
         assert_eq!(rt; i.source(2), if second { Some(Reg::ZERO) } else { None });
         assert_eq!(rt; i.source(3), None);
-        assert_eq!(rt; i.written(), if written { Some(Reg::LINK) } else { None });
+        assert_eq!(rt;
+            i.written(Half::Low),
+            if written { Some(Reg::LINK) } else { None }
+        );
     }
 }
 
@@ -217,9 +214,13 @@ fn bimodal_counters_learn(rt: HostRuntime) {
 }
 
 #[test]
-fn there_are_32_registers(rt: HostRuntime) {
+fn there_are_34_registers(rt: HostRuntime) {
     assert_eq!(rt; Reg::new(31), Some(Reg::LINK));
-    assert_eq!(rt; Reg::new(32), None);
+    assert_eq!(rt; Reg::new(32), Some(Reg::LO));
+    assert_eq!(rt; Reg::new(33), Some(Reg::HI));
+    assert_eq!(rt; Reg::new(34), None);
+    assert_eq!(rt; Reg::general(31), Some(Reg::LINK));
+    assert_eq!(rt; Reg::general(32), None);
     assert_eq!(rt; Stop::BadPc.code(), 4);
 }
 
@@ -281,14 +282,17 @@ fn an_instruction_has_its_registers(rt: HostRuntime) -> Result<(), Fail> {
     let sum = program.instr(0);
     assert_eq!(rt; sum.op(), Op::Addiu);
     assert_eq!(rt; sum.number(), MINUS_1);
-    assert_eq!(rt; sum.destination().number(), 4);
-    assert_eq!(rt; sum.fixed_next(PC), Some(PC + 4));
+    assert_eq!(rt; sum.destination(Half::Low).number(), 4);
+    assert_eq!(rt; sum.fixed_next(Half::Low, PC), Some(PC + 4));
     let store = program.instr(1);
     assert_eq!(rt; store.first().number(), 7);
     assert_eq!(rt; store.second().number(), 6);
-    assert_eq!(rt; store.destination(), Reg::ZERO);
-    assert_eq!(rt; program.instr(2).fixed_next(PC), None);
-    assert_eq!(rt; program.instr(3).fixed_next(PC), Some(0x0040_000c));
+    assert_eq!(rt; store.destination(Half::Low), Reg::ZERO);
+    assert_eq!(rt; program.instr(2).fixed_next(Half::Low, PC), None);
+    assert_eq!(rt;
+        program.instr(3).fixed_next(Half::Low, PC),
+        Some(0x0040_000c)
+    );
     assert_eq!(rt; pc_plus_4(0xffff_fffc), 0);
     Ok(())
 }
@@ -319,4 +323,20 @@ fn refusals_say_why(rt: HostRuntime) -> Result<(), Fail> {
     let text = format!(in rt.alloc(); "{memory}")?;
     assert_eq!(rt; text.as_str(), "out of memory");
     Ok(())
+}
+
+#[test]
+fn two_instructions_differ_in_one_part(rt: HostRuntime) {
+    let one = Instr::new(Op::Addu, Reg::LINK, Reg::LO, Reg::HI, 7);
+    assert!(rt; one.is_same(&one));
+    let others = [
+        Instr::new(Op::Subu, Reg::LINK, Reg::LO, Reg::HI, 7),
+        Instr::new(Op::Addu, Reg::LO, Reg::LO, Reg::HI, 7),
+        Instr::new(Op::Addu, Reg::LINK, Reg::HI, Reg::HI, 7),
+        Instr::new(Op::Addu, Reg::LINK, Reg::LO, Reg::LO, 7),
+        Instr::new(Op::Addu, Reg::LINK, Reg::LO, Reg::HI, 8),
+    ];
+    for other in others {
+        assert!(rt; !one.is_same(&other), "{other:?}");
+    }
 }

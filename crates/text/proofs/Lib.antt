@@ -1,5 +1,9 @@
 pub mod Splits
+pub mod Tables
+pub mod Runs
 pub mod Numbers
 pub mod Labels
+pub mod Lines
+pub mod LabelLines
 pub mod Operands
 pub mod Examples

@@ -1,7 +1,8 @@
 -- The lines of a listing.
-use Rattle.std.specs.Prelude.{ℕ, ◌==◌, List, [], map, Option, Some, None}
+use Rattle.std.specs.Prelude.{◌≡◌, ℕ, ◌==◌, List, [], ◌∷◌, map, Option, Some, None, if◌then◌else◌}
 use Rattle.std.specs.List.{slice_split, before_first}
 use Rattle.std.specs.Str.Lines.{strip_carriage_return}
+use Rattle.text.specs.Name.{is_plain_text}
 
 -- Lines end by a line feed, and the last one may lack it. A carriage return just before a line
 -- feed, or at the very end, is dropped.
@@ -16,3 +17,13 @@ lines_left (Some text) = lines_of text
 -- what stands before the first `#`
 abbrev pub before_comment : List ℕ → List ℕ
 before_comment line = before_first (λ b. b == 35) line
+
+-- the same, where each of its bytes may stand there
+abbrev pub code_of : List ℕ → Option (List ℕ)
+code_of line = if is_plain_text (before_comment line) then Some (before_comment line) else None
+
+-- the code of the first line of a text, and what is left behind that line
+pub record IsFirstCode (text : List ℕ) (code rest : Option (List ℕ)) : Type 0 where
+  pub line : List ℕ
+  pub lines : lines_of text ≡ line ∷ lines_left rest
+  pub code_is : code ≡ code_of line

@@ -18,3 +18,7 @@ is_plain b = (b == 9) || (nat_le 0x20 b && nat_le b 0x7e)
 
 abbrev pub is_plain_text : List ℕ → Bool
 is_plain_text text = list_all is_plain text
+
+-- a plain byte that begins no comment
+abbrev pub is_code_byte : ℕ → Bool
+is_code_byte b = (b == 9) || (nat_le 0x20 b && (nat_le b 0x7e && not (b == 35)))

@@ -2,15 +2,48 @@
 
 ghost use Rattle.std.specs.Prelude.{◌≡◌, ◌∷◌, ◌<◌, [], length, IfSome, IfNone};
 ghost use Rattle.text.specs.Blank.{trim};
-ghost use Rattle.text.specs.Label.{labels_of, statement_of};
+ghost use Rattle.text.specs.Label.{labels_of, statement_of, IsLabelLine};
 
 use crate::blank::trim;
 use crate::cuts::cut;
-use crate::name::is_name;
+use crate::name::{end_of_name, is_name};
 
-/// The label at the front of a line, and the text behind its colon. Where no label stands there,
-/// the whole text is the statement.
-pub fn next_label(code: &[u8]) -> Option<(&[u8], &[u8])>
+// A label at the very front, without a blank.
+fn label_without_blanks(code: &[u8]) -> Option<(&[u8], &[u8])>
+    ensures label { IfSome result (λ p. labels_of code.now ≡ p.0.now ∷ labels_of p.1.now) }
+    ensures statement { IfSome result (λ p. statement_of code.now ≡ statement_of p.1.now) }
+    ensures shorter { IfSome result (λ p. length p.1.now < length code.now) }
+{
+    let end = end_of_name(code)?;
+    if end == 0 || code[end] != b':' || code[0].is_ascii_digit() {
+        return None;
+    }
+    let (front, rest) = code.split_at(end);
+    let (_, behind) = rest.split_at(1);
+    Some((front, behind))
+}
+
+/// A first line that is a label and nothing else, and what stands behind its line feed.
+pub fn label_line(text: &[u8]) -> Option<(&[u8], &[u8])>
+    ensures line { IfSome result (λ p. IsLabelLine text.now p.0.now p.1.now) }
+    ensures shorter { IfSome result (λ p. length p.1.now < length text.now) }
+{
+    let end = end_of_name(text)?;
+    if end == 0 || text[end] != b':' || text[0].is_ascii_digit() {
+        return None;
+    }
+    let feed = end + 1;
+    if feed >= text.len() || text[feed] != b'\n' {
+        return None;
+    }
+    let (label, _) = text.split_at(end);
+    let (_, rest) = text.split_at(feed);
+    let (_, behind) = rest.split_at(1);
+    Some((label, behind))
+}
+
+// A label with blanks round it, or none.
+fn label_with_blanks(code: &[u8]) -> Option<(&[u8], &[u8])>
     ensures label { IfSome result (λ p. labels_of code.now ≡ p.0.now ∷ labels_of p.1.now) }
     ensures statement { IfSome result (λ p. statement_of code.now ≡ statement_of p.1.now) }
     ensures shorter { IfSome result (λ p. length p.1.now < length code.now) }
@@ -24,5 +57,20 @@ pub fn next_label(code: &[u8]) -> Option<(&[u8], &[u8])>
         Some((name, after))
     } else {
         None
+    }
+}
+
+/// The label at the front of a line, and the text behind its colon. Where no label stands there,
+/// the whole text is the statement.
+pub fn next_label(code: &[u8]) -> Option<(&[u8], &[u8])>
+    ensures label { IfSome result (λ p. labels_of code.now ≡ p.0.now ∷ labels_of p.1.now) }
+    ensures statement { IfSome result (λ p. statement_of code.now ≡ statement_of p.1.now) }
+    ensures shorter { IfSome result (λ p. length p.1.now < length code.now) }
+    ensures no_label { IfNone result (labels_of code.now ≡ []) }
+    ensures all_statement { IfNone result (statement_of code.now ≡ trim code.now) }
+{
+    match label_without_blanks(code) {
+        Some(found) => Some(found),
+        None => label_with_blanks(code),
     }
 }

@@ -11,8 +11,8 @@ mod operand;
 
 pub use blank::{cut_word, trim};
 pub use cuts::cut;
-pub use label::next_label;
-pub use line::{before_comment, next_line};
+pub use label::{label_line, next_label};
+pub use line::{before_comment, next_code, next_line};
 pub use name::{is_name, is_plain_text};
 pub use number::{begins_number, decimal_in, first_is, number_in};
 pub use operand::{count_operands, next_operand, only_operand, operand_part, parenthesized};

@@ -1,11 +1,12 @@
 //! The lines of a listing, and the part of a line before its comment.
 
-ghost use Rattle.std.specs.Prelude.{◌≡◌, ◌∷◌, ◌<◌, length, IfSome};
+ghost use Rattle.std.specs.Prelude.{◌≡◌, ◌∷◌, ◌<◌, Some, length, IfSome};
 ghost use Rattle.std.specs.Option.{option_map};
 ghost use Rattle.std.specs.Str.Lines.{strip_carriage_return};
-ghost use Rattle.text.specs.Line.{lines_of, lines_left, before_comment};
+ghost use Rattle.text.specs.Line.{lines_of, lines_left, before_comment, code_of, IsFirstCode};
 
 use crate::cuts::cut;
+use crate::name::{end_of_code, is_plain_text};
 
 fn without_return(line: &[u8]) -> &[u8]
     ensures { result.now ≡ strip_carriage_return line.now }
@@ -34,4 +35,46 @@ pub fn before_comment(line: &[u8]) -> &[u8]
 {
     let (code, _) = cut(line, b'#');
     code
+}
+
+fn code_of(line: &[u8]) -> Option<&[u8]>
+    ensures { option_map (λ t. t.now) result ≡ code_of line.now }
+{
+    let code = before_comment(line);
+    if is_plain_text(code) {
+        Some(code)
+    } else {
+        None
+    }
+}
+
+// A first line that is all code, and what stands behind it.
+fn bare_code(text: &[u8]) -> Option<(&[u8], Option<&[u8]>)>
+    ensures code { IfSome result (λ p. IsFirstCode text.now (Some p.0.now)
+        (option_map (λ r. r.now) p.1)) }
+    ensures shorter { IfSome result (λ p. IfSome p.1 (λ r. length r.now < length text.now)) }
+{
+    let Some(end) = end_of_code(text) else {
+        return Some((text, None));
+    };
+    if text[end] != b'\n' {
+        return None;
+    }
+    let (code, rest) = text.split_at(end);
+    let (_, after) = rest.split_at(1);
+    Some((code, Some(after)))
+}
+
+/// What the first line has before its comment, and what stands behind its line feed, if it has
+/// one. No code is given for a line with a byte that is neither a tab nor printable ASCII.
+pub fn next_code(text: &[u8]) -> (Option<&[u8]>, Option<&[u8]>)
+    ensures code { IsFirstCode text.now (option_map (λ t. t.now) result.0)
+        (option_map (λ r. r.now) result.1) }
+    ensures shorter { IfSome result.1 (λ r. length r.now < length text.now) }
+{
+    if let Some((code, rest)) = bare_code(text) {
+        return (Some(code), rest);
+    }
+    let (line, rest) = next_line(text);
+    (code_of(line), rest)
 }

@@ -1,19 +1,37 @@
 //! Names, and the bytes that a line may have before its comment.
 
-ghost use Rattle.std.specs.Prelude.{◌≡◌};
+ghost use Rattle.std.specs.Prelude.{◌≡◌, not, position};
 ghost use Rattle.std.specs.List.{list_all};
-ghost use Rattle.text.specs.Name.{goes_on_name, is_name, is_plain_text};
+ghost use Rattle.text.specs.Name.{goes_on_name, is_name, is_plain_text, is_code_byte};
+
+/// Each byte of a name stands at its own place, and a comma at each other place.
+static NAME_BYTES: [u8; 256] = *b"\
+    ,,,,,,,,,,,,,,,,,,,,,,,,,,,,,,,,\
+    ,,,,,,,,,,,,,,.,0123456789,,,,,,\
+    ,ABCDEFGHIJKLMNOPQRSTUVWXYZ,,,,_\
+    ,abcdefghijklmnopqrstuvwxyz,,,,,\
+    ,,,,,,,,,,,,,,,,,,,,,,,,,,,,,,,,\
+    ,,,,,,,,,,,,,,,,,,,,,,,,,,,,,,,,\
+    ,,,,,,,,,,,,,,,,,,,,,,,,,,,,,,,,\
+    ,,,,,,,,,,,,,,,,,,,,,,,,,,,,,,,,";
 
 fn goes_on_name(b: u8) -> bool
     ensures { result ≡ goes_on_name b }
 {
-    b.is_ascii_alphanumeric() || b == b'_' || b == b'.'
+    NAME_BYTES[b as usize] != b','
 }
 
 fn all_go_on_name(text: &[u8]) -> bool
     ensures { result ≡ list_all goes_on_name text.now }
 {
     text.iter().all(|b| goes_on_name(*b))
+}
+
+/// Where the first byte stands that no name has.
+pub fn end_of_name(text: &[u8]) -> Option<usize>
+    ensures { result ≡ position (λ b. not (goes_on_name b)) text.now }
+{
+    text.iter().position(|b| !goes_on_name(*b))
 }
 
 /// Whether the text is a name, as a label has one.
@@ -29,4 +47,29 @@ pub fn is_plain_text(text: &[u8]) -> bool
 {
     text.iter()
         .all(|b| *b == b'\t' || (*b >= 0x20 && *b <= 0x7e))
+}
+
+/// Each byte of code stands at its own place, and a `#`, which begins a comment, at each other place.
+static CODE_BYTES: [u8; 256] = *b"\
+    #########\t######################\
+    \x20!\"#$%&'()*+,-./0123456789:;<=>?\
+    @ABCDEFGHIJKLMNOPQRSTUVWXYZ[\\]^_\
+    `abcdefghijklmnopqrstuvwxyz{|}~#\
+    ################################\
+    ################################\
+    ################################\
+    ################################";
+
+// A byte that may stand before a comment and begins none.
+fn is_code_byte(b: u8) -> bool
+    ensures { result ≡ is_code_byte b }
+{
+    CODE_BYTES[b as usize] != b'#'
+}
+
+/// Where the first byte stands that begins a comment or may not stand before one.
+pub fn end_of_code(text: &[u8]) -> Option<usize>
+    ensures { result ≡ position (λ b. not (is_code_byte b)) text.now }
+{
+    text.iter().position(|b| !is_code_byte(*b))
 }

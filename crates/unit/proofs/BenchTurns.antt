@@ -2,13 +2,14 @@
 use Rattle.std.proofs.Common.{◌≡◌, ◌≢◌, ℕ, suc, ◌+◌, ◌-◌, ◌%◌, ◌^◌, ◌<◌, ◌≤◌, Bool, List, [], ◌∷◌, ◌++◌, length, Option, Some, None, refl, sym, ap, ◌∙◌, subst, arith, mod-lt}
 use Rattle.std.specs.Prelude.{IfSome, slice_get, slice_set}
 use Rattle.isa.specs.Instruction.{fixed_next}
-use Rattle.isa.specs.Programs.{Program, instr_of}
+use Rattle.isa.specs.Programs.{Program}
 use Rattle.isa.specs.declared.instr.Instr.{Instr}
 use Rattle.isa.specs.declared.stop.Stop.{Stop}
-use Rattle.inorder.specs.Unit.{Sizes, UpdateUnit, front_pc, next_station}
+use Rattle.inorder.specs.Tenants.{instr}
+use Rattle.inorder.specs.Unit.{UpdateUnit}
 use Rattle.unit_laws.specs.Moves.{IsReached}
 use Rattle.unit.specs.declared.bench.Turn.{Turn}
-use Rattle.unit.specs.declared.bench.Turn.TheVariants.{Let, Loaded, Over, Ran, Recovered, Retired}
+use Rattle.unit.specs.declared.bench.Turn.TheVariants.{Halved, Let, Loaded, Over, Ran, Recovered, Retired}
 use Rattle.unit.specs.declared.dispatch.Fetched.{Fetched}
 use Rattle.unit.specs.declared.leaver.Leaver.{Leaver}
 use Rattle.unit.specs.declared.pipeline.Pipeline.{Pipeline}
@@ -17,7 +18,7 @@ use Rattle.unit.specs.Leavers.{IsAsked, leaver}
 use Rattle.unit.specs.Notes.{AreNoted, miss_in}
 use Rattle.unit.specs.Stages.{CanLet, RecoversTo}
 use Rattle.unit.specs.StandsFor.{HasStopped, IsUnit, OverIs, StandsFor, sizes}
-use Rattle.unit.specs.Turns.{Before, Core, Does, Falls, Guesses, IsPlain, IsSame, IsTurn, Moves, Trains, Turned, rank}
+use Rattle.unit.specs.Turns.{Before, BenchFields, Falls, Guesses, IsPlain, IsSame, IsTurn, Moves, Trains, Turned, rank}
 use Rattle.unit.specs.Window.{let_at}
 use Rattle.unit.proofs.EndTurns.{window_room}
 use Rattle.unit.proofs.Idle.{Shows, same_rest}
@@ -27,8 +28,8 @@ use Rattle.unit.proofs.Ranks.{let_falls, recover_falls}
 use Rattle.unit.proofs.Start.{unit_next}
 use Rattle.unit.proofs.Turns.{recovered_turn}
 
-abbrev pub core : {S : Type 0} → Pipeline → S → Core S
-core b s = record { pipeline = b; predictor = s }
+abbrev pub fields : {S : Type 0} → Pipeline → S → BenchFields S
+fields b s = record { pipeline = b; predictor = s }
 
 -- The unit has ended before
 
@@ -43,7 +44,7 @@ recovered_shows b later h none to rest noted =
     let same = same_rest b later later.window later.missed later.settled rest in
     record {
       turn = turn;
-      falls = (ap (λ x. x.committed) rest, recover_falls b.window later.window (window_room b h) to);
+      falls = (ap (λ x. x.committed) rest, ap (λ x. x.low) rest, recover_falls b.window later.window (window_room b h) to);
       unit = unit_next b later Recovered h turn same (ap (λ x. length x.leavers) rest ∙ h.leavers) noted;
       same = same;
     }
@@ -51,15 +52,16 @@ recovered_shows b later h none to rest noted =
 -- A turn that is no let leaves the predictor
 
 module _ {S : Type 0} (Predicts : S → ℕ → Instr → ℕ → S → Type 0) (Learns : S → ℕ → ℕ → S → Type 0) where
-  plain_trains : (P : Program) (C : Sizes) (U V : UpdateUnit) (answer : Turn) (d : Does P C U V answer) (old new : S) → IsPlain answer → new ≡ old → Trains Predicts Learns P C U V answer d old new
-  plain_trains P C U V Recovered d old new p e = e
-  plain_trains P C U V Ran d old new p e = e
-  plain_trains P C U V Loaded d old new p e = e
-  plain_trains P C U V Retired d old new p e = e
-  plain_trains P C U V (Over c) d old new p e = e
-  plain_trains P C U V Let d old new p e = absurd p
+  plain_trains : (P : Program) (U V : UpdateUnit) (answer : Turn) (old new : S) → IsPlain answer → new ≡ old → Trains Predicts Learns P U V answer old new
+  plain_trains P U V Recovered old new p e = e
+  plain_trains P U V Ran old new p e = e
+  plain_trains P U V Loaded old new p e = e
+  plain_trains P U V Halved old new p e = e
+  plain_trains P U V Retired old new p e = e
+  plain_trains P U V (Over c) old new p e = e
+  plain_trains P U V Let old new p e = absurd p
 
-  pub plain_turn : (b later : Core S) (answer : Turn) → IsPlain answer → Moves b.pipeline answer later.pipeline → later.predictor ≡ b.predictor → IsTurn Predicts Learns b answer later
+  pub plain_turn : (b later : BenchFields S) (answer : Turn) → IsPlain answer → Moves b.pipeline answer later.pipeline → later.predictor ≡ b.predictor → IsTurn Predicts Learns b answer later
   plain_turn b later answer p m e U r s =
       let x = m U r s in
       record {
@@ -67,10 +69,10 @@ module _ {S : Type 0} (Predicts : S → ℕ → Instr → ℕ → S → Type 0) 
         reached = x.reached;
         stands = x.stands;
         does = x.does;
-        trains = plain_trains b.pipeline.program.now (sizes b.pipeline) U x.unit answer x.does b.predictor later.predictor p e;
+        trains = plain_trains b.pipeline.program.now U x.unit answer b.predictor later.predictor p e;
       }
 
-  pub moves_of : (b later : Core S) (answer : Turn) → IsTurn Predicts Learns b answer later → Moves b.pipeline answer later.pipeline
+  pub moves_of : (b later : BenchFields S) (answer : Turn) → IsTurn Predicts Learns b answer later → Moves b.pipeline answer later.pipeline
   moves_of b later answer t U r s = let x = t U r s in record { unit = x.unit; reached = x.reached; stands = x.stands; does = x.does }
 
   -- a guess where the next pc is fixed is that
@@ -79,38 +81,49 @@ module _ {S : Type 0} (Predicts : S → ℕ → Instr → ℕ → S → Type 0) 
   guess_fixed (Some x) pc i guess old new a = a.0
 
   -- the let trains as it guesses
-  pub let_turned : (b later : Core S) (f : Fetched) (guess : ℕ) (left : Option Leaver) → slice_get b.pipeline.leavers ((b.pipeline.committed.count + length b.pipeline.window) % b.pipeline.ring) ≡ Some left → Guesses Predicts Learns left f.instr f.pc guess b.predictor later.predictor → ((U : UpdateUnit) → IsReached b.pipeline.program.now (sizes b.pipeline) U → StandsFor b.pipeline U → LetTurned b.pipeline U f guess later.pipeline) → IsTurn Predicts Learns b Let later
+  pub let_turned : (b later : BenchFields S) (f : Fetched) (guess : ℕ) (left : Option Leaver) →
+      slice_get b.pipeline.leavers ((b.pipeline.oldest + length b.pipeline.window) % b.pipeline.ring) ≡ Some left →
+      Guesses Predicts Learns left f.instr f.half f.pc guess b.predictor later.predictor → ((U : UpdateUnit) →
+      IsReached b.pipeline.program.now (sizes b.pipeline) U → StandsFor b.pipeline U →
+      LetTurned b.pipeline U f guess later.pipeline) → IsTurn Predicts Learns b Let later
   let_turned b later f guess left el g h U r s = go (h U r s)
     where
       go : LetTurned b.pipeline U f guess later.pipeline → Turned Predicts Learns b U Let later
       go x =
-          let both : Some left ≡ Some (leaver b.pipeline.program.now U.tenants (next_station (sizes b.pipeline) U.tenants)) = sym el ∙ x.leaver in
-          let same : left ≡ leaver b.pipeline.program.now U.tenants (next_station (sizes b.pipeline) U.tenants) = cc both in
-          let one = subst (λ l. Guesses Predicts Learns l f.instr f.pc guess b.predictor later.predictor) same g in
-          let two = subst (λ i. Guesses Predicts Learns (leaver b.pipeline.program.now U.tenants (next_station (sizes b.pipeline) U.tenants)) i f.pc guess b.predictor later.predictor) (sym x.instr) one in
-          let three = subst (λ p. Guesses Predicts Learns (leaver b.pipeline.program.now U.tenants (next_station (sizes b.pipeline) U.tenants)) (instr_of b.pipeline.program.now x.does.index) p guess b.predictor later.predictor) (sym x.front) two in
-          let four = subst (λ n. Guesses Predicts Learns (leaver b.pipeline.program.now U.tenants (next_station (sizes b.pipeline) U.tenants)) (instr_of b.pipeline.program.now x.does.index) (front_pc U.tenants) n b.predictor later.predictor) (sym x.predicted) three in
-          record { unit = x.unit; reached = x.reached; stands = x.stands; does = x.does; trains = four }
+          let P = b.pipeline.program.now in
+          let both : Some left ≡ Some (leaver P U.tenants x.tenant.station) = sym el ∙ x.leaver in
+          let same : left ≡ leaver P U.tenants x.tenant.station = cc both in
+          let told = subst (λ l. Guesses Predicts Learns l f.instr f.half f.pc guess b.predictor later.predictor) same g in
+          let fetched = subst (λ i. Guesses Predicts Learns (leaver P U.tenants x.tenant.station) i f.half f.pc guess b.predictor later.predictor) (sym x.instr) told in
+          let halved = subst (λ n. Guesses Predicts Learns (leaver P U.tenants x.tenant.station) (instr P x.tenant) n f.pc guess b.predictor later.predictor) (sym x.half) fetched in
+          let placed = subst (λ p. Guesses Predicts Learns (leaver P U.tenants x.tenant.station) (instr P x.tenant) x.tenant.half p guess b.predictor later.predictor) (sym x.pc) halved in
+          let guessed = subst (λ n. Guesses Predicts Learns (leaver P U.tenants x.tenant.station) (instr P x.tenant) x.tenant.half x.tenant.pc n b.predictor later.predictor) (sym x.predicted) placed in
+          record { unit = x.unit; reached = x.reached; stands = x.stands; does = x.does; trains = record { tenant = x.tenant; joins = x.joins; guesses = guessed } }
 
 -- Let
 
-pub let_shows : (b later : Pipeline) (f : Fetched) (guess : ℕ) → IsUnit b → b.over ≡ None → NoneGives miss_in b.window → CanLet b.program.now b.ring b.queue b.committed.pc b.window f → guess < 2 ^ 32 → IfSome (fixed_next f.instr f.pc) (λ x. guess ≡ x) → later.window ≡ b.window ++ let_at f.instr f.pc guess ∷ [] → later.leavers ≡ slice_set b.leavers ((b.committed.count + length b.window) % b.ring) None → later ≡ record b { window = later.window; leavers = later.leavers } → Shows b Let later
+pub let_shows : (b later : Pipeline) (f : Fetched) (guess : ℕ) → IsUnit b → b.over ≡ None →
+    NoneGives miss_in b.window → CanLet b.program.now b.ring b.queue b.committed.pc b.low b.window f → guess < 2 ^ 32 →
+    IfSome (fixed_next f.instr f.half f.pc) (λ x. guess ≡ x) →
+    later.window ≡ b.window ++ let_at f.instr f.half f.pc guess ∷ [] →
+    later.leavers ≡ slice_set b.leavers ((b.oldest + length b.window) % b.ring) None →
+    later ≡ record b { window = later.window; leavers = later.leavers } → Shows b Let later
 let_shows b later f guess h none nm to small predicts wl ll rest =
     record { turn = turn; falls = falls; unit = unit_next b later Let h turn same long noted; same = same }
   where
-    less : (b.committed.count + length b.window) % b.ring < b.ring
-    less = mod-lt (b.committed.count + length b.window) h.room
+    less : (b.oldest + length b.window) % b.ring < b.ring
+    less = mod-lt (b.oldest + length b.window) h.room
 
     turn : Moves b Let later
     turn U r s =
-        let x = let_turn b later f guess ((b.committed.count + length b.window) % b.ring) none h.room h.ring h.leavers nm to small predicts refl less wl ll rest U r s in
+        let x = let_turn b later f guess ((b.oldest + length b.window) % b.ring) none h.room h.ring h.leavers nm to small predicts refl less wl ll rest U r s in
         record { unit = x.unit; reached = x.reached; stands = x.stands; does = x.does }
 
     room : length b.window < 32
     room = omega (arith, to.room, h.ring)
 
     falls : Falls Let b later
-    falls = (ap (λ x. x.committed) rest, subst (λ W. rank 32 W < rank 32 b.window) (sym wl) (let_falls b.window (let_at f.instr f.pc guess) room (omega arith)))
+    falls = (ap (λ x. x.committed) rest, ap (λ x. x.low) rest, subst (λ W. rank 32 W < rank 32 b.window) (sym wl) (let_falls b.window (let_at f.instr f.half f.pc guess) room (omega arith)))
 
     same : IsSame b later
     same = record { program = ap (λ x. x.program) rest; ring = ap (λ x. x.ring) rest; queue = ap (λ x. x.queue) rest; first_tag = ap (λ x. x.first_tag) rest }
@@ -121,15 +134,26 @@ let_shows b later f guess h none nm to small predicts wl ll rest =
     noted : AreNoted later.missed later.settled later.window
     noted =
         subst (λ m. AreNoted m later.settled later.window) (sym (ap (λ x. x.missed) rest))
-        (subst (λ n. AreNoted b.missed n later.window) (sym (ap (λ x. x.settled) rest)) (subst (AreNoted b.missed b.settled) (sym wl) (noted_more b.missed b.settled b.window (let_at f.instr f.pc guess) refl h.noted)))
+        (subst (λ n. AreNoted b.missed n later.window) (sym (ap (λ x. x.settled) rest)) (subst (AreNoted b.missed b.settled) (sym wl) (noted_more b.missed b.settled b.window (let_at f.instr f.half f.pc guess) refl h.noted)))
 
-pub let_room : (b : Pipeline) (f : Fetched) → IsUnit b → CanLet b.program.now b.ring b.queue b.committed.pc b.window f → length b.window < 32
+pub let_room : (b : Pipeline) (f : Fetched) → IsUnit b → CanLet b.program.now b.ring b.queue b.committed.pc b.low b.window f → length b.window < 32
 let_room b f h to = omega (arith, to.room, h.ring)
 
--- the let of a core
+-- the let of a bench
 module _ {S : Type 0} (Predicts : S → ℕ → Instr → ℕ → S → Type 0) (Learns : S → ℕ → ℕ → S → Type 0) where
-  pub let_core : (b later : Core S) (f : Fetched) (guess : ℕ) (left : Option Leaver) → IsUnit b.pipeline → b.pipeline.over ≡ None → NoneGives miss_in b.pipeline.window → CanLet b.pipeline.program.now b.pipeline.ring b.pipeline.queue b.pipeline.committed.pc b.pipeline.window f → guess < 2 ^ 32 → slice_get b.pipeline.leavers ((b.pipeline.committed.count + length b.pipeline.window) % b.pipeline.ring) ≡ Some left → Guesses Predicts Learns left f.instr f.pc guess b.predictor later.predictor → later.pipeline.window ≡ b.pipeline.window ++ let_at f.instr f.pc guess ∷ [] → later.pipeline.leavers ≡ slice_set b.pipeline.leavers ((b.pipeline.committed.count + length b.pipeline.window) % b.pipeline.ring) None → later.pipeline ≡ record b.pipeline { window = later.pipeline.window; leavers = later.pipeline.leavers } → IsTurn Predicts Learns b Let later
-  let_core b later f guess left h none nm to small el g wl ll rest =
-      let fixed = guess_fixed Predicts Learns (fixed_next f.instr f.pc) f.pc f.instr guess g.middle later.predictor g.asked in
-      let less : (b.pipeline.committed.count + length b.pipeline.window) % b.pipeline.ring < b.pipeline.ring = mod-lt (b.pipeline.committed.count + length b.pipeline.window) h.room in
-      let_turned Predicts Learns b later f guess left el g (λ U r s. let_turn b.pipeline later.pipeline f guess ((b.pipeline.committed.count + length b.pipeline.window) % b.pipeline.ring) none h.room h.ring h.leavers nm to small fixed refl less wl ll rest U r s)
+  pub let_bench : (b later : BenchFields S) (f : Fetched) (guess : ℕ) (left : Option Leaver) → IsUnit b.pipeline →
+      b.pipeline.over ≡ None → NoneGives miss_in b.pipeline.window →
+      CanLet b.pipeline.program.now b.pipeline.ring b.pipeline.queue b.pipeline.committed.pc b.pipeline.low b.pipeline.window f →
+      guess < 2 ^ 32 →
+      slice_get b.pipeline.leavers ((b.pipeline.oldest + length b.pipeline.window) % b.pipeline.ring) ≡ Some left →
+      Guesses Predicts Learns left f.instr f.half f.pc guess b.predictor later.predictor →
+      later.pipeline.window ≡ b.pipeline.window ++ let_at f.instr f.half f.pc guess ∷ [] →
+      later.pipeline.leavers ≡ slice_set b.pipeline.leavers ((b.pipeline.oldest + length b.pipeline.window) % b.pipeline.ring) None →
+      later.pipeline ≡ record b.pipeline { window = later.pipeline.window; leavers = later.pipeline.leavers } →
+      IsTurn Predicts Learns b Let later
+  let_bench b later f guess left h none nm to small el g wl ll rest =
+      let fixed = guess_fixed Predicts Learns (fixed_next f.instr f.half f.pc) f.pc f.instr guess g.middle later.predictor g.asked in
+      let less : (b.pipeline.oldest + length b.pipeline.window) % b.pipeline.ring < b.pipeline.ring = mod-lt (b.pipeline.oldest + length b.pipeline.window) h.room in
+      let_turned Predicts Learns b later f guess left el g
+      (λ U r s. let_turn b.pipeline later.pipeline f guess
+      ((b.pipeline.oldest + length b.pipeline.window) % b.pipeline.ring) none h.room h.ring h.leavers nm to small fixed refl less wl ll rest U r s)

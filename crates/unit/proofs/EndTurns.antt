@@ -1,12 +1,14 @@
 -- The turns Retired and Over are steps of the unit.
-use Rattle.std.proofs.Common.{◌≡◌, ◌≢◌, ◌⊎◌, ℕ, zero, suc, ◌+◌, ◌-◌, ◌%◌, ◌<◌, ◌≤◌, Bool, true, false, cond, eqb, List, [], ◌∷◌, ◌++◌, length, take, drop, Option, Some, None, refl, sym, ap, ◌∙◌, subst, inl, inr, arith, length-append}
-use Rattle.std.specs.Prelude.{Result, Ok, Err, slice_get, slice_index, slice_set, unwrap_or}
+use Rattle.std.proofs.Common.{◌≡◌, ◌≢◌, ℕ, suc, ◌+◌, ◌%◌, ◌<◌, ◌≤◌, Bool, true, false, cond, eqb, List, [], ◌∷◌, ◌++◌, length, drop, Option, Some, None, refl, sym, ap, ◌∙◌, subst, inl, inr, add-one, arith}
+use Rattle.std.specs.Prelude.{Result, Ok, Err, is_some, slice_get, slice_index, unwrap_or}
 use Rattle.std.specs.List.{AllByRecursion}
 use Rattle.std.proofs.lemmas.Option.{slice_get_within}
-use Rattle.isa.specs.Instruction.{fixed_next, kind, width}
+use Rattle.isa.specs.Instruction.{first_of, fixed_next, is_first_half, kind, second_of, width}
 use Rattle.isa.specs.Operations.{as_value, computed_by, outcome_by}
 use Rattle.isa.specs.Programs.{Program, instr_at}
 use Rattle.isa.specs.declared.instr.Instr.{Instr}
+use Rattle.isa.specs.declared.op.Half.{Half}
+use Rattle.isa.specs.declared.op.Half.TheVariants.{Low}
 use Rattle.isa.specs.declared.op.Kind.{Kind}
 use Rattle.isa.specs.declared.op.Kind.TheVariants.{Computes, Jumps, Links, Loads, Stores}
 use Rattle.isa.specs.declared.stop.Outcome.TheVariants.{Address}
@@ -14,56 +16,63 @@ use Rattle.isa.specs.declared.stop.Stop.{Stop}
 use Rattle.isa.specs.declared.stop.Stop.TheVariants.{BadPc}
 use Rattle.inorder.specs.declared.history.Act.TheVariants.{Retire}
 use Rattle.inorder.specs.declared.history.Step.TheVariants.{On}
-use Rattle.inorder.specs.Committed.{commits, commits_by, committed, with_stored, with_tenant}
+use Rattle.inorder.specs.Callers.{is_retired, stands_retired}
+use Rattle.inorder.specs.Committed.{ahead, commits, commits_by, committed, completes, with_stored, with_tenant}
 use Rattle.inorder.specs.Machine.{State, write}
 use Rattle.inorder.specs.Memory.{stored, stored_by}
 use Rattle.inorder.specs.Steps.{CanRetire, IsNoRetiredStop, MayRetire, made_at_end, retired}
-use Rattle.inorder.specs.Tenants.{Addr, Busy, Done, Fate, IsThere, Miss, Open, Retired as RetiredStanding, Stopped, Tenant, computed, computed_next, destination_of, instr, kind_of, operand_value, stands_on_path}
+use Rattle.inorder.specs.Tenants.{Addr, Busy, Done, Fate, IsThere, Miss, Open, Retired as RetiredStanding, Stopped, Tenant, computed, computed_next, destination_of, instr, is_first, kind_of, on_path, operand_value, stands_on_path}
 use Rattle.inorder.specs.Unit.{Sizes, UpdateUnit, at, how_many}
-use Rattle.inorder.proofs.Commits.{over}
+use Rattle.inorder.proofs.Commits.{not_complete, over}
+use Rattle.inorder.proofs.Halves.{first_low}
 use Rattle.inorder.proofs.InOrderStep.{address_in, reached_in, stored_done}
 use Rattle.inorder.proofs.SettledMemory.{length_memory}
+use Rattle.inorder.proofs.Pairs.{first_half_computes}
 use Rattle.inorder.proofs.SettledRegisters.{committed_if, next_leaves}
-use Rattle.inorder.proofs.Sound.{FateIs, IsSound, IsSoundAt}
+use Rattle.inorder.proofs.Sound.{DoneBy, FateIs, IsSound, IsSoundAt}
 use Rattle.inorder.proofs.Stations.{Stands, last_at}
-use Rattle.unit_laws.specs.Moves.{Leads, with_tenants}
+use Rattle.unit_laws.specs.Moves.{IsReached, Leads, with_tenants}
 use Rattle.unit_laws.specs.Still.{AreStill, IsNotBusy}
 use Rattle.unit_laws.proofs.Alike.{still_put, stops_put}
-use Rattle.unit_laws.proofs.Left.{live_commits}
+use Rattle.unit_laws.proofs.Left.{ahead_middle, committed_middle, live_commits}
 use Rattle.unit_laws.proofs.Middle.{all_from, at_middle, sound_from, still_from, younger_middle}
 use Rattle.unit_laws.proofs.Retirement.{retire_run}
 use Rattle.unit_laws.proofs.Sequences.{reach_on, sound_of, stands_of}
 use Rattle.unit.specs.declared.bench.Turn.{Turn}
-use Rattle.unit.specs.declared.bench.Turn.TheVariants.{Over, Retired}
+use Rattle.unit.specs.declared.bench.Turn.TheVariants.{Halved, Over, Retired}
 use Rattle.unit.specs.declared.execute.Operands.{Operands}
 use Rattle.unit.specs.declared.leaver.Leaver.{Leaver}
 use Rattle.unit.specs.declared.pipeline.Pipeline.{Pipeline}
 use Rattle.unit.specs.declared.station.Stage.{Stage}
 use Rattle.unit.specs.declared.station.Stage.TheVariants.{Open as Opens, Addr as HasAddr, Done as IsDone, Miss as Misses, Stops}
 use Rattle.unit.specs.declared.station.Station.{Station}
+use Rattle.unit.specs.Ahead.{ahead_by, low_after, low_of, waiting_half}
+use Rattle.unit.specs.Changes.{ahead_of, registers_of}
 use Rattle.unit.specs.Givers.{NoneGives, given_at, gives}
 use Rattle.unit.specs.Leavers.{leaver, leaver_of, told_by, told_of}
-use Rattle.unit.specs.Leaves.{CanLeave, HasEnded, LeavesTo, RetiresTo, memory_with, with_station}
+use Rattle.unit.specs.Leaves.{CanLeave, HasEnded, LeavesTo, PassesTo, RetiresTo, halved, left, memory_with, with_station}
 use Rattle.unit.specs.Loads.{AreInside, load_in, waits_by}
 use Rattle.unit.specs.Notes.{miss_in}
 use Rattle.unit.specs.Stages.{CannotLet, NoInstr, NoRoom, QueueFull}
 use Rattle.unit.specs.StandsFor.{HasStopped, IsUnit, OverIs, StandsFor, sizes}
 use Rattle.unit.specs.Turns.{Falls, Moved, Moves, Nowhere, Now, Retires}
-use Rattle.unit.specs.Window.{miss_of, operands_by, operands_in, source_in, stage_of, station_of, where_open, window}
+use Rattle.unit.specs.Window.{half_in, miss_of, operands_by, operands_in, source_in, stage_of, station_of, where_open, window}
 use Rattle.unit.proofs.Found.{Found, drop_first, found, nobody, window_behind, window_middle}
 use Rattle.unit.proofs.Leavers.{leaver_put, leaver_retire, leavers_set, told_done, told_live, told_store}
-use Rattle.unit.proofs.RunTurns.{cannot_let, nobody_claims, nobody_loads}
+use Rattle.unit.proofs.Ring.{mod_first}
+use Rattle.unit.proofs.RunTurns.{ahead_stands, cannot_let, nobody_claims, nobody_loads, knows}
 use Rattle.unit.proofs.Tests.{HasSources, has_sources, no_miss}
 use Rattle.unit.proofs.Turns.{none_in}
-use Rattle.unit.proofs.Windows.{path_length, window_length}
+use Rattle.unit.proofs.Waiting.{ahead_low, completes_if, low_if, low_over, none_low, retired_over}
+use Rattle.unit.proofs.Windows.{half_worth, path_length, window_length}
 
 -- What the tests of the earlier turns leave
 pub record Refused (b : Pipeline) : Type 0 where
   pub none : b.over ≡ None
   pub miss : NoneGives miss_in b.window
   pub lets : CannotLet b.program.now b.ring b.queue b.committed.pc b.window
-  pub ready : NoneGives (operands_in b.committed.registers) b.window
-  pub loads : NoneGives (load_in b.committed.registers b.committed.memory) b.window
+  pub ready : NoneGives (operands_in (registers_of b)) b.window
+  pub loads : NoneGives (load_in (registers_of b) b.committed.memory) b.window
 
 -- The fate of a stage
 
@@ -101,25 +110,25 @@ pub data IsAccess (k : Kind) : Type 0 where
   IsLoad : k ≡ Loads → IsAccess k
   IsStore : k ≡ Stores → IsAccess k
 
-access_of : (k : Kind) (i : Instr) (pc a b size x : ℕ) → outcome_by k i pc a b size ≡ Address x → IsAccess k
-access_of Computes i pc a b size x e = absurd (value_not (computed_by i.op a b i.number) x e)
-access_of Jumps i pc a b size x e = absurd (cc)
-access_of Links i pc a b size x e = absurd (cc)
-access_of Loads i pc a b size x e = IsLoad refl
-access_of Stores i pc a b size x e = IsStore refl
+access_of : (k : Kind) (i : Instr) (half : Half) (pc a b size x : ℕ) → outcome_by k i half pc a b size ≡ Address x → IsAccess k
+access_of Computes i half pc a b size x e = absurd (value_not (computed_by i.op half a b i.number) x e)
+access_of Jumps i half pc a b size x e = absurd (cc)
+access_of Links i half pc a b size x e = absurd (cc)
+access_of Loads i half pc a b size x e = IsLoad refl
+access_of Stores i half pc a b size x e = IsStore refl
 
-access_in : (k : Kind) (i : Instr) (pc a b size x : ℕ) → outcome_by k i pc a b size ≡ Address x → x + width i.op ≤ size
-access_in Computes i pc a b size x e = absurd (value_not (computed_by i.op a b i.number) x e)
-access_in Jumps i pc a b size x e = absurd (cc)
-access_in Links i pc a b size x e = absurd (cc)
-access_in Loads i pc a b size x e = reached_in _ _ _ x (address_in _ x e)
-access_in Stores i pc a b size x e = reached_in _ _ _ x (address_in _ x e)
+access_in : (k : Kind) (i : Instr) (half : Half) (pc a b size x : ℕ) → outcome_by k i half pc a b size ≡ Address x → x + width i.op ≤ size
+access_in Computes i half pc a b size x e = absurd (value_not (computed_by i.op half a b i.number) x e)
+access_in Jumps i half pc a b size x e = absurd (cc)
+access_in Links i half pc a b size x e = absurd (cc)
+access_in Loads i half pc a b size x e = reached_in _ _ _ x (address_in _ x e)
+access_in Stores i half pc a b size x e = reached_in _ _ _ x (address_in _ x e)
 
 comes_to : (P : Program) (ts : List Tenant) (t : Tenant) (a : ℕ) → IsSoundAt P ts t → t.fate ≡ Addr a → computed P t ≡ Address a
 comes_to P ts t a s e = let f : FateIs P t (Addr a) = subst (FateIs P t) e s.own.fate in f.1
 
 inside_at : (P : Program) (ts : List Tenant) (t : Tenant) (a : ℕ) → IsSoundAt P ts t → t.fate ≡ Addr a → a + width (instr P t).op ≤ length P.bytes
-inside_at P ts t a s e = access_in (kind_of P t) (instr P t) t.pc (operand_value t.first) (operand_value t.second) (length P.bytes) a (comes_to P ts t a s e)
+inside_at P ts t a s e = access_in (kind_of P t) (instr P t) t.half t.pc (operand_value t.first) (operand_value t.second) (length P.bytes) a (comes_to P ts t a s e)
 
 memory_size : (b : Pipeline) (U : UpdateUnit) → StandsFor b U → length b.committed.memory ≡ length b.program.now.bytes
 memory_size b U s = ap (λ c. length c.memory) s.committed ∙ length_memory b.program.now U.tenants
@@ -164,7 +173,7 @@ pub can_leave : (b : Pipeline) → IsUnit b → Refused b → CanLeave (length b
 can_leave b h f = go (slice_get b.window 0) refl
   where
     regs : List ℕ
-    regs = b.committed.registers
+    regs = registers_of b
 
     some : (w : Station) → slice_get b.window 0 ≡ Some w → (g : Stage) → w.stage ≡ g → HasEnded (length b.committed.memory) w.instr g
     some w e IsDone q = tt
@@ -176,8 +185,8 @@ can_leave b h f = go (slice_get b.window 0) refl
         absurd (cc)
     some w e Opens q =
         let full : 0 < length b.window = slice_get_within b.window 0 w e in
-        let o = first_ready regs (kind w.instr.op) w.instr.first w.instr.second in
-        let is : gives (operands_in regs) b.window 0 ≡ Some o.0 = ap (λ x. given_at (operands_in regs) b.window x 0) e ∙ ap (λ g. where_open g (operands_by (kind w.instr.op) (source_in regs [] w.instr.first) (source_in regs [] w.instr.second))) q ∙ o.1 in
+        let o = first_ready regs (kind w.instr.op) (first_of w.instr) (second_of w.instr) in
+        let is : gives (operands_in regs) b.window 0 ≡ Some o.0 = ap (λ x. given_at (operands_in regs) b.window x 0) e ∙ ap (λ g. where_open g (operands_by (kind w.instr.op) (source_in regs [] (first_of w.instr)) (source_in regs [] (second_of w.instr)))) q ∙ o.1 in
         let no : Some o.0 ≡ None = sym is ∙ f.ready 0 full in
         absurd (cc)
     some w e (HasAddr a) q = are_inside b h 0 w e a q
@@ -188,7 +197,7 @@ can_leave b h f = go (slice_get b.window 0) refl
 
 -- the oldest with an address is a store
 oldest_stores : (b : Pipeline) (U : UpdateUnit) (w : Station) (t : Tenant) (ts : List Tenant) (a : ℕ) → Refused b → slice_get b.window 0 ≡ Some w → station_of b.program.now t ≡ w → IsSoundAt b.program.now ts t → t.fate ≡ Addr a → kind_of b.program.now t ≡ Stores
-oldest_stores b U w t ts a f e sw s ef = go (access_of (kind_of P t) (instr P t) t.pc (operand_value t.first) (operand_value t.second) (length P.bytes) a (comes_to P ts t a s ef))
+oldest_stores b U w t ts a f e sw s ef = go (access_of (kind_of P t) (instr P t) t.half t.pc (operand_value t.first) (operand_value t.second) (length P.bytes) a (comes_to P ts t a s ef))
   where
     P : Program
     P = b.program.now
@@ -198,7 +207,10 @@ oldest_stores b U w t ts a f e sw s ef = go (access_of (kind_of P t) (instr P t)
     go (IsLoad k) =
         let full : 0 < length b.window = slice_get_within b.window 0 w e in
         let waits : waits_by (kind_of P t) (stage_of t.fate) ≡ Some a = ap (λ x. waits_by x (stage_of t.fate)) k ∙ ap (λ g. waits_by Loads (stage_of g)) ef in
-        let given : gives (load_in b.committed.registers b.committed.memory) b.window 0 ≡ Rattle.unit.specs.Loads.load_by [] b.committed.memory (instr P t).op (Some a) = ap (λ x. given_at (load_in b.committed.registers b.committed.memory) b.window x 0) e ∙ sym (ap (load_in b.committed.registers b.committed.memory []) sw) ∙ ap (Rattle.unit.specs.Loads.load_by [] b.committed.memory (instr P t).op) waits in
+        let given : gives (load_in (registers_of b) b.committed.memory) b.window 0 ≡ Rattle.unit.specs.Loads.load_by [] b.committed.memory (instr P t).op
+        (Some a) = ap (λ x. given_at (load_in (registers_of b) b.committed.memory) b.window x 0) e
+        ∙ sym (ap (load_in (registers_of b) b.committed.memory []) sw)
+        ∙ ap (Rattle.unit.specs.Loads.load_by [] b.committed.memory (instr P t).op) waits in
         let no : Rattle.unit.specs.Loads.load_by [] b.committed.memory (instr P t).op (Some a) ≡ None = sym given ∙ f.loads 0 full in
         absurd (cc no)
 
@@ -208,8 +220,19 @@ no_get : (xs : List Station) → slice_get xs 0 ≡ None → xs ≡ []
 no_get [] h = refl
 no_get (x ∷ xs) h = absurd (cc)
 
-nowhere_turn : (b : Pipeline) → 0 < b.ring → CannotLet b.program.now b.ring b.queue b.committed.pc b.window → 2 ≤ b.queue → slice_get b.window 0 ≡ None → Moves b (Over BadPc) b
-nowhere_turn b room nl two e U r s = record { unit = U; reached = r; stands = s; does = Nowhere refl (nobody P U.tenants (ap length none)) (ap (λ c. instr_at P c.pc) (sym s.committed) ∙ there nl') refl }
+nowhere_turn : (b : Pipeline) → b.over ≡ None → 0 < b.ring → CannotLet b.program.now b.ring b.queue b.committed.pc b.window → 2 ≤ b.queue → slice_get b.window 0 ≡ None → Moves b (Over BadPc) b
+nowhere_turn b going room nl two e U r s =
+    record {
+      unit = U;
+      reached = r;
+      stands = s;
+      does =
+          Nowhere refl (record {
+            goes_on = (knows b U going r s).stops;
+            nobody = nobody P U.tenants (ap length none);
+            no_instr = ap (λ c. instr_at P c.pc) (sym s.committed) ∙ there nl';
+          }) refl;
+    }
   where
     P : Program
     P = b.program.now
@@ -247,9 +270,10 @@ commits_same P t s c =
 pub record Left (b : Pipeline) (t : Tenant) : Type 0 where
   pub can : CanRetire (kind_of b.program.now t) t.second.value t.fate
   pub commits : commits (retired t 0) ≡ true
-  pub same : CommitsSame b.program.now t b.committed
+  pub same : CommitsSame b.program.now t (ahead_of b)
   pub told : told_of b.program.now (retired t 0) ≡ leaver_of (station_of b.program.now t)
   pub made : (retired t 0).made ≡ t.made
+  pub makes : is_first b.program.now t ≡ true → (v : ℕ) × (t.made ≡ Some v)
   pub free : IsNotBusy t.fate
   pub no_stop : IsNoRetiredStop (retired t 0)
 
@@ -260,11 +284,15 @@ done_left b t ts v s e =
       commits = ap (commits_by RetiredStanding) e;
       same = record {
         made = made;
-        stores = ap (λ f. with_stored (stored_by true (kind_of P t) f (width (instr P t).op) t.second.value) b.committed.memory) e ∙ ap (λ o. with_stored o b.committed.memory) (stored_done true (kind_of P t) v (width (instr P t).op) t.second.value) ∙ sym (ap (λ f. memory_with (instr P t) (stage_of f) b.committed.registers b.committed.memory) e);
+        stores = ap (λ f. with_stored (stored_by true (kind_of P t) f (width (instr P t).op) t.second.value) b.committed.memory) e
+            ∙ ap (λ o. with_stored o b.committed.memory) (stored_done true (kind_of P t) v (width (instr P t).op) t.second.value)
+            ∙ sym (ap (λ f. memory_with (instr P t) (stage_of f) (registers_of b) b.committed.memory) e);
         goes = next_leaves P ts t s.own.goes_on (inl (v, e, fate.0));
       };
-      told = ap (λ f. told_by RetiredStanding f (fixed_next (instr P t) t.pc) t.pc) e ∙ told_done P t (computed P t) v fate.0;
+      told = ap (λ f. told_by RetiredStanding f (fixed_next (instr P t) t.half t.pc) t.pc) e ∙ told_done P t (computed P t) v fate.0;
       made = made;
+      makes = λ f. let k = first_half_computes (instr P t).op t.half f in let d : DoneBy (computed P t) t.pc t.next t.made v Computes = subst
+          (DoneBy (computed P t) t.pc t.next t.made v) k fate.0 in (v, d.1);
       free = subst IsNotBusy (sym e) tt;
       no_stop = λ a c z. let no : Done v ≡ Stopped c = sym e ∙ z in absurd (cc);
     }
@@ -278,7 +306,9 @@ done_left b t ts v s e =
     made : (retired t 0).made ≡ t.made
     made = ap (λ x. made_at_end x t.made 0) e
 
-store_left : (b : Pipeline) (t : Tenant) (ts : List Tenant) (a : ℕ) → IsSoundAt b.program.now ts t → t.fate ≡ Addr a → kind_of b.program.now t ≡ Stores → t.second.value ≡ source_in b.committed.registers [] (instr b.program.now t).second → Left b t
+store_left : (b : Pipeline) (t : Tenant) (ts : List Tenant) (a : ℕ) → IsSoundAt b.program.now ts t → t.fate ≡ Addr a →
+    kind_of b.program.now t ≡ Stores →
+    t.second.value ≡ source_in (registers_of b) [] (second_of (instr b.program.now t)) → Left b t
 store_left b t ts a s e k d =
     record {
       can = subst (CanRetire (kind_of P t) t.second.value) (sym e) (k, there);
@@ -288,8 +318,9 @@ store_left b t ts a s e k d =
         stores = stores;
         goes = next_leaves P ts t s.own.goes_on (inr (a, e, comes_to P ts t a s e, k, there));
       };
-      told = ap (λ f. told_by RetiredStanding f (fixed_next (instr P t) t.pc) t.pc) e ∙ sym (told_store P t k);
+      told = ap (λ f. told_by RetiredStanding f (fixed_next (instr P t) t.half t.pc) t.pc) e ∙ sym (told_store P t k);
       made = made;
+      makes = λ f. let no : Stores ≡ Computes = sym k ∙ first_half_computes (instr P t).op t.half f in absurd (cc);
       free = subst IsNotBusy (sym e) tt;
       no_stop = λ y c z. let no : Addr a ≡ Stopped c = sym e ∙ z in absurd (cc);
     }
@@ -298,17 +329,17 @@ store_left b t ts a s e k d =
     P = b.program.now
 
     there : IsThere t.second.value
-    there = let x = source_first b.committed.registers (instr P t).second in (x.0, d ∙ x.1)
+    there = let x = source_first (registers_of b) (second_of (instr P t)) in (x.0, d ∙ x.1)
 
     made : (retired t 0).made ≡ t.made
     made = ap (λ x. made_at_end x t.made 0) e
 
-    stores : with_stored (stored P (retired t 0)) b.committed.memory ≡ memory_with (instr P t) (stage_of t.fate) b.committed.registers b.committed.memory
+    stores : with_stored (stored P (retired t 0)) b.committed.memory ≡ memory_with (instr P t) (stage_of t.fate) (registers_of b) b.committed.memory
     stores =
         ap (λ f. with_stored (stored_by true (kind_of P t) f (width (instr P t).op) t.second.value) b.committed.memory) e
         ∙ ap (λ x. with_stored (stored_by true x (Addr a) (width (instr P t).op) t.second.value) b.committed.memory) k
         ∙ ap (λ x. with_stored (stored_by true Stores (Addr a) (width (instr P t).op) x) b.committed.memory) d
-        ∙ sym (ap (λ f. memory_with (instr P t) (stage_of f) b.committed.registers b.committed.memory) e)
+        ∙ sym (ap (λ f. memory_with (instr P t) (stage_of f) (registers_of b) b.committed.memory) e)
 
 -- The oldest retires
 
@@ -366,6 +397,7 @@ leave b later answer w h f e ended to U r s = go (found P U.tenants 0 w (ap (λ 
         does : CanRetire (kind_of P t) t.second.value t.fate → Retires P C U V
         does c =
             record {
+              goes_on = (knows b U f.none r s).stops;
               no_miss = no_miss P U.tenants (none_in miss_in P b.window U.tenants s.window f.miss);
               no_let = cannot_let b U f.none r s f.lets;
               no_claim = nobody_claims b U f.none r s f.ready;
@@ -378,10 +410,35 @@ leave b later answer w h f e ended to U r s = go (found P U.tenants 0 w (ap (λ 
             }
 
         before : committed P U.tenants ≡ committed P ts
-        before = ap (committed P) d.split ∙ over P t t ts ys d.live sound' ∙ committed_if P t ts false (live_commits t d.live)
+        before = ap (committed P) d.split ∙ committed_middle P ys t ts d.live sound'
 
-        commit : (x : Bool) → commits u ≡ x → committed P V.tenants ≡ cond x (with_tenant P u (committed P U.tenants)) (committed P U.tenants)
-        commit x q = over P t u ts ys d.live sound' ∙ committed_if P u ts x q ∙ ap (λ c. cond x (with_tenant P u c) c) (sym before)
+        before_ahead : ahead P U.tenants ≡ ahead P ts
+        before_ahead = ap (ahead P) d.split ∙ ahead_middle P ys t ts d.live sound'
+
+        commit : (x : Bool) → completes P u ≡ x → committed P V.tenants ≡ cond x (with_tenant P u (ahead P U.tenants)) (committed P U.tenants)
+        commit x q =
+            over P t u ts ys d.live sound'
+            ∙ committed_if P u ts x q
+            ∙ ap (λ c. cond x (with_tenant P u (ahead P ts)) c) (sym before)
+            ∙ ap (λ c. cond x (with_tenant P u c) (committed P U.tenants)) (sym before_ahead)
+
+        low : (x : Bool) → commits u ≡ x → low_of P V.tenants ≡ low_after x (is_first P u) u.made (low_of P ts)
+        low x q = low_over P t u ts ys d.live sound' ∙ low_if P u ts x q
+
+        low_before : low_of P U.tenants ≡ low_of P ts
+        low_before = ap (low_of P) d.split ∙ low_over P t t ts ys d.live sound' ∙ low_if P t ts false (live_commits t d.live)
+
+        retired_before : how_many is_retired U.tenants ≡ how_many is_retired ts
+        retired_before =
+            ap (how_many is_retired) d.split
+            ∙ retired_over P t t ts ys d.live sound'
+            ∙ ap (λ x. cond (stands_retired x) (suc (how_many is_retired ts)) (how_many is_retired ts)) d.live
+
+        next : (b.oldest + 1) % b.ring ≡ how_many is_retired V.tenants % b.ring
+        next =
+            ap (λ n. (n + 1) % b.ring) (s.oldest ∙ ap (λ n. n % b.ring) retired_before)
+            ∙ mod_first (how_many is_retired ts) 1 b.ring
+            ∙ ap (λ n. n % b.ring) (add-one (how_many is_retired ts) ∙ sym (retired_over P t u ts ys d.live sound'))
 
         shown : drop 1 b.window ≡ window P V.tenants
         shown =
@@ -395,60 +452,114 @@ leave b later answer w h f e ended to U r s = go (found P U.tenants 0 w (ap (λ 
         apart : AllByRecursion (λ y. y.station ≢ t.station) ys
         apart = subst (AllByRecursion (λ y. y.station ≢ t.station)) (younger_middle ys t ts) (last_at (ys ++ t ∷ ts) (length ts) t st.apart (at_middle ys t ts) d.live)
 
-        place : t.station ≡ (b.committed.count + 0) % b.ring
+        path : how_many on_path ts ≡ how_many is_retired ts
+        path = omega (arith, path_length P ts, first)
+
+        place : t.station ≡ b.oldest
         place =
             (placed_from ys (t ∷ ts) st.placed).0 (ap stands_on_path d.live)
-            ∙ ap (λ n. n % b.ring) (path_length P ts (all_from IsNoRetiredStop ys (t ∷ ts) stops).1 ∙ ap (λ n. (committed P ts).count + n) first ∙ ap (λ c. c.count + 0) (sym before ∙ sym s.committed))
+            ∙ ap (λ n. n % b.ring) (path ∙ sym retired_before)
+            ∙ sym s.oldest
           where
             placed_from : (xs us : List Tenant) → Rattle.inorder.proofs.Stations.ArePlaced C (xs ++ us) → Rattle.inorder.proofs.Stations.ArePlaced C us
             placed_from [] us p = p
             placed_from (x ∷ xs) us p = placed_from xs us p.1
 
-        tells : (v : Option Leaver) → told_of P u ≡ v → (n : ℕ) → leaver P V.tenants n ≡ cond (eqb ((b.committed.count + 0) % b.ring) n) v (leaver P U.tenants n)
-        tells v q n = leaver_retire P ys t u ts ((b.committed.count + 0) % b.ring) v place place apart q n ∙ ap (λ X. cond (eqb ((b.committed.count + 0) % b.ring) n) v (leaver P X n)) (sym d.split)
+        tells : (v : Option Leaver) → told_of P u ≡ v → (n : ℕ) → leaver P V.tenants n ≡ cond (eqb b.oldest n) v (leaver P U.tenants n)
+        tells v q n = leaver_retire P ys t u ts b.oldest v place place apart q n ∙ ap (λ X. cond (eqb b.oldest n) v (leaver P X n)) (sym d.split)
 
-        gone : (c : Left b t) → answer ≡ Retired → later ≡ record b { window = drop 1 b.window; committed = with_station w b.committed; leavers = slice_set b.leavers ((b.committed.count + 0) % b.ring) (leaver_of w); settled = b.settled - 1 } → Moved b U answer later
-        gone c qa ql =
+        near : b.oldest < length b.leavers
+        near = omega (arith, h.oldest, h.ring, h.leavers)
+
+        whole : (c : Left b t) → is_first P t ≡ false → answer ≡ Retired → later ≡ left b w → Moved b U answer later
+        whole c qf qa ql =
             subst (λ x. Moved b U x later) (sym qa) (subst (Moved b U Retired) (sym ql) (record {
               unit = V;
               reached = reach_on P C 0 U (On (length ts) (Retire 0) ∷ []) V r (leads c.can);
               stands = record {
                 window = shown;
-                committed = ap (λ x. with_station x b.committed) (sym d.station) ∙ sym (commits_same P t b.committed c.same) ∙ ap (with_tenant P u) s.committed ∙ sym (commit true c.commits);
-                leavers = leavers_set b.leavers P U.tenants V.tenants ((b.committed.count + 0) % b.ring) b.ring (leaver_of w) near s.leavers (tells (leaver_of w) (c.told ∙ ap leaver_of d.station));
+                committed = ap (λ x. with_station x (ahead_of b)) (sym d.station)
+                    ∙ sym (commits_same P t (ahead_of b) c.same)
+                    ∙ ap (with_tenant P u) (ahead_stands b U r s) ∙ sym (commit true (completes_if P u true false c.commits qf));
+                leavers = leavers_set b.leavers P U.tenants V.tenants b.oldest b.ring (leaver_of w) near s.leavers (tells (leaver_of w) (c.told ∙ ap leaver_of d.station));
                 over = subst (OverIs V.tenants) (sym f.none) (stops_put ys t u ts c.no_stop stops, still_put ys t u ts c.made refl refl c.free still);
+                low = sym (low true c.commits ∙ ap (λ x. low_after true x u.made (low_of P ts)) qf);
+                oldest = next;
               };
               does = does c.can;
             }))
+
+        half : (c : Left b t) → is_first P t ≡ true → answer ≡ Halved → later ≡ halved b w → Moved b U answer later
+        half c qf qa ql =
+            subst (λ x. Moved b U x later) (sym qa) (subst (Moved b U Halved) (sym ql) (record {
+              unit = V;
+              reached = reached;
+              stands = record {
+                window = shown;
+                committed = s.committed ∙ sym same;
+                leavers = leavers_set b.leavers P U.tenants V.tenants b.oldest b.ring (leaver_of w) near s.leavers (tells (leaver_of w) (c.told ∙ ap leaver_of d.station));
+                over = subst (OverIs V.tenants) (sym f.none) (stops_put ys t u ts c.no_stop stops, still_put ys t u ts c.made refl refl c.free still);
+                low = ap (λ x. Some (unwrap_or x.made 0)) (sym d.station) ∙ sym waits;
+                oldest = next;
+              };
+              does = record {
+                retires = does c.can;
+                first = qf;
+                stays = same;
+                made = (c.makes qf).0;
+                makes = (c.makes qf).1;
+                waits =
+                    ahead_low P V.tenants (sound_of P C V reached)
+                    ∙ ap (λ l. ahead_by l (committed P V.tenants)) (waits ∙ ap (λ m. Some (unwrap_or m 0)) (c.makes qf).1)
+                    ∙ ap (ahead_by (Some (c.makes qf).0)) same;
+              };
+            }))
           where
-            near : (b.committed.count + 0) % b.ring < length b.leavers
-            near = let less : (b.committed.count + 0) % b.ring < b.ring = Rattle.std.proofs.Common.mod-lt (b.committed.count + 0) h.room in omega (arith, less, h.ring, h.leavers)
+            reached : IsReached P C V
+            reached = reach_on P C 0 U (On (length ts) (Retire 0) ∷ []) V r (leads c.can)
+
+            same : committed P V.tenants ≡ committed P U.tenants
+            same = commit false (completes_if P u true true c.commits qf)
+
+            waits : low_of P V.tenants ≡ Some (unwrap_or t.made 0)
+            waits = low true c.commits ∙ ap (λ x. low_after true x u.made (low_of P ts)) qf ∙ ap (λ m. Some (unwrap_or m 0)) c.made
+
+        gone : Left b t → PassesTo (is_first_half w.instr.op w.half) b w answer later → Moved b U answer later
+        gone c l = on (is_first P t) refl (subst (λ x. PassesTo x b w answer later) (sym (ap (λ x. is_first_half x.instr.op x.half) d.station)) l)
+          where
+            on : (x : Bool) → is_first P t ≡ x → PassesTo x b w answer later → Moved b U answer later
+            on true q l = half c q l.0 l.1
+            on false q l = whole c q l.0 l.1
 
         by : (g : Stage) → w.stage ≡ g → LeavesTo b w g answer later → Moved b U answer later
         by (Stops c) q l =
             let fate : t.fate ≡ Stopped c = stop_fate t.fate c (ap (λ x. x.stage) d.station ∙ q) in
             let can : CanRetire (kind_of P t) t.second.value t.fate = subst (CanRetire (kind_of P t) t.second.value) (sym fate) tt in
             let has : HasStopped V.tenants c = record { p = length ts; tenant = u; is = at_middle ys u ts; retired = refl; fate = fate } in
-            let told : told_of P u ≡ told_of P t = ap (λ g. told_by RetiredStanding g (fixed_next (instr P t) t.pc) t.pc) fate ∙ sym (told_live P t d.live) in
+            let told : told_of P u ≡ told_of P t = ap (λ g. told_by RetiredStanding g (fixed_next (instr P t) t.half t.pc) t.pc) fate ∙ sym (told_live P t d.live) in
             subst (λ x. Moved b U x later) (sym l.0) (subst (Moved b U (Over c)) (sym l.1) (record {
               unit = V;
               reached = reach_on P C 0 U (On (length ts) (Retire 0) ∷ []) V r (leads can);
               stands = record {
                 window = shown;
-                committed = s.committed ∙ sym (commit false (ap (commits_by RetiredStanding) fate));
+                committed = s.committed ∙ sym (commit false (not_complete P u (ap (commits_by RetiredStanding) fate)));
                 leavers = λ n k. s.leavers n k ∙ ap Some (ap (λ X. leaver P X n) d.split ∙ sym (leaver_put P n ys t u ts refl told));
                 over = has;
+                low = s.low ∙ low_before ∙ sym (low false (ap (commits_by RetiredStanding) fate));
+                oldest = next;
               };
               does = Now (does can) has;
             }))
-        by IsDone q l = let v = done_fate t.fate (ap (λ x. x.stage) d.station ∙ q) in gone (done_left b t ts v.0 own v.1) l.0 l.1
+        by IsDone q l = let v = done_fate t.fate (ap (λ x. x.stage) d.station ∙ q) in gone (done_left b t ts v.0 own v.1) l
         by (HasAddr a) q l =
             let fate : t.fate ≡ Addr a = addr_fate t.fate a (ap (λ x. x.stage) d.station ∙ q) in
             let stores = oldest_stores b U w t ts a f e d.station own fate in
             let empty : window P ts ≡ [] = nil (window P ts) first in
-            let src : HasSources P b.committed.registers t ts = has_sources P b.committed.registers t ts (sound_from P ys (t ∷ ts) sound') (still_from ys (t ∷ ts) still) (all_from IsNoRetiredStop ys (t ∷ ts) stops).1 (ap (λ c. c.registers) (s.committed ∙ before)) d.live in
-            let data' : t.second.value ≡ source_in b.committed.registers [] (instr P t).second = src.second ∙ ap (λ l. source_in b.committed.registers l (instr P t).second) empty in
-            gone (store_left b t ts a own fate stores data') l.0 l.1
+            let src : HasSources P (registers_of b) t ts = has_sources P (registers_of b) t ts (sound_from P ys (t ∷ ts) sound')
+            (still_from ys (t ∷ ts) still) (all_from IsNoRetiredStop ys (t ∷ ts) stops).1
+            (ap (λ c. c.registers) (ahead_stands b U r s ∙ before_ahead)) d.live in
+            let data' : t.second.value ≡ source_in (registers_of b) [] (second_of (instr P t)) = src.second ∙ ap (λ l. source_in (registers_of b) l (second_of (instr P t))) empty in
+            gone (store_left b t ts a own fate stores data') l
           where
             nil : (xs : List Station) → length xs ≡ 0 → xs ≡ []
             nil [] z = refl
@@ -460,19 +571,69 @@ pub retires_turn : (b later : Pipeline) (answer : Turn) → IsUnit b → Refused
 retires_turn b later answer h f can to = go (slice_get b.window 0) refl can to
   where
     go : (o : Option Station) → slice_get b.window 0 ≡ o → CanLeave (length b.committed.memory) o → RetiresTo b o answer later → Moves b answer later
-    go None e c l = λ U r s. subst (λ x. Moved b U x later) (sym l.0) (subst (Moved b U (Over BadPc)) (sym l.1) (nowhere_turn b h.room f.lets h.least e U r s))
+    go None e c l = λ U r s. subst (λ x. Moved b U x later) (sym l.0) (subst (Moved b U (Over BadPc)) (sym l.1) (nowhere_turn b f.none h.room f.lets h.least e U r s))
     go (Some w) e c l = leave b later answer w h f e c l
 
-pub retires_falls : (b later : Pipeline) (answer : Turn) → CanLeave (length b.committed.memory) (slice_get b.window 0) → RetiresTo b (slice_get b.window 0) answer later → Falls answer b later
-retires_falls b later answer can to = go (slice_get b.window 0) can to
+-- a first half that leaves finds nothing that waits
+first_alone : (b : Pipeline) (w : Station) → IsUnit b → b.over ≡ None → slice_get b.window 0 ≡ Some w → is_first_half w.instr.op w.half ≡ true → b.low ≡ None
+first_alone b w h none e q = go (found P U 0 w (ap (λ W. slice_get W 0) (sym h.stands.window) ∙ e))
   where
-    by : (w : Station) (g : Stage) → HasEnded (length b.committed.memory) w.instr g → LeavesTo b w g answer later → Falls answer b later
-    by w (Stops c) h l = subst (λ x. Falls x b later) (sym l.0) (ap (λ x. x.committed) l.1)
-    by w IsDone h l = subst (λ x. Falls x b later) (sym l.0) (ap (λ x. x.committed.count) l.1)
-    by w (HasAddr x) h l = subst (λ x. Falls x b later) (sym l.0) (ap (λ x. x.committed.count) l.1)
-    by w Opens h l = absurd h
-    by w (Misses x) h l = absurd h
+    P : Program
+    P = b.program.now
 
-    go : (o : Option Station) → CanLeave (length b.committed.memory) o → RetiresTo b o answer later → Falls answer b later
-    go None c l = subst (λ x. Falls x b later) (sym l.0) (ap (λ x. x.committed) l.1)
-    go (Some w) c l = by w w.stage c l
+    U : List Tenant
+    U = h.unit.tenants
+
+    sound' : IsSound P U
+    sound' = sound_of P (sizes b) h.unit h.reached
+
+    over' : AllByRecursion IsNoRetiredStop U × AreStill U
+    over' = subst (OverIs U) none h.stands.over
+
+    go : Found P U 0 w → b.low ≡ None
+    go d = h.stands.low ∙ before ∙ none_low (low_of P d.ts) waits
+      where
+        s : IsSound P (d.ys ++ d.t ∷ d.ts)
+        s = subst (IsSound P) d.split sound'
+
+        at : IsSound P (d.t ∷ d.ts)
+        at = sound_from P d.ys (d.t ∷ d.ts) s
+
+        stops : AllByRecursion IsNoRetiredStop (d.t ∷ d.ts)
+        stops = all_from IsNoRetiredStop d.ys (d.t ∷ d.ts) (subst (AllByRecursion IsNoRetiredStop) d.split over'.0)
+
+        is : is_first P d.t ≡ true
+        is = ap (λ x. is_first_half x.instr.op x.half) d.station ∙ q
+
+        before : low_of P U ≡ low_of P d.ts
+        before = ap (low_of P) d.split ∙ low_over P d.t d.t d.ts d.ys d.live s ∙ low_if P d.t d.ts false (live_commits d.t d.live)
+
+        waits : waiting_half (low_of P d.ts) ≡ Low
+        waits =
+            sym (half_worth P d.ts at.1 stops.1 ∙ ap (half_in (low_of P d.ts)) (nil (window P d.ts) (sym d.place)))
+            ∙ sym (at.0.placed (ap stands_on_path d.live)).half
+            ∙ first_low P d.t is
+          where
+            nil : (xs : List Station) → length xs ≡ 0 → xs ≡ []
+            nil [] z = refl
+            nil (x ∷ xs) z = absurd (omega (arith, z))
+
+pub retires_falls : (b later : Pipeline) (answer : Turn) → IsUnit b → b.over ≡ None →
+    CanLeave (length b.committed.memory) (slice_get b.window 0) → RetiresTo b (slice_get b.window 0) answer later →
+    Falls answer b later
+retires_falls b later answer unit none can to = go (slice_get b.window 0) refl can to
+  where
+    passes : (x : Bool) (w : Station) → slice_get b.window 0 ≡ Some w → is_first_half w.instr.op w.half ≡ x → PassesTo x b w answer later → Falls answer b later
+    passes true w e q l = subst (λ x. Falls x b later) (sym l.0) (ap (λ x. x.committed) l.1, first_alone b w unit none e q, ap (λ x. is_some x.low) l.1)
+    passes false w e q l = subst (λ x. Falls x b later) (sym l.0) (ap (λ x. x.committed.count) l.1)
+
+    by : (w : Station) → slice_get b.window 0 ≡ Some w → (g : Stage) → HasEnded (length b.committed.memory) w.instr g → LeavesTo b w g answer later → Falls answer b later
+    by w e (Stops c) h l = subst (λ x. Falls x b later) (sym l.0) (ap (λ x. x.committed) l.1)
+    by w e IsDone h l = passes (is_first_half w.instr.op w.half) w e refl l
+    by w e (HasAddr x) h l = passes (is_first_half w.instr.op w.half) w e refl l
+    by w e Opens h l = absurd h
+    by w e (Misses x) h l = absurd h
+
+    go : (o : Option Station) → slice_get b.window 0 ≡ o → CanLeave (length b.committed.memory) o → RetiresTo b o answer later → Falls answer b later
+    go None e c l = subst (λ x. Falls x b later) (sym l.0) (ap (λ x. x.committed) l.1)
+    go (Some w) e c l = by w e w.stage c l

@@ -1,5 +1,6 @@
 -- How a run ends.
-use Rattle.std.proofs.Common.{◌≡◌, ℕ, suc, ◌+◌, ◌-◌, ◌*◌, ◌^◌, ◌<◌, ◌≤◌, Some, refl, sym, ap, ◌∙◌, subst, arith, suc-mul}
+use Rattle.std.proofs.Common.{◌≡◌, ℕ, suc, ◌+◌, ◌-◌, ◌*◌, ◌^◌, ◌<◌, ◌≤◌, true, Option, Some, None, refl, sym, ap, ◌∙◌, subst, arith, mul-le-mul_right, suc-mul, true≢false}
+use Rattle.std.specs.Prelude.{is_some}
 use Rattle.isa.specs.Programs.{Program}
 use Rattle.isa.specs.declared.stop.Stop.{Stop}
 use Rattle.isa.specs.declared.end.Ending.TheVariants.{Stop as ByStop, Limit as ByLimit}
@@ -11,7 +12,7 @@ use Rattle.inorder.proofs.Follows.{in_order}
 use Rattle.unit_laws.specs.Moves.{IsReached}
 use Rattle.unit_laws.proofs.Sequences.{sound_of}
 use Rattle.unit.specs.declared.bench.Turn.{Turn}
-use Rattle.unit.specs.declared.bench.Turn.TheVariants.{Let, Loaded, Over, Ran, Recovered, Retired}
+use Rattle.unit.specs.declared.bench.Turn.TheVariants.{Halved, Let, Loaded, Over, Ran, Recovered, Retired}
 use Rattle.unit.specs.declared.pipeline.Pipeline.{Pipeline}
 use Rattle.unit.specs.StandsFor.{IsUnit, sizes}
 use Rattle.unit.specs.Turns.{Before, Falls, IsOver, IsSame, Moves, Now, Nowhere, rank}
@@ -27,10 +28,10 @@ state_is b h =
 over_stop : (P : Program) (C : Sizes) (U V : UpdateUnit) (c : Stop) → IsReached P C U → IsReached P C V → IsOver P C U V c → stop P (committed P V.tenants).count ≡ Some c
 over_stop P C U V c r q (Before s e) = (in_order P V.tenants (sound_of P C V q)).stops s.p s.tenant c s.is s.retired s.fate
 over_stop P C U V c r q (Now k s) = (in_order P V.tenants (sound_of P C V q)).stops s.p s.tenant c s.is s.retired s.fate
-over_stop P C U V c r q (Nowhere b l n e) =
+over_stop P C U V c r q (Nowhere b n e) =
     ap (λ W. stop P (committed P W.tenants).count) e
     ∙ ap (then_stop P) (in_order P U.tenants (sound_of P C U r)).state
-    ∙ ap (λ i. stop_of (fetched P (committed P U.tenants) i)) n
+    ∙ ap (λ i. stop_of (fetched P (committed P U.tenants) i)) n.no_instr
     ∙ ap Some (sym b)
 
 over_is : (b later : Pipeline) (c : Stop) → IsUnit b → Moves b (Over c) later → IsSame b later → stop b.program.now later.committed.count ≡ Some c
@@ -70,6 +71,7 @@ ends_same limit b later Recovered h l e q n f = ap (λ s. end_from b.program.now
 ends_same limit b later Let h l e q n f = ap (λ s. end_from b.program.now (limit - s.count) s) f.0
 ends_same limit b later Ran h l e q n f = ap (λ s. end_from b.program.now (limit - s.count) s) f.0
 ends_same limit b later Loaded h l e q n f = ap (λ s. end_from b.program.now (limit - s.count) s) f.0
+ends_same limit b later Halved h l e q n f = ap (λ s. end_from b.program.now (limit - s.count) s) f.0
 ends_same limit b later (Over c) h l e q n f = absurd (n c refl)
 ends_same limit b later Retired h l e q n f =
     let P = b.program.now in
@@ -91,16 +93,45 @@ ends_limit limit b h = let k : limit - b.committed.count ≡ 0 = omega (arith, h
 
 -- The measure of a run
 
+-- the retirements of the next instruction that are still to come, but for its last
+abbrev pub halves_left : Option ℕ → ℕ
+halves_left None = 1
+halves_left (Some v) = 0
+
+halves_most : (low : Option ℕ) → halves_left low ≤ 1
+halves_most None = omega arith
+halves_most (Some v) = omega arith
+
+halves_none : (low : Option ℕ) → is_some low ≡ true → halves_left low ≡ 0
+halves_none None e = absurd (true≢false (sym e))
+halves_none (Some v) e = refl
+
+abbrev pub retirements_left : ℕ → ℕ → Option ℕ → ℕ
+retirements_left limit count low = 2 * (limit - count) + halves_left low
+
 abbrev pub left : ℕ → Pipeline → ℕ
-left limit b = (limit - b.committed.count) * 7 ^ 32 + rank 32 b.window
+left limit b = retirements_left limit b.committed.count b.low * 7 ^ 32 + rank 32 b.window
+
+-- a turn that retires nothing
+turn_falls : (limit : ℕ) (b later : Pipeline) → later.committed ≡ b.committed → later.low ≡ b.low → rank 32 later.window < rank 32 b.window → left limit later < left limit b
+turn_falls limit b later c l r =
+    let e : retirements_left limit later.committed.count later.low * 7 ^ 32 ≡ retirements_left limit b.committed.count b.low * 7 ^ 32 = ap
+    (λ s. retirements_left limit s.count later.low * 7 ^ 32) c ∙ ap (λ x. retirements_left limit b.committed.count x * 7 ^ 32) l in
+    omega (arith, e, r)
+
+-- one that does
+retirement_falls : (limit : ℕ) (b later : Pipeline) → suc (retirements_left limit later.committed.count later.low) ≤ retirements_left limit b.committed.count b.low → left limit later < left limit b
+retirement_falls limit b later less =
+    let m = mul-le-mul_right (7 ^ 32) less in
+    omega (arith, m, suc-mul (retirements_left limit later.committed.count later.low) (7 ^ 32), rank_bound 32 later.window)
 
 pub left_falls : (limit : ℕ) (b later : Pipeline) (answer : Turn) → b.committed.count < limit → ((c : Stop) → answer ≡ Over c → ⊥) → Falls answer b later → left limit later < left limit b
-left_falls limit b later Recovered h n f = let e = ap (λ s. (limit - s.count) * 7 ^ 32) f.0 in omega (arith, e, f.1)
-left_falls limit b later Let h n f = let e = ap (λ s. (limit - s.count) * 7 ^ 32) f.0 in omega (arith, e, f.1)
-left_falls limit b later Ran h n f = let e = ap (λ s. (limit - s.count) * 7 ^ 32) f.0 in omega (arith, e, f.1)
-left_falls limit b later Loaded h n f = let e = ap (λ s. (limit - s.count) * 7 ^ 32) f.0 in omega (arith, e, f.1)
+left_falls limit b later Recovered h n f = turn_falls limit b later f.0 f.1 f.2
+left_falls limit b later Let h n f = turn_falls limit b later f.0 f.1 f.2
+left_falls limit b later Ran h n f = turn_falls limit b later f.0 f.1 f.2
+left_falls limit b later Loaded h n f = turn_falls limit b later f.0 f.1 f.2
+left_falls limit b later Halved h n f =
+    retirement_falls limit b later (omega (arith, ap (λ s. s.count) f.0, ap halves_left f.1, halves_none later.low f.2))
 left_falls limit b later Retired h n f =
-    let e : limit - b.committed.count ≡ suc (limit - later.committed.count) = omega (arith, h, f) in
-    let m = ap (λ x. x * 7 ^ 32) e ∙ suc-mul (limit - later.committed.count) (7 ^ 32) in
-    omega (arith, m, rank_bound 32 later.window)
+    retirement_falls limit b later (omega (arith, h, f, halves_most later.low))
 left_falls limit b later (Over c) h n f = absurd (n c refl)

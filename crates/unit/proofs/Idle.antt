@@ -1,12 +1,14 @@
 -- A stage that finds nothing to do changes at most what is remembered.
-use Rattle.std.proofs.Common.{◌≡◌, ◌<◌, ℕ, Bool, List, length, Option, Some, None, refl, sym, ap, ◌∙◌, subst}
+use Rattle.std.proofs.Common.{◌≡◌, ◌<◌, ℕ, Bool, true, false, List, length, Option, Some, None, refl, sym, ap, ◌∙◌, subst}
 use Rattle.std.specs.Prelude.{slice_get}
+use Rattle.isa.specs.Instruction.{is_first_half}
 use Rattle.unit.specs.declared.bench.Turn.{Turn}
 use Rattle.unit.specs.declared.bench.Turn.TheVariants.{Loaded, Ran}
 use Rattle.unit.specs.declared.pipeline.Pipeline.{Pipeline}
 use Rattle.unit.specs.declared.station.Station.{Station}
+use Rattle.unit.specs.Changes.{registers_of}
 use Rattle.unit.specs.Givers.{NoneGives}
-use Rattle.unit.specs.Leaves.{CanLeave, RetiresTo}
+use Rattle.unit.specs.Leaves.{CanLeave, PassesTo, RetiresTo}
 use Rattle.unit.specs.Loads.{load_in}
 use Rattle.unit.specs.Notes.{AreNoted, miss_in}
 use Rattle.unit.specs.Stages.{CannotLet, LoadsTo, RunsTo}
@@ -32,9 +34,13 @@ pub record Idle (b b' : Pipeline) : Type 0 where
   pub none : b'.over ≡ None
   pub miss : NoneGives miss_in b'.window
   pub lets : CannotLet b'.program.now b'.ring b'.queue b'.committed.pc b'.window
-  pub ready : NoneGives (operands_in b'.committed.registers) b'.window
+  pub ready : NoneGives (operands_in (registers_of b')) b'.window
 
-pub idle : (b b' : Pipeline) → IsUnit b → b.over ≡ None → NoneGives miss_in b.window → CannotLet b.program.now b.ring b.queue b.committed.pc b.window → NoneGives (operands_in b.committed.registers) b.window → b'.window ≡ b.window → b' ≡ record b { window = b'.window; missed = b'.missed; settled = b'.settled } → AreNoted b'.missed b'.settled b'.window → Idle b b'
+pub idle : (b b' : Pipeline) → IsUnit b → b.over ≡ None → NoneGives miss_in b.window →
+    CannotLet b.program.now b.ring b.queue b.committed.pc b.window →
+    NoneGives (operands_in (registers_of b)) b.window → b'.window ≡ b.window →
+    b' ≡ record b { window = b'.window; missed = b'.missed; settled = b'.settled } →
+    AreNoted b'.missed b'.settled b'.window → Idle b b'
 idle b b' h none miss lets ready same rest noted =
     record {
       is = is;
@@ -42,7 +48,7 @@ idle b b' h none miss lets ready same rest noted =
       none = subst (λ x. x.over ≡ None) (sym is) none;
       miss = subst (λ x. NoneGives miss_in x.window) (sym is) miss;
       lets = subst (λ x. CannotLet x.program.now x.ring x.queue x.committed.pc x.window) (sym is) lets;
-      ready = subst (λ x. NoneGives (operands_in x.committed.registers) x.window) (sym is) ready;
+      ready = subst (λ x. NoneGives (operands_in (registers_of x)) x.window) (sym is) ready;
     }
   where
     is : b' ≡ record b { missed = b'.missed; settled = b'.settled }
@@ -53,11 +59,12 @@ idle b b' h none miss lets ready same rest noted =
         record {
           unit = h.unit;
           reached = h.reached;
-          stands = record { window = h.stands.window; committed = h.stands.committed; leavers = h.stands.leavers; over = h.stands.over };
+          stands = record { window = h.stands.window; committed = h.stands.committed; leavers = h.stands.leavers; over = h.stands.over; low = h.stands.low; oldest = h.stands.oldest };
           room = h.room;
           ring = h.ring;
           least = h.least;
           leavers = h.leavers;
+          oldest = h.oldest;
           noted = subst (AreNoted b'.missed b'.settled) same noted;
         }
 
@@ -73,13 +80,17 @@ pub record Shows (b : Pipeline) (answer : Turn) (later : Pipeline) : Type 0 wher
 
 -- Ran
 
-pub ran_shows : (b later : Pipeline) → IsUnit b → b.over ≡ None → NoneGives miss_in b.window → CannotLet b.program.now b.ring b.queue b.committed.pc b.window → RunsTo b.committed.registers (length b.program.now.bytes) b.window later.window → later ≡ record b { window = later.window; missed = later.missed; settled = later.settled } → AreNoted later.missed later.settled later.window → Shows b Ran later
+pub ran_shows : (b later : Pipeline) → IsUnit b → b.over ≡ None → NoneGives miss_in b.window →
+    CannotLet b.program.now b.ring b.queue b.committed.pc b.window →
+    RunsTo (registers_of b) (length b.program.now.bytes) b.window later.window →
+    later ≡ record b { window = later.window; missed = later.missed; settled = later.settled } →
+    AreNoted later.missed later.settled later.window → Shows b Ran later
 ran_shows b later h none miss lets to rest noted =
     let turn = ran_turn b later none miss lets to rest in
     let same = same_rest b later later.window later.missed later.settled rest in
     record {
       turn = turn;
-      falls = (ap (λ x. x.committed) rest, run_falls b.committed.registers (length b.program.now.bytes) b.window later.window (window_room b h) to);
+      falls = (ap (λ x. x.committed) rest, ap (λ x. x.low) rest, run_falls (registers_of b) (length b.program.now.bytes) b.window later.window (window_room b h) to);
       unit = unit_next b later Ran h turn same (ap (λ x. length x.leavers) rest ∙ h.leavers) noted;
       same = same;
     }
@@ -92,33 +103,41 @@ full_rest b later e =
     ∙ ap (λ m. record b { window = later.window; missed = m }) (sym (ap (λ x. x.missed) e))
     ∙ ap (λ n. record b { window = later.window; missed = later.missed; settled = n }) (sym (ap (λ x. x.settled) e))
 
-pub loaded_shows : (b b' later : Pipeline) → Idle b b' → LoadsTo b'.committed.registers b'.committed.memory b'.window later.window → later ≡ record b' { window = later.window } → AreNoted later.missed later.settled later.window → Shows b Loaded later
+pub loaded_shows : (b b' later : Pipeline) → Idle b b' →
+    LoadsTo (registers_of b') b'.committed.memory b'.window later.window →
+    later ≡ record b' { window = later.window } → AreNoted later.missed later.settled later.window →
+    Shows b Loaded later
 loaded_shows b b' later i to e noted =
     let rest = full_rest b' later e in
     let turn = loaded_turn b' later i.none i.miss i.lets i.ready to rest in
     let same = same_rest b' later later.window later.missed later.settled rest in
-    let less = load_falls b'.committed.registers b'.committed.memory b'.window later.window (window_room b' i.unit) to in
+    let less = load_falls (registers_of b') b'.committed.memory b'.window later.window (window_room b' i.unit) to in
     record {
       turn = moves_from b b' b'.missed b'.settled Loaded later i.is turn;
-      falls = (ap (λ x. x.committed) rest ∙ ap (λ x. x.committed) i.is, subst (λ W. rank 32 later.window < rank 32 W) (ap (λ x. x.window) i.is) less);
+      falls = (ap (λ x. x.committed) rest ∙ ap (λ x. x.committed) i.is, ap (λ x. x.low) rest ∙ ap (λ x. x.low) i.is, subst (λ W. rank 32 later.window < rank 32 W) (ap (λ x. x.window) i.is) less);
       unit = unit_next b' later Loaded i.unit turn same (ap (λ x. length x.leavers) rest ∙ i.unit.leavers) noted;
       same = same_both b b' later (idle_same b b' i) same;
     }
 
 -- Retired and Over
 
-pub refused : (b b' : Pipeline) → Idle b b' → NoneGives (load_in b'.committed.registers b'.committed.memory) b'.window → Refused b'
+pub refused : (b b' : Pipeline) → Idle b b' → NoneGives (load_in (registers_of b') b'.committed.memory) b'.window → Refused b'
 refused b b' i l = record { none = i.none; miss = i.miss; lets = i.lets; ready = i.ready; loads = l }
 
 falls_from : (answer : Turn) (b b' later : Pipeline) → Idle b b' → Falls answer b' later → Falls answer b later
-falls_from Rattle.unit.specs.declared.bench.Turn.TheVariants.Recovered b b' later i f = (f.0 ∙ ap (λ x. x.committed) i.is, subst (λ W. rank 32 later.window < rank 32 W) (ap (λ x. x.window) i.is) f.1)
-falls_from Rattle.unit.specs.declared.bench.Turn.TheVariants.Let b b' later i f = (f.0 ∙ ap (λ x. x.committed) i.is, subst (λ W. rank 32 later.window < rank 32 W) (ap (λ x. x.window) i.is) f.1)
-falls_from Ran b b' later i f = (f.0 ∙ ap (λ x. x.committed) i.is, subst (λ W. rank 32 later.window < rank 32 W) (ap (λ x. x.window) i.is) f.1)
-falls_from Loaded b b' later i f = (f.0 ∙ ap (λ x. x.committed) i.is, subst (λ W. rank 32 later.window < rank 32 W) (ap (λ x. x.window) i.is) f.1)
+falls_from Rattle.unit.specs.declared.bench.Turn.TheVariants.Recovered b b' later i f =
+    (f.0 ∙ ap (λ x. x.committed) i.is, f.1 ∙ ap (λ x. x.low) i.is, subst (λ W. rank 32 later.window < rank 32 W) (ap (λ x. x.window) i.is) f.2)
+falls_from Rattle.unit.specs.declared.bench.Turn.TheVariants.Let b b' later i f =
+    (f.0 ∙ ap (λ x. x.committed) i.is, f.1 ∙ ap (λ x. x.low) i.is, subst (λ W. rank 32 later.window < rank 32 W) (ap (λ x. x.window) i.is) f.2)
+falls_from Ran b b' later i f = (f.0 ∙ ap (λ x. x.committed) i.is, f.1 ∙ ap (λ x. x.low) i.is, subst (λ W. rank 32 later.window < rank 32 W) (ap (λ x. x.window) i.is) f.2)
+falls_from Loaded b b' later i f = (f.0 ∙ ap (λ x. x.committed) i.is, f.1 ∙ ap (λ x. x.low) i.is, subst (λ W. rank 32 later.window < rank 32 W) (ap (λ x. x.window) i.is) f.2)
+falls_from Rattle.unit.specs.declared.bench.Turn.TheVariants.Halved b b' later i f = (f.0 ∙ ap (λ x. x.committed) i.is, sym (ap (λ x. x.low) i.is) ∙ f.1, f.2)
 falls_from Rattle.unit.specs.declared.bench.Turn.TheVariants.Retired b b' later i f = f ∙ ap (λ x. Rattle.std.proofs.Common.suc x.committed.count) i.is
 falls_from (Rattle.unit.specs.declared.bench.Turn.TheVariants.Over c) b b' later i f = f ∙ ap (λ x. x.committed) i.is
 
-pub retired_shows : (b b' later : Pipeline) (answer : Turn) → Idle b b' → NoneGives (load_in b'.committed.registers b'.committed.memory) b'.window → RetiresTo b' (slice_get b'.window 0) answer later → Shows b answer later
+pub retired_shows : (b b' later : Pipeline) (answer : Turn) → Idle b b' →
+    NoneGives (load_in (registers_of b') b'.committed.memory) b'.window →
+    RetiresTo b' (slice_get b'.window 0) answer later → Shows b answer later
 retired_shows b b' later answer i l to =
     let f = refused b b' i l in
     let can = can_leave b' i.unit f in
@@ -126,24 +145,28 @@ retired_shows b b' later answer i l to =
     let kept = retires_keeps b' later answer i.unit.noted to in
     record {
       turn = moves_from b b' b'.missed b'.settled answer later i.is turn;
-      falls = falls_from answer b b' later i (retires_falls b' later answer can to);
+      falls = falls_from answer b b' later i (retires_falls b' later answer i.unit i.none can to);
       unit = unit_next b' later answer i.unit turn kept.same (kept.leavers ∙ i.unit.leavers) kept.noted;
       same = same_both b b' later (idle_same b b' i) kept.same;
     }
 
-pub leaves_after : (b b' : Pipeline) → Idle b b' → NoneGives (load_in b'.committed.registers b'.committed.memory) b'.window → CanLeave (length b'.committed.memory) (slice_get b'.window 0)
+pub leaves_after : (b b' : Pipeline) → Idle b b' → NoneGives (load_in (registers_of b') b'.committed.memory) b'.window → CanLeave (length b'.committed.memory) (slice_get b'.window 0)
 leaves_after b b' i l = can_leave b' i.unit (refused b b' i l)
 
 -- a retirement is no let
 pub retired_plain : (b later : Pipeline) (answer : Turn) → CanLeave (length b.committed.memory) (slice_get b.window 0) → RetiresTo b (slice_get b.window 0) answer later → IsPlain answer
 retired_plain b later answer can to = go (slice_get b.window 0) to
   where
+    passes : (f : Bool) (w : Station) → PassesTo f b w answer later → IsPlain answer
+    passes true w l = subst IsPlain (sym l.0) tt
+    passes false w l = subst IsPlain (sym l.0) tt
+
     by : (w : Station) (g : Rattle.unit.specs.declared.station.Stage.Stage) → Rattle.unit.specs.Leaves.LeavesTo b w g answer later → IsPlain answer
     by w (Rattle.unit.specs.declared.station.Stage.TheVariants.Stops c) l = subst IsPlain (sym l.0) tt
-    by w Rattle.unit.specs.declared.station.Stage.TheVariants.Done l = subst IsPlain (sym l.0) tt
-    by w (Rattle.unit.specs.declared.station.Stage.TheVariants.Addr a) l = subst IsPlain (sym l.0) tt
-    by w Rattle.unit.specs.declared.station.Stage.TheVariants.Open l = subst IsPlain (sym l.0) tt
-    by w (Rattle.unit.specs.declared.station.Stage.TheVariants.Miss x) l = subst IsPlain (sym l.0) tt
+    by w Rattle.unit.specs.declared.station.Stage.TheVariants.Done l = passes (is_first_half w.instr.op w.half) w l
+    by w (Rattle.unit.specs.declared.station.Stage.TheVariants.Addr a) l = passes (is_first_half w.instr.op w.half) w l
+    by w Rattle.unit.specs.declared.station.Stage.TheVariants.Open l = passes (is_first_half w.instr.op w.half) w l
+    by w (Rattle.unit.specs.declared.station.Stage.TheVariants.Miss x) l = passes (is_first_half w.instr.op w.half) w l
 
     go : (o : Option Station) → RetiresTo b o answer later → IsPlain answer
     go None l = subst IsPlain (sym l.0) tt

@@ -2,8 +2,9 @@
 use Rattle.std.proofs.Common.{◌≡◌, ◌≢◌, ◌⊎◌, ℕ, zero, suc, ◌<◌, Bool, true, false, cond, eqb, List, [], ◌∷◌, ◌++◌, length, Option, Some, None, refl, sym, ap, ◌∙◌, subst, inl, inr, ⊎_elim, arith, eq-eqb, ne_eqb, eqb-true, true≢false}
 use Rattle.std.specs.Prelude.{slice_get, slice_set}
 use Rattle.std.specs.List.{AllByRecursion}
-use Rattle.isa.specs.Instruction.{fixed_next, fixed_next_by, kind}
+use Rattle.isa.specs.Instruction.{fixed_next, fixed_next_by, fixed_next_if, is_first_half, kind}
 use Rattle.isa.specs.Programs.{Program, instr_of}
+use Rattle.isa.specs.declared.instr.Instr.{Instr}
 use Rattle.isa.specs.declared.op.Kind.{Kind}
 use Rattle.isa.specs.declared.op.Kind.TheVariants.{Jumps, Links, Stores}
 use Rattle.isa.specs.declared.op.Op.{Op}
@@ -18,17 +19,18 @@ use Rattle.unit.specs.declared.leaver.Leaver.{Leaver}
 use Rattle.unit.specs.Leavers.{leaver, leaver_by, told_by, told_of}
 
 pub told_live : (P : Program) (t : Tenant) → t.standing ≡ Live → told_of P t ≡ None
-told_live P t e = ap (λ s. told_by s t.fate (fixed_next (instr P t) t.pc) t.pc) e
+told_live P t e = ap (λ s. told_by s t.fate (fixed_next (instr P t) t.half t.pc) t.pc) e
 
 told_squashed : (P : Program) (t : Tenant) → t.standing ≡ Squashed → told_of P t ≡ None
-told_squashed P t e = ap (λ s. told_by s t.fate (fixed_next (instr P t) t.pc) t.pc) e
+told_squashed P t e = ap (λ s. told_by s t.fate (fixed_next (instr P t) t.half t.pc) t.pc) e
 
 told_alike : (P : Program) (t u : Tenant) → IsAlike t u → told_of P u ≡ told_of P t
 told_alike P t u a =
-    ap (λ s. told_by s u.fate (fixed_next (instr_of P u.index) u.pc) u.pc) a.standing
-    ∙ ap (λ f. told_by t.standing f (fixed_next (instr_of P u.index) u.pc) u.pc) a.fate
-    ∙ ap (λ i. told_by t.standing t.fate (fixed_next (instr_of P i) u.pc) u.pc) a.index
-    ∙ ap (λ p. told_by t.standing t.fate (fixed_next (instr_of P t.index) p) p) a.pc
+    ap (λ s. told_by s u.fate (fixed_next (instr_of P u.index) u.half u.pc) u.pc) a.standing
+    ∙ ap (λ f. told_by t.standing f (fixed_next (instr_of P u.index) u.half u.pc) u.pc) a.fate
+    ∙ ap (λ i. told_by t.standing t.fate (fixed_next (instr_of P i) u.half u.pc) u.pc) a.index
+    ∙ ap (λ h. told_by t.standing t.fate (fixed_next (instr_of P t.index) h u.pc) u.pc) a.half
+    ∙ ap (λ p. told_by t.standing t.fate (fixed_next (instr_of P t.index) t.half p) p) a.pc
 
 pub leaver_alike : (P : Program) (s : ℕ) (ts us : List Tenant) → AreAlike ts us → leaver P us s ≡ leaver P ts s
 leaver_alike P s [] [] a = refl
@@ -126,6 +128,10 @@ asked_jumps Bltz pc n e = inl refl
 asked_jumps Bgez pc n e = inl refl
 asked_jumps _ pc n e = absurd (cc)
 
+asked_half : (b : Bool) (i : Instr) (pc : ℕ) → fixed_next_if b i pc ≡ None → (kind i.op ≡ Jumps) ⊎ (kind i.op ≡ Links)
+asked_half true i pc e = absurd (cc)
+asked_half false i pc e = asked_jumps i.op pc i.number e
+
 done_next : (k : Kind) (o : Outcome) (pc next v : ℕ) (made : Option ℕ) → (k ≡ Jumps) ⊎ (k ≡ Links) → DoneBy o pc next made v k → next ≡ v
 done_next k o pc next v made j d =
     ⊎_elim
@@ -133,16 +139,16 @@ done_next k o pc next v made j d =
     (λ e. let x : DoneBy o pc next made v Links = subst (DoneBy o pc next made v) e d in x.1)
     j
 
-pub told_done : (P : Program) (t : Tenant) (o : Outcome) (v : ℕ) → DoneBy o t.pc t.next t.made v (kind_of P t) → leaver_by (fixed_next (instr P t) t.pc) t.pc v ≡ leaver_by (fixed_next (instr P t) t.pc) t.pc t.next
-told_done P t o v d = go (fixed_next (instr P t) t.pc) refl
+pub told_done : (P : Program) (t : Tenant) (o : Outcome) (v : ℕ) → DoneBy o t.pc t.next t.made v (kind_of P t) → leaver_by (fixed_next (instr P t) t.half t.pc) t.pc v ≡ leaver_by (fixed_next (instr P t) t.half t.pc) t.pc t.next
+told_done P t o v d = go (fixed_next (instr P t) t.half t.pc) refl
   where
-    go : (f : Option ℕ) → fixed_next (instr P t) t.pc ≡ f → leaver_by (fixed_next (instr P t) t.pc) t.pc v ≡ leaver_by (fixed_next (instr P t) t.pc) t.pc t.next
+    go : (f : Option ℕ) → fixed_next (instr P t) t.half t.pc ≡ f → leaver_by (fixed_next (instr P t) t.half t.pc) t.pc v ≡ leaver_by (fixed_next (instr P t) t.half t.pc) t.pc t.next
     go (Some x) e = rw e refl
-    go None e = ap (leaver_by (fixed_next (instr P t) t.pc) t.pc) (sym (done_next (kind_of P t) o t.pc t.next v t.made (asked_jumps (instr P t).op t.pc (instr P t).number e) d))
+    go None e = ap (leaver_by (fixed_next (instr P t) t.half t.pc) t.pc) (sym (done_next (kind_of P t) o t.pc t.next v t.made (asked_half (is_first_half (instr P t).op t.half) (instr P t) t.pc e) d))
 
-pub told_store : (P : Program) (t : Tenant) → kind_of P t ≡ Stores → leaver_by (fixed_next (instr P t) t.pc) t.pc t.next ≡ None
-told_store P t k = go (fixed_next (instr P t) t.pc) refl
+pub told_store : (P : Program) (t : Tenant) → kind_of P t ≡ Stores → leaver_by (fixed_next (instr P t) t.half t.pc) t.pc t.next ≡ None
+told_store P t k = go (fixed_next (instr P t) t.half t.pc) refl
   where
-    go : (f : Option ℕ) → fixed_next (instr P t) t.pc ≡ f → leaver_by (fixed_next (instr P t) t.pc) t.pc t.next ≡ None
+    go : (f : Option ℕ) → fixed_next (instr P t) t.half t.pc ≡ f → leaver_by (fixed_next (instr P t) t.half t.pc) t.pc t.next ≡ None
     go (Some x) e = rw e refl
-    go None e = ⊎_elim (λ q. let no : Stores ≡ Jumps = sym k ∙ q in absurd (cc)) (λ q. let no : Stores ≡ Links = sym k ∙ q in absurd (cc)) (asked_jumps (instr P t).op t.pc (instr P t).number e)
+    go None e = ⊎_elim (λ q. let no : Stores ≡ Jumps = sym k ∙ q in absurd (cc)) (λ q. let no : Stores ≡ Links = sym k ∙ q in absurd (cc)) (asked_half (is_first_half (instr P t).op t.half) (instr P t) t.pc e)

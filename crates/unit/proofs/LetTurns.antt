@@ -6,11 +6,12 @@ use Rattle.isa.specs.Instruction.{fixed_next, kind}
 use Rattle.isa.specs.Programs.{Program, instr_of}
 use Rattle.inorder.specs.declared.history.Step.{Step}
 use Rattle.inorder.specs.declared.history.Step.TheVariants.{Let as LetStep}
+use Rattle.inorder.specs.Callers.{is_retired}
 use Rattle.inorder.specs.Committed.{committed}
 use Rattle.inorder.specs.Laws.{IsNoRetire}
 use Rattle.inorder.specs.Steps.{IsNoRetiredStop, new_tenant}
-use Rattle.inorder.specs.Tenants.{Live, Retired, Tenant, is_access}
-use Rattle.inorder.specs.Unit.{Sizes, UpdateUnit, front_pc, next_station}
+use Rattle.inorder.specs.Tenants.{Live, Retired, Tenant, instr, is_access}
+use Rattle.inorder.specs.Unit.{Sizes, UpdateUnit, front_half, front_pc, how_many, next_station}
 use Rattle.inorder.proofs.Sound.{IsSound}
 use Rattle.unit_laws.specs.Moves.{IsLink, IsReached, with_tenants}
 use Rattle.unit_laws.specs.Still.{AreStill}
@@ -25,12 +26,14 @@ use Rattle.unit.specs.Notes.{miss_in}
 use Rattle.unit.specs.Stages.{CanLet}
 use Rattle.unit.specs.StandsFor.{OverIs, StandsFor, sizes}
 use Rattle.unit.specs.Turns.{Lets}
-use Rattle.unit.specs.Window.{let_at, next_in, station_of, window}
+use Rattle.unit.specs.Window.{half_in, let_at, next_in, station_of, window}
+use Rattle.unit.proofs.Waiting.{same_live}
 use Rattle.unit.proofs.Found.{station_alike}
 use Rattle.unit.proofs.Leavers.{leavers_set, told_live}
+use Rattle.unit.proofs.Ring.{mod_first}
 use Rattle.unit.proofs.Tests.{no_miss}
 use Rattle.unit.proofs.Turns.{none_in}
-use Rattle.unit.proofs.Windows.{front_worth, path_length, window_accesses, window_length, window_live}
+use Rattle.unit.proofs.Windows.{front_worth, half_worth, path_length, window_accesses, window_length, window_live}
 
 -- A let, and what it says to the predictor
 pub record LetTurned (b : Pipeline) (U : UpdateUnit) (f : Fetched) (guess : ℕ) (later : Pipeline) : Type 0 where
@@ -38,13 +41,22 @@ pub record LetTurned (b : Pipeline) (U : UpdateUnit) (f : Fetched) (guess : ℕ)
   pub reached : IsReached b.program.now (sizes b) unit
   pub stands : StandsFor later unit
   pub does : Lets b.program.now (sizes b) U unit
-  pub instr : instr_of b.program.now does.index ≡ f.instr
-  pub front : front_pc U.tenants ≡ f.pc
-  pub predicted : does.predicted ≡ guess
-  pub station : next_station (sizes b) U.tenants ≡ (b.committed.count + length b.window) % b.ring
-  pub leaver : slice_get b.leavers ((b.committed.count + length b.window) % b.ring) ≡ Some (leaver b.program.now U.tenants (next_station (sizes b) U.tenants))
+  pub tenant : Tenant
+  pub joins : unit.tenants ≡ tenant ∷ U.tenants
+  pub instr : instr b.program.now tenant ≡ f.instr
+  pub half : tenant.half ≡ f.half
+  pub pc : tenant.pc ≡ f.pc
+  pub predicted : tenant.predicted ≡ guess
+  pub leaver : slice_get b.leavers ((b.oldest + length b.window) % b.ring) ≡ Some (leaver b.program.now U.tenants tenant.station)
 
-pub let_turn : (b later : Pipeline) (f : Fetched) (guess : ℕ) (place : ℕ) → b.over ≡ None → 0 < b.ring → b.ring ≤ 32 → length b.leavers ≡ 32 → NoneGives miss_in b.window → CanLet b.program.now b.ring b.queue b.committed.pc b.window f → guess < 2 ^ 32 → IfSome (fixed_next f.instr f.pc) (λ x. guess ≡ x) → place ≡ (b.committed.count + length b.window) % b.ring → place < b.ring → later.window ≡ b.window ++ let_at f.instr f.pc guess ∷ [] → later.leavers ≡ slice_set b.leavers place None → later ≡ record b { window = later.window; leavers = later.leavers } → (U : UpdateUnit) → IsReached b.program.now (sizes b) U → StandsFor b U → LetTurned b U f guess later
+pub let_turn : (b later : Pipeline) (f : Fetched) (guess : ℕ) (place : ℕ) → b.over ≡ None → 0 < b.ring → b.ring ≤ 32 →
+    length b.leavers ≡ 32 → NoneGives miss_in b.window →
+    CanLet b.program.now b.ring b.queue b.committed.pc b.low b.window f → guess < 2 ^ 32 →
+    IfSome (fixed_next f.instr f.half f.pc) (λ x. guess ≡ x) → place ≡ (b.oldest + length b.window) % b.ring →
+    place < b.ring → later.window ≡ b.window ++ let_at f.instr f.half f.pc guess ∷ [] →
+    later.leavers ≡ slice_set b.leavers place None →
+    later ≡ record b { window = later.window; leavers = later.leavers } → (U : UpdateUnit) →
+    IsReached b.program.now (sizes b) U → StandsFor b U → LetTurned b U f guess later
 let_turn b later f pr place none room most long nm to small predicts pe pl wl ll rest U r s = subst (LetTurned b U f pr) (sym rest) (go (found_at P f.pc f.instr to.is))
   where
     P : Program
@@ -72,9 +84,19 @@ let_turn b later f pr place none room most long nm to small predicts pe pl wl ll
         ∙ ap (next_in b.committed.pc) (sym s.window)
         ∙ sym to.place
 
+    half : front_half P ts ≡ f.half
+    half =
+        half_worth P ts sound' over.0
+        ∙ ap (λ l. half_in l (window P ts)) (sym s.low)
+        ∙ ap (half_in b.low) (sym s.window)
+        ∙ sym to.half
+
     station : next_station C ts ≡ place
     station =
-        ap (λ n. n % b.ring) (path_length P ts over.0 ∙ ap (λ c. c.count + length (window P ts)) (sym s.committed) ∙ ap (λ l. b.committed.count + length l) (sym s.window))
+        ap (λ n. n % b.ring) (path_length P ts)
+        ∙ sym (mod_first (how_many is_retired ts) (length (window P ts)) b.ring)
+        ∙ ap (λ n. (n + length (window P ts)) % b.ring) (sym s.oldest)
+        ∙ ap (λ l. (b.oldest + length l) % b.ring) (sym s.window)
         ∙ sym pe
 
     go : IsAt P f.pc f.instr → LetTurned b U f pr now
@@ -88,7 +110,8 @@ let_turn b later f pr place none room most long nm to small predicts pe pl wl ll
               is_there = a.inside;
               pc = front ∙ a.pc;
               small = small;
-              predicts = subst (λ i. IfSome (fixed_next i (front_pc ts)) (λ x. pr ≡ x)) (sym a.is) (subst (λ p. IfSome (fixed_next f.instr p) (λ x. pr ≡ x)) (sym front) predicts);
+              predicts = subst (λ i. IfSome (fixed_next i (front_half P ts) (front_pc ts)) (λ x. pr ≡ x)) (sym a.is)
+                  (subst (λ h. IfSome (fixed_next f.instr h (front_pc ts)) (λ x. pr ≡ x)) (sym half) (subst (λ p. IfSome (fixed_next f.instr f.half p) (λ x. pr ≡ x)) (sym front) predicts));
             }
 
         with : LetRun P C 0 U a.index pr → LetTurned b U f pr now
@@ -101,13 +124,17 @@ let_turn b later f pr place none room most long nm to small predicts pe pl wl ll
                 committed = s.committed ∙ sym same;
                 leavers = subst (λ l. (n : ℕ) → n < b.ring → slice_get l n ≡ Some (leaver P V.tenants n)) (sym ll) (leavers_set b.leavers P ts V.tenants place b.ring None (omega (arith, pl, most, long)) s.leavers tells);
                 over = subst (OverIs V.tenants) (sym none) ((no_stop, over.0), ((k.first_still, k.second_still, free), over.1));
+                low = s.low ∙ sym (same_live P k.tenant ts live).low;
+                oldest = s.oldest ∙ ap (λ n. n % b.ring) (sym (same_live P k.tenant ts live).retired);
               };
-              does = record { no_miss = no_miss P ts (none_in miss_in P b.window ts s.window nm); index = a.index; predicted = pr; first = k.first; second = k.second; links = k.links; are = k.are; leads = k.leads };
-              instr = a.is;
-              front = front;
-              predicted = refl;
-              station = station ∙ pe;
-              leaver = ap (slice_get b.leavers) (sym pe) ∙ s.leavers place pl ∙ ap (λ n. Some (leaver P ts n)) (sym station);
+              does = record { goes_on = over.0; no_miss = no_miss P ts (none_in miss_in P b.window ts s.window nm); index = a.index; predicted = pr; first = k.first; second = k.second; links = k.links; are = k.are; leads = k.leads };
+              tenant = k.tenant;
+              joins = refl;
+              instr = ap (instr_of P) k.alike.index ∙ a.is;
+              half = k.alike.half ∙ half;
+              pc = k.alike.pc ∙ front;
+              predicted = k.alike.predicted;
+              leaver = ap (slice_get b.leavers) (sym pe) ∙ s.leavers place pl ∙ ap (λ n. Some (leaver P ts n)) (sym (k.alike.station ∙ station));
             }
           where
             V : UpdateUnit
@@ -131,11 +158,12 @@ let_turn b later f pr place none room most long nm to small predicts pe pl wl ll
             tells : (n : ℕ) → leaver P V.tenants n ≡ cond (eqb place n) None (leaver P ts n)
             tells n = ap (λ x. cond (eqb x n) (told_of P k.tenant) (leaver P ts n)) (k.alike.station ∙ station) ∙ ap (λ o. cond (eqb place n) o (leaver P ts n)) (told_live P k.tenant live)
 
-            letted : station_of P k.tenant ≡ let_at f.instr f.pc pr
+            letted : station_of P k.tenant ≡ let_at f.instr f.half f.pc pr
             letted =
                 station_alike P (new_tenant P C U a.index pr k.first k.second) k.tenant k.alike
-                ∙ ap (λ i. let_at i (front_pc ts) pr) a.is
-                ∙ ap (λ p. let_at f.instr p pr) front
+                ∙ ap (λ i. let_at i (front_half P ts) (front_pc ts) pr) a.is
+                ∙ ap (λ h. let_at f.instr h (front_pc ts) pr) half
+                ∙ ap (λ p. let_at f.instr f.half p pr) front
 
             shown : later.window ≡ window P V.tenants
-            shown = wl ∙ ap (λ l. l ++ let_at f.instr f.pc pr ∷ []) s.window ∙ ap (λ w. window P ts ++ w ∷ []) (sym letted) ∙ sym (window_live P k.tenant ts live)
+            shown = wl ∙ ap (λ l. l ++ let_at f.instr f.half f.pc pr ∷ []) s.window ∙ ap (λ w. window P ts ++ w ∷ []) (sym letted) ∙ sym (window_live P k.tenant ts live)

@@ -1,6 +1,8 @@
+pub mod Waiting
 pub mod Scan
 pub mod Settled
 pub mod Sources
+pub mod CreatorsKept
 pub mod Entries
 pub mod Ring
 pub mod Noted

@@ -2,15 +2,16 @@
 use Rattle.std.proofs.Common.{◌≡◌, ◌≢◌, ℕ, zero, suc, ◌+◌, ◌<◌, ◌≤◌, Bool, true, false, cond, ◌&&◌, List, [], ◌∷◌, ◌++◌, map, length, take, Option, Some, None, refl, sym, ap, ◌∙◌, subst, arith, length-append, true≢false}
 use Rattle.std.specs.Prelude.{slice_get, is_none}
 use Rattle.std.specs.List.{AllByRecursion}
+use Rattle.isa.specs.Instruction.{second_of}
 use Rattle.isa.specs.Programs.{Program}
 use Rattle.isa.specs.declared.op.Kind.{Kind}
 use Rattle.isa.specs.declared.op.Kind.TheVariants.{Computes, Jumps, Links, Loads, Stores}
 use Rattle.isa.specs.declared.stop.Outcome.{Outcome}
-use Rattle.inorder.specs.Committed.{committed}
+use Rattle.inorder.specs.Committed.{ahead}
 use Rattle.inorder.specs.Loads.{access_width, address_by, content_by, entry_in, entry_of, is_store, queue_of}
 use Rattle.inorder.specs.Steps.{IsNoRetiredStop}
 use Rattle.inorder.specs.Tenants.{Addr, Busy, Done, Fate, Live, Miss, Open, Retired, Squashed, Standing, Stopped, Tenant, computed, instr, is_access, kind_of, stands_live, stands_on_path}
-use Rattle.inorder.proofs.SettledRegisters.{committed_if, squashed_not}
+use Rattle.inorder.proofs.SettledRegisters.{ahead_if, squashed_not}
 use Rattle.inorder.proofs.QueueBytes.{none_live, queue_more}
 use Rattle.inorder.proofs.Sound.{IsSound}
 use Rattle.lsq.specs.declared.entry.Entry.{Entry}
@@ -98,11 +99,11 @@ store_address Jumps f o e = absurd (true≢false (sym e))
 store_address Links f o e = absurd (true≢false (sym e))
 store_address Loads f o e = absurd (true≢false (sym e))
 
-entry_like : (P : Program) (registers : List ℕ) (t : Tenant) (ws : List Station) → t.second.value ≡ source_in registers ws (instr P t).second → IsLike (entry_of P t) (entry registers ws (station_of P t))
+entry_like : (P : Program) (registers : List ℕ) (t : Tenant) (ws : List Station) → t.second.value ≡ source_in registers ws (second_of (instr P t)) → IsLike (entry_of P t) (entry registers ws (station_of P t))
 entry_like P registers t ws e =
     record {
       store = refl;
-      same = λ q. ap (λ x. record { store = is_store (kind_of P t); width = access_width (instr P t).op; address = x; content = content_by (kind_of P t) (source_in registers ws (instr P t).second) }) (store_address (kind_of P t) t.fate (computed P t) q) ∙ ap (λ x. record { store = is_store (kind_of P t); width = access_width (instr P t).op; address = address_by (kind_of P t) t.fate (computed P t); content = content_by (kind_of P t) x }) (sym e);
+      same = λ q. ap (λ x. record { store = is_store (kind_of P t); width = access_width (instr P t).op; address = x; content = content_by (kind_of P t) (source_in registers ws (second_of (instr P t))) }) (store_address (kind_of P t) t.fate (computed P t) q) ∙ ap (λ x. record { store = is_store (kind_of P t); width = access_width (instr P t).op; address = address_by (kind_of P t) t.fate (computed P t); content = content_by (kind_of P t) x }) (sym e);
     }
 
 entries_end : (registers : List ℕ) (xs : List Station) (w : Station) → entries registers (xs ++ w ∷ []) (length (xs ++ w ∷ [])) ≡ with_entry (entries registers xs (length xs)) (cond (reaches_memory w.instr.op) (Some (entry registers xs w)) None)
@@ -115,7 +116,8 @@ entries_end registers xs w =
     ∙ ap (λ l. with_entry (entries registers xs (length xs)) (cond (reaches_memory w.instr.op) (Some (entry registers l w)) None)) (take_middle xs (w ∷ []))
 
 -- The whole queue
-pub queue_like : (P : Program) (ts : List Tenant) → IsSound P ts → AllByRecursion IsNoRetiredStop ts → AreStill ts → AreLike (queue_of P ts) (entries (committed P ts).registers (window P ts) (length (window P ts)))
+pub queue_like : (P : Program) (ts : List Tenant) → IsSound P ts → AllByRecursion IsNoRetiredStop ts → AreStill ts →
+    AreLike (queue_of P ts) (entries (ahead P ts).registers (window P ts) (length (window P ts)))
 queue_like P [] s n h = tt
 queue_like P (t ∷ ts) s n h = go t.standing refl (queue_like P ts s.1 n.1 h.1)
   where
@@ -123,7 +125,7 @@ queue_like P (t ∷ ts) s n h = go t.standing refl (queue_like P ts s.1 n.1 h.1)
     W = window P ts
 
     regs : List Tenant → List ℕ
-    regs V = (committed P V).registers
+    regs V = (ahead P V).registers
 
     all : List ℕ → List Station → List Entry
     all g l = entries g l (length l)
@@ -138,7 +140,7 @@ queue_like P (t ∷ ts) s n h = go t.standing refl (queue_like P ts s.1 n.1 h.1)
     go Squashed e more =
         same (queue_of P ts) (all (regs ts) W)
         (queue_more P t ts false (ap (λ x. stands_live x && is_access (kind_of P t)) e) ∙ append_none (queue_of P ts))
-        (ap (λ l. all (regs (t ∷ ts)) l) (window_if P t ts false (ap stands_live e)) ∙ ap (λ c. all c.registers W) (committed_if P t ts false (squashed_not t e)))
+        (ap (λ l. all (regs (t ∷ ts)) l) (window_if P t ts false (ap stands_live e)) ∙ ap (λ c. all c.registers W) (ahead_if P t ts false (squashed_not t e)))
         more
     go Retired e more =
         let left = retired_all P t ts s e n.0 in
@@ -151,13 +153,13 @@ queue_like P (t ∷ ts) s n h = go t.standing refl (queue_like P ts s.1 n.1 h.1)
         placed : Rattle.inorder.proofs.Sound.IsInPlace P ts t
         placed = s.0.placed (ap stands_on_path e)
 
-        second : t.second.value ≡ source_in (regs ts) W (instr P t).second
-        second = h.0.1.value ∙ ap (Rattle.inorder.specs.Unit.value_of ts) placed.second ∙ source_worth P ts s.1 n.1 (instr P t).second
+        second : t.second.value ≡ source_in (regs ts) W (second_of (instr P t))
+        second = h.0.1.value ∙ ap (Rattle.inorder.specs.Unit.value_of ts) placed.second ∙ source_worth P ts s.1 n.1 (second_of (instr P t))
 
         here : all (regs (t ∷ ts)) (window P (t ∷ ts)) ≡ with_entry (all (regs ts) W) (cond (is_access (kind_of P t)) (Some (entry (regs ts) W (station_of P t))) None)
         here =
             ap (λ l. all (regs (t ∷ ts)) l) (window_live P t ts e)
-            ∙ ap (λ c. all c.registers (W ++ station_of P t ∷ [])) (committed_if P t ts false (live_commits t e))
+            ∙ ap (λ c. all c.registers (W ++ station_of P t ∷ [])) (ahead_if P t ts false (live_commits t e))
             ∙ entries_end (regs ts) W (station_of P t)
 
         on : (b : Bool) → is_access (kind_of P t) ≡ b → AreLike (queue_of P (t ∷ ts)) (all (regs (t ∷ ts)) (window P (t ∷ ts)))

@@ -3,11 +3,11 @@ use Rattle.std.proofs.Common.{◌≡◌, ℕ, zero, suc, ◌*◌, ◌^◌, ◌<�
 use Rattle.std.specs.Prelude.{slice_set}
 use Rattle.std.proofs.Math.Nat.{pow-succ'}
 use Rattle.isa.specs.Instruction.{kind}
-use Rattle.isa.specs.Operations.{outcome}
+use Rattle.isa.specs.Operations.{outcome_of}
 use Rattle.isa.specs.declared.op.Kind.{Kind}
 use Rattle.isa.specs.declared.op.Kind.TheVariants.{Computes, Jumps, Links, Loads, Stores}
 use Rattle.isa.specs.declared.stop.Outcome.{Outcome}
-use Rattle.isa.specs.declared.stop.Outcome.TheVariants.{Address, Next, Stop, Value}
+use Rattle.isa.specs.declared.stop.Outcome.TheVariants.{Address, Next, Pair, Stop, Value}
 use Rattle.unit.specs.declared.execute.Operands.{Operands}
 use Rattle.unit.specs.declared.station.Station.{Station}
 use Rattle.unit.specs.declared.station.Stage.{Stage}
@@ -77,6 +77,7 @@ finished_digit : (w : Station) (o : Outcome) → digit (finished w o).stage ≤ 
 finished_digit w (Value v) = omega arith
 finished_digit w (Address v) = omega arith
 finished_digit w (Stop v) = omega arith
+finished_digit w (Pair l h) = omega arith
 finished_digit w (Next x) = go (eqb x w.predicted)
   where
     go : (t : Bool) → digit (cond t Done (Miss x)) ≤ 3
@@ -93,9 +94,9 @@ open_digit (Stops c) o x e = absurd (cc)
 pub run_falls : (g : List ℕ) (size : ℕ) (W W' : List Station) → length W ≤ 32 → RunsTo g size W W' → rank 32 W' < rank 32 W
 run_falls g size W W' room r =
     let p = place_at W r.i r.w r.is in
-    let v = finished r.w (outcome r.w.instr r.w.pc r.o.a r.o.b size) in
+    let v = finished r.w (outcome_of r.w.instr r.w.half r.w.pc r.o.a r.o.b size) in
     let five : digit r.w.stage ≡ 5 = open_digit r.w.stage _ r.o (given_station (operands_in g) W r.i r.w r.o r.is r.first.here) in
-    let low = finished_digit r.w (outcome r.w.instr r.w.pc r.o.a r.o.b size) in
+    let low = finished_digit r.w (outcome_of r.w.instr r.w.half r.w.pc r.o.a r.o.b size) in
     lower W W' p.zs r.i r.w v room p (r.new ∙ set_place W r.i r.w v p) (omega (arith, five, low))
 
 waits_digit : (k : Kind) (s : Stage) (a : ℕ) → waits_by k s ≡ Some a → digit s ≡ 3

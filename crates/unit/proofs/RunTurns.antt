@@ -1,18 +1,18 @@
 -- The turns Ran and Loaded are steps of the unit.
-use Rattle.std.proofs.Common.{◌≡◌, ℕ, Bool, true, false, cond, eqb, List, [], ◌∷◌, ◌++◌, length, take, Option, Some, None, refl, sym, ap, ◌∙◌, subst, append_assoc}
+use Rattle.std.proofs.Common.{◌≡◌, ◌≢◌, ℕ, Bool, true, false, cond, eqb, List, [], ◌∷◌, ◌++◌, length, take, Option, Some, None, refl, sym, ap, ◌∙◌, subst, append_assoc}
 use Rattle.std.specs.Prelude.{slice_set, slice_index, unwrap_or}
 use Rattle.std.specs.List.{AllByRecursion}
-use Rattle.isa.specs.Instruction.{width}
-use Rattle.isa.specs.Operations.{loaded, outcome}
+use Rattle.isa.specs.Instruction.{first_of, second_of, width}
+use Rattle.isa.specs.Operations.{loaded, outcome_of}
 use Rattle.isa.specs.Programs.{Program}
 use Rattle.isa.specs.declared.op.Kind.{Kind}
 use Rattle.isa.specs.declared.op.Kind.TheVariants.{Computes, Jumps, Links, Loads, Stores}
 use Rattle.isa.specs.declared.stop.Outcome.{Outcome}
-use Rattle.isa.specs.declared.stop.Outcome.TheVariants.{Address, Next, Stop, Value}
+use Rattle.isa.specs.declared.stop.Outcome.TheVariants.{Address, Next, Pair, Stop, Value}
 use Rattle.inorder.specs.declared.history.Act.TheVariants.{Load}
 use Rattle.inorder.specs.declared.history.Step.{Step}
 use Rattle.inorder.specs.declared.history.Step.TheVariants.{On}
-use Rattle.inorder.specs.Committed.{committed}
+use Rattle.inorder.specs.Committed.{ahead, committed}
 use Rattle.inorder.specs.Laws.{IsNoRetire}
 use Rattle.inorder.specs.Loads.{queue_of}
 use Rattle.inorder.specs.Memory.{raw_at, load_value, raw}
@@ -29,7 +29,7 @@ use Rattle.inorder.specs.Loads.{place_of}
 use Rattle.unit_laws.specs.Moves.{IsDeliver, IsReached, Leads, with_tenants}
 use Rattle.unit_laws.specs.Still.{AreStill, IsNotBusy}
 use Rattle.unit_laws.proofs.Execution.{ActRun, claimed, loaded_run, ran_run, ran_steps}
-use Rattle.unit_laws.proofs.Left.{committed_middle}
+use Rattle.unit_laws.proofs.Left.{ahead_middle}
 use Rattle.unit_laws.proofs.Middle.{all_from, at_middle, older_middle, sound_from, still_from}
 use Rattle.unit_laws.proofs.Sequences.{all_more, all_weaker, committed_on, deliver_quiet, reach_on, sound_of}
 use Rattle.unit.specs.declared.bench.Turn.TheVariants.{Loaded, Ran}
@@ -37,6 +37,9 @@ use Rattle.unit.specs.declared.execute.Operands.{Operands}
 use Rattle.unit.specs.declared.pipeline.Pipeline.{Pipeline}
 use Rattle.unit.specs.declared.station.Stage.TheVariants.{Done as IsDone, Miss as Misses}
 use Rattle.unit.specs.declared.station.Station.{Station}
+use Rattle.unit.specs.Ahead.{ahead_by}
+use Rattle.unit.specs.Blocked.{IsUnblocked}
+use Rattle.unit.specs.Changes.{ahead_of, registers_of}
 use Rattle.unit.specs.Givers.{NoneGives}
 use Rattle.unit.specs.Leavers.{leaver}
 use Rattle.unit.specs.Loads.{entries, load_by, load_in, value_by, waits, waits_by}
@@ -45,6 +48,7 @@ use Rattle.unit.specs.Stages.{CannotLet, LoadsTo, RunsTo}
 use Rattle.unit.specs.StandsFor.{OverIs, StandsFor, sizes}
 use Rattle.unit.specs.Turns.{Moved, Moves, NoLet}
 use Rattle.unit.specs.Window.{finished, operands_by, operands_in, source_in, stage_of, station_of, where_open, window}
+use Rattle.unit.proofs.Waiting.{LeavesSame, ahead_low, same_alike, same_both, same_put}
 use Rattle.unit.proofs.Entries.{answered_waits}
 use Rattle.unit.proofs.Found.{window_alike, window_middle}
 use Rattle.unit.proofs.Leavers.{leaver_alike, leaver_put, told_live}
@@ -73,6 +77,7 @@ station_ran : (P : Program) (t : Tenant) (o : Outcome) → station_of P (tenant_
 station_ran P t (Value v) = refl
 station_ran P t (Address v) = refl
 station_ran P t (Stop v) = refl
+station_ran P t (Pair l h) = refl
 station_ran P t (Next x) = go (eqb x t.predicted) refl
   where
     go : (b : Bool) → eqb x t.predicted ≡ b → station_of P (record t { fate = cond (eqb x t.predicted) (Done x) (Miss x) }) ≡ record (station_of P t) { stage = cond (eqb x t.predicted) IsDone (Misses x) }
@@ -84,53 +89,66 @@ finished_stays t (Value v) = (refl, refl)
 finished_stays t (Address v) = (refl, refl)
 finished_stays t (Stop v) = (refl, refl)
 finished_stays t (Next v) = (refl, refl)
+finished_stays t (Pair l h) = (refl, refl)
+
+-- the fields have what a new tenant finds
+pub ahead_stands : (b : Pipeline) (U : UpdateUnit) → IsReached b.program.now (sizes b) U → StandsFor b U → ahead_of b ≡ ahead b.program.now U.tenants
+ahead_stands b U r s =
+    ap (ahead_by b.low) s.committed
+    ∙ ap (λ l. ahead_by l (committed b.program.now U.tenants)) s.low
+    ∙ sym (ahead_low b.program.now U.tenants (sound_of b.program.now (sizes b) U r))
 
 -- what the unit is known to be, where the fields stand for it
-record Knows (b : Pipeline) (U : UpdateUnit) : Type 0 where
+pub record Knows (b : Pipeline) (U : UpdateUnit) : Type 0 where
   pub sound : IsSound b.program.now U.tenants
   pub stops : AllByRecursion IsNoRetiredStop U.tenants
   pub still : AreStill U.tenants
-  pub registers : b.committed.registers ≡ (committed b.program.now U.tenants).registers
+  pub registers : registers_of b ≡ (ahead b.program.now U.tenants).registers
 
-knows : (b : Pipeline) (U : UpdateUnit) → b.over ≡ None → IsReached b.program.now (sizes b) U → StandsFor b U → Knows b U
+pub knows : (b : Pipeline) (U : UpdateUnit) → b.over ≡ None → IsReached b.program.now (sizes b) U → StandsFor b U → Knows b U
 knows b U none r s =
     let over : AllByRecursion IsNoRetiredStop U.tenants × AreStill U.tenants = subst (OverIs U.tenants) none s.over in
-    record { sound = sound_of b.program.now (sizes b) U r; stops = over.0; still = over.1; registers = ap (λ c. c.registers) s.committed }
+    record { sound = sound_of b.program.now (sizes b) U r; stops = over.0; still = over.1; registers = ap (λ c. c.registers) (ahead_stands b U r s) }
 
 pub cannot_let : (b : Pipeline) (U : UpdateUnit) → b.over ≡ None → IsReached b.program.now (sizes b) U → StandsFor b U → CannotLet b.program.now b.ring b.queue b.committed.pc b.window → NoLet b.program.now (sizes b) U
 cannot_let b U none r s nl =
     let k = knows b U none r s in
     no_let b.program.now (sizes b) U k.sound k.stops (subst (λ c. CannotLet b.program.now b.ring b.queue c.pc (window b.program.now U.tenants)) s.committed (subst (CannotLet b.program.now b.ring b.queue b.committed.pc) s.window nl))
 
-pub nobody_claims : (b : Pipeline) (U : UpdateUnit) → b.over ≡ None → IsReached b.program.now (sizes b) U → StandsFor b U → NoneGives (operands_in b.committed.registers) b.window → AllByRecursion (Rattle.unit.specs.Turns.IsUnclaimable b.program.now) U.tenants
+pub nobody_claims : (b : Pipeline) (U : UpdateUnit) → b.over ≡ None → IsReached b.program.now (sizes b) U →
+    StandsFor b U → NoneGives (operands_in (registers_of b)) b.window →
+    AllByRecursion (Rattle.unit.specs.Turns.IsUnclaimable b.program.now) U.tenants
 nobody_claims b U none r s h =
     let k = knows b U none r s in
-    no_claim b.program.now b.committed.registers [] U.tenants k.sound k.still k.stops k.registers (none_in (operands_in b.committed.registers) b.program.now b.window U.tenants s.window h)
+    no_claim b.program.now (registers_of b) [] U.tenants k.sound k.still k.stops k.registers (none_in (operands_in (registers_of b)) b.program.now b.window U.tenants s.window h)
 
-pub nobody_loads : (b : Pipeline) (U : UpdateUnit) → b.over ≡ None → IsReached b.program.now (sizes b) U → StandsFor b U → NoneGives (load_in b.committed.registers b.committed.memory) b.window → Rattle.unit.specs.Blocked.AreBlocked b.program.now U.tenants
+pub nobody_loads : (b : Pipeline) (U : UpdateUnit) → b.over ≡ None → IsReached b.program.now (sizes b) U →
+    StandsFor b U → NoneGives (load_in (registers_of b) b.committed.memory) b.window →
+    Rattle.unit.specs.Blocked.AreBlocked b.program.now U.tenants
 nobody_loads b U none r s h =
     let k = knows b U none r s in
-    all_blocked b.program.now b.committed.registers b.committed.memory [] U.tenants k.sound k.still k.stops k.registers (none_in (load_in b.committed.registers b.committed.memory) b.program.now b.window U.tenants s.window h)
+    all_blocked b.program.now (registers_of b) b.committed.memory [] U.tenants k.sound k.still k.stops k.registers
+    (none_in (load_in (registers_of b) b.committed.memory) b.program.now b.window U.tenants s.window h)
 
 -- the split of a unit at a live tenant that was found
 record IsSplit (b : Pipeline) (ys : List Tenant) (t : Tenant) (ts : List Tenant) : Type 0 where
   pub sound : IsSound b.program.now (ys ++ t ∷ ts)
   pub stops : AllByRecursion IsNoRetiredStop (ys ++ t ∷ ts)
   pub still : AreStill (ys ++ t ∷ ts)
-  pub registers : b.committed.registers ≡ (committed b.program.now (ys ++ t ∷ ts)).registers
-  pub before : b.committed.registers ≡ (committed b.program.now ts).registers
+  pub registers : registers_of b ≡ (ahead b.program.now (ys ++ t ∷ ts)).registers
+  pub before : registers_of b ≡ (ahead b.program.now ts).registers
 
 split_of : (b : Pipeline) (U : UpdateUnit) (ys : List Tenant) (t : Tenant) (ts : List Tenant) → Knows b U → U.tenants ≡ ys ++ t ∷ ts → t.standing ≡ Live → IsSplit b ys t ts
 split_of b U ys t ts k e live =
     let P = b.program.now in
     let s = subst (IsSound P) e k.sound in
-    let g = k.registers ∙ ap (λ X. (committed P X).registers) e in
+    let g = k.registers ∙ ap (λ X. (ahead P X).registers) e in
     record {
       sound = s;
       stops = subst (AllByRecursion IsNoRetiredStop) e k.stops;
       still = subst AreStill e k.still;
       registers = g;
-      before = g ∙ ap (λ c. c.registers) (committed_middle P ys t ts live s);
+      before = g ∙ ap (λ c. c.registers) (ahead_middle P ys t ts live s);
     }
 
 -- One tenant is changed in place, and all that is due delivered
@@ -139,6 +157,7 @@ changed_stands b later U ys t u ts steps w none r s split lt lu st quiet k leads
     stand_on b later.window later.missed later.settled U (with_tenants U k.later) none s
     (committed_on P (sizes b) 0 U (k.delivers ++ steps) (with_tenants U k.later) leads (sound_of P (sizes b) U r) (all_more IsNoRetire k.delivers steps (all_weaker IsDeliver IsNoRetire deliver_quiet k.delivers k.are) quiet))
     (λ n. leaver_alike P n (ys ++ u ∷ ts) k.later k.alike ∙ leaver_put P n ys t u ts st (told_live P u lu ∙ sym (told_live P t lt)) ∙ ap (λ X. leaver P X n) (sym split))
+    (subst (λ X. LeavesSame P X k.later) (sym split) (same_both P (ys ++ t ∷ ts) (ys ++ u ∷ ts) k.later (same_put P ys t u ts lt lu) (same_alike P (ys ++ u ∷ ts) k.later k.alike)))
     (wl ∙ ap (λ x. window P ts ++ x ∷ window P ys) (sym sw) ∙ sym (window_middle P ys u ts lu) ∙ sym (window_alike P (ys ++ u ∷ ts) k.later k.alike))
     k.stops k.still
   where
@@ -153,7 +172,10 @@ set_shown P W U i w v f =
 
 -- Ran
 
-pub ran_turn : (b later : Pipeline) → b.over ≡ None → NoneGives miss_in b.window → CannotLet b.program.now b.ring b.queue b.committed.pc b.window → RunsTo b.committed.registers (length b.program.now.bytes) b.window later.window → later ≡ record b { window = later.window; missed = later.missed; settled = later.settled } → Moves b Ran later
+pub ran_turn : (b later : Pipeline) → b.over ≡ None → NoneGives miss_in b.window →
+    CannotLet b.program.now b.ring b.queue b.committed.pc b.window →
+    RunsTo (registers_of b) (length b.program.now.bytes) b.window later.window →
+    later ≡ record b { window = later.window; missed = later.missed; settled = later.settled } → Moves b Ran later
 ran_turn b later none nm nl to rest U r s = subst (Moved b U Ran) (sym rest) (go (found_in P b.window U.tenants to.i to.w s.window to.is))
   where
     P : Program
@@ -163,7 +185,7 @@ ran_turn b later none nm nl to rest U r s = subst (Moved b U Ran) (sym rest) (go
     C = sizes b
 
     regs : List ℕ
-    regs = b.committed.registers
+    regs = registers_of b
 
     now : Pipeline
     now = record b { window = later.window; missed = later.missed; settled = later.settled }
@@ -192,11 +214,11 @@ ran_turn b later none nm nl to rest U r s = subst (Moved b U Ran) (sym rest) (go
         given : operands_in regs W (station_of P t) ≡ Some to.o
         given = ap (λ l. operands_in regs l (station_of P t)) (sym f.taken) ∙ ap (operands_in regs (take to.i b.window)) f.found.station ∙ given_station (operands_in regs) b.window to.i to.w to.o to.is to.first.here
 
-        is_open : IsOpen t.fate (operands_by (kind_of P t) (source_in regs W (instr P t).first) (source_in regs W (instr P t).second)) to.o
+        is_open : IsOpen t.fate (operands_by (kind_of P t) (source_in regs W (first_of (instr P t))) (source_in regs W (second_of (instr P t)))) to.o
         is_open = open_fate t.fate _ to.o (still_from ys (t ∷ ts) sp.still).0.2 given
 
         needs : AreNeeded (kind_of P t) t.first.value t.second.value to.o
-        needs = needed_are (kind_of P t) t.first.value t.second.value to.o (ap (λ x. operands_by (kind_of P t) x t.second.value) src.first ∙ ap (operands_by (kind_of P t) (source_in regs W (instr P t).first)) src.second ∙ is_open.operands)
+        needs = needed_are (kind_of P t) t.first.value t.second.value to.o (ap (λ x. operands_by (kind_of P t) x t.second.value) src.first ∙ ap (operands_by (kind_of P t) (source_in regs W (first_of (instr P t)))) src.second ∙ is_open.operands)
 
         claim : MayClaim P t
         claim = record { live = f.found.live; fate = is_open.open'; needs = needs.none }
@@ -207,17 +229,17 @@ ran_turn b later none nm nl to rest U r s = subst (Moved b U Ran) (sym rest) (go
         u : Tenant
         u = tenant_finished t1 (computed P t1)
 
-        comes : computed P t1 ≡ outcome (instr P t) t.pc to.o.a to.o.b (length P.bytes)
-        comes = ap (λ x. outcome (instr P t) t.pc x (operand_value t.second) (length P.bytes)) needs.first ∙ ap (λ x. outcome (instr P t) t.pc to.o.a x (length P.bytes)) needs.second
+        comes : computed P t1 ≡ outcome_of (instr P t) t.half t.pc to.o.a to.o.b (length P.bytes)
+        comes = ap (λ x. outcome_of (instr P t) t.half t.pc x (operand_value t.second) (length P.bytes)) needs.first ∙ ap (λ x. outcome_of (instr P t) t.half t.pc to.o.a x (length P.bytes)) needs.second
 
         opened : station_of P t1 ≡ to.w
         opened = ap (λ g. record (station_of P t) { stage = stage_of g }) (sym is_open.open') ∙ f.found.station
 
-        shown : station_of P u ≡ finished to.w (outcome to.w.instr to.w.pc to.o.a to.o.b (length P.bytes))
+        shown : station_of P u ≡ finished to.w (outcome_of to.w.instr to.w.half to.w.pc to.o.a to.o.b (length P.bytes))
         shown =
             station_ran P t1 (computed P t1)
             ∙ ap (finished (station_of P t1)) comes
-            ∙ ap (λ w. finished w (outcome w.instr w.pc to.o.a to.o.b (length P.bytes))) opened
+            ∙ ap (λ w. finished w (outcome_of w.instr w.half w.pc to.o.a to.o.b (length P.bytes))) opened
 
         keeps : (u.standing ≡ t1.standing) × (u.station ≡ t1.station)
         keeps = finished_stays t1 (computed P t1)
@@ -228,15 +250,19 @@ ran_turn b later none nm nl to rest U r s = subst (Moved b U Ran) (sym rest) (go
             record {
               unit = with_tenants U k.later;
               reached = reach_on P C 0 U (k.delivers ++ ran_steps ts) (with_tenants U k.later) r leads;
-              stands = changed_stands b later U ys t u ts (ran_steps ts) (finished to.w (outcome to.w.instr to.w.pc to.o.a to.o.b (length P.bytes))) none r s f.found.split f.found.live (keeps.0 ∙ f.found.live) keeps.1 (tt, (tt, tt)) k leads shown (to.new ∙ set_shown P b.window U.tenants to.i to.w (finished to.w (outcome to.w.instr to.w.pc to.o.a to.o.b (length P.bytes))) f);
+              stands = changed_stands b later U ys t u ts (ran_steps ts) (finished to.w (outcome_of to.w.instr to.w.half to.w.pc to.o.a to.o.b (length P.bytes))) none r s f.found.split f.found.live (keeps.0 ∙ f.found.live) keeps.1 (tt, (tt, tt)) k leads shown (to.new ∙ set_shown P b.window U.tenants to.i to.w (finished to.w (outcome_of to.w.instr to.w.half to.w.pc to.o.a to.o.b (length P.bytes))) f);
               does = record {
+                goes_on = (knows b U none r s).stops;
                 no_miss = no_miss P U.tenants (none_in miss_in P b.window U.tenants s.window nm);
                 no_let = cannot_let b U none r s nl;
                 ys = ys;
                 tenant = t;
                 ts = ts;
                 stands = f.found.split;
-                oldest = no_claim P regs (ys ++ t ∷ []) ts (subst (IsSound P) (sym (append_assoc ys (t ∷ []) ts)) sp.sound) (still_from ys (t ∷ ts) sp.still).1 (all_from IsNoRetiredStop ys (t ∷ ts) sp.stops).1 (sp.registers ∙ ap (λ X. (committed P X).registers) (sym (append_assoc ys (t ∷ []) ts))) (oldest_is (operands_in regs) P b.window U.tenants to.i to.w f to.first.first);
+                oldest = no_claim P regs (ys ++ t ∷ []) ts (subst (IsSound P) (sym (append_assoc ys (t ∷ []) ts)) sp.sound)
+                    (still_from ys (t ∷ ts) sp.still).1 (all_from IsNoRetiredStop ys (t ∷ ts) sp.stops).1
+                    (sp.registers ∙ ap (λ X. (ahead P X).registers) (sym (append_assoc ys (t ∷ []) ts)))
+                    (oldest_is (operands_in regs) P b.window U.tenants to.i to.w f to.first.first);
                 delivers = k.delivers;
                 are = k.are;
                 leads = leads;
@@ -266,6 +292,7 @@ waiting Stores f a e = absurd (cc)
 pub record CanLoad (P : Program) (ts : List Tenant) (t : Tenant) (v : ℕ) : Type 0 where
   pub may : MayLoad P ts t
   pub value : load_value P ts t ≡ v
+  pub unblocked : IsUnblocked P ts t
 
 can_load : (P : Program) (ys : List Tenant) (t : Tenant) (ts : List Tenant) (a v : ℕ) (mem : List ℕ) → IsSound P (ys ++ t ∷ ts) → t.standing ≡ Live → kind_of P t ≡ Loads → t.fate ≡ Addr a → mem ≡ (committed P (ys ++ t ∷ ts)).memory → value_by (answer_over (queue_of P ts) a (width (instr P t).op)) mem (instr P t).op a ≡ Some v → CanLoad P ts t v
 can_load P ys t ts a v mem s live ek ef em e = go (answer_over (queue_of P ts) a w) refl
@@ -282,29 +309,40 @@ can_load P ys t ts a v mem s live ek ef em e = go (answer_over (queue_of P ts) a
     asks : answer (queue_of P U) (place_of P U p) ≡ answer_over (queue_of P ts) a w
     asks = answers P U p t a s (at_middle ys t ts) live ek ef ∙ ap (λ l. answer_over (queue_of P l) a w) (older_middle ys t ts)
 
-    given : (n : ℕ) → MayLoad P (older U p) t → raw_at P (older U p) (instr P t) a ≡ Some n → loaded (instr P t).op n ≡ v → CanLoad P ts t v
-    given n m q l =
+    free : (x : Answer) → answer_over (queue_of P ts) a w ≡ x → ((k : ℕ) → x ≢ Blocked k) → IsUnblocked P ts t
+    free x q differs b place eb h =
+        let addresses : Addr a ≡ Addr b = sym ef ∙ eb in
+        let same : a ≡ b = cc addresses in
+        differs place (sym q ∙ ap (λ y. answer_over (queue_of P ts) y w) same ∙ h)
+
+    given : (n : ℕ) → MayLoad P (older U p) t → raw_at P (older U p) (instr P t) a ≡ Some n → loaded (instr P t).op n ≡ v → IsUnblocked P ts t → CanLoad P ts t v
+    given n m q l unblocked =
         let r : raw_at P ts (instr P t) a ≡ Some n = ap (λ x. raw_at P x (instr P t) a) (sym (older_middle ys t ts)) ∙ q in
         record {
           may = subst (λ x. MayLoad P x t) (older_middle ys t ts) m;
           value = ap (λ x. loaded (instr P t).op (unwrap_or (raw P ts (instr P t) x) 0)) ef ∙ ap (λ x. loaded (instr P t).op (unwrap_or x 0)) r ∙ l;
+          unblocked = unblocked;
         }
 
     go : (x : Answer) → answer_over (queue_of P ts) a w ≡ x → CanLoad P ts t v
     go (Forward n) q =
         let f = forward P U p t a s (at_middle ys t ts) live ek ef n (asks ∙ q) in
         let is : Some (loaded (instr P t).op n) ≡ Some v = sym (ap (λ x. value_by x mem (instr P t).op a) q) ∙ e in
-        given n f.0 f.1 (cc is)
+        given n f.0 f.1 (cc is) (free (Forward n) q (λ k h. let no : Forward n ≡ Blocked k = h in absurd (cc)))
     go Memory q =
         let f = from_memory P U p t a s (at_middle ys t ts) live ek ef (asks ∙ q) in
         let is : Some (loaded (instr P t).op (little_endian (slice_index mem) a w)) ≡ Some v = sym (ap (λ x. value_by x mem (instr P t).op a) q) ∙ e in
-        given (little_endian (slice_index mem) a w) f.0 (f.1 ∙ ap (λ m. Some (little_endian (slice_index m) a w)) (sym em)) (cc is)
+        given (little_endian (slice_index mem) a w) f.0 (f.1 ∙ ap (λ m. Some (little_endian (slice_index m) a w)) (sym em)) (cc is) (free Memory q (λ k h. let no : Memory ≡ Blocked k = h in absurd (cc)))
     go (Blocked k) q = let no : None ≡ Some v = sym (ap (λ x. value_by x mem (instr P t).op a) q) ∙ e in absurd (cc)
 
 abbrev answered_as : Station → ℕ → Station
 answered_as w v = record w { stage = IsDone; made = Some v }
 
-pub loaded_turn : (b later : Pipeline) → b.over ≡ None → NoneGives miss_in b.window → CannotLet b.program.now b.ring b.queue b.committed.pc b.window → NoneGives (operands_in b.committed.registers) b.window → LoadsTo b.committed.registers b.committed.memory b.window later.window → later ≡ record b { window = later.window; missed = later.missed; settled = later.settled } → Moves b Loaded later
+pub loaded_turn : (b later : Pipeline) → b.over ≡ None → NoneGives miss_in b.window →
+    CannotLet b.program.now b.ring b.queue b.committed.pc b.window →
+    NoneGives (operands_in (registers_of b)) b.window →
+    LoadsTo (registers_of b) b.committed.memory b.window later.window →
+    later ≡ record b { window = later.window; missed = later.missed; settled = later.settled } → Moves b Loaded later
 loaded_turn b later none nm nl nc to rest U r s = subst (Moved b U Loaded) (sym rest) (go (found_in P b.window U.tenants to.i to.w s.window to.is))
   where
     P : Program
@@ -314,7 +352,7 @@ loaded_turn b later none nm nl nc to rest U r s = subst (Moved b U Loaded) (sym 
     C = sizes b
 
     regs : List ℕ
-    regs = b.committed.registers
+    regs = registers_of b
 
     mem : List ℕ
     mem = b.committed.memory
@@ -354,7 +392,8 @@ loaded_turn b later none nm nl nc to rest U r s = subst (Moved b U Loaded) (sym 
 
         same : answer_over (queue_of P ts) a (width (instr P t).op) ≡ answer_over (entries regs W (length W)) a (width (instr P t).op)
         same =
-            sym (answer_like (queue_of P ts) (entries (committed P ts).registers W (length W)) a (width (instr P t).op) (queue_like P ts (sound_from P ys (t ∷ ts) sp.sound).1 (all_from IsNoRetiredStop ys (t ∷ ts) sp.stops).1 (still_from ys (t ∷ ts) sp.still).1))
+            sym (answer_like (queue_of P ts) (entries (ahead P ts).registers W (length W)) a (width (instr P t).op)
+            (queue_like P ts (sound_from P ys (t ∷ ts) sp.sound).1 (all_from IsNoRetiredStop ys (t ∷ ts) sp.stops).1 (still_from ys (t ∷ ts) sp.still).1))
             ∙ ap (λ g. answer_over (entries g W (length W)) a (width (instr P t).op)) (sym sp.before)
 
         can : CanLoad P ts t to.value
@@ -376,6 +415,7 @@ loaded_turn b later none nm nl nc to rest U r s = subst (Moved b U Loaded) (sym 
               reached = reach_on P C 0 U (k.delivers ++ On (length ts) Load ∷ []) (with_tenants U k.later) r leads;
               stands = changed_stands b later U ys t u ts (On (length ts) Load ∷ []) (record to.w { stage = IsDone; made = Some to.value }) none r s f.found.split f.found.live f.found.live refl (tt, tt) k leads shown (to.new ∙ set_shown P b.window U.tenants to.i to.w (record to.w { stage = IsDone; made = Some to.value }) f);
               does = record {
+                goes_on = (knows b U none r s).stops;
                 no_miss = no_miss P U.tenants (none_in miss_in P b.window U.tenants s.window nm);
                 no_let = cannot_let b U none r s nl;
                 no_claim = nobody_claims b U none r s nc;
@@ -383,7 +423,11 @@ loaded_turn b later none nm nl nc to rest U r s = subst (Moved b U Loaded) (sym 
                 tenant = t;
                 ts = ts;
                 stands = f.found.split;
-                oldest = all_blocked P regs mem (ys ++ t ∷ []) ts (subst (IsSound P) (sym (append_assoc ys (t ∷ []) ts)) sp.sound) (still_from ys (t ∷ ts) sp.still).1 (all_from IsNoRetiredStop ys (t ∷ ts) sp.stops).1 (sp.registers ∙ ap (λ X. (committed P X).registers) (sym (append_assoc ys (t ∷ []) ts))) (oldest_is (load_in regs mem) P b.window U.tenants to.i to.w f to.first.first);
+                unblocked = can.unblocked;
+                oldest = all_blocked P regs mem (ys ++ t ∷ []) ts (subst (IsSound P) (sym (append_assoc ys (t ∷ []) ts)) sp.sound)
+                    (still_from ys (t ∷ ts) sp.still).1 (all_from IsNoRetiredStop ys (t ∷ ts) sp.stops).1
+                    (sp.registers ∙ ap (λ X. (ahead P X).registers) (sym (append_assoc ys (t ∷ []) ts)))
+                    (oldest_is (load_in regs mem) P b.window U.tenants to.i to.w f to.first.first);
                 delivers = k.delivers;
                 are = k.are;
                 leads = leads;

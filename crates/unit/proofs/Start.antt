@@ -1,7 +1,11 @@
 -- Which fields some unit stands behind.
-use Rattle.std.proofs.Common.{◌≡◌, ℕ, ◌-◌, ◌<◌, ◌≤◌, zero, suc, Bool, false, List, [], ◌∷◌, length, drop, Option, Some, None, refl, sym, ap, ◌∙◌, subst, arith, true≢false}
+use Rattle.std.proofs.Common.{◌≡◌, ℕ, ◌-◌, ◌<◌, ◌≤◌, zero, suc, Bool, true, false, List, [], ◌∷◌, length, drop, Option, Some, None, refl, sym, ap, ◌∙◌, subst, arith, true≢false}
+use Rattle.std.proofs.Math.Nat.{mod-lt, zero-mod}
 use Rattle.std.specs.Prelude.{slice_get, slice_set, replicate}
+use Rattle.isa.specs.Instruction.{is_first_half}
+use Rattle.inorder.specs.Callers.{is_retired}
 use Rattle.inorder.specs.Machine.{start}
+use Rattle.inorder.specs.Unit.{how_many}
 use Rattle.unit_laws.specs.Moves.{IsReached}
 use Rattle.unit.specs.declared.bench.Turn.{Turn}
 use Rattle.unit.specs.declared.leaver.Leaver.{Leaver}
@@ -9,9 +13,9 @@ use Rattle.unit.specs.declared.pipeline.Pipeline.{Pipeline}
 use Rattle.unit.specs.declared.station.Stage.{Stage}
 use Rattle.unit.specs.declared.station.Stage.TheVariants.{Open, Addr, Done, Miss, Stops}
 use Rattle.unit.specs.declared.station.Station.{Station}
-use Rattle.unit.specs.Leaves.{LeavesTo, RetiresTo}
+use Rattle.unit.specs.Leaves.{LeavesTo, PassesTo, RetiresTo, halved, left}
 use Rattle.unit.specs.Notes.{AreNoted}
-use Rattle.unit.specs.StandsFor.{IsUnit, OverIs, sizes}
+use Rattle.unit.specs.StandsFor.{IsUnit, OverIs, StandsFor, sizes}
 use Rattle.unit.specs.Turns.{IsSame, Moves}
 use Rattle.unit.proofs.Noted.{noted_drop}
 
@@ -24,21 +28,32 @@ nones zero s h = absurd (omega (arith, h))
 nones (suc n) zero h = refl
 nones (suc n) (suc s) h = let less : s < n = omega arith in nones n s less
 
-pub start_unit : (b : Pipeline) → b.window ≡ [] → b.committed ≡ start b.program.now → b.over ≡ None → b.leavers ≡ replicate 32 nobody → b.settled ≡ 0 → 0 < b.ring → b.ring ≤ 32 → 2 ≤ b.queue → IsUnit b
-start_unit b w c o l z room most least =
+pub start_stands : (b : Pipeline) → b.window ≡ [] → b.committed ≡ start b.program.now → b.over ≡ None →
+    b.leavers ≡ replicate 32 nobody → b.low ≡ None → b.oldest ≡ 0 → b.ring ≤ 32 →
+    StandsFor b Rattle.inorder.specs.Unit.empty_unit
+start_stands b w c o l n z most =
+    record {
+      window = w;
+      committed = c;
+      leavers = λ s h. let less : s < 32 = omega (arith, h, most) in ap (λ x. slice_get x s) l ∙ nones 32 s less;
+      over = subst (OverIs []) (sym o) (tt, tt);
+      low = n;
+      oldest = z ∙ sym (zero-mod b.ring);
+    }
+
+pub start_unit : (b : Pipeline) → b.window ≡ [] → b.committed ≡ start b.program.now → b.over ≡ None →
+    b.leavers ≡ replicate 32 nobody → b.low ≡ None → b.oldest ≡ 0 → b.settled ≡ 0 → 0 < b.ring → b.ring ≤ 32 →
+    2 ≤ b.queue → IsUnit b
+start_unit b w c o l n f z room most least =
     record {
       unit = Rattle.inorder.specs.Unit.empty_unit;
       reached = record { history = []; allowed = tt; is = refl };
-      stands = record {
-        window = w;
-        committed = c;
-        leavers = λ s h. let less : s < 32 = omega (arith, h, most) in ap (λ x. slice_get x s) l ∙ nones 32 s less;
-        over = subst (OverIs []) (sym o) (tt, tt);
-      };
+      stands = start_stands b w c o l n f most;
       room = room;
       ring = most;
       least = least;
       leavers = ap length l;
+      oldest = omega (arith, f, room);
       noted = record {
         no_miss = λ q k h. let no : k < 0 = subst (λ W. k < length W) w h in absurd (omega (arith, no));
         are_settled = record { inside = omega (arith, z); each = λ k h. let no : k < 0 = subst (λ n. k < n) z h in absurd (omega (arith, no)) };
@@ -58,6 +73,7 @@ unit_next b later answer h t e l n = go (t h.unit h.reached h.stands)
           ring = subst (λ r. r ≤ 32) (sym e.ring) h.ring;
           least = subst (λ r. 2 ≤ r) (sym e.queue) h.least;
           leavers = l;
+          oldest = subst (λ k. k < later.ring) (sym x.stands.oldest) (mod-lt (how_many is_retired x.unit.tenants) (subst (λ r. 0 < r) (sym e.ring) h.room));
           noted = n;
         }
       where
@@ -82,7 +98,7 @@ retires_keeps b later answer n to = go (slice_get b.window 0) to
     plain : (b' : Pipeline) → later ≡ b' → IsKept b b' → IsKept b later
     plain b' e k = subst (IsKept b) (sym e) k
 
-    goes : (w : Station) → (later ≡ record b { window = drop 1 b.window; committed = Rattle.unit.specs.Leaves.with_station w b.committed; leavers = slice_set b.leavers (Rattle.std.specs.Prelude.◌%◌ (Rattle.std.specs.Prelude.◌+◌ b.committed.count 0) b.ring) (Rattle.unit.specs.Leavers.leaver_of w); settled = b.settled - 1 }) → IsKept b later
+    goes : (w : Station) → (later ≡ left b w) → IsKept b later
     goes w e =
         plain _ e
         (record {
@@ -90,6 +106,19 @@ retires_keeps b later answer n to = go (slice_get b.window 0) to
           leavers = set_long b.leavers _ _;
           noted = noted_drop b.missed b.settled b.window n;
         })
+
+    halves : (w : Station) → (later ≡ halved b w) → IsKept b later
+    halves w e =
+        plain _ e
+        (record {
+          same = record { program = refl; ring = refl; queue = refl; first_tag = refl };
+          leavers = set_long b.leavers _ _;
+          noted = noted_drop b.missed b.settled b.window n;
+        })
+
+    passes : (f : Bool) (w : Station) → PassesTo f b w answer later → IsKept b later
+    passes true w l = halves w l.1
+    passes false w l = goes w l.1
 
     by : (w : Station) (g : Stage) → LeavesTo b w g answer later → IsKept b later
     by w (Stops c) l =
@@ -99,10 +128,10 @@ retires_keeps b later answer n to = go (slice_get b.window 0) to
           leavers = refl;
           noted = noted_drop b.missed b.settled b.window n;
         })
-    by w Open l = goes w l.1
-    by w (Addr a) l = goes w l.1
-    by w Done l = goes w l.1
-    by w (Miss x) l = goes w l.1
+    by w Open l = passes (is_first_half w.instr.op w.half) w l
+    by w (Addr a) l = passes (is_first_half w.instr.op w.half) w l
+    by w Done l = passes (is_first_half w.instr.op w.half) w l
+    by w (Miss x) l = passes (is_first_half w.instr.op w.half) w l
 
     go : (o : Option Station) → RetiresTo b o answer later → IsKept b later
     go None l = plain b l.1 (record { same = record { program = refl; ring = refl; queue = refl; first_tag = refl }; leavers = refl; noted = n })

@@ -2,13 +2,13 @@
 use Rattle.std.proofs.Common.{◌≡◌, ◌≢◌, ℕ, ◌<◌, ◌≤◌, false, List, [], ◌∷◌, ◌++◌, length, Option, Some, None, refl, sym, ap, ◌∙◌, subst, arith, append_assoc, length-append}
 use Rattle.std.specs.Prelude.{slice_get, unwrap_or}
 use Rattle.std.specs.List.{AllByRecursion}
-use Rattle.isa.specs.Instruction.{kind, width}
+use Rattle.isa.specs.Instruction.{first_of, kind, second_of, width}
 use Rattle.isa.specs.Programs.{Program, instr_at, instr_of}
 use Rattle.isa.specs.declared.op.Kind.{Kind}
 use Rattle.isa.specs.declared.op.Kind.TheVariants.{Computes, Jumps, Links, Loads, Stores}
 use Rattle.isa.specs.declared.op.Op.{Op}
 use Rattle.inorder.specs.declared.history.Source.TheVariants.{First, Second}
-use Rattle.inorder.specs.Committed.{committed}
+use Rattle.inorder.specs.Committed.{ahead, committed}
 use Rattle.inorder.specs.Loads.{queue_of}
 use Rattle.inorder.specs.Steps.{IsNoRetiredStop, MayClaim}
 use Rattle.inorder.specs.Tenants.{Addr, Busy, Done, Fate, Live, Miss, Open, Retired, Squashed, Standing, Stopped, Tenant, instr, kind_of, missing_of, stands_live, stands_on_path}
@@ -19,7 +19,7 @@ use Rattle.lsq.specs.declared.answer.Answer.{Answer}
 use Rattle.lsq.specs.declared.answer.Answer.TheVariants.{Blocked, Forward, Memory}
 use Rattle.lsq.specs.LoadRule.{answer_over}
 use Rattle.unit_laws.specs.Still.{AreStill}
-use Rattle.unit_laws.proofs.Left.{committed_middle}
+use Rattle.unit_laws.proofs.Left.{ahead_middle}
 use Rattle.unit_laws.proofs.Middle.{sound_from}
 use Rattle.unit.specs.declared.execute.Operands.{Operands}
 use Rattle.unit.specs.declared.station.Station.{Station}
@@ -118,14 +118,16 @@ needed_are k (Some x) (Some y) o e = needed_by k x y o e
 
 -- the sources of a live tenant
 pub record HasSources (P : Program) (regs : List ℕ) (t : Tenant) (ts : List Tenant) : Type 0 where
-  pub first : t.first.value ≡ source_in regs (window P ts) (instr P t).first
-  pub second : t.second.value ≡ source_in regs (window P ts) (instr P t).second
+  pub first : t.first.value ≡ source_in regs (window P ts) (first_of (instr P t))
+  pub second : t.second.value ≡ source_in regs (window P ts) (second_of (instr P t))
 
-pub has_sources : (P : Program) (regs : List ℕ) (t : Tenant) (ts : List Tenant) → IsSound P (t ∷ ts) → AreStill (t ∷ ts) → AllByRecursion IsNoRetiredStop ts → regs ≡ (committed P ts).registers → t.standing ≡ Live → HasSources P regs t ts
+pub has_sources : (P : Program) (regs : List ℕ) (t : Tenant) (ts : List Tenant) → IsSound P (t ∷ ts) →
+    AreStill (t ∷ ts) → AllByRecursion IsNoRetiredStop ts → regs ≡ (ahead P ts).registers → t.standing ≡ Live →
+    HasSources P regs t ts
 has_sources P regs t ts s h ns e live =
     record {
-      first = h.0.0.value ∙ ap (value_of ts) placed.first ∙ worth (instr P t).first;
-      second = h.0.1.value ∙ ap (value_of ts) placed.second ∙ worth (instr P t).second;
+      first = h.0.0.value ∙ ap (value_of ts) placed.first ∙ worth (first_of (instr P t));
+      second = h.0.1.value ∙ ap (value_of ts) placed.second ∙ worth (second_of (instr P t));
     }
   where
     placed : IsInPlace P ts t
@@ -145,17 +147,19 @@ unclaimable P regs t ts src none m = needed_there (kind_of P t) t.first.value t.
     same : operands_by (kind_of P t) t.first.value t.second.value ≡ None
     same =
         ap (λ x. operands_by (kind_of P t) x t.second.value) src.first
-        ∙ ap (operands_by (kind_of P t) (source_in regs W (instr P t).first)) src.second
-        ∙ sym (ap (λ f. where_open (stage_of f) (operands_by (kind_of P t) (source_in regs W (instr P t).first) (source_in regs W (instr P t).second))) m.fate)
+        ∙ ap (operands_by (kind_of P t) (source_in regs W (first_of (instr P t)))) src.second
+        ∙ sym (ap (λ f. where_open (stage_of f) (operands_by (kind_of P t) (source_in regs W (first_of (instr P t))) (source_in regs W (second_of (instr P t))))) m.fate)
         ∙ none
 
 -- ys are the tenants after those that are gone over
-pub no_claim : (P : Program) (regs : List ℕ) (ys U : List Tenant) → IsSound P (ys ++ U) → AreStill U → AllByRecursion IsNoRetiredStop U → regs ≡ (committed P (ys ++ U)).registers → NoneIs (operands_in regs) P U → AllByRecursion (IsUnclaimable P) U
+pub no_claim : (P : Program) (regs : List ℕ) (ys U : List Tenant) → IsSound P (ys ++ U) → AreStill U →
+    AllByRecursion IsNoRetiredStop U → regs ≡ (ahead P (ys ++ U)).registers → NoneIs (operands_in regs) P U →
+    AllByRecursion (IsUnclaimable P) U
 no_claim P regs ys [] s h ns e n = tt
 no_claim P regs ys (t ∷ ts) s h ns e n =
     let step = append_assoc ys (t ∷ []) ts in (
-      (λ m. unclaimable P regs t ts (has_sources P regs t ts (sound_from P ys (t ∷ ts) s) h ns.1 (e ∙ ap (λ c. c.registers) (committed_middle P ys t ts m.live s)) m.live) (n.0 m.live) m),
-      no_claim P regs (ys ++ t ∷ []) ts (subst (IsSound P) (sym step) s) h.1 ns.1 (e ∙ ap (λ V. (committed P V).registers) (sym step)) n.1,
+      (λ m. unclaimable P regs t ts (has_sources P regs t ts (sound_from P ys (t ∷ ts) s) h ns.1 (e ∙ ap (λ c. c.registers) (ahead_middle P ys t ts m.live s)) m.live) (n.0 m.live) m),
+      no_claim P regs (ys ++ t ∷ []) ts (subst (IsSound P) (sym step) s) h.1 ns.1 (e ∙ ap (λ V. (ahead P V).registers) (sym step)) n.1,
     )
 
 -- each load with its address is blocked
@@ -165,20 +169,26 @@ blocked_by (Forward r) mem op a e = absurd (cc)
 blocked_by Memory mem op a e = absurd (cc)
 blocked_by (Blocked p) mem op a e = (p, refl)
 
-pub all_blocked : (P : Program) (regs mem : List ℕ) (ys U : List Tenant) → IsSound P (ys ++ U) → AreStill U → AllByRecursion IsNoRetiredStop U → regs ≡ (committed P (ys ++ U)).registers → NoneIs (load_in regs mem) P U → AreBlocked P U
+pub all_blocked : (P : Program) (regs mem : List ℕ) (ys U : List Tenant) → IsSound P (ys ++ U) → AreStill U →
+    AllByRecursion IsNoRetiredStop U → regs ≡ (ahead P (ys ++ U)).registers → NoneIs (load_in regs mem) P U →
+    AreBlocked P U
 all_blocked P regs mem ys [] s h ns e n = tt
 all_blocked P regs mem ys (t ∷ ts) s h ns e n =
-    let step = append_assoc ys (t ∷ []) ts in (here, all_blocked P regs mem (ys ++ t ∷ []) ts (subst (IsSound P) (sym step) s) h.1 ns.1 (e ∙ ap (λ V. (committed P V).registers) (sym step)) n.1)
+    let step = append_assoc ys (t ∷ []) ts in (here, all_blocked P regs mem (ys ++ t ∷ []) ts (subst (IsSound P) (sym step) s) h.1 ns.1 (e ∙ ap (λ V. (ahead P V).registers) (sym step)) n.1)
   where
     W : List Station
     W = window P ts
 
     here : IsBlocked P ts t
     here live ek a ef =
-        let same : regs ≡ (committed P ts).registers = e ∙ ap (λ c. c.registers) (committed_middle P ys t ts live s) in
+        let same : regs ≡ (ahead P ts).registers = e ∙ ap (λ c. c.registers) (ahead_middle P ys t ts live s) in
         let none : value_by (answer_over (entries regs W (length W)) a (width (instr P t).op)) mem (instr P t).op a ≡ None = sym (ap (λ x. load_by (entries regs W (length W)) mem (instr P t).op (waits_by x (stage_of t.fate))) ek ∙ ap (λ f. load_by (entries regs W (length W)) mem (instr P t).op (waits_by Loads (stage_of f))) ef) ∙ n.0 live in
-        let b = blocked_by (answer_over (entries regs W (length W)) a (width (instr P t).op)) mem (instr P t).op a none in
-        (b.0, sym (answer_like (queue_of P ts) (entries (committed P ts).registers W (length W)) a (width (instr P t).op) (queue_like P ts (sound_from P ys (t ∷ ts) s).1 ns.1 h.1)) ∙ ap (λ g. answer_over (entries g W (length W)) a (width (instr P t).op)) (sym same) ∙ b.1)
+        let b = blocked_by (answer_over (entries regs W (length W)) a (width (instr P t).op)) mem (instr P t).op a none in (
+          b.0,
+          sym (answer_like (queue_of P ts) (entries (ahead P ts).registers W (length W)) a (width (instr P t).op)
+              (queue_like P ts (sound_from P ys (t ∷ ts) s).1 ns.1 h.1))
+              ∙ ap (λ g. answer_over (entries g W (length W)) a (width (instr P t).op)) (sym same) ∙ b.1,
+        )
 
 -- nothing can be let
 

@@ -1,5 +1,5 @@
 -- The turn Recovered is steps of the unit.
-use Rattle.std.proofs.Common.{◌≡◌, ℕ, ◌<◌, Bool, List, [], ◌∷◌, ◌++◌, length, take, Option, Some, None, sym, ap, ◌∙◌, subst}
+use Rattle.std.proofs.Common.{◌≡◌, ℕ, ◌%◌, ◌<◌, Bool, List, [], ◌∷◌, ◌++◌, length, take, Option, Some, None, sym, ap, ◌∙◌, subst}
 use Rattle.std.specs.Prelude.{slice_get}
 use Rattle.std.specs.List.{AllByRecursion}
 use Rattle.isa.specs.Programs.{Program}
@@ -25,6 +25,7 @@ use Rattle.unit.specs.Stages.{RecoversTo}
 use Rattle.unit.specs.StandsFor.{OverIs, StandsFor, sizes}
 use Rattle.unit.specs.Turns.{Moved, Moves}
 use Rattle.unit.specs.Window.{mended, miss_of, stage_of, station_of, window}
+use Rattle.unit.proofs.Waiting.{LeavesSame, same_recover}
 use Rattle.unit.proofs.Found.{Found, found, window_gone, window_middle}
 use Rattle.unit.proofs.Leavers.{leaver_recover}
 use Rattle.unit.proofs.Noted.{given_station}
@@ -59,13 +60,20 @@ pub none_in : {X : Type 0} → (give : List Station → Station → Option X) (P
 none_in give P W U e h = none_is give P U (λ k l. ap (λ x. gives give x k) (sym e) ∙ h k (subst (λ x. k < length x) (sym e) l))
 
 -- The fields stand for a unit where nothing was committed
-pub stand_on : (b : Pipeline) (W : List Station) (m : Bool) (n : ℕ) (U V : UpdateUnit) → b.over ≡ None → StandsFor b U → committed b.program.now V.tenants ≡ committed b.program.now U.tenants → ((s : ℕ) → leaver b.program.now V.tenants s ≡ leaver b.program.now U.tenants s) → W ≡ window b.program.now V.tenants → AllByRecursion IsNoRetiredStop V.tenants → AreStill V.tenants → StandsFor (record b { window = W; missed = m; settled = n }) V
-stand_on b W m n U V none s c l w ns still =
+pub stand_on : (b : Pipeline) (W : List Station) (m : Bool) (n : ℕ) (U V : UpdateUnit) → b.over ≡ None →
+    StandsFor b U → committed b.program.now V.tenants ≡ committed b.program.now U.tenants → ((s : ℕ) →
+    leaver b.program.now V.tenants s ≡ leaver b.program.now U.tenants s) →
+    LeavesSame b.program.now U.tenants V.tenants → W ≡ window b.program.now V.tenants →
+    AllByRecursion IsNoRetiredStop V.tenants → AreStill V.tenants →
+    StandsFor (record b { window = W; missed = m; settled = n }) V
+stand_on b W m n U V none s c l k w ns still =
     record {
       window = w;
       committed = s.committed ∙ sym c;
       leavers = λ k h. s.leavers k h ∙ ap Some (sym (l k));
       over = subst (OverIs V.tenants) (sym none) (ns, still);
+      low = s.low ∙ sym k.low;
+      oldest = s.oldest ∙ ap (λ r. r % b.ring) (sym k.retired);
     }
 
 -- What is remembered does not matter
@@ -74,7 +82,7 @@ moves_from b b' m n answer later e h = go (subst (λ x. Moves x answer later) e 
   where
     go : Moves (record b { missed = m; settled = n }) answer later → Moves b answer later
     go h U r s =
-        let x = h U r (record { window = s.window; committed = s.committed; leavers = s.leavers; over = s.over }) in
+        let x = h U r (record { window = s.window; committed = s.committed; leavers = s.leavers; over = s.over; low = s.low; oldest = s.oldest }) in
         record { unit = x.unit; reached = x.reached; stands = x.stands; does = x.does }
 
 miss_fate : (f : Fate) (x : ℕ) → miss_of (stage_of f) ≡ Some x → f ≡ Miss x
@@ -134,6 +142,10 @@ recovered_turn b later none to rest U r s = subst (Moved b U Recovered) (sym res
             record {
               unit = V;
               reached = reach_on P C 0 U steps V r leads;
-              stands = stand_on b later.window later.missed later.settled U V none s (committed_on P C 0 U steps V leads (sound_of P C U r) (tt, all_weaker IsSquash IsNoRetire squash_quiet k.squashes k.are)) (λ n. leaver_recover P n ys t ts to.x f.found.live ∙ ap (λ X. leaver P X n) (sym f.found.split)) shown (k.stops (subst (AllByRecursion IsNoRetiredStop) f.found.split over.0)) (k.still (subst AreStill f.found.split over.1));
-              does = record { ys = ys; tenant = t; ts = ts; stands = f.found.split; live = f.found.live; x = to.x; miss = miss; oldest = no_miss P ts (oldest_is miss_in P b.window U.tenants to.i to.w f to.first.first); squashes = k.squashes; are = k.are; leads = leads };
+              stands = stand_on b later.window later.missed later.settled U V none s
+                  (committed_on P C 0 U steps V leads (sound_of P C U r) (tt, all_weaker IsSquash IsNoRetire squash_quiet k.squashes k.are))
+                  (λ n. leaver_recover P n ys t ts to.x f.found.live ∙ ap (λ X. leaver P X n) (sym f.found.split))
+                  (subst (λ X. LeavesSame P X V.tenants) (sym f.found.split) (same_recover P ys t ts to.x f.found.live)) shown
+                  (k.stops (subst (AllByRecursion IsNoRetiredStop) f.found.split over.0)) (k.still (subst AreStill f.found.split over.1));
+              does = record { goes_on = over.0; ys = ys; tenant = t; ts = ts; stands = f.found.split; live = f.found.live; x = to.x; miss = miss; oldest = no_miss P ts (oldest_is miss_in P b.window U.tenants to.i to.w f to.first.first); squashes = k.squashes; are = k.are; leads = leads };
             }

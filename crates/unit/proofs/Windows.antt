@@ -1,18 +1,22 @@
 -- What a window says of its unit.
-use Rattle.std.proofs.Common.{◌≡◌, ℕ, zero, suc, ◌+◌, ◌-◌, ◌<◌, ◌≤◌, ltb, ltb-true, Bool, true, false, cond, ◌&&◌, eqb, List, [], ◌∷◌, ◌++◌, length, Some, None, refl, sym, ap, ◌∙◌, arith, append_assoc, append-nil, length-append}
+use Rattle.std.proofs.Common.{◌≡◌, ℕ, zero, suc, ◌+◌, ◌-◌, ◌<◌, ◌≤◌, ltb, ltb-true, Bool, true, false, cond, ◌&&◌, eqb, List, [], ◌∷◌, ◌++◌, length, Option, Some, None, refl, sym, ap, ◌∙◌, arith, append_assoc, append-nil, length-append}
 use Rattle.std.specs.Prelude.{slice_get, slice_index}
 use Rattle.std.specs.List.{AllByRecursion}
 use Rattle.isa.specs.Programs.{Program}
-use Rattle.inorder.specs.Committed.{committed}
+use Rattle.inorder.specs.Callers.{is_retired, stands_retired}
+use Rattle.inorder.specs.Committed.{ahead, committed}
 use Rattle.inorder.specs.Steps.{IsNoRetiredStop}
-use Rattle.inorder.specs.Tenants.{Live, Retired, Squashed, Standing, Tenant, destination_of, is_access, is_live, is_live_access, kind_of, on_path, stands_live, stands_on_path}
-use Rattle.inorder.specs.Unit.{creator, front_pc, how_many, last_writer, value_of}
+use Rattle.inorder.specs.Tenants.{Live, Retired, Squashed, Standing, Tenant, destination_of, is_access, is_first, is_live, is_live_access, kind_of, on_path, stands_live, stands_on_path}
+use Rattle.inorder.specs.Unit.{creator, front_half, front_pc, half_after, how_many, last_writer, value_of}
 use Rattle.inorder.proofs.Basics.{last_writer_below, value_of_more}
-use Rattle.inorder.proofs.SettledRegisters.{committed_if, committed_pc, register_given, squashed_not, value_of_last, writer_if}
+use Rattle.inorder.proofs.Commits.{not_complete}
+use Rattle.inorder.proofs.SettledRegisters.{ahead_if, committed_if, committed_pc, register_given, squashed_not, value_of_last, writer_if}
 use Rattle.inorder.proofs.Sound.{IsSettled, IsSound, SettledBy}
 use Rattle.unit_laws.proofs.Left.{live_commits, retired_all, retired_commits}
+use Rattle.unit.specs.Ahead.{low_after, low_of, waiting_half}
 use Rattle.unit.specs.declared.station.Station.{Station}
-use Rattle.unit.specs.Window.{access_at, accesses, next_after, next_in, register_after, register_in, source_in, station_of, window}
+use Rattle.unit.specs.Window.{access_at, accesses, half_behind, half_in, next_after, next_in, register_after, register_in, source_in, station_of, window}
+use Rattle.unit.proofs.Waiting.{low_if}
 use Rattle.unit.proofs.Scan.{get_end, get_left, register_end}
 
 -- The list
@@ -103,12 +107,14 @@ none_left P (t ∷ ts) h = go t.standing refl h.0 (none_left P ts h.1)
 -- Registers
 
 -- the value of register r, by the tenants and by the window
-pub writer_worth : (P : Program) (U : List Tenant) → IsSound P U → AllByRecursion IsNoRetiredStop U → (r : ℕ) → suc r < 32 → value_of U (last_writer P U (suc r)) ≡ register_in (suc r) (Some (slice_index (committed P U).registers (suc r))) (window P U)
+pub writer_worth : (P : Program) (U : List Tenant) → IsSound P U → AllByRecursion IsNoRetiredStop U → (r : ℕ) →
+    suc r < 34 →
+    value_of U (last_writer P U (suc r)) ≡ register_in (suc r) (Some (slice_index (ahead P U).registers (suc r))) (window P U)
 writer_worth P [] s n r lt = register_given P [] s tt r lt
 writer_worth P (t ∷ ts) s n r lt = go t.standing refl (writer_worth P ts s.1 n.1 r lt)
   where
     regs : List Tenant → ℕ
-    regs V = slice_index (committed P V).registers (suc r)
+    regs V = slice_index (ahead P V).registers (suc r)
 
     off : (t.standing ≡ Squashed) → value_of (t ∷ ts) (last_writer P (t ∷ ts) (suc r)) ≡ value_of ts (last_writer P ts (suc r))
     off e =
@@ -131,22 +137,23 @@ writer_worth P (t ∷ ts) s n r lt = go t.standing refl (writer_worth P ts s.1 n
         on (eqb (destination_of P t) (suc r)) refl e more
         ∙ sym (register_end (suc r) (Some (regs ts)) (window P ts) (station_of P t))
         ∙ sym (ap (register_in (suc r) (Some (regs ts))) (window_live P t ts e))
-        ∙ sym (ap (λ c. register_in (suc r) (Some (slice_index c.registers (suc r))) (window P (t ∷ ts))) (committed_if P t ts false (live_commits t e)))
+        ∙ sym (ap (λ c. register_in (suc r) (Some (slice_index c.registers (suc r))) (window P (t ∷ ts))) (ahead_if P t ts false (live_commits t e)))
     go Squashed e more =
         off e
         ∙ more
         ∙ sym (ap (register_in (suc r) (Some (regs ts))) (window_if P t ts false (ap stands_live e)))
-        ∙ sym (ap (λ c. register_in (suc r) (Some (slice_index c.registers (suc r))) (window P (t ∷ ts))) (committed_if P t ts false (squashed_not t e)))
+        ∙ sym (ap (λ c. register_in (suc r) (Some (slice_index c.registers (suc r))) (window P (t ∷ ts))) (ahead_if P t ts false (squashed_not t e)))
     go Retired e more =
         let all = retired_all P t ts s e n.0 in
-        register_given P (t ∷ ts) s all r lt ∙ sym (ap (register_in (suc r) (Some (regs (t ∷ ts)))) (none_left P (t ∷ ts) all))
+        register_given P (t ∷ ts) s all r lt
+        ∙ sym (ap (register_in (suc r) (Some (regs (t ∷ ts)))) (none_left P (t ∷ ts) all))
 
-pub source_worth : (P : Program) (U : List Tenant) → IsSound P U → AllByRecursion IsNoRetiredStop U → (r : ℕ) → value_of U (creator P U r) ≡ source_in (committed P U).registers (window P U) r
+pub source_worth : (P : Program) (U : List Tenant) → IsSound P U → AllByRecursion IsNoRetiredStop U → (r : ℕ) → value_of U (creator P U r) ≡ source_in (ahead P U).registers (window P U) r
 source_worth P U s n zero = refl
-source_worth P U s n (suc r) = go (ltb (suc r) 32) refl
+source_worth P U s n (suc r) = go (ltb (suc r) 34) refl
   where
-    go : (b : Bool) → ltb (suc r) 32 ≡ b → value_of U (cond b (last_writer P U (suc r)) None) ≡ cond b (register_in (suc r) (Some (slice_index (committed P U).registers (suc r))) (window P U)) (Some 0)
-    go true e = writer_worth P U s n r (ltb-true (suc r) 32 e)
+    go : (b : Bool) → ltb (suc r) 34 ≡ b → value_of U (cond b (last_writer P U (suc r)) None) ≡ cond b (register_in (suc r) (Some (slice_index (ahead P U).registers (suc r))) (window P U)) (Some 0)
+    go true e = writer_worth P U s n r (ltb-true (suc r) 34 e)
     go false e = refl
 
 -- The front pc
@@ -171,17 +178,51 @@ front_worth P (t ∷ ts) s n = go t.standing refl (front_worth P ts s.1 n.1)
     go Squashed e more =
         front_if false (ap stands_on_path e)
         ∙ more
-        ∙ sym (ap (λ c. next_in c.pc (window P ts)) (committed_if P t ts false (squashed_not t e)))
+        ∙ sym (ap (λ c. next_in c.pc (window P ts)) (committed_if P t ts false (not_complete P t (squashed_not t e))))
         ∙ sym (ap (next_in (committed P (t ∷ ts)).pc) (window_if P t ts false (ap stands_live e)))
     go Retired e more =
         let all = retired_all P t ts s e n.0 in
         sym (committed_pc P (t ∷ ts) s all) ∙ sym (ap (next_in (committed P (t ∷ ts)).pc) (none_left P (t ∷ ts) all))
 
--- The path: those that have committed, and the window
+-- The half that comes next
 
-pub path_length : (P : Program) (U : List Tenant) → AllByRecursion IsNoRetiredStop U → how_many on_path U ≡ (committed P U).count + length (window P U)
-path_length P [] n = refl
-path_length P (t ∷ ts) n = go t.standing refl (path_length P ts n.1)
+half_end : (low : Option ℕ) (ws : List Station) (w : Station) → half_in low (ws ++ w ∷ []) ≡ half_behind low (Some w)
+half_end low ws w =
+    let last : length (ws ++ w ∷ []) - 1 ≡ length ws = omega (arith, length-append ws (w ∷ [])) in
+    ap (λ k. half_behind low (slice_get (ws ++ w ∷ []) k)) last ∙ ap (half_behind low) (get_end ws [] w)
+
+pub half_worth : (P : Program) (U : List Tenant) → IsSound P U → AllByRecursion IsNoRetiredStop U → front_half P U ≡ half_in (low_of P U) (window P U)
+half_worth P [] s n = refl
+half_worth P (t ∷ ts) s n = go t.standing refl (half_worth P ts s.1 n.1)
+  where
+    half_if : (b : Bool) → on_path t ≡ b → front_half P (t ∷ ts) ≡ cond b (half_after (is_first P t)) (front_half P ts)
+    half_if b e = ap (λ x. cond x (half_after (is_first P t)) (front_half P ts)) e
+
+    behind : (f : Bool) → half_after f ≡ waiting_half (low_after true f t.made (low_of P ts))
+    behind true = refl
+    behind false = refl
+
+    go : (st : Standing) → t.standing ≡ st → front_half P ts ≡ half_in (low_of P ts) (window P ts) → front_half P (t ∷ ts) ≡ half_in (low_of P (t ∷ ts)) (window P (t ∷ ts))
+    go Live e more =
+        half_if true (ap stands_on_path e)
+        ∙ sym (half_end (low_of P (t ∷ ts)) (window P ts) (station_of P t))
+        ∙ sym (ap (half_in (low_of P (t ∷ ts))) (window_live P t ts e))
+    go Squashed e more =
+        half_if false (ap stands_on_path e)
+        ∙ more
+        ∙ sym (ap (λ l. half_in l (window P ts)) (low_if P t ts false (squashed_not t e)))
+        ∙ sym (ap (half_in (low_of P (t ∷ ts))) (window_if P t ts false (ap stands_live e)))
+    go Retired e more =
+        half_if true (ap stands_on_path e)
+        ∙ behind (is_first P t)
+        ∙ sym (ap waiting_half (low_if P t ts true (retired_commits t e n.0)))
+        ∙ sym (ap (half_in (low_of P (t ∷ ts))) (none_left P (t ∷ ts) (retired_all P t ts s e n.0)))
+
+-- The path: those that have retired, and the window
+
+pub path_length : (P : Program) (U : List Tenant) → how_many on_path U ≡ how_many is_retired U + length (window P U)
+path_length P [] = refl
+path_length P (t ∷ ts) = go t.standing refl (path_length P ts)
   where
     W : List Station
     W = window P ts
@@ -189,10 +230,13 @@ path_length P (t ∷ ts) n = go t.standing refl (path_length P ts n.1)
     path_if : (b : Bool) → on_path t ≡ b → how_many on_path (t ∷ ts) ≡ cond b (suc (how_many on_path ts)) (how_many on_path ts)
     path_if b e = ap (λ x. cond x (suc (how_many on_path ts)) (how_many on_path ts)) e
 
-    go : (st : Standing) → t.standing ≡ st → how_many on_path ts ≡ (committed P ts).count + length W → how_many on_path (t ∷ ts) ≡ (committed P (t ∷ ts)).count + length (window P (t ∷ ts))
+    retired_if : (b : Bool) → is_retired t ≡ b → how_many is_retired (t ∷ ts) ≡ cond b (suc (how_many is_retired ts)) (how_many is_retired ts)
+    retired_if b e = ap (λ x. cond x (suc (how_many is_retired ts)) (how_many is_retired ts)) e
+
+    go : (st : Standing) → t.standing ≡ st → how_many on_path ts ≡ how_many is_retired ts + length W → how_many on_path (t ∷ ts) ≡ how_many is_retired (t ∷ ts) + length (window P (t ∷ ts))
     go Live e more =
-        omega (arith, more, path_if true (ap stands_on_path e), ap length (window_live P t ts e), length-append W (station_of P t ∷ []), ap (λ c. c.count) (committed_if P t ts false (live_commits t e)))
+        omega (arith, more, path_if true (ap stands_on_path e), retired_if false (ap stands_retired e), ap length (window_live P t ts e), length-append W (station_of P t ∷ []))
     go Squashed e more =
-        omega (arith, more, path_if false (ap stands_on_path e), ap length (window_if P t ts false (ap stands_live e)), ap (λ c. c.count) (committed_if P t ts false (squashed_not t e)))
+        omega (arith, more, path_if false (ap stands_on_path e), retired_if false (ap stands_retired e), ap length (window_if P t ts false (ap stands_live e)))
     go Retired e more =
-        omega (arith, more, path_if true (ap stands_on_path e), ap length (window_if P t ts false (ap stands_live e)), ap (λ c. c.count) (committed_if P t ts true (retired_commits t e n.0)))
+        omega (arith, more, path_if true (ap stands_on_path e), retired_if true (ap stands_retired e), ap length (window_if P t ts false (ap stands_live e)))

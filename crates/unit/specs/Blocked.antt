@@ -1,5 +1,5 @@
 -- The loads that the queue of a unit blocks.
-use Rattle.std.specs.Prelude.{◌≡◌, ℕ, List, [], ◌∷◌}
+use Rattle.std.specs.Prelude.{◌≡◌, ◌≢◌, ℕ, List, [], ◌∷◌}
 use Rattle.isa.specs.Instruction.{width}
 use Rattle.isa.specs.Programs.{Program}
 use Rattle.isa.specs.declared.op.Kind.TheVariants.{Loads}
@@ -14,6 +14,13 @@ IsBlocked P ts t =
     t.standing ≡ Live → kind_of P t ≡ Loads → (a : ℕ) → t.fate ≡ Addr a →
     (place : ℕ) × (answer_over (queue_of P ts) a (width (instr P t).op) ≡ Blocked place)
 
+-- Each of them is blocked by those before it
 abbrev pub AreBlocked : Program → List Tenant → Type 0
 AreBlocked P [] = Unit {0}
 AreBlocked P (t ∷ ts) = IsBlocked P ts t × AreBlocked P ts
+
+-- The rule blocks the load t by none of the live memory instructions before it
+abbrev pub IsUnblocked : Program → List Tenant → Tenant → Type 0
+IsUnblocked P ts t =
+    (a place : ℕ) → t.fate ≡ Addr a →
+    answer_over (queue_of P ts) a (width (instr P t).op) ≢ Blocked place

@@ -7,6 +7,7 @@ use Rattle.inorder.specs.Runs.{end_from}
 use Rattle.unit.specs.declared.dispatch.Fetched.{Fetched}
 use Rattle.unit.specs.declared.pipeline.Pipeline.{Pipeline}
 use Rattle.unit.specs.declared.station.Station.{Station}
+use Rattle.unit.specs.Ahead.{ahead_by, with_low}
 use Rattle.unit.specs.Givers.{NoneGives}
 use Rattle.unit.specs.Loads.{load_in}
 use Rattle.unit.specs.Notes.{miss_in}
@@ -17,37 +18,53 @@ use Rattle.unit.specs.Window.{operands_in}
 abbrev pub with_window : Pipeline → List Station → Bool → ℕ → Pipeline
 with_window b window missed settled = record b { window = window; missed = missed; settled = settled }
 
+-- The state that a new tenant finds where nobody is live
+abbrev pub ahead_of : Pipeline → State
+ahead_of b = ahead_by b.low b.committed
+
+-- What each register holds there
+abbrev pub registers_of : Pipeline → List ℕ
+registers_of b = with_low b.low b.committed.registers
+
 -- Recovery
 
+-- The oldest miss is mended, and all after it are gone
 abbrev pub RecoversOldest : Pipeline → Pipeline → Type 0
 RecoversOldest b later = RecoversTo b.window later.window
 
+-- No station is a miss
 abbrev pub NoneRecovers : Pipeline → Type 0
 NoneRecovers b = NoneGives miss_in b.window
 
--- Dispatch: what can be let next, and the station of the next tenant
+-- Dispatch
 
+-- What can be let next, or that nothing can
 abbrev pub NextOf : Pipeline → Option Fetched → Type 0
-NextOf b next = NextIs b.program.now b.ring b.queue b.committed.pc b.window next
+NextOf b next = NextIs b.program.now b.ring b.queue b.committed.pc b.low b.window next
 
+-- The station of the next tenant
 abbrev pub next_place : Pipeline → ℕ
-next_place b = (b.committed.count + length b.window) % b.ring
+next_place b = (b.oldest + length b.window) % b.ring
 
 -- Execution
 
+-- The oldest station that can be claimed is finished
 abbrev pub RunsOldest : Pipeline → Pipeline → Type 0
-RunsOldest b later = RunsTo b.committed.registers (length b.program.now.bytes) b.window later.window
+RunsOldest b later = RunsTo (registers_of b) (length b.program.now.bytes) b.window later.window
 
+-- No station can be claimed
 abbrev pub NoneRuns : Pipeline → Type 0
-NoneRuns b = NoneGives (operands_in b.committed.registers) b.window
+NoneRuns b = NoneGives (operands_in (registers_of b)) b.window
 
 -- The memory port
 
+-- The oldest load that is not blocked gets its value
 abbrev pub LoadsOldest : Pipeline → Pipeline → Type 0
-LoadsOldest b later = LoadsTo b.committed.registers b.committed.memory b.window later.window
+LoadsOldest b later = LoadsTo (registers_of b) b.committed.memory b.window later.window
 
+-- No load gets a value
 abbrev pub NoneLoads : Pipeline → Type 0
-NoneLoads b = NoneGives (load_in b.committed.registers b.committed.memory) b.window
+NoneLoads b = NoneGives (load_in (registers_of b) b.committed.memory) b.window
 
 -- Runs
 

@@ -7,21 +7,23 @@ use Rattle.inorder.specs.Tenants.{Done, Fate, Retired, Standing, Tenant, instr}
 use Rattle.unit.specs.declared.leaver.Leaver.{Leaver}
 use Rattle.unit.specs.declared.station.Station.{Station}
 
+-- A leaver, unless where it went on was fixed
 abbrev pub leaver_by : Option ℕ → ℕ → ℕ → Option Leaver
 leaver_by None pc next = Some (record { pc = pc; next = next })
 leaver_by (Some x) pc next = None
 
 -- What a station tells when its tenant retires
 abbrev pub leaver_of : Station → Option Leaver
-leaver_of w = leaver_by (fixed_next w.instr w.pc) w.pc w.next
+leaver_of w = leaver_by (fixed_next w.instr w.half w.pc) w.pc w.next
 
 -- A tenant that was predicted and has retired: its pc and its computed next pc
 abbrev pub told_by : Standing → Fate → Option ℕ → ℕ → Option Leaver
 told_by Retired (Done x) fixed pc = leaver_by fixed pc x
 told_by _ _ fixed pc = None
 
+-- What a tenant leaves behind for the predictor
 abbrev pub told_of : Program → Tenant → Option Leaver
-told_of P t = told_by t.standing t.fate (fixed_next (instr P t) t.pc) t.pc
+told_of P t = told_by t.standing t.fate (fixed_next (instr P t) t.half t.pc) t.pc
 
 -- What the predictor is told when station s is let again: of its last tenant, if that was predicted and has
 -- retired, and of nobody else

@@ -1,16 +1,18 @@
 -- How the oldest station leaves.
-use Rattle.std.specs.Prelude.{◌≡◌, ◌≤◌, ◌+◌, ◌-◌, ◌%◌, ℕ, suc, List, [], drop, Option, Some, None, unwrap_or, slice_set}
-use Rattle.isa.specs.Instruction.{width}
+use Rattle.std.specs.Prelude.{◌≡◌, ◌≤◌, ◌+◌, ◌-◌, ◌%◌, ℕ, suc, Bool, true, false, List, [], drop, Option, Some, None, unwrap_or, slice_set}
+use Rattle.isa.specs.Instruction.{is_first_half, second_of, width}
 use Rattle.isa.specs.declared.instr.Instr.{Instr}
 use Rattle.isa.specs.declared.stop.Stop.{Stop}
 use Rattle.isa.specs.declared.stop.Stop.TheVariants.{BadPc}
 use Rattle.inorder.specs.Machine.{State, store_bytes, write}
 use Rattle.unit.specs.declared.bench.Turn.{Turn}
-use Rattle.unit.specs.declared.bench.Turn.TheVariants.{Over, Retired}
+use Rattle.unit.specs.declared.bench.Turn.TheVariants.{Halved, Over, Retired}
 use Rattle.unit.specs.declared.pipeline.Pipeline.{Pipeline}
 use Rattle.unit.specs.declared.station.Stage.{Stage}
 use Rattle.unit.specs.declared.station.Stage.TheVariants.{Addr, Done, Stops}
 use Rattle.unit.specs.declared.station.Station.{Station}
+use Rattle.unit.specs.declared.leaver.Leaver.{Leaver}
+use Rattle.unit.specs.Changes.{ahead_of}
 use Rattle.unit.specs.Leavers.{leaver_of}
 use Rattle.unit.specs.Window.{source_in}
 
@@ -21,6 +23,7 @@ HasEnded size i (Stops c) = Unit {0}
 HasEnded size i (Addr a) = a + width i.op ≤ size
 HasEnded size i _ = ⊥
 
+-- The oldest station, if there is one, has ended
 abbrev pub CanLeave : ℕ → Option Station → Type 0
 CanLeave size None = Unit {0}
 CanLeave size (Some w) = HasEnded size w.instr w.stage
@@ -28,7 +31,7 @@ CanLeave size (Some w) = HasEnded size w.instr w.stage
 -- The memory behind a station: a store writes its data
 abbrev pub memory_with : Instr → Stage → List ℕ → List ℕ → List ℕ
 memory_with i (Addr a) registers memory =
-    store_bytes memory a (width i.op) (unwrap_or (source_in registers [] i.second) 0)
+    store_bytes memory a (width i.op) (unwrap_or (source_in registers [] (second_of i)) 0)
 memory_with i _ registers memory = memory
 
 -- The committed state behind a station
@@ -41,24 +44,48 @@ with_station w s =
       count = suc s.count;
     }
 
--- The fields behind a stop that retires
-abbrev pub ended : Pipeline → Stop → Pipeline
-ended b c = record b { window = drop 1 b.window; over = Some c; settled = b.settled - 1 }
-
--- The fields behind any other station that retires
-abbrev pub left : Pipeline → Station → Pipeline
-left b w =
+-- The fields where the oldest station is free again
+abbrev pub shifted : Pipeline → Pipeline
+shifted b =
     record b {
       window = drop 1 b.window;
-      committed = with_station w b.committed;
-      leavers = slice_set b.leavers ((b.committed.count + 0) % b.ring) (leaver_of w);
+      oldest = (b.oldest + 1) % b.ring;
       settled = b.settled - 1;
     }
 
+-- The fields behind a stop that retires
+abbrev pub ended : Pipeline → Stop → Pipeline
+ended b c = record (shifted b) { over = Some c }
+
+-- Who has left each station, behind one that retires from the oldest
+abbrev pub leavers_with : Pipeline → Station → List (Option Leaver)
+leavers_with b w = slice_set b.leavers b.oldest (leaver_of w)
+
+-- The fields behind a first half that retires: what it made waits
+abbrev pub halved : Pipeline → Station → Pipeline
+halved b w =
+    record (shifted b) { leavers = leavers_with b w; low = Some (unwrap_or w.made 0) }
+
+-- The fields behind any other station that retires: what waited is committed with it
+abbrev pub left : Pipeline → Station → Pipeline
+left b w =
+    record (shifted b) {
+      committed = with_station w (ahead_of b);
+      leavers = leavers_with b w;
+      low = None;
+    }
+
+-- What a station that is no stop leaves behind, where it is a first half or not
+abbrev pub PassesTo : Bool → Pipeline → Station → Turn → Pipeline → Type 0
+PassesTo true b w answer later = (answer ≡ Halved) × (later ≡ halved b w)
+PassesTo false b w answer later = (answer ≡ Retired) × (later ≡ left b w)
+
+-- What the oldest station leaves behind, by how far it has come
 abbrev pub LeavesTo : Pipeline → Station → Stage → Turn → Pipeline → Type 0
 LeavesTo b w (Stops c) answer later = (answer ≡ Over c) × (later ≡ ended b c)
-LeavesTo b w _ answer later = (answer ≡ Retired) × (later ≡ left b w)
+LeavesTo b w _ answer later = PassesTo (is_first_half w.instr.op w.half) b w answer later
 
+-- What a retirement answers and leaves: without a station there is no instruction
 abbrev pub RetiresTo : Pipeline → Option Station → Turn → Pipeline → Type 0
 RetiresTo b None answer later = (answer ≡ Over BadPc) × (later ≡ b)
 RetiresTo b (Some w) answer later = LeavesTo b w w.stage answer later

@@ -1,8 +1,10 @@
 pub mod Window
+pub mod Creators
 pub mod Givers
 pub mod Loads
 pub mod Notes
 pub mod Stages
+pub mod Ahead
 pub mod Leaves
 pub mod Leavers
 pub mod Changes

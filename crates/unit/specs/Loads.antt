@@ -1,6 +1,6 @@
 -- Loads over the live memory instructions before them.
 use Rattle.std.specs.Prelude.{◌≡◌, ◌<◌, ◌≤◌, is_some, ℕ, zero, suc, ◌+◌, Bool, false, List, [], ◌∷◌, ◌++◌, length, take, Option, Some, None, if◌then◌else◌, slice_index, slice_get}
-use Rattle.isa.specs.Instruction.{kind, width}
+use Rattle.isa.specs.Instruction.{kind, second_of, width}
 use Rattle.isa.specs.Operations.{loaded}
 use Rattle.isa.specs.declared.op.Kind.{Kind}
 use Rattle.isa.specs.declared.op.Kind.TheVariants.{Loads as LoadKind}
@@ -16,6 +16,7 @@ use Rattle.unit.specs.declared.station.Stage.TheVariants.{Addr}
 use Rattle.unit.specs.declared.station.Station.{Station}
 use Rattle.unit.specs.Window.{reaches_memory, source_in}
 
+-- An address that was computed
 abbrev pub address_of : Stage → Option ℕ
 address_of (Addr a) = Some a
 address_of _ = None
@@ -27,13 +28,15 @@ entry registers ws w =
       store = is_store (kind w.instr.op);
       width = access_width w.instr.op;
       address = address_of w.stage;
-      content = content_by (kind w.instr.op) (source_in registers ws w.instr.second);
+      content = content_by (kind w.instr.op) (source_in registers ws (second_of w.instr));
     }
 
+-- What the queue holds of station i, if that reaches memory
 abbrev pub entry_at : List ℕ → List Station → Option Station → ℕ → Option Entry
 entry_at registers W None i = None
 entry_at registers W (Some w) i = if reaches_memory w.instr.op then Some (entry registers (take i W) w) else None
 
+-- A queue that an entry joins, if there is one
 abbrev pub with_entry : List Entry → Option Entry → List Entry
 with_entry es None = es
 with_entry es (Some e) = es ++ e ∷ []
@@ -48,6 +51,7 @@ abbrev pub waits_by : Kind → Stage → Option ℕ
 waits_by LoadKind (Addr a) = Some a
 waits_by _ _ = None
 
+-- The same of a station
 abbrev pub waits : Station → Option ℕ
 waits w = waits_by (kind w.instr.op) w.stage
 
@@ -57,6 +61,7 @@ value_by (Forward raw) memory op a = Some (loaded op raw)
 value_by Memory memory op a = Some (loaded op (little_endian (slice_index memory) a (width op)))
 value_by (Blocked place) memory op a = None
 
+-- The value of a load of an address over these entries, if it is one
 abbrev pub load_by : List Entry → List ℕ → Op → Option ℕ → Option ℕ
 load_by es memory op None = None
 load_by es memory op (Some a) = value_by (answer_over es a (width op)) memory op a
@@ -69,9 +74,11 @@ load_in registers memory ws w = load_by (entries registers ws (length ws)) memor
 abbrev pub IsInside : ℕ → Station → Type 0
 IsInside size w = (a : ℕ) → w.stage ≡ Addr a → a + width w.instr.op ≤ size
 
+-- So is each of a list
 abbrev pub AreInside : ℕ → List Station → Type 0
 AreInside size W = (k : ℕ) (w : Station) → slice_get W k ≡ Some w → IsInside size w
 
+-- A load that waits for its value
 abbrev pub waits_at : Option Station → Bool
 waits_at None = false
 waits_at (Some w) = is_some (waits w)

@@ -16,6 +16,7 @@ settled_by _ (Stops c) = true
 settled_by StoreKind (Addr a) = true
 settled_by _ _ = false
 
+-- The same of a station, if there is one
 abbrev pub settled_at : Option Station → Bool
 settled_at None = false
 settled_at (Some w) = settled_by (kind w.instr.op) w.stage
@@ -25,6 +26,7 @@ pub record AreSettled (n : ℕ) (W : List Station) : Type 0 where
   pub inside : n ≤ length W
   pub each : (k : ℕ) → k < n → settled_at (slice_get W k) ≡ true
 
+-- The computed next pc of a miss, whatever stands before it
 abbrev pub miss_in : List Station → Station → Option ℕ
 miss_in ws w = miss_of w.stage
 

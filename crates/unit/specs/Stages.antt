@@ -1,6 +1,6 @@
 -- What each stage of a turn does to the window.
 use Rattle.std.specs.Prelude.{◌≡◌, ◌<◌, ◌≤◌, ℕ, true, List, [], ◌∷◌, ◌++◌, length, take, Option, Some, None, slice_get, slice_set}
-use Rattle.isa.specs.Operations.{outcome}
+use Rattle.isa.specs.Operations.{outcome_of}
 use Rattle.isa.specs.Programs.{Program, instr_at}
 use Rattle.isa.specs.declared.instr.Instr.{Instr}
 use Rattle.unit.specs.declared.dispatch.Fetched.{Fetched}
@@ -13,7 +13,7 @@ use Rattle.unit.specs.declared.station.Stage.TheVariants.{Done}
 use Rattle.unit.specs.Givers.{FirstGives, NoneGives}
 use Rattle.unit.specs.Loads.{load_in}
 use Rattle.unit.specs.Notes.{miss_in}
-use Rattle.unit.specs.Window.{accesses, finished, mended, next_in, operands_in, reaches_memory}
+use Rattle.unit.specs.Window.{accesses, finished, half_in, mended, next_in, operands_in, reaches_memory}
 
 -- The oldest miss is mended, and all after it are gone
 pub record RecoversTo (W W' : List Station) : Type 0 where
@@ -25,9 +25,11 @@ pub record RecoversTo (W W' : List Station) : Type 0 where
   pub new : W' ≡ take i W ++ mended w x ∷ []
 
 -- The next instruction can be let
-pub record CanLet (P : Program) (ring queue pc : ℕ) (W : List Station) (f : Fetched) : Type 0 where
+pub record CanLet (P : Program) (ring queue pc : ℕ) (low : Option ℕ) (W : List Station)
+    (f : Fetched) : Type 0 where
   pub room : length W < ring
   pub place : f.pc ≡ next_in pc W
+  pub half : f.half ≡ half_in low W
   pub is : instr_at P f.pc ≡ Some f.instr
   pub free : reaches_memory f.instr.op ≡ true → accesses W (length W) < queue
 
@@ -44,10 +46,12 @@ pub data CannotLet (P : Program) (ring queue pc : ℕ) (W : List Station) : Type
   NoInstr : instr_at P (next_in pc W) ≡ None → CannotLet P ring queue pc W
   QueueFull : IsQueueFull P queue pc W → CannotLet P ring queue pc W
 
-abbrev pub NextIs : Program → ℕ → ℕ → ℕ → List Station → Option Fetched → Type 0
-NextIs P ring queue pc W None = CannotLet P ring queue pc W
-NextIs P ring queue pc W (Some f) = CanLet P ring queue pc W f
+-- What can be let next, or that nothing can
+abbrev pub NextIs : Program → ℕ → ℕ → ℕ → Option ℕ → List Station → Option Fetched → Type 0
+NextIs P ring queue pc low W None = CannotLet P ring queue pc W
+NextIs P ring queue pc low W (Some f) = CanLet P ring queue pc low W f
 
+-- The oldest station that can be claimed, or that there is none
 abbrev pub FirstReady : List ℕ → List Station → Option Ready → Type 0
 FirstReady registers W None = NoneGives (operands_in registers) W
 FirstReady registers W (Some r) = FirstGives (operands_in registers) W r.at r.operands
@@ -59,8 +63,9 @@ pub record RunsTo (registers : List ℕ) (size : ℕ) (W W' : List Station) : Ty
   pub o : Operands
   pub first : FirstGives (operands_in registers) W i o
   pub is : slice_get W i ≡ Some w
-  pub new : W' ≡ slice_set W i (finished w (outcome w.instr w.pc o.a o.b size))
+  pub new : W' ≡ slice_set W i (finished w (outcome_of w.instr w.half w.pc o.a o.b size))
 
+-- The oldest load that is not blocked, or that there is none
 abbrev pub FirstAnswered : List ℕ → List ℕ → List Station → Option Answered → Type 0
 FirstAnswered registers memory W None = NoneGives (load_in registers memory) W
 FirstAnswered registers memory W (Some l) = FirstGives (load_in registers memory) W l.at l.value
@@ -74,6 +79,7 @@ pub record LoadsTo (registers memory : List ℕ) (W W' : List Station) : Type 0 
   pub is : slice_get W i ≡ Some w
   pub new : W' ≡ slice_set W i (record w { stage = Done; made = Some value })
 
+-- The oldest miss, or that there is none
 abbrev pub FirstMiss : List Station → Option Missed → Type 0
 FirstMiss W None = NoneGives miss_in W
 FirstMiss W (Some m) = FirstGives miss_in W m.at m.next

@@ -2,17 +2,20 @@
 use Rattle.std.specs.Prelude.{◌≡◌, ◌<◌, ◌≤◌, ℕ, List, length, Option, Some, None, slice_get}
 use Rattle.std.specs.List.{AllByRecursion}
 use Rattle.isa.specs.declared.stop.Stop.{Stop}
+use Rattle.inorder.specs.Callers.{head_station}
 use Rattle.inorder.specs.Committed.{committed}
 use Rattle.inorder.specs.Steps.{IsNoRetiredStop}
 use Rattle.inorder.specs.Tenants.{Retired, Stopped, Tenant}
 use Rattle.inorder.specs.Unit.{Sizes, UpdateUnit, at}
 use Rattle.unit.specs.declared.pipeline.Pipeline.{Pipeline}
+use Rattle.unit.specs.Ahead.{low_of}
 use Rattle.unit.specs.Leavers.{leaver}
 use Rattle.unit.specs.Notes.{AreNoted}
 use Rattle.unit.specs.Window.{window}
 use Rattle.unit_laws.specs.Moves.{IsReached}
 use Rattle.unit_laws.specs.Still.{AreStill}
 
+-- The sizes of the fields, as those of a unit
 abbrev pub sizes : Pipeline → Sizes
 sizes b = record { ring = b.ring; queue = b.queue; first_tag = b.first_tag }
 
@@ -24,9 +27,13 @@ pub record HasStopped (ts : List Tenant) (c : Stop) : Type 0 where
   pub retired : tenant.standing ≡ Retired
   pub fate : tenant.fate ≡ Stopped c
 
+-- No stop has retired: the unit goes on
+abbrev pub GoesOn : List Tenant → Type 0
+GoesOn ts = AllByRecursion IsNoRetiredStop ts
+
 -- The unit goes on, and every delivery that is due was made; or it has ended with a code
 abbrev pub OverIs : List Tenant → Option Stop → Type 0
-OverIs ts None = AllByRecursion IsNoRetiredStop ts × AreStill ts
+OverIs ts None = GoesOn ts × AreStill ts
 OverIs ts (Some c) = HasStopped ts c
 
 -- The fields are those of the unit U
@@ -35,6 +42,8 @@ pub record StandsFor (b : Pipeline) (U : UpdateUnit) : Type 0 where
   pub committed : b.committed ≡ committed b.program.now U.tenants
   pub leavers : (s : ℕ) → s < b.ring → slice_get b.leavers s ≡ Some (leaver b.program.now U.tenants s)
   pub over : OverIs U.tenants b.over
+  pub low : b.low ≡ low_of b.program.now U.tenants
+  pub oldest : b.oldest ≡ head_station (sizes b) U
 
 -- Some unit that legal steps reach stands behind the fields
 pub record IsUnit (b : Pipeline) : Type 0 where
@@ -45,4 +54,5 @@ pub record IsUnit (b : Pipeline) : Type 0 where
   pub ring : b.ring ≤ 32
   pub least : 2 ≤ b.queue
   pub leavers : length b.leavers ≡ 32
+  pub oldest : b.oldest < b.ring
   pub noted : AreNoted b.missed b.settled b.window

@@ -1,35 +1,39 @@
 -- What a turn is: the first of these that is possible, as steps of the unit.
-use Rattle.std.specs.Prelude.{◌≡◌, ◌≢◌, ℕ, zero, suc, ◌+◌, ◌*◌, ◌^◌, ◌<◌, List, [], ◌∷◌, ◌++◌, length, Option, None}
+use Rattle.std.specs.Prelude.{◌≡◌, ◌≢◌, ℕ, zero, suc, ◌+◌, ◌*◌, ◌^◌, ◌<◌, true, List, [], ◌∷◌, ◌++◌, length, Option, Some, None, is_some}
 use Rattle.std.specs.List.{AllByRecursion}
 use Rattle.isa.specs.Instruction.{fixed_next}
-use Rattle.isa.specs.Programs.{Program, instr_at, instr_of}
+use Rattle.isa.specs.Programs.{Program, instr_at}
 use Rattle.isa.specs.declared.instr.Instr.{Instr}
+use Rattle.isa.specs.declared.op.Half.{Half}
 use Rattle.isa.specs.declared.stop.Stop.{Stop}
 use Rattle.isa.specs.declared.stop.Stop.TheVariants.{BadPc}
 use Rattle.inorder.specs.declared.history.Act.TheVariants.{Claim, Finish, Load, Mend, Retire}
 use Rattle.inorder.specs.declared.history.Step.{Step}
 use Rattle.inorder.specs.declared.history.Step.TheVariants.{Let as LetStep, On}
 use Rattle.inorder.specs.declared.history.Supply.{Supply}
-use Rattle.inorder.specs.Committed.{committed}
+use Rattle.inorder.specs.Committed.{ahead, committed}
 use Rattle.inorder.specs.Steps.{MayClaim, MayLet}
-use Rattle.inorder.specs.Tenants.{IsNotLive, Live, Miss, Tenant}
-use Rattle.inorder.specs.Unit.{Sizes, UpdateUnit, front_pc, next_station}
+use Rattle.inorder.specs.Tenants.{IsNotLive, Live, Miss, Tenant, instr, is_first}
+use Rattle.inorder.specs.Unit.{Sizes, UpdateUnit}
 use Rattle.unit.specs.declared.bench.Turn.{Turn}
-use Rattle.unit.specs.declared.bench.Turn.TheVariants.{Let, Loaded, Over, Ran, Recovered, Retired}
+use Rattle.unit.specs.declared.bench.Turn.TheVariants.{Halved, Let, Loaded, Over, Ran, Recovered, Retired}
 use Rattle.unit.specs.declared.pipeline.Pipeline.{Pipeline}
 use Rattle.unit.specs.declared.station.Stage.{Stage}
 use Rattle.unit.specs.declared.station.Stage.TheVariants.{Open, Addr, Miss as Misses}
 use Rattle.unit.specs.declared.station.Station.{Station}
 use Rattle.unit.specs.declared.leaver.Leaver.{Leaver}
+use Rattle.unit.specs.Ahead.{ahead_by}
 use Rattle.unit.specs.Leavers.{IsAsked, IsTold, leaver}
-use Rattle.unit.specs.Blocked.{AreBlocked}
-use Rattle.unit.specs.StandsFor.{HasStopped, StandsFor, sizes}
+use Rattle.unit.specs.Blocked.{AreBlocked, IsUnblocked}
+use Rattle.unit.specs.StandsFor.{GoesOn, HasStopped, StandsFor, sizes}
 use Rattle.unit_laws.specs.Moves.{IsDeliver, IsLink, IsReached, IsSquash, Leads}
 use Rattle.unit_laws.specs.Still.{AreStill}
 
+-- A tenant that is no live miss
 abbrev pub IsNoMiss : Tenant → Type 0
 IsNoMiss t = t.standing ≡ Live → (x : ℕ) → t.fate ≢ Miss x
 
+-- A tenant that nobody may claim
 abbrev pub IsUnclaimable : Program → Tenant → Type 0
 IsUnclaimable P t = MayClaim P t → ⊥
 
@@ -43,6 +47,7 @@ IsIn U ys t ts = U.tenants ≡ ys ++ t ∷ ts
 
 -- The oldest miss: all after it are squashed, and it is mended
 pub record Recovers (P : Program) (C : Sizes) (U V : UpdateUnit) : Type 0 where
+  pub goes_on : GoesOn U.tenants
   pub ys : List Tenant
   pub tenant : Tenant
   pub ts : List Tenant
@@ -57,6 +62,7 @@ pub record Recovers (P : Program) (C : Sizes) (U V : UpdateUnit) : Type 0 where
 
 -- A tenant is let, with its links
 pub record Lets (P : Program) (C : Sizes) (U V : UpdateUnit) : Type 0 where
+  pub goes_on : GoesOn U.tenants
   pub no_miss : AllByRecursion IsNoMiss U.tenants
   pub index : ℕ
   pub predicted : ℕ
@@ -68,6 +74,7 @@ pub record Lets (P : Program) (C : Sizes) (U V : UpdateUnit) : Type 0 where
 
 -- The oldest tenant that can be claimed is claimed and finished, and every delivery that is due is made
 pub record Runs (P : Program) (C : Sizes) (U V : UpdateUnit) : Type 0 where
+  pub goes_on : GoesOn U.tenants
   pub no_miss : AllByRecursion IsNoMiss U.tenants
   pub no_let : NoLet P C U
   pub ys : List Tenant
@@ -82,6 +89,7 @@ pub record Runs (P : Program) (C : Sizes) (U V : UpdateUnit) : Type 0 where
 
 -- The oldest load with its address that no store blocks gets its value, and every delivery that is due is made
 pub record LoadsOne (P : Program) (C : Sizes) (U V : UpdateUnit) : Type 0 where
+  pub goes_on : GoesOn U.tenants
   pub no_miss : AllByRecursion IsNoMiss U.tenants
   pub no_let : NoLet P C U
   pub no_claim : AllByRecursion (IsUnclaimable P) U.tenants
@@ -90,6 +98,7 @@ pub record LoadsOne (P : Program) (C : Sizes) (U V : UpdateUnit) : Type 0 where
   pub ts : List Tenant
   pub stands : IsIn U ys tenant ts
   pub oldest : AreBlocked P ts
+  pub unblocked : IsUnblocked P ts tenant
   pub delivers : List Step
   pub are : AllByRecursion IsDeliver delivers
   pub leads : Leads P C 0 U (delivers ++ On (length ts) Load ∷ []) V
@@ -97,6 +106,7 @@ pub record LoadsOne (P : Program) (C : Sizes) (U V : UpdateUnit) : Type 0 where
 
 -- The oldest live tenant retires
 pub record Retires (P : Program) (C : Sizes) (U V : UpdateUnit) : Type 0 where
+  pub goes_on : GoesOn U.tenants
   pub no_miss : AllByRecursion IsNoMiss U.tenants
   pub no_let : NoLet P C U
   pub no_claim : AllByRecursion (IsUnclaimable P) U.tenants
@@ -107,34 +117,54 @@ pub record Retires (P : Program) (C : Sizes) (U V : UpdateUnit) : Type 0 where
   pub stands : IsIn U ys tenant ts
   pub leads : Leads P C 0 U (On (length ts) (Retire 0) ∷ []) V
 
+-- The oldest live tenant retires, and is a first half: nothing is committed, and what it made is
+-- what the next tenants find in LO
+pub record Halves (P : Program) (C : Sizes) (U V : UpdateUnit) : Type 0 where
+  pub retires : Retires P C U V
+  pub first : is_first P retires.tenant ≡ true
+  pub stays : committed P V.tenants ≡ committed P U.tenants
+  pub made : ℕ
+  pub makes : retires.tenant.made ≡ Some made
+  pub waits : ahead P V.tenants ≡ ahead_by (Some made) (committed P U.tenants)
+
+-- Nobody is live, and there is no instruction to go on with
+pub record IsNowhere (P : Program) (U : UpdateUnit) : Type 0 where
+  pub goes_on : GoesOn U.tenants
+  pub nobody : AllByRecursion IsNotLive U.tenants
+  pub no_instr : instr_at P (committed P U.tenants).pc ≡ None
+
 -- The unit has ended before, or a stop retires, or nobody is live and there is no instruction
 pub data IsOver (P : Program) (C : Sizes) (U V : UpdateUnit) (c : Stop) : Type 0 where
   Before : HasStopped V.tenants c → V ≡ U → IsOver P C U V c
   Now : Retires P C U V → HasStopped V.tenants c → IsOver P C U V c
-  Nowhere : c ≡ BadPc → AllByRecursion IsNotLive U.tenants →
-      instr_at P (committed P U.tenants).pc ≡ None → V ≡ U → IsOver P C U V c
+  Nowhere : c ≡ BadPc → IsNowhere P U → V ≡ U → IsOver P C U V c
 
+-- What each answer of a turn says of the unit before it and behind it
 abbrev pub Does : Program → Sizes → UpdateUnit → UpdateUnit → Turn → Type 0
 Does P C U V Recovered = Recovers P C U V
 Does P C U V Let = Lets P C U V
 Does P C U V Ran = Runs P C U V
 Does P C U V Loaded = LoadsOne P C U V
+Does P C U V Halved = Halves P C U V
 Does P C U V Retired = Retires P C U V
 Does P C U V (Over c) = IsOver P C U V c
 
--- For each unit that b stands for, the turn makes steps that lead to one that the later fields stand for
+-- From the unit U the turn makes steps that lead to one that the later fields stand for
 pub record Moved (b : Pipeline) (U : UpdateUnit) (answer : Turn) (later : Pipeline) : Type 0 where
   pub unit : UpdateUnit
   pub reached : IsReached b.program.now (sizes b) unit
   pub stands : StandsFor later unit
   pub does : Does b.program.now (sizes b) U unit answer
 
+-- It is so for each unit that b stands for
 abbrev pub Moves : Pipeline → Turn → Pipeline → Type 0
 Moves b answer later =
     (U : UpdateUnit) → IsReached b.program.now (sizes b) U → StandsFor b U → Moved b U answer later
 
--- The measure: a turn that retires nothing lowers a number below 7 ^ 32, and one that retires raises the count
+-- The measure: a turn that retires nothing lowers a number below 7 ^ 32, one that retires a first
+-- half makes its value wait where none did, and one that retires anything else raises the count
 
+-- A digit for each stage: it falls as the tenant goes on
 abbrev pub digit : Stage → ℕ
 digit Open = 5
 digit (Addr a) = 3
@@ -147,10 +177,14 @@ rank zero ws = 0
 rank (suc k) [] = 6 * 7 ^ k + rank k []
 rank (suc k) (w ∷ ws) = digit w.stage * 7 ^ k + rank k ws
 
+-- What falls or rises at each answer
 abbrev pub Falls : Turn → Pipeline → Pipeline → Type 0
 Falls (Over c) b later = later.committed ≡ b.committed
+Falls Halved b later = (later.committed ≡ b.committed) × (b.low ≡ None) × (is_some later.low ≡ true)
 Falls Retired b later = later.committed.count ≡ suc b.committed.count
-Falls _ b later = (later.committed ≡ b.committed) × (rank 32 later.window < rank 32 b.window)
+Falls _ b later =
+    (later.committed ≡ b.committed) × (later.low ≡ b.low) ×
+    (rank 32 later.window < rank 32 b.window)
 
 -- The sizes and the program stay
 pub record IsSame (b later : Pipeline) : Type 0 where
@@ -165,45 +199,42 @@ IsPlain Let = ⊥
 IsPlain _ = Unit {0}
 
 -- The fields of a bench
-pub record Core (S : Type 0) : Type 0 where
+pub record BenchFields (S : Type 0) : Type 0 where
   pub pipeline : Pipeline
   pub predictor : S
 
 -- What a turn does to a predictor, by what it says of being asked and told
 module _ {S : Type 0} (Predicts : S → ℕ → Instr → ℕ → S → Type 0) (Learns : S → ℕ → ℕ → S → Type 0) where
   -- It is told, and then asked
-  pub record Guesses (left : Option Leaver) (i : Instr) (pc predicted : ℕ) (old new : S) : Type 0 where
+  pub record Guesses (left : Option Leaver) (i : Instr) (half : Half) (pc predicted : ℕ) (old new : S) : Type 0 where
     pub middle : S
     pub told : IsTold Learns left old middle
-    pub asked : IsAsked Predicts (fixed_next i pc) pc i predicted middle new
+    pub asked : IsAsked Predicts (fixed_next i half pc) pc i predicted middle new
 
-  -- A let tells it of who has left the station, and then asks it for the next pc of the new tenant, if that is
-  -- not fixed
-  abbrev pub TrainsAtLet : (P : Program) (C : Sizes) (U V : UpdateUnit) → Lets P C U V → S → S → Type 0
-  TrainsAtLet P C U V d old new =
-      Guesses (leaver P U.tenants (next_station C U.tenants)) (instr_of P d.index) (front_pc U.tenants) d.predicted
-      old new
+  -- A let tells it of who has left the station of the new tenant, and then asks it for the next pc of that, if it
+  -- is not fixed
+  pub record TrainsAtLet (P : Program) (U V : UpdateUnit) (old new : S) : Type 0 where
+    pub tenant : Tenant
+    pub joins : V.tenants ≡ tenant ∷ U.tenants
+    pub guesses :
+        Guesses (leaver P U.tenants tenant.station) (instr P tenant) tenant.half tenant.pc tenant.predicted old new
 
   -- Nothing else changes it
-  abbrev pub Trains : (P : Program) (C : Sizes) (U V : UpdateUnit) (answer : Turn) → Does P C U V answer → S → S → Type 0
-  Trains P C U V Let d old new = TrainsAtLet P C U V d old new
-  Trains P C U V Recovered d old new = new ≡ old
-  Trains P C U V Ran d old new = new ≡ old
-  Trains P C U V Loaded d old new = new ≡ old
-  Trains P C U V Retired d old new = new ≡ old
-  Trains P C U V (Over c) d old new = new ≡ old
+  abbrev pub Trains : Program → UpdateUnit → UpdateUnit → Turn → S → S → Type 0
+  Trains P U V Let old new = TrainsAtLet P U V old new
+  Trains P U V _ old new = new ≡ old
 
-  pub record Turned (b : Core S) (U : UpdateUnit) (answer : Turn) (later : Core S) : Type 0 where
+  -- From the unit U the turn makes steps that lead to one that the bench stands for then, and changes the
+  -- predictor by them
+  pub record Turned (b : BenchFields S) (U : UpdateUnit) (answer : Turn) (later : BenchFields S) : Type 0 where
     pub unit : UpdateUnit
     pub reached : IsReached b.pipeline.program.now (sizes b.pipeline) unit
     pub stands : StandsFor later.pipeline unit
     pub does : Does b.pipeline.program.now (sizes b.pipeline) U unit answer
-    pub trains :
-        Trains b.pipeline.program.now (sizes b.pipeline) U unit answer does b.predictor later.predictor
+    pub trains : Trains b.pipeline.program.now U unit answer b.predictor later.predictor
 
-  -- For each unit that the bench stands for, the turn makes steps that lead to one that it stands for then, and
-  -- changes the predictor by them
-  abbrev pub IsTurn : Core S → Turn → Core S → Type 0
+  -- It is so for each unit that the bench stands for
+  abbrev pub IsTurn : BenchFields S → Turn → BenchFields S → Type 0
   IsTurn b answer later =
       (U : UpdateUnit) → IsReached b.pipeline.program.now (sizes b.pipeline) U → StandsFor b.pipeline U →
       Turned b U answer later

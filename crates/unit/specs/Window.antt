@@ -1,20 +1,22 @@
 -- The live tenants as a list of stations, the oldest first, and what one of them reads.
 use Rattle.std.specs.Prelude.{ℕ, zero, suc, ◌+◌, ◌-◌, Bool, List, [], ◌∷◌, ◌++◌, length, Option, Some, None, ◌==◌, if◌then◌else◌, slice_index, slice_get, unwrap_or}
-use Rattle.isa.specs.Instruction.{destination, kind}
+use Rattle.isa.specs.Instruction.{destination, first_of, is_first_half, kind, second_of}
 use Rattle.isa.specs.Programs.{Program}
 use Rattle.isa.specs.declared.instr.Instr.{Instr}
+use Rattle.isa.specs.declared.op.Half.{Half}
 use Rattle.isa.specs.declared.op.Kind.{Kind}
 use Rattle.isa.specs.declared.op.Kind.TheVariants.{Stores as StoreKind}
 use Rattle.isa.specs.declared.op.Op.{Op}
 use Rattle.isa.specs.declared.stop.Outcome.{Outcome}
-use Rattle.isa.specs.declared.stop.Outcome.TheVariants.{Address, Next, Stop, Value}
+use Rattle.isa.specs.declared.stop.Outcome.TheVariants.{Address, Next, Pair, Stop, Value}
 use Rattle.inorder.specs.Tenants.{Fate, Tenant, destination_of, instr, is_access, is_live, made_at_let}
 use Rattle.inorder.specs.Tenants.{Open as OpenFate, Busy, Addr as AddrFate, Done as DoneFate, Miss as MissFate, Stopped}
-use Rattle.inorder.specs.Unit.{can_be_written}
+use Rattle.inorder.specs.Unit.{can_be_written, half_after}
 use Rattle.unit.specs.declared.execute.Operands.{Operands}
 use Rattle.unit.specs.declared.station.Stage.{Stage}
 use Rattle.unit.specs.declared.station.Stage.TheVariants.{Open, Addr, Done, Miss, Stops}
 use Rattle.unit.specs.declared.station.Station.{Station}
+use Rattle.unit.specs.Ahead.{waiting_half}
 
 -- How far a tenant has come, as its station says it
 abbrev pub stage_of : Fate → Stage
@@ -30,6 +32,7 @@ abbrev pub station_of : Program → Tenant → Station
 station_of P t =
     record {
       instr = instr P t;
+      half = t.half;
       destination = destination_of P t;
       pc = t.pc;
       predicted = t.predicted;
@@ -48,6 +51,7 @@ abbrev pub register_after : ℕ → Option ℕ → Option Station → Option ℕ
 register_after r v None = v
 register_after r v (Some w) = if w.destination == r then w.made else v
 
+-- What register r holds behind several stations, the oldest first
 abbrev pub register_in : ℕ → Option ℕ → List Station → Option ℕ
 register_in r v [] = v
 register_in r v (w ∷ ws) = register_in r (register_after r v (Some w)) ws
@@ -63,6 +67,7 @@ operands_by StoreKind (Some a) b = Some (record { a = a; b = unwrap_or b 0 })
 operands_by _ (Some a) (Some b) = Some (record { a = a; b = b })
 operands_by _ _ _ = None
 
+-- The operands of a station that nobody has claimed
 abbrev pub where_open : Stage → Option Operands → Option Operands
 where_open Open o = o
 where_open _ o = None
@@ -71,7 +76,8 @@ where_open _ o = None
 abbrev pub operands_in : List ℕ → List Station → Station → Option Operands
 operands_in registers ws w =
     where_open w.stage
-    (operands_by (kind w.instr.op) (source_in registers ws w.instr.first) (source_in registers ws w.instr.second))
+    (operands_by (kind w.instr.op) (source_in registers ws (first_of w.instr))
+    (source_in registers ws (second_of w.instr)))
 
 -- What a station becomes by its outcome
 abbrev pub finished : Station → Outcome → Station
@@ -79,21 +85,24 @@ finished w (Value v) = record w { stage = Done; made = Some v }
 finished w (Next x) = record w { stage = if x == w.predicted then Done else Miss x }
 finished w (Address a) = record w { stage = Addr a }
 finished w (Stop c) = record w { stage = Stops c }
+finished w (Pair low high) = record w { stage = Done; made = Some low }
 
 -- The computed next pc of a miss
 abbrev pub miss_of : Stage → Option ℕ
 miss_of (Miss x) = Some x
 miss_of _ = None
 
+-- A miss that goes on where it has to
 abbrev pub mended : Station → ℕ → Station
 mended w x = record w { stage = Done; next = x }
 
--- The station of an instruction that is let at a pc
-abbrev pub let_at : Instr → ℕ → ℕ → Station
-let_at i pc predicted =
+-- The station of a half of an instruction that is let at a pc
+abbrev pub let_at : Instr → Half → ℕ → ℕ → Station
+let_at i half pc predicted =
     record {
       instr = i;
-      destination = destination i;
+      half = half;
+      destination = destination i half;
       pc = pc;
       predicted = predicted;
       next = predicted;
@@ -101,6 +110,7 @@ let_at i pc predicted =
       stage = Open;
     }
 
+-- Where the path goes on behind the youngest station, or at a pc where there is none
 abbrev pub next_after : ℕ → Option Station → ℕ
 next_after pc None = pc
 next_after pc (Some w) = w.next
@@ -109,9 +119,21 @@ next_after pc (Some w) = w.next
 abbrev pub next_in : ℕ → List Station → ℕ
 next_in pc ws = next_after pc (slice_get ws (length ws - 1))
 
+-- The half that comes behind the youngest station: behind a first half its second. Where there is
+-- none, it is the second if a first half waits for it
+abbrev pub half_behind : Option ℕ → Option Station → Half
+half_behind low None = waiting_half low
+half_behind low (Some w) = half_after (is_first_half w.instr.op w.half)
+
+-- The half that comes next on the path
+abbrev pub half_in : Option ℕ → List Station → Half
+half_in low ws = half_behind low (slice_get ws (length ws - 1))
+
+-- A load or a store
 abbrev pub reaches_memory : Op → Bool
 reaches_memory op = is_access (kind op)
 
+-- 1 for a station that reaches memory, else 0
 abbrev pub access_at : Option Station → ℕ
 access_at None = 0
 access_at (Some w) = if reaches_memory w.instr.op then 1 else 0

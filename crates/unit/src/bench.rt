@@ -2,6 +2,8 @@
 ghost use Rattle.std.specs.Prelude.{◌≡◌, ◌<◌, ◌-◌, ◌^◌, nat_lt, IfOk};
 ghost use Rattle.inorder.specs.Machine.{start};
 ghost use Rattle.unit.specs.Changes.{end_state, run_from};
+ghost use Rattle.unit.specs.StandsFor.{StandsFor};
+ghost use Rattle.inorder.specs.Unit.{empty_unit};
 ghost use Rattle.unit.specs.Turns.{Falls, Guesses, IsSame, IsTurn};
 
 use crate::dispatch::Fetched;
@@ -22,7 +24,9 @@ pub enum Turn {
     Ran,
     /// The oldest load that is not blocked got its value.
     Loaded,
-    /// The oldest tenant retired.
+    /// The oldest tenant retired, and was the first of two halves: what it made waits for the second.
+    Halved,
+    /// The oldest tenant retired, and its instruction was counted.
     Retired,
     /// The unit has ended.
     Over(Stop),
@@ -39,9 +43,9 @@ pub struct Bench<'a, P: Predictor + Drop> {
 
 impl<'a, P: Predictor + Drop> Model for Bench<'a, P> {
     ghost use Rattle.unit.specs.StandsFor.{IsUnit};
-    ghost use Rattle.unit.specs.Turns.{Core};
+    ghost use Rattle.unit.specs.Turns.{BenchFields};
 
-    ghost Value = { Core P };
+    ghost Value = { BenchFields P };
 
     ghost view = { λ b. record { pipeline = b.pipeline; predictor = b.predictor } };
 
@@ -50,12 +54,12 @@ impl<'a, P: Predictor + Drop> Model for Bench<'a, P> {
 
 // Tells the predictor of who has left, and asks it where the next instruction goes on, unless that is fixed.
 fn guess<P: Predictor>(predictor: &mut P, left: Option<Leaver>, next: &Fetched) -> u32
-    ensures { Guesses P.Predicts P.Learns left next.now.instr next.now.pc result predictor.old predictor.new }
+    ensures { Guesses P.Predicts P.Learns left next.now.instr next.now.half next.now.pc result predictor.old predictor.new }
 {
     if let Some(leaver) = left {
         predictor.told(leaver.pc, leaver.next);
     }
-    match next.instr.fixed_next(next.pc) {
+    match next.instr.fixed_next(next.half, next.pc) {
         Some(fixed) => fixed,
         None => predictor.predict(next.pc, &next.instr),
     }
@@ -72,6 +76,10 @@ impl<'a, P: Predictor + Drop> Bench<'a, P> {
         ensures start { IfOk result (λ b. b.pipeline.committed ≡ start program.now) }
         ensures program { IfOk result (λ b. b.pipeline.program.now ≡ program.now) }
         ensures predictor { IfOk result (λ b. b.predictor ≡ predictor) }
+        ensures ring { IfOk result (λ b. b.pipeline.ring ≡ config.now.ring) }
+        ensures queue { IfOk result (λ b. b.pipeline.queue ≡ config.now.queue) }
+        ensures tag { IfOk result (λ b. b.pipeline.first_tag ≡ config.now.first_tag) }
+        ensures fresh { IfOk result (λ b. StandsFor b.pipeline empty_unit) }
     {
         let pipeline = Pipeline::new(alloc, program, config)?;
         Ok(Bench {

@@ -2,6 +2,7 @@
 ghost use Rattle.std.specs.Prelude.{◌≡◌, ◌<◌, ◌≤◌, ◌+◌, ◌^◌, ◌-◌, suc, length, slice_index, IfOk};
 ghost use Rattle.lsq.specs.Bytes.{little_endian};
 ghost use Rattle.inorder.specs.Machine.{write, start, store_bytes};
+ghost use Rattle.unit.specs.Ahead.{ahead_by, with_low};
 
 use inorder::{number, store};
 use isa::{Memory, Program, Reg};
@@ -11,21 +12,25 @@ use std::marker::Model;
 /// Registers, memory, pc and the count of instructions.
 #[derive(Drop)]
 pub struct Committed {
-    pub registers: [u32; 32],
+    pub registers: [u32; 34],
     pub memory: Vec<u8>,
     pub pc: u32,
     pub count: u64,
 }
 
 impl Model for Committed {
-    ghost use Rattle.std.specs.Prelude.{◌≤◌, length};
+    ghost use Rattle.std.specs.Prelude.{◌≡◌, ◌≤◌, length};
+    ghost use Rattle.isa.specs.Registers.{register_count};
     ghost use Rattle.inorder.specs.Machine.{State};
 
     ghost Value = { State };
 
     ghost view = { λ c. record { registers = c.registers; memory = c.memory.items; pc = c.pc; count = c.count } };
 
-    ghost invariant = { λ c. length c.memory.items ≤ 65536 };
+    ghost invariant = { λ c. record {
+      memory : length c.memory.items ≤ 65536;
+      registers : length c.registers ≡ register_count;
+    } };
 }
 
 impl Committed {
@@ -35,7 +40,7 @@ impl Committed {
     {
         let memory = Vec::from_slice(alloc, program.bytes())?;
         Ok(Committed {
-            registers: [0; 32],
+            registers: [0; 34],
             memory,
             pc: Program::START,
             count: 0,
@@ -56,11 +61,14 @@ impl Committed {
         self.count
     }
 
-    /// What a register holds.
-    pub fn register(&self, r: Reg) -> u32
-        ensures { result ≡ slice_index self.now.registers r }
+    /// What a register holds, where a value may wait for LO.
+    pub fn register(&self, low: Option<u32>, r: Reg) -> u32
+        ensures { result ≡ slice_index (with_low low self.now.registers) r }
     {
-        self.registers[r.number() as usize]
+        match low {
+            Some(low) if r == Reg::LO => low,
+            _ => self.registers[r.number() as usize],
+        }
     }
 
     /// The number in `width` bytes from an address on.
@@ -78,6 +86,15 @@ impl Committed {
         ensures { self.new ≡ record self.old { memory = store_bytes self.old.memory at width value } }
     {
         store(self.memory.as_mut_slice(), at, width, value);
+    }
+
+    /// Commits what has waited for LO.
+    pub fn settle(&mut self, low: Option<u32>)
+        ensures { self.new ≡ ahead_by low self.old }
+    {
+        if let Some(low) = low {
+            self.registers[Reg::LO.number() as usize] = low;
+        }
     }
 
     /// Commits an instruction that writes `v` and goes on at `next`.

@@ -1,19 +1,23 @@
 //! Dispatch.
 ghost use Rattle.std.specs.Prelude.{◌≡◌, ◌<◌, ◌≤◌, ◌-◌, ◌+◌, ◌%◌, [], ◌∷◌, ◌++◌, length, take, slice_get, slice_set, Some, None};
+ghost use Rattle.isa.specs.Instruction.{is_first_half};
+ghost use Rattle.inorder.specs.Unit.{half_after};
 ghost use Rattle.inorder.specs.Tenants.{made_at_let as made_at_let_of};
+ghost use Rattle.unit.specs.Ahead.{waiting_half as waiting_half_of};
 ghost use Rattle.unit.specs.Changes.{NextOf, next_place};
-ghost use Rattle.unit.specs.Window.{accesses as accesses_of, access_at as access_at_of, let_at, next_in, reaches_memory};
+ghost use Rattle.unit.specs.Window.{accesses as accesses_of, access_at as access_at_of, half_in, let_at, next_in, reaches_memory};
 
 use crate::leaver::Leaver;
 use crate::pipeline::Pipeline;
 use crate::station::{Stage, Station};
 use crate::window::Window;
-use isa::{Instr, Kind, Op, pc_plus_4};
+use isa::{Half, Instr, Kind, Op, pc_plus_4};
 
-/// The instruction that can be let, and its pc.
+/// The instruction that can be let, its half, and its pc.
 #[derive(Clone, Copy)]
 pub struct Fetched {
     pub instr: Instr,
+    pub half: Half,
     pub pc: u32,
 }
 
@@ -36,11 +40,12 @@ pub fn is_access(op: Op) -> bool
 
 // The station of a new tenant.
 fn new_station(next: Fetched, predicted: u32) -> Station
-    ensures { result ≡ let_at next.instr next.pc predicted }
+    ensures { result ≡ let_at next.instr next.half next.pc predicted }
 {
     Station {
         instr: next.instr,
-        destination: next.instr.destination(),
+        half: next.half,
+        destination: next.instr.destination(next.half),
         pc: next.pc,
         predicted,
         next: predicted,
@@ -71,45 +76,62 @@ fn accesses(window: &Window) -> usize
     count
 }
 
-// A number modulo the ring size, which is a power of two: a mask for each size.
-fn wrapped(n: u64, ring: usize) -> usize
+// A number modulo the ring size, without a division where it is below two rings, as it mostly is.
+fn wrapped(n: usize, ring: usize) -> usize
     requires { 0 < ring }
     ensures value { result ≡ n % ring }
     ensures small { result < ring }
 {
-    let rest = match ring {
-        2 => n % 2,
-        4 => n % 4,
-        8 => n % 8,
-        16 => n % 16,
-        32 => n % 32,
-        _ => n % (ring as u64),
-    };
-    rest as usize
+    if n < ring {
+        return n;
+    }
+    let rest = n - ring;
+    if rest < ring { rest } else { rest % ring }
+}
+
+// The half that comes next where nobody is live, by what waits for LO.
+fn waiting_half(low: Option<u32>) -> Half
+    ensures { result ≡ waiting_half_of low }
+{
+    match low {
+        None => Half::Low,
+        Some(_) => Half::High,
+    }
+}
+
+// The half that comes behind a station: behind a first half its second.
+fn half_behind(station: &Station) -> Half
+    ensures { result ≡ half_after (is_first_half station.now.instr.op station.now.half) }
+{
+    if station.instr.is_first_half(station.half) {
+        Half::High
+    } else {
+        Half::Low
+    }
 }
 
 impl<'a> Pipeline<'a> {
     /// The station of the tenant at `i`, live or to be let.
     pub fn station_at(&self, i: usize) -> usize
-        requires room { 0 < self.now.ring }
+        requires oldest { self.now.oldest < self.now.ring }
         requires most { self.now.ring ≤ 32 }
         requires near { i ≤ 32 }
-        ensures value { result ≡ (self.now.committed.count + i) % self.now.ring }
+        ensures value { result ≡ (self.now.oldest + i) % self.now.ring }
         ensures small { result < self.now.ring }
     {
-        let oldest = wrapped(self.committed.count(), self.ring);
-        wrapped((oldest + i) as u64, self.ring)
+        wrapped(self.oldest + i, self.ring)
     }
 
-    // Where the path goes on.
-    fn front_pc(&self) -> u32
-        ensures { result ≡ next_in self.now.committed.pc self.now.window }
+    // The pc where the path goes on, and the half that comes there.
+    fn front(&self) -> (u32, Half)
+        ensures pc { result.0 ≡ next_in self.now.committed.pc self.now.window }
+        ensures half { result.1 ≡ half_in self.now.low self.now.window }
     {
         match self.window.len().checked_sub(1) {
-            None => self.committed.pc(),
+            None => (self.committed.pc(), waiting_half(self.low)),
             Some(last) => match self.window.peek(last) {
-                None => self.committed.pc(),
-                Some(station) => station.next,
+                None => (self.committed.pc(), waiting_half(self.low)),
+                Some(station) => (station.next, half_behind(station)),
             },
         }
     }
@@ -121,17 +143,17 @@ impl<'a> Pipeline<'a> {
         if self.ring <= self.window.len() {
             return None;
         }
-        let pc = self.front_pc();
+        let (pc, half) = self.front();
         let instr = self.program.fetch(pc)?;
         if is_access(instr.op()) && self.queue <= accesses(&self.window) {
             return None;
         }
-        Some(Fetched { instr, pc })
+        Some(Fetched { instr, half, pc })
     }
 
     /// Who has left the station that is let next, if the predictor is told of it.
     pub fn leaver(&self) -> Option<Leaver>
-        requires room { 0 < self.now.ring }
+        requires oldest { self.now.oldest < self.now.ring }
         requires most { self.now.ring ≤ 32 }
         ensures { slice_get self.now.leavers (next_place self.now) ≡ Some result }
     {
@@ -141,10 +163,10 @@ impl<'a> Pipeline<'a> {
 
     /// Lets the next instruction.
     pub fn let_out(&mut self, next: Fetched, predicted: u32)
-        requires room { 0 < self.old.ring }
+        requires oldest { self.old.oldest < self.old.ring }
         requires most { self.old.ring ≤ 32 }
         requires free { length self.old.window < 32 }
-        ensures window { self.new.window ≡ self.old.window ++ let_at next.instr next.pc predicted ∷ [] }
+        ensures window { self.new.window ≡ self.old.window ++ let_at next.instr next.half next.pc predicted ∷ [] }
         ensures leavers { self.new.leavers ≡ slice_set self.old.leavers (next_place self.old) None }
         ensures rest { self.new ≡ record self.old { window = self.new.window; leavers = self.new.leavers } }
     {

@@ -1,5 +1,5 @@
 //! Execution.
-ghost use Rattle.std.specs.Prelude.{◌≡◌, ◌<◌, ◌≤◌, [], ◌∷◌, ◌++◌, length, take, slice_get, None};
+ghost use Rattle.std.specs.Prelude.{◌≡◌, ◌<◌, ◌≤◌, [], ◌∷◌, ◌++◌, length, take, slice_get, Some, None};
 ghost use Rattle.unit.specs.Changes.{NoneRuns, RunsOldest, with_window};
 ghost use Rattle.unit.specs.Givers.{Chosen, gives};
 ghost use Rattle.unit.specs.Notes.{AreNoted, AreSettled, missed_after, settled_at, settled_by};
@@ -7,12 +7,12 @@ ghost use Rattle.unit.specs.Stages.{FirstReady};
 ghost use Rattle.unit.specs.Window.{finished as finished_of, operands_by, operands_in};
 ghost use Rattle.isa.specs.Instruction.{kind as kind_of};
 
-use crate::committed::Committed;
+use crate::ahead::Ahead;
 use crate::pipeline::Pipeline;
 use crate::source::source;
 use crate::station::{Stage, Station};
 use crate::window::Window;
-use isa::{Kind, Outcome, outcome};
+use isa::{Kind, Outcome, outcome_of};
 
 /// The sources of a tenant that can be claimed; 0 for one that is not there and not needed.
 #[derive(Clone, Copy)]
@@ -43,36 +43,38 @@ fn needed(kind: Kind, a: Option<u32>, b: Option<u32>) -> Option<Operands>
 }
 
 // What a station needs, if it can be claimed behind the first `i`.
-fn sources(window: &Window, committed: &Committed, i: usize, station: &Station) -> Option<Operands>
-    requires { i ≤ length window.now }
-    ensures { result ≡ operands_in committed.now.registers (take i window.now) station.now }
+fn sources(window: &Window, ahead: &Ahead, i: usize, station: &Station) -> Option<Operands>
+    requires there { i < length window.now }
+    requires is { slice_get window.now i ≡ Some station.now }
+    ensures { result ≡ operands_in ahead.now.registers (take i window.now) station.now }
 {
     let Stage::Open = station.stage else {
         return None;
     };
-    let a = source(window, committed, i, station.instr.first());
-    let b = source(window, committed, i, station.instr.second());
+    let creators = window.creators(i);
+    let a = source(window, ahead, i, station.instr.first(), creators.first);
+    let b = source(window, ahead, i, station.instr.second(), creators.second);
     needed(station.instr.op().kind(), a, b)
 }
 
 // What the station at `i` needs, if it can be claimed.
-fn sources_at(window: &Window, committed: &Committed, i: usize) -> Option<Operands>
+fn sources_at(window: &Window, ahead: &Ahead, i: usize) -> Option<Operands>
     requires { i ≤ length window.now }
-    ensures { result ≡ gives (operands_in committed.now.registers) window.now i }
+    ensures { result ≡ gives (operands_in ahead.now.registers) window.now i }
 {
     match window.peek(i) {
         None => None,
-        Some(station) => sources(window, committed, i, station),
+        Some(station) => sources(window, ahead, i, station),
     }
 }
 
 // The oldest station that can be claimed; those before `from` can not.
-fn oldest_ready(window: &Window, committed: &Committed, from: usize) -> Option<Ready>
+fn oldest_ready(window: &Window, ahead: &Ahead, from: usize) -> Option<Ready>
     requires { AreSettled from window.now }
-    ensures { FirstReady committed.now.registers window.now result }
+    ensures { FirstReady ahead.now.registers window.now result }
 {
     for at in from..window.len() {
-        if let Some(operands) = sources_at(window, committed, at) {
+        if let Some(operands) = sources_at(window, ahead, at) {
             return Some(Ready { at, operands });
         }
     }
@@ -117,7 +119,7 @@ fn finished(station: Station, outcome: Outcome) -> Station
     ensures { result ≡ finished_of station outcome }
 {
     match outcome {
-        Outcome::Value(v) => Station {
+        Outcome::Value(v) | Outcome::Pair(v, _) => Station {
             stage: Stage::Done,
             made: Some(v),
             ..station
@@ -161,14 +163,15 @@ impl<'a> Pipeline<'a> {
         ensures noted { AreNoted self.new.missed self.new.settled self.new.window }
     {
         self.settled = settled(&self.window, self.settled);
-        let Some(ready) = oldest_ready(&self.window, &self.committed, self.settled) else {
+        let Some(ready) = oldest_ready(&self.window, &self.ahead(), self.settled) else {
             return false;
         };
         let Some(station) = self.window.at(ready.at) else {
             return false;
         };
         let Operands { a, b } = ready.operands;
-        let outcome = outcome(&station.instr, station.pc, a, b, self.program.size());
+        let size = self.program.size();
+        let outcome = outcome_of(&station.instr, station.half, station.pc, a, b, size);
         let later = finished(station, outcome);
         self.missed = missed_by(self.missed, later.stage);
         self.window.put(ready.at, later);

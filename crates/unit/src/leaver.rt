@@ -15,7 +15,7 @@ pub struct Leaver {
 pub fn told_of(station: &Station) -> Option<Leaver>
     ensures { result ≡ leaver_of station.now }
 {
-    match station.instr.fixed_next(station.pc) {
+    match station.instr.fixed_next(station.half, station.pc) {
         Some(_) => None,
         None => Some(Leaver {
             pc: station.pc,

@@ -1,8 +1,10 @@
 //! The one-thread unit: an out-of-order core that one caller turns.
 #![tactic(auto)]
 
+mod ahead;
 mod bench;
 mod committed;
+mod creators;
 mod dispatch;
 mod execute;
 mod leaver;

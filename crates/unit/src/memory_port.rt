@@ -1,6 +1,6 @@
 //! The memory port: loads are answered over the live memory instructions before them.
 ghost use Rattle.std.specs.Prelude.{◌≡◌, ◌≢◌, ◌<◌, ◌≤◌, ◌+◌, ◌++◌, ◌∷◌, [], length, take, slice_get, Some, None, IsSome};
-ghost use Rattle.isa.specs.Instruction.{kind as kind_of, width as width_in};
+ghost use Rattle.isa.specs.Instruction.{kind as kind_of, second_of, width as width_in};
 ghost use Rattle.lsq.specs.Entries.{load_at};
 ghost use Rattle.lsq.specs.LoadRule.{answer};
 ghost use Rattle.unit.specs.Changes.{LoadsOldest, NoneLoads};
@@ -9,8 +9,9 @@ ghost use Rattle.inorder.specs.Loads.{access_width, is_store as is_store_of};
 ghost use Rattle.unit.specs.Loads.{AreInside, NoneWaits, address_of as address_by, entries, entry as entry_of, entry_at as entry_in, load_in, value_by, waits as waits_of, waits_at as waits_at_of, with_entry};
 ghost use Rattle.unit.specs.Notes.{AreNoted, AreSettled};
 ghost use Rattle.unit.specs.Stages.{FirstAnswered};
+ghost use Rattle.unit.specs.Window.{source_in};
 
-use crate::committed::Committed;
+use crate::ahead::Ahead;
 use crate::dispatch::is_access;
 use crate::pipeline::Pipeline;
 use crate::source::source;
@@ -45,10 +46,21 @@ fn address_of(stage: Stage) -> Option<u32>
     }
 }
 
+// What a store at `i` stores, if that was made.
+fn content(window: &Window, ahead: &Ahead, i: usize, station: &Station) -> Option<u32>
+    requires there { i < length window.now }
+    requires is { slice_get window.now i ≡ Some station.now }
+    ensures { result ≡ source_in ahead.now.registers (take i window.now) (second_of station.now.instr) }
+{
+    let creators = window.creators(i);
+    source(window, ahead, i, station.instr.second(), creators.second)
+}
+
 // What the queue holds of the memory instruction at `i`.
-fn entry(window: &Window, committed: &Committed, i: usize, station: &Station) -> Entry
-    requires { i ≤ length window.now }
-    ensures { result ≡ entry_of committed.now.registers (take i window.now) station.now }
+fn entry(window: &Window, ahead: &Ahead, i: usize, station: &Station) -> Entry
+    requires there { i < length window.now }
+    requires is { slice_get window.now i ≡ Some station.now }
+    ensures { result ≡ entry_of ahead.now.registers (take i window.now) station.now }
 {
     let op = station.instr.op();
     Entry {
@@ -56,7 +68,7 @@ fn entry(window: &Window, committed: &Committed, i: usize, station: &Station) ->
         width: width(op),
         address: address_of(station.stage),
         content: match op.kind() {
-            Kind::Stores => source(window, committed, i, station.instr.second()),
+            Kind::Stores => content(window, ahead, i, station),
             _ => None,
         },
     }
@@ -69,14 +81,12 @@ fn is_store(kind: Kind) -> bool
 }
 
 // What the queue holds of the station at `i`, if that reaches memory.
-fn entry_at(window: &Window, committed: &Committed, i: usize) -> Option<Entry>
+fn entry_at(window: &Window, ahead: &Ahead, i: usize) -> Option<Entry>
     requires { i ≤ length window.now }
-    ensures { result ≡ entry_in committed.now.registers window.now (slice_get window.now i) i }
+    ensures { result ≡ entry_in ahead.now.registers window.now (slice_get window.now i) i }
 {
     match window.peek(i) {
-        Some(station) if is_access(station.instr.op()) => Some(entry(
-            window, committed, i, station,
-        )),
+        Some(station) if is_access(station.instr.op()) => Some(entry(window, ahead, i, station)),
         _ => None,
     }
 }
@@ -114,14 +124,14 @@ fn has_waiting(window: &Window, from: usize) -> bool
 }
 
 // The value of a load of an address, by the rule's answer.
-fn value_of(answer: Answer, committed: &Committed, op: Op, address: u32) -> Option<u32>
-    requires { address + width_in op ≤ length committed.now.memory }
-    ensures { result ≡ value_by answer committed.now.memory op address }
+fn value_of(answer: Answer, ahead: &Ahead, op: Op, address: u32) -> Option<u32>
+    requires { address + width_in op ≤ length ahead.now.memory }
+    ensures { result ≡ value_by answer ahead.now.memory op address }
 {
     match answer {
         Answer::Forward(raw) => Some(loaded(op, raw)),
         Answer::Memory => {
-            let raw = committed.number_at(address as usize, op.width() as usize);
+            let raw = ahead.number_at(address as usize, op.width() as usize);
             Some(loaded(op, raw))
         }
         Answer::Blocked(_) => None,
@@ -129,16 +139,16 @@ fn value_of(answer: Answer, committed: &Committed, op: Op, address: u32) -> Opti
 }
 
 // The value of the load at `i`, whose entry is the last one of the queue, if it is not blocked.
-fn value_at(queue: &Queue, window: &Window, committed: &Committed, i: usize) -> Option<u32>
+fn value_at(queue: &Queue, window: &Window, ahead: &Ahead, i: usize) -> Option<u32>
     requires there { i < length window.now }
-    requires inside { AreInside (length committed.now.memory) window.now }
-    requires queue { queue.now.entries ≡ entries committed.now.registers window.now (i + 1) }
-    ensures { result ≡ gives (load_in committed.now.registers committed.now.memory) window.now i }
+    requires inside { AreInside (length ahead.now.memory) window.now }
+    requires queue { queue.now.entries ≡ entries ahead.now.registers window.now (i + 1) }
+    ensures { result ≡ gives (load_in ahead.now.registers ahead.now.memory) window.now i }
 {
     let station = window.peek(i)?;
     let address = waits(station)?;
     let last = queue.len() - 1;
-    value_of(queue.answer(last), committed, station.instr.op(), address)
+    value_of(queue.answer(last), ahead, station.instr.op(), address)
 }
 
 // Puts an entry into a queue that has room for it.
@@ -153,14 +163,14 @@ fn join(queue: &mut Queue, entry: Option<Entry>)
 }
 
 // The oldest load with its address that is not blocked.
-fn oldest_answered(window: &Window, committed: &Committed) -> Option<Answered>
-    requires inside { AreInside (length committed.now.memory) window.now }
-    ensures { FirstAnswered committed.now.registers committed.now.memory window.now result }
+fn oldest_answered(window: &Window, ahead: &Ahead) -> Option<Answered>
+    requires inside { AreInside (length ahead.now.memory) window.now }
+    ensures { FirstAnswered ahead.now.registers ahead.now.memory window.now result }
 {
     let mut queue = Queue::new(32);
     for at in 0..window.len() {
-        join(&mut queue, entry_at(window, committed, at));
-        if let Some(value) = value_at(&queue, window, committed, at) {
+        join(&mut queue, entry_at(window, ahead, at));
+        if let Some(value) = value_at(&queue, window, ahead, at) {
             return Some(Answered { at, value });
         }
     }
@@ -180,7 +190,7 @@ impl<'a> Pipeline<'a> {
         if !has_waiting(&self.window, self.settled) {
             return false;
         }
-        let Some(answered) = oldest_answered(&self.window, &self.committed) else {
+        let Some(answered) = oldest_answered(&self.window, &self.ahead()) else {
             return false;
         };
         let Some(station) = self.window.at(answered.at) else {

@@ -1,10 +1,12 @@
 //! The stations, the committed state, and the turns that ask no predictor.
 ghost use Rattle.std.specs.Prelude.{◌≡◌, ◌<◌, ◌≤◌, ◌-◌, ◌^◌, None, IfOk};
 ghost use Rattle.inorder.specs.Machine.{start};
-ghost use Rattle.unit.specs.Changes.{NextOf, NoneRecovers};
-ghost use Rattle.unit.specs.StandsFor.{IsUnit};
+ghost use Rattle.unit.specs.Changes.{NextOf, NoneRecovers, ahead_of};
+ghost use Rattle.unit.specs.StandsFor.{IsUnit, StandsFor};
+ghost use Rattle.inorder.specs.Unit.{empty_unit};
 ghost use Rattle.unit.specs.Turns.{Falls, IsPlain, IsSame, Moves};
 
+use crate::ahead::Ahead;
 use crate::bench::Turn;
 use crate::committed::Committed;
 use crate::leaver::Leaver;
@@ -20,6 +22,10 @@ pub struct Pipeline<'a> {
     pub first_tag: u32,
     pub window: Window,
     pub committed: Committed,
+    // what a first half has made that has retired without its second: it waits for LO
+    pub low: Option<u32>,
+    // the station of the oldest live tenant
+    pub oldest: usize,
     // by station, who has left it
     pub leavers: [Option<Leaver>; 32],
     pub over: Option<Stop>,
@@ -34,6 +40,10 @@ impl<'a> Pipeline<'a> {
         ensures unit { IfOk result (λ b. IsUnit b) }
         ensures start { IfOk result (λ b. b.committed ≡ start program.now) }
         ensures program { IfOk result (λ b. b.program.now ≡ program.now) }
+        ensures ring { IfOk result (λ b. b.ring ≡ config.now.ring) }
+        ensures queue { IfOk result (λ b. b.queue ≡ config.now.queue) }
+        ensures tag { IfOk result (λ b. b.first_tag ≡ config.now.first_tag) }
+        ensures fresh { IfOk result (λ b. StandsFor b empty_unit) }
     {
         let window = Window::new(alloc)?;
         let committed = Committed::new(alloc, program)?;
@@ -44,11 +54,23 @@ impl<'a> Pipeline<'a> {
             first_tag: config.first_tag(),
             window,
             committed,
+            low: None,
+            oldest: 0,
             leavers: [None; 32],
             over: None,
             missed: false,
             settled: 0,
         })
+    }
+
+    /// The state that a new tenant finds where nobody is live.
+    pub fn ahead(&self) -> Ahead<'_>
+        ensures { result ≡ ahead_of self.now }
+    {
+        Ahead {
+            committed: &self.committed,
+            low: self.low,
+        }
     }
 
     /// A turn where nothing recovers and nothing can be let.

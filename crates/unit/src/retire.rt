@@ -1,7 +1,8 @@
 //! Retirement.
-ghost use Rattle.std.specs.Prelude.{◌≡◌, ◌<◌, ◌≤◌, ◌+◌, ◌-◌, ◌%◌, ◌^◌, Some, drop, length, slice_get, slice_set};
-ghost use Rattle.unit.specs.declared.bench.Turn.TheVariants.{Over, Retired};
-ghost use Rattle.unit.specs.Leaves.{CanLeave, HasEnded, RetiresTo, ended, left, with_station};
+ghost use Rattle.std.specs.Prelude.{◌≡◌, ◌<◌, ◌≤◌, ◌-◌, ◌^◌, None, length, slice_get, slice_set};
+ghost use Rattle.unit.specs.declared.bench.Turn.TheVariants.{Halved, Over, Retired};
+ghost use Rattle.unit.specs.Changes.{ahead_of};
+ghost use Rattle.unit.specs.Leaves.{CanLeave, HasEnded, RetiresTo, ended, halved, left, shifted, with_station};
 
 use crate::bench::Turn;
 use crate::leaver::{Leaver, told_of};
@@ -19,38 +20,66 @@ fn leave(leavers: &mut [Option<Leaver>; 32], station: usize, told: Option<Leaver
 }
 
 impl<'a> Pipeline<'a> {
-    // What the oldest tenant has made or stored is committed.
+    // What the oldest tenant has made or stored is committed, and what has waited for it.
     fn commit(&mut self, oldest: &Station)
         requires count { self.old.committed.count < 2 ^ 64 - 1 }
         requires can { HasEnded (length self.old.committed.memory) oldest.now.instr oldest.now.stage }
-        ensures committed { self.new.committed ≡ with_station oldest.now self.old.committed }
-        ensures rest { self.new ≡ record self.old { committed = self.new.committed } }
+        ensures committed { self.new.committed ≡ with_station oldest.now (ahead_of self.old) }
+        ensures rest { self.new ≡ record self.old { committed = self.new.committed; low = None } }
     {
         if let Stage::Addr(address) = oldest.stage {
             let second = oldest.instr.second();
-            let content = source(&self.window, &self.committed, 0, second).unwrap_or(0);
+            let content = source(&self.window, &self.ahead(), 0, second, 1).unwrap_or(0);
             let width = oldest.instr.op().width() as usize;
             self.committed.store_at(address as usize, width, content);
         }
+        self.committed.settle(self.low);
+        self.low = None;
         let made = oldest.made.unwrap_or(0);
         self.committed
             .advance(oldest.destination, made, oldest.next);
     }
 
+    // The oldest station is free again.
+    fn shift(&mut self)
+        requires oldest { self.old.oldest < self.old.ring }
+        requires most { self.old.ring ≤ 32 }
+        ensures { self.new ≡ shifted self.old }
+    {
+        self.oldest = self.station_at(1);
+        self.window.shift();
+        self.settled = self.settled.saturating_sub(1);
+    }
+
     // The oldest tenant is a stop: it ends the unit.
     fn ends(&mut self, code: Stop) -> Turn
+        requires oldest { self.old.oldest < self.old.ring }
+        requires most { self.old.ring ≤ 32 }
         ensures answer { result ≡ Over code }
         ensures later { self.new ≡ ended self.old code }
     {
         self.over = Some(code);
-        self.window.shift();
-        self.settled = self.settled.saturating_sub(1);
+        self.shift();
         Turn::Over(code)
+    }
+
+    // The oldest tenant is a first half: it leaves its station, and what it made waits.
+    fn halves(&mut self, oldest: Station) -> Turn
+        requires oldest { self.old.oldest < self.old.ring }
+        requires most { self.old.ring ≤ 32 }
+        requires leavers { length self.old.leavers ≡ 32 }
+        ensures answer { result ≡ Halved }
+        ensures later { self.new ≡ halved self.old oldest }
+    {
+        leave(&mut self.leavers, self.oldest, told_of(&oldest));
+        self.low = Some(oldest.made.unwrap_or(0));
+        self.shift();
+        Turn::Halved
     }
 
     // The oldest tenant commits and leaves its station.
     fn leaves(&mut self, oldest: Station) -> Turn
-        requires room { 0 < self.old.ring }
+        requires oldest { self.old.oldest < self.old.ring }
         requires most { self.old.ring ≤ 32 }
         requires leavers { length self.old.leavers ≡ 32 }
         requires count { self.old.committed.count < 2 ^ 64 - 1 }
@@ -58,17 +87,15 @@ impl<'a> Pipeline<'a> {
         ensures answer { result ≡ Retired }
         ensures later { self.new ≡ left self.old oldest }
     {
-        let station = self.station_at(0);
-        leave(&mut self.leavers, station, told_of(&oldest));
+        leave(&mut self.leavers, self.oldest, told_of(&oldest));
         self.commit(&oldest);
-        self.window.shift();
-        self.settled = self.settled.saturating_sub(1);
+        self.shift();
         Turn::Retired
     }
 
     /// Retires the oldest tenant.
     pub fn retires(&mut self) -> Turn
-        requires room { 0 < self.old.ring }
+        requires oldest { self.old.oldest < self.old.ring }
         requires most { self.old.ring ≤ 32 }
         requires leavers { length self.old.leavers ≡ 32 }
         requires count { self.old.committed.count < 2 ^ 64 - 1 }
@@ -80,6 +107,7 @@ impl<'a> Pipeline<'a> {
         };
         match oldest.stage {
             Stage::Stops(code) => self.ends(code),
+            _ if oldest.instr.is_first_half(oldest.half) => self.halves(oldest),
             _ => self.leaves(oldest),
         }
     }

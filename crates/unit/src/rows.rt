@@ -1,7 +1,7 @@
 //! Turns of listings, and runs beside the in-order machine.
 use crate::{Bench, Turn};
 use inorder::{Ended, Machine};
-use isa::{Bimod, Config, Ending, NotTaken, Program, Stop, parse};
+use isa::{Bimod, Config, Ending, NotTaken, Predictor, Program, Stop, parse};
 use std::alloc::Global;
 use std::process::Abort;
 use std::test::Fail;
@@ -42,6 +42,41 @@ fn a_chain_of_additions_takes_these_turns(rt: HostRuntime) -> Result<(), Fail> {
         Turn::Over(Stop::Break),
     ];
     takes_turns(&rt, rt.alloc(), listing, &config(16, 8)?, &turns)
+}
+
+// Turns on past the end.
+fn turns_on<P: Predictor + Drop>(rt: &impl Abort, bench: &mut Bench<P>, end: Turn) {
+    let mut over = false;
+    for _ in 0..60 {
+        assert!(rt; bench.has_room());
+        let turn = bench.turn();
+        assert!(rt; !over || turn == end, "{turn:?}");
+        over = turn == end;
+    }
+    assert!(rt; over);
+}
+
+#[test]
+fn an_ended_unit_stays_ended(rt: HostRuntime) -> Result<(), Fail> {
+    // behind the stop a store, a load that it blocks, what waits for that, and room for a let
+    let listing =
+        b".space 4\nori $1,$0,3\nbreak\nL: sb $1,0($0)\nlw $2,0($0)\naddu $3,$2,$1\nbeq $2,$0,L\n";
+    let program = parse(rt.alloc(), listing)?;
+    for ring in [2, 4, 8, 16, 32] {
+        let mut bench = Bench::new(rt.alloc(), &program, &config(ring, 2)?, NotTaken)?;
+        turns_on(&rt, &mut bench, Turn::Over(Stop::Break));
+        let end = bench.run(1000);
+        assert_eq!(rt; end.outcome, Ending::Stop(Stop::Break), "ring {ring}");
+        assert_eq!(rt; (end.n, end.pc), (1, 0x0040_0004), "ring {ring}");
+        let registers = (end.registers[1], end.registers[2], end.registers[3]);
+        assert_eq!(rt; registers, (3, 0, 0), "ring {ring}");
+        assert_eq!(rt;
+            end.memory.as_slice(),
+            [0, 0, 0, 0].as_slice(),
+            "ring {ring}"
+        );
+    }
+    Ok(())
 }
 
 #[test]
@@ -90,6 +125,89 @@ fn a_load_takes_its_bytes_from_a_store(rt: HostRuntime) -> Result<(), Fail> {
     takes_turns(&rt, rt.alloc(), listing, &config(4, 2)?, &turns)
 }
 
+#[test]
+fn a_product_takes_two_stations(rt: HostRuntime) -> Result<(), Fail> {
+    let turns = [
+        Turn::Let,
+        Turn::Let,
+        Turn::Ran,
+        Turn::Ran,
+        Turn::Halved,
+        Turn::Let,
+        Turn::Ran,
+        Turn::Retired,
+        Turn::Over(Stop::Break),
+    ];
+    takes_turns(
+        &rt,
+        rt.alloc(),
+        b"mult $0,$0\nbreak\n",
+        &config(2, 2)?,
+        &turns,
+    )
+}
+
+#[test]
+fn both_halves_are_squashed(rt: HostRuntime) -> Result<(), Fail> {
+    let listing = b"beq $0,$0,E\nmult $0,$0\nE: break\n";
+    let turns = [
+        Turn::Let,
+        Turn::Let,
+        Turn::Let,
+        Turn::Let,
+        Turn::Ran,
+        Turn::Recovered,
+        Turn::Let,
+        Turn::Ran,
+        Turn::Retired,
+        Turn::Over(Stop::Break),
+    ];
+    takes_turns(&rt, rt.alloc(), listing, &config(4, 2)?, &turns)
+}
+
+// A product of 3 and 3, of which the first half has retired alone.
+fn halved<'a>(
+    rt: &impl Abort,
+    alloc: Global,
+    program: &'a Program,
+    ring: u64,
+) -> Result<Bench<'a, NotTaken>, Fail> {
+    let mut bench = Bench::new(alloc, program, &config(ring, 2)?, NotTaken)?;
+    let mut halved = false;
+    for _ in 0..20 {
+        if !halved {
+            assert!(rt; bench.has_room());
+            halved = bench.turn() == Turn::Halved;
+        }
+    }
+    assert!(rt; halved);
+    Ok(bench)
+}
+
+#[test]
+fn between_two_halves_all_is_as_before_the_first(rt: HostRuntime) -> Result<(), Fail> {
+    let program = parse(rt.alloc(), b"addiu $1,$0,3\nmult $1,$1\nmflo $2\nbreak\n")?;
+    for ring in [2, 4, 8, 16, 32] {
+        let end = halved(&rt, rt.alloc(), &program, ring)?.run(1);
+        assert_eq!(rt; end.outcome, Ending::Limit, "ring {ring}");
+        assert_eq!(rt; (end.n, end.pc), (1, 0x0040_0004), "ring {ring}");
+        assert_eq!(rt;
+            (end.registers[1], end.registers[32]),
+            (3, 0),
+            "ring {ring}"
+        );
+        let end = halved(&rt, rt.alloc(), &program, ring)?.run(1000);
+        assert_eq!(rt; end.outcome, Ending::Stop(Stop::Break), "ring {ring}");
+        assert_eq!(rt; (end.n, end.pc), (3, 0x0040_000c), "ring {ring}");
+        assert_eq!(rt;
+            (end.registers[2], end.registers[32]),
+            (9, 9),
+            "ring {ring}"
+        );
+    }
+    Ok(())
+}
+
 fn same_end(rt: &impl Abort, alloc: Global, program: &Program, ring: u64) -> Result<(), Fail> {
     let mut machine = Machine::new(alloc, program)?;
     let outcome = match machine.run(1000) {
@@ -110,6 +228,17 @@ fn same_end(rt: &impl Abort, alloc: Global, program: &Program, ring: u64) -> Res
 fn a_loop_of_calls_and_stores_ends_as_in_order(rt: HostRuntime) -> Result<(), Fail> {
     let listing =
         b".space 8\nori $1,$0,20\nL: sw $1,0($0)\nsb $1,1($0)\nlw $2,0($0)\naddu $3,$3,$2\nsw $3,4($0)\nlhu $4,6($0)\njal F\naddiu $1,$1,-1\nbne $1,$0,L\nbreak\nF: xor $6,$6,$4\njr $ra\n";
+    let program = parse(rt.alloc(), listing)?;
+    for ring in [2, 4, 8, 16, 32] {
+        same_end(&rt, rt.alloc(), &program, ring)?;
+    }
+    Ok(())
+}
+
+#[test]
+fn products_and_quotients_end_as_in_order(rt: HostRuntime) -> Result<(), Fail> {
+    let listing =
+        b"lui $1,0x8000\naddiu $2,$0,-7\nori $5,$0,9\nL: mult $1,$2\nmfhi $3\nmflo $4\nmtlo $5\ndivu $1,$5\nmflo $6\ndiv $2,$5\nmult $6,$3\nmthi $4\naddiu $5,$5,-1\nbne $5,$0,L\ndiv $1,$5\nbreak\n";
     let program = parse(rt.alloc(), listing)?;
     for ring in [2, 4, 8, 16, 32] {
         same_end(&rt, rt.alloc(), &program, ring)?;

@@ -1,5 +1,5 @@
 //! A live tenant, and how far it has come.
-use isa::{Instr, Reg, Stop};
+use isa::{Half, Instr, Reg, Stop};
 
 /// How far a tenant has come.
 #[derive(Clone, Copy)]
@@ -15,6 +15,7 @@ pub enum Stage {
 #[derive(Clone, Copy)]
 pub struct Station {
     pub instr: Instr,
+    pub half: Half,
     pub destination: Reg,
     pub pc: u32,
     pub predicted: u32,

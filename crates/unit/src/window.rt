@@ -1,16 +1,30 @@
-//! The stations of the live tenants, the oldest first.
-ghost use Rattle.std.specs.Prelude.{◌≡◌, ◌<◌, ◌≤◌, [], ◌∷◌, ◌++◌, length, take, drop, slice_get, slice_set, option_copied, IfOk};
+//! The stations of the live tenants, the oldest first, and who makes what they read.
+ghost use Rattle.std.specs.Prelude.{◌≡◌, ◌<◌, ◌≤◌, ◌-◌, [], ◌∷◌, ◌++◌, length, take, drop, slice_get, slice_set, option_copied, IfOk};
+ghost use Rattle.unit.specs.Creators.{CreatorsAt, IsCreator, IsOfSame};
 
+use crate::creators::Creators;
 use crate::station::Station;
 use circular_buffer::HeapCircularBuffer;
-use isa::Memory;
+use isa::{Memory, Reg};
 use std::alloc::Global;
 use std::marker::Model;
+
+// Where nobody writes a register: farther back than any tenant.
+const NOBODY: Creators = Creators {
+    first: 33,
+    second: 33,
+    replaced: 33,
+};
 
 /// At most 32 stations.
 #[derive(Drop)]
 pub struct Window {
     stations: HeapCircularBuffer<Station>,
+    creators: HeapCircularBuffer<Creators>,
+    // by register, the number of its newest writer
+    newest: [u8; 34],
+    // the number of the oldest tenant: those behind it have the next ones, modulo 256
+    oldest: u8,
 }
 
 impl Model for Window {
@@ -19,9 +33,12 @@ impl Model for Window {
 
     ghost Value = { List Station };
 
+    ghost use Rattle.unit.specs.Creators.{KnowsCreators};
+
     ghost view = { λ w. w.stations.items };
 
-    ghost invariant = { λ w. w.stations.capacity ≡ 32 };
+    ghost invariant = { λ w. (w.stations.capacity ≡ 32) × (w.creators.capacity ≡ 32)
+        × KnowsCreators w.stations.items w.creators.items w.newest w.oldest };
 }
 
 impl Window {
@@ -29,7 +46,13 @@ impl Window {
         ensures { IfOk result (λ w. w ≡ []) }
     {
         let stations = HeapCircularBuffer::with_capacity(alloc, 32)?;
-        Ok(Window { stations })
+        let creators = HeapCircularBuffer::with_capacity(alloc, 32)?;
+        Ok(Window {
+            stations,
+            creators,
+            newest: [0; 34],
+            oldest: 0,
+        })
     }
 
     pub fn len(&self) -> usize
@@ -51,8 +74,17 @@ impl Window {
         self.stations.get(i)
     }
 
+    /// The creators of the tenant at `i`.
+    pub fn creators(&self, i: usize) -> Creators
+        ensures { CreatorsAt self.now i result }
+    {
+        self.creators.get(i).copied().unwrap_or(NOBODY)
+    }
+
+    /// Another stage of the tenant at `i`.
     pub fn put(&mut self, i: usize, station: Station)
-        requires { i < length self.old }
+        requires there { i < length self.old }
+        requires same { IsOfSame station (slice_get self.old i) }
         ensures { self.new ≡ slice_set self.old i station }
     {
         if let Some(place) = self.stations.get_mut(i) {
@@ -60,18 +92,56 @@ impl Window {
         }
     }
 
+    // How many tenants before the next one the newest writer of a register was let.
+    fn back_to(&self, r: Reg) -> u8
+        ensures { IsCreator self.now (length self.now) r result }
+    {
+        let len = self.stations.len() as u8;
+        let at = self.newest[r.number() as usize].wrapping_sub(self.oldest);
+        match self.stations.get(at as usize) {
+            Some(writer) if writer.destination.number() == r.number() => len - at,
+            _ => len + 1,
+        }
+    }
+
     pub fn push(&mut self, station: Station)
         requires { length self.old < 32 }
         ensures { self.new ≡ self.old ++ station ∷ [] }
     {
+        let creators = Creators {
+            first: self.back_to(station.instr.first()),
+            second: self.back_to(station.instr.second()),
+            replaced: self.back_to(station.destination),
+        };
+        let number = self.oldest.wrapping_add(self.stations.len() as u8);
+        let r = station.destination.number();
+        self.newest[r as usize] = number;
+        self.creators.push_back(creators);
         self.stations.push_back(station);
+    }
+
+    // Takes the youngest out: the one that it replaced is the newest writer again.
+    fn pop(&mut self)
+        ensures { self.new ≡ take (length self.old - 1) self.old }
+    {
+        let Some(station) = self.stations.pop_back() else {
+            return;
+        };
+        let Some(creators) = self.creators.pop_back() else {
+            return;
+        };
+        let number = self.oldest.wrapping_add(self.stations.len() as u8);
+        let r = station.destination.number();
+        self.newest[r as usize] = number.wrapping_sub(creators.replaced);
     }
 
     /// Keeps the oldest `len`.
     pub fn cut(&mut self, len: usize)
         ensures { self.new ≡ take len self.old }
     {
-        self.stations.truncate_back(len);
+        while len < self.stations.len() {
+            self.pop();
+        }
     }
 
     /// Takes the oldest out.
@@ -79,5 +149,7 @@ impl Window {
         ensures { self.new ≡ drop 1 self.old }
     {
         self.stations.pop_front();
+        self.creators.pop_front();
+        self.oldest = self.oldest.wrapping_add(1);
     }
 }

@@ -9,6 +9,7 @@ use Rattle.unit_laws.specs.Still.{AreStill, IsNotBusy, IsStill}
 pub record IsAlike (t u : Tenant) : Type 0 where
   pub station : u.station ≡ t.station
   pub index : u.index ≡ t.index
+  pub half : u.half ≡ t.half
   pub pc : u.pc ≡ t.pc
   pub predicted : u.predicted ≡ t.predicted
   pub next : u.next ≡ t.next
@@ -17,13 +18,14 @@ pub record IsAlike (t u : Tenant) : Type 0 where
   pub standing : u.standing ≡ t.standing
 
 pub alike_self : (t : Tenant) → IsAlike t t
-alike_self t = record { station = refl; index = refl; pc = refl; predicted = refl; next = refl; made = refl; fate = refl; standing = refl }
+alike_self t = record { station = refl; index = refl; half = refl; pc = refl; predicted = refl; next = refl; made = refl; fate = refl; standing = refl }
 
 pub alike_both : (t u v : Tenant) → IsAlike t u → IsAlike u v → IsAlike t v
 alike_both t u v a b =
     record {
       station = b.station ∙ a.station;
       index = b.index ∙ a.index;
+      half = b.half ∙ a.half;
       pc = b.pc ∙ a.pc;
       predicted = b.predicted ∙ a.predicted;
       next = b.next ∙ a.next;

@@ -90,7 +90,7 @@ early_made o pc pr nx made a b st (Miss x) na nh h = λ e. let no : None ≡ Som
 early_made o pc pr nx made a b st (Stopped x) na nh h = absurd (nh x h.1)
 
 links_go : (P : Program) (t : Tenant) → kind_of P t ≡ Links → (x : ℕ) × (computed P t ≡ Next x)
-links_go P t e = (_, ap (λ k. outcome_by k (instr P t) t.pc (operand_value t.first) (operand_value t.second) (length P.bytes)) e)
+links_go P t e = (_, ap (λ k. outcome_by k (instr P t) t.half t.pc (operand_value t.first) (operand_value t.second) (length P.bytes)) e)
 
 no_links : (P : Program) (ts : List Tenant) (t : Tenant) → IsSoundAt P ts t → t.made ≡ None → kind_of P t ≢ Links
 no_links P ts t s none e =
@@ -116,7 +116,7 @@ writer_live P ts t r s n on w none = go t.standing refl
 -- a source whose creator has made nothing may come from it
 pub pending_may : (P : Program) (C : Sizes) (U : UpdateUnit) (n : Tenant) (r : ℕ) → IsSound P U.tenants → Stands C U.tenants → AllByRecursion IsNoRetiredStop U.tenants → how_many is_live U.tenants < C.ring → n.station ≡ next_station C U.tenants → value_of U.tenants (creator P U.tenants r) ≡ None → MayComeFrom P U (next_station C U.tenants) (creator P U.tenants r)
 pending_may P C V n zero s st ns room at none = let no : Some 0 ≡ None = none in absurd (cc)
-pending_may P C V n (suc r) s st ns room at none = go (ltb (suc r) 32) refl
+pending_may P C V n (suc r) s st ns room at none = go (ltb (suc r) 34) refl
   where
     U : List Tenant
     U = V.tenants
@@ -141,6 +141,6 @@ pending_may P C V n (suc r) s st ns room at none = go (ltb (suc r) 32) refl
           last = last_at U p w.t st.apart w.is live;
         }
 
-    go : (b : Bool) → ltb (suc r) 32 ≡ b → MayComeFrom P V (next_station C U) (cond (ltb (suc r) 32) (last_writer P U (suc r)) None)
+    go : (b : Bool) → ltb (suc r) 34 ≡ b → MayComeFrom P V (next_station C U) (cond (ltb (suc r) 34) (last_writer P U (suc r)) None)
     go true e = subst (λ b. MayComeFrom P V (next_station C U) (cond b (last_writer P U (suc r)) None)) (sym e) (from (last_writer P U (suc r)) refl (ap (λ b. value_of U (cond b (last_writer P U (suc r)) None)) (sym e) ∙ none))
     go false e = let no : Some 0 ≡ None = ap (λ b. value_of U (cond b (last_writer P U (suc r)) None)) (sym e) ∙ none in absurd (cc)

@@ -49,7 +49,7 @@ deliver_first P C by U ys t ts v w n g =
       are = (tt, tt);
       still = record { value = refl; way = λ q. w };
       same = refl;
-      alike = record { station = refl; index = refl; pc = refl; predicted = refl; next = refl; made = refl; fate = refl; standing = refl };
+      alike = record { station = refl; index = refl; half = refl; pc = refl; predicted = refl; next = refl; made = refl; fate = refl; standing = refl };
     }
 
 deliver_second : (P : Program) (C : Sizes) (by : ℕ) (U : UpdateUnit) (ys : List Tenant) (t : Tenant) (ts : List Tenant) (v : ℕ) → IsLinked t.second → t.second.value ≡ None → value_of ts t.second.creator ≡ Some v → OneRun P C by U ys t ts Second
@@ -61,7 +61,7 @@ deliver_second P C by U ys t ts v w n g =
       are = (tt, tt);
       still = record { value = refl; way = λ q. w };
       same = refl;
-      alike = record { station = refl; index = refl; pc = refl; predicted = refl; next = refl; made = refl; fate = refl; standing = refl };
+      alike = record { station = refl; index = refl; half = refl; pc = refl; predicted = refl; next = refl; made = refl; fate = refl; standing = refl };
     }
 
 deliver : (P : Program) (C : Sizes) (by : ℕ) (U : UpdateUnit) (ys : List Tenant) (t : Tenant) (ts : List Tenant) (k : Source) (v : ℕ) → IsLinked (operand k t) → (operand k t).value ≡ None → value_of ts (operand k t).creator ≡ Some v → OneRun P C by U ys t ts k

@@ -2,7 +2,7 @@
 use Rattle.std.proofs.Common.{◌≡◌, ℕ, ◌<◌, ◌^◌, true, ◌&&◌, List, [], ◌∷◌, ◌++◌, length, Option, Some, None, refl, sym}
 use Rattle.std.specs.Prelude.{IfSome}
 use Rattle.std.specs.List.{AllByRecursion}
-use Rattle.isa.specs.Instruction.{fixed_next, kind}
+use Rattle.isa.specs.Instruction.{first_of, second_of, fixed_next, kind}
 use Rattle.isa.specs.Programs.{Program, address, instr_of}
 use Rattle.inorder.specs.declared.history.Act.TheVariants.{Link}
 use Rattle.inorder.specs.declared.history.Source.TheVariants.{First, Second}
@@ -12,7 +12,7 @@ use Rattle.inorder.specs.declared.history.Supply.{Supply}
 use Rattle.inorder.specs.declared.history.Supply.TheVariants.{From, Known}
 use Rattle.inorder.specs.Steps.{IsNoRetiredStop, MaySupply, MayLet, let_operand, linked, new_tenant}
 use Rattle.inorder.specs.Tenants.{Tenant, is_access, is_live, kind_of}
-use Rattle.inorder.specs.Unit.{Sizes, UpdateUnit, creator, front_pc, how_many, next_station, value_of}
+use Rattle.inorder.specs.Unit.{front_half, Sizes, UpdateUnit, creator, front_pc, how_many, next_station, value_of}
 use Rattle.inorder.proofs.Sound.{IsSound}
 use Rattle.inorder.proofs.Stations.{Stands}
 use Rattle.unit_laws.specs.Moves.{IsLink, Leads, with_tenants}
@@ -29,7 +29,7 @@ pub record MayEnter (P : Program) (C : Sizes) (U : UpdateUnit) (index predicted 
   pub is_there : index < length P.code
   pub pc : front_pc U.tenants ≡ address index
   pub small : predicted < 2 ^ 32
-  pub predicts : IfSome (fixed_next (instr_of P index) (front_pc U.tenants)) (λ x. predicted ≡ x)
+  pub predicts : IfSome (fixed_next (instr_of P index) (front_half P U.tenants) (front_pc U.tenants)) (λ x. predicted ≡ x)
 
 -- the let and its links, and the tenant
 pub record LetRun (P : Program) (C : Sizes) (by : ℕ) (U : UpdateUnit) (index predicted : ℕ) : Type 0 where
@@ -53,10 +53,10 @@ let_run P C by U k pr s st ns m = go (value_of ts c) (value_of ts d) refl refl
     ts = U.tenants
 
     c : Option ℕ
-    c = creator P ts (instr_of P k).first
+    c = creator P ts (first_of (instr_of P k))
 
     d : Option ℕ
-    d = creator P ts (instr_of P k).second
+    d = creator P ts (second_of (instr_of P k))
 
     new : Supply → Supply → Tenant
     new f g = new_tenant P C U k pr f g
@@ -95,7 +95,7 @@ let_run P C by U k pr s st ns m = go (value_of ts c) (value_of ts d) refl refl
           are = tt;
           tenant = new (Known x) (Known y);
           leads = let_only (Known x) (Known y) (may (Known x) (Known y) ex ey);
-          alike = record { station = refl; index = refl; pc = refl; predicted = refl; next = refl; made = refl; fate = refl; standing = refl };
+          alike = record { station = refl; index = refl; half = refl; pc = refl; predicted = refl; next = refl; made = refl; fate = refl; standing = refl };
           first_still = still_known ts c x ex;
           second_still = still_known ts d y ey;
         }
@@ -107,8 +107,10 @@ let_run P C by U k pr s st ns m = go (value_of ts c) (value_of ts d) refl refl
           links = On (length ts) (Link First) ∷ [];
           are = (tt, tt);
           tenant = linked ts t0 First;
-          leads = leads_more P C by U (with_tenants U (t0 ∷ ts)) (with_tenants U (linked ts t0 First ∷ ts)) (On (length ts) (Link First) ∷ []) (Let k pr From (Known y) ∷ []) (let_only From (Known y) (may From (Known y) (pending (instr_of P k).first ex) ey)) (link_first t0 refl);
-          alike = record { station = refl; index = refl; pc = refl; predicted = refl; next = refl; made = refl; fate = refl; standing = refl };
+          leads = leads_more P C by U (with_tenants U (t0 ∷ ts)) (with_tenants U (linked ts t0 First ∷ ts))
+              (On (length ts) (Link First) ∷ []) (Let k pr From (Known y) ∷ [])
+              (let_only From (Known y) (may From (Known y) (pending (first_of (instr_of P k)) ex) ey)) (link_first t0 refl);
+          alike = record { station = refl; index = refl; half = refl; pc = refl; predicted = refl; next = refl; made = refl; fate = refl; standing = refl };
           first_still = record { value = sym ex; way = λ q. (_, refl) };
           second_still = still_known ts d y ey;
         }
@@ -120,8 +122,10 @@ let_run P C by U k pr s st ns m = go (value_of ts c) (value_of ts d) refl refl
           links = On (length ts) (Link Second) ∷ [];
           are = (tt, tt);
           tenant = linked ts t0 Second;
-          leads = leads_more P C by U (with_tenants U (t0 ∷ ts)) (with_tenants U (linked ts t0 Second ∷ ts)) (On (length ts) (Link Second) ∷ []) (Let k pr (Known x) From ∷ []) (let_only (Known x) From (may (Known x) From ex (pending (instr_of P k).second ey))) (link_second t0 refl);
-          alike = record { station = refl; index = refl; pc = refl; predicted = refl; next = refl; made = refl; fate = refl; standing = refl };
+          leads = leads_more P C by U (with_tenants U (t0 ∷ ts)) (with_tenants U (linked ts t0 Second ∷ ts))
+              (On (length ts) (Link Second) ∷ []) (Let k pr (Known x) From ∷ [])
+              (let_only (Known x) From (may (Known x) From ex (pending (second_of (instr_of P k)) ey))) (link_second t0 refl);
+          alike = record { station = refl; index = refl; half = refl; pc = refl; predicted = refl; next = refl; made = refl; fate = refl; standing = refl };
           first_still = still_known ts c x ex;
           second_still = record { value = sym ey; way = λ q. (_, refl) };
         }
@@ -135,8 +139,11 @@ let_run P C by U k pr s st ns m = go (value_of ts c) (value_of ts d) refl refl
           links = On (length ts) (Link Second) ∷ On (length ts) (Link First) ∷ [];
           are = (tt, (tt, tt));
           tenant = t2;
-          leads = leads_more P C by U (with_tenants U (t1 ∷ ts)) (with_tenants U (t2 ∷ ts)) (On (length ts) (Link Second) ∷ []) (On (length ts) (Link First) ∷ Let k pr From From ∷ []) (leads_more P C by U (with_tenants U (t0 ∷ ts)) (with_tenants U (t1 ∷ ts)) (On (length ts) (Link First) ∷ []) (Let k pr From From ∷ []) (let_only From From (may From From (pending (instr_of P k).first ex) (pending (instr_of P k).second ey))) (link_first t0 refl)) (link_second t1 refl);
-          alike = record { station = refl; index = refl; pc = refl; predicted = refl; next = refl; made = refl; fate = refl; standing = refl };
+          leads = leads_more P C by U (with_tenants U (t1 ∷ ts)) (with_tenants U (t2 ∷ ts))
+              (On (length ts) (Link Second) ∷ []) (On (length ts) (Link First) ∷ Let k pr From From ∷ [])
+              (leads_more P C by U (with_tenants U (t0 ∷ ts)) (with_tenants U (t1 ∷ ts)) (On (length ts) (Link First) ∷ []) (Let k pr From From ∷ [])
+              (let_only From From (may From From (pending (first_of (instr_of P k)) ex) (pending (second_of (instr_of P k)) ey))) (link_first t0 refl)) (link_second t1 refl);
+          alike = record { station = refl; index = refl; half = refl; pc = refl; predicted = refl; next = refl; made = refl; fate = refl; standing = refl };
           first_still = record { value = sym ex; way = λ q. (_, refl) };
           second_still = record { value = sym ey; way = λ q. (_, refl) };
         }

@@ -3,7 +3,7 @@ use Rattle.std.proofs.Common.{◌≡◌, ℕ, Bool, true, false, cond, eqb, List
 use Rattle.std.specs.List.{AllByRecursion}
 use Rattle.isa.specs.Programs.{Program}
 use Rattle.isa.specs.declared.stop.Outcome.{Outcome}
-use Rattle.isa.specs.declared.stop.Outcome.TheVariants.{Address, Next, Stop as Stops, Value}
+use Rattle.isa.specs.declared.stop.Outcome.TheVariants.{Pair, Address, Next, Stop as Stops, Value}
 use Rattle.inorder.specs.declared.history.Act.TheVariants.{Claim, Finish, Load}
 use Rattle.inorder.specs.declared.history.Step.{Step}
 use Rattle.inorder.specs.declared.history.Step.TheVariants.{On}
@@ -63,6 +63,7 @@ finished_keeps : (t : Tenant) (o : Outcome) → Keeps t (finished t o)
 finished_keeps t (Value v) = record { standing = refl; first = refl; second = refl; free = tt }
 finished_keeps t (Address v) = record { standing = refl; first = refl; second = refl; free = tt }
 finished_keeps t (Stops v) = record { standing = refl; first = refl; second = refl; free = tt }
+finished_keeps t (Pair l h) = record { standing = refl; first = refl; second = refl; free = tt }
 finished_keeps t (Next x) = record { standing = refl; first = refl; second = refl; free = go (eqb x t.predicted) }
   where
     go : (b : Bool) → IsNotBusy (cond b (Done x) (Miss x))

@@ -2,11 +2,11 @@
 use Rattle.std.proofs.Common.{◌≡◌, true, false, List, ◌∷◌, ◌++◌, refl, sym, ap, ◌∙◌, subst}
 use Rattle.std.specs.List.{AllByRecursion}
 use Rattle.isa.specs.Programs.{Program}
-use Rattle.inorder.specs.Committed.{commits, commits_by, committed}
+use Rattle.inorder.specs.Committed.{ahead, commits, commits_by, committed}
 use Rattle.inorder.specs.Steps.{IsNoRetiredStop}
 use Rattle.inorder.specs.Tenants.{Addr, Busy, Done, Fate, Live, Miss, Open, Retired, Stopped, Tenant, stands_on_path}
-use Rattle.inorder.proofs.Commits.{over}
-use Rattle.inorder.proofs.SettledRegisters.{committed_if}
+use Rattle.inorder.proofs.Commits.{not_complete, over, over_ahead}
+use Rattle.inorder.proofs.SettledRegisters.{ahead_if, committed_if}
 use Rattle.inorder.proofs.Sound.{IsSettled, IsSound, SettledBy}
 
 -- a retired tenant that is no stop, and all before it, have left
@@ -40,4 +40,8 @@ retired_commits t e n = ap (λ s. commits_by s t.fate) e ∙ go t.fate refl
 
 -- nobody after a live tenant has committed
 pub committed_middle : (P : Program) (ys : List Tenant) (t : Tenant) (ts : List Tenant) → t.standing ≡ Live → IsSound P (ys ++ t ∷ ts) → committed P (ys ++ t ∷ ts) ≡ committed P ts
-committed_middle P ys t ts e s = over P t t ts ys e s ∙ committed_if P t ts false (live_commits t e)
+committed_middle P ys t ts e s = over P t t ts ys e s ∙ committed_if P t ts false (not_complete P t (live_commits t e))
+
+-- nor left anything for a new tenant
+pub ahead_middle : (P : Program) (ys : List Tenant) (t : Tenant) (ts : List Tenant) → t.standing ≡ Live → IsSound P (ys ++ t ∷ ts) → ahead P (ys ++ t ∷ ts) ≡ ahead P ts
+ahead_middle P ys t ts e s = over_ahead P t t ts ys e s ∙ ahead_if P t ts false (live_commits t e)

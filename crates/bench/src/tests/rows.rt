@@ -9,7 +9,7 @@ use std::process::Abort;
 use std::test::Fail;
 
 /// What a listing shows, the listing, its report and its status.
-type Row = (&'static str, &'static str, &'static str, Status);
+pub(super) type Row = (&'static str, &'static str, &'static str, Status);
 
 /// The report of the in-order run.
 fn in_order(alloc: Global, listing: &[u8], limit: u64) -> Result<String, Fail> {
@@ -30,7 +30,13 @@ fn in_order(alloc: Global, listing: &[u8], limit: u64) -> Result<String, Fail> {
     Ok(report_text(alloc, &end)?)
 }
 
-fn check(rt: &impl Abort, alloc: Global, ring: u64, limit: u64, rows: &[Row]) -> Result<(), Fail> {
+pub(super) fn check(
+    rt: &impl Abort,
+    alloc: Global,
+    ring: u64,
+    limit: u64,
+    rows: &[Row],
+) -> Result<(), Fail> {
     let config = config(ring, limit)?;
     for (shown, listing, report, status) in rows {
         let (answered, text) = answer(alloc, listing.as_bytes(), &config)?;

@@ -1,10 +1,10 @@
 //! The forms of the operations.
-ghost use Rattle.std.specs.Prelude.{◌≡◌, map};
+ghost use Rattle.std.specs.Prelude.{◌≡◌, map, Err, ok_or, if◌then◌else◌};
 ghost use Rattle.std.specs.List.{list_any, find};
-ghost use Rattle.std.specs.Option.{option_map};
 ghost use Rattle.std.specs.Str.{str_eq_ignore_ascii_case};
 ghost use Rattle.isa.specs.Reading.{Reads};
-ghost use Rattle.isa.specs.Forms.{has_word, has_word_and_count, is_operation, form_with, form_of, row};
+ghost use Rattle.isa.specs.declared.listing.fault.FaultKind.TheVariants.{BadOperands, UnknownOp};
+ghost use Rattle.isa.specs.Forms.{has_word, has_word_and_count, form_of, row};
 
 use super::fault::FaultKind;
 use crate::Op;
@@ -35,7 +35,7 @@ pub type Form = (&'static str, Op, &'static [Slot]);
 
 use Slot::{First, Into, Label, Offset, S16, Second, U5, U16};
 
-static FORMS: [Form; 45] = [
+static FORMS: [Form; 53] = [
     ("addu", Op::Addu, &[Into, First, Second]),
     ("subu", Op::Subu, &[Into, First, Second]),
     ("add", Op::Add, &[Into, First, Second]),
@@ -52,6 +52,14 @@ static FORMS: [Form; 45] = [
     ("sllv", Op::Sllv, &[Into, First, Second]),
     ("srlv", Op::Srlv, &[Into, First, Second]),
     ("srav", Op::Srav, &[Into, First, Second]),
+    ("mult", Op::Mult, &[First, Second]),
+    ("multu", Op::Multu, &[First, Second]),
+    ("div", Op::Div, &[First, Second]),
+    ("divu", Op::Divu, &[First, Second]),
+    ("mflo", Op::Mflo, &[Into]),
+    ("mfhi", Op::Mfhi, &[Into]),
+    ("mtlo", Op::Mtlo, &[First]),
+    ("mthi", Op::Mthi, &[First]),
     ("addiu", Op::Addiu, &[Into, First, S16]),
     ("addi", Op::Addi, &[Into, First, S16]),
     ("slti", Op::Slti, &[Into, First, S16]),
@@ -90,48 +98,28 @@ pub fn same_word(a: &[u8], b: &[u8]) -> bool
     a.eq_ignore_ascii_case(b)
 }
 
-fn is_in(table: &[Form], word: &[u8]) -> bool
-    ensures { result ≡ list_any (has_word word.now) (map row table.now) }
+// The row with this word and count, or what is wrong: no row has the word, or none of its rows
+// has the count.
+fn find_in(table: &[Form], word: &[u8], count: usize) -> Result<Form, FaultKind>
+    ensures { Reads row result (if list_any (has_word word.now) (map row table.now)
+        then ok_or (find (has_word_and_count word.now count) (map row table.now)) BadOperands
+        else Err UnknownOp) }
 {
+    let mut fault = FaultKind::UnknownOp;
     for entry in table {
         if same_word(entry.0.as_bytes(), word) {
-            return true;
+            if entry.2.len() == count {
+                return Ok(*entry);
+            }
+            fault = FaultKind::BadOperands;
         }
     }
-    false
-}
-
-fn find_in(table: &[Form], word: &[u8], count: usize) -> Option<Form>
-    ensures { option_map row result ≡ find (has_word_and_count word.now count) (map row table.now) }
-{
-    for entry in table {
-        if same_word(entry.0.as_bytes(), word) && entry.2.len() == count {
-            return Some(*entry);
-        }
-    }
-    None
-}
-
-#[tactic(auto, unfolding(crate::specs::Forms::is_operation))]
-fn is_operation(word: &[u8]) -> bool
-    ensures { result ≡ is_operation word.now }
-{
-    is_in(FORMS.as_slice(), word)
-}
-
-#[tactic(auto, unfolding(crate::specs::Forms::form_with))]
-fn form_with(word: &[u8], count: usize) -> Option<Form>
-    ensures { option_map row result ≡ form_with word.now count }
-{
-    find_in(FORMS.as_slice(), word, count)
+    Err(fault)
 }
 
 /// The form of a word, in letters of either case, with so many operands.
 pub fn form_of(word: &[u8], count: usize) -> Result<Form, FaultKind>
     ensures { Reads row result (form_of word.now count) }
 {
-    if !is_operation(word) {
-        return Err(FaultKind::UnknownOp);
-    }
-    form_with(word, count).ok_or(FaultKind::BadOperands)
+    find_in(FORMS.as_slice(), word, count)
 }

@@ -18,18 +18,26 @@ pub struct Draft<'a> {
     pub label: Option<&'a [u8]>,
 }
 
-/// An operation before its operands. `jal`, and `jalr` where it names none, write register 31.
+/// An operation before its operands. `jal`, and `jalr` where it names none, write register 31; the
+/// moves from and to LO and HI read and write these.
 fn bare(op: Op) -> Instr
     ensures { result ≡ bare op }
 {
     let target = match op {
         Op::Jal | Op::Jalr => Reg::LINK,
+        Op::Mtlo => Reg::LO,
+        Op::Mthi => Reg::HI,
+        _ => Reg::ZERO,
+    };
+    let first = match op {
+        Op::Mflo => Reg::LO,
+        Op::Mfhi => Reg::HI,
         _ => Reg::ZERO,
     };
     Instr {
         op,
         target,
-        first: Reg::ZERO,
+        first,
         second: Reg::ZERO,
         number: 0,
     }

@@ -1,5 +1,5 @@
 //! The labels of a line.
-ghost use Rattle.std.specs.Prelude.{◌≡◌, ◌≢◌, ◌∷◌, ◌++◌, [], ℕ, List, true, false, IfOk, IfErr};
+ghost use Rattle.std.specs.Prelude.{◌≡◌, ◌≢◌, ◌∷◌, ◌++◌, [], ℕ, List, true, false, OnOk, IfOk, IfErr};
 ghost use Rattle.std.proofs.Common.{rules};
 ghost use Rattle.std.specs.Cmp.Rules.{hashing};
 ghost use Rattle.text.specs.Label.{labels_of, statement_of};
@@ -30,6 +30,21 @@ impl<'a> Hash for Name<'a> {
 /// Names, each with the address that it stands for.
 pub type Labels<'a> = HashMap<Name<'a>, u32>;
 
+/// Adds one label.
+pub fn add_label<'a>(labels: &mut Labels<'a>, text: &'a [u8], address: u32) -> Result<(), FaultKind>
+    ensures single { OnOk result ((pairs : List (List ℕ × ℕ)) → IsTable labels.old pairs
+        → (is_double address pairs (text.entry.now ∷ []) ≡ false)
+        × IsTable labels.new (pairs ++ (text.entry.now, address) ∷ [])) }
+    ensures kind { IfErr result (λ e. e ≢ FaultKind.Memory → e ≡ FaultKind.DoubleLabel) }
+    ensures double { IfErr result (λ e. e ≢ FaultKind.Memory → (pairs : List (List ℕ × ℕ))
+        → IsTable labels.old pairs → is_double address pairs (text.entry.now ∷ []) ≡ true) }
+{
+    if labels.insert(Name { text }, address)?.is_some() {
+        return Err(FaultKind::DoubleLabel);
+    }
+    Ok(())
+}
+
 /// Adds the labels at the front of a line, and gives its statement.
 pub fn add_labels<'a>(
     labels: &mut Labels<'a>,
@@ -46,9 +61,7 @@ pub fn add_labels<'a>(
 {
     let mut rest = code;
     while let Some((text, after)) = next_label(rest) {
-        if labels.insert(Name { text }, address)?.is_some() {
-            return Err(FaultKind::DoubleLabel);
-        }
+        add_label(labels, text, address)?;
         rest = after;
     }
     Ok(trim(rest))

@@ -76,5 +76,5 @@ pub fn register(text: &[u8]) -> Result<Reg, FaultKind>
     }
     let (_, name) = text.split_at(1);
     let number = register_number(name).ok_or(FaultKind::BadRegister)?;
-    Reg::new(number).ok_or(FaultKind::BadRegister)
+    Reg::general(number).ok_or(FaultKind::BadRegister)
 }

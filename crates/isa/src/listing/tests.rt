@@ -19,7 +19,7 @@ fn instr(op: Op, target: u8, first: u8, second: u8, number: u32) -> Instr {
 
 #[test]
 fn reads_each_form(rt: HostRuntime) -> Result<(), Fail> {
-    let cases: [(&[u8], Instr); 46] = [
+    let cases: [(&[u8], Instr); 54] = [
         (b"addu $1,$2,$3", instr(Op::Addu, 1, 2, 3, 0)),
         (b"subu $1,$2,$3", instr(Op::Subu, 1, 2, 3, 0)),
         (b"add $1,$2,$3", instr(Op::Add, 1, 2, 3, 0)),
@@ -36,6 +36,14 @@ fn reads_each_form(rt: HostRuntime) -> Result<(), Fail> {
         (b"sllv $1,$2,$3", instr(Op::Sllv, 1, 2, 3, 0)),
         (b"srlv $1,$2,$3", instr(Op::Srlv, 1, 2, 3, 0)),
         (b"srav $1,$2,$3", instr(Op::Srav, 1, 2, 3, 0)),
+        (b"mult $1,$2", instr(Op::Mult, 0, 1, 2, 0)),
+        (b"multu $1,$2", instr(Op::Multu, 0, 1, 2, 0)),
+        (b"DIV $a0 , $a1", instr(Op::Div, 0, 4, 5, 0)),
+        (b"divu $1,$0", instr(Op::Divu, 0, 1, 0, 0)),
+        (b"mflo $1", instr(Op::Mflo, 1, 32, 0, 0)),
+        (b"mfhi $1", instr(Op::Mfhi, 1, 33, 0, 0)),
+        (b"mtlo $1", instr(Op::Mtlo, 32, 1, 0, 0)),
+        (b"mthi $ra", instr(Op::Mthi, 33, 31, 0, 0)),
         (
             b"addiu $1,$2,-32768",
             instr(Op::Addiu, 1, 2, 0, 0xffff_8000),
@@ -85,7 +93,7 @@ fn names_the_first_fault(rt: HostRuntime) {
         BadNumber, BadOperands, BadRegister, DoubleLabel, NotAscii, TooLong, UnknownLabel,
         UnknownOp,
     };
-    let cases: [(&[u8], u64, FaultKind); 47] = [
+    let cases: [(&[u8], u64, FaultKind); 54] = [
         (b"addu $1,$32,$0", 1, BadRegister),
         (b"addiu $1,$0,32768", 1, BadNumber),
         (b"addiu $1,$0,010", 1, BadNumber),
@@ -112,6 +120,13 @@ fn names_the_first_fault(rt: HostRuntime) {
         (b"9: break", 1, UnknownOp),
         (b"addiu 5,6", 1, BadOperands),
         (b"addiu $1,$32,x", 1, BadRegister),
+        (b"addu $33,$1,$1", 1, BadRegister),
+        (b"addu $1,$lo,$1", 1, BadRegister),
+        (b"addu $1,$1,hi", 1, BadOperands),
+        (b"div $1,$2,$3", 1, BadOperands),
+        (b"mult $1", 1, BadOperands),
+        (b"mflo $32", 1, BadRegister),
+        (b"mtlo $1,$2", 1, BadOperands),
         (b"addiu $1,x,99999", 1, BadOperands),
         (b"addiu $ 1,$0,0", 1, BadRegister),
         (b"addiu $01,$0,0", 1, BadRegister),

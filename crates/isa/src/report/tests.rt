@@ -4,9 +4,11 @@ use std::alloc::Global;
 use std::test::Fail;
 
 fn end(alloc: Global, outcome: Ending, memory: &[u8]) -> Result<End, Fail> {
-    let mut registers = [0; 32];
+    let mut registers = [0; 34];
     registers[2] = 0x0a;
     registers[31] = 0xfedc_ba98;
+    registers[32] = 0xffff_ffe8;
+    registers[33] = 0xffff_ffff;
     Ok(End {
         n: 4_294_967_296,
         pc: 0x0040_0008,
@@ -28,6 +30,8 @@ fn registers_and_words_that_are_0_are_left_out(rt: HostRuntime) -> Result<(), Fa
         pc 0x00400008\n\
         r2 0x0000000a\n\
         r31 0xfedcba98\n\
+        lo 0xffffffe8\n\
+        hi 0xffffffff\n\
         m 0x00000004 0xffff00ff\n\
         m 0x0000000c 0x00000080\n"
     );

@@ -1,4 +1,4 @@
-use Rattle.inorder.proofs.Commits.{all_commits}
+use Rattle.inorder.proofs.AheadKept.{all_commits}
 use Rattle.inorder.proofs.laws.only_retirements_commit.Goals as goal
 
 pub returns : goal.returns

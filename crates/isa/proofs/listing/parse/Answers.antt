@@ -36,20 +36,20 @@ returns-in-Err-clause-fault c = λ apart.
     let kind_apart : c.in-Err.kind ≢ Memory = λ e. apart (c.fault_at-in-Err.ensures.kind ∙ e) in
     rw (c.fault_at-in-Err.ensures.line kind_apart, c.fault_at-in-Err.ensures.kind)
     (listing_fault c.args.bytes.now _ c.if-bytes-gt-MOST_TEXT.false
-    (so_far_fault _ _ _ _ c.loop-rest.number _ _ c.loop-rest.invariant.lines c.next_line.result.0.now (left_of c.next_line.result.1) c.in-Err.kind
-    (ap left_of c.in-Some.is ∙ c.next_line.ensures.lines) (c.in-Err.ensures.fault kind_apart)))
+    (so_far_fault _ _ _ _ c.loop-rest.number _ _ c.loop-rest.invariant.lines c.in-Some.text.now c.in-Err.kind
+    (ap left_of c.in-Some.is) (c.in-Err.ensures.fault kind_apart)))
 
 pub loop-rest-preserved : goal.loop-rest-preserved
 loop-rest-preserved c = record {
-  small_code = c.in_default-went.ensures.small_code;
-  small_memory = c.in_default-went.ensures.small_memory;
-  aligned = c.in_default-went.ensures.aligned c.loop-rest.invariant.aligned;
+  small_code = c.in-Ok.ensures.small_code;
+  small_memory = c.in-Ok.ensures.small_memory;
+  aligned = c.in-Ok.ensures.aligned c.loop-rest.invariant.aligned;
   size =
       let before : c.loop-rest.number + (length c.in-Some.text.now + 1) ≤ length c.args.bytes.now + 1 = rw c.in-Some.is at c.loop-rest.invariant.size in
-      omega (arith, size_step c.next_line.result.1 (length c.in-Some.text.now) c.next_line.ensures.shorter);
+      omega (arith, size_step c.in-Ok.after (length c.in-Some.text.now) c.in-Ok.ensures.shorter);
   lines =
-      so_far_more _ _ _ _ c.loop-rest.number _ _ c.loop-rest.invariant.lines _ _ _ _ c.next_line.result.0.now (left_of c.next_line.result.1)
-      (ap left_of c.in-Some.is ∙ c.next_line.ensures.lines) c.in_default-went.ensures.ok;
+      so_far_more _ _ _ _ c.loop-rest.number _ _ c.loop-rest.invariant.lines _ _ _ _ c.in-Some.text.now (option_map (λ t. t.now) c.in-Ok.after)
+      (ap left_of c.in-Some.is) c.in-Ok.ensures.ok;
 }
 
 pub returns-in_err-resolve_all-clause-fault : goal.returns-in_err-resolve_all-clause-fault

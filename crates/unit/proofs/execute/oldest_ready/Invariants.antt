@@ -4,4 +4,4 @@ use Rattle.unit.specs.Window.{operands_in}
 use Rattle.unit.proofs.execute.oldest_ready.Given as goal
 
 abbrev pub invariant-loop-at : goal.invariant-loop-at
-invariant-loop-at l = (k : ℕ) → k < l.at → gives (operands_in l.committed.registers) l.window k ≡ None
+invariant-loop-at l = (k : ℕ) → k < l.at → gives (operands_in l.ahead.registers) l.window k ≡ None

@@ -6,7 +6,7 @@ use Rattle.unit.proofs.memory_port.oldest_answered.Given as goal
 abbrev pub invariant-loop-at : goal.invariant-loop-at
 invariant-loop-at l =
     record {
-      queue : l.queue.entries ≡ entries l.committed.registers l.window l.at;
+      queue : l.queue.entries ≡ entries l.ahead.registers l.window l.at;
       capacity : l.queue.capacity ≡ 32;
-      none : (k : ℕ) → k < l.at → gives (load_in l.committed.registers l.committed.memory) l.window k ≡ None;
+      none : (k : ℕ) → k < l.at → gives (load_in l.ahead.registers l.ahead.memory) l.window k ≡ None;
     }

@@ -4,7 +4,7 @@ use Rattle.isa.specs.declared.instr.Instr.{Instr}
 use Rattle.isa.specs.declared.op.Kind.{Kind}
 use Rattle.isa.specs.declared.op.Kind.TheVariants.{Computes, Jumps, Links, Loads, Stores}
 use Rattle.isa.specs.declared.stop.Outcome.{Outcome}
-use Rattle.isa.specs.declared.stop.Outcome.TheVariants.{Value, Next, Address, Stop as Stops}
+use Rattle.isa.specs.declared.stop.Outcome.TheVariants.{Pair, Value, Next, Address, Stop as Stops}
 use Rattle.isa.specs.Instruction.{kind}
 use Rattle.isa.specs.Programs.{Program, instr_at}
 use Rattle.inorder.specs.declared.machine.Stepped.TheVariants.{Ran as HasRan}
@@ -28,6 +28,7 @@ by_outcome s i (Value v) = refl
 by_outcome s i (Next x) = refl
 by_outcome s i (Address a) = by_kind (kind i.op) s i a
 by_outcome s i (Stops c) = tt
+by_outcome s i (Pair l h) = refl
 
 by_fetch : (P : Program) (s : State) (o : Option Instr) → IsMore s (fetched P s o)
 by_fetch P s None = tt

@@ -6,7 +6,7 @@ use Rattle.unit.specs.Stages.{CanLet, NextIs}
 use Rattle.unit.specs.StandsFor.{IsUnit}
 use Rattle.unit.specs.Turns.{Falls, IsTurn}
 use Rattle.unit.specs.declared.bench.Turn.TheVariants.{Let, Recovered}
-use Rattle.unit.proofs.BenchTurns.{core, guess_fixed, let_core, let_shows, plain_turn, recovered_shows}
+use Rattle.unit.proofs.BenchTurns.{fields, guess_fixed, let_bench, let_shows, plain_turn, recovered_shows}
 use Rattle.unit.proofs.EndTurns.{window_room}
 use Rattle.unit.proofs.bench.Bench.turn.Goals as goal
 
@@ -21,7 +21,7 @@ invariant_of-self g c =
 pub returns-then-recovers-clause-turn : goal.returns-then-recovers-clause-turn
 returns-then-recovers-clause-turn g c =
     let shows = recovered_shows c.self.inside.pipeline c.recovers.new.self c.self.invariant c.in_default.is c.if-recovers.ensures.window c.recovers.ensures.rest c.recovers.ensures.noted in
-    subst (λ b. IsTurn g.P.Predictor.Predicts g.P.Predictor.Learns b Recovered (core c.recovers.new.self c.self.inside.predictor)) c.self.view_is (plain_turn g.P.Predictor.Predicts g.P.Predictor.Learns (core c.self.inside.pipeline c.self.inside.predictor) (core c.recovers.new.self c.self.inside.predictor) Recovered tt shows.turn refl)
+    subst (λ b. IsTurn g.P.Predictor.Predicts g.P.Predictor.Learns b Recovered (fields c.recovers.new.self c.self.inside.predictor)) c.self.view_is (plain_turn g.P.Predictor.Predicts g.P.Predictor.Learns (fields c.self.inside.pipeline c.self.inside.predictor) (fields c.recovers.new.self c.self.inside.predictor) Recovered tt shows.turn refl)
 
 pub returns-then-recovers-clause-falls : goal.returns-then-recovers-clause-falls
 returns-then-recovers-clause-falls g c =
@@ -36,7 +36,7 @@ invariant_of-self-in-Some-next g c =
     let unit : IsUnit b = subst IsUnit (sym same) c.self.invariant in
     let none : b.over ≡ None = subst (λ x. x.over ≡ None) (sym same) c.in_default.is in
     let miss : NoneGives miss_in b.window = subst (λ x. NoneGives miss_in x.window) (sym same) c.if-recovers.ensures.window in
-    let can : CanLet b.program.now b.ring b.queue b.committed.pc b.window next = subst (NextIs b.program.now b.ring b.queue b.committed.pc b.window) c.in-Some-next.is c.next.ensures in
+    let can : CanLet b.program.now b.ring b.queue b.committed.pc b.low b.window next = subst (NextIs b.program.now b.ring b.queue b.committed.pc b.low b.window) c.in-Some-next.is c.next.ensures in
     let guess = c.guess-predicted.ensures in
     let fixed = guess_fixed g.P.Predictor.Predicts g.P.Predictor.Learns _ next.pc next.instr c.guess-predicted.result guess.middle c.guess-predicted.new.predictor guess.asked in
     let shows = let_shows b c.let_out.new.self next c.guess-predicted.result unit none miss can c.guess-predicted.type_inv fixed c.let_out.ensures.window c.let_out.ensures.leavers c.let_out.ensures.rest in
@@ -50,7 +50,7 @@ returns-in-Some-next-clause-falls g c =
     let unit : IsUnit b = subst IsUnit (sym same) c.self.invariant in
     let none : b.over ≡ None = subst (λ x. x.over ≡ None) (sym same) c.in_default.is in
     let miss : NoneGives miss_in b.window = subst (λ x. NoneGives miss_in x.window) (sym same) c.if-recovers.ensures.window in
-    let can : CanLet b.program.now b.ring b.queue b.committed.pc b.window next = subst (NextIs b.program.now b.ring b.queue b.committed.pc b.window) c.in-Some-next.is c.next.ensures in
+    let can : CanLet b.program.now b.ring b.queue b.committed.pc b.low b.window next = subst (NextIs b.program.now b.ring b.queue b.committed.pc b.low b.window) c.in-Some-next.is c.next.ensures in
     let guess = c.guess-predicted.ensures in
     let fixed = guess_fixed g.P.Predictor.Predicts g.P.Predictor.Learns _ next.pc next.instr c.guess-predicted.result guess.middle c.guess-predicted.new.predictor guess.asked in
     let shows = let_shows b c.let_out.new.self next c.guess-predicted.result unit none miss can c.guess-predicted.type_inv fixed c.let_out.ensures.window c.let_out.ensures.leavers c.let_out.ensures.rest in
@@ -64,11 +64,11 @@ returns-in-Some-next-clause-turn g c =
     let unit : IsUnit b = subst IsUnit (sym same) c.self.invariant in
     let none : b.over ≡ None = subst (λ x. x.over ≡ None) (sym same) c.in_default.is in
     let miss : NoneGives miss_in b.window = subst (λ x. NoneGives miss_in x.window) (sym same) c.if-recovers.ensures.window in
-    let can : CanLet b.program.now b.ring b.queue b.committed.pc b.window next = subst (NextIs b.program.now b.ring b.queue b.committed.pc b.window) c.in-Some-next.is c.next.ensures in
-    let turn = let_core g.P.Predictor.Predicts g.P.Predictor.Learns (core b c.self.inside.predictor) (core c.let_out.new.self c.guess-predicted.new.predictor) next c.guess-predicted.result c.leaver-left.result unit none miss can c.guess-predicted.type_inv c.leaver-left.ensures c.guess-predicted.ensures c.let_out.ensures.window c.let_out.ensures.leavers c.let_out.ensures.rest in
-    subst (λ x. IsTurn g.P.Predictor.Predicts g.P.Predictor.Learns x Let (core c.let_out.new.self c.guess-predicted.new.predictor)) c.self.view_is (subst (λ x. IsTurn g.P.Predictor.Predicts g.P.Predictor.Learns (core x c.self.inside.predictor) Let (core c.let_out.new.self c.guess-predicted.new.predictor)) same turn)
+    let can : CanLet b.program.now b.ring b.queue b.committed.pc b.low b.window next = subst (NextIs b.program.now b.ring b.queue b.committed.pc b.low b.window) c.in-Some-next.is c.next.ensures in
+    let turn = let_bench g.P.Predictor.Predicts g.P.Predictor.Learns (fields b c.self.inside.predictor) (fields c.let_out.new.self c.guess-predicted.new.predictor) next c.guess-predicted.result c.leaver-left.result unit none miss can c.guess-predicted.type_inv c.leaver-left.ensures c.guess-predicted.ensures c.let_out.ensures.window c.let_out.ensures.leavers c.let_out.ensures.rest in
+    subst (λ x. IsTurn g.P.Predictor.Predicts g.P.Predictor.Learns x Let (fields c.let_out.new.self c.guess-predicted.new.predictor)) c.self.view_is (subst (λ x. IsTurn g.P.Predictor.Predicts g.P.Predictor.Learns (fields x c.self.inside.predictor) Let (fields c.let_out.new.self c.guess-predicted.new.predictor)) same turn)
 
 pub returns-clause-turn : goal.returns-clause-turn
 returns-clause-turn g c =
-    let turn = plain_turn g.P.Predictor.Predicts g.P.Predictor.Learns (core c.recovers.new.self c.self.inside.predictor) (core c.moves.new.self c.self.inside.predictor) c.moves.result c.moves.ensures.plain c.moves.ensures.turn refl in
-    subst (λ x. IsTurn g.P.Predictor.Predicts g.P.Predictor.Learns x c.moves.result (core c.moves.new.self c.self.inside.predictor)) c.self.view_is (subst (λ x. IsTurn g.P.Predictor.Predicts g.P.Predictor.Learns (core x c.self.inside.predictor) c.moves.result (core c.moves.new.self c.self.inside.predictor)) c.if-recovers.ensures.same turn)
+    let turn = plain_turn g.P.Predictor.Predicts g.P.Predictor.Learns (fields c.recovers.new.self c.self.inside.predictor) (fields c.moves.new.self c.self.inside.predictor) c.moves.result c.moves.ensures.plain c.moves.ensures.turn refl in
+    subst (λ x. IsTurn g.P.Predictor.Predicts g.P.Predictor.Learns x c.moves.result (fields c.moves.new.self c.self.inside.predictor)) c.self.view_is (subst (λ x. IsTurn g.P.Predictor.Predicts g.P.Predictor.Learns (fields x c.self.inside.predictor) c.moves.result (fields c.moves.new.self c.self.inside.predictor)) c.if-recovers.ensures.same turn)

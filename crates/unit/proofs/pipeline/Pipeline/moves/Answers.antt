@@ -1,5 +1,6 @@
 -- Each answer of a turn that asks no predictor.
 use Rattle.std.proofs.Common.{sym, subst}
+use Rattle.unit.specs.Changes.{registers_of}
 use Rattle.unit.specs.Givers.{NoneGives}
 use Rattle.unit.specs.Loads.{load_in}
 use Rattle.unit.proofs.EndTurns.{are_inside}
@@ -48,14 +49,14 @@ pub retires-requires-clause-can : goal.retires-requires-clause-can
 retires-requires-clause-can c =
     let i : Idle c.args.self.now c.runs.new.self = idle c.args.self.now c.runs.new.self c.requires.unit c.requires.open c.requires.miss c.requires.lets c.if-runs.ensures.window c.if-runs.ensures.same c.runs.ensures.rest c.runs.ensures.noted in
     let j : Idle c.args.self.now c.loads.new.self = subst (Idle c.args.self.now) (sym c.if-loads.ensures.same) i in
-    let l = subst (λ b. NoneGives (load_in b.committed.registers b.committed.memory) b.window) (sym c.if-loads.ensures.same) c.if-loads.ensures.window in
+    let l = subst (λ b. NoneGives (load_in (registers_of b) b.committed.memory) b.window) (sym c.if-loads.ensures.same) c.if-loads.ensures.window in
     leaves_after c.args.self.now c.loads.new.self j l
 
 pub returns-clause-turn : goal.returns-clause-turn
 returns-clause-turn c =
     let i : Idle c.args.self.now c.runs.new.self = idle c.args.self.now c.runs.new.self c.requires.unit c.requires.open c.requires.miss c.requires.lets c.if-runs.ensures.window c.if-runs.ensures.same c.runs.ensures.rest c.runs.ensures.noted in
     let j : Idle c.args.self.now c.loads.new.self = subst (Idle c.args.self.now) (sym c.if-loads.ensures.same) i in
-    let l = subst (λ b. NoneGives (load_in b.committed.registers b.committed.memory) b.window) (sym c.if-loads.ensures.same) c.if-loads.ensures.window in
+    let l = subst (λ b. NoneGives (load_in (registers_of b) b.committed.memory) b.window) (sym c.if-loads.ensures.same) c.if-loads.ensures.window in
     let shows = retired_shows c.args.self.now c.loads.new.self c.retires.new.self c.retires.result j l c.retires.ensures in
     shows.turn
 
@@ -63,7 +64,7 @@ pub returns-clause-falls : goal.returns-clause-falls
 returns-clause-falls c =
     let i : Idle c.args.self.now c.runs.new.self = idle c.args.self.now c.runs.new.self c.requires.unit c.requires.open c.requires.miss c.requires.lets c.if-runs.ensures.window c.if-runs.ensures.same c.runs.ensures.rest c.runs.ensures.noted in
     let j : Idle c.args.self.now c.loads.new.self = subst (Idle c.args.self.now) (sym c.if-loads.ensures.same) i in
-    let l = subst (λ b. NoneGives (load_in b.committed.registers b.committed.memory) b.window) (sym c.if-loads.ensures.same) c.if-loads.ensures.window in
+    let l = subst (λ b. NoneGives (load_in (registers_of b) b.committed.memory) b.window) (sym c.if-loads.ensures.same) c.if-loads.ensures.window in
     let shows = retired_shows c.args.self.now c.loads.new.self c.retires.new.self c.retires.result j l c.retires.ensures in
     shows.falls
 
@@ -71,7 +72,7 @@ pub returns-clause-unit : goal.returns-clause-unit
 returns-clause-unit c =
     let i : Idle c.args.self.now c.runs.new.self = idle c.args.self.now c.runs.new.self c.requires.unit c.requires.open c.requires.miss c.requires.lets c.if-runs.ensures.window c.if-runs.ensures.same c.runs.ensures.rest c.runs.ensures.noted in
     let j : Idle c.args.self.now c.loads.new.self = subst (Idle c.args.self.now) (sym c.if-loads.ensures.same) i in
-    let l = subst (λ b. NoneGives (load_in b.committed.registers b.committed.memory) b.window) (sym c.if-loads.ensures.same) c.if-loads.ensures.window in
+    let l = subst (λ b. NoneGives (load_in (registers_of b) b.committed.memory) b.window) (sym c.if-loads.ensures.same) c.if-loads.ensures.window in
     let shows = retired_shows c.args.self.now c.loads.new.self c.retires.new.self c.retires.result j l c.retires.ensures in
     shows.unit
 
@@ -79,7 +80,7 @@ pub returns-clause-same : goal.returns-clause-same
 returns-clause-same c =
     let i : Idle c.args.self.now c.runs.new.self = idle c.args.self.now c.runs.new.self c.requires.unit c.requires.open c.requires.miss c.requires.lets c.if-runs.ensures.window c.if-runs.ensures.same c.runs.ensures.rest c.runs.ensures.noted in
     let j : Idle c.args.self.now c.loads.new.self = subst (Idle c.args.self.now) (sym c.if-loads.ensures.same) i in
-    let l = subst (λ b. NoneGives (load_in b.committed.registers b.committed.memory) b.window) (sym c.if-loads.ensures.same) c.if-loads.ensures.window in
+    let l = subst (λ b. NoneGives (load_in (registers_of b) b.committed.memory) b.window) (sym c.if-loads.ensures.same) c.if-loads.ensures.window in
     let shows = retired_shows c.args.self.now c.loads.new.self c.retires.new.self c.retires.result j l c.retires.ensures in
     shows.same
 
@@ -87,5 +88,5 @@ pub returns-clause-plain : goal.returns-clause-plain
 returns-clause-plain c =
     let i : Idle c.args.self.now c.runs.new.self = idle c.args.self.now c.runs.new.self c.requires.unit c.requires.open c.requires.miss c.requires.lets c.if-runs.ensures.window c.if-runs.ensures.same c.runs.ensures.rest c.runs.ensures.noted in
     let j : Idle c.args.self.now c.loads.new.self = subst (Idle c.args.self.now) (sym c.if-loads.ensures.same) i in
-    let l = subst (λ b. NoneGives (load_in b.committed.registers b.committed.memory) b.window) (sym c.if-loads.ensures.same) c.if-loads.ensures.window in
+    let l = subst (λ b. NoneGives (load_in (registers_of b) b.committed.memory) b.window) (sym c.if-loads.ensures.same) c.if-loads.ensures.window in
     retired_plain c.loads.new.self c.retires.new.self c.retires.result (leaves_after c.args.self.now c.loads.new.self j l) c.retires.ensures
