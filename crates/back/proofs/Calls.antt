@@ -1,65 +1,42 @@
 -- What the calls of a back answer, from what its seat was answered.
-use Rattle.std.proofs.Common.{◌≡◌, ◌≤◌, ◌<◌, ◌%◌, ◌+◌, ℕ, suc, length, [], ◌∷◌, ◌++◌, Option, Some, None, refl, sym, ap, ◌∙◌, subst, rules, append_assoc, arith, zero-le}
-use Rattle.std.specs.Prelude.{IsSome}
-use Rattle.isa.specs.Programs.{Program, instr_at}
-use Rattle.isa.specs.declared.instr.Instr.{Instr}
+use Rattle.std.proofs.Common.{◌≡◌, ◌≤◌, ◌<◌, ◌%◌, ◌+◌, ℕ, [], Option, None, refl, sym, ap, ◌∙◌, subst, arith, zero-le}
+use Rattle.isa.specs.Programs.{Program}
 use Rattle.isa.specs.declared.stop.Stop.{Stop}
-use Rattle.isa.specs.declared.stop.Stop.TheVariants.{BadPc}
-use Rattle.inorder.specs.declared.history.Event.{Event}
-use Rattle.inorder.specs.declared.history.Event.TheVariants.{Does, Refuses}
-use Rattle.inorder.specs.declared.history.Refusal.TheVariants.{Over}
-use Rattle.inorder.specs.Callers.{GoesOn}
-use Rattle.inorder.specs.History.{Adds, IsLegal, back, entry, unit_of}
+use Rattle.inorder.specs.History.{Adds, IsLegal, back}
 use Rattle.inorder.specs.Machine.{State, start}
-use Rattle.inorder.specs.Replies.{IsOver}
-use Rattle.inorder.specs.Runs.{stop}
-use Rattle.inorder.specs.Unit.{UpdateUnit, at}
-use Rattle.inorder.specs.declared.history.Act.TheVariants.{Retire}
-use Rattle.inorder.specs.declared.history.Step.TheVariants.{On}
-use Rattle.inorder.proofs.SettledMemory.{length_memory}
 use Rattle.std.proofs.Math.Nat.{mod-lt}
 use Rattle.inorder.proofs.Histories.{legal_before}
 use Rattle.snapshots.specs.declared.snap.Snap.{Snap}
-use Rattle.station.specs.Retirement.{EndsAs, IsRetired}
 use Rattle.station.specs.Seats.{Caller}
-use Rattle.station.specs.declared.answers.Last.{Last}
-use Rattle.station.specs.declared.answers.Last.TheVariants.{Done, Stop as WasStop, Stored}
 use Rattle.snapshots.specs.Snapshots.{opening}
-use Rattle.back.specs.Backs.{HasRetiredNothing, IsNew, IsSame, back_of, state_of, unit_in}
-use Rattle.back.specs.Commits.{HasCommitted, HasEnded, WasRefused, WentOn}
-use Rattle.back.specs.Commits.HowEnded.{Before, Nowhere, Stops}
+use Rattle.back.specs.Backs.{HasRetiredNothing, IsNew, IsSame, back_of, unit_in}
 use Rattle.back.specs.Kept.{IsKept, KeepsUnit}
-use Rattle.back.specs.Kept.HasStopped.{Nowhere as StopsNowhere}
-use Rattle.back.specs.Retirement.{IsInside, stop_in, with_last}
-use Rattle.back.proofs.OwnEntries.{added_legal, added_own, split_own}
-use Rattle.back.proofs.Retiring.{HasRetired, commits_still, has_retired}
 use Rattle.back.proofs.Starting.{starts}
-use Rattle.back.proofs.SeatKept.{adds_plain, kept_by, plain, same_state, state_is, stops_there}
-use Rattle.back.proofs.UnitKept.{IsQuiet, all_quiet, quiet_keeps}
+use Rattle.back.proofs.SeatKept.{kept_by, same_state, state_is}
 
 -- A look or a meeting
 
-pub is_same : (P copy : Program) (state : State) (head : ℕ) (ended : Option Stop) (shown : Snap) (seat seat' : Caller) → IsKept P seat copy state head ended shown → IsKept P seat' copy state head ended shown
+pub is_same : (P copy : Program) (state : State) (low : Option ℕ) (head : ℕ) (ended : Option Stop) (shown : Snap) (seat seat' : Caller) → IsKept P seat copy state low head ended shown → IsKept P seat' copy state low head ended shown
     → seat'.core ≡ seat.core → seat'.by ≡ seat.by → IsSame (back_of seat ended shown) (back_of seat' ended shown)
-is_same P copy state head ended shown seat seat' k k' core by = record { core = core; by = by; ended = refl; shown = refl; state = same_state P copy state head ended shown seat seat' k k' }
+is_same P copy state low head ended shown seat seat' k k' core by = record { core = core; by = by; ended = refl; shown = refl; state = same_state P copy state low head ended shown seat seat' k k' }
 
 -- A new back
 
 module _ (P : Program) (seat seat' : Caller) (program : seat.core.program ≡ P) (by : seat.by ≡ back) (fresh : HasRetiredNothing seat)
     (core : seat'.core ≡ seat.core) (by' : seat'.by ≡ seat.by) (a : Adds seat.core.program seat.core.sizes seat.by seat.seen seat'.seen [])
     (copy : Program) (state : State) (shown : Snap) (copied : copy ≡ P) (state_starts : state ≡ start P) (shown_is : shown ≡ opening) where
-  at_first : IsKept P seat copy state 0 None shown
+  at_first : IsKept P seat copy state None 0 None shown
   at_first = record {
     program = program;
     copied = copied;
     by_is = by;
     legal = subst (λ Q. IsLegal Q seat.core.sizes seat.seen) program (legal_before seat.core.program seat.core.sizes a.begins.more seat.seen (subst (IsLegal seat.core.program seat.core.sizes) a.begins.is a.legal));
-    unit = subst (λ s. KeepsUnit P seat.core.sizes (unit_in seat.core seat.seen) s 0 None) (sym state_starts) (starts P seat.core.sizes (unit_in seat.core seat.seen) fresh);
+    unit = subst (λ s. KeepsUnit P seat.core.sizes (unit_in seat.core seat.seen) s None 0 None) (sym state_starts) (starts P seat.core.sizes (unit_in seat.core seat.seen) fresh);
     later = subst (λ (s : Snap). s.n ≤ state.count) (sym shown_is) zero-le;
   }
 
-  pub new_kept : IsKept P seat' copy state 0 None shown
-  new_kept = kept_by P copy state 0 None shown seat seat' [] at_first core by' a tt
+  pub new_kept : IsKept P seat' copy state None 0 None shown
+  new_kept = kept_by P copy state None 0 None shown seat seat' [] at_first core by' a tt
 
   pub is_new : IsNew seat (back_of seat' None shown)
   is_new = record {
@@ -68,166 +45,8 @@ module _ (P : Program) (seat seat' : Caller) (program : seat.core.program ≡ P)
     history = a;
     ended = refl;
     shown = shown_is;
-    state = sym (state_is P copy state 0 None shown seat' new_kept) ∙ (state_starts ∙ ap start (sym program));
+    state = sym (state_is P copy state None 0 None shown seat' new_kept) ∙ (state_starts ∙ ap start (sym program));
   }
-
--- A commit
-
-module _ (P copy : Program) (state : State) (head : ℕ) (shown : Snap) (seat : Caller) where
-  pub ended_before : (code : Stop) → IsKept P seat copy state head (Some code) shown → HasEnded (back_of seat (Some code) shown) (back_of seat (Some code) shown) code
-  ended_before code k = record {
-    ended = refl;
-    how = Before refl refl;
-    state = refl;
-    stops = stop_is code k;
-  }
-    where
-      stop_is : (code : Stop) → IsKept P seat copy state head (Some code) shown → stop seat.core.program (state_of (back_of seat (Some code) shown)).count ≡ Some code
-      stop_is code k =
-          let u = plain P copy state head (Some code) shown seat k in
-          let s = stops_there P seat.core.sizes seat.seen (subst (λ Q. Q) refl k.legal) state head (Some code) u code u.end_is in
-          subst (λ (z : Program × State). stop z.0 z.1.count ≡ Some code) (λ i. (sym k.program i, state_is P copy state head (Some code) shown seat k i)) s
-
-  -- there is no instruction at the pc
-  pub nowhere_kept : IsKept P seat copy state head None shown → instr_at copy state.pc ≡ None → IsKept P seat copy state head (Some BadPc) shown
-  nowhere_kept k none = record {
-    program = k.program;
-    copied = k.copied;
-    by_is = k.by_is;
-    legal = k.legal;
-    unit = record {
-      state_is = k.unit.state_is;
-      head_is = k.unit.head_is;
-      end_is = StopsNowhere refl (ap (λ (c : State). instr_at P c.pc) (sym k.unit.state_is) ∙ (ap (λ Q. instr_at Q state.pc) (sym k.copied) ∙ none)) k.unit.end_is;
-    };
-    later = k.later;
-  }
-
-  pub nowhere : IsKept P seat copy state head None shown → instr_at copy state.pc ≡ None → HasEnded (back_of seat None shown) (back_of seat (Some BadPc) shown) BadPc
-  nowhere k none =
-      let k' = nowhere_kept k none in
-      let b = ended_before BadPc k' in
-      record {
-        ended = refl;
-        how = Nowhere refl refl at_state refl;
-        state = refl;
-        stops = b.stops;
-      }
-    where
-      at_state : instr_at seat.core.program (state_of (back_of seat None shown)).pc ≡ None
-      at_state = subst (λ (z : Program × State). instr_at z.0 z.1.pc ≡ None) (λ i. ((k.copied ∙ sym k.program) i, state_is P copy state head None shown seat k i)) none
-
-module _ (P copy : Program) (state : State) (head : ℕ) (shown : Snap) (seat : Caller) where
-  went_on : (i : Instr) → IsKept P seat copy state head None shown → instr_at copy state.pc ≡ Some i → WentOn (back_of seat None shown)
-  went_on i k e = record {
-    not_ended = refl;
-    instr = subst (λ (z : Program × State). IsSome (instr_at z.0 z.1.pc)) (λ j. ((k.copied ∙ sym k.program) j, state_is P copy state head None shown seat k j)) (subst IsSome (sym e) there);
-  }
-    where
-      there : IsSome (Some i)
-      there = search rules
-
-  module _ (seat' : Caller) (core : seat'.core ≡ seat.core) (by : seat'.by ≡ seat.by) (k : IsKept P seat copy state head None shown) (i : Instr) (fetched : instr_at copy state.pc ≡ Some i) where
-    -- it was refused
-    pub refused : (event : Event) → IsQuiet event → Adds seat.core.program seat.core.sizes seat.by seat.seen seat'.seen (event ∷ []) → WasRefused (back_of seat None shown) (back_of seat' None shown) event
-    refused event quiet a = record {
-      went_on = went_on i k fetched;
-      not_ended = refl;
-      adds = a;
-      state = same_state P copy state head None shown seat seat' k (kept_by P copy state head None shown seat seat' (event ∷ []) k core by a (quiet, tt));
-    }
-
-    -- no stop has retired, so it is not told that one has
-    pub not_over : Adds seat.core.program seat.core.sizes seat.by seat.seen seat'.seen (Refuses Over ∷ []) → ⊥
-    not_over a0 =
-        let C = seat.core.sizes in
-        let a = adds_plain P copy state head None shown seat seat'.seen (Refuses Over ∷ []) k a0 in
-        let e = entry back (Refuses Over) in
-        let s = split_own back a.begins.more e [] (added_own P C back seat.seen seat'.seen (Refuses Over ∷ []) a) in
-        let whole : a.begins.more ++ seat.seen ≡ s.later ++ e ∷ (s.earlier ++ seat.seen) = ap (λ z. z ++ seat.seen) s.is ∙ append_assoc s.later (e ∷ s.earlier) seat.seen in
-        let legal = legal_before P C s.later (e ∷ (s.earlier ++ seat.seen)) (subst (IsLegal P C) whole (added_legal P C back seat.seen seat'.seen (Refuses Over ∷ []) a)) in
-        let u = quiet_keeps P C state head None s.earlier seat.seen legal.0 (all_quiet P C s.earlier seat.seen [] legal.0 s.rest_is tt) (plain P copy state head None shown seat k) in
-        over_not (unit_of P C (s.earlier ++ seat.seen)) legal.1.1 u.end_is
-      where
-        over_not : (U : UpdateUnit) → IsOver U → GoesOn U → ⊥
-        over_not U o g = g o.p o.stop.tenant o.stop.is o.stop.fact.standing o.stop.fact.code o.stop.fact.fate
-
-    module _ (station tag index : ℕ) (last : Last) (r : IsRetired seat.core.program seat.core.sizes seat.by seat.seen seat'.seen station tag index last) where
-      plain_retired : IsRetired P seat.core.sizes back seat.seen seat'.seen station tag index last
-      plain_retired = subst (λ (z : Program × ℕ). IsRetired z.0 seat.core.sizes z.1 seat.seen seat'.seen station tag index last) (λ j. (k.program j, k.by_is j)) r
-
-      pub did : HasRetired P seat.core.sizes seat.seen seat'.seen i last state head
-      did = has_retired P seat.core.sizes seat.seen seat'.seen station tag index i last state head plain_retired (plain P copy state head None shown seat k) (subst (λ Q. instr_at Q state.pc ≡ Some i) k.copied fetched)
-
-      later_count : (last : Last) → state.count ≤ (with_last i last state).count
-      later_count (Done v) = omega arith
-      later_count (Stored a d) = omega arith
-      later_count (WasStop c) = omega arith
-
-      pub retired_kept : IsKept P seat' copy (with_last i last state) ((head + 1) % seat.core.sizes.ring) (stop_in last) shown
-      retired_kept =
-          let C = seat.core.sizes in
-          let m = later_count last in
-          let n = k.later in
-          record {
-            program = ap (λ d. d.program) core ∙ k.program;
-            copied = k.copied;
-            by_is = by ∙ k.by_is;
-            legal = subst (λ d. IsLegal P d.sizes seat'.seen) (sym core) did.adds.legal;
-            unit = subst (λ d. KeepsUnit P d.sizes (unit_of d.program d.sizes seat'.seen) (with_last i last state) ((head + 1) % C.ring) (stop_in last)) (sym core)
-                (subst (λ Q. KeepsUnit P C (unit_of Q C seat'.seen) (with_last i last state) ((head + 1) % C.ring) (stop_in last)) (sym k.program) did.unit);
-            later = omega (arith, m, n);
-          }
-
-      -- what is seen of the tenant that retired
-      seen_at : at (unit_in seat'.core seat'.seen).tenants did.p ≡ Some did.tenant
-      seen_at = subst (λ d. at (unit_in d seat'.seen).tenants did.p ≡ Some did.tenant) (sym core) (subst (λ Q. at (unit_of Q seat.core.sizes seat'.seen).tenants did.p ≡ Some did.tenant) (sym k.program) did.is)
-
-      added : Adds seat.core.program seat.core.sizes seat.by seat.seen seat'.seen (Does (On did.p (Retire did.made)) ∷ [])
-      added = subst (λ (z : Program × ℕ). Adds z.0 seat.core.sizes z.1 seat.seen seat'.seen (Does (On did.p (Retire did.made)) ∷ [])) (λ j. (sym k.program j, sym k.by_is j)) did.adds
-
-      new_state : state_of (back_of seat' (stop_in last) shown) ≡ with_last i last state
-      new_state = sym (state_is P copy (with_last i last state) ((head + 1) % seat.core.sizes.ring) (stop_in last) shown seat' retired_kept)
-
-      old_state : state_of (back_of seat None shown) ≡ state
-      old_state = sym (state_is P copy state head None shown seat k)
-
-      same_code : (last : Last) (code : Stop) → stop_in last ≡ Some code → last ≡ WasStop code
-      same_code (Done v) code e = absurd (cc e)
-      same_code (Stored a d) code e = absurd (cc e)
-      same_code (WasStop c) code e = ap WasStop (cc e)
-
-      pub did_end : (code : Stop) → stop_in last ≡ Some code → HasEnded (back_of seat None shown) (back_of seat' (stop_in last) shown) code
-      did_end code e =
-          let is : last ≡ WasStop code = same_code last code e in
-          let before = ended_before P copy (with_last i last state) ((head + 1) % seat.core.sizes.ring) shown seat' code (subst (λ x. IsKept P seat' copy (with_last i last state) ((head + 1) % seat.core.sizes.ring) x shown) e retired_kept) in
-          record {
-            ended = e;
-            how = Stops (went_on i k fetched) did.p did.made
-                (record { tenant = did.tenant; is = seen_at; fact = record { standing = did.standing; fate = subst (λ l. EndsAs P l did.tenant) is did.ends } }) added;
-            state = new_state ∙ (ap (λ l. with_last i l state) is ∙ sym old_state);
-            stops = before.stops;
-          }
-
-      one_more : (last : Last) → stop_in last ≡ None → (with_last i last state).count ≡ suc state.count
-      one_more (Done v) e = refl
-      one_more (Stored a d) e = refl
-      one_more (WasStop c) e = absurd (cc e)
-
-      pub did_commit : stop_in last ≡ None → HasCommitted (back_of seat None shown) (back_of seat' (stop_in last) shown) state.pc (with_last i last state).count
-      did_commit e = record {
-        went_on = went_on i k fetched;
-        not_ended = e;
-        p = did.p;
-        made = did.made;
-        tenant = record { tenant = did.tenant; is = seen_at; fact = record { commits_it = commits_still P did.tenant last did.standing did.ends e; pc_is = did.pc } };
-        adds = added;
-        n_is = ap (λ (z : State). z.count) (sym new_state);
-        one_more = one_more last e ∙ ap (λ (z : State). suc z.count) (sym old_state);
-      }
-
-      pub did_inside : IsInside (length state.memory) i last
-      did_inside = subst (λ n. IsInside n i last) (sym (ap (λ (z : State). length z.memory) k.unit.state_is ∙ length_memory P (unit_in seat.core seat.seen).tenants)) did.inside
 
 -- the head is a station
 pub head_fits : (head x ring r : ℕ) → head ≡ x % ring → r ≡ ring → 2 ≤ r → r ≤ 32 → head + 1 < 18446744073709551616
@@ -239,6 +58,7 @@ head_small head x ring r e f least =
     let small : x % ring < ring = mod-lt x (omega (arith, f, least)) in omega (arith, e, f, small)
 
 -- the same, of what the fields are
-pub kept_as : (P : Program) (seat : Caller) (copy : Program) (state state' : State) (head ring ring' : ℕ) (ended ended' : Option Stop) (shown : Snap)
-    → IsKept P seat copy state ((head + 1) % ring) ended shown → state ≡ state' → ring ≡ ring' → ended ≡ ended' → IsKept P seat copy state' ((head + 1) % ring') ended' shown
-kept_as P seat copy state state' head ring ring' ended ended' shown k s r e = subst (λ (z : State × ℕ × Option Stop). IsKept P seat copy z.0 ((head + 1) % z.1) z.2 shown) (λ i. (s i, r i, e i)) k
+pub kept_as : (P : Program) (seat : Caller) (copy : Program) (state state' : State) (low low' : Option ℕ) (head ring ring' : ℕ) (ended ended' : Option Stop) (shown : Snap)
+    → IsKept P seat copy state low ((head + 1) % ring) ended shown → state ≡ state' → low ≡ low' → ring ≡ ring' → ended ≡ ended' → IsKept P seat copy state' low' ((head + 1) % ring') ended' shown
+kept_as P seat copy state state' low low' head ring ring' ended ended' shown k s w r e =
+    subst (λ (z : State × Option ℕ × ℕ × Option Stop). IsKept P seat copy z.0 z.1 ((head + 1) % z.2) z.3 shown) (λ i. (s i, w i, r i, e i)) k

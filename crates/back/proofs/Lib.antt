@@ -2,9 +2,11 @@ pub mod OwnEntries
 pub mod Committing
 pub mod UnitKept
 pub mod Retiring
+pub mod Retired
 pub mod Starting
 pub mod SeatKept
 pub mod Calls
+pub mod CommitCalls
 pub mod Ranks
 pub mod RuleOver
 pub mod PortRule
@@ -14,4 +16,6 @@ pub mod Searching
 pub mod Answering
 pub mod Trying
 pub mod Settling
+pub mod Standing
 pub mod Scanning
+pub mod Refreshing

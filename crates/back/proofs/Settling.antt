@@ -14,7 +14,7 @@ use Rattle.inorder.specs.declared.history.Source.TheVariants.{First, Second}
 use Rattle.inorder.specs.declared.history.Step.{Step}
 use Rattle.inorder.specs.declared.history.Step.TheVariants.{On}
 use Rattle.inorder.specs.Callers.{CanLoad}
-use Rattle.inorder.specs.History.{Adds, IsLegal, StartsWith, back, entry, own, taken_of, unit_of}
+use Rattle.inorder.specs.History.{Adds, IsLegal, StartsWith, back, entry, taken_of, unit_of}
 use Rattle.inorder.specs.Laws.{Names}
 use Rattle.inorder.specs.Legal.{Allowed, May, applied, changed}
 use Rattle.inorder.specs.Memory.{load_value}
@@ -29,15 +29,16 @@ use Rattle.inorder.proofs.Sound.{IsSound}
 use Rattle.inorder.proofs.Tags.{names_one, tagged}
 use Rattle.ruu_words.specs.Kinds.{IsTenant}
 use Rattle.ruu_words.proofs.Stays.{any_stays, back_stays}
+use Rattle.station.specs.Moments.{WasOnce}
 use Rattle.station.specs.Writeback.{IsWalk, IsWritten, MaySettle, WasStale}
 use Rattle.station.proofs.Adding.{adds_on}
 use Rattle.back.specs.Loads.{IsWaitingLoad}
 use Rattle.back.specs.Port.{IsAsked, IsBlockedAt, IsLoadOf}
-use Rattle.back.specs.Trials.{DidLoad, HasHeldBack, HasPassed, HoldsBack, NoOtherWaits, NoneWaits, SomeWaits}
+use Rattle.back.specs.Trials.{DidLoad, HasHeldBack, HasPassed, HoldsBack, IsLoadAt, NoOtherWaits, NoneWaits, SomeWaits}
 use Rattle.back.specs.declared.port.Load.{Load}
-use Rattle.back.proofs.OwnEntries.{added_own, split_last}
+use Rattle.back.proofs.OwnEntries.{EndsWith, added_own, split_last}
 use Rattle.back.proofs.PortStays.{asked_stays}
-use Rattle.back.proofs.Trying.{once_later, once_now, starts_on}
+use Rattle.back.proofs.Trying.{once_earlier, once_later, once_now, starts_on}
 
 found : (t u : Tenant) → Some t ≡ Some u → t ≡ u
 found t u e = cc e
@@ -68,10 +69,13 @@ done_stays P C p v U by s a h = ⊎_elim
 
 module _ (P : Program) (C : Sizes) (old new : List Entry) where
   -- a tenant keeps its name
+  named_on : (before : List Entry) → StartsWith new before → IsLegal P C new → (p station tag : ℕ) → IsNamed (unit_of P C before) p station tag → IsNamed (unit_of P C new) p station tag
+  named_on before starts legal p station tag n =
+      let i = any_stays P C p station tag starts.more before (subst (IsLegal P C) starts.is legal) (record { tenant = n.tenant; is = n.is; station_is = n.station_is; tag_is = n.tag_is; fact = tt }) in
+      subst (λ h. IsNamed (unit_of P C h) p station tag) (sym starts.is) (record { tenant = i.tenant; is = i.is; station_is = i.station_is; tag_is = i.tag_is })
+
   pub named_later : (events : List Event) → Adds P C back old new events → (p station tag : ℕ) → IsNamed (unit_of P C old) p station tag → IsNamed (unit_of P C new) p station tag
-  named_later events a p station tag n =
-      let i = any_stays P C p station tag a.begins.more old (subst (IsLegal P C) a.begins.is a.legal) (record { tenant = n.tenant; is = n.is; station_is = n.station_is; tag_is = n.tag_is; fact = tt }) in
-      subst (λ h. IsNamed (unit_of P C h) p station tag) (sym a.begins.is) (record { tenant = i.tenant; is = i.is; station_is = i.station_is; tag_is = i.tag_is })
+  named_later events a p station tag n = named_on old a.begins a.legal p station tag n
 
   names : IsLegal P C new → Names (recent (unit_of P C new))
   names legal q r t u is is' st tg = names_one C (unit_of P C new).tenants q r t u (tagged P C (taken_of new) (allowed_steps P C new legal)) is is' st tg
@@ -79,28 +83,68 @@ module _ (P : Program) (C : Sizes) (old new : List Entry) where
   one_named : IsLegal P C new → (p q station tag : ℕ) → IsNamed (unit_of P C new) p station tag → IsNamed (unit_of P C new) q station tag → p ≡ q
   one_named legal p q station tag n m = names legal p q n.tenant m.tenant n.is m.is (n.station_is ∙ sym m.station_is) (n.tag_is ∙ sym m.tag_is)
 
-  -- A load that got its value is done with it
-  module _ (station tag p address v : ℕ) (named : IsNamed (unit_of P C old) p station tag) (can : CanLoad P (unit_of P C old) p address v ⊎ IsStale (unit_of P C old) p) where
-    pub is_done : (w : IsWritten P C back old new station tag LoadIt (λ q. IsWalk P C new q)) → IsTenant (unit_of P C new) w.p station tag (λ t. t.fate ≡ Done v)
-    is_done w =
-        let e = entry back (Does (On w.p LoadIt)) in
-        let own_is : own back w.adds.begins.more ≡ map (entry back) w.behind ++ e ∷ [] = added_own P C back old new (w.behind ++ Does (On w.p LoadIt) ∷ []) w.adds ∙ map_end w.behind (Does (On w.p LoadIt)) in
-        let s = split_last back w.adds.begins.more (map (entry back) w.behind) e own_is in
-        let before = s.earlier ++ old in
-        let new_is : new ≡ s.later ++ e ∷ before = w.adds.begins.is ∙ (ap (λ z. z ++ old) s.is ∙ append_assoc s.later (e ∷ s.earlier) old) in
-        let legal = subst (IsLegal P C) new_is w.adds.legal in
-        let here = legal_before P C s.later (e ∷ before) legal in
-        let same : p ≡ w.p = one_named w.adds.legal p w.p station tag (named_later (w.behind ++ Does (On w.p LoadIt) ∷ []) w.adds p station tag named) w.named in
-        let can_here = back_stays P C (λ U. CanLoad P U p address v ⊎ IsStale U p) step s.earlier old here.0 s.not_own can in
-        let done = at_load (unit_of P C before) w.p here.1.1 (subst (λ x. CanLoad P (unit_of P C before) x address v ⊎ IsStale (unit_of P C before) x) same can_here) in
-        let there = unit_lasts P C (λ U. Has U w.p (λ t. t.fate ≡ Done v)) (λ U by z al ok h. done_stays P C w.p v U by z al h) s.later (e ∷ before) legal done in
-        let now = subst (λ h. Has (unit_of P C h) w.p (λ t. t.fate ≡ Done v)) (sym new_is) there in
-        record { tenant = w.named.tenant; is = w.named.is; station_is = w.named.station_is; tag_is = w.named.tag_is; fact = subst (λ (x : Tenant). x.fate ≡ Done v) (found now.tenant w.named.tenant (sym now.is ∙ w.named.is)) now.fact }
+  -- A load got its value: what was seen before that, and what has come since
+  module _ (station tag : ℕ) (w : IsWritten P C back old new station tag LoadIt (λ q. IsWalk P C new q)) where
+    abbrev event : Entry
+    event = entry back (Does (On w.p LoadIt))
+
+    ends : EndsWith back w.adds.begins.more event
+    ends = split_last back w.adds.begins.more (map (entry back) w.behind) event
+        (added_own P C back old new (w.behind ++ Does (On w.p LoadIt) ∷ []) w.adds ∙ map_end w.behind (Does (On w.p LoadIt)))
       where
         map_end : (xs : List Event) (y : Event) → map (entry back) (xs ++ y ∷ []) ≡ map (entry back) xs ++ entry back y ∷ []
         map_end [] y = refl
         map_end (z ∷ xs) y = ap (λ q. entry back z ∷ q) (map_end xs y)
 
+    abbrev before : List Entry
+    before = ends.earlier ++ old
+
+    new_is : new ≡ ends.later ++ event ∷ before
+    new_is = w.adds.begins.is ∙ (ap (λ z. z ++ old) ends.is ∙ append_assoc ends.later (event ∷ ends.earlier) old)
+
+    legal_then : IsLegal P C (event ∷ before)
+    legal_then = legal_before P C ends.later (event ∷ before) (subst (IsLegal P C) new_is w.adds.legal)
+
+    -- at the moment before, it stood at its station
+    pub stood_there : WasOnce P C old new (λ U. Has U w.p (IsLoadAt P station))
+    stood_there = record {
+      point = before;
+      within = record { before_return = starts; behind_call = record { more = ends.earlier; is = refl } };
+      fact = record {
+        tenant = a.tenant;
+        is = a.is;
+        fact = record {
+          load = record { live = a.may.live; kind = a.may.kind };
+          station_is = sym n.station_is ∙ (ap (λ (z : Tenant). z.station) (found n.tenant w.named.tenant (sym n.is ∙ w.named.is)) ∙ w.named.station_is);
+        };
+      };
+    }
+      where
+        starts : StartsWith new before
+        starts = record { more = ends.later ++ event ∷ []; is = new_is ∙ sym (append_assoc ends.later (event ∷ []) before) }
+
+        a : Allowed P C (unit_of P C before) back (On w.p LoadIt)
+        a = legal_then.1.1
+
+        n : IsNamed (unit_of P C new) w.p a.tenant.station a.tenant.tag
+        n = named_on before starts w.adds.legal w.p a.tenant.station a.tenant.tag (record { tenant = a.tenant; is = a.is; station_is = refl; tag_is = refl })
+
+  -- and it is done with that value
+  module _ (station tag p address v : ℕ) (named : IsNamed (unit_of P C old) p station tag) (can : CanLoad P (unit_of P C old) p address v ⊎ IsStale (unit_of P C old) p) where
+    pub is_done : (w : IsWritten P C back old new station tag LoadIt (λ q. IsWalk P C new q)) → IsTenant (unit_of P C new) w.p station tag (λ t. t.fate ≡ Done v)
+    is_done w =
+        let e = event station tag w in
+        let s = ends station tag w in
+        let all = new_is station tag w in
+        let point = before station tag w in
+        let here = legal_then station tag w in
+        let same : p ≡ w.p = one_named w.adds.legal p w.p station tag (named_later (w.behind ++ Does (On w.p LoadIt) ∷ []) w.adds p station tag named) w.named in
+        let can_here = back_stays P C (λ U. CanLoad P U p address v ⊎ IsStale U p) step s.earlier old here.0 s.not_own can in
+        let done = at_load (unit_of P C point) w.p here.1.1 (subst (λ x. CanLoad P (unit_of P C point) x address v ⊎ IsStale (unit_of P C point) x) same can_here) in
+        let there = unit_lasts P C (λ U. Has U w.p (λ t. t.fate ≡ Done v)) (λ U by z al ok h. done_stays P C w.p v U by z al h) s.later (e ∷ point) (subst (IsLegal P C) all w.adds.legal) done in
+        let now = subst (λ h. Has (unit_of P C h) w.p (λ t. t.fate ≡ Done v)) (sym all) there in
+        record { tenant = w.named.tenant; is = w.named.is; station_is = w.named.station_is; tag_is = w.named.tag_is; fact = subst (λ (x : Tenant). x.fate ≡ Done v) (found now.tenant w.named.tenant (sym now.is ∙ w.named.is)) now.fact }
+      where
         step : (U : UpdateUnit) (by : ℕ) (s : Step) → IsNotBacks s → Allowed P C U by s → IsSound P U.tenants → CanLoad P U p address v ⊎ IsStale U p → CanLoad P (applied P C U by s) p address v ⊎ IsStale (applied P C U by s) p
         step U by s b al ok (inl c) = load_stays P C U by s b al ok p address v c
         step U by s b al ok (inr g) = inr (gone_stays P C U by s al p g)
@@ -170,6 +214,7 @@ module _ (P : Program) (C : Sizes) (old mid late : List Entry) (first : Adds P C
       carried = x.behind;
       walk = x.carried;
       adds = subst (λ es. Adds P C back old new es) (append-nil (x.behind ++ Does (On x.p LoadIt) ∷ [])) (adds_on P C back old late new [] (x.behind ++ Does (On x.p LoadIt) ∷ []) both x.adds);
+      when = once_earlier P C old late new (λ U. Has U x.p (IsLoadAt P station)) both.begins (stood_there P C late new station l.tag x);
     }
 
     pub came_late : WasStale P C back late new station l.tag → HasPassed P C back old new station

@@ -1,15 +1,15 @@
 -- Where nothing has retired, nothing is committed.
-use Rattle.std.proofs.Common.{◌≡◌, suc, ◌%◌, Bool, true, false, cond, List, [], ◌∷◌, None, refl, sym, ap, ◌∙◌, arith}
+use Rattle.std.proofs.Common.{◌≡◌, suc, ◌%◌, ◌&&◌, not, Bool, true, false, cond, List, [], ◌∷◌, None, refl, sym, ap, ◌∙◌, arith}
 use Rattle.std.proofs.Math.Nat.{zero-mod}
 use Rattle.isa.specs.Programs.{Program}
 use Rattle.inorder.specs.Callers.{is_retired, stands_retired}
-use Rattle.inorder.specs.Committed.{commits_by, committed}
+use Rattle.inorder.specs.Committed.{ahead, commits, commits_by, committed}
 use Rattle.inorder.specs.Machine.{start}
 use Rattle.inorder.specs.Steps.{IsNoRetiredStop}
-use Rattle.inorder.specs.Tenants.{Fate, Live, Retired, Squashed, Standing, Tenant}
+use Rattle.inorder.specs.Tenants.{Fate, Live, Retired, Squashed, Standing, Tenant, is_first}
 use Rattle.inorder.specs.Unit.{Sizes, UpdateUnit, how_many}
 use Rattle.inorder.proofs.Positions.{all_at}
-use Rattle.inorder.proofs.SettledRegisters.{committed_if}
+use Rattle.inorder.proofs.SettledRegisters.{ahead_if, committed_if}
 use Rattle.std.specs.List.{AllByRecursion}
 use Rattle.back.specs.Kept.{KeepsUnit}
 
@@ -29,18 +29,27 @@ commits_not Live f e = refl
 commits_not Squashed f e = refl
 commits_not Retired f e = absurd (cc e)
 
+commits_none : (t : Tenant) → Not_retired t → commits t ≡ false
+commits_none t h = commits_not t.standing t.fate h
+
 committed_start : (P : Program) (ts : List Tenant) → AllByRecursion Not_retired ts → committed P ts ≡ start P
 committed_start P [] h = refl
-committed_start P (t ∷ ts) h = committed_if P t ts false (commits_not t.standing t.fate h.0) ∙ committed_start P ts h.1
+committed_start P (t ∷ ts) h = committed_if P t ts false (ap (λ b. b && not (is_first P t)) (commits_none t h.0)) ∙ committed_start P ts h.1
+
+-- no first half waits either
+ahead_start : (P : Program) (ts : List Tenant) → AllByRecursion Not_retired ts → ahead P ts ≡ start P
+ahead_start P [] h = refl
+ahead_start P (t ∷ ts) h = ahead_if P t ts false (commits_none t h.0) ∙ ahead_start P ts h.1
 
 no_stop : (t : Tenant) → is_retired t ≡ false → IsNoRetiredStop t
 no_stop t e gone c f = let x = sym (ap stands_retired gone) ∙ e in absurd (cc x)
 
-pub starts : (P : Program) (C : Sizes) (U : UpdateUnit) → how_many is_retired U.tenants ≡ 0 → KeepsUnit P C U (start P) 0 None
+pub starts : (P : Program) (C : Sizes) (U : UpdateUnit) → how_many is_retired U.tenants ≡ 0 → KeepsUnit P C U (start P) None 0 None
 starts P C U e =
     let none = none_of U.tenants e in
     record {
       state_is = sym (committed_start P U.tenants none);
+      low_is = sym (ahead_start P U.tenants none);
       head_is = sym (ap (λ n. n % C.ring) e ∙ zero-mod C.ring);
       end_is = λ p t is. no_stop t (all_at Not_retired U.tenants none p t is);
     }

@@ -23,6 +23,7 @@ use Rattle.inorder.specs.Replies.{Has}
 use Rattle.inorder.specs.Steps.{IsNoRetiredStop}
 use Rattle.inorder.specs.Tenants.{Live, Retired, Tenant}
 use Rattle.inorder.specs.Unit.{Sizes, UpdateUnit, how_many, older, younger}
+use Rattle.inorder.proofs.AheadKept.{ahead_by_others}
 use Rattle.inorder.proofs.Basics.{split_at}
 use Rattle.inorder.proofs.Commits.{by_others}
 use Rattle.inorder.proofs.Ends.{Acted, IsNotBacks, exact}
@@ -116,9 +117,10 @@ end_kept P C U by s (Some code) n a ok (ByStop p h) = ByStop p (stop_kept P C U 
 end_kept P C U by s (Some code) n a ok (Nowhere is none g) =
     Nowhere is (ap (λ c. instr_at P c.pc) (by_others P C U by s ok n a) ∙ none) (goes_on_kept P C U by s n a ok g)
 
-pub step_keeps : (P : Program) (C : Sizes) (state : State) (head : ℕ) (ended : Option Stop) (U : UpdateUnit) (by : ℕ) (s : Step) → IsNoRetire s → Allowed P C U by s → IsSound P U.tenants → KeepsUnit P C U state head ended → KeepsUnit P C (applied P C U by s) state head ended
-step_keeps P C state head ended U by s n a ok k = record {
+pub step_keeps : (P : Program) (C : Sizes) (state : State) (low : Option ℕ) (head : ℕ) (ended : Option Stop) (U : UpdateUnit) (by : ℕ) (s : Step) → IsNoRetire s → Allowed P C U by s → IsSound P U.tenants → KeepsUnit P C U state low head ended → KeepsUnit P C (applied P C U by s) state low head ended
+step_keeps P C state low head ended U by s n a ok k = record {
   state_is = k.state_is ∙ sym (by_others P C U by s ok n a);
+  low_is = k.low_is ∙ sym (ahead_by_others P C U by s ok n a);
   head_is = k.head_is ∙ sym (head_kept P C U by s n a);
   end_is = end_kept P C U by s ended n a ok k.end_is;
 }
@@ -171,22 +173,22 @@ module _ (P : Program) (C : Sizes) where
           let z = heads e (entry back x) (own back more) (map (entry back) xs) (sym (own_first back e more same) ∙ mine) in
           (subst (λ (y : Entry). IsQuiet y.event) (sym z.0) quiet.0, rest xs z.1 quiet.1)
 
-  module _ (state : State) (head : ℕ) (ended : Option Stop) where
-    pub quiet_keeps : (more seen : List Entry) → IsLegal P C (more ++ seen) → AreQuiet more → KeepsUnit P C (unit_of P C seen) state head ended → KeepsUnit P C (unit_of P C (more ++ seen)) state head ended
+  module _ (state : State) (low : Option ℕ) (head : ℕ) (ended : Option Stop) where
+    pub quiet_keeps : (more seen : List Entry) → IsLegal P C (more ++ seen) → AreQuiet more → KeepsUnit P C (unit_of P C seen) state low head ended → KeepsUnit P C (unit_of P C (more ++ seen)) state low head ended
     quiet_keeps [] seen legal quiet k = k
     quiet_keeps (e ∷ more) seen legal quiet k = go e.event legal.1 quiet.0 (quiet_keeps more seen legal.0 quiet.1 k)
       where
-        go : (x : Event) → MayAdd P C (more ++ seen) e.by x → IsQuiet x → KeepsUnit P C (unit_of P C (more ++ seen)) state head ended → KeepsUnit P C (unit_of P C (entry e.by x ∷ (more ++ seen))) state head ended
-        go (Does s) m q k' = step_keeps P C state head ended (unit_of P C (more ++ seen)) e.by s q m.1 (unit_sound P C (more ++ seen) legal.0) k'
+        go : (x : Event) → MayAdd P C (more ++ seen) e.by x → IsQuiet x → KeepsUnit P C (unit_of P C (more ++ seen)) state low head ended → KeepsUnit P C (unit_of P C (entry e.by x ∷ (more ++ seen))) state low head ended
+        go (Does s) m q k' = step_keeps P C state low head ended (unit_of P C (more ++ seen)) e.by s q m.1 (unit_sound P C (more ++ seen) legal.0) k'
         go (Refuses r) m q k' = k'
         go (Marks r) m q k' = k'
 
     -- what the back added is no retirement
-    pub adds_keeps : (old new : List Entry) (events : List Event) → Adds P C back old new events → AllByRecursion IsQuiet events → KeepsUnit P C (unit_of P C old) state head ended → KeepsUnit P C (unit_of P C new) state head ended
+    pub adds_keeps : (old new : List Entry) (events : List Event) → Adds P C back old new events → AllByRecursion IsQuiet events → KeepsUnit P C (unit_of P C old) state low head ended → KeepsUnit P C (unit_of P C new) state low head ended
     adds_keeps old new events a quiet k =
         let more = a.begins.more in
         let legal = added_legal P C back old new events a in
-        subst (λ h. KeepsUnit P C (unit_of P C h) state head ended) (sym a.begins.is)
+        subst (λ h. KeepsUnit P C (unit_of P C h) state low head ended) (sym a.begins.is)
         (quiet_keeps more old legal (all_quiet more old events legal (added_own P C back old new events a) quiet) k)
 
 -- the head at a moment of a call that retired nothing

@@ -28,15 +28,23 @@ back_of seat ended shown =
 abbrev pub unit_in : TheCore → List Entry → UpdateUnit
 unit_in core seen = unit_of core.program core.sizes seen
 
+-- What that unit has committed
+abbrev pub committed_in : TheCore → List Entry → State
+committed_in core seen = committed core.program (unit_in core seen).tenants
+
+-- What a caller has seen may have grown, by entries of others alone
+abbrev pub SeesMore : TheCore → ℕ → List Entry → List Entry → Type 0
+SeesMore core by old new = Adds core.program core.sizes by old new []
+
 -- Its registers, memory, pc and n are what the unit has committed in what it has seen
 abbrev pub state_of : TheBack → State
-state_of b = committed b.core.program (unit_in b.core b.seen).tenants
+state_of b = committed_in b.core b.seen
 
 -- A seat whose caller has retired nothing: nobody else retires
 abbrev pub HasRetiredNothing : Caller → Type 0
 HasRetiredNothing seat = how_many is_retired (unit_in seat.core seat.seen).tenants ≡ 0
 
--- A back with this seat, which has looked at the core once, at the start of the program
+-- A back with this seat, at the start of the program
 pub record IsNew (seat : Caller) (b : TheBack) : Type 0 where
   pub core : b.core ≡ seat.core
   pub by : b.by ≡ seat.by

@@ -1,6 +1,6 @@
 -- What `commit` answers.
-use Rattle.std.specs.Prelude.{◌≡◌, ℕ, suc, true, List, [], ◌∷◌, None, Some, IsSome}
-use Rattle.isa.specs.Programs.{instr_at}
+use Rattle.std.specs.Prelude.{◌≡◌, ℕ, suc, true, false, List, [], ◌∷◌, None, Some, IsSome}
+use Rattle.isa.specs.Programs.{Program, instr_at}
 use Rattle.isa.specs.declared.stop.Stop.{Stop}
 use Rattle.isa.specs.declared.stop.Stop.TheVariants.{BadPc}
 use Rattle.inorder.specs.declared.history.Act.TheVariants.{Retire}
@@ -12,10 +12,10 @@ use Rattle.inorder.specs.Committed.{commits}
 use Rattle.inorder.specs.History.{Adds}
 use Rattle.inorder.specs.Replies.{Has}
 use Rattle.inorder.specs.Runs.{stop}
-use Rattle.inorder.specs.Tenants.{Retired as HasRetired, Stopped, Tenant}
+use Rattle.inorder.specs.Tenants.{Retired as HasRetired, Stopped, Tenant, is_first}
 use Rattle.back.specs.Backs.{TheBack, state_of, unit_in}
 use Rattle.back.specs.declared.answers.Commit.{Commit}
-use Rattle.back.specs.declared.answers.Commit.TheVariants.{Empty, Ended, NotDone, Retired}
+use Rattle.back.specs.declared.answers.Commit.TheVariants.{Empty, Ended, Half, NotDone, Retired}
 
 -- These events are what it added to what it has seen
 abbrev pub HasAdded : TheBack → TheBack → List Event → Type 0
@@ -26,9 +26,16 @@ pub record WentOn (old : TheBack) : Type 0 where
   pub not_ended : old.ended ≡ None
   pub instr : IsSome (instr_at old.core.program (state_of old).pc)
 
--- A tenant with this pc that has committed
-pub record IsCommitted (pc : ℕ) (t : Tenant) : Type 0 where
+-- A tenant with this pc that has committed, and with which its instruction is whole
+pub record IsCommitted (P : Program) (pc : ℕ) (t : Tenant) : Type 0 where
   pub commits_it : commits t ≡ true
+  pub whole : is_first P t ≡ false
+  pub pc_is : t.pc ≡ pc
+
+-- A first half with this pc that has retired
+pub record IsRetiredHalf (P : Program) (pc : ℕ) (t : Tenant) : Type 0 where
+  pub standing : t.standing ≡ HasRetired
+  pub first : is_first P t ≡ true
   pub pc_is : t.pc ≡ pc
 
 -- A tenant retired and committed: the instruction at the pc was run, and n is the count behind it
@@ -37,10 +44,22 @@ pub record HasCommitted (old new : TheBack) (pc n : ℕ) : Type 0 where
   pub not_ended : new.ended ≡ None
   pub p : ℕ
   pub made : ℕ
-  pub tenant : Has (unit_in new.core new.seen) p (IsCommitted pc)
+  pub tenant : Has (unit_in new.core new.seen) p (IsCommitted old.core.program pc)
   pub adds : HasAdded old new (Does (On p (Retire made)) ∷ [])
   pub n_is : n ≡ (state_of new).count
   pub one_more : n ≡ suc (state_of old).count
+
+-- The first half of the instruction at the pc retired: the count, the pc, the registers and memory
+-- stay those before the instruction until its second half retires
+pub record HasHalved (old new : TheBack) (pc : ℕ) : Type 0 where
+  pub went_on : WentOn old
+  pub not_ended : new.ended ≡ None
+  pub p : ℕ
+  pub made : ℕ
+  pub tenant : Has (unit_in new.core new.seen) p (IsRetiredHalf old.core.program pc)
+  pub adds : HasAdded old new (Does (On p (Retire made)) ∷ [])
+  pub pc_is : pc ≡ (state_of old).pc
+  pub state : state_of new ≡ state_of old
 
 -- It was refused, and nothing was committed
 pub record WasRefused (old new : TheBack) (event : Event) : Type 0 where
@@ -70,6 +89,7 @@ pub record HasEnded (old new : TheBack) (code : Stop) : Type 0 where
 
 abbrev pub CommitAnswers : TheBack → TheBack → Commit → Type 0
 CommitAnswers old new (Retired pc n) = HasCommitted old new pc n
+CommitAnswers old new (Half pc) = HasHalved old new pc
 CommitAnswers old new NotDone = WasRefused old new (Refuses IsNotDoneNow)
 CommitAnswers old new Empty = WasRefused old new (Refuses IsEmptyNow)
 CommitAnswers old new (Ended code) = HasEnded old new code

@@ -4,7 +4,7 @@ use Rattle.isa.specs.Programs.{Program, instr_at}
 use Rattle.isa.specs.declared.stop.Stop.{Stop}
 use Rattle.isa.specs.declared.stop.Stop.TheVariants.{BadPc}
 use Rattle.inorder.specs.Callers.{GoesOn, head_station}
-use Rattle.inorder.specs.Committed.{committed}
+use Rattle.inorder.specs.Committed.{ahead, committed}
 use Rattle.inorder.specs.History.{IsLegal, back}
 use Rattle.inorder.specs.Machine.{State}
 use Rattle.inorder.specs.Replies.{Has}
@@ -13,6 +13,7 @@ use Rattle.snapshots.specs.declared.snap.Snap.{Snap}
 use Rattle.station.specs.Seats.{Caller}
 use Rattle.back.specs.Backs.{unit_in}
 use Rattle.back.specs.Commits.{IsRetiredStop}
+use Rattle.back.specs.Retirement.{with_low}
 
 -- Why it has ended with this code: a stop has retired, or its pc is the address of no instruction
 pub data HasStopped (P : Program) (U : UpdateUnit) (code : Stop) : Type 0 where
@@ -24,16 +25,21 @@ abbrev pub EndIs : Program → UpdateUnit → Option Stop → Type 0
 EndIs P U None = GoesOn U
 EndIs P U (Some code) = HasStopped P U code
 
--- The unit that it has seen, and its fields
-pub record KeepsUnit (P : Program) (C : Sizes) (U : UpdateUnit) (state : State) (head : ℕ) (ended : Option Stop) : Type 0 where
+-- The unit that it has seen, and its fields: the state is what whole instructions have left, and the
+-- low value, where one waits, is what a first half has made
+pub record KeepsUnit (P : Program) (C : Sizes) (U : UpdateUnit) (state : State) (low : Option ℕ)
+    (head : ℕ) (ended : Option Stop) : Type 0 where
   pub state_is : state ≡ committed P U.tenants
+  pub low_is : with_low low state ≡ ahead P U.tenants
   pub head_is : head ≡ head_station C U
   pub end_is : EndIs P U ended
 
-pub record IsKept (P : Program) (seat : Caller) (copy : Program) (state : State) (head : ℕ) (ended : Option Stop) (shown : Snap) : Type 0 where
+-- Its fields, and what its seat has seen
+pub record IsKept (P : Program) (seat : Caller) (copy : Program) (state : State) (low : Option ℕ)
+    (head : ℕ) (ended : Option Stop) (shown : Snap) : Type 0 where
   pub program : seat.core.program ≡ P
   pub copied : copy ≡ P
   pub by_is : seat.by ≡ back
   pub legal : IsLegal P seat.core.sizes seat.seen
-  pub unit : KeepsUnit P seat.core.sizes (unit_in seat.core seat.seen) state head ended
+  pub unit : KeepsUnit P seat.core.sizes (unit_in seat.core seat.seen) state low head ended
   pub later : shown.n ≤ state.count

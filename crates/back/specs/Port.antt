@@ -1,19 +1,23 @@
 -- What the memory port knows while it answers one load.
-use Rattle.std.specs.Prelude.{◌≡◌, ◌⊎◌, ◌+◌, ◌%◌, ◌<◌, ◌≤◌, ℕ, true, false, Option, Some, None}
-use Rattle.isa.specs.Instruction.{kind}
+use Rattle.std.specs.Prelude.{◌≡◌, ◌⊎◌, ◌+◌, ◌%◌, ◌<◌, ◌≤◌, ℕ, true, false, List, Option, Some, None, length}
+use Rattle.isa.specs.Instruction.{kind, width}
 use Rattle.isa.specs.Programs.{Program}
 use Rattle.isa.specs.declared.instr.Instr.{Instr}
+use Rattle.inorder.specs.declared.history.Entry.{Entry}
+use Rattle.inorder.specs.Callers.{CanLoad}
 use Rattle.inorder.specs.Loads.{access_width, entry_of, is_store}
-use Rattle.inorder.specs.Replies.{Has, IsStale}
+use Rattle.inorder.specs.Replies.{Has, IsNamed, IsStale}
 use Rattle.inorder.specs.Tenants.{Addr, Fate, Live, Tenant, instr, kind_of}
 use Rattle.inorder.specs.Unit.{UpdateUnit, at}
 use Rattle.lsq.specs.declared.entry.Entry.{Entry as QueueEntry}
 use Rattle.lsq.specs.LoadRule.{lacks_address, overlaps}
 use Rattle.ruu_words.specs.declared.station.StationState.{StationState}
 use Rattle.ruu_words.specs.declared.station.StationState.TheVariants.{Addr as ShowsAddr}
+use Rattle.station.specs.Seats.{TheCore}
 use Rattle.station.specs.declared.answers.SourceState.{SourceState}
 use Rattle.station.specs.declared.answers.SourceState.TheVariants.{Val}
-use Rattle.back.specs.Loads.{Blocks, IsLiveLoad}
+use Rattle.back.specs.Backs.{unit_in}
+use Rattle.back.specs.Loads.{Blocks, IsLiveLoad, IsWaitingLoad}
 use Rattle.back.specs.declared.port.Load.{Load}
 
 -- The address that a station's word shows
@@ -118,3 +122,49 @@ pub record IsBlockedAt (P : Program) (U : UpdateUnit) (p station : ℕ) : Type 0
   pub q : ℕ
   pub blocks : Blocks P U p q
   pub store : Has U q (λ u. u.station ≡ station)
+
+-- A load inside the memory
+abbrev pub IsInside : Program → Load → Type 0
+IsInside P l = l.address + width l.op ≤ length P.bytes
+
+-- Over a core, for a caller that had seen `old` before and has seen `new` now
+
+-- This is the entry of each live tenant of the station that it had seen
+abbrev pub IsEntryThere : TheCore → (old new : List Entry) → ℕ → QueueEntry → Type 0
+IsEntryThere core old new station e =
+    AtStation (unit_in core new) (length (unit_in core old).tenants) station (IsEntryOf core.program e)
+
+-- What a search of the stations before that of the load has found
+abbrev pub SearchFinds : TheCore → (old new : List Entry) → (head at : ℕ) → Load → Option (ℕ × QueueEntry) → Type 0
+SearchFinds core old new head at l found =
+    HasFound core.program (unit_in core new) (length (unit_in core old).tenants) head core.sizes.ring
+    0 at l.address (width l.op) found
+
+-- It has met a store without address
+abbrev pub SearchMisses : TheCore → (old new : List Entry) → (head at s : ℕ) → Type 0
+SearchMisses core old new head at s =
+    HasUnknown core.program (unit_in core new) (length (unit_in core old).tenants) head core.sizes.ring at s
+
+-- The load at this place may be answered with this value, unless it was squashed
+abbrev pub MayAnswer : TheCore → (old new : List Entry) → (head at : ℕ) → Load → ℕ → Type 0
+MayAnswer core old new head at l v =
+    (p : ℕ) → IsAsked core.program (unit_in core old) p (behind head core.sizes.ring at) l →
+    CanLoad core.program (unit_in core new) p l.address v ⊎ IsStale (unit_in core new) p
+
+-- The store at place s blocks it, unless it was squashed
+abbrev pub MayBlock : TheCore → (old new : List Entry) → (head at : ℕ) → Load → ℕ → Type 0
+MayBlock core old new head at l s =
+    (p : ℕ) → IsAsked core.program (unit_in core old) p (behind head core.sizes.ring at) l →
+    IsBlockedAt core.program (unit_in core new) p (behind head core.sizes.ring s) ⊎ IsStale (unit_in core new) p
+
+-- The load of a station waits still
+abbrev pub Remains : TheCore → (old new : List Entry) → ℕ → Load → Type 0
+Remains core old new station l =
+    (p : ℕ) → IsNamed (unit_in core old) p station l.tag → IsAsked core.program (unit_in core old) p station l →
+    Has (unit_in core new) p (IsLoadOf core.program station l)
+
+-- It waits no more
+abbrev pub Ceases : TheCore → (old new : List Entry) → ℕ → Load → Type 0
+Ceases core old new station l =
+    (p : ℕ) → IsAsked core.program (unit_in core old) p station l →
+    ¬ Has (unit_in core new) p (IsWaitingLoad core.program)

@@ -14,6 +14,7 @@ use Rattle.inorder.specs.Tenants.{Done}
 use Rattle.inorder.specs.Unit.{Sizes}
 use Rattle.ruu_words.specs.Kinds.{IsTenant}
 use Rattle.station.specs.Moments.{WasOnce}
+use Rattle.station.specs.Seats.{TheCore}
 use Rattle.station.specs.Writeback.{IsWalk}
 use Rattle.back.specs.Loads.{Blocks, IsLiveLoad, WasBlocked, WasNotWaiting}
 use Rattle.back.specs.declared.answers.Refresh.{Refresh}
@@ -22,6 +23,10 @@ use Rattle.back.specs.declared.answers.Refresh.TheVariants.{Blocked, Idle, Loade
 -- It came too late for a load that was squashed in the meantime
 abbrev pub IsTooLate : Event → Type 0
 IsTooLate event = (p : ℕ) × (event ≡ Refuses (Stale p))
+
+-- This is so of each tenant that was a live load when the call began
+abbrev pub EachLoad : Program → Sizes → List Entry → (ℕ → Type 0) → Type 0
+EachLoad P C old Fact = (p : ℕ) → Has (unit_of P C old) p (IsLiveLoad P) → Fact p
 
 -- A load got its value, and that was carried to all who asked for it. Before it, loads may have been found
 -- squashed at the last moment
@@ -33,16 +38,15 @@ pub record HasLoaded (P : Program) (C : Sizes) (by : ℕ) (old new : List Entry)
   pub late : List Event
   pub are_late : AllByRecursion IsTooLate late
   pub adds : Adds P C by old new (carried ++ Does (On p Load) ∷ late)
+  -- it was the oldest that could have it: each older one was not waiting, or was blocked, at a moment of
+  -- its own within the call
+  pub older : EachLoad P C old (λ o. o < p → WasNotWaiting P C old new o ⊎ WasBlocked P C old new o)
 
 -- No load got a value
 pub record HasLoadedNothing (P : Program) (C : Sizes) (by : ℕ) (old new : List Entry) : Type 0 where
   pub late : List Event
   pub are_late : AllByRecursion IsTooLate late
   pub adds : Adds P C by old new late
-
--- This is so of each tenant that was a live load when the call began
-abbrev pub EachLoad : Program → Sizes → List Entry → (ℕ → Type 0) → Type 0
-EachLoad P C old Fact = (p : ℕ) → Has (unit_of P C old) p (IsLiveLoad P) → Fact p
 
 -- At a moment of the call the store of one station, older than the load of another, blocked it
 pub record WasBlockedBy (P : Program) (C : Sizes) (old new : List Entry) (p load store : ℕ) : Type 0 where
@@ -67,7 +71,10 @@ pub record WasIdle (P : Program) (C : Sizes) (by : ℕ) (old new : List Entry) :
   pub each : EachLoad P C old (WasNotWaiting P C old new)
   pub nothing : HasLoadedNothing P C by old new
 
-abbrev pub RefreshAnswers : Program → Sizes → ℕ → List Entry → List Entry → Refresh → Type 0
-RefreshAnswers P C by old new (Loaded station tag value) = HasLoaded P C by old new station tag value
-RefreshAnswers P C by old new (Blocked load store) = HasFoundBlocked P C by old new load store
-RefreshAnswers P C by old new Idle = WasIdle P C by old new
+-- What a refresh of this caller answers
+abbrev pub RefreshAnswers : TheCore → ℕ → List Entry → List Entry → Refresh → Type 0
+RefreshAnswers core by old new (Loaded station tag value) =
+    HasLoaded core.program core.sizes by old new station tag value
+RefreshAnswers core by old new (Blocked load store) =
+    HasFoundBlocked core.program core.sizes by old new load store
+RefreshAnswers core by old new Idle = WasIdle core.program core.sizes by old new

@@ -1,6 +1,8 @@
 -- What a retirement does to what was committed.
-use Rattle.std.specs.Prelude.{◌+◌, ◌≤◌, ℕ, suc, Option, Some, None}
-use Rattle.isa.specs.Instruction.{destination, kind, pc_plus_4, width}
+use Rattle.std.specs.Prelude.{◌+◌, ◌≤◌, ℕ, suc, Bool, true, Option, Some, None}
+use Rattle.isa.specs.Instruction.{destination, is_first_half, kind, pc_plus_4, width}
+use Rattle.isa.specs.Registers.{lo}
+use Rattle.isa.specs.declared.op.Half.{Half}
 use Rattle.isa.specs.declared.instr.Instr.{Instr}
 use Rattle.isa.specs.declared.op.Kind.{Kind}
 use Rattle.isa.specs.declared.op.Kind.TheVariants.{Jumps, Links}
@@ -22,30 +24,53 @@ next_by Links pc v = v
 next_by _ pc v = pc_plus_4 pc
 
 -- The state behind an instruction that is done with v
-abbrev pub with_done : Instr → ℕ → State → State
-with_done i v s =
+abbrev pub with_done : Instr → Half → ℕ → State → State
+with_done i half v s =
     record {
-      registers = write s.registers (destination i) (written_by (kind i.op) s.pc v);
+      registers = write s.registers (destination i half) (written_by (kind i.op) s.pc v);
       memory = s.memory;
       pc = next_by (kind i.op) s.pc v;
       count = suc s.count;
     }
 
 -- The state behind a store of its data
-abbrev pub with_store : Instr → ℕ → ℕ → State → State
-with_store i address content s =
+abbrev pub with_store : Instr → Half → ℕ → ℕ → State → State
+with_store i half address content s =
     record {
-      registers = write s.registers (destination i) 0;
+      registers = write s.registers (destination i half) 0;
       memory = store_bytes s.memory address (width i.op) content;
       pc = pc_plus_4 s.pc;
       count = suc s.count;
     }
 
--- The state behind a retired instruction; a stop leaves it
-abbrev pub with_last : Instr → Last → State → State
-with_last i (Done v) s = with_done i v s
-with_last i (Stored address content) s = with_store i address content s
-with_last i (WasStop code) s = s
+-- The state behind an instruction that retired whole; a stop leaves it
+abbrev pub with_last : Instr → Half → Last → State → State
+with_last i half (Done v) s = with_done i half v s
+with_last i half (Stored address content) s = with_store i half address content s
+with_last i half (WasStop code) s = s
+
+-- What a first half is done with waits for its second
+abbrev pub low_by : Bool → Last → Option ℕ
+low_by true (Done v) = Some v
+low_by _ _ = None
+
+-- The low value that waits behind a retired tenant, if one does
+abbrev pub low_in : Instr → Half → Last → Option ℕ
+low_in i half last = low_by (is_first_half i.op half) last
+
+-- The state with the low value that waited, which goes into LO
+abbrev pub with_low : Option ℕ → State → State
+with_low None s = s
+with_low (Some v) s = record s { registers = write s.registers lo v }
+
+-- The state behind a retired tenant: a first half, whose value waits now, leaves it as it is; with
+-- any other its instruction is whole, and what waited for it is written first
+abbrev pub state_behind_by : (waits : Option ℕ) → Instr → Half → Last → (waited : Option ℕ) → State → State
+state_behind_by (Some v) i half last waited s = s
+state_behind_by None i half last waited s = with_last i half last (with_low waited s)
+
+abbrev pub state_behind : Instr → Half → Last → Option ℕ → State → State
+state_behind i half last waited s = state_behind_by (low_in i half last) i half last waited s
 
 -- The code of a stop
 abbrev pub stop_in : Last → Option Stop

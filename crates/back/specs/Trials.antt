@@ -17,9 +17,10 @@ use Rattle.inorder.specs.Tenants.{Addr, Done, Live, Tenant}
 use Rattle.inorder.specs.Unit.{Sizes, UpdateUnit}
 use Rattle.ruu_words.specs.Kinds.{IsTenant}
 use Rattle.station.specs.Moments.{WasOnce}
+use Rattle.station.specs.Seats.{TheCore}
 use Rattle.station.specs.Writeback.{IsWalk}
 use Rattle.back.specs.Loads.{IsLiveLoad, WasNotWaiting}
-use Rattle.back.specs.Port.{IsAsked, IsBlockedAt}
+use Rattle.back.specs.Port.{IsAsked, IsBlockedAt, behind}
 use Rattle.back.specs.Refreshes.{IsTooLate}
 use Rattle.back.specs.declared.port.Load.{Load}
 use Rattle.back.specs.declared.port.Tried.{Tried}
@@ -65,6 +66,13 @@ pub record SomeWaits (P : Program) (C : Sizes) (old new : List Entry) (station :
   pub asked : IsAsked P (unit_of P C new) p station l
   pub others : NoOtherWaits P C old new station p
 
+-- The same two over a core
+abbrev pub NobodyWaits : TheCore → List Entry → List Entry → ℕ → Type 0
+NobodyWaits core old new station = NoneWaits core.program core.sizes old new station
+
+abbrev pub ThisWaits : TheCore → List Entry → List Entry → ℕ → Load → Type 0
+ThisWaits core old new station l = SomeWaits core.program core.sizes old new station l
+
 -- A store of station s blocks load p of this station
 pub record HoldsBack (P : Program) (p station s : ℕ) (U : UpdateUnit) : Type 0 where
   pub blocked : IsBlockedAt P U p s
@@ -88,8 +96,16 @@ pub record DidLoad (P : Program) (C : Sizes) (by : ℕ) (old new : List Entry) (
   pub carried : List Event
   pub walk : IsWalk P C new p carried
   pub adds : Adds P C by old new (carried ++ Does (On p LoadIt) ∷ [])
+  -- at a moment of the call it was live and stood there
+  pub when : WasOnce P C old new (λ U. Has U p (IsLoadAt P station))
 
-abbrev pub TriedAnswers : Program → Sizes → ℕ → List Entry → List Entry → ℕ → Tried → Type 0
-TriedAnswers P C by old new station Passed = HasPassed P C by old new station
-TriedAnswers P C by old new station (Blocked s) = HasHeldBack P C by old new station s
-TriedAnswers P C by old new station (Loaded tag value) = DidLoad P C by old new station tag value
+-- What is answered of one station
+abbrev pub StationAnswers : Program → Sizes → ℕ → List Entry → List Entry → ℕ → Tried → Type 0
+StationAnswers P C by old new station Passed = HasPassed P C by old new station
+StationAnswers P C by old new station (Blocked s) = HasHeldBack P C by old new station s
+StationAnswers P C by old new station (Loaded tag value) = DidLoad P C by old new station tag value
+
+-- The same of the k-th station behind the head's
+abbrev pub TriedAnswers : TheCore → ℕ → List Entry → List Entry → (head k : ℕ) → Tried → Type 0
+TriedAnswers core by old new head k tried =
+    StationAnswers core.program core.sizes by old new (behind head core.sizes.ring k) tried

@@ -4,8 +4,12 @@ use isa::Stop;
 /// What a commit answers.
 #[derive(Clone, Copy, Debug, PartialEq, Eq)]
 pub enum Commit {
-    /// The oldest live tenant retired: the pc of its instruction, and the count of instructions behind it.
+    /// The oldest live tenant retired, and its instruction is whole: its pc, and the count of instructions
+    /// behind it.
     Retired { pc: u32, n: u64 },
+    /// The first half of a multiplication or division retired: the pc of that instruction. Its second half
+    /// commits it, so count, pc and registers are still those before it.
+    Half { pc: u32 },
     /// The oldest live tenant cannot retire yet.
     NotDone,
     /// Nobody is live.

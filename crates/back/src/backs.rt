@@ -7,7 +7,7 @@ ghost use Rattle.snapshots.specs.Snapshots.{opening};
 use crate::committed::Committed;
 use isa::{Config, Memory, Program, Stop};
 use snapshots::{Naming, Publisher, Snapper};
-use station::{BackSeat, Core};
+use station::{BackSeat, Core, a_number_is_of_its_part, what_is_seen_is_legal};
 use std::alloc::Global;
 use std::marker::Model;
 
@@ -18,6 +18,8 @@ pub struct Back<J: Naming> {
     pub(crate) seat: BackSeat,
     pub(crate) program: Program,
     pub(crate) committed: Committed,
+    // what the first half of a multiplication or division has left for LO, while the second is awaited
+    pub(crate) low: Option<u32>,
     // where the oldest live tenant stands, if there is one
     pub(crate) head: usize,
     pub(crate) ended: Option<Stop>,
@@ -32,7 +34,7 @@ impl<J: Naming> Model for Back<J> {
 
     ghost view = { λ b. back_of b.seat b.ended b.publisher };
 
-    ghost invariant = { λ b. IsKept J.program b.seat b.program b.committed b.head b.ended b.publisher };
+    ghost invariant = { λ b. IsKept J.program b.seat b.program b.committed b.low b.head b.ended b.publisher };
 }
 
 // What a back needs memory for. The publisher comes last, since it could not be given up without Wait.
@@ -72,12 +74,13 @@ impl<J: Naming> Back<J> {
     {
         match parts::<J>(alloc, program, config) {
             Ok((program, committed, publisher, snapper)) => {
-                let mut seat = seat;
-                core.look(&mut seat, core.ring() - 1);
+                what_is_seen_is_legal(&seat);
+                a_number_is_of_its_part(&seat);
                 let back = Back {
                     seat,
                     program,
                     committed,
+                    low: None,
                     head: 0,
                     ended: None,
                     publisher,

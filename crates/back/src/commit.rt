@@ -3,12 +3,12 @@ ghost use Rattle.std.specs.Prelude.{◌≡◌, ◌<◌, ◌-◌, ◌^◌, length
 ghost use Rattle.back.specs.Backs.{state_of};
 ghost use Rattle.back.specs.Commits.{CommitAnswers};
 ghost use Rattle.station.specs.declared.answers.Last.TheVariants.{Stored};
-ghost use Rattle.back.specs.Retirement.{IsInside, next_by, stop_in, with_done, with_last, with_store, written_by};
+ghost use Rattle.back.specs.Retirement.{IsInside, low_in, next_by, state_behind, stop_in, with_done, with_last, with_low, with_store, written_by};
 
 use crate::answers::Commit;
 use crate::backs::Back;
 use crate::committed::Committed;
-use isa::{Instr, Kind, Stop, pc_plus_4};
+use isa::{Half, Instr, Kind, Reg, Stop, pc_plus_4};
 use snapshots::Naming;
 use station::{Core, Last, Retire};
 
@@ -31,37 +31,83 @@ fn next(kind: Kind, pc: u32, v: u32) -> u32
     }
 }
 
-fn commit_done(committed: &mut Committed, instr: &Instr, v: u32)
+fn commit_done(committed: &mut Committed, instr: &Instr, half: Half, v: u32)
     requires { committed.old.count < 2 ^ 64 - 1 }
-    ensures { committed.new ≡ with_done instr.now v committed.old }
+    ensures { committed.new ≡ with_done instr.now half v committed.old }
 {
     let kind = instr.op().kind();
     let pc = committed.pc();
-    committed.advance(instr.destination(), written(kind, pc, v), next(kind, pc, v));
+    committed.advance(
+        instr.destination(half),
+        written(kind, pc, v),
+        next(kind, pc, v),
+    );
 }
 
-fn commit_store(committed: &mut Committed, instr: &Instr, address: u32, content: u32)
+fn commit_store(committed: &mut Committed, instr: &Instr, half: Half, address: u32, content: u32)
     requires count { committed.old.count < 2 ^ 64 - 1 }
     requires inside { IsInside (length committed.old.memory) instr.now (Stored address content) }
-    ensures { committed.new ≡ with_store instr.now address content committed.old }
+    ensures { committed.new ≡ with_store instr.now half address content committed.old }
 {
     let pc = committed.pc();
     let width = instr.op().width() as usize;
     committed.store_at(address as usize, width, content);
-    committed.advance(instr.destination(), 0, pc_plus_4(pc));
+    committed.advance(instr.destination(half), 0, pc_plus_4(pc));
 }
 
-// What a retired instruction made goes into its register, and a store writes memory. A stop changes nothing.
-fn commit_last(committed: &mut Committed, instr: &Instr, last: Last)
+// What an instruction made that retired whole goes into its register, and a store writes memory. A stop changes
+// nothing.
+fn commit_last(committed: &mut Committed, instr: &Instr, half: Half, last: Last)
     requires count { committed.old.count < 2 ^ 64 - 1 }
     requires inside { IsInside (length committed.old.memory) instr.now last }
-    ensures { committed.new ≡ with_last instr.now last committed.old }
+    ensures { committed.new ≡ with_last instr.now half last committed.old }
 {
     match last {
-        Last::Done(v) => commit_done(committed, instr, v),
-        Last::Stored(address, content) => commit_store(committed, instr, address, content),
+        Last::Done(v) => commit_done(committed, instr, half, v),
+        Last::Stored(address, content) => commit_store(committed, instr, half, address, content),
         Last::Stop(_) => {}
     }
+}
+
+// What a first half is done with waits for its second.
+fn low_value(instr: &Instr, half: Half, last: Last) -> Option<u32>
+    ensures { result ≡ low_in instr.now half last }
+{
+    match last {
+        Last::Done(v) if instr.is_first_half(half) => Some(v),
+        _ => None,
+    }
+}
+
+// What waited goes into LO.
+fn commit_low(committed: &mut Committed, waited: Option<u32>)
+    ensures { committed.new ≡ with_low waited committed.old }
+{
+    if let Some(v) = waited {
+        committed.write(Reg::LO, v);
+    }
+}
+
+// Commits a retired tenant, and gives what waits then. A first half leaves the state as it is; with any other
+// its instruction is whole, and what waited for it goes into LO.
+fn commit_tenant(
+    committed: &mut Committed,
+    waited: Option<u32>,
+    instr: &Instr,
+    half: Half,
+    last: Last,
+) -> Option<u32>
+    requires count { committed.old.count < 2 ^ 64 - 1 }
+    requires inside { IsInside (length committed.old.memory) instr.now last }
+    ensures low { result ≡ low_in instr.now half last }
+    ensures state { committed.new ≡ state_behind instr.now half last waited committed.old }
+{
+    let waits = low_value(instr, half, last);
+    if waits.is_none() {
+        commit_low(committed, waited);
+        commit_last(committed, instr, half, last);
+    }
+    waits
 }
 
 fn stop(last: Last) -> Option<Stop>
@@ -75,7 +121,8 @@ fn stop(last: Last) -> Option<Stop>
 
 impl<J: Naming> Back<J> {
     /// Retires the oldest live tenant, if it can retire, and commits it: what it made goes into its register,
-    /// and a store writes memory. Once it has answered `Ended` it makes no step any more.
+    /// and a store writes memory. What the first half of an instruction made waits for the second. Once it has
+    /// answered `Ended` it makes no step any more.
     pub fn commit(&mut self, core: &Core) -> Commit
         requires core { self.old.core ≡ core.now }
         requires count { (state_of self.old).count < 2 ^ 64 - 1 }
@@ -93,8 +140,8 @@ impl<J: Naming> Back<J> {
             return Commit::Ended(Stop::BadPc);
         };
         let ring = core.ring();
-        let last = match core.retire(&mut self.seat) {
-            Retire::Retired { last, .. } => last,
+        let (half, last) = match core.retire(&mut self.seat) {
+            Retire::Retired { half, last, .. } => (half, last),
             Retire::NotDone => return Commit::NotDone,
             Retire::Empty => return Commit::Empty,
             // no stop has retired, or it would have ended
@@ -102,10 +149,11 @@ impl<J: Naming> Back<J> {
         };
         self.head = (self.head + 1) % ring;
         self.ended = stop(last);
-        commit_last(&mut self.committed, &instr, last);
-        match self.ended {
-            Some(code) => Commit::Ended(code),
-            None => Commit::Retired {
+        self.low = commit_tenant(&mut self.committed, self.low, &instr, half, last);
+        match (self.ended, self.low) {
+            (Some(code), _) => Commit::Ended(code),
+            (None, Some(_)) => Commit::Half { pc },
+            (None, None) => Commit::Retired {
                 pc,
                 n: self.committed.count(),
             },

@@ -11,7 +11,7 @@ use std::marker::Model;
 /// Registers, memory, pc and the count of instructions.
 #[derive(Drop)]
 pub struct Committed {
-    pub(crate) registers: [u32; 32],
+    pub(crate) registers: [u32; 34],
     pub(crate) memory: Vec<u8>,
     pub(crate) pc: u32,
     pub(crate) count: u64,
@@ -35,7 +35,7 @@ impl Committed {
     {
         let memory = Vec::from_slice(alloc, program.bytes())?;
         Ok(Committed {
-            registers: [0; 32],
+            registers: [0; 34],
             memory,
             pc: Program::START,
             count: 0,
@@ -57,7 +57,7 @@ impl Committed {
     }
 
     /// The registers, register 0 first.
-    pub fn registers(&self) -> [u32; 32]
+    pub fn registers(&self) -> [u32; 34]
         ensures { result ≡ self.now.registers }
     {
         self.registers
@@ -80,15 +80,22 @@ impl Committed {
         store(self.memory.as_mut_slice(), at, width, value);
     }
 
+    /// Writes a register; register 0 stays 0.
+    pub fn write(&mut self, r: Reg, v: u32)
+        ensures { self.new ≡ record self.old { registers = write self.old.registers r v } }
+    {
+        if r.number() != 0 {
+            self.registers[r.number() as usize] = v;
+        }
+    }
+
     /// Commits an instruction that writes `v` and goes on at `next`.
     pub fn advance(&mut self, r: Reg, v: u32, next: u32)
         requires { self.old.count < 2 ^ 64 - 1 }
         ensures registers { self.new.registers ≡ write self.old.registers r v }
         ensures rest { self.new ≡ record { registers = self.new.registers; memory = self.old.memory; pc = next; count = suc self.old.count } }
     {
-        if r.number() != 0 {
-            self.registers[r.number() as usize] = v;
-        }
+        self.write(r, v);
         self.pc = next;
         self.count += 1;
     }

@@ -19,7 +19,8 @@ fn outcome(ended: Option<Stop>) -> Ending
 }
 
 impl<J: Naming> Back<J> {
-    /// The committed state, which is that of the machine in order after n instructions. The outcome is Limit
+    /// The committed state, which is that of the machine in order after n instructions: between two halves of
+    /// an instruction it is the one before that. The outcome is Limit
     /// unless `commit` answered `Ended`. It waits until no snapper reads; from then on each is answered
     /// `Gone`.
     pub fn end<R: Wait>(self, wait: &R) -> End
@@ -31,6 +32,7 @@ impl<J: Naming> Back<J> {
             seat: _,
             program: _,
             committed,
+            low: _,
             head: _,
             ended,
             publisher,

@@ -2,18 +2,15 @@
 ghost use Rattle.std.specs.Prelude.{◌≡◌, ◌<◌, ◌≤◌, ◌+◌, ◌∷◌, ◌⊎◌, [], ℕ, IfErr, IfNone, IfOk, IfSome, IsSome, Some, false, true, length, slice_get};
 ghost use Rattle.isa.specs.Instruction.{width as width_in};
 ghost use Rattle.isa.specs.Operations.{loaded as loaded_as};
-ghost use Rattle.inorder.specs.Callers.{CanLoad, head_station};
-ghost use Rattle.inorder.specs.Committed.{committed as committed_by};
-ghost use Rattle.inorder.specs.History.{Adds, IsLegal, back};
+ghost use Rattle.inorder.specs.Callers.{head_station};
+ghost use Rattle.inorder.specs.History.{IsLegal, back};
 ghost use Rattle.inorder.specs.Loads.{access_width};
-ghost use Rattle.inorder.specs.Replies.{Has, IsNamed, IsStale};
-ghost use Rattle.lsq.specs.Entries.{bytes, load_by};
-ghost use Rattle.lsq.specs.LoadRule.{answer as answered, overlaps};
+ghost use Rattle.lsq.specs.Entries.{load_by};
+ghost use Rattle.lsq.specs.LoadRule.{answer as answered};
 ghost use Rattle.station.specs.Seats.{IsSame};
-ghost use Rattle.back.specs.Backs.{unit_in};
-ghost use Rattle.back.specs.Loads.{IsWaitingLoad};
-ghost use Rattle.back.specs.Trials.{NoneWaits, SomeWaits, TriedAnswers, load_at as load_in};
-ghost use Rattle.back.specs.Port.{AtStation, HasFound, HasUnknown, IsAsked, IsBlockedAt, IsEntryOf, IsLoadOf, address_in, behind, content_in, load_entry, seen_as};
+ghost use Rattle.back.specs.Backs.{SeesMore, committed_in, unit_in};
+ghost use Rattle.back.specs.Trials.{NobodyWaits, ThisWaits, TriedAnswers, load_at as load_in};
+ghost use Rattle.back.specs.Port.{Ceases, IsEntryThere, IsInside, MayAnswer, MayBlock, Remains, SearchFinds, SearchMisses, address_in, content_in, load_entry, seen_as};
 
 use crate::committed::Committed;
 use isa::{Instr, Kind, Op, Program, loaded};
@@ -110,10 +107,10 @@ fn look(core: &Core, seat: &mut BackSeat, program: &Program, station: usize) -> 
     requires program { program.now ≡ core.now.program }
     requires station { station < core.now.sizes.ring }
     ensures kept { IsSame seat.old seat.new }
-    ensures history { Adds core.now.program core.now.sizes seat.old.by seat.old.seen seat.new.seen [] }
-    ensures shows { AtStation (unit_in core.now seat.new.seen) (length (unit_in core.now seat.old.seen).tenants) station (IsEntryOf core.now.program result) }
+    ensures history { SeesMore core.now seat.old.by seat.old.seen seat.new.seen }
+    ensures shows { IsEntryThere core.now seat.old.seen seat.new.seen station result }
 {
-    let (index, _) = core.info(seat, station);
+    let (index, ..) = core.info(seat, station);
     let seen = core.look(seat, station);
     let index = index as usize;
     if index < program.len() {
@@ -139,9 +136,9 @@ fn search(
     requires head { head < core.now.sizes.ring }
     requires at { at < core.now.sizes.ring }
     ensures kept { IsSame seat.old seat.new }
-    ensures history { Adds core.now.program core.now.sizes seat.old.by seat.old.seen seat.new.seen [] }
-    ensures ok { IfOk result (λ found. HasFound core.now.program (unit_in core.now seat.new.seen) (length (unit_in core.now seat.old.seen).tenants) head core.now.sizes.ring 0 at load.now.address (width_in load.now.op) found) }
-    ensures err { IfErr result (λ s. HasUnknown core.now.program (unit_in core.now seat.new.seen) (length (unit_in core.now seat.old.seen).tenants) head core.now.sizes.ring at s) }
+    ensures history { SeesMore core.now seat.old.by seat.old.seen seat.new.seen }
+    ensures ok { IfOk result (SearchFinds core.now seat.old.seen seat.new.seen head at load.now) }
+    ensures err { IfErr result (SearchMisses core.now seat.old.seen seat.new.seen head at) }
 {
     let ring = core.ring();
     let asked = entry_of(load);
@@ -179,13 +176,13 @@ fn answer(
     requires head { head < core.now.sizes.ring }
     requires head_is { head ≡ head_station core.now.sizes (unit_in core.now seat.old.seen) }
     requires at { at < core.now.sizes.ring }
-    requires state { committed.now ≡ committed_by core.now.program (unit_in core.now seat.old.seen).tenants }
+    requires state { committed.now ≡ committed_in core.now seat.old.seen }
     requires inside { load.now.address + width_in load.now.op ≤ length committed.now.memory }
     ensures kept { IsSame seat.old seat.new }
-    ensures history { Adds core.now.program core.now.sizes seat.old.by seat.old.seen seat.new.seen [] }
+    ensures history { SeesMore core.now seat.old.by seat.old.seen seat.new.seen }
     ensures bound { IfErr result (λ s. s < at) }
-    ensures ok { IfOk result (λ v. (p : ℕ) → IsAsked core.now.program (unit_in core.now seat.old.seen) p (behind head core.now.sizes.ring at) load.now → CanLoad core.now.program (unit_in core.now seat.new.seen) p load.now.address v ⊎ IsStale (unit_in core.now seat.new.seen) p) }
-    ensures err { IfErr result (λ s. (p : ℕ) → IsAsked core.now.program (unit_in core.now seat.old.seen) p (behind head core.now.sizes.ring at) load.now → IsBlockedAt core.now.program (unit_in core.now seat.new.seen) p (behind head core.now.sizes.ring s) ⊎ IsStale (unit_in core.now seat.new.seen) p) }
+    ensures ok { IfOk result (MayAnswer core.now seat.old.seen seat.new.seen head at load.now) }
+    ensures err { IfErr result (MayBlock core.now seat.old.seen seat.new.seen head at load.now) }
 {
     let ring = core.ring();
     let found = match search(core, seat, program, head, at, load) {
@@ -227,16 +224,16 @@ fn waiting(core: &Core, seat: &mut BackSeat, program: &Program, station: usize) 
     requires program { program.now ≡ core.now.program }
     requires station { station < core.now.sizes.ring }
     ensures kept { IsSame seat.old seat.new }
-    ensures history { Adds core.now.program core.now.sizes seat.old.by seat.old.seen seat.new.seen [] }
-    ensures none { IfNone result (NoneWaits core.now.program core.now.sizes seat.old.seen seat.new.seen station) }
-    ensures some { IfSome result (λ l. SomeWaits core.now.program core.now.sizes seat.old.seen seat.new.seen station l) }
-    ensures inside { IfSome result (λ l. l.address + width_in l.op ≤ length core.now.program.bytes) }
+    ensures history { SeesMore core.now seat.old.by seat.old.seen seat.new.seen }
+    ensures none { IfNone result (NobodyWaits core.now seat.old.seen seat.new.seen station) }
+    ensures some { IfSome result (ThisWaits core.now seat.old.seen seat.new.seen station) }
+    ensures inside { IfSome result (IsInside core.now.program) }
 {
     let seen = core.look(seat, station);
     let Some(address) = address(seen.state, seen.value) else {
         return None;
     };
-    let (index, _) = core.info(seat, station);
+    let (index, ..) = core.info(seat, station);
     load_at(program, index as usize, seen.tag, address)
 }
 
@@ -246,9 +243,9 @@ fn is_still(core: &Core, seat: &mut BackSeat, station: usize, load: &Load) -> bo
     requires by { seat.old.by ≡ back }
     requires station { station < core.now.sizes.ring }
     ensures kept { IsSame seat.old seat.new }
-    ensures history { Adds core.now.program core.now.sizes seat.old.by seat.old.seen seat.new.seen [] }
-    ensures still { result ≡ true → (p : ℕ) → IsNamed (unit_in core.now seat.old.seen) p station load.now.tag → IsAsked core.now.program (unit_in core.now seat.old.seen) p station load.now → Has (unit_in core.now seat.new.seen) p (IsLoadOf core.now.program station load.now) }
-    ensures gone { result ≡ false → (p : ℕ) → IsAsked core.now.program (unit_in core.now seat.old.seen) p station load.now → ¬ Has (unit_in core.now seat.new.seen) p (IsWaitingLoad core.now.program) }
+    ensures history { SeesMore core.now seat.old.by seat.old.seen seat.new.seen }
+    ensures still { result ≡ true → Remains core.now seat.old.seen seat.new.seen station load.now }
+    ensures gone { result ≡ false → Ceases core.now seat.old.seen seat.new.seen station load.now }
 {
     let seen = core.look(seat, station);
     seen.tag == load.tag && address(seen.state, seen.value).is_some()
@@ -269,9 +266,9 @@ pub(crate) fn try_load(
     requires head { head < core.now.sizes.ring }
     requires head_is { head ≡ head_station core.now.sizes (unit_in core.now seat.old.seen) }
     requires at { at < core.now.sizes.ring }
-    requires state { committed.now ≡ committed_by core.now.program (unit_in core.now seat.old.seen).tenants }
+    requires state { committed.now ≡ committed_in core.now seat.old.seen }
     ensures kept { IsSame seat.old seat.new }
-    ensures reply { TriedAnswers core.now.program core.now.sizes seat.old.by seat.old.seen seat.new.seen (behind head core.now.sizes.ring at) result }
+    ensures reply { TriedAnswers core.now seat.old.by seat.old.seen seat.new.seen head at result }
 {
     let ring = core.ring();
     let station = (head + at) % ring;

@@ -1,10 +1,9 @@
 //! The memory port: the loads from the oldest live tenant on.
 ghost use Rattle.std.specs.Prelude.{◌≡◌, ◌<◌, ◌≤◌};
 ghost use Rattle.inorder.specs.Callers.{head_station};
-ghost use Rattle.inorder.specs.Committed.{committed as committed_by};
 ghost use Rattle.inorder.specs.History.{IsLegal, back};
 ghost use Rattle.station.specs.Seats.{IsSame as IsSameSeat};
-ghost use Rattle.back.specs.Backs.{IsSame, unit_in};
+ghost use Rattle.back.specs.Backs.{IsSame, committed_in, unit_in};
 ghost use Rattle.back.specs.Refreshes.{RefreshAnswers};
 
 use crate::answers::Refresh;
@@ -32,9 +31,9 @@ fn scan(
     requires most { ring ≤ 32 }
     requires head { head < ring }
     requires head_is { head ≡ head_station core.now.sizes (unit_in core.now seat.old.seen) }
-    requires state { committed.now ≡ committed_by core.now.program (unit_in core.now seat.old.seen).tenants }
+    requires state { committed.now ≡ committed_in core.now seat.old.seen }
     ensures kept { IsSameSeat seat.old seat.new }
-    ensures reply { RefreshAnswers core.now.program core.now.sizes seat.old.by seat.old.seen seat.new.seen result }
+    ensures reply { RefreshAnswers core.now seat.old.by seat.old.seen seat.new.seen result }
 {
     let mut blocked = None;
     for at in 0..ring {
@@ -68,7 +67,7 @@ impl<J: Naming> Back<J> {
     pub fn refresh(&mut self, core: &Core) -> Refresh
         requires core { self.old.core ≡ core.now }
         ensures kept { IsSame self.old self.new }
-        ensures reply { RefreshAnswers core.now.program core.now.sizes self.old.by self.old.seen self.new.seen result }
+        ensures reply { RefreshAnswers core.now self.old.by self.old.seen self.new.seen result }
     {
         let ring = core.ring();
         let head = self.head;

@@ -1,9 +1,9 @@
 //! What the back's seat sees and is told.
-ghost use Rattle.std.specs.Prelude.{◌≡◌, ◌<◌, []};
-ghost use Rattle.inorder.specs.History.{Adds, StartsWith};
+ghost use Rattle.std.specs.Prelude.{◌≡◌, ◌<◌};
+ghost use Rattle.inorder.specs.History.{StartsWith};
 ghost use Rattle.station.specs.Looking.{SeesStation};
 ghost use Rattle.station.specs.Seats.{IsSame as IsSameSeat};
-ghost use Rattle.back.specs.Backs.{IsSame};
+ghost use Rattle.back.specs.Backs.{IsSame, SeesMore};
 
 use crate::backs::Back;
 use snapshots::Naming;
@@ -15,7 +15,7 @@ impl<J: Naming> Back<J> {
         requires core { self.old.core ≡ core.now }
         requires station { station < core.now.sizes.ring }
         ensures kept { IsSame self.old self.new }
-        ensures history { Adds core.now.program core.now.sizes self.old.by self.old.seen self.new.seen [] }
+        ensures history { SeesMore core.now self.old.by self.old.seen self.new.seen }
         ensures reply { SeesStation core.now.program core.now.sizes self.new.seen station result }
     {
         core.look(&mut self.seat, station)
@@ -26,10 +26,10 @@ impl<J: Naming> Back<J> {
         requires core { self.old.core ≡ core.now }
         requires other { other.old.core ≡ core.now }
         ensures kept { IsSame self.old self.new }
-        ensures history { Adds core.now.program core.now.sizes self.old.by self.old.seen self.new.seen [] }
+        ensures history { SeesMore core.now self.old.by self.old.seen self.new.seen }
         ensures told { StartsWith self.new.seen other.old.seen }
         ensures other_kept { IsSameSeat other.old other.new }
-        ensures other_history { Adds core.now.program core.now.sizes other.old.by other.old.seen other.new.seen [] }
+        ensures other_history { SeesMore core.now other.old.by other.old.seen other.new.seen }
         ensures other_told { StartsWith other.new.seen self.new.seen }
     {
         core.meet(&mut self.seat, other);

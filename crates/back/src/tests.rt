@@ -1,13 +1,16 @@
 //! Calls on one back, by hand; and want of memory.
 ghost use Rattle.std.specs.Prelude.{◌≡◌, ◌<◌, [], IfSome, length};
 ghost use Rattle.isa.specs.Instruction.{fixed_next};
+ghost use Rattle.isa.specs.declared.op.Half.TheVariants.{Low};
 ghost use Rattle.isa.specs.Programs.{address, instr_of};
 ghost use Rattle.inorder.specs.Replies.{last_tag};
 ghost use Rattle.station.specs.Seats.{IsSame};
 
 use crate::{Back, Commit, Mark, Naming, Refresh};
-use isa::{Config, Ending, Memory, Program, Stop, outcome, parse};
-use station::{Claim, Core, Finish, FrontSeat, StationState, Supply, Tenant, UnitSeat};
+use isa::{Config, Ending, Half, Memory, Program, Stop, outcome_of, parse};
+use station::{
+    Claim, Core, Finish, FrontSeat, StationState, Supply, Tenant, UnitSeat, a_job_is_of_the_program,
+};
 use std::alloc::Global;
 use std::marker::Brand;
 use std::process::Abort;
@@ -21,11 +24,12 @@ fn let_first(core: &Core, seat: &mut FrontSeat, predicted: u32) -> u32
     requires there { 0 < length core.now.program.code }
     requires room { (0 < core.now.sizes.ring) × (0 < core.now.sizes.queue) }
     requires tag { core.now.sizes.first_tag < last_tag }
-    requires predicted { IfSome (fixed_next (instr_of core.now.program 0) (address 0)) (λ x. predicted ≡ x) }
+    requires predicted { IfSome (fixed_next (instr_of core.now.program 0) Low (address 0)) (λ x. predicted ≡ x) }
     ensures kept { IsSame seat.old seat.new }
 {
     let tenant = Tenant {
         index: 0,
+        half: Half::Low,
         predicted,
         sources: (Supply::Known(0), Supply::Known(0)),
     };
@@ -41,8 +45,9 @@ fn finish_one(core: &Core, program: &Program, seat: &mut UnitSeat, station: usiz
 {
     let finished = match core.claim(seat, station) {
         Claim::Job(job) => {
+            a_job_is_of_the_program();
             let instr = program.instr(job.index as usize);
-            let found = outcome(instr, job.pc, job.a, job.b, program.size());
+            let found = outcome_of(instr, job.half, job.pc, job.a, job.b, program.size());
             Some(core.finish(seat, job, found))
         }
         Claim::NotOpen => None,
@@ -67,7 +72,7 @@ fn next_try<J: Naming, R: Wait + Abort>(
         return Ok(());
     };
     assert!(rt; 0 < program.len() && core.ring() == 4 && core.queue() == 2);
-    let predicted = program.instr(0).fixed_next(Program::START);
+    let predicted = program.instr(0).fixed_next(Half::Low, Program::START);
     let_first(&core, &mut seat, predicted.unwrap_or(0));
     assert!(rt; finish_one(&core, program, &mut unit, 0));
     let made = match Back::<J>::new(alloc, &core, back_seat, program, config) {

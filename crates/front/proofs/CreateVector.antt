@@ -6,7 +6,7 @@ use Rattle.std.specs.Prelude.{slice_get}
 use Rattle.isa.specs.Programs.{Program}
 use Rattle.inorder.specs.Tenants.{Tenant, destination_of, on_path}
 use Rattle.inorder.specs.Unit.{can_be_written, creator, last_writer}
-use Rattle.front.specs.declared.record.Record.{Record}
+use Rattle.front.specs.declared.path.record.Record.{Record}
 use Rattle.front.specs.Creators.{creator_in, creator_note, newest, newest_note, position}
 use Rattle.front.specs.Knows.{whats}
 use Rattle.front.specs.Trail.{Note, note, trail}
@@ -59,7 +59,7 @@ newest_what older (x ∷ xs) r = newest_what (after_note older x r) xs r ∙ ap 
     by false = refl
 
 -- it is among these, or an older one
-newest_among : (Q : Note → Type 0) (older : Option Note) (xs : List Note) (r : ℕ) (n : Note) → AllByRecursion Q xs → newest_note older xs r ≡ Some n → (older ≡ Some n) ⊎ Q n
+pub newest_among : (Q : Note → Type 0) (older : Option Note) (xs : List Note) (r : ℕ) (n : Note) → AllByRecursion Q xs → newest_note older xs r ≡ Some n → (older ≡ Some n) ⊎ Q n
 newest_among Q older [] r n all e = inl e
 newest_among Q older (x ∷ xs) r n all e = ⊎_elim (here (eqb x.what.destination r)) (λ q. inr q) (newest_among Q (after_note older x r) xs r n all.1 e)
   where
@@ -133,14 +133,14 @@ newest_next r v (x ∷ xs) (suc j) = newest_next r (after_record v r (Some x)) x
 one_back : (r : ℕ) (xs : List Record) (j : ℕ) → 0 < j → newest None (take j xs) r ≡ after_record (newest None (take (j - 1) xs) r) r (slice_get xs (j - 1))
 one_back r xs j h = let same : suc (j - 1) ≡ j = omega arith in sym (ap (λ k. newest None (take k xs) r) same) ∙ newest_next r None xs (j - 1)
 
-written : (r : ℕ) → r ≢ 0 → r < 32 → can_be_written r ≡ true
+pub written : (r : ℕ) → r ≢ 0 → r < 34 → can_be_written r ≡ true
 written zero n l = absurd (n refl)
-written (suc r) n l = le-leb (suc (suc r)) 32 (omega (arith, l))
+written (suc r) n l = le-leb (suc (suc r)) 34 (omega (arith, l))
 
-pub creator_by : (xs : List Record) (r : ℕ) → r ≢ 0 → r < 32 → creator_in xs r ≡ newest None xs r
+pub creator_by : (xs : List Record) (r : ℕ) → r ≢ 0 → r < 34 → creator_in xs r ≡ newest None xs r
 creator_by xs r n l = ap (λ b. cond b (newest None xs r) None) (written r n l)
 
-pub creator_found : (xs : List Record) (j r : ℕ) (x : Record) → r ≢ 0 → r < 32 → 0 < j → newest None xs r ≡ newest None (take j xs) r → slice_get xs (j - 1) ≡ Some x → x.destination ≡ r → Some x ≡ creator_in xs r
+pub creator_found : (xs : List Record) (j r : ℕ) (x : Record) → r ≢ 0 → r < 34 → 0 < j → newest None xs r ≡ newest None (take j xs) r → slice_get xs (j - 1) ≡ Some x → x.destination ≡ r → Some x ≡ creator_in xs r
 creator_found xs j r x n l h same e d =
     sym
     (creator_by xs r n l

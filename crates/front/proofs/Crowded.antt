@@ -12,7 +12,7 @@ use Rattle.ruu_words.specs.declared.station.StationState.TheVariants.{Free}
 use Rattle.ruu_words.specs.States.{state_code}
 use Rattle.station.specs.declared.answers.Seen.{Seen}
 use Rattle.station.specs.Looking.{SeesStation}
-use Rattle.front.specs.declared.record.Record.{Record}
+use Rattle.front.specs.declared.path.record.Record.{Record}
 use Rattle.front.specs.Knows.{IsNewest, Knows}
 use Rattle.front.specs.Queues.{IsBefore, live_accesses}
 use Rattle.front.proofs.InQueue.{IsSplit, behind_left, behind_live, one_noted, queue_room, s}

@@ -18,7 +18,7 @@ use Rattle.inorder.proofs.Positions.{all_at, younger_at}
 use Rattle.inorder.proofs.Sound.{IsSettled, IsSound, SettledBy}
 use Rattle.inorder.proofs.Stations.{mended_station}
 use Rattle.unit_laws.proofs.Middle.{at_middle, older_middle, sound_from, younger_middle}
-use Rattle.front.specs.declared.record.Record.{Record}
+use Rattle.front.specs.declared.path.record.Record.{Record}
 use Rattle.front.specs.Creators.{creator_note, position}
 use Rattle.front.specs.Knows.{IsGone, IsNewest, IsReused, Knows, whats}
 use Rattle.front.specs.Trail.{Note, note, trail}

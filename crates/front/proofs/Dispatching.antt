@@ -1,7 +1,8 @@
 -- A let with its questions, and what the front knows behind them.
 use Rattle.std.proofs.Common.{◌≡◌, ℕ, ◌+◌, ◌-◌, ◌*◌, ◌/◌, ◌<◌, ◌^◌, List, [], ◌∷◌, ◌++◌, length, Option, Some, refl, sym, ap, ◌∙◌, subst, ⊎_elim, arith, append_assoc}
 use Rattle.std.specs.Prelude.{IfSome, is_none}
-use Rattle.isa.specs.Instruction.{destination, fixed_next, kind}
+use Rattle.isa.specs.declared.op.Half.{Half}
+use Rattle.isa.specs.Instruction.{destination, first_of, fixed_next, is_first_half, kind, second_of}
 use Rattle.isa.specs.Programs.{Program, address, instr_at, instr_of}
 use Rattle.isa.specs.declared.instr.Instr.{Instr}
 use Rattle.inorder.specs.declared.history.Entry.{Entry}
@@ -12,7 +13,7 @@ use Rattle.inorder.specs.History.{Adds, IsLegal, entry, front, unit_of}
 use Rattle.inorder.specs.Legal.{applied}
 use Rattle.inorder.specs.Steps.{MayLet, MaySupply, let_operand, new_tenant}
 use Rattle.inorder.specs.Tenants.{Tenant, Unlinked, is_access, is_live, operand}
-use Rattle.inorder.specs.Unit.{Sizes, UpdateUnit, creator, front_pc, how_many, next_station, next_tag, recent}
+use Rattle.inorder.specs.Unit.{Sizes, UpdateUnit, creator, front_half, front_pc, how_many, next_station, next_tag, recent}
 use Rattle.inorder.proofs.Creators.{at_cases}
 use Rattle.inorder.proofs.Histories.{unit_sound}
 use Rattle.inorder.proofs.Letting.{LetStays}
@@ -27,7 +28,7 @@ use Rattle.station.specs.declared.answers.Supply.TheVariants.{From as GivenFrom,
 use Rattle.station.specs.declared.answers.Tenant.{Tenant as NewTenant}
 use Rattle.station.specs.Letting.{MayLetOut, let_of, supply_of}
 use Rattle.front.specs.declared.fetch.Fetched.{Fetched}
-use Rattle.front.specs.declared.record.Record.{Record}
+use Rattle.front.specs.declared.path.record.Record.{Record}
 use Rattle.front.specs.Creators.{supply_in}
 use Rattle.front.specs.Fetching.{IsNext}
 use Rattle.front.specs.Knows.{IsReady, Knows}
@@ -35,7 +36,10 @@ use Rattle.front.specs.Path.{record_for}
 use Rattle.front.specs.Questions.{Asks, IsDispatched}
 use Rattle.front.specs.Trail.{is_link, record_of}
 use Rattle.front.proofs.LetKnown.{let_known}
-use Rattle.front.proofs.Named.{stands_right}
+use Rattle.front.proofs.Named.{one_named, stands_right}
+use Rattle.front.proofs.Tables.{table_let, table_stable}
+use Rattle.front.specs.CreateTable.{HasTable, IsEntered}
+use Rattle.front.specs.declared.path.counted.Table.{Table}
 use Rattle.front.proofs.Pending.{IsPending, pending_stable}
 use Rattle.front.proofs.Places.{notes_length}
 use Rattle.front.proofs.Questioned.{HasAsked, has_asked, later}
@@ -63,14 +67,14 @@ index_of P f e =
     subst (IsIndex P f) (sym (index_is a.index f.pc a.pc)) (record { inside = a.inside; pc = a.pc; is = a.is })
 
 module _ (P : Program) (C : Sizes) (old : List Entry) (legal : IsLegal P C old) (records : List Record) (base : List ℕ) (k : IsReady P C (unit_of P C old) records base)
-    (f : Fetched) (n : IsNext P C old f) (predicted index : ℕ) (small : predicted < 2 ^ 32) (fixed : IfSome (fixed_next f.instr f.pc) (λ x. predicted ≡ x)) (x : IsIndex P f index)
-    (first_small : f.instr.first < 32) (second_small : f.instr.second < 32)
-    (first second : Supply) (first_given : first ≡ supply_in records base f.instr.first) (second_given : second ≡ supply_in records base f.instr.second) where
+    (f : Fetched) (n : IsNext P C old f) (predicted index : ℕ) (small : predicted < 2 ^ 32) (fixed : IfSome (fixed_next f.instr f.half f.pc) (λ x. predicted ≡ x)) (x : IsIndex P f index)
+    (first_small : first_of f.instr < 34) (second_small : second_of f.instr < 34)
+    (first second : Supply) (first_given : first ≡ supply_in records base (first_of f.instr)) (second_given : second ≡ supply_in records base (second_of f.instr)) where
   abbrev U : UpdateUnit
   U = unit_of P C old
 
   abbrev tenant : NewTenant
-  tenant = record { index = index; predicted = predicted; sources = (first, second) }
+  tenant = record { index = index; half = f.half; predicted = predicted; sources = (first, second) }
 
   room : how_many is_live U.tenants < C.ring
   room =
@@ -85,15 +89,15 @@ module _ (P : Program) (C : Sizes) (old : List Entry) (legal : IsLegal P C old) 
     is_there = x.inside;
     pc = sym n.pc ∙ x.pc;
     small = small;
-    predicts = subst (λ (z : Instr × ℕ). IfSome (fixed_next z.0 z.1) (λ y. predicted ≡ y)) (λ i. (sym x.is i, n.pc i)) fixed;
-    first_is = subst (λ (i : Instr). MaySupply P U (next_station C (recent U)) (creator P U.tenants i.first) (supply_of first)) (sym x.is) (subst (λ s. MaySupply P U (next_station C (recent U)) (creator P U.tenants f.instr.first) (supply_of s)) (sym first_given) (may_supply P C old legal records base k f.instr.first first_small));
-    second_is = subst (λ (i : Instr). MaySupply P U (next_station C (recent U)) (creator P U.tenants i.second) (supply_of second)) (sym x.is) (subst (λ s. MaySupply P U (next_station C (recent U)) (creator P U.tenants f.instr.second) (supply_of s)) (sym second_given) (may_supply P C old legal records base k f.instr.second second_small));
+    predicts = subst (λ (z : Instr × Half × ℕ). IfSome (fixed_next z.0 z.1 z.2) (λ y. predicted ≡ y)) (λ i. (sym x.is i, n.half i, n.pc i)) fixed;
+    first_is = subst (λ (i : Instr). MaySupply P U (next_station C (recent U)) (creator P U.tenants (first_of i)) (supply_of first)) (sym x.is) (subst (λ s. MaySupply P U (next_station C (recent U)) (creator P U.tenants (first_of f.instr)) (supply_of s)) (sym first_given) (may_supply P C old legal records base k (first_of f.instr) first_small));
+    second_is = subst (λ (i : Instr). MaySupply P U (next_station C (recent U)) (creator P U.tenants (second_of i)) (supply_of second)) (sym x.is) (subst (λ s. MaySupply P U (next_station C (recent U)) (creator P U.tenants (second_of f.instr)) (supply_of s)) (sym second_given) (may_supply P C old legal records base k (second_of f.instr) second_small));
   }
 
   pub may_let_out : MayLetOut P C U tenant
-  may_let_out = record { may = may_let; tag = n.tag }
+  may_let_out = record { may = may_let; half = n.half; tag = n.tag }
 
-  pub small_creator : (r : ℕ) → r < 32 → (given : Supply) → given ≡ supply_in records base r → (a g : ℕ) → given ≡ GivenFrom a g → a < C.ring
+  pub small_creator : (r : ℕ) → r < 34 → (given : Supply) → given ≡ supply_in records base r → (a g : ℕ) → given ≡ GivenFrom a g → a < C.ring
   small_creator r r_small given e a g f = let d = comes_from P C old legal records base k r r_small a g (sym e ∙ f) in subst (λ z. z < C.ring) d.station d.giver.small
 
   -- behind it
@@ -128,6 +132,9 @@ module _ (P : Program) (C : Sizes) (old : List Entry) (legal : IsLegal P C old) 
     pub pc_there : f.pc ≡ front_pc M.tenants
     pc_there = n.pc ∙ sym (ap (λ (t : Tenant). t.pc) same.new)
 
+    pub half_there : f.half ≡ front_half P M.tenants
+    half_there = n.half ∙ sym (ap (λ (t : Tenant). t.half) same.new)
+
     abbrev let_step : Rattle.inorder.specs.declared.history.Step.Step
     let_step = Let index predicted (supply_of first) (supply_of second)
 
@@ -140,10 +147,11 @@ module _ (P : Program) (C : Sizes) (old : List Entry) (legal : IsLegal P C old) 
       tag = sym tag_there i;
       pc = sym pc_there i;
       next = predicted;
-      destination = destination (x.is i);
+      destination = destination (x.is i) (sym half_there i);
       links = is_link (kind (x.is i).op);
+      first = is_first_half (x.is i).op (sym half_there i);
       access = is_access (kind (x.is i).op);
-      guessed = is_none (fixed_next (x.is i) (sym pc_there i));
+      guessed = is_none (fixed_next (x.is i) (sym half_there i) (sym pc_there i));
     }
 
     pub knows_behind : Knows P C (unit_of P C new) (records ++ record_for f tag predicted ∷ []) base
@@ -151,6 +159,14 @@ module _ (P : Program) (C : Sizes) (old : List Entry) (legal : IsLegal P C old) 
         let there = let_known P C M front index predicted (supply_of first) (supply_of second) legal_let.1.1 (unit_sound P C point legal_let.0) (stands_right P C point legal_let.0) records base ready in
         stays_behind P C (λ V. Knows P C V (records ++ record_for f tag predicted ∷ []) base) (knows_stable P C (records ++ record_for f tag predicted ∷ []) base) old new (let_of tenant) [] l
         (subst (λ z. Knows P C (applied P C M front let_step) (records ++ z ∷ []) base) kept_of there)
+
+    -- the table
+    module _ (T T' : Table) (table : HasTable P U T) (inside : f.station < 32) (entered : IsEntered T T' (record_for f tag predicted)) where
+      pub table_behind : HasTable P (unit_of P C new) T'
+      table_behind =
+          let there : HasTable P M T = stays P C (λ V. HasTable P V T) (table_stable P C T) old point l.before table in
+          let after = table_let P C M front index predicted (supply_of first) (supply_of second) T T' there (subst (λ z. z < 32) place inside) (one_named P C (entry front (let_of tenant) ∷ point) legal_let) (subst (IsEntered T T') (sym kept_of) entered) in
+          stays_behind P C (λ V. HasTable P V T') (table_stable P C T') old new (let_of tenant) [] l after
 
     -- its place in the unit
     pub named_new : IsTenant (applied P C M front let_step) (length M.tenants) f.station tag IsAny
@@ -168,7 +184,7 @@ module _ (P : Program) (C : Sizes) (old : List Entry) (legal : IsLegal P C old) 
       pub q : ℕ
       pub pending : IsPending side (length M.tenants) q f.station tag a g (unit_of P C new)
 
-    pends : (s : Source) (r : ℕ) (r_small : r < 32) (given : Supply) → given ≡ supply_in records base r → (operand s new_one).creator ≡ creator P M.tenants r → ((a g : ℕ) → given ≡ GivenFrom a g → (operand s new_one).way ≡ Unlinked) → (a g : ℕ) → given ≡ GivenFrom a g → Pends s a g
+    pends : (s : Source) (r : ℕ) (r_small : r < 34) (given : Supply) → given ≡ supply_in records base r → (operand s new_one).creator ≡ creator P M.tenants r → ((a g : ℕ) → given ≡ GivenFrom a g → (operand s new_one).way ≡ Unlinked) → (a g : ℕ) → given ≡ GivenFrom a g → Pends s a g
     pends s r r_small given given_is c way a g e =
         let d = comes_from P C point legal_let.0 records base ready r r_small a g (sym given_is ∙ e) in
         let V = applied P C M front let_step in
@@ -192,10 +208,10 @@ module _ (P : Program) (C : Sizes) (old : List Entry) (legal : IsLegal P C old) 
         record { q = d.n.at; pending = stays_behind P C (IsPending s (length M.tenants) d.n.at f.station tag a g) (pending_stable P C (length M.tenants) d.n.at f.station tag a g s) old new (let_of tenant) [] l pending }
 
     pub first_pends : (a g : ℕ) → first ≡ GivenFrom a g → Pends First a g
-    first_pends a g e = pends First f.instr.first first_small first first_given (its_creator (creator P M.tenants (instr_of P index).first) first ∙ ap (λ (i : Instr). creator P M.tenants i.first) x.is) (λ a g e. unlinked (creator P M.tenants (instr_of P index).first) first a g e) a g e
+    first_pends a g e = pends First (first_of f.instr) first_small first first_given (its_creator (creator P M.tenants (first_of (instr_of P index))) first ∙ ap (λ (i : Instr). creator P M.tenants (first_of i)) x.is) (λ a g e. unlinked (creator P M.tenants (first_of (instr_of P index))) first a g e) a g e
 
     pub second_pends : (a g : ℕ) → second ≡ GivenFrom a g → Pends Second a g
-    second_pends a g e = pends Second f.instr.second second_small second second_given (its_creator (creator P M.tenants (instr_of P index).second) second ∙ ap (λ (i : Instr). creator P M.tenants i.second) x.is) (λ a g e. unlinked (creator P M.tenants (instr_of P index).second) second a g e) a g e
+    second_pends a g e = pends Second (second_of f.instr) second_small second second_given (its_creator (creator P M.tenants (second_of (instr_of P index))) second ∙ ap (λ (i : Instr). creator P M.tenants (second_of i)) x.is) (λ a g e. unlinked (creator P M.tenants (second_of (instr_of P index))) second a g e) a g e
 
     -- the whole, with its questions
     module _ (mid end : List Entry) (asks_first : Asks P C new mid f.station tag First first) (asks_second : Asks P C mid end f.station tag Second second) where
@@ -214,6 +230,9 @@ module _ (P : Program) (C : Sizes) (old : List Entry) (legal : IsLegal P C old) 
 
       pub knows_end : Knows P C (unit_of P C end) (records ++ record_for f tag predicted ∷ []) base
       knows_end = two.knows (records ++ record_for f tag predicted ∷ []) base (one.knows (records ++ record_for f tag predicted ∷ []) base knows_behind)
+
+      pub table_end : (T T' : Table) → HasTable P U T → f.station < 32 → IsEntered T T' (record_for f tag predicted) → HasTable P (unit_of P C end) T'
+      table_end T T' table inside entered = two.table T' (one.table T' (table_behind T T' table inside entered))
 
       pub dispatched : IsDispatched P C old end f predicted tag
       dispatched = record {
@@ -240,4 +259,5 @@ module _ (P : Program) (C : Sizes) (old : List Entry) (legal : IsLegal P C old) 
           adds = adds_on P C front old mid end (one.events ++ let_of tenant ∷ []) two.events (adds_on P C front old new mid (let_of tenant ∷ []) one.events adds one.adds) two.adds;
         };
         instr = x.is;
+        half = sym half_there;
       }

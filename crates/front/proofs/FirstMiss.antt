@@ -11,7 +11,7 @@ use Rattle.inorder.specs.Tenants.{Tenant, stands_on_path}
 use Rattle.inorder.specs.Unit.{Sizes, UpdateUnit, at}
 use Rattle.ruu_words.specs.Kinds.{IsAny, IsTenant}
 use Rattle.ruu_words.proofs.Stays.{any_stays}
-use Rattle.front.specs.declared.record.Record.{Record}
+use Rattle.front.specs.declared.path.record.Record.{Record}
 use Rattle.front.specs.Knows.{IsGone, IsReused, Knows, whats}
 use Rattle.front.specs.Recoveries.{IsCut, IsFirst, IsMissAt, IsNoMiss, squash_event}
 use Rattle.front.specs.declared.recovery.Missed.{Missed}

@@ -1,7 +1,7 @@
 -- A front between its calls.
-use Rattle.std.proofs.Common.{◌≡◌, ℕ, Bool, true, false, cond, List, [], ◌++◌, Some, None, replicate, refl, sym, ap, ◌∙◌, subst, arith, ◌≤◌}
+use Rattle.std.proofs.Common.{◌≡◌, ◌≢◌, ℕ, zero, suc, ◌<◌, length, ◌∷◌, Bool, true, false, cond, List, [], ◌++◌, Option, Some, None, replicate, refl, sym, ap, ◌∙◌, subst, arith, ◌≤◌}
 use Rattle.std.proofs.lemmas.List.{append-nil}
-use Rattle.std.specs.Prelude.{slice_index}
+use Rattle.std.specs.Prelude.{slice_get, slice_index}
 use Rattle.isa.specs.Programs.{Program}
 use Rattle.inorder.specs.declared.history.Entry.{Entry}
 use Rattle.inorder.specs.declared.history.Step.{Step}
@@ -16,21 +16,29 @@ use Rattle.ruu_words.proofs.Stays.{front_stays}
 use Rattle.station.specs.Seats.{Caller, IsSame, TheCore}
 use Rattle.front.specs.declared.path.Path.{Path}
 use Rattle.front.specs.Creators.{creator_note, position}
-use Rattle.front.specs.declared.record.Record.{Record}
-use Rattle.front.specs.Fronts.{IsFront, IsUnused}
+use Rattle.front.specs.declared.path.record.Record.{Record}
+use Rattle.front.specs.Fronts.{AddsNothing, IsFront, IsUnused}
 use Rattle.front.specs.Knows.{Knows}
-use Rattle.front.specs.Trail.{trail}
+use Rattle.front.specs.CreateTable.{HasTable, entry_in}
+use Rattle.front.specs.declared.path.counted.Counted.{Counted}
+use Rattle.front.specs.declared.path.counted.Table.{Table}
+use Rattle.front.specs.declared.path.counted.Maker.{Maker}
+use Rattle.front.proofs.Tables.{table_stable}
+use Rattle.front.specs.Trail.{Note, trail}
 use Rattle.front.proofs.Splitting.{stays}
 use Rattle.front.proofs.Stays.{knows_stable}
 
 -- a call that added nothing
-pub still_front : (core : TheCore) (P : Program) (v w : Caller) (path : Path) → v.core ≡ core → IsFront P v path → IsSame v w → Adds core.program core.sizes v.by v.seen w.seen [] → IsFront P w path
-still_front core P v w path e f same adds =
+pub still_front : (core : TheCore) (P : Program) (v w : Caller) (path : Path) (creators : Counted) → v.core ≡ core → IsFront P v path creators → IsSame v w
+    → Adds core.program core.sizes v.by v.seen w.seen [] → IsFront P w path creators
+still_front core P v w path creators e f same adds =
     let Fact : TheCore → Type 0 = λ c. Adds c.program c.sizes front v.seen w.seen [] in
     let mine : Fact core = subst (λ i. Adds core.program core.sizes i v.seen w.seen []) f.by_is adds in
     let here : Fact v.core = subst Fact (sym e) mine in
     let knows : Knows v.core.program v.core.sizes (unit_of v.core.program v.core.sizes w.seen) path.records path.base = stays v.core.program v.core.sizes (λ U. Knows v.core.program v.core.sizes U path.records path.base) (knows_stable v.core.program v.core.sizes path.records path.base) v.seen w.seen here f.knows in
+    let table : HasTable v.core.program (unit_of v.core.program v.core.sizes w.seen) creators.table = stays v.core.program v.core.sizes (λ U. HasTable v.core.program U creators.table) (table_stable v.core.program v.core.sizes creators.table) v.seen w.seen here f.table in
     record {
+      table = subst (λ (z : TheCore). HasTable z.program (unit_of z.program z.sizes w.seen) creators.table) (sym same.core) table;
       by_is = same.by ∙ f.by_is;
       program = f.program ∙ ap (λ (z : TheCore). z.program) (sym same.core);
       legal = subst (λ (z : TheCore). IsLegal z.program z.sizes w.seen) (sym same.core) here.legal;
@@ -38,10 +46,13 @@ still_front core P v w path e f same adds =
     }
 
 -- after a call that knows
-pub front_again : (core : TheCore) (P : Program) (v w : Caller) (path path' : Path) → v.core ≡ core → IsFront P v path → IsSame v w → IsLegal core.program core.sizes w.seen → Knows core.program core.sizes (unit_of core.program core.sizes w.seen) path'.records path'.base → IsFront P w path'
-front_again core P v w path path' e f same legal knows =
+pub front_again : (core : TheCore) (P : Program) (v w : Caller) (path path' : Path) (creators creators' : Counted) → v.core ≡ core → IsFront P v path creators → IsSame v w
+    → IsLegal core.program core.sizes w.seen → Knows core.program core.sizes (unit_of core.program core.sizes w.seen) path'.records path'.base
+    → HasTable core.program (unit_of core.program core.sizes w.seen) creators'.table → IsFront P w path' creators'
+front_again core P v w path path' creators creators' e f same legal knows table =
     let both : core ≡ w.core = sym e ∙ sym same.core in
     record {
+      table = subst (λ (z : TheCore). HasTable z.program (unit_of z.program z.sizes w.seen) creators'.table) both table;
       by_is = same.by ∙ f.by_is;
       program = f.program ∙ ap (λ (z : TheCore). z.program) (sym same.core);
       legal = subst (λ (z : TheCore). IsLegal z.program z.sizes w.seen) both legal;
@@ -61,7 +72,7 @@ nobody P C h legal none =
     keeps U by (Let i p f g) b a ok e = absurd b
     keeps U by (On p act) b a ok e = let no : None ≡ Some a.tenant = ap (λ z. at z p) (sym e) ∙ a.is in absurd (cc no)
 
-pub first_knows : (P : Program) (C : Sizes) (h : List Entry) → IsLegal P C h → own front h ≡ [] → Knows P C (unit_of P C h) [] (replicate 32 0)
+pub first_knows : (P : Program) (C : Sizes) (h : List Entry) → IsLegal P C h → own front h ≡ [] → Knows P C (unit_of P C h) [] (replicate 34 0)
 first_knows P C h legal none =
     let empty = nobody P C h legal none in
     record {
@@ -78,23 +89,50 @@ first_knows P C h legal none =
       base_is = λ r h. base r;
     }
   where
-    base : (r : ℕ) → value_of (unit_of P C h).tenants (position (creator_note [] r)) ≡ Some (slice_index (replicate 32 0) r)
-    base r = go (can_be_written r) ∙ ap Some (sym (zeros 32 r))
+    base : (r : ℕ) → value_of (unit_of P C h).tenants (position (creator_note [] r)) ≡ Some (slice_index (replicate 34 0) r)
+    base r = go (can_be_written r) ∙ ap Some (sym (zeros 34 r))
       where
         go : (b : Bool) → value_of (unit_of P C h).tenants (position (cond b None None)) ≡ Some 0
         go true = refl
         go false = refl
 
--- the first look of a seat that has let nothing
-pub new_front : (core : TheCore) (P : Program) (v w : Caller) (path : Path) → IsUnused core v → P ≡ core.program → IsSame v w → Adds core.program core.sizes v.by v.seen w.seen [] → path.records ≡ [] → path.base ≡ replicate 32 0 → IsFront P w path
-new_front core P v w path u e same adds none base =
-    let both : core ≡ w.core = sym u.core_is ∙ sym same.core in
-    let mine : Adds core.program core.sizes front v.seen w.seen [] = subst (λ i. Adds core.program core.sizes i v.seen w.seen []) u.by_is adds in
-    let own_none : own front w.seen ≡ [] = mine.mine ∙ u.none in
-    let knows : Knows core.program core.sizes (unit_of core.program core.sizes w.seen) path.records path.base = subst (λ (z : List Record × List ℕ). Knows core.program core.sizes (unit_of core.program core.sizes w.seen) z.0 z.1) (λ i. (sym none i, sym base i)) (first_knows core.program core.sizes w.seen adds.legal own_none) in
+nothing_at : (r n : ℕ) → r < n → slice_get {X = Option Maker} (replicate n None) r ≡ Some None
+nothing_at r zero h = absurd (omega (arith, h))
+nothing_at zero (suc n) h = refl
+nothing_at (suc r) (suc n) h = nothing_at r n (omega arith)
+
+some_there : (xs ys : List Note) (n : Note) → [] ≢ xs ++ n ∷ ys
+some_there [] ys n e = cc e
+some_there (x ∷ xs) ys n e = cc e
+
+first_table : (P : Program) (C : Sizes) (h : List Entry) → IsLegal P C h → own front h ≡ [] → (T : Table) → T.entries ≡ replicate 34 None → length T.latest ≡ 32 → HasTable P (unit_of P C h) T
+first_table P C h legal none T entries deep =
+    let empty = nobody P C h legal none in
     record {
-      by_is = same.by ∙ u.by_is;
-      program = e ∙ ap (λ (z : TheCore). z.program) both;
-      legal = subst (λ (z : TheCore). IsLegal z.program z.sizes w.seen) both adds.legal;
-      knows = subst (λ (z : TheCore). Knows z.program z.sizes (unit_of z.program z.sizes w.seen) path.records path.base) both knows;
+      wide = ap (λ z. length z) entries;
+      deep = deep;
+      entries = λ r pos less. ap (λ z. slice_get z r) entries ∙ (nothing_at r 34 less ∙ ap (λ z. Some (entry_in (trail P z) r)) (sym empty));
+      latest = λ p t is last. let no : None ≡ Some t = ap (λ z. at z p) (sym empty) ∙ is in absurd (cc no);
+      stale = λ p q t u lt is is' same s e. let no : None ≡ Some t = ap (λ z. at z p) (sym empty) ∙ is in absurd (cc no);
+      replaced = λ xs ys n split. absurd (some_there xs ys n (ap (trail P) (sym empty) ∙ split));
     }
+
+-- a seat that has let nothing
+pub new_front : (core : TheCore) (P : Program) (v : Caller) (path : Path) (creators : Counted) →
+    IsUnused core v → P ≡ core.program → IsLegal v.core.program v.core.sizes v.seen →
+    path.records ≡ [] → path.base ≡ replicate 34 0 → creators.table.entries ≡ replicate 34 None →
+    length creators.table.latest ≡ 32 → IsFront P v path creators
+new_front core P v path creators u e legal none base entries deep = record {
+  table = first_table v.core.program v.core.sizes v.seen legal u.none creators.table entries deep;
+  by_is = u.by_is;
+  program = e ∙ ap (λ (z : TheCore). z.program) (sym u.core_is);
+  legal = legal;
+  knows = subst (λ (z : List Record × List ℕ). Knows v.core.program v.core.sizes (unit_of v.core.program v.core.sizes v.seen) z.0 z.1) (λ i. (sym none i, sym base i)) (first_knows v.core.program v.core.sizes v.seen legal u.none);
+}
+
+pub new_adds : (core : TheCore) (v : Caller) → v.core ≡ core → IsLegal v.core.program v.core.sizes v.seen → AddsNothing core v.seen v.seen
+new_adds core v e legal = record {
+  begins = record { more = []; is = refl };
+  legal = subst (λ (z : TheCore). IsLegal z.program z.sizes v.seen) e legal;
+  mine = refl;
+}

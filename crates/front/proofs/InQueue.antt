@@ -21,7 +21,7 @@ use Rattle.inorder.proofs.Moves.{changed_goes}
 use Rattle.inorder.proofs.Positions.{at_below}
 use Rattle.inorder.proofs.Sound.{IsSound}
 use Rattle.unit_laws.proofs.Middle.{sound_from}
-use Rattle.front.specs.declared.record.Record.{Record}
+use Rattle.front.specs.declared.path.record.Record.{Record}
 use Rattle.front.specs.Knows.{IsGone, IsReused, Knows, whats}
 use Rattle.front.specs.Queues.{accesses, live_accesses}
 use Rattle.front.specs.Trail.{Note, note, trail}

@@ -12,7 +12,7 @@ use Rattle.inorder.proofs.Creators.{at_cases}
 use Rattle.inorder.proofs.Positions.{at_below, at_new}
 use Rattle.inorder.proofs.Sound.{IsSound}
 use Rattle.inorder.proofs.Stations.{Stands as StandsRight}
-use Rattle.front.specs.declared.record.Record.{Record}
+use Rattle.front.specs.declared.path.record.Record.{Record}
 use Rattle.front.specs.Creators.{creator_note, position}
 use Rattle.front.specs.Knows.{IsGone, IsNewest, IsReady, IsReused, Knows}
 use Rattle.front.specs.Trail.{Note, note, record_of}

@@ -29,3 +29,6 @@ pub mod Looked
 pub mod Popping
 pub mod Recovered
 pub mod FirstMiss
+pub mod Tables
+pub mod Supplied
+pub mod Creating

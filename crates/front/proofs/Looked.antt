@@ -1,5 +1,6 @@
 -- What the looks before a let tell: why nothing can be let, or that it can.
 use Rattle.std.proofs.Common.{◌≡◌, ◌≢◌, ℕ, ◌+◌, ◌<◌, ◌≤◌, true, false, List, [], ◌∷◌, length, Some, None, refl, sym, ap, ◌∙◌, subst, arith, eqb}
+use Rattle.isa.specs.declared.op.Half.{Half}
 use Rattle.isa.specs.Programs.{Program, instr_at}
 use Rattle.isa.specs.declared.instr.Instr.{Instr}
 use Rattle.inorder.specs.declared.history.Entry.{Entry}
@@ -22,17 +23,17 @@ use Rattle.station.specs.Looking.{SeesStation}
 use Rattle.station.specs.Moments.{WasOnce}
 use Rattle.station.proofs.Adding.{adds_on}
 use Rattle.inorder.specs.StationWords.{left_value}
-use Rattle.front.specs.declared.record.Record.{Record}
+use Rattle.front.specs.declared.path.record.Record.{Record}
 use Rattle.front.specs.Fetching.{CanFetch, HasLeft, OldestLeft}
 use Rattle.front.specs.Knows.{IsReused, Knows, whats}
-use Rattle.front.specs.Path.{next_place, pc_behind}
+use Rattle.front.specs.Path.{half_behind, next_place, pc_behind}
 use Rattle.front.specs.Queues.{QueueSays}
 use Rattle.front.specs.Trail.{Note}
 use Rattle.front.specs.Turns.{NoInstrNow, QueueFullNow, SpentNow, WasNotFull}
 use Rattle.front.proofs.Acts.{gone_there}
 use Rattle.front.proofs.Moments.{at_end, before_end, looks_free, looks_full, looks_spent, no_instr, queue_free, queue_full, some_instr}
 use Rattle.front.proofs.Named.{stands_right}
-use Rattle.front.proofs.Places.{known_pc, known_place, notes_length}
+use Rattle.front.proofs.Places.{known_half, known_pc, known_place, notes_length}
 use Rattle.front.proofs.Splitting.{IsStable, stays}
 use Rattle.front.proofs.Stations.{next_tag_is, oldest_left}
 use Rattle.front.proofs.Stays.{knows_stable, place_stays, quiet_of}
@@ -146,8 +147,8 @@ module _ (P : Program) (C : Sizes) (old h : List Entry) (records : List Record) 
             let still = stays P C (λ U. IsTenant U f.one.at f.one.what.station f.one.what.tag (HasLeft seen.value)) (left_stable P C f.one.at f.one.what.station f.one.what.tag seen.value) h new more gone in
             record { p = f.one.at; tenant = subst (λ (z : Record). IsTenant (unit_of P C new) f.one.at z.station z.tag (HasLeft seen.value)) f.what still }
 
-        pub can_fetch : QueueSays P C (unit_of P C new) i false → seen.tag ≢ last_tag → seen.tag ≤ last_tag → station < ring → CanFetch P C new records (record { instr = i; pc = pc; station = station; left = seen.value })
-        can_fetch q ne most small =
+        pub can_fetch : (half : Half) → half ≡ half_behind records → QueueSays P C (unit_of P C new) i false → seen.tag ≢ last_tag → seen.tag ≤ last_tag → station < ring → CanFetch P C new records (record { instr = i; half = half; pc = pc; station = station; left = seen.value })
+        can_fetch half half_is q ne most small =
             let tag : next_tag C (recent (unit_of P C new)) ≡ seen.tag = stays P C (λ U. next_tag C (recent U) ≡ seen.tag) (tag_stable P C seen.tag) h new more (next_tag_is P C h adds.legal seen sees_next free) in
             record {
               next = record {
@@ -155,6 +156,7 @@ module _ (P : Program) (C : Sizes) (old h : List Entry) (records : List Record) 
                 small = subst (λ z. station < z) ring_is small;
                 tag = omega (arith, tag, ne, most);
                 pc = pc_is ∙ sym (known_pc P C (unit_of P C new) records base (IsReused (unit_of P C new)) knows_new);
+                half = half_is ∙ sym (known_half P C (unit_of P C new) records base (IsReused (unit_of P C new)) knows_new);
                 instr = there;
                 queue = q;
               };

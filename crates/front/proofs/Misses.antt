@@ -15,7 +15,7 @@ use Rattle.ruu_words.specs.declared.station.StationState.TheVariants.{Free, Miss
 use Rattle.ruu_words.proofs.Stays.{tenant_stays}
 use Rattle.station.specs.declared.answers.Seen.{Seen}
 use Rattle.station.specs.Looking.{SeesStation}
-use Rattle.front.specs.declared.record.Record.{Record}
+use Rattle.front.specs.declared.path.record.Record.{Record}
 use Rattle.front.specs.Knows.{IsGone, IsNewest, IsReused, Knows, whats}
 use Rattle.front.specs.Recoveries.{IsMiss, IsNoMiss}
 use Rattle.front.specs.Trail.{Note, record_of}

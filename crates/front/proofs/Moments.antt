@@ -17,7 +17,7 @@ use Rattle.ruu_words.specs.declared.station.StationState.TheVariants.{Free}
 use Rattle.station.specs.declared.answers.Seen.{Seen}
 use Rattle.station.specs.Looking.{SeesStation}
 use Rattle.station.specs.Moments.{WasOnce}
-use Rattle.front.specs.declared.record.Record.{Record}
+use Rattle.front.specs.declared.path.record.Record.{Record}
 use Rattle.front.specs.Knows.{IsReused, Knows}
 use Rattle.front.specs.Path.{pc_behind}
 use Rattle.front.specs.Queues.{QueueSays, live_accesses}

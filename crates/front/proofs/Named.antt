@@ -11,7 +11,7 @@ use Rattle.inorder.proofs.Histories.{allowed_steps}
 use Rattle.inorder.proofs.Positions.{at_more}
 use Rattle.inorder.proofs.Stations.{Stands as StandsRight, stands}
 use Rattle.inorder.proofs.Tags.{names_one, tagged}
-use Rattle.front.specs.declared.record.Record.{Record}
+use Rattle.front.specs.declared.path.record.Record.{Record}
 use Rattle.front.specs.Knows.{Stands, whats}
 use Rattle.front.specs.Trail.{Note}
 use Rattle.front.proofs.Lists.{all_rest}

@@ -26,7 +26,7 @@ use Rattle.inorder.proofs.Sound.{IsSound}
 use Rattle.ruu_words.specs.Kinds.{IsAny, IsTenant}
 use Rattle.station.specs.Asking.{IsAsking, IsQuestion}
 use Rattle.front.specs.Knows.{Knows}
-use Rattle.front.specs.declared.record.Record.{Record}
+use Rattle.front.specs.declared.path.record.Record.{Record}
 use Rattle.front.proofs.Splitting.{IsStable, KeepsEvent}
 use Rattle.front.proofs.Stays.{IsQuiet, knows_stays, quiet_grows, quiet_of}
 

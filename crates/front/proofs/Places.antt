@@ -6,14 +6,14 @@ use Rattle.std.specs.Prelude.{slice_get}
 use Rattle.std.specs.List.{AllByRecursion}
 use Rattle.isa.specs.Programs.{Program}
 use Rattle.inorder.specs.Tenants.{on_path}
-use Rattle.inorder.specs.Unit.{Sizes, UpdateUnit, front_pc, how_many, next_station, recent}
+use Rattle.inorder.specs.Unit.{Sizes, UpdateUnit, front_half, front_pc, half_after, how_many, next_station, recent}
 use Rattle.inorder.proofs.Stations.{Stands as StandsRight}
-use Rattle.front.specs.declared.record.Record.{Record}
+use Rattle.front.specs.declared.path.record.Record.{Record}
 use Rattle.front.specs.Knows.{Stands, whats}
-use Rattle.front.specs.Path.{last_of, next_place, pc_after, pc_behind, place_after}
+use Rattle.front.specs.Path.{half_behind, half_behind_last, last_of, next_place, pc_after, pc_behind, place_after}
 use Rattle.front.specs.Trail.{Note, trail}
 use Rattle.front.proofs.Lists.{Last, last_cases, whats_append, whats_length}
-use Rattle.front.proofs.Trails.{ArePlacedFrom, last_on, none_on, pc_none, pc_on, pc_past, placed_rest, trail_length, trail_placed}
+use Rattle.front.proofs.Trails.{ArePlacedFrom, half_none, half_on, half_past, last_on, none_on, pc_none, pc_on, pc_past, placed_rest, trail_length, trail_placed}
 
 -- numbers that differ by less than n, and at all, differ modulo n
 apart : (a d n : ℕ) → 0 < d → d < n → (a + d) % n ≢ a % n
@@ -87,6 +87,16 @@ module _ (P : Program) (C : Sizes) (U : UpdateUnit) (records : List Record) (bas
       (λ (l : Last k.notes).
       let o = last_on P U.tenants (k.gone ++ l.front) l.one (last_of_whole l) in
       ap front_pc o.split ∙ (pc_past o.ys (o.tenant ∷ o.ts) o.off ∙ (pc_on o.tenant o.ts o.on ∙ (ap (λ z. z.what.next) (sym o.is) ∙ sym (ap pc_after (last_record l))))))
+      (last_cases k.notes)
+
+  -- the half that comes next
+  pub known_half : front_half P U.tenants ≡ half_behind records
+  known_half = ⊎_elim
+      (λ e. half_none P U.tenants (none_on P U.tenants (no_path e)) ∙ sym (ap half_behind_last (no_record e)))
+      (λ (l : Last k.notes).
+      let o = last_on P U.tenants (k.gone ++ l.front) l.one (last_of_whole l) in
+      ap (front_half P) o.split ∙ (half_past P o.ys (o.tenant ∷ o.ts) o.off ∙ (half_on P o.tenant o.ts o.on
+      ∙ (ap (λ z. half_after z.what.first) (sym o.is) ∙ sym (ap half_behind_last (last_record l))))))
       (last_cases k.notes)
 
   -- the next tenant's station

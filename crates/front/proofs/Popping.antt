@@ -1,6 +1,6 @@
 -- The youngest record, and the others.
 use Rattle.std.proofs.Common.{◌≡◌, ℕ, suc, ◌-◌, ◌<◌, List, [], ◌∷◌, ◌++◌, length, take, refl, sym, ap, ◌∙◌, arith}
-use Rattle.front.specs.declared.record.Record.{Record}
+use Rattle.front.specs.declared.path.record.Record.{Record}
 
 pub record Popped (xs : List Record) : Type 0 where
   pub rest : List Record

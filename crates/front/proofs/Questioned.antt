@@ -13,8 +13,11 @@ use Rattle.station.specs.declared.answers.Supply.{Supply}
 use Rattle.station.specs.declared.answers.Supply.TheVariants.{From, Known}
 use Rattle.station.specs.Asking.{IsQuestion}
 use Rattle.station.specs.Letting.{supply_of}
-use Rattle.front.specs.declared.record.Record.{Record}
+use Rattle.front.specs.declared.path.record.Record.{Record}
 use Rattle.front.specs.Knows.{Knows}
+use Rattle.front.specs.CreateTable.{HasTable}
+use Rattle.front.specs.declared.path.counted.Table.{Table}
+use Rattle.front.proofs.Tables.{question_leaves_table, table_stable}
 use Rattle.front.specs.Questions.{Asks, MayAskFor}
 use Rattle.front.specs.Turns.{IsAskedFor}
 use Rattle.front.proofs.Named.{one_named}
@@ -35,6 +38,7 @@ module _ (P : Program) (C : Sizes) where
     pub asks : IsAskedFor r k (supply_of s) events
     pub adds : Adds P C front old new events
     pub knows : (records : List Record) (base : List ℕ) → Knows P C (unit_of P C old) records base → Knows P C (unit_of P C new) records base
+    pub table : (T : Table) → HasTable P (unit_of P C old) T → HasTable P (unit_of P C new) T
 
   pub later : (old new : List Entry) (es : List Event) → Adds P C front old new es → (r station tag : ℕ) → IsTenant (unit_of P C old) r station tag IsAny → IsTenant (unit_of P C new) r station tag IsAny
   later old new es a r station tag i =
@@ -46,6 +50,7 @@ module _ (P : Program) (C : Sizes) where
     asks = refl;
     adds = subst (λ h. Adds P C front old h []) (sym e) (record { begins = record { more = []; is = refl }; legal = legal; mine = refl });
     knows = λ records base x. subst (λ h. Knows P C (unit_of P C h) records base) (sym e) x;
+    table = λ T x. subst (λ h. HasTable P (unit_of P C h) T) (sym e) x;
   }
   has_asked old new legal r station tag k (From a g) i w =
       let now = later old new w.events w.adds r station tag i in
@@ -55,6 +60,7 @@ module _ (P : Program) (C : Sizes) where
         asks = subst (λ z. IsQuestion z k w.events) same w.question;
         adds = w.adds;
         knows = λ records base x. stays_under P C (λ U. Knows P C U records base) (knows_stable P C records base) w.events (question_leaves P C records base w.r k w.events w.question) old new w.adds x;
+        table = λ T x. stays_under P C (λ U. HasTable P U T) (table_stable P C T) w.events (question_leaves_table P C T w.r k w.events w.question) old new w.adds x;
       }
 
   -- the question for source 1 leaves source 2

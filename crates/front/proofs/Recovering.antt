@@ -1,5 +1,5 @@
 -- The steps of a recovery, with what others add between them.
-use Rattle.std.proofs.Common.{◌≡◌, ◌≢◌, ℕ, ◌<◌, List, [], ◌∷◌, ◌++◌, length, Some, sym, ap, ◌∙◌, subst, ⊎_elim, arith, length-append, append_assoc}
+use Rattle.std.proofs.Common.{◌≡◌, ◌≢◌, ℕ, refl, ◌<◌, List, [], ◌∷◌, ◌++◌, length, Some, sym, ap, ◌∙◌, subst, ⊎_elim, arith, length-append, append_assoc}
 use Rattle.std.specs.List.{AllByRecursion}
 use Rattle.std.specs.Prelude.{slice_get}
 use Rattle.isa.specs.Programs.{Program}
@@ -12,7 +12,7 @@ use Rattle.inorder.specs.History.{Adds, IsLegal, entry, front, unit_of}
 use Rattle.inorder.specs.Callers.{CanMend, CanSquash, IsMissing}
 use Rattle.inorder.specs.Legal.{Allowed, applied}
 use Rattle.inorder.specs.Replies.{Has}
-use Rattle.inorder.specs.Tenants.{Tenant}
+use Rattle.inorder.specs.Tenants.{Miss, Tenant}
 use Rattle.inorder.specs.Unit.{Sizes, UpdateUnit, at}
 use Rattle.inorder.proofs.Ends.{miss_stays}
 use Rattle.inorder.proofs.Histories.{unit_sound}
@@ -21,11 +21,14 @@ use Rattle.inorder.proofs.Positions.{at_below}
 use Rattle.inorder.proofs.Sound.{IsSound}
 use Rattle.ruu_words.specs.Kinds.{IsAny, IsTenant}
 use Rattle.ruu_words.proofs.Stays.{any_stays}
-use Rattle.front.specs.declared.record.Record.{Record}
-use Rattle.front.specs.Knows.{Knows, whats}
-use Rattle.front.specs.Trail.{Note, record_of}
-use Rattle.front.proofs.CutKnown.{acted, at_last, can_mend, can_squash, mend_known, squash_known}
-use Rattle.front.proofs.Cuts.{both_same, front_same}
+use Rattle.front.specs.declared.path.record.Record.{Record}
+use Rattle.front.specs.Knows.{IsNewest, Knows, whats}
+use Rattle.front.specs.CreateTable.{HasTable, IsRestored}
+use Rattle.front.specs.declared.path.counted.Table.{Table}
+use Rattle.front.proofs.Tables.{table_cut, table_mended, table_stable}
+use Rattle.front.specs.Trail.{Note, record_of, trail}
+use Rattle.front.proofs.CutKnown.{acted, at_last, can_mend, can_squash, mend_known, mend_trail, mended_note, squash_known, squash_trail}
+use Rattle.front.proofs.Cuts.{both_same}
 use Rattle.front.proofs.Lists.{Last, all_map, all_rest, last_cases, whats_append}
 use Rattle.front.proofs.Named.{all_get, all_whats, at_past, one_named}
 use Rattle.front.proofs.Splitting.{IsStable, event_legal, last_event, stays, stays_behind}
@@ -116,11 +119,13 @@ module _ (P : Program) (C : Sizes) (h : List Entry) (legal : IsLegal P C h) (res
   may_mend next p m = can_mend P C U ok (k.gone ++ fs) x last_of_path next (last_missing next p m)
 
   -- where a squash or a mending acts
-  pub acts_at : (p : ℕ) (u : Tenant) → at U.tenants p ≡ Some u → u.standing ≡ Rattle.inorder.specs.Tenants.Live → AllByRecursion Rattle.inorder.specs.Tenants.IsNotLive (Rattle.inorder.specs.Unit.younger U.tenants p) → p ≡ x.at
+  pub acts_at : (p : ℕ) (u : Tenant) → at U.tenants p ≡ Some u → u.standing ≡ Rattle.inorder.specs.Tenants.Live
+      → AllByRecursion Rattle.inorder.specs.Tenants.IsNotLive (Rattle.inorder.specs.Unit.younger U.tenants p) → p ≡ x.at
   acts_at p u is live youngest = let o = last_of_path in (acted P C U ok (k.gone ++ fs) x o p u is live youngest).position ∙ ap (λ (z : Note). z.at) (sym o.is)
 
 -- an act elsewhere
-elsewhere : (P : Program) (C : Sizes) (U : UpdateUnit) (by p q : ℕ) (act : Act) (x : Record) (next : ℕ) → (a : Allowed P C U by (On p act)) → q ≢ p → IsMissOf q x next U → IsMissOf q x next (applied P C U by (On p act))
+elsewhere : (P : Program) (C : Sizes) (U : UpdateUnit) (by p q : ℕ) (act : Act) (x : Record) (next : ℕ) → (a : Allowed P C U by (On p act)) → q ≢ p → IsMissOf q x next U
+    → IsMissOf q x next (applied P C U by (On p act))
 elsewhere P C U by p q act x next a ne m = ⊎_elim
     (λ (z : IsActed P U.tenants by p act a.tenant q m.tenant). absurd (ne z.position))
     (λ (z : IsLeft P U.tenants by p act q m.tenant). record { tenant = m.tenant; is = z.now; station_is = m.station_is; tag_is = m.tag_is; fact = m.fact })
@@ -135,7 +140,8 @@ module _ (P : Program) (C : Sizes) (old new : List Entry) (rest : List Record) (
     pub knows : Knows P C (unit_of P C new) rest base
     pub miss : IsMissOf q r next (unit_of P C new)
 
-  pub squash_step : (p : ℕ) → Adds P C front old new (Does (On p Squash) ∷ []) → (i : ℕ) (r : Record) (next q : ℕ) → slice_get rest i ≡ Some r → IsMissOf q r next (unit_of P C old) → SquashedOne i r next q
+  pub squash_step : (p : ℕ) → Adds P C front old new (Does (On p Squash) ∷ []) → (i : ℕ) (r : Record) (next q : ℕ) → slice_get rest i ≡ Some r → IsMissOf q r next (unit_of P C old)
+      → SquashedOne i r next q
   squash_step p adds i r next q e m =
       let l = last_event P C front old new (Does (On p Squash)) [] adds in
       let legal = event_legal P C old new (Does (On p Squash)) [] l in
@@ -154,7 +160,65 @@ module _ (P : Program) (C : Sizes) (old new : List Entry) (rest : List Record) (
         miss = stays_behind P C (IsMissOf q r next) (missing_stable P C q r next) old new (Does (On p Squash)) [] l (elsewhere P C (unit_of P C l.point) front p q Squash r next a ne missing);
       }
 
+  -- the station of the one that was squashed
+  its_station : (p : ℕ) → (adds : Adds P C front old new (Does (On p Squash) ∷ [])) → (station tag : ℕ) → IsTenant (unit_of P C new) p station tag IsAny
+      → (n : Note) → IsNoted P (unit_of P C (last_event P C front old new (Does (On p Squash)) [] adds).point).tenants n → p ≡ n.at → station ≡ n.what.station
+  its_station p adds station tag named n noted at_p =
+      let l = last_event P C front old new (Does (On p Squash)) [] adds in
+      let point_named : IsTenant (unit_of P C l.point) p n.what.station n.what.tag IsAny =
+      subst (λ z. IsTenant (unit_of P C l.point) z n.what.station n.what.tag IsAny) (sym at_p)
+      (record { tenant = noted.tenant; is = noted.is; station_is = ap (λ (z : Record). z.station) noted.what; tag_is = ap (λ (z : Record). z.tag) noted.what; fact = tt }) in
+      let long : (l.after ++ entry front (Does (On p Squash)) ∷ []) ++ l.point ≡ l.after ++ entry front (Does (On p Squash)) ∷ l.point = append_assoc l.after (entry front (Does (On p Squash)) ∷ []) l.point in
+      let later = any_stays P C p n.what.station n.what.tag (l.after ++ entry front (Does (On p Squash)) ∷ []) l.point (subst (IsLegal P C) (sym long) l.legal) point_named in
+      let here : IsTenant (unit_of P C new) p n.what.station n.what.tag IsAny = subst (λ z. IsTenant (unit_of P C z) p n.what.station n.what.tag IsAny) (long ∙ sym l.is) later in
+      sym named.station_is ∙ (ap (λ (z : Tenant). z.station) (same_tenant named.tenant here.tenant (sym named.is ∙ here.is)) ∙ here.station_is)
+
+  -- its table
+  pub squash_table : (p : ℕ) → Adds P C front old new (Does (On p Squash) ∷ []) → (station tag : ℕ) → IsTenant (unit_of P C new) p station tag IsAny → (T T' : Table)
+      → HasTable P (unit_of P C old) T → IsRestored T T' station → HasTable P (unit_of P C new) T'
+  squash_table p adds station tag named T T' table restored =
+      let l = last_event P C front old new (Does (On p Squash)) [] adds in
+      let legal = event_legal P C old new (Does (On p Squash)) [] l in
+      let a = legal.1.1 in
+      let there = stays P C (λ U. Knows P C U (rest ++ one ∷ []) base) (knows_stable P C (rest ++ one ∷ []) base) old l.point l.before k in
+      let ok = unit_sound P C l.point legal.0 in
+      let last = youngest_note P C l.point legal.0 rest one base there in
+      let path : List Note = there.gone ++ last.front in
+      let whole : trail P (unit_of P C l.point).tenants ≡ path ++ last.one ∷ [] = there.path ∙ (ap (λ z. there.gone ++ z) last.is ∙ sym (append_assoc there.gone last.front (last.one ∷ []))) in
+      let noted : IsNoted P (unit_of P C l.point).tenants last.one = (all_rest (IsNoted P (unit_of P C l.point).tenants) path (last.one ∷ []) (subst (AllByRecursion (IsNoted P (unit_of P C l.point).tenants)) whole (trail_noted P (unit_of P C l.point).tenants))).0 in
+      let newest : IsNewest (unit_of P C l.point) last.one = (all_rest (IsNewest (unit_of P C l.point)) last.front (last.one ∷ []) (subst (AllByRecursion (IsNewest (unit_of P C l.point))) last.is there.newest)).0 in
+      let o = last_of_path P C l.point legal.0 rest one base there in
+      let this = acted P C (unit_of P C l.point) ok path last.one o p a.tenant a.is a.may.live a.may.youngest in
+      let at_p = acts_at P C l.point legal.0 rest one base there p a.tenant a.is a.may.live a.may.youngest in
+      let cut = squash_trail P C (unit_of P C l.point) ok path last.one o front p a this in
+      let same = its_station p adds station tag named last.one noted at_p in
+      let before = stays P C (λ U. HasTable P U T) (table_stable P C T) old l.point l.before table in
+      let behind = table_cut P C (unit_of P C l.point) front p Squash a ok T T' before path last.one whole cut newest noted (subst (IsRestored T T') same restored) in
+      stays_behind P C (λ U. HasTable P U T') (table_stable P C T') old new (Does (On p Squash)) [] l behind
+
   -- behind a mending
+  pub mend_table : (p : ℕ) → Adds P C front old new (Does (On p Mend) ∷ []) → (next q : ℕ) → IsMissOf q one next (unit_of P C old) → (T : Table) → HasTable P (unit_of P C old) T
+      → HasTable P (unit_of P C new) T
+  mend_table p adds next q m T table =
+      let l = last_event P C front old new (Does (On p Mend)) [] adds in
+      let legal = event_legal P C old new (Does (On p Mend)) [] l in
+      let a = legal.1.1 in
+      let there = stays P C (λ U. Knows P C U (rest ++ one ∷ []) base) (knows_stable P C (rest ++ one ∷ []) base) old l.point l.before k in
+      let missing : IsMissOf q one next (unit_of P C l.point) = stays P C (IsMissOf q one next) (missing_stable P C q one next) old l.point l.before m in
+      let ok = unit_sound P C l.point legal.0 in
+      let last = youngest_note P C l.point legal.0 rest one base there in
+      let its = last_missing P C l.point legal.0 rest one base there next q missing in
+      let path : List Note = there.gone ++ last.front in
+      let whole : trail P (unit_of P C l.point).tenants ≡ path ++ last.one ∷ [] = there.path ∙ (ap (λ z. there.gone ++ z) last.is ∙ sym (append_assoc there.gone last.front (last.one ∷ []))) in
+      let o = last_of_path P C l.point legal.0 rest one base there in
+      let this = acted P C (unit_of P C l.point) ok path last.one o p a.tenant a.is a.may.live a.may.youngest in
+      let fate : o.tenant.fate ≡ Miss next = ap (λ (z : Tenant). z.fate) (same_tenant o.tenant its.tenant (sym (at_last P C (unit_of P C l.point) ok path last.one o) ∙ its.is)) ∙ its.fact.fate in
+      let y : Note = mended_note P C (unit_of P C l.point) ok path last.one o next in
+      let on = mend_trail P C (unit_of P C l.point) ok path last.one o front p next a this fate in
+      let before = stays P C (λ U. HasTable P U T) (table_stable P C T) old l.point l.before table in
+      let behind = table_mended P C (unit_of P C l.point) front p Mend a ok T before path last.one y whole on refl refl refl refl in
+      stays_behind P C (λ U. HasTable P U T) (table_stable P C T) old new (Does (On p Mend)) [] l behind
+
   pub record MendedOne (p next : ℕ) : Type 0 where
     pub knows : Knows P C (unit_of P C new) (rest ++ record one { next = next } ∷ []) base
     pub named : IsTenant (unit_of P C new) p one.station one.tag IsAny

@@ -18,7 +18,7 @@ use Rattle.inorder.proofs.Positions.{not_eqb}
 use Rattle.inorder.proofs.Makers.{left_when_retired, stops_made}
 use Rattle.ruu_words.specs.Content.{HasValue}
 use Rattle.front.specs.declared.path.Path.{Path}
-use Rattle.front.specs.declared.record.Record.{Record}
+use Rattle.front.specs.declared.path.record.Record.{Record}
 use Rattle.front.specs.Creators.{creator_note, newest_note, position}
 use Rattle.front.specs.Fetching.{HasLeft, IsLeft, OldestLeft}
 use Rattle.front.specs.Knows.{IsGone, IsNewest, IsReady, IsReused, Knows, Stands, whats}
@@ -81,7 +81,7 @@ module _ (P : Program) (C : Sizes) (h : List Entry) (legal : IsLegal P C h) wher
       note_made writes =
           ap made_by noted.is ∙ (left_made n.at noted.tenant noted.is left its_left (λ z. writes (ap (λ (y : Record). y.destination) (sym noted.what) ∙ z)) ∙ ap (λ (y : Record). Some (made_of y left)) noted.what)
 
-      pub base_more : (r : ℕ) → r < 32 → value_of U.tenants (position (creator_note (k.gone ++ n ∷ []) r)) ≡ Some (slice_index (write base n.what.destination (made_of n.what left)) r)
+      pub base_more : (r : ℕ) → r < 34 → value_of U.tenants (position (creator_note (k.gone ++ n ∷ []) r)) ≡ Some (slice_index (write base n.what.destination (made_of n.what left)) r)
       base_more zero small = ap Some (sym (read_zero base n.what.destination (made_of n.what left) (sym (some_same 0 (slice_index base 0) (k.base_is 0 small)))))
       base_more (suc r) small = go (can_be_written (suc r)) refl (eqb n.what.destination (suc r)) refl
         where
@@ -92,7 +92,7 @@ module _ (P : Program) (C : Sizes) (h : List Entry) (legal : IsLegal P C h) wher
           other ne = k.base_is (suc r) small ∙ ap Some (sym (read_other base n.what.destination r (made_of n.what left) ne))
 
           go : (b : Bool) → can_be_written (suc r) ≡ b → (y : Bool) → eqb n.what.destination (suc r) ≡ y → value_of U.tenants (position (creator_note (k.gone ++ n ∷ []) (suc r))) ≡ Some (slice_index (write base n.what.destination (made_of n.what left)) (suc r))
-          go false f y g = absurd (true≢false (sym (le-leb (suc (suc r)) 32 (omega arith)) ∙ f))
+          go false f y g = absurd (true≢false (sym (le-leb (suc (suc r)) 34 (omega arith)) ∙ f))
           go true f true g =
               let same : n.what.destination ≡ suc r = eqb-true n.what.destination (suc r) g in
               let writes : n.what.destination ≢ 0 = λ z. absurd (omega (arith, same, z)) in

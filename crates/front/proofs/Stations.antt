@@ -24,7 +24,7 @@ use Rattle.ruu_words.specs.Kinds.{IsTenant}
 use Rattle.ruu_words.specs.States.{state_code}
 use Rattle.station.specs.declared.answers.Seen.{Seen}
 use Rattle.station.specs.Looking.{SeesStation}
-use Rattle.front.specs.declared.record.Record.{Record}
+use Rattle.front.specs.declared.path.record.Record.{Record}
 use Rattle.front.specs.Fetching.{HasLeft}
 use Rattle.front.specs.Knows.{IsGone, IsNewest, IsReused, Knows}
 use Rattle.front.specs.Trail.{Note, trail}

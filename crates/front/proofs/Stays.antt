@@ -1,7 +1,7 @@
 -- What the front knows stays true under the steps of others, and under links and deliveries of its own.
 use Rattle.std.proofs.Common.{◌≡◌, ℕ, ◌%◌, List, length, sym, ap, ◌∙◌, subst, inl, inr, ⊎_elim}
 use Rattle.std.specs.Prelude.{slice_index, is_none}
-use Rattle.isa.specs.Instruction.{destination, fixed_next, kind}
+use Rattle.isa.specs.Instruction.{destination, fixed_next, is_first_half, kind}
 use Rattle.isa.specs.Programs.{Program, instr_of}
 use Rattle.inorder.specs.declared.history.Act.{Act}
 use Rattle.inorder.specs.declared.history.Act.TheVariants.{Claim, Deliver, Finish, Link, Load, Mend, Retire, Squash}
@@ -16,7 +16,7 @@ use Rattle.inorder.proofs.Kept.{link_grows, parts}
 use Rattle.inorder.proofs.Letting.{IsBesides, besides_grows}
 use Rattle.inorder.proofs.Moves.{changed_goes}
 use Rattle.inorder.proofs.Sound.{IsSound, IsSoundAt}
-use Rattle.front.specs.declared.record.Record.{Record}
+use Rattle.front.specs.declared.path.record.Record.{Record}
 use Rattle.front.specs.Creators.{creator_note, position}
 use Rattle.front.specs.Knows.{IsGone, IsNewest, IsReady, IsReused, Knows, Stands}
 use Rattle.front.specs.Trail.{Note, is_link, record_of, trail}
@@ -57,16 +57,17 @@ quiet_grows P by Squash ys t ts b m q = absurd b
 quiet_grows P by Mend ys t ts b m q = absurd b
 
 -- what the front keeps of a tenant
-pub record_same : (P : Program) (t t' : Tenant) → t'.station ≡ t.station → t'.tag ≡ t.tag → t'.pc ≡ t.pc → t'.next ≡ t.next → t'.index ≡ t.index → record_of P t' ≡ record_of P t
-record_same P t t' station tag pc next index = λ i. record {
+pub record_same : (P : Program) (t t' : Tenant) → t'.station ≡ t.station → t'.tag ≡ t.tag → t'.pc ≡ t.pc → t'.next ≡ t.next → t'.index ≡ t.index → t'.half ≡ t.half → record_of P t' ≡ record_of P t
+record_same P t t' station tag pc next index half = λ i. record {
   station = station i;
   tag = tag i;
   pc = pc i;
   next = next i;
-  destination = destination (instr_of P (index i));
+  destination = destination (instr_of P (index i)) (half i);
   links = is_link (kind (instr_of P (index i)).op);
+  first = is_first_half (instr_of P (index i)).op (half i);
   access = is_access (kind (instr_of P (index i)).op);
-  guessed = is_none (fixed_next (instr_of P (index i)) (pc i));
+  guessed = is_none (fixed_next (instr_of P (index i)) (half i) (pc i));
 }
 
 module _ (P : Program) (C : Sizes) (U : UpdateUnit) (by : ℕ) where
@@ -82,7 +83,7 @@ module _ (P : Program) (C : Sizes) (U : UpdateUnit) (by : ℕ) where
       let g = quiet_grows P by act ys t ts b a.may own in
       let m = changed_goes P by p act ys t ts a.may own in
       ap (trail P) (parts P us by p act t a.is)
-      ∙ (trail_same P t (changed P by act t ts) ts ys (record_same P t (changed P by act t ts) m.station m.tag m.pc g.next m.index) g.path
+      ∙ (trail_same P t (changed P by act t ts) ts ys (record_same P t (changed P by act t ts) m.station m.tag m.pc g.next m.index m.half) g.path
       ∙ sym (ap (trail P) split))
 
   pub place_stays : (s : Step) → IsQuiet s → Allowed P C U by s → IsSound P U.tenants → next_station C (recent (applied P C U by s)) ≡ next_station C (recent U)

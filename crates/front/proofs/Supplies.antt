@@ -21,7 +21,7 @@ use Rattle.inorder.proofs.Positions.{at_below, younger_from}
 use Rattle.inorder.proofs.Sound.{FateBy, IsSound}
 use Rattle.station.specs.declared.answers.Supply.TheVariants.{From as GivenFrom, Known as GivenKnown}
 use Rattle.station.specs.Letting.{supply_of}
-use Rattle.front.specs.declared.record.Record.{Record}
+use Rattle.front.specs.declared.path.record.Record.{Record}
 use Rattle.front.specs.Creators.{creator_note, position, supply_by, supply_in}
 use Rattle.front.specs.Knows.{IsNewest, IsReady}
 use Rattle.front.specs.Trail.{Note, is_link}
@@ -41,7 +41,7 @@ links_made o pc pr nx made a b st (Miss x) na nh h = h.0
 links_made o pc pr nx made a b st (Stopped x) na nh h = absurd (nh x h.1)
 
 links_go : (P : Program) (t : Tenant) → kind_of P t ≡ Links → (x : ℕ) × (computed P t ≡ Next x)
-links_go P t e = (_, ap (λ k. outcome_by k (instr P t) t.pc (operand_value t.first) (operand_value t.second) (length P.bytes)) e)
+links_go P t e = (_, ap (λ k. outcome_by k (instr P t) t.half t.pc (operand_value t.first) (operand_value t.second) (length P.bytes)) e)
 
 pub is_links : (k : Kind) → is_link k ≡ true → k ≡ Links
 is_links Computes e = absurd (cc e)
@@ -82,11 +82,11 @@ module _ (P : Program) (C : Sizes) (h : List Entry) (legal : IsLegal P C h) (rec
       all_two (λ n. IsNoted P U.tenants n × IsNewest U n) (λ n. (n.what.station ≢ next_station C (recent U)) × (n.what.station < C.ring)) (IsGiver P C U) (λ n a b. record { noted = a.0; newest = a.1; other = b.0; small = b.1 }) s.notes both apart
 
   -- a source of register r
-  module _ (r : ℕ) (small : r < 32) where
+  module _ (r : ℕ) (small : r < 34) where
     whole : creator P U.tenants r ≡ position (creator_note (k.stands.gone ++ k.stands.notes) r)
     whole = creator_is P U.tenants r ∙ ap (λ z. position (creator_note z r)) k.stands.path
 
-    found : Creates (IsGiver P C U) k.stands.gone records r (creator_note (k.stands.gone ++ k.stands.notes) r)
+    pub found : Creates (IsGiver P C U) k.stands.gone records r (creator_note (k.stands.gone ++ k.stands.notes) r)
     found = subst (λ z. Creates (IsGiver P C U) k.stands.gone z r (creator_note (k.stands.gone ++ k.stands.notes) r)) (sym k.stands.are) (creates (IsGiver P C U) k.stands.gone k.stands.notes r givers)
 
     kept_by : (n : Note) → creator P U.tenants r ≡ Some n.at → IsGiver P C U n → MaySupply P U (next_station C (recent U)) (creator P U.tenants r) (supply_of (supply_by (slice_index base r) (Some n.what)))

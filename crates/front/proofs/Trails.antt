@@ -1,9 +1,10 @@
 -- The path of a unit as a list.
 use Rattle.std.proofs.Common.{◌≡◌, ℕ, suc, ◌+◌, ◌%◌, Bool, true, false, cond, List, [], ◌∷◌, ◌++◌, length, Some, refl, sym, ap, ◌∙◌, subst, ⊎_elim, arith, length-append, true≢false}
 use Rattle.std.specs.List.{AllByRecursion}
+use Rattle.isa.specs.declared.op.Half.TheVariants.{Low}
 use Rattle.isa.specs.Programs.{Program, text_start}
-use Rattle.inorder.specs.Tenants.{Tenant, on_path}
-use Rattle.inorder.specs.Unit.{Sizes, at, front_pc, how_many}
+use Rattle.inorder.specs.Tenants.{Tenant, is_first, on_path}
+use Rattle.inorder.specs.Unit.{Sizes, at, front_half, front_pc, half_after, how_many}
 use Rattle.inorder.proofs.Creators.{at_cases}
 use Rattle.inorder.proofs.Grows.{same_length}
 use Rattle.inorder.proofs.Positions.{at_more, at_new}
@@ -146,3 +147,16 @@ pc_on t ts e = ap (λ b. cond b t.next (front_pc ts)) e
 pub pc_none : (ts : List Tenant) → AllByRecursion IsOff ts → front_pc ts ≡ text_start
 pc_none [] off = refl
 pc_none (t ∷ ts) off = ap (λ b. cond b t.next (front_pc ts)) off.0 ∙ pc_none ts off.1
+
+-- the same of the half that comes next
+pub half_past : (P : Program) (ys ts : List Tenant) → AllByRecursion IsOff ys → front_half P (ys ++ ts) ≡ front_half P ts
+half_past P [] ts off = refl
+half_past P (y ∷ ys) ts off =
+    ap (λ b. cond b (half_after (is_first P y)) (front_half P (ys ++ ts))) off.0 ∙ half_past P ys ts off.1
+
+pub half_on : (P : Program) (t : Tenant) (ts : List Tenant) → on_path t ≡ true → front_half P (t ∷ ts) ≡ half_after (is_first P t)
+half_on P t ts e = ap (λ b. cond b (half_after (is_first P t)) (front_half P ts)) e
+
+pub half_none : (P : Program) (ts : List Tenant) → AllByRecursion IsOff ts → front_half P ts ≡ Low
+half_none P [] off = refl
+half_none P (t ∷ ts) off = ap (λ b. cond b (half_after (is_first P t)) (front_half P ts)) off.0 ∙ half_none P ts off.1

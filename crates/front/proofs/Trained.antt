@@ -7,20 +7,20 @@ use Rattle.isa.specs.Programs.{Program}
 use Rattle.isa.specs.declared.op.Kind.{Kind}
 use Rattle.isa.specs.declared.op.Kind.TheVariants.{Computes, Jumps, Links, Loads, Stores}
 use Rattle.isa.specs.declared.stop.Outcome.{Outcome}
-use Rattle.isa.specs.declared.stop.Outcome.TheVariants.{Address, Next, Stop as Stops, Value}
+use Rattle.isa.specs.declared.stop.Outcome.TheVariants.{Address, Next, Pair, Stop as Stops, Value}
 use Rattle.inorder.specs.declared.history.Entry.{Entry}
 use Rattle.inorder.specs.History.{IsLegal, unit_of}
 use Rattle.inorder.specs.Callers.{IsLastAt, is_retired, stands_retired}
 use Rattle.inorder.specs.StationWords.{last_of}
 use Rattle.inorder.specs.Steps.{CanRetire}
-use Rattle.inorder.specs.Tenants.{Addr, Busy, Done, Fate, Live, Miss, Open, Retired, Squashed, Standing, Stopped, Tenant, computed, computed_next, instr, kind_of, next_by, operand_value, stands_on_path}
+use Rattle.inorder.specs.Tenants.{behind, Addr, Busy, Done, Fate, Live, Miss, Open, Retired, Squashed, Standing, Stopped, Tenant, computed, computed_next, instr, kind_of, next_by, operand_value, stands_on_path}
 use Rattle.inorder.specs.Unit.{Sizes, UpdateUnit, at, next_station, older, recent, younger}
 use Rattle.inorder.proofs.Basics.{split_at}
 use Rattle.inorder.proofs.Fated.{follows_from}
 use Rattle.inorder.proofs.Grows.{sound_mid}
 use Rattle.inorder.proofs.Histories.{unit_sound}
 use Rattle.inorder.proofs.Sound.{GoesOn, IsSound, IsSoundAt}
-use Rattle.front.specs.declared.record.Record.{Record}
+use Rattle.front.specs.declared.path.record.Record.{Record}
 use Rattle.front.specs.Fetching.{IsLeft}
 use Rattle.front.specs.Knows.{IsNewest, IsReused, Knows}
 use Rattle.front.specs.Training.{IsTold, ToldIf}
@@ -36,36 +36,29 @@ same_tenant t u e = cc e
 
 -- Where a tenant that has retired went on
 
-plain_next : (k : Kind) (t : Tenant) (o : Outcome) → GoesOn k t.pc t.next → k ≢ Jumps → k ≢ Links → ((x : ℕ) → o ≢ Next x) → next_by t.pc o ≡ t.next
-plain_next Computes t o g a b n = plain o n ∙ sym g
+plain_next : (k : Kind) (after next : ℕ) (o : Outcome) → GoesOn k after next → k ≢ Jumps → k ≢ Links →
+    ((x : ℕ) → o ≢ Next x) → next_by after o ≡ next
+plain_next k after next o g a b n = plain o n ∙ sym (goes k g a b)
   where
-    plain : (o : Outcome) → ((x : ℕ) → o ≢ Next x) → next_by t.pc o ≡ pc_plus_4 t.pc
+    plain : (o : Outcome) → ((x : ℕ) → o ≢ Next x) → next_by after o ≡ after
     plain (Value v) n = refl
+    plain (Pair l h) n = refl
     plain (Next x) n = absurd (n x refl)
     plain (Address x) n = refl
     plain (Stops c) n = refl
-plain_next Jumps t o g a b n = absurd (a refl)
-plain_next Links t o g a b n = absurd (b refl)
-plain_next Loads t o g a b n = plain o n ∙ sym g
-  where
-    plain : (o : Outcome) → ((x : ℕ) → o ≢ Next x) → next_by t.pc o ≡ pc_plus_4 t.pc
-    plain (Value v) n = refl
-    plain (Next x) n = absurd (n x refl)
-    plain (Address x) n = refl
-    plain (Stops c) n = refl
-plain_next Stores t o g a b n = plain o n ∙ sym g
-  where
-    plain : (o : Outcome) → ((x : ℕ) → o ≢ Next x) → next_by t.pc o ≡ pc_plus_4 t.pc
-    plain (Value v) n = refl
-    plain (Next x) n = absurd (n x refl)
-    plain (Address x) n = refl
-    plain (Stops c) n = refl
+
+    goes : (k : Kind) → GoesOn k after next → k ≢ Jumps → k ≢ Links → next ≡ after
+    goes Computes g a b = g
+    goes Jumps g a b = absurd (a refl)
+    goes Links g a b = absurd (b refl)
+    goes Loads g a b = g
+    goes Stores g a b = g
 
 jumps_go : (P : Program) (t : Tenant) → kind_of P t ≡ Jumps → (x : ℕ) × (computed P t ≡ Next x)
-jumps_go P t e = (_, ap (λ k. outcome_by k (instr P t) t.pc (operand_value t.first) (operand_value t.second) (length P.bytes)) e)
+jumps_go P t e = (_, ap (λ k. outcome_by k (instr P t) t.half t.pc (operand_value t.first) (operand_value t.second) (length P.bytes)) e)
 
 links_go : (P : Program) (t : Tenant) → kind_of P t ≡ Links → (x : ℕ) × (computed P t ≡ Next x)
-links_go P t e = (_, ap (λ k. outcome_by k (instr P t) t.pc (operand_value t.first) (operand_value t.second) (length P.bytes)) e)
+links_go P t e = (_, ap (λ k. outcome_by k (instr P t) t.half t.pc (operand_value t.first) (operand_value t.second) (length P.bytes)) e)
 
 no_jump : (P : Program) (t : Tenant) (o : Outcome) → computed P t ≡ o → ((x : ℕ) → o ≢ Next x) → kind_of P t ≢ Jumps
 no_jump P t o e n k = let g = jumps_go P t k in n g.0 (sym e ∙ g.1)
@@ -85,8 +78,8 @@ went_on P us ok p t is gone =
     let can = (s.placed (ap stands_on_path gone)).can gone in
     go t.fate refl (subst (CanRetire (kind_of P t) t.second.value) refl can) s
   where
-    away : (o : Outcome) → computed P t ≡ o → ((x : ℕ) → o ≢ Next x) → GoesOn (kind_of P t) t.pc t.next → computed_next P t ≡ t.next
-    away o e n g = ap (next_by t.pc) e ∙ plain_next (kind_of P t) t o g (no_jump P t o e n) (no_link P t o e n) n
+    away : (o : Outcome) → computed P t ≡ o → ((x : ℕ) → o ≢ Next x) → GoesOn (kind_of P t) (behind P t) t.next → computed_next P t ≡ t.next
+    away o e n g = ap (next_by (behind P t)) e ∙ plain_next (kind_of P t) (behind P t) t.next o g (no_jump P t o e n) (no_link P t o e n) n
 
     go : (f : Fate) → t.fate ≡ f → CanRetire (kind_of P t) t.second.value t.fate → IsSoundAt P (older us p) t → computed_next P t ≡ t.next
     go Open e c s = absurd (subst (CanRetire (kind_of P t) t.second.value) e c)

@@ -1,6 +1,7 @@
 -- A turn that lets: what the predictor was told and asked, and the whole.
 use Rattle.std.proofs.Common.{◌≡◌, ℕ, ◌<◌, ◌≤◌, List, [], ◌∷◌, ◌++◌, length, Option, Some, None, refl, sym, ap, ◌∙◌, subst, arith}
 use Rattle.std.proofs.lemmas.List.{append-nil}
+use Rattle.isa.specs.declared.op.Half.{Half}
 use Rattle.isa.specs.Instruction.{fixed_next}
 use Rattle.isa.specs.Programs.{Program}
 use Rattle.isa.specs.declared.instr.Instr.{Instr}
@@ -14,7 +15,7 @@ use Rattle.ruu_words.specs.Kinds.{IsTenant}
 use Rattle.station.proofs.Adding.{adds_on}
 use Rattle.front.specs.declared.fetch.Fetched.{Fetched}
 use Rattle.front.specs.declared.path.Path.{Path}
-use Rattle.front.specs.declared.record.Record.{Record}
+use Rattle.front.specs.declared.path.record.Record.{Record}
 use Rattle.front.specs.Fetching.{HasLeft, IsLeft, OldestLeft}
 use Rattle.front.specs.Knows.{Knows, whats}
 use Rattle.front.specs.Path.{Releases}
@@ -85,7 +86,7 @@ module _ {S : Type 0} (Predicts : S → ℕ → Instr → ℕ → S → Type 0) 
           subst (λ z. IsTold Learns P (last_of (recent (unit_of P C point)) z) s s') (sym d.lets.station_is)
           (oldest_told Learns P C point d.lets.before.legal records base knows_there n ns e place f.left left s s' its)
 
-  pub is_let : (left : Option Record) → Releases ring f.left path left path' → (s s' : S) → Guesses Predicts Learns left f.instr f.pc predicted s s' → IsLet Predicts Learns P C begin new s s' f.station tag f.pc
+  pub is_let : (left : Option Record) → Releases ring f.left path left path' → (s s' : S) → Guesses Predicts Learns left f.instr f.half f.pc predicted s s' → IsLet Predicts Learns P C begin new s s' f.station tag f.pc
   unfolding lets_since
   is_let left r s s' g = record {
     predicted = predicted;
@@ -93,6 +94,7 @@ module _ {S : Type 0} (Predicts : S → ℕ → Instr → ℕ → S → Type 0) 
     trains = record {
       middle = g.middle;
       told = told_there left r s g.middle g.told;
-      asked = subst (λ (i : Instr). IsAsked Predicts (fixed_next i f.pc) f.pc i predicted g.middle s') (sym d.instr) g.asked;
+      asked = subst (λ (z : Instr × Half). IsAsked Predicts (fixed_next z.0 z.1 f.pc) f.pc z.0 predicted g.middle s')
+          (λ i. (sym d.instr i, sym d.half i)) g.asked;
     };
   }

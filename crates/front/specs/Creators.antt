@@ -4,7 +4,7 @@ use Rattle.isa.specs.Instruction.{pc_plus_4}
 use Rattle.inorder.specs.Unit.{can_be_written}
 use Rattle.station.specs.declared.answers.Supply.{Supply}
 use Rattle.station.specs.declared.answers.Supply.TheVariants.{From, Known}
-use Rattle.front.specs.declared.record.Record.{Record}
+use Rattle.front.specs.declared.path.record.Record.{Record}
 use Rattle.front.specs.Trail.{Note}
 
 -- The last of these tenants, the oldest first, that writes a register, or else an older one

@@ -6,7 +6,7 @@ use Rattle.inorder.specs.Callers.{IsLastAt}
 use Rattle.inorder.specs.Replies.{Has}
 use Rattle.inorder.specs.Tenants.{Retired}
 use Rattle.inorder.specs.Unit.{Sizes, UpdateUnit, next_station, recent, value_of}
-use Rattle.front.specs.declared.record.Record.{Record}
+use Rattle.front.specs.declared.path.record.Record.{Record}
 use Rattle.front.specs.Creators.{creator_note, position}
 use Rattle.front.specs.Trail.{Note, trail}
 
@@ -40,8 +40,8 @@ pub record Stands (P : Program) (C : Sizes) (U : UpdateUnit) (records : List Rec
   pub retired : AllByRecursion (IsGone U) gone
   pub again : AllByRecursion Again gone
   pub newest : AllByRecursion (IsNewest U) notes
-  pub wide : length base ≡ 32
-  pub base_is : (r : ℕ) → r < 32 → value_of U.tenants (position (creator_note gone r)) ≡ Some (slice_index base r)
+  pub wide : length base ≡ 34
+  pub base_is : (r : ℕ) → r < 34 → value_of U.tenants (position (creator_note gone r)) ≡ Some (slice_index base r)
 
 -- Between two calls: the stations of all older tenants were let again
 abbrev pub Knows : Program → Sizes → UpdateUnit → List Record → List ℕ → Type 0

@@ -2,6 +2,8 @@ pub mod Trail
 pub mod Creators
 pub mod Path
 pub mod Knows
+pub mod CreateTable
+pub mod Creating
 pub mod Queues
 pub mod Fetching
 pub mod Training

@@ -1,12 +1,15 @@
 -- Where the path goes on.
 use Rattle.std.specs.Prelude.{◌≡◌, ℕ, ◌+◌, ◌%◌, ◌-◌, ◌<◌, ◌≤◌, List, [], ◌∷◌, ◌++◌, length, Option, Some, None, if◌then◌else◌, slice_get, is_none}
-use Rattle.isa.specs.Instruction.{destination, fixed_next, kind, pc_plus_4}
+use Rattle.isa.specs.Instruction.{destination, fixed_next, is_first_half, kind, pc_plus_4}
 use Rattle.isa.specs.Programs.{text_start}
+use Rattle.isa.specs.declared.op.Half.{Half}
+use Rattle.isa.specs.declared.op.Half.TheVariants.{Low}
 use Rattle.inorder.specs.Machine.{write}
 use Rattle.inorder.specs.Tenants.{is_access}
+use Rattle.inorder.specs.Unit.{half_after}
 use Rattle.front.specs.declared.fetch.Fetched.{Fetched}
 use Rattle.front.specs.declared.path.Path.{Path}
-use Rattle.front.specs.declared.record.Record.{Record}
+use Rattle.front.specs.declared.path.record.Record.{Record}
 use Rattle.front.specs.Trail.{is_link}
 
 abbrev pub last_of : List Record → Option Record
@@ -19,6 +22,14 @@ pc_after (Some x) = x.next
 -- The front pc, by the tenants whose stations were not let again
 abbrev pub pc_behind : List Record → ℕ
 pc_behind records = pc_after (last_of records)
+
+-- The half that comes next, by the same
+abbrev pub half_behind_last : Option Record → Half
+half_behind_last None = Low
+half_behind_last (Some x) = half_after x.first
+
+abbrev pub half_behind : List Record → Half
+half_behind records = half_behind_last (last_of records)
 
 abbrev pub place_after : ℕ → Option Record → ℕ
 place_after ring None = 0
@@ -50,10 +61,11 @@ record_for f tag predicted =
       tag = tag;
       pc = f.pc;
       next = predicted;
-      destination = destination f.instr;
+      destination = destination f.instr f.half;
       links = is_link (kind f.instr.op);
+      first = is_first_half f.instr.op f.half;
       access = is_access (kind f.instr.op);
-      guessed = is_none (fixed_next f.instr f.pc);
+      guessed = is_none (fixed_next f.instr f.half f.pc);
     }
 
 -- The youngest goes on elsewhere

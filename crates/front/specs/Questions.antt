@@ -6,7 +6,7 @@ use Rattle.inorder.specs.declared.history.Event.{Event}
 use Rattle.inorder.specs.declared.history.Source.{Source}
 use Rattle.inorder.specs.History.{Adds, front, unit_of}
 use Rattle.inorder.specs.Replies.{IsNamed}
-use Rattle.inorder.specs.Unit.{Sizes}
+use Rattle.inorder.specs.Unit.{Sizes, front_half}
 use Rattle.station.specs.declared.answers.Supply.{Supply}
 use Rattle.station.specs.declared.answers.Supply.TheVariants.{From, Known}
 use Rattle.station.specs.Asking.{IsQuestion, MayAsk}
@@ -35,3 +35,4 @@ Asks P C old new station tag k (From s g) = WasAsked P C old new station tag k
 pub record IsDispatched (P : Program) (C : Sizes) (old new : List Entry) (f : Fetched) (predicted tag : ℕ) : Type 0 where
   pub lets : LetsOut P C old new f.station tag f.pc predicted
   pub instr : instr_of P lets.index ≡ f.instr
+  pub half : front_half P (unit_of P C lets.point).tenants ≡ f.half

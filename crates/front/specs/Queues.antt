@@ -5,7 +5,7 @@ use Rattle.isa.specs.Programs.{Program}
 use Rattle.isa.specs.declared.instr.Instr.{Instr}
 use Rattle.inorder.specs.Tenants.{is_access, is_live_access}
 use Rattle.inorder.specs.Unit.{Sizes, UpdateUnit, how_many}
-use Rattle.front.specs.declared.record.Record.{Record}
+use Rattle.front.specs.declared.path.record.Record.{Record}
 
 -- How many of them reach memory
 abbrev pub accesses : List Record → ℕ

@@ -15,7 +15,7 @@ use Rattle.inorder.specs.Unit.{Sizes, UpdateUnit, at}
 use Rattle.ruu_words.specs.Kinds.{IsAny, IsTenant}
 use Rattle.front.specs.declared.answers.Recovery.{Recovery}
 use Rattle.front.specs.declared.answers.Recovery.TheVariants.{Mended, NoMiss}
-use Rattle.front.specs.declared.record.Record.{Record}
+use Rattle.front.specs.declared.path.record.Record.{Record}
 use Rattle.front.specs.declared.recovery.Missed.{Missed}
 
 abbrev pub squash_event : ℕ → Event
@@ -40,6 +40,11 @@ pub record IsMended (P : Program) (C : Sizes) (old new : List Entry) (station sq
 abbrev pub RecoverAnswers : Program → Sizes → List Entry → List Entry → Recovery → Type 0
 RecoverAnswers P C old new (Mended station squashed) = IsMended P C old new station squashed
 RecoverAnswers P C old new NoMiss = Adds P C front old new [] × HasNoMiss (unit_of P C old)
+
+-- How many were squashed
+abbrev pub squashed_by : Recovery → ℕ
+squashed_by (Mended station squashed) = squashed
+squashed_by NoMiss = 0
 
 -- The stages of a recovery
 

@@ -1,11 +1,12 @@
 -- What a let makes of the predictor.
 use Rattle.std.specs.Prelude.{◌≡◌, ℕ, Bool, true, false, ◌&&◌, Option, Some, None}
+use Rattle.isa.specs.declared.op.Half.{Half}
 use Rattle.isa.specs.Instruction.{fixed_next}
 use Rattle.isa.specs.Programs.{Program}
 use Rattle.isa.specs.declared.instr.Instr.{Instr}
 use Rattle.inorder.specs.Callers.{is_retired}
 use Rattle.inorder.specs.Tenants.{Tenant, computed_next}
-use Rattle.front.specs.declared.record.Record.{Record}
+use Rattle.front.specs.declared.path.record.Record.{Record}
 use Rattle.front.specs.Trail.{is_guessed}
 
 -- The predictor is told, or not
@@ -25,17 +26,17 @@ IsAsked Predicts None pc i predicted old new = Predicts old pc i predicted new
 IsAsked Predicts (Some x) pc i predicted old new = (predicted ≡ x) × (new ≡ old)
 
 -- The predictor is told of the station's last tenant, and then asked for the new one
-pub record Trains {S : Type 0} (Predicts : S → ℕ → Instr → ℕ → S → Type 0) (Learns : S → ℕ → ℕ → S → Type 0) (P : Program) (last : Option Tenant) (i : Instr) (pc predicted : ℕ) (old new : S) : Type 0 where
+pub record Trains {S : Type 0} (Predicts : S → ℕ → Instr → ℕ → S → Type 0) (Learns : S → ℕ → ℕ → S → Type 0) (P : Program) (last : Option Tenant) (i : Instr) (half : Half) (pc predicted : ℕ) (old new : S) : Type 0 where
   pub middle : S
   pub told : IsTold Learns P last old middle
-  pub asked : IsAsked Predicts (fixed_next i pc) pc i predicted middle new
+  pub asked : IsAsked Predicts (fixed_next i half pc) pc i predicted middle new
 
 -- The same, by what the front keeps of a tenant that leaves
 abbrev pub ToldOf : {S : Type 0} → (S → ℕ → ℕ → S → Type 0) → Option Record → S → S → Type 0
 ToldOf Learns None old new = new ≡ old
 ToldOf Learns (Some x) old new = ToldIf Learns x.guessed x.pc x.next old new
 
-pub record Guesses {S : Type 0} (Predicts : S → ℕ → Instr → ℕ → S → Type 0) (Learns : S → ℕ → ℕ → S → Type 0) (left : Option Record) (i : Instr) (pc predicted : ℕ) (old new : S) : Type 0 where
+pub record Guesses {S : Type 0} (Predicts : S → ℕ → Instr → ℕ → S → Type 0) (Learns : S → ℕ → ℕ → S → Type 0) (left : Option Record) (i : Instr) (half : Half) (pc predicted : ℕ) (old new : S) : Type 0 where
   pub middle : S
   pub told : ToldOf Learns left old middle
-  pub asked : IsAsked Predicts (fixed_next i pc) pc i predicted middle new
+  pub asked : IsAsked Predicts (fixed_next i half pc) pc i predicted middle new

@@ -13,7 +13,7 @@ use Rattle.inorder.specs.declared.history.Supply.TheVariants.{From, Known}
 use Rattle.inorder.specs.History.{Adds, StartsWith, entry, front, unit_of}
 use Rattle.inorder.specs.Replies.{HasNoInstr, IsFull, IsQueueFull, IsSpent}
 use Rattle.inorder.specs.StationWords.{last_of}
-use Rattle.inorder.specs.Unit.{Sizes, front_pc, next_station, next_tag, recent}
+use Rattle.inorder.specs.Unit.{Sizes, front_half, front_pc, next_station, next_tag, recent}
 use Rattle.station.specs.Asking.{IsQuestion}
 use Rattle.station.specs.Moments.{WasOnce}
 use Rattle.front.specs.declared.answers.Turn.{Turn}
@@ -82,7 +82,8 @@ pub record IsLet {S : Type 0} (Predicts : S → ℕ → Instr → ℕ → S → 
     (P : Program) (C : Sizes) (old new : List Entry) (before after : S) (station tag pc : ℕ) : Type 0 where
   pub predicted : ℕ
   pub lets : LetsOut P C old new station tag pc predicted
-  pub trains : Trains Predicts Learns P (last_of (recent (unit_of P C lets.point)) station) (instr_of P lets.index) pc predicted before after
+  pub trains : Trains Predicts Learns P (last_of (recent (unit_of P C lets.point)) station) (instr_of P lets.index)
+      (front_half P (unit_of P C lets.point).tenants) pc predicted before after
 
 abbrev pub TurnAnswers : {S : Type 0} → (S → ℕ → Instr → ℕ → S → Type 0) → (S → ℕ → ℕ → S → Type 0) → Program → Sizes → List Entry → List Entry → S → S → Turn → Type 0
 TurnAnswers Predicts Learns P C old new before after (HasLet station tag pc) =

@@ -15,6 +15,15 @@ pub enum Turn {
     Let { station: usize, tag: u32, pc: u32 },
 }
 
+/// Who creates a register.
+#[derive(Clone, Copy, Debug, PartialEq, Eq)]
+pub enum Made {
+    /// The tenant of this station and tag, whose station was not let again.
+    Made { station: usize, tag: u32 },
+    /// Nobody, or a tenant whose station was let again: its value.
+    Base(u32),
+}
+
 /// What a recovery answers.
 #[derive(Clone, Copy, Debug, PartialEq, Eq)]
 pub enum Recovery {

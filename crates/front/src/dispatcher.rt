@@ -1,19 +1,21 @@
 //! The front, as its callers see it.
-ghost use Rattle.std.specs.Prelude.{◌≡◌, ◌<◌, []};
+ghost use Rattle.std.specs.Prelude.{◌≡◌, ◌<◌, ◌*◌, []};
 ghost use Rattle.inorder.specs.History.{Adds, IsLegal, StartsWith, front};
-ghost use Rattle.front.specs.Fronts.{AddsNothing, IsUnused, KnowsPath, RecoversTo, TurnsTo};
+ghost use Rattle.front.specs.CreateTable.{IsTouched};
+ghost use Rattle.front.specs.Fronts.{AddsNothing, CreatorOf, IsUnused, KnowsPath, KnowsTable, RecoversTo, TurnsTo};
+ghost use Rattle.front.specs.Recoveries.{squashed_by};
 ghost use Rattle.front.specs.Turns.{TurnAnswers};
 ghost use Rattle.station.specs.Looking.{SeesStation};
 ghost use Rattle.station.specs.Seats.{IsSame};
 
-use crate::answers::{Recovery, Turn};
+use crate::answers::{Made, Recovery, Turn};
 use crate::dispatch::dispatch;
 use crate::fetch::fetch;
-use crate::path::Path;
+use crate::path::{Counted, Creators, Path};
 use crate::recovery::recover_on;
 use crate::training::guess;
-use isa::{Predictor, Program};
-use station::{Core, FrontSeat, Part, SeatOf, Seen, StationState};
+use isa::{Predictor, Program, Reg};
+use station::{Core, FrontSeat, Part, SeatOf, Seen, StationState, what_is_seen_is_legal};
 use std::marker::Model;
 
 /// The front of a core: it alone lets tenants, and squashes and mends. Its predictor is asked for the next pc of a
@@ -24,6 +26,7 @@ pub struct Front<'a, P: Predictor + Drop> {
     seat: FrontSeat,
     program: &'a Program,
     path: Path,
+    creators: Creators,
     predictor: P,
 }
 
@@ -32,9 +35,9 @@ impl<'a, P: Predictor + Drop> Model for Front<'a, P> {
 
     ghost Value = { TheFront P };
 
-    ghost view = { λ f. record { core = f.seat.core; seen = f.seat.seen; predictor = f.predictor } };
+    ghost view = { λ f. record { core = f.seat.core; seen = f.seat.seen; predictor = f.predictor; touched = f.creators.counted.touched } };
 
-    ghost invariant = { λ f. IsFront f.program.now f.seat f.path };
+    ghost invariant = { λ f. IsFront f.program.now f.seat f.path f.creators.counted };
 }
 
 // Lets the next instruction, if that can be let.
@@ -42,6 +45,7 @@ fn turn_on<P: Predictor>(
     core: &Core,
     seat: &mut FrontSeat,
     path: &mut Path,
+    creators: &mut Counted,
     program: &Program,
     predictor: &mut P,
 ) -> Turn
@@ -50,17 +54,20 @@ fn turn_on<P: Predictor>(
     requires legal { IsLegal core.now.program core.now.sizes seat.old.seen }
     requires program { program.now ≡ core.now.program }
     requires knows { KnowsPath core.now seat.old.seen path.old }
+    requires table { KnowsTable core.now seat.old.seen creators.old }
     ensures kept { IsSame seat.old seat.new }
     ensures reply { TurnAnswers P.Predicts P.Learns core.now.program core.now.sizes seat.old.seen seat.new.seen predictor.old predictor.new result }
     ensures knows { KnowsPath core.now seat.new.seen path.new }
+    ensures table { KnowsTable core.now seat.new.seen creators.new }
+    ensures touched { IsTouched 9 creators.old.touched creators.new.touched }
 {
     let next = match fetch(core, seat, path, program) {
         Ok(next) => next,
         Err(turn) => return turn,
     };
-    let left = path.release(core.ring(), next.left);
+    let left = path.release(creators, core.ring(), next.left);
     let predicted = guess(predictor, left, &next);
-    let tag = dispatch(core, seat, path, &next, predicted);
+    let tag = dispatch(core, seat, path, creators, &next, predicted);
     Turn::Let {
         station: next.station,
         tag,
@@ -70,20 +77,19 @@ fn turn_on<P: Predictor>(
 
 impl<'a, P: Predictor + Drop> Front<'a, P> {
     /// The front of a core, with its seat and its program.
-    pub fn new(core: &Core, mut seat: FrontSeat, program: &'a Program, predictor: P) -> Self
+    pub fn new(core: &Core, seat: FrontSeat, program: &'a Program, predictor: P) -> Self
         requires seat { IsUnused core.now seat }
         requires program { program.now ≡ core.now.program }
         ensures core { result.core ≡ core.now }
         ensures history { AddsNothing core.now seat.seen result.seen }
         ensures predictor { result.predictor ≡ predictor }
     {
-        // what a seat has seen is a legal history: each look says so
-        let ring = core.ring();
-        core.look(&mut seat, ring - 1);
+        what_is_seen_is_legal(&seat);
         Front {
             seat,
             program,
             path: Path::new(),
+            creators: Creators::new(),
             predictor,
         }
     }
@@ -93,11 +99,13 @@ impl<'a, P: Predictor + Drop> Front<'a, P> {
         requires { self.old.core ≡ core.now }
         ensures core { self.new.core ≡ core.now }
         ensures reply { TurnsTo P.Predicts P.Learns core.now self.old self.new result }
+        ensures touched { IsTouched 16 self.old.touched self.new.touched }
     {
         turn_on(
             core,
             &mut self.seat,
             &mut self.path,
+            &mut self.creators.counted,
             self.program,
             &mut self.predictor,
         )
@@ -108,9 +116,36 @@ impl<'a, P: Predictor + Drop> Front<'a, P> {
         requires { self.old.core ≡ core.now }
         ensures core { self.new.core ≡ core.now }
         ensures reply { RecoversTo core.now self.old self.new result }
+        ensures touched { IsTouched (4 * squashed_by result) self.old.touched self.new.touched }
         ensures predictor { self.new.predictor ≡ self.old.predictor }
     {
-        recover_on(core, &mut self.seat, &mut self.path)
+        recover_on(
+            core,
+            &mut self.seat,
+            &mut self.path,
+            &mut self.creators.counted,
+        )
+    }
+
+    /// Who creates a register.
+    pub fn creator(&self, r: Reg) -> Made
+        ensures { CreatorOf self.now r result }
+    {
+        let at = r.number() as usize;
+        match self.creators.peek(r) {
+            Some(creator) => Made::Made {
+                station: creator.station,
+                tag: creator.tag,
+            },
+            None => Made::Base(self.path.base[at]),
+        }
+    }
+
+    /// How many records and entries of the create vector turns and recoveries have read or written.
+    pub fn touched(&self) -> u64
+        ensures { result ≡ self.now.touched }
+    {
+        self.creators.touched()
     }
 
     /// The word of a station.
@@ -121,6 +156,7 @@ impl<'a, P: Predictor + Drop> Front<'a, P> {
         ensures history { AddsNothing core.now self.old.seen self.new.seen }
         ensures reply { SeesStation core.now.program core.now.sizes self.new.seen station result }
         ensures predictor { self.new.predictor ≡ self.old.predictor }
+        ensures touched { self.new.touched ≡ self.old.touched }
     {
         core.look(&mut self.seat, station)
     }
@@ -133,6 +169,7 @@ impl<'a, P: Predictor + Drop> Front<'a, P> {
         ensures history { AddsNothing core.now self.old.seen self.new.seen }
         ensures told { StartsWith self.new.seen other.old.seen }
         ensures predictor { self.new.predictor ≡ self.old.predictor }
+        ensures touched { self.new.touched ≡ self.old.touched }
         ensures other_kept { IsSame other.old other.new }
         ensures other_history { Adds core.now.program core.now.sizes other.old.by other.old.seen other.new.seen [] }
         ensures other_told { StartsWith other.new.seen self.new.seen }

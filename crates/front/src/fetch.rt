@@ -9,16 +9,17 @@ ghost use Rattle.station.specs.Seats.{IsSame};
 use crate::answers::Turn;
 use crate::path::Path;
 use crate::queue::queue_is_full;
-use isa::{Instr, Program};
+use isa::{Half, Instr, Program};
 use station::{Core, FrontSeat, StationState};
 
 // No tenant gets this tag.
 const LAST_TAG: u32 = 0x0fff_ffff;
 
-/// The next instruction, where it goes, and what the last tenant of its station left.
+/// The next instruction and its half, where it goes, and what the last tenant of its station left.
 #[derive(Clone, Copy)]
 pub struct Fetched {
     pub instr: Instr,
+    pub half: Half,
     pub pc: u32,
     pub station: usize,
     pub left: u32,
@@ -47,6 +48,7 @@ pub fn fetch(
         return Err(Turn::Full);
     };
     let pc = path.front_pc();
+    let half = path.front_half();
     let Some(instr) = program.fetch(pc) else {
         return Err(Turn::NoInstr);
     };
@@ -58,6 +60,7 @@ pub fn fetch(
     }
     Ok(Fetched {
         instr,
+        half,
         pc,
         station,
         left: ahead.value,

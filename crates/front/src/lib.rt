@@ -3,18 +3,16 @@
 #![tactic(auto)]
 
 mod answers;
-mod creators;
 mod dispatch;
 mod dispatcher;
 mod fetch;
 mod path;
 mod queue;
-mod record;
 mod recovery;
 #[cfg(test)]
 mod rows;
 mod supply;
 mod training;
 
-pub use answers::{Recovery, Turn};
+pub use answers::{Made, Recovery, Turn};
 pub use dispatcher::Front;

@@ -7,8 +7,7 @@ ghost use Rattle.front.specs.Fronts.{AddsNothing, KnowsPath};
 ghost use Rattle.front.specs.Queues.{AccessBefore, QueueSays};
 ghost use Rattle.station.specs.Seats.{IsSame};
 
-use crate::path::Path;
-use crate::record::{Record, Records};
+use crate::path::{Path, Record, Records};
 use isa::{Instr, Kind};
 use station::{Core, FrontSeat, StationState};
 

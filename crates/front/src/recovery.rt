@@ -1,12 +1,13 @@
 //! Recovery from a miss.
-ghost use Rattle.std.specs.Prelude.{◌≡◌, ◌≤◌, ◌+◌, [], length, take};
-ghost use Rattle.inorder.specs.History.{Adds, IsLegal, front, unit_of};
-ghost use Rattle.front.specs.Fronts.{AddsNothing, KnowsPath};
-ghost use Rattle.front.specs.Recoveries.{Finds, IsCut, IsMissAt, RecoverAnswers};
+ghost use Rattle.std.specs.Prelude.{◌≡◌, ◌≤◌, ◌+◌, ◌*◌, [], length, take};
+ghost use Rattle.inorder.specs.History.{Adds, IsLegal, front};
+ghost use Rattle.front.specs.CreateTable.{IsTouched};
+ghost use Rattle.front.specs.Fronts.{AddsNothing, KnowsPath, KnowsTable};
+ghost use Rattle.front.specs.Recoveries.{Finds, IsCut, IsMissAt, RecoverAnswers, squashed_by};
 ghost use Rattle.station.specs.Seats.{IsSame};
 
 use crate::answers::Recovery;
-use crate::path::Path;
+use crate::path::{Counted, Path};
 use station::{Core, FrontSeat, StationState};
 
 /// A miss: its place among the tenants, its station, and where it goes on.
@@ -45,11 +46,18 @@ fn find_miss(core: &Core, seat: &mut FrontSeat, path: &Path) -> Option<Missed>
 }
 
 // Squashes from the tail on until the miss is the youngest, and says how many.
-fn squash_behind(core: &Core, seat: &mut FrontSeat, path: &mut Path, missed: Missed) -> usize
+fn squash_behind(
+    core: &Core,
+    seat: &mut FrontSeat,
+    path: &mut Path,
+    creators: &mut Counted,
+    missed: Missed,
+) -> usize
     requires core { seat.old.core ≡ core.now }
     requires by { seat.old.by ≡ front }
     requires legal { IsLegal core.now.program core.now.sizes seat.old.seen }
     requires knows { KnowsPath core.now seat.old.seen path.old }
+    requires table { KnowsTable core.now seat.old.seen creators.old }
     requires miss { IsMissAt core.now.program core.now.sizes seat.old.seen path.old.records missed }
     ensures kept { IsSame seat.old seat.new }
     ensures history { IsCut core.now.program core.now.sizes seat.old.seen seat.new.seen result }
@@ -57,30 +65,41 @@ fn squash_behind(core: &Core, seat: &mut FrontSeat, path: &mut Path, missed: Mis
     ensures miss { IsMissAt core.now.program core.now.sizes seat.new.seen path.new.records missed }
     ensures last { length path.new.records ≡ missed.at + 1 }
     ensures rest { path.new.records ≡ take (missed.at + 1) path.old.records }
+    ensures table { KnowsTable core.now seat.new.seen creators.new }
+    ensures touched { IsTouched (2 * result) creators.old.touched creators.new.touched }
 {
     let all = path.records.len();
     while path.records.len() > missed.at + 1 {
-        core.squash(seat);
+        let (station, _) = core.squash(seat);
         path.records.pop();
+        creators.restore(station);
     }
     all - path.records.len()
 }
 
 /// Recovers from the first miss that is found.
-pub fn recover_on(core: &Core, seat: &mut FrontSeat, path: &mut Path) -> Recovery
+pub fn recover_on(
+    core: &Core,
+    seat: &mut FrontSeat,
+    path: &mut Path,
+    creators: &mut Counted,
+) -> Recovery
     requires core { seat.old.core ≡ core.now }
     requires by { seat.old.by ≡ front }
     requires legal { IsLegal core.now.program core.now.sizes seat.old.seen }
     requires knows { KnowsPath core.now seat.old.seen path.old }
+    requires table { KnowsTable core.now seat.old.seen creators.old }
     ensures kept { IsSame seat.old seat.new }
     ensures reply { RecoverAnswers core.now.program core.now.sizes seat.old.seen seat.new.seen result }
     ensures knows { KnowsPath core.now seat.new.seen path.new }
+    ensures table { KnowsTable core.now seat.new.seen creators.new }
+    ensures touched { IsTouched (4 * squashed_by result) creators.old.touched creators.new.touched }
 {
     core.ring();
     let Some(missed) = find_miss(core, seat, path) else {
         return Recovery::NoMiss;
     };
-    let squashed = squash_behind(core, seat, path, missed);
+    let squashed = squash_behind(core, seat, path, creators, missed);
     core.mend(seat, missed.station);
     path.records.redirect(missed.next);
     Recovery::Mended {

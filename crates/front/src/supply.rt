@@ -1,24 +1,30 @@
 //! Where a new tenant gets its sources.
 ghost use Rattle.std.specs.Prelude.{◌≡◌, ◌<◌};
-ghost use Rattle.front.specs.Creators.{supply_in};
+ghost use Rattle.front.specs.CreateTable.{IsSupplied, IsTouched};
 
-use crate::creators::creator;
-use crate::path::Path;
-use isa::{Reg, pc_plus_4};
+use crate::path::{Counted, Path};
+use isa::Reg;
 use station::Supply;
 
-/// What a new tenant is given for a source that reads this register.
-pub fn supply(path: &Path, r: Reg) -> Supply
-    ensures value { result ≡ supply_in path.now.records path.now.base r }
-    ensures small { r < 32 }
+/// What a new tenant is given for a source that reads this register. The last tenant of its own station leaves.
+pub fn supply(path: &Path, creators: &mut Counted, own: usize, r: Reg) -> Supply
+    ensures value { IsSupplied creators.old.table own path.now.base r result }
+    ensures table { creators.new.table ≡ creators.old.table }
+    ensures small { r < 34 }
+    ensures touched { IsTouched 2 creators.old.touched creators.new.touched }
 {
-    let at = r.number() as usize;
-    match creator(&path.records, r) {
-        None => Supply::Known(path.base[at]),
-        Some(record) if record.links => Supply::Known(pc_plus_4(record.pc)),
-        Some(record) => Supply::From {
-            station: record.station,
-            tag: record.tag,
+    let known = Supply::Known(path.base[r.number() as usize]);
+    let Some(creator) = creators.find(r) else {
+        return known;
+    };
+    if creator.station == own {
+        return known;
+    }
+    match creator.made {
+        Some(value) => Supply::Known(value),
+        None => Supply::From {
+            station: creator.station,
+            tag: creator.tag,
         },
     }
 }

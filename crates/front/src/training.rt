@@ -2,20 +2,18 @@
 ghost use Rattle.front.specs.Training.{Guesses};
 
 use crate::fetch::Fetched;
-use crate::record::Record;
+use crate::path::Record;
 use isa::Predictor;
 
 /// Tells the predictor of who has left, if it was asked about that tenant, and asks it where the next instruction
 /// goes on, unless that is fixed.
 pub fn guess<P: Predictor>(predictor: &mut P, left: Option<Record>, next: &Fetched) -> u32
-    ensures { Guesses P.Predicts P.Learns left next.now.instr next.now.pc result predictor.old predictor.new }
+    ensures { Guesses P.Predicts P.Learns left next.now.instr next.now.half next.now.pc result predictor.old predictor.new }
 {
     if let Some(record) = left {
-        if record.guessed {
-            predictor.told(record.pc, record.next);
-        }
+        record.tell(predictor);
     }
-    match next.instr.fixed_next(next.pc) {
+    match next.instr.fixed_next(next.half, next.pc) {
         Some(fixed) => fixed,
         None => predictor.predict(next.pc, &next.instr),
     }

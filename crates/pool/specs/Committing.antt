@@ -1,14 +1,39 @@
 -- What contracts see of the commit thread.
-use Rattle.std.specs.Prelude.{◌≡◌, ◌≢◌, ℕ, None}
+use Rattle.std.specs.Prelude.{◌≡◌, ◌≢◌, ◌+◌, ◌≤◌, ◌<◌, ℕ, [], None, Result}
+use Rattle.atomic_table.specs.Seated.{TableId}
 use Rattle.back.specs.Backs.{TheBack, state_of}
+use Rattle.counts.specs.declared.tally.Total.TheVariants.{Retires}
+use Rattle.counts.specs.Reads.{HoldsAll}
+use Rattle.counts.specs.Seats.{Counter}
+use Rattle.counts.specs.Shares.{share_of}
+use Rattle.pool.specs.declared.answer.Refusal.{Refusal}
+use Rattle.pool.specs.declared.commit.Why.{Why}
+use Rattle.pool.specs.declared.commit.Why.TheVariants.{AtEnd, AtLimit, Spent}
 
--- Its back, and the turns that it has left
+-- Its back, the turns that it has left, and why it commits no more
 pub record TheCommitter : Type 0 where
   pub back : TheBack
   pub left : ℕ
+  pub over : Result Why Refusal
 
--- Why it commits no more: the program has ended, the limit is reached, or no turn is left
-pub data IsOver (limit : ℕ) (c : TheCommitter) : Type 0 where
-  AtEnd : c.back.ended ≢ None → IsOver limit c
-  AtLimit : (state_of c.back).count ≡ limit → IsOver limit c
-  Spent : c.left ≡ 0 → IsOver limit c
+-- No table
+abbrev pub no_table : TableId
+no_table = record { words = 0; slots = 0; views_name = 0; atom = 0; block = 0; offset = 0; slot_names = [] }
+
+-- The seat is one of these totals, and no other adds to the retirements: it has added each once
+pub record HasCounted (counts : TableId) (back : TheBack) (count : Counter) : Type 0 where
+  pub of : count.of ≡ counts
+  pub all : HoldsAll Retires count.shares
+  pub retires : (share_of Retires count.shares).added ≡ (state_of back).count
+
+-- The reason holds: the program has ended, the limit is reached, or no turn is left
+abbrev pub Because : (limit : ℕ) → TheBack → (left : ℕ) → Why → Type 0
+Because limit back left AtEnd = back.ended ≢ None
+Because limit back left AtLimit = (state_of back).count ≡ limit
+Because limit back left Spent = left ≡ 0
+
+-- It has not gone past the limit, and where it has ended it has not come to it; each instruction took a turn
+pub record Keeps (limit turns : ℕ) (back : TheBack) (left : ℕ) : Type 0 where
+  pub within : (state_of back).count ≤ limit
+  pub below : back.ended ≢ None → (state_of back).count < limit
+  pub each_turn : (state_of back).count + left ≤ turns

@@ -1,3 +1,2 @@
 pub mod Committing
-pub mod Ledgers
 pub mod Runs

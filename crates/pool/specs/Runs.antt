@@ -1,5 +1,5 @@
 -- What a run answers.
-use Rattle.std.specs.Prelude.{◌≡◌, ◌≤◌, ℕ}
+use Rattle.std.specs.Prelude.{◌≡◌, ◌≤◌, ◌<◌, ◌⊎◌, ℕ}
 use Rattle.isa.specs.declared.end.End.{End}
 use Rattle.isa.specs.declared.end.Ending.{Ending}
 use Rattle.isa.specs.declared.end.Ending.TheVariants.{Limit, Stop as ByStop}
@@ -7,7 +7,7 @@ use Rattle.isa.specs.Programs.{Program}
 use Rattle.back.specs.Ends.{IsInOrder}
 use Rattle.pool.specs.declared.answer.Run.{Run}
 use Rattle.pool.specs.declared.answer.Run.TheVariants.{Ended, LimitReached, Refused}
-use Rattle.pool.specs.declared.answer.Tally.{Tally}
+use Rattle.counts.specs.declared.tally.Tally.{Tally}
 
 abbrev pub HasStopped : Ending → Type 0
 HasStopped (ByStop code) = Unit {0}
@@ -25,8 +25,19 @@ IsRight P (Ended end tally) = IsAfter P end tally × HasStopped end.outcome
 IsRight P (LimitReached end tally) = IsAfter P end tally × (end.outcome ≡ Limit)
 IsRight P (Refused why) = Unit {0}
 
--- It has run no instruction past the limit
-abbrev pub IsWithin : ℕ → Run → Type 0
-IsWithin limit (Ended end tally) = end.n ≤ limit
+-- Where it has ended it had not come to the limit, and it has run no instruction past it
+abbrev pub IsWithin : (limit : ℕ) → Run → Type 0
+IsWithin limit (Ended end tally) = end.n < limit
 IsWithin limit (LimitReached end tally) = end.n ≤ limit
 IsWithin limit (Refused why) = Unit {0}
+
+-- Each instruction took the commit thread a turn
+abbrev pub TakesTurns : (turns : ℕ) → Run → Type 0
+TakesTurns turns (Ended end tally) = end.n ≤ turns
+TakesTurns turns (LimitReached end tally) = end.n ≤ turns
+TakesTurns turns (Refused why) = Unit {0}
+
+-- The limit is told only where so many instructions were run, or no turn was left
+abbrev pub IsLimit : (limit left : ℕ) → Run → Type 0
+IsLimit limit left (LimitReached end tally) = (end.n ≡ limit) ⊎ (left ≡ 0)
+IsLimit limit left _ = Unit {0}

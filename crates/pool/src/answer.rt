@@ -1,18 +1,6 @@
 //! What a run answers.
+use counts::Tally;
 use isa::End;
-
-/// What the threads of a run did, all together.
-#[derive(Clone, Copy, Debug, PartialEq, Eq)]
-pub struct Tally {
-    pub lets: u64,
-    pub claims: u64,
-    pub finishes: u64,
-    pub stale: u64,
-    pub loads: u64,
-    pub retires: u64,
-    pub squashes: u64,
-    pub mends: u64,
-}
 
 /// What a run could not have.
 #[derive(Clone, Copy, Debug, PartialEq, Eq)]

@@ -2,69 +2,60 @@
 ghost use Rattle.std.specs.Prelude.{◌≡◌};
 ghost use Rattle.front.specs.Fronts.{IsUnused};
 
-use crate::book::{Books, DispatchShare, Dispatched};
 use crate::floor::Floor;
 use crate::rest::Rest;
+use counts::{Total, WorkerSeat};
 use front::{Front, Recovery, Turn};
 use isa::Predictor;
 use station::FrontSeat;
-use std::sync::Wait;
 
 // After so many fruitless turns it lets another thread run.
 const PATIENCE: u32 = 8;
 
 // One recovery, and one let where there is no miss. False where there was nothing to do.
-fn step<P: Predictor + Drop, K: Books>(
-    floor: &Floor<K>,
-    front: &mut Front<P>,
-    done: &mut Dispatched,
-) -> bool
-    requires { front.old.core ≡ floor.now.core }
-    ensures { front.new.core ≡ floor.now.core }
+fn step<P: Predictor + Drop>(floor: &Floor, front: &mut Front<P>, count: &mut WorkerSeat) -> bool
+    requires core { front.old.core ≡ floor.now.core }
+    requires count { count.old.of ≡ floor.now.counts }
+    ensures core { front.new.core ≡ floor.now.core }
+    ensures count { count.new.of ≡ floor.now.counts }
 {
     if let Recovery::Mended { squashed, .. } = front.recover(&floor.core) {
-        done.squashes = done.squashes.wrapping_add(squashed as u64);
-        done.mends = done.mends.wrapping_add(1);
+        floor
+            .counts
+            .add_work(count, Total::Squashes, squashed as u64);
+        floor.counts.add_work(count, Total::Mends, 1);
         return true;
     }
     let is_let = matches!(front.turn(&floor.core), Turn::Let { .. });
     if is_let {
-        done.lets = done.lets.wrapping_add(1);
+        floor.counts.add_work(count, Total::Lets, 1);
     }
     is_let
 }
 
-/// What the dispatch thread owns: the front's seat, a predictor, and its share of the book.
+/// What the dispatch thread owns: the front's seat, a predictor, and the seat that it counts with.
 #[derive(Drop)]
-pub(crate) struct Dispatcher<P: Drop, K: Books> {
+pub(crate) struct Dispatcher<P: Drop> {
     pub seat: FrontSeat,
     pub predictor: P,
-    pub share: DispatchShare<K>,
+    pub count: WorkerSeat,
 }
 
 /// Lets instructions out, and recovers from misses.
-pub(crate) fn dispatch<P: Predictor + Drop, K: Books, R: Wait>(
-    wait: &R,
-    floor: &Floor<K>,
-    dispatcher: Dispatcher<P, K>,
-)
+pub(crate) fn dispatch<P: Predictor + Drop>(floor: &Floor, dispatcher: Dispatcher<P>)
     requires seat { IsUnused floor.now.core dispatcher.seat }
+    requires count { dispatcher.count.of ≡ floor.now.counts }
     requires program { floor.now.program ≡ floor.now.core.program }
 {
     let Dispatcher {
         seat,
         predictor,
-        mut share,
+        mut count,
     } = dispatcher;
     let mut front = Front::new(&floor.core, seat, &floor.program, predictor);
-    let mut done = Dispatched {
-        lets: 0,
-        squashes: 0,
-        mends: 0,
-    };
     let mut rest = Rest::after(PATIENCE);
     for _ in 0..floor.turns {
-        if step(floor, &mut front, &mut done) {
+        if step(floor, &mut front, &mut count) {
             rest.begin_again();
         } else {
             rest.rest();
@@ -73,5 +64,4 @@ pub(crate) fn dispatch<P: Predictor + Drop, K: Books, R: Wait>(
             break;
         }
     }
-    floor.book.lock(wait).add_dispatched(&mut share, done);
 }

@@ -1,35 +1,36 @@
 //! What the threads of one run share.
-use crate::book::{Books, Totals};
+use counts::Counts;
 use isa::Program;
 use station::Core;
+use std::sync::Wait;
 use std::sync::atomic::Ordering::{Acquire, Release};
 use std::sync::atomic::{AtomicBool, AtomicU64};
-use std::sync::{Mutex, Wait};
 
 /// The unit and what goes with it. Each thread has the same number of turns.
 #[derive(Drop)]
-pub(crate) struct Floor<K: Books> {
+pub(crate) struct Floor {
     pub core: Core,
     pub program: Program,
-    pub book: Mutex<Totals<K>>,
+    pub counts: Counts,
     pub turns: u32,
     closed: AtomicBool,
     // how often there was something new to see: a snapshot, or the end
     news: AtomicU64,
 }
 
-impl<K: Books> Floor<K> {
+impl Floor {
     ghost use Rattle.std.specs.Prelude.{◌≡◌};
 
-    pub(crate) fn new(core: Core, program: Program, totals: Totals<K>, turns: u32) -> Self
+    pub(crate) fn new(core: Core, program: Program, counts: Counts, turns: u32) -> Self
         ensures core { result.core ≡ core }
         ensures program { result.program ≡ program }
+        ensures counts { result.counts ≡ counts }
         ensures turns { result.turns ≡ turns }
     {
         Floor {
             core,
             program,
-            book: Mutex::new(totals),
+            counts,
             turns,
             closed: AtomicBool::new(false),
             news: AtomicU64::new(0),

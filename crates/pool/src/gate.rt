@@ -1,4 +1,5 @@
 //! What a run tells its watcher, and what it asks.
+use counts::Tally;
 use snapshots::Snap;
 
 /// Watches a run from all its threads. Units and places are numbered from 1.
@@ -9,6 +10,9 @@ pub trait Gate {
 
     /// Told each snapshot that is taken.
     fn seen(&self, place: u32, snap: &Snap);
+
+    /// Told the tally each time that the commit thread shows: its retirements are the n that it shows.
+    fn counted(&self, tally: &Tally);
 }
 
 /// Holds nobody, and looks at nothing.
@@ -21,4 +25,6 @@ impl Gate for Open {
     }
 
     fn seen(&self, _place: u32, _snap: &Snap) {}
+
+    fn counted(&self, _tally: &Tally) {}
 }

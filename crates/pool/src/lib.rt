@@ -3,7 +3,7 @@
 #![tactic(auto)]
 
 mod answer;
-mod book;
+mod bounds;
 mod commit;
 mod compute;
 mod dispatch;
@@ -13,8 +13,9 @@ mod rest;
 mod threads;
 mod watch;
 
-pub use answer::{Refusal, Run, Tally};
-pub use book::Books;
+pub use answer::{Refusal, Run};
+pub use bounds::Bounds;
+pub use counts::Tally;
 pub use gate::{Gate, Open};
 pub use threads::run;
 

@@ -1,6 +1,7 @@
 //! Runs in threads.
 mod ends;
 mod gates;
+mod pairs;
 mod rows;
 
 use crate::{Gate, Run, run};

@@ -1,11 +1,11 @@
 //! Starts the threads of a run, and joins them.
-ghost use Rattle.std.specs.Prelude.{◌≡◌, ◌+◌, ◌<◌, ◌≤◌, ◌^◌, IfOk};
+ghost use Rattle.std.specs.Prelude.{◌≡◌, ◌<◌, ◌≤◌, Err, IfOk};
+ghost use Rattle.counts.specs.Shares.{all_parts};
 ghost use Rattle.front.specs.Fronts.{IsUnused};
-ghost use Rattle.pool.specs.Ledgers.{names_of};
-ghost use Rattle.pool.specs.Runs.{IsRight, IsWithin};
+ghost use Rattle.pool.specs.Runs.{IsRight, IsWithin, TakesTurns};
 
 use crate::answer::{Refusal, Run};
-use crate::book::{Blanks, Books, Totals, UnitShare};
+use crate::bounds::Bounds;
 use crate::commit::Committer;
 use crate::compute::{Worker, work};
 use crate::dispatch::{Dispatcher, dispatch};
@@ -13,7 +13,8 @@ use crate::floor::Floor;
 use crate::gate::Gate;
 use crate::watch::watch;
 use back::{Back, Naming, Snapper};
-use isa::{Config, Ending, Memory, Predictor, Program};
+use counts::{CountSeat, Counts, WorkerSeat};
+use isa::{Config, Memory, Predictor, Program};
 use station::{Core, UnitSeat};
 use std::alloc::Global;
 use std::marker::Brand;
@@ -21,67 +22,68 @@ use std::sync::Wait;
 use std::thread;
 use std::thread::{Scope, Threads};
 
-fn start_dispatch<
-    's,
-    E: 's,
-    K: Books + Send + Sync + 's,
-    P: Predictor + Drop + Send + 's,
-    R: Wait + Sync + 's,
->(wait: &'s R, scope: &Scope<'s, E>, floor: &'s Floor<K>, dispatcher: Dispatcher<P, K>) -> bool
+fn start_dispatch<'s, E: 's, P: Predictor + Drop + Send + 's>(
+    scope: &Scope<'s, E>,
+    floor: &'s Floor,
+    dispatcher: Dispatcher<P>,
+) -> bool
     requires seat { IsUnused floor.now.core dispatcher.seat }
+    requires count { dispatcher.count.of ≡ floor.now.counts }
     requires program { floor.now.program ≡ floor.now.core.program }
 {
     let job = move ||
         requires seat { IsUnused floor.now.core dispatcher.seat }
+        requires count { dispatcher.count.of ≡ floor.now.counts }
         requires program { floor.now.program ≡ floor.now.core.program }
-    { dispatch(wait, floor, dispatcher) };
+    { dispatch(floor, dispatcher) };
     scope.spawn(job).is_ok()
 }
 
-fn start_unit<'s, E: 's, K: Books + Send + Sync + 's, G: Gate + Sync + 's, R: Wait + Sync + 's>(
-    wait: &'s R,
+fn start_unit<'s, E: 's, G: Gate + Sync + 's>(
     scope: &Scope<'s, E>,
-    floor: &'s Floor<K>,
+    floor: &'s Floor,
     gate: &'s G,
-    worker: Worker<K>,
+    worker: Worker,
 ) -> bool
     requires core { worker.seat.core ≡ floor.now.core }
+    requires count { worker.count.of ≡ floor.now.counts }
     requires program { floor.now.program ≡ floor.now.core.program }
 {
     let job = move ||
         requires core { worker.seat.core ≡ floor.now.core }
+        requires count { worker.count.of ≡ floor.now.counts }
         requires program { floor.now.program ≡ floor.now.core.program }
-    { work(wait, floor, gate, worker) };
+    { work(floor, gate, worker) };
     scope.spawn(job).is_ok()
 }
 
 // Starts the units. Each has seen what the first seat has.
-fn start_units<'s, E: 's, K: Books + Send + Sync + 's, G: Gate + Sync + 's, R: Wait + Sync + 's>(
-    wait: &'s R,
+fn start_units<'s, E: 's, G: Gate + Sync + 's>(
     scope: &Scope<'s, E>,
-    floor: &'s Floor<K>,
+    floor: &'s Floor,
     gate: &'s G,
     units: u32,
     seat: UnitSeat,
-    mut all: UnitShare<K>,
+    count: WorkerSeat,
 ) -> bool
     requires core { seat.core ≡ floor.now.core }
+    requires count { count.of ≡ floor.now.counts }
     requires program { floor.now.program ≡ floor.now.core.program }
     requires units { units ≤ 64 }
-    requires parts { (all.claims.parts ≡ units) × (all.finishes.parts ≡ units) × (all.stale.parts ≡ units) }
-    requires fresh { (all.claims.amount ≡ 0) × (all.finishes.amount ≡ 0) × (all.stale.amount ≡ 0) }
 {
     let mut rest = seat;
+    let mut all = count;
     for unit in 0..units {
-        let share = all.split_off();
         let (own, others) = floor.core.split(rest);
+        let (count, counts) = floor.counts.split_workers(all);
         rest = others;
+        all = counts;
         let worker = Worker {
             unit: unit + 1,
             seat: own,
-            share,
+            count,
         };
-        if !start_unit(wait, scope, floor, gate, worker) {
+        if !start_unit(scope, floor, gate, worker) {
             return false;
         }
     }
@@ -93,13 +95,12 @@ fn start_snappers<
     's,
     E: 's,
     J: Naming + Send + Sync + 's,
-    K: Books + Send + Sync + 's,
     G: Gate + Sync + 's,
     R: Wait + Sync + 's,
 >(
     wait: &'s R,
     scope: &Scope<'s, E>,
-    floor: &'s Floor<K>,
+    floor: &'s Floor,
     gate: &'s G,
     places: u32,
     mut first: Snapper<J>,
@@ -126,29 +127,28 @@ fn start_all<
     's,
     E: 's,
     J: Naming + Send + Sync + 's,
-    K: Books + Send + Sync + 's,
     P: Predictor + Drop + Send + 's,
     G: Gate + Sync + 's,
     R: Wait + Sync + 's,
 >(
     wait: &'s R,
     scope: &Scope<'s, E>,
-    floor: &'s Floor<K>,
+    floor: &'s Floor,
     gate: &'s G,
     config: Config,
-    dispatcher: Dispatcher<P, K>,
+    dispatcher: Dispatcher<P>,
     seat: UnitSeat,
     first: Snapper<J>,
-    unit_share: UnitShare<K>,
+    count: WorkerSeat,
 ) -> bool
     requires front { IsUnused floor.now.core dispatcher.seat }
+    requires front_count { dispatcher.count.of ≡ floor.now.counts }
     requires seat { seat.core ≡ floor.now.core }
+    requires count { count.of ≡ floor.now.counts }
     requires program { floor.now.program ≡ floor.now.core.program }
-    requires parts { (unit_share.claims.parts ≡ config.units) × (unit_share.finishes.parts ≡ config.units) × (unit_share.stale.parts ≡ config.units) }
-    requires fresh { (unit_share.claims.amount ≡ 0) × (unit_share.finishes.amount ≡ 0) × (unit_share.stale.amount ≡ 0) }
 {
-    start_dispatch(wait, scope, floor, dispatcher)
-        && start_units(wait, scope, floor, gate, config.units(), seat, unit_share)
+    start_dispatch(scope, floor, dispatcher)
+        && start_units(scope, floor, gate, config.units(), seat, count)
         && start_snappers(wait, scope, floor, gate, config.places(), first)
 }
 
@@ -156,52 +156,49 @@ fn start_all<
 fn in_threads<
     'x,
     J: Naming + Send + Sync,
-    K: Books + Send + Sync,
+    K: Bounds + Send + Sync,
     P: Predictor + Drop + Send,
     G: Gate + Sync,
     R: Threads + Wait + Sync,
 >(
     wait: &'x R,
-    floor: &'x Floor<K>,
+    floor: &'x Floor,
     gate: &'x G,
     config: Config,
-    dispatcher: Dispatcher<P, K>,
+    dispatcher: Dispatcher<P>,
     seat: UnitSeat,
     first: Snapper<J>,
-    unit_share: UnitShare<K>,
+    count: WorkerSeat,
     committer: &'x mut Committer<J, K>,
-) -> Result<(), Refusal>
+)
     requires front { IsUnused floor.now.core dispatcher.seat }
+    requires front_count { dispatcher.count.of ≡ floor.now.counts }
     requires seat { seat.core ≡ floor.now.core }
+    requires count { count.of ≡ floor.now.counts }
     requires program { floor.now.program ≡ floor.now.core.program }
     requires core { committer.old.back.core ≡ floor.now.core }
-    requires parts { (unit_share.claims.parts ≡ config.units) × (unit_share.finishes.parts ≡ config.units) × (unit_share.stale.parts ≡ config.units) }
-    requires fresh { (unit_share.claims.amount ≡ 0) × (unit_share.finishes.amount ≡ 0) × (unit_share.stale.amount ≡ 0) }
+    requires counts { floor.now.counts ≡ K.counts }
+    requires fresh_run { committer.old.over ≡ Err Refusal.Thread }
 {
     thread::scope(
         thread::scope_env(),
         wait,
-        move |scope| -> Result<(), Refusal>
+        move |scope|
             requires front { IsUnused floor.now.core dispatcher.seat }
+            requires front_count { dispatcher.count.of ≡ floor.now.counts }
             requires seat { seat.core ≡ floor.now.core }
+            requires count { count.of ≡ floor.now.counts }
             requires program { floor.now.program ≡ floor.now.core.program }
             requires core { committer.now.back.core ≡ floor.now.core }
-            requires parts { (unit_share.claims.parts ≡ config.units) × (unit_share.finishes.parts ≡ config.units) × (unit_share.stale.parts ≡ config.units) }
-            requires fresh { (unit_share.claims.amount ≡ 0) × (unit_share.finishes.amount ≡ 0) × (unit_share.stale.amount ≡ 0) }
+            requires counts { floor.now.counts ≡ K.counts }
+            requires fresh_run { committer.now.over ≡ Err Refusal.Thread }
         {
-            let started = start_all(
-                wait, scope, floor, gate, config, dispatcher, seat, first, unit_share,
-            );
-            let result = if started {
-                match committer.run(wait, floor) {
-                    Ok(()) => Ok(()),
-                    Err(_) => Err(Refusal::Memory),
-                }
-            } else {
-                Err(Refusal::Thread)
-            };
+            if start_all(
+                wait, scope, floor, gate, config, dispatcher, seat, first, count,
+            ) {
+                committer.run(wait, floor, gate);
+            }
             floor.close();
-            result
         },
     )
 }
@@ -210,32 +207,34 @@ fn in_threads<
 fn run_parts<
     'x,
     J: Naming + Send + Sync,
-    K: Books + Send + Sync,
+    K: Bounds + Send + Sync,
     P: Predictor + Drop + Send,
     G: Gate + Sync,
     R: Threads + Wait + Sync,
 >(
     wait: &'x R,
-    floor: &'x Floor<K>,
+    floor: &'x Floor,
     gate: &'x G,
     config: Config,
-    dispatcher: Dispatcher<P, K>,
+    dispatcher: Dispatcher<P>,
     seat: UnitSeat,
     first: Snapper<J>,
-    unit_share: UnitShare<K>,
+    count: WorkerSeat,
     mut committer: Committer<J, K>,
 ) -> Run
     requires front { IsUnused floor.now.core dispatcher.seat }
+    requires front_count { dispatcher.count.of ≡ floor.now.counts }
     requires seat { seat.core ≡ floor.now.core }
+    requires count { count.of ≡ floor.now.counts }
     requires program { floor.now.program ≡ floor.now.core.program }
     requires core { committer.back.core ≡ floor.now.core }
-    requires limit { config.limit ≡ K.limit }
-    requires parts { (unit_share.claims.parts ≡ config.units) × (unit_share.finishes.parts ≡ config.units) × (unit_share.stale.parts ≡ config.units) }
-    requires fresh { (unit_share.claims.amount ≡ 0) × (unit_share.finishes.amount ≡ 0) × (unit_share.stale.amount ≡ 0) }
+    requires counts { floor.now.counts ≡ K.counts }
+    requires fresh_run { committer.over ≡ Err Refusal.Thread }
     ensures right { IsRight J.program result }
-    ensures within { IsWithin config.limit result }
+    ensures within { IsWithin K.limit result }
+    ensures turns { TakesTurns K.turns result }
 {
-    let result = in_threads(
+    in_threads(
         wait,
         floor,
         gate,
@@ -243,57 +242,54 @@ fn run_parts<
         dispatcher,
         seat,
         first,
-        unit_share,
+        count,
         &mut committer,
     );
-    let (end, tally) = committer.end(wait, floor);
-    match (result, end.outcome) {
-        (Err(refusal), _) => Run::Refused(refusal),
-        (Ok(()), Ending::Stop(_)) => Run::Ended(end, tally),
-        (Ok(()), Ending::Limit) => Run::LimitReached(end, tally),
-    }
+    committer.end(wait, floor)
 }
 
 fn run_named<
     'x,
     J: Naming + Send + Sync,
-    K: Books + Send + Sync,
+    K: Bounds + Send + Sync,
     P: Predictor + Drop + Send,
     G: Gate + Sync,
     R: Threads + Wait + Sync,
 >(
     wait: &'x R,
     alloc: Global,
-    blanks: Blanks,
+    counts: Counts,
+    count: CountSeat,
     program: &'x Program,
     config: &Config,
     predictor: P,
     gate: &'x G,
 ) -> Result<Run, Memory>
+    requires counts { counts ≡ K.counts }
+    requires count { count ≡ record { of = counts; shares = all_parts } }
     requires program { program.now ≡ J.program }
-    requires names { names_of blanks ≡ K.names }
     requires limit { config.now.limit ≡ K.limit }
-    requires units { (blanks.claims.parts ≡ K.units) × (blanks.finishes.parts ≡ K.units) × (blanks.stale.parts ≡ K.units) × (K.units ≡ config.now.units) }
-    requires dispatch { (blanks.lets.parts ≡ 1) × (blanks.squashes.parts ≡ 1) × (blanks.mends.parts ≡ 1) }
-    requires commit { (blanks.loads.parts ≡ 1) × (blanks.retires.parts ≡ 1) }
+    requires turns { config.now.turns ≡ K.turns }
     ensures right { IfOk result (λ run. IsRight J.program run) }
     ensures within { IfOk result (λ run. IsWithin config.now.limit run) }
+    ensures turns { IfOk result (λ run. TakesTurns config.now.turns run) }
 {
     let copy = program.copied(alloc)?;
     let (core, front_seat, back_seat, unit_seat) = Core::make(alloc, program, config)?;
     let (back, snapper) = Back::<J>::new(alloc, &core, back_seat, program, config).map_err(
         |refused| refused.0,
     )?;
-    let (totals, share, unit_share, commit_share) = Totals::<K>::open(blanks);
-    let floor = Floor::new(core, copy, totals, config.turns());
-    let committer = Committer::<J, K>::new(back, commit_share, config.limit(), config.turns());
+    let (back_count, workers) = counts.split_worker(count);
+    let (front_count, unit_count) = counts.split_workers(workers);
+    let floor = Floor::new(core, copy, counts, config.turns());
+    let committer = Committer::<J, K>::new(back, back_count, config.limit(), config.turns());
     let dispatcher = Dispatcher {
         seat: front_seat,
         predictor,
-        share,
+        count: front_count,
     };
     Ok(run_parts(
-        wait, &floor, gate, *config, dispatcher, unit_seat, snapper, unit_share, committer,
+        wait, &floor, gate, *config, dispatcher, unit_seat, snapper, unit_count, committer,
     ))
 }
 
@@ -309,10 +305,13 @@ pub fn run<'x, P: Predictor + Drop + Send, G: Gate + Sync, R: Threads + Wait + S
 ) -> Run
     ensures right { IsRight program.now result }
     ensures within { IsWithin config.now.limit result }
+    ensures turns { TakesTurns config.now.turns result }
 {
-    let blanks = Blanks::new(config.units() as u64);
+    let Ok((counts, count)) = Counts::make(alloc) else {
+        return Run::Refused(Refusal::Memory);
+    };
     let result = run_named::<Brand, Brand, P, G, R>(
-        wait, alloc, blanks, program, config, predictor, gate,
+        wait, alloc, counts, count, program, config, predictor, gate,
     );
     match result {
         Ok(run) => run,

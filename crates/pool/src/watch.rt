@@ -1,15 +1,23 @@
 //! What a snapshot thread does.
-use crate::book::Books;
+ghost use Rattle.snapshots.specs.Snapshots.{IsSnapshotOf};
+
 use crate::floor::Floor;
 use crate::gate::Gate;
-use snapshots::{Naming, Snapper};
+use snapshots::{Naming, Snap, Snapper};
 use std::sync::Wait;
+
+// The gate is told nothing but snapshots of the program.
+fn tell<J: Naming, G: Gate>(gate: &G, place: u32, snap: &Snap)
+    requires { IsSnapshotOf J.program snap.now }
+{
+    gate.seen(place, snap);
+}
 
 /// Takes snapshots and tells the gate of them, once at least: the first at once, and one more each time that a
 /// snapshot was shown, or the run is over.
-pub(crate) fn watch<J: Naming, K: Books, G: Gate, R: Wait>(
+pub(crate) fn watch<J: Naming, G: Gate, R: Wait>(
     wait: &R,
-    floor: &Floor<K>,
+    floor: &Floor,
     gate: &G,
     place: u32,
     mut snapper: Snapper<J>,
@@ -18,7 +26,7 @@ pub(crate) fn watch<J: Naming, K: Books, G: Gate, R: Wait>(
         let news = floor.news();
         let closed = floor.is_closed();
         if let Ok(snap) = snapper.take() {
-            gate.seen(place, &snap);
+            tell::<J, G>(gate, place, &snap);
         }
         if closed {
             break;

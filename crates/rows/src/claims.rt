@@ -5,7 +5,7 @@ ghost use Rattle.station.specs.Seats.{IsSame};
 use crate::drive::{finish_job, finish_one, let_at, made, takes};
 use front::{Front, Turn};
 use isa::{NotTaken, Program};
-use station::{Claim, Core, Finish, Source, UnitSeat};
+use station::{Claim, Core, Finish, Source, UnitSeat, jobs_stay};
 use std::process::Abort;
 use std::test::Fail;
 
@@ -98,6 +98,7 @@ fn meets_with_a_job(
 {
     match core.claim(one, 0) {
         Claim::Job(job) => {
+            jobs_stay();
             core.meet(one, other);
             let first = claim(core, program, other, 0);
             let second = claim(core, program, other, 1);

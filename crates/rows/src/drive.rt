@@ -1,14 +1,15 @@
 //! What the rows have in common.
 ghost use Rattle.std.specs.Prelude.{◌≡◌, ◌<◌, IfOk};
-ghost use Rattle.inorder.specs.History.{IsLegal};
 ghost use Rattle.back.specs.Backs.{HasRetiredNothing};
 ghost use Rattle.station.specs.Claiming.{Holds};
 ghost use Rattle.station.specs.Seats.{IsSame};
 
 use back::{Back, Commit, Naming, Snapper};
 use front::{Front, Turn};
-use isa::{Config, Predictor, Program, outcome, parse};
-use station::{BackSeat, Claim, Core, Finish, Job, UnitSeat};
+use isa::{Config, Predictor, Program, outcome_of, parse};
+use station::{
+    BackSeat, Claim, Core, Finish, Job, UnitSeat, a_job_is_of_the_program, what_is_seen_is_legal,
+};
 use std::alloc::Global;
 use std::process::Abort;
 use std::test::Fail;
@@ -49,12 +50,13 @@ pub fn takes<'a, P: Predictor + Drop>(
 pub fn finish_job(core: &Core, program: &Program, seat: &mut UnitSeat, job: Job) -> Finish
     requires core { seat.old.core ≡ core.now }
     requires program { program.now ≡ core.now.program }
-    requires legal { IsLegal core.now.program core.now.sizes seat.old.seen }
     requires job { Holds core.now.program core.now.sizes seat.old.by seat.old.seen job }
     ensures kept { IsSame seat.old seat.new }
 {
+    what_is_seen_is_legal(seat);
+    a_job_is_of_the_program();
     let instr = program.instr(job.index as usize);
-    let found = outcome(instr, job.pc, job.a, job.b, program.size());
+    let found = outcome_of(instr, job.half, job.pc, job.a, job.b, program.size());
     core.finish(seat, job, found)
 }
 
@@ -118,4 +120,8 @@ pub fn commits<J: Naming>(rt: &impl Abort, core: &Core, back: &mut Back<J>, answ
 
 pub fn retired(pc: u32, n: u64) -> Commit {
     Commit::Retired { pc, n }
+}
+
+pub fn half(pc: u32) -> Commit {
+    Commit::Half { pc }
 }

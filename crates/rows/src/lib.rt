@@ -6,6 +6,8 @@ mod claims;
 #[cfg(test)]
 mod drive;
 #[cfg(test)]
+mod halves;
+#[cfg(test)]
 mod memory;
 #[cfg(test)]
 mod old_jobs;

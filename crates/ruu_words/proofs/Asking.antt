@@ -1,5 +1,5 @@
 -- What follows the store of a link: the look at the creator's station, and the exchange.
-use Rattle.std.proofs.Common.{◌≡◌, ◌≢◌, ◌⊎◌, ℕ, suc, ◌<◌, ◌==◌, Bool, true, false, cond, eqb, List, [], ◌∷◌, ◌++◌, map, length, Option, Some, None, refl, sym, ap, ◌∙◌, subst, inl, inr, ⊎_elim, arith, eq-eqb, eqb-true, ne_eqb, true≢false}
+use Rattle.std.proofs.Common.{◌≡◌, ◌≢◌, ◌⊎◌, ℕ, ◌<◌, ◌==◌, Bool, true, false, cond, eqb, List, [], ◌∷◌, ◌++◌, map, length, Some, None, refl, sym, ap, ◌∙◌, subst, inl, inr, ⊎_elim, eq-eqb, ne_eqb, true≢false}
 use prog.Atomic.{either}
 use Rattle.atomic_table.proofs.Lists.{exchanged}
 use Rattle.isa.specs.Programs.{Program}
@@ -19,16 +19,16 @@ use Rattle.inorder.specs.Callers.{HasAsked, HasMade, IsLastAt}
 use Rattle.inorder.specs.History.{IsLegal, MayMark, entry, front, own, taken_of, unit_of}
 use Rattle.inorder.specs.Legal.{Allowed, May, applied, changed}
 use Rattle.inorder.specs.OperandWords.{operand_word, operand_word_of}
-use Rattle.inorder.specs.Replies.{Has, IsAskedInTime, IsDelivered}
-use Rattle.inorder.specs.StationWords.{last_of, left_value, live_word, station_word, word_by, word_of}
+use Rattle.inorder.specs.Replies.{Has, IsDelivered}
+use Rattle.inorder.specs.StationWords.{last_of, live_word, station_word, word_by, word_of}
 use Rattle.inorder.specs.Steps.{delivered}
-use Rattle.inorder.specs.Tenants.{Addr, Busy, Done, Fate, IsThere, Linked, Live, Miss, Open, Retired, Squashed, Standing, Stopped, Tenant, computed, kind_of, on_path, operand, stands_on_path}
+use Rattle.inorder.specs.Tenants.{Addr, Busy, Done, Fate, Linked, Live, Miss, Open, Retired, Squashed, Standing, Stopped, Tenant, computed, kind_of, on_path, operand, stands_on_path}
 use Rattle.inorder.specs.Unit.{Sizes, UpdateUnit, at, older, recent, tag_after, value_of, younger}
 use Rattle.inorder.proofs.Creators.{are_older, value_by}
 use Rattle.inorder.proofs.Ends.{Acted, at_older, exact}
 use Rattle.inorder.proofs.Histories.{allowed_steps, unit_sound}
 use Rattle.inorder.proofs.Letting.{IsBesides, IsBesidesAct}
-use Rattle.inorder.proofs.Makers.{IsWriter, Unmade, are_late, have_makers, left_when_retired, made_when_done, path_maker, stops_made, unmade_before}
+use Rattle.inorder.proofs.Makers.{IsWriter, are_late, have_makers, left_when_retired, made_when_done, path_maker, stops_made, unmade_before}
 use Rattle.inorder.proofs.Moves.{IsActed, IsLeft, at_changed, goes}
 use Rattle.inorder.proofs.Positions.{at_below, at_more, at_new}
 use Rattle.inorder.proofs.Serving.{made_stays}
@@ -39,8 +39,8 @@ use Rattle.ruu_words.specs.declared.place.Place.TheVariants.{Operand, Station}
 use Rattle.ruu_words.specs.declared.rule.Draft.{Draft}
 use Rattle.ruu_words.specs.declared.rule.Draft.TheVariants.{Nothing}
 use Rattle.ruu_words.specs.declared.rule.View.{View}
-use Rattle.ruu_words.specs.Content.{Content, HasValue, IsDraft, IsOperand, IsOperandOf, IsStation, operand_unit}
-use Rattle.ruu_words.specs.Fields.{state_of, tag_of, value_of as value_in}
+use Rattle.ruu_words.specs.Content.{HasValue, IsOperand, IsOperandOf, IsStation, operand_unit}
+use Rattle.ruu_words.specs.Fields.{state_of, value_of as value_in}
 use Rattle.ruu_words.specs.Kinds.{Answers, HasLink, IsAny, IsMade, IsTenant, IsInTime, IsUnmade, Questions}
 use Rattle.ruu_words.proofs.Building.{looks, marks}
 use Rattle.ruu_words.proofs.Delivery.{by_value, delivers, link_on}

@@ -13,7 +13,7 @@ use Rattle.inorder.specs.Replies.{last_tag}
 use Rattle.inorder.specs.StationWords.{last_of, live_word, station_word}
 use Rattle.inorder.specs.Steps.{MayLet, new_tenant}
 use Rattle.inorder.specs.Tenants.{Open, Tenant, operand}
-use Rattle.inorder.specs.Unit.{Sizes, UpdateUnit, at, next_station, next_tag, recent}
+use Rattle.inorder.specs.Unit.{front_half, Sizes, UpdateUnit, at, next_station, next_tag, recent}
 use Rattle.inorder.proofs.Creators.{are_older, at_cases}
 use Rattle.inorder.proofs.Letting.{LetStays, let_lasts}
 use Rattle.inorder.proofs.Positions.{at_below, at_more}
@@ -26,7 +26,7 @@ use Rattle.ruu_words.specs.declared.rule.Draft.TheVariants.{Nothing, Of}
 use Rattle.ruu_words.specs.declared.rule.Stage.TheVariants.{BothOperands, FirstOperand, Info as InfoAlone}
 use Rattle.ruu_words.specs.declared.rule.View.{View}
 use Rattle.ruu_words.specs.Content.{Content, IsDraft, IsInfo, IsInfoOf, IsLink, IsOperand, IsOperandOf, IsStation, NamesLink, with_new}
-use Rattle.ruu_words.specs.Fields.{index_of, predicted_of}
+use Rattle.ruu_words.specs.Fields.{half_of, index_of, predicted_of}
 use Rattle.ruu_words.specs.Kinds.{Drafts, Lets}
 use Rattle.ruu_words.proofs.General.{Plans}
 use Rattle.inorder.proofs.Histories.{allowed_steps}
@@ -57,9 +57,11 @@ module _ (P : Program) (C : Sizes) (index predicted : ℕ) (first second : Suppl
   abbrev new_in : UpdateUnit → Tenant
   new_in U = new_tenant P C U index predicted first second
 
-  pub info_plan : (id : ℕ) (v : View) (s w : ℕ) → id ≡ front → v.draft ≡ Nothing → MayLet P C (unit_of P C v.seen) index predicted first second → next_tag C (recent (unit_of P C v.seen)) < last_tag → next_station C (recent (unit_of P C v.seen)) ≡ s → index_of w ≡ index → predicted_of w ≡ predicted
+  pub info_plan : (id : ℕ) (v : View) (s w : ℕ) → id ≡ front → v.draft ≡ Nothing → MayLet P C (unit_of P C v.seen) index predicted first second
+      → next_tag C (recent (unit_of P C v.seen)) < last_tag → next_station C (recent (unit_of P C v.seen)) ≡ s
+      → half_of w ≡ front_half P (unit_of P C v.seen).tenants → index_of w ≡ index → predicted_of w ≡ predicted
       → Plans P C id v (Info s) (λ _. w) (λ _. Drafts P C (Of InfoAlone index predicted first second))
-  info_plan id v s w is_front none may tag station_is index_is predicted_is between d legal apart caller mine draft n small content =
+  info_plan id v s w is_front none may tag station_is half_is index_is predicted_is between d legal apart caller mine draft n small content =
       let h : List Entry = between ++ v.seen in
       let U : UpdateUnit = unit_of P C h in
       let now = still_let P C index predicted first second between v.seen legal (subst (λ z. own z between ≡ []) is_front apart) may in
@@ -72,7 +74,7 @@ module _ (P : Program) (C : Sizes) (index predicted : ℕ) (first second : Suppl
         mine = λ other. absurd (other is_front);
         legal = legal;
         proper = (now.may, subst (λ z. z < last_tag) (sym new_tag) tag);
-        here = info_here (new_in U) (recent U) s w at_s (record { index = index_is; predicted = predicted_is });
+        here = info_here (new_in U) (recent U) s w at_s (record { half = half_is ∙ sym (ap (λ (t : Tenant). t.half) now.new); index = index_is; predicted = predicted_is });
         else = λ y k _ other c. go U at_s y k other (subst (λ (z : Draft). Content P C U z y k) was c);
         kind = record { none = refl; draft = refl };
       }

@@ -4,7 +4,7 @@ use prog.Atomic.{either}
 use Rattle.atomic_table.proofs.Lists.{exchanged}
 use Rattle.isa.specs.Programs.{Program}
 use Rattle.isa.specs.declared.stop.Outcome.{Outcome}
-use Rattle.isa.specs.declared.stop.Outcome.TheVariants.{Address, Next, Stop as Stops, Value}
+use Rattle.isa.specs.declared.stop.Outcome.TheVariants.{Address, Next, Pair, Stop as Stops, Value}
 use Rattle.inorder.specs.declared.history.Act.TheVariants.{Finish}
 use Rattle.inorder.specs.declared.history.Entry.{Entry}
 use Rattle.inorder.specs.declared.history.Refusal.TheVariants.{Stale}
@@ -32,6 +32,7 @@ finished_word t (Value v) k n live w = still_live t.standing k t.tag (Done v) (S
 finished_word t (Next x) k n live w = still_live t.standing k t.tag (fate_of t.predicted (Next x)) t.made n live w
 finished_word t (Address a) k n live w = still_live t.standing k t.tag (Addr a) t.made n live w
 finished_word t (Stops c) k n live w = still_live t.standing k t.tag (Stopped c) t.made n live w
+finished_word t (Pair l h) k n live w = still_live t.standing k t.tag (Done l) (Some l) n live w
 
 -- only its caller finishes it
 pub job_stays : (P : Program) (id predicted : ℕ) (outcome : Outcome) (by : ℕ) (s : Step) (t t' : Tenant) → by ≢ id → Goes by s t t' → HasJob P id predicted outcome t → HasJob P id predicted outcome t'

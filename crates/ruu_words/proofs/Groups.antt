@@ -73,7 +73,8 @@ info_at P ts by p act a ok x n c =
     let move = changed_goes P by p act (younger ts p) t (older ts p) a.may (sound_mid P t (older ts p) (younger ts p) (subst (IsSound P) split ok)) in
     let u = changed P by act t (older ts p) in
     subst (λ z. IsInfo (last_of z x) n) (sym (parts P ts by p act t a.is))
-    (info_last t u (older ts p) (younger ts p) x n move.station (λ i. record { index = i.index ∙ sym move.index; predicted = i.predicted ∙ sym move.predicted }) (subst (λ z. IsInfo (last_of z x) n) split c))
+    (info_last t u (older ts p) (younger ts p) x n move.station
+    (λ i. record { half = i.half ∙ sym move.half; index = i.index ∙ sym move.index; predicted = i.predicted ∙ sym move.predicted }) (subst (λ z. IsInfo (last_of z x) n) split c))
 
 pub info_stays : (P : Program) (C : Sizes) (U : UpdateUnit) (by p : ℕ) (act : Act) → Allowed P C U by (On p act) → IsSound P U.tenants → (d : Draft) → SameDraft P C U (applied P C U by (On p act)) d → (x n : ℕ)
     → IsInfo (last_of (recent (info_unit P C U d)) x) n → IsInfo (last_of (recent (info_unit P C (applied P C U by (On p act)) d)) x) n

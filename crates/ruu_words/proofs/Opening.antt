@@ -1,5 +1,5 @@
 -- The rule holds at the start, for a table that goes on from no other.
-use Rattle.std.proofs.Common.{◌≡◌, ℕ, zero, suc, ◌+◌, List, [], ◌∷◌, slice_index, Some, refl, sym, ap, subst, inl, arith}
+use Rattle.std.proofs.Common.{◌≡◌, ℕ, zero, suc, ◌+◌, ◌<◌, ◌≤◌, List, [], ◌∷◌, slice_index, Some, refl, sym, ap, ◌∙◌, subst, inl, arith}
 use mathlib.Core.Option.{some, some-injective, some-ne-none}
 use lib.ListN.{get_elem?}
 use Rattle.atomic_table.specs.Table.{opening}
@@ -17,7 +17,7 @@ use Rattle.ruu_words.specs.declared.rule.View.{View}
 use Rattle.ruu_words.specs.Content.{Content, IsLink, IsStation}
 use Rattle.ruu_words.specs.Fields.{pack}
 use Rattle.ruu_words.specs.Places.{IsPlace, index}
-use Rattle.ruu_words.specs.Rule.{Fits, IsGrown, IsStart, Keeps, Kept, first_view, opening_of, sizes_of, view}
+use Rattle.ruu_words.specs.Rule.{Fits, IsStart, Keeps, Kept, first_view, opening_of, sizes_of, view}
 
 free_word : (g n : ℕ) → n ≡ pack g 0 0 → IsStation (record { tag = g + 0; state = IsFree; value = Some 0 }) n
 free_word g n e = record { tag = omega arith; state = omega arith; value = omega arith }
@@ -28,8 +28,12 @@ no_link p c k n e = record { names = inl e; stands = λ q r producer consumer i 
     none : (r : ℕ) (t : Tenant) → at [] r ≡ Some t → ⊥
     none r t e = cc e
 
-first_only : (id : ℕ) (v : View) → get_elem? (view Start [] Nothing ∷ []) id ≡ some v → (id ≡ 0) × (view Start [] Nothing ≡ v)
-first_only zero v e = (refl, some-injective (view Start [] Nothing) v e)
+-- the first seat, whose numbers are all that there are
+abbrev first_seat : View
+first_seat = view Start 0 (record { first = 1; every = 1 }) [] Nothing
+
+first_only : (id : ℕ) (v : View) → get_elem? (first_seat ∷ []) id ≡ some v → (id ≡ 0) × (first_seat ≡ v)
+first_only zero v e = (refl, some-injective first_seat v e)
 first_only (suc id) v e = absurd (some-ne-none v (sym e))
 
 content : (P : Program) (C : Sizes) (ws : List ℕ) → IsStart C ws → (x : Place) → IsPlace C.ring x → Content P C empty_unit Nothing x (slice_index ws (index C.ring x))
@@ -38,7 +42,7 @@ content P C ws start (Info s) h = start.others (C.ring + s) (omega arith)
 content P C ws start (Operand s k) h = start.others (index C.ring (Operand s k)) (omega arith)
 content P C ws start (Link p c k) h = no_link p c k (slice_index ws (index C.ring (Link p c k))) (start.others (index C.ring (Link p c k)) (omega arith))
 
-pub opens : (P : Program) (C : Sizes) (ws : List ℕ) → IsStart C ws → Keeps P C [] (opening ws [] (view Start [] Nothing))
+pub opens : (P : Program) (C : Sizes) (ws : List ℕ) → IsStart C ws → Keeps P C [] (opening ws [] first_seat)
 opens P C ws start = record {
   history = [];
   draft = Nothing;
@@ -47,10 +51,17 @@ opens P C ws start = record {
     wide = start.wide;
     words = content P C ws start;
     views = λ id v e. let f = first_only id v e in
-        subst (λ (z : View). Fits [] [] id z) f.1 (record { begins = record { more = []; is = refl }; told = record { more = []; is = refl }; opened = λ _. record { more = []; is = refl }; all_own = λ _. refl; caller = f.0 });
-    grown = λ id v e. let f = first_only id v e in subst (λ (z : View). IsGrown z.role 1) f.1 refl;
-    others = λ id _. refl;
-    draft = λ v e. let f = first_only 0 v e in ap (λ (z : View). z.draft) (sym f.1);
+        subst (Fits [] []) f.1 (record {
+          begins = record { more = []; is = refl };
+          told = record { more = []; is = refl };
+          opened = λ _. record { more = []; is = refl };
+          all_own = λ _. refl;
+          unborn = λ _ n i. refl;
+          caller = refl;
+          above = λ _. omega arith;
+        });
+    apart = λ i j n u v e e' ne. absurd (ne ((first_only i u e).0 ∙ sym (first_only j v e').0));
+    draft = λ id v e a is. ap (λ (z : View). z.draft) (sym (first_only id v e).1);
     proper = tt;
   };
 }
@@ -59,4 +70,4 @@ opens P C ws start = record {
 pub opens_first : (c : Setup) (ws : List ℕ) → c.opening.views ≡ [] → IsStart (sizes_of c) ws → Kept c (opening ws [] (first_view c))
 opens_first c ws blank start =
     let none : opening_of c ≡ [] = ap Rattle.ruu_words.specs.Rule.seen_by blank in
-    subst (λ (h : List Rattle.inorder.specs.declared.history.Entry.Entry). Keeps c.program (sizes_of c) h (opening ws [] (view Start h Nothing))) (sym none) (opens c.program (sizes_of c) ws start)
+    subst (λ (h : List Rattle.inorder.specs.declared.history.Entry.Entry). Keeps c.program (sizes_of c) h (opening ws [] (view Start 0 (record { first = 1; every = 1 }) h Nothing))) (sym none) (opens c.program (sizes_of c) ws start)

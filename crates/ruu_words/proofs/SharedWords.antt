@@ -14,6 +14,7 @@ use Rattle.ruu_words.specs.declared.place.Place.{Place}
 use Rattle.ruu_words.specs.declared.place.Place.TheVariants.{Info, Link, Operand, Station}
 use Rattle.ruu_words.specs.declared.rule.Draft.TheVariants.{Nothing}
 use Rattle.ruu_words.specs.Content.{Content, IsLink, IsLinked, NamesLink}
+use Rattle.isa.specs.declared.op.Half.TheVariants.{Low}
 use Rattle.ruu_words.specs.Fields.{pack, pack_info, pack_link}
 use Rattle.ruu_words.specs.Places.{IsPlace, index, words_for}
 
@@ -31,7 +32,7 @@ word_spent = refl
 word_link : pack_link 1 1 ≡ 0x0000001000000100
 word_link = refl
 
-word_info : pack_info 1 0x00400008 ≡ 0x0000000100400008
+word_info : pack_info Low 1 0x00400008 ≡ 0x0000000100400008
 word_info = refl
 
 -- The words once the first tenant is done with 5, and before it is delivered
@@ -133,8 +134,8 @@ unfolding instr_at computed_by jump_target checked_address loaded
 table_made (Station zero) h = record { tag = refl; state = refl; value = refl }
 table_made (Station (suc zero)) h = record { tag = refl; state = refl; value = refl }
 table_made (Station (suc (suc s))) h = absurd (omega arith)
-table_made (Info zero) h = record { index = refl; predicted = refl }
-table_made (Info (suc zero)) h = record { index = refl; predicted = refl }
+table_made (Info zero) h = record { half = refl; index = refl; predicted = refl }
+table_made (Info (suc zero)) h = record { half = refl; index = refl; predicted = refl }
 table_made (Info (suc (suc s))) h = absurd (omega arith)
 table_made (Operand zero First) h = record { tag = refl; state = refl; value = refl }
 table_made (Operand zero Second) h = record { tag = refl; state = refl; value = refl }

@@ -2,9 +2,10 @@
 use Rattle.std.proofs.Common.{◌≡◌, ◌≢◌, ℕ, List, [], ◌++◌, Option, Some, None, refl, sym, ap, ◌∙◌, subst}
 use Rattle.std.specs.Prelude.{length, unwrap_or}
 use Rattle.isa.specs.Instruction.{kind}
-use Rattle.isa.specs.Operations.{outcome, outcome_by}
+use Rattle.isa.specs.Operations.{outcome_of, outcome_by}
 use Rattle.isa.specs.Programs.{Program, instr_of}
 use Rattle.isa.specs.declared.instr.Instr.{Instr}
+use Rattle.isa.specs.declared.op.Half.{Half}
 use Rattle.isa.specs.declared.op.Kind.{Kind}
 use Rattle.isa.specs.declared.op.Kind.TheVariants.{Computes, Jumps, Links, Loads, Stores}
 use Rattle.inorder.specs.declared.history.Act.{Act}
@@ -129,18 +130,19 @@ ready_stays P by s t t' m n =
     ap (λ i. missing_of (kind (instr_of P i).op) t'.first.value t'.second.value) m.index
     ∙ missing_stays (kind_of P t) t.first.value t.second.value t'.first.value t'.second.value (m.value First) (m.value Second) n
 
-outcome_same : (k : Kind) (i : Instr) (pc size : ℕ) (a b a' b' : Option ℕ) → ((v : ℕ) → a ≡ Some v → a' ≡ Some v) → ((v : ℕ) → b ≡ Some v → b' ≡ Some v) → missing_of k a b ≡ None
-    → outcome_by k i pc (unwrap_or a' 0) (unwrap_or b' 0) size ≡ outcome_by k i pc (unwrap_or a 0) (unwrap_or b 0) size
-outcome_same k i pc size None b a' b' f g e = absurd (cc)
-outcome_same k i pc size (Some v) (Some w) a' b' f g e = λ j. outcome_by k i pc (unwrap_or (f v refl j) 0) (unwrap_or (g w refl j) 0) size
-outcome_same Computes i pc size (Some v) None a' b' f g e = absurd (cc)
-outcome_same Jumps i pc size (Some v) None a' b' f g e = absurd (cc)
-outcome_same Links i pc size (Some v) None a' b' f g e = absurd (cc)
-outcome_same Loads i pc size (Some v) None a' b' f g e = absurd (cc)
-outcome_same Stores i pc size (Some v) None a' b' f g e = λ j. outcome_by Stores i pc (unwrap_or (f v refl j) 0) 0 size
+outcome_same : (k : Kind) (i : Instr) (half : Half) (pc size : ℕ) (a b a' b' : Option ℕ) → ((v : ℕ) → a ≡ Some v → a' ≡ Some v) → ((v : ℕ) → b ≡ Some v → b' ≡ Some v) → missing_of k a b ≡ None
+    → outcome_by k i half pc (unwrap_or a' 0) (unwrap_or b' 0) size ≡ outcome_by k i half pc (unwrap_or a 0) (unwrap_or b 0) size
+outcome_same k i half pc size None b a' b' f g e = absurd (cc)
+outcome_same k i half pc size (Some v) (Some w) a' b' f g e = λ j. outcome_by k i half pc (unwrap_or (f v refl j) 0) (unwrap_or (g w refl j) 0) size
+outcome_same Computes i half pc size (Some v) None a' b' f g e = absurd (cc)
+outcome_same Jumps i half pc size (Some v) None a' b' f g e = absurd (cc)
+outcome_same Links i half pc size (Some v) None a' b' f g e = absurd (cc)
+outcome_same Loads i half pc size (Some v) None a' b' f g e = absurd (cc)
+outcome_same Stores i half pc size (Some v) None a' b' f g e = λ j. outcome_by Stores i half pc (unwrap_or (f v refl j) 0) 0 size
 
 pub computed_stays : (P : Program) (by : ℕ) (s : Step) (t t' : Tenant) → Goes by s t t' → IsReady P t → computed P t' ≡ computed P t
 computed_stays P by s t t' m n =
-    ap (λ k. outcome (instr_of P k) t'.pc (operand_value t'.first) (operand_value t'.second) (length P.bytes)) m.index
-    ∙ (ap (λ x. outcome (instr_of P t.index) x (operand_value t'.first) (operand_value t'.second) (length P.bytes)) m.pc
-    ∙ outcome_same (kind_of P t) (instr_of P t.index) t.pc (length P.bytes) t.first.value t.second.value t'.first.value t'.second.value (m.value First) (m.value Second) n)
+    ap (λ k. outcome_of (instr_of P k) t'.half t'.pc (operand_value t'.first) (operand_value t'.second) (length P.bytes)) m.index
+    ∙ (ap (λ x. outcome_of (instr_of P t.index) x t'.pc (operand_value t'.first) (operand_value t'.second) (length P.bytes)) m.half
+    ∙ ap (λ x. outcome_of (instr_of P t.index) t.half x (operand_value t'.first) (operand_value t'.second) (length P.bytes)) m.pc
+    ∙ outcome_same (kind_of P t) (instr_of P t.index) t.half t.pc (length P.bytes) t.first.value t.second.value t'.first.value t'.second.value (m.value First) (m.value Second) n)

@@ -1,8 +1,8 @@
 -- Cutting a view in two, and joining two.
-use Rattle.std.proofs.Common.{◌≡◌, ◌≢◌, ℕ, zero, suc, ◌+◌, ◌<◌, List, [], ◌∷◌, ◌++◌, length, set, sym, refl, ap, ◌∙◌, subst, inl, inr, ◌⊎◌, ⊎_elim, arith, append-nil, length-append, length-set}
+use Rattle.std.proofs.Common.{◌≡◌, ◌≢◌, ℕ, zero, suc, ◌+◌, ◌*◌, ◌<◌, ◌≤◌, List, [], ◌∷◌, ◌++◌, length, set, sym, refl, ap, ◌∙◌, subst, inl, inr, ◌⊎◌, ⊎_elim, arith, append-nil, length-append, length-set}
 use mathlib.Core.Option.{some, some-injective, some-ne-none}
 use lib.ListN.{get_elem?}
-use Rattle.atomic_table.specs.Table.{Joins, Splits}
+use Rattle.atomic_table.specs.Table.{Joins, Splits, State}
 use Rattle.atomic_table.proofs.Lists.{at_set, set_else}
 use Rattle.isa.specs.Programs.{Program}
 use Rattle.inorder.specs.declared.history.Entry.{Entry}
@@ -11,11 +11,12 @@ use Rattle.inorder.specs.Unit.{Sizes}
 use Rattle.inorder.proofs.Histories.{no_length, own-append}
 use Rattle.ruu_words.specs.declared.rule.Draft.{Draft}
 use Rattle.ruu_words.specs.declared.rule.Draft.TheVariants.{Nothing}
+use Rattle.ruu_words.specs.declared.rule.Heirs.{Heirs}
 use Rattle.ruu_words.specs.declared.rule.Role.{Role}
 use Rattle.ruu_words.specs.declared.rule.Role.TheVariants.{Back, Front, Spent, Start, Worker}
 use Rattle.ruu_words.specs.declared.rule.View.{View}
-use Rattle.ruu_words.specs.Rule.{Fits, IsAlive, IsCaller, IsGrown, IsKept, Keeps, informed, view}
-use Rattle.ruu_words.proofs.General.{below_length}
+use Rattle.ruu_words.specs.Rule.{Fits, IsAlive, IsCaller, IsHeir, IsKept, IsOf, Keeps, half, informed, nobody, other_half, view, without_first}
+use Rattle.ruu_words.proofs.Heirs.{half_apart, half_not_first, half_of, later_of, no_heirs, not_first, other_half_of, own_number, positive}
 
 at_end : {A : Type 0} (l : List A) (a b : A) (j : ℕ) → get_elem? (l ++ a ∷ []) j ≡ some b → (get_elem? l j ≡ some b) ⊎ ((j ≡ length l) × (a ≡ b))
 at_end [] a b zero e = inr (refl, some-injective a b e)
@@ -23,105 +24,232 @@ at_end [] a b (suc j) e = absurd (some-ne-none b (sym e))
 at_end (x ∷ xs) a b zero e = inl e
 at_end (x ∷ xs) a b (suc j) e = ⊎_elim (λ h. inl h) (λ h. inr (ap suc h.0, h.1)) (at_end xs a b j e)
 
--- a moment between two has no more entries of a caller than the later one adds
-own_between : (id : ℕ) (h seen opening : List Entry) → StartsWith h seen → StartsWith seen opening → own id h ≡ own id opening → own id seen ≡ own id opening
-own_between id h seen opening a b e =
+-- who has no entry in a history has none in its beginning
+own_begin : (id : ℕ) (h seen : List Entry) → StartsWith h seen → own id h ≡ [] → own id seen ≡ []
+own_begin id h seen a e =
     let x : own id h ≡ own id a.more ++ own id seen = ap (own id) a.is ∙ own-append id a.more seen in
-    let y : own id seen ≡ own id b.more ++ own id opening = ap (own id) b.is ∙ own-append id b.more opening in
     let n = ap (λ l. length l) (sym x ∙ e) in
-    let m = ap (λ l. length l) y in
     let lx = length-append (own id a.more) (own id seen) in
-    let ly = length-append (own id b.more) (own id opening) in
-    let none : own id b.more ≡ [] = no_length (own id b.more) (omega arith) in
-    y ∙ ap (λ l. l ++ own id opening) none
+    no_length (own id seen) (omega arith)
 
 starts_empty : (h : List Entry) → StartsWith h []
 starts_empty h = record { more = h; is = sym (append-nil h) }
 
--- the seats that there are after a cut
-abbrev IsCut : ℕ → ℕ → Role → Role → Role → Type 0
-IsCut n id role left right = IsGrown role n → IsCaller role id → id < n → IsCaller left id × IsCaller right n × IsGrown left (n + 1) × IsGrown right (n + 1) × (IsAlive left → IsAlive role)
+-- What a seat may name is cut in two: its own number stays, and a new caller has one that it might give away
+pub record IsCut (v l r : View) : Type 0 where
+  pub left_caller : IsCaller l.role l.by
+  pub right_caller : IsCaller r.role r.by
+  pub left_above : 1 ≤ l.heirs.every → l.by < l.heirs.first
+  pub right_above : 1 ≤ r.heirs.every → r.by < r.heirs.first
+  pub left_heirs : (n : ℕ) → IsHeir l.heirs n → IsHeir v.heirs n
+  pub given : IsAlive r.role → (n : ℕ) → IsOf r n → IsHeir v.heirs n
+  pub apart : IsAlive r.role → (n : ℕ) → IsOf l n → ¬ IsOf r n
 
-grown_more : (n id j : ℕ) (role : Role) → id < n → j < n → j ≢ id → IsGrown role n → IsGrown role (n + 1)
-grown_more n id j Start h h' apart g = absurd (apart (omega arith))
-grown_more n id j Front h h' apart g = omega arith
-grown_more n id j Back h h' apart g = omega arith
-grown_more n id j Worker h h' apart g = omega arith
-grown_more n id j Spent h h' apart g = omega arith
+-- Whose a seat is behind a cut
+data Where (views : List View) (id : ℕ) (l r : View) (i : ℕ) (a : View) : Type 0 where
+  IsLeft : i ≡ id → l ≡ a → Where views id l r i a
+  IsElse : i ≢ id → get_elem? views i ≡ some a → Where views id l r i a
+  IsRight : i ≡ length views → r ≡ a → Where views id l r i a
+
+where_is : (views : List View) (id : ℕ) (l r : View) (i : ℕ) (a : View) → get_elem? (set views id l ++ r ∷ []) i ≡ some a → Where views id l r i a
+where_is views id l r i a e = ⊎_elim
+    (λ old. ⊎_elim
+    (λ (t : (i ≡ id) × (l ≡ a)). IsLeft t.0 t.1)
+    (λ (t : (i ≢ id) × (get_elem? views i ≡ some a)). IsElse t.0 t.1)
+    (at_set views id i l a old))
+    (λ (t : (i ≡ length (set views id l)) × (r ≡ a)). IsRight (t.0 ∙ length-set views id l) t.1)
+    (at_end (set views id l) r a i e)
 
 module _ (P : Program) (C : Sizes) (opening : List Entry) where
-  pub splits : (id : ℕ) (v : View) (left right : Role) → IsAlive v.role → ((n : ℕ) → IsCut n id v.role left right) → Splits (Keeps P C opening) id v (view left v.seen v.draft) (view right v.seen Nothing)
-  splits id v left right live cut s kept here =
+  module _ (id : ℕ) (v : View) (left right : Role) (kin : Heirs) (number : ℕ) (heirs : Heirs) where
+    abbrev L : View
+    L = view left v.by kin v.seen v.draft
+
+    abbrev R : View
+    R = view right number heirs v.seen Nothing
+
+    module _ (live : IsAlive v.role) (s : State ℕ View) (h : List Entry) (d : Draft) (k : IsKept P C opening s h d) (here : get_elem? s.views id ≡ some v) (q : IsCut v L R) where
+      left_of : (n : ℕ) → IsOf L n → IsOf v n
+      left_of n x = ⊎_elim (λ e. inl e) (λ i. inr (q.left_heirs n i)) x
+
+      apart_at : (i j n : ℕ) (a b : View) → Where s.views id L R i a → Where s.views id L R j b → i ≢ j → IsAlive a.role → IsAlive b.role → IsOf a n → ¬ IsOf b n
+      apart_at i j n a b (IsLeft e f) (IsLeft e' f') ne la lb x y = ne (e ∙ sym e')
+      apart_at i j n a b (IsLeft e f) (IsElse e' f') ne la lb x y = k.apart id j n v b here f' (λ o. e' (sym o)) live lb (left_of n (subst (λ z. IsOf z n) (sym f) x)) y
+      apart_at i j n a b (IsLeft e f) (IsRight e' f') ne la lb x y = q.apart (subst (λ (z : View). IsAlive z.role) (sym f') lb) n (subst (λ z. IsOf z n) (sym f) x) (subst (λ z. IsOf z n) (sym f') y)
+      apart_at i j n a b (IsElse e f) (IsLeft e' f') ne la lb x y = k.apart i id n a v f here e la live x (left_of n (subst (λ z. IsOf z n) (sym f') y))
+      apart_at i j n a b (IsElse e f) (IsElse e' f') ne la lb x y = k.apart i j n a b f f' ne la lb x y
+      apart_at i j n a b (IsElse e f) (IsRight e' f') ne la lb x y = k.apart i id n a v f here e la live x (inr (q.given (subst (λ (z : View). IsAlive z.role) (sym f') lb) n (subst (λ z. IsOf z n) (sym f') y)))
+      apart_at i j n a b (IsRight e f) (IsLeft e' f') ne la lb x y = q.apart (subst (λ (z : View). IsAlive z.role) (sym f) la) n (subst (λ z. IsOf z n) (sym f') y) (subst (λ z. IsOf z n) (sym f) x)
+      apart_at i j n a b (IsRight e f) (IsElse e' f') ne la lb x y = k.apart id j n v b here f' (λ o. e' (sym o)) live lb (inr (q.given (subst (λ (z : View). IsAlive z.role) (sym f) la) n (subst (λ z. IsOf z n) (sym f) x))) y
+      apart_at i j n a b (IsRight e f) (IsRight e' f') ne la lb x y = ne (e ∙ sym e')
+
+      fits_at : (i : ℕ) (a : View) → Where s.views id L R i a → Fits opening h a
+      fits_at i a (IsLeft e f) =
+          let g = k.views id v here in
+          subst (Fits opening h) f (record {
+            begins = g.begins;
+            told = starts_empty h;
+            opened = λ _. g.opened live;
+            all_own = λ _. g.all_own live;
+            unborn = λ _ n x. g.unborn live n (q.left_heirs n x);
+            caller = q.left_caller;
+            above = q.left_above;
+          })
+      fits_at i a (IsElse e f) = k.views i a f
+      fits_at i a (IsRight e f) =
+          let g = k.views id v here in
+          subst (Fits opening h) f (record {
+            begins = g.begins;
+            told = starts_empty h;
+            opened = λ _. g.opened live;
+            all_own = λ a. let none = g.unborn live number (q.given a number (inl refl)) in none ∙ sym (own_begin number h v.seen g.begins none);
+            unborn = λ a n x. g.unborn live n (q.given a n (inr x));
+            caller = q.right_caller;
+            above = q.right_above;
+          })
+
+      draft_at : (i : ℕ) (a : View) → Where s.views id L R i a → IsAlive a.role → a.by ≡ front → a.draft ≡ d
+      draft_at i a (IsLeft e f) la is = ap (λ (z : View). z.draft) (sym f) ∙ k.draft id v here live (ap (λ (z : View). z.by) f ∙ is)
+      draft_at i a (IsElse e f) la is = k.draft i a f la is
+      draft_at i a (IsRight e f) la is =
+          let its = q.given (subst (λ (z : View). IsAlive z.role) (sym f) la) number (inl refl) in
+          absurd (positive v.heirs number v.by (k.views id v here).above its (ap (λ (z : View). z.by) f ∙ is))
+
+    splits : IsAlive v.role → (IsCaller v.role v.by → (1 ≤ v.heirs.every → v.by < v.heirs.first) → IsCut v L R) → Splits (Keeps P C opening) id v L R
+    splits live cut s kept here =
+        let h : List Entry = kept.history in
+        let d : Draft = kept.draft in
+        let k : IsKept P C opening s h d = kept.kept in
+        let f = k.views id v here in
+        let q : IsCut v L R = cut f.caller f.above in
+        record {
+          history = h;
+          draft = d;
+          kept = record {
+            legal = k.legal;
+            wide = k.wide;
+            words = k.words;
+            views = λ i a e. fits_at live s h d k here q i a (where_is s.views id L R i a e);
+            apart = λ i j n a b e e'. apart_at live s h d k here q i j n a b (where_is s.views id L R i a e) (where_is s.views id L R j b e');
+            draft = λ i a e. draft_at live s h d k here q i a (where_is s.views id L R i a e);
+            proper = k.proper;
+          };
+        }
+
+  -- The first seat is cut into the front's and the back's
+  pub splits_back : (id : ℕ) (v : View) → v.role ≡ Start → v.heirs ≡ record { first = 1; every = 1 } → Splits (Keeps P C opening) id v (view Front v.by (without_first v.heirs) v.seen v.draft) (view Back v.heirs.first nobody v.seen Nothing)
+  splits_back id v is are = splits id v Front Back (without_first v.heirs) v.heirs.first nobody (subst IsAlive (sym is) tt) (λ caller above.
+      let one : v.heirs.first ≡ 1 = ap (λ (z : Heirs). z.first) are in
+      let step : v.heirs.every ≡ 1 = ap (λ (z : Heirs). z.every) are in
+      let least : 1 ≤ v.heirs.every = omega arith in
+      let below = above least in
+      record {
+        left_caller = subst (λ r. IsCaller r v.by) is caller;
+        right_caller = one;
+        left_above = λ _. omega arith;
+        right_above = λ none. absurd (no_heirs none);
+        left_heirs = λ n i. later_of v.heirs n i;
+        given = λ _ n x. ⊎_elim (λ e. record { some = least; k = 0; is = e ∙ sym (first_is v.heirs) }) (λ i. absurd (no_heirs i.some)) x;
+        apart = λ _ n x y. ⊎_elim (λ (e' : n ≡ v.heirs.first). ⊎_elim (λ (e : n ≡ v.by). omega arith) (λ i. not_first v.heirs n i e') x) (λ i. no_heirs i.some) y;
+      })
+    where
+      first_is : (heirs : Heirs) → heirs.first + 0 * heirs.every ≡ heirs.first
+      first_is heirs = omega arith
+
+  -- The first unit's is cut from the front's
+  pub splits_first : (id : ℕ) (v : View) → v.role ≡ Front → v.heirs ≡ record { first = 2; every = 1 } → Splits (Keeps P C opening) id v (view v.role v.by nobody v.seen v.draft) (view Worker v.heirs.first (without_first v.heirs) v.seen Nothing)
+  splits_first id v is are = splits id v v.role Worker nobody v.heirs.first (without_first v.heirs) (subst IsAlive (sym is) tt) (λ caller above.
+      let two : v.heirs.first ≡ 2 = ap (λ (z : Heirs). z.first) are in
+      let step : v.heirs.every ≡ 1 = ap (λ (z : Heirs). z.every) are in
+      let least : 1 ≤ v.heirs.every = omega arith in
+      let below = above least in
+      record {
+        left_caller = caller;
+        right_caller = omega arith;
+        left_above = λ none. absurd (no_heirs none);
+        right_above = λ _. omega arith;
+        left_heirs = λ n i. absurd (no_heirs i.some);
+        given = λ _ n x. ⊎_elim (λ e. record { some = least; k = 0; is = e ∙ sym (first_is v.heirs) }) (λ i. later_of v.heirs n i) x;
+        apart = λ _ n x y. ⊎_elim (λ (e : n ≡ v.by). ⊎_elim (λ (e' : n ≡ v.heirs.first). omega arith) (λ i. own_number v.heirs n v.by above (later_of v.heirs n i) (sym e)) y) (λ i. no_heirs i.some) x;
+      })
+    where
+      first_is : (heirs : Heirs) → heirs.first + 0 * heirs.every ≡ heirs.first
+      first_is heirs = omega arith
+
+  -- A unit's is cut into two units'
+  pub splits_unit : (id : ℕ) (v : View) → v.role ≡ Worker → 1 ≤ v.heirs.every → Splits (Keeps P C opening) id v (view v.role v.by (half v.heirs) v.seen v.draft) (view Worker v.heirs.first (other_half v.heirs) v.seen Nothing)
+  splits_unit id v is least = splits id v v.role Worker (half v.heirs) v.heirs.first (other_half v.heirs) (subst IsAlive (sym is) tt) (λ caller above.
+      let unit : 2 ≤ v.by = subst (λ r. IsCaller r v.by) is caller in
+      let below = above least in
+      record {
+        left_caller = caller;
+        right_caller = omega arith;
+        left_above = λ _. omega arith;
+        right_above = λ _. omega arith;
+        left_heirs = λ n i. half_of v.heirs n i;
+        given = λ _ n x. ⊎_elim (λ e. record { some = least; k = 0; is = e ∙ sym (first_is v.heirs) }) (λ i. other_half_of v.heirs n i) x;
+        apart = λ _ n x y. ⊎_elim
+            (λ (e : n ≡ v.by). ⊎_elim (λ (e' : n ≡ v.heirs.first). omega arith) (λ i. own_number v.heirs n v.by above (other_half_of v.heirs n i) (sym e)) y)
+            (λ i. ⊎_elim (λ (e' : n ≡ v.heirs.first). half_not_first v.heirs n i e') (λ j. half_apart v.heirs n i j) y)
+            x;
+      })
+    where
+      first_is : (heirs : Heirs) → heirs.first + 0 * heirs.every ≡ heirs.first
+      first_is heirs = omega arith
+
+  -- A note of what a seat has seen is cut from it
+  pub splits_note : (id : ℕ) (v : View) → IsAlive v.role → Splits (Keeps P C opening) id v (view v.role v.by v.heirs v.seen v.draft) (view Spent 0 nobody v.seen Nothing)
+  splits_note id v alive = splits id v v.role Spent v.heirs 0 nobody alive (λ caller above. record {
+    left_caller = caller;
+    right_caller = tt;
+    left_above = above;
+    right_above = λ none. absurd (no_heirs none);
+    left_heirs = λ n i. i;
+    given = λ a. absurd a;
+    apart = λ a. absurd a;
+  })
+
+-- Behind a joining, a seat that is not spent was there before, with the same numbers
+record WasAt (views : List View) (i : ℕ) (u : View) : Type 0 where
+  pub before : View
+  pub is : get_elem? views i ≡ some before
+  pub role : before.role ≡ u.role
+  pub by_is : before.by ≡ u.by
+  pub heirs_are : before.heirs ≡ u.heirs
+  pub draft_is : before.draft ≡ u.draft
+
+was_alive : (views : List View) (i : ℕ) (u : View) → (x : WasAt views i u) → IsAlive u.role → IsAlive x.before.role
+was_alive views i u x a = subst IsAlive (sym x.role) a
+
+was_of : (views : List View) (i n : ℕ) (u : View) → (x : WasAt views i u) → IsOf u n → IsOf x.before n
+was_of views i n u x o = ⊎_elim (λ (e : n ≡ u.by). inl (e ∙ sym x.by_is)) (λ (h : IsHeir u.heirs n). inr (subst (λ z. IsHeir z n) (sym x.heirs_are) h)) o
+
+was_at : (views : List View) (id : ℕ) (v : View) (other : ℕ) (w : View) → get_elem? views id ≡ some v → (i : ℕ) (u : View) → get_elem? (set (set views id (informed v w)) other (view Spent 0 nobody [] Nothing)) i ≡ some u → IsAlive u.role → WasAt views i u
+was_at views id v other w here i u e alive = ⊎_elim
+    (λ (t : (i ≡ other) × (view Spent 0 nobody [] Nothing ≡ u)). absurd (subst (λ (x : View). IsAlive x.role) (sym t.1) alive))
+    (λ (t : (i ≢ other) × (get_elem? (set views id (informed v w)) i ≡ some u)). ⊎_elim
+    (λ (o : (i ≡ id) × (informed v w ≡ u)). record {
+      before = v;
+      is = subst (λ j. get_elem? views j ≡ some v) (sym o.0) here;
+      role = ap (λ (x : View). x.role) o.1;
+      by_is = ap (λ (x : View). x.by) o.1;
+      heirs_are = ap (λ (x : View). x.heirs) o.1;
+      draft_is = ap (λ (x : View). x.draft) o.1;
+    })
+    (λ (o : (i ≢ id) × (get_elem? views i ≡ some u)). record { before = u; is = o.1; role = refl; by_is = refl; heirs_are = refl; draft_is = refl })
+    (at_set views id i (informed v w) u t.1))
+    (at_set (set views id (informed v w)) other i (view Spent 0 nobody [] Nothing) u e)
+
+module _ (P : Program) (C : Sizes) (opening : List Entry) where
+  pub joins : (id : ℕ) (v : View) (other : ℕ) (w : View) → w.role ≡ Spent → Joins (Keeps P C opening) id v other w (informed v w) (view Spent 0 nobody [] Nothing)
+  joins id v other w spent s kept here apart there =
       let h : List Entry = kept.history in let d : Draft = kept.draft in let k : IsKept P C opening s h d = kept.kept in
-      let n : ℕ = length s.views in
-      let l : View = view left v.seen v.draft in let r : View = view right v.seen Nothing in
-      let f = k.views id v here in
-      let below : id < n = below_length s.views id v here in
-      let q = cut n (k.grown id v here) f.caller below in
-      let wide : length (set s.views id l) ≡ n = length-set s.views id l in
-      let more : length (set s.views id l ++ r ∷ []) ≡ n + 1 = omega (arith, length-append (set s.views id l) (r ∷ []), wide) in
-      let goes_on : StartsWith v.seen opening = f.opened live in
-      let none_new : own n v.seen ≡ own n opening = own_between n h v.seen opening f.begins goes_on (k.others n (omega arith)) in
-      let is_left : Fits opening h id l = record { begins = f.begins; told = starts_empty h; opened = λ _. goes_on; all_own = λ alive. f.all_own (q.4 alive); caller = q.0 } in
-      let is_right : Fits opening h n r = record { begins = f.begins; told = starts_empty h; opened = λ _. goes_on; all_own = λ _. k.others n (omega arith) ∙ sym none_new; caller = q.1 } in record {
-        history = h;
-        draft = d;
-        kept = record {
-          legal = k.legal;
-          wide = k.wide;
-          words = k.words;
-          views = λ j u e. ⊎_elim
-              (λ old. ⊎_elim
-              (λ (t : (j ≡ id) × (l ≡ u)). subst (λ (z : ℕ × View). Fits opening h z.0 z.1) (λ i. (sym t.0 i, t.1 i)) is_left)
-              (λ (t : (j ≢ id) × (get_elem? s.views j ≡ some u)). k.views j u t.1)
-              (at_set s.views id j l u old))
-              (λ (t : (j ≡ length (set s.views id l)) × (r ≡ u)). subst (λ (z : ℕ × View). Fits opening h z.0 z.1) (λ i. (sym (t.0 ∙ wide) i, t.1 i)) is_right)
-              (at_end (set s.views id l) r u j e);
-          grown = λ j u e. subst (λ (z : ℕ). IsGrown u.role z) (sym more) (⊎_elim
-              (λ old. ⊎_elim
-              (λ (t : (j ≡ id) × (l ≡ u)). subst (λ (z : View). IsGrown z.role (n + 1)) t.1 q.2)
-              (λ (t : (j ≢ id) × (get_elem? s.views j ≡ some u)). grown_more n id j u.role below (below_length s.views j u t.1) t.0 (k.grown j u t.1))
-              (at_set s.views id j l u old))
-              (λ (t : (j ≡ length (set s.views id l)) × (r ≡ u)). subst (λ (z : View). IsGrown z.role (n + 1)) t.1 q.3)
-              (at_end (set s.views id l) r u j e));
-          others = λ j above. k.others j (omega arith);
-          draft = λ u e. ⊎_elim
-              (λ old. ⊎_elim
-              (λ (t : (front ≡ id) × (l ≡ u)). ap (λ (z : View). z.draft) (sym t.1) ∙ k.draft v (subst (λ (z : ℕ). get_elem? s.views z ≡ some v) (sym t.0) here))
-              (λ (t : (front ≢ id) × (get_elem? s.views front ≡ some u)). k.draft u t.1)
-              (at_set s.views id front l u old))
-              (λ (t : (front ≡ length (set s.views id l)) × (r ≡ u)). let z = t.0 in absurd (omega arith))
-              (at_end (set s.views id l) r u front e);
-          proper = k.proper;
-        };
-      }
-
-  cut_back : (n id : ℕ) → IsCut n id Start Front Back
-  cut_back n id g i h = (i, g, omega arith, omega arith, λ _. tt)
-
-  cut_unit : (role : Role) → role ≢ Start → IsAlive role → (n id : ℕ) → IsCut n id role role Worker
-  cut_unit Start apart a n id g i h = absurd (apart refl)
-  cut_unit Front apart a n id g i h = (i, g, omega arith, omega arith, λ _. tt)
-  cut_unit Back apart a n id g i h = (i, g, omega arith, omega arith, λ _. tt)
-  cut_unit Worker apart a n id g i h = (i, g, omega arith, omega arith, λ _. tt)
-  cut_unit Spent apart a n id g i h = absurd a
-
-  pub splits_back : (id : ℕ) (v : View) → v.role ≡ Start → Splits (Keeps P C opening) id v (view Front v.seen v.draft) (view Back v.seen Nothing)
-  splits_back id v is = splits id v Front Back (subst IsAlive (sym is) tt) (λ n. subst (λ (r : Role). IsCut n id r Front Back) (sym is) (cut_back n id))
-
-  pub splits_unit : (id : ℕ) (v : View) → v.role ≢ Start → IsAlive v.role → Splits (Keeps P C opening) id v (view v.role v.seen v.draft) (view Worker v.seen Nothing)
-  splits_unit id v apart alive = splits id v v.role Worker alive (λ n. cut_unit v.role apart alive n id)
-
-  pub joins : (id : ℕ) (v : View) (other : ℕ) (w : View) → w.role ≡ Worker → Joins (Keeps P C opening) id v other w (informed v w) (view Spent [] Nothing)
-  joins id v other w worker s kept here apart there =
-      let h : List Entry = kept.history in let d : Draft = kept.draft in let k : IsKept P C opening s h d = kept.kept in
-      let b : View = informed v w in let z : View = view Spent [] Nothing in
+      let b : View = informed v w in let z : View = view Spent 0 nobody [] Nothing in
       let was : get_elem? s.views other ≡ some w = sym (set_else s.views id other b apart) ∙ there in
       let f = k.views id v here in let f' = k.views other w was in
-      let wide : length (set (set s.views id b) other z) ≡ length s.views = length-set (set s.views id b) other z ∙ length-set s.views id b in
-      let is_both : Fits opening h id b = record { begins = f.begins; told = f'.begins; opened = f.opened; all_own = f.all_own; caller = f.caller } in
-      let unit : IsCaller Spent other = subst (λ (r : Role). IsCaller r other) worker f'.caller in
-      let is_spent : Fits opening h other z = record { begins = starts_empty h; told = starts_empty h; opened = λ a. absurd a; all_own = λ a. absurd a; caller = unit } in record {
+      let is_both : Fits opening h b = record { begins = f.begins; told = f'.begins; opened = f.opened; all_own = f.all_own; unborn = f.unborn; caller = f.caller; above = f.above } in
+      let is_spent : Fits opening h z = record { begins = starts_empty h; told = starts_empty h; opened = λ a. absurd a; all_own = λ a. absurd a; unborn = λ a. absurd a; caller = tt; above = λ none. absurd (no_heirs none) } in
+      record {
         history = h;
         draft = d;
         kept = record {
@@ -129,27 +257,17 @@ module _ (P : Program) (C : Sizes) (opening : List Entry) where
           wide = k.wide;
           words = k.words;
           views = λ j u e. ⊎_elim
-              (λ (t : (j ≡ other) × (z ≡ u)). subst (λ (y : ℕ × View). Fits opening h y.0 y.1) (λ i. (sym t.0 i, t.1 i)) is_spent)
+              (λ (t : (j ≡ other) × (z ≡ u)). subst (Fits opening h) t.1 is_spent)
               (λ (t : (j ≢ other) × (get_elem? (set s.views id b) j ≡ some u)). ⊎_elim
-              (λ (o : (j ≡ id) × (b ≡ u)). subst (λ (y : ℕ × View). Fits opening h y.0 y.1) (λ i. (sym o.0 i, o.1 i)) is_both)
+              (λ (o : (j ≡ id) × (b ≡ u)). subst (Fits opening h) o.1 is_both)
               (λ (o : (j ≢ id) × (get_elem? s.views j ≡ some u)). k.views j u o.1)
               (at_set s.views id j b u t.1))
               (at_set (set s.views id b) other j z u e);
-          grown = λ j u e. subst (λ (y : ℕ). IsGrown u.role y) (sym wide) (⊎_elim
-              (λ (t : (j ≡ other) × (z ≡ u)). subst (λ (y : View). IsGrown y.role (length s.views)) t.1 (subst (λ (r : Role). IsGrown r (length s.views)) worker (k.grown other w was)))
-              (λ (t : (j ≢ other) × (get_elem? (set s.views id b) j ≡ some u)). ⊎_elim
-              (λ (o : (j ≡ id) × (b ≡ u)). subst (λ (y : View). IsGrown y.role (length s.views)) o.1 (k.grown id v here))
-              (λ (o : (j ≢ id) × (get_elem? s.views j ≡ some u)). k.grown j u o.1)
-              (at_set s.views id j b u t.1))
-              (at_set (set s.views id b) other j z u e));
-          others = λ j above. k.others j (omega arith);
-          draft = λ u e. ⊎_elim
-              (λ (t : (front ≡ other) × (z ≡ u)). let x = t.0 in absurd (omega arith))
-              (λ (t : (front ≢ other) × (get_elem? (set s.views id b) front ≡ some u)). ⊎_elim
-              (λ (o : (front ≡ id) × (b ≡ u)). ap (λ (y : View). y.draft) (sym o.1) ∙ k.draft v (subst (λ (y : ℕ). get_elem? s.views y ≡ some v) (sym o.0) here))
-              (λ (o : (front ≢ id) × (get_elem? s.views front ≡ some u)). k.draft u o.1)
-              (at_set s.views id front b u t.1))
-              (at_set (set s.views id b) other front z u e);
+          apart = λ i j n u u' e e' ne a a' x x'.
+              let y = was_at s.views id v other w here i u e a in
+              let y' = was_at s.views id v other w here j u' e' a' in
+              k.apart i j n y.before y'.before y.is y'.is ne (was_alive s.views i u y a) (was_alive s.views j u' y' a') (was_of s.views i n u y x) (was_of s.views j n u' y' x');
+          draft = λ j u e a is. let y = was_at s.views id v other w here j u e a in sym y.draft_is ∙ k.draft j y.before y.is (was_alive s.views j u y a) (y.by_is ∙ is);
           proper = k.proper;
         };
       }

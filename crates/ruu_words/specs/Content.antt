@@ -16,7 +16,7 @@ use Rattle.ruu_words.specs.declared.rule.Draft.{Draft}
 use Rattle.ruu_words.specs.declared.rule.Draft.TheVariants.{Nothing, Of}
 use Rattle.ruu_words.specs.declared.rule.Stage.{Stage}
 use Rattle.ruu_words.specs.declared.rule.Stage.TheVariants.{BothOperands, FirstOperand, Info as InfoAlone}
-use Rattle.ruu_words.specs.Fields.{index_of, pack_link, predicted_of, state_of, tag_of, value_of}
+use Rattle.ruu_words.specs.Fields.{half_of, index_of, pack_link, predicted_of, state_of, tag_of, value_of}
 
 -- Station words
 
@@ -42,6 +42,7 @@ pub record IsStation (shows : StationWord) (n : ℕ) : Type 0 where
 -- Info words
 
 pub record IsInfoOf (t : Tenant) (n : ℕ) : Type 0 where
+  pub half : half_of n ≡ t.half
   pub index : index_of n ≡ t.index
   pub predicted : predicted_of n ≡ t.predicted
 

@@ -1,5 +1,7 @@
 -- The fields of the words.
-use Rattle.std.specs.Prelude.{ℕ, ◌+◌, ◌*◌, ◌/◌, ◌%◌, ◌^◌}
+use Rattle.isa.specs.declared.op.Half.{Half}
+use Rattle.isa.specs.declared.op.Half.TheVariants.{High, Low}
+use Rattle.std.specs.Prelude.{ℕ, zero, suc, ◌+◌, ◌*◌, ◌/◌, ◌%◌, ◌^◌}
 
 -- How many tags there are: a tag has 28 bits
 abbrev pub tag_count : ℕ
@@ -18,12 +20,26 @@ state_of word = word / 2 ^ 32 % 16
 abbrev pub value_of : ℕ → ℕ
 value_of word = word % 2 ^ 32
 
--- Info words: bits 63 to 32 are the instruction's index, 31 to 0 the predicted next pc
-abbrev pub pack_info : ℕ → ℕ → ℕ
-pack_info index predicted = index * 2 ^ 32 + predicted
+-- The bit of a half
+abbrev pub half_bit : Half → ℕ
+half_bit Low = 0
+half_bit High = 1
+
+-- Info words: bit 63 is the half, bits 62 to 32 are the instruction's index, 31 to 0 the predicted
+-- next pc
+abbrev pub pack_info : Half → ℕ → ℕ → ℕ
+pack_info half index predicted = half_bit half * 2 ^ 63 + index * 2 ^ 32 + predicted
+
+-- The half of a bit
+abbrev pub half_by : ℕ → Half
+half_by zero = Low
+half_by (suc n) = High
+
+abbrev pub half_of : ℕ → Half
+half_of word = half_by (word / 2 ^ 63)
 
 abbrev pub index_of : ℕ → ℕ
-index_of word = word / 2 ^ 32
+index_of word = word / 2 ^ 32 % 2 ^ 31
 
 abbrev pub predicted_of : ℕ → ℕ
 predicted_of word = word % 2 ^ 32

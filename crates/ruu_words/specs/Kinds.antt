@@ -3,7 +3,7 @@
 use Rattle.std.specs.Prelude.{◌≡◌, ◌≢◌, ◌⊎◌, ℕ, Bool, List, [], ◌∷◌, Some, None, ◌==◌, if◌then◌else◌}
 use Rattle.isa.specs.Programs.{Program}
 use Rattle.isa.specs.declared.stop.Outcome.{Outcome}
-use Rattle.isa.specs.declared.stop.Outcome.TheVariants.{Address, Next, Stop as Stops, Value}
+use Rattle.isa.specs.declared.stop.Outcome.TheVariants.{Address, Next, Pair, Stop as Stops, Value}
 use Rattle.inorder.specs.declared.history.Act.TheVariants.{Claim, Deliver, Finish, Link, Load}
 use Rattle.inorder.specs.declared.history.Entry.{Entry}
 use Rattle.inorder.specs.declared.history.Event.{Event}
@@ -61,6 +61,7 @@ fate_of predicted (Value v) = Done v
 fate_of predicted (Next x) = if x == predicted then Done x else Miss x
 fate_of predicted (Address a) = Addr a
 fate_of predicted (Stops c) = Stopped c
+fate_of predicted (Pair low high) = Done low
 
 -- Source k was asked for, and tenant q is its creator
 pub record HasLink (k : Source) (q : ℕ) (t : Tenant) : Type 0 where

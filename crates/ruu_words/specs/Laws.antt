@@ -1,7 +1,8 @@
 -- What holds of every word and of every place.
 use Rattle.std.specs.Prelude.{◌≡◌, ◌≢◌, ℕ, ◌^◌, ◌<◌, List, length, slice_index, slice_set}
+use Rattle.isa.specs.declared.op.Half.{Half}
 use Rattle.ruu_words.specs.declared.place.Place.{Place}
-use Rattle.ruu_words.specs.Fields.{consumer_of, index_of, pack, pack_info, pack_link, predicted_of, producer_of, state_of, tag_count, tag_of, value_of}
+use Rattle.ruu_words.specs.Fields.{consumer_of, half_of, index_of, pack, pack_info, pack_link, predicted_of, producer_of, state_of, tag_count, tag_of, value_of}
 use Rattle.ruu_words.specs.Places.{IsPlace, index, words_for}
 
 -- A packed word reads back as its fields, and a word is the packed one of its fields
@@ -16,14 +17,16 @@ WordsReadBack =
     (tag state value : ℕ) → tag < tag_count → state < 16 → value < 2 ^ 32 →
     ReadsBack tag state value
 
-pub record InfoReadsBack (index predicted : ℕ) : Type 0 where
-  pub word : pack_info index predicted < 2 ^ 64
-  pub index_is : index_of (pack_info index predicted) ≡ index
-  pub predicted_is : predicted_of (pack_info index predicted) ≡ predicted
+pub record InfoReadsBack (half : Half) (index predicted : ℕ) : Type 0 where
+  pub word : pack_info half index predicted < 2 ^ 64
+  pub half_is : half_of (pack_info half index predicted) ≡ half
+  pub index_is : index_of (pack_info half index predicted) ≡ index
+  pub predicted_is : predicted_of (pack_info half index predicted) ≡ predicted
 
 abbrev pub InfosReadBack : Type 0
 InfosReadBack =
-    (index predicted : ℕ) → index < 2 ^ 32 → predicted < 2 ^ 32 → InfoReadsBack index predicted
+    (half : Half) (index predicted : ℕ) → index < 2 ^ 31 → predicted < 2 ^ 32 →
+    InfoReadsBack half index predicted
 
 pub record LinkReadsBack (producer consumer : ℕ) : Type 0 where
   pub word : pack_link producer consumer < 2 ^ 64

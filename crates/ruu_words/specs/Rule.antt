@@ -1,5 +1,5 @@
 -- What is always true of the table, and what a step tells.
-use Rattle.std.specs.Prelude.{◌≡◌, ℕ, ◌<◌, ◌≤◌, List, [], ◌∷◌, ◌++◌, map, length, slice_index}
+use Rattle.std.specs.Prelude.{◌≡◌, ◌≢◌, ◌⊎◌, ℕ, ◌+◌, ◌*◌, ◌<◌, ◌≤◌, List, [], ◌∷◌, ◌++◌, map, length, slice_index}
 use mathlib.Core.Option.{some}
 use lib.ListN.{get_elem?}
 use Rattle.atomic_table.specs.Table.{Me, State, Step}
@@ -11,6 +11,7 @@ use Rattle.inorder.specs.Unit.{Sizes}
 use Rattle.ruu_words.specs.declared.place.Place.{Place}
 use Rattle.ruu_words.specs.declared.rule.Draft.{Draft}
 use Rattle.ruu_words.specs.declared.rule.Draft.TheVariants.{Nothing}
+use Rattle.ruu_words.specs.declared.rule.Heirs.{Heirs}
 use Rattle.ruu_words.specs.declared.rule.Role.{Role}
 use Rattle.ruu_words.specs.declared.rule.Role.TheVariants.{Back, Front, Spent, Start, Worker}
 use Rattle.ruu_words.specs.declared.rule.Setup.{Setup}
@@ -31,46 +32,82 @@ seen_by (v ∷ vs) = v.seen
 abbrev pub opening_of : Setup → List Entry
 opening_of c = seen_by c.opening.views
 
+-- The numbers of callers
+
+abbrev pub nobody : Heirs
+nobody = record { first = 0; every = 0 }
+
+-- One of the numbers that a seat may give away
+pub record IsHeir (heirs : Heirs) (n : ℕ) : Type 0 where
+  pub some : 1 ≤ heirs.every
+  pub k : ℕ
+  pub is : n ≡ heirs.first + k * heirs.every
+
+-- Its own number, or one that it may give away
+abbrev pub IsOf : View → ℕ → Type 0
+IsOf v n = (n ≡ v.by) ⊎ IsHeir v.heirs n
+
+-- What is left when the first is given away
+abbrev pub without_first : Heirs → Heirs
+without_first heirs = record { first = heirs.first + heirs.every; every = heirs.every }
+
+-- Every second of these, and the others
+abbrev pub half : Heirs → Heirs
+half heirs = record { first = heirs.first + heirs.every; every = 2 * heirs.every }
+
+abbrev pub other_half : Heirs → Heirs
+other_half heirs = record { first = heirs.first + 2 * heirs.every; every = 2 * heirs.every }
+
 -- Views
 
-abbrev pub view : Role → List Entry → Draft → View
-view role seen draft = record { role = role; seen = seen; told = []; draft = draft }
+abbrev pub view : Role → ℕ → Heirs → List Entry → Draft → View
+view role by heirs seen draft =
+    record { role = role; by = by; heirs = heirs; seen = seen; told = []; draft = draft }
 
--- What the first seat knows
+-- What the first seat knows: all numbers are its own
 abbrev pub first_view : Setup → View
-first_view c = view Start (opening_of c) Nothing
+first_view c = view Start front (record { first = 1; every = 1 }) (opening_of c) Nothing
 
 -- The same seat, told of what another has seen
 abbrev pub informed : View → View → View
-informed v w = record { role = v.role; seen = v.seen; told = w.seen; draft = v.draft }
+informed v w =
+    record {
+      role = v.role;
+      by = v.by;
+      heirs = v.heirs;
+      seen = v.seen;
+      told = w.seen;
+      draft = v.draft;
+    }
+
+-- Nobody whose number it may still give away has done anything in what it has seen
+abbrev pub Unborn : View → Type 0
+Unborn v = (n : ℕ) → IsHeir v.heirs n → own n v.seen ≡ []
 
 -- Roles. The first seat is the front's once the back's is cut from it, and a spent one makes no
 -- calls
 
 abbrev pub IsCaller : Role → ℕ → Type 0
-IsCaller Start id = id ≡ front
-IsCaller Front id = id ≡ front
-IsCaller Back id = id ≡ back
-IsCaller Worker id = IsUnit id
-IsCaller Spent id = IsUnit id
+IsCaller Start by = by ≡ front
+IsCaller Front by = by ≡ front
+IsCaller Back by = by ≡ back
+IsCaller Worker by = IsUnit by
+IsCaller Spent by = Unit {0}
 
 abbrev pub IsAlive : Role → Type 0
 IsAlive Spent = ⊥
 IsAlive _ = Unit {0}
 
--- The number of seats that there are at least
-abbrev pub IsGrown : Role → ℕ → Type 0
-IsGrown Start n = n ≡ 1
-IsGrown _ n = 2 ≤ n
-
 -- What a seat has seen begins the history, and has all entries of its caller; it goes on from the
--- history that the table opened with
-pub record Fits (opening h : List Entry) (id : ℕ) (v : View) : Type 0 where
+-- history that the table opened with, and nobody whose number it may still give away has done anything
+pub record Fits (opening h : List Entry) (v : View) : Type 0 where
   pub begins : StartsWith h v.seen
   pub told : StartsWith h v.told
   pub opened : IsAlive v.role → StartsWith v.seen opening
-  pub all_own : IsAlive v.role → own id h ≡ own id v.seen
-  pub caller : IsCaller v.role id
+  pub all_own : IsAlive v.role → own v.by h ≡ own v.by v.seen
+  pub unborn : IsAlive v.role → (n : ℕ) → IsHeir v.heirs n → own n h ≡ []
+  pub caller : IsCaller v.role v.by
+  pub above : 1 ≤ v.heirs.every → v.by < v.heirs.first
 
 -- The rule, for a history h and a let in progress d
 pub record IsKept (P : Program) (C : Sizes) (opening : List Entry) (s : State ℕ View)
@@ -81,12 +118,13 @@ pub record IsKept (P : Program) (C : Sizes) (opening : List Entry) (s : State �
   pub words : (x : Place) → IsPlace C.ring x →
       Content P C (unit_of P C h) d x (slice_index s.words (index C.ring x))
   -- each seat has seen a beginning of the history
-  pub views : (id : ℕ) (v : View) → get_elem? s.views id ≡ some v → Fits opening h id v
-  pub grown : (id : ℕ) (v : View) → get_elem? s.views id ≡ some v → IsGrown v.role (length s.views)
-  -- nobody else has added anything
-  pub others : (id : ℕ) → length s.views ≤ id → own id h ≡ own id opening
+  pub views : (id : ℕ) (v : View) → get_elem? s.views id ≡ some v → Fits opening h v
+  -- no two have a number in common
+  pub apart : (i j n : ℕ) (u v : View) → get_elem? s.views i ≡ some u → get_elem? s.views j ≡ some v →
+      i ≢ j → IsAlive u.role → IsAlive v.role → IsOf u n → ¬ IsOf v n
   -- the let in progress is part of the front's view, and allowed
-  pub draft : (v : View) → get_elem? s.views front ≡ some v → v.draft ≡ d
+  pub draft : (id : ℕ) (v : View) → get_elem? s.views id ≡ some v → IsAlive v.role → v.by ≡ front →
+      v.draft ≡ d
   pub proper : IsDraft P C (unit_of P C h) d
 
 -- There is one legal history
@@ -114,6 +152,9 @@ pub record Grows (P : Program) (C : Sizes) (by : ℕ) (v w : View)
   pub is : w.seen ≡ map (entry by) events ++ (between ++ v.seen)
   pub legal : IsLegal P C w.seen
   pub role : w.role ≡ v.role
+  pub by_is : w.by ≡ v.by
+  pub heirs_are : w.heirs ≡ v.heirs
+  pub unborn : Unborn w
   pub told : StartsWith w.seen v.told
   pub kind : Kind (between ++ v.seen) w.draft events
 

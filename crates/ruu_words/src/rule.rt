@@ -41,9 +41,19 @@ pub enum Draft {
     Of(Stage, u64, u64, Supply, Supply),
 }
 
+/// The numbers that a seat may give to the callers of seats cut from it: `first`, and then each that
+/// is `every` further. There are none where `every` is 0.
+pub struct Heirs {
+    pub first: u64,
+    pub every: u64,
+}
+
 /// What a seat at the table knows. No value of it is made.
 pub struct View {
     pub role: Role,
+    /// The number of its caller.
+    pub by: u64,
+    pub heirs: Heirs,
     pub seen: LinkedList<Entry>,
     /// What another seat had seen that this one met. A look makes it part of `seen`.
     pub told: LinkedList<Entry>,

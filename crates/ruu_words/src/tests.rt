@@ -3,6 +3,7 @@ use crate::{
     InfoWord, LinkWord, OperandState, OperandWord, Place, StationState, StationWord, word_count,
 };
 use inorder::history::Source;
+use isa::Half;
 
 #[test]
 fn words_are_those_of_the_layout(rt: HostRuntime) {
@@ -27,12 +28,20 @@ fn other_words_are_those_of_the_layout(rt: HostRuntime) {
     assert_eq!(rt; link.pack(), 0x0000_0010_0000_0100);
     assert_eq!(rt; LinkWord::unpack(0x0000_0010_0000_0100), Some(link));
     assert_eq!(rt; LinkWord::unpack(0), None);
-    let info = InfoWord {
-        index: 1,
-        predicted: 0x0040_0008,
-    };
-    assert_eq!(rt; info.pack(), 0x0000_0001_0040_0008);
-    assert_eq!(rt; InfoWord::unpack(0x0000_0001_0040_0008), info);
+    let infos = [
+        (Half::Low, 1, 0x0040_0008, 0x0000_0001_0040_0008),
+        (Half::High, 1, 0x0040_0008, 0x8000_0001_0040_0008),
+        (Half::High, 0x7fff_ffff, 0xffff_ffff, 0xffff_ffff_ffff_ffff),
+    ];
+    for (half, index, predicted, word) in infos {
+        let info = InfoWord {
+            half,
+            index,
+            predicted,
+        };
+        assert_eq!(rt; info.pack(), word);
+        assert_eq!(rt; InfoWord::unpack(word), info);
+    }
     let operand = OperandWord {
         tag: 2,
         state: OperandState::Val,

@@ -10,7 +10,7 @@ use std::alloc::AllocError;
 pub struct Snap {
     pub n: u64,
     pub pc: u32,
-    pub registers: [u32; 32],
+    pub registers: [u32; 34],
 }
 
 impl Snap {
@@ -21,7 +21,7 @@ impl Snap {
         Snap {
             n: 0,
             pc: 0x0040_0000,
-            registers: [0; 32],
+            registers: [0; 34],
         }
     }
 }

@@ -29,7 +29,7 @@ fn after_one() -> Snap
     ensures n { result.n ≡ 1 }
     ensures snap { IsSnapshotOf ⟦<ThreeAdds as Naming>⟧.program result }
 {
-    let mut registers = [0; 32];
+    let mut registers = [0; 34];
     registers[1] = 1;
     Snap {
         n: 1,
@@ -42,7 +42,7 @@ fn after_three() -> Snap
     ensures n { result.n ≡ 3 }
     ensures snap { IsSnapshotOf ⟦<ThreeAdds as Naming>⟧.program result }
 {
-    let mut registers = [0; 32];
+    let mut registers = [0; 34];
     registers[1] = 1;
     registers[2] = 2;
     registers[3] = 3;

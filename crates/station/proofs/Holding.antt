@@ -8,7 +8,7 @@ use Rattle.isa.specs.Programs.{Program, instr_of}
 use Rattle.isa.specs.declared.op.Kind.{Kind}
 use Rattle.isa.specs.declared.op.Kind.TheVariants.{Computes, Jumps, Links, Loads, Stores}
 use Rattle.isa.specs.declared.stop.Outcome.{Outcome}
-use Rattle.isa.specs.declared.stop.Outcome.TheVariants.{Address, Next, Stop as Stops, Value}
+use Rattle.isa.specs.declared.stop.Outcome.TheVariants.{Address, Next, Pair, Stop as Stops, Value}
 use Rattle.inorder.specs.declared.history.Act.{Act}
 use Rattle.inorder.specs.declared.history.Act.TheVariants.{Claim, Deliver, Finish, Link, Load, Mend, Retire, Squash}
 use Rattle.inorder.specs.declared.history.Entry.{Entry}
@@ -55,12 +55,12 @@ second_same Links (Some v) None b' g e = absurd (cc e)
 second_same Loads (Some v) None b' g e = absurd (cc e)
 second_same Stores (Some v) None b' g e = refl
 
-fields_stay : (P : Program) (by : ℕ) (s : Step) (t t' : Tenant) → Goes by s t t' → IsReady P t → job_of P t' ≡ job_of P t
+pub fields_stay : (P : Program) (by : ℕ) (s : Step) (t t' : Tenant) → Goes by s t t' → IsReady P t → job_of P t' ≡ job_of P t
 fields_stay P by s t t' m ready =
     let kind_same : kind_of P t' ≡ kind_of P t = ap (λ i. kind (instr_of P i).op) m.index in
     let first : needed P First t' ≡ needed P First t = ap (λ k. cond (needs k First) (operand_value t'.first) 0) kind_same ∙ first_same (kind_of P t) t.first.value t.second.value t'.first.value (m.value First) ready in
     let second : needed P Second t' ≡ needed P Second t = ap (λ k. cond (needs k Second) (operand_value t'.second) 0) kind_same ∙ second_same (kind_of P t) t.first.value t.second.value t'.second.value (m.value Second) ready in
-    λ i. record { station = m.station i; tag = m.tag i; index = m.index i; pc = m.pc i; predicted = m.predicted i; first = first i; second = second i }
+    λ i. record { station = m.station i; tag = m.tag i; index = m.index i; half = m.half i; pc = m.pc i; predicted = m.predicted i; first = first i; second = second i }
 
 -- no act but a finish ends it
 held_by : (P : Program) (by id : ℕ) (act : Act) (ys : List Tenant) (t : Tenant) (ts : List Tenant) → act ≢ Finish → May P id act ys t ts → IsHeld by t → IsHeld by (changed P id act t ts)
@@ -178,6 +178,7 @@ module _ (P : Program) (C : Sizes) (by : ℕ) where
 
   carried_none : (seen : List Entry) (p q : ℕ) (o : Outcome) (es : List Event) → IsCarried P C seen q o es → AllByRecursion (IsNoFinish p) es
   carried_none seen p q (Value v) es w = subst (AllByRecursion (IsNoFinish p)) (sym w.is) ((λ x. cc x), delivers_none seen p q w.deliveries w.each)
+  carried_none seen p q (Pair l h) es none = subst (AllByRecursion (IsNoFinish p)) (sym none) tt
   carried_none seen p q (Next x) es none = subst (AllByRecursion (IsNoFinish p)) (sym none) tt
   carried_none seen p q (Address x) es none = subst (AllByRecursion (IsNoFinish p)) (sym none) tt
   carried_none seen p q (Stops x) es none = subst (AllByRecursion (IsNoFinish p)) (sym none) tt

@@ -55,7 +55,7 @@ module _ (P : Program) (C : Sizes) (by : ℕ) (t : Tenant) (old : List Entry) wh
       let stay = still_let P C t.index t.predicted (supply_of t.sources.0) (supply_of t.sources.1) g.between v.0.seen legal apart r.may.may in
       let tag_same : next_tag C (recent (U (g.between ++ v.0.seen))) ≡ next_tag C (recent (U v.0.seen)) = stay.tag in
       let station_same : next_station C (recent (U (g.between ++ v.0.seen))) ≡ next_station C (recent (U v.0.seen)) = ap (λ x. x.station) stay.new in
-      let there : MayLetOut P C (U (g.between ++ v.0.seen)) t = record { may = stay.may; tag = subst (λ n. n < last_tag) (sym tag_same) r.may.tag } in
+      let there : MayLetOut P C (U (g.between ++ v.0.seen)) t = record { may = stay.may; half = r.may.half ∙ sym (ap (λ x. x.half) stay.new); tag = subst (λ n. n < last_tag) (sym tag_same) r.may.tag } in
       record {
         fronts = record { role = g.role ∙ r.fronts.role; by_is = r.fronts.by_is; draft_is = is };
         may = subst (λ h. MayLetOut P C (U h) t) (sym seen) there;

@@ -4,6 +4,7 @@ pub mod SameUnit
 pub mod Adding
 pub mod Backs
 pub mod Seated
+pub mod Numbers
 pub mod Given
 pub mod LettingOut
 pub mod Reading
@@ -18,3 +19,8 @@ pub mod Asking
 pub mod Holding
 pub mod Staying
 pub mod Squashing
+pub mod Jobs
+pub mod Splitting
+pub mod Opens
+pub mod Following
+pub mod Finishing

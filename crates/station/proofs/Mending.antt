@@ -1,5 +1,8 @@
 -- The steps of mending a miss.
-use Rattle.std.proofs.Common.{◌≡◌, ℕ, suc, ◌%◌, ◌<◌, Bool, List, [], ◌∷◌, ◌++◌, map, Some, refl, sym, ap, ◌∙◌, subst, inl}
+use Rattle.std.proofs.Common.{◌≡◌, ℕ, suc, ◌%◌, ◌<◌, Bool, List, [], ◌∷◌, ◌++◌, map, Some, refl, sym, ap, ◌∙◌, subst, inl, ⊎_elim, arith}
+use mathlib.Core.Logic.{dite}
+use native.Mathlib.Decide.{ℕ_discrete}
+use Rattle.std.proofs.lemmas.Bool.{cases_lt}
 use Rattle.atomic_table.specs.Table.{Me}
 use Rattle.isa.specs.Programs.{Program}
 use Rattle.inorder.specs.declared.history.Act.TheVariants.{Mend}
@@ -8,7 +11,7 @@ use Rattle.inorder.specs.declared.history.Event.{Event}
 use Rattle.inorder.specs.declared.history.Event.TheVariants.{Does}
 use Rattle.inorder.specs.declared.history.Step.TheVariants.{On}
 use Rattle.inorder.specs.Callers.{CanMend}
-use Rattle.inorder.specs.History.{IsLegal, entry, front, own, unit_of}
+use Rattle.inorder.specs.History.{Adds, IsLegal, entry, front, own, unit_of}
 use Rattle.inorder.specs.Legal.{Allowed, applied}
 use Rattle.inorder.specs.StationWords.{live_word, station_word, word_of}
 use Rattle.inorder.specs.Steps.{mended, mended_as}
@@ -25,13 +28,14 @@ use Rattle.ruu_words.specs.declared.rule.Role.TheVariants.{Front}
 use Rattle.ruu_words.specs.declared.rule.View.{View}
 use Rattle.ruu_words.specs.Content.{IsStation}
 use Rattle.ruu_words.specs.Fields.{tag_of, value_of}
+use Rattle.ruu_words.specs.Kinds.{IsAny, IsTenant}
 use Rattle.ruu_words.specs.Rule.{Grows}
 use Rattle.ruu_words.proofs.Building.{changes}
 use Rattle.ruu_words.proofs.General.{Plan, Plans}
 use Rattle.ruu_words.proofs.StationWords.{its_word, one_at, still_live}
 use Rattle.ruu_words.proofs.Stays.{any_stays, front_stays}
 use Rattle.station.specs.Letting.{IsFronts}
-use Rattle.station.specs.Recovery.{HasMiss, IsMended, Mends}
+use Rattle.station.specs.Recovery.{HasMiss, IsMended, Mends, SeesMiss}
 use Rattle.station.specs.Seats.{IsSeated}
 use Rattle.station.proofs.Adding.{adds_on, adds_these}
 use Rattle.station.proofs.Seated.{how_many_same, next_stays}
@@ -86,16 +90,49 @@ module _ (P : Program) (C : Sizes) where
       let same = ap stands_on_path (mended_station t t.fate).1 in
       ap (λ n. n % C.ring) (ap (how_many on_path) (parts P us by p Mend t a.is) ∙ (how_many_same on_path t (mended t) ts ys same ∙ sym (ap (how_many on_path) (split_at us p t a.is))))
 
+  -- there is one miss that can be mended
+  one_miss : (V : UpdateUnit) (p q x y : ℕ) → CanMend V p x → CanMend V q y → p ≡ q
+  one_miss V p q x y a b = dite (ℕ_discrete p q) (λ e. e) (λ ne. ⊎_elim
+      (λ less. absurd (a.youngest q b.miss.tenant less b.miss.is b.miss.fact.live))
+      (λ more. absurd (b.youngest p a.miss.tenant (omega arith) a.miss.is a.miss.fact.live))
+      (cases_lt p q))
+
+  abbrev IsMissAt : (p s g x : ℕ) → List Entry → Type 0
+  IsMissAt p s g x h = IsTenant (unit_of P C h) p s g IsAny × CanMend (unit_of P C h) p x
+
+  miss_at : (p s g x : ℕ) (more seen : List Entry) → IsLegal P C (more ++ seen) → own front more ≡ [] → IsMissAt p s g x seen → IsMissAt p s g x (more ++ seen)
+  miss_at p s g x more seen legal none m = (
+    any_stays P C p s g more seen legal m.0,
+    front_stays P C (λ U. CanMend U p x) (λ U by st b a ok q. mend_stays P C U by st b a ok p x q) more seen legal none m.1,
+  )
+
   -- the look and the write together
-  pub mended_out : (by s : ℕ) (v0 v1 w : View) (Kind : List Entry → Draft → List Event → Type 0) (g1 : Grows P C by v0 v1 Kind) → g1.events ≡ [] → Grows P C by v1 w (Mends P C s) → IsMended P C by s v0.seen w.seen
-  mended_out by s v0 v1 w Kind g1 none g2 =
+  pub mended_out : (by s : ℕ) (v0 v1 w : View) (Kind : List Entry → Draft → List Event → Type 0) (g1 : Grows P C by v0 v1 Kind) → g1.events ≡ [] → Grows P C by v1 w (Mends P C s) → by ≡ front → SeesMiss P C v0.seen s
+      → IsMended P C by s v0.seen w.seen
+  mended_out by s v0 v1 w Kind g1 none g2 is sees =
       let m = g2.kind in
+      let p : ℕ = sees.miss.p in
+      let g : ℕ = sees.tag in
+      let x : ℕ = sees.next in
+      let mid : List Entry = g1.between ++ v0.seen in
+      let last : List Entry = g2.between ++ v1.seen in
+      let seen1 : v1.seen ≡ mid = g1.is ∙ ap (λ es. map (entry by) es ++ mid) none in
+      let seen2 : w.seen ≡ entry by (Does (On m.miss.p Mend)) ∷ last = g2.is ∙ ap (λ es. map (entry by) es ++ last) m.added in
+      let legal1 : IsLegal P C mid = subst (IsLegal P C) seen1 g1.legal in
+      let legal2 : IsLegal P C (entry by (Does (On m.miss.p Mend)) ∷ last) = subst (IsLegal P C) seen2 g2.legal in
+      let none1 : own front g1.between ≡ [] = subst (λ i. own i g1.between ≡ []) is g1.not_own in
+      let none2 : own front g2.between ≡ [] = subst (λ i. own i g2.between ≡ []) is g2.not_own in
+      let m1 : IsMissAt p s g x v1.seen = subst (IsMissAt p s g x) (sym seen1) (miss_at p s g x g1.between v0.seen legal1 none1 (sees.miss.named, sees.miss.can)) in
+      let m2 : IsMissAt p s g x last = miss_at p s g x g2.between v1.seen legal2.0 none2 m1 in
+      let one : m.miss.p ≡ p = one_miss (unit_of P C last) m.miss.p p m.next x m.miss.can m2.1 in
+      let adds = adds_on P C by v0.seen v1.seen w.seen [] (Does (On m.miss.p Mend) ∷ []) (adds_these P C by v0 v1 Kind [] g1 none) (adds_these P C by v1 w (Mends P C s) (Does (On m.miss.p Mend) ∷ []) g2 m.added) in
       record {
-        point = g2.between ++ v1.seen;
-        tag = m.tag;
-        next = m.next;
-        miss = m.miss;
-        adds = adds_on P C by v0.seen v1.seen w.seen [] (Does (On m.miss.p Mend) ∷ []) (adds_these P C by v0 v1 Kind [] g1 none) (adds_these P C by v1 w (Mends P C s) (Does (On m.miss.p Mend) ∷ []) g2 m.added);
+        p = p;
+        tag = g;
+        next = x;
+        named = subst (λ h. IsTenant (unit_of P C h) p s g IsAny) (sym seen2) (any_stays P C p s g (entry by (Does (On m.miss.p Mend)) ∷ []) last legal2 m2.0);
+        can = sees.miss.can;
+        adds = subst (λ z. Adds P C by v0.seen w.seen (Does (On z Mend) ∷ [])) one adds;
       }
 
   station_on : (more seen : List Entry) → IsLegal P C (more ++ seen) → own front more ≡ [] → next_station C (recent (unit_of P C (more ++ seen))) ≡ next_station C (recent (unit_of P C seen))

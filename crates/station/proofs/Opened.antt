@@ -1,5 +1,6 @@
 -- The steps of a claim, one after another: what the unit knows of the tenant on its way.
 use Rattle.std.proofs.Common.{◌≡◌, ◌≢◌, ◌⊎◌, ℕ, ◌<◌, Bool, true, false, List, [], ◌∷◌, ◌++◌, map, length, Option, Some, None, Result, Ok, Err, refl, sym, ap, ◌∙◌, subst, inl, inr, ⊎_elim}
+use Rattle.isa.specs.declared.op.Half.{Half}
 use Rattle.isa.specs.Instruction.{kind}
 use Rattle.isa.specs.Programs.{Program, address, instr_of}
 use Rattle.isa.specs.declared.op.Kind.{Kind}
@@ -30,7 +31,7 @@ use Rattle.inorder.proofs.Sound.{IsSound}
 use Rattle.ruu_words.specs.declared.rule.Draft.{Draft}
 use Rattle.ruu_words.specs.declared.rule.View.{View}
 use Rattle.ruu_words.specs.Content.{IsInfoOf}
-use Rattle.ruu_words.specs.Fields.{index_of, predicted_of, state_of, tag_of, value_of}
+use Rattle.ruu_words.specs.Fields.{half_of, index_of, predicted_of, state_of, tag_of, value_of}
 use Rattle.ruu_words.specs.Kinds.{Claims, Finds, IsAny, IsClosed, IsTenant, Peeks, ReadsInfo, ReadsSource, Rechecks, refuses}
 use Rattle.ruu_words.specs.Rule.{Grows}
 use Rattle.ruu_words.proofs.StationWords.{one_at, one_tag}
@@ -52,7 +53,7 @@ HasInfo n t = IsOpen t → IsInfoOf t n
 
 info_stable : (n : ℕ) → Stable (HasInfo n)
 info_stable n by step t t' m i o =
-    let x = i (m.opens o) in record { index = x.index ∙ sym m.index; predicted = x.predicted ∙ sym m.predicted }
+    let x = i (m.opens o) in record { half = x.half ∙ sym m.half; index = x.index ∙ sym m.index; predicted = x.predicted ∙ sym m.predicted }
 
 any_stable : Stable IsAny
 any_stable by step t t' m i = tt
@@ -62,26 +63,27 @@ source_stable true k v by step t t' m e = m.value k v e
 source_stable false k v by step t t' m e = e
 
 -- the instruction and the sources of a claimed tenant
-pub record IsClaimable (i x : ℕ) (t : Tenant) : Type 0 where
+pub record IsClaimable (d : Half) (i x : ℕ) (t : Tenant) : Type 0 where
+  pub half_is : t.half ≡ d
   pub index_is : t.index ≡ i
   pub predicted_is : t.predicted ≡ x
 
-claimable_stable : (i x : ℕ) → Stable (IsClaimable i x)
-claimable_stable i x by step t t' m f = record { index_is = m.index ∙ f.index_is; predicted_is = m.predicted ∙ f.predicted_is }
+claimable_stable : (d : Half) (i x : ℕ) → Stable (IsClaimable d i x)
+claimable_stable d i x by step t t' m f = record { half_is = m.half ∙ f.half_is; index_is = m.index ∙ f.index_is; predicted_is = m.predicted ∙ f.predicted_is }
 
-pub record HasFirst (i x a : ℕ) (t : Tenant) : Type 0 where
-  pub its : IsClaimable i x t
+pub record HasFirst (d : Half) (i x a : ℕ) (t : Tenant) : Type 0 where
+  pub its : IsClaimable d i x t
   pub first : t.first.value ≡ Some a
 
-first_stable : (i x a : ℕ) → Stable (HasFirst i x a)
-first_stable i x a by step t t' m f = record { its = claimable_stable i x by step t t' m f.its; first = m.value First a f.first }
+first_stable : (d : Half) (i x a : ℕ) → Stable (HasFirst d i x a)
+first_stable d i x a by step t t' m f = record { its = claimable_stable d i x by step t t' m f.its; first = m.value First a f.first }
 
-pub record HasBoth (i x a : ℕ) (both : Bool) (b : ℕ) (t : Tenant) : Type 0 where
-  pub its : HasFirst i x a t
+pub record HasBoth (d : Half) (i x a : ℕ) (both : Bool) (b : ℕ) (t : Tenant) : Type 0 where
+  pub its : HasFirst d i x a t
   pub second : SourceIs both Second b t
 
-both_stable : (i x a : ℕ) (both : Bool) (b : ℕ) → Stable (HasBoth i x a both b)
-both_stable i x a both b by step t t' m f = record { its = first_stable i x a by step t t' m f.its; second = source_stable both Second b by step t t' m f.second }
+both_stable : (d : Half) (i x a : ℕ) (both : Bool) (b : ℕ) → Stable (HasBoth d i x a both b)
+both_stable d i x a both b by step t t' m f = record { its = first_stable d i x a by step t t' m f.its; second = source_stable both Second b by step t t' m f.second }
 
 needs_first : (k : Kind) → needs k First ≡ true
 needs_first Computes = refl
@@ -161,8 +163,8 @@ module _ (P : Program) (C : Sizes) where
       let us = (U h).tenants in
       (sound_mid P t (older us p) (younger us p) (subst (IsSound P) (split_at us p t is) (unit_sound P C h legal))).own
 
-  pub index_inside : (h : List Entry) → IsLegal P C h → (p s g i x : ℕ) → IsTenant (U h) p s g (IsOpenAs i x) → i < length P.code
-  index_inside h legal p s g i x named = subst (λ z. z < length P.code) named.fact.index_is (its_own h legal p named.tenant named.is).inside
+  pub index_inside : (h : List Entry) → IsLegal P C h → (p s g : ℕ) (d : Half) (i x : ℕ) → IsTenant (U h) p s g (IsOpenAs d i x) → i < length P.code
+  index_inside h legal p s g d i x named = subst (λ z. z < length P.code) named.fact.index_is (its_own h legal p named.tenant named.is).inside
 
   module _ (by s g : ℕ) (old : List Entry) where
     -- the tenant on its way, which was open since the call began
@@ -254,7 +256,7 @@ module _ (P : Program) (C : Sizes) where
 
     -- The second look
 
-    pub rechecked : (v w : View) (info word n : ℕ) (x : Grows P C by v w (Rechecks P C s g word n)) → Ready (HasInfo info) v.seen → n ≡ word → Ready (IsOpenAs (index_of info) (predicted_of info)) w.seen
+    pub rechecked : (v w : View) (info word n : ℕ) (x : Grows P C by v w (Rechecks P C s g word n)) → Ready (HasInfo info) v.seen → n ≡ word → Ready (IsOpenAs (half_of info) (index_of info) (predicted_of info)) w.seen
     rechecked v w info word n x r hit = ⊎_elim
         (λ here.
         let f = here.1 in
@@ -262,8 +264,8 @@ module _ (P : Program) (C : Sizes) where
         let seen : w.seen ≡ h = x.is ∙ ap (λ es. map (entry by) es ++ h) f.added in
         let now = on_to (HasInfo info) (info_stable info) v.seen w.seen r (adds_these P C by v w (Rechecks P C s g word n) [] x f.added) in
         let i : IsTenant (U w.seen) f.p s g IsOpen = subst (λ z. IsTenant (U z) f.p s g IsOpen) (sym seen) f.tenant in
-        both_of (HasInfo info) IsOpen (IsOpenAs (index_of info) (predicted_of info)) w.seen f.p x.legal
-        (λ t j o. let y = j o in record { is_open = o; index_is = sym y.index; predicted_is = sym y.predicted }) now i)
+        both_of (HasInfo info) IsOpen (IsOpenAs (half_of info) (index_of info) (predicted_of info)) w.seen f.p x.legal
+        (λ t j o. let y = j o in record { is_open = o; half_is = sym y.half; index_is = sym y.index; predicted_is = sym y.predicted }) now i)
         (λ other. absurd (other.0 hit))
         x.kind
 
@@ -275,23 +277,23 @@ module _ (P : Program) (C : Sizes) where
 
     -- The sources
 
-    pub begins : (i x : ℕ) → IsLegal P C old → HasSeen P C old s g (IsOpenAs i x) → Ready (IsClaimable i x) old
-    begins i x legal seen =
+    pub begins : (d : Half) (i x : ℕ) → IsLegal P C old → HasSeen P C old s g (IsOpenAs d i x) → Ready (IsClaimable d i x) old
+    begins d i x legal seen =
         let j = seen.named in
         record {
           p = seen.p;
-          named = record { tenant = j.tenant; is = j.is; station_is = j.station_is; tag_is = j.tag_is; fact = record { index_is = j.fact.index_is; predicted_is = j.fact.predicted_is } };
+          named = record { tenant = j.tenant; is = j.is; station_is = j.station_is; tag_is = j.tag_is; fact = record { half_is = j.fact.half_is; index_is = j.fact.index_is; predicted_is = j.fact.predicted_is } };
           opened = record { point = old; within = record { before_return = starts_same old; behind_call = starts_same old }; fact = record { tenant = j.tenant; is = j.is; fact = j.fact.is_open } };
           adds = adds_none P C by old legal;
         }
 
-    pub takes_first : (i x a : ℕ) (seen new : List Entry) → Ready (IsClaimable i x) seen → HasSource P C by seen new s g true First a → Ready (HasFirst i x a) new
-    takes_first i x a seen new r h =
-        both_of (IsClaimable i x) (SourceIs true First a) (HasFirst i x a) new h.p h.adds.legal (λ t f e. record { its = f; first = e }) (on_to (IsClaimable i x) (claimable_stable i x) seen new r h.adds) h.named
+    pub takes_first : (d : Half) (i x a : ℕ) (seen new : List Entry) → Ready (IsClaimable d i x) seen → HasSource P C by seen new s g true First a → Ready (HasFirst d i x a) new
+    takes_first d i x a seen new r h =
+        both_of (IsClaimable d i x) (SourceIs true First a) (HasFirst d i x a) new h.p h.adds.legal (λ t f e. record { its = f; first = e }) (on_to (IsClaimable d i x) (claimable_stable d i x) seen new r h.adds) h.named
 
-    pub takes_second : (i x a : ℕ) (both : Bool) (b : ℕ) (seen new : List Entry) → Ready (HasFirst i x a) seen → HasSource P C by seen new s g both Second b → Ready (HasBoth i x a both b) new
-    takes_second i x a both b seen new r h =
-        both_of (HasFirst i x a) (SourceIs both Second b) (HasBoth i x a both b) new h.p h.adds.legal (λ t f e. record { its = f; second = e }) (on_to (HasFirst i x a) (first_stable i x a) seen new r h.adds) h.named
+    pub takes_second : (d : Half) (i x a : ℕ) (both : Bool) (b : ℕ) (seen new : List Entry) → Ready (HasFirst d i x a) seen → HasSource P C by seen new s g both Second b → Ready (HasBoth d i x a both b) new
+    takes_second d i x a both b seen new r h =
+        both_of (HasFirst d i x a) (SourceIs both Second b) (HasBoth d i x a both b) new h.p h.adds.legal (λ t f e. record { its = f; second = e }) (on_to (HasFirst d i x a) (first_stable d i x a) seen new r h.adds) h.named
 
     pub source_refused : (A : Tenant → Type 0) (seen new : List Entry) (k : Source) (needed : Bool) (refusal : Answer) → Ready A seen → SourceAnswers P C by seen new s g k needed (Err refusal) → ClaimAnswers P C by old new s refusal
     source_refused A seen new k needed refusal r answer = ⊎_elim
@@ -299,36 +301,36 @@ module _ (P : Program) (C : Sizes) where
         (λ m. subst (ClaimAnswers P C by old new s) (sym m.0) (refused A seen new (λ p. Refuses (HasMoved p)) r m.1))
         answer
 
-    pub first_next : (i x : ℕ) (seen : List Entry) → Ready (IsClaimable i x) seen → HasSeen P C seen s g (λ t. true ≡ true → IsNext P First t)
-    first_next i x seen r = has_seen (IsClaimable i x) (λ t. true ≡ true → IsNext P First t) seen (λ t f e. tt) r
+    pub first_next : (d : Half) (i x : ℕ) (seen : List Entry) → Ready (IsClaimable d i x) seen → HasSeen P C seen s g (λ t. true ≡ true → IsNext P First t)
+    first_next d i x seen r = has_seen (IsClaimable d i x) (λ t. true ≡ true → IsNext P First t) seen (λ t f e. tt) r
 
-    pub second_next : (i x a : ℕ) (both : Bool) (seen : List Entry) → needs (kind (instr_of P i).op) Second ≡ both → Ready (HasFirst i x a) seen → HasSeen P C seen s g (λ t. both ≡ true → IsNext P Second t)
-    second_next i x a both seen is r =
-        has_seen (HasFirst i x a) (λ t. both ≡ true → IsNext P Second t) seen (λ t f e. (ap (λ z. needs (kind (instr_of P z).op) Second) f.its.index_is ∙ (is ∙ e), (a, f.first))) r
+    pub second_next : (d : Half) (i x a : ℕ) (both : Bool) (seen : List Entry) → needs (kind (instr_of P i).op) Second ≡ both → Ready (HasFirst d i x a) seen → HasSeen P C seen s g (λ t. both ≡ true → IsNext P Second t)
+    second_next d i x a both seen is r =
+        has_seen (HasFirst d i x a) (λ t. both ≡ true → IsNext P Second t) seen (λ t f e. (ap (λ z. needs (kind (instr_of P z).op) Second) f.its.index_is ∙ (is ∙ e), (a, f.first))) r
 
-    module _ (i x a : ℕ) (both : Bool) (b : ℕ) (is : needs (kind (instr_of P i).op) Second ≡ both) where
-      needs_is : (t : Tenant) → HasBoth i x a both b t → needs (kind_of P t) Second ≡ both
+    module _ (d : Half) (i x a : ℕ) (both : Bool) (b : ℕ) (is : needs (kind (instr_of P i).op) Second ≡ both) where
+      needs_is : (t : Tenant) → HasBoth d i x a both b t → needs (kind_of P t) Second ≡ both
       needs_is t f = ap (λ z. needs (kind (instr_of P z).op) Second) f.its.its.index_is ∙ is
 
-      is_ready : (t : Tenant) → HasBoth i x a both b t → IsReady P t
+      is_ready : (t : Tenant) → HasBoth d i x a both b t → IsReady P t
       is_ready t f =
           ap (λ z. missing_of (kind_of P t) z t.second.value) f.its.first
           ∙ none_missing (kind_of P t) a b t.second.value both (needs_is t f) (second_there both b t f.second)
 
-      pub ready_seen : (seen : List Entry) → Ready (HasBoth i x a both b) seen → HasSeen P C seen s g (IsReady P)
-      ready_seen seen r = has_seen (HasBoth i x a both b) (IsReady P) seen is_ready r
+      pub ready_seen : (seen : List Entry) → Ready (HasBoth d i x a both b) seen → HasSeen P C seen s g (IsReady P)
+      ready_seen seen r = has_seen (HasBoth d i x a both b) (IsReady P) seen is_ready r
 
       -- The exchange
 
-      pub claim_moved : (v w : View) (word n : ℕ) (y : Grows P C by v w (Claims P C s g word n)) → Ready (HasBoth i x a both b) v.seen → n ≢ word → ClaimAnswers P C by old w.seen s (Moved g)
+      pub claim_moved : (v w : View) (word n : ℕ) (y : Grows P C by v w (Claims P C s g word n)) → Ready (HasBoth d i x a both b) v.seen → n ≢ word → ClaimAnswers P C by old w.seen s (Moved g)
       claim_moved v w word n y r miss = ⊎_elim
           (λ here. absurd (miss here.0))
-          (λ other. refused (HasBoth i x a both b) v.seen w.seen (λ p. Refuses (HasMoved p)) r (told_of by v w (Claims P C s g word n) y s g IsClosed HasMoved other.1))
+          (λ other. refused (HasBoth d i x a both b) v.seen w.seen (λ p. Refuses (HasMoved p)) r (told_of by v w (Claims P C s g word n) y s g IsClosed HasMoved other.1))
           y.kind
 
-      job_fields : (t : Tenant) (j : Job) → HasBoth i x a both b t → t.pc ≡ j.pc → t.station ≡ s → t.tag ≡ g
-          → j.station ≡ s → j.tag ≡ g → j.index ≡ i → j.predicted ≡ x → j.a ≡ a → j.b ≡ b → job_of P t ≡ fields_of j
-      job_fields t j f pc station tag js jg ji jx ja jb =
+      job_fields : (t : Tenant) (j : Job) → HasBoth d i x a both b t → t.pc ≡ j.pc → t.station ≡ s → t.tag ≡ g
+          → j.station ≡ s → j.tag ≡ g → j.index ≡ i → j.half ≡ d → j.predicted ≡ x → j.a ≡ a → j.b ≡ b → job_of P t ≡ fields_of j
+      job_fields t j f pc station tag js jg ji jd jx ja jb =
           let first : needed P First t ≡ a =
           ap (λ z. Rattle.std.proofs.Common.cond z (operand_value t.first) 0) (needs_first (kind_of P t)) ∙ ap (λ z. Rattle.std.specs.Prelude.unwrap_or z 0) f.its.first in
           let second : needed P Second t ≡ b =
@@ -337,30 +339,31 @@ module _ (P : Program) (C : Sizes) where
             station = (station ∙ sym js) q;
             tag = (tag ∙ sym jg) q;
             index = (f.its.its.index_is ∙ sym ji) q;
+            half = (f.its.its.half_is ∙ sym jd) q;
             pc = pc q;
             predicted = (f.its.its.predicted_is ∙ sym jx) q;
             first = (first ∙ sym ja) q;
             second = (second ∙ sym jb) q;
           }
 
-      pub claimed : (v w : View) (word n : ℕ) (y : Grows P C by v w (Claims P C s g word n)) → Ready (HasBoth i x a both b) v.seen → n ≡ word → (j : Job)
-          → j.station ≡ s → j.tag ≡ g → j.index ≡ i → j.pc ≡ address i → j.predicted ≡ x → j.a ≡ a → j.b ≡ b → IsClaimed P C by old w.seen s j
-      claimed v w word n y r hit j js jg ji jpc jx ja jb = ⊎_elim
+      pub claimed : (v w : View) (word n : ℕ) (y : Grows P C by v w (Claims P C s g word n)) → Ready (HasBoth d i x a both b) v.seen → n ≡ word → (j : Job)
+          → j.station ≡ s → j.tag ≡ g → j.index ≡ i → j.half ≡ d → j.pc ≡ address i → j.predicted ≡ x → j.a ≡ a → j.b ≡ b → IsClaimed P C by old w.seen s j
+      claimed v w word n y r hit j js jg ji jd jpc jx ja jb = ⊎_elim
           (λ here.
           let f = here.1 in
           let h : List Entry = y.between ++ v.seen in
           let e = On f.p ClaimIt in
           let seen : w.seen ≡ entry by (Does e) ∷ h = y.is ∙ ap (λ es. map (entry by) es ++ h) f.added in
           let legal : IsLegal P C (entry by (Does e) ∷ h) = subst (IsLegal P C) seen y.legal in
-          let same : IsTenant (U h) r.p s g (HasBoth i x a both b) = tenant_stays P C r.p s g (HasBoth i x a both b) (both_stable i x a both b) y.between v.seen legal.0 r.named in
+          let same : IsTenant (U h) r.p s g (HasBoth d i x a both b) = tenant_stays P C r.p s g (HasBoth d i x a both b) (both_stable d i x a both b) y.between v.seen legal.0 r.named in
           let here : r.p ≡ f.p = one_tag P C h legal.0 r.p f.p same.tenant f.tenant.tenant same.is f.tenant.is (same.station_is ∙ sym f.tenant.station_is) (same.tag_is ∙ sym f.tenant.tag_is) in
           let t : Tenant = f.tenant.tenant in
           let one : same.tenant ≡ t = one_at P C h legal.0 f.p same.tenant t (ap (at (U h).tenants) (sym here) ∙ same.is) f.tenant.is in
-          let fact : HasBoth i x a both b t = subst (HasBoth i x a both b) one same.fact in
+          let fact : HasBoth d i x a both b t = subst (HasBoth d i x a both b) one same.fact in
           let now : Tenant = record t { fate = Busy by } in
           let at_p : at (applied P C (U h) by e).tenants f.p ≡ Some now = ap (λ o. at (change_at P (U h).tenants by f.p ClaimIt o) f.p) f.tenant.is ∙ at_replaced_here (U h).tenants f.p t now f.tenant.is in
           let pc : t.pc ≡ j.pc = (its_own h legal.0 f.p t f.tenant.is).place ∙ (ap address fact.its.its.index_is ∙ sym jpc) in
-          let has : Has (applied P C (U h) by e) f.p (IsJob P by (fields_of j)) = record { tenant = now; is = at_p; fact = record { held = record { fate = refl; stays = inl f.tenant.fact.live }; ready = is_ready t fact; fields_are = job_fields t j fact pc f.tenant.station_is f.tenant.tag_is js jg ji jx ja jb } } in
+          let has : Has (applied P C (U h) by e) f.p (IsJob P by (fields_of j)) = record { tenant = now; is = at_p; fact = record { held = record { fate = refl; stays = inl f.tenant.fact.live }; ready = is_ready t fact; fields_are = job_fields t j fact pc f.tenant.station_is f.tenant.tag_is js jg ji jd jx ja jb } } in
           record {
             station = js;
             holds = record { p = f.p; tenant = subst (λ z. Has (U z) f.p (IsJob P by (fields_of j))) (sym seen) has };

@@ -14,15 +14,15 @@ use Rattle.ruu_words.specs.declared.rule.Draft.TheVariants.{Nothing, Of}
 use Rattle.ruu_words.specs.declared.rule.Stage.TheVariants.{BothOperands}
 use Rattle.ruu_words.specs.declared.place.Place.TheVariants.{Info, Operand}
 use Rattle.ruu_words.specs.Content.{IsDraft, IsInfo, IsOperand, info_unit, operand_code, operand_unit}
-use Rattle.ruu_words.specs.Fields.{index_of, predicted_of, state_of, tag_of, value_of}
+use Rattle.ruu_words.specs.Fields.{half_of, index_of, predicted_of, state_of, tag_of, value_of}
 use Rattle.ruu_words.proofs.Reading.{operand_last}
 use Rattle.station.specs.declared.answers.Seen.{Seen}
 use Rattle.station.specs.declared.answers.SourceState.{SourceState}
 use Rattle.station.specs.Looking.{SeesInfo, SeesOperand, SeesWord, ShowsInfo, ShowsOperand, source_state, source_state_of}
 
-shows_info : (o : Option Tenant) (n : ℕ) → IsInfo o n → ShowsInfo o (index_of n) (predicted_of n)
-shows_info None n e = (omega arith, omega arith)
-shows_info (Some t) n i = (i.index, i.predicted)
+shows_info : (o : Option Tenant) (n : ℕ) → IsInfo o n → ShowsInfo o (index_of n) (half_of n) (predicted_of n)
+shows_info None n e = (omega arith, ap half_of e, omega arith)
+shows_info (Some t) n i = (i.index, i.half, i.predicted)
 
 by_code : (v : Option ℕ) → source_state_of (operand_code v) ≡ source_state v
 by_code None = refl
@@ -38,12 +38,12 @@ module _ (P : Program) (C : Sizes) (h : List Entry) (legal : IsLegal P C h) wher
   info_last Nothing proper p t is live = operand_last P C h legal Nothing First proper p t is live
   info_last (Of stage index predicted first second) proper p t is live = operand_last P C h legal (Of BothOperands index predicted first second) First proper p t is live
 
-  pub sees_info : (s n : ℕ) → SeesWord P C h (Info s) n → SeesInfo P C h s (index_of n) (predicted_of n)
+  pub sees_info : (s n : ℕ) → SeesWord P C h (Info s) n → SeesInfo P C h s (index_of n) (half_of n) (predicted_of n)
   sees_info s n w = record {
     draft = w.draft;
     proper = w.proper;
     shows = shows_info (last_of (recent (info_unit P C (unit_of P C h) w.draft)) s) n w.content;
-    its = λ p t is station live. subst (λ o. ShowsInfo o (index_of n) (predicted_of n)) (ap (last_of (recent (info_unit P C (unit_of P C h) w.draft))) (sym station) ∙ info_last w.draft w.proper p t is live)
+    its = λ p t is station live. subst (λ o. ShowsInfo o (index_of n) (half_of n) (predicted_of n)) (ap (last_of (recent (info_unit P C (unit_of P C h) w.draft))) (sym station) ∙ info_last w.draft w.proper p t is live)
         (shows_info (last_of (recent (info_unit P C (unit_of P C h) w.draft)) s) n w.content);
   }
 

@@ -5,6 +5,7 @@ use native.Mathlib.Decide.{ℕ_discrete}
 use Rattle.std.proofs.Math.Nat.{mod-add-mod}
 use Rattle.std.proofs.lemmas.Bool.{cases_lt}
 use Rattle.std.specs.List.{AllByRecursion}
+use Rattle.isa.specs.declared.op.Half.{Half}
 use Rattle.isa.specs.Instruction.{kind}
 use Rattle.isa.specs.Operations.{code_of}
 use Rattle.isa.specs.Programs.{Program, instr_of}
@@ -47,7 +48,7 @@ use Rattle.ruu_words.specs.declared.station.StationState.{StationState}
 use Rattle.ruu_words.specs.declared.station.StationState.TheVariants.{Addr as AddrState, Busy as BusyState, Done as DoneState, Free as FreeState, Miss as MissState, Open as OpenState, Stop as StopState}
 use Rattle.ruu_words.specs.declared.station.StationWord.{StationWord}
 use Rattle.ruu_words.specs.Content.{IsStation}
-use Rattle.ruu_words.specs.Fields.{index_of, state_of, tag_of, value_of}
+use Rattle.ruu_words.specs.Fields.{half_of, index_of, state_of, tag_of, value_of}
 use Rattle.ruu_words.specs.Kinds.{Heads, IsAny, IsEarly, IsTenant, ReadsData, ReadsInfo, Tells, Writes}
 use Rattle.ruu_words.specs.States.{state_code}
 use Rattle.ruu_words.specs.Rule.{Grows, IsCaller}
@@ -118,13 +119,13 @@ end_late MissState v f e = absurd e
 
 access_stays : (a : Access) → Stays (IsAccess a)
 access_stays a = record {
-  keeps = λ by s t t' g e x. record { station_is = g.station ∙ x.station_is; tag_is = g.tag ∙ x.tag_is; index_is = g.index ∙ x.index_is; fate = e ∙ x.fate };
+  keeps = λ by s t t' g e x. record { station_is = g.station ∙ x.station_is; tag_is = g.tag ∙ x.tag_is; index_is = g.index ∙ x.index_is; half_is = g.half ∙ x.half_is; fate = e ∙ x.fate };
   late = λ t x. subst IsLateFate (sym x.fate) tt;
 }
 
 leaving_stays : (P : Program) (l : Leaving) → Stays (IsLeaving P l)
 leaving_stays P l = record {
-  keeps = λ by s t t' g e x. record { station_is = g.station ∙ x.station_is; tag_is = g.tag ∙ x.tag_is; last_is = record { index_is = g.index ∙ x.last_is.index_is; ends = ends_on P l.last t t' g.index e (g.value Second) x.last_is.ends } };
+  keeps = λ by s t t' g e x. record { station_is = g.station ∙ x.station_is; tag_is = g.tag ∙ x.tag_is; last_is = record { index_is = g.index ∙ x.last_is.index_is; half_is = g.half ∙ x.last_is.half_is; ends = ends_on P l.last t t' g.index e (g.value Second) x.last_is.ends } };
   late = λ t x. ends_late P l.last t x.last_is.ends;
 }
 
@@ -380,14 +381,14 @@ module _ (P : Program) (C : Sizes) where
     still_ends (Stored a n) e = e
     still_ends (WasStop c) e = e
 
-    pub retired_out : IsRetired P C by v.seen w.seen l.station l.tag l.index l.last
+    pub retired_out : IsRetired P C by v.seen w.seen l.station l.tag l.index l.half l.last
     retired_out =
         let x = g.kind.may.head.fact in
-        let named : IsTenant V p l.station l.tag (IsLast P l.index l.last) = record { tenant = gone; is = at_p; station_is = x.station_is; tag_is = x.tag_is; fact = record { index_is = x.last_is.index_is; ends = still_ends l.last x.last_is.ends } } in
+        let named : IsTenant V p l.station l.tag (IsLast P l.index l.half l.last) = record { tenant = gone; is = at_p; station_is = x.station_is; tag_is = x.tag_is; fact = record { index_is = x.last_is.index_is; half_is = x.last_is.half_is; ends = still_ends l.last x.last_is.ends } } in
         record {
           p = p;
           n = m;
-          tenant = subst (λ z. IsTenant (U z) p l.station l.tag (IsLast P l.index l.last)) (sym seen) named;
+          tenant = subst (λ z. IsTenant (U z) p l.station l.tag (IsLast P l.index l.half l.last)) (sym seen) named;
           adds = adds_these P C by v w (Leaves P C l) (Does (On p (Retire m)) ∷ []) g g.kind.added;
         }
 
@@ -419,24 +420,24 @@ module _ (P : Program) (C : Sizes) where
 
   -- an answer, told from an earlier moment on
   pub answers_on : (by : ℕ) (old mid new : List Entry) (r : Answer) → Adds P C by old mid [] → RetireAnswers P C by mid new r → RetireAnswers P C by old new r
-  answers_on by old mid new (HasRetired s g i x) a r = record { p = r.p; n = r.n; tenant = r.tenant; adds = adds_on P C by old mid new [] (Does (On r.p (Retire r.n)) ∷ []) a r.adds }
+  answers_on by old mid new (HasRetired s g i d x) a r = record { p = r.p; n = r.n; tenant = r.tenant; adds = adds_on P C by old mid new [] (Does (On r.p (Retire r.n)) ∷ []) a r.adds }
   answers_on by old mid new IsNotDoneYet a r = adds_on P C by old mid new [] _ a r
   answers_on by old mid new IsEmpty a r = adds_on P C by old mid new [] _ a r
   answers_on by old mid new IsOver a r = adds_on P C by old mid new [] _ a r
 
   -- no retirement, unless it says so
   abbrev pub IsNone : Answer → Type 0
-  IsNone (HasRetired s g i x) = ⊥
+  IsNone (HasRetired s g i d x) = ⊥
   IsNone _ = Unit {0}
 
-  pub is_none : (r : Answer) → ((s g i : ℕ) (x : Last) → r ≢ HasRetired s g i x) → IsNone r
-  is_none (HasRetired s g i x) apart = absurd (apart s g i x refl)
+  pub is_none : (r : Answer) → ((s g i : ℕ) (d : Half) (x : Last) → r ≢ HasRetired s g i d x) → IsNone r
+  is_none (HasRetired s g i d x) apart = absurd (apart s g i d x refl)
   is_none IsNotDoneYet apart = tt
   is_none IsEmpty apart = tt
   is_none IsOver apart = tt
 
   pub none_retired : (by : ℕ) (old new : List Entry) (r : Answer) → IsNone r → RetireAnswers P C by old new r → (es : List Event) × (Adds P C by old new es × AllByRecursion (IsNoRetirement P C) es)
-  none_retired by old new (HasRetired s g i x) none r = absurd none
+  none_retired by old new (HasRetired s g i d x) none r = absurd none
   none_retired by old new IsNotDoneYet none r = (Refuses NotDone ∷ [], (r, (tt, tt)))
   none_retired by old new IsEmpty none r = (Refuses Empty ∷ [], (r, (tt, tt)))
   none_retired by old new IsOver none r = (Refuses Over ∷ [], (r, (tt, tt)))
@@ -496,22 +497,25 @@ module _ (P : Program) (C : Sizes) where
     its_index : now.head.tenant.index ≡ index_of n
     its_index = sym (g.kind.its now.p now.head.tenant now.head.is now.head.fact.station_is now.head.live).index
 
+    its_half : now.head.tenant.half ≡ half_of n
+    its_half = sym (g.kind.its now.p now.head.tenant now.head.is now.head.fact.station_is now.head.live).half
+
     pub end_adds : Adds P C by v.seen w.seen []
     end_adds = adds_these P C by v w (ReadsInfo P C s n) [] g g.kind.none
 
-    pub end_access : (index : ℕ) → index ≡ index_of n → word.state ≡ AddrState → HasAccess P C w.seen (record { station = s; tag = word.tag; index = index; address = word.value })
-    end_access index e state =
-        let a : Access = record { station = s; tag = word.tag; index = index; address = word.value } in
+    pub end_access : (index : ℕ) (half : Half) → index ≡ index_of n → half ≡ half_of n → word.state ≡ AddrState → HasAccess P C w.seen (record { station = s; tag = word.tag; index = index; half = half; address = word.value })
+    end_access index half e f state =
+        let a : Access = record { station = s; tag = word.tag; index = index; half = half; address = word.value } in
         let i = now.head in
-        let fact : IsAccess a i.tenant = record { station_is = i.fact.station_is; tag_is = i.fact.tag_is; index_is = its_index ∙ sym e; fate = subst (λ z. IsEnd z word.value i.tenant.fate) state i.fact.end } in
+        let fact : IsAccess a i.tenant = record { station_is = i.fact.station_is; tag_is = i.fact.tag_is; index_is = its_index ∙ sym e; half_is = its_half ∙ sym f; fate = subst (λ z. IsEnd z word.value i.tenant.fate) state i.fact.end } in
         let head : IsHead (U mid) now.p (IsAccess a) = record { tenant = i.tenant; is = i.is; live = i.live; oldest = i.oldest; goes_on = i.goes_on; fact = fact } in
         subst (λ z. HasAccess P C z a) (sym seen_mid) (record { p = now.p; head = head })
 
-    pub end_leaves : (index : ℕ) → index ≡ index_of n → word.state ≢ AddrState → (x : Last) → IsLastOf word.state word.value x → MayLeave P C w.seen (record { station = s; tag = word.tag; index = index; last = x })
-    end_leaves index e state x last =
-        let l : Leaving = record { station = s; tag = word.tag; index = index; last = x } in
+    pub end_leaves : (index : ℕ) (half : Half) → index ≡ index_of n → half ≡ half_of n → word.state ≢ AddrState → (x : Last) → IsLastOf word.state word.value x → MayLeave P C w.seen (record { station = s; tag = word.tag; index = index; half = half; last = x })
+    end_leaves index half e f state x last =
+        let l : Leaving = record { station = s; tag = word.tag; index = index; half = half; last = x } in
         let i = now.head in
-        let fact : IsLeaving P l i.tenant = record { station_is = i.fact.station_is; tag_is = i.fact.tag_is; last_is = record { index_is = its_index ∙ sym e; ends = ends_as P word.state word.value i.tenant state i.fact.end x last } } in
+        let fact : IsLeaving P l i.tenant = record { station_is = i.fact.station_is; tag_is = i.fact.tag_is; last_is = record { index_is = its_index ∙ sym e; half_is = its_half ∙ sym f; ends = ends_as P word.state word.value i.tenant state i.fact.end x last } } in
         let head : IsHead (U mid) now.p (IsLeaving P l) = record { tenant = i.tenant; is = i.is; live = i.live; oldest = i.oldest; goes_on = i.goes_on; fact = fact } in
         subst (λ z. MayLeave P C z l) (sym seen_mid) (record { p = now.p; head = head })
 
@@ -521,10 +525,10 @@ module _ (P : Program) (C : Sizes) where
     data_missing ne = ⊎_elim (λ here. absurd (ne here.0)) (λ o. adds_these P C by v w (FindsData P C a n) (Refuses NotDone ∷ []) g o.1) g.kind.data_is
 
     pub data_there : (x : ℕ) → x ≡ value_of n → kind (instr_of P a.index).op ≡ Stores → state_of n ≡ 2
-        → MayLeave P C w.seen (record { station = a.station; tag = a.tag; index = a.index; last = Stored a.address x }) × Adds P C by v.seen w.seen []
+        → MayLeave P C w.seen (record { station = a.station; tag = a.tag; index = a.index; half = a.half; last = Stored a.address x }) × Adds P C by v.seen w.seen []
     data_there x e stores there = ⊎_elim
         (λ here.
-        let l : Leaving = record { station = a.station; tag = a.tag; index = a.index; last = Stored a.address x } in
+        let l : Leaving = record { station = a.station; tag = a.tag; index = a.index; half = a.half; last = Stored a.address x } in
         let h : List Entry = g.between ++ v.seen in
         let seen : w.seen ≡ h = g.is ∙ ap (λ es. map (entry by) es ++ h) here.1 in
         let legal : IsLegal P C h = subst (IsLegal P C) seen g.legal in
@@ -532,7 +536,7 @@ module _ (P : Program) (C : Sizes) where
         let d = here.2 in
         let one : d.tenant ≡ i.tenant = one_at P C h legal g.kind.access.p d.tenant i.tenant d.is i.is in
         let second : i.tenant.second.value ≡ Some x = ap (λ (z : Tenant). z.second.value) (sym one) ∙ (d.fact ∙ ap Some (sym e)) in
-        let fact : IsLeaving P l i.tenant = record { station_is = i.fact.station_is; tag_is = i.fact.tag_is; last_is = record { index_is = i.fact.index_is; ends = (ap (λ k. kind (instr_of P k).op) i.fact.index_is ∙ stores, i.fact.fate, second) } } in
+        let fact : IsLeaving P l i.tenant = record { station_is = i.fact.station_is; tag_is = i.fact.tag_is; last_is = record { index_is = i.fact.index_is; half_is = i.fact.half_is; ends = (ap (λ k. kind (instr_of P k).op) i.fact.index_is ∙ stores, i.fact.fate, second) } } in
         let head : IsHead (U h) g.kind.access.p (IsLeaving P l) = record { tenant = i.tenant; is = i.is; live = i.live; oldest = i.oldest; goes_on = i.goes_on; fact = fact } in
         (subst (λ z. MayLeave P C z l) (sym seen) (record { p = g.kind.access.p; head = head }), adds_these P C by v w (FindsData P C a n) [] g here.1))
         (λ o. absurd (o.0 there))

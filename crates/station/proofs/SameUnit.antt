@@ -4,6 +4,7 @@ use Rattle.atomic_table.specs.Seated.{TableId}
 use Rattle.isa.specs.Programs.{Program}
 use Rattle.inorder.specs.declared.history.Entry.{Entry}
 use Rattle.inorder.specs.Unit.{Sizes}
+use Rattle.ruu_words.specs.declared.rule.Heirs.{Heirs}
 use Rattle.ruu_words.specs.declared.rule.Setup.{Setup}
 use Rattle.ruu_words.specs.Places.{words_for}
 use Rattle.ruu_words.specs.Rule.{sizes_of}
@@ -22,8 +23,8 @@ unit_in c = (c.program, c.sizes)
 pub of_table : (key : Setup) (id : TableId) (core : TheCore) → core_of id key ≡ core → unit_at key ≡ unit_in core
 of_table key id core e = ap unit_in e
 
-pub of_seat : (id : TableId) (value : Setup) (by : ℕ) (seen : List Entry) (seat : Caller) (core : TheCore) → record { core = core_of id value; by = by; seen = seen } ≡ seat → seat.core ≡ core → unit_at value ≡ unit_in core
-of_seat id value by seen seat core e f = ap (λ (z : Caller). unit_in z.core) e ∙ ap unit_in f
+pub of_seat : (id : TableId) (value : Setup) (by : ℕ) (heirs : Heirs) (seen : List Entry) (seat : Caller) (core : TheCore) → record { core = core_of id value; by = by; heirs = heirs; seen = seen } ≡ seat → seat.core ≡ core → unit_at value ≡ unit_in core
+of_seat id value by heirs seen seat core e f = ap (λ (z : Caller). unit_in z.core) e ∙ ap unit_in f
 
 -- a table has words
 pub not_empty : (n w : ℕ) → w ≡ words_for n → 2 ≤ n → 0 < w

@@ -52,7 +52,7 @@ module _ (P : Program) (C : Sizes) where
   lets_stay : (t : Tenant) (more seen : List Entry) → IsLegal P C (more ++ seen) → own front more ≡ [] → MayLetOut P C (unit_of P C seen) t → MayLetOut P C (unit_of P C (more ++ seen)) t
   lets_stay t more seen legal none may =
       let stay = still_let P C t.index t.predicted (supply_of t.sources.0) (supply_of t.sources.1) more seen legal none may.may in
-      record { may = stay.may; tag = subst (λ n. n < last_tag) (sym stay.tag) may.tag }
+      record { may = stay.may; half = may.half ∙ sym (ap (λ x. x.half) stay.new); tag = subst (λ n. n < last_tag) (sym stay.tag) may.tag }
 
   asks_stay : (s g : ℕ) (k : Source) (a b : ℕ) (more seen : List Entry) → IsLegal P C (more ++ seen) → own front more ≡ [] → MayAsk P C seen s g k a b → MayAsk P C (more ++ seen) s g k a b
   asks_stay s g k a b more seen legal none may =

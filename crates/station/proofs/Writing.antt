@@ -2,13 +2,14 @@
 use Rattle.std.proofs.Common.{◌≡◌, ◌≢◌, ℕ, ◌<◌, Bool, cond, List, [], ◌∷◌, ◌++◌, map, length, Some, refl, sym, ap, ◌∙◌, subst, inl, inr, ⊎_elim}
 use Rattle.std.specs.List.{AllByRecursion}
 use Rattle.atomic_table.specs.Table.{Me}
-use Rattle.isa.specs.Operations.{outcome, outcome_by}
+use Rattle.isa.specs.declared.op.Half.{Half}
+use Rattle.isa.specs.Operations.{outcome_of as outcome_of_half, outcome_by}
 use Rattle.isa.specs.Programs.{Program, instr_of}
 use Rattle.isa.specs.declared.instr.Instr.{Instr}
 use Rattle.isa.specs.declared.op.Kind.{Kind}
 use Rattle.isa.specs.declared.op.Kind.TheVariants.{Computes, Jumps, Links, Loads, Stores}
 use Rattle.isa.specs.declared.stop.Outcome.{Outcome}
-use Rattle.isa.specs.declared.stop.Outcome.TheVariants.{Address, Next, Stop as Stops, Value}
+use Rattle.isa.specs.declared.stop.Outcome.TheVariants.{Address, Next, Pair, Stop as Stops, Value}
 use Rattle.inorder.specs.declared.history.Act.{Act}
 use Rattle.inorder.specs.declared.history.Act.TheVariants.{Finish, Load}
 use Rattle.inorder.specs.declared.history.Entry.{Entry}
@@ -54,20 +55,22 @@ use Rattle.station.proofs.Backs.{IsNoRetirement, back_seated}
 use Rattle.station.proofs.Carrying.{all_append, any_on, one_named}
 
 -- A source that is not needed changes no outcome
-same_outcome : (k : Kind) (i : Instr) (pc a b size : ℕ) → outcome_by k i pc (cond (needs k First) a 0) (cond (needs k Second) b 0) size ≡ outcome_by k i pc a b size
-same_outcome Computes i pc a b size = refl
-same_outcome Jumps i pc a b size = refl
-same_outcome Links i pc a b size = refl
-same_outcome Loads i pc a b size = refl
-same_outcome Stores i pc a b size = refl
+same_outcome : (k : Kind) (i : Instr) (half : Half) (pc a b size : ℕ) →
+    outcome_by k i half pc (cond (needs k First) a 0) (cond (needs k Second) b 0) size ≡
+    outcome_by k i half pc a b size
+same_outcome Computes i half pc a b size = refl
+same_outcome Jumps i half pc a b size = refl
+same_outcome Links i half pc a b size = refl
+same_outcome Loads i half pc a b size = refl
+same_outcome Stores i half pc a b size = refl
 
 -- so a job has what its tenant comes to
 pub is_job : (P : Program) (by : ℕ) (j : Job) (o : Outcome) (t : Tenant) → IsJob P by (fields_of j) t → o ≡ outcome_of P j → HasJob P by j.predicted o t
 is_job P by j o t is e = record {
   held = is.held;
   ready = is.ready;
-  computes = sym (same_outcome (kind_of P t) (instr_of P t.index) t.pc _ _ (length P.bytes))
-      ∙ (ap (λ (f : JobFields). outcome (instr_of P f.index) f.pc f.first f.second (length P.bytes)) is.fields_are ∙ sym e);
+  computes = sym (same_outcome (kind_of P t) (instr_of P t.index) t.half t.pc _ _ (length P.bytes))
+      ∙ (ap (λ (f : JobFields). outcome_of_half (instr_of P f.index) f.half f.pc f.first f.second (length P.bytes)) is.fields_are ∙ sym e);
   predicted_is = ap (λ (f : JobFields). f.predicted) is.fields_are;
 }
 
@@ -166,6 +169,7 @@ module _ (P : Program) (C : Sizes) where
       where
         go : (y : Outcome) → o ≡ y → Finds (unit_of P C (e.between ++ v.seen)) s g e.events (λ t. computed P t ≡ o) (λ p. Does (On p Finish) ∷ []) → HasMadeOf P C w.seen s g y
         go (Value x) is f = made_of x is f
+        go (Pair l h) is f = tt
         go (Next x) is f = tt
         go (Address x) is f = tt
         go (Stops x) is f = tt

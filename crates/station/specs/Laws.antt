@@ -1,5 +1,5 @@
 -- What stays true between the calls of one caller.
-use Rattle.std.specs.Prelude.{◌≢◌, ◌⊎◌, ℕ, List, []}
+use Rattle.std.specs.Prelude.{◌≢◌, ◌⊎◌, ℕ, ◌<◌, List, [], length}
 use Rattle.std.specs.List.{AllByRecursion}
 use Rattle.isa.specs.Programs.{Program}
 use Rattle.inorder.specs.declared.history.Act.TheVariants.{Finish as FinishIt}
@@ -8,7 +8,7 @@ use Rattle.inorder.specs.declared.history.Event.{Event}
 use Rattle.inorder.specs.declared.history.Event.TheVariants.{Does}
 use Rattle.inorder.specs.declared.history.Source.{Source}
 use Rattle.inorder.specs.declared.history.Step.TheVariants.{On}
-use Rattle.inorder.specs.History.{Adds, back, front, unit_of}
+use Rattle.inorder.specs.History.{Adds, IsLegal, back, front, unit_of}
 use Rattle.inorder.specs.Unit.{Sizes}
 use Rattle.station.specs.declared.answers.Claim.{Claim}
 use Rattle.station.specs.declared.answers.Finish.{Finish}
@@ -69,3 +69,9 @@ abbrev pub BacksStay : Type 0
 BacksStay =
     (P : Program) (C : Sizes) (old new : List Entry) (station tag value : ℕ) →
     Adds P C back old new [] → MaySettle P C old station tag value → MaySettle P C new station tag value
+
+-- A job is of an instruction of the program
+abbrev pub JobsAreOfTheProgram : Type 0
+JobsAreOfTheProgram =
+    (P : Program) (C : Sizes) (by : ℕ) (seen : List Entry) (j : Job) →
+    IsLegal P C seen → Holds P C by seen j → j.index < length P.code

@@ -11,7 +11,7 @@ use Rattle.inorder.specs.declared.history.Supply.TheVariants.{From, Known}
 use Rattle.inorder.specs.History.{Adds, entry, front, unit_of}
 use Rattle.inorder.specs.Replies.{last_tag}
 use Rattle.inorder.specs.Steps.{MayLet}
-use Rattle.inorder.specs.Unit.{Sizes, UpdateUnit, next_station, next_tag, recent}
+use Rattle.inorder.specs.Unit.{Sizes, UpdateUnit, front_half, next_station, next_tag, recent}
 use Rattle.ruu_words.specs.declared.rule.Draft.{Draft}
 use Rattle.ruu_words.specs.declared.rule.Draft.TheVariants.{Of}
 use Rattle.ruu_words.specs.declared.rule.Role.TheVariants.{Front}
@@ -37,9 +37,10 @@ draft_of stage t = Of stage t.index t.predicted (supply_of t.sources.0) (supply_
 abbrev pub let_of : Tenant → Event
 let_of t = Does (Let t.index t.predicted (supply_of t.sources.0) (supply_of t.sources.1))
 
--- This tenant may be let, and its tag has its bits
+-- This tenant may be let, as the half that comes next, and its tag has its bits
 pub record MayLetOut (P : Program) (C : Sizes) (U : UpdateUnit) (t : Tenant) : Type 0 where
   pub may : MayLet P C U t.index t.predicted (supply_of t.sources.0) (supply_of t.sources.1)
+  pub half : t.half ≡ front_half P U.tenants
   pub tag : next_tag C (recent U) < last_tag
 
 -- It is the front's seat, between two steps, with this let in progress

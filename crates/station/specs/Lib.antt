@@ -12,3 +12,6 @@ pub mod Wakeup
 pub mod Retirement
 pub mod Recovery
 pub mod Laws
+pub mod Quiet
+pub mod Following
+pub mod Finishing

@@ -1,6 +1,8 @@
 -- What the reading calls answer.
 use Rattle.std.specs.Prelude.{◌≡◌, ℕ, List, Option, Some, None, ◌==◌, if◌then◌else◌}
 use Rattle.isa.specs.Programs.{Program}
+use Rattle.isa.specs.declared.op.Half.{Half}
+use Rattle.isa.specs.declared.op.Half.TheVariants.{Low}
 use Rattle.inorder.specs.declared.history.Entry.{Entry}
 use Rattle.inorder.specs.History.{unit_of}
 use Rattle.inorder.specs.declared.history.Source.{Source}
@@ -34,18 +36,21 @@ SeesStation P C h s seen =
     Shows (station_word C (recent (unit_of P C h)) s) seen.tag seen.state seen.value
 
 -- The fields of an info word; 0 where the station has had no tenant
-abbrev pub ShowsInfo : Option Tenant → ℕ → ℕ → Type 0
-ShowsInfo None index predicted = (index ≡ 0) × (predicted ≡ 0)
-ShowsInfo (Some t) index predicted = (index ≡ t.index) × (predicted ≡ t.predicted)
+abbrev pub ShowsInfo : Option Tenant → ℕ → Half → ℕ → Type 0
+ShowsInfo None index half predicted = (index ≡ 0) × (half ≡ Low) × (predicted ≡ 0)
+ShowsInfo (Some t) index half predicted =
+    (index ≡ t.index) × (half ≡ t.half) × (predicted ≡ t.predicted)
 
 -- An info word is that of the station's last tenant, or of the let in progress
-pub record SeesInfo (P : Program) (C : Sizes) (h : List Entry) (s index predicted : ℕ) : Type 0 where
+pub record SeesInfo (P : Program) (C : Sizes) (h : List Entry) (s index : ℕ) (half : Half)
+    (predicted : ℕ) : Type 0 where
   pub draft : Draft
   pub proper : IsDraft P C (unit_of P C h) draft
-  pub shows : ShowsInfo (last_of (recent (info_unit P C (unit_of P C h) draft)) s) index predicted
+  pub shows : ShowsInfo (last_of (recent (info_unit P C (unit_of P C h) draft)) s) index half predicted
   -- so it is that of each live tenant of the station
   pub its : (p : ℕ) (t : Tenant) → at (unit_of P C h).tenants p ≡ Some t → t.station ≡ s →
-      t.standing ≡ Live → (index ≡ t.index) × (predicted ≡ t.predicted)
+      t.standing ≡ Live →
+      (index ≡ t.index) × (half ≡ t.half) × (predicted ≡ t.predicted)
 
 -- By the number in the word
 abbrev pub source_state_of : ℕ → SourceState

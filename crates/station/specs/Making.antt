@@ -1,9 +1,10 @@
 -- A new core.
-use Rattle.std.specs.Prelude.{◌≡◌, ℕ, ◌≤◌, ◌<◌, []}
+use Rattle.std.specs.Prelude.{◌≡◌, ℕ, ◌≤◌, ◌<◌, [], length}
 use Rattle.isa.specs.Programs.{Program}
 use Rattle.isa.specs.Settings.{Settings}
-use Rattle.inorder.specs.History.{front}
+use Rattle.inorder.specs.History.{back, front}
 use Rattle.inorder.specs.Replies.{last_tag}
+use Rattle.ruu_words.specs.declared.rule.Heirs.{Heirs}
 use Rattle.ruu_words.specs.declared.rule.Setup.{Setup}
 use Rattle.ruu_words.specs.Places.{words_for}
 use Rattle.station.specs.Seats.{Caller, TheCore}
@@ -17,11 +18,19 @@ pub record IsCore (words : ℕ) (key : Setup) (P : Program) (ring queue : ℕ) :
   pub least : 2 ≤ ring
   pub most : ring ≤ 32
   pub from_one : 1 ≤ key.first_tag
+  pub small : length P.code ≤ 16384
 
 -- A seat of this core that has seen nothing
 pub record IsNew (core : TheCore) (seat : Caller) : Type 0 where
   pub core_is : seat.core ≡ core
   pub seen : seat.seen ≡ []
+
+-- The first unit, and the numbers of all others
+abbrev pub first_unit : ℕ
+first_unit = 2
+
+abbrev pub other_units : Heirs
+other_units = record { first = 3; every = 1 }
 
 -- A core for this program and configuration, with its first seats
 pub record IsMade (P : Program) (config : Settings) (core : TheCore) (front_seat back_seat unit_seat : Caller) : Type 0 where
@@ -32,6 +41,9 @@ pub record IsMade (P : Program) (config : Settings) (core : TheCore) (front_seat
   pub back_is : IsNew core back_seat
   pub unit_is : IsNew core unit_seat
   pub front_by : front_seat.by ≡ front
+  pub back_by : back_seat.by ≡ back
+  pub unit_by : unit_seat.by ≡ first_unit
+  pub unit_heirs : unit_seat.heirs ≡ other_units
 
 -- The setup of a new core
 pub record IsSetup (P : Program) (config : Settings) (setup : Setup) : Type 0 where
@@ -44,3 +56,4 @@ pub record IsSetup (P : Program) (config : Settings) (setup : Setup) : Type 0 wh
   pub most : setup.ring ≤ 32
   pub tag : setup.first_tag < last_tag
   pub from_one : 1 ≤ setup.first_tag
+  pub code : length setup.program.code ≤ 16384

@@ -33,13 +33,14 @@ pub record Mends (P : Program) (C : Sizes) (s : ℕ) (h : List Entry) (d : Draft
   pub added : events ≡ Does (On miss.p Mend) ∷ []
   pub draft : d ≡ Nothing
 
--- The station's miss was mended
+-- That miss, the tenant of this station, was mended
 pub record IsMended (P : Program) (C : Sizes) (by station : ℕ) (old new : List Entry) : Type 0 where
-  pub point : List Entry
+  pub p : ℕ
   pub tag : ℕ
   pub next : ℕ
-  pub miss : HasMiss P C point station tag next
-  pub adds : Adds P C by old new (Does (On miss.p Mend) ∷ [])
+  pub named : IsTenant (unit_of P C new) p station tag IsAny
+  pub can : CanMend (unit_of P C old) p next
+  pub adds : Adds P C by old new (Does (On p Mend) ∷ [])
 
 -- In what was seen there is a youngest live tenant, and an older live miss
 pub record MaySquash (P : Program) (C : Sizes) (seen : List Entry) : Type 0 where

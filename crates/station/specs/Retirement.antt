@@ -1,5 +1,6 @@
 -- Retirement.
 use Rattle.std.specs.Prelude.{◌≡◌, ℕ, suc, ◌+◌, ◌%◌, Bool, true, false, List, [], ◌∷◌, Some}
+use Rattle.isa.specs.declared.op.Half.{Half}
 use Rattle.isa.specs.Operations.{code_of}
 use Rattle.isa.specs.Programs.{Program}
 use Rattle.isa.specs.declared.op.Kind.TheVariants.{Stores}
@@ -35,20 +36,22 @@ EndsAs P (Stored address word) t =
     (kind_of P t ≡ Stores) × (t.fate ≡ Addr address) × (t.second.value ≡ Some word)
 EndsAs P (WasStop code) t = t.fate ≡ Stopped code
 
-pub record IsLast (P : Program) (index : ℕ) (last : Last) (t : Tenant) : Type 0 where
+pub record IsLast (P : Program) (index : ℕ) (half : Half) (last : Last) (t : Tenant) : Type 0 where
   pub index_is : t.index ≡ index
+  pub half_is : t.half ≡ half
   pub ends : EndsAs P last t
 
 -- The tenant retired; n is what is kept of a stop
-pub record IsRetired (P : Program) (C : Sizes) (by : ℕ) (old new : List Entry) (station tag index : ℕ) (last : Last) : Type 0 where
+pub record IsRetired (P : Program) (C : Sizes) (by : ℕ) (old new : List Entry) (station tag index : ℕ)
+    (half : Half) (last : Last) : Type 0 where
   pub p : ℕ
   pub n : ℕ
-  pub tenant : IsTenant (unit_of P C new) p station tag (IsLast P index last)
+  pub tenant : IsTenant (unit_of P C new) p station tag (IsLast P index half last)
   pub adds : Adds P C by old new (Does (On p (RetireIt n)) ∷ [])
 
 abbrev pub RetireAnswers : Program → Sizes → ℕ → List Entry → List Entry → Retire → Type 0
-RetireAnswers P C by old new (Retired station tag index last) =
-    IsRetired P C by old new station tag index last
+RetireAnswers P C by old new (Retired station tag index half last) =
+    IsRetired P C by old new station tag index half last
 RetireAnswers P C by old new NotDone = Adds P C by old new (Refuses IsNotDoneNow ∷ [])
 RetireAnswers P C by old new Empty = Adds P C by old new (Refuses IsEmptyNow ∷ [])
 RetireAnswers P C by old new Over = Adds P C by old new (Refuses IsOverNow ∷ [])
@@ -86,6 +89,7 @@ pub record IsAccess (a : Access) (t : Tenant) : Type 0 where
   pub station_is : t.station ≡ a.station
   pub tag_is : t.tag ≡ a.tag
   pub index_is : t.index ≡ a.index
+  pub half_is : t.half ≡ a.half
   pub fate : t.fate ≡ Addr a.address
 
 pub record HasAccess (P : Program) (C : Sizes) (seen : List Entry) (a : Access) : Type 0 where
@@ -101,7 +105,7 @@ pub record FindsData (P : Program) (C : Sizes) (a : Access) (n : ℕ) (h : List 
 pub record IsLeaving (P : Program) (l : Leaving) (t : Tenant) : Type 0 where
   pub station_is : t.station ≡ l.station
   pub tag_is : t.tag ≡ l.tag
-  pub last_is : IsLast P l.index l.last t
+  pub last_is : IsLast P l.index l.half l.last t
 
 pub record MayLeave (P : Program) (C : Sizes) (seen : List Entry) (l : Leaving) : Type 0 where
   pub p : ℕ
@@ -126,5 +130,5 @@ is_stop _ = false
 
 -- Behind a retirement the oldest live tenant stands at the next station
 abbrev pub HeadGoesOn : Sizes → UpdateUnit → ℕ → Retire → Type 0
-HeadGoesOn C U s (Retired station tag index last) = IsAtHead C U ((s + 1) % C.ring) (is_stop last)
+HeadGoesOn C U s (Retired station tag index half last) = IsAtHead C U ((s + 1) % C.ring) (is_stop last)
 HeadGoesOn C U s _ = Unit {0}

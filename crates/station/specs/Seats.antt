@@ -1,5 +1,5 @@
 -- What contracts see of a core and of its seats, and what a seat's caller knows between its calls.
-use Rattle.std.specs.Prelude.{◌≡◌, ℕ, ◌<◌, Bool, true, false, List, []}
+use Rattle.std.specs.Prelude.{◌≡◌, ℕ, ◌<◌, ◌≤◌, Bool, true, false, List, []}
 use Rattle.atomic_table.specs.Seated.{TableId}
 use Rattle.atomic_table.specs.Table.{Me}
 use Rattle.isa.specs.Programs.{Program}
@@ -9,11 +9,12 @@ use Rattle.inorder.specs.History.{IsLegal, back, front, unit_of}
 use Rattle.inorder.specs.Replies.{IsOver}
 use Rattle.inorder.specs.Unit.{Sizes, UpdateUnit, next_station, recent}
 use Rattle.ruu_words.specs.declared.rule.Draft.TheVariants.{Nothing}
+use Rattle.ruu_words.specs.declared.rule.Heirs.{Heirs}
 use Rattle.ruu_words.specs.declared.rule.Role.{Role}
 use Rattle.ruu_words.specs.declared.rule.Role.TheVariants.{Back, Front, Spent, Start, Worker}
 use Rattle.ruu_words.specs.declared.rule.Setup.{Setup}
 use Rattle.ruu_words.specs.declared.rule.View.{View}
-use Rattle.ruu_words.specs.Rule.{opening_of, sizes_of}
+use Rattle.ruu_words.specs.Rule.{IsCaller, Unborn, nobody, opening_of, sizes_of}
 
 -- A core: its table, the program, the sizes, and the history that it goes on from
 pub record TheCore : Type 0 where
@@ -25,10 +26,12 @@ pub record TheCore : Type 0 where
 abbrev pub core_of : TableId → Setup → TheCore
 core_of id c = record { id = id; program = c.program; sizes = sizes_of c; opening = opening_of c }
 
--- A seat: its core, the number of its caller, and what that caller has seen
+-- A seat: its core, the number of its caller, the numbers that it may give to callers of seats cut
+-- from it, and what its caller has seen
 pub record Caller : Type 0 where
   pub core : TheCore
   pub by : ℕ
+  pub heirs : Heirs
   pub seen : List Entry
 
 -- The same seat at the same core
@@ -63,3 +66,22 @@ pub record IsSeated (P : Program) (C : Sizes) (role : Role) (by station : ℕ) (
   pub legal : IsLegal P C me.0.seen
   pub inside : station < C.ring
   pub knows : Knows P C role by station over me.0
+
+-- It may give numbers away, all above its own, and their callers have done nothing
+pub record IsGiver (v : View) : Type 0 where
+  pub some : 1 ≤ v.heirs.every
+  pub above : v.by < v.heirs.first
+  pub unborn : Unborn v
+
+-- A unit's seat may give numbers away, and no other seat may
+abbrev pub HasHeirs : Role → View → Type 0
+HasHeirs Worker v = IsGiver v
+HasHeirs Start v = ⊥
+HasHeirs Front v = v.heirs ≡ nobody
+HasHeirs Back v = v.heirs ≡ nobody
+HasHeirs Spent v = ⊥
+
+-- Its caller's number is one of its role
+pub record IsNumbered (role : Role) (v : View) : Type 0 where
+  pub caller : IsCaller role v.by
+  pub heirs : HasHeirs role v

@@ -1,7 +1,7 @@
 -- Results, and who waits for them.
 use Rattle.std.specs.Prelude.{◌≡◌, ◌⊎◌, ℕ, List, [], ◌∷◌, ◌++◌, length, Some, None}
 use Rattle.std.specs.List.{AllByRecursion}
-use Rattle.isa.specs.Operations.{outcome}
+use Rattle.isa.specs.Operations.{outcome_of as outcome_of_half}
 use Rattle.isa.specs.Programs.{Program, instr_of}
 use Rattle.isa.specs.declared.stop.Outcome.{Outcome}
 use Rattle.isa.specs.declared.stop.Outcome.TheVariants.{Value}
@@ -55,7 +55,7 @@ val_word tag value = record { tag = tag; value = Some value }
 
 -- What a unit has to compute for a job
 abbrev pub outcome_of : Program → Job → Outcome
-outcome_of P j = outcome (instr_of P j.index) j.pc j.a j.b (length P.bytes)
+outcome_of P j = outcome_of_half (instr_of P j.index) j.half j.pc j.a j.b (length P.bytes)
 
 -- The load may be answered with this value, unless it was squashed
 pub record MaySettle (P : Program) (C : Sizes) (seen : List Entry) (station tag value : ℕ) : Type 0 where

@@ -1,6 +1,6 @@
 //! What the calls take and answer.
 use inorder::history::Source;
-use isa::Stop;
+use isa::{Half, Stop};
 
 /// A word as it was seen.
 #[derive(Clone, Copy)]
@@ -28,10 +28,12 @@ pub enum Supply {
     From { station: usize, tag: u32 },
 }
 
-/// A tenant to be let: the index of its instruction, its predicted next pc, and sources 1 and 2.
+/// A tenant to be let: the index of its instruction and its half of that, its predicted next pc, and
+/// sources 1 and 2.
 #[derive(Clone, Copy)]
 pub struct Tenant {
     pub index: u32,
+    pub half: Half,
     pub predicted: u32,
     pub sources: (Supply, Supply),
 }
@@ -41,6 +43,7 @@ pub struct Job {
     pub station: usize,
     pub tag: u32,
     pub index: u32,
+    pub half: Half,
     pub pc: u32,
     pub predicted: u32,
     /// Source 1; 0 where the claim did not need it.
@@ -101,6 +104,7 @@ pub enum Retire {
         station: usize,
         tag: u32,
         index: u32,
+        half: Half,
         last: Last,
     },
     /// The oldest live tenant cannot retire yet.

@@ -5,7 +5,7 @@ ghost use Rattle.inorder.specs.declared.history.Source.TheVariants.{Second};
 ghost use Rattle.inorder.specs.History.{IsLegal};
 ghost use Rattle.inorder.specs.Tenants.{needs};
 ghost use Rattle.ruu_words.specs.declared.rule.Role.TheVariants.{Worker};
-ghost use Rattle.ruu_words.specs.Rule.{sizes_of};
+ghost use Rattle.ruu_words.specs.Rule.{Unborn, sizes_of};
 ghost use Rattle.station.specs.Claiming.{ClaimAnswers, HasSeen, IsNext, IsOpenAs, SourceAnswers, SourceSays};
 ghost use Rattle.station.specs.Seats.{IsSame};
 ghost use Rattle.station.specs.Steps.{IsAt};
@@ -65,10 +65,13 @@ fn needed_source(
     requires legal { IsLegal words.now.key.program (sizes_of words.now.key) seat.old.me.0.seen }
     requires role { seat.old.me.0.role ≡ Worker }
     requires seen { HasSeen words.now.key.program (sizes_of words.now.key) seat.old.me.0.seen station tag (λ t. needed ≡ true → IsNext words.now.key.program k t) }
-    ensures same { (seat.new.table_id ≡ seat.old.table_id) × (seat.new.id ≡ seat.old.id) }
+    requires unborn { Unborn seat.old.me.0 }
+    ensures same { (seat.new.table_id ≡ seat.old.table_id) × (seat.new.me.0.by ≡ seat.old.me.0.by) }
+    ensures heirs { seat.new.me.0.heirs ≡ seat.old.me.0.heirs }
+    ensures unborn { Unborn seat.new.me.0 }
     ensures slots { seat.new.me.1 ≡ seat.old.me.1 }
     ensures role { seat.new.me.0.role ≡ Worker }
-    ensures answer { SourceAnswers words.now.key.program (sizes_of words.now.key) seat.old.id seat.old.me.0.seen seat.new.me.0.seen station tag k needed result }
+    ensures answer { SourceAnswers words.now.key.program (sizes_of words.now.key) seat.old.me.0.by seat.old.me.0.seen seat.new.me.0.seen station tag k needed result }
 {
     if !needed {
         return Ok(0);
@@ -92,13 +95,20 @@ fn claim_open(
     requires place { station < ring }
     requires legal { IsLegal words.now.key.program (sizes_of words.now.key) seat.old.me.0.seen }
     requires role { seat.old.me.0.role ≡ Worker }
-    requires was_open { HasSeen words.now.key.program (sizes_of words.now.key) seat.old.me.0.seen station tag (IsOpenAs info.index info.predicted) }
-    ensures same { (seat.new.table_id ≡ seat.old.table_id) × (seat.new.id ≡ seat.old.id) }
+    requires was_open { HasSeen words.now.key.program (sizes_of words.now.key) seat.old.me.0.seen station tag (IsOpenAs info.half info.index info.predicted) }
+    requires unborn { Unborn seat.old.me.0 }
+    ensures same { (seat.new.table_id ≡ seat.old.table_id) × (seat.new.me.0.by ≡ seat.old.me.0.by) }
+    ensures heirs { seat.new.me.0.heirs ≡ seat.old.me.0.heirs }
+    ensures unborn { Unborn seat.new.me.0 }
     ensures slots { seat.new.me.1 ≡ seat.old.me.1 }
     ensures role { seat.new.me.0.role ≡ Worker }
-    ensures reply { ClaimAnswers words.now.key.program (sizes_of words.now.key) seat.old.id seat.old.me.0.seen seat.new.me.0.seen station result }
+    ensures reply { ClaimAnswers words.now.key.program (sizes_of words.now.key) seat.old.me.0.by seat.old.me.0.seen seat.new.me.0.seen station result }
 {
-    let InfoWord { index, predicted } = info;
+    let InfoWord {
+        half,
+        index,
+        predicted,
+    } = info;
     let kind = program.instr(index as usize).op().kind();
     let both = needs_second(kind);
     let a = match needed_source(words, ring, seat, station, tag, Source::First, true) {
@@ -120,6 +130,7 @@ fn claim_open(
         station,
         tag,
         index,
+        half,
         pc,
         predicted,
         a,
@@ -140,10 +151,12 @@ fn claim_at(
     requires place { station < ring }
     requires legal { IsLegal words.now.key.program (sizes_of words.now.key) seat.old.me.0.seen }
     requires role { seat.old.me.0.role ≡ Worker }
-    ensures same { (seat.new.table_id ≡ seat.old.table_id) × (seat.new.id ≡ seat.old.id) }
+    ensures same { (seat.new.table_id ≡ seat.old.table_id) × (seat.new.me.0.by ≡ seat.old.me.0.by) }
+    ensures heirs { seat.new.me.0.heirs ≡ seat.old.me.0.heirs }
+    ensures unborn { Unborn seat.new.me.0 }
     ensures slots { seat.new.me.1 ≡ seat.old.me.1 }
     ensures role { seat.new.me.0.role ≡ Worker }
-    ensures reply { ClaimAnswers words.now.key.program (sizes_of words.now.key) seat.old.id seat.old.me.0.seen seat.new.me.0.seen station result }
+    ensures reply { ClaimAnswers words.now.key.program (sizes_of words.now.key) seat.old.me.0.by seat.old.me.0.seen seat.new.me.0.seen station result }
 {
     let found = peek(words, ring, seat, station);
     if !is_open(found) {
@@ -166,6 +179,7 @@ impl Core {
         requires core { seat.old.core ≡ self.now }
         requires station { station < self.now.sizes.ring }
         ensures kept { IsSame seat.old seat.new }
+        ensures heirs { seat.new.heirs ≡ seat.old.heirs }
         ensures reply { ClaimAnswers self.now.program self.now.sizes seat.old.by seat.old.seen seat.new.seen station result }
     {
         let words = &self.table.shared;

@@ -1,5 +1,5 @@
 //! Cores.
-ghost use Rattle.std.specs.Prelude.{◌≡◌, ◌≤◌, ◌<◌, IfOk};
+ghost use Rattle.std.specs.Prelude.{◌≡◌, ◌≤◌, ◌<◌, IfOk, length};
 ghost use Rattle.ruu_words.specs.Fields.{tag_count};
 ghost use Rattle.ruu_words.specs.Places.{words_for};
 ghost use Rattle.ruu_words.specs.Rule.{IsStart, sizes_of};
@@ -38,26 +38,26 @@ impl Model for Core {
 struct BackCut;
 
 impl Split<View> for BackCut {
-    ghost use Rattle.ruu_words.specs.Rule.{view};
+    ghost use Rattle.ruu_words.specs.Rule.{nobody, view, without_first};
     ghost use Rattle.ruu_words.specs.declared.rule.Draft.TheVariants.{Nothing};
     ghost use Rattle.ruu_words.specs.declared.rule.Role.TheVariants.{Back, Front};
 
-    ghost left = { λ v. view Front v.seen v.draft };
+    ghost left = { λ v. view Front v.by (without_first v.heirs) v.seen v.draft };
 
-    ghost right = { λ v. view Back v.seen Nothing };
+    ghost right = { λ v. view Back v.heirs.first nobody v.seen Nothing };
 }
 
-// A new unit seat has seen what this seat has seen.
-pub(crate) struct UnitCut;
+// The first unit's seat may give away all numbers behind its own.
+struct FirstCut;
 
-impl Split<View> for UnitCut {
-    ghost use Rattle.ruu_words.specs.Rule.{view};
+impl Split<View> for FirstCut {
+    ghost use Rattle.ruu_words.specs.Rule.{nobody, view, without_first};
     ghost use Rattle.ruu_words.specs.declared.rule.Draft.TheVariants.{Nothing};
     ghost use Rattle.ruu_words.specs.declared.rule.Role.TheVariants.{Worker};
 
-    ghost left = { λ v. view v.role v.seen v.draft };
+    ghost left = { λ v. view v.role v.by nobody v.seen v.draft };
 
-    ghost right = { λ v. view Worker v.seen Nothing };
+    ghost right = { λ v. view Worker v.heirs.first (without_first v.heirs) v.seen Nothing };
 }
 
 fn setup_of(alloc: Global, program: &Program, config: &Config) -> Result<Setup, Memory>
@@ -110,7 +110,7 @@ impl Core {
         let words = first_words(alloc, &setup)?;
         let (table, mut first) = Table::of_words(alloc, words.as_slice(), &setup)?;
         let back = table.shared.split_seat::<BackCut>(&mut first);
-        let unit = table.shared.split_seat::<UnitCut>(&mut first);
+        let unit = table.shared.split_seat::<FirstCut>(&mut first);
         let front_seat = SeatOf::first_seat(first, &table.shared);
         let back_seat = SeatOf::first_seat(back, &table.shared);
         let unit_seat = SeatOf::first_seat(unit, &table.shared);
@@ -125,6 +125,7 @@ impl Core {
         requires least { 2 ≤ setup.ring }
         requires most { setup.ring ≤ 32 }
         requires from_one { 1 ≤ setup.first_tag }
+        requires small { length setup.program.code ≤ 16384 }
         ensures { result ≡ core_of table.shared.table_id setup }
     {
         let Setup {

@@ -1,5 +1,5 @@
 //! Lets.
-ghost use Rattle.std.specs.Prelude.{◌≡◌, ◌<◌, [], ◌∷◌};
+ghost use Rattle.std.specs.Prelude.{◌≡◌, ◌<◌, ◌^◌, [], ◌∷◌};
 ghost use Rattle.inorder.specs.History.{Adds, IsLegal, unit_of};
 ghost use Rattle.inorder.specs.Unit.{next_station, next_tag, recent};
 ghost use Rattle.ruu_words.specs.declared.rule.Draft.TheVariants.{Nothing};
@@ -28,18 +28,21 @@ fn dispatch(
     requires of { IsAt words.now.table_id words.now.key ring seat.old.table_id }
     requires place { station < ring }
     requires legal { IsLegal words.now.key.program (sizes_of words.now.key) seat.old.me.0.seen }
-    requires front { IsFronts seat.old.id Nothing seat.old.me }
+    requires front { IsFronts seat.old.me.0.by Nothing seat.old.me }
     requires may { MayLetOut words.now.key.program (sizes_of words.now.key) (unit_of words.now.key.program (sizes_of words.now.key) seat.old.me.0.seen) tenant }
+    requires small { tenant.index < 2 ^ 31 }
     requires station { next_station (sizes_of words.now.key) (recent (unit_of words.now.key.program (sizes_of words.now.key) seat.old.me.0.seen)) ≡ station }
-    ensures same { (seat.new.table_id ≡ seat.old.table_id) × (seat.new.id ≡ seat.old.id) }
+    ensures same { (seat.new.table_id ≡ seat.old.table_id) × (seat.new.me.0.by ≡ seat.old.me.0.by) }
+    ensures heirs { seat.new.me.0.heirs ≡ seat.old.me.0.heirs }
     ensures slots { seat.new.me.1 ≡ seat.old.me.1 }
-    ensures front { IsFronts seat.old.id Nothing seat.new.me }
+    ensures front { IsFronts seat.old.me.0.by Nothing seat.new.me }
     ensures tag { result ≡ next_tag (sizes_of words.now.key) (recent (unit_of words.now.key.program (sizes_of words.now.key) seat.old.me.0.seen)) }
-    ensures out { IsLetOut words.now.key.program (sizes_of words.now.key) seat.old.id tenant seat.old.me.0.seen seat.new.me.0.seen }
+    ensures out { IsLetOut words.now.key.program (sizes_of words.now.key) seat.old.me.0.by tenant seat.old.me.0.seen seat.new.me.0.seen }
 {
     let found = look(words, ring, seat, Place::Station(station));
     let tag = tag_in(found);
     let info = InfoWord {
+        half: tenant.half,
         index: tenant.index,
         predicted: tenant.predicted,
     };

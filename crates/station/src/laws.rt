@@ -1,5 +1,13 @@
 //! What stays true between calls. Each function is a law: it does nothing, and its contract is proved.
-ghost use Rattle.station.specs.Laws.{BacksStay, FrontsStay, JobsStay, JobsStayClaiming, JobsStayFinishing, JobsStaySeen};
+ghost use Rattle.std.specs.Prelude.{◌≡◌, ℕ, []};
+ghost use Rattle.inorder.specs.History.{IsLegal, own};
+ghost use Rattle.ruu_words.specs.Rule.{IsCaller, IsHeir};
+ghost use Rattle.station.specs.Finishing.{ClaimedAreInFlight, JobsAreFinished, JobsStayInFlight};
+ghost use Rattle.station.specs.Following.{LetsAreAsked, MissesAreRecovered, MissesStaySeen, MissesStaySquashing, QuestionsLeaveOthers};
+ghost use Rattle.station.specs.Laws.{BacksStay, FrontsStay, JobsAreOfTheProgram, JobsStay, JobsStayClaiming, JobsStayFinishing, JobsStaySeen};
+ghost use Rattle.station.specs.Quiet.{ClaimsGiveJobs, LetsAreOut, ReadyTenantsStay, SplitsShareNumbers, UnitsAreNumbered};
+
+use crate::seat::{Part, SeatOf, UnitSeat};
 
 /// A job stays its caller's until the caller finishes it.
 pub fn jobs_stay()
@@ -13,4 +21,80 @@ pub fn jobs_stay()
 pub fn mays_stay()
     ensures front { FrontsStay }
     ensures back { BacksStay }
+{}
+
+/// What a caller has seen is a legal history.
+pub fn what_is_seen_is_legal<P: Part>(seat: &SeatOf<P>)
+    ensures { IsLegal seat.now.core.program seat.now.core.sizes seat.now.seen }
+{
+    let _over = seat.over;
+}
+
+/// A caller's number is one of its part: 0 of the front, 1 of the back, and a greater one of a unit.
+pub fn a_number_is_of_its_part<P: Part>(seat: &SeatOf<P>)
+    ensures { IsCaller P.role seat.now.by }
+{
+    let _over = seat.over;
+}
+
+/// Who has no seat has done nothing: a unit's number is given by `make` or by `split`, and those that
+/// a seat may still give away have no entry in what its caller has seen.
+pub fn no_seat_no_entry(seat: &UnitSeat)
+    ensures { (n : ℕ) → IsHeir seat.now.heirs n → own n seat.now.seen ≡ [] }
+{
+    let _over = seat.over;
+}
+
+/// Which numbers there are to give away, and to whom they go at a split.
+pub fn numbers_are_given_once()
+    ensures all { UnitsAreNumbered }
+    ensures split { SplitsShareNumbers }
+{}
+
+/// The tenant that was let stands at the next station, with its instruction and the values that were
+/// known, and is open unless a unit has done something since.
+pub fn a_let_is_out()
+    ensures { LetsAreOut }
+{}
+
+/// An open tenant that has all that it needs stays so while nobody does anything but the back.
+pub fn a_ready_tenant_stays()
+    ensures { ReadyTenantsStay }
+{}
+
+/// A claim at the station of an open tenant that has all that it needs is a job, with the values of
+/// that tenant, unless another unit or the front does something meanwhile.
+pub fn a_ready_tenant_is_claimed()
+    ensures { ClaimsGiveJobs }
+{}
+
+/// The instruction of a job is one of the program.
+pub fn a_job_is_of_the_program()
+    ensures { JobsAreOfTheProgram }
+{}
+
+/// Where neither the front nor the back does anything, a claimed tenant is live and stays so, its
+/// finish is in time, and the tenant then has the outcome of its job.
+pub fn a_job_is_finished()
+    ensures claimed { ClaimedAreInFlight }
+    ensures stays { JobsStayInFlight }
+    ensures finished { JobsAreFinished }
+{}
+
+/// A tenant that was let with a source from its creator can be asked for that source.
+pub fn a_let_can_be_asked()
+    ensures { LetsAreAsked }
+{}
+
+/// A question for one source leaves the question for the other one.
+pub fn a_question_leaves_the_other()
+    ensures { QuestionsLeaveOthers }
+{}
+
+/// A live miss stays one while the front looks and squashes others, and there is either a younger
+/// live tenant, which may be squashed, or the miss can be mended.
+pub fn a_squash_goes_on()
+    ensures seen { MissesStaySeen }
+    ensures squash { MissesStaySquashing }
+    ensures next { MissesAreRecovered }
 {}

@@ -13,6 +13,7 @@ use crate::seat::{BackSeat, Part, SeatOf};
 use crate::steps;
 use crate::words::{source_state, tag_in, value_in};
 use inorder::history::Source;
+use isa::Half;
 use ruu_words::{InfoWord, Place, StationState, StationWord};
 
 impl Core {
@@ -21,6 +22,7 @@ impl Core {
         requires core { seat.old.core ≡ self.now }
         requires place { IsPlace self.now.sizes.ring place }
         ensures kept { IsSame seat.old seat.new }
+        ensures heirs { seat.new.heirs ≡ seat.old.heirs }
         ensures caller { IsCaller P.role seat.old.by }
         ensures history { Adds self.now.program self.now.sizes seat.old.by seat.old.seen seat.new.seen [] }
         ensures reply { SeesWord self.now.program self.now.sizes seat.new.seen place result }
@@ -33,6 +35,7 @@ impl Core {
         requires core { seat.old.core ≡ self.now }
         requires station { station < self.now.sizes.ring }
         ensures kept { IsSame seat.old seat.new }
+        ensures heirs { seat.new.heirs ≡ seat.old.heirs }
         ensures caller { IsCaller P.role seat.old.by }
         ensures history { Adds self.now.program self.now.sizes seat.old.by seat.old.seen seat.new.seen [] }
         ensures reply { SeesStation self.now.program self.now.sizes seat.new.seen station result }
@@ -43,17 +46,22 @@ impl Core {
         Seen { tag, state, value }
     }
 
-    /// The info word of a station: the index of an instruction, and its predicted next pc.
-    pub fn info(&self, seat: &mut BackSeat, station: usize) -> (u32, u32)
+    /// The info word of a station: the index of an instruction and a half of that, and the predicted
+    /// next pc.
+    pub fn info(&self, seat: &mut BackSeat, station: usize) -> (u32, Half, u32)
         requires core { seat.old.core ≡ self.now }
         requires station { station < self.now.sizes.ring }
         ensures kept { IsSame seat.old seat.new }
         ensures history { Adds self.now.program self.now.sizes seat.old.by seat.old.seen seat.new.seen [] }
-        ensures reply { SeesInfo self.now.program self.now.sizes seat.new.seen station result.0 result.1 }
+        ensures reply { SeesInfo self.now.program self.now.sizes seat.new.seen station result.0 result.1 result.2 }
     {
         let word = self.read(seat, Place::Info(station));
-        let InfoWord { index, predicted } = InfoWord::unpack(word);
-        (index, predicted)
+        let InfoWord {
+            half,
+            index,
+            predicted,
+        } = InfoWord::unpack(word);
+        (index, half, predicted)
     }
 
     /// The operand word of source k of a station.

@@ -1,11 +1,12 @@
 //! What one caller has seen reaches another.
-ghost use Rattle.std.specs.Prelude.{◌≡◌, []};
-ghost use Rattle.inorder.specs.History.{Adds, StartsWith};
+ghost use Rattle.std.specs.Prelude.{◌≡◌, ◌≢◌, []};
+ghost use Rattle.inorder.specs.History.{Adds, StartsWith, own};
+ghost use Rattle.ruu_words.specs.Rule.{half, other_half};
 ghost use Rattle.station.specs.Seats.{Caller, IsSame};
 
-use crate::cores::{Core, UnitCut};
+use crate::cores::Core;
 use crate::seat::{Part, SeatOf, UnitPart, UnitSeat};
-use atomic_table::Join;
+use atomic_table::{Join, Split};
 use ruu_words::Place;
 use ruu_words::rule::View;
 use std::marker::PhantomData;
@@ -16,22 +17,53 @@ pub(crate) struct Told;
 
 impl Join<View> for Told {
     ghost use Rattle.std.specs.Prelude.{[]};
-    ghost use Rattle.ruu_words.specs.Rule.{informed, view};
+    ghost use Rattle.ruu_words.specs.Rule.{informed, nobody, view};
     ghost use Rattle.ruu_words.specs.declared.rule.Draft.TheVariants.{Nothing};
     ghost use Rattle.ruu_words.specs.declared.rule.Role.TheVariants.{Spent};
 
     ghost both = { informed };
 
-    ghost spent = { view Spent [] Nothing };
+    ghost spent = { view Spent 0 nobody [] Nothing };
+}
+
+// A note has seen what this seat has seen, and does nothing.
+pub(crate) struct NoteCut;
+
+impl Split<View> for NoteCut {
+    ghost use Rattle.ruu_words.specs.Rule.{nobody, view};
+    ghost use Rattle.ruu_words.specs.declared.rule.Draft.TheVariants.{Nothing};
+    ghost use Rattle.ruu_words.specs.declared.rule.Role.TheVariants.{Spent};
+
+    ghost left = { λ v. view v.role v.by v.heirs v.seen v.draft };
+
+    ghost right = { λ v. view Spent 0 nobody v.seen Nothing };
+}
+
+// A new unit's seat has seen what this one has seen, and each may give away half of the numbers.
+pub(crate) struct UnitCut;
+
+impl Split<View> for UnitCut {
+    ghost use Rattle.ruu_words.specs.Rule.{half, other_half, view};
+    ghost use Rattle.ruu_words.specs.declared.rule.Draft.TheVariants.{Nothing};
+    ghost use Rattle.ruu_words.specs.declared.rule.Role.TheVariants.{Worker};
+
+    ghost left = { λ v. view v.role v.by (half v.heirs) v.seen v.draft };
+
+    ghost right = { λ v. view Worker v.heirs.first (other_half v.heirs) v.seen Nothing };
 }
 
 impl Core {
-    /// Two unit seats that have both seen what this one had seen. The first is the same caller's.
+    /// Two unit seats that have both seen what this one had seen. The first is the same caller's, and
+    /// the second that of a caller who has done nothing.
     pub fn split(&self, mut seat: UnitSeat) -> (UnitSeat, UnitSeat)
         requires core { seat.core ≡ self.now }
-        ensures first { result.0 ≡ seat }
+        ensures first { result.0 ≡ record seat { heirs = half seat.heirs } }
         ensures core { result.1.core ≡ self.now }
         ensures history { result.1.seen ≡ seat.seen }
+        ensures number { result.1.by ≡ seat.heirs.first }
+        ensures heirs { result.1.heirs ≡ other_half seat.heirs }
+        ensures other { result.1.by ≢ result.0.by }
+        ensures fresh { own result.1.by result.1.seen ≡ [] }
     {
         let other = self.table.shared.split_seat::<UnitCut>(&mut seat.seat);
         let other_seat = SeatOf {
@@ -52,8 +84,9 @@ impl Core {
         ensures kept { IsSame to.old to.new }
         ensures history { Adds self.now.program self.now.sizes to.old.by to.old.seen to.new.seen [] }
         ensures told { StartsWith to.new.seen from.old.seen }
+        ensures heirs { to.new.heirs ≡ to.old.heirs }
     {
-        let note = self.table.shared.split_seat::<UnitCut>(&mut from.seat);
+        let note = self.table.shared.split_seat::<NoteCut>(&mut from.seat);
         self.table.shared.join_seat::<Told>(&mut to.seat, note);
         crate::steps::look(
             &self.table.shared,
@@ -68,9 +101,11 @@ impl Core {
         requires one { one.old.core ≡ self.now }
         requires other { other.old.core ≡ self.now }
         ensures one_kept { IsSame one.old one.new }
+        ensures one_heirs { one.new.heirs ≡ one.old.heirs }
         ensures one_history { Adds self.now.program self.now.sizes one.old.by one.old.seen one.new.seen [] }
         ensures one_told { StartsWith one.new.seen other.old.seen }
         ensures other_kept { IsSame other.old other.new }
+        ensures other_heirs { other.new.heirs ≡ other.old.heirs }
         ensures other_history { Adds self.now.program self.now.sizes other.old.by other.old.seen other.new.seen [] }
         ensures other_told { StartsWith other.new.seen one.new.seen }
     {

@@ -22,12 +22,13 @@ fn mend_miss(words: &Words, ring: usize, seat: &mut Seat<u8, View>, station: usi
     requires of { IsAt words.now.table_id words.now.key ring seat.old.table_id }
     requires place { station < ring }
     requires legal { IsLegal words.now.key.program (sizes_of words.now.key) seat.old.me.0.seen }
-    requires front { IsFronts seat.old.id Nothing seat.old.me }
+    requires front { IsFronts seat.old.me.0.by Nothing seat.old.me }
     requires miss { SeesMiss words.now.key.program (sizes_of words.now.key) seat.old.me.0.seen station }
-    ensures same { (seat.new.table_id ≡ seat.old.table_id) × (seat.new.id ≡ seat.old.id) }
+    ensures same { (seat.new.table_id ≡ seat.old.table_id) × (seat.new.me.0.by ≡ seat.old.me.0.by) }
+    ensures heirs { seat.new.me.0.heirs ≡ seat.old.me.0.heirs }
     ensures slots { seat.new.me.1 ≡ seat.old.me.1 }
-    ensures front { IsFronts seat.old.id Nothing seat.new.me }
-    ensures mended { IsMended words.now.key.program (sizes_of words.now.key) seat.old.id station seat.old.me.0.seen seat.new.me.0.seen }
+    ensures front { IsFronts seat.old.me.0.by Nothing seat.new.me }
+    ensures mended { IsMended words.now.key.program (sizes_of words.now.key) seat.old.me.0.by station seat.old.me.0.seen seat.new.me.0.seen }
     ensures next { next_station (sizes_of words.now.key) (recent (unit_of words.now.key.program (sizes_of words.now.key) seat.new.me.0.seen)) ≡ next_station (sizes_of words.now.key) (recent (unit_of words.now.key.program (sizes_of words.now.key) seat.old.me.0.seen)) }
 {
     let found = look(words, ring, seat, Place::Station(station));
@@ -47,14 +48,15 @@ fn squash_youngest(
     requires of { IsAt words.now.table_id words.now.key ring seat.old.table_id }
     requires place { next < ring }
     requires legal { IsLegal words.now.key.program (sizes_of words.now.key) seat.old.me.0.seen }
-    requires front { IsFronts seat.old.id Nothing seat.old.me }
+    requires front { IsFronts seat.old.me.0.by Nothing seat.old.me }
     requires may { MaySquash words.now.key.program (sizes_of words.now.key) seat.old.me.0.seen }
     requires next { next ≡ next_station (sizes_of words.now.key) (recent (unit_of words.now.key.program (sizes_of words.now.key) seat.old.me.0.seen)) }
-    ensures same { (seat.new.table_id ≡ seat.old.table_id) × (seat.new.id ≡ seat.old.id) }
+    ensures same { (seat.new.table_id ≡ seat.old.table_id) × (seat.new.me.0.by ≡ seat.old.me.0.by) }
+    ensures heirs { seat.new.me.0.heirs ≡ seat.old.me.0.heirs }
     ensures slots { seat.new.me.1 ≡ seat.old.me.1 }
-    ensures front { IsFronts seat.old.id Nothing seat.new.me }
+    ensures front { IsFronts seat.old.me.0.by Nothing seat.new.me }
     ensures inside { result.0 < ring }
-    ensures squashed { IsSquashed words.now.key.program (sizes_of words.now.key) seat.old.id result.0 result.1 seat.old.me.0.seen seat.new.me.0.seen }
+    ensures squashed { IsSquashed words.now.key.program (sizes_of words.now.key) seat.old.me.0.by result.0 result.1 seat.old.me.0.seen seat.new.me.0.seen }
     ensures next { result.0 ≡ next_station (sizes_of words.now.key) (recent (unit_of words.now.key.program (sizes_of words.now.key) seat.new.me.0.seen)) }
 {
     let station = (next + ring - 1) % ring;

@@ -59,7 +59,7 @@ pub(crate) fn outcome_word(tag: u32, predicted: u32, outcome: Outcome) -> u64
     ensures { IsStation (live_word tag (fate_of predicted outcome)) result }
 {
     match outcome {
-        Outcome::Value(value) => done_word(tag, value),
+        Outcome::Value(value) | Outcome::Pair(value, _) => done_word(tag, value),
         Outcome::Next(next) => next_word(tag, predicted, next),
         Outcome::Address(address) => address_word(tag, address),
         Outcome::Stop(stop) => stop_word(tag, stop),

@@ -15,11 +15,11 @@ use crate::steps::{
     Access, Leaving, Words, look_at_head, read_data, read_info, retire_tenant, tell_over,
     tell_waiting,
 };
-use crate::words::{has_value, index_in, left_word, stop_of, tag_in, value_in};
+use crate::words::{has_value, left_word, stop_of, tag_in, value_in};
 use atomic_table::Seat;
 use isa::{Kind, Program};
 use ruu_words::rule::View;
-use ruu_words::{StationState, StationWord};
+use ruu_words::{InfoWord, StationState, StationWord};
 
 fn kept(last: Last) -> u32
     ensures { result ≡ kept_value last }
@@ -56,16 +56,18 @@ fn leave(words: &Words, ring: usize, seat: &mut Seat<u8, View>, leaving: Leaving
     requires legal { IsLegal words.now.key.program (sizes_of words.now.key) seat.old.me.0.seen }
     requires role { seat.old.me.0.role ≡ Back }
     requires may { MayLeave words.now.key.program (sizes_of words.now.key) seat.old.me.0.seen leaving }
-    ensures same { (seat.new.table_id ≡ seat.old.table_id) × (seat.new.id ≡ seat.old.id) }
+    ensures same { (seat.new.table_id ≡ seat.old.table_id) × (seat.new.me.0.by ≡ seat.old.me.0.by) }
+    ensures heirs { seat.new.me.0.heirs ≡ seat.old.me.0.heirs }
     ensures slots { seat.new.me.1 ≡ seat.old.me.1 }
     ensures role { seat.new.me.0.role ≡ Back }
-    ensures reply { RetireAnswers words.now.key.program (sizes_of words.now.key) seat.old.id seat.old.me.0.seen seat.new.me.0.seen result }
+    ensures reply { RetireAnswers words.now.key.program (sizes_of words.now.key) seat.old.me.0.by seat.old.me.0.seen seat.new.me.0.seen result }
     ensures head { HeadGoesOn (sizes_of words.now.key) (unit_of words.now.key.program (sizes_of words.now.key) seat.new.me.0.seen) leaving.station result }
 {
     let Leaving {
         station,
         tag,
         index,
+        half,
         last,
     } = leaving;
     let value = kept(last);
@@ -75,6 +77,7 @@ fn leave(words: &Words, ring: usize, seat: &mut Seat<u8, View>, leaving: Leaving
         station,
         tag,
         index,
+        half,
         last,
     }
 }
@@ -93,16 +96,18 @@ fn retire_access(
     requires legal { IsLegal words.now.key.program (sizes_of words.now.key) seat.old.me.0.seen }
     requires role { seat.old.me.0.role ≡ Back }
     requires access { HasAccess words.now.key.program (sizes_of words.now.key) seat.old.me.0.seen access }
-    ensures same { (seat.new.table_id ≡ seat.old.table_id) × (seat.new.id ≡ seat.old.id) }
+    ensures same { (seat.new.table_id ≡ seat.old.table_id) × (seat.new.me.0.by ≡ seat.old.me.0.by) }
+    ensures heirs { seat.new.me.0.heirs ≡ seat.old.me.0.heirs }
     ensures slots { seat.new.me.1 ≡ seat.old.me.1 }
     ensures role { seat.new.me.0.role ≡ Back }
-    ensures reply { RetireAnswers words.now.key.program (sizes_of words.now.key) seat.old.id seat.old.me.0.seen seat.new.me.0.seen result }
+    ensures reply { RetireAnswers words.now.key.program (sizes_of words.now.key) seat.old.me.0.by seat.old.me.0.seen seat.new.me.0.seen result }
     ensures head { HeadGoesOn (sizes_of words.now.key) (unit_of words.now.key.program (sizes_of words.now.key) seat.new.me.0.seen) access.station result }
 {
     let Access {
         station,
         tag,
         index,
+        half,
         address,
     } = access;
     let kind = program.instr(index as usize).op().kind();
@@ -119,6 +124,7 @@ fn retire_access(
         station,
         tag,
         index,
+        half,
         last,
     };
     leave(words, ring, seat, leaving)
@@ -138,22 +144,24 @@ fn retire_at_end(
     requires place { station < ring }
     requires legal { IsLegal words.now.key.program (sizes_of words.now.key) seat.old.me.0.seen }
     requires role { seat.old.me.0.role ≡ Back }
-    requires back { seat.old.id ≡ back }
+    requires back { seat.old.me.0.by ≡ back }
     requires end { HasEnd words.now.key.program (sizes_of words.now.key) seat.old.me.0.seen station found }
-    ensures same { (seat.new.table_id ≡ seat.old.table_id) × (seat.new.id ≡ seat.old.id) }
+    ensures same { (seat.new.table_id ≡ seat.old.table_id) × (seat.new.me.0.by ≡ seat.old.me.0.by) }
+    ensures heirs { seat.new.me.0.heirs ≡ seat.old.me.0.heirs }
     ensures slots { seat.new.me.1 ≡ seat.old.me.1 }
     ensures role { seat.new.me.0.role ≡ Back }
-    ensures reply { RetireAnswers words.now.key.program (sizes_of words.now.key) seat.old.id seat.old.me.0.seen seat.new.me.0.seen result }
+    ensures reply { RetireAnswers words.now.key.program (sizes_of words.now.key) seat.old.me.0.by seat.old.me.0.seen seat.new.me.0.seen result }
     ensures head { HeadGoesOn (sizes_of words.now.key) (unit_of words.now.key.program (sizes_of words.now.key) seat.new.me.0.seen) station result }
 {
     let info = read_info(words, ring, seat, station);
-    let index = index_in(info);
+    let InfoWord { half, index, .. } = InfoWord::unpack(info);
     let StationWord { tag, state, value } = found;
     if state == StationState::Addr {
         let access = Access {
             station,
             tag,
             index,
+            half,
             address: value,
         };
         return retire_access(words, program, ring, seat, access);
@@ -163,6 +171,7 @@ fn retire_at_end(
         station,
         tag,
         index,
+        half,
         last,
     };
     leave(words, ring, seat, leaving)
@@ -181,11 +190,12 @@ fn retire_head(
     requires place { station < ring }
     requires legal { IsLegal words.now.key.program (sizes_of words.now.key) seat.old.me.0.seen }
     requires role { seat.old.me.0.role ≡ Back }
-    requires head { seat.old.id ≡ back → IsAtHead (sizes_of words.now.key) (unit_of words.now.key.program (sizes_of words.now.key) seat.old.me.0.seen) station false }
-    ensures same { (seat.new.table_id ≡ seat.old.table_id) × (seat.new.id ≡ seat.old.id) }
+    requires head { seat.old.me.0.by ≡ back → IsAtHead (sizes_of words.now.key) (unit_of words.now.key.program (sizes_of words.now.key) seat.old.me.0.seen) station false }
+    ensures same { (seat.new.table_id ≡ seat.old.table_id) × (seat.new.me.0.by ≡ seat.old.me.0.by) }
+    ensures heirs { seat.new.me.0.heirs ≡ seat.old.me.0.heirs }
     ensures slots { seat.new.me.1 ≡ seat.old.me.1 }
     ensures role { seat.new.me.0.role ≡ Back }
-    ensures reply { RetireAnswers words.now.key.program (sizes_of words.now.key) seat.old.id seat.old.me.0.seen seat.new.me.0.seen result }
+    ensures reply { RetireAnswers words.now.key.program (sizes_of words.now.key) seat.old.me.0.by seat.old.me.0.seen seat.new.me.0.seen result }
     ensures head { HeadGoesOn (sizes_of words.now.key) (unit_of words.now.key.program (sizes_of words.now.key) seat.new.me.0.seen) station result }
 {
     let word = look_at_head(words, ring, seat, station);

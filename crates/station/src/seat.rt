@@ -42,7 +42,8 @@ impl Part for UnitPart {
     ghost role = { Worker };
 }
 
-/// A seat at one core. Contracts see which core it is, the caller's number and what it has seen.
+/// A seat at one core. Contracts see which core it is, the caller's number, the numbers that it may
+/// give away, and what it has seen.
 #[derive(Drop)]
 pub struct SeatOf<P: Part> {
     pub(crate) seat: Seat<u8, View>,
@@ -56,24 +57,25 @@ pub struct SeatOf<P: Part> {
 
 impl<P: Part> Model for SeatOf<P> {
     ghost use Rattle.ruu_words.specs.Rule.{sizes_of};
-    ghost use Rattle.station.specs.Seats.{Caller, IsSeated, core_of};
+    ghost use Rattle.station.specs.Seats.{Caller, IsNumbered, IsSeated, core_of};
 
     ghost Value = { Caller };
 
-    ghost view = { λ s. record { core = core_of s.seat.table_id s.words.value.key; by = s.seat.id; seen = s.seat.me.0.seen } };
+    ghost view = { λ s. record { core = core_of s.seat.table_id s.words.value.key; by = s.seat.me.0.by; heirs = s.seat.me.0.heirs; seen = s.seat.me.0.seen } };
 
-    ghost invariant = { λ s. IsSeated s.words.value.key.program (sizes_of s.words.value.key) P.role s.seat.id s.station s.over s.seat.me };
+    ghost invariant = { λ s. IsSeated s.words.value.key.program (sizes_of s.words.value.key) P.role s.seat.me.0.by s.station s.over s.seat.me × IsNumbered P.role s.seat.me.0 };
 }
 
 impl<P: Part> SeatOf<P> {
     ghost use Rattle.std.specs.Prelude.{◌≡◌, false};
     ghost use Rattle.ruu_words.specs.Rule.{sizes_of};
-    ghost use Rattle.station.specs.Seats.{IsSeated, core_of};
+    ghost use Rattle.station.specs.Seats.{IsNumbered, IsSeated, core_of};
 
     // A seat at a core where nothing was done yet.
     pub(crate) fn first_seat(seat: Seat<u8, View>, words: &Words) -> SeatOf<P>
-        requires { IsSeated words.now.key.program (sizes_of words.now.key) P.role seat.id 0 false seat.me }
-        ensures { result ≡ record { core = core_of seat.table_id words.now.key; by = seat.id; seen = seat.me.0.seen } }
+        requires seated { IsSeated words.now.key.program (sizes_of words.now.key) P.role seat.me.0.by 0 false seat.me }
+        requires numbered { IsNumbered P.role seat.me.0 }
+        ensures { result ≡ record { core = core_of seat.table_id words.now.key; by = seat.me.0.by; heirs = seat.me.0.heirs; seen = seat.me.0.seen } }
     {
         SeatOf {
             seat,

@@ -2,6 +2,7 @@
 ghost use Rattle.std.specs.Prelude.{◌≡◌, ◌<◌, [], IfSome, length};
 ghost use Rattle.isa.specs.Instruction.{fixed_next};
 ghost use Rattle.isa.specs.Programs.{address, instr_of};
+ghost use Rattle.isa.specs.declared.op.Half.TheVariants.{Low};
 ghost use Rattle.inorder.specs.Replies.{last_tag};
 ghost use Rattle.station.specs.Seats.{IsSame};
 
@@ -9,7 +10,7 @@ use crate::{
     Claim, Core, Finish, FrontSeat, Last, Retire, Source, SourceState, StationState, Supply,
     Tenant, UnitSeat,
 };
-use isa::{Config, Program, outcome, parse};
+use isa::{Config, Half, Program, outcome_of, parse};
 use std::alloc::Global;
 use std::test::Fail;
 
@@ -28,11 +29,12 @@ fn let_first(core: &Core, seat: &mut FrontSeat, predicted: u32) -> u32
     requires there { 0 < length core.now.program.code }
     requires room { (0 < core.now.sizes.ring) × (0 < core.now.sizes.queue) }
     requires tag { core.now.sizes.first_tag < last_tag }
-    requires predicted { IfSome (fixed_next (instr_of core.now.program 0) (address 0)) (λ x. predicted ≡ x) }
+    requires predicted { IfSome (fixed_next (instr_of core.now.program 0) Low (address 0)) (λ x. predicted ≡ x) }
     ensures kept { IsSame seat.old seat.new }
 {
     let tenant = Tenant {
         index: 0,
+        half: Half::Low,
         predicted,
         sources: (Supply::Known(0), Supply::Known(0)),
     };
@@ -49,7 +51,7 @@ fn finish_one(core: &Core, program: &Program, seat: &mut UnitSeat, station: usiz
     match core.claim(seat, station) {
         Claim::Job(job) => {
             let instr = program.instr(job.index as usize);
-            let found = outcome(instr, job.pc, job.a, job.b, program.size());
+            let found = outcome_of(instr, job.half, job.pc, job.a, job.b, program.size());
             Some(core.finish(seat, job, found))
         }
         Claim::NotOpen => None,
@@ -63,7 +65,7 @@ fn one_tenant_is_let_claimed_finished_and_retired(rt: HostRuntime) -> Result<(),
     let (program, config) = make(rt.alloc(), b"addiu $1,$0,5\nbreak\n")?;
     let (core, mut front, mut back, unit) = Core::make(rt.alloc(), &program, &config)?;
     assert!(rt; 0 < program.len() && core.ring() == 4 && core.queue() == 2);
-    let first = program.instr(0).fixed_next(Program::START);
+    let first = program.instr(0).fixed_next(Half::Low, Program::START);
     let predicted = first.unwrap_or(0);
     let tag = let_first(&core, &mut front, predicted);
     let open = core.look(&mut front, 0);
@@ -80,7 +82,7 @@ fn one_tenant_is_let_claimed_finished_and_retired(rt: HostRuntime) -> Result<(),
     assert_eq!(rt; (tag, predicted), (1, 0x0040_0004));
     assert!(rt; open.tag == 1 && open.state == StationState::Open);
     assert!(rt; finished == Some(Finish::Finished) && again.is_none());
-    assert_eq!(rt; info, (0, 0x0040_0004));
+    assert_eq!(rt; info, (0, Half::Low, 0x0040_0004));
     assert!(rt; source.tag == 1 && source.state == SourceState::Val && source.value == 0);
     assert!(rt;
         matches!(
@@ -89,6 +91,7 @@ fn one_tenant_is_let_claimed_finished_and_retired(rt: HostRuntime) -> Result<(),
                 station: 0,
                 tag: 1,
                 index: 0,
+                half: Half::Low,
                 last: Last::Done(5)
             }
         )

@@ -32,12 +32,13 @@ fn ask_creator(
     requires to { of.0 < ring }
     requires from { from.0 < ring }
     requires legal { IsLegal words.now.key.program (sizes_of words.now.key) seat.old.me.0.seen }
-    requires front { IsFronts seat.old.id Nothing seat.old.me }
+    requires front { IsFronts seat.old.me.0.by Nothing seat.old.me }
     requires may { MayAsk words.now.key.program (sizes_of words.now.key) seat.old.me.0.seen of.0 of.1 k from.0 from.1 }
-    ensures same { (seat.new.table_id ≡ seat.old.table_id) × (seat.new.id ≡ seat.old.id) }
+    ensures same { (seat.new.table_id ≡ seat.old.table_id) × (seat.new.me.0.by ≡ seat.old.me.0.by) }
+    ensures heirs { seat.new.me.0.heirs ≡ seat.old.me.0.heirs }
     ensures slots { seat.new.me.1 ≡ seat.old.me.1 }
-    ensures front { IsFronts seat.old.id Nothing seat.new.me }
-    ensures reply { AskAnswers words.now.key.program (sizes_of words.now.key) seat.old.id seat.old.me.0.seen seat.new.me.0.seen of.0 of.1 k from.0 from.1 result }
+    ensures front { IsFronts seat.old.me.0.by Nothing seat.new.me }
+    ensures reply { AskAnswers words.now.key.program (sizes_of words.now.key) seat.old.me.0.by seat.old.me.0.seen seat.new.me.0.seen of.0 of.1 k from.0 from.1 result }
     ensures next { next_station (sizes_of words.now.key) (recent (unit_of words.now.key.program (sizes_of words.now.key) seat.new.me.0.seen)) ≡ next_station (sizes_of words.now.key) (recent (unit_of words.now.key.program (sizes_of words.now.key) seat.old.me.0.seen)) }
 {
     let link = link_word(from.1, of.1);

@@ -1,7 +1,7 @@
 //! A value is carried along the links of its station.
 ghost use Rattle.std.specs.Prelude.{◌≡◌, ◌<◌, ◌≤◌};
 ghost use Rattle.inorder.specs.History.{IsLegal};
-ghost use Rattle.ruu_words.specs.Rule.{sizes_of};
+ghost use Rattle.ruu_words.specs.Rule.{Unborn, sizes_of};
 ghost use Rattle.station.specs.Carrying.{HasCarried, HasMadeOf, HasValueOf, HasWalked, IsServing, IsWriter, OfTenant};
 ghost use Rattle.station.specs.Steps.{IsAt};
 
@@ -29,10 +29,11 @@ fn serve(
     requires writer { IsWriter seat.old.me.0.role }
     requires legal { IsLegal words.now.key.program (sizes_of words.now.key) seat.old.me.0.seen }
     requires made { HasValueOf words.now.key.program (sizes_of words.now.key) seat.old.me.0.seen from.0 from.1 value }
-    ensures same { (seat.new.table_id ≡ seat.old.table_id) × (seat.new.id ≡ seat.old.id) }
+    ensures same { (seat.new.table_id ≡ seat.old.table_id) × (seat.new.me.0.by ≡ seat.old.me.0.by) }
+    ensures heirs { seat.new.me.0.heirs ≡ seat.old.me.0.heirs }
     ensures slots { seat.new.me.1 ≡ seat.old.me.1 }
     ensures role { seat.new.me.0.role ≡ seat.old.me.0.role }
-    ensures served { OfTenant words.now.key.program (sizes_of words.now.key) seat.old.me.0.seen from.0 from.1 (λ q. IsServing words.now.key.program (sizes_of words.now.key) seat.old.id q to k seat.old.me.0.seen seat.new.me.0.seen) }
+    ensures served { OfTenant words.now.key.program (sizes_of words.now.key) seat.old.me.0.seen from.0 from.1 (λ q. IsServing words.now.key.program (sizes_of words.now.key) seat.old.me.0.by q to k seat.old.me.0.seen seat.new.me.0.seen) }
 {
     let link = read_link(words, ring, seat, from.0, to, k);
     if producer_in(link) == from.1 {
@@ -57,10 +58,12 @@ pub(crate) fn walk(
     requires writer { IsWriter seat.old.me.0.role }
     requires legal { IsLegal words.now.key.program (sizes_of words.now.key) seat.old.me.0.seen }
     requires made { HasValueOf words.now.key.program (sizes_of words.now.key) seat.old.me.0.seen from.0 from.1 value }
-    ensures same { (seat.new.table_id ≡ seat.old.table_id) × (seat.new.id ≡ seat.old.id) }
+    ensures same { (seat.new.table_id ≡ seat.old.table_id) × (seat.new.me.0.by ≡ seat.old.me.0.by) }
+    ensures heirs { seat.new.me.0.heirs ≡ seat.old.me.0.heirs }
+    ensures unborn { Unborn seat.new.me.0 }
     ensures slots { seat.new.me.1 ≡ seat.old.me.1 }
     ensures role { seat.new.me.0.role ≡ seat.old.me.0.role }
-    ensures walked { OfTenant words.now.key.program (sizes_of words.now.key) seat.old.me.0.seen from.0 from.1 (λ q. HasWalked words.now.key.program (sizes_of words.now.key) seat.old.id q seat.old.me.0.seen seat.new.me.0.seen) }
+    ensures walked { OfTenant words.now.key.program (sizes_of words.now.key) seat.old.me.0.seen from.0 from.1 (λ q. HasWalked words.now.key.program (sizes_of words.now.key) seat.old.me.0.by q seat.old.me.0.seen seat.new.me.0.seen) }
 {
     for to in 0..ring {
         serve(words, ring, seat, from, to, Source::First, value);
@@ -83,13 +86,16 @@ pub(crate) fn carry(
     requires writer { IsWriter seat.old.me.0.role }
     requires legal { IsLegal words.now.key.program (sizes_of words.now.key) seat.old.me.0.seen }
     requires made { HasMadeOf words.now.key.program (sizes_of words.now.key) seat.old.me.0.seen from.0 from.1 outcome }
-    ensures same { (seat.new.table_id ≡ seat.old.table_id) × (seat.new.id ≡ seat.old.id) }
+    requires unborn { Unborn seat.old.me.0 }
+    ensures same { (seat.new.table_id ≡ seat.old.table_id) × (seat.new.me.0.by ≡ seat.old.me.0.by) }
+    ensures heirs { seat.new.me.0.heirs ≡ seat.old.me.0.heirs }
+    ensures unborn { Unborn seat.new.me.0 }
     ensures slots { seat.new.me.1 ≡ seat.old.me.1 }
     ensures role { seat.new.me.0.role ≡ seat.old.me.0.role }
-    ensures carried { OfTenant words.now.key.program (sizes_of words.now.key) seat.old.me.0.seen from.0 from.1 (λ q. HasCarried words.now.key.program (sizes_of words.now.key) seat.old.id q outcome seat.old.me.0.seen seat.new.me.0.seen) }
+    ensures carried { OfTenant words.now.key.program (sizes_of words.now.key) seat.old.me.0.seen from.0 from.1 (λ q. HasCarried words.now.key.program (sizes_of words.now.key) seat.old.me.0.by q outcome seat.old.me.0.seen seat.new.me.0.seen) }
 {
     match outcome {
         Outcome::Value(value) => walk(words, ring, seat, from, value),
-        Outcome::Next(_) | Outcome::Address(_) | Outcome::Stop(_) => {}
+        Outcome::Pair(..) | Outcome::Next(_) | Outcome::Address(_) | Outcome::Stop(_) => {}
     }
 }

@@ -5,7 +5,7 @@ ghost use Rattle.inorder.specs.Replies.{last_tag};
 ghost use Rattle.inorder.specs.StationWords.{IsFree, live_word};
 ghost use Rattle.inorder.specs.Tenants.{Done, Open};
 ghost use Rattle.ruu_words.specs.Content.{IsOperandOf, IsStation};
-ghost use Rattle.ruu_words.specs.Fields.{index_of, state_of, tag_count, tag_of, value_of};
+ghost use Rattle.ruu_words.specs.Fields.{state_of, tag_count, tag_of, value_of};
 ghost use Rattle.station.specs.Claiming.{IsBusyWord};
 ghost use Rattle.station.specs.Letting.{given_value};
 ghost use Rattle.station.specs.Looking.{source_state_of};
@@ -41,13 +41,6 @@ pub(crate) fn has_value(word: u64) -> bool
     ensures { IsTrue result ↔ (state_of word ≡ 2) }
 {
     (word >> 32) & 15 == 2
-}
-
-/// The index in an info word.
-pub(crate) fn index_in(word: u64) -> u32
-    ensures { result ≡ index_of word }
-{
-    (word >> 32) as u32
 }
 
 /// What an operand word says of its source.

@@ -2,7 +2,7 @@
 ghost use Rattle.std.specs.Prelude.{◌≡◌, ◌<◌, ◌≤◌};
 ghost use Rattle.inorder.specs.History.{IsLegal};
 ghost use Rattle.ruu_words.specs.declared.rule.Role.TheVariants.{Back, Worker};
-ghost use Rattle.ruu_words.specs.Rule.{sizes_of};
+ghost use Rattle.ruu_words.specs.Rule.{Unborn, sizes_of};
 ghost use Rattle.station.specs.Claiming.{Holds};
 ghost use Rattle.station.specs.Seats.{IsSame};
 ghost use Rattle.station.specs.Steps.{IsAt};
@@ -32,18 +32,21 @@ fn finish_job(
     requires tags { 1 ≤ words.now.key.first_tag }
     requires role { seat.old.me.0.role ≡ Worker }
     requires legal { IsLegal words.now.key.program (sizes_of words.now.key) seat.old.me.0.seen }
-    requires job { Holds words.now.key.program (sizes_of words.now.key) seat.old.id seat.old.me.0.seen job }
+    requires job { Holds words.now.key.program (sizes_of words.now.key) seat.old.me.0.by seat.old.me.0.seen job }
     requires outcome { outcome ≡ outcome_of words.now.key.program job }
-    ensures same { (seat.new.table_id ≡ seat.old.table_id) × (seat.new.id ≡ seat.old.id) }
+    ensures same { (seat.new.table_id ≡ seat.old.table_id) × (seat.new.me.0.by ≡ seat.old.me.0.by) }
+    ensures heirs { seat.new.me.0.heirs ≡ seat.old.me.0.heirs }
+    ensures unborn { Unborn seat.new.me.0 }
     ensures slots { seat.new.me.1 ≡ seat.old.me.1 }
     ensures role { seat.new.me.0.role ≡ Worker }
     ensures legal { IsLegal words.now.key.program (sizes_of words.now.key) seat.new.me.0.seen }
-    ensures reply { FinishAnswers words.now.key.program (sizes_of words.now.key) seat.old.id seat.old.me.0.seen seat.new.me.0.seen job result }
+    ensures reply { FinishAnswers words.now.key.program (sizes_of words.now.key) seat.old.me.0.by seat.old.me.0.seen seat.new.me.0.seen job result }
 {
     let Job {
         station,
         tag,
         index: _,
+        half: _,
         pc: _,
         predicted,
         a: _,
@@ -74,11 +77,12 @@ fn settle_load(
     requires role { seat.old.me.0.role ≡ Back }
     requires legal { IsLegal words.now.key.program (sizes_of words.now.key) seat.old.me.0.seen }
     requires may { MaySettle words.now.key.program (sizes_of words.now.key) seat.old.me.0.seen station tag value }
-    ensures same { (seat.new.table_id ≡ seat.old.table_id) × (seat.new.id ≡ seat.old.id) }
+    ensures same { (seat.new.table_id ≡ seat.old.table_id) × (seat.new.me.0.by ≡ seat.old.me.0.by) }
+    ensures heirs { seat.new.me.0.heirs ≡ seat.old.me.0.heirs }
     ensures slots { seat.new.me.1 ≡ seat.old.me.1 }
     ensures role { seat.new.me.0.role ≡ Back }
     ensures legal { IsLegal words.now.key.program (sizes_of words.now.key) seat.new.me.0.seen }
-    ensures reply { SettleAnswers words.now.key.program (sizes_of words.now.key) seat.old.id seat.old.me.0.seen seat.new.me.0.seen station tag result }
+    ensures reply { SettleAnswers words.now.key.program (sizes_of words.now.key) seat.old.me.0.by seat.old.me.0.seen seat.new.me.0.seen station tag result }
 {
     let seen = look(words, ring, seat, Place::Station(station));
     let address = value_in(seen);
@@ -99,6 +103,7 @@ impl Core {
         requires job { Holds self.now.program self.now.sizes seat.old.by seat.old.seen job }
         requires outcome { outcome ≡ outcome_of self.now.program job }
         ensures kept { IsSame seat.old seat.new }
+        ensures heirs { seat.new.heirs ≡ seat.old.heirs }
         ensures reply { FinishAnswers self.now.program self.now.sizes seat.old.by seat.old.seen seat.new.seen job result }
     {
         finish_job(&self.table.shared, self.ring, &mut seat.seat, job, outcome)

@@ -1,6 +1,6 @@
 //! How runs end.
 use super::{Shape, plain, report, run_listing};
-use crate::{Gate, Open, Run};
+use crate::{Gate, Open, Run, Tally};
 use snapshots::Snap;
 use std::process::Abort;
 use std::test::*;
@@ -23,6 +23,8 @@ impl Gate for Shut {
     }
 
     fn seen(&self, _place: u32, _snap: &Snap) {}
+
+    fn counted(&self, _tally: &Tally) {}
 }
 
 #[test]
@@ -53,6 +55,7 @@ fn one_turn_runs_one_instruction_at_most(rt: HostRuntime) -> Result<(), Fail> {
     Ok(())
 }
 
+// Each unit finishes no more than the one that it was held at.
 #[test]
 fn units_that_are_always_held_use_up_their_turns(rt: HostRuntime) -> Result<(), Fail> {
     let shape = Shape {
@@ -60,34 +63,36 @@ fn units_that_are_always_held_use_up_their_turns(rt: HostRuntime) -> Result<(), 
         ..plain(2)
     };
     let run = run_listing(&rt, rt.alloc(), LISTING, &shape, &Shut)?;
-    let Run::LimitReached(end, _) = run else {
+    let Run::LimitReached(_, tally) = run else {
         return Err(Fail::from("limit"));
     };
-    assert!(rt; end.n <= 2);
+    assert!(rt; tally.claims <= 2);
+    assert!(rt; tally.finishes <= tally.claims);
     Ok(())
 }
 
 #[test]
-fn many_units_end_promptly(rt: HostRuntime) -> Result<(), Fail> {
+fn many_units_run_a_loop(rt: HostRuntime) -> Result<(), Fail> {
     let run = run_listing(&rt, rt.alloc(), LOOP, &plain(64), &Open)?;
     let text = report(rt.alloc(), &run)?;
     assert!(rt; text.as_bytes() == b"stop break\ncount 601\npc 0x0040000c\n".as_slice());
     Ok(())
 }
 
+// A ring of two stations has two tags left, and the loop goes on behind them.
 #[test]
 fn spent_tags_end_a_run(rt: HostRuntime) -> Result<(), Fail> {
     let shape = Shape {
         ring: 2,
         first_tag: 268_435_454,
-        turns: 1_000,
+        turns: 100_000,
         ..plain(1)
     };
-    let run = run_listing(&rt, rt.alloc(), LISTING, &shape, &Open)?;
+    let run = run_listing(&rt, rt.alloc(), LOOP, &shape, &Open)?;
     let Run::LimitReached(end, tally) = run else {
         return Err(Fail::from("limit"));
     };
+    assert!(rt; tally.lets <= 2);
     assert!(rt; end.n <= 2);
-    assert_eq!(rt; tally.retires, end.n);
     Ok(())
 }

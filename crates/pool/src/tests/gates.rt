@@ -35,6 +35,8 @@ impl Gate for Turnstile {
             self.told.store(1, SeqCst);
         }
     }
+
+    fn counted(&self, _tally: &Tally) {}
 }
 
 #[test]
@@ -102,6 +104,8 @@ impl Gate for Places {
             self.others.store(1, SeqCst);
         }
     }
+
+    fn counted(&self, _tally: &Tally) {}
 }
 
 // A place may be refused while it is free, so that one run may show the first place alone.
@@ -123,4 +127,63 @@ fn snapshots_are_taken_at_several_places(rt: HostRuntime) -> Result<(), Fail> {
         }
     }
     Err(Fail::from("no other place"))
+}
+
+// What place 1 was told last, and the first n that was no multiple of 64; the retirements of the last
+// tally, how many tallies were told, and the first retirements that were no multiple of 64.
+#[derive(Drop)]
+struct Watcher {
+    last: AtomicU64,
+    odd: AtomicU64,
+    retires: AtomicU64,
+    tallies: AtomicU64,
+    odd_retires: AtomicU64,
+}
+
+impl Gate for Watcher {
+    fn held(&self, _unit: u32, _station: u32) -> bool {
+        false
+    }
+
+    fn seen(&self, _place: u32, snap: &Snap) {
+        self.last.store(snap.n, SeqCst);
+        if snap.n % 64 != 0 {
+            let _ = self.odd.compare_exchange(0, snap.n, SeqCst, SeqCst);
+        }
+    }
+
+    fn counted(&self, tally: &Tally) {
+        self.retires.store(tally.retires, SeqCst);
+        self.tallies.fetch_add(1, SeqCst);
+        if tally.retires % 64 != 0 {
+            let _ = self
+                .odd_retires
+                .compare_exchange(0, tally.retires, SeqCst, SeqCst);
+        }
+    }
+}
+
+#[test]
+fn snapshots_are_shown_each_64_instructions_and_at_the_end(rt: HostRuntime) -> Result<(), Fail> {
+    let listing = b"ori $1,$0,300\nL: addiu $1,$1,-1\nbne $1,$0,L\nbreak\n";
+    for units in [1, 4] {
+        let gate = Watcher {
+            last: AtomicU64::new(0),
+            odd: AtomicU64::new(0),
+            retires: AtomicU64::new(0),
+            tallies: AtomicU64::new(0),
+            odd_retires: AtomicU64::new(0),
+        };
+        let run = run_listing(&rt, rt.alloc(), listing, &plain(units), &gate)?;
+        let Run::Ended(end, _) = run else {
+            return Err(Fail::from("ended"));
+        };
+        assert_eq!(rt; end.n, 601);
+        assert_eq!(rt; gate.last.load(SeqCst), end.n);
+        assert_eq!(rt; gate.odd.load(SeqCst), end.n);
+        assert_eq!(rt; gate.retires.load(SeqCst), end.n);
+        assert_eq!(rt; gate.tallies.load(SeqCst), 10);
+        assert_eq!(rt; gate.odd_retires.load(SeqCst), end.n);
+    }
+    Ok(())
 }

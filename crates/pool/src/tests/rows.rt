@@ -8,9 +8,9 @@ use std::test::*;
 use std::thread::Threads;
 
 /// What a listing shows, the listing, and its report.
-type Row = (&'static str, &'static str, &'static str);
+pub(super) type Row = (&'static str, &'static str, &'static str);
 
-fn check<R: Threads + Wait + Sync + Abort>(
+pub(super) fn check<R: Threads + Wait + Sync + Abort>(
     rt: &R,
     alloc: Global,
     shape: &Shape,

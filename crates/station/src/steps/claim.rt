@@ -23,8 +23,9 @@ pub(crate) fn peek(words: &Words, ring: usize, seat: &mut Seat<u8, View>, statio
     requires of { IsAt words.now.table_id words.now.key ring seat.old.table_id }
     requires place { station < ring }
     requires role { seat.old.me.0.role ≡ Worker }
-    ensures same { (seat.new.table_id ≡ seat.old.table_id) × (seat.new.id ≡ seat.old.id) }
-    ensures step { Grown words.now.key seat.old.id seat.old.me seat.new.me (Peeks words.now.key.program (sizes_of words.now.key) station result) }
+    ensures same { (seat.new.table_id ≡ seat.old.table_id) × (seat.new.me.0.by ≡ seat.old.me.0.by) }
+    ensures heirs { seat.new.me.0.heirs ≡ seat.old.me.0.heirs }
+    ensures step { Grown words.now.key seat.old.me.0.by seat.old.me seat.new.me (Peeks words.now.key.program (sizes_of words.now.key) station result) }
 {
     load::<Brand, usize>(words, ring, seat, Place::Station(station), station)
 }
@@ -42,8 +43,9 @@ pub(crate) fn recheck(
     requires role { seat.old.me.0.role ≡ Worker }
     requires word { IsStation (live_word (tag_of old) Open) old }
     requires seen { HasSeen words.now.key.program (sizes_of words.now.key) seat.old.me.0.seen station (tag_of old) IsAny }
-    ensures same { (seat.new.table_id ≡ seat.old.table_id) × (seat.new.id ≡ seat.old.id) }
-    ensures step { Grown words.now.key seat.old.id seat.old.me seat.new.me (Rechecks words.now.key.program (sizes_of words.now.key) station (tag_of old) old result) }
+    ensures same { (seat.new.table_id ≡ seat.old.table_id) × (seat.new.me.0.by ≡ seat.old.me.0.by) }
+    ensures heirs { seat.new.me.0.heirs ≡ seat.old.me.0.heirs }
+    ensures step { Grown words.now.key seat.old.me.0.by seat.old.me seat.new.me (Rechecks words.now.key.program (sizes_of words.now.key) station (tag_of old) old result) }
 {
     load::<Brand, (usize, u64)>(words, ring, seat, Place::Station(station), (station, old))
 }
@@ -61,8 +63,9 @@ pub(crate) fn read_source(
     requires place { station < ring }
     requires role { seat.old.me.0.role ≡ Worker }
     requires seen { HasSeen words.now.key.program (sizes_of words.now.key) seat.old.me.0.seen station tag (IsNext words.now.key.program k) }
-    ensures same { (seat.new.table_id ≡ seat.old.table_id) × (seat.new.id ≡ seat.old.id) }
-    ensures step { Grown words.now.key seat.old.id seat.old.me seat.new.me (ReadsSource words.now.key.program (sizes_of words.now.key) station tag k result) }
+    ensures same { (seat.new.table_id ≡ seat.old.table_id) × (seat.new.me.0.by ≡ seat.old.me.0.by) }
+    ensures heirs { seat.new.me.0.heirs ≡ seat.old.me.0.heirs }
+    ensures step { Grown words.now.key seat.old.me.0.by seat.old.me seat.new.me (ReadsSource words.now.key.program (sizes_of words.now.key) station tag k result) }
 {
     let place = Place::Operand(station, k);
     load::<Brand, (usize, u32, Source)>(words, ring, seat, place, (station, tag, k))
@@ -81,10 +84,11 @@ pub(crate) fn claim_tenant(
     requires place { station < ring }
     requires role { seat.old.me.0.role ≡ Worker }
     requires old { IsStation (live_word (tag_of old) Open) old }
-    requires new { IsStation (live_word (tag_of old) (Busy seat.old.id)) new }
+    requires new { IsStation (live_word (tag_of old) (Busy seat.old.me.0.by)) new }
     requires seen { HasSeen words.now.key.program (sizes_of words.now.key) seat.old.me.0.seen station (tag_of old) (IsReady words.now.key.program) }
-    ensures same { (seat.new.table_id ≡ seat.old.table_id) × (seat.new.id ≡ seat.old.id) }
-    ensures step { Grown words.now.key seat.old.id seat.old.me seat.new.me (Claims words.now.key.program (sizes_of words.now.key) station (tag_of old) old result) }
+    ensures same { (seat.new.table_id ≡ seat.old.table_id) × (seat.new.me.0.by ≡ seat.old.me.0.by) }
+    ensures heirs { seat.new.me.0.heirs ≡ seat.old.me.0.heirs }
+    ensures step { Grown words.now.key seat.old.me.0.by seat.old.me seat.new.me (Claims words.now.key.program (sizes_of words.now.key) station (tag_of old) old result) }
 {
     exchange::<Brand, usize>(
         words,

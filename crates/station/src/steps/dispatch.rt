@@ -7,7 +7,7 @@ ghost use Rattle.inorder.specs.Unit.{next_station, next_tag, recent};
 ghost use Rattle.ruu_words.specs.declared.rule.Draft.TheVariants.{Nothing};
 ghost use Rattle.ruu_words.specs.declared.rule.Stage.TheVariants.{BothOperands, FirstOperand, Info};
 ghost use Rattle.ruu_words.specs.Content.{IsOperandOf, IsStation};
-ghost use Rattle.ruu_words.specs.Fields.{index_of, predicted_of};
+ghost use Rattle.ruu_words.specs.Fields.{half_of, index_of, predicted_of};
 ghost use Rattle.ruu_words.specs.Kinds.{Drafts, Lets};
 ghost use Rattle.ruu_words.specs.Rule.{sizes_of};
 ghost use Rattle.station.specs.Letting.{IsFronts, MayLetOut, draft_of, given_value, supply_of};
@@ -32,13 +32,15 @@ pub(crate) fn store_info(
 )
     requires of { IsAt words.now.table_id words.now.key ring seat.old.table_id }
     requires place { station < ring }
-    requires front { IsFronts seat.old.id Nothing seat.old.me }
+    requires front { IsFronts seat.old.me.0.by Nothing seat.old.me }
     requires may { MayLetOut words.now.key.program (sizes_of words.now.key) (unit_of words.now.key.program (sizes_of words.now.key) seat.old.me.0.seen) tenant }
     requires station { next_station (sizes_of words.now.key) (recent (unit_of words.now.key.program (sizes_of words.now.key) seat.old.me.0.seen)) ≡ station }
+    requires half { half_of word ≡ tenant.half }
     requires index { index_of word ≡ tenant.index }
     requires predicted { predicted_of word ≡ tenant.predicted }
-    ensures same { (seat.new.table_id ≡ seat.old.table_id) × (seat.new.id ≡ seat.old.id) }
-    ensures step { Grown words.now.key seat.old.id seat.old.me seat.new.me (Drafts words.now.key.program (sizes_of words.now.key) (draft_of Info tenant)) }
+    ensures same { (seat.new.table_id ≡ seat.old.table_id) × (seat.new.me.0.by ≡ seat.old.me.0.by) }
+    ensures heirs { seat.new.me.0.heirs ≡ seat.old.me.0.heirs }
+    ensures step { Grown words.now.key seat.old.me.0.by seat.old.me seat.new.me (Drafts words.now.key.program (sizes_of words.now.key) (draft_of Info tenant)) }
 {
     store::<Brand, Tenant>(words, ring, seat, Place::Info(station), word, tenant);
 }
@@ -54,12 +56,13 @@ pub(crate) fn store_first(
 )
     requires of { IsAt words.now.table_id words.now.key ring seat.old.table_id }
     requires place { station < ring }
-    requires front { IsFronts seat.old.id (draft_of Info tenant) seat.old.me }
+    requires front { IsFronts seat.old.me.0.by (draft_of Info tenant) seat.old.me }
     requires may { MayLetOut words.now.key.program (sizes_of words.now.key) (unit_of words.now.key.program (sizes_of words.now.key) seat.old.me.0.seen) tenant }
     requires station { next_station (sizes_of words.now.key) (recent (unit_of words.now.key.program (sizes_of words.now.key) seat.old.me.0.seen)) ≡ station }
     requires word { IsOperandOf (record { tag = next_tag (sizes_of words.now.key) (recent (unit_of words.now.key.program (sizes_of words.now.key) seat.old.me.0.seen)); value = given_value tenant.sources.0 }) word }
-    ensures same { (seat.new.table_id ≡ seat.old.table_id) × (seat.new.id ≡ seat.old.id) }
-    ensures step { Grown words.now.key seat.old.id seat.old.me seat.new.me (Drafts words.now.key.program (sizes_of words.now.key) (draft_of FirstOperand tenant)) }
+    ensures same { (seat.new.table_id ≡ seat.old.table_id) × (seat.new.me.0.by ≡ seat.old.me.0.by) }
+    ensures heirs { seat.new.me.0.heirs ≡ seat.old.me.0.heirs }
+    ensures step { Grown words.now.key seat.old.me.0.by seat.old.me seat.new.me (Drafts words.now.key.program (sizes_of words.now.key) (draft_of FirstOperand tenant)) }
 {
     let place = Place::Operand(station, Source::First);
     store::<Brand, Tenant>(words, ring, seat, place, word, tenant);
@@ -76,12 +79,13 @@ pub(crate) fn store_second(
 )
     requires of { IsAt words.now.table_id words.now.key ring seat.old.table_id }
     requires place { station < ring }
-    requires front { IsFronts seat.old.id (draft_of FirstOperand tenant) seat.old.me }
+    requires front { IsFronts seat.old.me.0.by (draft_of FirstOperand tenant) seat.old.me }
     requires may { MayLetOut words.now.key.program (sizes_of words.now.key) (unit_of words.now.key.program (sizes_of words.now.key) seat.old.me.0.seen) tenant }
     requires station { next_station (sizes_of words.now.key) (recent (unit_of words.now.key.program (sizes_of words.now.key) seat.old.me.0.seen)) ≡ station }
     requires word { IsOperandOf (record { tag = next_tag (sizes_of words.now.key) (recent (unit_of words.now.key.program (sizes_of words.now.key) seat.old.me.0.seen)); value = given_value tenant.sources.1 }) word }
-    ensures same { (seat.new.table_id ≡ seat.old.table_id) × (seat.new.id ≡ seat.old.id) }
-    ensures step { Grown words.now.key seat.old.id seat.old.me seat.new.me (Drafts words.now.key.program (sizes_of words.now.key) (draft_of BothOperands tenant)) }
+    ensures same { (seat.new.table_id ≡ seat.old.table_id) × (seat.new.me.0.by ≡ seat.old.me.0.by) }
+    ensures heirs { seat.new.me.0.heirs ≡ seat.old.me.0.heirs }
+    ensures step { Grown words.now.key seat.old.me.0.by seat.old.me seat.new.me (Drafts words.now.key.program (sizes_of words.now.key) (draft_of BothOperands tenant)) }
 {
     let place = Place::Operand(station, Source::Second);
     store::<Brand, Tenant>(words, ring, seat, place, word, tenant);
@@ -98,12 +102,13 @@ pub(crate) fn let_tenant(
 )
     requires of { IsAt words.now.table_id words.now.key ring seat.old.table_id }
     requires place { station < ring }
-    requires front { IsFronts seat.old.id (draft_of BothOperands tenant) seat.old.me }
+    requires front { IsFronts seat.old.me.0.by (draft_of BothOperands tenant) seat.old.me }
     requires may { MayLetOut words.now.key.program (sizes_of words.now.key) (unit_of words.now.key.program (sizes_of words.now.key) seat.old.me.0.seen) tenant }
     requires station { next_station (sizes_of words.now.key) (recent (unit_of words.now.key.program (sizes_of words.now.key) seat.old.me.0.seen)) ≡ station }
     requires word { IsStation (live_word (next_tag (sizes_of words.now.key) (recent (unit_of words.now.key.program (sizes_of words.now.key) seat.old.me.0.seen))) Open) word }
-    ensures same { (seat.new.table_id ≡ seat.old.table_id) × (seat.new.id ≡ seat.old.id) }
-    ensures step { Grown words.now.key seat.old.id seat.old.me seat.new.me (Lets words.now.key.program (sizes_of words.now.key) tenant.index tenant.predicted (supply_of tenant.sources.0) (supply_of tenant.sources.1)) }
+    ensures same { (seat.new.table_id ≡ seat.old.table_id) × (seat.new.me.0.by ≡ seat.old.me.0.by) }
+    ensures heirs { seat.new.me.0.heirs ≡ seat.old.me.0.heirs }
+    ensures step { Grown words.now.key seat.old.me.0.by seat.old.me seat.new.me (Lets words.now.key.program (sizes_of words.now.key) tenant.index tenant.predicted (supply_of tenant.sources.0) (supply_of tenant.sources.1)) }
 {
     store::<Brand, Tenant>(words, ring, seat, Place::Station(station), word, tenant);
 }

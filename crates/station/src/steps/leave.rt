@@ -26,11 +26,12 @@ pub(crate) fn mend_tenant(
 )
     requires of { IsAt words.now.table_id words.now.key ring seat.old.table_id }
     requires place { station < ring }
-    requires front { IsFronts seat.old.id Nothing seat.old.me }
+    requires front { IsFronts seat.old.me.0.by Nothing seat.old.me }
     requires word { IsStation (live_word (tag_of word) (Done (value_of word))) word }
     requires miss { HasMiss words.now.key.program (sizes_of words.now.key) seat.old.me.0.seen station (tag_of word) (value_of word) }
-    ensures same { (seat.new.table_id ≡ seat.old.table_id) × (seat.new.id ≡ seat.old.id) }
-    ensures step { Grown words.now.key seat.old.id seat.old.me seat.new.me (Mends words.now.key.program (sizes_of words.now.key) station) }
+    ensures same { (seat.new.table_id ≡ seat.old.table_id) × (seat.new.me.0.by ≡ seat.old.me.0.by) }
+    ensures heirs { seat.new.me.0.heirs ≡ seat.old.me.0.heirs }
+    ensures step { Grown words.now.key seat.old.me.0.by seat.old.me seat.new.me (Mends words.now.key.program (sizes_of words.now.key) station) }
 {
     swap::<Brand, usize>(words, ring, seat, Place::Station(station), word, station);
 }
@@ -46,11 +47,12 @@ pub(crate) fn squash_tenant(
 )
     requires of { IsAt words.now.table_id words.now.key ring seat.old.table_id }
     requires place { station < ring }
-    requires front { IsFronts seat.old.id Nothing seat.old.me }
+    requires front { IsFronts seat.old.me.0.by Nothing seat.old.me }
     requires word { IsStation (record { tag = suc tag; state = IsFree; value = None }) word }
     requires youngest { HasYoungest words.now.key.program (sizes_of words.now.key) seat.old.me.0.seen station tag }
-    ensures same { (seat.new.table_id ≡ seat.old.table_id) × (seat.new.id ≡ seat.old.id) }
-    ensures step { Grown words.now.key seat.old.id seat.old.me seat.new.me (Squashes words.now.key.program (sizes_of words.now.key) station tag) }
+    ensures same { (seat.new.table_id ≡ seat.old.table_id) × (seat.new.me.0.by ≡ seat.old.me.0.by) }
+    ensures heirs { seat.new.me.0.heirs ≡ seat.old.me.0.heirs }
+    ensures step { Grown words.now.key seat.old.me.0.by seat.old.me seat.new.me (Squashes words.now.key.program (sizes_of words.now.key) station tag) }
 {
     let place = Place::Station(station);
     swap::<Brand, (usize, u32)>(words, ring, seat, place, word, (station, tag));

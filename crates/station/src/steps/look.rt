@@ -16,8 +16,9 @@ pub(crate) fn look(words: &Words, ring: usize, seat: &mut Seat<u8, View>, place:
     requires of { IsAt words.now.table_id words.now.key ring seat.old.table_id }
     requires place { IsPlace ring place }
     requires alive { IsAlive seat.old.me.0.role }
-    ensures same { (seat.new.table_id ≡ seat.old.table_id) × (seat.new.id ≡ seat.old.id) }
-    ensures step { Grown words.now.key seat.old.id seat.old.me seat.new.me (Sees words.now.key.program (sizes_of words.now.key) seat.old.id seat.old.me.0 place result) }
+    ensures same { (seat.new.table_id ≡ seat.old.table_id) × (seat.new.me.0.by ≡ seat.old.me.0.by) }
+    ensures heirs { seat.new.me.0.heirs ≡ seat.old.me.0.heirs }
+    ensures step { Grown words.now.key seat.old.me.0.by seat.old.me seat.new.me (Sees words.now.key.program (sizes_of words.now.key) seat.old.me.0.by seat.old.me.0 place result) }
 {
     load::<Brand, ()>(words, ring, seat, place, ())
 }
@@ -32,8 +33,9 @@ pub(crate) fn read_info(
     requires of { IsAt words.now.table_id words.now.key ring seat.old.table_id }
     requires place { station < ring }
     requires alive { IsAlive seat.old.me.0.role }
-    ensures same { (seat.new.table_id ≡ seat.old.table_id) × (seat.new.id ≡ seat.old.id) }
-    ensures step { Grown words.now.key seat.old.id seat.old.me seat.new.me (ReadsInfo words.now.key.program (sizes_of words.now.key) station result) }
+    ensures same { (seat.new.table_id ≡ seat.old.table_id) × (seat.new.me.0.by ≡ seat.old.me.0.by) }
+    ensures heirs { seat.new.me.0.heirs ≡ seat.old.me.0.heirs }
+    ensures step { Grown words.now.key seat.old.me.0.by seat.old.me seat.new.me (ReadsInfo words.now.key.program (sizes_of words.now.key) station result) }
 {
     load::<Brand, usize>(words, ring, seat, Place::Info(station), station)
 }

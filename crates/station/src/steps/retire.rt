@@ -18,6 +18,7 @@ use super::{Words, load, swap};
 use crate::answers::Last;
 use atomic_table::Seat;
 use inorder::history::Source;
+use isa::Half;
 use ruu_words::Place;
 use ruu_words::rule::View;
 use std::marker::Brand;
@@ -28,6 +29,7 @@ pub(crate) struct Access {
     pub(crate) station: usize,
     pub(crate) tag: u32,
     pub(crate) index: u32,
+    pub(crate) half: Half,
     pub(crate) address: u32,
 }
 
@@ -37,6 +39,7 @@ pub(crate) struct Leaving {
     pub(crate) station: usize,
     pub(crate) tag: u32,
     pub(crate) index: u32,
+    pub(crate) half: Half,
     pub(crate) last: Last,
 }
 
@@ -45,9 +48,10 @@ pub(crate) fn tell_over(words: &Words, ring: usize, seat: &mut Seat<u8, View>, s
     requires of { IsAt words.now.table_id words.now.key ring seat.old.table_id }
     requires place { station < ring }
     requires role { seat.old.me.0.role ≡ Back }
-    requires over { seat.old.id ≡ back → IsAtHead (sizes_of words.now.key) (unit_of words.now.key.program (sizes_of words.now.key) seat.old.me.0.seen) station true }
-    ensures same { (seat.new.table_id ≡ seat.old.table_id) × (seat.new.id ≡ seat.old.id) }
-    ensures step { Grown words.now.key seat.old.id seat.old.me seat.new.me (Tells words.now.key.program (sizes_of words.now.key) Over) }
+    requires over { seat.old.me.0.by ≡ back → IsAtHead (sizes_of words.now.key) (unit_of words.now.key.program (sizes_of words.now.key) seat.old.me.0.seen) station true }
+    ensures same { (seat.new.table_id ≡ seat.old.table_id) × (seat.new.me.0.by ≡ seat.old.me.0.by) }
+    ensures heirs { seat.new.me.0.heirs ≡ seat.old.me.0.heirs }
+    ensures step { Grown words.now.key seat.old.me.0.by seat.old.me seat.new.me (Tells words.now.key.program (sizes_of words.now.key) Over) }
 {
     load::<Brand, ()>(words, ring, seat, Place::Station(station), ());
 }
@@ -62,9 +66,10 @@ pub(crate) fn look_at_head(
     requires of { IsAt words.now.table_id words.now.key ring seat.old.table_id }
     requires place { station < ring }
     requires role { seat.old.me.0.role ≡ Back }
-    requires head { seat.old.id ≡ back → IsAtHead (sizes_of words.now.key) (unit_of words.now.key.program (sizes_of words.now.key) seat.old.me.0.seen) station false }
-    ensures same { (seat.new.table_id ≡ seat.old.table_id) × (seat.new.id ≡ seat.old.id) }
-    ensures step { Grown words.now.key seat.old.id seat.old.me seat.new.me (LooksAtHead words.now.key.program (sizes_of words.now.key) seat.old.id station result) }
+    requires head { seat.old.me.0.by ≡ back → IsAtHead (sizes_of words.now.key) (unit_of words.now.key.program (sizes_of words.now.key) seat.old.me.0.seen) station false }
+    ensures same { (seat.new.table_id ≡ seat.old.table_id) × (seat.new.me.0.by ≡ seat.old.me.0.by) }
+    ensures heirs { seat.new.me.0.heirs ≡ seat.old.me.0.heirs }
+    ensures step { Grown words.now.key seat.old.me.0.by seat.old.me seat.new.me (LooksAtHead words.now.key.program (sizes_of words.now.key) seat.old.me.0.by station result) }
 {
     load::<Brand, usize>(words, ring, seat, Place::Station(station), station)
 }
@@ -76,8 +81,9 @@ pub(crate) fn tell_waiting(words: &Words, ring: usize, seat: &mut Seat<u8, View>
     requires role { seat.old.me.0.role ≡ Back }
     requires access { HasAccess words.now.key.program (sizes_of words.now.key) seat.old.me.0.seen access }
     requires load { kind (instr_of words.now.key.program access.index).op ≢ Stores }
-    ensures same { (seat.new.table_id ≡ seat.old.table_id) × (seat.new.id ≡ seat.old.id) }
-    ensures step { Grown words.now.key seat.old.id seat.old.me seat.new.me (Tells words.now.key.program (sizes_of words.now.key) NotDone) }
+    ensures same { (seat.new.table_id ≡ seat.old.table_id) × (seat.new.me.0.by ≡ seat.old.me.0.by) }
+    ensures heirs { seat.new.me.0.heirs ≡ seat.old.me.0.heirs }
+    ensures step { Grown words.now.key seat.old.me.0.by seat.old.me seat.new.me (Tells words.now.key.program (sizes_of words.now.key) NotDone) }
 {
     let place = Place::Station(access.station);
     load::<Brand, ()>(words, ring, seat, place, ());
@@ -94,8 +100,9 @@ pub(crate) fn read_data(
     requires place { access.station < ring }
     requires role { seat.old.me.0.role ≡ Back }
     requires access { HasAccess words.now.key.program (sizes_of words.now.key) seat.old.me.0.seen access }
-    ensures same { (seat.new.table_id ≡ seat.old.table_id) × (seat.new.id ≡ seat.old.id) }
-    ensures step { Grown words.now.key seat.old.id seat.old.me seat.new.me (FindsData words.now.key.program (sizes_of words.now.key) access result) }
+    ensures same { (seat.new.table_id ≡ seat.old.table_id) × (seat.new.me.0.by ≡ seat.old.me.0.by) }
+    ensures heirs { seat.new.me.0.heirs ≡ seat.old.me.0.heirs }
+    ensures step { Grown words.now.key seat.old.me.0.by seat.old.me seat.new.me (FindsData words.now.key.program (sizes_of words.now.key) access result) }
 {
     let place = Place::Operand(access.station, Source::Second);
     load::<Brand, Access>(words, ring, seat, place, access)
@@ -114,8 +121,9 @@ pub(crate) fn retire_tenant(
     requires role { seat.old.me.0.role ≡ Back }
     requires may { MayLeave words.now.key.program (sizes_of words.now.key) seat.old.me.0.seen leaving }
     requires word { IsStation (left_word leaving) word }
-    ensures same { (seat.new.table_id ≡ seat.old.table_id) × (seat.new.id ≡ seat.old.id) }
-    ensures step { Grown words.now.key seat.old.id seat.old.me seat.new.me (Leaves words.now.key.program (sizes_of words.now.key) leaving) }
+    ensures same { (seat.new.table_id ≡ seat.old.table_id) × (seat.new.me.0.by ≡ seat.old.me.0.by) }
+    ensures heirs { seat.new.me.0.heirs ≡ seat.old.me.0.heirs }
+    ensures step { Grown words.now.key seat.old.me.0.by seat.old.me seat.new.me (Leaves words.now.key.program (sizes_of words.now.key) leaving) }
 {
     let place = Place::Station(leaving.station);
     swap::<Brand, Leaving>(words, ring, seat, place, word, leaving);

@@ -30,11 +30,12 @@ pub(crate) fn store_link(
     requires of { IsAt words.now.table_id words.now.key ring seat.old.table_id }
     requires to { of.0 < ring }
     requires from { from.0 < ring }
-    requires front { IsFronts seat.old.id Nothing seat.old.me }
+    requires front { IsFronts seat.old.me.0.by Nothing seat.old.me }
     requires may { MayAsk words.now.key.program (sizes_of words.now.key) seat.old.me.0.seen of.0 of.1 k from.0 from.1 }
     requires link { link ≡ pack_link from.1 of.1 }
-    ensures same { (seat.new.table_id ≡ seat.old.table_id) × (seat.new.id ≡ seat.old.id) }
-    ensures step { Grown words.now.key seat.old.id seat.old.me seat.new.me (Links words.now.key.program (sizes_of words.now.key) of.0 of.1 k) }
+    ensures same { (seat.new.table_id ≡ seat.old.table_id) × (seat.new.me.0.by ≡ seat.old.me.0.by) }
+    ensures heirs { seat.new.me.0.heirs ≡ seat.old.me.0.heirs }
+    ensures step { Grown words.now.key seat.old.me.0.by seat.old.me seat.new.me (Links words.now.key.program (sizes_of words.now.key) of.0 of.1 k) }
 {
     let place = Place::Link(from.0, of.0, k);
     let about = (of.0, of.1, k);
@@ -52,10 +53,11 @@ pub(crate) fn look_at_creator(
 ) -> u64
     requires of { IsAt words.now.table_id words.now.key ring seat.old.table_id }
     requires from { from.0 < ring }
-    requires front { IsFronts seat.old.id Nothing seat.old.me }
+    requires front { IsFronts seat.old.me.0.by Nothing seat.old.me }
     requires asked { HasAskedFrom words.now.key.program (sizes_of words.now.key) seat.old.me.0.seen of.0 of.1 k from.0 from.1 }
-    ensures same { (seat.new.table_id ≡ seat.old.table_id) × (seat.new.id ≡ seat.old.id) }
-    ensures step { Grown words.now.key seat.old.id seat.old.me seat.new.me (Finds words.now.key.program (sizes_of words.now.key) of.0 of.1 k from.0 from.1 result) }
+    ensures same { (seat.new.table_id ≡ seat.old.table_id) × (seat.new.me.0.by ≡ seat.old.me.0.by) }
+    ensures heirs { seat.new.me.0.heirs ≡ seat.old.me.0.heirs }
+    ensures step { Grown words.now.key seat.old.me.0.by seat.old.me seat.new.me (Finds words.now.key.program (sizes_of words.now.key) of.0 of.1 k from.0 from.1 result) }
 {
     let place = Place::Station(from.0);
     let about = (of.0, of.1, k, from.0, from.1);
@@ -74,12 +76,13 @@ pub(crate) fn take_value(
 ) -> u64
     requires of { IsAt words.now.table_id words.now.key ring seat.old.table_id }
     requires place { station < ring }
-    requires front { IsFronts seat.old.id Nothing seat.old.me }
+    requires front { IsFronts seat.old.me.0.by Nothing seat.old.me }
     requires old { IsOperandOf (wait_word (tag_of old)) old }
     requires new { IsOperandOf (val_word (tag_of old) (value_of new)) new }
     requires answer { CanAnswer words.now.key.program (sizes_of words.now.key) seat.old.me.0.seen station (tag_of old) k (value_of new) }
-    ensures same { (seat.new.table_id ≡ seat.old.table_id) × (seat.new.id ≡ seat.old.id) }
-    ensures step { Grown words.now.key seat.old.id seat.old.me seat.new.me (Ends words.now.key.program (sizes_of words.now.key) station (tag_of old) k old result) }
+    ensures same { (seat.new.table_id ≡ seat.old.table_id) × (seat.new.me.0.by ≡ seat.old.me.0.by) }
+    ensures heirs { seat.new.me.0.heirs ≡ seat.old.me.0.heirs }
+    ensures step { Grown words.now.key seat.old.me.0.by seat.old.me seat.new.me (Ends words.now.key.program (sizes_of words.now.key) station (tag_of old) k old result) }
 {
     let place = Place::Operand(station, k);
     exchange::<Brand, (usize, Source)>(words, ring, seat, place, old, new, (station, k))

@@ -23,8 +23,9 @@ pub(crate) fn end_walk(
     requires place { station < ring }
     requires writer { IsWriter seat.old.me.0.role }
     requires served { IsServedAll words.now.key.program (sizes_of words.now.key) seat.old.me.0.seen station tag value }
-    ensures same { (seat.new.table_id ≡ seat.old.table_id) × (seat.new.id ≡ seat.old.id) }
-    ensures step { Grown words.now.key seat.old.id seat.old.me seat.new.me (EndsWalk words.now.key.program (sizes_of words.now.key) station tag) }
+    ensures same { (seat.new.table_id ≡ seat.old.table_id) × (seat.new.me.0.by ≡ seat.old.me.0.by) }
+    ensures heirs { seat.new.me.0.heirs ≡ seat.old.me.0.heirs }
+    ensures step { Grown words.now.key seat.old.me.0.by seat.old.me seat.new.me (EndsWalk words.now.key.program (sizes_of words.now.key) station tag) }
 {
     let about = (station, tag, value);
     load::<Brand, (usize, u32, u32)>(words, ring, seat, Place::Station(station), about);

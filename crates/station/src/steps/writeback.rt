@@ -33,11 +33,12 @@ pub(crate) fn finish_tenant(
     requires of { IsAt words.now.table_id words.now.key ring seat.old.table_id }
     requires place { station < ring }
     requires role { seat.old.me.0.role ≡ Worker }
-    requires old { IsStation (live_word (tag_of old) (Busy seat.old.id)) old }
+    requires old { IsStation (live_word (tag_of old) (Busy seat.old.me.0.by)) old }
     requires new { IsStation (live_word (tag_of old) (fate_of predicted outcome)) new }
-    requires job { HasTenant words.now.key.program (sizes_of words.now.key) seat.old.me.0.seen station (tag_of old) (HasJob words.now.key.program seat.old.id predicted outcome) }
-    ensures same { (seat.new.table_id ≡ seat.old.table_id) × (seat.new.id ≡ seat.old.id) }
-    ensures step { Grown words.now.key seat.old.id seat.old.me seat.new.me (Finishes words.now.key.program (sizes_of words.now.key) station (tag_of old) outcome old result) }
+    requires job { HasTenant words.now.key.program (sizes_of words.now.key) seat.old.me.0.seen station (tag_of old) (HasJob words.now.key.program seat.old.me.0.by predicted outcome) }
+    ensures same { (seat.new.table_id ≡ seat.old.table_id) × (seat.new.me.0.by ≡ seat.old.me.0.by) }
+    ensures heirs { seat.new.me.0.heirs ≡ seat.old.me.0.heirs }
+    ensures step { Grown words.now.key seat.old.me.0.by seat.old.me seat.new.me (Finishes words.now.key.program (sizes_of words.now.key) station (tag_of old) outcome old result) }
 {
     let place = Place::Station(station);
     exchange::<Brand, (usize, Outcome)>(words, ring, seat, place, old, new, (station, outcome))
@@ -58,8 +59,9 @@ pub(crate) fn settle_tenant(
     requires old { IsStation (live_word (tag_of old) (Addr (value_of old))) old }
     requires new { IsStation (live_word (tag_of old) (Done (value_of new))) new }
     requires load { CanSettle words.now.key.program (sizes_of words.now.key) seat.old.me.0.seen station (tag_of old) (value_of old) (value_of new) }
-    ensures same { (seat.new.table_id ≡ seat.old.table_id) × (seat.new.id ≡ seat.old.id) }
-    ensures step { Grown words.now.key seat.old.id seat.old.me seat.new.me (Settles words.now.key.program (sizes_of words.now.key) station (tag_of old) old result) }
+    ensures same { (seat.new.table_id ≡ seat.old.table_id) × (seat.new.me.0.by ≡ seat.old.me.0.by) }
+    ensures heirs { seat.new.me.0.heirs ≡ seat.old.me.0.heirs }
+    ensures step { Grown words.now.key seat.old.me.0.by seat.old.me seat.new.me (Settles words.now.key.program (sizes_of words.now.key) station (tag_of old) old result) }
 {
     exchange::<Brand, usize>(
         words,
@@ -85,8 +87,9 @@ pub(crate) fn read_link(
     requires from { from < ring }
     requires to { to < ring }
     requires alive { IsAlive seat.old.me.0.role }
-    ensures same { (seat.new.table_id ≡ seat.old.table_id) × (seat.new.id ≡ seat.old.id) }
-    ensures step { Grown words.now.key seat.old.id seat.old.me seat.new.me (ReadsLink words.now.key.program (sizes_of words.now.key) from to k result) }
+    ensures same { (seat.new.table_id ≡ seat.old.table_id) × (seat.new.me.0.by ≡ seat.old.me.0.by) }
+    ensures heirs { seat.new.me.0.heirs ≡ seat.old.me.0.heirs }
+    ensures step { Grown words.now.key seat.old.me.0.by seat.old.me seat.new.me (ReadsLink words.now.key.program (sizes_of words.now.key) from to k result) }
 {
     let place = Place::Link(from, to, k);
     load::<Brand, (usize, usize, Source)>(words, ring, seat, place, (from, to, k))
@@ -108,8 +111,9 @@ pub(crate) fn deliver(
     requires old { IsOperandOf (wait_word (tag_of old)) old }
     requires new { IsOperandOf (val_word (tag_of old) (value_of new)) new }
     requires link { CanDeliver words.now.key.program (sizes_of words.now.key) seat.old.me.0.seen station k (tag_of old) (value_of new) }
-    ensures same { (seat.new.table_id ≡ seat.old.table_id) × (seat.new.id ≡ seat.old.id) }
-    ensures step { Grown words.now.key seat.old.id seat.old.me seat.new.me (Delivers words.now.key.program (sizes_of words.now.key) station k (tag_of old) old result) }
+    ensures same { (seat.new.table_id ≡ seat.old.table_id) × (seat.new.me.0.by ≡ seat.old.me.0.by) }
+    ensures heirs { seat.new.me.0.heirs ≡ seat.old.me.0.heirs }
+    ensures step { Grown words.now.key seat.old.me.0.by seat.old.me seat.new.me (Delivers words.now.key.program (sizes_of words.now.key) station k (tag_of old) old result) }
 {
     let place = Place::Operand(station, k);
     exchange::<Brand, (usize, Source)>(words, ring, seat, place, old, new, (station, k))

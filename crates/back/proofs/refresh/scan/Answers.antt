@@ -4,7 +4,8 @@ use Rattle.back.specs.Port.{behind}
 use Rattle.back.specs.Refreshes.{HasFoundBlocked, HasLoaded, WasIdle}
 use Rattle.back.specs.Scans.{Scanned}
 use Rattle.back.specs.Trials.{DidLoad, HasHeldBack, HasPassed}
-use Rattle.back.proofs.Scanning.{head_now, held_first, held_more, is_blocked, is_idle, loaded_on, passed_on, state_now}
+use Rattle.back.proofs.Refreshing.{head_now, is_blocked, is_idle, loaded_on, state_now}
+use Rattle.back.proofs.Scanning.{held_first, held_more, passed_on}
 use Rattle.back.proofs.Searching.{is_nothing, is_something}
 use Rattle.back.proofs.Seeing.{same_on}
 use Rattle.back.proofs.refresh.scan.Goals as goal
@@ -32,9 +33,11 @@ returns-in-Loaded-clause-reply c =
     let head = c.args.head in
     let by_cur = k.invariant.kept.by ∙ c.requires.by in
     let ring = c.requires.ring in
+    let inside : head < d.sizes.ring = let h = c.requires.head in omega (arith, h, ring) in
+    let bound : k.at < d.sizes.ring = let less = c.loop-at-test.true in omega (arith, less, ring) in
     let x = subst (λ z. DidLoad d.program d.sizes z cur.seen new.seen (behind head d.sizes.ring k.at) c.in-Loaded.tag c.in-Loaded.value) by_cur c.in-Loaded.ensures.reply in
     subst (λ (z : ℕ × ℕ). HasLoaded d.program d.sizes z.0 old.seen new.seen ((head + k.at) % z.1) c.in-Loaded.tag c.in-Loaded.value) (λ i. (sym c.requires.by i, sym ring i))
-    (loaded_on d.program d.sizes old.seen cur.seen new.seen head d.sizes.ring k.at (k.at + 1) refl k.blocked k.invariant.scanned c.in-Loaded.tag c.in-Loaded.value x)
+    (loaded_on d.program d.sizes old.seen cur.seen new.seen head c.requires.head_is inside k.at bound k.blocked k.invariant.scanned c.in-Loaded.tag c.in-Loaded.value x)
 
 pub loop-at-preserved : goal.loop-at-preserved
 loop-at-preserved c =

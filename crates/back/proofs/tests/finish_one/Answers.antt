@@ -1,13 +1,12 @@
-use Rattle.std.proofs.Common.{◌≡◌, ◌<◌, ℕ, length, sym, ap, subst}
+use Rattle.std.proofs.Common.{◌<◌, length, sym, subst}
 use Rattle.isa.specs.Programs.{Program}
-use Rattle.inorder.specs.Replies.{JobFields}
-use Rattle.station.proofs.Retiring.{inside}
 use Rattle.back.proofs.tests.finish_one.Goals as goal
 
 pub instr-instr-requires : goal.instr-instr-requires
 instr-instr-requires c =
     let core = c.args.core.now in
+    let seat = c.claim.new.seat in
+    let job = c.in-Job.job in
     let claimed = c.in-Job.ensures.reply in
-    let t = claimed.holds.tenant in
-    let index_is : t.tenant.index ≡ c.in-Job.job.index = ap (λ (z : JobFields). z.index) t.fact.fields_are in
-    subst (λ (z : Program × ℕ). z.1 < length z.0.code) (λ i. (sym c.requires.program i, index_is i)) (inside core.program core.sizes c.claim.new.seat.seen claimed.adds.legal claimed.holds.p t.tenant t.is)
+    subst (λ (P : Program). job.index < length P.code) (sym c.requires.program)
+    (c.a_job_is_of_the_program.ensures core.program core.sizes c.args.seat.now.by seat.seen job claimed.adds.legal claimed.holds)

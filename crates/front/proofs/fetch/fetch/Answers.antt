@@ -94,4 +94,4 @@ returns-clause-ok c =
     let h = c.look-ahead.new.seat.seen in
     let adds : Adds P C front old h [] = subst (λ i. Adds P C i old h []) c.requires.by c.look-ahead.ensures.history in
     let there : instr_at P c.front_pc-pc.result ≡ Some c.in-Some.instr = ap (λ z. instr_at z c.front_pc-pc.result) (sym c.requires.program) ∙ (sym c.fetch.ensures ∙ c.in-Some.is) in
-    can_fetch P C old h c.args.path.now.records c.args.path.now.base c.requires.knows adds c.ring.result c.next_station-station.result c.ring.ensures.value c.ring.ensures.least c.next_station-station.ensures.value c.look-ahead.result c.look-ahead.ensures.reply c.in-Free.is c.front_pc-pc.result c.front_pc-pc.ensures c.in-Some.instr there c.queue_is_full.new.seat.seen c.queue_is_full.ensures.history c.if-queue_is_full.ensures.reply c.if-ahead-eq-LAST_TAG.false c.look-ahead.ensures.tag c.next_station-station.ensures.small
+    can_fetch P C old h c.args.path.now.records c.args.path.now.base c.requires.knows adds c.ring.result c.next_station-station.result c.ring.ensures.value c.ring.ensures.least c.next_station-station.ensures.value c.look-ahead.result c.look-ahead.ensures.reply c.in-Free.is c.front_pc-pc.result c.front_pc-pc.ensures c.in-Some.instr there c.queue_is_full.new.seat.seen c.queue_is_full.ensures.history c.front_half-half.result c.front_half-half.ensures c.if-queue_is_full.ensures.reply c.if-ahead-eq-LAST_TAG.false c.look-ahead.ensures.tag c.next_station-station.ensures.small

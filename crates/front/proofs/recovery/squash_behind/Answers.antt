@@ -6,11 +6,12 @@ use Rattle.front.specs.Knows.{Knows}
 use Rattle.front.specs.Recoveries.{IsMissAt}
 use Rattle.front.proofs.FirstMiss.{take_fewer}
 use Rattle.front.proofs.Popping.{popped}
-use Rattle.front.proofs.Recovered.{cut_more, squash_allowed, squash_done}
+use Rattle.front.proofs.Recovered.{cut_more, squash_allowed, squash_done, squash_table_done}
+use Rattle.front.proofs.Tables.{touched_more, touched_within}
 use Rattle.front.proofs.recovery.squash_behind.Goals as goal
 
-pub squash-requires-clause-may : goal.squash-requires-clause-may
-squash-requires-clause-may c =
+pub squash-station-requires-clause-may : goal.squash-station-requires-clause-may
+squash-station-requires-clause-may c =
     let P = c.args.core.now.program in
     let C = c.args.core.now.sizes in
     let inv = c.loop-missed.invariant in
@@ -29,16 +30,16 @@ loop-missed-preserved c =
     let records = c.loop-missed.path.records in
     let base = c.loop-missed.path.base in
     let old = c.loop-missed.seat.seen in
-    let new = c.squash.new.seat.seen in
+    let new = c.squash-station.new.seat.seen in
     let m = c.args.missed in
     let many : m.at + 1 < length records = omega (arith, c.loop-missed-test.true, c.len.ensures.value) in
     let one = popped records (omega (arith, many)) in
     let same : c.pop.new.self ≡ one.rest = c.pop.ensures.rest ∙ sym one.rest_is in
     let knows : Knows P C (unit_of P C old) (one.rest ++ one.last ∷ []) base = subst (λ z. Knows P C (unit_of P C old) z base) one.is inv.knows in
     let miss : IsMissAt P C old (one.rest ++ one.last ∷ []) m = subst (λ z. IsMissAt P C old z m) one.is inv.miss in
-    let squashed : IsSquashed P C front c.squash.result.0 c.squash.result.1 old new = subst (λ i. IsSquashed P C i c.squash.result.0 c.squash.result.1 old new) (inv.same.by ∙ c.requires.by) c.squash.ensures.reply in
-    let done = squash_done P C old new one.rest one.last base knows m miss (subst (λ z. m.at + 1 < length z) one.is many) c.squash.result.0 c.squash.result.1 squashed in
-    let kept = c.squash.ensures.kept in
+    let squashed : IsSquashed P C front c.squash-station.result.0 c.squash-station.result.1 old new = subst (λ i. IsSquashed P C i c.squash-station.result.0 c.squash-station.result.1 old new) (inv.same.by ∙ c.requires.by) c.squash-station.ensures.reply in
+    let done = squash_done P C old new one.rest one.last base knows m miss (subst (λ z. m.at + 1 < length z) one.is many) c.squash-station.result.0 c.squash-station.result.1 squashed in
+    let kept = c.squash-station.ensures.kept in
     let long = length-append one.rest (one.last ∷ []) in
     let whole : length records ≡ length (one.rest ++ one.last ∷ []) = ap (λ z. length z) one.is in
     let left : length c.pop.new.self ≡ length one.rest = ap (λ z. length z) same in
@@ -52,4 +53,6 @@ loop-missed-preserved c =
       long = omega (arith, many, long, whole, left);
       kept = ap (take (m.at + 1)) same ∙ (sym (take_fewer one.rest one.last (m.at + 1) (omega (arith, many, long, whole))) ∙ (ap (take (m.at + 1)) (sym one.is) ∙ inv.kept));
       fewer = omega (arith, inv.fewer, long, whole, left);
+      table = squash_table_done P C old new one.rest one.last base knows c.squash-station.result.0 c.squash-station.result.1 squashed c.loop-missed.creators.table c.restore.new.self.table inv.table c.restore.ensures.table;
+      touched = touched_within _ _ _ _ (omega (arith, inv.fewer, long, whole, left)) (touched_more _ _ _ _ _ inv.touched c.restore.ensures.touched);
     }

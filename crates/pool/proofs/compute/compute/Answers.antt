@@ -1,8 +1,10 @@
 use Rattle.std.proofs.Common.{◌<◌, length, subst, sym}
 use Rattle.isa.specs.Programs.{Program}
-use Rattle.pool.proofs.Inside.{inside}
 use Rattle.pool.proofs.compute.compute.Goals as goal
 
--- src/compute.rt:20:9
 pub instr-instr-requires : goal.instr-instr-requires
-instr-instr-requires g c = subst (λ (P : Program). c.args.job.index < length P.code) (sym c.requires.program) (inside c.args.floor.now.core.program c.args.floor.now.core.sizes c.args.seat.now.by c.args.seat.now.seen c.args.job c.requires.legal c.requires.job)
+instr-instr-requires c =
+    let core = c.args.floor.now.core in
+    let seat = c.args.seat.now in
+    subst (λ (P : Program). c.args.job.index < length P.code) (sym c.requires.program)
+    (c.a_job_is_of_the_program.ensures core.program core.sizes seat.by seat.seen c.args.job c.requires.legal c.requires.job)

@@ -1,8 +1,7 @@
-use Rattle.pool.specs.Ledgers.{names_of}
 use Rattle.pool.proofs.threads.run.Given as goal
 
 abbrev pub ghosts-run_named-J-Naming : goal.ghosts-run_named-J-Naming
 ghosts-run_named-J-Naming g a = record { program = a.program.now }
 
-abbrev pub ghosts-run_named-K-Books : goal.ghosts-run_named-K-Books
-ghosts-run_named-K-Books g a = record { names = names_of a.blanks; units = a.blanks.claims.parts; limit = a.config.now.limit }
+abbrev pub ghosts-run_named-K-Bounds : goal.ghosts-run_named-K-Bounds
+ghosts-run_named-K-Bounds g a = record { counts = a.counts; limit = a.config.now.limit; turns = a.config.now.turns }

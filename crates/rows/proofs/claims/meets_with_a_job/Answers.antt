@@ -2,7 +2,6 @@ use Rattle.std.proofs.Common.{List, [], sym, ◌∙◌, subst}
 use Rattle.inorder.specs.declared.history.Entry.{Entry}
 use Rattle.inorder.specs.History.{Adds}
 use Rattle.station.specs.Claiming.{Holds}
-use Rattle.station.proofs.Holding.{holds_seen}
 use Rattle.rows.proofs.claims.meets_with_a_job.Goals as goal
 
 pub finish_job-finish-requires-clause-job : goal.finish_job-finish-requires-clause-job
@@ -14,5 +13,5 @@ finish_job-finish-requires-clause-job c =
     let before : List Entry = c.claim.new.seat.seen in
     let behind : List Entry = c.meet.new.one.seen in
     let adds = subst (λ i. Adds P C i before behind []) c.in-Job.ensures.kept.by c.meet.ensures.one_history in
-    let holds = holds_seen P C c.args.one.now.by before behind job claimed.holds adds in
+    let holds = c.jobs_stay.ensures.seen P C c.args.one.now.by before behind job claimed.holds adds in
     subst (λ i. Holds P C i behind job) (sym (c.meet.ensures.one_kept.by ∙ c.in-Job.ensures.kept.by)) holds

@@ -8,4 +8,4 @@ returns-clause-answer c =
     let key = c.args.words.now.key in
     let s = c.args.seat.now in
     let needed : c.args.needed ≡ true = search rules in
-    source_answers key.program (sizes_of key) s.id s.me.0 c.read_source-word.new.seat.me.0 c.args.station c.args.tag c.args.k c.args.needed c.read_source-word.result c.read_source-word.ensures.step.grows c.source_says.result c.source_says.ensures needed
+    source_answers key.program (sizes_of key) s.me.0.by s.me.0 c.read_source-word.new.seat.me.0 c.args.station c.args.tag c.args.k c.args.needed c.read_source-word.result c.read_source-word.ensures.step.grows c.source_says.result c.source_says.ensures needed

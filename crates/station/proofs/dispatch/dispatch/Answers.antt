@@ -1,4 +1,4 @@
-use Rattle.std.proofs.Common.{◌≡◌, ℕ, List, ◌++◌, map, refl, sym, ap, ◌∙◌, subst}
+use Rattle.std.proofs.Common.{◌≡◌, ℕ, List, ◌++◌, map, refl, sym, ap, ◌∙◌, subst, arith}
 use Rattle.atomic_table.specs.Table.{Me}
 use Rattle.inorder.specs.declared.history.Entry.{Entry}
 use Rattle.inorder.specs.History.{entry, unit_of}
@@ -10,12 +10,27 @@ use Rattle.ruu_words.specs.declared.rule.Draft.TheVariants.{Nothing}
 use Rattle.ruu_words.specs.declared.rule.Stage.TheVariants.{BothOperands, FirstOperand, Info as InfoAlone}
 use Rattle.ruu_words.specs.declared.rule.View.{View}
 use Rattle.ruu_words.specs.Content.{IsOperandOf, IsStation}
+use Rattle.ruu_words.specs.Fields.{half_of, index_of}
 use Rattle.ruu_words.specs.Kinds.{Drafts, Lets}
 use Rattle.ruu_words.specs.Rule.{Grows, sizes_of}
+use Rattle.ruu_words.proofs.Packing.{infos_read_back}
 use Rattle.station.specs.Letting.{draft_of, given_value, supply_of}
 use Rattle.station.specs.Steps.{Sees}
 use Rattle.station.proofs.LettingOut.{Ready, goes_from, lets_out, starts, tag_found}
 use Rattle.station.proofs.dispatch.dispatch.Goals as goal
+
+pub pack-info_word-requires : goal.pack-info_word-requires
+pack-info_word-requires c = c.requires.small
+
+pub store_info-requires-clause-half : goal.store_info-requires-clause-half
+store_info-requires-clause-half c =
+    let t = c.args.tenant in
+    ap half_of c.pack-info_word.ensures ∙ (infos_read_back t.half t.index t.predicted c.requires.small (omega arith)).half_is
+
+pub store_info-requires-clause-index : goal.store_info-requires-clause-index
+store_info-requires-clause-index c =
+    let t = c.args.tenant in
+    ap index_of c.pack-info_word.ensures ∙ (infos_read_back t.half t.index t.predicted c.requires.small (omega arith)).index_is
 
 pub store_info-requires-clause-may : goal.store_info-requires-clause-may
 store_info-requires-clause-may c =
@@ -23,7 +38,7 @@ store_info-requires-clause-may c =
     let P = key.program in
     let C = sizes_of key in
     let s = c.args.seat.now in
-    let by = s.id in
+    let by = s.me.0.by in
     let t = c.args.tenant in
     let old = s.me.0.seen in
     let st = next_station C (recent (unit_of P C old)) in
@@ -32,7 +47,7 @@ store_info-requires-clause-may c =
     let g1 = c.look-found.ensures.step.grows in
     let m1 : Me ℕ View = c.look-found.new.seat.me in
     let r1 : Ready P C by t old Nothing st tg m1 = goes_from P C by t old by refl Nothing Nothing st tg s.me m1 (Sees P C by s.me.0 (Station c.args.station) c.look-found.result) r0 g1 g1.kind.none (g1.kind.mine c.requires.front.by_is ∙ c.requires.front.draft_is) in
-    let i1 : c.look-found.new.seat.id ≡ by = c.look-found.ensures.same.1 in
+    let i1 : c.look-found.new.seat.me.0.by ≡ by = c.look-found.ensures.same.1 in
     r1.may
 
 pub store_info-requires-clause-station : goal.store_info-requires-clause-station
@@ -41,7 +56,7 @@ store_info-requires-clause-station c =
     let P = key.program in
     let C = sizes_of key in
     let s = c.args.seat.now in
-    let by = s.id in
+    let by = s.me.0.by in
     let t = c.args.tenant in
     let old = s.me.0.seen in
     let st = next_station C (recent (unit_of P C old)) in
@@ -50,7 +65,7 @@ store_info-requires-clause-station c =
     let g1 = c.look-found.ensures.step.grows in
     let m1 : Me ℕ View = c.look-found.new.seat.me in
     let r1 : Ready P C by t old Nothing st tg m1 = goes_from P C by t old by refl Nothing Nothing st tg s.me m1 (Sees P C by s.me.0 (Station c.args.station) c.look-found.result) r0 g1 g1.kind.none (g1.kind.mine c.requires.front.by_is ∙ c.requires.front.draft_is) in
-    let i1 : c.look-found.new.seat.id ≡ by = c.look-found.ensures.same.1 in
+    let i1 : c.look-found.new.seat.me.0.by ≡ by = c.look-found.ensures.same.1 in
     r1.station_is ∙ c.requires.station
 
 pub store_first-requires-clause-may : goal.store_first-requires-clause-may
@@ -59,7 +74,7 @@ store_first-requires-clause-may c =
     let P = key.program in
     let C = sizes_of key in
     let s = c.args.seat.now in
-    let by = s.id in
+    let by = s.me.0.by in
     let t = c.args.tenant in
     let old = s.me.0.seen in
     let st = next_station C (recent (unit_of P C old)) in
@@ -68,11 +83,11 @@ store_first-requires-clause-may c =
     let g1 = c.look-found.ensures.step.grows in
     let m1 : Me ℕ View = c.look-found.new.seat.me in
     let r1 : Ready P C by t old Nothing st tg m1 = goes_from P C by t old by refl Nothing Nothing st tg s.me m1 (Sees P C by s.me.0 (Station c.args.station) c.look-found.result) r0 g1 g1.kind.none (g1.kind.mine c.requires.front.by_is ∙ c.requires.front.draft_is) in
-    let i1 : c.look-found.new.seat.id ≡ by = c.look-found.ensures.same.1 in
+    let i1 : c.look-found.new.seat.me.0.by ≡ by = c.look-found.ensures.same.1 in
     let g2 = c.store_info.ensures.step.grows in
     let m2 : Me ℕ View = c.store_info.new.seat.me in
-    let r2 : Ready P C by t old (draft_of InfoAlone t) st tg m2 = goes_from P C by t old c.look-found.new.seat.id i1 (Nothing) (draft_of InfoAlone t) st tg m1 m2 (Drafts P C (draft_of InfoAlone t)) r1 g2 g2.kind.none g2.kind.draft in
-    let i2 : c.store_info.new.seat.id ≡ by = c.store_info.ensures.same.1 ∙ i1 in
+    let r2 : Ready P C by t old (draft_of InfoAlone t) st tg m2 = goes_from P C by t old c.look-found.new.seat.me.0.by i1 (Nothing) (draft_of InfoAlone t) st tg m1 m2 (Drafts P C (draft_of InfoAlone t)) r1 g2 g2.kind.none g2.kind.draft in
+    let i2 : c.store_info.new.seat.me.0.by ≡ by = c.store_info.ensures.same.1 ∙ i1 in
     r2.may
 
 pub store_first-requires-clause-station : goal.store_first-requires-clause-station
@@ -81,7 +96,7 @@ store_first-requires-clause-station c =
     let P = key.program in
     let C = sizes_of key in
     let s = c.args.seat.now in
-    let by = s.id in
+    let by = s.me.0.by in
     let t = c.args.tenant in
     let old = s.me.0.seen in
     let st = next_station C (recent (unit_of P C old)) in
@@ -90,11 +105,11 @@ store_first-requires-clause-station c =
     let g1 = c.look-found.ensures.step.grows in
     let m1 : Me ℕ View = c.look-found.new.seat.me in
     let r1 : Ready P C by t old Nothing st tg m1 = goes_from P C by t old by refl Nothing Nothing st tg s.me m1 (Sees P C by s.me.0 (Station c.args.station) c.look-found.result) r0 g1 g1.kind.none (g1.kind.mine c.requires.front.by_is ∙ c.requires.front.draft_is) in
-    let i1 : c.look-found.new.seat.id ≡ by = c.look-found.ensures.same.1 in
+    let i1 : c.look-found.new.seat.me.0.by ≡ by = c.look-found.ensures.same.1 in
     let g2 = c.store_info.ensures.step.grows in
     let m2 : Me ℕ View = c.store_info.new.seat.me in
-    let r2 : Ready P C by t old (draft_of InfoAlone t) st tg m2 = goes_from P C by t old c.look-found.new.seat.id i1 (Nothing) (draft_of InfoAlone t) st tg m1 m2 (Drafts P C (draft_of InfoAlone t)) r1 g2 g2.kind.none g2.kind.draft in
-    let i2 : c.store_info.new.seat.id ≡ by = c.store_info.ensures.same.1 ∙ i1 in
+    let r2 : Ready P C by t old (draft_of InfoAlone t) st tg m2 = goes_from P C by t old c.look-found.new.seat.me.0.by i1 (Nothing) (draft_of InfoAlone t) st tg m1 m2 (Drafts P C (draft_of InfoAlone t)) r1 g2 g2.kind.none g2.kind.draft in
+    let i2 : c.store_info.new.seat.me.0.by ≡ by = c.store_info.ensures.same.1 ∙ i1 in
     r2.station_is ∙ c.requires.station
 
 pub store_second-requires-clause-may : goal.store_second-requires-clause-may
@@ -103,7 +118,7 @@ store_second-requires-clause-may c =
     let P = key.program in
     let C = sizes_of key in
     let s = c.args.seat.now in
-    let by = s.id in
+    let by = s.me.0.by in
     let t = c.args.tenant in
     let old = s.me.0.seen in
     let st = next_station C (recent (unit_of P C old)) in
@@ -112,15 +127,15 @@ store_second-requires-clause-may c =
     let g1 = c.look-found.ensures.step.grows in
     let m1 : Me ℕ View = c.look-found.new.seat.me in
     let r1 : Ready P C by t old Nothing st tg m1 = goes_from P C by t old by refl Nothing Nothing st tg s.me m1 (Sees P C by s.me.0 (Station c.args.station) c.look-found.result) r0 g1 g1.kind.none (g1.kind.mine c.requires.front.by_is ∙ c.requires.front.draft_is) in
-    let i1 : c.look-found.new.seat.id ≡ by = c.look-found.ensures.same.1 in
+    let i1 : c.look-found.new.seat.me.0.by ≡ by = c.look-found.ensures.same.1 in
     let g2 = c.store_info.ensures.step.grows in
     let m2 : Me ℕ View = c.store_info.new.seat.me in
-    let r2 : Ready P C by t old (draft_of InfoAlone t) st tg m2 = goes_from P C by t old c.look-found.new.seat.id i1 (Nothing) (draft_of InfoAlone t) st tg m1 m2 (Drafts P C (draft_of InfoAlone t)) r1 g2 g2.kind.none g2.kind.draft in
-    let i2 : c.store_info.new.seat.id ≡ by = c.store_info.ensures.same.1 ∙ i1 in
+    let r2 : Ready P C by t old (draft_of InfoAlone t) st tg m2 = goes_from P C by t old c.look-found.new.seat.me.0.by i1 (Nothing) (draft_of InfoAlone t) st tg m1 m2 (Drafts P C (draft_of InfoAlone t)) r1 g2 g2.kind.none g2.kind.draft in
+    let i2 : c.store_info.new.seat.me.0.by ≡ by = c.store_info.ensures.same.1 ∙ i1 in
     let g3 = c.store_first.ensures.step.grows in
     let m3 : Me ℕ View = c.store_first.new.seat.me in
-    let r3 : Ready P C by t old (draft_of FirstOperand t) st tg m3 = goes_from P C by t old c.store_info.new.seat.id i2 (draft_of InfoAlone t) (draft_of FirstOperand t) st tg m2 m3 (Drafts P C (draft_of FirstOperand t)) r2 g3 g3.kind.none g3.kind.draft in
-    let i3 : c.store_first.new.seat.id ≡ by = c.store_first.ensures.same.1 ∙ i2 in
+    let r3 : Ready P C by t old (draft_of FirstOperand t) st tg m3 = goes_from P C by t old c.store_info.new.seat.me.0.by i2 (draft_of InfoAlone t) (draft_of FirstOperand t) st tg m2 m3 (Drafts P C (draft_of FirstOperand t)) r2 g3 g3.kind.none g3.kind.draft in
+    let i3 : c.store_first.new.seat.me.0.by ≡ by = c.store_first.ensures.same.1 ∙ i2 in
     r3.may
 
 pub store_second-requires-clause-station : goal.store_second-requires-clause-station
@@ -129,7 +144,7 @@ store_second-requires-clause-station c =
     let P = key.program in
     let C = sizes_of key in
     let s = c.args.seat.now in
-    let by = s.id in
+    let by = s.me.0.by in
     let t = c.args.tenant in
     let old = s.me.0.seen in
     let st = next_station C (recent (unit_of P C old)) in
@@ -138,15 +153,15 @@ store_second-requires-clause-station c =
     let g1 = c.look-found.ensures.step.grows in
     let m1 : Me ℕ View = c.look-found.new.seat.me in
     let r1 : Ready P C by t old Nothing st tg m1 = goes_from P C by t old by refl Nothing Nothing st tg s.me m1 (Sees P C by s.me.0 (Station c.args.station) c.look-found.result) r0 g1 g1.kind.none (g1.kind.mine c.requires.front.by_is ∙ c.requires.front.draft_is) in
-    let i1 : c.look-found.new.seat.id ≡ by = c.look-found.ensures.same.1 in
+    let i1 : c.look-found.new.seat.me.0.by ≡ by = c.look-found.ensures.same.1 in
     let g2 = c.store_info.ensures.step.grows in
     let m2 : Me ℕ View = c.store_info.new.seat.me in
-    let r2 : Ready P C by t old (draft_of InfoAlone t) st tg m2 = goes_from P C by t old c.look-found.new.seat.id i1 (Nothing) (draft_of InfoAlone t) st tg m1 m2 (Drafts P C (draft_of InfoAlone t)) r1 g2 g2.kind.none g2.kind.draft in
-    let i2 : c.store_info.new.seat.id ≡ by = c.store_info.ensures.same.1 ∙ i1 in
+    let r2 : Ready P C by t old (draft_of InfoAlone t) st tg m2 = goes_from P C by t old c.look-found.new.seat.me.0.by i1 (Nothing) (draft_of InfoAlone t) st tg m1 m2 (Drafts P C (draft_of InfoAlone t)) r1 g2 g2.kind.none g2.kind.draft in
+    let i2 : c.store_info.new.seat.me.0.by ≡ by = c.store_info.ensures.same.1 ∙ i1 in
     let g3 = c.store_first.ensures.step.grows in
     let m3 : Me ℕ View = c.store_first.new.seat.me in
-    let r3 : Ready P C by t old (draft_of FirstOperand t) st tg m3 = goes_from P C by t old c.store_info.new.seat.id i2 (draft_of InfoAlone t) (draft_of FirstOperand t) st tg m2 m3 (Drafts P C (draft_of FirstOperand t)) r2 g3 g3.kind.none g3.kind.draft in
-    let i3 : c.store_first.new.seat.id ≡ by = c.store_first.ensures.same.1 ∙ i2 in
+    let r3 : Ready P C by t old (draft_of FirstOperand t) st tg m3 = goes_from P C by t old c.store_info.new.seat.me.0.by i2 (draft_of InfoAlone t) (draft_of FirstOperand t) st tg m2 m3 (Drafts P C (draft_of FirstOperand t)) r2 g3 g3.kind.none g3.kind.draft in
+    let i3 : c.store_first.new.seat.me.0.by ≡ by = c.store_first.ensures.same.1 ∙ i2 in
     r3.station_is ∙ c.requires.station
 
 pub let_tenant-requires-clause-may : goal.let_tenant-requires-clause-may
@@ -155,7 +170,7 @@ let_tenant-requires-clause-may c =
     let P = key.program in
     let C = sizes_of key in
     let s = c.args.seat.now in
-    let by = s.id in
+    let by = s.me.0.by in
     let t = c.args.tenant in
     let old = s.me.0.seen in
     let st = next_station C (recent (unit_of P C old)) in
@@ -164,19 +179,19 @@ let_tenant-requires-clause-may c =
     let g1 = c.look-found.ensures.step.grows in
     let m1 : Me ℕ View = c.look-found.new.seat.me in
     let r1 : Ready P C by t old Nothing st tg m1 = goes_from P C by t old by refl Nothing Nothing st tg s.me m1 (Sees P C by s.me.0 (Station c.args.station) c.look-found.result) r0 g1 g1.kind.none (g1.kind.mine c.requires.front.by_is ∙ c.requires.front.draft_is) in
-    let i1 : c.look-found.new.seat.id ≡ by = c.look-found.ensures.same.1 in
+    let i1 : c.look-found.new.seat.me.0.by ≡ by = c.look-found.ensures.same.1 in
     let g2 = c.store_info.ensures.step.grows in
     let m2 : Me ℕ View = c.store_info.new.seat.me in
-    let r2 : Ready P C by t old (draft_of InfoAlone t) st tg m2 = goes_from P C by t old c.look-found.new.seat.id i1 (Nothing) (draft_of InfoAlone t) st tg m1 m2 (Drafts P C (draft_of InfoAlone t)) r1 g2 g2.kind.none g2.kind.draft in
-    let i2 : c.store_info.new.seat.id ≡ by = c.store_info.ensures.same.1 ∙ i1 in
+    let r2 : Ready P C by t old (draft_of InfoAlone t) st tg m2 = goes_from P C by t old c.look-found.new.seat.me.0.by i1 (Nothing) (draft_of InfoAlone t) st tg m1 m2 (Drafts P C (draft_of InfoAlone t)) r1 g2 g2.kind.none g2.kind.draft in
+    let i2 : c.store_info.new.seat.me.0.by ≡ by = c.store_info.ensures.same.1 ∙ i1 in
     let g3 = c.store_first.ensures.step.grows in
     let m3 : Me ℕ View = c.store_first.new.seat.me in
-    let r3 : Ready P C by t old (draft_of FirstOperand t) st tg m3 = goes_from P C by t old c.store_info.new.seat.id i2 (draft_of InfoAlone t) (draft_of FirstOperand t) st tg m2 m3 (Drafts P C (draft_of FirstOperand t)) r2 g3 g3.kind.none g3.kind.draft in
-    let i3 : c.store_first.new.seat.id ≡ by = c.store_first.ensures.same.1 ∙ i2 in
+    let r3 : Ready P C by t old (draft_of FirstOperand t) st tg m3 = goes_from P C by t old c.store_info.new.seat.me.0.by i2 (draft_of InfoAlone t) (draft_of FirstOperand t) st tg m2 m3 (Drafts P C (draft_of FirstOperand t)) r2 g3 g3.kind.none g3.kind.draft in
+    let i3 : c.store_first.new.seat.me.0.by ≡ by = c.store_first.ensures.same.1 ∙ i2 in
     let g4 = c.store_second.ensures.step.grows in
     let m4 : Me ℕ View = c.store_second.new.seat.me in
-    let r4 : Ready P C by t old (draft_of BothOperands t) st tg m4 = goes_from P C by t old c.store_first.new.seat.id i3 (draft_of FirstOperand t) (draft_of BothOperands t) st tg m3 m4 (Drafts P C (draft_of BothOperands t)) r3 g4 g4.kind.none g4.kind.draft in
-    let i4 : c.store_second.new.seat.id ≡ by = c.store_second.ensures.same.1 ∙ i3 in
+    let r4 : Ready P C by t old (draft_of BothOperands t) st tg m4 = goes_from P C by t old c.store_first.new.seat.me.0.by i3 (draft_of FirstOperand t) (draft_of BothOperands t) st tg m3 m4 (Drafts P C (draft_of BothOperands t)) r3 g4 g4.kind.none g4.kind.draft in
+    let i4 : c.store_second.new.seat.me.0.by ≡ by = c.store_second.ensures.same.1 ∙ i3 in
     r4.may
 
 pub let_tenant-requires-clause-station : goal.let_tenant-requires-clause-station
@@ -185,7 +200,7 @@ let_tenant-requires-clause-station c =
     let P = key.program in
     let C = sizes_of key in
     let s = c.args.seat.now in
-    let by = s.id in
+    let by = s.me.0.by in
     let t = c.args.tenant in
     let old = s.me.0.seen in
     let st = next_station C (recent (unit_of P C old)) in
@@ -194,19 +209,19 @@ let_tenant-requires-clause-station c =
     let g1 = c.look-found.ensures.step.grows in
     let m1 : Me ℕ View = c.look-found.new.seat.me in
     let r1 : Ready P C by t old Nothing st tg m1 = goes_from P C by t old by refl Nothing Nothing st tg s.me m1 (Sees P C by s.me.0 (Station c.args.station) c.look-found.result) r0 g1 g1.kind.none (g1.kind.mine c.requires.front.by_is ∙ c.requires.front.draft_is) in
-    let i1 : c.look-found.new.seat.id ≡ by = c.look-found.ensures.same.1 in
+    let i1 : c.look-found.new.seat.me.0.by ≡ by = c.look-found.ensures.same.1 in
     let g2 = c.store_info.ensures.step.grows in
     let m2 : Me ℕ View = c.store_info.new.seat.me in
-    let r2 : Ready P C by t old (draft_of InfoAlone t) st tg m2 = goes_from P C by t old c.look-found.new.seat.id i1 (Nothing) (draft_of InfoAlone t) st tg m1 m2 (Drafts P C (draft_of InfoAlone t)) r1 g2 g2.kind.none g2.kind.draft in
-    let i2 : c.store_info.new.seat.id ≡ by = c.store_info.ensures.same.1 ∙ i1 in
+    let r2 : Ready P C by t old (draft_of InfoAlone t) st tg m2 = goes_from P C by t old c.look-found.new.seat.me.0.by i1 (Nothing) (draft_of InfoAlone t) st tg m1 m2 (Drafts P C (draft_of InfoAlone t)) r1 g2 g2.kind.none g2.kind.draft in
+    let i2 : c.store_info.new.seat.me.0.by ≡ by = c.store_info.ensures.same.1 ∙ i1 in
     let g3 = c.store_first.ensures.step.grows in
     let m3 : Me ℕ View = c.store_first.new.seat.me in
-    let r3 : Ready P C by t old (draft_of FirstOperand t) st tg m3 = goes_from P C by t old c.store_info.new.seat.id i2 (draft_of InfoAlone t) (draft_of FirstOperand t) st tg m2 m3 (Drafts P C (draft_of FirstOperand t)) r2 g3 g3.kind.none g3.kind.draft in
-    let i3 : c.store_first.new.seat.id ≡ by = c.store_first.ensures.same.1 ∙ i2 in
+    let r3 : Ready P C by t old (draft_of FirstOperand t) st tg m3 = goes_from P C by t old c.store_info.new.seat.me.0.by i2 (draft_of InfoAlone t) (draft_of FirstOperand t) st tg m2 m3 (Drafts P C (draft_of FirstOperand t)) r2 g3 g3.kind.none g3.kind.draft in
+    let i3 : c.store_first.new.seat.me.0.by ≡ by = c.store_first.ensures.same.1 ∙ i2 in
     let g4 = c.store_second.ensures.step.grows in
     let m4 : Me ℕ View = c.store_second.new.seat.me in
-    let r4 : Ready P C by t old (draft_of BothOperands t) st tg m4 = goes_from P C by t old c.store_first.new.seat.id i3 (draft_of FirstOperand t) (draft_of BothOperands t) st tg m3 m4 (Drafts P C (draft_of BothOperands t)) r3 g4 g4.kind.none g4.kind.draft in
-    let i4 : c.store_second.new.seat.id ≡ by = c.store_second.ensures.same.1 ∙ i3 in
+    let r4 : Ready P C by t old (draft_of BothOperands t) st tg m4 = goes_from P C by t old c.store_first.new.seat.me.0.by i3 (draft_of FirstOperand t) (draft_of BothOperands t) st tg m3 m4 (Drafts P C (draft_of BothOperands t)) r3 g4 g4.kind.none g4.kind.draft in
+    let i4 : c.store_second.new.seat.me.0.by ≡ by = c.store_second.ensures.same.1 ∙ i3 in
     r4.station_is ∙ c.requires.station
 
 pub store_first-requires-clause-word : goal.store_first-requires-clause-word
@@ -215,7 +230,7 @@ store_first-requires-clause-word c =
     let P = key.program in
     let C = sizes_of key in
     let s = c.args.seat.now in
-    let by = s.id in
+    let by = s.me.0.by in
     let t = c.args.tenant in
     let old = s.me.0.seen in
     let st = next_station C (recent (unit_of P C old)) in
@@ -224,14 +239,14 @@ store_first-requires-clause-word c =
     let g1 = c.look-found.ensures.step.grows in
     let m1 : Me ℕ View = c.look-found.new.seat.me in
     let r1 : Ready P C by t old Nothing st tg m1 = goes_from P C by t old by refl Nothing Nothing st tg s.me m1 (Sees P C by s.me.0 (Station c.args.station) c.look-found.result) r0 g1 g1.kind.none (g1.kind.mine c.requires.front.by_is ∙ c.requires.front.draft_is) in
-    let i1 : c.look-found.new.seat.id ≡ by = c.look-found.ensures.same.1 in
+    let i1 : c.look-found.new.seat.me.0.by ≡ by = c.look-found.ensures.same.1 in
     let seen1 : m1.0.seen ≡ g1.between ++ old = g1.is ∙ ap (λ es. map (entry by) es ++ (g1.between ++ old)) g1.kind.none in
     let word : IsStation (station_word C (recent (unit_of P C m1.0.seen)) st) c.look-found.result = subst (λ (z : List Entry × ℕ). IsStation (station_word C (recent (unit_of P C z.0)) z.1) c.look-found.result) (λ i. (sym seen1 i, sym c.requires.station i)) g1.kind.content in
     let tag_is : c.tag_in-tag.result ≡ tg = c.tag_in-tag.ensures.value ∙ tag_found P C by t old Nothing st tg c.look-found.result m1 r1 word in
     let g2 = c.store_info.ensures.step.grows in
     let m2 : Me ℕ View = c.store_info.new.seat.me in
-    let r2 : Ready P C by t old (draft_of InfoAlone t) st tg m2 = goes_from P C by t old c.look-found.new.seat.id i1 (Nothing) (draft_of InfoAlone t) st tg m1 m2 (Drafts P C (draft_of InfoAlone t)) r1 g2 g2.kind.none g2.kind.draft in
-    let i2 : c.store_info.new.seat.id ≡ by = c.store_info.ensures.same.1 ∙ i1 in
+    let r2 : Ready P C by t old (draft_of InfoAlone t) st tg m2 = goes_from P C by t old c.look-found.new.seat.me.0.by i1 (Nothing) (draft_of InfoAlone t) st tg m1 m2 (Drafts P C (draft_of InfoAlone t)) r1 g2 g2.kind.none g2.kind.draft in
+    let i2 : c.store_info.new.seat.me.0.by ≡ by = c.store_info.ensures.same.1 ∙ i1 in
     subst (λ z. IsOperandOf (record { tag = z; value = given_value t.sources.0 }) c.operand_word-first.result) (tag_is ∙ sym r2.tag_is) c.operand_word-first.ensures
 
 pub store_second-requires-clause-word : goal.store_second-requires-clause-word
@@ -240,7 +255,7 @@ store_second-requires-clause-word c =
     let P = key.program in
     let C = sizes_of key in
     let s = c.args.seat.now in
-    let by = s.id in
+    let by = s.me.0.by in
     let t = c.args.tenant in
     let old = s.me.0.seen in
     let st = next_station C (recent (unit_of P C old)) in
@@ -249,18 +264,18 @@ store_second-requires-clause-word c =
     let g1 = c.look-found.ensures.step.grows in
     let m1 : Me ℕ View = c.look-found.new.seat.me in
     let r1 : Ready P C by t old Nothing st tg m1 = goes_from P C by t old by refl Nothing Nothing st tg s.me m1 (Sees P C by s.me.0 (Station c.args.station) c.look-found.result) r0 g1 g1.kind.none (g1.kind.mine c.requires.front.by_is ∙ c.requires.front.draft_is) in
-    let i1 : c.look-found.new.seat.id ≡ by = c.look-found.ensures.same.1 in
+    let i1 : c.look-found.new.seat.me.0.by ≡ by = c.look-found.ensures.same.1 in
     let seen1 : m1.0.seen ≡ g1.between ++ old = g1.is ∙ ap (λ es. map (entry by) es ++ (g1.between ++ old)) g1.kind.none in
     let word : IsStation (station_word C (recent (unit_of P C m1.0.seen)) st) c.look-found.result = subst (λ (z : List Entry × ℕ). IsStation (station_word C (recent (unit_of P C z.0)) z.1) c.look-found.result) (λ i. (sym seen1 i, sym c.requires.station i)) g1.kind.content in
     let tag_is : c.tag_in-tag.result ≡ tg = c.tag_in-tag.ensures.value ∙ tag_found P C by t old Nothing st tg c.look-found.result m1 r1 word in
     let g2 = c.store_info.ensures.step.grows in
     let m2 : Me ℕ View = c.store_info.new.seat.me in
-    let r2 : Ready P C by t old (draft_of InfoAlone t) st tg m2 = goes_from P C by t old c.look-found.new.seat.id i1 (Nothing) (draft_of InfoAlone t) st tg m1 m2 (Drafts P C (draft_of InfoAlone t)) r1 g2 g2.kind.none g2.kind.draft in
-    let i2 : c.store_info.new.seat.id ≡ by = c.store_info.ensures.same.1 ∙ i1 in
+    let r2 : Ready P C by t old (draft_of InfoAlone t) st tg m2 = goes_from P C by t old c.look-found.new.seat.me.0.by i1 (Nothing) (draft_of InfoAlone t) st tg m1 m2 (Drafts P C (draft_of InfoAlone t)) r1 g2 g2.kind.none g2.kind.draft in
+    let i2 : c.store_info.new.seat.me.0.by ≡ by = c.store_info.ensures.same.1 ∙ i1 in
     let g3 = c.store_first.ensures.step.grows in
     let m3 : Me ℕ View = c.store_first.new.seat.me in
-    let r3 : Ready P C by t old (draft_of FirstOperand t) st tg m3 = goes_from P C by t old c.store_info.new.seat.id i2 (draft_of InfoAlone t) (draft_of FirstOperand t) st tg m2 m3 (Drafts P C (draft_of FirstOperand t)) r2 g3 g3.kind.none g3.kind.draft in
-    let i3 : c.store_first.new.seat.id ≡ by = c.store_first.ensures.same.1 ∙ i2 in
+    let r3 : Ready P C by t old (draft_of FirstOperand t) st tg m3 = goes_from P C by t old c.store_info.new.seat.me.0.by i2 (draft_of InfoAlone t) (draft_of FirstOperand t) st tg m2 m3 (Drafts P C (draft_of FirstOperand t)) r2 g3 g3.kind.none g3.kind.draft in
+    let i3 : c.store_first.new.seat.me.0.by ≡ by = c.store_first.ensures.same.1 ∙ i2 in
     subst (λ z. IsOperandOf (record { tag = z; value = given_value t.sources.1 }) c.operand_word-second.result) (tag_is ∙ sym r3.tag_is) c.operand_word-second.ensures
 
 pub let_tenant-requires-clause-word : goal.let_tenant-requires-clause-word
@@ -269,7 +284,7 @@ let_tenant-requires-clause-word c =
     let P = key.program in
     let C = sizes_of key in
     let s = c.args.seat.now in
-    let by = s.id in
+    let by = s.me.0.by in
     let t = c.args.tenant in
     let old = s.me.0.seen in
     let st = next_station C (recent (unit_of P C old)) in
@@ -278,22 +293,22 @@ let_tenant-requires-clause-word c =
     let g1 = c.look-found.ensures.step.grows in
     let m1 : Me ℕ View = c.look-found.new.seat.me in
     let r1 : Ready P C by t old Nothing st tg m1 = goes_from P C by t old by refl Nothing Nothing st tg s.me m1 (Sees P C by s.me.0 (Station c.args.station) c.look-found.result) r0 g1 g1.kind.none (g1.kind.mine c.requires.front.by_is ∙ c.requires.front.draft_is) in
-    let i1 : c.look-found.new.seat.id ≡ by = c.look-found.ensures.same.1 in
+    let i1 : c.look-found.new.seat.me.0.by ≡ by = c.look-found.ensures.same.1 in
     let seen1 : m1.0.seen ≡ g1.between ++ old = g1.is ∙ ap (λ es. map (entry by) es ++ (g1.between ++ old)) g1.kind.none in
     let word : IsStation (station_word C (recent (unit_of P C m1.0.seen)) st) c.look-found.result = subst (λ (z : List Entry × ℕ). IsStation (station_word C (recent (unit_of P C z.0)) z.1) c.look-found.result) (λ i. (sym seen1 i, sym c.requires.station i)) g1.kind.content in
     let tag_is : c.tag_in-tag.result ≡ tg = c.tag_in-tag.ensures.value ∙ tag_found P C by t old Nothing st tg c.look-found.result m1 r1 word in
     let g2 = c.store_info.ensures.step.grows in
     let m2 : Me ℕ View = c.store_info.new.seat.me in
-    let r2 : Ready P C by t old (draft_of InfoAlone t) st tg m2 = goes_from P C by t old c.look-found.new.seat.id i1 (Nothing) (draft_of InfoAlone t) st tg m1 m2 (Drafts P C (draft_of InfoAlone t)) r1 g2 g2.kind.none g2.kind.draft in
-    let i2 : c.store_info.new.seat.id ≡ by = c.store_info.ensures.same.1 ∙ i1 in
+    let r2 : Ready P C by t old (draft_of InfoAlone t) st tg m2 = goes_from P C by t old c.look-found.new.seat.me.0.by i1 (Nothing) (draft_of InfoAlone t) st tg m1 m2 (Drafts P C (draft_of InfoAlone t)) r1 g2 g2.kind.none g2.kind.draft in
+    let i2 : c.store_info.new.seat.me.0.by ≡ by = c.store_info.ensures.same.1 ∙ i1 in
     let g3 = c.store_first.ensures.step.grows in
     let m3 : Me ℕ View = c.store_first.new.seat.me in
-    let r3 : Ready P C by t old (draft_of FirstOperand t) st tg m3 = goes_from P C by t old c.store_info.new.seat.id i2 (draft_of InfoAlone t) (draft_of FirstOperand t) st tg m2 m3 (Drafts P C (draft_of FirstOperand t)) r2 g3 g3.kind.none g3.kind.draft in
-    let i3 : c.store_first.new.seat.id ≡ by = c.store_first.ensures.same.1 ∙ i2 in
+    let r3 : Ready P C by t old (draft_of FirstOperand t) st tg m3 = goes_from P C by t old c.store_info.new.seat.me.0.by i2 (draft_of InfoAlone t) (draft_of FirstOperand t) st tg m2 m3 (Drafts P C (draft_of FirstOperand t)) r2 g3 g3.kind.none g3.kind.draft in
+    let i3 : c.store_first.new.seat.me.0.by ≡ by = c.store_first.ensures.same.1 ∙ i2 in
     let g4 = c.store_second.ensures.step.grows in
     let m4 : Me ℕ View = c.store_second.new.seat.me in
-    let r4 : Ready P C by t old (draft_of BothOperands t) st tg m4 = goes_from P C by t old c.store_first.new.seat.id i3 (draft_of FirstOperand t) (draft_of BothOperands t) st tg m3 m4 (Drafts P C (draft_of BothOperands t)) r3 g4 g4.kind.none g4.kind.draft in
-    let i4 : c.store_second.new.seat.id ≡ by = c.store_second.ensures.same.1 ∙ i3 in
+    let r4 : Ready P C by t old (draft_of BothOperands t) st tg m4 = goes_from P C by t old c.store_first.new.seat.me.0.by i3 (draft_of FirstOperand t) (draft_of BothOperands t) st tg m3 m4 (Drafts P C (draft_of BothOperands t)) r3 g4 g4.kind.none g4.kind.draft in
+    let i4 : c.store_second.new.seat.me.0.by ≡ by = c.store_second.ensures.same.1 ∙ i3 in
     subst (λ z. IsStation (live_word z Open) c.open_word-open.result) (tag_is ∙ sym r4.tag_is) c.open_word-open.ensures
 
 pub returns-clause-tag : goal.returns-clause-tag
@@ -302,7 +317,7 @@ returns-clause-tag c =
     let P = key.program in
     let C = sizes_of key in
     let s = c.args.seat.now in
-    let by = s.id in
+    let by = s.me.0.by in
     let t = c.args.tenant in
     let old = s.me.0.seen in
     let st = next_station C (recent (unit_of P C old)) in
@@ -311,7 +326,7 @@ returns-clause-tag c =
     let g1 = c.look-found.ensures.step.grows in
     let m1 : Me ℕ View = c.look-found.new.seat.me in
     let r1 : Ready P C by t old Nothing st tg m1 = goes_from P C by t old by refl Nothing Nothing st tg s.me m1 (Sees P C by s.me.0 (Station c.args.station) c.look-found.result) r0 g1 g1.kind.none (g1.kind.mine c.requires.front.by_is ∙ c.requires.front.draft_is) in
-    let i1 : c.look-found.new.seat.id ≡ by = c.look-found.ensures.same.1 in
+    let i1 : c.look-found.new.seat.me.0.by ≡ by = c.look-found.ensures.same.1 in
     let seen1 : m1.0.seen ≡ g1.between ++ old = g1.is ∙ ap (λ es. map (entry by) es ++ (g1.between ++ old)) g1.kind.none in
     let word : IsStation (station_word C (recent (unit_of P C m1.0.seen)) st) c.look-found.result = subst (λ (z : List Entry × ℕ). IsStation (station_word C (recent (unit_of P C z.0)) z.1) c.look-found.result) (λ i. (sym seen1 i, sym c.requires.station i)) g1.kind.content in
     let tag_is : c.tag_in-tag.result ≡ tg = c.tag_in-tag.ensures.value ∙ tag_found P C by t old Nothing st tg c.look-found.result m1 r1 word in
@@ -323,7 +338,7 @@ returns-clause-out c =
     let P = key.program in
     let C = sizes_of key in
     let s = c.args.seat.now in
-    let by = s.id in
+    let by = s.me.0.by in
     let t = c.args.tenant in
     let old = s.me.0.seen in
     let st = next_station C (recent (unit_of P C old)) in
@@ -332,17 +347,17 @@ returns-clause-out c =
     let g1 = c.look-found.ensures.step.grows in
     let m1 : Me ℕ View = c.look-found.new.seat.me in
     let r1 : Ready P C by t old Nothing st tg m1 = goes_from P C by t old by refl Nothing Nothing st tg s.me m1 (Sees P C by s.me.0 (Station c.args.station) c.look-found.result) r0 g1 g1.kind.none (g1.kind.mine c.requires.front.by_is ∙ c.requires.front.draft_is) in
-    let i1 : c.look-found.new.seat.id ≡ by = c.look-found.ensures.same.1 in
+    let i1 : c.look-found.new.seat.me.0.by ≡ by = c.look-found.ensures.same.1 in
     let g2 = c.store_info.ensures.step.grows in
     let m2 : Me ℕ View = c.store_info.new.seat.me in
-    let r2 : Ready P C by t old (draft_of InfoAlone t) st tg m2 = goes_from P C by t old c.look-found.new.seat.id i1 (Nothing) (draft_of InfoAlone t) st tg m1 m2 (Drafts P C (draft_of InfoAlone t)) r1 g2 g2.kind.none g2.kind.draft in
-    let i2 : c.store_info.new.seat.id ≡ by = c.store_info.ensures.same.1 ∙ i1 in
+    let r2 : Ready P C by t old (draft_of InfoAlone t) st tg m2 = goes_from P C by t old c.look-found.new.seat.me.0.by i1 (Nothing) (draft_of InfoAlone t) st tg m1 m2 (Drafts P C (draft_of InfoAlone t)) r1 g2 g2.kind.none g2.kind.draft in
+    let i2 : c.store_info.new.seat.me.0.by ≡ by = c.store_info.ensures.same.1 ∙ i1 in
     let g3 = c.store_first.ensures.step.grows in
     let m3 : Me ℕ View = c.store_first.new.seat.me in
-    let r3 : Ready P C by t old (draft_of FirstOperand t) st tg m3 = goes_from P C by t old c.store_info.new.seat.id i2 (draft_of InfoAlone t) (draft_of FirstOperand t) st tg m2 m3 (Drafts P C (draft_of FirstOperand t)) r2 g3 g3.kind.none g3.kind.draft in
-    let i3 : c.store_first.new.seat.id ≡ by = c.store_first.ensures.same.1 ∙ i2 in
+    let r3 : Ready P C by t old (draft_of FirstOperand t) st tg m3 = goes_from P C by t old c.store_info.new.seat.me.0.by i2 (draft_of InfoAlone t) (draft_of FirstOperand t) st tg m2 m3 (Drafts P C (draft_of FirstOperand t)) r2 g3 g3.kind.none g3.kind.draft in
+    let i3 : c.store_first.new.seat.me.0.by ≡ by = c.store_first.ensures.same.1 ∙ i2 in
     let g4 = c.store_second.ensures.step.grows in
     let m4 : Me ℕ View = c.store_second.new.seat.me in
-    let r4 : Ready P C by t old (draft_of BothOperands t) st tg m4 = goes_from P C by t old c.store_first.new.seat.id i3 (draft_of FirstOperand t) (draft_of BothOperands t) st tg m3 m4 (Drafts P C (draft_of BothOperands t)) r3 g4 g4.kind.none g4.kind.draft in
-    let i4 : c.store_second.new.seat.id ≡ by = c.store_second.ensures.same.1 ∙ i3 in
+    let r4 : Ready P C by t old (draft_of BothOperands t) st tg m4 = goes_from P C by t old c.store_first.new.seat.me.0.by i3 (draft_of FirstOperand t) (draft_of BothOperands t) st tg m3 m4 (Drafts P C (draft_of BothOperands t)) r3 g4 g4.kind.none g4.kind.draft in
+    let i4 : c.store_second.new.seat.me.0.by ≡ by = c.store_second.ensures.same.1 ∙ i3 in
     lets_out P C by t old (draft_of BothOperands t) tg m4 c.let_tenant.new.seat.me r4 (subst (λ i. Grows P C i m4.0 c.let_tenant.new.seat.me.0 (Lets P C t.index t.predicted (supply_of t.sources.0) (supply_of t.sources.1))) i4 c.let_tenant.ensures.step.grows)

@@ -20,7 +20,7 @@ mend_tenant-requires-clause-miss c =
     let P = key.program in
     let C = sizes_of key in
     let s = c.args.seat.now in
-    let by = s.id in
+    let by = s.me.0.by in
     let old : List Entry = s.me.0.seen in
     let g1 = c.look-found.ensures.step.grows in
     let m1 : Me ℕ View = c.look-found.new.seat.me in
@@ -43,11 +43,11 @@ returns-clause-mended c =
     let P = key.program in
     let C = sizes_of key in
     let s = c.args.seat.now in
-    let by = s.id in
+    let by = s.me.0.by in
     let old : List Entry = s.me.0.seen in
     let g1 = c.look-found.ensures.step.grows in
     let m1 : Me ℕ View = c.look-found.new.seat.me in
-    mended_out P C by c.args.station s.me.0 m1.0 c.mend_tenant.new.seat.me.0 (Sees P C by s.me.0 (Station c.args.station) c.look-found.result) g1 g1.kind.none (subst (λ i. Grows P C i m1.0 c.mend_tenant.new.seat.me.0 (Mends P C c.args.station)) c.look-found.ensures.same.1 c.mend_tenant.ensures.step.grows)
+    mended_out P C by c.args.station s.me.0 m1.0 c.mend_tenant.new.seat.me.0 (Sees P C by s.me.0 (Station c.args.station) c.look-found.result) g1 g1.kind.none (subst (λ i. Grows P C i m1.0 c.mend_tenant.new.seat.me.0 (Mends P C c.args.station)) c.look-found.ensures.same.1 c.mend_tenant.ensures.step.grows) c.requires.front.by_is c.requires.miss
 
 pub returns-clause-next : goal.returns-clause-next
 returns-clause-next c =
@@ -55,7 +55,7 @@ returns-clause-next c =
     let P = key.program in
     let C = sizes_of key in
     let s = c.args.seat.now in
-    let by = s.id in
+    let by = s.me.0.by in
     let old : List Entry = s.me.0.seen in
     let g1 = c.look-found.ensures.step.grows in
     let m1 : Me ℕ View = c.look-found.new.seat.me in

@@ -11,10 +11,10 @@ pub returns-clause-reply : goal.returns-clause-reply
 returns-clause-reply c =
     let key = c.args.words.now.key in
     let s = c.args.seat.now in
-    retired_out key.program (sizes_of key) s.id c.args.leaving s.me.0 c.retire_tenant.new.seat.me.0 c.retire_tenant.ensures.step.grows
+    retired_out key.program (sizes_of key) s.me.0.by c.args.leaving s.me.0 c.retire_tenant.new.seat.me.0 c.retire_tenant.ensures.step.grows
 
 pub returns-clause-head : goal.returns-clause-head
 returns-clause-head c =
     let key = c.args.words.now.key in
     let s = c.args.seat.now in
-    head_next key.program (sizes_of key) s.id c.args.leaving s.me.0 c.retire_tenant.new.seat.me.0 c.retire_tenant.ensures.step.grows
+    head_next key.program (sizes_of key) s.me.0.by c.args.leaving s.me.0 c.retire_tenant.new.seat.me.0 c.retire_tenant.ensures.step.grows

@@ -13,12 +13,12 @@ retire_access-requires-clause-access c =
     let P = key.program in
     let C = sizes_of key in
     let s = c.args.seat.now in
-    let by = s.id in
+    let by = s.me.0.by in
     let m1 : Me ℕ View = c.read_info-info.new.seat.me in
     let n = c.read_info-info.result in
     let g = c.read_info-info.ensures.step.grows in
     let addr : c.args.found.state ≡ Addr = search rules in
-    end_access P C by s.me.0 m1.0 c.args.station n g c.requires.back c.args.found c.requires.end c.index_in-index.result c.index_in-index.ensures addr
+    end_access P C by s.me.0 m1.0 c.args.station n g c.requires.back c.args.found c.requires.end c.unpack-half.result.index c.unpack-half.result.half c.unpack-half.ensures.index c.unpack-half.ensures.half addr
 
 pub returns-then-eq-clause-reply : goal.returns-then-eq-clause-reply
 returns-then-eq-clause-reply c =
@@ -26,7 +26,7 @@ returns-then-eq-clause-reply c =
     let P = key.program in
     let C = sizes_of key in
     let s = c.args.seat.now in
-    let by = s.id in
+    let by = s.me.0.by in
     let m1 : Me ℕ View = c.read_info-info.new.seat.me in
     let n = c.read_info-info.result in
     let g = c.read_info-info.ensures.step.grows in
@@ -39,12 +39,12 @@ leave-requires-clause-may c =
     let P = key.program in
     let C = sizes_of key in
     let s = c.args.seat.now in
-    let by = s.id in
+    let by = s.me.0.by in
     let m1 : Me ℕ View = c.read_info-info.new.seat.me in
     let n = c.read_info-info.result in
     let g = c.read_info-info.ensures.step.grows in
     let ne : c.args.found.state ≢ Addr = search rules in
-    end_leaves P C by s.me.0 m1.0 c.args.station n g c.requires.back c.args.found c.requires.end c.index_in-index.result c.index_in-index.ensures ne c.last_of-last.result c.last_of-last.ensures
+    end_leaves P C by s.me.0 m1.0 c.args.station n g c.requires.back c.args.found c.requires.end c.unpack-half.result.index c.unpack-half.result.half c.unpack-half.ensures.index c.unpack-half.ensures.half ne c.last_of-last.result c.last_of-last.ensures
 
 pub returns-clause-reply : goal.returns-clause-reply
 returns-clause-reply c =
@@ -52,7 +52,7 @@ returns-clause-reply c =
     let P = key.program in
     let C = sizes_of key in
     let s = c.args.seat.now in
-    let by = s.id in
+    let by = s.me.0.by in
     let m1 : Me ℕ View = c.read_info-info.new.seat.me in
     let n = c.read_info-info.result in
     let g = c.read_info-info.ensures.step.grows in

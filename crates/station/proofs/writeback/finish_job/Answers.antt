@@ -16,8 +16,8 @@ busy_word-old-requires c =
     let P = key.program in
     let s = c.args.seat.now in
     let job = c.args.job in
-    let held = job_held P (sizes_of key) s.id s.me.0.seen job c.args.outcome c.requires.job c.requires.outcome in
-    let small = tag_small P (sizes_of key) s.me.0.seen c.requires.legal held.p job.station job.tag (HasJob P s.id job.predicted c.args.outcome) held.named in
+    let held = job_held P (sizes_of key) s.me.0.by s.me.0.seen job c.args.outcome c.requires.job c.requires.outcome in
+    let small = tag_small P (sizes_of key) s.me.0.seen c.requires.legal held.p job.station job.tag (HasJob P s.me.0.by job.predicted c.args.outcome) held.named in
     omega arith
 
 pub outcome_word-new-requires : goal.outcome_word-new-requires
@@ -26,8 +26,8 @@ outcome_word-new-requires c =
     let P = key.program in
     let s = c.args.seat.now in
     let job = c.args.job in
-    let held = job_held P (sizes_of key) s.id s.me.0.seen job c.args.outcome c.requires.job c.requires.outcome in
-    let small = tag_small P (sizes_of key) s.me.0.seen c.requires.legal held.p job.station job.tag (HasJob P s.id job.predicted c.args.outcome) held.named in
+    let held = job_held P (sizes_of key) s.me.0.by s.me.0.seen job c.args.outcome c.requires.job c.requires.outcome in
+    let small = tag_small P (sizes_of key) s.me.0.seen c.requires.legal held.p job.station job.tag (HasJob P s.me.0.by job.predicted c.args.outcome) held.named in
     omega arith
 
 pub finish_tenant-found-requires-clause-place : goal.finish_tenant-found-requires-clause-place
@@ -36,17 +36,17 @@ finish_tenant-found-requires-clause-place c =
     let P = key.program in
     let s = c.args.seat.now in
     let job = c.args.job in
-    let held = job_held P (sizes_of key) s.id s.me.0.seen job c.args.outcome c.requires.job c.requires.outcome in
-    subst (λ r. job.station < r) (sym c.requires.of.ring_is) (station_inside P (sizes_of key) s.me.0.seen c.requires.legal held.p job.station job.tag (HasJob P s.id job.predicted c.args.outcome) held.named)
+    let held = job_held P (sizes_of key) s.me.0.by s.me.0.seen job c.args.outcome c.requires.job c.requires.outcome in
+    subst (λ r. job.station < r) (sym c.requires.of.ring_is) (station_inside P (sizes_of key) s.me.0.seen c.requires.legal held.p job.station job.tag (HasJob P s.me.0.by job.predicted c.args.outcome) held.named)
 
 pub finish_tenant-found-requires-clause-old : goal.finish_tenant-found-requires-clause-old
 finish_tenant-found-requires-clause-old c =
-    let is = c.busy_word-old.ensures c.args.seat.now.id in
+    let is = c.busy_word-old.ensures c.args.seat.now.me.0.by in
     record { tag = refl; state = is.state; value = is.value }
 
 pub finish_tenant-found-requires-clause-new : goal.finish_tenant-found-requires-clause-new
 finish_tenant-found-requires-clause-new c =
-    let tag : tag_of c.busy_word-old.result ≡ c.args.job.tag = (c.busy_word-old.ensures c.args.seat.now.id).tag in
+    let tag : tag_of c.busy_word-old.result ≡ c.args.job.tag = (c.busy_word-old.ensures c.args.seat.now.me.0.by).tag in
     subst (λ g. IsStation (live_word g (fate_of c.args.job.predicted c.args.outcome)) c.outcome_word-new.result) (sym tag) c.outcome_word-new.ensures
 
 pub finish_tenant-found-requires-clause-job : goal.finish_tenant-found-requires-clause-job
@@ -55,9 +55,9 @@ finish_tenant-found-requires-clause-job c =
     let P = key.program in
     let s = c.args.seat.now in
     let job = c.args.job in
-    let tag : tag_of c.busy_word-old.result ≡ job.tag = (c.busy_word-old.ensures s.id).tag in
-    subst (λ g. HasTenant P (sizes_of key) s.me.0.seen job.station g (HasJob P s.id job.predicted c.args.outcome)) (sym tag)
-    (job_held P (sizes_of key) s.id s.me.0.seen job c.args.outcome c.requires.job c.requires.outcome)
+    let tag : tag_of c.busy_word-old.result ≡ job.tag = (c.busy_word-old.ensures s.me.0.by).tag in
+    subst (λ g. HasTenant P (sizes_of key) s.me.0.seen job.station g (HasJob P s.me.0.by job.predicted c.args.outcome)) (sym tag)
+    (job_held P (sizes_of key) s.me.0.by s.me.0.seen job c.args.outcome c.requires.job c.requires.outcome)
 
 pub returns-then-found-old-clause-reply : goal.returns-then-found-old-clause-reply
 returns-then-found-old-clause-reply c =
@@ -69,8 +69,8 @@ returns-then-found-old-clause-reply c =
     let old = c.busy_word-old.result in
     let n = c.finish_tenant-found.result in
     let w = c.finish_tenant-found.new.seat.me.0 in
-    let step = subst (λ g. Grows P C s.id s.me.0 w (Finishes P C job.station g c.args.outcome old n)) (c.busy_word-old.ensures s.id).tag c.finish_tenant-found.ensures.step.grows in
-    finish_stale P C s.id job.station job.tag old n c.args.outcome s.me.0 w step c.if-found-old.true
+    let step = subst (λ g. Grows P C s.me.0.by s.me.0 w (Finishes P C job.station g c.args.outcome old n)) (c.busy_word-old.ensures s.me.0.by).tag c.finish_tenant-found.ensures.step.grows in
+    finish_stale P C s.me.0.by job.station job.tag old n c.args.outcome s.me.0 w step c.if-found-old.true
 
 pub carry-requires-clause-from : goal.carry-requires-clause-from
 carry-requires-clause-from c =
@@ -78,8 +78,8 @@ carry-requires-clause-from c =
     let P = key.program in
     let s = c.args.seat.now in
     let job = c.args.job in
-    let held = job_held P (sizes_of key) s.id s.me.0.seen job c.args.outcome c.requires.job c.requires.outcome in
-    subst (λ r. job.station < r) (sym c.requires.of.ring_is) (station_inside P (sizes_of key) s.me.0.seen c.requires.legal held.p job.station job.tag (HasJob P s.id job.predicted c.args.outcome) held.named)
+    let held = job_held P (sizes_of key) s.me.0.by s.me.0.seen job c.args.outcome c.requires.job c.requires.outcome in
+    subst (λ r. job.station < r) (sym c.requires.of.ring_is) (station_inside P (sizes_of key) s.me.0.seen c.requires.legal held.p job.station job.tag (HasJob P s.me.0.by job.predicted c.args.outcome) held.named)
 
 pub carry-requires-clause-made : goal.carry-requires-clause-made
 carry-requires-clause-made c =
@@ -91,8 +91,8 @@ carry-requires-clause-made c =
     let old = c.busy_word-old.result in
     let n = c.finish_tenant-found.result in
     let w = c.finish_tenant-found.new.seat.me.0 in
-    let step = subst (λ g. Grows P C s.id s.me.0 w (Finishes P C job.station g c.args.outcome old n)) (c.busy_word-old.ensures s.id).tag c.finish_tenant-found.ensures.step.grows in
-    finish_made P C s.id job.station job.tag old n c.args.outcome s.me.0 w step c.if-found-old.false
+    let step = subst (λ g. Grows P C s.me.0.by s.me.0 w (Finishes P C job.station g c.args.outcome old n)) (c.busy_word-old.ensures s.me.0.by).tag c.finish_tenant-found.ensures.step.grows in
+    finish_made P C s.me.0.by job.station job.tag old n c.args.outcome s.me.0 w step c.if-found-old.false
 
 pub returns-clause-legal : goal.returns-clause-legal
 returns-clause-legal c =
@@ -104,9 +104,9 @@ returns-clause-legal c =
     let old = c.busy_word-old.result in
     let n = c.finish_tenant-found.result in
     let w = c.finish_tenant-found.new.seat.me.0 in
-    let step = subst (λ g. Grows P C s.id s.me.0 w (Finishes P C job.station g c.args.outcome old n)) (c.busy_word-old.ensures s.id).tag c.finish_tenant-found.ensures.step.grows in
-    let out = finish_out P C s.id job.station job.tag old n c.args.outcome s.me.0 w step c.if-found-old.false in
-    carried_legal P C s.id c.finish_tenant-found.new.seat.id job.station job.tag Finish c.args.outcome s.me.0.seen w.seen c.carry.new.seat.me.0.seen out c.carry.ensures.carried
+    let step = subst (λ g. Grows P C s.me.0.by s.me.0 w (Finishes P C job.station g c.args.outcome old n)) (c.busy_word-old.ensures s.me.0.by).tag c.finish_tenant-found.ensures.step.grows in
+    let out = finish_out P C s.me.0.by job.station job.tag old n c.args.outcome s.me.0 w step c.if-found-old.false in
+    carried_legal P C s.me.0.by c.finish_tenant-found.new.seat.me.0.by job.station job.tag Finish c.args.outcome s.me.0.seen w.seen c.carry.new.seat.me.0.seen out c.carry.ensures.carried
 
 pub returns-clause-reply : goal.returns-clause-reply
 returns-clause-reply c =
@@ -118,6 +118,6 @@ returns-clause-reply c =
     let old = c.busy_word-old.result in
     let n = c.finish_tenant-found.result in
     let w = c.finish_tenant-found.new.seat.me.0 in
-    let step = subst (λ g. Grows P C s.id s.me.0 w (Finishes P C job.station g c.args.outcome old n)) (c.busy_word-old.ensures s.id).tag c.finish_tenant-found.ensures.step.grows in
-    let out = finish_out P C s.id job.station job.tag old n c.args.outcome s.me.0 w step c.if-found-old.false in
-    finish_all P C s.id c.finish_tenant-found.new.seat.id job.station job.tag c.args.outcome _ s.me.0.seen w.seen c.carry.new.seat.me.0.seen c.requires.outcome c.finish_tenant-found.ensures.same.1 out c.carry.ensures.carried
+    let step = subst (λ g. Grows P C s.me.0.by s.me.0 w (Finishes P C job.station g c.args.outcome old n)) (c.busy_word-old.ensures s.me.0.by).tag c.finish_tenant-found.ensures.step.grows in
+    let out = finish_out P C s.me.0.by job.station job.tag old n c.args.outcome s.me.0 w step c.if-found-old.false in
+    finish_all P C s.me.0.by c.finish_tenant-found.new.seat.me.0.by job.station job.tag c.args.outcome _ s.me.0.seen w.seen c.carry.new.seat.me.0.seen c.requires.outcome c.finish_tenant-found.ensures.same.1 out c.carry.ensures.carried

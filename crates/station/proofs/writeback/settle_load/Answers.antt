@@ -25,7 +25,7 @@ settle_tenant-found-requires-clause-load c =
     let C = sizes_of key in
     let s = c.args.seat.now in
     let v1 = c.look-seen.new.seat.me.0 in
-    let can = can_settle P C s.id c.args.station c.args.tag c.args.value c.look-seen.result s.me.0 v1 c.requires.role c.requires.may c.look-seen.ensures.step.grows in
+    let can = can_settle P C s.me.0.by c.args.station c.args.tag c.args.value c.look-seen.result s.me.0 v1 c.requires.role c.requires.may c.look-seen.ensures.step.grows in
     let old = c.address_word-old in
     let address : value_of old.result ≡ value_of c.look-seen.result = old.ensures.value ∙ c.value_in-address.ensures in
     subst (λ (z : ℕ × (ℕ × ℕ)). CanSettle P C v1.seen c.args.station z.0 z.1.0 z.1.1) (λ i. (sym old.ensures.tag i, (sym address i, sym c.done_word-new.ensures.value i))) can
@@ -41,13 +41,13 @@ returns-then-found-old-clause-reply c =
     let w = c.settle_tenant-found.new.seat.me.0 in
     let old = c.address_word-old.result in
     let n = c.settle_tenant-found.result in
-    let can = can_settle P C s.id c.args.station c.args.tag c.args.value c.look-seen.result s.me.0 v1 c.requires.role c.requires.may e1 in
-    let seen = adds_these P C s.id s.me.0 v1 (Sees P C s.id s.me.0 (Station c.args.station) c.look-seen.result) [] e1 e1.kind.none in
+    let can = can_settle P C s.me.0.by c.args.station c.args.tag c.args.value c.look-seen.result s.me.0 v1 c.requires.role c.requires.may e1 in
+    let seen = adds_these P C s.me.0.by s.me.0 v1 (Sees P C s.me.0.by s.me.0 (Station c.args.station) c.look-seen.result) [] e1 e1.kind.none in
     let step = subst (λ (z : ℕ × ℕ). Grows P C z.0 v1 w (Settles P C c.args.station z.1 old n)) (λ i. (c.look-seen.ensures.same.1 i, c.address_word-old.ensures.tag i)) c.settle_tenant-found.ensures.step.grows in
     let role : v1.role ≡ Back = e1.role ∙ c.requires.role in
-    let caller : IsCaller v1.role s.id = subst (λ r. IsCaller r s.id) (sym e1.role) e1.kind.caller in
-    stale_after P C s.id c.args.station c.args.tag s.me.0.seen v1.seen w.seen seen
-    (settle_stale P C s.id c.args.station c.args.tag (value_of c.look-seen.result) c.args.value old n v1 w role caller can step c.if-found-old.true)
+    let caller : IsCaller v1.role s.me.0.by = subst (λ r. IsCaller r s.me.0.by) (sym e1.role) e1.kind.caller in
+    stale_after P C s.me.0.by c.args.station c.args.tag s.me.0.seen v1.seen w.seen seen
+    (settle_stale P C s.me.0.by c.args.station c.args.tag (value_of c.look-seen.result) c.args.value old n v1 w role caller can step c.if-found-old.true)
 
 pub walk-requires-clause-made : goal.walk-requires-clause-made
 walk-requires-clause-made c =
@@ -60,11 +60,11 @@ walk-requires-clause-made c =
     let w = c.settle_tenant-found.new.seat.me.0 in
     let old = c.address_word-old.result in
     let n = c.settle_tenant-found.result in
-    let can = can_settle P C s.id c.args.station c.args.tag c.args.value c.look-seen.result s.me.0 v1 c.requires.role c.requires.may e1 in
+    let can = can_settle P C s.me.0.by c.args.station c.args.tag c.args.value c.look-seen.result s.me.0 v1 c.requires.role c.requires.may e1 in
     let step = subst (λ (z : ℕ × ℕ). Grows P C z.0 v1 w (Settles P C c.args.station z.1 old n)) (λ i. (c.look-seen.ensures.same.1 i, c.address_word-old.ensures.tag i)) c.settle_tenant-found.ensures.step.grows in
     let role : v1.role ≡ Back = e1.role ∙ c.requires.role in
-    let caller : IsCaller v1.role s.id = subst (λ r. IsCaller r s.id) (sym e1.role) e1.kind.caller in
-    settle_made P C s.id c.args.station c.args.tag (value_of c.look-seen.result) c.args.value old n v1 w role caller can step c.if-found-old.false
+    let caller : IsCaller v1.role s.me.0.by = subst (λ r. IsCaller r s.me.0.by) (sym e1.role) e1.kind.caller in
+    settle_made P C s.me.0.by c.args.station c.args.tag (value_of c.look-seen.result) c.args.value old n v1 w role caller can step c.if-found-old.false
 
 pub returns-clause-legal : goal.returns-clause-legal
 returns-clause-legal c =
@@ -77,12 +77,12 @@ returns-clause-legal c =
     let w = c.settle_tenant-found.new.seat.me.0 in
     let old = c.address_word-old.result in
     let n = c.settle_tenant-found.result in
-    let can = can_settle P C s.id c.args.station c.args.tag c.args.value c.look-seen.result s.me.0 v1 c.requires.role c.requires.may e1 in
+    let can = can_settle P C s.me.0.by c.args.station c.args.tag c.args.value c.look-seen.result s.me.0 v1 c.requires.role c.requires.may e1 in
     let step = subst (λ (z : ℕ × ℕ). Grows P C z.0 v1 w (Settles P C c.args.station z.1 old n)) (λ i. (c.look-seen.ensures.same.1 i, c.address_word-old.ensures.tag i)) c.settle_tenant-found.ensures.step.grows in
     let role : v1.role ≡ Back = e1.role ∙ c.requires.role in
-    let caller : IsCaller v1.role s.id = subst (λ r. IsCaller r s.id) (sym e1.role) e1.kind.caller in
-    let out = settle_out P C s.id c.args.station c.args.tag (value_of c.look-seen.result) c.args.value old n v1 w role caller can step c.if-found-old.false in
-    walked_legal P C s.id c.settle_tenant-found.new.seat.id c.args.station c.args.tag Load v1.seen w.seen c.walk.new.seat.me.0.seen out c.walk.ensures.walked
+    let caller : IsCaller v1.role s.me.0.by = subst (λ r. IsCaller r s.me.0.by) (sym e1.role) e1.kind.caller in
+    let out = settle_out P C s.me.0.by c.args.station c.args.tag (value_of c.look-seen.result) c.args.value old n v1 w role caller can step c.if-found-old.false in
+    walked_legal P C s.me.0.by c.settle_tenant-found.new.seat.me.0.by c.args.station c.args.tag Load v1.seen w.seen c.walk.new.seat.me.0.seen out c.walk.ensures.walked
 
 pub returns-clause-reply : goal.returns-clause-reply
 returns-clause-reply c =
@@ -95,11 +95,11 @@ returns-clause-reply c =
     let w = c.settle_tenant-found.new.seat.me.0 in
     let old = c.address_word-old.result in
     let n = c.settle_tenant-found.result in
-    let can = can_settle P C s.id c.args.station c.args.tag c.args.value c.look-seen.result s.me.0 v1 c.requires.role c.requires.may e1 in
-    let seen = adds_these P C s.id s.me.0 v1 (Sees P C s.id s.me.0 (Station c.args.station) c.look-seen.result) [] e1 e1.kind.none in
+    let can = can_settle P C s.me.0.by c.args.station c.args.tag c.args.value c.look-seen.result s.me.0 v1 c.requires.role c.requires.may e1 in
+    let seen = adds_these P C s.me.0.by s.me.0 v1 (Sees P C s.me.0.by s.me.0 (Station c.args.station) c.look-seen.result) [] e1 e1.kind.none in
     let step = subst (λ (z : ℕ × ℕ). Grows P C z.0 v1 w (Settles P C c.args.station z.1 old n)) (λ i. (c.look-seen.ensures.same.1 i, c.address_word-old.ensures.tag i)) c.settle_tenant-found.ensures.step.grows in
     let role : v1.role ≡ Back = e1.role ∙ c.requires.role in
-    let caller : IsCaller v1.role s.id = subst (λ r. IsCaller r s.id) (sym e1.role) e1.kind.caller in
-    let out = settle_out P C s.id c.args.station c.args.tag (value_of c.look-seen.result) c.args.value old n v1 w role caller can step c.if-found-old.false in
+    let caller : IsCaller v1.role s.me.0.by = subst (λ r. IsCaller r s.me.0.by) (sym e1.role) e1.kind.caller in
+    let out = settle_out P C s.me.0.by c.args.station c.args.tag (value_of c.look-seen.result) c.args.value old n v1 w role caller can step c.if-found-old.false in
     let id = c.settle_tenant-found.ensures.same.1 ∙ c.look-seen.ensures.same.1 in
-    settle_all P C s.id c.settle_tenant-found.new.seat.id c.args.station c.args.tag s.me.0.seen v1.seen w.seen c.walk.new.seat.me.0.seen id seen out c.walk.ensures.walked
+    settle_all P C s.me.0.by c.settle_tenant-found.new.seat.me.0.by c.args.station c.args.tag s.me.0.seen v1.seen w.seen c.walk.new.seat.me.0.seen id seen out c.walk.ensures.walked

@@ -3,7 +3,7 @@ use Rattle.station.specs.Seats.{TheCore}
 use Rattle.back.specs.Backs.{IsSame, TheBack, back_of}
 use Rattle.back.specs.Refreshes.{RefreshAnswers}
 use Rattle.back.proofs.Calls.{head_small, is_same}
-use Rattle.back.proofs.Scanning.{is_calm}
+use Rattle.back.proofs.Refreshing.{is_calm}
 use Rattle.back.proofs.SeatKept.{kept_by}
 use Rattle.back.proofs.backs.Back.refresh.Goals as goal
 
@@ -16,16 +16,16 @@ pub invariant_of-self : goal.invariant_of-self
 invariant_of-self g c =
     let b = c.self.inside in
     let core = ap (λ (s : TheBack). s.core) c.self.view_is ∙ c.requires.core in
-    let reply = subst (λ (d : TheCore). RefreshAnswers d.program d.sizes b.seat.by b.seat.seen c.scan.new.seat.seen c.scan.result) (sym core) c.scan.ensures.reply in
-    let calm = is_calm b.seat.core.program b.seat.core.sizes b.seat.by b.seat.seen c.scan.new.seat.seen c.scan.result reply in
-    kept_by g.J.Naming.program b.program b.committed b.head b.ended b.publisher b.seat c.scan.new.seat calm.events c.self.invariant c.scan.ensures.kept.core c.scan.ensures.kept.by calm.adds calm.quiet
+    let reply = subst (λ (d : TheCore). RefreshAnswers d b.seat.by b.seat.seen c.scan.new.seat.seen c.scan.result) (sym core) c.scan.ensures.reply in
+    let calm = is_calm b.seat.core b.seat.by b.seat.seen c.scan.new.seat.seen c.scan.result reply in
+    kept_by g.J.Naming.program b.program b.committed b.low b.head b.ended b.publisher b.seat c.scan.new.seat calm.events c.self.invariant c.scan.ensures.kept.core c.scan.ensures.kept.by calm.adds calm.quiet
 
 pub returns-clause-kept : goal.returns-clause-kept
 returns-clause-kept g c =
     let b = c.self.inside in
     let core = ap (λ (s : TheBack). s.core) c.self.view_is ∙ c.requires.core in
-    let reply = subst (λ (d : TheCore). RefreshAnswers d.program d.sizes b.seat.by b.seat.seen c.scan.new.seat.seen c.scan.result) (sym core) c.scan.ensures.reply in
-    let calm = is_calm b.seat.core.program b.seat.core.sizes b.seat.by b.seat.seen c.scan.new.seat.seen c.scan.result reply in
-    let kept = kept_by g.J.Naming.program b.program b.committed b.head b.ended b.publisher b.seat c.scan.new.seat calm.events c.self.invariant c.scan.ensures.kept.core c.scan.ensures.kept.by calm.adds calm.quiet in
+    let reply = subst (λ (d : TheCore). RefreshAnswers d b.seat.by b.seat.seen c.scan.new.seat.seen c.scan.result) (sym core) c.scan.ensures.reply in
+    let calm = is_calm b.seat.core b.seat.by b.seat.seen c.scan.new.seat.seen c.scan.result reply in
+    let kept = kept_by g.J.Naming.program b.program b.committed b.low b.head b.ended b.publisher b.seat c.scan.new.seat calm.events c.self.invariant c.scan.ensures.kept.core c.scan.ensures.kept.by calm.adds calm.quiet in
     subst (λ old. IsSame old (back_of c.scan.new.seat b.ended b.publisher)) c.self.view_is
-    (is_same g.J.Naming.program b.program b.committed b.head b.ended b.publisher b.seat c.scan.new.seat c.self.invariant kept c.scan.ensures.kept.core c.scan.ensures.kept.by)
+    (is_same g.J.Naming.program b.program b.committed b.low b.head b.ended b.publisher b.seat c.scan.new.seat c.self.invariant kept c.scan.ensures.kept.core c.scan.ensures.kept.by)

@@ -2,6 +2,7 @@ use Rattle.std.proofs.Common.{◌≡◌, ℕ, sym, ◌∙◌, subst}
 use Rattle.ruu_words.specs.declared.rule.Role.TheVariants.{Back}
 use Rattle.ruu_words.specs.Rule.{sizes_of}
 use Rattle.station.specs.Seats.{IsSeated}
+use Rattle.station.proofs.Numbers.{back_numbered}
 use Rattle.station.proofs.SameUnit.{Unit_of, of_seat, of_table, unit_at}
 use Rattle.station.proofs.Writing.{settled_seated}
 use Rattle.station.proofs.cores.Core.settle.Goals as goal
@@ -15,8 +16,8 @@ invariant_of-seat c =
     let over = c.seat.inside.over in
     let me = c.settle_load.new.seat.me in
     let table = of_table key _ c.args.self.now c.self.view_is in
-    let seat = of_seat _ value _ _ c.args.seat.now c.args.self.now c.seat.view_is c.requires.core in
+    let seat = of_seat _ value _ _ _ c.args.seat.now c.args.self.now c.seat.view_is c.requires.core in
     let same : unit_at value ≡ unit_at key = seat ∙ sym table in
-    let was : IsSeated key.program (sizes_of key) Back s.id station over s.me = subst (λ (z : Unit_of). IsSeated z.0 z.1 Back s.id station over s.me) same c.seat.invariant in
-    let out : IsSeated key.program (sizes_of key) Back s.id station over me = settled_seated key.program (sizes_of key) s.id station c.args.station c.args.tag over s.me me c.settle_load.result was (c.settle_load.ensures.role ∙ sym was.role_is) c.settle_load.ensures.slots c.settle_load.ensures.reply in
-    subst (λ (z : Unit_of × ℕ). IsSeated z.0.0 z.0.1 Back z.1 station over me) (λ i. (sym same i, sym c.settle_load.ensures.same.1 i)) out
+    let was : IsSeated key.program (sizes_of key) Back s.me.0.by station over s.me = subst (λ (z : Unit_of). IsSeated z.0 z.1 Back s.me.0.by station over s.me) same c.seat.invariant.0 in
+    let out : IsSeated key.program (sizes_of key) Back s.me.0.by station over me = settled_seated key.program (sizes_of key) s.me.0.by station c.args.station c.args.tag over s.me me c.settle_load.result was (c.settle_load.ensures.role ∙ sym was.role_is) c.settle_load.ensures.slots c.settle_load.ensures.reply in
+    (subst (λ (z : Unit_of × ℕ). IsSeated z.0.0 z.0.1 Back z.1 station over me) (λ i. (sym same i, sym c.settle_load.ensures.same.1 i)) out, back_numbered s.me.0 me.0 c.settle_load.ensures.same.1 c.settle_load.ensures.heirs c.seat.invariant.1)

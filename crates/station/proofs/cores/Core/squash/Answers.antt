@@ -3,6 +3,7 @@ use Rattle.ruu_words.specs.declared.rule.Role.TheVariants.{Front}
 use Rattle.ruu_words.specs.Rule.{sizes_of}
 use Rattle.station.specs.Seats.{IsSeated}
 use Rattle.station.proofs.Squashing.{seated_squashed}
+use Rattle.station.proofs.Numbers.{front_numbered}
 use Rattle.station.proofs.SameUnit.{Unit_of, of_seat, of_table, unit_at}
 use Rattle.station.proofs.cores.Core.squash.Goals as goal
 
@@ -15,8 +16,8 @@ invariant_of-seat c =
     let me = c.squash_youngest-left.new.seat.me in
     let station : ℕ = c.squash_youngest-left.result.0 in
     let table = of_table key _ c.args.self.now c.self.view_is in
-    let seat = of_seat _ value _ _ c.args.seat.now c.args.self.now c.seat.view_is c.requires.core in
+    let seat = of_seat _ value _ _ _ c.args.seat.now c.args.self.now c.seat.view_is c.requires.core in
     let same : unit_at value ≡ unit_at key = seat ∙ sym table in
-    let was : IsSeated key.program (sizes_of key) Front s.id c.seat.inside.station over s.me = subst (λ (z : Unit_of). IsSeated z.0 z.1 Front s.id c.seat.inside.station over s.me) same c.seat.invariant in
-    let out : IsSeated key.program (sizes_of key) Front s.id station over me = seated_squashed key.program (sizes_of key) s.id station c.squash_youngest-left.result.1 over s.me.0.seen me (subst (λ r. station < r) (sym c.self.invariant.ring_is) c.squash_youngest-left.ensures.inside) c.squash_youngest-left.ensures.front (c.squash_youngest-left.ensures.slots ∙ was.slots) c.squash_youngest-left.ensures.squashed c.squash_youngest-left.ensures.next in
-    subst (λ (z : Unit_of × ℕ). IsSeated z.0.0 z.0.1 Front z.1 station over me) (λ i. (sym same i, sym c.squash_youngest-left.ensures.same.1 i)) out
+    let was : IsSeated key.program (sizes_of key) Front s.me.0.by c.seat.inside.station over s.me = subst (λ (z : Unit_of). IsSeated z.0 z.1 Front s.me.0.by c.seat.inside.station over s.me) same c.seat.invariant.0 in
+    let out : IsSeated key.program (sizes_of key) Front s.me.0.by station over me = seated_squashed key.program (sizes_of key) s.me.0.by station c.squash_youngest-left.result.1 over s.me.0.seen me (subst (λ r. station < r) (sym c.self.invariant.ring_is) c.squash_youngest-left.ensures.inside) c.squash_youngest-left.ensures.front (c.squash_youngest-left.ensures.slots ∙ was.slots) c.squash_youngest-left.ensures.squashed c.squash_youngest-left.ensures.next in
+    (subst (λ (z : Unit_of × ℕ). IsSeated z.0.0 z.0.1 Front z.1 station over me) (λ i. (sym same i, sym c.squash_youngest-left.ensures.same.1 i)) out, front_numbered s.me.0 me.0 c.squash_youngest-left.ensures.same.1 c.squash_youngest-left.ensures.heirs c.seat.invariant.1)

@@ -3,4 +3,4 @@ use Rattle.ruu_words.specs.Rule.{Tells, sizes_of}
 use Rattle.station.proofs.steps.claim.peek.Given as goal
 
 abbrev pub ghosts-load : goal.ghosts-load
-ghosts-load a = record { then = Tells a.words.now.key.program (sizes_of a.words.now.key) a.seat.now.id (Peeks a.words.now.key.program (sizes_of a.words.now.key) a.about) }
+ghosts-load a = record { then = Tells a.words.now.key.program (sizes_of a.words.now.key) a.seat.now.me.0.by (Peeks a.words.now.key.program (sizes_of a.words.now.key) a.about) }

@@ -15,10 +15,10 @@ load-requires-clause-may c =
     let key = c.args.words.now.key in
     let P = key.program in
     let C = sizes_of key in
-    let id = c.args.seat.now.id in
+    let id = c.args.seat.now.me.0.by in
     let me = c.args.seat.now.me in
     let s = c.args.station in
     let x = Operand s c.args.k in
-    allows key c.args.ring c.args.words.now.table_id.slots id me x (λ n. n) (λ n. n) (ReadsSource P C s c.args.tag c.args.k) (step c.args.words.now.table_id.slots (index c.args.ring x) 0 0 none)
+    allows key c.args.ring c.args.words.now.table_id.slots c.args.seat.now.id me x (λ n. n) (λ n. n) (ReadsSource P C s c.args.tag c.args.k) (step c.args.words.now.table_id.slots (index c.args.ring x) 0 0 none)
     c.requires.of.ring_is c.requires.place (subst IsAlive (sym c.requires.role) tt)
     (source_plan P C id me.0 s c.args.tag c.requires.seen.p c.args.k c.requires.role (next_named P C me.0.seen c.requires.seen.p s c.args.tag c.args.k c.requires.seen.named) c.requires.seen.was)

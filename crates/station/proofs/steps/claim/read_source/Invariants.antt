@@ -3,4 +3,4 @@ use Rattle.ruu_words.specs.Rule.{Tells, sizes_of}
 use Rattle.station.proofs.steps.claim.read_source.Given as goal
 
 abbrev pub ghosts-load : goal.ghosts-load
-ghosts-load a = record { then = Tells a.words.now.key.program (sizes_of a.words.now.key) a.seat.now.id (ReadsSource a.words.now.key.program (sizes_of a.words.now.key) a.about.0 a.about.1 a.about.2) }
+ghosts-load a = record { then = Tells a.words.now.key.program (sizes_of a.words.now.key) a.seat.now.me.0.by (ReadsSource a.words.now.key.program (sizes_of a.words.now.key) a.about.0 a.about.1 a.about.2) }

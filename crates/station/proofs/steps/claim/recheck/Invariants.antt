@@ -4,4 +4,4 @@ use Rattle.ruu_words.specs.Rule.{Tells, sizes_of}
 use Rattle.station.proofs.steps.claim.recheck.Given as goal
 
 abbrev pub ghosts-load : goal.ghosts-load
-ghosts-load a = record { then = Tells a.words.now.key.program (sizes_of a.words.now.key) a.seat.now.id (Rechecks a.words.now.key.program (sizes_of a.words.now.key) a.about.0 (tag_of a.about.1) a.about.1) }
+ghosts-load a = record { then = Tells a.words.now.key.program (sizes_of a.words.now.key) a.seat.now.me.0.by (Rechecks a.words.now.key.program (sizes_of a.words.now.key) a.about.0 (tag_of a.about.1) a.about.1) }

@@ -16,11 +16,11 @@ store-requires-clause-may c =
     let key = c.args.words.now.key in
     let P = key.program in
     let C = sizes_of key in
-    let id = c.args.seat.now.id in
+    let id = c.args.seat.now.me.0.by in
     let me = c.args.seat.now.me in
     let t = c.args.tenant in
     let U = unit_of P C me.0.seen in
     let x = Station c.args.station in
-    allows_store key c.args.ring c.args.words.now.table_id.slots id me x c.args.word (λ _. Lets P C t.index t.predicted (supply_of t.sources.0) (supply_of t.sources.1)) (step c.args.words.now.table_id.slots (index c.args.ring x) c.args.word 0 none)
+    allows_store key c.args.ring c.args.words.now.table_id.slots c.args.seat.now.id me x c.args.word (λ _. Lets P C t.index t.predicted (supply_of t.sources.0) (supply_of t.sources.1)) (step c.args.words.now.table_id.slots (index c.args.ring x) c.args.word 0 none)
     c.requires.of.ring_is c.requires.place (subst IsAlive (sym c.requires.front.role) tt)
     (let_plan P C t.index t.predicted (supply_of t.sources.0) (supply_of t.sources.1) id me.0 c.args.station c.args.word c.requires.front.by_is c.requires.front.draft_is c.requires.may.may c.requires.station c.requires.word)

@@ -5,4 +5,4 @@ use Rattle.station.specs.Letting.{draft_of}
 use Rattle.station.proofs.steps.dispatch.store_info.Given as goal
 
 abbrev pub ghosts-store : goal.ghosts-store
-ghosts-store a = record { then = Tells a.words.now.key.program (sizes_of a.words.now.key) a.seat.now.id (λ _. Drafts a.words.now.key.program (sizes_of a.words.now.key) (draft_of InfoAlone a.about)) }
+ghosts-store a = record { then = Tells a.words.now.key.program (sizes_of a.words.now.key) a.seat.now.me.0.by (λ _. Drafts a.words.now.key.program (sizes_of a.words.now.key) (draft_of InfoAlone a.about)) }

@@ -3,4 +3,4 @@ use Rattle.station.specs.Retirement.{LooksAtHead}
 use Rattle.station.proofs.steps.retire.look_at_head.Given as goal
 
 abbrev pub ghosts-load : goal.ghosts-load
-ghosts-load a = record { then = Tells a.words.now.key.program (sizes_of a.words.now.key) a.seat.now.id (LooksAtHead a.words.now.key.program (sizes_of a.words.now.key) a.seat.now.id a.about) }
+ghosts-load a = record { then = Tells a.words.now.key.program (sizes_of a.words.now.key) a.seat.now.me.0.by (LooksAtHead a.words.now.key.program (sizes_of a.words.now.key) a.seat.now.me.0.by a.about) }

@@ -15,9 +15,9 @@ load-requires-clause-may c =
     let key = c.args.words.now.key in
     let P = key.program in
     let C = sizes_of key in
-    let id = c.args.seat.now.id in
+    let id = c.args.seat.now.me.0.by in
     let me = c.args.seat.now.me in
     let x = Operand c.args.access.station Second in
-    allows key c.args.ring c.args.words.now.table_id.slots id me x (λ n. n) (λ n. n) (FindsData P C c.args.access) (step c.args.words.now.table_id.slots (index c.args.ring x) 0 0 none)
+    allows key c.args.ring c.args.words.now.table_id.slots c.args.seat.now.id me x (λ n. n) (λ n. n) (FindsData P C c.args.access) (step c.args.words.now.table_id.slots (index c.args.ring x) 0 0 none)
     c.requires.of.ring_is c.requires.place (subst IsAlive (sym c.requires.role) tt)
     (finds_plan P C id me.0 c.args.access c.requires.role c.requires.access)

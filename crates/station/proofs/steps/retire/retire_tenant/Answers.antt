@@ -14,9 +14,9 @@ swap-requires-clause-may c =
     let key = c.args.words.now.key in
     let P = key.program in
     let C = sizes_of key in
-    let id = c.args.seat.now.id in
+    let id = c.args.seat.now.me.0.by in
     let me = c.args.seat.now.me in
     let x = Station c.args.leaving.station in
-    allows key c.args.ring c.args.words.now.table_id.slots id me x (λ _. c.args.word) (λ n. n) (λ _. Leaves P C c.args.leaving) (step c.args.words.now.table_id.slots (index c.args.ring x) c.args.word 0 none)
+    allows key c.args.ring c.args.words.now.table_id.slots c.args.seat.now.id me x (λ _. c.args.word) (λ n. n) (λ _. Leaves P C c.args.leaving) (step c.args.words.now.table_id.slots (index c.args.ring x) c.args.word 0 none)
     c.requires.of.ring_is c.requires.place (subst IsAlive (sym c.requires.role) tt)
     (leaves_plan P C id me.0 c.args.leaving c.args.word c.requires.role c.requires.may c.requires.word)

@@ -14,9 +14,9 @@ load-requires-clause-may c =
     let key = c.args.words.now.key in
     let P = key.program in
     let C = sizes_of key in
-    let id = c.args.seat.now.id in
+    let id = c.args.seat.now.me.0.by in
     let me = c.args.seat.now.me in
     let x = Station c.args.from.0 in
-    allows key c.args.ring c.args.words.now.table_id.slots id me x (λ n. n) (λ n. n) (Finds P C c.args.of.0 c.args.of.1 c.args.k c.args.from.0 c.args.from.1) (step c.args.words.now.table_id.slots (index c.args.ring x) 0 0 none)
+    allows key c.args.ring c.args.words.now.table_id.slots c.args.seat.now.id me x (λ n. n) (λ n. n) (Finds P C c.args.of.0 c.args.of.1 c.args.k c.args.from.0 c.args.from.1) (step c.args.words.now.table_id.slots (index c.args.ring x) 0 0 none)
     c.requires.of.ring_is c.requires.from (subst IsAlive (sym c.requires.front.role) tt)
     (finds_plan P C id me.0 c.args.of.0 c.args.of.1 c.args.k c.args.from.0 c.args.from.1 c.requires.front.by_is c.requires.front.draft_is c.requires.asked)

@@ -16,10 +16,10 @@ exchange-requires-clause-may c =
     let key = c.args.words.now.key in
     let P = key.program in
     let C = sizes_of key in
-    let id = c.args.seat.now.id in
+    let id = c.args.seat.now.me.0.by in
     let me = c.args.seat.now.me in
     let x = Operand c.args.station c.args.k in
     let old = c.args.old in
-    allows key c.args.ring c.args.words.now.table_id.slots id me x (λ n. either (n == old) c.args.new n) (λ n. n) (Ends P C c.args.station (tag_of old) c.args.k old) (step c.args.words.now.table_id.slots (index c.args.ring x) old c.args.new none)
+    allows key c.args.ring c.args.words.now.table_id.slots c.args.seat.now.id me x (λ n. either (n == old) c.args.new n) (λ n. n) (Ends P C c.args.station (tag_of old) c.args.k old) (step c.args.words.now.table_id.slots (index c.args.ring x) old c.args.new none)
     c.requires.of.ring_is c.requires.place (subst IsAlive (sym c.requires.front.role) tt)
     (ends_plan P C id me.0 c.args.station (tag_of old) c.args.k (value_of c.args.new) old c.args.new c.requires.front.by_is c.requires.front.draft_is c.requires.old c.requires.new c.requires.answer)

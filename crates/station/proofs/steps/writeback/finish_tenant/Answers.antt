@@ -16,9 +16,9 @@ exchange-requires-clause-may c =
     let key = c.args.words.now.key in
     let P = key.program in
     let C = sizes_of key in
-    let id = c.args.seat.now.id in
+    let id = c.args.seat.now.me.0.by in
     let me = c.args.seat.now.me in
     let x = Station c.args.station in
-    allows key c.args.ring c.args.words.now.table_id.slots id me x (λ n. either (n == c.args.old) c.args.new n) (λ n. n) (Finishes P C c.args.station (tag_of c.args.old) c.args.outcome c.args.old) (step c.args.words.now.table_id.slots (index c.args.ring x) c.args.old c.args.new none)
+    allows key c.args.ring c.args.words.now.table_id.slots c.args.seat.now.id me x (λ n. either (n == c.args.old) c.args.new n) (λ n. n) (Finishes P C c.args.station (tag_of c.args.old) c.args.outcome c.args.old) (step c.args.words.now.table_id.slots (index c.args.ring x) c.args.old c.args.new none)
     c.requires.of.ring_is c.requires.place (subst IsAlive (sym c.requires.role) tt)
     (finish_plan P C id me.0 c.args.station (tag_of c.args.old) c.args.old c.args.new c.requires.job.p c.args.predicted c.args.outcome c.requires.role c.requires.old c.requires.new c.requires.job.named)

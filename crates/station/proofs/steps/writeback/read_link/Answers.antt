@@ -13,9 +13,9 @@ load-requires-clause-may c =
     let key = c.args.words.now.key in
     let P = key.program in
     let C = sizes_of key in
-    let id = c.args.seat.now.id in
+    let id = c.args.seat.now.me.0.by in
     let me = c.args.seat.now.me in
     let x = Link c.args.from c.args.to c.args.k in
-    allows key c.args.ring c.args.words.now.table_id.slots id me x (λ n. n) (λ n. n) (ReadsLink P C c.args.from c.args.to c.args.k) (step c.args.words.now.table_id.slots (index c.args.ring x) 0 0 none)
+    allows key c.args.ring c.args.words.now.table_id.slots c.args.seat.now.id me x (λ n. n) (λ n. n) (ReadsLink P C c.args.from c.args.to c.args.k) (step c.args.words.now.table_id.slots (index c.args.ring x) 0 0 none)
     c.requires.of.ring_is (c.requires.from, c.requires.to) c.requires.alive
     (link_read_plan P C id me.0 c.args.from c.args.to c.args.k)

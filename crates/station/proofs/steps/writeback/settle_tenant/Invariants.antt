@@ -4,4 +4,4 @@ use Rattle.ruu_words.specs.Rule.{Tells, sizes_of}
 use Rattle.station.proofs.steps.writeback.settle_tenant.Given as goal
 
 abbrev pub ghosts-exchange : goal.ghosts-exchange
-ghosts-exchange a = record { then = Tells a.words.now.key.program (sizes_of a.words.now.key) a.seat.now.id (Settles a.words.now.key.program (sizes_of a.words.now.key) a.about (tag_of a.old) a.old) }
+ghosts-exchange a = record { then = Tells a.words.now.key.program (sizes_of a.words.now.key) a.seat.now.me.0.by (Settles a.words.now.key.program (sizes_of a.words.now.key) a.about (tag_of a.old) a.old) }

@@ -1,0 +1,5 @@
+use Rattle.counts.proofs.Kept.{begins}
+use Rattle.counts.proofs.totals.Counts.make.Goals as goal
+
+pub of_words-requires : goal.of_words-requires
+of_words-requires c = begins

@@ -1,0 +1,6 @@
+pub mod Reads
+pub mod Rule
+pub mod Seats
+pub mod Shares
+pub mod Steps
+pub mod Totals

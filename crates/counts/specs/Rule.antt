@@ -1,0 +1,26 @@
+-- The rule: at every moment each total is the sum of the seats' shares modulo 2^64.
+use Rattle.std.specs.Prelude.{◌≡◌, ℕ, ◌-◌, ◌*◌, ◌%◌, ◌^◌, ◌<◌, ◌≤◌, List, length, slice_index, sum_by}
+use Rattle.atomic_table.specs.Table.{State}
+use mathlib.Core.Option.{some}
+use lib.ListN.{get_elem?}
+use Rattle.counts.specs.declared.shares.Share.{Share}
+use Rattle.counts.specs.declared.shares.Shares.{Shares}
+use Rattle.counts.specs.Shares.{share}
+
+-- How many parts a share has where the whole is halved so often
+abbrev pub weight : ℕ → Share → ℕ
+weight depth s = s.parts * 2 ^ (depth - s.halvings)
+
+-- The seats' parts of a total are all that there are
+pub record IsWhole (at : ℕ) (views : List Shares) : Type 0 where
+  pub depth : ℕ
+  pub deep : (id : ℕ) (v : Shares) → get_elem? views id ≡ some v → (share at v).halvings ≤ depth
+  pub all : sum_by (λ v. weight depth (share at v)) views ≡ 2 ^ depth
+
+-- Each total's word is the sum of the shares; the seats hold all parts of it, and one that holds none
+-- has added nothing
+pub record Summed (s : State (Unit {0}) Shares) : Type 0 where
+  pub wide : length s.words ≡ 64
+  pub sum : (at : ℕ) → at < 8 → slice_index s.words (8 * at) ≡ sum_by (λ v. (share at v).added) s.views % 2 ^ 64
+  pub whole : (at : ℕ) → at < 8 → IsWhole at s.views
+  pub idle : (at : ℕ) → at < 8 → (id : ℕ) (v : Shares) → get_elem? s.views id ≡ some v → (share at v).parts ≡ 0 → (share at v).added ≡ 0

@@ -1,0 +1,75 @@
+-- What seats have added to the totals, and the parts of the totals that they hold.
+use Rattle.std.specs.Prelude.{ℕ, ◌+◌, ◌-◌, ◌*◌, ◌^◌, ◌==◌, if◌then◌else◌, max, [], ◌∷◌, get_or}
+use Rattle.counts.specs.declared.shares.Share.{Share}
+use Rattle.counts.specs.declared.shares.Shares.{Shares}
+use Rattle.counts.specs.declared.tally.Total.{Total}
+use Rattle.counts.specs.declared.tally.Total.TheVariants.{Retires}
+use Rattle.counts.specs.Totals.{position_of}
+
+-- No part, to which nothing is added
+abbrev pub nothing : Share
+nothing = record { added = 0; parts = 0; halvings = 0 }
+
+-- All there is, to which nothing was added
+abbrev pub everything : Share
+everything = record { added = 0; parts = 1; halvings = 0 }
+
+-- The share of the total at a position
+abbrev pub share : ℕ → Shares → Share
+share at v = get_or v.of at nothing
+
+abbrev pub share_of : Total → Shares → Share
+share_of total v = share (position_of total) v
+
+-- A share of each total, by its position
+abbrev pub each : (ℕ → Share) → Shares
+each f = record { of = f 0 ∷ f 1 ∷ f 2 ∷ f 3 ∷ f 4 ∷ f 5 ∷ f 6 ∷ f 7 ∷ [] }
+
+-- All parts of each total, and no part of any
+abbrev pub all_parts : Shares
+all_parts = each (λ _. everything)
+
+abbrev pub no_parts : Shares
+no_parts = each (λ _. nothing)
+
+-- An addition
+abbrev pub plus : ℕ → Share → Share
+plus k s = record { added = s.added + k; parts = s.parts; halvings = s.halvings }
+
+abbrev pub raised_at : ℕ → ℕ → Shares → Shares
+raised_at at k v = each (λ i. if i == at then plus k (share i v) else share i v)
+
+abbrev pub raised : Total → ℕ → Shares → Shares
+raised total k v = raised_at (position_of total) k v
+
+-- Two halves of a share: what was added stays with the first
+abbrev pub first_of : Share → Share
+first_of s = record { added = s.added; parts = s.parts; halvings = s.halvings + 1 }
+
+abbrev pub second_of : Share → Share
+second_of s = record { added = 0; parts = s.parts; halvings = s.halvings + 1 }
+
+abbrev pub first_half : Shares → Shares
+first_half v = each (λ i. first_of (share i v))
+
+abbrev pub second_half : Shares → Shares
+second_half v = each (λ i. second_of (share i v))
+
+-- The same, but that all of the retirements stay with the first
+abbrev pub with_retires : Shares → Shares
+with_retires v = each (λ i. if i == position_of Retires then share i v else first_of (share i v))
+
+abbrev pub without_retires : Shares → Shares
+without_retires v = each (λ i. if i == position_of Retires then nothing else second_of (share i v))
+
+-- Two shares in one
+abbrev pub joined_of : Share → Share → Share
+joined_of s t =
+    record {
+      added = s.added + t.added;
+      parts = s.parts * 2 ^ (max s.halvings t.halvings - s.halvings) + t.parts * 2 ^ (max s.halvings t.halvings - t.halvings);
+      halvings = max s.halvings t.halvings;
+    }
+
+abbrev pub joined : Shares → Shares → Shares
+joined v w = each (λ i. joined_of (share i v) (share i w))

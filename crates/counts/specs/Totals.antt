@@ -1,0 +1,27 @@
+-- The totals of a tally.
+use Rattle.std.specs.Prelude.{ℕ}
+use Rattle.counts.specs.declared.tally.Tally.{Tally}
+use Rattle.counts.specs.declared.tally.Total.{Total}
+use Rattle.counts.specs.declared.tally.Total.TheVariants.{Claims, Finishes, Lets, Loads, Mends, Retires, Squashes, Stale}
+
+-- Which of them a total is, from 0 on
+abbrev pub position_of : Total → ℕ
+position_of Lets = 0
+position_of Claims = 1
+position_of Finishes = 2
+position_of Stale = 3
+position_of Loads = 4
+position_of Retires = 5
+position_of Squashes = 6
+position_of Mends = 7
+
+-- What a tally says of it
+abbrev pub told : Tally → Total → ℕ
+told t Lets = t.lets
+told t Claims = t.claims
+told t Finishes = t.finishes
+told t Stale = t.stale
+told t Loads = t.loads
+told t Retires = t.retires
+told t Squashes = t.squashes
+told t Mends = t.mends

@@ -1,0 +1,36 @@
+//! Seats.
+use crate::shares::Shares;
+use atomic_table::Seat;
+use std::marker::Model;
+
+/// The right to add to each total. It has no bytes.
+#[derive(Drop)]
+pub struct CountSeat {
+    pub(crate) seat: Seat<(), Shares>,
+}
+
+impl Model for CountSeat {
+    ghost use Rattle.counts.specs.Seats.{Counter, HasParts};
+
+    ghost Value = { Counter };
+
+    ghost view = { λ s. record { of = s.seat.table_id; shares = s.seat.me.0 } };
+
+    ghost invariant = { λ s. HasParts s.seat.me };
+}
+
+/// The right to add to each total but the retirements. It has no bytes.
+#[derive(Drop)]
+pub struct WorkerSeat {
+    pub(crate) seat: Seat<(), Shares>,
+}
+
+impl Model for WorkerSeat {
+    ghost use Rattle.counts.specs.Seats.{Counter, HasOtherParts};
+
+    ghost Value = { Counter };
+
+    ghost view = { λ s. record { of = s.seat.table_id; shares = s.seat.me.0 } };
+
+    ghost invariant = { λ s. HasOtherParts s.seat.me };
+}

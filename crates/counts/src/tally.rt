@@ -1,0 +1,48 @@
+//! What is counted.
+ghost use Rattle.std.specs.Prelude.{◌≡◌, ◌*◌, ◌<◌};
+ghost use Rattle.counts.specs.Totals.{position_of};
+
+/// What the threads of a run did, all together.
+#[derive(Clone, Copy, Debug, PartialEq, Eq)]
+pub struct Tally {
+    pub lets: u64,
+    pub claims: u64,
+    pub finishes: u64,
+    pub stale: u64,
+    pub loads: u64,
+    pub retires: u64,
+    pub squashes: u64,
+    pub mends: u64,
+}
+
+/// One number of a tally.
+#[derive(Clone, Copy, Debug, PartialEq, Eq)]
+pub enum Total {
+    Lets,
+    Claims,
+    Finishes,
+    Stale,
+    Loads,
+    Retires,
+    Squashes,
+    Mends,
+}
+
+impl Total {
+    // Its word: each total has a line of the cache to itself.
+    pub(crate) fn word(self) -> usize
+        ensures value { result ≡ 8 * position_of self }
+        ensures inside { result < 64 }
+    {
+        match self {
+            Total::Lets => 0,
+            Total::Claims => 8,
+            Total::Finishes => 16,
+            Total::Stale => 24,
+            Total::Loads => 32,
+            Total::Retires => 40,
+            Total::Squashes => 48,
+            Total::Mends => 56,
+        }
+    }
+}

@@ -1,0 +1,162 @@
+//! The totals, and every call on them.
+ghost use Rattle.std.specs.Prelude.{◌≡◌, ◌≢◌, ◌%◌, ◌^◌, ◌<◌, IfOk};
+ghost use Rattle.counts.specs.Reads.{HoldsAll, IsTotal};
+ghost use Rattle.counts.specs.Shares.{all_parts, first_half, joined, raised, second_half};
+ghost use Rattle.counts.specs.Shares.{share_of, with_retires, without_retires};
+ghost use Rattle.counts.specs.Totals.{told};
+
+use crate::seats::{CountSeat, WorkerSeat};
+use crate::shares::{Add, Halving, Hiring, Joining, Look, Shares, Sums};
+use crate::tally::{Tally, Total};
+use atomic_table::{Seat, Table};
+use isa::Memory;
+use std::alloc::Global;
+use std::marker::Model;
+
+// Eight words for each total, of which the first is used.
+const WORDS: usize = 64;
+
+/// The totals. Contracts see which they are.
+#[derive(Drop)]
+pub struct Counts {
+    table: Table<(), Shares, (), Sums, Global>,
+}
+
+impl Model for Counts {
+    ghost use Rattle.std.specs.Prelude.{◌≡◌};
+    ghost use Rattle.atomic_table.specs.Seated.{TableId};
+
+    ghost Value = { TableId };
+
+    ghost view = { λ c. c.table.shared.table_id };
+
+    ghost invariant = { λ c. c.table.shared.table_id.words ≡ 64 };
+}
+
+impl Counts {
+    /// Totals of 0, and a seat that holds all parts of each.
+    pub fn make(alloc: Global) -> Result<(Counts, CountSeat), Memory>
+        ensures { IfOk result (λ t. t.1 ≡ record { of = t.0; shares = all_parts }) }
+    {
+        let (table, seat) = Table::of_words(alloc, &[0; WORDS], &())?;
+        Ok((Counts { table }, CountSeat { seat }))
+    }
+
+    /// Two seats, each with half of the parts. The first has what this one has added, and the second
+    /// has added nothing.
+    pub fn split(&self, mut seat: CountSeat) -> (CountSeat, CountSeat)
+        requires seat { seat.of ≡ self.now }
+        ensures first { result.0 ≡ record { of = self.now; shares = first_half seat.shares } }
+        ensures second { result.1 ≡ record { of = self.now; shares = second_half seat.shares } }
+    {
+        let second = self.table.shared.split_seat::<Halving>(&mut seat.seat);
+        (seat, CountSeat { seat: second })
+    }
+
+    /// One seat with the shares and the parts of two.
+    pub fn join(&self, mut seat: CountSeat, other: CountSeat) -> CountSeat
+        requires seat { seat.of ≡ self.now }
+        requires other { other.of ≡ self.now }
+        ensures { result ≡ record { of = self.now; shares = joined seat.shares other.shares } }
+    {
+        let CountSeat { seat: other } = other;
+        self.table
+            .shared
+            .join_seat::<Joining>(&mut seat.seat, other);
+        seat
+    }
+
+    /// Adds to a total, and so to the seat's own share of it.
+    pub fn add(&self, seat: &mut CountSeat, total: Total, k: u64)
+        requires seat { seat.old.of ≡ self.now }
+        ensures { seat.new ≡ record { of = self.now; shares = raised total k seat.old.shares } }
+    {
+        self.raise(&mut seat.seat, total, k);
+    }
+
+    /// Each total, at a moment of its own within the call.
+    pub fn read(&self, seat: &mut CountSeat) -> Tally
+        requires seat { seat.old.of ≡ self.now }
+        ensures kept { seat.new ≡ seat.old }
+        ensures totals { (total : Total) → IsTotal seat.old.shares total (told result total) }
+        ensures exact { (total : Total) → HoldsAll total seat.old.shares →
+            told result total ≡ (share_of total seat.old.shares).added % 2 ^ 64 }
+    {
+        self.all(&mut seat.seat)
+    }
+
+    /// A seat of a worker, which has added nothing. The first has what this one has added, keeps all of
+    /// its part of the retirements, and half of its other parts.
+    pub fn split_worker(&self, mut seat: CountSeat) -> (CountSeat, WorkerSeat)
+        requires seat { seat.of ≡ self.now }
+        ensures first { result.0 ≡ record { of = self.now; shares = with_retires seat.shares } }
+        ensures second { result.1 ≡ record { of = self.now; shares = without_retires seat.shares } }
+    {
+        let second = self.table.shared.split_seat::<Hiring>(&mut seat.seat);
+        (seat, WorkerSeat { seat: second })
+    }
+
+    /// The seats of two workers, as `split` gives them.
+    pub fn split_workers(&self, mut seat: WorkerSeat) -> (WorkerSeat, WorkerSeat)
+        requires seat { seat.of ≡ self.now }
+        ensures first { result.0 ≡ record { of = self.now; shares = first_half seat.shares } }
+        ensures second { result.1 ≡ record { of = self.now; shares = second_half seat.shares } }
+    {
+        let other = self.table.shared.split_seat::<Halving>(&mut seat.seat);
+        (seat, WorkerSeat { seat: other })
+    }
+
+    /// Adds to a total, as `add` does.
+    pub fn add_work(&self, seat: &mut WorkerSeat, total: Total, k: u64)
+        requires seat { seat.old.of ≡ self.now }
+        requires other { total ≢ Total.Retires }
+        ensures { seat.new ≡ record { of = self.now; shares = raised total k seat.old.shares } }
+    {
+        self.raise(&mut seat.seat, total, k);
+    }
+
+    // One addition to a word.
+    fn raise(&self, seat: &mut Seat<(), Shares>, total: Total, k: u64)
+        requires seat { seat.old.table_id ≡ self.now }
+        requires part { 0 < (share_of total seat.old.me.0).parts }
+        ensures of { seat.new.table_id ≡ seat.old.table_id }
+        ensures raised { seat.new.me ≡ (raised total k seat.old.me.0, seat.old.me.1) }
+    {
+        let word = total.word();
+        self.table.shared.fetch_add::<Add>(seat, word, k);
+    }
+
+    // One look at a word.
+    fn total(&self, seat: &mut Seat<(), Shares>, total: Total) -> u64
+        requires seat { seat.old.table_id ≡ self.now }
+        ensures of { seat.new.table_id ≡ seat.old.table_id }
+        ensures kept { seat.new.me ≡ seat.old.me }
+        ensures total { IsTotal seat.old.me.0 total result }
+        ensures exact { HoldsAll total seat.old.me.0 →
+            result ≡ (share_of total seat.old.me.0).added % 2 ^ 64 }
+    {
+        let word = total.word();
+        self.table.shared.load::<Look>(seat, word)
+    }
+
+    // A look at each word.
+    fn all(&self, seat: &mut Seat<(), Shares>) -> Tally
+        requires seat { seat.old.table_id ≡ self.now }
+        ensures of { seat.new.table_id ≡ seat.old.table_id }
+        ensures kept { seat.new.me ≡ seat.old.me }
+        ensures totals { (total : Total) → IsTotal seat.old.me.0 total (told result total) }
+        ensures exact { (total : Total) → HoldsAll total seat.old.me.0 →
+            told result total ≡ (share_of total seat.old.me.0).added % 2 ^ 64 }
+    {
+        Tally {
+            lets: self.total(seat, Total::Lets),
+            claims: self.total(seat, Total::Claims),
+            finishes: self.total(seat, Total::Finishes),
+            stale: self.total(seat, Total::Stale),
+            loads: self.total(seat, Total::Loads),
+            retires: self.total(seat, Total::Retires),
+            squashes: self.total(seat, Total::Squashes),
+            mends: self.total(seat, Total::Mends),
+        }
+    }
+}

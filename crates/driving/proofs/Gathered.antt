@@ -1,0 +1,19 @@
+-- What the meetings of the first unit with all others come to.
+use Rattle.std.proofs.Common.{◌≡◌, [], ◌∙◌, subst}
+use Rattle.inorder.specs.History.{Adds}
+use Rattle.station.specs.Seats.{Caller, IsSame, TheCore}
+use Rattle.driving.specs.Hands.{IsLater}
+use Rattle.driving.proofs.Histories.{starts_on}
+
+pub later : (core : TheCore) (v w : Caller) → IsSame v w → w.heirs ≡ v.heirs → Adds core.program core.sizes v.by v.seen w.seen [] → IsLater core v w
+later core v w same heirs adds = record { core_is = same.core; by_is = same.by; heirs_are = heirs; adds = adds }
+
+pub later_on : (core : TheCore) (u v w : Caller) → IsLater core u v → IsLater core v w → IsLater core u w
+later_on core u v w a b =
+    let again : Adds core.program core.sizes u.by v.seen w.seen [] = subst (λ n. Adds core.program core.sizes n v.seen w.seen []) a.by_is b.adds in
+    record {
+      core_is = b.core_is ∙ a.core_is;
+      by_is = b.by_is ∙ a.by_is;
+      heirs_are = b.heirs_are ∙ a.heirs_are;
+      adds = record { begins = starts_on u.seen v.seen w.seen a.adds.begins b.adds.begins; legal = b.adds.legal; mine = again.mine ∙ a.adds.mine };
+    }

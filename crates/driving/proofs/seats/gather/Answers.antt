@@ -1,0 +1,30 @@
+use Rattle.driving.proofs.Gathered.{later, later_on}
+use Rattle.driving.proofs.Histories.{starts_on}
+use Rattle.driving.proofs.seats.gather.Goals as goal
+
+pub returns-clause-met : goal.returns-clause-met
+returns-clause-met c =
+    let core = c.args.core.now in
+    let s = c.args.seats.now in
+    let one = c.meet.new.other in
+    let two = c.meet-2.new.other in
+    let three = c.meet-3.new.other in
+    let a = c.meet.ensures in
+    let b = c.meet-2.ensures in
+    let d = c.meet-3.ensures in
+    let begins = starts_on one.seen two.seen three.seen b.other_history.begins d.other_history.begins in
+    record {
+      front = later core s.front c.meet.new.one a.one_kept a.one_heirs a.one_history;
+      back = later core s.back c.meet-2.new.one b.one_kept b.one_heirs b.one_history;
+      one = later_on core s.one one three (later core s.one one a.other_kept a.other_heirs a.other_history)
+          (later_on core one two three (later core one two b.other_kept b.other_heirs b.other_history) (later core two three d.other_kept d.other_heirs d.other_history));
+      other = later core s.other c.meet-3.new.one d.one_kept d.one_heirs d.one_history;
+      of_front = starts_on c.meet.new.one.seen one.seen three.seen a.other_told begins;
+      of_back = starts_on c.meet-2.new.one.seen two.seen three.seen b.other_told d.other_history.begins;
+      of_other = d.other_told;
+      to_front = a.one_told;
+      to_back = starts_on s.one.seen one.seen c.meet-2.new.one.seen a.other_history.begins b.one_told;
+      to_other = starts_on s.one.seen two.seen c.meet-3.new.one.seen (starts_on s.one.seen one.seen two.seen a.other_history.begins b.other_history.begins) d.one_told;
+      no_more_of_one = c.no_seat_no_entry.ensures;
+      no_more_of_other = c.no_seat_no_entry-2.ensures;
+    }

@@ -1,0 +1,40 @@
+use Rattle.std.proofs.Common.{◌≡◌, sym, ap, ◌∙◌, subst, arith}
+use Rattle.inorder.specs.History.{IsUnit}
+use Rattle.ruu_words.specs.declared.rule.Heirs.{Heirs}
+use Rattle.ruu_words.specs.Rule.{half, other_half}
+use Rattle.station.specs.Making.{first_unit, other_units}
+use Rattle.station.specs.Seats.{Caller}
+use Rattle.driving.specs.declared.seats.Seats.{Seats}
+use Rattle.driving.proofs.Made.{no_third}
+use Rattle.driving.proofs.seats.make.Goals as goal
+
+pub returns : goal.returns
+returns c =
+    let m = c.in_ok-core.ensures in
+    let s = c.split-one.ensures in
+    let seats : Seats = record { front = c.in_ok-core.front; back = c.in_ok-core.back; one = c.split-one.result.0; other = c.split-one.result.1 } in
+    let one_by : seats.one.by ≡ first_unit = ap (λ (v : Caller). v.by) s.first ∙ m.unit_by in
+    let one_heirs : seats.one.heirs ≡ half other_units = ap (λ (v : Caller). v.heirs) s.first ∙ ap half m.unit_heirs in
+    let other_by : seats.other.by ≡ other_units.first = s.number ∙ ap (λ (h : Heirs). h.first) m.unit_heirs in
+    let other_heirs : seats.other.heirs ≡ other_half other_units = s.heirs ∙ ap other_half m.unit_heirs in
+    let unit : IsUnit first_unit = omega arith in
+    record {
+      program = m.program;
+      sizes = m.sizes;
+      all = record {
+        front_core = m.front_is.core_is;
+        back_core = m.back_is.core_is;
+        one_core = ap (λ (v : Caller). v.core) s.first ∙ m.unit_is.core_is;
+        other_core = s.core;
+        front_by = m.front_by;
+        back_by = m.back_by;
+        one_by = subst IsUnit (sym one_by) unit;
+        two = s.other;
+        no_third = no_third c.numbers_are_given_once.ensures.all c.numbers_are_given_once.ensures.split seats one_by one_heirs other_by other_heirs;
+      };
+      front_seen = m.front_is.seen;
+      back_seen = m.back_is.seen;
+      one_seen = ap (λ (v : Caller). v.seen) s.first ∙ m.unit_is.seen;
+      other_seen = s.history ∙ m.unit_is.seen;
+      fresh = s.fresh;
+    }

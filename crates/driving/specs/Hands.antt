@@ -1,0 +1,65 @@
+-- All seats of a core in one hand.
+use Rattle.std.specs.Prelude.{◌≡◌, ◌≢◌, ◌⊎◌, ℕ, []}
+use Rattle.isa.specs.Programs.{Program}
+use Rattle.isa.specs.Settings.{Settings}
+use Rattle.inorder.specs.History.{Adds, IsUnit, StartsWith, back, front, own}
+use Rattle.ruu_words.specs.Rule.{IsHeir}
+use Rattle.station.specs.Seats.{Caller, TheCore}
+use Rattle.driving.specs.declared.seats.Seats.{Seats}
+
+-- The number of one of the two units, or one that no seat was made for
+abbrev pub IsUnits : Seats → ℕ → Type 0
+IsUnits s n =
+    (n ≡ s.one.by) ⊎ ((n ≡ s.other.by) ⊎ (IsHeir s.one.heirs n ⊎ IsHeir s.other.heirs n))
+
+-- They are of this core, the units are two, and there is no third
+pub record AreAll (core : TheCore) (s : Seats) : Type 0 where
+  pub front_core : s.front.core ≡ core
+  pub back_core : s.back.core ≡ core
+  pub one_core : s.one.core ≡ core
+  pub other_core : s.other.core ≡ core
+  pub front_by : s.front.by ≡ front
+  pub back_by : s.back.by ≡ back
+  pub one_by : IsUnit s.one.by
+  pub two : s.other.by ≢ s.one.by
+  pub no_third : (n : ℕ) → IsUnit n → IsUnits s n
+
+-- The front has seen what the units have seen
+pub record KnowsUnits (s : Seats) : Type 0 where
+  pub one : StartsWith s.front.seen s.one.seen
+  pub other : StartsWith s.front.seen s.other.seen
+
+-- A core for this program and configuration, and its seats, which have seen nothing
+pub record AreNew (P : Program) (config : Settings) (core : TheCore) (s : Seats) : Type 0 where
+  pub program : core.program ≡ P
+  pub sizes : core.sizes ≡
+      record { ring = config.ring; queue = config.queue; first_tag = config.first_tag }
+  pub all : AreAll core s
+  pub front_seen : s.front.seen ≡ []
+  pub back_seen : s.back.seen ≡ []
+  pub one_seen : s.one.seen ≡ []
+  pub other_seen : s.other.seen ≡ []
+  pub fresh : own s.other.by s.other.seen ≡ []
+
+-- The same seat, whose caller has looked and met
+pub record IsLater (core : TheCore) (v w : Caller) : Type 0 where
+  pub core_is : w.core ≡ v.core
+  pub by_is : w.by ≡ v.by
+  pub heirs_are : w.heirs ≡ v.heirs
+  pub adds : Adds core.program core.sizes v.by v.seen w.seen []
+
+-- The first unit has heard of all that the others had seen, and they of what it had
+pub record HaveMet (core : TheCore) (s t : Seats) : Type 0 where
+  pub front : IsLater core s.front t.front
+  pub back : IsLater core s.back t.back
+  pub one : IsLater core s.one t.one
+  pub other : IsLater core s.other t.other
+  pub of_front : StartsWith t.one.seen t.front.seen
+  pub of_back : StartsWith t.one.seen t.back.seen
+  pub of_other : StartsWith t.one.seen t.other.seen
+  pub to_front : StartsWith t.front.seen s.one.seen
+  pub to_back : StartsWith t.back.seen s.one.seen
+  pub to_other : StartsWith t.other.seen s.one.seen
+  -- in all of it there is no entry of a unit that has no seat
+  pub no_more_of_one : (n : ℕ) → IsHeir t.one.heirs n → own n t.one.seen ≡ []
+  pub no_more_of_other : (n : ℕ) → IsHeir t.other.heirs n → own n t.other.seen ≡ []

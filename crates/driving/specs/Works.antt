@@ -1,0 +1,61 @@
+-- What comes of an instruction that is let, claimed and finished.
+use Rattle.std.specs.Prelude.{◌≡◌, ℕ, length, Some, if◌then◌else◌}
+use Rattle.isa.specs.Instruction.{first_of, kind, second_of}
+use Rattle.isa.specs.Operations.{outcome_of}
+use Rattle.isa.specs.Programs.{Program, instr_of, text_start}
+use Rattle.isa.specs.declared.op.Half.TheVariants.{Low}
+use Rattle.isa.specs.declared.stop.Outcome.{Outcome}
+use Rattle.inorder.specs.declared.history.Source.TheVariants.{Second}
+use Rattle.inorder.specs.History.{unit_of}
+use Rattle.inorder.specs.Tenants.{needs}
+use Rattle.inorder.specs.Unit.{UpdateUnit, creator, front_pc, next_tag, recent, value_of}
+use Rattle.ruu_words.specs.Kinds.{IsTenant}
+use Rattle.station.specs.declared.answers.Supply.TheVariants.{Known}
+use Rattle.station.specs.declared.answers.Tenant.{Tenant}
+use Rattle.station.specs.Finishing.{HasOutcome}
+use Rattle.station.specs.Moments.{WasOnce}
+use Rattle.station.specs.Seats.{TheCore}
+use Rattle.driving.specs.declared.seats.Seats.{Seats}
+use Rattle.driving.specs.declared.drive.Worked.{Worked}
+
+-- The unit as the front has seen it
+abbrev pub unit_at : TheCore → Seats → UpdateUnit
+unit_at core s = unit_of core.program core.sizes s.front.seen
+
+-- Both sources have their values from the start
+pub record HasValues (t : Tenant) : Type 0 where
+  pub a : ℕ
+  pub b : ℕ
+  pub first : t.sources.0 ≡ Known a
+  pub second : t.sources.1 ≡ Known b
+
+-- In this unit the tenant of the station and tag has come to this outcome
+pub record HasCome (station tag : ℕ) (outcome : Outcome) (U : UpdateUnit) : Type 0 where
+  pub p : ℕ
+  pub tenant : IsTenant U p station tag (HasOutcome outcome)
+
+-- What a unit works out by the definitions, for a tenant that is let in the unit U
+pub record IsRight (P : Program) (U : UpdateUnit) (t : Tenant) (w : Worked) : Type 0 where
+  pub pc : w.pc ≡ front_pc U.tenants
+  -- its values are what the creators of its sources have made
+  pub first : (v : ℕ) →
+      value_of U.tenants (creator P U.tenants (first_of (instr_of P t.index))) ≡ Some v → w.a ≡ v
+  -- and 0 where it does not need the second
+  pub second : (v : ℕ) →
+      value_of U.tenants (creator P U.tenants (second_of (instr_of P t.index))) ≡ Some v →
+      w.b ≡ (if needs (kind (instr_of P t.index).op) Second then v else 0)
+  -- its outcome is that of the program's instruction
+  pub outcome : w.outcome ≡ outcome_of (instr_of P t.index) t.half w.pc w.a w.b (length P.bytes)
+
+-- The tenant was let with the next tag, worked out, and has come to its outcome at a moment of the
+-- call
+pub record IsWorked (core : TheCore) (old new : Seats) (station : ℕ) (t : Tenant) (w : Worked) :
+    Type 0 where
+  pub tag : w.tag ≡ next_tag core.sizes (recent (unit_at core old))
+  pub right : IsRight core.program (unit_at core old) t w
+  pub written : WasOnce core.program core.sizes old.one.seen new.one.seen
+      (HasCome station w.tag w.outcome)
+
+-- The outcome of the first instruction, where all registers are 0
+abbrev pub IsFirstOutcome : Program → Outcome → Type 0
+IsFirstOutcome P found = found ≡ outcome_of (instr_of P 0) Low text_start 0 0 (length P.bytes)

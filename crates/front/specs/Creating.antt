@@ -1,0 +1,26 @@
+-- Who creates a register, as it is asked from outside.
+use Rattle.std.specs.Prelude.{◌≡◌, ℕ, Some}
+use Rattle.isa.specs.Programs.{Program}
+use Rattle.inorder.specs.Callers.{IsLastAt}
+use Rattle.inorder.specs.Tenants.{Tenant}
+use Rattle.inorder.specs.Unit.{UpdateUnit, at, creator, value_of}
+use Rattle.ruu_words.specs.Kinds.{IsAny, IsTenant}
+use Rattle.front.specs.declared.answers.Made.{Made}
+use Rattle.front.specs.declared.answers.Made.TheVariants.{Base, Made as IsMade}
+
+-- The creator is this tenant, and its station was not let again
+pub record IsMaker (P : Program) (U : UpdateUnit) (r station tag : ℕ) : Type 0 where
+  pub p : ℕ
+  pub creates : creator P U.tenants r ≡ Some p
+  pub named : IsTenant U p station tag IsAny
+  pub last : IsLastAt U p station
+
+-- This is the value of its creator, whose station was let again, or 0 where there is none
+pub record IsBase (P : Program) (U : UpdateUnit) (r v : ℕ) : Type 0 where
+  pub value : value_of U.tenants (creator P U.tenants r) ≡ Some v
+  pub again : (p : ℕ) (t : Tenant) → creator P U.tenants r ≡ Some p → at U.tenants p ≡ Some t →
+      ¬ IsLastAt U p t.station
+
+abbrev pub IsCreator : Program → UpdateUnit → ℕ → Made → Type 0
+IsCreator P U r (IsMade station tag) = IsMaker P U r station tag
+IsCreator P U r (Base v) = IsBase P U r v

@@ -1,0 +1,145 @@
+//! The create vector's entries and records, each reading and writing counted.
+ghost use Rattle.std.specs.Prelude.{◌≡◌, ◌<◌, ◌+◌, ◌%◌, ◌^◌, length, slice_get, slice_set, replicate, None};
+ghost use Rattle.front.specs.CreateTable.{Finds};
+
+use super::creators::Creator;
+use isa::Reg;
+
+/// The tenant that an entry names.
+#[derive(Clone, Copy)]
+pub struct Maker {
+    pub station: usize,
+    pub tag: u32,
+}
+
+/// What is kept of the last tenant of a station.
+#[derive(Clone, Copy)]
+pub struct Saved {
+    pub tag: u32,
+    // the register that it writes; 0 where it writes none
+    pub register: u8,
+    // what it has made from the start
+    pub made: Option<u32>,
+    // the entry that its let replaced
+    pub replaced: Option<Maker>,
+}
+
+/// By register its newest writer, and by station what is kept of its last tenant.
+#[derive(Drop)]
+pub struct Table {
+    entries: [Option<Maker>; 34],
+    latest: [Saved; 32],
+}
+
+/// The create vector, as a turn or a recovery gets it: what is read or written is counted, modulo 2^64.
+#[derive(Drop)]
+pub struct Counted {
+    table: Table,
+    touched: u64,
+}
+
+/// The create vector, as the front holds it: it may be asked from outside, uncounted.
+#[derive(Drop)]
+pub struct Creators {
+    pub counted: Counted,
+}
+
+impl Counted {
+    // One more is read or written.
+    pub(super) fn touch(&mut self)
+        ensures table { self.new.table ≡ self.old.table }
+        ensures touched { self.new.touched ≡ (self.old.touched + 1) % 2 ^ 64 }
+    {
+        self.touched = self.touched.wrapping_add(1);
+    }
+
+    // The entry of a register.
+    pub(super) fn entry(&mut self, r: usize) -> Option<Option<Maker>>
+        ensures value { result ≡ slice_get self.old.table.entries r }
+        ensures table { self.new.table ≡ self.old.table }
+        ensures touched { self.new.touched ≡ (self.old.touched + 1) % 2 ^ 64 }
+    {
+        self.touch();
+        self.table.entries.get(r).copied()
+    }
+
+    pub(super) fn put_entry(&mut self, r: usize, maker: Option<Maker>)
+        requires { r < 34 }
+        ensures entries { self.new.table.entries ≡ slice_set self.old.table.entries r maker }
+        ensures latest { self.new.table.latest ≡ self.old.table.latest }
+        ensures touched { self.new.touched ≡ (self.old.touched + 1) % 2 ^ 64 }
+    {
+        self.touch();
+        self.table.entries[r] = maker;
+    }
+
+    // What is kept of the last tenant of a station.
+    pub(super) fn record(&mut self, station: usize) -> Option<Saved>
+        ensures value { result ≡ slice_get self.old.table.latest station }
+        ensures table { self.new.table ≡ self.old.table }
+        ensures touched { self.new.touched ≡ (self.old.touched + 1) % 2 ^ 64 }
+    {
+        self.touch();
+        self.table.latest.get(station).copied()
+    }
+
+    pub(super) fn put_record(&mut self, station: usize, saved: Saved)
+        requires { station < 32 }
+        ensures latest { self.new.table.latest ≡ slice_set self.old.table.latest station saved }
+        ensures entries { self.new.table.entries ≡ self.old.table.entries }
+        ensures touched { self.new.touched ≡ (self.old.touched + 1) % 2 ^ 64 }
+    {
+        self.touch();
+        self.table.latest[station] = saved;
+    }
+}
+
+impl Creators {
+    /// Nobody has written a register.
+    pub fn new() -> Creators
+        ensures entries { result.counted.table.entries ≡ replicate 34 None }
+        ensures latest { length result.counted.table.latest ≡ 32 }
+        ensures touched { result.counted.touched ≡ 0 }
+    {
+        let nobody = Saved {
+            tag: 0,
+            register: 0,
+            made: None,
+            replaced: None,
+        };
+        let table = Table {
+            entries: [None; 34],
+            latest: [nobody; 32],
+        };
+        Creators {
+            counted: Counted { table, touched: 0 },
+        }
+    }
+
+    /// The newest writer of a register, if its station was not let again.
+    pub fn peek(&self, r: Reg) -> Option<Creator>
+        ensures { Finds self.now.counted.table r result }
+    {
+        if r.number() == 0 {
+            return None;
+        }
+        let table = &self.counted.table;
+        let maker = table.entries.get(r.number() as usize).copied()??;
+        let saved = table.latest.get(maker.station).copied()?;
+        if saved.tag != maker.tag {
+            return None;
+        }
+        Some(Creator {
+            station: maker.station,
+            tag: maker.tag,
+            made: saved.made,
+        })
+    }
+
+    /// How many entries and records turns and recoveries have read or written.
+    pub fn touched(&self) -> u64
+        ensures { result ≡ self.now.counted.touched }
+    {
+        self.counted.touched
+    }
+}

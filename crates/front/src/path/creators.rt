@@ -1,0 +1,86 @@
+//! The create vector: who creates the newest value of a register. It is found and changed by counted readings
+//! and writings alone.
+ghost use Rattle.std.specs.Prelude.{◌≡◌, ◌<◌, Some, None};
+ghost use Rattle.front.specs.CreateTable.{Finds, IsEntered, IsRestored, IsTouched, made_from_start};
+
+use super::counted::{Counted, Maker, Saved};
+use super::record::Record;
+use isa::{Reg, pc_plus_4};
+
+/// The creator of a register whose station was not let again.
+#[derive(Clone, Copy)]
+pub struct Creator {
+    pub station: usize,
+    pub tag: u32,
+    pub made: Option<u32>,
+}
+
+// What a tenant has made from the start.
+fn made_at_let(tenant: &Record) -> Option<u32>
+    ensures { result ≡ made_from_start tenant.now }
+{
+    if tenant.links {
+        Some(pc_plus_4(tenant.pc))
+    } else {
+        None
+    }
+}
+
+impl Counted {
+    /// The newest writer of a register, if its station was not let again. Nobody writes register 0.
+    pub fn find(&mut self, r: Reg) -> Option<Creator>
+        ensures found { Finds self.old.table r result }
+        ensures table { self.new.table ≡ self.old.table }
+        ensures touched { IsTouched 2 self.old.touched self.new.touched }
+    {
+        if r.number() == 0 {
+            return None;
+        }
+        let maker = self.entry(r.number() as usize)??;
+        let saved = self.record(maker.station)?;
+        if saved.tag != maker.tag {
+            return None;
+        }
+        Some(Creator {
+            station: maker.station,
+            tag: maker.tag,
+            made: saved.made,
+        })
+    }
+
+    // A tenant is let.
+    pub(super) fn enter(&mut self, newest: &Record)
+        requires { newest.now.station < 32 }
+        ensures table { IsEntered self.old.table self.new.table newest.now }
+        ensures touched { IsTouched 3 self.old.touched self.new.touched }
+    {
+        let replaced = self.entry(newest.destination as usize).flatten();
+        let saved = Saved {
+            tag: newest.tag,
+            register: newest.destination,
+            made: made_at_let(newest),
+            replaced,
+        };
+        self.put_record(newest.station, saved);
+        if 0 < newest.destination && newest.destination < 34 {
+            let maker = Maker {
+                station: newest.station,
+                tag: newest.tag,
+            };
+            self.put_entry(newest.destination as usize, Some(maker));
+        }
+    }
+
+    /// The last tenant of a station, the youngest of the path, is squashed.
+    pub fn restore(&mut self, station: usize)
+        ensures table { IsRestored self.old.table self.new.table station }
+        ensures touched { IsTouched 2 self.old.touched self.new.touched }
+    {
+        let Some(saved) = self.record(station) else {
+            return;
+        };
+        if 0 < saved.register && saved.register < 34 {
+            self.put_entry(saved.register as usize, saved.replaced);
+        }
+    }
+}

@@ -1,0 +1,19 @@
+use Rattle.std.proofs.Common.{rules, ap, arith}
+use Rattle.inorder.specs.Machine.{State}
+use Rattle.counts.specs.declared.tally.Total.TheVariants.{Retires}
+use Rattle.pool.proofs.Counted.{whole}
+use Rattle.pool.proofs.commit.Committer.end.Goals as goal
+
+pub returns-in-Ok-Stop-clause-right : goal.returns-in-Ok-Stop-clause-right
+returns-in-Ok-Stop-clause-right g c =
+    let has = c.self.invariant.0 in
+    let count = ap (λ (s : State). s.count) c.end-end.ensures.state in
+    let told = whole c.read-tally.result.retires _ _ c.end-end.result.n (c.read-tally.ensures.exact Retires has.all) has.retires count (search rules) in
+    (record { in_order = c.end-end.ensures.in_order; retires = told }, search rules)
+
+pub returns-clause-right : goal.returns-clause-right
+returns-clause-right g c =
+    let has = c.self.invariant.0 in
+    let count = ap (λ (s : State). s.count) c.end-end.ensures.state in
+    let told = whole c.read-tally.result.retires _ _ c.end-end.result.n (c.read-tally.ensures.exact Retires has.all) has.retires count (search rules) in
+    (record { in_order = c.end-end.ensures.in_order; retires = told }, c.in-Ok-Limit.is-1)

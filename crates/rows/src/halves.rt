@@ -1,0 +1,182 @@
+//! Multiplications, whose two halves retire one by one.
+ghost use Rattle.std.specs.Prelude.{◌≡◌, ◌≤◌};
+
+use crate::drive::{back_at, commits, finish_one, half, let_at, made, retired, takes};
+use back::{Back, Commit, Naming, Snapper};
+use front::{Front, Recovery};
+use isa::{Config, End, Ending, NotTaken, Program, Stop};
+use station::{Core, UnitSeat};
+use std::alloc::Global;
+use std::marker::Brand;
+use std::process::Abort;
+use std::sync::Wait;
+use std::test::Fail;
+
+const SQUARE: &[u8] = b"addiu $1,$0,-3\nmult $1,$1\nmflo $2\nbreak\n";
+
+const LO: usize = 32;
+
+const HI: usize = 33;
+
+// The product of -3 by itself: its halves stand at stations 1 and 2.
+fn let_square<'a>(rt: &impl Abort, core: &Core, front: &mut Front<'a, NotTaken>)
+    requires { front.old.core ≡ core.now }
+{
+    let lets = [
+        let_at(0, 1, 0x0040_0000),
+        let_at(1, 1, 0x0040_0004),
+        let_at(2, 1, 0x0040_0004),
+        let_at(3, 1, 0x0040_0008),
+    ];
+    takes(rt, core, front, &lets);
+}
+
+// The first half is finished and retires, and the second cannot retire.
+fn first_half_retires<J: Naming>(
+    rt: &impl Abort,
+    core: &Core,
+    program: &Program,
+    unit: &mut UnitSeat,
+    back: &mut Back<J>,
+)
+    requires unit { unit.old.core ≡ core.now }
+    requires back { back.old.core ≡ core.now }
+    requires program { program.now ≡ core.now.program }
+    requires ring { 4 ≤ core.now.sizes.ring }
+    ensures unit { unit.new.core ≡ core.now }
+    ensures back { back.new.core ≡ core.now }
+{
+    assert!(rt; finish_one(core, program, unit, 0));
+    assert!(rt; finish_one(core, program, unit, 1));
+    let answers = [retired(0x0040_0000, 1), half(0x0040_0004), Commit::NotDone];
+    commits(rt, core, back, &answers);
+}
+
+// Count, pc, LO and HI of what is shown.
+fn shown<J: Naming, R: Wait + Abort>(
+    rt: &R,
+    back: &mut Back<J>,
+    snapper: &mut Snapper<J>,
+) -> (u64, u32, u32, u32)
+    ensures { back.new.core ≡ back.old.core }
+{
+    let mark = back.show(rt).expect(rt, "nothing was shown");
+    snapper.learn(&mark);
+    let snap = snapper.take().expect(rt, "no snapshot");
+    (snap.n, snap.pc, snap.registers[LO], snap.registers[HI])
+}
+
+fn ends_with(rt: &impl Abort, end: &End, n: u64, pc: u32, low: u32) {
+    assert_eq!(rt; (end.n, end.pc), (n, pc));
+    assert_eq!(rt; (end.registers[LO], end.registers[HI]), (low, 0));
+}
+
+fn snapshots_of_a_product<J: Naming, R: Wait + Abort>(
+    rt: &R,
+    alloc: Global,
+    program: &Program,
+    config: &Config,
+) -> Result<(), Fail>
+    requires { program.now ≡ J.program }
+{
+    let (core, seat, back_seat, mut unit) = Core::make(alloc, program, config)?;
+    assert!(rt; core.ring() == 4);
+    let mut front = Front::new(&core, seat, program, NotTaken);
+    let_square(rt, &core, &mut front);
+    let (mut back, mut snapper) = back_at::<J>(alloc, &core, back_seat, program, config)?;
+    first_half_retires(rt, &core, program, &mut unit, &mut back);
+    let between = shown(rt, &mut back, &mut snapper);
+    assert!(rt; finish_one(&core, program, &mut unit, 2));
+    assert!(rt; finish_one(&core, program, &mut unit, 3));
+    let answers = [retired(0x0040_0004, 2), retired(0x0040_0008, 3)];
+    commits(rt, &core, &mut back, &answers);
+    let behind = shown(rt, &mut back, &mut snapper);
+    let end = back.end(rt);
+    assert_eq!(rt; between, (1, 0x0040_0004, 0, 0));
+    assert_eq!(rt; behind, (3, 0x0040_000c, 9, 0));
+    ends_with(rt, &end, 3, 0x0040_000c, 9);
+    assert_eq!(rt; end.registers[2], 9);
+    Ok(())
+}
+
+#[test]
+fn a_snapshot_between_two_halves_is_the_one_before_them(rt: HostRuntime) -> Result<(), Fail> {
+    let (program, config) = made(rt.alloc(), SQUARE, 4, 1, 1)?;
+    snapshots_of_a_product::<Brand, _>(&rt, rt.alloc(), &program, &config)
+}
+
+fn end_between_halves<J: Naming, R: Wait + Abort>(
+    rt: &R,
+    alloc: Global,
+    program: &Program,
+    config: &Config,
+) -> Result<(), Fail>
+    requires { program.now ≡ J.program }
+{
+    let (core, seat, back_seat, mut unit) = Core::make(alloc, program, config)?;
+    assert!(rt; core.ring() == 4);
+    let mut front = Front::new(&core, seat, program, NotTaken);
+    let_square(rt, &core, &mut front);
+    let (mut back, _snapper) = back_at::<J>(alloc, &core, back_seat, program, config)?;
+    first_half_retires(rt, &core, program, &mut unit, &mut back);
+    let n = back.n();
+    let end = back.end(rt);
+    assert_eq!(rt; (n, end.outcome), (1, Ending::Limit));
+    ends_with(rt, &end, 1, 0x0040_0004, 0);
+    assert_eq!(rt; end.registers[1], 0xffff_fffd);
+    Ok(())
+}
+
+#[test]
+fn an_end_between_two_halves_is_the_state_before_them(rt: HostRuntime) -> Result<(), Fail> {
+    let (program, config) = made(rt.alloc(), SQUARE, 4, 1, 1)?;
+    end_between_halves::<Brand, _>(&rt, rt.alloc(), &program, &config)
+}
+
+// The first half has its value when both are squashed.
+fn both_squashed<J: Naming, R: Wait + Abort>(
+    rt: &R,
+    alloc: Global,
+    program: &Program,
+    config: &Config,
+) -> Result<(), Fail>
+    requires { program.now ≡ J.program }
+{
+    let (core, seat, back_seat, mut unit) = Core::make(alloc, program, config)?;
+    assert!(rt; core.ring() == 4);
+    let mut front = Front::new(&core, seat, program, NotTaken);
+    let lets = [
+        let_at(0, 1, 0x0040_0000),
+        let_at(1, 1, 0x0040_0004),
+        let_at(2, 1, 0x0040_0008),
+        let_at(3, 1, 0x0040_0008),
+    ];
+    takes(rt, &core, &mut front, &lets);
+    let (mut back, _snapper) = back_at::<J>(alloc, &core, back_seat, program, config)?;
+    assert!(rt; finish_one(&core, program, &mut unit, 0));
+    assert!(rt; finish_one(&core, program, &mut unit, 2));
+    assert!(rt; finish_one(&core, program, &mut unit, 1));
+    let mended = Recovery::Mended {
+        station: 1,
+        squashed: 2,
+    };
+    assert_eq!(rt; front.recover(&core), mended);
+    takes(rt, &core, &mut front, &[let_at(2, 2, 0x0040_000c)]);
+    assert!(rt; finish_one(&core, program, &mut unit, 2));
+    let answers = [
+        retired(0x0040_0000, 1),
+        retired(0x0040_0004, 2),
+        Commit::Ended(Stop::Break),
+    ];
+    commits(rt, &core, &mut back, &answers);
+    let end = back.end(rt);
+    ends_with(rt, &end, 2, 0x0040_000c, 0);
+    Ok(())
+}
+
+#[test]
+fn a_branch_squashes_both_halves(rt: HostRuntime) -> Result<(), Fail> {
+    let listing = b"addiu $1,$0,3\nbeq $0,$0,E\nmult $1,$1\nE: break\n";
+    let (program, config) = made(rt.alloc(), listing, 4, 1, 1)?;
+    both_squashed::<Brand, _>(&rt, rt.alloc(), &program, &config)
+}

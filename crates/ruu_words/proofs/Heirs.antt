@@ -1,0 +1,63 @@
+-- The numbers that a seat may give away, and those of two seats that it is cut into.
+use Rattle.std.proofs.Common.{◌≡◌, ◌≢◌, ℕ, zero, suc, ◌+◌, ◌*◌, ◌/◌, ◌<◌, ◌≤◌, sym, ap, ◌∙◌, arith}
+use Rattle.std.proofs.Math.Nat.{mul-div_cancel}
+use Rattle.ruu_words.specs.declared.rule.Heirs.{Heirs}
+use Rattle.ruu_words.specs.Rule.{IsHeir, half, other_half, without_first}
+
+pub no_heirs : 1 ≤ 0 → ⊥
+no_heirs e = omega arith
+
+module _ (heirs : Heirs) (n : ℕ) where
+  -- all but the first
+  later_is : (f e k : ℕ) → f + e + k * e ≡ f + suc k * e
+  later_is f e k = grind arith
+
+  pub later_of : IsHeir (without_first heirs) n → IsHeir heirs n
+  later_of i = record { some = i.some; k = suc i.k; is = i.is ∙ later_is heirs.first heirs.every i.k }
+
+  above_first : (f e k : ℕ) → 1 ≤ e → f < f + e + k * e
+  above_first f e k h = let rest : 0 ≤ k * e = omega arith in omega arith
+
+  pub not_first : IsHeir (without_first heirs) n → n ≢ heirs.first
+  not_first i e = let is = i.is in let far = above_first heirs.first heirs.every i.k i.some in omega arith
+
+  -- every second
+  half_is : (f e k : ℕ) → f + e + k * (2 * e) ≡ f + (2 * k + 1) * e
+  half_is f e k = grind arith
+
+  pub half_of : IsHeir (half heirs) n → IsHeir heirs n
+  half_of i = let some : 1 ≤ 2 * heirs.every = i.some in record { some = omega arith; k = 2 * i.k + 1; is = i.is ∙ half_is heirs.first heirs.every i.k }
+
+  other_half_is : (f e k : ℕ) → f + 2 * e + k * (2 * e) ≡ f + (2 * k + 2) * e
+  other_half_is f e k = grind arith
+
+  pub other_half_of : IsHeir (other_half heirs) n → IsHeir heirs n
+  other_half_of i = let some : 1 ≤ 2 * heirs.every = i.some in record { some = omega arith; k = 2 * i.k + 2; is = i.is ∙ other_half_is heirs.first heirs.every i.k }
+
+  pub half_not_first : IsHeir (half heirs) n → n ≢ heirs.first
+  half_not_first i e =
+      let is = i.is in
+      let some : 1 ≤ 2 * heirs.every = i.some in
+      let far = above_first heirs.first heirs.every (2 * i.k) (omega arith) in
+      let same : heirs.first + heirs.every + 2 * i.k * heirs.every ≡ heirs.first + heirs.every + i.k * (2 * heirs.every) = grind arith in
+      omega arith
+
+  -- an odd number of steps is not an even one
+  parity : (f e k j : ℕ) → 1 ≤ e → f + (2 * k + 1) * e ≡ f + (2 * j + 2) * e → ⊥
+  parity f e k j h same =
+      let product : (2 * k + 1) * e ≡ (2 * j + 2) * e = omega arith in
+      let steps : 2 * k + 1 ≡ 2 * j + 2 = sym (mul-div_cancel (2 * k + 1) h) ∙ (ap (λ z. z / e) product ∙ mul-div_cancel (2 * j + 2) h) in
+      omega arith
+
+  pub half_apart : IsHeir (half heirs) n → IsHeir (other_half heirs) n → ⊥
+  half_apart i j =
+      let some : 1 ≤ 2 * heirs.every = i.some in
+      parity heirs.first heirs.every i.k j.k (omega arith)
+      (sym (half_is heirs.first heirs.every i.k) ∙ (sym i.is ∙ (j.is ∙ other_half_is heirs.first heirs.every j.k)))
+
+  -- A seat's own number is below them
+  pub own_number : (by : ℕ) → (1 ≤ heirs.every → by < heirs.first) → IsHeir heirs n → by ≢ n
+  own_number by above i e = let h = above i.some in let is = i.is in let far : 0 ≤ i.k * heirs.every = omega arith in omega arith
+
+  pub positive : (by : ℕ) → (1 ≤ heirs.every → by < heirs.first) → IsHeir heirs n → n ≢ 0
+  positive by above i e = let h = above i.some in let is = i.is in let far : 0 ≤ i.k * heirs.every = omega arith in omega arith

@@ -1,0 +1,117 @@
+-- The numbers of seats and of those that are cut from them.
+use Rattle.std.proofs.Common.{◌≡◌, ◌≢◌, ◌⊎◌, ℕ, zero, suc, ◌-◌, ◌+◌, ◌*◌, ◌<◌, ◌≤◌, List, [], sym, refl, ap, ◌∙◌, subst, inl, inr, ⊎_elim, arith}
+use mathlib.Core.Logic.{dite}
+use native.Mathlib.Decide.{ℕ_discrete}
+use Rattle.inorder.specs.declared.history.Entry.{Entry}
+use Rattle.inorder.specs.History.{back, front, own}
+use Rattle.ruu_words.specs.declared.rule.Draft.TheVariants.{Nothing}
+use Rattle.ruu_words.specs.declared.rule.Heirs.{Heirs}
+use Rattle.ruu_words.specs.declared.rule.Role.{Role}
+use Rattle.ruu_words.specs.declared.rule.Role.TheVariants.{Back, Front, Spent, Start, Worker}
+use Rattle.ruu_words.specs.declared.rule.View.{View}
+use Rattle.ruu_words.specs.Rule.{IsCaller, IsHeir, Unborn, half, nobody, other_half, view, without_first}
+use Rattle.ruu_words.proofs.Heirs.{half_of, other_half_of}
+use Rattle.station.specs.Quiet.{SplitsShareNumbers, UnitsAreNumbered}
+use Rattle.station.specs.Seats.{HasHeirs, IsGiver, IsNumbered}
+
+-- Behind a step, or behind a call of the front or of the back
+
+giver_on : (v w : View) → w.by ≡ v.by → w.heirs ≡ v.heirs → Unborn w → IsGiver v → IsGiver w
+giver_on v w by heirs unborn g = record {
+  some = subst (λ (z : Heirs). 1 ≤ z.every) (sym heirs) g.some;
+  above = subst (λ (z : ℕ × Heirs). z.0 < z.1.first) (λ i. (sym by i, sym heirs i)) g.above;
+  unborn = unborn;
+}
+
+pub numbered_on : (role : Role) (v w : View) → w.by ≡ v.by → w.heirs ≡ v.heirs → Unborn w → IsNumbered role v → IsNumbered role w
+numbered_on role v w by heirs unborn n = record { caller = subst (IsCaller role) (sym by) n.caller; heirs = go role n.heirs }
+  where
+    go : (r : Role) → HasHeirs r v → HasHeirs r w
+    go Start h = absurd h
+    go Front h = heirs ∙ h
+    go Back h = heirs ∙ h
+    go Worker h = giver_on v w by heirs unborn h
+    go Spent h = absurd h
+
+pub front_numbered : (v w : View) → w.by ≡ v.by → w.heirs ≡ v.heirs → IsNumbered Front v → IsNumbered Front w
+front_numbered v w by heirs n = record { caller = by ∙ n.caller; heirs = heirs ∙ n.heirs }
+
+pub back_numbered : (v w : View) → w.by ≡ v.by → w.heirs ≡ v.heirs → IsNumbered Back v → IsNumbered Back w
+back_numbered v w by heirs n = record { caller = by ∙ n.caller; heirs = heirs ∙ n.heirs }
+
+-- Cuts
+
+first_of : (heirs : Heirs) → 1 ≤ heirs.every → IsHeir heirs heirs.first
+first_of heirs some = record { some = some; k = 0; is = sym (none heirs.first heirs.every) }
+  where
+    none : (f e : ℕ) → f + 0 * e ≡ f
+    none f e = omega arith
+
+module _ (v w : View) where
+  -- a seat that has given away a number, and every second of the rest
+  pub left_numbered : w ≡ view v.role v.by (half v.heirs) v.seen v.draft → IsNumbered Worker v → IsNumbered Worker w
+  left_numbered e n =
+      let g = n.heirs in
+      let above = g.above in
+      let some = g.some in
+      subst (IsNumbered Worker) (sym e) (record {
+        caller = n.caller;
+        heirs = record { some = omega arith; above = omega arith; unborn = λ m i. g.unborn m (half_of v.heirs m i) };
+      })
+
+  -- and the seat that has got them
+  pub right_numbered : w ≡ view Worker v.heirs.first (other_half v.heirs) v.seen Nothing → IsNumbered Worker v → IsNumbered Worker w
+  right_numbered e n =
+      let g = n.heirs in
+      let above = g.above in
+      let some = g.some in
+      let unit : 2 ≤ v.by = n.caller in
+      subst (IsNumbered Worker) (sym e) (record {
+        caller = omega arith;
+        heirs = record { some = omega arith; above = omega arith; unborn = λ m i. g.unborn m (other_half_of v.heirs m i) };
+      })
+
+-- its caller has done nothing
+pub born_now : (v : View) → IsNumbered Worker v → own v.heirs.first v.seen ≡ []
+born_now v n = n.heirs.unborn v.heirs.first (first_of v.heirs n.heirs.some)
+
+pub born_apart : (v : View) → IsNumbered Worker v → v.heirs.first ≢ v.by
+born_apart v n e = let above = n.heirs.above in omega arith
+
+-- All units, and the numbers at a split
+
+pub units_are_numbered : UnitsAreNumbered
+units_are_numbered n unit = dite (ℕ_discrete n 2) (λ e. inl e) (λ ne. inr (record { some = omega arith; k = n - 3; is = omega arith }))
+
+steps : (k : ℕ) → (k ≡ 0) ⊎ (((j : ℕ) × (k ≡ 2 * j + 1)) ⊎ ((j : ℕ) × (k ≡ 2 * j + 2)))
+steps zero = inl refl
+steps (suc k) = ⊎_elim
+    (λ (e : k ≡ 0). inr (inl (0, omega arith)))
+    (λ x. ⊎_elim
+    (λ (o : (j : ℕ) × (k ≡ 2 * j + 1)). let is = o.1 in inr (inr (o.0, omega arith)))
+    (λ (o : (j : ℕ) × (k ≡ 2 * j + 2)). let is = o.1 in inr (inl (o.0 + 1, omega arith)))
+    x)
+    (steps k)
+
+odd_steps : (f e j : ℕ) → f + (2 * j + 1) * e ≡ f + e + j * (2 * e)
+odd_steps f e j = grind arith
+
+even_steps : (f e j : ℕ) → f + (2 * j + 2) * e ≡ f + 2 * e + j * (2 * e)
+even_steps f e j = grind arith
+
+pub splits_share : SplitsShareNumbers
+splits_share heirs n i =
+    let f : ℕ = heirs.first in
+    let e : ℕ = heirs.every in
+    let some = i.some in
+    let is : n ≡ f + i.k * e = i.is in
+    ⊎_elim
+    (λ (z : i.k ≡ 0). inl (is ∙ (ap (λ k. f + k * e) z ∙ none f e)))
+    (λ x. inr (⊎_elim
+    (λ (o : (j : ℕ) × (i.k ≡ 2 * j + 1)). inl (record { some = omega arith; k = o.0; is = is ∙ (ap (λ k. f + k * e) o.1 ∙ odd_steps f e o.0) }))
+    (λ (o : (j : ℕ) × (i.k ≡ 2 * j + 2)). inr (record { some = omega arith; k = o.0; is = is ∙ (ap (λ k. f + k * e) o.1 ∙ even_steps f e o.0) }))
+    x))
+    (steps i.k)
+  where
+    none : (f e : ℕ) → f + 0 * e ≡ f
+    none f e = omega arith

@@ -1,0 +1,5 @@
+use Rattle.station.proofs.Opens.{ready_tenants_stay}
+use Rattle.station.proofs.laws.a_ready_tenant_stays.Goals as goal
+
+pub returns : goal.returns
+returns c = ready_tenants_stay
