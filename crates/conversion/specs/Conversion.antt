@@ -1,0 +1,45 @@
+-- What an executable means, and that a listing says it.
+use Rattle.std.specs.Prelude.{◌≡◌, ℕ, ⊤, List, length, Result, Ok, Err}
+use Rattle.isa.specs.declared.instr.Instr.{Instr}
+use Rattle.isa.specs.Programs.{Program}
+use Rattle.isa.specs.Listing.{listing}
+use Rattle.executables.specs.declared.refusal.Refusal.{Refusal as FileRefusal}
+use Rattle.executables.specs.declared.refusal.Refusal.TheVariants as file
+use Rattle.executables.specs.Images.{Loaded}
+use Rattle.executables.specs.Placing.{loaded_from}
+use Rattle.conversion.specs.declared.refusal.Refusal.{Refusal}
+use Rattle.conversion.specs.declared.refusal.Refusal.TheVariants.{File, Unlike, Memory}
+use Rattle.conversion.specs.Meaning.{meant_up_to}
+
+-- a listing that was made is not read back
+abbrev pub IsUnread : Refusal → Type 0
+IsUnread Unlike = ⊤
+IsUnread Memory = ⊤
+IsUnread _ = ⊥
+
+-- why a file gives no listing, where it is no program for this machine
+abbrev pub refusal_of : FileRefusal → Refusal
+refusal_of file.Memory = Memory
+refusal_of why = File why
+
+abbrev pub with_bytes : List ℕ → Result (List Instr) Refusal → Result Program Refusal
+with_bytes bytes (Ok code) = Ok (record { code = code; bytes = bytes })
+with_bytes bytes (Err refusal) = Err refusal
+
+-- what words and bytes mean
+abbrev pub program_of : Loaded → Result Program Refusal
+program_of loaded = with_bytes loaded.bytes (meant_up_to loaded.code (length loaded.code))
+
+abbrev pub program_by : Result Loaded FileRefusal → Result Program Refusal
+program_by (Ok loaded) = program_of loaded
+program_by (Err why) = Err (refusal_of why)
+
+-- the program that the words and bytes of a file mean, or why it means none
+abbrev pub program_in : List ℕ → Result Program Refusal
+program_in file = program_by (loaded_from file)
+
+-- parsing a listing gives exactly the program that a file means
+pub record IsSaid (file text : List ℕ) : Type 0 where
+  pub program : Program
+  pub meant : program_in file ≡ Ok program
+  pub said : listing text ≡ Ok program

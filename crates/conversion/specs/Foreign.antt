@@ -1,0 +1,33 @@
+-- Words that are no operation of a listing, by their names in MIPS I.
+use Rattle.std.specs.Prelude.{ℕ, Bool, ◌/◌, ◌==◌, ◌||◌, if◌then◌else◌}
+use Rattle.machine_words.specs.Fields.{opcode_of, rt_of, function_of}
+use Rattle.conversion.specs.declared.foreign.Foreign.{Foreign}
+use Rattle.conversion.specs.declared.foreign.Foreign.TheVariants.{Syscall, Break, Bltzal, Bgezal, Lwl, Lwr, Swl, Swr, Coprocessor, Unknown}
+
+-- with opcode 0, by the function
+abbrev pub special : ℕ → Foreign
+special function =
+    if function == 12 then Syscall else (if function == 13 then Break else Unknown)
+
+-- with opcode 1, by the field rt
+abbrev pub linking : ℕ → Foreign
+linking rt = if rt == 16 then Bltzal else (if rt == 17 then Bgezal else Unknown)
+
+-- operations of the coprocessors, their loads and their stores: four opcodes each
+abbrev pub is_of_coprocessor : ℕ → Bool
+is_of_coprocessor opcode = (opcode / 4 == 4) || ((opcode / 4 == 12) || (opcode / 4 == 14))
+
+-- with another opcode
+abbrev pub other : ℕ → Foreign
+other opcode =
+    if opcode == 34 then Lwl
+    else (if opcode == 38 then Lwr
+    else (if opcode == 42 then Swl
+    else (if opcode == 46 then Swr
+    else (if is_of_coprocessor opcode then Coprocessor else Unknown))))
+
+-- what a word is that is no operation of a listing
+abbrev pub foreign_of : ℕ → Foreign
+foreign_of word =
+    if opcode_of word == 0 then special (function_of word)
+    else (if opcode_of word == 1 then linking (rt_of word) else other (opcode_of word))

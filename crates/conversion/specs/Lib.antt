@@ -1,0 +1,3 @@
+pub mod Foreign
+pub mod Meaning
+pub mod Conversion

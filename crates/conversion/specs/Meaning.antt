@@ -1,0 +1,70 @@
+-- What the words of a text mean.
+use Rattle.std.specs.Prelude.{ℕ, zero, suc, ◌+◌, ◌%◌, ◌==◌, ◌&&◌, Bool, true, false, not, nat_lt, nat_le, List, [], ◌∷◌, ◌++◌, length, slice_get, slice_index, Option, Some, None, Result, Ok, Err, if◌then◌else◌}
+use Rattle.isa.specs.declared.op.Op.{Op}
+use Rattle.isa.specs.declared.op.Op.TheVariants.{Jr, Jalr}
+use Rattle.isa.specs.declared.op.Kind.{Kind}
+use Rattle.isa.specs.declared.op.Kind.TheVariants.{Jumps, Links}
+use Rattle.isa.specs.declared.instr.Instr.{Instr}
+use Rattle.isa.specs.Instruction.{kind}
+use Rattle.isa.specs.Programs.{text_start, address}
+use Rattle.machine_words.specs.Words.{decode}
+use Rattle.conversion.specs.declared.refusal.Refusal.{Refusal}
+use Rattle.conversion.specs.declared.refusal.Refusal.TheVariants.{Word, Target, Slot, NoSlot}
+use Rattle.conversion.specs.Foreign.{foreign_of}
+
+-- branches and jumps have a delay slot: the word behind them
+abbrev pub has_slot_by : Kind → Bool
+has_slot_by Jumps = true
+has_slot_by Links = true
+has_slot_by _ = false
+
+abbrev pub has_slot : Op → Bool
+has_slot op = has_slot_by (kind op)
+
+-- all of them but `jr` and `jalr` name where they go
+abbrev pub has_target : Op → Bool
+has_target Jr = false
+has_target Jalr = false
+has_target op = has_slot op
+
+-- an address is that of one of n instructions
+abbrev pub is_inside : ℕ → ℕ → Bool
+is_inside n target = (target % 4 == 0) && (nat_le text_start target && nat_lt target (address n))
+
+-- An instruction at an address, with the word behind it. Here nothing is done in a delay slot, so it
+-- has to be a `nop`, which is the word 0.
+abbrev pub with_slot : (at word : ℕ) → Instr → Option ℕ → Result Instr Refusal
+with_slot at word i None = Err (NoSlot at word)
+with_slot at word i (Some next) = if next == 0 then Ok i else Err (Slot (at + 4) next)
+
+-- instruction k of a text, if where it goes and its delay slot are as they have to be
+abbrev pub checked : List ℕ → ℕ → Instr → Result Instr Refusal
+checked words k i =
+    if has_target i.op && not (is_inside (length words) i.number)
+    then Err (Target (address k) (slice_index words k) i.number)
+    else (if has_slot i.op
+    then with_slot (address k) (slice_index words k) i (slice_get words (k + 1))
+    else Ok i)
+
+abbrev pub checked_if : List ℕ → ℕ → Option Instr → Result Instr Refusal
+checked_if words k None =
+    Err (Word (address k) (slice_index words k) (foreign_of (slice_index words k)))
+checked_if words k (Some i) = checked words k i
+
+-- the instruction that word k of a text is
+abbrev pub meant : List ℕ → ℕ → Result Instr Refusal
+meant words k = checked_if words k (decode (address k) (slice_index words k))
+
+-- an instruction behind others; the first refusal decides
+abbrev pub behind : List Instr → Result Instr Refusal → Result (List Instr) Refusal
+behind is (Ok i) = Ok (is ++ i ∷ [])
+behind is (Err refusal) = Err refusal
+
+abbrev pub with_next : List ℕ → ℕ → Result (List Instr) Refusal → Result (List Instr) Refusal
+with_next words k (Ok is) = behind is (meant words k)
+with_next words k (Err refusal) = Err refusal
+
+-- the instructions that the first n words of a text are
+unfoldable pub meant_up_to : List ℕ → ℕ → Result (List Instr) Refusal
+meant_up_to words zero = Ok []
+meant_up_to words (suc n) = with_next words n (meant_up_to words n)

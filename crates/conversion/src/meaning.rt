@@ -1,0 +1,111 @@
+//! What the words of a text mean.
+ghost use Rattle.std.specs.Prelude.{◌≡◌, ◌≢◌, ◌<◌, ◌≤◌, Ok, Err, IfOk, IfErr, length};
+ghost use Rattle.isa.specs.Programs.{address as address_at};
+ghost use Rattle.conversion.specs.Meaning.{has_slot as has_slot_of, has_target as has_target_of, is_inside as is_inside_of, checked as checked_by, meant as meant_by, meant_up_to};
+
+use crate::Refusal;
+use crate::foreign::foreign_word;
+use isa::{Instr, Kind, Op, Program};
+use machine_words::decode;
+use std::alloc::Global;
+
+/// The address of word `k`.
+pub fn address_of(k: usize) -> u32
+    requires { k ≤ 16384 }
+    ensures { result ≡ address_at k }
+{
+    Program::START + 4 * k as u32
+}
+
+fn has_slot(op: Op) -> bool
+    ensures { result ≡ has_slot_of op }
+{
+    matches!(op.kind(), Kind::Jumps | Kind::Links)
+}
+
+/// It names where it goes.
+pub fn has_target(op: Op) -> bool
+    ensures { result ≡ has_target_of op }
+{
+    match op {
+        Op::Jr | Op::Jalr => false,
+        _ => has_slot(op),
+    }
+}
+
+fn is_inside(len: usize, target: u32) -> bool
+    requires { len ≤ 16384 }
+    ensures { result ≡ is_inside_of len target }
+{
+    target % 4 == 0 && Program::START <= target && target < address_of(len)
+}
+
+// instruction k, if where it goes and its delay slot are as they have to be
+fn checked(code: &[u32], k: usize, instr: Instr) -> Result<Instr, Refusal>
+    requires small { length code.now ≤ 16384 }
+    requires inside { k < length code.now }
+    ensures { result ≡ checked_by code.now k instr }
+{
+    let op = instr.op();
+    let address = address_of(k);
+    let word = code[k];
+    let target = instr.number();
+    if has_target(op) && !is_inside(code.len(), target) {
+        return Err(Refusal::Target {
+            address,
+            word,
+            target,
+        });
+    }
+    if !has_slot(op) {
+        return Ok(instr);
+    }
+    match code.get(k + 1) {
+        None => Err(Refusal::NoSlot { address, word }),
+        Some(next) if *next == 0 => Ok(instr),
+        Some(next) => Err(Refusal::Slot {
+            address: address + 4,
+            word: *next,
+        }),
+    }
+}
+
+// the instruction that word k is
+fn meant(code: &[u32], k: usize) -> Result<Instr, Refusal>
+    requires small { length code.now ≤ 16384 }
+    requires inside { k < length code.now }
+    ensures { result ≡ meant_by code.now k }
+{
+    let address = address_of(k);
+    let word = code[k];
+    match decode(word, address) {
+        Some(said) => {
+            let instr = Instr::new(said.op, said.target, said.first, said.second, said.number);
+            checked(code, k, instr)
+        }
+        None => Err(Refusal::Word {
+            address,
+            word,
+            what: foreign_word(word),
+        }),
+    }
+}
+
+/// The instructions that the words of a text are, or the first refusal.
+#[tactic(auto, using(crate::proofs::Steps::meant_none, crate::proofs::Steps::meant_next, crate::proofs::Steps::refused_by_one))]
+pub fn instructions(alloc: Global, code: &[u32]) -> Result<Vec<Instr>, Refusal>
+    requires { length code.now ≤ 16384 }
+    ensures ok { IfOk result (λ v. meant_up_to code.now (length code.now) ≡ Ok v.items) }
+    ensures length { IfOk result (λ v. length v.items ≡ length code.now) }
+    ensures fault { IfErr result (λ e. e ≢ Refusal.Memory
+        → meant_up_to code.now (length code.now) ≡ Err e) }
+{
+    let mut found = Vec::with_capacity(alloc, code.len())?;
+    'words: for k in 0..code.len() {
+        match meant(code, k) {
+            Ok(instr) => found.push(instr)?,
+            Err(refusal) => return Err(refusal),
+        }
+    }
+    Ok(found)
+}

@@ -1,0 +1,73 @@
+//! Why a file gives no listing.
+ghost use Rattle.std.specs.Prelude.{◌≡◌};
+ghost use Rattle.conversion.specs.declared.refusal.Refusal.TheVariants.{Memory};
+ghost use Rattle.conversion.specs.Conversion.{refusal_of};
+
+use crate::Foreign;
+use executables::Refusal as FileRefusal;
+use std::alloc::{AllocError, AllocFailed};
+use thiserror::Error;
+
+/// Why a file gives no listing.
+#[derive(Clone, Copy, Debug, Drop, PartialEq, Eq, Error)]
+pub enum Refusal {
+    /// The file is no program for this machine.
+    #[error("{why}")]
+    File {
+        why: FileRefusal,
+    },
+    #[error("the word {word:#010x} at {address:#010x} is no operation here: it is {what}")]
+    Word {
+        address: u32,
+        word: u32,
+        what: Foreign,
+    },
+    #[error("the word {word:#010x} at {address:#010x} goes to {target:#010x}, outside the text")]
+    Target {
+        address: u32,
+        word: u32,
+        target: u32,
+    },
+    #[error("the word {word:#010x} at {address:#010x} is in a delay slot and is no nop")]
+    Slot {
+        address: u32,
+        word: u32,
+    },
+    #[error("the word {word:#010x} at {address:#010x} has no delay slot behind it")]
+    NoSlot {
+        address: u32,
+        word: u32,
+    },
+    /// The text that was made would say something else than the file does, and is thrown away.
+    #[error("the listing would not say what the file does")]
+    Unlike,
+    #[error("out of memory")]
+    Memory,
+}
+
+impl From<FileRefusal> for Refusal {
+    ghost from_gives = { λ why e. e ≡ refusal_of why };
+
+    fn from(why: FileRefusal) -> Refusal {
+        match why {
+            FileRefusal::Memory => Refusal::Memory,
+            _ => Refusal::File { why },
+        }
+    }
+}
+
+impl From<AllocError> for Refusal {
+    ghost from_gives = { λ _ e. e ≡ Memory };
+
+    fn from(_error: AllocError) -> Refusal {
+        Refusal::Memory
+    }
+}
+
+impl<T: Drop> From<AllocFailed<T>> for Refusal {
+    ghost from_gives = { λ _ e. e ≡ Memory };
+
+    fn from(_error: AllocFailed<T>) -> Refusal {
+        Refusal::Memory
+    }
+}

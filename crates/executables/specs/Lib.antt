@@ -1,0 +1,5 @@
+pub mod Bytes
+pub mod Images
+pub mod Headers
+pub mod Placing
+pub mod Symbols

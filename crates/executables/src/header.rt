@@ -1,0 +1,88 @@
+//! The header of a file.
+ghost use Rattle.std.specs.Prelude.{◌≡◌, ◌≤◌, ◌+◌, ◌*◌, IfOk, length};
+ghost use Rattle.executables.specs.Headers.{has_magic as has_magic_of, unfit as unfit_of, table_in as table_inside, table_of as table_by};
+
+use crate::Refusal;
+use crate::bytes::{half_at, word_at};
+use isa::Program;
+
+/// Where the program headers begin, and how many there are. Each has 32 bytes.
+#[derive(Clone, Copy)]
+pub struct Table {
+    pub at: u32,
+    pub count: u32,
+}
+
+/// How many bytes the header has.
+const HEADER: usize = 52;
+
+/// How many bytes a program header has.
+pub const PROGRAM_HEADER: usize = 32;
+
+fn has_magic(file: &[u8]) -> bool
+    ensures { result ≡ has_magic_of file.now }
+{
+    if file.len() < 4 {
+        return false;
+    }
+    word_at(file, 0) == 0x464c_457f
+}
+
+#[tactic(auto, unfolding(crate::specs::Headers::unfit))]
+fn unfit(file: &[u8]) -> Option<Refusal>
+    requires { 52 ≤ length file.now }
+    ensures { result ≡ unfit_of file.now }
+{
+    if file[4] != 1 {
+        return Some(Refusal::Class);
+    }
+    if file[5] != 1 {
+        return Some(Refusal::ByteOrder);
+    }
+    if half_at(file, 16) != 2 {
+        return Some(Refusal::Kind);
+    }
+    if half_at(file, 18) != 8 {
+        return Some(Refusal::Machine);
+    }
+    None
+}
+
+#[tactic(auto, unfolding(crate::specs::Headers::table_in))]
+fn table_in(file: &[u8]) -> Result<Table, Refusal>
+    requires { 52 ≤ length file.now }
+    ensures value { result ≡ table_inside file.now }
+    ensures inside { IfOk result (λ table. table.at + 32 * table.count ≤ length file.now) }
+{
+    let address = word_at(file, 24);
+    if address != Program::START {
+        return Err(Refusal::Entry { address });
+    }
+    if half_at(file, 42) as usize != PROGRAM_HEADER {
+        return Err(Refusal::Headers);
+    }
+    let at = word_at(file, 28);
+    let count = half_at(file, 44);
+    if file.len() < at as usize + PROGRAM_HEADER * count as usize {
+        return Err(Refusal::Cut);
+    }
+    Ok(Table { at, count })
+}
+
+/// The program headers of a file.
+#[tactic(auto, unfolding(crate::specs::Headers::table_of))]
+pub fn table_of(file: &[u8]) -> Result<Table, Refusal>
+    ensures value { result ≡ table_by file.now }
+    ensures inside { IfOk result (λ table. table.at + 32 * table.count ≤ length file.now) }
+{
+    if !has_magic(file) {
+        return Err(Refusal::NotElf);
+    }
+    if file.len() < HEADER {
+        return Err(Refusal::Cut);
+    }
+    if let Some(refusal) = unfit(file) {
+        return Err(refusal);
+    }
+    table_in(file)
+}

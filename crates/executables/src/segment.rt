@@ -1,0 +1,35 @@
+//! Program headers.
+ghost use Rattle.std.specs.Prelude.{◌≡◌, ◌≤◌, ◌+◌, length};
+ghost use Rattle.executables.specs.Headers.{segment_of};
+
+use crate::bytes::word_at;
+
+/// What a program header says of a segment.
+#[derive(Clone, Copy)]
+pub struct Segment {
+    pub kind: u32,
+    /// Where its bytes begin in the file.
+    pub offset: u32,
+    /// Where they go.
+    pub address: u32,
+    /// How many bytes the file has of it.
+    pub filled: u32,
+    /// How many bytes it takes.
+    pub size: u32,
+}
+
+impl Segment {
+    /// The program header at a place of the file.
+    pub fn at(file: &[u8], at: usize) -> Segment
+        requires { at + 32 ≤ length file.now }
+        ensures { result ≡ segment_of file.now at }
+    {
+        Segment {
+            kind: word_at(file, at),
+            offset: word_at(file, at + 4),
+            address: word_at(file, at + 8),
+            filled: word_at(file, at + 16),
+            size: word_at(file, at + 20),
+        }
+    }
+}

@@ -1,0 +1,25 @@
+-- Faults, and the exit statuses that go with them.
+use Rattle.std.specs.Prelude.{ℕ}
+use Rattle.devices.specs.declared.input.InputFault.{InputFault}
+use Rattle.devices.specs.declared.input.InputFault.TheVariants as input
+use Rattle.conversion.specs.declared.refusal.Refusal.{Refusal as NoListing}
+use Rattle.conversion.specs.declared.refusal.Refusal.TheVariants as no
+use Rattle.listing.specs.declared.fault.Fault.{Fault}
+use Rattle.listing.specs.declared.fault.Fault.TheVariants.{Refused, TooLong, Read, Write, Memory}
+
+-- 2 where the file has no listing, 5 where a device or memory fails
+abbrev pub status_of : Fault → ℕ
+status_of (Refused why) = 2
+status_of TooLong = 2
+status_of Read = 5
+status_of Write = 5
+status_of Memory = 5
+
+-- what a file that has no listing is refused with
+abbrev pub fault_of : NoListing → Fault
+fault_of no.Memory = Memory
+fault_of why = Refused why
+
+abbrev pub input_fault : InputFault → Fault
+input_fault input.Read = Read
+input_fault input.Memory = Memory

@@ -1,0 +1,4 @@
+pub mod Each
+pub mod Halves
+pub mod Table
+pub mod Rebuilt

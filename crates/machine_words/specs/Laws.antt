@@ -1,0 +1,22 @@
+-- What holds of every word and every operation.
+use Rattle.std.specs.Prelude.{◌≡◌, ℕ, ◌<◌, ◌^◌, Some}
+use Rattle.isa.specs.declared.op.Op.{Op}
+use Rattle.isa.specs.declared.instr.Instr.{Instr}
+use Rattle.machine_words.specs.Words.{decode}
+
+-- two words that say one instruction at an address are one word
+abbrev pub OneWordForEachInstruction : Type 0
+OneWordForEachInstruction =
+    (pc word other : ℕ) (i : Instr)
+    → decode pc word ≡ Some i → decode pc other ≡ Some i → word ≡ other
+
+-- some word says an instruction of the operation at any address
+pub record HasWord (op : Op) (pc : ℕ) : Type 0 where
+  pub word : ℕ
+  pub fits : word < 2 ^ 32
+  pub says : Instr
+  pub is : decode pc word ≡ Some says
+  pub of : says.op ≡ op
+
+abbrev pub EachOperationHasAWord : Type 0
+EachOperationHasAWord = (op : Op) (pc : ℕ) → HasWord op pc

@@ -1,0 +1,13 @@
+//! What holds of every word. Each function is a law: it does nothing, and its contract is proved.
+ghost use Rattle.machine_words.specs.Laws.{OneWordForEachInstruction, EachOperationHasAWord};
+
+/// Two words that say one instruction at an address are one word: no bit of a word is without a
+/// meaning.
+pub fn one_word_for_each_instruction()
+    ensures { OneWordForEachInstruction }
+{}
+
+/// Each operation of the language is what some word says.
+pub fn each_operation_has_a_word()
+    ensures { EachOperationHasAWord }
+{}
