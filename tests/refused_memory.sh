@@ -1,45 +1,59 @@
 #!/usr/bin/env bash
-# Refuses each allocation of runs of `alone` and, on threads, of `ruu` in turn, until none is left to refuse. Each refusal
-# has to end with status 5, `ruu: memory` (or `ruu: thread`, where a thread wanted it) on standard error and nothing on
-# standard output; or, where the command line's reader can do without, in the whole report. No block may be held.
-set -u
-cd "$(dirname "$0")/.."
-work=$(mktemp -d)
-trap 'rm -rf "$work"' EXIT
-cc -O2 -shared -fPIC -o "$work/refuse.so" tests/refuse.c || exit 1
-for program in alone ruu; do
-  (cd crates/$program && rt run < /dev/null > "$work/log" 2>&1)
-  [ -x crates/$program/out/$program ] || { cat "$work/log"; exit 1; }
-done
+# Refuses each allocation of whole runs in turn, until none is left to refuse: of `alone`, and of `ruu` on one thread and
+# on several, on the examples and on a listing with a fault. A refusal has to end with status 5, 'ruu: memory' (or
+# 'ruu: thread', once for each thread) and no report, or in the very report that the run with all its memory has. Then
+# each allocation of the snapshots that a run shows, which is always 'ruu: memory'.
+. "$(dirname "$0")/common.bash"
+build_refuse
+build run alone
+build run ruu
 
-# the last run was refused as it has to be, or was not harmed
-is_well() { # status, report, words that a refusal may print
-  grep -q '^held$' "$work/err" && return 1
-  if [ "$1" -eq 5 ]; then
-    [ ! -s "$work/out" ] && grep -qE "^ruu: ($3)$" "$work/err"
+# The tally's line counts what the report does; no other whole run says anything on standard error.
+is_said() { # report, whether it runs on threads
+  local count
+  count=$(sed -n 's/^count //p' "$1")
+  if [ "$2" = threads ] && [ -n "$count" ]; then
+    local n='[0-9]+'
+    [[ $said =~ ^tally\ lets\ $n\ claims\ $n\ finishes\ $n\ stale\ $n\ loads\ $n\ retires\ $count\ squashes\ $n\ mends\ $n$ ]]
   else
-    [ -n "$2" ] && cmp -s "$work/out" "$2"
+    [ -z "$said" ]
   fi
 }
 
-refuse() { # listing, report or nothing, words that a refusal may print, command
-  local listing=$1 report=$2 words=$3 n=1
-  shift 3
+refuse() { # name, threads or alone, how many threads want memory, listing, report, command with its variables
+  local name=$1 how=$2 threads=$3 listing=$4 report=$5 n=0 refused=0 unstarted=0
+  local of=${report%.report}
+  shift 5
   while :; do
-    LD_PRELOAD="$work/refuse.so" REFUSED=$n "$@" < "$listing" > "$work/out" 2> "$work/err"
-    local status=$?
-    grep -q '^refused$' "$work/err" || break
-    if ! is_well $status "$report" "$words"; then
-      echo "$*, $listing, allocation $n: status $status"
-      cat "$work/err"
-      exit 1
-    fi
     n=$((n + 1))
+    run_under "$listing" REFUSED=$n "$@"
+    $was_refused || break
+    if is_refused memory; then
+      refused=$((refused + 1))
+    elif is_refused thread; then
+      unstarted=$((unstarted + 1))
+    else
+      is_whole "$report" && is_said "$report" "$how" || fail "$name, $of, allocation $n refused: status $status"
+    fi
   done
-  echo "${1##*/}, $listing: each of $((n - 1)) allocations was refused in turn"
+  is_whole "$report" && is_said "$report" "$how" || fail "$name, $of, with all its memory: status $status"
+  [ $refused -gt 0 ] || fail "$name, $of: no refusal was told of, of $((n - 1))"
+  [ $unstarted -eq "$threads" ] || fail "$name, $of: $unstarted threads were not started, and not $threads"
+  echo "$name, $of: each of $((n - 1)) allocations was refused in turn, $((refused + unstarted)) told"
 }
 
-for listing in examples/*.s; do
-  refuse "$listing" "" memory crates/alone/out/alone
-  refuse "$listing" "${listing%.s}.report" "memory|thread" crates/ruu/out/ruu run "$listing" --units 2
+for listing in examples/*.s tests/listings/*.s; do
+  report=${listing%.s}.report
+  refuse alone alone 0 "$listing" "$report" crates/alone/out/alone
+  refuse 'ruu --alone' alone 0 /dev/null "$report" crates/ruu/out/ruu run "$listing" --alone
 done
+# two units, one that dispatches, and one that takes snapshots
+for listing in examples/*.s; do
+  refuse ruu threads 4 /dev/null "${listing%.s}.report" crates/ruu/out/ruu run "$listing" --units 2
+done
+listing=tests/listings/fault
+refuse ruu threads 0 /dev/null $listing.report crates/ruu/out/ruu run $listing.s --units 2
+
+# Once the threads of a run with one unit have been started, dispatch, unit and snapshots, only what is shown takes memory.
+refuse 'ruu, what it shows' threads 0 /dev/null examples/fibonacci.report \
+  WHILE_THREADS=3 crates/ruu/out/ruu run examples/fibonacci.s --units 1

@@ -1,11 +1,14 @@
 -- What is told of a listing, from what is known of its end.
-use Rattle.std.proofs.Common.{◌≡◌, ◌≤◌, ◌∙◌, ℕ, true, false, List, take, refl, ap, ap₂, sym, subst, arith, Option, Some, None, Result, Ok, Err, IfSome, IfOk, IfErr, IsErrAnd}
+use Rattle.std.proofs.Common.{◌≡◌, ◌≤◌, ◌∙◌, ℕ, inl, inr, true, false, List, take, refl, ap, ap₂, sym, subst, arith, Option, Some, None, Result, Ok, Err, IfSome, IfOk, IfErr, IsErrAnd}
+use Rattle.std.proofs.lemmas.Bool.{cases_lt}
 use Rattle.isa.specs.declared.end.End.{End}
 use Rattle.isa.specs.declared.end.Ending.{Ending}
+use Rattle.isa.specs.declared.end.Ending.TheVariants.{Limit}
 use Rattle.isa.specs.declared.listing.fault.FaultKind.{FaultKind}
 use Rattle.isa.specs.Listing.{listing}
 use Rattle.isa.specs.Programs.{Program}
 use Rattle.isa.specs.Report.{fault_line, report_of}
+use Rattle.isa.specs.Settings.{Settings}
 use Rattle.inorder.specs.Machine.{State}
 use Rattle.inorder.specs.Runs.{end_of}
 use Rattle.back.specs.Ends.{state_in}
@@ -17,16 +20,17 @@ use Rattle.bench.specs.declared.outcome.Status.{Status}
 use Rattle.bench.specs.declared.outcome.Status.TheVariants.{TextFault}
 use Rattle.pool.specs.declared.answer.Run.{Run}
 use Rattle.pool.specs.declared.answer.Run.TheVariants as run
-use Rattle.pool.specs.declared.answer.Tally.{Tally as Totals}
-use Rattle.pool.specs.Runs.{IsAfter, IsRight, IsWithin}
+use Rattle.counts.specs.declared.tally.Tally.{Tally as Totals}
+use Rattle.pool.specs.Runs.{IsAfter, IsRight, IsWithin, TakesTurns}
 use Rattle.command.specs.declared.request.Asked.{Asked}
 use Rattle.command.specs.declared.went.Line.{Line}
 use Rattle.command.specs.declared.went.Line.TheVariants.{Nothing, Refused, Tally}
 use Rattle.command.specs.declared.went.Refusal.{Refusal}
 use Rattle.command.specs.declared.went.Refusal.TheVariants.{Write}
 use Rattle.command.specs.declared.went.Went.{Went}
-use Rattle.command.specs.Answers.{HasAnswer, IsAnswer, IsEnd, IsLineWith, IsReport, ended_of}
+use Rattle.command.specs.Answers.{AsAlone, Early, HasAnswer, IsAnswer, IsEnd, IsEndOfThreads, IsLineWith, IsReport, ended_of}
 use Rattle.command.specs.Went.{IsOfOneThread, IsWritten, refusal_of, status_number, went_of, written}
+use Rattle.command.proofs.WholeRuns.{at_a_stop, at_the_limit}
 
 -- ---- one thread
 
@@ -37,7 +41,7 @@ alone_for asked is (Ok P) =
     record {
       ending = end.0;
       state = end.1;
-      is = subst (λ b. IsEnd b asked.config.limit P end.0 end.1) (sym is) refl;
+      is = subst (λ b. IsEnd b asked.config P end.0 end.1) (sym is) refl;
       report = refl;
       status = refl;
       line = subst (λ b. IsLineWith b end.1.count Nothing) (sym is) refl;
@@ -51,7 +55,7 @@ pub alone_is : (asked : Asked) → asked.alone ≡ true → (found : Result Prog
 alone_is asked is (Ok P) text went answer =
     let limit = asked.config.limit in
     let end : ◌≡◌ {A = Ending × State} (answer.ending, answer.state) (end_of P limit) =
-    subst (λ b. IsEnd b limit P answer.ending answer.state) is answer.is in
+    subst (λ b. IsEnd b asked.config P answer.ending answer.state) is answer.is in
     let line : went.line ≡ Nothing = subst (λ b. IsLineWith b answer.state.count went.line) is answer.line in
     let told : ℕ → Line → Went = λ n l. record { status = n; line = l } in (
       answer.report ∙ ap report_of_run end,
@@ -93,53 +97,61 @@ part_of (Err refusal) f gives q = λ is. q (write_of f (sym gives ∙ is))
 
 -- ---- several threads
 
--- the end that a run has
-after_of : (P : Program) (r : Run) (end : End) (totals : Totals) → IsRight P r → ended_of r ≡ Ok (end, totals)
-    → IsAfter P end totals
-after_of P (run.Ended e t) end totals right is =
-    let same : ◌≡◌ {A = End × Totals} (e, t) (end, totals) = cc in
-    subst (λ (p : End × Totals). IsAfter P p.0 p.1) same right.0
-after_of P (run.LimitReached e t) end totals right is =
-    let same : ◌≡◌ {A = End × Totals} (e, t) (end, totals) = cc in
-    subst (λ (p : End × Totals). IsAfter P p.0 p.1) same right.0
-after_of P (run.Refused why) end totals right is = absurd (grind arith)
+-- what is known of the end that a run on threads has
+record IsKnown (config : Settings) (P : Program) (end : End) (totals : Totals) : Type 0 where
+  pub is : IsEndOfThreads config.limit P end.outcome (state_in end)
+  pub turns : end.n ≤ config.turns
+  pub retires : totals.retires ≡ end.n
 
--- it has run no instruction past the limit
-within_of : (limit : ℕ) (r : Run) (end : End) (totals : Totals) → IsWithin limit r → ended_of r ≡ Ok (end, totals)
-    → end.n ≤ limit
-within_of limit (run.Ended e t) end totals within is =
+-- at the limit it ends as on one thread, and early before it
+limit_known : (config : Settings) (P : Program) (end : End) (totals : Totals) → IsAfter P end totals → end.outcome ≡ Limit
+    → end.n ≤ config.limit → end.n ≤ config.turns → IsKnown config P end totals
+limit_known config P end totals after outcome within turns = record {
+  is = elim (cases_lt end.n config.limit) [
+    | inl below ↦ Early (record { outcome = outcome; reached = after.in_order.state; below = below })
+    | inr above ↦ AsAlone (ap (λ (o : Ending). (o, state_in end)) outcome
+        ∙ at_the_limit P end.n config.limit (state_in end) after.in_order.state (omega (arith, within, above)))
+  ];
+  turns = turns;
+  retires = after.retires;
+}
+
+run_known : (config : Settings) (P : Program) (r : Run) (end : End) (totals : Totals) → IsRight P r → IsWithin config.limit r
+    → TakesTurns config.turns r → ended_of r ≡ Ok (end, totals) → IsKnown config P end totals
+run_known config P (run.Ended e t) end totals right within turns is =
     let same : ◌≡◌ {A = End × Totals} (e, t) (end, totals) = cc in
-    subst (λ (p : End × Totals). p.0.n ≤ limit) same within
-within_of limit (run.LimitReached e t) end totals within is =
+    let order = right.0.in_order in
+    subst (λ (p : End × Totals). IsKnown config P p.0 p.1) same (record {
+      is = AsAlone (at_a_stop P e.n config.limit (state_in e) e.outcome order.state right.1 order.stops within);
+      turns = turns;
+      retires = right.0.retires;
+    })
+run_known config P (run.LimitReached e t) end totals right within turns is =
     let same : ◌≡◌ {A = End × Totals} (e, t) (end, totals) = cc in
-    subst (λ (p : End × Totals). p.0.n ≤ limit) same within
-within_of limit (run.Refused why) end totals within is = absurd (grind arith)
+    subst (λ (p : End × Totals). IsKnown config P p.0 p.1) same (limit_known config P e t right.0 right.1 within turns)
+run_known config P (run.Refused why) end totals right within turns is = absurd (grind arith)
 
 -- the report of that end
-pool_reports : (asked : Asked) (P : Program) (end : End) (totals : Totals) → asked.alone ≡ false → IsAfter P end totals
-    → end.n ≤ asked.config.limit
+pool_reports : (asked : Asked) (P : Program) (end : End) (totals : Totals) → asked.alone ≡ false
+    → IsKnown asked.config P end totals
     → IsReport asked P (report_of end) (written (ending_status end.outcome) (Tally totals))
-pool_reports asked P end totals is after within = record {
+pool_reports asked P end totals is known = record {
   ending = end.outcome;
   state = state_in end;
-  is = subst (λ b. IsEnd b asked.config.limit P end.outcome (state_in end)) (sym is) (record {
-    reached = after.in_order.state;
-    stops = after.in_order.stops;
-    within = within;
-  });
+  is = subst (λ b. IsEnd b asked.config P end.outcome (state_in end)) (sym is) (known.is, known.turns);
   report = refl;
   status = refl;
-  line = subst (λ b. IsLineWith b end.n (Tally totals)) (sym is) after.retires;
+  line = subst (λ b. IsLineWith b end.n (Tally totals)) (sym is) known.retires;
 }
 
 -- the text and what is told where the threads have run the program of a listing
 pub pool_answers : (asked : Asked) (found : Result Program (ℕ × FaultKind)) (P : Program) (r : Run) (end : End) (totals : Totals)
     (status : Status) (text : List ℕ) (went : Went) → asked.alone ≡ false → found ≡ Ok P → IsRight P r
-    → IsWithin asked.config.limit r → ended_of r ≡ Ok (end, totals) → status ≡ ending_status end.outcome → text ≡ report_of end
+    → IsWithin asked.config.limit r → TakesTurns asked.config.turns r → ended_of r ≡ Ok (end, totals)
+    → status ≡ ending_status end.outcome → text ≡ report_of end
     → went ≡ written status (Tally totals) → IsAnswer asked found text went
-pool_answers asked found P r end totals status text went is parsed right within ended same reported told =
-    rw (parsed, reported, told, same) (pool_reports asked P end totals is (after_of P r end totals right ended)
-    (within_of asked.config.limit r end totals within ended))
+pool_answers asked found P r end totals status text went is parsed right within turns ended same reported told =
+    rw (parsed, reported, told, same) (pool_reports asked P end totals is (run_known asked.config P r end totals right within turns ended))
 
 -- and where it has a fault
 pub fault_answers : (asked : Asked) (found : Result Program (ℕ × FaultKind)) (line : ℕ) (kind : FaultKind)

@@ -1,4 +1,10 @@
 mod Answered
+mod AsAlone
 mod Building
+mod Checked
 mod Entered
+mod Lengths
 mod NotAsked
+mod OddRings
+mod Texts
+mod WholeRuns

@@ -1,19 +1,20 @@
 -- What is told of a listing.
-use Rattle.std.specs.Prelude.{◌≡◌, ◌≤◌, ℕ, Bool, true, false, Result, Ok, Err, List, Some}
+use Rattle.std.specs.Prelude.{◌≡◌, ◌≤◌, ◌<◌, ℕ, Bool, true, false, Result, Ok, Err, List, Some}
 use Rattle.isa.specs.declared.end.End.{End}
 use Rattle.isa.specs.declared.end.Ending.{Ending}
+use Rattle.isa.specs.declared.end.Ending.TheVariants.{Limit}
 use Rattle.isa.specs.declared.listing.fault.FaultKind.{FaultKind}
 use Rattle.isa.specs.Listing.{listing}
 use Rattle.isa.specs.Programs.{Program}
 use Rattle.isa.specs.Report.{fault_line}
+use Rattle.isa.specs.Settings.{Settings}
 use Rattle.inorder.specs.Machine.{State}
 use Rattle.inorder.specs.Runs.{after, end_of}
-use Rattle.back.specs.Ends.{StopsThere}
-use Rattle.bench.specs.Answer.{ending_status, report_of_run}
+use Rattle.bench.specs.Answer.{ending_status, report_of_run, status_of, text_of}
 use Rattle.bench.specs.declared.outcome.Status.TheVariants.{TextFault}
 use Rattle.pool.specs.declared.answer.Run.{Run}
 use Rattle.pool.specs.declared.answer.Run.TheVariants as run
-use Rattle.pool.specs.declared.answer.Tally.{Tally as Totals}
+use Rattle.counts.specs.declared.tally.Tally.{Tally as Totals}
 use Rattle.command.specs.declared.request.Asked.{Asked}
 use Rattle.command.specs.declared.went.Line.{Line}
 use Rattle.command.specs.declared.went.Line.TheVariants.{Nothing, Tally, Refused}
@@ -21,18 +22,24 @@ use Rattle.command.specs.declared.went.Refusal.{Refusal}
 use Rattle.command.specs.declared.went.Went.{Went}
 use Rattle.command.specs.Went.{pool_refusal, status_number, written}
 
--- the end of a run on several threads: behind some steps of the machine in order, no more than the
--- limit, and if by a stop, by its next step
-pub record IsEndOfThreads (limit : ℕ) (P : Program) (ending : Ending) (state : State) : Type 0 where
+-- a run on several threads that had no turn left: it says limit behind some steps of the machine in order, and
+-- might have made more
+pub record IsEarly (limit : ℕ) (P : Program) (ending : Ending) (state : State) : Type 0 where
+  pub outcome : ending ≡ Limit
   pub reached : after P state.count ≡ Some state
-  pub stops : StopsThere P state.count ending
-  pub within : state.count ≤ limit
+  pub below : state.count < limit
 
--- how and where a run ends that may make so many steps: on one thread as the machine in order does,
--- on several threads as above
-abbrev pub IsEnd : (is_alone : Bool) → (limit : ℕ) → Program → Ending → State → Type 0
-IsEnd true limit P ending state = ◌≡◌ {A = Ending × State} (ending, state) (end_of P limit)
-IsEnd false limit P ending state = IsEndOfThreads limit P ending state
+-- the end of a run on several threads: that of a run on one thread, or an early one
+pub data IsEndOfThreads (limit : ℕ) (P : Program) (ending : Ending) (state : State) : Type 0 where
+  AsAlone : ◌≡◌ {A = Ending × State} (ending, state) (end_of P limit) → IsEndOfThreads limit P ending state
+  Early : IsEarly limit P ending state → IsEndOfThreads limit P ending state
+
+-- how and where a run ends: on one thread as the machine in order does that may make so many steps; on several
+-- threads, each of which has so many turns, as above
+abbrev pub IsEnd : (is_alone : Bool) → Settings → Program → Ending → State → Type 0
+IsEnd true config P ending state = ◌≡◌ {A = Ending × State} (ending, state) (end_of P config.limit)
+IsEnd false config P ending state =
+    IsEndOfThreads config.limit P ending state × (state.count ≤ config.turns)
 
 -- the line that comes with a report of so many instructions
 abbrev pub IsLineWith : (is_alone : Bool) → (count : ℕ) → Line → Type 0
@@ -45,7 +52,7 @@ IsLineWith false count (Refused refusal) = ⊥
 pub record IsReport (asked : Asked) (P : Program) (text : List ℕ) (went : Went) : Type 0 where
   pub ending : Ending
   pub state : State
-  pub is : IsEnd asked.alone asked.config.limit P ending state
+  pub is : IsEnd asked.alone asked.config P ending state
   pub report : text ≡ report_of_run (ending, state)
   pub status : went.status ≡ status_number (ending_status ending)
   pub line : IsLineWith asked.alone state.count went.line
@@ -60,6 +67,11 @@ pub record HasAnswer (asked : Asked) (bytes : List ℕ) (went : Went) (P : List 
   pub text : List ℕ
   pub is : IsAnswer asked (listing bytes) text went
   pub holds : P text
+
+-- P of the text that the one-thread unit has for the bytes of a listing, and its status
+pub record IsAsAlone (limit : ℕ) (bytes : List ℕ) (went : Went) (P : List ℕ → Type 0) : Type 0 where
+  pub status : went.status ≡ status_number (status_of limit bytes)
+  pub holds : P (text_of limit bytes)
 
 -- the end and the tally of a run on several threads, or what it could not have
 abbrev pub ended_of : Run → Result (End × Totals) Refusal

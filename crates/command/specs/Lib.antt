@@ -4,3 +4,6 @@ pub mod Request
 pub mod Statuses
 pub mod Went
 pub mod Answers
+pub mod Predictors
+pub mod Forms
+pub mod Checks

@@ -2,6 +2,7 @@
 use Rattle.std.specs.Prelude.{◌≡◌, Some, codes, true, false}
 use Rattle.clap.specs.Words.{App, Rule, Text, app_of, new_app, new_rule, rule_of}
 use Rattle.clap.specs.Words.{with_rule, with_subcommand}
+use Rattle.clap.specs.Simple.{on_top}
 use Rattle.clap.specs.declared.builder.arg.Arg.{Arg}
 use Rattle.clap.specs.declared.builder.command.Command.{Command}
 use Rattle.clap.specs.declared.builder.command.Command.TheViews.{out-Command}
@@ -19,16 +20,25 @@ option_rule name = record (new_rule name) { long = Some name; value_names = 1 }
 abbrev pub flag_rule : Text → Rule
 flag_rule name = record (new_rule name) { long = Some name; action = Some SetTrue }
 
--- the commands
+-- `ruu run`
 abbrev pub run : App
-run = with_rule (with_rule (with_rule (with_rule (with_rule (with_rule (with_rule (with_rule
+run = with_rule (with_rule (with_rule (with_rule (with_rule (with_rule (with_rule (with_rule (with_rule
     (new_app (codes "run")) file_rule)
     (option_rule (codes "ruu-size"))) (option_rule (codes "lsq-size")))
     (option_rule (codes "units"))) (option_rule (codes "bpred")))
-    (option_rule (codes "turns"))) (option_rule (codes "limit"))) (flag_rule (codes "alone"))
+    (option_rule (codes "turns"))) (option_rule (codes "limit"))) (flag_rule (codes "alone")))
+    (flag_rule (codes "progress"))
+
+-- `ruu check`
+abbrev pub check : App
+check = with_rule (new_app (codes "check")) file_rule
+
+-- `ruu`, which has a version
+abbrev pub with_version : App → App
+with_version = on_top (λ s. record s { has_version = true })
 
 abbrev pub tool : App
-tool = with_subcommand (new_app (codes "ruu")) run.top
+tool = with_subcommand (with_subcommand (with_version (new_app (codes "ruu"))) run.top) check.top
 
 -- the argument stands for this rule, in its own command alone
 pub record IsArg (rule : Rule) (arg : Arg) : Type 0 where

@@ -1,5 +1,5 @@
 -- How a run went.
-use Rattle.std.specs.Prelude.{ℕ, ⊤, Result, Ok, Err, List, [], ◌++◌, codes, decimal, Option, IfSome}
+use Rattle.std.specs.Prelude.{◌≡◌, ◌≢◌, ℕ, ⊤, Result, Ok, Err, List, [], ◌++◌, codes, decimal, Option, IfSome}
 use Rattle.devices.specs.Counted.{known_by}
 use Rattle.devices.specs.declared.counted.Counted.{Counted}
 use Rattle.devices.specs.declared.input.InputFault.{InputFault}
@@ -8,7 +8,7 @@ use Rattle.bench.specs.declared.outcome.Fault.{Fault}
 use Rattle.bench.specs.declared.outcome.Fault.TheVariants as fault
 use Rattle.bench.specs.declared.outcome.Status.{Status}
 use Rattle.bench.specs.declared.outcome.Status.TheVariants as end
-use Rattle.pool.specs.declared.answer.Tally.{Tally as Totals}
+use Rattle.counts.specs.declared.tally.Tally.{Tally as Totals}
 use Rattle.pool.specs.declared.answer.Refusal.{Refusal as PoolRefusal}
 use Rattle.pool.specs.declared.answer.Refusal.TheVariants as pool
 use Rattle.command.specs.declared.went.Went.{Went}
@@ -57,6 +57,13 @@ IsWritten Nothing = ⊤
 IsWritten (Tally totals) = ⊤
 IsWritten (Refused refusal) = ⊥
 
+-- it came to its end: without threads, at a stop or a fault of the text, or with as many instructions as the limit
+-- allows
+pub data IsWhole (limit : ℕ) (went : Went) : Type 0 where
+  WithoutThreads : went.line ≡ Nothing → IsWhole limit went
+  AtAStop : went.status ≢ status_number end.Limit → IsWhole limit went
+  AtTheLimit : (totals : Totals) → went.line ≡ Tally totals → totals.retires ≡ limit → IsWhole limit went
+
 -- it may be told of a run without threads: none was refused, and none has counted
 abbrev pub IsOfOneThread : Line → Type 0
 IsOfOneThread Nothing = ⊤
@@ -72,12 +79,19 @@ refusal_text Memory = codes "memory"
 refusal_text Thread = codes "thread"
 refusal_text Write = codes "write"
 
-abbrev pub tally_text : Totals → List ℕ
-tally_text t =
-    codes "tally lets " ++ (decimal t.lets ++ (codes " claims " ++ (decimal t.claims
+abbrev pub totals_text : List ℕ → Totals → List ℕ
+totals_text first t =
+    first ++ (decimal t.lets ++ (codes " claims " ++ (decimal t.claims
     ++ (codes " finishes " ++ (decimal t.finishes ++ (codes " stale " ++ (decimal t.stale
     ++ (codes " loads " ++ (decimal t.loads ++ (codes " retires " ++ (decimal t.retires
     ++ (codes " squashes " ++ (decimal t.squashes ++ (codes " mends " ++ decimal t.mends))))))))))))))
+
+abbrev pub tally_text : Totals → List ℕ
+tally_text = totals_text (codes "tally lets ")
+
+-- the line while it runs
+abbrev pub progress_text : Totals → List ℕ
+progress_text = totals_text (codes "progress lets ")
 
 abbrev pub line_text : Line → List ℕ
 line_text Nothing = []

@@ -1,10 +1,13 @@
 //! The command line of `ruu`, and the run that it asks for.
 #![tactic(auto)]
 
+mod checking;
+mod chosen;
 mod entries;
 mod no_run;
 mod one_thread;
 mod options;
+mod progress;
 mod reading;
 mod refusals;
 mod request;
@@ -16,8 +19,10 @@ mod threads;
 mod values;
 mod went;
 
+pub use checking::check;
 pub use no_run::{NoRun, status};
-pub use reading::asked;
-pub use request::{Asked, BranchPredictor};
+pub use progress::Progress;
+pub use reading::{asked, requested};
+pub use request::{Asked, BranchPredictor, Request, is_standard_input};
 pub use running::go;
 pub use went::{Line, Refusal, Went};

@@ -9,7 +9,7 @@ use std::fmt;
 /// no line feed at the end of theirs.
 #[derive(Drop)]
 pub enum NoRun {
-    /// Help was asked for; this is its text.
+    /// Help or the version was asked for; this is its text.
     Help(String),
     /// The words are no command line of `ruu`, as the text explains.
     Usage(String),

@@ -3,15 +3,16 @@ ghost use Rattle.std.specs.Prelude.{◌≡◌, ◌≢◌, ◌+◌, ◌-◌, ◌^
 ghost use Rattle.devices.specs.Counted.{failures_of, known_by, Gives, GivesPart};
 ghost use Rattle.bench.specs.Answer.{text_of, status_of};
 ghost use Rattle.command.specs.Answers.{HasAnswer};
+ghost use Rattle.command.specs.Predictors.{IsChosen};
 ghost use Rattle.command.specs.Went.{IsOfOneThread};
 ghost use Rattle.command.specs.declared.went.Line.TheVariants.{Nothing, Refused};
 ghost use Rattle.command.specs.declared.went.Went.{Went};
 
+use crate::chosen::{Chosen, choose};
 use crate::statuses::written;
-use crate::{Asked, BranchPredictor, Line, Refusal, Went};
+use crate::{Asked, Line, Refusal, Went};
 use bench::{Fault, Status, alone};
 use devices::Counted;
-use isa::{Bimod, NotTaken, Taken};
 use std::alloc::Global;
 use std::io::{Read, Write};
 
@@ -31,6 +32,8 @@ pub(crate) fn run<R: Read, W: Write>(
     ensures quiet { OnOk result (failures_of writer.new ≡ failures_of writer.old) }
     ensures err { IfErr result (λ refusal. IsOfOneThread (Refused refusal)) }
     ensures opened { IfErr result (λ refusal. refusal ≢ Refusal.Open) }
+    ensures read { IfErr result (λ refusal. refusal ≡ Refusal.Read →
+        failures_of reader.new ≡ failures_of reader.old + 1) }
     ensures write { IfErr result (λ refusal. refusal ≡ Refusal.Write →
         failures_of writer.new ≡ failures_of writer.old + 1) }
     ensures part { IfErr result (λ refusal. refusal ≡ Refusal.Write →
@@ -38,7 +41,8 @@ pub(crate) fn run<R: Read, W: Write>(
         HasAnswer asked.now input went (GivesPart W.contents writer.old writer.new))) }
     ensures silent { IfErr result (λ refusal. refusal ≢ Refusal.Write → writer.new ≡ writer.old) }
 {
-    let status = predicted(alloc, asked, reader, writer)?;
+    let predictor = choose(asked.predictor);
+    let status = predicted(alloc, asked, predictor, reader, writer)?;
     Ok(written(status, Line::Nothing))
 }
 
@@ -46,9 +50,11 @@ pub(crate) fn run<R: Read, W: Write>(
 fn predicted<R: Read, W: Write>(
     alloc: Global,
     asked: &Asked<'_>,
+    predictor: Chosen,
     reader: &mut Counted<R>,
     writer: &mut Counted<W>,
 ) -> Result<Status, Fault>
+    requires predictor { IsChosen asked.now.predictor predictor }
     requires reader_room { failures_of reader.old < 2 ^ 64 - 1 }
     requires writer_room { failures_of writer.old < 2 ^ 64 - 1 }
     ensures status { IfOk result (λ status. IfSome (known_by R.remaining reader.old) (λ input.
@@ -56,6 +62,8 @@ fn predicted<R: Read, W: Write>(
     ensures text { OnOk result (IfSome (known_by R.remaining reader.old) (λ input.
         Gives W.contents writer.old writer.new (text_of asked.now.config.limit input))) }
     ensures quiet { OnOk result (failures_of writer.new ≡ failures_of writer.old) }
+    ensures read { IfErr result (λ fault. fault ≡ Fault.Read →
+        failures_of reader.new ≡ failures_of reader.old + 1) }
     ensures write { IfErr result (λ fault. fault ≡ Fault.Write →
         failures_of writer.new ≡ failures_of writer.old + 1) }
     ensures part { IfErr result (λ fault. fault ≡ Fault.Write →
@@ -63,10 +71,5 @@ fn predicted<R: Read, W: Write>(
         GivesPart W.contents writer.old writer.new (text_of asked.now.config.limit input))) }
     ensures silent { IfErr result (λ fault. fault ≢ Fault.Write → writer.new ≡ writer.old) }
 {
-    let config = &asked.config;
-    match asked.predictor {
-        BranchPredictor::NotTaken => alone(alloc, reader, writer, config, NotTaken),
-        BranchPredictor::Taken => alone(alloc, reader, writer, config, Taken),
-        BranchPredictor::Bimod => alone(alloc, reader, writer, config, Bimod::new()),
-    }
+    alone(alloc, reader, writer, &asked.config, predictor)
 }

@@ -2,12 +2,13 @@
 ghost use Rattle.std.specs.Prelude.{IfOk, IfErr, map};
 ghost use Rattle.clap.specs.Words.{found_of, rows_of};
 ghost use Rattle.command.specs.Request.{IsAskedBy, IsAskedIn, IsRefusedBy, IsRefusedIn};
+ghost use Rattle.command.specs.Request.{IsRequestIn, IsNoRequestIn};
 
 use crate::entries::{file, number, predictor};
 use crate::options::command;
 use crate::refusals::{refused, usage};
 use crate::values::is_true;
-use crate::{Asked, NoRun};
+use crate::{Asked, NoRun, Request};
 use clap::ArgMatches;
 use isa::Config;
 use std::alloc::Global;
@@ -15,17 +16,38 @@ use std::convert::AsStr;
 
 /// What the words ask for, of which the first is the program's name. Where they are refused,
 /// `NoRun` has what to print, and `status` gives the exit status.
-pub fn asked<'a, S: AsStr>(alloc: Global, words: &'a [S]) -> Result<Asked<'a>, NoRun>
-    ensures ok { IfOk result (IsAskedIn (map S.text words.entry.now)) }
-    ensures err { IfErr result (IsRefusedIn (map S.text words.entry.now)) }
+pub fn requested<'a, S: AsStr>(alloc: Global, words: &'a [S]) -> Result<Request<'a>, NoRun>
+    ensures ok { IfOk result (IsRequestIn (map S.text words.entry.now)) }
+    ensures err { IfErr result (IsNoRequestIn (map S.text words.entry.now)) }
 {
     let command = command(alloc)?;
     match command.try_get_matches_from(words) {
         Ok(matches) => match matches.subcommand_matches("run") {
-            Some(found) => read(alloc, found),
-            None => Err(usage(alloc, "there is no command")),
+            Some(found) => {
+                let asked = read(alloc, found)?;
+                Ok(Request::Run(asked))
+            },
+            None => match matches.subcommand_matches("check") {
+                Some(entered) => {
+                    let listing = file(alloc, entered)?;
+                    Ok(Request::Check(listing))
+                },
+                None => Err(usage(alloc, "there is no command")),
+            },
         },
         Err(error) => Err(refused(alloc, &error)),
+    }
+}
+
+/// The run that the words ask for. Where they ask for anything else, that is a mistake.
+pub fn asked<'a, S: AsStr>(alloc: Global, words: &'a [S]) -> Result<Asked<'a>, NoRun>
+    ensures ok { IfOk result (IsAskedIn (map S.text words.entry.now)) }
+    ensures err { IfErr result (IsRefusedIn (map S.text words.entry.now)) }
+{
+    match requested(alloc, words) {
+        Ok(Request::Run(asked)) => Ok(asked),
+        Ok(Request::Check(_)) => Err(usage(alloc, "check runs nothing")),
+        Err(no_run) => Err(no_run),
     }
 }
 
@@ -42,6 +64,7 @@ fn read<'a>(alloc: Global, matches: &ArgMatches<'a>) -> Result<Asked<'a>, NoRun>
     let turns = number(alloc, matches, "turns", 1, 0xffff_ffff, 0xffff_ffff)?;
     let limit = number(alloc, matches, "limit", 0, 0xffff_ffff, 1_000_000)?;
     let alone = is_true(matches.get_str("alone"));
+    let progress = is_true(matches.get_str("progress"));
     let ring = number(alloc, matches, "ruu-size", 0, u64::MAX, 16)?;
     let Ok(config) = Config::new(ring, queue.min(ring), units, 1, 1, limit, turns) else {
         return Err(NoRun::Ring);
@@ -51,5 +74,6 @@ fn read<'a>(alloc: Global, matches: &ArgMatches<'a>) -> Result<Asked<'a>, NoRun>
         config,
         predictor,
         alone,
+        progress,
     })
 }

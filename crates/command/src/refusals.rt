@@ -15,7 +15,7 @@ pub(crate) fn refused(alloc: Global, error: &Error) -> NoRun
         return NoRun::Memory;
     };
     match error.kind() {
-        ErrorKind::DisplayHelp => NoRun::Help(text),
+        ErrorKind::DisplayHelp | ErrorKind::DisplayVersion => NoRun::Help(text),
         ErrorKind::OutOfMemory => NoRun::Memory,
         _ => NoRun::Usage(text),
     }

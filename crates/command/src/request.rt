@@ -1,4 +1,7 @@
 //! What a command line asks for.
+ghost use Rattle.std.specs.Prelude.{◌≡◌, codes};
+ghost use Rattle.std.specs.Str.{bytes_eq};
+
 use isa::Config;
 
 /// A branch predictor to choose.
@@ -18,4 +21,22 @@ pub struct Asked<'a> {
     pub predictor: BranchPredictor,
     /// The one-thread unit is wanted.
     pub alone: bool,
+    /// What the threads have done is to be told while they run.
+    pub progress: bool,
+}
+
+/// What the words of a command line ask for.
+#[derive(Clone, Copy)]
+pub enum Request<'a> {
+    /// A run.
+    Run(Asked<'a>),
+    /// That the listing in this file is read and checked, and not run.
+    Check(&'a str),
+}
+
+/// Whether a FILE stands for standard input. A file of this name is `./-`.
+pub fn is_standard_input(file: &str) -> bool
+    ensures { result ≡ bytes_eq file.now (codes "-") }
+{
+    file == "-"
 }

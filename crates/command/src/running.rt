@@ -1,8 +1,8 @@
 //! The run that a command line asks for.
 ghost use Rattle.std.specs.Prelude.{◌≡◌, ◌≢◌, ◌+◌, ◌-◌, ◌^◌, ◌<◌, IfSome, IfOk, IfErr, OnOk, None, true};
 ghost use Rattle.devices.specs.Counted.{failures_of, known_by, Gives, GivesPart};
-ghost use Rattle.command.specs.Answers.{HasAnswer};
-ghost use Rattle.command.specs.Went.{HoldsOfInput, IsOfOneThread, IsWritten, refused, went_of};
+ghost use Rattle.command.specs.Answers.{HasAnswer, IsAsAlone};
+ghost use Rattle.command.specs.Went.{HoldsOfInput, IsOfOneThread, IsWhole, IsWritten, refused, went_of};
 ghost use Rattle.command.specs.declared.went.Line.TheVariants.{Refused};
 ghost use Rattle.command.specs.declared.went.Went.{Went};
 
@@ -33,6 +33,10 @@ pub fn go<T: Threads + Wait + Sync, R: Read + Drop, W: Write, G: Gate + Sync>(
     // What was written whole answers the reader's bytes, and the status and the line go with it.
     ensures answer { IsWritten result.line → HoldsOfInput R.remaining reader (λ input.
         HasAnswer asked.now input result (Gives W.contents writer.old writer.new)) }
+    // Where the run came to its end, that is what one thread answers, byte for byte.
+    ensures same { IsWritten result.line → IsWhole asked.now.config.limit result →
+        HoldsOfInput R.remaining reader (λ input. IsAsAlone asked.now.config.limit input result
+        (Gives W.contents writer.old writer.new)) }
     ensures quiet { IsWritten result.line → failures_of writer.new ≡ failures_of writer.old }
     ensures alone { asked.now.alone ≡ true → IsOfOneThread result.line }
     // A run that is refused has a status of its own.
@@ -74,6 +78,8 @@ fn ended<T: Threads + Wait + Sync, R: Read, W: Write, G: Gate + Sync>(
     ensures alone { asked.now.alone ≡ true → IsOfOneThread (went_of result).line }
     ensures quiet { OnOk result (failures_of writer.new ≡ failures_of writer.old) }
     ensures opened { IfErr result (λ refusal. refusal ≢ Refusal.Open) }
+    ensures read { IfErr result (λ refusal. refusal ≡ Refusal.Read →
+        failures_of reader.new ≡ failures_of reader.old + 1) }
     ensures write { IfErr result (λ refusal. refusal ≡ Refusal.Write →
         failures_of writer.new ≡ failures_of writer.old + 1) }
     ensures part { IfErr result (λ refusal. refusal ≡ Refusal.Write →
@@ -88,7 +94,7 @@ fn ended<T: Threads + Wait + Sync, R: Read, W: Write, G: Gate + Sync>(
     }
 }
 
-fn refused(refusal: Refusal) -> Went
+pub(crate) fn refused(refusal: Refusal) -> Went
     ensures { result ≡ refused refusal }
 {
     Went {

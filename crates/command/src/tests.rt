@@ -1,6 +1,8 @@
 //! Command lines, and the runs that they ask for.
+mod checks;
 mod command_lines;
 mod failing;
+mod handed_on;
 mod runs;
 mod tallies;
 

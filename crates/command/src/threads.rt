@@ -2,16 +2,18 @@
 ghost use Rattle.std.specs.Prelude.{◌≡◌, ◌≢◌, ◌+◌, ◌-◌, ◌^◌, ◌<◌, IfSome, IfOk, IfErr, OnOk, false, string_bytes};
 ghost use Rattle.isa.specs.Listing.{listing};
 ghost use Rattle.devices.specs.Counted.{failures_of, known_by, Gives, GivesPart};
-ghost use Rattle.pool.specs.Runs.{IsRight, IsWithin};
+ghost use Rattle.pool.specs.Runs.{IsRight, IsWithin, TakesTurns};
 ghost use Rattle.command.specs.Answers.{HasAnswer, IsAnswer, ended_of};
+ghost use Rattle.command.specs.Predictors.{IsChosen};
 ghost use Rattle.command.specs.Went.{IsWritten};
 ghost use Rattle.command.specs.declared.went.Went.{Went};
 
+use crate::chosen::{Chosen, choose};
 use crate::statuses::written;
-use crate::{Asked, BranchPredictor, Line, Refusal, Went};
+use crate::{Asked, Line, Refusal, Went};
 use bench::Status;
 use devices::{Counted, read_up_to, write_whole};
-use isa::{Bimod, End, FaultKind, NotTaken, Program, Taken, fault_text, parse, report_text};
+use isa::{End, FaultKind, Program, fault_text, parse, report_text};
 use pool::{Gate, Run, Tally};
 use std::alloc::Global;
 use std::io::{Read, Write};
@@ -19,7 +21,7 @@ use std::sync::Wait;
 use std::thread::Threads;
 
 /// The most bytes that are taken: one more than a listing may have.
-const MOST_TAKEN: usize = 4_194_305;
+pub(crate) const MOST_TAKEN: usize = 4_194_305;
 
 /// Reads the listing, runs it on threads and writes its report.
 pub(crate) fn run<T: Threads + Wait + Sync, R: Read, W: Write, G: Gate + Sync>(
@@ -38,6 +40,8 @@ pub(crate) fn run<T: Threads + Wait + Sync, R: Read, W: Write, G: Gate + Sync>(
     ensures line { IfOk result (λ went. IsWritten went.line) }
     ensures quiet { OnOk result (failures_of writer.new ≡ failures_of writer.old) }
     ensures opened { IfErr result (λ refusal. refusal ≢ Refusal.Open) }
+    ensures read { IfErr result (λ refusal. refusal ≡ Refusal.Read →
+        failures_of reader.new ≡ failures_of reader.old + 1) }
     ensures write { IfErr result (λ refusal. refusal ≡ Refusal.Write →
         failures_of writer.new ≡ failures_of writer.old + 1) }
     ensures part { IfErr result (λ refusal. refusal ≡ Refusal.Write →
@@ -65,10 +69,12 @@ fn answer<T: Threads + Wait + Sync, G: Gate + Sync>(
     ensures line { IfOk result (λ answer. IsWritten answer.0.line) }
     ensures opened { IfErr result (λ refusal. refusal ≢ Refusal.Open) }
     ensures unwritten { IfErr result (λ refusal. refusal ≢ Refusal.Write) }
+    ensures has_read { IfErr result (λ refusal. refusal ≢ Refusal.Read) }
 {
     match parse(alloc, bytes) {
         Ok(program) => {
-            let run = predicted(wait, alloc, asked, &program, gate);
+            let predictor = choose(asked.predictor);
+            let run = predicted(wait, alloc, asked, &program, predictor, gate);
             let (end, tally) = ended(run)?;
             let text = report_text(alloc, &end)?;
             Ok((written(Status::of(end.outcome), Line::Tally(tally)), text))
@@ -87,17 +93,15 @@ fn predicted<T: Threads + Wait + Sync, G: Gate + Sync>(
     alloc: Global,
     asked: &Asked<'_>,
     program: &Program,
+    predictor: Chosen,
     gate: &G,
 ) -> Run
+    requires predictor { IsChosen asked.now.predictor predictor }
     ensures right { IsRight program.now result }
     ensures within { IsWithin asked.now.config.limit result }
+    ensures turns { TakesTurns asked.now.config.turns result }
 {
-    let config = &asked.config;
-    match asked.predictor {
-        BranchPredictor::NotTaken => pool::run(wait, alloc, program, config, NotTaken, gate),
-        BranchPredictor::Taken => pool::run(wait, alloc, program, config, Taken, gate),
-        BranchPredictor::Bimod => pool::run(wait, alloc, program, config, Bimod::new(), gate),
-    }
+    pool::run(wait, alloc, program, &asked.config, predictor, gate)
 }
 
 fn ended(run: Run) -> Result<(End, Tally), Refusal>

@@ -5,23 +5,27 @@ ghost use Rattle.std.specs.Prelude.{◌≡◌};
 ghost use Rattle.std.specs.Process.{exit_status};
 ghost use Rattle.command.specs.Statuses.{status_of};
 
-use command::{Asked, Line, NoRun, asked, go, status};
+mod teller;
+
+use command::{Asked, Line, NoRun, Request, Went, check, go, is_standard_input, requested, status};
 use devices::Counted;
 use pool::Open;
 use std::env;
 use std::fs::File;
-use std::io::ErrorKind;
+use std::io::{ErrorKind, Read};
 use std::process::ExitCode;
 use std::sync::Wait;
 use std::thread::Threads;
+use teller::Teller;
 
 fn main(rt: HostRuntime) -> ExitCode {
     let words = match words(&rt) {
         Ok(words) => words,
         Err(no_run) => return refuse(&rt, &no_run),
     };
-    match asked(rt.alloc(), words.as_slice()) {
-        Ok(asked) => run(&rt, &rt, &asked),
+    match requested(rt.alloc(), words.as_slice()) {
+        Ok(Request::Run(asked)) => run(&rt, &rt, &asked),
+        Ok(Request::Check(file)) => check_file(&rt, file),
         Err(no_run) => refuse(&rt, &no_run),
     }
 }
@@ -50,9 +54,52 @@ fn refuse(rt: &HostRuntime, no_run: &NoRun) -> ExitCode
 }
 
 fn run<T: Threads + Wait + Sync>(rt: &HostRuntime, wait: &T, asked: &Asked<'_>) -> ExitCode {
-    let reader = File::open(rt, asked.file).ok().map(Counted::new);
+    if is_standard_input(asked.file) {
+        return run_from(rt, wait, asked, Some(rt.stdin()));
+    }
+    run_from(rt, wait, asked, File::open(rt, asked.file).ok())
+}
+
+fn run_from<T: Threads + Wait + Sync, R: Read + Drop>(
+    rt: &HostRuntime,
+    wait: &T,
+    asked: &Asked<'_>,
+    input: Option<R>,
+) -> ExitCode {
+    let reader = input.map(Counted::new);
     let mut writer = Counted::new(rt.stdout());
-    let went = go(wait, rt.alloc(), asked, reader, &mut writer, &Open);
+    let went = if asked.progress {
+        let teller = Teller::new(rt);
+        go(wait, rt.alloc(), asked, reader, &mut writer, &teller)
+    } else {
+        go(wait, rt.alloc(), asked, reader, &mut writer, &Open)
+    };
+    end(rt, went)
+}
+
+// A file that does not open is named with the system's reason.
+fn check_file(rt: &HostRuntime, file: &str) -> ExitCode {
+    if is_standard_input(file) {
+        return check_from(rt, rt.stdin());
+    }
+    match File::open(rt, file) {
+        Ok(listing) => check_from(rt, listing),
+        Err(reason) => {
+            let _ = eprintln!(rt; "ruu: {file}: {reason}");
+            ExitCode::from(5)
+        },
+    }
+}
+
+fn check_from<R: Read + Drop>(rt: &HostRuntime, input: R) -> ExitCode {
+    let reader = Counted::new(input);
+    let mut writer = Counted::new(rt.stdout());
+    end(rt, check(rt.alloc(), Some(reader), &mut writer))
+}
+
+fn end(rt: &HostRuntime, went: Went) -> ExitCode
+    ensures { exit_status result ≡ went.status }
+{
     if went.line != Line::Nothing {
         let _ = eprintln!(rt; "{}", went.line);
     }

@@ -34,6 +34,7 @@ fn has_defaults(rt: HostRuntime) {
             assert_eq!(rt; asked.file, "sum.s");
             assert!(rt; asked.predictor == BranchPredictor::Bimod);
             assert!(rt; !asked.alone);
+            assert!(rt; !asked.progress);
             assert_eq!(rt; asked.config.places(), 1);
             assert_eq!(rt; asked.config.first_tag(), 1);
         },
@@ -87,18 +88,28 @@ fn takes_each_option_up_to_its_limits(rt: HostRuntime) {
 }
 
 #[test]
-fn takes_a_predictor_and_a_flag(rt: HostRuntime) {
+fn takes_a_predictor_and_flags(rt: HostRuntime) {
     let cases: [(&str, BranchPredictor); 3] = [
         ("nottaken", BranchPredictor::NotTaken),
         ("taken", BranchPredictor::Taken),
         ("bimod", BranchPredictor::Bimod),
     ];
     for (word, wanted) in cases {
-        let words = ["ruu", "run", "--alone", "--bpred", word, "--", "-x.s"];
+        let words = [
+            "ruu",
+            "run",
+            "--alone",
+            "--progress",
+            "--bpred",
+            word,
+            "--",
+            "-x.s",
+        ];
         match asked(rt.alloc(), words.as_slice()) {
             Ok(asked) => {
                 assert!(rt; asked.predictor == wanted, "{word}");
                 assert!(rt; asked.alone);
+                assert!(rt; asked.progress);
                 assert_eq!(rt; asked.file, "-x.s");
             },
             Err(_no_run) => assert!(rt; false, "{word}"),
@@ -247,15 +258,76 @@ fn shows_help(rt: HostRuntime) {
     for part in HELP {
         assert!(rt; text.as_str().contains(part), "{part} is not in {text}");
     }
-    for words in [["ruu", "--help"], ["ruu", "help"], ["ruu", "-h"]] {
-        let no_run = asked(rt.alloc(), words.as_slice()).err();
+    let cases: [&[&str]; 6] = [
+        &["ruu", "--help"],
+        &["ruu", "help"],
+        &["ruu", "-h"],
+        &["ruu", "help", "run"],
+        &["ruu", "help", "check"],
+        &["ruu", "check", "--help"],
+    ];
+    for words in cases {
+        let no_run = asked(rt.alloc(), words).err();
         assert!(rt; no_run.is_some_and(|e| matches!(e, NoRun::Help(_)) && status(&e) == 0));
     }
 }
 
+#[test]
+fn shows_the_version(rt: HostRuntime) {
+    for option in ["--version", "-V"] {
+        let words = ["ruu", option];
+        let Err(NoRun::Help(text)) = requested(rt.alloc(), words.as_slice()) else {
+            assert!(rt; false, "the version was asked for");
+            return;
+        };
+        assert!(rt;
+            text.as_str().starts_with("ruu 0.1.0\nrattle-kit-"),
+            "{text}"
+        );
+    }
+    let words = ["ruu", "run", "--version"];
+    let no_run = requested(rt.alloc(), words.as_slice()).err();
+    assert!(rt; no_run.is_some_and(|e| is_usage(&e) && status(&e) == 3));
+}
+
+#[test]
+fn tells_a_check_from_a_run(rt: HostRuntime) {
+    let check = ["ruu", "check", "sum.s"];
+    let Ok(Request::Check(file)) = requested(rt.alloc(), check.as_slice()) else {
+        assert!(rt; false, "a check was asked for");
+        return;
+    };
+    assert_eq!(rt; file, "sum.s");
+    let no_run = asked(rt.alloc(), check.as_slice()).err();
+    assert!(rt; no_run.is_some_and(|e| is_usage(&e)));
+    let run = ["ruu", "run", "-", "--limit", "7"];
+    let Ok(Request::Run(asked)) = requested(rt.alloc(), run.as_slice()) else {
+        assert!(rt; false, "a run was asked for");
+        return;
+    };
+    assert!(rt; is_standard_input(asked.file));
+    assert_eq!(rt; asked.config.limit(), 7);
+    for file in ["", "./-", "--", "sum.s"] {
+        assert!(rt; !is_standard_input(file), "{file}");
+    }
+    let cases: [&[&str]; 4] = [
+        &["ruu", "check"],
+        &["ruu", "check", "sum.s", "two.s"],
+        &["ruu", "check", "sum.s", "--limit", "1"],
+        &["ruu", "walk", "sum.s"],
+    ];
+    for words in cases {
+        let no_run = requested(rt.alloc(), words).err();
+        assert!(rt;
+            no_run.is_some_and(|e| is_usage(&e) && status(&e) == 3),
+            "{words:?}"
+        );
+    }
+}
+
 /// A line of the help for each option, with its range and its default.
-const HELP: [&str; 8] = [
-    "<FILE>  The listing, ",
+const HELP: [&str; 9] = [
+    "<FILE>  The listing, one instruction a line, or - for standard input",
     "--ruu-size <N>  Reservation stations: 2, 4, 8, 16 or 32 [default: 16]\n",
     "--lsq-size <N>  Loads and stores in flight: 2 to 32, at most --ruu-size [default: 8]\n",
     "--units <N>     Threads that execute instructions: 1 to 64 [default: 2]\n",
@@ -263,4 +335,5 @@ const HELP: [&str; 8] = [
     "--turns <N>     Turns of each thread: 1 to 4294967295 [default: 4294967295]\n",
     "--limit <N>     Instructions to run at most: 0 to 4294967295 [default: 1000000]\n",
     "--alone         Run the unit on one thread\n",
+    "--progress      Tell on standard error how far the threads are\n",
 ];

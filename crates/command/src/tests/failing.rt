@@ -7,7 +7,7 @@ use std::io::{self, ErrorKind, Read, Write};
 use std::test::Fail;
 
 /// A listing whose report has 61 bytes.
-const LISTING: &[u8] = b"addiu $1,$0,5\naddu $2,$1,$1\nbreak\n";
+pub(crate) const LISTING: &[u8] = b"addiu $1,$0,5\naddu $2,$1,$1\nbreak\n";
 
 const REPORT: &[u8] = b"stop break\ncount 2\npc 0x00400008\nr1 0x00000005\nr2 0x0000000a\n";
 
@@ -25,9 +25,9 @@ const FORMS: [&[&str]; 3] = [
 
 /// Gives the first bytes of the listing, one a call, and then fails.
 #[derive(Drop)]
-struct FailingReader {
-    given: usize,
-    most: usize,
+pub(crate) struct FailingReader {
+    pub(crate) given: usize,
+    pub(crate) most: usize,
 }
 
 impl Read for FailingReader {
@@ -46,14 +46,14 @@ impl Read for FailingReader {
 
 /// Takes so many bytes, and then fails or takes none.
 #[derive(Drop)]
-struct FailingWriter {
-    room: usize,
-    is_silent: bool,
-    taken: Vec<u8>,
+pub(crate) struct FailingWriter {
+    pub(crate) room: usize,
+    pub(crate) is_silent: bool,
+    pub(crate) taken: Vec<u8>,
 }
 
 impl FailingWriter {
-    fn new(alloc: Global, room: usize, is_silent: bool) -> FailingWriter {
+    pub(crate) fn new(alloc: Global, room: usize, is_silent: bool) -> FailingWriter {
         FailingWriter {
             room,
             is_silent,

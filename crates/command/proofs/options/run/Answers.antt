@@ -21,4 +21,5 @@ returns c =
     let predictor = extended units c.option-4.ensures c.in_ok-arg-5.ensures in
     let turns = extended predictor c.option-5.ensures c.in_ok-arg-6.ensures in
     let limit = extended turns c.option-6.ensures c.in_ok-arg-7.ensures in
-    IfOk-weaker c.arg-8.result _ _ (λ _ adds. extended limit c.flag.ensures adds) c.arg-8.ensures
+    let alone = extended limit c.flag.ensures c.in_ok-arg-8.ensures in
+    IfOk-weaker c.arg-9.result _ _ (λ _ adds. extended alone c.flag-2.ensures adds) c.arg-9.ensures

@@ -1,0 +1,71 @@
+-- An answer of a run that came to its end is that of one thread.
+use Rattle.std.proofs.Common.{◌≡◌, ◌∙◌, ◌<◌, ℕ, Bool, true, false, List, sym, ap, subst, arith, Option, Some, None, Result, Ok, Err, IfSome}
+use Rattle.isa.specs.declared.end.Ending.{Ending}
+use Rattle.isa.specs.declared.listing.fault.FaultKind.{FaultKind}
+use Rattle.isa.specs.Listing.{listing}
+use Rattle.isa.specs.Programs.{Program}
+use Rattle.isa.specs.Settings.{Settings}
+use Rattle.inorder.specs.Machine.{State}
+use Rattle.inorder.specs.Runs.{end_of}
+use Rattle.devices.specs.Counted.{known_by}
+use Rattle.devices.specs.declared.counted.Counted.{Counted}
+use Rattle.bench.specs.Answer.{ending_status, report_of_run, status_for, status_of, text_for, text_of}
+use Rattle.command.specs.declared.request.Asked.{Asked}
+use Rattle.command.specs.declared.went.Line.{Line}
+use Rattle.command.specs.declared.went.Went.{Went}
+use Rattle.command.specs.Answers.{AsAlone, Early, HasAnswer, IsAnswer, IsAsAlone, IsEarly, IsEnd, IsLineWith}
+use Rattle.command.specs.Went.{HoldsOfInput, AtAStop, AtTheLimit, IsWhole, WithoutThreads, status_number}
+
+not_early : (limit : ℕ) (P : Program) (ending : Ending) (state : State) (went : Went) → IsWhole limit went
+    → went.status ≡ status_number (ending_status ending) → IsLineWith false state.count went.line
+    → IsEarly limit P ending state → ⊥
+not_early limit P ending state went (WithoutThreads none) status line early =
+    subst (λ (l : Line). IsLineWith false state.count l) none line
+not_early limit P ending state went (AtAStop other) status line early =
+    other (status ∙ ap (λ (e : Ending). status_number (ending_status e)) early.outcome)
+not_early limit P ending state went (AtTheLimit totals is all) status line early =
+    let count : totals.retires ≡ state.count = subst (λ (l : Line). IsLineWith false state.count l) is line in
+    let below : state.count < limit = early.below in
+    absurd (omega (arith, count, all, below))
+
+ends_alone : (is_alone : Bool) (config : Settings) (P : Program) (ending : Ending) (state : State) (went : Went)
+    → IsWhole config.limit went → went.status ≡ status_number (ending_status ending)
+    → IsLineWith is_alone state.count went.line → IsEnd is_alone config P ending state
+    → ◌≡◌ {A = Ending × State} (ending, state) (end_of P config.limit)
+ends_alone true config P ending state went whole status line is = is
+ends_alone false config P ending state went whole status line (AsAlone same, turns) = same
+ends_alone false config P ending state went whole status line (Early early, turns) =
+    absurd (not_early config.limit P ending state went whole status line early)
+
+answers_alone : (asked : Asked) (found : Result Program (ℕ × FaultKind)) (text : List ℕ) (went : Went)
+    → IsWhole asked.config.limit went → IsAnswer asked found text went
+    → (went.status ≡ status_number (status_for asked.config.limit found)) × (text ≡ text_for asked.config.limit found)
+answers_alone asked (Ok P) text went whole is =
+    let same = ends_alone asked.alone asked.config P is.ending is.state went whole is.status is.line is.is in (
+      is.status ∙ ap (λ (e : Ending × State). status_number (ending_status e.0)) same,
+      is.report ∙ ap report_of_run same,
+    )
+answers_alone asked (Err fault) text went whole is = (ap (λ (w : Went). w.status) is.1, is.0)
+
+as_alone : (asked : Asked) (input : List ℕ) (went : Went) (P : List ℕ → Type 0) → IsWhole asked.config.limit went
+    → HasAnswer asked input went P → IsAsAlone asked.config.limit input went P
+unfolding text_of status_of
+as_alone asked input went P whole has =
+    let both = answers_alone asked (listing input) has.text went whole has.is in
+    record { status = both.0; holds = subst P both.1 has.holds }
+
+-- the same of the bytes that are known
+known_as_alone : (asked : Asked) (known : Option (List ℕ)) (went : Went) (P : List ℕ → Type 0)
+    → IsWhole asked.config.limit went → IfSome known (λ input. HasAnswer asked input went P)
+    → IfSome known (λ input. IsAsAlone asked.config.limit input went P)
+known_as_alone asked None went P whole has = tt
+known_as_alone asked (Some input) went P whole has = as_alone asked input went P whole has
+
+-- the same of a reader's bytes, where there is one
+pub reader_as_alone : {R : Type 0} (remaining : R → Option (List ℕ)) (reader : Option (Counted R)) (r : Counted R)
+    → reader ≡ Some r → (asked : Asked) (went : Went) (P : List ℕ → Type 0) → IsWhole asked.config.limit went
+    → IfSome (known_by remaining r) (λ input. HasAnswer asked input went P)
+    → HoldsOfInput remaining reader (λ input. IsAsAlone asked.config.limit input went P)
+reader_as_alone remaining reader r is asked went P whole has =
+    subst (λ o. HoldsOfInput remaining o (λ input. IsAsAlone asked.config.limit input went P)) (sym is)
+    (known_as_alone asked (known_by remaining r) went P whole has)

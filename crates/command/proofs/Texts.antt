@@ -1,0 +1,8 @@
+-- Texts that grow.
+use Rattle.std.proofs.Common.{◌≡◌, ◌++◌, ℕ, List, arith}
+use Rattle.std.proofs.lemmas.Grind.{common_steps}
+
+-- three pieces behind a text
+pub three_behind : (old a b c first second third : List ℕ) → first ≡ old ++ a → second ≡ first ++ b → third ≡ second ++ c
+    → third ≡ old ++ (a ++ (b ++ c))
+three_behind old a b c first second third one two three = grind (arith, common_steps)

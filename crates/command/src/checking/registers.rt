@@ -1,0 +1,15 @@
+//! What the language takes for a register.
+
+use isa::{FaultKind, parse};
+use std::alloc::{AllocError, Global};
+
+/// Whether the text is a register: a listing that jumps by it has no such fault.
+pub(crate) fn is_register(alloc: Global, text: &[u8]) -> Result<bool, AllocError> {
+    let mut listing = b"jr ".to_vec(alloc)?;
+    listing.extend_from_slice(text)?;
+    match parse(alloc, listing.as_slice()) {
+        Ok(_) => Ok(true),
+        Err(fault) if fault.kind == FaultKind::Memory => Err(AllocError),
+        Err(_) => Ok(false),
+    }
+}

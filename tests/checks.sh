@@ -1,0 +1,74 @@
+#!/usr/bin/env bash
+# Reads the listings of tests/listings/check with `ruu check`, from the file and from standard input: what is written is
+# what stands beside each, with status 0 or 2. Then files that do not open, a writer that takes nothing, and want of memory.
+. "$(dirname "$0")/common.bash"
+build_refuse
+build run ruu
+ruu=crates/ruu/out/ruu
+
+is_told() { # name, what is told, status, standard error
+  [ "$status" -eq "$3" ] || fail "$1: status $status, and not $3"
+  cmp -s "$work/out" "$2" || { diff "$2" "$work/out"; fail "$1 is told otherwise"; }
+  [ "$(cat "$work/err")" = "$4" ] || fail "$1: another line on standard error"
+}
+
+count=0
+for listing in tests/listings/check/*.s; do
+  told=${listing%.s}.told
+  wanted=0
+  [[ $(head -c 5 "$told") != fault ]] || wanted=2
+  "$ruu" check "$listing" > "$work/out" 2> "$work/err"
+  status=$?
+  is_told "$listing" "$told" $wanted ''
+  "$ruu" check - < "$listing" > "$work/out" 2> "$work/err"
+  status=$?
+  is_told "$listing as standard input" "$told" $wanted ''
+  # the line of the fault is that of a run
+  if [ $wanted -eq 2 ]; then
+    "$ruu" run "$listing" > "$work/out" 2> "$work/err"
+    [ $? -eq 2 ] && [ "$(cat "$work/out")" = "$(head -n 1 "$told")" ] || fail "$listing: a run names another fault"
+  fi
+  count=$((count + 1))
+done
+[ $count -gt 10 ] || fail "only $count listings"
+
+: > "$work/none"
+"$ruu" check "$work/nowhere.s" > "$work/out" 2> "$work/err"
+status=$?
+is_told 'a file that is not there' "$work/none" 5 "ruu: $work/nowhere.s: No such file or directory (os error 2)"
+"$ruu" check examples > "$work/out" 2> "$work/err"
+status=$?
+is_told 'a folder' "$work/none" 5 'ruu: read'
+"$ruu" check examples/sum.s > /dev/full 2> "$work/err"
+status=$?
+: > "$work/out"
+is_told 'a full device' "$work/none" 5 'ruu: write'
+echo "$count listings are told as they should be, from files and from standard input"
+
+# each allocation of a check is refused in turn: the refusal is named and nothing is written, or all is told as before
+for name in good bad_register; do
+  n=0 refused=0
+  while :; do
+    n=$((n + 1))
+    run_under /dev/null REFUSED=$n "$ruu" check "tests/listings/check/$name.s"
+    $was_refused || break
+    if is_refused memory; then
+      refused=$((refused + 1))
+    else
+      cmp -s "$work/out" "tests/listings/check/$name.told" && ! $is_held || fail "$name, allocation $n refused: status $status"
+    fi
+  done
+  [ $refused -gt 0 ] || fail "$name: no refusal was told of, of $((n - 1))"
+  echo "$name: each of $((n - 1)) allocations was refused in turn, $refused told"
+done
+
+# a run from standard input is that of the file
+for listing in examples/*.s; do
+  "$ruu" run - --alone < "$listing" > "$work/out" 2> "$work/err"
+  status=$?
+  is_told "$listing run from standard input" "${listing%.s}.report" "$(status_of "${listing%.s}.report")" ''
+done
+"$ruu" help run > "$work/out" 2> "$work/err" || fail 'ruu help run'
+"$ruu" run --help > "$work/help" || fail 'ruu run --help'
+cmp -s "$work/out" "$work/help" || fail 'ruu help run and ruu run --help differ'
+echo 'runs from standard input are those of the files'

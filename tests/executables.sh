@@ -1,0 +1,34 @@
+#!/usr/bin/env bash
+# Each stored executable gives its stored listing, byte for byte, and each listing its stored report, on one thread and
+# on several. A file that is none, and one that is not there, are refused.
+. "$(dirname "$0")/common.bash"
+build run listing
+build run ruu
+
+for report in examples/c/*.report; do
+  name=${report%.report}
+  crates/listing/out/listing "$name.elf" > "$work/listing" 2> "$work/err" || fail "$name.elf: status $?, expected 0"
+  cmp "$work/listing" "$name.s" || fail "$name.elf: another listing"
+  for options in --alone '--units 2' '--units 4 --ruu-size 32'; do
+    # shellcheck disable=SC2086
+    crates/ruu/out/ruu run "$name.s" $options > "$work/out" 2> "$work/err"
+    status=$?
+    [ $status -eq "$(status_of "$report")" ] || fail "$name.s $options: status $status"
+    cmp "$work/out" "$report" || fail "$name.s $options: another report"
+  done
+  echo "$name: its listing, and its report on one thread and on several"
+done
+
+# status, word of the refusal, file
+refused() {
+  crates/listing/out/listing "${@:3}" > "$work/out" 2> "$work/err"
+  status=$?
+  [ $status -eq "$1" ] && [ ! -s "$work/out" ] && grep -q -- "$2" "$work/err" || fail "${*:3}: status $status, expected $1"
+}
+
+head -c 100 examples/c/primes.elf > "$work/cut.elf"
+refused 2 'ends before what it names' "$work/cut.elf"
+refused 2 'no ELF file' examples/c/primes.c
+refused 5 'No such file' "$work/none.elf"
+refused 3 'Usage'
+echo "what is refused: cut, no ELF file, not there, no FILE"

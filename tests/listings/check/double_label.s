@@ -1,0 +1,2 @@
+L: nop
+L: break

@@ -1,0 +1,1 @@
+	j # where to?

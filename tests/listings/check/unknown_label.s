@@ -1,0 +1,3 @@
+nop
+beq $1,$2, away
+break

@@ -1,0 +1,3 @@
+nop
+
+loop: mull $1,$2,$3 # no

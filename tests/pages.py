@@ -1,0 +1,234 @@
+"""Runs the commands of the pages against the built programs. Fails where a page and a program disagree.
+
+In a page a block `console` has commands behind `$ ` and what each writes, standard error last. Of a line of the tally
+only the words and `retires` have to be right: the other numbers are those of one run. A block with `file=NAME` is a file
+that later commands of the page read. A block `sh` has commands that prove or build: they are not run, and only what they
+name has to be there. So has each file that a page links to or names in code, and each place in it.
+"""
+import os
+import re
+import subprocess
+import sys
+import tempfile
+
+ROOT = os.getcwd()
+PAGES = ["README.md", *sorted(f"docs/{it}" for it in os.listdir("docs") if it.endswith(".md"))]
+# what a command of a page may begin with, beside a file of the repository
+TOOLS = {"cd", "rm", "git", "grep", "time", "echo", "printf"}
+found = []
+
+
+def wrong(page, text):
+    found.append(f"{page}: {text}")
+
+
+def blocks(page):
+    """The fenced blocks of a page: the words behind the fence, and the lines."""
+    with open(page, encoding="utf-8") as it:
+        return [(head.split(), body.splitlines()) for head, body in re.findall(r"^```(.*)\n((?:.*\n)*?)```$", it.read(), re.M)]
+
+
+def prose(page):
+    with open(page, encoding="utf-8") as it:
+        return re.sub(r"^```.*\n(?:.*\n)*?```$", "", it.read(), flags=re.M)
+
+
+def place(room):
+    """A folder that looks like the repository, where `./ruu` is the program that is built."""
+    for it in os.listdir(ROOT):
+        os.symlink(f"{ROOT}/crates/ruu/out/ruu" if it == "ruu" else f"{ROOT}/{it}", f"{room}/{it}")
+
+
+def told(line):
+    """What of a line has to be right."""
+    return re.sub(r"(?<!retires) \d+", " N", line) if line.startswith("tally ") else line
+
+
+def run(page, room, command, wanted):
+    went = subprocess.run(["bash", "-c", command], cwd=room, capture_output=True, text=True, errors="replace", timeout=60, stdin=subprocess.DEVNULL)
+    # what a command prints behind the program comes behind its standard error
+    lines = went.stdout.splitlines()
+    last = [lines.pop()] if "; echo " in command and lines else []
+    given = [*lines, *went.stderr.splitlines(), *last]
+    if [*map(told, given)] != [*map(told, wanted)]:
+        wrong(page, f"$ {command}\n  the page has:\n    " + "\n    ".join(wanted) + "\n  it writes:\n    " + "\n    ".join(given))
+
+
+def console(page, room, lines):
+    commands = []
+    for line in lines:
+        if line.startswith("$ "):
+            commands.append((line[2:], []))
+        elif commands:
+            commands[-1][1].append(line)
+        else:
+            wrong(page, f"no command writes {line!r}")
+    for command, wanted in commands:
+        run(page, room, command, wanted)
+    return len(commands)
+
+
+def subcommands():
+    """The words that `rt` knows."""
+    text = subprocess.run(["rt", "--help"], capture_output=True, text=True, check=False, stdin=subprocess.DEVNULL)
+    words = set()
+    for line in (text.stdout + text.stderr).splitlines():
+        for names in re.findall(r"\brt ([a-z|-]+)", line):
+            words.update(names.split("|"))
+    return words
+
+
+def is_command(word, second, known):
+    if word == "rt":
+        return second in known
+    return word in TOOLS or os.access(word.removeprefix("./"), os.X_OK)
+
+
+def check_commands(page, lines, known):
+    """Each command of a block that is not run is one that there is."""
+    count = 0
+    for line in lines:
+        for command in re.split(r"[|;&]+", line.partition(" #")[0].replace("(", "").replace(")", "")):
+            words = [it for it in command.split() if "=" not in it]
+            if words:
+                count += 1
+                if not is_command(words[0], words[1] if len(words) > 1 else "", known):
+                    wrong(page, f"there is no command {words[0]}")
+    return count
+
+
+def anchors(page):
+    heads = re.findall(r"^#+ (.*)$", prose(page), re.M)
+    return {re.sub(r"[^\w\- ]", "", it.lower()).replace(" ", "-") for it in heads}
+
+
+def check_links(page):
+    text = prose(page)
+    links = re.findall(r"\]\(([^)\s]+)\)", text) + re.findall(r"^\[[^\]]+\]: (\S+)$", text, re.M)
+    for link in links:
+        if "://" in link:
+            continue
+        name, _, anchor = link.partition("#")
+        at = os.path.normpath(os.path.join(os.path.dirname(page), name)) if name else page
+        if not os.path.exists(at):
+            wrong(page, f"no file {link}")
+        elif anchor and anchor not in anchors(at):
+            wrong(page, f"no place {link}")
+    return len(links)
+
+
+def check_spans(page, known):
+    """What a page names in code: a command, or a file of the repository."""
+    count = 0
+    for span in re.findall(r"`([^`\n]+)`", prose(page)):
+        words = span.replace("(", " ").replace(")", " ").split()
+        if not words or any(it in span for it in ("NAME", "CRATE", "FILE", "WHAT_", "..", "*")):
+            continue
+        if words[0].startswith("./") or words[0] == "rt" or re.match(r"(docs|tests|examples|benchmarks|crates)/", words[0]):
+            count += 1
+            second = words[1] if len(words) > 1 else ""
+            if words[0] == "rt" and second and second not in known:
+                wrong(page, f"there is no command {span}")
+            if words[0] != "rt" and not os.path.exists(words[0]):
+                wrong(page, f"there is no file {words[0]}")
+    return count
+
+
+def forms():
+    """The forms of the page on listings, each with operands that it allows, and with a number past its range."""
+    with open("docs/LISTING.md", encoding="utf-8") as it:
+        rows = re.findall(r"^\| `([a-z]+(?: [^`]*)?)` \|", it.read().partition("## Operations")[2].partition("## Stops")[0], re.M)
+    past = {"S16": 32768, "U16": 65536, "U5": 32}
+    good, bad = [], []
+    for row in rows:
+        filled = row
+        for name, value in {"rd": "$ra", "rs": "$s0", "rt": "$31", "Label": "here"}.items():
+            filled = re.sub(rf"\b{name}\b", lambda _: value, filled)
+        for name in past:
+            if name in filled:
+                bad.append(filled.replace(name, str(past[name])))
+                filled = filled.replace(name, "+0x1f")
+        good.append(filled)
+    return good, bad
+
+
+def check_forms(room):
+    page, (good, bad) = "docs/LISTING.md", forms()
+    if len(good) < 44:
+        wrong(page, f"{len(good)} forms of operations")
+    listing = f"{room}/forms.s"
+    for lines, wanted in [(["here:", *good], f"instructions {len(good)}"), *((["here:", it], "fault line 2 BadNumber") for it in bad)]:
+        with open(listing, "w", encoding="ascii") as it:
+            it.write("\n".join(lines) + "\n")
+        went = subprocess.run([f"{room}/ruu", "check", listing], capture_output=True, text=True, check=False)
+        if went.stdout.partition("\n")[0] != wanted:
+            wrong(page, f"{lines[-1] if len(lines) == 2 else 'all forms'}: {went.stdout or went.stderr}")
+    return len(good) + len(bad)
+
+
+def check_kit():
+    """The pages and the program name the kit that is here."""
+    kit = subprocess.run(["rt", "version"], capture_output=True, text=True, check=False).stdout.strip()
+    version = subprocess.run(["crates/ruu/out/ruu", "--version"], capture_output=True, text=True, check=False).stdout.splitlines()
+    with open("README.md", encoding="utf-8") as it:
+        if kit not in it.read():
+            wrong("README.md", f"the kit is {kit}")
+    if version[1:] != [kit]:
+        wrong("ruu --version", f"the kit is {kit}")
+
+
+def check_map():
+    """The map says of each crate what crates.txt says."""
+    uses = {}
+    with open("crates.txt", encoding="utf-8") as it:
+        for line in it:
+            head, _, deps = line.partition("#")[0].partition(":")
+            if head.split():
+                uses[head.split()[0]] = deps.split()
+    rows = re.findall(r"^\| `(\w+)` \|.*\|([^|]*)\|$", prose("docs/MAP.md"), re.M)
+    said = {name: re.findall(r"`(\w+)`", calls) for name, calls in rows}
+    for name, deps in uses.items():
+        if name not in said:
+            wrong("docs/MAP.md", f"no row for {name}")
+        elif sorted(said[name]) != sorted(it for it in deps if it in uses):
+            wrong("docs/MAP.md", f"{name} calls {' '.join(it for it in deps if it in uses)}")
+
+
+def check_picture():
+    drawn = subprocess.run([sys.executable, "docs/picture.py"], capture_output=True, text=True, check=False).stdout
+    with open("docs/unit.svg", encoding="utf-8") as it:
+        if it.read() != drawn:
+            wrong("docs/unit.svg", "docs/picture.py draws another")
+
+
+def main():
+    known, ran, looked = subcommands(), 0, 0
+    for page in PAGES:
+        with tempfile.TemporaryDirectory() as room:
+            place(room)
+            for head, lines in blocks(page):
+                name = [it[5:] for it in head if it.startswith("file=")]
+                if name:
+                    with open(f"{room}/{name[0]}", "w", encoding="utf-8") as it:
+                        it.write("\n".join(lines) + "\n")
+                elif head[:1] == ["console"]:
+                    ran += console(page, room, lines)
+                elif head[:1] == ["sh"]:
+                    looked += check_commands(page, lines, known)
+            if page == "docs/LISTING.md":
+                ran += check_forms(room)
+        looked += check_links(page) + check_spans(page, known)
+    check_kit()
+    check_picture()
+    check_map()
+    for it in found:
+        print(it)
+    if ran < 60 or looked < 40:
+        print(f"only {ran} commands and {looked} names were found")
+        return 1
+    print(f"{len(PAGES)} pages: {ran} commands ran as they say, {looked} commands, files and places are there")
+    return 1 if found else 0
+
+
+if __name__ == "__main__":
+    sys.exit(main())

@@ -1,0 +1,6 @@
+#!/usr/bin/env bash
+# Runs each command of each page, of the README and of docs/, against the built programs, and fails where a page and a
+# program disagree. Commands that prove or build are not run, but have to be there; so has each file that a page names.
+. "$(dirname "$0")/common.bash"
+build run ruu
+python3 tests/pages.py || fail 'the pages disagree with the programs'
