@@ -7,22 +7,22 @@ ghost use Rattle.command.specs.Went.{HoldsOfInput, IsOfOneThread, refused};
 ghost use Rattle.command.specs.declared.went.Line.TheVariants.{Nothing, Refused};
 
 mod blame;
-mod counts;
 mod explanation;
 mod forms;
 mod lines;
 mod parts;
 mod registers;
+mod summary;
 
 use crate::running::refused;
 use crate::threads::MOST_TAKEN;
 use crate::{Line, Refusal, Went};
-use counts::counted;
 use devices::{Counted, read_up_to, write_whole};
 use explanation::explained;
 use isa::{FaultKind, parse};
 use std::alloc::Global;
 use std::io::{Read, Write};
+use summary::counted;
 
 /// Reads a listing and runs nothing. For a good one it writes how many instructions, labels and
 /// bytes of data it has, and for one with a fault where and what that is; the status is 0 or 2.

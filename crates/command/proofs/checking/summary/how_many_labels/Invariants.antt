@@ -4,7 +4,7 @@ use Rattle.text.specs.Line.{lines_of, lines_left}
 use Rattle.text.proofs.Splits.{size_left}
 use Rattle.command.specs.Checks.{how_many_labels}
 use Rattle.command.proofs.Lengths.{total}
-use Rattle.command.proofs.checking.counts.how_many_labels.Given as goal
+use Rattle.command.proofs.checking.summary.how_many_labels.Given as goal
 
 abbrev pub invariant-loop-rest : goal.invariant-loop-rest
 invariant-loop-rest l = record {

@@ -2,7 +2,7 @@ use Rattle.std.proofs.Common.{◌≤◌, ◌+◌, arith, length}
 use Rattle.std.specs.Option.{option_map}
 use Rattle.text.specs.Line.{before_comment, lines_of, lines_left}
 use Rattle.command.proofs.Lengths.{counted_in, lines_fit, total}
-use Rattle.command.proofs.checking.counts.how_many_labels.Goals as goal
+use Rattle.command.proofs.checking.summary.how_many_labels.Goals as goal
 
 pub overflow_add-n : goal.overflow_add-n
 overflow_add-n c =

@@ -1,6 +1,6 @@
 use Rattle.std.proofs.Common.{◌≡◌, ◌+◌, ◌≤◌, length}
 use Rattle.text.specs.Label.{labels_of}
-use Rattle.command.proofs.checking.counts.labels_in.Given as goal
+use Rattle.command.proofs.checking.summary.labels_in.Given as goal
 
 abbrev pub invariant-loop-after : goal.invariant-loop-after
 invariant-loop-after l = record {

@@ -1,5 +1,5 @@
 use Rattle.std.proofs.Common.{◌∙◌, ap}
-use Rattle.command.proofs.checking.counts.counted.Goals as goal
+use Rattle.command.proofs.checking.summary.counted.Goals as goal
 
 pub returns : goal.returns
 returns c =
