@@ -195,6 +195,7 @@ pub fn outcome_of(instr: &Instr, half: Half, pc: u32, a: u32, b: u32, size: u32)
 }
 
 /// A load's bytes, read as an unsigned little endian number, extended as the operation says.
+/// As in MIPS I `lb` and `lh` extend the sign, `lbu` and `lhu` do not.
 #[tactic(auto, unfolding(crate::specs::Operations::loaded))]
 pub fn loaded(op: Op, raw: u32) -> u32
     ensures { result ≡ loaded_of op raw }

@@ -98,6 +98,8 @@ fn settle_load(
 
 impl Core {
     /// Writes the outcome of a claimed tenant, and carries a value to all who asked for it.
+    /// This is writeback, and the wakeup of consumers: a result reaches those that wait under its
+    /// producer's tag (Tomasulo 1967), here along links, as in sim-outorder's `ruu_writeback`.
     pub fn finish(&self, seat: &mut UnitSeat, job: Job, outcome: Outcome) -> Finish
         requires core { seat.old.core ≡ self.now }
         requires job { Holds self.now.program self.now.sizes seat.old.by seat.old.seen job }
@@ -110,6 +112,7 @@ impl Core {
     }
 
     /// Writes the value of a load, and carries it to all who asked for it.
+    /// The load completes; its consumers' wakeup is that of `finish`.
     pub fn settle(&self, seat: &mut BackSeat, station: usize, tag: u32, value: u32) -> Settle
         requires core { seat.old.core ≡ self.now }
         requires station { station < self.now.sizes.ring }
