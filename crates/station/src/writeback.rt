@@ -62,7 +62,8 @@ fn finish_job(
     Finish::Finished
 }
 
-// The look tells the address that stands in the word.
+// The look tells the address that stands in the word. Where another word stands there, the load was
+// squashed: the exchange fails, and says so.
 fn settle_load(
     words: &Words,
     ring: usize,
