@@ -20,6 +20,7 @@ pub record TheBack : Type 0 where
   pub ended : Option Stop
   pub shown : Snap
 
+-- The back of this seat, which has ended so and has shown this
 abbrev pub back_of : Caller → Option Stop → Snap → TheBack
 back_of seat ended shown =
     record { core = seat.core; by = seat.by; seen = seat.seen; ended = ended; shown = shown }

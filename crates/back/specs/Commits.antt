@@ -68,6 +68,7 @@ pub record WasRefused (old new : TheBack) (event : Event) : Type 0 where
   pub adds : HasAdded old new (event ∷ [])
   pub state : state_of new ≡ state_of old
 
+-- It is a stop with this code, and has retired
 pub record IsRetiredStop (code : Stop) (t : Tenant) : Type 0 where
   pub standing : t.standing ≡ HasRetired
   pub fate : t.fate ≡ Stopped code
@@ -87,6 +88,7 @@ pub record HasEnded (old new : TheBack) (code : Stop) : Type 0 where
   pub state : state_of new ≡ state_of old
   pub stops : stop new.core.program (state_of new).count ≡ Some code
 
+-- What `commit` answers, each with what it says
 abbrev pub CommitAnswers : TheBack → TheBack → Commit → Type 0
 CommitAnswers old new (Retired pc n) = HasCommitted old new pc n
 CommitAnswers old new (Half pc) = HasHalved old new pc

@@ -12,6 +12,7 @@ use Rattle.lsq.specs.declared.entry.Entry.{Entry as QueueEntry}
 use Rattle.lsq.specs.LoadRule.{answer}
 use Rattle.station.specs.Moments.{WasOnce}
 
+-- It is a live load
 pub record IsLiveLoad (P : Program) (t : Tenant) : Type 0 where
   pub live : t.standing ≡ Live
   pub kind : kind_of P t ≡ Loads
@@ -22,6 +23,7 @@ pub record IsWaitingLoad (P : Program) (t : Tenant) : Type 0 where
   pub address : ℕ
   pub fate : t.fate ≡ Addr address
 
+-- It is a live store
 pub record IsLiveStore (P : Program) (t : Tenant) : Type 0 where
   pub live : t.standing ≡ Live
   pub kind : kind_of P t ≡ Stores

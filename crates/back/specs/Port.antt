@@ -30,6 +30,7 @@ abbrev pub content_in : SourceState → ℕ → Option ℕ
 content_in Val value = Some value
 content_in _ value = None
 
+-- The address that a tenant of this fate shows, if it does
 abbrev pub address_of : Fate → Option ℕ
 address_of (Addr a) = Some a
 address_of _ = None
@@ -81,6 +82,7 @@ pub record IsMet (P : Program) (a w : ℕ) (e : QueueEntry) (u : Tenant) : Type 
   pub entry : e ≡ record { store = true; width = access_width (instr P u).op; address = Some base; content = None }
   pub meets : overlaps a w e ≡ true
 
+-- It is a store without its address
 abbrev pub Lacks : Program → Tenant → Type 0
 Lacks P u = lacks_address (entry_of P u) ≡ true
 

@@ -69,6 +69,7 @@ abbrev pub state_behind_by : (waits : Option ℕ) → Instr → Half → Last �
 state_behind_by (Some v) i half last waited s = s
 state_behind_by None i half last waited s = with_last i half last (with_low waited s)
 
+-- The same by the tenant's instruction and half
 abbrev pub state_behind : Instr → Half → Last → Option ℕ → State → State
 state_behind i half last waited s = state_behind_by (low_in i half last) i half last waited s
 

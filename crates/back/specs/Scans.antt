@@ -27,10 +27,12 @@ pub record IsFirst (P : Program) (C : Sizes) (old now : List Entry) (head ring k
   pub when : WasOnce P C old now (HoldsBack P p (behind head ring place) store)
   pub before : EachBehind P C old head ring place (WasNotWaiting P C old now)
 
+-- The first such load; or none of these stations has a load that waits
 abbrev pub FirstIs : Program → Sizes → List Entry → List Entry → (head ring k : ℕ) → Option (ℕ × ℕ) → Type 0
 FirstIs P C old now head ring k None = EachBehind P C old head ring k (WasNotWaiting P C old now)
 FirstIs P C old now head ring k (Some b) = IsFirst P C old now head ring k b.0 b.1
 
+-- What a scan of the first k stations finds, and what it has added
 pub record Scanned (P : Program) (C : Sizes) (by : ℕ) (old now : List Entry) (head ring k : ℕ) (blocked : Option (ℕ × ℕ)) : Type 0 where
   pub late : List Event
   pub are_late : AllByRecursion IsTooLate late

@@ -32,6 +32,7 @@ load_by Loads size i tag address =
     if nat_le (address + width i.op) size then Some (record { tag = tag; address = address; op = i.op }) else None
 load_by _ size i tag address = None
 
+-- The same by the index of the instruction, if it is one of the program's
 abbrev pub load_at : Program → ℕ → ℕ → ℕ → Option Load
 load_at P index tag address =
     if nat_lt index (length P.code)
@@ -70,6 +71,7 @@ pub record SomeWaits (P : Program) (C : Sizes) (old new : List Entry) (station :
 abbrev pub NobodyWaits : TheCore → List Entry → List Entry → ℕ → Type 0
 NobodyWaits core old new station = NoneWaits core.program core.sizes old new station
 
+-- This load waits, and no other of the station
 abbrev pub ThisWaits : TheCore → List Entry → List Entry → ℕ → Load → Type 0
 ThisWaits core old new station l = SomeWaits core.program core.sizes old new station l
 
@@ -78,18 +80,21 @@ pub record HoldsBack (P : Program) (p station s : ℕ) (U : UpdateUnit) : Type 0
   pub blocked : IsBlockedAt P U p s
   pub load : Has U p (IsLoadAt P station)
 
+-- Nothing was loaded: no load of the station waited, each at a moment of its own
 pub record HasPassed (P : Program) (C : Sizes) (by : ℕ) (old new : List Entry) (station : ℕ) : Type 0 where
   pub late : List Event
   pub are_late : AllByRecursion IsTooLate late
   pub adds : Adds P C by old new late
   pub none : NoneWaits P C old new station
 
+-- A store of station s held the load back at a moment of the call, and no other waits here
 pub record HasHeldBack (P : Program) (C : Sizes) (by : ℕ) (old new : List Entry) (station s : ℕ) : Type 0 where
   pub adds : Adds P C by old new []
   pub p : ℕ
   pub when : WasOnce P C old new (HoldsBack P p station s)
   pub others : NoOtherWaits P C old new station p
 
+-- The load of the station was done with this value, which was carried along its links
 pub record DidLoad (P : Program) (C : Sizes) (by : ℕ) (old new : List Entry) (station tag value : ℕ) : Type 0 where
   pub p : ℕ
   pub tenant : IsTenant (unit_of P C new) p station tag (λ t. t.fate ≡ Done value)

@@ -123,6 +123,8 @@ impl<J: Naming> Back<J> {
     /// Retires the oldest live tenant, if it can retire, and commits it: what it made goes into its register,
     /// and a store writes memory. What the first half of an instruction made waits for the second. Once it has
     /// answered `Ended` it makes no step any more.
+    /// This is commit in order, from the head of Sohi's register update unit or of the reorder
+    /// buffer of Smith and Pleszkun: whatever has not retired, the committed state is precise.
     pub fn commit(&mut self, core: &Core) -> Commit
         requires core { self.old.core ≡ core.now }
         requires count { (state_of self.old).count < 2 ^ 64 - 1 }

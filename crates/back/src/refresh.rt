@@ -64,6 +64,7 @@ impl<J: Naming> Back<J> {
     /// Answers the oldest load with its address that no store blocks, from the data of an older store or from
     /// memory. It goes through the stations from the oldest live tenant's on. It looks at a load first, and at
     /// the older stores afterwards, the youngest one first; and at a blocked load once more.
+    /// The rule is that of SimpleScalar's load/store queue (`lsq_refresh`), as `lsq` defines it.
     pub fn refresh(&mut self, core: &Core) -> Refresh
         requires core { self.old.core ≡ core.now }
         ensures kept { IsSame self.old self.new }

@@ -21,6 +21,7 @@ use Rattle.front.specs.Trail.{Note, record_of, trail}
 abbrev pub maker_of : Note → Maker
 maker_of n = record { station = n.what.station; tag = n.what.tag }
 
+-- The entry of a tenant, if there is one
 abbrev pub entry_of : Option Note → Option Maker
 entry_of None = None
 entry_of (Some n) = Some (maker_of n)
@@ -39,6 +40,7 @@ pub record IsSaved (x : Record) (s : Saved) : Type 0 where
   pub register : s.register ≡ x.destination
   pub made : s.made ≡ made_from_start x
 
+-- The table keeps this of the station's last tenant
 pub record IsLatest (latest : List Saved) (x : Record) : Type 0 where
   pub saved : Saved
   pub is : slice_get latest x.station ≡ Some saved
@@ -68,6 +70,7 @@ FindsNone T r =
     (m : Maker) (s : Saved) → 0 < r → slice_get T.entries r ≡ Some (Some m) →
     slice_get T.latest m.station ≡ Some s → s.tag ≢ m.tag
 
+-- The entry of r names the last tenant of its station, and this is what that made from the start
 pub record FindsOne (T : Table) (r : ℕ) (c : Creator) : Type 0 where
   pub written : 0 < r
   pub saved : Saved
@@ -76,21 +79,25 @@ pub record FindsOne (T : Table) (r : ℕ) (c : Creator) : Type 0 where
   pub tag : saved.tag ≡ c.tag
   pub made : c.made ≡ saved.made
 
+-- What a look at the entry of r finds
 abbrev pub Finds : Table → ℕ → Option Creator → Type 0
 Finds T r None = FindsNone T r
 Finds T r (Some c) = FindsOne T r c
 
 -- What a new tenant is given, by what was found; the one at its own station leaves
 
+-- A source that comes from this tenant, unless that made its value from the start
 abbrev pub supply_made : ℕ → ℕ → Option ℕ → Supply
 supply_made station tag None = From station tag
 supply_made station tag (Some v) = Known v
 
+-- A source by the creator that was found; the base registers have it where there is none
 abbrev pub supply_found : ℕ → ℕ → Option Creator → Supply
 supply_found own base None = Known base
 supply_found own base (Some c) =
     if c.station == own then Known base else supply_made c.station c.tag c.made
 
+-- The source that reads register r is given so
 pub record IsSupplied (T : Table) (own : ℕ) (base : List ℕ) (r : ℕ) (given : Supply) : Type 0 where
   pub found : Option Creator
   pub finds : Finds T r found

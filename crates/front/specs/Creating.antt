@@ -21,6 +21,7 @@ pub record IsBase (P : Program) (U : UpdateUnit) (r v : ℕ) : Type 0 where
   pub again : (p : ℕ) (t : Tenant) → creator P U.tenants r ≡ Some p → at U.tenants p ≡ Some t →
       ¬ IsLastAt U p t.station
 
+-- What is answered of register r: its creator, or the value that older ones left
 abbrev pub IsCreator : Program → UpdateUnit → ℕ → Made → Type 0
 IsCreator P U r (IsMade station tag) = IsMaker P U r station tag
 IsCreator P U r (Base v) = IsBase P U r v

@@ -22,9 +22,11 @@ newest_note older [] r = older
 newest_note older (n ∷ ns) r =
     newest_note (if n.what.destination == r then Some n else older) ns r
 
+-- The same for the creator of a register
 abbrev pub creator_note : List Note → ℕ → Option Note
 creator_note notes r = if can_be_written r then newest_note None notes r else None
 
+-- Its position in the unit
 abbrev pub position : Option Note → Option ℕ
 position None = None
 position (Some n) = Some n.at

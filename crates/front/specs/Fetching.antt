@@ -19,6 +19,7 @@ pub record HasLeft (left : ℕ) (t : Tenant) : Type 0 where
   pub retired : t.standing ≡ Retired
   pub value : HasValue (left_value t.fate t.made) left
 
+-- The tenant of this record has retired, and left this value
 pub record IsLeft (U : UpdateUnit) (x : Record) (left : ℕ) : Type 0 where
   pub p : ℕ
   pub tenant : IsTenant U p x.station x.tag (HasLeft left)
@@ -38,6 +39,7 @@ abbrev pub OldestLeft : Sizes → UpdateUnit → List Record → ℕ → Type 0
 OldestLeft C U records left =
     (x : Record) (xs : List Record) → records ≡ x ∷ xs → C.ring ≤ length records → IsLeft U x left
 
+-- Both, in what was seen
 pub record CanFetch (P : Program) (C : Sizes) (seen : List Entry) (records : List Record) (f : Fetched) : Type 0 where
   pub next : IsNext P C seen f
   pub oldest : OldestLeft C (unit_of P C seen) records f.left

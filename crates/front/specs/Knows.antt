@@ -10,6 +10,7 @@ use Rattle.front.specs.declared.path.record.Record.{Record}
 use Rattle.front.specs.Creators.{creator_note, position}
 use Rattle.front.specs.Trail.{Note, trail}
 
+-- What the front keeps of each
 abbrev pub whats : List Note → List Record
 whats notes = map (λ n. n.what) notes
 

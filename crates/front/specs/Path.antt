@@ -12,9 +12,11 @@ use Rattle.front.specs.declared.path.Path.{Path}
 use Rattle.front.specs.declared.path.record.Record.{Record}
 use Rattle.front.specs.Trail.{is_link}
 
+-- The record of the youngest tenant
 abbrev pub last_of : List Record → Option Record
 last_of records = slice_get records (length records - 1)
 
+-- Where the path goes on behind a tenant, or begins
 abbrev pub pc_after : Option Record → ℕ
 pc_after None = text_start
 pc_after (Some x) = x.next
@@ -28,9 +30,11 @@ abbrev pub half_behind_last : Option Record → Half
 half_behind_last None = Low
 half_behind_last (Some x) = half_after x.first
 
+-- The same by all records
 abbrev pub half_behind : List Record → Half
 half_behind records = half_behind_last (last_of records)
 
+-- The station behind that of a tenant on the ring, or the first
 abbrev pub place_after : ℕ → Option Record → ℕ
 place_after ring None = 0
 place_after ring (Some x) = (x.station + 1) % ring

@@ -19,6 +19,7 @@ abbrev pub MayAskFor : Program → Sizes → List Entry → ℕ → ℕ → Sour
 MayAskFor P C seen station tag k (Known v) = Unit {0}
 MayAskFor P C seen station tag k (From s g) = (s < C.ring) × MayAsk P C seen station tag k s g
 
+-- Source k of the tenant of this station and tag was asked for
 pub record WasAsked (P : Program) (C : Sizes) (old new : List Entry) (station tag : ℕ) (k : Source) : Type 0 where
   pub r : ℕ
   pub named : IsNamed (unit_of P C new) r station tag

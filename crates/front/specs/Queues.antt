@@ -20,6 +20,7 @@ pub record IsBefore (records : List Record) (n : ℕ) (x : Record) : Type 0 wher
   pub access : x.access ≡ true
   pub behind : accesses younger ≡ n
 
+-- There are at most n loads and stores, or this is the one that n follow
 abbrev pub AccessBefore : List Record → ℕ → Option Record → Type 0
 AccessBefore records n None = accesses records ≤ n
 AccessBefore records n (Some x) = IsBefore records n x

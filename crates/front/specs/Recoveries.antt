@@ -18,6 +18,7 @@ use Rattle.front.specs.declared.answers.Recovery.TheVariants.{Mended, NoMiss}
 use Rattle.front.specs.declared.path.record.Record.{Record}
 use Rattle.front.specs.declared.recovery.Missed.{Missed}
 
+-- The event of the squash of tenant p
 abbrev pub squash_event : ℕ → Event
 squash_event p = Does (On p Squash)
 
@@ -37,6 +38,7 @@ pub record IsMended (P : Program) (C : Sizes) (old new : List Entry) (station sq
   pub count : length squashes ≡ squashed
   pub adds : Adds P C front old new (Does (On p Mend) ∷ map squash_event squashes)
 
+-- What a recovery answers: a miss was mended, or there was none when it began
 abbrev pub RecoverAnswers : Program → Sizes → List Entry → List Entry → Recovery → Type 0
 RecoverAnswers P C old new (Mended station squashed) = IsMended P C old new station squashed
 RecoverAnswers P C old new NoMiss = Adds P C front old new [] × HasNoMiss (unit_of P C old)
@@ -72,6 +74,7 @@ pub record IsFound (P : Program) (C : Sizes) (old new : List Entry) (records : L
   pub miss : IsMissAt P C new records m
   pub first : AllByRecursion (IsNoMiss (unit_of P C old)) (take m.at records)
 
+-- What the scan of the records finds: no miss, or the first
 abbrev pub Finds : Program → Sizes → List Entry → List Entry → List Record → Option Missed → Type 0
 Finds P C old new records None = AllByRecursion (IsNoMiss (unit_of P C old)) records
 Finds P C old new records (Some m) = IsFound P C old new records m

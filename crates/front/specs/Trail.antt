@@ -36,6 +36,7 @@ pub record Note : Type 0 where
   pub at : ℕ
   pub what : Record
 
+-- The note of tenant t, with ts before it
 abbrev pub note : Program → List Tenant → Tenant → Note
 note P ts t = record { at = length ts; what = record_of P t }
 

@@ -36,6 +36,7 @@ abbrev pub ToldOf : {S : Type 0} → (S → ℕ → ℕ → S → Type 0) → Op
 ToldOf Learns None old new = new ≡ old
 ToldOf Learns (Some x) old new = ToldIf Learns x.guessed x.pc x.next old new
 
+-- The predictor is told of who leaves, and then asked for the new tenant, by records alone
 pub record Guesses {S : Type 0} (Predicts : S → ℕ → Instr → ℕ → S → Type 0) (Learns : S → ℕ → ℕ → S → Type 0) (left : Option Record) (i : Instr) (half : Half) (pc predicted : ℕ) (old new : S) : Type 0 where
   pub middle : S
   pub told : ToldOf Learns left old middle

@@ -23,24 +23,29 @@ use Rattle.front.specs.Training.{Trains}
 -- Refusals. Each is true at a moment of the call, and each that comes before it in this order was not true at
 -- one
 
+-- A station was free at a moment of the call
 abbrev pub WasNotFull : Program → Sizes → List Entry → List Entry → Type 0
 WasNotFull P C old new = WasOnce P C old new (λ U. ¬ IsFull C U)
 
+-- There was no instruction at the front pc, and a station was free
 pub record NoInstrNow (P : Program) (C : Sizes) (old new : List Entry) : Type 0 where
   pub no_instr : WasOnce P C old new (HasNoInstr P)
   pub not_full : WasNotFull P C old new
 
+-- The queue had no room, though a station was free and there was an instruction
 pub record QueueFullNow (P : Program) (C : Sizes) (old new : List Entry) : Type 0 where
   pub queue_full : WasOnce P C old new (IsQueueFull P C)
   pub not_full : WasNotFull P C old new
   pub instr : WasOnce P C old new (λ U. ¬ HasNoInstr P U)
 
+-- The next tag was the last one, and each other refusal was untrue at a moment
 pub record SpentNow (P : Program) (C : Sizes) (old new : List Entry) : Type 0 where
   pub spent : WasOnce P C old new (IsSpent C)
   pub not_full : WasNotFull P C old new
   pub instr : WasOnce P C old new (λ U. ¬ HasNoInstr P U)
   pub room : WasOnce P C old new (λ U. ¬ IsQueueFull P C U)
 
+-- What each refusal says
 abbrev pub Refuses : Program → Sizes → List Entry → List Entry → Turn → Type 0
 Refuses P C old new Full = WasOnce P C old new (IsFull C)
 Refuses P C old new NoInstr = NoInstrNow P C old new
@@ -85,6 +90,7 @@ pub record IsLet {S : Type 0} (Predicts : S → ℕ → Instr → ℕ → S → 
   pub trains : Trains Predicts Learns P (last_of (recent (unit_of P C lets.point)) station) (instr_of P lets.index)
       (front_half P (unit_of P C lets.point).tenants) pc predicted before after
 
+-- What a turn answers: a tenant was let, or a refusal
 abbrev pub TurnAnswers : {S : Type 0} → (S → ℕ → Instr → ℕ → S → Type 0) → (S → ℕ → ℕ → S → Type 0) → Program → Sizes → List Entry → List Entry → S → S → Turn → Type 0
 TurnAnswers Predicts Learns P C old new before after (HasLet station tag pc) =
     IsLet Predicts Learns P C old new before after station tag pc

@@ -95,6 +95,8 @@ impl<'a, P: Predictor + Drop> Front<'a, P> {
     }
 
     /// Lets the next instruction, or says why it cannot.
+    /// This is dispatch with renaming, sim-outorder's `ruu_dispatch`: sources are looked up in the
+    /// create vector, and the new tenant enters it as the newest writer of its register.
     pub fn turn(&mut self, core: &Core) -> Turn
         requires { self.old.core ≡ core.now }
         ensures core { self.new.core ≡ core.now }
@@ -112,6 +114,7 @@ impl<'a, P: Predictor + Drop> Front<'a, P> {
     }
 
     /// Looks for the oldest miss, squashes all tenants behind it, and mends it.
+    /// This is recovery from a misprediction, sim-outorder's `ruu_recover`.
     pub fn recover(&mut self, core: &Core) -> Recovery
         requires { self.old.core ≡ core.now }
         ensures core { self.new.core ≡ core.now }
@@ -128,6 +131,8 @@ impl<'a, P: Predictor + Drop> Front<'a, P> {
     }
 
     /// Who creates a register.
+    /// The create vector is that of SimpleScalar's sim-outorder, in the place of a register alias
+    /// table: results stay in their reservation stations, so there are no physical registers.
     pub fn creator(&self, r: Reg) -> Made
         ensures { CreatorOf self.now r result }
     {

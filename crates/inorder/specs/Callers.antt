@@ -62,6 +62,7 @@ abbrev pub IsLastAt : UpdateUnit → ℕ → ℕ → Type 0
 IsLastAt U p station =
     (q : ℕ) (u : Tenant) → p < q → at U.tenants q ≡ Some u → u.station ≢ station
 
+-- It is live, and a misprediction that goes on at x
 pub record IsMissing (x : ℕ) (t : Tenant) : Type 0 where
   pub live : t.standing ≡ Live
   pub fate : t.fate ≡ Miss x
@@ -87,10 +88,12 @@ pub record CanMend (U : UpdateUnit) (p x : ℕ) : Type 0 where
 
 -- The back
 
+-- It has left by retiring
 abbrev pub stands_retired : Standing → Bool
 stands_retired Retired = true
 stands_retired _ = false
 
+-- The tenant has retired
 abbrev pub is_retired : Tenant → Bool
 is_retired t = stands_retired t.standing
 

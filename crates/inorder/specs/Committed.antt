@@ -5,6 +5,7 @@ use Rattle.inorder.specs.Machine.{State, start, store_bytes, write}
 use Rattle.inorder.specs.Memory.{Stored, stored}
 use Rattle.inorder.specs.Tenants.{Fate, Retired, Standing, Stopped, Tenant, computed_next, destination_of, is_first}
 
+-- What has retired commits, unless it is a stop
 abbrev pub commits_by : Standing → Fate → Bool
 commits_by Retired (Stopped c) = false
 commits_by Retired _ = true

@@ -10,6 +10,7 @@ use Rattle.inorder.specs.Legal.{AreAllowed, Taken, reached}
 use Rattle.inorder.specs.Tenants.{Addr, Done, Miss, Open, Operand, Stopped, Tenant, computed, computed_next, kind_of, missing}
 use Rattle.inorder.specs.Unit.{Sizes, at, older, value_of}
 
+-- A tenant of each kind that is done with v: its outcome, and what it made
 abbrev pub DoneSays : Program → Tenant → ℕ → Kind → Type 0
 DoneSays P t v Computes = (computed P t ≡ Value v) × (t.made ≡ Some v)
 DoneSays P t v Jumps = computed P t ≡ Next v
@@ -17,6 +18,7 @@ DoneSays P t v Links = (computed P t ≡ Next v) × (t.made ≡ Some (pc_plus_4 
 DoneSays P t v Loads = ((a : ℕ) × (computed P t ≡ Address a)) × (t.made ≡ Some v)
 DoneSays P t v Stores = ⊥
 
+-- What each fate says
 pub record FateSays (P : Program) (t : Tenant) : Type 0 where
   pub address : (a : ℕ) → t.fate ≡ Addr a → computed P t ≡ Address a
   pub done : (v : ℕ) → t.fate ≡ Done v → DoneSays P t v (kind_of P t)
@@ -30,6 +32,7 @@ pub record FateSays (P : Program) (t : Tenant) : Type 0 where
 abbrev pub HasItsValue : List Tenant → Operand → Type 0
 HasItsValue ts o = (v : ℕ) → o.value ≡ Some v → value_of ts o.creator ≡ Some v
 
+-- The tenant t, with ts before it: fate, sources, and pc
 pub record FollowsFrom (P : Program) (ts : List Tenant) (t : Tenant) : Type 0 where
   pub fate : FateSays P t
   pub first : HasItsValue ts t.first
@@ -37,6 +40,7 @@ pub record FollowsFrom (P : Program) (ts : List Tenant) (t : Tenant) : Type 0 wh
   pub pc : t.pc ≡ address t.index
   pub inside : t.index < length P.code
 
+-- So it is of each tenant in the unit that these steps reach, if each was allowed
 abbrev pub FatesFollow : Program → Sizes → List Taken → Type 0
 FatesFollow P C history =
     (p : ℕ) (t : Tenant) → AreAllowed P C history → at (reached P C history).tenants p ≡ Some t →

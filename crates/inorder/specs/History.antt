@@ -21,32 +21,40 @@ use Rattle.inorder.specs.Unit.{Sizes, UpdateUnit, at, next_tag, recent}
 
 -- The callers: one front, one back, and any number of units
 
+-- The front's number
 abbrev pub front : ℕ
 front = 0
 
+-- The back's number
 abbrev pub back : ℕ
 back = 1
 
+-- It is the number of a unit
 abbrev pub IsUnit : ℕ → Type 0
 IsUnit by = 2 ≤ by
 
+-- It is the number of a unit or of the back
 abbrev pub IsUnitOrBack : ℕ → Type 0
 IsUnitOrBack by = 1 ≤ by
 
+-- One entry of a history: its caller, and what happened
 abbrev pub entry : ℕ → Event → Entry
 entry by event = record { by = by; event = event }
 
 -- The unit of a history: refusals and marks change nothing
 
+-- The steps, with that of an event if it is one
 abbrev pub with_event : ℕ → Event → List Taken → List Taken
 with_event by (Does s) ss = record { by = by; step = s } ∷ ss
 with_event by (Refuses r) ss = ss
 with_event by (Marks m) ss = ss
 
+-- The steps of a history, each with its caller
 abbrev pub taken_of : List Entry → List Taken
 taken_of [] = []
 taken_of (e ∷ h) = with_event e.by e.event (taken_of h)
 
+-- The unit that they reach
 abbrev pub unit_of : Program → Sizes → List Entry → UpdateUnit
 unit_of P C h = reached P C (taken_of h)
 
@@ -63,6 +71,7 @@ pub record WasOpen (P : Program) (C : Sizes) (h : List Entry) (p : ℕ) : Type 0
 
 -- Who may do what
 
+-- This caller may act so, if the unit allows it: anybody delivers
 abbrev pub IsTheirAct : ℕ → Act → Type 0
 IsTheirAct by (Link k) = by ≡ front
 IsTheirAct by (Deliver k) = Unit {0}
@@ -79,6 +88,7 @@ IsTheirs C U by (Let index predicted first second) =
     (by ≡ front) × (next_tag C (recent U) < last_tag)
 IsTheirs C U by (On p act) = IsTheirAct by act
 
+-- A refusal is true at this point, and this caller is one that is told so
 abbrev pub MayRefuse : Program → Sizes → List Entry → ℕ → Refusal → Type 0
 MayRefuse P C h by (NotOpen s) = IsUnit by × HasNoOpen (unit_of P C h) s
 MayRefuse P C h by (Waiting p k) = IsUnit by × WasOpen P C h p × IsWaiting P (unit_of P C h) p k
@@ -99,6 +109,7 @@ IsWalked U q =
 abbrev pub IsAsked : UpdateUnit → ℕ → Source → Type 0
 IsAsked U p k = IsDelivered U p k ⊎ IsAskedInTime U p k
 
+-- A mark is true at this point, and this caller is one that makes it
 abbrev pub MayMark : UpdateUnit → ℕ → Mark → Type 0
 MayMark U by (Walked q) = IsUnitOrBack by × IsWalked U q
 MayMark U by (Asked p k) = (by ≡ front) × IsAsked U p k
@@ -109,6 +120,7 @@ MayAdd P C h by (Does s) = IsTheirs C (unit_of P C h) by s × Allowed P C (unit_
 MayAdd P C h by (Refuses r) = MayRefuse P C h by r
 MayAdd P C h by (Marks m) = MayMark (unit_of P C h) by m
 
+-- Each entry was allowed behind those before it
 abbrev pub IsLegal : Program → Sizes → List Entry → Type 0
 IsLegal P C [] = Unit {0}
 IsLegal P C (e ∷ h) = IsLegal P C h × MayAdd P C h e.by e.event

@@ -20,6 +20,7 @@ pub record IsRing (C : Sizes) (ts : List Tenant) : Type 0 where
   pub last : (p : ℕ) (t : Tenant) → at ts p ≡ Some t → t.standing ≡ Live →
       AllByRecursion (λ u. u.station ≢ t.station) (younger ts p)
 
+-- So it is in the unit that these steps reach, if each was allowed
 abbrev pub StandsRight : Program → Sizes → List Taken → Type 0
 StandsRight P C history = AreAllowed P C history → IsRing C (recent (reached P C history))
 
@@ -29,9 +30,11 @@ Names ts =
     (p q : ℕ) (t u : Tenant) → at ts p ≡ Some t → at ts q ≡ Some u →
     t.station ≡ u.station → t.tag ≡ u.tag → p ≡ q
 
+-- So it is in the unit that these steps reach, if each was allowed
 abbrev pub NamesOne : Program → Sizes → List Taken → Type 0
 NamesOne P C history = AreAllowed P C history → Names (recent (reached P C history))
 
+-- Any step but a retirement
 abbrev pub IsNoRetire : Step → Type 0
 IsNoRetire (On p (Retire n)) = ⊥
 IsNoRetire _ = ⊤
@@ -56,6 +59,7 @@ pub record Commits (P : Program) (C : Sizes) (U : UpdateUnit) (by : ℕ) : Type 
   pub waits_on : (s : Step) → IsNoRetire s → Allowed P C U by s →
       ahead P (applied P C U by s).tenants ≡ ahead P U.tenants
 
+-- So it is behind these steps, if each was allowed
 abbrev pub OnlyRetirementsCommit : Program → Sizes → List Taken → ℕ → Type 0
 OnlyRetirementsCommit P C history by =
     AreAllowed P C history → Commits P C (reached P C history) by

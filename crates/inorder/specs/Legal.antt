@@ -37,10 +37,12 @@ pub record MayAct (P : Program) (ts : List Tenant) (by p : ℕ) (act : Act) : Ty
   pub is : at ts p ≡ Some tenant
   pub may : May P by act (younger ts p) tenant (older ts p)
 
+-- The caller may take this step in the unit
 abbrev pub Allowed : Program → Sizes → UpdateUnit → ℕ → Step → Type 0
 Allowed P C U by (Let index predicted first second) = MayLet P C U index predicted first second
 Allowed P C U by (On p act) = MayAct P U.tenants by p act
 
+-- The tenants, with what becomes of the one at position p, if there is one
 abbrev pub change_at : Program → List Tenant → ℕ → ℕ → Act → Option Tenant → List Tenant
 change_at P ts by p act None = ts
 change_at P ts by p act (Some t) = replaced ts p (changed P by act t (older ts p))

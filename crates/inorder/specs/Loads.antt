@@ -21,6 +21,7 @@ use Rattle.inorder.specs.Unit.{Sizes, at, older}
 use Rattle.lsq.specs.Bytes.{little_endian}
 use Rattle.lsq.specs.LoadRule.{answer, overlaps}
 
+-- How many bytes a load or store reaches, as the queue names it
 abbrev pub access_width : Op → Width
 access_width Lb = Byte
 access_width Lbu = Byte
@@ -30,6 +31,7 @@ access_width Lhu = Half
 access_width Sh = Half
 access_width _ = Word
 
+-- It is a store
 abbrev pub is_store : Kind → Bool
 is_store Stores = true
 is_store _ = false
@@ -45,6 +47,7 @@ abbrev pub content_by : Kind → Option ℕ → Option ℕ
 content_by Stores v = v
 content_by _ v = None
 
+-- The entry of a load or store in the queue
 abbrev pub entry_of : Program → Tenant → Entry
 entry_of P t =
     record {
@@ -65,6 +68,7 @@ live_accesses P [] = []
 live_accesses P (t ∷ ts) =
     live_accesses P ts ++ with_access (is_live_access P t) (length ts, entry_of P t)
 
+-- The entry, without its position
 abbrev pub entry_in : ℕ × Entry → Entry
 entry_in e = e.1
 
@@ -104,6 +108,7 @@ pub record IsAnsweredRight (P : Program) (ts : List Tenant) (p : ℕ) (t : Tenan
     pub blocked : (k : ℕ) → answer (queue_of P ts) (place_of P ts p) ≡ Blocked k →
         WaitsForStore P ts p a (width (instr P t).op) k
 
+-- So it is of each live load with its address behind these steps, if each was allowed
 abbrev pub LoadsAreAnswered : Program → Sizes → List Taken → Type 0
 LoadsAreAnswered P C history =
     (p : ℕ) (t : Tenant) (a : ℕ) → AreAllowed P C history →

@@ -14,6 +14,7 @@ use Rattle.isa.specs.Operations.{outcome, loaded}
 use Rattle.isa.specs.Programs.{Program, text_start, instr_at}
 use Rattle.lsq.specs.Bytes.{little_endian}
 
+-- registers, data memory, the pc, and how many instructions were run
 pub record State : Type 0 where
   pub registers : List ℕ
   pub memory : List ℕ

@@ -15,10 +15,12 @@ pub record Stored : Type 0 where
   pub width : ℕ
   pub content : Option ℕ
 
+-- What a store of the path has once its address is known; no other tenant stores
 abbrev pub stored_by : Bool → Kind → Fate → ℕ → Option ℕ → Option Stored
 stored_by true Stores (Addr a) w d = Some (record { at = a; width = w; content = d })
 stored_by _ _ _ w d = None
 
+-- What a tenant stores, if it is such a store
 abbrev pub stored : Program → Tenant → Option Stored
 stored P t = stored_by (on_path t) (kind_of P t) t.fate (width (instr P t).op) t.second.value
 
@@ -26,6 +28,7 @@ stored P t = stored_by (on_path t) (kind_of P t) t.fate (width (instr P t).op) t
 abbrev pub covers : Stored → ℕ → Bool
 covers s x = nat_le s.at x && nat_lt x (s.at + s.width)
 
+-- The byte at x behind a store, if there is one, where it was `before`
 abbrev pub byte_after : Option Stored → ℕ → Option ℕ → Option ℕ
 byte_after None x before = before
 byte_after (Some s) x before =
@@ -41,6 +44,7 @@ byte_at P (t ∷ ts) x = byte_after (stored P t) x (byte_at P ts x)
 abbrev pub raw_at : Program → List Tenant → Instr → ℕ → Option ℕ
 raw_at P ts i a = little_endian_if_there (byte_at P ts) a (width i.op)
 
+-- The same by the fate of the load, once it has its address
 abbrev pub raw : Program → List Tenant → Instr → Fate → Option ℕ
 raw P ts i (Addr a) = raw_at P ts i a
 raw P ts i _ = None

@@ -5,6 +5,7 @@ use Rattle.inorder.specs.Legal.{AreAllowed, Taken, reached}
 use Rattle.inorder.specs.Tenants.{Addr, Done, Fate, Miss, Tenant}
 use Rattle.inorder.specs.Unit.{Sizes, at}
 
+-- It fits in 32 bits
 abbrev pub IsWord : ℕ → Type 0
 IsWord n = n < 2 ^ 32
 
@@ -14,6 +15,7 @@ pub record HasWords (P : Program) : Type 0 where
   pub bytes : (x : ℕ) → slice_index P.bytes x < 256
   pub code : length P.code ≤ 16384
 
+-- The address, value or next pc of a fate is a word
 abbrev pub FateIsWord : Fate → Type 0
 FateIsWord (Addr a) = IsWord a
 FateIsWord (Done v) = IsWord v
@@ -30,6 +32,7 @@ pub record AreWords (t : Tenant) : Type 0 where
   pub made : IfSome t.made IsWord
   pub fate : FateIsWord t.fate
 
+-- So it is of each tenant behind these steps, if each was allowed, for such a program
 abbrev pub ValuesAreWords : Program → Sizes → List Taken → Type 0
 ValuesAreWords P C history =
     HasWords P → AreAllowed P C history → (p : ℕ) (t : Tenant) →

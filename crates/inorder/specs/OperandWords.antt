@@ -19,17 +19,21 @@ pub record OperandWord : Type 0 where
   pub tag : ℕ
   pub value : Option ℕ
 
+-- The operand word that a station's last tenant leaves
 abbrev pub operand_word_of : Source → Option Tenant → Option OperandWord
 operand_word_of k None = None
 operand_word_of k (Some t) = Some (record { tag = t.tag; value = (operand k t).value })
 
+-- The word of source k of station s
 abbrev pub operand_word : List Tenant → ℕ → Source → Option OperandWord
 operand_word ts s k = operand_word_of k (last_of ts s)
 
+-- Which of the two ways is that of source k
 abbrev pub supply_of : Source → Supply → Supply → Supply
 supply_of First first second = first
 supply_of Second first second = second
 
+-- The value, if it is known at the let
 abbrev pub supplied : Supply → Option ℕ
 supplied (Known v) = Some v
 supplied From = None
@@ -65,6 +69,7 @@ pub record MovesOperands (P : Program) (C : Sizes) (U : UpdateUnit) (by : ℕ) :
       Allowed P C U by (On p act) →
       operand_word (recent (applied P C U by (On p act))) s j ≡ operand_word (recent U) s j
 
+-- So it is behind these steps, if each was allowed
 abbrev pub OperandsFollow : Program → Sizes → List Taken → ℕ → Type 0
 OperandsFollow P C history by =
     AreAllowed P C history → MovesOperands P C (reached P C history) by

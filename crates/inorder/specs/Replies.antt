@@ -23,6 +23,7 @@ pub record IsNamed (U : UpdateUnit) (p station tag : ℕ) : Type 0 where
   pub station_is : tenant.station ≡ station
   pub tag_is : tenant.tag ≡ tag
 
+-- It is live, and not claimed
 pub record IsOpen (t : Tenant) : Type 0 where
   pub live : t.standing ≡ Live
   pub fate : t.fate ≡ Open
@@ -35,12 +36,15 @@ pub record Has (U : UpdateUnit) (p : ℕ) (Fact : Tenant → Type 0) : Type 0 wh
 
 -- What the front is told
 
+-- As many tenants are live as there are stations
 abbrev pub IsFull : Sizes → UpdateUnit → Type 0
 IsFull C U = how_many is_live U.tenants ≡ C.ring
 
+-- There is no instruction at the front pc
 abbrev pub HasNoInstr : Program → UpdateUnit → Type 0
 HasNoInstr P U = instr_at P (front_pc U.tenants) ≡ None
 
+-- The next instruction is a load or store, and as many are live as the queue takes
 pub record IsQueueFull (P : Program) (C : Sizes) (U : UpdateUnit) : Type 0 where
   pub index : ℕ
   pub is_there : index < length P.code
@@ -48,9 +52,11 @@ pub record IsQueueFull (P : Program) (C : Sizes) (U : UpdateUnit) : Type 0 where
   pub access : is_access (kind (instr_of P index).op) ≡ true
   pub full : how_many (λ t. is_live t && is_access (kind_of P t)) U.tenants ≡ C.queue
 
+-- The next tenant's tag would be the last one, which none gets
 abbrev pub IsSpent : Sizes → UpdateUnit → Type 0
 IsSpent C U = next_tag C (recent U) ≡ last_tag
 
+-- Source k has its value
 abbrev pub IsDelivered : UpdateUnit → ℕ → Source → Type 0
 IsDelivered U p k = Has U p (λ t. IsThere (operand k t).value)
 
@@ -60,6 +66,7 @@ pub record AwaitsCreator (U : UpdateUnit) (k : Source) (t : Tenant) : Type 0 whe
   pub way : (operand k t).way ≡ Linked in_time
   pub unmade : value_of U.tenants (operand k t).creator ≡ None
 
+-- Source k of the tenant at position p waits for its creator
 abbrev pub IsLinkedSource : UpdateUnit → ℕ → Source → Type 0
 IsLinkedSource U p k = Has U p (AwaitsCreator U k)
 
@@ -89,6 +96,7 @@ pub record JobFields : Type 0 where
   pub first : ℕ
   pub second : ℕ
 
+-- The fields of the job that a claim of this tenant gives
 abbrev pub job_of : Program → Tenant → JobFields
 job_of P t =
     record {
@@ -102,6 +110,7 @@ job_of P t =
       second = needed P Second t;
     }
 
+-- No tenant of station s is open
 abbrev pub HasNoOpen : UpdateUnit → ℕ → Type 0
 HasNoOpen U s = (p : ℕ) (t : Tenant) → at U.tenants p ≡ Some t → t.station ≡ s → ¬ IsOpen t
 
@@ -109,30 +118,37 @@ HasNoOpen U s = (p : ℕ) (t : Tenant) → at U.tenants p ≡ Some t → t.stati
 abbrev pub IsWaiting : Program → UpdateUnit → ℕ → Source → Type 0
 IsWaiting P U p k = Has U p (λ t. missing P t ≡ Some k)
 
+-- The tenant at position p is open no longer
 abbrev pub HasMoved : UpdateUnit → ℕ → Type 0
 HasMoved U p = Has U p (λ t. ¬ IsOpen t)
 
+-- It was squashed
 abbrev pub IsSquashed : Tenant → Type 0
 IsSquashed t = t.standing ≡ Squashed
 
+-- The tenant at position p was squashed
 abbrev pub IsStale : UpdateUnit → ℕ → Type 0
 IsStale U p = Has U p IsSquashed
 
 -- What the back is told. `Over` comes before the two others
 
+-- It is a stop that has retired
 pub record IsRetiredStop (t : Tenant) : Type 0 where
   pub code : Stop
   pub standing : t.standing ≡ Retired
   pub fate : t.fate ≡ Stopped code
 
+-- A stop has retired
 pub record IsOver (U : UpdateUnit) : Type 0 where
   pub p : ℕ
   pub stop : Has U p IsRetiredStop
 
+-- Nobody is live, and no stop has retired
 pub record IsEmpty (U : UpdateUnit) : Type 0 where
   pub goes_on : AllByRecursion IsNoRetiredStop U.tenants
   pub none : AllByRecursion IsNotLive U.tenants
 
+-- The oldest live tenant cannot retire yet, and no stop has retired
 pub record IsNotDone (P : Program) (U : UpdateUnit) : Type 0 where
   pub goes_on : AllByRecursion IsNoRetiredStop U.tenants
   pub p : ℕ

@@ -10,18 +10,22 @@ use Rattle.inorder.specs.declared.machine.Stepped.TheVariants.{Ran as HasRan, St
 use Rattle.inorder.specs.declared.machine.Ended.{Ended}
 use Rattle.inorder.specs.declared.machine.Ended.TheVariants.{Stopped as EndedStopped, Limit}
 
+-- the state behind a step, unless it stops
 abbrev pub next_state : Ran → Option State
 next_state (Goes s) = Some s
 next_state (Halts c) = None
 
+-- the code of a step that stops
 abbrev pub stop_of : Ran → Option Stop
 stop_of (Goes s) = None
 stop_of (Halts c) = Some c
 
+-- from a state, if it is there, the one a step on
 abbrev pub then_state : Program → Option State → Option State
 then_state P None = None
 then_state P (Some s) = next_state (step P s)
 
+-- from a state, if it is there, the code with which a step from it stops
 abbrev pub then_stop : Program → Option State → Option Stop
 then_stop P None = None
 then_stop P (Some s) = stop_of (step P s)

@@ -12,6 +12,7 @@ use Rattle.inorder.specs.Legal.{Allowed, AreAllowed, Taken, applied, changed, re
 use Rattle.inorder.specs.Tenants.{Addr, Busy, Done, Fate, Live, Miss, Open, Retired, Squashed, Standing, Stopped, Tenant}
 use Rattle.inorder.specs.Unit.{Sizes, UpdateUnit, at, next_station, next_tag, older, recent, tag_after, younger}
 
+-- The states of a station's word
 pub data StationState : Type 0 where
   IsFree : StationState
   IsOpen : StationState
@@ -21,6 +22,7 @@ pub data StationState : Type 0 where
   IsMiss : StationState
   IsStop : StationState
 
+-- What a station shows
 pub record StationWord : Type 0 where
   pub tag : ℕ
   pub state : StationState
@@ -48,10 +50,12 @@ word_by next Retired tag fate made =
     record { tag = next; state = IsFree; value = left_value fate made }
 word_by next Squashed tag fate made = record { tag = next; state = IsFree; value = None }
 
+-- The word of a station, by its last tenant, if it had one
 abbrev pub word_of : ℕ → Option Tenant → StationWord
 word_of next None = record { tag = next; state = IsFree; value = Some 0 }
 word_of next (Some t) = word_by next t.standing t.tag t.fate t.made
 
+-- The last tenant of station s
 abbrev pub last_of : List Tenant → ℕ → Option Tenant
 last_of [] s = None
 last_of (t ∷ ts) s = if t.station == s then Some t else last_of ts s
@@ -67,6 +71,7 @@ ChangesStation (Link k) = ⊥
 ChangesStation (Deliver k) = ⊥
 ChangesStation _ = ⊤
 
+-- An act that changes no station's word
 abbrev pub KeepsStations : Act → Type 0
 KeepsStations (Link k) = ⊤
 KeepsStations (Deliver k) = ⊤
@@ -125,6 +130,7 @@ pub record Moves (P : Program) (C : Sizes) (U : UpdateUnit) (by : ℕ) : Type 0 
   pub kept : (p : ℕ) (act : Act) (s : ℕ) → KeepsStations act → Allowed P C U by (On p act) →
       station_word C (recent (applied P C U by (On p act))) s ≡ station_word C (recent U) s
 
+-- Both are so behind these steps, if each was allowed
 pub record StationsFollow (P : Program) (C : Sizes) (history : List Taken) (by : ℕ) : Type 0 where
   pub shows : AreAllowed P C history → Shows C (recent (reached P C history))
   pub moves : AreAllowed P C history → Moves P C (reached P C history) by

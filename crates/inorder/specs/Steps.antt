@@ -28,10 +28,13 @@ pub record MayComeFrom (P : Program) (U : UpdateUnit) (station : ℕ) (c : Optio
   pub other : tenant.station ≢ station
   pub last : AllByRecursion (λ u. u.station ≢ tenant.station) (younger U.tenants p)
 
+-- A source may be supplied so: known, with its creator's value, or to come from its creator
 abbrev pub MaySupply : Program → UpdateUnit → ℕ → Option ℕ → Supply → Type 0
 MaySupply P U station c (Known v) = value_of U.tenants c ≡ Some v
 MaySupply P U station c From = MayComeFrom P U station c
 
+-- The instruction at `index` may be let: there is room for it, the path goes on with it, and its
+-- sources may be supplied so. The predicted next pc is the one there is, where there is only one.
 -- Any word where a predictor is asked
 pub record MayLet (P : Program) (C : Sizes) (U : UpdateUnit) (index predicted : ℕ)
     (first second : Supply) : Type 0 where
@@ -49,10 +52,12 @@ pub record MayLet (P : Program) (C : Sizes) (U : UpdateUnit) (index predicted : 
   pub second_is : MaySupply P U (next_station C (recent U))
       (creator P U.tenants (second_of (instr_of P index))) second
 
+-- The source of a new tenant
 abbrev pub let_operand : Option ℕ → Supply → Operand
 let_operand c (Known v) = record { creator = c; way = AtLet; value = Some v }
 let_operand c From = record { creator = c; way = Unlinked; value = None }
 
+-- The tenant that a let adds
 abbrev pub new_tenant : Program → Sizes → UpdateUnit → ℕ → ℕ → Supply → Supply → Tenant
 new_tenant P C U index predicted first second =
     record {
@@ -74,6 +79,7 @@ new_tenant P C U index predicted first second =
 
 -- Link
 
+-- Source k comes from its creator, and no link was asked for
 pub record MayLink (t : Tenant) (k : Source) : Type 0 where
   pub way : (operand k t).way ≡ Unlinked
 
@@ -85,6 +91,7 @@ linked ts t k =
 
 -- Deliver
 
+-- Source k is linked, has no value yet, and its creator has made one
 pub record MayDeliver (ts : List Tenant) (t : Tenant) (k : Source) : Type 0 where
   pub in_time : Bool
   pub way : (operand k t).way ≡ Linked in_time
@@ -92,12 +99,14 @@ pub record MayDeliver (ts : List Tenant) (t : Tenant) (k : Source) : Type 0 wher
   pub value : ℕ
   pub is_made : value_of ts (operand k t).creator ≡ Some value
 
+-- The source has what its creator made
 abbrev pub delivered : List Tenant → Tenant → Source → Tenant
 delivered ts t k =
     with_operand k t (record (operand k t) { value = value_of ts (operand k t).creator })
 
 -- Claim
 
+-- It is live and open, and each source that it needs is delivered
 pub record MayClaim (P : Program) (t : Tenant) : Type 0 where
   pub live : t.standing ≡ Live
   pub fate : t.fate ≡ Open
@@ -105,10 +114,12 @@ pub record MayClaim (P : Program) (t : Tenant) : Type 0 where
 
 -- Finish
 
+-- It is live, and this caller has claimed it
 pub record MayFinish (t : Tenant) (by : ℕ) : Type 0 where
   pub live : t.standing ≡ Live
   pub fate : t.fate ≡ Busy by
 
+-- What a tenant becomes by its outcome
 abbrev pub finished : Tenant → Outcome → Tenant
 finished t (Value v) = record t { fate = Done v; made = Some v }
 finished t (Next x) = record t { fate = if x == t.predicted then Done x else Miss x }
@@ -122,6 +133,7 @@ finished t (Pair low high) = record t { fate = Done low; made = Some low }
 abbrev pub HasAddress : Program → Tenant → Type 0
 HasAddress P t = t.standing ≡ Live → kind_of P t ≡ Stores → (a : ℕ) × (t.fate ≡ Addr a)
 
+-- A live load with its address, where each older live store has one and each byte is there
 pub record MayLoad (P : Program) (ts : List Tenant) (t : Tenant) : Type 0 where
   pub live : t.standing ≡ Live
   pub kind : kind_of P t ≡ Loads
@@ -131,6 +143,7 @@ pub record MayLoad (P : Program) (ts : List Tenant) (t : Tenant) : Type 0 where
   pub bytes : ℕ
   pub read : raw_at P ts (instr P t) a ≡ Some bytes
 
+-- The load is done, with its value
 abbrev pub settled : Program → List Tenant → Tenant → Tenant
 settled P ts t = record t { fate = Done (load_value P ts t); made = Some (load_value P ts t) }
 
@@ -143,9 +156,11 @@ CanRetire k second (Stopped c) = ⊤
 CanRetire k second (Addr a) = (k ≡ Stores) × IsThere second
 CanRetire k second _ = ⊥
 
+-- It is no stop that has retired
 abbrev pub IsNoRetiredStop : Tenant → Type 0
 IsNoRetiredStop t = t.standing ≡ Retired → (c : Stop) → t.fate ≢ Stopped c
 
+-- The oldest live tenant, where no stop has retired before it
 pub record MayRetire (P : Program) (n : ℕ) (ts : List Tenant) (t : Tenant) : Type 0 where
   pub small : n < 2 ^ 32
   pub live : t.standing ≡ Live
@@ -158,11 +173,13 @@ abbrev pub made_at_end : Fate → Option ℕ → ℕ → Option ℕ
 made_at_end (Stopped c) made n = Some n
 made_at_end _ made n = made
 
+-- It has left; if it is a stop, what it made is n
 abbrev pub retired : Tenant → ℕ → Tenant
 retired t n = record t { standing = Retired; made = made_at_end t.fate t.made n }
 
 -- Squash
 
+-- The youngest live tenant, where an older one is a live miss
 pub record MaySquash (ys : List Tenant) (t : Tenant) (ts : List Tenant) : Type 0 where
   pub live : t.standing ≡ Live
   pub youngest : AllByRecursion IsNotLive ys
@@ -173,20 +190,24 @@ pub record MaySquash (ys : List Tenant) (t : Tenant) (ts : List Tenant) : Type 0
   pub miss_live : miss.standing ≡ Live
   pub miss_fate : miss.fate ≡ Miss x
 
+-- It has left, and is off the path
 abbrev pub squashed : Tenant → Tenant
 squashed t = record t { standing = Squashed }
 
 -- Mend
 
+-- The youngest live tenant, which is a miss
 pub record MayMend (ys : List Tenant) (t : Tenant) : Type 0 where
   pub live : t.standing ≡ Live
   pub youngest : AllByRecursion IsNotLive ys
   pub x : ℕ
   pub fate : t.fate ≡ Miss x
 
+-- A miss is done with its next pc, and the path goes on there
 abbrev pub mended_as : Tenant → Fate → Tenant
 mended_as t (Miss x) = record t { fate = Done x; next = x }
 mended_as t _ = t
 
+-- The miss was mended
 abbrev pub mended : Tenant → Tenant
 mended t = mended_as t t.fate

@@ -41,6 +41,7 @@ pub data Standing : Type 0 where
   Retired : Standing
   Squashed : Standing
 
+-- What is known of a tenant
 pub record Tenant : Type 0 where
   pub station : ℕ
   pub tag : ℕ
@@ -55,10 +56,12 @@ pub record Tenant : Type 0 where
   pub fate : Fate
   pub standing : Standing
 
+-- Its source k
 abbrev pub operand : Source → Tenant → Operand
 operand First t = t.first
 operand Second t = t.second
 
+-- The tenant with another source k
 abbrev pub with_operand : Source → Tenant → Operand → Tenant
 with_operand First t o = record t { first = o }
 with_operand Second t o = record t { second = o }
@@ -67,6 +70,7 @@ with_operand Second t o = record t { second = o }
 abbrev pub instr : Program → Tenant → Instr
 instr P t = instr_of P t.index
 
+-- What its operation does
 abbrev pub kind_of : Program → Tenant → Kind
 kind_of P t = kind (instr P t).op
 
@@ -78,6 +82,7 @@ is_first P t = is_first_half (instr P t).op t.half
 abbrev pub destination_of : Program → Tenant → ℕ
 destination_of P t = destination (instr P t) t.half
 
+-- All but the squashed are on the path
 abbrev pub stands_on_path : Standing → Bool
 stands_on_path Squashed = false
 stands_on_path _ = true
@@ -86,6 +91,7 @@ stands_on_path _ = true
 abbrev pub on_path : Tenant → Bool
 on_path t = stands_on_path t.standing
 
+-- All but those that have left are live
 abbrev pub stands_live : Standing → Bool
 stands_live Live = true
 stands_live _ = false
@@ -94,6 +100,7 @@ stands_live _ = false
 abbrev pub is_live : Tenant → Bool
 is_live t = stands_live t.standing
 
+-- It has left
 abbrev pub IsNotLive : Tenant → Type 0
 IsNotLive t = t.standing ≢ Live
 
@@ -108,6 +115,7 @@ is_access Loads = true
 is_access Stores = true
 is_access _ = false
 
+-- A live load or store
 abbrev pub is_live_access : Program → Tenant → Bool
 is_live_access P t = is_live t && is_access (kind_of P t)
 
@@ -122,9 +130,11 @@ missing_of k None second = Some First
 missing_of k (Some v) None = if needs k Second then Some Second else None
 missing_of k (Some v) (Some w) = None
 
+-- The source that a claim of this tenant would wait for, if there is one
 abbrev pub missing : Program → Tenant → Option Source
 missing P t = missing_of (kind_of P t) t.first.value t.second.value
 
+-- There is a value
 abbrev pub IsThere : Option ℕ → Type 0
 IsThere v = (n : ℕ) × (v ≡ Some n)
 
@@ -147,6 +157,7 @@ behind_by false pc = pc_plus_4 pc
 abbrev pub behind : Program → Tenant → ℕ
 behind P t = behind_by (is_first P t) t.pc
 
+-- The next pc of an outcome: that of a branch or jump, and of any other the one behind
 abbrev pub next_by : ℕ → Outcome → ℕ
 next_by after (Next x) = x
 next_by after _ = after

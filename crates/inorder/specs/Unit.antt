@@ -7,9 +7,11 @@ use Rattle.isa.specs.Programs.{Program}
 use Rattle.isa.specs.Registers.{register_count}
 use Rattle.inorder.specs.Tenants.{Tenant, destination_of, is_first, on_path}
 
+-- The register update unit, as the list of all its tenants
 pub record UpdateUnit : Type 0 where
   pub tenants : List Tenant
 
+-- Before the first let
 abbrev pub empty_unit : UpdateUnit
 empty_unit = record { tenants = [] }
 
@@ -19,6 +21,7 @@ recent U = U.tenants
 
 -- Positions
 
+-- The tenant at position p
 abbrev pub at : List Tenant → ℕ → Option Tenant
 at [] p = None
 at (t ∷ ts) p = if p == length ts then Some t else at ts p
@@ -38,6 +41,7 @@ abbrev pub replaced : List Tenant → ℕ → Tenant → List Tenant
 replaced [] p u = []
 replaced (t ∷ ts) p u = if p == length ts then u ∷ ts else t ∷ replaced ts p u
 
+-- How many tenants pass a test
 abbrev pub how_many : (Tenant → Bool) → List Tenant → ℕ
 how_many test [] = 0
 how_many test (t ∷ ts) = if test t then suc (how_many test ts) else how_many test ts
@@ -59,11 +63,13 @@ next_station C ts = how_many on_path ts % C.ring
 abbrev pub tag_after : Sizes → List Tenant → ℕ → ℕ
 tag_after C ts s = C.first_tag + how_many (λ t. t.station == s) ts
 
+-- The tag of a new tenant
 abbrev pub next_tag : Sizes → List Tenant → ℕ
 next_tag C ts = tag_after C ts (next_station C ts)
 
 -- What a tenant finds before it
 
+-- What a tenant has made, if there is one and it has made something
 abbrev pub made_by : Option Tenant → Option ℕ
 made_by None = None
 made_by (Some t) = t.made

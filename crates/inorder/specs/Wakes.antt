@@ -35,6 +35,7 @@ pub record IsWalkedBehind (P : Program) (C : Sizes) (h : List Entry) (q : ℕ) :
   pub mark : IsMarked h (Walked q)
   pub made : IsMadeByCall P (unit_of P C mark.point) q
 
+-- All that can be marked in this history is marked
 pub record AreMarked (P : Program) (C : Sizes) (h : List Entry) : Type 0 where
   -- each finish or load that made a value has its mark behind it
   pub walked : (q : ℕ) → IsMadeByCall P (unit_of P C h) q → IsWalkedBehind P C h q

@@ -13,6 +13,7 @@ use Rattle.isa.specs.declared.listing.fault.FaultKind.TheVariants.{BadOperands, 
 use Rattle.isa.specs.declared.listing.form.Slot.{Slot}
 use Rattle.isa.specs.declared.listing.form.Slot.TheVariants.{Into, First, Second, S16, U16, U5, Label, Offset}
 
+-- an operation, and what its operands are
 abbrev pub Form : Type 0
 Form = Op × List Slot
 

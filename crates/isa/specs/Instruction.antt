@@ -153,6 +153,7 @@ abbrev pub target_by : Bool → Half → ℕ → ℕ
 target_by true half r = pair_target half
 target_by false half r = r
 
+-- the same of an instruction
 abbrev pub target_of : Instr → Half → ℕ
 target_of i half = target_by (is_pair i.op) half i.target
 
@@ -167,6 +168,7 @@ destination_by Jumps r = 0
 destination_by Stores r = 0
 destination_by _ r = r
 
+-- the register that a half changes; 0 for none
 abbrev pub destination : Instr → Half → ℕ
 destination i half = destination_by (kind i.op) (target_of i half)
 
@@ -183,5 +185,6 @@ abbrev pub fixed_next_if : Bool → Instr → ℕ → Option ℕ
 fixed_next_if true i pc = Some pc
 fixed_next_if false i pc = fixed_next_by i.op pc i.number
 
+-- the pc behind a half of an instruction, or none where a predictor is asked for it
 abbrev pub fixed_next : Instr → Half → ℕ → Option ℕ
 fixed_next i half pc = fixed_next_if (is_first_half i.op half) i pc

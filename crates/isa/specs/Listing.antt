@@ -27,12 +27,14 @@ abbrev pub code_in : Result Line FaultKind → List Parsed
 code_in (Ok l) = l.code
 code_in (Err k) = []
 
+-- the bytes of such a line
 abbrev pub bytes_in : Result Line FaultKind → List ℕ
 bytes_in (Ok l) = l.bytes
 bytes_in (Err k) = []
 
 -- ---- all lines
 
+-- the lines of a text, each a list of bytes
 abbrev pub Lines : Type 0
 Lines = List (List ℕ)
 
@@ -105,6 +107,7 @@ abbrev pub resolve_number : List (List ℕ × ℕ) → ℕ → ℕ → Option (L
 resolve_number pairs n number None = Ok number
 resolve_number pairs n number (Some name) = known n (lookup (λ k. bytes_eq k name) pairs)
 
+-- an instruction with this number, unless it is a fault
 abbrev pub numbered_with : Instr → Result ℕ (ℕ × FaultKind) → Result Instr (ℕ × FaultKind)
 numbered_with instr (Ok a) = Ok (record instr { number = a })
 numbered_with instr (Err f) = Err f
@@ -120,11 +123,13 @@ before_others (Err f) others = Err f
 before_others (Ok i) (Err f) = Err f
 before_others (Ok i) (Ok is) = Ok (i ∷ is)
 
+-- all instructions of a listing with the addresses of their labels, or the first fault
 unfoldable pub resolved : List (List ℕ × ℕ) → List (ℕ × Parsed)
     → Result (List Instr) (ℕ × FaultKind)
 resolved pairs [] = Ok []
 resolved pairs (d ∷ ds) = before_others (resolve pairs d) (resolved pairs ds)
 
+-- a program of these instructions with these bytes of data, unless there is a fault
 abbrev pub with_bytes : List ℕ → Result (List Instr) (ℕ × FaultKind)
     → Result Program (ℕ × FaultKind)
 with_bytes bytes (Ok code) = Ok (record { code = code; bytes = bytes })

@@ -35,22 +35,28 @@ fits_word z = int_le (negsuc (2 ^ 31 - 1)) z && int_lt z (pos (2 ^ 31))
 abbrev pub fitted : ℤ → Result ℕ Stop
 fitted z = if fits_word z then Ok (cast_unsigned w32 z) else Err Overflow
 
+-- the sum of two words, which wraps
 abbrev pub sum : ℕ → ℕ → ℕ
 sum a b = (a + b) % 2 ^ 32
 
+-- the difference of two words, which wraps
 abbrev pub difference : ℕ → ℕ → ℕ
 difference a b = (a + (2 ^ 32 - b)) % 2 ^ 32
 
+-- the sum of two signed words, or an overflow
 abbrev pub checked_sum : ℕ → ℕ → Result ℕ Stop
 checked_sum a b = fitted (signed a +ℤ signed b)
 
+-- the difference of two signed words, or an overflow
 abbrev pub checked_difference : ℕ → ℕ → Result ℕ Stop
 checked_difference a b = fitted (signed a -ℤ signed b)
 
+-- 1 where a comparison holds, and else 0
 abbrev pub flag : Bool → Result ℕ Stop
 flag true = Ok 1
 flag false = Ok 0
 
+-- a word shifted to the left by n bits
 abbrev pub shifted_left : ℕ → ℕ → ℕ
 shifted_left a n = (a * 2 ^ n) % 2 ^ 32
 
@@ -116,10 +122,12 @@ unfoldable pub checked_address : ℕ → ℕ → ℕ → Result ℕ Stop
 checked_address w at size =
     if at % w == 0 then (if nat_le (at + w) size then Ok at else Err OutOfRange) else Err Unaligned
 
+-- a value, or a stop, as an outcome
 abbrev pub as_value : Result ℕ Stop → Outcome
 as_value (Ok v) = Value v
 as_value (Err c) = Stops c
 
+-- an address, or a stop, as an outcome
 abbrev pub as_address : Result ℕ Stop → Outcome
 as_address (Ok at) = Address at
 as_address (Err c) = Stops c

@@ -20,6 +20,7 @@ two_bit counters pc i =
 abbrev pub moved : ℕ → ℕ → ℕ → ℕ
 moved pc next counter = if next == pc_plus_4 pc then counter - 1 else min (counter + 1) 3
 
+-- the counters behind a branch or jump at pc that went on at next
 abbrev pub trained : List ℕ → ℕ → ℕ → List ℕ
 trained counters pc next =
     slice_set counters (counter_at pc) (moved pc next (slice_index counters (counter_at pc)))

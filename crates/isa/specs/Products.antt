@@ -40,6 +40,7 @@ abbrev pub divided : Half → ℕ → ℕ → ℕ
 divided Low a b = quotient a b
 divided High a b = remainder a b
 
+-- the same of signed words
 abbrev pub signed_divided : Half → ℤ → ℤ → ℕ
 signed_divided Low a b = signed_quotient a b
 signed_divided High a b = signed_remainder a b

@@ -10,6 +10,7 @@ Reads view (Ok x) read = read ≡ Ok (view x)
 Reads view (Err e) read = read ≡ Err e
 
 infixl 10 ◌>>=◌
+-- a reading, and the next one that goes on from it
 abbrev pub ◌>>=◌ : {A B : Type 0} → Result A FaultKind → (A → Result B FaultKind)
     → Result B FaultKind
 (Ok x) >>= f = f x

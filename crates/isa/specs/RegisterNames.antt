@@ -20,6 +20,7 @@ register_names =
     ∷ (codes "gp", 28) ∷ (codes "sp", 29) ∷ (codes "fp", 30) ∷ (codes "s8", 30)
     ∷ (codes "ra", 31) ∷ []
 
+-- the first of two that is there
 abbrev pub first_some : Option ℕ → Option ℕ → Option ℕ
 first_some None other = other
 first_some (Some n) other = Some n

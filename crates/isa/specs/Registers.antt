@@ -9,6 +9,7 @@ general_count = 32
 abbrev pub lo : ℕ
 lo = 32
 
+-- HI: the high word of a product, or the remainder of a division
 abbrev pub hi : ℕ
 hi = 33
 

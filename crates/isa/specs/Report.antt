@@ -39,6 +39,7 @@ abbrev pub ending_words : Ending → List ℕ
 ending_words (ByStop c) = codes "stop " ++ stop_word c
 ending_words Limit = codes "limit"
 
+-- a line feed
 abbrev pub newline : List ℕ
 newline = 10 ∷ []
 
@@ -47,6 +48,7 @@ abbrev pub register_name : ℕ → List ℕ
 register_name r =
     if r == lo then codes "lo" else if r == hi then codes "hi" else codes "r" ++ decimal r
 
+-- the line of register r
 abbrev pub register_line : ℕ → ℕ → List ℕ
 register_line r value = register_name r ++ (codes " " ++ (hexadecimal value ++ newline))
 
@@ -55,6 +57,7 @@ abbrev pub register_lines : ℕ → List ℕ → List ℕ
 register_lines r [] = []
 register_lines r (v ∷ vs) = (if v == 0 then [] else register_line r v) ++ register_lines (r + 1) vs
 
+-- the line of the word at an address
 abbrev pub memory_line : ℕ → ℕ → List ℕ
 memory_line address value =
     codes "m " ++ (hexadecimal address ++ (codes " " ++ (hexadecimal value ++ newline)))

@@ -3,6 +3,7 @@ use Rattle.std.specs.Prelude.{◌≡◌, ℕ, ◌-◌, ◌^◌, Bool, ◌&&◌, 
 use Rattle.isa.specs.declared.config.BadConfig.{BadConfig}
 use Rattle.isa.specs.declared.config.BadConfig.TheVariants.{Ring, Queue, Units, Places, Tag, Limit, Turns}
 
+-- what a configuration fixes
 pub record Settings : Type 0 where
   pub ring : ℕ
   pub queue : ℕ
@@ -16,6 +17,7 @@ pub record Settings : Type 0 where
 abbrev pub is_ring : ℕ → Bool
 is_ring n = n == 2 || n == 4 || n == 8 || n == 16 || n == 32
 
+-- a number from the least to the most
 abbrev pub is_from_to : ℕ → ℕ → ℕ → Bool
 is_from_to least most n = nat_le least n && nat_le n most
 
@@ -32,6 +34,7 @@ first_bad ring queue units places first_tag limit turns =
     else Some Turns else Some Limit else Some Tag else Some Places else Some Units
     else Some Queue else Some Ring
 
+-- each of the arguments is in its range
 abbrev pub IsValid : (ring queue units places first_tag limit turns : ℕ) → Type 0
 IsValid ring queue units places first_tag limit turns =
     first_bad ring queue units places first_tag limit turns ≡ None

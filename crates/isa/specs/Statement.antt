@@ -52,18 +52,23 @@ bare op =
       number = 0;
     }
 
+-- an instruction with the register that it writes
 abbrev pub with_target : ℕ → Parsed → Parsed
 with_target r p = record { instr = record p.instr { target = r }; label = p.label }
 
+-- an instruction with the register of source 1
 abbrev pub with_first : ℕ → Parsed → Parsed
 with_first r p = record { instr = record p.instr { first = r }; label = p.label }
 
+-- an instruction with the register of source 2
 abbrev pub with_second : ℕ → Parsed → Parsed
 with_second r p = record { instr = record p.instr { second = r }; label = p.label }
 
+-- an instruction with its number
 abbrev pub with_number : ℕ → Parsed → Parsed
 with_number n p = record { instr = record p.instr { number = n }; label = p.label }
 
+-- an instruction with the name of its label
 abbrev pub with_label : List ℕ → Parsed → Parsed
 with_label name p = record { instr = p.instr; label = Some name }
 
@@ -84,6 +89,7 @@ filled [] texts p = Ok p
 filled (s ∷ ss) [] p = Err BadOperands
 filled (s ∷ ss) (t ∷ ts) p = fill s t p >>= filled ss ts
 
+-- an instruction: the operation of a word, with its operands
 unfoldable pub instruction : List ℕ → List (List ℕ) → Result Parsed FaultKind
 instruction word parts = do
   form ← form_of word (length parts)
@@ -115,15 +121,19 @@ pub record Line : Type 0 where
   pub code : List Parsed
   pub bytes : List ℕ
 
+-- a line with one instruction
 abbrev pub gives_code : Parsed → Result Line FaultKind
 gives_code p = Ok (record { code = p ∷ []; bytes = [] })
 
+-- a line with bytes of data
 abbrev pub gives_bytes : List ℕ → Result Line FaultKind
 gives_bytes bytes = Ok (record { code = []; bytes = bytes })
 
+-- a text is this word, in letters of either case
 abbrev pub is_word : List ℕ → List ℕ → Bool
 is_word word text = str_eq_ignore_ascii_case word text
 
+-- a directive or an instruction, by its word
 unfoldable pub with_operands : List ℕ → List (List ℕ) → Result Line FaultKind
 with_operands word parts =
     if is_word (codes ".space") word then space parts >>= gives_bytes
@@ -138,6 +148,7 @@ statement text =
 
 -- ---- what the code holds
 
+-- an instruction with its label, as the code holds it
 abbrev pub view : Draft → Parsed
 view d = record { instr = d.instr; label = option_map (λ t. t.now) d.label }
 

@@ -62,6 +62,7 @@ fn signed_remainder(a: i32, b: i32) -> u32
 }
 
 /// The quotient, or the remainder. A zero divisor gives quotient 0 and leaves the dividend.
+/// MIPS I leaves that case undefined.
 pub fn divided(half: Half, a: u32, b: u32) -> u32
     ensures { result ≡ divided_of half a b }
 {

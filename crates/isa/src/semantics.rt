@@ -48,7 +48,8 @@ fn flag(holds: bool) -> Result<u32, Stop>
 }
 
 // The values of a multiplication or division for LO and HI. It stands apart, so that the code of
-// the other operations needs no room for it.
+// the other operations needs no room for it: among them it cost the in-order machine half of its
+// speed.
 #[inline(never)]
 #[tactic(auto, unfolding(crate::specs::Operations::computed_by))]
 fn pair_values(op: Op, a: u32, b: u32) -> (u32, u32)
@@ -195,6 +196,7 @@ pub fn outcome_of(instr: &Instr, half: Half, pc: u32, a: u32, b: u32, size: u32)
 }
 
 /// A load's bytes, read as an unsigned little endian number, extended as the operation says.
+/// As in MIPS I `lb` and `lh` extend the sign, `lbu` and `lhu` do not.
 #[tactic(auto, unfolding(crate::specs::Operations::loaded))]
 pub fn loaded(op: Op, raw: u32) -> u32
     ensures { result ≡ loaded_of op raw }

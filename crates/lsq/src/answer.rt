@@ -18,6 +18,10 @@ pub enum Answer {
 
 impl Queue {
     /// Answers the load at a place by the older stores.
+    /// This is memory disambiguation by the rule of SimpleScalar's load/store queue: a load waits
+    /// for an older store whose address or data is unknown, and else gets the data of the youngest
+    /// older store to its bytes (store-to-load forwarding); where that has only some of them, it
+    /// waits too.
     pub fn answer(&self, at: usize) -> Answer
         requires { IsSome (load_at self.now.entries at) }
         ensures { result ≡ answer self.now.entries at }

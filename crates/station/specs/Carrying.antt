@@ -29,6 +29,7 @@ IsWriter Spent = ⊥
 abbrev pub Makes : ℕ → Tenant → Type 0
 Makes value t = t.made ≡ Some value
 
+-- In what was seen the tenant of this station and tag has made this value
 abbrev pub HasValueOf : Program → Sizes → List Entry → ℕ → ℕ → ℕ → Type 0
 HasValueOf P C seen station tag value = HasTenant P C seen station tag (Makes value)
 

@@ -73,6 +73,7 @@ pub record IsRefused (P : Program) (C : Sizes) (by : ℕ) (old new : List Entry)
   pub opened : WasOpenOnce P C old new p
   pub adds : Adds P C by old new (refusal p ∷ [])
 
+-- What a claim answers: a job, or a refusal that was true at a moment of the call
 abbrev pub ClaimAnswers : Program → Sizes → ℕ → List Entry → List Entry → ℕ → Claim → Type 0
 ClaimAnswers P C by old new s (Claimed j) = IsClaimed P C by old new s j
 ClaimAnswers P C by old new s NotOpen = Adds P C by old new (Refuses (IsNotOpen s) ∷ [])
@@ -106,6 +107,7 @@ abbrev pub SourceIs : Bool → Source → ℕ → Tenant → Type 0
 SourceIs true k v t = (operand k t).value ≡ Some v
 SourceIs false k v t = v ≡ 0
 
+-- The source has this value, and the caller has added nothing
 pub record HasSource (P : Program) (C : Sizes) (by : ℕ) (old new : List Entry) (s tag : ℕ) (needed : Bool) (k : Source) (v : ℕ) : Type 0 where
   pub p : ℕ
   pub named : IsTenant (unit_of P C new) p s tag (SourceIs needed k v)
@@ -117,6 +119,7 @@ pub record IsTold (P : Program) (C : Sizes) (by : ℕ) (old new : List Entry) (s
   pub named : IsNamed (unit_of P C new) p s tag
   pub adds : Adds P C by old new (refusal p ∷ [])
 
+-- What reading a source answers: its value, or with which refusal the claim ends
 abbrev pub SourceAnswers : Program → Sizes → ℕ → List Entry → List Entry → ℕ → ℕ → Source → Bool → Result ℕ Claim → Type 0
 SourceAnswers P C by old new s tag k needed (Ok v) = HasSource P C by old new s tag needed k v
 SourceAnswers P C by old new s tag k needed (Err refusal) =

@@ -47,6 +47,7 @@ LetsAreAsked =
 
 -- From a question to another
 
+-- What the front may ask for the other source before a question, it may behind it
 abbrev pub QuestionsLeaveOthers : Type 0
 QuestionsLeaveOthers =
     (P : Program) (C : Sizes) (old new : List Entry) (station tag : ℕ) (k : Source) (from_station from_tag : ℕ) (answer : Ask) →

@@ -60,6 +60,7 @@ pub record FrontMays (P : Program) (C : Sizes) (old new : List Entry) : Type 0 w
   pub squashes : MaySquash P C old → MaySquash P C new
   pub mends : (station : ℕ) → SeesMiss P C old station → SeesMiss P C new station
 
+-- So it is as long as the front itself adds nothing
 abbrev pub FrontsStay : Type 0
 FrontsStay =
     (P : Program) (C : Sizes) (old new : List Entry) → Adds P C front old new [] → FrontMays P C old new

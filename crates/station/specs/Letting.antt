@@ -31,9 +31,11 @@ abbrev pub given_value : Given → Option ℕ
 given_value (GivenKnown v) = Some v
 given_value (GivenFrom station tag) = None
 
+-- The let of this tenant in progress, at a stage
 abbrev pub draft_of : Stage → Tenant → Draft
 draft_of stage t = Of stage t.index t.predicted (supply_of t.sources.0) (supply_of t.sources.1)
 
+-- The event of its let
 abbrev pub let_of : Tenant → Event
 let_of t = Does (Let t.index t.predicted (supply_of t.sources.0) (supply_of t.sources.1))
 

@@ -31,6 +31,7 @@ pub record Shows (word : StationWord) (tag : ℕ) (state : StationState) (value 
   pub state_is : state_code state ≡ code word.state
   pub value_is : HasValue word.value value
 
+-- What a look at station s sees is its word at this point
 abbrev pub SeesStation : Program → Sizes → List Entry → ℕ → Seen StationState → Type 0
 SeesStation P C h s seen =
     Shows (station_word C (recent (unit_of P C h)) s) seen.tag seen.state seen.value
@@ -56,6 +57,7 @@ pub record SeesInfo (P : Program) (C : Sizes) (h : List Entry) (s index : ℕ) (
 abbrev pub source_state_of : ℕ → SourceState
 source_state_of n = if n == 0 then Unset else if n == 1 then Wait else Val
 
+-- The same by its value: it waits while it has none
 abbrev pub source_state : Option ℕ → SourceState
 source_state None = Wait
 source_state (Some v) = Val

@@ -29,6 +29,7 @@ pub record IsNew (core : TheCore) (seat : Caller) : Type 0 where
 abbrev pub first_unit : ℕ
 first_unit = 2
 
+-- All numbers from 3 on, which the first unit's seat may give away
 abbrev pub other_units : Heirs
 other_units = record { first = 3; every = 1 }
 

@@ -17,5 +17,6 @@ pub record WasOnce (P : Program) (C : Sizes) (old new : List Entry) (Fact : Upda
   pub within : IsWithin old new point
   pub fact : Fact (unit_of P C point)
 
+-- The tenant at position p was open at a moment of the call
 abbrev pub WasOpenOnce : Program → Sizes → List Entry → List Entry → ℕ → Type 0
 WasOpenOnce P C old new p = WasOnce P C old new (λ U. Has U p IsOpen)

@@ -67,6 +67,7 @@ pub record IsOut (P : Program) (C : Sizes) (old new : List Entry) (t : NewTenant
   pub tenant : IsTenant (unit_of P C new) p (next_station C (recent (unit_of P C old))) (next_tag C (recent (unit_of P C old))) (IsLetAs t (front_pc (unit_of P C old).tenants))
   pub opens : ((n : ℕ) → IsUnit n → own n new ≡ own n old) → IsOpen tenant.tenant
 
+-- What a let of the front leaves
 abbrev pub LetsAreOut : Type 0
 LetsAreOut =
     (P : Program) (C : Sizes) (old new : List Entry) (t : NewTenant) →
@@ -77,6 +78,7 @@ pub record IsStill (P : Program) (C : Sizes) (new : List Entry) (s g p : ℕ) (t
   pub tenant : IsTenant (unit_of P C new) p s g (IsClaimable P)
   pub job_is : job_of P tenant.tenant ≡ job_of P t
 
+-- So it is of each tenant that was open and ready
 abbrev pub ReadyTenantsStay : Type 0
 ReadyTenantsStay =
     (P : Program) (C : Sizes) (old new : List Entry) (s g p : ℕ) →

@@ -20,6 +20,7 @@ pub record HasMiss (P : Program) (C : Sizes) (seen : List Entry) (station tag ne
   pub named : IsTenant (unit_of P C seen) p station tag IsAny
   pub can : CanMend (unit_of P C seen) p next
 
+-- In what was seen the station's tenant is such a miss
 pub record SeesMiss (P : Program) (C : Sizes) (seen : List Entry) (station : ℕ) : Type 0 where
   pub tag : ℕ
   pub next : ℕ

@@ -36,6 +36,7 @@ EndsAs P (Stored address word) t =
     (kind_of P t ≡ Stores) × (t.fate ≡ Addr address) × (t.second.value ≡ Some word)
 EndsAs P (WasStop code) t = t.fate ≡ Stopped code
 
+-- It is this half of this instruction, and ended so
 pub record IsLast (P : Program) (index : ℕ) (half : Half) (last : Last) (t : Tenant) : Type 0 where
   pub index_is : t.index ≡ index
   pub half_is : t.half ≡ half
@@ -49,6 +50,7 @@ pub record IsRetired (P : Program) (C : Sizes) (by : ℕ) (old new : List Entry)
   pub tenant : IsTenant (unit_of P C new) p station tag (IsLast P index half last)
   pub adds : Adds P C by old new (Does (On p (RetireIt n)) ∷ [])
 
+-- What a retirement answers: who retired, or a refusal that was true at its point
 abbrev pub RetireAnswers : Program → Sizes → ℕ → List Entry → List Entry → Retire → Type 0
 RetireAnswers P C by old new (Retired station tag index half last) =
     IsRetired P C by old new station tag index half last
@@ -70,11 +72,13 @@ IsEnd DoneState value fate = fate ≡ Done value
 IsEnd StopState value fate = (code : Stop) × (value ≡ code_of code) × (fate ≡ Stopped code)
 IsEnd _ value fate = ⊥
 
+-- The word of station s is this tenant's, with its tag and its fate
 pub record IsAtEnd (s : ℕ) (word : StationWord) (t : Tenant) : Type 0 where
   pub station_is : t.station ≡ s
   pub tag_is : t.tag ≡ word.tag
   pub end : IsEnd word.state word.value t.fate
 
+-- In what was seen the oldest live tenant is at its end
 pub record HasEnd (P : Program) (C : Sizes) (seen : List Entry) (s : ℕ) (word : StationWord) : Type 0 where
   pub p : ℕ
   pub head : IsHead (unit_of P C seen) p (IsAtEnd s word)
@@ -92,6 +96,7 @@ pub record IsAccess (a : Access) (t : Tenant) : Type 0 where
   pub half_is : t.half ≡ a.half
   pub fate : t.fate ≡ Addr a.address
 
+-- In what was seen the oldest live tenant is this access
 pub record HasAccess (P : Program) (C : Sizes) (seen : List Entry) (a : Access) : Type 0 where
   pub p : ℕ
   pub head : IsHead (unit_of P C seen) p (IsAccess a)
@@ -107,6 +112,7 @@ pub record IsLeaving (P : Program) (l : Leaving) (t : Tenant) : Type 0 where
   pub tag_is : t.tag ≡ l.tag
   pub last_is : IsLast P l.index l.half l.last t
 
+-- In what was seen the oldest live tenant can retire like this
 pub record MayLeave (P : Program) (C : Sizes) (seen : List Entry) (l : Leaving) : Type 0 where
   pub p : ℕ
   pub head : IsHead (unit_of P C seen) p (IsLeaving P l)
@@ -117,13 +123,16 @@ kept_value (WasDone v) = v
 kept_value (Stored address word) = 0
 kept_value (WasStop code) = code_of code
 
+-- The word that a retired tenant leaves: free, with the next tag
 abbrev pub left_word : Leaving → Shown
 left_word l = record { tag = suc l.tag; state = IsFree; value = Some (kept_value l.last) }
 
+-- What the write tells: that tenant retired
 pub record Leaves (P : Program) (C : Sizes) (l : Leaving) (h : List Entry) (d : Draft) (events : List Event) : Type 0 where
   pub may : MayLeave P C h l
   pub added : events ≡ Does (On may.p (RetireIt (kept_value l.last))) ∷ []
 
+-- What retired was a stop
 abbrev pub is_stop : Last → Bool
 is_stop (WasStop code) = true
 is_stop _ = false

@@ -23,6 +23,7 @@ pub record TheCore : Type 0 where
   pub sizes : Sizes
   pub opening : List Entry
 
+-- The core of a table, by the table's setup
 abbrev pub core_of : TableId → Setup → TheCore
 core_of id c = record { id = id; program = c.program; sizes = sizes_of c; opening = opening_of c }
 

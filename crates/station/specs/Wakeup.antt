@@ -18,6 +18,7 @@ pub record HasAskedOf (P : Program) (C : Sizes) (seen : List Entry) (station tag
   pub creator : IsTenant (unit_of P C seen) q from_station from_tag IsAny
   pub creator_last : IsLastAt (unit_of P C seen) q from_station
 
+-- In what was seen there are two such tenants
 pub record HasAskedFrom (P : Program) (C : Sizes) (seen : List Entry) (station tag : ℕ) (k : Source) (from_station from_tag : ℕ) : Type 0 where
   pub r : ℕ
   pub q : ℕ

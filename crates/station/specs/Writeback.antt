@@ -50,6 +50,7 @@ pub record CanDeliver (P : Program) (C : Sizes) (seen : List Entry) (station : �
 abbrev pub wait_word : ℕ → OperandWord
 wait_word tag = record { tag = tag; value = None }
 
+-- An operand that has its value
 abbrev pub val_word : ℕ → ℕ → OperandWord
 val_word tag value = record { tag = tag; value = Some value }
 
@@ -94,11 +95,15 @@ pub record WasStale (P : Program) (C : Sizes) (by : ℕ) (old new : List Entry) 
   pub named : IsNamed (unit_of P C new) p station tag
   pub adds : Adds P C by old new (Refuses (IsStaleNow p) ∷ [])
 
+-- What `finish` answers: the outcome was written, and a value carried along its links; or the
+-- tenant was squashed before
 abbrev pub FinishAnswers : Program → Sizes → ℕ → List Entry → List Entry → Job → Finish → Type 0
 FinishAnswers P C by old new j Finished =
     IsWritten P C by old new j.station j.tag FinishIt (λ p. IsCarried P C new p (outcome_of P j))
 FinishAnswers P C by old new j Stale = WasStale P C by old new j.station j.tag
 
+-- What `settle` answers: the load was done, and its value carried along its links; or it was
+-- squashed before
 abbrev pub SettleAnswers : Program → Sizes → ℕ → List Entry → List Entry → ℕ → ℕ → Settle → Type 0
 SettleAnswers P C by old new station tag Settled =
     IsWritten P C by old new station tag Load (λ p. IsWalk P C new p)

@@ -30,6 +30,7 @@ pub enum Supply {
 
 /// A tenant to be let: the index of its instruction and its half of that, its predicted next pc, and
 /// sources 1 and 2.
+/// It is a dynamic instruction, on its way into a reservation station.
 #[derive(Clone, Copy)]
 pub struct Tenant {
     pub index: u32,

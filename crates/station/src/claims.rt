@@ -175,6 +175,8 @@ fn claim_at(
 
 impl Core {
     /// Claims the open tenant of a station, if all that it needs is there.
+    /// This is issue, or select: an instruction goes from its reservation station to a functional
+    /// unit once its operands are there (Tomasulo 1967).
     pub fn claim(&self, seat: &mut UnitSeat, station: usize) -> Claim
         requires core { seat.old.core ≡ self.now }
         requires station { station < self.now.sizes.ring }

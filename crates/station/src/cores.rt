@@ -15,6 +15,7 @@ use std::alloc::Global;
 use std::marker::Model;
 
 /// The shared words of one unit, and a copy of its program.
+/// The words are those of a register update unit (Sohi): reservation stations in a ring, and links.
 #[derive(Drop)]
 pub struct Core {
     pub(crate) table: Table<u8, View, Setup, OneHistory, Global>,

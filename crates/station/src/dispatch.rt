@@ -60,6 +60,8 @@ fn dispatch(
 impl Core {
     /// Lets a tenant out to the next station and gives its tag. It may be let in what the front has
     /// seen; its tag and where its sources come from are then those of the unit.
+    /// This is dispatch: an instruction takes a reservation station (Tomasulo 1967), here the next
+    /// of a ring in program order, as in Sohi's register update unit.
     pub fn let_out(&self, seat: &mut FrontSeat, tenant: Tenant) -> u32
         requires core { seat.old.core ≡ self.now }
         requires may { MayLetOut self.now.program self.now.sizes (unit_of self.now.program self.now.sizes seat.old.seen) tenant }

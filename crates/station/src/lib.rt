@@ -1,5 +1,7 @@
 //! The words that callers share, their seats, and every call on them. Each step is one load, store,
 //! swap or compare-exchange of one word; no call waits, and none but `Core::make` takes memory.
+//! The words are reservation stations with tags (Tomasulo 1967) in one ring, let and released in
+//! program order: Sohi's register update unit, as in SimpleScalar's sim-outorder.
 #![tactic(auto)]
 
 mod answers;

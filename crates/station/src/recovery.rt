@@ -69,6 +69,8 @@ fn squash_youngest(
 
 impl Core {
     /// Squashes the youngest live tenant, and gives its station and tag.
+    /// Recovery from a misprediction goes from the youngest instruction back, and a squashed one's
+    /// tag is spent, so that its links are dead: sim-outorder's `ruu_recover`.
     pub fn squash(&self, seat: &mut FrontSeat) -> (usize, u32)
         requires core { seat.old.core ≡ self.now }
         requires may { MaySquash self.now.program self.now.sizes seat.old.seen }
@@ -83,6 +85,7 @@ impl Core {
 
     /// Mends the miss of a station, which is the youngest live tenant: the path goes on at its
     /// computed next pc.
+    /// The misprediction is resolved, and fetch goes on where the branch really goes.
     pub fn mend(&self, seat: &mut FrontSeat, station: usize)
         requires core { seat.old.core ≡ self.now }
         requires station { station < self.now.sizes.ring }

@@ -116,7 +116,8 @@ pub(crate) fn link_word(producer: u32, consumer: u32) -> u64
     LinkWord { producer, consumer }.pack()
 }
 
-/// A station that is free or done shows the value of its last tenant.
+/// A station that is free or done shows the value of its last tenant. By the condition of `ask`
+/// that is the creator.
 pub(crate) fn shows_value(word: u64) -> bool
     ensures made { IsTrue result → IsMade (state_of word) }
     ensures unmade { (result ≡ false) → IsUnmade (state_of word) }

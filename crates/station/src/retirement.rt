@@ -211,6 +211,8 @@ fn retire_head(
 
 impl Core {
     /// Retires the oldest live tenant, if it is done, a store with its address and data, or a stop.
+    /// This is commit, the in-order release from the head of Sohi's register update unit, or of the
+    /// reorder buffer of Smith and Pleszkun.
     pub fn retire(&self, seat: &mut BackSeat) -> Retire
         requires core { seat.old.core ≡ self.now }
         ensures kept { IsSame seat.old seat.new }

@@ -33,6 +33,7 @@ impl Part for BackPart {
 }
 
 /// A unit's part.
+/// Beside the front and the back a unit is a functional unit: it claims, computes and finishes.
 #[derive(Drop)]
 pub struct UnitPart;
 

@@ -56,6 +56,8 @@ fn ask_creator(
 
 impl Core {
     /// Asks for source k of a station's last tenant, from its creator: a station and a tag.
+    /// A link and a tag stand for Tomasulo's common data bus (1967), as `RS_link` does in
+    /// SimpleScalar's sim-outorder: the producer's wakeup goes along its links.
     pub fn ask(
         &self,
         seat: &mut FrontSeat,

@@ -44,7 +44,8 @@ fn serve(
     }
 }
 
-/// Takes the value of a station's tenant to all who asked for it in time.
+/// Takes the value of a station's tenant to all who asked for it in time. Each link is read once;
+/// the last one may still need its delivery then, so one more look at the station has the mark.
 pub(crate) fn walk(
     words: &Words,
     ring: usize,

@@ -62,7 +62,8 @@ fn finish_job(
     Finish::Finished
 }
 
-// The look tells the address that stands in the word.
+// The look tells the address that stands in the word. Where another word stands there, the load was
+// squashed: the exchange fails, and says so.
 fn settle_load(
     words: &Words,
     ring: usize,
@@ -98,6 +99,8 @@ fn settle_load(
 
 impl Core {
     /// Writes the outcome of a claimed tenant, and carries a value to all who asked for it.
+    /// This is writeback, and the wakeup of consumers: a result reaches those that wait under its
+    /// producer's tag (Tomasulo 1967), here along links, as in sim-outorder's `ruu_writeback`.
     pub fn finish(&self, seat: &mut UnitSeat, job: Job, outcome: Outcome) -> Finish
         requires core { seat.old.core ≡ self.now }
         requires job { Holds self.now.program self.now.sizes seat.old.by seat.old.seen job }
@@ -110,6 +113,7 @@ impl Core {
     }
 
     /// Writes the value of a load, and carries it to all who asked for it.
+    /// The load completes; its consumers' wakeup is that of `finish`.
     pub fn settle(&self, seat: &mut BackSeat, station: usize, tag: u32, value: u32) -> Settle
         requires core { seat.old.core ≡ self.now }
         requires station { station < self.now.sizes.ring }
