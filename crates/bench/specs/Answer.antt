@@ -41,6 +41,7 @@ ending_status (ByStop BreakStop) = Break
 ending_status (ByStop _) = Stopped
 ending_status ByLimit = Limit
 
+-- the status for a program that may run so many instructions, or for the fault of a listing
 abbrev pub status_for : (limit : ℕ) → Result Program (ℕ × FaultKind) → Status
 status_for limit (Ok P) = ending_status (end_of P limit).0
 status_for limit (Err f) = TextFault

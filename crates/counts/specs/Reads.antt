@@ -17,6 +17,7 @@ pub record IsTotalAt (v : Shares) (at n : ℕ) : Type 0 where
   pub here : get_elem? moment.views id ≡ some v
   pub total : n ≡ slice_index moment.words (8 * at)
 
+-- The same by the total
 abbrev pub IsTotal : Shares → Total → ℕ → Type 0
 IsTotal v total n = IsTotalAt v (position_of total) n
 
@@ -24,5 +25,6 @@ IsTotal v total n = IsTotalAt v (position_of total) n
 abbrev pub HoldsAllAt : ℕ → Shares → Type 0
 HoldsAllAt at v = (share at v).parts ≡ 2 ^ (share at v).halvings
 
+-- The same by the total
 abbrev pub HoldsAll : Total → Shares → Type 0
 HoldsAll total v = HoldsAllAt (position_of total) v

@@ -18,6 +18,7 @@ everything = record { added = 0; parts = 1; halvings = 0 }
 abbrev pub share : ℕ → Shares → Share
 share at v = get_or v.of at nothing
 
+-- The share of a total
 abbrev pub share_of : Total → Shares → Share
 share_of total v = share (position_of total) v
 
@@ -29,6 +30,7 @@ each f = record { of = f 0 ∷ f 1 ∷ f 2 ∷ f 3 ∷ f 4 ∷ f 5 ∷ f 6 ∷ f
 abbrev pub all_parts : Shares
 all_parts = each (λ _. everything)
 
+-- No part of any total
 abbrev pub no_parts : Shares
 no_parts = each (λ _. nothing)
 
@@ -36,9 +38,11 @@ no_parts = each (λ _. nothing)
 abbrev pub plus : ℕ → Share → Share
 plus k s = record { added = s.added + k; parts = s.parts; halvings = s.halvings }
 
+-- An addition to the total at a position
 abbrev pub raised_at : ℕ → ℕ → Shares → Shares
 raised_at at k v = each (λ i. if i == at then plus k (share i v) else share i v)
 
+-- An addition to a total
 abbrev pub raised : Total → ℕ → Shares → Shares
 raised total k v = raised_at (position_of total) k v
 
@@ -46,12 +50,15 @@ raised total k v = raised_at (position_of total) k v
 abbrev pub first_of : Share → Share
 first_of s = record { added = s.added; parts = s.parts; halvings = s.halvings + 1 }
 
+-- The other half: nothing was added to it
 abbrev pub second_of : Share → Share
 second_of s = record { added = 0; parts = s.parts; halvings = s.halvings + 1 }
 
+-- The same of each total: the first halves
 abbrev pub first_half : Shares → Shares
 first_half v = each (λ i. first_of (share i v))
 
+-- And the other halves
 abbrev pub second_half : Shares → Shares
 second_half v = each (λ i. second_of (share i v))
 
@@ -59,6 +66,7 @@ second_half v = each (λ i. second_of (share i v))
 abbrev pub with_retires : Shares → Shares
 with_retires v = each (λ i. if i == position_of Retires then share i v else first_of (share i v))
 
+-- And the other halves, with no part of the retirements
 abbrev pub without_retires : Shares → Shares
 without_retires v = each (λ i. if i == position_of Retires then nothing else second_of (share i v))
 
@@ -71,5 +79,6 @@ joined_of s t =
       halvings = max s.halvings t.halvings;
     }
 
+-- The same of each total
 abbrev pub joined : Shares → Shares → Shares
 joined v w = each (λ i. joined_of (share i v) (share i w))

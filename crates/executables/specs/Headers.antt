@@ -29,6 +29,7 @@ table_in file =
     else (if nat_lt (length file) (word_at file 28 + 32 * half_at file 44) then Err Cut
     else Ok (record { at = word_at file 28; count = half_at file 44 })))
 
+-- the refusal, if there is one, and else the table
 abbrev pub refused_or : Option Refusal → Result Table Refusal → Result Table Refusal
 refused_or (Some refusal) table = Err refusal
 refused_or None table = table

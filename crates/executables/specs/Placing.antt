@@ -42,6 +42,7 @@ placed file s loaded =
     else (if nat_lt (length file) (s.offset + s.filled) then Err Cut
     else (if s.address == text_start then with_text file s loaded else with_data file s loaded))
 
+-- a segment behind what is loaded already, unless that was refused
 abbrev pub placed_behind : List ℕ → Segment → Result Loaded Refusal → Result Loaded Refusal
 placed_behind file s (Ok loaded) = placed file s loaded
 placed_behind file s (Err refusal) = Err refusal
@@ -56,6 +57,7 @@ abbrev pub with_some_text : Result Loaded Refusal → Result Loaded Refusal
 with_some_text (Ok loaded) = if length loaded.code == 0 then Err NoText else Ok loaded
 with_some_text (Err refusal) = Err refusal
 
+-- what a table of program headers loads
 abbrev pub loaded_by : List ℕ → Result Table Refusal → Result Loaded Refusal
 loaded_by file (Ok table) = with_some_text (placed_up_to file table.at table.count)
 loaded_by file (Err refusal) = Err refusal

@@ -33,6 +33,7 @@ symbols_of file at s = record {
   names = (section_of file (at + 40 * s.link)).offset;
 }
 
+-- the table of symbols of this section, if it is one, and else the other
 abbrev pub symbols_or : Option Symbols → List ℕ → (at count : ℕ) → Section → Option Symbols
 symbols_or others file at count s =
     if is_symbols file count s then Some (symbols_of file at s) else others
@@ -43,6 +44,7 @@ symbols_up_to file at count zero = None
 symbols_up_to file at count (suc n) =
     symbols_or (symbols_up_to file at count n) file at count (section_of file (at + 40 * n))
 
+-- the last table of symbols of a file, where its headers lead to one
 unfoldable pub symbols_in : List ℕ → Option Symbols
 symbols_in file =
     if has_sections file then symbols_up_to file (word_at file 32) (half_at file 48) (half_at file 48)
@@ -57,6 +59,7 @@ abbrev pub function_of : List ℕ → (names at : ℕ) → Function
 function_of file names at =
     record { address = word_at file (at + 4); name = names + word_at file at }
 
+-- these functions and that of a symbol, if it is one
 abbrev pub with_function : List ℕ → (names at : ℕ) → List Function → List Function
 with_function file names at before =
     if is_function file at then before ++ function_of file names at ∷ [] else before
@@ -67,6 +70,7 @@ functions_up_to file names at zero = []
 functions_up_to file names at (suc n) =
     with_function file names (at + 16 * n) (functions_up_to file names at n)
 
+-- the functions of a table of symbols, if there is one
 abbrev pub functions_by : List ℕ → Option Symbols → List Function
 functions_by file None = []
 functions_by file (Some s) = functions_up_to file s.names s.at s.count
@@ -81,14 +85,16 @@ functions_in file = functions_by file (symbols_in file)
 abbrev pub is_graphic : ℕ → Bool
 is_graphic b = nat_le 33 b && nat_le b 126
 
+-- a text up to a place, if there is one
 abbrev pub up_to : Option ℕ → List ℕ → List ℕ
 up_to None text = text
 up_to (Some n) text = take n text
 
--- the bytes from a place on, at most 60
+-- at most n bytes of a text
 abbrev pub at_most : ℕ → List ℕ → List ℕ
 at_most n text = if nat_lt (length text) n then text else take n text
 
+-- the bytes of a file from a place on, at most 60
 abbrev pub window : List ℕ → ℕ → List ℕ
 window file at = if nat_lt (length file) at then [] else at_most 60 (drop at file)
 

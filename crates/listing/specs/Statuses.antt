@@ -20,6 +20,7 @@ abbrev pub fault_of : NoListing → Fault
 fault_of no.Memory = Memory
 fault_of why = Refused why
 
+-- the fault of an input that could not be read
 abbrev pub input_fault : InputFault → Fault
 input_fault input.Read = Read
 input_fault input.Memory = Memory

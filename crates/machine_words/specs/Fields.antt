@@ -9,9 +9,11 @@ opcode_of word = word / 2 ^ 26
 abbrev pub rs_of : ℕ → ℕ
 rs_of word = word / 2 ^ 21 % 32
 
+-- the second of them
 abbrev pub rt_of : ℕ → ℕ
 rt_of word = word / 2 ^ 16 % 32
 
+-- the third of them
 abbrev pub rd_of : ℕ → ℕ
 rd_of word = word / 2 ^ 11 % 32
 

@@ -11,6 +11,7 @@ use Rattle.machine_words.specs.declared.layout.Shape.{Shape}
 use Rattle.machine_words.specs.declared.layout.Shape.TheVariants.{ThreeRegisters, ShiftByAmount, ShiftByRegister, TwoRegisters, MoveFrom, MoveTo, JumpRegister, LinkRegister, Bare, SignedHalf, UnsignedHalf, UpperHalf, Store, BranchOnTwo, BranchOnOne, Region}
 use Rattle.machine_words.specs.Fields.{opcode_of, select_of}
 
+-- a row of the table
 abbrev pub row : ℕ → ℕ → Shape → Layout
 row opcode select shape = record { opcode = opcode; select = select; shape = shape }
 
@@ -68,6 +69,7 @@ layout Jr = row 0 8 JumpRegister
 layout Jalr = row 0 9 LinkRegister
 layout Break = row 0 13 Bare
 
+-- all operations of the table
 abbrev pub operations : List Op
 operations =
     Addu ∷ Subu ∷ Add ∷ Sub ∷ And ∷ Or ∷ Xor ∷ Nor ∷ Slt ∷ Sltu ∷ Sll ∷ Srl ∷ Sra ∷ Sllv ∷ Srlv ∷ Srav

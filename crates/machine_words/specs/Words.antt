@@ -29,6 +29,7 @@ abbrev pub instr : Op → (target first second number : ℕ) → Instr
 instr op target first second number =
     record { op = op; target = target; first = first; second = second; number = number }
 
+-- an instruction, where its word fits
 abbrev pub only_if : Bool → Instr → Option Instr
 only_if fits i = if fits then Some i else None
 
@@ -64,6 +65,7 @@ read BranchOnOne select op pc w =
     only_if (rt_of w == select) (instr op 0 (rs_of w) 0 (branch_target pc w))
 read Region select op pc w = Some (instr op (implied_target op) 0 0 (region_target pc w))
 
+-- the instruction of a word at pc, once its operation is known
 abbrev pub decode_as : ℕ → ℕ → Option Op → Option Instr
 decode_as pc word None = None
 decode_as pc word (Some op) = read (layout op).shape (layout op).select op pc word
@@ -83,6 +85,7 @@ abbrev pub registers : (rs rt rd shift function : ℕ) → ℕ
 registers rs rt rd shift function =
     rs % 32 * 2 ^ 21 + (rt % 32 * 2 ^ 16 + (rd % 32 * 2 ^ 11 + (shift * 2 ^ 6 + function)))
 
+-- the lower 26 bits with an immediate
 abbrev pub immediate : (rs rt number : ℕ) → ℕ
 immediate rs rt number = rs % 32 * 2 ^ 21 + (rt % 32 * 2 ^ 16 + number % 2 ^ 16)
 

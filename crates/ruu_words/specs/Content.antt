@@ -20,6 +20,7 @@ use Rattle.ruu_words.specs.Fields.{half_of, index_of, pack_link, predicted_of, s
 
 -- Station words
 
+-- The number of a state
 abbrev pub code : StationState → ℕ
 code IsFree = 0
 code IsOpen = 1
@@ -34,6 +35,7 @@ abbrev pub HasValue : Option ℕ → ℕ → Type 0
 HasValue None n = Unit {0}
 HasValue (Some v) n = n ≡ v
 
+-- The word n is that of a station that shows this
 pub record IsStation (shows : StationWord) (n : ℕ) : Type 0 where
   pub tag : tag_of n ≡ shows.tag
   pub state : state_of n ≡ code shows.state
@@ -41,6 +43,7 @@ pub record IsStation (shows : StationWord) (n : ℕ) : Type 0 where
 
 -- Info words
 
+-- The word n has this tenant's half, index and predicted next pc
 pub record IsInfoOf (t : Tenant) (n : ℕ) : Type 0 where
   pub half : half_of n ≡ t.half
   pub index : index_of n ≡ t.index
@@ -53,19 +56,23 @@ IsInfo (Some t) n = IsInfoOf t n
 
 -- Operand words: 1 where the source still waits, with value 0, and 2 where it has its value
 
+-- The number of an operand's state
 abbrev pub operand_code : Option ℕ → ℕ
 operand_code None = 1
 operand_code (Some v) = 2
 
+-- The value in an operand's word
 abbrev pub operand_value : Option ℕ → ℕ
 operand_value None = 0
 operand_value (Some v) = v
 
+-- The word n is that of this operand
 pub record IsOperandOf (o : OperandWord) (n : ℕ) : Type 0 where
   pub tag : tag_of n ≡ o.tag
   pub state : state_of n ≡ operand_code o.value
   pub value : value_of n ≡ operand_value o.value
 
+-- The same; a station that has had no tenant has the word 0
 abbrev pub IsOperand : Option OperandWord → ℕ → Type 0
 IsOperand None n = n ≡ 0
 IsOperand (Some o) n = IsOperandOf o n
@@ -92,6 +99,7 @@ pub record NamesLink (ts : List Tenant) (p c : ℕ) (k : Source) (n : ℕ) : Typ
   pub at_c : consumer.station ≡ c
   pub word : n ≡ pack_link producer.tag consumer.tag
 
+-- The word of a link from station p to source k of station c: 0, or that of a linked source
 pub record IsLink (ts : List Tenant) (p c : ℕ) (k : Source) (n : ℕ) : Type 0 where
   pub names : (n ≡ 0) ⊎ NamesLink ts p c k n
   -- and a linked source whose tenant has not left stands in its word
@@ -101,6 +109,7 @@ pub record IsLink (ts : List Tenant) (p c : ℕ) (k : Source) (n : ℕ) : Type 0
 
 -- The let in progress: some words are already those of the tenant that it is about
 
+-- At this stage the word of source k is stored already
 abbrev pub has_operand : Stage → Source → Bool
 has_operand InfoAlone k = false
 has_operand FirstOperand First = true
@@ -132,6 +141,7 @@ IsDraft P C U (Of stage index predicted first second) =
 
 -- Any word
 
+-- The word n at a place is what the unit says, with this let in progress
 abbrev pub Content : Program → Sizes → UpdateUnit → Draft → Place → ℕ → Type 0
 Content P C U d (Station s) n = IsStation (station_word C (recent U) s) n
 Content P C U d (Info s) n = IsInfo (last_of (recent (info_unit P C U d)) s) n

@@ -11,12 +11,15 @@ tag_count = 2 ^ 28
 abbrev pub pack : ℕ → ℕ → ℕ → ℕ
 pack tag state value = tag * 2 ^ 36 + state * 2 ^ 32 + value
 
+-- The tag of a station's or an operand's word
 abbrev pub tag_of : ℕ → ℕ
 tag_of word = word / 2 ^ 36
 
+-- The number of its state
 abbrev pub state_of : ℕ → ℕ
 state_of word = word / 2 ^ 32 % 16
 
+-- Its value
 abbrev pub value_of : ℕ → ℕ
 value_of word = word % 2 ^ 32
 
@@ -35,12 +38,15 @@ abbrev pub half_by : ℕ → Half
 half_by zero = Low
 half_by (suc n) = High
 
+-- The half of an info word
 abbrev pub half_of : ℕ → Half
 half_of word = half_by (word / 2 ^ 63)
 
+-- The index of its instruction
 abbrev pub index_of : ℕ → ℕ
 index_of word = word / 2 ^ 32 % 2 ^ 31
 
+-- Its predicted next pc
 abbrev pub predicted_of : ℕ → ℕ
 predicted_of word = word % 2 ^ 32
 
@@ -48,8 +54,10 @@ predicted_of word = word % 2 ^ 32
 abbrev pub pack_link : ℕ → ℕ → ℕ
 pack_link producer consumer = producer * 2 ^ 36 + consumer * 2 ^ 8
 
+-- The producer's tag in a link word
 abbrev pub producer_of : ℕ → ℕ
 producer_of word = word / 2 ^ 36
 
+-- The consumer's tag in a link word
 abbrev pub consumer_of : ℕ → ℕ
 consumer_of word = word / 2 ^ 8 % 2 ^ 28

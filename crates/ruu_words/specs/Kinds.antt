@@ -38,6 +38,7 @@ pub record IsTenant (U : UpdateUnit) (p station tag : ℕ) (Fact : Tenant → Ty
 abbrev pub IsAny : Tenant → Type 0
 IsAny t = Unit {0}
 
+-- It is not open
 abbrev pub IsClosed : Tenant → Type 0
 IsClosed t = ¬ IsOpen t
 
@@ -49,9 +50,11 @@ pub record Finds (U : UpdateUnit) (s g : ℕ) (events : List Event) (Fact : Tena
   pub tenant : IsTenant U p s g Fact
   pub added : events ≡ adds p
 
+-- No events
 abbrev pub adds_nothing : ℕ → List Event
 adds_nothing p = []
 
+-- The event of a refusal that names a tenant
 abbrev pub refuses : (ℕ → Refusal) → ℕ → List Event
 refuses r p = Refuses (r p) ∷ []
 
@@ -78,6 +81,7 @@ pub record IsInTime (U : UpdateUnit) (r : ℕ) (k : Source) (q : ℕ) : Type 0 w
 abbrev pub IsUnmade : ℕ → Type 0
 IsUnmade n = (n ≢ 0) × (n ≢ 4)
 
+-- A station that is free or done
 abbrev pub IsMade : ℕ → Type 0
 IsMade n = (n ≡ 0) ⊎ (n ≡ 4)
 

@@ -5,6 +5,7 @@ use Rattle.inorder.specs.declared.history.Source.TheVariants.{First, Second}
 use Rattle.ruu_words.specs.declared.place.Place.{Place}
 use Rattle.ruu_words.specs.declared.place.Place.TheVariants.{Station, Info, Operand, Link}
 
+-- Sources as numbers from 0
 abbrev pub number : Source → ℕ
 number First = 0
 number Second = 1
@@ -23,5 +24,6 @@ IsPlace n (Info s) = s < n
 IsPlace n (Operand s k) = s < n
 IsPlace n (Link p c k) = (p < n) × (c < n)
 
+-- How many words a ring of n stations has
 abbrev pub words_for : ℕ → ℕ
 words_for n = 4 * n + 2 * (n * n)

@@ -20,20 +20,24 @@ use Rattle.ruu_words.specs.Content.{Content, IsDraft}
 use Rattle.ruu_words.specs.Fields.{pack}
 use Rattle.ruu_words.specs.Places.{IsPlace, index, words_for}
 
+-- The sizes of the unit of a table
 abbrev pub sizes_of : Setup → Sizes
 sizes_of c = record { ring = c.ring; queue = c.queue; first_tag = c.first_tag }
 
 -- The history that a table opens with: that of the seat it goes on from, or none
 
+-- What the seat has seen whose view this is, if there is one
 abbrev pub seen_by : List View → List Entry
 seen_by [] = []
 seen_by (v ∷ vs) = v.seen
 
+-- The history that a table opens with
 abbrev pub opening_of : Setup → List Entry
 opening_of c = seen_by c.opening.views
 
 -- The numbers of callers
 
+-- No numbers to give away
 abbrev pub nobody : Heirs
 nobody = record { first = 0; every = 0 }
 
@@ -55,11 +59,13 @@ without_first heirs = record { first = heirs.first + heirs.every; every = heirs.
 abbrev pub half : Heirs → Heirs
 half heirs = record { first = heirs.first + heirs.every; every = 2 * heirs.every }
 
+-- Every second of these, the others
 abbrev pub other_half : Heirs → Heirs
 other_half heirs = record { first = heirs.first + 2 * heirs.every; every = 2 * heirs.every }
 
 -- Views
 
+-- A seat's view, which nobody has told anything
 abbrev pub view : Role → ℕ → Heirs → List Entry → Draft → View
 view role by heirs seen draft =
     record { role = role; by = by; heirs = heirs; seen = seen; told = []; draft = draft }
@@ -87,6 +93,7 @@ Unborn v = (n : ℕ) → IsHeir v.heirs n → own n v.seen ≡ []
 -- Roles. The first seat is the front's once the back's is cut from it, and a spent one makes no
 -- calls
 
+-- The number is one for this role
 abbrev pub IsCaller : Role → ℕ → Type 0
 IsCaller Start by = by ≡ front
 IsCaller Front by = by ≡ front
@@ -94,6 +101,7 @@ IsCaller Back by = by ≡ back
 IsCaller Worker by = IsUnit by
 IsCaller Spent by = Unit {0}
 
+-- The seat is not spent
 abbrev pub IsAlive : Role → Type 0
 IsAlive Spent = ⊥
 IsAlive _ = Unit {0}
@@ -133,6 +141,7 @@ pub record Keeps (P : Program) (C : Sizes) (opening : List Entry) (s : State ℕ
   pub draft : Draft
   pub kept : IsKept P C opening s history draft
 
+-- The same of a table's setup
 abbrev pub Kept : Setup → State ℕ View → Type 0
 Kept c s = Keeps c.program (sizes_of c) (opening_of c) s
 

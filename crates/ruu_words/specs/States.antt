@@ -5,9 +5,11 @@ use Rattle.ruu_words.specs.declared.station.StationState.TheVariants.{Free, Open
 use Rattle.ruu_words.specs.declared.operand.OperandState.{OperandState}
 use Rattle.ruu_words.specs.declared.operand.OperandState.TheVariants.{Wait, Val}
 
+-- How many states a station has
 abbrev pub state_count : ℕ
 state_count = 7
 
+-- The number of a station's state
 abbrev pub state_code : StationState → ℕ
 state_code Free = 0
 state_code Open = 1
@@ -17,6 +19,7 @@ state_code Done = 4
 state_code Miss = 5
 state_code Stop = 6
 
+-- The number of an operand's state
 abbrev pub operand_code : OperandState → ℕ
 operand_code Wait = 1
 operand_code Val = 2

@@ -16,6 +16,7 @@ is_name text =
 abbrev pub is_plain : ℕ → Bool
 is_plain b = (b == 9) || (nat_le 0x20 b && nat_le b 0x7e)
 
+-- each byte is one of these
 abbrev pub is_plain_text : List ℕ → Bool
 is_plain_text text = list_all is_plain text
 

@@ -36,6 +36,7 @@ capped n = min n 4294967296
 
 -- ---- numbers with a sign
 
+-- the first byte is this one
 abbrev pub first_is : ℕ → List ℕ → Bool
 first_is b text = not (length text == 0) && (slice_index text 0 == b)
 

@@ -28,6 +28,7 @@ before_close (Some text) =
     if not (length text == 0) && (slice_index text (length text - 1) == 41)
     then Some (take (length text - 1) text) else None
 
+-- two texts without the blanks around them, if the second is there
 abbrev pub both_trimmed : List ℕ → Option (List ℕ) → Option (List ℕ × List ℕ)
 both_trimmed front None = None
 both_trimmed front (Some inner) = Some (trim front, trim inner)

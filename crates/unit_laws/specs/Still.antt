@@ -12,6 +12,7 @@ pub record IsStill (ts : List Tenant) (o : Operand) : Type 0 where
   pub value : o.value ≡ value_of ts o.creator
   pub way : o.value ≡ None → IsLinked o
 
+-- It is not claimed, or is finished
 abbrev pub IsNotBusy : Fate → Type 0
 IsNotBusy (Busy by) = ⊥
 IsNotBusy _ = Unit {0}
