@@ -134,6 +134,24 @@ def check_spans(page, known):
     return count
 
 
+def check_places(page):
+    """Each place of a decision is a file below `crates/`, and has the names that stand in parentheses behind it."""
+    count = 0
+    for item in re.findall(r"^- \*where\*: (.*\n(?:  .*\n)*)", prose(page), re.M):
+        for span, names in re.findall(r"`([^`]+/[^`]+)`(?:\s*\(((?:`[^`]+`(?:,\s+)?)+)\))?", item):
+            at = next((it for it in (f"crates/{span}", f"crates/{span}.antt", span) if os.path.exists(it)), None)
+            count += 1
+            if at is None:
+                wrong(page, f"no file {span}")
+            elif names:
+                with open(at, encoding="utf-8") as it:
+                    text = it.read()
+                lost = [it for it in re.findall(r"`([^`]+)`", names) if not re.search(rf"\b{re.escape(it)}\b", text)]
+                for name in lost:
+                    wrong(page, f"no {name} in {span}")
+    return count
+
+
 def forms():
     """The forms of the page on listings, each with operands that it allows, and with a number past its range."""
     with open("docs/LISTING.md", encoding="utf-8") as it:
@@ -217,6 +235,8 @@ def main():
                     looked += check_commands(page, lines, known)
             if page == "docs/LISTING.md":
                 ran += check_forms(room)
+            if page == "docs/DECISIONS.md":
+                looked += check_places(page)
         looked += check_links(page) + check_spans(page, known)
     check_kit()
     check_picture()
