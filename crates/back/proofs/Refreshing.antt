@@ -14,10 +14,9 @@ use Rattle.inorder.specs.History.{Adds, back, unit_of}
 use Rattle.inorder.specs.Replies.{Has, IsNamed}
 use Rattle.inorder.specs.Tenants.{Tenant}
 use Rattle.inorder.specs.Unit.{Sizes, at}
-use Rattle.inorder.proofs.Histories.{starts_same}
+use Rattle.inorder.proofs.Histories.{adds_on, starts_same}
 use Rattle.station.specs.Seats.{TheCore}
 use Rattle.station.specs.Writeback.{IsDeliveryOf, IsWalk}
-use Rattle.station.proofs.Adding.{adds_on}
 use Rattle.back.specs.Loads.{IsLiveLoad, WasBlocked, WasNotWaiting}
 use Rattle.back.specs.Port.{behind}
 use Rattle.back.specs.Refreshes.{EachLoad, HasFoundBlocked, HasLoaded, HasLoadedNothing, IsTooLate, RefreshAnswers, WasBlockedBy, WasIdle}

@@ -12,9 +12,8 @@ use Rattle.inorder.specs.History.{Adds, IsLegal, StartsWith, back, unit_of}
 use Rattle.inorder.specs.Replies.{Has}
 use Rattle.inorder.specs.Tenants.{Live, Retired, Squashed, Standing, Tenant}
 use Rattle.inorder.specs.Unit.{Sizes}
-use Rattle.inorder.proofs.Histories.{starts_same}
+use Rattle.inorder.proofs.Histories.{adds_on, starts_same}
 use Rattle.station.specs.Moments.{WasOnce}
-use Rattle.station.proofs.Adding.{adds_on}
 use Rattle.back.specs.Loads.{Blocks, IsWaitingLoad, WasBlocked, WasNotWaiting}
 use Rattle.back.specs.Port.{behind}
 use Rattle.back.specs.Refreshes.{IsTooLate}

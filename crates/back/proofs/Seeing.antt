@@ -8,7 +8,7 @@ use Rattle.inorder.specs.Tenants.{Addr, Busy, Done, Fate, Live, Miss, Open, Stop
 use Rattle.inorder.specs.Unit.{Sizes, at, older, recent, younger}
 use Rattle.inorder.proofs.Basics.{split_at}
 use Rattle.inorder.proofs.Grows.{sound_mid}
-use Rattle.inorder.proofs.Histories.{allowed_steps, unit_sound}
+use Rattle.inorder.proofs.Histories.{adds_on, allowed_steps, unit_sound}
 use Rattle.inorder.proofs.Positions.{at_there}
 use Rattle.inorder.proofs.Sound.{IsSound}
 use Rattle.inorder.proofs.StationsShown.{stations_follow}
@@ -20,7 +20,6 @@ use Rattle.ruu_words.specs.States.{state_code}
 use Rattle.ruu_words.proofs.Stays.{tenant_stays}
 use Rattle.station.specs.Looking.{Shows}
 use Rattle.station.specs.Seats.{Caller, IsSame}
-use Rattle.station.proofs.Adding.{adds_on}
 use Rattle.back.specs.Port.{AtStation, IsEntryOf, address_in, address_of, seen_as}
 use Rattle.back.proofs.OwnEntries.{added_legal}
 use Rattle.back.proofs.PortStays.{length_grows}

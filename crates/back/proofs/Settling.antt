@@ -22,7 +22,7 @@ use Rattle.inorder.specs.Replies.{Has, IsNamed, IsStale}
 use Rattle.inorder.specs.Tenants.{Done, Live, Squashed, Tenant}
 use Rattle.inorder.specs.Unit.{Sizes, UpdateUnit, older, recent, younger}
 use Rattle.inorder.proofs.Ends.{Acted, IsNotBacks, exact}
-use Rattle.inorder.proofs.Histories.{allowed_steps, legal_before, unit_lasts}
+use Rattle.inorder.proofs.Histories.{adds_on, allowed_steps, legal_before, unit_lasts}
 use Rattle.inorder.proofs.Loading.{gone_stays, load_stays}
 use Rattle.inorder.proofs.Moves.{IsActed, IsLeft, at_changed}
 use Rattle.inorder.proofs.Sound.{IsSound}
@@ -31,7 +31,6 @@ use Rattle.ruu_words.specs.Kinds.{IsTenant}
 use Rattle.ruu_words.proofs.Stays.{any_stays, back_stays}
 use Rattle.station.specs.Moments.{WasOnce}
 use Rattle.station.specs.Writeback.{IsWalk, IsWritten, MaySettle, WasStale}
-use Rattle.station.proofs.Adding.{adds_on}
 use Rattle.back.specs.Loads.{IsWaitingLoad}
 use Rattle.back.specs.Port.{IsAsked, IsBlockedAt, IsLoadOf}
 use Rattle.back.specs.Trials.{DidLoad, HasHeldBack, HasPassed, HoldsBack, IsLoadAt, NoOtherWaits, NoneWaits, SomeWaits}

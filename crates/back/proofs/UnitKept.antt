@@ -30,10 +30,10 @@ use Rattle.inorder.proofs.Ends.{Acted, IsNotBacks, exact}
 use Rattle.inorder.proofs.Heads.{goes_on_stays, head_stays}
 use Rattle.inorder.proofs.Histories.{legal_before, unit_sound}
 use Rattle.inorder.proofs.Kept.{parts}
+use Rattle.inorder.proofs.Letting.{how_many_same}
 use Rattle.inorder.proofs.Moves.{IsActed, IsLeft, at_changed, came}
 use Rattle.inorder.proofs.Sound.{IsSound}
 use Rattle.ruu_words.proofs.Stays.{not_backs}
-use Rattle.station.proofs.Seated.{how_many_same}
 use Rattle.back.specs.Commits.{IsRetiredStop}
 use Rattle.back.specs.Kept.{EndIs, KeepsUnit}
 use Rattle.back.specs.Kept.HasStopped.{ByStop, Nowhere}

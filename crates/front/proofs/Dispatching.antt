@@ -15,14 +15,13 @@ use Rattle.inorder.specs.Steps.{MayLet, MaySupply, let_operand, new_tenant}
 use Rattle.inorder.specs.Tenants.{Tenant, Unlinked, is_access, is_live, operand}
 use Rattle.inorder.specs.Unit.{Sizes, UpdateUnit, creator, front_half, front_pc, how_many, next_station, next_tag, recent}
 use Rattle.inorder.proofs.Creators.{at_cases}
-use Rattle.inorder.proofs.Histories.{unit_sound}
+use Rattle.inorder.proofs.Histories.{adds_on, unit_sound}
 use Rattle.inorder.proofs.Letting.{LetStays}
 use Rattle.inorder.proofs.Positions.{at_below, at_more, at_new}
 use Rattle.unit_laws.proofs.Creators.{found_at}
 use Rattle.ruu_words.specs.Kinds.{IsAny, IsTenant}
 use Rattle.ruu_words.proofs.Drafting.{still_let}
 use Rattle.ruu_words.proofs.Stays.{any_stays}
-use Rattle.station.proofs.Adding.{adds_on}
 use Rattle.station.specs.declared.answers.Supply.{Supply}
 use Rattle.station.specs.declared.answers.Supply.TheVariants.{From as GivenFrom, Known as GivenKnown}
 use Rattle.station.specs.declared.answers.Tenant.{Tenant as NewTenant}

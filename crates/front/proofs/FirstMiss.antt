@@ -9,6 +9,7 @@ use Rattle.inorder.specs.History.{Adds, IsLegal, StartsWith, front, unit_of}
 use Rattle.inorder.specs.Callers.{IsMissing}
 use Rattle.inorder.specs.Tenants.{Tenant, stands_on_path}
 use Rattle.inorder.specs.Unit.{Sizes, UpdateUnit, at}
+use Rattle.inorder.proofs.Histories.{adds_on}
 use Rattle.ruu_words.specs.Kinds.{IsAny, IsTenant}
 use Rattle.ruu_words.proofs.Stays.{any_stays}
 use Rattle.front.specs.declared.path.record.Record.{Record}
@@ -16,7 +17,6 @@ use Rattle.front.specs.Knows.{IsGone, IsReused, Knows, whats}
 use Rattle.front.specs.Recoveries.{IsCut, IsFirst, IsMissAt, IsNoMiss, squash_event}
 use Rattle.front.specs.declared.recovery.Missed.{Missed}
 use Rattle.station.specs.Recovery.{IsMended as IsMendedThere}
-use Rattle.station.proofs.Adding.{adds_on}
 use Rattle.front.proofs.Recovered.{Mended, mend_done}
 use Rattle.front.specs.Trail.{Note, record_of, trail}
 use Rattle.front.proofs.InQueue.{IsOrdered, IsSplit, drop_get, ordered, split_whats}

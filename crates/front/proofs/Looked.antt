@@ -11,6 +11,7 @@ use Rattle.inorder.specs.Replies.{HasNoInstr, IsFull, IsQueueFull, IsSpent, last
 use Rattle.inorder.specs.Tenants.{Tenant}
 use Rattle.inorder.specs.Unit.{Sizes, how_many, next_station, next_tag, older, recent, tag_after, younger}
 use Rattle.inorder.proofs.Basics.{split_at}
+use Rattle.inorder.proofs.Histories.{adds_on}
 use Rattle.inorder.proofs.Kept.{parts}
 use Rattle.inorder.proofs.Moves.{goes}
 use Rattle.inorder.proofs.Tags.{count_same, same_place}
@@ -21,7 +22,6 @@ use Rattle.ruu_words.specs.Kinds.{IsTenant}
 use Rattle.station.specs.declared.answers.Seen.{Seen}
 use Rattle.station.specs.Looking.{SeesStation}
 use Rattle.station.specs.Moments.{WasOnce}
-use Rattle.station.proofs.Adding.{adds_on}
 use Rattle.inorder.specs.StationWords.{left_value}
 use Rattle.front.specs.declared.path.record.Record.{Record}
 use Rattle.front.specs.Fetching.{CanFetch, HasLeft, OldestLeft}

@@ -8,9 +8,9 @@ use Rattle.inorder.specs.declared.history.Event.TheVariants.{Does}
 use Rattle.inorder.specs.declared.history.Step.TheVariants.{On}
 use Rattle.inorder.specs.History.{Adds, IsLegal, front, unit_of}
 use Rattle.inorder.specs.Unit.{Sizes}
+use Rattle.inorder.proofs.Histories.{adds_on}
 use Rattle.ruu_words.specs.Kinds.{IsAny, IsTenant}
 use Rattle.station.specs.Recovery.{IsMended as IsMendedThere, IsSquashed as IsSquashedThere, MaySquash, SeesMiss}
-use Rattle.station.proofs.Adding.{adds_on}
 use Rattle.front.specs.declared.path.record.Record.{Record}
 use Rattle.front.specs.declared.recovery.Missed.{Missed}
 use Rattle.front.specs.Knows.{Knows}

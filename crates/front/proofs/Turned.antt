@@ -11,8 +11,8 @@ use Rattle.inorder.specs.declared.history.Step.TheVariants.{Let}
 use Rattle.inorder.specs.History.{Adds, front, unit_of}
 use Rattle.inorder.specs.StationWords.{last_of}
 use Rattle.inorder.specs.Unit.{Sizes, next_station, recent}
+use Rattle.inorder.proofs.Histories.{adds_on}
 use Rattle.ruu_words.specs.Kinds.{IsTenant}
-use Rattle.station.proofs.Adding.{adds_on}
 use Rattle.front.specs.declared.fetch.Fetched.{Fetched}
 use Rattle.front.specs.declared.path.Path.{Path}
 use Rattle.front.specs.declared.path.record.Record.{Record}

@@ -6,7 +6,10 @@ ghost use Rattle.station.specs.Seats.{IsSame};
 
 use crate::{Front, Made, Recovery, Turn};
 use isa::{Config, Instr, NotTaken, Outcome, Predictor, Program, Reg, outcome_of, parse};
-use station::{BackSeat, Claim, Core, Finish, Job, Retire, Source, StationState, UnitSeat};
+use station::{
+    BackSeat, Claim, Core, Finish, Job, Retire, Source, StationState, UnitSeat,
+    a_job_is_of_the_program,
+};
 use std::alloc::Global;
 use std::process::Abort;
 use std::test::Fail;
@@ -68,6 +71,7 @@ fn finish_job(core: &Core, program: &Program, seat: &mut UnitSeat, job: Job) -> 
     requires job { Holds core.now.program core.now.sizes seat.old.by seat.old.seen job }
     ensures kept { IsSame seat.old seat.new }
 {
+    a_job_is_of_the_program();
     let instr = program.instr(job.index as usize);
     let found = outcome_of(instr, job.half, job.pc, job.a, job.b, program.size());
     let (a, b) = (job.a, job.b);

@@ -7,7 +7,7 @@ use Rattle.inorder.specs.declared.history.Entry.{Entry}
 use Rattle.inorder.specs.declared.history.Event.{Event}
 use Rattle.inorder.specs.declared.history.Event.TheVariants.{Does, Marks, Refuses}
 use Rattle.inorder.specs.declared.history.Step.{Step}
-use Rattle.inorder.specs.History.{IsLegal, IsTheirs, MayAdd, StartsWith, entry, own, taken_of, unit_of, with_event}
+use Rattle.inorder.specs.History.{Adds, IsLegal, IsTheirs, MayAdd, StartsWith, entry, own, taken_of, unit_of, with_event}
 use Rattle.inorder.specs.Legal.{Allowed, AreAllowed, applied}
 use Rattle.inorder.specs.Unit.{Sizes, UpdateUnit}
 use Rattle.inorder.proofs.Kept.{sound}
@@ -44,6 +44,18 @@ no_length (x ∷ xs) e = absurd (omega arith)
 -- where the caller's entries were all there before, none is in what came after
 pub own_none : (by : ℕ) (more seen : List Entry) → own by (more ++ seen) ≡ own by seen → own by more ≡ []
 own_none by more seen e = let s = ap (λ l. length l) (sym (own-append by more seen) ∙ e) in let n = length-append (own by more) (own by seen) in no_length (own by more) (omega arith)
+
+-- Two calls in a row are one
+pub adds_on : (P : Program) (C : Sizes) (by : ℕ) (old mid new : List Entry) (es fs : List Event) → Adds P C by old mid es → Adds P C by mid new fs → Adds P C by old new (fs ++ es)
+adds_on P C by old mid new es fs a b = record {
+  begins = record { more = b.begins.more ++ a.begins.more; is = b.begins.is ∙ (ap (λ z. b.begins.more ++ z) a.begins.is ∙ sym (append_assoc b.begins.more a.begins.more old)) };
+  legal = b.legal;
+  mine = b.mine ∙ (ap (λ z. map (entry by) fs ++ z) a.mine ∙ (sym (append_assoc (map (entry by) fs) (map (entry by) es) (own by old)) ∙ ap (λ z. z ++ own by old) (sym (map_append fs es))));
+}
+  where
+    map_append : (xs ys : List Event) → map (entry by) (xs ++ ys) ≡ map (entry by) xs ++ map (entry by) ys
+    map_append [] ys = refl
+    map_append (x ∷ xs) ys = ap (λ z. entry by x ∷ z) (map_append xs ys)
 
 -- What stays
 

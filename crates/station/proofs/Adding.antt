@@ -31,15 +31,3 @@ module _ (P : Program) (C : Sizes) where
 
   pub adds_these : (by : ℕ) (v w : View) (Kind : List Entry → Draft → List Event → Type 0) (es : List Event) → (g : Grows P C by v w Kind) → g.events ≡ es → Adds P C by v.seen w.seen es
   adds_these by v w Kind es g e = subst (λ z. Adds P C by v.seen w.seen z) e (adds_step by v w Kind g)
-
-  -- two calls in a row are one
-  pub adds_on : (by : ℕ) (old mid new : List Entry) (es fs : List Event) → Adds P C by old mid es → Adds P C by mid new fs → Adds P C by old new (fs ++ es)
-  adds_on by old mid new es fs a b = record {
-    begins = record { more = b.begins.more ++ a.begins.more; is = b.begins.is ∙ (ap (λ z. b.begins.more ++ z) a.begins.is ∙ sym (append_assoc b.begins.more a.begins.more old)) };
-    legal = b.legal;
-    mine = b.mine ∙ (ap (λ z. map (entry by) fs ++ z) a.mine ∙ (sym (append_assoc (map (entry by) fs) (map (entry by) es) (own by old)) ∙ ap (λ z. z ++ own by old) (sym (map_append fs es))));
-  }
-    where
-      map_append : (xs ys : List Event) → map (entry by) (xs ++ ys) ≡ map (entry by) xs ++ map (entry by) ys
-      map_append [] ys = refl
-      map_append (x ∷ xs) ys = ap (λ z. entry by x ∷ z) (map_append xs ys)

@@ -23,9 +23,9 @@ use Rattle.inorder.specs.Tenants.{IsThere, Tenant, on_path, operand}
 use Rattle.inorder.specs.Unit.{Sizes, UpdateUnit, how_many, next_station, older, recent, value_of, younger}
 use Rattle.inorder.proofs.Basics.{split_at}
 use Rattle.inorder.proofs.Ends.{Acted, exact}
-use Rattle.inorder.proofs.Histories.{legal_before, starts_longer, unit_sound}
+use Rattle.inorder.proofs.Histories.{adds_on, legal_before, starts_longer, unit_sound}
 use Rattle.inorder.proofs.Kept.{parts}
-use Rattle.inorder.proofs.Letting.{IsBesides}
+use Rattle.inorder.proofs.Letting.{IsBesides, how_many_same}
 use Rattle.inorder.proofs.Moves.{came}
 use Rattle.inorder.proofs.Serving.{linked_creator, linked_way}
 use Rattle.ruu_words.specs.declared.place.Place.{Place}
@@ -51,9 +51,9 @@ use Rattle.station.specs.Letting.{IsFronts}
 use Rattle.station.specs.Seats.{IsSeated}
 use Rattle.station.specs.Wakeup.{CanAnswer, Ends, Finds, HasAskedFrom, HasAskedOf, Links}
 use Rattle.station.specs.Writeback.{val_word, wait_word}
-use Rattle.station.proofs.Adding.{adds_on, adds_these}
+use Rattle.station.proofs.Adding.{adds_these}
 use Rattle.station.proofs.Carrying.{one_named}
-use Rattle.station.proofs.Seated.{how_many_same, next_stays}
+use Rattle.station.proofs.Seated.{next_stays}
 use Rattle.station.proofs.Writing.{acted}
 
 -- a link and a delivery leave the path

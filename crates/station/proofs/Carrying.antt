@@ -19,7 +19,7 @@ use Rattle.inorder.specs.Replies.{Has, IsDelivered}
 use Rattle.inorder.specs.Steps.{delivered}
 use Rattle.inorder.specs.Tenants.{Live, Tenant, operand}
 use Rattle.inorder.specs.Unit.{Sizes, UpdateUnit, at, older, value_of}
-use Rattle.inorder.proofs.Histories.{allowed_steps, legal_before, unit_lasts}
+use Rattle.inorder.proofs.Histories.{adds_on, allowed_steps, legal_before, unit_lasts}
 use Rattle.inorder.proofs.Moves.{IsActed, IsLeft, at_changed, goes}
 use Rattle.inorder.proofs.Serving.{AreLinked, are_small, made_stays, served_stays}
 use Rattle.inorder.proofs.Tags.{AreTagged, tagged}
@@ -39,7 +39,7 @@ use Rattle.ruu_words.proofs.Stays.{any_stays, tenant_stays}
 use Rattle.ruu_words.proofs.Walking.{IsServedOr, is_walked, served_but_named, served_but_stays, served_unless_named, served_with_it}
 use Rattle.station.specs.Carrying.{EndsWalk, HasValueOf, HasWalked, IsCarrying, IsServedAll, IsServing, IsWriter, Makes, OfTenant}
 use Rattle.station.specs.Writeback.{CanDeliver, IsDeliveryOf}
-use Rattle.station.proofs.Adding.{adds_on, adds_these}
+use Rattle.station.proofs.Adding.{adds_these}
 use Rattle.station.proofs.LettingOut.{adds_none}
 
 -- units and the back

@@ -10,7 +10,7 @@ use Rattle.inorder.specs.Replies.{last_tag}
 use Rattle.inorder.specs.StationWords.{station_word}
 use Rattle.inorder.specs.Tenants.{on_path}
 use Rattle.inorder.specs.Unit.{Sizes, UpdateUnit, how_many, next_station, next_tag, recent}
-use Rattle.inorder.proofs.Histories.{allowed_steps}
+use Rattle.inorder.proofs.Histories.{adds_on, allowed_steps}
 use Rattle.inorder.proofs.StationsShown.{stations_follow}
 use Rattle.ruu_words.specs.declared.rule.Draft.{Draft}
 use Rattle.ruu_words.specs.declared.rule.Draft.TheVariants.{Nothing}
@@ -24,7 +24,7 @@ use Rattle.ruu_words.proofs.Drafting.{still_let}
 use Rattle.station.specs.declared.answers.Tenant.{Tenant}
 use Rattle.station.specs.Letting.{IsFronts, IsLetOut, MayLetOut, let_of, supply_of}
 use Rattle.station.specs.Seats.{IsSeated}
-use Rattle.station.proofs.Adding.{adds_on, adds_these}
+use Rattle.station.proofs.Adding.{adds_these}
 
 -- a caller that has added nothing
 pub adds_none : (P : Program) (C : Sizes) (by : ℕ) (h : List Entry) → IsLegal P C h → Adds P C by h h []

@@ -19,7 +19,9 @@ use Rattle.inorder.specs.Tenants.{Done, Fate, Live, Miss, Tenant, on_path, stand
 use Rattle.inorder.specs.Unit.{Sizes, UpdateUnit, how_many, next_station, older, recent, younger}
 use Rattle.inorder.proofs.Basics.{split_at}
 use Rattle.inorder.proofs.Ends.{may_mend, mend_stays}
+use Rattle.inorder.proofs.Histories.{adds_on}
 use Rattle.inorder.proofs.Kept.{parts}
+use Rattle.inorder.proofs.Letting.{how_many_same}
 use Rattle.inorder.proofs.Stations.{mended_station}
 use Rattle.ruu_words.specs.declared.place.Place.TheVariants.{Station}
 use Rattle.ruu_words.specs.declared.rule.Draft.{Draft}
@@ -37,8 +39,8 @@ use Rattle.ruu_words.proofs.Stays.{any_stays, front_stays}
 use Rattle.station.specs.Letting.{IsFronts}
 use Rattle.station.specs.Recovery.{HasMiss, IsMended, Mends, SeesMiss}
 use Rattle.station.specs.Seats.{IsSeated}
-use Rattle.station.proofs.Adding.{adds_on, adds_these}
-use Rattle.station.proofs.Seated.{how_many_same, next_stays}
+use Rattle.station.proofs.Adding.{adds_these}
+use Rattle.station.proofs.Seated.{next_stays}
 
 mended_word : (t : Tenant) (k x n : ℕ) (f : Fate) → f ≡ Miss x → t.standing ≡ Live → IsStation (live_word t.tag (Done x)) n → IsStation (word_of k (Some (mended_as t f))) n
 mended_word t k x n f e live w = subst (λ f. IsStation (word_of k (Some (mended_as t f))) n) (sym e) (still_live t.standing k t.tag (Done x) t.made n live w)

@@ -23,7 +23,7 @@ use Rattle.inorder.specs.Tenants.{Busy, IsThere, Live, Tenant, kind_of, missing_
 use Rattle.inorder.specs.Unit.{Sizes, UpdateUnit, at, older, younger}
 use Rattle.inorder.proofs.Basics.{split_at}
 use Rattle.inorder.proofs.Grows.{sound_mid}
-use Rattle.inorder.proofs.Histories.{starts_longer, starts_same, unit_sound}
+use Rattle.inorder.proofs.Histories.{adds_on, starts_longer, starts_same, unit_sound}
 use Rattle.inorder.proofs.Moves.{Goes}
 use Rattle.inorder.proofs.Positions.{at_replaced_here}
 use Rattle.inorder.proofs.Serving.{are_small}
@@ -41,7 +41,7 @@ use Rattle.station.specs.declared.answers.Claim.TheVariants.{Job as Claimed, Mov
 use Rattle.station.specs.declared.answers.Job.{Job}
 use Rattle.station.specs.Claiming.{ClaimAnswers, HasSeen, HasSource, IsClaimed, IsJob, IsNext, IsOpenAs, IsRefused, IsTold, SourceAnswers, SourceIs, SourceSays, fields_of}
 use Rattle.station.specs.Moments.{WasOpenOnce}
-use Rattle.station.proofs.Adding.{adds_on, adds_these}
+use Rattle.station.proofs.Adding.{adds_these}
 use Rattle.station.proofs.LettingOut.{adds_none}
 
 abbrev Stable : (Tenant → Type 0) → Type 0

@@ -32,7 +32,7 @@ use Rattle.inorder.proofs.Basics.{split_at}
 use Rattle.inorder.proofs.Ends.{Acted, IsNotBacks, IsNotBacksAct, exact, oldest_live, still_oldest}
 use Rattle.inorder.proofs.Grows.{all_grows, sound_mid}
 use Rattle.inorder.proofs.Heads.{HasAddr, goes_on_stays, head_at}
-use Rattle.inorder.proofs.Histories.{allowed_steps, unit_sound}
+use Rattle.inorder.proofs.Histories.{adds_on, allowed_steps, unit_sound}
 use Rattle.inorder.proofs.Kept.{parts}
 use Rattle.inorder.proofs.Moves.{Goes, goes}
 use Rattle.inorder.proofs.Positions.{all_at, all_from, at_below, at_replaced_here, older_from}
@@ -66,7 +66,7 @@ use Rattle.station.specs.declared.steps.retire.Access.{Access}
 use Rattle.station.specs.declared.steps.retire.Leaving.{Leaving}
 use Rattle.station.specs.Retirement.{EndsAs, FindsData, HasAccess, HasEnd, IsAccess, IsAtEnd, IsEnd, IsLast, IsLastOf, IsLeaving, IsRetired, Leaves, LooksAtHead, MayLeave, RetireAnswers, is_stop, kept_value, left_word}
 use Rattle.station.specs.Seats.{HasEnded, IsAtHead}
-use Rattle.station.proofs.Adding.{adds_on, adds_these}
+use Rattle.station.proofs.Adding.{adds_these}
 use Rattle.station.proofs.Backs.{IsNoRetirement}
 use Rattle.station.proofs.Stops.{same_code}
 

@@ -1,17 +1,17 @@
 -- What a seat's caller knows stays true under the steps of others.
-use Rattle.std.proofs.Common.{◌≡◌, ◌≢◌, ℕ, suc, ◌%◌, Bool, cond, List, [], ◌∷◌, ◌++◌, map, sym, ap, ◌∙◌, subst}
+use Rattle.std.proofs.Common.{◌≡◌, ◌≢◌, ℕ, ◌%◌, Bool, [], ◌++◌, map, sym, ap, ◌∙◌, subst}
 use Rattle.atomic_table.specs.Table.{Me}
 use Rattle.isa.specs.Programs.{Program}
 use Rattle.inorder.specs.declared.history.Step.{Step}
 use Rattle.inorder.specs.declared.history.Step.TheVariants.{Let, On}
 use Rattle.inorder.specs.History.{IsLegal, entry, front, own, unit_of}
 use Rattle.inorder.specs.Legal.{Allowed, applied, changed}
-use Rattle.inorder.specs.Tenants.{Tenant, on_path}
+use Rattle.inorder.specs.Tenants.{on_path}
 use Rattle.inorder.specs.Unit.{Sizes, UpdateUnit, how_many, next_station, older, recent, younger}
 use Rattle.inorder.proofs.Basics.{split_at}
 use Rattle.inorder.proofs.Grows.{sound_mid}
 use Rattle.inorder.proofs.Kept.{parts}
-use Rattle.inorder.proofs.Letting.{IsBesides, besides_grows}
+use Rattle.inorder.proofs.Letting.{IsBesides, besides_grows, how_many_same}
 use Rattle.inorder.proofs.Sound.{IsSound}
 use Rattle.ruu_words.specs.declared.place.Place.{Place}
 use Rattle.ruu_words.specs.declared.rule.Role.{Role}
@@ -25,10 +25,6 @@ use Rattle.station.specs.Steps.{Grown, Sees}
 use Rattle.station.proofs.Adding.{adds_these}
 use Rattle.station.proofs.Backs.{back_on}
 use Rattle.station.proofs.SameUnit.{Unit_of, unit_at}
-
-pub how_many_same : (f : Tenant → Bool) (t t' : Tenant) (ts ys : List Tenant) → f t' ≡ f t → how_many f (ys ++ t' ∷ ts) ≡ how_many f (ys ++ t ∷ ts)
-how_many_same f t t' ts [] e = ap (λ b. cond b (suc (how_many f ts)) (how_many f ts)) e
-how_many_same f t t' ts (y ∷ ys) e = ap (λ n. cond (f y) (suc n) n) (how_many_same f t t' ts ys e)
 
 -- only the front changes the path
 pub next_stays : (P : Program) (C : Sizes) (U : UpdateUnit) (by : ℕ) (s : Step) → IsBesides s → Allowed P C U by s → IsSound P U.tenants → next_station C (recent (applied P C U by s)) ≡ next_station C (recent U)

@@ -23,7 +23,7 @@ use Rattle.inorder.specs.Unit.{Sizes, UpdateUnit, how_many, next_station, older,
 use Rattle.inorder.proofs.Basics.{split_at}
 use Rattle.inorder.proofs.Ends.{may_squash, squash_stays}
 use Rattle.inorder.proofs.Grows.{all_mid}
-use Rattle.inorder.proofs.Histories.{allowed_steps, unit_sound}
+use Rattle.inorder.proofs.Histories.{adds_on, allowed_steps, unit_sound}
 use Rattle.inorder.proofs.Kept.{parts}
 use Rattle.inorder.proofs.Serving.{are_small}
 use Rattle.inorder.proofs.Sound.{IsSettled, IsSound, SettledBy}
@@ -44,7 +44,7 @@ use Rattle.ruu_words.proofs.Stays.{any_stays, front_stays}
 use Rattle.station.specs.Letting.{IsFronts}
 use Rattle.station.specs.Recovery.{HasYoungest, IsSquashed, MaySquash, Squashes}
 use Rattle.station.specs.Seats.{IsSeated}
-use Rattle.station.proofs.Adding.{adds_on, adds_these}
+use Rattle.station.proofs.Adding.{adds_these}
 
 -- The path ends with the youngest live tenant
 

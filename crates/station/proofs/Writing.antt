@@ -27,6 +27,7 @@ use Rattle.inorder.specs.StationWords.{station_word}
 use Rattle.inorder.specs.Steps.{finished}
 use Rattle.inorder.specs.Tenants.{Live, Squashed, Tenant, computed, kind_of, needs}
 use Rattle.inorder.specs.Unit.{Sizes, at, older}
+use Rattle.inorder.proofs.Histories.{adds_on}
 use Rattle.inorder.proofs.Moves.{IsActed, IsLeft, at_changed}
 use Rattle.inorder.proofs.Serving.{are_inside, are_small}
 use Rattle.inorder.proofs.Tags.{same_place}
@@ -50,7 +51,7 @@ use Rattle.station.specs.Claiming.{Holds, IsJob, fields_of}
 use Rattle.station.specs.Seats.{IsSeated}
 use Rattle.station.specs.Steps.{Sees}
 use Rattle.station.specs.Writeback.{CanSettle, HasTenant, IsCarried, IsDeliveryOf, IsWalk, IsWritten, MaySettle, SettleAnswers, WasStale, outcome_of}
-use Rattle.station.proofs.Adding.{adds_on, adds_these}
+use Rattle.station.proofs.Adding.{adds_these}
 use Rattle.station.proofs.Backs.{IsNoRetirement, back_seated}
 use Rattle.station.proofs.Carrying.{all_append, any_on, one_named}
 

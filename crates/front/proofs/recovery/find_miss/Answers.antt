@@ -1,8 +1,8 @@
 -- The scan for a miss.
 use Rattle.std.proofs.Common.{◌<◌, [], sym, ◌∙◌, refl, subst, arith}
 use Rattle.inorder.specs.History.{Adds, front, unit_of}
+use Rattle.inorder.proofs.Histories.{adds_on}
 use Rattle.front.specs.Knows.{Knows}
-use Rattle.station.proofs.Adding.{adds_on}
 use Rattle.front.proofs.Misses.{all_one_more, is_miss, was_none}
 use Rattle.front.proofs.Named.{all_get, small_stations}
 use Rattle.front.proofs.Splitting.{stays}
