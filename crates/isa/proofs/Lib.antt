@@ -11,3 +11,7 @@ pub mod Rows
 pub mod Behind
 pub mod Whole
 pub mod Examples
+pub mod TextBytes
+pub mod TextNumbers
+pub mod TextOperands
+pub mod TextRead

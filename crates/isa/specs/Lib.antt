@@ -13,3 +13,5 @@ pub mod Statement
 pub mod Listing
 pub mod Held
 pub mod Report
+pub mod Wording
+pub mod InstrText

@@ -19,7 +19,7 @@ mod stop;
 pub use config::{BadConfig, Config};
 pub use end::{End, Ending};
 pub use instr::Instr;
-pub use listing::{FaultKind, TextFault, parse};
+pub use listing::{FaultKind, InstrText, Naming, TextFault, parse, text_is_read_back};
 pub use memory::Memory;
 pub use op::{Half, Kind, Op};
 pub use predictor::{Bimod, NotTaken, Predictor, Taken};

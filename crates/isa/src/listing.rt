@@ -6,15 +6,18 @@ ghost use Rattle.isa.specs.Held.{IsTable, name_of, rows};
 mod directive;
 mod fault;
 mod form;
+mod instr_text;
 mod instruction;
 mod labels;
 mod line;
 mod operand;
 mod register;
 mod statement;
+mod wording;
 
 use crate::{Instr, Program};
 pub use fault::{FaultKind, TextFault};
+pub use instr_text::{InstrText, Naming, text_is_read_back};
 use labels::{Labels, Name};
 use line::{Target, read_first_line};
 use std::alloc::Global;
