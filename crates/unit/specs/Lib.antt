@@ -1,4 +1,5 @@
 pub mod Window
+pub mod Slots
 pub mod Creators
 pub mod Givers
 pub mod Loads
