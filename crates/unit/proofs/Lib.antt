@@ -2,7 +2,10 @@ pub mod Waiting
 pub mod Scan
 pub mod Settled
 pub mod Sources
+pub mod Slots
 pub mod CreatorsKept
+pub mod Unready
+pub mod WindowKept
 pub mod Entries
 pub mod Ring
 pub mod Noted

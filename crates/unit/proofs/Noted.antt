@@ -1,12 +1,13 @@
 -- What is remembered of the window stays right.
-use Rattle.std.proofs.Common.{◌≡◌, ◌≢◌, ◌⊎◌, ◌<◌, ◌≤◌, ◌-◌, ℕ, zero, suc, ◌+◌, Bool, true, false, eqb, List, [], ◌∷◌, ◌++◌, length, take, drop, Option, Some, None, refl, sym, ap, ◌∙◌, subst, inl, inr, ⊎_elim, arith, length-append, true≢false}
-use Rattle.std.specs.Prelude.{slice_get, slice_set}
+use Rattle.std.proofs.Common.{◌≡◌, ◌≢◌, ◌⊎◌, ◌<◌, ◌≤◌, ◌-◌, ℕ, zero, suc, ◌+◌, Bool, true, false, eqb, List, [], ◌∷◌, ◌++◌, length, take, drop, Option, Some, None, refl, sym, ap, ◌∙◌, subst, inl, inr, ⊎_elim, arith, length-append, length-take-le, true≢false}
+use Rattle.std.specs.Prelude.{min, slice_get, slice_set}
 use Rattle.std.proofs.lemmas.Bool.{cases_lt}
 use Rattle.isa.specs.Instruction.{kind}
 use Rattle.unit.specs.declared.station.Station.{Station}
 use Rattle.unit.specs.declared.station.Stage.{Stage}
 use Rattle.unit.specs.declared.station.Stage.TheVariants.{Open, Addr, Done, Miss, Stops}
-use Rattle.unit.specs.Givers.{NoneGives, given_at, gives}
+use Rattle.circular_buffer.proofs.Places.{slice_get-take}
+use Rattle.unit.specs.Givers.{FirstGives, NoneGives, given_at, gives}
 use Rattle.unit.specs.Notes.{AreNoted, AreSettled, miss_in, missed_after, settled_at, settled_by}
 use Rattle.isa.specs.declared.op.Kind.{Kind}
 use Rattle.isa.specs.declared.op.Kind.TheVariants.{Computes, Jumps, Links, Loads, Stores}
@@ -106,6 +107,23 @@ none_more W w m h k l = miss_gives (W ++ w ∷ []) k ∙ ⊎_elim (λ q. left q)
 
 pub noted_more : (missed : Bool) (n : ℕ) (W : List Station) (w : Station) → miss_of w.stage ≡ None → AreNoted missed n W → AreNoted missed n (W ++ w ∷ [])
 noted_more missed n W w m s = record { no_miss = λ q. none_more W w m (s.no_miss q); are_settled = settled_more W n w s.are_settled }
+
+-- The youngest are squashed behind a miss, and it is mended
+pub noted_mended : (missed : Bool) (n at x : ℕ) (W : List Station) (y : Station) → FirstGives miss_in W at x → miss_of y.stage ≡ None → AreNoted missed n W → AreNoted false (min n at) (take at W ++ y ∷ [])
+noted_mended missed n at x W y first m s =
+    let size : length (take at W) ≡ at = length-take-le at W (omega (arith, first.inside)) in
+    record {
+      no_miss = λ q. none_more (take at W) y m (λ k l.
+          let less : k < at = omega (arith, l, size) in
+          miss_gives (take at W) k ∙ ap miss_at (slice_get-take at W k less) ∙ sym (miss_gives W k) ∙ first.first k less);
+      are_settled = settled_more (take at W) (min n at) y (record {
+        inside = omega (arith, size);
+        each = λ k l.
+            let less : k < at = omega (arith, l) in
+            let known : k < n = omega (arith, l) in
+            ap settled_at (slice_get-take at W k less) ∙ s.are_settled.each k known;
+      });
+    }
 
 -- The oldest leaves
 

@@ -1,7 +1,8 @@
--- The last writer of a register, by how far back it is.
-use Rattle.std.proofs.Common.{◌≡◌, ◌≢◌, ◌<◌, ◌≤◌, ◌-◌, ℕ, zero, suc, ◌+◌, true, cond, List, take, Option, Some, None, refl, sym, ap, ◌∙◌, arith, eq-eqb, ne_eqb}
+-- The last writer of a register, by its place.
+use Rattle.std.proofs.Common.{◌≡◌, ◌≢◌, ◌<◌, ◌≤◌, ◌-◌, ℕ, zero, suc, ◌+◌, true, cond, List, length, take, Option, Some, None, refl, sym, ap, ◌∙◌, arith, eq-eqb, ne_eqb}
 use Rattle.std.specs.Prelude.{slice_get, slice_index}
 use Rattle.std.proofs.lemmas.Bool.{le-leb}
+use Rattle.circular_buffer.proofs.Places.{slice_get-some}
 use Rattle.inorder.specs.Unit.{can_be_written}
 use Rattle.unit.specs.declared.station.Station.{Station}
 use Rattle.unit.specs.Creators.{IsCreator, written_by}
@@ -49,32 +50,34 @@ unwritten_to r v W j i le none =
     let same : j + (i - j) ≡ i = omega (arith, le) in
     ap (λ k. register_in r v (take k W)) (sym same) ∙ unwritten r v W j (i - j) (λ k from less. let more : k < i = omega (arith, less, same) in none k from more)
 
--- its creator has left the window
-pub source_ahead : (registers : List ℕ) (W : List Station) (i r back : ℕ) → r ≢ 0 → r < 34 → IsCreator W i r back → i < back → Some (slice_index registers r) ≡ source_in registers (take i W) r
-source_ahead registers W i r back n l h far =
+-- nobody before it writes the register
+source_ahead : (registers : List ℕ) (W : List Station) (i r : ℕ) → r ≢ 0 → r < 34 → ((k : ℕ) → k < i → written_by (slice_get W k) ≢ Some r) → Some (slice_index registers r) ≡ source_in registers (take i W) r
+source_ahead registers W i r n l none =
     sym
     (source_by registers (take i W) r n l
-    ∙ unwritten_to r (Some (slice_index registers r)) W 0 i (omega arith) (λ k from less e. let q = h.youngest k less e in absurd (omega (arith, q, far))))
+    ∙ unwritten_to r (Some (slice_index registers r)) W 0 i (omega arith) (λ k from less. none k less))
+
+-- the place of its creator is not before it
+pub source_far : (registers : List ℕ) (W : List Station) (i r at : ℕ) → r ≢ 0 → r < 34 → IsCreator W i r at → i ≤ at → Some (slice_index registers r) ≡ source_in registers (take i W) r
+source_far registers W i r at n l h far = source_ahead registers W i r n l (λ k less e. let q = h k less e in absurd (omega (arith, q.older, far)))
+
+-- another tenant stands at the place of its creator
+pub source_other : (registers : List ℕ) (W : List Station) (i r at : ℕ) (w : Station) → r ≢ 0 → r < 34 → IsCreator W i r at → slice_get W at ≡ Some w → w.destination ≢ r → Some (slice_index registers r) ≡ source_in registers (take i W) r
+source_other registers W i r at w n l h e apart = source_ahead registers W i r n l (λ k less f. let q = h k less f in apart (cc (q.writes, ap written_by e)))
 
 -- its creator is in the window
-pub source_live : (registers : List ℕ) (W : List Station) (i r back : ℕ) (w : Station) → r ≢ 0 → r < 34 → IsCreator W i r back → back ≤ i → slice_get W (i - back) ≡ Some w → w.made ≡ source_in registers (take i W) r
-source_live registers W i r back w n l h le e =
-    let j : i - back + 1 ≤ i = omega (arith, h.older, le) in
-    let one : i - back + 1 - 1 ≡ i - back = omega arith in
-    let d : w.destination ≡ r = cc (h.writes le, ap written_by e) in
-    source_found registers W i (i - back + 1) r w n l (omega arith)
-    (unwritten_to r (Some (slice_index registers r)) W (i - back + 1) i j (λ k from less f. let q = h.youngest k less f in absurd (omega (arith, q, from, le))))
+pub source_live : (registers : List ℕ) (W : List Station) (i r at : ℕ) (w : Station) → r ≢ 0 → r < 34 → IsCreator W i r at → at < i → slice_get W at ≡ Some w → w.destination ≡ r → w.made ≡ source_in registers (take i W) r
+source_live registers W i r at w n l h less e d =
+    let j : at + 1 ≤ i = omega (arith, less) in
+    let one : at + 1 - 1 ≡ at = omega arith in
+    source_found registers W i (at + 1) r w n l (omega arith)
+    (unwritten_to r (Some (slice_index registers r)) W (at + 1) i j (λ k from below f. let q = h k below f in absurd (omega (arith, q.youngest, from))))
     (ap (slice_get W) one ∙ e) d
 
 -- before the oldest there is nobody
-pub creator_none : (W : List Station) (r : ℕ) → IsCreator W 0 r 1
-creator_none W r =
-    record {
-      older = omega arith;
-      writes = λ le. absurd (omega (arith, le));
-      youngest = λ k less e. absurd (omega (arith, less));
-    }
+pub creator_none : (W : List Station) (r at : ℕ) → IsCreator W 0 r at
+creator_none W r at k less e = absurd (omega (arith, less))
 
--- the creator is a tenant of the window
-pub creator_there : (W : List Station) (i r back : ℕ) → IsCreator W i r back → back ≤ i → slice_get W (i - back) ≢ None
-creator_there W i r back h le e = absurd (cc (h.writes le, ap written_by e))
+-- a place before one that is there is there
+pub place_there : (W : List Station) (i at : ℕ) → i ≤ length W → at < i → slice_get W at ≢ None
+place_there W i at le less e = let p = slice_get-some W at (omega (arith, le, less)) in absurd (cc (p.1, e))

@@ -1,20 +1,27 @@
 -- Who makes what a tenant reads, as the window remembers it from each let.
-use Rattle.std.specs.Prelude.{◌≡◌, ◌<◌, ◌≤◌, ℕ, ◌+◌, ◌-◌, ◌%◌, List, length, Option, Some, None, slice_get, slice_index}
+use Rattle.std.specs.Prelude.{◌≡◌, ◌<◌, ◌≤◌, ℕ, List, length, Option, Some, None, slice_get, slice_index}
 use Rattle.isa.specs.Instruction.{first_of, second_of}
 use Rattle.unit.specs.declared.creators.Creators.{Creators}
 use Rattle.unit.specs.declared.station.Station.{Station}
+use Rattle.unit.specs.Slots.{place_of, ring_of}
+use Rattle.unit.specs.Unready.{AreUnready}
 
 -- The register that a station writes, if there is a station
 abbrev pub written_by : Option Station → Option ℕ
 written_by None = None
 written_by (Some w) = Some w.destination
 
--- The tenant that is so many before the one at i is the youngest older writer of register r; where
--- that is outside of the window, no older one writes it
-pub record IsCreator (ws : List Station) (i r back : ℕ) : Type 0 where
-  pub older : 0 < back
-  pub writes : back ≤ i → written_by (slice_get ws (i - back)) ≡ Some r
-  pub youngest : (k : ℕ) → k < i → written_by (slice_get ws k) ≡ Some r → k + back ≤ i
+-- The tenant at a place is one of the first i, writes register r, and is not older than the one at k
+pub record IsYoungest (ws : List Station) (i r at k : ℕ) : Type 0 where
+  pub older : at < i
+  pub writes : written_by (slice_get ws at) ≡ Some r
+  pub youngest : k ≤ at
+
+-- If any of the first i tenants writes register r, then the one at this place is the youngest that
+-- does
+abbrev pub IsCreator : List Station → ℕ → ℕ → ℕ → Type 0
+IsCreator ws i r at =
+    (k : ℕ) → k < i → written_by (slice_get ws k) ≡ Some r → IsYoungest ws i r at k
 
 -- The creators of both sources, and who wrote its register before it
 pub record HasCreators (ws : List Station) (i : ℕ) (w : Station) (c : Creators) : Type 0 where
@@ -26,25 +33,33 @@ pub record HasCreators (ws : List Station) (i : ℕ) (w : Station) (c : Creators
 abbrev pub CreatorsAt : List Station → ℕ → Creators → Type 0
 CreatorsAt ws i c = (w : Station) → slice_get ws i ≡ Some w → HasCreators ws i w c
 
--- Whoever writes register r, the tenant at a place is the youngest that does
-abbrev pub IsNewest : List Station → ℕ → ℕ → Type 0
-IsNewest ws r at =
-    (k : ℕ) → written_by (slice_get ws k) ≡ Some r →
-    (k ≤ at) × (written_by (slice_get ws at) ≡ Some r)
+-- The places of creators of which the slots are kept
+abbrev pub places_of : Creators → ℕ → Creators
+places_of c start =
+    record {
+      first = place_of c.first start;
+      second = place_of c.second start;
+      replaced = place_of c.replaced start;
+    }
 
--- The place of a number, from that of the oldest tenant on
-abbrev pub place_of : ℕ → ℕ → ℕ
-place_of number oldest = (number + (256 - oldest)) % 256
-
--- Each tenant has its creators, and each register its newest writer
-pub record KnowsCreators (ws : List Station) (cs : List Creators) (newest : List ℕ) (oldest : ℕ)
+-- Each tenant has its creators, and each register its newest writer, all by their slots
+pub record KnowsCreators (ws : List Station) (cs : List Creators) (newest : List ℕ) (start : ℕ)
     : Type 0 where
   pub stations : length cs ≡ length ws
-  pub most : length ws ≤ 32
   pub registers : length newest ≡ 34
-  pub small : oldest < 256
-  pub each : (i : ℕ) (c : Creators) → slice_get cs i ≡ Some c → CreatorsAt ws i c
-  pub newest_writer : (r : ℕ) → r < 34 → IsNewest ws r (place_of (slice_index newest r) oldest)
+  pub each : (i : ℕ) (c : Creators) → slice_get cs i ≡ Some c → CreatorsAt ws i (places_of c start)
+  pub newest_writer :
+      (r : ℕ) → r < 34 → IsCreator ws (length ws) r (place_of (slice_index newest r) start)
+
+-- The fields of a window
+pub record IsWindow (stations : List Station) (creators : List Creators) (newest : List ℕ)
+    (start len unready : ℕ) : Type 0 where
+  pub begins : start < 32
+  pub most : len ≤ 32
+  pub every_station : length stations ≡ 32
+  pub every_creator : length creators ≡ 32
+  pub known : KnowsCreators (ring_of stations start len) (ring_of creators start len) newest start
+  pub refused : AreUnready unready (ring_of stations start len)
 
 -- Another stage of the same tenant: it reads and writes the same registers
 abbrev pub IsOfSame : Station → Option Station → Type 0

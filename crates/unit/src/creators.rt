@@ -1,7 +1,7 @@
 //! Who makes what a tenant reads, as its let found it.
 
-/// How many tenants before its own the youngest writer of a register was let; more than are live
-/// where there was none.
+/// The youngest older writer of each register: its slot where the window keeps it, and its place
+/// where the window is asked. A register that no live tenant wrote has one that is no writer of it.
 #[derive(Clone, Copy)]
 pub struct Creators {
     pub first: u8,

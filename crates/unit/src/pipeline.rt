@@ -45,7 +45,7 @@ impl<'a> Pipeline<'a> {
         ensures tag { IfOk result (λ b. b.first_tag ≡ config.now.first_tag) }
         ensures fresh { IfOk result (λ b. StandsFor b empty_unit) }
     {
-        let window = Window::new(alloc)?;
+        let window = Window::new();
         let committed = Committed::new(alloc, program)?;
         Ok(Pipeline {
             program,

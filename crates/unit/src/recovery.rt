@@ -41,6 +41,7 @@ fn oldest_miss(window: &Window, from: usize) -> Option<Missed>
 
 impl<'a> Pipeline<'a> {
     /// Squashes all tenants after the oldest miss, and mends it.
+    #[tactic(auto, using(std::proofs::lemmas::List::take_more_set))]
     pub fn recovers(&mut self) -> bool
         requires room { length self.old.window ≤ 32 }
         requires noted { AreNoted self.old.missed self.old.settled self.old.window }
@@ -58,12 +59,15 @@ impl<'a> Pipeline<'a> {
         let Some(station) = self.window.at(miss.at) else {
             return false;
         };
-        self.window.cut(miss.at);
-        self.window.push(Station {
-            stage: Stage::Done,
-            next: miss.next,
-            ..station
-        });
+        self.window.put(
+            miss.at,
+            Station {
+                stage: Stage::Done,
+                next: miss.next,
+                ..station
+            },
+        );
+        self.window.cut(miss.at + 1);
         self.missed = false;
         self.settled = self.settled.min(miss.at);
         true

@@ -29,7 +29,7 @@ impl<'a> Pipeline<'a> {
     {
         if let Stage::Addr(address) = oldest.stage {
             let second = oldest.instr.second();
-            let content = source(&self.window, &self.ahead(), 0, second, 1).unwrap_or(0);
+            let content = source(&self.window, &self.ahead(), 0, second, 0).unwrap_or(0);
             let width = oldest.instr.op().width() as usize;
             self.committed.store_at(address as usize, width, content);
         }

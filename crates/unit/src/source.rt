@@ -7,18 +7,22 @@ use crate::ahead::Ahead;
 use crate::window::Window;
 use isa::Reg;
 
-/// What register `r` is worth to the tenant at `i`, if that was made; its creator, if it is live,
-/// is `back` tenants before it.
-pub fn source(window: &Window, ahead: &Ahead, i: usize, r: Reg, back: u8) -> Option<u32>
+/// What register `r` is worth to the tenant at `i`, if that was made. Its creator is the live tenant
+/// at `at`, if that is older and writes the register.
+pub fn source(window: &Window, ahead: &Ahead, i: usize, r: Reg, at: u8) -> Option<u32>
     requires there { i ≤ length window.now }
-    requires creator { IsCreator window.now i r back }
+    requires creator { IsCreator window.now i r at }
     ensures { result ≡ source_in ahead.now.registers (take i window.now) r }
 {
     if r.number() == 0 {
         return Some(0);
     }
-    if i < back as usize {
+    if i <= at as usize {
         return Some(ahead.register(r));
     }
-    window.peek(i - back as usize)?.made
+    let creator = window.peek(at as usize)?;
+    if creator.destination.number() != r.number() {
+        return Some(ahead.register(r));
+    }
+    creator.made
 }

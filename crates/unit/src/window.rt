@@ -1,65 +1,109 @@
 //! The stations of the live tenants, the oldest first, and who makes what they read.
-ghost use Rattle.std.specs.Prelude.{◌≡◌, ◌<◌, ◌≤◌, ◌-◌, [], ◌∷◌, ◌++◌, length, take, drop, slice_get, slice_set, option_copied, IfOk};
-ghost use Rattle.unit.specs.Creators.{CreatorsAt, IsCreator, IsOfSame};
+ghost use Rattle.std.specs.Prelude.{◌≡◌, ◌<◌, ◌≤◌, ◌-◌, [], ◌∷◌, ◌++◌, length, take, drop, slice_get, slice_set, option_copied, if◌then◌else◌};
+ghost use Rattle.unit.specs.Creators.{CreatorsAt, IsOfSame};
+ghost use Rattle.unit.specs.Slots.{place_of as place_in, slot_of as slot_in};
+ghost use Rattle.unit.specs.Unready.{AreUnready, is_awaited};
 
 use crate::creators::Creators;
-use crate::station::Station;
-use circular_buffer::HeapCircularBuffer;
-use isa::{Memory, Reg};
-use std::alloc::Global;
+use crate::station::{Stage, Station};
+use isa::{Half, Instr, Op, Reg};
 use std::marker::Model;
 
-// Where nobody writes a register: farther back than any tenant.
-const NOBODY: Creators = Creators {
-    first: 33,
-    second: 33,
-    replaced: 33,
-};
-
-/// At most 32 stations.
+/// At most 32 stations, in a ring of slots.
 #[derive(Drop)]
 pub struct Window {
-    stations: HeapCircularBuffer<Station>,
-    creators: HeapCircularBuffer<Creators>,
-    // by register, the number of its newest writer
+    stations: [Station; 32],
+    creators: [Creators; 32],
+    // by register, the slot of its newest writer
     newest: [u8; 34],
-    // the number of the oldest tenant: those behind it have the next ones, modulo 256
-    oldest: u8,
+    // the slot of the oldest tenant
+    start: usize,
+    len: usize,
+    // as many of the oldest cannot be claimed, whatever the registers hold
+    unready: usize,
 }
 
 impl Model for Window {
-    ghost use Rattle.std.specs.Prelude.{◌≡◌, List};
+    ghost use Rattle.std.specs.Prelude.{List};
     ghost use Rattle.unit.specs.declared.station.Station.{Station};
 
     ghost Value = { List Station };
 
-    ghost use Rattle.unit.specs.Creators.{KnowsCreators};
+    ghost use Rattle.unit.specs.Creators.{IsWindow};
+    ghost use Rattle.unit.specs.Slots.{ring_of};
 
-    ghost view = { λ w. w.stations.items };
+    ghost view = { λ w. ring_of w.stations w.start w.len };
 
-    ghost invariant = { λ w. (w.stations.capacity ≡ 32) × (w.creators.capacity ≡ 32)
-        × KnowsCreators w.stations.items w.creators.items w.newest w.oldest };
+    ghost invariant = { λ w. IsWindow w.stations w.creators w.newest w.start w.len w.unready };
+}
+
+// A slot that nobody has used.
+fn unused() -> Station {
+    Station {
+        instr: Instr::new(Op::Break, Reg::ZERO, Reg::ZERO, Reg::ZERO, 0),
+        half: Half::Low,
+        destination: Reg::ZERO,
+        pc: 0,
+        predicted: 0,
+        next: 0,
+        made: None,
+        stage: Stage::Open,
+    }
+}
+
+// The slot of the tenant at `i`.
+fn slot_of(start: usize, i: usize) -> usize
+    requires start { start < 32 }
+    requires near { i ≤ 32 }
+    ensures value { result ≡ slot_in start i }
+    ensures small { result < 32 }
+{
+    (start + i) % 32
+}
+
+// The place of the tenant in a slot.
+fn place_of(slot: u8, start: usize) -> u8
+    requires { start < 32 }
+    ensures value { result ≡ place_in slot start }
+    ensures small { result < 32 }
+{
+    ((slot as usize + (32 - start)) % 32) as u8
+}
+
+// As many cannot be claimed where this one, the oldest, has left.
+fn unready_behind(oldest: &Station, unready: usize) -> usize
+    ensures { result ≡ (if is_awaited oldest.now then 0 else unready - 1) }
+{
+    if oldest.made.is_none() && 0 < oldest.destination.number() {
+        0
+    } else {
+        unready.saturating_sub(1)
+    }
 }
 
 impl Window {
-    pub fn new(alloc: Global) -> Result<Window, Memory>
-        ensures { IfOk result (λ w. w ≡ []) }
+    pub fn new() -> Window
+        ensures { result ≡ [] }
     {
-        let stations = HeapCircularBuffer::with_capacity(alloc, 32)?;
-        let creators = HeapCircularBuffer::with_capacity(alloc, 32)?;
-        Ok(Window {
-            stations,
-            creators,
+        Window {
+            stations: [unused(); 32],
+            creators: [Creators {
+                first: 0,
+                second: 0,
+                replaced: 0,
+            }; 32],
             newest: [0; 34],
-            oldest: 0,
-        })
+            start: 0,
+            len: 0,
+            unready: 0,
+        }
     }
 
     pub fn len(&self) -> usize
         ensures value { result ≡ length self.now }
         ensures most { result ≤ 32 }
     {
-        self.stations.len()
+        self.len
     }
 
     pub fn at(&self, i: usize) -> Option<Station>
@@ -71,14 +115,40 @@ impl Window {
     pub fn peek(&self, i: usize) -> Option<&Station>
         ensures { option_copied result ≡ slice_get self.now i }
     {
-        self.stations.get(i)
+        if self.len <= i {
+            return None;
+        }
+        let slot = slot_of(self.start, i);
+        Some(&self.stations[slot])
     }
 
-    /// The creators of the tenant at `i`.
+    /// The creators of the tenant at `i`, by their places.
     pub fn creators(&self, i: usize) -> Creators
+        requires { i < length self.now }
         ensures { CreatorsAt self.now i result }
     {
-        self.creators.get(i).copied().unwrap_or(NOBODY)
+        let slot = slot_of(self.start, i);
+        let creators = self.creators[slot];
+        Creators {
+            first: place_of(creators.first, self.start),
+            second: place_of(creators.second, self.start),
+            replaced: place_of(creators.replaced, self.start),
+        }
+    }
+
+    /// As many of the oldest cannot be claimed.
+    pub fn unready(&self) -> usize
+        ensures { AreUnready result self.now }
+    {
+        self.unready
+    }
+
+    /// Remembers that so many of the oldest cannot be claimed.
+    pub fn refuse(&mut self, count: usize)
+        requires { AreUnready count self.old }
+        ensures { self.new ≡ self.old }
+    {
+        self.unready = count;
     }
 
     /// Another stage of the tenant at `i`.
@@ -87,59 +157,50 @@ impl Window {
         requires same { IsOfSame station (slice_get self.old i) }
         ensures { self.new ≡ slice_set self.old i station }
     {
-        if let Some(place) = self.stations.get_mut(i) {
-            *place = station;
-        }
-    }
-
-    // How many tenants before the next one the newest writer of a register was let.
-    fn back_to(&self, r: Reg) -> u8
-        ensures { IsCreator self.now (length self.now) r result }
-    {
-        let len = self.stations.len() as u8;
-        let at = self.newest[r.number() as usize].wrapping_sub(self.oldest);
-        match self.stations.get(at as usize) {
-            Some(writer) if writer.destination.number() == r.number() => len - at,
-            _ => len + 1,
-        }
+        let slot = slot_of(self.start, i);
+        let unready = self.unready.min(i);
+        self.stations[slot] = station;
+        self.unready = unready;
     }
 
     pub fn push(&mut self, station: Station)
         requires { length self.old < 32 }
         ensures { self.new ≡ self.old ++ station ∷ [] }
     {
-        let creators = Creators {
-            first: self.back_to(station.instr.first()),
-            second: self.back_to(station.instr.second()),
-            replaced: self.back_to(station.destination),
+        let slot = slot_of(self.start, self.len);
+        let r = station.destination.number() as usize;
+        self.creators[slot] = Creators {
+            first: self.newest[station.instr.first().number() as usize],
+            second: self.newest[station.instr.second().number() as usize],
+            replaced: self.newest[r],
         };
-        let number = self.oldest.wrapping_add(self.stations.len() as u8);
-        let r = station.destination.number();
-        self.newest[r as usize] = number;
-        self.creators.push_back(creators);
-        self.stations.push_back(station);
+        self.newest[r] = slot as u8;
+        self.stations[slot] = station;
+        self.len += 1;
     }
 
     // Takes the youngest out: the one that it replaced is the newest writer again.
     fn pop(&mut self)
+        requires { 0 < length self.old }
         ensures { self.new ≡ take (length self.old - 1) self.old }
     {
-        let Some(station) = self.stations.pop_back() else {
+        let last = self.len - 1;
+        let Some(station) = self.peek(last) else {
             return;
         };
-        let Some(creators) = self.creators.pop_back() else {
-            return;
-        };
-        let number = self.oldest.wrapping_add(self.stations.len() as u8);
-        let r = station.destination.number();
-        self.newest[r as usize] = number.wrapping_sub(creators.replaced);
+        let r = station.destination.number() as usize;
+        let slot = slot_of(self.start, last);
+        let unready = self.unready.min(last);
+        self.newest[r] = self.creators[slot].replaced;
+        self.len = last;
+        self.unready = unready;
     }
 
     /// Keeps the oldest `len`.
     pub fn cut(&mut self, len: usize)
         ensures { self.new ≡ take len self.old }
     {
-        while len < self.stations.len() {
+        while len < self.len {
             self.pop();
         }
     }
@@ -148,8 +209,13 @@ impl Window {
     pub fn shift(&mut self)
         ensures { self.new ≡ drop 1 self.old }
     {
-        self.stations.pop_front();
-        self.creators.pop_front();
-        self.oldest = self.oldest.wrapping_add(1);
+        let Some(oldest) = self.peek(0) else {
+            return;
+        };
+        let unready = unready_behind(oldest, self.unready);
+        let next = slot_of(self.start, 1);
+        self.start = next;
+        self.len -= 1;
+        self.unready = unready;
     }
 }

@@ -1,15 +1,37 @@
-use Rattle.std.proofs.Common.{◌<◌, sym, ap, ◌∙◌, arith}
-use Rattle.unit.proofs.CreatorsKept.{known_popped}
+use Rattle.std.proofs.Common.{◌≡◌, ◌<◌, ◌-◌, suc, length, set, get_or, Some, sym, ap, ◌∙◌, subst, arith}
+use Rattle.std.specs.Prelude.{option_copied, slice_get}
+use Rattle.circular_buffer.proofs.Places.{slice_get-some}
+use Rattle.unit.specs.declared.creators.Creators.{Creators}
+use Rattle.unit.specs.Creators.{IsWindow}
+use Rattle.unit.proofs.Slots.{ring_get, ring_length}
+use Rattle.unit.proofs.WindowKept.{slot_gives, window_popped}
 use Rattle.unit.proofs.window.Window.pop.Goals as goal
 
-pub invariant_of-self-2 : goal.invariant_of-self-2
-invariant_of-self-2 c =
+pub returns-in_default : goal.returns-in_default
+returns-in_default c =
     let s = c.self.inside in
-    let w = c.in-Some.station in
-    let small : w.destination < 34 = omega (arith, c.number-r.ensures.value, c.number-r.ensures.small) in (
-      ap (λ b. b.capacity) c.pop_back.ensures.items ∙ c.self.invariant.0,
-      ap (λ b. b.capacity) c.pop_back-2.ensures.items ∙ c.self.invariant.1,
-      known_popped s.stations.items s.creators.items s.newest s.oldest w c.in-Some-pop_back.creators c.number-r.result c.len.result c.pop_back.new.self.items c.pop_back-2.new.self.items
-          c.self.invariant.2 (sym c.pop_back.ensures.value ∙ c.in-Some.is) (sym c.pop_back-2.ensures.value ∙ c.in-Some-pop_back.is) small
-          (ap (λ b. b.items) c.pop_back.ensures.items) (ap (λ b. b.items) c.pop_back-2.ensures.items) c.len.ensures.len c.number-r.ensures.value,
-    )
+    let h = c.self.invariant in
+    let long = ring_length s.stations s.start s.len h.every_station h.begins h.most in
+    let inside : s.len - 1 < length c.args.self.now = omega (arith, c.requires, ap length c.self.view_is, long) in
+    let there = slice_get-some c.args.self.now (s.len - 1) inside in
+    absurd (cc (there.1, c.peek.ensures, ap option_copied c.in_default.is))
+
+pub invariant_of-self : goal.invariant_of-self
+invariant_of-self c =
+    let s = c.self.inside in
+    let h = c.self.invariant in
+    let w = c.in-Some.station.now in
+    let none : Creators = record { first = 0; second = 0; replaced = 0 } in
+    let made = get_or s.creators c.slot_of-slot.result none in
+    let long = ring_length s.stations s.start s.len h.every_station h.begins h.most in
+    let one : s.len ≡ suc (s.len - 1) = omega (arith, c.requires, ap length c.self.view_is, long) in
+    let less : s.len - 1 < s.len = omega (arith, one) in
+    let is : slice_get c.args.self.now (s.len - 1) ≡ Some w = sym c.peek.ensures ∙ ap option_copied c.in-Some.is in
+    let here = sym (ring_get s.stations s.start s.len (s.len - 1) h.every_station h.begins h.most less) ∙ ap (λ l. slice_get l (s.len - 1)) c.self.view_is ∙ is in
+    let b : c.slot_of-slot.result < length s.creators = omega (arith, c.slot_of-slot.ensures.small, h.every_creator) in
+    let small : w.destination < 34 = omega (arith, c.number-r.ensures.value, c.number-r.ensures.small) in
+    subst (λ r. IsWindow s.stations s.creators (set s.newest r made.replaced) s.start (s.len - 1) c.min-unready.result) (sym c.number-r.ensures.value)
+    (subst (IsWindow s.stations s.creators (set s.newest w.destination made.replaced) s.start (s.len - 1)) (sym c.min-unready.ensures)
+    (window_popped s.stations s.creators s.newest s.start s.len s.unready (s.len - 1) w made h one here
+    (ap (slice_get s.creators) (sym c.slot_of-slot.ensures.value) ∙ slot_gives s.creators c.slot_of-slot.result none b)
+    small))

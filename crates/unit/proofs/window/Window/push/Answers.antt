@@ -1,29 +1,34 @@
-use Rattle.std.proofs.Common.{◌<◌, length, sym, ap, ◌∙◌, subst, arith}
+use Rattle.std.proofs.Common.{◌≡◌, ◌<◌, ◌+◌, ◌++◌, ◌∷◌, [], length, set, sym, ap, ◌∙◌, subst, arith}
+use Rattle.std.specs.Prelude.{slice_index}
+use Rattle.isa.specs.Instruction.{first_of, second_of}
 use Rattle.unit.specs.declared.creators.Creators.{Creators}
-use Rattle.unit.specs.Creators.{HasCreators, IsCreator}
-use Rattle.unit.proofs.CreatorsKept.{kept, known_pushed}
+use Rattle.unit.specs.Creators.{IsWindow}
+use Rattle.unit.specs.Slots.{ring_of, slot_of}
+use Rattle.unit.proofs.Slots.{ring_length, ring_push}
+use Rattle.unit.proofs.WindowKept.{window_let}
 use Rattle.unit.proofs.window.Window.push.Goals as goal
 
 pub invariant_of-self : goal.invariant_of-self
 invariant_of-self c =
     let s = c.self.inside in
-    let W = s.stations.items in
+    let h = c.self.invariant in
     let w = c.args.station in
-    let made : Creators = record { first = c.back_to.result; second = c.back_to-2.result; replaced = c.back_to-3.result } in
-    let room : length W < 32 = subst (λ l. length l < 32) (sym c.self.view_is) c.requires in
-    let others : length s.creators.items < 32 = omega (arith, c.self.invariant.2.stations, room) in
-    let small : w.destination < 34 = omega (arith, c.number-r.ensures.value, c.number-r.ensures.small) in
-    let has : HasCreators c.args.self.now (length c.args.self.now) w made =
-    record {
-      first = subst (λ r. IsCreator c.args.self.now (length c.args.self.now) r c.back_to.result) c.first.ensures c.back_to.ensures;
-      second = subst (λ r. IsCreator c.args.self.now (length c.args.self.now) r c.back_to-2.result) c.second.ensures c.back_to-2.ensures;
-      replaced = c.back_to-3.ensures;
-    } in (
-      ap (λ b. b.capacity) c.push_back-2.ensures.items ∙ c.self.invariant.0,
-      ap (λ b. b.capacity) c.push_back.ensures.items ∙ c.self.invariant.1,
-      known_pushed W s.creators.items s.newest s.oldest w made c.number-r.result c.len.result c.push_back-2.new.self.items c.push_back.new.self.items c.self.invariant.2 room small
-          (subst (λ l. HasCreators l (length l) w made) (sym c.self.view_is) has)
-          (ap (λ b. b.items) c.push_back-2.ensures.items ∙ kept s.stations.capacity W w c.self.invariant.0 room)
-          (ap (λ b. b.items) c.push_back.ensures.items ∙ kept s.creators.capacity s.creators.items made c.self.invariant.1 others)
-          c.len.ensures.len c.number-r.ensures.value,
-    )
+    let made : Creators = record { first = slice_index s.newest c.number.result; second = slice_index s.newest c.number-2.result; replaced = slice_index s.newest c.number-r.result } in
+    let long = ring_length s.stations s.start s.len h.every_station h.begins h.most in
+    let room : s.len < 32 = omega (arith, c.requires, ap length c.self.view_is, long) in
+    let first : c.number.result ≡ first_of w.instr = c.number.ensures.value ∙ c.first.ensures in
+    let second : c.number-2.result ≡ second_of w.instr = c.number-2.ensures.value ∙ c.second.ensures in
+    let all = window_let s.stations s.creators s.newest s.start s.len s.unready w made h room (omega (arith, first, c.number.ensures.small)) (omega (arith, second, c.number-2.ensures.small)) (omega (arith, c.number-r.ensures.value, c.number-r.ensures.small)) (ap (slice_index s.newest) first) (ap (slice_index s.newest) second) (ap (slice_index s.newest) c.number-r.ensures.value) in
+    subst (λ k. IsWindow (set s.stations k w) (set s.creators k made) (set s.newest c.number-r.result k) s.start (s.len + 1) s.unready) (sym c.slot_of-slot.ensures.value)
+    (subst (λ r. IsWindow (set s.stations (slot_of s.start s.len) w) (set s.creators (slot_of s.start s.len) made) (set s.newest r (slot_of s.start s.len)) s.start (s.len + 1) s.unready) (sym c.number-r.ensures.value) all)
+
+pub returns : goal.returns
+returns c =
+    let s = c.self.inside in
+    let h = c.self.invariant in
+    let w = c.args.station in
+    let long = ring_length s.stations s.start s.len h.every_station h.begins h.most in
+    let room : s.len < 32 = omega (arith, c.requires, ap length c.self.view_is, long) in
+    ap (λ k. ring_of (set s.stations k w) s.start (s.len + 1)) c.slot_of-slot.ensures.value
+    ∙ ring_push s.stations s.start s.len w h.every_station h.begins room
+    ∙ ap (λ l. l ++ w ∷ []) c.self.view_is

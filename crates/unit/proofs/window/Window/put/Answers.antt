@@ -1,30 +1,28 @@
-use Rattle.std.proofs.Common.{◌<◌, length, set, sym, ap, ◌∙◌, subst}
+use Rattle.std.proofs.Common.{◌<◌, length, set, sym, ap, ◌∙◌, subst, arith}
 use Rattle.std.specs.Prelude.{slice_get}
-use Rattle.std.specs.Option.{option_copied_mut}
-use Rattle.circular_buffer.proofs.Places.{slice_get-some}
-use Rattle.unit.specs.Creators.{IsOfSame}
-use Rattle.unit.specs.contracts.window.Window.{the_invariant, the_view}
-use Rattle.unit.proofs.CreatorsKept.{known_put}
+use Rattle.unit.specs.Creators.{IsOfSame, IsWindow}
+use Rattle.unit.specs.Slots.{ring_of, slot_of}
+use Rattle.unit.proofs.Slots.{ring_length, ring_set}
+use Rattle.unit.proofs.WindowKept.{window_put}
 use Rattle.unit.proofs.window.Window.put.Goals as goal
-use Rattle.unit.proofs.window.Window.put.Goals.{in-Some, in_default}
 
 pub invariant_of-self : goal.invariant_of-self
 invariant_of-self c =
     let s = c.self.inside in
+    let h = c.self.invariant in
+    let long = ring_length s.stations s.start s.len h.every_station h.begins h.most in
+    let inside : c.args.i < s.len = omega (arith, c.requires.there, ap length c.self.view_is, long) in
     let same = subst (λ l. IsOfSame c.args.station (slice_get l c.args.i)) (sym c.self.view_is) c.requires.same in
-    elim c.match-get_mut.branch [
-      | in-Some w ↦
-          subst the_invariant (sym w.self-inside-is)
-          (c.self.invariant.0, c.self.invariant.1, known_put s.stations.items s.creators.items s.newest s.oldest c.args.i c.args.station c.self.invariant.2 same)
-      | in_default w ↦ subst the_invariant (sym w.self-inside-is) c.self.invariant
-    ]
+    subst (λ k. IsWindow (set s.stations k c.args.station) s.creators s.newest s.start s.len c.min-unready.result) (sym c.slot_of-slot.ensures.value)
+    (subst (IsWindow (set s.stations (slot_of s.start c.args.i) c.args.station) s.creators s.newest s.start s.len) (sym c.min-unready.ensures)
+    (window_put s.stations s.creators s.newest s.start s.len s.unready c.args.i c.args.station h inside same))
 
 pub returns : goal.returns
 returns c =
-    let items = c.self.inside.stations.items in
-    elim c.match-get_mut.branch [
-      | in-Some w ↦ ap the_view w.self-inside-is ∙ ap (λ l. set l c.args.i c.args.station) c.self.view_is
-      | in_default w ↦
-          let there = slice_get-some items c.args.i (subst (λ l. c.args.i < length l) (sym c.self.view_is) c.requires.there) in
-          absurd (cc (there.1, c.get_mut.follows, ap option_copied_mut w.in_default.is))
-    ]
+    let s = c.self.inside in
+    let h = c.self.invariant in
+    let long = ring_length s.stations s.start s.len h.every_station h.begins h.most in
+    let inside : c.args.i < s.len = omega (arith, c.requires.there, ap length c.self.view_is, long) in
+    ap (λ k. ring_of (set s.stations k c.args.station) s.start s.len) c.slot_of-slot.ensures.value
+    ∙ ring_set s.stations s.start s.len c.args.i c.args.station h.every_station h.begins h.most inside
+    ∙ ap (λ l. set l c.args.i c.args.station) c.self.view_is

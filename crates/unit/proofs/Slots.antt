@@ -1,0 +1,113 @@
+-- A ring of slots as a list.
+use Rattle.std.proofs.Common.{◌≡◌, ◌≢◌, ◌<◌, ◌≤◌, ◌-◌, ℕ, suc, ◌+◌, List, [], ◌∷◌, ◌++◌, length, take, drop, set, refl, sym, ap, ◌∙◌, ⊎_elim, arith, length-append, length-drop, length-set, length-take-le}
+use Rattle.std.specs.Prelude.{slice_get}
+use Rattle.std.proofs.lemmas.Bool.{cases_eq, cases_lt}
+use Rattle.std.proofs.lemmas.List.{take-take}
+use Rattle.circular_buffer.proofs.Places.{slice_get-append_left, slice_get-append_right, slice_get-drop, slice_get-last, slice_get-push, slice_get-set_other, slice_get-set_same, slice_get-take}
+use Rattle.unit.specs.Slots.{place_of, ring_of, slot_of}
+
+-- Numbers
+
+pub slot_small : (s i : ℕ) → slot_of s i < 32
+slot_small s i = omega arith
+
+pub slots_apart : (s i j : ℕ) → s < 32 → i < 32 → j < 32 → i ≢ j → slot_of s i ≢ slot_of s j
+slots_apart s i j ls li lj ne e = ne (omega (arith, ls, li, lj, e))
+
+next_slot : (s i : ℕ) → slot_of (slot_of s 1) i ≡ slot_of s (1 + i)
+next_slot s i = omega arith
+
+-- the place of the slot of a place
+pub place_slot : (s i : ℕ) → s < 32 → i < 32 → place_of (slot_of s i) s ≡ i
+place_slot s i ls li = omega (arith, ls, li)
+
+-- a place that is not the oldest comes one nearer
+pub place_next : (n s : ℕ) → s < 32 → 0 < place_of n s → place_of n s ≡ suc (place_of n (slot_of s 1))
+place_next n s l h = ⊎_elim (λ less. omega (arith, less, h)) (λ last. omega (arith, last, l, h)) (cases_lt s 31)
+
+module _ {X : Type 0} where
+  -- lists that give the same
+  pub same_gets : (xs ys : List X) → length xs ≡ length ys → ((i : ℕ) → i < length xs → slice_get xs i ≡ slice_get ys i) → xs ≡ ys
+  same_gets [] [] e h = refl
+  same_gets [] (y ∷ ys) e h = absurd (omega (arith, e))
+  same_gets (x ∷ xs) [] e h = absurd (omega (arith, e))
+  same_gets (x ∷ xs) (y ∷ ys) e h =
+      let first : 0 < length (x ∷ xs) = omega arith in
+      let same : x ≡ y = cc (h 0 first) in
+      let rest : xs ≡ ys = same_gets xs ys (omega (arith, e)) (λ i l. let more : suc i < length (x ∷ xs) = omega (arith, l) in h (suc i) more) in
+      ap (λ z. z ∷ xs) same ∙ ap (λ l. y ∷ l) rest
+
+  -- the slots, twice
+  twice : (xs : List X) (s i : ℕ) → length xs ≡ 32 → s < 32 → i < 32 → slice_get (xs ++ xs) (s + i) ≡ slice_get xs (slot_of s i)
+  twice xs s i n ls li =
+      ⊎_elim
+      (λ (low : s + i < 32).
+      let same : s + i ≡ slot_of s i = omega (arith, low) in
+      slice_get-append_left xs xs (s + i) (omega (arith, low, n)) ∙ ap (slice_get xs) same)
+      (λ high. slice_get-append_right xs xs (s + i) (slot_of s i) (omega (arith, high, n, ls, li)))
+      (cases_lt (s + i) 32)
+
+  pub ring_length : (xs : List X) (s n : ℕ) → length xs ≡ 32 → s < 32 → n ≤ 32 → length (ring_of xs s n) ≡ n
+  ring_length xs s n e ls ln = length-take-le n (drop s (xs ++ xs)) (omega (arith, length-drop s (xs ++ xs), length-append xs xs, e, ls, ln))
+
+  pub ring_get : (xs : List X) (s n i : ℕ) → length xs ≡ 32 → s < 32 → n ≤ 32 → i < n → slice_get (ring_of xs s n) i ≡ slice_get xs (slot_of s i)
+  ring_get xs s n i e ls ln li =
+      slice_get-take n (drop s (xs ++ xs)) i li ∙ slice_get-drop s (xs ++ xs) i (s + i) refl ∙ twice xs s i e ls (omega (arith, li, ln))
+
+  -- an item changes
+  pub ring_set : (xs : List X) (s n i : ℕ) (x : X) → length xs ≡ 32 → s < 32 → n ≤ 32 → i < n → ring_of (set xs (slot_of s i) x) s n ≡ set (ring_of xs s n) i x
+  ring_set xs s n i x e ls ln li =
+      let ys = set xs (slot_of s i) x in
+      let long : length ys ≡ 32 = length-set xs (slot_of s i) x ∙ e in
+      let inside : slot_of s i < length xs = omega (arith, slot_small s i, e) in
+      let here : i < length (ring_of xs s n) = omega (arith, ring_length xs s n e ls ln, li) in
+      same_gets (ring_of ys s n) (set (ring_of xs s n) i x)
+      (ring_length ys s n long ls ln ∙ sym (length-set (ring_of xs s n) i x ∙ ring_length xs s n e ls ln))
+      (λ j l.
+      let lj : j < n = omega (arith, l, ring_length ys s n long ls ln) in
+      ring_get ys s n j long ls ln lj
+      ∙ ⊎_elim
+      (λ (same : j ≡ i). ap (λ k. slice_get ys (slot_of s k)) same ∙ slice_get-set_same xs (slot_of s i) x inside ∙ sym (ap (slice_get (set (ring_of xs s n) i x)) same ∙ slice_get-set_same (ring_of xs s n) i x here))
+      (λ other. slice_get-set_other xs (slot_of s i) (slot_of s j) x (slots_apart s j i ls (omega (arith, lj, ln)) (omega (arith, li, ln)) other) ∙ sym (slice_get-set_other (ring_of xs s n) i j x other ∙ ring_get xs s n j e ls ln lj))
+      (cases_eq j i))
+
+  -- an item joins
+  pub ring_push : (xs : List X) (s n : ℕ) (x : X) → length xs ≡ 32 → s < 32 → n < 32 → ring_of (set xs (slot_of s n) x) s (n + 1) ≡ ring_of xs s n ++ x ∷ []
+  ring_push xs s n x e ls ln =
+      let ys = set xs (slot_of s n) x in
+      let long : length ys ≡ 32 = length-set xs (slot_of s n) x ∙ e in
+      let inside : slot_of s n < length xs = omega (arith, slot_small s n, e) in
+      let more : n + 1 ≤ 32 = omega (arith, ln) in
+      let le : n ≤ 32 = omega (arith, ln) in
+      let size : length (ring_of xs s n) ≡ n = ring_length xs s n e ls le in
+      same_gets (ring_of ys s (n + 1)) (ring_of xs s n ++ x ∷ [])
+      (omega (arith, ring_length ys s (n + 1) long ls more, length-append (ring_of xs s n) (x ∷ []), size))
+      (λ j l.
+      let lj : j < n + 1 = omega (arith, l, ring_length ys s (n + 1) long ls more) in
+      ring_get ys s (n + 1) j long ls more lj
+      ∙ ⊎_elim
+      (λ (same : j ≡ n). ap (λ k. slice_get ys (slot_of s k)) same ∙ slice_get-set_same xs (slot_of s n) x inside ∙ sym (slice_get-last (ring_of xs s n) x j (same ∙ sym size)))
+      (λ other.
+      let less : j < n = omega (arith, lj, other) in
+      slice_get-set_other xs (slot_of s n) (slot_of s j) x (slots_apart s j n ls (omega (arith, lj, ln)) (omega (arith, ln)) other)
+      ∙ sym (slice_get-push (ring_of xs s n) x j (λ q. other (q ∙ size)) ∙ ring_get xs s n j e ls le less))
+      (cases_eq j n))
+
+  -- the youngest leave
+  pub ring_cut : (xs : List X) (s m n : ℕ) → m ≤ n → ring_of xs s m ≡ take m (ring_of xs s n)
+  ring_cut xs s m n le = sym (take-take m n (drop s (xs ++ xs)) le)
+
+  -- the oldest leaves
+  pub ring_shift : (xs : List X) (s n : ℕ) → length xs ≡ 32 → s < 32 → n ≤ 32 → 0 < n → ring_of xs (slot_of s 1) (n - 1) ≡ drop 1 (ring_of xs s n)
+  ring_shift xs s n e ls ln some =
+      let next : slot_of s 1 < 32 = slot_small s 1 in
+      let less : n - 1 ≤ 32 = omega (arith, ln) in
+      let size : length (ring_of xs (slot_of s 1) (n - 1)) ≡ n - 1 = ring_length xs (slot_of s 1) (n - 1) e next less in
+      same_gets (ring_of xs (slot_of s 1) (n - 1)) (drop 1 (ring_of xs s n))
+      (omega (arith, size, length-drop 1 (ring_of xs s n), ring_length xs s n e ls ln))
+      (λ j l.
+      let lj : j < n - 1 = omega (arith, l, size) in
+      let more : 1 + j < n = omega (arith, lj) in
+      ring_get xs (slot_of s 1) (n - 1) j e next less lj
+      ∙ ap (slice_get xs) (next_slot s j)
+      ∙ sym (slice_get-drop 1 (ring_of xs s n) j (1 + j) refl ∙ ring_get xs s n (1 + j) e ls ln more))

@@ -1,0 +1,14 @@
+-- Items in a ring of slots, the oldest first.
+use Rattle.std.specs.Prelude.{ℕ, ◌+◌, ◌-◌, ◌%◌, List, ◌++◌, take, drop}
+
+-- So many items from a slot on, around the end
+abbrev pub ring_of : {X : Type 0} → List X → ℕ → ℕ → List X
+ring_of slots start len = take len (drop start (slots ++ slots))
+
+-- The slot of the item at i, from that of the oldest on
+abbrev pub slot_of : ℕ → ℕ → ℕ
+slot_of start i = (start + i) % 32
+
+-- The place of the item of a slot
+abbrev pub place_of : ℕ → ℕ → ℕ
+place_of slot start = (slot + (32 - start)) % 32
