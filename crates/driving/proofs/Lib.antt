@@ -2,5 +2,13 @@ pub mod Histories
 pub mod Gathered
 pub mod Made
 pub mod Alone
+pub mod Begins
 pub mod Way
+pub mod Known
+pub mod WorkedOut
+pub mod TwoTenants
+pub mod LinkedTenants
 pub mod First
+pub mod SetUp
+pub mod FirstWorks
+pub mod Chained

@@ -7,7 +7,8 @@ use Rattle.station.specs.Quiet.{SplitsShareNumbers, UnitsAreNumbered}
 use Rattle.driving.specs.declared.seats.Seats.{Seats}
 use Rattle.driving.specs.Hands.{IsUnits}
 
-pub no_third : UnitsAreNumbered → SplitsShareNumbers → (s : Seats) → s.one.by ≡ first_unit → s.one.heirs ≡ half other_units → s.other.by ≡ other_units.first → s.other.heirs ≡ other_half other_units → (n : ℕ) → IsUnit n → IsUnits s n
+pub no_third : UnitsAreNumbered → SplitsShareNumbers → (s : Seats) → s.one.by ≡ first_unit → s.one.heirs ≡ half other_units → s.other.by ≡ other_units.first
+    → s.other.heirs ≡ other_half other_units → (n : ℕ) → IsUnit n → IsUnits s n
 no_third numbered share s one one_heirs other other_heirs n unit = ⊎_elim
     (λ e. inl (e ∙ sym one))
     (λ heir. ⊎_elim

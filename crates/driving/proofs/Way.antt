@@ -1,14 +1,12 @@
 -- The way of an instruction through the core: it is let, claimed and finished by the first unit.
-use Rattle.std.proofs.Common.{◌≡◌, ℕ, true, cond, List, [], ◌∷◌, length, Some, None, refl, sym, ap, ◌∙◌, subst, ⊎_elim, arith}
+use Rattle.std.proofs.Common.{◌≡◌, ℕ, cond, List, [], ◌∷◌, length, Some, None, sym, ap, ◌∙◌, subst, ⊎_elim, arith}
 use Rattle.std.specs.Prelude.{unwrap_or}
 use Rattle.isa.specs.Instruction.{first_of, kind, second_of}
 use Rattle.isa.specs.Operations.{outcome_of as outcome_of_half}
 use Rattle.isa.specs.Programs.{Program, instr_of}
-use Rattle.isa.specs.declared.op.Kind.{Kind}
-use Rattle.isa.specs.declared.op.Kind.TheVariants.{Computes, Jumps, Links, Loads, Stores}
 use Rattle.isa.specs.declared.stop.Outcome.{Outcome}
 use Rattle.inorder.specs.declared.history.Entry.{Entry}
-use Rattle.inorder.specs.declared.history.Source.TheVariants.{First, Second}
+use Rattle.inorder.specs.declared.history.Source.TheVariants.{Second}
 use Rattle.inorder.specs.History.{Adds, IsUnit, StartsWith, front, own, unit_of}
 use Rattle.inorder.specs.Replies.{JobFields, job_of}
 use Rattle.inorder.specs.Steps.{MaySupply}
@@ -17,9 +15,8 @@ use Rattle.inorder.specs.Unit.{Sizes, UpdateUnit, creator, front_pc, next_statio
 use Rattle.ruu_words.specs.Kinds.{IsTenant}
 use Rattle.ruu_words.specs.Rule.{IsHeir}
 use Rattle.station.specs.declared.answers.Claim.{Claim}
-use Rattle.station.specs.declared.answers.Claim.TheVariants.{Job as Claimed, Moved, NotOpen, Waiting}
+use Rattle.station.specs.declared.answers.Claim.TheVariants.{Job as Claimed}
 use Rattle.station.specs.declared.answers.Finish.{Finish}
-use Rattle.station.specs.declared.answers.Finish.TheVariants.{Finished, Stale}
 use Rattle.station.specs.declared.answers.Job.{Job}
 use Rattle.station.specs.declared.answers.Tenant.{Tenant as NewTenant}
 use Rattle.station.specs.Claiming.{ClaimAnswers, Holds, IsClaimed, fields_of}
@@ -33,25 +30,9 @@ use Rattle.station.specs.Writeback.{FinishAnswers, outcome_of}
 use Rattle.driving.specs.declared.seats.Seats.{Seats}
 use Rattle.driving.specs.Hands.{AreAll, HaveMet, KnowsUnits}
 use Rattle.driving.specs.Works.{HasCome, HasValues, IsRight}
+use Rattle.driving.proofs.Begins.{claim_begins, finish_begins, needs_first}
 use Rattle.driving.proofs.Alone.{Stand, only_units, quiet, stand_on, stand_still}
 use Rattle.driving.proofs.Histories.{at_least, same_between, starts_on, starts_same}
-
-claim_begins : (P : Program) (C : Sizes) (by : ℕ) (old new : List Entry) (s : ℕ) (answer : Claim) → ClaimAnswers P C by old new s answer → StartsWith new old
-claim_begins P C by old new s (Claimed j) a = a.adds.begins
-claim_begins P C by old new s NotOpen a = a.begins
-claim_begins P C by old new s (Waiting tag k) a = a.adds.begins
-claim_begins P C by old new s (Moved tag) a = a.adds.begins
-
-finish_begins : (P : Program) (C : Sizes) (by : ℕ) (old new : List Entry) (j : Job) (answer : Finish) → FinishAnswers P C by old new j answer → StartsWith new old
-finish_begins P C by old new j Finished a = a.adds.begins
-finish_begins P C by old new j Stale a = a.adds.begins
-
-needs_first : (k : Kind) → needs k First ≡ true
-needs_first Computes = refl
-needs_first Jumps = refl
-needs_first Links = refl
-needs_first Loads = refl
-needs_first Stores = refl
 
 -- What a job has of a tenant that was let with its values
 pub record HasItsFields (P : Program) (t : NewTenant) (values : HasValues t) (tag pc : ℕ) (j : Job) : Type 0 where
@@ -81,14 +62,17 @@ its_fields P t values tag pc u j tag_is its f =
     }
 
 -- its values are those of the creators
-pub first_value : (P : Program) (C : Sizes) (U : UpdateUnit) (t : NewTenant) (values : HasValues t) → MayLetOut P C U t → value_of U.tenants (creator P U.tenants (first_of (instr_of P t.index))) ≡ Some values.a
+pub first_value : (P : Program) (C : Sizes) (U : UpdateUnit) (t : NewTenant) (values : HasValues t) → MayLetOut P C U t
+    → value_of U.tenants (creator P U.tenants (first_of (instr_of P t.index))) ≡ Some values.a
 first_value P C U t values may = subst (λ g. MaySupply P U (next_station C (recent U)) (creator P U.tenants (first_of (instr_of P t.index))) (supply_of g)) values.first may.may.first_is
 
-pub second_value : (P : Program) (C : Sizes) (U : UpdateUnit) (t : NewTenant) (values : HasValues t) → MayLetOut P C U t → value_of U.tenants (creator P U.tenants (second_of (instr_of P t.index))) ≡ Some values.b
+pub second_value : (P : Program) (C : Sizes) (U : UpdateUnit) (t : NewTenant) (values : HasValues t) → MayLetOut P C U t
+    → value_of U.tenants (creator P U.tenants (second_of (instr_of P t.index))) ≡ Some values.b
 second_value P C U t values may = subst (λ g. MaySupply P U (next_station C (recent U)) (creator P U.tenants (second_of (instr_of P t.index))) (supply_of g)) values.second may.may.second_is
 
 -- a job that was answered has them
-pub has_its_fields : (P : Program) (t : NewTenant) (values : HasValues t) (tag pc : ℕ) (answer : Claim) (j : Job) → IsItsJob P t values tag pc answer → answer ≡ Claimed j → HasItsFields P t values tag pc j
+pub has_its_fields : (P : Program) (t : NewTenant) (values : HasValues t) (tag pc : ℕ) (answer : Claim) (j : Job) → IsItsJob P t values tag pc answer → answer ≡ Claimed j
+    → HasItsFields P t values tag pc j
 has_its_fields P t values tag pc answer j i is = subst (HasItsFields P t values tag pc) (same i.job j (sym i.is ∙ is)) i.fields
   where
     same : (a b : Job) → Claimed a ≡ Claimed b → a ≡ b
@@ -139,7 +123,8 @@ module _ (core : TheCore) where
           let told : own front m.front.seen ≡ own front f.seen = subst (λ i. own i m.front.seen ≡ own i f.seen) by met.front.adds.mine in
           let last : own front z.front.seen ≡ own front m.front.seen = subst (λ i. own i z.front.seen ≡ own i m.front.seen) all_met.front_by stand.fronts in
           let same = ap (λ l. length l) last in
-          let none : own front m.one.seen ≡ own front m.front.seen = same_between front m.front.seen m.one.seen z.front.seen met.of_front (starts_on m.one.seen o.seen z.front.seen on end.to_front) (omega arith) in
+          let none : own front m.one.seen ≡ own front m.front.seen =
+          same_between front m.front.seen m.one.seen z.front.seen met.of_front (starts_on m.one.seen o.seen z.front.seen on end.to_front) (omega arith) in
           record { begins = heard; legal = met.one.adds.legal; mine = none ∙ (told ∙ adds.mine) }
 
       -- no unit has done anything since
@@ -223,7 +208,8 @@ module _ (core : TheCore) where
         finishes in_flight stay finished jobs_stay =
             let a : StartsWith o.seen m.one.seen = claimed.adds.begins in
             let b : StartsWith n.one.seen o.seen = end.one.adds.begins in
-            let early : IsInFlight P C o.seen j = in_flight P C m.one.by m.one.seen o.seen station j (only m.one.seen o.seen (starts_same m.one.seen) a (starts_on o.seen n.one.seen w.seen b written_at)) claimed in
+            let early : IsInFlight P C o.seen j =
+            in_flight P C m.one.by m.one.seen o.seen station j (only m.one.seen o.seen (starts_same m.one.seen) a (starts_on o.seen n.one.seen w.seen b written_at)) claimed in
             let late : IsInFlight P C n.one.seen j = stay P C o.seen n.one.seen j b end.one.adds.legal (only o.seen n.one.seen a b written_at) early in
             finished P C n.one.by n.one.seen w.seen j answer (only n.one.seen w.seen (starts_on m.one.seen o.seen n.one.seen a b) written_at (starts_same w.seen)) (still_holds jobs_stay) late reply
 

@@ -21,6 +21,7 @@ pub record AreAll (core : TheCore) (s : Seats) : Type 0 where
   pub front_by : s.front.by ≡ front
   pub back_by : s.back.by ≡ back
   pub one_by : IsUnit s.one.by
+  pub other_by : IsUnit s.other.by
   pub two : s.other.by ≢ s.one.by
   pub no_third : (n : ℕ) → IsUnit n → IsUnits s n
 
@@ -63,3 +64,10 @@ pub record HaveMet (core : TheCore) (s t : Seats) : Type 0 where
   -- in all of it there is no entry of a unit that has no seat
   pub no_more_of_one : (n : ℕ) → IsHeir t.one.heirs n → own n t.one.seen ≡ []
   pub no_more_of_other : (n : ℕ) → IsHeir t.other.heirs n → own n t.other.seen ≡ []
+
+-- They have met twice: what anybody knew after the first time, each knows after the second
+pub record HaveMetTwice (core : TheCore) (s u : Seats) : Type 0 where
+  pub once : Seats
+  pub all : AreAll core once
+  pub first : HaveMet core s once
+  pub second : HaveMet core once u

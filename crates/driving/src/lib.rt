@@ -1,10 +1,14 @@
 //! How a caller from outside drives the seats of a core: an instruction is let, claimed and finished
-//! by public calls alone, and its values are proved from their clauses and from public laws alone.
+//! by public calls alone, and its values are proved from their clauses and from public laws alone. A
+//! second one waits for the first one's value, which comes to it along a link.
 #![tactic(auto)]
 
+mod chain;
 mod drive;
+mod hand;
 mod seats;
 
+pub use chain::{is_chain, second_outcome};
 pub use drive::{Worked, first_outcome, work};
 pub use seats::{Seats, gather, make};
 

@@ -18,6 +18,7 @@ returns c =
     let other_by : seats.other.by ≡ other_units.first = s.number ∙ ap (λ (h : Heirs). h.first) m.unit_heirs in
     let other_heirs : seats.other.heirs ≡ other_half other_units = s.heirs ∙ ap other_half m.unit_heirs in
     let unit : IsUnit first_unit = omega arith in
+    let next : IsUnit other_units.first = omega arith in
     record {
       program = m.program;
       sizes = m.sizes;
@@ -29,6 +30,7 @@ returns c =
         front_by = m.front_by;
         back_by = m.back_by;
         one_by = subst IsUnit (sym one_by) unit;
+        other_by = subst IsUnit (sym other_by) next;
         two = s.other;
         no_third = no_third c.numbers_are_given_once.ensures.all c.numbers_are_given_once.ensures.split seats one_by one_heirs other_by other_heirs;
       };

@@ -1,0 +1,52 @@
+use Rattle.std.proofs.Common.{◌≡◌, ◌<◌, length, sym, ap, ◌∙◌, subst}
+use Rattle.isa.specs.Operations.{outcome_of as outcome_of_half}
+use Rattle.isa.specs.Programs.{Program, instr_of}
+use Rattle.station.specs.declared.answers.Claim.TheVariants.{Job as Claimed, NotOpen}
+use Rattle.station.specs.Writeback.{outcome_of}
+use Rattle.driving.proofs.WorkedOut.{is_job, works_out}
+use Rattle.driving.proofs.chain.work_at.Goals as goal
+
+pub instr-instr-requires : goal.instr-instr-requires
+instr-instr-requires c =
+    let core = c.args.core.now in
+    let ready = c.requires.ready in
+    let claimed = c.in-Job.ensures.done ready.all ready.done in
+    let inside = c.a_job_is_of_the_program.ensures core.program core.sizes c.args.seats.now.one.by claimed.all c.in-Job.job claimed.reply.adds.legal claimed.reply.holds in
+    subst (λ (p : Program). c.in-Job.job.index < length p.code) (sym c.requires.program) inside
+
+pub unreachable-requires : goal.unreachable-requires
+unreachable-requires c =
+    let ready = c.requires.ready in
+    let j = is_job c.args.core.now c.claim_next-answer.new.seats c.args.seats.now.one.by c.requires.all.one_by c.args.station c.claim_next-answer.result ready.all
+    (c.claim_next-answer.ensures.done ready.all ready.done) ready.fact.p ready.fact.tag ready.fact.tenant c.a_ready_tenant_is_claimed.ensures in
+    let both : Claimed j.job ≡ NotOpen = sym j.is ∙ c.in-NotOpen.is in
+    cc both
+
+pub unreachable-requires-in-Waiting : goal.unreachable-requires-in-Waiting
+unreachable-requires-in-Waiting c =
+    let ready = c.requires.ready in
+    let j = is_job c.args.core.now c.claim_next-answer.new.seats c.args.seats.now.one.by c.requires.all.one_by c.args.station c.claim_next-answer.result ready.all
+    (c.claim_next-answer.ensures.done ready.all ready.done) ready.fact.p ready.fact.tag ready.fact.tenant c.a_ready_tenant_is_claimed.ensures in
+    let both = sym j.is ∙ c.in-Waiting.is in
+    cc both
+
+pub unreachable-requires-in-Moved : goal.unreachable-requires-in-Moved
+unreachable-requires-in-Moved c =
+    let ready = c.requires.ready in
+    let j = is_job c.args.core.now c.claim_next-answer.new.seats c.args.seats.now.one.by c.requires.all.one_by c.args.station c.claim_next-answer.result ready.all
+    (c.claim_next-answer.ensures.done ready.all ready.done) ready.fact.p ready.fact.tag ready.fact.tenant c.a_ready_tenant_is_claimed.ensures in
+    let both = sym j.is ∙ c.in-Moved.is in
+    cc both
+
+pub returns-clause-done : goal.returns-clause-done
+returns-clause-done c =
+    let core = c.args.core.now in
+    let job = c.in-Job.job in
+    let outcome : c.outcome_of-outcome.result ≡ outcome_of core.program job = c.outcome_of-outcome.ensures.value
+    ∙ ((λ i. outcome_of_half (c.instr-instr.ensures i) job.half job.pc job.a job.b (c.size.ensures.value i))
+    ∙ ap (λ (p : Program). outcome_of_half (instr_of p job.index) job.half job.pc job.a job.b (length p.bytes)) c.requires.program) in
+    λ all done.
+    let claimed = c.in-Job.ensures.done all done in
+    works_out core c.claim_next-answer.new.seats c.finish_next.new.seats c.args.seats.now.one.by c.requires.all.one_by c.args.station job
+    c.outcome_of-outcome.result outcome all claimed c.in-Job.ensures.by
+    c.finish_next.result (c.finish_next.ensures.done claimed.all claimed.done) c.a_ready_tenant_is_claimed.ensures

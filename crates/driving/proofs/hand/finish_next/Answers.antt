@@ -1,0 +1,14 @@
+use Rattle.driving.specs.Done.{IsFinishedNext}
+use Rattle.driving.proofs.Known.{unit_goes_on}
+use Rattle.driving.proofs.Begins.{finish_begins}
+use Rattle.driving.proofs.hand.finish_next.Goals as goal
+
+pub returns-clause-done : goal.returns-clause-done
+returns-clause-done c =
+    let core = c.args.core.now in
+    let s = c.args.seats.now in
+    let finish = c.finish-answer.ensures in
+    let o = c.finish-answer.new.seat in
+    let begins = finish_begins core.program core.sizes s.one.by s.one.seen o.seen c.args.job c.finish-answer.result finish.reply in
+    unit_goes_on core s c.gather_twice.new.seats c.requires.all o finish.kept.by finish.heirs begins c.gather_twice.ensures.met
+    (IsFinishedNext core s.one.by c.args.job c.finish-answer.result) finish.reply

@@ -1,0 +1,83 @@
+-- Who has all seats of a core in one hand knows what was done, to the letter.
+use Rattle.std.specs.Prelude.{◌≡◌, ◌≢◌, ℕ, List, [], ◌∷◌}
+use Rattle.inorder.specs.declared.history.Entry.{Entry}
+use Rattle.inorder.specs.declared.history.Source.{Source}
+use Rattle.inorder.specs.History.{Adds, front, own, unit_of}
+use Rattle.inorder.specs.Unit.{UpdateUnit, next_tag, recent}
+use Rattle.ruu_words.specs.Kinds.{IsTenant}
+use Rattle.station.specs.declared.answers.Ask.{Ask}
+use Rattle.station.specs.declared.answers.Claim.{Claim}
+use Rattle.station.specs.declared.answers.Finish.{Finish}
+use Rattle.station.specs.declared.answers.Job.{Job}
+use Rattle.station.specs.declared.answers.Tenant.{Tenant}
+use Rattle.station.specs.Asking.{AskAnswers, MayAsk}
+use Rattle.station.specs.Claiming.{ClaimAnswers, Holds}
+use Rattle.station.specs.Letting.{MayLetOut, let_of}
+use Rattle.station.specs.Quiet.{IsClaimable}
+use Rattle.station.specs.Seats.{TheCore}
+use Rattle.station.specs.Writeback.{FinishAnswers}
+use Rattle.driving.specs.declared.seats.Seats.{Seats}
+
+-- This is all that was done: each caller has seen it, and has done nothing since
+pub record HaveDone (core : TheCore) (s : Seats) (all : List Entry) : Type 0 where
+  pub front : Adds core.program core.sizes s.front.by all s.front.seen []
+  pub back : Adds core.program core.sizes s.back.by all s.back.seen []
+  pub one : Adds core.program core.sizes s.one.by all s.one.seen []
+  pub other : Adds core.program core.sizes s.other.by all s.other.seen []
+
+-- This is true of all that was done
+pub record InAll (core : TheCore) (s : Seats) (Fact : List Entry → Type 0) : Type 0 where
+  pub all : List Entry
+  pub done : HaveDone core s all
+  pub fact : Fact all
+
+-- One caller has gone on from there, with this reply, and nobody else has done anything
+pub record GoesOn (core : TheCore) (s : Seats) (by : ℕ) (old : List Entry)
+    (Reply : List Entry → List Entry → Type 0) : Type 0 where
+  pub all : List Entry
+  pub done : HaveDone core s all
+  pub alone : (n : ℕ) → n ≢ by → own n all ≡ own n old
+  pub reply : Reply old all
+
+-- What a call leads to, whatever was done before
+abbrev pub Leads : TheCore → Seats → Seats → ℕ → (List Entry → List Entry → Type 0) → Type 0
+Leads core s t by Reply = (all : List Entry) → HaveDone core s all → GoesOn core t by all Reply
+
+-- The unit behind all of it
+abbrev pub unit_after : TheCore → List Entry → UpdateUnit
+unit_after core all = unit_of core.program core.sizes all
+
+-- What each call asks for there, and what it answers
+
+abbrev pub MayLetNext : TheCore → Tenant → List Entry → Type 0
+MayLetNext core t all = MayLetOut core.program core.sizes (unit_after core all) t
+
+pub record IsLetNext (core : TheCore) (t : Tenant) (tag : ℕ) (old new : List Entry) : Type 0 where
+  pub adds : Adds core.program core.sizes front old new (let_of t ∷ [])
+  pub tag_is : tag ≡ next_tag core.sizes (recent (unit_after core old))
+
+abbrev pub MayAskNext : TheCore → (station tag : ℕ) → Source → (ℕ × ℕ) → List Entry → Type 0
+MayAskNext core station tag k from all =
+    MayAsk core.program core.sizes all station tag k from.0 from.1
+
+abbrev pub IsAskedNext : TheCore → (station tag : ℕ) → Source → (ℕ × ℕ) → Ask →
+    List Entry → List Entry → Type 0
+IsAskedNext core station tag k from answer old new =
+    AskAnswers core.program core.sizes front old new station tag k from.0 from.1 answer
+
+abbrev pub IsClaimedNext : TheCore → ℕ → ℕ → Claim → List Entry → List Entry → Type 0
+IsClaimedNext core by station answer old new =
+    ClaimAnswers core.program core.sizes by old new station answer
+
+abbrev pub HoldsNext : TheCore → ℕ → Job → List Entry → Type 0
+HoldsNext core by j all = Holds core.program core.sizes by all j
+
+abbrev pub IsFinishedNext : TheCore → ℕ → Job → Finish → List Entry → List Entry → Type 0
+IsFinishedNext core by j answer old new =
+    FinishAnswers core.program core.sizes by old new j answer
+
+-- The tenant of this station is open, and has all that it needs
+pub record HasReady (core : TheCore) (station : ℕ) (all : List Entry) : Type 0 where
+  pub p : ℕ
+  pub tag : ℕ
+  pub tenant : IsTenant (unit_after core all) p station tag (IsClaimable core.program)
