@@ -33,8 +33,9 @@ use Rattle.back.specs.declared.port.Load.{Load}
 use Rattle.back.proofs.OwnEntries.{added_legal, added_own}
 use Rattle.back.proofs.PortRule.{by_none, by_store, by_unknown, by_waiting, met, x}
 use Rattle.back.proofs.PortStays.{asked_stays, length_grows}
-use Rattle.back.proofs.UnitKept.{not_retire}
+use Rattle.back.proofs.UnitKept.{no_retire, not_retire}
 use Rattle.back.proofs.Searching.{found_stays, met_says}
+use Rattle.back.proofs.Ranks.{InRing, in_ring}
 
 -- What an operand shows
 
@@ -63,7 +64,7 @@ module _ (P : Program) (C : Sizes) (old new : List Entry) (a : Adds P C back old
 
   pub committed_same : committed P (unit_of P C new).tenants ≡ committed P (unit_of P C old).tenants
   committed_same = subst (λ h. committed P (unit_of P C h).tenants ≡ committed P (unit_of P C old).tenants) (sym a.begins.is)
-      (back_stays P C (λ U. committed P U.tenants ≡ committed P (unit_of P C old).tenants) (λ U by s b al ok q. by_others P C U by s ok (not_retire s b) al ∙ q) a.begins.more old (added_legal P C back old new [] a) (added_own P C back old new [] a) refl)
+      (back_stays P C (λ U. committed P U.tenants ≡ committed P (unit_of P C old).tenants) (λ U by s b al ok q. by_others P C U by s ok (no_retire s (not_retire s b)) al ∙ q) a.begins.more old (added_legal P C back old new [] a) (added_own P C back old new [] a) refl)
 
   module _ (head place : ℕ) (head_is : head ≡ head_station C (unit_of P C old)) (inside : head < C.ring) (small : place < C.ring) (p : ℕ) (l : Load) (asked : IsAsked P (unit_of P C old) p (behind head C.ring place) l) where
     abbrev U : UpdateUnit
@@ -75,8 +76,8 @@ module _ (P : Program) (C : Sizes) (old new : List Entry) (a : Adds P C back old
     ok : IsSound P U.tenants
     ok = unit_sound P C new a.legal
 
-    ring : IsRing C U.tenants
-    ring = is_ring C U.tenants (stands P C (taken_of new) (allowed_steps P C new a.legal))
+    ring : InRing C U
+    ring = in_ring P C new a.legal
 
     head_now : head ≡ head_station C U
     head_now = head_is ∙ sym head_same

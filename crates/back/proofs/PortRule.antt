@@ -28,7 +28,7 @@ use Rattle.inorder.proofs.Sound.{IsSound}
 use Rattle.back.specs.Loads.{IsWaitingLoad}
 use Rattle.back.specs.Port.{AtStation, HasFound, HasMet, HasUnknown, IsBlockedAt, IsKnown, IsLoadOf, IsMet, IsPassed, behind}
 use Rattle.back.specs.declared.port.Load.{Load}
-use Rattle.back.proofs.Ranks.{at_rank, rank, rank_grows, rank_less, rank_small, same_rank, stands_at}
+use Rattle.back.proofs.Ranks.{at_rank, InRing, rank, rank_grows, rank_less, rank_small, same_rank, stands_at}
 use Rattle.back.proofs.RuleOver.{FoundIn, blocked_answer, blocked_lacking, forward_answer, found_in, memory_answer, none_in, whole_place}
 
 -- One that is known has its address, if it is a store
@@ -58,7 +58,7 @@ first_true : (a b : Bool) → (a && b) ≡ true → a ≡ true
 first_true true b e = refl
 first_true false b e = absurd (true≢false (sym e))
 
-module _ (P : Program) (C : Sizes) (U : UpdateUnit) (ok : IsSound P U.tenants) (ring : IsRing C U.tenants) (n head place : ℕ)
+module _ (P : Program) (C : Sizes) (U : UpdateUnit) (ok : IsSound P U.tenants) (ring : InRing C U) (n head place : ℕ)
     (head_is : head ≡ head_station C U) (inside : head < C.ring) (small : place < C.ring) (p : ℕ) (below : p < n) (l : Load) (it : Has U p (IsLoadOf P (behind head C.ring place) l)) where
   abbrev us : List Tenant
   us = U.tenants
@@ -83,7 +83,7 @@ module _ (P : Program) (C : Sizes) (U : UpdateUnit) (ok : IsSound P U.tenants) (
   stands q u is alive = stands_at P C U ok ring q u is alive ∙ ap (λ h. (h + rank us q) % C.ring) (sym head_is)
 
   rank_is : rank us p ≡ place
-  rank_is = same_rank head (rank us p) place C.ring inside (rank_small C us ring p t it.is live) small (sym (stands p t it.is live) ∙ it.fact.station_is)
+  rank_is = same_rank head (rank us p) place C.ring inside (rank_small C us ring.ring p t it.is live) small (sym (stands p t it.is live) ∙ it.fact.station_is)
 
   rank_below : (q : ℕ) (u : Tenant) → at us q ≡ Some u → u.standing ≡ Live → q < p → rank us q < place
   rank_below q u is alive lt = let less = rank_grows us q p u t is alive it.is lt in omega (arith, less, rank_is)

@@ -7,7 +7,7 @@ use Rattle.inorder.specs.declared.history.Act.TheVariants.{Claim, Deliver, Finis
 use Rattle.inorder.specs.declared.history.Entry.{Entry}
 use Rattle.inorder.specs.declared.history.Source.TheVariants.{First, Second}
 use Rattle.inorder.specs.declared.history.Step.{Step}
-use Rattle.inorder.specs.declared.history.Step.TheVariants.{Let, On}
+use Rattle.inorder.specs.declared.history.Step.TheVariants.{Let, On, Renew}
 use Rattle.inorder.specs.History.{Adds, IsLegal, back, own, unit_of}
 use Rattle.inorder.specs.Legal.{Allowed, May, applied, changed}
 use Rattle.inorder.specs.Loads.{access_width, address_by, entry_of, is_store}
@@ -108,6 +108,7 @@ Known_at n station Fact U = (n ≤ length U.tenants) × AtStation U n station Fa
 
 longer : (P : Program) (C : Sizes) (U : UpdateUnit) (by : ℕ) (s : Step) → Allowed P C U by s → length U.tenants ≤ length (applied P C U by s).tenants
 longer P C U by (Let index predicted first second) a = omega arith
+longer P C U by Renew a = omega arith
 longer P C U by (On p act) a = let e = length_changed P U.tenants by p act a.tenant a.is in omega (arith, e)
 
 at_station_step : (P : Program) (C : Sizes) (n station : ℕ) (Fact : Tenant → Type 0) → Lasting Fact → (U : UpdateUnit) (by : ℕ) (s : Step) → IsNotBacks s → Allowed P C U by s → IsSound P U.tenants → Known_at n station Fact U → Known_at n station Fact (applied P C U by s)

@@ -6,12 +6,17 @@ use Rattle.isa.specs.Programs.{Program}
 use Rattle.inorder.specs.Callers.{head_station, is_retired, stands_retired}
 use Rattle.inorder.specs.Laws.{IsRing}
 use Rattle.inorder.specs.Tenants.{Live, Retired, Squashed, Standing, Tenant, is_live, on_path, stands_live, stands_on_path}
-use Rattle.inorder.specs.Unit.{Sizes, UpdateUnit, at, how_many, older, younger}
+use Rattle.inorder.specs.Unit.{at, how_many, older, recent, Sizes, UpdateUnit, younger}
 use Rattle.inorder.proofs.Basics.{eqb_less, split_at}
 use Rattle.inorder.proofs.Creators.{at_cases}
 use Rattle.inorder.proofs.Grows.{all_mid}
 use Rattle.inorder.proofs.Positions.{at_below, at_more, at_new}
 use Rattle.inorder.proofs.Sound.{IsSettled, IsSound, SettledBy}
+use Rattle.inorder.proofs.Recent.{all_recent}
+use Rattle.inorder.specs.declared.history.Entry.{Entry}
+use Rattle.inorder.specs.History.{IsLegal, taken_of, unit_of}
+use Rattle.inorder.proofs.Stations.{Stands, is_ring, stands}
+use Rattle.inorder.proofs.Histories.{allowed_steps}
 
 -- how many live tenants are before a position
 abbrev pub rank : List Tenant → ℕ → ℕ
@@ -125,16 +130,27 @@ none_behind P t ts (y ∷ ys) live s = go y.standing refl (none_behind P t ts ys
         let q = all_mid IsSettled t ts ys ((s.0.placed (ap stands_on_path e)).settled e) in
         absurd (subst (λ x. SettledBy x t.fate) live q)
 
+-- all tenants are recent, and stand in the ring
+pub record InRing (C : Sizes) (U : UpdateUnit) : Type 0 where
+  pub all : recent U ≡ U.tenants
+  pub ring : IsRing C U.tenants
+
+pub in_ring : (P : Program) (C : Sizes) (h : List Entry) → IsLegal P C h → InRing C (unit_of P C h)
+in_ring P C h legal =
+    let all = all_recent P C h legal in
+    record { all = all; ring = is_ring C (unit_of P C h).tenants (subst (Stands C) all (stands P C (taken_of h) (allowed_steps P C h legal))) }
+
 -- a live tenant stands as far behind the head as live ones are before it
-pub stands_at : (P : Program) (C : Sizes) (U : UpdateUnit) → IsSound P U.tenants → IsRing C U.tenants → (p : ℕ) (t : Tenant) → at U.tenants p ≡ Some t → t.standing ≡ Live
+pub stands_at : (P : Program) (C : Sizes) (U : UpdateUnit) → IsSound P U.tenants → InRing C U → (p : ℕ) (t : Tenant) → at U.tenants p ≡ Some t → t.standing ≡ Live
     → t.station ≡ (head_station C U + rank U.tenants p) % C.ring
 stands_at P C U ok ring p t is live =
     let us = U.tenants in
     let split = split_at us p t is in
     let counted : how_many is_retired us ≡ how_many is_retired (older us p) = ap (how_many is_retired) split ∙ none_behind P t (older us p) (younger us p) live (subst (IsSound P) split ok) in
-    ring.place p t is (ap stands_on_path live)
+    ring.ring.place p t is (ap stands_on_path live)
     ∙ (ap (λ n. n % C.ring) (path_parts (older us p) ∙ ap (λ n. n + rank us p) (sym counted))
-    ∙ sym (mod-add-mod (how_many is_retired us) C.ring (rank us p)))
+    ∙ sym (mod-add-mod (how_many is_retired us) C.ring (rank us p))
+    ∙ ap (λ z. (how_many is_retired z % C.ring + rank us p) % C.ring) (sym ring.all))
 
 pub rank_small : (C : Sizes) (us : List Tenant) → IsRing C us → (p : ℕ) (t : Tenant) → at us p ≡ Some t → t.standing ≡ Live → rank us p < C.ring
 rank_small C us ring p t is live = let less = rank_less us p t is live in let room = ring.room in omega (arith, less, room)

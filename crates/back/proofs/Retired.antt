@@ -32,6 +32,7 @@ use Rattle.back.proofs.Committing.{IsDone, first_done, inside_as}
 use Rattle.back.proofs.OwnEntries.{IsSplit, added_own, split_own}
 use Rattle.back.proofs.UnitKept.{all_quiet, gone_on, quiet_keeps}
 use Rattle.back.proofs.Retiring.{gone_at, instr_is, level_stop, own_sound, pc_is, retires}
+use Rattle.inorder.proofs.Recent.{old_are_gone}
 
 found : (t u : Tenant) → Some t ≡ Some u → t ≡ u
 found t u e = cc e
@@ -164,7 +165,7 @@ module _ (P : Program) (C : Sizes) (old new : List Entry) (station tag index : �
 
   kept_here : Kept_at (e ∷ before) i half
   kept_here = subst (λ (z : Instr × Half). Kept_at (e ∷ before) z.0 z.1) (λ j. (sym i_is j, sym half_is j))
-      (retires P C U back r.p r.n a ok last ends_here state low head kept_before)
+      (retires P C U back r.p r.n a ok (old_are_gone P C before legal_here.0) last ends_here state low head kept_before)
 
   kept_new : Kept_at new i half
   kept_new = subst (λ h. Kept_at h i half) (sym new_is)

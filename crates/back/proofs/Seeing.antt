@@ -23,6 +23,7 @@ use Rattle.station.specs.Seats.{Caller, IsSame}
 use Rattle.back.specs.Port.{AtStation, IsEntryOf, address_in, address_of, seen_as}
 use Rattle.back.proofs.OwnEntries.{added_legal}
 use Rattle.back.proofs.PortStays.{length_grows}
+use Rattle.inorder.proofs.Recent.{live_is_recent, recent_at}
 
 found : (t u : Tenant) → Some t ≡ Some u → t ≡ u
 found t u e = cc e
@@ -68,7 +69,9 @@ module _ (P : Program) (C : Sizes) (mid new : List Entry) (b : Adds P C back mid
 
 -- A live tenant is what its station shows
 pub shown : (P : Program) (C : Sizes) (h : List Entry) → IsLegal P C h → (q : ℕ) (u : Tenant) → at (unit_of P C h).tenants q ≡ Some u → u.standing ≡ Live → station_word C (recent (unit_of P C h)) u.station ≡ live_word u.tag u.fate
-shown P C h legal q u is live = ((stations_follow P C (taken_of h) back).shows (allowed_steps P C h legal)).live q u is live
+shown P C h legal q u is live =
+    let x = recent_at (unit_of P C h) q u is (live_is_recent P C h legal q u is live) in
+    ((stations_follow P C (taken_of h) back).shows (allowed_steps P C h legal)).live x.r u x.is live
 
 pub index_inside : (P : Program) (C : Sizes) (h : List Entry) → IsLegal P C h → (q : ℕ) (u : Tenant) → at (unit_of P C h).tenants q ≡ Some u → u.index < length P.code
 index_inside P C h legal q u is =

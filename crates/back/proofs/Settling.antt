@@ -38,6 +38,7 @@ use Rattle.back.specs.declared.port.Load.{Load}
 use Rattle.back.proofs.OwnEntries.{EndsWith, added_own, split_last}
 use Rattle.back.proofs.PortStays.{asked_stays}
 use Rattle.back.proofs.Trying.{once_earlier, once_later, once_now, starts_on}
+use Rattle.inorder.proofs.Recent.{names_recent, none_old}
 
 found : (t u : Tenant) → Some t ≡ Some u → t ≡ u
 found t u e = cc e
@@ -76,8 +77,8 @@ module _ (P : Program) (C : Sizes) (old new : List Entry) where
   pub named_later : (events : List Event) → Adds P C back old new events → (p station tag : ℕ) → IsNamed (unit_of P C old) p station tag → IsNamed (unit_of P C new) p station tag
   named_later events a p station tag n = named_on old a.begins a.legal p station tag n
 
-  names : IsLegal P C new → Names (recent (unit_of P C new))
-  names legal q r t u is is' st tg = names_one C (unit_of P C new).tenants q r t u (tagged P C (taken_of new) (allowed_steps P C new legal)) is is' st tg
+  names : IsLegal P C new → Names (unit_of P C new).tenants
+  names legal q r t u is is' st tg = names_recent C (unit_of P C new) (tagged P C (taken_of new) (allowed_steps P C new legal)) q r t u is is' (none_old P C new legal q) (none_old P C new legal r) st tg
 
   one_named : IsLegal P C new → (p q station tag : ℕ) → IsNamed (unit_of P C new) p station tag → IsNamed (unit_of P C new) q station tag → p ≡ q
   one_named legal p q station tag n m = names legal p q n.tenant m.tenant n.is m.is (n.station_is ∙ sym m.station_is) (n.tag_is ∙ sym m.tag_is)

@@ -17,7 +17,7 @@ use Rattle.station.specs.Moments.{WasOnce}
 use Rattle.back.specs.Loads.{IsLiveLoad, WasNotWaiting}
 use Rattle.back.specs.Port.{behind}
 use Rattle.back.specs.Trials.{IsLoadAt}
-use Rattle.back.proofs.Ranks.{rank, rank_grows, rank_small, same_rank, stands_at}
+use Rattle.back.proofs.Ranks.{in_ring, InRing, rank, rank_grows, rank_small, same_rank, stands_at}
 use Rattle.back.proofs.UnitKept.{IsQuiet, head_kept_on}
 
 pub found : (t u : Tenant) → Some t ≡ Some u → t ≡ u
@@ -50,14 +50,14 @@ module _ (P : Program) (C : Sizes) (h : List Entry) (legal : IsLegal P C h) (hea
   abbrev us : List Tenant
   us = (unit_of P C h).tenants
 
-  ring : IsRing C us
-  ring = is_ring C us (stands P C (taken_of h) (allowed_steps P C h legal))
+  ring : InRing C (unit_of P C h)
+  ring = in_ring P C h legal
 
   pub stands_behind : (q : ℕ) (t : Tenant) → at us q ≡ Some t → t.standing ≡ Live → t.station ≡ behind head C.ring (rank us q)
   stands_behind q t is live = stands_at P C (unit_of P C h) (unit_sound P C h legal) ring q t is live ∙ ap (λ x. (x + rank us q) % C.ring) (sym head_is)
 
   pub stands_inside : (q : ℕ) (t : Tenant) → at us q ≡ Some t → t.standing ≡ Live → rank us q < C.ring
-  stands_inside q t is live = rank_small C us ring q t is live
+  stands_inside q t is live = rank_small C us ring.ring q t is live
 
 -- During a call that retires nothing
 

@@ -7,11 +7,12 @@ use Rattle.inorder.specs.Committed.{ahead, commits, commits_by, committed}
 use Rattle.inorder.specs.Machine.{start}
 use Rattle.inorder.specs.Steps.{IsNoRetiredStop}
 use Rattle.inorder.specs.Tenants.{Fate, Live, Retired, Squashed, Standing, Tenant, is_first}
-use Rattle.inorder.specs.Unit.{Sizes, UpdateUnit, how_many}
+use Rattle.inorder.specs.Unit.{how_many, recent, Sizes, UpdateUnit}
 use Rattle.inorder.proofs.Positions.{all_at}
 use Rattle.inorder.proofs.SettledRegisters.{ahead_if, committed_if}
 use Rattle.std.specs.List.{AllByRecursion}
 use Rattle.back.specs.Kept.{KeepsUnit}
+use Rattle.inorder.proofs.Stations.{fewer_newest}
 
 abbrev Not_retired : Tenant → Type 0
 Not_retired t = is_retired t ≡ false
@@ -50,6 +51,6 @@ starts P C U e =
     record {
       state_is = sym (committed_start P U.tenants none);
       low_is = sym (ahead_start P U.tenants none);
-      head_is = sym (ap (λ n. n % C.ring) e ∙ zero-mod C.ring);
+      head_is = let few = fewer_newest is_retired U.fresh U.tenants in let same : how_many is_retired (recent U) ≡ 0 = omega (arith, few, e) in sym (ap (λ n. n % C.ring) same ∙ zero-mod C.ring);
       end_is = λ p t is. no_stop t (all_at Not_retired U.tenants none p t is);
     }

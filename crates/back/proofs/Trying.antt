@@ -35,6 +35,8 @@ use Rattle.back.specs.Trials.{IsLoadAt, IsShown, NoOtherWaits, NoneWaits, SomeWa
 use Rattle.back.specs.declared.port.Load.{Load}
 use Rattle.back.proofs.PortStays.{asked_stays, length_grows, shown_stays}
 use Rattle.back.proofs.Seeing.{address_shown, by_code, index_inside, shown, was_there}
+use Rattle.back.proofs.Ranks.{in_ring}
+use Rattle.inorder.proofs.Recent.{among_all, names_recent, none_old}
 
 found : (t u : Tenant) → Some t ≡ Some u → t ≡ u
 found t u e = cc e
@@ -60,7 +62,7 @@ module _ (P : Program) (C : Sizes) (h : List Entry) (legal : IsLegal P C h) wher
   us = (unit_of P C h).tenants
 
   ring : IsRing C us
-  ring = is_ring C us (stands P C (taken_of h) (allowed_steps P C h legal))
+  ring = (in_ring P C h legal).ring
 
   pub one_live : (p q : ℕ) (t u : Tenant) → at us p ≡ Some t → at us q ≡ Some u → t.standing ≡ Live → u.standing ≡ Live → t.station ≡ u.station → p ≡ q
   one_live p q t u is is' live live' e = elim (cases_lt p q) [
@@ -96,7 +98,8 @@ module _ (P : Program) (C : Sizes) (h : List Entry) (legal : IsLegal P C h) wher
       let n = ((stations_follow P C (taken_of h) back).shows (allowed_steps P C h legal)).names station (not_free (station_word C (recent (unit_of P C h)) station).state is) in
       let f = subst (λ z. HasFate z (station_word C (recent (unit_of P C h)) station).value n.tenant.fate) is n.fate in
       let v : value ≡ f.0 = subst (λ o. HasValue o value) f.1 s.value_is in
-      (n.p, record { tenant = n.tenant; is = n.is; fact = record { live = n.live; station_is = n.station; tag_is = n.tag ∙ sym s.tag_is; fate = f.2 ∙ ap Addr (sym v ∙ both.1) } })
+      let here = among_all (unit_of P C h) n.p n.tenant n.is in
+      (here.p, record { tenant = n.tenant; is = here.is; fact = record { live = n.live; station_is = n.station; tag_is = n.tag ∙ sym s.tag_is; fate = f.2 ∙ ap Addr (sym v ∙ both.1) } })
 
   -- what a live tenant with an address shows
   pub shows_it : (station tag : ℕ) (state : StationState) (value : ℕ) → Shows (station_word C (recent (unit_of P C h)) station) tag state value → (q : ℕ) (u : Tenant) → at us q ≡ Some u → u.standing ≡ Live → u.station ≡ station → (tag ≡ u.tag) × (address_in state value ≡ address_of u.fate)
@@ -262,8 +265,8 @@ module _ (P : Program) (C : Sizes) (old mid new : List Entry) (a : Adds P C back
 -- The last look
 
 module _ (P : Program) (C : Sizes) (old new : List Entry) (a : Adds P C back old new []) (station tag : ℕ) (state : StationState) (value : ℕ) (shows : Shows (station_word C (recent (unit_of P C new)) station) tag state value) (l : Load) (p : ℕ) where
-  names : Names (recent (unit_of P C new))
-  names q r t u is is' st tg = names_one C (unit_of P C new).tenants q r t u (tagged P C (taken_of new) (allowed_steps P C new a.legal)) is is' st tg
+  names : Names (unit_of P C new).tenants
+  names q r t u is is' st tg = names_recent C (unit_of P C new) (tagged P C (taken_of new) (allowed_steps P C new a.legal)) q r t u is is' (none_old P C new a.legal q) (none_old P C new a.legal r) st tg
 
   pub still_there : IsNamed (unit_of P C old) p station l.tag → IsAsked P (unit_of P C old) p station l → tag ≡ l.tag → (x : ℕ) → address_in state value ≡ Some x → Has (unit_of P C new) p (IsLoadOf P station l)
   still_there n asked same x e = ⊎_elim

@@ -12,7 +12,7 @@ use Rattle.inorder.specs.declared.history.Event.{Event}
 use Rattle.inorder.specs.declared.history.Event.TheVariants.{Does, Marks, Refuses}
 use Rattle.inorder.specs.declared.history.Source.TheVariants.{First, Second}
 use Rattle.inorder.specs.declared.history.Step.{Step}
-use Rattle.inorder.specs.declared.history.Step.TheVariants.{Let, On}
+use Rattle.inorder.specs.declared.history.Step.TheVariants.{Let, On, Renew}
 use Rattle.inorder.specs.Callers.{GoesOn, head_station, is_retired}
 use Rattle.inorder.specs.Committed.{committed}
 use Rattle.inorder.specs.History.{Adds, IsLegal, MayAdd, back, entry, own, unit_of}
@@ -39,6 +39,7 @@ use Rattle.back.specs.Kept.{EndIs, KeepsUnit}
 use Rattle.back.specs.Kept.HasStopped.{ByStop, Nowhere}
 use Rattle.station.specs.Moments.{IsWithin}
 use Rattle.back.proofs.OwnEntries.{added_legal, added_own, cancel, own_first, own_skip}
+use Rattle.inorder.proofs.Recent.{counts_same}
 
 found : (t u : Tenant) → Some t ≡ Some u → t ≡ u
 found t u e = cc e
@@ -51,10 +52,7 @@ live_goes_on t live = λ gone c f. let x = sym live ∙ gone in absurd (cc x)
 -- a load leaves the head and the retired ones as they are
 head_load : (P : Program) (C : Sizes) (U : UpdateUnit) (by p : ℕ) → Allowed P C U by (On p Load) → head_station C (applied P C U by (On p Load)) ≡ head_station C U
 head_load P C U by p a =
-    let us = U.tenants in
-    let t = a.tenant in
-    let same = how_many_same is_retired t (changed P by Load t (older us p)) (older us p) (younger us p) refl in
-    λ i. (ap (how_many is_retired) (parts P us by p Load t a.is) ∙ (same ∙ ap (how_many is_retired) (sym (split_at us p t a.is)))) i % C.ring
+    ap (λ z. z % C.ring) (counts_same P U by p Load a.tenant a.is is_retired refl)
 
 goes_on_load : (P : Program) (C : Sizes) (U : UpdateUnit) (by p : ℕ) → Allowed P C U by (On p Load) → IsSound P U.tenants → GoesOn U → GoesOn (applied P C U by (On p Load))
 goes_on_load P C U by p a ok g q u is =
@@ -64,8 +62,20 @@ goes_on_load P C U by p a ok g q u is =
     (λ (z : IsLeft P us by p Load q was.tenant). subst IsNoRetiredStop (found was.tenant u (sym z.now ∙ is)) (g q was.tenant was.is))
     (at_changed P us by p Load a.tenant a.is q was.tenant was.is)
 
-pub head_kept : (P : Program) (C : Sizes) (U : UpdateUnit) (by : ℕ) (s : Step) → IsNoRetire s → Allowed P C U by s → head_station C (applied P C U by s) ≡ head_station C U
+-- a step that is neither a retirement nor a renewal
+abbrev pub IsPlain : Step → Type 0
+IsPlain (Let index predicted first second) = Unit {0}
+IsPlain (On p act) = IsNoRetire (On p act)
+IsPlain Renew = ⊥
+
+pub no_retire : (s : Step) → IsPlain s → IsNoRetire s
+no_retire (Let index predicted first second) n = tt
+no_retire (On p act) n = n
+no_retire Renew n = absurd n
+
+pub head_kept : (P : Program) (C : Sizes) (U : UpdateUnit) (by : ℕ) (s : Step) → IsPlain s → Allowed P C U by s → head_station C (applied P C U by s) ≡ head_station C U
 head_kept P C U by (Let index predicted first second) n a = head_stays P C U by (Let index predicted first second) tt a
+head_kept P C U by Renew n a = absurd n
 head_kept P C U by (On p Load) n a = head_load P C U by p a
 head_kept P C U by (On p (Retire k)) n a = absurd n
 head_kept P C U by (On p (Link k)) n a = head_stays P C U by (On p (Link k)) tt a
@@ -75,8 +85,9 @@ head_kept P C U by (On p Finish) n a = head_stays P C U by (On p Finish) tt a
 head_kept P C U by (On p Squash) n a = head_stays P C U by (On p Squash) tt a
 head_kept P C U by (On p Mend) n a = head_stays P C U by (On p Mend) tt a
 
-goes_on_kept : (P : Program) (C : Sizes) (U : UpdateUnit) (by : ℕ) (s : Step) → IsNoRetire s → Allowed P C U by s → IsSound P U.tenants → GoesOn U → GoesOn (applied P C U by s)
+goes_on_kept : (P : Program) (C : Sizes) (U : UpdateUnit) (by : ℕ) (s : Step) → IsPlain s → Allowed P C U by s → IsSound P U.tenants → GoesOn U → GoesOn (applied P C U by s)
 goes_on_kept P C U by (Let index predicted first second) n a ok g = goes_on_stays P C U by (Let index predicted first second) tt a ok g
+goes_on_kept P C U by Renew n a ok g = absurd n
 goes_on_kept P C U by (On p Load) n a ok g = goes_on_load P C U by p a ok g
 goes_on_kept P C U by (On p (Retire k)) n a ok g = absurd n
 goes_on_kept P C U by (On p (Link k)) n a ok g = goes_on_stays P C U by (On p (Link k)) tt a ok g
@@ -111,16 +122,16 @@ stop_kept P C U by s p code a h = ⊎_elim
     record { tenant = changed P by z.act h.tenant (older U.tenants p); is = z.now; fact = record { standing = g.standing; fate = g.fate ∙ h.fact.fate } })
     (exact P C U by s a p h.tenant h.is)
 
-end_kept : (P : Program) (C : Sizes) (U : UpdateUnit) (by : ℕ) (s : Step) (ended : Option Stop) → IsNoRetire s → Allowed P C U by s → IsSound P U.tenants → EndIs P U ended → EndIs P (applied P C U by s) ended
+end_kept : (P : Program) (C : Sizes) (U : UpdateUnit) (by : ℕ) (s : Step) (ended : Option Stop) → IsPlain s → Allowed P C U by s → IsSound P U.tenants → EndIs P U ended → EndIs P (applied P C U by s) ended
 end_kept P C U by s None n a ok g = goes_on_kept P C U by s n a ok g
 end_kept P C U by s (Some code) n a ok (ByStop p h) = ByStop p (stop_kept P C U by s p code a h)
 end_kept P C U by s (Some code) n a ok (Nowhere is none g) =
-    Nowhere is (ap (λ c. instr_at P c.pc) (by_others P C U by s ok n a) ∙ none) (goes_on_kept P C U by s n a ok g)
+    Nowhere is (ap (λ c. instr_at P c.pc) (by_others P C U by s ok (no_retire s n) a) ∙ none) (goes_on_kept P C U by s n a ok g)
 
-pub step_keeps : (P : Program) (C : Sizes) (state : State) (low : Option ℕ) (head : ℕ) (ended : Option Stop) (U : UpdateUnit) (by : ℕ) (s : Step) → IsNoRetire s → Allowed P C U by s → IsSound P U.tenants → KeepsUnit P C U state low head ended → KeepsUnit P C (applied P C U by s) state low head ended
+pub step_keeps : (P : Program) (C : Sizes) (state : State) (low : Option ℕ) (head : ℕ) (ended : Option Stop) (U : UpdateUnit) (by : ℕ) (s : Step) → IsPlain s → Allowed P C U by s → IsSound P U.tenants → KeepsUnit P C U state low head ended → KeepsUnit P C (applied P C U by s) state low head ended
 step_keeps P C state low head ended U by s n a ok k = record {
-  state_is = k.state_is ∙ sym (by_others P C U by s ok n a);
-  low_is = k.low_is ∙ sym (ahead_by_others P C U by s ok n a);
+  state_is = k.state_is ∙ sym (by_others P C U by s ok (no_retire s n) a);
+  low_is = k.low_is ∙ sym (ahead_by_others P C U by s ok (no_retire s n) a);
   head_is = k.head_is ∙ sym (head_kept P C U by s n a);
   end_is = end_kept P C U by s ended n a ok k.end_is;
 }
@@ -129,14 +140,15 @@ step_keeps P C state low head ended U by s n a ok k = record {
 
 -- an event that is no retirement
 abbrev pub IsQuiet : Event → Type 0
-IsQuiet (Does s) = IsNoRetire s
+IsQuiet (Does s) = IsPlain s
 IsQuiet (Refuses r) = Unit {0}
 IsQuiet (Marks m) = Unit {0}
 
 abbrev pub AreQuiet : List Entry → Type 0
 AreQuiet es = AllByRecursion (λ e. IsQuiet e.event) es
 
-pub not_retire : (s : Step) → IsNotBacks s → IsNoRetire s
+pub not_retire : (s : Step) → IsNotBacks s → IsPlain s
+not_retire Renew b = absurd b
 not_retire (Let index predicted first second) b = tt
 not_retire (On p (Link k)) b = tt
 not_retire (On p (Deliver k)) b = tt
@@ -231,7 +243,7 @@ committed_kept P C old new events a quiet =
     one h e l m q = kind e.event m q
       where
         kind : (x : Event) → MayAdd P C h e.by x → IsQuiet x → committed P (unit_of P C (entry e.by x ∷ h)).tenants ≡ committed P (unit_of P C h).tenants
-        kind (Does s) m q = by_others P C (unit_of P C h) e.by s (unit_sound P C h l) q m.1
+        kind (Does s) m q = by_others P C (unit_of P C h) e.by s (unit_sound P C h l) (no_retire s q) m.1
         kind (Refuses r) m q = refl
         kind (Marks r) m q = refl
 

@@ -4,7 +4,7 @@ use Rattle.std.specs.List.{AllByRecursion}
 use Rattle.isa.specs.Programs.{Program}
 use Rattle.inorder.specs.declared.history.Entry.{Entry}
 use Rattle.inorder.specs.History.{IsLegal, unit_of}
-use Rattle.inorder.specs.StationWords.{NamedBy, last_of, station_word, word_by, word_of}
+use Rattle.inorder.specs.StationWords.{last_of, station_word, word_by, word_of}
 use Rattle.inorder.specs.Tenants.{Live, Tenant}
 use Rattle.inorder.specs.Unit.{Sizes, UpdateUnit, at, recent, tag_after}
 use Rattle.ruu_words.specs.declared.station.StationState.{StationState}
@@ -17,8 +17,8 @@ use Rattle.front.specs.Knows.{IsNewest, Knows}
 use Rattle.front.specs.Queues.{IsBefore, live_accesses}
 use Rattle.front.proofs.InQueue.{IsSplit, behind_left, behind_live, one_noted, queue_room, s}
 use Rattle.front.proofs.Lists.{all_rest}
-use Rattle.front.proofs.Looks.{free_is, live_there, same_place}
-use Rattle.front.proofs.Stations.{last_here, left_there}
+use Rattle.front.proofs.Looks.{free_is, live_there, NamedNow, same_place}
+use Rattle.front.proofs.Stations.{last_now, left_there}
 use Rattle.front.proofs.Trails.{IsNoted}
 
 same_tenant : (t u : Tenant) → Some t ≡ Some u → t ≡ u
@@ -49,7 +49,7 @@ module _ (P : Program) (C : Sizes) (h : List Entry) (legal : IsLegal P C h) (rec
 
   pub room_there : seen.state ≡ Free → live_accesses P U ≤ n
   room_there free =
-      let last : last_of U.tenants x.station ≡ Some its.tenant = last_here U.tenants split.one.at x.station its.tenant its.is place (λ q u lt is same. newest q u lt is (same ∙ sym at_place)) in
+      let last : last_of (recent U) x.station ≡ Some its.tenant = last_now P C h legal split.one.at x.station its.tenant its.is place (λ q u lt is same. newest q u lt is (same ∙ sym at_place)) in
       let word : station_word C (recent U) x.station ≡ word_by (tag_after C (recent U) x.station) its.tenant.standing its.tenant.tag its.tenant.fate its.tenant.made = ap (word_of (tag_after C (recent U) x.station)) last in
       let left = left_there its.tenant (tag_after C (recent U) x.station) (station_word C (recent U) x.station) word (free_is _ (sym sees.state_is ∙ ap state_code free)) its.on seen.value sees.value_is in
       let few = behind_left P C h legal records base k b.older x b.younger b.are left.retired in
@@ -57,7 +57,7 @@ module _ (P : Program) (C : Sizes) (h : List Entry) (legal : IsLegal P C h) (rec
 
   pub full_there : seen.state ≢ Free → suc n ≡ C.queue → live_accesses P U ≡ C.queue
   full_there ne e =
-      let named : NamedBy C (recent U) x.station = live_there P C h legal x.station seen sees ne in
+      let named : NamedNow C U x.station = live_there P C h legal x.station seen sees ne in
       let same = same_place P C h legal x.station seen sees named split.one.at its.tenant its.is place (λ q u lt is here. newest q u lt is (here ∙ sym at_place)) in
       let one : named.tenant ≡ its.tenant = same_tenant named.tenant its.tenant (sym named.is ∙ (ap (at U.tenants) same ∙ its.is)) in
       let live : its.tenant.standing ≡ Live = ap (λ (z : Tenant). z.standing) (sym one) ∙ named.live in

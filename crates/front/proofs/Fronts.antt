@@ -5,7 +5,7 @@ use Rattle.std.specs.Prelude.{slice_get, slice_index}
 use Rattle.isa.specs.Programs.{Program}
 use Rattle.inorder.specs.declared.history.Entry.{Entry}
 use Rattle.inorder.specs.declared.history.Step.{Step}
-use Rattle.inorder.specs.declared.history.Step.TheVariants.{Let, On}
+use Rattle.inorder.specs.declared.history.Step.TheVariants.{Let, On, Renew}
 use Rattle.inorder.specs.History.{Adds, IsLegal, front, own, unit_of}
 use Rattle.inorder.specs.Legal.{Allowed, applied}
 use Rattle.inorder.specs.Unit.{Sizes, UpdateUnit, at, can_be_written, value_of}
@@ -70,6 +70,7 @@ nobody P C h legal none =
   where
     keeps : (U : UpdateUnit) (by : ℕ) (s : Step) → IsBesides s → Allowed P C U by s → IsSound P U.tenants → U.tenants ≡ [] → (applied P C U by s).tenants ≡ []
     keeps U by (Let i p f g) b a ok e = absurd b
+    keeps U by Renew b a ok e = absurd b
     keeps U by (On p act) b a ok e = let no : None ≡ Some a.tenant = ap (λ z. at z p) (sym e) ∙ a.is in absurd (cc no)
 
 pub first_knows : (P : Program) (C : Sizes) (h : List Entry) → IsLegal P C h → own front h ≡ [] → Knows P C (unit_of P C h) [] (replicate 34 0)

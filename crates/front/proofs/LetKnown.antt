@@ -11,18 +11,17 @@ use Rattle.inorder.specs.Unit.{Sizes, UpdateUnit, next_station, recent}
 use Rattle.inorder.proofs.Creators.{at_cases}
 use Rattle.inorder.proofs.Positions.{at_below, at_new}
 use Rattle.inorder.proofs.Sound.{IsSound}
-use Rattle.inorder.proofs.Stations.{Stands as StandsRight}
 use Rattle.front.specs.declared.path.record.Record.{Record}
 use Rattle.front.specs.Creators.{creator_note, position}
 use Rattle.front.specs.Knows.{IsGone, IsNewest, IsReady, IsReused, Knows}
 use Rattle.front.specs.Trail.{Note, note, record_of}
 use Rattle.front.proofs.Acts.{still_gone, still_reused, still_value}
 use Rattle.front.proofs.Lists.{all_both, all_map, all_two, last_not, whats_append}
-use Rattle.front.proofs.Places.{notes_length, others_next}
+use Rattle.front.proofs.Places.{notes_length, others_next, StandsNow}
 use Rattle.front.proofs.Trails.{trail_on}
 
 module _ (P : Program) (C : Sizes) (U : UpdateUnit) (by index predicted : ℕ) (first second : Supply)
-    (a : Allowed P C U by (Let index predicted first second)) (ok : IsSound P U.tenants) (st : StandsRight C U.tenants)
+    (a : Allowed P C U by (Let index predicted first second)) (ok : IsSound P U.tenants) (st : StandsNow C U)
     (records : List Record) (base : List ℕ) (k : IsReady P C U records base) where
   abbrev new : Tenant
   new = new_tenant P C U index predicted first second

@@ -4,7 +4,7 @@ use Rattle.isa.specs.declared.op.Half.{Half}
 use Rattle.isa.specs.Programs.{Program, instr_at}
 use Rattle.isa.specs.declared.instr.Instr.{Instr}
 use Rattle.inorder.specs.declared.history.Entry.{Entry}
-use Rattle.inorder.specs.declared.history.Step.TheVariants.{Let, On}
+use Rattle.inorder.specs.declared.history.Step.TheVariants.{Let, On, Renew}
 use Rattle.inorder.specs.History.{Adds, front, unit_of}
 use Rattle.inorder.specs.Legal.{applied, changed}
 use Rattle.inorder.specs.Replies.{HasNoInstr, IsFull, IsQueueFull, IsSpent, last_tag}
@@ -37,6 +37,7 @@ use Rattle.front.proofs.Places.{known_half, known_pc, known_place, notes_length}
 use Rattle.front.proofs.Splitting.{IsStable, stays}
 use Rattle.front.proofs.Stations.{next_tag_is, oldest_left}
 use Rattle.front.proofs.Stays.{knows_stable, place_stays, quiet_of}
+use Rattle.inorder.proofs.Recent.{counts_same}
 
 same_tenant : (t u : Tenant) → Some t ≡ Some u → t ≡ u
 same_tenant t u e = cc e
@@ -45,16 +46,14 @@ same_tenant t u e = cc e
 
 pub tag_stable : (P : Program) (C : Sizes) (n : ℕ) → IsStable P C (λ U. next_tag C (recent U) ≡ n)
 tag_stable P C n U by (Let i pr f g) b a ok e = absurd b
+tag_stable P C n U by Renew b a ok e = absurd b
 tag_stable P C n U by (On p act) b a ok e =
-    let us = U.tenants in
     let t = a.tenant in
     let V = applied P C U by (On p act) in
     let place : next_station C (recent V) ≡ next_station C (recent U) = place_stays P C U by (On p act) (quiet_of (On p act) b) a ok in
-    let count : how_many (λ u. eqb u.station (next_station C (recent U))) V.tenants ≡ how_many (λ u. eqb u.station (next_station C (recent U))) us =
-    ap (how_many (λ u. eqb u.station (next_station C (recent U)))) (parts P us by p act t a.is)
-    ∙ (count_same t (changed P by act t (older us p)) (older us p) (younger us p) (next_station C (recent U)) (same_place P by act t (older us p)).0
-    ∙ sym (ap (how_many (λ u. eqb u.station (next_station C (recent U)))) (split_at us p t a.is))) in
-    ap (tag_after C V.tenants) place ∙ (ap (λ z. C.first_tag + z) count ∙ e)
+    let count = counts_same P U by p act t a.is (λ u. eqb u.station (next_station C (recent U)))
+    (ap (λ z. eqb z (next_station C (recent U))) (same_place P by act t (older U.tenants p)).0) in
+    ap (tag_after C (recent V)) place ∙ (ap (λ z. C.first_tag + z) count ∙ e)
 
 pub left_stable : (P : Program) (C : Sizes) (p s g left : ℕ) → IsStable P C (λ U. IsTenant U p s g (HasLeft left))
 left_stable P C p s g left U by st b a ok i =

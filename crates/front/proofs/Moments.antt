@@ -7,7 +7,6 @@ use Rattle.inorder.specs.declared.history.Entry.{Entry}
 use Rattle.inorder.specs.declared.history.Event.{Event}
 use Rattle.inorder.specs.History.{Adds, IsLegal, front, unit_of}
 use Rattle.inorder.specs.Replies.{HasNoInstr, IsFull, IsQueueFull, IsSpent, last_tag}
-use Rattle.inorder.specs.StationWords.{NamedBy}
 use Rattle.inorder.specs.Tenants.{is_access}
 use Rattle.inorder.specs.Unit.{Sizes, UpdateUnit, next_station, recent}
 use Rattle.inorder.proofs.Basics.{fetched_at}
@@ -21,7 +20,7 @@ use Rattle.front.specs.declared.path.record.Record.{Record}
 use Rattle.front.specs.Knows.{IsReused, Knows}
 use Rattle.front.specs.Path.{pc_behind}
 use Rattle.front.specs.Queues.{QueueSays, live_accesses}
-use Rattle.front.proofs.Looks.{live_there}
+use Rattle.front.proofs.Looks.{live_there, NamedNow}
 use Rattle.front.proofs.Places.{known_pc}
 use Rattle.front.proofs.Stations.{is_full, next_tag_is, not_full}
 use Rattle.unit_laws.proofs.Creators.{found_at}
@@ -40,7 +39,7 @@ module _ (P : Program) (C : Sizes) where
 
     pub looks_full : seen.state ≢ Free → IsFull C U
     looks_full ne =
-        let b : NamedBy C (recent U) (next_station C (recent U)) = live_there P C h legal (next_station C (recent U)) seen sees ne in
+        let b : NamedNow C U (next_station C (recent U)) = live_there P C h legal (next_station C (recent U)) seen sees ne in
         is_full P C h legal b.p b.tenant b.is b.live b.station
 
     pub looks_free : (records : List Record) (base : List ℕ) → Knows P C U records base → 0 < C.ring → seen.state ≡ Free → ¬ IsFull C U

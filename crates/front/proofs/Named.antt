@@ -10,13 +10,14 @@ use Rattle.inorder.specs.Unit.{Sizes, UpdateUnit, at}
 use Rattle.inorder.proofs.Histories.{allowed_steps}
 use Rattle.inorder.proofs.Positions.{at_more}
 use Rattle.inorder.proofs.Stations.{Stands as StandsRight, stands}
-use Rattle.inorder.proofs.Tags.{names_one, tagged}
+use Rattle.inorder.proofs.Tags.{tagged}
 use Rattle.front.specs.declared.path.record.Record.{Record}
 use Rattle.front.specs.Knows.{Stands, whats}
 use Rattle.front.specs.Trail.{Note}
 use Rattle.front.proofs.Lists.{all_rest}
-use Rattle.front.proofs.Places.{notes_placed}
+use Rattle.front.proofs.Places.{notes_placed, StandsNow}
 use Rattle.front.proofs.Trails.{ArePlacedFrom, IsNoted, trail_noted}
+use Rattle.inorder.proofs.Recent.{all_recent, names_recent, none_old}
 
 -- a fact of all records
 pub all_whats : (Q : Record → Type 0) (xs : List Note) → AllByRecursion (λ n. Q n.what) xs → AllByRecursion Q (whats xs)
@@ -36,11 +37,11 @@ module _ (P : Program) (C : Sizes) (h : List Entry) (legal : IsLegal P C h) wher
   abbrev U : UpdateUnit
   U = unit_of P C h
 
-  pub stands_right : StandsRight C U.tenants
-  stands_right = stands P C (taken_of h) (allowed_steps P C h legal)
+  pub stands_right : StandsNow C U
+  stands_right = record { all = all_recent P C h legal; right = subst (StandsRight C) (all_recent P C h legal) (stands P C (taken_of h) (allowed_steps P C h legal)) }
 
   pub one_named : (p q : ℕ) (t u : Tenant) → at U.tenants p ≡ Some t → at U.tenants q ≡ Some u → t.station ≡ u.station → t.tag ≡ u.tag → p ≡ q
-  one_named p q t u e f = names_one C U.tenants p q t u (tagged P C (taken_of h) (allowed_steps P C h legal)) e f
+  one_named p q t u e f = names_recent C U (tagged P C (taken_of h) (allowed_steps P C h legal)) p q t u e f (none_old P C h legal p) (none_old P C h legal q)
 
   module _ (records : List Record) (base : List ℕ) (Again : Note → Type 0) (k : Stands P C U records base Again) where
     pub notes_noted : AllByRecursion (IsNoted P U.tenants) k.notes

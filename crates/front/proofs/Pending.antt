@@ -10,7 +10,7 @@ use Rattle.inorder.specs.declared.history.Mark.TheVariants.{Asked}
 use Rattle.inorder.specs.declared.history.Source.{Source}
 use Rattle.inorder.specs.declared.history.Source.TheVariants.{First, Second}
 use Rattle.inorder.specs.declared.history.Step.{Step}
-use Rattle.inorder.specs.declared.history.Step.TheVariants.{Let, On}
+use Rattle.inorder.specs.declared.history.Step.TheVariants.{Let, On, Renew}
 use Rattle.inorder.specs.History.{front}
 use Rattle.inorder.specs.Callers.{IsLastAt}
 use Rattle.inorder.specs.Legal.{Allowed, applied, changed}
@@ -53,6 +53,7 @@ module _ (P : Program) (C : Sizes) (U : UpdateUnit) (by : ℕ) where
 
   last_at : (s : Step) → IsQuiet s → Allowed P C U by s → IsSound P U.tenants → (p x : ℕ) → IsLastAt U p x → IsLastAt (applied P C U by s) p x
   last_at (Let i pr f g) b a ok p x h = absurd b
+  last_at Renew b a ok p x h = absurd b
   last_at (On r act) b a ok p x h = λ q u lt is same. let was = came P C U by r act a ok q u is in h q was.tenant lt was.is (sym was.goes.station ∙ same)
 
   -- where the step leaves how the source gets its value
@@ -80,6 +81,7 @@ module _ (P : Program) (C : Sizes) (U : UpdateUnit) (by : ℕ) where
 
 no_link_of : (s : Step) → IsBesides s → IsNoLink s
 no_link_of (Let i p f g) b = absurd b
+no_link_of Renew b = absurd b
 no_link_of (On p (Link k)) b = absurd b
 no_link_of (On p (Deliver k)) b = tt
 no_link_of (On p Claim) b = tt

@@ -56,6 +56,11 @@ last_there xs x =
     at_end [] x = refl
     at_end (y ∷ ys) x = at_end ys x
 
+-- all tenants are recent, and stand in the ring
+pub record StandsNow (C : Sizes) (U : UpdateUnit) : Type 0 where
+  pub all : recent U ≡ U.tenants
+  pub right : StandsRight C U.tenants
+
 module _ (P : Program) (C : Sizes) (U : UpdateUnit) (records : List Record) (base : List ℕ) (Again : Note → Type 0) (k : Stands P C U records base Again) where
   pub whole_length : how_many on_path U.tenants ≡ length k.gone + length k.notes
   whole_length = sym (trail_length P U.tenants) ∙ (ap (λ z. length z) k.path ∙ length-append k.gone k.notes)
@@ -63,10 +68,10 @@ module _ (P : Program) (C : Sizes) (U : UpdateUnit) (records : List Record) (bas
   pub notes_length : length records ≡ length k.notes
   notes_length = ap (λ z. length z) k.are ∙ whats_length k.notes
 
-  pub notes_placed : StandsRight C U.tenants → ArePlacedFrom C.ring (length k.gone) k.notes
+  pub notes_placed : StandsNow C U → ArePlacedFrom C.ring (length k.gone) k.notes
   notes_placed st =
       let none : 0 + length k.gone ≡ length k.gone = omega arith in
-      subst (λ z. ArePlacedFrom C.ring z k.notes) none (placed_rest C.ring 0 k.gone k.notes (subst (ArePlacedFrom C.ring 0) k.path (trail_placed P C U.tenants st.placed)))
+      subst (λ z. ArePlacedFrom C.ring z k.notes) none (placed_rest C.ring 0 k.gone k.notes (subst (ArePlacedFrom C.ring 0) k.path (trail_placed P C U.tenants st.right.placed)))
 
   last_of_whole : (l : Last k.notes) → trail P U.tenants ≡ (k.gone ++ l.front) ++ l.one ∷ []
   last_of_whole l = k.path ∙ (ap (λ z. k.gone ++ z) l.is ∙ sym (append_assoc k.gone l.front (l.one ∷ [])))
@@ -100,8 +105,8 @@ module _ (P : Program) (C : Sizes) (U : UpdateUnit) (records : List Record) (bas
       (last_cases k.notes)
 
   -- the next tenant's station
-  pub known_place : StandsRight C U.tenants → next_station C (recent U) ≡ next_place C.ring records
-  known_place st = ⊎_elim
+  pub known_place : StandsNow C U → next_station C (recent U) ≡ next_place C.ring records
+  known_place st = ap (next_station C) st.all ∙ ⊎_elim
       (λ e. ap (λ z. z % C.ring) (sym (trail_length P U.tenants) ∙ ap (λ z. length z) (no_path e)) ∙ zero-mod C.ring ∙ sym (ap (place_after C.ring) (no_record e)))
       (λ (l : Last k.notes).
       let long = length-append l.front (l.one ∷ []) in
@@ -112,7 +117,7 @@ module _ (P : Program) (C : Sizes) (U : UpdateUnit) (records : List Record) (bas
       (last_cases k.notes)
 
   -- with fewer tenants than stations, none of theirs is the next
-  pub others_next : StandsRight C U.tenants → length records < C.ring → AllByRecursion (λ n. n.what.station ≢ next_station C (recent U)) k.notes
+  pub others_next : StandsNow C U → length records < C.ring → AllByRecursion (λ n. n.what.station ≢ next_station C (recent U)) k.notes
   others_next st h =
-      subst (λ z. AllByRecursion (λ n. n.what.station ≢ z % C.ring) k.notes) (sym whole_length)
+      subst (λ z. AllByRecursion (λ n. n.what.station ≢ z % C.ring) k.notes) (sym (ap (how_many on_path) st.all ∙ whole_length))
       (not_next C.ring (length k.gone) k.notes (notes_placed st) (subst (λ z. z < C.ring) notes_length h))

@@ -30,6 +30,7 @@ use Rattle.front.proofs.Named.{notes_noted, one_named, stands_right}
 use Rattle.front.proofs.Places.{notes_length, notes_placed, oldest_next, whole_length}
 use Rattle.front.proofs.Supplies.{link_made}
 use Rattle.front.proofs.Trails.{ArePlacedFrom, IsNoted}
+use Rattle.inorder.proofs.Recent.{all_recent}
 
 same_tenant : (t u : Tenant) → Some t ≡ Some u → t ≡ u
 same_tenant t u e = cc e
@@ -110,6 +111,7 @@ module _ (P : Program) (C : Sizes) (h : List Entry) (legal : IsLegal P C h) wher
         let whole : C.ring ≡ length (n ∷ ns) = omega (arith, full, long, k.room, ap (λ z. length z) e) in
         let placed : ArePlacedFrom C.ring (length k.gone) (n ∷ ns) = subst (ArePlacedFrom C.ring (length k.gone)) e (notes_placed P C U records base (IsReused U) k (stands_right P C h legal)) in
         oldest_next C.ring (length k.gone) n ns placed whole ∙ ap (λ z. z % C.ring) (sym (whole_length P C U records base (IsReused U) k ∙ ap (λ z. length k.gone + length z) e))
+        ∙ ap (next_station C) (sym (all_recent P C h legal))
 
     -- ready for the next one
     pub ready_now : 2 ≤ C.ring → (left : ℕ) → OldestLeft C U records left → (old : Path) → old.records ≡ records → old.base ≡ base → (result : Option Record) (new : Path) → Releases C.ring left old result new → IsReady P C U new.records new.base

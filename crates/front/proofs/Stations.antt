@@ -16,7 +16,7 @@ use Rattle.inorder.proofs.Basics.{split_at}
 use Rattle.inorder.proofs.Creators.{at_cases}
 use Rattle.inorder.proofs.Histories.{unit_sound}
 use Rattle.inorder.proofs.Positions.{all_at, at_below, at_more, at_new, younger_from}
-use Rattle.inorder.proofs.Stations.{IsElsewhere, all_elsewhere}
+use Rattle.inorder.proofs.Stations.{IsElsewhere, all_elsewhere, settling}
 use Rattle.ruu_words.specs.declared.station.StationState.{StationState}
 use Rattle.ruu_words.specs.declared.station.StationState.TheVariants.{Free}
 use Rattle.ruu_words.specs.Content.{HasValue}
@@ -34,27 +34,17 @@ use Rattle.front.proofs.Looks.{free_is}
 use Rattle.front.proofs.Named.{notes_noted, stands_right}
 use Rattle.front.proofs.Places.{notes_placed, oldest_next, whole_length}
 use Rattle.front.proofs.Trails.{ArePlacedFrom, IsNoted}
+use Rattle.inorder.proofs.Recent.{all_recent, last_of_recent, none_old}
 
 same_tenant : (t u : Tenant) → Some t ≡ Some u → t ≡ u
 same_tenant t u e = cc e
 
 -- the last tenant of a station
-last_past : (s : ℕ) (ys ts : List Tenant) → AllByRecursion (λ u. u.station ≢ s) ys → last_of (ys ++ ts) s ≡ last_of ts s
-last_past s [] ts a = refl
-last_past s (y ∷ ys) ts a = ap (λ b. cond b (Some y) (last_of (ys ++ ts) s)) (ne_eqb y.station s a.0) ∙ last_past s ys ts a.1
-
-pub last_here : (us : List Tenant) (p s : ℕ) (t : Tenant) → at us p ≡ Some t → t.station ≡ s → IsLastAt (record { tenants = us }) p s → last_of us s ≡ Some t
-last_here us p s t is place last =
-    let others = younger_from (λ u. u.station ≢ s) us p (at_below us p t is) (λ q u lt e. last q u lt e) in
-    ap (λ z. last_of z s) (split_at us p t is)
-    ∙ (last_past s (younger us p) (t ∷ older us p) others
-    ∙ ap (λ b. cond b (Some t) (last_of (older us p) s)) (eq-eqb t.station s place))
-
 pub record LastSpot (us : List Tenant) (s : ℕ) (t : Tenant) : Type 0 where
   pub p : ℕ
   pub is : at us p ≡ Some t
   pub place : t.station ≡ s
-  pub last : IsLastAt (record { tenants = us }) p s
+  pub last : (q : ℕ) (u : Tenant) → p < q → at us q ≡ Some u → u.station ≢ s
 
 pub last_spot : (us : List Tenant) (s : ℕ) (t : Tenant) → last_of us s ≡ Some t → LastSpot us s t
 last_spot [] s t e = absurd (cc e)
@@ -126,6 +116,12 @@ left_there t k w e free on left v = go t.standing refl
         let value : w.value ≡ left_value t.fate t.made = ap (λ (z : StationWord). z.value) (e ∙ ap (λ s. word_by k s t.tag t.fate t.made) f) in
         record { retired = f; value = subst (λ z. HasValue z left) value v }
 
+-- the tenant that is the last of its station
+pub last_now : (P : Program) (C : Sizes) (h : List Entry) → IsLegal P C h → (p s : ℕ) (t : Tenant) → at (unit_of P C h).tenants p ≡ Some t → t.station ≡ s → IsLastAt (unit_of P C h) p s → last_of (recent (unit_of P C h)) s ≡ Some t
+last_now P C h legal p s t is place last =
+    ap (last_of (recent (unit_of P C h))) (sym place)
+    ∙ last_of_recent (unit_of P C h) p t is (none_old P C h legal p) (λ q u lt e f. last q u lt e (f ∙ place))
+
 module _ (P : Program) (C : Sizes) (h : List Entry) (legal : IsLegal P C h) where
   abbrev U : UpdateUnit
   U = unit_of P C h
@@ -135,9 +131,10 @@ module _ (P : Program) (C : Sizes) (h : List Entry) (legal : IsLegal P C h) wher
   is_full p t is live place =
       let st = stands_right P C h legal in
       let n = new_tenant P C U 0 0 (Known 0) (Known 0) in
+      let same : n.station ≡ next_station C U.tenants = ap (next_station C) st.all in
       ⊎_elim
-      (λ room. absurd (all_at (IsElsewhere n) U.tenants (all_elsewhere P C n U.tenants [] U.tenants refl refl room (unit_sound P C h legal) st.placed) p t is live place))
-      (λ (most : C.ring ≤ how_many is_live U.tenants). omega (arith, most, st.room))
+      (λ room. absurd (all_at (IsElsewhere n) U.tenants (all_elsewhere P C n U.tenants [] U.tenants refl same room (settling P U.tenants (unit_sound P C h legal)) st.right.placed) p t is live place))
+      (λ (most : C.ring ≤ how_many is_live U.tenants). omega (arith, most, st.right.room))
       (cases_lt (how_many is_live U.tenants) C.ring)
 
   -- the next station's tag, where that is free
@@ -170,9 +167,9 @@ module _ (P : Program) (C : Sizes) (h : List Entry) (legal : IsLegal P C h) wher
         let whole : C.ring ≡ length (n ∷ ns) = omega (arith, full, k.room, ap (λ z. length z) e) in
         let placed : ArePlacedFrom C.ring (length k.gone) (n ∷ ns) = subst (ArePlacedFrom C.ring (length k.gone)) e (notes_placed P C U records base (IsReused U) k (stands_right P C h legal)) in
         let count : how_many on_path U.tenants ≡ length k.gone + length (n ∷ ns) = whole_length P C U records base (IsReused U) k ∙ ap (λ z. length k.gone + length z) e in
-        let next : n.what.station ≡ next_station C (recent U) = oldest_next C.ring (length k.gone) n ns placed whole ∙ ap (λ z. z % C.ring) (sym count) in
+        let next : n.what.station ≡ next_station C (recent U) = oldest_next C.ring (length k.gone) n ns placed whole ∙ ap (λ z. z % C.ring) (sym count) ∙ ap (next_station C) (sym (all_recent P C h legal)) in
         let place : noted.tenant.station ≡ next_station C (recent U) = ap (λ (z : Record). z.station) noted.what ∙ next in
-        let last : last_of U.tenants (next_station C (recent U)) ≡ Some noted.tenant = last_here U.tenants n.at (next_station C (recent U)) noted.tenant noted.is place (λ q u lt is same. newest q u lt is (same ∙ sym next)) in
+        let last : last_of (recent U) (next_station C (recent U)) ≡ Some noted.tenant = last_now P C h legal n.at (next_station C (recent U)) noted.tenant noted.is place (λ q u lt is same. newest q u lt is (same ∙ sym next)) in
         let word : station_word C (recent U) (next_station C (recent U)) ≡ word_by (next_tag C (recent U)) noted.tenant.standing noted.tenant.tag noted.tenant.fate noted.tenant.made = ap (word_of (next_tag C (recent U))) last in
         record {
           tenant = noted.tenant;

@@ -6,9 +6,9 @@ use Rattle.isa.specs.Programs.{Program, instr_of}
 use Rattle.inorder.specs.declared.history.Act.{Act}
 use Rattle.inorder.specs.declared.history.Act.TheVariants.{Claim, Deliver, Finish, Link, Load, Mend, Retire, Squash}
 use Rattle.inorder.specs.declared.history.Step.{Step}
-use Rattle.inorder.specs.declared.history.Step.TheVariants.{Let, On}
+use Rattle.inorder.specs.declared.history.Step.TheVariants.{Let, On, Renew}
 use Rattle.inorder.specs.Legal.{Allowed, May, applied, changed}
-use Rattle.inorder.specs.Tenants.{Tenant, is_access}
+use Rattle.inorder.specs.Tenants.{is_access, on_path, Tenant}
 use Rattle.inorder.specs.Unit.{Sizes, UpdateUnit, next_station, older, recent, younger}
 use Rattle.inorder.proofs.Basics.{split_at}
 use Rattle.inorder.proofs.Grows.{Grows, sound_mid}
@@ -24,6 +24,7 @@ use Rattle.front.proofs.Acts.{still_gone, still_newest, still_reused, still_valu
 use Rattle.front.proofs.Lists.{all_map}
 use Rattle.front.proofs.Splitting.{IsStable}
 use Rattle.front.proofs.Trails.{trail_length, trail_same}
+use Rattle.inorder.proofs.Recent.{counts_same}
 
 -- acts that leave the path as it is
 abbrev pub IsQuietAct : Act → Type 0
@@ -37,6 +38,7 @@ IsQuiet _ = ⊥
 
 pub quiet_of : (s : Step) → IsBesides s → IsQuiet s
 quiet_of (Let i p f g) b = b
+quiet_of Renew b = b
 quiet_of (On p (Link k)) b = absurd b
 quiet_of (On p (Deliver k)) b = tt
 quiet_of (On p Claim) b = tt
@@ -73,6 +75,7 @@ record_same P t t' station tag pc next index half = λ i. record {
 module _ (P : Program) (C : Sizes) (U : UpdateUnit) (by : ℕ) where
   pub trail_stays : (s : Step) → IsQuiet s → Allowed P C U by s → IsSound P U.tenants → trail P (applied P C U by s).tenants ≡ trail P U.tenants
   trail_stays (Let i pr f g) b a ok = absurd b
+  trail_stays Renew b a ok = absurd b
   trail_stays (On p act) b a ok =
       let us = U.tenants in
       let t = a.tenant in
@@ -87,10 +90,17 @@ module _ (P : Program) (C : Sizes) (U : UpdateUnit) (by : ℕ) where
       ∙ sym (ap (trail P) split))
 
   pub place_stays : (s : Step) → IsQuiet s → Allowed P C U by s → IsSound P U.tenants → next_station C (recent (applied P C U by s)) ≡ next_station C (recent U)
-  place_stays s b a ok = ap (λ n. n % C.ring) (sym (trail_length P (applied P C U by s).tenants) ∙ (ap (λ z. length z) (trail_stays s b a ok) ∙ trail_length P U.tenants))
+  place_stays (Let i pr f g) b a ok = absurd b
+  place_stays Renew b a ok = absurd b
+  place_stays (On p act) b a ok =
+      let us = U.tenants in
+      let t = a.tenant in
+      let own = sound_mid P t (older us p) (younger us p) (subst (IsSound P) (split_at us p t a.is) ok) in
+      ap (λ n. n % C.ring) (counts_same P U by p act t a.is on_path (quiet_grows P by act (younger us p) t (older us p) b a.may own).path)
 
   newest_stays : (s : Step) → IsQuiet s → Allowed P C U by s → IsSound P U.tenants → (n : Note) → IsNewest U n → IsNewest (applied P C U by s) n
   newest_stays (Let i pr f g) b a ok n h = absurd b
+  newest_stays Renew b a ok n h = absurd b
   newest_stays (On p act) b a ok n h = still_newest P C U by p act a ok n h
 
   pub stands_stay : (s : Step) → IsQuiet s → Allowed P C U by s → IsSound P U.tenants → (records : List Record) (base : List ℕ) (Again Again' : Note → Type 0) → ((n : Note) → Again n → Again' n) → Stands P C U records base Again → Stands P C (applied P C U by s) records base Again'

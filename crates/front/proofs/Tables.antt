@@ -14,7 +14,7 @@ use Rattle.inorder.specs.declared.history.Event.TheVariants.{Does, Marks}
 use Rattle.inorder.specs.declared.history.Mark.TheVariants.{Asked}
 use Rattle.inorder.specs.declared.history.Source.{Source}
 use Rattle.inorder.specs.declared.history.Step.{Step}
-use Rattle.inorder.specs.declared.history.Step.TheVariants.{Let, On}
+use Rattle.inorder.specs.declared.history.Step.TheVariants.{Let, On, Renew}
 use Rattle.inorder.specs.declared.history.Supply.{Supply}
 use Rattle.inorder.specs.Callers.{IsLastAt}
 use Rattle.inorder.specs.History.{front}
@@ -233,6 +233,7 @@ module _ (P : Program) (C : Sizes) (T : Table) where
 
   pub table_quiet : (U : UpdateUnit) (by : ℕ) (s : Step) → IsQuiet s → Allowed P C U by s → IsSound P U.tenants → HasTable P U T → HasTable P (applied P C U by s) T
   table_quiet U by (Let i pr f g) b a ok k = absurd b
+  table_quiet U by Renew b a ok k = absurd b
   table_quiet U by (On p act) b a ok k = table_on P C U by p act a ok T k (trail_stays P C U by (On p act) b a ok)
 
   pub table_stable : IsStable P C (λ U. HasTable P U T)

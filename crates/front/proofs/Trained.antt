@@ -27,8 +27,9 @@ use Rattle.front.specs.Trail.{Note, is_guessed, trail}
 use Rattle.front.proofs.Lists.{all_both, all_front, all_two}
 use Rattle.front.proofs.Named.{notes_noted, one_named, stands_right}
 use Rattle.front.proofs.Places.{others_next}
-use Rattle.front.proofs.Stations.{last_here, last_spot}
+use Rattle.front.proofs.Stations.{last_now, last_spot}
 use Rattle.front.proofs.Trails.{IsNoted, trail_all, trail_noted}
+use Rattle.inorder.proofs.Recent.{all_recent}
 
 same_tenant : (t u : Tenant) → Some t ≡ Some u → t ≡ u
 same_tenant t u e = cc e
@@ -123,7 +124,7 @@ module _ {S : Type 0} (Learns : S → ℕ → ℕ → S → Type 0) (P : Program
       by t Live e f = refl
       by t Squashed e f = refl
       by t Retired e f =
-          let l = last_spot U.tenants next t f in
+          let l = last_spot U.tenants next t (ap (λ z. last_of z next) (sym (all_recent P C h legal)) ∙ f) in
           absurd (trail_all P (λ n. (t : Tenant) → at U.tenants n.at ≡ Some t → t.station ≡ next → IsLastAt U n.at next → ⊥) U.tenants all_never l.p t l.is (ap stands_on_path e) t l.is l.place l.last)
 
       go : (o : Option Tenant) → last_of (recent U) next ≡ o → IsTold Learns P o s s
@@ -140,7 +141,7 @@ module _ {S : Type 0} (Learns : S → ℕ → ℕ → S → Type 0) (P : Program
       let p : gone.p ≡ n.at = one_named P C h legal gone.p n.at i.tenant t i.is noted.is (i.station_is ∙ ap (λ (z : Record). z.station) (sym noted.what)) (i.tag_is ∙ ap (λ (z : Record). z.tag) (sym noted.what)) in
       let one : i.tenant ≡ t = same_tenant i.tenant t (sym i.is ∙ (ap (at U.tenants) p ∙ noted.is)) in
       let retired : t.standing ≡ Retired = ap (λ (z : Tenant). z.standing) (sym one) ∙ i.fact.retired in
-      let last : last_of U.tenants next ≡ Some t = last_here U.tenants n.at next t noted.is (ap (λ (z : Record). z.station) noted.what ∙ place) (λ q u lt is same. newest q u lt is (same ∙ sym place)) in
+      let last : last_of (recent U) next ≡ Some t = last_now P C h legal n.at next t noted.is (ap (λ (z : Record). z.station) noted.what ∙ place) (λ q u lt is same. newest q u lt is (same ∙ sym place)) in
       let went : computed_next P t ≡ n.what.next = went_on P U.tenants (unit_sound P C h legal) n.at t noted.is retired ∙ ap (λ (z : Record). z.next) noted.what in
       let guessed : is_retired t && is_guessed P t ≡ n.what.guessed = ap (λ z. stands_retired z && is_guessed P t) retired ∙ ap (λ (z : Record). z.guessed) noted.what in
       let pc : t.pc ≡ n.what.pc = ap (λ (z : Record). z.pc) noted.what in

@@ -8,7 +8,7 @@ use Rattle.inorder.specs.declared.history.Act.TheVariants.{Claim, Deliver, Finis
 use Rattle.inorder.specs.declared.history.Source.{Source}
 use Rattle.inorder.specs.declared.history.Source.TheVariants.{First, Second}
 use Rattle.inorder.specs.declared.history.Step.{Step}
-use Rattle.inorder.specs.declared.history.Step.TheVariants.{Let, On}
+use Rattle.inorder.specs.declared.history.Step.TheVariants.{Let, On, Renew}
 use Rattle.inorder.specs.Committed.{ahead, commits, with_retired}
 use Rattle.inorder.specs.Laws.{IsNoRetire, OnlyRetirementsCommit}
 use Rattle.inorder.specs.Legal.{Allowed, May, Taken, applied, changed, reached}
@@ -102,6 +102,7 @@ one_same P by act ys t ts other m so = go (commits t) refl
 pub ahead_by_others : (P : Program) (C : Sizes) (U : UpdateUnit) (by : ℕ) (s : Step) → IsSound P U.tenants →
     IsNoRetire s → Allowed P C U by s → ahead P (applied P C U by s).tenants ≡ ahead P U.tenants
 ahead_by_others P C U by (Let index predicted first second) sound other a = refl
+ahead_by_others P C U by Renew sound other a = refl
 ahead_by_others P C U by (On p act) sound other a =
     let ts = U.tenants in
     let t = a.tenant in

@@ -7,7 +7,7 @@ use Rattle.inorder.specs.declared.history.Act.{Act}
 use Rattle.inorder.specs.declared.history.Act.TheVariants.{Claim, Deliver, Finish, Link, Load, Mend, Retire, Squash}
 use Rattle.inorder.specs.declared.history.Source.TheVariants.{First, Second}
 use Rattle.inorder.specs.declared.history.Step.{Step}
-use Rattle.inorder.specs.declared.history.Step.TheVariants.{Let, On}
+use Rattle.inorder.specs.declared.history.Step.TheVariants.{Let, On, Renew}
 use Rattle.inorder.specs.Committed.{ahead, commits, commits_by, committed, completes, with_tenant}
 use Rattle.inorder.specs.Laws.{HistoryGrows, IsNoRetire}
 use Rattle.inorder.specs.Legal.{Allowed, AreAllowed, May, Taken, applied, changed, reached}
@@ -196,6 +196,7 @@ count_kept P C U by (On p act) other a =
     ∙ count_same P t t' (older ts p) (younger ts p) (both_stay P by act (younger ts p) t (older ts p)
     (is_other p act other) a.may)
     ∙ ap (λ V. (committed P V).count) (sym (split_at ts p t a.is))
+count_kept P C U by Renew other a = refl
 
 pub by_others : (P : Program) (C : Sizes) (U : UpdateUnit) (by : ℕ) (s : Step) → IsSound P U.tenants →
     IsNoRetire s → Allowed P C U by s → committed P (applied P C U by s).tenants ≡ committed P U.tenants
@@ -230,6 +231,7 @@ step_count P C U by (On p Finish) s a = let e = count_kept P C U by (On p Finish
 step_count P C U by (On p Load) s a = let e = count_kept P C U by (On p Load) tt a in omega (arith, e)
 step_count P C U by (On p Squash) s a = let e = count_kept P C U by (On p Squash) tt a in omega (arith, e)
 step_count P C U by (On p Mend) s a = let e = count_kept P C U by (On p Mend) tt a in omega (arith, e)
+step_count P C U by Renew s a = omega arith
 
 allowed_before : (P : Program) (C : Sizes) (more history : List Taken) → AreAllowed P C (more ++ history) →
     AreAllowed P C history

@@ -5,7 +5,7 @@ use Rattle.isa.specs.Programs.{Program, instr_of}
 use Rattle.inorder.specs.declared.history.Source.{Source}
 use Rattle.inorder.specs.declared.history.Source.TheVariants.{First, Second}
 use Rattle.inorder.specs.declared.history.Step.{Step}
-use Rattle.inorder.specs.declared.history.Step.TheVariants.{Let, On}
+use Rattle.inorder.specs.declared.history.Step.TheVariants.{Let, On, Renew}
 use Rattle.inorder.specs.declared.history.Supply.{Supply}
 use Rattle.inorder.specs.declared.history.Supply.TheVariants.{From, Known}
 use Rattle.inorder.specs.Legal.{Allowed, AreAllowed, Taken, applied, reached}
@@ -56,6 +56,7 @@ older_kept P C U by (Let index predicted first second) a ok o r t k q is e = ⊎
     (λ (new : (r ≡ length U.tenants) × (new_tenant P C U index predicted first second ≡ t)). subst (λ z. q < z) (sym new.0) (new_older P C U index predicted first second k q (ap (λ x. (operand k x).creator) new.1 ∙ e)))
     (at_cases (new_tenant P C U index predicted first second) U.tenants r t is)
 older_kept P C U by (On p act) a ok o r t k q is e = let was = came P C U by p act a ok r t is in o r was.tenant k q was.is (sym (was.goes.creator k) ∙ e)
+older_kept P C U by Renew a ok o r t k q is e = o r t k q is e
 
 pub are_older : (P : Program) (C : Sizes) (ss : List Taken) → AreAllowed P C ss → AreOlder (reached P C ss).tenants
 are_older P C [] a r t k q is e = absurd (cc)

@@ -106,6 +106,7 @@ linked_on_the_wrong_path_allowed = (
                 waits = computes_not_links;
                 other = apart 0 3 refl;
                 last = (apart 2 0 refl, (apart 1 0 refl, tt));
+                new = refl;
               };
               second_is = record {
                 p = 0;
@@ -115,6 +116,7 @@ linked_on_the_wrong_path_allowed = (
                 waits = computes_not_links;
                 other = apart 0 3 refl;
                 last = (apart 2 0 refl, (apart 1 0 refl, tt));
+                new = refl;
               };
             },
           ),
@@ -183,6 +185,7 @@ linked_elsewhere_allowed = (
           waits = computes_not_links;
           other = apart 1 3 refl;
           last = (apart 3 1 refl, (apart 2 1 refl, tt));
+          new = refl;
         };
         second_is = record {
           p = 1;
@@ -192,6 +195,7 @@ linked_elsewhere_allowed = (
           waits = computes_not_links;
           other = apart 1 3 refl;
           last = (apart 3 1 refl, (apart 2 1 refl, tt));
+          new = refl;
         };
       },
     ),

@@ -8,7 +8,7 @@ use Rattle.inorder.specs.declared.history.Act.TheVariants.{Claim, Deliver, Finis
 use Rattle.inorder.specs.declared.history.Source.{Source}
 use Rattle.inorder.specs.declared.history.Source.TheVariants.{First, Second}
 use Rattle.inorder.specs.declared.history.Step.{Step}
-use Rattle.inorder.specs.declared.history.Step.TheVariants.{Let, On}
+use Rattle.inorder.specs.declared.history.Step.TheVariants.{Let, On, Renew}
 use Rattle.inorder.specs.Guards.{Delivers, IsGivenRight}
 use Rattle.inorder.specs.Legal.{Allowed, May, Taken, applied, changed, reached}
 use Rattle.inorder.specs.Steps.{delivered, finished, linked, mended_as, new_tenant}
@@ -115,6 +115,7 @@ module _ (P : Program) (C : Sizes) (U : UpdateUnit) where
       ∙ ap (λ (z : Tenant). (operand k z).value) (sym z.tenant)))
       (λ (z : IsLeft P U.tenants by q act p t). ap (λ (x : Tenant). (operand k x).value) (one _ p u t now z.now))
       (at_changed P U.tenants by q act a.tenant a.is p t is)
+  others by p Renew k t u a ne is now = ap (λ (z : Tenant). (operand k z).value) (one U.tenants p u t now is)
 
 pub delivers : (P : Program) (C : Sizes) (history : List Taken) → Delivers P C history
 delivers P C history = record { gives = gives P C (reached P C history); others = others P C (reached P C history) }

@@ -7,7 +7,7 @@ use Rattle.inorder.specs.declared.history.Act.{Act}
 use Rattle.inorder.specs.declared.history.Act.TheVariants.{Claim, Deliver, Finish, Link, Load, Mend, Retire, Squash}
 use Rattle.inorder.specs.declared.history.Source.TheVariants.{First, Second}
 use Rattle.inorder.specs.declared.history.Step.{Step}
-use Rattle.inorder.specs.declared.history.Step.TheVariants.{Let, On}
+use Rattle.inorder.specs.declared.history.Step.TheVariants.{Let, On, Renew}
 use Rattle.inorder.specs.Callers.{CanLeave, CanMend, CanSquash, IsMissing, IsYoungest}
 use Rattle.inorder.specs.Legal.{Allowed, May, applied, changed}
 use Rattle.inorder.specs.Replies.{Has}
@@ -43,6 +43,7 @@ exact P C U by (On p act) a q t is =
     }))
     (λ (z : IsLeft P ts by p act q t). inl z.now)
     (at_changed P ts by p act a.tenant a.is q t is)
+exact P C U by Renew a q t is = inl is
 
 -- a tenant stays where it stands, unless it retires or is squashed
 pub data Leaves (P : Program) (ys : List Tenant) (t : Tenant) (ts : List Tenant) : Type 0 where
@@ -104,6 +105,7 @@ miss_stays P C U by s b a p x i = ⊎_elim
 pub youngest_stays : (P : Program) (C : Sizes) (U : UpdateUnit) (by : ℕ) (s : Step) → IsBesides s → Allowed P C U by s → IsSound P U.tenants → (p : ℕ) → IsYoungest U p → IsYoungest (applied P C U by s) p
 youngest_stays P C U by (Let i x f n) b a ok p y = absurd b
 youngest_stays P C U by (On r act) b a ok p y = λ q t lt is live. let was = came P C U by r act a ok q t is in y q was.tenant lt was.is (was.goes.live live)
+youngest_stays P C U by Renew b a ok p y = y
 
 -- it may be squashed: an older one is a live miss
 pub squash_stays : (P : Program) (C : Sizes) (U : UpdateUnit) (by : ℕ) (s : Step) → IsBesides s → Allowed P C U by s → IsSound P U.tenants → (p : ℕ) → CanSquash U p → CanSquash (applied P C U by s) p
@@ -169,8 +171,9 @@ IsNotBacksAct (Retire n) = ⊥
 IsNotBacksAct _ = Unit {0}
 
 abbrev pub IsNotBacks : Step → Type 0
+IsNotBacks (Let index predicted first second) = Unit {0}
 IsNotBacks (On p act) = IsNotBacksAct act
-IsNotBacks _ = Unit {0}
+IsNotBacks Renew = ⊥
 
 pub may_retire : (P : Program) (U : UpdateUnit) (p n : ℕ) (f : Fate) (c : CanLeave P U p f) → n < 4294967296 → MayRetire P n (older U.tenants p) c.tenant
 may_retire P U p n f c small =

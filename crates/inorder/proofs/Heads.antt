@@ -6,24 +6,24 @@ use Rattle.inorder.specs.declared.history.Act.{Act}
 use Rattle.inorder.specs.declared.history.Act.TheVariants.{Claim, Deliver, Finish, Link, Load, Mend, Retire, Squash}
 use Rattle.inorder.specs.declared.history.Source.TheVariants.{First, Second}
 use Rattle.inorder.specs.declared.history.Step.{Step}
-use Rattle.inorder.specs.declared.history.Step.TheVariants.{Let, On}
+use Rattle.inorder.specs.declared.history.Step.TheVariants.{Let, On, Renew}
 use Rattle.inorder.specs.Callers.{GoesOn, IsHead, head_station, is_retired, stands_retired}
 use Rattle.inorder.specs.Laws.{IsRing}
 use Rattle.inorder.specs.Legal.{Allowed, May, applied, changed}
 use Rattle.inorder.specs.Replies.{IsOver, IsRetiredStop}
 use Rattle.inorder.specs.Steps.{IsNoRetiredStop, new_tenant}
 use Rattle.inorder.specs.Tenants.{Addr, IsNotLive, Live, Retired, Squashed, Standing, Tenant, computed, on_path, stands_on_path}
-use Rattle.inorder.specs.Unit.{Sizes, UpdateUnit, at, how_many, older, younger}
+use Rattle.inorder.specs.Unit.{Sizes, UpdateUnit, at, how_many, older, recent, younger}
 use Rattle.inorder.proofs.Basics.{split_at}
 use Rattle.inorder.proofs.Creators.{at_cases}
 use Rattle.inorder.proofs.Ends.{Acted, IsNotBacks, IsNotBacksAct, exact, oldest_live, retired_on, still_oldest}
 use Rattle.inorder.proofs.Grows.{all_mid}
 use Rattle.inorder.proofs.Kept.{parts}
-use Rattle.inorder.proofs.Letting.{how_many_same}
 use Rattle.inorder.proofs.Moves.{came, goes}
 use Rattle.inorder.proofs.Positions.{all_at, at_below, at_more, at_new, older_from}
 use Rattle.inorder.proofs.Sound.{IsSettled, IsSound, SettledBy}
-use Rattle.inorder.proofs.Stations.{finished_station, mended_station}
+use Rattle.inorder.proofs.Recent.{among_all, counts_same, live_recent, recent_at}
+use Rattle.inorder.proofs.Stations.{AreSettling, OldGone, finished_station, mended_station, settling, settling_newest}
 
 -- The oldest live tenant, or none
 
@@ -81,26 +81,32 @@ path_retired (t ∷ ts) h = go t.standing refl (path_retired ts h.1)
         ∙ (r ∙ sym (ap (λ s. cond (stands_retired s) (suc (how_many is_retired ts)) (how_many is_retired ts)) e))
 
 -- behind a live one none has retired
-none_behind : (P : Program) (t : Tenant) (ts ys : List Tenant) → t.standing ≡ Live → IsSound P (ys ++ t ∷ ts) → how_many is_retired (ys ++ t ∷ ts) ≡ how_many is_retired ts
-none_behind P t ts [] live s = ap (λ z. cond (stands_retired z) (suc (how_many is_retired ts)) (how_many is_retired ts)) live
-none_behind P t ts (y ∷ ys) live s = go y.standing refl (none_behind P t ts ys live s.1)
+none_behind : (t : Tenant) (ts ys : List Tenant) → t.standing ≡ Live → AreSettling (ys ++ t ∷ ts) → how_many is_retired (ys ++ t ∷ ts) ≡ how_many is_retired ts
+none_behind t ts [] live s = ap (λ z. cond (stands_retired z) (suc (how_many is_retired ts)) (how_many is_retired ts)) live
+none_behind t ts (y ∷ ys) live s = go y.standing refl (none_behind t ts ys live s.1)
   where
     go : (st : Standing) → y.standing ≡ st → how_many is_retired (ys ++ t ∷ ts) ≡ how_many is_retired ts → how_many is_retired (y ∷ (ys ++ t ∷ ts)) ≡ how_many is_retired ts
     go Live e r = ap (λ z. cond (stands_retired z) (suc (how_many is_retired (ys ++ t ∷ ts))) (how_many is_retired (ys ++ t ∷ ts))) e ∙ r
     go Squashed e r = ap (λ z. cond (stands_retired z) (suc (how_many is_retired (ys ++ t ∷ ts))) (how_many is_retired (ys ++ t ∷ ts))) e ∙ r
     go Retired e r =
-        let q = all_mid IsSettled t ts ys ((s.0.placed (ap stands_on_path e)).settled e) in
+        let q = all_mid IsSettled t ts ys (s.0 e) in
         absurd (subst (λ x. SettledBy x t.fate) live q)
 
-pub head_at : (P : Program) (C : Sizes) (U : UpdateUnit) → IsSound P U.tenants → IsRing C U.tenants → (o : Oldest U.tenants) → o.tenant.station ≡ head_station C U
-head_at P C U ok ring o =
-    let us = U.tenants in
-    let below = at_below us o.p o.tenant o.is in
-    let older_all = older_from IsNotLive us o.p below (λ q u lt e. o.oldest q u lt e) in
-    let split = split_at us o.p o.tenant o.is in
-    let counted : how_many is_retired us ≡ how_many is_retired (older us o.p) =
-    ap (how_many is_retired) split ∙ none_behind P o.tenant (older us o.p) (younger us o.p) o.live (subst (IsSound P) split ok) in
-    ring.place o.p o.tenant o.is (ap stands_on_path o.live) ∙ (λ i. (path_retired (older us o.p) older_all ∙ sym counted) i % C.ring)
+pub head_at : (P : Program) (C : Sizes) (U : UpdateUnit) → IsSound P U.tenants → IsRing C (recent U) → OldGone U → (o : Oldest U.tenants) → o.tenant.station ≡ head_station C U
+head_at P C U ok ring gone o =
+    let us = recent U in
+    let here = recent_at U o.p o.tenant o.is (live_recent U gone o.p o.tenant o.is o.live) in
+    let position = here.position in
+    let below = at_below us here.r o.tenant here.is in
+    let older_all = older_from IsNotLive us here.r below (λ q u lt e.
+    let all = among_all U q u e in
+    let there = all.position in
+    o.oldest all.p u (omega (arith, lt, position, there)) all.is) in
+    let split = split_at us here.r o.tenant here.is in
+    let counted : how_many is_retired us ≡ how_many is_retired (older us here.r) =
+    ap (how_many is_retired) split ∙ none_behind o.tenant (older us here.r) (younger us here.r) o.live
+    (subst AreSettling split (settling_newest U.fresh U.tenants (settling P U.tenants ok))) in
+    ring.place here.r o.tenant here.is (ap stands_on_path o.live) ∙ (λ i. (path_retired (older us here.r) older_all ∙ sym counted) i % C.ring)
 
 -- What others keep
 
@@ -121,8 +127,8 @@ head_stays P C U by (Let index predicted first second) b a = refl
 head_stays P C U by (On p act) b a =
     let us = U.tenants in
     let t = a.tenant in
-    let same = how_many_same is_retired t (changed P by act t (older us p)) (older us p) (younger us p) (retired_same P by act (younger us p) t (older us p) b a.may) in
-    λ i. (ap (how_many is_retired) (parts P us by p act t a.is) ∙ (same ∙ ap (how_many is_retired) (sym (split_at us p t a.is)))) i % C.ring
+    ap (λ z. z % C.ring) (counts_same P U by p act t a.is is_retired (retired_same P by act (younger us p) t (older us p) b a.may))
+head_stays P C U by Renew b a = absurd b
 
 found : (t u : Tenant) → Some t ≡ Some u → t ≡ u
 found t u e = cc e
@@ -146,6 +152,7 @@ goes_on_stays P C U by (On r act) b a ok g p t is =
     subst IsNoRetiredStop (found (changed P by z.act was.tenant (older U.tenants p)) t (sym z.now ∙ is))
     (no_stop_kept was.tenant (changed P by z.act was.tenant (older U.tenants p)) (g p was.tenant was.is) (retired_on P by z.act (younger U.tenants p) was.tenant (older U.tenants p) (subst IsNotBacks z.step b) z.may)))
     (exact P C U by (On r act) a p was.tenant was.is)
+goes_on_stays P C U by Renew b a ok g p t is = g p t is
 
 -- an address stays, but for the back
 addr_on : (P : Program) (by : ℕ) (act : Act) (ys : List Tenant) (t : Tenant) (ts : List Tenant) (x : ℕ) → IsNotBacksAct act → May P by act ys t ts → t.fate ≡ Addr x → (changed P by act t ts).fate ≡ Addr x

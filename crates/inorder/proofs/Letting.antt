@@ -1,5 +1,5 @@
 -- A tenant that may be let may still be let, and is the same, after the steps of other callers.
-use Rattle.std.proofs.Common.{◌≡◌, ◌≢◌, ℕ, suc, ◌+◌, ◌%◌, ◌≤◌, Bool, true, false, cond, ◌&&◌, eqb, List, [], ◌∷◌, ◌++◌, length, Option, Some, refl, sym, ap, ◌∙◌, subst, arith}
+use Rattle.std.proofs.Common.{ltb, ⊎_elim, ◌≡◌, ◌≢◌, ℕ, suc, ◌+◌, ◌%◌, ◌≤◌, Bool, true, false, cond, ◌&&◌, eqb, List, [], ◌∷◌, ◌++◌, length, Option, Some, refl, sym, ap, ◌∙◌, subst, arith}
 use Rattle.std.specs.List.{AllByRecursion}
 use Rattle.std.specs.Prelude.{IfSome}
 use Rattle.isa.specs.Instruction.{first_of, fixed_next, kind, second_of}
@@ -8,17 +8,18 @@ use Rattle.isa.specs.Programs.{Program, instr_of}
 use Rattle.inorder.specs.declared.history.Act.{Act}
 use Rattle.inorder.specs.declared.history.Act.TheVariants.{Claim, Deliver, Finish, Link, Load, Mend, Retire, Squash}
 use Rattle.inorder.specs.declared.history.Step.{Step}
-use Rattle.inorder.specs.declared.history.Step.TheVariants.{Let, On}
+use Rattle.inorder.specs.declared.history.Step.TheVariants.{Let, On, Renew}
 use Rattle.inorder.specs.declared.history.Supply.{Supply}
 use Rattle.inorder.specs.declared.history.Supply.TheVariants.{From, Known}
 use Rattle.inorder.specs.Legal.{Allowed, May, MayAct, applied, change_at, changed}
 use Rattle.inorder.specs.Steps.{MayLet, MaySupply, let_operand, new_tenant}
 use Rattle.inorder.specs.Tenants.{Live, Open, Retired, Squashed, Standing, Tenant, computed, is_access, is_live, kind_of, made_at_let, on_path, stands_live}
-use Rattle.inorder.specs.Unit.{Sizes, UpdateUnit, at, creator, front_half, front_pc, how_many, next_station, next_tag, older, younger}
+use Rattle.inorder.specs.Unit.{Sizes, UpdateUnit, at, creator, front_half, front_pc, how_many, next_station, next_tag, older, recent, younger}
 use Rattle.inorder.proofs.Basics.{split_at}
 use Rattle.inorder.proofs.Grows.{Grows, creator_grows, front_grows, half_grows, same_length, sound_mid, value_of_grows}
 use Rattle.inorder.proofs.Kept.{claim_grows, deliver_grows, finish_grows, load_may_grow, parts, retire_grows}
 use Rattle.inorder.proofs.Moves.{Forward, changed_goes, goes_at}
+use Rattle.inorder.proofs.Tags.{IsNewPlace, IsOldPlace, cut}
 use Rattle.inorder.proofs.Sound.{IsSound, IsSoundAt}
 use Rattle.inorder.proofs.Tags.{count_same}
 
@@ -94,7 +95,7 @@ live_only t t' live h = go t'.standing refl h
     go Retired e m = let no : false ≡ true = sym (ap stands_live e) ∙ m in absurd (cc)
     go Squashed e m = let no : false ≡ true = sym (ap stands_live e) ∙ m in absurd (cc)
 
-module _ (P : Program) (C : Sizes) (t t' : Tenant) (ts ys : List Tenant) (g : Grows P t t') (place : t'.station ≡ t.station) (live : t'.standing ≡ Live → t.standing ≡ Live) where
+module _ (P : Program) (C : Sizes) (n : ℕ) (t t' : Tenant) (ts ys : List Tenant) (g : Grows P t t') (place : t'.station ≡ t.station) (live : t'.standing ≡ Live → t.standing ≡ Live) where
   abbrev us : List Tenant
   us = ys ++ t ∷ ts
 
@@ -102,16 +103,22 @@ module _ (P : Program) (C : Sizes) (t t' : Tenant) (ts ys : List Tenant) (g : Gr
   vs = ys ++ t' ∷ ts
 
   abbrev U : UpdateUnit
-  U = record { tenants = us }
+  U = record { tenants = us; fresh = n }
 
   abbrev V : UpdateUnit
-  V = record { tenants = vs }
+  V = record { tenants = vs; fresh = n }
 
-  same_station : next_station C vs ≡ next_station C us
-  same_station = ap (λ n. n % C.ring) (how_many_same on_path t t' ts ys g.path)
+  same_count : (f : Tenant → Bool) → f t' ≡ f t → how_many f (recent V) ≡ how_many f (recent U)
+  same_count f e = ⊎_elim
+      (λ (old : IsOldPlace n ys ts). ap (how_many f) (old.same t' t))
+      (λ (new : IsNewPlace n ys ts). ap (how_many f) (new.is t') ∙ how_many_same f t t' new.zs ys e ∙ sym (ap (how_many f) (new.is t)))
+      (cut n ys ts)
 
-  same_tag : next_tag C vs ≡ next_tag C us
-  same_tag = ap (λ s. C.first_tag + how_many (λ u. eqb u.station s) vs) same_station ∙ ap (λ n. C.first_tag + n) (count_same t t' ts ys (next_station C us) place)
+  same_station : next_station C (recent V) ≡ next_station C (recent U)
+  same_station = ap (λ z. z % C.ring) (same_count on_path g.path)
+
+  same_tag : next_tag C (recent V) ≡ next_tag C (recent U)
+  same_tag = ap (λ s. C.first_tag + how_many (λ u. eqb u.station s) (recent V)) same_station ∙ ap (λ z. C.first_tag + z) (same_count (λ u. eqb u.station (next_station C (recent U))) (ap (λ z. eqb z (next_station C (recent U))) place))
 
   same_pc : front_pc vs ≡ front_pc us
   same_pc = front_grows t t' ts ys g.next g.path
@@ -159,6 +166,7 @@ module _ (P : Program) (C : Sizes) (t t' : Tenant) (ts ys : List Tenant) (g : Gr
         waits = λ e. h.waits (ap (λ k. kind (instr_of P k).op) (sym m.index) ∙ e);
         other = λ e. h.other (sym m.station ∙ e);
         last = subst (λ x. AllByRecursion (λ u. u.station ≢ x) (younger vs h.p)) (sym m.station) (younger_same h.tenant.station h.p t t' ts ys place h.last);
+        new = subst (λ l. ltb (h.p + n) l ≡ false) (same_length t t' ts ys) h.new;
       }
 
   let_stays : ((q : ℕ) (u : Tenant) → at us q ≡ Some u → Stays q u) → (index predicted : ℕ) (first second : Supply) → MayLet P C U index predicted first second → MayLet P C V index predicted first second
@@ -174,16 +182,16 @@ module _ (P : Program) (C : Sizes) (t t' : Tenant) (ts ys : List Tenant) (g : Gr
         small = m.small;
         predicts = subst (λ (x : Half × ℕ). IfSome (fixed_next i x.0 x.1) (λ z. predicted ≡ z)) (λ j. (sym same_half j, sym same_pc j)) m.predicts;
         first_is = subst (λ (z : ℕ × Option ℕ). MaySupply P V z.0 z.1 first) (λ j. (sym same_station j, sym (same_creator (first_of i)) j))
-            (may_supply (next_station C us) (creator P us (first_of i)) first goes m.first_is);
+            (may_supply (next_station C (recent U)) (creator P us (first_of i)) first goes m.first_is);
         second_is = subst (λ (z : ℕ × Option ℕ). MaySupply P V z.0 z.1 second) (λ j. (sym same_station j, sym (same_creator (second_of i)) j))
-            (may_supply (next_station C us) (creator P us (second_of i)) second goes m.second_is);
+            (may_supply (next_station C (recent U)) (creator P us (second_of i)) second goes m.second_is);
       }
 
 -- What stays of a let: that it is allowed, and the tenant
 pub record LetStays (P : Program) (C : Sizes) (U V : UpdateUnit) (index predicted : ℕ) (first second : Supply) : Type 0 where
   pub may : MayLet P C V index predicted first second
   pub new : new_tenant P C V index predicted first second ≡ new_tenant P C U index predicted first second
-  pub tag : next_tag C V.tenants ≡ next_tag C U.tenants
+  pub tag : next_tag C (recent V) ≡ next_tag C (recent U)
 
 stays_at : (P : Program) (C : Sizes) (U : UpdateUnit) (by p : ℕ) (act : Act) → IsBesidesAct act → MayAct P U.tenants by p act → IsSound P U.tenants → (index predicted : ℕ) (first second : Supply) → MayLet P C U index predicted first second
     → LetStays P C U (applied P C U by (On p act)) index predicted first second
@@ -196,15 +204,16 @@ stays_at P C U by p act b a sound index predicted first second m =
     let g = besides_grows P by act (younger us p) t (older us p) b a.may own in
     let move = changed_goes P by p act (younger us p) t (older us p) a.may own in
     let put = parts P us by p act t a.is in
-    let m' = subst (λ z. MayLet P C (record { tenants = z }) index predicted first second) split m in
-    let go : (q : ℕ) (u : Tenant) → at (younger us p ++ t ∷ older us p) q ≡ Some u → Stays P C t t' (older us p) (younger us p) g move.station move.live q u =
+    let m' = subst (λ z. MayLet P C (record { tenants = z; fresh = U.fresh }) index predicted first second) split m in
+    let go : (q : ℕ) (u : Tenant) → at (younger us p ++ t ∷ older us p) q ≡ Some u → Stays P C U.fresh t t' (older us p) (younger us p) g move.station move.live q u =
     λ q u h. let x : Forward by (On p act) (change_at P us by p act (at us p)) q u = goes_at P us by p act a sound q u (ap (λ z. at z q) split ∙ h) in
     record { tenant = x.tenant; is = ap (λ z. at z q) (sym put) ∙ x.is; station = x.goes.station; index = x.goes.index } in
-    let stay = let_stays P C t t' (older us p) (younger us p) g move.station move.live go index predicted first second m' in
-    let same = same_new P C t t' (older us p) (younger us p) g move.station move.live index predicted first second in
-    let tag = same_tag P C t t' (older us p) (younger us p) g move.station move.live in
-    subst (λ (z : List Tenant × List Tenant). LetStays P C (record { tenants = z.0 }) (record { tenants = z.1 }) index predicted first second) (λ j. (sym split j, sym put j)) (record { may = stay; new = same; tag = tag })
+    let stay = let_stays P C U.fresh t t' (older us p) (younger us p) g move.station move.live go index predicted first second m' in
+    let same = same_new P C U.fresh t t' (older us p) (younger us p) g move.station move.live index predicted first second in
+    let tag = same_tag P C U.fresh t t' (older us p) (younger us p) g move.station move.live in
+    subst (λ (z : List Tenant × List Tenant). LetStays P C (record { tenants = z.0; fresh = U.fresh }) (record { tenants = z.1; fresh = U.fresh }) index predicted first second) (λ j. (sym split j, sym put j)) (record { may = stay; new = same; tag = tag })
 
 pub let_lasts : (P : Program) (C : Sizes) (U : UpdateUnit) (by : ℕ) (s : Step) → IsBesides s → Allowed P C U by s → IsSound P U.tenants → (index predicted : ℕ) (first second : Supply) → MayLet P C U index predicted first second → LetStays P C U (applied P C U by s) index predicted first second
 let_lasts P C U by (Let i p f n) b a sound index predicted first second m = absurd b
 let_lasts P C U by (On p act) b a sound index predicted first second m = stays_at P C U by p act b a sound index predicted first second m
+let_lasts P C U by Renew b a sound index predicted first second m = absurd b

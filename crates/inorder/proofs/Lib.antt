@@ -33,6 +33,7 @@ pub mod Ends
 pub mod Creators
 pub mod Loading
 pub mod Histories
+pub mod Recent
 pub mod Examples
 mod LoopRun
 mod WrongPathRun

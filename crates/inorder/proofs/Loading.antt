@@ -11,7 +11,7 @@ use Rattle.inorder.specs.declared.history.Act.{Act}
 use Rattle.inorder.specs.declared.history.Act.TheVariants.{Claim, Deliver, Finish, Link, Load, Mend, Retire, Squash}
 use Rattle.inorder.specs.declared.history.Source.TheVariants.{First, Second}
 use Rattle.inorder.specs.declared.history.Step.{Step}
-use Rattle.inorder.specs.declared.history.Step.TheVariants.{Let, On}
+use Rattle.inorder.specs.declared.history.Step.TheVariants.{Let, On, Renew}
 use Rattle.inorder.specs.Callers.{CanLoad}
 use Rattle.inorder.specs.Legal.{Allowed, May, MayAct, applied, change_at, changed}
 use Rattle.inorder.specs.Memory.{raw, raw_at}
@@ -135,6 +135,7 @@ reads P C U by (Let index predicted first second) b may ok p a v c =
     let below = at_below U.tenants p c.t c.is in
     subst (λ z. HasRead P z (instr P c.t) (Address a) v) (sym (ap (λ b. cond b U.tenants (older U.tenants p)) (eqb_less p (length U.tenants) below))) c.read
 reads P C U by (On r act) b may ok p a v c = read_at P U by r p a v act b may ok c
+reads P C U by Renew b may ok p a v c = c.read
 
 reads_stays : (P : Program) (C : Sizes) (U : UpdateUnit) (by : ℕ) (s : Step) → IsNotBacks s → Allowed P C U by s → IsSound P U.tenants → (p a v : ℕ) → Reads P U p a v → Reads P (applied P C U by s) p a v ⊎ IsStale (applied P C U by s) p
 reads_stays P C U by s b may ok p a v c =

@@ -83,6 +83,7 @@ counted_to_two_allowed = (
                       waits = computes_not_links;
                       other = apart 0 1 refl;
                       last = tt;
+                      new = refl;
                     };
                     second_is = refl;
                   },
@@ -264,6 +265,7 @@ counted_to_one_allowed = (
                     waits = computes_not_links;
                     other = apart 1 0 refl;
                     last = tt;
+                    new = refl;
                   };
                   second_is = refl;
                 },
@@ -432,6 +434,7 @@ left_the_loop_allowed = (
                               waits = computes_not_links;
                               other = apart 1 0 refl;
                               last = tt;
+                              new = refl;
                             };
                             second_is = refl;
                           },

@@ -13,7 +13,7 @@ use Rattle.inorder.specs.declared.history.Act.TheVariants.{Claim, Deliver, Finis
 use Rattle.inorder.specs.declared.history.Source.{Source}
 use Rattle.inorder.specs.declared.history.Source.TheVariants.{First, Second}
 use Rattle.inorder.specs.declared.history.Step.{Step}
-use Rattle.inorder.specs.declared.history.Step.TheVariants.{Let, On}
+use Rattle.inorder.specs.declared.history.Step.TheVariants.{Let, On, Renew}
 use Rattle.inorder.specs.declared.history.Supply.{Supply}
 use Rattle.inorder.specs.declared.history.Supply.TheVariants.{From, Known}
 use Rattle.inorder.specs.Legal.{Allowed, AreAllowed, May, Taken, applied, changed, reached}
@@ -111,6 +111,7 @@ makers_kept P C U by (On p act) a ok all r t k is ne =
     let m = all r was.tenant k was.is before in
     let g = goes P C U by (On p act) a ok m.q m.tenant m.is in
     record { q = m.q; tenant = g.tenant; creates = was.goes.creator k ∙ m.creates; is = g.is; waits = λ e. m.waits (ap (λ i. kind (instr_of P i).op) (sym g.goes.index) ∙ e) }
+makers_kept P C U by Renew a ok all r t k is ne = all r t k is ne
 
 pub have_makers : (P : Program) (C : Sizes) (ss : List Taken) → AreAllowed P C ss → HaveMakers P (reached P C ss).tenants
 have_makers P C [] a r t k is ne = absurd (cc is)
@@ -205,6 +206,7 @@ stops_kept P C U by (On r act) a ok all p t c is e f =
     (λ (z : Acted P U by (On r act) V.tenants p was.tenant). let one : changed P by z.act was.tenant (older U.tenants p) ≡ t = found (changed P by z.act was.tenant (older U.tenants p)) t (sym z.now ∙ is) in
     subst (λ (x : Tenant). x.standing ≡ Retired → x.fate ≡ Stopped c → IsThere x.made) one (stop_made P by z.act (younger U.tenants p) was.tenant (older U.tenants p) c z.may (all p was.tenant c was.is)) e f)
     (exact P C U by (On r act) a p was.tenant was.is)
+stops_kept P C U by Renew a ok all p t c is e f = all p t c is e f
 
 pub stops_made : (P : Program) (C : Sizes) (ss : List Taken) → AreAllowed P C ss → StopsMade (reached P C ss).tenants
 stops_made P C [] a p t c is e f = absurd (cc is)
@@ -361,6 +363,7 @@ late_kept P C ss by (On p act) are a all r t k is late = ⊎_elim
     go (Retire n) e = inl (plain (subst Plain (sym e) tt))
     go Squash e = inl (plain (subst Plain (sym e) tt))
     go Mend e = inl (plain (subst Plain (sym e) tt))
+late_kept P C ss by Renew are a all r t k is late = all r t k is late
 
 pub are_late : (P : Program) (C : Sizes) (ss : List Taken) → AreAllowed P C ss → AreLate (reached P C ss).tenants
 are_late P C [] a r t k is late = absurd (cc is)

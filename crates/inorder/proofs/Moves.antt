@@ -10,7 +10,7 @@ use Rattle.inorder.specs.declared.history.Act.TheVariants.{Claim, Deliver, Finis
 use Rattle.inorder.specs.declared.history.Source.{Source}
 use Rattle.inorder.specs.declared.history.Source.TheVariants.{First, Second}
 use Rattle.inorder.specs.declared.history.Step.{Step}
-use Rattle.inorder.specs.declared.history.Step.TheVariants.{Let, On}
+use Rattle.inorder.specs.declared.history.Step.TheVariants.{Let, On, Renew}
 use Rattle.inorder.specs.Callers.{IsHeld}
 use Rattle.inorder.specs.Legal.{Allowed, May, MayAct, applied, change_at, changed}
 use Rattle.inorder.specs.Replies.{IsOpen}
@@ -272,6 +272,7 @@ goes_at P ts by p act a sound q u here =
 pub goes : (P : Program) (C : Sizes) (U : UpdateUnit) (by : ℕ) (s : Step) → Allowed P C U by s → IsSound P U.tenants → (q : ℕ) (u : Tenant) → at U.tenants q ≡ Some u → Forward by s (applied P C U by s).tenants q u
 goes P C U by (Let index predicted first second) a sound q u here = record { tenant = u; is = at_more (new_tenant P C U index predicted first second) U.tenants q u here; goes = stays by _ u }
 goes P C U by (On p act) a sound q u here = goes_at P U.tenants by p act a sound q u here
+goes P C U by Renew a sound q u here = record { tenant = u; is = here; goes = stays by _ u }
 
 -- each tenant was there before an act
 pub came : (P : Program) (C : Sizes) (U : UpdateUnit) (by p : ℕ) (act : Act) → Allowed P C U by (On p act) → IsSound P U.tenants → (q : ℕ) (u : Tenant) → at (applied P C U by (On p act)).tenants q ≡ Some u → Backward by (On p act) U.tenants q u

@@ -1,5 +1,5 @@
 -- How the steps move the operands of the stations.
-use Rattle.std.proofs.Common.{◌≡◌, ◌≢◌, ◌⊎◌, ℕ, ◌<◌, Bool, true, false, cond, eqb, List, [], ◌∷◌, ◌++◌, length, Option, Some, refl, sym, ap, ◌∙◌, subst, ⊎_elim, arith, length-append}
+use Rattle.std.proofs.Common.{◌≡◌, ◌≢◌, ◌⊎◌, ℕ, ◌<◌, Bool, true, false, cond, eqb, List, [], ◌∷◌, ◌++◌, length, Option, Some, refl, sym, ap, ◌∙◌, subst, ⊎_elim, arith, length-append, suc, ◌+◌, ltb-true, ltb-false}
 use Rattle.isa.specs.Programs.{Program}
 use Rattle.isa.specs.declared.stop.Outcome.{Outcome}
 use Rattle.isa.specs.declared.stop.Outcome.TheVariants.{Pair, Address, Next, Stop as Stops, Value}
@@ -15,10 +15,11 @@ use Rattle.inorder.specs.OperandWords.{let_word, KeepsOperands, MovesOperands, O
 use Rattle.inorder.specs.StationWords.{last_of}
 use Rattle.inorder.specs.Steps.{delivered, finished, mended_as, new_tenant}
 use Rattle.inorder.specs.Tenants.{Addr, Busy, Done, Fate, Miss, Open, Stopped, Tenant, computed, operand}
-use Rattle.inorder.specs.Unit.{Sizes, UpdateUnit, at, next_station, next_tag, older, recent, value_of, younger}
+use Rattle.inorder.specs.Unit.{is_old, newest_of, Sizes, UpdateUnit, at, next_station, next_tag, older, recent, value_of, younger}
 use Rattle.inorder.proofs.Basics.{eqb_less, eqb_self, split_at}
+use Rattle.inorder.proofs.QueuePlaces.{older_length}
 use Rattle.inorder.proofs.Kept.{parts}
-use Rattle.inorder.proofs.Tags.{AreTagged, higher, same_place, tagged}
+use Rattle.inorder.proofs.Tags.{IsNewPlace, IsOldPlace, cut, AreTagged, higher, same_place, tagged}
 
 -- The last tenant of a station, as seen by a function of it
 seen_same : {X : Type 0} (g : Option Tenant → X) (t u : Tenant) (ts ys : List Tenant) (s : ℕ) →
@@ -162,52 +163,91 @@ module _ (P : Program) (C : Sizes) (U : UpdateUnit) (by : ℕ) (tags : AreTagged
       go true = let_operands index predicted first second k
       go false = refl
 
-  to_last : (p : ℕ) (k : Source) (t : Tenant) → at U.tenants p ≡ Some t →
+  -- the place of a tenant in the list
+  wide : (p : ℕ) (t : Tenant) → at U.tenants p ≡ Some t → length U.tenants ≡ suc (length (younger U.tenants p) + p)
+  wide p t e =
+      let split = ap (λ z. length z) (split_at U.tenants p t e) in
+      let all = length-append (younger U.tenants p) (t ∷ older U.tenants p) in
+      let own = older_length U.tenants p t e in
+      omega (arith, split, all, own)
+
+  new_place : (p : ℕ) (t : Tenant) → at U.tenants p ≡ Some t → is_old U p ≡ false →
+      IsNewPlace U.fresh (younger U.tenants p) (older U.tenants p)
+  new_place p t e new = ⊎_elim
+      (λ (old : IsOldPlace U.fresh (younger U.tenants p) (older U.tenants p)).
+      let w = wide p t e in
+      let f = old.few in
+      let no = ltb-false (p + U.fresh) (length U.tenants) new in
+      absurd (omega (arith, w, f, no)))
+      (λ n. n)
+      (cut U.fresh (younger U.tenants p) (older U.tenants p))
+
+  old_place : (p : ℕ) (t : Tenant) → at U.tenants p ≡ Some t → is_old U p ≡ true →
+      IsOldPlace U.fresh (younger U.tenants p) (older U.tenants p)
+  old_place p t e old = ⊎_elim
+      (λ o. o)
+      (λ (new : IsNewPlace U.fresh (younger U.tenants p) (older U.tenants p)).
+      let w = wide p t e in
+      let f = new.many in
+      let no = ltb-true (p + U.fresh) (length U.tenants) old in
+      absurd (omega (arith, w, f, no)))
+      (cut U.fresh (younger U.tenants p) (older U.tenants p))
+
+  to_last : (p : ℕ) (k : Source) (t : Tenant) → at U.tenants p ≡ Some t → is_old U p ≡ false →
       last_of (recent U) t.station ≡ Some t →
       operand_word (recent (applied P C U by (On p (Deliver k)))) t.station k ≡ Some
       (record { tag = t.tag; value = value_of (older U.tenants p) (operand k t).creator })
-  to_last p k t e h =
+  to_last p k t e new h =
       let ts = U.tenants in
-      let split = split_at ts p t e in
+      let n = new_place p t e new in
+      let now = ap (newest_of U.fresh) (split_at ts p t e) ∙ n.is t in
       let u = delivered (older ts p) t k in
       let same = (same_place P by (Deliver k) t (older ts p)).0 in
-      let last = last_here C t u (older ts p) (younger ts p) same (subst (AreTagged C) split tags) (ap
-      (λ W. last_of W t.station) (sym split) ∙ h) in
-      ap (λ W. operand_word W t.station k) (parts P ts by p (Deliver k) t e) ∙ ap (operand_word_of k) last
+      let last = last_here C t u n.zs (younger ts p) same (subst (AreTagged C) now tags) (ap
+      (λ W. last_of W t.station) (sym now) ∙ h) in
+      ap (λ W. operand_word (newest_of U.fresh W) t.station k) (parts P ts by p (Deliver k) t e)
+      ∙ ap (λ W. operand_word W t.station k) (n.is u) ∙ ap (operand_word_of k) last
       ∙ given_operand (older ts p) t k
 
-  elsewhere : (p : ℕ) (k : Source) (t : Tenant) (s : ℕ) (j : Source) → at U.tenants p ≡ Some t →
-      (last_of (recent U) s ≢ Some t) ⊎ (j ≢ k) →
-      operand_word (recent (applied P C U by (On p (Deliver k)))) s j ≡ operand_word (recent U) s j
-  elsewhere p k t s j e h =
+  -- another tenant at the place of t
+  moved : (p : ℕ) (act : Act) (t : Tenant) (s : ℕ) (j : Source) → at U.tenants p ≡ Some t →
+      ((zs : List Tenant) → newest_of U.fresh U.tenants ≡ younger U.tenants p ++ t ∷ zs →
+      operand_word (younger U.tenants p ++ changed P by act t (older U.tenants p) ∷ zs) s j ≡ operand_word (younger U.tenants p ++ t ∷ zs) s j) →
+      operand_word (recent (applied P C U by (On p act))) s j ≡ operand_word (recent U) s j
+  moved p act t s j e f =
       let ts = U.tenants in
-      let split = split_at ts p t e in
-      let u = delivered (older ts p) t k in
-      let same = (same_place P by (Deliver k) t (older ts p)).0 in
-      let n : (last_of ts s ≢ Some t) →
-      operand_word (younger ts p ++ u ∷ older ts p) s j ≡ operand_word
-      (younger ts p ++ t ∷ older ts p) s j =
-      λ ne. ap (operand_word_of j) (last_not t u (older ts p) (younger ts p) s same
-      (λ x. ne (ap (λ W. last_of W s) split ∙ x)))
-      in
-      let m : (j ≢ k) →
-      operand_word (younger ts p ++ u ∷ older ts p) s j ≡ operand_word
-      (younger ts p ++ t ∷ older ts p) s j =
-      λ ne. seen_same (operand_word_of j) t u (older ts p) (younger ts p) s same (other_operand
-      (older ts p) t j k ne)
-      in
-      ap (λ W. operand_word W s j) (parts P ts by p (Deliver k) t e) ∙ ⊎_elim n m h
+      let u = changed P by act t (older ts p) in
+      let split = ap (newest_of U.fresh) (split_at ts p t e) in
+      ap (λ W. operand_word (newest_of U.fresh W) s j) (parts P ts by p act t e)
+      ∙ ⊎_elim
+      (λ (old : IsOldPlace U.fresh (younger ts p) (older ts p)). ap (λ W. operand_word W s j) (old.same u t))
+      (λ (n : IsNewPlace U.fresh (younger ts p) (older ts p)).
+      ap (λ W. operand_word W s j) (n.is u) ∙ f n.zs (split ∙ n.is t) ∙ sym (ap (λ W. operand_word W s j) (n.is t)))
+      (cut U.fresh (younger ts p) (older ts p))
       ∙ ap (λ W. operand_word W s j) (sym split)
+
+  elsewhere : (p : ℕ) (k : Source) (t : Tenant) (s : ℕ) (j : Source) → at U.tenants p ≡ Some t →
+      (is_old U p ≡ true) ⊎ (last_of (recent U) s ≢ Some t) ⊎ (j ≢ k) →
+      operand_word (recent (applied P C U by (On p (Deliver k)))) s j ≡ operand_word (recent U) s j
+  elsewhere p k t s j e h = ⊎_elim
+      (λ o. let old = old_place p t e o in
+      ap (λ W. operand_word (newest_of U.fresh W) s j) (parts P U.tenants by p (Deliver k) t e)
+      ∙ ap (λ W. operand_word W s j) (old.same (delivered (older U.tenants p) t k) t ∙ sym (ap (newest_of U.fresh) (split_at U.tenants p t e))))
+      (λ (h' : (last_of (recent U) s ≢ Some t) ⊎ (j ≢ k)). moved p (Deliver k) t s j e (λ zs now.
+      let same = (same_place P by (Deliver k) t (older U.tenants p)).0 in
+      ⊎_elim
+      (λ ne. ap (operand_word_of j) (last_not t (delivered (older U.tenants p) t k) zs (younger U.tenants p) s same (λ x. ne (ap (λ W. last_of W s) now ∙ x))))
+      (λ ne. seen_same (operand_word_of j) t (delivered (older U.tenants p) t k) zs (younger U.tenants p) s same (other_operand (older U.tenants p) t j k ne))
+      h'))
+      h
 
   operands_kept : (p : ℕ) (act : Act) (s : ℕ) (j : Source) → KeepsOperands act → Allowed P C U by (On p act) →
       operand_word (recent (applied P C U by (On p act))) s j ≡ operand_word (recent U) s j
   operands_kept p act s j k a =
-      let ts = U.tenants in
       let t = a.tenant in
-      ap (λ W. operand_word W s j) (parts P ts by p act t a.is)
-      ∙ seen_same (operand_word_of j) t (changed P by act t (older ts p)) (older ts p) (younger ts p) s
-      (same_place P by act t (older ts p)).0 (kept_operand P by act t (older ts p) j k)
-      ∙ ap (λ W. operand_word W s j) (sym (split_at ts p t a.is))
+      moved p act t s j a.is (λ zs now.
+      seen_same (operand_word_of j) t (changed P by act t (older U.tenants p)) zs (younger U.tenants p) s
+      (same_place P by act t (older U.tenants p)).0 (kept_operand P by act t (older U.tenants p) j k))
 
   moves_operands : MovesOperands P C U by
   moves_operands =

@@ -11,7 +11,7 @@ use Rattle.inorder.specs.declared.history.Event.TheVariants.{Does, Marks, Refuse
 use Rattle.inorder.specs.declared.history.Source.{Source}
 use Rattle.inorder.specs.declared.history.Source.TheVariants.{First, Second}
 use Rattle.inorder.specs.declared.history.Step.{Step}
-use Rattle.inorder.specs.declared.history.Step.TheVariants.{Let, On}
+use Rattle.inorder.specs.declared.history.Step.TheVariants.{Let, On, Renew}
 use Rattle.inorder.specs.declared.history.Supply.{Supply}
 use Rattle.inorder.specs.declared.history.Supply.TheVariants.{From, Known}
 use Rattle.inorder.specs.Callers.{HasMade, IsServed}
@@ -148,6 +148,7 @@ module _ (P : Program) (C : Sizes) where
           let U = unit_of P C h in
           let g = goes P C U by (On p act) may.1 (unit_sound P C h l) q x.0.tenant x.0.is in
           (record { tenant = g.tenant; is = g.is; made = g.goes.made v x.0.made }, linked_act h l by p act may.1 q v x.0 c k Fact (λ t t' m f. keeps by (On p act) t t' m f) x.1)
+      go h by (Does Renew) l may x = (record { tenant = x.0.tenant; is = x.0.is; made = x.0.made }, x.1)
       go h by (Refuses r) l may x = x
       go h by (Marks m) l may x = x
 
@@ -179,6 +180,7 @@ module _ (P : Program) (C : Sizes) where
           (λ (new : (p ≡ length (unit_of P C h).tenants) × (new_tenant P C (unit_of P C h) index predicted first second ≡ t)). subst (λ (z : Tenant). z.station < C.ring) new.1 (below_mod _ C.ring _ may.1.room))
           (at_cases (new_tenant P C (unit_of P C h) index predicted first second) (unit_of P C h).tenants p t is)
       go by (Does (On r act)) may all p t is = let b = came P C (unit_of P C h) by r act may.1 (unit_sound P C h legal.0) p t is in subst (λ z. z < C.ring) (sym b.goes.station) (all p b.tenant b.is)
+      go by (Does Renew) may all p t is = all p t is
       go by (Refuses r) may all p t is = all p t is
       go by (Marks m) may all p t is = all p t is
 
@@ -195,5 +197,6 @@ module _ (P : Program) (C : Sizes) where
           (λ (new : (p ≡ length (unit_of P C h).tenants) × (new_tenant P C (unit_of P C h) index predicted first second ≡ t)). subst (λ (z : Tenant). z.tag < last_tag) new.1 may.0.1)
           (at_cases (new_tenant P C (unit_of P C h) index predicted first second) (unit_of P C h).tenants p t is)
       go by (Does (On r act)) may all p t is = let b = came P C (unit_of P C h) by r act may.1 (unit_sound P C h legal.0) p t is in subst (λ z. z < last_tag) (sym b.goes.tag) (all p b.tenant b.is)
+      go by (Does Renew) may all p t is = all p t is
       go by (Refuses r) may all p t is = all p t is
       go by (Marks m) may all p t is = all p t is

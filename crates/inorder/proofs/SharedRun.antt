@@ -84,6 +84,7 @@ asked_legal = (
                 waits = computes_not_links;
                 other = apart 0 1 refl;
                 last = tt;
+                new = refl;
               };
               second_is = record {
                 p = 0;
@@ -93,6 +94,7 @@ asked_legal = (
                 waits = computes_not_links;
                 other = apart 0 1 refl;
                 last = tt;
+                new = refl;
               };
             },
           ),

@@ -1,5 +1,5 @@
 -- Where tenants stand.
-use Rattle.std.proofs.Common.{◌≡◌, ◌≢◌, ℕ, suc, ◌+◌, ◌*◌, ◌/◌, ◌%◌, ◌<◌, ◌≤◌, Bool, true, false, cond, List, [], ◌∷◌, ◌++◌, Some, refl, sym, ap, ◌∙◌, subst, ⊎_elim, arith, true≢false, div-add-mod', mul-le-mul_right, suc-mul, append_assoc}
+use Rattle.std.proofs.Common.{◌≡◌, ◌≢◌, ℕ, zero, suc, ◌+◌, ◌*◌, ◌/◌, ◌%◌, ◌<◌, ◌≤◌, Bool, true, false, cond, List, [], ◌∷◌, ◌++◌, Some, refl, sym, ap, ◌∙◌, subst, ⊎_elim, arith, true≢false, div-add-mod', mul-le-mul_right, suc-mul, append_assoc}
 use Rattle.std.proofs.lemmas.Bool.{cases_lt}
 use Rattle.std.specs.List.{AllByRecursion}
 use Rattle.isa.specs.Programs.{Program}
@@ -9,16 +9,46 @@ use Rattle.inorder.specs.declared.history.Act.{Act}
 use Rattle.inorder.specs.declared.history.Act.TheVariants.{Claim, Deliver, Finish, Link, Load, Mend, Retire, Squash}
 use Rattle.inorder.specs.declared.history.Source.TheVariants.{First, Second}
 use Rattle.inorder.specs.declared.history.Step.{Step}
-use Rattle.inorder.specs.declared.history.Step.TheVariants.{Let, On}
+use Rattle.inorder.specs.declared.history.Step.TheVariants.{Let, On, Renew}
 use Rattle.inorder.specs.Laws.{IsRing}
 use Rattle.inorder.specs.Legal.{Allowed, AreAllowed, May, Taken, applied, changed, reached}
 use Rattle.inorder.specs.Steps.{finished, mended_as, new_tenant}
 use Rattle.inorder.specs.Tenants.{Addr, Busy, Done, Fate, IsNotLive, Live, Miss, Open, Retired, Squashed, Standing, Stopped, Tenant, computed, is_live, on_path, stands_live, stands_on_path}
-use Rattle.inorder.specs.Unit.{Sizes, UpdateUnit, at, how_many, next_station, older, recent, younger}
+use Rattle.inorder.specs.Unit.{Sizes, UpdateUnit, at, how_many, newest_of, next_station, older, recent, younger}
 use Rattle.inorder.proofs.Basics.{split_at}
 use Rattle.inorder.proofs.Grows.{all_grows, all_mid}
 use Rattle.inorder.proofs.Kept.{parts, sound}
+use Rattle.inorder.proofs.Tags.{IsNewPlace, IsOldPlace, cut, passed}
 use Rattle.inorder.proofs.Sound.{IsSettled, IsSound, SettledBy}
+
+-- whoever retired has only settled ones before it
+abbrev pub AreSettling : List Tenant → Type 0
+AreSettling [] = Unit {0}
+AreSettling (t ∷ ts) = (t.standing ≡ Retired → AllByRecursion IsSettled ts) × AreSettling ts
+
+pub settling : (P : Program) (ts : List Tenant) → IsSound P ts → AreSettling ts
+settling P [] s = tt
+settling P (t ∷ ts) s = ((λ e. (s.0.placed (ap stands_on_path e)).settled e), settling P ts s.1)
+
+pub all_newest : (Q : Tenant → Type 0) (n : ℕ) (ts : List Tenant) → AllByRecursion Q ts → AllByRecursion Q (newest_of n ts)
+all_newest Q zero ts h = tt
+all_newest Q (suc n) [] h = tt
+all_newest Q (suc n) (t ∷ ts) h = (h.0, all_newest Q n ts h.1)
+
+pub settling_newest : (n : ℕ) (ts : List Tenant) → AreSettling ts → AreSettling (newest_of n ts)
+settling_newest zero ts h = tt
+settling_newest (suc n) [] h = tt
+settling_newest (suc n) (t ∷ ts) h = ((λ e. all_newest IsSettled n ts (h.0 e)), settling_newest n ts h.1)
+
+pub fewer_newest : (f : Tenant → Bool) (n : ℕ) (ts : List Tenant) → how_many f (newest_of n ts) ≤ how_many f ts
+fewer_newest f zero ts = omega arith
+fewer_newest f (suc n) [] = omega arith
+fewer_newest f (suc n) (t ∷ ts) = go (f t) (fewer_newest f n ts)
+  where
+    go : (b : Bool) → how_many f (newest_of n ts) ≤ how_many f ts → cond b (suc (how_many f (newest_of n ts)))
+        (how_many f (newest_of n ts)) ≤ cond b (suc (how_many f ts)) (how_many f ts)
+    go true h = omega (arith, h)
+    go false h = h
 
 -- numbers that differ by less than n, and at all, differ modulo n
 apart : (a d n : ℕ) → 0 < d → d < n → (a + d) % n ≢ a % n
@@ -67,7 +97,7 @@ count_append f (x ∷ xs) ys = go (f x) (count_append f xs ys)
     go false e = e
 
 -- all tenants of the path after a live one are live
-live_after : (P : Program) (t : Tenant) (ts ys : List Tenant) → t.standing ≡ Live → IsSound P (ys ++ t ∷ ts) →
+live_after : (P : Program) (t : Tenant) (ts ys : List Tenant) → t.standing ≡ Live → AreSettling (ys ++ t ∷ ts) →
     how_many on_path ys ≤ how_many is_live ys
 live_after P t ts [] live s = omega arith
 live_after P t ts (y ∷ ys) live s = go y.standing refl (live_after P t ts ys live s.1)
@@ -82,13 +112,13 @@ live_after P t ts (y ∷ ys) live s = go y.standing refl (live_after P t ts ys l
         subst (λ x. cond (stands_on_path x) (suc (how_many on_path ys)) (how_many on_path ys) ≤ cond
         (stands_live x) (suc (how_many is_live ys)) (how_many is_live ys)) (sym e) h
     go Retired e h =
-        let q = all_mid IsSettled t ts ys ((s.0.placed (ap stands_on_path e)).settled e) in
+        let q = all_mid IsSettled t ts ys (s.0 e) in
         absurd (subst (λ x. SettledBy x t.fate) live q)
 
 -- the next station is that of no live tenant
 elsewhere : (P : Program) (C : Sizes) (n : Tenant) (ys : List Tenant) (t : Tenant) (ts : List Tenant) →
     n.station ≡ next_station C (ys ++ t ∷ ts) → how_many is_live (ys ++ t ∷ ts) < C.ring →
-    IsSound P (ys ++ t ∷ ts) → ArePlaced C (t ∷ ts) → IsElsewhere n t
+    AreSettling (ys ++ t ∷ ts) → ArePlaced C (t ∷ ts) → IsElsewhere n t
 elsewhere P C n ys t ts e room s placed live same =
     let a = live_after P t ts ys live s in
     let on : on_path t ≡ true = ap stands_on_path live in
@@ -104,18 +134,18 @@ elsewhere P C n ys t ts e room s placed live same =
     (sym (ap (λ x. x % C.ring) far) ∙ sym e ∙ sym same ∙ placed.0 on)
 
 pub all_elsewhere : (P : Program) (C : Sizes) (n : Tenant) (U ys ts : List Tenant) → U ≡ ys ++ ts →
-    n.station ≡ next_station C U → how_many is_live U < C.ring → IsSound P U → ArePlaced C ts →
+    n.station ≡ next_station C U → how_many is_live U < C.ring → AreSettling U → ArePlaced C ts →
     AllByRecursion (IsElsewhere n) ts
 all_elsewhere P C n U ys [] q e room s placed = tt
 all_elsewhere P C n U ys (t ∷ ts) q e room s placed =
     let here = elsewhere P C n ys t ts (e
     ∙ ap (next_station C) q) (subst (λ V. how_many is_live V < C.ring) q room) (subst
-    (IsSound P) q s) placed in
+    AreSettling q s) placed in
     let q' : U ≡ (ys ++ t ∷ []) ++ ts = q ∙ sym (append_assoc ys (t ∷ []) ts) in
     (here, all_elsewhere P C n U (ys ++ t ∷ []) ts q' e room s placed.1)
 
 let_stands : (P : Program) (C : Sizes) (U : List Tenant) (n : Tenant) → n.station ≡ next_station C U →
-    n.standing ≡ Live → how_many is_live U < C.ring → IsSound P U → Stands C U → Stands C (n ∷ U)
+    n.standing ≡ Live → how_many is_live U < C.ring → AreSettling U → Stands C U → Stands C (n ∷ U)
 let_stands P C U n e live room sound st =
     record {
       room =
@@ -165,7 +195,7 @@ placed_same C t t' ts (y ∷ ys) e f h = (
 )
 
 placed_end : (P : Program) (C : Sizes) (t t' : Tenant) (ts ys : List Tenant) → t.standing ≡ Live →
-    on_path t' ≡ false → AllByRecursion IsNotLive ys → IsSound P (ys ++ t ∷ ts) → ArePlaced C (ys ++ t ∷ ts) →
+    on_path t' ≡ false → AllByRecursion IsNotLive ys → AreSettling (ys ++ t ∷ ts) → ArePlaced C (ys ++ t ∷ ts) →
     ArePlaced C (ys ++ t' ∷ ts)
 placed_end P C t t' ts [] live off last s h = ((λ on. absurd (true≢false (sym on ∙ off))), h.1)
 placed_end P C t t' ts (y ∷ ys) live off last s h =
@@ -175,7 +205,7 @@ placed_end P C t t' ts (y ∷ ys) live off last s h =
     gone Live e on = last.0 e
     gone Squashed e on = true≢false (sym on ∙ ap stands_on_path e)
     gone Retired e on =
-        subst (λ x. SettledBy x t.fate) live (all_mid IsSettled t ts ys ((s.0.placed on).settled e))
+        subst (λ x. SettledBy x t.fate) live (all_mid IsSettled t ts ys (s.0 e))
 
 apart_same : (t t' : Tenant) (ts ys : List Tenant) → t'.station ≡ t.station →
     (t'.standing ≡ Live → t.standing ≡ Live) → AreApart (ys ++ t ∷ ts) → AreApart (ys ++ t' ∷ ts)
@@ -210,7 +240,7 @@ stands_retired C t t' ts ys e live off s =
     }
 
 stands_squashed : (P : Program) (C : Sizes) (t t' : Tenant) (ts ys : List Tenant) → t'.station ≡ t.station →
-    t.standing ≡ Live → t'.standing ≡ Squashed → AllByRecursion IsNotLive ys → IsSound P (ys ++ t ∷ ts) →
+    t.standing ≡ Live → t'.standing ≡ Squashed → AllByRecursion IsNotLive ys → AreSettling (ys ++ t ∷ ts) →
     Stands C (ys ++ t ∷ ts) → Stands C (ys ++ t' ∷ ts)
 stands_squashed P C t t' ts ys e live off last sound s =
     let less = fewer t t' ts ys (λ x. live) in
@@ -240,31 +270,41 @@ mended_station t (Done v) = (refl, refl)
 mended_station t (Miss v) = (refl, refl)
 mended_station t (Stopped v) = (refl, refl)
 
+-- an act on a tenant, with the tenants ts before it, of which zs are recent
 act_stands : (P : Program) (C : Sizes) (by : ℕ) (act : Act) (ys : List Tenant) (t : Tenant)
-    (ts : List Tenant) → May P by act ys t ts → IsSound P (ys ++ t ∷ ts) → Stands C (ys ++ t ∷ ts) →
-    Stands C (ys ++ changed P by act t ts ∷ ts)
-act_stands P C by (Link First) ys t ts m so q = stands_same C t _ ts ys refl refl q
-act_stands P C by (Link Second) ys t ts m so q = stands_same C t _ ts ys refl refl q
-act_stands P C by (Deliver First) ys t ts m so q = stands_same C t _ ts ys refl refl q
-act_stands P C by (Deliver Second) ys t ts m so q = stands_same C t _ ts ys refl refl q
-act_stands P C by Claim ys t ts m so q = stands_same C t _ ts ys refl refl q
-act_stands P C by Finish ys t ts m so q =
-    let e = finished_station t (computed P t) in stands_same C t _ ts ys e.0 e.1 q
-act_stands P C by Load ys t ts m so q = stands_same C t _ ts ys refl refl q
-act_stands P C by (Retire n) ys t ts m so q = stands_retired C t _ ts ys refl m.live refl q
-act_stands P C by Squash ys t ts m so q = stands_squashed P C t _ ts ys refl m.live refl m.youngest so q
-act_stands P C by Mend ys t ts m so q = let e = mended_station t t.fate in stands_same C t _ ts ys e.0 e.1 q
+    (ts zs : List Tenant) → May P by act ys t ts → AreSettling (ys ++ t ∷ zs) → Stands C (ys ++ t ∷ zs) →
+    Stands C (ys ++ changed P by act t ts ∷ zs)
+act_stands P C by (Link First) ys t ts zs m so q = stands_same C t _ zs ys refl refl q
+act_stands P C by (Link Second) ys t ts zs m so q = stands_same C t _ zs ys refl refl q
+act_stands P C by (Deliver First) ys t ts zs m so q = stands_same C t _ zs ys refl refl q
+act_stands P C by (Deliver Second) ys t ts zs m so q = stands_same C t _ zs ys refl refl q
+act_stands P C by Claim ys t ts zs m so q = stands_same C t _ zs ys refl refl q
+act_stands P C by Finish ys t ts zs m so q =
+    let e = finished_station t (computed P t) in stands_same C t _ zs ys e.0 e.1 q
+act_stands P C by Load ys t ts zs m so q = stands_same C t _ zs ys refl refl q
+act_stands P C by (Retire n) ys t ts zs m so q = stands_retired C t _ zs ys refl m.live refl q
+act_stands P C by Squash ys t ts zs m so q = stands_squashed P C t _ zs ys refl m.live refl m.youngest so q
+act_stands P C by Mend ys t ts zs m so q = let e = mended_station t t.fate in stands_same C t _ zs ys e.0 e.1 q
 
 stands_kept : (P : Program) (C : Sizes) (U : UpdateUnit) (by : ℕ) (s : Step) → Allowed P C U by s →
     IsSound P U.tenants → Stands C (recent U) → Stands C (recent (applied P C U by s))
 stands_kept P C U by (Let index predicted first second) a s st =
-    let_stands P C U.tenants (new_tenant P C U index predicted first second) refl refl a.room s st
+    let few = fewer_newest is_live U.fresh U.tenants in
+    let_stands P C (recent U) (new_tenant P C U index predicted first second) refl refl (omega (arith, few, a.room))
+    (settling_newest U.fresh U.tenants (settling P U.tenants s)) st
 stands_kept P C U by (On p act) a s st =
     let ts = U.tenants in
-    let split = split_at ts p a.tenant a.is in
-    let after = act_stands P C by act (younger ts p) a.tenant (older ts p) a.may (subst (IsSound P) split s)
-    (subst (Stands C) split st) in
-    subst (Stands C) (sym (parts P ts by p act a.tenant a.is)) after
+    let t = a.tenant in
+    let t' = changed P by act t (older ts p) in
+    let was = subst (λ z. Stands C (newest_of U.fresh z)) (split_at ts p t a.is) st in
+    let so = subst (λ z. AreSettling (newest_of U.fresh z)) (split_at ts p t a.is) (settling_newest U.fresh ts (settling P ts s)) in
+    subst (λ z. Stands C (newest_of U.fresh z)) (sym (parts P ts by p act t a.is))
+    (⊎_elim
+    (λ (old : IsOldPlace U.fresh (younger ts p) (older ts p)). subst (Stands C) (old.same t t') was)
+    (λ (new : IsNewPlace U.fresh (younger ts p) (older ts p)). subst (Stands C) (sym (new.is t'))
+    (act_stands P C by act (younger ts p) t (older ts p) new.zs a.may (subst AreSettling (new.is t) so) (subst (Stands C) (new.is t) was)))
+    (cut U.fresh (younger ts p) (older ts p)))
+stands_kept P C U by Renew a s st = record { room = omega arith; placed = tt; apart = tt }
 
 pub stands : (P : Program) (C : Sizes) (ss : List Taken) → AreAllowed P C ss →
     Stands C (recent (reached P C ss))
@@ -297,3 +337,40 @@ is_ring C U s =
       place = λ p t e on. placed_at C U p t s.placed e on;
       last = λ p t e live. last_at U p t s.apart e live;
     }
+
+-- nobody who was let before the last renewal is live
+
+act_gone : (P : Program) (by : ℕ) (act : Act) (ys : List Tenant) (t : Tenant) (ts : List Tenant) →
+    May P by act ys t ts → IsNotLive t → IsNotLive (changed P by act t ts)
+act_gone P by (Link First) ys t ts m n = n
+act_gone P by (Link Second) ys t ts m n = n
+act_gone P by (Deliver First) ys t ts m n = n
+act_gone P by (Deliver Second) ys t ts m n = n
+act_gone P by Claim ys t ts m n = absurd (n m.live)
+act_gone P by Finish ys t ts m n = absurd (n m.live)
+act_gone P by Load ys t ts m n = absurd (n m.live)
+act_gone P by (Retire k) ys t ts m n = absurd (n m.live)
+act_gone P by Squash ys t ts m n = absurd (n m.live)
+act_gone P by Mend ys t ts m n = absurd (n m.live)
+
+abbrev pub OldGone : UpdateUnit → Type 0
+OldGone U = AllByRecursion IsNotLive (passed U.fresh U.tenants)
+
+gone_kept : (P : Program) (C : Sizes) (U : UpdateUnit) (by : ℕ) (s : Step) → Allowed P C U by s →
+    OldGone U → OldGone (applied P C U by s)
+gone_kept P C U by (Let index predicted first second) a h = h
+gone_kept P C U by (On p act) a h =
+    let ts = U.tenants in
+    let t = a.tenant in
+    let t' = changed P by act t (older ts p) in
+    let was = subst (λ z. AllByRecursion IsNotLive (passed U.fresh z)) (split_at ts p t a.is) h in
+    subst (λ z. AllByRecursion IsNotLive (passed U.fresh z)) (sym (parts P ts by p act t a.is))
+    (⊎_elim
+    (λ (old : IsOldPlace U.fresh (younger ts p) (older ts p)). old.other t t' (act_gone P by act (younger ts p) t (older ts p) a.may (old.gone t was)) was)
+    (λ (new : IsNewPlace U.fresh (younger ts p) (older ts p)). subst (AllByRecursion IsNotLive) (new.same t t') was)
+    (cut U.fresh (younger ts p) (older ts p)))
+gone_kept P C U by Renew a h = a.none
+
+pub old_gone : (P : Program) (C : Sizes) (ss : List Taken) → AreAllowed P C ss → OldGone (reached P C ss)
+old_gone P C [] a = tt
+old_gone P C (s ∷ ss) a = gone_kept P C (reached P C ss) s.by s.step a.1 (old_gone P C ss a.0)

@@ -1,5 +1,5 @@
 -- What the stations show, and how the steps move it.
-use Rattle.std.proofs.Common.{◌≡◌, ◌≢◌, ℕ, suc, ◌+◌, ◌<◌, Bool, true, false, cond, eqb, List, [], ◌∷◌, ◌++◌, length, Option, Some, None, refl, sym, ap, ◌∙◌, subst, arith, true≢false, eqb-true, ne_eqb}
+use Rattle.std.proofs.Common.{◌≡◌, ⊎_elim, ◌≢◌, ℕ, suc, ◌+◌, ◌<◌, Bool, true, false, cond, eqb, List, [], ◌∷◌, ◌++◌, length, Option, Some, None, refl, sym, ap, ◌∙◌, subst, arith, true≢false, eqb-true, ne_eqb}
 use Rattle.std.specs.List.{AllByRecursion}
 use Rattle.isa.specs.Programs.{Program}
 use Rattle.inorder.specs.declared.history.Act.{Act}
@@ -10,14 +10,14 @@ use Rattle.inorder.specs.declared.history.Supply.{Supply}
 use Rattle.inorder.specs.Legal.{Allowed, May, Taken, applied, changed, reached}
 use Rattle.inorder.specs.StationWords.{ChangesStation, HasFate, IsFree, KeepsStations, Moves, NamedBy, StationsFollow, last_of, live_word, station_word, word_by, word_of}
 use Rattle.inorder.specs.Steps.{new_tenant}
-use Rattle.inorder.specs.Tenants.{Addr, Busy, Done, Fate, Live, Miss, Open, Retired, Squashed, Standing, Stopped, Tenant}
-use Rattle.inorder.specs.Unit.{Sizes, UpdateUnit, at, how_many, next_station, next_tag, older, recent, tag_after, younger}
+use Rattle.inorder.specs.Tenants.{Addr, Busy, Done, Fate, Live, Miss, Open, Retired, Squashed, Standing, Stopped, Tenant, IsNotLive, is_live}
+use Rattle.inorder.specs.Unit.{newest_of, Sizes, UpdateUnit, at, how_many, next_station, next_tag, older, recent, tag_after, younger}
 use Rattle.inorder.proofs.Basics.{eqb_self, split_at}
 use Rattle.inorder.proofs.Grows.{all_mid}
 use Rattle.inorder.proofs.Kept.{parts, sound}
 use Rattle.inorder.proofs.Sound.{IsSound}
-use Rattle.inorder.proofs.Stations.{AreApart, IsElsewhere, Stands, all_elsewhere, stands}
-use Rattle.inorder.proofs.Tags.{AreTagged, count_same, same_place, tagged}
+use Rattle.inorder.proofs.Stations.{OldGone, fewer_newest, old_gone, settling, settling_newest, AreApart, IsElsewhere, Stands, all_elsewhere, stands}
+use Rattle.inorder.proofs.Tags.{AreTagged, IsNewPlace, IsOldPlace, cut, live_new, passed, count_same, same_place, tagged}
 
 -- The last tenant of a station
 
@@ -254,7 +254,7 @@ acts_live P by Squash ys t ts c m = m.live
 acts_live P by Mend ys t ts c m = m.live
 
 module _ (P : Program) (C : Sizes) (U : UpdateUnit) (by : ℕ) (sound_U : IsSound P U.tenants) (st : Stands C
-    (recent U)) (tags : AreTagged C (recent U)) where
+    (recent U)) (tags : AreTagged C (recent U)) (gone : OldGone U) where
   before_let : (index predicted : ℕ) (first second : Supply) →
       Allowed P C U by (Let index predicted first second) →
       ((station_word C (recent U) (next_station C (recent U))).state ≡ IsFree) ×
@@ -262,7 +262,8 @@ module _ (P : Program) (C : Sizes) (U : UpdateUnit) (by : ℕ) (sound_U : IsSoun
   before_let index predicted first second a =
       let n = new_tenant P C U index predicted first second in
       free_of n (recent U) (next_tag C (recent U)) (all_elsewhere P C n (recent U) []
-      (recent U) refl refl a.room sound_U st.placed)
+      (recent U) refl refl (let few = fewer_newest is_live U.fresh U.tenants in omega (arith, few, a.room))
+      (settling_newest U.fresh U.tenants (settling P U.tenants sound_U)) st.placed)
 
   after_let : (index predicted : ℕ) (first second : Supply) (s : ℕ) →
       station_word C (recent (applied P C U by (Let index predicted first second))) s ≡ cond (eqb
@@ -287,10 +288,13 @@ module _ (P : Program) (C : Sizes) (U : UpdateUnit) (by : ℕ) (sound_U : IsSoun
       let ts = U.tenants in
       let u = changed P by act t (older ts p) in
       let split = split_at ts p t e in
-      ap (λ W. station_word C W s) (parts P ts by p act t e)
-      ∙ shown_live C t u (older ts p) (younger ts p) s live (same_place P by act t (older ts p)).0
-      (subst AreApart split st.apart) (subst (AreTagged C) split tags)
-      ∙ ap (λ W. cond (eqb t.station s) (word_of (suc t.tag) (Some u)) (station_word C W s)) (sym split)
+      let new = live_new U.fresh (younger ts p) (older ts p) t (subst (λ z. AllByRecursion IsNotLive (passed U.fresh z)) split gone) live in
+      let now = ap (newest_of U.fresh) split ∙ new.is t in
+      ap (λ W. station_word C (newest_of U.fresh W) s) (parts P ts by p act t e)
+      ∙ ap (λ W. station_word C W s) (new.is u)
+      ∙ shown_live C t u new.zs (younger ts p) s live (same_place P by act t (older ts p)).0
+      (subst AreApart now st.apart) (subst (AreTagged C) now tags)
+      ∙ ap (λ W. cond (eqb t.station s) (word_of (suc t.tag) (Some u)) (station_word C W s)) (sym now)
 
   after_act : (p : ℕ) (act : Act) (t : Tenant) (s : ℕ) → ChangesStation act → Allowed P C U by (On p act) →
       at U.tenants p ≡ Some t →
@@ -320,10 +324,16 @@ module _ (P : Program) (C : Sizes) (U : UpdateUnit) (by : ℕ) (sound_U : IsSoun
   station_kept p act s k a =
       let ts = U.tenants in
       let t = a.tenant in
-      ap (λ W. station_word C W s) (parts P ts by p act t a.is)
-      ∙ shown_same C t (changed P by act t (older ts p)) (older ts p) (younger ts p) s (same_place P by act t
-      (older ts p)).0 (λ n. same_word act t (older ts p) n k)
-      ∙ ap (λ W. station_word C W s) (sym (split_at ts p t a.is))
+      let t' = changed P by act t (older ts p) in
+      ap (λ W. station_word C (newest_of U.fresh W) s) (parts P ts by p act t a.is)
+      ∙ ⊎_elim
+      (λ (old : IsOldPlace U.fresh (younger ts p) (older ts p)). ap (λ W. station_word C W s) (old.same t' t))
+      (λ (new : IsNewPlace U.fresh (younger ts p) (older ts p)).
+      ap (λ W. station_word C W s) (new.is t')
+      ∙ shown_same C t t' new.zs (younger ts p) s (same_place P by act t (older ts p)).0 (λ n. same_word act t (older ts p) n k)
+      ∙ ap (λ W. station_word C W s) (sym (new.is t)))
+      (cut U.fresh (younger ts p) (older ts p))
+      ∙ ap (λ W. station_word C (newest_of U.fresh W) s) (sym (split_at ts p t a.is))
 
   moves : Moves P C U by
   moves =
@@ -345,5 +355,5 @@ stations_follow P C history by =
           };
       moves =
           λ a. moves P C (reached P C history) by (sound P C history a) (stands P C history a)
-          (tagged P C history a);
+          (tagged P C history a) (old_gone P C history a);
     }

@@ -85,6 +85,7 @@ stores_have_addresses_allowed = (
                         waits = computes_not_links;
                         other = apart 0 1 refl;
                         last = tt;
+                        new = refl;
                       };
                     },
                   ),
@@ -341,6 +342,7 @@ load_has_address_allowed = (
                 waits = computes_not_links;
                 other = apart 0 1 refl;
                 last = tt;
+                new = refl;
               };
             },
           ),

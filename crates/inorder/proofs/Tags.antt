@@ -1,5 +1,6 @@
 -- The tags of a unit, and that a station and a tag name one tenant.
-use Rattle.std.proofs.Common.{◌≡◌, ℕ, suc, ◌+◌, ◌<◌, Bool, true, false, cond, eqb, List, [], ◌∷◌, ◌++◌, length, Some, refl, sym, ap, ◌∙◌, subst, arith, eqb-true}
+use Rattle.std.proofs.Common.{◌≤◌, ◌≡◌, ◌⊎◌, inl, inr, ⊎_elim, ℕ, zero, suc, ◌+◌, ◌<◌, Bool, true, false, cond, eqb, List, [], ◌∷◌, ◌++◌, length, Some, refl, sym, ap, ◌∙◌, subst, arith, eqb-true}
+use Rattle.std.specs.List.{AllByRecursion}
 use Rattle.isa.specs.Programs.{Program}
 use Rattle.isa.specs.declared.stop.Outcome.{Outcome}
 use Rattle.isa.specs.declared.stop.Outcome.TheVariants.{Address, Next, Pair, Stop as Stops, Value}
@@ -7,12 +8,13 @@ use Rattle.inorder.specs.declared.history.Act.{Act}
 use Rattle.inorder.specs.declared.history.Act.TheVariants.{Claim, Deliver, Finish, Link, Load, Mend, Retire, Squash}
 use Rattle.inorder.specs.declared.history.Source.TheVariants.{First, Second}
 use Rattle.inorder.specs.declared.history.Step.{Step}
-use Rattle.inorder.specs.declared.history.Step.TheVariants.{Let, On}
+use Rattle.inorder.specs.declared.history.Step.TheVariants.{Let, On, Renew}
 use Rattle.inorder.specs.Legal.{Allowed, AreAllowed, Taken, applied, changed, reached}
 use Rattle.inorder.specs.Steps.{finished, mended_as}
-use Rattle.inorder.specs.Tenants.{Addr, Busy, Done, Fate, Miss, Open, Stopped, Tenant, computed}
-use Rattle.inorder.specs.Unit.{Sizes, UpdateUnit, at, how_many, older, recent, tag_after, younger}
+use Rattle.inorder.specs.Tenants.{Addr, Busy, Done, Fate, IsNotLive, Live, Miss, Open, Stopped, Tenant, computed}
+use Rattle.inorder.specs.Unit.{Sizes, UpdateUnit, at, how_many, newest_of, older, recent, tag_after, younger}
 use Rattle.inorder.proofs.Basics.{eqb_self, split_at}
+use Rattle.inorder.proofs.Grows.{all_mid}
 use Rattle.inorder.proofs.Kept.{parts}
 
 abbrev pub AreTagged : Sizes → List Tenant → Type 0
@@ -32,6 +34,50 @@ tagged_same C t t' ts (y ∷ ys) e f h = (
   h.0 ∙ ap (λ n. C.first_tag + n) (sym (count_same t t' ts ys y.station e)),
   tagged_same C t t' ts ys e f h.1,
 )
+
+-- A place in the list of all tenants is behind the last renewal or not
+
+-- the tenants let before the last renewal
+abbrev pub passed : ℕ → List Tenant → List Tenant
+passed zero ts = ts
+passed (suc n) [] = []
+passed (suc n) (t ∷ ts) = passed n ts
+
+pub record IsOldPlace (n : ℕ) (ys ts : List Tenant) : Type 0 where
+  pub few : n ≤ length ys
+  pub same : (t t' : Tenant) → newest_of n (ys ++ t ∷ ts) ≡ newest_of n (ys ++ t' ∷ ts)
+  pub gone : (t : Tenant) → AllByRecursion IsNotLive (passed n (ys ++ t ∷ ts)) → IsNotLive t
+  pub other : (t t' : Tenant) → IsNotLive t' → AllByRecursion IsNotLive (passed n (ys ++ t ∷ ts)) →
+      AllByRecursion IsNotLive (passed n (ys ++ t' ∷ ts))
+
+pub record IsNewPlace (n : ℕ) (ys ts : List Tenant) : Type 0 where
+  pub many : length ys < n
+  pub zs : List Tenant
+  pub is : (t : Tenant) → newest_of n (ys ++ t ∷ ts) ≡ ys ++ t ∷ zs
+  pub same : (t t' : Tenant) → passed n (ys ++ t ∷ ts) ≡ passed n (ys ++ t' ∷ ts)
+
+swap_all : (ys ts : List Tenant) (t t' : Tenant) → IsNotLive t' → AllByRecursion IsNotLive (ys ++ t ∷ ts) →
+    AllByRecursion IsNotLive (ys ++ t' ∷ ts)
+swap_all [] ts t t' e h = (e, h.1)
+swap_all (y ∷ ys) ts t t' e h = (h.0, swap_all ys ts t t' e h.1)
+
+pub cut : (n : ℕ) (ys ts : List Tenant) → IsOldPlace n ys ts ⊎ IsNewPlace n ys ts
+cut zero ys ts = inl (record {
+  few = omega arith;
+  same = λ t t'. refl;
+  gone = λ t h. all_mid IsNotLive t ts ys h;
+  other = λ t t' e h. swap_all ys ts t t' e h;
+})
+cut (suc n) [] ts = inr (record { many = omega arith; zs = newest_of n ts; is = λ t. refl; same = λ t t'. refl })
+cut (suc n) (y ∷ ys) ts = ⊎_elim
+    (λ (old : IsOldPlace n ys ts). inl (record { few = let f = old.few in omega arith; same = λ t t'. ap (λ z. y ∷ z) (old.same t t'); gone = old.gone; other = old.other }))
+    (λ (new : IsNewPlace n ys ts). inr (record { many = let f = new.many in omega arith; zs = new.zs; is = λ t. ap (λ z. y ∷ z) (new.is t); same = new.same }))
+    (cut n ys ts)
+
+-- the place of a live tenant
+pub live_new : (n : ℕ) (ys ts : List Tenant) (t : Tenant) → AllByRecursion IsNotLive (passed n (ys ++ t ∷ ts)) →
+    t.standing ≡ Live → IsNewPlace n ys ts
+live_new n ys ts t gone live = ⊎_elim (λ (old : IsOldPlace n ys ts). absurd (old.gone t gone live)) (λ new. new) (cut n ys ts)
 
 -- an act leaves station and tag
 pub same_place : (P : Program) (by : ℕ) (act : Act) (t : Tenant) (ts : List Tenant) →
@@ -68,9 +114,16 @@ tagged_kept P C U by (Let index predicted first second) a h = (refl, h)
 tagged_kept P C U by (On p act) a h =
     let ts = U.tenants in
     let t = a.tenant in
+    let t' = changed P by act t (older ts p) in
     let q = same_place P by act t (older ts p) in
-    subst (AreTagged C) (sym (parts P ts by p act t a.is)) (tagged_same C t _ (older ts p)
-    (younger ts p) q.0 q.1 (subst (AreTagged C) (split_at ts p t a.is) h))
+    let was = subst (λ z. AreTagged C (newest_of U.fresh z)) (split_at ts p t a.is) h in
+    subst (λ z. AreTagged C (newest_of U.fresh z)) (sym (parts P ts by p act t a.is))
+    (⊎_elim
+    (λ (old : IsOldPlace U.fresh (younger ts p) (older ts p)). subst (AreTagged C) (old.same t t') was)
+    (λ (new : IsNewPlace U.fresh (younger ts p) (older ts p)). subst (AreTagged C) (sym (new.is t'))
+    (tagged_same C t t' new.zs (younger ts p) q.0 q.1 (subst (AreTagged C) (new.is t) was)))
+    (cut U.fresh (younger ts p) (older ts p)))
+tagged_kept P C U by Renew a h = tt
 
 pub tagged : (P : Program) (C : Sizes) (ss : List Taken) → AreAllowed P C ss →
     AreTagged C (recent (reached P C ss))

@@ -15,7 +15,7 @@ use Rattle.inorder.specs.declared.history.Act.{Act}
 use Rattle.inorder.specs.declared.history.Act.TheVariants.{Claim, Deliver, Finish, Link, Load, Mend, Retire, Squash}
 use Rattle.inorder.specs.declared.history.Source.TheVariants.{First, Second}
 use Rattle.inorder.specs.declared.history.Step.{Step}
-use Rattle.inorder.specs.declared.history.Step.TheVariants.{Let, On}
+use Rattle.inorder.specs.declared.history.Step.TheVariants.{Let, On, Renew}
 use Rattle.inorder.specs.declared.history.Supply.{Supply}
 use Rattle.inorder.specs.declared.history.Supply.TheVariants.{From, Known}
 use Rattle.inorder.specs.Legal.{Allowed, AreAllowed, May, Taken, applied, changed, reached}
@@ -339,6 +339,7 @@ words_kept P C w U by (On p act) a h =
     (younger ts p) parted) in
     subst (AllByRecursion AreWords) (sym (parts P ts by p act t a.is)) (all_grows AreWords t
     (changed P by act t (older ts p)) (older ts p) (younger ts p) new parted)
+words_kept P C w U by Renew a h = h
 
 words : (P : Program) (C : Sizes) → HasWords P → (ss : List Taken) → AreAllowed P C ss →
     AllByRecursion AreWords (reached P C ss).tenants

@@ -7,7 +7,7 @@ use Rattle.inorder.specs.Memory.{load_value}
 use Rattle.inorder.specs.Replies.{Has}
 use Rattle.inorder.specs.Steps.{CanRetire, IsNoRetiredStop, MayLoad}
 use Rattle.inorder.specs.Tenants.{Addr, Busy, Fate, IsNotLive, IsThere, Linked, Live, Miss, Retired, Squashed, Standing, Tenant, Unlinked, computed, kind_of, missing, on_path, operand}
-use Rattle.inorder.specs.Unit.{Sizes, UpdateUnit, at, how_many, older}
+use Rattle.inorder.specs.Unit.{Sizes, UpdateUnit, at, how_many, older, recent}
 
 -- Anybody
 
@@ -99,7 +99,7 @@ is_retired t = stands_retired t.standing
 
 -- Where the oldest live tenant stands, if there is one
 abbrev pub head_station : Sizes → UpdateUnit → ℕ
-head_station C U = how_many is_retired U.tenants % C.ring
+head_station C U = how_many is_retired (recent U) % C.ring
 
 -- No stop has retired
 abbrev pub GoesOn : UpdateUnit → Type 0

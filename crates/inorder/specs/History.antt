@@ -13,7 +13,7 @@ use Rattle.inorder.specs.declared.history.Refusal.{Refusal}
 use Rattle.inorder.specs.declared.history.Refusal.TheVariants.{Empty, Moved, NotDone, NotOpen, Over, Stale, Waiting}
 use Rattle.inorder.specs.declared.history.Source.{Source}
 use Rattle.inorder.specs.declared.history.Step.{Step}
-use Rattle.inorder.specs.declared.history.Step.TheVariants.{Let, On}
+use Rattle.inorder.specs.declared.history.Step.TheVariants.{Let, On, Renew}
 use Rattle.inorder.specs.Legal.{Allowed, Taken, reached}
 use Rattle.inorder.specs.Replies.{Has, HasMoved, HasNoOpen, IsAskedInTime, IsDelivered, IsEmpty, IsNotDone, IsOpen, IsOver, IsStale, IsWaiting, last_tag}
 use Rattle.inorder.specs.Tenants.{IsNotLive, IsThere, Linked, Tenant, operand}
@@ -87,6 +87,7 @@ abbrev pub IsTheirs : Sizes → UpdateUnit → ℕ → Step → Type 0
 IsTheirs C U by (Let index predicted first second) =
     (by ≡ front) × (next_tag C (recent U) < last_tag)
 IsTheirs C U by (On p act) = IsTheirAct by act
+IsTheirs C U by Renew = ⊥
 
 -- A refusal is true at this point, and this caller is one that is told so
 abbrev pub MayRefuse : Program → Sizes → List Entry → ℕ → Refusal → Type 0

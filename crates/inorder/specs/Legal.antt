@@ -1,11 +1,11 @@
 -- Legal steps: which step a caller may take in a unit, and the unit after it.
-use Rattle.std.specs.Prelude.{⊤, ◌≡◌, ℕ, List, [], ◌∷◌, Option, Some, None}
+use Rattle.std.specs.Prelude.{⊤, ◌≡◌, ℕ, suc, List, [], ◌∷◌, Option, Some, None}
 use Rattle.isa.specs.Programs.{Program}
 use Rattle.inorder.specs.declared.history.Act.{Act}
 use Rattle.inorder.specs.declared.history.Act.TheVariants.{Claim, Deliver, Finish, Link, Load, Mend, Retire, Squash}
 use Rattle.inorder.specs.declared.history.Step.{Step}
-use Rattle.inorder.specs.declared.history.Step.TheVariants.{Let, On}
-use Rattle.inorder.specs.Steps.{MayClaim, MayDeliver, MayFinish, MayLet, MayLink, MayLoad, MayMend, MayRetire, MaySquash, delivered, finished, linked, mended, new_tenant, retired, settled, squashed}
+use Rattle.inorder.specs.declared.history.Step.TheVariants.{Let, On, Renew}
+use Rattle.inorder.specs.Steps.{MayClaim, MayDeliver, MayFinish, MayLet, MayLink, MayLoad, MayMend, MayRenew, MayRetire, MaySquash, delivered, finished, linked, mended, new_tenant, retired, settled, squashed}
 use Rattle.inorder.specs.Tenants.{Busy, Tenant, computed}
 use Rattle.inorder.specs.Unit.{Sizes, UpdateUnit, at, empty_unit, older, replaced, younger}
 
@@ -41,6 +41,7 @@ pub record MayAct (P : Program) (ts : List Tenant) (by p : ℕ) (act : Act) : Ty
 abbrev pub Allowed : Program → Sizes → UpdateUnit → ℕ → Step → Type 0
 Allowed P C U by (Let index predicted first second) = MayLet P C U index predicted first second
 Allowed P C U by (On p act) = MayAct P U.tenants by p act
+Allowed P C U by Renew = MayRenew U
 
 -- The tenants, with what becomes of the one at position p, if there is one
 abbrev pub change_at : Program → List Tenant → ℕ → ℕ → Act → Option Tenant → List Tenant
@@ -50,9 +51,13 @@ change_at P ts by p act (Some t) = replaced ts p (changed P by act t (older ts p
 -- The unit after a step
 abbrev pub applied : Program → Sizes → UpdateUnit → ℕ → Step → UpdateUnit
 applied P C U by (Let index predicted first second) =
-    record U { tenants = new_tenant P C U index predicted first second ∷ U.tenants }
+    record {
+      tenants = new_tenant P C U index predicted first second ∷ U.tenants;
+      fresh = suc U.fresh;
+    }
 applied P C U by (On p act) =
     record U { tenants = change_at P U.tenants by p act (at U.tenants p) }
+applied P C U by Renew = record U { fresh = 0 }
 
 -- A step, with the number of its caller
 pub record Taken : Type 0 where

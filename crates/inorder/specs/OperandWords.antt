@@ -1,5 +1,5 @@
 -- What the operand words of a station show, and how each step moves them.
-use Rattle.std.specs.Prelude.{⊤, ◌≡◌, ◌≢◌, ◌⊎◌, ℕ, List, Option, Some, None, ◌==◌, if◌then◌else◌}
+use Rattle.std.specs.Prelude.{⊤, ◌≡◌, ◌≢◌, ◌⊎◌, ℕ, true, false, List, Option, Some, None, ◌==◌, if◌then◌else◌}
 use Rattle.isa.specs.Programs.{Program}
 use Rattle.inorder.specs.declared.history.Act.{Act}
 use Rattle.inorder.specs.declared.history.Act.TheVariants.{Deliver}
@@ -11,7 +11,7 @@ use Rattle.inorder.specs.declared.history.Supply.TheVariants.{From, Known}
 use Rattle.inorder.specs.Legal.{Allowed, AreAllowed, Taken, applied, reached}
 use Rattle.inorder.specs.StationWords.{last_of}
 use Rattle.inorder.specs.Tenants.{Tenant, operand}
-use Rattle.inorder.specs.Unit.{Sizes, UpdateUnit, at, next_station, next_tag, older, recent, value_of}
+use Rattle.inorder.specs.Unit.{Sizes, UpdateUnit, at, is_old, next_station, next_tag, older, recent, value_of}
 
 -- The tag of the station's last tenant, and the value of that tenant's source, or none while it
 -- waits
@@ -57,13 +57,13 @@ pub record MovesOperands (P : Program) (C : Sizes) (U : UpdateUnit) (by : ℕ) :
       else operand_word (recent U) s k)
   -- a delivery to the last tenant of a station gives its operand the value
   pub to_last : (p : ℕ) (k : Source) (t : Tenant) → Allowed P C U by (On p (Deliver k)) →
-      at U.tenants p ≡ Some t → last_of (recent U) t.station ≡ Some t →
+      at U.tenants p ≡ Some t → is_old U p ≡ false → last_of (recent U) t.station ≡ Some t →
       operand_word (recent (applied P C U by (On p (Deliver k)))) t.station k ≡
       Some (record { tag = t.tag; value = value_of (older U.tenants p) (operand k t).creator })
   -- and changes no other operand; one to an older tenant of the station changes none
   pub elsewhere : (p : ℕ) (k : Source) (t : Tenant) (s : ℕ) (j : Source) →
       Allowed P C U by (On p (Deliver k)) → at U.tenants p ≡ Some t →
-      (last_of (recent U) s ≢ Some t) ⊎ (j ≢ k) →
+      (is_old U p ≡ true) ⊎ (last_of (recent U) s ≢ Some t) ⊎ (j ≢ k) →
       operand_word (recent (applied P C U by (On p (Deliver k)))) s j ≡ operand_word (recent U) s j
   pub kept : (p : ℕ) (act : Act) (s : ℕ) (j : Source) → KeepsOperands act →
       Allowed P C U by (On p act) →

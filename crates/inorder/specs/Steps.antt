@@ -1,5 +1,5 @@
 -- The steps of the one-thread unit: where each is allowed, and what it does.
-use Rattle.std.specs.Prelude.{⊤, ◌≡◌, ◌≢◌, ℕ, ◌^◌, ◌<◌, Bool, true, List, length, Option, Some, None, ◌==◌, IfSome, is_none, if◌then◌else◌}
+use Rattle.std.specs.Prelude.{⊤, ◌≡◌, ◌≢◌, ℕ, ◌^◌, ◌<◌, Bool, true, false, List, length, Option, Some, None, ◌==◌, IfSome, is_none, if◌then◌else◌}
 use Rattle.std.specs.List.{AllByRecursion}
 use Rattle.isa.specs.Instruction.{first_of, fixed_next, kind, second_of}
 use Rattle.isa.specs.Programs.{Program, address, instr_of}
@@ -13,7 +13,7 @@ use Rattle.inorder.specs.declared.history.Supply.{Supply}
 use Rattle.inorder.specs.declared.history.Supply.TheVariants.{From, Known}
 use Rattle.inorder.specs.Memory.{load_value, raw_at}
 use Rattle.inorder.specs.Tenants.{Addr, AtLet, Busy, Done, Fate, IsNotLive, IsThere, Linked, Live, Miss, Open, Operand, Retired, Squashed, Stopped, Tenant, Unlinked, instr, is_access, is_live, is_live_access, kind_of, made_at_let, missing, operand, with_operand}
-use Rattle.inorder.specs.Unit.{Sizes, UpdateUnit, at, creator, front_half, front_pc, how_many, next_station, next_tag, recent, value_of, younger}
+use Rattle.inorder.specs.Unit.{Sizes, UpdateUnit, at, creator, front_half, front_pc, how_many, is_old, next_station, next_tag, recent, value_of, younger}
 
 -- Let
 
@@ -27,6 +27,8 @@ pub record MayComeFrom (P : Program) (U : UpdateUnit) (station : ℕ) (c : Optio
   pub waits : kind_of P tenant ≢ Links
   pub other : tenant.station ≢ station
   pub last : AllByRecursion (λ u. u.station ≢ tenant.station) (younger U.tenants p)
+  -- let since the last renewal; the value of an older one is known
+  pub new : is_old U p ≡ false
 
 -- A source may be supplied so: known, with its creator's value, or to come from its creator
 abbrev pub MaySupply : Program → UpdateUnit → ℕ → Option ℕ → Supply → Type 0
@@ -211,3 +213,10 @@ mended_as t _ = t
 -- The miss was mended
 abbrev pub mended : Tenant → Tenant
 mended t = mended_as t t.fate
+
+-- Renew
+
+-- The stations begin again, with first tags, where nobody is live and no stop has retired
+pub record MayRenew (U : UpdateUnit) : Type 0 where
+  pub none : AllByRecursion IsNotLive U.tenants
+  pub goes_on : AllByRecursion IsNoRetiredStop U.tenants

@@ -10,14 +10,25 @@ use Rattle.inorder.specs.Tenants.{Tenant, destination_of, is_first, on_path}
 -- The register update unit, as the list of all its tenants
 pub record UpdateUnit : Type 0 where
   pub tenants : List Tenant
+  pub fresh : ℕ  -- how many were let since the last renewal
 
 -- Before the first let
 abbrev pub empty_unit : UpdateUnit
-empty_unit = record { tenants = [] }
+empty_unit = record { tenants = []; fresh = 0 }
 
--- The tenants that stations and tags are counted by
+-- As many of the youngest tenants
+abbrev pub newest_of : ℕ → List Tenant → List Tenant
+newest_of zero ts = []
+newest_of (suc n) [] = []
+newest_of (suc n) (t ∷ ts) = t ∷ newest_of n ts
+
+-- The tenants that stations and tags are counted by: those let since the last renewal
 abbrev pub recent : UpdateUnit → List Tenant
-recent U = U.tenants
+recent U = newest_of U.fresh U.tenants
+
+-- The tenant at this position was let before the last renewal
+abbrev pub is_old : UpdateUnit → ℕ → Bool
+is_old U p = nat_lt (p + U.fresh) (length U.tenants)
 
 -- Positions
 

@@ -33,6 +33,8 @@ pub enum Step {
     Let(u64, u64, Supply, Supply),
     /// The tenant at a position is acted on.
     On(u64, Act),
+    /// The stations begin again, with first tags.
+    Renew,
 }
 
 /// A refusal. Stations are named by number, tenants by their position.

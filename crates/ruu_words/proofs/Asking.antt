@@ -31,6 +31,7 @@ use Rattle.inorder.proofs.Letting.{IsBesides, IsBesidesAct}
 use Rattle.inorder.proofs.Makers.{IsWriter, are_late, have_makers, left_when_retired, made_when_done, path_maker, stops_made, unmade_before}
 use Rattle.inorder.proofs.Moves.{IsActed, IsLeft, at_changed, goes}
 use Rattle.inorder.proofs.Positions.{at_below, at_more, at_new}
+use Rattle.inorder.proofs.Recent.{last_of_recent, none_old}
 use Rattle.inorder.proofs.Serving.{made_stays}
 use Rattle.inorder.proofs.Sound.{IsSound}
 use Rattle.inorder.proofs.Stations.{finished_station}
@@ -51,21 +52,6 @@ use Rattle.ruu_words.proofs.Stays.{any_stays, front_stays, tenant_stays}
 
 found : {X : Type 0} (x y : X) → Some x ≡ Some y → x ≡ y
 found x y e = cc e
-
--- the last tenant of a station
-last_by : (ts : List Tenant) (q : ℕ) (u : Tenant) → at ts q ≡ Some u → ((r : ℕ) (y : Tenant) → q < r → at ts r ≡ Some y → y.station ≢ u.station) → last_of ts u.station ≡ Some u
-last_by [] q u is none = absurd (cc is)
-last_by (x ∷ xs) q u is none = go (eqb q (length xs)) refl (last_by xs q u)
-  where
-    go : (b : Bool) → eqb q (length xs) ≡ b → (at xs q ≡ Some u → ((r : ℕ) (y : Tenant) → q < r → at xs r ≡ Some y → y.station ≢ u.station) → last_of xs u.station ≡ Some u) → last_of (x ∷ xs) u.station ≡ Some u
-    go true e more =
-        let same : x ≡ u = found x u (ap (λ b. cond b (Some x) (at xs q)) (sym e) ∙ is) in
-        ap (λ b. cond b (Some x) (last_of xs u.station)) (eq-eqb x.station u.station (ap (λ (z : Tenant). z.station) same)) ∙ ap Some same
-    go false e more =
-        let there : at xs q ≡ Some u = ap (λ b. cond b (Some x) (at xs q)) (sym e) ∙ is in
-        let below = at_below xs q u there in
-        ap (λ b. cond b (Some x) (last_of xs u.station)) (ne_eqb x.station u.station (none (length xs) x below (at_new x xs)))
-        ∙ more there (λ r y lt f. none r y lt (at_more x xs r y f))
 
 -- others than the front squash none
 pub path_on : (P : Program) (by : ℕ) (act : Act) (ys : List Tenant) (t : Tenant) (ts : List Tenant) → IsBesidesAct act → May P by act ys t ts → on_path t ≡ true → on_path (changed P by act t ts) ≡ true
@@ -172,9 +158,9 @@ module _ (P : Program) (C : Sizes) where
         go Squashed gone = absurd (true≢false (sym writer.path ∙ ap stands_on_path gone))
         go Retired gone =
             let m = left_when_retired P us (unit_sound P C h legal) q u is_q maker_waits writer (λ c f. stops_made P C (taken_of h) (allowed_steps P C h legal) q u c is_q gone f) gone in
-            let here : last_of us p ≡ Some u = ap (last_of us) (sym at_p) ∙ last_by us q u is_q (λ x y lt e f. last x y lt e (f ∙ at_p)) in
-            let word : IsStation (word_of (tag_after C us p) (Some u)) n = subst (λ o. IsStation (word_of (tag_after C us p) o) n) here w in
-            let free : IsStation (word_by (tag_after C us p) Retired u.tag u.fate u.made) n = subst (λ st. IsStation (word_by (tag_after C us p) st u.tag u.fate u.made) n) gone word in
+            let here : last_of (recent U) p ≡ Some u = ap (last_of (recent U)) (sym at_p) ∙ last_of_recent U q u is_q (none_old P C h legal q) (λ x y lt e f. last x y lt e (f ∙ at_p)) in
+            let word : IsStation (word_of (tag_after C (recent U) p) (Some u)) n = subst (λ o. IsStation (word_of (tag_after C (recent U) p) o) n) here w in
+            let free : IsStation (word_by (tag_after C (recent U) p) Retired u.tag u.fate u.made) n = subst (λ st. IsStation (word_by (tag_after C (recent U) p) st u.tag u.fate u.made) n) gone word in
             let value : value_in n ≡ m.0 = subst (λ o. HasValue o (value_in n)) m.1 free.value in
             inr (inl free.state, made m.0 m.2 value)
 
@@ -218,8 +204,8 @@ module _ (P : Program) (C : Sizes) where
       (subst (λ (es : List Event). MayMark (unit_of P C (map (entry id) es ++ h)) id (Asked r k)) (sym plan.kind.1) (is_front, inl (there id h legal r q val k i.tenant i.is i.fact.creator m)))
       (plan.kind.0, inl (hit, ap (λ (es : List Event). Marks (Asked r k) ∷ es) plan.kind.1)))
       (λ miss.
-      let here : last_of U.tenants c ≡ Some i.tenant = ap (last_of U.tenants) (sym i.station_is) ∙ last_by U.tenants r i.tenant i.is (λ x y lt e f. l x y lt e (f ∙ i.station_is)) in
-      let word : IsOperand (operand_word U.tenants c k) n = subst (λ (z : Draft). IsOperand (operand_word (recent (operand_unit P C U z k)) c k) n) quiet content in
+      let here : last_of (recent U) c ≡ Some i.tenant = ap (last_of (recent U)) (sym i.station_is) ∙ last_of_recent U r i.tenant i.is (none_old P C h legal r) (λ x y lt e f. l x y lt e (f ∙ i.station_is)) in
+      let word : IsOperand (operand_word (recent U) c k) n = subst (λ (z : Draft). IsOperand (operand_word (recent (operand_unit P C U z k)) c k) n) quiet content in
       let its : IsOperandOf (record { tag = i.tenant.tag; value = (operand k i.tenant).value }) n = subst (λ o. IsOperand (operand_word_of k o) n) here word in
       let its' : IsOperandOf (record { tag = g; value = (operand k i.tenant).value }) n = subst (λ z. IsOperandOf (record { tag = z; value = (operand k i.tenant).value }) n) i.tag_is its in
       let had : IsDelivered U r k = record { tenant = i.tenant; is = i.is; fact = by_value P C g (operand k i.tenant).value n old old_is its' miss } in

@@ -49,7 +49,7 @@ module _ (P : Program) (C : Sizes) where
     where
       open_here : (h : List Entry) (s n : ℕ) → IsStation (station_word C (recent (unit_of P C h)) s) n → state_of n ≡ 1 → Finds (unit_of P C h) s (tag_of n) [] IsOpen adds_nothing
       open_here h s n word e =
-          let l = live_last C (recent (unit_of P C h)) s n word (omega arith) in
+          let l = live_last C (unit_of P C h) s n word (omega arith) in
           record {
             p = l.p;
             tenant = record { tenant = l.t; is = l.is; station_is = l.station; tag_is = sym (live_state l.t.tag n l.t.fate l.word).0; fact = record { live = l.live; fate = open_state l.t.tag n l.t.fate l.word e } };

@@ -20,11 +20,12 @@ use Rattle.inorder.specs.Replies.{IsDelivered}
 use Rattle.inorder.specs.StationWords.{last_of}
 use Rattle.inorder.specs.Steps.{new_tenant}
 use Rattle.inorder.specs.Tenants.{Live, Retired, Squashed, Standing, Tenant, operand}
-use Rattle.inorder.specs.Unit.{Sizes, UpdateUnit, at, recent}
+use Rattle.inorder.specs.Unit.{Sizes, UpdateUnit, at, is_old, recent}
 use Rattle.inorder.proofs.Creators.{value_by}
 use Rattle.inorder.proofs.Moves.{Goes}
 use Rattle.inorder.proofs.OperandsShown.{operands_follow}
 use Rattle.inorder.proofs.Positions.{at_below, at_more, at_new}
+use Rattle.inorder.proofs.Recent.{IsRecentAt, none_old, recent_at}
 use Rattle.inorder.proofs.Serving.{made_stays, source_same}
 use Rattle.inorder.proofs.StationsShown.{stations_follow}
 use Rattle.inorder.proofs.Tags.{AreTagged, names_one, tagged}
@@ -50,30 +51,34 @@ module _ (P : Program) (C : Sizes) where
   link_on k q by s t t' m l = record { in_time = l.in_time; way = m.linked k l.in_time l.way; creator = m.creator k ∙ l.creator }
 
   -- where an operand word has the tag of a tenant, that tenant is the last one that these words follow
-  its_last : (h : List Entry) (legal : IsLegal P C h) (W : List Tenant) → Among P C h legal W → (s : ℕ) (k : Source) (n : ℕ) → IsOperand (operand_word W s k) n → (p : ℕ) (t : Tenant) → at (unit_of P C h).tenants p ≡ Some t → t.station ≡ s → t.tag ≡ tag_of n → last_of W s ≡ Some t
-  its_last h legal W a s k n word p t is station_is tag_is = go (last_of W s) refl word
+  its_last : (h : List Entry) (legal : IsLegal P C h) (W : List Tenant) → Among P C h legal W → (s : ℕ) (k : Source) (n : ℕ) → IsOperand (operand_word W s k) n → (p : ℕ) (t : Tenant) → at (unit_of P C h).tenants p ≡ Some t → is_old (unit_of P C h) p ≡ false → t.station ≡ s → t.tag ≡ tag_of n → last_of W s ≡ Some t
+  its_last h legal W a s k n word p t is new station_is tag_is = go (last_of W s) refl word
     where
       go : (o : Option Tenant) → last_of W s ≡ o → IsOperand (operand_word_of k o) n → last_of W s ≡ Some t
-      go None e w = absurd (has_last W p t (a.1 p t is) (ap (last_of W) station_is ∙ e))
+      go None e w = let x = a.there p t is new in absurd (has_last W x.r t x.is (ap (last_of W) station_is ∙ e))
       go (Some l) e w =
           let f = find_last W s l e in
-          let same : p ≡ f.0 = names_one C W p f.0 t l a.0 (a.1 p t is) f.1 (station_is ∙ sym f.2) (tag_is ∙ w.tag) in
-          e ∙ (sym f.1 ∙ (ap (at W) (sym same) ∙ a.1 p t is))
+          let x = a.there p t is new in
+          let same : x.r ≡ f.0 = names_one C W x.r f.0 t l a.tagged_all x.is f.1 (station_is ∙ sym f.2) (tag_is ∙ w.tag) in
+          e ∙ (sym f.1 ∙ (ap (at W) (sym same) ∙ x.is))
 
-  module _ (h : List Entry) (legal : IsLegal P C h) (p s : ℕ) (t : Tenant) (is : at (unit_of P C h).tenants p ≡ Some t) where
+  module _ (h : List Entry) (legal : IsLegal P C h) (p s : ℕ) (t : Tenant) (is : at (unit_of P C h).tenants p ≡ Some t) (new : is_old (unit_of P C h) p ≡ false) where
     abbrev U : UpdateUnit
     U = unit_of P C h
 
     abbrev us : List Tenant
-    us = U.tenants
+    us = recent U
+
+    abbrev x : IsRecentAt U p t
+    x = recent_at U p t is new
 
     -- the tenant in progress is another
     not_new : (n : Tenant) → AreTagged C (n ∷ us) → eqb n.station s ≡ true → cond (eqb n.station s) (Some n) (last_of us s) ≡ Some t → ⊥
     not_new n tags e last =
         let one : Some n ≡ Some t = ap (λ b. cond b (Some n) (last_of us s)) (sym e) ∙ last in
         let same : n ≡ t = cc one in
-        let below = at_below us p t is in
-        let position : p ≡ length us = names_one C (n ∷ us) p (length us) t n tags (at_more n us p t is) (at_new n us) (ap (λ (x : Tenant). x.station) (sym same)) (ap (λ (x : Tenant). x.tag) (sym same)) in
+        let below = at_below us x.r t x.is in
+        let position : x.r ≡ length us = names_one C (n ∷ us) x.r (length us) t n tags (at_more n us x.r t x.is) (at_new n us) (ap (λ (x : Tenant). x.station) (sym same)) (ap (λ (x : Tenant). x.tag) (sym same)) in
         omega arith
 
     last_there : (d : Draft) (k : Source) → last_of (recent (operand_unit P C U d k)) s ≡ Some t → last_of us s ≡ Some t
@@ -102,9 +107,9 @@ module _ (P : Program) (C : Sizes) where
         n' : Tenant
         n' = new_tenant P C V index predicted first second
 
-        mid : (b : Bool) → eqb n.station s ≡ b → cond (eqb n.station s) (Some n) (last_of us s) ≡ Some t → IsOperand (operand_word_of k (cond (eqb n'.station s) (Some n') (last_of V.tenants s))) new
+        mid : (b : Bool) → eqb n.station s ≡ b → cond (eqb n.station s) (Some n) (last_of us s) ≡ Some t → IsOperand (operand_word_of k (cond (eqb n'.station s) (Some n') (last_of (recent V) s))) new
         mid true f e = absurd (not_new n (refl, tagged P C (taken_of h) (allowed_steps P C h legal)) f e)
-        mid false f e = subst (λ b. IsOperand (operand_word_of k (cond b (Some n') (last_of V.tenants s))) new) (sym (ap (λ (x : Tenant). eqb x.station s) same ∙ f)) w
+        mid false f e = subst (λ b. IsOperand (operand_word_of k (cond b (Some n') (last_of (recent V) s))) new) (sym (ap (λ (x : Tenant). eqb x.station s) same ∙ f)) w
 
         go : (b : Bool) → last_of (recent (cond b (with_new P C U index predicted first second) U)) s ≡ Some t → IsOperand (operand_word (recent (cond b (with_new P C V index predicted first second) V)) s k) new
         go true e = mid (eqb n.station s) refl e
@@ -119,9 +124,9 @@ module _ (P : Program) (C : Sizes) where
       info_stays P C (unit_of P C h) id r (Deliver k) may (unit_sound P C h legal) d (draft_stays P C (unit_of P C h) id (On r (Deliver k)) d (inr tt) may (unit_sound P C h legal) draft).1 x n c
   others id h d legal draft r s k t is station_is may (Operand x j) n other c =
       let U = unit_of P C h in
-      let apart : (last_of (recent U) x ≢ Some t) ⊎ (j ≢ k) = dite (ℕ_discrete x s)
-      (λ e. ⊎_elim (λ f. absurd (other (λ i. Operand (e i) (f i)))) (λ ne. inr ne) (source_same j k))
-      (λ ne. inl (λ e. let f = find_last (recent U) x t e in ne (sym f.2 ∙ station_is))) in
+      let apart : (is_old U r ≡ true) ⊎ (last_of (recent U) x ≢ Some t) ⊎ (j ≢ k) = dite (ℕ_discrete x s)
+      (λ e. ⊎_elim (λ f. absurd (other (λ i. Operand (e i) (f i)))) (λ ne. inr (inr ne)) (source_same j k))
+      (λ ne. inr (inl (λ e. let f = find_last (recent U) x t e in ne (sym f.2 ∙ station_is)))) in
       operand_drafted P C U (applied P C U id (On r (Deliver k))) x j n ((operands_follow P C (taken_of h) id (allowed_steps P C h legal)).elsewhere r k t x j may is apart) d
       (draft_stays P C U id (On r (Deliver k)) d (inr tt) may (unit_sound P C h legal) draft).1 c
   others id h d legal draft r s k t is station_is may (Link x c k') n other l = link_other P C (unit_of P C h) id r (Deliver k) tt may (unit_sound P C h legal) x c k' n l
@@ -147,6 +152,9 @@ module _ (P : Program) (C : Sizes) where
   -- A delivery that finds the word of the operand that waits: `more` are events that it adds behind itself
   module _ (id : ℕ) (h : List Entry) (d : Draft) (legal : IsLegal P C h) (draft : IsDraft P C (unit_of P C h) d) (s : ℕ) (k : Source) (g val old n new r q : ℕ) (old_is : IsOperandOf (record { tag = g; value = None }) old) (new_is : IsOperandOf (record { tag = g; value = Some val }) new)
       (i : IsTenant (unit_of P C h) r s g (HasLink k q)) (made : HasMade (unit_of P C h) q val) (hit : n ≡ old) (content : IsOperand (operand_word (recent (operand_unit P C (unit_of P C h) d k)) s k) n) where
+    is_new : is_old (unit_of P C h) r ≡ false
+    is_new = none_old P C h legal r
+
     tag_found : i.tenant.tag ≡ tag_of n
     tag_found = i.tag_is ∙ (sym old_is.tag ∙ sym (ap tag_of hit))
 
@@ -156,7 +164,7 @@ module _ (P : Program) (C : Sizes) where
     may : Allowed P C (unit_of P C h) id (On r (Deliver k))
     may =
         let state : state_of n ≡ 1 = ap state_of hit ∙ old_is.state in
-        let word = its_operand P C h legal (recent (operand_unit P C (unit_of P C h) d k)) (among P C h legal d k) s k n content r i.tenant i.is i.station_is tag_found in
+        let word = its_operand P C h legal (recent (operand_unit P C (unit_of P C h) d k)) (among P C h legal d k) s k n content r i.tenant i.is is_new i.station_is tag_found in
         let none = waits i.tenant.tag (operand k i.tenant).value n word (omega arith) in
         record { tenant = i.tenant; is = i.is; may = record { in_time = i.fact.in_time; way = i.fact.way; waits = none; value = val; is_made = worth } }
 
@@ -165,10 +173,10 @@ module _ (P : Program) (C : Sizes) where
         let U : UpdateUnit = unit_of P C h in
         let t : Tenant = i.tenant in
         let V : UpdateUnit = applied P C U id (On r (Deliver k)) in
-        let last = its_last h legal (recent (operand_unit P C U d k)) (among P C h legal d k) s k n content r t i.is i.station_is tag_found in
-        let there = last_there h legal r s t i.is d k last in
+        let last = its_last h legal (recent (operand_unit P C U d k)) (among P C h legal d k) s k n content r t i.is is_new i.station_is tag_found in
+        let there = last_there h legal r s t i.is is_new d k last in
         let stay = draft_stays P C U id (On r (Deliver k)) d (inr tt) may (unit_sound P C h legal) draft in
-        let moved = (operands_follow P C (taken_of h) id (allowed_steps P C h legal)).to_last r k t may i.is (ap (last_of (recent U)) i.station_is ∙ there) in
+        let moved = (operands_follow P C (taken_of h) id (allowed_steps P C h legal)).to_last r k t may i.is is_new (ap (last_of (recent U)) i.station_is ∙ there) in
         let here : operand_word (recent V) s k ≡ Some (record { tag = g; value = Some val }) =
         ap (λ z. operand_word (recent V) z k) (sym i.station_is) ∙ (moved ∙ (λ j. Some (record { tag = i.tag_is j; value = worth j }))) in
         record {
@@ -177,7 +185,7 @@ module _ (P : Program) (C : Sizes) where
           mine = λ _. refl;
           legal = (legal, (tt, may));
           proper = stay.0;
-          here = behind_draft h legal r s t i.is V d k new stay.1 last (subst (λ o. IsOperand o new) (sym here) new_is);
+          here = behind_draft h legal r s t i.is is_new V d k new stay.1 last (subst (λ o. IsOperand o new) (sym here) new_is);
           else = λ y m _ other c. others id h d legal draft r s k t i.is i.station_is may y m other c;
           kind = kind;
         }

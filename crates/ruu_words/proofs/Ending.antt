@@ -21,7 +21,8 @@ use Rattle.inorder.specs.Unit.{Sizes, UpdateUnit, at, recent, tag_after}
 use Rattle.inorder.proofs.Heads.{HasAddr, Oldest, addr_head_stays, find_oldest, goes_on_stays, head_at, head_stays, over_stays}
 use Rattle.inorder.proofs.Histories.{allowed_steps, unit_lasts, unit_sound}
 use Rattle.inorder.proofs.Positions.{all_at, all_from, at_below, older_from}
-use Rattle.inorder.proofs.Stations.{is_ring, stands}
+use Rattle.inorder.proofs.Recent.{live_is_recent, old_are_gone}
+use Rattle.inorder.proofs.Stations.{all_newest, is_ring, stands}
 use Rattle.ruu_words.specs.declared.place.Place.{Place}
 use Rattle.ruu_words.specs.declared.place.Place.TheVariants.{Operand, Station}
 use Rattle.ruu_words.specs.declared.rule.Draft.{Draft}
@@ -104,10 +105,10 @@ module _ (P : Program) (C : Sizes) where
       let on : GoesOn U = back_stays P C GoesOn (λ U by st b a ok q. goes_on_stays P C U by st b a ok q) between v.seen legal none goes_on in ⊎_elim
       (λ (empty : AllByRecursion IsNotLive U.tenants).
       tells P C id h d legal draft (Station s) n Empty (is_back, record { goes_on = all_from IsNoRetiredStop U.tenants on; none = empty }) content (Heads P C s n)
-      (inl (free_word C (recent U) s n empty content, refl)))
+      (inl (free_word C (recent U) s n (all_newest IsNotLive U.fresh U.tenants empty) content, refl)))
       (λ (o : Oldest U.tenants).
       let t : Tenant = o.tenant in
-      let station_is : t.station ≡ s = head_at P C U (unit_sound P C h legal) (is_ring C U.tenants (stands P C (taken_of h) (allowed_steps P C h legal))) o ∙ here in
+      let station_is : t.station ≡ s = head_at P C U (unit_sound P C h legal) (is_ring C (recent U) (stands P C (taken_of h) (allowed_steps P C h legal))) (old_are_gone P C h legal) o ∙ here in
       let w = its_word P C h legal o.p s n t o.is station_is o.live content in ⊎_elim
       (λ early. tells P C id h d legal draft (Station s) n NotDone (is_back, not_done h o.p t o.is o.live o.oldest on (early.1 (kind_of P t) t.second.value)) content (Heads P C s n)
       (inr (inl (early.0, refl))))
@@ -124,7 +125,7 @@ module _ (P : Program) (C : Sizes) where
       let is_back : id ≡ back = subst (λ r. IsCaller r id) role caller in
       let i = back_stays P C (λ U. IsHead U p (HasAddr s g index a)) (λ U by st b may ok q. addr_head_stays P C U by st b may ok p s g index a q) between v.seen legal (subst (λ z. own z between ≡ []) is_back apart) head in
       let t : Tenant = i.tenant in
-      let says = its_operand P C h legal (recent (operand_unit P C (unit_of P C h) d Second)) (among P C h legal d Second) s Second n content p t i.is i.fact.station_is in
+      let says = its_operand P C h legal (recent (operand_unit P C (unit_of P C h) d Second)) (among P C h legal d Second) s Second n content p t i.is (live_is_recent P C h legal p t i.is i.live) i.fact.station_is in
       let tagged : t.tag ≡ tag_of n = tag_here h d legal draft s n content p t i.is i.fact.station_is i.live in
       let w = says tagged in
       dite (ℕ_discrete (state_of n) 2)

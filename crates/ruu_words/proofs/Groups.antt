@@ -1,5 +1,5 @@
 -- How the words of each group follow a step.
-use Rattle.std.proofs.Common.{◌≡◌, ◌⊎◌, ℕ, ◌<◌, Bool, true, false, cond, eqb, List, [], ◌∷◌, ◌++◌, Some, sym, ◌∙◌, subst, inl, inr, ⊎_elim}
+use Rattle.std.proofs.Common.{◌≡◌, ◌⊎◌, ℕ, suc, ◌<◌, Bool, true, false, cond, eqb, List, [], ◌∷◌, ◌++◌, Some, sym, ◌∙◌, subst, inl, inr, ⊎_elim}
 use Rattle.isa.specs.Programs.{Program}
 use Rattle.inorder.specs.declared.history.Act.{Act}
 use Rattle.inorder.specs.declared.history.Source.{Source}
@@ -11,13 +11,14 @@ use Rattle.inorder.specs.Replies.{last_tag}
 use Rattle.inorder.specs.StationWords.{last_of}
 use Rattle.inorder.specs.Steps.{new_tenant}
 use Rattle.inorder.specs.Tenants.{Linked, Tenant, operand}
-use Rattle.inorder.specs.Unit.{Sizes, UpdateUnit, at, older, recent, younger}
+use Rattle.inorder.specs.Unit.{Sizes, UpdateUnit, at, newest_of, older, recent, younger}
 use Rattle.inorder.proofs.Basics.{split_at}
 use Rattle.inorder.proofs.Grows.{sound_mid}
 use Rattle.inorder.proofs.Kept.{parts}
 use Rattle.inorder.proofs.Letting.{IsBesides, let_lasts}
 use Rattle.inorder.proofs.Moves.{Goes, IsNoLink, changed_goes, came, goes}
 use Rattle.inorder.proofs.Sound.{IsSound}
+use Rattle.inorder.proofs.Tags.{IsNewPlace, IsOldPlace, cut}
 use Rattle.ruu_words.specs.declared.rule.Draft.{Draft}
 use Rattle.ruu_words.specs.declared.rule.Draft.TheVariants.{Nothing, Of}
 use Rattle.ruu_words.specs.Content.{IsDraft, IsInfo, IsInfoOf, IsLink, IsLinked, IsOperand, NamesLink, has_operand, info_unit, operand_unit}
@@ -47,9 +48,9 @@ info_drafted : (P : Program) (C : Sizes) (U V : UpdateUnit) (x n : ℕ) → (IsI
 info_drafted P C U V x n keep Nothing same c = keep c
 info_drafted P C U V x n keep (Of stage index predicted first second) same c =
     let t : Tenant = new_tenant P C U index predicted first second in
-    subst (λ (z : Tenant). IsInfo (last_of (z ∷ V.tenants) x) n) (sym same) (go t (eqb t.station x) c)
+    subst (λ (z : Tenant). IsInfo (last_of (z ∷ recent V) x) n) (sym same) (go t (eqb t.station x) c)
   where
-    go : (t : Tenant) (b : Bool) → IsInfo (cond b (Some t) (last_of U.tenants x)) n → IsInfo (cond b (Some t) (last_of V.tenants x)) n
+    go : (t : Tenant) (b : Bool) → IsInfo (cond b (Some t) (last_of (recent U) x)) n → IsInfo (cond b (Some t) (last_of (recent V) x)) n
     go t true i = i
     go t false i = keep i
 
@@ -66,34 +67,43 @@ info_last t u ts (y ∷ ys) x n e f c = go (eqb y.station x) (info_last t u ts y
     go true more i = i
     go false more i = more i
 
-info_at : (P : Program) (ts : List Tenant) (by p : ℕ) (act : Act) (a : MayAct P ts by p act) → IsSound P ts → (x n : ℕ) → IsInfo (last_of ts x) n → IsInfo (last_of (change_at P ts by p act (at ts p)) x) n
-info_at P ts by p act a ok x n c =
+info_at : (P : Program) (m : ℕ) (ts : List Tenant) (by p : ℕ) (act : Act) (a : MayAct P ts by p act) → IsSound P ts → (x n : ℕ) → IsInfo (last_of (newest_of m ts) x) n → IsInfo (last_of (newest_of m (change_at P ts by p act (at ts p))) x) n
+info_at P m ts by p act a ok x n c =
     let t = a.tenant in
     let split = split_at ts p t a.is in
     let move = changed_goes P by p act (younger ts p) t (older ts p) a.may (sound_mid P t (older ts p) (younger ts p) (subst (IsSound P) split ok)) in
     let u = changed P by act t (older ts p) in
-    subst (λ z. IsInfo (last_of z x) n) (sym (parts P ts by p act t a.is))
-    (info_last t u (older ts p) (younger ts p) x n move.station
-    (λ i. record { half = i.half ∙ sym move.half; index = i.index ∙ sym move.index; predicted = i.predicted ∙ sym move.predicted }) (subst (λ z. IsInfo (last_of z x) n) split c))
+    let was = subst (λ z. IsInfo (last_of (newest_of m z) x) n) split c in
+    subst (λ z. IsInfo (last_of (newest_of m z) x) n) (sym (parts P ts by p act t a.is)) (⊎_elim
+    (λ (old : IsOldPlace m (younger ts p) (older ts p)). subst (λ z. IsInfo (last_of z x) n) (old.same t u) was)
+    (λ (new : IsNewPlace m (younger ts p) (older ts p)). subst (λ z. IsInfo (last_of z x) n) (sym (new.is u))
+    (info_last t u new.zs (younger ts p) x n move.station
+    (λ i. record { half = i.half ∙ sym move.half; index = i.index ∙ sym move.index; predicted = i.predicted ∙ sym move.predicted })
+    (subst (λ z. IsInfo (last_of z x) n) (new.is t) was)))
+    (cut m (younger ts p) (older ts p)))
 
 pub info_stays : (P : Program) (C : Sizes) (U : UpdateUnit) (by p : ℕ) (act : Act) → Allowed P C U by (On p act) → IsSound P U.tenants → (d : Draft) → SameDraft P C U (applied P C U by (On p act)) d → (x n : ℕ)
     → IsInfo (last_of (recent (info_unit P C U d)) x) n → IsInfo (last_of (recent (info_unit P C (applied P C U by (On p act)) d)) x) n
-info_stays P C U by p act may ok d same x n c = info_drafted P C U (applied P C U by (On p act)) x n (info_at P U.tenants by p act may ok x n) d same c
+info_stays P C U by p act may ok d same x n c = info_drafted P C U (applied P C U by (On p act)) x n (info_at P U.fresh U.tenants by p act may ok x n) d same c
 
 -- Operand words
+
+-- the unit with one more tenant
+abbrev with_one : UpdateUnit → Tenant → UpdateUnit
+with_one U t = record { tenants = t ∷ U.tenants; fresh = suc U.fresh }
 
 pub operand_drafted : (P : Program) (C : Sizes) (U V : UpdateUnit) (x : ℕ) (k : Source) (n : ℕ) → operand_word (recent V) x k ≡ operand_word (recent U) x k → (d : Draft) → SameDraft P C U V d
     → IsOperand (operand_word (recent (operand_unit P C U d k)) x k) n → IsOperand (operand_word (recent (operand_unit P C V d k)) x k) n
 operand_drafted P C U V x k n keep Nothing same c = subst (λ z. IsOperand z n) (sym keep) c
 operand_drafted P C U V x k n keep (Of stage index predicted first second) same c =
     let t : Tenant = new_tenant P C U index predicted first second in
-    subst (λ (z : Tenant). IsOperand (operand_word (recent (cond (has_operand stage k) (record V { tenants = z ∷ V.tenants }) V)) x k) n) (sym same) (go t (has_operand stage k) c)
+    subst (λ (z : Tenant). IsOperand (operand_word (recent (cond (has_operand stage k) (with_one V z) V)) x k) n) (sym same) (go t (has_operand stage k) c)
   where
-    mid : (t : Tenant) (b : Bool) → IsOperand (operand_word_of k (cond b (Some t) (last_of U.tenants x))) n → IsOperand (operand_word_of k (cond b (Some t) (last_of V.tenants x))) n
+    mid : (t : Tenant) (b : Bool) → IsOperand (operand_word_of k (cond b (Some t) (last_of (recent U) x))) n → IsOperand (operand_word_of k (cond b (Some t) (last_of (recent V) x))) n
     mid t true i = i
     mid t false i = subst (λ z. IsOperand z n) (sym keep) i
 
-    go : (t : Tenant) (b : Bool) → IsOperand (operand_word (recent (cond b (record U { tenants = t ∷ U.tenants }) U)) x k) n → IsOperand (operand_word (recent (cond b (record V { tenants = t ∷ V.tenants }) V)) x k) n
+    go : (t : Tenant) (b : Bool) → IsOperand (operand_word (recent (cond b (with_one U t) U)) x k) n → IsOperand (operand_word (recent (cond b (with_one V t) V)) x k) n
     go t true i = mid t (eqb t.station x) i
     go t false i = subst (λ z. IsOperand z n) (sym keep) i
 

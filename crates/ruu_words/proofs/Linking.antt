@@ -11,17 +11,18 @@ use Rattle.inorder.specs.declared.history.Event.TheVariants.{Does}
 use Rattle.inorder.specs.declared.history.Source.{Source}
 use Rattle.inorder.specs.declared.history.Source.TheVariants.{First, Second}
 use Rattle.inorder.specs.declared.history.Step.{Step}
-use Rattle.inorder.specs.declared.history.Step.TheVariants.{Let, On}
+use Rattle.inorder.specs.declared.history.Step.TheVariants.{Let, On, Renew}
 use Rattle.inorder.specs.Callers.{CanAsk, IsLastAt}
 use Rattle.inorder.specs.History.{IsLegal, IsTheirAct, IsTheirs, front, own, taken_of, unit_of}
 use Rattle.inorder.specs.Legal.{Allowed, applied}
 use Rattle.inorder.specs.Steps.{linked}
 use Rattle.inorder.specs.Tenants.{Live, Tenant, operand}
-use Rattle.inorder.specs.Unit.{Sizes, UpdateUnit, at, older, value_of}
+use Rattle.inorder.specs.Unit.{Sizes, UpdateUnit, at, older, recent, value_of}
 use Rattle.inorder.proofs.Letting.{IsBesides}
 use Rattle.inorder.proofs.Moves.{Goes, IsActed, IsLeft, IsNoLink, IsNoLinkAct, at_changed, came, goes}
 use Rattle.inorder.proofs.OperandsShown.{operands_follow}
 use Rattle.inorder.proofs.Positions.{younger_at}
+use Rattle.inorder.proofs.Recent.{live_is_last, old_are_gone}
 use Rattle.inorder.proofs.Serving.{linked_creator, linked_way, other_way, source_same}
 use Rattle.inorder.proofs.Sound.{IsSound}
 use Rattle.inorder.proofs.Stations.{is_ring, stands}
@@ -46,6 +47,7 @@ linked_name ts Second t = (refl, refl)
 
 no_link : (C : Sizes) (U : UpdateUnit) (by : ℕ) (s : Step) → by ≢ front → IsTheirs C U by s → IsNoLink s
 no_link C U by (Let index predicted first second) ne h = tt
+no_link C U by Renew ne h = absurd h
 no_link C U by (On p act) ne h = go act h
   where
     go : (act : Act) → IsTheirAct by act → IsNoLinkAct act
@@ -60,6 +62,7 @@ no_link C U by (On p act) ne h = go act h
 
 pub last_stays : (P : Program) (C : Sizes) (U : UpdateUnit) (by : ℕ) (s : Step) → IsBesides s → Allowed P C U by s → IsSound P U.tenants → (r c : ℕ) → IsLastAt U r c → IsLastAt (applied P C U by s) r c
 last_stays P C U by (Let i x f n) b a ok r c l = absurd b
+last_stays P C U by Renew b a ok r c l = absurd b
 last_stays P C U by (On p act) b a ok r c l = λ q u lt is e. let was = came P C U by p act a ok q u is in l q was.tenant lt was.is (sym was.goes.station ∙ e)
 
 module _ (P : Program) (C : Sizes) where
@@ -94,8 +97,8 @@ module _ (P : Program) (C : Sizes) where
     only x y at_x live e = dite (ℕ_discrete x r) (λ z. z)
         (λ ne. elim (dec_lt r x) [
           | yes l ↦ absurd (last x y l at_x e)
-          | no l ↦ (let ring = is_ring C us (stands P C (taken_of h) (allowed_steps P C h legal)) in
-              absurd (younger_at (λ z. z.station ≢ y.station) us x (ring.last x y at_x live) r t (omega arith) is (at_c ∙ sym e)))
+          | no l ↦ (let ring = is_ring C (recent U) (stands P C (taken_of h) (allowed_steps P C h legal)) in
+              absurd (younger_at (λ z. z.station ≢ y.station) us x (live_is_last C U ring (old_are_gone P C h legal) x y at_x live) r t (omega arith) is (at_c ∙ sym e)))
         ])
 
     pub new_word : IsLink V.tenants p c k (pack_link u.tag t.tag)

@@ -1,5 +1,5 @@
 -- Loads of info words and of operand words.
-use Rattle.std.proofs.Common.{◌≡◌, ◌≢◌, ℕ, Bool, true, false, cond, eqb, List, [], ◌∷◌, ◌++◌, length, Option, Some, None, refl, sym, ap, ◌∙◌, subst, inl, inr, arith, ne_eqb, eq-eqb, true≢false}
+use Rattle.std.proofs.Common.{◌≡◌, ◌≢◌, ℕ, ◌+◌, Bool, true, false, cond, eqb, List, [], ◌∷◌, ◌++◌, length, Option, Some, None, refl, sym, ap, ◌∙◌, subst, inl, inr, arith, ne_eqb, eq-eqb, true≢false}
 use mathlib.Core.Logic.{dite}
 use native.Mathlib.Decide.{ℕ_discrete}
 use Rattle.std.specs.List.{AllByRecursion}
@@ -16,15 +16,16 @@ use Rattle.inorder.specs.Legal.{AreAllowed}
 use Rattle.inorder.specs.OperandWords.{operand_word, operand_word_of}
 use Rattle.inorder.specs.StationWords.{last_of}
 use Rattle.inorder.specs.Steps.{MayLet, new_tenant}
-use Rattle.inorder.specs.Tenants.{IsThere, Live, Tenant, kind_of, missing, missing_of, needs, operand}
-use Rattle.inorder.specs.Unit.{Sizes, UpdateUnit, at, older, recent, younger}
+use Rattle.inorder.specs.Tenants.{IsThere, Live, Tenant, is_live, kind_of, missing, missing_of, needs, operand}
+use Rattle.inorder.specs.Unit.{Sizes, UpdateUnit, at, is_old, older, recent, younger}
 use Rattle.inorder.proofs.Basics.{split_at}
 use Rattle.inorder.proofs.Grows.{all_mid}
 use Rattle.inorder.proofs.Moves.{Goes}
 use Rattle.inorder.proofs.Positions.{at_more}
-use Rattle.inorder.proofs.Stations.{AreApart, IsElsewhere, all_elsewhere, stands}
+use Rattle.inorder.proofs.Recent.{live_is_recent, none_old, recent_at}
+use Rattle.inorder.proofs.Stations.{AreApart, IsElsewhere, all_elsewhere, fewer_newest, settling, settling_newest, stands}
 use Rattle.inorder.proofs.StationsShown.{last_live}
-use Rattle.inorder.proofs.Tags.{AreTagged, names_one, tagged}
+use Rattle.inorder.proofs.Tags.{AreTagged, names_one, passed, tagged}
 use Rattle.ruu_words.specs.declared.place.Place.TheVariants.{Info, Operand}
 use Rattle.ruu_words.specs.declared.rule.Draft.{Draft}
 use Rattle.ruu_words.specs.declared.rule.Draft.TheVariants.{Nothing, Of}
@@ -64,23 +65,30 @@ module _ (P : Program) (C : Sizes) (h : List Entry) (legal : IsLegal P C h) wher
   allowed = allowed_steps P C h legal
 
   -- a live tenant is the last of its station
-  pub last_is : (p : ℕ) (t : Tenant) → at us p ≡ Some t → t.standing ≡ Live → last_of us t.station ≡ Some t
+  pub last_is : (p : ℕ) (t : Tenant) → at us p ≡ Some t → t.standing ≡ Live → last_of (recent U) t.station ≡ Some t
   last_is p t is live =
-      let split = split_at us p t is in
-      ap (λ z. last_of z t.station) split ∙ last_live t t (older us p) (younger us p) live refl (subst AreApart split (stands P C (taken_of h) allowed).apart)
+      let x = recent_at U p t is (live_is_recent P C h legal p t is live) in
+      let ws = recent U in
+      let split = split_at ws x.r t x.is in
+      ap (λ z. last_of z t.station) split ∙ last_live t t (older ws x.r) (younger ws x.r) live refl (subst AreApart split (stands P C (taken_of h) allowed).apart)
 
   -- and no tenant in progress is of its station
   draft_apart : (index predicted : ℕ) (first second : Supply) → MayLet P C U index predicted first second → (p : ℕ) (t : Tenant) → at us p ≡ Some t → t.standing ≡ Live → t.station ≢ (new_tenant P C U index predicted first second).station
   draft_apart index predicted first second may p t is live =
       let n : Tenant = new_tenant P C U index predicted first second in
-      let all = all_elsewhere P C n us [] us refl refl may.room (unit_sound P C h legal) (stands P C (taken_of h) allowed).placed in
-      all_mid (IsElsewhere n) t (older us p) (younger us p) (subst (AllByRecursion (IsElsewhere n)) (split_at us p t is) all) live
+      let x = recent_at U p t is (live_is_recent P C h legal p t is live) in
+      let ws = recent U in
+      let few = fewer_newest is_live U.fresh us in
+      let room = may.room in
+      let all = all_elsewhere P C n ws [] ws refl refl (omega (arith, few, room)) (settling_newest U.fresh us (settling P us (unit_sound P C h legal)))
+      (stands P C (taken_of h) allowed).placed in
+      all_mid (IsElsewhere n) t (older ws x.r) (younger ws x.r) (subst (AllByRecursion (IsElsewhere n)) (split_at ws x.r t x.is) all) live
 
-  with_draft : (index predicted : ℕ) (first second : Supply) → MayLet P C U index predicted first second → (p : ℕ) (t : Tenant) → at us p ≡ Some t → t.standing ≡ Live → last_of (new_tenant P C U index predicted first second ∷ us) t.station ≡ Some t
+  with_draft : (index predicted : ℕ) (first second : Supply) → MayLet P C U index predicted first second → (p : ℕ) (t : Tenant) → at us p ≡ Some t → t.standing ≡ Live → last_of (new_tenant P C U index predicted first second ∷ recent U) t.station ≡ Some t
   with_draft index predicted first second may p t is live =
       let n : Tenant = new_tenant P C U index predicted first second in
       let off = ne_eqb n.station t.station (λ e. draft_apart index predicted first second may p t is live (sym e)) in
-      ap (λ b. cond b (Some n) (last_of us t.station)) off ∙ last_is p t is live
+      ap (λ b. cond b (Some n) (last_of (recent U) t.station)) off ∙ last_is p t is live
 
   -- the last tenant of the unit that info or operand words follow
   info_last : (d : Draft) → IsDraft P C U d → (p : ℕ) (t : Tenant) → at us p ≡ Some t → t.standing ≡ Live → last_of (recent (info_unit P C U d)) t.station ≡ Some t
@@ -95,28 +103,42 @@ module _ (P : Program) (C : Sizes) (h : List Entry) (legal : IsLegal P C h) wher
       go true = with_draft index predicted first second draft.0 p t is live
       go false = last_is p t is live
 
-  -- its tenants are tagged, and those of the unit are among them
-  abbrev pub Among : List Tenant → Type 0
-  Among W = AreTagged C W × ((p : ℕ) (t : Tenant) → at us p ≡ Some t → at W p ≡ Some t)
+  -- a recent tenant of the unit among others
+  pub record IsAmong (W : List Tenant) (p : ℕ) (t : Tenant) : Type 0 where
+    pub r : ℕ
+    pub is : at W r ≡ Some t
+    pub position : p ≡ r + length (passed U.fresh us)
+
+  -- its tenants are tagged, and the recent ones of the unit are among them
+  pub record Among (W : List Tenant) : Type 0 where
+    pub tagged_all : AreTagged C W
+    pub there : (p : ℕ) (t : Tenant) → at us p ≡ Some t → is_old U p ≡ false → IsAmong W p t
+
+  of_recent : (p : ℕ) (t : Tenant) → at us p ≡ Some t → is_old U p ≡ false → IsAmong (recent U) p t
+  of_recent p t e new = let x = recent_at U p t e new in record { r = x.r; is = x.is; position = x.position }
 
   pub among : (d : Draft) (k : Source) → Among (recent (operand_unit P C U d k))
-  among Nothing k = (tagged P C (taken_of h) allowed, λ p t e. e)
+  among Nothing k = record { tagged_all = tagged P C (taken_of h) allowed; there = of_recent }
   among (Of stage index predicted first second) k = go (has_operand stage k)
     where
       go : (b : Bool) → Among (recent (cond b (with_new P C U index predicted first second) U))
-      go true = ((refl, tagged P C (taken_of h) allowed), λ p t e. at_more (new_tenant P C U index predicted first second) us p t e)
-      go false = (tagged P C (taken_of h) allowed, λ p t e. e)
+      go true = record {
+        tagged_all = (refl, tagged P C (taken_of h) allowed);
+        there = λ p t e new. let x = of_recent p t e new in record { r = x.r; is = at_more (new_tenant P C U index predicted first second) (recent U) x.r t x.is; position = x.position };
+      }
+      go false = record { tagged_all = tagged P C (taken_of h) allowed; there = of_recent }
 
   -- an operand word with the tag of a tenant of the station is that tenant's
-  pub its_operand : (W : List Tenant) → Among W → (s : ℕ) (k : Source) (n : ℕ) → IsOperand (operand_word W s k) n → (p : ℕ) (t : Tenant) → at us p ≡ Some t → t.station ≡ s → t.tag ≡ tag_of n → IsOperandOf (record { tag = t.tag; value = (operand k t).value }) n
-  its_operand W a s k n word p t is station_is tag_is = go (last_of W s) refl word
+  pub its_operand : (W : List Tenant) → Among W → (s : ℕ) (k : Source) (n : ℕ) → IsOperand (operand_word W s k) n → (p : ℕ) (t : Tenant) → at us p ≡ Some t → is_old U p ≡ false → t.station ≡ s → t.tag ≡ tag_of n → IsOperandOf (record { tag = t.tag; value = (operand k t).value }) n
+  its_operand W a s k n word p t is new station_is tag_is = go (last_of W s) refl word
     where
       go : (o : Option Tenant) → last_of W s ≡ o → IsOperand (operand_word_of k o) n → IsOperandOf (record { tag = t.tag; value = (operand k t).value }) n
-      go None e w = absurd (has_last W p t (a.1 p t is) (ap (last_of W) station_is ∙ e))
+      go None e w = let x = a.there p t is new in absurd (has_last W x.r t x.is (ap (last_of W) station_is ∙ e))
       go (Some l) e w =
           let f = find_last W s l e in
-          let same : p ≡ f.0 = names_one C W p f.0 t l a.0 (a.1 p t is) f.1 (station_is ∙ sym f.2) (tag_is ∙ w.tag) in
-          let one : l ≡ t = found l t (sym f.1 ∙ (ap (at W) (sym same) ∙ a.1 p t is)) in
+          let x = a.there p t is new in
+          let same : x.r ≡ f.0 = names_one C W x.r f.0 t l a.tagged_all x.is f.1 (station_is ∙ sym f.2) (tag_is ∙ w.tag) in
+          let one : l ≡ t = found l t (sym f.1 ∙ (ap (at W) (sym same) ∙ x.is)) in
           subst (λ x. IsOperandOf (record { tag = x.tag; value = (operand k x).value }) n) one w
         where
           found : (l t : Tenant) → Some l ≡ Some t → l ≡ t
@@ -167,7 +189,7 @@ module _ (P : Program) (C : Sizes) where
       looks P C id h d legal draft (Operand s k) n content (ReadsOperand P C s k n) (record {
         none = refl;
         says = record {
-          its = its_operand P C h legal (recent (operand_unit P C (unit_of P C h) d k)) (among P C h legal d k) s k n content;
+          its = λ p t is. its_operand P C h legal (recent (operand_unit P C (unit_of P C h) d k)) (among P C h legal d k) s k n content p t is (none_old P C h legal p);
           left = not_live P C h legal d draft s k n content;
         };
       })
@@ -181,7 +203,7 @@ module _ (P : Program) (C : Sizes) where
       let was = was_open_stays P C between v.seen p before in
       dite (ℕ_discrete (tag_of n) g)
       (λ tag.
-      let w = its_operand P C h legal (recent (operand_unit P C (unit_of P C h) d k)) (among P C h legal d k) s k n content p t now.is now.station_is (now.tag_is ∙ sym tag) in
+      let w = its_operand P C h legal (recent (operand_unit P C (unit_of P C h) d k)) (among P C h legal d k) s k n content p t now.is (none_old P C h legal p) now.station_is (now.tag_is ∙ sym tag) in
       dite (ℕ_discrete (state_of n) 2)
       (λ there. looks P C id h d legal draft (Operand s k) n content (ReadsSource P C s g k n)
       (inl (tag, there, record { p = p; tenant = record { tenant = t; is = now.is; station_is = now.station_is; tag_is = now.tag_is; fact = delivered t.tag (operand k t).value n w there }; added = refl })))

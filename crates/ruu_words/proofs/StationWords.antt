@@ -6,10 +6,11 @@ use Rattle.inorder.specs.History.{IsLegal, taken_of, unit_of}
 use Rattle.inorder.specs.Replies.{HasNoOpen}
 use Rattle.inorder.specs.StationWords.{last_of, live_word, station_word, word_by, word_of}
 use Rattle.inorder.specs.Tenants.{Addr, Busy, Done, Fate, Live, Miss, Open, Retired, Squashed, Standing, Stopped, Tenant}
-use Rattle.inorder.specs.Unit.{Sizes, UpdateUnit, at, recent, tag_after}
+use Rattle.inorder.specs.Unit.{Sizes, UpdateUnit, at, is_old, recent, tag_after}
 use Rattle.inorder.proofs.Positions.{at_more, at_new}
 use Rattle.inorder.proofs.StationsShown.{stations_follow}
-use Rattle.inorder.proofs.Tags.{names_one, tagged}
+use Rattle.inorder.proofs.Recent.{among_all, live_is_recent, names_recent, none_old, recent_at}
+use Rattle.inorder.proofs.Tags.{tagged}
 use Rattle.ruu_words.specs.Content.{IsStation}
 use Rattle.ruu_words.specs.Fields.{state_of, tag_of, value_of}
 use Rattle.inorder.proofs.Histories.{allowed_steps}
@@ -28,13 +29,14 @@ find_last (u ∷ us) s t h = go (eqb u.station s) refl (find_last us s t)
     go false e more = let x = more (ap (λ b. cond b (Some u) (last_of us s)) (sym e) ∙ h) in (x.0, at_more u us x.0 t x.1, x.2)
 
 -- the last tenant of a station is live, and the word is its
-pub record LastLive (U : List Tenant) (s n : ℕ) : Type 0 where
+pub record LastLive (U : UpdateUnit) (s n : ℕ) : Type 0 where
   pub p : ℕ
   pub t : Tenant
-  pub is : at U p ≡ Some t
+  pub is : at U.tenants p ≡ Some t
+  pub new : is_old U p ≡ false
   pub station : t.station ≡ s
   pub live : t.standing ≡ Live
-  pub last : last_of U s ≡ Some t
+  pub last : last_of (recent U) s ≡ Some t
   pub word : IsStation (live_word t.tag t.fate) n
 
 by_standing : (t : Tenant) (k n : ℕ) (st : Standing) → t.standing ≡ st → IsStation (word_by k st t.tag t.fate t.made) n → state_of n ≢ 0 → (t.standing ≡ Live) × IsStation (live_word t.tag t.fate) n
@@ -42,15 +44,16 @@ by_standing t k n Live e w ne = (e, w)
 by_standing t k n Retired e w ne = absurd (ne w.state)
 by_standing t k n Squashed e w ne = absurd (ne w.state)
 
-pub live_last : (C : Sizes) (U : List Tenant) (s n : ℕ) → IsStation (station_word C U s) n → state_of n ≢ 0 → LastLive U s n
-live_last C U s n w ne = go (last_of U s) refl w
+pub live_last : (C : Sizes) (U : UpdateUnit) (s n : ℕ) → IsStation (station_word C (recent U) s) n → state_of n ≢ 0 → LastLive U s n
+live_last C U s n w ne = go (last_of (recent U) s) refl w
   where
-    go : (o : Option Tenant) → last_of U s ≡ o → IsStation (word_of (tag_after C U s) o) n → LastLive U s n
+    go : (o : Option Tenant) → last_of (recent U) s ≡ o → IsStation (word_of (tag_after C (recent U) s) o) n → LastLive U s n
     go None e w = absurd (ne w.state)
     go (Some t) e w =
-        let b = by_standing t (tag_after C U s) n t.standing refl w ne in
-        let f = find_last U s t e in
-        record { p = f.0; t = t; is = f.1; station = f.2; live = b.0; last = e; word = b.1 }
+        let b = by_standing t (tag_after C (recent U) s) n t.standing refl w ne in
+        let f = find_last (recent U) s t e in
+        let a = among_all U f.0 t f.1 in
+        record { p = a.p; t = t; is = a.is; new = a.new; station = f.2; live = b.0; last = e; word = b.1 }
 
 -- the word of a tenant that is still live
 pub still_live : (st : Standing) (next tag : ℕ) (f : Fate) (made : Option ℕ) (n : ℕ) → st ≡ Live → IsStation (live_word tag f) n → IsStation (word_by next st tag f made) n
@@ -125,12 +128,13 @@ module _ (P : Program) (C : Sizes) (h : List Entry) (legal : IsLegal P C h) wher
   -- a live tenant's word
   pub its_word : (p s n : ℕ) (t : Tenant) → at us p ≡ Some t → t.station ≡ s → t.standing ≡ Live → IsStation (station_word C (recent U) s) n → IsStation (live_word t.tag t.fate) n
   its_word p s n t is e live w =
-      let same = ((stations_follow P C (taken_of h) 0).shows (allowed_steps P C h legal)).live p t is live in
+      let x = recent_at U p t is (live_is_recent P C h legal p t is live) in
+      let same = ((stations_follow P C (taken_of h) 0).shows (allowed_steps P C h legal)).live x.r t x.is live in
       subst (λ z. IsStation z n) (ap (station_word C (recent U)) (sym e) ∙ same) w
 
   -- one station and one tag
   pub one_tag : (p q : ℕ) (t u : Tenant) → at us p ≡ Some t → at us q ≡ Some u → t.station ≡ u.station → t.tag ≡ u.tag → p ≡ q
-  one_tag p q t u e f same tag = names_one C us p q t u (tagged P C (taken_of h) (allowed_steps P C h legal)) e f same tag
+  one_tag p q t u e f same tag = names_recent C U (tagged P C (taken_of h) (allowed_steps P C h legal)) p q t u e f (none_old P C h legal p) (none_old P C h legal q) same tag
 
   pub one_at : (p : ℕ) (t u : Tenant) → at us p ≡ Some t → at us p ≡ Some u → t ≡ u
   one_at p t u e f = cc (sym e ∙ f)
@@ -145,7 +149,7 @@ module _ (P : Program) (C : Sizes) (h : List Entry) (legal : IsLegal P C h) wher
   -- a live word with the tag of a tenant of the station is that tenant's
   pub the_tenant : (p s g n : ℕ) (t : Tenant) → at us p ≡ Some t → t.station ≡ s → t.tag ≡ g → IsStation (station_word C (recent U) s) n → state_of n ≢ 0 → tag_of n ≡ g → (t.standing ≡ Live) × IsStation (live_word t.tag t.fate) n
   the_tenant p s g n t is e tag w ne tagged =
-      let l = live_last C us s n w ne in
+      let l = live_last C U s n w ne in
       let same : p ≡ l.p = one_tag p l.p t l.t is l.is (e ∙ sym l.station) (tag ∙ (sym tagged ∙ (live_state l.t.tag n l.t.fate l.word).0)) in
       let one : l.t ≡ t = one_at p l.t t (ap (at us) same ∙ l.is) is in
       (ap (λ x. x.standing) (sym one) ∙ l.live, subst (λ x. IsStation (live_word x.tag x.fate) n) one l.word)

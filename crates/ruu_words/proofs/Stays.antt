@@ -13,7 +13,7 @@ use Rattle.inorder.specs.declared.history.Act.TheVariants.{Claim, Deliver, Finis
 use Rattle.inorder.specs.declared.history.Entry.{Entry}
 use Rattle.inorder.specs.declared.history.Source.TheVariants.{First, Second}
 use Rattle.inorder.specs.declared.history.Step.{Step}
-use Rattle.inorder.specs.declared.history.Step.TheVariants.{Let, On}
+use Rattle.inorder.specs.declared.history.Step.TheVariants.{Let, On, Renew}
 use Rattle.inorder.specs.Callers.{IsReady}
 use Rattle.inorder.specs.History.{IsLegal, IsTheirs, WasOpen, back, front, own, unit_of}
 use Rattle.inorder.specs.Legal.{Allowed, applied}
@@ -32,6 +32,7 @@ use Rattle.inorder.proofs.Histories.{starts_longer, unit_lasts, unit_lasts_apart
 -- only the front makes other steps than these
 pub besides_of : (C : Sizes) (U : UpdateUnit) (by : ℕ) (s : Step) → IsTheirs C U by s → by ≢ front → IsBesides s
 besides_of C U by (Let index predicted first second) h ne = absurd (ne h.0)
+besides_of C U by Renew h ne = absurd h
 besides_of C U by (On p act) h ne = go act h
   where
     go : (act : Act) → Rattle.inorder.specs.History.IsTheirAct by act → Rattle.inorder.proofs.Letting.IsBesidesAct act
@@ -47,6 +48,7 @@ besides_of C U by (On p act) h ne = go act h
 -- only the back loads and retires
 pub not_backs : (C : Sizes) (U : UpdateUnit) (by : ℕ) (s : Step) → IsTheirs C U by s → by ≢ back → IsNotBacks s
 not_backs C U by (Let index predicted first second) h ne = tt
+not_backs C U by Renew h ne = absurd h
 not_backs C U by (On p act) h ne = go act h
   where
     go : (act : Act) → Rattle.inorder.specs.History.IsTheirAct by act → Rattle.inorder.proofs.Ends.IsNotBacksAct act

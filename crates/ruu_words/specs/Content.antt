@@ -1,5 +1,5 @@
 -- What the words hold, for a unit and a let in progress.
-use Rattle.std.specs.Prelude.{◌≡◌, ◌⊎◌, ℕ, ◌<◌, Bool, true, false, List, ◌∷◌, Option, Some, None, if◌then◌else◌}
+use Rattle.std.specs.Prelude.{◌≡◌, ◌⊎◌, ℕ, suc, ◌<◌, Bool, true, false, List, ◌∷◌, Option, Some, None, if◌then◌else◌}
 use Rattle.isa.specs.Programs.{Program}
 use Rattle.inorder.specs.declared.history.Source.{Source}
 use Rattle.inorder.specs.declared.history.Source.TheVariants.{First, Second}
@@ -119,7 +119,10 @@ has_operand BothOperands k = true
 -- The unit with the tenant in progress
 abbrev pub with_new : Program → Sizes → UpdateUnit → ℕ → ℕ → Supply → Supply → UpdateUnit
 with_new P C U index predicted first second =
-    record U { tenants = new_tenant P C U index predicted first second ∷ U.tenants }
+    record {
+      tenants = new_tenant P C U index predicted first second ∷ U.tenants;
+      fresh = suc U.fresh;
+    }
 
 -- The unit that info words follow
 abbrev pub info_unit : Program → Sizes → UpdateUnit → Draft → UpdateUnit

@@ -55,6 +55,7 @@ use Rattle.station.proofs.Adding.{adds_these}
 use Rattle.station.proofs.Carrying.{one_named}
 use Rattle.station.proofs.Seated.{next_stays}
 use Rattle.station.proofs.Writing.{acted}
+use Rattle.inorder.proofs.Recent.{counts_same}
 
 -- a link and a delivery leave the path
 linked_path : (ts : List Tenant) (k : Source) (t : Tenant) → on_path (linked ts t k) ≡ on_path t
@@ -157,11 +158,7 @@ module _ (P : Program) (C : Sizes) where
 
   next_act : (U : UpdateUnit) (by p : ℕ) (act : Act) → (a : Allowed P C U by (On p act)) → on_path (changed P by act a.tenant (older U.tenants p)) ≡ on_path a.tenant → next_station C (recent (applied P C U by (On p act))) ≡ next_station C (recent U)
   next_act U by p act a same =
-      let us = U.tenants in
-      let t = a.tenant in
-      let ts = older us p in
-      let ys = younger us p in
-      ap (λ n. n % C.ring) (ap (how_many on_path) (parts P us by p act t a.is) ∙ (how_many_same on_path t (changed P by act t ts) ts ys same ∙ sym (ap (how_many on_path) (split_at us p t a.is))))
+      ap (λ n. n % C.ring) (counts_same P U by p act a.tenant a.is on_path same)
 
   -- Each step of the front
 

@@ -9,7 +9,7 @@ use Rattle.inorder.specs.declared.history.Entry.{Entry}
 use Rattle.inorder.specs.declared.history.Event.{Event}
 use Rattle.inorder.specs.declared.history.Event.TheVariants.{Does, Marks, Refuses}
 use Rattle.inorder.specs.declared.history.Step.{Step}
-use Rattle.inorder.specs.declared.history.Step.TheVariants.{Let, On}
+use Rattle.inorder.specs.declared.history.Step.TheVariants.{Let, On, Renew}
 use Rattle.inorder.specs.Callers.{GoesOn, head_station, is_retired}
 use Rattle.inorder.specs.History.{Adds, IsLegal, MayAdd, back, entry, own, unit_of}
 use Rattle.inorder.specs.Laws.{IsNoRetire}
@@ -29,10 +29,16 @@ use Rattle.inorder.proofs.Sound.{IsSound}
 use Rattle.ruu_words.specs.declared.rule.Role.TheVariants.{Back}
 use Rattle.ruu_words.specs.declared.rule.View.{View}
 use Rattle.station.specs.Seats.{HasEnded, IsAtHead, IsSeated}
+use Rattle.inorder.proofs.Recent.{counts_same}
 
--- A step that is no retirement
+-- A step that is neither a retirement nor a renewal
 
-is_load_or_not : (s : Step) → IsNoRetire s → IsNotBacks s ⊎ ((p : ℕ) × (s ≡ On p Load))
+abbrev pub IsPlain : Step → Type 0
+IsPlain (Let index predicted first second) = Unit {0}
+IsPlain (On p act) = IsNoRetire (On p act)
+IsPlain Renew = ⊥
+
+is_load_or_not : (s : Step) → IsPlain s → IsNotBacks s ⊎ ((p : ℕ) × (s ≡ On p Load))
 is_load_or_not (Let index predicted first second) h = inl tt
 is_load_or_not (On p (Link k)) h = inl tt
 is_load_or_not (On p (Deliver k)) h = inl tt
@@ -42,6 +48,7 @@ is_load_or_not (On p Load) h = inr (p, refl)
 is_load_or_not (On p (Retire n)) h = absurd h
 is_load_or_not (On p Squash) h = inl tt
 is_load_or_not (On p Mend) h = inl tt
+is_load_or_not Renew h = absurd h
 
 live_goes_on : (t : Tenant) → t.standing ≡ Live → IsNoRetiredStop t
 live_goes_on t live gone c f = let x = sym live ∙ gone in absurd (cc x)
@@ -49,10 +56,7 @@ live_goes_on t live gone c f = let x = sym live ∙ gone in absurd (cc x)
 module _ (P : Program) (C : Sizes) where
   load_head : (U : UpdateUnit) (by p : ℕ) → Allowed P C U by (On p Load) → head_station C (applied P C U by (On p Load)) ≡ head_station C U
   load_head U by p a =
-      let us = U.tenants in
-      let t = a.tenant in
-      let same = how_many_same is_retired t (changed P by Load t (older us p)) (older us p) (younger us p) refl in
-      λ i. (ap (how_many is_retired) (parts P us by p Load t a.is) ∙ (same ∙ ap (how_many is_retired) (sym (split_at us p t a.is)))) i % C.ring
+      ap (λ z. z % C.ring) (counts_same P U by p Load a.tenant a.is is_retired refl)
 
   load_goes_on : (U : UpdateUnit) (by p : ℕ) → Allowed P C U by (On p Load) → GoesOn U → GoesOn (applied P C U by (On p Load))
   load_goes_on U by p a g =
@@ -63,26 +67,26 @@ module _ (P : Program) (C : Sizes) where
       let now = all_grows IsNoRetiredStop t t' (older us p) (younger us p) (λ _. live_goes_on t' a.may.live) (subst (AllByRecursion IsNoRetiredStop) (split_at us p t a.is) all) in
       all_at IsNoRetiredStop (applied P C U by (On p Load)).tenants (subst (AllByRecursion IsNoRetiredStop) (sym (parts P us by p Load t a.is)) now)
 
-  head_on : (U : UpdateUnit) (by : ℕ) (s : Step) → IsNoRetire s → Allowed P C U by s → head_station C (applied P C U by s) ≡ head_station C U
+  head_on : (U : UpdateUnit) (by : ℕ) (s : Step) → IsPlain s → Allowed P C U by s → head_station C (applied P C U by s) ≡ head_station C U
   head_on U by s h a = ⊎_elim
       (λ n. head_stays P C U by s n a)
       (λ (l : (p : ℕ) × (s ≡ On p Load)). subst (λ z. head_station C (applied P C U by z) ≡ head_station C U) (sym l.1) (load_head U by l.0 (subst (Allowed P C U by) l.1 a)))
       (is_load_or_not s h)
 
-  goes_on_on : (U : UpdateUnit) (by : ℕ) (s : Step) → IsNoRetire s → Allowed P C U by s → IsSound P U.tenants → GoesOn U → GoesOn (applied P C U by s)
+  goes_on_on : (U : UpdateUnit) (by : ℕ) (s : Step) → IsPlain s → Allowed P C U by s → IsSound P U.tenants → GoesOn U → GoesOn (applied P C U by s)
   goes_on_on U by s h a ok g = ⊎_elim
       (λ n. goes_on_stays P C U by s n a ok g)
       (λ (l : (p : ℕ) × (s ≡ On p Load)). subst (λ z. GoesOn (applied P C U by z)) (sym l.1) (load_goes_on U by l.0 (subst (Allowed P C U by) l.1 a) g))
       (is_load_or_not s h)
 
-  ended_on : (over : Bool) (U : UpdateUnit) (by : ℕ) (s : Step) → IsNoRetire s → Allowed P C U by s → IsSound P U.tenants → HasEnded over U → HasEnded over (applied P C U by s)
+  ended_on : (over : Bool) (U : UpdateUnit) (by : ℕ) (s : Step) → IsPlain s → Allowed P C U by s → IsSound P U.tenants → HasEnded over U → HasEnded over (applied P C U by s)
   ended_on true U by s h a ok o = over_stays P C U by s a o
   ended_on false U by s h a ok g = goes_on_on U by s h a ok g
 
   -- Entries that are no retirement
 
   abbrev pub IsNoRetirement : Event → Type 0
-  IsNoRetirement (Does s) = IsNoRetire s
+  IsNoRetirement (Does s) = IsPlain s
   IsNoRetirement (Refuses r) = Unit {0}
   IsNoRetirement (Marks m) = Unit {0}
 
@@ -91,6 +95,7 @@ module _ (P : Program) (C : Sizes) where
 
   only_back : (h : List Entry) (by : ℕ) (x : Event) → MayAdd P C h by x → eqb by back ≡ false → IsNoRetirement x
   only_back h by (Does (Let index predicted first second)) may ne = tt
+  only_back h by (Does Renew) may ne = absurd may.0
   only_back h by (Does (On p (Link k))) may ne = tt
   only_back h by (Does (On p (Deliver k))) may ne = tt
   only_back h by (Does (On p Claim)) may ne = tt

@@ -18,7 +18,7 @@ use Rattle.inorder.specs.Legal.{Allowed}
 use Rattle.inorder.specs.Replies.{Has, IsDelivered}
 use Rattle.inorder.specs.Steps.{delivered}
 use Rattle.inorder.specs.Tenants.{Live, Tenant, operand}
-use Rattle.inorder.specs.Unit.{Sizes, UpdateUnit, at, older, value_of}
+use Rattle.inorder.specs.Unit.{at, older, recent, Sizes, UpdateUnit, value_of}
 use Rattle.inorder.proofs.Histories.{adds_on, allowed_steps, legal_before, unit_lasts}
 use Rattle.inorder.proofs.Moves.{IsActed, IsLeft, at_changed, goes}
 use Rattle.inorder.proofs.Serving.{AreLinked, are_small, made_stays, served_stays}
@@ -41,6 +41,7 @@ use Rattle.station.specs.Carrying.{EndsWalk, HasValueOf, HasWalked, IsCarrying, 
 use Rattle.station.specs.Writeback.{CanDeliver, IsDeliveryOf}
 use Rattle.station.proofs.Adding.{adds_these}
 use Rattle.station.proofs.LettingOut.{adds_none}
+use Rattle.inorder.proofs.Recent.{none_old, recent_at}
 
 -- units and the back
 writes : (r : Role) (id : ℕ) → IsWriter r → IsCaller r id → IsUnitOrBack id
@@ -170,7 +171,8 @@ module _ (P : Program) (C : Sizes) where
     asks_it : 1 ≤ C.first_tag → producer_of n ≡ g → (q : ℕ) → IsTenant (unit_of P C v0.seen) q p g IsAny → (r : ℕ) × IsTenant (unit_of P C v1.seen) r c (consumer_of n) (HasLink k q)
     asks_it first names q i = subst (λ z. (r : ℕ) × IsTenant (unit_of P C z) r c (consumer_of n) (HasLink k q)) (sym seen1) (⊎_elim
         (λ (none : n ≡ 0).
-        let least = from_first C (unit_of P C (g1.between ++ v0.seen)).tenants (tagged P C (taken_of (g1.between ++ v0.seen)) (allowed_steps P C (g1.between ++ v0.seen) legal1)) q m.tenant m.is in
+        let its = recent_at (unit_of P C (g1.between ++ v0.seen)) q m.tenant m.is (none_old P C (g1.between ++ v0.seen) legal1 q) in
+        let least = from_first C (recent (unit_of P C (g1.between ++ v0.seen))) (tagged P C (taken_of (g1.between ++ v0.seen)) (allowed_steps P C (g1.between ++ v0.seen) legal1)) its.r m.tenant its.is in
         let tag = m.tag_is in
         let low : producer_of n ≡ 0 = ap producer_of none in
         absurd (omega arith))

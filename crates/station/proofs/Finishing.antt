@@ -12,7 +12,7 @@ use Rattle.inorder.specs.declared.history.Event.TheVariants.{Does, Marks, Refuse
 use Rattle.inorder.specs.declared.history.Refusal.TheVariants.{Stale as IsStaleNow}
 use Rattle.inorder.specs.declared.history.Source.TheVariants.{First, Second}
 use Rattle.inorder.specs.declared.history.Step.{Step}
-use Rattle.inorder.specs.declared.history.Step.TheVariants.{Let, On}
+use Rattle.inorder.specs.declared.history.Step.TheVariants.{Let, On, Renew}
 use Rattle.inorder.specs.History.{Adds, IsLegal, IsTheirAct, IsTheirs, IsUnit, MayAdd, back, entry, front, own, unit_of}
 use Rattle.inorder.specs.Legal.{Allowed, May, applied, changed}
 use Rattle.inorder.specs.Replies.{Has, IsNamed, JobFields, job_of}
@@ -144,6 +144,7 @@ module _ (P : Program) (C : Sizes) where
     kept_step : (p : ℕ) (U : UpdateUnit) (id : ℕ) → IsUnit id → (s : Step) → IsTheirs C U id s → Allowed P C U id s → (t t' : Tenant) →
         at U.tenants p ≡ Some t → at (applied P C U id s).tenants p ≡ Some t' → Fact t → Fact t'
     kept_step p U id u (Let index predicted first second) w a t t' is now f = let by_front = w.0 in absurd (omega arith)
+    kept_step p U id u Renew w a t t' is now f = subst Fact (found t t' (sym is ∙ now)) f
     kept_step p U id u (On r act) w a t t' is now f = ⊎_elim
         (λ (z : IsActed P U.tenants id r act a.tenant p t).
         subst Fact (found (changed P id act a.tenant (older U.tenants r)) t' (sym z.now ∙ now))

@@ -9,7 +9,7 @@ use Rattle.inorder.specs.History.{Adds, IsLegal, entry, front, own, taken_of, un
 use Rattle.inorder.specs.Replies.{last_tag}
 use Rattle.inorder.specs.StationWords.{station_word}
 use Rattle.inorder.specs.Tenants.{on_path}
-use Rattle.inorder.specs.Unit.{Sizes, UpdateUnit, how_many, next_station, next_tag, recent}
+use Rattle.inorder.specs.Unit.{how_many, next_station, next_tag, recent, Sizes, UpdateUnit}
 use Rattle.inorder.proofs.Histories.{adds_on, allowed_steps}
 use Rattle.inorder.proofs.StationsShown.{stations_follow}
 use Rattle.ruu_words.specs.declared.rule.Draft.{Draft}
@@ -102,7 +102,7 @@ below_ring n r pos = omega arith
 pub seated_out : (P : Program) (C : Sizes) (by station ring : ℕ) (over : Bool) (t : Tenant) (old : List Entry) (me : Me ℕ View) → ring ≡ C.ring → station < C.ring → station ≡ next_station C (recent (unit_of P C old)) → IsFronts by Nothing me → me.1 ≡ []
     → IsLetOut P C by t old me.0.seen → IsSeated P C Front by ((station + 1) % ring) over me
 seated_out P C by station ring over t old me ring_is small station_is fronts slots out =
-    let n : ℕ = how_many on_path (unit_of P C out.point).tenants in
+    let n : ℕ = how_many on_path (recent (unit_of P C out.point)) in
     let was : station ≡ n % C.ring = station_is ∙ sym out.station in
     let one : n + 1 ≡ suc n = omega arith in
     let next : (station + 1) % ring ≡ suc n % C.ring = (λ i. (was i + 1) % ring_is i) ∙ (mod-add-mod n C.ring 1 ∙ ap (λ z. z % C.ring) one) in

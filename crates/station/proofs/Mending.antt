@@ -41,6 +41,7 @@ use Rattle.station.specs.Recovery.{HasMiss, IsMended, Mends, SeesMiss}
 use Rattle.station.specs.Seats.{IsSeated}
 use Rattle.station.proofs.Adding.{adds_these}
 use Rattle.station.proofs.Seated.{next_stays}
+use Rattle.inorder.proofs.Recent.{counts_same}
 
 mended_word : (t : Tenant) (k x n : ℕ) (f : Fate) → f ≡ Miss x → t.standing ≡ Live → IsStation (live_word t.tag (Done x)) n → IsStation (word_of k (Some (mended_as t f))) n
 mended_word t k x n f e live w = subst (λ f. IsStation (word_of k (Some (mended_as t f))) n) (sym e) (still_live t.standing k t.tag (Done x) t.made n live w)
@@ -85,12 +86,9 @@ module _ (P : Program) (C : Sizes) where
   -- mending leaves the path
   pub next_after : (U : UpdateUnit) (by p : ℕ) → Allowed P C U by (On p Mend) → next_station C (recent (applied P C U by (On p Mend))) ≡ next_station C (recent U)
   next_after U by p a =
-      let us = U.tenants in
       let t = a.tenant in
-      let ts = older us p in
-      let ys = younger us p in
       let same = ap stands_on_path (mended_station t t.fate).1 in
-      ap (λ n. n % C.ring) (ap (how_many on_path) (parts P us by p Mend t a.is) ∙ (how_many_same on_path t (mended t) ts ys same ∙ sym (ap (how_many on_path) (split_at us p t a.is))))
+      ap (λ n. n % C.ring) (counts_same P U by p Mend t a.is on_path same)
 
   -- there is one miss that can be mended
   one_miss : (V : UpdateUnit) (p q x y : ℕ) → CanMend V p x → CanMend V q y → p ≡ q

@@ -15,14 +15,14 @@ use Rattle.inorder.specs.declared.history.Refusal.TheVariants.{Moved as HasMoved
 use Rattle.inorder.specs.declared.history.Source.{Source}
 use Rattle.inorder.specs.declared.history.Source.TheVariants.{First, Second}
 use Rattle.inorder.specs.declared.history.Step.{Step}
-use Rattle.inorder.specs.declared.history.Step.TheVariants.{Let, On}
+use Rattle.inorder.specs.declared.history.Step.TheVariants.{Let, On, Renew}
 use Rattle.inorder.specs.Callers.{IsReady}
 use Rattle.inorder.specs.History.{IsLegal, IsTheirAct, IsTheirs, IsUnit, MayAdd, StartsWith, back, entry, front, own, taken_of, unit_of}
 use Rattle.inorder.specs.Legal.{Allowed, May, applied, changed}
 use Rattle.inorder.specs.Replies.{Has, HasMoved as Gone, IsNamed, IsOpen, IsWaiting, JobFields, job_of}
 use Rattle.inorder.specs.Steps.{CanRetire, let_operand, new_tenant}
 use Rattle.inorder.specs.Tenants.{Live, Tenant, kind_of, missing}
-use Rattle.inorder.specs.Unit.{Sizes, UpdateUnit, at, creator, front_half, front_pc, next_station, next_tag, older, recent, younger}
+use Rattle.inorder.specs.Unit.{at, creator, front_half, front_pc, next_station, next_tag, older, recent, Sizes, UpdateUnit, younger}
 use Rattle.inorder.proofs.Histories.{allowed_steps, legal_before, no_length, own-append, own_none, unit_lasts, unit_sound}
 use Rattle.inorder.proofs.Moves.{Goes, IsActed, IsLeft, at_changed, goes}
 use Rattle.inorder.proofs.Positions.{at_new, younger_at}
@@ -41,6 +41,7 @@ use Rattle.station.specs.Moments.{WasOpenOnce}
 use Rattle.station.specs.Quiet.{ClaimsGiveJobs, IsClaimable, IsJobOf, IsLetAs, IsQuiet, IsStill, LetsAreOut, ReadyTenantsStay}
 use Rattle.station.proofs.Holding.{fields_stay}
 use Rattle.station.proofs.Splitting.{LastEvent, last_event, own_else, own_here}
+use Rattle.inorder.proofs.Recent.{live_is_last, old_are_gone}
 
 found : (x y : Tenant) → Some x ≡ Some y → x ≡ y
 found x y e = cc e
@@ -71,6 +72,7 @@ module _ (P : Program) (C : Sizes) where
 
   open_step : (p : ℕ) (U : UpdateUnit) (id : ℕ) → id ≡ back → (s : Step) → IsTheirs C U id s → Allowed P C U id s → (t t' : Tenant) → at U.tenants p ≡ Some t → at (applied P C U id s).tenants p ≡ Some t' → IsOpen t → IsOpen t'
   open_step p U id e (Let index predicted first second) w a t t' is now o = let by_front = w.0 in absurd (omega arith)
+  open_step p U id e Renew w a t t' is now o = subst IsOpen (found t t' (sym is ∙ now)) o
   open_step p U id e (On r act) w a t t' is now o = ⊎_elim
       (λ (z : IsActed P U.tenants id r act a.tenant p t).
       subst IsOpen (found (changed P id act a.tenant (older U.tenants r)) t' (sym z.now ∙ now))
@@ -103,7 +105,7 @@ module _ (P : Program) (C : Sizes) where
   last_live : (h : List Entry) → IsLegal P C h → (p q : ℕ) (t u : Tenant) → at (unit_of P C h).tenants p ≡ Some t → at (unit_of P C h).tenants q ≡ Some u → t.standing ≡ Live → u.station ≡ t.station → ¬ (p < q)
   last_live h legal p q t u is is' live same less =
       let us = (unit_of P C h).tenants in
-      younger_at (λ x. x.station ≢ t.station) us p ((is_ring C us (stands P C (taken_of h) (allowed_steps P C h legal))).last p t is live) q u less is' same
+      younger_at (λ x. x.station ≢ t.station) us p (live_is_last C (unit_of P C h) (is_ring C (recent (unit_of P C h)) (stands P C (taken_of h) (allowed_steps P C h legal))) (old_are_gone P C h legal) p t is live) q u less is' same
 
   neither : (p q : ℕ) → ¬ (p < q) → ¬ (q < p) → q ≡ p
   neither p q a b = dite (ℕ_discrete q p) (λ e. e) (λ ne. ⊎_elim (λ less. absurd (a less)) (λ more. absurd (b (omega arith))) (cases_lt p q))

@@ -27,7 +27,7 @@ use Rattle.inorder.specs.Replies.{last_tag}
 use Rattle.inorder.specs.StationWords.{IsFree, left_value, live_word}
 use Rattle.inorder.specs.Steps.{CanRetire, IsNoRetiredStop, retired}
 use Rattle.inorder.specs.Tenants.{Addr, Busy, Done, Fate, IsNotLive, Live, Miss, Open, Stopped, Tenant, kind_of}
-use Rattle.inorder.specs.Unit.{Sizes, UpdateUnit, at, how_many, older, younger}
+use Rattle.inorder.specs.Unit.{at, how_many, older, recent, Sizes, UpdateUnit, younger}
 use Rattle.inorder.proofs.Basics.{split_at}
 use Rattle.inorder.proofs.Ends.{Acted, IsNotBacks, IsNotBacksAct, exact, oldest_live, still_oldest}
 use Rattle.inorder.proofs.Grows.{all_grows, sound_mid}
@@ -69,6 +69,7 @@ use Rattle.station.specs.Seats.{HasEnded, IsAtHead}
 use Rattle.station.proofs.Adding.{adds_these}
 use Rattle.station.proofs.Backs.{IsNoRetirement}
 use Rattle.station.proofs.Stops.{same_code}
+use Rattle.inorder.proofs.Recent.{live_is_recent, old_are_gone, recent_change}
 
 -- A fate at the end stays, but for the back
 
@@ -398,9 +399,10 @@ module _ (P : Program) (C : Sizes) where
     counted : head_station C V ≡ (l.station + 1) % C.ring
     counted =
         let i = g.kind.may.head in
-        let n : ℕ = how_many is_retired us in
-        let more : how_many is_retired V.tenants ≡ suc n = ap (how_many is_retired) all_now ∙ (one_more t gone (older us p) (younger us p) i.live refl ∙ ap (λ z. suc (how_many is_retired z)) (sym (split_at us p t i.is))) in
-        let here : l.station ≡ n % C.ring = sym i.fact.station_is ∙ head_at P C (U h) (unit_sound P C h legal.0) (is_ring C us (stands P C (taken_of h) (allowed_steps P C h legal.0))) (record { p = p; tenant = t; is = i.is; live = i.live; oldest = i.oldest }) in
+        let n : ℕ = how_many is_retired (recent (U h)) in
+        let among = recent_change P (U h) by p (Retire m) t i.is (live_is_recent P C h legal.0 p t i.is i.live) in
+        let more : how_many is_retired (recent V) ≡ suc n = ap (how_many is_retired) among.after ∙ (one_more t gone among.zs (younger us p) i.live refl ∙ ap (λ z. suc (how_many is_retired z)) (sym among.before)) in
+        let here : l.station ≡ n % C.ring = sym i.fact.station_is ∙ head_at P C (U h) (unit_sound P C h legal.0) (is_ring C (recent (U h)) (stands P C (taken_of h) (allowed_steps P C h legal.0))) (old_are_gone P C h legal.0) (record { p = p; tenant = t; is = i.is; live = i.live; oldest = i.oldest }) in
         let one : n + 1 ≡ suc n = omega arith in
         ap (λ z. z % C.ring) (more ∙ sym one) ∙ (sym (mod-add-mod n C.ring 1) ∙ ap (λ z. (z + 1) % C.ring) (sym here))
 

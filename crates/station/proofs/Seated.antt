@@ -3,7 +3,7 @@ use Rattle.std.proofs.Common.{◌≡◌, ◌≢◌, ℕ, ◌%◌, Bool, [], ◌+
 use Rattle.atomic_table.specs.Table.{Me}
 use Rattle.isa.specs.Programs.{Program}
 use Rattle.inorder.specs.declared.history.Step.{Step}
-use Rattle.inorder.specs.declared.history.Step.TheVariants.{Let, On}
+use Rattle.inorder.specs.declared.history.Step.TheVariants.{Let, On, Renew}
 use Rattle.inorder.specs.History.{IsLegal, entry, front, own, unit_of}
 use Rattle.inorder.specs.Legal.{Allowed, applied, changed}
 use Rattle.inorder.specs.Tenants.{on_path}
@@ -25,6 +25,7 @@ use Rattle.station.specs.Steps.{Grown, Sees}
 use Rattle.station.proofs.Adding.{adds_these}
 use Rattle.station.proofs.Backs.{back_on}
 use Rattle.station.proofs.SameUnit.{Unit_of, unit_at}
+use Rattle.inorder.proofs.Recent.{counts_same}
 
 -- only the front changes the path
 pub next_stays : (P : Program) (C : Sizes) (U : UpdateUnit) (by : ℕ) (s : Step) → IsBesides s → Allowed P C U by s → IsSound P U.tenants → next_station C (recent (applied P C U by s)) ≡ next_station C (recent U)
@@ -37,7 +38,8 @@ next_stays P C U by (On p act) b a sound =
     let split = split_at us p t a.is in
     let own = sound_mid P t ts ys (subst (IsSound P) split sound) in
     let same = (besides_grows P by act ys t ts b a.may own).path in
-    ap (λ n. n % C.ring) (ap (how_many on_path) (parts P us by p act t a.is) ∙ (how_many_same on_path t (changed P by act t ts) ts ys same ∙ sym (ap (how_many on_path) split)))
+    ap (λ n. n % C.ring) (counts_same P U by p act t a.is on_path same)
+next_stays P C U by Renew b a sound = absurd b
 
 pub is_alive : (P : Program) (C : Sizes) (role : Role) (by station : ℕ) (over : Bool) (me : Me ℕ View) → IsSeated P C role by station over me → IsAlive me.0.role
 is_alive P C role by station over me s = subst IsAlive (sym s.role_is) (go role s.knows)

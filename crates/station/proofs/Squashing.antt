@@ -19,7 +19,7 @@ use Rattle.inorder.specs.StationWords.{IsFree, station_word}
 use Rattle.inorder.specs.Tenants.{IsNotLive, Live, Retired, Squashed, Standing, Tenant, on_path, stands_on_path}
 use Rattle.inorder.specs.Legal.{applied}
 use Rattle.inorder.specs.Steps.{squashed}
-use Rattle.inorder.specs.Unit.{Sizes, UpdateUnit, how_many, next_station, older, recent, younger}
+use Rattle.inorder.specs.Unit.{how_many, next_station, older, recent, Sizes, UpdateUnit, younger}
 use Rattle.inorder.proofs.Basics.{split_at}
 use Rattle.inorder.proofs.Ends.{may_squash, squash_stays}
 use Rattle.inorder.proofs.Grows.{all_mid}
@@ -45,6 +45,7 @@ use Rattle.station.specs.Letting.{IsFronts}
 use Rattle.station.specs.Recovery.{HasYoungest, IsSquashed, MaySquash, Squashes}
 use Rattle.station.specs.Seats.{IsSeated}
 use Rattle.station.proofs.Adding.{adds_these}
+use Rattle.inorder.proofs.Recent.{IsRecentAt, live_is_recent, recent_at, recent_change, younger_recent}
 
 -- The path ends with the youngest live tenant
 
@@ -74,18 +75,28 @@ module _ (P : Program) (C : Sizes) where
       let us = (U h).tenants in
       off_path P c.tenant.tenant (older us p) (younger us p) c.tenant.fact (may_squash (U h) p c).youngest (subst (IsSound P) (split_at us p c.tenant.tenant c.tenant.is) (unit_sound P C h legal))
 
-  path_counted : (h : List Entry) → IsLegal P C h → (p : ℕ) → (c : CanSquash (U h) p) → how_many on_path (U h).tenants ≡ suc (how_many on_path (older (U h).tenants p))
-  path_counted h legal p c =
-      let us = (U h).tenants in
-      let t = c.tenant.tenant in
-      ap (how_many on_path) (split_at us p t c.tenant.is)
-      ∙ (count_off (younger us p) (t ∷ older us p) (younger_off h legal p c)
-      ∙ ap (λ b. cond b (suc (how_many on_path (older us p))) (how_many on_path (older us p))) (ap stands_on_path c.tenant.fact))
+  -- where it is among the recent ones
+  abbrev here_in : (h : List Entry) → IsLegal P C h → (p : ℕ) → (c : CanSquash (U h) p) → IsRecentAt (U h) p c.tenant.tenant
+  here_in h legal p c = recent_at (U h) p c.tenant.tenant c.tenant.is (live_is_recent P C h legal p c.tenant.tenant c.tenant.is c.tenant.fact)
 
-  its_place : (h : List Entry) → IsLegal P C h → (p : ℕ) → (c : CanSquash (U h) p) → c.tenant.tenant.station ≡ how_many on_path (older (U h).tenants p) % C.ring
+  -- how many of the path are before it
+  abbrev before : (h : List Entry) → IsLegal P C h → (p : ℕ) → (c : CanSquash (U h) p) → ℕ
+  before h legal p c = how_many on_path (older (recent (U h)) (here_in h legal p c).r)
+
+  path_counted : (h : List Entry) → (legal : IsLegal P C h) → (p : ℕ) → (c : CanSquash (U h) p) → how_many on_path (recent (U h)) ≡ suc (before h legal p c)
+  path_counted h legal p c =
+      let us = recent (U h) in
+      let t = c.tenant.tenant in
+      let x = here_in h legal p c in
+      let same : younger us x.r ≡ younger (U h).tenants p = younger_recent (U h) p t x in
+      ap (how_many on_path) (split_at us x.r t x.is)
+      ∙ (count_off (younger us x.r) (t ∷ older us x.r) (subst (AllByRecursion IsOff) (sym same) (younger_off h legal p c))
+      ∙ ap (λ b. cond b (suc (how_many on_path (older us x.r))) (how_many on_path (older us x.r))) (ap stands_on_path c.tenant.fact))
+
+  its_place : (h : List Entry) → (legal : IsLegal P C h) → (p : ℕ) → (c : CanSquash (U h) p) → c.tenant.tenant.station ≡ before h legal p c % C.ring
   its_place h legal p c =
-      let us = (U h).tenants in
-      (is_ring C us (stands P C (taken_of h) (allowed_steps P C h legal))).place p c.tenant.tenant c.tenant.is (ap stands_on_path c.tenant.fact)
+      let x = here_in h legal p c in
+      (is_ring C (recent (U h)) (stands P C (taken_of h) (allowed_steps P C h legal))).place x.r c.tenant.tenant x.is (ap stands_on_path c.tenant.fact)
 
   one_back : (n r : ℕ) → 0 < r → (suc n % r + r - 1) % r ≡ n % r
   one_back n r pos =
@@ -97,7 +108,7 @@ module _ (P : Program) (C : Sizes) where
   -- so it is the station before the next one
   tail_is : (h : List Entry) → IsLegal P C h → (p next ring : ℕ) → (c : CanSquash (U h) p) → ring ≡ C.ring → next < ring → next ≡ next_station C (recent (U h)) → c.tenant.tenant.station ≡ (next + ring - 1) % ring
   tail_is h legal p next ring c ring_is small e =
-      let n : ℕ = how_many on_path (older (U h).tenants p) in
+      let n : ℕ = before h legal p c in
       let at_end : next ≡ suc n % ring = e ∙ (λ i. path_counted h legal p c i % sym ring_is i) in
       its_place h legal p c ∙ (ap (λ z. n % z) (sym ring_is) ∙ (sym (one_back n ring (omega arith)) ∙ ap (λ z. (z + ring - 1) % ring) (sym at_end)))
 
@@ -191,13 +202,17 @@ module _ (P : Program) (C : Sizes) where
     pub squashed_next : s ≡ next_station C (recent (U w.seen))
     squashed_next =
         let y = g2.kind.youngest in
-        let us = (U last).tenants in
         let t = legal2.1.1.tenant in
-        let ts = older us y.p in
-        let ys = younger us y.p in
-        let after : (applied P C (U last) by (On y.p Squash)).tenants ≡ ys ++ squashed t ∷ ts = parts P us by y.p Squash t legal2.1.1.is in
-        let counted : how_many on_path (applied P C (U last) by (On y.p Squash)).tenants ≡ how_many on_path ts = ap (how_many on_path) after ∙ count_off ys (squashed t ∷ ts) (younger_off last legal2.0 y.p y.can) in
-        let at_s : s ≡ how_many on_path ts % C.ring = sym y.named.station_is ∙ (ap (λ (z : Tenant). z.station) (same_tenant last legal2.0 s g y) ∙ its_place last legal2.0 y.p y.can) in
+        let live = legal2.1.1.may.live in
+        let ys = younger (U last).tenants y.p in
+        let off = younger_off last legal2.0 y.p y.can in
+        let among = recent_change P (U last) by y.p Squash t legal2.1.1.is (live_is_recent P C last legal2.0 y.p t legal2.1.1.is live) in
+        let now = ap (how_many on_path) among.after ∙ count_off ys (squashed t ∷ among.zs) off in
+        let was : how_many on_path (recent (U last)) ≡ suc (how_many on_path among.zs) = ap (how_many on_path) among.before ∙ count_off ys (t ∷ among.zs) off
+        ∙ ap (λ b. cond b (suc (how_many on_path among.zs)) (how_many on_path among.zs)) (ap stands_on_path live) in
+        let all = path_counted last legal2.0 y.p y.can in
+        let counted : how_many on_path (recent (applied P C (U last) by (On y.p Squash))) ≡ before last legal2.0 y.p y.can = omega (arith, now, was, all) in
+        let at_s : s ≡ before last legal2.0 y.p y.can % C.ring = sym y.named.station_is ∙ (ap (λ (z : Tenant). z.station) (same_tenant last legal2.0 s g y) ∙ its_place last legal2.0 y.p y.can) in
         at_s ∙ (ap (λ n. n % C.ring) (sym counted) ∙ ap (λ h. next_station C (recent (U h))) (sym seen2))
 
 -- the front's seat behind it

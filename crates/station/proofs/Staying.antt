@@ -6,7 +6,7 @@ use Rattle.inorder.specs.declared.history.Act.TheVariants.{Claim, Deliver, Finis
 use Rattle.inorder.specs.declared.history.Entry.{Entry}
 use Rattle.inorder.specs.declared.history.Source.{Source}
 use Rattle.inorder.specs.declared.history.Step.{Step}
-use Rattle.inorder.specs.declared.history.Step.TheVariants.{Let, On}
+use Rattle.inorder.specs.declared.history.Step.TheVariants.{Let, On, Renew}
 use Rattle.inorder.specs.Callers.{CanAsk, CanSquash}
 use Rattle.inorder.specs.History.{Adds, IsLegal, back, front, own, unit_of}
 use Rattle.inorder.specs.Replies.{Has, last_tag}
@@ -43,6 +43,7 @@ no_link_act Mend b = tt
 no_link : (s : Step) → IsBesides s → IsNoLink s
 no_link (Let index predicted first second) b = tt
 no_link (On p act) b = no_link_act act b
+no_link Renew b = absurd b
 
 module _ (P : Program) (C : Sizes) where
   -- a caller that added nothing

@@ -11,13 +11,13 @@ use Rattle.inorder.specs.Committed.{committed}
 use Rattle.inorder.specs.Laws.{IsNoRetire}
 use Rattle.inorder.specs.Steps.{IsNoRetiredStop, new_tenant}
 use Rattle.inorder.specs.Tenants.{Live, Retired, Tenant, instr, is_access}
-use Rattle.inorder.specs.Unit.{Sizes, UpdateUnit, front_half, front_pc, how_many, next_station}
+use Rattle.inorder.specs.Unit.{Sizes, UpdateUnit, front_half, front_pc, how_many, next_station, recent}
 use Rattle.inorder.proofs.Sound.{IsSound}
-use Rattle.unit_laws.specs.Moves.{IsLink, IsReached, with_tenants}
+use Rattle.unit_laws.specs.Moves.{IsLink, IsReached, with_let}
 use Rattle.unit_laws.specs.Still.{AreStill}
 use Rattle.unit_laws.proofs.Creators.{IsAt, found_at}
 use Rattle.unit_laws.proofs.Dispatch.{LetRun, MayEnter, let_run}
-use Rattle.unit_laws.proofs.Sequences.{all_more, all_weaker, committed_on, link_quiet, reach_on, sound_of, stands_of}
+use Rattle.unit_laws.proofs.Sequences.{all_more, all_recent, all_weaker, committed_on, link_quiet, reach_on, sound_of, stands_of}
 use Rattle.unit.specs.declared.dispatch.Fetched.{Fetched}
 use Rattle.unit.specs.declared.pipeline.Pipeline.{Pipeline}
 use Rattle.unit.specs.Givers.{NoneGives}
@@ -91,16 +91,17 @@ let_turn b later f pr place none room most long nm to small predicts pe pl wl ll
         ∙ ap (half_in b.low) (sym s.window)
         ∙ sym to.half
 
-    station : next_station C ts ≡ place
+    station : next_station C (recent U) ≡ place
     station =
-        ap (λ n. n % b.ring) (path_length P ts)
+        ap (next_station C) (all_recent P C U r)
+        ∙ ap (λ n. n % b.ring) (path_length P ts)
         ∙ sym (mod_first (how_many is_retired ts) (length (window P ts)) b.ring)
         ∙ ap (λ n. (n + length (window P ts)) % b.ring) (sym s.oldest)
         ∙ ap (λ l. (b.oldest + length l) % b.ring) (sym s.window)
         ∙ sym pe
 
     go : IsAt P f.pc f.instr → LetTurned b U f pr now
-    go a = with (let_run P C 0 U a.index pr sound' (stands_of P C U r) over.0 enter)
+    go a = with (let_run P C 0 U a.index pr sound' (stands_of P C U r) r.never over.0 enter)
       where
         enter : MayEnter P C U a.index pr
         enter =
@@ -138,7 +139,7 @@ let_turn b later f pr place none room most long nm to small predicts pe pl wl ll
             }
           where
             V : UpdateUnit
-            V = with_tenants U (k.tenant ∷ ts)
+            V = with_let U k.tenant
 
             steps : List Step
             steps = k.links ++ LetStep a.index pr k.first k.second ∷ []

@@ -47,7 +47,7 @@ pub start_unit : (b : Pipeline) → b.window ≡ [] → b.committed ≡ start b.
 start_unit b w c o l n f z room most least =
     record {
       unit = Rattle.inorder.specs.Unit.empty_unit;
-      reached = record { history = []; allowed = tt; is = refl };
+      reached = record { history = []; allowed = tt; is = refl; never = refl };
       stands = start_stands b w c o l n f most;
       room = room;
       ring = most;

@@ -1,12 +1,12 @@
 -- The units that the fields stand for.
-use Rattle.std.specs.Prelude.{◌≡◌, ◌<◌, ◌≤◌, ℕ, List, length, Option, Some, None, slice_get}
+use Rattle.std.specs.Prelude.{◌≡◌, ◌%◌, ◌<◌, ◌≤◌, ℕ, List, length, Option, Some, None, slice_get}
 use Rattle.std.specs.List.{AllByRecursion}
 use Rattle.isa.specs.declared.stop.Stop.{Stop}
-use Rattle.inorder.specs.Callers.{head_station}
+use Rattle.inorder.specs.Callers.{is_retired}
 use Rattle.inorder.specs.Committed.{committed}
 use Rattle.inorder.specs.Steps.{IsNoRetiredStop}
 use Rattle.inorder.specs.Tenants.{Retired, Stopped, Tenant}
-use Rattle.inorder.specs.Unit.{Sizes, UpdateUnit, at}
+use Rattle.inorder.specs.Unit.{Sizes, UpdateUnit, at, how_many}
 use Rattle.unit.specs.declared.pipeline.Pipeline.{Pipeline}
 use Rattle.unit.specs.Ahead.{low_of}
 use Rattle.unit.specs.Leavers.{leaver}
@@ -43,7 +43,7 @@ pub record StandsFor (b : Pipeline) (U : UpdateUnit) : Type 0 where
   pub leavers : (s : ℕ) → s < b.ring → slice_get b.leavers s ≡ Some (leaver b.program.now U.tenants s)
   pub over : OverIs U.tenants b.over
   pub low : b.low ≡ low_of b.program.now U.tenants
-  pub oldest : b.oldest ≡ head_station (sizes b) U
+  pub oldest : b.oldest ≡ how_many is_retired U.tenants % b.ring
 
 -- Some unit that legal steps reach stands behind the fields
 pub record IsUnit (b : Pipeline) : Type 0 where

@@ -1,5 +1,5 @@
 -- A creator that has made nothing, and the instruction at an address.
-use Rattle.std.proofs.Common.{◌≡◌, ◌≢◌, ℕ, zero, suc, ◌-◌, ◌/◌, ◌<◌, Bool, true, false, cond, ◌&&◌, eqb, ltb, List, [], ◌∷◌, length, Option, Some, None, refl, sym, ap, ◌∙◌, subst, eqb-true, true≢false}
+use Rattle.std.proofs.Common.{◌≡◌, ◌≢◌, ℕ, zero, suc, ◌-◌, ◌/◌, ◌<◌, Bool, true, false, cond, ◌&&◌, eqb, ltb, List, [], ◌∷◌, length, Option, Some, None, refl, sym, ap, ◌∙◌, subst, arith, eqb-true, true≢false}
 use Rattle.std.specs.Prelude.{slice_get, unwrap_or}
 use Rattle.std.specs.List.{AllByRecursion}
 use Rattle.std.proofs.lemmas.Option.{slice_get_within, get_or_from_slice_get}
@@ -12,12 +12,13 @@ use Rattle.isa.specs.declared.stop.Outcome.{Outcome}
 use Rattle.isa.specs.declared.stop.Outcome.TheVariants.{Address, Next, Stop as Stops}
 use Rattle.inorder.specs.Steps.{IsNoRetiredStop, MayComeFrom}
 use Rattle.inorder.specs.Tenants.{Addr, Busy, Done, Fate, Live, Miss, Open, Retired, Squashed, Standing, Stopped, Tenant, computed, destination_of, instr, is_live, kind_of, on_path, operand_value, stands_on_path}
-use Rattle.inorder.specs.Unit.{Sizes, UpdateUnit, at, creator, how_many, last_writer, made_by, next_station, older, value_of, younger}
+use Rattle.inorder.specs.Unit.{Sizes, UpdateUnit, at, creator, how_many, last_writer, made_by, newest_of, next_station, older, recent, value_of, younger}
 use Rattle.inorder.proofs.Basics.{Below, eqb_less, eqb_self, last_writer_below, split_at}
 use Rattle.inorder.proofs.SettledRegisters.{made_leaves, retired_leaves, writer_if}
 use Rattle.inorder.proofs.Grows.{all_mid}
+use Rattle.inorder.proofs.Recent.{new_by, newest_all}
 use Rattle.inorder.proofs.Sound.{FateBy, IsSound, IsSoundAt}
-use Rattle.inorder.proofs.Stations.{IsElsewhere, Stands, all_elsewhere, last_at}
+use Rattle.inorder.proofs.Stations.{IsElsewhere, Stands, all_elsewhere, last_at, settling}
 use Rattle.unit_laws.proofs.Left.{retired_commits}
 use Rattle.unit_laws.proofs.Middle.{sound_from}
 
@@ -114,14 +115,18 @@ writer_live P ts t r s n on w none = go t.standing refl
         absurd (cc)
 
 -- a source whose creator has made nothing may come from it
-pub pending_may : (P : Program) (C : Sizes) (U : UpdateUnit) (n : Tenant) (r : ℕ) → IsSound P U.tenants → Stands C U.tenants → AllByRecursion IsNoRetiredStop U.tenants → how_many is_live U.tenants < C.ring → n.station ≡ next_station C U.tenants → value_of U.tenants (creator P U.tenants r) ≡ None → MayComeFrom P U (next_station C U.tenants) (creator P U.tenants r)
-pending_may P C V n zero s st ns room at none = let no : Some 0 ≡ None = none in absurd (cc)
-pending_may P C V n (suc r) s st ns room at none = go (ltb (suc r) 34) refl
+pub pending_may : (P : Program) (C : Sizes) (U : UpdateUnit) (n : Tenant) (r : ℕ) → IsSound P U.tenants → Stands C U.tenants → U.fresh ≡ length U.tenants → AllByRecursion IsNoRetiredStop U.tenants → how_many is_live U.tenants < C.ring
+    → n.station ≡ next_station C (recent U) → value_of U.tenants (creator P U.tenants r) ≡ None → MayComeFrom P U (next_station C (recent U)) (creator P U.tenants r)
+pending_may P C V n zero s st never ns room at none = let no : Some 0 ≡ None = none in absurd (cc)
+pending_may P C V n (suc r) s st never ns room at none = go (ltb (suc r) 34) refl
   where
     U : List Tenant
     U = V.tenants
 
-    from : (c : Option ℕ) → last_writer P U (suc r) ≡ c → value_of U c ≡ None → MayComeFrom P V (next_station C U) c
+    same : recent V ≡ U
+    same = ap (λ m. newest_of m U) never ∙ newest_all U
+
+    from : (c : Option ℕ) → last_writer P U (suc r) ≡ c → value_of U c ≡ None → MayComeFrom P V (next_station C (recent V)) c
     from None e g = let no : Some 0 ≡ None = g in absurd (cc)
     from (Some p) e g =
         let w = last_is P U (suc r) p e in
@@ -130,7 +135,7 @@ pending_may P C V n (suc r) s st ns room at none = go (ltb (suc r) 34) refl
         let sound' = sound_from P (younger U p) (w.t ∷ older U p) (subst (IsSound P) split s) in
         let stop' = all_mid IsNoRetiredStop w.t (older U p) (younger U p) (subst (AllByRecursion IsNoRetiredStop) split ns) in
         let live = writer_live P (older U p) w.t r sound' stop' w.on w.writes made in
-        let apart = all_mid (IsElsewhere n) w.t (older U p) (younger U p) (subst (AllByRecursion (IsElsewhere n)) split (all_elsewhere P C n U [] U refl at room s st.placed)) in
+        let apart = all_mid (IsElsewhere n) w.t (older U p) (younger U p) (subst (AllByRecursion (IsElsewhere n)) split (all_elsewhere P C n U [] U refl (at ∙ ap (next_station C) same) room (settling P U s) st.placed)) in
         record {
           p = p;
           tenant = w.t;
@@ -139,8 +144,9 @@ pending_may P C V n (suc r) s st ns room at none = go (ltb (suc r) 34) refl
           waits = no_links P (older U p) w.t sound'.0 made;
           other = λ q. apart live (q ∙ sym at);
           last = last_at U p w.t st.apart w.is live;
+          new = new_by V p (omega (arith, never));
         }
 
-    go : (b : Bool) → ltb (suc r) 34 ≡ b → MayComeFrom P V (next_station C U) (cond (ltb (suc r) 34) (last_writer P U (suc r)) None)
-    go true e = subst (λ b. MayComeFrom P V (next_station C U) (cond b (last_writer P U (suc r)) None)) (sym e) (from (last_writer P U (suc r)) refl (ap (λ b. value_of U (cond b (last_writer P U (suc r)) None)) (sym e) ∙ none))
+    go : (b : Bool) → ltb (suc r) 34 ≡ b → MayComeFrom P V (next_station C (recent V)) (cond (ltb (suc r) 34) (last_writer P U (suc r)) None)
+    go true e = subst (λ b. MayComeFrom P V (next_station C (recent V)) (cond b (last_writer P U (suc r)) None)) (sym e) (from (last_writer P U (suc r)) refl (ap (λ b. value_of U (cond b (last_writer P U (suc r)) None)) (sym e) ∙ none))
     go false e = let no : Some 0 ≡ None = ap (λ b. value_of U (cond b (last_writer P U (suc r)) None)) (sym e) ∙ none in absurd (cc)

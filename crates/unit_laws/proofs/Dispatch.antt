@@ -12,10 +12,10 @@ use Rattle.inorder.specs.declared.history.Supply.{Supply}
 use Rattle.inorder.specs.declared.history.Supply.TheVariants.{From, Known}
 use Rattle.inorder.specs.Steps.{IsNoRetiredStop, MaySupply, MayLet, let_operand, linked, new_tenant}
 use Rattle.inorder.specs.Tenants.{Tenant, is_access, is_live, kind_of}
-use Rattle.inorder.specs.Unit.{front_half, Sizes, UpdateUnit, creator, front_pc, how_many, next_station, value_of}
+use Rattle.inorder.specs.Unit.{front_half, Sizes, UpdateUnit, creator, front_pc, how_many, next_station, recent, value_of}
 use Rattle.inorder.proofs.Sound.{IsSound}
 use Rattle.inorder.proofs.Stations.{Stands}
-use Rattle.unit_laws.specs.Moves.{IsLink, Leads, with_tenants}
+use Rattle.unit_laws.specs.Moves.{IsLink, Leads, with_let}
 use Rattle.unit_laws.specs.Still.{IsStill}
 use Rattle.unit_laws.proofs.Alike.{IsAlike}
 use Rattle.unit_laws.proofs.Creators.{pending_may}
@@ -38,7 +38,7 @@ pub record LetRun (P : Program) (C : Sizes) (by : ℕ) (U : UpdateUnit) (index p
   pub links : List Step
   pub are : AllByRecursion IsLink links
   pub tenant : Tenant
-  pub leads : Leads P C by U (links ++ Let index predicted first second ∷ []) (with_tenants U (tenant ∷ U.tenants))
+  pub leads : Leads P C by U (links ++ Let index predicted first second ∷ []) (with_let U tenant)
   pub alike : IsAlike (new_tenant P C U index predicted first second) tenant
   pub first_still : IsStill U.tenants tenant.first
   pub second_still : IsStill U.tenants tenant.second
@@ -46,8 +46,8 @@ pub record LetRun (P : Program) (C : Sizes) (by : ℕ) (U : UpdateUnit) (index p
 still_known : (U : List Tenant) (c : Option ℕ) (v : ℕ) → value_of U c ≡ Some v → IsStill U (let_operand c (Known v))
 still_known U c v e = record { value = sym e; way = λ n. let no : Some v ≡ None = n in absurd (cc) }
 
-pub let_run : (P : Program) (C : Sizes) (by : ℕ) (U : UpdateUnit) (index predicted : ℕ) → IsSound P U.tenants → Stands C U.tenants → AllByRecursion IsNoRetiredStop U.tenants → MayEnter P C U index predicted → LetRun P C by U index predicted
-let_run P C by U k pr s st ns m = go (value_of ts c) (value_of ts d) refl refl
+pub let_run : (P : Program) (C : Sizes) (by : ℕ) (U : UpdateUnit) (index predicted : ℕ) → IsSound P U.tenants → Stands C U.tenants → U.fresh ≡ length U.tenants → AllByRecursion IsNoRetiredStop U.tenants → MayEnter P C U index predicted → LetRun P C by U index predicted
+let_run P C by U k pr s st never ns m = go (value_of ts c) (value_of ts d) refl refl
   where
     ts : List Tenant
     ts = U.tenants
@@ -61,7 +61,7 @@ let_run P C by U k pr s st ns m = go (value_of ts c) (value_of ts d) refl refl
     new : Supply → Supply → Tenant
     new f g = new_tenant P C U k pr f g
 
-    may : (f g : Supply) → MaySupply P U (next_station C ts) c f → MaySupply P U (next_station C ts) d g → MayLet P C U k pr f g
+    may : (f g : Supply) → MaySupply P U (next_station C (recent U)) c f → MaySupply P U (next_station C (recent U)) d g → MayLet P C U k pr f g
     may f g hf hg =
         record {
           room = m.room;
@@ -74,17 +74,17 @@ let_run P C by U k pr s st ns m = go (value_of ts c) (value_of ts d) refl refl
           second_is = hg;
         }
 
-    pending : (r : ℕ) → value_of ts (creator P ts r) ≡ None → MaySupply P U (next_station C ts) (creator P ts r) From
-    pending r = pending_may P C U (new From From) r s st ns m.room refl
+    pending : (r : ℕ) → value_of ts (creator P ts r) ≡ None → MaySupply P U (next_station C (recent U)) (creator P ts r) From
+    pending r = pending_may P C U (new From From) r s st never ns m.room refl
 
-    let_only : (f g : Supply) → MayLet P C U k pr f g → Leads P C by U (Let k pr f g ∷ []) (with_tenants U (new f g ∷ ts))
-    let_only f g a = leads_once P C by U (with_tenants U (new f g ∷ ts)) (Let k pr f g) a refl
+    let_only : (f g : Supply) → MayLet P C U k pr f g → Leads P C by U (Let k pr f g ∷ []) (with_let U (new f g))
+    let_only f g a = leads_once P C by U (with_let U (new f g)) (Let k pr f g) a refl
 
-    link_first : (t : Tenant) → t.first.way ≡ Rattle.inorder.specs.Tenants.Unlinked → Leads P C by (with_tenants U (t ∷ ts)) (On (length ts) (Link First) ∷ []) (with_tenants U (linked ts t First ∷ ts))
-    link_first t w = leads_once P C by (with_tenants U (t ∷ ts)) (with_tenants U (linked ts t First ∷ ts)) (On (length ts) (Link First)) (allowed_middle P C by U (Link First) [] t ts (record { way = w })) (changed_middle P C by U (Link First) [] t ts)
+    link_first : (t : Tenant) → t.first.way ≡ Rattle.inorder.specs.Tenants.Unlinked → Leads P C by (with_let U t) (On (length ts) (Link First) ∷ []) (with_let U (linked ts t First))
+    link_first t w = leads_once P C by (with_let U t) (with_let U (linked ts t First)) (On (length ts) (Link First)) (allowed_middle P C by (with_let U t) (Link First) [] t ts (record { way = w })) (changed_middle P C by (with_let U t) (Link First) [] t ts)
 
-    link_second : (t : Tenant) → t.second.way ≡ Rattle.inorder.specs.Tenants.Unlinked → Leads P C by (with_tenants U (t ∷ ts)) (On (length ts) (Link Second) ∷ []) (with_tenants U (linked ts t Second ∷ ts))
-    link_second t w = leads_once P C by (with_tenants U (t ∷ ts)) (with_tenants U (linked ts t Second ∷ ts)) (On (length ts) (Link Second)) (allowed_middle P C by U (Link Second) [] t ts (record { way = w })) (changed_middle P C by U (Link Second) [] t ts)
+    link_second : (t : Tenant) → t.second.way ≡ Rattle.inorder.specs.Tenants.Unlinked → Leads P C by (with_let U t) (On (length ts) (Link Second) ∷ []) (with_let U (linked ts t Second))
+    link_second t w = leads_once P C by (with_let U t) (with_let U (linked ts t Second)) (On (length ts) (Link Second)) (allowed_middle P C by (with_let U t) (Link Second) [] t ts (record { way = w })) (changed_middle P C by (with_let U t) (Link Second) [] t ts)
 
     go : (x y : Option ℕ) → value_of ts c ≡ x → value_of ts d ≡ y → LetRun P C by U k pr
     go (Some x) (Some y) ex ey =
@@ -107,7 +107,7 @@ let_run P C by U k pr s st ns m = go (value_of ts c) (value_of ts d) refl refl
           links = On (length ts) (Link First) ∷ [];
           are = (tt, tt);
           tenant = linked ts t0 First;
-          leads = leads_more P C by U (with_tenants U (t0 ∷ ts)) (with_tenants U (linked ts t0 First ∷ ts))
+          leads = leads_more P C by U (with_let U t0) (with_let U (linked ts t0 First))
               (On (length ts) (Link First) ∷ []) (Let k pr From (Known y) ∷ [])
               (let_only From (Known y) (may From (Known y) (pending (first_of (instr_of P k)) ex) ey)) (link_first t0 refl);
           alike = record { station = refl; index = refl; half = refl; pc = refl; predicted = refl; next = refl; made = refl; fate = refl; standing = refl };
@@ -122,7 +122,7 @@ let_run P C by U k pr s st ns m = go (value_of ts c) (value_of ts d) refl refl
           links = On (length ts) (Link Second) ∷ [];
           are = (tt, tt);
           tenant = linked ts t0 Second;
-          leads = leads_more P C by U (with_tenants U (t0 ∷ ts)) (with_tenants U (linked ts t0 Second ∷ ts))
+          leads = leads_more P C by U (with_let U t0) (with_let U (linked ts t0 Second))
               (On (length ts) (Link Second) ∷ []) (Let k pr (Known x) From ∷ [])
               (let_only (Known x) From (may (Known x) From ex (pending (second_of (instr_of P k)) ey))) (link_second t0 refl);
           alike = record { station = refl; index = refl; half = refl; pc = refl; predicted = refl; next = refl; made = refl; fate = refl; standing = refl };
@@ -139,9 +139,9 @@ let_run P C by U k pr s st ns m = go (value_of ts c) (value_of ts d) refl refl
           links = On (length ts) (Link Second) ∷ On (length ts) (Link First) ∷ [];
           are = (tt, (tt, tt));
           tenant = t2;
-          leads = leads_more P C by U (with_tenants U (t1 ∷ ts)) (with_tenants U (t2 ∷ ts))
+          leads = leads_more P C by U (with_let U t1) (with_let U t2)
               (On (length ts) (Link Second) ∷ []) (On (length ts) (Link First) ∷ Let k pr From From ∷ [])
-              (leads_more P C by U (with_tenants U (t0 ∷ ts)) (with_tenants U (t1 ∷ ts)) (On (length ts) (Link First) ∷ []) (Let k pr From From ∷ [])
+              (leads_more P C by U (with_let U t0) (with_let U t1) (On (length ts) (Link First) ∷ []) (Let k pr From From ∷ [])
               (let_only From From (may From From (pending (first_of (instr_of P k)) ex) (pending (second_of (instr_of P k)) ey))) (link_first t0 refl)) (link_second t1 refl);
           alike = record { station = refl; index = refl; half = refl; pc = refl; predicted = refl; next = refl; made = refl; fate = refl; standing = refl };
           first_still = record { value = sym ex; way = λ q. (_, refl) };
