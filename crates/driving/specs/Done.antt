@@ -49,29 +49,36 @@ unit_after core all = unit_of core.program core.sizes all
 
 -- What each call asks for there, and what it answers
 
+-- The front may let this tenant
 abbrev pub MayLetNext : TheCore → Tenant → List Entry → Type 0
 MayLetNext core t all = MayLetOut core.program core.sizes (unit_after core all) t
 
+-- It was let, with the next tag
 pub record IsLetNext (core : TheCore) (t : Tenant) (tag : ℕ) (old new : List Entry) : Type 0 where
   pub adds : Adds core.program core.sizes front old new (let_of t ∷ [])
   pub tag_is : tag ≡ next_tag core.sizes (recent (unit_after core old))
 
+-- The front may ask for this source
 abbrev pub MayAskNext : TheCore → (station tag : ℕ) → Source → (ℕ × ℕ) → List Entry → Type 0
 MayAskNext core station tag k from all =
     MayAsk core.program core.sizes all station tag k from.0 from.1
 
+-- The question has this answer
 abbrev pub IsAskedNext : TheCore → (station tag : ℕ) → Source → (ℕ × ℕ) → Ask →
     List Entry → List Entry → Type 0
 IsAskedNext core station tag k from answer old new =
     AskAnswers core.program core.sizes front old new station tag k from.0 from.1 answer
 
+-- The claim has this answer
 abbrev pub IsClaimedNext : TheCore → ℕ → ℕ → Claim → List Entry → List Entry → Type 0
 IsClaimedNext core by station answer old new =
     ClaimAnswers core.program core.sizes by old new station answer
 
+-- The unit holds this job
 abbrev pub HoldsNext : TheCore → ℕ → Job → List Entry → Type 0
 HoldsNext core by j all = Holds core.program core.sizes by all j
 
+-- The finish has this answer
 abbrev pub IsFinishedNext : TheCore → ℕ → Job → Finish → List Entry → List Entry → Type 0
 IsFinishedNext core by j answer old new =
     FinishAnswers core.program core.sizes by old new j answer
