@@ -24,7 +24,7 @@ use Rattle.driving.specs.Chains.{IsChain}
 use Rattle.driving.proofs.TwoTenants.{a_of, made_none, one_of, reads_it, two_at}
 
 abbrev pub two : Tenant → Tenant → UpdateUnit
-two b a = record { tenants = b ∷ a ∷ [] }
+two b a = record { tenants = b ∷ a ∷ []; fresh = 2 }
 
 module _ (P : Program) (C : Sizes) (predicted : ℕ) where
   abbrev a : Tenant

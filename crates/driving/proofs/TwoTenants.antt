@@ -48,7 +48,7 @@ abbrev pub a_of : Program → Sizes → Tenant
 a_of P C = new_tenant P C empty_unit 0 (address 1) (Known 0) (Known 0)
 
 abbrev pub one_of : Program → Sizes → UpdateUnit
-one_of P C = record { tenants = a_of P C ∷ [] }
+one_of P C = record { tenants = a_of P C ∷ []; fresh = 1 }
 
 module _ (P : Program) (C : Sizes) (chain : IsChain P) (ring : 1 < C.ring) (queue : 0 < C.queue) (tags : C.first_tag < last_tag) where
   abbrev a : Tenant
@@ -109,6 +109,7 @@ module _ (P : Program) (C : Sizes) (chain : IsChain P) (ring : 1 < C.ring) (queu
       waits = λ e. let k : Computes ≡ Links = sym chain.computes ∙ e in cc k;
       other = λ e. let k : 0 ≡ 1 = sym first_station ∙ (e ∙ second_station) in cc k;
       last = tt;
+      new = refl;
     };
     second_is = no_other (second_of (instr_of P 1)) chain.alone;
   }
