@@ -23,14 +23,12 @@ use Rattle.isa.proofs.TextRead.{in_code, text_code, indent_in_code, code_read, c
 use Rattle.conversion.specs.Meaning.{has_target}
 use Rattle.conversion.specs.Writing.{ended, unlines, printable, label_line, label_lines, code_line, marked, with_mark, IsRead, IsText, IsQuieter, IsSound, AllSound}
 use Rattle.conversion.proofs.Pushed.{text_all_quiet, text_label, text_code as code_added}
+use Rattle.conversion.proofs.Printed.{code_printable, inner_printable}
 use Rattle.conversion.proofs.LabelNames.{single}
 use Rattle.conversion.proofs.Sizes.{code_length}
 use Rattle.conversion.proofs.Sound.{sound_at}
 
 -- ---- the line of a label
-
-inner_printable : (b : ℕ) → inner b ≡ true → printable b ≡ true
-inner_printable b h = grind (arith, nat_tests)
 
 inner_no_colon : (b : ℕ) → inner b ≡ true → (b == 58) ≡ false
 inner_no_colon b h = grind (arith, nat_tests)
@@ -46,7 +44,8 @@ module _ (k : ℕ) where
   name_bytes = part_of (label_text (address k)) (label_part (address k))
 
   line_bytes : Of (λ b. printable b && not (b == 35)) (label_line k)
-  line_bytes = of_append (λ b. printable b && not (b == 35)) (label_text (address k)) (codes ":") (of_other inner (λ b. printable b && not (b == 35)) inner_uncommented (label_text (address k)) name_bytes) (refl, tt)
+  line_bytes = of_append (λ b. printable b && not (b == 35)) (label_text (address k)) (codes ":") (of_other inner (λ b. printable b && not (b == 35)) inner_uncommented (label_text
+      (address k)) name_bytes) (refl, tt)
 
   pub label_printable : list_all printable (label_line k) ≡ true
   label_printable = all_of printable (label_line k) (of_append printable (label_text (address k)) (codes ":") (of_other inner printable inner_printable (label_text (address k)) name_bytes) (refl, tt))
@@ -66,9 +65,6 @@ module _ (k : ℕ) where
   label_says_nothing = rw (line_code, line_parts, part_trimmed (label_text (address k)) (label_part (address k)), label_is_name (address k)) refl
 
 -- ---- the line of an instruction
-
-code_printable : (b : ℕ) → in_code b ≡ true → printable b ≡ true
-code_printable b h = grind (arith, nat_tests)
 
 pub line_printable : (i : Instr) → IsWritable i → list_all printable (code_line i) ≡ true
 line_printable i w =
@@ -136,11 +132,14 @@ module _ (marks : List Bool) (code : List Instr) (k : ℕ) (lt : k < length code
       let first = text_all_quiet text quiet (take k code) (marked marks k) [] most quieter.lines is quieter.quiet quieter.grown (omega (arith, so_many)) (omega arith) in
       let second = with_label (slice_index_or marks k false) quiet labelled (most + length (unlines quieter.lines)) first behind in
       let size : length (code_line i) + 1 ≤ 79 = code_length i w in
-      let third = code_added labelled new (take k code) (marked marks k ++ with_mark k (slice_index_or marks k false)) [] (most + length (unlines quieter.lines) + 11) second (code_line i) (line_printable i w) grown 79 size
-      (spoken i) i (code_unlabelled 8 (text_of Names i) (text_code Names i w)) (code_read 8 (text_of Names i) (text_code Names i w) ∙ text_spoken Names i w) (spoken_read i w) (omega (arith, so_many)) (omega arith) in
+      let third = code_added labelled new (take k code) (marked marks k ++ with_mark k (slice_index_or marks k false)) [] (most + length (unlines quieter.lines) + 11) second
+      (code_line i) (line_printable i w) grown 79 size
+      (spoken i) i (code_unlabelled 8 (text_of Names i) (text_code Names i w)) (code_read 8 (text_of Names i) (text_code Names i w) ∙ text_spoken Names i w) (spoken_read i w) (omega
+      (arith, so_many)) (omega arith) in
       let last : k + 1 ≡ suc k = omega arith in
       let all : take (suc k) code ≡ take k code ++ get_or code k d ∷ [] = take-suc code k d lt in
-      rw (last, all) (more_room new (take k code ++ i ∷ []) (marked marks k ++ with_mark k (slice_index_or marks k false)) [] (most + length (unlines quieter.lines) + 11 + 79) (most + 200) (omega arith) third)
+      rw (last, all) (more_room new (take k code ++ i ∷ []) (marked marks k ++ with_mark k (slice_index_or marks k false)) [] (most + length (unlines quieter.lines) + 11 + 79)
+      (most + 200) (omega arith) third)
 
   pub block_more : (d : Instr) (text quiet labelled new : List ℕ) → IsText text (take k code) (marked marks k) [] (200 * k) → IsQuieter 110 text quiet
       → labelled ≡ quiet ++ unlines (label_lines k (slice_index_or marks k false)) → AllSound (length code) code

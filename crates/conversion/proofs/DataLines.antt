@@ -24,22 +24,11 @@ use Rattle.isa.proofs.TextBytes.{Of, of_append, of_all, all_of, of_other, inner,
 use Rattle.isa.proofs.TextNumbers.{number_of, decimal_part}
 use Rattle.isa.proofs.TextRead.{in_code, IsCode, no_comment, no_colon, blank_behind, with_operands_code, indent_in_code, start_trimmed, code_read, code_unlabelled}
 use Rattle.conversion.specs.Writing.{printable, word_at, row_words, row_line, space_line}
+use Rattle.conversion.proofs.Printed.{code_printable, inner_printable}
 use Rattle.conversion.proofs.LabelNames.{digit_back}
+use Rattle.conversion.proofs.Few.{all_under, under}
 
 -- ---- hexadecimal numbers
-
-abbrev all_under : (ℕ → Bool) → ℕ → Bool
-all_under test zero = true
-all_under test (suc n) = all_under test n && test n
-
-under : (test : ℕ → Bool) (n k : ℕ) → all_under test n ≡ true → k < n → test k ≡ true
-under test zero k h lt = absurd (omega arith)
-under test (suc n) k h lt =
-    let both = and_parts (all_under test n) (test n) h in
-    elim (cases_lt k n) [
-      | inl less ↦ under test n k both.0 less
-      | inr same ↦ let is : k ≡ n = omega arith in rw is both.1
-    ]
 
 digits_are : all_under (λ d. is_digit (hex_digit d) 16) 16 ≡ true
 digits_are = refl
@@ -190,7 +179,13 @@ row_data : (row : List ℕ) → AllBytes row → data_words (row_words row)
     ≡ Ok (to_le_bytes w32 (word_at row 0) ++ (to_le_bytes w32 (word_at row 4) ++ (to_le_bytes w32 (word_at row 8) ++ (to_le_bytes w32 (word_at row 12) ++ []))))
 unfolding words
 row_data row fits =
-    rw (hex_number (word_at row 0) (word_small row 0 fits), hex_number (word_at row 4) (word_small row 4 fits), hex_number (word_at row 8) (word_small row 8 fits), hex_number (word_at row 12) (word_small row 12 fits))
+    rw (
+      hex_number (word_at row 0) (word_small row 0 fits),
+      hex_number (word_at row 4) (word_small row 4 fits),
+      hex_number (word_at row 8) (word_small row 8 fits),
+      hex_number
+          (word_at row 12) (word_small row 12 fits),
+    )
     refl
 
 row_parts : (row : List ℕ) → AreParts (row_words row)
@@ -225,12 +220,6 @@ row_read at row size fits =
 
 pub row_bare : (at : ℕ) (row : List ℕ) → labels (row_line at row) ≡ []
 row_bare at row = commented_bare (with_operands_text (codes ".word") (row_words row)) (32 ∷ hexadecimal at) (row_code row)
-
-code_printable : (b : ℕ) → in_code b ≡ true → printable b ≡ true
-code_printable b h = grind (arith, nat_tests)
-
-inner_printable : (b : ℕ) → inner b ≡ true → printable b ≡ true
-inner_printable b h = grind (arith, nat_tests)
 
 pub row_printable : (at : ℕ) (row : List ℕ) → list_all printable (row_line at row) ≡ true
 row_printable at row =

@@ -55,7 +55,8 @@ flushed now new (suc zeros) said n bytes whole words room spaced code names most
     let size : length said + length (replicate (suc zeros) 0) ≤ 65536 =
     omega (arith, sym (length-append said (replicate (suc zeros) 0)), ap length whole, length-take n bytes) in
     let small : suc zeros ≤ 65536 = omega (arith, size, length-replicate {A = ℕ} (suc zeros) 0) in
-    text_bytes now new code names said most is (space_line (suc zeros)) (space_printable (suc zeros) small) line 30 (space_size (suc zeros) small) (replicate (suc zeros) 0) (space_bare (suc zeros) small) (space_read (suc zeros) small (omega arith)) few size
+    text_bytes now new code names said most is (space_line (suc zeros)) (space_printable (suc zeros) small) line 30 (space_size (suc zeros) small) (replicate (suc zeros) 0) (space_bare
+    (suc zeros) small) (space_read (suc zeros) small (omega arith)) few size
 
 module _ (bytes : List ℕ) (all : length bytes ≡ 65536) (old now : List ℕ) (k zeros : ℕ) (lt : k < 4096) (so_far : RowsSoFar bytes old now k zeros)
     (row : List ℕ) (is : row ≡ take 16 (drop (16 * k) bytes)) where
@@ -91,7 +92,8 @@ module _ (bytes : List ℕ) (all : length bytes ≡ 65536) (old now : List ℕ) 
         let size : length (so_far.said ++ replicate zeros 0) + length row ≤ 65536 =
         omega (arith, ap length so_far.whole, length-take (16 * k) bytes, row_length, all) in
         more_room new code names ((so_far.said ++ replicate zeros 0) ++ row) (most + 110 * k + 30 + 80) (most + 110 * (k + 1)) (omega arith)
-        (text_bytes mid new code names (so_far.said ++ replicate zeros 0) (most + 110 * k + 30) first (row_line at row) (row_printable at row) grown 80 (row_size at row) row (row_bare at row) (row_read at row row_length fits) few size);
+        (text_bytes mid new code names (so_far.said ++ replicate zeros 0) (most + 110 * k + 30) first (row_line at row) (row_printable at row) grown 80 (row_size at row) row
+        (row_bare at row) (row_read at row row_length fits) few size);
   }
 
 -- all rows, and the zeros behind them
@@ -122,7 +124,8 @@ row_shape a b c d t =
     ap (λ (l : List ℕ). codes "        .word " ++ l) (sym all)
 
 pub row_added : (old new row : List ℕ) (at a b c d : ℕ) → a ≡ word_at row 0 → b ≡ word_at row 4 → c ≡ word_at row 8 → d ≡ word_at row 12
-    → new ≡ old ++ (codes "        .word " ++ (hexadecimal a ++ (codes "," ++ (hexadecimal b ++ (codes "," ++ (hexadecimal c ++ (codes "," ++ (hexadecimal d ++ (codes " # " ++ (hexadecimal at ++ codes "\n"))))))))))
+    → new ≡ old ++ (codes "        .word " ++ (hexadecimal a ++ (codes "," ++ (hexadecimal b ++ (codes "," ++ (hexadecimal c ++ (codes "," ++ (hexadecimal d ++ (codes " # " ++
+    (hexadecimal at ++ codes "\n"))))))))))
     → new ≡ old ++ ended (row_line at row)
 row_added old new row at a b c d ea eb ec ed is = rw (← ea, ← eb, ← ec, ← ed)
     (is ∙ ap (λ (l : List ℕ). old ++ l) (row_shape (hexadecimal a) (hexadecimal b) (hexadecimal c) (hexadecimal d) (hexadecimal at)))

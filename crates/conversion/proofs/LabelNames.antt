@@ -13,21 +13,9 @@ use Rattle.isa.specs.InstrText.{label_text}
 use Rattle.isa.specs.Listing.{is_double}
 use Rattle.isa.proofs.LabelTable.{lookup_push, lookup_keep}
 use Rattle.conversion.specs.Writing.{marked, with_mark}
+use Rattle.conversion.proofs.Few.{all_under, under}
 
 -- ---- digits
-
-abbrev all_under : (ℕ → Bool) → ℕ → Bool
-all_under test zero = true
-all_under test (suc n) = all_under test n && test n
-
-under : (test : ℕ → Bool) (n k : ℕ) → all_under test n ≡ true → k < n → test k ≡ true
-under test zero k h lt = absurd (omega arith)
-under test (suc n) k h lt =
-    let both = and_parts (all_under test n) (test n) h in
-    elim (cases_lt k n) [
-      | inl less ↦ under test n k both.0 less
-      | inr same ↦ let is : k ≡ n = omega arith in rw is both.1
-    ]
 
 digits_back : all_under (λ d. digit_value (hex_digit d) == d) 16 ≡ true
 digits_back = refl

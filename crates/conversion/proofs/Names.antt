@@ -8,6 +8,7 @@ use Rattle.text.specs.Label.{labels_of, statement_of}
 use Rattle.isa.specs.Statement.{statement}
 use Rattle.isa.specs.Listing.{Lines}
 use Rattle.isa.proofs.TextBytes.{of_append, of_all, all_of}
+use Rattle.conversion.proofs.Pushed.{unlines_push}
 use Rattle.conversion.specs.Writing.{ended, unlines, printable, IsQuiet, AllQuiet, IsQuieter, gap_lines, comment_line}
 
 pub shown_more : (name : List ℕ) (k : ℕ) → k < length name → 32 ≤ get_or name k 0 → get_or name k 0 ≤ 126 → list_all printable (take k name) ≡ true
@@ -36,10 +37,6 @@ gap_size (suc k) = omega arith
 quiet_push : (ls : Lines) (l : List ℕ) → AllQuiet ls → IsQuiet l → AllQuiet (ls ++ l ∷ [])
 quiet_push [] l h q = (q, tt)
 quiet_push (b ∷ ls) l h q = (h.0, quiet_push ls l h.1 q)
-
-unlines_push : (ls : Lines) (l : List ℕ) → unlines (ls ++ l ∷ []) ≡ unlines ls ++ ended l
-unlines_push [] l = append-nil (ended l)
-unlines_push (b ∷ ls) l = ap (λ (t : List ℕ). ended b ++ t) (unlines_push ls l) ∙ sym (append_assoc (ended b) (unlines ls) (ended l))
 
 pub quieter_name : (old gap new text : List ℕ) (k : ℕ) → list_all printable text ≡ true → length text ≤ 100 → gap ≡ old ++ unlines (gap_lines k)
     → new ≡ gap ++ ended (comment_line text) → IsQuieter 110 old new

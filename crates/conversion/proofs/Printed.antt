@@ -8,7 +8,8 @@ use Rattle.text.specs.Line.{lines_of, before_comment}
 use Rattle.text.specs.Name.{is_plain, is_plain_text}
 use Rattle.text.proofs.Runs.{strip_whole}
 use Rattle.isa.specs.Listing.{Lines}
-use Rattle.isa.proofs.TextBytes.{Of, of_all, all_of, of_other, split_at}
+use Rattle.isa.proofs.TextBytes.{Of, of_all, all_of, of_other, split_at, inner}
+use Rattle.isa.proofs.TextRead.{in_code}
 use Rattle.conversion.specs.Writing.{unlines, printable, AllPrintable}
 
 no_feed : (b : ℕ) → printable b ≡ true → (b == 10) ≡ false
@@ -19,6 +20,12 @@ no_return b h = grind (arith, nat_tests)
 
 printable_plain : (b : ℕ) → printable b ≡ true → is_plain b ≡ true
 printable_plain b h = grind (arith, nat_tests)
+
+pub inner_printable : (b : ℕ) → inner b ≡ true → printable b ≡ true
+inner_printable b h = grind (arith, nat_tests)
+
+pub code_printable : (b : ℕ) → in_code b ≡ true → printable b ≡ true
+code_printable b h = grind (arith, nat_tests)
 
 -- ---- a line is plain before its comment
 

@@ -17,19 +17,7 @@ use Rattle.isa.specs.Wording.{word_of, slots_of}
 use Rattle.isa.specs.InstrText.{register_text, signed_text, label_text, operand_text, with_operands_text, is_nop, text_of, Fits, AllFit, IsSignedHalf, IsWritable}
 use Rattle.isa.proofs.TextNumbers.{signed_positive, signed_negative, below_zero}
 use Rattle.conversion.specs.Writing.{code_line}
-
-abbrev all_under : (ℕ → Bool) → ℕ → Bool
-all_under test zero = true
-all_under test (suc n) = all_under test n && test n
-
-under : (test : ℕ → Bool) (n k : ℕ) → all_under test n ≡ true → k < n → test k ≡ true
-under test zero k h lt = absurd (omega arith)
-under test (suc n) k h lt =
-    let both = and_parts (all_under test n) (test n) h in
-    elim (cases_lt k n) [
-      | inl less ↦ under test n k both.0 less
-      | inr same ↦ let is : k ≡ n = omega arith in rw is both.1
-    ]
+use Rattle.conversion.proofs.Few.{all_under, under}
 
 names_short : all_under (λ r. nat_le (length (register_text Names r)) 5) 32 ≡ true
 unfolding digits

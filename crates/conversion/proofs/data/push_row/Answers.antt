@@ -13,7 +13,8 @@ returns c =
     let d = hexadecimal c.word_at-3.result in
     let e = hexadecimal c.word_at-4.result in
     on_ok c.write.result
-    (string_bytes c.write.new.self ≡ string_bytes c.args.out.now ++ (codes "        .word " ++ (a ++ (codes "," ++ (b ++ (codes "," ++ (d ++ (codes "," ++ (e ++ (codes " # " ++ (hexadecimal c.args.at ++ codes "\n")))))))))))
+    (string_bytes c.write.new.self ≡ string_bytes c.args.out.now ++ (codes "        .word " ++ (a ++ (codes "," ++ (b ++ (codes "," ++ (d ++ (codes "," ++ (e ++ (codes " # " ++
+    (hexadecimal c.args.at ++ codes "\n")))))))))))
     (string_bytes c.write.new.self ≡ string_bytes c.args.out.now ++ ended (row_line c.args.at c.args.row.now))
     (row_added (string_bytes c.args.out.now) (string_bytes c.write.new.self) c.args.row.now c.args.at c.word_at.result c.word_at-2.result c.word_at-3.result c.word_at-4.result
     c.word_at.ensures c.word_at-2.ensures c.word_at-3.ensures c.word_at-4.ensures)
