@@ -1,12 +1,10 @@
 -- The lines of data are read as their bytes.
-use Rattle.std.proofs.Common.{◌≡◌, ℕ, zero, suc, ◌+◌, ◌-◌, ◌*◌, ◌/◌, ◌%◌, ◌^◌, ◌≤◌, ◌<◌, Bool, true, false, ◌&&◌, ◌==◌, List, [], ◌∷◌, ◌++◌, length, get_or, take, replicate, Some, Ok, refl, ap, ◌∙◌, sym, arith, append_assoc, inl, inr}
+use Rattle.std.proofs.Common.{◌≡◌, ℕ, zero, suc, ◌+◌, ◌-◌, ◌%◌, ◌^◌, ◌≤◌, ◌<◌, true, false, ◌==◌, List, [], ◌∷◌, ◌++◌, length, get_or, take, replicate, Ok, refl, ap, ◌∙◌, sym, arith, append_assoc}
 use Rattle.std.specs.Prelude.{codes, slice_index}
 use Rattle.std.specs.Fmt.{decimal as decimal_text}
-use Rattle.std.specs.Char.{is_digit}
 use Rattle.std.specs.Int.{w32, to_le_bytes}
 use Rattle.std.specs.List.{list_all, suffix_len}
-use Rattle.std.proofs.lemmas.Bool.{and_parts, cases_lt, le-leb, eq-eqb}
-use Rattle.std.proofs.lemmas.Bool.Decides.{nat_tests}
+use Rattle.std.proofs.lemmas.Bool.{eq-eqb}
 use Rattle.std.proofs.lemmas.List.{length-append}
 use Rattle.std.proofs.lemmas.List.Sums.{suffix_len_is}
 use Rattle.std.proofs.lemmas.Nat.{le_bytes_4}
@@ -14,9 +12,7 @@ use Rattle.std.proofs.lemmas.Fmt.{length-decimal-le}
 use Rattle.text.specs.Blank.{is_blank, trim, trim_end}
 use Rattle.text.specs.Line.{before_comment}
 use Rattle.text.specs.Label.{labels_of, statement_of}
-use Rattle.text.specs.Number.{magnitude, numeral, number_in}
-use Rattle.isa.specs.Operands.{number}
-use Rattle.isa.specs.Report.{hex_digit, hex8, hexadecimal}
+use Rattle.isa.specs.Report.{hex8, hexadecimal}
 use Rattle.isa.specs.Statement.{space, words, data_words, with_operands, statement, gives_bytes}
 use Rattle.isa.specs.Listing.{read, labels}
 use Rattle.isa.specs.InstrText.{with_operands_text}
@@ -25,69 +21,7 @@ use Rattle.isa.proofs.TextNumbers.{number_of, decimal_part}
 use Rattle.isa.proofs.TextRead.{in_code, IsCode, no_comment, no_colon, blank_behind, with_operands_code, indent_in_code, start_trimmed, code_read, code_unlabelled}
 use Rattle.conversion.specs.Writing.{printable, word_at, row_words, row_line, space_line}
 use Rattle.conversion.proofs.Printed.{code_printable, inner_printable}
-use Rattle.conversion.proofs.LabelNames.{digit_back}
-use Rattle.conversion.proofs.Few.{all_under, under}
-
--- ---- hexadecimal numbers
-
-digits_are : all_under (λ d. is_digit (hex_digit d) 16) 16 ≡ true
-digits_are = refl
-
-digit_is : (n : ℕ) → is_digit (hex_digit (n % 16)) 16 ≡ true
-digit_is n = under (λ d. is_digit (hex_digit d) 16) 16 (n % 16) digits_are (omega arith)
-
-digits_inner : all_under (λ d. inner (hex_digit d)) 16 ≡ true
-digits_inner = refl
-
-digit_inner : (n : ℕ) → inner (hex_digit (n % 16)) ≡ true
-digit_inner n = under (λ d. inner (hex_digit d)) 16 (n % 16) digits_inner (omega arith)
-
-hex_part : (n : ℕ) → IsPart (hexadecimal n)
-unfolding hex8
-hex_part n =
-    let d = digit_inner in
-    (refl, (refl, (d (n / 16 ^ 7), (d (n / 16 ^ 6), (d (n / 16 ^ 5), (d (n / 16 ^ 4), (d (n / 16 ^ 3), (d (n / 16 ^ 2), (d (n / 16), (d n, tt))))))))))
-
--- eight digits, the highest first, are the number
-eight_digits : (n : ℕ) → n < 2 ^ 32
-    → ((((((((0 * 16 + n / 16 ^ 7 % 16) * 16 + n / 16 ^ 6 % 16) * 16 + n / 16 ^ 5 % 16) * 16 + n / 16 ^ 4 % 16) * 16 + n / 16 ^ 3 % 16) * 16 + n / 16 ^ 2 % 16) * 16 + n / 16 % 16) * 16 + n % 16) ≡ n
-eight_digits n small =
-    let e7 : 0 * 16 + n / 16 ^ 7 % 16 ≡ n / 16 ^ 7 = omega arith in
-    let e6 : n / 16 ^ 7 * 16 + n / 16 ^ 6 % 16 ≡ n / 16 ^ 6 = omega arith in
-    let e5 : n / 16 ^ 6 * 16 + n / 16 ^ 5 % 16 ≡ n / 16 ^ 5 = omega arith in
-    let e4 : n / 16 ^ 5 * 16 + n / 16 ^ 4 % 16 ≡ n / 16 ^ 4 = omega arith in
-    let e3 : n / 16 ^ 4 * 16 + n / 16 ^ 3 % 16 ≡ n / 16 ^ 3 = omega arith in
-    let e2 : n / 16 ^ 3 * 16 + n / 16 ^ 2 % 16 ≡ n / 16 ^ 2 = omega arith in
-    let e1 : n / 16 ^ 2 * 16 + n / 16 % 16 ≡ n / 16 = omega arith in
-    rw (e7, e6, e5, e4, e3, e2, e1) (omega arith)
-
-hex_magnitude : (n : ℕ) → n < 2 ^ 32 → magnitude (hexadecimal n) ≡ Some n
-unfolding magnitude numeral hex8
-hex_magnitude n small =
-    let v = digit_back in
-    rw (
-      digit_is (n / 16 ^ 7),
-      digit_is (n / 16 ^ 6),
-      digit_is (n / 16 ^ 5),
-      digit_is (n / 16 ^ 4),
-      digit_is (n / 16 ^ 3),
-      digit_is (n / 16 ^ 2),
-      digit_is (n / 16),
-      digit_is n,
-      v (n / 16 ^ 7),
-      v (n / 16 ^ 6),
-      v (n / 16 ^ 5),
-      v (n / 16 ^ 4),
-      v (n / 16 ^ 3),
-      v (n / 16 ^ 2),
-      v (n / 16),
-      v n,
-    )
-    (ap (λ (m : ℕ). Some m) (eight_digits n small))
-
-hex_number : (n : ℕ) → n < 2 ^ 32 → number 2147483648 4294967295 (hexadecimal n) ≡ Ok n
-unfolding number number_in hex8
-hex_number n small = rw (hex_magnitude n small, le-leb n 4294967295 (omega arith)) refl
+use Rattle.conversion.proofs.HexNumbers.{hex_part, hex_number}
 
 -- ---- a line of code with blanks and a comment behind it
 

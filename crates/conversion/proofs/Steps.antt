@@ -1,7 +1,6 @@
 -- One word more.
-use Rattle.std.proofs.Common.{◌≡◌, ℕ, zero, suc, ◌+◌, ◌<◌, ◌≤◌, inl, inr, List, [], Ok, Err, refl, arith, ap, ◌∙◌, sym, add-one, length, ◌++◌, ◌∷◌, take, slice_index_or}
+use Rattle.std.proofs.Common.{◌≡◌, ℕ, zero, suc, ◌+◌, ◌<◌, ◌≤◌, inl, inr, List, [], Ok, Err, refl, arith, ap, ◌∙◌, sym, add-one, length}
 use Rattle.std.proofs.lemmas.Bool.{cases_lt}
-use Rattle.std.proofs.lemmas.List.{take_more, take_all}
 use Rattle.isa.specs.declared.instr.Instr.{Instr}
 use Rattle.conversion.specs.declared.refusal.Refusal.{Refusal}
 use Rattle.conversion.specs.Meaning.{behind, meant, with_next, meant_up_to}
