@@ -1,7 +1,6 @@
 -- One word more.
-use Rattle.std.proofs.Common.{◌≡◌, ℕ, zero, suc, ◌+◌, ◌<◌, ◌≤◌, inl, inr, List, [], Ok, Err, refl, arith, ap, ◌∙◌, sym, add-one, length, ◌++◌, ◌∷◌, take, slice_index_or}
+use Rattle.std.proofs.Common.{◌≡◌, ℕ, zero, suc, ◌+◌, ◌<◌, ◌≤◌, inl, inr, List, [], Ok, Err, refl, arith, ap, ◌∙◌, sym, add-one, length}
 use Rattle.std.proofs.lemmas.Bool.{cases_lt}
-use Rattle.std.proofs.lemmas.List.{take_more, take_all}
 use Rattle.isa.specs.declared.instr.Instr.{Instr}
 use Rattle.conversion.specs.declared.refusal.Refusal.{Refusal}
 use Rattle.conversion.specs.Meaning.{behind, meant, with_next, meant_up_to}
@@ -34,17 +33,3 @@ pub refused_by_one : (words : List ℕ) (n : ℕ) (is : List Instr) (refusal : R
 refused_by_one words n is refusal less before fault =
     stays words (length words) (n + 1) refusal (omega arith)
     (meant_next words n is before ∙ ap (behind is) fault)
-
--- two texts that are the same so far and have the same instruction next
-pub same_next : (xs ys : List Instr) (k : ℕ) (d e : Instr) → k < length xs → k < length ys
-    → take k xs ≡ take k ys → slice_index_or xs k d ≡ slice_index_or ys k e
-    → take (k + 1) xs ≡ take (k + 1) ys
-same_next xs ys k d e less fewer before next =
-    let one = take_more xs k d less in
-    let other = take_more ys k e fewer in
-    let middle : take k xs ++ slice_index_or xs k d ∷ [] ≡ take k ys ++ slice_index_or ys k e ∷ [] = cc in
-    one ∙ (middle ∙ sym other)
-
--- two texts that are the same up to their common end
-pub same_all : (xs ys : List Instr) (k : ℕ) → length xs ≤ k → length ys ≤ k → take k xs ≡ take k ys → xs ≡ ys
-same_all xs ys k less fewer same = sym (take_all k xs less) ∙ (same ∙ take_all k ys fewer)

@@ -1,5 +1,5 @@
 -- What an executable means, and that a listing says it.
-use Rattle.std.specs.Prelude.{◌≡◌, ℕ, ⊤, List, length, Result, Ok, Err}
+use Rattle.std.specs.Prelude.{◌≡◌, ℕ, List, length, Result, Ok, Err}
 use Rattle.isa.specs.declared.instr.Instr.{Instr}
 use Rattle.isa.specs.Programs.{Program}
 use Rattle.isa.specs.Listing.{listing}
@@ -8,14 +8,8 @@ use Rattle.executables.specs.declared.refusal.Refusal.TheVariants as file
 use Rattle.executables.specs.Images.{Loaded}
 use Rattle.executables.specs.Placing.{loaded_from}
 use Rattle.conversion.specs.declared.refusal.Refusal.{Refusal}
-use Rattle.conversion.specs.declared.refusal.Refusal.TheVariants.{File, Unlike, Memory}
+use Rattle.conversion.specs.declared.refusal.Refusal.TheVariants.{File, Memory}
 use Rattle.conversion.specs.Meaning.{meant_up_to}
-
--- a listing that was made is not read back
-abbrev pub IsUnread : Refusal → Type 0
-IsUnread Unlike = ⊤
-IsUnread Memory = ⊤
-IsUnread _ = ⊥
 
 -- why a file gives no listing, where it is no program for this machine
 abbrev pub refusal_of : FileRefusal → Refusal

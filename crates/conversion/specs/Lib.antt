@@ -1,3 +1,4 @@
 pub mod Foreign
 pub mod Meaning
+pub mod Writing
 pub mod Conversion

@@ -1,6 +1,9 @@
 //! The bytes of data memory as lines of a listing.
-ghost use Rattle.std.specs.Prelude.{◌≤◌, ◌+◌, length};
+ghost use Rattle.std.specs.Prelude.{◌≡◌, ◌≤◌, ◌<◌, ◌+◌, ◌++◌, ◌^◌, ◌==◌, [], length, OnOk, string_bytes};
+ghost use Rattle.std.specs.List.{list_all};
+ghost use Rattle.conversion.specs.Writing.{ended, unlines, word_at as word_of, row_line, space_lines, AddsData};
 
+use isa::Hexadecimal;
 use std::alloc::AllocError;
 
 /// How many bytes are in a line.
@@ -8,41 +11,66 @@ const ROW: usize = 16;
 
 fn word_at(bytes: &[u8], at: usize) -> u32
     requires { at + 4 ≤ length bytes.now }
+    ensures { result ≡ word_of bytes.now at }
 {
     u32::from_le_bytes([bytes[at], bytes[at + 1], bytes[at + 2], bytes[at + 3]])
 }
 
 // the line of 16 bytes
-fn push_row(out: &mut String, at: usize, row: &[u8]) -> Result<(), AllocError>
+#[tactic(auto, using(crate::proofs::DataSteps::row_added))]
+fn push_row(out: &mut String, at: u32, row: &[u8]) -> Result<(), AllocError>
     requires { 16 ≤ length row.now }
+    ensures { OnOk result (string_bytes out.new
+        ≡ string_bytes out.old ++ ended (row_line at row.now)) }
 {
-    let (first, second) = (word_at(row, 0), word_at(row, 4));
-    let (third, fourth) = (word_at(row, 8), word_at(row, 12));
+    let address = Hexadecimal(at);
+    let first = Hexadecimal(word_at(row, 0));
+    let second = Hexadecimal(word_at(row, 4));
+    let third = Hexadecimal(word_at(row, 8));
+    let fourth = Hexadecimal(word_at(row, 12));
     write!(
         out,
-        "        .word 0x{first:08x},0x{second:08x},0x{third:08x},0x{fourth:08x}"
-    )?;
-    write!(out, " # 0x{at:08x}\n")
+        "        .word {first},{second},{third},{fourth} # {address}\n"
+    )
 }
 
 // so many bytes of 0
-fn push_space(out: &mut String, count: usize) -> Result<(), AllocError> {
+#[tactic(auto, using(crate::proofs::DataSteps::space_added))]
+fn push_space(out: &mut String, count: usize) -> Result<(), AllocError>
+    ensures { OnOk result (string_bytes out.new
+        ≡ string_bytes out.old ++ unlines (space_lines count)) }
+{
     if count == 0 {
         return Ok(());
     }
     write!(out, "        .space {count}\n")
 }
 
+fn is_zero(row: &[u8]) -> bool
+    ensures { result ≡ list_all (λ b. b == 0) row.now }
+{
+    for b in row {
+        if *b != 0 {
+            return false;
+        }
+    }
+    true
+}
+
 /// Adds the lines of all bytes, of which there are whole rows.
-pub fn push_data(out: &mut String, bytes: &[u8]) -> Result<(), AllocError> {
+#[tactic(auto, using(crate::proofs::DataSteps::rows_none, crate::proofs::DataSteps::rows_zero, crate::proofs::DataSteps::rows_some, crate::proofs::DataSteps::rows_all))]
+pub fn push_data(out: &mut String, bytes: &[u8]) -> Result<(), AllocError>
+    requires { length bytes.now ≡ 65536 }
+    ensures { OnOk result (AddsData bytes.now (string_bytes out.old) (string_bytes out.new)) }
+{
     let mut zeros = 0usize;
-    for k in 0..bytes.len() / ROW {
+    'rows: for k in 0..4096usize {
         let row = &bytes[ROW * k..ROW * k + ROW];
-        if row.iter().all(|b| *b == 0) {
-            zeros = zeros.saturating_add(ROW);
+        if is_zero(row) {
+            zeros += ROW;
         } else {
             push_space(out, zeros)?;
-            push_row(out, ROW * k, row)?;
+            push_row(out, (ROW * k) as u32, row)?;
             zeros = 0;
         }
     }

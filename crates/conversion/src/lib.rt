@@ -8,7 +8,6 @@ mod foreign;
 mod lines;
 mod meaning;
 mod refusal;
-mod saying;
 mod writing;
 
 pub use conversion::listing_of;

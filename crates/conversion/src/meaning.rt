@@ -1,6 +1,7 @@
 //! What the words of a text mean.
 ghost use Rattle.std.specs.Prelude.{◌≡◌, ◌≢◌, ◌<◌, ◌≤◌, Ok, Err, IfOk, IfErr, length};
 ghost use Rattle.isa.specs.Programs.{address as address_at};
+ghost use Rattle.conversion.specs.Writing.{AllSound};
 ghost use Rattle.conversion.specs.Meaning.{has_slot as has_slot_of, has_target as has_target_of, is_inside as is_inside_of, checked as checked_by, meant as meant_by, meant_up_to};
 
 use crate::Refusal;
@@ -92,11 +93,12 @@ fn meant(code: &[u32], k: usize) -> Result<Instr, Refusal>
 }
 
 /// The instructions that the words of a text are, or the first refusal.
-#[tactic(auto, using(crate::proofs::Steps::meant_none, crate::proofs::Steps::meant_next, crate::proofs::Steps::refused_by_one))]
+#[tactic(auto, using(crate::proofs::Steps::meant_none, crate::proofs::Steps::meant_next, crate::proofs::Steps::refused_by_one, crate::proofs::Sound::all_sound))]
 pub fn instructions(alloc: Global, code: &[u32]) -> Result<Vec<Instr>, Refusal>
     requires { length code.now ≤ 16384 }
     ensures ok { IfOk result (λ v. meant_up_to code.now (length code.now) ≡ Ok v.items) }
     ensures length { IfOk result (λ v. length v.items ≡ length code.now) }
+    ensures sound { IfOk result (λ v. AllSound (length code.now) v.items) }
     ensures fault { IfErr result (λ e. e ≢ Refusal.Memory
         → meant_up_to code.now (length code.now) ≡ Err e) }
 {

@@ -38,9 +38,6 @@ pub enum Refusal {
         address: u32,
         word: u32,
     },
-    /// The text that was made would say something else than the file does, and is thrown away.
-    #[error("the listing would not say what the file does")]
-    Unlike,
     #[error("out of memory")]
     Memory,
 }

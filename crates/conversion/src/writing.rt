@@ -1,37 +1,67 @@
 //! The text of a listing.
-ghost use Rattle.std.specs.Prelude.{◌≡◌, ◌<◌, ◌≤◌, IfOk, IfSome, length};
+ghost use Rattle.std.specs.Prelude.{◌≡◌, ℕ, ◌<◌, ◌≤◌, ◌++◌, Ok, false, OnOk, IfOk, IfSome, IsNone, true, length, string_bytes, take};
+ghost use Rattle.std.specs.List.{list_all};
+ghost use Rattle.isa.specs.Programs.{address};
+ghost use Rattle.isa.specs.Listing.{listing};
+ghost use Rattle.conversion.specs.Meaning.{is_inside, has_target as has_target_of};
+ghost use Rattle.conversion.specs.Writing.{IsQuieter, IsMarked, AllSound, AllMarked, ended, unlines, label_lines, gap_lines, comment_line, printable};
 
 use crate::data::push_data;
-use crate::lines::push_line;
-use crate::meaning::{address_of, has_target};
+use crate::lines::{push_label, push_line};
+use crate::meaning::has_target;
 use executables::{Function, name_at};
 use isa::{Instr, Program};
 use std::alloc::{AllocError, Global};
+use std::str;
+
+/// How many bytes of a function's name are in a listing.
+const MOST_NAME: usize = 100;
 
 // the number of the instruction at an address, among so many
-fn index_of(len: usize, address: u32) -> Option<usize>
-    ensures { IfSome result (λ k. k < len) }
+fn index_of(len: usize, at: u32) -> Option<usize>
+    requires { len ≤ 16384 }
+    ensures inside { IfSome result (λ k. k < len) }
+    ensures is { IfSome result (λ k. at ≡ address k) }
+    ensures none { IsNone result → is_inside len at ≡ false }
 {
-    let index = (address.saturating_sub(Program::START) / 4) as usize;
-    if Program::START <= address && address % 4 == 0 && index < len {
+    let index = (at.saturating_sub(Program::START) / 4) as usize;
+    if Program::START <= at && at % 4 == 0 && index < len {
         Some(index)
     } else {
         None
     }
 }
 
+// marks the instruction that this one goes to
+#[tactic(auto, using(crate::proofs::Marks::mark_kept, crate::proofs::Marks::mark_new))]
+fn mark(marks: &mut Vec<bool>, instr: &Instr)
+    requires { length marks.old.items ≤ 16384 }
+    ensures length { length marks.new.items ≡ length marks.old.items }
+    ensures kept { (target : ℕ) → IsMarked marks.old.items target
+        → IsMarked marks.new.items target }
+    ensures new { has_target_of instr.now.op ≡ true
+        → is_inside (length marks.old.items) instr.now.number ≡ true
+        → IsMarked marks.new.items instr.now.number }
+{
+    if !has_target(instr.op()) {
+        return;
+    }
+    if let Some(k) = index_of(marks.len(), instr.number()) {
+        marks[k] = true;
+    }
+}
+
 // which instructions are those that others go to
+#[tactic(auto, using(crate::proofs::Marks::marks_more, crate::proofs::Marks::marks_all))]
 fn labels(alloc: Global, code: &[Instr]) -> Result<Vec<bool>, AllocError>
-    ensures { IfOk result (λ v. length v.items ≡ length code.now) }
+    requires { length code.now ≤ 16384 }
+    ensures length { IfOk result (λ v. length v.items ≡ length code.now) }
+    ensures marked { IfOk result (λ v. AllMarked v.items (length code.now) code.now) }
 {
     let mut marks = Vec::new(alloc);
     marks.resize(code.len(), false)?;
-    for instr in code {
-        if has_target(instr.op()) {
-            if let Some(k) = index_of(marks.len(), instr.number()) {
-                marks[k] = true;
-            }
-        }
+    'instructions: for instr in code {
+        mark(&mut marks, instr);
     }
     Ok(marks)
 }
@@ -42,31 +72,95 @@ fn names(
     functions: &[Function],
     len: usize,
 ) -> Result<Vec<Option<usize>>, AllocError>
+    requires { len ≤ 16384 }
     ensures { IfOk result (λ v. length v.items ≡ len) }
 {
     let mut names = Vec::new(alloc);
     names.resize(len, None)?;
     for function in functions {
-        if let Some(k) = index_of(names.len(), function.address) {
+        if let Some(k) = index_of(len, function.address) {
             names[k] = Some(function.name);
         }
     }
     Ok(names)
 }
 
-// the comment that names a function
-fn push_name(out: &mut String, name: &[u8]) -> Result<(), AllocError> {
-    if !out.is_empty() {
-        out.push_str("\n")?;
+// how many bytes at the front of a name can be shown
+#[tactic(auto, using(crate::proofs::Names::shown_more))]
+fn shown(name: &[u8]) -> usize
+    ensures inside { result ≤ length name.now }
+    ensures short { result ≤ 100 }
+    ensures plain { list_all printable (take result name.now) ≡ true }
+{
+    let most = name.len().min(MOST_NAME);
+    'bytes: for k in 0..most {
+        if name[k] < 0x20 || name[k] > 0x7e {
+            return k;
+        }
     }
-    out.push_str("# ")?;
-    for b in name {
-        out.push(char::from(*b))?;
+    most
+}
+
+// an empty line before each comment but the first line
+fn push_gap(out: &mut String, k: usize) -> Result<(), AllocError>
+    ensures { OnOk result (string_bytes out.new ≡ string_bytes out.old ++ unlines (gap_lines k)) }
+{
+    if k == 0 {
+        return Ok(());
     }
     out.push_str("\n")
 }
 
-/// The listing of instructions, at most 16,384, and bytes of data.
+fn push_text(out: &mut String, text: &str) -> Result<(), AllocError>
+    ensures { OnOk result (string_bytes out.new
+        ≡ string_bytes out.old ++ ended (comment_line text.now)) }
+{
+    write!(out, "# {text}\n")
+}
+
+// the comment that names a function
+#[tactic(auto, using(crate::proofs::Names::quieter_name, crate::proofs::Names::quieter_none))]
+fn push_name(out: &mut String, name: &[u8], k: usize) -> Result<(), AllocError>
+    ensures { OnOk result (IsQuieter 110 (string_bytes out.old) (string_bytes out.new)) }
+{
+    let most = shown(name);
+    let Ok(text) = str::from_utf8(&name[..most]) else {
+        return Ok(());
+    };
+    push_gap(out, k)?;
+    push_text(out, text)
+}
+
+// the same, where there is one
+#[tactic(auto, using(crate::proofs::Names::quieter_none))]
+fn push_comment(
+    out: &mut String,
+    file: &[u8],
+    name: Option<usize>,
+    k: usize,
+) -> Result<(), AllocError>
+    ensures { OnOk result (IsQuieter 110 (string_bytes out.old) (string_bytes out.new)) }
+{
+    match name {
+        Some(at) => push_name(out, name_at(file, at), k),
+        None => Ok(()),
+    }
+}
+
+// the label of instruction k, if it has one
+fn push_mark(out: &mut String, k: usize, mark: bool) -> Result<(), AllocError>
+    requires { k ≤ 16384 }
+    ensures { OnOk result (string_bytes out.new
+        ≡ string_bytes out.old ++ unlines (label_lines k mark)) }
+{
+    if mark {
+        push_label(out, k)?;
+    }
+    Ok(())
+}
+
+/// The listing of instructions that a listing can write, and of bytes of data.
+#[tactic(auto, using(crate::proofs::Said::text_begun, crate::proofs::Blocks::block_more, crate::proofs::Said::text_ended))]
 pub fn text_of(
     alloc: Global,
     file: &[u8],
@@ -74,19 +168,18 @@ pub fn text_of(
     code: &[Instr],
     bytes: &[u8],
 ) -> Result<String, AllocError>
-    requires { length code.now ≤ 16384 }
+    requires few { length code.now ≤ 16384 }
+    requires sound { AllSound (length code.now) code.now }
+    requires data { length bytes.now ≡ 65536 }
+    ensures { IfOk result (λ text. listing (string_bytes text)
+        ≡ Ok (record { code = code.now; bytes = bytes.now })) }
 {
-    let labels = labels(alloc, code)?;
+    let marks = labels(alloc, code)?;
     let names = names(alloc, functions, code.len())?;
     let mut out = String::new(alloc);
-    for k in 0..code.len() {
-        if let Some(at) = names[k] {
-            push_name(&mut out, name_at(file, at))?;
-        }
-        if labels[k] {
-            let address = address_of(k);
-            write!(out, "L{address:08x}:\n")?;
-        }
+    'instructions: for k in 0..code.len() {
+        push_comment(&mut out, file, names[k], k)?;
+        push_mark(&mut out, k, marks[k])?;
         push_line(&mut out, &code[k])?;
     }
     out.push_str("\n# data\n")?;

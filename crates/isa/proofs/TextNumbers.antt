@@ -46,7 +46,7 @@ first_of q (x ∷ xs) h all = all.0
 pub decimal_first : (n : ℕ) → n < 2 ^ 64 → First digit (decimal_text n)
 decimal_first n small = first_of digit (decimal_text n) (decimal_nonempty n small) (decimal_digits n small)
 
-not_empty : (x : ℕ) (xs : List ℕ) → (length (x ∷ xs) == 0) ≡ false
+pub not_empty : (x : ℕ) (xs : List ℕ) → (length (x ∷ xs) == 0) ≡ false
 not_empty x xs = ne_eqb (length (x ∷ xs)) 0 (λ e. omega arith)
 
 -- a text that begins with a digit begins a number, and has no sign
@@ -141,7 +141,7 @@ signed_half_of n h = elim h [
 
 -- ---- bytes
 
-digit_inner : (b : ℕ) → digit b ≡ true → inner b ≡ true
+pub digit_inner : (b : ℕ) → digit b ≡ true → inner b ≡ true
 digit_inner b h = grind (arith, nat_tests)
 
 part_of_digits : (xs : List ℕ) → First digit xs → Of digit xs → IsPart xs

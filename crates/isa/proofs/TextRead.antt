@@ -1,11 +1,11 @@
 -- An instruction's text is read back as that instruction.
 use Rattle.std.proofs.Common.{◌≡◌, ℕ, zero, suc, Bool, true, false, not, ◌&&◌, ◌==◌, leb, List, [], ◌∷◌, ◌++◌, length, drop, map, replicate, None, Ok, refl, ap, ◌∙◌, sym, arith, inl, inr, eqb-true}
-use Rattle.std.specs.Prelude.{codes}
+use Rattle.std.specs.Prelude.{codes, if◌then◌else◌}
 use Rattle.std.specs.List.{after_first, join_with_byte, prefix_len}
 use Rattle.std.proofs.lemmas.Bool.{and_parts, cases_Bool}
 use Rattle.std.proofs.lemmas.Bool.Decides.{nat_tests}
 use Rattle.std.proofs.lemmas.List.{length-map}
-use Rattle.text.specs.Blank.{is_blank, trim}
+use Rattle.text.specs.Blank.{is_blank, trim, trim_start}
 use Rattle.text.specs.Label.{labels_of, statement_of}
 use Rattle.text.specs.Operand.{operands}
 use Rattle.isa.specs.declared.op.Op.{Op}
@@ -43,7 +43,7 @@ no_data op = refl
 
 -- ---- statements
 
-blank_behind : (word : List ℕ) (parts : List (List ℕ)) → IsPart word → AreParts parts
+pub blank_behind : (word : List ℕ) (parts : List (List ℕ)) → IsPart word → AreParts parts
     → statement (with_operands_text word parts) ≡ with_operands word parts
 unfolding operands
 blank_behind word [] h hs =
@@ -67,13 +67,13 @@ blank_behind word (p ∷ ps) h hs =
 abbrev pub in_code : ℕ → Bool
 in_code b = (leb 32 b && leb b 122) && (not (b == 35) && not (b == 58))
 
-inner_in_code : (b : ℕ) → inner b ≡ true → in_code b ≡ true
+pub inner_in_code : (b : ℕ) → inner b ≡ true → in_code b ≡ true
 inner_in_code b h = grind (arith, nat_tests)
 
-no_comment : (b : ℕ) → in_code b ≡ true → (b == 35) ≡ false
+pub no_comment : (b : ℕ) → in_code b ≡ true → (b == 35) ≡ false
 no_comment b h = grind (arith, nat_tests)
 
-no_colon : (b : ℕ) → in_code b ≡ true → (b == 58) ≡ false
+pub no_colon : (b : ℕ) → in_code b ≡ true → (b == 58) ≡ false
 no_colon b h = grind (arith, nat_tests)
 
 part_in_code : (xs : List ℕ) → IsPart xs → Of in_code xs
@@ -88,7 +88,7 @@ pub record IsCode (text : List ℕ) : Type 0 where
   pub starts : Starts text
   pub ends : Ends text
 
-with_operands_code : (word : List ℕ) (parts : List (List ℕ)) → IsPart word → AreParts parts → IsCode (with_operands_text word parts)
+pub with_operands_code : (word : List ℕ) (parts : List (List ℕ)) → IsPart word → AreParts parts → IsCode (with_operands_text word parts)
 with_operands_code word [] h hs = record { bytes = part_in_code word h; starts = part_starts word h; ends = part_ends word h }
 with_operands_code word (p ∷ ps) h hs = record {
   bytes = of_append in_code word (32 ∷ join_with_byte 44 (p ∷ ps)) (part_in_code word h) (refl, joined_in_code p ps hs.0 hs.1);
@@ -108,6 +108,9 @@ indent_length (suc n) xs h = rw (indent_length n xs h) (omega arith)
 indent_dropped : (n : ℕ) (xs : List ℕ) → drop n (replicate n 32 ++ xs) ≡ xs
 indent_dropped zero xs = refl
 indent_dropped (suc n) xs = indent_dropped n xs
+
+pub start_trimmed : (n : ℕ) (xs : List ℕ) → Starts xs → trim_start (replicate n 32 ++ xs) ≡ xs
+start_trimmed n xs s = rw (indent_length n xs s) (indent_dropped n xs)
 
 pub indent_trimmed : (n : ℕ) (xs : List ℕ) → Starts xs → Ends xs → trim (replicate n 32 ++ xs) ≡ xs
 indent_trimmed n xs s e = rw (indent_length n xs s, indent_dropped n xs) (trim_end_whole xs e)
@@ -133,7 +136,7 @@ code_unlabelled n text h =
 -- ---- instructions
 
 -- what `nop` is read as
-abbrev nothing : Parsed
+abbrev pub nothing : Parsed
 nothing = record { instr = bare Sll; label = None }
 
 nop_read : statement (codes "nop") ≡ gives_code nothing
@@ -176,13 +179,28 @@ module _ (naming : Naming) (i : Instr) (w : IsWritable i) where
     | inr other ↦ rw other whole_code
   ]
 
--- a text that is a statement of this instruction
-code_says : (n : ℕ) (text : List ℕ) (p : Parsed) (i : Instr) → IsCode text → statement text ≡ gives_code p → StandsFor p i → Says (replicate n 32 ++ text) i
-code_says n text p i code is stands =
-    record { parsed = p; is = code_read n text code ∙ is; stands = stands; bare_line = code_unlabelled n text code }
+-- what the text of an instruction is read as
+abbrev pub spoken : Instr → Parsed
+spoken i = if is_nop i then nothing else said_of i
+
+pub text_spoken : (naming : Naming) (i : Instr) → IsWritable i → statement (text_of naming i) ≡ gives_code (spoken i)
+text_spoken naming i w = elim (cases_Bool (is_nop i)) [
+  | inl nop ↦ rw nop nop_read
+  | inr other ↦ rw other (whole_statement naming i w)
+]
+
+pub spoken_stands : (i : Instr) → IsWritable i → StandsFor (spoken i) i
+spoken_stands i w = elim (cases_Bool (is_nop i)) [
+  | inl nop ↦ rw nop (nop_stands i.op i.target i.first i.second i.number nop w)
+  | inr other ↦ rw other w.whole
+]
 
 pub read_back : TextIsReadBack
-read_back naming i indent w = elim (cases_Bool (is_nop i)) [
-  | inl nop ↦ rw nop (code_says indent (codes "nop") nothing i nop_code nop_read (nop_stands i.op i.target i.first i.second i.number nop w))
-  | inr other ↦ rw other (code_says indent _ (said_of i) i (whole_code naming i w) (whole_statement naming i w) w.whole)
-]
+read_back naming i indent w =
+    let code = text_code naming i w in
+    record {
+      parsed = spoken i;
+      is = code_read indent (text_of naming i) code ∙ text_spoken naming i w;
+      stands = spoken_stands i w;
+      bare_line = code_unlabelled indent (text_of naming i) code;
+    }

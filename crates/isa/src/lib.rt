@@ -19,13 +19,13 @@ mod stop;
 pub use config::{BadConfig, Config};
 pub use end::{End, Ending};
 pub use instr::Instr;
-pub use listing::{FaultKind, InstrText, Naming, TextFault, parse, text_is_read_back};
+pub use listing::{FaultKind, InstrText, Label, Naming, TextFault, parse, text_is_read_back};
 pub use memory::Memory;
 pub use op::{Half, Kind, Op};
 pub use predictor::{Bimod, NotTaken, Predictor, Taken};
 pub use program::Program;
 pub use reg::Reg;
-pub use report::{fault_text, report_text};
+pub use report::{Hexadecimal, fault_text, report_text};
 pub use semantics::{loaded, outcome, outcome_of, pc_plus_4};
 pub use stop::{Outcome, Stop};
 

@@ -17,7 +17,7 @@ mod wording;
 
 use crate::{Instr, Program};
 pub use fault::{FaultKind, TextFault};
-pub use instr_text::{InstrText, Naming, text_is_read_back};
+pub use instr_text::{InstrText, Label, Naming, text_is_read_back};
 use labels::{Labels, Name};
 use line::{Target, read_first_line};
 use std::alloc::Global;

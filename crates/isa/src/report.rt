@@ -31,9 +31,9 @@ impl fmt::Display for Ending {
     }
 }
 
-// a word as `0x` and eight hexadecimal digits
+/// A word as `0x` and eight hexadecimal digits.
 #[derive(Clone, Copy)]
-struct Hexadecimal(u32);
+pub struct Hexadecimal(pub u32);
 
 impl fmt::Display for Hexadecimal {
     ghost output = { λ word. Some (hexadecimal word.0) };

@@ -2,3 +2,4 @@ pub mod Each
 pub mod Halves
 pub mod Table
 pub mod Rebuilt
+pub mod Written

@@ -2,6 +2,7 @@
 use Rattle.std.specs.Prelude.{◌≡◌, ℕ, ◌<◌, ◌^◌, Some}
 use Rattle.isa.specs.declared.op.Op.{Op}
 use Rattle.isa.specs.declared.instr.Instr.{Instr}
+use Rattle.isa.specs.InstrText.{IsWritable}
 use Rattle.machine_words.specs.Words.{decode}
 
 -- two words that say one instruction at an address are one word
@@ -21,3 +22,8 @@ pub record HasWord (op : Op) (pc : ℕ) : Type 0 where
 -- so it is of each operation, at each address
 abbrev pub EachOperationHasAWord : Type 0
 EachOperationHasAWord = (op : Op) (pc : ℕ) → HasWord op pc
+
+-- what a word says at an address can be written in a listing
+abbrev pub EachWordIsWritten : Type 0
+EachWordIsWritten =
+    (pc word : ℕ) (i : Instr) → decode pc word ≡ Some i → IsWritable i

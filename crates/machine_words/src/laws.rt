@@ -1,5 +1,5 @@
 //! What holds of every word. Each function is a law: it does nothing, and its contract is proved.
-ghost use Rattle.machine_words.specs.Laws.{OneWordForEachInstruction, EachOperationHasAWord};
+ghost use Rattle.machine_words.specs.Laws.{OneWordForEachInstruction, EachOperationHasAWord, EachWordIsWritten};
 
 /// Two words that say one instruction at an address are one word: no bit of a word is without a
 /// meaning.
@@ -10,4 +10,9 @@ pub fn one_word_for_each_instruction()
 /// Each operation of the language is what some word says.
 pub fn each_operation_has_a_word()
     ensures { EachOperationHasAWord }
+{}
+
+/// What a word says can be written in a listing, and is read back from its text.
+pub fn each_word_is_written()
+    ensures { EachWordIsWritten }
 {}

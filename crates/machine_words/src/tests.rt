@@ -138,3 +138,10 @@ fn no_word_for_what_does_not_fit(rt: HostRuntime) {
         assert_eq!(rt; encode(&wanted, 0x0040_0000), None, "{wanted:?}");
     }
 }
+
+#[test]
+fn laws_are_stated() {
+    one_word_for_each_instruction();
+    each_operation_has_a_word();
+    each_word_is_written();
+}

@@ -59,9 +59,9 @@ impl fmt::Display for Register {
     }
 }
 
-// the label of an address
+/// The label that stands for an address: `L` and its eight hexadecimal digits.
 #[derive(Clone, Copy)]
-struct Label(u32);
+pub struct Label(pub u32);
 
 impl fmt::Display for Label {
     ghost output = { λ label. Some (label_text label.0) };
