@@ -1,7 +1,6 @@
 -- What the predictor is told is what the last tenant of the station did.
 use Rattle.std.proofs.Common.{◌≡◌, ◌≢◌, ℕ, ◌<◌, Bool, ◌&&◌, List, ◌∷◌, ◌++◌, length, Option, Some, None, refl, sym, ap, ◌∙◌, subst}
 use Rattle.std.specs.List.{AllByRecursion}
-use Rattle.isa.specs.Instruction.{pc_plus_4}
 use Rattle.isa.specs.Operations.{outcome_by}
 use Rattle.isa.specs.Programs.{Program}
 use Rattle.isa.specs.declared.op.Kind.{Kind}

@@ -20,11 +20,9 @@ use Rattle.inorder.specs.Legal.{Allowed, applied, changed}
 use Rattle.inorder.specs.Replies.{Has, IsAskedInTime, IsDelivered}
 use Rattle.inorder.specs.Steps.{delivered, linked}
 use Rattle.inorder.specs.Tenants.{IsThere, Tenant, on_path, operand}
-use Rattle.inorder.specs.Unit.{Sizes, UpdateUnit, how_many, next_station, older, recent, value_of, younger}
-use Rattle.inorder.proofs.Basics.{split_at}
+use Rattle.inorder.specs.Unit.{Sizes, UpdateUnit, next_station, older, recent, value_of, younger}
 use Rattle.inorder.proofs.Ends.{Acted, exact}
 use Rattle.inorder.proofs.Histories.{legal_before, starts_longer, unit_sound}
-use Rattle.inorder.proofs.Kept.{parts}
 use Rattle.inorder.proofs.Letting.{IsBesides}
 use Rattle.inorder.proofs.Moves.{came}
 use Rattle.inorder.proofs.Serving.{linked_creator, linked_way}
@@ -53,7 +51,7 @@ use Rattle.station.specs.Wakeup.{CanAnswer, Ends, Finds, HasAskedFrom, HasAskedO
 use Rattle.station.specs.Writeback.{val_word, wait_word}
 use Rattle.station.proofs.Adding.{adds_on, adds_these}
 use Rattle.station.proofs.Carrying.{one_named}
-use Rattle.station.proofs.Seated.{how_many_same, next_stays}
+use Rattle.station.proofs.Seated.{next_stays}
 use Rattle.station.proofs.Writing.{acted}
 use Rattle.inorder.proofs.Recent.{counts_same}
 

@@ -1,5 +1,5 @@
 -- What one call of the front leaves for the next.
-use Rattle.std.proofs.Common.{◌≡◌, ◌≢◌, ◌⊎◌, ℕ, suc, ◌<◌, ◌≤◌, Bool, true, false, List, [], ◌∷◌, ◌++◌, length, Option, Some, None, refl, sym, ap, ◌∙◌, subst, inl, inr, ⊎_elim, arith, append_assoc}
+use Rattle.std.proofs.Common.{◌≡◌, ◌≢◌, ℕ, ◌<◌, ◌≤◌, List, [], ◌∷◌, ◌++◌, length, Option, Some, refl, sym, ap, ◌∙◌, subst, inl, inr, ⊎_elim, arith}
 use mathlib.Core.Logic.{dite}
 use native.Mathlib.Decide.{ℕ_discrete}
 use Rattle.std.specs.List.{AllByRecursion}
@@ -12,16 +12,15 @@ use Rattle.inorder.specs.declared.history.Event.TheVariants.{Does, Marks}
 use Rattle.inorder.specs.declared.history.Mark.TheVariants.{Asked}
 use Rattle.inorder.specs.declared.history.Source.{Source}
 use Rattle.inorder.specs.declared.history.Source.TheVariants.{First, Second}
-use Rattle.inorder.specs.declared.history.Step.TheVariants.{Let, On}
-use Rattle.inorder.specs.declared.history.Supply.{Supply as Way}
+use Rattle.inorder.specs.declared.history.Step.TheVariants.{On}
 use Rattle.inorder.specs.declared.history.Supply.TheVariants.{From as FromCreator}
-use Rattle.inorder.specs.Callers.{CanAsk, IsLastAt, IsMissing}
+use Rattle.inorder.specs.Callers.{IsMissing}
 use Rattle.inorder.specs.History.{Adds, IsLegal, entry, front, own, unit_of}
-use Rattle.inorder.specs.Legal.{Allowed, applied, changed}
+use Rattle.inorder.specs.Legal.{changed}
 use Rattle.inorder.specs.Replies.{Has, last_tag}
 use Rattle.inorder.specs.Steps.{MayComeFrom, MaySupply, let_operand, new_tenant}
-use Rattle.inorder.specs.Tenants.{IsNotLive, Live, Operand, Retired, Squashed, Standing, Tenant, on_path, operand, with_operand}
-use Rattle.inorder.specs.Unit.{Sizes, UpdateUnit, at, creator, next_station, next_tag, older, recent, younger}
+use Rattle.inorder.specs.Tenants.{Live, Operand, Retired, Squashed, Standing, Tenant, on_path, operand, with_operand}
+use Rattle.inorder.specs.Unit.{Sizes, UpdateUnit, at, creator, next_station, next_tag, older, recent}
 use Rattle.inorder.proofs.Creators.{at_cases}
 use Rattle.inorder.proofs.Ends.{miss_stays}
 use Rattle.inorder.proofs.Histories.{legal_before, own-append, own_none, unit_sound}
@@ -29,15 +28,12 @@ use Rattle.inorder.proofs.Moves.{IsActed, IsLeft, at_changed, came, goes}
 use Rattle.inorder.proofs.Positions.{at_below, at_more, at_new, younger_at}
 use Rattle.ruu_words.specs.Kinds.{IsAny, IsTenant}
 use Rattle.ruu_words.proofs.Drafting.{still_let}
-use Rattle.ruu_words.proofs.StationWords.{one_at}
 use Rattle.ruu_words.proofs.Stays.{any_stays, front_stays}
-use Rattle.station.specs.declared.answers.Supply.{Supply as Given}
 use Rattle.station.specs.declared.answers.Supply.TheVariants.{From}
 use Rattle.station.specs.declared.answers.Tenant.{Tenant as NewTenant}
 use Rattle.station.specs.Asking.{IsAsking, IsQuestion, MayAsk}
-use Rattle.station.specs.Following.{ComesFrom, LetsAreAsked, MissesAreRecovered, MissesStaySeen, MissesStaySquashing, QuestionsLeaveOthers, SeesLiveMiss, register, supply}
+use Rattle.station.specs.Following.{LetsAreAsked, MissesAreRecovered, MissesStaySeen, MissesStaySquashing, QuestionsLeaveOthers, register, supply}
 use Rattle.station.specs.Letting.{MayLetOut, let_of, supply_of}
-use Rattle.station.specs.Recovery.{HasMiss, MaySquash}
 use Rattle.station.proofs.Splitting.{LastEvent, last_event}
 use Rattle.station.proofs.Staying.{fronts_stay}
 

@@ -14,12 +14,10 @@ use Rattle.inorder.specs.Callers.{CanMend}
 use Rattle.inorder.specs.History.{Adds, IsLegal, entry, front, own, unit_of}
 use Rattle.inorder.specs.Legal.{Allowed, applied}
 use Rattle.inorder.specs.StationWords.{live_word, station_word, word_of}
-use Rattle.inorder.specs.Steps.{mended, mended_as}
+use Rattle.inorder.specs.Steps.{mended_as}
 use Rattle.inorder.specs.Tenants.{Done, Fate, Live, Miss, Tenant, on_path, stands_on_path}
-use Rattle.inorder.specs.Unit.{Sizes, UpdateUnit, how_many, next_station, older, recent, younger}
-use Rattle.inorder.proofs.Basics.{split_at}
+use Rattle.inorder.specs.Unit.{Sizes, UpdateUnit, next_station, recent}
 use Rattle.inorder.proofs.Ends.{may_mend, mend_stays}
-use Rattle.inorder.proofs.Kept.{parts}
 use Rattle.inorder.proofs.Stations.{mended_station}
 use Rattle.ruu_words.specs.declared.place.Place.TheVariants.{Station}
 use Rattle.ruu_words.specs.declared.rule.Draft.{Draft}
@@ -38,7 +36,7 @@ use Rattle.station.specs.Letting.{IsFronts}
 use Rattle.station.specs.Recovery.{HasMiss, IsMended, Mends, SeesMiss}
 use Rattle.station.specs.Seats.{IsSeated}
 use Rattle.station.proofs.Adding.{adds_on, adds_these}
-use Rattle.station.proofs.Seated.{how_many_same, next_stays}
+use Rattle.station.proofs.Seated.{next_stays}
 use Rattle.inorder.proofs.Recent.{counts_same}
 
 mended_word : (t : Tenant) (k x n : ℕ) (f : Fate) → f ≡ Miss x → t.standing ≡ Live → IsStation (live_word t.tag (Done x)) n → IsStation (word_of k (Some (mended_as t f))) n

@@ -1,15 +1,14 @@
 -- The numbers of seats and of those that are cut from them.
-use Rattle.std.proofs.Common.{◌≡◌, ◌≢◌, ◌⊎◌, ℕ, zero, suc, ◌-◌, ◌+◌, ◌*◌, ◌<◌, ◌≤◌, List, [], sym, refl, ap, ◌∙◌, subst, inl, inr, ⊎_elim, arith}
+use Rattle.std.proofs.Common.{◌≡◌, ◌≢◌, ◌⊎◌, ℕ, zero, suc, ◌-◌, ◌+◌, ◌*◌, ◌<◌, ◌≤◌, [], sym, refl, ap, ◌∙◌, subst, inl, inr, ⊎_elim, arith}
 use mathlib.Core.Logic.{dite}
 use native.Mathlib.Decide.{ℕ_discrete}
-use Rattle.inorder.specs.declared.history.Entry.{Entry}
-use Rattle.inorder.specs.History.{back, front, own}
+use Rattle.inorder.specs.History.{own}
 use Rattle.ruu_words.specs.declared.rule.Draft.TheVariants.{Nothing}
 use Rattle.ruu_words.specs.declared.rule.Heirs.{Heirs}
 use Rattle.ruu_words.specs.declared.rule.Role.{Role}
 use Rattle.ruu_words.specs.declared.rule.Role.TheVariants.{Back, Front, Spent, Start, Worker}
 use Rattle.ruu_words.specs.declared.rule.View.{View}
-use Rattle.ruu_words.specs.Rule.{IsCaller, IsHeir, Unborn, half, nobody, other_half, view, without_first}
+use Rattle.ruu_words.specs.Rule.{IsCaller, IsHeir, Unborn, half, other_half, view}
 use Rattle.ruu_words.proofs.Heirs.{half_of, other_half_of}
 use Rattle.station.specs.Quiet.{SplitsShareNumbers, UnitsAreNumbered}
 use Rattle.station.specs.Seats.{HasHeirs, IsGiver, IsNumbered}

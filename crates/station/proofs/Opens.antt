@@ -1,5 +1,5 @@
 -- A claim of a tenant that is open and ready, where nobody else steps but the back, is a job.
-use Rattle.std.proofs.Common.{◌≡◌, ◌≢◌, ◌⊎◌, ℕ, suc, ◌+◌, ◌<◌, ◌≤◌, Bool, true, false, cond, List, [], ◌∷◌, ◌++◌, map, length, Option, Some, None, refl, sym, ap, ◌∙◌, subst, inl, inr, ⊎_elim, arith, append_assoc, length-append}
+use Rattle.std.proofs.Common.{◌≡◌, ◌≢◌, ℕ, ◌<◌, List, [], ◌∷◌, ◌++◌, length, Some, None, refl, sym, ap, ◌∙◌, subst, ⊎_elim, arith, append_assoc, length-append}
 use mathlib.Core.Logic.{dite}
 use native.Mathlib.Decide.{ℕ_discrete}
 use Rattle.std.proofs.lemmas.Bool.{cases_lt}
@@ -17,7 +17,7 @@ use Rattle.inorder.specs.declared.history.Source.TheVariants.{First, Second}
 use Rattle.inorder.specs.declared.history.Step.{Step}
 use Rattle.inorder.specs.declared.history.Step.TheVariants.{Let, On, Renew}
 use Rattle.inorder.specs.Callers.{IsReady}
-use Rattle.inorder.specs.History.{Adds, IsLegal, IsTheirAct, IsTheirs, IsUnit, MayAdd, StartsWith, back, entry, front, own, taken_of, unit_of}
+use Rattle.inorder.specs.History.{IsLegal, IsTheirAct, IsTheirs, IsUnit, MayAdd, StartsWith, back, entry, front, own, taken_of, unit_of}
 use Rattle.inorder.specs.Legal.{Allowed, May, applied, changed}
 use Rattle.inorder.specs.Replies.{Has, HasMoved as Gone, IsNamed, IsOpen, IsWaiting, JobFields, job_of}
 use Rattle.inorder.specs.Steps.{CanRetire, let_operand, new_tenant}
@@ -26,7 +26,6 @@ use Rattle.inorder.specs.Unit.{at, creator, front_half, front_pc, next_station, 
 use Rattle.inorder.proofs.Histories.{allowed_steps, legal_before, no_length, own-append, own_none, unit_lasts, unit_sound}
 use Rattle.inorder.proofs.Moves.{Goes, IsActed, IsLeft, at_changed, goes}
 use Rattle.inorder.proofs.Positions.{at_new, younger_at}
-use Rattle.inorder.proofs.Sound.{IsSound}
 use Rattle.inorder.proofs.Stations.{is_ring, stands}
 use Rattle.ruu_words.specs.Kinds.{IsAny, IsTenant}
 use Rattle.ruu_words.proofs.StationWords.{one_at}
@@ -36,10 +35,10 @@ use Rattle.station.specs.declared.answers.Claim.{Claim as Answer}
 use Rattle.station.specs.declared.answers.Claim.TheVariants.{Job as Claimed, Moved, NotOpen, Waiting}
 use Rattle.station.specs.declared.answers.Job.{Job}
 use Rattle.station.specs.declared.answers.Tenant.{Tenant as NewTenant}
-use Rattle.station.specs.Claiming.{ClaimAnswers, IsClaimed, IsRefused, fields_of}
-use Rattle.station.specs.Letting.{MayLetOut, let_of, supply_of}
+use Rattle.station.specs.Claiming.{ClaimAnswers, IsClaimed, fields_of}
+use Rattle.station.specs.Letting.{let_of, supply_of}
 use Rattle.station.specs.Moments.{WasOpenOnce}
-use Rattle.station.specs.Quiet.{ClaimsGiveJobs, IsClaimable, IsJobOf, IsLetAs, IsOut, IsQuiet, IsStill, LetsAreOut, ReadyTenantsStay}
+use Rattle.station.specs.Quiet.{ClaimsGiveJobs, IsClaimable, IsJobOf, IsLetAs, IsQuiet, IsStill, LetsAreOut, ReadyTenantsStay}
 use Rattle.station.proofs.Holding.{fields_stay}
 use Rattle.station.proofs.Splitting.{LastEvent, last_event, own_else, own_here}
 use Rattle.inorder.proofs.Recent.{live_is_last, old_are_gone}
