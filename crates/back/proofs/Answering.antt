@@ -13,17 +13,15 @@ use Rattle.inorder.specs.declared.history.Entry.{Entry}
 use Rattle.inorder.specs.declared.history.Source.TheVariants.{Second}
 use Rattle.inorder.specs.Callers.{CanLoad, head_station}
 use Rattle.inorder.specs.Committed.{committed}
-use Rattle.inorder.specs.History.{Adds, back, taken_of, unit_of}
-use Rattle.inorder.specs.Laws.{IsRing}
+use Rattle.inorder.specs.History.{Adds, back, unit_of}
 use Rattle.inorder.specs.Replies.{Has, IsStale}
 use Rattle.inorder.specs.Tenants.{Live, Tenant, instr, operand}
 use Rattle.inorder.specs.Unit.{Sizes, UpdateUnit, at}
 use Rattle.inorder.proofs.Commits.{by_others}
 use Rattle.inorder.proofs.Heads.{head_stays}
-use Rattle.inorder.proofs.Histories.{allowed_steps, unit_sound}
+use Rattle.inorder.proofs.Histories.{unit_sound}
 use Rattle.inorder.proofs.Positions.{at_below}
 use Rattle.inorder.proofs.Sound.{IsSound}
-use Rattle.inorder.proofs.Stations.{is_ring, stands}
 use Rattle.ruu_words.specs.Content.{operand_value}
 use Rattle.ruu_words.proofs.Stays.{back_stays}
 use Rattle.station.specs.Looking.{ShowsOperand, source_state}

@@ -12,7 +12,6 @@ use Rattle.lsq.specs.Entries.{bytes}
 use Rattle.lsq.specs.LoadRule.{answer, lacks_address, overlaps, taken_from, youngest}
 use Rattle.inorder.specs.Callers.{CanLoad, head_station}
 use Rattle.inorder.specs.Committed.{committed}
-use Rattle.inorder.specs.Laws.{IsRing}
 use Rattle.inorder.specs.Loads.{access_width, address_by, content_by, entry_of, is_store, place_of, queue_of}
 use Rattle.inorder.specs.Memory.{raw, raw_at}
 use Rattle.inorder.specs.Replies.{Has}

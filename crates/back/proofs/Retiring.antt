@@ -22,7 +22,6 @@ use Rattle.inorder.proofs.Commits.{by_retire, not_complete, over, over_ahead}
 use Rattle.inorder.proofs.Grows.{sound_mid}
 use Rattle.inorder.proofs.Halves.{first_low, none_waits, waits}
 use Rattle.inorder.proofs.InOrderStep.{is_pair_here, pair_goes_on}
-use Rattle.inorder.proofs.Kept.{parts}
 use Rattle.inorder.proofs.Moves.{IsActed, IsLeft, at_changed, came}
 use Rattle.inorder.proofs.SettledRegisters.{ahead_if, committed_if, committed_pc, same_rest}
 use Rattle.inorder.proofs.Sound.{FateIs, IsInPlace, IsSettled, IsSound, IsSoundAt, SettledBy}

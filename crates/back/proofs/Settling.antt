@@ -20,13 +20,13 @@ use Rattle.inorder.specs.Legal.{Allowed, May, applied, changed}
 use Rattle.inorder.specs.Memory.{load_value}
 use Rattle.inorder.specs.Replies.{Has, IsNamed, IsStale}
 use Rattle.inorder.specs.Tenants.{Done, Live, Squashed, Tenant}
-use Rattle.inorder.specs.Unit.{Sizes, UpdateUnit, older, recent, younger}
+use Rattle.inorder.specs.Unit.{Sizes, UpdateUnit, older, younger}
 use Rattle.inorder.proofs.Ends.{Acted, IsNotBacks, exact}
 use Rattle.inorder.proofs.Histories.{adds_on, allowed_steps, legal_before, unit_lasts}
 use Rattle.inorder.proofs.Loading.{gone_stays, load_stays}
 use Rattle.inorder.proofs.Moves.{IsActed, IsLeft, at_changed}
 use Rattle.inorder.proofs.Sound.{IsSound}
-use Rattle.inorder.proofs.Tags.{names_one, tagged}
+use Rattle.inorder.proofs.Tags.{tagged}
 use Rattle.ruu_words.specs.Kinds.{IsTenant}
 use Rattle.ruu_words.proofs.Stays.{any_stays, back_stays}
 use Rattle.station.specs.Moments.{WasOnce}

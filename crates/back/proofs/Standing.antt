@@ -5,13 +5,11 @@ use Rattle.isa.specs.Programs.{Program}
 use Rattle.inorder.specs.declared.history.Entry.{Entry}
 use Rattle.inorder.specs.declared.history.Event.{Event}
 use Rattle.inorder.specs.Callers.{head_station}
-use Rattle.inorder.specs.History.{Adds, IsLegal, StartsWith, back, taken_of, unit_of}
-use Rattle.inorder.specs.Laws.{IsRing}
+use Rattle.inorder.specs.History.{Adds, IsLegal, StartsWith, back, unit_of}
 use Rattle.inorder.specs.Replies.{Has}
 use Rattle.inorder.specs.Tenants.{Live, Tenant}
 use Rattle.inorder.specs.Unit.{Sizes, UpdateUnit, at}
-use Rattle.inorder.proofs.Histories.{allowed_steps, legal_before, unit_sound}
-use Rattle.inorder.proofs.Stations.{is_ring, stands}
+use Rattle.inorder.proofs.Histories.{legal_before, unit_sound}
 use Rattle.ruu_words.proofs.Stays.{tenant_stays}
 use Rattle.station.specs.Moments.{WasOnce}
 use Rattle.back.specs.Loads.{IsLiveLoad, WasNotWaiting}

@@ -21,9 +21,8 @@ use Rattle.inorder.proofs.Histories.{allowed_steps, starts_longer, starts_same, 
 use Rattle.inorder.proofs.InOrderStep.{load_in}
 use Rattle.inorder.proofs.Positions.{at_below, at_there, younger_at}
 use Rattle.inorder.proofs.Sound.{FateIs, IsSound}
-use Rattle.inorder.proofs.Stations.{is_ring, stands}
 use Rattle.inorder.proofs.StationsShown.{stations_follow}
-use Rattle.inorder.proofs.Tags.{names_one, tagged}
+use Rattle.inorder.proofs.Tags.{tagged}
 use Rattle.ruu_words.specs.declared.station.StationState.{StationState}
 use Rattle.ruu_words.specs.Content.{HasValue, code}
 use Rattle.ruu_words.specs.States.{state_code}

@@ -22,15 +22,12 @@ use Rattle.inorder.specs.Machine.{State}
 use Rattle.inorder.specs.Replies.{Has}
 use Rattle.inorder.specs.Steps.{IsNoRetiredStop}
 use Rattle.inorder.specs.Tenants.{Live, Retired, Tenant}
-use Rattle.inorder.specs.Unit.{Sizes, UpdateUnit, how_many, older, younger}
+use Rattle.inorder.specs.Unit.{Sizes, UpdateUnit, older, younger}
 use Rattle.inorder.proofs.AheadKept.{ahead_by_others}
-use Rattle.inorder.proofs.Basics.{split_at}
 use Rattle.inorder.proofs.Commits.{by_others}
 use Rattle.inorder.proofs.Ends.{Acted, IsNotBacks, exact}
 use Rattle.inorder.proofs.Heads.{goes_on_stays, head_stays}
 use Rattle.inorder.proofs.Histories.{legal_before, unit_sound}
-use Rattle.inorder.proofs.Kept.{parts}
-use Rattle.inorder.proofs.Letting.{how_many_same}
 use Rattle.inorder.proofs.Moves.{IsActed, IsLeft, at_changed, came}
 use Rattle.inorder.proofs.Sound.{IsSound}
 use Rattle.ruu_words.proofs.Stays.{not_backs}

@@ -6,15 +6,13 @@ use Rattle.isa.specs.declared.instr.Instr.{Instr}
 use Rattle.inorder.specs.declared.history.Entry.{Entry}
 use Rattle.inorder.specs.declared.history.Step.TheVariants.{Let, On, Renew}
 use Rattle.inorder.specs.History.{Adds, front, unit_of}
-use Rattle.inorder.specs.Legal.{applied, changed}
+use Rattle.inorder.specs.Legal.{applied}
 use Rattle.inorder.specs.Replies.{HasNoInstr, IsFull, IsQueueFull, IsSpent, last_tag}
 use Rattle.inorder.specs.Tenants.{Tenant}
-use Rattle.inorder.specs.Unit.{Sizes, how_many, next_station, next_tag, older, recent, tag_after, younger}
-use Rattle.inorder.proofs.Basics.{split_at}
 use Rattle.inorder.proofs.Histories.{adds_on}
-use Rattle.inorder.proofs.Kept.{parts}
+use Rattle.inorder.specs.Unit.{Sizes, next_station, next_tag, older, recent, tag_after}
 use Rattle.inorder.proofs.Moves.{goes}
-use Rattle.inorder.proofs.Tags.{count_same, same_place}
+use Rattle.inorder.proofs.Tags.{same_place}
 use Rattle.ruu_words.specs.declared.station.StationState.{StationState}
 use Rattle.ruu_words.specs.declared.station.StationState.TheVariants.{Free}
 use Rattle.ruu_words.specs.Content.{HasValue}

@@ -11,11 +11,10 @@ use Rattle.inorder.specs.Replies.{IsFull}
 use Rattle.inorder.specs.StationWords.{IsFree, StationWord, last_of, left_value, station_word, word_by, word_of}
 use Rattle.inorder.specs.Steps.{new_tenant}
 use Rattle.inorder.specs.Tenants.{Live, Retired, Squashed, Standing, Tenant, is_live, on_path, stands_live, stands_on_path}
-use Rattle.inorder.specs.Unit.{Sizes, UpdateUnit, at, how_many, next_station, next_tag, older, recent, younger}
-use Rattle.inorder.proofs.Basics.{split_at}
+use Rattle.inorder.specs.Unit.{Sizes, UpdateUnit, at, how_many, next_station, next_tag, recent}
 use Rattle.inorder.proofs.Creators.{at_cases}
 use Rattle.inorder.proofs.Histories.{unit_sound}
-use Rattle.inorder.proofs.Positions.{all_at, at_below, at_more, at_new, younger_from}
+use Rattle.inorder.proofs.Positions.{all_at, at_below, at_more, at_new}
 use Rattle.inorder.proofs.Stations.{IsElsewhere, all_elsewhere, settling}
 use Rattle.ruu_words.specs.declared.station.StationState.{StationState}
 use Rattle.ruu_words.specs.declared.station.StationState.TheVariants.{Free}

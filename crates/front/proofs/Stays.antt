@@ -1,5 +1,5 @@
 -- What the front knows stays true under the steps of others, and under links and deliveries of its own.
-use Rattle.std.proofs.Common.{◌≡◌, ℕ, ◌%◌, List, length, sym, ap, ◌∙◌, subst, inl, inr, ⊎_elim}
+use Rattle.std.proofs.Common.{◌≡◌, ℕ, ◌%◌, List, sym, ap, ◌∙◌, subst, inl, inr, ⊎_elim}
 use Rattle.std.specs.Prelude.{slice_index, is_none}
 use Rattle.isa.specs.Instruction.{destination, fixed_next, is_first_half, kind}
 use Rattle.isa.specs.Programs.{Program, instr_of}
@@ -23,7 +23,7 @@ use Rattle.front.specs.Trail.{Note, is_link, record_of, trail}
 use Rattle.front.proofs.Acts.{still_gone, still_newest, still_reused, still_value}
 use Rattle.front.proofs.Lists.{all_map}
 use Rattle.front.proofs.Splitting.{IsStable}
-use Rattle.front.proofs.Trails.{trail_length, trail_same}
+use Rattle.front.proofs.Trails.{trail_same}
 use Rattle.inorder.proofs.Recent.{counts_same}
 
 -- acts that leave the path as it is

@@ -18,7 +18,6 @@ use Rattle.inorder.proofs.Basics.{split_at}
 use Rattle.inorder.proofs.Creators.{at_cases}
 use Rattle.inorder.proofs.Ends.{Acted, IsNotBacks, IsNotBacksAct, exact, oldest_live, retired_on, still_oldest}
 use Rattle.inorder.proofs.Grows.{all_mid}
-use Rattle.inorder.proofs.Kept.{parts}
 use Rattle.inorder.proofs.Moves.{came, goes}
 use Rattle.inorder.proofs.Positions.{all_at, at_below, at_more, at_new, older_from}
 use Rattle.inorder.proofs.Sound.{IsSettled, IsSound, SettledBy}

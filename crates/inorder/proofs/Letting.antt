@@ -21,7 +21,6 @@ use Rattle.inorder.proofs.Kept.{claim_grows, deliver_grows, finish_grows, load_m
 use Rattle.inorder.proofs.Moves.{Forward, changed_goes, goes_at}
 use Rattle.inorder.proofs.Tags.{IsNewPlace, IsOldPlace, cut}
 use Rattle.inorder.proofs.Sound.{IsSound, IsSoundAt}
-use Rattle.inorder.proofs.Tags.{count_same}
 
 -- the acts of others than the front
 abbrev pub IsBesidesAct : Act → Type 0

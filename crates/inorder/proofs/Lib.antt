@@ -34,6 +34,7 @@ pub mod Creators
 pub mod Loading
 pub mod Histories
 pub mod Recent
+pub mod Renewing
 pub mod Examples
 mod LoopRun
 mod WrongPathRun
@@ -42,6 +43,7 @@ mod ReletRun
 mod DeadLinkRun
 mod TurnsRun
 mod PairRun
+mod RenewRun
 mod Refused
 pub mod SharedRun
 mod SharedWakes

@@ -19,10 +19,10 @@ use Rattle.inorder.proofs.Examples.{done_not_stop, less, retired_not_live, taken
 
 -- ---- in order
 
-abbrev instr : Op → (target first second number : ℕ) → Instr
+abbrev pub instr : Op → (target first second number : ℕ) → Instr
 instr op target first second number = record { op = op; target = target; first = first; second = second; number = number }
 
-abbrev program : List Instr → Program
+abbrev pub program : List Instr → Program
 program code = record { code = code; bytes = [] }
 
 -- addiu $1,$0,-6 / addiu $2,$0,4 / mult $1,$2 / mflo $3 / mfhi $4 / break

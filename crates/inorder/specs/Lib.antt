@@ -8,6 +8,7 @@ pub mod Steps
 pub mod Legal
 pub mod Theorem
 pub mod Laws
+pub mod Renewals
 pub mod StationWords
 pub mod OperandWords
 pub mod Fates

@@ -14,6 +14,8 @@ ghost use Rattle.inorder.specs.declared.history.Entry.{Entry};
 ghost use Rattle.inorder.specs.History.{IsLegal};
 ghost use Rattle.inorder.specs.Wakes.{AreMarked, LosesNoWake};
 ghost use Rattle.inorder.specs.Loads.{LoadsAreAnswered};
+ghost use Rattle.inorder.specs.Legal.{reached};
+ghost use Rattle.inorder.specs.Renewals.{BeginsAgain, IsKnownOfBefore, PastIsPast, StopIsNotRenewed};
 ghost use Rattle.inorder.specs.Answered.{FinishIsAnswered, ClaimIsAnswered, RetirementIsAnswered};
 
 /// Whatever steps were taken, what the unit has committed is the state of the in-order machine
@@ -28,9 +30,31 @@ pub fn ring_is_right()
     ensures { (p : Program) (c : Sizes) (history : List Taken) → StandsRight p c history }
 {}
 
-/// A station and a tag name one tenant of all that were ever let.
+/// A station and a tag name one tenant of those let since the last renewal.
 pub fn a_tag_names_one_tenant()
     ensures { (p : Program) (c : Sizes) (history : List Taken) → NamesOne p c history }
+{}
+
+/// A renewal changes no tenant, and all stations begin again with first tags.
+pub fn a_renewal_begins_again()
+    ensures { (p : Program) (c : Sizes) (history : List Taken) (by : ℕ) →
+        BeginsAgain p c (reached p c history) by }
+{}
+
+/// Who was let before the last renewal has left, and a station and a tag name one tenant since it.
+pub fn what_is_past_is_past()
+    ensures { (p : Program) (c : Sizes) (history : List Taken) → PastIsPast p c history }
+{}
+
+/// Behind a stop that has retired nothing is renewed.
+pub fn a_retired_stop_is_not_renewed()
+    ensures { (p : Program) (c : Sizes) (history : List Taken) → StopIsNotRenewed p c history }
+{}
+
+/// No source of a new tenant waits for one that was let before the last renewal.
+pub fn a_value_of_before_is_known()
+    ensures { (p : Program) (c : Sizes) (history : List Taken) (by : ℕ) →
+        IsKnownOfBefore p c (reached p c history) by }
 {}
 
 /// A retirement commits its tenant, unless that is a stop; the write of a first half waits, and is

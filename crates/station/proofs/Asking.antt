@@ -20,12 +20,10 @@ use Rattle.inorder.specs.Legal.{Allowed, applied, changed}
 use Rattle.inorder.specs.Replies.{Has, IsAskedInTime, IsDelivered}
 use Rattle.inorder.specs.Steps.{delivered, linked}
 use Rattle.inorder.specs.Tenants.{IsThere, Tenant, on_path, operand}
-use Rattle.inorder.specs.Unit.{Sizes, UpdateUnit, how_many, next_station, older, recent, value_of, younger}
-use Rattle.inorder.proofs.Basics.{split_at}
+use Rattle.inorder.specs.Unit.{Sizes, UpdateUnit, next_station, older, recent, value_of, younger}
 use Rattle.inorder.proofs.Ends.{Acted, exact}
 use Rattle.inorder.proofs.Histories.{adds_on, legal_before, starts_longer, unit_sound}
-use Rattle.inorder.proofs.Kept.{parts}
-use Rattle.inorder.proofs.Letting.{IsBesides, how_many_same}
+use Rattle.inorder.proofs.Letting.{IsBesides}
 use Rattle.inorder.proofs.Moves.{came}
 use Rattle.inorder.proofs.Serving.{linked_creator, linked_way}
 use Rattle.ruu_words.specs.declared.place.Place.{Place}

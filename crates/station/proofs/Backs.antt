@@ -16,14 +16,13 @@ use Rattle.inorder.specs.Laws.{IsNoRetire}
 use Rattle.inorder.specs.Legal.{Allowed, applied, changed}
 use Rattle.inorder.specs.Steps.{IsNoRetiredStop}
 use Rattle.inorder.specs.Tenants.{Live, Tenant}
-use Rattle.inorder.specs.Unit.{Sizes, UpdateUnit, how_many, older, younger}
+use Rattle.inorder.specs.Unit.{Sizes, UpdateUnit, older, younger}
 use Rattle.inorder.proofs.Basics.{split_at}
 use Rattle.inorder.proofs.Ends.{IsNotBacks}
 use Rattle.inorder.proofs.Grows.{all_grows}
 use Rattle.inorder.proofs.Heads.{goes_on_stays, head_stays, over_stays}
 use Rattle.inorder.proofs.Histories.{own-append, unit_sound}
 use Rattle.inorder.proofs.Kept.{parts}
-use Rattle.inorder.proofs.Letting.{how_many_same}
 use Rattle.inorder.proofs.Positions.{all_at, all_from}
 use Rattle.inorder.proofs.Sound.{IsSound}
 use Rattle.ruu_words.specs.declared.rule.Role.TheVariants.{Back}

@@ -18,7 +18,7 @@ use Rattle.inorder.specs.declared.history.Source.TheVariants.{First, Second}
 use Rattle.inorder.specs.declared.history.Step.{Step}
 use Rattle.inorder.specs.declared.history.Step.TheVariants.{Let, On, Renew}
 use Rattle.inorder.specs.Callers.{IsHeld, IsReady}
-use Rattle.inorder.specs.History.{Adds, IsLegal, MayAdd, entry, own, unit_of}
+use Rattle.inorder.specs.History.{Adds, entry, front, IsLegal, MayAdd, own, unit_of}
 use Rattle.inorder.specs.Legal.{Allowed, May, applied, changed}
 use Rattle.inorder.specs.Replies.{Has, JobFields, job_of, needed}
 use Rattle.inorder.specs.Steps.{CanRetire, new_tenant}
@@ -26,7 +26,7 @@ use Rattle.inorder.specs.Tenants.{Tenant, kind_of, missing_of, needs, operand_va
 use Rattle.inorder.specs.Unit.{Sizes, UpdateUnit, at, older, younger}
 use Rattle.inorder.proofs.Histories.{own-append, unit_lasts, unit_sound}
 use Rattle.inorder.proofs.Moves.{Goes, IsActed, IsLeft, at_changed, goes}
-use Rattle.inorder.proofs.Positions.{at_more}
+use Rattle.inorder.proofs.Positions.{at_below, at_more}
 use Rattle.inorder.proofs.Sound.{IsSound}
 use Rattle.ruu_words.proofs.Stays.{ready_stays}
 use Rattle.station.specs.declared.answers.Finish.{Finish as FinishAnswer}
@@ -38,6 +38,8 @@ use Rattle.station.specs.Claiming.{ClaimAnswers, Holds, IsJob, fields_of}
 use Rattle.station.specs.Laws.{AreTwo, IsNoFinish}
 use Rattle.station.specs.Writeback.{FinishAnswers, IsCarried, IsDeliveryOf}
 use Rattle.station.proofs.Carrying.{all_append}
+use Rattle.inorder.proofs.Recent.{none_old}
+use Rattle.inorder.proofs.Renewing.{begins_again}
 
 -- What a job says stays
 
@@ -152,6 +154,7 @@ module _ (P : Program) (C : Sizes) (by : ℕ) where
       record {
         p = h.p;
         tenant = subst (λ z. IsHeldAs (fields_of j) h.p (unit_of P C z)) (sym a.begins.is) (job_lasts (fields_of j) h.p more old (subst (IsLegal P C) a.begins.is a.legal) all h.tenant);
+        new = none_old P C new a.legal h.p;
       }
 
   -- so behind a look or a meeting
@@ -204,3 +207,14 @@ module _ (P : Program) (C : Sizes) (by : ℕ) where
           (λ U b s a ok x. let g = goes P C U b s a ok p x.tenant x.is in record { tenant = g.tenant; is = g.is; fact = (g.goes.station ∙ x.fact.0, g.goes.tag ∙ x.fact.1) })
           more old (subst (IsLegal P C) is legal) (record { tenant = t; is = at_p; fact = (refl, refl) }))
   holds_finished old new done WasStale j h other a = holds_on old new _ j h a.adds ((λ e. cc e), tt)
+
+-- Behind a renewal nobody holds a job
+pub none_held : (P : Program) (C : Sizes) (by : ℕ) (seen : List Entry) (j : Job) → ¬ Holds P C by (entry front (Does Renew) ∷ seen) j
+none_held P C by seen j h =
+    let U = unit_of P C seen in
+    let below = at_below U.tenants h.p h.tenant.tenant h.tenant.is in
+    let old = (begins_again P C U front).before h.p below in
+    no_both (sym old ∙ h.new)
+  where
+    no_both : true ≡ false → ⊥
+    no_both e = cc e

@@ -14,14 +14,11 @@ use Rattle.inorder.specs.Callers.{CanMend}
 use Rattle.inorder.specs.History.{Adds, IsLegal, entry, front, own, unit_of}
 use Rattle.inorder.specs.Legal.{Allowed, applied}
 use Rattle.inorder.specs.StationWords.{live_word, station_word, word_of}
-use Rattle.inorder.specs.Steps.{mended, mended_as}
+use Rattle.inorder.specs.Steps.{mended_as}
 use Rattle.inorder.specs.Tenants.{Done, Fate, Live, Miss, Tenant, on_path, stands_on_path}
-use Rattle.inorder.specs.Unit.{Sizes, UpdateUnit, how_many, next_station, older, recent, younger}
-use Rattle.inorder.proofs.Basics.{split_at}
+use Rattle.inorder.specs.Unit.{Sizes, UpdateUnit, next_station, recent}
 use Rattle.inorder.proofs.Ends.{may_mend, mend_stays}
 use Rattle.inorder.proofs.Histories.{adds_on}
-use Rattle.inorder.proofs.Kept.{parts}
-use Rattle.inorder.proofs.Letting.{how_many_same}
 use Rattle.inorder.proofs.Stations.{mended_station}
 use Rattle.ruu_words.specs.declared.place.Place.TheVariants.{Station}
 use Rattle.ruu_words.specs.declared.rule.Draft.{Draft}

@@ -43,6 +43,7 @@ use Rattle.station.specs.Claiming.{ClaimAnswers, HasSeen, HasSource, IsClaimed, 
 use Rattle.station.specs.Moments.{WasOpenOnce}
 use Rattle.station.proofs.Adding.{adds_these}
 use Rattle.station.proofs.LettingOut.{adds_none}
+use Rattle.inorder.proofs.Recent.{none_old}
 
 abbrev Stable : (Tenant → Type 0) → Type 0
 Stable Fact = (by : ℕ) (step : Step) (t t' : Tenant) → Goes by step t t' → Fact t → Fact t'
@@ -366,7 +367,7 @@ module _ (P : Program) (C : Sizes) where
           let has : Has (applied P C (U h) by e) f.p (IsJob P by (fields_of j)) = record { tenant = now; is = at_p; fact = record { held = record { fate = refl; stays = inl f.tenant.fact.live }; ready = is_ready t fact; fields_are = job_fields t j fact pc f.tenant.station_is f.tenant.tag_is js jg ji jd jx ja jb } } in
           record {
             station = js;
-            holds = record { p = f.p; tenant = subst (λ z. Has (U z) f.p (IsJob P by (fields_of j))) (sym seen) has };
+            holds = record { p = f.p; tenant = subst (λ z. Has (U z) f.p (IsJob P by (fields_of j))) (sym seen) has; new = none_old P C w.seen y.legal f.p };
             adds = adds_on P C by old v.seen w.seen [] (Does e ∷ []) r.adds (adds_these P C by v w (Claims P C s g word n) (Does e ∷ []) y f.added);
           })
           (λ other. absurd (other.0 hit))

@@ -5,13 +5,12 @@ use Rattle.isa.specs.Programs.{Program}
 use Rattle.inorder.specs.declared.history.Step.{Step}
 use Rattle.inorder.specs.declared.history.Step.TheVariants.{Let, On, Renew}
 use Rattle.inorder.specs.History.{IsLegal, entry, front, own, unit_of}
-use Rattle.inorder.specs.Legal.{Allowed, applied, changed}
-use Rattle.inorder.specs.Tenants.{on_path}
-use Rattle.inorder.specs.Unit.{Sizes, UpdateUnit, how_many, next_station, older, recent, younger}
 use Rattle.inorder.proofs.Basics.{split_at}
 use Rattle.inorder.proofs.Grows.{sound_mid}
-use Rattle.inorder.proofs.Kept.{parts}
-use Rattle.inorder.proofs.Letting.{IsBesides, besides_grows, how_many_same}
+use Rattle.inorder.proofs.Letting.{IsBesides, besides_grows}
+use Rattle.inorder.specs.Legal.{Allowed, applied}
+use Rattle.inorder.specs.Tenants.{on_path}
+use Rattle.inorder.specs.Unit.{Sizes, UpdateUnit, next_station, older, recent, younger}
 use Rattle.inorder.proofs.Sound.{IsSound}
 use Rattle.ruu_words.specs.declared.place.Place.{Place}
 use Rattle.ruu_words.specs.declared.rule.Role.{Role}

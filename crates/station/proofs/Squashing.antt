@@ -24,7 +24,6 @@ use Rattle.inorder.proofs.Basics.{split_at}
 use Rattle.inorder.proofs.Ends.{may_squash, squash_stays}
 use Rattle.inorder.proofs.Grows.{all_mid}
 use Rattle.inorder.proofs.Histories.{adds_on, allowed_steps, unit_sound}
-use Rattle.inorder.proofs.Kept.{parts}
 use Rattle.inorder.proofs.Serving.{are_small}
 use Rattle.inorder.proofs.Sound.{IsSettled, IsSound, SettledBy}
 use Rattle.inorder.proofs.Stations.{is_ring, stands}

@@ -15,7 +15,7 @@ use Rattle.inorder.specs.History.{Adds, WasOpen, unit_of}
 use Rattle.inorder.specs.Replies.{Has, IsNamed, IsOpen, JobFields, job_of}
 use Rattle.inorder.specs.StationWords.{live_word}
 use Rattle.inorder.specs.Tenants.{Busy, IsThere, Tenant, kind_of, needs, operand}
-use Rattle.inorder.specs.Unit.{Sizes}
+use Rattle.inorder.specs.Unit.{is_old, Sizes}
 use Rattle.ruu_words.specs.Content.{IsStation}
 use Rattle.ruu_words.specs.Fields.{state_of, tag_of, value_of}
 use Rattle.ruu_words.specs.Kinds.{IsTenant}
@@ -55,10 +55,11 @@ pub record IsJob (P : Program) (by : ℕ) (fields : JobFields) (t : Tenant) : Ty
   pub ready : IsReady P t
   pub fields_are : job_of P t ≡ fields
 
--- In what the caller has seen it holds this job
+-- In what the caller has seen it holds this job, of a tenant let since the last renewal
 pub record Holds (P : Program) (C : Sizes) (by : ℕ) (seen : List Entry) (j : Job) : Type 0 where
   pub p : ℕ
   pub tenant : Has (unit_of P C seen) p (IsJob P by (fields_of j))
+  pub new : is_old (unit_of P C seen) p ≡ false
 
 -- The tenant was claimed
 pub record IsClaimed (P : Program) (C : Sizes) (by : ℕ) (old new : List Entry) (s : ℕ) (j : Job) : Type 0 where

@@ -1,5 +1,5 @@
 -- What stays true between the calls of one caller.
-use Rattle.std.specs.Prelude.{◌≢◌, ◌⊎◌, ℕ, ◌<◌, List, [], length}
+use Rattle.std.specs.Prelude.{◌≢◌, ◌⊎◌, ℕ, ◌<◌, List, [], ◌∷◌, length}
 use Rattle.std.specs.List.{AllByRecursion}
 use Rattle.isa.specs.Programs.{Program}
 use Rattle.inorder.specs.declared.history.Act.TheVariants.{Finish as FinishIt}
@@ -7,8 +7,8 @@ use Rattle.inorder.specs.declared.history.Entry.{Entry}
 use Rattle.inorder.specs.declared.history.Event.{Event}
 use Rattle.inorder.specs.declared.history.Event.TheVariants.{Does}
 use Rattle.inorder.specs.declared.history.Source.{Source}
-use Rattle.inorder.specs.declared.history.Step.TheVariants.{On}
-use Rattle.inorder.specs.History.{Adds, IsLegal, back, front, unit_of}
+use Rattle.inorder.specs.declared.history.Step.TheVariants.{On, Renew}
+use Rattle.inorder.specs.History.{Adds, back, entry, front, IsLegal, unit_of}
 use Rattle.inorder.specs.Unit.{Sizes}
 use Rattle.station.specs.declared.answers.Claim.{Claim}
 use Rattle.station.specs.declared.answers.Finish.{Finish}
@@ -51,6 +51,12 @@ abbrev pub JobsStayFinishing : Type 0
 JobsStayFinishing =
     (P : Program) (C : Sizes) (by : ℕ) (old new : List Entry) (other : Job) (answer : Finish) (j : Job) →
     Holds P C by old j → AreTwo j other → FinishAnswers P C by old new other answer → Holds P C by new j
+
+-- Behind a renewal nobody holds a job of before: stations and tags name other tenants
+abbrev pub JobsEndAtARenewal : Type 0
+JobsEndAtARenewal =
+    (P : Program) (C : Sizes) (by : ℕ) (seen : List Entry) (j : Job) →
+    ¬ Holds P C by (entry front (Does Renew) ∷ seen) j
 
 -- What the front might do it still may, where it has only looked and met since
 pub record FrontMays (P : Program) (C : Sizes) (old new : List Entry) : Type 0 where

@@ -4,7 +4,7 @@ ghost use Rattle.inorder.specs.History.{IsLegal, own};
 ghost use Rattle.ruu_words.specs.Rule.{IsCaller, IsHeir};
 ghost use Rattle.station.specs.Finishing.{ClaimedAreInFlight, JobsAreFinished, JobsStayInFlight};
 ghost use Rattle.station.specs.Following.{LetsAreAsked, MissesAreRecovered, MissesStaySeen, MissesStaySquashing, QuestionsLeaveOthers};
-ghost use Rattle.station.specs.Laws.{BacksStay, FrontsStay, JobsAreOfTheProgram, JobsStay, JobsStayClaiming, JobsStayFinishing, JobsStaySeen};
+ghost use Rattle.station.specs.Laws.{BacksStay, FrontsStay, JobsAreOfTheProgram, JobsEndAtARenewal, JobsStay, JobsStayClaiming, JobsStayFinishing, JobsStaySeen};
 ghost use Rattle.station.specs.Quiet.{ClaimsGiveJobs, LetsAreOut, ReadyTenantsStay, SplitsShareNumbers, UnitsAreNumbered};
 
 use crate::seat::{Part, SeatOf, UnitSeat};
@@ -15,6 +15,11 @@ pub fn jobs_stay()
     ensures seen { JobsStaySeen }
     ensures claiming { JobsStayClaiming }
     ensures finishing { JobsStayFinishing }
+{}
+
+/// A job of before a renewal is held by nobody behind it.
+pub fn a_job_ends_at_a_renewal()
+    ensures { JobsEndAtARenewal }
 {}
 
 /// What the front and the back might do they still may, where they have only looked and met since.
