@@ -1,0 +1,24 @@
+-- Histories that begin as others.
+use Rattle.std.proofs.Common.{ℕ, List, [], ◌++◌, refl, sym, ap, ◌∙◌, append_assoc}
+use Rattle.inorder.specs.declared.history.Entry.{Entry}
+use Rattle.inorder.specs.History.{Adds, StartsWith}
+use Rattle.station.specs.Seats.{TheCore}
+use Rattle.drive.specs.Moments.{Grows, IsBetween}
+
+pub starts_same : (h : List Entry) → StartsWith h h
+starts_same h = record { more = []; is = refl }
+
+pub starts_on : (a b c : List Entry) → StartsWith b a → StartsWith c b → StartsWith c a
+starts_on a b c s t = record { more = t.more ++ s.more; is = t.is ∙ (ap (λ z. t.more ++ z) s.is ∙ sym (append_assoc t.more s.more a)) }
+
+-- One who looks twice
+pub grows_twice : (core : TheCore) (by other : ℕ) (a b c : List Entry) → Adds core.program core.sizes by a b [] → Adds core.program core.sizes other b c [] → Grows core a c
+grows_twice core by other a b c s t = record { begins = starts_on a b c s.begins t.begins; legal = t.legal }
+
+pub grows_on : (core : TheCore) (a b c : List Entry) → Grows core a b → Grows core b c → Grows core a c
+grows_on core a b c s t = record { begins = starts_on a b c s.begins t.begins; legal = t.legal }
+
+-- What a caller knew before a call, the call, and what the caller told afterwards
+pub between : (Fact : List Entry → List Entry → Type 0) (old before behind later new : List Entry) →
+    StartsWith before old → Fact before behind → StartsWith later behind → StartsWith new later → IsBetween old new Fact
+between Fact old before behind later new begins fact more told = record { before = before; behind = behind; begins = begins; ends = starts_on behind later new more told; fact = fact }

@@ -1,0 +1,67 @@
+-- The units of a session, one of which is taken and put back.
+use Rattle.std.proofs.Common.{◌≡◌, ◌≢◌, ◌⊎◌, ◌<◌, ℕ, zero, suc, List, [], ◌∷◌, ◌++◌, Option, Some, None, length, get_or, set, inl, inr, refl, sym, ap, ◌∙◌, subst, get_or-set_same, get_or-set_other, length-set}
+use Rattle.std.proofs.lemmas.Bool.{cases_eq}
+use Rattle.std.proofs.lemmas.List.{get_or_default}
+use Rattle.drive.specs.declared.units.Claimed.{Claimed}
+use Rattle.drive.specs.declared.units.Claimed.TheVariants.{Job, Moved, NotOpen, Waiting}
+use Rattle.drive.specs.declared.units.Held.{Held}
+use Rattle.drive.specs.declared.units.Worker.{Worker}
+use Rattle.drive.specs.Held.{claim_of}
+use Rattle.drive.specs.Replies.{HoldsWhatIs}
+use Rattle.drive.specs.Workers.{AreWorkers, HasUnit, IsHolder, IsWorker, job_at, job_from, job_in, worker_at}
+use Rattle.station.specs.declared.answers.Claim.{Claim}
+use Rattle.station.specs.Seats.{Caller, TheCore}
+
+pub at_place : (units : List (Option Worker)) (at : ℕ) (x : Option Worker) → at < length units → x ≡ get_or units at x → worker_at units at ≡ x
+at_place units at x within is = get_or_default units at None x within ∙ sym is
+
+pub job_of_taken : (units : List (Option Worker)) (at : ℕ) (x : Option Worker) → worker_at units at ≡ x → job_at units at ≡ job_in x
+job_of_taken units at x is = ap job_in is
+
+pub are_set : (core : TheCore) (units : List (Option Worker)) (at : ℕ) (v : Option Worker) → at < length units → AreWorkers core units →
+    ((w : Worker) → v ≡ Some w → IsWorker core w) → AreWorkers core (set units at v)
+are_set core units at v within are is place w here = go (cases_eq place at)
+  where
+    go : (place ≡ at) ⊎ (place ≢ at) → IsWorker core w
+    go (inl e) = is w (sym (ap (λ k. get_or (set units at v) k None) e ∙ get_or-set_same units at v None within) ∙ here)
+    go (inr ne) = are place w (sym (get_or-set_other units at place v None ne) ∙ here)
+
+none_is_some : (core : TheCore) (w : Worker) → ◌≡◌ {A = Option Worker} None (Some w) → IsWorker core w
+none_is_some core w e = cc
+
+its_own : (core : TheCore) (v w : Worker) → IsWorker core v → ◌≡◌ {A = Option Worker} (Some v) (Some w) → IsWorker core w
+its_own core v w is e = let same : v ≡ w = cc in subst (λ (u : Worker). IsWorker core u) same is
+
+still_within : (units : List (Option Worker)) (at : ℕ) (v : Option Worker) → at < length units → at < length (set units at v)
+still_within units at v within = rw length-set within
+
+module _ (units taken : List (Option Worker)) (at : ℕ) (w : Worker) (within : at < length units) (is : taken ≡ set units at None) where
+  pub put_back : (core : TheCore) → AreWorkers core units → IsWorker core w → AreWorkers core (set taken at (Some w))
+  put_back core are own = subst (λ (xs : List (Option Worker)). AreWorkers core (set xs at (Some w))) (sym is)
+      (are_set core (set units at None) at (Some w) (still_within units at None within) (are_set core units at None within are (none_is_some core)) (λ v e. its_own core w v own e))
+
+  here : worker_at (set taken at (Some w)) at ≡ Some w
+  here = subst (λ (xs : List (Option Worker)). worker_at (set xs at (Some w)) at ≡ Some w) (sym is) (get_or-set_same (set units at None) at (Some w) None (still_within units at None within))
+
+  there : (k : ℕ) → k ≢ at → worker_at (set taken at (Some w)) k ≡ worker_at units k
+  there k ne = get_or-set_other taken at k (Some w) None ne ∙ (ap (λ xs. get_or xs k None) is ∙ get_or-set_other units at k None None ne)
+
+  pub has_unit : (by : ℕ) (job : Option Held) → w.seat.by ≡ by → w.job ≡ job → ((v : Worker) → worker_at units at ≡ Some v → v.seat.by ≡ by) → HasUnit units (set taken at (Some w)) at by job
+  has_unit by job by_is job_is number = record { worker = w; is = here; by_is = by_is; job_is = job_is; number = number; others = there }
+
+-- The job of a claim is held
+holds_by : (core : TheCore) (seat : Caller) (answer : Claimed) → HoldsWhatIs core seat (claim_of answer) → (held : Held) → job_from answer ≡ Some held → IsHolder core seat held
+holds_by core seat (Job h) holds held e = let same : h ≡ held = cc in subst (λ (x : Held). IsHolder core seat x) same holds
+holds_by core seat NotOpen holds held e = absurd (cc)
+holds_by core seat (Waiting tag k) holds held e = absurd (cc)
+holds_by core seat (Moved tag) holds held e = absurd (cc)
+
+pub claimed_holds : (core : TheCore) (seat : Caller) (answer : Claimed) (claim : Claim) (job : Option Held) → claim_of answer ≡ claim → HoldsWhatIs core seat claim → job ≡ job_from answer → (held : Held) → job ≡ Some held → IsHolder core seat held
+claimed_holds core seat answer claim job e holds from held is = holds_by core seat answer (subst (λ (c : Claim). HoldsWhatIs core seat c) (sym e) holds) held (sym from ∙ is)
+
+-- One more that was not made
+pub push_none : (xs : List (Option Worker)) (at : ℕ) → get_or xs at None ≡ None → get_or (xs ++ None ∷ []) at None ≡ None
+push_none [] zero e = refl
+push_none [] (suc k) e = refl
+push_none (x ∷ xs) zero e = e
+push_none (x ∷ xs) (suc k) e = push_none xs k e

@@ -1,0 +1,18 @@
+use Rattle.back.specs.Commits.{CommitAnswers}
+use Rattle.drive.proofs.Backs.{commit_says}
+use Rattle.drive.proofs.Histories.{between, grows_twice}
+use Rattle.drive.proofs.calls.commit.Goals as goal
+
+pub returns-clause-grows : goal.returns-clause-grows
+returns-clause-grows g c =
+    let core = c.args.core.now in
+    grows_twice core c.args.all.now.by c.meet.new.other.by c.args.all.now.seen c.meet.new.other.seen c.meet-2.new.other.seen c.meet.ensures.other_history c.meet-2.ensures.other_history
+
+pub returns-clause-reply : goal.returns-clause-reply
+returns-clause-reply g c =
+    let answer = c.commit-answer.result in
+    let first = c.args.back.now in
+    let last = c.meet-2.new.self in
+    let says = commit_says first c.meet.new.self c.commit-answer.new.self last answer c.meet.ensures.kept c.commit-answer.ensures.reply c.meet-2.ensures.kept in
+    between (λ before behind. CommitAnswers (record first { seen = before }) (record last { seen = behind }) answer) c.args.all.now.seen c.meet.new.self.seen c.commit-answer.new.self.seen c.meet-2.new.self.seen c.meet-2.new.other.seen
+    c.meet.ensures.told says c.meet-2.ensures.history.begins c.meet-2.ensures.other_told

@@ -1,0 +1,14 @@
+use Rattle.std.proofs.Common.{subst}
+use Rattle.front.specs.Creating.{IsCreator}
+use Rattle.back.specs.Backs.{unit_in}
+use Rattle.station.specs.Seats.{TheCore}
+use Rattle.drive.proofs.calls.creator.Goals as goal
+
+pub returns-clause-grows : goal.returns-clause-grows
+returns-clause-grows g c = record { begins = c.meet.ensures.other_history.begins; legal = c.meet.ensures.other_history.legal }
+
+pub returns-clause-reply : goal.returns-clause-reply
+returns-clause-reply g c =
+    let seen = c.meet.new.self.seen in
+    let says = subst (λ (k : TheCore). IsCreator k.program (unit_in k seen) c.args.register c.creator.result) c.meet.ensures.core c.creator.ensures in
+    record { before = seen; behind = seen; begins = c.meet.ensures.told; ends = c.meet.ensures.other_told; fact = says }

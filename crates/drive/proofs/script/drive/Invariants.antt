@@ -1,0 +1,12 @@
+use Rattle.devices.specs.Counted.{failures_of, known_by}
+use Rattle.std.proofs.Common.{◌≡◌}
+use Rattle.drive.specs.Scripts.{AreTold}
+use Rattle.drive.proofs.script.drive.Given as goal
+
+-- so many lines were told, and no call failed
+abbrev pub invariant-loop-number : goal.invariant-loop-number
+invariant-loop-number g l = record {
+  quiet : failures_of l.writer ≡ failures_of l.fn.writer;
+  told : AreTold (g.I.Read.remaining l.fn.reader) (g.I.Read.remaining l.reader) l.fn.session l.session
+      (known_by g.W.Write.contents l.fn.writer) (known_by g.W.Write.contents l.writer) l.number;
+}

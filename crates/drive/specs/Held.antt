@@ -1,0 +1,28 @@
+-- Jobs that units hold, and what claims answered.
+use Rattle.drive.specs.declared.units.Claimed.{Claimed}
+use Rattle.drive.specs.declared.units.Claimed.TheVariants as told
+use Rattle.drive.specs.declared.units.Held.{Held}
+use Rattle.station.specs.declared.answers.Claim.{Claim}
+use Rattle.station.specs.declared.answers.Claim.TheVariants as claim
+use Rattle.station.specs.declared.answers.Job.{Job}
+
+-- The job with these fields
+abbrev pub job_of : Held → Job
+job_of h =
+    record {
+      station = h.station;
+      tag = h.tag;
+      index = h.index;
+      half = h.half;
+      pc = h.pc;
+      predicted = h.predicted;
+      a = h.a;
+      b = h.b;
+    }
+
+-- The answer of a claim, with its job
+abbrev pub claim_of : Claimed → Claim
+claim_of (told.Job held) = claim.Job (job_of held)
+claim_of told.NotOpen = claim.NotOpen
+claim_of (told.Waiting tag k) = claim.Waiting tag k
+claim_of (told.Moved tag) = claim.Moved tag

@@ -1,0 +1,11 @@
+pub mod Words
+pub mod Units
+pub mod Commands
+pub mod Moments
+pub mod Replies
+pub mod Held
+pub mod Workers
+pub mod Sessions
+pub mod Texts
+pub mod Transcripts
+pub mod Scripts

@@ -1,0 +1,95 @@
+-- What the calls of a session answer.
+use Rattle.std.specs.Prelude.{◌≡◌, ℕ, List, []}
+use Rattle.isa.specs.Programs.{Program}
+use Rattle.inorder.specs.declared.history.Entry.{Entry}
+use Rattle.inorder.specs.History.{Adds, front}
+use Rattle.inorder.specs.Unit.{Sizes}
+use Rattle.back.specs.Backs.{TheBack, committed_in, unit_in}
+use Rattle.back.specs.Commits.{CommitAnswers}
+use Rattle.back.specs.declared.answers.Commit.{Commit}
+use Rattle.back.specs.declared.answers.Refresh.{Refresh}
+use Rattle.back.specs.Refreshes.{RefreshAnswers}
+use Rattle.front.specs.Creating.{IsCreator}
+use Rattle.front.specs.declared.answers.Made.{Made}
+use Rattle.front.specs.declared.answers.Recovery.{Recovery}
+use Rattle.front.specs.declared.answers.Turn.{Turn}
+use Rattle.front.specs.declared.answers.Turn.TheVariants.{Let}
+use Rattle.front.specs.Recoveries.{RecoverAnswers}
+use Rattle.front.specs.Turns.{LetsOut, Refuses}
+use Rattle.ruu_words.specs.declared.station.StationState.{StationState}
+use Rattle.snapshots.specs.declared.mark.Mark.{Mark}
+use Rattle.station.specs.declared.answers.Claim.{Claim}
+use Rattle.station.specs.declared.answers.Finish.{Finish}
+use Rattle.station.specs.declared.answers.Job.{Job}
+use Rattle.station.specs.declared.answers.Claim.TheVariants.{Job as Claimed}
+use Rattle.station.specs.declared.answers.Seen.{Seen}
+use Rattle.station.specs.Looking.{SeesStation}
+use Rattle.station.specs.Claiming.{ClaimAnswers, Holds}
+use Rattle.station.specs.Seats.{Caller, TheCore}
+use Rattle.station.specs.Writeback.{FinishAnswers}
+use Rattle.drive.specs.Moments.{IsBetween}
+
+-- A tenant was let, with some predicted next pc
+pub record HasLet (P : Program) (C : Sizes) (before behind : List Entry) (station tag pc : ℕ) : Type 0 where
+  pub predicted : ℕ
+  pub lets : LetsOut P C before behind station tag pc predicted
+
+-- A refusal is true at its moment of the call, and adds nothing
+pub record IsRefusal (P : Program) (C : Sizes) (before behind : List Entry) (turn : Turn) : Type 0 where
+  pub adds : Adds P C front before behind []
+  pub was : Refuses P C before behind turn
+
+-- A turn of the front
+abbrev pub TurnSays : Program → Sizes → List Entry → List Entry → Turn → Type 0
+TurnSays P C before behind (Let station tag pc) = HasLet P C before behind station tag pc
+TurnSays P C before behind turn = IsRefusal P C before behind turn
+
+abbrev pub IsTurn : TheCore → List Entry → List Entry → Turn → Type 0
+IsTurn core old new turn =
+    IsBetween old new (λ before behind. TurnSays core.program core.sizes before behind turn)
+
+-- A recovery by the front
+abbrev pub IsRecovery : TheCore → List Entry → List Entry → Recovery → Type 0
+IsRecovery core old new recovery =
+    IsBetween old new (λ before behind. RecoverAnswers core.program core.sizes before behind recovery)
+
+-- A claim by this unit
+abbrev pub IsClaim : TheCore → ℕ → List Entry → List Entry → ℕ → Claim → Type 0
+IsClaim core by old new station claim =
+    IsBetween old new (λ before behind. ClaimAnswers core.program core.sizes by before behind station claim)
+
+-- Its finish of a job
+abbrev pub IsFinish : TheCore → ℕ → List Entry → List Entry → Job → Finish → Type 0
+IsFinish core by old new job finish =
+    IsBetween old new (λ before behind. FinishAnswers core.program core.sizes by before behind job finish)
+
+-- A refresh by the back
+abbrev pub IsRefresh : TheCore → ℕ → List Entry → List Entry → Refresh → Type 0
+IsRefresh core by old new refresh =
+    IsBetween old new (λ before behind. RefreshAnswers core by before behind refresh)
+
+-- The job of a claim is its caller's
+abbrev pub HoldsWhatIs : TheCore → Caller → Claim → Type 0
+HoldsWhatIs core seat (Claimed job) = Holds core.program core.sizes seat.by seat.seen job
+HoldsWhatIs core seat claim = Unit {0}
+
+-- A commit by the back
+abbrev pub IsCommit : TheBack → TheBack → List Entry → List Entry → Commit → Type 0
+IsCommit from to old new commit =
+    IsBetween old new (λ before behind.
+    CommitAnswers (record from { seen = before }) (record to { seen = behind }) commit)
+
+-- A mark of what was committed at a moment
+abbrev pub IsShown : TheCore → List Entry → List Entry → Mark → Type 0
+IsShown core old new mark =
+    IsBetween old new (λ before behind. mark.n ≡ (committed_in core behind).count)
+
+-- The word of a station
+abbrev pub IsLook : TheCore → List Entry → List Entry → ℕ → Seen StationState → Type 0
+IsLook core old new station seen =
+    IsBetween old new (λ before behind. SeesStation core.program core.sizes behind station seen)
+
+-- Who creates a register
+abbrev pub IsCreatorNow : TheCore → List Entry → List Entry → ℕ → Made → Type 0
+IsCreatorNow core old new register made =
+    IsBetween old new (λ before behind. IsCreator core.program (unit_in core behind) register made)

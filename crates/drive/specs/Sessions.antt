@@ -1,0 +1,137 @@
+-- What contracts see of a session, and what it answers.
+use Rattle.std.specs.Prelude.{◌≡◌, ◌≢◌, ℕ, ◌≤◌, ◌-◌, ◌^◌, max, List, [], Option, Some, None, IsSome}
+use Rattle.isa.specs.Programs.{Program}
+use Rattle.isa.specs.Settings.{Settings}
+use Rattle.isa.specs.Registers.{register_count}
+use Rattle.inorder.specs.declared.history.Entry.{Entry}
+use Rattle.inorder.specs.History.{IsLegal, back}
+use Rattle.back.specs.Backs.{TheBack, state_of}
+use Rattle.snapshots.specs.declared.mark.Mark.{Mark}
+use Rattle.snapshots.specs.declared.snap.Snap.{Snap}
+use Rattle.snapshots.specs.Snapshots.{IsSnapshotOf}
+use Rattle.station.specs.declared.answers.Finish.{Finish}
+use Rattle.station.specs.Seats.{Caller, TheCore}
+use Rattle.drive.specs.declared.commands.Command.{Command}
+use Rattle.drive.specs.declared.commands.Command.TheVariants as ask
+use Rattle.drive.specs.declared.replies.Refusal.{Refusal}
+use Rattle.drive.specs.declared.replies.Refusal.TheVariants as no
+use Rattle.drive.specs.declared.replies.Reply.{Reply}
+use Rattle.drive.specs.declared.replies.Reply.TheVariants as say
+use Rattle.drive.specs.declared.units.Held.{Held}
+use Rattle.drive.specs.declared.units.Worker.{Worker}
+use Rattle.drive.specs.Units.{unit_count}
+use Rattle.drive.specs.Replies.{IsCommit, IsCreatorNow, IsLook, IsRecovery, IsRefresh, IsShown, IsTurn}
+use Rattle.drive.specs.Workers.{AreWorkers, HasClaimed, HasFinished, HasNone, job_at}
+
+-- A session: its core, the one history that its seats have seen together, its units, its back, the
+-- greatest count of its snapper, the mark that was shown last, and what the create vector has touched
+pub record TheSession : Type 0 where
+  pub core : TheCore
+  pub seen : List Entry
+  pub units : List (Option Worker)
+  pub commits : TheBack
+  pub snapper : ℕ
+  pub mark : Option Mark
+  pub touched : ℕ
+
+-- Its parts are of one core
+pub record IsWhole (P : Program) (core : TheCore) (program : Program) (all : Caller) (front_core : TheCore)
+    (commits : TheBack) (units : List (Option Worker)) (count : ℕ) : Type 0 where
+  pub named : core.program ≡ P
+  pub program_is : program ≡ core.program
+  pub all_core : all.core ≡ core
+  pub front_is : front_core ≡ core
+  pub back_core : commits.core ≡ core
+  pub back_by : commits.by ≡ back
+  pub workers : AreWorkers core units
+  pub places : count ≡ unit_count
+  pub legal : IsLegal core.program core.sizes all.seen
+
+-- A session at the start of a program: nothing was done, and no unit was made
+pub record IsStart (P : Program) (config : Settings) (s : TheSession) : Type 0 where
+  pub program : s.core.program ≡ P
+  pub sizes : s.core.sizes ≡
+      record { ring = config.ring; queue = config.queue; first_tag = config.first_tag }
+  pub seen : s.seen ≡ []
+  pub units : HasNone s.units
+  pub snapper : s.snapper ≡ 0
+  pub mark : s.mark ≡ None
+
+-- A unit has finished the job that it held of this station
+pub record HasFinishedAt (old new : TheSession) (unit station : ℕ) (answer : Finish) : Type 0 where
+  pub held : Held
+  pub station_is : held.station ≡ station
+  pub finishes : HasFinished old.core old.seen new.seen old.units new.units unit held answer
+
+-- A snapshot of the machine in order, behind every mark and every snapshot before it
+pub record HasTaken (old new : TheSession) (snap : Snap) : Type 0 where
+  pub is : IsSnapshotOf old.core.program snap
+  pub later : old.snapper ≤ snap.n
+  pub seen : new ≡ record old { snapper = snap.n }
+
+-- The mark that was shown last was learnt
+pub record HasLearnt (old new : TheSession) : Type 0 where
+  pub mark : Mark
+  pub shown : old.mark ≡ Some mark
+  pub seen : new ≡ record old { snapper = max old.snapper mark.n }
+
+-- A snapshot was shown
+pub record HasShown (old new : TheSession) (mark : Mark) : Type 0 where
+  pub says : IsShown old.core old.seen new.seen mark
+  pub kept : new.mark ≡ Some mark
+
+-- Why a command is refused
+abbrev pub MayRefuse : TheSession → Command → Refusal → Type 0
+MayRefuse s (ask.Claim unit station) no.NoUnit = unit_count ≤ unit
+MayRefuse s (ask.Claim unit station) no.NoStation = s.core.sizes.ring ≤ station
+MayRefuse s (ask.Claim unit station) no.HoldsJob = IsSome (job_at s.units unit)
+MayRefuse s (ask.Finish unit station) no.NoUnit = unit_count ≤ unit
+MayRefuse s (ask.Finish unit station) no.HoldsNone =
+    (held : Held) → job_at s.units unit ≡ Some held → held.station ≢ station
+MayRefuse s (ask.Look station) no.NoStation = s.core.sizes.ring ≤ station
+MayRefuse s (ask.Creator register) no.NoRegister = register_count ≤ register
+MayRefuse s ask.Learn no.NoMark = s.mark ≡ None
+MayRefuse s ask.Commit no.NoCount = 2 ^ 64 - 1 ≤ (state_of s.commits).count
+MayRefuse s command refusal = ⊥
+
+-- The answer to a command: it is allowed between the two histories, or it is a refusal that changes
+-- nothing
+abbrev pub Answers : TheSession → TheSession → Command → Reply → Type 0
+Answers old new ask.Turn (say.Turn turn) = IsTurn old.core old.seen new.seen turn
+Answers old new ask.Recover (say.Recovery recovery) = IsRecovery old.core old.seen new.seen recovery
+Answers old new (ask.Claim unit station) (say.Claim answer) =
+    HasClaimed old.core old.seen new.seen old.units new.units unit station answer
+Answers old new (ask.Finish unit station) (say.Finish answer) =
+    HasFinishedAt old new unit station answer
+Answers old new ask.Refresh (say.Refresh refresh) =
+    IsRefresh old.core back old.seen new.seen refresh
+Answers old new ask.Commit (say.Commit commit) =
+    IsCommit old.commits new.commits old.seen new.seen commit
+Answers old new ask.Show (say.Shown mark) = HasShown old new mark
+Answers old new ask.Show say.Memory = Unit {0}
+Answers old new ask.Take (say.Taken snap) = HasTaken old new snap
+Answers old new ask.Take say.Gone = new ≡ old
+Answers old new ask.Learn say.Learnt = HasLearnt old new
+Answers old new (ask.Look station) (say.Look seen) =
+    IsLook old.core old.seen new.seen station seen
+Answers old new (ask.Creator register) (say.Creator made) =
+    IsCreatorNow old.core old.seen new.seen register made
+Answers old new ask.Touched (say.Touched count) = (count ≡ old.touched) × (new ≡ old)
+Answers old new command (say.Refused refusal) = MayRefuse old command refusal × (new ≡ old)
+Answers old new command reply = ⊥
+
+-- The session with what a command may change
+abbrev pub changed : Command → TheSession → TheSession → TheSession
+changed ask.Turn old new = record old { seen = new.seen; touched = new.touched }
+changed ask.Recover old new = record old { seen = new.seen; touched = new.touched }
+changed (ask.Claim unit station) old new = record old { seen = new.seen; units = new.units }
+changed (ask.Finish unit station) old new = record old { seen = new.seen; units = new.units }
+changed ask.Refresh old new = record old { seen = new.seen; commits = new.commits }
+changed ask.Commit old new = record old { seen = new.seen; commits = new.commits }
+changed ask.Show old new =
+    record old { seen = new.seen; commits = new.commits; mark = new.mark }
+changed ask.Take old new = record old { snapper = new.snapper }
+changed ask.Learn old new = record old { snapper = new.snapper }
+changed (ask.Look station) old new = record old { seen = new.seen }
+changed (ask.Creator register) old new = record old { seen = new.seen }
+changed ask.Touched old new = old

@@ -1,0 +1,64 @@
+-- Transcripts: what is told of the lines of a script.
+use Rattle.std.specs.Prelude.{◌≡◌, ℕ, suc, List, [], ◌∷◌, ◌++◌, length, codes, decimal}
+use Rattle.isa.specs.Report.{newline}
+use Rattle.drive.specs.declared.commands.Command.{Command}
+use Rattle.drive.specs.declared.commands.Line.{Line}
+use Rattle.drive.specs.declared.commands.Line.TheVariants.{Asks, Nothing, Unknown, Wants}
+use Rattle.drive.specs.declared.commands.Verb.{Verb}
+use Rattle.drive.specs.declared.commands.Verb.TheVariants as verb
+use Rattle.drive.specs.declared.replies.Reply.{Reply}
+use Rattle.drive.specs.Commands.{IsLine, verb_name}
+use Rattle.drive.specs.Moments.{Grows}
+use Rattle.drive.specs.Sessions.{Answers, TheSession, changed}
+use Rattle.drive.specs.Texts.{reply_text}
+use Rattle.drive.specs.Words.{words_of}
+
+-- What the operands of a command are
+abbrev pub operands_text : Verb → List ℕ
+operands_text verb.Claim = codes "a unit and a station"
+operands_text verb.Finish = codes "a unit and a station"
+operands_text verb.Look = codes "a station"
+operands_text verb.Creator = codes "a register"
+operands_text _ = codes "no operand"
+
+-- The text for a line whose first word is none of a command
+abbrev pub unknown_text : ℕ → List ℕ
+unknown_text number = codes "line " ++ (decimal number ++ codes ": unknown word\n")
+
+-- The text for a line whose operands are none of its command
+abbrev pub wants_text : ℕ → Verb → List ℕ
+wants_text number v =
+    codes "line " ++ (decimal number ++ (codes ": " ++ (verb_name v ++ (codes " takes "
+    ++ (operands_text v ++ newline)))))
+
+-- A command was answered, and the history has grown
+pub record IsAnswered (old new : TheSession) (command : Command) (text : List ℕ) : Type 0 where
+  pub core : new.core ≡ old.core
+  pub grows : Grows old.core old.seen new.seen
+  pub reply : Reply
+  pub says : Answers old new command reply
+  pub kept : new ≡ changed command old new
+  pub text_is : text ≡ reply_text reply ++ newline
+
+-- What is told of a line of this number. A line that makes no call changes nothing
+abbrev pub LineSays : TheSession → TheSession → ℕ → Line → List ℕ → Type 0
+LineSays old new number Nothing text = (text ≡ []) × (new ≡ old)
+LineSays old new number Unknown text = (text ≡ unknown_text number) × (new ≡ old)
+LineSays old new number (Wants v) text = (text ≡ wants_text number v) × (new ≡ old)
+LineSays old new number (Asks command) text = IsAnswered old new command text
+
+-- What is told of the bytes of a line
+pub record IsTold (old new : TheSession) (number : ℕ) (bytes text : List ℕ) : Type 0 where
+  pub line : Line
+  pub line_is : IsLine (words_of bytes) line
+  pub says : LineSays old new number line text
+
+-- What is told of lines, the last one first: one history grows from line to line, and what is told
+-- of each is allowed between what was seen before it and behind it
+abbrev pub IsTranscript : TheSession → List (List ℕ) → List ℕ → TheSession → Type 0
+IsTranscript first [] text last = (text ≡ []) × (last ≡ first)
+IsTranscript first (line ∷ earlier) text last =
+    (middle : TheSession) × (before : List ℕ) × (told : List ℕ)
+    × IsTranscript first earlier before middle
+    × IsTold middle last (suc (length earlier)) line told
+    × (text ≡ before ++ told)

@@ -1,0 +1,73 @@
+-- The units of a session.
+use Rattle.std.specs.Prelude.{◌≡◌, ◌≢◌, ℕ, List, Option, Some, None, slice_index_or}
+use Rattle.inorder.specs.declared.history.Entry.{Entry}
+use Rattle.drive.specs.declared.units.Claimed.{Claimed}
+use Rattle.drive.specs.declared.units.Claimed.TheVariants.{Job}
+use Rattle.drive.specs.declared.units.Held.{Held}
+use Rattle.drive.specs.declared.units.Worker.{Worker}
+use Rattle.drive.specs.Held.{claim_of, job_of}
+use Rattle.drive.specs.Replies.{IsClaim, IsFinish}
+use Rattle.station.specs.declared.answers.Finish.{Finish}
+use Rattle.station.specs.Claiming.{Holds}
+use Rattle.station.specs.Seats.{Caller, TheCore}
+
+-- The seat's caller holds this job
+abbrev pub IsHolder : TheCore → Caller → Held → Type 0
+IsHolder core seat held = Holds core.program core.sizes seat.by seat.seen (job_of held)
+
+-- A unit of this core holds the job that is kept for it
+pub record IsWorker (core : TheCore) (w : Worker) : Type 0 where
+  pub core_is : w.seat.core ≡ core
+  pub holds : (held : Held) → w.job ≡ Some held → IsHolder core w.seat held
+
+-- The unit at a place, if it was made
+abbrev pub worker_at : List (Option Worker) → ℕ → Option Worker
+worker_at units at = slice_index_or units at None
+
+-- So do all that there are
+abbrev pub AreWorkers : TheCore → List (Option Worker) → Type 0
+AreWorkers core units =
+    (at : ℕ) (w : Worker) → worker_at units at ≡ Some w → IsWorker core w
+
+-- The job of a unit, if it was made and holds one
+abbrev pub job_in : Option Worker → Option Held
+job_in None = None
+job_in (Some w) = w.job
+
+abbrev pub job_at : List (Option Worker) → ℕ → Option Held
+job_at units at = job_in (worker_at units at)
+
+-- One unit is there now, with this number as a caller, which it had before if it was there, and this
+-- job. The others are as they were
+pub record HasUnit (old new : List (Option Worker)) (unit by : ℕ) (job : Option Held) : Type 0 where
+  pub worker : Worker
+  pub is : worker_at new unit ≡ Some worker
+  pub by_is : worker.seat.by ≡ by
+  pub job_is : worker.job ≡ job
+  pub number : (w : Worker) → worker_at old unit ≡ Some w → w.seat.by ≡ by
+  pub others : (at : ℕ) → at ≢ unit → worker_at new at ≡ worker_at old at
+
+-- The job that a claim gave
+abbrev pub job_from : Claimed → Option Held
+job_from (Job held) = Some held
+job_from answer = None
+
+-- A unit that held no job has claimed
+pub record HasClaimed (core : TheCore) (old new : List Entry) (before after : List (Option Worker))
+    (unit station : ℕ) (answer : Claimed) : Type 0 where
+  pub free : job_at before unit ≡ None
+  pub by : ℕ
+  pub unit_is : HasUnit before after unit by (job_from answer)
+  pub says : IsClaim core by old new station (claim_of answer)
+
+-- A unit has finished the job that it held, and holds none
+pub record HasFinished (core : TheCore) (old new : List Entry) (before after : List (Option Worker))
+    (unit : ℕ) (held : Held) (answer : Finish) : Type 0 where
+  pub held_it : job_at before unit ≡ Some held
+  pub by : ℕ
+  pub unit_is : HasUnit before after unit by None
+  pub says : IsFinish core by old new (job_of held) answer
+
+-- None of them was made
+abbrev pub HasNone : List (Option Worker) → Type 0
+HasNone units = (at : ℕ) → worker_at units at ≡ None

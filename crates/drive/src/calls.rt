@@ -1,0 +1,185 @@
+//! The calls of a session, each between two meetings with the seat that has seen all.
+ghost use Rattle.std.specs.Prelude.{◌≡◌, ◌<◌, ◌-◌, ◌^◌, IfOk};
+ghost use Rattle.back.specs.Backs.{IsSame as IsSameBack, state_of};
+ghost use Rattle.drive.specs.Moments.{Grows};
+ghost use Rattle.drive.specs.Replies.{HoldsWhatIs, IsClaim, IsCommit, IsCreatorNow, IsFinish, IsLook, IsRecovery, IsRefresh, IsShown, IsTurn};
+ghost use Rattle.station.specs.Claiming.{Holds};
+ghost use Rattle.station.specs.Seats.{IsSame};
+
+use back::{Back, Commit, Mark, Naming, Refresh};
+use front::{Front, Made, Recovery, Turn};
+use isa::{Memory, Predictor, Program, Reg, outcome_of};
+use station::{
+    Claim, Core, Finish, Job, Seen, StationState, UnitSeat, a_job_is_of_the_program, jobs_stay,
+};
+use std::sync::Wait;
+
+/// A turn of the front.
+pub fn turn<P: Predictor + Drop>(core: &Core, all: &mut UnitSeat, front: &mut Front<'_, P>) -> Turn
+    requires all { all.old.core ≡ core.now }
+    requires front { front.old.core ≡ core.now }
+    ensures all { IsSame all.old all.new }
+    ensures front { front.new.core ≡ core.now }
+    ensures grows { Grows core.now all.old.seen all.new.seen }
+    ensures reply { IsTurn core.now all.old.seen all.new.seen result }
+{
+    front.meet(core, all);
+    let answer = front.turn(core);
+    front.meet(core, all);
+    answer
+}
+
+/// A recovery by the front.
+pub fn recover<P: Predictor + Drop>(
+    core: &Core,
+    all: &mut UnitSeat,
+    front: &mut Front<'_, P>,
+) -> Recovery
+    requires all { all.old.core ≡ core.now }
+    requires front { front.old.core ≡ core.now }
+    ensures all { IsSame all.old all.new }
+    ensures front { front.new.core ≡ core.now }
+    ensures grows { Grows core.now all.old.seen all.new.seen }
+    ensures reply { IsRecovery core.now all.old.seen all.new.seen result }
+{
+    front.meet(core, all);
+    let answer = front.recover(core);
+    front.meet(core, all);
+    answer
+}
+
+/// A refresh by the back.
+pub fn refresh<J: Naming>(core: &Core, all: &mut UnitSeat, back: &mut Back<J>) -> Refresh
+    requires all { all.old.core ≡ core.now }
+    requires back { back.old.core ≡ core.now }
+    ensures all { IsSame all.old all.new }
+    ensures back { IsSameBack back.old back.new }
+    ensures grows { Grows core.now all.old.seen all.new.seen }
+    ensures reply { IsRefresh core.now back.old.by all.old.seen all.new.seen result }
+{
+    back.meet(core, all);
+    let answer = back.refresh(core);
+    back.meet(core, all);
+    answer
+}
+
+/// A claim by a unit.
+pub fn claim(core: &Core, all: &mut UnitSeat, seat: &mut UnitSeat, station: usize) -> Claim
+    requires all { all.old.core ≡ core.now }
+    requires seat { seat.old.core ≡ core.now }
+    requires station { station < core.now.sizes.ring }
+    ensures all { IsSame all.old all.new }
+    ensures seat { IsSame seat.old seat.new }
+    ensures grows { Grows core.now all.old.seen all.new.seen }
+    ensures reply { IsClaim core.now seat.old.by all.old.seen all.new.seen station result }
+    ensures holds { HoldsWhatIs core.now seat.new result }
+{
+    jobs_stay();
+    core.meet(seat, all);
+    let answer = core.claim(seat, station);
+    core.meet(seat, all);
+    answer
+}
+
+/// The finish of a job that a unit holds, with the outcome of that job.
+pub fn finish(
+    core: &Core,
+    program: &Program,
+    all: &mut UnitSeat,
+    seat: &mut UnitSeat,
+    job: Job,
+) -> Finish
+    requires all { all.old.core ≡ core.now }
+    requires seat { seat.old.core ≡ core.now }
+    requires program { program.now ≡ core.now.program }
+    requires job { Holds core.now.program core.now.sizes seat.old.by seat.old.seen job }
+    ensures all { IsSame all.old all.new }
+    ensures seat { IsSame seat.old seat.new }
+    ensures grows { Grows core.now all.old.seen all.new.seen }
+    ensures reply { IsFinish core.now seat.old.by all.old.seen all.new.seen job result }
+{
+    core.meet(seat, all);
+    a_job_is_of_the_program();
+    jobs_stay();
+    let instr = program.instr(job.index as usize);
+    let found = outcome_of(instr, job.half, job.pc, job.a, job.b, program.size());
+    let answer = core.finish(seat, job, found);
+    core.meet(seat, all);
+    answer
+}
+
+/// A commit by the back.
+pub fn commit<J: Naming>(core: &Core, all: &mut UnitSeat, back: &mut Back<J>) -> Commit
+    requires all { all.old.core ≡ core.now }
+    requires back { back.old.core ≡ core.now }
+    requires count { (state_of back.old).count < 2 ^ 64 - 1 }
+    ensures all { IsSame all.old all.new }
+    ensures core { back.new.core ≡ core.now }
+    ensures by { back.new.by ≡ back.old.by }
+    ensures grows { Grows core.now all.old.seen all.new.seen }
+    ensures reply { IsCommit back.old back.new all.old.seen all.new.seen result }
+{
+    back.meet(core, all);
+    let answer = back.commit(core);
+    back.meet(core, all);
+    answer
+}
+
+/// A snapshot that the back shows.
+pub fn show<J: Naming, R: Wait>(
+    wait: &R,
+    core: &Core,
+    all: &mut UnitSeat,
+    back: &mut Back<J>,
+) -> Result<Mark, Memory>
+    requires all { all.old.core ≡ core.now }
+    requires back { back.old.core ≡ core.now }
+    ensures all { IsSame all.old all.new }
+    ensures back { IsSameBack (record back.old { shown = back.new.shown }) back.new }
+    ensures grows { Grows core.now all.old.seen all.new.seen }
+    ensures reply { IfOk result (IsShown core.now all.old.seen all.new.seen) }
+{
+    back.meet(core, all);
+    back.show(wait)
+}
+
+/// What the front sees of a station.
+pub fn look<P: Predictor + Drop>(
+    core: &Core,
+    all: &mut UnitSeat,
+    front: &mut Front<'_, P>,
+    station: usize,
+) -> Seen<StationState>
+    requires all { all.old.core ≡ core.now }
+    requires front { front.old.core ≡ core.now }
+    requires station { station < core.now.sizes.ring }
+    ensures all { IsSame all.old all.new }
+    ensures front { front.new.core ≡ core.now }
+    ensures touched { front.new.touched ≡ front.old.touched }
+    ensures grows { Grows core.now all.old.seen all.new.seen }
+    ensures reply { IsLook core.now all.old.seen all.new.seen station result }
+{
+    front.meet(core, all);
+    let answer = front.look(core, station);
+    front.meet(core, all);
+    answer
+}
+
+/// Who creates a register, as the front knows it.
+pub fn creator<P: Predictor + Drop>(
+    core: &Core,
+    all: &mut UnitSeat,
+    front: &mut Front<'_, P>,
+    register: Reg,
+) -> Made
+    requires all { all.old.core ≡ core.now }
+    requires front { front.old.core ≡ core.now }
+    ensures all { IsSame all.old all.new }
+    ensures front { front.new.core ≡ core.now }
+    ensures touched { front.new.touched ≡ front.old.touched }
+    ensures grows { Grows core.now all.old.seen all.new.seen }
+    ensures reply { IsCreatorNow core.now all.old.seen all.new.seen register result }
+{
+    front.meet(core, all);
+    front.creator(register)
+}

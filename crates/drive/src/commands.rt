@@ -1,0 +1,165 @@
+//! The commands of a script.
+ghost use Rattle.std.specs.Prelude.{◌≡◌, ◌≢◌, IfNone, IfSome};
+ghost use Rattle.drive.specs.Commands.{IsLine, bare, command_of, has_one, has_two, number_of, only_number, unit_and_number, verb_name};
+ghost use Rattle.drive.specs.Words.{texts_of, words_of};
+ghost use Rattle.drive.specs.declared.commands.Verb.{Verb};
+
+use crate::names::unit_in;
+use crate::words::{Words, words_in};
+use text::decimal_in;
+
+/// The word that a command begins with.
+#[derive(Clone, Copy, Debug, PartialEq, Eq)]
+pub enum Verb {
+    Turn,
+    Recover,
+    Claim,
+    Finish,
+    Refresh,
+    Commit,
+    Show,
+    Take,
+    Learn,
+    Look,
+    Creator,
+    Touched,
+}
+
+/// A call to make. A unit is named by its place, from 0 on.
+#[derive(Clone, Copy, Debug, PartialEq, Eq)]
+pub enum Command {
+    Turn,
+    Recover,
+    Claim(usize, u32),
+    Finish(usize, u32),
+    Refresh,
+    Commit,
+    Show,
+    Take,
+    Learn,
+    Look(u32),
+    Creator(u32),
+    Touched,
+}
+
+/// What a line asks for.
+#[derive(Clone, Copy, Debug, PartialEq, Eq)]
+pub enum Line {
+    /// It has no word, or none before a `#`.
+    Nothing,
+    /// Its first word is none of a command.
+    Unknown,
+    /// Its operands are none of this command.
+    Wants(Verb),
+    Asks(Command),
+}
+
+// The command with this word.
+fn verb_in(word: &[u8]) -> Option<Verb>
+    ensures some { IfSome result (λ v. word.now ≡ verb_name v) }
+    ensures none { IfNone result ((v : Verb) → word.now ≢ verb_name v) }
+{
+    match word {
+        b"turn" => Some(Verb::Turn),
+        b"recover" => Some(Verb::Recover),
+        b"claim" => Some(Verb::Claim),
+        b"finish" => Some(Verb::Finish),
+        b"refresh" => Some(Verb::Refresh),
+        b"commit" => Some(Verb::Commit),
+        b"show" => Some(Verb::Show),
+        b"take" => Some(Verb::Take),
+        b"learn" => Some(Verb::Learn),
+        b"look" => Some(Verb::Look),
+        b"creator" => Some(Verb::Creator),
+        b"touched" => Some(Verb::Touched),
+        _ => None,
+    }
+}
+
+fn has_one(words: &Words<'_>) -> bool
+    ensures { result ≡ has_one (texts_of words.now) }
+{
+    !words.first.is_empty() && words.second.is_empty()
+}
+
+fn has_two(words: &Words<'_>) -> bool
+    ensures { result ≡ has_two (texts_of words.now) }
+{
+    !words.second.is_empty() && words.rest.is_empty()
+}
+
+fn bare(words: &Words<'_>, command: Command) -> Option<Command>
+    ensures { result ≡ bare (texts_of words.now) command }
+{
+    if words.first.is_empty() {
+        Some(command)
+    } else {
+        None
+    }
+}
+
+fn number_in(text: &[u8]) -> Option<u32>
+    ensures { result ≡ number_of text.now }
+{
+    decimal_in(text, 0xffff_ffff)
+}
+
+fn only_number(words: &Words<'_>) -> Option<u32>
+    ensures { result ≡ only_number (texts_of words.now) }
+{
+    if has_one(words) {
+        number_in(words.first)
+    } else {
+        None
+    }
+}
+
+fn unit_and_number(words: &Words<'_>) -> Option<(usize, u32)>
+    ensures { result ≡ unit_and_number (texts_of words.now) }
+{
+    if !has_two(words) {
+        return None;
+    }
+    let unit = unit_in(words.first)?;
+    let number = number_in(words.second)?;
+    Some((unit, number))
+}
+
+// The command of a word and its operands.
+fn command_in(verb: Verb, words: &Words<'_>) -> Option<Command>
+    ensures { result ≡ command_of verb (texts_of words.now) }
+{
+    match verb {
+        Verb::Turn => bare(words, Command::Turn),
+        Verb::Recover => bare(words, Command::Recover),
+        Verb::Claim => unit_and_number(words).map(|(unit, station)| Command::Claim(unit, station)),
+        Verb::Finish => unit_and_number(words).map(|(unit, station)| Command::Finish(
+            unit, station,
+        )),
+        Verb::Refresh => bare(words, Command::Refresh),
+        Verb::Commit => bare(words, Command::Commit),
+        Verb::Show => bare(words, Command::Show),
+        Verb::Take => bare(words, Command::Take),
+        Verb::Learn => bare(words, Command::Learn),
+        Verb::Look => only_number(words).map(Command::Look),
+        Verb::Creator => only_number(words).map(Command::Creator),
+        Verb::Touched => bare(words, Command::Touched),
+    }
+}
+
+/// What a line asks for: a command, its operands between blanks, and a comment from a `#` on.
+pub fn line_in(line: &[u8]) -> Line
+    ensures { IsLine (words_of line.now) result }
+{
+    let words = words_in(line);
+    if words.verb.is_empty() {
+        return Line::Nothing;
+    }
+    let Some(verb) = verb_in(words.verb) else {
+        return Line::Unknown;
+    };
+    match command_in(verb, &words) {
+        Some(command) => Line::Asks(command),
+        None => Line::Wants(verb),
+    }
+}

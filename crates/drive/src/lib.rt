@@ -1,0 +1,25 @@
+//! A shared unit driven by hand, on one thread: a script of commands, each of which makes one public call.
+#![tactic(auto)]
+
+mod calls;
+mod commands;
+mod lines;
+mod names;
+mod replies;
+mod script;
+mod session;
+mod texts;
+mod units;
+mod words;
+
+pub use commands::{Command, Line, Verb, line_in};
+pub use lines::told;
+pub use names::{UNITS, unit_in};
+pub use replies::{Refusal, Reply};
+pub use script::{Fault, drive};
+pub use session::Session;
+pub use texts::text_of;
+pub use units::{Claimed, Held};
+
+#[cfg(test)]
+mod tests;

@@ -1,0 +1,79 @@
+//! What is told of a line of a script.
+ghost use Rattle.std.specs.Prelude.{◌≡◌, IfOk, string_bytes};
+ghost use Rattle.drive.specs.Commands.{verb_name};
+ghost use Rattle.drive.specs.Transcripts.{IsTold, operands_text, unknown_text, wants_text};
+
+use crate::commands::{Line, Verb, line_in};
+use crate::session::Session;
+use crate::texts::text_of;
+use back::Naming;
+use isa::Predictor;
+use std::alloc::{AllocError, Global};
+use std::sync::Wait;
+
+fn word(verb: Verb) -> &'static str
+    ensures { result.now ≡ verb_name verb }
+{
+    match verb {
+        Verb::Turn => "turn",
+        Verb::Recover => "recover",
+        Verb::Claim => "claim",
+        Verb::Finish => "finish",
+        Verb::Refresh => "refresh",
+        Verb::Commit => "commit",
+        Verb::Show => "show",
+        Verb::Take => "take",
+        Verb::Learn => "learn",
+        Verb::Look => "look",
+        Verb::Creator => "creator",
+        Verb::Touched => "touched",
+    }
+}
+
+fn operands(verb: Verb) -> &'static str
+    ensures { result.now ≡ operands_text verb }
+{
+    match verb {
+        Verb::Claim | Verb::Finish => "a unit and a station",
+        Verb::Look => "a station",
+        Verb::Creator => "a register",
+        _ => "no operand",
+    }
+}
+
+fn unknown(alloc: Global, number: u64) -> Result<String, AllocError>
+    ensures { IfOk result (λ text. string_bytes text ≡ unknown_text number) }
+{
+    format!(in alloc; "line {number}: unknown word\n")
+}
+
+fn wants(alloc: Global, number: u64, verb: Verb) -> Result<String, AllocError>
+    ensures { IfOk result (λ text. string_bytes text ≡ wants_text number verb) }
+{
+    let (word, operands) = (word(verb), operands(verb));
+    format!(in alloc; "line {number}: {word} takes {operands}\n")
+}
+
+/// Does what the line of this number asks for, and gives the text for it. A line without a command
+/// has an empty text.
+pub fn told<P: Predictor + Drop, J: Naming, R: Wait>(
+    wait: &R,
+    alloc: Global,
+    session: &mut Session<'_, P, J>,
+    number: u64,
+    line: &[u8],
+) -> Result<String, AllocError>
+    ensures { IfOk result (λ text. IsTold session.old session.new number line.now (string_bytes text)) }
+{
+    match line_in(line) {
+        Line::Nothing => Ok(String::new(alloc)),
+        Line::Unknown => unknown(alloc, number),
+        Line::Wants(verb) => wants(alloc, number, verb),
+        Line::Asks(command) => {
+            let reply = session.answer(wait, command);
+            let mut text = text_of(alloc, &reply)?;
+            text.push('\n')?;
+            Ok(text)
+        }
+    }
+}

@@ -1,0 +1,38 @@
+//! The names of units.
+ghost use Rattle.std.specs.Prelude.{◌≡◌, ◌<◌, IfSome};
+ghost use Rattle.drive.specs.Units.{both_letters, letter, unit_count, unit_of};
+
+/// How many units there can be.
+pub const UNITS: usize = 64;
+
+fn letter(b: u8) -> Option<usize>
+    ensures place { result ≡ letter b }
+    ensures small { IfSome result (λ n. n < 26) }
+{
+    if b'A' <= b && b <= b'Z' {
+        Some((b - b'A') as usize)
+    } else {
+        None
+    }
+}
+
+fn both_letters(first: Option<usize>, second: Option<usize>) -> Option<usize>
+    requires first { IfSome first (λ n. n < 26) }
+    requires second { IfSome second (λ n. n < 26) }
+    ensures { result ≡ both_letters first second }
+{
+    let at = 26 * (first? + 1) + second?;
+    if at < UNITS { Some(at) } else { None }
+}
+
+/// The place of the unit with this name, from 0 on: A to Z, and then AA to BL.
+pub fn unit_in(name: &[u8]) -> Option<usize>
+    ensures place { result ≡ unit_of name.now }
+    ensures small { IfSome result (λ at. at < unit_count) }
+{
+    match name {
+        [a] => letter(*a),
+        [a, b] => both_letters(letter(*a), letter(*b)),
+        _ => None,
+    }
+}

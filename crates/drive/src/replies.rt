@@ -1,0 +1,44 @@
+//! What a session answers.
+use crate::units::Claimed;
+use back::{Commit, Mark, Refresh, Snap};
+use front::{Made, Recovery, Turn};
+use station::{Finish, Seen, StationState};
+
+/// Why a command is not allowed. Nothing is done then.
+#[derive(Clone, Copy, Debug, PartialEq, Eq)]
+pub enum Refusal {
+    /// There can be no such unit.
+    NoUnit,
+    NoStation,
+    NoRegister,
+    /// The unit has a job, which it has to finish first.
+    HoldsJob,
+    /// The unit holds no job of this station.
+    HoldsNone,
+    /// No snapshot was shown yet.
+    NoMark,
+    /// As many instructions were committed as can be counted.
+    NoCount,
+}
+
+/// The answer to a command: that of its call, or why that is not allowed.
+#[derive(Clone, Copy)]
+pub enum Reply {
+    Turn(Turn),
+    Recovery(Recovery),
+    Claim(Claimed),
+    Finish(Finish),
+    Refresh(Refresh),
+    Commit(Commit),
+    Shown(Mark),
+    /// There was no memory to show a snapshot.
+    Memory,
+    Taken(Snap),
+    /// There is no snapshot to take.
+    Gone,
+    Learnt,
+    Look(Seen<StationState>),
+    Creator(Made),
+    Touched(u64),
+    Refused(Refusal),
+}

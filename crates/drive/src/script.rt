@@ -1,0 +1,117 @@
+//! A whole script: each of its lines is answered before the next one is read.
+ghost use Rattle.std.specs.Prelude.{◌≡◌, ◌-◌, ◌^◌, ◌<◌, true, false, IfOk, OnOk};
+ghost use Rattle.std.specs.Io.BufRead.{strip_last};
+ghost use Rattle.devices.specs.Counted.{failures_of, known_by};
+ghost use Rattle.drive.specs.Scripts.{HasDriven, IsEnd, LineIsTold, line_of};
+
+use crate::lines::told;
+use crate::session::Session;
+use back::Naming;
+use devices::{Counted, WriteFailed, write_whole};
+use isa::Predictor;
+use std::alloc::{AllocError, Global};
+use std::io::{BufRead, ErrorKind, Write};
+use std::sync::Wait;
+
+/// Why a script was not answered to its end. There is no second try.
+#[derive(Clone, Copy, Debug, PartialEq, Eq)]
+pub enum Fault {
+    /// The script could not be read.
+    Read,
+    /// Memory ran out.
+    Memory,
+    /// An answer could not be written.
+    Write,
+}
+
+impl From<AllocError> for Fault {
+    fn from(_error: AllocError) -> Fault {
+        Fault::Memory
+    }
+}
+
+impl From<WriteFailed> for Fault {
+    fn from(_failed: WriteFailed) -> Fault {
+        Fault::Write
+    }
+}
+
+fn without_last(text: &[u8], last: u8) -> &[u8]
+    ensures { result.now ≡ strip_last last text.now }
+{
+    let n = text.len();
+    if n > 0 && text[n - 1] == last {
+        &text[..n - 1]
+    } else {
+        text
+    }
+}
+
+// A line without what ends it.
+fn line_in_chunk(chunk: &[u8]) -> &[u8]
+    ensures { result.now ≡ line_of chunk.now }
+{
+    without_last(without_last(chunk, b'\n'), b'\r')
+}
+
+// Reads the line of this number, and tells what is told of it. False at the end of the script.
+fn tell_line<P: Predictor + Drop, J: Naming, R: Wait, I: BufRead, W: Write>(
+    wait: &R,
+    alloc: Global,
+    session: &mut Session<'_, P, J>,
+    reader: &mut I,
+    writer: &mut Counted<W>,
+    number: u64,
+) -> Result<bool, Fault>
+    requires { failures_of writer.old < 2 ^ 64 - 1 }
+    ensures quiet { OnOk result (failures_of writer.new ≡ failures_of writer.old) }
+    ensures more { IfOk result (λ more. more ≡ true →
+        LineIsTold (I.remaining reader.old) (I.remaining reader.new) session.old session.new number
+        (known_by W.contents writer.old) (known_by W.contents writer.new)) }
+    ensures end { IfOk result (λ more. more ≡ false →
+        IsEnd (I.remaining reader.old) session.old session.new
+        (known_by W.contents writer.old) (known_by W.contents writer.new)) }
+{
+    let mut chunk = Vec::new(alloc);
+    let count = match reader.read_until(b'\n', &mut chunk) {
+        Ok(count) => count,
+        Err(error) => {
+            return Err(match error.kind() {
+                ErrorKind::OutOfMemory => Fault::Memory,
+                _ => Fault::Read,
+            });
+        }
+    };
+    if count == 0 {
+        return Ok(false);
+    }
+    let text = told(
+        wait,
+        alloc,
+        session,
+        number,
+        line_in_chunk(chunk.as_slice()),
+    )?;
+    write_whole(writer, text.as_str().as_bytes())?;
+    Ok(true)
+}
+
+/// Answers the lines of a script, up to its end. What is written is the transcript.
+pub fn drive<P: Predictor + Drop, J: Naming, R: Wait, I: BufRead, W: Write>(
+    wait: &R,
+    alloc: Global,
+    session: &mut Session<'_, P, J>,
+    reader: &mut I,
+    writer: &mut Counted<W>,
+) -> Result<(), Fault>
+    requires { failures_of writer.old < 2 ^ 64 - 1 }
+    ensures { OnOk result (HasDriven (I.remaining reader.old) session.old session.new
+        (known_by W.contents writer.old) (known_by W.contents writer.new)) }
+{
+    for number in 0..u64::MAX {
+        if !tell_line(wait, alloc, session, reader, writer, number + 1)? {
+            return Ok(());
+        }
+    }
+    Err(Fault::Read)
+}

@@ -1,0 +1,297 @@
+//! A session: a core with all its seats in one hand.
+ghost use Rattle.std.specs.Prelude.{◌≡◌, ◌≤◌, IfNone, IfOk, IfSome, None, vec_len};
+ghost use Rattle.isa.specs.Registers.{register_count};
+ghost use Rattle.drive.specs.Workers.{HasNone};
+
+use crate::calls;
+use crate::commands::Command;
+use crate::names::UNITS;
+use crate::replies::{Refusal, Reply};
+use crate::units::{Worker, claim_by, finish_by, job_of};
+use back::{Back, Mark, Naming, Snapper};
+use front::Front;
+use isa::{Config, End, Memory, Predictor, Program, Reg};
+use station::{Core, UnitSeat};
+use std::alloc::Global;
+use std::marker::Model;
+use std::sync::Wait;
+
+// The register with this number, if there is one.
+fn register_of(number: u32) -> Option<Reg>
+    ensures some { IfSome result (λ r. r ≡ number) }
+    ensures none { IfNone result (register_count ≤ number) }
+{
+    let small = u8::try_from(number).ok()?;
+    Reg::new(small)
+}
+
+// A place for each unit, none of which is made.
+#[tactic(auto, using(crate::proofs::Workers::push_none))]
+fn no_units(alloc: Global) -> Result<Vec<Option<Worker>>, Memory>
+    ensures places { IfOk result (λ units. vec_len units ≡ 64) }
+    ensures none { IfOk result (λ units. HasNone units.items) }
+{
+    let mut units = Vec::new(alloc);
+    for _ in 0..UNITS {
+        units.push(None)?;
+    }
+    Ok(units)
+}
+
+/// A core, its front, its back with a snapper, and its units, each made at its first claim. One more
+/// seat meets each caller before and after its call, so that all of them have seen one history.
+pub struct Session<'a, P: Predictor + Drop, J: Naming> {
+    core: Core,
+    program: &'a Program,
+    // has seen all that was done
+    all: UnitSeat,
+    front: Front<'a, P>,
+    back: Back<J>,
+    snapper: Snapper<J>,
+    mark: Option<Mark>,
+    units: Vec<Option<Worker>>,
+}
+
+impl<'a, P: Predictor + Drop, J: Naming> Model for Session<'a, P, J> {
+    ghost use Rattle.std.specs.Prelude.{vec_len};
+    ghost use Rattle.drive.specs.Sessions.{IsWhole, TheSession};
+
+    ghost Value = { TheSession };
+
+    ghost view = { λ s. record { core = s.core; seen = s.all.seen; units = s.units.items; commits = s.back; snapper = s.snapper; mark = s.mark; touched = s.front.touched } };
+
+    ghost invariant = { λ s. IsWhole J.program s.core s.program.now s.all s.front.core s.back s.units.items (vec_len s.units) };
+}
+
+impl<'a, P: Predictor + Drop, J: Naming> Session<'a, P, J> {
+    ghost use Rattle.std.specs.Prelude.{◌≡◌, IfOk};
+    ghost use Rattle.drive.specs.Moments.{Grows};
+    ghost use Rattle.back.specs.Backs.{state_of};
+    ghost use Rattle.back.specs.Ends.{IsInOrder, outcome_of, state_in};
+    ghost use Rattle.drive.specs.Sessions.{Answers, IsStart, changed};
+
+    /// A session at the start of a program. No unit is made yet.
+    pub fn new(
+        alloc: Global,
+        program: &'a Program,
+        config: &Config,
+        predictor: P,
+    ) -> Result<Self, Memory>
+        requires { program.now ≡ J.program }
+        ensures { IfOk result (λ s. IsStart program.now config.now s) }
+    {
+        let (core, front_seat, back_seat, all) = Core::make(alloc, program, config)?;
+        let units = no_units(alloc)?;
+        let front = Front::new(&core, front_seat, program, predictor);
+        match Back::<J>::new(alloc, &core, back_seat, program, config) {
+            Ok((back, snapper)) => Ok(Session {
+                core,
+                program,
+                all,
+                front,
+                back,
+                snapper,
+                mark: None,
+                units,
+            }),
+            Err((memory, _)) => Err(memory),
+        }
+    }
+
+    fn turn(&mut self) -> Reply
+        ensures core { self.new.core ≡ self.old.core }
+        ensures grows { Grows self.old.core self.old.seen self.new.seen }
+        ensures kept { self.new ≡ changed Command.Turn self.old self.new }
+        ensures reply { Answers self.old self.new Command.Turn result }
+    {
+        Reply::Turn(calls::turn(&self.core, &mut self.all, &mut self.front))
+    }
+
+    fn recover(&mut self) -> Reply
+        ensures core { self.new.core ≡ self.old.core }
+        ensures grows { Grows self.old.core self.old.seen self.new.seen }
+        ensures kept { self.new ≡ changed Command.Recover self.old self.new }
+        ensures reply { Answers self.old self.new Command.Recover result }
+    {
+        Reply::Recovery(calls::recover(&self.core, &mut self.all, &mut self.front))
+    }
+
+    fn claim(&mut self, unit: usize, station: u32) -> Reply
+        ensures core { self.new.core ≡ self.old.core }
+        ensures grows { Grows self.old.core self.old.seen self.new.seen }
+        ensures kept { self.new ≡ changed (Command.Claim unit station) self.old self.new }
+        ensures reply { Answers self.old self.new (Command.Claim unit station) result }
+    {
+        let ring = self.core.ring();
+        if UNITS <= unit {
+            return Reply::Refused(Refusal::NoUnit);
+        }
+        if ring <= station as usize {
+            return Reply::Refused(Refusal::NoStation);
+        }
+        if job_of(&self.units, unit).is_some() {
+            return Reply::Refused(Refusal::HoldsJob);
+        }
+        let (core, all, units) = (&self.core, &mut self.all, &mut self.units);
+        Reply::Claim(claim_by(core, all, units, unit, station as usize))
+    }
+
+    fn finish(&mut self, unit: usize, station: u32) -> Reply
+        ensures core { self.new.core ≡ self.old.core }
+        ensures grows { Grows self.old.core self.old.seen self.new.seen }
+        ensures kept { self.new ≡ changed (Command.Finish unit station) self.old self.new }
+        ensures reply { Answers self.old self.new (Command.Finish unit station) result }
+    {
+        let units = &self.units;
+        if units.len() <= unit {
+            return Reply::Refused(Refusal::NoUnit);
+        }
+        match job_of(units, unit) {
+            Some(held) if held.station == station as usize => {
+                let (core, all, units) = (&self.core, &mut self.all, &mut self.units);
+                Reply::Finish(finish_by(core, self.program, all, units, unit, held))
+            }
+            _ => Reply::Refused(Refusal::HoldsNone),
+        }
+    }
+
+    fn refresh(&mut self) -> Reply
+        ensures core { self.new.core ≡ self.old.core }
+        ensures grows { Grows self.old.core self.old.seen self.new.seen }
+        ensures kept { self.new ≡ changed Command.Refresh self.old self.new }
+        ensures reply { Answers self.old self.new Command.Refresh result }
+    {
+        Reply::Refresh(calls::refresh(&self.core, &mut self.all, &mut self.back))
+    }
+
+    fn commit(&mut self) -> Reply
+        ensures core { self.new.core ≡ self.old.core }
+        ensures grows { Grows self.old.core self.old.seen self.new.seen }
+        ensures kept { self.new ≡ changed Command.Commit self.old self.new }
+        ensures reply { Answers self.old self.new Command.Commit result }
+    {
+        if self.back.n() == u64::MAX {
+            return Reply::Refused(Refusal::NoCount);
+        }
+        Reply::Commit(calls::commit(&self.core, &mut self.all, &mut self.back))
+    }
+
+    fn show<R: Wait>(&mut self, wait: &R) -> Reply
+        ensures core { self.new.core ≡ self.old.core }
+        ensures grows { Grows self.old.core self.old.seen self.new.seen }
+        ensures kept { self.new ≡ changed Command.Show self.old self.new }
+        ensures reply { Answers self.old self.new Command.Show result }
+    {
+        match calls::show(wait, &self.core, &mut self.all, &mut self.back) {
+            Ok(mark) => {
+                self.mark = Some(mark);
+                Reply::Shown(mark)
+            }
+            Err(_) => Reply::Memory,
+        }
+    }
+
+    fn take(&mut self) -> Reply
+        ensures core { self.new.core ≡ self.old.core }
+        ensures grows { Grows self.old.core self.old.seen self.new.seen }
+        ensures kept { self.new ≡ changed Command.Take self.old self.new }
+        ensures reply { Answers self.old self.new Command.Take result }
+    {
+        match self.snapper.take() {
+            Ok(snap) => Reply::Taken(snap),
+            Err(_) => Reply::Gone,
+        }
+    }
+
+    fn learn(&mut self) -> Reply
+        ensures core { self.new.core ≡ self.old.core }
+        ensures grows { Grows self.old.core self.old.seen self.new.seen }
+        ensures kept { self.new ≡ changed Command.Learn self.old self.new }
+        ensures reply { Answers self.old self.new Command.Learn result }
+    {
+        match self.mark {
+            Some(mark) => {
+                self.snapper.learn(&mark);
+                Reply::Learnt
+            }
+            None => Reply::Refused(Refusal::NoMark),
+        }
+    }
+
+    fn look(&mut self, station: u32) -> Reply
+        ensures core { self.new.core ≡ self.old.core }
+        ensures grows { Grows self.old.core self.old.seen self.new.seen }
+        ensures kept { self.new ≡ changed (Command.Look station) self.old self.new }
+        ensures reply { Answers self.old self.new (Command.Look station) result }
+    {
+        if self.core.ring() <= station as usize {
+            return Reply::Refused(Refusal::NoStation);
+        }
+        let (core, all, front) = (&self.core, &mut self.all, &mut self.front);
+        Reply::Look(calls::look(core, all, front, station as usize))
+    }
+
+    fn creator(&mut self, register: u32) -> Reply
+        ensures core { self.new.core ≡ self.old.core }
+        ensures grows { Grows self.old.core self.old.seen self.new.seen }
+        ensures kept { self.new ≡ changed (Command.Creator register) self.old self.new }
+        ensures reply { Answers self.old self.new (Command.Creator register) result }
+    {
+        let core = &self.core;
+        let Some(named) = register_of(register) else {
+            return Reply::Refused(Refusal::NoRegister);
+        };
+        Reply::Creator(calls::creator(core, &mut self.all, &mut self.front, named))
+    }
+
+    fn touched(&mut self) -> Reply
+        ensures core { self.new.core ≡ self.old.core }
+        ensures grows { Grows self.old.core self.old.seen self.new.seen }
+        ensures kept { self.new ≡ changed Command.Touched self.old self.new }
+        ensures reply { Answers self.old self.new Command.Touched result }
+    {
+        Reply::Touched(self.front.touched())
+    }
+
+    /// Makes the call that a command asks for, if that is allowed.
+    pub fn answer<R: Wait>(&mut self, wait: &R, command: Command) -> Reply
+        ensures core { self.new.core ≡ self.old.core }
+        ensures grows { Grows self.old.core self.old.seen self.new.seen }
+        ensures kept { self.new ≡ changed command self.old self.new }
+        ensures reply { Answers self.old self.new command result }
+    {
+        match command {
+            Command::Turn => self.turn(),
+            Command::Recover => self.recover(),
+            Command::Claim(unit, station) => self.claim(unit, station),
+            Command::Finish(unit, station) => self.finish(unit, station),
+            Command::Refresh => self.refresh(),
+            Command::Commit => self.commit(),
+            Command::Show => self.show(wait),
+            Command::Take => self.take(),
+            Command::Learn => self.learn(),
+            Command::Look(station) => self.look(station),
+            Command::Creator(register) => self.creator(register),
+            Command::Touched => self.touched(),
+        }
+    }
+
+    /// Ends the back, and gives the committed state.
+    pub fn end<R: Wait>(self, wait: &R) -> End
+        ensures in_order { IsInOrder J.program result }
+        ensures state { state_in result ≡ state_of self.entry.commits }
+        ensures outcome { result.outcome ≡ outcome_of self.entry.commits.ended }
+    {
+        let Session {
+            core: _,
+            program: _,
+            all: _,
+            front: _,
+            back,
+            snapper: _,
+            mark: _,
+            units: _,
+        } = self;
+        back.end(wait)
+    }
+}

@@ -1,0 +1,204 @@
+//! The units of a session, and the jobs that they hold.
+ghost use Rattle.std.specs.Prelude.{◌≡◌, ◌<◌, None, Some, slice_set, vec_len};
+ghost use Rattle.station.specs.Seats.{IsSame};
+ghost use Rattle.drive.specs.Held.{claim_of, job_of as job_with};
+ghost use Rattle.drive.specs.Moments.{Grows};
+ghost use Rattle.drive.specs.Workers.{AreWorkers, HasClaimed, HasFinished, IsWorker, job_at, job_from, worker_at};
+ghost use Rattle.drive.specs.declared.units.Worker.{Worker};
+
+use crate::calls;
+use core::mem::replace_with;
+use isa::{Half, Program};
+use station::{Claim, Core, Finish, Job, Source, UnitSeat};
+
+/// The fields of a job that a unit holds.
+#[derive(Clone, Copy)]
+pub struct Held {
+    pub station: usize,
+    pub tag: u32,
+    pub index: u32,
+    pub half: Half,
+    pub pc: u32,
+    pub predicted: u32,
+    pub a: u32,
+    pub b: u32,
+}
+
+/// What a claim answered.
+#[derive(Clone, Copy)]
+pub enum Claimed {
+    Job(Held),
+    NotOpen,
+    Waiting { tag: u32, k: Source },
+    Moved { tag: u32 },
+}
+
+/// A unit: its seat, and the job that it has claimed and not finished.
+#[derive(Drop)]
+pub struct Worker {
+    pub(crate) seat: UnitSeat,
+    pub(crate) job: Option<Held>,
+}
+
+fn fields_of(job: Job) -> Held
+    ensures { job_with result ≡ job }
+{
+    let Job {
+        station,
+        tag,
+        index,
+        half,
+        pc,
+        predicted,
+        a,
+        b,
+    } = job;
+    Held {
+        station,
+        tag,
+        index,
+        half,
+        pc,
+        predicted,
+        a,
+        b,
+    }
+}
+
+// The job with these fields.
+fn job_with(held: Held) -> Job
+    ensures { result ≡ job_with held }
+{
+    Job {
+        station: held.station,
+        tag: held.tag,
+        index: held.index,
+        half: held.half,
+        pc: held.pc,
+        predicted: held.predicted,
+        a: held.a,
+        b: held.b,
+    }
+}
+
+// The answer of a claim, with the fields of its job.
+fn answer_of(claim: Claim) -> Claimed
+    ensures { claim_of result ≡ claim }
+{
+    match claim {
+        Claim::Job(job) => Claimed::Job(fields_of(job)),
+        Claim::NotOpen => Claimed::NotOpen,
+        Claim::Waiting { tag, k } => Claimed::Waiting { tag, k },
+        Claim::Moved { tag } => Claimed::Moved { tag },
+    }
+}
+
+// The job that a claim gave.
+fn job_from(answer: Claimed) -> Option<Held>
+    ensures { result ≡ job_from answer }
+{
+    match answer {
+        Claimed::Job(held) => Some(held),
+        _ => None,
+    }
+}
+
+/// The job of the unit at a place, if it was made and holds one.
+pub(crate) fn job_of(units: &Vec<Option<Worker>>, unit: usize) -> Option<Held>
+    requires { unit < vec_len units.now }
+    ensures { result ≡ job_at units.now.items unit }
+{
+    match &units[unit] {
+        Some(worker) => worker.job,
+        None => None,
+    }
+}
+
+fn part(seat: UnitSeat, core: &Core) -> (UnitSeat, UnitSeat)
+    requires { seat.core ≡ core.now }
+    ensures kept { IsSame seat result.0 }
+    ensures history { result.0.seen ≡ seat.seen }
+    ensures other { result.1.core ≡ core.now }
+{
+    core.split(seat)
+}
+
+// Takes the unit at a place, which is made if it is not there yet.
+fn take_worker(
+    core: &Core,
+    all: &mut UnitSeat,
+    units: &mut Vec<Option<Worker>>,
+    unit: usize,
+) -> Worker
+    requires all { all.old.core ≡ core.now }
+    requires unit { unit < vec_len units.old }
+    requires workers { AreWorkers core.now units.old.items }
+    ensures all { IsSame all.old all.new }
+    ensures history { all.new.seen ≡ all.old.seen }
+    ensures worker { IsWorker core.now result }
+    ensures job { result.job ≡ job_at units.old.items unit }
+    ensures same { (w : Worker) → worker_at units.old.items unit ≡ Some w → result ≡ w }
+    ensures place { units.new.items ≡ slice_set units.old.items unit None }
+{
+    match units[unit].take() {
+        Some(worker) => worker,
+        None => Worker {
+            seat: replace_with(all, core, part),
+            job: None,
+        },
+    }
+}
+
+/// A claim by the unit at a place, which holds no job.
+pub(crate) fn claim_by(
+    core: &Core,
+    all: &mut UnitSeat,
+    units: &mut Vec<Option<Worker>>,
+    unit: usize,
+    station: usize,
+) -> Claimed
+    requires all { all.old.core ≡ core.now }
+    requires unit { unit < vec_len units.old }
+    requires workers { AreWorkers core.now units.old.items }
+    requires station { station < core.now.sizes.ring }
+    requires free { job_at units.old.items unit ≡ None }
+    ensures all { IsSame all.old all.new }
+    ensures grows { Grows core.now all.old.seen all.new.seen }
+    ensures workers { AreWorkers core.now units.new.items }
+    ensures places { vec_len units.new ≡ vec_len units.old }
+    ensures reply { HasClaimed core.now all.old.seen all.new.seen units.old.items units.new.items
+        unit station result }
+{
+    let Worker { mut seat, job: _ } = take_worker(core, all, units, unit);
+    let answer = answer_of(calls::claim(core, all, &mut seat, station));
+    let job = job_from(answer);
+    units[unit] = Some(Worker { seat, job });
+    answer
+}
+
+/// The finish of the job that the unit at a place holds.
+pub(crate) fn finish_by(
+    core: &Core,
+    program: &Program,
+    all: &mut UnitSeat,
+    units: &mut Vec<Option<Worker>>,
+    unit: usize,
+    held: Held,
+) -> Finish
+    requires all { all.old.core ≡ core.now }
+    requires program { program.now ≡ core.now.program }
+    requires unit { unit < vec_len units.old }
+    requires workers { AreWorkers core.now units.old.items }
+    requires holds { job_at units.old.items unit ≡ Some held }
+    ensures all { IsSame all.old all.new }
+    ensures grows { Grows core.now all.old.seen all.new.seen }
+    ensures workers { AreWorkers core.now units.new.items }
+    ensures places { vec_len units.new ≡ vec_len units.old }
+    ensures reply { HasFinished core.now all.old.seen all.new.seen units.old.items units.new.items
+        unit held result }
+{
+    let Worker { mut seat, job: _ } = take_worker(core, all, units, unit);
+    let answer = calls::finish(core, program, all, &mut seat, job_with(held));
+    units[unit] = Some(Worker { seat, job: None });
+    answer
+}
