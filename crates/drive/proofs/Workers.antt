@@ -1,5 +1,6 @@
 -- The units of a session, one of which is taken and put back.
-use Rattle.std.proofs.Common.{◌≡◌, ◌≢◌, ◌⊎◌, ◌<◌, ℕ, zero, suc, List, [], ◌∷◌, ◌++◌, Option, Some, None, length, get_or, set, inl, inr, refl, sym, ap, ◌∙◌, subst, get_or-set_same, get_or-set_other, length-set}
+use Rattle.std.proofs.Common.{◌≡◌, ◌≢◌, ◌⊎◌, ◌<◌, ℕ, zero, suc, List, [], ◌∷◌, ◌++◌}
+use Rattle.std.proofs.Common.{Option, Some, None, length, get_or, set, inl, inr, refl, sym, ap, ◌∙◌, subst, get_or-set_same, get_or-set_other, length-set}
 use Rattle.std.proofs.lemmas.Bool.{cases_eq}
 use Rattle.std.proofs.lemmas.List.{get_or_default}
 use Rattle.drive.specs.declared.units.Claimed.{Claimed}
@@ -56,7 +57,8 @@ holds_by core seat NotOpen holds held e = absurd (cc)
 holds_by core seat (Waiting tag k) holds held e = absurd (cc)
 holds_by core seat (Moved tag) holds held e = absurd (cc)
 
-pub claimed_holds : (core : TheCore) (seat : Caller) (answer : Claimed) (claim : Claim) (job : Option Held) → claim_of answer ≡ claim → HoldsWhatIs core seat claim → job ≡ job_from answer → (held : Held) → job ≡ Some held → IsHolder core seat held
+pub claimed_holds : (core : TheCore) (seat : Caller) (answer : Claimed) (claim : Claim) (job : Option Held) →
+    claim_of answer ≡ claim → HoldsWhatIs core seat claim → job ≡ job_from answer → (held : Held) → job ≡ Some held → IsHolder core seat held
 claimed_holds core seat answer claim job e holds from held is = holds_by core seat answer (subst (λ (c : Claim). HoldsWhatIs core seat c) (sym e) holds) held (sym from ∙ is)
 
 -- One more that was not made

@@ -30,12 +30,14 @@ use Rattle.station.specs.Writeback.{FinishAnswers}
 use Rattle.drive.specs.Moments.{IsBetween}
 
 -- A tenant was let, with some predicted next pc
-pub record HasLet (P : Program) (C : Sizes) (before behind : List Entry) (station tag pc : ℕ) : Type 0 where
+pub record HasLet (P : Program) (C : Sizes) (before behind : List Entry) (station tag pc : ℕ) :
+    Type 0 where
   pub predicted : ℕ
   pub lets : LetsOut P C before behind station tag pc predicted
 
 -- A refusal is true at its moment of the call, and adds nothing
-pub record IsRefusal (P : Program) (C : Sizes) (before behind : List Entry) (turn : Turn) : Type 0 where
+pub record IsRefusal (P : Program) (C : Sizes) (before behind : List Entry) (turn : Turn) :
+    Type 0 where
   pub adds : Adds P C front before behind []
   pub was : Refuses P C before behind turn
 
@@ -51,17 +53,20 @@ IsTurn core old new turn =
 -- A recovery by the front
 abbrev pub IsRecovery : TheCore → List Entry → List Entry → Recovery → Type 0
 IsRecovery core old new recovery =
-    IsBetween old new (λ before behind. RecoverAnswers core.program core.sizes before behind recovery)
+    IsBetween old new (λ before behind.
+    RecoverAnswers core.program core.sizes before behind recovery)
 
 -- A claim by this unit
 abbrev pub IsClaim : TheCore → ℕ → List Entry → List Entry → ℕ → Claim → Type 0
 IsClaim core by old new station claim =
-    IsBetween old new (λ before behind. ClaimAnswers core.program core.sizes by before behind station claim)
+    IsBetween old new (λ before behind.
+    ClaimAnswers core.program core.sizes by before behind station claim)
 
 -- Its finish of a job
 abbrev pub IsFinish : TheCore → ℕ → List Entry → List Entry → Job → Finish → Type 0
 IsFinish core by old new job finish =
-    IsBetween old new (λ before behind. FinishAnswers core.program core.sizes by before behind job finish)
+    IsBetween old new (λ before behind.
+    FinishAnswers core.program core.sizes by before behind job finish)
 
 -- A refresh by the back
 abbrev pub IsRefresh : TheCore → ℕ → List Entry → List Entry → Refresh → Type 0

@@ -12,7 +12,8 @@ line_of chunk = strip_last 13 (strip_last 10 chunk)
 -- The next line of a script was read, with what ends it. This says something where the bytes of
 -- the reader are known
 abbrev pub Reads : Option (List ℕ) → Option (List ℕ) → List ℕ → Type 0
-Reads from to chunk = IfSome from (λ input. (chunk ≡ take_through 10 input) × (to ≡ Some (drop_through 10 input)))
+Reads from to chunk =
+    IfSome from (λ input. (chunk ≡ take_through 10 input) × (to ≡ Some (drop_through 10 input)))
 
 -- These lines were read, the last one first
 abbrev pub AreRead : Option (List ℕ) → List (List ℕ) → Option (List ℕ) → Type 0
@@ -21,7 +22,8 @@ AreRead from (chunk ∷ earlier) to =
     (middle : Option (List ℕ)) × AreRead from earlier middle × Reads middle to chunk
 
 -- A line was read, answered, and what is told of it was written
-pub record LineIsTold (from to : Option (List ℕ)) (old new : TheSession) (number : ℕ) (before after : Option (List ℕ)) : Type 0 where
+pub record LineIsTold (from to : Option (List ℕ)) (old new : TheSession) (number : ℕ)
+    (before after : Option (List ℕ)) : Type 0 where
   pub chunk : List ℕ
   pub text : List ℕ
   pub read : Reads from to chunk
@@ -29,13 +31,15 @@ pub record LineIsTold (from to : Option (List ℕ)) (old new : TheSession) (numb
   pub written : Appends before after text
 
 -- Nothing was left to read, and nothing was done
-pub record IsEnd (from : Option (List ℕ)) (old new : TheSession) (before after : Option (List ℕ)) : Type 0 where
+pub record IsEnd (from : Option (List ℕ)) (old new : TheSession)
+    (before after : Option (List ℕ)) : Type 0 where
   pub read : IsAtEnd from
   pub same : new ≡ old
   pub unwritten : after ≡ before
 
 -- So many lines were read from the first on, and what was written is their transcript
-pub record AreTold (from to : Option (List ℕ)) (old new : TheSession) (before after : Option (List ℕ)) (count : ℕ) : Type 0 where
+pub record AreTold (from to : Option (List ℕ)) (old new : TheSession)
+    (before after : Option (List ℕ)) (count : ℕ) : Type 0 where
   -- the last one first
   pub chunks : List (List ℕ)
   pub count_is : length chunks ≡ count
@@ -45,7 +49,8 @@ pub record AreTold (from to : Option (List ℕ)) (old new : TheSession) (before 
   pub written : Appends before after text
 
 -- All of a script was read, and what was written is the transcript of its lines
-pub record HasDriven (from : Option (List ℕ)) (old new : TheSession) (before after : Option (List ℕ)) : Type 0 where
+pub record HasDriven (from : Option (List ℕ)) (old new : TheSession)
+    (before after : Option (List ℕ)) : Type 0 where
   pub to : Option (List ℕ)
   pub count : ℕ
   pub all : AreTold from to old new before after count

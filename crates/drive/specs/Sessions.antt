@@ -35,8 +35,8 @@ pub record TheSession : Type 0 where
   pub touched : ℕ
 
 -- Its parts are of one core
-pub record IsWhole (P : Program) (core : TheCore) (program : Program) (all : Caller) (front_core : TheCore)
-    (commits : TheBack) (units : List (Option Worker)) (count : ℕ) : Type 0 where
+pub record IsWhole (P : Program) (core : TheCore) (program : Program) (all : Caller)
+    (front_core : TheCore) (commits : TheBack) (units : List (Option Worker)) (count : ℕ) : Type 0 where
   pub named : core.program ≡ P
   pub program_is : program ≡ core.program
   pub all_core : all.core ≡ core

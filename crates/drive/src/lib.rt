@@ -1,8 +1,10 @@
-//! A shared unit driven by hand, on one thread: a script of commands, each of which makes one public call.
+//! A shared unit driven by hand, on one thread: a script of commands, each of which makes one
+//! public call, and the transcript of what they answer.
 #![tactic(auto)]
 
 mod calls;
 mod commands;
+mod digits;
 mod lines;
 mod names;
 mod replies;

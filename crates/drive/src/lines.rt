@@ -63,7 +63,8 @@ pub fn told<P: Predictor + Drop, J: Naming, R: Wait>(
     number: u64,
     line: &[u8],
 ) -> Result<String, AllocError>
-    ensures { IfOk result (λ text. IsTold session.old session.new number line.now (string_bytes text)) }
+    ensures { IfOk result (λ text.
+        IsTold session.old session.new number line.now (string_bytes text)) }
 {
     match line_in(line) {
         Line::Nothing => Ok(String::new(alloc)),

@@ -1,6 +1,9 @@
-//! The names of units.
-ghost use Rattle.std.specs.Prelude.{◌≡◌, ◌<◌, IfSome};
+//! The names of units, and the numbers of registers.
+ghost use Rattle.std.specs.Prelude.{◌≡◌, ◌<◌, ◌≤◌, IfNone, IfSome};
+ghost use Rattle.isa.specs.Registers.{register_count};
 ghost use Rattle.drive.specs.Units.{both_letters, letter, unit_count, unit_of};
+
+use isa::Reg;
 
 /// How many units there can be.
 pub const UNITS: usize = 64;
@@ -35,4 +38,13 @@ pub fn unit_in(name: &[u8]) -> Option<usize>
         [a, b] => both_letters(letter(*a), letter(*b)),
         _ => None,
     }
+}
+
+/// The register with this number, if there is one.
+pub(crate) fn register_of(number: u32) -> Option<Reg>
+    ensures some { IfSome result (λ r. r ≡ number) }
+    ensures none { IfNone result (register_count ≤ number) }
+{
+    let small = u8::try_from(number).ok()?;
+    Reg::new(small)
 }

@@ -1,42 +1,18 @@
 //! A session: a core with all its seats in one hand.
-ghost use Rattle.std.specs.Prelude.{◌≡◌, ◌≤◌, IfNone, IfOk, IfSome, None, vec_len};
-ghost use Rattle.isa.specs.Registers.{register_count};
-ghost use Rattle.drive.specs.Workers.{HasNone};
+mod showing;
 
 use crate::calls;
 use crate::commands::Command;
-use crate::names::UNITS;
+use crate::names::{UNITS, register_of};
 use crate::replies::{Refusal, Reply};
-use crate::units::{Worker, claim_by, finish_by, job_of};
+use crate::units::{Worker, claim_by, finish_by, job_of, no_units};
 use back::{Back, Mark, Naming, Snapper};
 use front::Front;
-use isa::{Config, End, Memory, Predictor, Program, Reg};
+use isa::{Config, End, Memory, Predictor, Program};
 use station::{Core, UnitSeat};
 use std::alloc::Global;
 use std::marker::Model;
 use std::sync::Wait;
-
-// The register with this number, if there is one.
-fn register_of(number: u32) -> Option<Reg>
-    ensures some { IfSome result (λ r. r ≡ number) }
-    ensures none { IfNone result (register_count ≤ number) }
-{
-    let small = u8::try_from(number).ok()?;
-    Reg::new(small)
-}
-
-// A place for each unit, none of which is made.
-#[tactic(auto, using(crate::proofs::Workers::push_none))]
-fn no_units(alloc: Global) -> Result<Vec<Option<Worker>>, Memory>
-    ensures places { IfOk result (λ units. vec_len units ≡ 64) }
-    ensures none { IfOk result (λ units. HasNone units.items) }
-{
-    let mut units = Vec::new(alloc);
-    for _ in 0..UNITS {
-        units.push(None)?;
-    }
-    Ok(units)
-}
 
 /// A core, its front, its back with a snapper, and its units, each made at its first claim. One more
 /// seat meets each caller before and after its call, so that all of them have seen one history.
@@ -58,9 +34,18 @@ impl<'a, P: Predictor + Drop, J: Naming> Model for Session<'a, P, J> {
 
     ghost Value = { TheSession };
 
-    ghost view = { λ s. record { core = s.core; seen = s.all.seen; units = s.units.items; commits = s.back; snapper = s.snapper; mark = s.mark; touched = s.front.touched } };
+    ghost view = { λ s. record {
+      core = s.core;
+      seen = s.all.seen;
+      units = s.units.items;
+      commits = s.back;
+      snapper = s.snapper;
+      mark = s.mark;
+      touched = s.front.touched;
+    } };
 
-    ghost invariant = { λ s. IsWhole J.program s.core s.program.now s.all s.front.core s.back s.units.items (vec_len s.units) };
+    ghost invariant = { λ s. IsWhole J.program s.core s.program.now s.all s.front.core s.back
+        s.units.items (vec_len s.units) };
 }
 
 impl<'a, P: Predictor + Drop, J: Naming> Session<'a, P, J> {
@@ -174,48 +159,6 @@ impl<'a, P: Predictor + Drop, J: Naming> Session<'a, P, J> {
             return Reply::Refused(Refusal::NoCount);
         }
         Reply::Commit(calls::commit(&self.core, &mut self.all, &mut self.back))
-    }
-
-    fn show<R: Wait>(&mut self, wait: &R) -> Reply
-        ensures core { self.new.core ≡ self.old.core }
-        ensures grows { Grows self.old.core self.old.seen self.new.seen }
-        ensures kept { self.new ≡ changed Command.Show self.old self.new }
-        ensures reply { Answers self.old self.new Command.Show result }
-    {
-        match calls::show(wait, &self.core, &mut self.all, &mut self.back) {
-            Ok(mark) => {
-                self.mark = Some(mark);
-                Reply::Shown(mark)
-            }
-            Err(_) => Reply::Memory,
-        }
-    }
-
-    fn take(&mut self) -> Reply
-        ensures core { self.new.core ≡ self.old.core }
-        ensures grows { Grows self.old.core self.old.seen self.new.seen }
-        ensures kept { self.new ≡ changed Command.Take self.old self.new }
-        ensures reply { Answers self.old self.new Command.Take result }
-    {
-        match self.snapper.take() {
-            Ok(snap) => Reply::Taken(snap),
-            Err(_) => Reply::Gone,
-        }
-    }
-
-    fn learn(&mut self) -> Reply
-        ensures core { self.new.core ≡ self.old.core }
-        ensures grows { Grows self.old.core self.old.seen self.new.seen }
-        ensures kept { self.new ≡ changed Command.Learn self.old self.new }
-        ensures reply { Answers self.old self.new Command.Learn result }
-    {
-        match self.mark {
-            Some(mark) => {
-                self.snapper.learn(&mark);
-                Reply::Learnt
-            }
-            None => Reply::Refused(Refusal::NoMark),
-        }
     }
 
     fn look(&mut self, station: u32) -> Reply

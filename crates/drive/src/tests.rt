@@ -133,3 +133,95 @@ Finished
     assert_eq!(rt; told.as_slice(), expected.as_slice());
     Ok(())
 }
+
+#[test]
+fn a_full_ring_goes_on_after_a_commit(rt: HostRuntime) -> Result<(), Fail> {
+    let script = b"turn\nturn\nturn\ncreator 2\nclaim A 0\nfinish A 0\ncommit\nturn\n";
+    let told = told_by(&rt, rt.alloc(), THREE, 2, 1, script)?;
+    let expected = b"Let station 0 tag 1 pc 0x00400000
+Let station 1 tag 1 pc 0x00400004
+Full
+Made station 1 tag 1
+Job station 0 tag 1 index 0 half Low pc 0x00400000 predicted 0x00400004 a 0x00000000 b 0x00000000
+Finished
+Retired pc 0x00400000 n 1
+Let station 0 tag 2 pc 0x00400008
+";
+    assert_eq!(rt; told.as_slice(), expected.as_slice());
+    Ok(())
+}
+
+#[test]
+fn a_claim_is_known_to_the_other_unit(rt: HostRuntime) -> Result<(), Fail> {
+    let script =
+        b"turn\nturn\nclaim A 0\nclaim B 0\nclaim B 1\nfinish A 0\nclaim B 1\nfinish B 1\n";
+    let told = told_by(&rt, rt.alloc(), THREE, 2, 1, script)?;
+    let expected = b"Let station 0 tag 1 pc 0x00400000
+Let station 1 tag 1 pc 0x00400004
+Job station 0 tag 1 index 0 half Low pc 0x00400000 predicted 0x00400004 a 0x00000000 b 0x00000000
+NotOpen
+Waiting tag 1 source 1
+Finished
+Job station 1 tag 1 index 1 half Low pc 0x00400004 predicted 0x00400008 a 0x00000005 b 0x00000005
+Finished
+";
+    assert_eq!(rt; told.as_slice(), expected.as_slice());
+    Ok(())
+}
+
+#[test]
+fn a_load_waits_for_the_data_of_a_store(rt: HostRuntime) -> Result<(), Fail> {
+    let listing = b".space 4\naddiu $1,$0,7\nsw $1,0($0)\nlw $2,0($0)\nbreak\n";
+    let script =
+        b"turn\nturn\nturn\nturn\nclaim A 2\nfinish A 2\nrefresh\nclaim A 1\nfinish A 1\nrefresh
+claim A 0\nfinish A 0\nrefresh\ncommit\ncommit\ncommit\ncommit\n";
+    let told = told_by(&rt, rt.alloc(), listing, 4, 1, script)?;
+    let expected = b"Let station 0 tag 1 pc 0x00400000
+Let station 1 tag 1 pc 0x00400004
+Let station 2 tag 1 pc 0x00400008
+Let station 3 tag 1 pc 0x0040000c
+Job station 2 tag 1 index 2 half Low pc 0x00400008 predicted 0x0040000c a 0x00000000 b 0x00000000
+Finished
+Blocked load 2 store 1
+Job station 1 tag 1 index 1 half Low pc 0x00400004 predicted 0x00400008 a 0x00000000 b 0x00000000
+Finished
+Blocked load 2 store 1
+Job station 0 tag 1 index 0 half Low pc 0x00400000 predicted 0x00400004 a 0x00000000 b 0x00000000
+Finished
+Loaded station 2 tag 1 value 0x00000007
+Retired pc 0x00400000 n 1
+Retired pc 0x00400004 n 2
+Retired pc 0x00400008 n 3
+NotDone
+";
+    assert_eq!(rt; told.as_slice(), expected.as_slice());
+    Ok(())
+}
+
+#[test]
+fn a_link_dies_with_its_tenant(rt: HostRuntime) -> Result<(), Fail> {
+    let listing =
+        b"addiu $1,$0,1\naddiu $3,$0,3\nbeq $0,$0,E\naddu $2,$1,$1\nE: addu $4,$3,$3\nbreak\n";
+    let script =
+        b"turn\nturn\nturn\nturn\nclaim A 0\nclaim B 2\nfinish B 2\nrecover\nturn\nfinish A 0
+claim B 3\nclaim B 1\nfinish B 1\nclaim B 3\nfinish B 3\n";
+    let told = told_by(&rt, rt.alloc(), listing, 4, 1, script)?;
+    let expected = b"Let station 0 tag 1 pc 0x00400000
+Let station 1 tag 1 pc 0x00400004
+Let station 2 tag 1 pc 0x00400008
+Let station 3 tag 1 pc 0x0040000c
+Job station 0 tag 1 index 0 half Low pc 0x00400000 predicted 0x00400004 a 0x00000000 b 0x00000000
+Job station 2 tag 1 index 2 half Low pc 0x00400008 predicted 0x0040000c a 0x00000000 b 0x00000000
+Finished
+Mended station 2 squashed 1
+Let station 3 tag 2 pc 0x00400010
+Finished
+Waiting tag 2 source 1
+Job station 1 tag 1 index 1 half Low pc 0x00400004 predicted 0x00400008 a 0x00000000 b 0x00000000
+Finished
+Job station 3 tag 2 index 4 half Low pc 0x00400010 predicted 0x00400014 a 0x00000003 b 0x00000003
+Finished
+";
+    assert_eq!(rt; told.as_slice(), expected.as_slice());
+    Ok(())
+}

@@ -1,8 +1,8 @@
 //! The texts of answers.
-ghost use Rattle.std.specs.Prelude.{◌≡◌, ◌++◌, IfOk, OnOk, Some, string_bytes};
-ghost use Rattle.isa.specs.Report.{hexadecimal, register_name};
-ghost use Rattle.drive.specs.Texts.{claimed_text, commit_text, half_text, held_text, look_text, made_text, place_text, recovery_text, refresh_text, refusal_text, registers_text, reply_text, snap_text, source_text, state_text, turn_text, finish_text, values_text};
+ghost use Rattle.std.specs.Prelude.{◌≡◌, ◌++◌, IfOk, OnOk, string_bytes};
+ghost use Rattle.drive.specs.Texts.{claimed_text, commit_text, half_text, held_text, look_text, made_text, place_text, recovery_text, refresh_text, refusal_text, reply_text, snap_text, source_text, state_text, turn_text, finish_text, values_text};
 
+use crate::digits::{Word, push_registers};
 use crate::replies::{Refusal, Reply};
 use crate::units::{Claimed, Held};
 use back::{Commit, Refresh, Snap};
@@ -10,20 +10,6 @@ use front::{Made, Recovery, Turn};
 use isa::Half;
 use station::{Finish, Seen, Source, StationState};
 use std::alloc::{AllocError, Global};
-use std::fmt;
-
-// A word as `0x` and eight hexadecimal digits.
-#[derive(Clone, Copy)]
-struct Word(u32);
-
-impl fmt::Display for Word {
-    ghost output = { λ word. Some (hexadecimal word.0) };
-
-    fn fmt<W: fmt::Write>(&self, f: &mut fmt::Formatter<W>) -> fmt::Result {
-        let word = self.0;
-        write!(f, "0x{word:08x}")
-    }
-}
 
 fn half(half: Half) -> &'static str
     ensures { result.now ≡ half_text half }
@@ -55,37 +41,6 @@ fn state(state: StationState) -> &'static str
         StationState::Miss => "MISS",
         StationState::Stop => "STOP",
     }
-}
-
-// What a report calls a register.
-#[derive(Clone, Copy)]
-struct Name(usize);
-
-impl fmt::Display for Name {
-    ghost output = { λ name. Some (register_name name.0) };
-
-    fn fmt<W: fmt::Write>(&self, f: &mut fmt::Formatter<W>) -> fmt::Result {
-        match self.0 {
-            32 => f.write_str("lo"),
-            33 => f.write_str("hi"),
-            number => write!(f, "r{number}"),
-        }
-    }
-}
-
-// The registers that are not 0.
-fn push_registers(out: &mut String, registers: &[u32; 34]) -> Result<(), AllocError>
-    ensures { OnOk result (string_bytes out.new
-        ≡ string_bytes out.old ++ registers_text 0 registers.now) }
-{
-    for (r, value) in registers.iter().enumerate() {
-        if *value != 0 {
-            let name = Name(r);
-            let value = Word(*value);
-            write!(out, " {name} {value}")?;
-        }
-    }
-    Ok(())
 }
 
 fn snap_text(alloc: Global, snap: &Snap) -> Result<String, AllocError>

@@ -1,15 +1,17 @@
 //! The units of a session, and the jobs that they hold.
-ghost use Rattle.std.specs.Prelude.{◌≡◌, ◌<◌, None, Some, slice_set, vec_len};
+ghost use Rattle.std.specs.Prelude.{◌≡◌, ◌<◌, IfOk, None, Some, slice_set, vec_len};
 ghost use Rattle.station.specs.Seats.{IsSame};
 ghost use Rattle.drive.specs.Held.{claim_of, job_of as job_with};
 ghost use Rattle.drive.specs.Moments.{Grows};
-ghost use Rattle.drive.specs.Workers.{AreWorkers, HasClaimed, HasFinished, IsWorker, job_at, job_from, worker_at};
+ghost use Rattle.drive.specs.Workers.{AreWorkers, HasClaimed, HasFinished, HasNone, IsWorker, job_at, job_from, worker_at};
 ghost use Rattle.drive.specs.declared.units.Worker.{Worker};
 
 use crate::calls;
+use crate::names::UNITS;
 use core::mem::replace_with;
-use isa::{Half, Program};
+use isa::{Half, Memory, Program};
 use station::{Claim, Core, Finish, Job, Source, UnitSeat};
+use std::alloc::Global;
 
 /// The fields of a job that a unit holds.
 #[derive(Clone, Copy)]
@@ -112,6 +114,19 @@ pub(crate) fn job_of(units: &Vec<Option<Worker>>, unit: usize) -> Option<Held>
         Some(worker) => worker.job,
         None => None,
     }
+}
+
+/// A place for each unit, none of which is made.
+#[tactic(auto, using(crate::proofs::Workers::push_none))]
+pub(crate) fn no_units(alloc: Global) -> Result<Vec<Option<Worker>>, Memory>
+    ensures places { IfOk result (λ units. vec_len units ≡ 64) }
+    ensures none { IfOk result (λ units. HasNone units.items) }
+{
+    let mut units = Vec::new(alloc);
+    for _ in 0..UNITS {
+        units.push(None)?;
+    }
+    Ok(units)
 }
 
 fn part(seat: UnitSeat, core: &Core) -> (UnitSeat, UnitSeat)

@@ -30,5 +30,6 @@ returns-clause-reply c =
     let job = c.args.job in
     let by = c.args.seat.now.by in
     let says = subst (λ n. FinishAnswers core.program core.sizes n c.meet.new.one.seen c.finish-answer.new.seat.seen job answer) c.meet.ensures.one_kept.by c.finish-answer.ensures.reply in
-    between (λ before behind. FinishAnswers core.program core.sizes by before behind job answer) c.args.all.now.seen c.meet.new.one.seen c.finish-answer.new.seat.seen c.meet-2.new.one.seen c.meet-2.new.other.seen
+    between (λ before behind. FinishAnswers core.program core.sizes by before behind job answer)
+    c.args.all.now.seen c.meet.new.one.seen c.finish-answer.new.seat.seen c.meet-2.new.one.seen c.meet-2.new.other.seen
     c.meet.ensures.one_told says c.meet-2.ensures.one_history.begins c.meet-2.ensures.other_told

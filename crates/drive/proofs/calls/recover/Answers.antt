@@ -10,5 +10,6 @@ returns-clause-grows g c =
 pub returns-clause-reply : goal.returns-clause-reply
 returns-clause-reply g c =
     let core = c.args.core.now in
-    between (λ before behind. RecoverAnswers core.program core.sizes before behind c.recover-answer.result) c.args.all.now.seen c.meet.new.self.seen c.recover-answer.new.self.seen c.meet-2.new.self.seen c.meet-2.new.other.seen
+    between (λ before behind. RecoverAnswers core.program core.sizes before behind c.recover-answer.result)
+    c.args.all.now.seen c.meet.new.self.seen c.recover-answer.new.self.seen c.meet-2.new.self.seen c.meet-2.new.other.seen
     c.meet.ensures.told c.recover-answer.ensures.reply c.meet-2.ensures.history.begins c.meet-2.ensures.other_told

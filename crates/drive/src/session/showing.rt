@@ -1,0 +1,56 @@
+//! Snapshots of a session.
+use super::Session;
+use crate::calls;
+use crate::replies::{Refusal, Reply};
+use back::Naming;
+use isa::Predictor;
+use std::sync::Wait;
+
+impl<'a, P: Predictor + Drop, J: Naming> Session<'a, P, J> {
+    ghost use Rattle.std.specs.Prelude.{◌≡◌};
+    ghost use Rattle.drive.specs.Moments.{Grows};
+    ghost use Rattle.drive.specs.Sessions.{Answers, changed};
+    ghost use Rattle.drive.specs.declared.commands.Command.TheVariants.{Learn, Show, Take};
+
+    pub(super) fn show<R: Wait>(&mut self, wait: &R) -> Reply
+        ensures core { self.new.core ≡ self.old.core }
+        ensures grows { Grows self.old.core self.old.seen self.new.seen }
+        ensures kept { self.new ≡ changed Show self.old self.new }
+        ensures reply { Answers self.old self.new Show result }
+    {
+        match calls::show(wait, &self.core, &mut self.all, &mut self.back) {
+            Ok(mark) => {
+                self.mark = Some(mark);
+                Reply::Shown(mark)
+            }
+            Err(_) => Reply::Memory,
+        }
+    }
+
+    pub(super) fn take(&mut self) -> Reply
+        ensures core { self.new.core ≡ self.old.core }
+        ensures grows { Grows self.old.core self.old.seen self.new.seen }
+        ensures kept { self.new ≡ changed Take self.old self.new }
+        ensures reply { Answers self.old self.new Take result }
+    {
+        match self.snapper.take() {
+            Ok(snap) => Reply::Taken(snap),
+            Err(_) => Reply::Gone,
+        }
+    }
+
+    pub(super) fn learn(&mut self) -> Reply
+        ensures core { self.new.core ≡ self.old.core }
+        ensures grows { Grows self.old.core self.old.seen self.new.seen }
+        ensures kept { self.new ≡ changed Learn self.old self.new }
+        ensures reply { Answers self.old self.new Learn result }
+    {
+        match self.mark {
+            Some(mark) => {
+                self.snapper.learn(&mark);
+                Reply::Learnt
+            }
+            None => Reply::Refused(Refusal::NoMark),
+        }
+    }
+}
