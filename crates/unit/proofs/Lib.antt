@@ -4,7 +4,6 @@ pub mod Settled
 pub mod Sources
 pub mod Slots
 pub mod CreatorsKept
-pub mod Unready
 pub mod WindowKept
 pub mod Entries
 pub mod Ring

@@ -1,22 +1,20 @@
 -- The fields of a window, step by step.
-use Rattle.std.proofs.Common.{◌≡◌, ◌<◌, ◌≤◌, ◌-◌, ℕ, zero, suc, ◌+◌, List, [], ◌∷◌, ◌++◌, length, take, drop, set, get_or, cond, Some, None, refl, sym, ap, ◌∙◌, subst, arith, length-set}
-use Rattle.std.specs.Prelude.{Bool, true, false, min, slice_get, slice_index}
+use Rattle.std.proofs.Common.{◌≡◌, ◌<◌, ◌≤◌, ◌-◌, ℕ, zero, suc, ◌+◌, List, [], ◌∷◌, ◌++◌, length, take, drop, set, get_or, Some, refl, sym, ap, ◌∙◌, subst, arith, length-set}
+use Rattle.std.specs.Prelude.{slice_get, slice_index}
 use Rattle.isa.specs.Instruction.{first_of, second_of}
 use Rattle.unit.specs.declared.creators.Creators.{Creators}
 use Rattle.unit.specs.declared.station.Station.{Station}
 use Rattle.unit.specs.Creators.{HasCreators, IsCreator, IsOfSame, IsWindow, KnowsCreators, places_of}
 use Rattle.unit.specs.Slots.{place_of, ring_of, slot_of}
 use Rattle.unit.proofs.CreatorsKept.{known_let, known_pop, known_put, known_shift, known_start}
-use Rattle.unit.specs.Unready.{AreUnready, is_awaited}
-use Rattle.unit.proofs.Unready.{unready_cut, unready_more, unready_nobody, unready_put, unready_shift}
 use Rattle.unit.proofs.Slots.{ring_cut, ring_get, ring_length, ring_push, ring_set, ring_shift, slot_small}
 
-pub window_start : (S : List Station) (C : List Creators) (newest : List ℕ) → length S ≡ 32 → length C ≡ 32 → length newest ≡ 34 → IsWindow S C newest 0 0 0
-window_start S C newest s c n = record { begins = omega arith; most = omega arith; every_station = s; every_creator = c; known = known_start newest n; refused = unready_nobody [] }
+pub window_start : (S : List Station) (C : List Creators) (newest : List ℕ) → length S ≡ 32 → length C ≡ 32 → length newest ≡ 34 → IsWindow S C newest 0 0
+window_start S C newest s c n = record { begins = omega arith; most = omega arith; every_station = s; every_creator = c; known = known_start newest n }
 
 -- another stage
-pub window_put : (S : List Station) (C : List Creators) (newest : List ℕ) (start len u i : ℕ) (x : Station) → IsWindow S C newest start len u → i < len → IsOfSame x (slice_get (ring_of S start len) i) → IsWindow (set S (slot_of start i) x) C newest start len (min u i)
-window_put S C newest start len u i x h less same =
+pub window_put : (S : List Station) (C : List Creators) (newest : List ℕ) (start len i : ℕ) (x : Station) → IsWindow S C newest start len → i < len → IsOfSame x (slice_get (ring_of S start len) i) → IsWindow (set S (slot_of start i) x) C newest start len
+window_put S C newest start len i x h less same =
     record {
       begins = h.begins;
       most = h.most;
@@ -24,12 +22,11 @@ window_put S C newest start len u i x h less same =
       every_creator = h.every_creator;
       known = subst (λ l. KnowsCreators l (ring_of C start len) newest start) (sym (ring_set S start len i x h.every_station h.begins h.most less))
           (known_put (ring_of S start len) (ring_of C start len) newest start i x h.known same);
-      refused = subst (AreUnready (min u i)) (sym (ring_set S start len i x h.every_station h.begins h.most less)) (unready_put u i (ring_of S start len) x h.refused);
     }
 
 -- a let
-pub window_let : (S : List Station) (C : List Creators) (newest : List ℕ) (start len u : ℕ) (w : Station) (c : Creators) → IsWindow S C newest start len u → len < 32 → first_of w.instr < 34 → second_of w.instr < 34 → w.destination < 34 → c.first ≡ slice_index newest (first_of w.instr) → c.second ≡ slice_index newest (second_of w.instr) → c.replaced ≡ slice_index newest w.destination → IsWindow (set S (slot_of start len) w) (set C (slot_of start len) c) (set newest w.destination (slot_of start len)) start (len + 1) u
-window_let S C newest start len u w c h room a b r first second replaced =
+pub window_let : (S : List Station) (C : List Creators) (newest : List ℕ) (start len : ℕ) (w : Station) (c : Creators) → IsWindow S C newest start len → len < 32 → first_of w.instr < 34 → second_of w.instr < 34 → w.destination < 34 → c.first ≡ slice_index newest (first_of w.instr) → c.second ≡ slice_index newest (second_of w.instr) → c.replaced ≡ slice_index newest w.destination → IsWindow (set S (slot_of start len) w) (set C (slot_of start len) c) (set newest w.destination (slot_of start len)) start (len + 1)
+window_let S C newest start len w c h room a b r first second replaced =
     let W = ring_of S start len in
     let R = ring_of C start len in
     let size : length W ≡ len = ring_length S start len h.every_station h.begins h.most in
@@ -49,12 +46,11 @@ window_let S C newest start len u w c h room a b r first second replaced =
           (subst (λ l. KnowsCreators (W ++ w ∷ []) l table start) (sym (ring_push C start len c h.every_creator h.begins room))
           (subst (λ n. KnowsCreators (W ++ w ∷ []) (R ++ c ∷ []) (set newest w.destination (slot_of start n)) start) size
           (known_let W R newest start w c h.begins h.known (omega (arith, size, room)) r has)));
-      refused = subst (AreUnready u) (sym (ring_push S start len w h.every_station h.begins room)) (unready_more u W w h.refused);
     }
 
 -- the youngest is squashed
-pub window_popped : (S : List Station) (C : List Creators) (newest : List ℕ) (start len u m : ℕ) (w : Station) (c : Creators) → IsWindow S C newest start len u → len ≡ suc m → slice_get S (slot_of start m) ≡ Some w → slice_get C (slot_of start m) ≡ Some c → w.destination < 34 → IsWindow S C (set newest w.destination c.replaced) start m (min u m)
-window_popped S C newest start len u m w c h one e f small =
+pub window_popped : (S : List Station) (C : List Creators) (newest : List ℕ) (start len m : ℕ) (w : Station) (c : Creators) → IsWindow S C newest start len → len ≡ suc m → slice_get S (slot_of start m) ≡ Some w → slice_get C (slot_of start m) ≡ Some c → w.destination < 34 → IsWindow S C (set newest w.destination c.replaced) start m
+window_popped S C newest start len m w c h one e f small =
     let W = ring_of S start len in
     let R = ring_of C start len in
     let table = set newest w.destination c.replaced in
@@ -71,12 +67,11 @@ window_popped S C newest start len u m w c h one e f small =
           (known_pop W R newest start m w c h.known (size ∙ one)
           (ring_get S start len m h.every_station h.begins h.most less ∙ e)
           (ring_get C start len m h.every_creator h.begins h.most less ∙ f) small));
-      refused = subst (AreUnready (min u m)) (sym (ring_cut S start m len le)) (unready_cut u m W h.refused);
     }
 
 -- the oldest leaves
-pub window_shifted : (S : List Station) (C : List Creators) (newest : List ℕ) (start len u v : ℕ) → IsWindow S C newest start len u → 0 < len → AreUnready v (drop 1 (ring_of S start len)) → IsWindow S C newest (slot_of start 1) (len - 1) v
-window_shifted S C newest start len u v h some later =
+pub window_shifted : (S : List Station) (C : List Creators) (newest : List ℕ) (start len : ℕ) → IsWindow S C newest start len → 0 < len → IsWindow S C newest (slot_of start 1) (len - 1)
+window_shifted S C newest start len h some =
     record {
       begins = slot_small start 1;
       most = omega (arith, h.most);
@@ -85,30 +80,16 @@ window_shifted S C newest start len u v h some later =
       known = subst (λ l. KnowsCreators l (ring_of C (slot_of start 1) (len - 1)) newest (slot_of start 1)) (sym (ring_shift S start len h.every_station h.begins h.most some))
           (subst (λ l. KnowsCreators (drop 1 (ring_of S start len)) l newest (slot_of start 1)) (sym (ring_shift C start len h.every_creator h.begins h.most some))
           (known_shift (ring_of S start len) (ring_of C start len) newest start h.begins h.known));
-      refused = subst (AreUnready v) (sym (ring_shift S start len h.every_station h.begins h.most some)) later;
     }
 
 -- What a slot holds
+
+pub read_slot : {X : Type 0} (xs : List X) (i : ℕ) (x : X) → i < length xs → x ≡ get_or xs i x → slice_get xs i ≡ Some x
+read_slot [] i x l e = absurd (omega (arith, l))
+read_slot (y ∷ xs) zero x l e = ap Some (sym e)
+read_slot (y ∷ xs) (suc i) x l e = read_slot xs i x (omega (arith, l)) e
 
 pub slot_gives : {X : Type 0} (xs : List X) (i : ℕ) (d : X) → i < length xs → slice_get xs i ≡ Some (get_or xs i d)
 slot_gives [] i d l = absurd (omega (arith, l))
 slot_gives (y ∷ xs) zero d l = refl
 slot_gives (y ∷ xs) (suc i) d l = slot_gives xs i d (omega (arith, l))
-
--- Those that are known not to be ready
-
-pub shifted_unready : (W : List Station) (u : ℕ) (w : Station) → slice_get W 0 ≡ Some w → AreUnready u W → AreUnready (cond (is_awaited w) 0 (u - 1)) (drop 1 W)
-shifted_unready W u w first h = go (is_awaited w) refl
-  where
-    go : (b : Bool) → is_awaited w ≡ b → AreUnready (cond (is_awaited w) 0 (u - 1)) (drop 1 W)
-    go true e = subst (λ n. AreUnready n (drop 1 W)) (sym (ap (λ b. cond b 0 (u - 1)) e)) (unready_nobody (drop 1 W))
-    go false e = subst (λ n. AreUnready n (drop 1 W)) (sym (ap (λ b. cond b 0 (u - 1)) e)) (unready_shift u w W first e h)
-
--- where nobody is live, nobody leaves
-pub nothing_left : (W : List Station) → slice_get W 0 ≡ None → drop 1 W ≡ W
-nothing_left [] e = refl
-nothing_left (w ∷ W) e = absurd (cc e)
-
-pub window_unready : (S : List Station) (C : List Creators) (newest : List ℕ) (start len u v : ℕ) → IsWindow S C newest start len u → AreUnready v (ring_of S start len) → IsWindow S C newest start len v
-window_unready S C newest start len u v h later =
-    record { begins = h.begins; most = h.most; every_station = h.every_station; every_creator = h.every_creator; known = h.known; refused = later }

@@ -4,7 +4,6 @@ use Rattle.isa.specs.Instruction.{first_of, second_of}
 use Rattle.unit.specs.declared.creators.Creators.{Creators}
 use Rattle.unit.specs.declared.station.Station.{Station}
 use Rattle.unit.specs.Slots.{place_of, ring_of}
-use Rattle.unit.specs.Unready.{AreUnready}
 
 -- The register that a station writes, if there is a station
 abbrev pub written_by : Option Station → Option ℕ
@@ -53,13 +52,12 @@ pub record KnowsCreators (ws : List Station) (cs : List Creators) (newest : List
 
 -- The fields of a window
 pub record IsWindow (stations : List Station) (creators : List Creators) (newest : List ℕ)
-    (start len unready : ℕ) : Type 0 where
+    (start len : ℕ) : Type 0 where
   pub begins : start < 32
   pub most : len ≤ 32
   pub every_station : length stations ≡ 32
   pub every_creator : length creators ≡ 32
   pub known : KnowsCreators (ring_of stations start len) (ring_of creators start len) newest start
-  pub refused : AreUnready unready (ring_of stations start len)
 
 -- Another stage of the same tenant: it reads and writes the same registers
 abbrev pub IsOfSame : Station → Option Station → Type 0

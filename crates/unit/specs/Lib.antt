@@ -2,7 +2,6 @@ pub mod Window
 pub mod Slots
 pub mod Creators
 pub mod Givers
-pub mod Unready
 pub mod Loads
 pub mod Notes
 pub mod Stages

@@ -4,7 +4,6 @@ ghost use Rattle.unit.specs.Changes.{NoneRuns, RunsOldest, with_window};
 ghost use Rattle.unit.specs.Givers.{Chosen, gives};
 ghost use Rattle.unit.specs.Notes.{AreNoted, AreSettled, missed_after, settled_at, settled_by};
 ghost use Rattle.unit.specs.Stages.{FirstReady};
-ghost use Rattle.unit.specs.Unready.{AreUnready};
 ghost use Rattle.unit.specs.Window.{finished as finished_of, operands_by, operands_in};
 ghost use Rattle.isa.specs.Instruction.{kind as kind_of};
 
@@ -71,7 +70,7 @@ fn sources_at(window: &Window, ahead: &Ahead, i: usize) -> Option<Operands>
 
 // The oldest station that can be claimed; those before `from` can not.
 fn oldest_ready(window: &Window, ahead: &Ahead, from: usize) -> Option<Ready>
-    requires { AreUnready from window.now }
+    requires { AreSettled from window.now }
     ensures { FirstReady ahead.now.registers window.now result }
 {
     for at in from..window.len() {
@@ -164,10 +163,7 @@ impl<'a> Pipeline<'a> {
         ensures noted { AreNoted self.new.missed self.new.settled self.new.window }
     {
         self.settled = settled(&self.window, self.settled);
-        let unready = self.window.unready();
-        let Some(ready) = oldest_ready(&self.window, &self.ahead(), unready) else {
-            let all = self.window.len();
-            self.window.refuse(all);
+        let Some(ready) = oldest_ready(&self.window, &self.ahead(), self.settled) else {
             return false;
         };
         let Some(station) = self.window.at(ready.at) else {
@@ -178,7 +174,6 @@ impl<'a> Pipeline<'a> {
         let outcome = outcome_of(&station.instr, station.half, station.pc, a, b, size);
         let later = finished(station, outcome);
         self.missed = missed_by(self.missed, later.stage);
-        self.window.refuse(ready.at);
         self.window.put(ready.at, later);
         true
     }

@@ -1,8 +1,7 @@
 //! The stations of the live tenants, the oldest first, and who makes what they read.
-ghost use Rattle.std.specs.Prelude.{◌≡◌, ◌<◌, ◌≤◌, ◌-◌, [], ◌∷◌, ◌++◌, length, take, drop, slice_get, slice_set, option_copied, if◌then◌else◌};
+ghost use Rattle.std.specs.Prelude.{◌≡◌, ◌<◌, ◌≤◌, ◌-◌, [], ◌∷◌, ◌++◌, length, take, drop, slice_get, slice_set, option_copied};
 ghost use Rattle.unit.specs.Creators.{CreatorsAt, IsOfSame};
 ghost use Rattle.unit.specs.Slots.{place_of as place_in, slot_of as slot_in};
-ghost use Rattle.unit.specs.Unready.{AreUnready, is_awaited};
 
 use crate::creators::Creators;
 use crate::station::{Stage, Station};
@@ -19,8 +18,6 @@ pub struct Window {
     // the slot of the oldest tenant
     start: usize,
     len: usize,
-    // as many of the oldest cannot be claimed, whatever the registers hold
-    unready: usize,
 }
 
 impl Model for Window {
@@ -34,7 +31,7 @@ impl Model for Window {
 
     ghost view = { λ w. ring_of w.stations w.start w.len };
 
-    ghost invariant = { λ w. IsWindow w.stations w.creators w.newest w.start w.len w.unready };
+    ghost invariant = { λ w. IsWindow w.stations w.creators w.newest w.start w.len };
 }
 
 // A slot that nobody has used.
@@ -70,17 +67,6 @@ fn place_of(slot: u8, start: usize) -> u8
     ((slot as usize + (32 - start)) % 32) as u8
 }
 
-// As many cannot be claimed where this one, the oldest, has left.
-fn unready_behind(oldest: &Station, unready: usize) -> usize
-    ensures { result ≡ (if is_awaited oldest.now then 0 else unready - 1) }
-{
-    if oldest.made.is_none() && 0 < oldest.destination.number() {
-        0
-    } else {
-        unready.saturating_sub(1)
-    }
-}
-
 impl Window {
     pub fn new() -> Window
         ensures { result ≡ [] }
@@ -95,7 +81,6 @@ impl Window {
             newest: [0; 34],
             start: 0,
             len: 0,
-            unready: 0,
         }
     }
 
@@ -136,21 +121,6 @@ impl Window {
         }
     }
 
-    /// As many of the oldest cannot be claimed.
-    pub fn unready(&self) -> usize
-        ensures { AreUnready result self.now }
-    {
-        self.unready
-    }
-
-    /// Remembers that so many of the oldest cannot be claimed.
-    pub fn refuse(&mut self, count: usize)
-        requires { AreUnready count self.old }
-        ensures { self.new ≡ self.old }
-    {
-        self.unready = count;
-    }
-
     /// Another stage of the tenant at `i`.
     pub fn put(&mut self, i: usize, station: Station)
         requires there { i < length self.old }
@@ -158,9 +128,7 @@ impl Window {
         ensures { self.new ≡ slice_set self.old i station }
     {
         let slot = slot_of(self.start, i);
-        let unready = self.unready.min(i);
         self.stations[slot] = station;
-        self.unready = unready;
     }
 
     pub fn push(&mut self, station: Station)
@@ -190,10 +158,8 @@ impl Window {
         };
         let r = station.destination.number() as usize;
         let slot = slot_of(self.start, last);
-        let unready = self.unready.min(last);
         self.newest[r] = self.creators[slot].replaced;
         self.len = last;
-        self.unready = unready;
     }
 
     /// Keeps the oldest `len`.
@@ -209,13 +175,10 @@ impl Window {
     pub fn shift(&mut self)
         ensures { self.new ≡ drop 1 self.old }
     {
-        let Some(oldest) = self.peek(0) else {
+        if self.len == 0 {
             return;
-        };
-        let unready = unready_behind(oldest, self.unready);
-        let next = slot_of(self.start, 1);
-        self.start = next;
+        }
+        self.start = slot_of(self.start, 1);
         self.len -= 1;
-        self.unready = unready;
     }
 }

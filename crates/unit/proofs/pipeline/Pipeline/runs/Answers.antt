@@ -1,27 +1,9 @@
-use Rattle.std.proofs.Common.{sym, ap, ◌∙◌, subst}
-use Rattle.std.specs.Prelude.{slice_set}
+use Rattle.std.proofs.Common.{sym, ◌∙◌, subst}
 use Rattle.unit.specs.Changes.{registers_of}
 use Rattle.unit.specs.Notes.{AreNoted}
 use Rattle.unit.specs.Stages.{FirstReady}
-use Rattle.unit.specs.Unready.{AreUnready}
 use Rattle.unit.proofs.Noted.{noted_ran}
-use Rattle.unit.proofs.Unready.{unready_first, unready_none}
 use Rattle.unit.proofs.pipeline.Pipeline.runs.Goals as goal
-
--- what was found refuses those before it
-pub refuse-requires : goal.refuse-requires
-refuse-requires c =
-    let b = c.args.self.now in
-    let ready = subst (λ s. FirstReady s.registers b.window c.oldest_ready.result) c.ahead.ensures c.oldest_ready.ensures in
-    let none = subst (FirstReady (registers_of b) b.window) c.in_default.is ready in
-    subst (λ n. AreUnready n b.window) (sym c.len-all.ensures.value) (unready_none (registers_of b) b.window none)
-
-pub refuse-requires-2 : goal.refuse-requires-2
-refuse-requires-2 c =
-    let b = c.args.self.now in
-    let ready = subst (λ s. FirstReady s.registers b.window c.oldest_ready.result) c.ahead.ensures c.oldest_ready.ensures in
-    let first = subst (FirstReady (registers_of b) b.window) c.in-Some.is ready in
-    unready_first (registers_of b) b.window c.in-Some.ready.at c.in-Some.ready.operands first
 
 pub returns-clause-noted : goal.returns-clause-noted
 returns-clause-noted c =
@@ -29,5 +11,4 @@ returns-clause-noted c =
     let ready = subst (λ s. FirstReady s.registers b.window c.oldest_ready.result) c.ahead.ensures c.oldest_ready.ensures in
     let first = subst (FirstReady (registers_of b) b.window) c.in-Some.is ready in
     let noted = noted_ran (registers_of b) b.missed b.settled c.settled-self.result c.in-Some.ready.at b.window c.in-Some-at.station c.finished-later.result c.in-Some.ready.operands (sym c.at.ensures ∙ c.in-Some-at.is) first.here c.requires c.settled-self.ensures in
-    let later = c.put.ensures ∙ ap (λ W. slice_set W c.in-Some.ready.at c.finished-later.result) c.refuse-2.ensures in
-    subst (λ m. AreNoted m c.settled-self.result c.put.new.self) (sym c.missed_by-self.ensures) (subst (AreNoted _ c.settled-self.result) (sym later) noted)
+    subst (λ m. AreNoted m c.settled-self.result c.put.new.self) (sym c.missed_by-self.ensures) (subst (AreNoted _ c.settled-self.result) (sym c.put.ensures) noted)

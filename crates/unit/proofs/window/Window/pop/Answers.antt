@@ -30,8 +30,7 @@ invariant_of-self c =
     let here = sym (ring_get s.stations s.start s.len (s.len - 1) h.every_station h.begins h.most less) ∙ ap (λ l. slice_get l (s.len - 1)) c.self.view_is ∙ is in
     let b : c.slot_of-slot.result < length s.creators = omega (arith, c.slot_of-slot.ensures.small, h.every_creator) in
     let small : w.destination < 34 = omega (arith, c.number-r.ensures.value, c.number-r.ensures.small) in
-    subst (λ r. IsWindow s.stations s.creators (set s.newest r made.replaced) s.start (s.len - 1) c.min-unready.result) (sym c.number-r.ensures.value)
-    (subst (IsWindow s.stations s.creators (set s.newest w.destination made.replaced) s.start (s.len - 1)) (sym c.min-unready.ensures)
-    (window_popped s.stations s.creators s.newest s.start s.len s.unready (s.len - 1) w made h one here
+    subst (λ r. IsWindow s.stations s.creators (set s.newest r made.replaced) s.start (s.len - 1)) (sym c.number-r.ensures.value)
+    (window_popped s.stations s.creators s.newest s.start s.len (s.len - 1) w made h one here
     (ap (slice_get s.creators) (sym c.slot_of-slot.ensures.value) ∙ slot_gives s.creators c.slot_of-slot.result none b)
-    small))
+    small)

@@ -1,7 +1,7 @@
 use Rattle.std.proofs.Common.{◌<◌, length, set, sym, ap, ◌∙◌, subst, arith}
 use Rattle.std.specs.Prelude.{slice_get}
 use Rattle.unit.specs.Creators.{IsOfSame, IsWindow}
-use Rattle.unit.specs.Slots.{ring_of, slot_of}
+use Rattle.unit.specs.Slots.{ring_of}
 use Rattle.unit.proofs.Slots.{ring_length, ring_set}
 use Rattle.unit.proofs.WindowKept.{window_put}
 use Rattle.unit.proofs.window.Window.put.Goals as goal
@@ -13,9 +13,8 @@ invariant_of-self c =
     let long = ring_length s.stations s.start s.len h.every_station h.begins h.most in
     let inside : c.args.i < s.len = omega (arith, c.requires.there, ap length c.self.view_is, long) in
     let same = subst (λ l. IsOfSame c.args.station (slice_get l c.args.i)) (sym c.self.view_is) c.requires.same in
-    subst (λ k. IsWindow (set s.stations k c.args.station) s.creators s.newest s.start s.len c.min-unready.result) (sym c.slot_of-slot.ensures.value)
-    (subst (IsWindow (set s.stations (slot_of s.start c.args.i) c.args.station) s.creators s.newest s.start s.len) (sym c.min-unready.ensures)
-    (window_put s.stations s.creators s.newest s.start s.len s.unready c.args.i c.args.station h inside same))
+    subst (λ k. IsWindow (set s.stations k c.args.station) s.creators s.newest s.start s.len) (sym c.slot_of-slot.ensures.value)
+    (window_put s.stations s.creators s.newest s.start s.len c.args.i c.args.station h inside same)
 
 pub returns : goal.returns
 returns c =
