@@ -9,7 +9,7 @@ use Rattle.drive.specs.declared.units.Held.{Held}
 use Rattle.drive.specs.declared.units.Worker.{Worker}
 use Rattle.drive.specs.Held.{claim_of}
 use Rattle.drive.specs.Replies.{HoldsWhatIs}
-use Rattle.drive.specs.Workers.{AreWorkers, HasUnit, IsHolder, IsWorker, job_at, job_from, job_in, worker_at}
+use Rattle.drive.specs.Workers.{AreWorkers, HasNone, HasUnit, IsHolder, IsWorker, job_at, job_from, job_in, worker_at}
 use Rattle.station.specs.declared.answers.Claim.{Claim}
 use Rattle.station.specs.Seats.{Caller, TheCore}
 
@@ -29,6 +29,10 @@ are_set core units at v within are is place w here = go (cases_eq place at)
 
 none_is_some : (core : TheCore) (w : Worker) → ◌≡◌ {A = Option Worker} None (Some w) → IsWorker core w
 none_is_some core w e = cc
+
+-- where no unit is made, each that is made works
+pub none_works : (core : TheCore) (units : List (Option Worker)) → HasNone units → AreWorkers core units
+none_works core units none place w here = none_is_some core w (sym (none place) ∙ here)
 
 its_own : (core : TheCore) (v w : Worker) → IsWorker core v → ◌≡◌ {A = Option Worker} (Some v) (Some w) → IsWorker core w
 its_own core v w is e = let same : v ≡ w = cc in subst (λ (u : Worker). IsWorker core u) same is
