@@ -48,7 +48,8 @@ fn check<'a>(alloc: Global) -> Result<Command<'a>, AllocError>
 }
 
 const ABOUT: &str =
-    "An out-of-order core with a register update unit. 'ruu run --help' shows the options.";
+    "An out-of-order core with a register update unit. 'ruu run --help' shows the options. \
+    './ruu listing FILE' writes the listing of an executable.";
 
 /// The version, and on a line of its own the kit by which it is proved.
 const VERSION: &str = "0.1.0\nrattle-kit-13b logic dac8208d650f15bf";
