@@ -26,6 +26,7 @@ verb_name Look = codes "look"
 verb_name Creator = codes "creator"
 verb_name Touched = codes "touched"
 
+-- No character
 abbrev pub is_empty : List ℕ → Bool
 is_empty text = length text == 0
 
@@ -33,6 +34,7 @@ is_empty text = length text == 0
 abbrev pub has_one : Texts → Bool
 has_one w = not (is_empty w.first) && is_empty w.second
 
+-- It has two operands
 abbrev pub has_two : Texts → Bool
 has_two w = not (is_empty w.second) && is_empty w.rest
 
@@ -48,6 +50,7 @@ number_of text = decimal_in 4294967295 text
 abbrev pub only_number : Texts → Option ℕ
 only_number w = if has_one w then number_of w.first else None
 
+-- Both, where both are there
 abbrev pub both : {A B : Type 0} → Option A → Option B → Option (A × B)
 both None second = None
 both (Some a) None = None

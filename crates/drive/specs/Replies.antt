@@ -46,6 +46,7 @@ abbrev pub TurnSays : Program → Sizes → List Entry → List Entry → Turn �
 TurnSays P C before behind (Let station tag pc) = HasLet P C before behind station tag pc
 TurnSays P C before behind turn = IsRefusal P C before behind turn
 
+-- What a turn of the front answers, and what it has added to the history
 abbrev pub IsTurn : TheCore → List Entry → List Entry → Turn → Type 0
 IsTurn core old new turn =
     IsBetween old new (λ before behind. TurnSays core.program core.sizes before behind turn)

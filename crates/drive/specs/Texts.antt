@@ -29,14 +29,17 @@ use Rattle.drive.specs.declared.units.Claimed.{Claimed}
 use Rattle.drive.specs.declared.units.Claimed.TheVariants as claimed
 use Rattle.drive.specs.declared.units.Held.{Held}
 
+-- The name of a half
 abbrev pub half_text : Half → List ℕ
 half_text Low = codes "Low"
 half_text High = codes "High"
 
+-- Which of the two sources
 abbrev pub source_text : Source → List ℕ
 source_text First = codes "1"
 source_text Second = codes "2"
 
+-- The state that a station shows
 abbrev pub state_text : StationState → List ℕ
 state_text state.Free = codes "FREE"
 state_text state.Open = codes "OPEN"
@@ -46,6 +49,7 @@ state_text state.Done = codes "DONE"
 state_text state.Miss = codes "MISS"
 state_text state.Stop = codes "STOP"
 
+-- What a turn of the front answered
 abbrev pub turn_text : Turn → List ℕ
 turn_text turn.Full = codes "Full"
 turn_text turn.NoInstr = codes "NoInstr"
@@ -55,24 +59,29 @@ turn_text (turn.Let station tag pc) =
     codes "Let station " ++ (decimal station ++ (codes " tag " ++ (decimal tag
     ++ (codes " pc " ++ hexadecimal pc))))
 
+-- What a recovery answered
 abbrev pub recovery_text : Recovery → List ℕ
 recovery_text (recovery.Mended station squashed) =
     codes "Mended station " ++ (decimal station ++ (codes " squashed " ++ decimal squashed))
 recovery_text recovery.NoMiss = codes "NoMiss"
 
+-- Which tenant a job is of
 abbrev pub place_text : Held → List ℕ
 place_text h =
     codes "Job station " ++ (decimal h.station ++ (codes " tag " ++ (decimal h.tag
     ++ (codes " index " ++ (decimal h.index ++ (codes " half " ++ half_text h.half))))))
 
+-- What a job computes with
 abbrev pub values_text : Held → List ℕ
 values_text h =
     codes " pc " ++ (hexadecimal h.pc ++ (codes " predicted " ++ (hexadecimal h.predicted
     ++ (codes " a " ++ (hexadecimal h.a ++ (codes " b " ++ hexadecimal h.b))))))
 
+-- A job
 abbrev pub held_text : Held → List ℕ
 held_text h = place_text h ++ values_text h
 
+-- What a claim answered
 abbrev pub claimed_text : Claimed → List ℕ
 claimed_text (claimed.Job held) = held_text held
 claimed_text claimed.NotOpen = codes "NotOpen"
@@ -80,10 +89,12 @@ claimed_text (claimed.Waiting tag k) =
     codes "Waiting tag " ++ (decimal tag ++ (codes " source " ++ source_text k))
 claimed_text (claimed.Moved tag) = codes "Moved tag " ++ decimal tag
 
+-- What a finish answered
 abbrev pub finish_text : Finish → List ℕ
 finish_text finish.Finished = codes "Finished"
 finish_text finish.Stale = codes "Stale"
 
+-- What a refresh answered
 abbrev pub refresh_text : Refresh → List ℕ
 refresh_text (refresh.Loaded station tag value) =
     codes "Loaded station " ++ (decimal station ++ (codes " tag " ++ (decimal tag
@@ -92,6 +103,7 @@ refresh_text (refresh.Blocked load store) =
     codes "Blocked load " ++ (decimal load ++ (codes " store " ++ decimal store))
 refresh_text refresh.Idle = codes "Idle"
 
+-- What a commit answered
 abbrev pub commit_text : Commit → List ℕ
 commit_text (commit.Retired pc n) =
     codes "Retired pc " ++ (hexadecimal pc ++ (codes " n " ++ decimal n))
@@ -107,21 +119,25 @@ registers_text r (v ∷ vs) =
     (if v == 0 then [] else codes " " ++ (register_name r ++ (codes " " ++ hexadecimal v)))
     ++ registers_text (r + 1) vs
 
+-- A snapshot: its count, its pc and its registers
 abbrev pub snap_text : Snap → List ℕ
 snap_text s =
     codes "Snap n " ++ (decimal s.n ++ (codes " pc " ++ (hexadecimal s.pc
     ++ registers_text 0 s.registers)))
 
+-- Where the value of a register comes from: a tenant, or what older creators have made
 abbrev pub made_text : Made → List ℕ
 made_text (made.Made station tag) =
     codes "Made station " ++ (decimal station ++ (codes " tag " ++ decimal tag))
 made_text (made.Base value) = codes "Base " ++ hexadecimal value
 
+-- What a look at a station saw
 abbrev pub look_text : Seen StationState → List ℕ
 look_text seen =
     codes "Seen tag " ++ (decimal seen.tag ++ (codes " state " ++ (state_text seen.state
     ++ (codes " value " ++ hexadecimal seen.value))))
 
+-- Why a line was refused
 abbrev pub refusal_text : Refusal → List ℕ
 refusal_text no.NoUnit = codes "there is no such unit"
 refusal_text no.NoStation = codes "there is no such station"
@@ -131,6 +147,7 @@ refusal_text no.HoldsNone = codes "this unit holds no job of that station"
 refusal_text no.NoMark = codes "no snapshot was shown yet"
 refusal_text no.NoCount = codes "no more can be counted"
 
+-- What is told of a line
 abbrev pub reply_text : Reply → List ℕ
 reply_text (say.Turn turn) = turn_text turn
 reply_text (say.Recovery recovery) = recovery_text recovery

@@ -34,6 +34,7 @@ abbrev pub job_in : Option Worker → Option Held
 job_in None = None
 job_in (Some w) = w.job
 
+-- The job of the unit at a place
 abbrev pub job_at : List (Option Worker) → ℕ → Option Held
 job_at units at = job_in (worker_at units at)
 
