@@ -21,7 +21,7 @@ use Rattle.isa.proofs.TextBytes.{Of, of_append, all_of, of_other, inner, part_of
 use Rattle.isa.proofs.TextOperands.{label_part, label_is_name}
 use Rattle.isa.proofs.TextRead.{in_code, text_code, indent_in_code, code_read, code_unlabelled, spoken, text_spoken, spoken_stands}
 use Rattle.conversion.specs.Meaning.{has_target}
-use Rattle.conversion.specs.Writing.{ended, unlines, printable, label_line, label_lines, code_line, marked, with_mark, IsRead, IsText, IsQuieter, IsSound, AllSound}
+use Rattle.conversion.specs.Writing.{as_line, unlines, printable, label_line, label_lines, code_line, marked, with_mark, IsReadAs, IsText, IsQuieter, IsSound, AllSound}
 use Rattle.conversion.proofs.Pushed.{text_all_quiet, text_label, text_code as code_added}
 use Rattle.conversion.proofs.Printed.{code_printable, inner_printable}
 use Rattle.conversion.proofs.LabelNames.{single}
@@ -83,7 +83,7 @@ unlabelled J target first second number h = absurd (cc)
 unlabelled Jal target first second number h = absurd (cc)
 unlabelled op target first second number h = refl
 
-pub spoken_read : (i : Instr) → IsWritable i → IsRead (spoken i) i
+pub spoken_read : (i : Instr) → IsWritable i → IsReadAs (spoken i) i
 spoken_read i w = record {
   stands = spoken_stands i w;
   unlabelled = λ stays. elim (cases_Bool (is_nop i)) [
@@ -112,7 +112,7 @@ module _ (marks : List Bool) (code : List Instr) (k : ℕ) (lt : k < length code
       → IsText new (take k code) (marked marks k ++ with_mark k m) [] (most + 11)
   with_label true text new most is grown =
       let size : length (label_line k) + 1 ≤ 11 = omega (arith, label_size k) in
-      let line : new ≡ text ++ ended (label_line k) = grown ∙ ap (λ (t : List ℕ). text ++ t) (append-nil (ended (label_line k))) in
+      let line : new ≡ text ++ as_line (label_line k) = grown ∙ ap (λ (t : List ℕ). text ++ t) (append-nil (as_line (label_line k))) in
       let next = text_label text new (take k code) (marked marks k) [] most is (label_line k) (label_printable k) line 11 size (label_text (address k)) (label_named k) (label_says_nothing k)
       (subst (λ (n : ℕ). is_double (address n) (marked marks k) (label_text (address k) ∷ []) ≡ false) (sym so_many) (single marks k (omega arith))) (omega (arith, so_many)) (omega arith) in
       subst (λ (n : ℕ). IsText new (take k code) (marked marks k ++ (label_text (address k), address n) ∷ []) [] (most + 11)) so_many next
@@ -123,14 +123,14 @@ module _ (marks : List Bool) (code : List Instr) (k : ℕ) (lt : k < length code
 
   pub block : (d : Instr) (text quiet labelled new : List ℕ) (most : ℕ) → IsText text (take k code) (marked marks k) [] most → IsQuieter 110 text quiet
       → labelled ≡ quiet ++ unlines (label_lines k (slice_index_or marks k false)) → IsSound (length code) (get_or code k d)
-      → new ≡ labelled ++ ended (code_line (get_or code k d)) → IsText new (take (k + 1) code) (marked marks (k + 1)) [] (most + 200)
+      → new ≡ labelled ++ as_line (code_line (get_or code k d)) → IsText new (take (k + 1) code) (marked marks (k + 1)) [] (most + 200)
   unfolding marked
-  block d text quiet labelled new most is quieter behind sound grown =
+  block d text quiet labelled new most is quieter appended sound grown =
       let i : Instr = get_or code k d in
       let w : IsWritable (get_or code k d) = sound.writable in
       let short = quieter.short in
       let first = text_all_quiet text quiet (take k code) (marked marks k) [] most quieter.lines is quieter.quiet quieter.grown (omega (arith, so_many)) (omega arith) in
-      let second = with_label (slice_index_or marks k false) quiet labelled (most + length (unlines quieter.lines)) first behind in
+      let second = with_label (slice_index_or marks k false) quiet labelled (most + length (unlines quieter.lines)) first appended in
       let size : length (code_line i) + 1 ≤ 79 = code_length i w in
       let third = code_added labelled new (take k code) (marked marks k ++ with_mark k (slice_index_or marks k false)) [] (most + length (unlines quieter.lines) + 11) second
       (code_line i) (line_printable i w) grown 79 size
@@ -143,7 +143,7 @@ module _ (marks : List Bool) (code : List Instr) (k : ℕ) (lt : k < length code
 
   pub block_more : (d : Instr) (text quiet labelled new : List ℕ) → IsText text (take k code) (marked marks k) [] (200 * k) → IsQuieter 110 text quiet
       → labelled ≡ quiet ++ unlines (label_lines k (slice_index_or marks k false)) → AllSound (length code) code
-      → new ≡ labelled ++ ended (code_line (get_or code k d)) → IsText new (take (k + 1) code) (marked marks (k + 1)) [] (200 * (k + 1))
-  block_more d text quiet labelled new is quieter behind sound grown =
+      → new ≡ labelled ++ as_line (code_line (get_or code k d)) → IsText new (take (k + 1) code) (marked marks (k + 1)) [] (200 * (k + 1))
+  block_more d text quiet labelled new is quieter appended sound grown =
       more_room new (take (k + 1) code) (marked marks (k + 1)) [] (200 * k + 200) (200 * (k + 1)) (omega arith)
-      (block d text quiet labelled new (200 * k) is quieter behind (sound_at (length code) code k d sound lt) grown)
+      (block d text quiet labelled new (200 * k) is quieter appended (sound_at (length code) code k d sound lt) grown)

@@ -19,7 +19,7 @@ use Rattle.isa.specs.InstrText.{with_operands_text}
 use Rattle.isa.proofs.TextBytes.{Of, of_append, of_all, all_of, of_other, inner, IsPart, part_of, AreParts, Starts, Ends, before_at, split_whole}
 use Rattle.isa.proofs.TextNumbers.{number_of, decimal_part}
 use Rattle.isa.proofs.TextRead.{in_code, IsCode, no_comment, no_colon, blank_behind, with_operands_code, indent_in_code, start_trimmed, code_read, code_unlabelled}
-use Rattle.conversion.specs.Writing.{printable, word_at, row_words, row_line, space_line}
+use Rattle.conversion.specs.Writing.{printable, row_word, row_words, row_line, space_line}
 use Rattle.conversion.proofs.Printed.{code_printable, inner_printable}
 use Rattle.conversion.proofs.HexNumbers.{hex_part, hex_number}
 
@@ -86,8 +86,8 @@ abbrev pub AllBytes : List ℕ → Type 0
 AllBytes xs = (k : ℕ) → get_or xs k 0 < 256
 
 word_back : (row : List ℕ) (at : ℕ) → AllBytes row
-    → to_le_bytes w32 (word_at row at) ≡ slice_index row at ∷ slice_index row (at + 1) ∷ slice_index row (at + 2) ∷ slice_index row (at + 3) ∷ []
-word_back row at fits = le_bytes_4 _ (word_at row at) refl each refl
+    → to_le_bytes w32 (row_word row at) ≡ slice_index row at ∷ slice_index row (at + 1) ∷ slice_index row (at + 2) ∷ slice_index row (at + 3) ∷ []
+word_back row at fits = le_bytes_4 _ (row_word row at) refl each refl
   where
     each : (i : ℕ) → get_or (slice_index row at ∷ slice_index row (at + 1) ∷ slice_index row (at + 2) ∷ slice_index row (at + 3) ∷ []) i 0 < 256
     each zero = fits at
@@ -96,7 +96,7 @@ word_back row at fits = le_bytes_4 _ (word_at row at) refl each refl
     each (suc (suc (suc zero))) = fits (at + 3)
     each (suc (suc (suc (suc i)))) = omega arith
 
-word_small : (row : List ℕ) (at : ℕ) → AllBytes row → word_at row at < 2 ^ 32
+word_small : (row : List ℕ) (at : ℕ) → AllBytes row → row_word row at < 2 ^ 32
 word_small row at fits =
     let a = fits at in
     let b = fits (at + 1) in
@@ -107,23 +107,23 @@ word_small row at fits =
 -- the words of a row are read as its bytes
 abbrev sixteen : List ℕ → List ℕ
 sixteen row =
-    to_le_bytes w32 (word_at row 0) ++ (to_le_bytes w32 (word_at row 4) ++ (to_le_bytes w32 (word_at row 8) ++ (to_le_bytes w32 (word_at row 12) ++ [])))
+    to_le_bytes w32 (row_word row 0) ++ (to_le_bytes w32 (row_word row 4) ++ (to_le_bytes w32 (row_word row 8) ++ (to_le_bytes w32 (row_word row 12) ++ [])))
 
 row_data : (row : List ℕ) → AllBytes row → data_words (row_words row)
-    ≡ Ok (to_le_bytes w32 (word_at row 0) ++ (to_le_bytes w32 (word_at row 4) ++ (to_le_bytes w32 (word_at row 8) ++ (to_le_bytes w32 (word_at row 12) ++ []))))
+    ≡ Ok (to_le_bytes w32 (row_word row 0) ++ (to_le_bytes w32 (row_word row 4) ++ (to_le_bytes w32 (row_word row 8) ++ (to_le_bytes w32 (row_word row 12) ++ []))))
 unfolding words
 row_data row fits =
     rw (
-      hex_number (word_at row 0) (word_small row 0 fits),
-      hex_number (word_at row 4) (word_small row 4 fits),
-      hex_number (word_at row 8) (word_small row 8 fits),
+      hex_number (row_word row 0) (word_small row 0 fits),
+      hex_number (row_word row 4) (word_small row 4 fits),
+      hex_number (row_word row 8) (word_small row 8 fits),
       hex_number
-          (word_at row 12) (word_small row 12 fits),
+          (row_word row 12) (word_small row 12 fits),
     )
     refl
 
 row_parts : (row : List ℕ) → AreParts (row_words row)
-row_parts row = (hex_part (word_at row 0), (hex_part (word_at row 4), (hex_part (word_at row 8), (hex_part (word_at row 12), tt))))
+row_parts row = (hex_part (row_word row 0), (hex_part (row_word row 4), (hex_part (row_word row 8), (hex_part (row_word row 12), tt))))
 
 word_word : IsPart (codes ".word")
 word_word = of_all inner (codes ".word") refl
@@ -141,7 +141,7 @@ same_four x y z u x' y' z' u' ex ey ez eu = rw (ex, ey, ez, eu) refl
 by_bytes : (row : List ℕ) → length row ≡ 16 → AllBytes row → sixteen row ≡ row
 by_bytes (a ∷ b ∷ c ∷ d ∷ e ∷ f ∷ g ∷ h ∷ i ∷ j ∷ k ∷ l ∷ m ∷ n ∷ o ∷ p ∷ []) size fits =
     let row : List ℕ = a ∷ b ∷ c ∷ d ∷ e ∷ f ∷ g ∷ h ∷ i ∷ j ∷ k ∷ l ∷ m ∷ n ∷ o ∷ p ∷ [] in
-    same_four (to_le_bytes w32 (word_at row 0)) (to_le_bytes w32 (word_at row 4)) (to_le_bytes w32 (word_at row 8)) (to_le_bytes w32 (word_at row 12))
+    same_four (to_le_bytes w32 (row_word row 0)) (to_le_bytes w32 (row_word row 4)) (to_le_bytes w32 (row_word row 8)) (to_le_bytes w32 (row_word row 12))
     (a ∷ b ∷ c ∷ d ∷ []) (e ∷ f ∷ g ∷ h ∷ []) (i ∷ j ∷ k ∷ l ∷ []) (m ∷ n ∷ o ∷ p ∷ []) (word_back row 0 fits) (word_back row 4 fits) (word_back row 8 fits) (word_back row 12 fits)
 by_bytes row size fits = absurd (omega arith)
 

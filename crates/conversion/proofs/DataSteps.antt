@@ -7,7 +7,7 @@ use Rattle.std.specs.List.{list_all}
 use Rattle.std.proofs.lemmas.Bool.{and_parts, ne_eqb}
 use Rattle.std.proofs.lemmas.List.{append-nil, length-append, length-replicate}
 use Rattle.isa.specs.declared.instr.Instr.{Instr}
-use Rattle.conversion.specs.Writing.{ended, unlines, IsText, word_at, row_line, space_line, space_lines, AddsData}
+use Rattle.conversion.specs.Writing.{as_line, unlines, IsText, row_word, row_line, space_line, space_lines, AddsData}
 use Rattle.conversion.proofs.Pushed.{text_bytes}
 use Rattle.conversion.proofs.Blocks.{more_room}
 use Rattle.conversion.proofs.DataLines.{AllBytes, row_read, row_bare, row_printable, row_size, space_read, space_bare, space_printable, space_size}
@@ -51,7 +51,7 @@ flushed now new zero said n bytes whole words room spaced code names most few is
     rw (same, append-nil said) (more_room now code names said most (most + 30) (omega arith) is)
 flushed now new (suc zeros) said n bytes whole words room spaced code names most few is =
     let some : (suc zeros == 0) ≡ false = ne_eqb (suc zeros) 0 (λ e. omega arith) in
-    let line : new ≡ now ++ ended (space_line (suc zeros)) = (rw some at spaced) ∙ ap (λ (t : List ℕ). now ++ t) (append-nil (ended (space_line (suc zeros)))) in
+    let line : new ≡ now ++ as_line (space_line (suc zeros)) = (rw some at spaced) ∙ ap (λ (t : List ℕ). now ++ t) (append-nil (as_line (space_line (suc zeros)))) in
     let size : length said + length (replicate (suc zeros) 0) ≤ 65536 =
     omega (arith, sym (length-append said (replicate (suc zeros) 0)), ap length whole, length-take n bytes) in
     let small : suc zeros ≤ 65536 = omega (arith, size, length-replicate {A = ℕ} (suc zeros) 0) in
@@ -81,7 +81,7 @@ module _ (bytes : List ℕ) (all : length bytes ≡ 65536) (old now : List ℕ) 
         text = λ code names most few before. more_room now code names so_far.said (most + 110 * k) (most + 110 * (k + 1)) (omega arith) (so_far.text code names most few before);
       }
 
-  pub rows_some : AllBytes row → (mid new : List ℕ) (at : ℕ) → mid ≡ now ++ unlines (space_lines zeros) → new ≡ mid ++ ended (row_line at row)
+  pub rows_some : AllBytes row → (mid new : List ℕ) (at : ℕ) → mid ≡ now ++ unlines (space_lines zeros) → new ≡ mid ++ as_line (row_line at row)
       → RowsSoFar bytes old new (k + 1) 0
   rows_some fits mid new at spaced grown = record {
     said = (so_far.said ++ replicate zeros 0) ++ row;
@@ -123,10 +123,10 @@ row_shape a b c d t =
     ∙ ap (λ (l : List ℕ). a ++ 44 ∷ (b ++ 44 ∷ l)) (append_assoc c (44 ∷ d) rest) in
     ap (λ (l : List ℕ). codes "        .word " ++ l) (sym all)
 
-pub row_added : (old new row : List ℕ) (at a b c d : ℕ) → a ≡ word_at row 0 → b ≡ word_at row 4 → c ≡ word_at row 8 → d ≡ word_at row 12
+pub row_added : (old new row : List ℕ) (at a b c d : ℕ) → a ≡ row_word row 0 → b ≡ row_word row 4 → c ≡ row_word row 8 → d ≡ row_word row 12
     → new ≡ old ++ (codes "        .word " ++ (hexadecimal a ++ (codes "," ++ (hexadecimal b ++ (codes "," ++ (hexadecimal c ++ (codes "," ++ (hexadecimal d ++ (codes " # " ++
     (hexadecimal at ++ codes "\n"))))))))))
-    → new ≡ old ++ ended (row_line at row)
+    → new ≡ old ++ as_line (row_line at row)
 row_added old new row at a b c d ea eb ec ed is = rw (← ea, ← eb, ← ec, ← ed)
     (is ∙ ap (λ (l : List ℕ). old ++ l) (row_shape (hexadecimal a) (hexadecimal b) (hexadecimal c) (hexadecimal d) (hexadecimal at)))
 

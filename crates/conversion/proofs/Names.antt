@@ -9,7 +9,7 @@ use Rattle.isa.specs.Statement.{statement}
 use Rattle.isa.specs.Listing.{Lines}
 use Rattle.isa.proofs.TextBytes.{of_append, of_all, all_of}
 use Rattle.conversion.proofs.Pushed.{unlines_push}
-use Rattle.conversion.specs.Writing.{ended, unlines, printable, IsQuiet, AllQuiet, IsQuieter, gap_lines, comment_line}
+use Rattle.conversion.specs.Writing.{as_line, unlines, printable, IsQuiet, AllQuiet, IsQuieter, gap_lines, comment_line}
 
 pub shown_more : (name : List ℕ) (k : ℕ) → k < length name → 32 ≤ get_or name k 0 → get_or name k 0 ≤ 126 → list_all printable (take k name) ≡ true
     → list_all printable (take (k + 1) name) ≡ true
@@ -39,14 +39,14 @@ quiet_push [] l h q = (q, tt)
 quiet_push (b ∷ ls) l h q = (h.0, quiet_push ls l h.1 q)
 
 pub quieter_name : (old gap new text : List ℕ) (k : ℕ) → list_all printable text ≡ true → length text ≤ 100 → gap ≡ old ++ unlines (gap_lines k)
-    → new ≡ gap ++ ended (comment_line text) → IsQuieter 110 old new
+    → new ≡ gap ++ as_line (comment_line text) → IsQuieter 110 old new
 quieter_name old gap new text k plain short before grown =
     let whole : new ≡ old ++ unlines (gap_lines k ++ comment_line text ∷ []) =
-    grown ∙ ap (λ (t : List ℕ). t ++ ended (comment_line text)) before ∙ append_assoc old (unlines (gap_lines k)) (ended (comment_line text))
+    grown ∙ ap (λ (t : List ℕ). t ++ as_line (comment_line text)) before ∙ append_assoc old (unlines (gap_lines k)) (as_line (comment_line text))
     ∙ ap (λ (t : List ℕ). old ++ t) (sym (unlines_push (gap_lines k) (comment_line text))) in
-    let size : length (unlines (gap_lines k ++ comment_line text ∷ [])) ≡ length (unlines (gap_lines k)) + length (ended (comment_line text)) =
-    ap length (unlines_push (gap_lines k) (comment_line text)) ∙ length-append (unlines (gap_lines k)) (ended (comment_line text)) in
-    let line : length (ended (comment_line text)) ≡ length text + 3 = omega (arith, length-append text (10 ∷ [])) in
+    let size : length (unlines (gap_lines k ++ comment_line text ∷ [])) ≡ length (unlines (gap_lines k)) + length (as_line (comment_line text)) =
+    ap length (unlines_push (gap_lines k) (comment_line text)) ∙ length-append (unlines (gap_lines k)) (as_line (comment_line text)) in
+    let line : length (as_line (comment_line text)) ≡ length text + 3 = omega (arith, length-append text (10 ∷ [])) in
     let first = gap_size k in
     record {
       lines = gap_lines k ++ comment_line text ∷ [];

@@ -8,7 +8,7 @@ use Rattle.isa.specs.Programs.{address}
 use Rattle.isa.specs.Statement.{Parsed}
 use Rattle.isa.specs.Listing.{Lines, read, labels, at, table, numbered, memory, how_many, is_double, fault_in, first_fault}
 use Rattle.isa.proofs.Behind.{numbered_push, table_push, memory_push}
-use Rattle.conversion.specs.Writing.{ended, unlines, printable, AllPrintable, Faultless, IsRead, AllRead, IsWritten, AllQuiet, IsText}
+use Rattle.conversion.specs.Writing.{as_line, unlines, printable, AllPrintable, Faultless, IsReadAs, AllRead, IsWritten, AllQuiet, IsText}
 use Rattle.conversion.proofs.Printed.{line_plain}
 
 -- ---- lists
@@ -34,7 +34,7 @@ read_length [] (i ∷ is) h = absurd h
 read_length (d ∷ ds) [] h = absurd h
 read_length (d ∷ ds) (i ∷ is) h = ap suc (read_length ds is h.1)
 
-read_push : (ds : List (ℕ × Parsed)) (is : List Instr) (d : ℕ × Parsed) (i : Instr) → AllRead ds is → IsRead d.1 i → AllRead (ds ++ d ∷ []) (is ++ i ∷ [])
+read_push : (ds : List (ℕ × Parsed)) (is : List Instr) (d : ℕ × Parsed) (i : Instr) → AllRead ds is → IsReadAs d.1 i → AllRead (ds ++ d ∷ []) (is ++ i ∷ [])
 read_push [] [] d i h r = (r, tt)
 read_push [] (j ∷ is) d i h r = absurd h
 read_push (e ∷ ds) [] d i h r = absurd h
@@ -80,7 +80,7 @@ module _ (ls : Lines) (code : List Instr) (names : List (List ℕ × ℕ)) (byte
       }
 
   -- with an instruction
-  pub push_code : (p : Parsed) (i : Instr) → read l ≡ Ok (record { code = p ∷ []; bytes = [] }) → IsRead p i → is_double (address (length code)) names ns ≡ false
+  pub push_code : (p : Parsed) (i : Instr) → read l ≡ Ok (record { code = p ∷ []; bytes = [] }) → IsReadAs p i → is_double (address (length code)) names ns ≡ false
       → length code < 16384 → length bytes ≤ 65536
       → IsWritten (ls ++ l ∷ []) (code ++ i ∷ []) (names ++ at (address (length code)) ns) bytes
   push_code p i said stands single short small = record {
@@ -93,19 +93,19 @@ module _ (ls : Lines) (code : List Instr) (names : List (List ℕ × ℕ)) (byte
 
 -- ---- texts
 
-pub unlines_push : (ls : Lines) (l : List ℕ) → unlines (ls ++ l ∷ []) ≡ unlines ls ++ ended l
-unlines_push [] l = append-nil (ended l)
-unlines_push (b ∷ ls) l = ap (λ (t : List ℕ). ended b ++ t) (unlines_push ls l) ∙ sym (append_assoc (ended b) (unlines ls) (ended l))
+pub unlines_push : (ls : Lines) (l : List ℕ) → unlines (ls ++ l ∷ []) ≡ unlines ls ++ as_line l
+unlines_push [] l = append-nil (as_line l)
+unlines_push (b ∷ ls) l = ap (λ (t : List ℕ). as_line b ++ t) (unlines_push ls l) ∙ sym (append_assoc (as_line b) (unlines ls) (as_line l))
 
 module _ (text new : List ℕ) (code : List Instr) (names : List (List ℕ × ℕ)) (bytes : List ℕ) (most : ℕ) (is : IsText text code names bytes most)
-    (l : List ℕ) (clean : list_all printable l ≡ true) (grown : new ≡ text ++ ended l) (more : ℕ) (short : length l + 1 ≤ more) where
+    (l : List ℕ) (clean : list_all printable l ≡ true) (grown : new ≡ text ++ as_line l) (more : ℕ) (short : length l + 1 ≤ more) where
   text_is : new ≡ unlines (is.lines ++ l ∷ [])
-  text_is = grown ∙ ap (λ (t : List ℕ). t ++ ended l) is.is ∙ sym (unlines_push is.lines l)
+  text_is = grown ∙ ap (λ (t : List ℕ). t ++ as_line l) is.is ∙ sym (unlines_push is.lines l)
 
   length_is : length new ≤ most + more
   length_is =
-      let whole : length new ≡ length text + length (ended l) = ap length grown ∙ length-append text (ended l) in
-      let line : length (ended l) ≡ length l + 1 = length-append l (10 ∷ []) in
+      let whole : length new ≡ length text + length (as_line l) = ap length grown ∙ length-append text (as_line l) in
+      let line : length (as_line l) ≡ length l + 1 = length-append l (10 ∷ []) in
       let before = is.short in
       omega arith
 
@@ -135,7 +135,7 @@ module _ (text new : List ℕ) (code : List Instr) (names : List (List ℕ × �
     short = length_is;
   }
 
-  pub text_code : (p : Parsed) (i : Instr) → labels l ≡ [] → read l ≡ Ok (record { code = p ∷ []; bytes = [] }) → IsRead p i → length code < 16384 → length bytes ≤ 65536
+  pub text_code : (p : Parsed) (i : Instr) → labels l ≡ [] → read l ≡ Ok (record { code = p ∷ []; bytes = [] }) → IsReadAs p i → length code < 16384 → length bytes ≤ 65536
       → IsText new (code ++ i ∷ []) names bytes (most + more)
   text_code p i bare said stands small room = record {
     lines = is.lines ++ l ∷ [];
@@ -155,10 +155,10 @@ text_all_quiet text new code names bytes most [] is h grown small room =
     rw (same, none) is
 text_all_quiet text new code names bytes most (l ∷ ls) is h grown small room =
     let line : ℕ = length l + 1 in
-    let first = text_quiet text (text ++ ended l) code names bytes most is l (h.0).bytes refl line (omega arith) (h.0).labels_are (h.0).read_is small room in
-    let whole : new ≡ (text ++ ended l) ++ unlines ls = grown ∙ sym (append_assoc text (ended l) (unlines ls)) in
-    let rest = text_all_quiet (text ++ ended l) new code names bytes (most + line) ls first h.1 whole small room in
-    let size : most + line + length (unlines ls) ≡ most + length (ended l ++ unlines ls) = omega (arith, length-append (ended l) (unlines ls), length-append l (10 ∷ [])) in
+    let first = text_quiet text (text ++ as_line l) code names bytes most is l (h.0).bytes refl line (omega arith) (h.0).labels_are (h.0).read_is small room in
+    let whole : new ≡ (text ++ as_line l) ++ unlines ls = grown ∙ sym (append_assoc text (as_line l) (unlines ls)) in
+    let rest = text_all_quiet (text ++ as_line l) new code names bytes (most + line) ls first h.1 whole small room in
+    let size : most + line + length (unlines ls) ≡ most + length (as_line l ++ unlines ls) = omega (arith, length-append (as_line l) (unlines ls), length-append l (10 ∷ [])) in
     subst (λ (n : ℕ). IsText new code names bytes n) size rest
 
 -- before any line

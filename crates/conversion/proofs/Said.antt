@@ -13,7 +13,7 @@ use Rattle.isa.specs.Statement.{Parsed, statement}
 use Rattle.isa.specs.InstrText.{label_text, StandsForBy}
 use Rattle.isa.specs.Listing.{Lines, read, labels, table, numbered, memory, resolve_number, numbered_with, resolve, resolved, listing}
 use Rattle.conversion.specs.Meaning.{has_target}
-use Rattle.conversion.specs.Writing.{AllRead, AllSound, AllMarked, IsMarked, marked, IsText, AddsData}
+use Rattle.conversion.specs.Writing.{AllRead, AllSound, AllMarked, IsLabelled, marked, IsText, AddsData}
 use Rattle.conversion.proofs.Printed.{lines_are}
 use Rattle.conversion.proofs.Pushed.{push_bytes, faultless_none, text_all_quiet, text_nothing}
 use Rattle.conversion.proofs.LabelNames.{found_at}
@@ -31,7 +31,7 @@ empty_read = refl
 module _ (marks : List Bool) (n : ℕ) (few : n ≤ 16384) (all : length marks ≡ n) where
   -- the number of an instruction, by its label or its own
   number_of : (i : Instr) (line : ℕ) (label : Option (List ℕ)) (found : Instr) → StandsForBy label found i → (has_target i.op ≡ false → label ≡ None)
-      → (has_target i.op ≡ true → IsMarked marks i.number)
+      → (has_target i.op ≡ true → IsLabelled marks i.number)
       → numbered_with found (resolve_number (marked marks n) line found.number label) ≡ Ok i
   number_of i line None found stands bare goes = ap (λ (j : Instr). Ok j) stands
   number_of i line (Some name) found stands bare goes = elim (cases_Bool (has_target i.op)) [

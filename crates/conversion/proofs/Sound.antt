@@ -8,14 +8,14 @@ use Rattle.machine_words.specs.Words.{decode}
 use Rattle.machine_words.proofs.Written.{each_is_written}
 use Rattle.conversion.specs.declared.refusal.Refusal.{Refusal}
 use Rattle.conversion.specs.declared.refusal.Refusal.TheVariants.{Target, Slot}
-use Rattle.conversion.specs.Meaning.{has_target, is_inside, has_slot, with_slot, checked, checked_if, meant, behind, with_next, meant_up_to}
+use Rattle.conversion.specs.Meaning.{has_target, is_inside, has_slot, with_delay_slot, checked, checked_if, meant, appended, with_next, meant_up_to}
 use Rattle.conversion.specs.Writing.{IsSound, AllSound}
 
 sound_push : (n : ℕ) (is : List Instr) (i : Instr) → AllSound n is → IsSound n i → AllSound n (is ++ i ∷ [])
 sound_push n [] i h s = (s, tt)
 sound_push n (j ∷ is) i h s = (h.0, sound_push n is i h.1 s)
 
-with_slot_same : (at word : ℕ) (i j : Instr) (next : Option ℕ) → with_slot at word i next ≡ Ok j → i ≡ j
+with_slot_same : (at word : ℕ) (i j : Instr) (next : Option ℕ) → with_delay_slot at word i next ≡ Ok j → i ≡ j
 with_slot_same at word i j None h = absurd cc
 with_slot_same at word i j (Some next) h = elim (cases_Bool (next == 0)) [
   | inl zero_word ↦ let is : Ok i ≡ Ok j = rw zero_word at h in cc
@@ -27,19 +27,19 @@ checked_sound : (words : List ℕ) (k : ℕ) (i j : Instr) → checked words k i
 checked_sound words k i j h = elim (cases_Bool (has_target i.op)) [
   | inl goes ↦ elim (cases_Bool (is_inside (length words) i.number)) [
     | inl inside ↦
-        let rest : (if has_slot i.op then with_slot (address k) (slice_index words k) i (slice_get words (k + 1)) else Ok i) ≡ Ok j = rw (goes, inside) at h in
+        let rest : (if has_slot i.op then with_delay_slot (address k) (slice_index words k) i (slice_get words (k + 1)) else Ok i) ≡ Ok j = rw (goes, inside) at h in
         (slot rest, λ _. inside)
     | inr outside ↦ let is : Err (Target (address k) (slice_index words k) i.number) ≡ Ok j = rw (goes, outside) at h in absurd cc
   ]
   | inr stays ↦
-      let rest : (if has_slot i.op then with_slot (address k) (slice_index words k) i (slice_get words (k + 1)) else Ok i) ≡ Ok j = rw stays at h in
+      let rest : (if has_slot i.op then with_delay_slot (address k) (slice_index words k) i (slice_get words (k + 1)) else Ok i) ≡ Ok j = rw stays at h in
       (slot rest, λ goes. absurd cc)
 ]
   where
-    slot : (if has_slot i.op then with_slot (address k) (slice_index words k) i (slice_get words (k + 1)) else Ok i) ≡ Ok j → i ≡ j
+    slot : (if has_slot i.op then with_delay_slot (address k) (slice_index words k) i (slice_get words (k + 1)) else Ok i) ≡ Ok j → i ≡ j
     slot g = elim (cases_Bool (has_slot i.op)) [
       | inl has ↦
-          let is : with_slot (address k) (slice_index words k) i (slice_get words (k + 1)) ≡ Ok j = rw has at g in
+          let is : with_delay_slot (address k) (slice_index words k) i (slice_get words (k + 1)) ≡ Ok j = rw has at g in
           with_slot_same (address k) (slice_index words k) i j (slice_get words (k + 1)) is
       | inr lacks ↦ let is : Ok i ≡ Ok j = rw lacks at g in cc
     ]
@@ -54,7 +54,7 @@ meant_sound words k j h = by (decode (address k) (slice_index words k)) refl h
         subst (IsSound (length words)) both.0
         (record { writable = each_is_written (address k) (slice_index words k) i e; inside = both.1 })
 
-sound_last : (words : List ℕ) (n : ℕ) (is js : List Instr) → AllSound (length words) js → (r : Result Instr Refusal) → meant words n ≡ r → behind js r ≡ Ok is
+sound_last : (words : List ℕ) (n : ℕ) (is js : List Instr) → AllSound (length words) js → (r : Result Instr Refusal) → meant words n ≡ r → appended js r ≡ Ok is
     → AllSound (length words) is
 sound_last words n is js s (Ok i) e g =
     let whole : js ++ i ∷ [] ≡ is = cc in subst (AllSound (length words)) whole (sound_push (length words) js i s (meant_sound words n i e))

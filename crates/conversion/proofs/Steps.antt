@@ -3,14 +3,14 @@ use Rattle.std.proofs.Common.{◌≡◌, ℕ, zero, suc, ◌+◌, ◌<◌, ◌�
 use Rattle.std.proofs.lemmas.Bool.{cases_lt}
 use Rattle.isa.specs.declared.instr.Instr.{Instr}
 use Rattle.conversion.specs.declared.refusal.Refusal.{Refusal}
-use Rattle.conversion.specs.Meaning.{behind, meant, with_next, meant_up_to}
+use Rattle.conversion.specs.Meaning.{appended, meant, with_next, meant_up_to}
 
 pub meant_none : (words : List ℕ) → meant_up_to words 0 ≡ Ok []
 unfolding meant_up_to
 meant_none words = refl
 
 pub meant_next : (words : List ℕ) (n : ℕ) (is : List Instr) → meant_up_to words n ≡ Ok is
-    → meant_up_to words (n + 1) ≡ behind is (meant words n)
+    → meant_up_to words (n + 1) ≡ appended is (meant words n)
 unfolding meant_up_to
 meant_next words n is h = rw add-one (ap (with_next words n) h)
 
@@ -32,4 +32,4 @@ pub refused_by_one : (words : List ℕ) (n : ℕ) (is : List Instr) (refusal : R
     → meant_up_to words (length words) ≡ Err refusal
 refused_by_one words n is refusal less before fault =
     stays words (length words) (n + 1) refusal (omega arith)
-    (meant_next words n is before ∙ ap (behind is) fault)
+    (meant_next words n is before ∙ ap (appended is) fault)

@@ -12,21 +12,23 @@ use Rattle.conversion.specs.declared.refusal.Refusal.TheVariants.{File, Memory}
 use Rattle.conversion.specs.Meaning.{meant_up_to}
 
 -- why a file gives no listing, where it is no program for this machine
-abbrev pub refusal_of : FileRefusal → Refusal
-refusal_of file.Memory = Memory
-refusal_of why = File why
+abbrev pub refusal_by_file : FileRefusal → Refusal
+refusal_by_file file.Memory = Memory
+refusal_by_file why = File why
 
-abbrev pub with_bytes : List ℕ → Result (List Instr) Refusal → Result Program Refusal
-with_bytes bytes (Ok code) = Ok (record { code = code; bytes = bytes })
-with_bytes bytes (Err refusal) = Err refusal
+-- the program of these instructions, with the bytes that its memory begins with
+abbrev pub with_memory : List ℕ → Result (List Instr) Refusal → Result Program Refusal
+with_memory bytes (Ok code) = Ok (record { code = code; bytes = bytes })
+with_memory bytes (Err refusal) = Err refusal
 
 -- what words and bytes mean
-abbrev pub program_of : Loaded → Result Program Refusal
-program_of loaded = with_bytes loaded.bytes (meant_up_to loaded.code (length loaded.code))
+abbrev pub meaning_of : Loaded → Result Program Refusal
+meaning_of loaded = with_memory loaded.bytes (meant_up_to loaded.code (length loaded.code))
 
+-- the same of a file that was loaded, or why it was not
 abbrev pub program_by : Result Loaded FileRefusal → Result Program Refusal
-program_by (Ok loaded) = program_of loaded
-program_by (Err why) = Err (refusal_of why)
+program_by (Ok loaded) = meaning_of loaded
+program_by (Err why) = Err (refusal_by_file why)
 
 -- the program that the words and bytes of a file mean, or why it means none
 abbrev pub program_in : List ℕ → Result Program Refusal

@@ -1,6 +1,6 @@
 -- Words that are no operation of a listing, by their names in MIPS I.
 use Rattle.std.specs.Prelude.{ℕ, Bool, ◌/◌, ◌==◌, ◌||◌, if◌then◌else◌}
-use Rattle.machine_words.specs.Fields.{opcode_of, rt_of, function_of}
+use Rattle.machine_words.specs.Fields.{opcode_of, rt_of, funct_of}
 use Rattle.conversion.specs.declared.foreign.Foreign.{Foreign}
 use Rattle.conversion.specs.declared.foreign.Foreign.TheVariants.{Syscall, Break, Bltzal, Bgezal, Lwl, Lwr, Swl, Swr, Coprocessor, Unknown}
 
@@ -29,5 +29,5 @@ other opcode =
 -- what a word is that is no operation of a listing
 abbrev pub foreign_of : ℕ → Foreign
 foreign_of word =
-    if opcode_of word == 0 then special (function_of word)
+    if opcode_of word == 0 then special (funct_of word)
     else (if opcode_of word == 1 then linking (rt_of word) else other (opcode_of word))

@@ -18,6 +18,7 @@ has_slot_by Jumps = true
 has_slot_by Links = true
 has_slot_by _ = false
 
+-- an operation with a delay slot behind it
 abbrev pub has_slot : Op → Bool
 has_slot op = has_slot_by (kind op)
 
@@ -33,9 +34,9 @@ is_inside n target = (target % 4 == 0) && (nat_le text_start target && nat_lt ta
 
 -- An instruction at an address, with the word behind it. Here nothing is done in a delay slot, so it
 -- has to be a `nop`, which is the word 0.
-abbrev pub with_slot : (at word : ℕ) → Instr → Option ℕ → Result Instr Refusal
-with_slot at word i None = Err (NoSlot at word)
-with_slot at word i (Some next) = if next == 0 then Ok i else Err (Slot (at + 4) next)
+abbrev pub with_delay_slot : (at word : ℕ) → Instr → Option ℕ → Result Instr Refusal
+with_delay_slot at word i None = Err (NoSlot at word)
+with_delay_slot at word i (Some next) = if next == 0 then Ok i else Err (Slot (at + 4) next)
 
 -- instruction k of a text, if where it goes and its delay slot are as they have to be
 abbrev pub checked : List ℕ → ℕ → Instr → Result Instr Refusal
@@ -43,9 +44,10 @@ checked words k i =
     if has_target i.op && not (is_inside (length words) i.number)
     then Err (Target (address k) (slice_index words k) i.number)
     else (if has_slot i.op
-    then with_slot (address k) (slice_index words k) i (slice_get words (k + 1))
+    then with_delay_slot (address k) (slice_index words k) i (slice_get words (k + 1))
     else Ok i)
 
+-- the same where the word is an instruction; another word is refused with its address
 abbrev pub checked_if : List ℕ → ℕ → Option Instr → Result Instr Refusal
 checked_if words k None =
     Err (Word (address k) (slice_index words k) (foreign_of (slice_index words k)))
@@ -56,12 +58,13 @@ abbrev pub meant : List ℕ → ℕ → Result Instr Refusal
 meant words k = checked_if words k (decode (address k) (slice_index words k))
 
 -- an instruction behind others; the first refusal decides
-abbrev pub behind : List Instr → Result Instr Refusal → Result (List Instr) Refusal
-behind is (Ok i) = Ok (is ++ i ∷ [])
-behind is (Err refusal) = Err refusal
+abbrev pub appended : List Instr → Result Instr Refusal → Result (List Instr) Refusal
+appended is (Ok i) = Ok (is ++ i ∷ [])
+appended is (Err refusal) = Err refusal
 
+-- the instructions before word n, with that of word n behind them
 abbrev pub with_next : List ℕ → ℕ → Result (List Instr) Refusal → Result (List Instr) Refusal
-with_next words k (Ok is) = behind is (meant words k)
+with_next words k (Ok is) = appended is (meant words k)
 with_next words k (Err refusal) = Err refusal
 
 -- the instructions that the first n words of a text are

@@ -15,11 +15,12 @@ use Rattle.conversion.specs.Meaning.{has_target, is_inside}
 -- ---- lines
 
 -- a line with its line feed
-abbrev pub ended : List ℕ → List ℕ
-ended line = line ++ 10 ∷ []
+abbrev pub as_line : List ℕ → List ℕ
+as_line line = line ++ 10 ∷ []
 
+-- the text of some lines
 abbrev pub unlines : Lines → List ℕ
-unlines lines = flat_map ended lines
+unlines lines = flat_map as_line lines
 
 -- a byte of printable ASCII
 abbrev pub printable : ℕ → Bool
@@ -31,6 +32,7 @@ pub record IsQuiet (line : List ℕ) : Type 0 where
   pub labels_are : labels line ≡ []
   pub read_is : read line ≡ Ok (record { code = []; bytes = [] })
 
+-- none of these lines says anything to the parser
 abbrev pub AllQuiet : Lines → Type 0
 AllQuiet [] = Unit {0}
 AllQuiet (l ∷ ls) = IsQuiet l × AllQuiet ls
@@ -41,6 +43,7 @@ AllQuiet (l ∷ ls) = IsQuiet l × AllQuiet ls
 abbrev pub label_line : ℕ → List ℕ
 label_line k = label_text (address k) ++ codes ":"
 
+-- the line of a label, where the instruction has one
 abbrev pub label_lines : ℕ → Bool → Lines
 label_lines k true = label_line k ∷ []
 label_lines k false = []
@@ -68,7 +71,7 @@ pub record IsQuieter (most : ℕ) (old new : List ℕ) : Type 0 where
 -- ---- which instructions have a label
 
 -- an address is that of an instruction that has a label
-pub record IsMarked (marks : List Bool) (target : ℕ) : Type 0 where
+pub record IsLabelled (marks : List Bool) (target : ℕ) : Type 0 where
   pub index : ℕ
   pub inside : index < length marks
   pub is : target ≡ address index
@@ -79,6 +82,7 @@ abbrev pub with_mark : ℕ → Bool → List (List ℕ × ℕ)
 with_mark k true = (label_text (address k), address k) ∷ []
 with_mark k false = []
 
+-- the labels of the first k instructions, in their order
 unfoldable pub marked : List Bool → ℕ → List (List ℕ × ℕ)
 marked marks zero = []
 marked marks (suc k) = marked marks k ++ with_mark k (slice_index_or marks k false)
@@ -90,6 +94,7 @@ pub record IsSound (n : ℕ) (i : Instr) : Type 0 where
   pub writable : IsWritable i
   pub inside : has_target i.op ≡ true → is_inside n i.number ≡ true
 
+-- so it is of each of them
 abbrev pub AllSound : ℕ → List Instr → Type 0
 AllSound n [] = Unit {0}
 AllSound n (i ∷ is) = IsSound n i × AllSound n is
@@ -98,11 +103,12 @@ AllSound n (i ∷ is) = IsSound n i × AllSound n is
 abbrev pub AllMarked : List Bool → ℕ → List Instr → Type 0
 AllMarked marks n [] = Unit {0}
 AllMarked marks n (i ∷ is) =
-    (has_target i.op ≡ true → is_inside n i.number ≡ true → IsMarked marks i.number)
+    (has_target i.op ≡ true → is_inside n i.number ≡ true → IsLabelled marks i.number)
     × AllMarked marks n is
 
 -- ---- what lines say
 
+-- each line is printable ASCII
 abbrev pub AllPrintable : Lines → Type 0
 AllPrintable [] = Unit {0}
 AllPrintable (l ∷ ls) = (list_all printable l ≡ true) × AllPrintable ls
@@ -113,15 +119,16 @@ Faultless before [] = Unit {0}
 Faultless before (l ∷ ls) = (fault_in before l ≡ None) × Faultless (before ++ l ∷ []) ls
 
 -- what was read is this instruction, and has a label only if the operation names a target
-pub record IsRead (p : Parsed) (i : Instr) : Type 0 where
+pub record IsReadAs (p : Parsed) (i : Instr) : Type 0 where
   pub stands : StandsFor p i
   pub unlabelled : has_target i.op ≡ false → p.label ≡ None
 
+-- so it is of each line and its instruction, in their order
 abbrev pub AllRead : List (ℕ × Parsed) → List Instr → Type 0
 AllRead [] [] = Unit {0}
 AllRead [] (i ∷ is) = ⊥
 AllRead (d ∷ ds) [] = ⊥
-AllRead (d ∷ ds) (i ∷ is) = IsRead d.1 i × AllRead ds is
+AllRead (d ∷ ds) (i ∷ is) = IsReadAs d.1 i × AllRead ds is
 
 -- lines say these instructions, labels and bytes
 pub record IsWritten (lines : Lines) (code : List Instr) (names : List (List ℕ × ℕ))
@@ -143,8 +150,8 @@ pub record IsText (text : List ℕ) (code : List Instr) (names : List (List ℕ 
 -- ---- data
 
 -- the word of four bytes of a row
-abbrev pub word_at : List ℕ → ℕ → ℕ
-word_at row at =
+abbrev pub row_word : List ℕ → ℕ → ℕ
+row_word row at =
     from_le_bytes w32
     (slice_index row at ∷ slice_index row (at + 1) ∷ slice_index row (at + 2)
     ∷ slice_index row (at + 3) ∷ [])
@@ -152,8 +159,8 @@ word_at row at =
 -- the words of a row
 abbrev pub row_words : List ℕ → List (List ℕ)
 row_words row =
-    hexadecimal (word_at row 0) ∷ hexadecimal (word_at row 4) ∷ hexadecimal (word_at row 8)
-    ∷ hexadecimal (word_at row 12) ∷ []
+    hexadecimal (row_word row 0) ∷ hexadecimal (row_word row 4) ∷ hexadecimal (row_word row 8)
+    ∷ hexadecimal (row_word row 12) ∷ []
 
 -- the line of 16 bytes, with their address behind it
 abbrev pub row_line : ℕ → List ℕ → List ℕ
@@ -162,10 +169,12 @@ row_line at row =
     ++ (codes " # " ++ hexadecimal at)
 
 -- the line of so many bytes of 0
+-- the line that asks for so many bytes of memory
 abbrev pub space_line : ℕ → List ℕ
 space_line count =
     replicate 8 32 ++ with_operands_text (codes ".space") (decimal count ∷ [])
 
+-- none where no bytes are asked for
 abbrev pub space_lines : ℕ → Lines
 space_lines count = if count == 0 then [] else space_line count ∷ []
 

@@ -1,7 +1,7 @@
 //! The bytes of data memory as lines of a listing.
 ghost use Rattle.std.specs.Prelude.{◌≡◌, ◌≤◌, ◌<◌, ◌+◌, ◌++◌, ◌^◌, ◌==◌, [], length, OnOk, string_bytes};
 ghost use Rattle.std.specs.List.{list_all};
-ghost use Rattle.conversion.specs.Writing.{ended, unlines, word_at as word_of, row_line, space_lines, AddsData};
+ghost use Rattle.conversion.specs.Writing.{as_line, unlines, row_word as word_of, row_line, space_lines, AddsData};
 
 use isa::Hexadecimal;
 use std::alloc::AllocError;
@@ -21,7 +21,7 @@ fn word_at(bytes: &[u8], at: usize) -> u32
 fn push_row(out: &mut String, at: u32, row: &[u8]) -> Result<(), AllocError>
     requires { 16 ≤ length row.now }
     ensures { OnOk result (string_bytes out.new
-        ≡ string_bytes out.old ++ ended (row_line at row.now)) }
+        ≡ string_bytes out.old ++ as_line (row_line at row.now)) }
 {
     let address = Hexadecimal(at);
     let first = Hexadecimal(word_at(row, 0));

@@ -1,6 +1,6 @@
 //! Lines of a listing, added to its text.
 ghost use Rattle.std.specs.Prelude.{◌≡◌, ◌≤◌, ◌++◌, OnOk, string_bytes};
-ghost use Rattle.conversion.specs.Writing.{ended, code_line, label_line};
+ghost use Rattle.conversion.specs.Writing.{as_line, code_line, label_line};
 
 use crate::meaning::address_of;
 use isa::{Instr, InstrText, Label, Naming};
@@ -9,7 +9,7 @@ use std::alloc::AllocError;
 /// Adds the line of an instruction. Its target is the label of the address.
 pub fn push_line(out: &mut String, instr: &Instr) -> Result<(), AllocError>
     ensures { OnOk result (string_bytes out.new
-        ≡ string_bytes out.old ++ ended (code_line instr.now)) }
+        ≡ string_bytes out.old ++ as_line (code_line instr.now)) }
 {
     let text = InstrText {
         naming: Naming::Names,
@@ -22,7 +22,7 @@ pub fn push_line(out: &mut String, instr: &Instr) -> Result<(), AllocError>
 pub fn push_label(out: &mut String, k: usize) -> Result<(), AllocError>
     requires { k ≤ 16384 }
     ensures { OnOk result (string_bytes out.new
-        ≡ string_bytes out.old ++ ended (label_line k)) }
+        ≡ string_bytes out.old ++ as_line (label_line k)) }
 {
     let label = Label(address_of(k));
     write!(out, "{label}:\n")

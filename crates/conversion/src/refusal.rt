@@ -1,7 +1,7 @@
 //! Why a file gives no listing.
 ghost use Rattle.std.specs.Prelude.{◌≡◌};
 ghost use Rattle.conversion.specs.declared.refusal.Refusal.TheVariants.{Memory};
-ghost use Rattle.conversion.specs.Conversion.{refusal_of};
+ghost use Rattle.conversion.specs.Conversion.{refusal_by_file};
 
 use crate::Foreign;
 use executables::Refusal as FileRefusal;
@@ -43,7 +43,7 @@ pub enum Refusal {
 }
 
 impl From<FileRefusal> for Refusal {
-    ghost from_gives = { λ why e. e ≡ refusal_of why };
+    ghost from_gives = { λ why e. e ≡ refusal_by_file why };
 
     fn from(why: FileRefusal) -> Refusal {
         match why {

@@ -4,7 +4,7 @@ ghost use Rattle.std.specs.List.{list_all};
 ghost use Rattle.isa.specs.Programs.{address};
 ghost use Rattle.isa.specs.Listing.{listing};
 ghost use Rattle.conversion.specs.Meaning.{is_inside, has_target as has_target_of};
-ghost use Rattle.conversion.specs.Writing.{IsQuieter, IsMarked, AllSound, AllMarked, ended, unlines, label_lines, gap_lines, comment_line, printable};
+ghost use Rattle.conversion.specs.Writing.{IsQuieter, IsLabelled, AllSound, AllMarked, as_line, unlines, label_lines, gap_lines, comment_line, printable};
 
 use crate::data::push_data;
 use crate::lines::{push_label, push_line};
@@ -37,11 +37,11 @@ fn index_of(len: usize, at: u32) -> Option<usize>
 fn mark(marks: &mut Vec<bool>, instr: &Instr)
     requires { length marks.old.items ≤ 16384 }
     ensures length { length marks.new.items ≡ length marks.old.items }
-    ensures kept { (target : ℕ) → IsMarked marks.old.items target
-        → IsMarked marks.new.items target }
+    ensures kept { (target : ℕ) → IsLabelled marks.old.items target
+        → IsLabelled marks.new.items target }
     ensures new { has_target_of instr.now.op ≡ true
         → is_inside (length marks.old.items) instr.now.number ≡ true
-        → IsMarked marks.new.items instr.now.number }
+        → IsLabelled marks.new.items instr.now.number }
 {
     if !has_target(instr.op()) {
         return;
@@ -113,7 +113,7 @@ fn push_gap(out: &mut String, k: usize) -> Result<(), AllocError>
 
 fn push_text(out: &mut String, text: &str) -> Result<(), AllocError>
     ensures { OnOk result (string_bytes out.new
-        ≡ string_bytes out.old ++ ended (comment_line text.now)) }
+        ≡ string_bytes out.old ++ as_line (comment_line text.now)) }
 {
     write!(out, "# {text}\n")
 }

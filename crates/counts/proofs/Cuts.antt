@@ -1,5 +1,5 @@
 -- Cuts and joins of seats keep the rule.
-use Rattle.std.proofs.Common.{◌≡◌, ℕ, ◌+◌, ◌-◌, ◌*◌, ◌%◌, ◌^◌, ◌<◌, ◌≤◌, Bool, true, false, [], ◌∷◌, ◌++◌, set, sum_by, if◌then◌else◌, ◌==◌}
+use Rattle.std.proofs.Common.{◌≡◌, ℕ, ◌+◌, ◌-◌, ◌%◌, ◌^◌, ◌<◌, ◌≤◌, Bool, true, false, [], ◌∷◌, ◌++◌, set, sum_by, if◌then◌else◌, ◌==◌}
 use Rattle.std.proofs.Common.{zero-mul, sym, ap, ◌∙◌, subst, ⊎_elim, arith}
 use mathlib.Core.Option.{some}
 use lib.ListN.{get_elem?}
@@ -9,7 +9,7 @@ use Rattle.counts.specs.declared.shares.Share.{Share}
 use Rattle.counts.specs.declared.shares.Shares.{Shares}
 use Rattle.counts.specs.declared.tally.Total.TheVariants.{Retires}
 use Rattle.counts.specs.Rule.{Summed, weight}
-use Rattle.counts.specs.Shares.{each, first_half, first_of, joined, joined_of, no_parts, nothing, second_half, second_of, share, with_retires, without_retires}
+use Rattle.counts.specs.Shares.{each, first_half, kept_half, merged, joined_of, no_parts, nothing, second_half, given_half, share, with_retires, without_retires}
 use Rattle.counts.specs.Totals.{position_of}
 use Rattle.counts.proofs.EachShare.{share_each}
 use Rattle.counts.proofs.Parts.{IsCut, halves, joins, joins_idle, joins_some, next_power, twice, whole}
@@ -49,17 +49,17 @@ splits id v l r cut s h here =
           every_push P (set s.views id l) r (every_set P s.views id l (h.idle at low) (λ none. (cut at low).idle_left none (h.idle at low id v here))) (cut at low).idle_right;
     }
 
-pub merges : (id other : ℕ) (v w : Shares) → Joins Summed id v other w (joined v w) no_parts
+pub merges : (id other : ℕ) (v w : Shares) → Joins Summed id v other w (merged v w) no_parts
 merges id other v w s h here apart after =
-    let there : get_elem? s.views other ≡ some w = ⊎_elim (λ e. absurd (apart e.0)) (λ e. e.1) (at_set s.views id other (joined v w) w after) in
-    let once = set s.views id (joined v w) in
+    let there : get_elem? s.views other ≡ some w = ⊎_elim (λ e. absurd (apart e.0)) (λ e. e.1) (at_set s.views id other (merged v w) w after) in
+    let once = set s.views id (merged v w) in
     record {
       wide = h.wide;
       sum = λ at low.
           let f : Shares → ℕ = λ u. (share at u).added in
-          let own : f (joined v w) ≡ f v + f w = ap (λ t. t.added) (share_each (λ i. joined_of (share i v) (share i w)) at low) in
+          let own : f (merged v w) ≡ f v + f w = ap (λ t. t.added) (share_each (λ i. joined_of (share i v) (share i w)) at low) in
           let none : f no_parts ≡ 0 = ap (λ t. t.added) (share_each (λ _. nothing) at low) in
-          let first = sum_set f s.views id v (joined v w) here in
+          let first = sum_set f s.views id v (merged v w) here in
           let second = sum_set f once other w no_parts after in
           let same : sum_by f (set once other no_parts) ≡ sum_by f s.views = omega arith in
           h.sum at low ∙ ap (λ n. n % 2 ^ 64) (sym same);
@@ -71,23 +71,23 @@ merges id other v w s h here apart after =
           let zeroth = share_each (λ _. nothing) at low in
           let deep_v = z.deep id v here in
           let deep_w = z.deep other w there in
-          let own : f (joined v w) ≡ f v + f w = ap (weight z.depth) one ∙ joins z.depth (share at v) (share at w) deep_v deep_w in
+          let own : f (merged v w) ≡ f v + f w = ap (weight z.depth) one ∙ joins z.depth (share at v) (share at w) deep_v deep_w in
           let none : f no_parts ≡ 0 = ap (weight z.depth) zeroth ∙ zero-mul (2 ^ (z.depth - 0)) in
-          let first = sum_set f s.views id v (joined v w) here in
+          let first = sum_set f s.views id v (merged v w) here in
           let second = sum_set f once other w no_parts after in
           let all = z.all in
-          let halvings_one : (share at (joined v w)).halvings ≡ (joined_of (share at v) (share at w)).halvings = ap (λ t. t.halvings) one in
+          let halvings_one : (share at (merged v w)).halvings ≡ (joined_of (share at v) (share at w)).halvings = ap (λ t. t.halvings) one in
           let halvings_none : (share at no_parts).halvings ≡ 0 = ap (λ t. t.halvings) zeroth in
           record {
             depth = z.depth;
-            deep = every_set P once other no_parts (every_set P s.views id (joined v w) z.deep (omega arith)) (omega arith);
+            deep = every_set P once other no_parts (every_set P s.views id (merged v w) z.deep (omega arith)) (omega arith);
             all = omega arith;
           };
       idle = λ at low.
           let P : Shares → Type 0 = λ u. (share at u).parts ≡ 0 → (share at u).added ≡ 0 in
           let one = share_each (λ i. joined_of (share i v) (share i w)) at low in
-          let both : P (joined v w) = λ none. ap (λ t. t.added) one ∙ joins_idle (share at v) (share at w) (h.idle at low id v here) (h.idle at low other w there) (ap (λ t. t.parts) (sym one) ∙ none) in
-          every_set P once other no_parts (every_set P s.views id (joined v w) (h.idle at low) both) (λ _. ap (λ t. t.added) (share_each (λ _. nothing) at low));
+          let both : P (merged v w) = λ none. ap (λ t. t.added) one ∙ joins_idle (share at v) (share at w) (h.idle at low id v here) (h.idle at low other w there) (ap (λ t. t.parts) (sym one) ∙ none) in
+          every_set P once other no_parts (every_set P s.views id (merged v w) (h.idle at low) both) (λ _. ap (λ t. t.added) (share_each (λ _. nothing) at low));
     }
 
 each_cut : (id : ℕ) (v : Shares) (f g : ℕ → Share) → ((at : ℕ) → IsCut (share at v) (f at) (g at)) → Splits Summed id v (each f) (each g)
@@ -96,19 +96,19 @@ each_cut id v f g cut =
     (λ at low. subst (λ (z : Share × Share). IsCut (share at v) z.0 z.1) (λ j. (sym (share_each f at low) j, sym (share_each g at low) j)) (cut at))
 
 pub halved : (id : ℕ) (v : Shares) → Splits Summed id v (first_half v) (second_half v)
-halved id v = each_cut id v (λ i. first_of (share i v)) (λ i. second_of (share i v)) (λ at. halves (share at v))
+halved id v = each_cut id v (λ i. kept_half (share i v)) (λ i. given_half (share i v)) (λ at. halves (share at v))
 
 pub hired : (id : ℕ) (v : Shares) → Splits Summed id v (with_retires v) (without_retires v)
 hired id v =
-    each_cut id v (λ i. if i == position_of Retires then share i v else first_of (share i v))
-    (λ i. if i == position_of Retires then nothing else second_of (share i v)) (λ at. one (at == position_of Retires) (share at v))
+    each_cut id v (λ i. if i == position_of Retires then share i v else kept_half (share i v))
+    (λ i. if i == position_of Retires then nothing else given_half (share i v)) (λ at. one (at == position_of Retires) (share at v))
   where
-    one : (b : Bool) (s : Share) → IsCut s (if b then s else first_of s) (if b then nothing else second_of s)
+    one : (b : Bool) (s : Share) → IsCut s (if b then s else kept_half s) (if b then nothing else given_half s)
     one true s = whole s
     one false s = halves s
 
 -- a join of two seats that hold parts holds parts
-pub joined_parts : (v w : Shares) → ((at : ℕ) → at < 8 → 0 < (share at v).parts) → (at : ℕ) → at < 8 → 0 < (share at (joined v w)).parts
+pub joined_parts : (v w : Shares) → ((at : ℕ) → at < 8 → 0 < (share at v).parts) → (at : ℕ) → at < 8 → 0 < (share at (merged v w)).parts
 joined_parts v w all at low = subst (λ (s : Share). 0 < s.parts) (sym (share_each (λ i. joined_of (share i v) (share i w)) at low)) (joins_some (share at v) (share at w) (all at low))
 
 -- the ways to cut a seat in two

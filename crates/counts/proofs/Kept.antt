@@ -10,7 +10,7 @@ use Rattle.counts.specs.declared.shares.Shares.{Shares}
 use Rattle.counts.specs.Reads.{HoldsAllAt, IsTotalAt}
 use Rattle.counts.specs.Rule.{Summed, weight}
 use Rattle.counts.specs.Shares.{all_parts, everything, raised_at, share}
-use Rattle.counts.specs.Steps.{Adds, Looks}
+use Rattle.counts.specs.Steps.{AddsTo, Looks}
 use Rattle.counts.proofs.EachShare.{raised_here, raised_off, raised_parts, same_or_not, share_each, word_off, word_set, zeros}
 use Rattle.counts.proofs.Parts.{all_weight, no_weight}
 use Rattle.counts.proofs.Sums.{every_one, every_set, sum_held, sum_one, sum_set}
@@ -35,7 +35,7 @@ begins =
 mod-add : (a k : ℕ) → (a % 2 ^ 64 + k) % 2 ^ 64 ≡ (a + k) % 2 ^ 64
 mod-add a k = omega arith
 
-pub adds : (slots id : ℕ) (m : Me (Unit {0}) Shares) (at k : ℕ) → at < 8 → 0 < (share at m.0).parts → Allows Summed slots id m (8 * at) (λ n. (n + k) % 2 ^ 64) (Adds (step slots (8 * at) k 0 none) m)
+pub adds : (slots id : ℕ) (m : Me (Unit {0}) Shares) (at k : ℕ) → at < 8 → 0 < (share at m.0).parts → Allows Summed slots id m (8 * at) (λ n. (n + k) % 2 ^ 64) (AddsTo (step slots (8 * at) k 0 none) m)
 adds slots id m at k low some_part s h wide here small =
     let v = m.0 in
     let w = raised_at at k v in
@@ -112,8 +112,8 @@ looks slots id m at low s h wide here small =
         (λ j u there none. h.idle at low j u there (no_weight z.depth (share at u) none)) (z.all ∙ sym own)
 
 -- the same at a word that is a total's
-pub adds_word : (slots id : ℕ) (m : Me (Unit {0}) Shares) (word at k : ℕ) → word ≡ 8 * at → at < 8 → 0 < (share at m.0).parts → Allows Summed slots id m word (λ n. (n + k) % 2 ^ 64) (Adds (step slots word k 0 none) m)
-adds_word slots id m word at k is low some_part = subst (λ z. Allows Summed slots id m z (λ n. (n + k) % 2 ^ 64) (Adds (step slots z k 0 none) m)) (sym is) (adds slots id m at k low some_part)
+pub adds_word : (slots id : ℕ) (m : Me (Unit {0}) Shares) (word at k : ℕ) → word ≡ 8 * at → at < 8 → 0 < (share at m.0).parts → Allows Summed slots id m word (λ n. (n + k) % 2 ^ 64) (AddsTo (step slots word k 0 none) m)
+adds_word slots id m word at k is low some_part = subst (λ z. Allows Summed slots id m z (λ n. (n + k) % 2 ^ 64) (AddsTo (step slots z k 0 none) m)) (sym is) (adds slots id m at k low some_part)
 
 pub looks_word : (slots id : ℕ) (m : Me (Unit {0}) Shares) (word at : ℕ) → word ≡ 8 * at → at < 8 → Allows Summed slots id m word (λ n. n) (Looks (step slots word 0 0 none) m)
 looks_word slots id m word at is low = subst (λ z. Allows Summed slots id m z (λ n. n) (Looks (step slots z 0 0 none) m)) (sym is) (looks slots id m at low)

@@ -2,7 +2,7 @@
 use Rattle.std.proofs.Common.{◌≡◌, ℕ, zero, suc, ◌+◌, ◌-◌, ◌*◌, ◌^◌, ◌<◌, ◌≤◌, max, sym, refl, ap, ◌∙◌, arith, pow_pos, pow-add, mul_assoc, add-mul, mul-pos}
 use Rattle.counts.specs.declared.shares.Share.{Share}
 use Rattle.counts.specs.Rule.{weight}
-use Rattle.counts.specs.Shares.{first_of, joined_of, nothing, second_of}
+use Rattle.counts.specs.Shares.{kept_half, joined_of, nothing, given_half}
 
 -- two shares that are one share cut in two
 pub record IsCut (s l r : Share) : Type 0 where
@@ -26,7 +26,7 @@ twice depth s low =
 half : (depth : ℕ) (s : Share) (added : ℕ) → weight (depth + 1) (record { added = added; parts = s.parts; halvings = s.halvings + 1 }) ≡ weight depth s
 half depth s added = ap (λ n. s.parts * 2 ^ n) (omega arith)
 
-pub halves : (s : Share) → IsCut s (first_of s) (second_of s)
+pub halves : (s : Share) → IsCut s (kept_half s) (given_half s)
 halves s =
     record {
       added = omega arith;

@@ -12,7 +12,7 @@ abbrev pub weight : ℕ → Share → ℕ
 weight depth s = s.parts * 2 ^ (depth - s.halvings)
 
 -- The seats' parts of a total are all that there are
-pub record IsWhole (at : ℕ) (views : List Shares) : Type 0 where
+pub record HasAllParts (at : ℕ) (views : List Shares) : Type 0 where
   pub depth : ℕ
   pub deep : (id : ℕ) (v : Shares) → get_elem? views id ≡ some v → (share at v).halvings ≤ depth
   pub all : sum_by (λ v. weight depth (share at v)) views ≡ 2 ^ depth
@@ -22,5 +22,5 @@ pub record IsWhole (at : ℕ) (views : List Shares) : Type 0 where
 pub record Summed (s : State (Unit {0}) Shares) : Type 0 where
   pub wide : length s.words ≡ 64
   pub sum : (at : ℕ) → at < 8 → slice_index s.words (8 * at) ≡ sum_by (λ v. (share at v).added) s.views % 2 ^ 64
-  pub whole : (at : ℕ) → at < 8 → IsWhole at s.views
+  pub whole : (at : ℕ) → at < 8 → HasAllParts at s.views
   pub idle : (at : ℕ) → at < 8 → (id : ℕ) (v : Shares) → get_elem? s.views id ≡ some v → (share at v).parts ≡ 0 → (share at v).added ≡ 0

@@ -43,32 +43,32 @@ abbrev pub raised_at : ℕ → ℕ → Shares → Shares
 raised_at at k v = each (λ i. if i == at then plus k (share i v) else share i v)
 
 -- An addition to a total
-abbrev pub raised : Total → ℕ → Shares → Shares
-raised total k v = raised_at (position_of total) k v
+abbrev pub added_to : Total → ℕ → Shares → Shares
+added_to total k v = raised_at (position_of total) k v
 
 -- Two halves of a share: what was added stays with the first
-abbrev pub first_of : Share → Share
-first_of s = record { added = s.added; parts = s.parts; halvings = s.halvings + 1 }
+abbrev pub kept_half : Share → Share
+kept_half s = record { added = s.added; parts = s.parts; halvings = s.halvings + 1 }
 
 -- The other half: nothing was added to it
-abbrev pub second_of : Share → Share
-second_of s = record { added = 0; parts = s.parts; halvings = s.halvings + 1 }
+abbrev pub given_half : Share → Share
+given_half s = record { added = 0; parts = s.parts; halvings = s.halvings + 1 }
 
 -- The same of each total: the first halves
 abbrev pub first_half : Shares → Shares
-first_half v = each (λ i. first_of (share i v))
+first_half v = each (λ i. kept_half (share i v))
 
 -- And the other halves
 abbrev pub second_half : Shares → Shares
-second_half v = each (λ i. second_of (share i v))
+second_half v = each (λ i. given_half (share i v))
 
 -- The same, but that all of the retirements stay with the first
 abbrev pub with_retires : Shares → Shares
-with_retires v = each (λ i. if i == position_of Retires then share i v else first_of (share i v))
+with_retires v = each (λ i. if i == position_of Retires then share i v else kept_half (share i v))
 
 -- And the other halves, with no part of the retirements
 abbrev pub without_retires : Shares → Shares
-without_retires v = each (λ i. if i == position_of Retires then nothing else second_of (share i v))
+without_retires v = each (λ i. if i == position_of Retires then nothing else given_half (share i v))
 
 -- Two shares in one
 abbrev pub joined_of : Share → Share → Share
@@ -80,5 +80,5 @@ joined_of s t =
     }
 
 -- The same of each total
-abbrev pub joined : Shares → Shares → Shares
-joined v w = each (λ i. joined_of (share i v) (share i w))
+abbrev pub merged : Shares → Shares → Shares
+merged v w = each (λ i. joined_of (share i v) (share i w))

@@ -6,8 +6,8 @@ use Rattle.counts.specs.Reads.{HoldsAllAt, IsTotalAt}
 use Rattle.counts.specs.Shares.{raised_at, share}
 
 -- An addition to the word of a total raises the seat's own share of it, and changes no other
-abbrev pub Adds : Step (Unit {0}) → Me (Unit {0}) Shares → ℕ → Me (Unit {0}) Shares → Type 0
-Adds st m found w = (at : ℕ) → at < 8 → st.word ≡ 8 * at → w ≡ (raised_at at st.first m.0, m.1)
+abbrev pub AddsTo : Step (Unit {0}) → Me (Unit {0}) Shares → ℕ → Me (Unit {0}) Shares → Type 0
+AddsTo st m found w = (at : ℕ) → at < 8 → st.word ≡ 8 * at → w ≡ (raised_at at st.first m.0, m.1)
 
 -- A look at the word of a total finds it, and who holds all parts of it has added all of it
 abbrev pub Looks : Step (Unit {0}) → Me (Unit {0}) Shares → ℕ → Me (Unit {0}) Shares → Type 0

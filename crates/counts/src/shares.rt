@@ -32,9 +32,9 @@ impl TableRule<(), Shares, ()> for Sums {
 pub(crate) struct Add;
 
 impl Play<(), Shares> for Add {
-    ghost use Rattle.counts.specs.Steps.{Adds};
+    ghost use Rattle.counts.specs.Steps.{AddsTo};
 
-    ghost then = { Adds };
+    ghost then = { AddsTo };
 }
 
 /// A look at a total.
@@ -72,9 +72,9 @@ impl Split<Shares> for Hiring {
 pub(crate) struct Joining;
 
 impl Join<Shares> for Joining {
-    ghost use Rattle.counts.specs.Shares.{joined, no_parts};
+    ghost use Rattle.counts.specs.Shares.{merged, no_parts};
 
-    ghost both = { joined };
+    ghost both = { merged };
 
     ghost spent = { no_parts };
 }

@@ -1,7 +1,7 @@
 //! The totals, and every call on them.
 ghost use Rattle.std.specs.Prelude.{◌≡◌, ◌≢◌, ◌%◌, ◌^◌, ◌<◌, IfOk};
 ghost use Rattle.counts.specs.Reads.{HoldsAll, IsTotal};
-ghost use Rattle.counts.specs.Shares.{all_parts, first_half, joined, raised, second_half};
+ghost use Rattle.counts.specs.Shares.{all_parts, first_half, merged, added_to, second_half};
 ghost use Rattle.counts.specs.Shares.{share_of, with_retires, without_retires};
 ghost use Rattle.counts.specs.Totals.{told};
 
@@ -57,7 +57,7 @@ impl Counts {
     pub fn join(&self, mut seat: CountSeat, other: CountSeat) -> CountSeat
         requires seat { seat.of ≡ self.now }
         requires other { other.of ≡ self.now }
-        ensures { result ≡ record { of = self.now; shares = joined seat.shares other.shares } }
+        ensures { result ≡ record { of = self.now; shares = merged seat.shares other.shares } }
     {
         let CountSeat { seat: other } = other;
         self.table
@@ -69,7 +69,7 @@ impl Counts {
     /// Adds to a total, and so to the seat's own share of it.
     pub fn add(&self, seat: &mut CountSeat, total: Total, k: u64)
         requires seat { seat.old.of ≡ self.now }
-        ensures { seat.new ≡ record { of = self.now; shares = raised total k seat.old.shares } }
+        ensures { seat.new ≡ record { of = self.now; shares = added_to total k seat.old.shares } }
     {
         self.raise(&mut seat.seat, total, k);
     }
@@ -110,7 +110,7 @@ impl Counts {
     pub fn add_work(&self, seat: &mut WorkerSeat, total: Total, k: u64)
         requires seat { seat.old.of ≡ self.now }
         requires other { total ≢ Total.Retires }
-        ensures { seat.new ≡ record { of = self.now; shares = raised total k seat.old.shares } }
+        ensures { seat.new ≡ record { of = self.now; shares = added_to total k seat.old.shares } }
     {
         self.raise(&mut seat.seat, total, k);
     }
@@ -120,7 +120,7 @@ impl Counts {
         requires seat { seat.old.table_id ≡ self.now }
         requires part { 0 < (share_of total seat.old.me.0).parts }
         ensures of { seat.new.table_id ≡ seat.old.table_id }
-        ensures raised { seat.new.me ≡ (raised total k seat.old.me.0, seat.old.me.1) }
+        ensures added_to { seat.new.me ≡ (added_to total k seat.old.me.0, seat.old.me.1) }
     {
         let word = total.word();
         self.table.shared.fetch_add::<Add>(seat, word, k);

@@ -55,14 +55,14 @@ abbrev pub is_function : List ℕ → ℕ → Bool
 is_function file at = slice_index file (at + 12) % 16 == 2
 
 -- the function of the symbol at a place of the file
-abbrev pub function_of : List ℕ → (names at : ℕ) → Function
-function_of file names at =
+abbrev pub function_at : List ℕ → (names at : ℕ) → Function
+function_at file names at =
     record { address = word_at file (at + 4); name = names + word_at file at }
 
 -- these functions and that of a symbol, if it is one
 abbrev pub with_function : List ℕ → (names at : ℕ) → List Function → List Function
 with_function file names at before =
-    if is_function file at then before ++ function_of file names at ∷ [] else before
+    if is_function file at then before ++ function_at file names at ∷ [] else before
 
 -- the functions among the first n symbols
 unfoldable pub functions_up_to : List ℕ → (names at n : ℕ) → List Function
@@ -91,13 +91,13 @@ up_to None text = text
 up_to (Some n) text = take n text
 
 -- at most n bytes of a text
-abbrev pub at_most : ℕ → List ℕ → List ℕ
-at_most n text = if nat_lt (length text) n then text else take n text
+abbrev pub first_at_most : ℕ → List ℕ → List ℕ
+first_at_most n text = if nat_lt (length text) n then text else take n text
 
 -- the bytes of a file from a place on, at most 60
-abbrev pub window : List ℕ → ℕ → List ℕ
-window file at = if nat_lt (length file) at then [] else at_most 60 (drop at file)
+abbrev pub name_window : List ℕ → ℕ → List ℕ
+name_window file at = if nat_lt (length file) at then [] else first_at_most 60 (drop at file)
 
 -- the printable characters from a place on, at most 60
-abbrev pub name_of : List ℕ → ℕ → List ℕ
-name_of file at = up_to (position (λ b. not (is_graphic b)) (window file at)) (window file at)
+abbrev pub name_at : List ℕ → ℕ → List ℕ
+name_at file at = up_to (position (λ b. not (is_graphic b)) (name_window file at)) (name_window file at)

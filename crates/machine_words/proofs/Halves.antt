@@ -4,18 +4,18 @@ use Rattle.std.proofs.lemmas.Int.{ints}
 use Rattle.std.specs.Int.{w16}
 use Rattle.isa.specs.Operations.{extended}
 use Rattle.isa.specs.Instruction.{pc_plus_4}
-use Rattle.machine_words.specs.Fields.{opcode_of, rs_of, rt_of, rd_of, shift_of, function_of, half_of, index_of}
+use Rattle.machine_words.specs.Fields.{opcode_of, rs_of, rt_of, rd_of, shift_of, funct_of, immediate_of, region_index_of}
 use Rattle.machine_words.specs.Words.{registers, immediate, distance, branch_target, region_target}
 
 -- the upper fields and the lower 16 bits are the word
-pub upper_and_half : (w : ℕ) → opcode_of w * 2 ^ 26 + (rs_of w * 2 ^ 21 + (rt_of w * 2 ^ 16 + half_of w)) ≡ w
+pub upper_and_half : (w : ℕ) → opcode_of w * 2 ^ 26 + (rs_of w * 2 ^ 21 + (rt_of w * 2 ^ 16 + immediate_of w)) ≡ w
 upper_and_half w = omega arith
 
 -- the lower 16 bits are three fields
-pub half_by_fields : (w : ℕ) → half_of w ≡ rd_of w * 2 ^ 11 + (shift_of w * 2 ^ 6 + function_of w)
+pub half_by_fields : (w : ℕ) → immediate_of w ≡ rd_of w * 2 ^ 11 + (shift_of w * 2 ^ 6 + funct_of w)
 half_by_fields w = omega arith
 
-pub opcode_and_index : (w : ℕ) → opcode_of w * 2 ^ 26 + index_of w ≡ w
+pub opcode_and_index : (w : ℕ) → opcode_of w * 2 ^ 26 + region_index_of w ≡ w
 opcode_and_index w = omega arith
 
 -- a register field has five bits
@@ -29,13 +29,13 @@ rd_again : (w : ℕ) → rd_of w % 32 ≡ rd_of w
 rd_again w = omega arith
 
 -- all fields are the word
-pub all_fields : (w : ℕ) → opcode_of w * 2 ^ 26 + registers (rs_of w) (rt_of w) (rd_of w) (shift_of w) (function_of w) ≡ w
+pub all_fields : (w : ℕ) → opcode_of w * 2 ^ 26 + registers (rs_of w) (rt_of w) (rd_of w) (shift_of w) (funct_of w) ≡ w
 all_fields w =
-    (λ i. opcode_of w * 2 ^ 26 + (rs_again w i * 2 ^ 21 + (rt_again w i * 2 ^ 16 + (rd_again w i * 2 ^ 11 + (shift_of w * 2 ^ 6 + function_of w)))))
+    (λ i. opcode_of w * 2 ^ 26 + (rs_again w i * 2 ^ 21 + (rt_again w i * 2 ^ 16 + (rd_again w i * 2 ^ 11 + (shift_of w * 2 ^ 6 + funct_of w)))))
     ∙ ap (λ n. opcode_of w * 2 ^ 26 + (rs_of w * 2 ^ 21 + (rt_of w * 2 ^ 16 + n))) (sym (half_by_fields w))
     ∙ upper_and_half w
 
-pub half_small : (w : ℕ) → half_of w < 2 ^ 16
+pub half_small : (w : ℕ) → immediate_of w < 2 ^ 16
 half_small w = omega arith
 
 -- an immediate keeps its lower bits as it is extended
@@ -46,7 +46,7 @@ pub extended_small : (h : ℕ) → h < 2 ^ 16 → extended w16 h < 2 ^ 32
 extended_small h small = grind (arith, ints)
 
 -- an immediate of a word
-pub immediate_is : (w n : ℕ) → n % 2 ^ 16 ≡ half_of w → opcode_of w * 2 ^ 26 + immediate (rs_of w) (rt_of w) n ≡ w
+pub immediate_is : (w n : ℕ) → n % 2 ^ 16 ≡ immediate_of w → opcode_of w * 2 ^ 26 + immediate (rs_of w) (rt_of w) n ≡ w
 immediate_is w n e =
     (λ i. opcode_of w * 2 ^ 26 + (rs_again w i * 2 ^ 21 + (rt_again w i * 2 ^ 16 + n % 2 ^ 16)))
     ∙ ap (λ k. opcode_of w * 2 ^ 26 + (rs_of w * 2 ^ 21 + (rt_of w * 2 ^ 16 + k))) e ∙ upper_and_half w
@@ -58,16 +58,16 @@ words_beyond p e small fits = omega arith
 pub pc_small : (pc : ℕ) → pc_plus_4 pc < 2 ^ 32
 pc_small pc = omega arith
 
-pub distance_back : (pc w : ℕ) → distance pc (branch_target pc w) % 2 ^ 16 ≡ half_of w
+pub distance_back : (pc w : ℕ) → distance pc (branch_target pc w) % 2 ^ 16 ≡ immediate_of w
 distance_back pc w =
-    words_beyond (pc_plus_4 pc) (extended w16 (half_of w)) (pc_small pc) (extended_small (half_of w) (half_small w))
-    ∙ extended_half (half_of w) (half_small w)
+    words_beyond (pc_plus_4 pc) (extended w16 (immediate_of w)) (pc_small pc) (extended_small (immediate_of w) (half_small w))
+    ∙ extended_half (immediate_of w) (half_small w)
 
 pub index_in_region : (p x : ℕ) → x < 2 ^ 26 → (p / 2 ^ 28 * 2 ^ 28 + 4 * x) / 4 % 2 ^ 26 ≡ x
 index_in_region p x small = omega arith
 
-pub index_small : (w : ℕ) → index_of w < 2 ^ 26
+pub index_small : (w : ℕ) → region_index_of w < 2 ^ 26
 index_small w = omega arith
 
-pub index_back : (pc w : ℕ) → region_target pc w / 4 % 2 ^ 26 ≡ index_of w
-index_back pc w = index_in_region (pc_plus_4 pc) (index_of w) (index_small w)
+pub index_back : (pc w : ℕ) → region_target pc w / 4 % 2 ^ 26 ≡ region_index_of w
+index_back pc w = index_in_region (pc_plus_4 pc) (region_index_of w) (index_small w)

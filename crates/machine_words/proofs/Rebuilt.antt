@@ -7,7 +7,7 @@ use Rattle.isa.specs.declared.instr.Instr.{Instr}
 use Rattle.isa.specs.Operations.{extended}
 use Rattle.machine_words.specs.declared.layout.Shape.{Shape}
 use Rattle.machine_words.specs.declared.layout.Shape.TheVariants.{ThreeRegisters, ShiftByAmount, ShiftByRegister, TwoRegisters, MoveFrom, MoveTo, JumpRegister, LinkRegister, Bare, SignedHalf, UnsignedHalf, UpperHalf, Store, BranchOnTwo, BranchOnOne, Region}
-use Rattle.machine_words.specs.Fields.{opcode_of, rs_of, rt_of, rd_of, shift_of, function_of, half_of}
+use Rattle.machine_words.specs.Fields.{opcode_of, rs_of, rt_of, rd_of, shift_of, funct_of, immediate_of}
 use Rattle.machine_words.specs.Layouts.{layout, operation_of}
 use Rattle.machine_words.specs.Words.{only_if, read, decode_as, decode, written, packed, registers, immediate}
 use Rattle.machine_words.specs.Laws.{OneWordForEachInstruction}
@@ -26,9 +26,9 @@ carry P false x i given h = absurd (cc)
 
 -- fields that are 0, or known
 by_fields : (w rs rt rd shift function : ℕ) → rs_of w ≡ rs → rt_of w ≡ rt → rd_of w ≡ rd → shift_of w ≡ shift
-    → function ≡ function_of w → opcode_of w * 2 ^ 26 + registers rs rt rd shift function ≡ w
+    → function ≡ funct_of w → opcode_of w * 2 ^ 26 + registers rs rt rd shift function ≡ w
 by_fields w rs rt rd shift function a b c d e =
-    let same : registers rs rt rd shift function ≡ registers (rs_of w) (rt_of w) (rd_of w) (shift_of w) (function_of w) = cc in
+    let same : registers rs rt rd shift function ≡ registers (rs_of w) (rt_of w) (rd_of w) (shift_of w) (funct_of w) = cc in
     ap (λ n. opcode_of w * 2 ^ 26 + n) same ∙ all_fields w
 
 three_zero : (w : ℕ) → w / 2 ^ 6 % 2 ^ 15 ≡ 0 → (rt_of w ≡ 0) × (rd_of w ≡ 0) × (shift_of w ≡ 0)
@@ -48,17 +48,17 @@ both true true h = (refl, refl)
 both true false h = absurd (cc)
 both false b h = absurd (cc)
 
-half_again : (w : ℕ) → half_of w % 2 ^ 16 ≡ half_of w
+half_again : (w : ℕ) → immediate_of w % 2 ^ 16 ≡ immediate_of w
 half_again w = omega arith
 
-signed_again : (w : ℕ) → extended w16 (half_of w) % 2 ^ 16 ≡ half_of w
-signed_again w = extended_half (half_of w) (half_small w)
+signed_again : (w : ℕ) → extended w16 (immediate_of w) % 2 ^ 16 ≡ immediate_of w
+signed_again w = extended_half (immediate_of w) (half_small w)
 
 shift_again : (w : ℕ) → shift_of w % 32 ≡ shift_of w
 shift_again w = omega arith
 
 -- with rs or rt that is known
-immediate_with : (w rs rt n : ℕ) → rs_of w ≡ rs → rt_of w ≡ rt → n % 2 ^ 16 ≡ half_of w → opcode_of w * 2 ^ 26 + immediate rs rt n ≡ w
+immediate_with : (w rs rt n : ℕ) → rs_of w ≡ rs → rt_of w ≡ rt → n % 2 ^ 16 ≡ immediate_of w → opcode_of w * 2 ^ 26 + immediate rs rt n ≡ w
 immediate_with w rs rt n a b e =
     let same : immediate rs rt n ≡ immediate (rs_of w) (rt_of w) n = cc in
     ap (λ k. opcode_of w * 2 ^ 26 + k) same ∙ immediate_is w n e
@@ -67,7 +67,7 @@ rt_again : (w select : ℕ) → rt_of w ≡ select → rt_of w ≡ select % 32
 rt_again w select h = omega arith
 
 pub rebuilt : (shape : Shape) (select : ℕ) (op : Op) (pc w : ℕ) (i : Instr)
-    → (by_function shape ≡ true → select ≡ function_of w)
+    → (by_function shape ≡ true → select ≡ funct_of w)
     → read shape select op pc w ≡ Some i → Rebuilds shape select op pc w i
 unfolding read written
 rebuilt ThreeRegisters select op pc w i f h =

@@ -9,7 +9,7 @@ use Rattle.isa.specs.declared.op.Op.TheVariants.{Addiu, Addi, Slti, Sltiu, Andi,
 use Rattle.isa.specs.declared.op.Op.TheVariants.{Beq, Bne, Blez, Bgtz, Bltz, Bgez, J, Jal, Jr, Jalr, Break}
 use Rattle.machine_words.specs.declared.layout.Shape.{Shape}
 use Rattle.machine_words.specs.declared.layout.Shape.TheVariants.{ThreeRegisters, ShiftByAmount, ShiftByRegister, TwoRegisters, MoveFrom, MoveTo, JumpRegister, LinkRegister, Bare}
-use Rattle.machine_words.specs.Fields.{opcode_of, select_of, function_of}
+use Rattle.machine_words.specs.Fields.{opcode_of, select_of, funct_of}
 use Rattle.machine_words.specs.Layouts.{layout, operations, has_layout, operation_of}
 
 -- what is found passes the test
@@ -105,7 +105,7 @@ special Jr h = refl
 special Jalr h = refl
 special Break h = refl
 
-pub select_is_function : (w : ℕ) (op : Op) → Matches op w → by_function (layout op).shape ≡ true → (layout op).select ≡ function_of w
+pub select_is_function : (w : ℕ) (op : Op) → Matches op w → by_function (layout op).shape ≡ true → (layout op).select ≡ funct_of w
 select_is_function w op m h =
     let zero : opcode_of w ≡ 0 = sym m.opcode ∙ special op h in
-    m.select ∙ ap (λ n. cond (n == 0) (function_of w) (cond (n == 1) (w / 2 ^ 16 % 32) 0)) zero
+    m.select ∙ ap (λ n. cond (n == 0) (funct_of w) (cond (n == 1) (w / 2 ^ 16 % 32) 0)) zero

@@ -1,5 +1,5 @@
 -- What a word says can be written in a listing.
-use Rattle.std.proofs.Common.{◌≡◌, ℕ, ◌+◌, ◌-◌, ◌*◌, ◌/◌, ◌%◌, ◌^◌, ◌≤◌, ◌<◌, ◌⊎◌, Bool, true, false, Option, Some, None, refl, ap, arith, inl, inr, subst, le-ltb}
+use Rattle.std.proofs.Common.{◌≡◌, ℕ, ◌-◌, ◌/◌, ◌%◌, ◌^◌, ◌≤◌, ◌<◌, Bool, true, false, Option, Some, None, refl, arith, inl, inr, subst, le-ltb}
 use Rattle.std.specs.Int.{w16}
 use Rattle.std.proofs.lemmas.Bool.{cases_lt, lt-ltb}
 use Rattle.isa.specs.declared.op.Op.{Op}
@@ -10,7 +10,7 @@ use Rattle.isa.specs.declared.op.Op.TheVariants.{Beq, Bne, Blez, Bgtz, Bltz, Bge
 use Rattle.isa.specs.declared.instr.Instr.{Instr}
 use Rattle.isa.specs.Operations.{extended}
 use Rattle.isa.specs.InstrText.{IsWritable, IsSignedHalf}
-use Rattle.machine_words.specs.Fields.{shift_of, half_of}
+use Rattle.machine_words.specs.Fields.{shift_of, immediate_of}
 use Rattle.machine_words.specs.Layouts.{layout, operation_of}
 use Rattle.machine_words.specs.Words.{branch_target, region_target, only_if, read, decode, decode_as}
 use Rattle.machine_words.specs.Laws.{EachWordIsWritten}
@@ -21,7 +21,7 @@ r n = omega arith
 shift_fits : (w : ℕ) → shift_of w ≤ 31
 shift_fits w = omega arith
 
-half_fits : (w : ℕ) → half_of w ≤ 65535
+half_fits : (w : ℕ) → immediate_of w ≤ 65535
 half_fits w = omega arith
 
 extended_low : (h : ℕ) → h < 2 ^ 15 → extended w16 h ≡ h
@@ -36,8 +36,8 @@ signed_half h small = elim (cases_lt h (2 ^ 15)) [
   | inr high ↦ rw (extended_high h high small) (inr (omega arith, omega arith))
 ]
 
-signed_fits : (w : ℕ) → IsSignedHalf (extended w16 (half_of w))
-signed_fits w = signed_half (half_of w) (omega arith)
+signed_fits : (w : ℕ) → IsSignedHalf (extended w16 (immediate_of w))
+signed_fits w = signed_half (immediate_of w) (omega arith)
 
 branch_fits : (pc w : ℕ) → branch_target pc w < 2 ^ 32
 branch_fits pc w = omega arith

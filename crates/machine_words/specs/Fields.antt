@@ -22,19 +22,19 @@ abbrev pub shift_of : ℕ → ℕ
 shift_of word = word / 2 ^ 6 % 32
 
 -- the lower 6 bits select among the operations with opcode 0
-abbrev pub function_of : ℕ → ℕ
-function_of word = word % 64
+abbrev pub funct_of : ℕ → ℕ
+funct_of word = word % 64
 
 -- an immediate: the lower 16 bits
-abbrev pub half_of : ℕ → ℕ
-half_of word = word % 2 ^ 16
+abbrev pub immediate_of : ℕ → ℕ
+immediate_of word = word % 2 ^ 16
 
 -- the number of a word in its region: the lower 26 bits
-abbrev pub index_of : ℕ → ℕ
-index_of word = word % 2 ^ 26
+abbrev pub region_index_of : ℕ → ℕ
+region_index_of word = word % 2 ^ 26
 
 -- with opcode 0 the function selects the operation, with opcode 1 the field rt
 abbrev pub select_of : ℕ → ℕ
 select_of word =
-    if opcode_of word == 0 then function_of word
+    if opcode_of word == 0 then funct_of word
     else (if opcode_of word == 1 then rt_of word else 0)

@@ -12,62 +12,62 @@ use Rattle.machine_words.specs.declared.layout.Shape.TheVariants.{ThreeRegisters
 use Rattle.machine_words.specs.Fields.{opcode_of, select_of}
 
 -- a row of the table
-abbrev pub row : ℕ → ℕ → Shape → Layout
-row opcode select shape = record { opcode = opcode; select = select; shape = shape }
+abbrev pub layout_of : ℕ → ℕ → Shape → Layout
+layout_of opcode select shape = record { opcode = opcode; select = select; shape = shape }
 
 -- the opcode, what selects the operation among those with this opcode, and the shape
 abbrev pub layout : Op → Layout
-layout Addu = row 0 33 ThreeRegisters
-layout Subu = row 0 35 ThreeRegisters
-layout Add = row 0 32 ThreeRegisters
-layout Sub = row 0 34 ThreeRegisters
-layout And = row 0 36 ThreeRegisters
-layout Or = row 0 37 ThreeRegisters
-layout Xor = row 0 38 ThreeRegisters
-layout Nor = row 0 39 ThreeRegisters
-layout Slt = row 0 42 ThreeRegisters
-layout Sltu = row 0 43 ThreeRegisters
-layout Sll = row 0 0 ShiftByAmount
-layout Srl = row 0 2 ShiftByAmount
-layout Sra = row 0 3 ShiftByAmount
-layout Sllv = row 0 4 ShiftByRegister
-layout Srlv = row 0 6 ShiftByRegister
-layout Srav = row 0 7 ShiftByRegister
-layout Mult = row 0 24 TwoRegisters
-layout Multu = row 0 25 TwoRegisters
-layout Div = row 0 26 TwoRegisters
-layout Divu = row 0 27 TwoRegisters
-layout Mflo = row 0 18 MoveFrom
-layout Mfhi = row 0 16 MoveFrom
-layout Mtlo = row 0 19 MoveTo
-layout Mthi = row 0 17 MoveTo
-layout Addiu = row 9 0 SignedHalf
-layout Addi = row 8 0 SignedHalf
-layout Slti = row 10 0 SignedHalf
-layout Sltiu = row 11 0 SignedHalf
-layout Andi = row 12 0 UnsignedHalf
-layout Ori = row 13 0 UnsignedHalf
-layout Xori = row 14 0 UnsignedHalf
-layout Lui = row 15 0 UpperHalf
-layout Lb = row 32 0 SignedHalf
-layout Lbu = row 36 0 SignedHalf
-layout Lh = row 33 0 SignedHalf
-layout Lhu = row 37 0 SignedHalf
-layout Lw = row 35 0 SignedHalf
-layout Sb = row 40 0 Store
-layout Sh = row 41 0 Store
-layout Sw = row 43 0 Store
-layout Beq = row 4 0 BranchOnTwo
-layout Bne = row 5 0 BranchOnTwo
-layout Blez = row 6 0 BranchOnOne
-layout Bgtz = row 7 0 BranchOnOne
-layout Bltz = row 1 0 BranchOnOne
-layout Bgez = row 1 1 BranchOnOne
-layout J = row 2 0 Region
-layout Jal = row 3 0 Region
-layout Jr = row 0 8 JumpRegister
-layout Jalr = row 0 9 LinkRegister
-layout Break = row 0 13 Bare
+layout Addu = layout_of 0 33 ThreeRegisters
+layout Subu = layout_of 0 35 ThreeRegisters
+layout Add = layout_of 0 32 ThreeRegisters
+layout Sub = layout_of 0 34 ThreeRegisters
+layout And = layout_of 0 36 ThreeRegisters
+layout Or = layout_of 0 37 ThreeRegisters
+layout Xor = layout_of 0 38 ThreeRegisters
+layout Nor = layout_of 0 39 ThreeRegisters
+layout Slt = layout_of 0 42 ThreeRegisters
+layout Sltu = layout_of 0 43 ThreeRegisters
+layout Sll = layout_of 0 0 ShiftByAmount
+layout Srl = layout_of 0 2 ShiftByAmount
+layout Sra = layout_of 0 3 ShiftByAmount
+layout Sllv = layout_of 0 4 ShiftByRegister
+layout Srlv = layout_of 0 6 ShiftByRegister
+layout Srav = layout_of 0 7 ShiftByRegister
+layout Mult = layout_of 0 24 TwoRegisters
+layout Multu = layout_of 0 25 TwoRegisters
+layout Div = layout_of 0 26 TwoRegisters
+layout Divu = layout_of 0 27 TwoRegisters
+layout Mflo = layout_of 0 18 MoveFrom
+layout Mfhi = layout_of 0 16 MoveFrom
+layout Mtlo = layout_of 0 19 MoveTo
+layout Mthi = layout_of 0 17 MoveTo
+layout Addiu = layout_of 9 0 SignedHalf
+layout Addi = layout_of 8 0 SignedHalf
+layout Slti = layout_of 10 0 SignedHalf
+layout Sltiu = layout_of 11 0 SignedHalf
+layout Andi = layout_of 12 0 UnsignedHalf
+layout Ori = layout_of 13 0 UnsignedHalf
+layout Xori = layout_of 14 0 UnsignedHalf
+layout Lui = layout_of 15 0 UpperHalf
+layout Lb = layout_of 32 0 SignedHalf
+layout Lbu = layout_of 36 0 SignedHalf
+layout Lh = layout_of 33 0 SignedHalf
+layout Lhu = layout_of 37 0 SignedHalf
+layout Lw = layout_of 35 0 SignedHalf
+layout Sb = layout_of 40 0 Store
+layout Sh = layout_of 41 0 Store
+layout Sw = layout_of 43 0 Store
+layout Beq = layout_of 4 0 BranchOnTwo
+layout Bne = layout_of 5 0 BranchOnTwo
+layout Blez = layout_of 6 0 BranchOnOne
+layout Bgtz = layout_of 7 0 BranchOnOne
+layout Bltz = layout_of 1 0 BranchOnOne
+layout Bgez = layout_of 1 1 BranchOnOne
+layout J = layout_of 2 0 Region
+layout Jal = layout_of 3 0 Region
+layout Jr = layout_of 0 8 JumpRegister
+layout Jalr = layout_of 0 9 LinkRegister
+layout Break = layout_of 0 13 Bare
 
 -- all operations of the table
 abbrev pub operations : List Op

@@ -9,24 +9,24 @@ use Rattle.isa.specs.Statement.{implied_target, implied_source}
 use Rattle.machine_words.specs.declared.decoding.Decoded.{Decoded}
 use Rattle.machine_words.specs.declared.layout.Shape.{Shape}
 use Rattle.machine_words.specs.declared.layout.Shape.TheVariants.{ThreeRegisters, ShiftByAmount, ShiftByRegister, TwoRegisters, MoveFrom, MoveTo, JumpRegister, LinkRegister, Bare, SignedHalf, UnsignedHalf, UpperHalf, Store, BranchOnTwo, BranchOnOne, Region}
-use Rattle.machine_words.specs.Fields.{rs_of, rt_of, rd_of, shift_of, half_of, index_of}
+use Rattle.machine_words.specs.Fields.{rs_of, rt_of, rd_of, shift_of, immediate_of, region_index_of}
 use Rattle.machine_words.specs.Layouts.{layout, operation_of}
 
 -- ---- targets
 
 -- a branch at pc goes so many words beyond pc + 4, forwards or backwards
 abbrev pub branch_target : ℕ → ℕ → ℕ
-branch_target pc word = (pc_plus_4 pc + 4 * extended w16 (half_of word)) % 2 ^ 32
+branch_target pc word = (pc_plus_4 pc + 4 * extended w16 (immediate_of word)) % 2 ^ 32
 
 -- a jump at pc stays in the region of 2^28 bytes of pc + 4
 abbrev pub region_target : ℕ → ℕ → ℕ
-region_target pc word = pc_plus_4 pc / 2 ^ 28 * 2 ^ 28 + 4 * index_of word
+region_target pc word = pc_plus_4 pc / 2 ^ 28 * 2 ^ 28 + 4 * region_index_of word
 
 -- ---- from a word to an instruction
 
 -- an operation with the register that it writes, those that it reads, and its number
-abbrev pub instr : Op → (target first second number : ℕ) → Instr
-instr op target first second number =
+abbrev pub instruction : Op → (target first second number : ℕ) → Instr
+instruction op target first second number =
     record { op = op; target = target; first = first; second = second; number = number }
 
 -- an instruction, where its word fits
@@ -36,34 +36,34 @@ only_if fits i = if fits then Some i else None
 -- The instruction of an operation with a shape, at pc. A field without a use has to be 0.
 unfoldable pub read : Shape → ℕ → Op → ℕ → ℕ → Option Instr
 read ThreeRegisters select op pc w =
-    only_if (shift_of w == 0) (instr op (rd_of w) (rs_of w) (rt_of w) 0)
+    only_if (shift_of w == 0) (instruction op (rd_of w) (rs_of w) (rt_of w) 0)
 read ShiftByAmount select op pc w =
-    only_if (rs_of w == 0) (instr op (rd_of w) (rt_of w) 0 (shift_of w))
+    only_if (rs_of w == 0) (instruction op (rd_of w) (rt_of w) 0 (shift_of w))
 read ShiftByRegister select op pc w =
-    only_if (shift_of w == 0) (instr op (rd_of w) (rt_of w) (rs_of w) 0)
+    only_if (shift_of w == 0) (instruction op (rd_of w) (rt_of w) (rs_of w) 0)
 read TwoRegisters select op pc w =
-    only_if (w / 2 ^ 6 % 2 ^ 10 == 0) (instr op 0 (rs_of w) (rt_of w) 0)
+    only_if (w / 2 ^ 6 % 2 ^ 10 == 0) (instruction op 0 (rs_of w) (rt_of w) 0)
 read MoveFrom select op pc w =
     only_if ((w / 2 ^ 16 % 2 ^ 10 == 0) && (shift_of w == 0))
-    (instr op (rd_of w) (implied_source op) 0 0)
+    (instruction op (rd_of w) (implied_source op) 0 0)
 read MoveTo select op pc w =
-    only_if (w / 2 ^ 6 % 2 ^ 15 == 0) (instr op (implied_target op) (rs_of w) 0 0)
+    only_if (w / 2 ^ 6 % 2 ^ 15 == 0) (instruction op (implied_target op) (rs_of w) 0 0)
 read JumpRegister select op pc w =
-    only_if (w / 2 ^ 6 % 2 ^ 15 == 0) (instr op 0 (rs_of w) 0 0)
+    only_if (w / 2 ^ 6 % 2 ^ 15 == 0) (instruction op 0 (rs_of w) 0 0)
 read LinkRegister select op pc w =
-    only_if ((rt_of w == 0) && (shift_of w == 0)) (instr op (rd_of w) (rs_of w) 0 0)
-read Bare select op pc w = only_if (w / 2 ^ 6 % 2 ^ 20 == 0) (instr op 0 0 0 0)
+    only_if ((rt_of w == 0) && (shift_of w == 0)) (instruction op (rd_of w) (rs_of w) 0 0)
+read Bare select op pc w = only_if (w / 2 ^ 6 % 2 ^ 20 == 0) (instruction op 0 0 0 0)
 read SignedHalf select op pc w =
-    Some (instr op (rt_of w) (rs_of w) 0 (extended w16 (half_of w)))
-read UnsignedHalf select op pc w = Some (instr op (rt_of w) (rs_of w) 0 (half_of w))
-read UpperHalf select op pc w = only_if (rs_of w == 0) (instr op (rt_of w) 0 0 (half_of w))
+    Some (instruction op (rt_of w) (rs_of w) 0 (extended w16 (immediate_of w)))
+read UnsignedHalf select op pc w = Some (instruction op (rt_of w) (rs_of w) 0 (immediate_of w))
+read UpperHalf select op pc w = only_if (rs_of w == 0) (instruction op (rt_of w) 0 0 (immediate_of w))
 read Store select op pc w =
-    Some (instr op 0 (rs_of w) (rt_of w) (extended w16 (half_of w)))
+    Some (instruction op 0 (rs_of w) (rt_of w) (extended w16 (immediate_of w)))
 read BranchOnTwo select op pc w =
-    Some (instr op 0 (rs_of w) (rt_of w) (branch_target pc w))
+    Some (instruction op 0 (rs_of w) (rt_of w) (branch_target pc w))
 read BranchOnOne select op pc w =
-    only_if (rt_of w == select) (instr op 0 (rs_of w) 0 (branch_target pc w))
-read Region select op pc w = Some (instr op (implied_target op) 0 0 (region_target pc w))
+    only_if (rt_of w == select) (instruction op 0 (rs_of w) 0 (branch_target pc w))
+read Region select op pc w = Some (instruction op (implied_target op) 0 0 (region_target pc w))
 
 -- the instruction of a word at pc, once its operation is known
 abbrev pub decode_as : ℕ → ℕ → Option Op → Option Instr
@@ -75,8 +75,8 @@ unfoldable pub decode : ℕ → ℕ → Option Instr
 decode pc word = decode_as pc word (operation_of word)
 
 -- what the code holds
-abbrev pub instr_of : Decoded → Instr
-instr_of d = instr d.op d.target d.first d.second d.number
+abbrev pub instruction_of : Decoded → Instr
+instruction_of d = instruction d.op d.target d.first d.second d.number
 
 -- ---- from an instruction to a word
 

@@ -2,7 +2,7 @@
 ghost use Rattle.std.specs.Prelude.{◌≡◌};
 ghost use Rattle.std.specs.Option.{option_map};
 ghost use Rattle.isa.specs.Statement.{implied_target as implied_target_of, implied_source as implied_source_of};
-ghost use Rattle.machine_words.specs.Words.{instr_of, decode as decode_of, read as read_of, branch_target as branch_target_of, region_target as region_target_of};
+ghost use Rattle.machine_words.specs.Words.{instruction_of, decode as decode_of, read as read_of, branch_target as branch_target_of, region_target as region_target_of};
 
 use crate::fields;
 use crate::layout::{Layout, Shape, layout_of, operation_of};
@@ -57,7 +57,7 @@ fn implied_source(op: Op) -> Reg
 // where a field that has no use is not 0, the word is none of the operation's
 #[tactic(auto, unfolding(crate::specs::Words::read))]
 fn read(op: Op, layout: Layout, word: u32, pc: u32) -> Option<Decoded>
-    ensures { option_map instr_of result ≡ read_of layout.shape layout.select op pc word }
+    ensures { option_map instruction_of result ≡ read_of layout.shape layout.select op pc word }
 {
     let (rs, rt, rd) = (fields::rs(word), fields::rt(word), fields::rd(word));
     let shift = fields::shift(word);
@@ -105,7 +105,7 @@ fn read(op: Op, layout: Layout, word: u32, pc: u32) -> Option<Decoded>
 /// that the operation does not use.
 #[tactic(auto, unfolding(crate::specs::Words::decode))]
 pub fn decode(word: u32, pc: u32) -> Option<Decoded>
-    ensures { option_map instr_of result ≡ decode_of pc word }
+    ensures { option_map instruction_of result ≡ decode_of pc word }
 {
     let op = operation_of(word)?;
     read(op, layout_of(op), word, pc)

@@ -1,6 +1,6 @@
 //! From an instruction to its word.
 ghost use Rattle.std.specs.Prelude.{◌≡◌, ◌≢◌, ℕ, ◌<◌, ◌^◌, Some, IfSome, IsNone, IsTrue};
-ghost use Rattle.machine_words.specs.Words.{instr_of, decode as decode_of, written as written_of, packed as packed_of, registers as registers_of, immediate as immediate_of, distance as distance_of};
+ghost use Rattle.machine_words.specs.Words.{instruction_of, decode as decode_of, written as written_of, packed as packed_of, registers as registers_of, immediate as immediate_of, distance as distance_of};
 
 use crate::decoding::{Decoded, decode};
 use crate::layout::{Layout, Shape, layout_of};
@@ -32,7 +32,7 @@ fn distance(pc: u32, target: u32) -> u32
 #[tactic(auto, unfolding(crate::specs::Words::written))]
 fn written(layout: Layout, pc: u32, decoded: &Decoded) -> u32
     requires { layout.select < 64 }
-    ensures value { result ≡ written_of layout.shape layout.select pc (instr_of decoded.now) }
+    ensures value { result ≡ written_of layout.shape layout.select pc (instruction_of decoded.now) }
     ensures small { result < 2 ^ 26 }
 {
     let (target, first, second) = (decoded.target, decoded.first, decoded.second);
@@ -61,7 +61,7 @@ fn written(layout: Layout, pc: u32, decoded: &Decoded) -> u32
 }
 
 fn packed(decoded: &Decoded, pc: u32) -> u32
-    ensures { result ≡ packed_of pc (instr_of decoded.now) }
+    ensures { result ≡ packed_of pc (instruction_of decoded.now) }
 {
     let layout = layout_of(decoded.op);
     (layout.opcode << 26) + written(layout, pc, decoded)
@@ -89,9 +89,9 @@ fn is_same(said: &Decoded, decoded: &Decoded) -> bool
 /// The word that says an instruction at the address `pc`. None where no word says it: where a number
 /// does not fit, a target is out of reach, or a register is named that the operation does not have.
 pub fn encode(decoded: &Decoded, pc: u32) -> Option<u32>
-    ensures some { IfSome result (λ word. decode_of pc word ≡ Some (instr_of decoded.now)) }
+    ensures some { IfSome result (λ word. decode_of pc word ≡ Some (instruction_of decoded.now)) }
     ensures none { IsNone result → (word : ℕ) → word < 2 ^ 32
-        → decode_of pc word ≢ Some (instr_of decoded.now) }
+        → decode_of pc word ≢ Some (instruction_of decoded.now) }
 {
     let word = packed(decoded, pc);
     match decode(word, pc) {

@@ -2,7 +2,7 @@
 ghost use Rattle.std.specs.Prelude.{◌≡◌, ◌<◌, ◌^◌};
 ghost use Rattle.std.specs.Int.{w16};
 ghost use Rattle.isa.specs.Operations.{extended};
-ghost use Rattle.machine_words.specs.Fields.{opcode_of, select_of, rs_of, rt_of, rd_of, shift_of, function_of, half_of, index_of};
+ghost use Rattle.machine_words.specs.Fields.{opcode_of, select_of, rs_of, rt_of, rd_of, shift_of, funct_of, immediate_of, region_index_of};
 
 use isa::Reg;
 
@@ -14,7 +14,7 @@ pub fn opcode(word: u32) -> u32
 }
 
 pub fn function(word: u32) -> u32
-    ensures { result ≡ function_of word }
+    ensures { result ≡ funct_of word }
 {
     word % 64
 }
@@ -52,21 +52,21 @@ pub fn shift(word: u32) -> u32
 
 /// The lower 16 bits.
 pub fn half(word: u32) -> u32
-    ensures { result ≡ half_of word }
+    ensures { result ≡ immediate_of word }
 {
     word % 0x1_0000
 }
 
 /// The lower 16 bits, with their sign.
 pub fn signed_half(word: u32) -> u32
-    ensures { result ≡ extended w16 (half_of word) }
+    ensures { result ≡ extended w16 (immediate_of word) }
 {
     i32::from(((word % 0x1_0000) as u16).cast_signed()).cast_unsigned()
 }
 
 /// The lower 26 bits.
 pub fn index(word: u32) -> u32
-    ensures value { result ≡ index_of word }
+    ensures value { result ≡ region_index_of word }
     ensures small { result < 2 ^ 26 }
 {
     word % 0x400_0000

@@ -1,6 +1,6 @@
 use Rattle.std.proofs.Common.{sym, ap, ◌∙◌, arith}
 use Rattle.std.proofs.lemmas.Grind.{common_steps}
-use Rattle.conversion.specs.Meaning.{behind}
+use Rattle.conversion.specs.Meaning.{appended}
 use Rattle.conversion.proofs.Steps.{meant_next, refused_by_one}
 use Rattle.conversion.proofs.meaning.instructions.Goals as goal
 
@@ -12,5 +12,5 @@ returns-in-Err-clause-fault c =
 pub words-preserved : goal.words-preserved
 words-preserved c =
     let next = meant_next c.args.code.now c.words.k c.words.found.items c.words.invariant.0
-    ∙ ap (behind c.words.found.items) (sym c.meant.ensures ∙ c.in-Ok.is) in
+    ∙ ap (appended c.words.found.items) (sym c.meant.ensures ∙ c.in-Ok.is) in
     (grind (arith, common_steps, next), grind (arith, common_steps))

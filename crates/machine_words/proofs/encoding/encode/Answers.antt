@@ -2,7 +2,7 @@ use Rattle.std.proofs.Common.{◌≡◌, ℕ, Option, Some, None, ap, ◌∙◌}
 use Rattle.std.specs.Option.{option_map}
 use Rattle.isa.specs.declared.instr.Instr.{Instr}
 use Rattle.machine_words.specs.declared.decoding.Decoded.{Decoded}
-use Rattle.machine_words.specs.Words.{instr_of, decode as decode_of, packed as packed_of}
+use Rattle.machine_words.specs.Words.{instruction_of, decode as decode_of, packed as packed_of}
 use Rattle.machine_words.proofs.Rebuilt.{packed_back}
 use Rattle.machine_words.proofs.encoding.encode.Goals as goal
 
@@ -10,15 +10,15 @@ abbrev whole : Instr → Decoded
 whole i = record { op = i.op; target = i.target; first = i.first; second = i.second; number = i.number }
 
 -- what reads as the instruction was decoded from its packed word
-only_said : (pc packed word : ℕ) (said : Option Decoded) (d : Decoded) → packed ≡ packed_of pc (instr_of d)
-    → option_map instr_of said ≡ decode_of pc packed → decode_of pc word ≡ Some (instr_of d) → said ≡ Some d
+only_said : (pc packed word : ℕ) (said : Option Decoded) (d : Decoded) → packed ≡ packed_of pc (instruction_of d)
+    → option_map instruction_of said ≡ decode_of pc packed → decode_of pc word ≡ Some (instruction_of d) → said ≡ Some d
 only_said pc packed word said d is read says =
-    by said (read ∙ (ap (decode_of pc) (is ∙ packed_back pc word (instr_of d) says) ∙ says))
+    by said (read ∙ (ap (decode_of pc) (is ∙ packed_back pc word (instruction_of d) says) ∙ says))
   where
-    by : (o : Option Decoded) → option_map instr_of o ≡ Some (instr_of d) → o ≡ Some d
+    by : (o : Option Decoded) → option_map instruction_of o ≡ Some (instruction_of d) → o ≡ Some d
     by None h = absurd (cc)
     by (Some x) h =
-        let same : instr_of x ≡ instr_of d = cc in
+        let same : instruction_of x ≡ instruction_of d = cc in
         let parts : x ≡ d = ap whole same in
         ap (λ y. Some y) parts
 
