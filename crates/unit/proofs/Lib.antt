@@ -5,6 +5,7 @@ pub mod Sources
 pub mod Slots
 pub mod CreatorsKept
 pub mod WindowKept
+pub mod Accesses
 pub mod Entries
 pub mod Ring
 pub mod Noted

@@ -1,5 +1,5 @@
 -- What a window says of its unit.
-use Rattle.std.proofs.Common.{◌≡◌, ℕ, zero, suc, ◌+◌, ◌-◌, ◌<◌, ◌≤◌, ltb, ltb-true, Bool, true, false, cond, ◌&&◌, eqb, List, [], ◌∷◌, ◌++◌, length, Option, Some, None, refl, sym, ap, ◌∙◌, arith, append_assoc, append-nil, length-append}
+use Rattle.std.proofs.Common.{◌≡◌, ℕ, zero, suc, ◌+◌, ◌-◌, ◌<◌, ltb, ltb-true, Bool, true, false, cond, ◌&&◌, eqb, List, [], ◌∷◌, ◌++◌, length, Option, Some, None, refl, sym, ap, ◌∙◌, arith, append_assoc, append-nil, length-append}
 use Rattle.std.specs.Prelude.{slice_get, slice_index}
 use Rattle.std.specs.List.{AllByRecursion}
 use Rattle.isa.specs.Programs.{Program}
@@ -15,9 +15,10 @@ use Rattle.inorder.proofs.Sound.{IsSettled, IsSound, SettledBy}
 use Rattle.unit_laws.proofs.Left.{live_commits, retired_all, retired_commits}
 use Rattle.unit.specs.Ahead.{low_after, low_of, waiting_half}
 use Rattle.unit.specs.declared.station.Station.{Station}
-use Rattle.unit.specs.Window.{access_at, accesses, half_behind, half_in, next_after, next_in, register_after, register_in, source_in, station_of, window}
+use Rattle.unit.specs.Window.{accesses, half_behind, half_in, next_after, next_in, register_after, register_in, source_in, station_of, window}
+use Rattle.unit.proofs.Accesses.{accesses_end}
 use Rattle.unit.proofs.Waiting.{low_if}
-use Rattle.unit.proofs.Scan.{get_end, get_left, register_end}
+use Rattle.unit.proofs.Scan.{get_end, register_end}
 
 -- The list
 
@@ -48,19 +49,6 @@ window_length P (t ∷ ts) = go (is_live t) refl (window_length P ts)
     go false e more = more
 
 -- Live accesses are counted in the window
-
-accesses_left : (xs zs : List Station) (k : ℕ) → k ≤ length xs → accesses (xs ++ zs) k ≡ accesses xs k
-accesses_left xs zs zero h = refl
-accesses_left xs zs (suc k) h =
-    let less : k < length xs = omega arith in
-    let le : k ≤ length xs = omega arith in
-    ap (λ n. n + access_at (slice_get (xs ++ zs) k)) (accesses_left xs zs k le) ∙ ap (λ o. accesses xs k + access_at o) (get_left xs zs k less)
-
-accesses_end : (xs : List Station) (w : Station) → accesses (xs ++ w ∷ []) (suc (length xs)) ≡ accesses xs (length xs) + access_at (Some w)
-accesses_end xs w =
-    let le : length xs ≤ length xs = omega arith in
-    ap (λ n. n + access_at (slice_get (xs ++ w ∷ []) (length xs))) (accesses_left xs (w ∷ []) (length xs) le)
-    ∙ ap (λ o. accesses xs (length xs) + access_at o) (get_end xs [] w)
 
 pub window_accesses : (P : Program) (U : List Tenant) → accesses (window P U) (length (window P U)) ≡ how_many (is_live_access P) U
 window_accesses P [] = refl

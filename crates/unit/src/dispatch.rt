@@ -5,12 +5,11 @@ ghost use Rattle.inorder.specs.Unit.{half_after};
 ghost use Rattle.inorder.specs.Tenants.{made_at_let as made_at_let_of};
 ghost use Rattle.unit.specs.Ahead.{waiting_half as waiting_half_of};
 ghost use Rattle.unit.specs.Changes.{NextOf, next_place};
-ghost use Rattle.unit.specs.Window.{accesses as accesses_of, access_at as access_at_of, half_in, let_at, next_in, reaches_memory};
+ghost use Rattle.unit.specs.Window.{half_in, let_at, next_in, reaches_memory};
 
 use crate::leaver::Leaver;
 use crate::pipeline::Pipeline;
 use crate::station::{Stage, Station};
-use crate::window::Window;
 use isa::{Half, Instr, Kind, Op, pc_plus_4};
 
 /// The instruction that can be let, its half, and its pc.
@@ -52,28 +51,6 @@ fn new_station(next: Fetched, predicted: u32) -> Station
         made: made_at_let(next.instr.op().kind(), next.pc),
         stage: Stage::Open,
     }
-}
-
-// 1 for a tenant that reaches memory, else 0.
-fn access_at(window: &Window, i: usize) -> usize
-    ensures value { result ≡ access_at_of (slice_get window.now i) }
-    ensures small { result ≤ 1 }
-{
-    match window.peek(i) {
-        Some(station) if is_access(station.instr.op()) => 1,
-        _ => 0,
-    }
-}
-
-// How many live tenants reach memory.
-fn accesses(window: &Window) -> usize
-    ensures { result ≡ accesses_of window.now (length window.now) }
-{
-    let mut count = 0;
-    for i in 0..window.len() {
-        count += access_at(window, i);
-    }
-    count
 }
 
 // A number modulo the ring size, without a division where it is below two rings, as it mostly is.
@@ -145,7 +122,7 @@ impl<'a> Pipeline<'a> {
         }
         let (pc, half) = self.front();
         let instr = self.program.fetch(pc)?;
-        if is_access(instr.op()) && self.queue <= accesses(&self.window) {
+        if is_access(instr.op()) && self.queue <= self.window.accesses() {
             return None;
         }
         Some(Fetched { instr, half, pc })

@@ -1,9 +1,11 @@
 //! The stations of the live tenants, the oldest first, and who makes what they read.
-ghost use Rattle.std.specs.Prelude.{◌≡◌, ◌<◌, ◌≤◌, ◌-◌, [], ◌∷◌, ◌++◌, length, take, drop, slice_get, slice_set, option_copied};
+ghost use Rattle.std.specs.Prelude.{◌≡◌, ◌<◌, ◌≤◌, ◌-◌, [], ◌∷◌, ◌++◌, length, take, drop, slice_get, slice_set, option_copied, Some};
 ghost use Rattle.unit.specs.Creators.{CreatorsAt, IsOfSame};
 ghost use Rattle.unit.specs.Slots.{place_of as place_in, slot_of as slot_in};
+ghost use Rattle.unit.specs.Window.{access_at, accesses as accesses_of};
 
 use crate::creators::Creators;
+use crate::dispatch::is_access;
 use crate::station::{Stage, Station};
 use isa::{Half, Instr, Op, Reg};
 use std::marker::Model;
@@ -18,6 +20,8 @@ pub struct Window {
     // the slot of the oldest tenant
     start: usize,
     len: usize,
+    // how many tenants reach memory
+    accesses: usize,
 }
 
 impl Model for Window {
@@ -26,12 +30,15 @@ impl Model for Window {
 
     ghost Value = { List Station };
 
+    ghost use Rattle.std.specs.Prelude.{◌≡◌};
     ghost use Rattle.unit.specs.Creators.{IsWindow};
     ghost use Rattle.unit.specs.Slots.{ring_of};
+    ghost use Rattle.unit.specs.Window.{accesses as accesses_of};
 
     ghost view = { λ w. ring_of w.stations w.start w.len };
 
-    ghost invariant = { λ w. IsWindow w.stations w.creators w.newest w.start w.len };
+    ghost invariant = { λ w. IsWindow w.stations w.creators w.newest w.start w.len
+        × (w.accesses ≡ accesses_of (ring_of w.stations w.start w.len) w.len) };
 }
 
 // A slot that nobody has used.
@@ -46,6 +53,14 @@ fn unused() -> Station {
         made: None,
         stage: Stage::Open,
     }
+}
+
+// 1 for a tenant that reaches memory, else 0.
+fn access(station: &Station) -> usize
+    ensures value { result ≡ access_at (Some station.now) }
+    ensures small { result ≤ 1 }
+{
+    if is_access(station.instr.op()) { 1 } else { 0 }
 }
 
 // The slot of the tenant at `i`.
@@ -81,6 +96,7 @@ impl Window {
             newest: [0; 34],
             start: 0,
             len: 0,
+            accesses: 0,
         }
     }
 
@@ -89,6 +105,13 @@ impl Window {
         ensures most { result ≤ 32 }
     {
         self.len
+    }
+
+    /// How many live tenants reach memory.
+    pub fn accesses(&self) -> usize
+        ensures { result ≡ accesses_of self.now (length self.now) }
+    {
+        self.accesses
     }
 
     pub fn at(&self, i: usize) -> Option<Station>
@@ -135,6 +158,7 @@ impl Window {
         requires { length self.old < 32 }
         ensures { self.new ≡ self.old ++ station ∷ [] }
     {
+        self.accesses += access(&station);
         let slot = slot_of(self.start, self.len);
         let r = station.destination.number() as usize;
         self.creators[slot] = Creators {
@@ -157,6 +181,7 @@ impl Window {
             return;
         };
         let r = station.destination.number() as usize;
+        self.accesses -= access(station);
         let slot = slot_of(self.start, last);
         self.newest[r] = self.creators[slot].replaced;
         self.len = last;
@@ -175,9 +200,10 @@ impl Window {
     pub fn shift(&mut self)
         ensures { self.new ≡ drop 1 self.old }
     {
-        if self.len == 0 {
+        let Some(oldest) = self.peek(0) else {
             return;
-        }
+        };
+        self.accesses -= access(oldest);
         self.start = slot_of(self.start, 1);
         self.len -= 1;
     }

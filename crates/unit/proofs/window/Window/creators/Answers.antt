@@ -10,7 +10,7 @@ use Rattle.unit.proofs.window.Window.creators.Goals as goal
 pub returns : goal.returns
 returns c =
     let s = c.self.inside in
-    let h = c.self.invariant in
+    let h = c.self.invariant.0 in
     let none : Creators = record { first = 0; second = 0; replaced = 0 } in
     let made = get_or s.creators c.slot_of-slot.result none in
     let long = ring_length s.stations s.start s.len h.every_station h.begins h.most in

@@ -1,22 +1,53 @@
-use Rattle.std.proofs.Common.{◌<◌, ◌-◌, drop, sym, ap, ◌∙◌, subst, arith}
+use Rattle.std.proofs.Common.{◌≡◌, ◌<◌, ◌-◌, suc, length, drop, Some, sym, ap, ◌∙◌, subst, arith}
+use Rattle.std.specs.Prelude.{option_copied, slice_get}
+use Rattle.std.proofs.lemmas.Option.{slice_get_within}
 use Rattle.unit.specs.Creators.{IsWindow}
 use Rattle.unit.specs.Slots.{ring_of}
-use Rattle.unit.proofs.Slots.{ring_shift}
+use Rattle.unit.specs.Window.{accesses}
+use Rattle.unit.proofs.Accesses.{count_oldest}
+use Rattle.unit.proofs.Slots.{ring_length, ring_shift}
 use Rattle.unit.proofs.WindowKept.{window_shifted}
 use Rattle.unit.proofs.window.Window.shift.Goals as goal
 
 pub invariant_of-self : goal.invariant_of-self
 invariant_of-self c =
     let s = c.self.inside in
-    let some : 0 < s.len = omega (arith, c.if-self-eq0.false) in
-    subst (λ k. IsWindow s.stations s.creators s.newest k (s.len - 1)) (sym c.slot_of-self-inside.ensures.value)
-    (window_shifted s.stations s.creators s.newest s.start s.len c.self.invariant some)
+    let h = c.self.invariant.0 in
+    let w = c.in-Some.oldest.now in
+    let is : slice_get c.args.self.now 0 ≡ Some w = sym c.peek.ensures ∙ ap option_copied c.in-Some.is in
+    let there = ap (λ l. slice_get l 0) c.self.view_is ∙ is in
+    let long = ring_length s.stations s.start s.len h.every_station h.begins h.most in
+    let inside : 0 < length (ring_of s.stations s.start s.len) = slice_get_within (ring_of s.stations s.start s.len) 0 w there in
+    let some : 0 < s.len = omega (arith, inside, long) in
+    let one : s.len ≡ suc (s.len - 1) = omega (arith, some) in
+    let count = count_oldest s.stations s.start s.len (s.len - 1) s.accesses w h.every_station h.begins h.most one there c.self.invariant.1 in
+    subst (λ k. IsWindow s.stations s.creators s.newest k (s.len - 1)
+    × (s.accesses - c.access.result ≡ accesses (ring_of s.stations k (s.len - 1)) (s.len - 1))) (sym c.slot_of-self-inside.ensures.value)
+    (window_shifted s.stations s.creators s.newest s.start s.len h some, omega (arith, count, c.access.ensures.value))
+
+pub overflow_sub-self : goal.overflow_sub-self
+overflow_sub-self c =
+    let s = c.self.inside in
+    let h = c.self.invariant.0 in
+    let w = c.in-Some.oldest.now in
+    let is : slice_get c.args.self.now 0 ≡ Some w = sym c.peek.ensures ∙ ap option_copied c.in-Some.is in
+    let there = ap (λ l. slice_get l 0) c.self.view_is ∙ is in
+    let long = ring_length s.stations s.start s.len h.every_station h.begins h.most in
+    let inside : 0 < length (ring_of s.stations s.start s.len) = slice_get_within (ring_of s.stations s.start s.len) 0 w there in
+    let one : s.len ≡ suc (s.len - 1) = omega (arith, inside, long) in
+    let count = count_oldest s.stations s.start s.len (s.len - 1) s.accesses w h.every_station h.begins h.most one there c.self.invariant.1 in
+    omega (arith, count, c.access.ensures.value)
 
 pub returns : goal.returns
 returns c =
     let s = c.self.inside in
-    let h = c.self.invariant in
-    let some : 0 < s.len = omega (arith, c.if-self-eq0.false) in
+    let h = c.self.invariant.0 in
+    let w = c.in-Some.oldest.now in
+    let is : slice_get c.args.self.now 0 ≡ Some w = sym c.peek.ensures ∙ ap option_copied c.in-Some.is in
+    let there = ap (λ l. slice_get l 0) c.self.view_is ∙ is in
+    let long = ring_length s.stations s.start s.len h.every_station h.begins h.most in
+    let inside : 0 < length (ring_of s.stations s.start s.len) = slice_get_within (ring_of s.stations s.start s.len) 0 w there in
+    let some : 0 < s.len = omega (arith, inside, long) in
     ap (λ k. ring_of s.stations k (s.len - 1)) c.slot_of-self-inside.ensures.value
     ∙ ring_shift s.stations s.start s.len h.every_station h.begins h.most some
     ∙ ap (λ l. drop 1 l) c.self.view_is
