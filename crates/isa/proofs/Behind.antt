@@ -1,5 +1,5 @@
 -- One line behind the lines before it.
-use Rattle.std.proofs.Common.{◌≡◌, ℕ, ◌+◌, ◌<◌, ◌≤◌, true, false, List, [], ◌∷◌, ◌++◌, length, map, Some, None, Result, Err, refl, sym, ap, ◌∙◌, subst, append_assoc, arith}
+use Rattle.std.proofs.Common.{◌≡◌, ℕ, ◌+◌, ◌<◌, ◌≤◌, true, false, List, [], ◌∷◌, ◌++◌, length, map, Some, None, Result, Err, refl, sym, ap, ◌∙◌, append_assoc, arith}
 use Rattle.std.specs.Prelude.{nat_lt}
 use Rattle.std.proofs.lemmas.Bool.{lt-ltb, le-ltb}
 use Rattle.std.proofs.lemmas.List.{length-append, length-map, append-nil}
@@ -14,7 +14,7 @@ use Rattle.isa.specs.declared.listing.line.Target.{Target}
 use Rattle.isa.specs.Programs.{address}
 use Rattle.isa.specs.Statement.{Parsed, Line, statement}
 use Rattle.isa.specs.Listing.{Lines, labels, read, code_in, bytes_in, at, table, numbered, memory, how_many, is_double, fault_of, fault_in}
-use Rattle.isa.specs.Held.{Labels, IsTable, IsAdded, IsRead, name_of, rows}
+use Rattle.isa.specs.Held.{IsAdded, IsRead, name_of, rows}
 use Rattle.isa.proofs.Rows.{rows_length, rows_push}
 use Rattle.isa.proofs.Statements.{statement_empty}
 
@@ -52,8 +52,8 @@ memory_push before l = flat_map-append (λ l. bytes_in (read l)) before (l ∷ [
 
 -- ---- this line
 
-module _ (before : Lines) (line text : List ℕ) (m : Labels) (code : List Instr) (ts : List Target) (bytes : List ℕ)
-    (is : IsRead before m code ts bytes) (front : text ≡ before_comment line) where
+module _ (before : Lines) (line text : List ℕ) (held : List (List ℕ × ℕ)) (code : List Instr) (ts : List Target) (bytes : List ℕ)
+    (is : IsRead before held code ts bytes) (front : text ≡ before_comment line) where
   pub how_many_is : how_many before ≡ length code
   how_many_is = sym (ap length is.code_is) ∙ rows_length code ts is.length_is
 
@@ -68,32 +68,27 @@ module _ (before : Lines) (line text : List ℕ) (m : Labels) (code : List Instr
     at_count : a ≡ address (how_many before)
     at_count = at_a ∙ ap address (sym how_many_is)
 
-    pub fault_double : ((pairs : List (List ℕ × ℕ)) → IsTable m pairs → is_double a pairs (labels_of text) ≡ true)
-        → fault_in before line ≡ Some DoubleLabel
+    pub fault_double : is_double a held (labels_of text) ≡ true → fault_in before line ≡ Some DoubleLabel
     unfolding fault_in
     fault_double double =
         let d : is_double (address (how_many before)) (table 0 before) (labels line) ≡ true =
-        rw (at_count, front) at (double (table 0 before) is.labels) in
+        rw (at_count, front, is.labels_are) at double in
         rw (is_plain, d) refl
 
-    module _ (m' : Labels)
-        (single : (pairs : List (List ℕ × ℕ)) → IsTable m pairs
-        → (is_double a pairs (labels_of text) ≡ false) × IsTable m' (pairs ++ at a (labels_of text))) where
+    module _ (held' : List (List ℕ × ℕ)) (single : (is_double a held (labels_of text) ≡ false) × (held' ≡ held ++ at a (labels_of text))) where
       fault_is : fault_in before line ≡ fault_of (length code) (length bytes) (statement (statement_of text))
       unfolding fault_in
       fault_is =
           let d : is_double (address (how_many before)) (table 0 before) (labels line) ≡ false =
-          rw (at_count, front) at (single (table 0 before) is.labels).0 in
+          rw (at_count, front, is.labels_are) at single.0 in
           rw (is_plain, d, how_many_is, front, is.bytes_are) refl
 
-      table_is : IsTable m' (table 0 (before ++ line ∷ []))
+      table_is : held' ≡ table 0 (before ++ line ∷ [])
       table_is =
           let place : a ≡ address (0 + how_many before) = at_count ∙ ap address (omega arith) in
-          subst (IsTable m')
-          (ap (λ (b : ℕ). table 0 before ++ at b (labels_of text)) place
-          ∙ ap (λ (c : List ℕ). table 0 before ++ at (address (0 + how_many before)) (labels_of c)) front
-          ∙ sym (table_push 0 1 before line))
-          (single (table 0 before) is.labels).1
+          single.1 ∙ ap (λ (t : List (List ℕ × ℕ)). t ++ at a (labels_of text)) is.labels_are
+          ∙ ap (λ (b : ℕ). table 0 before ++ at b (labels_of text)) place
+          ∙ ap (λ (c : List ℕ). table 0 before ++ at (address (0 + how_many before)) (labels_of c)) front ∙ sym (table_push 0 1 before line)
 
       read_is : (r : Result Line FaultKind) → statement (statement_of text) ≡ r → read line ≡ r
       read_is r e = ap (λ (c : List ℕ). statement (statement_of c)) (sym front) ∙ e
@@ -134,11 +129,11 @@ module _ (before : Lines) (line text : List ℕ) (m : Labels) (code : List Instr
             fault_is ∙ ap (fault_of (length code) (length bytes)) added.is ∙ rw (code_short, bytes_short) refl
 
       pub reads_none : (bytes' : List ℕ) → IsAdded (statement (statement_of text)) [] bytes bytes' → length code ≤ 16384 → length bytes' ≤ 65536
-          → (fault_in before line ≡ None) × IsRead (before ++ line ∷ []) m' code ts bytes'
+          → (fault_in before line ≡ None) × IsRead (before ++ line ∷ []) held' code ts bytes'
       reads_none bytes' added short small = (
         no_fault [] bytes' added (omega arith) small,
         record {
-          labels = table_is;
+          labels_are = table_is;
           length_is = is.length_is;
           code_is = sym (code_are _ added.is ∙ append-nil _);
           bytes_are = added.grown ∙ sym (bytes_are _ added.is);
@@ -147,11 +142,11 @@ module _ (before : Lines) (line text : List ℕ) (m : Labels) (code : List Instr
 
       pub reads_some : (i : Instr) (t : Target) (bytes' : List ℕ) → t.line ≡ length before + 1
           → IsAdded (statement (statement_of text)) (record { instr = i; label = name_of t } ∷ []) bytes bytes' → length code < 16384 → length bytes' ≤ 65536
-          → (fault_in before line ≡ None) × IsRead (before ++ line ∷ []) m' (code ++ i ∷ []) (ts ++ t ∷ []) bytes'
+          → (fault_in before line ≡ None) × IsRead (before ++ line ∷ []) held' (code ++ i ∷ []) (ts ++ t ∷ []) bytes'
       reads_some i t bytes' number added short small = (
         no_fault _ bytes' added (omega arith) small,
         record {
-          labels = table_is;
+          labels_are = table_is;
           length_is = omega (arith, is.length_is, length-append code (i ∷ []), length-append ts (t ∷ []));
           code_is =
               rows_push code ts i t is.length_is

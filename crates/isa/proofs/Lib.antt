@@ -1,5 +1,7 @@
 pub mod HexDigits
 pub mod WordLines
+pub mod BucketSearch
+pub mod BucketsKept
 pub mod LabelTable
 pub mod Bytes
 pub mod WideProducts

@@ -17,7 +17,7 @@ use Rattle.isa.specs.Forms.{is_operation, form_with, form_of}
 use Rattle.isa.specs.Statement.{Parsed, bare, is_word, instruction, with_operands, statement, filled, gives_code}
 use Rattle.isa.specs.Listing.{read, labels}
 use Rattle.isa.specs.Wording.{word_of, slots_of}
-use Rattle.isa.specs.InstrText.{operand_text, with_operands_text, is_nop, text_of, said_of, StandsFor, IsWritable, Says, TextIsReadBack}
+use Rattle.isa.specs.InstrText.{operand_text, with_operands_text, is_nop, text_of, said_of, StandsFor, IsWritable, TextIsReadBack}
 use Rattle.isa.proofs.Statements.{instruction_ok, statement_is}
 use Rattle.isa.proofs.TextBytes.{Of, of_all, of_append, of_other, inner, inner_no_blank, IsPart, part_of, part_starts, part_ends, AreParts, Starts, Ends, ends_behind, joined_ends, some_length, trim_end_whole, before_at, after_at, before_whole, after_whole, split_whole, operands_joined}
 use Rattle.isa.proofs.TextOperands.{filled_of, parts_are}

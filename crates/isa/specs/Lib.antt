@@ -11,6 +11,8 @@ pub mod Operands
 pub mod Forms
 pub mod Statement
 pub mod Listing
+pub mod NameHash
+pub mod Buckets
 pub mod Held
 pub mod Report
 pub mod Wording

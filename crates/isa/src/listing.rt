@@ -1,7 +1,7 @@
 //! The listing language: from bytes to a program, or to the first fault.
 ghost use Rattle.std.specs.Prelude.{◌≡◌, ◌≢◌, ◌≤◌, ◌/◌, ℕ, List, Ok, Err, length, OnOk, IfOk, IfErr};
 ghost use Rattle.isa.specs.Listing.{resolve_number, resolved, listing};
-ghost use Rattle.isa.specs.Held.{IsTable, name_of, rows};
+ghost use Rattle.isa.specs.Held.{name_of, rows};
 
 mod directive;
 mod fault;
@@ -13,37 +13,38 @@ mod line;
 mod operand;
 mod register;
 mod statement;
+mod table;
 mod wording;
 
 use crate::{Instr, Program};
 pub use fault::{FaultKind, TextFault};
 pub use instr_text::{InstrText, Label, Naming, text_is_read_back};
-use labels::{Labels, Name};
 use line::{Target, read_first_line};
 use std::alloc::Global;
-use std::collections::HashMap;
+use table::Labels;
 
 /// How many bytes a listing has at most.
 const MOST_TEXT: usize = 4_194_304;
 
 /// The address of a label, where the instruction has one.
 fn resolve<'a>(labels: &Labels<'a>, target: &Target<'a>, number: u32) -> Result<u32, TextFault>
-    ensures ok { IfOk result (λ a. (pairs : List (List ℕ × ℕ)) → IsTable labels.now pairs
-        → resolve_number pairs target.now.line number (name_of target.now) ≡ Ok a) }
+    ensures ok { IfOk result (λ a.
+        resolve_number labels.now target.now.line number (name_of target.now) ≡ Ok a) }
     ensures kind { IfErr result (λ f. f.kind ≢ FaultKind.Memory) }
-    ensures fault { IfErr result (λ f. (pairs : List (List ℕ × ℕ)) → IsTable labels.now pairs
-        → resolve_number pairs target.now.line number (name_of target.now) ≡ Err (f.line, f.kind)) }
+    ensures fault { IfErr result (λ f.
+        resolve_number labels.now target.now.line number (name_of target.now)
+        ≡ Err (f.line, f.kind)) }
 {
     let Some(name) = target.label else {
         return Ok(number);
     };
-    let Some(address) = labels.get(&Name { text: name }) else {
+    let Some(address) = labels.get(name) else {
         return Err(TextFault {
             line: target.line,
             kind: FaultKind::UnknownLabel,
         });
     };
-    Ok(*address)
+    Ok(address)
 }
 
 /// Gives each instruction the address of its label.
@@ -54,11 +55,10 @@ fn resolve_all<'a>(
 ) -> Result<(), TextFault>
     requires same_length { length code.old ≡ length targets.now }
     ensures length { length code.new ≡ length code.old }
-    ensures ok { OnOk result ((pairs : List (List ℕ × ℕ)) → IsTable labels.now pairs
-        → resolved pairs (rows code.old targets.now) ≡ Ok code.new) }
+    ensures ok { OnOk result (resolved labels.now (rows code.old targets.now) ≡ Ok code.new) }
     ensures kind { IfErr result (λ f. f.kind ≢ FaultKind.Memory) }
-    ensures fault { IfErr result (λ f. (pairs : List (List ℕ × ℕ)) → IsTable labels.now pairs
-        → resolved pairs (rows code.old targets.now) ≡ Err (f.line, f.kind)) }
+    ensures fault { IfErr result (λ f.
+        resolved labels.now (rows code.old targets.now) ≡ Err (f.line, f.kind)) }
 {
     for i in 0..targets.len() {
         code[i].number = resolve(labels, &targets[i], code[i].number)?;
@@ -78,15 +78,24 @@ fn fault_at(line: u64, kind: FaultKind) -> TextFault
     }
 }
 
+/// How many bytes of so few are colons.
+fn colons(bytes: &[u8]) -> u8 {
+    let mut colons = 0u8;
+    for b in bytes {
+        colons = colons.wrapping_add(u8::from(*b == b':'));
+    }
+    colons
+}
+
 /// How many labels to make room for: one for each colon, of which a comment may have any number.
 fn most_labels(bytes: &[u8]) -> usize
     ensures { result ≤ length bytes.now / 4 }
 {
-    let mut colons = 0;
-    for b in bytes {
-        colons += usize::from(*b == b':');
+    let mut found = 0usize;
+    for part in bytes.chunks(255) {
+        found = found.wrapping_add(usize::from(colons(part)));
     }
-    colons.min(bytes.len() / 4)
+    found.min(bytes.len() / 4)
 }
 
 /// The program of a listing, or its first fault. A fault of a line has its number, counted from 1;
@@ -100,7 +109,7 @@ pub fn parse(alloc: Global, bytes: &[u8]) -> Result<Program, TextFault>
     if bytes.len() > MOST_TEXT {
         return Err(fault_at(0, FaultKind::TooLong));
     }
-    let mut labels = HashMap::with_capacity(alloc, most_labels(bytes))?;
+    let mut labels = Labels::with_capacity(alloc, most_labels(bytes))?;
     let mut code = Vec::new(alloc);
     let mut targets = Vec::new(alloc);
     let mut memory = Vec::new(alloc);

@@ -7,8 +7,9 @@ ghost use Rattle.isa.specs.Held.{IsRead, IsReadLine, IsFaultLine};
 
 use super::fault::FaultKind;
 use super::instruction::Draft;
-use super::labels::{Labels, add_label, add_labels};
+use super::labels::add_labels;
 use super::statement::statement;
+use super::table::Labels;
 use crate::{Instr, Program};
 use text::{label_line, next_code};
 
@@ -94,7 +95,7 @@ pub fn read_first_line<'a>(
         → IsFaultLine before text.entry.now e) }
 {
     if let Some((name, after)) = label_line(text) {
-        add_label(labels, name, Program::START + 4 * code.len() as u32)?;
+        labels.add(name, Program::START + 4 * code.len() as u32)?;
         return Ok(Some(after));
     }
     let (source, after) = next_code(text);

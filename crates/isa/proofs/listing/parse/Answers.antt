@@ -28,7 +28,7 @@ loop-rest-init c = record {
   small_memory = omega (arith, ap length c.new-memory.ensures.items);
   aligned = rw c.new-memory.ensures.items refl;
   size = omega arith;
-  lines = so_far_start _ _ _ _ _ c.in_ok-labels.ensures.empty c.new-code.ensures.items c.new-targets.ensures.items c.new-memory.ensures.items;
+  lines = so_far_start _ _ _ _ _ c.in_ok-labels.ensures c.new-code.ensures.items c.new-targets.ensures.items c.new-memory.ensures.items;
 }
 
 pub returns-in-Err-clause-fault : goal.returns-in-Err-clause-fault

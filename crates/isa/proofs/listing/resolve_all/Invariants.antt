@@ -1,6 +1,6 @@
-use Rattle.std.proofs.Common.{◌≡◌, ℕ, List, length, take, drop}
+use Rattle.std.proofs.Common.{◌≡◌, length, take, drop}
 use Rattle.isa.specs.Listing.{resolved}
-use Rattle.isa.specs.Held.{IsTable, rows}
+use Rattle.isa.specs.Held.{rows}
 use Rattle.isa.proofs.Rows.{with_front}
 use Rattle.isa.proofs.listing.resolve_all.Given as goal
 
@@ -8,6 +8,5 @@ use Rattle.isa.proofs.listing.resolve_all.Given as goal
 abbrev pub invariant-loop-i : goal.invariant-loop-i
 invariant-loop-i l = record {
   same_length : length l.code ≡ length l.targets;
-  so_far : (pairs : List (List ℕ × ℕ)) → IsTable l.labels pairs
-      → with_front (take l.i l.code) (resolved pairs (rows (drop l.i l.code) (drop l.i l.targets))) ≡ resolved pairs (rows l.fn.code l.targets);
+  so_far : with_front (take l.i l.code) (resolved l.labels (rows (drop l.i l.code) (drop l.i l.targets))) ≡ resolved l.labels (rows l.fn.code l.targets);
 }
