@@ -1,5 +1,5 @@
 -- The books behind a turn.
-use Rattle.std.proofs.Common.{◌≡◌, ℕ, List, [], ◌++◌, length, Option, sym, ap, ◌∙◌, append_assoc}
+use Rattle.std.proofs.Common.{◌≡◌, ℕ, List, [], ◌++◌, length, Option, ap, ◌∙◌, append_assoc}
 use Rattle.std.specs.Prelude.{is_some}
 use Rattle.unit.specs.declared.bench.Turn.{Turn}
 use Rattle.unit.specs.declared.station.Station.{Station}

@@ -2,7 +2,7 @@
 use Rattle.std.proofs.Common.{◌≡◌, ◌<◌, ◌≤◌, ◌+◌, ◌-◌, Result, Ok, Err, OnErr, ℕ, List, [], ◌∷◌, ◌++◌, length, take, Option, Some, None, refl, sym, ap, ◌∙◌, subst, arith}
 use Rattle.std.proofs.KnownBytes.{Appends-trans}
 use Rattle.std.proofs.Math.Seq.{take-append-add}
-use Rattle.std.proofs.lemmas.List.{append-nil, take-append-le, length-append}
+use Rattle.std.proofs.lemmas.List.{append-nil, take-append-le}
 use Rattle.std.specs.Io.KnownBytes.{Appends}
 use Rattle.devices.specs.Counted.{GivesPart}
 use Rattle.devices.specs.declared.counted.Counted.{Counted}
@@ -27,7 +27,7 @@ use Rattle.charts.specs.declared.telling.Format.{Format}
 use Rattle.charts.specs.Events.{events}
 use Rattle.charts.specs.Rows.{Kept, next_kept, raised, start_kept}
 use Rattle.charts.specs.Telling.{first_text, last_text, turn_text}
-use Rattle.charts.specs.Watched.{AreTurns, GivesUpTo, IsBegun, IsTold, Passed, Stood, behind, events_at, kept_behind, sizes_of, text, told}
+use Rattle.charts.specs.Watched.{GivesUpTo, IsBegun, IsTold, Passed, Stood, behind, events_at, kept_behind, sizes_of, told}
 
 -- Beginnings
 

@@ -1,5 +1,5 @@
 -- The chart: a line for each tenant that has left, and what became of it over the turns.
-use Rattle.std.specs.Prelude.{ℕ, zero, suc, ◌+◌, ◌-◌, ◌%◌, List, [], ◌∷◌, ◌++◌, length, Option, Some, None, codes, decimal, ◌==◌, if◌then◌else◌}
+use Rattle.std.specs.Prelude.{ℕ, zero, suc, ◌-◌, ◌%◌, List, [], ◌∷◌, ◌++◌, length, Option, Some, None, codes, decimal, if◌then◌else◌}
 use Rattle.isa.specs.InstrText.{instr_text}
 use Rattle.isa.specs.Instruction.{is_first_half, kind}
 use Rattle.isa.specs.Report.{hexadecimal, newline}

@@ -5,7 +5,6 @@ use Rattle.unit.specs.declared.bench.Turn.{Turn}
 use Rattle.unit.specs.declared.station.Station.{Station}
 use Rattle.charts.specs.declared.event.Event.{Event}
 use Rattle.charts.specs.declared.event.Event.TheVariants.{Let, Moved, Left}
-use Rattle.charts.specs.declared.event.Way.{Way}
 use Rattle.charts.specs.declared.event.Way.TheVariants.{Retired, Squashed}
 use Rattle.charts.specs.declared.row.Phase.{Phase}
 use Rattle.charts.specs.declared.row.Phase.TheVariants.{Waiting, Address, Done, Miss, Stop}

@@ -1,7 +1,7 @@
 -- The text of a run's events.
-use Rattle.std.specs.Prelude.{ℕ, ◌+◌, List, [], ◌∷◌, ◌++◌}
+use Rattle.std.specs.Prelude.{ℕ, List, [], ◌∷◌, ◌++◌}
 use Rattle.charts.specs.declared.event.Event.{Event}
-use Rattle.charts.specs.declared.event.Event.TheVariants.{Let, Moved, Left}
+use Rattle.charts.specs.declared.event.Event.TheVariants.{Left}
 use Rattle.charts.specs.declared.telling.Format.{Format}
 use Rattle.charts.specs.declared.telling.Format.TheVariants.{Chart, Kanata}
 use Rattle.charts.specs.Drawings.{line, live_lines, way_mark}

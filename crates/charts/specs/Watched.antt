@@ -7,7 +7,6 @@ use Rattle.isa.specs.Programs.{Program}
 use Rattle.isa.specs.Settings.{Settings}
 use Rattle.isa.specs.declared.end.End.{End}
 use Rattle.inorder.specs.Committed.{committed}
-use Rattle.inorder.specs.Runs.{end_of}
 use Rattle.inorder.specs.Unit.{Sizes, UpdateUnit, empty_unit}
 use Rattle.unit.specs.declared.bench.Turn.{Turn}
 use Rattle.unit.specs.Changes.{end_state}

@@ -1,4 +1,3 @@
-use Rattle.std.proofs.Common.{arith}
 use Rattle.charts.proofs.Lists.{seen_goes_on}
 use Rattle.charts.proofs.books.all_seen.Goals as goal
 

@@ -1,4 +1,4 @@
-use Rattle.charts.specs.Rows.{kept, start_kept}
+use Rattle.charts.specs.Rows.{kept}
 use Rattle.charts.specs.Watched.{sizes_of}
 use Rattle.charts.proofs.Turns.{all_told, appends_none, first_part, last_part, on_err, stood_start}
 use Rattle.std.proofs.Common.{arith}

@@ -1,5 +1,4 @@
 use Rattle.std.proofs.Common.{◌<◌, ◌∙◌, arith}
-use Rattle.unit.specs.StandsFor.{IsUnit}
 use Rattle.unit.proofs.BenchTurns.{moves_of}
 use Rattle.unit.proofs.Ends.{left_falls}
 use Rattle.charts.specs.Rows.{kept}

@@ -1,8 +1,6 @@
-use Rattle.std.proofs.Common.{◌≡◌, ◌∙◌, ◌++◌, ap, length, Option}
+use Rattle.std.proofs.Common.{◌≡◌, ◌∙◌, ◌++◌, ap, length}
 use Rattle.std.specs.Prelude.{slice_get}
-use Rattle.unit.specs.declared.station.Station.{Station}
-use Rattle.charts.specs.declared.row.Row.{Row}
-use Rattle.charts.specs.Rows.{Kept, all_seen, counted, kept, let_row, newcomer, raised, retires}
+use Rattle.charts.specs.Rows.{Kept, all_seen, counted, kept, let_row, newcomer, retires}
 use Rattle.charts.specs.Events.{entry_events, moved_events}
 use Rattle.charts.proofs.BooksKept.{turn_events, turn_kept}
 use Rattle.charts.proofs.books.Books.turn.Goals as goal
