@@ -1,14 +1,15 @@
 //! The one-thread unit, as its callers see it.
-ghost use Rattle.std.specs.Prelude.{◌≡◌, ◌<◌, ◌-◌, ◌^◌, nat_lt, IfOk};
+ghost use Rattle.std.specs.Prelude.{◌≡◌, ◌<◌, ◌-◌, ◌^◌, nat_lt, length, slice_get, IfOk};
 ghost use Rattle.inorder.specs.Machine.{start};
 ghost use Rattle.unit.specs.Changes.{end_state, run_from};
-ghost use Rattle.unit.specs.StandsFor.{StandsFor};
+ghost use Rattle.unit.specs.StandsFor.{IsUnit, StandsFor};
 ghost use Rattle.inorder.specs.Unit.{empty_unit};
 ghost use Rattle.unit.specs.Turns.{Falls, Guesses, IsSame, IsTurn};
 
 use crate::dispatch::Fetched;
 use crate::leaver::Leaver;
 use crate::pipeline::Pipeline;
+use crate::station::Station;
 use isa::{Config, End, Ending, Memory, Predictor, Program, Stop};
 use std::alloc::Global;
 use std::marker::Model;
@@ -93,6 +94,29 @@ impl<'a, P: Predictor + Drop> Bench<'a, P> {
         ensures { result ≡ nat_lt self.now.pipeline.committed.count (2 ^ 64 - 1) }
     {
         self.pipeline.committed.count() < 0xffff_ffff_ffff_ffff
+    }
+
+    /// How many instructions were counted. At any time some unit that legal steps reach stands behind the fields.
+    pub fn count(&self) -> u64
+        ensures value { result ≡ self.now.pipeline.committed.count }
+        ensures unit { IsUnit self.now.pipeline }
+    {
+        let state = &self.pipeline.committed;
+        state.count()
+    }
+
+    /// How many tenants are live.
+    pub fn live(&self) -> usize
+        ensures { result ≡ length self.now.pipeline.window }
+    {
+        self.pipeline.window.len()
+    }
+
+    /// A live tenant by its age, the oldest at 0; nothing behind the youngest.
+    pub fn tenant(&self, age: usize) -> Option<Station>
+        ensures { result ≡ slice_get self.now.pipeline.window age }
+    {
+        self.pipeline.window.at(age)
     }
 
     /// Does the first turn that is possible, in the order of `Turn`. The turn that retires a stop answers Over,

@@ -14,8 +14,11 @@ mod recovery;
 mod retire;
 #[cfg(test)]
 mod rows;
+#[cfg(test)]
+mod shown;
 mod source;
 mod station;
 mod window;
 
 pub use bench::{Bench, Turn};
+pub use station::{Stage, Station};

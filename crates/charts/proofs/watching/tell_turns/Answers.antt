@@ -1,0 +1,52 @@
+use Rattle.std.proofs.Common.{◌<◌, ◌∙◌, arith}
+use Rattle.unit.proofs.BenchTurns.{moves_of}
+use Rattle.unit.proofs.Ends.{left_falls}
+use Rattle.charts.specs.Rows.{kept}
+use Rattle.charts.proofs.Turns.{goes_on, is_over, on_err, stood_next, stood_part}
+use Rattle.charts.proofs.watching.tell_turns.Goals as goal
+
+pub returns-in_err-tell_turn-clause-begun : goal.returns-in_err-tell_turn-clause-begun
+returns-in_err-tell_turn-clause-begun g c =
+    let b = c.turns.bench in
+    let later = c.turn-answer.new.self in
+    let moves = moves_of g.P.Predictor.Predicts g.P.Predictor.Learns b later c.turn-answer.result c.turn-answer.ensures.turn in
+    let part = c.in_err-tell_turn.ensures.part in
+    on_err c.from_residual.result (λ P C start s. stood_part c.args.format P C b.pipeline later.pipeline (kept c.turns.books)
+    c.turn-answer.result start _ _ part.n moves c.turn-answer.ensures.same part.inside part.gives (c.turns.invariant.stood P C start s))
+
+pub returns-in-Over-clause-stood : goal.returns-in-Over-clause-stood
+returns-in-Over-clause-stood g c P C start s =
+    let b = c.turns.bench in
+    let later = c.turn-answer.new.self in
+    let moves = moves_of g.P.Predictor.Predicts g.P.Predictor.Learns b later c.turn-answer.result c.turn-answer.ensures.turn in
+    let told = c.in_ok-tell_turn.ensures in
+    stood_next c.args.format P C b.pipeline later.pipeline (kept c.turns.books) _ c.turn-answer.result start _ _ moves
+    c.turn-answer.ensures.same told.kept told.says (c.turns.invariant.stood P C start s)
+
+pub returns-in-Over-clause-stays : goal.returns-in-Over-clause-stays
+returns-in-Over-clause-stays g c =
+    let b = c.turns.bench in
+    let later = c.turn-answer.new.self in
+    let moves = moves_of g.P.Predictor.Predicts g.P.Predictor.Learns b later _ c.in-Over.ensures.turn in
+    let less : b.pipeline.committed.count < c.args.limit = omega (arith, c.count.ensures.value, c.turns-test.true) in
+    is_over c.args.limit b.pipeline later.pipeline c.in-Over.field-0 c.count.ensures.unit moves c.in-Over.ensures.same less c.in-Over.ensures.falls
+
+pub turns-smaller : goal.turns-smaller
+turns-smaller g c =
+    let less : c.turns.bench.pipeline.committed.count < c.args.limit = omega (arith, c.count.ensures.value, c.turns-test.true) in
+    left_falls c.args.limit c.turns.bench.pipeline c.turn-answer.new.self.pipeline c.turn-answer.result less c.in_default.not-Over c.turn-answer.ensures.falls
+
+pub turns-preserved : goal.turns-preserved
+turns-preserved g c =
+    let b = c.turns.bench in
+    let later = c.turn-answer.new.self in
+    let moves = moves_of g.P.Predictor.Predicts g.P.Predictor.Learns b later c.turn-answer.result c.turn-answer.ensures.turn in
+    let less : b.pipeline.committed.count < c.args.limit = omega (arith, c.count.ensures.value, c.turns-test.true) in
+    let told = c.in_ok-tell_turn.ensures in
+    record {
+      quiet = told.quiet ∙ c.turns.invariant.quiet;
+      ends = goes_on c.args.limit b.pipeline later.pipeline c.turn-answer.result c.count.ensures.unit moves c.turn-answer.ensures.same less
+          c.in_default.not-Over c.turn-answer.ensures.falls ∙ c.turns.invariant.ends;
+      stood = λ P C start s. stood_next c.args.format P C b.pipeline later.pipeline (kept c.turns.books) _ c.turn-answer.result start _ _ moves
+          c.turn-answer.ensures.same told.kept told.says (c.turns.invariant.stood P C start s);
+    }

@@ -1,0 +1,22 @@
+use Rattle.std.proofs.Common.{◌≡◌, ℕ, List, Option}
+use Rattle.devices.specs.Counted.{failures_of, known_by}
+use Rattle.isa.specs.Programs.{Program}
+use Rattle.inorder.specs.Unit.{Sizes}
+use Rattle.unit.specs.Changes.{run_from}
+use Rattle.unit.proofs.Ends.{left}
+use Rattle.charts.specs.Rows.{kept}
+use Rattle.charts.specs.Watched.{Stood}
+use Rattle.charts.proofs.watching.tell_turns.Given as goal
+
+-- each turn was told, no call failed, and the run ends as it would have
+abbrev pub invariant-turns : goal.invariant-turns
+invariant-turns g l = record {
+  quiet : failures_of l.writer ≡ failures_of l.fn.writer;
+  ends : run_from l.bench.pipeline l.limit ≡ run_from l.fn.bench.pipeline l.limit;
+  stood : (P : Program) (C : Sizes) (start : Option (List ℕ)) →
+      Stood l.format P C l.fn.bench.pipeline (kept l.fn.books) start (known_by g.W.Write.contents l.fn.writer) →
+      Stood l.format P C l.bench.pipeline (kept l.books) start (known_by g.W.Write.contents l.writer);
+}
+
+abbrev pub decreases-turns : goal.decreases-turns
+decreases-turns g l = left l.limit l.bench.pipeline

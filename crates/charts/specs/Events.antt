@@ -1,0 +1,74 @@
+-- What became of the tenants at a turn, in the order of its steps.
+use Rattle.std.specs.Prelude.{ℕ, zero, suc, ◌+◌, Bool, true, false, List, [], ◌∷◌, ◌++◌, length, Option, Some, None, nat_lt, if◌then◌else◌, slice_get}
+use Rattle.isa.specs.Instruction.{first_of, second_of}
+use Rattle.unit.specs.declared.bench.Turn.{Turn}
+use Rattle.unit.specs.declared.station.Station.{Station}
+use Rattle.charts.specs.declared.event.Event.{Event}
+use Rattle.charts.specs.declared.event.Event.TheVariants.{Let, Moved, Left}
+use Rattle.charts.specs.declared.event.Way.TheVariants.{Retired, Squashed}
+use Rattle.charts.specs.declared.row.Phase.{Phase}
+use Rattle.charts.specs.declared.row.Phase.TheVariants.{Waiting, Address, Done, Miss, Stop}
+use Rattle.charts.specs.declared.row.Row.{Row}
+use Rattle.charts.specs.Rows.{Kept, all_seen, awaited, is_recovery, newcomer, phase_of, raised, retires, staying}
+
+-- A tenant was squashed, if there is one
+abbrev pub squash : Option Row → List Event
+squash None = []
+squash (Some r) = Left r Squashed ∷ []
+
+-- Of the first n, those behind the first `live` were squashed, the youngest first
+abbrev pub squashes : (live : ℕ) → List Row → (n : ℕ) → List Event
+squashes live rows zero = []
+squashes live rows (suc n) =
+    if nat_lt n live then [] else squash (slice_get rows n) ++ squashes live rows n
+
+-- The oldest retired, behind so many others
+abbrev pub retirement : (before : ℕ) → List Row → List Event
+retirement before [] = []
+retirement before (r ∷ rs) = Left r (Retired before) ∷ []
+
+-- Who has left at a turn that leaves so many
+abbrev pub left_events : Turn → (live before : ℕ) → List Row → List Event
+left_events answer live before rows =
+    if is_recovery answer then squashes live rows (length rows)
+    else if retires answer live (length rows) then retirement before rows else []
+
+-- Two phases are one
+abbrev pub is_same : Phase → Phase → Bool
+is_same Waiting Waiting = true
+is_same Address Address = true
+is_same Done Done = true
+is_same Miss Miss = true
+is_same Stop Stop = true
+is_same _ _ = false
+
+-- A tenant has gone on, if its station says so
+abbrev pub moved : Row → Option Station → List Event
+moved r None = []
+moved r (Some w) =
+    if is_same (phase_of r.station.stage) (phase_of w.stage) then []
+    else Moved r.position (phase_of r.station.stage) (phase_of w.stage) ∷ []
+
+-- Who has gone on, where the first of these is at place i of the window
+abbrev pub moved_events : List Station → (i : ℕ) → List Row → List Event
+moved_events W i [] = []
+moved_events W i (r ∷ rs) = moved r (slice_get W i) ++ moved_events W (i + 1) rs
+
+-- A tenant was let, and waits for others
+abbrev pub entry : List Row → Row → Event
+entry rows r =
+    Let r (awaited (first_of r.station.instr) rows) (awaited (second_of r.station.instr) rows)
+
+-- Who was let, if anybody was
+abbrev pub entry_events : List Row → Option Row → List Event
+entry_events rows None = []
+entry_events rows (Some r) = entry rows r ∷ []
+
+-- What became of the tenants at a turn that left this window: who has left, then who has gone on,
+-- then who was let
+abbrev pub events : Kept → Turn → List Station → List Event
+events k answer W =
+    left_events answer (length W) k.retirements k.rows
+    ++ (moved_events W 0 (staying answer (length W) k.rows)
+    ++ entry_events
+    (all_seen (raised k.turns) W 0 (staying answer (length W) k.rows)) (newcomer k answer W))

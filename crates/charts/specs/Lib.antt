@@ -1,0 +1,6 @@
+pub mod Rows
+pub mod Events
+pub mod Drawings
+pub mod Kanata
+pub mod Telling
+pub mod Watched

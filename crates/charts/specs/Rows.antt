@@ -1,0 +1,157 @@
+-- What is kept of the live tenants of a run, from turn to turn.
+use Rattle.std.specs.Prelude.{ℕ, ◌+◌, ◌-◌, ◌^◌, min, Bool, true, false, List, [], ◌∷◌, ◌++◌, length, take, drop, Option, Some, None, is_some, ◌==◌, nat_lt, if◌then◌else◌, slice_get}
+use Rattle.unit.specs.declared.bench.Turn.{Turn}
+use Rattle.unit.specs.declared.bench.Turn.TheVariants.{Halved, Let, Over, Recovered, Retired}
+use Rattle.unit.specs.declared.station.Stage.{Stage}
+use Rattle.unit.specs.declared.station.Stage.TheVariants.{Open, Addr, Done as IsDone, Miss as Misses, Stops}
+use Rattle.unit.specs.declared.station.Station.{Station}
+use Rattle.charts.specs.declared.row.Phase.{Phase}
+use Rattle.charts.specs.declared.row.Phase.TheVariants.{Waiting, Address, Done, Miss, Stop}
+use Rattle.charts.specs.declared.row.Row.{Row}
+use Rattle.charts.specs.declared.books.Books.{Books}
+
+-- One more, up to the greatest number of 64 bits
+abbrev pub raised : ℕ → ℕ
+raised n = min (n + 1) (2 ^ 64 - 1)
+
+-- One more, if there is one
+abbrev pub counted : (more : Bool) → ℕ → ℕ
+counted more n = if more then raised n else n
+
+-- How far a tenant has come
+abbrev pub phase_of : Stage → Phase
+phase_of Open = Waiting
+phase_of (Addr a) = Address
+phase_of IsDone = Done
+phase_of (Misses x) = Miss
+phase_of (Stops c) = Stop
+
+-- The turn at which it was claimed and finished: the one behind which it waits no more
+abbrev pub ran_by : (turn : ℕ) → (before behind : Phase) → Option ℕ → Option ℕ
+ran_by turn Waiting Waiting ran = ran
+ran_by turn Waiting _ ran = Some turn
+ran_by turn _ _ ran = ran
+
+-- The turn at which a load got its value, or a miss was mended
+abbrev pub settled_by : (turn : ℕ) → (before behind : Phase) → Option ℕ → Option ℕ
+settled_by turn Address Done settled = Some turn
+settled_by turn Miss Done settled = Some turn
+settled_by turn _ _ settled = settled
+
+-- A tenant behind a turn that left it in this station
+abbrev pub seen : (turn : ℕ) → Row → Station → Row
+seen turn r w =
+    record {
+      position = r.position;
+      let_at = r.let_at;
+      ran = ran_by turn (phase_of r.station.stage) (phase_of w.stage) r.ran;
+      settled = settled_by turn (phase_of r.station.stage) (phase_of w.stage) r.settled;
+      station = w;
+    }
+
+-- The same, where there is a station
+abbrev pub seen_in : (turn : ℕ) → Row → Option Station → Row
+seen_in turn r None = r
+seen_in turn r (Some w) = seen turn r w
+
+-- Each tenant behind a turn, where the first of them is at place i of the window
+abbrev pub all_seen : (turn : ℕ) → List Station → (i : ℕ) → List Row → List Row
+all_seen turn W i [] = []
+all_seen turn W i (r ∷ rs) = seen_in turn r (slice_get W i) ∷ all_seen turn W (i + 1) rs
+
+-- Who has left
+
+-- The oldest miss was mended
+abbrev pub is_recovery : Turn → Bool
+is_recovery Recovered = true
+is_recovery _ = false
+
+-- The oldest tenant retired: the turn says so, and there is one tenant less
+abbrev pub retires : Turn → (live before : ℕ) → Bool
+retires Halved live before = nat_lt live before
+retires Retired live before = nat_lt live before
+retires (Over c) live before = nat_lt live before
+retires _ live before = false
+
+-- Who stays live through a turn that leaves so many
+abbrev pub staying : Turn → (live : ℕ) → List Row → List Row
+staying answer live rows =
+    if is_recovery answer then take live rows
+    else if retires answer live (length rows) then drop 1 rows else rows
+
+-- Who has come
+
+-- The row of a tenant that was let, by the station behind those before it
+abbrev pub let_row : Turn → Option Station → (position turn : ℕ) → Option Row
+let_row Let (Some w) position turn =
+    Some (record { position = position; let_at = turn; ran = None; settled = None; station = w })
+let_row _ _ position turn = None
+
+-- The rows, and one more if there is one
+abbrev pub with_row : List Row → Option Row → List Row
+with_row rows None = rows
+with_row rows (Some r) = rows ++ r ∷ []
+
+-- Whom a new tenant waits for
+
+-- The youngest of these that writes a register, or who was found before them
+abbrev pub writer_from : (register : ℕ) → Option Row → List Row → Option Row
+writer_from register found [] = found
+writer_from register found (r ∷ rs) =
+    writer_from register (if r.station.destination == register then Some r else found) rs
+
+-- The youngest that writes a register
+abbrev pub writer_of : (register : ℕ) → List Row → Option Row
+writer_of register rows = writer_from register None rows
+
+-- The position, where nothing was made
+abbrev pub unmade_by : Option ℕ → ℕ → Option ℕ
+unmade_by None position = Some position
+unmade_by (Some v) position = None
+
+-- The position of a tenant that has made nothing yet
+abbrev pub unmade : Option Row → Option ℕ
+unmade None = None
+unmade (Some r) = unmade_by r.station.made r.position
+
+-- Who has still to make what a new tenant reads from a register; register 0 nobody makes
+abbrev pub awaited : (register : ℕ) → List Row → Option ℕ
+awaited register rows = if register == 0 then None else unmade (writer_of register rows)
+
+-- The station, if there is one
+abbrev pub listed : Option Station → List Station
+listed None = []
+listed (Some w) = w ∷ []
+
+-- The books
+
+-- How many turns were made, tenants let and retired; and the live ones, the oldest first
+pub record Kept : Type 0 where
+  pub turns : ℕ
+  pub lets : ℕ
+  pub retirements : ℕ
+  pub rows : List Row
+
+-- What the books hold
+abbrev pub kept : Books → Kept
+kept b = record { turns = b.turns; lets = b.lets; retirements = b.retirements; rows = b.rows.items }
+
+-- Before the first turn
+abbrev pub start_kept : Kept
+start_kept = record { turns = 0; lets = 0; retirements = 0; rows = [] }
+
+-- Who was let at a turn that left this window
+abbrev pub newcomer : Kept → Turn → List Station → Option Row
+newcomer k answer W = let_row answer (slice_get W (length k.rows)) k.lets (raised k.turns)
+
+-- The books behind a turn that left this window
+abbrev pub next_kept : Kept → Turn → List Station → Kept
+next_kept k answer W =
+    record {
+      turns = raised k.turns;
+      lets = counted (is_some (newcomer k answer W)) k.lets;
+      retirements = counted (retires answer (length W) (length k.rows)) k.retirements;
+      rows =
+          with_row (all_seen (raised k.turns) W 0 (staying answer (length W) k.rows))
+          (newcomer k answer W);
+    }

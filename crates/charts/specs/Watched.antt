@@ -1,0 +1,96 @@
+-- A run, turn by turn, and what is said of it.
+use Rattle.std.specs.Prelude.{⊤, ◌≡◌, ◌≤◌, length, ℕ, List, [], ◌∷◌, ◌++◌, take, Option}
+use Rattle.std.specs.Io.KnownBytes.{Appends}
+use Rattle.devices.specs.Counted.{Gives}
+use Rattle.devices.specs.declared.counted.Counted.{Counted}
+use Rattle.isa.specs.Programs.{Program}
+use Rattle.isa.specs.Settings.{Settings}
+use Rattle.isa.specs.declared.end.End.{End}
+use Rattle.inorder.specs.Committed.{committed}
+use Rattle.inorder.specs.Unit.{Sizes, UpdateUnit, empty_unit}
+use Rattle.unit.specs.declared.bench.Turn.{Turn}
+use Rattle.unit.specs.Changes.{end_state}
+use Rattle.unit.specs.declared.pipeline.Pipeline.{Pipeline}
+use Rattle.unit.specs.StandsFor.{StandsFor, sizes}
+use Rattle.unit.specs.Turns.{Does}
+use Rattle.unit.specs.Window.{window}
+use Rattle.unit_laws.specs.Moves.{IsReached}
+use Rattle.charts.specs.declared.telling.Format.{Format}
+use Rattle.charts.specs.declared.event.Event.{Event}
+use Rattle.charts.specs.Events.{events}
+use Rattle.charts.specs.Rows.{Kept, next_kept, raised, start_kept}
+use Rattle.charts.specs.Telling.{first_text, last_text, turn_text}
+
+-- A turn that was made: its answer, and the unit behind it
+pub record Passed : Type 0 where
+  pub answer : Turn
+  pub unit : UpdateUnit
+
+-- The unit behind these turns, the last one first
+abbrev pub behind : List Passed → UpdateUnit
+behind [] = empty_unit
+behind (t ∷ ts) = t.unit
+
+-- Each is a turn from the unit that the turns before it have left: legal steps, and the first that
+-- are possible
+abbrev pub AreTurns : Program → Sizes → List Passed → Type 0
+AreTurns P C [] = ⊤
+AreTurns P C (t ∷ ts) = AreTurns P C ts × Does P C (behind ts) t.unit t.answer
+
+-- What is kept of the tenants behind these turns
+abbrev pub kept_behind : Program → List Passed → Kept
+kept_behind P [] = start_kept
+kept_behind P (t ∷ ts) = next_kept (kept_behind P ts) t.answer (window P t.unit.tenants)
+
+-- What became of the tenants at a turn behind others
+abbrev pub events_at : Program → List Passed → Passed → List Event
+events_at P ts t = events (kept_behind P ts) t.answer (window P t.unit.tenants)
+
+-- What is said of these turns
+abbrev pub told : Format → Program → List Passed → List ℕ
+told f P [] = first_text f
+told f P (t ∷ ts) = told f P ts ++ turn_text f (raised (kept_behind P ts).turns) (events_at P ts t)
+
+-- What is said of a whole run
+abbrev pub text : Format → Program → List Passed → List ℕ
+text f P ts = told f P ts ++ last_text f (kept_behind P ts)
+
+-- The sizes that a configuration gives a unit
+abbrev pub sizes_of : Settings → Sizes
+sizes_of c = record { ring = c.ring; queue = c.queue; first_tag = c.first_tag }
+
+-- The fields stand for the unit behind some turns, and these were told
+pub record Stood (f : Format) (P : Program) (C : Sizes) (b : Pipeline) (k : Kept)
+    (start now : Option (List ℕ)) : Type 0 where
+  pub program : b.program.now ≡ P
+  pub sizes : sizes b ≡ C
+  pub turns : List Passed
+  pub are : AreTurns P C turns
+  pub reached : IsReached P C (behind turns)
+  pub stands : StandsFor b (behind turns)
+  pub kept : k ≡ kept_behind P turns
+  pub says : Appends start now (told f P turns)
+
+-- A run was told from its first turn to its last one: legal turns that lead to the state with which
+-- the run ends
+pub record IsTold (f : Format) (P : Program) (C : Sizes) (end : End) (before after : Option (List ℕ))
+    : Type 0 where
+  pub turns : List Passed
+  pub are : AreTurns P C turns
+  pub ends : committed P (behind turns).tenants ≡ (end_state end).1
+  pub says : Appends before after (text f P turns)
+
+-- Only a beginning was told of legal turns
+pub record IsBegun (f : Format) (P : Program) (C : Sizes) (before after : Option (List ℕ))
+    : Type 0 where
+  pub turns : List Passed
+  pub are : AreTurns P C turns
+  pub n : ℕ
+  pub says : Appends before after (take n (text f P turns))
+
+-- A beginning of a text was written, or all of it
+pub record GivesUpTo {W : Type 0} (contents : W → Option (List ℕ)) (old new : Counted W)
+    (bytes : List ℕ) : Type 0 where
+  pub n : ℕ
+  pub inside : n ≤ length bytes
+  pub gives : Gives contents old new (take n bytes)

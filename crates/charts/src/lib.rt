@@ -1,0 +1,21 @@
+//! Pictures of a run of the one-thread unit: a chart, and a log for a pipeline viewer.
+#![tactic(auto)]
+
+mod books;
+mod drawing;
+mod event;
+mod kanata;
+mod leaving;
+mod row;
+mod telling;
+mod waits;
+mod watched;
+mod watching;
+
+pub use event::{Event, Way};
+pub use row::{Phase, Row};
+pub use telling::Format;
+pub use watched::{Fault, watch};
+
+#[cfg(test)]
+mod tests;

@@ -1,0 +1,57 @@
+//! Whom a new tenant waits for.
+ghost use Rattle.std.specs.Prelude.{◌≡◌};
+ghost use Rattle.charts.specs.Events.{entry as entry_of};
+ghost use Rattle.charts.specs.Rows.{awaited as awaited_of, unmade as unmade_of};
+ghost use Rattle.charts.specs.Rows.{writer_of as writer_in};
+
+use crate::event::Event;
+use crate::row::Row;
+use isa::Reg;
+
+// The youngest that writes a register.
+fn writer_of(register: Reg, rows: &[Row]) -> Option<Row>
+    ensures { result ≡ writer_in register rows.now }
+{
+    let mut found = None;
+    for row in rows.iter() {
+        if row.station.destination.number() == register.number() {
+            found = Some(*row);
+        }
+    }
+    found
+}
+
+// The position of a tenant that has made nothing yet.
+fn unmade(writer: Option<Row>) -> Option<u64>
+    ensures { result ≡ unmade_of writer }
+{
+    let row = writer?;
+    match row.station.made {
+        None => Some(row.position),
+        Some(_) => None,
+    }
+}
+
+// Who has still to make what a new tenant reads from a register.
+fn awaited(register: Reg, rows: &[Row]) -> Option<u64>
+    ensures { result ≡ awaited_of register rows.now }
+{
+    if register.number() == 0 {
+        return None;
+    }
+    unmade(writer_of(register, rows))
+}
+
+/// It was let behind these.
+pub(crate) fn entry(rows: &[Row], row: &Row) -> Event
+    ensures { result ≡ entry_of rows.now row.now }
+{
+    let instr = &row.station.instr;
+    let first = awaited(instr.first(), rows);
+    let second = awaited(instr.second(), rows);
+    Event::Let {
+        row: *row,
+        first,
+        second,
+    }
+}

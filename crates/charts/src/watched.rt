@@ -1,0 +1,82 @@
+//! A run that is told while it goes.
+ghost use Rattle.std.specs.Prelude.{◌≡◌, ◌<◌, ◌+◌, ◌-◌, ◌^◌, IfErr, IfOk, OnErr, OnOk};
+ghost use Rattle.devices.specs.Counted.{failures_of, known_by};
+ghost use Rattle.inorder.specs.Runs.{end_of};
+ghost use Rattle.unit.specs.Changes.{end_state};
+ghost use Rattle.charts.specs.Watched.{IsBegun, IsTold, sizes_of};
+ghost use Rattle.charts.specs.declared.watched.Fault.TheVariants.{Memory as NoRoom, Write as Unwritten};
+
+use crate::books::Books;
+use crate::telling::Format;
+use crate::watching::{tell_first, tell_last, tell_turns};
+use devices::{Counted, WriteFailed};
+use isa::{Config, End, Memory, Predictor, Program};
+use std::alloc::{AllocError, Global};
+use std::io::Write;
+use unit::Bench;
+
+/// Why a run was not told to its end. There is no second try.
+#[derive(Clone, Copy, Debug, PartialEq, Eq)]
+pub enum Fault {
+    /// Memory was refused.
+    Memory,
+    /// The writer failed, or took no byte.
+    Write,
+}
+
+impl From<Memory> for Fault {
+    ghost from_gives = { λ _ f. f ≡ NoRoom };
+
+    fn from(_memory: Memory) -> Fault {
+        Fault::Memory
+    }
+}
+
+impl From<AllocError> for Fault {
+    ghost from_gives = { λ _ f. f ≡ NoRoom };
+
+    fn from(_error: AllocError) -> Fault {
+        Fault::Memory
+    }
+}
+
+impl From<WriteFailed> for Fault {
+    ghost from_gives = { λ _ f. f ≡ Unwritten };
+
+    fn from(_failed: WriteFailed) -> Fault {
+        Fault::Write
+    }
+}
+
+/// Runs a program on the one-thread unit, up to the limit of the configuration, and tells each turn
+/// before the next one is made. What is kept of the run is a row for each live tenant.
+pub fn watch<P: Predictor + Drop, W: Write>(
+    alloc: Global,
+    program: &Program,
+    config: &Config,
+    predictor: P,
+    format: Format,
+    writer: &mut Counted<W>,
+) -> Result<End, Fault>
+    requires { failures_of writer.old < 2 ^ 64 - 1 }
+    // The run ends as the in-order machine does, and what was written is told of its legal turns.
+    ensures end { IfOk result (λ end. end_state end ≡ end_of program.now config.now.limit) }
+    ensures told { IfOk result (λ end. IsTold format program.now (sizes_of config.now) end
+        (known_by W.contents writer.old) (known_by W.contents writer.new)) }
+    ensures quiet { OnOk result (failures_of writer.new ≡ failures_of writer.old) }
+    // What was written before a fault is a beginning of what is told of legal turns.
+    ensures begun { OnErr result (IsBegun format program.now (sizes_of config.now)
+        (known_by W.contents writer.old) (known_by W.contents writer.new)) }
+    ensures write { IfErr result (λ fault. fault ≡ Fault.Write →
+        failures_of writer.new ≡ failures_of writer.old + 1) }
+    ensures memory { IfErr result (λ fault. fault ≡ Fault.Memory →
+        failures_of writer.new ≡ failures_of writer.old) }
+{
+    let mut bench = Bench::new(alloc, program, config, predictor)?;
+    let mut books = Books::new(alloc);
+    let limit = u64::from(config.limit());
+    tell_first(alloc, format, writer)?;
+    tell_turns(alloc, &mut bench, &mut books, format, limit, writer)?;
+    tell_last(alloc, &books, format, writer)?;
+    Ok(bench.run(limit))
+}

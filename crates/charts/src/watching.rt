@@ -1,0 +1,228 @@
+//! The turns of a run, each told as it was made.
+ghost use Rattle.std.specs.Prelude.{◌≡◌, ◌<◌, ◌+◌, ◌-◌, ◌^◌, ◌++◌, ℕ, List, Option};
+ghost use Rattle.std.specs.Prelude.{IfErr, IfOk, IsOk, OnErr, OnOk, string_bytes};
+ghost use Rattle.devices.specs.Counted.{failures_of, known_by, Gives};
+ghost use Rattle.isa.specs.Programs.{Program};
+ghost use Rattle.inorder.specs.Unit.{Sizes};
+ghost use Rattle.unit.specs.Changes.{run_from};
+ghost use Rattle.charts.specs.Events.{events};
+ghost use Rattle.charts.specs.Rows.{kept, listed, next_kept, raised as raised_of};
+ghost use Rattle.charts.specs.Telling.{first_text, last_text, turn_text};
+ghost use Rattle.charts.specs.Watched.{GivesUpTo, IsBegun, Stood};
+
+use crate::books::{Books, raised};
+use crate::drawing::push_live;
+use crate::telling::{Format, push_events, push_first, push_turn};
+use crate::watched::Fault;
+use devices::{Counted, write_whole};
+use isa::Predictor;
+use std::alloc::{AllocError, Global};
+use std::io::Write;
+use unit::{Bench, Station, Turn};
+
+// One station more, if there is one.
+fn push_station(window: &mut Vec<Station>, station: Option<Station>) -> Result<(), AllocError>
+    ensures { OnOk result (window.new.items ≡ window.old.items ++ listed station) }
+{
+    if let Some(station) = station {
+        window.push(station)?;
+    }
+    Ok(())
+}
+
+// The stations of the live tenants.
+#[tactic(auto, using(crate::proofs::Lists::take_next))]
+fn window_of<P: Predictor + Drop>(
+    alloc: Global,
+    bench: &Bench<'_, P>,
+) -> Result<Vec<Station>, AllocError>
+    ensures { IfOk result (λ window. window.items ≡ bench.now.pipeline.window) }
+{
+    let mut window = Vec::new(alloc);
+    for age in 0..bench.live() {
+        push_station(&mut window, bench.tenant(age))?;
+    }
+    Ok(window)
+}
+
+// What is said of a turn that left this window.
+fn turn_text(
+    alloc: Global,
+    books: &mut Books,
+    format: Format,
+    answer: Turn,
+    window: &[Station],
+) -> Result<String, AllocError>
+    ensures kept { OnOk result (kept books.new ≡ next_kept (kept books.old) answer window.now) }
+    ensures text { IfOk result (λ text. string_bytes text ≡ turn_text
+        format (raised_of (kept books.old).turns) (events (kept books.old) answer window.now)) }
+{
+    let turn = raised(books.turns);
+    let events = books.turn(alloc, answer, window)?;
+    let mut out = String::new(alloc);
+    push_turn(&mut out, format)?;
+    push_events(alloc, &mut out, format, turn, events.as_slice())?;
+    Ok(out)
+}
+
+// What is said of a turn that a bench has made.
+fn bench_text<P: Predictor + Drop>(
+    alloc: Global,
+    bench: &Bench<'_, P>,
+    books: &mut Books,
+    format: Format,
+    answer: Turn,
+) -> Result<String, AllocError>
+    ensures kept { OnOk result
+        (kept books.new ≡ next_kept (kept books.old) answer bench.now.pipeline.window) }
+    ensures text { IfOk result (λ text. string_bytes text ≡ turn_text format
+        (raised_of (kept books.old).turns) (events (kept books.old) answer bench.now.pipeline.window)) }
+{
+    let window = window_of(alloc, bench)?;
+    turn_text(alloc, books, format, answer, window.as_slice())
+}
+
+// Tells a text, if there was room for it.
+fn tell<W: Write>(text: Result<String, AllocError>, writer: &mut Counted<W>) -> Result<(), Fault>
+    requires { failures_of writer.old < 2 ^ 64 - 1 }
+    ensures ok { OnOk result (IsOk text) }
+    ensures says { OnOk result (IfOk text (λ all.
+        Gives W.contents writer.old writer.new (string_bytes all))) }
+    ensures quiet { OnOk result (failures_of writer.new ≡ failures_of writer.old) }
+    ensures write { IfErr result (λ fault. fault ≡ Fault.Write →
+        failures_of writer.new ≡ failures_of writer.old + 1) }
+    ensures part { OnErr result ((bytes : List ℕ) →
+        IfOk text (λ all. string_bytes all ≡ bytes) →
+        GivesUpTo W.contents writer.old writer.new bytes) }
+    ensures quiet_memory { IfErr result (λ fault. fault ≡ Fault.Memory →
+        failures_of writer.new ≡ failures_of writer.old) }
+{
+    match text {
+        Err(_) => Err(Fault::Memory),
+        Ok(text) => match write_whole(writer, text.as_str().as_bytes()) {
+            Err(_) => Err(Fault::Write),
+            Ok(()) => Ok(()),
+        },
+    }
+}
+
+// Tells a turn.
+fn tell_turn<P: Predictor + Drop, W: Write>(
+    alloc: Global,
+    bench: &Bench<'_, P>,
+    books: &mut Books,
+    format: Format,
+    answer: Turn,
+    writer: &mut Counted<W>,
+) -> Result<(), Fault>
+    requires { failures_of writer.old < 2 ^ 64 - 1 }
+    ensures kept { OnOk result
+        (kept books.new ≡ next_kept (kept books.old) answer bench.now.pipeline.window) }
+    ensures says { OnOk result (Gives W.contents writer.old writer.new (turn_text format
+        (raised_of (kept books.old).turns) (events (kept books.old) answer bench.now.pipeline.window))) }
+    ensures quiet { OnOk result (failures_of writer.new ≡ failures_of writer.old) }
+    ensures write { IfErr result (λ fault. fault ≡ Fault.Write →
+        failures_of writer.new ≡ failures_of writer.old + 1) }
+    ensures part { OnErr result (GivesUpTo W.contents writer.old writer.new (turn_text format
+        (raised_of (kept books.old).turns) (events (kept books.old) answer bench.now.pipeline.window))) }
+    ensures quiet_memory { IfErr result (λ fault. fault ≡ Fault.Memory →
+        failures_of writer.new ≡ failures_of writer.old) }
+{
+    let text = bench_text(alloc, bench, books, format, answer);
+    tell(text, writer)
+}
+
+fn first(alloc: Global, format: Format) -> Result<String, AllocError>
+    ensures { IfOk result (λ text. string_bytes text ≡ first_text format) }
+{
+    let mut out = String::new(alloc);
+    push_first(&mut out, format)?;
+    Ok(out)
+}
+
+/// Tells what stands before the first turn.
+pub(crate) fn tell_first<W: Write>(
+    alloc: Global,
+    format: Format,
+    writer: &mut Counted<W>,
+) -> Result<(), Fault>
+    requires { failures_of writer.old < 2 ^ 64 - 1 }
+    ensures says { OnOk result (Gives W.contents writer.old writer.new (first_text format)) }
+    ensures quiet { OnOk result (failures_of writer.new ≡ failures_of writer.old) }
+    ensures write { IfErr result (λ fault. fault ≡ Fault.Write →
+        failures_of writer.new ≡ failures_of writer.old + 1) }
+    ensures part { OnErr result (GivesUpTo W.contents writer.old writer.new (first_text format)) }
+    ensures quiet_memory { IfErr result (λ fault. fault ≡ Fault.Memory →
+        failures_of writer.new ≡ failures_of writer.old) }
+{
+    tell(first(alloc, format), writer)
+}
+
+fn last(alloc: Global, books: &Books, format: Format) -> Result<String, AllocError>
+    ensures { IfOk result (λ text. string_bytes text ≡ last_text format (kept books.now)) }
+{
+    let mut out = String::new(alloc);
+    if let Format::Chart = format {
+        let turn = raised(books.turns);
+        push_live(alloc, &mut out, books.rows.as_slice(), turn)?;
+    }
+    Ok(out)
+}
+
+/// Tells what stands behind the last turn.
+pub(crate) fn tell_last<W: Write>(
+    alloc: Global,
+    books: &Books,
+    format: Format,
+    writer: &mut Counted<W>,
+) -> Result<(), Fault>
+    requires { failures_of writer.old < 2 ^ 64 - 1 }
+    ensures says { OnOk result
+        (Gives W.contents writer.old writer.new (last_text format (kept books.now))) }
+    ensures quiet { OnOk result (failures_of writer.new ≡ failures_of writer.old) }
+    ensures write { IfErr result (λ fault. fault ≡ Fault.Write →
+        failures_of writer.new ≡ failures_of writer.old + 1) }
+    ensures part { OnErr result
+        (GivesUpTo W.contents writer.old writer.new (last_text format (kept books.now))) }
+    ensures quiet_memory { IfErr result (λ fault. fault ≡ Fault.Memory →
+        failures_of writer.new ≡ failures_of writer.old) }
+{
+    tell(last(alloc, books, format), writer)
+}
+
+/// Turns until the unit has ended, or its count has reached a limit, and tells each turn.
+pub(crate) fn tell_turns<P: Predictor + Drop, W: Write>(
+    alloc: Global,
+    bench: &mut Bench<'_, P>,
+    books: &mut Books,
+    format: Format,
+    limit: u64,
+    writer: &mut Counted<W>,
+) -> Result<(), Fault>
+    requires { failures_of writer.old < 2 ^ 64 - 1 }
+    ensures stood { OnOk result ((P : Program) (C : Sizes) (start : Option (List ℕ)) →
+        Stood format P C bench.old.pipeline (kept books.old) start (known_by W.contents writer.old) →
+        Stood format P C bench.new.pipeline (kept books.new) start
+        (known_by W.contents writer.new)) }
+    ensures ends { OnOk result
+        (run_from bench.new.pipeline limit ≡ run_from bench.old.pipeline limit) }
+    ensures stays { OnOk result
+        ((run_from bench.new.pipeline limit).1 ≡ bench.new.pipeline.committed) }
+    ensures quiet { OnOk result (failures_of writer.new ≡ failures_of writer.old) }
+    ensures write { IfErr result (λ fault. fault ≡ Fault.Write →
+        failures_of writer.new ≡ failures_of writer.old + 1) }
+    ensures quiet_memory { IfErr result (λ fault. fault ≡ Fault.Memory →
+        failures_of writer.new ≡ failures_of writer.old) }
+    ensures begun { OnErr result ((P : Program) (C : Sizes) (start : Option (List ℕ)) →
+        Stood format P C bench.old.pipeline (kept books.old) start (known_by W.contents writer.old) →
+        IsBegun format P C start (known_by W.contents writer.new)) }
+{
+    'turns: while bench.count() < limit {
+        let answer = bench.turn();
+        tell_turn(alloc, bench, books, format, answer, writer)?;
+        if let Turn::Over(_) = answer {
+            return Ok(());
+        }
+    }
+    Ok(())
+}
