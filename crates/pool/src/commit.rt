@@ -18,7 +18,7 @@ use std::sync::Wait;
 const SHOWN_EACH: u64 = 64;
 
 // After so many fruitless turns it lets another thread run.
-const PATIENCE: u32 = 8;
+const PATIENCE: u32 = 4;
 
 /// Why the commit thread commits no more.
 #[derive(Clone, Copy)]

@@ -12,7 +12,24 @@ use counts::WorkerSeat;
 use isa::{Config, Predictor};
 use station::UnitSeat;
 use std::sync::Wait;
-use std::thread::Scope;
+use std::thread::{Scope, Threads, available_parallelism};
+
+// The most units that a run has.
+const MOST_UNITS: u64 = 64;
+
+// So many units work at once, beside the threads that dispatch and commit: what the machine runs, but one at
+// least, and all of them where it does not say how many processors it has.
+fn units_at_once<R: Threads>(rt: &R) -> u64
+    ensures least { 1 ≤ result }
+    ensures most { result ≤ MOST_UNITS }
+{
+    match available_parallelism(rt) {
+        Ok(processors) => (processors.get() as u64)
+            .saturating_sub(2)
+            .clamp(1, MOST_UNITS),
+        Err(_) => MOST_UNITS,
+    }
+}
 
 fn start_dispatch<'s, E: 's, P: Predictor + Drop + Send + 's>(
     scope: &Scope<'s, E>,
@@ -31,7 +48,8 @@ fn start_dispatch<'s, E: 's, P: Predictor + Drop + Send + 's>(
     scope.spawn(job).is_ok()
 }
 
-fn start_unit<'s, E: 's, G: Gate + Sync + 's>(
+fn start_unit<'s, E: 's, G: Gate + Sync + 's, R: Wait + Sync + 's>(
+    wait: &'s R,
     scope: &Scope<'s, E>,
     floor: &'s Floor,
     gate: &'s G,
@@ -45,12 +63,13 @@ fn start_unit<'s, E: 's, G: Gate + Sync + 's>(
         requires core { worker.seat.core ≡ floor.now.core }
         requires count { worker.count.of ≡ floor.now.counts }
         requires program { floor.now.program ≡ floor.now.core.program }
-    { work(floor, gate, worker) };
+    { work(wait, floor, gate, worker) };
     scope.spawn(job).is_ok()
 }
 
 // Starts the units. Each has seen what the first seat has.
-fn start_units<'s, E: 's, G: Gate + Sync + 's>(
+fn start_units<'s, E: 's, G: Gate + Sync + 's, R: Wait + Sync + 's>(
+    wait: &'s R,
     scope: &Scope<'s, E>,
     floor: &'s Floor,
     gate: &'s G,
@@ -75,7 +94,7 @@ fn start_units<'s, E: 's, G: Gate + Sync + 's>(
             seat: own,
             count,
         };
-        if !start_unit(scope, floor, gate, worker) {
+        if !start_unit(wait, scope, floor, gate, worker) {
             return false;
         }
     }
@@ -121,7 +140,7 @@ pub(crate) fn start_all<
     J: Naming + Send + Sync + 's,
     P: Predictor + Drop + Send + 's,
     G: Gate + Sync + 's,
-    R: Wait + Sync + 's,
+    R: Threads + Wait + Sync + 's,
 >(
     wait: &'s R,
     scope: &Scope<'s, E>,
@@ -139,7 +158,8 @@ pub(crate) fn start_all<
     requires count { count.of ≡ floor.now.counts }
     requires program { floor.now.program ≡ floor.now.core.program }
 {
+    floor.call(units_at_once(wait));
     start_dispatch(scope, floor, dispatcher)
-        && start_units(scope, floor, gate, config.units(), seat, count)
+        && start_units(wait, scope, floor, gate, config.units(), seat, count)
         && start_snappers(wait, scope, floor, gate, config.places(), first)
 }
