@@ -9,6 +9,7 @@ use crate::rest::Rest;
 use counts::{Total, WorkerSeat};
 use isa::outcome_of;
 use station::{Claim, Finish, Job, UnitSeat, a_job_is_of_the_program};
+use std::sync::Wait;
 use std::thread::yield_now;
 
 // Computes a claimed tenant, and writes its outcome.
@@ -26,12 +27,16 @@ fn compute(floor: &Floor, seat: &mut UnitSeat, job: Job) -> Finish
     floor.core.finish(seat, job, result)
 }
 
-// Waits while the gate holds the unit and it has turns left, and says how many it has then.
+// Waits while the gate holds the unit and it has turns left, and says how many it has then. Another unit
+// works meanwhile.
 fn wait_at<G: Gate>(floor: &Floor, gate: &G, unit: u32, station: u32, turns: u32) -> u32
     ensures { result ≤ turns }
 {
     let mut left = turns;
     while gate.held(unit, station) && 0 < left && !floor.is_closed() {
+        if left == turns {
+            floor.call(1);
+        }
         left -= 1;
         yield_now();
     }
@@ -46,8 +51,9 @@ pub(crate) struct Worker {
     pub count: WorkerSeat,
 }
 
-/// Claims the stations in ring order, one a turn, and finishes what it has claimed.
-pub(crate) fn work<G: Gate>(floor: &Floor, gate: &G, worker: Worker)
+/// Claims the stations in ring order, one a turn, and finishes what it has claimed. It rests until it is
+/// called, and calls another when it has no turn left.
+pub(crate) fn work<G: Gate, R: Wait>(wait: &R, floor: &Floor, gate: &G, worker: Worker)
     requires core { worker.seat.core ≡ floor.now.core }
     requires count { worker.count.of ≡ floor.now.counts }
     requires program { floor.now.program ≡ floor.now.core.program }
@@ -57,9 +63,12 @@ pub(crate) fn work<G: Gate>(floor: &Floor, gate: &G, worker: Worker)
         mut seat,
         mut count,
     } = worker;
+    if !floor.is_called(wait, unit) {
+        return;
+    }
     let ring = floor.core.ring();
     let mut left = floor.turns;
-    let mut rest = Rest::after(ring as u32);
+    let mut rest = Rest::after(ring as u32 / 2);
     let mut station = 0;
     while 0 < left {
         left -= 1;
@@ -82,5 +91,8 @@ pub(crate) fn work<G: Gate>(floor: &Floor, gate: &G, worker: Worker)
             break;
         }
         station = (station + 1) % ring;
+    }
+    if left == 0 {
+        floor.call(1);
     }
 }

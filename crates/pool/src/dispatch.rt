@@ -10,7 +10,7 @@ use isa::Predictor;
 use station::FrontSeat;
 
 // After so many fruitless turns it lets another thread run.
-const PATIENCE: u32 = 8;
+const PATIENCE: u32 = 4;
 
 // One recovery, and one let where there is no miss. False where there was nothing to do.
 fn step<P: Predictor + Drop>(floor: &Floor, front: &mut Front<P>, count: &mut WorkerSeat) -> bool

@@ -16,6 +16,8 @@ pub(crate) struct Floor {
     closed: AtomicBool,
     // how often there was something new to see: a snapshot, or the end
     news: AtomicU64,
+    // units up to this number are to work, and those beyond it rest
+    called: AtomicU64,
 }
 
 impl Floor {
@@ -34,6 +36,7 @@ impl Floor {
             turns,
             closed: AtomicBool::new(false),
             news: AtomicU64::new(0),
+            called: AtomicU64::new(0),
         }
     }
 
@@ -41,6 +44,7 @@ impl Floor {
     pub(crate) fn close(&self) {
         self.closed.store(true, Release);
         self.tell();
+        self.call(1);
     }
 
     /// All threads are to end.
@@ -62,5 +66,23 @@ impl Floor {
     /// Waits until there is more that is new than this. It may also return for no reason.
     pub(crate) fn wait_for_more<R: Wait>(&self, wait: &R, news: u64) {
         self.news.park(wait, (news & 0xffff_ffff) as u32);
+    }
+
+    /// So many more units are to work.
+    pub(crate) fn call(&self, units: u64) {
+        self.called.fetch_add(units, Release);
+        self.called.wake_all();
+    }
+
+    /// Rests until the unit is called, which takes no turn. False where all threads are to end.
+    pub(crate) fn is_called<R: Wait>(&self, wait: &R, unit: u32) -> bool {
+        for _ in wait.forever() {
+            let called = self.called.load(Acquire);
+            if unit as u64 <= called || self.is_closed() {
+                break;
+            }
+            self.called.park(wait, (called & 0xffff_ffff) as u32);
+        }
+        !self.is_closed()
     }
 }

@@ -1,5 +1,4 @@
 //! How a thread rests that finds nothing to do.
-use std::hint::spin_loop;
 use std::thread::yield_now;
 
 /// Lets another thread run each time that so many turns in a row were fruitless.
@@ -28,7 +27,6 @@ impl Rest {
             yield_now();
             self.left = self.after;
         } else {
-            spin_loop();
             self.left -= 1;
         }
     }

@@ -61,6 +61,45 @@ fn two_units_work_at_once(rt: HostRuntime) -> Result<(), Fail> {
     Ok(())
 }
 
+// Holds each unit until all have asked.
+#[derive(Drop)]
+struct Meeting {
+    all: u64,
+    asked: AtomicU64,
+}
+
+impl Gate for Meeting {
+    fn held(&self, unit: u32, _station: u32) -> bool {
+        let own = 1u64 << (unit % 64);
+        self.asked.fetch_or(own, SeqCst) | own != self.all
+    }
+
+    fn seen(&self, _place: u32, _snap: &Snap) {}
+
+    fn counted(&self, _tally: &Tally) {}
+}
+
+// However many of them the machine runs at once.
+#[test]
+fn a_unit_that_rests_works_where_another_is_held(rt: HostRuntime) -> Result<(), Fail> {
+    let listing = b"nop\nnop\nnop\nnop\nnop\nnop\nnop\nnop\nnop\nbreak\n";
+    let gate = Meeting {
+        all: 0b1_1111_1110,
+        asked: AtomicU64::new(0),
+    };
+    let shape = Shape {
+        turns: 50_000_000,
+        ..plain(8)
+    };
+    let run = run_listing(&rt, rt.alloc(), listing, &shape, &gate)?;
+    let Run::Ended(end, _) = run else {
+        return Err(Fail::from("ended"));
+    };
+    assert_eq!(rt; end.n, 9);
+    assert_eq!(rt; gate.asked.load(SeqCst), gate.all);
+    Ok(())
+}
+
 const LISTING: &[u8] = b"addiu $1,$0,5\naddu $2,$1,$1\nbreak\n";
 
 #[test]

@@ -7,13 +7,13 @@ use Rattle.pool.proofs.Sends.{worker_sends}
 use Rattle.pool.proofs.floor.Floor.TheSendSync as floor_crosses
 use Rattle.pool.proofs.threads.start_unit.Goals as goal
 
--- what each capture owes: the floor, the gate and the worker
+-- what each capture owes: the handle, the floor, the gate and the worker
 pub spawn-requires-send-F : goal.spawn-requires-send-F
 spawn-requires-send-F g c κs within =
-    let f : IsSend (row_field (shr_ref_field (record { mir = mir.Syntax.named 5; lft = κs.1.1.1.1.1.0 }) floor.the_row (tt {0})).row).row =
-    shr_send (mir.Syntax.named 5) κs.1.1.1.1.1.0 floor.the_row floor_crosses.the_sync in
+    let f : IsSend (row_field (shr_ref_field (record { mir = mir.Syntax.named 6; lft = κs.1.1.1.1.1.1.0 }) floor.the_row (tt {0})).row).row =
+    shr_send (mir.Syntax.named 6) κs.1.1.1.1.1.1.0 floor.the_row floor_crosses.the_sync in
     let w : IsSend worker.the_row = worker_sends in
     record {
-      owned = λ z vs. (λ vss. (tt, (f.owned z.0 vss.0, (search rules depth 14, (w.owned z.2 vss.1.1.0, tt)))));
+      owned = λ z vs. (λ vss. (tt, (search rules depth 14, (f.owned z.1 vss.1.0, (search rules depth 14, (w.owned z.3 vss.1.1.1.0, tt))))));
       leaving = λ k x e. search rules depth 10;
     }
