@@ -35,7 +35,7 @@ use Rattle.back.specs.declared.port.Load.{Load}
 use Rattle.back.proofs.PortStays.{asked_stays, length_grows, shown_stays}
 use Rattle.back.proofs.Seeing.{address_shown, by_code, index_inside, shown, was_there}
 use Rattle.back.proofs.Ranks.{in_ring}
-use Rattle.inorder.proofs.Recent.{among_all, names_recent, none_old}
+use Rattle.inorder.proofs.Recent.{among_all, names_recent, none_old, old_since, live_is_recent}
 
 found : (t u : Tenant) → Some t ≡ Some u → t ≡ u
 found t u e = cc e
@@ -199,7 +199,7 @@ module _ (P : Program) (C : Sizes) (old mid new : List Entry) (a : Adds P C back
   named_new =
       let o = at_there (unit_of P C new).tenants p (long_enough) in
       let w = was_there P C mid new b p first.1.tenant o.0 first.1.is o.1 in
-      record { tenant = o.0; is = o.1; station_is = w.1 ∙ first.1.fact.station_is; tag_is = w.2 ∙ first.1.fact.tag_is }
+      record { tenant = o.0; is = o.1; new = old_since P C new mid b.begins b.legal b.one_table p ∙ live_is_recent P C mid a.legal p first.1.tenant first.1.is first.1.fact.live; station_is = w.1 ∙ first.1.fact.station_is; tag_is = w.2 ∙ first.1.fact.tag_is }
     where
       long_enough : p < length (unit_of P C new).tenants
       long_enough =

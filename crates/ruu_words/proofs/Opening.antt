@@ -1,5 +1,5 @@
 -- The rule holds at the start, for a table that goes on from no other.
-use Rattle.std.proofs.Common.{◌≡◌, ℕ, zero, suc, ◌+◌, ◌<◌, ◌≤◌, List, [], ◌∷◌, slice_index, Some, refl, sym, ap, ◌∙◌, subst, inl, arith}
+use Rattle.std.proofs.Common.{◌≡◌, ℕ, zero, suc, ◌+◌, List, [], ◌∷◌, slice_index, Some, refl, sym, ap, ◌∙◌, subst, inl, arith}
 use mathlib.Core.Option.{some, some-injective, some-ne-none}
 use lib.ListN.{get_elem?}
 use Rattle.atomic_table.specs.Table.{opening}
@@ -22,7 +22,7 @@ use Rattle.ruu_words.specs.Rule.{Fits, IsStart, Keeps, Kept, first_view, opening
 free_word : (g n : ℕ) → n ≡ pack g 0 0 → IsStation (record { tag = g + 0; state = IsFree; value = Some 0 }) n
 free_word g n e = record { tag = omega arith; state = omega arith; value = omega arith }
 
-no_link : (p c : ℕ) (k : Source) (n : ℕ) → n ≡ 0 → IsLink [] p c k n
+no_link : (p c : ℕ) (k : Source) (n : ℕ) → n ≡ 0 → IsLink empty_unit p c k n
 no_link p c k n e = record { names = inl e; stands = λ q r producer consumer i live f g. absurd (none r consumer i.consumer_is) }
   where
     none : (r : ℕ) (t : Tenant) → at [] r ≡ Some t → ⊥
@@ -48,6 +48,7 @@ opens P C ws start = record {
   draft = Nothing;
   kept = record {
     legal = tt;
+    one_table = refl;
     wide = start.wide;
     words = content P C ws start;
     views = λ id v e. let f = first_only id v e in
