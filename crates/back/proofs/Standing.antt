@@ -55,7 +55,7 @@ module _ (P : Program) (C : Sizes) (h : List Entry) (legal : IsLegal P C h) (hea
   stands_behind q t is live = stands_at P C (unit_of P C h) (unit_sound P C h legal) ring q t is live ∙ ap (λ x. (x + rank us q) % C.ring) (sym head_is)
 
   pub stands_inside : (q : ℕ) (t : Tenant) → at us q ≡ Some t → t.standing ≡ Live → rank us q < C.ring
-  stands_inside q t is live = rank_small C us ring.ring q t is live
+  stands_inside q t is live = rank_small C (unit_of P C h) ring q t is live
 
 -- During a call that retires nothing
 

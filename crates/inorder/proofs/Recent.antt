@@ -59,7 +59,7 @@ gone_above zero ts p le = omega (arith, le)
 gone_above (suc n) [] p le = omega arith
 gone_above (suc n) (t ∷ ts) p le = let more = gone_above n ts p le in omega (arith, more)
 
-wide : (n : ℕ) (ts : List Tenant) → length ts ≡ length (newest_of n ts) + length (passed n ts)
+pub wide : (n : ℕ) (ts : List Tenant) → length ts ≡ length (newest_of n ts) + length (passed n ts)
 wide zero ts = omega arith
 wide (suc n) [] = omega arith
 wide (suc n) (t ∷ ts) = let more = wide n ts in omega (arith, more)
