@@ -13,7 +13,7 @@ use Rattle.inorder.specs.declared.history.Entry.{Entry}
 use Rattle.inorder.specs.declared.history.Source.TheVariants.{Second}
 use Rattle.inorder.specs.Callers.{CanLoad, head_station}
 use Rattle.inorder.specs.Committed.{committed}
-use Rattle.inorder.specs.History.{Adds, back, unit_of}
+use Rattle.inorder.specs.History.{Adds, back, unit_of, renewals}
 use Rattle.inorder.specs.Replies.{Has, IsStale}
 use Rattle.inorder.specs.Tenants.{Live, Tenant, instr, operand}
 use Rattle.inorder.specs.Unit.{Sizes, UpdateUnit, at}
@@ -58,11 +58,11 @@ module _ (P : Program) (C : Sizes) (old new : List Entry) (a : Adds P C back old
   -- the head and what was committed stay
   pub head_same : head_station C (unit_of P C new) ≡ head_station C (unit_of P C old)
   head_same = subst (λ h. head_station C (unit_of P C h) ≡ head_station C (unit_of P C old)) (sym a.begins.is)
-      (back_stays P C (λ U. head_station C U ≡ head_station C (unit_of P C old)) (λ U by s b al ok q. head_stays P C U by s b al ∙ q) a.begins.more old (added_legal P C back old new [] a) (added_own P C back old new [] a) refl)
+      (back_stays P C (λ U. head_station C U ≡ head_station C (unit_of P C old)) (λ U by s b al ok q. head_stays P C U by s b al ∙ q) a.begins.more old (added_legal P C back old new [] a) (sym (ap renewals a.begins.is) ∙ a.one_table) (added_own P C back old new [] a) refl)
 
   pub committed_same : committed P (unit_of P C new).tenants ≡ committed P (unit_of P C old).tenants
   committed_same = subst (λ h. committed P (unit_of P C h).tenants ≡ committed P (unit_of P C old).tenants) (sym a.begins.is)
-      (back_stays P C (λ U. committed P U.tenants ≡ committed P (unit_of P C old).tenants) (λ U by s b al ok q. by_others P C U by s ok (no_retire s (not_retire s b)) al ∙ q) a.begins.more old (added_legal P C back old new [] a) (added_own P C back old new [] a) refl)
+      (back_stays P C (λ U. committed P U.tenants ≡ committed P (unit_of P C old).tenants) (λ U by s b al ok q. by_others P C U by s ok (no_retire s (not_retire s b)) al ∙ q) a.begins.more old (added_legal P C back old new [] a) (sym (ap renewals a.begins.is) ∙ a.one_table) (added_own P C back old new [] a) refl)
 
   module _ (head place : ℕ) (head_is : head ≡ head_station C (unit_of P C old)) (inside : head < C.ring) (small : place < C.ring) (p : ℕ) (l : Load) (asked : IsAsked P (unit_of P C old) p (behind head C.ring place) l) where
     abbrev U : UpdateUnit

@@ -11,7 +11,7 @@ use Rattle.inorder.specs.declared.history.Event.{Event}
 use Rattle.inorder.specs.declared.history.Event.TheVariants.{Does, Refuses}
 use Rattle.inorder.specs.declared.history.Refusal.TheVariants.{Over}
 use Rattle.inorder.specs.Callers.{GoesOn}
-use Rattle.inorder.specs.History.{Adds, IsLegal, back, entry, unit_of}
+use Rattle.inorder.specs.History.{Adds, IsLegal, back, entry, unit_of, StartsWith}
 use Rattle.inorder.specs.Machine.{State}
 use Rattle.inorder.specs.Replies.{IsOver}
 use Rattle.inorder.specs.Runs.{stop}
@@ -20,7 +20,7 @@ use Rattle.inorder.specs.Unit.{UpdateUnit, at}
 use Rattle.inorder.specs.declared.history.Act.TheVariants.{Retire}
 use Rattle.inorder.specs.declared.history.Step.TheVariants.{On}
 use Rattle.inorder.proofs.SettledMemory.{length_memory}
-use Rattle.inorder.proofs.Histories.{legal_before}
+use Rattle.inorder.proofs.Histories.{legal_before, none_to}
 use Rattle.snapshots.specs.declared.snap.Snap.{Snap}
 use Rattle.station.specs.Retirement.{EndsAs, IsRetired}
 use Rattle.station.specs.Seats.{Caller}
@@ -112,7 +112,8 @@ module _ (P copy : Program) (state : State) (low : Option ℕ) (head : ℕ) (sho
         let s = split_own back a.begins.more e [] (added_own P C back seat.seen seat'.seen (Refuses Over ∷ []) a) in
         let whole : a.begins.more ++ seat.seen ≡ s.later ++ e ∷ (s.earlier ++ seat.seen) = ap (λ z. z ++ seat.seen) s.is ∙ append_assoc s.later (e ∷ s.earlier) seat.seen in
         let legal = legal_before P C s.later (e ∷ (s.earlier ++ seat.seen)) (subst (IsLegal P C) whole (added_legal P C back seat.seen seat'.seen (Refuses Over ∷ []) a)) in
-        let u = quiet_keeps P C state low head None s.earlier seat.seen legal.0 (all_quiet P C s.earlier seat.seen [] legal.0 s.rest_is tt) (plain P copy state low head None shown seat k) in
+        let until : StartsWith seat'.seen (s.earlier ++ seat.seen) = record { more = s.later ++ e ∷ []; is = a.begins.is ∙ (whole ∙ sym (append_assoc s.later (e ∷ []) (s.earlier ++ seat.seen))) } in
+        let u = quiet_keeps P C state low head None s.earlier seat.seen legal.0 (all_quiet P C s.earlier seat.seen [] legal.0 (none_to seat'.seen (s.earlier ++ seat.seen) seat.seen until (record { more = s.earlier; is = refl }) a.one_table) s.rest_is tt) (plain P copy state low head None shown seat k) in
         over_not (unit_of P C (s.earlier ++ seat.seen)) legal.1.1 u.end_is
       where
         over_not : (U : UpdateUnit) → IsOver U → GoesOn U → ⊥

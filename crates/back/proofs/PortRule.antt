@@ -82,7 +82,7 @@ module _ (P : Program) (C : Sizes) (U : UpdateUnit) (ok : IsSound P U.tenants) (
   stands q u is alive = stands_at P C U ok ring q u is alive ∙ ap (λ h. (h + rank us q) % C.ring) (sym head_is)
 
   rank_is : rank us p ≡ place
-  rank_is = same_rank head (rank us p) place C.ring inside (rank_small C us ring.ring p t it.is live) small (sym (stands p t it.is live) ∙ it.fact.station_is)
+  rank_is = same_rank head (rank us p) place C.ring inside (rank_small C U ring p t it.is live) small (sym (stands p t it.is live) ∙ it.fact.station_is)
 
   rank_below : (q : ℕ) (u : Tenant) → at us q ≡ Some u → u.standing ≡ Live → q < p → rank us q < place
   rank_below q u is alive lt = let less = rank_grows us q p u t is alive it.is lt in omega (arith, less, rank_is)

@@ -8,7 +8,7 @@ use Rattle.inorder.specs.declared.history.Entry.{Entry}
 use Rattle.inorder.specs.declared.history.Source.TheVariants.{First, Second}
 use Rattle.inorder.specs.declared.history.Step.{Step}
 use Rattle.inorder.specs.declared.history.Step.TheVariants.{Let, On, Renew}
-use Rattle.inorder.specs.History.{Adds, IsLegal, back, own, unit_of}
+use Rattle.inorder.specs.History.{Adds, IsLegal, back, own, unit_of, renewals}
 use Rattle.inorder.specs.Legal.{Allowed, May, applied, changed}
 use Rattle.inorder.specs.Loads.{access_width, address_by, entry_of, is_store}
 use Rattle.inorder.specs.Replies.{Has, IsStale}
@@ -131,20 +131,23 @@ module _ (P : Program) (C : Sizes) (old new : List Entry) (a : Adds P C back old
   legal : IsLegal P C (a.begins.more ++ old)
   legal = added_legal P C back old new [] a
 
+  calm : renewals (a.begins.more ++ old) ≡ renewals old
+  calm = sym (ap renewals a.begins.is) ∙ a.one_table
+
   to_new : (Q : UpdateUnit → Type 0) → Q (unit_of P C (a.begins.more ++ old)) → Q (unit_of P C new)
   to_new Q q = subst (λ h. Q (unit_of P C h)) (sym a.begins.is) q
 
   pub station_stays : (n station : ℕ) (Fact : Tenant → Type 0) → Lasting Fact → n ≤ length (unit_of P C old).tenants → AtStation (unit_of P C old) n station Fact → AtStation (unit_of P C new) n station Fact
   station_stays n station Fact lasting few k =
-      (to_new (Known_at n station Fact) (back_stays P C (Known_at n station Fact) (λ U by s b al ok q. at_station_step P C n station Fact lasting U by s b al ok q) a.begins.more old legal none_own (few, k))).1
+      (to_new (Known_at n station Fact) (back_stays P C (Known_at n station Fact) (λ U by s b al ok q. at_station_step P C n station Fact lasting U by s b al ok q) a.begins.more old legal calm none_own (few, k))).1
 
   pub length_grows : length (unit_of P C old).tenants ≤ length (unit_of P C new).tenants
   length_grows = to_new (λ U. length (unit_of P C old).tenants ≤ length U.tenants)
-      (back_stays P C (λ U. length (unit_of P C old).tenants ≤ length U.tenants) (λ U by s b al ok q. let l = longer P C U by s al in omega (arith, l, q)) a.begins.more old legal none_own (omega arith))
+      (back_stays P C (λ U. length (unit_of P C old).tenants ≤ length U.tenants) (λ U by s b al ok q. let l = longer P C U by s al in omega (arith, l, q)) a.begins.more old legal calm none_own (omega arith))
 
   -- a load that waits goes on, or was squashed
   pub asked_stays : (p station : ℕ) (l : Load) → IsAsked P (unit_of P C old) p station l → IsAsked P (unit_of P C new) p station l
-  asked_stays p station l q = to_new (λ U. IsAsked P U p station l) (back_stays P C (λ U. IsAsked P U p station l) step a.begins.more old legal none_own q)
+  asked_stays p station l q = to_new (λ U. IsAsked P U p station l) (back_stays P C (λ U. IsAsked P U p station l) step a.begins.more old legal calm none_own q)
     where
       step : (U : UpdateUnit) (by : ℕ) (s : Step) → IsNotBacks s → Allowed P C U by s → IsSound P U.tenants → IsAsked P U p station l → IsAsked P (applied P C U by s) p station l
       step U by s b al ok (inr gone) = inr (gone_stays P C U by s al p gone)
@@ -166,7 +169,7 @@ module _ (P : Program) (C : Sizes) (old new : List Entry) (a : Adds P C back old
 
   -- the same of what a station shows
   pub shown_stays : (p station tag address : ℕ) → Has (unit_of P C old) p (IsShown station tag address) → Has (unit_of P C new) p (IsShown station tag address) ⊎ IsStale (unit_of P C new) p
-  shown_stays p station tag address q = to_new (λ U. Has U p (IsShown station tag address) ⊎ IsStale U p) (back_stays P C (λ U. Has U p (IsShown station tag address) ⊎ IsStale U p) step a.begins.more old legal none_own (inl q))
+  shown_stays p station tag address q = to_new (λ U. Has U p (IsShown station tag address) ⊎ IsStale U p) (back_stays P C (λ U. Has U p (IsShown station tag address) ⊎ IsStale U p) step a.begins.more old legal calm none_own (inl q))
     where
       step : (U : UpdateUnit) (by : ℕ) (s : Step) → IsNotBacks s → Allowed P C U by s → IsSound P U.tenants → Has U p (IsShown station tag address) ⊎ IsStale U p → Has (applied P C U by s) p (IsShown station tag address) ⊎ IsStale (applied P C U by s) p
       step U by s b al ok (inr gone) = inr (gone_stays P C U by s al p gone)

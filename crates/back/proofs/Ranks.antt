@@ -1,21 +1,23 @@
 -- Where the live tenants of a ring stand: one behind the other, from the oldest one on.
-use Rattle.std.proofs.Common.{◌≡◌, ℕ, suc, ◌+◌, ◌%◌, ◌<◌, ◌≤◌, Bool, true, false, cond, eq-eqb, ◌-◌, List, [], ◌∷◌, ◌++◌, length, Some, refl, sym, ap, ◌∙◌, subst, inl, inr, ⊎_elim, arith}
+use Rattle.std.proofs.Common.{◌≡◌, ℕ, zero, suc, ◌+◌, ◌%◌, ◌<◌, ◌≤◌, Bool, true, false, cond, eq-eqb, ◌-◌, List, [], ◌∷◌, ◌++◌, length, Some, refl, sym, ap, ◌∙◌, subst, inl, inr, ⊎_elim, arith}
 use Rattle.std.proofs.lemmas.Bool.{cases_lt}
 use Rattle.std.proofs.Math.Nat.{add-mod_right, mod-add-mod, mod-eq_of_lt}
 use Rattle.isa.specs.Programs.{Program}
 use Rattle.inorder.specs.Callers.{head_station, is_retired, stands_retired}
 use Rattle.inorder.specs.Laws.{IsRing}
-use Rattle.inorder.specs.Tenants.{Live, Retired, Squashed, Standing, Tenant, is_live, on_path, stands_live, stands_on_path}
-use Rattle.inorder.specs.Unit.{at, how_many, older, recent, Sizes, UpdateUnit, younger}
+use Rattle.inorder.specs.Tenants.{IsNotLive, Live, Retired, Squashed, Standing, Tenant, is_live, on_path, stands_live, stands_on_path}
+use Rattle.inorder.specs.Unit.{at, how_many, newest_of, older, recent, Sizes, UpdateUnit, younger}
 use Rattle.inorder.proofs.Basics.{eqb_less, split_at}
 use Rattle.inorder.proofs.Creators.{at_cases}
 use Rattle.inorder.proofs.Grows.{all_mid}
 use Rattle.inorder.proofs.Positions.{at_below, at_more, at_new}
 use Rattle.inorder.proofs.Sound.{IsSettled, IsSound, SettledBy}
-use Rattle.inorder.proofs.Recent.{all_recent}
+use Rattle.inorder.proofs.Tags.{passed}
+use Rattle.std.specs.List.{AllByRecursion}
+use Rattle.inorder.proofs.Recent.{live_recent, old_are_gone, recent_at, wide}
 use Rattle.inorder.specs.declared.history.Entry.{Entry}
 use Rattle.inorder.specs.History.{IsLegal, taken_of, unit_of}
-use Rattle.inorder.proofs.Stations.{Stands, is_ring, stands}
+use Rattle.inorder.proofs.Stations.{AreSettling, OldGone, is_ring, settling, settling_newest, stands}
 use Rattle.inorder.proofs.Histories.{allowed_steps}
 
 -- how many live tenants are before a position
@@ -119,41 +121,88 @@ path_parts (t ∷ ts) = go t.standing (path_parts ts)
     go Squashed e = e
 
 -- behind a live one none has retired
-none_behind : (P : Program) (t : Tenant) (ts ys : List Tenant) → t.standing ≡ Live → IsSound P (ys ++ t ∷ ts) → how_many is_retired (ys ++ t ∷ ts) ≡ how_many is_retired ts
-none_behind P t ts [] live s = ap (λ z. cond (stands_retired z) (suc (how_many is_retired ts)) (how_many is_retired ts)) live
-none_behind P t ts (y ∷ ys) live s = go y.standing refl (none_behind P t ts ys live s.1)
+none_behind : (t : Tenant) (ts ys : List Tenant) → t.standing ≡ Live → AreSettling (ys ++ t ∷ ts) → how_many is_retired (ys ++ t ∷ ts) ≡ how_many is_retired ts
+none_behind t ts [] live s = ap (λ z. cond (stands_retired z) (suc (how_many is_retired ts)) (how_many is_retired ts)) live
+none_behind t ts (y ∷ ys) live s = go y.standing refl (none_behind t ts ys live s.1)
   where
     go : (st : Standing) → y.standing ≡ st → how_many is_retired (ys ++ t ∷ ts) ≡ how_many is_retired ts → how_many is_retired (y ∷ (ys ++ t ∷ ts)) ≡ how_many is_retired ts
     go Live e r = ap (λ z. cond (stands_retired z) (suc (how_many is_retired (ys ++ t ∷ ts))) (how_many is_retired (ys ++ t ∷ ts))) e ∙ r
     go Squashed e r = ap (λ z. cond (stands_retired z) (suc (how_many is_retired (ys ++ t ∷ ts))) (how_many is_retired (ys ++ t ∷ ts))) e ∙ r
     go Retired e r =
-        let q = all_mid IsSettled t ts ys ((s.0.placed (ap stands_on_path e)).settled e) in
+        let q = all_mid IsSettled t ts ys (s.0 e) in
         absurd (subst (λ x. SettledBy x t.fate) live q)
 
--- all tenants are recent, and stand in the ring
+-- All live tenants were let since the last renewal
+
+none_live : (ts : List Tenant) → AllByRecursion IsNotLive ts → how_many is_live ts ≡ 0
+none_live [] gone = refl
+none_live (t ∷ ts) gone = go t.standing refl (none_live ts gone.1)
+  where
+    go : (st : Standing) → t.standing ≡ st → how_many is_live ts ≡ 0 → how_many is_live (t ∷ ts) ≡ 0
+    go Live e none = absurd (gone.0 e)
+    go Retired e none = ap (λ z. cond (stands_live z) (suc (how_many is_live ts)) (how_many is_live ts)) e ∙ none
+    go Squashed e none = ap (λ z. cond (stands_live z) (suc (how_many is_live ts)) (how_many is_live ts)) e ∙ none
+
+live_newest : (n : ℕ) (ts : List Tenant) → AllByRecursion IsNotLive (passed n ts) → how_many is_live (newest_of n ts) ≡ how_many is_live ts
+live_newest zero ts gone = sym (none_live ts gone)
+live_newest (suc n) [] gone = refl
+live_newest (suc n) (t ∷ ts) gone = ap (λ m. cond (is_live t) (suc m) m) (live_newest n ts gone)
+
+-- so as many are before one of them
+rank_newest : (n : ℕ) (ts : List Tenant) (r : ℕ) (t : Tenant) → AllByRecursion IsNotLive (passed n ts) → at (newest_of n ts) r ≡ Some t → rank (newest_of n ts) r ≡ rank ts (r + length (passed n ts))
+rank_newest zero ts r t gone e = absurd (cc e)
+rank_newest (suc n) [] r t gone e = absurd (cc e)
+rank_newest (suc n) (u ∷ ts) r t gone e = ⊎_elim
+    (λ (old : at us r ≡ Some t).
+    let below = at_below us r t old in
+    ap (how_many is_live) (older_there u us r below)
+    ∙ (rank_newest n ts r t gone old
+    ∙ sym (ap (how_many is_live) (older_there u ts (r + length (passed n ts)) (omega (arith, below, all))))))
+    (λ (new : (r ≡ length us) × (u ≡ t)).
+    let here = new.0 in
+    ap (how_many is_live) (older_here u us r here)
+    ∙ (live_newest n ts gone
+    ∙ sym (ap (how_many is_live) (older_here u ts (r + length (passed n ts)) (omega (arith, here, all))))))
+    (at_cases u us r t e)
+  where
+    us : List Tenant
+    us = newest_of n ts
+
+    all : length ts ≡ length (newest_of n ts) + length (passed n ts)
+    all = wide n ts
+
+-- The tenants let since the last renewal stand in the ring, and all others have left
 pub record InRing (C : Sizes) (U : UpdateUnit) : Type 0 where
-  pub all : recent U ≡ U.tenants
-  pub ring : IsRing C U.tenants
+  pub ring : IsRing C (recent U)
+  pub gone : OldGone U
 
 pub in_ring : (P : Program) (C : Sizes) (h : List Entry) → IsLegal P C h → InRing C (unit_of P C h)
-in_ring P C h legal =
-    let all = all_recent P C h legal in
-    record { all = all; ring = is_ring C (unit_of P C h).tenants (subst (Stands C) all (stands P C (taken_of h) (allowed_steps P C h legal))) }
+in_ring P C h legal = record {
+  ring = is_ring C (recent (unit_of P C h)) (stands P C (taken_of h) (allowed_steps P C h legal));
+  gone = old_are_gone P C h legal;
+}
 
 -- a live tenant stands as far behind the head as live ones are before it
 pub stands_at : (P : Program) (C : Sizes) (U : UpdateUnit) → IsSound P U.tenants → InRing C U → (p : ℕ) (t : Tenant) → at U.tenants p ≡ Some t → t.standing ≡ Live
     → t.station ≡ (head_station C U + rank U.tenants p) % C.ring
 stands_at P C U ok ring p t is live =
-    let us = U.tenants in
-    let split = split_at us p t is in
-    let counted : how_many is_retired us ≡ how_many is_retired (older us p) = ap (how_many is_retired) split ∙ none_behind P t (older us p) (younger us p) live (subst (IsSound P) split ok) in
-    ring.ring.place p t is (ap stands_on_path live)
-    ∙ (ap (λ n. n % C.ring) (path_parts (older us p) ∙ ap (λ n. n + rank us p) (sym counted))
-    ∙ sym (mod-add-mod (how_many is_retired us) C.ring (rank us p))
-    ∙ ap (λ z. (how_many is_retired z % C.ring + rank us p) % C.ring) (sym ring.all))
+    let us = recent U in
+    let x = recent_at U p t is (live_recent U ring.gone p t is live) in
+    let split = split_at us x.r t x.is in
+    let settled = settling_newest U.fresh U.tenants (settling P U.tenants ok) in
+    let counted : how_many is_retired us ≡ how_many is_retired (older us x.r) = ap (how_many is_retired) split ∙ none_behind t (older us x.r) (younger us x.r) live (subst AreSettling split settled) in
+    let same : rank us x.r ≡ rank U.tenants p = rank_newest U.fresh U.tenants x.r t ring.gone x.is ∙ ap (rank U.tenants) (sym x.position) in
+    ring.ring.place x.r t x.is (ap stands_on_path live)
+    ∙ (ap (λ n. n % C.ring) (path_parts (older us x.r) ∙ ap (λ n. n + rank us x.r) (sym counted))
+    ∙ (sym (mod-add-mod (how_many is_retired us) C.ring (rank us x.r))
+    ∙ ap (λ n. (how_many is_retired us % C.ring + n) % C.ring) same))
 
-pub rank_small : (C : Sizes) (us : List Tenant) → IsRing C us → (p : ℕ) (t : Tenant) → at us p ≡ Some t → t.standing ≡ Live → rank us p < C.ring
-rank_small C us ring p t is live = let less = rank_less us p t is live in let room = ring.room in omega (arith, less, room)
+pub rank_small : (C : Sizes) (U : UpdateUnit) → InRing C U → (p : ℕ) (t : Tenant) → at U.tenants p ≡ Some t → t.standing ≡ Live → rank U.tenants p < C.ring
+rank_small C U ring p t is live =
+    let less = rank_less U.tenants p t is live in
+    let room = ring.ring.room in
+    let same = live_newest U.fresh U.tenants ring.gone in
+    omega (arith, less, room, same)
 
 -- stations of different ranks differ
 mod_low : (a n : ℕ) → a < n → a % n ≡ a

@@ -1,5 +1,5 @@
 -- What was found of the stations answers the call.
-use Rattle.std.proofs.Common.{◌≡◌, ◌⊎◌, ℕ, ◌<◌, List, [], ◌∷◌, ◌++◌, Option, Some, None, sym, ◌∙◌, subst, inl, inr, append_assoc}
+use Rattle.std.proofs.Common.{◌≡◌, false, ◌⊎◌, ℕ, ◌<◌, List, [], ◌∷◌, ◌++◌, Option, Some, None, sym, ◌∙◌, subst, inl, inr, append_assoc}
 use Rattle.std.specs.List.{AllByRecursion}
 use Rattle.std.proofs.lemmas.Bool.{cases_lt}
 use Rattle.isa.specs.Programs.{Program}
@@ -10,11 +10,11 @@ use Rattle.inorder.specs.declared.history.Act.TheVariants.{Load as LoadIt}
 use Rattle.inorder.specs.declared.history.Step.TheVariants.{On}
 use Rattle.inorder.specs.Callers.{head_station}
 use Rattle.inorder.specs.Committed.{committed}
-use Rattle.inorder.specs.History.{Adds, back, unit_of}
+use Rattle.inorder.specs.History.{Adds, IsLegal, back, unit_of}
 use Rattle.inorder.specs.Replies.{Has, IsNamed}
-use Rattle.inorder.specs.Tenants.{Tenant}
-use Rattle.inorder.specs.Unit.{Sizes, at}
-use Rattle.inorder.proofs.Histories.{adds_on, starts_same}
+use Rattle.inorder.specs.Tenants.{Tenant, Live}
+use Rattle.inorder.specs.Unit.{Sizes, at, is_old}
+use Rattle.inorder.proofs.Histories.{adds_on, starts_same, none_from, legal_before}
 use Rattle.station.specs.Seats.{TheCore}
 use Rattle.station.specs.Writeback.{IsDeliveryOf, IsWalk}
 use Rattle.back.specs.Loads.{IsLiveLoad, WasBlocked, WasNotWaiting}
@@ -29,6 +29,7 @@ use Rattle.back.proofs.Trying.{once_earlier}
 use Rattle.back.proofs.UnitKept.{IsQuiet, committed_kept, head_kept_on}
 use Rattle.back.proofs.Standing.{none_behind, place_in, place_of, since_at}
 use Rattle.back.proofs.Scanning.{either_later}
+use Rattle.inorder.proofs.Recent.{old_since, live_is_recent}
 
 -- Nothing retires
 
@@ -105,19 +106,32 @@ module _ (P : Program) (C : Sizes) (old new : List Entry) (head : ℕ) (head_is 
     abbrev point : List Entry
     point = f.when.point
 
-    named_new : (q : ℕ) (t : Tenant) → at (unit_of P C point).tenants q ≡ Some t → IsNamed (unit_of P C new) q t.station t.tag
-    named_new q t is = let u = since_at P C point new f.when.within.before_return s.adds.legal q t is in record { tenant = u.tenant; is = u.is; station_is = u.since.station; tag_is = u.since.tag }
+    named_new : (q : ℕ) (t : Tenant) → at (unit_of P C point).tenants q ≡ Some t → is_old (unit_of P C point) q ≡ false → IsNamed (unit_of P C new) q t.station t.tag
+    named_new q t is then_new =
+        let u = since_at P C point new f.when.within.before_return s.adds.legal q t is in
+        let calm = none_from new point old f.when.within.before_return f.when.within.behind_call s.adds.one_table in
+        let recent : is_old (unit_of P C new) q ≡ false = old_since P C new point f.when.within.before_return s.adds.legal calm q ∙ then_new in
+        record { tenant = u.tenant; is = u.is; new = recent; station_is = u.since.station; tag_is = u.since.tag }
 
     held : HoldsBack P f.p (behind head C.ring f.place) store (unit_of P C point)
     held = f.when.fact
+
+    legal_point : IsLegal P C point
+    legal_point = legal_before P C f.when.within.before_return.more point (subst (IsLegal P C) f.when.within.before_return.is s.adds.legal)
+
+    load_new : is_old (unit_of P C point) f.p ≡ false
+    load_new = live_is_recent P C point legal_point f.p held.load.tenant held.load.is held.load.fact.load.live
+
+    store_new : is_old (unit_of P C point) held.blocked.q ≡ false
+    store_new = let store = held.blocked.blocks.store in live_is_recent P C point legal_point held.blocked.q store.tenant store.is store.fact.live
 
     blocked_by : WasBlockedBy P C old new f.p load store
     blocked_by = record {
       q = held.blocked.q;
       load_tag = held.load.tenant.tag;
       store_tag = held.blocked.store.tenant.tag;
-      load_is = subst (λ z. IsNamed (unit_of P C new) f.p z held.load.tenant.tag) (held.load.fact.station_is ∙ sym f.load_is) (named_new f.p held.load.tenant held.load.is);
-      store_is = subst (λ z. IsNamed (unit_of P C new) held.blocked.q z held.blocked.store.tenant.tag) held.blocked.store.fact (named_new held.blocked.q held.blocked.store.tenant held.blocked.store.is);
+      load_is = subst (λ z. IsNamed (unit_of P C new) f.p z held.load.tenant.tag) (held.load.fact.station_is ∙ sym f.load_is) (named_new f.p held.load.tenant held.load.is load_new);
+      store_is = subst (λ z. IsNamed (unit_of P C new) held.blocked.q z held.blocked.store.tenant.tag) held.blocked.store.fact (named_new held.blocked.q held.blocked.store.tenant held.blocked.store.is store_new);
       blocks = record { point = point; within = f.when.within; fact = held.blocked.blocks };
     }
 

@@ -12,7 +12,7 @@ use Rattle.inorder.specs.declared.history.Source.TheVariants.{Second}
 use Rattle.inorder.specs.declared.history.Step.{Step}
 use Rattle.inorder.specs.declared.history.Step.TheVariants.{On}
 use Rattle.inorder.specs.Committed.{commits, commits_by}
-use Rattle.inorder.specs.History.{Adds, IsLegal, back, entry, unit_of}
+use Rattle.inorder.specs.History.{Adds, IsLegal, back, entry, unit_of, renewals, StartsWith}
 use Rattle.inorder.specs.Legal.{Allowed, applied, changed}
 use Rattle.inorder.specs.Machine.{State}
 use Rattle.inorder.specs.Replies.{Has}
@@ -20,7 +20,7 @@ use Rattle.inorder.specs.Steps.{CanRetire, retired}
 use Rattle.inorder.specs.Tenants.{IsThere, Retired, Tenant, instr, is_first, kind_of}
 use Rattle.inorder.specs.Unit.{Sizes, UpdateUnit, at, older, younger}
 use Rattle.inorder.proofs.Ends.{Acted, exact}
-use Rattle.inorder.proofs.Histories.{legal_before, unit_lasts, unit_sound}
+use Rattle.inorder.proofs.Histories.{legal_before, unit_lasts, unit_sound, none_to, none_from}
 use Rattle.inorder.proofs.Moves.{goes}
 use Rattle.inorder.proofs.Sound.{FateIs, IsSound}
 use Rattle.station.specs.declared.answers.Last.{Last}
@@ -119,6 +119,9 @@ module _ (P : Program) (C : Sizes) (old new : List Entry) (station tag index : �
   new_is : new ≡ s.later ++ e ∷ before
   new_is = r.adds.begins.is ∙ (ap (λ z. z ++ old) s.is ∙ append_assoc s.later (e ∷ s.earlier) old)
 
+  until : StartsWith new before
+  until = record { more = s.later ++ e ∷ []; is = new_is ∙ sym (append_assoc s.later (e ∷ []) before) }
+
   legal : IsLegal P C (s.later ++ e ∷ before)
   legal = subst (IsLegal P C) new_is r.adds.legal
 
@@ -135,7 +138,7 @@ module _ (P : Program) (C : Sizes) (old new : List Entry) (station tag index : �
   ok = unit_sound P C before legal_here.0
 
   kept_before : KeepsUnit P C U state low head None
-  kept_before = quiet_keeps P C state low head None s.earlier old legal_here.0 (all_quiet P C s.earlier old [] legal_here.0 s.rest_is tt) k
+  kept_before = quiet_keeps P C state low head None s.earlier old legal_here.0 (all_quiet P C s.earlier old [] legal_here.0 (none_to new before old until (record { more = s.earlier; is = refl }) r.adds.one_table) s.rest_is tt) k
 
   here : Has (unit_of P C (e ∷ before)) r.p (IsStill a.tenant)
   here = record {
@@ -169,7 +172,7 @@ module _ (P : Program) (C : Sizes) (old new : List Entry) (station tag index : �
 
   kept_new : Kept_at new i half
   kept_new = subst (λ h. Kept_at h i half) (sym new_is)
-      (quiet_keeps P C (state_behind i half last low state) (low_in i half last) ((head + 1) % C.ring) (stop_in last) s.later (e ∷ before) legal (all_quiet P C s.later (e ∷ before) [] legal s.not_own tt) kept_here)
+      (quiet_keeps P C (state_behind i half last low state) (low_in i half last) ((head + 1) % C.ring) (stop_in last) s.later (e ∷ before) legal (all_quiet P C s.later (e ∷ before) [] legal (sym (ap renewals new_is) ∙ none_from new (e ∷ before) old (record { more = s.later; is = new_is }) (record { more = e ∷ s.earlier; is = refl }) r.adds.one_table) s.not_own tt) kept_here)
 
   own_fate : FateIs P a.tenant a.tenant.fate
   own_fate = (own_sound P C U back r.p r.n a ok).own.fate

@@ -142,7 +142,7 @@ pub nothing_yet : (P : Program) (C : Sizes) (old : List Entry) → IsLegal P C o
 nothing_yet P C old legal head ring k zero = record {
   late = [];
   are_late = tt;
-  adds = record { begins = starts_same old; legal = legal; mine = refl };
+  adds = record { begins = starts_same old; legal = legal; one_table = refl; mine = refl };
   each = λ j lt q h. absurd (omega (arith, lt, zero));
   first = λ j lt q h. absurd (omega (arith, lt, zero));
 }

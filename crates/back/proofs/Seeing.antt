@@ -17,7 +17,7 @@ use Rattle.ruu_words.specs.declared.station.StationState.{StationState}
 use Rattle.ruu_words.specs.declared.station.StationState.TheVariants.{Free, Open as ShowsOpen, Busy as ShowsBusy, Addr as ShowsAddr, Done as ShowsDone, Miss as ShowsMiss, Stop as ShowsStop}
 use Rattle.ruu_words.specs.Content.{HasValue, code}
 use Rattle.ruu_words.specs.States.{state_code}
-use Rattle.ruu_words.proofs.Stays.{tenant_stays}
+use Rattle.ruu_words.proofs.Stays.{tenant_stays, fact_stays}
 use Rattle.station.specs.Looking.{Shows}
 use Rattle.station.specs.Seats.{Caller, IsSame}
 use Rattle.back.specs.Port.{AtStation, IsEntryOf, address_in, address_of, seen_as}
@@ -61,11 +61,11 @@ module _ (P : Program) (C : Sizes) (mid new : List Entry) (b : Adds P C back mid
   pub was_there : (q : ℕ) (t u : Tenant) → at (unit_of P C mid).tenants q ≡ Some t → at (unit_of P C new).tenants q ≡ Some u → Since t u × (u.station ≡ t.station) × (u.tag ≡ t.tag)
   was_there q t u before now =
       let legal = added_legal P C back mid new [] b in
-      let i = tenant_stays P C q t.station t.tag (Since t) (λ by s x y m f. record { index = m.index ∙ f.index; live = λ l. f.live (m.live l) }) b.begins.more mid legal
-      (record { tenant = t; is = before; station_is = refl; tag_is = refl; fact = record { index = refl; live = λ l. l } }) in
+      let i = fact_stays P C q (λ x. Since t x × (x.station ≡ t.station) × (x.tag ≡ t.tag)) (λ by s x y m f. (record { index = m.index ∙ f.0.index; live = λ l. f.0.live (m.live l) }, m.station ∙ f.1, m.tag ∙ f.2)) b.begins.more mid legal
+      (record { tenant = t; is = before; fact = (record { index = refl; live = λ l. l }, refl, refl) }) in
       let there : at (unit_of P C new).tenants q ≡ Some i.tenant = ap (λ h. at (unit_of P C h).tenants q) b.begins.is ∙ i.is in
       let same = found i.tenant u (sym there ∙ now) in
-      (subst (Since t) same i.fact, subst (λ (x : Tenant). x.station ≡ t.station) same i.station_is, subst (λ (x : Tenant). x.tag ≡ t.tag) same i.tag_is)
+      (subst (Since t) same i.fact.0, subst (λ (x : Tenant). x.station ≡ t.station) same i.fact.1, subst (λ (x : Tenant). x.tag ≡ t.tag) same i.fact.2)
 
 -- A live tenant is what its station shows
 pub shown : (P : Program) (C : Sizes) (h : List Entry) → IsLegal P C h → (q : ℕ) (u : Tenant) → at (unit_of P C h).tenants q ≡ Some u → u.standing ≡ Live → station_word C (recent (unit_of P C h)) u.station ≡ live_word u.tag u.fate

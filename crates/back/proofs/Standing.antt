@@ -10,7 +10,7 @@ use Rattle.inorder.specs.Replies.{Has}
 use Rattle.inorder.specs.Tenants.{Live, Tenant}
 use Rattle.inorder.specs.Unit.{Sizes, UpdateUnit, at}
 use Rattle.inorder.proofs.Histories.{legal_before, unit_sound}
-use Rattle.ruu_words.proofs.Stays.{tenant_stays}
+use Rattle.ruu_words.proofs.Stays.{tenant_stays, fact_stays}
 use Rattle.station.specs.Moments.{WasOnce}
 use Rattle.back.specs.Loads.{IsLiveLoad, WasNotWaiting}
 use Rattle.back.specs.Port.{behind}
@@ -37,9 +37,9 @@ pub record SinceAt (V : UpdateUnit) (q : ℕ) (t : Tenant) : Type 0 where
 pub since_at : (P : Program) (C : Sizes) (before now : List Entry) → StartsWith now before → IsLegal P C now → (q : ℕ) (t : Tenant) → at (unit_of P C before).tenants q ≡ Some t
     → SinceAt (unit_of P C now) q t
 since_at P C before now s legal q t is =
-    let i = tenant_stays P C q t.station t.tag (Since t)
+    let i = fact_stays P C q (Since t)
     (λ by z x y m f. record { index = m.index ∙ f.index; station = m.station ∙ f.station; tag = m.tag ∙ f.tag; live = λ l. f.live (m.live l) }) s.more before (subst (IsLegal P C) s.is legal)
-    (record { tenant = t; is = is; station_is = refl; tag_is = refl; fact = record { index = refl; station = refl; tag = refl; live = λ l. l } }) in
+    (record { tenant = t; is = is; fact = record { index = refl; station = refl; tag = refl; live = λ l. l } }) in
     record { tenant = i.tenant; is = ap (λ h. at (unit_of P C h).tenants q) s.is ∙ i.is; since = i.fact }
 
 -- At one moment
@@ -55,7 +55,7 @@ module _ (P : Program) (C : Sizes) (h : List Entry) (legal : IsLegal P C h) (hea
   stands_behind q t is live = stands_at P C (unit_of P C h) (unit_sound P C h legal) ring q t is live ∙ ap (λ x. (x + rank us q) % C.ring) (sym head_is)
 
   pub stands_inside : (q : ℕ) (t : Tenant) → at us q ≡ Some t → t.standing ≡ Live → rank us q < C.ring
-  stands_inside q t is live = rank_small C us ring.ring q t is live
+  stands_inside q t is live = rank_small C (unit_of P C h) ring q t is live
 
 -- During a call that retires nothing
 

@@ -34,8 +34,9 @@ use Rattle.back.specs.Trials.{IsLoadAt, IsShown, NoOtherWaits, NoneWaits, SomeWa
 use Rattle.back.specs.declared.port.Load.{Load}
 use Rattle.back.proofs.PortStays.{asked_stays, length_grows, shown_stays}
 use Rattle.back.proofs.Seeing.{address_shown, by_code, index_inside, shown, was_there}
-use Rattle.back.proofs.Ranks.{in_ring}
-use Rattle.inorder.proofs.Recent.{among_all, names_recent, none_old}
+use Rattle.back.proofs.Ranks.{InRing, in_ring}
+use Rattle.inorder.proofs.Recent.{among_all, names_recent, none_old, old_since, live_is_recent, live_is_last}
+use Rattle.std.specs.List.{AllByRecursion}
 
 found : (t u : Tenant) → Some t ≡ Some u → t ≡ u
 found t u e = cc e
@@ -60,14 +61,17 @@ module _ (P : Program) (C : Sizes) (h : List Entry) (legal : IsLegal P C h) wher
   abbrev us : List Tenant
   us = (unit_of P C h).tenants
 
-  ring : IsRing C us
-  ring = (in_ring P C h legal).ring
+  ring : InRing C (unit_of P C h)
+  ring = in_ring P C h legal
+
+  last_at : (p : ℕ) (t : Tenant) → at us p ≡ Some t → t.standing ≡ Live → AllByRecursion (λ x. x.station ≢ t.station) (younger us p)
+  last_at = live_is_last C (unit_of P C h) ring.ring ring.gone
 
   pub one_live : (p q : ℕ) (t u : Tenant) → at us p ≡ Some t → at us q ≡ Some u → t.standing ≡ Live → u.standing ≡ Live → t.station ≡ u.station → p ≡ q
   one_live p q t u is is' live live' e = elim (cases_lt p q) [
-    | inl less ↦ absurd (younger_at (λ x. x.station ≢ t.station) us p (ring.last p t is live) q u less is' (sym e))
+    | inl less ↦ absurd (younger_at (λ x. x.station ≢ t.station) us p (last_at p t is live) q u less is' (sym e))
     | inr le ↦ elim (cases_lt q p) [
-      | inl more ↦ absurd (younger_at (λ x. x.station ≢ u.station) us q (ring.last q u is' live') p t more is e)
+      | inl more ↦ absurd (younger_at (λ x. x.station ≢ u.station) us q (last_at q u is' live') p t more is e)
       | inr same ↦ omega (arith, le, same)
     ]
   ]
@@ -199,7 +203,7 @@ module _ (P : Program) (C : Sizes) (old mid new : List Entry) (a : Adds P C back
   named_new =
       let o = at_there (unit_of P C new).tenants p (long_enough) in
       let w = was_there P C mid new b p first.1.tenant o.0 first.1.is o.1 in
-      record { tenant = o.0; is = o.1; station_is = w.1 ∙ first.1.fact.station_is; tag_is = w.2 ∙ first.1.fact.tag_is }
+      record { tenant = o.0; is = o.1; new = old_since P C new mid b.begins b.legal b.one_table p ∙ live_is_recent P C mid a.legal p first.1.tenant first.1.is first.1.fact.live; station_is = w.1 ∙ first.1.fact.station_is; tag_is = w.2 ∙ first.1.fact.tag_is }
     where
       long_enough : p < length (unit_of P C new).tenants
       long_enough =
@@ -264,16 +268,16 @@ module _ (P : Program) (C : Sizes) (old mid new : List Entry) (a : Adds P C back
 -- The last look
 
 module _ (P : Program) (C : Sizes) (old new : List Entry) (a : Adds P C back old new []) (station tag : ℕ) (state : StationState) (value : ℕ) (shows : Shows (station_word C (recent (unit_of P C new)) station) tag state value) (l : Load) (p : ℕ) where
-  names : Names (unit_of P C new).tenants
-  names q r t u is is' st tg = names_recent C (unit_of P C new) (tagged P C (taken_of new) (allowed_steps P C new a.legal)) q r t u is is' (none_old P C new a.legal q) (none_old P C new a.legal r) st tg
-
   pub still_there : IsNamed (unit_of P C old) p station l.tag → IsAsked P (unit_of P C old) p station l → tag ≡ l.tag → (x : ℕ) → address_in state value ≡ Some x → Has (unit_of P C new) p (IsLoadOf P station l)
   still_there n asked same x e = ⊎_elim
       (λ h. h)
       (λ (g : IsStale (unit_of P C new) p).
       let w = was_there P C old new a p n.tenant g.tenant n.is g.is in
       let s = shown_by P C new a.legal station tag state value x shows e in
-      let one : p ≡ s.0 = names p s.0 g.tenant s.1.tenant g.is s.1.is (w.1 ∙ (n.station_is ∙ sym s.1.fact.station_is)) (w.2 ∙ (n.tag_is ∙ (sym same ∙ sym s.1.fact.tag_is))) in
+      let p_new = old_since P C new old a.begins a.legal a.one_table p ∙ n.new in
+      let s_new = live_is_recent P C new a.legal s.0 s.1.tenant s.1.is s.1.fact.live in
+      let tags = tagged P C (taken_of new) (allowed_steps P C new a.legal) in
+      let one : p ≡ s.0 = names_recent C (unit_of P C new) tags p s.0 g.tenant s.1.tenant g.is s.1.is p_new s_new (w.1 ∙ (n.station_is ∙ sym s.1.fact.station_is)) (w.2 ∙ (n.tag_is ∙ (sym same ∙ sym s.1.fact.tag_is))) in
       let t = found g.tenant s.1.tenant (sym g.is ∙ (ap (at (unit_of P C new).tenants) one ∙ s.1.is)) in
       absurd (apart (sym s.1.fact.live ∙ (ap (λ (z : Tenant). z.standing) (sym t) ∙ g.fact))))
       (asked_stays P C old new a p station l asked)

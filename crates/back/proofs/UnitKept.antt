@@ -1,5 +1,5 @@
 -- What a back keeps stays true under every step that is no retirement.
-use Rattle.std.proofs.Common.{◌≡◌, ◌≢◌, ℕ, ◌%◌, List, [], ◌∷◌, ◌++◌, map, Option, Some, None, refl, sym, ap, ◌∙◌, subst, ⊎_elim, append_assoc}
+use Rattle.std.proofs.Common.{◌≡◌, ◌≢◌, ℕ, ◌%◌, List, [], ◌∷◌, ◌++◌, map, Option, Some, None, refl, sym, ap, ◌∙◌, subst, ⊎_elim, append_assoc, suc, arith}
 use Rattle.std.specs.List.{AllByRecursion}
 use mathlib.Core.Logic.{dite}
 use native.Mathlib.Decide.{ℕ_discrete}
@@ -15,7 +15,7 @@ use Rattle.inorder.specs.declared.history.Step.{Step}
 use Rattle.inorder.specs.declared.history.Step.TheVariants.{Let, On, Renew}
 use Rattle.inorder.specs.Callers.{GoesOn, head_station, is_retired}
 use Rattle.inorder.specs.Committed.{committed}
-use Rattle.inorder.specs.History.{Adds, IsLegal, MayAdd, back, entry, own, unit_of}
+use Rattle.inorder.specs.History.{Adds, IsLegal, MayAdd, back, entry, own, unit_of, renewals, renewed_by}
 use Rattle.inorder.specs.Laws.{IsNoRetire}
 use Rattle.inorder.specs.Legal.{Allowed, May, applied, changed}
 use Rattle.inorder.specs.Machine.{State}
@@ -27,7 +27,7 @@ use Rattle.inorder.proofs.AheadKept.{ahead_by_others}
 use Rattle.inorder.proofs.Commits.{by_others}
 use Rattle.inorder.proofs.Ends.{Acted, IsNotBacks, exact}
 use Rattle.inorder.proofs.Heads.{goes_on_stays, head_stays}
-use Rattle.inorder.proofs.Histories.{legal_before, unit_sound}
+use Rattle.inorder.proofs.Histories.{legal_before, unit_sound, none_between}
 use Rattle.inorder.proofs.Moves.{IsActed, IsLeft, at_changed, came}
 use Rattle.inorder.proofs.Sound.{IsSound}
 use Rattle.ruu_words.proofs.Stays.{not_backs}
@@ -156,25 +156,28 @@ not_retire (On p (Retire n)) b = absurd b
 not_retire (On p Squash) b = tt
 not_retire (On p Mend) b = tt
 
--- others retire nothing
-others_quiet : (P : Program) (C : Sizes) (h : List Entry) (e : Entry) → e.by ≢ back → MayAdd P C h e.by e.event → IsQuiet e.event
-others_quiet P C h e other m = go e.event m
+-- others retire nothing, where nothing is renewed
+others_quiet : (P : Program) (C : Sizes) (h : List Entry) (e : Entry) (n : ℕ) → renewed_by e.event n ≡ n → e.by ≢ back → MayAdd P C h e.by e.event → IsQuiet e.event
+others_quiet P C h e n same other m = go e.event same m
   where
-    go : (x : Event) → MayAdd P C h e.by x → IsQuiet x
-    go (Does s) m = not_retire s (not_backs C (unit_of P C h) e.by s m.0 other)
-    go (Refuses r) m = tt
-    go (Marks k) m = tt
+    go : (x : Event) → renewed_by x n ≡ n → MayAdd P C h e.by x → IsQuiet x
+    go (Does s) q m = not_retire s (not_backs C (unit_of P C h) e.by s (λ is. let more : suc n ≡ n = subst (λ z. renewed_by (Does z) n ≡ n) is q in absurd (omega (arith, more))) m.0 other)
+    go (Refuses r) q m = tt
+    go (Marks k) q m = tt
 
 heads : (x y : Entry) (xs ys : List Entry) → x ∷ xs ≡ y ∷ ys → (x ≡ y) × (xs ≡ ys)
 heads x y xs ys e = (cc e, cc e)
 
 module _ (P : Program) (C : Sizes) where
-  pub all_quiet : (more seen : List Entry) (events : List Event) → IsLegal P C (more ++ seen) → own back more ≡ map (entry back) events → AllByRecursion IsQuiet events → AreQuiet more
-  all_quiet [] seen events legal mine quiet = tt
-  all_quiet (e ∷ more) seen events legal mine quiet = dite (ℕ_discrete e.by back)
-      (λ same. own_one events same mine quiet (λ xs m q. all_quiet more seen xs legal.0 m q))
-      (λ other. (others_quiet P C (more ++ seen) e other legal.1, all_quiet more seen events legal.0 (sym (own_skip back e more other) ∙ mine) quiet))
+  pub all_quiet : (more seen : List Entry) (events : List Event) → IsLegal P C (more ++ seen) → renewals (more ++ seen) ≡ renewals seen → own back more ≡ map (entry back) events → AllByRecursion IsQuiet events → AreQuiet more
+  all_quiet [] seen events legal calm mine quiet = tt
+  all_quiet (e ∷ more) seen events legal calm mine quiet = dite (ℕ_discrete e.by back)
+      (λ same. own_one events same mine quiet (λ xs m q. all_quiet more seen xs legal.0 before m q))
+      (λ other. (others_quiet P C (more ++ seen) e (renewals (more ++ seen)) (calm ∙ sym before) other legal.1, all_quiet more seen events legal.0 before (sym (own_skip back e more other) ∙ mine) quiet))
     where
+      before : renewals (more ++ seen) ≡ renewals seen
+      before = none_between (e ∷ []) more seen calm
+
       own_one : (events : List Event) → e.by ≡ back → own back (e ∷ more) ≡ map (entry back) events → AllByRecursion IsQuiet events
           → ((xs : List Event) → own back more ≡ map (entry back) xs → AllByRecursion IsQuiet xs → AreQuiet more) → AreQuiet (e ∷ more)
       own_one [] same mine quiet rest = let x = sym (own_first back e more same) ∙ mine in absurd (cc x)
@@ -198,14 +201,14 @@ module _ (P : Program) (C : Sizes) where
         let more = a.begins.more in
         let legal = added_legal P C back old new events a in
         subst (λ h. KeepsUnit P C (unit_of P C h) state low head ended) (sym a.begins.is)
-        (quiet_keeps more old legal (all_quiet more old events legal (added_own P C back old new events a) quiet) k)
+        (quiet_keeps more old legal (all_quiet more old events legal (sym (ap renewals a.begins.is) ∙ a.one_table) (added_own P C back old new events a) quiet) k)
 
 -- the head at a moment of a call that retired nothing
 pub head_kept_on : (P : Program) (C : Sizes) (old new point : List Entry) (events : List Event) → Adds P C back old new events → AllByRecursion IsQuiet events → IsWithin old new point → head_station C (unit_of P C point) ≡ head_station C (unit_of P C old)
 head_kept_on P C old new point events a quiet w =
     let more = a.begins.more in
     let legal = added_legal P C back old new events a in
-    let all = all_quiet P C more old events legal (added_own P C back old new events a) quiet in
+    let all = all_quiet P C more old events legal (sym (ap renewals a.begins.is) ∙ a.one_table) (added_own P C back old new events a) quiet in
     let late = w.before_return.more in
     let early = w.behind_call.more in
     let split : more ≡ late ++ early = cancel more (late ++ early) old (sym a.begins.is ∙ (w.before_return.is ∙ (ap (λ z. late ++ z) w.behind_call.is ∙ sym (append_assoc late early old)))) in
@@ -234,7 +237,7 @@ pub committed_kept : (P : Program) (C : Sizes) (old new : List Entry) (events : 
 committed_kept P C old new events a quiet =
     let more = a.begins.more in
     let legal = added_legal P C back old new events a in
-    subst (λ h. committed P (unit_of P C h).tenants ≡ committed P (unit_of P C old).tenants) (sym a.begins.is) (go more legal (all_quiet P C more old events legal (added_own P C back old new events a) quiet))
+    subst (λ h. committed P (unit_of P C h).tenants ≡ committed P (unit_of P C old).tenants) (sym a.begins.is) (go more legal (all_quiet P C more old events legal (sym (ap renewals a.begins.is) ∙ a.one_table) (added_own P C back old new events a) quiet))
   where
     one : (h : List Entry) (e : Entry) → IsLegal P C h → MayAdd P C h e.by e.event → IsQuiet e.event → committed P (unit_of P C (e ∷ h)).tenants ≡ committed P (unit_of P C h).tenants
     one h e l m q = kind e.event m q

@@ -1,5 +1,5 @@
 -- The calls that drive two tenants, one after another, and what was done after each.
-use Rattle.std.proofs.Common.{◌≡◌, ℕ, ◌<◌, cond, List, [], ◌∷◌, length, Some, refl, sym, ap, ◌∙◌, subst}
+use Rattle.std.proofs.Common.{◌≡◌, ℕ, ◌<◌, cond, List, [], ◌∷◌, length, Some, refl, sym, ap, ◌∙◌, subst, false}
 use Rattle.std.specs.Prelude.{unwrap_or}
 use Rattle.isa.specs.Operations.{outcome_of}
 use Rattle.isa.specs.Programs.{Program, address, instr_of}
@@ -11,7 +11,7 @@ use Rattle.inorder.specs.declared.history.Source.TheVariants.{First, Second}
 use Rattle.inorder.specs.History.{Adds, entry, front, unit_of}
 use Rattle.inorder.specs.Replies.{JobFields, last_tag}
 use Rattle.inorder.specs.Tenants.{Tenant, kind_of, missing_of, needs}
-use Rattle.inorder.specs.Unit.{Sizes, UpdateUnit, at}
+use Rattle.inorder.specs.Unit.{Sizes, UpdateUnit, at, is_old}
 use Rattle.ruu_words.specs.Kinds.{IsTenant}
 use Rattle.station.specs.declared.answers.Ask.{Ask}
 use Rattle.station.specs.declared.answers.Tenant.{Tenant as NewTenant}
@@ -95,7 +95,7 @@ module _ (core : TheCore) (predicted : ℕ) (set : IsSetUp core predicted) where
             q = 0;
             given = refl;
             creates = reads_it P C chain ring queue tags;
-            named = record { tenant = a; is = refl; station_is = first_station P C chain ring queue tags; tag_is = sym lets.reply.tag_is; fact = tt };
+            named = record { tenant = a; is = refl; new = refl; station_is = first_station P C chain ring queue tags; tag_is = sym lets.reply.tag_is; fact = tt };
           } in
           let adds = subst (λ h. Adds P C front h1 h (let_of second ∷ [])) two_is g.reply.adds in
           let asks = law P C h1 h2 second First 0 tag may_let comes adds in
@@ -115,6 +115,7 @@ module _ (core : TheCore) (predicted : ℕ) (set : IsSetUp core predicted) where
         ready3 = record {
           tenant = a;
           is = subst (λ (U : UpdateUnit). at U.tenants 0 ≡ Some a) (sym unit3) refl;
+          new = subst (λ (U : UpdateUnit). is_old U 0 ≡ false) (sym unit3) refl;
           station_is = first_station P C chain ring queue tags;
           tag_is = refl;
           fact = record { is_open = record { live = refl; fate = refl }; ready = refl };
@@ -140,6 +141,7 @@ module _ (core : TheCore) (predicted : ℕ) (set : IsSetUp core predicted) where
           ready4 = record {
             tenant = c;
             is = subst (λ (U : UpdateUnit). at U.tenants 1 ≡ Some c) (sym unit4) refl;
+            new = subst (λ (U : UpdateUnit). is_old U 1 ≡ false) (sym unit4) refl;
             station_is = second_station P C chain ring queue tags;
             tag_is = refl;
             fact = record { is_open = record { live = refl; fate = refl }; ready = ap (λ o. missing_of (kind_of P c) o (Some 0)) value4 };

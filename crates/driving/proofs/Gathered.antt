@@ -15,5 +15,5 @@ later_on core u v w a b =
       core_is = b.core_is ∙ a.core_is;
       by_is = b.by_is ∙ a.by_is;
       heirs_are = b.heirs_are ∙ a.heirs_are;
-      adds = record { begins = starts_on u.seen v.seen w.seen a.adds.begins b.adds.begins; legal = b.adds.legal; mine = again.mine ∙ a.adds.mine };
+      adds = record { begins = starts_on u.seen v.seen w.seen a.adds.begins b.adds.begins; legal = b.adds.legal; one_table = b.adds.one_table ∙ a.adds.one_table; mine = again.mine ∙ a.adds.mine };
     }

@@ -4,13 +4,14 @@ use mathlib.Core.Logic.{dite}
 use native.Mathlib.Decide.{ℕ_discrete}
 use Rattle.inorder.specs.declared.history.Entry.{Entry}
 use Rattle.inorder.specs.declared.history.Event.{Event}
-use Rattle.inorder.specs.History.{Adds, IsLegal, IsUnit, StartsWith, back, entry, front, own}
+use Rattle.inorder.specs.History.{Adds, IsLegal, IsUnit, StartsWith, back, entry, front, own, renewals}
 use Rattle.ruu_words.specs.Rule.{IsHeir}
 use Rattle.station.specs.Seats.{Caller, TheCore}
 use Rattle.driving.specs.declared.seats.Seats.{Seats}
 use Rattle.driving.specs.Done.{GoesOn, HaveDone}
 use Rattle.driving.specs.Hands.{AreAll, HaveMetTwice, IsLater}
 use Rattle.driving.proofs.Histories.{own-append, same_between, starts_on, starts_same}
+use Rattle.inorder.proofs.Histories.{none_from}
 
 -- Histories
 
@@ -145,9 +146,18 @@ module _ (core : TheCore) (s t u : Seats) (all : AreAll core s) (met : HaveMetTw
   since v w x y mv a b d told = record {
     begins = starts_on seen m.one.seen y.seen known told;
     legal = b.adds.legal;
+    one_table = calm;
     mine = subst (λ n. own n y.seen ≡ own n seen) (sym (b.by_is ∙ (a.by_is ∙ mv.by_is))) same;
   }
     where
+      to_y : renewals y.seen ≡ renewals w.seen
+      to_y = b.adds.one_table ∙ a.adds.one_table
+
+      calm : renewals y.seen ≡ renewals seen
+      calm = dite (ℕ_discrete v.by by)
+          (λ e. to_y ∙ ap renewals (mv.its e))
+          (λ ne. none_from y.seen seen old (starts_on seen m.one.seen y.seen known told) on (to_y ∙ (ap renewals (mv.others ne) ∙ d.one_table)))
+
       same : own v.by y.seen ≡ own v.by seen
       same = dite (ℕ_discrete v.by by)
           (λ e. subst (λ n. own n y.seen ≡ own n w.seen) mv.by_is (met_own w x y a b) ∙ ap (own v.by) (mv.its e))

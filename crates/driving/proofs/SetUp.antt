@@ -35,7 +35,7 @@ nothing_done P config core s new = record {
 }
   where
     none : (by : ℕ) (seen : List Entry) → seen ≡ [] → Adds core.program core.sizes by [] seen []
-    none by seen e = subst (λ h. Adds core.program core.sizes by [] h []) (sym e) (record { begins = starts_same []; legal = tt; mine = refl })
+    none by seen e = subst (λ h. Adds core.program core.sizes by [] h []) (sym e) (record { begins = starts_same []; legal = tt; one_table = refl; mine = refl })
 
 -- the core has room for two tenants of a chain, and the second goes on where this is predicted
 pub record IsSetUp (core : TheCore) (predicted : ℕ) : Type 0 where

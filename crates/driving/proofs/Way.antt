@@ -33,6 +33,7 @@ use Rattle.driving.specs.Works.{HasCome, HasValues, IsRight}
 use Rattle.driving.proofs.Begins.{claim_begins, finish_begins, needs_first}
 use Rattle.driving.proofs.Alone.{Stand, only_units, quiet, stand_on, stand_still}
 use Rattle.driving.proofs.Histories.{at_least, same_between, starts_on, starts_same}
+use Rattle.inorder.proofs.Histories.{same_fronts}
 
 -- What a job has of a tenant that was let with its values
 pub record HasItsFields (P : Program) (t : NewTenant) (values : HasValues t) (tag pc : ℕ) (j : Job) : Type 0 where
@@ -125,7 +126,7 @@ module _ (core : TheCore) where
           let same = ap (λ l. length l) last in
           let none : own front m.one.seen ≡ own front m.front.seen =
           same_between front m.front.seen m.one.seen z.front.seen met.of_front (starts_on m.one.seen o.seen z.front.seen on end.to_front) (omega arith) in
-          record { begins = heard; legal = met.one.adds.legal; mine = none ∙ (told ∙ adds.mine) }
+          record { begins = heard; legal = met.one.adds.legal; one_table = same_fronts P C m.one.seen f.seen met.one.adds.legal adds.legal (none ∙ told) ∙ adds.one_table; mine = none ∙ (told ∙ adds.mine) }
 
       -- no unit has done anything since
       units_wait : (i : ℕ) → IsUnit i → own i m.one.seen ≡ own i before
@@ -178,6 +179,7 @@ module _ (core : TheCore) where
           let claimable : IsTenant (unit_of P C m.one.seen) out.p station tag (IsClaimable P) = record {
             tenant = u;
             is = out.tenant.is;
+            new = out.tenant.new;
             station_is = out.tenant.station_is ∙ sym at_station;
             tag_is = out.tenant.tag_is;
             fact = record { is_open = out.opens (units_wait m o z stand end begins); ready = ready };
@@ -228,6 +230,7 @@ module _ (core : TheCore) where
                 tenant = record {
                   tenant = i.tenant;
                   is = i.is;
+                  new = i.new;
                   station_is = i.station_is ∙ claimed.station;
                   tag_is = i.tag_is ∙ tag_is;
                   fact = subst (λ x. HasOutcome x i.tenant) (sym is) i.fact;

@@ -9,7 +9,7 @@ use Rattle.inorder.specs.declared.history.Entry.{Entry}
 use Rattle.inorder.specs.declared.history.Source.{Source}
 use Rattle.inorder.specs.declared.history.Source.TheVariants.{First, Second}
 use Rattle.inorder.specs.declared.history.Step.TheVariants.{Let}
-use Rattle.inorder.specs.History.{Adds, IsLegal, entry, front, unit_of}
+use Rattle.inorder.specs.History.{Adds, IsLegal, entry, front, unit_of, renewals}
 use Rattle.inorder.specs.Legal.{applied}
 use Rattle.inorder.specs.Steps.{MayLet, MaySupply, let_operand, new_tenant}
 use Rattle.inorder.specs.Tenants.{Tenant, Unlinked, is_access, is_live, operand}
@@ -46,6 +46,7 @@ use Rattle.front.proofs.Splitting.{LastEvent, event_legal, last_event, no_event,
 use Rattle.front.proofs.Stations.{live_fewer}
 use Rattle.front.proofs.Stays.{knows_stable, ready_stable}
 use Rattle.front.proofs.Supplies.{comes_from, may_supply}
+use Rattle.inorder.proofs.Recent.{old_more, none_old, new_there}
 
 -- The instruction by its address
 
@@ -169,7 +170,7 @@ module _ (P : Program) (C : Sizes) (old : List Entry) (legal : IsLegal P C old) 
 
     -- its place in the unit
     pub named_new : IsTenant (applied P C M front let_step) (length M.tenants) f.station tag IsAny
-    named_new = record { tenant = new_one; is = at_new new_one M.tenants; station_is = sym place; tag_is = sym tag_there; fact = tt }
+    named_new = record { tenant = new_one; is = at_new new_one M.tenants; new = new_there M new_one; station_is = sym place; tag_is = sym tag_there; fact = tt }
 
     unlinked : (c : Option ℕ) (s : Supply) (a g : ℕ) → s ≡ GivenFrom a g → (let_operand c (supply_of s)).way ≡ Unlinked
     unlinked c s a g e = ap (λ z. (let_operand c (supply_of z)).way) e
@@ -193,12 +194,13 @@ module _ (P : Program) (C : Sizes) (old : List Entry) (legal : IsLegal P C old) 
           asks = record {
             tenant = new_one;
             is = at_new new_one M.tenants;
+            new = new_there M new_one;
             station_is = sym place;
             tag_is = sym tag_there;
             fact = record { can = record { way = way a g e; creator = c ∙ d.creates }; path = refl };
           };
           last = λ q u lt is. let b = at_below V.tenants q u is in absurd (omega (arith, b, lt));
-          creator = record { tenant = t; is = at_more new_one M.tenants d.n.at t d.giver.noted.is; station_is = at_place; tag_is = ap (λ (z : Record). z.tag) d.giver.noted.what ∙ d.tag; fact = tt };
+          creator = record { tenant = t; is = at_more new_one M.tenants d.n.at t d.giver.noted.is; new = old_more M new_one d.n.at ∙ none_old P C point legal_let.0 d.n.at; station_is = at_place; tag_is = ap (λ (z : Record). z.tag) d.giver.noted.what ∙ d.tag; fact = tt };
           creator_last = λ q u lt is same_station. ⊎_elim
               (λ there. d.giver.newest q u lt there (same_station ∙ sym d.station))
               (λ (z : (q ≡ length M.tenants) × (new_one ≡ u)). d.giver.other (d.station ∙ (sym same_station ∙ ap (λ (y : Tenant). y.station) (sym z.1))))
@@ -216,7 +218,7 @@ module _ (P : Program) (C : Sizes) (old : List Entry) (legal : IsLegal P C old) 
     module _ (mid end : List Entry) (asks_first : Asks P C new mid f.station tag First first) (asks_second : Asks P C mid end f.station tag Second second) where
       named_after : IsTenant (unit_of P C new) (length M.tenants) f.station tag IsAny
       named_after =
-          subst (λ z. IsTenant (unit_of P C z) (length M.tenants) f.station tag IsAny) (sym l.is) (any_stays P C (length M.tenants) f.station tag l.after (entry front (let_of tenant) ∷ point) l.legal named_new)
+          subst (λ z. IsTenant (unit_of P C z) (length M.tenants) f.station tag IsAny) (sym l.is) (any_stays P C (length M.tenants) f.station tag l.after (entry front (let_of tenant) ∷ point) l.legal (sym (ap renewals l.is) ∙ l.since) named_new)
 
       one : HasAsked P C new mid (length M.tenants) First first
       one = has_asked P C new mid adds.legal (length M.tenants) f.station tag First first named_after asks_first

@@ -11,7 +11,7 @@ use Rattle.inorder.specs.Tenants.{Tenant, stands_on_path}
 use Rattle.inorder.specs.Unit.{Sizes, UpdateUnit, at}
 use Rattle.inorder.proofs.Histories.{adds_on}
 use Rattle.ruu_words.specs.Kinds.{IsAny, IsTenant}
-use Rattle.ruu_words.proofs.Stays.{any_stays}
+use Rattle.ruu_words.proofs.Stays.{any_stays, place_stays}
 use Rattle.front.specs.declared.path.record.Record.{Record}
 use Rattle.front.specs.Knows.{IsGone, IsReused, Knows, whats}
 use Rattle.front.specs.Recoveries.{IsCut, IsFirst, IsMissAt, IsNoMiss, squash_event}
@@ -24,6 +24,7 @@ use Rattle.front.proofs.Lists.{all_both, all_front, all_map, all_rest, all_two}
 use Rattle.front.proofs.Misses.{gone_miss, named_miss}
 use Rattle.front.proofs.Named.{notes_noted, one_named}
 use Rattle.front.proofs.Trails.{IsNoted, trail_all}
+use Rattle.inorder.specs.Replies.{Has}
 
 -- Lists
 
@@ -95,9 +96,9 @@ module _ (P : Program) (C : Sizes) (h : List Entry) (legal : IsLegal P C h) (rec
       let noted : IsNoted P U.tenants s.one = (all_rest (IsNoted P U.tenants) s.before (s.one ∷ s.after) noted_all).0 in
       let t = noted.tenant in
       let what : record_of P t ≡ one = noted.what ∙ s.what in
-      let still = any_stays P C s.one.at one.station one.tag starts.more h (subst (IsLegal P C) starts.is new_legal) (record { tenant = t; is = noted.is; station_is = ap (λ (z : Record). z.station) what; tag_is = ap (λ (z : Record). z.tag) what; fact = tt }) in
-      let there : IsTenant (unit_of P C new) s.one.at one.station one.tag IsAny = subst (λ z. IsTenant (unit_of P C z) s.one.at one.station one.tag IsAny) (sym starts.is) still in
-      let same : p ≡ s.one.at = one_named P C new new_legal p s.one.at named.tenant there.tenant named.is there.is (named.station_is ∙ sym there.station_is) (named.tag_is ∙ sym there.tag_is) in
+      let still = place_stays P C s.one.at t starts.more h (subst (IsLegal P C) starts.is new_legal) noted.is in
+      let there : Has (unit_of P C new) s.one.at (λ u. (u.station ≡ t.station) × (u.tag ≡ t.tag)) = subst (λ z. Has (unit_of P C z) s.one.at (λ u. (u.station ≡ t.station) × (u.tag ≡ t.tag))) (sym starts.is) still in
+      let same : p ≡ s.one.at = one_named P C new new_legal p s.one.at named.tenant there.tenant named.is there.is (named.station_is ∙ sym (there.fact.0 ∙ ap (λ (z : Record). z.station) what)) (named.tag_is ∙ sym (there.fact.1 ∙ ap (λ (z : Record). z.tag) what)) in
       λ q x u lt is m. trail_all P NoMissBefore U.tenants none_before q u is (ap stands_on_path m.live) (subst (λ z. q < z) same lt) x u is m
 
 -- The whole recovery
@@ -108,5 +109,5 @@ recovered P C begin mid old new legal records base k m first adds kept kept_base
     let both : Adds P C front begin old events = subst (λ z. Adds P C front begin old z) (append-nil events) (adds_on P C front begin mid old [] events adds cut.adds) in
     let here : slice_get records m.at ≡ Some i.one = sym (get_taken records m.at) ∙ (ap (λ z. slice_get z m.at) (sym rest) ∙ i.here) in
     let t = i.miss.tenant in
-    let oldest = is_first P C begin legal records base k m.at i.one here first old both.legal both.begins i.miss.p (record { tenant = t.tenant; is = t.is; station_is = t.station_is; tag_is = t.tag_is; fact = tt }) in
+    let oldest = is_first P C begin legal records base k m.at i.one here first old both.legal both.begins i.miss.p (record { tenant = t.tenant; is = t.is; new = t.new; station_is = t.station_is; tag_is = t.tag_is; fact = tt }) in
     mend_done P C begin old new kept kept_base k' m i long oldest squashed (record { squashes = cut.squashes; count = cut.count; adds = both }) s

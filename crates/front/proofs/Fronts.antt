@@ -135,5 +135,6 @@ pub new_adds : (core : TheCore) (v : Caller) → v.core ≡ core → IsLegal v.c
 new_adds core v e legal = record {
   begins = record { more = []; is = refl };
   legal = subst (λ (z : TheCore). IsLegal z.program z.sizes v.seen) e legal;
+  one_table = refl;
   mine = refl;
 }

@@ -35,7 +35,8 @@ use Rattle.front.proofs.Places.{known_half, known_pc, known_place, notes_length}
 use Rattle.front.proofs.Splitting.{IsStable, stays}
 use Rattle.front.proofs.Stations.{next_tag_is, oldest_left}
 use Rattle.front.proofs.Stays.{knows_stable, place_stays, quiet_of}
-use Rattle.inorder.proofs.Recent.{counts_same}
+use Rattle.inorder.proofs.Recent.{counts_same, old_kept}
+use Rattle.inorder.proofs.Letting.{IsBesides}
 
 same_tenant : (t u : Tenant) → Some t ≡ Some u → t ≡ u
 same_tenant t u e = cc e
@@ -61,6 +62,7 @@ left_stable P C p s g left U by st b a ok i =
     record {
       tenant = z.tenant;
       is = z.is;
+      new = old_kept P C U by st (λ e. subst IsBesides e b) a p ∙ i.new;
       station_is = ap (λ (y : Tenant). y.station) (sym one) ∙ (m.goes.station ∙ i.station_is);
       tag_is = ap (λ (y : Tenant). y.tag) (sym one) ∙ (m.goes.tag ∙ i.tag_is);
       fact = record { retired = z.stays.standing; value = subst (λ y. HasValue y left) (λ j. left_value (sym z.stays.fate j) (sym z.stays.made j)) i.fact.value };

@@ -12,7 +12,7 @@ use Rattle.inorder.specs.Unit.{Sizes, UpdateUnit, at}
 use Rattle.inorder.proofs.Ends.{miss_stays}
 use Rattle.ruu_words.specs.declared.station.StationState.{StationState}
 use Rattle.ruu_words.specs.declared.station.StationState.TheVariants.{Free, Miss as MissState}
-use Rattle.ruu_words.proofs.Stays.{tenant_stays}
+use Rattle.ruu_words.proofs.Stays.{tenant_stays, place_stays}
 use Rattle.station.specs.declared.answers.Seen.{Seen}
 use Rattle.station.specs.Looking.{SeesStation}
 use Rattle.front.specs.declared.path.record.Record.{Record}
@@ -24,6 +24,7 @@ use Rattle.front.proofs.Looks.{finds_miss, live_there, same_place, shows_miss}
 use Rattle.front.proofs.Named.{all_get, all_whats, notes_noted}
 use Rattle.front.proofs.Splitting.{IsStable, stays}
 use Rattle.front.proofs.Trails.{IsNoted, trail_all}
+use Rattle.inorder.proofs.Recent.{live_is_recent}
 
 same_tenant : (t u : Tenant) → Some t ≡ Some u → t ≡ u
 same_tenant t u e = cc e
@@ -51,9 +52,9 @@ module _ (P : Program) (C : Sizes) where
   pub was_none : (old new : List Entry) (r : Record) (seen : Seen StationState) → Adds P C front old new [] → SeesStation P C new r.station seen → seen.state ≢ MissState → IsNoMiss (unit_of P C old) r
   was_none old new r seen adds sees ne p x t is place tag m =
       let now = stays P C (λ U. Has U p (IsMissing x)) (miss_stable P C p x) old new adds (record { tenant = t; is = is; fact = m }) in
-      let still = tenant_stays P C p r.station r.tag (λ z. Unit {0}) (λ by s t t' g f. tt) adds.begins.more old (subst (IsLegal P C) adds.begins.is adds.legal) (record { tenant = t; is = is; station_is = place; tag_is = tag; fact = tt }) in
+      let still = place_stays P C p t adds.begins.more old (subst (IsLegal P C) adds.begins.is adds.legal) is in
       let there : at (unit_of P C new).tenants p ≡ Some still.tenant = ap (λ z. at (unit_of P C z).tenants p) adds.begins.is ∙ still.is in
-      let at_place : now.tenant.station ≡ r.station = ap (λ (z : Tenant). z.station) (same_tenant now.tenant still.tenant (sym now.is ∙ there)) ∙ still.station_is in
+      let at_place : now.tenant.station ≡ r.station = ap (λ (z : Tenant). z.station) (same_tenant now.tenant still.tenant (sym now.is ∙ there)) ∙ (still.fact.0 ∙ place) in
       ne (shows_miss P C new adds.legal r.station seen sees p x now.tenant now.is at_place now.fact)
 
   module _ (h : List Entry) (legal : IsLegal P C h) (records : List Record) (base : List ℕ) (k : Knows P C (unit_of P C h) records base) where
@@ -85,6 +86,7 @@ module _ (P : Program) (C : Sizes) where
           tenant = record {
             tenant = there.tenant;
             is = there.is;
+            new = live_is_recent P C h legal there.p there.tenant there.is (ap (λ (z : Tenant). z.standing) (sym one) ∙ b.live);
             station_is = place;
             tag_is = ap (λ (z : Record). z.tag) there.what;
             fact = record { live = ap (λ (z : Tenant). z.standing) (sym one) ∙ b.live; fate = ap (λ (z : Tenant). z.fate) (sym one) ∙ finds_miss P C h legal x.station seen sees miss b };

@@ -29,6 +29,7 @@ use Rattle.front.specs.Knows.{Knows}
 use Rattle.front.specs.declared.path.record.Record.{Record}
 use Rattle.front.proofs.Splitting.{IsStable, KeepsEvent}
 use Rattle.front.proofs.Stays.{IsQuiet, knows_stays, quiet_grows, quiet_of}
+use Rattle.inorder.proofs.Recent.{old_kept}
 
 pub record IsPending (k : Source) (r q station tag s g : ℕ) (U : UpdateUnit) : Type 0 where
   pub asks : IsTenant U r station tag (IsAsking k q)
@@ -67,6 +68,7 @@ module _ (P : Program) (C : Sizes) (U : UpdateUnit) (by : ℕ) where
         asks = record {
           tenant = m.tenant;
           is = m.is;
+          new = old_kept P C U by s (λ e. subst IsQuiet e b) a r ∙ i.asks.new;
           station_is = m.goes.station ∙ i.asks.station_is;
           tag_is = m.goes.tag ∙ i.asks.tag_is;
           fact = record {
@@ -75,7 +77,7 @@ module _ (P : Program) (C : Sizes) (U : UpdateUnit) (by : ℕ) where
           };
         };
         last = last_at s b a ok r station i.last;
-        creator = record { tenant = c.tenant; is = c.is; station_is = c.goes.station ∙ i.creator.station_is; tag_is = c.goes.tag ∙ i.creator.tag_is; fact = tt };
+        creator = record { tenant = c.tenant; is = c.is; new = old_kept P C U by s (λ e. subst IsQuiet e b) a q ∙ i.creator.new; station_is = c.goes.station ∙ i.creator.station_is; tag_is = c.goes.tag ∙ i.creator.tag_is; fact = tt };
         creator_last = last_at s b a ok q x i.creator_last;
       }
 

@@ -1,11 +1,11 @@
 -- The questions behind a let, one after another.
-use Rattle.std.proofs.Common.{◌≡◌, ℕ, ◌<◌, List, [], refl, sym, ◌∙◌, subst}
+use Rattle.std.proofs.Common.{◌≡◌, ℕ, ◌<◌, List, [], refl, sym, ap, ◌∙◌, subst}
 use Rattle.isa.specs.Programs.{Program}
 use Rattle.inorder.specs.declared.history.Entry.{Entry}
 use Rattle.inorder.specs.declared.history.Event.{Event}
 use Rattle.inorder.specs.declared.history.Source.{Source}
 use Rattle.inorder.specs.declared.history.Source.TheVariants.{First, Second}
-use Rattle.inorder.specs.History.{Adds, IsLegal, front, unit_of}
+use Rattle.inorder.specs.History.{Adds, IsLegal, front, unit_of, renewals}
 use Rattle.inorder.specs.Unit.{Sizes}
 use Rattle.ruu_words.specs.Kinds.{IsAny, IsTenant}
 use Rattle.ruu_words.proofs.Stays.{any_stays}
@@ -42,13 +42,13 @@ module _ (P : Program) (C : Sizes) where
 
   pub later : (old new : List Entry) (es : List Event) → Adds P C front old new es → (r station tag : ℕ) → IsTenant (unit_of P C old) r station tag IsAny → IsTenant (unit_of P C new) r station tag IsAny
   later old new es a r station tag i =
-      subst (λ z. IsTenant (unit_of P C z) r station tag IsAny) (sym a.begins.is) (any_stays P C r station tag a.begins.more old (subst (IsLegal P C) a.begins.is a.legal) i)
+      subst (λ z. IsTenant (unit_of P C z) r station tag IsAny) (sym a.begins.is) (any_stays P C r station tag a.begins.more old (subst (IsLegal P C) a.begins.is a.legal) (sym (ap renewals a.begins.is) ∙ a.one_table) i)
 
   pub has_asked : (old new : List Entry) → IsLegal P C old → (r station tag : ℕ) (k : Source) (s : Supply) → IsTenant (unit_of P C old) r station tag IsAny → Asks P C old new station tag k s → HasAsked old new r k s
   has_asked old new legal r station tag k (Known v) i e = record {
     events = [];
     asks = refl;
-    adds = subst (λ h. Adds P C front old h []) (sym e) (record { begins = record { more = []; is = refl }; legal = legal; mine = refl });
+    adds = subst (λ h. Adds P C front old h []) (sym e) (record { begins = record { more = []; is = refl }; legal = legal; one_table = refl; mine = refl });
     knows = λ records base x. subst (λ h. Knows P C (unit_of P C h) records base) (sym e) x;
     table = λ T x. subst (λ h. HasTable P (unit_of P C h) T) (sym e) x;
   }

@@ -8,7 +8,7 @@ use Rattle.inorder.specs.declared.history.Act.TheVariants.{Mend, Squash}
 use Rattle.inorder.specs.declared.history.Entry.{Entry}
 use Rattle.inorder.specs.declared.history.Event.TheVariants.{Does}
 use Rattle.inorder.specs.declared.history.Step.TheVariants.{On}
-use Rattle.inorder.specs.History.{Adds, IsLegal, entry, front, unit_of}
+use Rattle.inorder.specs.History.{Adds, IsLegal, entry, front, unit_of, renewals}
 use Rattle.inorder.specs.Callers.{CanMend, CanSquash, IsMissing}
 use Rattle.inorder.specs.Legal.{Allowed, applied}
 use Rattle.inorder.specs.Replies.{Has}
@@ -20,7 +20,7 @@ use Rattle.inorder.proofs.Moves.{IsActed, IsLeft, at_changed, goes}
 use Rattle.inorder.proofs.Positions.{at_below}
 use Rattle.inorder.proofs.Sound.{IsSound}
 use Rattle.ruu_words.specs.Kinds.{IsAny, IsTenant}
-use Rattle.ruu_words.proofs.Stays.{any_stays}
+use Rattle.ruu_words.proofs.Stays.{any_stays, place_stays}
 use Rattle.front.specs.declared.path.record.Record.{Record}
 use Rattle.front.specs.Knows.{IsNewest, Knows, whats}
 use Rattle.front.specs.CreateTable.{HasTable, IsRestored}
@@ -34,6 +34,8 @@ use Rattle.front.proofs.Named.{all_get, all_whats, at_past, one_named}
 use Rattle.front.proofs.Splitting.{IsStable, event_legal, last_event, stays, stays_behind}
 use Rattle.front.proofs.Stays.{knows_stable}
 use Rattle.front.proofs.Trails.{IsLastOn, IsNoted, last_on, trail_noted}
+use Rattle.inorder.proofs.Letting.{IsBesides}
+use Rattle.inorder.proofs.Recent.{old_kept}
 
 same_tenant : (t u : Tenant) → Some t ≡ Some u → t ≡ u
 same_tenant t u e = cc e
@@ -53,6 +55,7 @@ missing_stable P C p x next U by s b a ok i =
     record {
       tenant = m.tenant;
       is = m.is;
+      new = old_kept P C U by s (λ e. subst IsBesides e b) a p ∙ i.new;
       station_is = ap (λ (z : Tenant). z.station) (sym one) ∙ (g.goes.station ∙ i.station_is);
       tag_is = ap (λ (z : Tenant). z.tag) (sym one) ∙ (g.goes.tag ∙ i.tag_is);
       fact = m.fact;
@@ -128,7 +131,7 @@ elsewhere : (P : Program) (C : Sizes) (U : UpdateUnit) (by p q : ℕ) (act : Act
     → IsMissOf q x next (applied P C U by (On p act))
 elsewhere P C U by p q act x next a ne m = ⊎_elim
     (λ (z : IsActed P U.tenants by p act a.tenant q m.tenant). absurd (ne z.position))
-    (λ (z : IsLeft P U.tenants by p act q m.tenant). record { tenant = m.tenant; is = z.now; station_is = m.station_is; tag_is = m.tag_is; fact = m.fact })
+    (λ (z : IsLeft P U.tenants by p act q m.tenant). record { tenant = m.tenant; is = z.now; new = old_kept P C U by (On p act) (λ e. cc e) a q ∙ m.new; station_is = m.station_is; tag_is = m.tag_is; fact = m.fact })
     (at_changed P U.tenants by p act a.tenant a.is q m.tenant m.is)
 
 less_not : (p q : ℕ) → p < q → p ≢ q
@@ -165,13 +168,12 @@ module _ (P : Program) (C : Sizes) (old new : List Entry) (rest : List Record) (
       → (n : Note) → IsNoted P (unit_of P C (last_event P C front old new (Does (On p Squash)) [] adds).point).tenants n → p ≡ n.at → station ≡ n.what.station
   its_station p adds station tag named n noted at_p =
       let l = last_event P C front old new (Does (On p Squash)) [] adds in
-      let point_named : IsTenant (unit_of P C l.point) p n.what.station n.what.tag IsAny =
-      subst (λ z. IsTenant (unit_of P C l.point) z n.what.station n.what.tag IsAny) (sym at_p)
-      (record { tenant = noted.tenant; is = noted.is; station_is = ap (λ (z : Record). z.station) noted.what; tag_is = ap (λ (z : Record). z.tag) noted.what; fact = tt }) in
+      let t = noted.tenant in
+      let at_point : at (unit_of P C l.point).tenants p ≡ Some t = ap (at (unit_of P C l.point).tenants) at_p ∙ noted.is in
       let long : (l.after ++ entry front (Does (On p Squash)) ∷ []) ++ l.point ≡ l.after ++ entry front (Does (On p Squash)) ∷ l.point = append_assoc l.after (entry front (Does (On p Squash)) ∷ []) l.point in
-      let later = any_stays P C p n.what.station n.what.tag (l.after ++ entry front (Does (On p Squash)) ∷ []) l.point (subst (IsLegal P C) (sym long) l.legal) point_named in
-      let here : IsTenant (unit_of P C new) p n.what.station n.what.tag IsAny = subst (λ z. IsTenant (unit_of P C z) p n.what.station n.what.tag IsAny) (long ∙ sym l.is) later in
-      sym named.station_is ∙ (ap (λ (z : Tenant). z.station) (same_tenant named.tenant here.tenant (sym named.is ∙ here.is)) ∙ here.station_is)
+      let later = place_stays P C p t (l.after ++ entry front (Does (On p Squash)) ∷ []) l.point (subst (IsLegal P C) (sym long) l.legal) at_point in
+      let here : Has (unit_of P C new) p (λ u. (u.station ≡ t.station) × (u.tag ≡ t.tag)) = subst (λ z. Has (unit_of P C z) p (λ u. (u.station ≡ t.station) × (u.tag ≡ t.tag))) (long ∙ sym l.is) later in
+      sym named.station_is ∙ (ap (λ (z : Tenant). z.station) (same_tenant named.tenant here.tenant (sym named.is ∙ here.is)) ∙ (here.fact.0 ∙ ap (λ (z : Record). z.station) noted.what))
 
   -- its table
   pub squash_table : (p : ℕ) → Adds P C front old new (Does (On p Squash) ∷ []) → (station tag : ℕ) → IsTenant (unit_of P C new) p station tag IsAny → (T T' : Table)
@@ -238,9 +240,9 @@ module _ (P : Program) (C : Sizes) (old new : List Entry) (rest : List Record) (
       let at_p = acts_at P C l.point legal.0 rest one base there p a.tenant a.is a.may.live a.may.youngest in
       let at_q = last_position P C l.point legal.0 rest one base there next q missing in
       let same : q ≡ p = at_q ∙ sym at_p in
-      let point_named : IsTenant (unit_of P C l.point) p one.station one.tag IsAny = subst (λ z. IsTenant (unit_of P C l.point) z one.station one.tag IsAny) same (record { tenant = missing.tenant; is = missing.is; station_is = missing.station_is; tag_is = missing.tag_is; fact = tt }) in
+      let point_named : IsTenant (unit_of P C l.point) p one.station one.tag IsAny = subst (λ z. IsTenant (unit_of P C l.point) z one.station one.tag IsAny) same (record { tenant = missing.tenant; is = missing.is; new = missing.new; station_is = missing.station_is; tag_is = missing.tag_is; fact = tt }) in
       let long : (l.after ++ entry front (Does (On p Mend)) ∷ []) ++ l.point ≡ l.after ++ entry front (Does (On p Mend)) ∷ l.point = append_assoc l.after (entry front (Does (On p Mend)) ∷ []) l.point in
-      let named = any_stays P C p one.station one.tag (l.after ++ entry front (Does (On p Mend)) ∷ []) l.point (subst (IsLegal P C) (sym long) l.legal) point_named in
+      let named = any_stays P C p one.station one.tag (l.after ++ entry front (Does (On p Mend)) ∷ []) l.point (subst (IsLegal P C) (sym long) l.legal) (ap renewals (long ∙ sym l.is) ∙ l.since) point_named in
       record {
         knows = stays_behind P C (λ U. Knows P C U (rest ++ record one { next = next } ∷ []) base) (knows_stable P C (rest ++ record one { next = next } ∷ []) base) old new (Does (On p Mend)) [] l behind;
         named = subst (λ z. IsTenant (unit_of P C z) p one.station one.tag IsAny) (long ∙ sym l.is) named;

@@ -8,10 +8,10 @@ use Rattle.inorder.specs.declared.history.Entry.{Entry}
 use Rattle.inorder.specs.declared.history.Event.{Event}
 use Rattle.inorder.specs.declared.history.Event.TheVariants.{Does, Marks, Refuses}
 use Rattle.inorder.specs.declared.history.Step.{Step}
-use Rattle.inorder.specs.History.{Adds, IsLegal, entry, front, own, unit_of}
+use Rattle.inorder.specs.History.{Adds, IsLegal, entry, front, own, unit_of, renewals, StartsWith}
 use Rattle.inorder.specs.Legal.{Allowed, applied}
 use Rattle.inorder.specs.Unit.{Sizes, UpdateUnit}
-use Rattle.inorder.proofs.Histories.{legal_before, own-append, unit_sound}
+use Rattle.inorder.proofs.Histories.{legal_before, own-append, unit_sound, none_to, none_from}
 use Rattle.inorder.proofs.Letting.{IsBesides}
 use Rattle.inorder.proofs.Sound.{IsSound}
 use Rattle.ruu_words.proofs.Stays.{front_stays}
@@ -65,6 +65,7 @@ module _ (P : Program) (C : Sizes) where
     pub is : new ≡ after ++ entry by e ∷ point
     pub none : own by after ≡ []
     pub legal : IsLegal P C (after ++ entry by e ∷ point)
+    pub since : renewals new ≡ renewals (entry by e ∷ point)
     pub before : Adds P C by old point es
 
   pub last_event : (by : ℕ) (old new : List Entry) (e : Event) (es : List Event) → Adds P C by old new (e ∷ es) → LastEvent by old new e es
@@ -75,15 +76,20 @@ module _ (P : Program) (C : Sizes) where
       let point = l.rest ++ old in
       let is : new ≡ l.after ++ entry by e ∷ point = a.begins.is ∙ (ap (λ z. z ++ old) l.is ∙ append_assoc l.after (entry by e ∷ l.rest) old) in
       let legal : IsLegal P C (l.after ++ entry by e ∷ point) = subst (IsLegal P C) is a.legal in
+      let last : StartsWith new (entry by e ∷ point) = record { more = l.after; is = is } in
+      let first : StartsWith (entry by e ∷ point) old = record { more = entry by e ∷ l.rest; is = refl } in
+      let until : StartsWith new point = record { more = l.after ++ entry by e ∷ []; is = is ∙ sym (append_assoc l.after (entry by e ∷ []) point) } in
       record {
         point = point;
         after = l.after;
         is = is;
         none = l.none;
         legal = legal;
+        since = none_from new (entry by e ∷ point) old last first a.one_table;
         before = record {
           begins = record { more = l.rest; is = refl };
           legal = (legal_before P C l.after (entry by e ∷ point) legal).0;
+          one_table = none_to new point old until (record { more = l.rest; is = refl }) a.one_table;
           mine = own-append by l.rest old ∙ ap (λ z. z ++ own by old) l.before;
         };
       }

@@ -173,6 +173,7 @@ module _ (P : Program) (C : Sizes) (h : List Entry) (legal : IsLegal P C h) wher
         record {
           tenant = noted.tenant;
           is = noted.is;
+          new = none_old P C h legal n.at;
           station_is = ap (λ (z : Record). z.station) noted.what;
           tag_is = ap (λ (z : Record). z.tag) noted.what;
           fact = left_there noted.tenant (next_tag C (recent U)) (station_word C (recent U) (next_station C (recent U))) word (free_is _ (sym sees.state_is ∙ ap state_code free)) noted.on seen.value sees.value_is;

@@ -1,5 +1,5 @@
 -- On histories: their moments, the entries of one caller, and what stays.
-use Rattle.std.proofs.Common.{◌≡◌, ◌≢◌, ℕ, cond, List, [], ◌∷◌, ◌++◌, map, length, sym, refl, ap, ◌∙◌, arith, append_assoc, length-append, eq-eqb, ne_eqb}
+use Rattle.std.proofs.Common.{◌≡◌, ◌≢◌, ℕ, ◌≤◌, cond, List, [], ◌∷◌, ◌++◌, map, length, sym, refl, ap, ◌∙◌, subst, arith, append_assoc, length-append, eq-eqb, ne_eqb}
 use mathlib.Core.Logic.{dite}
 use native.Mathlib.Decide.{ℕ_discrete}
 use Rattle.isa.specs.Programs.{Program}
@@ -7,7 +7,8 @@ use Rattle.inorder.specs.declared.history.Entry.{Entry}
 use Rattle.inorder.specs.declared.history.Event.{Event}
 use Rattle.inorder.specs.declared.history.Event.TheVariants.{Does, Marks, Refuses}
 use Rattle.inorder.specs.declared.history.Step.{Step}
-use Rattle.inorder.specs.History.{Adds, IsLegal, IsTheirs, MayAdd, StartsWith, entry, own, taken_of, unit_of, with_event}
+use Rattle.inorder.specs.declared.history.Step.TheVariants.{Let, On, Renew}
+use Rattle.inorder.specs.History.{Adds, IsLegal, IsTheirs, MayAdd, StartsWith, entry, front, own, renewals, renewed_by, taken_of, unit_of, with_event}
 use Rattle.inorder.specs.Legal.{Allowed, AreAllowed, applied}
 use Rattle.inorder.specs.Unit.{Sizes, UpdateUnit}
 use Rattle.inorder.proofs.Kept.{sound}
@@ -18,6 +19,37 @@ starts_same h = record { more = []; is = refl }
 
 pub starts_longer : (h point more : List Entry) → StartsWith h point → StartsWith (more ++ h) point
 starts_longer h point more s = record { more = more ++ s.more; is = ap (λ z. more ++ z) s.is ∙ sym (append_assoc more s.more point) }
+
+-- Renewals
+
+renewed_more : (x : Event) (n : ℕ) → n ≤ renewed_by x n
+renewed_more (Does (Let index predicted first second)) n = omega arith
+renewed_more (Does (On p act)) n = omega arith
+renewed_more (Does Renew) n = omega arith
+renewed_more (Refuses r) n = omega arith
+renewed_more (Marks m) n = omega arith
+
+-- a longer history has no fewer
+pub renewals_more : (more seen : List Entry) → renewals seen ≤ renewals (more ++ seen)
+renewals_more [] seen = omega arith
+renewals_more (e ∷ more) seen = let a = renewals_more more seen in let b = renewed_more e.event (renewals (more ++ seen)) in omega (arith, a, b)
+
+pub starts_more : (new old : List Entry) → StartsWith new old → renewals old ≤ renewals new
+starts_more new old s = subst (λ z. renewals old ≤ renewals z) (sym s.is) (renewals_more s.more old)
+
+-- where none was added, none was in between
+pub none_between : (later more seen : List Entry) → renewals (later ++ (more ++ seen)) ≡ renewals seen → renewals (more ++ seen) ≡ renewals seen
+none_between later more seen same = let a = renewals_more later (more ++ seen) in let b = renewals_more more seen in omega (arith, same, a, b)
+
+pub none_to : (new mid old : List Entry) → StartsWith new mid → StartsWith mid old → renewals new ≡ renewals old → renewals mid ≡ renewals old
+none_to new mid old s t same = let a = starts_more new mid s in let b = starts_more mid old t in omega (arith, same, a, b)
+
+pub none_from : (new mid old : List Entry) → StartsWith new mid → StartsWith mid old → renewals new ≡ renewals old → renewals new ≡ renewals mid
+none_from new mid old s t same = let a = starts_more new mid s in let b = starts_more mid old t in omega (arith, same, a, b)
+
+-- only the front renews
+pub only_front_renews : (C : Sizes) (U : UpdateUnit) (by : ℕ) → IsTheirs C U by Renew → by ≢ front → ⊥
+only_front_renews C U by h other = h
 
 -- The entries of one caller
 
@@ -50,6 +82,7 @@ pub adds_on : (P : Program) (C : Sizes) (by : ℕ) (old mid new : List Entry) (e
 adds_on P C by old mid new es fs a b = record {
   begins = record { more = b.begins.more ++ a.begins.more; is = b.begins.is ∙ (ap (λ z. b.begins.more ++ z) a.begins.is ∙ sym (append_assoc b.begins.more a.begins.more old)) };
   legal = b.legal;
+  one_table = b.one_table ∙ a.one_table;
   mine = b.mine ∙ (ap (λ z. map (entry by) fs ++ z) a.mine ∙ (sym (append_assoc (map (entry by) fs) (map (entry by) es) (own by old)) ∙ ap (λ z. z ++ own by old) (sym (map_append fs es))));
 }
   where
@@ -110,3 +143,43 @@ module _ (P : Program) (C : Sizes) where
       go h by (Does s) l may other q = keeps (unit_of P C h) by s other may.0 may.1 (unit_sound h l) q
       go h by (Refuses r) l may other q = q
       go h by (Marks k) l may other q = q
+
+  -- the front's own entries tell how many renewals there were
+  pub renewals_own : (h : List Entry) → IsLegal P C h → renewals h ≡ renewals (own front h)
+  renewals_own [] legal = refl
+  renewals_own (e ∷ h) legal = dite (ℕ_discrete e.by front)
+      (λ is. ap (renewed_by e.event) (renewals_own h legal.0) ∙ sym (ap renewals (own_here front e h is)))
+      (λ other. go e.by e.event legal.1 other ∙ (renewals_own h legal.0 ∙ sym (ap renewals (own_else front e h other))))
+    where
+      go : (by : ℕ) (x : Event) → MayAdd P C h by x → by ≢ front → renewed_by x (renewals h) ≡ renewals h
+      go by (Does (Let index predicted first second)) may other = refl
+      go by (Does (On p act)) may other = refl
+      go by (Does Renew) may other = absurd (only_front_renews C (unit_of P C h) by may.0 other)
+      go by (Refuses r) may other = refl
+      go by (Marks m) may other = refl
+
+  pub same_fronts : (h g : List Entry) → IsLegal P C h → IsLegal P C g → own front h ≡ own front g → renewals h ≡ renewals g
+  same_fronts h g legal legal' same = renewals_own h legal ∙ (ap renewals same ∙ sym (renewals_own g legal'))
+
+  -- where the front adds nothing, nothing is renewed
+  pub none_renewed : (more seen : List Entry) → IsLegal P C (more ++ seen) → own front more ≡ [] → renewals (more ++ seen) ≡ renewals seen
+  none_renewed more seen legal none = same_fronts (more ++ seen) seen legal (legal_before more seen legal) (own-append front more seen ∙ ap (λ z. z ++ own front seen) none)
+
+  -- or, where nothing is renewed, each other step of another caller
+  pub unit_lasts_here : (id : ℕ) (Q : UpdateUnit → Type 0)
+      → ((U : UpdateUnit) (by : ℕ) (s : Step) → by ≢ id → s ≢ Renew → IsTheirs C U by s → Allowed P C U by s → IsSound P U.tenants → Q U → Q (applied P C U by s))
+      → (more seen : List Entry) → IsLegal P C (more ++ seen) → renewals (more ++ seen) ≡ renewals seen → own id more ≡ [] → Q (unit_of P C seen) → Q (unit_of P C (more ++ seen))
+  unit_lasts_here id Q keeps [] seen legal same none q = q
+  unit_lasts_here id Q keeps (e ∷ more) seen legal same none q = dite (ℕ_discrete e.by id)
+      (λ h. let n = ap (λ z. length z) (sym (own_here id e more h) ∙ none) in absurd (omega arith))
+      (λ h. go e.by e.event legal.1 h same (λ s. unit_lasts_here id Q keeps more seen legal.0 s (sym (own_else id e more h) ∙ none) q))
+    where
+      U : UpdateUnit
+      U = unit_of P C (more ++ seen)
+
+      go : (by : ℕ) (x : Event) → MayAdd P C (more ++ seen) by x → by ≢ id → renewed_by x (renewals (more ++ seen)) ≡ renewals seen → (renewals (more ++ seen) ≡ renewals seen → Q U) → Q (unit_of P C (entry by x ∷ (more ++ seen)))
+      go by (Does (Let index predicted first second)) may other s q = keeps U by (Let index predicted first second) other (λ e. cc e) may.0 may.1 (unit_sound (more ++ seen) legal.0) (q s)
+      go by (Does (On p act)) may other s q = keeps U by (On p act) other (λ e. cc e) may.0 may.1 (unit_sound (more ++ seen) legal.0) (q s)
+      go by (Does Renew) may other s q = let a = renewals_more more seen in absurd (omega (arith, s, a))
+      go by (Refuses r) may other s q = q s
+      go by (Marks m) may other s q = q s

@@ -1,5 +1,6 @@
 -- The tenants let since the last renewal, among all tenants of a unit.
-use Rattle.std.proofs.Common.{◌≡◌, ◌≢◌, ℕ, zero, suc, ◌+◌, ◌-◌, ◌<◌, ◌≤◌, Bool, true, false, cond, eqb, ltb, List, [], ◌∷◌, ◌++◌, length, Some, refl, sym, ap, ◌∙◌, subst, ⊎_elim, arith, length-append, eqb-true, eq-eqb, ne_eqb, ltb-true, ltb-false}
+use Rattle.std.proofs.Common.{◌≡◌, ◌≢◌, ◌⊎◌, ℕ, zero, suc, ◌+◌, ◌-◌, ◌<◌, ◌≤◌, Bool, true, false, cond, eqb, ltb, List, [], ◌∷◌, ◌++◌, length, Some, refl, sym, ap, ◌∙◌, subst, inl, inr, ⊎_elim, arith, length-append, eqb-true, eq-eqb, ne_eqb, ltb-true, ltb-false, true≢false}
+use Rattle.std.proofs.lemmas.Bool.{lt-ltb}
 use Rattle.std.specs.List.{AllByRecursion}
 use Rattle.isa.specs.Programs.{Program}
 use Rattle.inorder.specs.declared.history.Act.{Act}
@@ -9,17 +10,19 @@ use Rattle.inorder.specs.declared.history.Event.TheVariants.{Does, Marks, Refuse
 use Rattle.inorder.specs.declared.history.Step.{Step}
 use Rattle.inorder.specs.declared.history.Step.TheVariants.{Let, On, Renew}
 use Rattle.inorder.specs.Callers.{IsLastAt}
-use Rattle.inorder.specs.History.{IsLegal, MayAdd, entry, taken_of, unit_of}
+use Rattle.inorder.specs.History.{IsLegal, MayAdd, StartsWith, entry, renewals, renewed_by, taken_of, unit_of}
 use Rattle.inorder.specs.Laws.{IsRing}
-use Rattle.inorder.specs.Legal.{applied, change_at, changed}
+use Rattle.inorder.specs.Legal.{Allowed, applied, change_at, changed}
 use Rattle.inorder.specs.StationWords.{last_of}
+use Rattle.inorder.specs.Steps.{new_tenant}
 use Rattle.inorder.specs.Tenants.{IsNotLive, Live, Tenant}
 use Rattle.inorder.specs.Unit.{Sizes, UpdateUnit, at, how_many, is_old, newest_of, older, recent, younger}
 use Rattle.inorder.proofs.Basics.{split_at}
 use Rattle.inorder.proofs.Grows.{same_length}
-use Rattle.inorder.proofs.Histories.{allowed_steps}
+use Rattle.inorder.proofs.Histories.{allowed_steps, renewals_more}
 use Rattle.inorder.proofs.Kept.{parts}
 use Rattle.inorder.proofs.Letting.{how_many_same}
+use Rattle.inorder.proofs.Moves.{length_changed}
 use Rattle.inorder.proofs.Positions.{at_below, at_more, at_new}
 use Rattle.inorder.proofs.QueuePlaces.{older_length}
 use Rattle.inorder.proofs.Stations.{OldGone, old_gone}
@@ -56,7 +59,7 @@ gone_above zero ts p le = omega (arith, le)
 gone_above (suc n) [] p le = omega arith
 gone_above (suc n) (t ∷ ts) p le = let more = gone_above n ts p le in omega (arith, more)
 
-wide : (n : ℕ) (ts : List Tenant) → length ts ≡ length (newest_of n ts) + length (passed n ts)
+pub wide : (n : ℕ) (ts : List Tenant) → length ts ≡ length (newest_of n ts) + length (passed n ts)
 wide zero ts = omega arith
 wide (suc n) [] = omega arith
 wide (suc n) (t ∷ ts) = let more = wide n ts in omega (arith, more)
@@ -276,6 +279,29 @@ counts_same P U by p act t e f same =
     (cut U.fresh (younger us p) (older us p))
     ∙ ap (λ z. how_many f (newest_of U.fresh z)) (sym (split_at us p t e))
 
+-- A step that renews nothing
+
+same_less : (a b c d : ℕ) → (a < b → c < d) → (b ≤ a → d ≤ c) → ltb c d ≡ ltb a b
+same_less a b c d less least = go (ltb a b) refl
+  where
+    go : (x : Bool) → ltb a b ≡ x → ltb c d ≡ ltb a b
+    go true e = lt-ltb c d (less (ltb-true a b e)) ∙ sym e
+    go false e = not_less c d (least (ltb-false a b e)) ∙ sym e
+
+-- one more tenant
+pub old_more : (U : UpdateUnit) (t : Tenant) (p : ℕ) → is_old (record { tenants = t ∷ U.tenants; fresh = suc U.fresh }) p ≡ is_old U p
+old_more U t p = same_less (p + U.fresh) (length U.tenants) (p + suc U.fresh) (suc (length U.tenants)) (λ h. omega (arith, h)) (λ h. omega (arith, h))
+
+-- it is recent itself
+pub new_there : (U : UpdateUnit) (t : Tenant) → is_old (record { tenants = t ∷ U.tenants; fresh = suc U.fresh }) (length U.tenants) ≡ false
+new_there U t = old_more U t (length U.tenants) ∙ new_by U (length U.tenants) (omega arith)
+
+-- the tenants of before are the same
+pub old_kept : (P : Program) (C : Sizes) (U : UpdateUnit) (by : ℕ) (s : Step) → s ≢ Renew → Allowed P C U by s → (p : ℕ) → is_old (applied P C U by s) p ≡ is_old U p
+old_kept P C U by (Let index predicted first second) ne a p = old_more U (new_tenant P C U index predicted first second) p
+old_kept P C U by (On r act) ne a p = ap (λ n. ltb (p + U.fresh) n) (length_changed P U.tenants by r act a.tenant a.is)
+old_kept P C U by Renew ne a p = absurd (ne refl)
+
 -- Of a legal history
 
 module _ (P : Program) (C : Sizes) where
@@ -284,6 +310,39 @@ module _ (P : Program) (C : Sizes) where
 
   pub live_is_recent : (h : List Entry) → IsLegal P C h → (p : ℕ) (t : Tenant) → at (unit_of P C h).tenants p ≡ Some t → t.standing ≡ Live → is_old (unit_of P C h) p ≡ false
   live_is_recent h legal = live_recent (unit_of P C h) (old_are_gone h legal)
+
+  -- a tenant is recent, or has left
+  pub recent_or_left : (h : List Entry) → IsLegal P C h → (p : ℕ) (t : Tenant) → at (unit_of P C h).tenants p ≡ Some t → (is_old (unit_of P C h) p ≡ false) ⊎ IsNotLive t
+  recent_or_left h legal p t is = go (is_old (unit_of P C h) p) refl
+    where
+      go : (b : Bool) → is_old (unit_of P C h) p ≡ b → (is_old (unit_of P C h) p ≡ false) ⊎ IsNotLive t
+      go false e = inl e
+      go true e = inr (λ live. true≢false (sym e ∙ live_is_recent h legal p t is live))
+
+  -- where nothing is renewed, the tenants of before are the same
+  pub old_same : (more seen : List Entry) → IsLegal P C (more ++ seen) → renewals (more ++ seen) ≡ renewals seen → (p : ℕ) → is_old (unit_of P C (more ++ seen)) p ≡ is_old (unit_of P C seen) p
+  old_same [] seen legal same p = refl
+  old_same (e ∷ more) seen legal same p = go e.by e.event legal.1 same (λ s. old_same more seen legal.0 s p)
+    where
+      U : UpdateUnit
+      U = unit_of P C (more ++ seen)
+
+      go : (by : ℕ) (x : Event) → MayAdd P C (more ++ seen) by x → renewed_by x (renewals (more ++ seen)) ≡ renewals seen → (renewals (more ++ seen) ≡ renewals seen → is_old U p ≡ is_old (unit_of P C seen) p)
+          → is_old (unit_of P C (entry by x ∷ (more ++ seen))) p ≡ is_old (unit_of P C seen) p
+      go by (Does (Let index predicted first second)) may s rest = old_kept P C U by (Let index predicted first second) (λ e. cc e) may.1 p ∙ rest s
+      go by (Does (On r act)) may s rest = old_kept P C U by (On r act) (λ e. cc e) may.1 p ∙ rest s
+      go by (Does Renew) may s rest = let a = renewals_more more seen in absurd (omega (arith, s, a))
+      go by (Refuses r) may s rest = rest s
+      go by (Marks m) may s rest = rest s
+
+  pub old_since : (new old : List Entry) → StartsWith new old → IsLegal P C new → renewals new ≡ renewals old → (p : ℕ) → is_old (unit_of P C new) p ≡ is_old (unit_of P C old) p
+  old_since new old s legal same p =
+      ap (λ z. is_old (unit_of P C z) p) s.is
+      ∙ old_same s.more old (subst (IsLegal P C) s.is legal) (sym (ap renewals s.is) ∙ same) p
+
+  -- and who is let since is recent
+  pub let_since : (new old : List Entry) → StartsWith new old → IsLegal P C new → renewals new ≡ renewals old → (p : ℕ) → length (unit_of P C old).tenants ≤ p → is_old (unit_of P C new) p ≡ false
+  let_since new old s legal same p behind = old_since new old s legal same p ∙ new_by (unit_of P C old) p (omega (arith, behind))
 
   -- as long as nobody may renew, all tenants are recent
   pub all_fresh : (h : List Entry) → IsLegal P C h → (unit_of P C h).fresh ≡ length (unit_of P C h).tenants

@@ -5,12 +5,13 @@ use Rattle.std.proofs.lemmas.Bool.{lt-ltb}
 use Rattle.isa.specs.Programs.{Program}
 use Rattle.inorder.specs.declared.history.Supply.{Supply}
 use Rattle.inorder.specs.declared.history.Supply.TheVariants.{From}
+use Rattle.inorder.specs.declared.history.Entry.{Entry}
 use Rattle.inorder.specs.Legal.{AreAllowed, Taken, reached}
-use Rattle.inorder.specs.Renewals.{BeginsAgain, IsKnownOfBefore, IsPast}
+use Rattle.inorder.specs.Renewals.{BeginsAgain, IsKnownOfBefore, IsPast, PastStays}
 use Rattle.inorder.specs.StationWords.{IsFree, StationWord}
 use Rattle.inorder.specs.Steps.{MaySupply}
 use Rattle.inorder.specs.Unit.{Sizes, UpdateUnit, is_old}
-use Rattle.inorder.proofs.Recent.{live_recent, names_recent}
+use Rattle.inorder.proofs.Recent.{let_since, live_recent, names_recent, old_since}
 use Rattle.inorder.proofs.Stations.{old_gone}
 use Rattle.inorder.proofs.Tags.{tagged}
 
@@ -48,4 +49,10 @@ pub known_of_before : (P : Program) (C : Sizes) (U : UpdateUnit) (by : ℕ) → 
 known_of_before P C U by = record {
   first = λ index predicted p first second may e old. waits_not P U _ p _ first may.first_is e old;
   second = λ index predicted p first second may e old. waits_not P U _ p _ second may.second_is e old;
+}
+
+pub past_stays : (P : Program) (C : Sizes) (old new : List Entry) → PastStays P C old new
+past_stays P C old new starts legal none = record {
+  same = old_since P C new old starts legal none;
+  since = let_since P C new old starts legal none;
 }

@@ -1,6 +1,6 @@
 -- Legal histories of a shared unit. A history is a list of entries, the last one first, so that
 -- what was there before an entry is what is behind it in the list.
-use Rattle.std.specs.Prelude.{◌≡◌, ◌⊎◌, ℕ, ◌<◌, ◌≤◌, true, List, [], ◌∷◌, ◌++◌, map, Some, ◌==◌, if◌then◌else◌}
+use Rattle.std.specs.Prelude.{◌≡◌, ◌⊎◌, ℕ, suc, ◌<◌, ◌≤◌, true, List, [], ◌∷◌, ◌++◌, map, Some, ◌==◌, if◌then◌else◌}
 use Rattle.isa.specs.Programs.{Program}
 use Rattle.inorder.specs.declared.history.Act.{Act}
 use Rattle.inorder.specs.declared.history.Act.TheVariants.{Claim, Deliver, Finish, Link, Load, Mend, Retire, Squash}
@@ -57,6 +57,16 @@ taken_of (e ∷ h) = with_event e.by e.event (taken_of h)
 -- The unit that they reach
 abbrev pub unit_of : Program → Sizes → List Entry → UpdateUnit
 unit_of P C h = reached P C (taken_of h)
+
+-- How many renewals there were, with that of an event if it is one
+abbrev pub renewed_by : Event → ℕ → ℕ
+renewed_by (Does Renew) n = suc n
+renewed_by _ n = n
+
+-- How many renewals a history has
+abbrev pub renewals : List Entry → ℕ
+renewals [] = 0
+renewals (e ∷ h) = renewed_by e.event (renewals h)
 
 -- A history began as another: `point` was a moment of it
 pub record StartsWith (h point : List Entry) : Type 0 where
@@ -131,10 +141,11 @@ abbrev pub own : ℕ → List Entry → List Entry
 own by [] = []
 own by (e ∷ h) = if e.by == by then e ∷ own by h else own by h
 
--- What a caller has seen has grown, and these events, the last one first, are all that it added
--- itself. Two such facts in a row are one, with the events of both
+-- What a caller has seen has grown, with no renewal, and these events, the last one first, are all
+-- that it added itself. Two such facts in a row are one, with the events of both
 pub record Adds (P : Program) (C : Sizes) (by : ℕ) (old new : List Entry) (events : List Event) :
     Type 0 where
   pub begins : StartsWith new old
   pub legal : IsLegal P C new
+  pub one_table : renewals new ≡ renewals old
   pub mine : own by new ≡ map (entry by) events ++ own by old

@@ -1,12 +1,15 @@
 -- What a renewal leaves, what begins again with it, and what of the tenants of before.
-use Rattle.std.specs.Prelude.{◌≡◌, ◌≢◌, ℕ, ◌<◌, true, false, List, length, Some, None}
+use Rattle.std.specs.Prelude.{◌≡◌, ◌≢◌, ℕ, suc, ◌<◌, ◌≤◌, true, false, List, ◌∷◌, length, Some, None}
 use Rattle.isa.specs.Instruction.{first_of, second_of}
 use Rattle.isa.specs.Programs.{Program, instr_of}
 use Rattle.isa.specs.declared.stop.Stop.{Stop}
+use Rattle.inorder.specs.declared.history.Entry.{Entry}
+use Rattle.inorder.specs.declared.history.Event.TheVariants.{Does}
 use Rattle.inorder.specs.declared.history.Source.{Source}
 use Rattle.inorder.specs.declared.history.Step.TheVariants.{Let, Renew}
 use Rattle.inorder.specs.declared.history.Supply.{Supply}
 use Rattle.inorder.specs.declared.history.Supply.TheVariants.{From}
+use Rattle.inorder.specs.History.{IsLegal, StartsWith, entry, renewals, unit_of}
 use Rattle.inorder.specs.Legal.{Allowed, AreAllowed, Taken, applied, reached}
 use Rattle.inorder.specs.OperandWords.{operand_word}
 use Rattle.inorder.specs.StationWords.{IsFree, station_word}
@@ -50,3 +53,19 @@ StopIsNotRenewed P C history =
 -- Of all units that legal steps reach
 abbrev pub PastIsPast : Program → Sizes → List Taken → Type 0
 PastIsPast P C history = AreAllowed P C history → IsPast (reached P C history)
+
+-- The tenants of before are the same ones, and whoever was let since is recent
+pub record HasSamePast (P : Program) (C : Sizes) (old new : List Entry) : Type 0 where
+  pub same : (p : ℕ) → is_old (unit_of P C new) p ≡ is_old (unit_of P C old) p
+  pub since : (p : ℕ) → length (unit_of P C old).tenants ≤ p →
+      is_old (unit_of P C new) p ≡ false
+
+-- So it is where a legal history goes on with no renewal
+abbrev pub PastStays : Program → Sizes → List Entry → List Entry → Type 0
+PastStays P C old new =
+    StartsWith new old → IsLegal P C new → renewals new ≡ renewals old → HasSamePast P C old new
+
+-- A renewal is one more than there were
+abbrev pub RenewalsCount : Type 0
+RenewalsCount =
+    (by : ℕ) (h : List Entry) → renewals (entry by (Does Renew) ∷ h) ≡ suc (renewals h)

@@ -15,7 +15,7 @@ ghost use Rattle.inorder.specs.History.{IsLegal};
 ghost use Rattle.inorder.specs.Wakes.{AreMarked, LosesNoWake};
 ghost use Rattle.inorder.specs.Loads.{LoadsAreAnswered};
 ghost use Rattle.inorder.specs.Legal.{reached};
-ghost use Rattle.inorder.specs.Renewals.{BeginsAgain, IsKnownOfBefore, PastIsPast, StopIsNotRenewed};
+ghost use Rattle.inorder.specs.Renewals.{BeginsAgain, IsKnownOfBefore, PastIsPast, PastStays, RenewalsCount, StopIsNotRenewed};
 ghost use Rattle.inorder.specs.Answered.{FinishIsAnswered, ClaimIsAnswered, RetirementIsAnswered};
 
 /// Whatever steps were taken, what the unit has committed is the state of the in-order machine
@@ -49,6 +49,13 @@ pub fn what_is_past_is_past()
 /// Behind a stop that has retired nothing is renewed.
 pub fn a_retired_stop_is_not_renewed()
     ensures { (p : Program) (c : Sizes) (history : List Taken) → StopIsNotRenewed p c history }
+{}
+
+/// Where a history goes on with no renewal, the tenants of before it are the same ones. Each
+/// renewal counts as one.
+pub fn nothing_is_past_without_a_renewal()
+    ensures past { (p : Program) (c : Sizes) (old new : List Entry) → PastStays p c old new }
+    ensures counted { RenewalsCount }
 {}
 
 /// No source of a new tenant waits for one that was let before the last renewal.

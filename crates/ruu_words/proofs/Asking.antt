@@ -1,5 +1,5 @@
 -- What follows the store of a link: the look at the creator's station, and the exchange.
-use Rattle.std.proofs.Common.{◌≡◌, ◌≢◌, ◌⊎◌, ℕ, ◌<◌, ◌==◌, Bool, true, false, cond, eqb, List, [], ◌∷◌, ◌++◌, map, length, Some, None, refl, sym, ap, ◌∙◌, subst, inl, inr, ⊎_elim, eq-eqb, ne_eqb, true≢false}
+use Rattle.std.proofs.Common.{◌≡◌, ◌≢◌, ◌⊎◌, ℕ, ◌==◌, Bool, true, false, List, [], ◌∷◌, ◌++◌, map, Some, None, refl, sym, ap, ◌∙◌, subst, inl, inr, ⊎_elim, true≢false}
 use prog.Atomic.{either}
 use Rattle.atomic_table.proofs.Lists.{exchanged}
 use Rattle.isa.specs.Programs.{Program}
@@ -23,15 +23,15 @@ use Rattle.inorder.specs.Replies.{Has, IsDelivered}
 use Rattle.inorder.specs.StationWords.{last_of, live_word, station_word, word_by, word_of}
 use Rattle.inorder.specs.Steps.{delivered}
 use Rattle.inorder.specs.Tenants.{Addr, Busy, Done, Fate, Linked, Live, Miss, Open, Retired, Squashed, Standing, Stopped, Tenant, computed, kind_of, on_path, operand, stands_on_path}
-use Rattle.inorder.specs.Unit.{Sizes, UpdateUnit, at, older, recent, tag_after, value_of, younger}
+use Rattle.inorder.specs.Unit.{Sizes, UpdateUnit, at, is_old, older, recent, tag_after, value_of, younger}
 use Rattle.inorder.proofs.Creators.{are_older, value_by}
 use Rattle.inorder.proofs.Ends.{Acted, at_older, exact}
 use Rattle.inorder.proofs.Histories.{allowed_steps, unit_sound}
 use Rattle.inorder.proofs.Letting.{IsBesides, IsBesidesAct}
 use Rattle.inorder.proofs.Makers.{IsWriter, are_late, have_makers, left_when_retired, made_when_done, path_maker, stops_made, unmade_before}
 use Rattle.inorder.proofs.Moves.{IsActed, IsLeft, at_changed, goes}
-use Rattle.inorder.proofs.Positions.{at_below, at_more, at_new}
-use Rattle.inorder.proofs.Recent.{last_of_recent, none_old}
+use Rattle.inorder.proofs.Positions.{at_below}
+use Rattle.inorder.proofs.Recent.{last_of_recent}
 use Rattle.inorder.proofs.Serving.{made_stays}
 use Rattle.inorder.proofs.Sound.{IsSound}
 use Rattle.inorder.proofs.Stations.{finished_station}
@@ -94,6 +94,7 @@ module _ (P : Program) (C : Sizes) where
     draft = p.draft;
     mine = p.mine;
     legal = (p.legal, may);
+    same = p.same;
     proper = p.proper;
     here = p.here;
     else = p.else;
@@ -103,7 +104,7 @@ module _ (P : Program) (C : Sizes) where
   -- The look at the creator's station
 
   -- the creator u of a source of a tenant of the path, on the path too
-  module _ (h : List Entry) (legal : IsLegal P C h) (r q p : ℕ) (k : Source) (i : Has (unit_of P C h) r (HasAsked k q)) (u : Tenant) (is_q : at (unit_of P C h).tenants q ≡ Some u) (at_p : u.station ≡ p) (last : IsLastAt (unit_of P C h) q p) where
+  module _ (h : List Entry) (legal : IsLegal P C h) (r q p : ℕ) (k : Source) (i : Has (unit_of P C h) r (HasAsked k q)) (u : Tenant) (is_q : at (unit_of P C h).tenants q ≡ Some u) (new : is_old (unit_of P C h) q ≡ false) (at_p : u.station ≡ p) (last : IsLastAt (unit_of P C h) q p) where
     abbrev U : UpdateUnit
     U = unit_of P C h
 
@@ -158,7 +159,7 @@ module _ (P : Program) (C : Sizes) where
         go Squashed gone = absurd (true≢false (sym writer.path ∙ ap stands_on_path gone))
         go Retired gone =
             let m = left_when_retired P us (unit_sound P C h legal) q u is_q maker_waits writer (λ c f. stops_made P C (taken_of h) (allowed_steps P C h legal) q u c is_q gone f) gone in
-            let here : last_of (recent U) p ≡ Some u = ap (last_of (recent U)) (sym at_p) ∙ last_of_recent U q u is_q (none_old P C h legal q) (λ x y lt e f. last x y lt e (f ∙ at_p)) in
+            let here : last_of (recent U) p ≡ Some u = ap (last_of (recent U)) (sym at_p) ∙ last_of_recent U q u is_q new (λ x y lt e f. last x y lt e (f ∙ at_p)) in
             let word : IsStation (word_of (tag_after C (recent U) p) (Some u)) n = subst (λ o. IsStation (word_of (tag_after C (recent U) p) o) n) here w in
             let free : IsStation (word_by (tag_after C (recent U) p) Retired u.tag u.fate u.made) n = subst (λ st. IsStation (word_by (tag_after C (recent U) p) st u.tag u.fate u.made) n) gone word in
             let value : value_in n ≡ m.0 = subst (λ o. HasValue o (value_in n)) m.1 free.value in
@@ -166,18 +167,18 @@ module _ (P : Program) (C : Sizes) where
 
   pub question_plan : (id : ℕ) (v : View) (p g r q : ℕ) (k : Source) → id ≡ front → v.draft ≡ Nothing → Has (unit_of P C v.seen) r (HasAsked k q) → IsTenant (unit_of P C v.seen) q p g IsAny → IsLastAt (unit_of P C v.seen) q p
       → Plans P C id v (Station p) (λ n. n) (Questions P C r k q)
-  question_plan id v p g r q k is_front none asked creator last between d legal apart caller mine draft n small content =
+  question_plan id v p g r q k is_front none asked creator last between d legal same apart caller mine draft n small content =
       let h : List Entry = between ++ v.seen in
       let apart_front : own front between ≡ [] = subst (λ z. own z between ≡ []) is_front apart in
       let quiet : d ≡ Nothing = sym (mine is_front) ∙ none in
       let i = front_stays P C (λ U. Has U r (HasAsked k q)) (λ U by s b a ok x. asked_stays P C k q r U by s b a ok x) between v.seen legal apart_front asked in
-      let j = any_stays P C q p g between v.seen legal creator in
+      let j = any_stays P C q p g between v.seen legal same creator in
       let l = front_stays P C (λ U. IsLastAt U q p) (λ U by s b a ok x. last_stays P C U by s b a ok q p x) between v.seen legal apart_front last in ⊎_elim
       (λ (x : IsUnmade (state_of n) × IsInTime (unit_of P C h) r k q).
       marks P C id h d legal draft (Station p) n (Asked r k) (is_front, inr x.1.asked) content (Questions P C r k q n) (quiet, inl (x.0, refl, x.1)))
       (λ (x : IsMade (state_of n) × HasMade (unit_of P C h) q (value_in n)).
       looks P C id h d legal draft (Station p) n content (Questions P C r k q n) (quiet, inr (x.0, refl, x.1)))
-      (says h legal r q p k i j.tenant j.is j.station_is l n content)
+      (says h legal r q p k i j.tenant j.is j.new j.station_is l n content)
 
   -- The exchange
 
@@ -189,11 +190,11 @@ module _ (P : Program) (C : Sizes) where
   pub answer_plan : (id : ℕ) (v : View) (c g r q val old new : ℕ) (k : Source) → id ≡ front → v.draft ≡ Nothing → IsOperandOf (record { tag = g; value = None }) old → IsOperandOf (record { tag = g; value = Some val }) new
       → IsTenant (unit_of P C v.seen) r c g (HasLink k q) → IsLastAt (unit_of P C v.seen) r c → HasMade (unit_of P C v.seen) q val
       → Plans P C id v (Operand c k) (λ n. either (n == old) new n) (Answers P C r k old)
-  answer_plan id v c g r q val old new k is_front none old_is new_is asks last made between d legal apart caller mine draft n small content =
+  answer_plan id v c g r q val old new k is_front none old_is new_is asks last made between d legal same apart caller mine draft n small content =
       let h : List Entry = between ++ v.seen in
       let U : UpdateUnit = unit_of P C h in
       let own_none : own front between ≡ [] = subst (λ z. own z between ≡ []) is_front apart in
-      let i = tenant_stays P C r c g (HasLink k q) (λ by step t t' m f. link_on P C k q by step t t' m f) between v.seen legal asks in
+      let i = tenant_stays P C r c g (HasLink k q) (λ by step t t' m f. link_on P C k q by step t t' m f) between v.seen legal same asks in
       let m = made_stays P C q val between v.seen legal made in
       let l = front_stays P C (λ U. IsLastAt U r c) (λ U by s b a ok x. last_stays P C U by s b a ok r c x) between v.seen legal own_none last in
       let quiet : d ≡ Nothing = sym (mine is_front) ∙ none in
@@ -204,7 +205,7 @@ module _ (P : Program) (C : Sizes) where
       (subst (λ (es : List Event). MayMark (unit_of P C (map (entry id) es ++ h)) id (Asked r k)) (sym plan.kind.1) (is_front, inl (there id h legal r q val k i.tenant i.is i.fact.creator m)))
       (plan.kind.0, inl (hit, ap (λ (es : List Event). Marks (Asked r k) ∷ es) plan.kind.1)))
       (λ miss.
-      let here : last_of (recent U) c ≡ Some i.tenant = ap (last_of (recent U)) (sym i.station_is) ∙ last_of_recent U r i.tenant i.is (none_old P C h legal r) (λ x y lt e f. l x y lt e (f ∙ i.station_is)) in
+      let here : last_of (recent U) c ≡ Some i.tenant = ap (last_of (recent U)) (sym i.station_is) ∙ last_of_recent U r i.tenant i.is i.new (λ x y lt e f. l x y lt e (f ∙ i.station_is)) in
       let word : IsOperand (operand_word (recent U) c k) n = subst (λ (z : Draft). IsOperand (operand_word (recent (operand_unit P C U z k)) c k) n) quiet content in
       let its : IsOperandOf (record { tag = i.tenant.tag; value = (operand k i.tenant).value }) n = subst (λ o. IsOperand (operand_word_of k o) n) here word in
       let its' : IsOperandOf (record { tag = g; value = (operand k i.tenant).value }) n = subst (λ z. IsOperandOf (record { tag = z; value = (operand k i.tenant).value }) n) i.tag_is its in

@@ -63,6 +63,7 @@ module _ (P : Program) (C : Sizes) (id : ℕ) (h : List Entry) (d : Draft) (lega
     draft = d;
     mine = λ _. refl;
     legal = legal;
+    same = refl;
     proper = draft;
     here = content;
     else = λ y m _ _ z. z;
@@ -75,6 +76,7 @@ module _ (P : Program) (C : Sizes) (id : ℕ) (h : List Entry) (d : Draft) (lega
     draft = d;
     mine = λ _. refl;
     legal = (legal, may);
+    same = refl;
     proper = draft;
     here = content;
     else = λ y m _ _ z. z;
@@ -88,6 +90,7 @@ module _ (P : Program) (C : Sizes) (id : ℕ) (h : List Entry) (d : Draft) (lega
     draft = d;
     mine = λ _. refl;
     legal = (legal, may);
+    same = refl;
     proper = draft;
     here = content;
     else = λ y m _ _ z. z;
@@ -117,6 +120,7 @@ module _ (P : Program) (C : Sizes) (id : ℕ) (h : List Entry) (d : Draft) (lega
       draft = d;
       mine = λ _. refl;
       legal = (legal, (theirs, may));
+      same = refl;
       proper = (draft_stays P C U id (On p act) d who may (unit_sound P C h legal) draft).0;
       here =
           let on : eqb t.station t.station ≡ true = eqb_self t.station in

@@ -29,18 +29,18 @@ use Rattle.ruu_words.proofs.Stays.{any_stays, ready_stays, tenant_stays, was_ope
 
 module _ (P : Program) (C : Sizes) where
   pub look_plan : (id : ℕ) (v : View) (s : ℕ) → Plans P C id v (Station s) (λ n. n) (Looks P C s)
-  look_plan id v s between d legal apart caller mine draft n small content = looks P C id (between ++ v.seen) d legal draft (Station s) n content (Looks P C s n) (record { none = refl; word = content })
+  look_plan id v s between d legal same apart caller mine draft n small content = looks P C id (between ++ v.seen) d legal draft (Station s) n content (Looks P C s n) (record { none = refl; word = content })
 
   -- a silent look
   pub silent_plan : (id : ℕ) (v : View) (x : Place) → Plans P C id v x (λ n. n) (λ _ h d events. events ≡ [])
-  silent_plan id v x between d legal apart caller mine draft n small content = looks P C id (between ++ v.seen) d legal draft x n content (λ h d events. events ≡ []) refl
+  silent_plan id v x between d legal same apart caller mine draft n small content = looks P C id (between ++ v.seen) d legal draft x n content (λ h d events. events ≡ []) refl
 
   -- any word, as it is
   pub read_plan : (id : ℕ) (v : View) (x : Place) → Plans P C id v x (λ n. n) (Reads P C x)
-  read_plan id v x between d legal apart caller mine draft n small content = looks P C id (between ++ v.seen) d legal draft x n content (Reads P C x n) (record { none = refl; draft = d; proper = draft; content = content })
+  read_plan id v x between d legal same apart caller mine draft n small content = looks P C id (between ++ v.seen) d legal draft x n content (Reads P C x n) (record { none = refl; draft = d; proper = draft; content = content })
 
   pub peek_plan : (id : ℕ) (v : View) (s : ℕ) → v.role ≡ Worker → Plans P C id v (Station s) (λ n. n) (Peeks P C s)
-  peek_plan id v s role between d legal apart caller mine draft n small content =
+  peek_plan id v s role between d legal same apart caller mine draft n small content =
       let h : List Entry = between ++ v.seen in
       let worker : IsUnit id = subst (λ r. IsCaller r id) role caller in
       dite (ℕ_discrete (state_of n) 1)
@@ -52,7 +52,7 @@ module _ (P : Program) (C : Sizes) where
           let l = live_last C (unit_of P C h) s n word (omega arith) in
           record {
             p = l.p;
-            tenant = record { tenant = l.t; is = l.is; station_is = l.station; tag_is = sym (live_state l.t.tag n l.t.fate l.word).0; fact = record { live = l.live; fate = open_state l.t.tag n l.t.fate l.word e } };
+            tenant = record { tenant = l.t; is = l.is; new = l.new; station_is = l.station; tag_is = sym (live_state l.t.tag n l.t.fate l.word).0; fact = record { live = l.live; fate = open_state l.t.tag n l.t.fate l.word e } };
             added = refl;
           }
 
@@ -61,7 +61,7 @@ module _ (P : Program) (C : Sizes) where
     pub opened : n ≡ old → IsOpen i.tenant
     opened hit =
         let state : state_of n ≡ 1 = ap state_of hit ∙ old_is.state in
-        let here = the_tenant P C h legal p s g n i.tenant i.is i.station_is i.tag_is content (omega arith) (ap tag_of hit ∙ old_is.tag) in
+        let here = the_tenant P C h legal p s g n i.tenant i.is i.new i.station_is i.tag_is content (omega arith) (ap tag_of hit ∙ old_is.tag) in
         record { live = here.0; fate = open_state i.tenant.tag n i.tenant.fate here.1 state }
 
     pub closed : n ≢ old → IsClosed i.tenant
@@ -71,36 +71,36 @@ module _ (P : Program) (C : Sizes) where
 
   pub recheck_plan : (id : ℕ) (v : View) (s g old p : ℕ) → v.role ≡ Worker → IsStation (live_word g Open) old → IsTenant (unit_of P C v.seen) p s g IsAny → WasOpen P C v.seen p
       → Plans P C id v (Station s) (λ n. n) (Rechecks P C s g old)
-  recheck_plan id v s g old p role old_is seen before between d legal apart caller mine draft n small content =
+  recheck_plan id v s g old p role old_is seen before between d legal same apart caller mine draft n small content =
       let h : List Entry = between ++ v.seen in
       let worker : IsUnit id = subst (λ r. IsCaller r id) role caller in
-      let now = any_stays P C p s g between v.seen legal seen in
+      let now = any_stays P C p s g between v.seen legal same seen in
       dite (ℕ_discrete n old)
       (λ hit.
       let o = opened h legal p s g old n old_is now content hit in
       looks P C id h d legal draft (Station s) n content (Rechecks P C s g old n)
-      (inl (hit, record { p = p; tenant = record { tenant = now.tenant; is = now.is; station_is = now.station_is; tag_is = now.tag_is; fact = o }; added = refl })))
+      (inl (hit, record { p = p; tenant = record { tenant = now.tenant; is = now.is; new = now.new; station_is = now.station_is; tag_is = now.tag_is; fact = o }; added = refl })))
       (λ miss.
       let c = closed h legal p s g old n old_is now content miss in
       tells P C id h d legal draft (Station s) n (Moved p) (worker, was_open_stays P C between v.seen p before, record { tenant = now.tenant; is = now.is; fact = c }) content (Rechecks P C s g old n)
-      (inr (miss, record { p = p; tenant = record { tenant = now.tenant; is = now.is; station_is = now.station_is; tag_is = now.tag_is; fact = c }; added = refl })))
+      (inr (miss, record { p = p; tenant = record { tenant = now.tenant; is = now.is; new = now.new; station_is = now.station_is; tag_is = now.tag_is; fact = c }; added = refl })))
 
   pub claim_plan : (id : ℕ) (v : View) (s g old new p : ℕ) → v.role ≡ Worker → IsStation (live_word g Open) old → IsStation (live_word g (Busy id)) new → IsTenant (unit_of P C v.seen) p s g (IsReady P) → WasOpen P C v.seen p
       → Plans P C id v (Station s) (λ n. either (n == old) new n) (Claims P C s g old)
-  claim_plan id v s g old new p role old_is new_is ready before between d legal apart caller mine draft n small content =
+  claim_plan id v s g old new p role old_is new_is ready before between d legal same apart caller mine draft n small content =
       let h : List Entry = between ++ v.seen in
       let worker : IsUnit id = subst (λ r. IsCaller r id) role caller in
-      let now = tenant_stays P C p s g (IsReady P) (ready_stays P) between v.seen legal ready in
+      let now = tenant_stays P C p s g (IsReady P) (ready_stays P) between v.seen legal same ready in
       let t = now.tenant in
-      let any : IsTenant (unit_of P C h) p s g IsAny = record { tenant = t; is = now.is; station_is = now.station_is; tag_is = now.tag_is; fact = tt } in
+      let any : IsTenant (unit_of P C h) p s g IsAny = record { tenant = t; is = now.is; new = now.new; station_is = now.station_is; tag_is = now.tag_is; fact = tt } in
       exchanged n old new (λ z. Plan P C id h d (Station s) z (Claims P C s g old n))
       (λ hit.
       let o = opened h legal p s g old n old_is any content hit in
       subst (λ x. Plan P C id h d (Station x) new (Claims P C s g old n)) now.station_is
       (changes P C id h d legal draft p Claim t tt (inr tt) worker (record { tenant = t; is = now.is; may = record { live = o.live; fate = o.fate; needs = now.fact } }) now.is new
       (still_live t.standing (suc t.tag) t.tag (Busy id) t.made new o.live (subst (λ (z : ℕ). IsStation (live_word z (Busy id)) new) (sym now.tag_is) new_is))
-      (Claims P C s g old n) (inl (hit, record { p = p; tenant = record { tenant = t; is = now.is; station_is = now.station_is; tag_is = now.tag_is; fact = o }; added = refl }))))
+      (Claims P C s g old n) (inl (hit, record { p = p; tenant = record { tenant = t; is = now.is; new = now.new; station_is = now.station_is; tag_is = now.tag_is; fact = o }; added = refl }))))
       (λ miss.
       let c = closed h legal p s g old n old_is any content miss in
       tells P C id h d legal draft (Station s) n (Moved p) (worker, was_open_stays P C between v.seen p before, record { tenant = t; is = now.is; fact = c }) content (Claims P C s g old n)
-      (inr (miss, record { p = p; tenant = record { tenant = t; is = now.is; station_is = now.station_is; tag_is = now.tag_is; fact = c }; added = refl })))
+      (inr (miss, record { p = p; tenant = record { tenant = t; is = now.is; new = now.new; station_is = now.station_is; tag_is = now.tag_is; fact = c }; added = refl })))

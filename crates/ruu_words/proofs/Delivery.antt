@@ -25,7 +25,7 @@ use Rattle.inorder.proofs.Creators.{value_by}
 use Rattle.inorder.proofs.Moves.{Goes}
 use Rattle.inorder.proofs.OperandsShown.{operands_follow}
 use Rattle.inorder.proofs.Positions.{at_below, at_more, at_new}
-use Rattle.inorder.proofs.Recent.{IsRecentAt, none_old, recent_at}
+use Rattle.inorder.proofs.Recent.{IsRecentAt, recent_at}
 use Rattle.inorder.proofs.Serving.{made_stays, source_same}
 use Rattle.inorder.proofs.StationsShown.{stations_follow}
 use Rattle.inorder.proofs.Tags.{AreTagged, names_one, tagged}
@@ -153,7 +153,7 @@ module _ (P : Program) (C : Sizes) where
   module _ (id : ℕ) (h : List Entry) (d : Draft) (legal : IsLegal P C h) (draft : IsDraft P C (unit_of P C h) d) (s : ℕ) (k : Source) (g val old n new r q : ℕ) (old_is : IsOperandOf (record { tag = g; value = None }) old) (new_is : IsOperandOf (record { tag = g; value = Some val }) new)
       (i : IsTenant (unit_of P C h) r s g (HasLink k q)) (made : HasMade (unit_of P C h) q val) (hit : n ≡ old) (content : IsOperand (operand_word (recent (operand_unit P C (unit_of P C h) d k)) s k) n) where
     is_new : is_old (unit_of P C h) r ≡ false
-    is_new = none_old P C h legal r
+    is_new = i.new
 
     tag_found : i.tenant.tag ≡ tag_of n
     tag_found = i.tag_is ∙ (sym old_is.tag ∙ sym (ap tag_of hit))
@@ -184,6 +184,7 @@ module _ (P : Program) (C : Sizes) where
           draft = d;
           mine = λ _. refl;
           legal = (legal, (tt, may));
+          same = refl;
           proper = stay.0;
           here = behind_draft h legal r s t i.is is_new V d k new stay.1 last (subst (λ o. IsOperand o new) (sym here) new_is);
           else = λ y m _ other c. others id h d legal draft r s k t i.is i.station_is may y m other c;
@@ -192,12 +193,12 @@ module _ (P : Program) (C : Sizes) where
 
   pub deliver_plan : (id : ℕ) (v : View) (s : ℕ) (k : Source) (g val old new r q : ℕ) → IsOperandOf (record { tag = g; value = None }) old → IsOperandOf (record { tag = g; value = Some val }) new
       → IsTenant (unit_of P C v.seen) r s g (HasLink k q) → HasMade (unit_of P C v.seen) q val → Plans P C id v (Operand s k) (λ n. either (n == old) new n) (Delivers P C s k g old)
-  deliver_plan id v s k g val old new r q old_is new_is asks made between d legal apart caller mine draft n small content =
+  deliver_plan id v s k g val old new r q old_is new_is asks made between d legal same apart caller mine draft n small content =
       let h : List Entry = between ++ v.seen in
-      let i = tenant_stays P C r s g (HasLink k q) (λ by step t t' m f. link_on k q by step t t' m f) between v.seen legal asks in
+      let i = tenant_stays P C r s g (HasLink k q) (λ by step t t' m f. link_on k q by step t t' m f) between v.seen legal same asks in
       let m = made_stays P C q val between v.seen legal made in
       exchanged n old new (λ z. Plan P C id h d (Operand s k) z (Delivers P C s k g old n))
       (λ hit. delivers id h d legal draft s k g val old n new r q old_is new_is i m hit content (Delivers P C s k g old n)
-      (inl (hit, record { p = r; tenant = record { tenant = i.tenant; is = i.is; station_is = i.station_is; tag_is = i.tag_is; fact = tt }; added = refl })))
+      (inl (hit, record { p = r; tenant = record { tenant = i.tenant; is = i.is; new = i.new; station_is = i.station_is; tag_is = i.tag_is; fact = tt }; added = refl })))
       (λ miss. looks P C id h d legal draft (Operand s k) n content (Delivers P C s k g old n)
       (inr (miss, refl, λ r' t' is' station' tag'. settled h legal d draft s k g old n old_is content miss r' t' is' station' tag')))

@@ -16,6 +16,7 @@ use Rattle.inorder.specs.Tenants.{Open, Tenant, operand}
 use Rattle.inorder.specs.Unit.{front_half, Sizes, UpdateUnit, at, next_station, next_tag, recent}
 use Rattle.inorder.proofs.Creators.{are_older, at_cases}
 use Rattle.inorder.proofs.Letting.{LetStays, let_lasts}
+use Rattle.inorder.proofs.Recent.{old_more}
 use Rattle.inorder.proofs.Positions.{at_below, at_more}
 use Rattle.inorder.proofs.Serving.{not_linked}
 use Rattle.inorder.proofs.StationsShown.{stations_follow}
@@ -61,7 +62,7 @@ module _ (P : Program) (C : Sizes) (index predicted : ℕ) (first second : Suppl
       → next_tag C (recent (unit_of P C v.seen)) < last_tag → next_station C (recent (unit_of P C v.seen)) ≡ s
       → half_of w ≡ front_half P (unit_of P C v.seen).tenants → index_of w ≡ index → predicted_of w ≡ predicted
       → Plans P C id v (Info s) (λ _. w) (λ _. Drafts P C (Of InfoAlone index predicted first second))
-  info_plan id v s w is_front none may tag station_is half_is index_is predicted_is between d legal apart caller mine draft n small content =
+  info_plan id v s w is_front none may tag station_is half_is index_is predicted_is between d legal same apart caller mine draft n small content =
       let h : List Entry = between ++ v.seen in
       let U : UpdateUnit = unit_of P C h in
       let now = still_let P C index predicted first second between v.seen legal (subst (λ z. own z between ≡ []) is_front apart) may in
@@ -73,6 +74,7 @@ module _ (P : Program) (C : Sizes) (index predicted : ℕ) (first second : Suppl
         draft = Of InfoAlone index predicted first second;
         mine = λ other. absurd (other is_front);
         legal = legal;
+        same = refl;
         proper = (now.may, subst (λ z. z < last_tag) (sym new_tag) tag);
         here = info_here (new_in U) (recent U) s w at_s (record { half = half_is ∙ sym (ap (λ (t : Tenant). t.half) now.new); index = index_is; predicted = predicted_is });
         else = λ y k _ other c. go U at_s y k other (subst (λ (z : Draft). Content P C U z y k) was c);
@@ -89,7 +91,7 @@ module _ (P : Program) (C : Sizes) (index predicted : ℕ) (first second : Suppl
   pub first_plan : (id : ℕ) (v : View) (s w : ℕ) → id ≡ front → v.draft ≡ Of InfoAlone index predicted first second → MayLet P C (unit_of P C v.seen) index predicted first second → next_station C (recent (unit_of P C v.seen)) ≡ s
       → IsOperandOf (record { tag = (new_in (unit_of P C v.seen)).tag; value = (new_in (unit_of P C v.seen)).first.value }) w
       → Plans P C id v (Operand s First) (λ _. w) (λ _. Drafts P C (Of FirstOperand index predicted first second))
-  first_plan id v s w is_front was may station_is word between d legal apart caller mine draft n small content =
+  first_plan id v s w is_front was may station_is word between d legal same apart caller mine draft n small content =
       let h : List Entry = between ++ v.seen in
       let U : UpdateUnit = unit_of P C h in
       let now = still_let P C index predicted first second between v.seen legal (subst (λ z. own z between ≡ []) is_front apart) may in
@@ -101,6 +103,7 @@ module _ (P : Program) (C : Sizes) (index predicted : ℕ) (first second : Suppl
         draft = Of FirstOperand index predicted first second;
         mine = λ other. absurd (other is_front);
         legal = legal;
+        same = refl;
         proper = proper;
         here = operand_here (new_in U) (recent U) s First w at_s (subst (λ (t : Tenant). IsOperandOf (record { tag = t.tag; value = t.first.value }) w) (sym now.new) word);
         else = λ y k _ other c. go U at_s y k other (subst (λ (z : Draft). Content P C U z y k) d_is c);
@@ -117,7 +120,7 @@ module _ (P : Program) (C : Sizes) (index predicted : ℕ) (first second : Suppl
   pub second_plan : (id : ℕ) (v : View) (s w : ℕ) → id ≡ front → v.draft ≡ Of FirstOperand index predicted first second → MayLet P C (unit_of P C v.seen) index predicted first second → next_station C (recent (unit_of P C v.seen)) ≡ s
       → IsOperandOf (record { tag = (new_in (unit_of P C v.seen)).tag; value = (new_in (unit_of P C v.seen)).second.value }) w
       → Plans P C id v (Operand s Second) (λ _. w) (λ _. Drafts P C (Of BothOperands index predicted first second))
-  second_plan id v s w is_front was may station_is word between d legal apart caller mine draft n small content =
+  second_plan id v s w is_front was may station_is word between d legal same apart caller mine draft n small content =
       let h : List Entry = between ++ v.seen in
       let U : UpdateUnit = unit_of P C h in
       let now = still_let P C index predicted first second between v.seen legal (subst (λ z. own z between ≡ []) is_front apart) may in
@@ -129,6 +132,7 @@ module _ (P : Program) (C : Sizes) (index predicted : ℕ) (first second : Suppl
         draft = Of BothOperands index predicted first second;
         mine = λ other. absurd (other is_front);
         legal = legal;
+        same = refl;
         proper = proper;
         here = operand_here (new_in U) (recent U) s Second w at_s (subst (λ (t : Tenant). IsOperandOf (record { tag = t.tag; value = t.second.value }) w) (sym now.new) word);
         else = λ y k _ other c. go U at_s y k other (subst (λ (z : Draft). Content P C U z y k) d_is c);
@@ -145,14 +149,16 @@ module _ (P : Program) (C : Sizes) (index predicted : ℕ) (first second : Suppl
 -- Link words where a tenant is let
 
 module _ (P : Program) (C : Sizes) (index predicted : ℕ) (first second : Supply) where
-  link_let : (h : List Entry) → IsLegal P C h → (p c : ℕ) (k : Source) (n : ℕ) → IsLink (unit_of P C h).tenants p c k n → IsLink (new_tenant P C (unit_of P C h) index predicted first second ∷ (unit_of P C h).tenants) p c k n
+  link_let : (h : List Entry) → IsLegal P C h → (p c : ℕ) (k : Source) (n : ℕ) → IsLink (unit_of P C h) p c k n → IsLink (with_new P C (unit_of P C h) index predicted first second) p c k n
   link_let h legal p c k n l = record {
-    names = ⊎_elim (λ e. inl e) (λ (z : NamesLink us p c k n). inr (record {
+    names = ⊎_elim (λ e. inl e) (λ (z : NamesLink (unit_of P C h) p c k n). inr (record {
       q = z.q;
       r = z.r;
       producer = z.producer;
       consumer = z.consumer;
       is = record { producer_is = at_more t us z.q z.producer z.is.producer_is; consumer_is = at_more t us z.r z.consumer z.is.consumer_is; in_time = z.is.in_time; way = z.is.way; creator = z.is.creator };
+      producer_new = old_more (unit_of P C h) t z.q ∙ z.producer_new;
+      consumer_new = old_more (unit_of P C h) t z.r ∙ z.consumer_new;
       at_p = z.at_p;
       at_c = z.at_c;
       word = z.word;
@@ -176,7 +182,7 @@ module _ (P : Program) (C : Sizes) (index predicted : ℕ) (first second : Suppl
 
   pub let_plan : (id : ℕ) (v : View) (s w : ℕ) → id ≡ front → v.draft ≡ Of BothOperands index predicted first second → MayLet P C (unit_of P C v.seen) index predicted first second → next_station C (recent (unit_of P C v.seen)) ≡ s → IsStation (live_word (next_tag C (recent (unit_of P C v.seen))) Open) w
       → Plans P C id v (Station s) (λ _. w) (λ _. Lets P C index predicted first second)
-  let_plan id v s w is_front was may station_is word between d legal apart caller mine draft n small content =
+  let_plan id v s w is_front was may station_is word between d legal same apart caller mine draft n small content =
       let h : List Entry = between ++ v.seen in
       let U : UpdateUnit = unit_of P C h in
       let now = still_let P C index predicted first second between v.seen legal (subst (λ z. own z between ≡ []) is_front apart) may in
@@ -188,6 +194,7 @@ module _ (P : Program) (C : Sizes) (index predicted : ℕ) (first second : Suppl
         draft = Nothing;
         mine = λ other. absurd (other is_front);
         legal = (legal, ((is_front, proper.1), proper.0));
+        same = refl;
         proper = tt;
         here = subst (λ z. IsStation z w) (sym (after id h legal proper.0 s ∙ ap (λ b. cond b (live_word (next_tag C (recent U)) Open) (station_word C (recent U) s)) (eq-eqb (next_station C (recent U)) s at_s))) (subst (λ z. IsStation (live_word z Open) w) (sym now.tag) word);
         else = λ y k _ other c. go id h legal proper.0 at_s y k other (subst (λ (z : Draft). Content P C U z y k) d_is c);

@@ -75,7 +75,7 @@ module _ (P : Program) (C : Sizes) where
   -- A refusal that is true of what the back has seen
 
   pub over_plan : (id : ℕ) (v : View) (x : Place) → v.role ≡ Back → IsOver (unit_of P C v.seen) → Plans P C id v x (λ n. n) (λ _. Tells P C Over)
-  over_plan id v x role over between d legal apart caller mine draft n small content =
+  over_plan id v x role over between d legal same apart caller mine draft n small content =
       let h : List Entry = between ++ v.seen in
       let is_back : id ≡ back = subst (λ r. IsCaller r id) role caller in
       let now = unit_lasts P C IsOver (λ U by s a ok o. over_stays P C U by s a o) between v.seen legal over in
@@ -84,10 +84,10 @@ module _ (P : Program) (C : Sizes) where
   -- a load with its address cannot retire before the back has settled it
   pub load_waits_plan : (id : ℕ) (v : View) (x : Place) (p s g index a : ℕ) → v.role ≡ Back → IsHead (unit_of P C v.seen) p (HasAddr s g index a) → kind (instr_of P index).op ≡ Loads
       → Plans P C id v x (λ n. n) (λ _. Tells P C NotDone)
-  load_waits_plan id v x p s g index a role head is_load between d legal apart caller mine draft n small content =
+  load_waits_plan id v x p s g index a role head is_load between d legal same apart caller mine draft n small content =
       let h : List Entry = between ++ v.seen in
       let is_back : id ≡ back = subst (λ r. IsCaller r id) role caller in
-      let i = back_stays P C (λ U. IsHead U p (HasAddr s g index a)) (λ U by st b may ok q. addr_head_stays P C U by st b may ok p s g index a q) between v.seen legal (subst (λ z. own z between ≡ []) is_back apart) head in
+      let i = back_stays P C (λ U. IsHead U p (HasAddr s g index a)) (λ U by st b may ok q. addr_head_stays P C U by st b may ok p s g index a q) between v.seen legal same (subst (λ z. own z between ≡ []) is_back apart) head in
       let t : Tenant = i.tenant in
       let k : kind_of P t ≡ Loads = ap (λ z. kind (instr_of P z).op) i.fact.index_is ∙ is_load in
       tells P C id h d legal draft x n NotDone (is_back, not_done h p t i.is i.live i.oldest i.goes_on (λ c. no_store (kind_of P t) t.second.value t.fate k i.fact.fate c)) content (Tells P C NotDone) (record { added = refl })
@@ -96,13 +96,13 @@ module _ (P : Program) (C : Sizes) where
       no_store k b f e g c = let c' : CanRetire k b (Addr a) = subst (CanRetire k b) g c in let x = sym e ∙ c'.0 in cc x
 
   pub head_plan : (id : ℕ) (v : View) (s : ℕ) → v.role ≡ Back → head_station C (unit_of P C v.seen) ≡ s → GoesOn (unit_of P C v.seen) → Plans P C id v (Station s) (λ n. n) (Heads P C s)
-  head_plan id v s role at_s goes_on between d legal apart caller mine draft n small content =
+  head_plan id v s role at_s goes_on between d legal same apart caller mine draft n small content =
       let h : List Entry = between ++ v.seen in
       let U : UpdateUnit = unit_of P C h in
       let is_back : id ≡ back = subst (λ r. IsCaller r id) role caller in
       let none : own back between ≡ [] = subst (λ z. own z between ≡ []) is_back apart in
-      let here : head_station C U ≡ s = back_stays P C (λ U. head_station C U ≡ s) (λ U by st b a ok q. head_stays P C U by st b a ∙ q) between v.seen legal none at_s in
-      let on : GoesOn U = back_stays P C GoesOn (λ U by st b a ok q. goes_on_stays P C U by st b a ok q) between v.seen legal none goes_on in ⊎_elim
+      let here : head_station C U ≡ s = back_stays P C (λ U. head_station C U ≡ s) (λ U by st b a ok q. head_stays P C U by st b a ∙ q) between v.seen legal same none at_s in
+      let on : GoesOn U = back_stays P C GoesOn (λ U by st b a ok q. goes_on_stays P C U by st b a ok q) between v.seen legal same none goes_on in ⊎_elim
       (λ (empty : AllByRecursion IsNotLive U.tenants).
       tells P C id h d legal draft (Station s) n Empty (is_back, record { goes_on = all_from IsNoRetiredStop U.tenants on; none = empty }) content (Heads P C s n)
       (inl (free_word C (recent U) s n (all_newest IsNotLive U.fresh U.tenants empty) content, refl)))
@@ -120,10 +120,10 @@ module _ (P : Program) (C : Sizes) where
   -- the data of the oldest store
   pub data_plan : (id : ℕ) (v : View) (p s g index a : ℕ) → v.role ≡ Back → IsHead (unit_of P C v.seen) p (HasAddr s g index a)
       → Plans P C id v (Operand s Second) (λ n. n) (ReadsData P C p)
-  data_plan id v p s g index a role head between d legal apart caller mine draft n small content =
+  data_plan id v p s g index a role head between d legal same apart caller mine draft n small content =
       let h : List Entry = between ++ v.seen in
       let is_back : id ≡ back = subst (λ r. IsCaller r id) role caller in
-      let i = back_stays P C (λ U. IsHead U p (HasAddr s g index a)) (λ U by st b may ok q. addr_head_stays P C U by st b may ok p s g index a q) between v.seen legal (subst (λ z. own z between ≡ []) is_back apart) head in
+      let i = back_stays P C (λ U. IsHead U p (HasAddr s g index a)) (λ U by st b may ok q. addr_head_stays P C U by st b may ok p s g index a q) between v.seen legal same (subst (λ z. own z between ≡ []) is_back apart) head in
       let t : Tenant = i.tenant in
       let says = its_operand P C h legal (recent (operand_unit P C (unit_of P C h) d Second)) (among P C h legal d Second) s Second n content p t i.is (live_is_recent P C h legal p t i.is i.live) i.fact.station_is in
       let tagged : t.tag ≡ tag_of n = tag_here h d legal draft s n content p t i.is i.fact.station_is i.live in

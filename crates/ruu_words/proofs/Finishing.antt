@@ -47,21 +47,21 @@ module _ (P : Program) (C : Sizes) where
   pub finish_plan : (id : ℕ) (v : View) (s g old new p predicted : ℕ) (outcome : Outcome) → v.role ≡ Worker → IsStation (live_word g (Busy id)) old → IsStation (live_word g (fate_of predicted outcome)) new
       → IsTenant (unit_of P C v.seen) p s g (HasJob P id predicted outcome)
       → Plans P C id v (Station s) (λ n. either (n == old) new n) (Finishes P C s g outcome old)
-  finish_plan id v s g old new p predicted outcome role old_is new_is job between d legal apart caller mine draft n small content =
+  finish_plan id v s g old new p predicted outcome role old_is new_is job between d legal same apart caller mine draft n small content =
       let h : List Entry = between ++ v.seen in
       let worker : IsUnit id = subst (λ r. IsCaller r id) role caller in
-      let now = tenant_stays_apart P C id p s g (HasJob P id predicted outcome) (λ U by step t t' other theirs may m f. job_stays P id predicted outcome by step t t' other m f) between v.seen legal apart job in
+      let now = tenant_stays_apart P C id p s g (HasJob P id predicted outcome) (λ U by step t t' other theirs may m f. job_stays P id predicted outcome by step t t' other m f) between v.seen legal same apart job in
       let t : Tenant = now.tenant in
       exchanged n old new (λ z. Plan P C id h d (Station s) z (Finishes P C s g outcome old n))
       (λ hit.
       let word : IsStation (station_word C (recent (unit_of P C h)) s) old = subst (IsStation (station_word C (recent (unit_of P C h)) s)) hit content in
       let state = old_is.state in
-      let here = the_tenant P C h legal p s g old t now.is now.station_is now.tag_is word (omega arith) old_is.tag in
+      let here = the_tenant P C h legal p s g old t now.is now.new now.station_is now.tag_is word (omega arith) old_is.tag in
       let fits : IsStation (live_word t.tag (fate_of t.predicted outcome)) new = subst (λ (z : ℕ × ℕ). IsStation (live_word z.0 (fate_of z.1 outcome)) new) (λ i. (sym now.tag_is i, sym now.fact.predicted_is i)) new_is in
       subst (λ x. Plan P C id h d (Station x) new (Finishes P C s g outcome old n)) now.station_is
       (changes P C id h d legal draft p Finish t tt (inr tt) worker (record { tenant = t; is = now.is; may = record { live = here.0; fate = now.fact.held.fate } }) now.is new
       (subst (λ o. IsStation (word_of (suc t.tag) (Some (finished t o))) new) (sym now.fact.computes) (finished_word t outcome (suc t.tag) new here.0 fits))
-      (Finishes P C s g outcome old n) (inl (hit, record { p = p; tenant = record { tenant = t; is = now.is; station_is = now.station_is; tag_is = now.tag_is; fact = now.fact.computes }; added = refl }))))
+      (Finishes P C s g outcome old n) (inl (hit, record { p = p; tenant = record { tenant = t; is = now.is; new = now.new; station_is = now.station_is; tag_is = now.tag_is; fact = now.fact.computes }; added = refl }))))
       (λ miss.
       let gone : t.standing ≡ Squashed = ⊎_elim
       (λ (live : t.standing ≡ Live).
@@ -69,7 +69,7 @@ module _ (P : Program) (C : Sizes) where
       absurd (miss (one_live g (Busy id) n old (subst (λ (z : ℕ × Fate). IsStation (live_word z.0 z.1) n) (λ i. (now.tag_is i, now.fact.held.fate i)) l) old_is)))
       (λ e. e) now.fact.held.stays in
       tells P C id h d legal draft (Station s) n (Stale p) (unit_or_back worker, record { tenant = t; is = now.is; fact = gone }) content (Finishes P C s g outcome old n)
-      (inr (miss, record { p = p; tenant = record { tenant = t; is = now.is; station_is = now.station_is; tag_is = now.tag_is; fact = gone }; added = refl })))
+      (inr (miss, record { p = p; tenant = record { tenant = t; is = now.is; new = now.new; station_is = now.station_is; tag_is = now.tag_is; fact = gone }; added = refl })))
     where
       unit_or_back : IsUnit id → IsUnitOrBack id
       unit_or_back w = omega arith

@@ -1,5 +1,5 @@
 -- A step on one place that adds events of its caller, and may change the front's let in progress, keeps the rule.
-use Rattle.std.proofs.Common.{◌≡◌, ◌≢◌, ◌⊎◌, ℕ, zero, suc, ◌+◌, ◌*◌, ◌<◌, ◌≤◌, List, [], ◌∷◌, ◌++◌, map, length, slice_index, slice_set, sym, refl, ap, ◌∙◌, subst, inl, inr, ⊎_elim, arith, length-set}
+use Rattle.std.proofs.Common.{◌≡◌, ◌≢◌, ℕ, zero, suc, ◌<◌, List, [], ◌∷◌, ◌++◌, map, length, slice_index, slice_set, sym, refl, ap, ◌∙◌, subst, inl, inr, ⊎_elim, arith, length-set}
 use mathlib.Core.Option.{some, some-ne-none}
 use lib.ListN.{get_elem?}
 use Rattle.atomic_table.specs.Table.{Allows, Me, State, Step, keeps, stepped}
@@ -7,16 +7,15 @@ use Rattle.atomic_table.proofs.Lists.{at_set}
 use Rattle.isa.specs.Programs.{Program}
 use Rattle.inorder.specs.declared.history.Entry.{Entry}
 use Rattle.inorder.specs.declared.history.Event.{Event}
-use Rattle.inorder.specs.History.{IsLegal, StartsWith, entry, front, own, unit_of}
+use Rattle.inorder.specs.History.{IsLegal, StartsWith, entry, front, own, renewals, unit_of}
 use Rattle.inorder.specs.Unit.{Sizes}
 use Rattle.ruu_words.specs.declared.place.Place.{Place}
 use Rattle.ruu_words.specs.declared.rule.Draft.{Draft}
-use Rattle.ruu_words.specs.declared.rule.Heirs.{Heirs}
 use Rattle.ruu_words.specs.declared.rule.View.{View}
 use Rattle.ruu_words.specs.Content.{Content, IsDraft}
 use Rattle.ruu_words.specs.Places.{IsPlace, index}
-use Rattle.ruu_words.specs.Rule.{Fits, IsAlive, IsCaller, IsHeir, IsKept, IsOf, Keeps, Tells}
-use Rattle.inorder.proofs.Histories.{own-append, own_none, own_of_other, starts_longer, starts_same}
+use Rattle.ruu_words.specs.Rule.{Fits, IsAlive, IsCaller, IsKept, IsOf, Keeps, Tells}
+use Rattle.inorder.proofs.Histories.{own-append, own_none, own_of_other, renewals_more, starts_longer, starts_more, starts_same}
 use Rattle.ruu_words.proofs.Heirs.{own_number}
 use Rattle.ruu_words.proofs.Placing.{written}
 
@@ -31,6 +30,7 @@ pub record Plan (P : Program) (C : Sizes) (id : ℕ) (h : List Entry) (d : Draft
   pub draft : Draft
   pub mine : id ≢ front → draft ≡ d
   pub legal : IsLegal P C (map (entry id) events ++ h)
+  pub same : renewals (map (entry id) events ++ h) ≡ renewals h
   pub proper : IsDraft P C (unit_of P C (map (entry id) events ++ h)) draft
   pub here : Content P C (unit_of P C (map (entry id) events ++ h)) draft x new
   pub else : (y : Place) (n : ℕ) → IsPlace C.ring y → y ≢ x → Content P C (unit_of P C h) d y n → Content P C (unit_of P C (map (entry id) events ++ h)) draft y n
@@ -43,7 +43,7 @@ stepped_view v h d = record { role = v.role; by = v.by; heirs = v.heirs; seen = 
 module _ (P : Program) (C : Sizes) where
   -- The one obligation of each kind of step: a plan at each history that goes on from what was seen, with no entry of the caller in between
   abbrev pub Plans : ℕ → View → Place → (ℕ → ℕ) → (ℕ → List Entry → Draft → List Event → Type 0) → Type 0
-  Plans id v x f Kind = (between : List Entry) (d : Draft) → IsLegal P C (between ++ v.seen) → own id between ≡ [] → IsCaller v.role id → (id ≡ front → v.draft ≡ d) → IsDraft P C (unit_of P C (between ++ v.seen)) d
+  Plans id v x f Kind = (between : List Entry) (d : Draft) → IsLegal P C (between ++ v.seen) → renewals (between ++ v.seen) ≡ renewals v.seen → own id between ≡ [] → IsCaller v.role id → (id ≡ front → v.draft ≡ d) → IsDraft P C (unit_of P C (between ++ v.seen)) d
       → (n : ℕ) → n < 18446744073709551616 → Content P C (unit_of P C (between ++ v.seen)) d x n → Plan P C id (between ++ v.seen) d x (f n) (Kind n)
 
 module _ (P : Program) (C : Sizes) (opening : List Entry) where
@@ -56,6 +56,7 @@ module _ (P : Program) (C : Sizes) (opening : List Entry) where
       let f = k.views id v here in
       record {
         legal = p.legal;
+        one_table = p.same ∙ k.one_table;
         wide = length-set s.words (index C.ring x) new ∙ k.wide;
         words = λ y place. ⊎_elim
             (λ (t : (x ≡ y) × (slice_index (slice_set s.words (index C.ring x) new) (index C.ring y) ≡ new)).
@@ -114,10 +115,12 @@ module _ (P : Program) (C : Sizes) (opening : List Entry) where
       let between : List Entry = fit.begins.more in
       let is : h ≡ between ++ v.seen = fit.begins.is in
       let k' : IsKept P C opening s (between ++ v.seen) d = subst (λ (x : List Entry). IsKept P C opening s x d) is k in
+      let same : renewals (between ++ v.seen) ≡ renewals v.seen =
+      (let all = k'.one_table in let less = starts_more v.seen opening (fit.opened alive) in let more = renewals_more between v.seen in omega (arith, all, less, more)) in
       let apart : own by between ≡ [] = own_none by between v.seen (sym (ap (λ (x : List Entry). own by x) is) ∙ fit.all_own alive) in
       let n : ℕ = slice_index s.words (index C.ring x) in
       let mine : by ≡ front → v.draft ≡ d = k.draft id v here alive in
-      let p : Plan P C by (between ++ v.seen) d x (f n) (Kind (tell n)) = plans between d k'.legal apart fit.caller mine k'.proper n small (k'.words x fits) in
+      let p : Plan P C by (between ++ v.seen) d x (f n) (Kind (tell n)) = plans between d k'.legal same apart fit.caller mine k'.proper n small (k'.words x fits) in
       let all : List Entry = map (entry by) p.events ++ (between ++ v.seen) in
       let done : IsKept P C opening (stepped s (index C.ring x) (f n) id me.1 (stepped_view v all p.draft) keeps) all p.draft = kept_after id s (between ++ v.seen) d k' v here x (f n) fits (Kind (tell n)) p me.1 alive (starts_longer v.seen opening between (fit.opened alive)) in (
         stepped_view v all p.draft,
@@ -131,6 +134,7 @@ module _ (P : Program) (C : Sizes) (opening : List Entry) where
             not_own = apart;
             is = refl;
             legal = p.legal;
+            same = p.same ∙ same;
             role = refl;
             by_is = refl;
             heirs_are = refl;

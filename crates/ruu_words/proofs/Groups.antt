@@ -17,6 +17,7 @@ use Rattle.inorder.proofs.Grows.{sound_mid}
 use Rattle.inorder.proofs.Kept.{parts}
 use Rattle.inorder.proofs.Letting.{IsBesides, let_lasts}
 use Rattle.inorder.proofs.Moves.{Goes, IsNoLink, changed_goes, came, goes}
+use Rattle.inorder.proofs.Recent.{old_kept}
 use Rattle.inorder.proofs.Sound.{IsSound}
 use Rattle.inorder.proofs.Tags.{IsNewPlace, IsOldPlace, cut}
 use Rattle.ruu_words.specs.declared.rule.Draft.{Draft}
@@ -116,9 +117,9 @@ WasLinked P C U by a act p c k =
     → producer.station ≡ p → consumer'.station ≡ c → (b : Bool) × ((operand k consumer).way ≡ Linked b)
 
 pub link_stays : (P : Program) (C : Sizes) (U : UpdateUnit) (by a : ℕ) (act : Act) → Allowed P C U by (On a act) → IsSound P U.tenants → (p c : ℕ) (k : Source) (n : ℕ)
-    → WasLinked P C U by a act p c k → IsLink U.tenants p c k n → IsLink (applied P C U by (On a act)).tenants p c k n
+    → WasLinked P C U by a act p c k → IsLink U p c k n → IsLink (applied P C U by (On a act)) p c k n
 link_stays P C U by a act may ok p c k n back l = record {
-  names = ⊎_elim (λ e. inl e) (λ (z : NamesLink U.tenants p c k n).
+  names = ⊎_elim (λ e. inl e) (λ (z : NamesLink U p c k n).
       let i = z.is in
       let x = goes P C U by (On a act) may ok z.q z.producer i.producer_is in
       let y = goes P C U by (On a act) may ok z.r z.consumer i.consumer_is in
@@ -128,6 +129,8 @@ link_stays P C U by a act may ok p c k n back l = record {
         producer = x.tenant;
         consumer = y.tenant;
         is = record { producer_is = x.is; consumer_is = y.is; in_time = i.in_time; way = y.goes.linked k i.in_time i.way; creator = y.goes.creator k ∙ i.creator };
+        producer_new = old_kept P C U by (On a act) (λ e. cc e) may z.q ∙ z.producer_new;
+        consumer_new = old_kept P C U by (On a act) (λ e. cc e) may z.r ∙ z.consumer_new;
         at_p = x.goes.station ∙ z.at_p;
         at_c = y.goes.station ∙ z.at_c;
         word = z.word ∙ (λ j. pack_link (sym x.goes.tag j) (sym y.goes.tag j));
@@ -147,5 +150,5 @@ link_stays P C U by a act may ok p c k n back l = record {
       l.stands q r x.tenant y.tenant was_linked (y.goes.live live) (sym x.goes.station ∙ e) (sym y.goes.station ∙ f) ∙ (λ j. pack_link (sym x.goes.tag j) (sym y.goes.tag j));
 }
 
-pub link_other : (P : Program) (C : Sizes) (U : UpdateUnit) (by a : ℕ) (act : Act) → IsNoLink (On a act) → Allowed P C U by (On a act) → IsSound P U.tenants → (p c : ℕ) (k : Source) (n : ℕ) → IsLink U.tenants p c k n → IsLink (applied P C U by (On a act)).tenants p c k n
+pub link_other : (P : Program) (C : Sizes) (U : UpdateUnit) (by a : ℕ) (act : Act) → IsNoLink (On a act) → Allowed P C U by (On a act) → IsSound P U.tenants → (p c : ℕ) (k : Source) (n : ℕ) → IsLink U p c k n → IsLink (applied P C U by (On a act)) p c k n
 link_other P C U by a act plain may ok p c k n l = link_stays P C U by a act may ok p c k n (λ q r producer consumer consumer' is i move e f. (i.in_time, sym (move.way plain k) ∙ i.way)) l

@@ -6,6 +6,7 @@ use Rattle.inorder.specs.declared.history.Entry.{Entry}
 use Rattle.inorder.specs.declared.history.Event.TheVariants.{Does}
 use Rattle.inorder.specs.declared.history.Step.TheVariants.{On}
 use Rattle.inorder.specs.Callers.{CanLeave, CanMend, CanSquash}
+use Rattle.inorder.proofs.Recent.{live_is_recent}
 use Rattle.inorder.specs.History.{IsLegal, back, front, own, unit_of}
 use Rattle.inorder.specs.StationWords.{IsFree, left_value, live_word, station_word, word_of}
 use Rattle.inorder.specs.Steps.{made_at_end, mended_as}
@@ -42,14 +43,14 @@ module _ (P : Program) (C : Sizes) where
       → IsTenant (unit_of P C h) p s (tag_of n) (λ t. IsStation (live_word t.tag t.fate) n)
   found h legal p s n t is station_is live content =
       let w = its_word P C h legal p s n t is station_is live content in
-      record { tenant = t; is = is; station_is = station_is; tag_is = sym (live_state t.tag n t.fate w).0; fact = w }
+      record { tenant = t; is = is; new = live_is_recent P C h legal p t is live; station_is = station_is; tag_is = sym (live_state t.tag n t.fate w).0; fact = w }
 
   pub squash_plan : (id : ℕ) (v : View) (s g p new : ℕ) → id ≡ front → v.draft ≡ Nothing → IsTenant (unit_of P C v.seen) p s g IsAny → CanSquash (unit_of P C v.seen) p
       → IsStation (record { tag = suc g; state = IsFree; value = None }) new → Plans P C id v (Station s) (λ _. new) (Writes P C (Does (On p Squash)) p s)
-  squash_plan id v s g p new is_front none named can word between d legal apart caller mine draft n small content =
+  squash_plan id v s g p new is_front none named can word between d legal same apart caller mine draft n small content =
       let h : List Entry = between ++ v.seen in
       let U : UpdateUnit = unit_of P C h in
-      let i = any_stays P C p s g between v.seen legal named in
+      let i = any_stays P C p s g between v.seen legal same named in
       let c = front_stays P C (λ U. CanSquash U p) (λ U by s b a ok q. squash_stays P C U by s b a ok p q) between v.seen legal (subst (λ z. own z between ≡ []) is_front apart) can in
       let t : Tenant = c.tenant.tenant in
       let one : i.tenant ≡ t = one_at P C h legal p i.tenant t i.is c.tenant.is in
@@ -62,10 +63,10 @@ module _ (P : Program) (C : Sizes) where
 
   pub mend_plan : (id : ℕ) (v : View) (s g p x new : ℕ) → id ≡ front → v.draft ≡ Nothing → IsTenant (unit_of P C v.seen) p s g IsAny → CanMend (unit_of P C v.seen) p x
       → IsStation (live_word g (Done x)) new → Plans P C id v (Station s) (λ _. new) (Writes P C (Does (On p Mend)) p s)
-  mend_plan id v s g p x new is_front none named can word between d legal apart caller mine draft n small content =
+  mend_plan id v s g p x new is_front none named can word between d legal same apart caller mine draft n small content =
       let h : List Entry = between ++ v.seen in
       let U : UpdateUnit = unit_of P C h in
-      let i = any_stays P C p s g between v.seen legal named in
+      let i = any_stays P C p s g between v.seen legal same named in
       let c = front_stays P C (λ U. CanMend U p x) (λ U by s b a ok q. mend_stays P C U by s b a ok p x q) between v.seen legal (subst (λ z. own z between ≡ []) is_front apart) can in
       let t : Tenant = c.miss.tenant in
       let one : i.tenant ≡ t = one_at P C h legal p i.tenant t i.is c.miss.is in
@@ -81,12 +82,12 @@ module _ (P : Program) (C : Sizes) where
   -- m is what is kept of a stop
   pub retire_plan : (id : ℕ) (v : View) (s g p m new : ℕ) (f : Fate) → v.role ≡ Back → m < 2 ^ 32 → IsTenant (unit_of P C v.seen) p s g IsAny → CanLeave P (unit_of P C v.seen) p f
       → IsStation (record { tag = suc g; state = IsFree; value = left_value f (Some m) }) new → Plans P C id v (Station s) (λ _. new) (Writes P C (Does (On p (Retire m))) p s)
-  retire_plan id v s g p m new f role word_m named can word between d legal apart caller mine draft n small content =
+  retire_plan id v s g p m new f role word_m named can word between d legal same apart caller mine draft n small content =
       let h : List Entry = between ++ v.seen in
       let U : UpdateUnit = unit_of P C h in
       let is_back : id ≡ back = subst (λ r. IsCaller r id) role caller in
-      let i = any_stays P C p s g between v.seen legal named in
-      let c = back_stays P C (λ U. CanLeave P U p f) (λ U by s b a ok q. leave_stays P C U by s b a ok p f q) between v.seen legal (subst (λ z. own z between ≡ []) is_back apart) can in
+      let i = any_stays P C p s g between v.seen legal same named in
+      let c = back_stays P C (λ U. CanLeave P U p f) (λ U by s b a ok q. leave_stays P C U by s b a ok p f q) between v.seen legal same (subst (λ z. own z between ≡ []) is_back apart) can in
       let t : Tenant = c.tenant in
       let one : i.tenant ≡ t = one_at P C h legal p i.tenant t i.is c.is in
       let at_s : t.station ≡ s = ap (λ (x : Tenant). x.station) (sym one) ∙ i.station_is in

@@ -1,5 +1,5 @@
 -- The store and the load of a link word.
-use Rattle.std.proofs.Common.{◌≡◌, ◌≢◌, ℕ, List, [], ◌∷◌, ◌++◌, Some, refl, sym, ap, ◌∙◌, subst, inl, inr, ⊎_elim, arith}
+use Rattle.std.proofs.Common.{◌≡◌, ◌≢◌, ℕ, false, List, [], ◌∷◌, ◌++◌, Some, refl, sym, ap, ◌∙◌, subst, inl, inr, ⊎_elim, arith}
 use Rattle.std.specs.Prelude.{is_none}
 use mathlib.Core.Logic.{dite}
 use native.Mathlib.Decide.{ℕ_discrete, dec_lt}
@@ -17,12 +17,12 @@ use Rattle.inorder.specs.History.{IsLegal, IsTheirAct, IsTheirs, front, own, tak
 use Rattle.inorder.specs.Legal.{Allowed, applied}
 use Rattle.inorder.specs.Steps.{linked}
 use Rattle.inorder.specs.Tenants.{Live, Tenant, operand}
-use Rattle.inorder.specs.Unit.{Sizes, UpdateUnit, at, older, recent, value_of}
+use Rattle.inorder.specs.Unit.{Sizes, UpdateUnit, at, is_old, older, recent, value_of}
 use Rattle.inorder.proofs.Letting.{IsBesides}
 use Rattle.inorder.proofs.Moves.{Goes, IsActed, IsLeft, IsNoLink, IsNoLinkAct, at_changed, came, goes}
 use Rattle.inorder.proofs.OperandsShown.{operands_follow}
 use Rattle.inorder.proofs.Positions.{younger_at}
-use Rattle.inorder.proofs.Recent.{live_is_last, old_are_gone}
+use Rattle.inorder.proofs.Recent.{live_is_last, old_are_gone, old_kept}
 use Rattle.inorder.proofs.Serving.{linked_creator, linked_way, other_way, source_same}
 use Rattle.inorder.proofs.Sound.{IsSound}
 use Rattle.inorder.proofs.Stations.{is_ring, stands}
@@ -47,7 +47,7 @@ linked_name ts Second t = (refl, refl)
 
 no_link : (C : Sizes) (U : UpdateUnit) (by : ℕ) (s : Step) → by ≢ front → IsTheirs C U by s → IsNoLink s
 no_link C U by (Let index predicted first second) ne h = tt
-no_link C U by Renew ne h = absurd h
+no_link C U by Renew ne h = tt
 no_link C U by (On p act) ne h = go act h
   where
     go : (act : Act) → IsTheirAct by act → IsNoLinkAct act
@@ -67,12 +67,12 @@ last_stays P C U by (On p act) b a ok r c l = λ q u lt is e. let was = came P C
 
 module _ (P : Program) (C : Sizes) where
   pub link_read_plan : (id : ℕ) (v : View) (p c : ℕ) (k : Source) → Plans P C id v (LinkPlace p c k) (λ n. n) (ReadsLink P C p c k)
-  link_read_plan id v p c k between d legal apart caller mine draft n small content = looks P C id (between ++ v.seen) d legal draft (LinkPlace p c k) n content (ReadsLink P C p c k n) (record { none = refl; word = content })
+  link_read_plan id v p c k between d legal same apart caller mine draft n small content = looks P C id (between ++ v.seen) d legal draft (LinkPlace p c k) n content (ReadsLink P C p c k n) (record { none = refl; word = content })
 
   ask_stays : (k : Source) (q : ℕ) (by : ℕ) (s : Step) (t t' : Tenant) → IsNoLink s → Goes by s t t' → CanAsk k q t → CanAsk k q t'
   ask_stays k q by s t t' plain m a = record { way = m.way plain k ∙ a.way; creator = m.creator k ∙ a.creator }
 
-  module _ (id : ℕ) (h : List Entry) (legal : IsLegal P C h) (r c q p : ℕ) (k : Source) (t u : Tenant) (is : at (unit_of P C h).tenants r ≡ Some t) (there : at (unit_of P C h).tenants q ≡ Some u) (can : CanAsk k q t) (at_c : t.station ≡ c) (at_p : u.station ≡ p) (last : IsLastAt (unit_of P C h) r c) (may : Allowed P C (unit_of P C h) id (On r (Link k))) where
+  module _ (id : ℕ) (h : List Entry) (legal : IsLegal P C h) (r c q p : ℕ) (k : Source) (t u : Tenant) (is : at (unit_of P C h).tenants r ≡ Some t) (there : at (unit_of P C h).tenants q ≡ Some u) (t_new : is_old (unit_of P C h) r ≡ false) (u_new : is_old (unit_of P C h) q ≡ false) (can : CanAsk k q t) (at_c : t.station ≡ c) (at_p : u.station ≡ p) (last : IsLastAt (unit_of P C h) r c) (may : Allowed P C (unit_of P C h) id (On r (Link k))) where
     abbrev U : UpdateUnit
     U = unit_of P C h
 
@@ -101,7 +101,7 @@ module _ (P : Program) (C : Sizes) where
               absurd (younger_at (λ z. z.station ≢ y.station) us x (live_is_last C U ring (old_are_gone P C h legal) x y at_x live) r t (omega arith) is (at_c ∙ sym e)))
         ])
 
-    pub new_word : IsLink V.tenants p c k (pack_link u.tag t.tag)
+    pub new_word : IsLink V p c k (pack_link u.tag t.tag)
     new_word =
         let g = goes P C U id (On r (Link k)) may (unit_sound P C h legal) q u there in
         let name = linked_name (older us r) k t in
@@ -112,6 +112,8 @@ module _ (P : Program) (C : Sizes) where
             producer = g.tenant;
             consumer = linked (older us r) t k;
             is = record { producer_is = g.is; consumer_is = here; in_time = is_none (value_of (older us r) (operand k t).creator); way = linked_way (older us r) k t; creator = linked_creator (older us r) k k t ∙ can.creator };
+            producer_new = old_kept P C U id (On r (Link k)) (λ e. cc e) may q ∙ u_new;
+            consumer_new = old_kept P C U id (On r (Link k)) (λ e. cc e) may r ∙ t_new;
             at_p = g.goes.station ∙ at_p;
             at_c = name.0 ∙ at_c;
             word = λ i. pack_link (sym g.goes.tag i) (sym name.1 i);
@@ -126,7 +128,7 @@ module _ (P : Program) (C : Sizes) where
         }
 
     -- another link word
-    pub other_word : (p2 c2 : ℕ) (k2 : Source) (n : ℕ) → LinkPlace p2 c2 k2 ≢ LinkPlace p c k → IsLink us p2 c2 k2 n → IsLink V.tenants p2 c2 k2 n
+    pub other_word : (p2 c2 : ℕ) (k2 : Source) (n : ℕ) → LinkPlace p2 c2 k2 ≢ LinkPlace p c k → IsLink U p2 c2 k2 n → IsLink V p2 c2 k2 n
     other_word p2 c2 k2 n other l = link_stays P C U id r (Link k) may (unit_sound P C h legal) p2 c2 k2 n back l
       where
         back : WasLinked P C U id r (Link k) p2 c2 k2
@@ -157,12 +159,12 @@ module _ (P : Program) (C : Sizes) where
 
   pub link_plan : (id : ℕ) (v : View) (p c gp gc : ℕ) (k : Source) (r q new : ℕ) → id ≡ front → v.draft ≡ Nothing → IsTenant (unit_of P C v.seen) r c gc (CanAsk k q) → IsTenant (unit_of P C v.seen) q p gp IsAny → IsLastAt (unit_of P C v.seen) r c → new ≡ pack_link gp gc
       → Plans P C id v (LinkPlace p c k) (λ _. new) (λ _. Asks P C r k)
-  link_plan id v p c gp gc k r q new is_front none consumer producer last new_is between d legal apart caller mine draft n small content =
+  link_plan id v p c gp gc k r q new is_front none consumer producer last new_is between d legal same apart caller mine draft n small content =
       let h : List Entry = between ++ v.seen in
       let U : UpdateUnit = unit_of P C h in
       let not_own : own front between ≡ [] = subst (λ z. own z between ≡ []) is_front apart in
-      let i = tenant_stays_apart P C front r c gc (CanAsk k q) (λ U by step t t' other theirs may m f. ask_stays k q by step t t' (no_link C U by step other theirs) m f) between v.seen legal not_own consumer in
-      let j = any_stays P C q p gp between v.seen legal producer in
+      let i = tenant_stays_apart P C front r c gc (CanAsk k q) (λ U by step t t' other theirs may m f. ask_stays k q by step t t' (no_link C U by step other theirs) m f) between v.seen legal same not_own consumer in
+      let j = any_stays P C q p gp between v.seen legal same producer in
       let l = front_stays P C (λ U. IsLastAt U r c) (λ U by s b a ok x. last_stays P C U by s b a ok r c x) between v.seen legal not_own last in
       let may : Allowed P C U id (On r (Link k)) = record { tenant = i.tenant; is = i.is; may = record { way = i.fact.way } } in
       let quiet : d ≡ Nothing = sym (mine is_front) ∙ none in
@@ -171,8 +173,9 @@ module _ (P : Program) (C : Sizes) where
         draft = d;
         mine = λ _. refl;
         legal = (legal, (is_front, may));
+        same = refl;
         proper = (draft_stays P C U id (On r (Link k)) d (inl quiet) may (unit_sound P C h legal) draft).0;
-        here = subst (λ z. IsLink (applied P C U id (On r (Link k))).tenants p c k z) ((λ x. pack_link (j.tag_is x) (i.tag_is x)) ∙ sym new_is) (new_word id h legal r c q p k i.tenant j.tenant i.is j.is i.fact i.station_is j.station_is l may);
-        else = λ y m _ other w. others id h legal r c q p k i.tenant j.tenant i.is j.is i.fact i.station_is j.station_is l may d quiet draft y m other w;
+        here = subst (λ z. IsLink (applied P C U id (On r (Link k))) p c k z) ((λ x. pack_link (j.tag_is x) (i.tag_is x)) ∙ sym new_is) (new_word id h legal r c q p k i.tenant j.tenant i.is j.is i.new j.new i.fact i.station_is j.station_is l may);
+        else = λ y m _ other w. others id h legal r c q p k i.tenant j.tenant i.is j.is i.new j.new i.fact i.station_is j.station_is l may d quiet draft y m other w;
         kind = record { added = refl; draft = quiet };
       }

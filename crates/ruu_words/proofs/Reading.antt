@@ -22,7 +22,7 @@ use Rattle.inorder.proofs.Basics.{split_at}
 use Rattle.inorder.proofs.Grows.{all_mid}
 use Rattle.inorder.proofs.Moves.{Goes}
 use Rattle.inorder.proofs.Positions.{at_more}
-use Rattle.inorder.proofs.Recent.{live_is_recent, none_old, recent_at}
+use Rattle.inorder.proofs.Recent.{live_is_recent, recent_at}
 use Rattle.inorder.proofs.Stations.{AreApart, IsElsewhere, all_elsewhere, fewer_newest, settling, settling_newest, stands}
 use Rattle.inorder.proofs.StationsShown.{last_live}
 use Rattle.inorder.proofs.Tags.{AreTagged, names_one, passed, tagged}
@@ -178,40 +178,40 @@ least P Second t n e =
 
 module _ (P : Program) (C : Sizes) where
   pub info_read_plan : (id : ℕ) (v : View) (s : ℕ) → Plans P C id v (Info s) (λ n. n) (ReadsInfo P C s)
-  info_read_plan id v s between d legal apart caller mine draft n small content =
+  info_read_plan id v s between d legal same apart caller mine draft n small content =
       let h : List Entry = between ++ v.seen in
       looks P C id h d legal draft (Info s) n content (ReadsInfo P C s n)
       (record { none = refl; its = λ p t is e live. subst (λ o. IsInfo o n) (ap (last_of (recent (info_unit P C (unit_of P C h) d))) (sym e) ∙ info_last P C h legal d draft p t is live) content })
 
   pub operand_read_plan : (id : ℕ) (v : View) (s : ℕ) (k : Source) → Plans P C id v (Operand s k) (λ n. n) (ReadsOperand P C s k)
-  operand_read_plan id v s k between d legal apart caller mine draft n small content =
+  operand_read_plan id v s k between d legal same apart caller mine draft n small content =
       let h : List Entry = between ++ v.seen in
       looks P C id h d legal draft (Operand s k) n content (ReadsOperand P C s k n) (record {
         none = refl;
         says = record {
-          its = λ p t is. its_operand P C h legal (recent (operand_unit P C (unit_of P C h) d k)) (among P C h legal d k) s k n content p t is (none_old P C h legal p);
+          its = λ p t is new. its_operand P C h legal (recent (operand_unit P C (unit_of P C h) d k)) (among P C h legal d k) s k n content p t is new;
           left = not_live P C h legal d draft s k n content;
         };
       })
 
   pub source_plan : (id : ℕ) (v : View) (s g p : ℕ) (k : Source) → v.role ≡ Worker → IsTenant (unit_of P C v.seen) p s g (IsNext P k) → WasOpen P C v.seen p → Plans P C id v (Operand s k) (λ n. n) (ReadsSource P C s g k)
-  source_plan id v s g p k role ready before between d legal apart caller mine draft n small content =
+  source_plan id v s g p k role ready before between d legal same apart caller mine draft n small content =
       let h : List Entry = between ++ v.seen in
       let worker : IsUnit id = subst (λ r. IsCaller r id) role caller in
-      let now = tenant_stays P C p s g (IsNext P k) (next_stays P k) between v.seen legal ready in
+      let now = tenant_stays P C p s g (IsNext P k) (next_stays P k) between v.seen legal same ready in
       let t = now.tenant in
       let was = was_open_stays P C between v.seen p before in
       dite (ℕ_discrete (tag_of n) g)
       (λ tag.
-      let w = its_operand P C h legal (recent (operand_unit P C (unit_of P C h) d k)) (among P C h legal d k) s k n content p t now.is (none_old P C h legal p) now.station_is (now.tag_is ∙ sym tag) in
+      let w = its_operand P C h legal (recent (operand_unit P C (unit_of P C h) d k)) (among P C h legal d k) s k n content p t now.is now.new now.station_is (now.tag_is ∙ sym tag) in
       dite (ℕ_discrete (state_of n) 2)
       (λ there. looks P C id h d legal draft (Operand s k) n content (ReadsSource P C s g k n)
-      (inl (tag, there, record { p = p; tenant = record { tenant = t; is = now.is; station_is = now.station_is; tag_is = now.tag_is; fact = delivered t.tag (operand k t).value n w there }; added = refl })))
+      (inl (tag, there, record { p = p; tenant = record { tenant = t; is = now.is; new = now.new; station_is = now.station_is; tag_is = now.tag_is; fact = delivered t.tag (operand k t).value n w there }; added = refl })))
       (λ not. let waiting = least P k t now.fact (waits t.tag (operand k t).value n w not) in
       tells P C id h d legal draft (Operand s k) n (Waiting p k) (worker, was, record { tenant = t; is = now.is; fact = waiting }) content (ReadsSource P C s g k n)
-      (inr (inl (tag, not, record { p = p; tenant = record { tenant = t; is = now.is; station_is = now.station_is; tag_is = now.tag_is; fact = waiting }; added = refl })))))
+      (inr (inl (tag, not, record { p = p; tenant = record { tenant = t; is = now.is; new = now.new; station_is = now.station_is; tag_is = now.tag_is; fact = waiting }; added = refl })))))
       (λ ne.
       let left = not_live P C h legal d draft s k n content p t now.is now.station_is (λ e. ne (sym e ∙ now.tag_is)) in
       let closed : IsClosed t = λ o. left o.live in
       tells P C id h d legal draft (Operand s k) n (Moved p) (worker, was, record { tenant = t; is = now.is; fact = closed }) content (ReadsSource P C s g k n)
-      (inr (inr (ne, record { p = p; tenant = record { tenant = t; is = now.is; station_is = now.station_is; tag_is = now.tag_is; fact = closed }; added = refl }))))
+      (inr (inr (ne, record { p = p; tenant = record { tenant = t; is = now.is; new = now.new; station_is = now.station_is; tag_is = now.tag_is; fact = closed }; added = refl }))))

@@ -6,7 +6,7 @@ use Rattle.inorder.specs.declared.history.Source.{Source}
 use Rattle.inorder.specs.declared.history.Source.TheVariants.{First, Second}
 use Rattle.inorder.specs.History.{unit_of}
 use Rattle.inorder.specs.Tenants.{Linked, Live, Tenant, operand}
-use Rattle.inorder.specs.Unit.{Sizes, at}
+use Rattle.inorder.specs.Unit.{Sizes, UpdateUnit, at}
 use Rattle.inorder.proofs.Examples.{at_let_not_linked, known}
 use Rattle.inorder.proofs.Positions.{all_at}
 use Rattle.inorder.proofs.SharedRun.{adds, made, relet, two_stations}
@@ -44,8 +44,11 @@ words_made =
     0 ∷ 0 ∷ 0x0000001000000100 ∷ 0x0000001000000100 ∷
     0 ∷ 0 ∷ 0 ∷ 0 ∷ []
 
+abbrev unit_made : UpdateUnit
+unit_made = unit_of adds two_stations made
+
 abbrev tenants_made : List Tenant
-tenants_made = (unit_of adds two_stations made).tenants
+tenants_made = unit_made.tenants
 
 as_many : length words_made ≡ words_for 2
 as_many = refl
@@ -83,11 +86,11 @@ from_0_to_1 q r k producer consumer is =
     (first_at_0 producer (subst (λ n. at tenants_made n ≡ Some producer) same is.producer_is), back.0)
 
 -- The second tenant stands where the links say, and each of its sources is linked
-linked_1_1 : (k : Source) → IsLink tenants_made 0 1 k 0x0000001000000100
+linked_1_1 : (k : Source) → IsLink unit_made 0 1 k 0x0000001000000100
 unfolding instr_at computed_by jump_target checked_address loaded
 linked_1_1 k = record { names = inr (named k); stands = stands }
   where
-    named : (k : Source) → NamesLink tenants_made 0 1 k 0x0000001000000100
+    named : (k : Source) → NamesLink unit_made 0 1 k 0x0000001000000100
     named First =
         record {
           q = 0;
@@ -95,6 +98,8 @@ linked_1_1 k = record { names = inr (named k); stands = stands }
           producer = _;
           consumer = _;
           is = record { producer_is = refl; consumer_is = refl; in_time = true; way = refl; creator = refl };
+          producer_new = refl;
+          consumer_new = refl;
           at_p = refl;
           at_c = refl;
           word = refl;
@@ -106,6 +111,8 @@ linked_1_1 k = record { names = inr (named k); stands = stands }
           producer = _;
           consumer = _;
           is = record { producer_is = refl; consumer_is = refl; in_time = true; way = refl; creator = refl };
+          producer_new = refl;
+          consumer_new = refl;
           at_p = refl;
           at_c = refl;
           word = refl;
@@ -119,7 +126,7 @@ linked_1_1 k = record { names = inr (named k); stands = stands }
         let c = tag_is_1 r consumer is.consumer_is in
         omega arith
 
-unlinked : (p c : ℕ) (k : Source) → ¬ ((p ≡ 0) × (c ≡ 1)) → IsLink tenants_made p c k 0
+unlinked : (p c : ℕ) (k : Source) → ¬ ((p ≡ 0) × (c ≡ 1)) → IsLink unit_made p c k 0
 unlinked p c k other =
     record {
       names = inl refl;

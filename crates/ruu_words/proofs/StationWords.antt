@@ -9,7 +9,7 @@ use Rattle.inorder.specs.Tenants.{Addr, Busy, Done, Fate, Live, Miss, Open, Reti
 use Rattle.inorder.specs.Unit.{Sizes, UpdateUnit, at, is_old, recent, tag_after}
 use Rattle.inorder.proofs.Positions.{at_more, at_new}
 use Rattle.inorder.proofs.StationsShown.{stations_follow}
-use Rattle.inorder.proofs.Recent.{among_all, live_is_recent, names_recent, none_old, recent_at}
+use Rattle.inorder.proofs.Recent.{among_all, live_is_recent, names_recent, recent_at}
 use Rattle.inorder.proofs.Tags.{tagged}
 use Rattle.ruu_words.specs.Content.{IsStation}
 use Rattle.ruu_words.specs.Fields.{state_of, tag_of, value_of}
@@ -132,9 +132,9 @@ module _ (P : Program) (C : Sizes) (h : List Entry) (legal : IsLegal P C h) wher
       let same = ((stations_follow P C (taken_of h) 0).shows (allowed_steps P C h legal)).live x.r t x.is live in
       subst (λ z. IsStation z n) (ap (station_word C (recent U)) (sym e) ∙ same) w
 
-  -- one station and one tag
-  pub one_tag : (p q : ℕ) (t u : Tenant) → at us p ≡ Some t → at us q ≡ Some u → t.station ≡ u.station → t.tag ≡ u.tag → p ≡ q
-  one_tag p q t u e f same tag = names_recent C U (tagged P C (taken_of h) (allowed_steps P C h legal)) p q t u e f (none_old P C h legal p) (none_old P C h legal q) same tag
+  -- one station and one tag, of recent ones
+  pub one_tag : (p q : ℕ) (t u : Tenant) → at us p ≡ Some t → at us q ≡ Some u → is_old U p ≡ false → is_old U q ≡ false → t.station ≡ u.station → t.tag ≡ u.tag → p ≡ q
+  one_tag p q t u e f a b same tag = names_recent C U (tagged P C (taken_of h) (allowed_steps P C h legal)) p q t u e f a b same tag
 
   pub one_at : (p : ℕ) (t u : Tenant) → at us p ≡ Some t → at us p ≡ Some u → t ≡ u
   one_at p t u e f = cc (sym e ∙ f)
@@ -146,10 +146,10 @@ module _ (P : Program) (C : Sizes) (h : List Entry) (legal : IsLegal P C h) wher
       let here : IsStation (live_word t.tag Open) n = subst (λ f. IsStation (live_word t.tag f) n) o.fate l in
       ne here.state
 
-  -- a live word with the tag of a tenant of the station is that tenant's
-  pub the_tenant : (p s g n : ℕ) (t : Tenant) → at us p ≡ Some t → t.station ≡ s → t.tag ≡ g → IsStation (station_word C (recent U) s) n → state_of n ≢ 0 → tag_of n ≡ g → (t.standing ≡ Live) × IsStation (live_word t.tag t.fate) n
-  the_tenant p s g n t is e tag w ne tagged =
+  -- a live word with the tag of a recent tenant of the station is that tenant's
+  pub the_tenant : (p s g n : ℕ) (t : Tenant) → at us p ≡ Some t → is_old U p ≡ false → t.station ≡ s → t.tag ≡ g → IsStation (station_word C (recent U) s) n → state_of n ≢ 0 → tag_of n ≡ g → (t.standing ≡ Live) × IsStation (live_word t.tag t.fate) n
+  the_tenant p s g n t is recent e tag w ne tagged =
       let l = live_last C U s n w ne in
-      let same : p ≡ l.p = one_tag p l.p t l.t is l.is (e ∙ sym l.station) (tag ∙ (sym tagged ∙ (live_state l.t.tag n l.t.fate l.word).0)) in
+      let same : p ≡ l.p = one_tag p l.p t l.t is l.is recent l.new (e ∙ sym l.station) (tag ∙ (sym tagged ∙ (live_state l.t.tag n l.t.fate l.word).0)) in
       let one : l.t ≡ t = one_at p l.t t (ap (at us) same ∙ l.is) is in
       (ap (λ x. x.standing) (sym one) ∙ l.live, subst (λ x. IsStation (live_word x.tag x.fate) n) one l.word)

@@ -1,5 +1,5 @@
 -- What a caller has seen of a tenant stays true.
-use Rattle.std.proofs.Common.{◌≡◌, ◌≢◌, ℕ, List, [], ◌++◌, Option, Some, None, refl, sym, ap, ◌∙◌, subst}
+use Rattle.std.proofs.Common.{◌≡◌, ◌≢◌, ℕ, false, List, [], ◌++◌, map, Option, Some, None, refl, sym, ap, ◌∙◌, subst}
 use Rattle.std.specs.Prelude.{length, unwrap_or}
 use Rattle.isa.specs.Instruction.{kind}
 use Rattle.isa.specs.Operations.{outcome_of, outcome_by}
@@ -11,28 +11,38 @@ use Rattle.isa.specs.declared.op.Kind.TheVariants.{Computes, Jumps, Links, Loads
 use Rattle.inorder.specs.declared.history.Act.{Act}
 use Rattle.inorder.specs.declared.history.Act.TheVariants.{Claim, Deliver, Finish, Link, Load, Mend, Retire, Squash}
 use Rattle.inorder.specs.declared.history.Entry.{Entry}
+use Rattle.inorder.specs.declared.history.Event.{Event}
 use Rattle.inorder.specs.declared.history.Source.TheVariants.{First, Second}
 use Rattle.inorder.specs.declared.history.Step.{Step}
 use Rattle.inorder.specs.declared.history.Step.TheVariants.{Let, On, Renew}
 use Rattle.inorder.specs.Callers.{IsReady}
-use Rattle.inorder.specs.History.{IsLegal, IsTheirs, WasOpen, back, front, own, unit_of}
+use Rattle.inorder.specs.History.{IsLegal, IsTheirs, WasOpen, back, entry, front, own, renewals, unit_of}
 use Rattle.inorder.specs.Legal.{Allowed, applied}
-use Rattle.inorder.specs.Replies.{IsOpen}
+use Rattle.inorder.specs.Replies.{Has, IsOpen}
 use Rattle.inorder.specs.Tenants.{Tenant, computed, kind_of, missing_of, operand_value}
-use Rattle.inorder.specs.Unit.{Sizes, UpdateUnit}
+use Rattle.inorder.specs.Unit.{Sizes, UpdateUnit, at, is_old}
 use Rattle.inorder.proofs.Ends.{IsNotBacks}
 use Rattle.inorder.proofs.Letting.{IsBesides}
 use Rattle.inorder.proofs.Moves.{Goes, goes}
 use Rattle.inorder.proofs.Sound.{IsSound}
+use Rattle.ruu_words.specs.declared.rule.Draft.{Draft}
+use Rattle.ruu_words.specs.declared.rule.View.{View}
 use Rattle.ruu_words.specs.Kinds.{IsAny, IsTenant}
-use Rattle.inorder.proofs.Histories.{starts_longer, unit_lasts, unit_lasts_apart}
+use Rattle.ruu_words.specs.Rule.{Grows}
+use Rattle.inorder.proofs.Histories.{none_between, only_front_renews, starts_longer, unit_lasts, unit_lasts_apart, unit_lasts_here}
+use Rattle.inorder.proofs.Recent.{old_same}
+
+-- Where a step goes on from what was seen
+
+pub same_before : (P : Program) (C : Sizes) (by : ℕ) (v w : View) (Kind : List Entry → Draft → List Event → Type 0) (g : Grows P C by v w Kind) → renewals (g.between ++ v.seen) ≡ renewals v.seen
+same_before P C by v w Kind g = none_between (map (entry by) g.events) g.between v.seen (sym (ap renewals g.is) ∙ g.same)
 
 -- Who steps
 
 -- only the front makes other steps than these
 pub besides_of : (C : Sizes) (U : UpdateUnit) (by : ℕ) (s : Step) → IsTheirs C U by s → by ≢ front → IsBesides s
 besides_of C U by (Let index predicted first second) h ne = absurd (ne h.0)
-besides_of C U by Renew h ne = absurd h
+besides_of C U by Renew h ne = absurd (only_front_renews C U by h ne)
 besides_of C U by (On p act) h ne = go act h
   where
     go : (act : Act) → Rattle.inorder.specs.History.IsTheirAct by act → Rattle.inorder.proofs.Letting.IsBesidesAct act
@@ -46,10 +56,10 @@ besides_of C U by (On p act) h ne = go act h
     go Mend h = absurd (ne h)
 
 -- only the back loads and retires
-pub not_backs : (C : Sizes) (U : UpdateUnit) (by : ℕ) (s : Step) → IsTheirs C U by s → by ≢ back → IsNotBacks s
-not_backs C U by (Let index predicted first second) h ne = tt
-not_backs C U by Renew h ne = absurd h
-not_backs C U by (On p act) h ne = go act h
+pub not_backs : (C : Sizes) (U : UpdateUnit) (by : ℕ) (s : Step) → s ≢ Renew → IsTheirs C U by s → by ≢ back → IsNotBacks s
+not_backs C U by (Let index predicted first second) plain h ne = tt
+not_backs C U by Renew plain h ne = absurd (plain refl)
+not_backs C U by (On p act) plain h ne = go act h
   where
     go : (act : Act) → Rattle.inorder.specs.History.IsTheirAct by act → Rattle.inorder.proofs.Ends.IsNotBacksAct act
     go (Link k) h = tt
@@ -67,29 +77,51 @@ module _ (P : Program) (C : Sizes) where
       → (more seen : List Entry) → IsLegal P C (more ++ seen) → own front more ≡ [] → Q (unit_of P C seen) → Q (unit_of P C (more ++ seen))
   front_stays Q keeps more seen legal none q = unit_lasts_apart P C front Q (λ U by s other theirs a ok x. keeps U by s (besides_of C U by s theirs other) a ok x) more seen legal none q
 
-  -- what the back has seen, and others keep
+  -- what the back has seen, and others keep, where nothing is renewed
   pub back_stays : (Q : UpdateUnit → Type 0) → ((U : UpdateUnit) (by : ℕ) (s : Step) → IsNotBacks s → Allowed P C U by s → IsSound P U.tenants → Q U → Q (applied P C U by s))
-      → (more seen : List Entry) → IsLegal P C (more ++ seen) → own back more ≡ [] → Q (unit_of P C seen) → Q (unit_of P C (more ++ seen))
-  back_stays Q keeps more seen legal none q = unit_lasts_apart P C back Q (λ U by s other theirs a ok x. keeps U by s (not_backs C U by s theirs other) a ok x) more seen legal none q
+      → (more seen : List Entry) → IsLegal P C (more ++ seen) → renewals (more ++ seen) ≡ renewals seen → own back more ≡ [] → Q (unit_of P C seen) → Q (unit_of P C (more ++ seen))
+  back_stays Q keeps more seen legal same none q = unit_lasts_here P C back Q (λ U by s other plain theirs a ok x. keeps U by s (not_backs C U by s plain theirs other) a ok x) more seen legal same none q
 
   -- a fact of a tenant that each step keeps
-  pub tenant_stays : (p s g : ℕ) (Fact : Tenant → Type 0) → ((by : ℕ) (step : Step) (t t' : Tenant) → Goes by step t t' → Fact t → Fact t') → (more seen : List Entry) → IsLegal P C (more ++ seen) → IsTenant (unit_of P C seen) p s g Fact → IsTenant (unit_of P C (more ++ seen)) p s g Fact
-  tenant_stays p s g Fact keeps more seen legal i = unit_lasts P C (λ U. IsTenant U p s g Fact)
-      (λ U by step a ok q. let m = goes P C U by step a ok p q.tenant q.is in
-      record { tenant = m.tenant; is = m.is; station_is = m.goes.station ∙ q.station_is; tag_is = m.goes.tag ∙ q.tag_is; fact = keeps by step q.tenant m.tenant m.goes q.fact })
+  pub fact_stays : (p : ℕ) (Fact : Tenant → Type 0) → ((by : ℕ) (step : Step) (t t' : Tenant) → Goes by step t t' → Fact t → Fact t') → (more seen : List Entry) → IsLegal P C (more ++ seen) → Has (unit_of P C seen) p Fact → Has (unit_of P C (more ++ seen)) p Fact
+  fact_stays p Fact keeps more seen legal i = unit_lasts P C (λ U. Has U p Fact)
+      (λ U by step a ok q. let m = goes P C U by step a ok p q.tenant q.is in record { tenant = m.tenant; is = m.is; fact = keeps by step q.tenant m.tenant m.goes q.fact })
       more seen legal i
 
-  pub any_stays : (p s g : ℕ) (more seen : List Entry) → IsLegal P C (more ++ seen) → IsTenant (unit_of P C seen) p s g IsAny → IsTenant (unit_of P C (more ++ seen)) p s g IsAny
-  any_stays p s g more seen legal i = tenant_stays p s g IsAny (λ by step t t' m f. tt) more seen legal i
+  -- so its place
+  pub place_stays : (p : ℕ) (t : Tenant) (more seen : List Entry) → IsLegal P C (more ++ seen) → at (unit_of P C seen).tenants p ≡ Some t → Has (unit_of P C (more ++ seen)) p (λ u. (u.station ≡ t.station) × (u.tag ≡ t.tag))
+  place_stays p t more seen legal is = fact_stays p (λ u. (u.station ≡ t.station) × (u.tag ≡ t.tag)) (λ by step x y m f. (m.station ∙ f.0, m.tag ∙ f.1)) more seen legal (record { tenant = t; is = is; fact = (refl, refl) })
+
+  -- It has this name, and more is true of it
+  abbrev IsAs : (s g : ℕ) → (Tenant → Type 0) → Tenant → Type 0
+  IsAs s g Fact t = (t.station ≡ s) × (t.tag ≡ g) × Fact t
+
+  as_named : (p s g : ℕ) (Fact : Tenant → Type 0) (U : UpdateUnit) → IsTenant U p s g Fact → Has U p (IsAs s g Fact)
+  as_named p s g Fact U i = record { tenant = i.tenant; is = i.is; fact = (i.station_is, i.tag_is, i.fact) }
+
+  -- and it was let since the last renewal, where nothing is renewed
+  since : (p s g : ℕ) (Fact : Tenant → Type 0) (more seen : List Entry) → IsLegal P C (more ++ seen) → renewals (more ++ seen) ≡ renewals seen → IsTenant (unit_of P C seen) p s g Fact → Has (unit_of P C (more ++ seen)) p (IsAs s g Fact) → IsTenant (unit_of P C (more ++ seen)) p s g Fact
+  since p s g Fact more seen legal same i now =
+      let new : is_old (unit_of P C (more ++ seen)) p ≡ false = old_same P C more seen legal same p ∙ i.new in
+      record { tenant = now.tenant; is = now.is; new = new; station_is = now.fact.0; tag_is = now.fact.1; fact = now.fact.2 }
+
+  -- a fact of a named tenant that each step keeps
+  pub tenant_stays : (p s g : ℕ) (Fact : Tenant → Type 0) → ((by : ℕ) (step : Step) (t t' : Tenant) → Goes by step t t' → Fact t → Fact t') → (more seen : List Entry) → IsLegal P C (more ++ seen) → renewals (more ++ seen) ≡ renewals seen
+      → IsTenant (unit_of P C seen) p s g Fact → IsTenant (unit_of P C (more ++ seen)) p s g Fact
+  tenant_stays p s g Fact keeps more seen legal same i = since p s g Fact more seen legal same i
+      (fact_stays p (IsAs s g Fact) (λ by step t t' m f. (m.station ∙ f.0, m.tag ∙ f.1, keeps by step t t' m f.2)) more seen legal (as_named p s g Fact (unit_of P C seen) i))
+
+  pub any_stays : (p s g : ℕ) (more seen : List Entry) → IsLegal P C (more ++ seen) → renewals (more ++ seen) ≡ renewals seen → IsTenant (unit_of P C seen) p s g IsAny → IsTenant (unit_of P C (more ++ seen)) p s g IsAny
+  any_stays p s g more seen legal same i = tenant_stays p s g IsAny (λ by step t t' m f. tt) more seen legal same i
 
   -- the same of what the steps of other callers keep
   pub tenant_stays_apart : (id p s g : ℕ) (Fact : Tenant → Type 0)
       → ((U : UpdateUnit) (by : ℕ) (step : Step) (t t' : Tenant) → by ≢ id → IsTheirs C U by step → Allowed P C U by step → Goes by step t t' → Fact t → Fact t')
-      → (more seen : List Entry) → IsLegal P C (more ++ seen) → own id more ≡ [] → IsTenant (unit_of P C seen) p s g Fact → IsTenant (unit_of P C (more ++ seen)) p s g Fact
-  tenant_stays_apart id p s g Fact keeps more seen legal none i = unit_lasts_apart P C id (λ U. IsTenant U p s g Fact)
+      → (more seen : List Entry) → IsLegal P C (more ++ seen) → renewals (more ++ seen) ≡ renewals seen → own id more ≡ [] → IsTenant (unit_of P C seen) p s g Fact → IsTenant (unit_of P C (more ++ seen)) p s g Fact
+  tenant_stays_apart id p s g Fact keeps more seen legal same none i = since p s g Fact more seen legal same i (unit_lasts_apart P C id (λ U. Has U p (IsAs s g Fact))
       (λ U by step other theirs a ok q. let m = goes P C U by step a ok p q.tenant q.is in
-      record { tenant = m.tenant; is = m.is; station_is = m.goes.station ∙ q.station_is; tag_is = m.goes.tag ∙ q.tag_is; fact = keeps U by step q.tenant m.tenant other theirs a m.goes q.fact })
-      more seen legal none i
+      record { tenant = m.tenant; is = m.is; fact = (m.goes.station ∙ q.fact.0, m.goes.tag ∙ q.fact.1, keeps U by step q.tenant m.tenant other theirs a m.goes q.fact.2) })
+      more seen legal none (as_named p s g Fact (unit_of P C seen) i))
 
   -- What a tenant was when it was open
   pub record IsSince (u t : Tenant) : Type 0 where
@@ -98,16 +130,16 @@ module _ (P : Program) (C : Sizes) where
     pub predicted : t.predicted ≡ u.predicted
 
   -- a tenant that is open was open before, with the same instruction: so an info word that was read in between is its own
-  pub opened_before : (p s g : ℕ) (more seen : List Entry) → IsLegal P C (more ++ seen) → (i : IsTenant (unit_of P C seen) p s g IsAny) → (j : IsTenant (unit_of P C (more ++ seen)) p s g IsOpen) → IsSince i.tenant j.tenant
-  opened_before p s g more seen legal i j =
-      let k = tenant_stays p s g (IsSince i.tenant) since more seen legal (record { tenant = i.tenant; is = i.is; station_is = i.station_is; tag_is = i.tag_is; fact = record { opens = λ o. o; index = refl; predicted = refl } }) in
-      subst (IsSince i.tenant) (same k.tenant j.tenant (sym k.is ∙ j.is)) k.fact
+  pub opened_before : (p s g : ℕ) (more seen : List Entry) → IsLegal P C (more ++ seen) → renewals (more ++ seen) ≡ renewals seen → (i : IsTenant (unit_of P C seen) p s g IsAny) → (j : IsTenant (unit_of P C (more ++ seen)) p s g IsOpen) → IsSince i.tenant j.tenant
+  opened_before p s g more seen legal same i j =
+      let k = tenant_stays p s g (IsSince i.tenant) goes_on more seen legal same (record { tenant = i.tenant; is = i.is; new = i.new; station_is = i.station_is; tag_is = i.tag_is; fact = record { opens = λ o. o; index = refl; predicted = refl } }) in
+      subst (IsSince i.tenant) (one k.tenant j.tenant (sym k.is ∙ j.is)) k.fact
     where
-      since : (by : ℕ) (step : Step) (t t' : Tenant) → Goes by step t t' → IsSince i.tenant t → IsSince i.tenant t'
-      since by step t t' m f = record { opens = λ o. f.opens (m.opens o); index = m.index ∙ f.index; predicted = m.predicted ∙ f.predicted }
+      goes_on : (by : ℕ) (step : Step) (t t' : Tenant) → Goes by step t t' → IsSince i.tenant t → IsSince i.tenant t'
+      goes_on by step t t' m f = record { opens = λ o. f.opens (m.opens o); index = m.index ∙ f.index; predicted = m.predicted ∙ f.predicted }
 
-      same : (t u : Tenant) → Some t ≡ Some u → t ≡ u
-      same t u e = cc e
+      one : (t u : Tenant) → Some t ≡ Some u → t ≡ u
+      one t u e = cc e
 
   pub was_open_stays : (more seen : List Entry) (p : ℕ) → WasOpen P C seen p → WasOpen P C (more ++ seen) p
   was_open_stays more seen p w = record { point = w.point; starts = starts_longer seen w.point more w.starts; opened = w.opened }

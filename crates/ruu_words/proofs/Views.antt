@@ -127,6 +127,7 @@ module _ (P : Program) (C : Sizes) (opening : List Entry) where
           draft = d;
           kept = record {
             legal = k.legal;
+            one_table = k.one_table;
             wide = k.wide;
             words = k.words;
             views = λ i a e. fits_at live s h d k here q i a (where_is s.views id L R i a e);
@@ -254,6 +255,7 @@ module _ (P : Program) (C : Sizes) (opening : List Entry) where
         draft = d;
         kept = record {
           legal = k.legal;
+          one_table = k.one_table;
           wide = k.wide;
           words = k.words;
           views = λ j u e. ⊎_elim

@@ -38,7 +38,7 @@ consumer_is g c n small e = omega arith
 
 module _ (P : Program) (C : Sizes) where
   -- what a link word of the station of tenant q says of the sources that were linked to q
-  pub linked_by_word : (h : List Entry) → IsLegal P C h → (q p c n : ℕ) (k : Source) (u : Tenant) → at (unit_of P C h).tenants q ≡ Some u → u.station ≡ p → IsLink (unit_of P C h).tenants p c k n
+  pub linked_by_word : (h : List Entry) → IsLegal P C h → (q p c n : ℕ) (k : Source) (u : Tenant) → at (unit_of P C h).tenants q ≡ Some u → u.station ≡ p → IsLink (unit_of P C h) p c k n
       → (r : ℕ) (t : Tenant) → at (unit_of P C h).tenants r ≡ Some t → t.station ≡ c → (operand k t).creator ≡ Some q → (operand k t).way ≡ Linked true → IsNotLive t ⊎ ((producer_of n ≡ u.tag) × (consumer_of n ≡ t.tag))
   linked_by_word h legal q p c n k u is_q at_p word r t is at_c from way = go t.standing refl
     where
@@ -51,14 +51,14 @@ module _ (P : Program) (C : Sizes) where
       go Squashed e = inl (λ live. let x = sym e ∙ live in cc x)
 
   -- a link word that names another producer: all are served
-  pub served_unless_named : (h : List Entry) → IsLegal P C h → (q p c n : ℕ) (k : Source) (u : Tenant) → at (unit_of P C h).tenants q ≡ Some u → u.station ≡ p → IsLink (unit_of P C h).tenants p c k n → producer_of n ≢ u.tag → IsServed (unit_of P C h) q c k
+  pub served_unless_named : (h : List Entry) → IsLegal P C h → (q p c n : ℕ) (k : Source) (u : Tenant) → at (unit_of P C h).tenants q ≡ Some u → u.station ≡ p → IsLink (unit_of P C h) p c k n → producer_of n ≢ u.tag → IsServed (unit_of P C h) q c k
   served_unless_named h legal q p c n k u is_q at_p word other r t is at_c from way = ⊎_elim
       (λ gone. inr gone)
       (λ (z : (producer_of n ≡ u.tag) × (consumer_of n ≡ t.tag)). absurd (other z.0))
       (linked_by_word h legal q p c n k u is_q at_p word r t is at_c from way)
 
   -- all but the consumer that it names
-  pub served_but_named : (h : List Entry) → IsLegal P C h → (q p c n : ℕ) (k : Source) (u : Tenant) → at (unit_of P C h).tenants q ≡ Some u → u.station ≡ p → IsLink (unit_of P C h).tenants p c k n → AreLinked (unit_of P C h) q c k (IsServedOr k (consumer_of n))
+  pub served_but_named : (h : List Entry) → IsLegal P C h → (q p c n : ℕ) (k : Source) (u : Tenant) → at (unit_of P C h).tenants q ≡ Some u → u.station ≡ p → IsLink (unit_of P C h) p c k n → AreLinked (unit_of P C h) q c k (IsServedOr k (consumer_of n))
   served_but_named h legal q p c n k u is_q at_p word r t is at_c from way = ⊎_elim
       (λ gone. inl (inr gone))
       (λ (z : (producer_of n ≡ u.tag) × (consumer_of n ≡ t.tag)). inr (sym z.1))
@@ -88,7 +88,7 @@ module _ (P : Program) (C : Sizes) where
   -- the mark is added at a load of any word
   pub walked_plan : (id : ℕ) (v : View) (x : Place) (q val : ℕ) → IsUnitOrBack id → HasMade (unit_of P C v.seen) q val → ((c : ℕ) (k : Source) → c < C.ring → IsServed (unit_of P C v.seen) q c k)
       → Plans P C id v x (λ n. n) (λ _. Walks P C q)
-  walked_plan id v x q val who made all between d legal apart caller mine draft n small content =
+  walked_plan id v x q val who made all between d legal same apart caller mine draft n small content =
       let h : List Entry = between ++ v.seen in
       let now = is_walked h legal q (λ c k below. served_stays P C q val c k between v.seen legal made (all c k below)) in
       marks P C id h d legal draft x n (Walked q) (who, now) content (Walks P C q) (record { added = refl })

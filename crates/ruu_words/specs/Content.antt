@@ -9,7 +9,7 @@ use Rattle.inorder.specs.Replies.{last_tag}
 use Rattle.inorder.specs.StationWords.{IsAddr, IsBusy, IsDone, IsFree, IsMiss, IsOpen, IsStop, StationState, StationWord, last_of, station_word}
 use Rattle.inorder.specs.Steps.{MayLet, new_tenant}
 use Rattle.inorder.specs.Tenants.{Linked, Live, Tenant, operand}
-use Rattle.inorder.specs.Unit.{Sizes, UpdateUnit, at, next_tag, recent}
+use Rattle.inorder.specs.Unit.{Sizes, UpdateUnit, at, is_old, next_tag, recent}
 use Rattle.ruu_words.specs.declared.place.Place.{Place}
 use Rattle.ruu_words.specs.declared.place.Place.TheVariants.{Info, Link, Operand, Station}
 use Rattle.ruu_words.specs.declared.rule.Draft.{Draft}
@@ -88,24 +88,27 @@ pub record IsLinked (ts : List Tenant) (q r : ℕ) (k : Source) (producer consum
   pub way : (operand k consumer).way ≡ Linked in_time
   pub creator : (operand k consumer).creator ≡ Some q
 
--- The word names a linked source of a tenant of station c, with its creator of station p
-pub record NamesLink (ts : List Tenant) (p c : ℕ) (k : Source) (n : ℕ) : Type 0 where
+-- The word names a linked source of a tenant of station c, with its creator of station p. Both were
+-- let since the last renewal
+pub record NamesLink (U : UpdateUnit) (p c : ℕ) (k : Source) (n : ℕ) : Type 0 where
   pub q : ℕ
   pub r : ℕ
   pub producer : Tenant
   pub consumer : Tenant
-  pub is : IsLinked ts q r k producer consumer
+  pub is : IsLinked U.tenants q r k producer consumer
+  pub producer_new : is_old U q ≡ false
+  pub consumer_new : is_old U r ≡ false
   pub at_p : producer.station ≡ p
   pub at_c : consumer.station ≡ c
   pub word : n ≡ pack_link producer.tag consumer.tag
 
 -- The word of a link from station p to source k of station c: 0, or that of a linked source
-pub record IsLink (ts : List Tenant) (p c : ℕ) (k : Source) (n : ℕ) : Type 0 where
-  pub names : (n ≡ 0) ⊎ NamesLink ts p c k n
+pub record IsLink (U : UpdateUnit) (p c : ℕ) (k : Source) (n : ℕ) : Type 0 where
+  pub names : (n ≡ 0) ⊎ NamesLink U p c k n
   -- and a linked source whose tenant has not left stands in its word
-  pub stands : (q r : ℕ) (producer consumer : Tenant) → IsLinked ts q r k producer consumer →
-      consumer.standing ≡ Live → producer.station ≡ p → consumer.station ≡ c →
-      n ≡ pack_link producer.tag consumer.tag
+  pub stands : (q r : ℕ) (producer consumer : Tenant) →
+      IsLinked U.tenants q r k producer consumer → consumer.standing ≡ Live →
+      producer.station ≡ p → consumer.station ≡ c → n ≡ pack_link producer.tag consumer.tag
 
 -- The let in progress: some words are already those of the tenant that it is about
 
@@ -149,4 +152,4 @@ abbrev pub Content : Program → Sizes → UpdateUnit → Draft → Place → �
 Content P C U d (Station s) n = IsStation (station_word C (recent U) s) n
 Content P C U d (Info s) n = IsInfo (last_of (recent (info_unit P C U d)) s) n
 Content P C U d (Operand s k) n = IsOperand (operand_word (recent (operand_unit P C U d k)) s k) n
-Content P C U d (Link p c k) n = IsLink U.tenants p c k n
+Content P C U d (Link p c k) n = IsLink U p c k n

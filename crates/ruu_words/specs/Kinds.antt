@@ -1,6 +1,6 @@
 -- What each kind of step tells: of the history before it, of the let in progress behind it, and of
 -- the events that it adds.
-use Rattle.std.specs.Prelude.{◌≡◌, ◌≢◌, ◌⊎◌, ℕ, Bool, List, [], ◌∷◌, Some, None, ◌==◌, if◌then◌else◌}
+use Rattle.std.specs.Prelude.{◌≡◌, ◌≢◌, ◌⊎◌, ℕ, Bool, false, List, [], ◌∷◌, Some, None, ◌==◌, if◌then◌else◌}
 use Rattle.isa.specs.Programs.{Program}
 use Rattle.isa.specs.declared.stop.Outcome.{Outcome}
 use Rattle.isa.specs.declared.stop.Outcome.TheVariants.{Address, Next, Pair, Stop as Stops, Value}
@@ -19,17 +19,18 @@ use Rattle.inorder.specs.History.{unit_of}
 use Rattle.inorder.specs.Replies.{Has, IsAskedInTime, IsDelivered, IsOpen, IsSquashed}
 use Rattle.inorder.specs.StationWords.{live_word, station_word}
 use Rattle.inorder.specs.Tenants.{Addr, Done, Fate, Linked, Live, Miss, Stopped, Tenant, computed, missing, operand}
-use Rattle.inorder.specs.Unit.{Sizes, UpdateUnit, at, recent}
+use Rattle.inorder.specs.Unit.{Sizes, UpdateUnit, at, is_old, recent}
 use Rattle.ruu_words.specs.declared.place.Place.{Place}
 use Rattle.ruu_words.specs.declared.rule.Draft.{Draft}
 use Rattle.ruu_words.specs.declared.rule.Draft.TheVariants.{Nothing}
 use Rattle.ruu_words.specs.Content.{Content, IsDraft, IsInfoOf, IsLink, IsOperandOf, IsStation}
 use Rattle.ruu_words.specs.Fields.{state_of, tag_of, value_of}
 
--- The tenant at p, of this station and tag, and what is true of it
+-- The tenant at p, let since the last renewal, of this station and tag, and what is true of it
 pub record IsTenant (U : UpdateUnit) (p station tag : ℕ) (Fact : Tenant → Type 0) : Type 0 where
   pub tenant : Tenant
   pub is : at U.tenants p ≡ Some tenant
+  pub new : is_old U p ≡ false
   pub station_is : tenant.station ≡ station
   pub tag_is : tenant.tag ≡ tag
   pub fact : Fact tenant
@@ -93,10 +94,11 @@ IsEarly n = (n ≡ 1) ⊎ (n ≡ 2) ⊎ (n ≡ 5)
 abbrev pub IsLate : ℕ → Type 0
 IsLate n = (n ≡ 3) ⊎ (n ≡ 4) ⊎ (n ≡ 6)
 
--- An operand word with the tag of a tenant of the station is that tenant's, and with another tag
--- that tenant is not live
+-- An operand word with the tag of a tenant of the station let since the last renewal is that
+-- tenant's, and with another tag than a tenant's that tenant is not live
 pub record SaysOperand (U : UpdateUnit) (s : ℕ) (k : Source) (n : ℕ) : Type 0 where
-  pub its : (p : ℕ) (t : Tenant) → at U.tenants p ≡ Some t → t.station ≡ s → t.tag ≡ tag_of n →
+  pub its : (p : ℕ) (t : Tenant) → at U.tenants p ≡ Some t → is_old U p ≡ false →
+      t.station ≡ s → t.tag ≡ tag_of n →
       IsOperandOf (record { tag = t.tag; value = (operand k t).value }) n
   pub left : (p : ℕ) (t : Tenant) → at U.tenants p ≡ Some t → t.station ≡ s → t.tag ≢ tag_of n →
       t.standing ≢ Live
@@ -123,7 +125,7 @@ module _ (P : Program) (C : Sizes) where
   pub record ReadsLink (p c : ℕ) (k : Source) (n : ℕ) (h : List Entry) (d : Draft)
       (events : List Event) : Type 0 where
     pub none : events ≡ []
-    pub word : IsLink (unit_of P C h).tenants p c k n
+    pub word : IsLink (unit_of P C h) p c k n
 
   -- Any word, with the let in progress at its point
   pub record Reads (x : Place) (n : ℕ) (h : List Entry) (d : Draft) (events : List Event) :

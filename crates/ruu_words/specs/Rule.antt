@@ -6,7 +6,7 @@ use Rattle.atomic_table.specs.Table.{Me, State, Step}
 use Rattle.isa.specs.Programs.{Program}
 use Rattle.inorder.specs.declared.history.Entry.{Entry}
 use Rattle.inorder.specs.declared.history.Event.{Event}
-use Rattle.inorder.specs.History.{IsLegal, IsUnit, StartsWith, back, entry, front, own, unit_of}
+use Rattle.inorder.specs.History.{IsLegal, IsUnit, StartsWith, back, entry, front, own, renewals, unit_of}
 use Rattle.inorder.specs.Unit.{Sizes}
 use Rattle.ruu_words.specs.declared.place.Place.{Place}
 use Rattle.ruu_words.specs.declared.rule.Draft.{Draft}
@@ -121,6 +121,8 @@ pub record Fits (opening h : List Entry) (v : View) : Type 0 where
 pub record IsKept (P : Program) (C : Sizes) (opening : List Entry) (s : State ℕ View)
     (h : List Entry) (d : Draft) : Type 0 where
   pub legal : IsLegal P C h
+  -- nothing is renewed in a table: a renewal makes another one
+  pub one_table : renewals h ≡ renewals opening
   pub wide : length s.words ≡ words_for C.ring
   -- each word is what the unit of the history says
   pub words : (x : Place) → IsPlace C.ring x →
@@ -151,8 +153,8 @@ pub record IsStart (C : Sizes) (words : List ℕ) : Type 0 where
   pub stations : (s : ℕ) → s < C.ring → slice_index words s ≡ pack C.first_tag 0 0
   pub others : (i : ℕ) → C.ring ≤ i → slice_index words i ≡ 0
 
--- What a step tells: its caller has seen the history before the step, added these events, and
--- `Kind` says which, for the history before them and the let in progress behind them
+-- What a step tells: its caller has seen the history before the step, with no renewal, added these
+-- events, and `Kind` says which, for the history before them and the let in progress behind them
 pub record Grows (P : Program) (C : Sizes) (by : ℕ) (v w : View)
     (Kind : List Entry → Draft → List Event → Type 0) : Type 0 where
   pub between : List Entry
@@ -160,6 +162,7 @@ pub record Grows (P : Program) (C : Sizes) (by : ℕ) (v w : View)
   pub not_own : own by between ≡ []
   pub is : w.seen ≡ map (entry by) events ++ (between ++ v.seen)
   pub legal : IsLegal P C w.seen
+  pub same : renewals w.seen ≡ renewals v.seen
   pub role : w.role ≡ v.role
   pub by_is : w.by ≡ v.by
   pub heirs_are : w.heirs ≡ v.heirs

@@ -1,6 +1,6 @@
 //! What holds of the words. Each function is a law: it does nothing, and its contract is proved.
 ghost use Rattle.std.specs.Prelude.{ℕ};
-ghost use Rattle.ruu_words.specs.Laws.{WordsReadBack, InfosReadBack, LinksReadBack, FieldsMakeTheWord, PlacesAreApart};
+ghost use Rattle.ruu_words.specs.Laws.{WordsReadBack, InfosReadBack, LinksReadBack, FieldsMakeTheWord, PlacesAreApart, RenewedWordsAreFirst};
 
 /// A packed word reads back as its fields, and has no other content.
 pub fn words_read_back()
@@ -13,4 +13,9 @@ pub fn words_read_back()
 /// The places of the table are apart, for any number of stations.
 pub fn places_are_apart()
     ensures { (stations : ℕ) → PlacesAreApart stations }
+{}
+
+/// Behind a renewal the words are those of a first table.
+pub fn a_new_table_has_first_words()
+    ensures { RenewedWordsAreFirst }
 {}

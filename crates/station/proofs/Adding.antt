@@ -23,6 +23,7 @@ module _ (P : Program) (C : Sizes) where
       record {
         begins = record { more = mine ++ g.between; is = g.is ∙ sym (append_assoc mine g.between v.seen) };
         legal = g.legal;
+        one_table = g.same;
         mine =
             ap (own by) g.is ∙ (own-append by mine (g.between ++ v.seen)
             ∙ ((λ i. own_all by g.events i ++ own-append by g.between v.seen i)

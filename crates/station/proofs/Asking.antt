@@ -15,7 +15,7 @@ use Rattle.inorder.specs.declared.history.Source.TheVariants.{First, Second}
 use Rattle.inorder.specs.declared.history.Step.{Step}
 use Rattle.inorder.specs.declared.history.Step.TheVariants.{On}
 use Rattle.inorder.specs.Callers.{CanAsk, HasAsked, HasMade, IsLastAt}
-use Rattle.inorder.specs.History.{Adds, IsLegal, entry, front, own, unit_of}
+use Rattle.inorder.specs.History.{Adds, IsLegal, entry, front, own, unit_of, renewals}
 use Rattle.inorder.specs.Legal.{Allowed, applied, changed}
 use Rattle.inorder.specs.Replies.{Has, IsAskedInTime, IsDelivered}
 use Rattle.inorder.specs.Steps.{delivered, linked}
@@ -41,7 +41,7 @@ use Rattle.ruu_words.proofs.Delivery.{link_on}
 use Rattle.ruu_words.proofs.General.{Plan, Plans}
 use Rattle.ruu_words.proofs.Linking.{last_stays, link_plan}
 use Rattle.ruu_words.proofs.StationWords.{one_at}
-use Rattle.ruu_words.proofs.Stays.{any_stays, front_stays, tenant_stays}
+use Rattle.ruu_words.proofs.Stays.{any_stays, front_stays, tenant_stays, same_before}
 use Rattle.station.specs.declared.answers.Ask.{Ask}
 use Rattle.station.specs.declared.answers.Ask.TheVariants.{Delivered, Linked}
 use Rattle.station.specs.Asking.{AskAnswers, IsAsking, MayAsk}
@@ -76,7 +76,7 @@ to_link k q t a = record { in_time = a.in_time; way = a.way; creator = a.creator
 
 -- less is said of a tenant
 pub weaker : (U : UpdateUnit) (p s g : ℕ) (F G : Tenant → Type 0) → ((t : Tenant) → F t → G t) → IsTenant U p s g F → IsTenant U p s g G
-weaker U p s g F G f i = record { tenant = i.tenant; is = i.is; station_is = i.station_is; tag_is = i.tag_is; fact = f i.tenant i.fact }
+weaker U p s g F G f i = record { tenant = i.tenant; is = i.is; new = i.new; station_is = i.station_is; tag_is = i.tag_is; fact = f i.tenant i.fact }
 
 module _ (P : Program) (C : Sizes) where
   -- Plans of the tenants that are named
@@ -87,6 +87,7 @@ module _ (P : Program) (C : Sizes) where
     draft = p.draft;
     mine = p.mine;
     legal = p.legal;
+    same = p.same;
     proper = p.proper;
     here = p.here;
     else = p.else;
@@ -94,38 +95,38 @@ module _ (P : Program) (C : Sizes) where
   }
 
   pub links_plan : (id : ℕ) (v : View) (s g : ℕ) (k : Source) (a b new : ℕ) → id ≡ front → v.draft ≡ Nothing → MayAsk P C v.seen s g k a b → new ≡ pack_link b g → Plans P C id v (LinkPlace a s k) (λ _. new) (λ _. Links P C s g k)
-  links_plan id v s g k a b new is none may word between d legal apart caller mine draft n small content =
+  links_plan id v s g k a b new is none may word between d legal same apart caller mine draft n small content =
       let h : List Entry = between ++ v.seen in
       let U = unit_of P C v.seen in
       let can = weaker U may.r s g (IsAsking k may.q) (CanAsk k may.q) (λ t f. f.can) may.asks in
-      let named = any_stays P C may.r s g between v.seen legal (weaker U may.r s g (IsAsking k may.q) IsAny (λ t f. tt) may.asks) in
+      let named = any_stays P C may.r s g between v.seen legal same (weaker U may.r s g (IsAsking k may.q) IsAny (λ t f. tt) may.asks) in
       plan_as id h d (LinkPlace a s k) new (Asks P C may.r k) (Links P C s g k)
-      (link_plan P C id v a s b g k may.r may.q new is none can may.creator may.last word between d legal apart caller mine draft n small content)
+      (link_plan P C id v a s b g k may.r may.q new is none can may.creator may.last word between d legal same apart caller mine draft n small content)
       (λ d' es x r i. subst (λ z. Asks P C z k h d' es) (one_named P C h legal may.r r s g IsAny IsAny named i) x)
 
   pub finds_plan : (id : ℕ) (v : View) (s g : ℕ) (k : Source) (a b : ℕ) → id ≡ front → v.draft ≡ Nothing → HasAskedFrom P C v.seen s g k a b → Plans P C id v (Station a) (λ n. n) (λ n. Finds P C s g k a b n)
-  finds_plan id v s g k a b is none asked between d legal apart caller mine draft n small content =
+  finds_plan id v s g k a b is none asked between d legal same apart caller mine draft n small content =
       let h : List Entry = between ++ v.seen in
       let U = unit_of P C v.seen in
       let r = asked.r in
       let q = asked.q in
-      let named = any_stays P C r s g between v.seen legal (weaker U r s g (HasAsked k q) IsAny (λ t f. tt) asked.of.asks) in
-      let creator = any_stays P C q a b between v.seen legal asked.of.creator in
+      let named = any_stays P C r s g between v.seen legal same (weaker U r s g (HasAsked k q) IsAny (λ t f. tt) asked.of.asks) in
+      let creator = any_stays P C q a b between v.seen legal same asked.of.creator in
       plan_as id h d (Station a) n (Questions P C r k q n) (Finds P C s g k a b n)
-      (question_plan P C id v a b r q k is none (record { tenant = asked.of.asks.tenant; is = asked.of.asks.is; fact = asked.of.asks.fact }) asked.of.creator asked.of.creator_last between d legal apart caller mine draft n small content)
+      (question_plan P C id v a b r q k is none (record { tenant = asked.of.asks.tenant; is = asked.of.asks.is; fact = asked.of.asks.fact }) asked.of.creator asked.of.creator_last between d legal same apart caller mine draft n small content)
       (λ d' es x r' i q' j.
       subst (λ (z : ℕ × ℕ). Questions P C z.0 k z.1 n h d' es) (λ l. (one_named P C h legal r r' s g IsAny IsAny named i l, one_named P C h legal q q' a b IsAny IsAny creator j l)) x)
 
   pub ends_plan : (id : ℕ) (v : View) (s g : ℕ) (k : Source) (val old new : ℕ) → id ≡ front → v.draft ≡ Nothing → IsOperandOf (wait_word g) old → IsOperandOf (val_word g val) new → CanAnswer P C v.seen s g k val
       → Plans P C id v (Operand s k) (λ n. either (n == old) new n) (λ n. Ends P C s g k old n)
-  ends_plan id v s g k val old new is none old_is new_is can between d legal apart caller mine draft n small content =
+  ends_plan id v s g k val old new is none old_is new_is can between d legal same apart caller mine draft n small content =
       let h : List Entry = between ++ v.seen in
       let U = unit_of P C v.seen in
       let r = can.r in
       let q = can.q in
-      let named = any_stays P C r s g between v.seen legal (weaker U r s g (HasLink k q) IsAny (λ t f. tt) can.asks) in
+      let named = any_stays P C r s g between v.seen legal same (weaker U r s g (HasLink k q) IsAny (λ t f. tt) can.asks) in
       plan_as id h d (Operand s k) (either (n == old) new n) (Answers P C r k old n) (Ends P C s g k old n)
-      (answer_plan P C id v s g r q val old new k is none old_is new_is can.asks can.last can.made between d legal apart caller mine draft n small content)
+      (answer_plan P C id v s g r q val old new k is none old_is new_is can.asks can.last can.made between d legal same apart caller mine draft n small content)
       (λ d' es x r' i. subst (λ z. Answers P C z k old n h d' es) (one_named P C h legal r r' s g IsAny IsAny named i) x)
 
   -- What stays
@@ -167,6 +168,9 @@ module _ (P : Program) (C : Sizes) where
     apart : own front e.between ≡ []
     apart = subst (λ z. own z e.between ≡ []) is e.not_own
 
+    no_renewal : renewals (e.between ++ v.seen) ≡ renewals v.seen
+    no_renewal = same_before P C by v w Kind e
+
     seen_by : (es : List Event) → e.events ≡ es → w.seen ≡ map (entry by) es ++ (e.between ++ v.seen)
     seen_by es added = e.is ∙ ap (λ z. map (entry by) z ++ (e.between ++ v.seen)) added
 
@@ -193,12 +197,13 @@ module _ (P : Program) (C : Sizes) where
       let us = (unit_of P C h).tenants in
       let legal = behind by is v w (Links P C s g k) e in
       let none = apart by is v w (Links P C s g k) e in
-      let named = any_stays P C r s g e.between v.seen legal (weaker U r s g (IsAsking k q) IsAny (λ t f. tt) may.asks) in
+      let calm = no_renewal by is v w (Links P C s g k) e in
+      let named = any_stays P C r s g e.between v.seen legal calm (weaker U r s g (IsAsking k q) IsAny (λ t f. tt) may.asks) in
       let told = e.kind r named in
       let new : List Entry = entry by (Does (On r (Link k))) ∷ h in
       let seen : w.seen ≡ new = seen_by by is v w (Links P C s g k) e (Does (On r (Link k)) ∷ []) told.added in
       let legal2 : IsLegal P C new = subst (IsLegal P C) seen e.legal in
-      let from : IsTenant (unit_of P C h) r s g (λ t. (operand k t).creator ≡ Some q) = tenant_stays P C r s g (λ t. (operand k t).creator ≡ Some q) (λ b st t t' m f. m.creator k ∙ f) e.between v.seen legal (weaker U r s g (IsAsking k q) (λ t. (operand k t).creator ≡ Some q) (λ t f. f.can.creator) may.asks) in
+      let from : IsTenant (unit_of P C h) r s g (λ t. (operand k t).creator ≡ Some q) = tenant_stays P C r s g (λ t. (operand k t).creator ≡ Some q) (λ b st t t' m f. m.creator k ∙ f) e.between v.seen legal calm (weaker U r s g (IsAsking k q) (λ t. (operand k t).creator ≡ Some q) (λ t f. f.can.creator) may.asks) in
       let path = front_stays P C (λ U. Has U r (λ t. on_path t ≡ true)) (λ U b st ok x sound i. path_stays U b st ok x r i) e.between v.seen legal none (record { tenant = may.asks.tenant; is = may.asks.is; fact = may.asks.fact.path }) in
       let same : path.tenant ≡ from.tenant = one_at P C h legal r path.tenant from.tenant path.is from.is in
       let there : HasAsked k q (linked (older us r) from.tenant k) = record {
@@ -210,7 +215,7 @@ module _ (P : Program) (C : Sizes) where
       let asked : HasAskedOf P C new s g k a b r q = record {
         asks = acted P C by r s g (Link k) (λ t. (operand k t).creator ≡ Some q) h legal2 from (HasAsked k q) there;
         last = last_linked by r r s k h legal2 (last_on r s e.between v.seen legal none may.last);
-        creator = any_stays P C q a b (entry by (Does (On r (Link k))) ∷ e.between) v.seen legal2 may.creator;
+        creator = any_stays P C q a b (entry by (Does (On r (Link k))) ∷ e.between) v.seen legal2 calm may.creator;
         creator_last = last_linked by r q a k h legal2 (last_on q a e.between v.seen legal none may.creator_last);
       } in
       record {
@@ -231,11 +236,14 @@ module _ (P : Program) (C : Sizes) where
     legal_mid : IsLegal P C (e.between ++ v.seen)
     legal_mid = behind by is v w (Finds P C s g k a b n) e
 
+    calm_mid : renewals (e.between ++ v.seen) ≡ renewals v.seen
+    calm_mid = no_renewal by is v w (Finds P C s g k a b n) e
+
     asks_mid : IsTenant (unit_of P C (e.between ++ v.seen)) x.r s g (HasLink k x.q)
-    asks_mid = tenant_stays P C x.r s g (HasLink k x.q) (λ b st t t' m f. link_on P C k x.q b st t t' m f) e.between v.seen legal_mid (weaker (unit_of P C v.seen) x.r s g (HasAsked k x.q) (HasLink k x.q) (to_link k x.q) x.of.asks)
+    asks_mid = tenant_stays P C x.r s g (HasLink k x.q) (λ b st t t' m f. link_on P C k x.q b st t t' m f) e.between v.seen legal_mid calm_mid (weaker (unit_of P C v.seen) x.r s g (HasAsked k x.q) (HasLink k x.q) (to_link k x.q) x.of.asks)
 
     creator_mid : IsTenant (unit_of P C (e.between ++ v.seen)) x.q a b IsAny
-    creator_mid = any_stays P C x.q a b e.between v.seen legal_mid x.of.creator
+    creator_mid = any_stays P C x.q a b e.between v.seen legal_mid calm_mid x.of.creator
 
     told_mid : Questions P C x.r k x.q n (e.between ++ v.seen) w.draft e.events
     told_mid = e.kind x.r (weaker (unit_of P C (e.between ++ v.seen)) x.r s g (HasLink k x.q) IsAny (λ t f. tt) asks_mid) x.q creator_mid
@@ -295,11 +303,14 @@ module _ (P : Program) (C : Sizes) where
       legal_end : IsLegal P C (f.between ++ w.seen)
       legal_end = behind by is w y (Ends P C s g k o m) f
 
+      calm_end : renewals (f.between ++ w.seen) ≡ renewals w.seen
+      calm_end = no_renewal by is w y (Ends P C s g k o m) f
+
       asks_end : IsTenant (unit_of P C (f.between ++ w.seen)) x.r s g (HasLink k x.q)
-      asks_end = tenant_stays P C x.r s g (HasLink k x.q) (λ b st t t' m f. link_on P C k x.q b st t t' m f) f.between w.seen legal_end (subst (λ z. IsTenant (unit_of P C z) x.r s g (HasLink k x.q)) (sym (seen_made made)) asks_mid)
+      asks_end = tenant_stays P C x.r s g (HasLink k x.q) (λ b st t t' m f. link_on P C k x.q b st t t' m f) f.between w.seen legal_end calm_end (subst (λ z. IsTenant (unit_of P C z) x.r s g (HasLink k x.q)) (sym (seen_made made)) asks_mid)
 
       creator_end : IsTenant (unit_of P C (f.between ++ w.seen)) x.q a b IsAny
-      creator_end = any_stays P C x.q a b f.between w.seen legal_end (subst (λ z. IsTenant (unit_of P C z) x.q a b IsAny) (sym (seen_made made)) creator_mid)
+      creator_end = any_stays P C x.q a b f.between w.seen legal_end calm_end (subst (λ z. IsTenant (unit_of P C z) x.q a b IsAny) (sym (seen_made made)) creator_mid)
 
       told_end : Answers P C x.r k o m (f.between ++ w.seen) y.draft f.events
       told_end = f.kind x.r (weaker (unit_of P C (f.between ++ w.seen)) x.r s g (HasLink k x.q) IsAny (λ t f. tt) asks_end)
@@ -332,8 +343,8 @@ module _ (P : Program) (C : Sizes) where
           let one : asks_end.tenant ≡ may.tenant = one_at P C h legal_end x.r asks_end.tenant may.tenant asks_end.is may.is in
           let worth : value_of (older us x.r) (operand k asks_end.tenant).creator ≡ Some may.may.value = ap (λ (z : Tenant). value_of (older us x.r) (operand k z).creator) one ∙ may.may.is_made in
           let there = acted P C by x.r s g (Deliver k) (HasLink k x.q) h legal.0 asks_end (λ t. IsThere (operand k t).value) (may.may.value, value_there (older us x.r) k asks_end.tenant ∙ worth) in
-          let asks = tenant_stays P C x.r s g (HasLink k x.q) (λ b st t t' m f. link_on P C k x.q b st t t' m f) (entry by (Does (On x.r (Deliver k))) ∷ []) h legal.0 asks_end in
-          let creator = any_stays P C x.q a b (entry by (Does (On x.r (Deliver k))) ∷ []) h legal.0 creator_end in
+          let asks = tenant_stays P C x.r s g (HasLink k x.q) (λ b st t t' m f. link_on P C k x.q b st t t' m f) (entry by (Does (On x.r (Deliver k))) ∷ []) h legal.0 refl asks_end in
+          let creator = any_stays P C x.q a b (entry by (Does (On x.r (Deliver k))) ∷ []) h legal.0 refl creator_end in
           record {
             reply = record {
               r = x.r;

@@ -11,7 +11,7 @@ use Rattle.inorder.specs.declared.history.Event.TheVariants.{Does, Marks, Refuse
 use Rattle.inorder.specs.declared.history.Step.{Step}
 use Rattle.inorder.specs.declared.history.Step.TheVariants.{Let, On, Renew}
 use Rattle.inorder.specs.Callers.{GoesOn, head_station, is_retired}
-use Rattle.inorder.specs.History.{Adds, IsLegal, MayAdd, back, entry, own, unit_of}
+use Rattle.inorder.specs.History.{Adds, IsLegal, MayAdd, back, entry, own, unit_of, renewals, renewed_by}
 use Rattle.inorder.specs.Laws.{IsNoRetire}
 use Rattle.inorder.specs.Legal.{Allowed, applied, changed}
 use Rattle.inorder.specs.Steps.{IsNoRetiredStop}
@@ -21,7 +21,7 @@ use Rattle.inorder.proofs.Basics.{split_at}
 use Rattle.inorder.proofs.Ends.{IsNotBacks}
 use Rattle.inorder.proofs.Grows.{all_grows}
 use Rattle.inorder.proofs.Heads.{goes_on_stays, head_stays, over_stays}
-use Rattle.inorder.proofs.Histories.{own-append, unit_sound}
+use Rattle.inorder.proofs.Histories.{own-append, unit_sound, none_between}
 use Rattle.inorder.proofs.Kept.{parts}
 use Rattle.inorder.proofs.Positions.{all_at, all_from}
 use Rattle.inorder.proofs.Sound.{IsSound}
@@ -92,28 +92,31 @@ module _ (P : Program) (C : Sizes) where
   abbrev pub Keeps : Entry → Type 0
   Keeps e = IsNoRetirement e.event
 
-  only_back : (h : List Entry) (by : ℕ) (x : Event) → MayAdd P C h by x → eqb by back ≡ false → IsNoRetirement x
-  only_back h by (Does (Let index predicted first second)) may ne = tt
-  only_back h by (Does Renew) may ne = absurd may.0
-  only_back h by (Does (On p (Link k))) may ne = tt
-  only_back h by (Does (On p (Deliver k))) may ne = tt
-  only_back h by (Does (On p Claim)) may ne = tt
-  only_back h by (Does (On p Finish)) may ne = tt
-  only_back h by (Does (On p Load)) may ne = tt
-  only_back h by (Does (On p (Retire n))) may ne = let e : false ≡ true = sym ne ∙ ap (λ z. eqb z back) may.0 in absurd (cc e)
-  only_back h by (Does (On p Squash)) may ne = tt
-  only_back h by (Does (On p Mend)) may ne = tt
-  only_back h by (Refuses r) may ne = tt
-  only_back h by (Marks m) may ne = tt
+  only_back : (h : List Entry) (by : ℕ) (x : Event) → MayAdd P C h by x → (n : ℕ) → renewed_by x n ≡ n → eqb by back ≡ false → IsNoRetirement x
+  only_back h by (Does (Let index predicted first second)) may many same ne = tt
+  only_back h by (Does Renew) may many same ne = absurd (omega (arith, same))
+  only_back h by (Does (On p (Link k))) may many same ne = tt
+  only_back h by (Does (On p (Deliver k))) may many same ne = tt
+  only_back h by (Does (On p Claim)) may many same ne = tt
+  only_back h by (Does (On p Finish)) may many same ne = tt
+  only_back h by (Does (On p Load)) may many same ne = tt
+  only_back h by (Does (On p (Retire n))) may many same ne = let e : false ≡ true = sym ne ∙ ap (λ z. eqb z back) may.0 in absurd (cc e)
+  only_back h by (Does (On p Squash)) may many same ne = tt
+  only_back h by (Does (On p Mend)) may many same ne = tt
+  only_back h by (Refuses r) may many same ne = tt
+  only_back h by (Marks m) may many same ne = tt
 
-  -- the back's own entries are no retirement, so that none is
-  all_keep : (more seen : List Entry) → IsLegal P C (more ++ seen) → AllByRecursion Keeps (own back more) → AllByRecursion Keeps more
-  all_keep [] seen legal h = tt
-  all_keep (e ∷ more) seen legal h = go (eqb e.by back) refl (all_keep more seen legal.0) h
+  -- the back's own entries are no retirement, and nothing is renewed, so that none is
+  all_keep : (more seen : List Entry) → IsLegal P C (more ++ seen) → renewals (more ++ seen) ≡ renewals seen → AllByRecursion Keeps (own back more) → AllByRecursion Keeps more
+  all_keep [] seen legal same h = tt
+  all_keep (e ∷ more) seen legal same h = go (eqb e.by back) refl (all_keep more seen legal.0 before) h
     where
+      before : renewals (more ++ seen) ≡ renewals seen
+      before = none_between (e ∷ []) more seen same
+
       go : (b : Bool) → eqb e.by back ≡ b → (AllByRecursion Keeps (own back more) → AllByRecursion Keeps more) → AllByRecursion Keeps (cond b (e ∷ own back more) (own back more)) → AllByRecursion Keeps (e ∷ more)
       go true f rest a = (a.0, rest a.1)
-      go false f rest a = (only_back (more ++ seen) e.by e.event legal.1 f, rest a)
+      go false f rest a = (only_back (more ++ seen) e.by e.event legal.1 (renewals (more ++ seen)) (same ∙ sym before) f, rest a)
 
   at_head_on : (station : ℕ) (over : Bool) (more seen : List Entry) → IsLegal P C (more ++ seen) → AllByRecursion Keeps more → IsAtHead C (unit_of P C seen) station over → IsAtHead C (unit_of P C (more ++ seen)) station over
   at_head_on station over [] seen legal keeps i = i
@@ -147,7 +150,7 @@ module _ (P : Program) (C : Sizes) where
       let mine : own back new ≡ map (entry back) es ++ own back old = subst (λ z. own z new ≡ map (entry z) es ++ own z old) is a.mine in
       let these : own back more ≡ map (entry back) es = same_end (own back more) (map (entry back) es) (own back old) (sym (own-append back more old) ∙ (ap (own back) (sym a.begins.is) ∙ mine)) in
       let legal : IsLegal P C (more ++ old) = subst (IsLegal P C) a.begins.is a.legal in
-      let none = all_keep more old legal (subst (AllByRecursion Keeps) (sym these) (events_keep es keeps)) in
+      let none = all_keep more old legal (sym (ap renewals a.begins.is) ∙ a.one_table) (subst (AllByRecursion Keeps) (sym these) (events_keep es keeps)) in
       subst (λ h. IsAtHead C (unit_of P C h) station over) (sym a.begins.is) (at_head_on station over more old legal none (knows is))
 
   pub back_seated : (by station : ℕ) (over : Bool) (v w : Me ℕ View) (es : List Event) → IsSeated P C Back by station over v → w.0.role ≡ v.0.role → w.1 ≡ v.1 → Adds P C by v.0.seen w.0.seen es → AllByRecursion IsNoRetirement es → IsSeated P C Back by station over w

@@ -1,5 +1,5 @@
 -- A value goes along the links of its station.
-use Rattle.std.proofs.Common.{◌≡◌, ◌≢◌, ◌⊎◌, ℕ, suc, ◌<◌, ◌≤◌, Bool, true, false, cond, eqb, List, [], ◌∷◌, ◌++◌, map, length, Some, refl, sym, ap, ◌∙◌, subst, inl, ⊎_elim, arith}
+use Rattle.std.proofs.Common.{◌≡◌, ◌≢◌, ◌⊎◌, ℕ, suc, ◌<◌, ◌≤◌, Bool, true, false, cond, eqb, List, [], ◌∷◌, ◌++◌, map, length, Some, refl, sym, ap, ◌∙◌, subst, inl, ⊎_elim, arith, inr}
 use Rattle.std.specs.List.{AllByRecursion}
 use mathlib.Core.Logic.{dite}
 use native.Mathlib.Decide.{ℕ_discrete}
@@ -13,7 +13,7 @@ use Rattle.inorder.specs.declared.history.Source.{Source}
 use Rattle.inorder.specs.declared.history.Source.TheVariants.{First, Second}
 use Rattle.inorder.specs.declared.history.Step.TheVariants.{On}
 use Rattle.inorder.specs.Callers.{HasMade, IsServed}
-use Rattle.inorder.specs.History.{Adds, IsLegal, IsUnitOrBack, entry, taken_of, unit_of}
+use Rattle.inorder.specs.History.{Adds, IsLegal, IsUnitOrBack, entry, taken_of, unit_of, renewals}
 use Rattle.inorder.specs.Legal.{Allowed}
 use Rattle.inorder.specs.Replies.{Has, IsDelivered}
 use Rattle.inorder.specs.Steps.{delivered}
@@ -35,13 +35,13 @@ use Rattle.ruu_words.proofs.Building.{marks}
 use Rattle.ruu_words.proofs.Delivery.{link_on}
 use Rattle.ruu_words.proofs.General.{Plans}
 use Rattle.ruu_words.proofs.StationWords.{one_tag}
-use Rattle.ruu_words.proofs.Stays.{any_stays, tenant_stays}
+use Rattle.ruu_words.proofs.Stays.{any_stays, tenant_stays, same_before}
 use Rattle.ruu_words.proofs.Walking.{IsServedOr, is_walked, served_but_named, served_but_stays, served_unless_named, served_with_it}
 use Rattle.station.specs.Carrying.{EndsWalk, HasValueOf, HasWalked, IsCarrying, IsServedAll, IsServing, IsWriter, Makes, OfTenant}
 use Rattle.station.specs.Writeback.{CanDeliver, IsDeliveryOf}
 use Rattle.station.proofs.Adding.{adds_these}
 use Rattle.station.proofs.LettingOut.{adds_none}
-use Rattle.inorder.proofs.Recent.{none_old, recent_at}
+use Rattle.inorder.proofs.Recent.{recent_at, recent_or_left}
 
 -- units and the back
 writes : (r : Role) (id : ℕ) → IsWriter r → IsCaller r id → IsUnitOrBack id
@@ -117,23 +117,23 @@ module _ (P : Program) (C : Sizes) where
   made_on by q v fs old new a made =
       subst (λ z. HasMade (unit_of P C z) q v) (sym a.begins.is) (made_stays P C q v a.begins.more old (subst (IsLegal P C) a.begins.is a.legal) made)
 
-  makes_stays : (p s g v : ℕ) (more seen : List Entry) → IsLegal P C (more ++ seen) → IsTenant (unit_of P C seen) p s g (Makes v) → IsTenant (unit_of P C (more ++ seen)) p s g (Makes v)
-  makes_stays p s g v more seen legal i = tenant_stays P C p s g (Makes v) (λ by step t t' m f. m.made v f) more seen legal i
+  makes_stays : (p s g v : ℕ) (more seen : List Entry) → IsLegal P C (more ++ seen) → renewals (more ++ seen) ≡ renewals seen → IsTenant (unit_of P C seen) p s g (Makes v) → IsTenant (unit_of P C (more ++ seen)) p s g (Makes v)
+  makes_stays p s g v more seen legal same i = tenant_stays P C p s g (Makes v) (λ by step t t' m f. m.made v f) more seen legal same i
 
   makes_on : (by p s g v : ℕ) (fs : List Event) (old new : List Entry) → Adds P C by old new fs → IsTenant (unit_of P C old) p s g (Makes v) → IsTenant (unit_of P C new) p s g (Makes v)
   makes_on by p s g v fs old new a i =
-      subst (λ z. IsTenant (unit_of P C z) p s g (Makes v)) (sym a.begins.is) (makes_stays p s g v a.begins.more old (subst (IsLegal P C) a.begins.is a.legal) i)
+      subst (λ z. IsTenant (unit_of P C z) p s g (Makes v)) (sym a.begins.is) (makes_stays p s g v a.begins.more old (subst (IsLegal P C) a.begins.is a.legal) (sym (ap renewals a.begins.is) ∙ a.one_table) i)
 
   pub value_on : (by s g v : ℕ) (fs : List Event) (old new : List Entry) → Adds P C by old new fs → HasValueOf P C old s g v → HasValueOf P C new s g v
   value_on by s g v fs old new a h = record { p = h.p; named = makes_on by h.p s g v fs old new a h.named }
 
   pub any_on : (by p s g : ℕ) (fs : List Event) (old new : List Entry) → Adds P C by old new fs → IsTenant (unit_of P C old) p s g IsAny → IsTenant (unit_of P C new) p s g IsAny
   any_on by p s g fs old new a i =
-      subst (λ z. IsTenant (unit_of P C z) p s g IsAny) (sym a.begins.is) (any_stays P C p s g a.begins.more old (subst (IsLegal P C) a.begins.is a.legal) i)
+      subst (λ z. IsTenant (unit_of P C z) p s g IsAny) (sym a.begins.is) (any_stays P C p s g a.begins.more old (subst (IsLegal P C) a.begins.is a.legal) (sym (ap renewals a.begins.is) ∙ a.one_table) i)
 
   -- one station and one tag
   pub one_named : (h : List Entry) → IsLegal P C h → (p q s g : ℕ) (F G : Tenant → Type 0) → IsTenant (unit_of P C h) p s g F → IsTenant (unit_of P C h) q s g G → p ≡ q
-  one_named h legal p q s g F G i j = one_tag P C h legal p q i.tenant j.tenant i.is j.is (i.station_is ∙ sym j.station_is) (i.tag_is ∙ sym j.tag_is)
+  one_named h legal p q s g F G i j = one_tag P C h legal p q i.tenant j.tenant i.is j.is i.new j.new (i.station_is ∙ sym j.station_is) (i.tag_is ∙ sym j.tag_is)
 
   -- the tenant that is named has made the value
   made_of : (h : List Entry) → IsLegal P C h → (q s g v : ℕ) → HasValueOf P C h s g v → IsTenant (unit_of P C h) q s g IsAny → HasMade (unit_of P C h) q v
@@ -141,7 +141,7 @@ module _ (P : Program) (C : Sizes) where
       subst (λ z. HasMade (unit_of P C h) z v) (one_named h legal m.p q s g (Makes v) IsAny m.named i) (record { tenant = m.named.tenant; is = m.named.is; made = m.named.fact })
 
   any_of : (h : List Entry) (s g v : ℕ) (m : HasValueOf P C h s g v) → IsTenant (unit_of P C h) m.p s g IsAny
-  any_of h s g v m = record { tenant = m.named.tenant; is = m.named.is; station_is = m.named.station_is; tag_is = m.named.tag_is; fact = tt }
+  any_of h s g v m = record { tenant = m.named.tenant; is = m.named.is; new = m.named.new; station_is = m.named.station_is; tag_is = m.named.tag_is; fact = tt }
 
   -- One link
 
@@ -152,13 +152,16 @@ module _ (P : Program) (C : Sizes) where
     legal1 : IsLegal P C (g1.between ++ v0.seen)
     legal1 = subst (IsLegal P C) seen1 g1.legal
 
+    same1 : renewals (g1.between ++ v0.seen) ≡ renewals v0.seen
+    same1 = same_before P C by v0 v1 (ReadsLink P C p c k n) g1
+
     adds1 : Adds P C by v0.seen v1.seen []
     adds1 = adds_these P C by v0 v1 (ReadsLink P C p c k n) [] g1 g1.kind.none
 
     -- it names another producer
     pub serves_nobody : producer_of n ≢ g → OfTenant P C v0.seen p g (λ q. IsServing P C by q c k v0.seen v1.seen)
     serves_nobody other q i =
-        let now = any_stays P C q p g g1.between v0.seen legal1 i in
+        let now = any_stays P C q p g g1.between v0.seen legal1 same1 i in
         record {
           events = [];
           each = tt;
@@ -171,21 +174,21 @@ module _ (P : Program) (C : Sizes) where
     asks_it : 1 ≤ C.first_tag → producer_of n ≡ g → (q : ℕ) → IsTenant (unit_of P C v0.seen) q p g IsAny → (r : ℕ) × IsTenant (unit_of P C v1.seen) r c (consumer_of n) (HasLink k q)
     asks_it first names q i = subst (λ z. (r : ℕ) × IsTenant (unit_of P C z) r c (consumer_of n) (HasLink k q)) (sym seen1) (⊎_elim
         (λ (none : n ≡ 0).
-        let its = recent_at (unit_of P C (g1.between ++ v0.seen)) q m.tenant m.is (none_old P C (g1.between ++ v0.seen) legal1 q) in
+        let its = recent_at (unit_of P C (g1.between ++ v0.seen)) q m.tenant m.is m.new in
         let least = from_first C (recent (unit_of P C (g1.between ++ v0.seen))) (tagged P C (taken_of (g1.between ++ v0.seen)) (allowed_steps P C (g1.between ++ v0.seen) legal1)) its.r m.tenant its.is in
         let tag = m.tag_is in
         let low : producer_of n ≡ 0 = ap producer_of none in
         absurd (omega arith))
-        (λ (l : NamesLink (unit_of P C (g1.between ++ v0.seen)).tenants p c k n).
+        (λ (l : NamesLink (unit_of P C (g1.between ++ v0.seen)) p c k n).
         let small = are_small P C (g1.between ++ v0.seen) legal1 l.r l.consumer l.is.consumer_is in
         let tag : consumer_of n ≡ l.consumer.tag = consumer_is l.producer.tag l.consumer.tag n (omega arith) l.word in
         let from : producer_of n ≡ l.producer.tag = producer_is l.producer.tag l.consumer.tag n (omega arith) l.word in
-        let one : l.q ≡ q = one_tag P C (g1.between ++ v0.seen) legal1 l.q q l.producer m.tenant l.is.producer_is m.is (l.at_p ∙ sym m.station_is) (sym from ∙ (names ∙ sym m.tag_is)) in
-        (l.r, record { tenant = l.consumer; is = l.is.consumer_is; station_is = l.at_c; tag_is = sym tag; fact = record { in_time = l.is.in_time; way = l.is.way; creator = l.is.creator ∙ ap Some one } }))
+        let one : l.q ≡ q = one_tag P C (g1.between ++ v0.seen) legal1 l.q q l.producer m.tenant l.is.producer_is m.is l.producer_new m.new (l.at_p ∙ sym m.station_is) (sym from ∙ (names ∙ sym m.tag_is)) in
+        (l.r, record { tenant = l.consumer; is = l.is.consumer_is; new = l.consumer_new; station_is = l.at_c; tag_is = sym tag; fact = record { in_time = l.is.in_time; way = l.is.way; creator = l.is.creator ∙ ap Some one } }))
         g1.kind.word.names)
       where
         m : IsTenant (unit_of P C (g1.between ++ v0.seen)) q p g IsAny
-        m = any_stays P C q p g g1.between v0.seen legal1 i
+        m = any_stays P C q p g g1.between v0.seen legal1 same1 i
 
     pub can_deliver : 1 ≤ C.first_tag → HasValueOf P C v0.seen p g val → producer_of n ≡ g → CanDeliver P C v1.seen c k (consumer_of n) val
     can_deliver first made names =
@@ -207,7 +210,7 @@ module _ (P : Program) (C : Sizes) where
 
       but : AreLinked (unit_of P C v1.seen) q c k (IsServedOr k (consumer_of n))
       but =
-          let now = any_stays P C q p g g1.between v0.seen legal1 i in
+          let now = any_stays P C q p g g1.between v0.seen legal1 same1 i in
           subst (λ z. AreLinked (unit_of P C z) q c k (IsServedOr k (consumer_of n))) (sym seen1)
           (served_but_named P C (g1.between ++ v0.seen) legal1 q p c n k now.tenant now.is now.station_is g1.kind.word)
 
@@ -222,11 +225,14 @@ module _ (P : Program) (C : Sizes) where
           let t : Tenant = a.tenant in
           let now : IsActed P U2.tenants by f.p (Deliver k) t f.p t = ⊎_elim (λ z. z) (λ (z : IsLeft P U2.tenants by f.p (Deliver k) f.p t). absurd (z.position refl)) (at_changed P U2.tenants by f.p (Deliver k) t a.is f.p t a.is) in
           let there : IsDelivered (unit_of P C new) f.p k = record { tenant = delivered (older U2.tenants f.p) t k; is = now.now; fact = (a.may.value, value_there (older U2.tenants f.p) k t ∙ a.may.is_made) } in
-          let named : IsTenant (unit_of P C new) f.p c (consumer_of n) IsAny = any_stays P C f.p c (consumer_of n) (entry by act ∷ []) (g2.between ++ v1.seen) legal2 (record { tenant = f.tenant.tenant; is = f.tenant.is; station_is = f.tenant.station_is; tag_is = f.tenant.tag_is ∙ to; fact = tt }) in
-          let asks2 : IsTenant (unit_of P C new) r c (consumer_of n) (HasLink k q) = tenant_stays P C r c (consumer_of n) (HasLink k q) (λ b step x x' m l. link_on P C k q b step x x' m l) more v1.seen legal2 asks in
+          let named : IsTenant (unit_of P C new) f.p c (consumer_of n) IsAny = any_stays P C f.p c (consumer_of n) (entry by act ∷ []) (g2.between ++ v1.seen) legal2 refl (record { tenant = f.tenant.tenant; is = f.tenant.is; new = f.tenant.new; station_is = f.tenant.station_is; tag_is = f.tenant.tag_is ∙ to; fact = tt }) in
+          let asks2 : IsTenant (unit_of P C new) r c (consumer_of n) (HasLink k q) = tenant_stays P C r c (consumer_of n) (HasLink k q) (λ b step x x' m l. link_on P C k q b step x x' m l) more v1.seen legal2 (same_before P C by v1 v2 (Delivers P C c k (tag_of old) old n2) g2) asks in
           let one : r ≡ f.p = one_named new legal2 r f.p c (consumer_of n) (HasLink k q) IsAny asks2 named in
           let served : IsServed (unit_of P C new) q c k = served_with_it P C (unit_of P C new) q c (consumer_of n) k (served_but_stays P C q val c (consumer_of n) k more v1.seen legal2 made_mid but)
-          (λ x y at_x station tag. inl (subst (λ z. IsDelivered (unit_of P C new) z k) (one_tag P C new legal2 f.p x named.tenant y named.is at_x (named.station_is ∙ sym station) (named.tag_is ∙ sym tag)) there)) in
+          (λ x y at_x station tag. ⊎_elim
+          (λ fresh. inl (subst (λ z. IsDelivered (unit_of P C new) z k) (one_tag P C new legal2 f.p x named.tenant y named.is at_x named.new fresh (named.station_is ∙ sym station) (named.tag_is ∙ sym tag)) there))
+          (λ left. inr left)
+          (recent_or_left P C new legal2 x y at_x)) in
           record {
             events = act ∷ [];
             each = (subst (λ z. IsDeliveryOf P C z q act) (sym seen2) (record { r = f.p; k = k; is = refl; asked = subst (λ z. Has (unit_of P C new) z (λ x. (operand k x).creator ≡ Some q)) one (record { tenant = asks2.tenant; is = asks2.is; fact = asks2.fact.creator }) }), tt);
@@ -311,19 +317,19 @@ module _ (P : Program) (C : Sizes) where
 
   -- the last load
   pub end_plan : (id : ℕ) (v : View) (x : Place) (s g val : ℕ) → IsWriter v.role → IsServedAll P C v.seen s g val → Plans P C id v x (λ n. n) (λ _. EndsWalk P C s g)
-  end_plan id v x s g val writer all between d legal apart caller mine draft n small content =
+  end_plan id v x s g val writer all between d legal same apart caller mine draft n small content =
       let h : List Entry = between ++ v.seen in
       let q : ℕ = all.q in
       let made : HasMade (unit_of P C v.seen) q val = record { tenant = all.named.tenant; is = all.named.is; made = all.named.fact } in
       let now = is_walked P C h legal q (λ c k below. served_stays P C q val c k between v.seen legal made (all.served c k below)) in
-      let named = makes_stays q s g val between v.seen legal all.named in
+      let named = makes_stays q s g val between v.seen legal same all.named in
       marks P C id h d legal draft x n (Walked q) (writes v.role id writer caller, now) content (EndsWalk P C s g)
       (λ p i. record { added = ap (λ z. Marks (Walked z) ∷ []) (one_named h legal q p s g (Makes val) IsAny named i) })
 
   walks_out : (by q s g n : ℕ) (old : List Entry) (v w : View) → IsCarrying P C by q n old v.seen → IsTenant (unit_of P C old) q s g IsAny → (e : Grows P C by v w (EndsWalk P C s g)) → HasWalked P C by q old w.seen
   walks_out by q s g n old v w c i e =
       let h : List Entry = e.between ++ v.seen in
-      let named = any_stays P C q s g e.between v.seen (legal_behind e) (any_on by q s g c.events old v.seen c.adds i) in
+      let named = any_stays P C q s g e.between v.seen (legal_behind e) (same_before P C by v w (EndsWalk P C s g) e) (any_on by q s g c.events old v.seen c.adds i) in
       let added : e.events ≡ Marks (Walked q) ∷ [] = (e.kind q named).added in
       let adds : Adds P C by v.seen w.seen (Marks (Walked q) ∷ []) = adds_these P C by v w (EndsWalk P C s g) (Marks (Walked q) ∷ []) e added in
       record {

@@ -16,4 +16,4 @@ next_there P First t n = tt
 next_there P Second t n = n
 
 pub next_named : (P : Program) (C : Sizes) (h : List Entry) (p s g : ℕ) (k : Source) → IsTenant (unit_of P C h) p s g (IsNext P k) → IsTenant (unit_of P C h) p s g (IsNextThere P k)
-next_named P C h p s g k i = record { tenant = i.tenant; is = i.is; station_is = i.station_is; tag_is = i.tag_is; fact = next_there P k i.tenant i.fact }
+next_named P C h p s g k i = record { tenant = i.tenant; is = i.is; new = i.new; station_is = i.station_is; tag_is = i.tag_is; fact = next_there P k i.tenant i.fact }

@@ -13,17 +13,17 @@ use Rattle.inorder.specs.declared.history.Refusal.TheVariants.{Stale as IsStaleN
 use Rattle.inorder.specs.declared.history.Source.TheVariants.{First, Second}
 use Rattle.inorder.specs.declared.history.Step.{Step}
 use Rattle.inorder.specs.declared.history.Step.TheVariants.{Let, On, Renew}
-use Rattle.inorder.specs.History.{Adds, IsLegal, IsTheirAct, IsTheirs, IsUnit, MayAdd, back, entry, front, own, unit_of}
+use Rattle.inorder.specs.History.{Adds, IsLegal, IsTheirAct, IsTheirs, IsUnit, MayAdd, back, entry, front, own, unit_of, StartsWith}
 use Rattle.inorder.specs.Legal.{Allowed, May, applied, changed}
 use Rattle.inorder.specs.Replies.{Has, IsNamed, JobFields, job_of}
 use Rattle.inorder.specs.Steps.{finished}
 use Rattle.inorder.specs.Tenants.{Busy, Done, Fate, Live, Miss, Open, Tenant, computed}
 use Rattle.inorder.specs.Unit.{Sizes, UpdateUnit, at, older, younger}
-use Rattle.inorder.proofs.Histories.{legal_before, no_length, own-append, own_none, unit_sound}
+use Rattle.inorder.proofs.Histories.{legal_before, no_length, own-append, own_none, unit_sound, none_from, only_front_renews}
 use Rattle.inorder.proofs.Moves.{IsActed, IsLeft, at_changed, goes}
-use Rattle.ruu_words.specs.Kinds.{IsAny, IsTenant, fate_of}
+use Rattle.ruu_words.specs.Kinds.{IsTenant, fate_of}
 use Rattle.ruu_words.proofs.StationWords.{one_at, one_tag}
-use Rattle.ruu_words.proofs.Stays.{any_stays}
+use Rattle.ruu_words.proofs.Stays.{place_stays}
 use Rattle.station.specs.declared.answers.Finish.{Finish as Answer}
 use Rattle.station.specs.declared.answers.Finish.TheVariants.{Finished, Stale}
 use Rattle.station.specs.declared.answers.Job.{Job}
@@ -33,6 +33,7 @@ use Rattle.station.specs.Writeback.{FinishAnswers, HasTenant, IsWritten, WasStal
 use Rattle.station.proofs.Holding.{holds_seen}
 use Rattle.station.proofs.Splitting.{LastEvent, last_event, own_else, own_here}
 use Rattle.station.proofs.Writing.{is_job}
+use Rattle.inorder.proofs.Recent.{old_kept, old_since, live_is_recent}
 
 found : (x y : Tenant) → Some x ≡ Some y → x ≡ y
 found x y e = cc e
@@ -152,6 +153,9 @@ module _ (P : Program) (C : Sizes) where
         (λ (z : IsLeft P U.tenants id r act p t). subst Fact (found t t' (sym z.now ∙ now)) f)
         (at_changed P U.tenants id r act a.tenant a.is p t is)
 
+    above : (id : ℕ) → IsUnit id → id ≢ front
+    above id u e = omega arith
+
     kept_entry : (p s g : ℕ) (h : List Entry) (id : ℕ) → IsUnit id → (e : Event) → IsLegal P C h → MayAdd P C h id e →
         IsTenant (unit_of P C h) p s g Fact → IsTenant (unit_of P C (entry id e ∷ h)) p s g Fact
     kept_entry p s g h id u (Does st) legal may i =
@@ -159,6 +163,7 @@ module _ (P : Program) (C : Sizes) where
         record {
           tenant = m.tenant;
           is = m.is;
+          new = old_kept P C (unit_of P C h) id st (λ x. only_front_renews C (unit_of P C h) id (subst (IsTheirs C (unit_of P C h) id) x may.0) (above id u)) may.1 p ∙ i.new;
           station_is = m.goes.station ∙ i.station_is;
           tag_is = m.goes.tag ∙ i.tag_is;
           fact = kept_step p (unit_of P C h) id u st may.0 may.1 i.tenant m.tenant i.is m.is i.fact;
@@ -179,10 +184,10 @@ module _ (P : Program) (C : Sizes) where
       subst (λ z. IsTenant (unit_of P C z) p s g Fact) (sym is) (kept_on Fact keeps p s g more seen (subst (IsLegal P C) is legal) all i)
 
   any_to : (p : ℕ) (t : Tenant) (more seen new : List Entry) → new ≡ more ++ seen → IsLegal P C new → at (unit_of P C seen).tenants p ≡ Some t →
-      IsTenant (unit_of P C new) p t.station t.tag IsAny
+      Has (unit_of P C new) p (λ u. (u.station ≡ t.station) × (u.tag ≡ t.tag))
   any_to p t more seen new is legal here =
-      subst (λ z. IsTenant (unit_of P C z) p t.station t.tag IsAny) (sym is)
-      (any_stays P C p t.station t.tag more seen (subst (IsLegal P C) is legal) (record { tenant = t; is = here; station_is = refl; tag_is = refl; fact = tt }))
+      subst (λ z. Has (unit_of P C z) p (λ u. (u.station ≡ t.station) × (u.tag ≡ t.tag))) (sym is)
+      (place_stays P C p t more seen (subst (IsLegal P C) is legal) here)
 
   -- the entry of the call, and those behind it
   with_entry : (by : ℕ) (new after point : List Entry) (e : Event) → new ≡ after ++ entry by e ∷ point → new ≡ (after ++ entry by e ∷ []) ++ point
@@ -195,12 +200,13 @@ module _ (P : Program) (C : Sizes) where
       let q : ℕ = a.holds.p in
       let e : Event = Does (On q Claim) in
       let l = last_event P C by old new e [] a.adds in
-      let may = (legal_before P C l.after (entry by e ∷ l.point) l.legal).1 in
+      let legal_e : IsLegal P C (entry by e ∷ l.point) = legal_before P C l.after (entry by e ∷ l.point) l.legal in
+      let may = legal_e.1 in
       let u : Tenant = may.1.tenant in
       let more : List Entry = l.after ++ entry by e ∷ [] in
       let is : new ≡ more ++ l.point = with_entry by new l.after l.point e l.is in
       let all : AreUnits more = units_behind old new more l.point l.before.begins.more is l.before.begins.is only in
-      let was : IsTenant (unit_of P C l.point) q u.station u.tag IsLive = record { tenant = u; is = may.1.is; station_is = refl; tag_is = refl; fact = may.1.may.live } in
+      let was : IsTenant (unit_of P C l.point) q u.station u.tag IsLive = record { tenant = u; is = may.1.is; new = live_is_recent P C l.point legal_e.0 q u may.1.is may.1.may.live; station_is = refl; tag_is = refl; fact = may.1.may.live } in
       let now = kept_to IsLive live_kept q u.station u.tag more l.point new is a.adds.legal all was in
       let held = a.holds.tenant in
       let same : now.tenant ≡ held.tenant = one_at P C new a.adds.legal q now.tenant held.tenant now.is held.is in
@@ -210,6 +216,7 @@ module _ (P : Program) (C : Sizes) where
         named = record {
           tenant = now.tenant;
           is = now.is;
+          new = now.new;
           station_is = ap (λ (z : Tenant). z.station) same ∙ ap (λ (z : JobFields). z.station) f;
           tag_is = ap (λ (z : Tenant). z.tag) same ∙ ap (λ (z : JobFields). z.tag) f;
           fact = now.fact;
@@ -251,14 +258,15 @@ module _ (P : Program) (C : Sizes) where
         let may = legal_e.1 in
         let t : Tenant = may.1.tenant in
         let at_p : at (unit_of P C point).tenants p ≡ Some t = may.1.is in
+        let new_p = live_is_recent P C point legal_e.0 p t at_p may.1.may.live in
         let later = any_to p t (f.more ++ entry by e ∷ []) point new f.is legal_new at_p in
         let same : later.tenant ≡ a.named.tenant = one_at P C new legal_new p later.tenant a.named.tenant later.is a.named.is in
-        let station_is : t.station ≡ j.station = sym later.station_is ∙ (ap (λ (z : Tenant). z.station) same ∙ a.named.station_is) in
-        let tag_is : t.tag ≡ j.tag = sym later.tag_is ∙ (ap (λ (z : Tenant). z.tag) same ∙ a.named.tag_is) in
+        let station_is : t.station ≡ j.station = sym later.fact.0 ∙ (ap (λ (z : Tenant). z.station) same ∙ a.named.station_is) in
+        let tag_is : t.tag ≡ j.tag = sym later.fact.1 ∙ (ap (λ (z : Tenant). z.tag) same ∙ a.named.tag_is) in
         let h = holds_seen P C by old point j holds f.before in
         let u : Tenant = h.tenant.tenant in
         let fields = h.tenant.fact.fields_are in
-        let here : h.p ≡ p = one_tag P C point legal_e.0 h.p p u t h.tenant.is at_p
+        let here : h.p ≡ p = one_tag P C point legal_e.0 h.p p u t h.tenant.is at_p h.new new_p
         (ap (λ (z : JobFields). z.station) fields ∙ sym station_is) (ap (λ (z : JobFields). z.tag) fields ∙ sym tag_is) in
         let one : u ≡ t = found u t (sym h.tenant.is ∙ (ap (at (unit_of P C point).tenants) here ∙ at_p)) in
         let o : Outcome = outcome_of P j in
@@ -268,6 +276,7 @@ module _ (P : Program) (C : Sizes) where
         let after : IsTenant (unit_of P C (entry by e ∷ point)) p j.station j.tag (HasOutcome o) = record {
           tenant = m.tenant;
           is = m.is;
+          new = old_kept P C (unit_of P C point) by (On p Finish) (λ x. cc x) may.1 p ∙ new_p;
           station_is = m.goes.station ∙ station_is;
           tag_is = m.goes.tag ∙ tag_is;
           fact = acted p point t m.tenant at_p may.1 m.is has;
@@ -299,14 +308,16 @@ module _ (P : Program) (C : Sizes) where
         let legal_e : IsLegal P C (entry by e ∷ l.point) = legal_before P C l.after (entry by e ∷ l.point) l.legal in
         let stale : Has (unit_of P C l.point) a.p Rattle.inorder.specs.Replies.IsSquashed = legal_e.1.1 in
         let t : Tenant = stale.tenant in
+        let whole : StartsWith new l.point = record { more = l.after ++ entry by e ∷ []; is = with_entry by new l.after l.point e l.is } in
+        let new_p = sym (old_since P C new l.point whole a.adds.legal (none_from new l.point old whole l.before.begins a.adds.one_table) a.p) ∙ a.named.new in
         let later = any_to a.p t (l.after ++ entry by e ∷ []) l.point new (with_entry by new l.after l.point e l.is) a.adds.legal stale.is in
         let same : later.tenant ≡ a.named.tenant = one_at P C new a.adds.legal a.p later.tenant a.named.tenant later.is a.named.is in
         let i = live.named in
         let all : AreUnits rest = units_behind old l.point rest old [] l.before.begins.is refl (until l) in
         let now = kept_to IsLive live_kept live.p j.station j.tag rest old l.point l.before.begins.is legal_e.0 all i in
-        let here : live.p ≡ a.p = one_tag P C l.point legal_e.0 live.p a.p now.tenant t now.is stale.is
-        (now.station_is ∙ sym (sym later.station_is ∙ (ap (λ (z : Tenant). z.station) same ∙ a.named.station_is)))
-        (now.tag_is ∙ sym (sym later.tag_is ∙ (ap (λ (z : Tenant). z.tag) same ∙ a.named.tag_is))) in
+        let here : live.p ≡ a.p = one_tag P C l.point legal_e.0 live.p a.p now.tenant t now.is stale.is now.new new_p
+        (now.station_is ∙ sym (sym later.fact.0 ∙ (ap (λ (z : Tenant). z.station) same ∙ a.named.station_is)))
+        (now.tag_is ∙ sym (sym later.fact.1 ∙ (ap (λ (z : Tenant). z.tag) same ∙ a.named.tag_is))) in
         let one : now.tenant ≡ t = found now.tenant t (sym now.is ∙ (ap (at (unit_of P C l.point).tenants) here ∙ stale.is)) in
         apart (sym now.fact ∙ (ap (λ (z : Tenant). z.standing) one ∙ stale.fact))
       where

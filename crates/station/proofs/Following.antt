@@ -15,12 +15,13 @@ use Rattle.inorder.specs.declared.history.Source.TheVariants.{First, Second}
 use Rattle.inorder.specs.declared.history.Step.TheVariants.{On}
 use Rattle.inorder.specs.declared.history.Supply.TheVariants.{From as FromCreator}
 use Rattle.inorder.specs.Callers.{IsMissing}
-use Rattle.inorder.specs.History.{Adds, IsLegal, entry, front, own, unit_of}
+use Rattle.inorder.specs.History.{Adds, IsLegal, entry, front, own, unit_of, renewals}
 use Rattle.inorder.specs.Legal.{changed}
 use Rattle.inorder.specs.Replies.{Has, last_tag}
 use Rattle.inorder.specs.Steps.{MayComeFrom, MaySupply, let_operand, new_tenant}
 use Rattle.inorder.specs.Tenants.{Live, Operand, Retired, Squashed, Standing, Tenant, on_path, operand, with_operand}
 use Rattle.inorder.specs.Unit.{Sizes, UpdateUnit, at, creator, next_station, next_tag, older, recent}
+use Rattle.inorder.proofs.Letting.{IsBesides}
 use Rattle.inorder.proofs.Creators.{at_cases}
 use Rattle.inorder.proofs.Ends.{miss_stays}
 use Rattle.inorder.proofs.Histories.{legal_before, own-append, own_none, unit_sound}
@@ -36,6 +37,7 @@ use Rattle.station.specs.Following.{LetsAreAsked, MissesAreRecovered, MissesStay
 use Rattle.station.specs.Letting.{MayLetOut, let_of, supply_of}
 use Rattle.station.proofs.Splitting.{LastEvent, last_event}
 use Rattle.station.proofs.Staying.{fronts_stay}
+use Rattle.inorder.proofs.Recent.{old_kept, new_there}
 
 found : (x y : Tenant) → Some x ≡ Some y → x ≡ y
 found x y e = cc e
@@ -45,6 +47,7 @@ behind_last : (P : Program) (C : Sizes) (old new : List Entry) (e : Event) (es :
 behind_last P C old new e es l = record {
   begins = record { more = l.after; is = l.is };
   legal = subst (IsLegal P C) (sym l.is) l.legal;
+  one_table = l.since;
   mine = ap (own front) l.is ∙ (own-append front l.after (entry front e ∷ l.point) ∙ ap (λ z. z ++ own front (entry front e ∷ l.point)) l.none);
 }
 
@@ -82,12 +85,13 @@ module _ (P : Program) (C : Sizes) where
         asks = record {
           tenant = n;
           is = at_new n U.tenants;
+          new = new_there U n;
           station_is = refl;
           tag_is = refl;
           fact = record { can = record { way = ap (λ (o : Operand). o.way) now; creator = ap (λ (o : Operand). o.creator) now ∙ creates }; path = refl };
         };
         last = λ x u less at_x same. let small = at_below (n ∷ U.tenants) x u at_x in absurd (omega arith);
-        creator = any_stays P C q a g (entry front (let_of t) ∷ []) h legal named;
+        creator = any_stays P C q a g (entry front (let_of t) ∷ []) h legal refl named;
         creator_last = λ x u less at_x same. go x u c (subst (λ z. z < x) (sym position) less) n refl at_x (same ∙ sym at_a);
       }
     where
@@ -116,7 +120,7 @@ lets_are_asked P C old new t k a g m from adds =
     let was = its_operand P C (unit_of P C old) t k ∙ ap (λ z. let_operand c (supply_of z)) from.given in
     let now = its_operand P C (unit_of P C (more ++ old)) t k ∙ ap (λ z. let_operand c' (supply_of z)) from.given in
     let same : c' ≡ c = sym (ap (λ (o : Operand). o.creator) now) ∙ (ap (λ (x : Tenant). (operand k x).creator) stay.new ∙ ap (λ (o : Operand). o.creator) was) in
-    let asked = asked_now P C (more ++ old) t k a g from.q legal may from.given (same ∙ from.creates) (any_stays P C from.q a g more old legal.0 from.named) in
+    let asked = asked_now P C (more ++ old) t k a g from.q legal may from.given (same ∙ from.creates) (any_stays P C from.q a g more old legal.0 (sym (ap renewals is) ∙ l.before.one_table) from.named) in
     let here : MayAsk P C (entry front e ∷ l.point) (next_station C (recent (unit_of P C old))) (next_tag C (recent (unit_of P C old))) k a g =
     subst (λ (z : List Entry × (ℕ × ℕ)). MayAsk P C (entry front e ∷ z.0) z.1.0 z.1.1 k a g) (λ i. (sym is i, (ap (λ (x : Tenant). x.station) stay.new i, stay.tag i))) asked in
     (fronts_stay P C (entry front e ∷ l.point) new (behind_last P C old new e [] l)).asks (next_station C (recent (unit_of P C old))) (next_tag C (recent (unit_of P C old))) k a g here
@@ -164,14 +168,15 @@ module _ (P : Program) (C : Sizes) (s g : ℕ) (j : Source) (a b : ℕ) where
             (λ (z : IsActed P U.tenants front r act al.tenant m.r t). record {
               tenant = with_operand k t o;
               is = z.now ∙ ap (λ (y : Tenant). Some y) (form al.tenant (older U.tenants r) ∙ ap (λ (y : Tenant). with_operand k y o) (sym z.tenant));
+              new = old_kept P C U front (On r act) (λ e. cc e) al m.r ∙ m.asks.new;
               station_is = with_station k t o ∙ m.asks.station_is;
               tag_is = with_tag k t o ∙ m.asks.tag_is;
               fact = asks_with k j ne m.q t o m.asks.fact;
             })
-            (λ (z : IsLeft P U.tenants front r act m.r t). record { tenant = t; is = z.now; station_is = m.asks.station_is; tag_is = m.asks.tag_is; fact = m.asks.fact })
+            (λ (z : IsLeft P U.tenants front r act m.r t). record { tenant = t; is = z.now; new = old_kept P C U front (On r act) (λ e. cc e) al m.r ∙ m.asks.new; station_is = m.asks.station_is; tag_is = m.asks.tag_is; fact = m.asks.fact })
             (at_changed P U.tenants front r act al.tenant al.is m.r t m.asks.is);
         last = λ x u less is same. let was = came P C U front r act al ok x u is in m.last x was.tenant less was.is (sym was.goes.station ∙ same);
-        creator = any_stays P C m.q a b (entry front (Does (On r act)) ∷ []) h legal m.creator;
+        creator = any_stays P C m.q a b (entry front (Does (On r act)) ∷ []) h legal refl m.creator;
         creator_last = λ x u less is same. let was = came P C U front r act al ok x u is in m.creator_last x was.tenant less was.is (sym was.goes.station ∙ same);
       }
 
@@ -219,6 +224,7 @@ module _ (P : Program) (C : Sizes) (p s g x : ℕ) where
       record {
         tenant = here.tenant;
         is = here.is;
+        new = old_kept P C U by st (λ e. subst IsBesides e besides) a p ∙ m.new;
         station_is = ap (λ (z : Tenant). z.station) (sym one) ∙ (there.goes.station ∙ m.station_is);
         tag_is = ap (λ (z : Tenant). z.tag) (sym one) ∙ (there.goes.tag ∙ m.tag_is);
         fact = here.fact;
@@ -236,7 +242,7 @@ module _ (P : Program) (C : Sizes) (p s g x : ℕ) where
       let al = legal.1.1 in
       ⊎_elim
       (λ (z : IsActed P (unit_of P C h).tenants front r Squash al.tenant p i.tenant). absurd (ne (sym z.position)))
-      (λ (z : IsLeft P (unit_of P C h).tenants front r Squash p i.tenant). record { tenant = i.tenant; is = z.now; station_is = i.station_is; tag_is = i.tag_is; fact = i.fact })
+      (λ (z : IsLeft P (unit_of P C h).tenants front r Squash p i.tenant). record { tenant = i.tenant; is = z.now; new = old_kept P C (unit_of P C h) front (On r Squash) (λ e. cc e) al p ∙ i.new; station_is = i.station_is; tag_is = i.tag_is; fact = i.fact })
       (at_changed P (unit_of P C h).tenants front r Squash al.tenant al.is p i.tenant i.is)
 
 pub misses_stay_seen : MissesStaySeen
@@ -256,7 +262,7 @@ misses_stay_squashing P C old new s g station tag x q ne m =
     apart : (l : LastEvent P C front old new (Does (On q.p Squash)) []) → q.p ≢ m.p
     apart l same =
         let is = q.adds.begins.is in
-        let named = any_stays P C m.p station tag q.adds.begins.more old (subst (IsLegal P C) is q.adds.legal) (record { tenant = m.named.tenant; is = m.named.is; station_is = m.named.station_is; tag_is = m.named.tag_is; fact = tt }) in
+        let named = any_stays P C m.p station tag q.adds.begins.more old (subst (IsLegal P C) is q.adds.legal) (sym (ap renewals is) ∙ q.adds.one_table) (record { tenant = m.named.tenant; is = m.named.is; new = m.named.new; station_is = m.named.station_is; tag_is = m.named.tag_is; fact = tt }) in
         let now = subst (λ z. IsTenant (unit_of P C z) m.p station tag IsAny) (sym is) named in
         let one : q.named.tenant ≡ now.tenant = found q.named.tenant now.tenant (sym q.named.is ∙ (ap (at (unit_of P C new).tenants) same ∙ now.is)) in
         ⊎_elim
@@ -317,7 +323,7 @@ misses_are_recovered P C seen s g x m =
     dite (ℕ_discrete y.q m.p)
     (λ (same : y.q ≡ m.p). inr (record {
       p = m.p;
-      named = record { tenant = t.tenant; is = t.is; station_is = t.station_is; tag_is = t.tag_is; fact = tt };
+      named = record { tenant = t.tenant; is = t.is; new = t.new; station_is = t.station_is; tag_is = t.tag_is; fact = tt };
       can = record { miss = miss; youngest = λ r v less at_r. y.youngest r v (subst (λ z. z < r) (sym same) less) at_r };
     }))
     (λ ne. let above = y.above in inl (record {

@@ -38,7 +38,7 @@ use Rattle.station.specs.Claiming.{ClaimAnswers, Holds, IsJob, fields_of}
 use Rattle.station.specs.Laws.{AreTwo, IsNoFinish}
 use Rattle.station.specs.Writeback.{FinishAnswers, IsCarried, IsDeliveryOf}
 use Rattle.station.proofs.Carrying.{all_append}
-use Rattle.inorder.proofs.Recent.{none_old}
+use Rattle.inorder.proofs.Recent.{old_since}
 use Rattle.inorder.proofs.Renewing.{begins_again}
 
 -- What a job says stays
@@ -154,7 +154,7 @@ module _ (P : Program) (C : Sizes) (by : ℕ) where
       record {
         p = h.p;
         tenant = subst (λ z. IsHeldAs (fields_of j) h.p (unit_of P C z)) (sym a.begins.is) (job_lasts (fields_of j) h.p more old (subst (IsLegal P C) a.begins.is a.legal) all h.tenant);
-        new = none_old P C new a.legal h.p;
+        new = old_since P C new old a.begins a.legal a.one_table h.p ∙ h.new;
       }
 
   -- so behind a look or a meeting

@@ -28,7 +28,7 @@ use Rattle.station.proofs.Adding.{adds_these}
 
 -- a caller that has added nothing
 pub adds_none : (P : Program) (C : Sizes) (by : ℕ) (h : List Entry) → IsLegal P C h → Adds P C by h h []
-adds_none P C by h legal = record { begins = record { more = []; is = refl }; legal = legal; mine = refl }
+adds_none P C by h legal = record { begins = record { more = []; is = refl }; legal = legal; one_table = refl; mine = refl }
 
 module _ (P : Program) (C : Sizes) (by : ℕ) (t : Tenant) (old : List Entry) where
   abbrev pub U : List Entry → UpdateUnit

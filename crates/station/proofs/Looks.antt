@@ -10,6 +10,6 @@ use Rattle.station.specs.Steps.{Sees}
 
 module _ (P : Program) (C : Sizes) where
   pub sees_plan : (id : ℕ) (v : View) (x : Place) → Plans P C id v x (λ n. n) (Sees P C id v x)
-  sees_plan id v x between d legal apart caller mine draft n small content =
+  sees_plan id v x between d legal same apart caller mine draft n small content =
       looks P C id (between ++ v.seen) d legal draft x n content (Sees P C id v x n)
       (record { none = refl; caller = caller; mine = λ e. sym (mine e); proper = draft; content = content })

@@ -18,7 +18,7 @@ use Rattle.inorder.specs.Steps.{mended_as}
 use Rattle.inorder.specs.Tenants.{Done, Fate, Live, Miss, Tenant, on_path, stands_on_path}
 use Rattle.inorder.specs.Unit.{Sizes, UpdateUnit, next_station, recent}
 use Rattle.inorder.proofs.Ends.{may_mend, mend_stays}
-use Rattle.inorder.proofs.Histories.{adds_on}
+use Rattle.inorder.proofs.Histories.{adds_on, none_renewed}
 use Rattle.inorder.proofs.Stations.{mended_station}
 use Rattle.ruu_words.specs.declared.place.Place.TheVariants.{Station}
 use Rattle.ruu_words.specs.declared.rule.Draft.{Draft}
@@ -48,12 +48,12 @@ module _ (P : Program) (C : Sizes) where
   pub miss_on : (s g x : ℕ) (more seen : List Entry) → IsLegal P C (more ++ seen) → own front more ≡ [] → HasMiss P C seen s g x → HasMiss P C (more ++ seen) s g x
   miss_on s g x more seen legal none m = record {
     p = m.p;
-    named = any_stays P C m.p s g more seen legal m.named;
+    named = any_stays P C m.p s g more seen legal (none_renewed P C more seen legal none) m.named;
     can = front_stays P C (λ U. CanMend U m.p x) (λ U by st b a ok q. mend_stays P C U by st b a ok m.p x q) more seen legal none m.can;
   }
 
   pub mends_plan : (id : ℕ) (v : View) (s g x new : ℕ) → id ≡ front → v.draft ≡ Nothing → HasMiss P C v.seen s g x → IsStation (live_word g (Done x)) new → Plans P C id v (Station s) (λ _. new) (λ _. Mends P C s)
-  mends_plan id v s g x new is_front none miss word between d legal apart caller mine draft n small content =
+  mends_plan id v s g x new is_front none miss word between d legal same apart caller mine draft n small content =
       let h : List Entry = between ++ v.seen in
       let U : UpdateUnit = unit_of P C h in
       let now : HasMiss P C h s g x = miss_on s g x between v.seen legal (subst (λ z. own z between ≡ []) is_front apart) miss in
@@ -99,7 +99,7 @@ module _ (P : Program) (C : Sizes) where
 
   miss_at : (p s g x : ℕ) (more seen : List Entry) → IsLegal P C (more ++ seen) → own front more ≡ [] → IsMissAt p s g x seen → IsMissAt p s g x (more ++ seen)
   miss_at p s g x more seen legal none m = (
-    any_stays P C p s g more seen legal m.0,
+    any_stays P C p s g more seen legal (none_renewed P C more seen legal none) m.0,
     front_stays P C (λ U. CanMend U p x) (λ U by st b a ok q. mend_stays P C U by st b a ok p x q) more seen legal none m.1,
   )
 
@@ -127,7 +127,7 @@ module _ (P : Program) (C : Sizes) where
         p = p;
         tag = g;
         next = x;
-        named = subst (λ h. IsTenant (unit_of P C h) p s g IsAny) (sym seen2) (any_stays P C p s g (entry by (Does (On m.miss.p Mend)) ∷ []) last legal2 m2.0);
+        named = subst (λ h. IsTenant (unit_of P C h) p s g IsAny) (sym seen2) (any_stays P C p s g (entry by (Does (On m.miss.p Mend)) ∷ []) last legal2 refl m2.0);
         can = sees.miss.can;
         adds = subst (λ z. Adds P C by v0.seen w.seen (Does (On z Mend) ∷ [])) one adds;
       }

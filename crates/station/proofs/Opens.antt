@@ -17,20 +17,20 @@ use Rattle.inorder.specs.declared.history.Source.TheVariants.{First, Second}
 use Rattle.inorder.specs.declared.history.Step.{Step}
 use Rattle.inorder.specs.declared.history.Step.TheVariants.{Let, On, Renew}
 use Rattle.inorder.specs.Callers.{IsReady}
-use Rattle.inorder.specs.History.{IsLegal, IsTheirAct, IsTheirs, IsUnit, MayAdd, StartsWith, back, entry, front, own, taken_of, unit_of}
+use Rattle.inorder.specs.History.{IsLegal, IsTheirAct, IsTheirs, IsUnit, MayAdd, StartsWith, back, entry, front, own, taken_of, unit_of, renewals}
 use Rattle.inorder.specs.Legal.{Allowed, May, applied, changed}
 use Rattle.inorder.specs.Replies.{Has, HasMoved as Gone, IsNamed, IsOpen, IsWaiting, JobFields, job_of}
 use Rattle.inorder.specs.Steps.{CanRetire, let_operand, new_tenant}
 use Rattle.inorder.specs.Tenants.{Live, Tenant, kind_of, missing}
 use Rattle.inorder.specs.Unit.{at, creator, front_half, front_pc, next_station, next_tag, older, recent, Sizes, UpdateUnit, younger}
-use Rattle.inorder.proofs.Histories.{allowed_steps, legal_before, no_length, own-append, own_none, unit_lasts, unit_sound}
+use Rattle.inorder.proofs.Histories.{allowed_steps, legal_before, no_length, own-append, own_none, unit_lasts, unit_sound, none_renewed, none_to}
 use Rattle.inorder.proofs.Moves.{Goes, IsActed, IsLeft, at_changed, goes}
 use Rattle.inorder.proofs.Positions.{at_new, younger_at}
 use Rattle.inorder.proofs.Stations.{is_ring, stands}
 use Rattle.ruu_words.specs.Kinds.{IsAny, IsTenant}
 use Rattle.ruu_words.proofs.StationWords.{one_at}
 use Rattle.ruu_words.proofs.Drafting.{still_let}
-use Rattle.ruu_words.proofs.Stays.{any_stays, ready_stays, tenant_stays}
+use Rattle.ruu_words.proofs.Stays.{any_stays, ready_stays, tenant_stays, place_stays}
 use Rattle.station.specs.declared.answers.Claim.{Claim as Answer}
 use Rattle.station.specs.declared.answers.Claim.TheVariants.{Job as Claimed, Moved, NotOpen, Waiting}
 use Rattle.station.specs.declared.answers.Job.{Job}
@@ -41,7 +41,7 @@ use Rattle.station.specs.Moments.{WasOpenOnce}
 use Rattle.station.specs.Quiet.{ClaimsGiveJobs, IsClaimable, IsJobOf, IsLetAs, IsQuiet, IsStill, LetsAreOut, ReadyTenantsStay}
 use Rattle.station.proofs.Holding.{fields_stay}
 use Rattle.station.proofs.Splitting.{LastEvent, last_event, own_else, own_here}
-use Rattle.inorder.proofs.Recent.{live_is_last, old_are_gone}
+use Rattle.inorder.proofs.Recent.{live_is_last, old_are_gone, new_there}
 
 found : (x y : Tenant) → Some x ≡ Some y → x ≡ y
 found x y e = cc e
@@ -128,12 +128,12 @@ module _ (P : Program) (C : Sizes) where
         let mine : own by rest ≡ [] = own_none by rest old (ap (own by) (sym is) ∙ l.before.mine) in
         let others : (n : ℕ) → n ≢ back → own n rest ≡ [] = λ n ne. dite (ℕ_discrete n by) (λ (same : n ≡ by). subst (λ i. own i rest ≡ []) (sym same) mine) (λ apart. other l n ne apart) in
         let all = only_back rest others in
-        let named : IsTenant (unit_of P C old) p s g IsAny = record { tenant = t.tenant; is = t.is; station_is = t.station_is; tag_is = t.tag_is; fact = tt } in
+        let named : IsTenant (unit_of P C old) p s g IsAny = record { tenant = t.tenant; is = t.is; new = t.new; station_is = t.station_is; tag_is = t.tag_is; fact = tt } in
         record {
           legal = behind.0;
           may = behind.1;
           is_open = subst (λ h. Has (unit_of P C h) p IsOpen) (sym is) (open_lasts p rest old legal all (record { tenant = t.tenant; is = t.is; fact = t.fact.is_open }));
-          named = subst (λ h. IsTenant (unit_of P C h) p s g IsAny) (sym is) (any_stays P C p s g rest old legal named);
+          named = subst (λ h. IsTenant (unit_of P C h) p s g IsAny) (sym is) (any_stays P C p s g rest old legal (sym (ap renewals is) ∙ l.before.one_table) named);
           job = subst (λ h. HasJob p (job_of P t.tenant) (unit_of P C h)) (sym is) (job_lasts p (job_of P t.tenant) rest old legal (record { tenant = t.tenant; is = t.is; fact = (t.fact.ready, refl) }));
         }
       where
@@ -151,12 +151,13 @@ module _ (P : Program) (C : Sizes) where
             no_length (own n rest) (omega arith)
 
     -- another tenant that is refused at this station would not be open
-    refused : (e : Event) (l : LastEvent P C by old new e []) (q tag : ℕ) → IsNamed (unit_of P C new) q s tag → WasOpenOnce P C old new q → Has (unit_of P C l.point) q IsAny → q ≡ p
-    refused e l q tag named was here =
+    refused : (e : Event) (l : LastEvent P C by old new e []) → renewals new ≡ renewals old → (q tag : ℕ) → IsNamed (unit_of P C new) q s tag → WasOpenOnce P C old new q → Has (unit_of P C l.point) q IsAny → q ≡ p
+    refused e l one_table q tag named was here =
         let x = there e l in
         let m : List Entry = was.point in
         let legal_m : IsLegal P C m = legal_before P C was.within.before_return.more m (subst (IsLegal P C) (was.within.before_return.is) legal_new) in
-        let p_at = any_stays P C p s g was.within.behind_call.more old (subst (IsLegal P C) was.within.behind_call.is legal_m) (record { tenant = t.tenant; is = t.is; station_is = t.station_is; tag_is = t.tag_is; fact = tt }) in
+        let same_m = sym (ap renewals was.within.behind_call.is) ∙ none_to new m old was.within.before_return was.within.behind_call one_table in
+        let p_at = any_stays P C p s g was.within.behind_call.more old (subst (IsLegal P C) was.within.behind_call.is legal_m) same_m (record { tenant = t.tenant; is = t.is; new = t.new; station_is = t.station_is; tag_is = t.tag_is; fact = tt }) in
         let p_m = subst (λ h. IsTenant (unit_of P C h) p s g IsAny) (sym was.within.behind_call.is) p_at in
         let q_m : was.fact.tenant.station ≡ s = station_of m was.within.before_return q was.fact.tenant was.fact.is named in
         let q_p : here.tenant.station ≡ s = station_of l.point (record { more = l.after ++ entry by e ∷ []; is = l.is ∙ sym (append_assoc l.after (entry by e ∷ []) l.point) }) q here.tenant here.is named in
@@ -171,10 +172,10 @@ module _ (P : Program) (C : Sizes) where
 
         station_of : (h : List Entry) → StartsWith new h → (q : ℕ) (u : Tenant) → at (unit_of P C h).tenants q ≡ Some u → IsNamed (unit_of P C new) q s tag → u.station ≡ s
         station_of h a q u is named =
-            let later = any_stays P C q u.station u.tag a.more h (subst (IsLegal P C) a.is legal_new) (record { tenant = u; is = is; station_is = refl; tag_is = refl; fact = tt }) in
-            let now = subst (λ z. IsTenant (unit_of P C z) q u.station u.tag IsAny) (sym a.is) later in
+            let later = place_stays P C q u a.more h (subst (IsLegal P C) a.is legal_new) is in
+            let now = subst (λ z. Has (unit_of P C z) q (λ x. (x.station ≡ u.station) × (x.tag ≡ u.tag))) (sym a.is) later in
             let same : now.tenant ≡ named.tenant = one_at P C new legal_new q now.tenant named.tenant now.is named.is in
-            sym now.station_is ∙ (ap (λ (z : Tenant). z.station) same ∙ named.station_is)
+            sym now.fact.0 ∙ (ap (λ (z : Tenant). z.station) same ∙ named.station_is)
 
     -- the tenant that was claimed is this one
     claimed : (j : Job) → (a : IsClaimed P C by old new s j) → fields_of j ≡ job_of P t.tenant
@@ -189,11 +190,11 @@ module _ (P : Program) (C : Sizes) where
         let more : List Entry = l.after ++ entry by e ∷ [] in
         let is : new ≡ more ++ l.point = l.is ∙ sym (append_assoc l.after (entry by e ∷ []) l.point) in
         let legal : IsLegal P C (more ++ l.point) = subst (IsLegal P C) is legal_new in
-        let later = subst (λ z. IsTenant (unit_of P C z) q u.station u.tag IsAny) (sym is) (any_stays P C q u.station u.tag more l.point legal (record { tenant = u; is = act.is; station_is = refl; tag_is = refl; fact = tt })) in
+        let later = subst (λ z. Has (unit_of P C z) q (λ x. (x.station ≡ u.station) × (x.tag ≡ u.tag))) (sym is) (place_stays P C q u more l.point legal act.is) in
         let held = a.holds.tenant in
         let same : later.tenant ≡ held.tenant = one_at P C new legal_new q later.tenant held.tenant later.is held.is in
         let f = held.fact.fields_are in
-        let at_s : u.station ≡ s = sym later.station_is ∙ (ap (λ (z : Tenant). z.station) same ∙ (ap (λ (z : JobFields). z.station) f ∙ a.station)) in
+        let at_s : u.station ≡ s = sym later.fact.0 ∙ (ap (λ (z : Tenant). z.station) same ∙ (ap (λ (z : JobFields). z.station) f ∙ a.station)) in
         let open_p = x.is_open in
         let one : open_p.tenant ≡ x.named.tenant = one_at P C l.point x.legal p open_p.tenant x.named.tenant open_p.is x.named.is in
         let p_s : open_p.tenant.station ≡ s = ap (λ (z : Tenant). z.station) one ∙ x.named.station_is in
@@ -231,14 +232,14 @@ module _ (P : Program) (C : Sizes) where
         let l = last_event P C by old new e [] a.adds in
         let x = there e l in
         let w = x.may.2 in
-        let same = refused e l a.p tag a.named a.opened (record { tenant = w.tenant; is = w.is; fact = tt }) in
+        let same = refused e l a.adds.one_table a.p tag a.named a.opened (record { tenant = w.tenant; is = w.is; fact = tt }) in
         absurd (not_waiting l.point x.legal k x.job (subst (λ q. IsWaiting P (unit_of P C l.point) q k) same w))
     gives_job (Moved tag) a =
         let e : Event = Refuses (HasMoved a.p) in
         let l = last_event P C by old new e [] a.adds in
         let x = there e l in
         let w = x.may.2 in
-        let same = refused e l a.p tag a.named a.opened (record { tenant = w.tenant; is = w.is; fact = tt }) in
+        let same = refused e l a.adds.one_table a.p tag a.named a.opened (record { tenant = w.tenant; is = w.is; fact = tt }) in
         absurd (moved_not l.point x.legal x.is_open (subst (λ q. Gone (unit_of P C l.point) q) same w))
 
 pub claims_give_jobs : ClaimsGiveJobs
@@ -252,16 +253,17 @@ ready_tenants_stay P C old new s g p begins legal_new quiet t =
     let is : new ≡ more ++ old = begins.is in
     let legal : IsLegal P C (more ++ old) = subst (IsLegal P C) is legal_new in
     let none : (n : ℕ) → n ≢ back → own n more ≡ [] = λ n ne. own_none n more old (ap (own n) (sym is) ∙ quiet n ne) in
-    let named : IsTenant (unit_of P C old) p s g IsAny = record { tenant = t.tenant; is = t.is; station_is = t.station_is; tag_is = t.tag_is; fact = tt } in
+    let named : IsTenant (unit_of P C old) p s g IsAny = record { tenant = t.tenant; is = t.is; new = t.new; station_is = t.station_is; tag_is = t.tag_is; fact = tt } in
     let o = open_lasts P C p more old legal (only_back more none) (record { tenant = t.tenant; is = t.is; fact = t.fact.is_open }) in
     let j = job_lasts P C p (job_of P t.tenant) more old legal (record { tenant = t.tenant; is = t.is; fact = (t.fact.ready, refl) }) in
-    let i = any_stays P C p s g more old legal named in
+    let i = any_stays P C p s g more old legal (none_renewed P C more old legal (none front (λ e. cc e))) named in
     let open_job : o.tenant ≡ j.tenant = one_at P C (more ++ old) legal p o.tenant j.tenant o.is j.is in
     let named_job : i.tenant ≡ j.tenant = one_at P C (more ++ old) legal p i.tenant j.tenant i.is j.is in
     subst (λ z. IsStill P C z s g p t.tenant) (sym is) (record {
       tenant = record {
         tenant = j.tenant;
         is = j.is;
+        new = i.new;
         station_is = ap (λ (z : Tenant). z.station) (sym named_job) ∙ i.station_is;
         tag_is = ap (λ (z : Tenant). z.tag) (sym named_job) ∙ i.tag_is;
         fact = record { is_open = subst IsOpen open_job o.fact; ready = j.fact.0 };
@@ -307,8 +309,8 @@ lets_are_out P C old new t m adds =
     let same : n ≡ new_tenant P C (unit_of P C old) t.index t.predicted (supply_of t.sources.0) (supply_of t.sources.1) = ap (λ h. new_tenant P C (unit_of P C h) t.index t.predicted (supply_of t.sources.0) (supply_of t.sources.1)) is ∙ stay.new in
     let its : IsLetAs t (front_pc (unit_of P C old).tenants) n = subst (IsLetAs t (front_pc (unit_of P C old).tenants)) (sym same) (let_as P C (unit_of P C old) t m.half) in
     let now : IsTenant (unit_of P C (entry front e ∷ l.point)) r (next_station C (recent (unit_of P C old))) (next_tag C (recent (unit_of P C old))) (IsLetAs t (front_pc (unit_of P C old).tenants)) =
-    record { tenant = n; is = at_new n U.tenants; station_is = ap (λ (z : Tenant). z.station) same; tag_is = ap (λ (z : Tenant). z.tag) same; fact = its } in
-    let later = tenant_stays P C r (next_station C (recent (unit_of P C old))) (next_tag C (recent (unit_of P C old))) (IsLetAs t (front_pc (unit_of P C old).tenants)) keeps l.after (entry front e ∷ l.point) l.legal now in
+    record { tenant = n; is = at_new n U.tenants; new = new_there U n; station_is = ap (λ (z : Tenant). z.station) same; tag_is = ap (λ (z : Tenant). z.tag) same; fact = its } in
+    let later = tenant_stays P C r (next_station C (recent (unit_of P C old))) (next_tag C (recent (unit_of P C old))) (IsLetAs t (front_pc (unit_of P C old).tenants)) keeps l.after (entry front e ∷ l.point) l.legal (sym (ap renewals l.is) ∙ l.since) now in
     let there : IsTenant (unit_of P C new) r (next_station C (recent (unit_of P C old))) (next_tag C (recent (unit_of P C old))) (IsLetAs t (front_pc (unit_of P C old).tenants)) =
     subst (λ z. IsTenant (unit_of P C z) r (next_station C (recent (unit_of P C old))) (next_tag C (recent (unit_of P C old))) (IsLetAs t (front_pc (unit_of P C old).tenants))) (sym l.is) later in
     record { p = r; tenant = there; opens = λ quiet. open_at l there quiet (record { tenant = n; is = at_new n U.tenants; fact = record { live = refl; fate = refl } }) }

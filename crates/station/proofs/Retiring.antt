@@ -21,18 +21,18 @@ use Rattle.inorder.specs.declared.history.Source.TheVariants.{First, Second}
 use Rattle.inorder.specs.declared.history.Step.{Step}
 use Rattle.inorder.specs.declared.history.Step.TheVariants.{On}
 use Rattle.inorder.specs.Callers.{CanLeave, GoesOn, IsHead, head_station, is_retired, stands_retired}
-use Rattle.inorder.specs.History.{Adds, IsLegal, back, entry, own, taken_of, unit_of}
+use Rattle.inorder.specs.History.{Adds, IsLegal, back, entry, own, taken_of, unit_of, renewals}
 use Rattle.inorder.specs.Legal.{Allowed, May, applied, change_at, changed}
 use Rattle.inorder.specs.Replies.{last_tag}
 use Rattle.inorder.specs.StationWords.{IsFree, left_value, live_word}
 use Rattle.inorder.specs.Steps.{CanRetire, IsNoRetiredStop, retired}
 use Rattle.inorder.specs.Tenants.{Addr, Busy, Done, Fate, IsNotLive, Live, Miss, Open, Stopped, Tenant, kind_of}
-use Rattle.inorder.specs.Unit.{at, how_many, older, recent, Sizes, UpdateUnit, younger}
+use Rattle.inorder.specs.Unit.{at, how_many, older, recent, Sizes, UpdateUnit, younger, is_old}
 use Rattle.inorder.proofs.Basics.{split_at}
 use Rattle.inorder.proofs.Ends.{Acted, IsNotBacks, IsNotBacksAct, exact, oldest_live, still_oldest}
 use Rattle.inorder.proofs.Grows.{all_grows, sound_mid}
 use Rattle.inorder.proofs.Heads.{HasAddr, goes_on_stays, head_at}
-use Rattle.inorder.proofs.Histories.{adds_on, allowed_steps, unit_sound}
+use Rattle.inorder.proofs.Histories.{adds_on, allowed_steps, unit_sound, legal_before}
 use Rattle.inorder.proofs.Kept.{parts}
 use Rattle.inorder.proofs.Moves.{Goes, goes}
 use Rattle.inorder.proofs.Positions.{all_at, all_from, at_below, at_replaced_here, older_from}
@@ -57,7 +57,7 @@ use Rattle.ruu_words.proofs.Ending.{data_plan, head_plan, over_plan}
 use Rattle.ruu_words.proofs.General.{Plan, Plans}
 use Rattle.ruu_words.proofs.Leaving.{retire_plan}
 use Rattle.ruu_words.proofs.StationWords.{addr_state, done_state, live_state, one_at}
-use Rattle.ruu_words.proofs.Stays.{back_stays}
+use Rattle.ruu_words.proofs.Stays.{back_stays, same_before}
 use Rattle.station.specs.declared.answers.Last.{Last}
 use Rattle.station.specs.declared.answers.Last.TheVariants.{Done as WasDone, Stop as WasStop, Stored}
 use Rattle.station.specs.declared.answers.Retire.{Retire as Answer}
@@ -69,7 +69,7 @@ use Rattle.station.specs.Seats.{HasEnded, IsAtHead}
 use Rattle.station.proofs.Adding.{adds_these}
 use Rattle.station.proofs.Backs.{IsNoRetirement}
 use Rattle.station.proofs.Stops.{same_code}
-use Rattle.inorder.proofs.Recent.{live_is_recent, old_are_gone, recent_change}
+use Rattle.inorder.proofs.Recent.{live_is_recent, old_are_gone, recent_change, old_kept}
 
 -- A fate at the end stays, but for the back
 
@@ -147,7 +147,7 @@ one_head U p q A B a b = dite (ℕ_discrete p q) (λ e. e) (λ ne. ⊎_elim
 
 -- a kind of step that tells more
 plan_as : (P : Program) (C : Sizes) (id : ℕ) (h : List Entry) (d : Draft) (x : Place) (new : ℕ) (K L : List Entry → Draft → List Event → Type 0) → ((e : Draft) (es : List Event) → K h e es → L h e es) → Plan P C id h d x new K → Plan P C id h d x new L
-plan_as P C id h d x new K L f p = record { events = p.events; draft = p.draft; mine = p.mine; legal = p.legal; proper = p.proper; here = p.here; else = p.else; kind = f p.draft p.events p.kind }
+plan_as P C id h d x new K L f p = record { events = p.events; draft = p.draft; mine = p.mine; legal = p.legal; same = p.same; proper = p.proper; here = p.here; else = p.else; kind = f p.draft p.events p.kind }
 
 abbrev last_fate : Last → Fate
 last_fate (WasDone v) = Done v
@@ -262,37 +262,37 @@ module _ (P : Program) (C : Sizes) where
           (λ (z : Acted P V by s (applied P C V by s).tenants p i.tenant). ap (λ (y : Tenant). y.fate) (found t (changed P by z.act i.tenant (older V.tenants p)) (sym is ∙ z.now)) ∙ late_fate P by z.act (younger V.tenants p) i.tenant (older V.tenants p) (subst IsNotBacks z.step b) z.may (stays.late i.tenant i.fact))
           (exact P C V by s a p i.tenant i.is)
 
-  head_on : (Fact : Tenant → Type 0) → Stays Fact → (p : ℕ) (more seen : List Entry) → IsLegal P C (more ++ seen) → own back more ≡ [] → IsHead (U seen) p Fact → IsHead (U (more ++ seen)) p Fact
-  head_on Fact stays p more seen legal none i = back_stays P C (λ V. IsHead V p Fact) (λ V by s b a ok q. head_step Fact stays p V by s b a ok q) more seen legal none i
+  head_on : (Fact : Tenant → Type 0) → Stays Fact → (p : ℕ) (more seen : List Entry) → IsLegal P C (more ++ seen) → renewals (more ++ seen) ≡ renewals seen → own back more ≡ [] → IsHead (U seen) p Fact → IsHead (U (more ++ seen)) p Fact
+  head_on Fact stays p more seen legal same none i = back_stays P C (λ V. IsHead V p Fact) (λ V by s b a ok q. head_step Fact stays p V by s b a ok q) more seen legal same none i
 
-  pub access_on : (a : Access) (more seen : List Entry) → IsLegal P C (more ++ seen) → own back more ≡ [] → HasAccess P C seen a → HasAccess P C (more ++ seen) a
-  access_on a more seen legal none x = record { p = x.p; head = head_on (IsAccess a) (access_stays a) x.p more seen legal none x.head }
+  pub access_on : (a : Access) (more seen : List Entry) → IsLegal P C (more ++ seen) → renewals (more ++ seen) ≡ renewals seen → own back more ≡ [] → HasAccess P C seen a → HasAccess P C (more ++ seen) a
+  access_on a more seen legal same none x = record { p = x.p; head = head_on (IsAccess a) (access_stays a) x.p more seen legal same none x.head }
 
-  pub leave_on : (l : Leaving) (more seen : List Entry) → IsLegal P C (more ++ seen) → own back more ≡ [] → MayLeave P C seen l → MayLeave P C (more ++ seen) l
-  leave_on l more seen legal none x = record { p = x.p; head = head_on (IsLeaving P l) (leaving_stays P l) x.p more seen legal none x.head }
+  pub leave_on : (l : Leaving) (more seen : List Entry) → IsLegal P C (more ++ seen) → renewals (more ++ seen) ≡ renewals seen → own back more ≡ [] → MayLeave P C seen l → MayLeave P C (more ++ seen) l
+  leave_on l more seen legal same none x = record { p = x.p; head = head_on (IsLeaving P l) (leaving_stays P l) x.p more seen legal same none x.head }
 
-  pub end_on : (s : ℕ) (w : StationWord) (more seen : List Entry) → IsLegal P C (more ++ seen) → own back more ≡ [] → HasEnd P C seen s w → HasEnd P C (more ++ seen) s w
-  end_on s w more seen legal none x = record { p = x.p; head = head_on (IsAtEnd s w) (end_stays s w) x.p more seen legal none x.head }
+  pub end_on : (s : ℕ) (w : StationWord) (more seen : List Entry) → IsLegal P C (more ++ seen) → renewals (more ++ seen) ≡ renewals seen → own back more ≡ [] → HasEnd P C seen s w → HasEnd P C (more ++ seen) s w
+  end_on s w more seen legal same none x = record { p = x.p; head = head_on (IsAtEnd s w) (end_stays s w) x.p more seen legal same none x.head }
 
   -- Plans
 
   pub tells_over : (id : ℕ) (v : View) (x : Place) (station : ℕ) → v.role ≡ Back → (id ≡ back → IsAtHead C (U v.seen) station true) → Plans P C id v x (λ n. n) (λ _. Tells P C Over)
-  tells_over id v x station role knows between d legal apart caller mine draft n small content =
-      over_plan P C id v x role (knows (subst (λ r. IsCaller r id) role caller)).ended between d legal apart caller mine draft n small content
+  tells_over id v x station role knows between d legal same apart caller mine draft n small content =
+      over_plan P C id v x role (knows (subst (λ r. IsCaller r id) role caller)).ended between d legal same apart caller mine draft n small content
 
   pub looks_plan : (id : ℕ) (v : View) (s : ℕ) → v.role ≡ Back → (id ≡ back → IsAtHead C (U v.seen) s false) → Plans P C id v (Station s) (λ n. n) (LooksAtHead P C id s)
-  looks_plan id v s role knows between d legal apart caller mine draft n small content =
+  looks_plan id v s role knows between d legal same apart caller mine draft n small content =
       let h : List Entry = between ++ v.seen in
       let is_back : id ≡ back = subst (λ r. IsCaller r id) role caller in
       plan_as P C id h d (Station s) n (Heads P C s n) (LooksAtHead P C id s n) (λ e es k. record { by_is = is_back; heads = k })
-      (head_plan P C id v s role (sym (knows is_back).head) (knows is_back).ended between d legal apart caller mine draft n small content)
+      (head_plan P C id v s role (sym (knows is_back).head) (knows is_back).ended between d legal same apart caller mine draft n small content)
 
   pub waits_plan : (id : ℕ) (v : View) (x : Place) (a : Access) → v.role ≡ Back → HasAccess P C v.seen a → kind (instr_of P a.index).op ≢ Stores → Plans P C id v x (λ n. n) (λ _. Tells P C NotDone)
-  waits_plan id v x a role access load between d legal apart caller mine draft n small content =
+  waits_plan id v x a role access load between d legal same apart caller mine draft n small content =
       let h : List Entry = between ++ v.seen in
       let us : List Tenant = (U h).tenants in
       let is_back : id ≡ back = subst (λ r. IsCaller r id) role caller in
-      let now = access_on a between v.seen legal (subst (λ z. own z between ≡ []) is_back apart) access in
+      let now = access_on a between v.seen legal same (subst (λ z. own z between ≡ []) is_back apart) access in
       let i = now.head in
       let t : Tenant = i.tenant in
       tells P C id h d legal draft x n NotDone (
@@ -310,29 +310,29 @@ module _ (P : Program) (C : Sizes) where
 
   pub finds_plan : (id : ℕ) (v : View) (a : Access) → v.role ≡ Back → HasAccess P C v.seen a → Plans P C id v (Operand a.station Second) (λ n. n) (FindsData P C a)
   unfolding access_on
-  finds_plan id v a role access between d legal apart caller mine draft n small content =
+  finds_plan id v a role access between d legal same apart caller mine draft n small content =
       let h : List Entry = between ++ v.seen in
       let is_back : id ≡ back = subst (λ r. IsCaller r id) role caller in
-      let now = access_on a between v.seen legal (subst (λ z. own z between ≡ []) is_back apart) access in
+      let now = access_on a between v.seen legal same (subst (λ z. own z between ≡ []) is_back apart) access in
       let head = map_head (U v.seen) access.p (IsAccess a) (HasAddr a.station a.tag a.index a.address) (λ t x. record { station_is = x.station_is; tag_is = x.tag_is; index_is = x.index_is; fate = x.fate }) access.head in
       plan_as P C id h d (Operand a.station Second) n (ReadsData P C access.p n) (FindsData P C a n) (λ e es k. record { access = now; data_is = k })
-      (data_plan P C id v access.p a.station a.tag a.index a.address role head between d legal apart caller mine draft n small content)
+      (data_plan P C id v access.p a.station a.tag a.index a.address role head between d legal same apart caller mine draft n small content)
 
   pub leaves_plan : (id : ℕ) (v : View) (l : Leaving) (new : ℕ) → v.role ≡ Back → MayLeave P C v.seen l → IsStation (left_word l) new → Plans P C id v (Station l.station) (λ _. new) (λ _. Leaves P C l)
   unfolding leave_on
-  leaves_plan id v l new role may word between d legal apart caller mine draft n small content =
+  leaves_plan id v l new role may word between d legal same apart caller mine draft n small content =
       let h : List Entry = between ++ v.seen in
       let is_back : id ≡ back = subst (λ r. IsCaller r id) role caller in
-      let now = leave_on l between v.seen legal (subst (λ z. own z between ≡ []) is_back apart) may in
+      let now = leave_on l between v.seen legal same (subst (λ z. own z between ≡ []) is_back apart) may in
       let i = may.head in
       let f : Fate = last_fate l.last in
       let m : ℕ = kept_value l.last in
       let value : value_of new ≡ m = word.value in
       let fits : m < 4294967296 = omega arith in
-      let named : IsTenant (U v.seen) may.p l.station l.tag IsAny = record { tenant = i.tenant; is = i.is; station_is = i.fact.station_is; tag_is = i.fact.tag_is; fact = tt } in
+      let named : IsTenant (U v.seen) may.p l.station l.tag IsAny = record { tenant = i.tenant; is = i.is; new = live_is_recent P C v.seen (legal_before P C between v.seen legal) may.p i.tenant i.is i.live; station_is = i.fact.station_is; tag_is = i.fact.tag_is; fact = tt } in
       let can : CanLeave P (U v.seen) may.p f = record { tenant = i.tenant; is = i.is; live = i.live; oldest = i.oldest; no_stop = λ q u lt e. i.goes_on q u e; fate = fate_last P l.last i.tenant i.fact.last_is.ends; can = can_last P l.last i.tenant i.fact.last_is.ends } in
       plan_as P C id h d (Station l.station) new (Writes P C (Does (On may.p (Retire m))) may.p l.station n) (Leaves P C l) (λ e es k. record { may = now; added = k.added })
-      (retire_plan P C id v l.station l.tag may.p m new f role fits named can (free_last l.tag l.last new word) between d legal apart caller mine draft n small content)
+      (retire_plan P C id v l.station l.tag may.p m new f role fits named can (free_last l.tag l.last new word) between d legal same apart caller mine draft n small content)
 
   -- What is known at the head
 
@@ -377,6 +377,9 @@ module _ (P : Program) (C : Sizes) where
     at_p : at V.tenants p ≡ Some gone
     at_p = ap (λ o. at (change_at P us by p (Retire m) o) p) g.kind.may.head.is ∙ at_replaced_here us p t gone g.kind.may.head.is
 
+    recent_p : is_old V p ≡ false
+    recent_p = old_kept P C (U h) by (On p (Retire m)) (λ e. cc e) legal.1.1 p ∙ live_is_recent P C h legal.0 p t g.kind.may.head.is g.kind.may.head.live
+
     still_ends : (x : Last) → EndsAs P x t → EndsAs P x gone
     still_ends (WasDone n) e = e
     still_ends (Stored a n) e = e
@@ -385,7 +388,7 @@ module _ (P : Program) (C : Sizes) where
     pub retired_out : IsRetired P C by v.seen w.seen l.station l.tag l.index l.half l.last
     retired_out =
         let x = g.kind.may.head.fact in
-        let named : IsTenant V p l.station l.tag (IsLast P l.index l.half l.last) = record { tenant = gone; is = at_p; station_is = x.station_is; tag_is = x.tag_is; fact = record { index_is = x.last_is.index_is; half_is = x.last_is.half_is; ends = still_ends l.last x.last_is.ends } } in
+        let named : IsTenant V p l.station l.tag (IsLast P l.index l.half l.last) = record { tenant = gone; is = at_p; new = recent_p; station_is = x.station_is; tag_is = x.tag_is; fact = record { index_is = x.last_is.index_is; half_is = x.last_is.half_is; ends = still_ends l.last x.last_is.ends } } in
         record {
           p = p;
           n = m;
@@ -494,7 +497,7 @@ module _ (P : Program) (C : Sizes) where
     seen_mid = g.is ∙ ap (λ es. map (entry by) es ++ mid) g.kind.none
 
     now : HasEnd P C mid s word
-    now = end_on s word g.between v.seen (subst (IsLegal P C) seen_mid g.legal) (subst (λ i. own i g.between ≡ []) is g.not_own) was
+    now = end_on s word g.between v.seen (subst (IsLegal P C) seen_mid g.legal) (same_before P C by v w (ReadsInfo P C s n) g) (subst (λ i. own i g.between ≡ []) is g.not_own) was
 
     its_index : now.head.tenant.index ≡ index_of n
     its_index = sym (g.kind.its now.p now.head.tenant now.head.is now.head.fact.station_is now.head.live).index

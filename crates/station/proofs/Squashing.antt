@@ -23,7 +23,7 @@ use Rattle.inorder.specs.Unit.{how_many, next_station, older, recent, Sizes, Upd
 use Rattle.inorder.proofs.Basics.{split_at}
 use Rattle.inorder.proofs.Ends.{may_squash, squash_stays}
 use Rattle.inorder.proofs.Grows.{all_mid}
-use Rattle.inorder.proofs.Histories.{adds_on, allowed_steps, unit_sound}
+use Rattle.inorder.proofs.Histories.{adds_on, allowed_steps, unit_sound, none_renewed}
 use Rattle.inorder.proofs.Serving.{are_small}
 use Rattle.inorder.proofs.Sound.{IsSettled, IsSound, SettledBy}
 use Rattle.inorder.proofs.Stations.{is_ring, stands}
@@ -114,7 +114,7 @@ module _ (P : Program) (C : Sizes) where
   pub youngest_in : (h : List Entry) → IsLegal P C h → (next ring : ℕ) → ring ≡ C.ring → next < ring → next ≡ next_station C (recent (U h)) → (m : MaySquash P C h) → HasYoungest P C h ((next + ring - 1) % ring) m.can.tenant.tenant.tag
   youngest_in h legal next ring ring_is small e m = record {
     p = m.p;
-    named = record { tenant = m.can.tenant.tenant; is = m.can.tenant.is; station_is = tail_is h legal m.p next ring m.can ring_is small e; tag_is = refl; fact = tt };
+    named = record { tenant = m.can.tenant.tenant; is = m.can.tenant.is; new = live_is_recent P C h legal m.p m.can.tenant.tenant m.can.tenant.is m.can.tenant.fact; station_is = tail_is h legal m.p next ring m.can ring_is small e; tag_is = refl; fact = tt };
     can = m.can;
   }
 
@@ -122,7 +122,7 @@ module _ (P : Program) (C : Sizes) where
   pub youngest_on : (s g : ℕ) (more seen : List Entry) → IsLegal P C (more ++ seen) → own front more ≡ [] → HasYoungest P C seen s g → HasYoungest P C (more ++ seen) s g
   youngest_on s g more seen legal none y = record {
     p = y.p;
-    named = any_stays P C y.p s g more seen legal y.named;
+    named = any_stays P C y.p s g more seen legal (none_renewed P C more seen legal none) y.named;
     can = front_stays P C (λ U. CanSquash U y.p) (λ U by st b a ok q. squash_stays P C U by st b a ok y.p q) more seen legal none y.can;
   }
 
@@ -139,7 +139,7 @@ module _ (P : Program) (C : Sizes) where
   youngest_small h legal s g y = subst (λ z. z < last_tag) y.named.tag_is (are_small P C h legal y.p y.named.tenant y.named.is)
 
   pub squashes_plan : (id : ℕ) (v : View) (s g new : ℕ) → id ≡ front → v.draft ≡ Nothing → HasYoungest P C v.seen s g → IsStation (record { tag = suc g; state = IsFree; value = None }) new → Plans P C id v (Station s) (λ _. new) (λ _. Squashes P C s g)
-  squashes_plan id v s g new is_front none youngest word between d legal apart caller mine draft n small content =
+  squashes_plan id v s g new is_front none youngest word between d legal same apart caller mine draft n small content =
       let h : List Entry = between ++ v.seen in
       let now : HasYoungest P C h s g = youngest_on s g between v.seen legal (subst (λ z. own z between ≡ []) is_front apart) youngest in
       let t : Tenant = now.can.tenant.tenant in
@@ -188,7 +188,7 @@ module _ (P : Program) (C : Sizes) where
         let c1 : CanSquash (U v1.seen) m.p = subst (λ h. CanSquash (U h) m.p) (sym seen1) (can_stay m.p g1.between v0.seen legal1 g1.not_own m.can) in
         let c2 : CanSquash (U last) m.p = can_stay m.p g2.between v1.seen legal2.0 g2.not_own c1 in
         let one : p ≡ m.p = one_youngest (U last) p m.p g2.kind.youngest.can c2 in
-        let named = any_stays P C p s g (entry by (Does (On p Squash)) ∷ []) last legal2 g2.kind.youngest.named in
+        let named = any_stays P C p s g (entry by (Does (On p Squash)) ∷ []) last legal2 refl g2.kind.youngest.named in
         let adds = adds_on P C by v0.seen v1.seen w.seen [] (Does (On p Squash) ∷ []) (adds_these P C by v0 v1 Kind [] g1 none) (adds_these P C by v1 w (Squashes P C s g) (Does (On p Squash) ∷ []) g2 g2.kind.added) in
         record {
           p = m.p;

@@ -8,12 +8,12 @@ use Rattle.inorder.specs.declared.history.Source.{Source}
 use Rattle.inorder.specs.declared.history.Step.{Step}
 use Rattle.inorder.specs.declared.history.Step.TheVariants.{Let, On, Renew}
 use Rattle.inorder.specs.Callers.{CanAsk, CanSquash}
-use Rattle.inorder.specs.History.{Adds, IsLegal, back, front, own, unit_of}
+use Rattle.inorder.specs.History.{Adds, IsLegal, back, front, own, unit_of, renewals}
 use Rattle.inorder.specs.Replies.{Has, last_tag}
 use Rattle.inorder.specs.Tenants.{on_path}
 use Rattle.inorder.specs.Unit.{Sizes}
 use Rattle.inorder.proofs.Ends.{squash_stays}
-use Rattle.inorder.proofs.Histories.{own_none}
+use Rattle.inorder.proofs.Histories.{own_none, none_renewed}
 use Rattle.inorder.proofs.Letting.{IsBesides, IsBesidesAct}
 use Rattle.inorder.proofs.Moves.{IsNoLink, IsNoLinkAct, goes}
 use Rattle.ruu_words.specs.Kinds.{IsTenant}
@@ -29,6 +29,7 @@ use Rattle.station.specs.Recovery.{MaySquash, SeesMiss}
 use Rattle.station.specs.Writeback.{MaySettle}
 use Rattle.station.proofs.Asking.{last_on, path_stays, weaker}
 use Rattle.station.proofs.Mending.{miss_on}
+use Rattle.inorder.proofs.Recent.{old_kept}
 
 no_link_act : (act : Act) → IsBesidesAct act → IsNoLinkAct act
 no_link_act (Link k) b = absurd b
@@ -65,6 +66,7 @@ module _ (P : Program) (C : Sizes) where
       record {
         tenant = g.tenant;
         is = g.is;
+        new = old_kept P C U by st (λ e. subst IsBesides e besides) ok r ∙ i.new;
         station_is = g.goes.station ∙ i.station_is;
         tag_is = g.goes.tag ∙ i.tag_is;
         fact = record { way = g.goes.way (no_link st besides) k ∙ i.fact.way; creator = g.goes.creator k ∙ i.fact.creator };
@@ -75,9 +77,9 @@ module _ (P : Program) (C : Sizes) where
       record {
         r = r;
         q = q;
-        asks = record { tenant = can.tenant; is = can.is; station_is = can.station_is; tag_is = can.tag_is; fact = record { can = can.fact; path = ap on_path (sym same) ∙ path.fact } };
+        asks = record { tenant = can.tenant; is = can.is; new = can.new; station_is = can.station_is; tag_is = can.tag_is; fact = record { can = can.fact; path = ap on_path (sym same) ∙ path.fact } };
         last = last_on P C r s more seen legal none may.last;
-        creator = any_stays P C q a b more seen legal may.creator;
+        creator = any_stays P C q a b more seen legal (none_renewed P C more seen legal none) may.creator;
         creator_last = last_on P C q a more seen legal none may.creator_last;
       }
 
@@ -90,13 +92,13 @@ module _ (P : Program) (C : Sizes) where
   misses_stay : (s : ℕ) (more seen : List Entry) → IsLegal P C (more ++ seen) → own front more ≡ [] → SeesMiss P C seen s → SeesMiss P C (more ++ seen) s
   misses_stay s more seen legal none m = record { tag = m.tag; next = m.next; miss = miss_on P C s m.tag m.next more seen legal none m.miss }
 
-  settles_stay : (s g v : ℕ) (more seen : List Entry) → IsLegal P C (more ++ seen) → own back more ≡ [] → MaySettle P C seen s g v → MaySettle P C (more ++ seen) s g v
-  settles_stay s g v more seen legal none may = record {
+  settles_stay : (s g v : ℕ) (more seen : List Entry) → IsLegal P C (more ++ seen) → renewals (more ++ seen) ≡ renewals seen → own back more ≡ [] → MaySettle P C seen s g v → MaySettle P C (more ++ seen) s g v
+  settles_stay s g v more seen legal same none may = record {
     address = may.address;
     can = record {
       p = may.can.p;
-      named = any_stays P C may.can.p s g more seen legal may.can.named;
-      can = load_lasts P C may.can.p may.address v more seen legal none may.can.can;
+      named = any_stays P C may.can.p s g more seen legal same may.can.named;
+      can = load_lasts P C may.can.p may.address v more seen legal same none may.can.can;
     };
   }
 
@@ -117,4 +119,4 @@ pub backs_stay : BacksStay
 backs_stay P C old new s g v added may =
     let more : List Entry = added.begins.more in
     let is : new ≡ more ++ old = added.begins.is in
-    subst (λ h. MaySettle P C h s g v) (sym is) (settles_stay P C s g v more old (subst (IsLegal P C) is added.legal) (nothing_own P C back old new added) may)
+    subst (λ h. MaySettle P C h s g v) (sym is) (settles_stay P C s g v more old (subst (IsLegal P C) is added.legal) (sym (ap renewals is) ∙ added.one_table) (nothing_own P C back old new added) may)

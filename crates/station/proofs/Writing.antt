@@ -19,7 +19,7 @@ use Rattle.inorder.specs.declared.history.Refusal.TheVariants.{Stale}
 use Rattle.inorder.specs.declared.history.Source.TheVariants.{First, Second}
 use Rattle.inorder.specs.declared.history.Step.TheVariants.{On}
 use Rattle.inorder.specs.Callers.{CanLoad, HasJob}
-use Rattle.inorder.specs.History.{Adds, IsLegal, back, entry, own, unit_of}
+use Rattle.inorder.specs.History.{Adds, IsLegal, back, entry, own, unit_of, renewals}
 use Rattle.inorder.specs.Legal.{Allowed, changed}
 use Rattle.inorder.specs.Memory.{load_value}
 use Rattle.inorder.specs.Replies.{IsNamed, IsSquashed, IsStale, JobFields, last_tag}
@@ -42,7 +42,7 @@ use Rattle.ruu_words.specs.Kinds.{Finds, Finishes, IsAny, IsTenant, Settles, ref
 use Rattle.ruu_words.specs.Rule.{Grows, IsCaller}
 use Rattle.ruu_words.proofs.Settling.{load_lasts}
 use Rattle.ruu_words.proofs.StationWords.{its_word, one_at}
-use Rattle.ruu_words.proofs.Stays.{any_stays}
+use Rattle.ruu_words.proofs.Stays.{any_stays, same_before}
 use Rattle.station.specs.declared.answers.Job.{Job}
 use Rattle.station.specs.declared.answers.Settle.{Settle}
 use Rattle.station.specs.declared.answers.Settle.TheVariants.{Settled, Stale as StaleLoad}
@@ -54,6 +54,7 @@ use Rattle.station.specs.Writeback.{CanSettle, HasTenant, IsCarried, IsDeliveryO
 use Rattle.station.proofs.Adding.{adds_these}
 use Rattle.station.proofs.Backs.{IsNoRetirement, back_seated}
 use Rattle.station.proofs.Carrying.{all_append, any_on, one_named}
+use Rattle.inorder.proofs.Recent.{old_kept}
 
 -- A source that is not needed changes no outcome
 same_outcome : (k : Kind) (i : Instr) (half : Half) (pc a b size : ℕ) →
@@ -82,6 +83,7 @@ module _ (P : Program) (C : Sizes) where
     named = record {
       tenant = h.tenant.tenant;
       is = h.tenant.is;
+      new = h.new;
       station_is = ap (λ (f : JobFields). f.station) h.tenant.fact.fields_are;
       tag_is = ap (λ (f : JobFields). f.tag) h.tenant.fact.fields_are;
       fact = is_job P by j o h.tenant.tenant h.tenant.fact e;
@@ -107,7 +109,7 @@ module _ (P : Program) (C : Sizes) where
       let named = any_on P C by out.p s g c.0 mid new c.1.1 out.named in
       record {
         p = out.p;
-        named = record { tenant = named.tenant; is = named.is; station_is = named.station_is; tag_is = named.tag_is };
+        named = record { tenant = named.tenant; is = named.is; new = named.new; station_is = named.station_is; tag_is = named.tag_is };
         behind = c.0;
         carried = c.1.0;
         adds = adds_on P C by old mid new (Does (On out.p act) ∷ []) c.0 out.adds c.1.1;
@@ -120,7 +122,7 @@ module _ (P : Program) (C : Sizes) where
       let t = i.tenant in
       let place = same_place P by act t (older us p) in
       let now : IsActed P us by p act t p t = ⊎_elim (λ z. z) (λ (z : IsLeft P us by p act p t). absurd (z.position refl)) (at_changed P us by p act t i.is p t i.is) in
-      record { tenant = changed P by act t (older us p); is = now.now; station_is = place.0 ∙ i.station_is; tag_is = place.1 ∙ i.tag_is; fact = fact }
+      record { tenant = changed P by act t (older us p); is = now.now; new = old_kept P C (unit_of P C h) by (On p act) (λ e. cc e) legal.1.1 p ∙ i.new; station_is = place.0 ∙ i.station_is; tag_is = place.1 ∙ i.tag_is; fact = fact }
 
   -- a refusal changes nothing
   stale_out : (by s g : ℕ) (v w : View) (Kind : List Entry → Draft → List Event → Type 0) (e : Grows P C by v w Kind) → Finds (unit_of P C (e.between ++ v.seen)) s g e.events IsSquashed (refuses Stale) → WasStale P C by v.seen w.seen s g
@@ -129,7 +131,7 @@ module _ (P : Program) (C : Sizes) where
       let seen : w.seen ≡ entry by (Refuses (Stale f.p)) ∷ h = e.is ∙ ap (λ es. map (entry by) es ++ h) f.added in
       record {
         p = f.p;
-        named = subst (λ z. IsNamed (unit_of P C z) f.p s g) (sym seen) (record { tenant = f.tenant.tenant; is = f.tenant.is; station_is = f.tenant.station_is; tag_is = f.tenant.tag_is });
+        named = subst (λ z. IsNamed (unit_of P C z) f.p s g) (sym seen) (record { tenant = f.tenant.tenant; is = f.tenant.is; new = f.tenant.new; station_is = f.tenant.station_is; tag_is = f.tenant.tag_is });
         adds = adds_these P C by v w Kind (Refuses (Stale f.p) ∷ []) e f.added;
       }
 
@@ -204,6 +206,9 @@ module _ (P : Program) (C : Sizes) where
     legal1 : IsLegal P C (e1.between ++ v.seen)
     legal1 = subst (IsLegal P C) seen1 e1.legal
 
+    same1 : renewals (e1.between ++ v.seen) ≡ renewals v.seen
+    same1 = same_before P C by v v1 (Sees P C by v (Station s) n) e1
+
     own_none : own back e1.between ≡ []
     own_none = subst (λ z. own z e1.between ≡ []) (is_back v.role by role e1.kind.caller) e1.not_own
 
@@ -212,8 +217,8 @@ module _ (P : Program) (C : Sizes) where
     can_settle =
         let h : List Entry = e1.between ++ v.seen in
         let c = may.can in
-        let named : IsTenant (unit_of P C h) c.p s g IsAny = any_stays P C c.p s g e1.between v.seen legal1 c.named in
-        let now = load_lasts P C c.p may.address val e1.between v.seen legal1 own_none c.can in
+        let named : IsTenant (unit_of P C h) c.p s g IsAny = any_stays P C c.p s g e1.between v.seen legal1 same1 c.named in
+        let now = load_lasts P C c.p may.address val e1.between v.seen legal1 same1 own_none c.can in
         subst (λ z. CanSettle P C z s g (value_of n) val) (sym seen1) (record {
           p = c.p;
           named = named;
@@ -242,8 +247,9 @@ module _ (P : Program) (C : Sizes) where
         let seen : w.seen ≡ entry by (Does (On f.p Load)) ∷ h = e.is ∙ ap (λ es. map (entry by) es ++ h) f.added in
         let legal : IsLegal P C (entry by (Does (On f.p Load)) ∷ h) = subst (IsLegal P C) seen e.legal in
         let none : own back e.between ≡ [] = subst (λ z. own z e.between ≡ []) (is_back v.role by role caller) e.not_own in
-        let now = load_lasts P C can.p a val e.between v.seen legal.0 none can.can in
-        let named : IsTenant (unit_of P C h) can.p s g IsAny = any_stays P C can.p s g e.between v.seen legal.0 can.named in
+        let calm = same_before P C by v w (Settles P C s g old n) e in
+        let now = load_lasts P C can.p a val e.between v.seen legal.0 calm none can.can in
+        let named : IsTenant (unit_of P C h) can.p s g IsAny = any_stays P C can.p s g e.between v.seen legal.0 calm can.named in
         let one : can.p ≡ f.p = one_named P C h legal.0 can.p f.p s g IsAny IsAny named f.tenant in
         let allowed : Allowed P C (unit_of P C h) by (On f.p Load) = legal.1.1 in
         let same : f.tenant.tenant ≡ allowed.tenant = one_at P C h legal.0 f.p f.tenant.tenant allowed.tenant f.tenant.is allowed.is in
