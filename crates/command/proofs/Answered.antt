@@ -22,7 +22,7 @@ use Rattle.pool.specs.declared.answer.Run.{Run}
 use Rattle.pool.specs.declared.answer.Run.TheVariants as run
 use Rattle.counts.specs.declared.tally.Tally.{Tally as Totals}
 use Rattle.pool.specs.Runs.{IsAfter, IsRight, IsWithin, TakesTurns}
-use Rattle.command.specs.declared.request.Asked.{Asked}
+use Rattle.requests.specs.declared.request.Asked.{Asked}
 use Rattle.command.specs.declared.went.Line.{Line}
 use Rattle.command.specs.declared.went.Line.TheVariants.{Nothing, Refused, Tally}
 use Rattle.command.specs.declared.went.Refusal.{Refusal}

@@ -10,7 +10,7 @@ use Rattle.inorder.specs.Runs.{end_of}
 use Rattle.devices.specs.Counted.{known_by}
 use Rattle.devices.specs.declared.counted.Counted.{Counted}
 use Rattle.bench.specs.Answer.{ending_status, report_of_run, status_for, status_of, text_for, text_of}
-use Rattle.command.specs.declared.request.Asked.{Asked}
+use Rattle.requests.specs.declared.request.Asked.{Asked}
 use Rattle.command.specs.declared.went.Line.{Line}
 use Rattle.command.specs.declared.went.Went.{Went}
 use Rattle.command.specs.Answers.{AsAlone, Early, HasAnswer, IsAnswer, IsAsAlone, IsEarly, IsEnd, IsLineWith}

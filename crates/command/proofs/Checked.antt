@@ -7,7 +7,7 @@ use Rattle.isa.specs.declared.listing.fault.FaultKind.TheVariants.{TooLong}
 use Rattle.isa.specs.Listing.{listing}
 use Rattle.isa.specs.Programs.{Program}
 use Rattle.bench.specs.Answer.{most_taken}
-use Rattle.command.specs.Checks.{HasCheck, IsCheckOf}
+use Rattle.checks.specs.Checks.{HasCheck, IsCheckOf}
 
 too_long : (bytes : List ℕ) → 4194304 < length bytes → listing bytes ≡ Err (0, TooLong)
 unfolding listing

@@ -1,10 +1,4 @@
 mod Answered
 mod AsAlone
-mod Building
 mod Checked
-mod Entered
-mod Lengths
-mod NotAsked
-mod OddRings
-mod Texts
 mod WholeRuns

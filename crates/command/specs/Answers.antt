@@ -15,7 +15,7 @@ use Rattle.bench.specs.declared.outcome.Status.TheVariants.{TextFault}
 use Rattle.pool.specs.declared.answer.Run.{Run}
 use Rattle.pool.specs.declared.answer.Run.TheVariants as run
 use Rattle.counts.specs.declared.tally.Tally.{Tally as Totals}
-use Rattle.command.specs.declared.request.Asked.{Asked}
+use Rattle.requests.specs.declared.request.Asked.{Asked}
 use Rattle.command.specs.declared.went.Line.{Line}
 use Rattle.command.specs.declared.went.Line.TheVariants.{Nothing, Tally, Refused}
 use Rattle.command.specs.declared.went.Refusal.{Refusal}

@@ -1,9 +1,2 @@
-pub mod Tool
-pub mod Values
-pub mod Request
-pub mod Statuses
 pub mod Went
 pub mod Answers
-pub mod Predictors
-pub mod Forms
-pub mod Checks

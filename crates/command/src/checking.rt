@@ -1,28 +1,17 @@
 //! A listing that is read and not run.
 ghost use Rattle.std.specs.Prelude.{◌≡◌, ◌≢◌, ◌+◌, ◌-◌, ◌^◌, ◌<◌, ℕ, IfSome, IfOk, IfErr, OnOk, None};
-ghost use Rattle.isa.specs.Listing.{listing};
 ghost use Rattle.devices.specs.Counted.{failures_of, known_by, Gives, GivesPart};
-ghost use Rattle.command.specs.Checks.{HasCheck, IsCheckOf};
+ghost use Rattle.checks.specs.Checks.{HasCheck};
 ghost use Rattle.command.specs.Went.{HoldsOfInput, IsOfOneThread, refused};
 ghost use Rattle.command.specs.declared.went.Line.TheVariants.{Nothing, Refused};
-
-mod blame;
-mod explanation;
-mod forms;
-mod lines;
-mod parts;
-mod registers;
-mod summary;
 
 use crate::running::refused;
 use crate::threads::MOST_TAKEN;
 use crate::{Line, Refusal, Went};
+use checks::told;
 use devices::{Counted, read_up_to, write_whole};
-use explanation::explained;
-use isa::{FaultKind, parse};
 use std::alloc::Global;
 use std::io::{Read, Write};
-use summary::counted;
 
 /// Reads a listing and runs nothing. For a good one it writes how many instructions, labels and
 /// bytes of data it has, and for one with a fault where and what that is; the status is 0 or 2.
@@ -90,23 +79,4 @@ fn checked<R: Read, W: Write>(
     let (status, text) = told(alloc, listing.as_slice())?;
     write_whole(writer, text.as_slice())?;
     Ok(status)
-}
-
-// The status and the text for a listing.
-fn told(alloc: Global, bytes: &[u8]) -> Result<(u8, Vec<u8>), Refusal>
-    ensures ok { IfOk result (λ told.
-        IsCheckOf bytes.now (listing bytes.now) told.0 told.1.items) }
-    ensures memory { IfErr result (λ refusal. refusal ≡ Refusal.Memory) }
-{
-    match parse(alloc, bytes) {
-        Ok(program) => {
-            let text = counted(alloc, &program, bytes)?;
-            Ok((0, text))
-        },
-        Err(fault) if fault.kind == FaultKind::Memory => Err(Refusal::Memory),
-        Err(fault) => {
-            let text = explained(alloc, bytes, &fault)?;
-            Ok((2, text))
-        },
-    }
 }

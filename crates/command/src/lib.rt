@@ -2,27 +2,19 @@
 #![tactic(auto)]
 
 mod checking;
-mod chosen;
-mod entries;
-mod no_run;
 mod one_thread;
-mod options;
 mod progress;
-mod reading;
-mod refusals;
-mod request;
 mod running;
 mod statuses;
 #[cfg(test)]
 mod tests;
 mod threads;
-mod values;
 mod went;
 
 pub use checking::check;
-pub use no_run::{NoRun, status};
 pub use progress::Progress;
-pub use reading::{asked, requested};
-pub use request::{Asked, BranchPredictor, Request, is_standard_input};
+pub use requests::{
+    Asked, BranchPredictor, NoRun, Request, asked, is_standard_input, requested, status,
+};
 pub use running::go;
 pub use went::{Line, Refusal, Went};

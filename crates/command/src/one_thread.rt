@@ -3,16 +3,16 @@ ghost use Rattle.std.specs.Prelude.{◌≡◌, ◌≢◌, ◌+◌, ◌-◌, ◌^
 ghost use Rattle.devices.specs.Counted.{failures_of, known_by, Gives, GivesPart};
 ghost use Rattle.bench.specs.Answer.{text_of, status_of};
 ghost use Rattle.command.specs.Answers.{HasAnswer};
-ghost use Rattle.command.specs.Predictors.{IsChosen};
+ghost use Rattle.requests.specs.Predictors.{IsChosen};
 ghost use Rattle.command.specs.Went.{IsOfOneThread};
 ghost use Rattle.command.specs.declared.went.Line.TheVariants.{Nothing, Refused};
 ghost use Rattle.command.specs.declared.went.Went.{Went};
 
-use crate::chosen::{Chosen, choose};
 use crate::statuses::written;
 use crate::{Asked, Line, Refusal, Went};
 use bench::{Fault, Status, alone};
 use devices::Counted;
+use requests::{Chosen, choose};
 use std::alloc::Global;
 use std::io::{Read, Write};
 

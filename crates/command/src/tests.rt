@@ -1,6 +1,5 @@
 //! Command lines, and the runs that they ask for.
-mod checks;
-mod command_lines;
+mod checking;
 mod failing;
 mod handed_on;
 mod runs;

@@ -3,7 +3,7 @@
 
 ghost use Rattle.std.specs.Prelude.{◌≡◌};
 ghost use Rattle.std.specs.Process.{exit_status};
-ghost use Rattle.command.specs.Statuses.{status_of};
+ghost use Rattle.requests.specs.Statuses.{status_of};
 
 mod teller;
 

@@ -1,0 +1,16 @@
+use Rattle.std.proofs.Common.{◌≡◌, ◌+◌, ◌≤◌}
+use Rattle.std.specs.Option.{option_map}
+use Rattle.text.specs.Line.{lines_of, lines_left}
+use Rattle.text.proofs.Splits.{size_left}
+use Rattle.checks.specs.Checks.{how_many_labels}
+use Rattle.checks.proofs.Lengths.{total}
+use Rattle.checks.proofs.summary.how_many_labels.Given as goal
+
+abbrev pub invariant-loop-rest : goal.invariant-loop-rest
+invariant-loop-rest l = record {
+  count : l.n + how_many_labels (lines_left (option_map (λ t. t.now) l.rest)) ≡ how_many_labels (lines_of l.bytes);
+  size : l.n + total (lines_left (option_map (λ t. t.now) l.rest)) ≤ total (lines_of l.bytes);
+}
+
+abbrev pub decreases-loop-rest : goal.decreases-loop-rest
+decreases-loop-rest l = size_left (option_map (λ t. t.now) l.rest)

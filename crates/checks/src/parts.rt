@@ -1,0 +1,175 @@
+//! The parts of a line: its labels, its statement, its word and its operands.
+ghost use Rattle.std.specs.Prelude.{◌≤◌, ◌<◌, IfSome};
+ghost use Rattle.checks.specs.Checks.{IsPartOf, IsIn};
+
+use text::is_name;
+
+/// A part of a line: from the byte `from` up to the byte `to`, which is behind it.
+#[derive(Clone, Copy)]
+pub(crate) struct Part {
+    pub from: usize,
+    pub to: usize,
+}
+
+fn is_blank(byte: u8) -> bool {
+    byte == b' ' || byte == b'\t'
+}
+
+// Where this byte first stands in the part.
+pub(crate) fn find(line: &[u8], part: Part, byte: u8) -> Option<usize>
+    requires { IsPartOf line.now part }
+    ensures { IfSome result (λ at. (part.from ≤ at) × (at < part.to)) }
+{
+    for at in part.from..part.to {
+        if line[at] == byte {
+            return Some(at);
+        }
+    }
+    None
+}
+
+// Where the first byte that is no blank stands, or the end.
+fn behind_blanks(line: &[u8], part: Part) -> usize
+    requires { IsPartOf line.now part }
+    ensures least { part.from ≤ result }
+    ensures most { result ≤ part.to }
+{
+    for at in part.from..part.to {
+        if !is_blank(line[at]) {
+            return at;
+        }
+    }
+    part.to
+}
+
+// Where the first blank stands, or the end.
+fn before_blank(line: &[u8], part: Part) -> usize
+    requires { IsPartOf line.now part }
+    ensures least { part.from ≤ result }
+    ensures most { result ≤ part.to }
+{
+    for at in part.from..part.to {
+        if is_blank(line[at]) {
+            return at;
+        }
+    }
+    part.to
+}
+
+// Where the blanks at the end begin.
+fn before_blanks(line: &[u8], part: Part) -> usize
+    requires { IsPartOf line.now part }
+    ensures least { part.from ≤ result }
+    ensures most { result ≤ part.to }
+{
+    let mut end = part.from;
+    for at in part.from..part.to {
+        if !is_blank(line[at]) {
+            end = at + 1;
+        }
+    }
+    end
+}
+
+// The part without the blanks at its ends.
+pub(crate) fn trimmed(line: &[u8], part: Part) -> Part
+    requires { IsPartOf line.now part }
+    ensures { IsIn part result }
+{
+    let from = behind_blanks(line, part);
+    let inner = Part { from, to: part.to };
+    let to = before_blanks(line, inner);
+    Part { from, to }
+}
+
+// What stands before the comment.
+pub(crate) fn code(line: &[u8]) -> Part
+    ensures { IsPartOf line.now result }
+{
+    let all = Part {
+        from: 0,
+        to: line.len(),
+    };
+    match find(line, all, b'#') {
+        Some(to) => Part { from: 0, to },
+        None => all,
+    }
+}
+
+// Where the colon of the label at the front stands, if there is one.
+fn colon(line: &[u8], part: Part) -> Option<usize>
+    requires { IsPartOf line.now part }
+    ensures { IfSome result (λ at. (part.from ≤ at) × (at < part.to)) }
+{
+    let at = find(line, part, b':')?;
+    let front = Part {
+        from: part.from,
+        to: at,
+    };
+    let name = trimmed(line, front);
+    if is_name(&line[name.from..name.to]) {
+        Some(at)
+    } else {
+        None
+    }
+}
+
+// Where the labels end, behind their last colon.
+fn behind_labels(line: &[u8], code: Part) -> usize
+    requires { IsPartOf line.now code }
+    ensures least { code.from ≤ result }
+    ensures most { result ≤ code.to }
+{
+    let to = code.to;
+    let mut from = code.from;
+    while let Some(at) = colon(line, Part { from, to }) {
+        from = at + 1;
+    }
+    from
+}
+
+// The names of the labels, up to the last colon.
+pub(crate) fn labels(line: &[u8], code: Part) -> Part
+    requires { IsPartOf line.now code }
+    ensures { IsIn code result }
+{
+    let end = behind_labels(line, code);
+    let front = Part {
+        from: code.from,
+        to: code.from.max(end.saturating_sub(1)),
+    };
+    trimmed(line, front)
+}
+
+pub(crate) fn statement(line: &[u8], code: Part) -> Part
+    requires { IsPartOf line.now code }
+    ensures { IsIn code result }
+{
+    let from = behind_labels(line, code);
+    trimmed(line, Part { from, to: code.to })
+}
+
+pub(crate) fn word(line: &[u8], statement: Part) -> Part
+    requires { IsPartOf line.now statement }
+    ensures { IsIn statement result }
+{
+    let to = before_blank(line, statement);
+    Part {
+        from: statement.from,
+        to,
+    }
+}
+
+// All operands, or the word where there are none.
+pub(crate) fn operands(line: &[u8], statement: Part) -> Part
+    requires { IsPartOf line.now statement }
+    ensures { IsIn statement result }
+{
+    let word = word(line, statement);
+    let behind = Part {
+        from: word.to,
+        to: statement.to,
+    };
+    let found = trimmed(line, behind);
+    if found.from == found.to { word } else { found }
+}

@@ -1,0 +1,23 @@
+-- What the building of the command line comes to.
+use Rattle.std.proofs.Common.{◌≡◌, ◌∙◌, ap₂, true, ◌||◌, refl}
+use Rattle.clap.specs.Words.{AddsArg, App, Rule, is_simple, with_rule}
+use Rattle.clap.specs.Faults.{is_simple_and_free}
+use Rattle.clap.proofs.OnLiterals.{clap_on_literals}
+use Rattle.clap.specs.declared.builder.arg.Arg.{Arg}
+use Rattle.clap.specs.declared.builder.command.Command.{Command}
+use Rattle.requests.specs.Tool.{IsArg, IsCommand, tool}
+
+pub extended : {app : App} {rule : Rule} {old new : Command} {arg : Arg}
+    → IsCommand app old → IsArg rule arg → AddsArg old arg new → IsCommand (with_rule app rule) new
+extended old arg adds = record {
+  is = adds.shape arg.local ∙ ap₂ with_rule old.is arg.is;
+  local = adds.globals ∙ ap₂ ◌||◌ old.local arg.local;
+}
+
+pub tool-is_simple : is_simple tool ≡ true
+unfolding clap_on_literals
+tool-is_simple = refl
+
+pub tool-is_free : is_simple_and_free tool ≡ true
+unfolding clap_on_literals
+tool-is_free = refl

@@ -1,0 +1,4 @@
+mod Building
+mod Entered
+mod NotAsked
+mod OddRings

@@ -1,0 +1,18 @@
+-- The exit statuses of a command line that gives no run, and what is printed for it.
+use Rattle.std.specs.Prelude.{ℕ, List, codes, string_bytes}
+use Rattle.requests.specs.declared.no_run.NoRun.{NoRun}
+use Rattle.requests.specs.declared.no_run.NoRun.TheVariants.{Help, Usage, Ring, Memory}
+
+-- of a command line that gives no run
+abbrev pub status_of : NoRun → ℕ
+status_of (Help _) = 0
+status_of (Usage _) = 3
+status_of Ring = 3
+status_of Memory = 5
+
+-- its text; that of a ring size and of want of memory has no line feed
+abbrev pub no_run_text : NoRun → List ℕ
+no_run_text (Help text) = string_bytes text
+no_run_text (Usage text) = string_bytes text
+no_run_text Ring = codes "ruu: ruu-size must be 2, 4, 8, 16 or 32"
+no_run_text Memory = codes "ruu: memory"

@@ -1,0 +1,60 @@
+-- What the text of an option stands for.
+use Rattle.std.specs.Prelude.{◌≡◌, ◌≤◌, ℕ, Bool, false, Option, Some, None, codes, min}
+use Rattle.std.specs.Prelude.{option_map}
+use Rattle.std.specs.Borrow.{Bor}
+use Rattle.std.specs.Str.Parse.{IsNumeral, digits_value, without_leading_plus}
+use Rattle.std.specs.Str.{bytes_eq}
+use Rattle.clap.specs.Words.{Text, first_of, found_of, rows_of}
+use Rattle.clap.specs.declared.parser.matches.ArgMatches.{ArgMatches}
+use Rattle.requests.specs.declared.request.BranchPredictor.{BranchPredictor}
+use Rattle.requests.specs.declared.request.BranchPredictor.TheVariants.{NotTaken, Taken, Bimod}
+
+-- the text behind a reference
+abbrev pub text_of : Option (Bor Text) → Option Text
+text_of = option_map (λ text. text.now)
+
+-- the first value that the matches have for an id
+abbrev pub value_in : ArgMatches → Text → Option Text
+value_in matches id = first_of id (rows_of (found_of matches))
+
+-- n is what the text's decimal digits write, and the default without a text
+abbrev pub IsNumber : ℕ → Option Text → ℕ → Type 0
+IsNumber default None n = n ≡ default
+IsNumber default (Some text) n =
+    IsNumeral 10 (without_leading_plus text) × (n ≡ digits_value 10 (without_leading_plus text))
+
+-- the same, and n is in the range of its option
+pub record IsNumberFrom (least most default : ℕ) (text : Option Text) (n : ℕ) : Type 0 where
+  pub reads : IsNumber default text n
+  pub above : least ≤ n
+  pub below : n ≤ most
+
+-- the text stands for no number in the range
+abbrev pub IsNoNumberFrom : (least most default : ℕ) → Option Text → Type 0
+IsNoNumberFrom least most default text = (n : ℕ) → ¬ (IsNumberFrom least most default text n)
+
+-- the queue size of the text, cut to the ring size
+pub record IsQueueCut (text : Option Text) (ring queue : ℕ) : Type 0 where
+  pub wanted : ℕ
+  pub reads : IsNumberFrom 2 32 8 text wanted
+  pub cut : queue ≡ min wanted ring
+
+-- the word of a predictor
+abbrev pub word_of : BranchPredictor → Text
+word_of NotTaken = codes "nottaken"
+word_of Taken = codes "taken"
+word_of Bimod = codes "bimod"
+
+-- the text is the predictor's word, or there is none and it is the default
+abbrev pub IsPredictor : Option Text → BranchPredictor → Type 0
+IsPredictor None predictor = predictor ≡ Bimod
+IsPredictor (Some text) predictor = text ≡ word_of predictor
+
+-- the text is no predictor's word
+abbrev pub IsNoPredictor : Option Text → Type 0
+IsNoPredictor text = (predictor : BranchPredictor) → ¬ (IsPredictor text predictor)
+
+-- the flag was given
+abbrev pub is_true : Option Text → Bool
+is_true None = false
+is_true (Some text) = bytes_eq text (codes "true")

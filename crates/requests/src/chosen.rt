@@ -1,0 +1,47 @@
+//! The predictor that a command line asks for.
+ghost use Rattle.std.specs.Prelude.{◌≡◌, replicate};
+ghost use Rattle.requests.specs.Predictors.{IsChosen};
+
+use crate::BranchPredictor;
+use isa::{Bimod, Instr, NotTaken, Predictor, Taken};
+
+/// One of the predictors. The counters serve the bimodal one, and are trained in any case.
+#[derive(Clone, Copy, Drop)]
+pub struct Chosen {
+    which: BranchPredictor,
+    bimod: Bimod,
+}
+
+/// The predictor, which was told of no branch.
+pub fn choose(which: BranchPredictor) -> Chosen
+    ensures { IsChosen which result }
+{
+    Chosen {
+        which,
+        bimod: Bimod::new(),
+    }
+}
+
+impl Predictor for Chosen {
+    ghost use Rattle.std.specs.Prelude.{◌≡◌};
+    ghost use Rattle.isa.specs.Prediction.{trained};
+    ghost use Rattle.requests.specs.Predictors.{answer_of};
+
+    ghost Predicts = { λ old pc instr answer new.
+        (answer ≡ answer_of old.which old.bimod.counters pc instr) × (new ≡ old) };
+
+    ghost Learns = { λ old pc next new.
+        (new.which ≡ old.which) × (new.bimod.counters ≡ trained old.bimod.counters pc next) };
+
+    fn predict(&mut self, pc: u32, instr: &Instr) -> u32 {
+        match self.which {
+            BranchPredictor::NotTaken => NotTaken.predict(pc, instr),
+            BranchPredictor::Taken => Taken.predict(pc, instr),
+            BranchPredictor::Bimod => self.bimod.predict(pc, instr),
+        }
+    }
+
+    fn told(&mut self, pc: u32, next: u32) {
+        self.bimod.told(pc, next);
+    }
+}

@@ -1,0 +1,62 @@
+//! The entries of the matches, each read as what it stands for.
+ghost use Rattle.std.specs.Prelude.{◌≡◌, IfOk, IfErr, Some, None, codes};
+ghost use Rattle.requests.specs.Values.{IsNumberFrom, IsNoNumberFrom, IsPredictor, IsNoPredictor};
+ghost use Rattle.requests.specs.Values.{value_in};
+ghost use Rattle.requests.specs.Request.{IsUsage};
+
+use crate::refusals::{bad_number, usage};
+use crate::values::{number_in, predictor_in};
+use crate::{BranchPredictor, NoRun};
+use clap::ArgMatches;
+use std::alloc::Global;
+
+/// The file of the listing.
+pub(crate) fn file<'a>(alloc: Global, matches: &ArgMatches<'a>) -> Result<&'a str, NoRun>
+    ensures ok { IfOk result (λ file. value_in matches.now (codes "FILE") ≡ Some file.now) }
+    ensures usage { IfErr result IsUsage }
+    ensures err { IfErr result (λ _. value_in matches.now (codes "FILE") ≡ None) }
+{
+    let text = matches.get_str("FILE");
+    match text {
+        Some(file) => Ok(file),
+        None => Err(usage(alloc, "there is no FILE")),
+    }
+}
+
+/// The number of an option, if it is in its range.
+pub(crate) fn number<'a>(
+    alloc: Global,
+    matches: &ArgMatches<'a>,
+    name: &str,
+    least: u64,
+    most: u64,
+    default: u64,
+) -> Result<u64, NoRun>
+    ensures ok { IfOk result (IsNumberFrom least most default
+        (value_in matches.now name.now)) }
+    ensures usage { IfErr result IsUsage }
+    ensures err { IfErr result (λ _. IsNoNumberFrom least most default
+        (value_in matches.now name.now)) }
+{
+    let text = matches.get_str(name);
+    match number_in(text, least, most, default) {
+        Some(number) => Ok(number),
+        None => Err(bad_number(alloc, name, least, most)),
+    }
+}
+
+/// The predictor of `--bpred`.
+pub(crate) fn predictor<'a>(
+    alloc: Global,
+    matches: &ArgMatches<'a>,
+) -> Result<BranchPredictor, NoRun>
+    ensures ok { IfOk result (IsPredictor (value_in matches.now (codes "bpred"))) }
+    ensures usage { IfErr result IsUsage }
+    ensures err { IfErr result (λ _. IsNoPredictor (value_in matches.now (codes "bpred"))) }
+{
+    let text = matches.get_str("bpred");
+    match predictor_in(text) {
+        Some(predictor) => Ok(predictor),
+        None => Err(usage(alloc, "--bpred takes nottaken, taken or bimod")),
+    }
+}

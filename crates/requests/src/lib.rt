@@ -1,0 +1,18 @@
+//! What the words of a command line of `ruu` ask for, and why they are refused.
+#![tactic(auto)]
+
+mod chosen;
+mod entries;
+mod no_run;
+mod options;
+mod reading;
+mod refusals;
+mod request;
+#[cfg(test)]
+mod tests;
+mod values;
+
+pub use chosen::{Chosen, choose};
+pub use no_run::{NoRun, status};
+pub use reading::{asked, requested};
+pub use request::{Asked, BranchPredictor, Request, is_standard_input};

@@ -1,0 +1,53 @@
+//! Why a command line gives no run.
+ghost use Rattle.std.specs.Prelude.{◌≡◌, Some};
+ghost use Rattle.requests.specs.Statuses.{status_of, no_run_text};
+
+use std::alloc::{AllocError, AllocFailed};
+use std::fmt;
+
+/// Why a command line gives no run. Its `Display` is the text to print. `Ring` and `Memory` have
+/// no line feed at the end of theirs.
+#[derive(Drop)]
+pub enum NoRun {
+    /// Help or the version was asked for; this is its text.
+    Help(String),
+    /// The words are no command line of `ruu`, as the text explains.
+    Usage(String),
+    /// The ring size is a number that no ring has.
+    Ring,
+    /// Memory ran out.
+    Memory,
+}
+
+/// The exit status of the program.
+pub fn status(no_run: &NoRun) -> u8
+    ensures { result ≡ status_of no_run.now }
+{
+    match no_run {
+        NoRun::Help(_) => 0,
+        NoRun::Usage(_) | NoRun::Ring => 3,
+        NoRun::Memory => 5,
+    }
+}
+
+impl fmt::Display for NoRun {
+    ghost output = { λ no_run. Some (no_run_text no_run) };
+
+    fn fmt<W: fmt::Write>(&self, f: &mut fmt::Formatter<W>) -> fmt::Result {
+        match self {
+            NoRun::Help(text) | NoRun::Usage(text) => f.write_str(text.as_str()),
+            NoRun::Ring => f.write_str("ruu: ruu-size must be 2, 4, 8, 16 or 32"),
+            NoRun::Memory => f.write_str("ruu: memory"),
+        }
+    }
+}
+
+impl From<AllocError> for NoRun {
+    ghost use Rattle.requests.specs.declared.no_run.NoRun.{NoRun};
+
+    ghost from_gives = { λ _ e. e ≡ NoRun.Memory };
+
+    fn from(_error: AllocError) -> NoRun {
+        NoRun::Memory
+    }
+}

@@ -1,0 +1,112 @@
+//! The command line, as `clap` reads it and as its help shows it.
+ghost use Rattle.std.specs.Prelude.{◌≡◌, IfOk};
+ghost use Rattle.clap.specs.Words.{app_of};
+ghost use Rattle.requests.specs.Tool.{IsArg, IsCommand, tool, run, check};
+ghost use Rattle.requests.specs.Tool.{file_rule, option_rule, flag_rule};
+
+use clap::{Arg, ArgAction, Command};
+use std::alloc::{AllocError, Global};
+
+/// The command line of `ruu`.
+pub(crate) fn command<'a>(alloc: Global) -> Result<Command<'a>, AllocError>
+    ensures { IfOk result (λ c. app_of c ≡ tool) }
+{
+    let run = run(alloc)?;
+    let check = check(alloc)?;
+    let top = Command::new(alloc, "ruu");
+    let named = top.about(ABOUT);
+    let versioned = named.version(VERSION);
+    let running = versioned.subcommand(run)?;
+    running.subcommand(check)
+}
+
+fn run<'a>(alloc: Global) -> Result<Command<'a>, AllocError>
+    ensures { IfOk result (IsCommand run) }
+{
+    let top = Command::new(alloc, "run");
+    let named = top.about(RUN);
+    let ended = named.after_help(NOTES);
+    ended
+        .arg(file(alloc))?
+        .arg(option(alloc, "ruu-size", "N", RING))?
+        .arg(option(alloc, "lsq-size", "N", QUEUE))?
+        .arg(option(alloc, "units", "N", UNITS))?
+        .arg(option(alloc, "bpred", "NAME", PREDICTOR))?
+        .arg(option(alloc, "turns", "N", TURNS))?
+        .arg(option(alloc, "limit", "N", LIMIT))?
+        .arg(flag(alloc, "alone", ALONE))?
+        .arg(flag(alloc, "progress", PROGRESS))
+}
+
+fn check<'a>(alloc: Global) -> Result<Command<'a>, AllocError>
+    ensures { IfOk result (IsCommand check) }
+{
+    let top = Command::new(alloc, "check");
+    let named = top.about(CHECK);
+    let ended = named.after_help(CHECK_NOTES);
+    ended.arg(file(alloc))
+}
+
+const ABOUT: &str =
+    "An out-of-order core with a register update unit. 'ruu run --help' shows the options. \
+    './ruu listing FILE' writes the listing of an executable.";
+
+/// The version, and on a line of its own the kit by which it is proved.
+const VERSION: &str = "0.1.0\nrattle-kit-13b logic dac8208d650f15bf";
+
+const RUN: &str = "Runs a listing of MIPS I instructions and writes a report of how it ended";
+
+const CHECK: &str = "Reads a listing, runs nothing, and tells what it holds or where its fault is";
+
+const FILE: &str =
+    "The listing, one instruction a line, or - for standard input: see docs/LISTING.md";
+
+const RING: &str = "Reservation stations: 2, 4, 8, 16 or 32 [default: 16]";
+
+const QUEUE: &str = "Loads and stores in flight: 2 to 32, at most --ruu-size [default: 8]";
+
+const UNITS: &str = "Threads that execute instructions: 1 to 64 [default: 2]";
+
+const PREDICTOR: &str = "Branch predictor: nottaken, taken or bimod [default: bimod]";
+
+const TURNS: &str = "Turns of each thread: 1 to 4294967295 [default: 4294967295]";
+
+const LIMIT: &str = "Instructions to run at most: 0 to 4294967295 [default: 1000000]";
+
+const ALONE: &str = "Run the unit on one thread";
+
+const PROGRESS: &str = "Tell on standard error how far the threads are";
+
+const NOTES: &str = "\
+Example: ruu run examples/sum.s --ruu-size 8 --bpred taken
+
+Exit status: 0 the listing ran to a break, 1 it stopped otherwise, 2 a fault in its text,
+3 a mistake on the command line, 4 the limit of instructions or turns was reached,
+5 no memory, no thread, or a file could not be opened, read or written.";
+
+const CHECK_NOTES: &str = "\
+Example: ruu check examples/sum.s
+
+Exit status: 0 a good listing, 2 a fault in it, 3 a mistake on the command line,
+5 no memory, or a file could not be opened, read or written.";
+
+fn file<'a>(alloc: Global) -> Arg<'a>
+    ensures { IsArg file_rule result }
+{
+    let file = Arg::new(alloc, "FILE");
+    file.required(true).help(FILE)
+}
+
+fn option<'a>(alloc: Global, name: &'a str, value: &'a str, help: &'a str) -> Arg<'a>
+    ensures { IsArg (option_rule name.now) result }
+{
+    let option = Arg::new(alloc, name);
+    option.long(name).value_name(value).help(help)
+}
+
+fn flag<'a>(alloc: Global, name: &'a str, help: &'a str) -> Arg<'a>
+    ensures { IsArg (flag_rule name.now) result }
+{
+    let flag = Arg::new(alloc, name);
+    flag.long(name).action(ArgAction::SetTrue).help(help)
+}

@@ -1,0 +1,42 @@
+//! What a refused command line is told.
+ghost use Rattle.clap.specs.Words.{kind_of};
+ghost use Rattle.requests.specs.Request.{IsRefusalOf, IsUsage};
+
+use crate::NoRun;
+use clap::Error;
+use clap::error::ErrorKind;
+use std::alloc::Global;
+
+/// What an error of `clap`'s becomes.
+pub(crate) fn refused(alloc: Global, error: &Error) -> NoRun
+    ensures { IsRefusalOf (kind_of error.now) result }
+{
+    let Ok(text) = format!(in alloc; "{error}") else {
+        return NoRun::Memory;
+    };
+    match error.kind() {
+        ErrorKind::DisplayHelp | ErrorKind::DisplayVersion => NoRun::Help(text),
+        ErrorKind::OutOfMemory => NoRun::Memory,
+        _ => NoRun::Usage(text),
+    }
+}
+
+/// `what` is wrong, in the form of `clap`'s own texts.
+pub(crate) fn usage(alloc: Global, what: &str) -> NoRun
+    ensures { IsUsage result }
+{
+    match format!(in alloc; "error: {what}\n\nFor more information, try 'ruu run --help'.\n") {
+        Ok(text) => NoRun::Usage(text),
+        Err(_) => NoRun::Memory,
+    }
+}
+
+/// The value of an option is no number of its range.
+pub(crate) fn bad_number(alloc: Global, name: &str, least: u64, most: u64) -> NoRun
+    ensures { IsUsage result }
+{
+    match format!(in alloc; "--{name} takes a number from {least} to {most}") {
+        Ok(text) => usage(alloc, text.as_str()),
+        Err(_) => NoRun::Memory,
+    }
+}

@@ -1,0 +1,3 @@
+//! Command lines, and the predictors that they ask for.
+mod command_lines;
+mod predictors;
