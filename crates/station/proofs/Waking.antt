@@ -1,5 +1,5 @@
 -- Which stations the deliveries of a caller are to.
-use Rattle.std.proofs.Common.{◌≡◌, ◌⊎◌, ℕ, ◌<◌, ◌*◌, ◌%◌, ◌^◌, ◌||◌, bit_or, w32, Bool, true, false, List, [], ◌∷◌, ◌++◌, map, refl, sym, ap, ◌∙◌, subst, inl, inr, ⊎_elim, arith}
+use Rattle.std.proofs.Common.{◌≡◌, ◌⊎◌, ℕ, ◌<◌, ◌*◌, ◌%◌, ◌^◌, ◌||◌, bit_or, w32, Bool, true, false, List, [], ◌∷◌, ◌++◌, map, refl, sym, ◌∙◌, subst, inl, inr, ⊎_elim, arith}
 use Rattle.std.proofs.lemmas.Nat.Bits.{bit_at-zero, bit_at_set_other, bit_at_set_same}
 use mathlib.Core.Logic.{dite}
 use native.Mathlib.Decide.{ℕ_discrete}
@@ -17,7 +17,6 @@ use Rattle.inorder.specs.declared.history.Source.{Source}
 use Rattle.inorder.specs.declared.history.Step.TheVariants.{On}
 use Rattle.inorder.specs.History.{Adds, IsLegal, entry, unit_of}
 use Rattle.inorder.specs.Replies.{Has}
-use Rattle.inorder.specs.Tenants.{Tenant}
 use Rattle.inorder.specs.Unit.{Sizes}
 use Rattle.inorder.proofs.Histories.{adds_on, legal_before, unit_lasts}
 use Rattle.inorder.proofs.Moves.{goes}
@@ -50,13 +49,13 @@ among_right e (x ∷ xs) ys a = inr (among_right e xs ys a)
 abbrev pub HasNoDelivery : List Event → Type 0
 HasNoDelivery es = (p : ℕ) (k : Source) → IsAmong (Does (On p (Deliver k))) es → ⊥
 
-none_in_none : HasNoDelivery []
+pub none_in_none : HasNoDelivery []
 none_in_none p k a = a
 
 none_in_mark : (m : Mark) → HasNoDelivery (Marks m ∷ [])
 none_in_mark m p k a = ⊎_elim (λ (e : Does (On p (Deliver k)) ≡ Marks m). cc e) (λ z. z) a
 
-none_in_refusal : (r : Refusal) → HasNoDelivery (Refuses r ∷ [])
+pub none_in_refusal : (r : Refusal) → HasNoDelivery (Refuses r ∷ [])
 none_in_refusal r p k a = ⊎_elim (λ (e : Does (On p (Deliver k)) ≡ Refuses r). cc e) (λ z. z) a
 
 none_in_finish : (q : ℕ) → HasNoDelivery (Does (On q Finish) ∷ [])
@@ -235,14 +234,5 @@ module _ (P : Program) (C : Sizes) where
   wakes_before by id woken old mid new is x y =
       wakes_both by old mid new (IsSet woken) (λ s. ⊥) (IsSet woken) x (subst (λ z. Wakes P C z mid new (λ s. ⊥)) is y) (λ s e. e) (λ s no. absurd no) (λ s e. inl e)
 
-  pub has_woken : (by woken : ℕ) (old new : List Entry) → Wakes P C by old new (IsSet woken) → HasWoken P C by old new woken
-  has_woken by woken old new w = record {
-    events = w.events;
-    adds = w.adds;
-    set = λ s x.
-        let y = w.each x.p x.k x.among in let same : y.tenant ≡ x.tenant.tenant = cc (sym y.is ∙ x.tenant.is) in subst (IsSet woken) (ap (λ (t : Tenant). t.station) same ∙ x.tenant.fact) y.fact;
-    only = w.woken;
-  }
-
   pub has_woken_none : (by : ℕ) (old new : List Entry) → Wakes P C by old new (λ s. ⊥) → HasWoken P C by old new 0
-  has_woken_none by old new w = has_woken by 0 old new (wakes_as by old new (λ s. ⊥) (IsSet 0) (λ s no. absurd no) (λ s set. no_bit s set) w)
+  has_woken_none by old new w = wakes_as by old new (λ s. ⊥) (IsSet 0) (λ s no. absurd no) (λ s set. no_bit s set) w

@@ -39,12 +39,8 @@ pub record Wakes (P : Program) (C : Sizes) (by : ℕ) (old new : List Entry) (St
   pub woken : (s : ℕ) → Station s → IsWoken (unit_of P C new) events s
 
 -- Bit s of this number is set exactly where the caller has added a delivery to a tenant of station s
-pub record HasWoken (P : Program) (C : Sizes) (by : ℕ) (old new : List Entry) (woken : ℕ) :
-    Type 0 where
-  pub events : List Event
-  pub adds : Adds P C by old new events
-  pub set : (s : ℕ) → IsWoken (unit_of P C new) events s → IsSet woken s
-  pub only : (s : ℕ) → IsSet woken s → IsWoken (unit_of P C new) events s
+abbrev pub HasWoken : Program → Sizes → ℕ → List Entry → List Entry → ℕ → Type 0
+HasWoken P C by old new woken = Wakes P C by old new (IsSet woken)
 
 -- The number with bit s too, if it is to be set
 pub record IsWith (old s : ℕ) (wakes : Bool) (new : ℕ) : Type 0 where

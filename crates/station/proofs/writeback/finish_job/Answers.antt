@@ -8,7 +8,7 @@ use Rattle.ruu_words.specs.Kinds.{Finishes, fate_of}
 use Rattle.ruu_words.specs.Rule.{Grows, sizes_of}
 use Rattle.station.specs.Writeback.{HasTenant}
 use Rattle.station.proofs.Writing.{carried_legal, finish_all, finish_made, finish_out, finish_stale, job_held, station_inside, tag_small}
-use Rattle.station.proofs.Waking.{has_woken, has_woken_none, wakes_behind, wakes_finishing}
+use Rattle.station.proofs.Waking.{has_woken_none, wakes_behind, wakes_finishing}
 use Rattle.station.proofs.writeback.finish_job.Goals as goal
 
 pub busy_word-old-requires : goal.busy_word-old-requires
@@ -145,5 +145,4 @@ returns-clause-woken c =
     let n = c.finish_tenant-found.result in
     let w = c.finish_tenant-found.new.seat.me.0 in
     let done = wakes_finishing P C s.me.0.by c.args.job.station (tag_of old) old n c.args.outcome s.me.0 w c.finish_tenant-found.ensures.step.grows in
-    has_woken P C s.me.0.by c.carry-woken.result s.me.0.seen c.carry-woken.new.seat.me.0.seen
     (wakes_behind P C s.me.0.by w.by c.carry-woken.result s.me.0.seen w.seen c.carry-woken.new.seat.me.0.seen c.finish_tenant-found.ensures.same.1 done c.carry-woken.ensures.woken)

@@ -9,7 +9,7 @@ use Rattle.station.specs.Steps.{Sees}
 use Rattle.station.specs.Writeback.{CanSettle}
 use Rattle.station.proofs.Adding.{adds_these}
 use Rattle.station.proofs.Writing.{can_settle, settle_all, settle_made, settle_out, settle_stale, stale_after, tag_small, walked_legal}
-use Rattle.station.proofs.Waking.{has_woken, has_woken_none, wakes_behind, wakes_looking, wakes_settled}
+use Rattle.station.proofs.Waking.{has_woken_none, wakes_behind, wakes_looking, wakes_settled}
 use Rattle.station.proofs.writeback.settle_load.Goals as goal
 
 pub address_word-old-requires : goal.address_word-old-requires
@@ -131,6 +131,5 @@ returns-clause-woken c =
     let n = c.settle_tenant-found.result in
     let looked = wakes_looking P C s.me.0.by (Station c.args.station) c.look-seen.result s.me.0 v1 c.look-seen.ensures.step.grows in
     let done = wakes_settled P C s.me.0.by v1.by c.args.station (tag_of old) old n s.me.0.seen v1 w c.look-seen.ensures.same.1 looked c.settle_tenant-found.ensures.step.grows in
-    has_woken P C s.me.0.by c.walk-woken.result s.me.0.seen c.walk-woken.new.seat.me.0.seen
     (wakes_behind P C s.me.0.by w.by c.walk-woken.result s.me.0.seen w.seen c.walk-woken.new.seat.me.0.seen
     (c.settle_tenant-found.ensures.same.1 ∙ c.look-seen.ensures.same.1) done c.walk-woken.ensures.woken)
