@@ -9,11 +9,12 @@ use Rattle.counts.specs.Shares.{share_of}
 use Rattle.pool.specs.declared.answer.Refusal.{Refusal}
 use Rattle.pool.specs.declared.commit.Why.{Why}
 use Rattle.pool.specs.declared.commit.Why.TheVariants.{AtEnd, AtLimit, Spent}
+use Rattle.pool.specs.Turns.{TheTurns}
 
--- Its back, the turns that it has left, and why it commits no more
+-- Its back, its turns, and why it commits no more
 pub record TheCommitter : Type 0 where
   pub back : TheBack
-  pub left : ℕ
+  pub turns : TheTurns
   pub over : Result Why Refusal
 
 -- No table
@@ -33,7 +34,7 @@ Because limit back left AtLimit = (state_of back).count ≡ limit
 Because limit back left Spent = left ≡ 0
 
 -- It has not gone past the limit, and where it has ended it has not come to it; each instruction took a turn
-pub record Keeps (limit turns : ℕ) (back : TheBack) (left : ℕ) : Type 0 where
+pub record Keeps (limit : ℕ) (back : TheBack) (turns : TheTurns) : Type 0 where
   pub within : (state_of back).count ≤ limit
   pub below : back.ended ≢ None → (state_of back).count < limit
-  pub each_turn : (state_of back).count + left ≤ turns
+  pub each_turn : (state_of back).count + turns.left ≤ turns.all

@@ -1,12 +1,14 @@
 -- What a run answers.
-use Rattle.std.specs.Prelude.{◌≡◌, ◌≤◌, ◌<◌, ◌⊎◌, ℕ}
+use Rattle.std.specs.Prelude.{◌≡◌, ◌+◌, ◌≤◌, ◌<◌, ◌⊎◌, ℕ}
 use Rattle.isa.specs.declared.end.End.{End}
 use Rattle.isa.specs.declared.end.Ending.{Ending}
 use Rattle.isa.specs.declared.end.Ending.TheVariants.{Limit, Stop as ByStop}
 use Rattle.isa.specs.Programs.{Program}
 use Rattle.back.specs.Ends.{IsInOrder}
+use Rattle.pool.specs.declared.answer.Refusal.TheVariants.{Memory, Thread}
 use Rattle.pool.specs.declared.answer.Run.{Run}
 use Rattle.pool.specs.declared.answer.Run.TheVariants.{Ended, LimitReached, Refused}
+use Rattle.pool.specs.Turns.{TheTurns}
 use Rattle.counts.specs.declared.tally.Tally.{Tally}
 
 abbrev pub HasStopped : Ending → Type 0
@@ -36,6 +38,13 @@ abbrev pub TakesTurns : (turns : ℕ) → Run → Type 0
 TakesTurns turns (Ended end tally) = end.n ≤ turns
 TakesTurns turns (LimitReached end tally) = end.n ≤ turns
 TakesTurns turns (Refused why) = Unit {0}
+
+-- The same where it is known how many turns the commit thread has left; without all its threads a run takes none
+abbrev pub LeavesTurns : TheTurns → Run → Type 0
+LeavesTurns turns (Ended end tally) = end.n + turns.left ≤ turns.all
+LeavesTurns turns (LimitReached end tally) = end.n + turns.left ≤ turns.all
+LeavesTurns turns (Refused Memory) = Unit {0}
+LeavesTurns turns (Refused Thread) = turns.left ≡ turns.all
 
 -- The limit is told only where so many instructions were run, or no turn was left
 abbrev pub IsLimit : (limit left : ℕ) → Run → Type 0

@@ -1,4 +1,7 @@
 //! What a run answers.
+ghost use Rattle.std.specs.Prelude.{◌≡◌};
+
+use crate::turns::Turns;
 use counts::Tally;
 use isa::End;
 
@@ -18,4 +21,20 @@ pub enum Run {
     /// The limit of instructions was reached, or the commit thread had no turn left.
     LimitReached(End, Tally),
     Refused(Refusal),
+}
+
+/// How a run ended, and what its commit thread has left of its turns.
+#[derive(Drop)]
+pub struct RunInTurns {
+    pub run: Run,
+    pub turns: Turns,
+}
+
+impl Run {
+    /// The run, with these turns left.
+    pub(crate) fn with(self, turns: Turns) -> RunInTurns
+        ensures { result ≡ record { run = self; turns = turns } }
+    {
+        RunInTurns { run: self, turns }
+    }
 }

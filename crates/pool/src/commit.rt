@@ -2,11 +2,12 @@
 ghost use Rattle.std.specs.Prelude.{◌≡◌};
 ghost use Rattle.back.specs.Backs.{state_of};
 
-use crate::answer::{Refusal, Run};
+use crate::answer::{Refusal, Run, RunInTurns};
 use crate::bounds::Bounds;
 use crate::floor::Floor;
 use crate::gate::Gate;
 use crate::rest::Rest;
+use crate::turns::Turns;
 use back::{Back, Commit, Mark, Naming, Refresh};
 use counts::{CountSeat, Tally, Total};
 use isa::{Ending, Memory};
@@ -35,24 +36,25 @@ pub(crate) struct Committer<J: Naming, K: Bounds> {
     back: Back<J>,
     count: CountSeat,
     limit: u32,
-    // the turns that it has left
-    left: u32,
-    // why it commits no more; a thread is wanting until it has begun
+    turns: Turns,
+    // why it commits no more; a thread is wanting until it has begun, and then memory until it is over
     over: Result<Why, Refusal>,
     bounds: PhantomData<K>,
 }
 
 impl<J: Naming, K: Bounds> Model for Committer<J, K> {
-    ghost use Rattle.std.specs.Prelude.{◌≡◌, IfOk};
+    ghost use Rattle.std.specs.Prelude.{◌≡◌, Err, IfOk};
     ghost use Rattle.pool.specs.Committing.{Because, HasCounted, Keeps, TheCommitter};
+    ghost use Rattle.pool.specs.declared.answer.Refusal.TheVariants.{Thread};
 
     ghost Value = { TheCommitter };
 
-    ghost view = { λ c. record { back = c.back; left = c.left; over = c.over } };
+    ghost view = { λ c. record { back = c.back; turns = c.turns; over = c.over } };
 
     ghost invariant = { λ c.
-        HasCounted K.counts c.back c.count × (c.limit ≡ K.limit) × Keeps K.limit K.turns c.back c.left
-        × IfOk c.over (Because K.limit c.back c.left) };
+        HasCounted K.counts c.back c.count × (c.limit ≡ K.limit) × Keeps K.limit c.back c.turns
+        × (c.turns.all ≡ K.turns) × IfOk c.over (Because K.limit c.back c.turns.left)
+        × (c.over ≡ Err Thread → c.turns.left ≡ c.turns.all) };
 }
 
 // The gate is told no retirements but those that are shown.
@@ -72,7 +74,7 @@ enum Turned {
 
 impl<J: Naming, K: Bounds> Committer<J, K> {
     ghost use Rattle.std.specs.Prelude.{◌≡◌, ◌≢◌, ◌+◌, ◌<◌, ◌≤◌, ◌^◌, Err, IfOk, None};
-    ghost use Rattle.pool.specs.Runs.{IsLimit, IsRight, IsWithin, TakesTurns};
+    ghost use Rattle.pool.specs.Runs.{IsLimit, IsRight, IsWithin, LeavesTurns};
     ghost use Rattle.back.specs.Backs.{IsSame};
     ghost use Rattle.pool.specs.Committing.{Because, HasCounted};
     ghost use Rattle.pool.specs.declared.commit.Turned.TheVariants.{Over};
@@ -84,13 +86,14 @@ impl<J: Naming, K: Bounds> Committer<J, K> {
         requires turns { turns ≡ K.turns }
         requires start { (state_of back).count ≡ 0 }
         requires going { back.ended ≡ None }
-        ensures { result ≡ record { back = back; left = turns; over = Err Refusal.Thread } }
+        ensures back { result.back ≡ back }
+        ensures over { result.over ≡ Err Refusal.Thread }
     {
         Committer {
             back,
             count,
             limit,
-            left: turns,
+            turns: Turns::new(turns),
             over: Err(Refusal::Thread),
             bounds: PhantomData,
         }
@@ -100,7 +103,7 @@ impl<J: Naming, K: Bounds> Committer<J, K> {
     fn show<G: Gate, R: Wait>(&mut self, wait: &R, floor: &Floor, gate: &G) -> Result<(), Memory>
         requires counts { floor.now.counts ≡ K.counts }
         ensures back { IsSame self.old.back (record self.new.back { shown = self.old.back.shown }) }
-        ensures left { self.new.left ≡ self.old.left }
+        ensures turns { self.new.turns ≡ self.old.turns }
         ensures over { self.new.over ≡ self.old.over }
     {
         let mark = self.back.show(wait)?;
@@ -118,15 +121,14 @@ impl<J: Naming, K: Bounds> Committer<J, K> {
     ) -> Result<Turned, Memory>
         requires core { self.old.back.core ≡ floor.now.core }
         requires counts { floor.now.counts ≡ K.counts }
-        requires fresh { self.old.over ≡ Err Refusal.Thread }
-        requires left { 0 < self.old.left }
+        requires begun { self.old.over ≡ Err Refusal.Memory }
+        requires taken { (state_of self.old.back).count + self.old.turns.left < self.old.turns.all }
         ensures core { self.new.back.core ≡ floor.now.core }
-        ensures fresh { self.new.over ≡ Err Refusal.Thread }
-        ensures left { self.new.left + 1 ≡ self.old.left }
+        ensures begun { self.new.over ≡ Err Refusal.Memory }
+        ensures turns { self.new.turns ≡ self.old.turns }
         ensures over { IfOk result (λ turned. (why : Why) → turned ≡ Over why →
-            Because K.limit self.new.back self.new.left why) }
+            Because K.limit self.new.back self.new.turns.left why) }
     {
-        self.left -= 1;
         if self.limit as u64 <= self.back.n() {
             return Ok(Turned::Over(Why::AtLimit));
         }
@@ -156,12 +158,12 @@ impl<J: Naming, K: Bounds> Committer<J, K> {
     fn turns<G: Gate, R: Wait>(&mut self, wait: &R, floor: &Floor, gate: &G) -> Result<Why, Memory>
         requires core { self.old.back.core ≡ floor.now.core }
         requires counts { floor.now.counts ≡ K.counts }
-        requires fresh { self.old.over ≡ Err Refusal.Thread }
-        ensures fresh { self.new.over ≡ Err Refusal.Thread }
-        ensures over { IfOk result (Because K.limit self.new.back self.new.left) }
+        requires begun { self.old.over ≡ Err Refusal.Memory }
+        ensures begun { self.new.over ≡ Err Refusal.Memory }
+        ensures over { IfOk result (Because K.limit self.new.back self.new.turns.left) }
     {
         let mut rest = Rest::after(PATIENCE);
-        while 0 < self.left {
+        while self.turns.take() {
             match self.turn(wait, floor, gate)? {
                 Turned::Worked => rest.begin_again(),
                 Turned::Idle => rest.rest(),
@@ -175,9 +177,9 @@ impl<J: Naming, K: Bounds> Committer<J, K> {
     fn shown<G: Gate, R: Wait>(&mut self, wait: &R, floor: &Floor, gate: &G) -> Result<Why, Memory>
         requires core { self.old.back.core ≡ floor.now.core }
         requires counts { floor.now.counts ≡ K.counts }
-        requires fresh { self.old.over ≡ Err Refusal.Thread }
-        ensures fresh { self.new.over ≡ Err Refusal.Thread }
-        ensures over { IfOk result (Because K.limit self.new.back self.new.left) }
+        requires begun { self.old.over ≡ Err Refusal.Memory }
+        ensures begun { self.new.over ≡ Err Refusal.Memory }
+        ensures over { IfOk result (Because K.limit self.new.back self.new.turns.left) }
     {
         let why = self.turns(wait, floor, gate)?;
         self.show(wait, floor, gate)?;
@@ -191,35 +193,37 @@ impl<J: Naming, K: Bounds> Committer<J, K> {
         requires fresh { self.old.over ≡ Err Refusal.Thread }
         ensures has_run { self.new.over ≢ Err Refusal.Thread }
     {
-        self.over = match self.shown(wait, floor, gate) {
-            Ok(why) => Ok(why),
-            Err(_) => Err(Refusal::Memory),
-        };
+        self.over = Err(Refusal::Memory);
+        if let Ok(why) = self.shown(wait, floor, gate) {
+            self.over = Ok(why);
+        }
     }
 
     /// How the run ended, where all other threads have ended. It is refused where not all of them
     /// could be started.
-    pub(crate) fn end<R: Wait>(self, wait: &R, floor: &Floor) -> Run
+    pub(crate) fn end<R: Wait>(self, wait: &R, floor: &Floor) -> RunInTurns
         requires counts { floor.now.counts ≡ K.counts }
-        ensures right { IsRight J.program result }
-        ensures within { IsWithin K.limit result }
-        ensures turns { TakesTurns K.turns result }
-        ensures limit { IsLimit K.limit self.left result }
+        ensures right { IsRight J.program result.run }
+        ensures within { IsWithin K.limit result.run }
+        ensures turns { result.turns ≡ self.turns }
+        ensures all { result.turns.all ≡ K.turns }
+        ensures left { LeavesTurns result.turns result.run }
+        ensures limit { IsLimit K.limit result.turns.left result.run }
     {
         let Committer {
             back,
             mut count,
             limit: _,
-            left: _,
+            turns,
             over,
             bounds: _,
         } = self;
         let end = back.end(wait);
         let tally = floor.counts.read(&mut count);
         match (over, end.outcome) {
-            (Err(refusal), _) => Run::Refused(refusal),
-            (Ok(_), Ending::Stop(_)) => Run::Ended(end, tally),
-            (Ok(_), Ending::Limit) => Run::LimitReached(end, tally),
+            (Err(refusal), _) => Run::Refused(refusal).with(turns),
+            (Ok(_), Ending::Stop(_)) => Run::Ended(end, tally).with(turns),
+            (Ok(_), Ending::Limit) => Run::LimitReached(end, tally).with(turns),
         }
     }
 }

@@ -10,14 +10,17 @@ mod dispatch;
 mod floor;
 mod gate;
 mod rest;
+mod running;
 mod threads;
+mod turns;
 mod watch;
 
-pub use answer::{Refusal, Run};
+pub use answer::{Refusal, Run, RunInTurns};
 pub use bounds::Bounds;
 pub use counts::Tally;
 pub use gate::{Gate, Open};
-pub use threads::run;
+pub use running::{run, run_in_turns};
+pub use turns::Turns;
 
 #[cfg(test)]
 mod tests;

@@ -4,7 +4,7 @@ mod gates;
 mod pairs;
 mod rows;
 
-use crate::{Gate, Run, run};
+use crate::{Gate, Run, RunInTurns, run, run_in_turns};
 use isa::{Config, NotTaken, parse, report_text};
 use std::alloc::Global;
 use std::sync::Wait;
@@ -33,6 +33,20 @@ fn plain(units: u64) -> Shape {
     }
 }
 
+impl Shape {
+    fn config(&self) -> Result<Config, Fail> {
+        Ok(Config::new(
+            self.ring,
+            self.ring.min(8),
+            self.units,
+            self.places,
+            self.first_tag,
+            self.limit,
+            self.turns,
+        )?)
+    }
+}
+
 fn run_listing<R: Threads + Wait + Sync, G: Gate + Sync>(
     wait: &R,
     alloc: Global,
@@ -40,17 +54,22 @@ fn run_listing<R: Threads + Wait + Sync, G: Gate + Sync>(
     shape: &Shape,
     gate: &G,
 ) -> Result<Run, Fail> {
-    let config = Config::new(
-        shape.ring,
-        shape.ring.min(8),
-        shape.units,
-        shape.places,
-        shape.first_tag,
-        shape.limit,
-        shape.turns,
-    )?;
+    let config = shape.config()?;
     let program = parse(alloc, listing)?;
     Ok(run(wait, alloc, &program, &config, NotTaken, gate))
+}
+
+// The same with the turns that the commit thread has left.
+fn run_listing_in_turns<R: Threads + Wait + Sync, G: Gate + Sync>(
+    wait: &R,
+    alloc: Global,
+    listing: &[u8],
+    shape: &Shape,
+    gate: &G,
+) -> Result<RunInTurns, Fail> {
+    let config = shape.config()?;
+    let program = parse(alloc, listing)?;
+    Ok(run_in_turns(wait, alloc, &program, &config, NotTaken, gate))
 }
 
 // The report of a run that has its end.

@@ -1,26 +1,18 @@
-//! Starts the threads of a run, and joins them.
-ghost use Rattle.std.specs.Prelude.{◌≡◌, ◌<◌, ◌≤◌, Err, IfOk};
-ghost use Rattle.counts.specs.Shares.{all_parts};
+//! Starts the threads of a run.
+ghost use Rattle.std.specs.Prelude.{◌≡◌, ◌<◌, ◌≤◌};
 ghost use Rattle.front.specs.Fronts.{IsUnused};
-ghost use Rattle.pool.specs.Runs.{IsRight, IsWithin, TakesTurns};
 
-use crate::answer::{Refusal, Run};
-use crate::bounds::Bounds;
-use crate::commit::Committer;
 use crate::compute::{Worker, work};
 use crate::dispatch::{Dispatcher, dispatch};
 use crate::floor::Floor;
 use crate::gate::Gate;
 use crate::watch::watch;
-use back::{Back, Naming, Snapper};
-use counts::{CountSeat, Counts, WorkerSeat};
-use isa::{Config, Memory, Predictor, Program};
-use station::{Core, UnitSeat};
-use std::alloc::Global;
-use std::marker::Brand;
+use back::{Naming, Snapper};
+use counts::WorkerSeat;
+use isa::{Config, Predictor};
+use station::UnitSeat;
 use std::sync::Wait;
-use std::thread;
-use std::thread::{Scope, Threads};
+use std::thread::Scope;
 
 fn start_dispatch<'s, E: 's, P: Predictor + Drop + Send + 's>(
     scope: &Scope<'s, E>,
@@ -122,8 +114,8 @@ fn start_snappers<
         .is_ok()
 }
 
-// Starts all threads but the commit thread, which is the caller's own.
-fn start_all<
+/// Starts all threads but the commit thread, which is the caller's own.
+pub(crate) fn start_all<
     's,
     E: 's,
     J: Naming + Send + Sync + 's,
@@ -150,171 +142,4 @@ fn start_all<
     start_dispatch(scope, floor, dispatcher)
         && start_units(scope, floor, gate, config.units(), seat, count)
         && start_snappers(wait, scope, floor, gate, config.places(), first)
-}
-
-// Starts the threads, commits, and returns when each thread has ended.
-fn in_threads<
-    'x,
-    J: Naming + Send + Sync,
-    K: Bounds + Send + Sync,
-    P: Predictor + Drop + Send,
-    G: Gate + Sync,
-    R: Threads + Wait + Sync,
->(
-    wait: &'x R,
-    floor: &'x Floor,
-    gate: &'x G,
-    config: Config,
-    dispatcher: Dispatcher<P>,
-    seat: UnitSeat,
-    first: Snapper<J>,
-    count: WorkerSeat,
-    committer: &'x mut Committer<J, K>,
-)
-    requires front { IsUnused floor.now.core dispatcher.seat }
-    requires front_count { dispatcher.count.of ≡ floor.now.counts }
-    requires seat { seat.core ≡ floor.now.core }
-    requires count { count.of ≡ floor.now.counts }
-    requires program { floor.now.program ≡ floor.now.core.program }
-    requires core { committer.old.back.core ≡ floor.now.core }
-    requires counts { floor.now.counts ≡ K.counts }
-    requires fresh_run { committer.old.over ≡ Err Refusal.Thread }
-{
-    thread::scope(
-        thread::scope_env(),
-        wait,
-        move |scope|
-            requires front { IsUnused floor.now.core dispatcher.seat }
-            requires front_count { dispatcher.count.of ≡ floor.now.counts }
-            requires seat { seat.core ≡ floor.now.core }
-            requires count { count.of ≡ floor.now.counts }
-            requires program { floor.now.program ≡ floor.now.core.program }
-            requires core { committer.now.back.core ≡ floor.now.core }
-            requires counts { floor.now.counts ≡ K.counts }
-            requires fresh_run { committer.now.over ≡ Err Refusal.Thread }
-        {
-            if start_all(
-                wait, scope, floor, gate, config, dispatcher, seat, first, count,
-            ) {
-                committer.run(wait, floor, gate);
-            }
-            floor.close();
-        },
-    )
-}
-
-// A run that has its parts: how it ended.
-fn run_parts<
-    'x,
-    J: Naming + Send + Sync,
-    K: Bounds + Send + Sync,
-    P: Predictor + Drop + Send,
-    G: Gate + Sync,
-    R: Threads + Wait + Sync,
->(
-    wait: &'x R,
-    floor: &'x Floor,
-    gate: &'x G,
-    config: Config,
-    dispatcher: Dispatcher<P>,
-    seat: UnitSeat,
-    first: Snapper<J>,
-    count: WorkerSeat,
-    mut committer: Committer<J, K>,
-) -> Run
-    requires front { IsUnused floor.now.core dispatcher.seat }
-    requires front_count { dispatcher.count.of ≡ floor.now.counts }
-    requires seat { seat.core ≡ floor.now.core }
-    requires count { count.of ≡ floor.now.counts }
-    requires program { floor.now.program ≡ floor.now.core.program }
-    requires core { committer.back.core ≡ floor.now.core }
-    requires counts { floor.now.counts ≡ K.counts }
-    requires fresh_run { committer.over ≡ Err Refusal.Thread }
-    ensures right { IsRight J.program result }
-    ensures within { IsWithin K.limit result }
-    ensures turns { TakesTurns K.turns result }
-{
-    in_threads(
-        wait,
-        floor,
-        gate,
-        config,
-        dispatcher,
-        seat,
-        first,
-        count,
-        &mut committer,
-    );
-    committer.end(wait, floor)
-}
-
-fn run_named<
-    'x,
-    J: Naming + Send + Sync,
-    K: Bounds + Send + Sync,
-    P: Predictor + Drop + Send,
-    G: Gate + Sync,
-    R: Threads + Wait + Sync,
->(
-    wait: &'x R,
-    alloc: Global,
-    counts: Counts,
-    count: CountSeat,
-    program: &'x Program,
-    config: &Config,
-    predictor: P,
-    gate: &'x G,
-) -> Result<Run, Memory>
-    requires counts { counts ≡ K.counts }
-    requires count { count ≡ record { of = counts; shares = all_parts } }
-    requires program { program.now ≡ J.program }
-    requires limit { config.now.limit ≡ K.limit }
-    requires turns { config.now.turns ≡ K.turns }
-    ensures right { IfOk result (λ run. IsRight J.program run) }
-    ensures within { IfOk result (λ run. IsWithin config.now.limit run) }
-    ensures turns { IfOk result (λ run. TakesTurns config.now.turns run) }
-{
-    let copy = program.copied(alloc)?;
-    let (core, front_seat, back_seat, unit_seat) = Core::make(alloc, program, config)?;
-    let (back, snapper) = Back::<J>::new(alloc, &core, back_seat, program, config).map_err(
-        |refused| refused.0,
-    )?;
-    let (back_count, workers) = counts.split_worker(count);
-    let (front_count, unit_count) = counts.split_workers(workers);
-    let floor = Floor::new(core, copy, counts, config.turns());
-    let committer = Committer::<J, K>::new(back, back_count, config.limit(), config.turns());
-    let dispatcher = Dispatcher {
-        seat: front_seat,
-        predictor,
-        count: front_count,
-    };
-    Ok(run_parts(
-        wait, &floor, gate, *config, dispatcher, unit_seat, snapper, unit_count, committer,
-    ))
-}
-
-/// Runs a program on as many unit threads as the configuration says, beside one that dispatches, one
-/// that commits (the caller's own) and those that take snapshots. All have ended when it returns.
-pub fn run<'x, P: Predictor + Drop + Send, G: Gate + Sync, R: Threads + Wait + Sync>(
-    wait: &'x R,
-    alloc: Global,
-    program: &'x Program,
-    config: &Config,
-    predictor: P,
-    gate: &'x G,
-) -> Run
-    ensures right { IsRight program.now result }
-    ensures within { IsWithin config.now.limit result }
-    ensures turns { TakesTurns config.now.turns result }
-{
-    let Ok((counts, count)) = Counts::make(alloc) else {
-        return Run::Refused(Refusal::Memory);
-    };
-    let result = run_named::<Brand, Brand, P, G, R>(
-        wait, alloc, counts, count, program, config, predictor, gate,
-    );
-    match result {
-        Ok(run) => run,
-        Err(_) => Run::Refused(Refusal::Memory),
-    }
 }

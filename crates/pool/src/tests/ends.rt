@@ -1,6 +1,6 @@
 //! How runs end.
-use super::{Shape, plain, report, run_listing};
-use crate::{Gate, Open, Run, Tally};
+use super::{Shape, plain, report, run_listing, run_listing_in_turns};
+use crate::{Gate, Open, Run, RunInTurns, Tally};
 use snapshots::Snap;
 use std::process::Abort;
 use std::test::*;
@@ -52,6 +52,44 @@ fn one_turn_runs_one_instruction_at_most(rt: HostRuntime) -> Result<(), Fail> {
     let one = text.as_bytes() == ONE.as_bytes();
     assert!(rt; matches!(run, Run::LimitReached(..)));
     assert!(rt; none || one);
+    Ok(())
+}
+
+// The turns that are left tell a limit of instructions from one of turns.
+#[test]
+fn the_commit_thread_tells_the_turns_that_it_has_left(rt: HostRuntime) -> Result<(), Fail> {
+    for (limit, turns) in [
+        (2, 1_000_000_000),
+        (1_000_000, 3),
+        (1_000_000, 1_000_000_000),
+    ] {
+        let shape = Shape {
+            limit,
+            turns,
+            ..plain(2)
+        };
+        let RunInTurns { run, turns: rest } = run_listing_in_turns(
+            &rt,
+            rt.alloc(),
+            LOOP,
+            &shape,
+            &Open,
+        )?;
+        let left = rest.left() as u64;
+        match run {
+            Run::LimitReached(end, _) => {
+                assert!(rt; end.n == limit || left == 0);
+                assert!(rt; end.n + left <= turns);
+                assert!(rt; limit < 1_000_000 || turns == 3);
+            }
+            Run::Ended(end, _) => {
+                assert_eq!(rt; end.n, 601);
+                assert!(rt; end.n + left < turns);
+                assert!(rt; limit == 1_000_000);
+            }
+            Run::Refused(_) => return Err(Fail::from("refused")),
+        }
+    }
     Ok(())
 }
 

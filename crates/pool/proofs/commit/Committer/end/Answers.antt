@@ -1,4 +1,4 @@
-use Rattle.std.proofs.Common.{rules, ap, arith}
+use Rattle.std.proofs.Common.{rules, ap}
 use Rattle.inorder.specs.Machine.{State}
 use Rattle.counts.specs.declared.tally.Total.TheVariants.{Retires}
 use Rattle.pool.proofs.Counted.{whole}
@@ -9,11 +9,11 @@ returns-in-Ok-Stop-clause-right g c =
     let has = c.self.invariant.0 in
     let count = ap (λ (s : State). s.count) c.end-end.ensures.state in
     let told = whole c.read-tally.result.retires _ _ c.end-end.result.n (c.read-tally.ensures.exact Retires has.all) has.retires count (search rules) in
-    (record { in_order = c.end-end.ensures.in_order; retires = told }, search rules)
+    rw c.with-in-Ok-Stop.ensures (record { in_order = c.end-end.ensures.in_order; retires = told }, search rules)
 
 pub returns-clause-right : goal.returns-clause-right
 returns-clause-right g c =
     let has = c.self.invariant.0 in
     let count = ap (λ (s : State). s.count) c.end-end.ensures.state in
     let told = whole c.read-tally.result.retires _ _ c.end-end.result.n (c.read-tally.ensures.exact Retires has.all) has.retires count (search rules) in
-    (record { in_order = c.end-end.ensures.in_order; retires = told }, c.in-Ok-Limit.is-1)
+    rw c.with-in-Ok-Limit.ensures (record { in_order = c.end-end.ensures.in_order; retires = told }, c.in-Ok-Limit.is-1)

@@ -1,4 +1,4 @@
-use Rattle.std.proofs.Common.{rules, ◌<◌, ◌^◌, arith}
+use Rattle.std.proofs.Common.{rules, ◌<◌, ◌^◌}
 use Rattle.counts.specs.declared.tally.Total.TheVariants.{Retires}
 use Rattle.pool.proofs.Counted.{whole}
 use Rattle.pool.proofs.commit.Committer.show.Goals as goal

@@ -1,9 +1,9 @@
 use Rattle.std.specs.Prelude.{◌≡◌, Err}
-use Rattle.pool.specs.declared.answer.Refusal.TheVariants.{Thread}
+use Rattle.pool.specs.declared.answer.Refusal.TheVariants.{Memory}
 use Rattle.pool.proofs.commit.Committer.turns.Given as goal
 
-abbrev pub invariant-loop-self : goal.invariant-loop-self
-invariant-loop-self g l = (l.self.back.core ≡ l.floor.core) × (l.self.over ≡ Err Thread)
+abbrev pub invariant-loop-rest : goal.invariant-loop-rest
+invariant-loop-rest g l = (l.self.back.core ≡ l.floor.core) × (l.self.over ≡ Err Memory)
 
-abbrev pub decreases-loop-self : goal.decreases-loop-self
-decreases-loop-self g l = l.self.left
+abbrev pub decreases-loop-rest : goal.decreases-loop-rest
+decreases-loop-rest g l = l.self.turns.left

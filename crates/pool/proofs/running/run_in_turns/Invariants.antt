@@ -1,4 +1,4 @@
-use Rattle.pool.proofs.threads.run.Given as goal
+use Rattle.pool.proofs.running.run_in_turns.Given as goal
 
 abbrev pub ghosts-run_named-J-Naming : goal.ghosts-run_named-J-Naming
 ghosts-run_named-J-Naming g a = record { program = a.program.now }
