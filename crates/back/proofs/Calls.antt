@@ -23,7 +23,7 @@ is_same P copy state low head ended shown seat seat' k k' core by = record { cor
 -- A new back
 
 module _ (P : Program) (seat seat' : Caller) (program : seat.core.program ≡ P) (by : seat.by ≡ back) (fresh : HasRetiredNothing seat)
-    (core : seat'.core ≡ seat.core) (by' : seat'.by ≡ seat.by) (a : Adds seat.core.program seat.core.sizes seat.by seat.seen seat'.seen [])
+    (core : seat'.core ≡ seat.core) (by' : seat'.by ≡ seat.by) (woken : seat'.woken ≡ seat.woken) (a : Adds seat.core.program seat.core.sizes seat.by seat.seen seat'.seen [])
     (copy : Program) (state : State) (shown : Snap) (copied : copy ≡ P) (state_starts : state ≡ start P) (shown_is : shown ≡ opening) where
   at_first : IsKept P seat copy state None 0 None shown
   at_first = record {
@@ -43,6 +43,7 @@ module _ (P : Program) (seat seat' : Caller) (program : seat.core.program ≡ P)
     core = core;
     by = by';
     history = a;
+    woken = woken;
     ended = refl;
     shown = shown_is;
     state = sym (state_is P copy state None 0 None shown seat' new_kept) ∙ (state_starts ∙ ap start (sym program));

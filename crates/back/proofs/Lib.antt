@@ -19,3 +19,4 @@ pub mod Settling
 pub mod Standing
 pub mod Scanning
 pub mod Refreshing
+pub mod Wakings

@@ -11,19 +11,27 @@ use Rattle.snapshots.specs.Snapshots.{opening}
 use Rattle.snapshots.specs.declared.snap.Snap.{Snap}
 use Rattle.station.specs.Seats.{Caller, TheCore}
 
--- A back: its core, the number of its caller, what that caller has seen, the code with which it has ended,
--- if it has, and the snapshot that it showed last
+-- A back: its core, the number of its caller, what that caller has seen, whom its last load has woken, the
+-- code with which it has ended, if it has, and the snapshot that it showed last
 pub record TheBack : Type 0 where
   pub core : TheCore
   pub by : ℕ
   pub seen : List Entry
+  pub woken : ℕ
   pub ended : Option Stop
   pub shown : Snap
 
 -- The back of this seat, which has ended so and has shown this
 abbrev pub back_of : Caller → Option Stop → Snap → TheBack
 back_of seat ended shown =
-    record { core = seat.core; by = seat.by; seen = seat.seen; ended = ended; shown = shown }
+    record {
+      core = seat.core;
+      by = seat.by;
+      seen = seat.seen;
+      woken = seat.woken;
+      ended = ended;
+      shown = shown;
+    }
 
 -- The unit of what a caller has seen
 abbrev pub unit_in : TheCore → List Entry → UpdateUnit
@@ -50,6 +58,7 @@ pub record IsNew (seat : Caller) (b : TheBack) : Type 0 where
   pub core : b.core ≡ seat.core
   pub by : b.by ≡ seat.by
   pub history : Adds seat.core.program seat.core.sizes seat.by seat.seen b.seen []
+  pub woken : b.woken ≡ seat.woken
   pub ended : b.ended ≡ None
   pub shown : b.shown ≡ opening
   pub state : state_of b ≡ start seat.core.program

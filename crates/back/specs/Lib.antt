@@ -5,6 +5,7 @@ pub mod Retirement
 pub mod Loads
 pub mod Port
 pub mod Refreshes
+pub mod Wakings
 pub mod Ends
 pub mod Trials
 pub mod Scans

@@ -98,6 +98,14 @@ impl<J: Naming> Back<J> {
         self.committed.count()
     }
 
+    /// Whom the last load that got its value took it to: bit s is set where one or both sources of
+    /// station s got it. It is 0 before the first such load.
+    pub fn woken(&self) -> u32
+        ensures { result ≡ self.now.woken }
+    {
+        self.seat.woken()
+    }
+
     /// The code that `commit` answered, once it has answered `Ended`.
     pub fn ended(&self) -> Option<Stop>
         ensures { result ≡ self.now.ended }

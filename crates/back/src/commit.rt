@@ -131,6 +131,7 @@ impl<J: Naming> Back<J> {
         ensures core { self.new.core ≡ self.old.core }
         ensures by { self.new.by ≡ self.old.by }
         ensures shown { self.new.shown ≡ self.old.shown }
+        ensures woken { self.new.woken ≡ self.old.woken }
         ensures reply { CommitAnswers self.old self.new result }
     {
         if let Some(code) = self.ended {

@@ -8,6 +8,7 @@ ghost use Rattle.inorder.specs.Loads.{access_width};
 ghost use Rattle.lsq.specs.Entries.{load_by};
 ghost use Rattle.lsq.specs.LoadRule.{answer as answered};
 ghost use Rattle.station.specs.Seats.{IsSame};
+ghost use Rattle.back.specs.Wakings.{TryWakes};
 ghost use Rattle.back.specs.Backs.{SeesMore, committed_in, unit_in};
 ghost use Rattle.back.specs.Trials.{NobodyWaits, ThisWaits, TriedAnswers, load_at as load_in};
 ghost use Rattle.back.specs.Port.{Ceases, IsEntryThere, IsInside, MayAnswer, MayBlock, Remains, SearchFinds, SearchMisses, address_in, content_in, load_entry, seen_as};
@@ -107,6 +108,7 @@ fn look(core: &Core, seat: &mut BackSeat, program: &Program, station: usize) -> 
     requires program { program.now ≡ core.now.program }
     requires station { station < core.now.sizes.ring }
     ensures kept { IsSame seat.old seat.new }
+    ensures woken { seat.new.woken ≡ seat.old.woken }
     ensures history { SeesMore core.now seat.old.by seat.old.seen seat.new.seen }
     ensures shows { IsEntryThere core.now seat.old.seen seat.new.seen station result }
 {
@@ -136,6 +138,7 @@ fn search(
     requires head { head < core.now.sizes.ring }
     requires at { at < core.now.sizes.ring }
     ensures kept { IsSame seat.old seat.new }
+    ensures woken { seat.new.woken ≡ seat.old.woken }
     ensures history { SeesMore core.now seat.old.by seat.old.seen seat.new.seen }
     ensures ok { IfOk result (SearchFinds core.now seat.old.seen seat.new.seen head at load.now) }
     ensures err { IfErr result (SearchMisses core.now seat.old.seen seat.new.seen head at) }
@@ -179,6 +182,7 @@ fn answer(
     requires state { committed.now ≡ committed_in core.now seat.old.seen }
     requires inside { load.now.address + width_in load.now.op ≤ length committed.now.memory }
     ensures kept { IsSame seat.old seat.new }
+    ensures woken { seat.new.woken ≡ seat.old.woken }
     ensures history { SeesMore core.now seat.old.by seat.old.seen seat.new.seen }
     ensures bound { IfErr result (λ s. s < at) }
     ensures ok { IfOk result (MayAnswer core.now seat.old.seen seat.new.seen head at load.now) }
@@ -224,6 +228,7 @@ fn waiting(core: &Core, seat: &mut BackSeat, program: &Program, station: usize) 
     requires program { program.now ≡ core.now.program }
     requires station { station < core.now.sizes.ring }
     ensures kept { IsSame seat.old seat.new }
+    ensures woken { seat.new.woken ≡ seat.old.woken }
     ensures history { SeesMore core.now seat.old.by seat.old.seen seat.new.seen }
     ensures none { IfNone result (NobodyWaits core.now seat.old.seen seat.new.seen station) }
     ensures some { IfSome result (ThisWaits core.now seat.old.seen seat.new.seen station) }
@@ -243,6 +248,7 @@ fn is_still(core: &Core, seat: &mut BackSeat, station: usize, load: &Load) -> bo
     requires by { seat.old.by ≡ back }
     requires station { station < core.now.sizes.ring }
     ensures kept { IsSame seat.old seat.new }
+    ensures woken { seat.new.woken ≡ seat.old.woken }
     ensures history { SeesMore core.now seat.old.by seat.old.seen seat.new.seen }
     ensures still { result ≡ true → Remains core.now seat.old.seen seat.new.seen station load.now }
     ensures gone { result ≡ false → Ceases core.now seat.old.seen seat.new.seen station load.now }
@@ -269,6 +275,8 @@ pub(crate) fn try_load(
     requires state { committed.now ≡ committed_in core.now seat.old.seen }
     ensures kept { IsSame seat.old seat.new }
     ensures reply { TriedAnswers core.now seat.old.by seat.old.seen seat.new.seen head at result }
+    ensures woken { TryWakes core.now seat.old.by seat.old.seen seat.new.seen
+        seat.old.woken seat.new.woken result }
 {
     let ring = core.ring();
     let station = (head + at) % ring;

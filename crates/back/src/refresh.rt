@@ -5,6 +5,7 @@ ghost use Rattle.inorder.specs.History.{IsLegal, back};
 ghost use Rattle.station.specs.Seats.{IsSame as IsSameSeat};
 ghost use Rattle.back.specs.Backs.{IsSame, committed_in, unit_in};
 ghost use Rattle.back.specs.Refreshes.{RefreshAnswers};
+ghost use Rattle.back.specs.Wakings.{RefreshWakes};
 
 use crate::answers::Refresh;
 use crate::backs::Back;
@@ -34,6 +35,8 @@ fn scan(
     requires state { committed.now ≡ committed_in core.now seat.old.seen }
     ensures kept { IsSameSeat seat.old seat.new }
     ensures reply { RefreshAnswers core.now seat.old.by seat.old.seen seat.new.seen result }
+    ensures woken { RefreshWakes core.now seat.old.by seat.old.seen seat.new.seen
+        seat.old.woken seat.new.woken result }
 {
     let mut blocked = None;
     for at in 0..ring {
@@ -69,6 +72,8 @@ impl<J: Naming> Back<J> {
         requires core { self.old.core ≡ core.now }
         ensures kept { IsSame self.old self.new }
         ensures reply { RefreshAnswers core.now self.old.by self.old.seen self.new.seen result }
+        ensures woken { RefreshWakes core.now self.old.by self.old.seen self.new.seen
+            self.old.woken self.new.woken result }
     {
         let ring = core.ring();
         let head = self.head;

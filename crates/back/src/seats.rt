@@ -15,6 +15,7 @@ impl<J: Naming> Back<J> {
         requires core { self.old.core ≡ core.now }
         requires station { station < core.now.sizes.ring }
         ensures kept { IsSame self.old self.new }
+        ensures woken { self.new.woken ≡ self.old.woken }
         ensures history { SeesMore core.now self.old.by self.old.seen self.new.seen }
         ensures reply { SeesStation core.now.program core.now.sizes self.new.seen station result }
     {
@@ -26,9 +27,11 @@ impl<J: Naming> Back<J> {
         requires core { self.old.core ≡ core.now }
         requires other { other.old.core ≡ core.now }
         ensures kept { IsSame self.old self.new }
+        ensures woken { self.new.woken ≡ self.old.woken }
         ensures history { SeesMore core.now self.old.by self.old.seen self.new.seen }
         ensures told { StartsWith self.new.seen other.old.seen }
         ensures other_kept { IsSameSeat other.old other.new }
+        ensures other_woken { other.new.woken ≡ other.old.woken }
         ensures other_history { SeesMore core.now other.old.by other.old.seen other.new.seen }
         ensures other_told { StartsWith other.new.seen self.new.seen }
     {

@@ -12,18 +12,18 @@ use Rattle.station.specs.Seats.{TheCore}
 use Rattle.drive.specs.Replies.{IsShown}
 
 -- All but what it has seen is the same
-but_seen : (v w : TheBack) → IsSame v w → w ≡ record v { seen = w.seen }
-but_seen v w s i = record { core = s.core i; by = s.by i; seen = w.seen; ended = s.ended i; shown = s.shown i }
+but_seen : (v w : TheBack) → IsSame v w → w.woken ≡ v.woken → w ≡ record v { seen = w.seen }
+but_seen v w s woken i = record { core = s.core i; by = s.by i; seen = w.seen; woken = woken i; ended = s.ended i; shown = s.shown i }
 
-seen_by : (v w : TheBack) → IsSame v w → v ≡ record w { seen = v.seen }
-seen_by v w s i = record { core = sym s.core i; by = sym s.by i; seen = v.seen; ended = sym s.ended i; shown = sym s.shown i }
+seen_by : (v w : TheBack) → IsSame v w → w.woken ≡ v.woken → v ≡ record w { seen = v.seen }
+seen_by v w s woken i = record { core = sym s.core i; by = sym s.by i; seen = v.seen; woken = sym woken i; ended = sym s.ended i; shown = sym s.shown i }
 
 -- A commit between two meetings
-pub commit_says : (a b c d : TheBack) (answer : Commit) → IsSame a b → CommitAnswers b c answer → IsSame c d →
+pub commit_says : (a b c d : TheBack) (answer : Commit) → IsSame a b → b.woken ≡ a.woken → CommitAnswers b c answer → IsSame c d → d.woken ≡ c.woken →
     CommitAnswers (record a { seen = b.seen }) (record d { seen = c.seen }) answer
-commit_says a b c d answer first says last =
-    let early = subst (λ x. CommitAnswers x c answer) (but_seen a b first) says in
-    subst (λ y. CommitAnswers (record a { seen = b.seen }) y answer) (seen_by c d last) early
+commit_says a b c d answer first woken says last woken-2 =
+    let early = subst (λ x. CommitAnswers x c answer) (but_seen a b first woken) says in
+    subst (λ y. CommitAnswers (record a { seen = b.seen }) y answer) (seen_by c d last woken-2) early
 
 -- What shows a snapshot stays the same in all else
 shows : (a b c : TheBack) → IsSame a b → c ≡ record b { shown = c.shown } → IsSame (record a { shown = c.shown }) c
@@ -36,10 +36,10 @@ shows a b c s e = record {
 }
 
 same_shown : (b c : TheBack) → c ≡ b → c ≡ record b { shown = c.shown }
-same_shown b c e i = record { core = (e i).core; by = (e i).by; seen = (e i).seen; ended = (e i).ended; shown = c.shown }
+same_shown b c e i = record { core = (e i).core; by = (e i).by; seen = (e i).seen; woken = (e i).woken; ended = (e i).ended; shown = c.shown }
 
 new_shown : (b c : TheBack) → c ≡ record b { shown = snapshot (state_of b) } → c ≡ record b { shown = c.shown }
-new_shown b c e i = record { core = (e i).core; by = (e i).by; seen = (e i).seen; ended = (e i).ended; shown = c.shown }
+new_shown b c e i = record { core = (e i).core; by = (e i).by; seen = (e i).seen; woken = (e i).woken; ended = (e i).ended; shown = c.shown }
 
 pub show_keeps : (a b c : TheBack) (r : Result Mark Memory) → IsSame a b → OnOk r (c ≡ record b { shown = snapshot (state_of b) }) → OnErr r (c ≡ b) → IsSame (record a { shown = c.shown }) c
 show_keeps a b c (Ok mark) s ok err = shows a b c s (new_shown b c ok)

@@ -140,7 +140,7 @@ module _ (P : Program) (C : Sizes) where
   made_of h legal q s g v m i =
       subst (λ z. HasMade (unit_of P C h) z v) (one_named h legal m.p q s g (Makes v) IsAny m.named i) (record { tenant = m.named.tenant; is = m.named.is; made = m.named.fact })
 
-  any_of : (h : List Entry) (s g v : ℕ) (m : HasValueOf P C h s g v) → IsTenant (unit_of P C h) m.p s g IsAny
+  pub any_of : (h : List Entry) (s g v : ℕ) (m : HasValueOf P C h s g v) → IsTenant (unit_of P C h) m.p s g IsAny
   any_of h s g v m = record { tenant = m.named.tenant; is = m.named.is; new = m.named.new; station_is = m.named.station_is; tag_is = m.named.tag_is; fact = tt }
 
   -- One link

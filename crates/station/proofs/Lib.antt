@@ -14,6 +14,7 @@ pub mod Stops
 pub mod Retiring
 pub mod Mending
 pub mod Carrying
+pub mod Waking
 pub mod Writing
 pub mod Asking
 pub mod Holding

@@ -6,6 +6,7 @@ pub mod Moments
 pub mod Letting
 pub mod Claiming
 pub mod Writeback
+pub mod Waking
 pub mod Carrying
 pub mod Asking
 pub mod Wakeup

@@ -20,10 +20,11 @@ pub record IsCore (words : ℕ) (key : Setup) (P : Program) (ring queue : ℕ) :
   pub from_one : 1 ≤ key.first_tag
   pub small : length P.code ≤ 16384
 
--- A seat of this core that has seen nothing
+-- A seat of this core that has seen nothing and woken nobody
 pub record IsNew (core : TheCore) (seat : Caller) : Type 0 where
   pub core_is : seat.core ≡ core
   pub seen : seat.seen ≡ []
+  pub woken : seat.woken ≡ 0
 
 -- The first unit, and the numbers of all others
 abbrev pub first_unit : ℕ

@@ -28,12 +28,13 @@ abbrev pub core_of : TableId → Setup → TheCore
 core_of id c = record { id = id; program = c.program; sizes = sizes_of c; opening = opening_of c }
 
 -- A seat: its core, the number of its caller, the numbers that it may give to callers of seats cut
--- from it, and what its caller has seen
+-- from it, what its caller has seen, and whom its last result has woken, a bit for each station
 pub record Caller : Type 0 where
   pub core : TheCore
   pub by : ℕ
   pub heirs : Heirs
   pub seen : List Entry
+  pub woken : ℕ
 
 -- The same seat at the same core
 pub record IsSame (v w : Caller) : Type 0 where

@@ -181,6 +181,7 @@ impl Core {
         requires core { seat.old.core ≡ self.now }
         requires station { station < self.now.sizes.ring }
         ensures kept { IsSame seat.old seat.new }
+        ensures woken { seat.new.woken ≡ seat.old.woken }
         ensures heirs { seat.new.heirs ≡ seat.old.heirs }
         ensures reply { ClaimAnswers self.now.program self.now.sizes seat.old.by seat.old.seen seat.new.seen station result }
     {

@@ -33,7 +33,7 @@ pub use laws::{
     numbers_are_given_once, what_is_seen_is_legal,
 };
 pub use ruu_words::StationState;
-pub use seat::{BackSeat, FrontSeat, Part, SeatOf, UnitSeat};
+pub use seat::{BackSeat, FrontSeat, Part, SeatOf, UnitSeat, Writer};
 
 #[cfg(test)]
 mod tests;

@@ -22,6 +22,7 @@ impl Core {
         requires core { seat.old.core ≡ self.now }
         requires place { IsPlace self.now.sizes.ring place }
         ensures kept { IsSame seat.old seat.new }
+        ensures woken { seat.new.woken ≡ seat.old.woken }
         ensures heirs { seat.new.heirs ≡ seat.old.heirs }
         ensures caller { IsCaller P.role seat.old.by }
         ensures history { Adds self.now.program self.now.sizes seat.old.by seat.old.seen seat.new.seen [] }
@@ -35,6 +36,7 @@ impl Core {
         requires core { seat.old.core ≡ self.now }
         requires station { station < self.now.sizes.ring }
         ensures kept { IsSame seat.old seat.new }
+        ensures woken { seat.new.woken ≡ seat.old.woken }
         ensures heirs { seat.new.heirs ≡ seat.old.heirs }
         ensures caller { IsCaller P.role seat.old.by }
         ensures history { Adds self.now.program self.now.sizes seat.old.by seat.old.seen seat.new.seen [] }
@@ -52,6 +54,7 @@ impl Core {
         requires core { seat.old.core ≡ self.now }
         requires station { station < self.now.sizes.ring }
         ensures kept { IsSame seat.old seat.new }
+        ensures woken { seat.new.woken ≡ seat.old.woken }
         ensures history { Adds self.now.program self.now.sizes seat.old.by seat.old.seen seat.new.seen [] }
         ensures reply { SeesInfo self.now.program self.now.sizes seat.new.seen station result.0 result.1 result.2 }
     {
@@ -69,6 +72,7 @@ impl Core {
         requires core { seat.old.core ≡ self.now }
         requires station { station < self.now.sizes.ring }
         ensures kept { IsSame seat.old seat.new }
+        ensures woken { seat.new.woken ≡ seat.old.woken }
         ensures history { Adds self.now.program self.now.sizes seat.old.by seat.old.seen seat.new.seen [] }
         ensures reply { SeesOperand self.now.program self.now.sizes seat.new.seen station k result }
     {

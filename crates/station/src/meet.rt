@@ -57,13 +57,14 @@ impl Core {
     /// the second that of a caller who has done nothing.
     pub fn split(&self, mut seat: UnitSeat) -> (UnitSeat, UnitSeat)
         requires core { seat.core ≡ self.now }
-        ensures first { result.0 ≡ record seat { heirs = half seat.heirs } }
+        ensures first { result.0 ≡ record seat { heirs = half seat.heirs; woken = 0 } }
         ensures core { result.1.core ≡ self.now }
         ensures history { result.1.seen ≡ seat.seen }
         ensures number { result.1.by ≡ seat.heirs.first }
         ensures heirs { result.1.heirs ≡ other_half seat.heirs }
         ensures other { result.1.by ≢ result.0.by }
         ensures fresh { own result.1.by result.1.seen ≡ [] }
+        ensures woken { result.1.woken ≡ 0 }
     {
         let other = self.table.shared.split_seat::<UnitCut>(&mut seat.seat);
         let other_seat = SeatOf {
@@ -71,8 +72,10 @@ impl Core {
             words: Snapshot::of(&self.table.shared),
             station: 0,
             over: false,
+            woken: 0,
             part: PhantomData,
         };
+        seat.woken = 0;
         (seat, other_seat)
     }
 
@@ -85,6 +88,7 @@ impl Core {
         ensures history { Adds self.now.program self.now.sizes to.old.by to.old.seen to.new.seen [] }
         ensures told { StartsWith to.new.seen from.old.seen }
         ensures heirs { to.new.heirs ≡ to.old.heirs }
+        ensures woken { to.new.woken ≡ to.old.woken }
     {
         let note = self.table.shared.split_seat::<NoteCut>(&mut from.seat);
         self.table.shared.join_seat::<Told>(&mut to.seat, note);
@@ -102,10 +106,12 @@ impl Core {
         requires other { other.old.core ≡ self.now }
         ensures one_kept { IsSame one.old one.new }
         ensures one_heirs { one.new.heirs ≡ one.old.heirs }
+        ensures one_woken { one.new.woken ≡ one.old.woken }
         ensures one_history { Adds self.now.program self.now.sizes one.old.by one.old.seen one.new.seen [] }
         ensures one_told { StartsWith one.new.seen other.old.seen }
         ensures other_kept { IsSame other.old other.new }
         ensures other_heirs { other.new.heirs ≡ other.old.heirs }
+        ensures other_woken { other.new.woken ≡ other.old.woken }
         ensures other_history { Adds self.now.program self.now.sizes other.old.by other.old.seen other.new.seen [] }
         ensures other_told { StartsWith other.new.seen one.new.seen }
     {

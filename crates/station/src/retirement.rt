@@ -216,6 +216,7 @@ impl Core {
     pub fn retire(&self, seat: &mut BackSeat) -> Retire
         requires core { seat.old.core ≡ self.now }
         ensures kept { IsSame seat.old seat.new }
+        ensures woken { seat.new.woken ≡ seat.old.woken }
         ensures reply { RetireAnswers self.now.program self.now.sizes seat.old.by seat.old.seen seat.new.seen result }
     {
         let words = &self.table.shared;

@@ -53,6 +53,8 @@ pub struct SeatOf<P: Part> {
     pub(crate) station: usize,
     // the back has retired a stop
     pub(crate) over: bool,
+    // whom its last result was taken to, a bit for each station
+    pub(crate) woken: u32,
     pub(crate) part: PhantomData<P>,
 }
 
@@ -62,7 +64,14 @@ impl<P: Part> Model for SeatOf<P> {
 
     ghost Value = { Caller };
 
-    ghost view = { λ s. record { core = core_of s.seat.table_id s.words.value.key; by = s.seat.me.0.by; heirs = s.seat.me.0.heirs; seen = s.seat.me.0.seen } };
+    ghost view = { λ s.
+        record {
+          core = core_of s.seat.table_id s.words.value.key;
+          by = s.seat.me.0.by;
+          heirs = s.seat.me.0.heirs;
+          seen = s.seat.me.0.seen;
+          woken = s.woken;
+        } };
 
     ghost invariant = { λ s. IsSeated s.words.value.key.program (sizes_of s.words.value.key) P.role s.seat.me.0.by s.station s.over s.seat.me × IsNumbered P.role s.seat.me.0 };
 }
@@ -76,15 +85,42 @@ impl<P: Part> SeatOf<P> {
     pub(crate) fn first_seat(seat: Seat<u8, View>, words: &Words) -> SeatOf<P>
         requires seated { IsSeated words.now.key.program (sizes_of words.now.key) P.role seat.me.0.by 0 false seat.me }
         requires numbered { IsNumbered P.role seat.me.0 }
-        ensures { result ≡ record { core = core_of seat.table_id words.now.key; by = seat.me.0.by; heirs = seat.me.0.heirs; seen = seat.me.0.seen } }
+        ensures { result ≡
+            record {
+              core = core_of seat.table_id words.now.key;
+              by = seat.me.0.by;
+              heirs = seat.me.0.heirs;
+              seen = seat.me.0.seen;
+              woken = 0;
+            } }
     {
         SeatOf {
             seat,
             words: Snapshot::of(words),
             station: 0,
             over: false,
+            woken: 0,
             part: PhantomData,
         }
+    }
+}
+
+/// A part that writes results.
+pub trait Writer: Part {}
+
+impl Writer for BackPart {}
+
+impl Writer for UnitPart {}
+
+impl<P: Writer> SeatOf<P> {
+    ghost use Rattle.std.specs.Prelude.{◌≡◌};
+
+    /// Whom the seat's last `finish` or `settle` took its value to: bit s is set where one or both
+    /// sources of station s got it. It is 0 where there was none.
+    pub fn woken(&self) -> u32
+        ensures { result ≡ self.now.woken }
+    {
+        self.woken
     }
 }
 

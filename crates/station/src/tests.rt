@@ -72,6 +72,7 @@ fn one_tenant_is_let_claimed_finished_and_retired(rt: HostRuntime) -> Result<(),
     let (mut one, mut other) = core.split(unit);
     core.meet(&mut front, &mut one);
     let finished = finish_one(&core, &program, &mut one, 0);
+    let woken = (one.woken(), other.woken(), back.woken());
     core.meet(&mut one, &mut other);
     let again = finish_one(&core, &program, &mut other, 0);
     core.meet(&mut one, &mut back);
@@ -82,6 +83,7 @@ fn one_tenant_is_let_claimed_finished_and_retired(rt: HostRuntime) -> Result<(),
     assert_eq!(rt; (tag, predicted), (1, 0x0040_0004));
     assert!(rt; open.tag == 1 && open.state == StationState::Open);
     assert!(rt; finished == Some(Finish::Finished) && again.is_none());
+    assert_eq!(rt; woken, (0, 0, 0));
     assert_eq!(rt; info, (0, Half::Low, 0x0040_0004));
     assert!(rt; source.tag == 1 && source.state == SourceState::Val && source.value == 0);
     assert!(rt;

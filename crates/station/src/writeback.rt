@@ -6,6 +6,7 @@ ghost use Rattle.ruu_words.specs.Rule.{Unborn, sizes_of};
 ghost use Rattle.station.specs.Claiming.{Holds};
 ghost use Rattle.station.specs.Seats.{IsSame};
 ghost use Rattle.station.specs.Steps.{IsAt};
+ghost use Rattle.station.specs.Waking.{HasWoken};
 ghost use Rattle.station.specs.Writeback.{FinishAnswers, MaySettle, SettleAnswers, outcome_of};
 
 use crate::answers::{Finish, Job, Settle};
@@ -20,14 +21,14 @@ use isa::Outcome;
 use ruu_words::Place;
 use ruu_words::rule::View;
 
-// The station's word first, and the links only behind it.
+// The station's word first, and the links only behind it. With the answer goes whom it has woken.
 fn finish_job(
     words: &Words,
     ring: usize,
     seat: &mut Seat<u8, View>,
     job: Job,
     outcome: Outcome,
-) -> Finish
+) -> (Finish, u32)
     requires of { IsAt words.now.table_id words.now.key ring seat.old.table_id }
     requires tags { 1 ≤ words.now.key.first_tag }
     requires role { seat.old.me.0.role ≡ Worker }
@@ -40,7 +41,10 @@ fn finish_job(
     ensures slots { seat.new.me.1 ≡ seat.old.me.1 }
     ensures role { seat.new.me.0.role ≡ Worker }
     ensures legal { IsLegal words.now.key.program (sizes_of words.now.key) seat.new.me.0.seen }
-    ensures reply { FinishAnswers words.now.key.program (sizes_of words.now.key) seat.old.me.0.by seat.old.me.0.seen seat.new.me.0.seen job result }
+    ensures reply { FinishAnswers words.now.key.program (sizes_of words.now.key) seat.old.me.0.by
+        seat.old.me.0.seen seat.new.me.0.seen job result.0 }
+    ensures woken { HasWoken words.now.key.program (sizes_of words.now.key) seat.old.me.0.by
+        seat.old.me.0.seen seat.new.me.0.seen result.1 }
 {
     let Job {
         station,
@@ -56,10 +60,10 @@ fn finish_job(
     let new = outcome_word(tag, predicted, outcome);
     let found = finish_tenant(words, ring, seat, station, old, new, predicted, outcome);
     if found != old {
-        return Finish::Stale;
+        return (Finish::Stale, 0);
     }
-    carry(words, ring, seat, (station, tag), outcome);
-    Finish::Finished
+    let woken = carry(words, ring, seat, (station, tag), outcome);
+    (Finish::Finished, woken)
 }
 
 // The look tells the address that stands in the word. Where another word stands there, the load was
@@ -71,7 +75,7 @@ fn settle_load(
     station: usize,
     tag: u32,
     value: u32,
-) -> Settle
+) -> (Settle, u32)
     requires of { IsAt words.now.table_id words.now.key ring seat.old.table_id }
     requires tags { 1 ≤ words.now.key.first_tag }
     requires place { station < ring }
@@ -83,7 +87,10 @@ fn settle_load(
     ensures slots { seat.new.me.1 ≡ seat.old.me.1 }
     ensures role { seat.new.me.0.role ≡ Back }
     ensures legal { IsLegal words.now.key.program (sizes_of words.now.key) seat.new.me.0.seen }
-    ensures reply { SettleAnswers words.now.key.program (sizes_of words.now.key) seat.old.me.0.by seat.old.me.0.seen seat.new.me.0.seen station tag result }
+    ensures reply { SettleAnswers words.now.key.program (sizes_of words.now.key) seat.old.me.0.by
+        seat.old.me.0.seen seat.new.me.0.seen station tag result.0 }
+    ensures woken { HasWoken words.now.key.program (sizes_of words.now.key) seat.old.me.0.by
+        seat.old.me.0.seen seat.new.me.0.seen result.1 }
 {
     let seen = look(words, ring, seat, Place::Station(station));
     let address = value_in(seen);
@@ -91,10 +98,10 @@ fn settle_load(
     let new = done_word(tag, value);
     let found = settle_tenant(words, ring, seat, station, old, new);
     if found != old {
-        return Settle::Stale;
+        return (Settle::Stale, 0);
     }
-    walk(words, ring, seat, (station, tag), value);
-    Settle::Settled
+    let woken = walk(words, ring, seat, (station, tag), value);
+    (Settle::Settled, woken)
 }
 
 impl Core {
@@ -108,8 +115,12 @@ impl Core {
         ensures kept { IsSame seat.old seat.new }
         ensures heirs { seat.new.heirs ≡ seat.old.heirs }
         ensures reply { FinishAnswers self.now.program self.now.sizes seat.old.by seat.old.seen seat.new.seen job result }
+        ensures woken { HasWoken self.now.program self.now.sizes seat.old.by seat.old.seen
+            seat.new.seen seat.new.woken }
     {
-        finish_job(&self.table.shared, self.ring, &mut seat.seat, job, outcome)
+        let written = finish_job(&self.table.shared, self.ring, &mut seat.seat, job, outcome);
+        seat.woken = written.1;
+        written.0
     }
 
     /// Writes the value of a load, and carries it to all who asked for it.
@@ -120,14 +131,18 @@ impl Core {
         requires may { MaySettle self.now.program self.now.sizes seat.old.seen station tag value }
         ensures kept { IsSame seat.old seat.new }
         ensures reply { SettleAnswers self.now.program self.now.sizes seat.old.by seat.old.seen seat.new.seen station tag result }
+        ensures woken { HasWoken self.now.program self.now.sizes seat.old.by seat.old.seen
+            seat.new.seen seat.new.woken }
     {
-        settle_load(
+        let settled = settle_load(
             &self.table.shared,
             self.ring,
             &mut seat.seat,
             station,
             tag,
             value,
-        )
+        );
+        seat.woken = settled.1;
+        settled.0
     }
 }

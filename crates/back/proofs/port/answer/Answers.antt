@@ -84,6 +84,7 @@ returns-in_default-ask c =
     let says = (λ i. answer (record e { content = sym c.content-content.ensures i } ∷ sym c.entry_of.ensures i ∷ []) 1) ∙ sym c.ask.ensures in
     record {
       kept = same_on old mid new c.search.ensures.kept c.operand-data.ensures.kept;
+      woken = c.operand-data.ensures.woken ∙ c.search.ensures.woken;
       history = two_looks d.program d.sizes old.by mid.by old.seen mid.seen new.seen c.search.ensures.kept.by c.search.ensures.history c.operand-data.ensures.history;
       bound = found.bound;
       ok = tt;

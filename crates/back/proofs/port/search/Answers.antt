@@ -53,6 +53,7 @@ loop-k-preserved-then-is_none-2 c =
     let there = is_something e.address c.is_none.result c.is_none.ensures c.if-is_none.false in
     record {
       kept = same_on old mid new k.invariant.kept c.look-store.ensures.kept;
+      woken = c.look-store.ensures.woken ∙ k.invariant.woken;
       history = two_looks d.program d.sizes old.by mid.by old.seen mid.seen new.seen k.invariant.kept.by k.invariant.history c.look-store.ensures.history;
       bound = omega (arith, bound, some);
       found = step_met d.program d.sizes old.seen mid.seen new.seen a b c.args.head d.sizes.ring (k.k - 1) k.k c.args.at l next bound e shows (subst (λ o. HasFound d.program (unit_in d mid.seen) (length (unit_in d old.seen).tenants) c.args.head d.sizes.ring k.k c.args.at l.address (width l.op) o) none k.invariant.found) c.in-Blocked.field-0 there.0 (says ∙ c.in-Blocked.is) there.1;
@@ -79,6 +80,7 @@ loop-k-preserved-else-is_none-2 c =
     let goes_on = step_known d.program d.sizes old.seen mid.seen new.seen a b c.args.head d.sizes.ring (k.k - 1) k.k c.args.at l next bound e shows before.0 (subst (λ o. HasFound d.program (unit_in d mid.seen) (length (unit_in d old.seen).tenants) c.args.head d.sizes.ring k.k c.args.at l.address (width l.op) o) before.1 k.invariant.found) there.0 there.1 in
     record {
       kept = same_on old mid new k.invariant.kept c.look-store.ensures.kept;
+      woken = c.look-store.ensures.woken ∙ k.invariant.woken;
       history = two_looks d.program d.sizes old.by mid.by old.seen mid.seen new.seen k.invariant.kept.by k.invariant.history c.look-store.ensures.history;
       bound = omega (arith, bound, some);
       found = subst (λ o. HasFound d.program (unit_in d new.seen) (length (unit_in d old.seen).tenants) c.args.head d.sizes.ring (k.k - 1) c.args.at l.address (width l.op) o) (sym before.1) goes_on;
@@ -102,6 +104,7 @@ loop-k-preserved c =
     let says = ap (λ (x : QueueEntry). answer (e ∷ x ∷ []) 1) (sym c.entry_of-asked.ensures) ∙ sym c.ask.ensures in
     record {
       kept = same_on old mid new k.invariant.kept c.look-store.ensures.kept;
+      woken = c.look-store.ensures.woken ∙ k.invariant.woken;
       history = two_looks d.program d.sizes old.by mid.by old.seen mid.seen new.seen k.invariant.kept.by k.invariant.history c.look-store.ensures.history;
       bound = omega (arith, bound, some);
       found = step_memory d.program d.sizes old.seen mid.seen new.seen a b c.args.head d.sizes.ring (k.k - 1) k.k c.args.at l next bound e shows k.found k.invariant.found (λ u x. passed_of e l d.program u x (memory_else e l x.content (λ i h. c.in_default.not-Blocked i (sym says ∙ h))));

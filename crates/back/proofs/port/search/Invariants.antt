@@ -1,4 +1,4 @@
-use Rattle.std.proofs.Common.{◌≤◌, [], length}
+use Rattle.std.proofs.Common.{◌≡◌, ◌≤◌, [], length}
 use Rattle.isa.specs.Instruction.{width}
 use Rattle.inorder.specs.History.{Adds}
 use Rattle.station.specs.Seats.{IsSame}
@@ -12,6 +12,7 @@ invariant-loop-k l =
     record {
       kept : IsSame l.fn.seat l.seat;
       history : Adds l.core.program l.core.sizes l.fn.seat.by l.fn.seat.seen l.seat.seen [];
+      woken : l.seat.woken ≡ l.fn.seat.woken;
       bound : l.k ≤ l.at;
       found : HasFound l.core.program (unit_in l.core l.seat.seen) (length (unit_in l.core l.fn.seat.seen).tenants) l.head l.core.sizes.ring l.k l.at l.fn.load.address (width l.fn.load.op) l.found;
     }

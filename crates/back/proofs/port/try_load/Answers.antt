@@ -12,6 +12,9 @@ use Rattle.back.specs.Port.{IsAsked, IsLoadOf, behind}
 use Rattle.back.specs.Trials.{DidLoad, HasHeldBack, HasPassed, SomeWaits}
 use Rattle.back.proofs.Answering.{committed_same, head_same}
 use Rattle.back.proofs.Settling.{asked_late, came_late, did_load, has_gone, holds_back, may_settle, named_late}
+use Rattle.station.specs.Waking.{HasWoken}
+use Rattle.back.specs.Wakings.{WakesNobody}
+use Rattle.back.proofs.Wakings.{nobody_late, nobody_on, nobody_still, still_after, woken_behind}
 use Rattle.back.proofs.port.try_load.Goals as goal
 
 pub answer-requires-clause-head_is : goal.answer-requires-clause-head_is
@@ -134,3 +137,55 @@ returns-else-is_still-clause-reply c =
     let gone = subst (λ r. (p : ℕ) → IsAsked d.program (unit_in d late.seen) p ((c.args.head + c.args.at) % r) l → ¬ Has (unit_in d new.seen) p (IsWaitingLoad d.program)) ring (c.is_still.ensures.gone c.if-is_still.false) in
     subst (λ z. HasPassed d.program d.sizes z old.seen new.seen place) (sym c.requires.by)
     (has_gone d.program d.sizes old.seen mid.seen late.seen a b place l w new.seen last (gone w.p (asked_late d.program d.sizes old.seen mid.seen late.seen a b place l w)))
+
+pub returns-in-Settled-clause-woken : goal.returns-in-Settled-clause-woken
+returns-in-Settled-clause-woken c =
+    let d = c.args.core.now in
+    let old = c.args.seat.now in
+    let mid = c.waiting.new.seat in
+    let late = c.answer.new.seat in
+    let by_late = c.answer.ensures.kept.by ∙ c.waiting.ensures.kept.by in
+    let first = still_after d.program d.sizes old.by mid.by old.seen mid.seen late.seen old.woken mid.woken late.woken c.waiting.ensures.kept.by c.waiting.ensures.history c.waiting.ensures.woken c.answer.ensures.history c.answer.ensures.woken in
+    let new = c.settle.new.seat in
+    woken_behind d.program d.sizes old.by old.seen late.seen new.seen old.woken late.woken new.woken first
+    (subst (λ z. HasWoken d.program d.sizes z late.seen new.seen new.woken) by_late c.settle.ensures.woken)
+
+pub returns-in-Stale-clause-woken : goal.returns-in-Stale-clause-woken
+returns-in-Stale-clause-woken c =
+    let d = c.args.core.now in
+    let old = c.args.seat.now in
+    let mid = c.waiting.new.seat in
+    let late = c.answer.new.seat in
+    let by_late = c.answer.ensures.kept.by ∙ c.waiting.ensures.kept.by in
+    let first = still_after d.program d.sizes old.by mid.by old.seen mid.seen late.seen old.woken mid.woken late.woken c.waiting.ensures.kept.by c.waiting.ensures.history c.waiting.ensures.woken c.answer.ensures.history c.answer.ensures.woken in
+    let new = c.settle.new.seat in
+    let station = (c.args.head + c.args.at) % c.ring-ring.result in
+    nobody_on d.program d.sizes old.by old.seen late.seen new.seen old.woken late.woken new.woken first
+    (subst (λ z. WakesNobody d.program d.sizes z late.seen new.seen late.woken new.woken) by_late
+    (nobody_late d.program d.sizes late.by late.seen new.seen station c.in-Some.load.tag late.woken new.woken c.in-Stale.ensures.reply c.settle.ensures.woken))
+
+pub returns-then-is_still-clause-woken : goal.returns-then-is_still-clause-woken
+returns-then-is_still-clause-woken c =
+    let d = c.args.core.now in
+    let old = c.args.seat.now in
+    let mid = c.waiting.new.seat in
+    let late = c.answer.new.seat in
+    let by_late = c.answer.ensures.kept.by ∙ c.waiting.ensures.kept.by in
+    let first = still_after d.program d.sizes old.by mid.by old.seen mid.seen late.seen old.woken mid.woken late.woken c.waiting.ensures.kept.by c.waiting.ensures.history c.waiting.ensures.woken c.answer.ensures.history c.answer.ensures.woken in
+    let new = c.is_still.new.seat in
+    nobody_on d.program d.sizes old.by old.seen late.seen new.seen old.woken late.woken new.woken first
+    (subst (λ z. WakesNobody d.program d.sizes z late.seen new.seen late.woken new.woken) by_late
+    (nobody_still d.program d.sizes late.by late.seen new.seen late.woken new.woken c.is_still.ensures.history c.is_still.ensures.woken))
+
+pub returns-else-is_still-clause-woken : goal.returns-else-is_still-clause-woken
+returns-else-is_still-clause-woken c =
+    let d = c.args.core.now in
+    let old = c.args.seat.now in
+    let mid = c.waiting.new.seat in
+    let late = c.answer.new.seat in
+    let by_late = c.answer.ensures.kept.by ∙ c.waiting.ensures.kept.by in
+    let first = still_after d.program d.sizes old.by mid.by old.seen mid.seen late.seen old.woken mid.woken late.woken c.waiting.ensures.kept.by c.waiting.ensures.history c.waiting.ensures.woken c.answer.ensures.history c.answer.ensures.woken in
+    let new = c.is_still.new.seat in
+    nobody_on d.program d.sizes old.by old.seen late.seen new.seen old.woken late.woken new.woken first
+    (subst (λ z. WakesNobody d.program d.sizes z late.seen new.seen late.woken new.woken) by_late
+    (nobody_still d.program d.sizes late.by late.seen new.seen late.woken new.woken c.is_still.ensures.history c.is_still.ensures.woken))

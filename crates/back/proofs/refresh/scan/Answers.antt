@@ -8,6 +8,9 @@ use Rattle.back.proofs.Refreshing.{head_now, is_blocked, is_idle, loaded_on, sta
 use Rattle.back.proofs.Scanning.{held_first, held_more, passed_on}
 use Rattle.back.proofs.Searching.{is_nothing, is_something}
 use Rattle.back.proofs.Seeing.{same_on}
+use Rattle.back.specs.Wakings.{WakesNobody}
+use Rattle.station.specs.Waking.{HasWoken}
+use Rattle.back.proofs.Wakings.{nobody_on, woken_behind}
 use Rattle.back.proofs.refresh.scan.Goals as goal
 use Rattle.back.proofs.refresh.scan.Goals.{in-Passed, in-Blocked+then-is_none, in-Blocked+else-is_none}
 
@@ -50,14 +53,19 @@ loop-at-preserved c =
     let by_cur = k.invariant.kept.by ∙ c.requires.by in
     let ring = c.requires.ring in
     let kept = same_on old cur new k.invariant.kept c.try_load.ensures.kept in
+    let woken : WakesNobody d.program d.sizes cur.by cur.seen new.seen cur.woken new.woken → WakesNobody d.program d.sizes old.by old.seen new.seen old.woken new.woken = λ w.
+    nobody_on d.program d.sizes old.by old.seen cur.seen new.seen old.woken cur.woken new.woken k.invariant.woken
+    (subst (λ z. WakesNobody d.program d.sizes z cur.seen new.seen cur.woken new.woken) k.invariant.kept.by w) in
     elim c.match-try_load.branch [
       | in-Passed w ↦ record {
         kept = kept;
+        woken = woken (w.in-Passed.ensures.woken);
         scanned = subst (λ o. Scanned d.program d.sizes back old.seen new.seen head d.sizes.ring (k.at + 1) o) (sym w.blocked-is)
             (passed_on d.program d.sizes old.seen cur.seen new.seen head d.sizes.ring k.at (k.at + 1) refl k.blocked k.invariant.scanned (subst (λ z. HasPassed d.program d.sizes z cur.seen new.seen (behind head d.sizes.ring k.at)) by_cur w.in-Passed.ensures.reply));
       }
       | in-Blocked+then-is_none w ↦ record {
         kept = kept;
+        woken = woken (w.in-Blocked.ensures.woken);
         scanned = subst (λ o. Scanned d.program d.sizes back old.seen new.seen head d.sizes.ring (k.at + 1) o) ((λ i. Some ((head + k.at) % sym ring i, w.in-Blocked.store)) ∙ sym w.blocked-is)
             (held_first d.program d.sizes old.seen cur.seen new.seen head d.sizes.ring k.at (k.at + 1) refl k.blocked k.invariant.scanned w.in-Blocked.store (subst (λ z. HasHeldBack d.program d.sizes z cur.seen new.seen (behind head d.sizes.ring k.at) w.in-Blocked.store) by_cur w.in-Blocked.ensures.reply) (is_nothing k.blocked w.is_none.result w.is_none.ensures w.if-is_none.true));
       }
@@ -65,6 +73,7 @@ loop-at-preserved c =
           let b = is_something k.blocked w.is_none.result w.is_none.ensures w.if-is_none.false in
           record {
             kept = kept;
+            woken = woken (w.in-Blocked.ensures.woken);
             scanned = subst (λ o. Scanned d.program d.sizes back old.seen new.seen head d.sizes.ring (k.at + 1) o) (sym w.blocked-is)
                 (held_more d.program d.sizes old.seen cur.seen new.seen head d.sizes.ring k.at (k.at + 1) refl k.blocked k.invariant.scanned w.in-Blocked.store (subst (λ z. HasHeldBack d.program d.sizes z cur.seen new.seen (behind head d.sizes.ring k.at) w.in-Blocked.store) by_cur w.in-Blocked.ensures.reply) b.0 b.1);
           })
@@ -95,3 +104,13 @@ returns-in-None-clause-reply c =
     let inside : c.args.head < d.sizes.ring = let h = c.requires.head in let r = c.requires.ring in omega (arith, h, r) in
     subst (λ z. WasIdle d.program d.sizes z old.seen k.seat.seen) (sym c.requires.by)
     (is_idle d.program d.sizes old.seen k.seat.seen c.args.head c.requires.head_is inside k.blocked s c.in-None.is)
+
+pub returns-in-Loaded-clause-woken : goal.returns-in-Loaded-clause-woken
+returns-in-Loaded-clause-woken c =
+    let d = c.args.core.now in
+    let old = c.args.seat.now in
+    let k = c.loop-at in
+    let cur = k.seat in
+    let new = c.try_load.new.seat in
+    woken_behind d.program d.sizes old.by old.seen cur.seen new.seen old.woken cur.woken new.woken k.invariant.woken
+    (subst (λ z. HasWoken d.program d.sizes z cur.seen new.seen new.woken) k.invariant.kept.by c.in-Loaded.ensures.woken)

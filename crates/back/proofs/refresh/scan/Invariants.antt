@@ -1,6 +1,7 @@
 use Rattle.inorder.specs.History.{back}
 use Rattle.station.specs.Seats.{IsSame}
 use Rattle.back.specs.Scans.{Scanned}
+use Rattle.back.specs.Wakings.{WakesNobody}
 use Rattle.back.proofs.refresh.scan.Given as goal
 
 -- the stations before this one were tried
@@ -9,4 +10,5 @@ invariant-loop-at l =
     record {
       kept : IsSame l.fn.seat l.seat;
       scanned : Scanned l.core.program l.core.sizes back l.fn.seat.seen l.seat.seen l.head l.core.sizes.ring l.at l.blocked;
+      woken : WakesNobody l.core.program l.core.sizes l.fn.seat.by l.fn.seat.seen l.seat.seen l.fn.seat.woken l.seat.woken;
     }

@@ -14,10 +14,10 @@ invariant_of-seat c =
     let s = c.seat.inside.seat in
     let station : ℕ = c.seat.inside.station in
     let over = c.seat.inside.over in
-    let me = c.settle_load.new.seat.me in
+    let me = c.settle_load-settled.new.seat.me in
     let table = of_table key _ c.args.self.now c.self.view_is in
     let seat = of_seat _ value _ _ _ c.args.seat.now c.args.self.now c.seat.view_is c.requires.core in
     let same : unit_at value ≡ unit_at key = seat ∙ sym table in
     let was : IsSeated key.program (sizes_of key) Back s.me.0.by station over s.me = subst (λ (z : Unit_of). IsSeated z.0 z.1 Back s.me.0.by station over s.me) same c.seat.invariant.0 in
-    let out : IsSeated key.program (sizes_of key) Back s.me.0.by station over me = settled_seated key.program (sizes_of key) s.me.0.by station c.args.station c.args.tag over s.me me c.settle_load.result was (c.settle_load.ensures.role ∙ sym was.role_is) c.settle_load.ensures.slots c.settle_load.ensures.reply in
-    (subst (λ (z : Unit_of × ℕ). IsSeated z.0.0 z.0.1 Back z.1 station over me) (λ i. (sym same i, sym c.settle_load.ensures.same.1 i)) out, back_numbered s.me.0 me.0 c.settle_load.ensures.same.1 c.settle_load.ensures.heirs c.seat.invariant.1)
+    let out : IsSeated key.program (sizes_of key) Back s.me.0.by station over me = settled_seated key.program (sizes_of key) s.me.0.by station c.args.station c.args.tag over s.me me c.settle_load-settled.result.0 was (c.settle_load-settled.ensures.role ∙ sym was.role_is) c.settle_load-settled.ensures.slots c.settle_load-settled.ensures.reply in
+    (subst (λ (z : Unit_of × ℕ). IsSeated z.0.0 z.0.1 Back z.1 station over me) (λ i. (sym same i, sym c.settle_load-settled.ensures.same.1 i)) out, back_numbered s.me.0 me.0 c.settle_load-settled.ensures.same.1 c.settle_load-settled.ensures.heirs c.seat.invariant.1)

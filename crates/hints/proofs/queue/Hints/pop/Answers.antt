@@ -1,0 +1,5 @@
+use Rattle.hints.proofs.Moves.{learns, takes}
+use Rattle.hints.proofs.queue.Hints.pop.Goals as goal
+
+pub pop_as-requires-clause-rule : goal.pop_as-requires-clause-rule
+pop_as-requires-clause-rule g c = (takes _ _ _, learns _ _ _)

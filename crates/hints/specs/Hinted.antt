@@ -1,0 +1,71 @@
+-- What a queue of hints holds, and what each thread has put and taken.
+use Rattle.std.specs.Prelude.{◌≡◌, ℕ, ◌<◌, ◌≤◌, ◌==◌, Option, List, [], ◌∷◌, ◌++◌, length, map, All, if◌then◌else◌}
+use mathlib.Core.Option.{some}
+use lib.ListN.{get_elem?}
+use Rattle.atomic_table.specs.Seated.{TableId}
+use Rattle.crossbeam_queue.specs.Fifo.{Held}
+use Rattle.crossbeam_queue.specs.Passes.{Pass}
+use Rattle.hints.specs.declared.hands.Hand.{Hand}
+
+-- A queue of hints: which one, and how many stations there are
+pub record TheHints : Type 0 where
+  pub id : TableId
+  pub ring : ℕ
+
+-- It is a thread's end of this queue
+pub record IsOf (hints : TheHints) (p : Pass ℕ Hand) : Type 0 where
+  pub same : p.table_id ≡ hints.id
+  pub slots : p.me.1 ≡ []
+
+-- What was put and what was taken, the last one last
+abbrev pub hand : List ℕ → List ℕ → Hand
+hand put taken = record { put = put; taken = taken }
+
+-- One more put
+abbrev pub putting : ℕ → Hand → Hand
+putting x v = hand (v.put ++ x ∷ []) v.taken
+
+-- One more taken
+abbrev pub taking : ℕ → Hand → Hand
+taking x v = hand v.put (v.taken ++ x ∷ [])
+
+-- A hint, and who has moved it
+pub record Move : Type 0 where
+  pub by : ℕ
+  pub hint : ℕ
+
+-- The hints that were moved
+abbrev pub hints_of : List Move → List ℕ
+hints_of moves = map (λ m. m.hint) moves
+
+-- Those that this thread has moved
+abbrev pub by_thread : ℕ → List Move → List ℕ
+by_thread thread [] = []
+by_thread thread (m ∷ ms) =
+    if m.by == thread then m.hint ∷ by_thread thread ms else by_thread thread ms
+
+-- What this thread has put and taken, of all puts and all takes
+pub record Knows (puts takes : List Move) (thread : ℕ) (v : Hand) : Type 0 where
+  pub put : v.put ≡ by_thread thread puts
+  pub taken : v.taken ≡ by_thread thread takes
+
+-- All puts in one order, and all takes: what was put is what was taken, and behind that what the queue
+-- holds, each a station; and each thread has put and taken its own
+pub record Hinted (ring : ℕ) (items : List ℕ) (views : List Hand) : Type 0 where
+  pub puts : List Move
+  pub takes : List Move
+  pub in_order : hints_of puts ≡ hints_of takes ++ items
+  pub stations : All (λ x. x < ring) items
+  pub knows : (thread : ℕ) (v : Hand) → get_elem? views thread ≡ some v → Knows puts takes thread v
+  pub nobody_else : (thread : ℕ) → length views ≤ thread → Knows puts takes thread (hand [] [])
+
+-- At a moment at which the rule held and a thread had put and taken this, the queue held these hints
+pub record IsMoment (ring : ℕ) (v : Hand) (items : List ℕ) : Type 0 where
+  pub views : List Hand
+  pub rule : Hinted ring items views
+  pub thread : ℕ
+  pub here : get_elem? views thread ≡ some v
+
+-- At such a moment of the call the queue held n hints
+abbrev pub HasHeld : (ring : ℕ) → Hand → ℕ → Type 0
+HasHeld ring v n = Held n (IsMoment ring v)

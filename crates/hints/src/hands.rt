@@ -1,0 +1,75 @@
+//! What a thread has put and taken, the rule that ties it to the queue, and what each step does to it.
+use crossbeam_queue::Pass;
+use crossbeam_queue::protocol::{Lesson, Outcome, Protocol};
+use std::collections::LinkedList;
+use std::marker::{Brand, PhantomData};
+
+/// How many stations there are, in the proof alone.
+pub trait Ring {
+    ghost use Rattle.std.specs.Prelude.{ℕ};
+
+    ghost ring: { ℕ };
+}
+
+impl Ring for Brand {
+    ghost ring = { 0 };
+}
+
+/// What a thread has put and taken. It is in the proof alone.
+pub struct Hand {
+    pub put: LinkedList<u32>,
+    pub taken: LinkedList<u32>,
+}
+
+/// A thread's end of a queue. It has no bytes.
+pub type Hinter = Pass<u32, Hand>;
+
+/// The rule: each hint is a station, what is taken was put, each once, and in that order.
+pub struct Below<J> {
+    of: PhantomData<J>,
+}
+
+impl<J: Ring> Protocol<u32, Hand> for Below<J> {
+    ghost use Rattle.std.specs.Prelude.{[]};
+    ghost use Rattle.hints.specs.Hinted.{Hinted, hand};
+
+    ghost holds = { Hinted J.ring };
+
+    ghost first = { hand [] [] };
+}
+
+/// A hint is put.
+pub(crate) struct Puts<J> {
+    of: PhantomData<J>,
+}
+
+impl<J: Ring> Outcome<u32, Hand> for Puts<J> {
+    ghost use Rattle.std.specs.Prelude.{◌≡◌};
+    ghost use Rattle.hints.specs.Hinted.{putting};
+
+    ghost then = { λ v x w. w ≡ putting x v };
+}
+
+impl<J: Ring> Lesson<u32, Hand> for Puts<J> {
+    ghost use Rattle.hints.specs.Hinted.{IsMoment};
+
+    ghost fact = { IsMoment J.ring };
+}
+
+/// A hint is taken.
+pub(crate) struct Takes<J> {
+    of: PhantomData<J>,
+}
+
+impl<J: Ring> Outcome<u32, Hand> for Takes<J> {
+    ghost use Rattle.std.specs.Prelude.{◌≡◌, ◌<◌};
+    ghost use Rattle.hints.specs.Hinted.{taking};
+
+    ghost then = { λ v x w. (x < J.ring) × (w ≡ taking x v) };
+}
+
+impl<J: Ring> Lesson<u32, Hand> for Takes<J> {
+    ghost use Rattle.hints.specs.Hinted.{IsMoment};
+
+    ghost fact = { IsMoment J.ring };
+}

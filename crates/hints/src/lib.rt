@@ -1,0 +1,12 @@
+//! Hints of stations at which there may be work, in a queue that threads share: each hint is a station
+//! of one ring, and they are taken in the order in which they were put, each once.
+#![tactic(auto)]
+
+mod hands;
+mod queue;
+
+pub use hands::{Hand, Hinter, Ring};
+pub use queue::Hints;
+
+#[cfg(test)]
+mod tests;

@@ -1,0 +1,79 @@
+//! The queue, and every call on it.
+ghost use Rattle.std.specs.Prelude.{◌≡◌, ◌<◌, ◌≤◌, ◌*◌, [], IfNone, IfOk, IfSome, IsFalse, IsTrue};
+ghost use Rattle.crossbeam_queue.specs.Passes.{view};
+ghost use Rattle.hints.specs.Hinted.{HasHeld, IsOf, hand, putting, taking};
+
+use crate::hands::{Below, Hand, Hinter, Puts, Ring, Takes};
+use crossbeam_queue::RuledArrayQueue;
+use std::alloc::{AllocError, Global};
+use std::marker::Model;
+use std::sync::Wait;
+
+/// A queue of hints, for twice as many as there are stations. Contracts see which queue it is, and how
+/// many stations there are.
+#[derive(Drop)]
+pub struct Hints<J: Ring> {
+    queue: RuledArrayQueue<u32, Hand, Below<J>>,
+    ring: usize,
+}
+
+impl<J: Ring> Model for Hints<J> {
+    ghost use Rattle.std.specs.Prelude.{◌≡◌, ◌*◌};
+    ghost use Rattle.crossbeam_queue.specs.Passes.{ruled_capacity};
+    ghost use Rattle.hints.specs.Hinted.{TheHints};
+
+    ghost Value = { TheHints };
+
+    ghost view = { λ h. record { id = h.queue.table.shared.table_id; ring = h.ring } };
+
+    ghost invariant = { λ h. (h.ring ≡ J.ring) × (ruled_capacity h.queue ≡ 2 * h.ring) };
+}
+
+impl<J: Ring> Hints<J> {
+    /// A queue for a ring of so many stations, with no hint.
+    pub fn new(alloc: Global, ring: usize) -> Result<Hints<J>, AllocError>
+        requires some { 0 < ring }
+        requires most { ring ≤ 32 }
+        requires ring { ring ≡ J.ring }
+        ensures { IfOk result (λ hints. hints.ring ≡ ring) }
+    {
+        let (queue, _first) = RuledArrayQueue::ruled(alloc, 2 * ring)?;
+        Ok(Hints { queue, ring })
+    }
+
+    /// A new thread's end: it has put and taken nothing.
+    pub fn hinter(&self) -> Hinter
+        ensures of { IsOf self.now result }
+        ensures fresh { view result ≡ hand [] [] }
+    {
+        self.queue.pass()
+    }
+
+    /// Puts a hint behind all others. False where it is dropped: the queue was full.
+    pub fn push<R: Wait>(&self, wait: &R, hinter: &mut Hinter, station: u32) -> bool
+        requires of { IsOf self.now hinter.old }
+        requires station { station < self.now.ring }
+        ensures of { IsOf self.now hinter.new }
+        ensures put { IsTrue result → view hinter.new ≡ putting station (view hinter.old) }
+        ensures dropped { IsFalse result → view hinter.new ≡ view hinter.old }
+        ensures full { IsFalse result →
+            HasHeld self.now.ring (view hinter.old) (2 * self.now.ring) }
+    {
+        self.queue
+            .push_as::<Puts<J>, R>(wait, hinter, station)
+            .is_ok()
+    }
+
+    /// Takes the oldest hint, if there is one.
+    pub fn pop<R: Wait>(&self, wait: &R, hinter: &mut Hinter) -> Option<u32>
+        requires of { IsOf self.now hinter.old }
+        ensures of { IsOf self.now hinter.new }
+        ensures station { IfSome result (λ station. station < self.now.ring) }
+        ensures taken { IfSome result (λ station.
+            view hinter.new ≡ taking station (view hinter.old)) }
+        ensures kept { IfNone result (view hinter.new ≡ view hinter.old) }
+        ensures empty { IfNone result (HasHeld self.now.ring (view hinter.old) 0) }
+    {
+        self.queue.pop_as::<Takes<J>, R>(wait, hinter)
+    }
+}
