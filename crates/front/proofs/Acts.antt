@@ -1,5 +1,5 @@
 -- What an allowed step leaves of the facts about single tenants.
-use Rattle.std.proofs.Common.{◌≡◌, ℕ, List, Option, Some, None, refl, sym, ap, ◌∙◌, ⊎_elim}
+use Rattle.std.proofs.Common.{◌≡◌, ℕ, List, Option, Some, None, refl, sym, ap, ◌∙◌, ⊎_elim, inl, inr}
 use Rattle.isa.specs.Programs.{Program}
 use Rattle.inorder.specs.declared.history.Act.{Act}
 use Rattle.inorder.specs.declared.history.Act.TheVariants.{Claim, Deliver, Finish, Link, Load, Mend, Retire, Squash}
@@ -12,7 +12,7 @@ use Rattle.inorder.specs.Unit.{Sizes, UpdateUnit, at, made_by, older, value_of, 
 use Rattle.inorder.proofs.Ends.{Acted, exact}
 use Rattle.inorder.proofs.Moves.{came, goes}
 use Rattle.inorder.proofs.Sound.{IsSound}
-use Rattle.front.specs.Knows.{IsGone, IsNewest, IsReused}
+use Rattle.front.specs.Knows.{IsFolded, IsGone, IsNewest, IsReused}
 use Rattle.front.specs.Trail.{Note}
 
 -- a tenant that has retired changes no more
@@ -55,6 +55,9 @@ module _ (P : Program) (C : Sizes) (U : UpdateUnit) (by : ℕ) (s : Step) (a : A
   still_reused n i =
       let g = goes P C U by s a ok i.p i.tenant.tenant i.tenant.is in
       record { p = i.p; behind = i.behind; tenant = record { tenant = g.tenant; is = g.is; fact = g.goes.station ∙ i.tenant.fact } }
+
+  pub still_folded : (told : ℕ) (n : Note) → IsFolded U told n → IsFolded V told n
+  still_folded told n h = ⊎_elim (λ r. inl (still_reused n r)) (λ l. inr l) h
 
   pub still_value : (c : Option ℕ) (v : ℕ) → value_of U.tenants c ≡ Some v → value_of V.tenants c ≡ Some v
   still_value None v e = e

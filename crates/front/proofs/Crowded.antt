@@ -12,6 +12,7 @@ use Rattle.ruu_words.specs.declared.station.StationState.TheVariants.{Free}
 use Rattle.ruu_words.specs.States.{state_code}
 use Rattle.station.specs.declared.answers.Seen.{Seen}
 use Rattle.station.specs.Looking.{SeesStation}
+use Rattle.front.specs.declared.path.base_state.Base.{Base}
 use Rattle.front.specs.declared.path.record.Record.{Record}
 use Rattle.front.specs.Knows.{IsNewest, Knows}
 use Rattle.front.specs.Queues.{IsBefore, live_accesses}
@@ -28,7 +29,7 @@ pub all_in : (Q : Record → Type 0) (older : List Record) (x : Record) (younger
 all_in Q [] x younger a = a.0
 all_in Q (y ∷ older) x younger a = all_in Q older x younger a.1
 
-module _ (P : Program) (C : Sizes) (h : List Entry) (legal : IsLegal P C h) (records : List Record) (base : List ℕ) (k : Knows P C (unit_of P C h) records base) (n : ℕ) (x : Record) (b : IsBefore records n x) (seen : Seen StationState) (sees : SeesStation P C h x.station seen) where
+module _ (P : Program) (C : Sizes) (h : List Entry) (legal : IsLegal P C h) (records : List Record) (base : Base) (k : Knows P C (unit_of P C h) records base) (n : ℕ) (x : Record) (b : IsBefore records n x) (seen : Seen StationState) (sees : SeesStation P C h x.station seen) where
   abbrev U : UpdateUnit
   U = unit_of P C h
 

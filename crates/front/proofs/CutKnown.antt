@@ -1,5 +1,5 @@
 -- What the front knows behind a squash and a mending of its own.
-use Rattle.std.proofs.Common.{◌≡◌, ◌≢◌, ℕ, ◌<◌, true, List, [], ◌∷◌, ◌++◌, length, Some, refl, sym, ap, ◌∙◌, subst, ⊎_elim, arith, length-append, append_assoc, true≢false}
+use Rattle.std.proofs.Common.{◌≡◌, ◌≢◌, ℕ, ◌<◌, true, List, [], ◌∷◌, ◌++◌, length, Some, refl, sym, ap, ◌∙◌, subst, ⊎_elim, arith, length-append, append_assoc, true≢false, ◌≤◌}
 use Rattle.std.proofs.lemmas.Bool.{cases_lt}
 use Rattle.std.specs.List.{AllByRecursion}
 use Rattle.std.specs.Prelude.{slice_index}
@@ -18,11 +18,14 @@ use Rattle.inorder.proofs.Positions.{all_at, younger_at}
 use Rattle.inorder.proofs.Sound.{IsSettled, IsSound, SettledBy}
 use Rattle.inorder.proofs.Stations.{mended_station}
 use Rattle.unit_laws.proofs.Middle.{at_middle, older_middle, sound_from, younger_middle}
+use Rattle.front.proofs.Stays.{long_under}
+use Rattle.front.specs.Path.{told_of}
+use Rattle.front.specs.declared.path.base_state.Base.{Base}
 use Rattle.front.specs.declared.path.record.Record.{Record}
 use Rattle.front.specs.Creators.{creator_note, position}
-use Rattle.front.specs.Knows.{IsGone, IsNewest, IsReused, Knows, whats}
+use Rattle.front.specs.Knows.{IsGone, IsNewest, IsFolded, Knows, whats}
 use Rattle.front.specs.Trail.{Note, note, trail}
-use Rattle.front.proofs.Acts.{still_gone, still_newest, still_reused, still_value}
+use Rattle.front.proofs.Acts.{still_gone, still_newest, still_folded, still_value}
 use Rattle.front.proofs.Lists.{all_both, all_front, all_map, all_rest, whats_append}
 use Rattle.front.proofs.Trails.{IsLastOn, IsOff, last_on, trail_off, trail_on, trail_past}
 
@@ -139,7 +142,7 @@ module _ (P : Program) (C : Sizes) (U : UpdateUnit) (ok : IsSound P U.tenants) (
       ∙ (trail_past P o.ys (mended t ∷ ts) o.off
       ∙ (trail_on P (mended t) ts on ∙ (λ i. sym o.before i ++ mended_is next live f i ∷ [])))
 
-module _ (P : Program) (C : Sizes) (U : UpdateUnit) (ok : IsSound P U.tenants) (by p : ℕ) (base : List ℕ) where
+module _ (P : Program) (C : Sizes) (U : UpdateUnit) (ok : IsSound P U.tenants) (by p : ℕ) (base : Base) where
   -- the youngest is no more there, and there are others
   pub squash_known : (a : Allowed P C U by (On p Squash)) → (rest : List Record) (one : Record) (k : Knows P C U (rest ++ one ∷ []) base) → (fs : List Note) (x : Note) → k.notes ≡ fs ++ x ∷ [] → rest ≢ [] → Knows P C (applied P C U by (On p Squash)) rest base
   squash_known a rest one k fs x e some =
@@ -158,10 +161,12 @@ module _ (P : Program) (C : Sizes) (U : UpdateUnit) (ok : IsSound P U.tenants) (
         room = omega (arith, k.room);
         begun = λ none. absurd (some (are ∙ ap whats none));
         retired = all_map (IsGone U) (IsGone V) (still_gone P C U by (On p Squash) a ok) k.gone k.retired;
-        again = all_map (IsReused U) (IsReused V) (still_reused P C U by (On p Squash) a ok) k.gone k.again;
+        again = all_map (IsFolded U (told_of base)) (IsFolded V (told_of base)) (still_folded P C U by (On p Squash) a ok (told_of base)) k.gone k.again;
         newest = all_map (IsNewest U) (IsNewest V) (still_newest P C U by p Squash a ok) fs (all_front (IsNewest U) fs (x ∷ []) (subst (AllByRecursion (IsNewest U)) e k.newest));
+        past = subst (λ z. told_of base ≤ z) (sym (long_under P C U by p Squash a)) k.past;
+        untold = all_front (λ n. told_of base ≤ n.at) fs (x ∷ []) (subst (AllByRecursion (λ n. told_of base ≤ n.at)) e k.untold);
         wide = k.wide;
-        base_is = λ r h. still_value P C U by (On p Squash) a ok (position (creator_note k.gone r)) (slice_index base r) (k.base_is r h);
+        base_is = λ r h. still_value P C U by (On p Squash) a ok (position (creator_note k.gone r)) (slice_index base.registers r) (k.base_is r h);
       }
 
   -- the youngest goes on elsewhere
@@ -178,6 +183,7 @@ module _ (P : Program) (C : Sizes) (U : UpdateUnit) (ok : IsSound P U.tenants) (
       let long' = length-append fs (y ∷ []) in
       let all : length k.notes ≡ length (fs ++ x ∷ []) = ap (λ z. length z) e in
       let newest : AllByRecursion (IsNewest U) (fs ++ x ∷ []) = subst (AllByRecursion (IsNewest U)) e k.newest in
+      let untold : AllByRecursion (λ n. told_of base ≤ n.at) (fs ++ x ∷ []) = subst (AllByRecursion (λ n. told_of base ≤ n.at)) e k.untold in
       let last : IsNewest U y = (all_rest (IsNewest U) fs (x ∷ []) newest).0 in
       record {
         gone = k.gone;
@@ -187,8 +193,10 @@ module _ (P : Program) (C : Sizes) (U : UpdateUnit) (ok : IsSound P U.tenants) (
         room = omega (arith, k.room);
         begun = λ none. absurd (Rattle.front.proofs.Lists.last_not fs y (sym none));
         retired = all_map (IsGone U) (IsGone V) (still_gone P C U by (On p Mend) a ok) k.gone k.retired;
-        again = all_map (IsReused U) (IsReused V) (still_reused P C U by (On p Mend) a ok) k.gone k.again;
+        again = all_map (IsFolded U (told_of base)) (IsFolded V (told_of base)) (still_folded P C U by (On p Mend) a ok (told_of base)) k.gone k.again;
         newest = all_map (IsNewest U) (IsNewest V) (still_newest P C U by p Mend a ok) (fs ++ y ∷ []) (all_both (IsNewest U) fs (y ∷ []) (all_front (IsNewest U) fs (x ∷ []) newest) (last, tt));
+        past = subst (λ z. told_of base ≤ z) (sym (long_under P C U by p Mend a)) k.past;
+        untold = all_both (λ n. told_of base ≤ n.at) fs (y ∷ []) (all_front (λ n. told_of base ≤ n.at) fs (x ∷ []) untold) ((all_rest (λ n. told_of base ≤ n.at) fs (x ∷ []) untold).0, tt);
         wide = k.wide;
-        base_is = λ r h. still_value P C U by (On p Mend) a ok (position (creator_note k.gone r)) (slice_index base r) (k.base_is r h);
+        base_is = λ r h. still_value P C U by (On p Mend) a ok (position (creator_note k.gone r)) (slice_index base.registers r) (k.base_is r h);
       }

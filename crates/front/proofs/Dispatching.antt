@@ -26,12 +26,13 @@ use Rattle.station.specs.declared.answers.Supply.{Supply}
 use Rattle.station.specs.declared.answers.Supply.TheVariants.{From as GivenFrom, Known as GivenKnown}
 use Rattle.station.specs.declared.answers.Tenant.{Tenant as NewTenant}
 use Rattle.station.specs.Letting.{MayLetOut, let_of, supply_of}
+use Rattle.front.specs.declared.path.base_state.Base.{Base}
 use Rattle.front.specs.declared.fetch.Fetched.{Fetched}
 use Rattle.front.specs.declared.path.record.Record.{Record}
 use Rattle.front.specs.Creators.{supply_in}
 use Rattle.front.specs.Fetching.{IsNext}
 use Rattle.front.specs.Knows.{IsReady, Knows}
-use Rattle.front.specs.Path.{record_for}
+use Rattle.front.specs.Path.{record_for, told_of}
 use Rattle.front.specs.Questions.{Asks, IsDispatched}
 use Rattle.front.specs.Trail.{is_link, record_of}
 use Rattle.front.proofs.LetKnown.{let_known}
@@ -66,7 +67,7 @@ index_of P f e =
     let a = found_at P f.pc f.instr e in
     subst (IsIndex P f) (sym (index_is a.index f.pc a.pc)) (record { inside = a.inside; pc = a.pc; is = a.is })
 
-module _ (P : Program) (C : Sizes) (old : List Entry) (legal : IsLegal P C old) (records : List Record) (base : List ℕ) (k : IsReady P C (unit_of P C old) records base)
+module _ (P : Program) (C : Sizes) (old : List Entry) (legal : IsLegal P C old) (records : List Record) (base : Base) (k : IsReady P C (unit_of P C old) records base)
     (f : Fetched) (n : IsNext P C old f) (predicted index : ℕ) (small : predicted < 2 ^ 32) (fixed : IfSome (fixed_next f.instr f.half f.pc) (λ x. predicted ≡ x)) (x : IsIndex P f index)
     (first_small : first_of f.instr < 34) (second_small : second_of f.instr < 34)
     (first second : Supply) (first_given : first ≡ supply_in records base (first_of f.instr)) (second_given : second ≡ supply_in records base (second_of f.instr)) where
@@ -161,12 +162,12 @@ module _ (P : Program) (C : Sizes) (old : List Entry) (legal : IsLegal P C old) 
         (subst (λ z. Knows P C (applied P C M front let_step) (records ++ z ∷ []) base) kept_of there)
 
     -- the table
-    module _ (T T' : Table) (table : HasTable P U T) (inside : f.station < 32) (entered : IsEntered T T' (record_for f tag predicted)) where
-      pub table_behind : HasTable P (unit_of P C new) T'
+    module _ (T T' : Table) (table : HasTable P U (told_of base) T) (inside : f.station < 32) (entered : IsEntered T T' (record_for f tag predicted)) where
+      pub table_behind : HasTable P (unit_of P C new) (told_of base) T'
       table_behind =
-          let there : HasTable P M T = stays P C (λ V. HasTable P V T) (table_stable P C T) old point l.before table in
-          let after = table_let P C M front index predicted (supply_of first) (supply_of second) T T' there (subst (λ z. z < 32) place inside) (one_named P C (entry front (let_of tenant) ∷ point) legal_let) (subst (IsEntered T T') (sym kept_of) entered) in
-          stays_behind P C (λ V. HasTable P V T') (table_stable P C T') old new (let_of tenant) [] l after
+          let there : HasTable P M (told_of base) T = stays P C (λ V. HasTable P V (told_of base) T) (table_stable P C (told_of base) T) old point l.before table in
+          let after = table_let P C M front index predicted (supply_of first) (supply_of second) (told_of base) T T' there ready.stands.past (subst (λ z. z < 32) place inside) (one_named P C (entry front (let_of tenant) ∷ point) legal_let) (subst (IsEntered T T') (sym kept_of) entered) in
+          stays_behind P C (λ V. HasTable P V (told_of base) T') (table_stable P C (told_of base) T') old new (let_of tenant) [] l after
 
     -- its place in the unit
     pub named_new : IsTenant (applied P C M front let_step) (length M.tenants) f.station tag IsAny
@@ -232,8 +233,8 @@ module _ (P : Program) (C : Sizes) (old : List Entry) (legal : IsLegal P C old) 
       pub knows_end : Knows P C (unit_of P C end) (records ++ record_for f tag predicted ∷ []) base
       knows_end = two.knows (records ++ record_for f tag predicted ∷ []) base (one.knows (records ++ record_for f tag predicted ∷ []) base knows_behind)
 
-      pub table_end : (T T' : Table) → HasTable P U T → f.station < 32 → IsEntered T T' (record_for f tag predicted) → HasTable P (unit_of P C end) T'
-      table_end T T' table inside entered = two.table T' (one.table T' (table_behind T T' table inside entered))
+      pub table_end : (T T' : Table) → HasTable P U (told_of base) T → f.station < 32 → IsEntered T T' (record_for f tag predicted) → HasTable P (unit_of P C end) (told_of base) T'
+      table_end T T' table inside entered = two.table (told_of base) T' (one.table (told_of base) T' (table_behind T T' table inside entered))
 
       pub dispatched : IsDispatched P C old end f predicted tag
       dispatched = record {

@@ -11,9 +11,11 @@ use Rattle.inorder.specs.Tenants.{Tenant, stands_on_path}
 use Rattle.inorder.specs.Unit.{Sizes, UpdateUnit, at}
 use Rattle.inorder.proofs.Histories.{adds_on}
 use Rattle.ruu_words.specs.Kinds.{IsAny, IsTenant}
-use Rattle.ruu_words.proofs.Stays.{any_stays, place_stays}
+use Rattle.ruu_words.proofs.Stays.{place_stays}
+use Rattle.front.specs.Path.{told_of}
+use Rattle.front.specs.declared.path.base_state.Base.{Base}
 use Rattle.front.specs.declared.path.record.Record.{Record}
-use Rattle.front.specs.Knows.{IsGone, IsReused, Knows, whats}
+use Rattle.front.specs.Knows.{IsFolded, IsGone, Knows, whats}
 use Rattle.front.specs.Recoveries.{IsCut, IsFirst, IsMissAt, IsNoMiss, squash_event}
 use Rattle.front.specs.declared.recovery.Missed.{Missed}
 use Rattle.station.specs.Recovery.{IsMended as IsMendedThere}
@@ -61,7 +63,7 @@ less_not p q h e = absurd (omega (arith, h, e))
 after_not : (p q : ℕ) → p < q → q < p → ⊥
 after_not p q h e = absurd (omega (arith, h, e))
 
-module _ (P : Program) (C : Sizes) (h : List Entry) (legal : IsLegal P C h) (records : List Record) (base : List ℕ) (k : Knows P C (unit_of P C h) records base)
+module _ (P : Program) (C : Sizes) (h : List Entry) (legal : IsLegal P C h) (records : List Record) (base : Base) (k : Knows P C (unit_of P C h) records base)
     (i : ℕ) (one : Record) (here : slice_get records i ≡ Some one) (first : AllByRecursion (IsNoMiss (unit_of P C h)) (take i records)) where
   abbrev U : UpdateUnit
   U = unit_of P C h
@@ -76,7 +78,7 @@ module _ (P : Program) (C : Sizes) (h : List Entry) (legal : IsLegal P C h) (rec
   order = ordered P U.tenants (k.gone ++ s.before) s.one s.after whole
 
   noted_all : AllByRecursion (IsNoted P U.tenants) (s.before ++ s.one ∷ s.after)
-  noted_all = subst (AllByRecursion (IsNoted P U.tenants)) s.is (notes_noted P C h legal records base (IsReused U) k)
+  noted_all = subst (AllByRecursion (IsNoted P U.tenants)) s.is (notes_noted P C h legal records base (IsFolded U (told_of base)) k)
 
   abbrev NoMissBefore : Note → Type 0
   NoMissBefore n = n.at < s.one.at → (x : ℕ) (t : Tenant) → at U.tenants n.at ≡ Some t → ¬ IsMissing x t
@@ -102,8 +104,8 @@ module _ (P : Program) (C : Sizes) (h : List Entry) (legal : IsLegal P C h) (rec
       λ q x u lt is m. trail_all P NoMissBefore U.tenants none_before q u is (ap stands_on_path m.live) (subst (λ z. q < z) same lt) x u is m
 
 -- The whole recovery
-pub recovered : (P : Program) (C : Sizes) (begin mid old new : List Entry) → IsLegal P C begin → (records : List Record) (base : List ℕ) → Knows P C (unit_of P C begin) records base → (m : Missed) → AllByRecursion (IsNoMiss (unit_of P C begin)) (take m.at records) → Adds P C front begin mid []
-    → (kept : List Record) (kept_base : List ℕ) → kept ≡ take (m.at + 1) records → Knows P C (unit_of P C old) kept kept_base → IsMissAt P C old kept m → length kept ≡ m.at + 1 → (squashed : ℕ) → IsCut P C mid old squashed → IsMendedThere P C front m.station old new → Mended P C begin new kept kept_base m squashed
+pub recovered : (P : Program) (C : Sizes) (begin mid old new : List Entry) → IsLegal P C begin → (records : List Record) (base : Base) → Knows P C (unit_of P C begin) records base → (m : Missed) → AllByRecursion (IsNoMiss (unit_of P C begin)) (take m.at records) → Adds P C front begin mid []
+    → (kept : List Record) (kept_base : Base) → kept ≡ take (m.at + 1) records → Knows P C (unit_of P C old) kept kept_base → IsMissAt P C old kept m → length kept ≡ m.at + 1 → (squashed : ℕ) → IsCut P C mid old squashed → IsMendedThere P C front m.station old new → Mended P C begin new kept kept_base m squashed
 recovered P C begin mid old new legal records base k m first adds kept kept_base rest k' i long squashed cut s =
     let events = map squash_event cut.squashes in
     let both : Adds P C front begin old events = subst (λ z. Adds P C front begin old z) (append-nil events) (adds_on P C front begin mid old [] events adds cut.adds) in

@@ -1,25 +1,35 @@
 -- A front between its calls.
-use Rattle.std.proofs.Common.{◌≡◌, ◌≢◌, ℕ, zero, suc, ◌<◌, length, ◌∷◌, Bool, true, false, cond, List, [], ◌++◌, Option, Some, None, replicate, refl, sym, ap, ◌∙◌, subst, arith, ◌≤◌}
+use Rattle.std.proofs.Common.{◌≡◌, ◌≢◌, ℕ, zero, suc, ◌<◌, length, ◌∷◌, Bool, true, false, cond, List, [], ◌++◌, Option, Some, None, replicate, refl, sym, ap, ◌∙◌, subst, arith, ◌≤◌, ◌%◌, leb, leb-true, ⊎_elim}
 use Rattle.std.proofs.lemmas.List.{append-nil}
 use Rattle.std.specs.Prelude.{slice_get, slice_index}
-use Rattle.isa.specs.Programs.{Program}
+use Rattle.isa.specs.Programs.{Program, text_start}
 use Rattle.inorder.specs.declared.history.Entry.{Entry}
 use Rattle.inorder.specs.declared.history.Step.{Step}
 use Rattle.inorder.specs.declared.history.Step.TheVariants.{Let, On, Renew}
 use Rattle.inorder.specs.History.{Adds, IsLegal, front, own, unit_of}
 use Rattle.inorder.specs.Legal.{Allowed, applied}
-use Rattle.inorder.specs.Unit.{Sizes, UpdateUnit, at, can_be_written, value_of}
+use Rattle.inorder.specs.Unit.{Sizes, UpdateUnit, at, can_be_written, front_half, front_pc, newest_of, next_station, value_of}
 use Rattle.inorder.proofs.Letting.{IsBesides}
 use Rattle.inorder.proofs.SettledRegisters.{zeros}
 use Rattle.inorder.proofs.Sound.{IsSound}
 use Rattle.ruu_words.proofs.Stays.{front_stays}
 use Rattle.station.specs.Seats.{Caller, IsSame, TheCore}
+use Rattle.isa.specs.declared.op.Half.TheVariants.{Low}
+use Rattle.inorder.proofs.Positions.{at_below}
+use Rattle.std.specs.List.{AllByRecursion}
+use Rattle.front.proofs.Trails.{IsNoted, trail_noted}
+use Rattle.front.proofs.Lists.{all_rest}
+use Rattle.front.proofs.CreateVector.{newest_among}
+use Rattle.front.specs.declared.path.base_state.Base.{Base}
+use Rattle.front.proofs.Resting.{nobody_stable}
+use Rattle.front.specs.Rests.{HasNobody}
+use Rattle.front.specs.Path.{told_of}
 use Rattle.front.specs.declared.path.Path.{Path}
-use Rattle.front.specs.Creators.{creator_note, position}
+use Rattle.front.specs.Creators.{creator_note, newest_note, position}
 use Rattle.front.specs.declared.path.record.Record.{Record}
-use Rattle.front.specs.Fronts.{AddsNothing, IsFront, IsUnused}
+use Rattle.front.specs.Fronts.{AddsNothing, HasRested, IsFront, IsUnused}
 use Rattle.front.specs.Knows.{Knows}
-use Rattle.front.specs.CreateTable.{HasTable, entry_in}
+use Rattle.front.specs.CreateTable.{HasTable, entry_in, entry_of, maker_of}
 use Rattle.front.specs.declared.path.counted.Counted.{Counted}
 use Rattle.front.specs.declared.path.counted.Table.{Table}
 use Rattle.front.specs.declared.path.counted.Maker.{Maker}
@@ -29,16 +39,22 @@ use Rattle.front.proofs.Splitting.{stays}
 use Rattle.front.proofs.Stays.{knows_stable}
 
 -- a call that added nothing
-pub still_front : (core : TheCore) (P : Program) (v w : Caller) (path : Path) (creators : Counted) → v.core ≡ core → IsFront P v path creators → IsSame v w
-    → Adds core.program core.sizes v.by v.seen w.seen [] → IsFront P w path creators
-still_front core P v w path creators e f same adds =
+pub still_front : (core : TheCore) (P : Program) (v w : Caller) (path : Path) (creators : Counted) (rested : Bool) → v.core ≡ core → IsFront P v path creators rested → IsSame v w
+    → Adds core.program core.sizes v.by v.seen w.seen [] → IsFront P w path creators rested
+still_front core P v w path creators rested e f same adds =
     let Fact : TheCore → Type 0 = λ c. Adds c.program c.sizes front v.seen w.seen [] in
     let mine : Fact core = subst (λ i. Adds core.program core.sizes i v.seen w.seen []) f.by_is adds in
     let here : Fact v.core = subst Fact (sym e) mine in
     let knows : Knows v.core.program v.core.sizes (unit_of v.core.program v.core.sizes w.seen) path.records path.base = stays v.core.program v.core.sizes (λ U. Knows v.core.program v.core.sizes U path.records path.base) (knows_stable v.core.program v.core.sizes path.records path.base) v.seen w.seen here f.knows in
-    let table : HasTable v.core.program (unit_of v.core.program v.core.sizes w.seen) creators.table = stays v.core.program v.core.sizes (λ U. HasTable v.core.program U creators.table) (table_stable v.core.program v.core.sizes creators.table) v.seen w.seen here f.table in
+    let table : HasTable v.core.program (unit_of v.core.program v.core.sizes w.seen) (told_of path.base) creators.table = stays v.core.program v.core.sizes (λ U. HasTable v.core.program U (told_of path.base) creators.table) (table_stable v.core.program v.core.sizes (told_of path.base) creators.table) v.seen w.seen here f.table in
     record {
-      table = subst (λ (z : TheCore). HasTable z.program (unit_of z.program z.sizes w.seen) creators.table) (sym same.core) table;
+      table = subst (λ (z : TheCore). HasTable z.program (unit_of z.program z.sizes w.seen) (told_of path.base) creators.table) (sym same.core) table;
+      rests = λ r.
+          let there : HasRested v.core w.seen path.records = record {
+            nobody = stays v.core.program v.core.sizes HasNobody (nobody_stable v.core.program v.core.sizes) v.seen w.seen here (f.rests r).nobody;
+            none = (f.rests r).none;
+          } in
+          subst (λ (z : TheCore). HasRested z w.seen path.records) (sym same.core) there;
       by_is = same.by ∙ f.by_is;
       program = f.program ∙ ap (λ (z : TheCore). z.program) (sym same.core);
       legal = subst (λ (z : TheCore). IsLegal z.program z.sizes w.seen) (sym same.core) here.legal;
@@ -46,13 +62,14 @@ still_front core P v w path creators e f same adds =
     }
 
 -- after a call that knows
-pub front_again : (core : TheCore) (P : Program) (v w : Caller) (path path' : Path) (creators creators' : Counted) → v.core ≡ core → IsFront P v path creators → IsSame v w
+pub front_again : (core : TheCore) (P : Program) (v w : Caller) (path path' : Path) (creators creators' : Counted) (rested rested' : Bool) → v.core ≡ core → IsFront P v path creators rested → IsSame v w
     → IsLegal core.program core.sizes w.seen → Knows core.program core.sizes (unit_of core.program core.sizes w.seen) path'.records path'.base
-    → HasTable core.program (unit_of core.program core.sizes w.seen) creators'.table → IsFront P w path' creators'
-front_again core P v w path path' creators creators' e f same legal knows table =
+    → HasTable core.program (unit_of core.program core.sizes w.seen) (told_of path'.base) creators'.table → (rested' ≡ true → HasRested core w.seen path'.records) → IsFront P w path' creators' rested'
+front_again core P v w path path' creators creators' rested rested' e f same legal knows table rests =
     let both : core ≡ w.core = sym e ∙ sym same.core in
     record {
-      table = subst (λ (z : TheCore). HasTable z.program (unit_of z.program z.sizes w.seen) creators'.table) both table;
+      table = subst (λ (z : TheCore). HasTable z.program (unit_of z.program z.sizes w.seen) (told_of path'.base) creators'.table) both table;
+      rests = λ r. subst (λ (z : TheCore). HasRested z w.seen path'.records) both (rests r);
       by_is = same.by ∙ f.by_is;
       program = f.program ∙ ap (λ (z : TheCore). z.program) (sym same.core);
       legal = subst (λ (z : TheCore). IsLegal z.program z.sizes w.seen) both legal;
@@ -63,7 +80,7 @@ least : (n : ℕ) → 0 ≤ n
 least n = omega arith
 
 -- nothing was let
-nobody : (P : Program) (C : Sizes) (h : List Entry) → IsLegal P C h → own front h ≡ [] → (unit_of P C h).tenants ≡ []
+pub nobody : (P : Program) (C : Sizes) (h : List Entry) → IsLegal P C h → own front h ≡ [] → (unit_of P C h).tenants ≡ []
 nobody P C h legal none =
     let whole : h ++ [] ≡ h = append-nil h in
     subst (λ z. (unit_of P C z).tenants ≡ []) whole (front_stays P C (λ U. U.tenants ≡ []) keeps h [] (subst (IsLegal P C) (sym whole) legal) none refl)
@@ -73,8 +90,16 @@ nobody P C h legal none =
     keeps U by Renew b a ok e = absurd b
     keeps U by (On p act) b a ok e = let no : None ≡ Some a.tenant = ap (λ z. at z p) (sym e) ∙ a.is in absurd (cc no)
 
-pub first_knows : (P : Program) (C : Sizes) (h : List Entry) → IsLegal P C h → own front h ≡ [] → Knows P C (unit_of P C h) [] (replicate 34 0)
-first_knows P C h legal none =
+-- the base of a front that has let nothing
+pub record IsFirstBase (P : Program) (C : Sizes) (h : List Entry) (b : Base) : Type 0 where
+  pub registers : b.registers ≡ replicate 34 0
+  pub pc : b.pc ≡ text_start
+  pub half : b.half ≡ Low
+  pub station : b.station ≡ 0
+  pub told : told_of b ≡ length (unit_of P C h).tenants
+
+pub first_knows : (P : Program) (C : Sizes) (h : List Entry) → IsLegal P C h → own front h ≡ [] → (b : Base) → IsFirstBase P C h b → Knows P C (unit_of P C h) [] b
+first_knows P C h legal none b f =
     let empty = nobody P C h legal none in
     record {
       gone = [];
@@ -82,16 +107,26 @@ first_knows P C h legal none =
       path = ap (trail P) empty;
       are = refl;
       room = least C.ring;
-      begun = λ e. refl;
+      begun = λ e. record {
+        pc = ap front_pc empty ∙ sym f.pc;
+        half = ap (front_half P) empty ∙ sym f.half;
+        station = ap (λ z. next_station C (newest_of (unit_of P C h).fresh z)) empty ∙ (nothing_placed (unit_of P C h).fresh ∙ ap (λ z. z % C.ring) (sym f.station));
+      };
       retired = tt;
       again = tt;
       newest = tt;
-      wide = refl;
+      past = omega (arith, f.told);
+      untold = tt;
+      wide = ap (λ z. length z) f.registers;
       base_is = λ r h. base r;
     }
   where
-    base : (r : ℕ) → value_of (unit_of P C h).tenants (position (creator_note [] r)) ≡ Some (slice_index (replicate 34 0) r)
-    base r = go (can_be_written r) ∙ ap Some (sym (zeros 34 r))
+    nothing_placed : (n : ℕ) → next_station C (newest_of n []) ≡ 0 % C.ring
+    nothing_placed zero = refl
+    nothing_placed (suc n) = refl
+
+    base : (r : ℕ) → value_of (unit_of P C h).tenants (position (creator_note [] r)) ≡ Some (slice_index b.registers r)
+    base r = go (can_be_written r) ∙ ap Some (sym (zeros 34 r) ∙ ap (λ z. slice_index z r) (sym f.registers))
       where
         go : (b : Bool) → value_of (unit_of P C h).tenants (position (cond b None None)) ≡ Some 0
         go true = refl
@@ -106,29 +141,52 @@ some_there : (xs ys : List Note) (n : Note) → [] ≢ xs ++ n ∷ ys
 some_there [] ys n e = cc e
 some_there (x ∷ xs) ys n e = cc e
 
-first_table : (P : Program) (C : Sizes) (h : List Entry) → IsLegal P C h → own front h ≡ [] → (T : Table) → T.entries ≡ replicate 34 None → length T.latest ≡ 32 → HasTable P (unit_of P C h) T
-first_table P C h legal none T entries deep =
+first_table : (P : Program) (C : Sizes) (h : List Entry) → IsLegal P C h → own front h ≡ [] → (told : ℕ) (T : Table) → T.entries ≡ replicate 34 None → length T.latest ≡ 32 → HasTable P (unit_of P C h) told T
+first_table P C h legal none told T entries deep =
     let empty = nobody P C h legal none in
     record {
       wide = ap (λ z. length z) entries;
       deep = deep;
-      entries = λ r pos less. ap (λ z. slice_get z r) entries ∙ (nothing_at r 34 less ∙ ap (λ z. Some (entry_in (trail P z) r)) (sym empty));
-      latest = λ p t is last. let no : None ≡ Some t = ap (λ z. at z p) (sym empty) ∙ is in absurd (cc no);
-      stale = λ p q t u lt is is' same s e. let no : None ≡ Some t = ap (λ z. at z p) (sym empty) ∙ is in absurd (cc no);
+      entries = λ r pos less. ap (λ z. slice_get z r) entries ∙ (nothing_at r 34 less ∙ ap (λ z. Some (entry_in told (trail P z) r)) (sym empty));
+      latest = λ p t new is last. let no : None ≡ Some t = ap (λ z. at z p) (sym empty) ∙ is in absurd (cc no);
+      stale = λ p q t u new lt is is' same s e. let no : None ≡ Some t = ap (λ z. at z p) (sym empty) ∙ is in absurd (cc no);
       replaced = λ xs ys n split. absurd (some_there xs ys n (ap (trail P) (sym empty) ∙ split));
     }
+
+-- all tenants are forgotten
+pub forgotten : (P : Program) (U : UpdateUnit) (told : ℕ) (T : Table) → told ≡ length U.tenants → T.entries ≡ replicate 34 None → length T.latest ≡ 32 → HasTable P U told T
+forgotten P U told T all entries deep = record {
+  wide = ap (λ z. length z) entries;
+  deep = deep;
+  entries = λ r pos less. ap (λ z. slice_get z r) entries ∙ (nothing_at r 34 less ∙ ap Some (sym (none r (newest_note None (trail P U.tenants) r) refl)));
+  latest = λ p t new is last. absurd (let b = at_below U.tenants p t is in omega (arith, b, new, all));
+  stale = λ p q t u new lt is is' same s e. absurd (let b = at_below U.tenants p t is in omega (arith, b, new, all));
+  replaced = λ xs ys n split new. absurd (let i : IsNoted P U.tenants n = (all_rest (IsNoted P U.tenants) xs (n ∷ ys) (subst (AllByRecursion (IsNoted P U.tenants)) split (trail_noted P U.tenants))).0 in let b = at_below U.tenants n.at i.tenant i.is in omega (arith, b, new, all));
+}
+  where
+    none : (r : ℕ) (o : Option Note) → newest_note None (trail P U.tenants) r ≡ o → entry_of told o ≡ None
+    none r None e = refl
+    none r (Some n) e =
+        let i : IsNoted P U.tenants n = ⊎_elim (λ (no : None ≡ Some n). absurd (cc no)) (λ q. q) (newest_among (IsNoted P U.tenants) None (trail P U.tenants) r n (trail_noted P U.tenants) e) in
+        let b = at_below U.tenants n.at i.tenant i.is in
+        go (leb told n.at) refl (omega (arith, b, all))
+      where
+        go : (b : Bool) → leb told n.at ≡ b → n.at < told → cond b (Some (maker_of n)) None ≡ None
+        go false f lt = refl
+        go true f lt = absurd (let le = leb-true told n.at f in omega (arith, le, lt))
 
 -- a seat that has let nothing
 pub new_front : (core : TheCore) (P : Program) (v : Caller) (path : Path) (creators : Counted) →
     IsUnused core v → P ≡ core.program → IsLegal v.core.program v.core.sizes v.seen →
-    path.records ≡ [] → path.base ≡ replicate 34 0 → creators.table.entries ≡ replicate 34 None →
-    length creators.table.latest ≡ 32 → IsFront P v path creators
+    path.records ≡ [] → IsFirstBase v.core.program v.core.sizes v.seen path.base → creators.table.entries ≡ replicate 34 None →
+    length creators.table.latest ≡ 32 → IsFront P v path creators false
 new_front core P v path creators u e legal none base entries deep = record {
-  table = first_table v.core.program v.core.sizes v.seen legal u.none creators.table entries deep;
+  table = first_table v.core.program v.core.sizes v.seen legal u.none (told_of path.base) creators.table entries deep;
+  rests = λ r. absurd (cc r);
   by_is = u.by_is;
   program = e ∙ ap (λ (z : TheCore). z.program) (sym u.core_is);
   legal = legal;
-  knows = subst (λ (z : List Record × List ℕ). Knows v.core.program v.core.sizes (unit_of v.core.program v.core.sizes v.seen) z.0 z.1) (λ i. (sym none i, sym base i)) (first_knows v.core.program v.core.sizes v.seen legal u.none);
+  knows = subst (λ (z : List Record). Knows v.core.program v.core.sizes (unit_of v.core.program v.core.sizes v.seen) z path.base) (sym none) (first_knows v.core.program v.core.sizes v.seen legal u.none path.base base);
 }
 
 pub new_adds : (core : TheCore) (v : Caller) → v.core ≡ core → IsLegal v.core.program v.core.sizes v.seen → AddsNothing core v.seen v.seen

@@ -21,8 +21,10 @@ use Rattle.inorder.proofs.Moves.{changed_goes}
 use Rattle.inorder.proofs.Positions.{at_below}
 use Rattle.inorder.proofs.Sound.{IsSound}
 use Rattle.unit_laws.proofs.Middle.{sound_from}
+use Rattle.front.specs.Path.{told_of}
+use Rattle.front.specs.declared.path.base_state.Base.{Base}
 use Rattle.front.specs.declared.path.record.Record.{Record}
-use Rattle.front.specs.Knows.{IsGone, IsReused, Knows, whats}
+use Rattle.front.specs.Knows.{IsFolded, IsGone, Knows, whats}
 use Rattle.front.specs.Queues.{accesses, live_accesses}
 use Rattle.front.specs.Trail.{Note, note, trail}
 use Rattle.front.proofs.Counts.{FailsAt, SaysAt, TrueAt, at_least, at_most, count}
@@ -220,7 +222,7 @@ not_live_fails P t ne = go t.standing refl
 retired_not : Retired ≢ Live
 retired_not e = cc e
 
-module _ (P : Program) (C : Sizes) (h : List Entry) (legal : IsLegal P C h) (records : List Record) (base : List ℕ) (k : Knows P C (unit_of P C h) records base) where
+module _ (P : Program) (C : Sizes) (h : List Entry) (legal : IsLegal P C h) (records : List Record) (base : Base) (k : Knows P C (unit_of P C h) records base) where
   abbrev U : UpdateUnit
   U = unit_of P C h
 
@@ -232,7 +234,7 @@ module _ (P : Program) (C : Sizes) (h : List Entry) (legal : IsLegal P C h) (rec
       ap (λ (z : Record). z.access) (sym i.what) ∙ (ap (λ (z : Tenant). is_access (kind_of P z)) (same_tenant i.tenant t (sym i.is ∙ is)) ∙ access_only (is_live t) (is_access (kind_of P t)) test)
 
   noted : AllByRecursion (IsNoted P U.tenants) k.notes
-  noted = notes_noted P C h legal records base (IsReused U) k
+  noted = notes_noted P C h legal records base (IsFolded U (told_of base)) k
 
   -- few are kept: few are live
   pub few_live : live_accesses P U ≤ accesses records

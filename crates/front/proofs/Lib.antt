@@ -12,7 +12,6 @@ pub mod Named
 pub mod Looks
 pub mod Misses
 pub mod Recovering
-pub mod Fronts
 pub mod Counts
 pub mod Stations
 pub mod Supplies
@@ -32,3 +31,8 @@ pub mod FirstMiss
 pub mod Tables
 pub mod Supplied
 pub mod Creating
+pub mod Resting
+pub mod Lefts
+pub mod Folding
+pub mod Idling
+pub mod Fronts

@@ -21,10 +21,11 @@ use Rattle.station.specs.declared.answers.Seen.{Seen}
 use Rattle.station.specs.Looking.{SeesStation}
 use Rattle.station.specs.Moments.{WasOnce}
 use Rattle.inorder.specs.StationWords.{left_value}
+use Rattle.front.specs.declared.path.base_state.Base.{Base}
 use Rattle.front.specs.declared.path.record.Record.{Record}
 use Rattle.front.specs.Fetching.{CanFetch, HasLeft, OldestLeft}
-use Rattle.front.specs.Knows.{IsReused, Knows, whats}
-use Rattle.front.specs.Path.{half_behind, next_place, pc_behind}
+use Rattle.front.specs.Knows.{IsFolded, Knows, whats}
+use Rattle.front.specs.Path.{half_behind, next_place, pc_behind, told_of}
 use Rattle.front.specs.Queues.{QueueSays}
 use Rattle.front.specs.Trail.{Note}
 use Rattle.front.specs.Turns.{NoInstrNow, QueueFullNow, SpentNow, WasNotFull}
@@ -69,26 +70,26 @@ left_stable P C p s g left U by st b a ok i =
     }
 
 -- the first of the notes
-record FirstNote (notes : List Note) (x : Record) : Type 0 where
+pub record FirstNote (notes : List Note) (x : Record) : Type 0 where
   pub one : Note
   pub rest : List Note
   pub is : notes ≡ one ∷ rest
   pub what : one.what ≡ x
 
-first_note : (notes : List Note) (x : Record) (xs : List Record) → whats notes ≡ x ∷ xs → FirstNote notes x
+pub first_note : (notes : List Note) (x : Record) (xs : List Record) → whats notes ≡ x ∷ xs → FirstNote notes x
 first_note [] x xs e = absurd (cc e)
 first_note (n ∷ ns) x xs e = record { one = n; rest = ns; is = refl; what = head_of n.what x (whats ns) xs e }
   where
     head_of : (a b : Record) (us vs : List Record) → a ∷ us ≡ b ∷ vs → a ≡ b
     head_of a b us vs e = cc e
 
-module _ (P : Program) (C : Sizes) (old h : List Entry) (records : List Record) (base : List ℕ) (k : Knows P C (unit_of P C old) records base) (adds : Adds P C front old h [])
-    (ring station : ℕ) (ring_is : ring ≡ C.ring) (least : 2 ≤ ring) (station_is : station ≡ next_place ring records) (seen : Seen StationState) (sees : SeesStation P C h station seen) where
+module _ (P : Program) (C : Sizes) (old h : List Entry) (records : List Record) (base : Base) (k : Knows P C (unit_of P C old) records base) (adds : Adds P C front old h [])
+    (ring station : ℕ) (ring_is : ring ≡ C.ring) (least : 2 ≤ ring) (station_is : station ≡ next_place ring base records) (seen : Seen StationState) (sees : SeesStation P C h station seen) where
   pub knows_now : Knows P C (unit_of P C h) records base
   knows_now = stays P C (λ U. Knows P C U records base) (knows_stable P C records base) old h adds k
 
   place : station ≡ next_station C (recent (unit_of P C h))
-  place = station_is ∙ (ap (λ z. next_place z records) ring_is ∙ sym (known_place P C (unit_of P C h) records base (IsReused (unit_of P C h)) knows_now (stands_right P C h adds.legal)))
+  place = station_is ∙ (ap (λ z. next_place z base records) ring_is ∙ sym (known_place P C (unit_of P C h) records base (IsFolded (unit_of P C h) (told_of base)) knows_now (stands_right P C h adds.legal)))
 
   sees_next : SeesStation P C h (next_station C (recent (unit_of P C h))) seen
   sees_next = subst (λ z. SeesStation P C h z seen) place sees
@@ -103,7 +104,7 @@ module _ (P : Program) (C : Sizes) (old h : List Entry) (records : List Record) 
     is_free : ¬ IsFull C (unit_of P C h)
     is_free = looks_free P C h adds.legal seen sees_next records base knows_now some_room free
 
-    module _ (pc : ℕ) (pc_is : pc ≡ pc_behind records) where
+    module _ (pc : ℕ) (pc_is : pc ≡ pc_behind base records) where
       pub no_instr_now : instr_at P pc ≡ None → NoInstrNow P C old h
       no_instr_now e = record {
         no_instr = at_end P C (HasNoInstr P) old h [] adds (no_instr P C h records base knows_now pc pc_is e);
@@ -141,21 +142,21 @@ module _ (P : Program) (C : Sizes) (old h : List Entry) (records : List Record) 
         oldest : OldestLeft C (unit_of P C new) records seen.value
         oldest x xs e many =
             let f = first_note knows_now.notes x xs (sym knows_now.are ∙ e) in
-            let long : C.ring ≤ length knows_now.notes = subst (λ z. C.ring ≤ z) (notes_length P C (unit_of P C h) records base (IsReused (unit_of P C h)) knows_now) many in
+            let long : C.ring ≤ length knows_now.notes = subst (λ z. C.ring ≤ z) (notes_length P C (unit_of P C h) records base (IsFolded (unit_of P C h) (told_of base)) knows_now) many in
             let gone = oldest_left P C h adds.legal records base knows_now seen sees_next free f.one f.rest f.is long in
             let still = stays P C (λ U. IsTenant U f.one.at f.one.what.station f.one.what.tag (HasLeft seen.value)) (left_stable P C f.one.at f.one.what.station f.one.what.tag seen.value) h new more gone in
             record { p = f.one.at; tenant = subst (λ (z : Record). IsTenant (unit_of P C new) f.one.at z.station z.tag (HasLeft seen.value)) f.what still }
 
-        pub can_fetch : (half : Half) → half ≡ half_behind records → QueueSays P C (unit_of P C new) i false → seen.tag ≢ last_tag → seen.tag ≤ last_tag → station < ring → CanFetch P C new records (record { instr = i; half = half; pc = pc; station = station; left = seen.value })
+        pub can_fetch : (half : Half) → half ≡ half_behind base records → QueueSays P C (unit_of P C new) i false → seen.tag ≢ last_tag → seen.tag ≤ last_tag → station < ring → CanFetch P C new records (record { instr = i; half = half; pc = pc; station = station; left = seen.value })
         can_fetch half half_is q ne most small =
             let tag : next_tag C (recent (unit_of P C new)) ≡ seen.tag = stays P C (λ U. next_tag C (recent U) ≡ seen.tag) (tag_stable P C seen.tag) h new more (next_tag_is P C h adds.legal seen sees_next free) in
             record {
               next = record {
-                station = station_is ∙ (ap (λ z. next_place z records) ring_is ∙ sym (known_place P C (unit_of P C new) records base (IsReused (unit_of P C new)) knows_new (stands_right P C new more.legal)));
+                station = station_is ∙ (ap (λ z. next_place z base records) ring_is ∙ sym (known_place P C (unit_of P C new) records base (IsFolded (unit_of P C new) (told_of base)) knows_new (stands_right P C new more.legal)));
                 small = subst (λ z. station < z) ring_is small;
                 tag = omega (arith, tag, ne, most);
-                pc = pc_is ∙ sym (known_pc P C (unit_of P C new) records base (IsReused (unit_of P C new)) knows_new);
-                half = half_is ∙ sym (known_half P C (unit_of P C new) records base (IsReused (unit_of P C new)) knows_new);
+                pc = pc_is ∙ sym (known_pc P C (unit_of P C new) records base (IsFolded (unit_of P C new) (told_of base)) knows_new);
+                half = half_is ∙ sym (known_half P C (unit_of P C new) records base (IsFolded (unit_of P C new) (told_of base)) knows_new);
                 instr = there;
                 queue = q;
               };

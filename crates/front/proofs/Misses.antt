@@ -15,8 +15,10 @@ use Rattle.ruu_words.specs.declared.station.StationState.TheVariants.{Free, Miss
 use Rattle.ruu_words.proofs.Stays.{tenant_stays, place_stays}
 use Rattle.station.specs.declared.answers.Seen.{Seen}
 use Rattle.station.specs.Looking.{SeesStation}
+use Rattle.front.specs.Path.{told_of}
+use Rattle.front.specs.declared.path.base_state.Base.{Base}
 use Rattle.front.specs.declared.path.record.Record.{Record}
-use Rattle.front.specs.Knows.{IsGone, IsNewest, IsReused, Knows, whats}
+use Rattle.front.specs.Knows.{IsFolded, IsGone, IsNewest, Knows, whats}
 use Rattle.front.specs.Recoveries.{IsMiss, IsNoMiss}
 use Rattle.front.specs.Trail.{Note, record_of}
 use Rattle.front.proofs.Lists.{all_both, all_map, all_two}
@@ -57,7 +59,7 @@ module _ (P : Program) (C : Sizes) where
       let at_place : now.tenant.station ≡ r.station = ap (λ (z : Tenant). z.station) (same_tenant now.tenant still.tenant (sym now.is ∙ there)) ∙ (still.fact.0 ∙ place) in
       ne (shows_miss P C new adds.legal r.station seen sees p x now.tenant now.is at_place now.fact)
 
-  module _ (h : List Entry) (legal : IsLegal P C h) (records : List Record) (base : List ℕ) (k : Knows P C (unit_of P C h) records base) where
+  module _ (h : List Entry) (legal : IsLegal P C h) (records : List Record) (base : Base) (k : Knows P C (unit_of P C h) records base) where
     abbrev U : UpdateUnit
     U = unit_of P C h
 
@@ -71,7 +73,7 @@ module _ (P : Program) (C : Sizes) where
       pub last : Rattle.inorder.specs.Callers.IsLastAt U p x.station
 
     pub are_there : AllByRecursion IsThere records
-    are_there = subst (AllByRecursion IsThere) (sym k.are) (all_whats IsThere k.notes (all_two (IsNoted P U.tenants) (IsNewest U) (λ n. IsThere n.what) (λ n i l. record { p = n.at; tenant = i.tenant; is = i.is; on = i.on; what = i.what; last = l }) k.notes (notes_noted P C h legal records base (IsReused U) k) k.newest))
+    are_there = subst (AllByRecursion IsThere) (sym k.are) (all_whats IsThere k.notes (all_two (IsNoted P U.tenants) (IsNewest U) (λ n. IsThere n.what) (λ n i l. record { p = n.at; tenant = i.tenant; is = i.is; on = i.on; what = i.what; last = l }) k.notes (notes_noted P C h legal records base (IsFolded U (told_of base)) k) k.newest))
 
     -- the look at a tenant that is a miss
     pub is_miss : (i : ℕ) (x : Record) (seen : Seen StationState) → slice_get records i ≡ Some x → SeesStation P C h x.station seen → seen.state ≡ MissState → IsMiss P C h x seen.value
@@ -105,7 +107,7 @@ module _ (P : Program) (C : Sizes) where
     pub no_miss : AllByRecursion (IsNoMiss U) records → HasNoMiss U
     no_miss all p x t is live fate =
         let Q : Note → Type 0 = λ n. (x : ℕ) (t : Tenant) → at U.tenants n.at ≡ Some t → ¬ IsMissing x t in
-        let named = all_two (IsNoted P U.tenants) (λ n. IsNoMiss U n.what) Q named_miss k.notes (notes_noted P C h legal records base (IsReused U) k) (of_whats (IsNoMiss U) k.notes (subst (AllByRecursion (IsNoMiss U)) k.are all)) in
+        let named = all_two (IsNoted P U.tenants) (λ n. IsNoMiss U n.what) Q named_miss k.notes (notes_noted P C h legal records base (IsFolded U (told_of base)) k) (of_whats (IsNoMiss U) k.notes (subst (AllByRecursion (IsNoMiss U)) k.are all)) in
         let everybody = subst (AllByRecursion Q) (sym k.path) (all_both Q k.gone k.notes (all_map (IsGone U) Q gone_miss k.gone k.retired) named) in
         trail_all P Q U.tenants everybody p t is (ap stands_on_path live) x t is (record { live = live; fate = fate })
       where

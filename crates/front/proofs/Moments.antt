@@ -16,9 +16,10 @@ use Rattle.ruu_words.specs.declared.station.StationState.TheVariants.{Free}
 use Rattle.station.specs.declared.answers.Seen.{Seen}
 use Rattle.station.specs.Looking.{SeesStation}
 use Rattle.station.specs.Moments.{WasOnce}
+use Rattle.front.specs.declared.path.base_state.Base.{Base}
 use Rattle.front.specs.declared.path.record.Record.{Record}
-use Rattle.front.specs.Knows.{IsReused, Knows}
-use Rattle.front.specs.Path.{pc_behind}
+use Rattle.front.specs.Knows.{IsFolded, Knows}
+use Rattle.front.specs.Path.{pc_behind, told_of}
 use Rattle.front.specs.Queues.{QueueSays, live_accesses}
 use Rattle.front.proofs.Looks.{live_there, NamedNow}
 use Rattle.front.proofs.Places.{known_pc}
@@ -42,28 +43,28 @@ module _ (P : Program) (C : Sizes) where
         let b : NamedNow C U (next_station C (recent U)) = live_there P C h legal (next_station C (recent U)) seen sees ne in
         is_full P C h legal b.p b.tenant b.is b.live b.station
 
-    pub looks_free : (records : List Record) (base : List ℕ) → Knows P C U records base → 0 < C.ring → seen.state ≡ Free → ¬ IsFull C U
+    pub looks_free : (records : List Record) (base : Base) → Knows P C U records base → 0 < C.ring → seen.state ≡ Free → ¬ IsFull C U
     looks_free records base k pos free full = let few = not_full P C h legal records base k pos seen sees free in absurd (omega (arith, few, full))
 
     pub looks_spent : seen.state ≡ Free → seen.tag ≡ last_tag → IsSpent C U
     looks_spent free e = next_tag_is P C h legal seen sees free ∙ e
 
-  pub no_instr : (h : List Entry) (records : List Record) (base : List ℕ) → Knows P C (unit_of P C h) records base → (pc : ℕ) → pc ≡ pc_behind records → instr_at P pc ≡ None → HasNoInstr P (unit_of P C h)
-  no_instr h records base k pc e f = ap (instr_at P) (known_pc P C (unit_of P C h) records base (IsReused (unit_of P C h)) k ∙ sym e) ∙ f
+  pub no_instr : (h : List Entry) (records : List Record) (base : Base) → Knows P C (unit_of P C h) records base → (pc : ℕ) → pc ≡ pc_behind base records → instr_at P pc ≡ None → HasNoInstr P (unit_of P C h)
+  no_instr h records base k pc e f = ap (instr_at P) (known_pc P C (unit_of P C h) records base (IsFolded (unit_of P C h) (told_of base)) k ∙ sym e) ∙ f
 
   instr_there : (pc : ℕ) (i : Instr) → instr_at P pc ≡ Some i → instr_at P pc ≢ None
   instr_there pc i e f = let no : Some i ≡ None = sym e ∙ f in absurd (cc no)
 
-  pub some_instr : (h : List Entry) (records : List Record) (base : List ℕ) → Knows P C (unit_of P C h) records base → (pc : ℕ) (i : Instr) → pc ≡ pc_behind records → instr_at P pc ≡ Some i → ¬ HasNoInstr P (unit_of P C h)
-  some_instr h records base k pc i e f none = instr_there pc i f (ap (instr_at P) (e ∙ sym (known_pc P C (unit_of P C h) records base (IsReused (unit_of P C h)) k)) ∙ none)
+  pub some_instr : (h : List Entry) (records : List Record) (base : Base) → Knows P C (unit_of P C h) records base → (pc : ℕ) (i : Instr) → pc ≡ pc_behind base records → instr_at P pc ≡ Some i → ¬ HasNoInstr P (unit_of P C h)
+  some_instr h records base k pc i e f none = instr_there pc i f (ap (instr_at P) (e ∙ sym (known_pc P C (unit_of P C h) records base (IsFolded (unit_of P C h) (told_of base)) k)) ∙ none)
 
-  pub queue_full : (h : List Entry) (records : List Record) (base : List ℕ) → Knows P C (unit_of P C h) records base → (pc : ℕ) (i : Instr) → pc ≡ pc_behind records → instr_at P pc ≡ Some i → QueueSays P C (unit_of P C h) i true → IsQueueFull P C (unit_of P C h)
+  pub queue_full : (h : List Entry) (records : List Record) (base : Base) → Knows P C (unit_of P C h) records base → (pc : ℕ) (i : Instr) → pc ≡ pc_behind base records → instr_at P pc ≡ Some i → QueueSays P C (unit_of P C h) i true → IsQueueFull P C (unit_of P C h)
   queue_full h records base k pc i e f q =
       let a = found_at P pc i f in
       record {
         index = a.index;
         is_there = a.inside;
-        pc = known_pc P C (unit_of P C h) records base (IsReused (unit_of P C h)) k ∙ (sym e ∙ a.pc);
+        pc = known_pc P C (unit_of P C h) records base (IsFolded (unit_of P C h) (told_of base)) k ∙ (sym e ∙ a.pc);
         access = ap (λ (z : Instr). is_access (kind z.op)) a.is ∙ q.0;
         full = q.1;
       }
@@ -71,9 +72,9 @@ module _ (P : Program) (C : Sizes) where
   same_instr : (i j : Instr) → Some i ≡ Some j → i ≡ j
   same_instr i j e = cc e
 
-  pub queue_free : (h : List Entry) (records : List Record) (base : List ℕ) → Knows P C (unit_of P C h) records base → (pc : ℕ) (i : Instr) → pc ≡ pc_behind records → instr_at P pc ≡ Some i → QueueSays P C (unit_of P C h) i Rattle.std.proofs.Common.false → ¬ IsQueueFull P C (unit_of P C h)
+  pub queue_free : (h : List Entry) (records : List Record) (base : Base) → Knows P C (unit_of P C h) records base → (pc : ℕ) (i : Instr) → pc ≡ pc_behind base records → instr_at P pc ≡ Some i → QueueSays P C (unit_of P C h) i Rattle.std.proofs.Common.false → ¬ IsQueueFull P C (unit_of P C h)
   queue_free h records base k pc i e f q full =
-      let there : pc ≡ address full.index = e ∙ (sym (known_pc P C (unit_of P C h) records base (IsReused (unit_of P C h)) k) ∙ full.pc) in
+      let there : pc ≡ address full.index = e ∙ (sym (known_pc P C (unit_of P C h) records base (IsFolded (unit_of P C h) (told_of base)) k) ∙ full.pc) in
       let one : i ≡ instr_of P full.index = same_instr i (instr_of P full.index) (sym f ∙ (ap (instr_at P) there ∙ fetched_at P full.index full.is_there)) in
       let less = q (ap (λ (z : Instr). is_access (kind z.op)) one ∙ full.access) in
       let count : live_accesses P (unit_of P C h) ≡ C.queue = full.full in

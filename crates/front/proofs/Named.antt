@@ -11,6 +11,7 @@ use Rattle.inorder.proofs.Histories.{allowed_steps}
 use Rattle.inorder.proofs.Positions.{at_more}
 use Rattle.inorder.proofs.Stations.{Stands as StandsRight, stands}
 use Rattle.inorder.proofs.Tags.{tagged}
+use Rattle.front.specs.declared.path.base_state.Base.{Base}
 use Rattle.front.specs.declared.path.record.Record.{Record}
 use Rattle.front.specs.Knows.{Stands, whats}
 use Rattle.front.specs.Trail.{Note}
@@ -43,7 +44,7 @@ module _ (P : Program) (C : Sizes) (h : List Entry) (legal : IsLegal P C h) wher
   pub one_named : (p q : ℕ) (t u : Tenant) → at U.tenants p ≡ Some t → at U.tenants q ≡ Some u → t.station ≡ u.station → t.tag ≡ u.tag → p ≡ q
   one_named p q t u e f = names_recent C U (tagged P C (taken_of h) (allowed_steps P C h legal)) p q t u e f (none_old P C h legal p) (none_old P C h legal q)
 
-  module _ (records : List Record) (base : List ℕ) (Again : Note → Type 0) (k : Stands P C U records base Again) where
+  module _ (records : List Record) (base : Base) (Again : Note → Type 0) (k : Stands P C U records base Again) where
     pub notes_noted : AllByRecursion (IsNoted P U.tenants) k.notes
     notes_noted = all_rest (IsNoted P U.tenants) k.gone k.notes (subst (AllByRecursion (IsNoted P U.tenants)) k.path (trail_noted P U.tenants))
 

@@ -25,6 +25,7 @@ use Rattle.inorder.proofs.Moves.{Goes, IsNoLink, came, goes}
 use Rattle.inorder.proofs.Sound.{IsSound}
 use Rattle.ruu_words.specs.Kinds.{IsAny, IsTenant}
 use Rattle.station.specs.Asking.{IsAsking, IsQuestion}
+use Rattle.front.specs.declared.path.base_state.Base.{Base}
 use Rattle.front.specs.Knows.{Knows}
 use Rattle.front.specs.declared.path.record.Record.{Record}
 use Rattle.front.proofs.Splitting.{IsStable, KeepsEvent}
@@ -122,7 +123,7 @@ module _ (P : Program) (C : Sizes) (r q station tag x g : ℕ) where
           i
       -- a question leaves what the front knows
 
-pub question_leaves : (P : Program) (C : Sizes) (records : List Record) (base : List ℕ) (p : ℕ) (k : Source) (events : List Event) → IsQuestion p k events → AllByRecursion (KeepsEvent P C (λ U. Knows P C U records base)) events
+pub question_leaves : (P : Program) (C : Sizes) (records : List Record) (base : Base) (p : ℕ) (k : Source) (events : List Event) → IsQuestion p k events → AllByRecursion (KeepsEvent P C (λ U. Knows P C U records base)) events
 question_leaves P C records base p k events e = ⊎_elim
     (λ (f : events ≡ Marks (Asked p k) ∷ Does (On p (Link k)) ∷ []). subst (AllByRecursion (KeepsEvent P C (λ U. Knows P C U records base))) (sym f) (tt, (link, tt)))
     (λ (f : events ≡ Marks (Asked p k) ∷ Does (On p (Deliver k)) ∷ Does (On p (Link k)) ∷ []). subst (AllByRecursion (KeepsEvent P C (λ U. Knows P C U records base))) (sym f) (tt, (deliver, (link, tt))))

@@ -1,19 +1,20 @@
 -- Where the tenants of the path stand, and where the next one goes.
 use Rattle.std.proofs.Common.{◌≡◌, ◌≢◌, ℕ, suc, ◌+◌, ◌-◌, ◌*◌, ◌/◌, ◌%◌, ◌<◌, ◌≤◌, List, [], ◌∷◌, ◌++◌, length, Some, None, refl, sym, ap, ◌∙◌, subst, ⊎_elim, arith, append_assoc, length-append, div-add-mod', mul-le-mul_right, suc-mul}
-use Rattle.std.proofs.Math.Nat.{add-mod_right, mod-add-mod, zero-mod}
+use Rattle.std.proofs.Math.Nat.{add-mod_right, mod-add-mod}
 use Rattle.std.proofs.lemmas.Bool.{cases_lt}
 use Rattle.std.specs.Prelude.{slice_get}
 use Rattle.std.specs.List.{AllByRecursion}
 use Rattle.isa.specs.Programs.{Program}
 use Rattle.inorder.specs.Tenants.{on_path}
-use Rattle.inorder.specs.Unit.{Sizes, UpdateUnit, front_half, front_pc, half_after, how_many, next_station, recent}
+use Rattle.inorder.specs.Unit.{Sizes, UpdateUnit, front_half, front_pc, how_many, next_station, recent}
 use Rattle.inorder.proofs.Stations.{Stands as StandsRight}
+use Rattle.front.specs.declared.path.base_state.Base.{Base}
 use Rattle.front.specs.declared.path.record.Record.{Record}
 use Rattle.front.specs.Knows.{Stands, whats}
 use Rattle.front.specs.Path.{half_behind, half_behind_last, last_of, next_place, pc_after, pc_behind, place_after}
 use Rattle.front.specs.Trail.{Note, trail}
 use Rattle.front.proofs.Lists.{Last, last_cases, whats_append, whats_length}
-use Rattle.front.proofs.Trails.{ArePlacedFrom, half_none, half_on, half_past, last_on, none_on, pc_none, pc_on, pc_past, placed_rest, trail_length, trail_placed}
+use Rattle.front.proofs.Trails.{ArePlacedFrom, half_of_last, pc_of_last, placed_rest, trail_length, trail_placed}
 
 -- numbers that differ by less than n, and at all, differ modulo n
 apart : (a d n : ℕ) → 0 < d → d < n → (a + d) % n ≢ a % n
@@ -61,7 +62,7 @@ pub record StandsNow (C : Sizes) (U : UpdateUnit) : Type 0 where
   pub all : recent U ≡ U.tenants
   pub right : StandsRight C U.tenants
 
-module _ (P : Program) (C : Sizes) (U : UpdateUnit) (records : List Record) (base : List ℕ) (Again : Note → Type 0) (k : Stands P C U records base Again) where
+module _ (P : Program) (C : Sizes) (U : UpdateUnit) (records : List Record) (base : Base) (Again : Note → Type 0) (k : Stands P C U records base Again) where
   pub whole_length : how_many on_path U.tenants ≡ length k.gone + length k.notes
   whole_length = sym (trail_length P U.tenants) ∙ (ap (λ z. length z) k.path ∙ length-append k.gone k.notes)
 
@@ -76,44 +77,37 @@ module _ (P : Program) (C : Sizes) (U : UpdateUnit) (records : List Record) (bas
   last_of_whole : (l : Last k.notes) → trail P U.tenants ≡ (k.gone ++ l.front) ++ l.one ∷ []
   last_of_whole l = k.path ∙ (ap (λ z. k.gone ++ z) l.is ∙ sym (append_assoc k.gone l.front (l.one ∷ [])))
 
-  last_record : (l : Last k.notes) → last_of records ≡ Some l.one.what
+  pub last_record : (l : Last k.notes) → last_of records ≡ Some l.one.what
   last_record l = ap last_of (k.are ∙ (ap whats l.is ∙ whats_append l.front (l.one ∷ []))) ∙ last_there (whats l.front) l.one.what
 
   no_record : k.notes ≡ [] → last_of records ≡ None
   no_record e = ap last_of (k.are ∙ ap whats e)
 
-  no_path : k.notes ≡ [] → trail P U.tenants ≡ []
-  no_path e = k.path ∙ (λ i. k.begun e i ++ e i)
-
   -- the front pc
-  pub known_pc : front_pc U.tenants ≡ pc_behind records
+  pub known_pc : front_pc U.tenants ≡ pc_behind base records
   known_pc = ⊎_elim
-      (λ e. pc_none U.tenants (none_on P U.tenants (no_path e)) ∙ sym (ap pc_after (no_record e)))
-      (λ (l : Last k.notes).
-      let o = last_on P U.tenants (k.gone ++ l.front) l.one (last_of_whole l) in
-      ap front_pc o.split ∙ (pc_past o.ys (o.tenant ∷ o.ts) o.off ∙ (pc_on o.tenant o.ts o.on ∙ (ap (λ z. z.what.next) (sym o.is) ∙ sym (ap pc_after (last_record l))))))
+      (λ e. (k.begun e).pc ∙ sym (ap (pc_after base.pc) (no_record e)))
+      (λ (l : Last k.notes). pc_of_last P U.tenants (k.gone ++ l.front) l.one (last_of_whole l) ∙ sym (ap (pc_after base.pc) (last_record l)))
       (last_cases k.notes)
 
   -- the half that comes next
-  pub known_half : front_half P U.tenants ≡ half_behind records
+  pub known_half : front_half P U.tenants ≡ half_behind base records
   known_half = ⊎_elim
-      (λ e. half_none P U.tenants (none_on P U.tenants (no_path e)) ∙ sym (ap half_behind_last (no_record e)))
-      (λ (l : Last k.notes).
-      let o = last_on P U.tenants (k.gone ++ l.front) l.one (last_of_whole l) in
-      ap (front_half P) o.split ∙ (half_past P o.ys (o.tenant ∷ o.ts) o.off ∙ (half_on P o.tenant o.ts o.on
-      ∙ (ap (λ z. half_after z.what.first) (sym o.is) ∙ sym (ap half_behind_last (last_record l))))))
+      (λ e. (k.begun e).half ∙ sym (ap (half_behind_last base.half) (no_record e)))
+      (λ (l : Last k.notes). half_of_last P U.tenants (k.gone ++ l.front) l.one (last_of_whole l) ∙ sym (ap (half_behind_last base.half) (last_record l)))
       (last_cases k.notes)
 
   -- the next tenant's station
-  pub known_place : StandsNow C U → next_station C (recent U) ≡ next_place C.ring records
-  known_place st = ap (next_station C) st.all ∙ ⊎_elim
-      (λ e. ap (λ z. z % C.ring) (sym (trail_length P U.tenants) ∙ ap (λ z. length z) (no_path e)) ∙ zero-mod C.ring ∙ sym (ap (place_after C.ring) (no_record e)))
+  pub known_place : StandsNow C U → next_station C (recent U) ≡ next_place C.ring base records
+  known_place st = ⊎_elim
+      (λ e. (k.begun e).station ∙ sym (ap (place_after C.ring base.station) (no_record e)))
       (λ (l : Last k.notes).
       let long = length-append l.front (l.one ∷ []) in
       let all : length k.notes ≡ length (l.front ++ l.one ∷ []) = ap (λ z. length z) l.is in
       let count : how_many on_path U.tenants ≡ length k.gone + length l.front + 1 = omega (arith, whole_length, all, long) in
       let its : l.one.what.station ≡ (length k.gone + length l.front) % C.ring = (placed_rest C.ring (length k.gone) l.front (l.one ∷ []) (subst (ArePlacedFrom C.ring (length k.gone)) l.is (notes_placed st))).0 in
-      ap (λ z. z % C.ring) count ∙ (sym (mod-add-mod (length k.gone + length l.front) C.ring 1) ∙ (ap (λ z. (z + 1) % C.ring) (sym its) ∙ sym (ap (place_after C.ring) (last_record l)))))
+      ap (next_station C) st.all
+      ∙ (ap (λ z. z % C.ring) count ∙ (sym (mod-add-mod (length k.gone + length l.front) C.ring 1) ∙ (ap (λ z. (z + 1) % C.ring) (sym its) ∙ sym (ap (place_after C.ring base.station) (last_record l))))))
       (last_cases k.notes)
 
   -- with fewer tenants than stations, none of theirs is the next

@@ -13,6 +13,7 @@ use Rattle.station.specs.declared.answers.Supply.{Supply}
 use Rattle.station.specs.declared.answers.Supply.TheVariants.{From, Known}
 use Rattle.station.specs.Asking.{IsQuestion}
 use Rattle.station.specs.Letting.{supply_of}
+use Rattle.front.specs.declared.path.base_state.Base.{Base}
 use Rattle.front.specs.declared.path.record.Record.{Record}
 use Rattle.front.specs.Knows.{Knows}
 use Rattle.front.specs.CreateTable.{HasTable}
@@ -37,8 +38,8 @@ module _ (P : Program) (C : Sizes) where
     pub events : List Event
     pub asks : IsAskedFor r k (supply_of s) events
     pub adds : Adds P C front old new events
-    pub knows : (records : List Record) (base : List ℕ) → Knows P C (unit_of P C old) records base → Knows P C (unit_of P C new) records base
-    pub table : (T : Table) → HasTable P (unit_of P C old) T → HasTable P (unit_of P C new) T
+    pub knows : (records : List Record) (base : Base) → Knows P C (unit_of P C old) records base → Knows P C (unit_of P C new) records base
+    pub table : (told : ℕ) (T : Table) → HasTable P (unit_of P C old) told T → HasTable P (unit_of P C new) told T
 
   pub later : (old new : List Entry) (es : List Event) → Adds P C front old new es → (r station tag : ℕ) → IsTenant (unit_of P C old) r station tag IsAny → IsTenant (unit_of P C new) r station tag IsAny
   later old new es a r station tag i =
@@ -50,7 +51,7 @@ module _ (P : Program) (C : Sizes) where
     asks = refl;
     adds = subst (λ h. Adds P C front old h []) (sym e) (record { begins = record { more = []; is = refl }; legal = legal; one_table = refl; mine = refl });
     knows = λ records base x. subst (λ h. Knows P C (unit_of P C h) records base) (sym e) x;
-    table = λ T x. subst (λ h. HasTable P (unit_of P C h) T) (sym e) x;
+    table = λ told T x. subst (λ h. HasTable P (unit_of P C h) told T) (sym e) x;
   }
   has_asked old new legal r station tag k (From a g) i w =
       let now = later old new w.events w.adds r station tag i in
@@ -60,7 +61,7 @@ module _ (P : Program) (C : Sizes) where
         asks = subst (λ z. IsQuestion z k w.events) same w.question;
         adds = w.adds;
         knows = λ records base x. stays_under P C (λ U. Knows P C U records base) (knows_stable P C records base) w.events (question_leaves P C records base w.r k w.events w.question) old new w.adds x;
-        table = λ T x. stays_under P C (λ U. HasTable P U T) (table_stable P C T) w.events (question_leaves_table P C T w.r k w.events w.question) old new w.adds x;
+        table = λ told T x. stays_under P C (λ U. HasTable P U told T) (table_stable P C told T) w.events (question_leaves_table P C told T w.r k w.events w.question) old new w.adds x;
       }
 
   -- the question for source 1 leaves source 2

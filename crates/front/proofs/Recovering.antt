@@ -1,5 +1,5 @@
 -- The steps of a recovery, with what others add between them.
-use Rattle.std.proofs.Common.{◌≡◌, ◌≢◌, ℕ, refl, ◌<◌, List, [], ◌∷◌, ◌++◌, length, Some, sym, ap, ◌∙◌, subst, ⊎_elim, arith, length-append, append_assoc}
+use Rattle.std.proofs.Common.{◌≡◌, ◌≢◌, ℕ, refl, ◌<◌, List, [], ◌∷◌, ◌++◌, length, Some, sym, ap, ◌∙◌, subst, ⊎_elim, arith, length-append, append_assoc, ◌≤◌}
 use Rattle.std.specs.List.{AllByRecursion}
 use Rattle.std.specs.Prelude.{slice_get}
 use Rattle.isa.specs.Programs.{Program}
@@ -21,6 +21,8 @@ use Rattle.inorder.proofs.Positions.{at_below}
 use Rattle.inorder.proofs.Sound.{IsSound}
 use Rattle.ruu_words.specs.Kinds.{IsAny, IsTenant}
 use Rattle.ruu_words.proofs.Stays.{any_stays, place_stays}
+use Rattle.front.specs.Path.{told_of}
+use Rattle.front.specs.declared.path.base_state.Base.{Base}
 use Rattle.front.specs.declared.path.record.Record.{Record}
 use Rattle.front.specs.Knows.{IsNewest, Knows, whats}
 use Rattle.front.specs.CreateTable.{HasTable, IsRestored}
@@ -61,7 +63,7 @@ missing_stable P C p x next U by s b a ok i =
       fact = m.fact;
     }
 
-module _ (P : Program) (C : Sizes) (h : List Entry) (legal : IsLegal P C h) (rest : List Record) (one : Record) (base : List ℕ) (k : Knows P C (unit_of P C h) (rest ++ one ∷ []) base) where
+module _ (P : Program) (C : Sizes) (h : List Entry) (legal : IsLegal P C h) (rest : List Record) (one : Record) (base : Base) (k : Knows P C (unit_of P C h) (rest ++ one ∷ []) base) where
   abbrev U : UpdateUnit
   U = unit_of P C h
 
@@ -137,7 +139,7 @@ elsewhere P C U by p q act x next a ne m = ⊎_elim
 less_not : (p q : ℕ) → p < q → p ≢ q
 less_not p q h e = absurd (omega (arith, h, e))
 
-module _ (P : Program) (C : Sizes) (old new : List Entry) (rest : List Record) (one : Record) (base : List ℕ) (k : Knows P C (unit_of P C old) (rest ++ one ∷ []) base) where
+module _ (P : Program) (C : Sizes) (old new : List Entry) (rest : List Record) (one : Record) (base : Base) (k : Knows P C (unit_of P C old) (rest ++ one ∷ []) base) where
   -- behind a squash
   pub record SquashedOne (i : ℕ) (r : Record) (next q : ℕ) : Type 0 where
     pub knows : Knows P C (unit_of P C new) rest base
@@ -177,7 +179,7 @@ module _ (P : Program) (C : Sizes) (old new : List Entry) (rest : List Record) (
 
   -- its table
   pub squash_table : (p : ℕ) → Adds P C front old new (Does (On p Squash) ∷ []) → (station tag : ℕ) → IsTenant (unit_of P C new) p station tag IsAny → (T T' : Table)
-      → HasTable P (unit_of P C old) T → IsRestored T T' station → HasTable P (unit_of P C new) T'
+      → HasTable P (unit_of P C old) (told_of base) T → IsRestored T T' station → HasTable P (unit_of P C new) (told_of base) T'
   squash_table p adds station tag named T T' table restored =
       let l = last_event P C front old new (Does (On p Squash)) [] adds in
       let legal = event_legal P C old new (Does (On p Squash)) [] l in
@@ -189,18 +191,19 @@ module _ (P : Program) (C : Sizes) (old new : List Entry) (rest : List Record) (
       let whole : trail P (unit_of P C l.point).tenants ≡ path ++ last.one ∷ [] = there.path ∙ (ap (λ z. there.gone ++ z) last.is ∙ sym (append_assoc there.gone last.front (last.one ∷ []))) in
       let noted : IsNoted P (unit_of P C l.point).tenants last.one = (all_rest (IsNoted P (unit_of P C l.point).tenants) path (last.one ∷ []) (subst (AllByRecursion (IsNoted P (unit_of P C l.point).tenants)) whole (trail_noted P (unit_of P C l.point).tenants))).0 in
       let newest : IsNewest (unit_of P C l.point) last.one = (all_rest (IsNewest (unit_of P C l.point)) last.front (last.one ∷ []) (subst (AllByRecursion (IsNewest (unit_of P C l.point))) last.is there.newest)).0 in
+      let untold : told_of base ≤ last.one.at = (all_rest (λ n. told_of base ≤ n.at) last.front (last.one ∷ []) (subst (AllByRecursion (λ n. told_of base ≤ n.at)) last.is there.untold)).0 in
       let o = last_of_path P C l.point legal.0 rest one base there in
       let this = acted P C (unit_of P C l.point) ok path last.one o p a.tenant a.is a.may.live a.may.youngest in
       let at_p = acts_at P C l.point legal.0 rest one base there p a.tenant a.is a.may.live a.may.youngest in
       let cut = squash_trail P C (unit_of P C l.point) ok path last.one o front p a this in
       let same = its_station p adds station tag named last.one noted at_p in
-      let before = stays P C (λ U. HasTable P U T) (table_stable P C T) old l.point l.before table in
-      let behind = table_cut P C (unit_of P C l.point) front p Squash a ok T T' before path last.one whole cut newest noted (subst (IsRestored T T') same restored) in
-      stays_behind P C (λ U. HasTable P U T') (table_stable P C T') old new (Does (On p Squash)) [] l behind
+      let before = stays P C (λ U. HasTable P U (told_of base) T) (table_stable P C (told_of base) T) old l.point l.before table in
+      let behind = table_cut P C (unit_of P C l.point) front p Squash a ok (told_of base) T T' before path last.one untold whole cut newest noted (subst (IsRestored T T') same restored) in
+      stays_behind P C (λ U. HasTable P U (told_of base) T') (table_stable P C (told_of base) T') old new (Does (On p Squash)) [] l behind
 
   -- behind a mending
-  pub mend_table : (p : ℕ) → Adds P C front old new (Does (On p Mend) ∷ []) → (next q : ℕ) → IsMissOf q one next (unit_of P C old) → (T : Table) → HasTable P (unit_of P C old) T
-      → HasTable P (unit_of P C new) T
+  pub mend_table : (p : ℕ) → Adds P C front old new (Does (On p Mend) ∷ []) → (next q : ℕ) → IsMissOf q one next (unit_of P C old) → (T : Table) → HasTable P (unit_of P C old) (told_of base) T
+      → HasTable P (unit_of P C new) (told_of base) T
   mend_table p adds next q m T table =
       let l = last_event P C front old new (Does (On p Mend)) [] adds in
       let legal = event_legal P C old new (Does (On p Mend)) [] l in
@@ -217,9 +220,9 @@ module _ (P : Program) (C : Sizes) (old new : List Entry) (rest : List Record) (
       let fate : o.tenant.fate ≡ Miss next = ap (λ (z : Tenant). z.fate) (same_tenant o.tenant its.tenant (sym (at_last P C (unit_of P C l.point) ok path last.one o) ∙ its.is)) ∙ its.fact.fate in
       let y : Note = mended_note P C (unit_of P C l.point) ok path last.one o next in
       let on = mend_trail P C (unit_of P C l.point) ok path last.one o front p next a this fate in
-      let before = stays P C (λ U. HasTable P U T) (table_stable P C T) old l.point l.before table in
-      let behind = table_mended P C (unit_of P C l.point) front p Mend a ok T before path last.one y whole on refl refl refl refl in
-      stays_behind P C (λ U. HasTable P U T) (table_stable P C T) old new (Does (On p Mend)) [] l behind
+      let before = stays P C (λ U. HasTable P U (told_of base) T) (table_stable P C (told_of base) T) old l.point l.before table in
+      let behind = table_mended P C (unit_of P C l.point) front p Mend a ok (told_of base) T before path last.one y whole on refl refl refl refl in
+      stays_behind P C (λ U. HasTable P U (told_of base) T) (table_stable P C (told_of base) T) old new (Does (On p Mend)) [] l behind
 
   pub record MendedOne (p next : ℕ) : Type 0 where
     pub knows : Knows P C (unit_of P C new) (rest ++ record one { next = next } ∷ []) base

@@ -1,5 +1,5 @@
 -- The oldest goes to the base registers.
-use Rattle.std.proofs.Common.{◌≡◌, ◌≢◌, ◌⊎◌, ℕ, zero, suc, ◌+◌, ◌%◌, ◌<◌, ◌≤◌, Bool, true, false, cond, eqb, eqb-true, List, [], ◌∷◌, ◌++◌, length, Option, Some, None, refl, sym, ap, ◌∙◌, subst, inl, inr, arith, append_assoc, true≢false}
+use Rattle.std.proofs.Common.{◌≡◌, ◌≢◌, ℕ, zero, suc, ◌+◌, ◌%◌, ◌<◌, ◌≤◌, Bool, true, false, cond, eqb, eqb-true, List, [], ◌∷◌, ◌++◌, length, Option, Some, None, refl, sym, ap, ◌∙◌, subst, inl, inr, arith, append_assoc, true≢false}
 use Rattle.std.proofs.lemmas.Bool.{le-leb}
 use Rattle.std.specs.List.{AllByRecursion}
 use Rattle.std.specs.Prelude.{slice_index}
@@ -17,12 +17,13 @@ use Rattle.inorder.proofs.Histories.{allowed_steps, unit_sound}
 use Rattle.inorder.proofs.Positions.{not_eqb}
 use Rattle.inorder.proofs.Makers.{left_when_retired, stops_made}
 use Rattle.ruu_words.specs.Content.{HasValue}
+use Rattle.front.specs.declared.path.base_state.Base.{Base}
 use Rattle.front.specs.declared.path.Path.{Path}
 use Rattle.front.specs.declared.path.record.Record.{Record}
 use Rattle.front.specs.Creators.{creator_note, newest_note, position}
 use Rattle.front.specs.Fetching.{HasLeft, IsLeft, OldestLeft}
-use Rattle.front.specs.Knows.{IsGone, IsNewest, IsReady, IsReused, Knows, Stands, whats}
-use Rattle.front.specs.Path.{Releases, made_of}
+use Rattle.front.specs.Knows.{IsFolded, IsGone, IsNewest, IsPassed, IsReady, Knows, Stands, whats}
+use Rattle.front.specs.Path.{Releases, made_of, told_of, with_left}
 use Rattle.front.specs.Trail.{Note, is_link, record_of}
 use Rattle.front.proofs.CreateVector.{newest_both}
 use Rattle.front.proofs.Lists.{all_both, all_map, whats_length}
@@ -44,6 +45,11 @@ head_of a b us vs e = cc e
 tail_of : (a b : Record) (us vs : List Record) → a ∷ us ≡ b ∷ vs → us ≡ vs
 tail_of a b us vs e = cc e
 
+-- whoever leaves, nobody more is told
+pub released_told : (ring left : ℕ) (old : Path) (result : Option Record) (new : Path) → Releases ring left old result new → told_of new.base ≡ told_of old.base
+released_told ring left old None new r = ap (λ (z : Path). told_of z.base) r.1
+released_told ring left old (Some x) new r = ap told_of r.1.base
+
 module _ (P : Program) (C : Sizes) (h : List Entry) (legal : IsLegal P C h) where
   abbrev U : UpdateUnit
   U = unit_of P C h
@@ -63,11 +69,11 @@ module _ (P : Program) (C : Sizes) (h : List Entry) (legal : IsLegal P C h) wher
           let shown : HasValue (Some v.0) left = subst (λ o. HasValue o left) v.1 gone.value in
           v.2 ∙ (ap Some (sym shown) ∙ ap (λ b. Some (cond b (pc_plus_4 t.pc) left)) (sym e))
 
-  module _ (records : List Record) (base : List ℕ) (k : Knows P C U records base) where
+  module _ (records : List Record) (base : Base) (Again : Note → Type 0) (k : Stands P C U records base Again) where
     -- one note more is gone
     module _ (n : Note) (ns : List Note) (e : k.notes ≡ n ∷ ns) (left : ℕ) (gone : IsLeft U n.what left) where
       noted : IsNoted P U.tenants n
-      noted = (subst (AllByRecursion (IsNoted P U.tenants)) e (notes_noted P C h legal records base (IsReused U) k)).0
+      noted = (subst (AllByRecursion (IsNoted P U.tenants)) e (notes_noted P C h legal records base Again k)).0
 
       its_left : HasLeft left noted.tenant
       its_left =
@@ -82,24 +88,24 @@ module _ (P : Program) (C : Sizes) (h : List Entry) (legal : IsLegal P C h) wher
       note_made writes =
           ap made_by noted.is ∙ (left_made n.at noted.tenant noted.is left its_left (λ z. writes (ap (λ (y : Record). y.destination) (sym noted.what) ∙ z)) ∙ ap (λ (y : Record). Some (made_of y left)) noted.what)
 
-      pub base_more : (r : ℕ) → r < 34 → value_of U.tenants (position (creator_note (k.gone ++ n ∷ []) r)) ≡ Some (slice_index (write base n.what.destination (made_of n.what left)) r)
-      base_more zero small = ap Some (sym (read_zero base n.what.destination (made_of n.what left) (sym (some_same 0 (slice_index base 0) (k.base_is 0 small)))))
+      pub base_more : (r : ℕ) → r < 34 → value_of U.tenants (position (creator_note (k.gone ++ n ∷ []) r)) ≡ Some (slice_index (write base.registers n.what.destination (made_of n.what left)) r)
+      base_more zero small = ap Some (sym (read_zero base.registers n.what.destination (made_of n.what left) (sym (some_same 0 (slice_index base.registers 0) (k.base_is 0 small)))))
       base_more (suc r) small = go (can_be_written (suc r)) refl (eqb n.what.destination (suc r)) refl
         where
           noted_as : (b : Bool) → can_be_written (suc r) ≡ b → (xs : List Note) → creator_note xs (suc r) ≡ cond b (newest_note None xs (suc r)) None
           noted_as b f xs = ap (λ b. cond b (newest_note None xs (suc r)) None) f
 
-          other : n.what.destination ≢ suc r → value_of U.tenants (position (creator_note k.gone (suc r))) ≡ Some (slice_index (write base n.what.destination (made_of n.what left)) (suc r))
-          other ne = k.base_is (suc r) small ∙ ap Some (sym (read_other base n.what.destination r (made_of n.what left) ne))
+          other : n.what.destination ≢ suc r → value_of U.tenants (position (creator_note k.gone (suc r))) ≡ Some (slice_index (write base.registers n.what.destination (made_of n.what left)) (suc r))
+          other ne = k.base_is (suc r) small ∙ ap Some (sym (read_other base.registers n.what.destination r (made_of n.what left) ne))
 
-          go : (b : Bool) → can_be_written (suc r) ≡ b → (y : Bool) → eqb n.what.destination (suc r) ≡ y → value_of U.tenants (position (creator_note (k.gone ++ n ∷ []) (suc r))) ≡ Some (slice_index (write base n.what.destination (made_of n.what left)) (suc r))
+          go : (b : Bool) → can_be_written (suc r) ≡ b → (y : Bool) → eqb n.what.destination (suc r) ≡ y → value_of U.tenants (position (creator_note (k.gone ++ n ∷ []) (suc r))) ≡ Some (slice_index (write base.registers n.what.destination (made_of n.what left)) (suc r))
           go false f y g = absurd (true≢false (sym (le-leb (suc (suc r)) 34 (omega arith)) ∙ f))
           go true f true g =
               let same : n.what.destination ≡ suc r = eqb-true n.what.destination (suc r) g in
               let writes : n.what.destination ≢ 0 = λ z. absurd (omega (arith, same, z)) in
               ap (λ z. value_of U.tenants (position z)) (noted_as true f (k.gone ++ n ∷ []) ∙ (newest_both None k.gone (n ∷ []) (suc r) ∙ ap (λ b. cond b (Some n) (newest_note None k.gone (suc r))) g))
               ∙ (note_made writes
-              ∙ ap Some (sym (read_same base r (made_of n.what left) (omega (arith, k.wide, small))) ∙ ap (λ z. slice_index (write base z (made_of n.what left)) (suc r)) (sym same)))
+              ∙ ap Some (sym (read_same base.registers r (made_of n.what left) (omega (arith, k.wide, small))) ∙ ap (λ z. slice_index (write base.registers z (made_of n.what left)) (suc r)) (sym same)))
           go true f false g =
               let ne : n.what.destination ≢ suc r = not_eqb n.what.destination (suc r) g in
               ap (λ z. value_of U.tenants (position z)) (noted_as true f (k.gone ++ n ∷ []) ∙ (newest_both None k.gone (n ∷ []) (suc r) ∙ (ap (λ b. cond b (Some n) (newest_note None k.gone (suc r))) g ∙ sym (noted_as true f k.gone))))
@@ -107,16 +113,17 @@ module _ (P : Program) (C : Sizes) (h : List Entry) (legal : IsLegal P C h) wher
 
     pub next_is : (n : Note) (ns : List Note) → k.notes ≡ n ∷ ns → C.ring ≤ length records → n.what.station ≡ next_station C (recent U)
     next_is n ns e full =
-        let long = notes_length P C U records base (IsReused U) k in
+        let long = notes_length P C U records base Again k in
         let whole : C.ring ≡ length (n ∷ ns) = omega (arith, full, long, k.room, ap (λ z. length z) e) in
-        let placed : ArePlacedFrom C.ring (length k.gone) (n ∷ ns) = subst (ArePlacedFrom C.ring (length k.gone)) e (notes_placed P C U records base (IsReused U) k (stands_right P C h legal)) in
-        oldest_next C.ring (length k.gone) n ns placed whole ∙ ap (λ z. z % C.ring) (sym (whole_length P C U records base (IsReused U) k ∙ ap (λ z. length k.gone + length z) e))
+        let placed : ArePlacedFrom C.ring (length k.gone) (n ∷ ns) = subst (ArePlacedFrom C.ring (length k.gone)) e (notes_placed P C U records base Again k (stands_right P C h legal)) in
+        oldest_next C.ring (length k.gone) n ns placed whole ∙ ap (λ z. z % C.ring) (sym (whole_length P C U records base Again k ∙ ap (λ z. length k.gone + length z) e))
         ∙ ap (next_station C) (sym (all_recent P C h legal))
 
+  module _ (records : List Record) (base : Base) (k : Knows P C U records base) where
     -- ready for the next one
     pub ready_now : 2 ≤ C.ring → (left : ℕ) → OldestLeft C U records left → (old : Path) → old.records ≡ records → old.base ≡ base → (result : Option Record) (new : Path) → Releases C.ring left old result new → IsReady P C U new.records new.base
     ready_now least left oldest old is_records is_base None new r =
-        let same : IsReady P C U old.records old.base = subst (λ (z : List Record × List ℕ). IsReady P C U z.0 z.1) (λ i. (sym is_records i, sym is_base i)) (record {
+        let same : IsReady P C U old.records old.base = subst (λ (z : List Record × Base). IsReady P C U z.0 z.1) (λ i. (sym is_records i, sym is_base i)) (record {
           stands = record {
             gone = k.gone;
             notes = k.notes;
@@ -125,8 +132,10 @@ module _ (P : Program) (C : Sizes) (h : List Entry) (legal : IsLegal P C h) wher
             room = k.room;
             begun = k.begun;
             retired = k.retired;
-            again = all_map (IsReused U) (λ n. IsReused U n ⊎ (n.what.station ≡ next_station C (recent U))) (λ n x. inl x) k.gone k.again;
+            again = all_map (IsFolded U (told_of base)) (IsPassed C U (told_of base)) (λ n x. inl x) k.gone k.again;
             newest = k.newest;
+            past = k.past;
+            untold = k.untold;
             wide = k.wide;
             base_is = k.base_is;
           };
@@ -148,24 +157,26 @@ module _ (P : Program) (C : Sizes) (h : List Entry) (legal : IsLegal P C h) wher
             let one : n.what ≡ x = head_of n.what x (whats ns) new.records both in
             let rest : new.records ≡ whats ns = sym (tail_of n.what x (whats ns) new.records both) in
             let gone : IsLeft U n.what left = subst (λ z. IsLeft U z left) (sym one) (oldest x new.records are full) in
-            let base_is : new.base ≡ write base n.what.destination (made_of n.what left) = r.1.base ∙ (λ i. write (is_base i) (sym one i).destination (made_of (sym one i) left)) in
-            let long = notes_length P C U records base (IsReused U) k in
+            let base_is : new.base ≡ with_left base n.what left = r.1.base ∙ (λ i. with_left (is_base i) (sym one i) left) in
+            let long = notes_length P C U records base (IsFolded U (told_of base)) k in
             let count : length k.notes ≡ suc (length ns) = ap (λ z. length z) e in
             let few : length new.records ≡ length ns = ap (λ z. length z) rest ∙ whats_length ns in
-            let stands : Stands P C U new.records (write base n.what.destination (made_of n.what left)) (λ n. IsReused U n ⊎ (n.what.station ≡ next_station C (recent U))) = record {
+            let stands : Stands P C U new.records (with_left base n.what left) (IsPassed C U (told_of base)) = record {
               gone = k.gone ++ n ∷ [];
               notes = ns;
               path = k.path ∙ (ap (λ z. k.gone ++ z) e ∙ sym (append_assoc k.gone (n ∷ []) ns));
               are = rest;
               room = omega (arith, k.room, count);
               begun = λ none. let zero_long : length ns ≡ 0 = ap (λ z. length z) none in absurd (omega (arith, least, full, long, count, zero_long));
-              retired = all_both (IsGone U) k.gone (n ∷ []) k.retired (note_gone n ns e left gone, tt);
-              again = all_both (λ n. IsReused U n ⊎ (n.what.station ≡ next_station C (recent U))) k.gone (n ∷ []) (all_map (IsReused U) (λ n. IsReused U n ⊎ (n.what.station ≡ next_station C (recent U))) (λ n x. inl x) k.gone k.again) (inr (next_is n ns e full), tt);
+              retired = all_both (IsGone U) k.gone (n ∷ []) k.retired (note_gone records base (IsFolded U (told_of base)) k n ns e left gone, tt);
+              again = all_both (IsPassed C U (told_of base)) k.gone (n ∷ []) (all_map (IsFolded U (told_of base)) (IsPassed C U (told_of base)) (λ n x. inl x) k.gone k.again) (inr (next_is records base (IsFolded U (told_of base)) k n ns e full), tt);
               newest = (subst (AllByRecursion (IsNewest U)) e k.newest).1;
-              wide = length_write base n.what.destination (made_of n.what left) ∙ k.wide;
-              base_is = base_more n ns e left gone;
+              past = k.past;
+              untold = (subst (AllByRecursion (λ n. told_of base ≤ n.at)) e k.untold).1;
+              wide = length_write base.registers n.what.destination (made_of n.what left) ∙ k.wide;
+              base_is = base_more records base (IsFolded U (told_of base)) k n ns e left gone;
             } in
             record {
-              stands = subst (λ z. Stands P C U new.records z (λ n. IsReused U n ⊎ (n.what.station ≡ next_station C (recent U)))) (sym base_is) stands;
+              stands = subst (λ z. Stands P C U new.records z (IsPassed C U (told_of z))) (sym base_is) stands;
               free = omega (arith, few, count, k.room);
             }

@@ -23,9 +23,11 @@ use Rattle.ruu_words.specs.Kinds.{IsTenant}
 use Rattle.ruu_words.specs.States.{state_code}
 use Rattle.station.specs.declared.answers.Seen.{Seen}
 use Rattle.station.specs.Looking.{SeesStation}
+use Rattle.front.specs.Path.{told_of}
+use Rattle.front.specs.declared.path.base_state.Base.{Base}
 use Rattle.front.specs.declared.path.record.Record.{Record}
 use Rattle.front.specs.Fetching.{HasLeft}
-use Rattle.front.specs.Knows.{IsGone, IsNewest, IsReused, Knows}
+use Rattle.front.specs.Knows.{IsFolded, IsGone, IsNewest, Knows}
 use Rattle.front.specs.Trail.{Note, trail}
 use Rattle.front.proofs.Counts.{SaysAt, FailsAt, at_most, count}
 use Rattle.front.proofs.Lists.{all_both, all_map}
@@ -157,15 +159,15 @@ module _ (P : Program) (C : Sizes) (h : List Entry) (legal : IsLegal P C h) wher
       go None e = refl
       go (Some t) e = by (next_tag C (recent U)) t t.standing e
 
-  module _ (records : List Record) (base : List ℕ) (k : Knows P C U records base) where
+  module _ (records : List Record) (base : Base) (k : Knows P C U records base) where
     -- where all stations have had a tenant and the next one is free, the oldest has left
     pub oldest_left : (seen : Seen StationState) → SeesStation P C h (next_station C (recent U)) seen → seen.state ≡ Free → (n : Note) (ns : List Note) → k.notes ≡ n ∷ ns → C.ring ≤ length k.notes → IsTenant U n.at n.what.station n.what.tag (HasLeft seen.value)
     oldest_left seen sees free n ns e full =
-        let noted : IsNoted P U.tenants n = (subst (AllByRecursion (IsNoted P U.tenants)) e (notes_noted P C h legal records base (IsReused U) k)).0 in
+        let noted : IsNoted P U.tenants n = (subst (AllByRecursion (IsNoted P U.tenants)) e (notes_noted P C h legal records base (IsFolded U (told_of base)) k)).0 in
         let newest : IsNewest U n = (subst (AllByRecursion (IsNewest U)) e k.newest).0 in
         let whole : C.ring ≡ length (n ∷ ns) = omega (arith, full, k.room, ap (λ z. length z) e) in
-        let placed : ArePlacedFrom C.ring (length k.gone) (n ∷ ns) = subst (ArePlacedFrom C.ring (length k.gone)) e (notes_placed P C U records base (IsReused U) k (stands_right P C h legal)) in
-        let count : how_many on_path U.tenants ≡ length k.gone + length (n ∷ ns) = whole_length P C U records base (IsReused U) k ∙ ap (λ z. length k.gone + length z) e in
+        let placed : ArePlacedFrom C.ring (length k.gone) (n ∷ ns) = subst (ArePlacedFrom C.ring (length k.gone)) e (notes_placed P C U records base (IsFolded U (told_of base)) k (stands_right P C h legal)) in
+        let count : how_many on_path U.tenants ≡ length k.gone + length (n ∷ ns) = whole_length P C U records base (IsFolded U (told_of base)) k ∙ ap (λ z. length k.gone + length z) e in
         let next : n.what.station ≡ next_station C (recent U) = oldest_next C.ring (length k.gone) n ns placed whole ∙ ap (λ z. z % C.ring) (sym count) ∙ ap (next_station C) (sym (all_recent P C h legal)) in
         let place : noted.tenant.station ≡ next_station C (recent U) = ap (λ (z : Record). z.station) noted.what ∙ next in
         let last : last_of (recent U) (next_station C (recent U)) ≡ Some noted.tenant = last_now P C h legal n.at (next_station C (recent U)) noted.tenant noted.is place (λ q u lt is same. newest q u lt is (same ∙ sym next)) in

@@ -1,5 +1,5 @@
 -- What the front knows stays true under the steps of others, and under links and deliveries of its own.
-use Rattle.std.proofs.Common.{◌≡◌, ℕ, ◌%◌, List, sym, ap, ◌∙◌, subst, inl, inr, ⊎_elim}
+use Rattle.std.proofs.Common.{◌≡◌, ℕ, ◌%◌, List, sym, ap, ◌∙◌, subst, inl, inr, ⊎_elim, length, ◌≤◌}
 use Rattle.std.specs.Prelude.{slice_index, is_none}
 use Rattle.isa.specs.Instruction.{destination, fixed_next, is_first_half, kind}
 use Rattle.isa.specs.Programs.{Program, instr_of}
@@ -11,19 +11,21 @@ use Rattle.inorder.specs.Legal.{Allowed, May, applied, changed}
 use Rattle.inorder.specs.Tenants.{is_access, on_path, Tenant}
 use Rattle.inorder.specs.Unit.{Sizes, UpdateUnit, next_station, older, recent, younger}
 use Rattle.inorder.proofs.Basics.{split_at}
-use Rattle.inorder.proofs.Grows.{Grows, sound_mid}
+use Rattle.inorder.proofs.Grows.{Grows, same_length, sound_mid}
 use Rattle.inorder.proofs.Kept.{link_grows, parts}
 use Rattle.inorder.proofs.Letting.{IsBesides, besides_grows}
 use Rattle.inorder.proofs.Moves.{changed_goes}
 use Rattle.inorder.proofs.Sound.{IsSound, IsSoundAt}
+use Rattle.front.specs.Path.{told_of}
+use Rattle.front.specs.declared.path.base_state.Base.{Base}
 use Rattle.front.specs.declared.path.record.Record.{Record}
 use Rattle.front.specs.Creators.{creator_note, position}
-use Rattle.front.specs.Knows.{IsGone, IsNewest, IsReady, IsReused, Knows, Stands}
+use Rattle.front.specs.Knows.{GoesOnAt, IsFolded, IsGone, IsNewest, IsReady, Knows, Stands}
 use Rattle.front.specs.Trail.{Note, is_link, record_of, trail}
-use Rattle.front.proofs.Acts.{still_gone, still_newest, still_reused, still_value}
+use Rattle.front.proofs.Acts.{still_folded, still_gone, still_newest, still_value}
 use Rattle.front.proofs.Lists.{all_map}
 use Rattle.front.proofs.Splitting.{IsStable}
-use Rattle.front.proofs.Trails.{trail_same}
+use Rattle.front.proofs.Trails.{same_front, trail_same}
 use Rattle.inorder.proofs.Recent.{counts_same}
 
 -- acts that leave the path as it is
@@ -72,6 +74,15 @@ record_same P t t' station tag pc next index half = λ i. record {
   guessed = is_none (fixed_next (instr_of P (index i)) (half i) (pc i));
 }
 
+-- an act lets nobody
+pub long_under : (P : Program) (C : Sizes) (U : UpdateUnit) (by p : ℕ) (act : Act) → (a : Allowed P C U by (On p act)) → length (applied P C U by (On p act)).tenants ≡ length U.tenants
+long_under P C U by p act a =
+    let us = U.tenants in
+    let t = a.tenant in
+    let ts = older us p in
+    let ys = younger us p in
+    ap (λ z. length z) (parts P us by p act t a.is) ∙ (sym (same_length t (changed P by act t ts) ts ys) ∙ sym (ap (λ z. length z) (split_at us p t a.is)))
+
 module _ (P : Program) (C : Sizes) (U : UpdateUnit) (by : ℕ) where
   pub trail_stays : (s : Step) → IsQuiet s → Allowed P C U by s → IsSound P U.tenants → trail P (applied P C U by s).tenants ≡ trail P U.tenants
   trail_stays (Let i pr f g) b a ok = absurd b
@@ -98,12 +109,22 @@ module _ (P : Program) (C : Sizes) (U : UpdateUnit) (by : ℕ) where
       let own = sound_mid P t (older us p) (younger us p) (subst (IsSound P) (split_at us p t a.is) ok) in
       ap (λ n. n % C.ring) (counts_same P U by p act t a.is on_path (quiet_grows P by act (younger us p) t (older us p) b a.may own).path)
 
+  long_stays : (s : Step) → IsQuiet s → Allowed P C U by s → length (applied P C U by s).tenants ≡ length U.tenants
+  long_stays (Let i pr f g) b a = absurd b
+  long_stays Renew b a = absurd b
+  long_stays (On p act) b a = long_under P C U by p act a
+
+  pub goes_stays : (s : Step) → IsQuiet s → Allowed P C U by s → IsSound P U.tenants → (base : Base) → GoesOnAt P C U base → GoesOnAt P C (applied P C U by s) base
+  goes_stays s b a ok base g =
+      let same = same_front P (applied P C U by s).tenants U.tenants (trail_stays s b a ok) in
+      record { pc = same.0 ∙ g.pc; half = same.1 ∙ g.half; station = place_stays s b a ok ∙ g.station }
+
   newest_stays : (s : Step) → IsQuiet s → Allowed P C U by s → IsSound P U.tenants → (n : Note) → IsNewest U n → IsNewest (applied P C U by s) n
   newest_stays (Let i pr f g) b a ok n h = absurd b
   newest_stays Renew b a ok n h = absurd b
   newest_stays (On p act) b a ok n h = still_newest P C U by p act a ok n h
 
-  pub stands_stay : (s : Step) → IsQuiet s → Allowed P C U by s → IsSound P U.tenants → (records : List Record) (base : List ℕ) (Again Again' : Note → Type 0) → ((n : Note) → Again n → Again' n) → Stands P C U records base Again → Stands P C (applied P C U by s) records base Again'
+  pub stands_stay : (s : Step) → IsQuiet s → Allowed P C U by s → IsSound P U.tenants → (records : List Record) (base : Base) (Again Again' : Note → Type 0) → ((n : Note) → Again n → Again' n) → Stands P C U records base Again → Stands P C (applied P C U by s) records base Again'
   stands_stay s b a ok records base Again Again' again k =
       let V = applied P C U by s in
       record {
@@ -112,29 +133,31 @@ module _ (P : Program) (C : Sizes) (U : UpdateUnit) (by : ℕ) where
         path = trail_stays s b a ok ∙ k.path;
         are = k.are;
         room = k.room;
-        begun = k.begun;
+        begun = λ none. goes_stays s b a ok base (k.begun none);
         retired = all_map (IsGone U) (IsGone V) (still_gone P C U by s a ok) k.gone k.retired;
         again = all_map Again Again' again k.gone k.again;
         newest = all_map (IsNewest U) (IsNewest V) (newest_stays s b a ok) k.notes k.newest;
+        past = subst (λ z. told_of base ≤ z) (sym (long_stays s b a)) k.past;
+        untold = k.untold;
         wide = k.wide;
-        base_is = λ r h. still_value P C U by s a ok (position (creator_note k.gone r)) (slice_index base r) (k.base_is r h);
+        base_is = λ r h. still_value P C U by s a ok (position (creator_note k.gone r)) (slice_index base.registers r) (k.base_is r h);
       }
 
-  pub knows_stays : (records : List Record) (base : List ℕ) (s : Step) → IsQuiet s → Allowed P C U by s → IsSound P U.tenants → Knows P C U records base → Knows P C (applied P C U by s) records base
-  knows_stays records base s b a ok k = stands_stay s b a ok records base (IsReused U) (IsReused (applied P C U by s)) (still_reused P C U by s a ok) k
+  pub knows_stays : (records : List Record) (base : Base) (s : Step) → IsQuiet s → Allowed P C U by s → IsSound P U.tenants → Knows P C U records base → Knows P C (applied P C U by s) records base
+  knows_stays records base s b a ok k = stands_stay s b a ok records base (IsFolded U (told_of base)) (IsFolded (applied P C U by s) (told_of base)) (still_folded P C U by s a ok (told_of base)) k
 
-  pub ready_stays : (records : List Record) (base : List ℕ) (s : Step) → IsQuiet s → Allowed P C U by s → IsSound P U.tenants → IsReady P C U records base → IsReady P C (applied P C U by s) records base
+  pub ready_stays : (records : List Record) (base : Base) (s : Step) → IsQuiet s → Allowed P C U by s → IsSound P U.tenants → IsReady P C U records base → IsReady P C (applied P C U by s) records base
   ready_stays records base s b a ok r =
       let V = applied P C U by s in
       let place = place_stays s b a ok in
       record {
         stands = stands_stay s b a ok records base _ _
-            (λ n h. ⊎_elim (λ x. inl (still_reused P C U by s a ok n x)) (λ x. inr (x ∙ sym place)) h)
+            (λ n h. ⊎_elim (λ x. inl (still_folded P C U by s a ok (told_of base) n x)) (λ x. inr (x ∙ sym place)) h)
             r.stands;
         free = r.free;
       }
 
-module _ (P : Program) (C : Sizes) (records : List Record) (base : List ℕ) where
+module _ (P : Program) (C : Sizes) (records : List Record) (base : Base) where
   pub knows_stable : IsStable P C (λ U. Knows P C U records base)
   knows_stable U by s b a ok k = knows_stays P C U by records base s (quiet_of s b) a ok k
 

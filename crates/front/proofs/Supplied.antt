@@ -1,5 +1,5 @@
 -- What the table gives a new tenant is what a search gives it.
-use Rattle.std.proofs.Common.{◌≡◌, ◌≢◌, ◌⊎◌, ℕ, zero, suc, ◌<◌, Bool, true, false, cond, List, ◌++◌, Option, Some, None, refl, sym, ap, ◌∙◌, subst, ⊎_elim, arith, eq-eqb, ne_eqb}
+use Rattle.std.proofs.Common.{◌≡◌, ◌≢◌, ℕ, zero, suc, ◌<◌, Bool, true, false, cond, List, ◌++◌, Option, Some, None, refl, sym, ap, ◌∙◌, subst, ⊎_elim, arith, eq-eqb, ne_eqb}
 use Rattle.std.specs.List.{AllByRecursion}
 use Rattle.std.specs.Prelude.{slice_get, slice_index}
 use Rattle.isa.specs.Instruction.{pc_plus_4}
@@ -11,6 +11,8 @@ use Rattle.inorder.specs.Tenants.{Tenant}
 use Rattle.inorder.specs.Unit.{Sizes, UpdateUnit, next_station, recent}
 use Rattle.station.specs.declared.answers.Supply.{Supply}
 use Rattle.station.specs.declared.answers.Supply.TheVariants.{From, Known}
+use Rattle.front.specs.Path.{told_of}
+use Rattle.front.specs.declared.path.base_state.Base.{Base}
 use Rattle.front.specs.declared.path.creators.Creator.{Creator}
 use Rattle.front.specs.declared.path.counted.Maker.{Maker}
 use Rattle.front.specs.declared.path.counted.Saved.{Saved}
@@ -18,16 +20,13 @@ use Rattle.front.specs.declared.path.counted.Table.{Table}
 use Rattle.front.specs.declared.path.record.Record.{Record}
 use Rattle.front.specs.CreateTable.{Finds, HasTable, IsLatest, IsSupplied, entry_of, made_from_start, maker_of, supply_found, supply_made}
 use Rattle.front.specs.Creators.{creator_note, newest_note, supply_by, supply_in}
-use Rattle.front.specs.Knows.{IsReady, IsReused}
+use Rattle.front.specs.Knows.{IsFolded, IsPassed, IsReady, IsReused}
 use Rattle.front.specs.Trail.{Note, record_of}
 use Rattle.front.proofs.CreateVector.{Creates, Kept, Older, newest_among, written}
 use Rattle.front.proofs.Lists.{all_front, all_two}
 use Rattle.front.proofs.Supplies.{IsGiver, found}
-use Rattle.front.proofs.Tables.{same_saved}
+use Rattle.front.proofs.Tables.{entry_there, entry_untold, same_saved}
 use Rattle.front.proofs.Trails.{IsNoted, trail_noted}
-
-pub same_maker : (a b : Maker) → Some (Some a) ≡ Some (Some b) → a ≡ b
-same_maker a b e = cc e
 
 pub no_maker : (a : Maker) → Some (Some a) ≢ Some None
 no_maker a e = cc e
@@ -43,8 +42,8 @@ by_link base x = go x.links
     go true = refl
     go false = refl
 
-module _ (P : Program) (C : Sizes) (h : List Entry) (legal : IsLegal P C h) (records : List Record) (base : List ℕ) (k : IsReady P C (unit_of P C h) records base) (T : Table)
-    (table : HasTable P (unit_of P C h) T) where
+module _ (P : Program) (C : Sizes) (h : List Entry) (legal : IsLegal P C h) (records : List Record) (base : Base) (k : IsReady P C (unit_of P C h) records base) (T : Table)
+    (table : HasTable P (unit_of P C h) (told_of base) T) where
   abbrev U : UpdateUnit
   U = unit_of P C h
 
@@ -52,7 +51,7 @@ module _ (P : Program) (C : Sizes) (h : List Entry) (legal : IsLegal P C h) (rec
   own = next_station C (recent U)
 
   abbrev IsAgain : Note → Type 0
-  IsAgain n = IsReused U n ⊎ (n.what.station ≡ own)
+  IsAgain n = IsPassed C U (told_of base) n
 
   gone_all : AllByRecursion (λ n. IsAgain n × IsNoted P U.tenants n) k.stands.gone
   gone_all =
@@ -66,11 +65,11 @@ module _ (P : Program) (C : Sizes) (h : List Entry) (legal : IsLegal P C h) (rec
     noted_by : (xs : List Note) → 0 < r → creator_note xs r ≡ newest_note None xs r
     noted_by xs pos = ap (λ b. cond b (newest_note None xs r) None) (written r (λ z. omega (arith, z, pos)) small)
 
-    entry_is : 0 < r → slice_get T.entries r ≡ Some (entry_of whole)
+    entry_is : 0 < r → slice_get T.entries r ≡ Some (entry_of (told_of base) whole)
     entry_is pos =
         table.entries r pos small
-        ∙ (ap (λ z. Some (entry_of (newest_note None z r))) k.stands.path
-        ∙ ap (λ z. Some (entry_of z)) (sym (noted_by (k.stands.gone ++ k.stands.notes) pos)))
+        ∙ (ap (λ z. Some (entry_of (told_of base) (newest_note None z r))) k.stands.path
+        ∙ ap (λ z. Some (entry_of (told_of base) z)) (sym (noted_by (k.stands.gone ++ k.stands.notes) pos)))
 
     -- what is kept of one whose station was not let again
     record IsKept (n : Note) : Type 0 where
@@ -79,10 +78,10 @@ module _ (P : Program) (C : Sizes) (h : List Entry) (legal : IsLegal P C h) (rec
       pub tag : saved.tag ≡ n.what.tag
       pub made : saved.made ≡ made_from_start n.what
 
-    kept : (n : Note) → IsGiver P C U n → IsKept n
+    kept : (n : Note) → IsGiver P C U (told_of base) n → IsKept n
     kept n g =
         let place : g.noted.tenant.station ≡ n.what.station = ap (λ (z : Record). z.station) g.noted.what in
-        let l : IsLatest T.latest (record_of P g.noted.tenant) = table.latest n.at g.noted.tenant g.noted.is (subst (IsLastAt U n.at) (sym place) g.newest) in
+        let l : IsLatest T.latest (record_of P g.noted.tenant) = table.latest n.at g.noted.tenant g.untold g.noted.is (subst (IsLastAt U n.at) (sym place) g.newest) in
         record {
           saved = l.saved;
           is = ap (slice_get T.latest) (sym place) ∙ l.is;
@@ -90,31 +89,32 @@ module _ (P : Program) (C : Sizes) (h : List Entry) (legal : IsLegal P C h) (rec
           made = l.of.made ∙ ap made_from_start g.noted.what;
         }
 
-    go : (o : Option Creator) → Finds T r o → Creates (IsGiver P C U) k.stands.gone records r whole → supply_found own (slice_index base r) o ≡ supply_in records base r
-    go None f (Older e g) = ap (supply_by (slice_index base r)) (sym g)
+    go : (o : Option Creator) → Finds T r o → Creates (IsGiver P C U (told_of base)) k.stands.gone records r whole → supply_found own (slice_index base.registers r) o ≡ supply_in records base r
+    go None f (Older e g) = ap (supply_by (slice_index base.registers r)) (sym g)
     go None f (Kept n e gv g) =
         let pos = written_by (k.stands.gone ++ k.stands.notes) r n e in
         let x = kept n gv in
-        absurd (f (maker_of n) x.saved pos (entry_is pos ∙ ap (λ z. Some (entry_of z)) e) x.is x.tag)
+        absurd (f (maker_of n) x.saved pos (entry_is pos ∙ (ap (λ z. Some (entry_of (told_of base) z)) e ∙ ap Some (entry_there (told_of base) n gv.untold))) x.is x.tag)
     go (Some c) f (Kept n e gv g) =
         let x = kept n gv in
-        let one = same_maker (record { station = c.station; tag = c.tag }) (maker_of n) (sym f.entry ∙ (entry_is f.written ∙ ap (λ z. Some (entry_of z)) e)) in
+        let one = (entry_untold (told_of base) n (record { station = c.station; tag = c.tag }) (sym f.entry ∙ (entry_is f.written ∙ ap (λ z. Some (entry_of (told_of base) z)) e))).same in
         let station : c.station ≡ n.what.station = ap (λ (z : Maker). z.station) one in
         let tag : c.tag ≡ n.what.tag = ap (λ (z : Maker). z.tag) one in
         let same : f.saved ≡ x.saved = same_saved f.saved x.saved (sym f.is ∙ (ap (slice_get T.latest) station ∙ x.is)) in
         let made : c.made ≡ made_from_start n.what = f.made ∙ (ap (λ (z : Saved). z.made) same ∙ x.made) in
-        ap (λ b. cond b (Known (slice_index base r)) (supply_made c.station c.tag c.made)) (ne_eqb c.station own (λ y. gv.other (sym station ∙ y)))
+        ap (λ b. cond b (Known (slice_index base.registers r)) (supply_made c.station c.tag c.made)) (ne_eqb c.station own (λ y. gv.other (sym station ∙ y)))
         ∙ ((λ i. supply_made (station i) (tag i) (made i))
-        ∙ (by_link (slice_index base r) n.what ∙ ap (supply_by (slice_index base r)) (sym g)))
-    go (Some c) f (Older e g) = older (creator_note k.stands.gone r) refl ∙ ap (supply_by (slice_index base r)) (sym g)
+        ∙ (by_link (slice_index base.registers r) n.what ∙ ap (supply_by (slice_index base.registers r)) (sym g)))
+    go (Some c) f (Older e g) = older (creator_note k.stands.gone r) refl ∙ ap (supply_by (slice_index base.registers r)) (sym g)
       where
-        entry : Some (Some (record { station = c.station; tag = c.tag })) ≡ Some (entry_of (creator_note k.stands.gone r))
-        entry = sym f.entry ∙ (entry_is f.written ∙ ap (λ z. Some (entry_of z)) e)
+        entry : Some (Some (record { station = c.station; tag = c.tag })) ≡ Some (entry_of (told_of base) (creator_note k.stands.gone r))
+        entry = sym f.entry ∙ (entry_is f.written ∙ ap (λ z. Some (entry_of (told_of base) z)) e)
 
-        older : (o : Option Note) → creator_note k.stands.gone r ≡ o → supply_found own (slice_index base r) (Some c) ≡ Known (slice_index base r)
-        older None x = absurd (no_maker (record { station = c.station; tag = c.tag }) (entry ∙ ap (λ z. Some (entry_of z)) x))
+        older : (o : Option Note) → creator_note k.stands.gone r ≡ o → supply_found own (slice_index base.registers r) (Some c) ≡ Known (slice_index base.registers r)
+        older None x = absurd (no_maker (record { station = c.station; tag = c.tag }) (entry ∙ ap (λ z. Some (entry_of (told_of base) z)) x))
         older (Some n) x =
-            let one = same_maker (record { station = c.station; tag = c.tag }) (maker_of n) (entry ∙ ap (λ z. Some (entry_of z)) x) in
+            let named = entry_untold (told_of base) n (record { station = c.station; tag = c.tag }) (entry ∙ ap (λ z. Some (entry_of (told_of base) z)) x) in
+            let one = named.same in
             let station : c.station ≡ n.what.station = ap (λ (z : Maker). z.station) one in
             let tag : c.tag ≡ n.what.tag = ap (λ (z : Maker). z.tag) one in
             let there : newest_note None k.stands.gone r ≡ Some n = sym (noted_by k.stands.gone f.written) ∙ x in
@@ -122,8 +122,8 @@ module _ (P : Program) (C : Sizes) (h : List Entry) (legal : IsLegal P C h) (rec
             let t : Tenant = its.1.tenant in
             let place : t.station ≡ n.what.station = ap (λ (z : Record). z.station) its.1.what in
             ⊎_elim
-            (λ (i : IsReused U n). absurd (table.stale n.at i.p t i.tenant.tenant i.behind its.1.is i.tenant.is (i.tenant.fact ∙ sym place) f.saved (ap (slice_get T.latest) (place ∙ sym station) ∙ f.is) (f.tag ∙ (tag ∙ ap (λ (z : Record). z.tag) (sym its.1.what)))))
-            (λ (o : n.what.station ≡ own). ap (λ b. cond b (Known (slice_index base r)) (supply_made c.station c.tag c.made)) (eq-eqb c.station own (station ∙ o)))
+            (λ (r : IsFolded U (told_of base) n). ⊎_elim (λ (i : IsReused U n). absurd (table.stale n.at i.p t i.tenant.tenant named.untold i.behind its.1.is i.tenant.is (i.tenant.fact ∙ sym place) f.saved (ap (slice_get T.latest) (place ∙ sym station) ∙ f.is) (f.tag ∙ (tag ∙ ap (λ (z : Record). z.tag) (sym its.1.what))))) (λ (l : n.at < told_of base). absurd (omega (arith, l, named.untold))) r)
+            (λ (o : n.what.station ≡ own). ap (λ b. cond b (Known (slice_index base.registers r)) (supply_made c.station c.tag c.made)) (eq-eqb c.station own (station ∙ o)))
             its.0
 
     pub supplied : (given : Supply) → IsSupplied T own base r given → given ≡ supply_in records base r

@@ -1,5 +1,5 @@
 -- What a new tenant is given: it is right, and what comes from its creator can be asked for.
-use Rattle.std.proofs.Common.{◌≡◌, ◌≢◌, ℕ, ◌<◌, Bool, true, false, cond, List, ◌++◌, length, Option, Some, refl, sym, ap, ◌∙◌, subst, arith, true≢false}
+use Rattle.std.proofs.Common.{◌≡◌, ◌≢◌, ℕ, ◌<◌, Bool, true, false, cond, List, ◌++◌, length, Option, Some, refl, sym, ap, ◌∙◌, subst, arith, true≢false, ◌≤◌}
 use Rattle.std.specs.List.{AllByRecursion}
 use Rattle.std.specs.Prelude.{slice_index}
 use Rattle.isa.specs.Instruction.{pc_plus_4}
@@ -21,6 +21,8 @@ use Rattle.inorder.proofs.Positions.{at_below, younger_from}
 use Rattle.inorder.proofs.Sound.{FateBy, IsSound}
 use Rattle.station.specs.declared.answers.Supply.TheVariants.{From as GivenFrom, Known as GivenKnown}
 use Rattle.station.specs.Letting.{supply_of}
+use Rattle.front.specs.Path.{told_of}
+use Rattle.front.specs.declared.path.base_state.Base.{Base}
 use Rattle.front.specs.declared.path.record.Record.{Record}
 use Rattle.front.specs.Creators.{creator_note, position, supply_by, supply_in}
 use Rattle.front.specs.Knows.{IsNewest, IsReady}
@@ -62,17 +64,18 @@ link_made P us ok p t is e =
     (subst (λ k. FateBy k (computed P t) t.pc t.predicted t.next t.made t.first.value t.second.value t.standing t.fate) k own.own.fate)
 
 -- a tenant that may be asked for a value
-pub record IsGiver (P : Program) (C : Sizes) (U : UpdateUnit) (n : Note) : Type 0 where
+pub record IsGiver (P : Program) (C : Sizes) (U : UpdateUnit) (told : ℕ) (n : Note) : Type 0 where
+  pub untold : told ≤ n.at
   pub noted : IsNoted P U.tenants n
   pub newest : IsNewest U n
   pub other : n.what.station ≢ next_station C (recent U)
   pub small : n.what.station < C.ring
 
-module _ (P : Program) (C : Sizes) (h : List Entry) (legal : IsLegal P C h) (records : List Record) (base : List ℕ) (k : IsReady P C (unit_of P C h) records base) where
+module _ (P : Program) (C : Sizes) (h : List Entry) (legal : IsLegal P C h) (records : List Record) (base : Base) (k : IsReady P C (unit_of P C h) records base) where
   abbrev U : UpdateUnit
   U = unit_of P C h
 
-  givers : AllByRecursion (IsGiver P C U) k.stands.notes
+  givers : AllByRecursion (IsGiver P C U (told_of base)) k.stands.notes
   givers =
       let s = k.stands in
       let noted = notes_noted P C h legal records base _ s in
@@ -80,17 +83,18 @@ module _ (P : Program) (C : Sizes) (h : List Entry) (legal : IsLegal P C h) (rec
       let both = all_two (IsNoted P U.tenants) (IsNewest U) (λ n. IsNoted P U.tenants n × IsNewest U n) (λ n a b. (a, b)) s.notes noted s.newest in
       let small = notes_small P C h legal records base _ s (omega (arith, k.free)) in
       let apart = all_two (λ n. n.what.station ≢ next_station C (recent U)) (λ n. n.what.station < C.ring) (λ n. (n.what.station ≢ next_station C (recent U)) × (n.what.station < C.ring)) (λ n a b. (a, b)) s.notes others small in
-      all_two (λ n. IsNoted P U.tenants n × IsNewest U n) (λ n. (n.what.station ≢ next_station C (recent U)) × (n.what.station < C.ring)) (IsGiver P C U) (λ n a b. record { noted = a.0; newest = a.1; other = b.0; small = b.1 }) s.notes both apart
+      let young = all_two (λ n. IsNoted P U.tenants n × IsNewest U n) (λ n. told_of base ≤ n.at) (λ n. (IsNoted P U.tenants n × IsNewest U n) × (told_of base ≤ n.at)) (λ n a b. (a, b)) s.notes both s.untold in
+      all_two (λ n. (IsNoted P U.tenants n × IsNewest U n) × (told_of base ≤ n.at)) (λ n. (n.what.station ≢ next_station C (recent U)) × (n.what.station < C.ring)) (IsGiver P C U (told_of base)) (λ n a b. record { untold = a.1; noted = a.0.0; newest = a.0.1; other = b.0; small = b.1 }) s.notes young apart
 
   -- a source of register r
   module _ (r : ℕ) (small : r < 34) where
     whole : creator P U.tenants r ≡ position (creator_note (k.stands.gone ++ k.stands.notes) r)
     whole = creator_is P U.tenants r ∙ ap (λ z. position (creator_note z r)) k.stands.path
 
-    pub found : Creates (IsGiver P C U) k.stands.gone records r (creator_note (k.stands.gone ++ k.stands.notes) r)
-    found = subst (λ z. Creates (IsGiver P C U) k.stands.gone z r (creator_note (k.stands.gone ++ k.stands.notes) r)) (sym k.stands.are) (creates (IsGiver P C U) k.stands.gone k.stands.notes r givers)
+    pub found : Creates (IsGiver P C U (told_of base)) k.stands.gone records r (creator_note (k.stands.gone ++ k.stands.notes) r)
+    found = subst (λ z. Creates (IsGiver P C U (told_of base)) k.stands.gone z r (creator_note (k.stands.gone ++ k.stands.notes) r)) (sym k.stands.are) (creates (IsGiver P C U (told_of base)) k.stands.gone k.stands.notes r givers)
 
-    kept_by : (n : Note) → creator P U.tenants r ≡ Some n.at → IsGiver P C U n → MaySupply P U (next_station C (recent U)) (creator P U.tenants r) (supply_of (supply_by (slice_index base r) (Some n.what)))
+    kept_by : (n : Note) → creator P U.tenants r ≡ Some n.at → IsGiver P C U (told_of base) n → MaySupply P U (next_station C (recent U)) (creator P U.tenants r) (supply_of (supply_by (slice_index base.registers r) (Some n.what)))
     kept_by n c g = go n.what.links refl
       where
         t : Tenant
@@ -118,19 +122,19 @@ module _ (P : Program) (C : Sizes) (h : List Entry) (legal : IsLegal P C h) (rec
     pub may_supply : MaySupply P U (next_station C (recent U)) (creator P U.tenants r) (supply_of (supply_in records base r))
     may_supply = go found
       where
-        go : Creates (IsGiver P C U) k.stands.gone records r (creator_note (k.stands.gone ++ k.stands.notes) r) → MaySupply P U (next_station C (recent U)) (creator P U.tenants r) (supply_of (supply_in records base r))
+        go : Creates (IsGiver P C U (told_of base)) k.stands.gone records r (creator_note (k.stands.gone ++ k.stands.notes) r) → MaySupply P U (next_station C (recent U)) (creator P U.tenants r) (supply_of (supply_in records base r))
         go (Older e f) =
             let c : creator P U.tenants r ≡ position (creator_note k.stands.gone r) = whole ∙ ap position e in
-            subst (λ z. MaySupply P U (next_station C (recent U)) (creator P U.tenants r) (supply_of (supply_by (slice_index base r) z))) (sym f)
+            subst (λ z. MaySupply P U (next_station C (recent U)) (creator P U.tenants r) (supply_of (supply_by (slice_index base.registers r) z))) (sym f)
             (ap (value_of U.tenants) c ∙ k.stands.base_is r small)
         go (Kept n e g f) =
             let c : creator P U.tenants r ≡ Some n.at = whole ∙ ap position e in
-            subst (λ z. MaySupply P U (next_station C (recent U)) (creator P U.tenants r) (supply_of (supply_by (slice_index base r) z))) (sym f) (kept_by n c g)
+            subst (λ z. MaySupply P U (next_station C (recent U)) (creator P U.tenants r) (supply_of (supply_by (slice_index base.registers r) z))) (sym f) (kept_by n c g)
 
     -- one that comes from its creator
     pub record ComesFrom (s g : ℕ) : Type 0 where
       pub n : Note
-      pub giver : IsGiver P C U n
+      pub giver : IsGiver P C U (told_of base) n
       pub creates : creator P U.tenants r ≡ Some n.at
       pub station : n.what.station ≡ s
       pub tag : n.what.tag ≡ g
@@ -147,12 +151,12 @@ module _ (P : Program) (C : Sizes) (h : List Entry) (legal : IsLegal P C h) (rec
         tag_of : (a b : ℕ) → GivenFrom a b ≡ GivenFrom s g → b ≡ g
         tag_of a b x = cc x
 
-        by : (b : Bool) (n : Note) → n.what.links ≡ b → supply_by (slice_index base r) (Some n.what) ≡ GivenFrom s g → GivenFrom n.what.station n.what.tag ≡ GivenFrom s g
+        by : (b : Bool) (n : Note) → n.what.links ≡ b → supply_by (slice_index base.registers r) (Some n.what) ≡ GivenFrom s g → GivenFrom n.what.station n.what.tag ≡ GivenFrom s g
         by true n l x = absurd (known (pc_plus_4 n.what.pc) (ap (λ z. cond z (GivenKnown (pc_plus_4 n.what.pc)) (GivenFrom n.what.station n.what.tag)) (sym l) ∙ x))
         by false n l x = ap (λ z. cond z (GivenKnown (pc_plus_4 n.what.pc)) (GivenFrom n.what.station n.what.tag)) (sym l) ∙ x
 
-        go : Creates (IsGiver P C U) k.stands.gone records r (creator_note (k.stands.gone ++ k.stands.notes) r) → ComesFrom s g
-        go (Older x f) = absurd (known (slice_index base r) (ap (supply_by (slice_index base r)) (sym f) ∙ e))
+        go : Creates (IsGiver P C U (told_of base)) k.stands.gone records r (creator_note (k.stands.gone ++ k.stands.notes) r) → ComesFrom s g
+        go (Older x f) = absurd (known (slice_index base.registers r) (ap (supply_by (slice_index base.registers r)) (sym f) ∙ e))
         go (Kept n x gv f) =
-            let its = by n.what.links n refl (ap (supply_by (slice_index base r)) (sym f) ∙ e) in
+            let its = by n.what.links n refl (ap (supply_by (slice_index base.registers r)) (sym f) ∙ e) in
             record { n = n; giver = gv; creates = whole ∙ ap position x; station = station_of n.what.station n.what.tag its; tag = tag_of n.what.station n.what.tag its }

@@ -10,7 +10,7 @@ use Rattle.inorder.proofs.Grows.{same_length}
 use Rattle.inorder.proofs.Positions.{at_more, at_new}
 use Rattle.inorder.proofs.Stations.{ArePlaced}
 use Rattle.front.specs.Trail.{Note, note, record_of, trail}
-use Rattle.front.proofs.Lists.{all_both, all_front, all_map, all_rest, last_not, last_same}
+use Rattle.front.proofs.Lists.{Last, all_both, all_front, all_map, all_rest, last_cases, last_not, last_same}
 
 abbrev pub IsOff : Tenant → Type 0
 IsOff t = on_path t ≡ false
@@ -148,6 +148,11 @@ pub pc_none : (ts : List Tenant) → AllByRecursion IsOff ts → front_pc ts ≡
 pc_none [] off = refl
 pc_none (t ∷ ts) off = ap (λ b. cond b t.next (front_pc ts)) off.0 ∙ pc_none ts off.1
 
+pub pc_of_last : (P : Program) (us : List Tenant) (xs : List Note) (x : Note) → trail P us ≡ xs ++ x ∷ [] → front_pc us ≡ x.what.next
+pc_of_last P us xs x e =
+    let o = last_on P us xs x e in
+    ap front_pc o.split ∙ (pc_past o.ys (o.tenant ∷ o.ts) o.off ∙ (pc_on o.tenant o.ts o.on ∙ ap (λ (z : Note). z.what.next) (sym o.is)))
+
 -- the same of the half that comes next
 pub half_past : (P : Program) (ys ts : List Tenant) → AllByRecursion IsOff ys → front_half P (ys ++ ts) ≡ front_half P ts
 half_past P [] ts off = refl
@@ -160,3 +165,15 @@ half_on P t ts e = ap (λ b. cond b (half_after (is_first P t)) (front_half P ts
 pub half_none : (P : Program) (ts : List Tenant) → AllByRecursion IsOff ts → front_half P ts ≡ Low
 half_none P [] off = refl
 half_none P (t ∷ ts) off = ap (λ b. cond b (half_after (is_first P t)) (front_half P ts)) off.0 ∙ half_none P ts off.1
+
+pub half_of_last : (P : Program) (us : List Tenant) (xs : List Note) (x : Note) → trail P us ≡ xs ++ x ∷ [] → front_half P us ≡ half_after x.what.first
+half_of_last P us xs x e =
+    let o = last_on P us xs x e in
+    ap (front_half P) o.split ∙ (half_past P o.ys (o.tenant ∷ o.ts) o.off ∙ (half_on P o.tenant o.ts o.on ∙ ap (λ (z : Note). half_after z.what.first) (sym o.is)))
+
+-- The same path goes on at the same place
+pub same_front : (P : Program) (us vs : List Tenant) → trail P us ≡ trail P vs → (front_pc us ≡ front_pc vs) × (front_half P us ≡ front_half P vs)
+same_front P us vs e = ⊎_elim
+    (λ none. (pc_none us (none_on P us (e ∙ none)) ∙ sym (pc_none vs (none_on P vs none)), half_none P us (none_on P us (e ∙ none)) ∙ sym (half_none P vs (none_on P vs none))))
+    (λ (l : Last (trail P vs)). (pc_of_last P us l.front l.one (e ∙ l.is) ∙ sym (pc_of_last P vs l.front l.one l.is), half_of_last P us l.front l.one (e ∙ l.is) ∙ sym (half_of_last P vs l.front l.one l.is)))
+    (last_cases (trail P vs))

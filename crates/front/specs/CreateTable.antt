@@ -1,6 +1,6 @@
 -- The create vector as a table: for each register its newest writer, and for each station what the
 -- let of its last tenant replaced.
-use Rattle.std.specs.Prelude.{◌≡◌, ◌≢◌, ℕ, ◌+◌, ◌%◌, ◌^◌, ◌<◌, ◌≤◌, List, ◌∷◌, ◌++◌, length, Option, Some, None, ◌==◌, if◌then◌else◌, slice_get, slice_set, slice_index}
+use Rattle.std.specs.Prelude.{◌≡◌, ◌≢◌, ℕ, ◌+◌, ◌%◌, ◌^◌, ◌<◌, ◌≤◌, List, ◌∷◌, ◌++◌, length, Option, Some, None, ◌==◌, nat_le, if◌then◌else◌, slice_get, slice_set, slice_index}
 use Rattle.isa.specs.Instruction.{pc_plus_4}
 use Rattle.isa.specs.Programs.{Program}
 use Rattle.inorder.specs.Callers.{IsLastAt}
@@ -8,6 +8,7 @@ use Rattle.inorder.specs.Tenants.{Tenant}
 use Rattle.inorder.specs.Unit.{UpdateUnit, at}
 use Rattle.station.specs.declared.answers.Supply.{Supply}
 use Rattle.station.specs.declared.answers.Supply.TheVariants.{From, Known}
+use Rattle.front.specs.declared.path.base_state.Base.{Base}
 use Rattle.front.specs.declared.path.creators.Creator.{Creator}
 use Rattle.front.specs.declared.path.counted.Maker.{Maker}
 use Rattle.front.specs.declared.path.counted.Saved.{Saved}
@@ -21,14 +22,14 @@ use Rattle.front.specs.Trail.{Note, record_of, trail}
 abbrev pub maker_of : Note → Maker
 maker_of n = record { station = n.what.station; tag = n.what.tag }
 
--- The entry of a tenant, if there is one
-abbrev pub entry_of : Option Note → Option Maker
-entry_of None = None
-entry_of (Some n) = Some (maker_of n)
+-- The entry of a tenant, if there is one: those before `told` have none
+abbrev pub entry_of : ℕ → Option Note → Option Maker
+entry_of told None = None
+entry_of told (Some n) = if nat_le told n.at then Some (maker_of n) else None
 
 -- The newest of these that writes register r
-abbrev pub entry_in : List Note → ℕ → Option Maker
-entry_in notes r = entry_of (newest_note None notes r)
+abbrev pub entry_in : ℕ → List Note → ℕ → Option Maker
+entry_in told notes r = entry_of told (newest_note None notes r)
 
 -- A jump that links has made its value from the start
 abbrev pub made_from_start : Record → Option ℕ
@@ -46,21 +47,21 @@ pub record IsLatest (latest : List Saved) (x : Record) : Type 0 where
   pub is : slice_get latest x.station ≡ Some saved
   pub of : IsSaved x saved
 
--- The entries are the create vector of the path, and each station keeps of its last tenant what its
--- let replaced. An entry whose tenant's station was let again has another tag than that station's last
--- tenant
-pub record HasTable (P : Program) (U : UpdateUnit) (T : Table) : Type 0 where
+-- The entries are the create vector of the path without the tenants before `told`, and each station
+-- keeps of its last tenant what its let replaced. An entry whose tenant's station was let again has
+-- another tag than that station's last tenant
+pub record HasTable (P : Program) (U : UpdateUnit) (told : ℕ) (T : Table) : Type 0 where
   pub wide : length T.entries ≡ 34
   pub deep : length T.latest ≡ 32
   pub entries : (r : ℕ) → 0 < r → r < 34 →
-      slice_get T.entries r ≡ Some (entry_in (trail P U.tenants) r)
-  pub latest : (p : ℕ) (t : Tenant) → at U.tenants p ≡ Some t → IsLastAt U p t.station →
+      slice_get T.entries r ≡ Some (entry_in told (trail P U.tenants) r)
+  pub latest : (p : ℕ) (t : Tenant) → told ≤ p → at U.tenants p ≡ Some t → IsLastAt U p t.station →
       IsLatest T.latest (record_of P t)
-  pub stale : (p q : ℕ) (t u : Tenant) → p < q → at U.tenants p ≡ Some t → at U.tenants q ≡ Some u →
+  pub stale : (p q : ℕ) (t u : Tenant) → told ≤ p → p < q → at U.tenants p ≡ Some t → at U.tenants q ≡ Some u →
       u.station ≡ t.station → (s : Saved) → slice_get T.latest t.station ≡ Some s → s.tag ≢ t.tag
-  pub replaced : (xs ys : List Note) (n : Note) → trail P U.tenants ≡ xs ++ n ∷ ys → IsNewest U n →
-      0 < n.what.destination → n.what.destination < 34 → (s : Saved) →
-      slice_get T.latest n.what.station ≡ Some s → s.replaced ≡ entry_in xs n.what.destination
+  pub replaced : (xs ys : List Note) (n : Note) → trail P U.tenants ≡ xs ++ n ∷ ys → told ≤ n.at →
+      IsNewest U n → 0 < n.what.destination → n.what.destination < 34 → (s : Saved) →
+      slice_get T.latest n.what.station ≡ Some s → s.replaced ≡ entry_in told xs n.what.destination
 
 -- What is found of register r: its newest writer, if that one's station was not let again
 
@@ -98,10 +99,10 @@ supply_found own base (Some c) =
     if c.station == own then Known base else supply_made c.station c.tag c.made
 
 -- The source that reads register r is given so
-pub record IsSupplied (T : Table) (own : ℕ) (base : List ℕ) (r : ℕ) (given : Supply) : Type 0 where
+pub record IsSupplied (T : Table) (own : ℕ) (base : Base) (r : ℕ) (given : Supply) : Type 0 where
   pub found : Option Creator
   pub finds : Finds T r found
-  pub is : given ≡ supply_found own (slice_index base r) found
+  pub is : given ≡ supply_found own (slice_index base.registers r) found
 
 -- What a let makes of the table
 

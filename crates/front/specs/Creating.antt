@@ -1,5 +1,5 @@
 -- Who creates a register, as it is asked from outside.
-use Rattle.std.specs.Prelude.{◌≡◌, ℕ, Some}
+use Rattle.std.specs.Prelude.{◌≡◌, ℕ, ◌≤◌, Some}
 use Rattle.isa.specs.Programs.{Program}
 use Rattle.inorder.specs.Callers.{IsLastAt}
 use Rattle.inorder.specs.Tenants.{Tenant}
@@ -8,20 +8,22 @@ use Rattle.ruu_words.specs.Kinds.{IsAny, IsTenant}
 use Rattle.front.specs.declared.answers.Made.{Made}
 use Rattle.front.specs.declared.answers.Made.TheVariants.{Base, Made as IsMade}
 
--- The creator is this tenant, and its station was not let again
-pub record IsMaker (P : Program) (U : UpdateUnit) (r station tag : ℕ) : Type 0 where
+-- The creator is this tenant, none of the first `told`, and its station was not let again
+pub record IsMaker (P : Program) (U : UpdateUnit) (told r station tag : ℕ) : Type 0 where
   pub p : ℕ
   pub creates : creator P U.tenants r ≡ Some p
+  pub untold : told ≤ p
   pub named : IsTenant U p station tag IsAny
   pub last : IsLastAt U p station
 
--- This is the value of its creator, whose station was let again, or 0 where there is none
-pub record IsBase (P : Program) (U : UpdateUnit) (r v : ℕ) : Type 0 where
+-- This is the value of its creator, whose station was let again or which is one of the first `told`, or
+-- 0 where there is none
+pub record IsBase (P : Program) (U : UpdateUnit) (told r v : ℕ) : Type 0 where
   pub value : value_of U.tenants (creator P U.tenants r) ≡ Some v
   pub again : (p : ℕ) (t : Tenant) → creator P U.tenants r ≡ Some p → at U.tenants p ≡ Some t →
-      ¬ IsLastAt U p t.station
+      told ≤ p → ¬ IsLastAt U p t.station
 
 -- What is answered of register r: its creator, or the value that older ones left
-abbrev pub IsCreator : Program → UpdateUnit → ℕ → Made → Type 0
-IsCreator P U r (IsMade station tag) = IsMaker P U r station tag
-IsCreator P U r (Base v) = IsBase P U r v
+abbrev pub IsCreator : Program → UpdateUnit → ℕ → ℕ → Made → Type 0
+IsCreator P U told r (IsMade station tag) = IsMaker P U told r station tag
+IsCreator P U told r (Base v) = IsBase P U told r v

@@ -4,6 +4,7 @@ use Rattle.isa.specs.Instruction.{pc_plus_4}
 use Rattle.inorder.specs.Unit.{can_be_written}
 use Rattle.station.specs.declared.answers.Supply.{Supply}
 use Rattle.station.specs.declared.answers.Supply.TheVariants.{From, Known}
+use Rattle.front.specs.declared.path.base_state.Base.{Base}
 use Rattle.front.specs.declared.path.record.Record.{Record}
 use Rattle.front.specs.Trail.{Note}
 
@@ -38,5 +39,5 @@ supply_by base (Some x) =
     if x.links then Known (pc_plus_4 x.pc) else From x.station x.tag
 
 -- What a new tenant is given for a source that reads register r, where the older tenants left `base`
-abbrev pub supply_in : List Record → List ℕ → ℕ → Supply
-supply_in records base r = supply_by (slice_index base r) (creator_in records r)
+abbrev pub supply_in : List Record → Base → ℕ → Supply
+supply_in records base r = supply_by (slice_index base.registers r) (creator_in records r)

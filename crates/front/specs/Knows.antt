@@ -1,13 +1,15 @@
 -- What the front knows of the unit: no step of others changes it.
-use Rattle.std.specs.Prelude.{◌≡◌, ◌⊎◌, ℕ, ◌<◌, ◌≤◌, List, [], ◌++◌, map, length, Some, slice_index}
+use Rattle.std.specs.Prelude.{◌≡◌, ◌⊎◌, ℕ, ◌%◌, ◌<◌, ◌≤◌, List, [], ◌++◌, map, length, Some, slice_index}
 use Rattle.std.specs.List.{AllByRecursion}
 use Rattle.isa.specs.Programs.{Program}
 use Rattle.inorder.specs.Callers.{IsLastAt}
 use Rattle.inorder.specs.Replies.{Has}
 use Rattle.inorder.specs.Tenants.{Retired}
-use Rattle.inorder.specs.Unit.{Sizes, UpdateUnit, next_station, recent, value_of}
+use Rattle.inorder.specs.Unit.{Sizes, UpdateUnit, front_half, front_pc, next_station, recent, value_of}
+use Rattle.front.specs.declared.path.base_state.Base.{Base}
 use Rattle.front.specs.declared.path.record.Record.{Record}
 use Rattle.front.specs.Creators.{creator_note, position}
+use Rattle.front.specs.Path.{told_of}
 use Rattle.front.specs.Trail.{Note, trail}
 
 -- What the front keeps of each
@@ -28,27 +30,44 @@ pub record IsReused (U : UpdateUnit) (n : Note) : Type 0 where
 abbrev pub IsNewest : UpdateUnit → Note → Type 0
 IsNewest U n = IsLastAt U n.at n.what.station
 
+-- Or it was there when the front last rested
+abbrev pub IsFolded : UpdateUnit → ℕ → Note → Type 0
+IsFolded U told n = IsReused U n ⊎ (n.at < told)
+
+-- Or its station is the next tenant's
+abbrev pub IsPassed : Sizes → UpdateUnit → ℕ → Note → Type 0
+IsPassed C U told n = IsFolded U told n ⊎ (n.what.station ≡ next_station C (recent U))
+
+-- The path goes on where the base says: its pc, its half and its station
+pub record GoesOnAt (P : Program) (C : Sizes) (U : UpdateUnit) (base : Base) : Type 0 where
+  pub pc : front_pc U.tenants ≡ base.pc
+  pub half : front_half P U.tenants ≡ base.half
+  pub station : next_station C (recent U) ≡ base.station % C.ring
+
 -- The records are the last tenants of the path, `notes`; all older ones, `gone`, have retired, and the base
 -- registers are what the newest creators among these have made
-pub record Stands (P : Program) (C : Sizes) (U : UpdateUnit) (records : List Record) (base : List ℕ)
+pub record Stands (P : Program) (C : Sizes) (U : UpdateUnit) (records : List Record) (base : Base)
     (Again : Note → Type 0) : Type 0 where
   pub gone : List Note
   pub notes : List Note
   pub path : trail P U.tenants ≡ gone ++ notes
   pub are : records ≡ whats notes
   pub room : length notes ≤ C.ring
-  pub begun : notes ≡ [] → gone ≡ []
+  pub begun : notes ≡ [] → GoesOnAt P C U base
   pub retired : AllByRecursion (IsGone U) gone
   pub again : AllByRecursion Again gone
   pub newest : AllByRecursion (IsNewest U) notes
-  pub wide : length base ≡ 34
-  pub base_is : (r : ℕ) → r < 34 → value_of U.tenants (position (creator_note gone r)) ≡ Some (slice_index base r)
+  pub past : told_of base ≤ length U.tenants
+  pub untold : AllByRecursion (λ n. told_of base ≤ n.at) notes
+  pub wide : length base.registers ≡ 34
+  pub base_is : (r : ℕ) → r < 34 → value_of U.tenants (position (creator_note gone r)) ≡ Some (slice_index base.registers r)
 
--- Between two calls: the stations of all older tenants were let again
-abbrev pub Knows : Program → Sizes → UpdateUnit → List Record → List ℕ → Type 0
-Knows P C U records base = Stands P C U records base (IsReused U)
+-- Between two calls: the stations of all older tenants were let again, but for those that there were
+-- when the front last rested
+abbrev pub Knows : Program → Sizes → UpdateUnit → List Record → Base → Type 0
+Knows P C U records base = Stands P C U records base (IsFolded U (told_of base))
 
 -- Before a let: or they are the next tenant's
-pub record IsReady (P : Program) (C : Sizes) (U : UpdateUnit) (records : List Record) (base : List ℕ) : Type 0 where
-  pub stands : Stands P C U records base (λ n. IsReused U n ⊎ (n.what.station ≡ next_station C (recent U)))
+pub record IsReady (P : Program) (C : Sizes) (U : UpdateUnit) (records : List Record) (base : Base) : Type 0 where
+  pub stands : Stands P C U records base (IsPassed C U (told_of base))
   pub free : length records < C.ring

@@ -10,4 +10,6 @@ pub mod Training
 pub mod Turns
 pub mod Questions
 pub mod Recoveries
+pub mod Rests
+pub mod Folding
 pub mod Fronts

@@ -1,14 +1,14 @@
 -- Where the path goes on.
 use Rattle.std.specs.Prelude.{◌≡◌, ℕ, ◌+◌, ◌%◌, ◌-◌, ◌<◌, ◌≤◌, List, [], ◌∷◌, ◌++◌, length, Option, Some, None, if◌then◌else◌, slice_get, is_none}
 use Rattle.isa.specs.Instruction.{destination, fixed_next, is_first_half, kind, pc_plus_4}
-use Rattle.isa.specs.Programs.{text_start}
 use Rattle.isa.specs.declared.op.Half.{Half}
-use Rattle.isa.specs.declared.op.Half.TheVariants.{Low}
 use Rattle.inorder.specs.Machine.{write}
 use Rattle.inorder.specs.Tenants.{is_access}
+use Rattle.inorder.specs.History.{unit_of}
 use Rattle.inorder.specs.Unit.{half_after}
 use Rattle.front.specs.declared.fetch.Fetched.{Fetched}
 use Rattle.front.specs.declared.path.Path.{Path}
+use Rattle.front.specs.declared.path.base_state.Base.{Base}
 use Rattle.front.specs.declared.path.record.Record.{Record}
 use Rattle.front.specs.Trail.{is_link}
 
@@ -16,41 +16,61 @@ use Rattle.front.specs.Trail.{is_link}
 abbrev pub last_of : List Record → Option Record
 last_of records = slice_get records (length records - 1)
 
--- Where the path goes on behind a tenant, or begins
-abbrev pub pc_after : Option Record → ℕ
-pc_after None = text_start
-pc_after (Some x) = x.next
+-- How many tenants there were when the front last rested: what those have left is in the base
+abbrev pub told_of : Base → ℕ
+told_of base =
+    length (unit_of base.rested.value.core.program base.rested.value.core.sizes base.rested.value.seen).tenants
 
--- The front pc, by the tenants whose stations were not let again
-abbrev pub pc_behind : List Record → ℕ
-pc_behind records = pc_after (last_of records)
+-- Where the path goes on behind a tenant, or without one
+abbrev pub pc_after : ℕ → Option Record → ℕ
+pc_after start None = start
+pc_after start (Some x) = x.next
+
+-- The front pc, by the tenants that are kept
+abbrev pub pc_behind : Base → List Record → ℕ
+pc_behind base records = pc_after base.pc (last_of records)
 
 -- The half that comes next, by the same
-abbrev pub half_behind_last : Option Record → Half
-half_behind_last None = Low
-half_behind_last (Some x) = half_after x.first
+abbrev pub half_behind_last : Half → Option Record → Half
+half_behind_last start None = start
+half_behind_last start (Some x) = half_after x.first
 
 -- The same by all records
-abbrev pub half_behind : List Record → Half
-half_behind records = half_behind_last (last_of records)
+abbrev pub half_behind : Base → List Record → Half
+half_behind base records = half_behind_last base.half (last_of records)
 
--- The station behind that of a tenant on the ring, or the first
-abbrev pub place_after : ℕ → Option Record → ℕ
-place_after ring None = 0
-place_after ring (Some x) = (x.station + 1) % ring
+-- The station behind that of a tenant on the ring, or the one to go on at
+abbrev pub place_after : ℕ → ℕ → Option Record → ℕ
+place_after ring start None = start % ring
+place_after ring start (Some x) = (x.station + 1) % ring
 
 -- The next tenant's station
-abbrev pub next_place : ℕ → List Record → ℕ
-next_place ring records = place_after ring (last_of records)
+abbrev pub next_place : ℕ → Base → List Record → ℕ
+next_place ring base records = place_after ring base.station (last_of records)
 
 -- What a tenant has made that left this value in its station's word
 abbrev pub made_of : Record → ℕ → ℕ
 made_of x left = if x.links then pc_plus_4 x.pc else left
 
+-- The base with what a tenant has made that left this value
+abbrev pub with_left : Base → Record → ℕ → Base
+with_left base x left =
+    record base { registers = write base.registers x.destination (made_of x left) }
+
 -- The oldest goes to the base registers
 pub record Released (left : ℕ) (old : Path) (x : Record) (new : Path) : Type 0 where
   pub records : old.records ≡ x ∷ new.records
-  pub base : new.base ≡ write old.base x.destination (made_of x left)
+  pub base : new.base ≡ with_left old.base x left
+
+-- The base says where the path goes on behind its last tenant
+abbrev pub GoesOnWith : ℕ → Path → Base → Type 0
+GoesOnWith ring path base =
+    base ≡
+    record path.base {
+      pc = pc_behind path.base path.records;
+      half = half_behind path.base path.records;
+      station = next_place ring path.base path.records;
+    }
 
 -- Where all stations have had a tenant, the next one goes to the oldest's station
 abbrev pub Releases : ℕ → ℕ → Path → Option Record → Path → Type 0

@@ -1,13 +1,18 @@
 -- What a let makes of the predictor.
-use Rattle.std.specs.Prelude.{◌≡◌, ℕ, Bool, true, false, ◌&&◌, Option, Some, None}
+use Rattle.std.specs.Prelude.{◌≡◌, ℕ, Bool, true, false, ◌&&◌, ◌-◌, List, length, Option, Some, None}
 use Rattle.isa.specs.declared.op.Half.{Half}
 use Rattle.isa.specs.Instruction.{fixed_next}
 use Rattle.isa.specs.Programs.{Program}
 use Rattle.isa.specs.declared.instr.Instr.{Instr}
 use Rattle.inorder.specs.Callers.{is_retired}
 use Rattle.inorder.specs.Tenants.{Tenant, computed_next}
+use Rattle.inorder.specs.Unit.{newest_of}
 use Rattle.front.specs.declared.path.record.Record.{Record}
 use Rattle.front.specs.Trail.{is_guessed}
+
+-- The tenants behind the first `told`
+abbrev pub untold : ℕ → List Tenant → List Tenant
+untold told ts = newest_of (length ts - told) ts
 
 -- The predictor is told, or not
 abbrev pub ToldIf : {S : Type 0} → (S → ℕ → ℕ → S → Type 0) → Bool → ℕ → ℕ → S → S → Type 0

@@ -18,7 +18,7 @@ use Rattle.station.specs.Asking.{IsQuestion}
 use Rattle.station.specs.Moments.{WasOnce}
 use Rattle.front.specs.declared.answers.Turn.{Turn}
 use Rattle.front.specs.declared.answers.Turn.TheVariants.{Full, NoInstr, QueueFull, Spent, Let as HasLet}
-use Rattle.front.specs.Training.{Trains}
+use Rattle.front.specs.Training.{Trains, untold}
 
 -- Refusals. Each is true at a moment of the call, and each that comes before it in this order was not true at
 -- one
@@ -82,16 +82,17 @@ pub record LetsOut (P : Program) (C : Sizes) (old new : List Entry) (station tag
   pub asks_second : IsAskedFor (length (unit_of P C point).tenants) Second second second_asked
   pub adds : Adds P C front old new (second_asked ++ (first_asked ++ Does (Let index predicted first second) ∷ []))
 
--- Before that the predictor was told of the last tenant of the station, and asked for the new one
+-- Before that the predictor was told of the last tenant of the station, if that is none of the first `told`, and
+-- asked for the new one
 pub record IsLet {S : Type 0} (Predicts : S → ℕ → Instr → ℕ → S → Type 0) (Learns : S → ℕ → ℕ → S → Type 0)
-    (P : Program) (C : Sizes) (old new : List Entry) (before after : S) (station tag pc : ℕ) : Type 0 where
+    (P : Program) (C : Sizes) (told : ℕ) (old new : List Entry) (before after : S) (station tag pc : ℕ) : Type 0 where
   pub predicted : ℕ
   pub lets : LetsOut P C old new station tag pc predicted
-  pub trains : Trains Predicts Learns P (last_of (recent (unit_of P C lets.point)) station) (instr_of P lets.index)
-      (front_half P (unit_of P C lets.point).tenants) pc predicted before after
+  pub trains : Trains Predicts Learns P (last_of (untold told (unit_of P C lets.point).tenants) station)
+      (instr_of P lets.index) (front_half P (unit_of P C lets.point).tenants) pc predicted before after
 
 -- What a turn answers: a tenant was let, or a refusal
-abbrev pub TurnAnswers : {S : Type 0} → (S → ℕ → Instr → ℕ → S → Type 0) → (S → ℕ → ℕ → S → Type 0) → Program → Sizes → List Entry → List Entry → S → S → Turn → Type 0
-TurnAnswers Predicts Learns P C old new before after (HasLet station tag pc) =
-    IsLet Predicts Learns P C old new before after station tag pc
-TurnAnswers Predicts Learns P C old new before after turn = IsRefusal P C old new before after turn
+abbrev pub TurnAnswers : {S : Type 0} → (S → ℕ → Instr → ℕ → S → Type 0) → (S → ℕ → ℕ → S → Type 0) → Program → Sizes → ℕ → List Entry → List Entry → S → S → Turn → Type 0
+TurnAnswers Predicts Learns P C told old new before after (HasLet station tag pc) =
+    IsLet Predicts Learns P C told old new before after station tag pc
+TurnAnswers Predicts Learns P C told old new before after turn = IsRefusal P C old new before after turn

@@ -24,6 +24,15 @@ pub enum Made {
     Base(u32),
 }
 
+/// What a rest answers.
+#[derive(Clone, Copy, Debug, PartialEq, Eq)]
+pub enum Rest {
+    /// No tenant is in flight: what the last ones left is kept apart from them.
+    Idle,
+    /// Some tenant is in flight.
+    Live,
+}
+
 /// What a recovery answers.
 #[derive(Clone, Copy, Debug, PartialEq, Eq)]
 pub enum Recovery {

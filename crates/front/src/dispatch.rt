@@ -48,13 +48,14 @@ pub fn dispatch(
     requires most { core.now.sizes.ring ≤ 32 }
     requires legal { IsLegal core.now.program core.now.sizes seat.old.seen }
     requires ready { IsReady core.now.program core.now.sizes (unit_of core.now.program core.now.sizes seat.old.seen) path.old.records path.old.base }
-    requires table { KnowsTable core.now seat.old.seen creators.old }
+    requires table { KnowsTable core.now seat.old.seen path.old.base creators.old }
     requires next { IsNext core.now.program core.now.sizes seat.old.seen next.now }
     requires fixed { IfSome (fixed_next next.now.instr next.now.half next.now.pc) (λ x. predicted ≡ x) }
     ensures kept { IsSame seat.old seat.new }
     ensures reply { IsDispatched core.now.program core.now.sizes seat.old.seen seat.new.seen next.now predicted result }
+    ensures base { path.new.base ≡ path.old.base }
     ensures knows { KnowsPath core.now seat.new.seen path.new }
-    ensures table { KnowsTable core.now seat.new.seen creators.new }
+    ensures table { KnowsTable core.now seat.new.seen path.new.base creators.new }
     ensures touched { IsTouched 8 creators.old.touched creators.new.touched }
 {
     let first = supply(path, creators, next.station, next.instr.first());

@@ -2,17 +2,20 @@
 ghost use Rattle.std.specs.Prelude.{◌≡◌, ◌<◌, ◌*◌, []};
 ghost use Rattle.inorder.specs.History.{Adds, IsLegal, StartsWith, front};
 ghost use Rattle.front.specs.CreateTable.{IsTouched};
-ghost use Rattle.front.specs.Fronts.{AddsNothing, CreatorOf, IsUnused, KnowsPath, KnowsTable, RecoversTo, TurnsTo};
+ghost use Rattle.front.specs.Fronts.{AddsNothing, CreatorOf, IsUnused, KnowsPath, KnowsTable, RecoversTo, RestsTo, TurnsTo};
+ghost use Rattle.front.specs.Path.{told_of};
 ghost use Rattle.front.specs.Recoveries.{squashed_by};
+ghost use Rattle.front.specs.Rests.{rested_after, told_after};
 ghost use Rattle.front.specs.Turns.{TurnAnswers};
 ghost use Rattle.station.specs.Looking.{SeesStation};
 ghost use Rattle.station.specs.Seats.{IsSame};
 
-use crate::answers::{Made, Recovery, Turn};
+use crate::answers::{Made, Recovery, Rest, Turn};
 use crate::dispatch::dispatch;
 use crate::fetch::fetch;
-use crate::path::{Counted, Creators, Path};
+use crate::path::{Base, Counted, Creators, Path};
 use crate::recovery::recover_on;
+use crate::rest::rest_on;
 use crate::training::guess;
 use isa::{Predictor, Program, Reg};
 use station::{Core, FrontSeat, Part, SeatOf, Seen, StationState, what_is_seen_is_legal};
@@ -28,16 +31,19 @@ pub struct Front<'a, P: Predictor + Drop> {
     path: Path,
     creators: Creators,
     predictor: P,
+    // a rest found nobody in flight, and there was no turn or recovery since
+    rested: bool,
 }
 
 impl<'a, P: Predictor + Drop> Model for Front<'a, P> {
     ghost use Rattle.front.specs.Fronts.{IsFront, TheFront};
+    ghost use Rattle.front.specs.Path.{told_of};
 
     ghost Value = { TheFront P };
 
-    ghost view = { λ f. record { core = f.seat.core; seen = f.seat.seen; predictor = f.predictor; touched = f.creators.counted.touched } };
+    ghost view = { λ f. record { core = f.seat.core; seen = f.seat.seen; predictor = f.predictor; touched = f.creators.counted.touched; told = told_of f.path.base; rested = f.rested } };
 
-    ghost invariant = { λ f. IsFront f.program.now f.seat f.path f.creators.counted };
+    ghost invariant = { λ f. IsFront f.program.now f.seat f.path f.creators.counted f.rested };
 }
 
 // Lets the next instruction, if that can be let.
@@ -54,11 +60,12 @@ fn turn_on<P: Predictor>(
     requires legal { IsLegal core.now.program core.now.sizes seat.old.seen }
     requires program { program.now ≡ core.now.program }
     requires knows { KnowsPath core.now seat.old.seen path.old }
-    requires table { KnowsTable core.now seat.old.seen creators.old }
+    requires table { KnowsTable core.now seat.old.seen path.old.base creators.old }
     ensures kept { IsSame seat.old seat.new }
-    ensures reply { TurnAnswers P.Predicts P.Learns core.now.program core.now.sizes seat.old.seen seat.new.seen predictor.old predictor.new result }
+    ensures reply { TurnAnswers P.Predicts P.Learns core.now.program core.now.sizes (told_of path.old.base) seat.old.seen seat.new.seen predictor.old predictor.new result }
+    ensures told { told_of path.new.base ≡ told_of path.old.base }
     ensures knows { KnowsPath core.now seat.new.seen path.new }
-    ensures table { KnowsTable core.now seat.new.seen creators.new }
+    ensures table { KnowsTable core.now seat.new.seen path.new.base creators.new }
     ensures touched { IsTouched 9 creators.old.touched creators.new.touched }
 {
     let next = match fetch(core, seat, path, program) {
@@ -83,14 +90,17 @@ impl<'a, P: Predictor + Drop> Front<'a, P> {
         ensures core { result.core ≡ core.now }
         ensures history { AddsNothing core.now seat.seen result.seen }
         ensures predictor { result.predictor ≡ predictor }
+        ensures told { result.told ≡ 0 }
     {
         what_is_seen_is_legal(&seat);
+        let base = Base::new(&seat);
         Front {
             seat,
             program,
-            path: Path::new(),
+            path: Path::new(base),
             creators: Creators::new(),
             predictor,
+            rested: false,
         }
     }
 
@@ -101,8 +111,10 @@ impl<'a, P: Predictor + Drop> Front<'a, P> {
         requires { self.old.core ≡ core.now }
         ensures core { self.new.core ≡ core.now }
         ensures reply { TurnsTo P.Predicts P.Learns core.now self.old self.new result }
+        ensures told { self.new.told ≡ self.old.told }
         ensures touched { IsTouched 16 self.old.touched self.new.touched }
     {
+        self.rested = false;
         turn_on(
             core,
             &mut self.seat,
@@ -119,15 +131,41 @@ impl<'a, P: Predictor + Drop> Front<'a, P> {
         requires { self.old.core ≡ core.now }
         ensures core { self.new.core ≡ core.now }
         ensures reply { RecoversTo core.now self.old self.new result }
+        ensures told { self.new.told ≡ self.old.told }
         ensures touched { IsTouched (4 * squashed_by result) self.old.touched self.new.touched }
         ensures predictor { self.new.predictor ≡ self.old.predictor }
     {
+        self.rested = false;
         recover_on(
             core,
             &mut self.seat,
             &mut self.path,
             &mut self.creators.counted,
         )
+    }
+
+    /// Whether anybody is in flight. If nobody is, the last tenants of the path go to the base registers, the
+    /// predictor is told of them, the oldest first, and they create no register any more; so the front can leave
+    /// its core. Takes no memory.
+    pub fn rest(&mut self, core: &Core) -> Rest
+        requires { self.old.core ≡ core.now }
+        ensures core { self.new.core ≡ core.now }
+        ensures reply { RestsTo P.Learns core.now self.old self.new result }
+        ensures told { self.new.told ≡ told_after core.now.program core.now.sizes self.old.told self.new.seen result }
+        ensures rested { self.new.rested ≡ rested_after self.old.rested result }
+        ensures touched { self.new.touched ≡ self.old.touched }
+    {
+        let rest = rest_on(
+            core,
+            &mut self.seat,
+            &mut self.path,
+            &mut self.creators,
+            &mut self.predictor,
+        );
+        if let Rest::Idle = rest {
+            self.rested = true;
+        }
+        rest
     }
 
     /// Who creates a register.
@@ -142,7 +180,7 @@ impl<'a, P: Predictor + Drop> Front<'a, P> {
                 station: creator.station,
                 tag: creator.tag,
             },
-            None => Made::Base(self.path.base[at]),
+            None => Made::Base(self.path.base.registers[at]),
         }
     }
 
@@ -162,6 +200,8 @@ impl<'a, P: Predictor + Drop> Front<'a, P> {
         ensures reply { SeesStation core.now.program core.now.sizes self.new.seen station result }
         ensures predictor { self.new.predictor ≡ self.old.predictor }
         ensures touched { self.new.touched ≡ self.old.touched }
+        ensures told { self.new.told ≡ self.old.told }
+        ensures rested { self.new.rested ≡ self.old.rested }
     {
         core.look(&mut self.seat, station)
     }
@@ -175,6 +215,8 @@ impl<'a, P: Predictor + Drop> Front<'a, P> {
         ensures told { StartsWith self.new.seen other.old.seen }
         ensures predictor { self.new.predictor ≡ self.old.predictor }
         ensures touched { self.new.touched ≡ self.old.touched }
+        ensures told_kept { self.new.told ≡ self.old.told }
+        ensures rested { self.new.rested ≡ self.old.rested }
         ensures other_kept { IsSame other.old other.new }
         ensures other_history { Adds core.now.program core.now.sizes other.old.by other.old.seen other.new.seen [] }
         ensures other_told { StartsWith other.new.seen self.new.seen }

@@ -9,10 +9,11 @@ mod fetch;
 mod path;
 mod queue;
 mod recovery;
+mod rest;
 #[cfg(test)]
 mod rows;
 mod supply;
 mod training;
 
-pub use answers::{Made, Recovery, Turn};
+pub use answers::{Made, Recovery, Rest, Turn};
 pub use dispatcher::Front;

@@ -1,25 +1,27 @@
 //! What the front knows of the path. Who writes a register is read from records and entries in this module
 //! alone, and all that a turn or a recovery reads or writes of them for that is counted.
-ghost use Rattle.std.specs.Prelude.{◌≡◌, ◌<◌, ◌≤◌, ◌++◌, ◌∷◌, [], length, replicate};
+ghost use Rattle.std.specs.Prelude.{◌≡◌, ◌<◌, ◌≤◌, ◌++◌, ◌∷◌, [], length, IfNone, IfSome};
 ghost use Rattle.front.specs.CreateTable.{IsEntered, IsTouched};
-ghost use Rattle.front.specs.Path.{Releases, made_of as made_of_record, half_behind, next_place, pc_behind, record_for};
+ghost use Rattle.front.specs.Path.{GoesOnWith, Released, Releases, made_of as made_of_record, half_behind, next_place, pc_behind, record_for};
 
+mod base_state;
 mod counted;
 mod creators;
 mod record;
 
 use crate::fetch::Fetched;
+pub use base_state::Base;
 pub use counted::{Counted, Creators};
-use isa::{Half, Program, pc_plus_4};
+use isa::{Half, pc_plus_4};
 use record::new_record;
 pub use record::{Record, Records};
+use station::FrontSeat;
 
-/// The tenants whose stations were not let again, and the registers before them: what the newest creators among
-/// the older tenants have made.
+/// The tenants whose stations were not let again since the front last rested, and what all older ones have left.
 #[derive(Drop)]
 pub struct Path {
     pub records: Records,
-    pub base: [u32; 34],
+    pub base: Base,
 }
 
 // What a tenant has made that left this value in its station's word.
@@ -35,33 +37,34 @@ fn made_of(tenant: &Record, left: u32) -> u32
 
 impl Path {
     /// An empty path.
-    pub fn new() -> Path
+    pub fn new(base: Base) -> Path
         ensures records { result.records ≡ [] }
-        ensures base { result.base ≡ replicate 34 0 }
+        ensures base { result.base ≡ base }
     {
         Path {
             records: Records::new(),
-            base: [0; 34],
+            base,
         }
     }
 
     /// Where the path goes on.
     pub fn front_pc(&self) -> u32
-        ensures { result ≡ pc_behind self.now.records }
+        ensures { result ≡ pc_behind self.now.base self.now.records }
     {
         match self.records.last() {
-            None => Program::START,
+            None => self.base.pc,
             Some(record) => record.next,
         }
     }
 
     /// The half that comes next.
     pub fn front_half(&self) -> Half
-        ensures { result ≡ half_behind self.now.records }
+        ensures { result ≡ half_behind self.now.base self.now.records }
     {
         match self.records.last() {
+            None => self.base.half,
             Some(record) if record.first => Half::High,
-            _ => Half::Low,
+            Some(_) => Half::Low,
         }
     }
 
@@ -69,11 +72,11 @@ impl Path {
     pub fn next_station(&self, ring: usize) -> usize
         requires least { 2 ≤ ring }
         requires most { ring ≤ 32 }
-        ensures value { result ≡ next_place ring self.now.records }
+        ensures value { result ≡ next_place ring self.now.base self.now.records }
         ensures small { result < ring }
     {
         match self.records.last() {
-            None => 0,
+            None => self.base.station % ring,
             Some(record) => (record.station % ring + 1) % ring,
         }
     }
@@ -90,12 +93,36 @@ impl Path {
             return None;
         }
         creators.touch();
+        self.fold(left)
+    }
+
+    /// The oldest goes to the base registers: it has left this value.
+    pub fn fold(&mut self, left: u32) -> Option<Record>
+        ensures some { IfSome result (λ x. Released left self.old x self.new) }
+        ensures none { IfNone result (self.old.records ≡ []) }
+        ensures none_changed { IfNone result (self.new ≡ self.old) }
+    {
         let record = self.records.shift()?;
         let r = record.destination as usize;
         if 0 < r && r < 34 {
-            self.base[r] = made_of(&record, left);
+            self.base.registers[r] = made_of(&record, left);
         }
         Some(record)
+    }
+
+    /// Where the path goes on is kept apart from its tenants.
+    pub fn keep_front(&mut self, ring: usize)
+        requires least { 2 ≤ ring }
+        requires most { ring ≤ 32 }
+        ensures records { self.new.records ≡ self.old.records }
+        ensures base { GoesOnWith ring self.old self.new.base }
+    {
+        let pc = self.front_pc();
+        let half = self.front_half();
+        let station = self.next_station(ring);
+        self.base.pc = pc;
+        self.base.half = half;
+        self.base.station = station;
     }
 
     /// A tenant is let: it is the youngest, and the newest writer of its register.

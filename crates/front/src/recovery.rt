@@ -57,15 +57,16 @@ fn squash_behind(
     requires by { seat.old.by ≡ front }
     requires legal { IsLegal core.now.program core.now.sizes seat.old.seen }
     requires knows { KnowsPath core.now seat.old.seen path.old }
-    requires table { KnowsTable core.now seat.old.seen creators.old }
+    requires table { KnowsTable core.now seat.old.seen path.old.base creators.old }
     requires miss { IsMissAt core.now.program core.now.sizes seat.old.seen path.old.records missed }
     ensures kept { IsSame seat.old seat.new }
     ensures history { IsCut core.now.program core.now.sizes seat.old.seen seat.new.seen result }
+    ensures base { path.new.base ≡ path.old.base }
     ensures knows { KnowsPath core.now seat.new.seen path.new }
     ensures miss { IsMissAt core.now.program core.now.sizes seat.new.seen path.new.records missed }
     ensures last { length path.new.records ≡ missed.at + 1 }
     ensures rest { path.new.records ≡ take (missed.at + 1) path.old.records }
-    ensures table { KnowsTable core.now seat.new.seen creators.new }
+    ensures table { KnowsTable core.now seat.new.seen path.new.base creators.new }
     ensures touched { IsTouched (2 * result) creators.old.touched creators.new.touched }
 {
     let all = path.records.len();
@@ -88,11 +89,12 @@ pub fn recover_on(
     requires by { seat.old.by ≡ front }
     requires legal { IsLegal core.now.program core.now.sizes seat.old.seen }
     requires knows { KnowsPath core.now seat.old.seen path.old }
-    requires table { KnowsTable core.now seat.old.seen creators.old }
+    requires table { KnowsTable core.now seat.old.seen path.old.base creators.old }
     ensures kept { IsSame seat.old seat.new }
     ensures reply { RecoverAnswers core.now.program core.now.sizes seat.old.seen seat.new.seen result }
+    ensures base { path.new.base ≡ path.old.base }
     ensures knows { KnowsPath core.now seat.new.seen path.new }
-    ensures table { KnowsTable core.now seat.new.seen creators.new }
+    ensures table { KnowsTable core.now seat.new.seen path.new.base creators.new }
     ensures touched { IsTouched (4 * squashed_by result) creators.old.touched creators.new.touched }
 {
     core.ring();

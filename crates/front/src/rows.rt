@@ -4,6 +4,8 @@ ghost use Rattle.inorder.specs.History.{IsLegal};
 ghost use Rattle.station.specs.Claiming.{Holds};
 ghost use Rattle.station.specs.Seats.{IsSame};
 
+mod rests;
+
 use crate::{Front, Made, Recovery, Turn};
 use isa::{Config, Instr, NotTaken, Outcome, Predictor, Program, Reg, outcome_of, parse};
 use station::{

@@ -13,7 +13,7 @@ pub fn supply(path: &Path, creators: &mut Counted, own: usize, r: Reg) -> Supply
     ensures small { r < 34 }
     ensures touched { IsTouched 2 creators.old.touched creators.new.touched }
 {
-    let known = Supply::Known(path.base[r.number() as usize]);
+    let known = Supply::Known(path.base.registers[r.number() as usize]);
     let Some(creator) = creators.find(r) else {
         return known;
     };

@@ -116,6 +116,16 @@ impl Creators {
         }
     }
 
+    /// The tenants that there are create no register any more. No turn and no recovery does this, and it is not
+    /// counted.
+    pub fn forget(&mut self)
+        ensures entries { self.new.counted.table.entries ≡ replicate 34 None }
+        ensures latest { self.new.counted.table.latest ≡ self.old.counted.table.latest }
+        ensures touched { self.new.counted.touched ≡ self.old.counted.touched }
+    {
+        self.counted.table.entries = [None; 34];
+    }
+
     /// The newest writer of a register, if its station was not let again.
     pub fn peek(&self, r: Reg) -> Option<Creator>
         ensures { Finds self.now.counted.table r result }

@@ -1,13 +1,13 @@
-use Rattle.std.proofs.Common.{◌≤◌, refl, sym, subst}
+use Rattle.std.proofs.Common.{◌≤◌, ℕ, refl, sym, ap, ◌∙◌, subst}
 use Rattle.front.specs.Knows.{Knows}
 use Rattle.inorder.specs.History.{unit_of}
-use Rattle.front.proofs.Releasing.{ready_now}
+use Rattle.front.proofs.Releasing.{ready_now, released_told}
 use Rattle.front.proofs.Splitting.{stays}
 use Rattle.front.proofs.Stays.{knows_stable}
 use Rattle.front.proofs.Tables.{table_stable, touched_more, touched_none}
 use Rattle.front.proofs.Turned.{is_let}
 use Rattle.front.specs.CreateTable.{HasTable}
-use Rattle.front.specs.Path.{Releases}
+use Rattle.front.specs.Path.{Releases, told_of}
 use Rattle.front.specs.declared.path.counted.Table.{Table}
 use Rattle.front.proofs.dispatcher.turn_on.Goals as goal
 
@@ -39,15 +39,15 @@ pub returns-in-Err-clause-table : goal.returns-in-Err-clause-table
 returns-in-Err-clause-table g c =
     let P = c.args.core.now.program in
     let C = c.args.core.now.sizes in
-    stays P C (λ U. HasTable P U c.args.creators.now.table) (table_stable P C c.args.creators.now.table) c.args.seat.now.seen c.fetch.new.seat.seen c.fetch.ensures.history c.requires.table
+    stays P C (λ U. HasTable P U (told_of c.args.path.now.base) c.args.creators.now.table) (table_stable P C (told_of c.args.path.now.base) c.args.creators.now.table) c.args.seat.now.seen c.fetch.new.seat.seen c.fetch.ensures.history c.requires.table
 
 pub dispatch-tag-requires-clause-table : goal.dispatch-tag-requires-clause-table
 dispatch-tag-requires-clause-table g c =
     let P = c.args.core.now.program in
     let C = c.args.core.now.sizes in
     let h = c.fetch.new.seat.seen in
-    subst (λ (T : Table). HasTable P (unit_of P C h) T) (sym c.release-left.ensures.table)
-    (stays P C (λ U. HasTable P U c.args.creators.now.table) (table_stable P C c.args.creators.now.table) c.args.seat.now.seen h c.fetch.ensures.history c.requires.table)
+    subst (λ (z : ℕ × Table). HasTable P (unit_of P C h) z.0 z.1) (λ i. (sym (released_told c.ring.result c.in-Ok.next.left c.args.path.now c.release-left.result c.release-left.new.self c.release-left.ensures.reply) i, sym c.release-left.ensures.table i))
+    (stays P C (λ U. HasTable P U (told_of c.args.path.now.base) c.args.creators.now.table) (table_stable P C (told_of c.args.path.now.base) c.args.creators.now.table) c.args.seat.now.seen h c.fetch.ensures.history c.requires.table)
 
 pub returns-clause-touched : goal.returns-clause-touched
 returns-clause-touched g c =
@@ -55,3 +55,8 @@ returns-clause-touched g c =
 
 pub returns-in-Err-clause-touched : goal.returns-in-Err-clause-touched
 returns-in-Err-clause-touched g c = touched_none _ _ _ refl
+
+pub returns-clause-told : goal.returns-clause-told
+returns-clause-told g c =
+    ap told_of c.dispatch-tag.ensures.base
+    ∙ released_told c.ring.result c.in-Ok.next.left c.args.path.now c.release-left.result c.release-left.new.self c.release-left.ensures.reply

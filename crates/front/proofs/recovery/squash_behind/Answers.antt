@@ -54,5 +54,6 @@ loop-missed-preserved c =
       kept = ap (take (m.at + 1)) same ∙ (sym (take_fewer one.rest one.last (m.at + 1) (omega (arith, many, long, whole))) ∙ (ap (take (m.at + 1)) (sym one.is) ∙ inv.kept));
       fewer = omega (arith, inv.fewer, long, whole, left);
       table = squash_table_done P C old new one.rest one.last base knows c.squash-station.result.0 c.squash-station.result.1 squashed c.loop-missed.creators.table c.restore.new.self.table inv.table c.restore.ensures.table;
+      base = inv.base;
       touched = touched_within _ _ _ _ (omega (arith, inv.fewer, long, whole, left)) (touched_more _ _ _ _ _ inv.touched c.restore.ensures.touched);
     }

@@ -1,5 +1,6 @@
 use Rattle.std.proofs.Common.{◌≡◌, ◌+◌, ◌*◌, ◌-◌, ◌≤◌, length, take}
 use Rattle.inorder.specs.History.{IsLegal, unit_of}
+use Rattle.front.specs.Path.{told_of}
 use Rattle.front.specs.CreateTable.{HasTable, IsTouched}
 use Rattle.front.specs.Knows.{Knows}
 use Rattle.front.specs.Recoveries.{IsCut, IsMissAt}
@@ -18,7 +19,8 @@ invariant-loop-missed l =
       long : l.missed.at + 1 ≤ length l.path.records;
       kept : take (l.missed.at + 1) l.path.records ≡ take (l.missed.at + 1) l.fn.path.records;
       fewer : length l.path.records ≤ l.all;
-      table : HasTable l.core.program (unit_of l.core.program l.core.sizes l.seat.seen) l.creators.table;
+      table : HasTable l.core.program (unit_of l.core.program l.core.sizes l.seat.seen) (told_of l.path.base) l.creators.table;
+      base : l.path.base ≡ l.fn.path.base;
       touched : IsTouched (2 * (l.all - length l.path.records)) l.fn.creators.touched l.creators.touched;
     }
 

@@ -1,0 +1,134 @@
+-- A rest.
+use Rattle.std.proofs.Common.{◌≡◌, ◌<◌, ◌-◌, [], length, refl, sym, ap, ◌∙◌, subst, arith}
+use Rattle.inorder.specs.History.{Adds, front, unit_of}
+use Rattle.inorder.proofs.Histories.{adds_on, unit_sound}
+use Rattle.station.specs.Seats.{Caller, TheCore}
+use Rattle.front.specs.CreateTable.{HasTable}
+use Rattle.front.specs.Knows.{IsFolded, Knows}
+use Rattle.front.specs.Path.{told_of}
+use Rattle.front.specs.Rests.{HasNobody, TellsRecords}
+use Rattle.front.specs.declared.path.Path.{Path}
+use Rattle.front.proofs.Folding.{folding_begins, knows_rested}
+use Rattle.front.proofs.Fronts.{forgotten}
+use Rattle.front.proofs.Idling.{HasSeen, seen_free, seen_none}
+use Rattle.front.proofs.Lefts.{all_told}
+use Rattle.front.proofs.Moments.{at_end}
+use Rattle.front.proofs.Named.{all_get, small_stations}
+use Rattle.front.proofs.Resting.{nobody_stable, somebody}
+use Rattle.front.proofs.Splitting.{stays}
+use Rattle.front.proofs.Stays.{knows_stable}
+use Rattle.front.proofs.Tables.{table_stable}
+use Rattle.front.proofs.rest.rest_on.Goals.{in-Some+in-Free, in_default}
+use Rattle.front.proofs.rest.rest_on.Goals as goal
+
+pub look-seen-requires-clause-station : goal.look-seen-requires-clause-station
+look-seen-requires-clause-station g c =
+    let P = c.args.core.now.program in
+    let C = c.args.core.now.sizes in
+    let U = unit_of P C c.args.seat.now.seen in
+    let records = c.args.path.now.records in
+    let base = c.args.path.now.base in
+    all_get (λ x. x.station < C.ring) records (small_stations P C c.args.seat.now.seen c.requires.legal records base (IsFolded U (told_of base)) c.requires.knows (omega (arith, c.ring-ring.ensures.value, c.ring-ring.ensures.least))) (length records - 1) c.in-Some.youngest (sym c.last.ensures ∙ c.in-Some.is)
+
+pub returns-in_default-state : goal.returns-in_default-state
+returns-in_default-state g c =
+    let P = c.args.core.now.program in
+    let C = c.args.core.now.sizes in
+    let old = c.args.seat.now.seen in
+    let new = c.look-seen.new.seat.seen in
+    let records = c.args.path.now.records in
+    let base = c.args.path.now.base in
+    let T = c.args.creators.now.counted.table in
+    let mine : Adds P C front old new [] = subst (λ i. Adds P C i old new []) c.requires.by c.look-seen.ensures.history in
+    record {
+      kept = c.look-seen.ensures.kept;
+      reply = record {
+        adds = mine;
+        live = at_end P C (λ U. ¬ HasNobody U) old new [] mine (somebody P C new mine.legal c.in-Some.youngest.station c.look-seen.result c.look-seen.ensures.reply c.in_default-state.not-Free);
+        predictor = refl;
+      };
+      told = refl;
+      records = refl;
+      knows = stays P C (λ U. Knows P C U records base) (knows_stable P C records base) old new mine c.requires.knows;
+      table = stays P C (λ U. HasTable P U (told_of base) T) (table_stable P C (told_of base) T) old new mine c.requires.table;
+      touched = refl;
+    }
+
+pub fold_all-requires-clause-folding : goal.fold_all-requires-clause-folding
+fold_all-requires-clause-folding g c =
+    let seen : HasSeen c.args.core.now c.args.seat.now c.match-last.seat = elim c.match-last.branch [
+      | in-Some+in-Free w ↦
+          let mine : Adds c.args.core.now.program c.args.core.now.sizes front c.args.seat.now.seen w.look-seen.new.seat.seen [] = subst (λ i. Adds c.args.core.now.program c.args.core.now.sizes i c.args.seat.now.seen w.look-seen.new.seat.seen []) c.requires.by w.look-seen.ensures.history in
+          subst (HasSeen c.args.core.now c.args.seat.now) (sym w.seat-is) (seen_free c.args.core.now c.args.seat.now w.look-seen.new.seat w.look-seen.ensures.kept c.args.path.now c.requires.knows mine w.in-Some.youngest (sym c.last.ensures ∙ w.in-Some.is) w.look-seen.result w.look-seen.ensures.reply w.in-Free.is)
+      | in_default w ↦
+          subst (HasSeen c.args.core.now c.args.seat.now) (sym w.seat-is) (seen_none c.args.core.now c.args.seat.now c.args.seat.now (record { core = refl; by = refl }) c.args.path.now c.requires.knows (record { begins = record { more = []; is = refl }; legal = c.requires.legal; mine = refl }) (sym c.last.ensures ∙ w.in_default.is))
+    ] in
+    let P = c.args.core.now.program in
+    let C = c.args.core.now.sizes in
+    let path = c.args.path.now in
+    let knows = stays P C (λ U. Knows P C U path.records path.base) (knows_stable P C path.records path.base) c.args.seat.now.seen c.match-last.seat.seen seen.adds c.requires.knows in
+    folding_begins c.args.core.now c.match-last.seat.seen seen.adds.legal path knows c.ring-ring.result c.ring-ring.ensures.value (omega (arith, c.ring-ring.ensures.value, c.ring-ring.ensures.least)) c.keep_front.new.self c.keep_front.ensures.records c.keep_front.ensures.base
+
+pub fold_all-requires-clause-nobody : goal.fold_all-requires-clause-nobody
+fold_all-requires-clause-nobody g c =
+    let seen : HasSeen c.args.core.now c.args.seat.now c.match-last.seat = elim c.match-last.branch [
+      | in-Some+in-Free w ↦
+          let mine : Adds c.args.core.now.program c.args.core.now.sizes front c.args.seat.now.seen w.look-seen.new.seat.seen [] = subst (λ i. Adds c.args.core.now.program c.args.core.now.sizes i c.args.seat.now.seen w.look-seen.new.seat.seen []) c.requires.by w.look-seen.ensures.history in
+          subst (HasSeen c.args.core.now c.args.seat.now) (sym w.seat-is) (seen_free c.args.core.now c.args.seat.now w.look-seen.new.seat w.look-seen.ensures.kept c.args.path.now c.requires.knows mine w.in-Some.youngest (sym c.last.ensures ∙ w.in-Some.is) w.look-seen.result w.look-seen.ensures.reply w.in-Free.is)
+      | in_default w ↦
+          subst (HasSeen c.args.core.now c.args.seat.now) (sym w.seat-is) (seen_none c.args.core.now c.args.seat.now c.args.seat.now (record { core = refl; by = refl }) c.args.path.now c.requires.knows (record { begins = record { more = []; is = refl }; legal = c.requires.legal; mine = refl }) (sym c.last.ensures ∙ w.in_default.is))
+    ] in
+    seen.nobody
+
+pub returns-clause-reply : goal.returns-clause-reply
+returns-clause-reply g c =
+    let seen : HasSeen c.args.core.now c.args.seat.now c.match-last.seat = elim c.match-last.branch [
+      | in-Some+in-Free w ↦
+          let mine : Adds c.args.core.now.program c.args.core.now.sizes front c.args.seat.now.seen w.look-seen.new.seat.seen [] = subst (λ i. Adds c.args.core.now.program c.args.core.now.sizes i c.args.seat.now.seen w.look-seen.new.seat.seen []) c.requires.by w.look-seen.ensures.history in
+          subst (HasSeen c.args.core.now c.args.seat.now) (sym w.seat-is) (seen_free c.args.core.now c.args.seat.now w.look-seen.new.seat w.look-seen.ensures.kept c.args.path.now c.requires.knows mine w.in-Some.youngest (sym c.last.ensures ∙ w.in-Some.is) w.look-seen.result w.look-seen.ensures.reply w.in-Free.is)
+      | in_default w ↦
+          subst (HasSeen c.args.core.now c.args.seat.now) (sym w.seat-is) (seen_none c.args.core.now c.args.seat.now c.args.seat.now (record { core = refl; by = refl }) c.args.path.now c.requires.knows (record { begins = record { more = []; is = refl }; legal = c.requires.legal; mine = refl }) (sym c.last.ensures ∙ w.in_default.is))
+    ] in
+    let P = c.args.core.now.program in
+    let C = c.args.core.now.sizes in
+    let path = c.args.path.now in
+    let new = c.fold_all.new.seat.seen in
+    let both : Adds P C front c.args.seat.now.seen new [] = adds_on P C front c.args.seat.now.seen c.match-last.seat.seen new [] [] seen.adds c.fold_all.ensures.history in
+    let nobody = stays P C HasNobody (nobody_stable P C) c.match-last.seat.seen new c.fold_all.ensures.history seen.nobody in
+    let knows = stays P C (λ U. Knows P C U path.records path.base) (knows_stable P C path.records path.base) c.args.seat.now.seen new both c.requires.knows in
+    let tells : TellsRecords g.P.Predictor.Learns path.records c.args.predictor.now c.fold_all.new.predictor = subst (λ z. TellsRecords g.P.Predictor.Learns z c.args.predictor.now c.fold_all.new.predictor) c.keep_front.ensures.records c.fold_all.ensures.tells in
+    record {
+      adds = both;
+      nobody = nobody;
+      tells = all_told g.P.Predictor.Learns P C (unit_of P C new) (unit_sound P C new both.legal) nobody path.records path.base knows c.args.predictor.now c.fold_all.new.predictor tells;
+    }
+
+pub returns-clause-knows : goal.returns-clause-knows
+returns-clause-knows g c =
+    let seen : HasSeen c.args.core.now c.args.seat.now c.match-last.seat = elim c.match-last.branch [
+      | in-Some+in-Free w ↦
+          let mine : Adds c.args.core.now.program c.args.core.now.sizes front c.args.seat.now.seen w.look-seen.new.seat.seen [] = subst (λ i. Adds c.args.core.now.program c.args.core.now.sizes i c.args.seat.now.seen w.look-seen.new.seat.seen []) c.requires.by w.look-seen.ensures.history in
+          subst (HasSeen c.args.core.now c.args.seat.now) (sym w.seat-is) (seen_free c.args.core.now c.args.seat.now w.look-seen.new.seat w.look-seen.ensures.kept c.args.path.now c.requires.knows mine w.in-Some.youngest (sym c.last.ensures ∙ w.in-Some.is) w.look-seen.result w.look-seen.ensures.reply w.in-Free.is)
+      | in_default w ↦
+          subst (HasSeen c.args.core.now c.args.seat.now) (sym w.seat-is) (seen_none c.args.core.now c.args.seat.now c.args.seat.now (record { core = refl; by = refl }) c.args.path.now c.requires.knows (record { begins = record { more = []; is = refl }; legal = c.requires.legal; mine = refl }) (sym c.last.ensures ∙ w.in_default.is))
+    ] in
+    let v = c.fold_all.new.seat in
+    let here : v.core ≡ c.args.core.now = c.fold_all.ensures.kept.core ∙ (seen.same.core ∙ c.requires.core) in
+    let new : Path = record { records = c.fold_all.new.path.records; base = record c.fold_all.new.path.base { rested = c.of.result } } in
+    let told : told_of new.base ≡ length (unit_of c.args.core.now.program c.args.core.now.sizes v.seen).tenants = ap (λ (z : Caller). length (unit_of z.core.program z.core.sizes z.seen).tenants) c.of.ensures ∙ ap (λ (z : TheCore). length (unit_of z.program z.sizes v.seen).tenants) here in
+    knows_rested c.args.core.now v.seen c.fold_all.new.path new c.fold_all.ensures.folding c.fold_all.ensures.none refl told refl refl refl refl
+
+pub returns-clause-table : goal.returns-clause-table
+returns-clause-table g c =
+    let seen : HasSeen c.args.core.now c.args.seat.now c.match-last.seat = elim c.match-last.branch [
+      | in-Some+in-Free w ↦
+          let mine : Adds c.args.core.now.program c.args.core.now.sizes front c.args.seat.now.seen w.look-seen.new.seat.seen [] = subst (λ i. Adds c.args.core.now.program c.args.core.now.sizes i c.args.seat.now.seen w.look-seen.new.seat.seen []) c.requires.by w.look-seen.ensures.history in
+          subst (HasSeen c.args.core.now c.args.seat.now) (sym w.seat-is) (seen_free c.args.core.now c.args.seat.now w.look-seen.new.seat w.look-seen.ensures.kept c.args.path.now c.requires.knows mine w.in-Some.youngest (sym c.last.ensures ∙ w.in-Some.is) w.look-seen.result w.look-seen.ensures.reply w.in-Free.is)
+      | in_default w ↦
+          subst (HasSeen c.args.core.now c.args.seat.now) (sym w.seat-is) (seen_none c.args.core.now c.args.seat.now c.args.seat.now (record { core = refl; by = refl }) c.args.path.now c.requires.knows (record { begins = record { more = []; is = refl }; legal = c.requires.legal; mine = refl }) (sym c.last.ensures ∙ w.in_default.is))
+    ] in
+    let v = c.fold_all.new.seat in
+    let here : v.core ≡ c.args.core.now = c.fold_all.ensures.kept.core ∙ (seen.same.core ∙ c.requires.core) in
+    let new : Path = record { records = c.fold_all.new.path.records; base = record c.fold_all.new.path.base { rested = c.of.result } } in
+    let told : told_of new.base ≡ length (unit_of c.args.core.now.program c.args.core.now.sizes v.seen).tenants = ap (λ (z : Caller). length (unit_of z.core.program z.core.sizes z.seen).tenants) c.of.ensures ∙ ap (λ (z : TheCore). length (unit_of z.program z.sizes v.seen).tenants) here in
+    forgotten c.args.core.now.program (unit_of c.args.core.now.program c.args.core.now.sizes v.seen) (told_of new.base) c.forget.new.self.counted.table told c.forget.ensures.entries (ap (λ z. length z) c.forget.ensures.latest ∙ c.requires.table.deep)

@@ -1,0 +1,39 @@
+//! What the path stands on.
+ghost use Rattle.std.specs.Prelude.{◌≡◌, replicate};
+ghost use Rattle.isa.specs.declared.op.Half.TheVariants.{Low};
+ghost use Rattle.isa.specs.Programs.{text_start};
+
+use isa::{Half, Program};
+use station::FrontSeat;
+use std::snapshot::Snapshot;
+
+/// What the tenants of the path that are not kept have left: the registers, and where the path goes on behind them
+/// if none is kept.
+#[derive(Drop)]
+pub struct Base {
+    pub registers: [u32; 34],
+    pub pc: u32,
+    pub half: Half,
+    pub station: usize,
+    // the front's seat when it last rested, or first: of its tenants nobody is told any more
+    pub rested: Snapshot<FrontSeat>,
+}
+
+impl Base {
+    /// Nothing was let.
+    pub fn new(seat: &FrontSeat) -> Base
+        ensures registers { result.registers ≡ replicate 34 0 }
+        ensures pc { result.pc ≡ text_start }
+        ensures half { result.half ≡ Low }
+        ensures station { result.station ≡ 0 }
+        ensures rested { result.rested.value ≡ seat.now }
+    {
+        Base {
+            registers: [0; 34],
+            pc: Program::START,
+            half: Half::Low,
+            station: 0,
+            rested: Snapshot::of(seat),
+        }
+    }
+}

@@ -1,0 +1,70 @@
+//! Coming to rest: all tenants of the path have left.
+ghost use Rattle.std.specs.Prelude.{◌≡◌, ◌≤◌, [], ◌∷◌, IfSome};
+ghost use Rattle.inorder.specs.History.{Adds, IsLegal, front, unit_of};
+ghost use Rattle.front.specs.Folding.{IsFolding, Leaves};
+ghost use Rattle.front.specs.Fronts.{AddsNothing, KnowsPath, KnowsTable};
+ghost use Rattle.front.specs.Path.{told_of};
+ghost use Rattle.front.specs.Rests.{HasNobody, RestAnswers, TellsRecords, told_after};
+ghost use Rattle.station.specs.Seats.{IsSame};
+
+use crate::answers::Rest;
+use crate::path::{Creators, Path};
+use isa::Predictor;
+use station::{Core, FrontSeat, StationState};
+use std::snapshot::Snapshot;
+
+// The tenants that are kept go to the base registers, the oldest first, and the predictor is told of them.
+fn fold_all<P: Predictor>(core: &Core, seat: &mut FrontSeat, path: &mut Path, predictor: &mut P)
+    requires core { seat.old.core ≡ core.now }
+    requires by { seat.old.by ≡ front }
+    requires legal { IsLegal core.now.program core.now.sizes seat.old.seen }
+    requires least { 2 ≤ core.now.sizes.ring }
+    requires folding { IsFolding core.now seat.old.seen path.old }
+    requires nobody { HasNobody (unit_of core.now.program core.now.sizes seat.old.seen) }
+    ensures kept { IsSame seat.old seat.new }
+    ensures history { AddsNothing core.now seat.old.seen seat.new.seen }
+    ensures folding { IsFolding core.now seat.new.seen path.new }
+    ensures none { path.new.records ≡ [] }
+    ensures tells { TellsRecords P.Learns path.old.records predictor.old predictor.new }
+{
+    while let Some(oldest) = path.records.at(0) {
+        let seen = core.look(seat, oldest.station);
+        path.fold(seen.value);
+        oldest.tell(predictor);
+    }
+}
+
+/// Whether anybody is in flight: the youngest tenant is, since tenants leave in order.
+pub fn rest_on<P: Predictor>(
+    core: &Core,
+    seat: &mut FrontSeat,
+    path: &mut Path,
+    creators: &mut Creators,
+    predictor: &mut P,
+) -> Rest
+    requires core { seat.old.core ≡ core.now }
+    requires by { seat.old.by ≡ front }
+    requires legal { IsLegal core.now.program core.now.sizes seat.old.seen }
+    requires knows { KnowsPath core.now seat.old.seen path.old }
+    requires table { KnowsTable core.now seat.old.seen path.old.base creators.old.counted }
+    ensures kept { IsSame seat.old seat.new }
+    ensures reply { RestAnswers P.Learns core.now.program core.now.sizes (told_of path.old.base) seat.old.seen seat.new.seen predictor.old predictor.new result }
+    ensures told { told_of path.new.base ≡ told_after core.now.program core.now.sizes (told_of path.old.base) seat.new.seen result }
+    ensures records { Leaves result path.old.records path.new.records }
+    ensures knows { KnowsPath core.now seat.new.seen path.new }
+    ensures table { KnowsTable core.now seat.new.seen path.new.base creators.new.counted }
+    ensures touched { creators.new.counted.touched ≡ creators.old.counted.touched }
+{
+    let ring = core.ring();
+    if let Some(youngest) = path.records.last() {
+        let seen = core.look(seat, youngest.station);
+        let StationState::Free = seen.state else {
+            return Rest::Live;
+        };
+    }
+    path.keep_front(ring);
+    fold_all(core, seat, path, predictor);
+    path.base.rested = Snapshot::of(seat);
+    creators.forget();
+    Rest::Idle
+}
