@@ -12,7 +12,7 @@ use Rattle.inorder.specs.Callers.{head_station}
 use Rattle.inorder.specs.Committed.{committed}
 use Rattle.inorder.specs.History.{Adds, IsLegal, back, unit_of}
 use Rattle.inorder.specs.Replies.{Has, IsNamed}
-use Rattle.inorder.specs.Tenants.{Tenant, Live}
+use Rattle.inorder.specs.Tenants.{Tenant}
 use Rattle.inorder.specs.Unit.{Sizes, at, is_old}
 use Rattle.inorder.proofs.Histories.{adds_on, starts_same, none_from, legal_before}
 use Rattle.station.specs.Seats.{TheCore}

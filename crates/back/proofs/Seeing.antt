@@ -17,7 +17,7 @@ use Rattle.ruu_words.specs.declared.station.StationState.{StationState}
 use Rattle.ruu_words.specs.declared.station.StationState.TheVariants.{Free, Open as ShowsOpen, Busy as ShowsBusy, Addr as ShowsAddr, Done as ShowsDone, Miss as ShowsMiss, Stop as ShowsStop}
 use Rattle.ruu_words.specs.Content.{HasValue, code}
 use Rattle.ruu_words.specs.States.{state_code}
-use Rattle.ruu_words.proofs.Stays.{tenant_stays, fact_stays}
+use Rattle.ruu_words.proofs.Stays.{fact_stays}
 use Rattle.station.specs.Looking.{Shows}
 use Rattle.station.specs.Seats.{Caller, IsSame}
 use Rattle.back.specs.Port.{AtStation, IsEntryOf, address_in, address_of, seen_as}

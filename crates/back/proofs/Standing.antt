@@ -10,7 +10,7 @@ use Rattle.inorder.specs.Replies.{Has}
 use Rattle.inorder.specs.Tenants.{Live, Tenant}
 use Rattle.inorder.specs.Unit.{Sizes, UpdateUnit, at}
 use Rattle.inorder.proofs.Histories.{legal_before, unit_sound}
-use Rattle.ruu_words.proofs.Stays.{tenant_stays, fact_stays}
+use Rattle.ruu_words.proofs.Stays.{fact_stays}
 use Rattle.station.specs.Moments.{WasOnce}
 use Rattle.back.specs.Loads.{IsLiveLoad, WasNotWaiting}
 use Rattle.back.specs.Port.{behind}

@@ -10,7 +10,6 @@ use Rattle.isa.specs.declared.op.Kind.{Kind}
 use Rattle.isa.specs.declared.op.Kind.TheVariants.{Computes, Jumps, Links, Loads, Stores}
 use Rattle.inorder.specs.declared.history.Entry.{Entry}
 use Rattle.inorder.specs.History.{Adds, IsLegal, StartsWith, back, taken_of, unit_of}
-use Rattle.inorder.specs.Laws.{IsRing, Names}
 use Rattle.inorder.specs.Replies.{Has, IsNamed, IsStale}
 use Rattle.inorder.specs.StationWords.{IsAddr, IsBusy, IsDone, IsFree, IsMiss, IsOpen, IsStop, HasFate, StationState as State, live_word, station_word}
 use Rattle.inorder.specs.Tenants.{Addr, Busy, Done, Fate, Live, Miss, Open, Squashed, Stopped, Tenant}
@@ -35,7 +34,7 @@ use Rattle.back.specs.declared.port.Load.{Load}
 use Rattle.back.proofs.PortStays.{asked_stays, length_grows, shown_stays}
 use Rattle.back.proofs.Seeing.{address_shown, by_code, index_inside, shown, was_there}
 use Rattle.back.proofs.Ranks.{InRing, in_ring}
-use Rattle.inorder.proofs.Recent.{among_all, names_recent, none_old, old_since, live_is_recent, live_is_last}
+use Rattle.inorder.proofs.Recent.{among_all, names_recent, old_since, live_is_recent, live_is_last}
 use Rattle.std.specs.List.{AllByRecursion}
 
 found : (t u : Tenant) → Some t ≡ Some u → t ≡ u
