@@ -78,11 +78,14 @@ fn fault_at(line: u64, kind: FaultKind) -> TextFault
     }
 }
 
-/// How many bytes of so few are colons.
-fn colons(bytes: &[u8]) -> u8 {
-    let mut colons = 0u8;
+/// How many bytes of so few are colons. They are counted in a byte, many at a time.
+fn colons(bytes: &[u8]) -> u8
+    requires { length bytes.now ≤ 255 }
+    ensures { result ≤ length bytes.now }
+{
+    let mut colons = 0;
     for b in bytes {
-        colons = colons.wrapping_add(u8::from(*b == b':'));
+        colons += u8::from(*b == b':');
     }
     colons
 }

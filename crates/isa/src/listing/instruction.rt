@@ -1,5 +1,5 @@
 //! An instruction: an operation and its operands.
-ghost use Rattle.std.specs.Prelude.{◌≡◌, Ok, Err, OnOk, IfErr};
+ghost use Rattle.std.specs.Prelude.{◌≡◌, None, Ok, Err, OnOk, IfErr};
 ghost use Rattle.std.specs.Option.{option_map};
 ghost use Rattle.text.specs.Operand.{operands_left};
 ghost use Rattle.isa.specs.Statement.{view, bare, fill, filled, instruction};
@@ -45,7 +45,9 @@ fn bare(op: Op) -> Instr
 
 impl<'a> Draft<'a> {
     /// A draft of no meaning, to be filled.
-    pub fn new() -> Draft<'a> {
+    pub fn new() -> Draft<'a>
+        ensures { view result ≡ record { instr = bare Op.Break; label = None } }
+    {
         let instr = bare(Op::Break);
         Draft { instr, label: None }
     }

@@ -62,8 +62,8 @@ fn tag_of(hash: u64) -> u8
     ((hash >> 32) % 255 + 1) as u8
 }
 
-// Looks at the buckets where the name may stand, up to a free one, and among the crowded names where
-// none is free.
+// Looks at the buckets where the name may stand, up to a free one, and among the crowded names
+// where none is free.
 fn look_up<'a>(
     entries: &[Entry<'a>],
     tags: &[u8],
