@@ -1,7 +1,9 @@
 mod Answered
 mod AsAlone
 mod Building
+mod ByHands
 mod Checked
+mod Driven
 mod Entered
 mod Lengths
 mod NotAsked

@@ -1,4 +1,5 @@
 //! Command lines, and the runs that they ask for.
+mod by_hand;
 mod checks;
 mod command_lines;
 mod failing;
