@@ -1,4 +1,5 @@
 mod Answered
 mod AsAlone
 mod Checked
+mod Driven
 mod WholeRuns

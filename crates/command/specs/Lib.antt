@@ -1,2 +1,3 @@
+pub mod ByHand
 pub mod Went
 pub mod Answers

@@ -9,6 +9,8 @@ use Rattle.bench.specs.declared.outcome.Fault.TheVariants as fault
 use Rattle.bench.specs.declared.outcome.Status.{Status}
 use Rattle.bench.specs.declared.outcome.Status.TheVariants as end
 use Rattle.counts.specs.declared.tally.Tally.{Tally as Totals}
+use Rattle.drive.specs.declared.script.Fault.{Fault as ScriptFault}
+use Rattle.drive.specs.declared.script.Fault.TheVariants as script
 use Rattle.pool.specs.declared.answer.Refusal.{Refusal as PoolRefusal}
 use Rattle.pool.specs.declared.answer.Refusal.TheVariants as pool
 use Rattle.command.specs.declared.went.Went.{Went}
@@ -45,6 +47,12 @@ refusal_of fault.Write = Write
 abbrev pub pool_refusal : PoolRefusal → Refusal
 pool_refusal pool.Memory = Memory
 pool_refusal pool.Thread = Thread
+
+-- what is refused where a script was not answered to its end
+abbrev pub script_refusal : ScriptFault → Refusal
+script_refusal script.Read = Read
+script_refusal script.Memory = Memory
+script_refusal script.Write = Write
 
 -- a run, or its refusal
 abbrev pub went_of : Result Went Refusal → Went

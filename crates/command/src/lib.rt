@@ -2,6 +2,7 @@
 #![tactic(auto)]
 
 mod checking;
+mod hand;
 mod one_thread;
 mod progress;
 mod running;
@@ -12,9 +13,10 @@ mod threads;
 mod went;
 
 pub use checking::check;
+pub use hand::go_by_hand;
 pub use progress::Progress;
 pub use requests::{
-    Asked, BranchPredictor, NoRun, Request, asked, is_standard_input, requested, status,
+    Asked, BranchPredictor, ByHand, NoRun, Request, asked, is_standard_input, requested, status,
 };
 pub use running::go;
 pub use went::{Line, Refusal, Went};

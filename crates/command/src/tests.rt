@@ -1,4 +1,5 @@
 //! Command lines, and the runs that they ask for.
+mod by_hand;
 mod checking;
 mod failing;
 mod handed_on;

@@ -1,9 +1,12 @@
 -- A transcript, line by line.
-use Rattle.std.proofs.Common.{◌≡◌, ℕ, ◌+◌, suc, List, [], ◌∷◌, ◌++◌, map, length, Option, Some, None, refl, sym, ap, ◌∙◌, subst, add-one}
+use Rattle.std.proofs.Common.{◌≡◌, ◌≢◌, ◌<◌, ℕ, ◌+◌, suc, List, [], ◌∷◌, ◌++◌, map, length, take, Option, Some, None, Result, Ok, Err, IfErr, IfSome, refl, sym, ap, ◌∙◌, subst, add-one}
+use Rattle.std.specs.Io.BufRead.{DropsThrough, take_through}
 use Rattle.std.specs.Io.KnownBytes.{Appends}
 use Rattle.std.proofs.KnownBytes.{Appends-trans}
 use Rattle.std.proofs.lemmas.List.{append-nil}
-use Rattle.drive.specs.Scripts.{AreTold, HasDriven, IsEnd, LineIsTold, line_of}
+use Rattle.drive.specs.declared.script.Fault.{Fault}
+use Rattle.drive.specs.declared.script.Fault.TheVariants.{Write}
+use Rattle.drive.specs.Scripts.{AreTold, HasBroken, HasDriven, HasTold, IsCut, IsEnd, LineIsTold, Reads, line_of}
 use Rattle.drive.specs.Sessions.{TheSession}
 use Rattle.drive.specs.Transcripts.{IsTold}
 
@@ -40,3 +43,26 @@ all_told from to a b c out more new count all end = record {
   all = subst (λ s. AreTold from to a s out new count) (sym end.same) (subst (λ o. AreTold from to a b out o count) (sym end.unwritten) all);
   ended = end.read;
 }
+
+-- A line that was read with what ends it
+pub reads : (from to : Option (List ℕ)) (old chunk : List ℕ) → old ≡ [] → IfSome from (λ xs. chunk ≡ old ++ take_through 10 xs) → DropsThrough from to 10 → Reads from to chunk
+reads None to old chunk empty is rest = tt
+reads (Some input) to old chunk empty is rest = (is ∙ ap (λ xs. xs ++ take_through 10 input) empty, rest)
+
+pub cut_short : (from to : Option (List ℕ)) (a b : TheSession) (number : ℕ) (out new : Option (List ℕ)) (chunk text bytes : List ℕ) →
+    Reads from to chunk → IsTold a b number (line_of chunk) text → bytes ≡ text → (n : ℕ) × (n < length bytes) × Appends out new (take n bytes) → IsCut from a number out new
+cut_short from to a b number out new chunk text bytes read told same part =
+    let whole = subst (λ (xs : List ℕ). (n : ℕ) × (n < length xs) × Appends out new (take n xs)) same part in
+    record { to = to; new = b; chunk = chunk; text = text; read = read; told = told; count = whole.0; part = whole.1; written = whole.2 }
+
+-- What holds at all holds where writing fails
+pub on_err : {T Q : Type 0} (r : Result T Fault) → Q → IfErr r (λ fault. fault ≡ Write → Q)
+on_err (Ok x) q = tt
+on_err (Err fault) q = λ is. q
+
+pub some_told : (from mid : Option (List ℕ)) (a b : TheSession) (out more : Option (List ℕ)) (count : ℕ) → AreTold from mid a b out more count → HasTold from a out more
+some_told from mid a b out more count all = record { to = mid; new = b; count = count; all = all }
+
+pub broken : (from mid : Option (List ℕ)) (a b : TheSession) (out more new : Option (List ℕ)) (count : ℕ) →
+    AreTold from mid a b out more count → IsCut mid b (count + 1) more new → HasBroken from a out new
+broken from mid a b out more new count all cut = record { to = mid; new = b; between = more; count = count; all = all; cut = cut }

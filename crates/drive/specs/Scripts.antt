@@ -1,5 +1,5 @@
 -- What is told of a whole script.
-use Rattle.std.specs.Prelude.{◌≡◌, ℕ, List, [], ◌∷◌, map, length, Option, Some, IfSome}
+use Rattle.std.specs.Prelude.{◌≡◌, ℕ, ◌+◌, ◌<◌, List, [], ◌∷◌, map, length, take, Option, Some, IfSome}
 use Rattle.std.specs.Io.BufRead.{drop_through, strip_last, take_through}
 use Rattle.std.specs.Io.KnownBytes.{Appends, IsAtEnd}
 use Rattle.drive.specs.Sessions.{TheSession}
@@ -55,3 +55,35 @@ pub record HasDriven (from : Option (List ℕ)) (old new : TheSession)
   pub count : ℕ
   pub all : AreTold from to old new before after count
   pub ended : IsAtEnd to
+
+-- Some lines were read from the first on, and what was written is their transcript
+pub record HasTold (from : Option (List ℕ)) (old : TheSession)
+    (before after : Option (List ℕ)) : Type 0 where
+  pub to : Option (List ℕ)
+  pub new : TheSession
+  pub count : ℕ
+  pub all : AreTold from to old new before after count
+
+-- A line was read and answered, and a proper beginning of what is told of it was written
+pub record IsCut (from : Option (List ℕ)) (old : TheSession) (number : ℕ)
+    (before after : Option (List ℕ)) : Type 0 where
+  pub to : Option (List ℕ)
+  pub new : TheSession
+  pub chunk : List ℕ
+  pub text : List ℕ
+  pub read : Reads from to chunk
+  pub told : IsTold old new number (line_of chunk) text
+  pub count : ℕ
+  pub part : count < length text
+  pub written : Appends before after (take count text)
+
+-- So many lines were answered, and what was written is their transcript and a beginning of what is
+-- told of one more
+pub record HasBroken (from : Option (List ℕ)) (old : TheSession)
+    (before after : Option (List ℕ)) : Type 0 where
+  pub to : Option (List ℕ)
+  pub new : TheSession
+  pub between : Option (List ℕ)
+  pub count : ℕ
+  pub all : AreTold from to old new before between count
+  pub cut : IsCut to new (count + 1) between after

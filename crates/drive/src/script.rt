@@ -1,8 +1,8 @@
 //! A whole script: each of its lines is answered before the next one is read.
-ghost use Rattle.std.specs.Prelude.{◌≡◌, ◌-◌, ◌^◌, ◌<◌, true, false, IfOk, OnOk};
+ghost use Rattle.std.specs.Prelude.{◌≡◌, ◌≢◌, ◌+◌, ◌-◌, ◌^◌, ◌<◌, true, false, IfErr, IfOk, OnOk};
 ghost use Rattle.std.specs.Io.BufRead.{strip_last};
 ghost use Rattle.devices.specs.Counted.{failures_of, known_by};
-ghost use Rattle.drive.specs.Scripts.{HasDriven, IsEnd, LineIsTold, line_of};
+ghost use Rattle.drive.specs.Scripts.{HasBroken, HasDriven, HasTold, IsCut, IsEnd, LineIsTold, line_of};
 
 use crate::lines::told;
 use crate::session::Session;
@@ -25,12 +25,22 @@ pub enum Fault {
 }
 
 impl From<AllocError> for Fault {
+    ghost use Rattle.std.specs.Prelude.{◌≡◌};
+    ghost use Rattle.drive.specs.declared.script.Fault.TheVariants.{Memory};
+
+    ghost from_gives = { λ _ fault. fault ≡ Memory };
+
     fn from(_error: AllocError) -> Fault {
         Fault::Memory
     }
 }
 
 impl From<WriteFailed> for Fault {
+    ghost use Rattle.std.specs.Prelude.{◌≡◌};
+    ghost use Rattle.drive.specs.declared.script.Fault.TheVariants.{Write};
+
+    ghost from_gives = { λ _ fault. fault ≡ Write };
+
     fn from(_failed: WriteFailed) -> Fault {
         Fault::Write
     }
@@ -71,6 +81,12 @@ fn tell_line<P: Predictor + Drop, J: Naming, R: Wait, I: BufRead, W: Write>(
     ensures end { IfOk result (λ more. more ≡ false →
         IsEnd (I.remaining reader.old) session.old session.new
         (known_by W.contents writer.old) (known_by W.contents writer.new)) }
+    ensures silent { IfErr result (λ fault. fault ≢ Fault.Write → writer.new ≡ writer.old) }
+    ensures write { IfErr result (λ fault. fault ≡ Fault.Write →
+        failures_of writer.new ≡ failures_of writer.old + 1) }
+    ensures cut { IfErr result (λ fault. fault ≡ Fault.Write →
+        IsCut (I.remaining reader.old) session.old number
+        (known_by W.contents writer.old) (known_by W.contents writer.new)) }
 {
     let mut chunk = Vec::new(alloc);
     let count = match reader.read_until(b'\n', &mut chunk) {
@@ -105,7 +121,18 @@ pub fn drive<P: Predictor + Drop, J: Naming, R: Wait, I: BufRead, W: Write>(
     writer: &mut Counted<W>,
 ) -> Result<(), Fault>
     requires { failures_of writer.old < 2 ^ 64 - 1 }
-    ensures { OnOk result (HasDriven (I.remaining reader.old) session.old session.new
+    ensures ok { OnOk result (HasDriven (I.remaining reader.old) session.old session.new
+        (known_by W.contents writer.old) (known_by W.contents writer.new)) }
+    ensures quiet { OnOk result (failures_of writer.new ≡ failures_of writer.old) }
+    // Where the script or memory ends early, some of its lines were answered, and those alone.
+    ensures told { IfErr result (λ fault. fault ≢ Fault.Write →
+        HasTold (I.remaining reader.old) session.old
+        (known_by W.contents writer.old) (known_by W.contents writer.new)) }
+    // Where the writer fails, a proper beginning of one more answer went out.
+    ensures write { IfErr result (λ fault. fault ≡ Fault.Write →
+        failures_of writer.new ≡ failures_of writer.old + 1) }
+    ensures broken { IfErr result (λ fault. fault ≡ Fault.Write →
+        HasBroken (I.remaining reader.old) session.old
         (known_by W.contents writer.old) (known_by W.contents writer.new)) }
 {
     for number in 0..u64::MAX {

@@ -1,6 +1,6 @@
 -- What the building of the command line comes to.
-use Rattle.std.proofs.Common.{◌≡◌, ◌∙◌, ap₂, true, ◌||◌, refl}
-use Rattle.clap.specs.Words.{AddsArg, App, Rule, is_simple, with_rule}
+use Rattle.std.proofs.Common.{◌≡◌, ◌∙◌, ap, ap₂, true, ◌||◌, refl}
+use Rattle.clap.specs.Words.{AddsArg, AddsSubcommand, App, Rule, app_of, is_simple, with_rule, with_subcommand}
 use Rattle.clap.specs.Faults.{is_simple_and_free}
 use Rattle.clap.proofs.OnLiterals.{clap_on_literals}
 use Rattle.clap.specs.declared.builder.arg.Arg.{Arg}
@@ -13,6 +13,11 @@ extended old arg adds = record {
   is = adds.shape arg.local ∙ ap₂ with_rule old.is arg.is;
   local = adds.globals ∙ ap₂ ◌||◌ old.local arg.local;
 }
+
+-- a command with one more below it
+pub joined : {app below : App} {old one new : Command} → app_of old ≡ app → IsCommand below one → AddsSubcommand old one new
+    → app_of new ≡ with_subcommand app below.top
+joined old one adds = adds.shape one.local ∙ ap₂ with_subcommand old (ap (λ (a : App). a.top) one.is)
 
 pub tool-is_simple : is_simple tool ≡ true
 unfolding clap_on_literals

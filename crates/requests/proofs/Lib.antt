@@ -1,4 +1,5 @@
 mod Building
+mod ByHands
 mod Entered
 mod NotAsked
 mod OddRings

@@ -9,7 +9,9 @@ use Rattle.clap.specs.declared.error.kind.ErrorKind.TheVariants.{DisplayHelp, Di
 use Rattle.requests.specs.declared.no_run.NoRun.{NoRun}
 use Rattle.requests.specs.declared.no_run.NoRun.TheVariants as no
 use Rattle.requests.specs.Tool.{tool}
-use Rattle.requests.specs.Request.{HasValues, HasValuesIn, IsCheckIn, IsNoRequestIn, IsRefusalOf, IsRefusedBy, IsRefusedIn}
+use Rattle.requests.specs.declared.request.ByHand.{ByHand}
+use Rattle.requests.specs.ByHand.{IsByHand, IsByHandIn, IsNotByHand}
+use Rattle.requests.specs.Request.{HasValues, HasValuesIn, IsCheckIn, IsNoOther, IsNoRequestIn, IsRefusalOf, IsRefusedBy, IsRefusedIn}
 use Rattle.requests.specs.Request.{IsUsage}
 
 no_help : (kinds : Kinds) → kinds ≡ [] → kinds ≢ DisplayHelp ∷ []
@@ -86,7 +88,7 @@ refused_by_clap words error (no.Usage _) (inr among) usage =
         no_version = λ is. alone (kind_of error) DisplayVersion (among_in (DisplayVersion ∷ []) is) usage.1.1;
         no_values = λ is. among_in [] is.taken;
       },
-      λ file is. among_in [] is.taken,
+      record { no_check = λ file is. among_in [] is.taken; no_drive = λ hand is. among_in [] is.taken },
     )
 refused_by_clap words error no.Ring has usage = absurd usage
 refused_by_clap words error no.Memory has usage = tt
@@ -111,13 +113,41 @@ pub run_is_no_check : (words : List Text) (rows : List Row) → subcommand_of to
 run_is_no_check words rows run file is =
     run_is_not_check (same_name (subcommand_of tool words) (codes "run") (codes "check") rows is.rows run is.matches)
 
+-- words of `run` and of `check` are none of `drive`
+run_is_not_drive : codes "run" ≢ codes "drive"
+run_is_not_drive is = absurd (grind arith)
+
+check_is_not_drive : codes "check" ≢ codes "drive"
+check_is_not_drive is = absurd (grind arith)
+
+run_is_no_drive : (words : List Text) (rows : List Row) → subcommand_of tool words ≡ Some (codes "run", rows)
+    → (hand : ByHand) → ¬ (IsByHandIn words hand)
+run_is_no_drive words rows run hand is =
+    run_is_not_drive (same_name (subcommand_of tool words) (codes "run") (codes "drive") rows is.rows run is.matches)
+
+check_is_no_drive : (words : List Text) (rows : List Row) → subcommand_of tool words ≡ Some (codes "check", rows)
+    → (hand : ByHand) → ¬ (IsByHandIn words hand)
+check_is_no_drive words rows check hand is =
+    check_is_not_drive (same_name (subcommand_of tool words) (codes "check") (codes "drive") rows is.rows check is.matches)
+
+drive_is_no_run : (words : List Text) (rows : List Row) → subcommand_of tool words ≡ Some (codes "drive", rows) → ¬ (HasValuesIn words)
+drive_is_no_run words rows drive run =
+    run_is_not_drive (same_name (subcommand_of tool words) (codes "run") (codes "drive") run.rows rows run.matches drive)
+
+drive_is_no_check : (words : List Text) (rows : List Row) → subcommand_of tool words ≡ Some (codes "drive", rows)
+    → (file : Text) → ¬ (IsCheckIn words file)
+drive_is_no_check words rows drive file is =
+    check_is_not_drive (same_name (subcommand_of tool words) (codes "check") (codes "drive") is.rows rows is.matches drive)
+
 -- what refuses the rows of `run` refuses the words
 pub refused_request : (words : List Text) (rows : List Row) (e : NoRun) → fault_of tool words ≡ []
     → subcommand_of tool words ≡ Some (codes "run", rows) → IsRefusedBy rows e
     → IsNoRequestIn words e
 refused_request words rows (no.Help _) taken matches refused = absurd refused
-refused_request words rows (no.Usage text) taken matches refused =
-    (refused_in words rows (no.Usage text) taken matches refused, run_is_no_check words rows matches)
+refused_request words rows (no.Usage text) taken matches refused = (
+  refused_in words rows (no.Usage text) taken matches refused,
+  record { no_check = run_is_no_check words rows matches; no_drive = run_is_no_drive words rows matches },
+)
 refused_request words rows no.Ring taken matches refused = refused_in words rows no.Ring taken matches refused
 refused_request words rows no.Memory taken matches refused = tt
 
@@ -139,20 +169,38 @@ no_file words rows (no.Usage _) taken matches none usage = (
     no_version = no_version (fault_of tool words) taken;
     no_values = λ is. run_is_not_check (same_name (subcommand_of tool words) (codes "run") (codes "check") is.rows rows is.matches matches);
   },
-  λ file is.
-      let same : is.rows ≡ rows = same_second (subcommand_of tool words) (codes "check") rows is.rows matches is.matches in
-      none-some file (sym none ∙ ap (first_of (codes "FILE")) (sym same) ∙ is.held),
+  record {
+    no_check = λ file is.
+        let same : is.rows ≡ rows = same_second (subcommand_of tool words) (codes "check") rows is.rows matches is.matches in
+        none-some file (sym none ∙ ap (first_of (codes "FILE")) (sym same) ∙ is.held);
+    no_drive = check_is_no_drive words rows matches;
+  },
 )
 no_file words rows no.Ring taken matches none usage = absurd usage
 no_file words rows no.Memory taken matches none usage = tt
 
--- words that name neither command
+-- words that name no command
 pub no_request : (words : List Text) (e : NoRun) → IsUsage e → fault_of tool words ≡ [] → ¬ (HasValuesIn words)
-    → ((file : Text) → ¬ (IsCheckIn words file)) → IsNoRequestIn words e
-no_request words (no.Help _) usage taken none unchecked = absurd usage
-no_request words (no.Usage text) usage taken none unchecked = (not_asked_in words (no.Usage text) usage taken none, unchecked)
-no_request words no.Ring usage taken none unchecked = absurd usage
-no_request words no.Memory usage taken none unchecked = tt
+    → IsNoOther words → IsNoRequestIn words e
+no_request words (no.Help _) usage taken none others = absurd usage
+no_request words (no.Usage text) usage taken none others = (not_asked_in words (no.Usage text) usage taken none, others)
+no_request words no.Ring usage taken none others = absurd usage
+no_request words no.Memory usage taken none others = tt
+
+-- words of `drive` whose values are refused
+pub not_by_hand : (words : List Text) (rows : List Row) (e : NoRun) → fault_of tool words ≡ []
+    → subcommand_of tool words ≡ Some (codes "drive", rows) → IsNotByHand rows → IsUsage e → IsNoRequestIn words e
+not_by_hand words rows e taken matches none usage =
+    no_request words e usage taken (drive_is_no_run words rows matches) (record {
+      no_check = drive_is_no_check words rows matches;
+      no_drive = λ hand is.
+          let same : is.rows ≡ rows = same_second (subcommand_of tool words) (codes "drive") rows is.rows matches is.matches in
+          none hand (subst (λ (r : List Row). IsByHand r hand) same is.held);
+    })
+
+-- a request for a unit to drive refuses a run
+pub drive_refuses : (words : List Text) (hand : ByHand) (e : NoRun) → IsUsage e → IsByHandIn words hand → IsRefusedIn words e
+drive_refuses words hand e usage is = not_asked_in words e usage is.taken (drive_is_no_run words is.rows is.matches)
 
 -- a request for a check refuses a run
 pub check_refuses : (words : List Text) (file : Text) (e : NoRun) → IsUsage e → IsCheckIn words file → IsRefusedIn words e

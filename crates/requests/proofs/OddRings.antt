@@ -8,10 +8,10 @@ use Rattle.isa.specs.declared.config.BadConfig.{BadConfig}
 use Rattle.isa.specs.declared.config.BadConfig.TheVariants.{Ring, Queue, Units, Limit, Turns}
 use Rattle.requests.specs.Request.{greatest}
 
-is_in : (least most n : ℕ) → least ≤ n → n ≤ most → is_from_to least most n ≡ true
+pub is_in : (least most n : ℕ) → least ≤ n → n ≤ most → is_from_to least most n ≡ true
 is_in least most n above below = ap₂ ◌&&◌ (le-leb least n above) (le-leb n most below)
 
-two_or_more : (ring : ℕ) → is_ring ring ≡ true → 2 ≤ ring
+pub two_or_more : (ring : ℕ) → is_ring ring ≡ true → 2 ≤ ring
 two_or_more zero is = absurd (false≢true is)
 two_or_more (suc zero) is = absurd (false≢true is)
 two_or_more (suc (suc n)) is = omega arith

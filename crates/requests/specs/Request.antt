@@ -8,10 +8,12 @@ use Rattle.clap.specs.declared.error.kind.ErrorKind.TheVariants.{DisplayHelp, Di
 use Rattle.isa.specs.Settings.{IsValid, is_ring}
 use Rattle.requests.specs.declared.request.Asked.{Asked}
 use Rattle.requests.specs.declared.request.BranchPredictor.{BranchPredictor}
+use Rattle.requests.specs.declared.request.ByHand.{ByHand}
 use Rattle.requests.specs.declared.request.Request.{Request}
-use Rattle.requests.specs.declared.request.Request.TheVariants.{Run, Check}
+use Rattle.requests.specs.declared.request.Request.TheVariants.{Run, Check, Drive}
 use Rattle.requests.specs.declared.no_run.NoRun.{NoRun}
 use Rattle.requests.specs.declared.no_run.NoRun.TheVariants as no
+use Rattle.requests.specs.ByHand.{IsByHandIn}
 use Rattle.requests.specs.Tool.{tool}
 use Rattle.requests.specs.Values.{IsNumber, IsNumberFrom, IsQueueCut, IsPredictor, is_true}
 
@@ -53,6 +55,7 @@ pub record IsCheckIn (words : List Text) (file : Text) : Type 0 where
 abbrev pub IsRequestIn : List Text → Request → Type 0
 IsRequestIn words (Run asked) = IsAskedIn words asked
 IsRequestIn words (Check file) = IsCheckIn words file.now
+IsRequestIn words (Drive hand) = IsByHandIn words hand
 
 -- the rows hold a file, and values in their ranges or none; the ring size may be any number
 pub record HasValues (rows : List Row) : Type 0 where
@@ -126,9 +129,14 @@ IsRefusedIn words (no.Usage _) = IsMistake words
 IsRefusedIn words no.Ring = IsOddRingIn words
 IsRefusedIn words no.Memory = ⊤
 
--- and why they ask for nothing: they are no good words of `check` either
+-- no good words of `check` or of `drive` either
+pub record IsNoOther (words : List Text) : Type 0 where
+  pub no_check : (file : Text) → ¬ (IsCheckIn words file)
+  pub no_drive : (hand : ByHand) → ¬ (IsByHandIn words hand)
+
+-- and why they ask for nothing
 abbrev pub IsNoRequestIn : List Text → NoRun → Type 0
 IsNoRequestIn words (no.Help text) = IsRefusedIn words (no.Help text)
-IsNoRequestIn words (no.Usage _) = IsMistake words × ((file : Text) → ¬ (IsCheckIn words file))
+IsNoRequestIn words (no.Usage _) = IsMistake words × IsNoOther words
 IsNoRequestIn words no.Ring = IsOddRingIn words
 IsNoRequestIn words no.Memory = ⊤

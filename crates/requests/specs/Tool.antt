@@ -33,12 +33,21 @@ run = with_rule (with_rule (with_rule (with_rule (with_rule (with_rule (with_rul
 abbrev pub check : App
 check = with_rule (new_app (codes "check")) file_rule
 
+-- `ruu drive`
+abbrev pub drive : App
+drive = with_rule (with_rule (with_rule (with_rule (with_rule (with_rule
+    (new_app (codes "drive")) file_rule)
+    (option_rule (codes "ruu-size"))) (option_rule (codes "lsq-size")))
+    (option_rule (codes "bpred"))) (option_rule (codes "first-tag")))
+    (flag_rule (codes "quiet-prompt"))
+
 -- `ruu`, which has a version
 abbrev pub with_version : App → App
 with_version = on_top (λ s. record s { has_version = true })
 
 abbrev pub tool : App
-tool = with_subcommand (with_subcommand (with_version (new_app (codes "ruu"))) run.top) check.top
+tool = with_subcommand (with_subcommand (with_subcommand (with_version (new_app (codes "ruu")))
+    run.top) check.top) drive.top
 
 -- the argument stands for this rule, in its own command alone
 pub record IsArg (rule : Rule) (arg : Arg) : Type 0 where

@@ -6,6 +6,7 @@ mod entries;
 mod no_run;
 mod options;
 mod reading;
+mod reading_by_hand;
 mod refusals;
 mod request;
 #[cfg(test)]
@@ -15,4 +16,4 @@ mod values;
 pub use chosen::{Chosen, choose};
 pub use no_run::{NoRun, status};
 pub use reading::{asked, requested};
-pub use request::{Asked, BranchPredictor, Request, is_standard_input};
+pub use request::{Asked, BranchPredictor, ByHand, Request, is_standard_input};

@@ -1,7 +1,7 @@
 //! The command line, as `clap` reads it and as its help shows it.
 ghost use Rattle.std.specs.Prelude.{◌≡◌, IfOk};
 ghost use Rattle.clap.specs.Words.{app_of};
-ghost use Rattle.requests.specs.Tool.{IsArg, IsCommand, tool, run, check};
+ghost use Rattle.requests.specs.Tool.{IsArg, IsCommand, tool, run, check, drive};
 ghost use Rattle.requests.specs.Tool.{file_rule, option_rule, flag_rule};
 
 use clap::{Arg, ArgAction, Command};
@@ -13,11 +13,13 @@ pub(crate) fn command<'a>(alloc: Global) -> Result<Command<'a>, AllocError>
 {
     let run = run(alloc)?;
     let check = check(alloc)?;
+    let by_hand = by_hand(alloc)?;
     let top = Command::new(alloc, "ruu");
     let named = top.about(ABOUT);
     let versioned = named.version(VERSION);
     let running = versioned.subcommand(run)?;
-    running.subcommand(check)
+    let checking = running.subcommand(check)?;
+    checking.subcommand(by_hand)
 }
 
 fn run<'a>(alloc: Global) -> Result<Command<'a>, AllocError>
@@ -47,6 +49,21 @@ fn check<'a>(alloc: Global) -> Result<Command<'a>, AllocError>
     ended.arg(file(alloc))
 }
 
+fn by_hand<'a>(alloc: Global) -> Result<Command<'a>, AllocError>
+    ensures { IfOk result (IsCommand drive) }
+{
+    let top = Command::new(alloc, "drive");
+    let named = top.about(DRIVE);
+    let ended = named.after_help(DRIVE_NOTES);
+    ended
+        .arg(file(alloc))?
+        .arg(option(alloc, "ruu-size", "N", RING))?
+        .arg(option(alloc, "lsq-size", "N", QUEUE))?
+        .arg(option(alloc, "bpred", "NAME", PREDICTOR))?
+        .arg(option(alloc, "first-tag", "N", FIRST_TAG))?
+        .arg(flag(alloc, "quiet-prompt", QUIET_PROMPT))
+}
+
 const ABOUT: &str =
     "An out-of-order core with a register update unit. 'ruu run --help' shows the options. \
     './ruu listing FILE' writes the listing of an executable.";
@@ -57,6 +74,9 @@ const VERSION: &str = "0.1.0\nrattle-kit-13b logic dac8208d650f15bf";
 const RUN: &str = "Runs a listing of MIPS I instructions and writes a report of how it ended";
 
 const CHECK: &str = "Reads a listing, runs nothing, and tells what it holds or where its fault is";
+
+const DRIVE: &str =
+    "Drives the unit of a listing by commands from standard input, one a line, and tells each answer";
 
 const FILE: &str =
     "The listing, one instruction a line, or - for standard input: see docs/LISTING.md";
@@ -77,6 +97,10 @@ const ALONE: &str = "Run the unit on one thread";
 
 const PROGRESS: &str = "Tell on standard error how far the threads are";
 
+const FIRST_TAG: &str = "Tag of each station's first tenant: 1 to 268435454 [default: 1]";
+
+const QUIET_PROMPT: &str = "Show no prompt on a terminal";
+
 const NOTES: &str = "\
 Example: ruu run examples/sum.s --ruu-size 8 --bpred taken
 
@@ -89,6 +113,14 @@ Example: ruu check examples/sum.s
 
 Exit status: 0 a good listing, 2 a fault in it, 3 a mistake on the command line,
 5 no memory, or a file could not be opened, read or written.";
+
+const DRIVE_NOTES: &str = "\
+Example: ruu drive examples/drive/relet.s --ruu-size 4 < examples/drive/relet.txt
+
+The commands are explained in docs/TEACHING.md.
+
+Exit status: 0 all commands were answered, 2 a fault in the listing, 3 a mistake on the
+command line, 5 no memory, or a file could not be opened, read or written.";
 
 fn file<'a>(alloc: Global) -> Arg<'a>
     ensures { IsArg file_rule result }

@@ -6,6 +6,7 @@ ghost use Rattle.requests.specs.Request.{IsRequestIn, IsNoRequestIn};
 
 use crate::entries::{file, number, predictor};
 use crate::options::command;
+use crate::reading_by_hand::by_hand;
 use crate::refusals::{refused, usage};
 use crate::values::is_true;
 use crate::{Asked, NoRun, Request};
@@ -32,7 +33,13 @@ pub fn requested<'a, S: AsStr>(alloc: Global, words: &'a [S]) -> Result<Request<
                     let listing = file(alloc, entered)?;
                     Ok(Request::Check(listing))
                 },
-                None => Err(usage(alloc, "there is no command")),
+                None => match matches.subcommand_matches("drive") {
+                    Some(driven) => {
+                        let hand = by_hand(alloc, driven)?;
+                        Ok(Request::Drive(hand))
+                    },
+                    None => Err(usage(alloc, "there is no command")),
+                },
             },
         },
         Err(error) => Err(refused(alloc, &error)),
@@ -47,6 +54,7 @@ pub fn asked<'a, S: AsStr>(alloc: Global, words: &'a [S]) -> Result<Asked<'a>, N
     match requested(alloc, words) {
         Ok(Request::Run(asked)) => Ok(asked),
         Ok(Request::Check(_)) => Err(usage(alloc, "check runs nothing")),
+        Ok(Request::Drive(_)) => Err(usage(alloc, "drive runs nothing by itself")),
         Err(no_run) => Err(no_run),
     }
 }

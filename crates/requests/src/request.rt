@@ -25,6 +25,18 @@ pub struct Asked<'a> {
     pub progress: bool,
 }
 
+/// What is to be driven by hand.
+#[derive(Clone, Copy)]
+pub struct ByHand<'a> {
+    /// The file of the listing; never standard input, from which the commands come.
+    pub file: &'a str,
+    /// Its units, limit and turns are those of a run that is asked for nothing more.
+    pub config: Config,
+    pub predictor: BranchPredictor,
+    /// No prompt is wanted, on a terminal either.
+    pub quiet_prompt: bool,
+}
+
 /// What the words of a command line ask for.
 #[derive(Clone, Copy)]
 pub enum Request<'a> {
@@ -32,6 +44,8 @@ pub enum Request<'a> {
     Run(Asked<'a>),
     /// That the listing in this file is read and checked, and not run.
     Check(&'a str),
+    /// That the unit is driven by commands.
+    Drive(ByHand<'a>),
 }
 
 /// Whether a FILE stands for standard input. A file of this name is `./-`.

@@ -5,6 +5,7 @@ ghost use Rattle.std.specs.Prelude.{◌≡◌};
 ghost use Rattle.std.specs.Process.{exit_status};
 ghost use Rattle.requests.specs.Statuses.{status_of};
 
+mod by_hand;
 mod teller;
 
 use command::{Asked, Line, NoRun, Request, Went, check, go, is_standard_input, requested, status};
@@ -26,6 +27,7 @@ fn main(rt: HostRuntime) -> ExitCode {
     match requested(rt.alloc(), words.as_slice()) {
         Ok(Request::Run(asked)) => run(&rt, &rt, &asked),
         Ok(Request::Check(file)) => check_file(&rt, file),
+        Ok(Request::Drive(hand)) => end(&rt, by_hand::drive(&rt, &rt, &hand)),
         Err(no_run) => refuse(&rt, &no_run),
     }
 }

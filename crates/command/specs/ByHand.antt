@@ -1,0 +1,53 @@
+-- What is told where a unit is driven by hand.
+use Rattle.std.specs.Prelude.{◌≡◌, ◌⊎◌, ◌<◌, ℕ, List, Option, Result, Ok, Err, length, take}
+use Rattle.std.specs.Io.KnownBytes.{Appends}
+use Rattle.isa.specs.declared.listing.fault.FaultKind.{FaultKind}
+use Rattle.isa.specs.Programs.{Program}
+use Rattle.isa.specs.Report.{fault_line}
+use Rattle.drive.specs.Sessions.{IsStart, TheSession}
+use Rattle.drive.specs.Scripts.{HasBroken, HasDriven, HasTold}
+use Rattle.requests.specs.declared.request.ByHand.{ByHand}
+
+-- all commands of a script were answered, for a program from its start on
+pub record IsTranscriptOf (hand : ByHand) (P : Program) (status : ℕ) (script before after : Option (List ℕ)) :
+    Type 0 where
+  pub status_is : status ≡ 0
+  pub first : TheSession
+  pub last : TheSession
+  pub starts : IsStart P hand.config first
+  pub driven : HasDriven script first last before after
+
+-- what is told for a listing and a script: a transcript, or the fault of the listing
+abbrev pub IsDriven : ByHand → Result Program (ℕ × FaultKind) → (status : ℕ)
+    → (script before after : Option (List ℕ)) → Type 0
+IsDriven hand (Ok P) status script before after = IsTranscriptOf hand P status script before after
+IsDriven hand (Err f) status script before after =
+    (status ≡ 2) × Appends before after (fault_line f.0 f.1)
+
+-- some commands were answered, and no other
+pub record HasToldSome (hand : ByHand) (P : Program) (script before after : Option (List ℕ)) : Type 0 where
+  pub first : TheSession
+  pub starts : IsStart P hand.config first
+  pub told : HasTold script first before after
+
+-- what was written where reading, or memory, came to an end too early
+abbrev pub IsLeft : ByHand → Result Program (ℕ × FaultKind) → (script before after : Option (List ℕ)) → Type 0
+IsLeft hand (Ok P) script before after = (after ≡ before) ⊎ HasToldSome hand P script before after
+IsLeft hand (Err f) script before after = after ≡ before
+
+-- some commands were answered, and of the answer to one more a proper beginning was written
+pub record HasBrokenOff (hand : ByHand) (P : Program) (script before after : Option (List ℕ)) : Type 0 where
+  pub first : TheSession
+  pub starts : IsStart P hand.config first
+  pub broken : HasBroken script first before after
+
+-- a proper beginning of a text was written
+pub record IsPart (text : List ℕ) (before after : Option (List ℕ)) : Type 0 where
+  pub count : ℕ
+  pub part : count < length text
+  pub written : Appends before after (take count text)
+
+-- what was written where the writer failed
+abbrev pub IsBroken : ByHand → Result Program (ℕ × FaultKind) → (script before after : Option (List ℕ)) → Type 0
+IsBroken hand (Ok P) script before after = HasBrokenOff hand P script before after
+IsBroken hand (Err f) script before after = IsPart (fault_line f.0 f.1) before after

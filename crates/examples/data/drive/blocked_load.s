@@ -1,0 +1,6 @@
+# A load of what the store before it writes.
+        .space 4
+        addiu $1,$0,7
+        sw    $1,0($0)
+        lw    $2,0($0)
+        break

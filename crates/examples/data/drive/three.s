@@ -1,0 +1,4 @@
+        addiu $1,$0,1
+        addiu $2,$0,2
+        addiu $3,$0,3
+        break

@@ -1,0 +1,109 @@
+#!/usr/bin/env bash
+# Drives units by the scripts of examples/drive: what is written is the transcript beside each. The first line of a script
+# is its command line. Then what goes wrong: a listing with a fault or none, a full device, want of memory; and the prompt.
+. "$(dirname "$0")/common.bash"
+build_refuse
+build run ruu
+ruu=crates/ruu/out/ruu
+
+words_of() { # script
+  local first
+  read -r first < "$1"
+  [[ $first = '# ruu drive '* ]] || fail "$1 does not begin with its command line"
+  read -r -a words <<< "${first#\# ruu drive }"
+}
+
+is_told() { # name, what is told, status, standard error
+  [ "$status" -eq "$3" ] || fail "$1: status $status, and not $3"
+  cmp -s "$work/out" "$2" || { diff "$2" "$work/out"; fail "$1 is told otherwise"; }
+  [ "$(cat "$work/err")" = "$4" ] || fail "$1: another line on standard error"
+}
+
+drive() { # script, words
+  local script=$1
+  shift
+  "$ruu" drive "$@" < "$script" > "$work/out" 2> "$work/err"
+  status=$?
+}
+
+count=0
+for script in examples/drive/*.txt; do
+  words_of "$script"
+  drive "$script" "${words[@]}"
+  is_told "$script" "${script%.txt}.told" 0 ''
+  count=$((count + 1))
+done
+[ $count -gt 10 ] || fail "only $count scripts"
+echo "$count scripts are told as they should be"
+
+: > "$work/none"
+script=examples/drive/relet.txt
+drive "$script" "$work/nowhere.s"
+is_told 'a listing that is not there' "$work/none" 5 'ruu: open'
+drive "$script" examples
+is_told 'a folder as the listing' "$work/none" 5 'ruu: read'
+printf 'fault line 2 BadOperands\n' > "$work/fault"
+printf 'nop\nadd $1,$2\n' > "$work/fault.s"
+drive "$script" "$work/fault.s"
+is_told 'a listing with a fault' "$work/fault" 2 ''
+drive "$script" - 2> "$work/err"
+[ $status -eq 3 ] && [ ! -s "$work/out" ] || fail "standard input as the listing: status $status"
+"$ruu" drive examples/drive/relet.s < examples/drive > "$work/out" 2> "$work/err"
+status=$?
+is_told 'a folder as the script' "$work/none" 5 'ruu: read'
+"$ruu" drive examples/drive/relet.s < "$script" > /dev/full 2> "$work/err"
+status=$?
+: > "$work/out"
+is_told 'a full device' "$work/none" 5 'ruu: write'
+printf 'turn\r\n\r\n\tlook 0 # a comment' > "$work/script"
+printf 'Let station 0 tag 1 pc 0x00400000\nSeen tag 1 state OPEN value 0x00000000\n' > "$work/told"
+drive "$work/script" examples/double.s
+is_told 'lines that end otherwise' "$work/told" 0 ''
+echo 'what goes wrong has its word and its status'
+
+# each allocation is refused in turn: the refusal is named behind a beginning of the answers, or a snapshot was not
+# shown, or all is told as before
+for name in relet snapshot; do
+  words_of "examples/drive/$name.txt"
+  n=0 refused=0
+  while :; do
+    n=$((n + 1))
+    run_under "examples/drive/$name.txt" REFUSED=$n "$ruu" drive "${words[@]}"
+    $was_refused || break
+    ! $is_held || fail "$name, allocation $n refused: a block was held at the end"
+    if [ "$status" -eq 5 ] && [ "$said" = 'ruu: memory' ]; then
+      cmp -s -n "$(stat -c %s "$work/out")" "$work/out" "examples/drive/$name.told" || grep -qx Memory "$work/out" \
+        || fail "$name, allocation $n refused: the answers before it differ"
+      refused=$((refused + 1))
+    elif ! grep -qx Memory "$work/out"; then
+      [ "$status" -eq 0 ] && cmp -s "$work/out" "examples/drive/$name.told" || fail "$name, allocation $n refused: status $status"
+    fi
+  done
+  [ $refused -gt 0 ] || fail "$name: no refusal was told of, of $((n - 1))"
+  echo "$name: each of $((n - 1)) allocations was refused in turn, $refused told"
+done
+
+# a prompt before each command, on a terminal alone, and not where it is unwanted
+prompts() { # options
+  python3 - "$ruu" "$@" <<'END'
+import os, pty, sys
+pid, terminal = pty.fork()
+if pid == 0:
+    os.execv(sys.argv[1], [sys.argv[1], "drive", "examples/double.s", *sys.argv[2:]])
+os.write(terminal, b"turn\nturn\n\x04")
+told = b""
+while True:
+    try:
+        more = os.read(terminal, 4096)
+    except OSError:
+        break
+    if not more:
+        break
+    told += more
+os.waitpid(pid, 0)
+print(told.count(b"> "), told.count(b"Let station"))
+END
+}
+[ "$(prompts)" = '3 2' ] || fail "a terminal has other prompts: $(prompts)"
+[ "$(prompts --quiet-prompt)" = '0 2' ] || fail "prompts though they are unwanted: $(prompts --quiet-prompt)"
+echo 'a prompt stands before each command on a terminal, unless it is unwanted'
