@@ -11,7 +11,7 @@ use Rattle.isa.specs.Programs.{address}
 use Rattle.isa.specs.Report.{hex_digit, hex8}
 use Rattle.isa.specs.InstrText.{label_text}
 use Rattle.isa.specs.Listing.{is_double}
-use Rattle.conversion.proofs.Lookups.{lookup_keep, lookup_push}
+use Rattle.isa.proofs.LabelTable.{lookup_push, lookup_keep}
 use Rattle.conversion.specs.Writing.{marked, with_mark}
 use Rattle.conversion.proofs.Few.{all_under, under}
 

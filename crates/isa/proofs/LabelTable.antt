@@ -1,11 +1,24 @@
 -- The labels of a line, label after label.
-use Rattle.std.proofs.Common.{◌≡◌, ℕ, true, false, List, [], ◌∷◌, ◌++◌, None, refl, sym, ◌∙◌, append_assoc}
+use Rattle.std.proofs.Common.{◌≡◌, ℕ, Bool, true, false, cond, List, [], ◌∷◌, ◌++◌, Option, Some, None, refl, sym, ap, ◌∙◌, append_assoc, inl, inr}
 use Rattle.std.specs.Prelude.{is_some}
 use Rattle.std.specs.Map.{lookup}
 use Rattle.std.specs.Str.{bytes_eq}
+use Rattle.std.proofs.lemmas.Bool.{cases_Bool}
 use Rattle.std.proofs.lemmas.List.{append-nil}
 use Rattle.text.specs.Label.{labels_of}
 use Rattle.isa.specs.Listing.{is_double, at}
+
+-- a name behind pairs without it, and another name
+pub lookup_push : (t : List ℕ → Bool) (ps : List (List ℕ × ℕ)) (k : List ℕ) (v : ℕ) → lookup t ps ≡ None → lookup t (ps ++ (k, v) ∷ []) ≡ cond (t k) (Some v) None
+lookup_push t [] k v e = refl
+lookup_push t (p ∷ ps) k v e = elim (cases_Bool (t p.0)) [
+  | inl is ↦ let bad : Some p.1 ≡ None = rw is at e in absurd cc
+  | inr not ↦ let others : lookup t ps ≡ None = rw not at e in rw not (lookup_push t ps k v others)
+]
+
+pub lookup_keep : (t : List ℕ → Bool) (ps : List (List ℕ × ℕ)) (k : List ℕ) (v : ℕ) → t k ≡ false → lookup t (ps ++ (k, v) ∷ []) ≡ lookup t ps
+lookup_keep t [] k v e = rw e refl
+lookup_keep t (p ∷ ps) k v e = ap (cond (t p.0) (Some p.1)) (lookup_keep t ps k v e)
 
 -- the labels up to here are held behind those before the line
 pub record LabelsSoFar (n : ℕ) (before held : List (List ℕ × ℕ)) (rest all : List (List ℕ)) : Type 0 where

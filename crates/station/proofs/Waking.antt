@@ -1,5 +1,5 @@
 -- Which stations the deliveries of a caller are to.
-use Rattle.std.proofs.Common.{◌≡◌, ◌⊎◌, ℕ, ◌<◌, ◌*◌, ◌%◌, ◌^◌, ◌||◌, bit_or, w32, Bool, true, false, List, [], ◌∷◌, ◌++◌, map, refl, sym, ◌∙◌, subst, inl, inr, ⊎_elim, arith}
+use Rattle.std.proofs.Common.{◌≡◌, ◌⊎◌, ℕ, ◌<◌, ◌*◌, ◌%◌, ◌^◌, ◌||◌, bit_or, w32, Bool, true, false, List, [], ◌∷◌, ◌++◌, map, refl, sym, ◌∙◌, subst, inl, inr, ⊎_elim, arith, ap}
 use Rattle.std.proofs.lemmas.Nat.Bits.{bit_at-zero, bit_at_set_other, bit_at_set_same}
 use mathlib.Core.Logic.{dite}
 use native.Mathlib.Decide.{ℕ_discrete}
@@ -15,7 +15,7 @@ use Rattle.inorder.specs.declared.history.Refusal.{Refusal}
 use Rattle.inorder.specs.declared.history.Refusal.TheVariants.{Stale}
 use Rattle.inorder.specs.declared.history.Source.{Source}
 use Rattle.inorder.specs.declared.history.Step.TheVariants.{On}
-use Rattle.inorder.specs.History.{Adds, IsLegal, entry, unit_of}
+use Rattle.inorder.specs.History.{Adds, IsLegal, entry, renewals, unit_of}
 use Rattle.inorder.specs.Replies.{Has}
 use Rattle.inorder.specs.Unit.{Sizes}
 use Rattle.inorder.proofs.Histories.{adds_on, legal_before, unit_lasts}
@@ -24,7 +24,7 @@ use Rattle.ruu_words.specs.declared.place.Place.{Place}
 use Rattle.ruu_words.specs.declared.rule.View.{View}
 use Rattle.ruu_words.specs.Kinds.{Delivers, Finds, Finishes, IsAny, IsTenant, ReadsLink, Settles}
 use Rattle.ruu_words.specs.Rule.{Grows}
-use Rattle.ruu_words.proofs.Stays.{any_stays}
+use Rattle.ruu_words.proofs.Stays.{any_stays, same_before}
 use Rattle.station.specs.Carrying.{EndsWalk}
 use Rattle.station.specs.Steps.{Sees}
 use Rattle.station.specs.Waking.{HasWoken, IsAmong, IsSet, IsWith, Wakes}
@@ -168,7 +168,7 @@ module _ (P : Program) (C : Sizes) where
   pub wakes_ending : (by s g q : ℕ) (v w : View) → (e : Grows P C by v w (EndsWalk P C s g)) → IsTenant (unit_of P C v.seen) q s g IsAny → Wakes P C by v.seen w.seen (λ s. ⊥)
   wakes_ending by s g q v w e named =
       let legal = legal_before P C (map (entry by) e.events) (e.between ++ v.seen) (subst (IsLegal P C) e.is e.legal) in
-      let added = (e.kind q (any_stays P C q s g e.between v.seen legal named)).added in
+      let added = (e.kind q (any_stays P C q s g e.between v.seen legal (same_before P C by v w (EndsWalk P C s g) e) named)).added in
       wakes_nobody by v.seen w.seen (Marks (Walked q) ∷ []) (adds_these P C by v w (EndsWalk P C s g) (Marks (Walked q) ∷ []) e added) (none_in_mark (Walked q))
 
   -- The exchange of an operand
@@ -180,7 +180,8 @@ module _ (P : Program) (C : Sizes) where
     there : (f : Found) → Has (unit_of P C w.seen) f.p (λ t. t.station ≡ c)
     there f =
         let legal = subst (IsLegal P C) step.is step.legal in
-        let named = any_stays P C f.p c g (map (entry by) step.events) (step.between ++ v.seen) legal f.tenant in
+        let same = sym (ap renewals step.is) ∙ step.same ∙ sym (same_before P C by v w (Delivers P C c k g old n) step) in
+        let named = any_stays P C f.p c g (map (entry by) step.events) (step.between ++ v.seen) legal same f.tenant in
         subst (λ z. Has (unit_of P C z) f.p (λ t. t.station ≡ c)) (sym step.is) (record { tenant = named.tenant; is = named.is; fact = named.station_is })
 
     hit : (f : Found) → Wakes P C by v.seen w.seen (λ s. s ≡ c)
