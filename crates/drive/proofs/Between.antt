@@ -9,11 +9,11 @@ use Rattle.front.specs.declared.answers.Turn.TheVariants.{Full, Let, NoInstr, Qu
 use Rattle.front.specs.Turns.{IsRefusal as WasRefused, TurnAnswers}
 use Rattle.drive.specs.Replies.{IsRefusal, TurnSays}
 
-module _ {S : Type 0} (Predicts : S → ℕ → Instr → ℕ → S → Type 0) (Learns : S → ℕ → ℕ → S → Type 0) (P : Program) (C : Sizes) (old new : List Entry) (before after : S) where
+module _ {S : Type 0} (Predicts : S → ℕ → Instr → ℕ → S → Type 0) (Learns : S → ℕ → ℕ → S → Type 0) (P : Program) (C : Sizes) (told : ℕ) (old new : List Entry) (before after : S) where
   refused : (turn : Turn) → WasRefused P C old new before after turn → IsRefusal P C old new turn
   refused turn r = record { adds = r.adds; was = r.was }
 
-  pub turn_says : (turn : Turn) → TurnAnswers Predicts Learns P C old new before after turn → TurnSays P C old new turn
+  pub turn_says : (turn : Turn) → TurnAnswers Predicts Learns P C told old new before after turn → TurnSays P C old new turn
   turn_says Full r = refused Full r
   turn_says NoInstr r = refused NoInstr r
   turn_says QueueFull r = refused QueueFull r

@@ -98,4 +98,4 @@ IsLook core old new station seen =
 -- Who creates a register
 abbrev pub IsCreatorNow : TheCore → List Entry → List Entry → ℕ → Made → Type 0
 IsCreatorNow core old new register made =
-    IsBetween old new (λ before behind. IsCreator core.program (unit_in core behind) register made)
+    IsBetween old new (λ before behind. IsCreator core.program (unit_in core behind) 0 register made)

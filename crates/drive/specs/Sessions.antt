@@ -34,13 +34,14 @@ pub record TheSession : Type 0 where
   pub mark : Option Mark
   pub touched : ℕ
 
--- Its parts are of one core
+-- Its parts are of one core, and its front never rested
 pub record IsWhole (P : Program) (core : TheCore) (program : Program) (all : Caller)
-    (front_core : TheCore) (commits : TheBack) (units : List (Option Worker)) (count : ℕ) : Type 0 where
+    (front_core : TheCore) (front_told : ℕ) (commits : TheBack) (units : List (Option Worker)) (count : ℕ) : Type 0 where
   pub named : core.program ≡ P
   pub program_is : program ≡ core.program
   pub all_core : all.core ≡ core
   pub front_is : front_core ≡ core
+  pub told_none : front_told ≡ 0
   pub back_core : commits.core ≡ core
   pub back_by : commits.by ≡ back
   pub workers : AreWorkers core units

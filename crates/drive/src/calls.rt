@@ -20,6 +20,7 @@ pub fn turn<P: Predictor + Drop>(core: &Core, all: &mut UnitSeat, front: &mut Fr
     requires front { front.old.core ≡ core.now }
     ensures all { IsSame all.old all.new }
     ensures front { front.new.core ≡ core.now }
+    ensures told { front.new.told ≡ front.old.told }
     ensures grows { Grows core.now all.old.seen all.new.seen }
     ensures reply { IsTurn core.now all.old.seen all.new.seen result }
 {
@@ -39,6 +40,7 @@ pub fn recover<P: Predictor + Drop>(
     requires front { front.old.core ≡ core.now }
     ensures all { IsSame all.old all.new }
     ensures front { front.new.core ≡ core.now }
+    ensures told { front.new.told ≡ front.old.told }
     ensures grows { Grows core.now all.old.seen all.new.seen }
     ensures reply { IsRecovery core.now all.old.seen all.new.seen result }
 {
@@ -155,6 +157,7 @@ pub fn look<P: Predictor + Drop>(
     requires station { station < core.now.sizes.ring }
     ensures all { IsSame all.old all.new }
     ensures front { front.new.core ≡ core.now }
+    ensures told { front.new.told ≡ front.old.told }
     ensures touched { front.new.touched ≡ front.old.touched }
     ensures grows { Grows core.now all.old.seen all.new.seen }
     ensures reply { IsLook core.now all.old.seen all.new.seen station result }
@@ -174,8 +177,10 @@ pub fn creator<P: Predictor + Drop>(
 ) -> Made
     requires all { all.old.core ≡ core.now }
     requires front { front.old.core ≡ core.now }
+    requires told { front.old.told ≡ 0 }
     ensures all { IsSame all.old all.new }
     ensures front { front.new.core ≡ core.now }
+    ensures told { front.new.told ≡ front.old.told }
     ensures touched { front.new.touched ≡ front.old.touched }
     ensures grows { Grows core.now all.old.seen all.new.seen }
     ensures reply { IsCreatorNow core.now all.old.seen all.new.seen register result }

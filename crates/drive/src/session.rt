@@ -44,7 +44,7 @@ impl<'a, P: Predictor + Drop, J: Naming> Model for Session<'a, P, J> {
       touched = s.front.touched;
     } };
 
-    ghost invariant = { λ s. IsWhole J.program s.core s.program.now s.all s.front.core s.back
+    ghost invariant = { λ s. IsWhole J.program s.core s.program.now s.all s.front.core s.front.told s.back
         s.units.items (vec_len s.units) };
 }
 

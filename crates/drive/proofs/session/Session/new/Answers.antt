@@ -9,6 +9,7 @@ invariant_of-result g c = record {
   program_is = search rules;
   all_core = search rules;
   front_is = search rules;
+  told_none = search rules;
   back_core = search rules;
   back_by = search rules;
   workers = none_works c.in_ok-core.core c.in_ok-units.units.items c.in_ok-units.ensures.none;
