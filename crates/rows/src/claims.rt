@@ -66,7 +66,9 @@ fn a_value_comes_along_its_links(rt: HostRuntime) -> Result<(), Fail> {
     };
     assert_eq!(rt; claim(&core, &program, &mut unit, 1), waiting);
     assert_eq!(rt; claim(&core, &program, &mut unit, 0), job(0, 0));
+    assert_eq!(rt; unit.woken(), 2);
     assert_eq!(rt; claim(&core, &program, &mut unit, 1), job(5, 5));
+    assert_eq!(rt; unit.woken(), 0);
     assert_eq!(rt; claim(&core, &program, &mut unit, 1), Claimed::NotOpen);
     Ok(())
 }

@@ -91,6 +91,40 @@ fn a_load_waits_for_the_data_of_a_store(rt: HostRuntime) -> Result<(), Fail> {
     load_behind_a_store::<Brand, _>(&rt, rt.alloc(), &program, &config)
 }
 
+// A load's value goes to the one that asked for it, and the back tells its station.
+fn woken_by_a_load<J: Naming, R: Wait + Abort>(
+    rt: &R,
+    alloc: Global,
+    program: &Program,
+    config: &Config,
+) -> Result<(), Fail>
+    requires { program.now ≡ J.program }
+{
+    let (core, seat, back_seat, mut unit) = Core::make(alloc, program, config)?;
+    assert!(rt; core.ring() == 4);
+    let mut front = Front::new(&core, seat, program, NotTaken);
+    let lets = [let_at(0, 1, 0x0040_0000), let_at(1, 1, 0x0040_0004)];
+    takes(rt, &core, &mut front, &lets);
+    assert!(rt; finish_one(&core, program, &mut unit, 0));
+    let (mut back, _snapper) = back_at::<J>(alloc, &core, back_seat, program, config)?;
+    let before = back.woken();
+    let found = back.refresh(&core);
+    let woken = back.woken();
+    let idle = back.refresh(&core);
+    let after = back.woken();
+    let end = back.end(rt);
+    assert_eq!(rt; (found, idle), (loaded(0, 7), Refresh::Idle));
+    assert_eq!(rt; (before, woken, after, end.n), (0, 2, 2, 0));
+    Ok(())
+}
+
+#[test]
+fn a_load_wakes_its_consumer(rt: HostRuntime) -> Result<(), Fail> {
+    let listing = b".word 7\nlw $1,0($0)\naddu $2,$1,$1\nbreak\n";
+    let (program, config) = made(rt.alloc(), listing, 4, 1, 1)?;
+    woken_by_a_load::<Brand, _>(&rt, rt.alloc(), &program, &config)
+}
+
 fn from_memory<J: Naming, R: Wait + Abort>(
     rt: &R,
     alloc: Global,
