@@ -10,6 +10,7 @@ use Rattle.inorder.specs.Tenants.{IsNotLive}
 use Rattle.inorder.specs.Unit.{Sizes, UpdateUnit}
 use Rattle.inorder.proofs.Basics.{length_write}
 use Rattle.inorder.proofs.Positions.{all_at, at_below}
+use Rattle.inorder.proofs.Recent.{none_old}
 use Rattle.ruu_words.specs.declared.station.StationState.{StationState}
 use Rattle.station.specs.declared.answers.Seen.{Seen}
 use Rattle.station.specs.Looking.{SeesStation}
@@ -87,7 +88,7 @@ module _ (core : TheCore) (old new : List Entry) (path path' : Path) (adds : Add
       let left = retired_left P C new adds.legal n noted newest.0 seen sees_it retired in
       let gone : IsLeft U n.what seen.value = record {
         p = n.at;
-        tenant = record { tenant = noted.tenant; is = noted.is; station_is = ap (λ (z : Record). z.station) noted.what; tag_is = ap (λ (z : Record). z.tag) noted.what; fact = left };
+        tenant = record { tenant = noted.tenant; is = noted.is; new = none_old P C new adds.legal n.at; station_is = ap (λ (z : Record). z.station) noted.what; tag_is = ap (λ (z : Record). z.tag) noted.what; fact = left };
       } in
       let rest : path'.records ≡ whats ns = tail_of x n.what path'.records (whats ns) (sym r.records ∙ (k.are ∙ ap whats one.is)) in
       let count : length k.notes ≡ suc (length ns) = ap (λ z. length z) one.is in

@@ -61,7 +61,7 @@ fold_all-requires-clause-folding g c =
           let mine : Adds c.args.core.now.program c.args.core.now.sizes front c.args.seat.now.seen w.look-seen.new.seat.seen [] = subst (λ i. Adds c.args.core.now.program c.args.core.now.sizes i c.args.seat.now.seen w.look-seen.new.seat.seen []) c.requires.by w.look-seen.ensures.history in
           subst (HasSeen c.args.core.now c.args.seat.now) (sym w.seat-is) (seen_free c.args.core.now c.args.seat.now w.look-seen.new.seat w.look-seen.ensures.kept c.args.path.now c.requires.knows mine w.in-Some.youngest (sym c.last.ensures ∙ w.in-Some.is) w.look-seen.result w.look-seen.ensures.reply w.in-Free.is)
       | in_default w ↦
-          subst (HasSeen c.args.core.now c.args.seat.now) (sym w.seat-is) (seen_none c.args.core.now c.args.seat.now c.args.seat.now (record { core = refl; by = refl }) c.args.path.now c.requires.knows (record { begins = record { more = []; is = refl }; legal = c.requires.legal; mine = refl }) (sym c.last.ensures ∙ w.in_default.is))
+          subst (HasSeen c.args.core.now c.args.seat.now) (sym w.seat-is) (seen_none c.args.core.now c.args.seat.now c.args.seat.now (record { core = refl; by = refl }) c.args.path.now c.requires.knows (record { begins = record { more = []; is = refl }; legal = c.requires.legal; mine = refl; one_table = refl }) (sym c.last.ensures ∙ w.in_default.is))
     ] in
     let P = c.args.core.now.program in
     let C = c.args.core.now.sizes in
@@ -76,7 +76,7 @@ fold_all-requires-clause-nobody g c =
           let mine : Adds c.args.core.now.program c.args.core.now.sizes front c.args.seat.now.seen w.look-seen.new.seat.seen [] = subst (λ i. Adds c.args.core.now.program c.args.core.now.sizes i c.args.seat.now.seen w.look-seen.new.seat.seen []) c.requires.by w.look-seen.ensures.history in
           subst (HasSeen c.args.core.now c.args.seat.now) (sym w.seat-is) (seen_free c.args.core.now c.args.seat.now w.look-seen.new.seat w.look-seen.ensures.kept c.args.path.now c.requires.knows mine w.in-Some.youngest (sym c.last.ensures ∙ w.in-Some.is) w.look-seen.result w.look-seen.ensures.reply w.in-Free.is)
       | in_default w ↦
-          subst (HasSeen c.args.core.now c.args.seat.now) (sym w.seat-is) (seen_none c.args.core.now c.args.seat.now c.args.seat.now (record { core = refl; by = refl }) c.args.path.now c.requires.knows (record { begins = record { more = []; is = refl }; legal = c.requires.legal; mine = refl }) (sym c.last.ensures ∙ w.in_default.is))
+          subst (HasSeen c.args.core.now c.args.seat.now) (sym w.seat-is) (seen_none c.args.core.now c.args.seat.now c.args.seat.now (record { core = refl; by = refl }) c.args.path.now c.requires.knows (record { begins = record { more = []; is = refl }; legal = c.requires.legal; mine = refl; one_table = refl }) (sym c.last.ensures ∙ w.in_default.is))
     ] in
     seen.nobody
 
@@ -87,7 +87,7 @@ returns-clause-reply g c =
           let mine : Adds c.args.core.now.program c.args.core.now.sizes front c.args.seat.now.seen w.look-seen.new.seat.seen [] = subst (λ i. Adds c.args.core.now.program c.args.core.now.sizes i c.args.seat.now.seen w.look-seen.new.seat.seen []) c.requires.by w.look-seen.ensures.history in
           subst (HasSeen c.args.core.now c.args.seat.now) (sym w.seat-is) (seen_free c.args.core.now c.args.seat.now w.look-seen.new.seat w.look-seen.ensures.kept c.args.path.now c.requires.knows mine w.in-Some.youngest (sym c.last.ensures ∙ w.in-Some.is) w.look-seen.result w.look-seen.ensures.reply w.in-Free.is)
       | in_default w ↦
-          subst (HasSeen c.args.core.now c.args.seat.now) (sym w.seat-is) (seen_none c.args.core.now c.args.seat.now c.args.seat.now (record { core = refl; by = refl }) c.args.path.now c.requires.knows (record { begins = record { more = []; is = refl }; legal = c.requires.legal; mine = refl }) (sym c.last.ensures ∙ w.in_default.is))
+          subst (HasSeen c.args.core.now c.args.seat.now) (sym w.seat-is) (seen_none c.args.core.now c.args.seat.now c.args.seat.now (record { core = refl; by = refl }) c.args.path.now c.requires.knows (record { begins = record { more = []; is = refl }; legal = c.requires.legal; mine = refl; one_table = refl }) (sym c.last.ensures ∙ w.in_default.is))
     ] in
     let P = c.args.core.now.program in
     let C = c.args.core.now.sizes in
@@ -110,7 +110,7 @@ returns-clause-knows g c =
           let mine : Adds c.args.core.now.program c.args.core.now.sizes front c.args.seat.now.seen w.look-seen.new.seat.seen [] = subst (λ i. Adds c.args.core.now.program c.args.core.now.sizes i c.args.seat.now.seen w.look-seen.new.seat.seen []) c.requires.by w.look-seen.ensures.history in
           subst (HasSeen c.args.core.now c.args.seat.now) (sym w.seat-is) (seen_free c.args.core.now c.args.seat.now w.look-seen.new.seat w.look-seen.ensures.kept c.args.path.now c.requires.knows mine w.in-Some.youngest (sym c.last.ensures ∙ w.in-Some.is) w.look-seen.result w.look-seen.ensures.reply w.in-Free.is)
       | in_default w ↦
-          subst (HasSeen c.args.core.now c.args.seat.now) (sym w.seat-is) (seen_none c.args.core.now c.args.seat.now c.args.seat.now (record { core = refl; by = refl }) c.args.path.now c.requires.knows (record { begins = record { more = []; is = refl }; legal = c.requires.legal; mine = refl }) (sym c.last.ensures ∙ w.in_default.is))
+          subst (HasSeen c.args.core.now c.args.seat.now) (sym w.seat-is) (seen_none c.args.core.now c.args.seat.now c.args.seat.now (record { core = refl; by = refl }) c.args.path.now c.requires.knows (record { begins = record { more = []; is = refl }; legal = c.requires.legal; mine = refl; one_table = refl }) (sym c.last.ensures ∙ w.in_default.is))
     ] in
     let v = c.fold_all.new.seat in
     let here : v.core ≡ c.args.core.now = c.fold_all.ensures.kept.core ∙ (seen.same.core ∙ c.requires.core) in
@@ -125,7 +125,7 @@ returns-clause-table g c =
           let mine : Adds c.args.core.now.program c.args.core.now.sizes front c.args.seat.now.seen w.look-seen.new.seat.seen [] = subst (λ i. Adds c.args.core.now.program c.args.core.now.sizes i c.args.seat.now.seen w.look-seen.new.seat.seen []) c.requires.by w.look-seen.ensures.history in
           subst (HasSeen c.args.core.now c.args.seat.now) (sym w.seat-is) (seen_free c.args.core.now c.args.seat.now w.look-seen.new.seat w.look-seen.ensures.kept c.args.path.now c.requires.knows mine w.in-Some.youngest (sym c.last.ensures ∙ w.in-Some.is) w.look-seen.result w.look-seen.ensures.reply w.in-Free.is)
       | in_default w ↦
-          subst (HasSeen c.args.core.now c.args.seat.now) (sym w.seat-is) (seen_none c.args.core.now c.args.seat.now c.args.seat.now (record { core = refl; by = refl }) c.args.path.now c.requires.knows (record { begins = record { more = []; is = refl }; legal = c.requires.legal; mine = refl }) (sym c.last.ensures ∙ w.in_default.is))
+          subst (HasSeen c.args.core.now c.args.seat.now) (sym w.seat-is) (seen_none c.args.core.now c.args.seat.now c.args.seat.now (record { core = refl; by = refl }) c.args.path.now c.requires.knows (record { begins = record { more = []; is = refl }; legal = c.requires.legal; mine = refl; one_table = refl }) (sym c.last.ensures ∙ w.in_default.is))
     ] in
     let v = c.fold_all.new.seat in
     let here : v.core ≡ c.args.core.now = c.fold_all.ensures.kept.core ∙ (seen.same.core ∙ c.requires.core) in
