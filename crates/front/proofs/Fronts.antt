@@ -21,7 +21,7 @@ use Rattle.front.proofs.Trails.{IsNoted, trail_noted}
 use Rattle.front.proofs.Lists.{all_rest}
 use Rattle.front.proofs.CreateVector.{newest_among}
 use Rattle.front.specs.declared.path.base_state.Base.{Base}
-use Rattle.front.proofs.Resting.{nobody_stable}
+use Rattle.front.proofs.Resting.{nobody_stable, told_stable}
 use Rattle.front.specs.Rests.{HasNobody}
 use Rattle.front.specs.Path.{told_of}
 use Rattle.front.specs.declared.path.Path.{Path}
@@ -50,11 +50,12 @@ still_front core P v w path creators rested e f same adds =
     record {
       table = subst (λ (z : TheCore). HasTable z.program (unit_of z.program z.sizes w.seen) (told_of path.base) creators.table) (sym same.core) table;
       rests = λ r.
-          let there : HasRested v.core w.seen path.records = record {
+          let there : HasRested v.core w.seen path = record {
             nobody = stays v.core.program v.core.sizes HasNobody (nobody_stable v.core.program v.core.sizes) v.seen w.seen here (f.rests r).nobody;
             none = (f.rests r).none;
+            told = stays v.core.program v.core.sizes (λ U. told_of path.base ≡ length U.tenants) (told_stable v.core.program v.core.sizes (told_of path.base)) v.seen w.seen here (f.rests r).told;
           } in
-          subst (λ (z : TheCore). HasRested z w.seen path.records) (sym same.core) there;
+          subst (λ (z : TheCore). HasRested z w.seen path) (sym same.core) there;
       by_is = same.by ∙ f.by_is;
       program = f.program ∙ ap (λ (z : TheCore). z.program) (sym same.core);
       legal = subst (λ (z : TheCore). IsLegal z.program z.sizes w.seen) (sym same.core) here.legal;
@@ -64,12 +65,12 @@ still_front core P v w path creators rested e f same adds =
 -- after a call that knows
 pub front_again : (core : TheCore) (P : Program) (v w : Caller) (path path' : Path) (creators creators' : Counted) (rested rested' : Bool) → v.core ≡ core → IsFront P v path creators rested → IsSame v w
     → IsLegal core.program core.sizes w.seen → Knows core.program core.sizes (unit_of core.program core.sizes w.seen) path'.records path'.base
-    → HasTable core.program (unit_of core.program core.sizes w.seen) (told_of path'.base) creators'.table → (rested' ≡ true → HasRested core w.seen path'.records) → IsFront P w path' creators' rested'
+    → HasTable core.program (unit_of core.program core.sizes w.seen) (told_of path'.base) creators'.table → (rested' ≡ true → HasRested core w.seen path') → IsFront P w path' creators' rested'
 front_again core P v w path path' creators creators' rested rested' e f same legal knows table rests =
     let both : core ≡ w.core = sym e ∙ sym same.core in
     record {
       table = subst (λ (z : TheCore). HasTable z.program (unit_of z.program z.sizes w.seen) (told_of path'.base) creators'.table) both table;
-      rests = λ r. subst (λ (z : TheCore). HasRested z w.seen path'.records) both (rests r);
+      rests = λ r. subst (λ (z : TheCore). HasRested z w.seen path') both (rests r);
       by_is = same.by ∙ f.by_is;
       program = f.program ∙ ap (λ (z : TheCore). z.program) (sym same.core);
       legal = subst (λ (z : TheCore). IsLegal z.program z.sizes w.seen) both legal;

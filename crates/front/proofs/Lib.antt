@@ -36,3 +36,4 @@ pub mod Lefts
 pub mod Folding
 pub mod Idling
 pub mod Fronts
+pub mod Entering

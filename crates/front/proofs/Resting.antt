@@ -1,5 +1,5 @@
 -- Nobody is live: it stays so, and the youngest tenant of the path tells it.
-use Rattle.std.proofs.Common.{◌≡◌, ◌≢◌, ℕ, ◌<◌, true, false, List, [], ◌∷◌, ◌++◌, Some, refl, sym, ap, ◌∙◌, subst, append_assoc}
+use Rattle.std.proofs.Common.{◌≡◌, ◌≢◌, ℕ, ◌<◌, true, false, List, [], ◌∷◌, ◌++◌, Some, refl, sym, ap, ◌∙◌, subst, append_assoc, length}
 use Rattle.std.specs.List.{AllByRecursion}
 use Rattle.isa.specs.Programs.{Program}
 use Rattle.inorder.specs.declared.history.Entry.{Entry}
@@ -18,6 +18,7 @@ use Rattle.ruu_words.specs.declared.station.StationState.TheVariants.{Free}
 use Rattle.ruu_words.specs.States.{state_code}
 use Rattle.station.specs.declared.answers.Seen.{Seen}
 use Rattle.station.specs.Looking.{SeesStation}
+use Rattle.front.proofs.Stays.{long_under}
 use Rattle.front.specs.declared.path.base_state.Base.{Base}
 use Rattle.front.specs.declared.path.record.Record.{Record}
 use Rattle.front.specs.Fetching.{HasLeft}
@@ -44,6 +45,11 @@ nobody_stable P C U by Renew b a ok none = absurd b
 nobody_stable P C U by (On p act) b a ok none =
     all_from IsNotLive (applied P C U by (On p act)).tenants
     (λ q u is live. let w = came P C U by p act a ok q u is in all_at IsNotLive U.tenants none q w.tenant w.is (w.goes.live live))
+
+pub told_stable : (P : Program) (C : Sizes) (told : ℕ) → IsStable P C (λ U. told ≡ length U.tenants)
+told_stable P C told U by (Let i pr f g) b a ok e = absurd b
+told_stable P C told U by Renew b a ok e = absurd b
+told_stable P C told U by (On p act) b a ok e = e ∙ sym (long_under P C U by p act a)
 
 -- who is on the path and not live has retired
 pub left_path : (t : Tenant) → on_path t ≡ true → IsNotLive t → t.standing ≡ Retired

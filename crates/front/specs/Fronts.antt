@@ -1,5 +1,5 @@
 -- What contracts see of a front.
-use Rattle.std.specs.Prelude.{◌≡◌, ℕ, Bool, true, List, []}
+use Rattle.std.specs.Prelude.{◌≡◌, ℕ, Bool, true, List, [], length}
 use Rattle.std.specs.List.{AllByRecursion}
 use Rattle.isa.specs.Programs.{Program}
 use Rattle.isa.specs.declared.instr.Instr.{Instr}
@@ -14,7 +14,6 @@ use Rattle.front.specs.declared.answers.Turn.{Turn}
 use Rattle.front.specs.declared.path.counted.Counted.{Counted}
 use Rattle.front.specs.declared.path.base_state.Base.{Base}
 use Rattle.front.specs.declared.path.Path.{Path}
-use Rattle.front.specs.declared.path.record.Record.{Record}
 use Rattle.front.specs.CreateTable.{HasTable}
 use Rattle.front.specs.Creating.{IsCreator}
 use Rattle.front.specs.Knows.{Knows}
@@ -53,9 +52,10 @@ pub record IsUnused (core : TheCore) (seat : Caller) : Type 0 where
   pub none : own front seat.seen ≡ []
 
 -- Nobody is live, and no tenant is kept
-pub record HasRested (core : TheCore) (seen : List Entry) (records : List Record) : Type 0 where
+pub record HasRested (core : TheCore) (seen : List Entry) (path : Path) : Type 0 where
   pub nobody : AllByRecursion IsNotLive (unit_of core.program core.sizes seen).tenants
-  pub none : records ≡ []
+  pub none : path.records ≡ []
+  pub told : told_of path.base ≡ length (unit_of core.program core.sizes seen).tenants
 
 -- The seat is the front's, the path is what it knows, and the create vector is that of the unit
 pub record IsFront (P : Program) (seat : Caller) (path : Path) (creators : Counted) (rested : Bool) : Type 0 where
@@ -64,7 +64,7 @@ pub record IsFront (P : Program) (seat : Caller) (path : Path) (creators : Count
   pub legal : IsLegal seat.core.program seat.core.sizes seat.seen
   pub knows : KnowsPath seat.core seat.seen path
   pub table : KnowsTable seat.core seat.seen path.base creators
-  pub rests : rested ≡ true → HasRested seat.core seat.seen path.records
+  pub rests : rested ≡ true → HasRested seat.core seat.seen path
 
 -- What a turn answers
 abbrev pub TurnsTo : {S : Type 0} → (S → ℕ → Instr → ℕ → S → Type 0) → (S → ℕ → ℕ → S → Type 0) → TheCore → TheFront S → TheFront S → Turn → Type 0

@@ -13,3 +13,4 @@ pub mod Recoveries
 pub mod Rests
 pub mod Folding
 pub mod Fronts
+pub mod Stills

@@ -26,13 +26,13 @@ use std::marker::Model;
 /// let again, if it has retired.
 #[derive(Drop)]
 pub struct Front<'a, P: Predictor + Drop> {
-    seat: FrontSeat,
-    program: &'a Program,
-    path: Path,
-    creators: Creators,
-    predictor: P,
+    pub(crate) seat: FrontSeat,
+    pub(crate) program: &'a Program,
+    pub(crate) path: Path,
+    pub(crate) creators: Creators,
+    pub(crate) predictor: P,
     // a rest found nobody in flight, and there was no turn or recovery since
-    rested: bool,
+    pub(crate) rested: bool,
 }
 
 impl<'a, P: Predictor + Drop> Model for Front<'a, P> {

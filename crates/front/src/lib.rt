@@ -12,8 +12,10 @@ mod recovery;
 mod rest;
 #[cfg(test)]
 mod rows;
+mod still;
 mod supply;
 mod training;
 
 pub use answers::{Made, Recovery, Rest, Turn};
 pub use dispatcher::Front;
+pub use still::FrontStill;

@@ -5,6 +5,7 @@ ghost use Rattle.station.specs.Claiming.{Holds};
 ghost use Rattle.station.specs.Seats.{IsSame};
 
 mod rests;
+mod stills;
 
 use crate::{Front, Made, Recovery, Turn};
 use isa::{Config, Instr, NotTaken, Outcome, Predictor, Program, Reg, outcome_of, parse};

@@ -1,0 +1,43 @@
+-- A front between two cores.
+use Rattle.std.specs.Prelude.{◌≡◌, ℕ, [], List, length}
+use Rattle.isa.specs.Programs.{Program}
+use Rattle.inorder.specs.declared.history.Entry.{Entry}
+use Rattle.inorder.specs.History.{Adds, IsLegal, front, unit_of}
+use Rattle.inorder.specs.Unit.{next_station, recent}
+use Rattle.station.specs.Seats.{Caller, TheCore}
+use Rattle.front.specs.declared.path.base_state.Base.{Base}
+use Rattle.front.specs.declared.path.counted.Counted.{Counted}
+use Rattle.front.specs.CreateTable.{HasTable}
+use Rattle.front.specs.Knows.{Knows}
+use Rattle.front.specs.Path.{told_of}
+use Rattle.front.specs.Rests.{HasNobody}
+
+-- The core that it left, what it had seen there, its predictor, and how often its create vector was
+-- read or written
+pub record TheStill (S : Type 0) : Type 0 where
+  pub core : TheCore
+  pub seen : List Entry
+  pub predictor : S
+  pub touched : ℕ
+
+-- Nobody was live when the front left with this seat, and the base is all that it knows of the path
+pub record IsStill (seat : Caller) (base : Base) (creators : Counted) : Type 0 where
+  pub legal : IsLegal seat.core.program seat.core.sizes seat.seen
+  pub nobody : HasNobody (unit_of seat.core.program seat.core.sizes seat.seen)
+  pub knows : Knows seat.core.program seat.core.sizes (unit_of seat.core.program seat.core.sizes seat.seen) [] base
+  pub table : HasTable seat.core.program (unit_of seat.core.program seat.core.sizes seat.seen) (told_of base) creators.table
+  pub told : told_of base ≡ length (unit_of seat.core.program seat.core.sizes seat.seen).tenants
+
+-- A seat of a core of the same program and sizes. Its unit has the tenants of a history that goes on
+-- from what was seen by nothing of the front's: a renewal changes no tenant
+pub record GoesOn (core : TheCore) (seen : List Entry) (seat : Caller) : Type 0 where
+  pub by_is : seat.by ≡ front
+  pub program : seat.core.program ≡ core.program
+  pub sizes : seat.core.sizes ≡ core.sizes
+  pub last : List Entry
+  pub adds : Adds core.program core.sizes front seen last []
+  pub tenants : (unit_of seat.core.program seat.core.sizes seat.seen).tenants ≡ (unit_of core.program core.sizes last).tenants
+
+-- The next tenant's station at a seat
+abbrev pub next_at : TheCore → List Entry → ℕ
+next_at core seen = next_station core.sizes (recent (unit_of core.program core.sizes seen))
