@@ -1,5 +1,5 @@
 -- A front that leaves its core, and one that enters another.
-use Rattle.std.proofs.Common.{◌≡◌, true, false, ◌%◌, ◌<◌, ◌≤◌, ℕ, List, [], ◌∷◌, ◌++◌, length, Some, refl, sym, ap, ◌∙◌, subst, inr, arith, mod-eq_of_lt, mod-lt, zero, suc}
+use Rattle.std.proofs.Common.{◌≡◌, true, false, ◌%◌, ◌<◌, ℕ, List, [], ◌∷◌, ◌++◌, length, Some, refl, sym, ap, ◌∙◌, subst, inr, arith, zero, suc}
 use Rattle.std.proofs.Math.Nat.{zero-mod}
 use Rattle.std.specs.List.{AllByRecursion}
 use Rattle.std.specs.Prelude.{slice_index}
@@ -20,7 +20,6 @@ use Rattle.front.specs.Creators.{creator_note, position}
 use Rattle.front.specs.Fronts.{IsFront}
 use Rattle.front.specs.Knows.{IsFolded, IsGone, Knows, whats}
 use Rattle.front.specs.Path.{told_of}
-use Rattle.front.specs.Rests.{HasNobody}
 use Rattle.front.specs.Stills.{GoesOn, IsStill, next_at}
 use Rattle.front.specs.Trail.{Note, trail}
 use Rattle.front.proofs.Lists.{all_front, all_map, all_rest}
@@ -52,7 +51,7 @@ goes_on_here P v path creators f = record {
   program = refl;
   sizes = refl;
   last = v.seen;
-  adds = record { begins = record { more = []; is = refl }; legal = f.legal; mine = refl };
+  adds = record { begins = record { more = []; is = refl }; legal = f.legal; mine = refl; one_table = refl };
   tenants = refl;
 }
 

@@ -12,7 +12,7 @@ use Rattle.inorder.specs.Unit.{Sizes, UpdateUnit, at}
 use Rattle.inorder.proofs.Ends.{miss_stays}
 use Rattle.ruu_words.specs.declared.station.StationState.{StationState}
 use Rattle.ruu_words.specs.declared.station.StationState.TheVariants.{Free, Miss as MissState}
-use Rattle.ruu_words.proofs.Stays.{tenant_stays, place_stays}
+use Rattle.ruu_words.proofs.Stays.{place_stays}
 use Rattle.station.specs.declared.answers.Seen.{Seen}
 use Rattle.station.specs.Looking.{SeesStation}
 use Rattle.front.specs.Path.{told_of}

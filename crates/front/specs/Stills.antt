@@ -1,6 +1,5 @@
 -- A front between two cores.
 use Rattle.std.specs.Prelude.{◌≡◌, ℕ, [], List, length}
-use Rattle.isa.specs.Programs.{Program}
 use Rattle.inorder.specs.declared.history.Entry.{Entry}
 use Rattle.inorder.specs.History.{Adds, IsLegal, front, unit_of}
 use Rattle.inorder.specs.Unit.{next_station, recent}

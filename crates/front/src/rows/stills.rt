@@ -31,3 +31,17 @@ fn a_front_goes_on_where_it_left(rt: HostRuntime) -> Result<(), Fail> {
     takes(&rt, &core, &mut again, &[let_at(2, 1, 0x0040_0008)]);
     Ok(())
 }
+
+#[test]
+fn a_front_enters_where_nobody_was_let(rt: HostRuntime) -> Result<(), Fail> {
+    let (program, config) = made(rt.alloc(), b"break\n", 4, 1)?;
+    let (core, seat, _, _) = Core::make(rt.alloc(), &program, &config)?;
+    let mut front = Front::new(&core, seat, &program, NotTaken);
+    let Rest::Idle = front.rest(&core) else {
+        return Err(Fail::new("somebody is in flight"));
+    };
+    let (given, still) = front.leave();
+    let mut entered = still.enter(given, &program);
+    takes(&rt, &core, &mut entered, &[let_at(0, 1, 0x0040_0000)]);
+    Ok(())
+}
