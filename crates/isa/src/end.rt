@@ -1,11 +1,27 @@
 //! How a run ends.
+ghost use Rattle.std.specs.Prelude.{Some};
+ghost use Rattle.isa.specs.Endings.{ending_words};
+
 use crate::Stop;
+use std::fmt;
 
 /// How a run ends: by a stop, or because its count has reached the limit.
 #[derive(Clone, Copy, Debug, PartialEq, Eq)]
 pub enum Ending {
     Stop(Stop),
     Limit,
+}
+
+/// As a report has it.
+impl fmt::Display for Ending {
+    ghost output = { λ ending. Some (ending_words ending) };
+
+    fn fmt<W: fmt::Write>(&self, f: &mut fmt::Formatter<W>) -> fmt::Result {
+        match self {
+            Ending::Stop(stop) => write!(f, "stop {stop}"),
+            Ending::Limit => f.write_str("limit"),
+        }
+    }
 }
 
 /// The end of a run: the number of instructions that it ran, and the state behind them.

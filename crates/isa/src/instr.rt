@@ -4,15 +4,19 @@ ghost use Rattle.isa.specs.Instruction.{source as source_of, written as written_
 
 use crate::{Half, Kind, Op, Reg, pc_plus_4};
 
-/// An instruction: its operation, registers and number.
+/// An instruction: its operation, and the registers and the number that it names. Register 0 stands
+/// where the operation has no register. What it reads and writes is told by its calls.
 #[derive(Clone, Copy, Debug, PartialEq, Eq)]
 pub struct Instr {
-    pub(crate) op: Op,
-    // a register that the operation does not have is register 0
-    pub(crate) target: Reg,
-    pub(crate) first: Reg,
-    pub(crate) second: Reg,
-    pub(crate) number: u32,
+    pub op: Op,
+    /// The register of its value.
+    pub target: Reg,
+    /// The register of source 1.
+    pub first: Reg,
+    /// The register of source 2.
+    pub second: Reg,
+    /// The extended immediate, the shift amount or the target address; else 0.
+    pub number: u32,
 }
 
 // the register that is read where this one is named: a multiplication or division reads no other

@@ -5,27 +5,23 @@
 mod config;
 mod end;
 mod instr;
-mod listing;
 mod memory;
 mod op;
 mod predictor;
 mod products;
 mod program;
 mod reg;
-mod report;
 mod semantics;
 mod stop;
 
 pub use config::{BadConfig, Config};
 pub use end::{End, Ending};
 pub use instr::Instr;
-pub use listing::{FaultKind, InstrText, Label, Naming, TextFault, parse, text_is_read_back};
 pub use memory::Memory;
 pub use op::{Half, Kind, Op};
 pub use predictor::{Bimod, NotTaken, Predictor, Taken};
 pub use program::Program;
 pub use reg::Reg;
-pub use report::{Hexadecimal, fault_text, report_text};
 pub use semantics::{loaded, outcome, outcome_of, pc_plus_4};
 pub use stop::{Outcome, Stop};
 

@@ -33,7 +33,16 @@ impl Program {
     /// Where the text begins.
     pub const START: u32 = 0x0040_0000;
 
-    pub(crate) fn new(code: Vec<Instr>, bytes: Vec<u8>) -> Program
+    /// A program can have so many instructions, and data memory so many bytes: at most 16,384 and
+    /// 65,536, and the bytes are whole words.
+    pub fn fits(instructions: usize, bytes: usize) -> bool
+        ensures { IsTrue result ↔ (instructions ≤ 16384) × ((bytes ≤ 65536) × (bytes % 4 ≡ 0)) }
+    {
+        instructions <= Program::MOST_INSTRUCTIONS && bytes <= Program::MOST_BYTES && bytes % 4 == 0
+    }
+
+    /// The program of these instructions, with these bytes of data, where it `fits`.
+    pub fn new(code: Vec<Instr>, bytes: Vec<u8>) -> Program
         requires code { length code.items ≤ 16384 }
         requires bytes { length bytes.items ≤ 65536 }
         requires words { length bytes.items % 4 ≡ 0 }

@@ -1,6 +1,9 @@
 //! What an instruction comes to, and why a program stops.
-ghost use Rattle.std.specs.Prelude.{◌≡◌};
+ghost use Rattle.std.specs.Prelude.{◌≡◌, Some};
+ghost use Rattle.isa.specs.Endings.{stop_word};
 ghost use Rattle.isa.specs.Operations.{code_of};
+
+use std::fmt;
 
 /// Why a program stops. A stop writes nothing and leaves the pc at the stopping instruction.
 #[derive(Clone, Copy, Debug, PartialEq, Eq)]
@@ -29,6 +32,21 @@ impl Stop {
             Stop::OutOfRange => 3,
             Stop::BadPc => 4,
         }
+    }
+}
+
+/// Its word, as a report has it.
+impl fmt::Display for Stop {
+    ghost output = { λ stop. Some (stop_word stop) };
+
+    fn fmt<W: fmt::Write>(&self, f: &mut fmt::Formatter<W>) -> fmt::Result {
+        f.write_str(match self {
+            Stop::Break => "break",
+            Stop::Overflow => "overflow",
+            Stop::Unaligned => "unaligned",
+            Stop::OutOfRange => "range",
+            Stop::BadPc => "badpc",
+        })
     }
 }
 

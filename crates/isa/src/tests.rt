@@ -1,5 +1,6 @@
 //! Border values of the operations, the limits of a configuration, and what predictors learn.
 use crate::*;
+use std::alloc::Global;
 use std::test::Fail;
 
 const MINUS_1: u32 = 0xffff_ffff;
@@ -12,6 +13,18 @@ const PC: u32 = 0x0040_0010;
 
 fn instr(op: Op, number: u32) -> Instr {
     Instr::new(op, Reg::LINK, Reg::ZERO, Reg::ZERO, number)
+}
+
+// the general register with this number
+fn reg(number: u8) -> Reg {
+    Reg::general(number).unwrap_or(Reg::ZERO)
+}
+
+// a jump to the instruction behind it, and data of one word
+fn jump_and_break(alloc: Global) -> Result<Program, Fail> {
+    let code = Vec::from_array(alloc, [instr(Op::J, 0x0040_0004), instr(Op::Break, 0)])?;
+    let bytes = Vec::from_array(alloc, [2, 1, 0, 0])?;
+    Ok(Program::new(code, bytes))
 }
 
 #[test]
@@ -246,7 +259,7 @@ fn sorts_operations(rt: HostRuntime) {
 
 #[test]
 fn a_copy_is_the_same_program(rt: HostRuntime) -> Result<(), Fail> {
-    let program = parse(rt.alloc(), b".word 258\nj L\nL: break").map_err(|_| "refused")?;
+    let program = jump_and_break(rt.alloc())?;
     let copy = program.copied(rt.alloc()).map_err(|_| "no memory")?;
     assert_eq!(rt; copy.bytes(), [2u8, 1, 0, 0].as_slice());
     assert_eq!(rt; copy.byte(1), 1);
@@ -259,7 +272,7 @@ fn a_copy_is_the_same_program(rt: HostRuntime) -> Result<(), Fail> {
 
 #[test]
 fn instructions_are_fetched_at_their_addresses(rt: HostRuntime) -> Result<(), Fail> {
-    let program = parse(rt.alloc(), b"j L\nL: break").map_err(|_| "refused")?;
+    let program = jump_and_break(rt.alloc())?;
     let cases: [(u32, Option<Op>); 5] = [
         (0x0040_0000, Some(Op::J)),
         (0x0040_0004, Some(Op::Break)),
@@ -275,26 +288,36 @@ fn instructions_are_fetched_at_their_addresses(rt: HostRuntime) -> Result<(), Fa
 }
 
 #[test]
-fn an_instruction_has_its_registers(rt: HostRuntime) -> Result<(), Fail> {
-    let text = b"addiu $4,$5,-1\nsw $6,8($7)\nbeq $0,$0,L\nL: jal L";
-    let program = parse(rt.alloc(), text).map_err(|_| "refused")?;
-    assert_eq!(rt; program.len(), 4);
-    let sum = program.instr(0);
+fn an_instruction_has_its_registers(rt: HostRuntime) {
+    let sum = Instr::new(Op::Addiu, reg(4), reg(5), Reg::ZERO, MINUS_1);
     assert_eq!(rt; sum.op(), Op::Addiu);
     assert_eq!(rt; sum.number(), MINUS_1);
     assert_eq!(rt; sum.destination(Half::Low).number(), 4);
     assert_eq!(rt; sum.fixed_next(Half::Low, PC), Some(PC + 4));
-    let store = program.instr(1);
+    let store = Instr::new(Op::Sw, Reg::ZERO, reg(7), reg(6), 8);
     assert_eq!(rt; store.first().number(), 7);
     assert_eq!(rt; store.second().number(), 6);
     assert_eq!(rt; store.destination(Half::Low), Reg::ZERO);
-    assert_eq!(rt; program.instr(2).fixed_next(Half::Low, PC), None);
-    assert_eq!(rt;
-        program.instr(3).fixed_next(Half::Low, PC),
-        Some(0x0040_000c)
-    );
+    let branch = instr(Op::Beq, 0x0040_000c);
+    assert_eq!(rt; branch.fixed_next(Half::Low, PC), None);
+    let call = instr(Op::Jal, 0x0040_000c);
+    assert_eq!(rt; call.fixed_next(Half::Low, PC), Some(0x0040_000c));
     assert_eq!(rt; pc_plus_4(0xffff_fffc), 0);
-    Ok(())
+}
+
+#[test]
+fn limits_of_a_program_are_exact(rt: HostRuntime) {
+    let cases: [(usize, usize, bool); 6] = [
+        (0, 0, true),
+        (16_384, 65_536, true),
+        (16_385, 0, false),
+        (0, 65_540, false),
+        (1, 65_534, false),
+        (1, 65_532, true),
+    ];
+    for (instructions, bytes, fits) in cases {
+        assert_eq!(rt; Program::fits(instructions, bytes), fits);
+    }
 }
 
 #[test]
@@ -315,10 +338,6 @@ fn refusals_say_why(rt: HostRuntime) -> Result<(), Fail> {
     let bad = BadConfig::Queue;
     let text = format!(in rt.alloc(); "{bad}")?;
     assert_eq!(rt; text.as_str(), "the queue size is from 2 to the ring size");
-    let kind = FaultKind::UnknownLabel;
-    let fault = TextFault { line: 3, kind };
-    let text = format!(in rt.alloc(); "{fault}")?;
-    assert_eq!(rt; text.as_str(), "line 3: no line has this label");
     let memory = Memory;
     let text = format!(in rt.alloc(); "{memory}")?;
     assert_eq!(rt; text.as_str(), "out of memory");

@@ -1,6 +1,5 @@
 //! Border values of products and quotients, and the registers of the operations that make them.
 use crate::*;
-use std::test::Fail;
 
 const MINUS_1: u32 = 0xffff_ffff;
 
@@ -80,25 +79,4 @@ fn halves_write_lo_and_hi(rt: HostRuntime) {
         assert_eq!(rt; pair.fixed_next(Half::Low, PC), Some(PC));
         assert_eq!(rt; pair.fixed_next(Half::High, PC), Some(PC + 4));
     }
-}
-
-#[test]
-fn moves_name_lo_and_hi(rt: HostRuntime) -> Result<(), Fail> {
-    let text = b"mflo $3\nmfhi $4\nmtlo $5\nmthi $6";
-    let program = parse(rt.alloc(), text).map_err(|_| "refused")?;
-    assert_eq!(rt; program.len(), 4);
-    let general = |number: u8| Reg::general(number);
-    let wanted = [
-        (Some(Reg::LO), general(3)),
-        (Some(Reg::HI), general(4)),
-        (general(5), Some(Reg::LO)),
-        (general(6), Some(Reg::HI)),
-    ];
-    for (i, (read, written)) in wanted.iter().enumerate() {
-        let moved = program.instr(i);
-        assert_eq!(rt; moved.source(1), *read);
-        assert_eq!(rt; moved.source(2), None);
-        assert_eq!(rt; moved.written(Half::Low), *written);
-    }
-    Ok(())
 }

@@ -1,0 +1,17 @@
+pub mod HexDigits
+pub mod WordLines
+pub mod BucketSearch
+pub mod BucketsKept
+pub mod LabelTable
+pub mod Bytes
+pub mod Slots
+pub mod FormSearch
+pub mod Statements
+pub mod Rows
+pub mod Behind
+pub mod Whole
+pub mod Examples
+pub mod TextBytes
+pub mod TextNumbers
+pub mod TextOperands
+pub mod TextRead

@@ -1,0 +1,12 @@
+pub mod Reading
+pub mod RegisterNames
+pub mod Operands
+pub mod Forms
+pub mod Statement
+pub mod Listing
+pub mod NameHash
+pub mod Buckets
+pub mod Held
+pub mod Report
+pub mod Wording
+pub mod InstrText
