@@ -1,13 +1,14 @@
 //! The chart: a line for each tenant that has left.
 ghost use Rattle.std.specs.Prelude.{◌≡◌, ◌++◌, ◌-◌, OnOk, string_bytes, length};
-ghost use Rattle.isa.specs.Report.{newline};
+ghost use Rattle.assembly.specs.Report.{newline};
 ghost use Rattle.isa.specs.Instruction.{kind as kind_of};
 ghost use Rattle.charts.specs.Drawings.{behind_ran, half_text as half_text_of, line, live_lines};
 ghost use Rattle.charts.specs.Drawings.{mark_behind, padded, picture};
 ghost use Rattle.charts.specs.Drawings.{settled_mark as settled_mark_of, tenant_text, times};
 
 use crate::row::Row;
-use isa::{Half, Hexadecimal, Instr, Kind};
+use assembly::{Hexadecimal, InstrText};
+use isa::{Half, Instr, Kind};
 use std::alloc::{AllocError, Global};
 use unit::Station;
 
@@ -41,8 +42,8 @@ fn push_instr(alloc: Global, out: &mut String, station: &Station) -> Result<(), 
     ensures { OnOk result (string_bytes out.new
         ≡ string_bytes out.old ++ padded (tenant_text station.now)) }
 {
-    let instr = station.instr;
-    let half = half_text(&instr, station.half);
+    let half = half_text(&station.instr, station.half);
+    let instr = InstrText::by_numbers(station.instr);
     let text = format!(in alloc; "{instr}{half}")?;
     out.push_str(text.as_str())?;
     let blanks = COLUMNS.saturating_sub(text.len());
