@@ -7,7 +7,9 @@ use Rattle.drive.specs.declared.commands.Command.TheVariants as call
 use Rattle.drive.specs.declared.commands.Line.{Line}
 use Rattle.drive.specs.declared.commands.Line.TheVariants.{Asks, Nothing, Unknown, Wants}
 use Rattle.drive.specs.declared.commands.Verb.{Verb}
-use Rattle.drive.specs.declared.commands.Verb.TheVariants.{Claim, Commit, Creator, Finish, Learn, Look, Recover, Refresh, Show, Take, Touched, Turn}
+use Rattle.drive.specs.declared.commands.Verb.TheVariants.{Claim, Commit, Creator, Finish, Info, Learn, Look, Operand, Recover, Refresh, Rest, Show, Take, Touched, Turn}
+use Rattle.drive.specs.declared.commands.Which.{Which}
+use Rattle.drive.specs.declared.commands.Which.TheVariants.{First, Second}
 use Rattle.drive.specs.Units.{unit_of}
 use Rattle.drive.specs.Words.{Texts}
 
@@ -25,6 +27,9 @@ verb_name Learn = codes "learn"
 verb_name Look = codes "look"
 verb_name Creator = codes "creator"
 verb_name Touched = codes "touched"
+verb_name Info = codes "info"
+verb_name Operand = codes "operand"
+verb_name Rest = codes "rest"
 
 -- No character
 abbrev pub is_empty : List ℕ → Bool
@@ -60,6 +65,19 @@ both (Some a) (Some b) = Some (a, b)
 abbrev pub unit_and_number : Texts → Option (ℕ × ℕ)
 unit_and_number w = if has_two w then both (unit_of w.first) (number_of w.second) else None
 
+-- The source with this number, 1 or 2
+abbrev pub source_numbered : Option ℕ → Option Which
+source_numbered None = None
+source_numbered (Some n) = if n == 1 then Some First else if n == 2 then Some Second else None
+
+-- The source that an operand names
+abbrev pub source_of : List ℕ → Option Which
+source_of text = source_numbered (number_of text)
+
+-- The number of a station, and one of its two sources
+abbrev pub station_and_source : Texts → Option (ℕ × Which)
+station_and_source w = if has_two w then both (number_of w.first) (source_of w.second) else None
+
 -- The command of a word and its operands
 abbrev pub command_of : Verb → Texts → Option Command
 command_of Turn w = bare w call.Turn
@@ -74,6 +92,9 @@ command_of Learn w = bare w call.Learn
 command_of Look w = option_map (λ s. call.Look s) (only_number w)
 command_of Creator w = option_map (λ r. call.Creator r) (only_number w)
 command_of Touched w = bare w call.Touched
+command_of Info w = option_map (λ s. call.Info s) (only_number w)
+command_of Operand w = option_map (λ p. call.Operand p.0 p.1) (station_and_source w)
+command_of Rest w = bare w call.Rest
 
 -- The command that these words are
 pub record IsCommand (w : Texts) (c : Command) : Type 0 where

@@ -1,8 +1,10 @@
 -- What the calls of a session answer.
-use Rattle.std.specs.Prelude.{◌≡◌, ℕ, List, []}
+use Rattle.std.specs.Prelude.{◌≡◌, ℕ, List, [], length}
 use Rattle.isa.specs.Programs.{Program}
 use Rattle.inorder.specs.declared.history.Entry.{Entry}
-use Rattle.inorder.specs.History.{Adds, front}
+use Rattle.inorder.specs.declared.history.Source.{Source}
+use Rattle.inorder.specs.declared.history.Source.TheVariants.{First, Second}
+use Rattle.inorder.specs.History.{Adds, front, unit_of}
 use Rattle.inorder.specs.Unit.{Sizes}
 use Rattle.back.specs.Backs.{TheBack, committed_in, unit_in}
 use Rattle.back.specs.Commits.{CommitAnswers}
@@ -12,9 +14,12 @@ use Rattle.back.specs.Refreshes.{RefreshAnswers}
 use Rattle.front.specs.Creating.{IsCreator}
 use Rattle.front.specs.declared.answers.Made.{Made}
 use Rattle.front.specs.declared.answers.Recovery.{Recovery}
+use Rattle.front.specs.declared.answers.Rest.{Rest}
+use Rattle.front.specs.declared.answers.Rest.TheVariants.{Idle, Live}
 use Rattle.front.specs.declared.answers.Turn.{Turn}
 use Rattle.front.specs.declared.answers.Turn.TheVariants.{Let}
 use Rattle.front.specs.Recoveries.{RecoverAnswers}
+use Rattle.front.specs.Rests.{HasNobody}
 use Rattle.front.specs.Turns.{LetsOut, Refuses}
 use Rattle.ruu_words.specs.declared.station.StationState.{StationState}
 use Rattle.snapshots.specs.declared.mark.Mark.{Mark}
@@ -23,10 +28,15 @@ use Rattle.station.specs.declared.answers.Finish.{Finish}
 use Rattle.station.specs.declared.answers.Job.{Job}
 use Rattle.station.specs.declared.answers.Claim.TheVariants.{Job as Claimed}
 use Rattle.station.specs.declared.answers.Seen.{Seen}
-use Rattle.station.specs.Looking.{SeesStation}
+use Rattle.station.specs.declared.answers.SourceState.{SourceState}
+use Rattle.station.specs.Looking.{SeesInfo, SeesOperand, SeesStation}
+use Rattle.station.specs.Moments.{WasOnce}
 use Rattle.station.specs.Claiming.{ClaimAnswers, Holds}
 use Rattle.station.specs.Seats.{Caller, TheCore}
 use Rattle.station.specs.Writeback.{FinishAnswers}
+use Rattle.drive.specs.declared.commands.Which.{Which}
+use Rattle.drive.specs.declared.commands.Which.TheVariants as which
+use Rattle.drive.specs.declared.replies.Info.{Info}
 use Rattle.drive.specs.Moments.{IsBetween}
 
 -- A tenant was let, with some predicted next pc
@@ -96,6 +106,48 @@ IsLook core old new station seen =
     IsBetween old new (λ before behind. SeesStation core.program core.sizes behind station seen)
 
 -- Who creates a register
-abbrev pub IsCreatorNow : TheCore → List Entry → List Entry → ℕ → Made → Type 0
-IsCreatorNow core old new register made =
-    IsBetween old new (λ before behind. IsCreator core.program (unit_in core behind) 0 register made)
+abbrev pub IsCreatorNow : TheCore → List Entry → List Entry → (told register : ℕ) → Made → Type 0
+IsCreatorNow core old new told register made =
+    IsBetween old new (λ before behind.
+    IsCreator core.program (unit_in core behind) told register made)
+
+-- The info word of a station
+abbrev pub IsInfo : TheCore → List Entry → List Entry → ℕ → Info → Type 0
+IsInfo core old new station info =
+    IsBetween old new (λ before behind.
+    SeesInfo core.program core.sizes behind station info.index info.half info.predicted)
+
+-- The source that a command names
+abbrev pub source_at : Which → Source
+source_at which.First = First
+source_at which.Second = Second
+
+-- The operand word of a source of a station
+abbrev pub IsOperand : TheCore → List Entry → List Entry → ℕ → Source → Seen SourceState → Type 0
+IsOperand core old new station k seen =
+    IsBetween old new (λ before behind.
+    SeesOperand core.program core.sizes behind station k seen)
+
+-- Nobody is live, and all that the path's tenants have made stands apart from them now
+pub record HasIdled (P : Program) (C : Sizes) (before behind : List Entry) (new_told : ℕ) : Type 0 where
+  pub adds : Adds P C front before behind []
+  pub nobody : HasNobody (unit_of P C behind)
+  pub told : new_told ≡ length (unit_of P C behind).tenants
+
+-- Somebody was live at a moment of the call, and nothing changed
+pub record WasLive (P : Program) (C : Sizes) (before behind : List Entry) (told new_told : ℕ) :
+    Type 0 where
+  pub adds : Adds P C front before behind []
+  pub live : WasOnce P C before behind (λ U. ¬ HasNobody U)
+  pub told_is : new_told ≡ told
+
+-- A rest of the front
+abbrev pub RestSays : Program → Sizes → List Entry → List Entry → (told new_told : ℕ) → Rest → Type 0
+RestSays P C before behind told new_told Idle = HasIdled P C before behind new_told
+RestSays P C before behind told new_told Live = WasLive P C before behind told new_told
+
+-- What a rest answers, and of how many tenants nobody is told any more before it and behind it
+abbrev pub IsRest : TheCore → List Entry → List Entry → (told new_told : ℕ) → Rest → Type 0
+IsRest core old new told new_told rest =
+    IsBetween old new (λ before behind.
+    RestSays core.program core.sizes before behind told new_told rest)

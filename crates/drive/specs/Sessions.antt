@@ -1,11 +1,13 @@
 -- What contracts see of a session, and what it answers.
-use Rattle.std.specs.Prelude.{◌≡◌, ◌≢◌, ℕ, ◌≤◌, ◌-◌, ◌^◌, max, List, [], Option, Some, None, IsSome}
+use Rattle.std.specs.Prelude.{◌≡◌, ◌≢◌, ℕ, ◌≤◌, ◌-◌, ◌^◌, max, Bool, true, false, List, [], Option, Some, None, IsSome}
 use Rattle.isa.specs.Programs.{Program}
 use Rattle.isa.specs.Settings.{Settings}
 use Rattle.isa.specs.Registers.{register_count}
 use Rattle.inorder.specs.declared.history.Entry.{Entry}
 use Rattle.inorder.specs.History.{IsLegal, back}
 use Rattle.back.specs.Backs.{TheBack, state_of}
+use Rattle.front.specs.declared.answers.Rest.{Rest}
+use Rattle.front.specs.Rests.{rested_after}
 use Rattle.snapshots.specs.declared.mark.Mark.{Mark}
 use Rattle.snapshots.specs.declared.snap.Snap.{Snap}
 use Rattle.snapshots.specs.Snapshots.{IsSnapshotOf}
@@ -20,11 +22,12 @@ use Rattle.drive.specs.declared.replies.Reply.TheVariants as say
 use Rattle.drive.specs.declared.units.Held.{Held}
 use Rattle.drive.specs.declared.units.Worker.{Worker}
 use Rattle.drive.specs.Units.{unit_count}
-use Rattle.drive.specs.Replies.{IsCommit, IsCreatorNow, IsLook, IsRecovery, IsRefresh, IsShown, IsTurn}
+use Rattle.drive.specs.Replies.{IsCommit, IsCreatorNow, IsInfo, IsLook, IsOperand, IsRecovery, IsRefresh, IsRest, IsShown, IsTurn, source_at}
 use Rattle.drive.specs.Workers.{AreWorkers, HasClaimed, HasFinished, HasNone, job_at}
 
 -- A session: its core, the one history that its seats have seen together, its units, its back, the
--- greatest count of its snapper, the mark that was shown last, and what the create vector has touched
+-- greatest count of its snapper, the mark that was shown last, what the create vector has touched, how
+-- many tenants there were when the front last rested, and whether it has not turned or recovered since
 pub record TheSession : Type 0 where
   pub core : TheCore
   pub seen : List Entry
@@ -33,15 +36,17 @@ pub record TheSession : Type 0 where
   pub snapper : ℕ
   pub mark : Option Mark
   pub touched : ℕ
+  pub told : ℕ
+  pub rested : Bool
 
--- Its parts are of one core, and its front never rested
+-- Its parts are of one core, and it knows when its front is at a rest
 pub record IsWhole (P : Program) (core : TheCore) (program : Program) (all : Caller)
-    (front_core : TheCore) (front_told : ℕ) (commits : TheBack) (units : List (Option Worker)) (count : ℕ) : Type 0 where
+    (front_core : TheCore) (front_rested rested : Bool) (commits : TheBack) (units : List (Option Worker)) (count : ℕ) : Type 0 where
   pub named : core.program ≡ P
   pub program_is : program ≡ core.program
   pub all_core : all.core ≡ core
   pub front_is : front_core ≡ core
-  pub told_none : front_told ≡ 0
+  pub rests : rested ≡ true → front_rested ≡ true
   pub back_core : commits.core ≡ core
   pub back_by : commits.by ≡ back
   pub workers : AreWorkers core units
@@ -57,6 +62,8 @@ pub record IsStart (P : Program) (config : Settings) (s : TheSession) : Type 0 w
   pub units : HasNone s.units
   pub snapper : s.snapper ≡ 0
   pub mark : s.mark ≡ None
+  pub told : s.told ≡ 0
+  pub rested : s.rested ≡ false
 
 -- A unit has finished the job that it held of this station
 pub record HasFinishedAt (old new : TheSession) (unit station : ℕ) (answer : Finish) : Type 0 where
@@ -81,6 +88,11 @@ pub record HasShown (old new : TheSession) (mark : Mark) : Type 0 where
   pub says : IsShown old.core old.seen new.seen mark
   pub kept : new.mark ≡ Some mark
 
+-- The front has rested, if nobody was live
+pub record HasRested (old new : TheSession) (rest : Rest) : Type 0 where
+  pub says : IsRest old.core old.seen new.seen old.told new.told rest
+  pub rested : new.rested ≡ rested_after old.rested rest
+
 -- Why a command is refused
 abbrev pub MayRefuse : TheSession → Command → Refusal → Type 0
 MayRefuse s (ask.Claim unit station) no.NoUnit = unit_count ≤ unit
@@ -90,6 +102,8 @@ MayRefuse s (ask.Finish unit station) no.NoUnit = unit_count ≤ unit
 MayRefuse s (ask.Finish unit station) no.HoldsNone =
     (held : Held) → job_at s.units unit ≡ Some held → held.station ≢ station
 MayRefuse s (ask.Look station) no.NoStation = s.core.sizes.ring ≤ station
+MayRefuse s (ask.Info station) no.NoStation = s.core.sizes.ring ≤ station
+MayRefuse s (ask.Operand station which) no.NoStation = s.core.sizes.ring ≤ station
 MayRefuse s (ask.Creator register) no.NoRegister = register_count ≤ register
 MayRefuse s ask.Learn no.NoMark = s.mark ≡ None
 MayRefuse s ask.Commit no.NoCount = 2 ^ 64 - 1 ≤ (state_of s.commits).count
@@ -116,15 +130,22 @@ Answers old new ask.Learn say.Learnt = HasLearnt old new
 Answers old new (ask.Look station) (say.Look seen) =
     IsLook old.core old.seen new.seen station seen
 Answers old new (ask.Creator register) (say.Creator made) =
-    IsCreatorNow old.core old.seen new.seen register made
+    IsCreatorNow old.core old.seen new.seen old.told register made
 Answers old new ask.Touched (say.Touched count) = (count ≡ old.touched) × (new ≡ old)
+Answers old new (ask.Info station) (say.Info info) =
+    IsInfo old.core old.seen new.seen station info
+Answers old new (ask.Operand station which) (say.Operand seen) =
+    IsOperand old.core old.seen new.seen station (source_at which) seen
+Answers old new ask.Rest (say.Rest rest) = HasRested old new rest
 Answers old new command (say.Refused refusal) = MayRefuse old command refusal × (new ≡ old)
 Answers old new command reply = ⊥
 
 -- The session with what a command may change
 abbrev pub changed : Command → TheSession → TheSession → TheSession
-changed ask.Turn old new = record old { seen = new.seen; touched = new.touched }
-changed ask.Recover old new = record old { seen = new.seen; touched = new.touched }
+changed ask.Turn old new =
+    record old { seen = new.seen; touched = new.touched; rested = false }
+changed ask.Recover old new =
+    record old { seen = new.seen; touched = new.touched; rested = false }
 changed (ask.Claim unit station) old new = record old { seen = new.seen; units = new.units }
 changed (ask.Finish unit station) old new = record old { seen = new.seen; units = new.units }
 changed ask.Refresh old new = record old { seen = new.seen; commits = new.commits }
@@ -136,3 +157,6 @@ changed ask.Learn old new = record old { snapper = new.snapper }
 changed (ask.Look station) old new = record old { seen = new.seen }
 changed (ask.Creator register) old new = record old { seen = new.seen }
 changed ask.Touched old new = old
+changed (ask.Info station) old new = record old { seen = new.seen; commits = new.commits }
+changed (ask.Operand station which) old new = record old { seen = new.seen; commits = new.commits }
+changed ask.Rest old new = record old { seen = new.seen; told = new.told; rested = new.rested }

@@ -14,6 +14,8 @@ use Rattle.front.specs.declared.answers.Made.{Made}
 use Rattle.front.specs.declared.answers.Made.TheVariants as made
 use Rattle.front.specs.declared.answers.Recovery.{Recovery}
 use Rattle.front.specs.declared.answers.Recovery.TheVariants as recovery
+use Rattle.front.specs.declared.answers.Rest.{Rest}
+use Rattle.front.specs.declared.answers.Rest.TheVariants as rest
 use Rattle.front.specs.declared.answers.Turn.{Turn}
 use Rattle.front.specs.declared.answers.Turn.TheVariants as turn
 use Rattle.ruu_words.specs.declared.station.StationState.{StationState}
@@ -22,6 +24,9 @@ use Rattle.snapshots.specs.declared.snap.Snap.{Snap}
 use Rattle.station.specs.declared.answers.Finish.{Finish}
 use Rattle.station.specs.declared.answers.Finish.TheVariants as finish
 use Rattle.station.specs.declared.answers.Seen.{Seen}
+use Rattle.station.specs.declared.answers.SourceState.{SourceState}
+use Rattle.station.specs.declared.answers.SourceState.TheVariants as source
+use Rattle.drive.specs.declared.replies.Info.{Info}
 use Rattle.drive.specs.declared.replies.Refusal.{Refusal}
 use Rattle.drive.specs.declared.replies.Refusal.TheVariants as no
 use Rattle.drive.specs.declared.replies.Reply.{Reply}
@@ -138,6 +143,29 @@ look_text seen =
     codes "Seen tag " ++ (decimal seen.tag ++ (codes " state " ++ (state_text seen.state
     ++ (codes " value " ++ hexadecimal seen.value))))
 
+-- The state that an operand shows
+abbrev pub operand_state_text : SourceState → List ℕ
+operand_state_text source.Unset = codes "UNSET"
+operand_state_text source.Wait = codes "WAIT"
+operand_state_text source.Val = codes "VAL"
+
+-- What was seen of an operand
+abbrev pub operand_text : Seen SourceState → List ℕ
+operand_text seen =
+    codes "Seen tag " ++ (decimal seen.tag ++ (codes " state " ++ (operand_state_text seen.state
+    ++ (codes " value " ++ hexadecimal seen.value))))
+
+-- An info word
+abbrev pub info_text : Info → List ℕ
+info_text info =
+    codes "Info index " ++ (decimal info.index ++ (codes " half " ++ (half_text info.half
+    ++ (codes " predicted " ++ hexadecimal info.predicted))))
+
+-- What a rest answered
+abbrev pub rest_text : Rest → List ℕ
+rest_text rest.Idle = codes "Idle"
+rest_text rest.Live = codes "Live"
+
 -- Why a line was refused
 abbrev pub refusal_text : Refusal → List ℕ
 refusal_text no.NoUnit = codes "there is no such unit"
@@ -164,4 +192,7 @@ reply_text say.Learnt = codes "Learnt"
 reply_text (say.Look seen) = look_text seen
 reply_text (say.Creator made) = made_text made
 reply_text (say.Touched count) = decimal count
+reply_text (say.Info info) = info_text info
+reply_text (say.Operand seen) = operand_text seen
+reply_text (say.Rest rest) = rest_text rest
 reply_text (say.Refused refusal) = refusal_text refusal

@@ -18,6 +18,8 @@ abbrev pub operands_text : Verb → List ℕ
 operands_text verb.Claim = codes "a unit and a station"
 operands_text verb.Finish = codes "a unit and a station"
 operands_text verb.Look = codes "a station"
+operands_text verb.Info = codes "a station"
+operands_text verb.Operand = codes "a station and a source"
 operands_text verb.Creator = codes "a register"
 operands_text _ = codes "no operand"
 

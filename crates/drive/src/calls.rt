@@ -2,12 +2,13 @@
 ghost use Rattle.std.specs.Prelude.{◌≡◌, ◌<◌, ◌-◌, ◌^◌, IfOk};
 ghost use Rattle.back.specs.Backs.{IsSame as IsSameBack, state_of};
 ghost use Rattle.drive.specs.Moments.{Grows};
-ghost use Rattle.drive.specs.Replies.{HoldsWhatIs, IsClaim, IsCommit, IsCreatorNow, IsFinish, IsLook, IsRecovery, IsRefresh, IsShown, IsTurn};
+ghost use Rattle.front.specs.Rests.{rested_after};
+ghost use Rattle.drive.specs.Replies.{HoldsWhatIs, IsClaim, IsCommit, IsCreatorNow, IsFinish, IsLook, IsRecovery, IsRefresh, IsRest, IsShown, IsTurn};
 ghost use Rattle.station.specs.Claiming.{Holds};
 ghost use Rattle.station.specs.Seats.{IsSame};
 
 use back::{Back, Commit, Mark, Naming, Refresh};
-use front::{Front, Made, Recovery, Turn};
+use front::{Front, Made, Recovery, Rest, Turn};
 use isa::{Memory, Predictor, Program, Reg, outcome_of};
 use station::{
     Claim, Core, Finish, Job, Seen, StationState, UnitSeat, a_job_is_of_the_program, jobs_stay,
@@ -159,11 +160,29 @@ pub fn look<P: Predictor + Drop>(
     ensures front { front.new.core ≡ core.now }
     ensures told { front.new.told ≡ front.old.told }
     ensures touched { front.new.touched ≡ front.old.touched }
+    ensures rested { front.new.rested ≡ front.old.rested }
     ensures grows { Grows core.now all.old.seen all.new.seen }
     ensures reply { IsLook core.now all.old.seen all.new.seen station result }
 {
     front.meet(core, all);
     let answer = front.look(core, station);
+    front.meet(core, all);
+    answer
+}
+
+/// A rest of the front.
+pub fn rest<P: Predictor + Drop>(core: &Core, all: &mut UnitSeat, front: &mut Front<'_, P>) -> Rest
+    requires all { all.old.core ≡ core.now }
+    requires front { front.old.core ≡ core.now }
+    ensures all { IsSame all.old all.new }
+    ensures front { front.new.core ≡ core.now }
+    ensures rested { front.new.rested ≡ rested_after front.old.rested result }
+    ensures touched { front.new.touched ≡ front.old.touched }
+    ensures grows { Grows core.now all.old.seen all.new.seen }
+    ensures reply { IsRest core.now all.old.seen all.new.seen front.old.told front.new.told result }
+{
+    front.meet(core, all);
+    let answer = front.rest(core);
     front.meet(core, all);
     answer
 }
@@ -177,13 +196,13 @@ pub fn creator<P: Predictor + Drop>(
 ) -> Made
     requires all { all.old.core ≡ core.now }
     requires front { front.old.core ≡ core.now }
-    requires told { front.old.told ≡ 0 }
     ensures all { IsSame all.old all.new }
     ensures front { front.new.core ≡ core.now }
     ensures told { front.new.told ≡ front.old.told }
     ensures touched { front.new.touched ≡ front.old.touched }
     ensures grows { Grows core.now all.old.seen all.new.seen }
-    ensures reply { IsCreatorNow core.now all.old.seen all.new.seen register result }
+    ensures rested { front.new.rested ≡ front.old.rested }
+    ensures reply { IsCreatorNow core.now all.old.seen all.new.seen front.old.told register result }
 {
     front.meet(core, all);
     front.creator(register)

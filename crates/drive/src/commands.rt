@@ -1,6 +1,6 @@
 //! The commands of a script.
 ghost use Rattle.std.specs.Prelude.{◌≡◌, ◌≢◌, IfNone, IfSome};
-ghost use Rattle.drive.specs.Commands.{IsLine, bare, command_of, has_one, has_two, number_of, only_number, unit_and_number, verb_name};
+ghost use Rattle.drive.specs.Commands.{IsLine, bare, command_of, has_one, has_two, number_of, only_number, source_of, station_and_source, unit_and_number, verb_name};
 ghost use Rattle.drive.specs.Words.{texts_of, words_of};
 ghost use Rattle.drive.specs.declared.commands.Verb.{Verb};
 
@@ -23,6 +23,16 @@ pub enum Verb {
     Look,
     Creator,
     Touched,
+    Info,
+    Operand,
+    Rest,
+}
+
+/// Source 1 or source 2 of an instruction.
+#[derive(Clone, Copy, Debug, PartialEq, Eq)]
+pub enum Which {
+    First,
+    Second,
 }
 
 /// A call to make. A unit is named by its place, from 0 on.
@@ -40,6 +50,9 @@ pub enum Command {
     Look(u32),
     Creator(u32),
     Touched,
+    Info(u32),
+    Operand(u32, Which),
+    Rest,
 }
 
 /// What a line asks for.
@@ -72,6 +85,9 @@ fn verb_in(word: &[u8]) -> Option<Verb>
         b"look" => Some(Verb::Look),
         b"creator" => Some(Verb::Creator),
         b"touched" => Some(Verb::Touched),
+        b"info" => Some(Verb::Info),
+        b"operand" => Some(Verb::Operand),
+        b"rest" => Some(Verb::Rest),
         _ => None,
     }
 }
@@ -125,6 +141,28 @@ fn unit_and_number(words: &Words<'_>) -> Option<(usize, u32)>
     Some((unit, number))
 }
 
+// Which of the two sources.
+fn source_in(text: &[u8]) -> Option<Which>
+    ensures { result ≡ source_of text.now }
+{
+    match number_in(text)? {
+        1 => Some(Which::First),
+        2 => Some(Which::Second),
+        _ => None,
+    }
+}
+
+fn station_and_source(words: &Words<'_>) -> Option<(u32, Which)>
+    ensures { result ≡ station_and_source (texts_of words.now) }
+{
+    if !has_two(words) {
+        return None;
+    }
+    let station = number_in(words.first)?;
+    let k = source_in(words.second)?;
+    Some((station, k))
+}
+
 // The command of a word and its operands.
 fn command_in(verb: Verb, words: &Words<'_>) -> Option<Command>
     ensures { result ≡ command_of verb (texts_of words.now) }
@@ -144,6 +182,9 @@ fn command_in(verb: Verb, words: &Words<'_>) -> Option<Command>
         Verb::Look => only_number(words).map(Command::Look),
         Verb::Creator => only_number(words).map(Command::Creator),
         Verb::Touched => bare(words, Command::Touched),
+        Verb::Info => only_number(words).map(Command::Info),
+        Verb::Operand => station_and_source(words).map(|(station, k)| Command::Operand(station, k)),
+        Verb::Rest => bare(words, Command::Rest),
     }
 }
 

@@ -27,6 +27,9 @@ fn word(verb: Verb) -> &'static str
         Verb::Look => "look",
         Verb::Creator => "creator",
         Verb::Touched => "touched",
+        Verb::Info => "info",
+        Verb::Operand => "operand",
+        Verb::Rest => "rest",
     }
 }
 
@@ -35,7 +38,8 @@ fn operands(verb: Verb) -> &'static str
 {
     match verb {
         Verb::Claim | Verb::Finish => "a unit and a station",
-        Verb::Look => "a station",
+        Verb::Look | Verb::Info => "a station",
+        Verb::Operand => "a station and a source",
         Verb::Creator => "a register",
         _ => "no operand",
     }

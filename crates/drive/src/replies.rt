@@ -1,8 +1,9 @@
 //! What a session answers.
 use crate::units::Claimed;
 use back::{Commit, Mark, Refresh, Snap};
-use front::{Made, Recovery, Turn};
-use station::{Finish, Seen, StationState};
+use front::{Made, Recovery, Rest, Turn};
+use isa::Half;
+use station::{Finish, Seen, SourceState, StationState};
 
 /// Why a command is not allowed. Nothing is done then.
 #[derive(Clone, Copy, Debug, PartialEq, Eq)]
@@ -19,6 +20,14 @@ pub enum Refusal {
     NoMark,
     /// As many instructions were committed as can be counted.
     NoCount,
+}
+
+/// An info word: the index of an instruction, a half of that, and the predicted next pc.
+#[derive(Clone, Copy)]
+pub struct Info {
+    pub index: u32,
+    pub half: Half,
+    pub predicted: u32,
 }
 
 /// The answer to a command: that of its call, or why that is not allowed.
@@ -40,5 +49,8 @@ pub enum Reply {
     Look(Seen<StationState>),
     Creator(Made),
     Touched(u64),
+    Info(Info),
+    Operand(Seen<SourceState>),
+    Rest(Rest),
     Refused(Refusal),
 }

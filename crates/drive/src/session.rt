@@ -1,9 +1,11 @@
 //! A session: a core with all its seats in one hand.
+mod looking;
+mod resting;
 mod showing;
 
 use crate::calls;
 use crate::commands::Command;
-use crate::names::{UNITS, register_of};
+use crate::names::UNITS;
 use crate::replies::{Refusal, Reply};
 use crate::units::{Worker, claim_by, finish_by, job_of, no_units};
 use back::{Back, Mark, Naming, Snapper};
@@ -25,6 +27,8 @@ pub struct Session<'a, P: Predictor + Drop, J: Naming> {
     back: Back<J>,
     snapper: Snapper<J>,
     mark: Option<Mark>,
+    // the front has answered that nobody is live, and has not turned or recovered since
+    rested: bool,
     units: Vec<Option<Worker>>,
 }
 
@@ -42,9 +46,11 @@ impl<'a, P: Predictor + Drop, J: Naming> Model for Session<'a, P, J> {
       snapper = s.snapper;
       mark = s.mark;
       touched = s.front.touched;
+      told = s.front.told;
+      rested = s.rested;
     } };
 
-    ghost invariant = { λ s. IsWhole J.program s.core s.program.now s.all s.front.core s.front.told s.back
+    ghost invariant = { λ s. IsWhole J.program s.core s.program.now s.all s.front.core s.front.rested s.rested s.back
         s.units.items (vec_len s.units) };
 }
 
@@ -77,6 +83,7 @@ impl<'a, P: Predictor + Drop, J: Naming> Session<'a, P, J> {
                 back,
                 snapper,
                 mark: None,
+                rested: false,
                 units,
             }),
             Err((memory, _)) => Err(memory),
@@ -89,6 +96,7 @@ impl<'a, P: Predictor + Drop, J: Naming> Session<'a, P, J> {
         ensures kept { self.new ≡ changed Command.Turn self.old self.new }
         ensures reply { Answers self.old self.new Command.Turn result }
     {
+        self.rested = false;
         Reply::Turn(calls::turn(&self.core, &mut self.all, &mut self.front))
     }
 
@@ -98,6 +106,7 @@ impl<'a, P: Predictor + Drop, J: Naming> Session<'a, P, J> {
         ensures kept { self.new ≡ changed Command.Recover self.old self.new }
         ensures reply { Answers self.old self.new Command.Recover result }
     {
+        self.rested = false;
         Reply::Recovery(calls::recover(&self.core, &mut self.all, &mut self.front))
     }
 
@@ -161,41 +170,6 @@ impl<'a, P: Predictor + Drop, J: Naming> Session<'a, P, J> {
         Reply::Commit(calls::commit(&self.core, &mut self.all, &mut self.back))
     }
 
-    fn look(&mut self, station: u32) -> Reply
-        ensures core { self.new.core ≡ self.old.core }
-        ensures grows { Grows self.old.core self.old.seen self.new.seen }
-        ensures kept { self.new ≡ changed (Command.Look station) self.old self.new }
-        ensures reply { Answers self.old self.new (Command.Look station) result }
-    {
-        if self.core.ring() <= station as usize {
-            return Reply::Refused(Refusal::NoStation);
-        }
-        let (core, all, front) = (&self.core, &mut self.all, &mut self.front);
-        Reply::Look(calls::look(core, all, front, station as usize))
-    }
-
-    fn creator(&mut self, register: u32) -> Reply
-        ensures core { self.new.core ≡ self.old.core }
-        ensures grows { Grows self.old.core self.old.seen self.new.seen }
-        ensures kept { self.new ≡ changed (Command.Creator register) self.old self.new }
-        ensures reply { Answers self.old self.new (Command.Creator register) result }
-    {
-        let core = &self.core;
-        let Some(named) = register_of(register) else {
-            return Reply::Refused(Refusal::NoRegister);
-        };
-        Reply::Creator(calls::creator(core, &mut self.all, &mut self.front, named))
-    }
-
-    fn touched(&mut self) -> Reply
-        ensures core { self.new.core ≡ self.old.core }
-        ensures grows { Grows self.old.core self.old.seen self.new.seen }
-        ensures kept { self.new ≡ changed Command.Touched self.old self.new }
-        ensures reply { Answers self.old self.new Command.Touched result }
-    {
-        Reply::Touched(self.front.touched())
-    }
-
     /// Makes the call that a command asks for, if that is allowed.
     pub fn answer<R: Wait>(&mut self, wait: &R, command: Command) -> Reply
         ensures core { self.new.core ≡ self.old.core }
@@ -216,6 +190,9 @@ impl<'a, P: Predictor + Drop, J: Naming> Session<'a, P, J> {
             Command::Look(station) => self.look(station),
             Command::Creator(register) => self.creator(register),
             Command::Touched => self.touched(),
+            Command::Info(station) => self.info(station),
+            Command::Operand(station, which) => self.operand(station, which),
+            Command::Rest => self.rest(),
         }
     }
 
@@ -233,6 +210,7 @@ impl<'a, P: Predictor + Drop, J: Naming> Session<'a, P, J> {
             back,
             snapper: _,
             mark: _,
+            rested: _,
             units: _,
         } = self;
         back.end(wait)

@@ -1,4 +1,6 @@
 //! Lines, and rows by hand as scripts with their transcripts.
+mod reading;
+
 ghost use Rattle.std.specs.Prelude.{◌≡◌};
 
 use super::*;
@@ -13,7 +15,7 @@ use std::test::Fail;
 
 #[test]
 fn lines_are_commands(rt: HostRuntime) {
-    let cases: [(&[u8], Line); 12] = [
+    let cases: [(&[u8], Line); 14] = [
         (b"turn", Line::Asks(Command::Turn)),
         (
             b" claim\tA 3 # of station 3",
@@ -25,6 +27,11 @@ fn lines_are_commands(rt: HostRuntime) {
         (b"look 4294967295", Line::Asks(Command::Look(0xffff_ffff))),
         (b"look 03", Line::Wants(Verb::Look)),
         (b"creator 33", Line::Asks(Command::Creator(33))),
+        (
+            b"operand 3 2",
+            Line::Asks(Command::Operand(3, Which::Second)),
+        ),
+        (b"operand 3 0", Line::Wants(Verb::Operand)),
         (b"commit 1", Line::Wants(Verb::Commit)),
         (b"claim a 1", Line::Wants(Verb::Claim)),
         (b"# turn", Line::Nothing),

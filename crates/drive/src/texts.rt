@@ -5,13 +5,14 @@ ghost use Rattle.drive.specs.Texts.{claimed_text, commit_text, half_text, held_t
 use crate::digits::{Word, push_registers};
 use crate::replies::{Refusal, Reply};
 use crate::units::{Claimed, Held};
+use crate::word_texts::{info_text, operand_text, rest_text};
 use back::{Commit, Refresh, Snap};
 use front::{Made, Recovery, Turn};
 use isa::Half;
 use station::{Finish, Seen, Source, StationState};
 use std::alloc::{AllocError, Global};
 
-fn half(half: Half) -> &'static str
+pub(crate) fn half(half: Half) -> &'static str
     ensures { result.now ≡ half_text half }
 {
     match half {
@@ -219,6 +220,9 @@ pub fn text_of(alloc: Global, reply: &Reply) -> Result<String, AllocError>
         Reply::Look(seen) => look_text(alloc, seen),
         Reply::Creator(made) => made_text(alloc, *made),
         Reply::Touched(count) => format!(in alloc; "{count}"),
+        Reply::Info(info) => info_text(alloc, info),
+        Reply::Operand(seen) => operand_text(alloc, seen),
+        Reply::Rest(rest) => format!(in alloc; "{}", rest_text(*rest)),
         Reply::Refused(refusal) => format!(in alloc; "{}", refusal_text(*refusal)),
     }
 }

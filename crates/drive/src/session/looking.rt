@@ -1,0 +1,76 @@
+//! What a session reads, of words and of the create vector.
+use super::Session;
+use crate::commands::Which;
+use crate::names::register_of;
+use crate::replies::{Refusal, Reply};
+use crate::{calls, reads};
+use back::Naming;
+use isa::Predictor;
+
+impl<'a, P: Predictor + Drop, J: Naming> Session<'a, P, J> {
+    ghost use Rattle.std.specs.Prelude.{◌≡◌};
+    ghost use Rattle.drive.specs.Moments.{Grows};
+    ghost use Rattle.drive.specs.Sessions.{Answers, changed};
+    ghost use Rattle.drive.specs.declared.commands.Command.TheVariants.{Creator, Info, Look, Operand, Touched};
+
+    pub(super) fn look(&mut self, station: u32) -> Reply
+        ensures core { self.new.core ≡ self.old.core }
+        ensures grows { Grows self.old.core self.old.seen self.new.seen }
+        ensures kept { self.new ≡ changed (Look station) self.old self.new }
+        ensures reply { Answers self.old self.new (Look station) result }
+    {
+        if self.core.ring() <= station as usize {
+            return Reply::Refused(Refusal::NoStation);
+        }
+        let (core, all, front) = (&self.core, &mut self.all, &mut self.front);
+        Reply::Look(calls::look(core, all, front, station as usize))
+    }
+
+    pub(super) fn creator(&mut self, register: u32) -> Reply
+        ensures core { self.new.core ≡ self.old.core }
+        ensures grows { Grows self.old.core self.old.seen self.new.seen }
+        ensures kept { self.new ≡ changed (Creator register) self.old self.new }
+        ensures reply { Answers self.old self.new (Creator register) result }
+    {
+        let core = &self.core;
+        let Some(named) = register_of(register) else {
+            return Reply::Refused(Refusal::NoRegister);
+        };
+        Reply::Creator(calls::creator(core, &mut self.all, &mut self.front, named))
+    }
+
+    pub(super) fn touched(&mut self) -> Reply
+        ensures core { self.new.core ≡ self.old.core }
+        ensures grows { Grows self.old.core self.old.seen self.new.seen }
+        ensures kept { self.new ≡ changed Touched self.old self.new }
+        ensures reply { Answers self.old self.new Touched result }
+    {
+        Reply::Touched(self.front.touched())
+    }
+
+    pub(super) fn info(&mut self, station: u32) -> Reply
+        ensures core { self.new.core ≡ self.old.core }
+        ensures grows { Grows self.old.core self.old.seen self.new.seen }
+        ensures kept { self.new ≡ changed (Info station) self.old self.new }
+        ensures reply { Answers self.old self.new (Info station) result }
+    {
+        if self.core.ring() <= station as usize {
+            return Reply::Refused(Refusal::NoStation);
+        }
+        let (core, all, back) = (&self.core, &mut self.all, &mut self.back);
+        Reply::Info(reads::info(core, all, back, station as usize))
+    }
+
+    pub(super) fn operand(&mut self, station: u32, which: Which) -> Reply
+        ensures core { self.new.core ≡ self.old.core }
+        ensures grows { Grows self.old.core self.old.seen self.new.seen }
+        ensures kept { self.new ≡ changed (Operand station which) self.old self.new }
+        ensures reply { Answers self.old self.new (Operand station which) result }
+    {
+        if self.core.ring() <= station as usize {
+            return Reply::Refused(Refusal::NoStation);
+        }
+        let (core, all, back) = (&self.core, &mut self.all, &mut self.back);
+        Reply::Operand(reads::operand(core, all, back, station as usize, which))
+    }
+}

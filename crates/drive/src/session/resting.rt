@@ -1,0 +1,26 @@
+//! Rests of a session.
+use super::Session;
+use crate::calls;
+use crate::replies::Reply;
+use back::Naming;
+use isa::Predictor;
+
+impl<'a, P: Predictor + Drop, J: Naming> Session<'a, P, J> {
+    ghost use Rattle.std.specs.Prelude.{◌≡◌};
+    ghost use Rattle.drive.specs.Moments.{Grows};
+    ghost use Rattle.drive.specs.Sessions.{Answers, changed};
+    ghost use Rattle.drive.specs.declared.commands.Command.TheVariants.{Rest};
+
+    pub(super) fn rest(&mut self) -> Reply
+        ensures core { self.new.core ≡ self.old.core }
+        ensures grows { Grows self.old.core self.old.seen self.new.seen }
+        ensures kept { self.new ≡ changed Rest self.old self.new }
+        ensures reply { Answers self.old self.new Rest result }
+    {
+        let rest = calls::rest(&self.core, &mut self.all, &mut self.front);
+        if let front::Rest::Idle = rest {
+            self.rested = true;
+        }
+        Reply::Rest(rest)
+    }
+}
