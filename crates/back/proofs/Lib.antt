@@ -6,6 +6,7 @@ pub mod Retired
 pub mod Starting
 pub mod SeatKept
 pub mod Calls
+pub mod Leaving
 pub mod CommitCalls
 pub mod Ranks
 pub mod RuleOver

@@ -7,5 +7,6 @@ pub mod Port
 pub mod Refreshes
 pub mod Wakings
 pub mod Ends
+pub mod Stills
 pub mod Trials
 pub mod Scans

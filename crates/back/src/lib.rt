@@ -11,10 +11,12 @@ mod port;
 mod refresh;
 mod seats;
 mod show;
+mod still;
 
 pub use answers::{Commit, Refresh};
 pub use backs::Back;
 pub use snapshots::{Gone, Mark, Naming, NoPlace, Snap, Snapper};
+pub use still::BackStill;
 
 #[cfg(test)]
 mod tests;

@@ -1,13 +1,14 @@
 //! What the back's seat sees and is told.
 ghost use Rattle.std.specs.Prelude.{◌≡◌, ◌<◌};
 ghost use Rattle.inorder.specs.History.{StartsWith};
-ghost use Rattle.station.specs.Looking.{SeesStation};
+ghost use Rattle.station.specs.Looking.{SeesInfo, SeesOperand, SeesStation};
 ghost use Rattle.station.specs.Seats.{IsSame as IsSameSeat};
 ghost use Rattle.back.specs.Backs.{IsSame, SeesMore};
 
 use crate::backs::Back;
+use isa::Half;
 use snapshots::Naming;
-use station::{Core, Part, SeatOf, Seen, StationState};
+use station::{Core, Part, SeatOf, Seen, Source, SourceState, StationState};
 
 impl<J: Naming> Back<J> {
     /// The word of a station.
@@ -20,6 +21,30 @@ impl<J: Naming> Back<J> {
         ensures reply { SeesStation core.now.program core.now.sizes self.new.seen station result }
     {
         core.look(&mut self.seat, station)
+    }
+
+    /// The info word of a station: the index of an instruction and a half of that, and the predicted next pc.
+    pub fn info(&mut self, core: &Core, station: usize) -> (u32, Half, u32)
+        requires core { self.old.core ≡ core.now }
+        requires station { station < core.now.sizes.ring }
+        ensures kept { IsSame self.old self.new }
+        ensures woken { self.new.woken ≡ self.old.woken }
+        ensures history { SeesMore core.now self.old.by self.old.seen self.new.seen }
+        ensures reply { SeesInfo core.now.program core.now.sizes self.new.seen station result.0 result.1 result.2 }
+    {
+        core.info(&mut self.seat, station)
+    }
+
+    /// The operand word of source k of a station.
+    pub fn operand(&mut self, core: &Core, station: usize, k: Source) -> Seen<SourceState>
+        requires core { self.old.core ≡ core.now }
+        requires station { station < core.now.sizes.ring }
+        ensures kept { IsSame self.old self.new }
+        ensures woken { self.new.woken ≡ self.old.woken }
+        ensures history { SeesMore core.now self.old.by self.old.seen self.new.seen }
+        ensures reply { SeesOperand core.now.program core.now.sizes self.new.seen station k result }
+    {
+        core.operand(&mut self.seat, station, k)
     }
 
     /// Afterwards each has seen what either had seen. The back can meet any seat.

@@ -158,3 +158,48 @@ fn a_back_without_an_instruction_ends_at_once(rt: HostRuntime) -> Result<(), Fai
     let config = Config::new(2, 2, 1, 1, 1, 1_000, 1_000)?;
     no_instruction::<Brand, _>(&rt, rt.alloc(), &program, &config)
 }
+
+// A back leaves before it has retired anybody, and enters; behind the first half of a multiplication it leaves again, and
+// enters again. Its snapper reads on.
+fn leave_and_enter<J: Naming, R: Wait + Abort>(
+    rt: &R,
+    alloc: Global,
+    program: &Program,
+    config: &Config,
+) -> Result<(), Fail>
+    requires program { program.now ≡ J.program }
+    requires tag { config.now.first_tag < last_tag }
+{
+    let (core, mut seat, back_seat, mut unit) = Core::make(alloc, program, config)?;
+    assert!(rt; 0 < program.len() && core.ring() == 4 && core.queue() == 2);
+    let predicted = program.instr(0).fixed_next(Half::Low, Program::START);
+    let_first(&core, &mut seat, predicted.unwrap_or(0));
+    assert!(rt; finish_one(&core, program, &mut unit, 0));
+    let Ok((fresh, mut snapper)) = Back::<J>::new(alloc, &core, back_seat, program, config) else {
+        panic!(rt; "no memory for the back");
+    };
+    let (given, still) = fresh.leave();
+    let mut entered = still.enter(given);
+    let half = entered.commit(&core);
+    assert!(rt; entered.ended().is_none());
+    let (given, still) = entered.leave();
+    let mut again = still.enter_again(given);
+    let shown = again.show(rt).ok();
+    let taken = snapper.take().ok();
+    let n = again.n();
+    let end = again.end(rt);
+    assert_eq!(rt; half, Commit::Half { pc: Program::START });
+    assert_eq!(rt;
+        (shown, taken.map(|snap| snap.pc)),
+        (Some(Mark { n: 0 }), Some(Program::START))
+    );
+    assert_eq!(rt; (n, end.n, end.registers[32]), (0, 0, 0));
+    Ok(())
+}
+
+#[test]
+fn a_back_goes_on_where_it_left(rt: HostRuntime) -> Result<(), Fail> {
+    let program = parse(rt.alloc(), b"mult $0,$0\nbreak\n")?;
+    let config = Config::new(4, 2, 1, 1, 1, 1_000, 1_000)?;
+    leave_and_enter::<Brand, _>(&rt, rt.alloc(), &program, &config)
+}

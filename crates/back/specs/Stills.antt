@@ -1,0 +1,32 @@
+-- A back between two cores.
+use Rattle.std.specs.Prelude.{◌≡◌, ℕ, List, []}
+use Rattle.inorder.specs.declared.history.Entry.{Entry}
+use Rattle.inorder.specs.Callers.{head_station}
+use Rattle.inorder.specs.History.{Adds, back}
+use Rattle.snapshots.specs.declared.snap.Snap.{Snap}
+use Rattle.station.specs.Seats.{Caller, TheCore}
+use Rattle.back.specs.Backs.{TheBack, unit_in}
+
+-- The core that it left, what it had seen there, and the snapshot that it showed last
+pub record TheStill : Type 0 where
+  pub core : TheCore
+  pub seen : List Entry
+  pub shown : Snap
+
+-- What is left of a back without its core
+abbrev pub still_of : TheBack → TheStill
+still_of b = record { core = b.core; seen = b.seen; shown = b.shown }
+
+-- A seat of a core of the same program and sizes. Its unit has the tenants of a history that goes on
+-- from what was seen by nothing of the back's: a renewal changes no tenant
+pub record GoesOn (core : TheCore) (seen : List Entry) (seat : Caller) : Type 0 where
+  pub by_is : seat.by ≡ back
+  pub program : seat.core.program ≡ core.program
+  pub sizes : seat.core.sizes ≡ core.sizes
+  pub last : List Entry
+  pub adds : Adds core.program core.sizes back seen last []
+  pub tenants : (unit_in seat.core seat.seen).tenants ≡ (unit_in core last).tenants
+
+-- The station of the oldest live tenant at a seat, or of the next one if nobody is live
+abbrev pub head_at : TheCore → List Entry → ℕ
+head_at core seen = head_station core.sizes (unit_in core seen)

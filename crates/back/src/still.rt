@@ -1,0 +1,125 @@
+//! A back that leaves its core, and one that enters another.
+ghost use Rattle.std.specs.Prelude.{◌≡◌, None};
+ghost use Rattle.inorder.specs.Callers.{GoesOn as HasNoStop};
+ghost use Rattle.back.specs.Backs.{back_of, committed_in, state_of, unit_in};
+ghost use Rattle.back.specs.Stills.{GoesOn, head_at, still_of};
+
+use crate::backs::Back;
+use crate::committed::Committed;
+use isa::Program;
+use snapshots::{Naming, Publisher};
+use station::{BackSeat, what_is_seen_is_legal};
+use std::marker::Model;
+use std::snapshot::Snapshot;
+
+/// A back without a core: the memory and the committed registers, pc and count, what waits for LO between two
+/// halves, and the publisher, so that snappers and marks stay good. It is no `Drop`: it enters a core again.
+pub struct BackStill<J: Naming> {
+    program: Program,
+    state: Committed,
+    // what a first half has made for LO
+    waits: Option<u32>,
+    head: usize,
+    publisher: Publisher<J>,
+    // the seat that it gave back
+    left: Snapshot<BackSeat>,
+}
+
+impl<J: Naming> Model for BackStill<J> {
+    ghost use Rattle.std.specs.Prelude.{None};
+    ghost use Rattle.back.specs.Kept.{IsKept};
+    ghost use Rattle.back.specs.Stills.{TheStill};
+
+    ghost Value = { TheStill };
+
+    ghost view = { λ b. record { core = b.left.value.core; seen = b.left.value.seen; shown = b.publisher } };
+
+    ghost invariant = { λ b. IsKept J.program b.left.value b.program b.state b.waits b.head None b.publisher };
+}
+
+impl<J: Naming> Back<J> {
+    /// The back leaves its core, and gives its seat back. It has not ended. Tenants may be in flight, and between
+    /// the two halves of an instruction what the first has made waits on.
+    pub fn leave(self) -> (BackSeat, BackStill<J>)
+        requires not_ended { self.ended ≡ None }
+        ensures core { result.0.core ≡ self.core }
+        ensures by { result.0.by ≡ self.by }
+        ensures seen { result.0.seen ≡ self.seen }
+        ensures woken { result.0.woken ≡ self.woken }
+        ensures no_stop { HasNoStop (unit_in self.core self.seen) }
+        ensures still { result.1 ≡ still_of self }
+        ensures goes_on { GoesOn result.1.core result.1.seen result.0 }
+        ensures head { head_at result.0.core result.0.seen ≡ head_at result.1.core result.1.seen }
+    {
+        let Back {
+            seat,
+            program,
+            committed,
+            low,
+            head,
+            ended: _,
+            publisher,
+        } = self;
+        let left = Snapshot::of(&seat);
+        let still = BackStill {
+            program,
+            state: committed,
+            waits: low,
+            head,
+            publisher,
+            left,
+        };
+        (seat, still)
+    }
+}
+
+impl<J: Naming> BackStill<J> {
+    // The oldest live tenant of this seat stands at this station, if there is one.
+    fn enter_at(self, seat: BackSeat, head: usize) -> Back<J>
+        requires goes_on { GoesOn self.core self.seen seat }
+        requires head { head_at seat.core seat.seen ≡ head }
+        ensures back { result ≡ back_of seat None self.shown }
+        ensures state { state_of result ≡ committed_in self.core self.seen }
+    {
+        what_is_seen_is_legal(&seat);
+        let BackStill {
+            program,
+            state,
+            waits,
+            head: _,
+            publisher,
+            left: _,
+        } = self;
+        Back {
+            seat,
+            program,
+            committed: state,
+            low: waits,
+            head,
+            ended: None,
+            publisher,
+        }
+    }
+
+    /// Enters a renewed core, where the oldest live tenant stands at station 0. Registers, memory, pc and count are
+    /// those with which it left, and the last snapshot that it showed is the last one still.
+    pub fn enter(self, seat: BackSeat) -> Back<J>
+        requires goes_on { GoesOn self.core self.seen seat }
+        requires first { head_at seat.core seat.seen ≡ 0 }
+        ensures back { result ≡ back_of seat None self.shown }
+        ensures state { state_of result ≡ committed_in self.core self.seen }
+    {
+        self.enter_at(seat, 0)
+    }
+
+    /// Enters the core that it left, where no renewal came between.
+    pub fn enter_again(self, seat: BackSeat) -> Back<J>
+        requires goes_on { GoesOn self.core self.seen seat }
+        requires head { head_at seat.core seat.seen ≡ head_at self.core self.seen }
+        ensures back { result ≡ back_of seat None self.shown }
+        ensures state { state_of result ≡ committed_in self.core self.seen }
+    {
+        let head = self.head;
+        self.enter_at(seat, head)
+    }
+}
