@@ -38,3 +38,4 @@ pub mod Folding
 pub mod Idling
 pub mod Fronts
 pub mod Entering
+pub mod Behind
