@@ -7,6 +7,7 @@ use Rattle.std.specs.Io.KnownBytes.{Appends}
 use Rattle.devices.specs.Counted.{GivesPart}
 use Rattle.devices.specs.declared.counted.Counted.{Counted}
 use Rattle.isa.specs.declared.end.End.{End}
+use Rattle.isa.specs.declared.instr.Instr.{Instr}
 use Rattle.isa.specs.declared.stop.Stop.{Stop}
 use Rattle.isa.specs.Settings.{Settings}
 use Rattle.inorder.specs.Committed.{committed}
@@ -21,7 +22,7 @@ use Rattle.unit.specs.declared.bench.Turn.{Turn}
 use Rattle.unit.specs.declared.pipeline.Pipeline.{Pipeline}
 use Rattle.unit.specs.declared.station.Station.{Station}
 use Rattle.unit.specs.StandsFor.{IsUnit, StandsFor, sizes}
-use Rattle.unit.specs.Turns.{Does, Falls, IsSame, Moved, Moves}
+use Rattle.unit.specs.Turns.{BenchFields, Does, Falls, IsSame, IsTurn, Moves, Trains, Turned}
 use Rattle.unit.specs.Window.{window}
 use Rattle.charts.specs.declared.telling.Format.{Format}
 use Rattle.charts.specs.Events.{events}
@@ -54,32 +55,6 @@ sizes_same b later e =
     ∙ ap (λ n. record (sizes later) { ring = b.ring; queue = n }) e.queue
     ∙ ap (λ n. record (sizes later) { ring = b.ring; queue = b.queue; first_tag = n }) e.first_tag
 
--- One turn more
-
--- the turn that was made, behind those that were told
-record HasPassed (P : Program) (C : Sizes) (later : Pipeline) (ts : List Passed) (answer : Turn) : Type 0 where
-  pub unit : UpdateUnit
-  pub reached : IsReached P C unit
-  pub stands : StandsFor later unit
-  pub does : Does P C (behind ts) unit answer
-  pub shows : later.window ≡ window P unit.tenants
-
-has_passed : (P : Program) (C : Sizes) (b later : Pipeline) (ts : List Passed) (answer : Turn) → b.program.now ≡ P → sizes b ≡ C →
-    later.program.now ≡ P → IsReached P C (behind ts) → StandsFor b (behind ts) → Moves b answer later → HasPassed P C later ts answer
-has_passed P C b later ts answer program size same r s moves = go (moves (behind ts) before s)
-  where
-    before : IsReached b.program.now (sizes b) (behind ts)
-    before = subst (λ Q. IsReached Q (sizes b) (behind ts)) (sym program) (subst (λ D. IsReached P D (behind ts)) (sym size) r)
-
-    go : Moved b (behind ts) answer later → HasPassed P C later ts answer
-    go m = record {
-      unit = m.unit;
-      reached = subst (λ D. IsReached P D m.unit) size (subst (λ Q. IsReached Q (sizes b) m.unit) program m.reached);
-      stands = m.stands;
-      does = subst (λ D. Does P D (behind ts) m.unit answer) size (subst (λ Q. Does Q (sizes b) (behind ts) m.unit answer) program m.does);
-      shows = m.stands.window ∙ ap (λ Q. window Q m.unit.tenants) same;
-    }
-
 -- what is said of a turn, by the fields and by the unit
 same_text : (f : Format) (P : Program) (k : Kept) (ts : List Passed) (answer : Turn) (W : List Station) (U : UpdateUnit) →
     k ≡ kept_behind P ts → W ≡ window P U.tenants →
@@ -91,115 +66,166 @@ same_text f P k ts answer W U kept shows =
     ap (λ x. turn_text f (raised x.turns) (events x answer W)) kept
     ∙ ap (λ w. turn_text f (raised (kept_behind P ts).turns) (events (kept_behind P ts) answer w)) shows
 
-pub stood_next : (f : Format) (P : Program) (C : Sizes) (b later : Pipeline) (k k' : Kept) (answer : Turn) (start now new : Option (List ℕ)) →
-    Moves b answer later → IsSame b later → k' ≡ next_kept k answer later.window →
-    Appends now new (turn_text f (raised k.turns) (events k answer later.window)) → Stood f P C b k start now → Stood f P C later k' start new
-stood_next f P C b later k k' answer start now new moves same next says s = go (has_passed P C b later s.turns answer s.program s.sizes program s.reached s.stands moves)
-  where
-    program : later.program.now ≡ P
-    program = ap (λ p. p.now) same.program ∙ s.program
-
-    go : HasPassed P C later s.turns answer → Stood f P C later k' start new
-    go m =
-        let t : Passed = record { answer = answer; unit = m.unit } in
-        let line = same_text f P k s.turns answer later.window m.unit s.kept m.shows in
-        record {
-          program = program;
-          sizes = sizes_same b later same ∙ s.sizes;
-          turns = t ∷ s.turns;
-          are = (s.are, m.does);
-          reached = m.reached;
-          stands = m.stands;
-          kept = next ∙ ap (λ x. next_kept x answer later.window) s.kept ∙ ap (λ W. next_kept (kept_behind P s.turns) answer W) m.shows;
-          says = Appends-trans start now new (told f P s.turns) _ s.says (subst (Appends now new) line says);
-        }
-
--- a turn that was told in part, or not at all
-pub stood_part : (f : Format) (P : Program) (C : Sizes) (b later : Pipeline) (k : Kept) (answer : Turn) (start now new : Option (List ℕ)) (n :
-    ℕ) → Moves b answer later → IsSame b later → n ≤ length (turn_text f (raised k.turns) (events k answer later.window)) →
-    Appends now new (take n (turn_text f (raised k.turns) (events k answer later.window))) → Stood f P C b k start now → IsBegun f P C start new
-stood_part f P C b later k answer start now new n moves same inside says s = go (has_passed P C b later s.turns answer s.program s.sizes program s.reached s.stands moves)
-  where
-    program : later.program.now ≡ P
-    program = ap (λ p. p.now) same.program ∙ s.program
-
-    go : HasPassed P C later s.turns answer → IsBegun f P C start new
-    go m =
-        let t : Passed = record { answer = answer; unit = m.unit } in
-        let before = told f P s.turns in
-        let T = turn_text f (raised (kept_behind P s.turns).turns) (events_at P s.turns t) in
-        let last = last_text f (kept_behind P (t ∷ s.turns)) in
-        let line = same_text f P k s.turns answer later.window m.unit s.kept m.shows in
-        let less : n ≤ length T = subst (λ l. n ≤ length l) line inside in
-        let part : take (length before + n) ((before ++ T) ++ last) ≡ before ++ take n T = ap (take (length before + n))
-        (Rattle.std.proofs.Common.append_assoc before T last) ∙ begins before T last n less in
-        record {
-          turns = t ∷ s.turns;
-          are = (s.are, m.does);
-          n = length before + n;
-          says = subst (Appends start new) (sym part) (Appends-trans start now new before (take n T) s.says (subst (λ l. Appends now new (take n l)) line says));
-        }
-
--- The first lines, and the last ones
-
-pub stood_first : (f : Format) (P : Program) (C : Sizes) (b : Pipeline) (k : Kept) (start now : Option (List ℕ)) → b.program.now ≡ P →
-    sizes b ≡ C → StandsFor b empty_unit → k ≡ start_kept → Appends start now (first_text f) → Stood f P C b k start now
-stood_first f P C b k start now program size fresh none says = record {
-  program = program;
-  sizes = size;
-  turns = [];
-  are = tt;
-  reached = record { history = []; allowed = tt; is = refl; never = refl };
-  stands = fresh;
-  kept = none;
-  says = says;
-}
-
-pub first_part : (f : Format) (P : Program) (C : Sizes) (start new : Option (List ℕ)) (n : ℕ) → n ≤ length (first_text f) →
-    Appends start new (take n (first_text f)) → IsBegun f P C start new
-first_part f P C start new n inside says = record {
-  turns = [];
-  are = tt;
-  n = n;
-  says = subst (Appends start new) (sym (take-append-le n (first_text f) (last_text f start_kept) inside)) says;
-}
-
-pub last_part : (f : Format) (P : Program) (C : Sizes) (b : Pipeline) (k : Kept) (start now new : Option (List ℕ)) (n : ℕ) →
-    n ≤ length (last_text f k) → Appends now new (take n (last_text f k)) → Stood f P C b k start now → IsBegun f P C start new
-last_part f P C b k start now new n inside says s =
-    let before = told f P s.turns in
-    let last = last_text f (kept_behind P s.turns) in
-    let line = ap (last_text f) s.kept in
-    record {
-      turns = s.turns;
-      are = s.are;
-      n = length before + n;
-      says = subst (Appends start new) (sym (take-append-add before last n)) (Appends-trans start now new before (take n last) s.says (subst (λ
-          l. Appends now new (take n l)) line says));
-    }
-
--- All was told
-
 sizes_are : (b : Pipeline) (c : Settings) → b.ring ≡ c.ring → b.queue ≡ c.queue → b.first_tag ≡ c.first_tag → sizes b ≡ sizes_of c
 sizes_are b c r q t =
     ap (λ n. record (sizes b) { ring = n }) r
     ∙ ap (λ n. record (sizes b) { ring = c.ring; queue = n }) q
     ∙ ap (λ n. record (sizes b) { ring = c.ring; queue = c.queue; first_tag = n }) t
 
-pub stood_start : (f : Format) (P : Program) (c : Settings) (b : Pipeline) (k : Kept) (start now : Option (List ℕ)) → b.program.now ≡ P →
-    b.ring ≡ c.ring → b.queue ≡ c.queue → b.first_tag ≡ c.first_tag → StandsFor b empty_unit → k ≡ start_kept →
-    Appends start now (first_text f) → Stood f P (sizes_of c) b k start now
-stood_start f P c b k start now program r q t fresh none says = stood_first f P (sizes_of c) b k start now program (sizes_are b c r q t) fresh none says
+module _ {S : Type 0} (Predicts : S → ℕ → Instr → ℕ → S → Type 0) (Learns : S → ℕ → ℕ → S → Type 0) where
+  -- One turn more
 
-pub all_told : (f : Format) (P : Program) (C : Sizes) (b : Pipeline) (k : Kept) (start now new : Option (List ℕ)) (end : End) (limit : ℕ) →
-    Stood f P C b k start now → Appends now new (last_text f k) → (run_from b limit).1 ≡ b.committed → end_state end ≡ run_from b limit →
-    IsTold f P C end start new
-all_told f P C b k start now new end limit s says stays ends = record {
-  turns = s.turns;
-  are = s.are;
-  ends = sym (s.stands.committed ∙ ap (λ Q. committed Q (behind s.turns).tenants) s.program) ∙ sym stays ∙ ap (λ e. e.1) (sym ends);
-  says = Appends-trans start now new (told f P s.turns) (last_text f (kept_behind P s.turns)) s.says (subst (λ x. Appends now new (last_text f x)) s.kept says);
-}
+  -- the turn that was made, behind those that were told
+  record HasPassed (P : Program) (C : Sizes) (b later : BenchFields S) (ts : List Passed) (answer : Turn) : Type 0 where
+    pub unit : UpdateUnit
+    pub reached : IsReached P C unit
+    pub stands : StandsFor later.pipeline unit
+    pub does : Does P C (behind ts) unit answer
+    pub trains : Trains Predicts Learns P (behind ts) unit answer b.predictor later.predictor
+    pub shows : later.pipeline.window ≡ window P unit.tenants
+
+  has_passed : (P : Program) (C : Sizes) (b later : BenchFields S) (ts : List Passed) (answer : Turn) → b.pipeline.program.now ≡ P →
+      sizes b.pipeline ≡ C → later.pipeline.program.now ≡ P → IsReached P C (behind ts) → StandsFor b.pipeline (behind ts) →
+      IsTurn Predicts Learns b answer later → HasPassed P C b later ts answer
+  has_passed P C b later ts answer program size same r s turned = go (turned (behind ts) before s)
+    where
+      before : IsReached b.pipeline.program.now (sizes b.pipeline) (behind ts)
+      before = subst (λ Q. IsReached Q (sizes b.pipeline) (behind ts)) (sym program) (subst (λ D. IsReached P D (behind ts)) (sym size) r)
+
+      go : Turned Predicts Learns b (behind ts) answer later → HasPassed P C b later ts answer
+      go m = record {
+        unit = m.unit;
+        reached = subst (λ D. IsReached P D m.unit) size (subst (λ Q. IsReached Q (sizes b.pipeline) m.unit) program m.reached);
+        stands = m.stands;
+        does = subst (λ D. Does P D (behind ts) m.unit answer) size (subst (λ Q. Does Q (sizes b.pipeline) (behind ts) m.unit answer) program m.does);
+        trains = subst (λ Q. Trains Predicts Learns Q (behind ts) m.unit answer b.predictor later.predictor) program m.trains;
+        shows = m.stands.window ∙ ap (λ Q. window Q m.unit.tenants) same;
+      }
+
+  pub stood_next : (f : Format) (P : Program) (C : Sizes) (b later : BenchFields S) (k k' : Kept) (answer : Turn) (first : S)
+      (start now new : Option (List ℕ)) → IsTurn Predicts Learns b answer later → IsSame b.pipeline later.pipeline →
+      k' ≡ next_kept k answer later.pipeline.window →
+      Appends now new (turn_text f (raised k.turns) (events k answer later.pipeline.window)) →
+      Stood Predicts Learns f P C b k first start now → Stood Predicts Learns f P C later k' first start new
+  stood_next f P C b later k k' answer first start now new turned same next says s =
+      go (has_passed P C b later s.turns answer s.program s.sizes program s.reached s.stands turned)
+    where
+      program : later.pipeline.program.now ≡ P
+      program = ap (λ p. p.now) same.program ∙ s.program
+
+      go : HasPassed P C b later s.turns answer → Stood Predicts Learns f P C later k' first start new
+      go m =
+          let t : Passed = record { answer = answer; unit = m.unit } in
+          let line = same_text f P k s.turns answer later.pipeline.window m.unit s.kept m.shows in
+          record {
+            program = program;
+            sizes = sizes_same b.pipeline later.pipeline same ∙ s.sizes;
+            turns = t ∷ s.turns;
+            are = (s.are, m.does);
+            guessed = (b.predictor, s.guessed, m.trains);
+            reached = m.reached;
+            stands = m.stands;
+            kept = next ∙ ap (λ x. next_kept x answer later.pipeline.window) s.kept ∙ ap (λ W. next_kept (kept_behind P s.turns) answer W) m.shows;
+            says = Appends-trans start now new (told f P s.turns) _ s.says (subst (Appends now new) line says);
+          }
+
+  -- a turn that was told in part, or not at all
+  pub stood_part : (f : Format) (P : Program) (C : Sizes) (b later : BenchFields S) (k : Kept) (answer : Turn) (first : S)
+      (start now new : Option (List ℕ)) (n : ℕ) → IsTurn Predicts Learns b answer later → IsSame b.pipeline later.pipeline →
+      n ≤ length (turn_text f (raised k.turns) (events k answer later.pipeline.window)) →
+      Appends now new (take n (turn_text f (raised k.turns) (events k answer later.pipeline.window))) →
+      Stood Predicts Learns f P C b k first start now → IsBegun Predicts Learns f P C first start new
+  stood_part f P C b later k answer first start now new n turned same inside says s =
+      go (has_passed P C b later s.turns answer s.program s.sizes program s.reached s.stands turned)
+    where
+      program : later.pipeline.program.now ≡ P
+      program = ap (λ p. p.now) same.program ∙ s.program
+
+      go : HasPassed P C b later s.turns answer → IsBegun Predicts Learns f P C first start new
+      go m =
+          let t : Passed = record { answer = answer; unit = m.unit } in
+          let before = told f P s.turns in
+          let T = turn_text f (raised (kept_behind P s.turns).turns) (events_at P s.turns t) in
+          let last = last_text f (kept_behind P (t ∷ s.turns)) in
+          let line = same_text f P k s.turns answer later.pipeline.window m.unit s.kept m.shows in
+          let less : n ≤ length T = subst (λ l. n ≤ length l) line inside in
+          let part : take (length before + n) ((before ++ T) ++ last) ≡ before ++ take n T = ap (take (length before + n))
+          (Rattle.std.proofs.Common.append_assoc before T last) ∙ begins before T last n less in
+          record {
+            turns = t ∷ s.turns;
+            are = (s.are, m.does);
+            last = later.predictor;
+            guessed = (b.predictor, s.guessed, m.trains);
+            n = length before + n;
+            says = subst (Appends start new) (sym part) (Appends-trans start now new before (take n T) s.says (subst (λ l. Appends now new (take n l)) line says));
+          }
+
+  -- The first lines, and the last ones
+
+  pub stood_first : (f : Format) (P : Program) (C : Sizes) (b : BenchFields S) (k : Kept) (first : S) (start now : Option (List ℕ)) →
+      b.pipeline.program.now ≡ P → sizes b.pipeline ≡ C → StandsFor b.pipeline empty_unit → k ≡ start_kept → b.predictor ≡ first →
+      Appends start now (first_text f) → Stood Predicts Learns f P C b k first start now
+  stood_first f P C b k first start now program size fresh none untold says = record {
+    program = program;
+    sizes = size;
+    turns = [];
+    are = tt;
+    guessed = untold;
+    reached = record { history = []; allowed = tt; is = refl; never = refl };
+    stands = fresh;
+    kept = none;
+    says = says;
+  }
+
+  pub first_part : (f : Format) (P : Program) (C : Sizes) (first : S) (start new : Option (List ℕ)) (n : ℕ) → n ≤ length (first_text f) →
+      Appends start new (take n (first_text f)) → IsBegun Predicts Learns f P C first start new
+  first_part f P C first start new n inside says = record {
+    turns = [];
+    are = tt;
+    last = first;
+    guessed = refl;
+    n = n;
+    says = subst (Appends start new) (sym (take-append-le n (first_text f) (last_text f start_kept) inside)) says;
+  }
+
+  pub last_part : (f : Format) (P : Program) (C : Sizes) (b : BenchFields S) (k : Kept) (first : S) (start now new : Option (List ℕ)) (n : ℕ) →
+      n ≤ length (last_text f k) → Appends now new (take n (last_text f k)) → Stood Predicts Learns f P C b k first start now →
+      IsBegun Predicts Learns f P C first start new
+  last_part f P C b k first start now new n inside says s =
+      let before = told f P s.turns in
+      let last = last_text f (kept_behind P s.turns) in
+      let line = ap (last_text f) s.kept in
+      record {
+        turns = s.turns;
+        are = s.are;
+        last = b.predictor;
+        guessed = s.guessed;
+        n = length before + n;
+        says = subst (Appends start new) (sym (take-append-add before last n)) (Appends-trans start now new before (take n last) s.says (subst (λ
+            l. Appends now new (take n l)) line says));
+      }
+
+  -- All was told
+
+  pub stood_start : (f : Format) (P : Program) (c : Settings) (b : BenchFields S) (k : Kept) (first : S) (start now : Option (List ℕ)) →
+      b.pipeline.program.now ≡ P → b.pipeline.ring ≡ c.ring → b.pipeline.queue ≡ c.queue → b.pipeline.first_tag ≡ c.first_tag →
+      StandsFor b.pipeline empty_unit → k ≡ start_kept → b.predictor ≡ first →
+      Appends start now (first_text f) → Stood Predicts Learns f P (sizes_of c) b k first start now
+  stood_start f P c b k first start now program r q t fresh none untold says =
+      stood_first f P (sizes_of c) b k first start now program (sizes_are b.pipeline c r q t) fresh none untold says
+
+  pub all_told : (f : Format) (P : Program) (C : Sizes) (b : BenchFields S) (k : Kept) (first : S) (start now new : Option (List ℕ)) (end : End)
+      (limit : ℕ) → Stood Predicts Learns f P C b k first start now → Appends now new (last_text f k) →
+      (run_from b.pipeline limit).1 ≡ b.pipeline.committed → end_state end ≡ run_from b.pipeline limit →
+      IsTold Predicts Learns f P C first (end_state end).1 start new
+  all_told f P C b k first start now new end limit s says stays ends = record {
+    turns = s.turns;
+    are = s.are;
+    last = b.predictor;
+    guessed = s.guessed;
+    ends = sym (s.stands.committed ∙ ap (λ Q. committed Q (behind s.turns).tenants) s.program) ∙ sym stays ∙ ap (λ e. e.1) (sym ends);
+    says = Appends-trans start now new (told f P s.turns) (last_text f (kept_behind P s.turns)) s.says (subst (λ x. Appends now new (last_text f x)) s.kept says);
+  }
 
 -- what holds at all holds on an error
 pub on_err : {T E P : Type 0} (r : Result T E) → P → OnErr r P

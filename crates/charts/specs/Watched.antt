@@ -5,14 +5,13 @@ use Rattle.devices.specs.Counted.{Gives}
 use Rattle.devices.specs.declared.counted.Counted.{Counted}
 use Rattle.isa.specs.Programs.{Program}
 use Rattle.isa.specs.Settings.{Settings}
-use Rattle.isa.specs.declared.end.End.{End}
+use Rattle.isa.specs.declared.instr.Instr.{Instr}
 use Rattle.inorder.specs.Committed.{committed}
+use Rattle.inorder.specs.Machine.{State}
 use Rattle.inorder.specs.Unit.{Sizes, UpdateUnit, empty_unit}
 use Rattle.unit.specs.declared.bench.Turn.{Turn}
-use Rattle.unit.specs.Changes.{end_state}
-use Rattle.unit.specs.declared.pipeline.Pipeline.{Pipeline}
 use Rattle.unit.specs.StandsFor.{StandsFor, sizes}
-use Rattle.unit.specs.Turns.{Does}
+use Rattle.unit.specs.Turns.{BenchFields, Does, Trains}
 use Rattle.unit.specs.Window.{window}
 use Rattle.unit_laws.specs.Moves.{IsReached}
 use Rattle.charts.specs.declared.telling.Format.{Format}
@@ -59,34 +58,49 @@ text f P ts = told f P ts ++ last_text f (kept_behind P ts)
 abbrev pub sizes_of : Settings → Sizes
 sizes_of c = record { ring = c.ring; queue = c.queue; first_tag = c.first_tag }
 
--- The fields stand for the unit behind some turns, and these were told
-pub record Stood (f : Format) (P : Program) (C : Sizes) (b : Pipeline) (k : Kept)
-    (start now : Option (List ℕ)) : Type 0 where
-  pub program : b.program.now ≡ P
-  pub sizes : sizes b ≡ C
-  pub turns : List Passed
-  pub are : AreTurns P C turns
-  pub reached : IsReached P C (behind turns)
-  pub stands : StandsFor b (behind turns)
-  pub kept : k ≡ kept_behind P turns
-  pub says : Appends start now (told f P turns)
+-- What is said of runs, by what a predictor says of being asked and told
+module _ {S : Type 0} (Predicts : S → ℕ → Instr → ℕ → S → Type 0) (Learns : S → ℕ → ℕ → S → Type 0) where
+  -- The predictor was this one before these turns, and is that one behind them: at each let it was told of who
+  -- has left, and then asked
+  abbrev pub HasGuessed : Program → (first : S) → List Passed → (last : S) → Type 0
+  HasGuessed P first [] last = last ≡ first
+  HasGuessed P first (t ∷ ts) last =
+      (before : S) × HasGuessed P first ts before
+      × Trains Predicts Learns P (behind ts) t.unit t.answer before last
 
--- A run was told from its first turn to its last one: legal turns that lead to the state with which
--- the run ends
-pub record IsTold (f : Format) (P : Program) (C : Sizes) (end : End) (before after : Option (List ℕ))
-    : Type 0 where
-  pub turns : List Passed
-  pub are : AreTurns P C turns
-  pub ends : committed P (behind turns).tenants ≡ (end_state end).1
-  pub says : Appends before after (text f P turns)
+  -- The bench stands for the unit behind some turns, and these were told
+  pub record Stood (f : Format) (P : Program) (C : Sizes) (b : BenchFields S) (k : Kept) (first : S)
+      (start now : Option (List ℕ)) : Type 0 where
+    pub program : b.pipeline.program.now ≡ P
+    pub sizes : sizes b.pipeline ≡ C
+    pub turns : List Passed
+    pub are : AreTurns P C turns
+    pub guessed : HasGuessed P first turns b.predictor
+    pub reached : IsReached P C (behind turns)
+    pub stands : StandsFor b.pipeline (behind turns)
+    pub kept : k ≡ kept_behind P turns
+    pub says : Appends start now (told f P turns)
 
--- Only a beginning was told of legal turns
-pub record IsBegun (f : Format) (P : Program) (C : Sizes) (before after : Option (List ℕ))
-    : Type 0 where
-  pub turns : List Passed
-  pub are : AreTurns P C turns
-  pub n : ℕ
-  pub says : Appends before after (take n (text f P turns))
+  -- A run was told from its first turn to its last one: legal turns by the guesses of this predictor, which lead
+  -- to the state with which the run ends
+  pub record IsTold (f : Format) (P : Program) (C : Sizes) (first : S) (end : State)
+      (before after : Option (List ℕ)) : Type 0 where
+    pub turns : List Passed
+    pub are : AreTurns P C turns
+    pub last : S
+    pub guessed : HasGuessed P first turns last
+    pub ends : committed P (behind turns).tenants ≡ end
+    pub says : Appends before after (text f P turns)
+
+  -- Only a beginning was told of legal turns by its guesses
+  pub record IsBegun (f : Format) (P : Program) (C : Sizes) (first : S) (before after : Option (List ℕ))
+      : Type 0 where
+    pub turns : List Passed
+    pub are : AreTurns P C turns
+    pub last : S
+    pub guessed : HasGuessed P first turns last
+    pub n : ℕ
+    pub says : Appends before after (take n (text f P turns))
 
 -- A beginning of a text was written, or all of it
 pub record GivesUpTo {W : Type 0} (contents : W → Option (List ℕ)) (old new : Counted W)

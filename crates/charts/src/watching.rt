@@ -200,9 +200,10 @@ pub(crate) fn tell_turns<P: Predictor + Drop, W: Write>(
     writer: &mut Counted<W>,
 ) -> Result<(), Fault>
     requires { failures_of writer.old < 2 ^ 64 - 1 }
-    ensures stood { OnOk result ((P : Program) (C : Sizes) (start : Option (List ℕ)) →
-        Stood format P C bench.old.pipeline (kept books.old) start (known_by W.contents writer.old) →
-        Stood format P C bench.new.pipeline (kept books.new) start
+    ensures stood { OnOk result ((Q : Program) (C : Sizes) (first : P) (start : Option (List ℕ)) →
+        Stood P.Predicts P.Learns format Q C bench.old (kept books.old) first start
+        (known_by W.contents writer.old) →
+        Stood P.Predicts P.Learns format Q C bench.new (kept books.new) first start
         (known_by W.contents writer.new)) }
     ensures ends { OnOk result
         (run_from bench.new.pipeline limit ≡ run_from bench.old.pipeline limit) }
@@ -213,9 +214,10 @@ pub(crate) fn tell_turns<P: Predictor + Drop, W: Write>(
         failures_of writer.new ≡ failures_of writer.old + 1) }
     ensures quiet_memory { IfErr result (λ fault. fault ≡ Fault.Memory →
         failures_of writer.new ≡ failures_of writer.old) }
-    ensures begun { OnErr result ((P : Program) (C : Sizes) (start : Option (List ℕ)) →
-        Stood format P C bench.old.pipeline (kept books.old) start (known_by W.contents writer.old) →
-        IsBegun format P C start (known_by W.contents writer.new)) }
+    ensures begun { OnErr result ((Q : Program) (C : Sizes) (first : P) (start : Option (List ℕ)) →
+        Stood P.Predicts P.Learns format Q C bench.old (kept books.old) first start
+        (known_by W.contents writer.old) →
+        IsBegun P.Predicts P.Learns format Q C first start (known_by W.contents writer.new)) }
 {
     'turns: while bench.count() < limit {
         let answer = bench.turn();

@@ -1,8 +1,7 @@
 -- What is told of a listing that is driven by hand.
-use Rattle.std.proofs.Common.{◌≡◌, ◌≢◌, ◌∙◌, ℕ, Bool, true, false, List, take, refl, ap, sym, subst, arith, Option, Some, None, Result, Ok, Err, IfSome, IfOk, IfErr, IsErrAnd}
+use Rattle.std.proofs.Common.{◌≡◌, ◌∙◌, ℕ, List, take, refl, ap, sym, subst, arith, Option, Some, None, Result, Ok, Err, IfSome, IfOk, IfErr, OnErr, IsErrAnd}
 use Rattle.std.specs.Io.KnownBytes.{Appends}
 use Rattle.assembly.specs.declared.listing.fault.FaultKind.{FaultKind}
-use Rattle.assembly.specs.declared.listing.fault.FaultKind.TheVariants as kind
 use Rattle.assembly.specs.Listing.{listing}
 use Rattle.isa.specs.Programs.{Program}
 use Rattle.assembly.specs.Report.{fault_line}
@@ -50,3 +49,9 @@ pub err_taken : {T E : Type 0} (r : Result T E) (When : E → Type 0) (F : Resul
     → IfErr r (λ e. When e → IfSome known (λ input. F (listing input)))
 err_taken (Ok x) When F known bytes slice read same is = tt
 err_taken (Err e) When F known bytes slice read same is = λ when. found_taken F known bytes slice read same (is when)
+
+pub cut_taken : {T E : Type 0} (r : Result T E) (F : Result Program (ℕ × FaultKind) → Type 0) (known : Option (List ℕ)) (bytes slice : List ℕ)
+    → IfSome known (λ input. bytes ≡ take most_taken input) → slice ≡ bytes → OnErr r (F (listing slice))
+    → OnErr r (IfSome known (λ input. F (listing input)))
+cut_taken (Ok x) F known bytes slice read same is = tt
+cut_taken (Err e) F known bytes slice read same is = found_taken F known bytes slice read same is

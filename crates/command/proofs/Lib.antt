@@ -2,4 +2,5 @@ mod Answered
 mod AsAlone
 mod Checked
 mod Driven
+mod Pictures
 mod WholeRuns

@@ -1,5 +1,5 @@
 -- Where a run ends that was seen behind some of its steps.
-use Rattle.std.proofs.Common.{◌≡◌, ◌∙◌, ◌+◌, ◌-◌, ◌<◌, ℕ, zero, suc, sym, ap, refl, subst, arith, Option, Some, None}
+use Rattle.std.proofs.Common.{◌≡◌, ◌∙◌, ◌+◌, ◌-◌, ◌<◌, ℕ, zero, suc, sym, ap, refl, arith, Option, Some, None}
 use Rattle.isa.specs.declared.end.Ending.{Ending}
 use Rattle.isa.specs.declared.end.Ending.TheVariants.{Limit, Stop as ByStop}
 use Rattle.isa.specs.declared.stop.Stop.{Stop}

@@ -1,3 +1,4 @@
 pub mod ByHand
 pub mod Went
 pub mod Answers
+pub mod Watched

@@ -8,6 +8,8 @@ use Rattle.bench.specs.declared.outcome.Fault.{Fault}
 use Rattle.bench.specs.declared.outcome.Fault.TheVariants as fault
 use Rattle.bench.specs.declared.outcome.Status.{Status}
 use Rattle.bench.specs.declared.outcome.Status.TheVariants as end
+use Rattle.charts.specs.declared.watched.Fault.{Fault as ChartFault}
+use Rattle.charts.specs.declared.watched.Fault.TheVariants as chart
 use Rattle.counts.specs.declared.tally.Tally.{Tally as Totals}
 use Rattle.drive.specs.declared.script.Fault.{Fault as ScriptFault}
 use Rattle.drive.specs.declared.script.Fault.TheVariants as script
@@ -17,7 +19,7 @@ use Rattle.command.specs.declared.went.Went.{Went}
 use Rattle.command.specs.declared.went.Line.{Line}
 use Rattle.command.specs.declared.went.Line.TheVariants.{Nothing, Tally, Refused}
 use Rattle.command.specs.declared.went.Refusal.{Refusal}
-use Rattle.command.specs.declared.went.Refusal.TheVariants.{Open, Read, Memory, Thread, Write}
+use Rattle.command.specs.declared.went.Refusal.TheVariants.{Open, Read, Memory, Thread, Write, Trace}
 
 -- the exit status of a run that was written down
 abbrev pub status_number : Status → ℕ
@@ -54,6 +56,11 @@ script_refusal script.Read = Read
 script_refusal script.Memory = Memory
 script_refusal script.Write = Write
 
+-- what is refused where a chart was not told to its end
+abbrev pub chart_refusal : ChartFault → Refusal
+chart_refusal chart.Memory = Memory
+chart_refusal chart.Write = Write
+
 -- a run, or its refusal
 abbrev pub went_of : Result Went Refusal → Went
 went_of (Ok went) = went
@@ -86,6 +93,7 @@ refusal_text Read = codes "read"
 refusal_text Memory = codes "memory"
 refusal_text Thread = codes "thread"
 refusal_text Write = codes "write"
+refusal_text Trace = codes "trace"
 
 abbrev pub totals_text : List ℕ → Totals → List ℕ
 totals_text first t =

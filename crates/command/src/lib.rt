@@ -10,13 +10,16 @@ mod statuses;
 #[cfg(test)]
 mod tests;
 mod threads;
+mod watching;
 mod went;
 
 pub use checking::check;
 pub use hand::go_by_hand;
 pub use progress::Progress;
 pub use requests::{
-    Asked, BranchPredictor, ByHand, NoRun, Request, asked, is_standard_input, requested, status,
+    Asked, BranchPredictor, ByHand, NoRun, Request, Watch, asked, is_standard_input, requested,
+    status,
 };
 pub use running::go;
+pub use watching::go_watched;
 pub use went::{Line, Refusal, Went};

@@ -5,6 +5,7 @@ mod failing;
 mod handed_on;
 mod runs;
 mod tallies;
+mod watching;
 
 use crate::{Went, asked, go};
 use devices::Counted;

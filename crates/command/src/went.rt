@@ -39,8 +39,10 @@ pub enum Refusal {
     Memory,
     /// A thread could not be started.
     Thread,
-    /// The report could not be written.
+    /// The report, or the chart behind it, could not be written.
     Write,
+    /// The log could not be written.
+    Trace,
 }
 
 impl fmt::Display for Line {
@@ -76,6 +78,7 @@ impl fmt::Display for Refusal {
             Refusal::Memory => "memory",
             Refusal::Thread => "thread",
             Refusal::Write => "write",
+            Refusal::Trace => "trace",
         })
     }
 }

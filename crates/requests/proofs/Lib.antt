@@ -3,3 +3,4 @@ mod ByHands
 mod Entered
 mod NotAsked
 mod OddRings
+mod Watching

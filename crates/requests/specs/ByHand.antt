@@ -1,5 +1,5 @@
 -- What a command line asks to be driven by hand.
-use Rattle.std.specs.Prelude.{◌≡◌, ◌^◌, ◌-◌, ℕ, false, List, [], Some, codes}
+use Rattle.std.specs.Prelude.{◌≡◌, ◌^◌, ◌-◌, false, List, [], Some, codes}
 use Rattle.std.specs.Str.{bytes_eq}
 use Rattle.clap.specs.Words.{Row, Text, first_of, subcommand_of, fault_of}
 use Rattle.isa.specs.Settings.{IsValid}

@@ -2,7 +2,7 @@
 use Rattle.std.specs.Prelude.{◌≡◌, ℕ, List, replicate}
 use Rattle.isa.specs.declared.instr.Instr.{Instr}
 use Rattle.isa.specs.Instruction.{pc_plus_4}
-use Rattle.isa.specs.Prediction.{taken_target, two_bit}
+use Rattle.isa.specs.Prediction.{taken_target, trained, two_bit}
 use Rattle.requests.specs.declared.chosen.Chosen.{Chosen}
 use Rattle.requests.specs.declared.request.BranchPredictor.{BranchPredictor}
 use Rattle.requests.specs.declared.request.BranchPredictor.TheVariants.{NotTaken, Taken, Bimod}
@@ -12,6 +12,15 @@ abbrev pub answer_of : BranchPredictor → (counters : List ℕ) → (pc : ℕ) 
 answer_of NotTaken counters pc i = pc_plus_4 pc
 answer_of Taken counters pc i = taken_target pc i
 answer_of Bimod counters pc i = two_bit counters pc i
+
+-- the chosen predictor answers so, and stays
+abbrev pub PredictsAs : Chosen → (pc : ℕ) → Instr → (answer : ℕ) → Chosen → Type 0
+PredictsAs old pc instr answer new = (answer ≡ answer_of old.which old.bimod.counters pc instr) × (new ≡ old)
+
+-- it is told how a prediction went on: its counters learn
+abbrev pub LearnsAs : Chosen → (pc next : ℕ) → Chosen → Type 0
+LearnsAs old pc next new =
+    (new.which ≡ old.which) × (new.bimod.counters ≡ trained old.bimod.counters pc next)
 
 -- the one that is asked for, which has learnt nothing: each counter is 1, weakly not taken
 pub record IsChosen (which : BranchPredictor) (predictor : Chosen) : Type 0 where

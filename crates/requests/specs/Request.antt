@@ -10,12 +10,14 @@ use Rattle.requests.specs.declared.request.Asked.{Asked}
 use Rattle.requests.specs.declared.request.BranchPredictor.{BranchPredictor}
 use Rattle.requests.specs.declared.request.ByHand.{ByHand}
 use Rattle.requests.specs.declared.request.Request.{Request}
+use Rattle.requests.specs.declared.request.Watch.{Watch}
 use Rattle.requests.specs.declared.request.Request.TheVariants.{Run, Check, Drive}
 use Rattle.requests.specs.declared.no_run.NoRun.{NoRun}
 use Rattle.requests.specs.declared.no_run.NoRun.TheVariants as no
 use Rattle.requests.specs.ByHand.{IsByHandIn}
 use Rattle.requests.specs.Tool.{tool}
 use Rattle.requests.specs.Values.{IsNumber, IsNumberFrom, IsQueueCut, IsPredictor, is_true}
+use Rattle.requests.specs.Watches.{IsWatch}
 
 -- the greatest limit and number of turns
 abbrev pub greatest : ℕ
@@ -32,6 +34,7 @@ pub record IsAskedBy (rows : List Row) (asked : Asked) : Type 0 where
   pub limit : IsNumberFrom 0 greatest 1000000 (first_of (codes "limit") rows) asked.config.limit
   pub alone : asked.alone ≡ is_true (first_of (codes "alone") rows)
   pub progress : asked.progress ≡ is_true (first_of (codes "progress") rows)
+  pub watch : IsWatch rows asked.watch
   pub one_place : asked.config.places ≡ 1
   pub first_tag : asked.config.first_tag ≡ 1
   pub valid : IsValid asked.config.ring asked.config.queue asked.config.units asked.config.places
@@ -57,7 +60,8 @@ IsRequestIn words (Run asked) = IsAskedIn words asked
 IsRequestIn words (Check file) = IsCheckIn words file.now
 IsRequestIn words (Drive hand) = IsByHandIn words hand
 
--- the rows hold a file, and values in their ranges or none; the ring size may be any number
+-- the rows hold a file, values in their ranges or none, and ask for nothing that cannot be told; the ring size may
+-- be any number
 pub record HasValues (rows : List Row) : Type 0 where
   pub file : Text
   pub is_file : first_of (codes "FILE") rows ≡ Some file
@@ -71,6 +75,8 @@ pub record HasValues (rows : List Row) : Type 0 where
   pub are_turns : IsNumberFrom 1 greatest greatest (first_of (codes "turns") rows) turns
   pub limit : ℕ
   pub is_limit : IsNumberFrom 0 greatest 1000000 (first_of (codes "limit") rows) limit
+  pub watch : Watch
+  pub is_watch : IsWatch rows watch
   pub ring : ℕ
   pub is_ring_number : IsNumberFrom 0 (2 ^ 64 - 1) 16 (first_of (codes "ruu-size") rows) ring
 

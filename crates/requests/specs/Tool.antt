@@ -22,12 +22,12 @@ flag_rule name = record (new_rule name) { long = Some name; action = Some SetTru
 
 -- `ruu run`
 abbrev pub run : App
-run = with_rule (with_rule (with_rule (with_rule (with_rule (with_rule (with_rule (with_rule (with_rule
+run = with_rule (with_rule (with_rule (with_rule (with_rule (with_rule (with_rule (with_rule (with_rule (with_rule (with_rule
     (new_app (codes "run")) file_rule)
     (option_rule (codes "ruu-size"))) (option_rule (codes "lsq-size")))
     (option_rule (codes "units"))) (option_rule (codes "bpred")))
     (option_rule (codes "turns"))) (option_rule (codes "limit"))) (flag_rule (codes "alone")))
-    (flag_rule (codes "progress"))
+    (flag_rule (codes "progress"))) (flag_rule (codes "chart"))) (option_rule (codes "trace"))
 
 -- `ruu check`
 abbrev pub check : App

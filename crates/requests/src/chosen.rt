@@ -23,15 +23,11 @@ pub fn choose(which: BranchPredictor) -> Chosen
 }
 
 impl Predictor for Chosen {
-    ghost use Rattle.std.specs.Prelude.{◌≡◌};
-    ghost use Rattle.isa.specs.Prediction.{trained};
-    ghost use Rattle.requests.specs.Predictors.{answer_of};
+    ghost use Rattle.requests.specs.Predictors.{LearnsAs, PredictsAs};
 
-    ghost Predicts = { λ old pc instr answer new.
-        (answer ≡ answer_of old.which old.bimod.counters pc instr) × (new ≡ old) };
+    ghost Predicts = { PredictsAs };
 
-    ghost Learns = { λ old pc next new.
-        (new.which ≡ old.which) × (new.bimod.counters ≡ trained old.bimod.counters pc next) };
+    ghost Learns = { LearnsAs };
 
     fn predict(&mut self, pc: u32, instr: &Instr) -> u32 {
         match self.which {

@@ -12,8 +12,9 @@ mod request;
 #[cfg(test)]
 mod tests;
 mod values;
+mod watches;
 
 pub use chosen::{Chosen, choose};
 pub use no_run::{NoRun, status};
 pub use reading::{asked, requested};
-pub use request::{Asked, BranchPredictor, ByHand, Request, is_standard_input};
+pub use request::{Asked, BranchPredictor, ByHand, Request, Watch, is_standard_input};

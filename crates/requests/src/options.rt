@@ -37,7 +37,9 @@ fn run<'a>(alloc: Global) -> Result<Command<'a>, AllocError>
         .arg(option(alloc, "turns", "N", TURNS))?
         .arg(option(alloc, "limit", "N", LIMIT))?
         .arg(flag(alloc, "alone", ALONE))?
-        .arg(flag(alloc, "progress", PROGRESS))
+        .arg(flag(alloc, "progress", PROGRESS))?
+        .arg(flag(alloc, "chart", CHART))?
+        .arg(option(alloc, "trace", "FILE", TRACE))
 }
 
 fn check<'a>(alloc: Global) -> Result<Command<'a>, AllocError>
@@ -96,6 +98,10 @@ const LIMIT: &str = "Instructions to run at most: 0 to 4294967295 [default: 1000
 const ALONE: &str = "Run the unit on one thread";
 
 const PROGRESS: &str = "Tell on standard error how far the threads are";
+
+const CHART: &str = "Draw behind the report what became of each tenant; needs --alone";
+
+const TRACE: &str = "Write each turn to a log for the pipeline viewer Konata; needs --alone";
 
 const FIRST_TAG: &str = "Tag of each station's first tenant: 1 to 268435454 [default: 1]";
 

@@ -9,6 +9,7 @@ use crate::options::command;
 use crate::reading_by_hand::by_hand;
 use crate::refusals::{refused, usage};
 use crate::values::is_true;
+use crate::watches::watch;
 use crate::{Asked, NoRun, Request};
 use clap::ArgMatches;
 use isa::Config;
@@ -73,6 +74,7 @@ fn read<'a>(alloc: Global, matches: &ArgMatches<'a>) -> Result<Asked<'a>, NoRun>
     let limit = number(alloc, matches, "limit", 0, 0xffff_ffff, 1_000_000)?;
     let alone = is_true(matches.get_str("alone"));
     let progress = is_true(matches.get_str("progress"));
+    let watch = watch(alloc, matches, file, alone)?;
     let ring = number(alloc, matches, "ruu-size", 0, u64::MAX, 16)?;
     let Ok(config) = Config::new(ring, queue.min(ring), units, 1, 1, limit, turns) else {
         return Err(NoRun::Ring);
@@ -83,5 +85,6 @@ fn read<'a>(alloc: Global, matches: &ArgMatches<'a>) -> Result<Asked<'a>, NoRun>
         predictor,
         alone,
         progress,
+        watch,
     })
 }

@@ -1,6 +1,7 @@
 //! What a command line asks for.
 ghost use Rattle.std.specs.Prelude.{◌≡◌, codes};
 ghost use Rattle.std.specs.Str.{bytes_eq};
+ghost use Rattle.requests.specs.Watches.{is_wanted};
 
 use isa::Config;
 
@@ -23,6 +24,25 @@ pub struct Asked<'a> {
     pub alone: bool,
     /// What the threads have done is to be told while they run.
     pub progress: bool,
+    pub watch: Watch<'a>,
+}
+
+/// What is to be told of the turns of a run, which is then one of the one-thread unit.
+#[derive(Clone, Copy)]
+pub struct Watch<'a> {
+    /// A chart stands behind the report.
+    pub chart: bool,
+    /// The file that gets the log; never the one of the listing.
+    pub log: Option<&'a str>,
+}
+
+impl Watch<'_> {
+    /// Anything is to be told.
+    pub fn is_wanted(&self) -> bool
+        ensures { result ≡ is_wanted self.now }
+    {
+        self.chart || self.log.is_some()
+    }
 }
 
 /// What is to be driven by hand.

@@ -1,3 +1,4 @@
 //! Command lines, and the predictors that they ask for.
 mod command_lines;
 mod predictors;
+mod watches;

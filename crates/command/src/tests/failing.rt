@@ -176,7 +176,7 @@ const TALLY: Tally = Tally {
 
 #[test]
 fn a_line_names_what_was_refused_or_done(rt: HostRuntime) -> Result<(), Fail> {
-    let lines: [(Line, &str); 7] = [
+    let lines: [(Line, &str); 8] = [
         (Line::Nothing, ""),
         (
             Line::Tally(TALLY),
@@ -188,6 +188,7 @@ fn a_line_names_what_was_refused_or_done(rt: HostRuntime) -> Result<(), Fail> {
         (Line::Refused(Refusal::Memory), "ruu: memory"),
         (Line::Refused(Refusal::Thread), "ruu: thread"),
         (Line::Refused(Refusal::Write), "ruu: write"),
+        (Line::Refused(Refusal::Trace), "ruu: trace"),
     ];
     for (line, text) in lines {
         let shown = line.to_string(rt.alloc())?;

@@ -326,7 +326,7 @@ fn tells_a_check_from_a_run(rt: HostRuntime) {
 }
 
 /// A line of the help for each option, with its range and its default.
-const HELP: [&str; 9] = [
+const HELP: [&str; 11] = [
     "<FILE>  The listing, one instruction a line, or - for standard input",
     "--ruu-size <N>  Reservation stations: 2, 4, 8, 16 or 32 [default: 16]\n",
     "--lsq-size <N>  Loads and stores in flight: 2 to 32, at most --ruu-size [default: 8]\n",
@@ -336,4 +336,6 @@ const HELP: [&str; 9] = [
     "--limit <N>     Instructions to run at most: 0 to 4294967295 [default: 1000000]\n",
     "--alone         Run the unit on one thread\n",
     "--progress      Tell on standard error how far the threads are\n",
+    "--chart         Draw behind the report what became of each tenant; needs --alone\n",
+    "--trace <FILE>  Write each turn to a log for the pipeline viewer Konata; needs --alone\n",
 ];

@@ -6,35 +6,43 @@ use Rattle.charts.proofs.watched.watch.Goals as goal
 
 pub returns-in_err-bench-clause-begun : goal.returns-in_err-bench-clause-begun
 returns-in_err-bench-clause-begun g c =
-    on_err c.from_residual.result (first_part c.args.format c.args.program.now (sizes_of c.args.config.now) _ _ 0 (omega arith) (appends_none _))
+    on_err c.from_residual.result (first_part g.P.Predictor.Predicts g.P.Predictor.Learns
+    c.args.format c.args.program.now (sizes_of c.args.config.now) c.args.predictor _ _ 0 (omega arith) (appends_none _))
 
 pub returns-in_err-tell_first-clause-begun : goal.returns-in_err-tell_first-clause-begun
 returns-in_err-tell_first-clause-begun g c =
     let part = c.in_err-tell_first.ensures.part in
-    on_err c.from_residual-in_err-tell_first.result (first_part c.args.format c.args.program.now (sizes_of c.args.config.now) _ _ part.n part.inside part.gives)
+    on_err c.from_residual-in_err-tell_first.result (first_part g.P.Predictor.Predicts g.P.Predictor.Learns
+    c.args.format c.args.program.now (sizes_of c.args.config.now) c.args.predictor _ _ part.n part.inside part.gives)
 
 pub returns-in_err-tell_turns-clause-begun : goal.returns-in_err-tell_turns-clause-begun
 returns-in_err-tell_turns-clause-begun g c =
     let made = c.in_ok-bench.ensures in
-    let first = stood_start c.args.format c.args.program.now c.args.config.now c.in_ok-bench.bench.pipeline (kept c.new-books.result) _ _
-    made.program made.ring made.queue made.tag made.fresh c.new-books.ensures c.in_ok-tell_first.ensures.says in
-    on_err c.from_residual-in_err-tell_turns.result (c.in_err-tell_turns.ensures.begun c.args.program.now (sizes_of c.args.config.now) _ first)
+    let first = stood_start g.P.Predictor.Predicts g.P.Predictor.Learns c.args.format c.args.program.now
+    c.args.config.now c.in_ok-bench.bench (kept c.new-books.result) c.args.predictor _ _
+    made.program made.ring made.queue made.tag made.fresh c.new-books.ensures made.predictor c.in_ok-tell_first.ensures.says in
+    on_err c.from_residual-in_err-tell_turns.result (c.in_err-tell_turns.ensures.begun c.args.program.now
+    (sizes_of c.args.config.now) c.args.predictor _ first)
 
 pub returns-in_err-tell_last-clause-begun : goal.returns-in_err-tell_last-clause-begun
 returns-in_err-tell_last-clause-begun g c =
     let made = c.in_ok-bench.ensures in
-    let first = stood_start c.args.format c.args.program.now c.args.config.now c.in_ok-bench.bench.pipeline (kept c.new-books.result) _ _
-    made.program made.ring made.queue made.tag made.fresh c.new-books.ensures c.in_ok-tell_first.ensures.says in
+    let first = stood_start g.P.Predictor.Predicts g.P.Predictor.Learns c.args.format c.args.program.now
+    c.args.config.now c.in_ok-bench.bench (kept c.new-books.result) c.args.predictor _ _
+    made.program made.ring made.queue made.tag made.fresh c.new-books.ensures made.predictor c.in_ok-tell_first.ensures.says in
     let part = c.in_err-tell_last.ensures.part in
-    on_err c.from_residual-in_err-tell_last.result (last_part c.args.format c.args.program.now (sizes_of c.args.config.now)
-    c.tell_turns.new.bench.pipeline (kept c.tell_turns.new.books) _ _ _ part.n part.inside part.gives (c.in_ok-tell_turns.ensures.stood
-    c.args.program.now (sizes_of c.args.config.now) _ first))
+    on_err c.from_residual-in_err-tell_last.result (last_part g.P.Predictor.Predicts g.P.Predictor.Learns c.args.format
+    c.args.program.now (sizes_of c.args.config.now) c.tell_turns.new.bench (kept c.tell_turns.new.books) c.args.predictor _ _ _ part.n part.inside part.gives (c.in_ok-tell_turns.ensures.stood
+    c.args.program.now (sizes_of c.args.config.now) c.args.predictor _ first))
 
 pub returns-clause-told : goal.returns-clause-told
 returns-clause-told g c =
     let made = c.in_ok-bench.ensures in
-    let first = stood_start c.args.format c.args.program.now c.args.config.now c.in_ok-bench.bench.pipeline (kept c.new-books.result) _ _
-    made.program made.ring made.queue made.tag made.fresh c.new-books.ensures c.in_ok-tell_first.ensures.says in
-    all_told c.args.format c.args.program.now (sizes_of c.args.config.now) c.tell_turns.new.bench.pipeline (kept c.tell_turns.new.books) _ _ _
-    c.run.result c.from-limit.result (c.in_ok-tell_turns.ensures.stood c.args.program.now (sizes_of c.args.config.now) _ first)
+    let first = stood_start g.P.Predictor.Predicts g.P.Predictor.Learns c.args.format c.args.program.now
+    c.args.config.now c.in_ok-bench.bench (kept c.new-books.result) c.args.predictor _ _
+    made.program made.ring made.queue made.tag made.fresh c.new-books.ensures made.predictor c.in_ok-tell_first.ensures.says in
+    all_told g.P.Predictor.Predicts g.P.Predictor.Learns c.args.format c.args.program.now (sizes_of c.args.config.now)
+    c.tell_turns.new.bench (kept c.tell_turns.new.books) c.args.predictor _ _ _
+    c.run.result c.from-limit.result (c.in_ok-tell_turns.ensures.stood c.args.program.now
+    (sizes_of c.args.config.now) c.args.predictor _ first)
     c.in_ok-tell_last.ensures.says c.in_ok-tell_turns.ensures.stays c.run.ensures

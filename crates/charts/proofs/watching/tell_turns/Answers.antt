@@ -9,19 +9,18 @@ pub returns-in_err-tell_turn-clause-begun : goal.returns-in_err-tell_turn-clause
 returns-in_err-tell_turn-clause-begun g c =
     let b = c.turns.bench in
     let later = c.turn-answer.new.self in
-    let moves = moves_of g.P.Predictor.Predicts g.P.Predictor.Learns b later c.turn-answer.result c.turn-answer.ensures.turn in
     let part = c.in_err-tell_turn.ensures.part in
-    on_err c.from_residual.result (λ P C start s. stood_part c.args.format P C b.pipeline later.pipeline (kept c.turns.books)
-    c.turn-answer.result start _ _ part.n moves c.turn-answer.ensures.same part.inside part.gives (c.turns.invariant.stood P C start s))
+    on_err c.from_residual.result (λ Q C first start s. stood_part g.P.Predictor.Predicts g.P.Predictor.Learns c.args.format Q C b later
+    (kept c.turns.books) c.turn-answer.result first start _ _ part.n c.turn-answer.ensures.turn c.turn-answer.ensures.same part.inside part.gives
+    (c.turns.invariant.stood Q C first start s))
 
 pub returns-in-Over-clause-stood : goal.returns-in-Over-clause-stood
-returns-in-Over-clause-stood g c P C start s =
+returns-in-Over-clause-stood g c Q C first start s =
     let b = c.turns.bench in
     let later = c.turn-answer.new.self in
-    let moves = moves_of g.P.Predictor.Predicts g.P.Predictor.Learns b later c.turn-answer.result c.turn-answer.ensures.turn in
     let told = c.in_ok-tell_turn.ensures in
-    stood_next c.args.format P C b.pipeline later.pipeline (kept c.turns.books) _ c.turn-answer.result start _ _ moves
-    c.turn-answer.ensures.same told.kept told.says (c.turns.invariant.stood P C start s)
+    stood_next g.P.Predictor.Predicts g.P.Predictor.Learns c.args.format Q C b later (kept c.turns.books) _ c.turn-answer.result
+    first start _ _ c.turn-answer.ensures.turn c.turn-answer.ensures.same told.kept told.says (c.turns.invariant.stood Q C first start s)
 
 pub returns-in-Over-clause-stays : goal.returns-in-Over-clause-stays
 returns-in-Over-clause-stays g c =
@@ -47,6 +46,7 @@ turns-preserved g c =
       quiet = told.quiet ∙ c.turns.invariant.quiet;
       ends = goes_on c.args.limit b.pipeline later.pipeline c.turn-answer.result c.count.ensures.unit moves c.turn-answer.ensures.same less
           c.in_default.not-Over c.turn-answer.ensures.falls ∙ c.turns.invariant.ends;
-      stood = λ P C start s. stood_next c.args.format P C b.pipeline later.pipeline (kept c.turns.books) _ c.turn-answer.result start _ _ moves
-          c.turn-answer.ensures.same told.kept told.says (c.turns.invariant.stood P C start s);
+      stood = λ Q C first start s. stood_next g.P.Predictor.Predicts g.P.Predictor.Learns c.args.format Q C b later
+          (kept c.turns.books) _ c.turn-answer.result first start _ _ c.turn-answer.ensures.turn c.turn-answer.ensures.same told.kept told.says
+          (c.turns.invariant.stood Q C first start s);
     }

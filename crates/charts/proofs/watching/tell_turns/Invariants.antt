@@ -13,9 +13,11 @@ abbrev pub invariant-turns : goal.invariant-turns
 invariant-turns g l = record {
   quiet : failures_of l.writer ≡ failures_of l.fn.writer;
   ends : run_from l.bench.pipeline l.limit ≡ run_from l.fn.bench.pipeline l.limit;
-  stood : (P : Program) (C : Sizes) (start : Option (List ℕ)) →
-      Stood l.format P C l.fn.bench.pipeline (kept l.fn.books) start (known_by g.W.Write.contents l.fn.writer) →
-      Stood l.format P C l.bench.pipeline (kept l.books) start (known_by g.W.Write.contents l.writer);
+  stood : (Q : Program) (C : Sizes) (first : g.row.P.Denot) (start : Option (List ℕ)) →
+      Stood g.P.Predictor.Predicts g.P.Predictor.Learns l.format Q C l.fn.bench (kept l.fn.books) first start
+      (known_by g.W.Write.contents l.fn.writer) →
+      Stood g.P.Predictor.Predicts g.P.Predictor.Learns l.format Q C l.bench (kept l.books) first start
+      (known_by g.W.Write.contents l.writer);
 }
 
 abbrev pub decreases-turns : goal.decreases-turns

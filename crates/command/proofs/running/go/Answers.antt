@@ -1,4 +1,3 @@
-use Rattle.std.proofs.Common.{◌≡◌, Some}
 use Rattle.devices.specs.Counted.{Gives}
 use Rattle.command.proofs.AsAlone.{reader_as_alone}
 use Rattle.command.proofs.running.go.Goals as goal

@@ -22,4 +22,6 @@ returns c =
     let turns = extended predictor c.option-5.ensures c.in_ok-arg-6.ensures in
     let limit = extended turns c.option-6.ensures c.in_ok-arg-7.ensures in
     let alone = extended limit c.flag.ensures c.in_ok-arg-8.ensures in
-    IfOk-weaker c.arg-9.result _ _ (λ _ adds. extended alone c.flag-2.ensures adds) c.arg-9.ensures
+    let progress = extended alone c.flag-2.ensures c.in_ok-arg-9.ensures in
+    let chart = extended progress c.flag-3.ensures c.in_ok-arg-10.ensures in
+    IfOk-weaker c.arg-11.result _ _ (λ _ adds. extended chart c.option-7.ensures adds) c.arg-11.ensures

@@ -26,6 +26,7 @@ returns-clause-ok c =
       predictor = c.in_ok-predictor.predictor;
       alone = c.is_true-alone.result;
       progress = c.is_true-progress.result;
+      watch = c.in_ok-watch.watch;
     } in
     let held : IsAskedBy (rows_of found) (request settings) = record {
       file = c.in_ok-file.ensures.ok;
@@ -41,6 +42,7 @@ returns-clause-ok c =
       limit = c.in_ok-limit.ensures.ok;
       alone = c.is_true-alone.ensures ∙ ap is_true (c.get_str.ensures ∙ first_value-rows found (codes "alone"));
       progress = c.is_true-progress.ensures ∙ ap is_true (c.get_str-2.ensures ∙ first_value-rows found (codes "progress"));
+      watch = c.in_ok-watch.ensures.ok;
       one_place = refl;
       first_tag = refl;
       valid = c.in-Ok.ensures.valid;
@@ -67,6 +69,8 @@ returns-in_default-clause-err c =
         are_turns = turns;
         limit = c.in_ok-limit.limit;
         is_limit = limit;
+        watch = c.in_ok-watch.watch;
+        is_watch = c.in_ok-watch.ensures.ok;
         ring = c.in_ok-ring.ring;
         is_ring_number = c.in_ok-ring.ensures.ok;
       };
@@ -74,3 +78,7 @@ returns-in_default-clause-err c =
           c.in_ok-turns.turns c.min.ensures queue.above units.above units.below limit.below turns.above turns.below
           c.in_default.field-0 c.in_default.ensures.err;
     }
+
+pub watch-requires-clause-alone : goal.watch-requires-clause-alone
+watch-requires-clause-alone c =
+    c.is_true-alone.ensures ∙ ap is_true (c.get_str.ensures ∙ first_value-rows (found_of c.args.matches.now) (codes "alone"))

@@ -1,0 +1,32 @@
+use Rattle.std.proofs.Common.{◌∙◌, sym, ap, codes}
+use Rattle.clap.specs.Words.{found_of, rows_of}
+use Rattle.clap.proofs.WalkLemmas.{first_value-rows}
+use Rattle.requests.specs.Values.{is_true}
+use Rattle.requests.proofs.Watching.{is_another, not_alone, not_another, same_allowed}
+use Rattle.requests.proofs.watches.watch.Goals as goal
+
+pub returns-then-not-is_allowed-clause-err : goal.returns-then-not-is_allowed-clause-err
+returns-then-not-is_allowed-clause-err c =
+    let found = found_of c.args.matches.now in
+    not_alone (rows_of found) c.is_true-chart.result _ c.args.alone c.is_allowed.result
+    (c.is_true-chart.ensures ∙ ap is_true (c.get_str.ensures ∙ first_value-rows found (codes "chart")))
+    (c.get_str-log.ensures ∙ first_value-rows found (codes "trace")) c.requires.alone c.is_allowed.ensures c.if-not-is_allowed.true
+
+pub returns-then-not-is_other-clause-err : goal.returns-then-not-is_other-clause-err
+returns-then-not-is_other-clause-err c =
+    let found = found_of c.args.matches.now in
+    not_another (rows_of found) c.args.file.now _ c.is_other.result c.requires.file
+    (c.get_str-log.ensures ∙ first_value-rows found (codes "trace")) c.is_other.ensures c.if-not-is_other.true
+
+pub returns-clause-ok : goal.returns-clause-ok
+returns-clause-ok c =
+    let found = found_of c.args.matches.now in
+    let chart = c.is_true-chart.ensures ∙ ap is_true (c.get_str.ensures ∙ first_value-rows found (codes "chart")) in
+    let log = c.get_str-log.ensures ∙ first_value-rows found (codes "trace") in
+    record {
+      chart = chart;
+      log = log;
+      alone = sym (same_allowed (rows_of found) c.is_true-chart.result _ c.args.alone c.is_allowed.result chart log c.requires.alone c.is_allowed.ensures)
+          ∙ c.if-not-is_allowed.false;
+      other = is_another (rows_of found) c.args.file.now _ c.is_other.result c.requires.file log c.is_other.ensures c.if-not-is_other.false;
+    }
