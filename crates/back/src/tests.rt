@@ -7,7 +7,8 @@ ghost use Rattle.inorder.specs.Replies.{last_tag};
 ghost use Rattle.station.specs.Seats.{IsSame};
 
 use crate::{Back, Commit, Mark, Naming, Refresh};
-use isa::{Config, Ending, Half, Memory, Program, Stop, outcome_of, parse};
+use assembly::parse;
+use isa::{Config, Ending, Half, Memory, Program, Stop, outcome_of};
 use station::{
     Claim, Core, Finish, FrontSeat, StationState, Supply, Tenant, UnitSeat, a_job_is_of_the_program,
 };

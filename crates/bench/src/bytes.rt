@@ -5,8 +5,9 @@ ghost use Rattle.bench.specs.Answer.{most_taken, text_of, status_of};
 
 use crate::outcome::{Fault, Status};
 use crate::run::run;
+use assembly::{FaultKind, fault_text, parse, report_text};
 use devices::{Counted, read_up_to, write_whole};
-use isa::{Config, FaultKind, Memory, Predictor, fault_text, parse, report_text};
+use isa::{Config, Memory, Predictor};
 use std::alloc::Global;
 use std::io::{Read, Write};
 

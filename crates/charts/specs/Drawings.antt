@@ -1,8 +1,8 @@
 -- The chart: a line for each tenant that has left, and what became of it over the turns.
 use Rattle.std.specs.Prelude.{ℕ, zero, suc, ◌-◌, ◌%◌, List, [], ◌∷◌, ◌++◌, length, Option, Some, None, codes, decimal, if◌then◌else◌}
-use Rattle.isa.specs.InstrText.{instr_text}
+use Rattle.assembly.specs.InstrText.{instr_text}
 use Rattle.isa.specs.Instruction.{is_first_half, kind}
-use Rattle.isa.specs.Report.{hexadecimal, newline}
+use Rattle.assembly.specs.Report.{hexadecimal, newline}
 use Rattle.isa.specs.declared.instr.Instr.{Instr}
 use Rattle.isa.specs.declared.op.Half.{Half}
 use Rattle.isa.specs.declared.op.Half.TheVariants.{High, Low}

@@ -4,8 +4,9 @@ mod memory;
 mod told;
 
 use crate::{Format, watch};
+use assembly::parse;
 use devices::Counted;
-use isa::{Config, NotTaken, Program, parse};
+use isa::{Config, NotTaken, Program};
 use std::alloc::Global;
 use std::test::Fail;
 

@@ -4,10 +4,10 @@ use Rattle.std.proofs.lemmas.Bool.{cases_lt}
 use Rattle.isa.specs.declared.end.End.{End}
 use Rattle.isa.specs.declared.end.Ending.{Ending}
 use Rattle.isa.specs.declared.end.Ending.TheVariants.{Limit}
-use Rattle.isa.specs.declared.listing.fault.FaultKind.{FaultKind}
-use Rattle.isa.specs.Listing.{listing}
+use Rattle.assembly.specs.declared.listing.fault.FaultKind.{FaultKind}
+use Rattle.assembly.specs.Listing.{listing}
 use Rattle.isa.specs.Programs.{Program}
-use Rattle.isa.specs.Report.{fault_line, report_of}
+use Rattle.assembly.specs.Report.{fault_line, report_of}
 use Rattle.isa.specs.Settings.{Settings}
 use Rattle.inorder.specs.Machine.{State}
 use Rattle.inorder.specs.Runs.{end_of}

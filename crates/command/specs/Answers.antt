@@ -3,10 +3,10 @@ use Rattle.std.specs.Prelude.{◌≡◌, ◌≤◌, ◌<◌, ℕ, Bool, true, fa
 use Rattle.isa.specs.declared.end.End.{End}
 use Rattle.isa.specs.declared.end.Ending.{Ending}
 use Rattle.isa.specs.declared.end.Ending.TheVariants.{Limit}
-use Rattle.isa.specs.declared.listing.fault.FaultKind.{FaultKind}
-use Rattle.isa.specs.Listing.{listing}
+use Rattle.assembly.specs.declared.listing.fault.FaultKind.{FaultKind}
+use Rattle.assembly.specs.Listing.{listing}
 use Rattle.isa.specs.Programs.{Program}
-use Rattle.isa.specs.Report.{fault_line}
+use Rattle.assembly.specs.Report.{fault_line}
 use Rattle.isa.specs.Settings.{Settings}
 use Rattle.inorder.specs.Machine.{State}
 use Rattle.inorder.specs.Runs.{after, end_of}

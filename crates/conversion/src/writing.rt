@@ -2,7 +2,7 @@
 ghost use Rattle.std.specs.Prelude.{◌≡◌, ℕ, ◌<◌, ◌≤◌, ◌++◌, Ok, false, OnOk, IfOk, IfSome, IsNone, true, length, string_bytes, take};
 ghost use Rattle.std.specs.List.{list_all};
 ghost use Rattle.isa.specs.Programs.{address};
-ghost use Rattle.isa.specs.Listing.{listing};
+ghost use Rattle.assembly.specs.Listing.{listing};
 ghost use Rattle.conversion.specs.Meaning.{is_inside, has_target as has_target_of};
 ghost use Rattle.conversion.specs.Writing.{IsQuieter, IsLabelled, AllSound, AllMarked, as_line, unlines, label_lines, gap_lines, comment_line, printable};
 

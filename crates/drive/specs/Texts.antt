@@ -1,6 +1,7 @@
 -- The texts of answers.
 use Rattle.std.specs.Prelude.{ℕ, ◌+◌, ◌==◌, List, [], ◌∷◌, ◌++◌, codes, decimal, if◌then◌else◌}
-use Rattle.isa.specs.Report.{hexadecimal, register_name, stop_word}
+use Rattle.assembly.specs.Report.{hexadecimal, register_name}
+use Rattle.isa.specs.Endings.{stop_word}
 use Rattle.isa.specs.declared.op.Half.{Half}
 use Rattle.isa.specs.declared.op.Half.TheVariants.{High, Low}
 use Rattle.inorder.specs.declared.history.Source.{Source}

@@ -2,9 +2,10 @@
 ghost use Rattle.std.specs.Prelude.{◌≡◌};
 
 use super::*;
+use assembly::parse;
 use back::Naming;
 use devices::Counted;
-use isa::{Config, NotTaken, Program, parse};
+use isa::{Config, NotTaken, Program};
 use std::alloc::Global;
 use std::marker::Brand;
 use std::sync::Wait;

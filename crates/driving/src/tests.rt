@@ -1,6 +1,7 @@
 //! The example, run.
 use crate::{first_outcome, is_chain, second_outcome};
-use isa::{Config, Outcome, Stop, parse};
+use assembly::parse;
+use isa::{Config, Outcome, Stop};
 use std::test::Fail;
 
 #[test]

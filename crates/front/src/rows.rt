@@ -8,7 +8,8 @@ mod rests;
 mod stills;
 
 use crate::{Front, Made, Recovery, Turn};
-use isa::{Config, Instr, NotTaken, Outcome, Predictor, Program, Reg, outcome_of, parse};
+use assembly::parse;
+use isa::{Config, Instr, NotTaken, Outcome, Predictor, Program, Reg, outcome_of};
 use station::{
     BackSeat, Claim, Core, Finish, Job, Retire, Source, StationState, UnitSeat,
     a_job_is_of_the_program,

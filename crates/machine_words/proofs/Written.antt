@@ -9,7 +9,7 @@ use Rattle.isa.specs.declared.op.Op.TheVariants.{Addiu, Addi, Slti, Sltiu, Andi,
 use Rattle.isa.specs.declared.op.Op.TheVariants.{Beq, Bne, Blez, Bgtz, Bltz, Bgez, J, Jal, Jr, Jalr, Break}
 use Rattle.isa.specs.declared.instr.Instr.{Instr}
 use Rattle.isa.specs.Operations.{extended}
-use Rattle.isa.specs.InstrText.{IsWritable, IsSignedHalf}
+use Rattle.assembly.specs.InstrText.{IsWritable, IsSignedHalf}
 use Rattle.machine_words.specs.Fields.{shift_of, immediate_of}
 use Rattle.machine_words.specs.Layouts.{layout, operation_of}
 use Rattle.machine_words.specs.Words.{branch_target, region_target, only_if, read, decode, decode_as}

@@ -5,7 +5,8 @@ mod pairs;
 mod rows;
 
 use crate::{Gate, Run, RunInTurns, run, run_in_turns};
-use isa::{Config, NotTaken, parse, report_text};
+use assembly::{parse, report_text};
+use isa::{Config, NotTaken};
 use std::alloc::Global;
 use std::sync::Wait;
 use std::test::Fail;

@@ -10,7 +10,8 @@ use crate::{
     Claim, Core, Finish, FrontSeat, Last, Retire, Source, SourceState, StationState, Supply,
     Tenant, UnitSeat,
 };
-use isa::{Config, Half, Program, outcome_of, parse};
+use assembly::parse;
+use isa::{Config, Half, Program, outcome_of};
 use std::alloc::Global;
 use std::test::Fail;
 

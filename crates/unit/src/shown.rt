@@ -1,6 +1,7 @@
 //! What a bench shows of its live tenants.
 use crate::{Bench, Stage, Station, Turn};
-use isa::{Config, NotTaken, Op, parse};
+use assembly::parse;
+use isa::{Config, NotTaken, Op};
 use std::test::Fail;
 
 fn is_open(station: Option<Station>, op: Op) -> bool {

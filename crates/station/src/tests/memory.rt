@@ -3,7 +3,8 @@ ghost use Rattle.std.specs.Prelude.{IfOk};
 ghost use Rattle.station.specs.Making.{IsMade};
 
 use crate::{BackSeat, Core, FrontSeat, Retire, StationState, UnitSeat};
-use isa::{Config, Memory, Program, parse};
+use assembly::parse;
+use isa::{Config, Memory, Program};
 use std::alloc::Global;
 use std::test::Fail;
 
