@@ -7,7 +7,7 @@ ghost use Rattle.charts.specs.Drawings.{mark_behind, padded, picture};
 ghost use Rattle.charts.specs.Drawings.{settled_mark as settled_mark_of, tenant_text, times};
 
 use crate::row::Row;
-use assembly::Hexadecimal;
+use assembly::{Hexadecimal, InstrText};
 use isa::{Half, Instr, Kind};
 use std::alloc::{AllocError, Global};
 use unit::Station;
@@ -42,8 +42,8 @@ fn push_instr(alloc: Global, out: &mut String, station: &Station) -> Result<(), 
     ensures { OnOk result (string_bytes out.new
         ≡ string_bytes out.old ++ padded (tenant_text station.now)) }
 {
-    let instr = station.instr;
-    let half = half_text(&instr, station.half);
+    let half = half_text(&station.instr, station.half);
+    let instr = InstrText::by_numbers(station.instr);
     let text = format!(in alloc; "{instr}{half}")?;
     out.push_str(text.as_str())?;
     let blanks = COLUMNS.saturating_sub(text.len());

@@ -5,7 +5,7 @@ ghost use Rattle.charts.specs.Kanata.{head, tick, stage_text as stage_text_of, w
 use crate::drawing::half_text;
 use crate::event::{Event, Way};
 use crate::row::{Phase, Row};
-use assembly::Hexadecimal;
+use assembly::{Hexadecimal, InstrText};
 use std::alloc::AllocError;
 
 pub(crate) fn push_head(out: &mut String) -> Result<(), AllocError>
@@ -47,8 +47,8 @@ fn push_let(out: &mut String, row: &Row) -> Result<(), AllocError>
 {
     let position = row.position;
     let pc = Hexadecimal(row.station.pc);
-    let instr = row.station.instr;
-    let half = half_text(&instr, row.station.half);
+    let half = half_text(&row.station.instr, row.station.half);
+    let instr = InstrText::by_numbers(row.station.instr);
     write!(
         out,
         "I\t{position}\t{position}\t0\nL\t{position}\t0\t{pc} {instr}{half}\nS\t{position}\t0\tDs\n"
