@@ -115,11 +115,13 @@ later_on core u v w a b = record {
 }
 
 -- the back tells the front, the unit tells the front, and the front tells both; those who tell stay as they are
-pub have_met : (core : TheCore) (f b u f1 f2 f4 b3 u4 : Caller) → IsLater core f f1 → StartsWith f1.seen b.seen → IsLater core f1 f2 → {f3 : Caller} → StartsWith f2.seen u.seen
+pub have_met : (core : TheCore) (f b u f1 f2 f4 b3 u4 : Caller) → f.by ≡ front → b.by ≡ back → IsLater core f f1 → StartsWith f1.seen b.seen → IsLater core f1 f2 → {f3 : Caller} → StartsWith f2.seen u.seen
     → IsLater core b b3 → StartsWith b3.seen f2.seen → IsLater core u u4 → StartsWith u4.seen f3.seen → f3 ≡ f2 → f4 ≡ f3 → HaveMet core (seats_of f b u) (seats_of f4 b3 u4)
-have_met core f b u f1 f2 f4 b3 u4 l1 t1 l2 {f3} t2 l3 t3 l4 t4 e3 e4 =
+have_met core f b u f1 f2 f4 b3 u4 is_front is_back l1 t1 l2 {f3} t2 l3 t3 l4 t4 e3 e4 =
     let same : f2 ≡ f4 = sym (e4 ∙ e3) in
     subst (λ (z : Caller). HaveMet core (seats_of f b u) (seats_of z b3 u4)) same (record {
+      front_by = is_front;
+      back_by = is_back;
       front = later_on core f f1 f2 l1 l2;
       back = l3;
       unit = l4;
@@ -129,13 +131,13 @@ have_met core f b u f1 f2 f4 b3 u4 l1 t1 l2 {f3} t2 l3 t3 l4 t4 e3 e4 =
       to_unit = subst (λ (z : Caller). StartsWith u4.seen z.seen) e3 t4;
     })
 
-pub have_seen : (core : TheCore) (old new : Seats) → HaveMet core old new → old.front.by ≡ front → old.back.by ≡ back → HaveSeen core old new.front.seen
-have_seen core old new m is_front is_back =
+pub have_seen : (core : TheCore) (old new : Seats) → HaveMet core old new → HaveSeen core old new.front.seen
+have_seen core old new m =
     let P = core.program in
     let C = core.sizes in
     record {
-      of_front = subst (λ n. Adds P C n old.front.seen new.front.seen []) is_front m.front.adds;
-      of_back = adds_between P C back old.back.seen new.front.seen new.back.seen (subst (λ n. Adds P C n old.back.seen new.back.seen []) is_back m.back.adds) m.of_back m.to_back;
+      of_front = subst (λ n. Adds P C n old.front.seen new.front.seen []) m.front_by m.front.adds;
+      of_back = adds_between P C back old.back.seen new.front.seen new.back.seen (subst (λ n. Adds P C n old.back.seen new.back.seen []) m.back_by m.back.adds) m.of_back m.to_back;
       of_unit = adds_between P C old.unit.by old.unit.seen new.front.seen new.unit.seen m.unit.adds m.of_unit m.to_unit;
     }
 

@@ -37,6 +37,8 @@ pub record IsLater (core : TheCore) (old new : Caller) : Type 0 where
 
 -- The three have met: the front's has seen what any of them had seen, and the others have seen that
 pub record HaveMet (core : TheCore) (old new : Seats) : Type 0 where
+  pub front_by : old.front.by ≡ front
+  pub back_by : old.back.by ≡ back
   pub front : IsLater core old.front new.front
   pub back : IsLater core old.back new.back
   pub unit : IsLater core old.unit new.unit

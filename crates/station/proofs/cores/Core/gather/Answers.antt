@@ -16,7 +16,7 @@ returns-clause-met c =
     let fourth = c.tell-4.ensures in
     let of_back : IsLater core c.tell.new.from c.tell-3.new.to = record { same = third.kept; heirs = third.heirs; woken = third.woken; adds = third.history } in
     let of_unit : IsLater core c.tell-2.new.from c.tell-4.new.to = record { same = fourth.kept; heirs = fourth.heirs; woken = fourth.woken; adds = fourth.history } in
-    have_met core f b u c.tell.new.to c.tell-2.new.to c.tell-4.new.from c.tell-3.new.to c.tell-4.new.to
+    have_met core f b u c.tell.new.to c.tell-2.new.to c.tell-4.new.from c.tell-3.new.to c.tell-4.new.to c.a_number_is_of_its_part.ensures c.a_number_is_of_its_part-2.ensures
     (record { same = first.kept; heirs = first.heirs; woken = first.woken; adds = first.history }) first.told
     (record { same = second.kept; heirs = second.heirs; woken = second.woken; adds = second.history }) second.told
     (subst (λ (z : Caller). IsLater core z c.tell-3.new.to) first.from of_back) third.told
@@ -26,4 +26,4 @@ returns-clause-met c =
 pub returns-clause-seen : goal.returns-clause-seen
 returns-clause-seen c =
     have_seen c.args.self.now (seats_of c.args.front.now c.args.back.now c.args.unit.now) (seats_of c.tell-4.new.from c.tell-3.new.to c.tell-4.new.to)
-    (returns-clause-met c) c.a_number_is_of_its_part.ensures c.a_number_is_of_its_part-2.ensures
+    (returns-clause-met c)
