@@ -21,3 +21,4 @@ pub mod Standing
 pub mod Scanning
 pub mod Refreshing
 pub mod Wakings
+pub mod Behind

@@ -4,6 +4,7 @@ use Rattle.inorder.specs.declared.history.Entry.{Entry}
 use Rattle.inorder.specs.Callers.{head_station}
 use Rattle.inorder.specs.History.{Adds, back}
 use Rattle.snapshots.specs.declared.snap.Snap.{Snap}
+use Rattle.station.specs.Renewals.{IsNotRenewed, IsRenewed, Seats}
 use Rattle.station.specs.Seats.{Caller, TheCore}
 use Rattle.back.specs.Backs.{TheBack, unit_in}
 
@@ -30,3 +31,25 @@ pub record GoesOn (core : TheCore) (seen : List Entry) (seat : Caller) : Type 0 
 -- The station of the oldest live tenant at a seat, or of the next one if nobody is live
 abbrev pub head_at : TheCore → List Entry → ℕ
 head_at core seen = head_station core.sizes (unit_in core seen)
+
+-- The back enters a renewed core with this seat: the oldest live tenant is looked for at station 0
+pub record MayEnter (core : TheCore) (seen : List Entry) (seat : Caller) : Type 0 where
+  pub goes_on : GoesOn core seen seat
+  pub first : head_at seat.core seat.seen ≡ 0
+
+-- It enters the core that it left with this seat: the oldest live tenant is looked for where it was
+pub record MayEnterAgain (core : TheCore) (seen : List Entry) (seat : Caller) : Type 0 where
+  pub goes_on : GoesOn core seen seat
+  pub head : head_at seat.core seat.seen ≡ head_at core seen
+
+-- With the seat that a renewal gives a back that has left enters the renewed core
+abbrev pub RenewedAreEntered : Type 0
+RenewedAreEntered =
+    (core now : TheCore) (old new : Seats) → IsRenewed core old now new →
+    MayEnter core old.back.seen new.back
+
+-- With its own, where the renewal was refused, it enters the core that it left
+abbrev pub RefusedAreEntered : Type 0
+RefusedAreEntered =
+    (core now : TheCore) (old new : Seats) → old.back.core ≡ core → old.back.by ≡ back →
+    IsNotRenewed core old now new → MayEnterAgain core old.back.seen new.back

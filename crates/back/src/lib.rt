@@ -7,6 +7,7 @@ mod backs;
 mod commit;
 mod committed;
 mod ends;
+mod laws;
 mod port;
 mod refresh;
 mod seats;
@@ -15,6 +16,7 @@ mod still;
 
 pub use answers::{Commit, Refresh};
 pub use backs::Back;
+pub use laws::a_back_enters_behind_a_renewal;
 pub use snapshots::{Gone, Mark, Naming, NoPlace, Snap, Snapper};
 pub use still::BackStill;
 

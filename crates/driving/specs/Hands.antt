@@ -12,8 +12,9 @@ abbrev pub IsUnits : Seats → ℕ → Type 0
 IsUnits s n =
     (n ≡ s.one.by) ⊎ ((n ≡ s.other.by) ⊎ (IsHeir s.one.heirs n ⊎ IsHeir s.other.heirs n))
 
--- They are of this core, the units are two, and there is no third
+-- They are of this core, which goes on from no other, the units are two, and there is no third
 pub record AreAll (core : TheCore) (s : Seats) : Type 0 where
+  pub opening : core.opening ≡ []
   pub front_core : s.front.core ≡ core
   pub back_core : s.back.core ≡ core
   pub one_core : s.one.core ≡ core

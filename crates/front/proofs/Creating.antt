@@ -1,11 +1,11 @@
 -- What the table says of a register is its creator.
-use Rattle.std.proofs.Common.{◌≡◌, ℕ, ◌<◌, List, ◌++◌, Option, Some, None, refl, sym, ap, ◌∙◌, subst, cond, ⊎_elim, arith, false, ◌≤◌}
+use Rattle.std.proofs.Common.{◌≡◌, ℕ, ◌<◌, List, ◌++◌, Option, Some, None, refl, sym, ap, ◌∙◌, subst, cond, ⊎_elim, arith, ◌≤◌}
 use Rattle.std.specs.List.{AllByRecursion}
 use Rattle.std.specs.Prelude.{slice_get, slice_index}
 use Rattle.isa.specs.Programs.{Program}
 use Rattle.inorder.specs.Callers.{IsLastAt}
 use Rattle.inorder.specs.Tenants.{Tenant}
-use Rattle.inorder.specs.Unit.{Sizes, UpdateUnit, at, creator, value_of, is_old}
+use Rattle.inorder.specs.Unit.{Sizes, UpdateUnit, at, creator, value_of}
 use Rattle.front.specs.Path.{told_of}
 use Rattle.front.proofs.Tables.{entry_there, entry_untold}
 use Rattle.front.specs.declared.path.base_state.Base.{Base}
@@ -20,6 +20,7 @@ use Rattle.front.specs.Knows.{IsFolded, IsNewest, IsReused, Knows, whats}
 use Rattle.front.specs.Trail.{Note}
 use Rattle.front.proofs.CreateVector.{Creates, Kept, Older, creates, creator_is, newest_among, written}
 use Rattle.front.proofs.Lists.{all_front, all_rest, all_two}
+use Rattle.front.proofs.Places.{kept_new}
 use Rattle.front.proofs.Supplied.{no_maker, written_by}
 use Rattle.front.proofs.Trails.{IsNoted, trail_noted}
 
@@ -69,8 +70,8 @@ module _ (P : Program) (C : Sizes) (U : UpdateUnit) (records : List Record) (bas
       ⊎_elim (λ (no : None ≡ Some n). absurd (cc no)) (λ q. q) (newest_among IsOlder None k.gone r n older there)
 
   -- one that was found
-  pub made : ((p : ℕ) → is_old U p ≡ false) → (c : Creator) → Finds T r (Some c) → IsMaker P U (told_of base) r c.station c.tag
-  made all_new c f = go all_of
+  pub made : (c : Creator) → Finds T r (Some c) → IsMaker P U (told_of base) r c.station c.tag
+  made c f = go all_of
     where
       go : Creates IsYoung k.gone (whats k.notes) r whole → IsMaker P U (told_of base) r c.station c.tag
       go (Kept n e y g) =
@@ -81,7 +82,7 @@ module _ (P : Program) (C : Sizes) (U : UpdateUnit) (records : List Record) (bas
             p = n.at;
             creates = creator_whole ∙ ap position e;
             untold = y.0.1;
-            named = record { tenant = y.1.tenant; is = y.1.is; new = all_new n.at; station_is = ap (λ (z : Record). z.station) y.1.what ∙ station; tag_is = ap (λ (z : Record). z.tag) y.1.what ∙ tag; fact = tt };
+            named = record { tenant = y.1.tenant; is = y.1.is; new = kept_new P C U records base (IsFolded U (told_of base)) k n.at y.0.1; station_is = ap (λ (z : Record). z.station) y.1.what ∙ station; tag_is = ap (λ (z : Record). z.tag) y.1.what ∙ tag; fact = tt };
             last = subst (IsLastAt U n.at) station y.0.0;
           }
       go (Older e g) = by (creator_note k.gone r) refl

@@ -1,12 +1,12 @@
 -- The look at the oldest of as many loads and stores as the queue takes.
-use Rattle.std.proofs.Common.{◌≡◌, ◌≢◌, ℕ, suc, ◌≤◌, List, [], ◌∷◌, ◌++◌, Some, sym, ap, ◌∙◌, subst, arith}
+use Rattle.std.proofs.Common.{◌≡◌, ◌≢◌, ℕ, suc, ◌≤◌, List, [], ◌∷◌, ◌++◌, Some, sym, ap, ◌∙◌, subst, arith, false}
 use Rattle.std.specs.List.{AllByRecursion}
 use Rattle.isa.specs.Programs.{Program}
 use Rattle.inorder.specs.declared.history.Entry.{Entry}
 use Rattle.inorder.specs.History.{IsLegal, unit_of}
 use Rattle.inorder.specs.StationWords.{last_of, station_word, word_by, word_of}
 use Rattle.inorder.specs.Tenants.{Live, Tenant}
-use Rattle.inorder.specs.Unit.{Sizes, UpdateUnit, at, recent, tag_after}
+use Rattle.inorder.specs.Unit.{Sizes, UpdateUnit, at, recent, tag_after, is_old}
 use Rattle.ruu_words.specs.declared.station.StationState.{StationState}
 use Rattle.ruu_words.specs.declared.station.StationState.TheVariants.{Free}
 use Rattle.ruu_words.specs.States.{state_code}
@@ -14,13 +14,15 @@ use Rattle.station.specs.declared.answers.Seen.{Seen}
 use Rattle.station.specs.Looking.{SeesStation}
 use Rattle.front.specs.declared.path.base_state.Base.{Base}
 use Rattle.front.specs.declared.path.record.Record.{Record}
-use Rattle.front.specs.Knows.{IsNewest, Knows}
+use Rattle.front.specs.Knows.{IsNewest, Knows, IsFolded}
 use Rattle.front.specs.Queues.{IsBefore, live_accesses}
 use Rattle.front.proofs.InQueue.{IsSplit, behind_left, behind_live, one_noted, queue_room, s}
 use Rattle.front.proofs.Lists.{all_rest}
 use Rattle.front.proofs.Looks.{free_is, live_there, NamedNow, same_place}
 use Rattle.front.proofs.Stations.{last_now, left_there}
 use Rattle.front.proofs.Trails.{IsNoted}
+use Rattle.front.specs.Path.{told_of}
+use Rattle.front.proofs.Places.{kept_new}
 
 same_tenant : (t u : Tenant) → Some t ≡ Some u → t ≡ u
 same_tenant t u e = cc e
@@ -42,6 +44,12 @@ module _ (P : Program) (C : Sizes) (h : List Entry) (legal : IsLegal P C h) (rec
   newest : IsNewest U split.one
   newest = (all_rest (IsNewest U) split.before (split.one ∷ split.after) (subst (AllByRecursion (IsNewest U)) split.is k.newest)).0
 
+  untold : told_of base ≤ split.one.at
+  untold = (all_rest (λ n. told_of base ≤ n.at) split.before (split.one ∷ split.after) (subst (AllByRecursion (λ n. told_of base ≤ n.at)) split.is k.untold)).0
+
+  new : is_old U split.one.at ≡ false
+  new = kept_new P C U records base (IsFolded U (told_of base)) k split.one.at untold
+
   place : its.tenant.station ≡ x.station
   place = ap (λ (z : Record). z.station) (its.what ∙ split.what)
 
@@ -50,7 +58,7 @@ module _ (P : Program) (C : Sizes) (h : List Entry) (legal : IsLegal P C h) (rec
 
   pub room_there : seen.state ≡ Free → live_accesses P U ≤ n
   room_there free =
-      let last : last_of (recent U) x.station ≡ Some its.tenant = last_now P C h legal split.one.at x.station its.tenant its.is place (λ q u lt is same. newest q u lt is (same ∙ sym at_place)) in
+      let last : last_of (recent U) x.station ≡ Some its.tenant = last_now U split.one.at x.station its.tenant its.is new place (λ q u lt is same. newest q u lt is (same ∙ sym at_place)) in
       let word : station_word C (recent U) x.station ≡ word_by (tag_after C (recent U) x.station) its.tenant.standing its.tenant.tag its.tenant.fate its.tenant.made = ap (word_of (tag_after C (recent U) x.station)) last in
       let left = left_there its.tenant (tag_after C (recent U) x.station) (station_word C (recent U) x.station) word (free_is _ (sym sees.state_is ∙ ap state_code free)) its.on seen.value sees.value_is in
       let few = behind_left P C h legal records base k b.older x b.younger b.are left.retired in

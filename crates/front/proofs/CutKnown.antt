@@ -1,5 +1,5 @@
 -- What the front knows behind a squash and a mending of its own.
-use Rattle.std.proofs.Common.{◌≡◌, ◌≢◌, ℕ, ◌<◌, true, List, [], ◌∷◌, ◌++◌, length, Some, refl, sym, ap, ◌∙◌, subst, ⊎_elim, arith, length-append, append_assoc, true≢false, ◌≤◌}
+use Rattle.std.proofs.Common.{◌≡◌, ◌≢◌, ℕ, ◌+◌, ◌<◌, true, List, [], ◌∷◌, ◌++◌, length, Some, refl, sym, ap, ◌∙◌, subst, ⊎_elim, arith, length-append, append_assoc, true≢false, ◌≤◌}
 use Rattle.std.proofs.lemmas.Bool.{cases_lt}
 use Rattle.std.specs.List.{AllByRecursion}
 use Rattle.std.specs.Prelude.{slice_index}
@@ -164,6 +164,7 @@ module _ (P : Program) (C : Sizes) (U : UpdateUnit) (ok : IsSound P U.tenants) (
         again = all_map (IsFolded U (told_of base)) (IsFolded V (told_of base)) (still_folded P C U by (On p Squash) a ok (told_of base)) k.gone k.again;
         newest = all_map (IsNewest U) (IsNewest V) (still_newest P C U by p Squash a ok) fs (all_front (IsNewest U) fs (x ∷ []) (subst (AllByRecursion (IsNewest U)) e k.newest));
         past = subst (λ z. told_of base ≤ z) (sym (long_under P C U by p Squash a)) k.past;
+        since = subst (λ z. z ≤ told_of base + U.fresh) (sym (long_under P C U by p Squash a)) k.since;
         untold = all_front (λ n. told_of base ≤ n.at) fs (x ∷ []) (subst (AllByRecursion (λ n. told_of base ≤ n.at)) e k.untold);
         wide = k.wide;
         base_is = λ r h. still_value P C U by (On p Squash) a ok (position (creator_note k.gone r)) (slice_index base.registers r) (k.base_is r h);
@@ -196,6 +197,7 @@ module _ (P : Program) (C : Sizes) (U : UpdateUnit) (ok : IsSound P U.tenants) (
         again = all_map (IsFolded U (told_of base)) (IsFolded V (told_of base)) (still_folded P C U by (On p Mend) a ok (told_of base)) k.gone k.again;
         newest = all_map (IsNewest U) (IsNewest V) (still_newest P C U by p Mend a ok) (fs ++ y ∷ []) (all_both (IsNewest U) fs (y ∷ []) (all_front (IsNewest U) fs (x ∷ []) newest) (last, tt));
         past = subst (λ z. told_of base ≤ z) (sym (long_under P C U by p Mend a)) k.past;
+        since = subst (λ z. z ≤ told_of base + U.fresh) (sym (long_under P C U by p Mend a)) k.since;
         untold = all_both (λ n. told_of base ≤ n.at) fs (y ∷ []) (all_front (λ n. told_of base ≤ n.at) fs (x ∷ []) untold) ((all_rest (λ n. told_of base ≤ n.at) fs (x ∷ []) untold).0, tt);
         wide = k.wide;
         base_is = λ r h. still_value P C U by (On p Mend) a ok (position (creator_note k.gone r)) (slice_index base.registers r) (k.base_is r h);

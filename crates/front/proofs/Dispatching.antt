@@ -1,5 +1,5 @@
 -- A let with its questions, and what the front knows behind them.
-use Rattle.std.proofs.Common.{◌≡◌, ℕ, ◌+◌, ◌-◌, ◌*◌, ◌/◌, ◌<◌, ◌^◌, List, [], ◌∷◌, ◌++◌, length, Option, Some, refl, sym, ap, ◌∙◌, subst, ⊎_elim, arith, append_assoc}
+use Rattle.std.proofs.Common.{◌≡◌, ℕ, ◌+◌, ◌-◌, ◌*◌, ◌/◌, ◌<◌, ◌≤◌, ◌^◌, false, List, [], ◌∷◌, ◌++◌, length, Option, Some, refl, sym, ap, ◌∙◌, subst, ⊎_elim, arith, append_assoc}
 use Rattle.std.specs.Prelude.{IfSome, is_none}
 use Rattle.isa.specs.declared.op.Half.{Half}
 use Rattle.isa.specs.Instruction.{destination, first_of, fixed_next, is_first_half, kind, second_of}
@@ -13,7 +13,7 @@ use Rattle.inorder.specs.History.{Adds, IsLegal, entry, front, unit_of, renewals
 use Rattle.inorder.specs.Legal.{applied}
 use Rattle.inorder.specs.Steps.{MayLet, MaySupply, let_operand, new_tenant}
 use Rattle.inorder.specs.Tenants.{Tenant, Unlinked, is_access, is_live, operand}
-use Rattle.inorder.specs.Unit.{Sizes, UpdateUnit, creator, front_half, front_pc, how_many, next_station, next_tag, recent}
+use Rattle.inorder.specs.Unit.{Sizes, UpdateUnit, creator, front_half, front_pc, how_many, is_old, next_station, next_tag, recent}
 use Rattle.inorder.proofs.Creators.{at_cases}
 use Rattle.inorder.proofs.Histories.{adds_on, unit_sound}
 use Rattle.inorder.proofs.Letting.{LetStays}
@@ -41,13 +41,13 @@ use Rattle.front.proofs.Tables.{table_let, table_stable}
 use Rattle.front.specs.CreateTable.{HasTable, IsEntered}
 use Rattle.front.specs.declared.path.counted.Table.{Table}
 use Rattle.front.proofs.Pending.{IsPending, pending_stable}
-use Rattle.front.proofs.Places.{notes_length}
+use Rattle.front.proofs.Places.{kept_new, notes_length}
 use Rattle.front.proofs.Questioned.{HasAsked, has_asked, later}
 use Rattle.front.proofs.Splitting.{LastEvent, event_legal, last_event, no_event, stays, stays_behind}
 use Rattle.front.proofs.Stations.{live_fewer}
 use Rattle.front.proofs.Stays.{knows_stable, ready_stable}
 use Rattle.front.proofs.Supplies.{comes_from, may_supply}
-use Rattle.inorder.proofs.Recent.{old_more, none_old, new_there}
+use Rattle.inorder.proofs.Recent.{new_there, old_more}
 
 -- The instruction by its address
 
@@ -161,12 +161,16 @@ module _ (P : Program) (C : Sizes) (old : List Entry) (legal : IsLegal P C old) 
         stays_behind P C (λ V. Knows P C V (records ++ record_for f tag predicted ∷ []) base) (knows_stable P C (records ++ record_for f tag predicted ∷ []) base) old new (let_of tenant) [] l
         (subst (λ z. Knows P C (applied P C M front let_step) (records ++ z ∷ []) base) kept_of there)
 
+    -- behind the first ones all are recent
+    new_behind : (p : ℕ) → told_of base ≤ p → is_old (applied P C M front let_step) p ≡ false
+    new_behind p le = old_more M new_one p ∙ kept_new P C M records base _ ready.stands p le
+
     -- the table
     module _ (T T' : Table) (table : HasTable P U (told_of base) T) (inside : f.station < 32) (entered : IsEntered T T' (record_for f tag predicted)) where
       pub table_behind : HasTable P (unit_of P C new) (told_of base) T'
       table_behind =
           let there : HasTable P M (told_of base) T = stays P C (λ V. HasTable P V (told_of base) T) (table_stable P C (told_of base) T) old point l.before table in
-          let after = table_let P C M front index predicted (supply_of first) (supply_of second) (told_of base) T T' there ready.stands.past (subst (λ z. z < 32) place inside) (one_named P C (entry front (let_of tenant) ∷ point) legal_let) (subst (IsEntered T T') (sym kept_of) entered) in
+          let after = table_let P C M front index predicted (supply_of first) (supply_of second) (told_of base) T T' there ready.stands.past (subst (λ z. z < 32) place inside) (λ p q t u a b is is'. one_named P C (entry front (let_of tenant) ∷ point) legal_let p q t u is is' (new_behind p a) (new_behind q b)) (subst (IsEntered T T') (sym kept_of) entered) in
           stays_behind P C (λ V. HasTable P V (told_of base) T') (table_stable P C (told_of base) T') old new (let_of tenant) [] l after
 
     -- its place in the unit
@@ -201,7 +205,7 @@ module _ (P : Program) (C : Sizes) (old : List Entry) (legal : IsLegal P C old) 
             fact = record { can = record { way = way a g e; creator = c ∙ d.creates }; path = refl };
           };
           last = λ q u lt is. let b = at_below V.tenants q u is in absurd (omega (arith, b, lt));
-          creator = record { tenant = t; is = at_more new_one M.tenants d.n.at t d.giver.noted.is; new = old_more M new_one d.n.at ∙ none_old P C point legal_let.0 d.n.at; station_is = at_place; tag_is = ap (λ (z : Record). z.tag) d.giver.noted.what ∙ d.tag; fact = tt };
+          creator = record { tenant = t; is = at_more new_one M.tenants d.n.at t d.giver.noted.is; new = new_behind d.n.at d.giver.untold; station_is = at_place; tag_is = ap (λ (z : Record). z.tag) d.giver.noted.what ∙ d.tag; fact = tt };
           creator_last = λ q u lt is same_station. ⊎_elim
               (λ there. d.giver.newest q u lt there (same_station ∙ sym d.station))
               (λ (z : (q ≡ length M.tenants) × (new_one ≡ u)). d.giver.other (d.station ∙ (sym same_station ∙ ap (λ (y : Tenant). y.station) (sym z.1))))

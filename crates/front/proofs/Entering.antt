@@ -75,6 +75,7 @@ module _ (P : Program) (C : Sizes) (U V : UpdateUnit) (same : V.tenants ≡ U.te
         again = all_map (IsNoted P V.tenants) (IsFolded V (told_of new)) (λ n i. inr (subst (λ z. n.at < z) (sym told) (at_below V.tenants n.at i.tenant i.is))) k.gone noted;
         newest = tt;
         past = omega (arith, told);
+        since = omega (arith, told);
         untold = tt;
         wide = ap (λ z. length z) registers ∙ k.wide;
         base_is = λ r less. ap (λ z. value_of z (position (creator_note k.gone r))) same ∙ (k.base_is r less ∙ ap (λ z. Some (slice_index z r)) (sym registers));

@@ -5,7 +5,7 @@ use Rattle.std.specs.List.{AllByRecursion}
 use Rattle.std.specs.Prelude.{slice_get}
 use Rattle.isa.specs.Programs.{Program}
 use Rattle.inorder.specs.declared.history.Entry.{Entry}
-use Rattle.inorder.specs.History.{Adds, IsLegal, StartsWith, front, unit_of}
+use Rattle.inorder.specs.History.{Adds, IsLegal, StartsWith, front, unit_of, renewals}
 use Rattle.inorder.specs.Callers.{IsMissing}
 use Rattle.inorder.specs.Tenants.{Tenant, stands_on_path}
 use Rattle.inorder.specs.Unit.{Sizes, UpdateUnit, at}
@@ -27,6 +27,8 @@ use Rattle.front.proofs.Misses.{gone_miss, named_miss}
 use Rattle.front.proofs.Named.{notes_noted, one_named}
 use Rattle.front.proofs.Trails.{IsNoted, trail_all}
 use Rattle.inorder.specs.Replies.{Has}
+use Rattle.inorder.proofs.Recent.{old_since}
+use Rattle.front.proofs.Places.{kept_new}
 
 -- Lists
 
@@ -93,14 +95,16 @@ module _ (P : Program) (C : Sizes) (h : List Entry) (legal : IsLegal P C h) (rec
       (all_both NoMissBefore (k.gone ++ s.before) (s.one ∷ s.after) (all_both NoMissBefore k.gone s.before gone before) ((λ lt x t is m. less_not s.one.at s.one.at lt refl), after))
 
   -- the miss that has its name is the first
-  pub is_first : (new : List Entry) → IsLegal P C new → StartsWith new h → (p : ℕ) → IsTenant (unit_of P C new) p one.station one.tag IsAny → IsFirst U p
-  is_first new new_legal starts p named =
+  pub is_first : (new : List Entry) → IsLegal P C new → StartsWith new h → renewals new ≡ renewals h → (p : ℕ) → IsTenant (unit_of P C new) p one.station one.tag IsAny → IsFirst U p
+  is_first new new_legal starts renewed p named =
       let noted : IsNoted P U.tenants s.one = (all_rest (IsNoted P U.tenants) s.before (s.one ∷ s.after) noted_all).0 in
       let t = noted.tenant in
       let what : record_of P t ≡ one = noted.what ∙ s.what in
       let still = place_stays P C s.one.at t starts.more h (subst (IsLegal P C) starts.is new_legal) noted.is in
       let there : Has (unit_of P C new) s.one.at (λ u. (u.station ≡ t.station) × (u.tag ≡ t.tag)) = subst (λ z. Has (unit_of P C z) s.one.at (λ u. (u.station ≡ t.station) × (u.tag ≡ t.tag))) (sym starts.is) still in
-      let same : p ≡ s.one.at = one_named P C new new_legal p s.one.at named.tenant there.tenant named.is there.is (named.station_is ∙ sym (there.fact.0 ∙ ap (λ (z : Record). z.station) what)) (named.tag_is ∙ sym (there.fact.1 ∙ ap (λ (z : Record). z.tag) what)) in
+      let untold = (all_rest (λ n. told_of base ≤ n.at) s.before (s.one ∷ s.after) (subst (AllByRecursion (λ n. told_of base ≤ n.at)) s.is k.untold)).0 in
+      let recent_one = old_since P C new h starts new_legal renewed s.one.at ∙ kept_new P C U records base (IsFolded U (told_of base)) k s.one.at untold in
+      let same : p ≡ s.one.at = one_named P C new new_legal p s.one.at named.tenant there.tenant named.is there.is named.new recent_one (named.station_is ∙ sym (there.fact.0 ∙ ap (λ (z : Record). z.station) what)) (named.tag_is ∙ sym (there.fact.1 ∙ ap (λ (z : Record). z.tag) what)) in
       λ q x u lt is m. trail_all P NoMissBefore U.tenants none_before q u is (ap stands_on_path m.live) (subst (λ z. q < z) same lt) x u is m
 
 -- The whole recovery
@@ -111,5 +115,5 @@ recovered P C begin mid old new legal records base k m first adds kept kept_base
     let both : Adds P C front begin old events = subst (λ z. Adds P C front begin old z) (append-nil events) (adds_on P C front begin mid old [] events adds cut.adds) in
     let here : slice_get records m.at ≡ Some i.one = sym (get_taken records m.at) ∙ (ap (λ z. slice_get z m.at) (sym rest) ∙ i.here) in
     let t = i.miss.tenant in
-    let oldest = is_first P C begin legal records base k m.at i.one here first old both.legal both.begins i.miss.p (record { tenant = t.tenant; is = t.is; new = t.new; station_is = t.station_is; tag_is = t.tag_is; fact = tt }) in
+    let oldest = is_first P C begin legal records base k m.at i.one here first old both.legal both.begins both.one_table i.miss.p (record { tenant = t.tenant; is = t.is; new = t.new; station_is = t.station_is; tag_is = t.tag_is; fact = tt }) in
     mend_done P C begin old new kept kept_base k' m i long oldest squashed (record { squashes = cut.squashes; count = cut.count; adds = both }) s

@@ -10,7 +10,6 @@ use Rattle.inorder.specs.Tenants.{IsNotLive}
 use Rattle.inorder.specs.Unit.{Sizes, UpdateUnit}
 use Rattle.inorder.proofs.Basics.{length_write}
 use Rattle.inorder.proofs.Positions.{all_at, at_below}
-use Rattle.inorder.proofs.Recent.{none_old}
 use Rattle.ruu_words.specs.declared.station.StationState.{StationState}
 use Rattle.station.specs.declared.answers.Seen.{Seen}
 use Rattle.station.specs.Looking.{SeesStation}
@@ -29,7 +28,7 @@ use Rattle.front.proofs.Lefts.{tells_more}
 use Rattle.front.proofs.Lists.{all_both, all_front, all_map}
 use Rattle.front.proofs.Looked.{first_note}
 use Rattle.front.proofs.Named.{notes_noted, stands_right}
-use Rattle.front.proofs.Places.{known_half, known_pc, known_place}
+use Rattle.front.proofs.Places.{kept_new, known_half, known_pc, known_place}
 use Rattle.front.proofs.Releasing.{base_more, note_gone}
 use Rattle.front.proofs.Resting.{left_path, nobody_stable, retired_left}
 use Rattle.front.proofs.Splitting.{IsStable, stays}
@@ -85,10 +84,11 @@ module _ (core : TheCore) (old new : List Entry) (path path' : Path) (adds : Add
       let untold = subst (AllByRecursion (λ z. told_of path.base ≤ z.at)) one.is k.untold in
       let retired = left_path noted.tenant noted.on (all_at IsNotLive U.tenants nobody_now n.at noted.tenant noted.is) in
       let sees_it : SeesStation P C new n.what.station seen = subst (λ (z : Record). SeesStation P C new z.station seen) (sym one.what) sees in
-      let left = retired_left P C new adds.legal n noted newest.0 seen sees_it retired in
+      let recent_one = kept_new P C U path.records path.base IsAnyone k n.at untold.0 in
+      let left = retired_left P C new adds.legal n noted recent_one newest.0 seen sees_it retired in
       let gone : IsLeft U n.what seen.value = record {
         p = n.at;
-        tenant = record { tenant = noted.tenant; is = noted.is; new = none_old P C new adds.legal n.at; station_is = ap (λ (z : Record). z.station) noted.what; tag_is = ap (λ (z : Record). z.tag) noted.what; fact = left };
+        tenant = record { tenant = noted.tenant; is = noted.is; new = recent_one; station_is = ap (λ (z : Record). z.station) noted.what; tag_is = ap (λ (z : Record). z.tag) noted.what; fact = left };
       } in
       let rest : path'.records ≡ whats ns = tail_of x n.what path'.records (whats ns) (sym r.records ∙ (k.are ∙ ap whats one.is)) in
       let count : length k.notes ≡ suc (length ns) = ap (λ z. length z) one.is in
@@ -104,6 +104,7 @@ module _ (core : TheCore) (old new : List Entry) (path path' : Path) (adds : Add
         again = all_both IsAnyone k.gone (n ∷ []) k.again (tt, tt);
         newest = newest.1;
         past = k.past;
+        since = k.since;
         untold = untold.1;
         wide = length_write path.base.registers n.what.destination (made_of n.what seen.value) ∙ k.wide;
         base_is = base_more P C new adds.legal path.records path.base IsAnyone k n ns one.is seen.value gone;
@@ -154,6 +155,7 @@ module _ (core : TheCore) (h : List Entry) (legal : IsLegal core.program core.si
           again = all_map (IsFolded (unit_of core.program core.sizes h) (told_of path.base)) IsAnyone (λ n x. tt) k.gone k.again;
           newest = k.newest;
           past = subst (λ z. told_of z ≤ length (unit_of core.program core.sizes h).tenants) (sym base_is) k.past;
+          since = subst (λ z. length (unit_of core.program core.sizes h).tenants ≤ told_of z + (unit_of core.program core.sizes h).fresh) (sym base_is) k.since;
           untold = subst (λ z. AllByRecursion (λ n. told_of z ≤ n.at) k.notes) (sym base_is) k.untold;
           wide = ap (λ (z : Base). length z.registers) base_is ∙ k.wide;
           base_is = λ r less. k.base_is r less ∙ ap (λ (z : Base). Some (slice_index z.registers r)) (sym base_is);
@@ -183,6 +185,7 @@ module _ (core : TheCore) (h : List Entry) (path path' : Path) (f : IsFolding co
         again = all_map (IsNoted core.program (unit_of core.program core.sizes h).tenants) (IsFolded (unit_of core.program core.sizes h) (told_of path'.base)) (λ n i. inr (subst (λ z. n.at < z) (sym told) (at_below (unit_of core.program core.sizes h).tenants n.at i.tenant i.is))) s.gone gone_noted;
         newest = tt;
         past = omega (arith, told);
+        since = omega (arith, told);
         untold = tt;
         wide = ap (λ z. length z) registers ∙ s.wide;
         base_is = λ r less. s.base_is r less ∙ ap (λ z. Some (slice_index z r)) (sym registers);

@@ -117,6 +117,7 @@ first_knows P C h legal none b f =
       again = tt;
       newest = tt;
       past = omega (arith, f.told);
+      since = omega (arith, f.told);
       untold = tt;
       wide = ap (λ z. length z) f.registers;
       base_is = λ r h. base r;

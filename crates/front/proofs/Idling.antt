@@ -1,5 +1,5 @@
 -- The look of a rest: nobody is live.
-use Rattle.std.proofs.Common.{◌≡◌, [], ◌∷◌, Some, None, sym, ◌∙◌, subst, ⊎_elim}
+use Rattle.std.proofs.Common.{◌≡◌, ◌≤◌, [], ◌∷◌, Some, None, sym, ◌∙◌, subst, ⊎_elim}
 use Rattle.std.specs.List.{AllByRecursion}
 use Rattle.inorder.specs.History.{Adds, front, unit_of}
 use Rattle.ruu_words.specs.declared.station.StationState.{StationState}
@@ -14,7 +14,7 @@ use Rattle.front.specs.Path.{last_of, told_of}
 use Rattle.front.specs.Rests.{HasNobody}
 use Rattle.front.proofs.Lists.{Last, all_rest, last_cases}
 use Rattle.front.proofs.Named.{notes_noted}
-use Rattle.front.proofs.Places.{last_record}
+use Rattle.front.proofs.Places.{kept_new, last_record}
 use Rattle.front.proofs.Resting.{none_kept, note_left, youngest_left}
 use Rattle.front.proofs.Splitting.{stays}
 use Rattle.front.proofs.Stays.{knows_stable}
@@ -53,5 +53,7 @@ module _ (core : TheCore) (v w : Caller) (same : IsSame v w) (path : Path) (k : 
           let U = unit_of core.program core.sizes w.seen in
           let noted : IsNoted core.program U.tenants l.one = (all_rest (IsNoted core.program U.tenants) l.front (l.one ∷ []) (subst (AllByRecursion (IsNoted core.program U.tenants)) l.is (notes_noted core.program core.sizes w.seen adds.legal path.records path.base (IsFolded U (told_of path.base)) knows_now))).0 in
           let newest : IsNewest U l.one = (all_rest (IsNewest U) l.front (l.one ∷ []) (subst (AllByRecursion (IsNewest U)) l.is knows_now.newest)).0 in
-          let left = note_left core.program core.sizes w.seen adds.legal l.one noted newest seen (subst (λ (z : Record). SeesStation core.program core.sizes w.seen z.station seen) one sees) free in
+          let untold = (all_rest (λ n. told_of path.base ≤ n.at) l.front (l.one ∷ []) (subst (AllByRecursion (λ n. told_of path.base ≤ n.at)) l.is knows_now.untold)).0 in
+          let new = kept_new core.program core.sizes U path.records path.base (IsFolded U (told_of path.base)) knows_now l.one.at untold in
+          let left = note_left core.program core.sizes w.seen adds.legal l.one noted new newest seen (subst (λ (z : Record). SeesStation core.program core.sizes w.seen z.station seen) one sees) free in
           youngest_left core.program core.sizes w.seen adds.legal path.records path.base (IsFolded U (told_of path.base)) knows_now l noted left.retired

@@ -19,11 +19,12 @@ use Rattle.front.specs.Knows.{IsFolded, IsGone, IsNewest, IsPassed, IsReady, Kno
 use Rattle.front.specs.Trail.{Note, note, record_of}
 use Rattle.front.proofs.Acts.{still_folded, still_gone, still_value}
 use Rattle.front.proofs.Lists.{all_both, all_map, all_two, last_not, whats_append}
-use Rattle.front.proofs.Places.{notes_length, others_next, StandsNow}
+use Rattle.inorder.proofs.Stations.{Stands as StandsRight}
+use Rattle.front.proofs.Places.{notes_length, others_next}
 use Rattle.front.proofs.Trails.{trail_on}
 
 module _ (P : Program) (C : Sizes) (U : UpdateUnit) (by index predicted : ℕ) (first second : Supply)
-    (a : Allowed P C U by (Let index predicted first second)) (ok : IsSound P U.tenants) (st : StandsNow C U)
+    (a : Allowed P C U by (Let index predicted first second)) (ok : IsSound P U.tenants) (st : StandsRight C (recent U))
     (records : List Record) (base : Base) (k : IsReady P C U records base) where
   abbrev new : Tenant
   new = new_tenant P C U index predicted first second
@@ -64,6 +65,7 @@ module _ (P : Program) (C : Sizes) (U : UpdateUnit) (by index predicted : ℕ) (
         again = all_two (IsGone U) _ (IsFolded V (told_of base)) reused s.gone s.retired s.again;
         newest = all_both (IsNewest V) s.notes one (all_two (IsNewest U) _ (IsNewest V) newest_old s.notes s.newest others) (newest_new, tt);
         past = omega (arith, s.past);
+        since = omega (arith, s.since);
         untold = all_both (λ n. told_of base ≤ n.at) s.notes one s.untold (s.past, tt);
         wide = s.wide;
         base_is = λ r h. still_value P C U by (Let index predicted first second) a ok (position (creator_note s.gone r)) (slice_index base.registers r) (s.base_is r h);

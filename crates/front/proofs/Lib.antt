@@ -2,6 +2,7 @@ pub mod Lists
 pub mod Trails
 pub mod Splitting
 pub mod Acts
+pub mod Parted
 pub mod Places
 pub mod Stays
 pub mod LetKnown
@@ -37,3 +38,4 @@ pub mod Folding
 pub mod Idling
 pub mod Fronts
 pub mod Entering
+pub mod Behind

@@ -48,10 +48,10 @@ none_more xs x e = let n = ap (λ z. length z) e in let m = length-append xs (x 
 pub last_not : (xs : List Note) (x : Note) → [] ≢ xs ++ x ∷ []
 last_not xs x e = let n = ap (λ z. length z) e in let m = length-append xs (x ∷ []) in absurd (omega arith)
 
-tail_of : (a b : Note) (xs ys : List Note) → a ∷ xs ≡ b ∷ ys → xs ≡ ys
+pub tail_of : (a b : Note) (xs ys : List Note) → a ∷ xs ≡ b ∷ ys → xs ≡ ys
 tail_of a b xs ys e = cc e
 
-head_of : (a b : Note) (xs ys : List Note) → a ∷ xs ≡ b ∷ ys → a ≡ b
+pub head_of : (a b : Note) (xs ys : List Note) → a ∷ xs ≡ b ∷ ys → a ≡ b
 head_of a b xs ys e = cc e
 
 pub last_same : (xs ys : List Note) (x y : Note) → xs ++ x ∷ [] ≡ ys ++ y ∷ [] → AreSame xs ys x y

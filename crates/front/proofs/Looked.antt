@@ -98,7 +98,7 @@ module _ (P : Program) (C : Sizes) (old h : List Entry) (records : List Record) 
   some_room = omega (arith, least, ring_is)
 
   pub full_now : seen.state ≢ Free → WasOnce P C old h (IsFull C)
-  full_now ne = at_end P C (IsFull C) old h [] adds (looks_full P C h adds.legal seen sees_next ne)
+  full_now ne = at_end P C (IsFull C) old h [] adds (looks_full P C h adds.legal seen sees_next records base knows_now ne)
 
   module _ (free : seen.state ≡ Free) where
     is_free : ¬ IsFull C (unit_of P C h)

@@ -23,7 +23,7 @@ use Rattle.front.specs.Path.{pc_behind, told_of}
 use Rattle.front.specs.Queues.{QueueSays, live_accesses}
 use Rattle.front.proofs.Looks.{live_there, NamedNow}
 use Rattle.front.proofs.Places.{known_pc}
-use Rattle.front.proofs.Stations.{is_full, next_tag_is, not_full}
+use Rattle.front.proofs.Stations.{is_full, live_room, next_tag_is, not_full}
 use Rattle.unit_laws.proofs.Creators.{found_at}
 
 module _ (P : Program) (C : Sizes) where
@@ -38,10 +38,10 @@ module _ (P : Program) (C : Sizes) where
     abbrev U : UpdateUnit
     U = unit_of P C h
 
-    pub looks_full : seen.state ≢ Free → IsFull C U
-    looks_full ne =
+    pub looks_full : (records : List Record) (base : Base) → Knows P C U records base → seen.state ≢ Free → IsFull C U
+    looks_full records base k ne =
         let b : NamedNow C U (next_station C (recent U)) = live_there P C h legal (next_station C (recent U)) seen sees ne in
-        is_full P C h legal b.p b.tenant b.is b.live b.station
+        is_full P C h legal (live_room P C h legal records base k) b.p b.tenant b.is b.live b.station
 
     pub looks_free : (records : List Record) (base : Base) → Knows P C U records base → 0 < C.ring → seen.state ≡ Free → ¬ IsFull C U
     looks_free records base k pos free full = let few = not_full P C h legal records base k pos seen sees free in absurd (omega (arith, few, full))

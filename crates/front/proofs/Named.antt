@@ -1,12 +1,12 @@
 -- What is kept of a tenant names it.
-use Rattle.std.proofs.Common.{◌≡◌, ℕ, suc, ◌<◌, zero, List, [], ◌∷◌, ◌++◌, length, Some, sym, subst, mod-lt}
+use Rattle.std.proofs.Common.{◌≡◌, ℕ, suc, ◌<◌, zero, false, List, [], ◌∷◌, ◌++◌, Some, sym, subst, mod-lt}
 use Rattle.std.specs.List.{AllByRecursion}
 use Rattle.std.specs.Prelude.{slice_get}
 use Rattle.isa.specs.Programs.{Program}
 use Rattle.inorder.specs.declared.history.Entry.{Entry}
 use Rattle.inorder.specs.History.{IsLegal, taken_of, unit_of}
 use Rattle.inorder.specs.Tenants.{Tenant}
-use Rattle.inorder.specs.Unit.{Sizes, UpdateUnit, at}
+use Rattle.inorder.specs.Unit.{Sizes, UpdateUnit, at, is_old, recent}
 use Rattle.inorder.proofs.Histories.{allowed_steps}
 use Rattle.inorder.proofs.Positions.{at_more}
 use Rattle.inorder.proofs.Stations.{Stands as StandsRight, stands}
@@ -16,9 +16,9 @@ use Rattle.front.specs.declared.path.record.Record.{Record}
 use Rattle.front.specs.Knows.{Stands, whats}
 use Rattle.front.specs.Trail.{Note}
 use Rattle.front.proofs.Lists.{all_rest}
-use Rattle.front.proofs.Places.{notes_placed, StandsNow}
+use Rattle.front.proofs.Places.{notes_placed}
 use Rattle.front.proofs.Trails.{ArePlacedFrom, IsNoted, trail_noted}
-use Rattle.inorder.proofs.Recent.{all_recent, names_recent, none_old}
+use Rattle.inorder.proofs.Recent.{names_recent}
 
 -- a fact of all records
 pub all_whats : (Q : Record → Type 0) (xs : List Note) → AllByRecursion (λ n. Q n.what) xs → AllByRecursion Q (whats xs)
@@ -38,11 +38,11 @@ module _ (P : Program) (C : Sizes) (h : List Entry) (legal : IsLegal P C h) wher
   abbrev U : UpdateUnit
   U = unit_of P C h
 
-  pub stands_right : StandsNow C U
-  stands_right = record { all = all_recent P C h legal; right = subst (StandsRight C) (all_recent P C h legal) (stands P C (taken_of h) (allowed_steps P C h legal)) }
+  pub stands_right : StandsRight C (recent U)
+  stands_right = stands P C (taken_of h) (allowed_steps P C h legal)
 
-  pub one_named : (p q : ℕ) (t u : Tenant) → at U.tenants p ≡ Some t → at U.tenants q ≡ Some u → t.station ≡ u.station → t.tag ≡ u.tag → p ≡ q
-  one_named p q t u e f = names_recent C U (tagged P C (taken_of h) (allowed_steps P C h legal)) p q t u e f (none_old P C h legal p) (none_old P C h legal q)
+  pub one_named : (p q : ℕ) (t u : Tenant) → at U.tenants p ≡ Some t → at U.tenants q ≡ Some u → is_old U p ≡ false → is_old U q ≡ false → t.station ≡ u.station → t.tag ≡ u.tag → p ≡ q
+  one_named p q t u e f = names_recent C U (tagged P C (taken_of h) (allowed_steps P C h legal)) p q t u e f
 
   module _ (records : List Record) (base : Base) (Again : Note → Type 0) (k : Stands P C U records base Again) where
     pub notes_noted : AllByRecursion (IsNoted P U.tenants) k.notes
@@ -50,7 +50,7 @@ module _ (P : Program) (C : Sizes) (h : List Entry) (legal : IsLegal P C h) wher
 
     -- each stands at a station
     pub notes_small : 0 < C.ring → AllByRecursion (λ n. n.what.station < C.ring) k.notes
-    notes_small pos = go (length k.gone) k.notes (notes_placed P C U records base Again k stands_right)
+    notes_small pos = let now = notes_placed P C U records base Again k stands_right in go now.before k.notes now.placed
       where
         go : (g : ℕ) (ns : List Note) → ArePlacedFrom C.ring g ns → AllByRecursion (λ n. n.what.station < C.ring) ns
         go g [] a = tt

@@ -1,20 +1,23 @@
 -- Where the tenants of the path stand, and where the next one goes.
-use Rattle.std.proofs.Common.{◌≡◌, ◌≢◌, ℕ, suc, ◌+◌, ◌-◌, ◌*◌, ◌/◌, ◌%◌, ◌<◌, ◌≤◌, List, [], ◌∷◌, ◌++◌, length, Some, None, refl, sym, ap, ◌∙◌, subst, ⊎_elim, arith, append_assoc, length-append, div-add-mod', mul-le-mul_right, suc-mul}
+use Rattle.std.proofs.Common.{◌≡◌, ◌≢◌, ℕ, false, suc, ◌+◌, ◌-◌, ◌*◌, ◌/◌, ◌%◌, ◌<◌, ◌≤◌, List, [], ◌∷◌, ◌++◌, length, Some, None, refl, sym, ap, ◌∙◌, subst, ⊎_elim, arith, append_assoc, length-append, div-add-mod', mul-le-mul_right, suc-mul}
 use Rattle.std.proofs.Math.Nat.{add-mod_right, mod-add-mod}
 use Rattle.std.proofs.lemmas.Bool.{cases_lt}
 use Rattle.std.specs.Prelude.{slice_get}
 use Rattle.std.specs.List.{AllByRecursion}
 use Rattle.isa.specs.Programs.{Program}
 use Rattle.inorder.specs.Tenants.{on_path}
-use Rattle.inorder.specs.Unit.{Sizes, UpdateUnit, front_half, front_pc, how_many, next_station, recent}
+use Rattle.inorder.specs.Unit.{Sizes, UpdateUnit, front_half, front_pc, how_many, is_old, next_station, recent}
+use Rattle.inorder.proofs.Recent.{new_by}
 use Rattle.inorder.proofs.Stations.{Stands as StandsRight}
+use Rattle.inorder.proofs.Tags.{passed}
 use Rattle.front.specs.declared.path.base_state.Base.{Base}
 use Rattle.front.specs.declared.path.record.Record.{Record}
 use Rattle.front.specs.Knows.{Stands, whats}
-use Rattle.front.specs.Path.{half_behind, half_behind_last, last_of, next_place, pc_after, pc_behind, place_after}
+use Rattle.front.specs.Path.{half_behind, half_behind_last, last_of, next_place, pc_after, pc_behind, place_after, told_of}
 use Rattle.front.specs.Trail.{Note, trail}
 use Rattle.front.proofs.Lists.{Last, last_cases, whats_append, whats_length}
-use Rattle.front.proofs.Trails.{ArePlacedFrom, half_of_last, pc_of_last, placed_rest, trail_length, trail_placed}
+use Rattle.front.proofs.Parted.{cut_twice, parted, passed_few}
+use Rattle.front.proofs.Trails.{ArePlacedFrom, half_of_last, pc_of_last, placed_rest}
 
 -- numbers that differ by less than n, and at all, differ modulo n
 apart : (a d n : ℕ) → 0 < d → d < n → (a + d) % n ≢ a % n
@@ -33,7 +36,7 @@ apart a d n pos less same = ⊎_elim far near (cases_lt (a / n) ((a + d) / n))
     near h = let m = mul-le-mul_right n h in omega (arith, e, f, m)
 
 -- fewer than all places: none is the next
-pub not_next : (ring g : ℕ) (ns : List Note) → ArePlacedFrom ring g ns → length ns < ring → AllByRecursion (λ n. n.what.station ≢ (g + length ns) % ring) ns
+not_next : (ring g : ℕ) (ns : List Note) → ArePlacedFrom ring g ns → length ns < ring → AllByRecursion (λ n. n.what.station ≢ (g + length ns) % ring) ns
 not_next ring g [] a h = tt
 not_next ring g (n ∷ ns) a h =
     let rest = not_next ring (suc g) ns a.1 (omega arith) in
@@ -41,7 +44,7 @@ not_next ring g (n ∷ ns) a h =
     ((λ e. apart g (suc (length ns)) ring (omega arith) h (sym e ∙ a.0)), subst (λ z. AllByRecursion (λ n. n.what.station ≢ z % ring) ns) same rest)
 
 -- all places: the oldest's is the next
-pub oldest_next : (ring g : ℕ) (n : Note) (ns : List Note) → ArePlacedFrom ring g (n ∷ ns) → ring ≡ length (n ∷ ns) → n.what.station ≡ (g + length (n ∷ ns)) % ring
+oldest_next : (ring g : ℕ) (n : Note) (ns : List Note) → ArePlacedFrom ring g (n ∷ ns) → ring ≡ length (n ∷ ns) → n.what.station ≡ (g + length (n ∷ ns)) % ring
 oldest_next ring g n ns a h = a.0 ∙ (sym (whole g ring) ∙ ap (λ z. (g + z) % ring) h)
   where
     whole : (g ring : ℕ) → (g + ring) % ring ≡ g % ring
@@ -57,22 +60,33 @@ last_there xs x =
     at_end [] x = refl
     at_end (y ∷ ys) x = at_end ys x
 
--- all tenants are recent, and stand in the ring
-pub record StandsNow (C : Sizes) (U : UpdateUnit) : Type 0 where
-  pub all : recent U ≡ U.tenants
-  pub right : StandsRight C U.tenants
+-- where the kept tenants stand: of the path let since the last renewal, so many are before them
+pub record ArePlacedNow (C : Sizes) (U : UpdateUnit) (notes : List Note) : Type 0 where
+  pub before : ℕ
+  pub placed : ArePlacedFrom C.ring before notes
+  pub count : how_many on_path (recent U) ≡ before + length notes
 
 module _ (P : Program) (C : Sizes) (U : UpdateUnit) (records : List Record) (base : Base) (Again : Note → Type 0) (k : Stands P C U records base Again) where
-  pub whole_length : how_many on_path U.tenants ≡ length k.gone + length k.notes
-  whole_length = sym (trail_length P U.tenants) ∙ (ap (λ z. length z) k.path ∙ length-append k.gone k.notes)
+  -- behind the first ones all are recent
+  pub kept_new : (p : ℕ) → told_of base ≤ p → is_old U p ≡ false
+  kept_new p le = new_by U p (omega (arith, k.since, le))
 
   pub notes_length : length records ≡ length k.notes
   notes_length = ap (λ z. length z) k.are ∙ whats_length k.notes
 
-  pub notes_placed : StandsNow C U → ArePlacedFrom C.ring (length k.gone) k.notes
+  pub notes_placed : StandsRight C (recent U) → ArePlacedNow C U k.notes
   notes_placed st =
-      let none : 0 + length k.gone ≡ length k.gone = omega arith in
-      subst (λ z. ArePlacedFrom C.ring z k.notes) none (placed_rest C.ring 0 k.gone k.notes (subst (ArePlacedFrom C.ring 0) k.path (trail_placed P C U.tenants st.right.placed)))
+      let parts = parted P C U.fresh U.tenants st.placed in
+      let few = passed_few U.fresh U.tenants (told_of base) k.since in
+      let apart = cut_twice (λ n. n.at < length (passed U.fresh U.tenants)) (λ n. told_of base ≤ n.at) (λ n old new. absurd (omega (arith, few, old, new))) k.gone k.notes parts.olds parts.news (sym k.path ∙ parts.path) parts.before k.untold in
+      let none : 0 + length apart.middle ≡ length apart.middle = omega arith in
+      let all = ap (λ z. length z) apart.rest in
+      let long = length-append apart.middle k.notes in
+      record {
+        before = length apart.middle;
+        placed = subst (λ z. ArePlacedFrom C.ring z k.notes) none (placed_rest C.ring 0 apart.middle k.notes (subst (ArePlacedFrom C.ring 0) apart.rest parts.placed));
+        count = omega (arith, parts.count, all, long);
+      }
 
   last_of_whole : (l : Last k.notes) → trail P U.tenants ≡ (k.gone ++ l.front) ++ l.one ∷ []
   last_of_whole l = k.path ∙ (ap (λ z. k.gone ++ z) l.is ∙ sym (append_assoc k.gone l.front (l.one ∷ [])))
@@ -98,20 +112,29 @@ module _ (P : Program) (C : Sizes) (U : UpdateUnit) (records : List Record) (bas
       (last_cases k.notes)
 
   -- the next tenant's station
-  pub known_place : StandsNow C U → next_station C (recent U) ≡ next_place C.ring base records
+  pub known_place : StandsRight C (recent U) → next_station C (recent U) ≡ next_place C.ring base records
   known_place st = ⊎_elim
       (λ e. (k.begun e).station ∙ sym (ap (place_after C.ring base.station) (no_record e)))
       (λ (l : Last k.notes).
+      let now = notes_placed st in
       let long = length-append l.front (l.one ∷ []) in
       let all : length k.notes ≡ length (l.front ++ l.one ∷ []) = ap (λ z. length z) l.is in
-      let count : how_many on_path U.tenants ≡ length k.gone + length l.front + 1 = omega (arith, whole_length, all, long) in
-      let its : l.one.what.station ≡ (length k.gone + length l.front) % C.ring = (placed_rest C.ring (length k.gone) l.front (l.one ∷ []) (subst (ArePlacedFrom C.ring (length k.gone)) l.is (notes_placed st))).0 in
-      ap (next_station C) st.all
-      ∙ (ap (λ z. z % C.ring) count ∙ (sym (mod-add-mod (length k.gone + length l.front) C.ring 1) ∙ (ap (λ z. (z + 1) % C.ring) (sym its) ∙ sym (ap (place_after C.ring base.station) (last_record l))))))
+      let count : how_many on_path (recent U) ≡ now.before + length l.front + 1 = omega (arith, now.count, all, long) in
+      let its : l.one.what.station ≡ (now.before + length l.front) % C.ring = (placed_rest C.ring now.before l.front (l.one ∷ []) (subst (ArePlacedFrom C.ring now.before) l.is now.placed)).0 in
+      ap (λ z. z % C.ring) count
+      ∙ (sym (mod-add-mod (now.before + length l.front) C.ring 1) ∙ (ap (λ z. (z + 1) % C.ring) (sym its) ∙ sym (ap (place_after C.ring base.station) (last_record l)))))
       (last_cases k.notes)
 
   -- with fewer tenants than stations, none of theirs is the next
-  pub others_next : StandsNow C U → length records < C.ring → AllByRecursion (λ n. n.what.station ≢ next_station C (recent U)) k.notes
+  pub others_next : StandsRight C (recent U) → length records < C.ring → AllByRecursion (λ n. n.what.station ≢ next_station C (recent U)) k.notes
   others_next st h =
-      subst (λ z. AllByRecursion (λ n. n.what.station ≢ z % C.ring) k.notes) (sym (ap (how_many on_path) st.all ∙ whole_length))
-      (not_next C.ring (length k.gone) k.notes (notes_placed st) (subst (λ z. z < C.ring) notes_length h))
+      let now = notes_placed st in
+      subst (λ z. AllByRecursion (λ n. n.what.station ≢ z % C.ring) k.notes) (sym now.count)
+      (not_next C.ring now.before k.notes now.placed (subst (λ z. z < C.ring) notes_length h))
+
+  -- with as many, the oldest's is the next
+  pub oldest_place : StandsRight C (recent U) → (n : Note) (ns : List Note) → k.notes ≡ n ∷ ns → C.ring ≡ length (n ∷ ns) → n.what.station ≡ next_station C (recent U)
+  oldest_place st n ns e whole =
+      let now = notes_placed st in
+      oldest_next C.ring now.before n ns (subst (ArePlacedFrom C.ring now.before) e now.placed) whole
+      ∙ ap (λ z. z % C.ring) (sym (now.count ∙ ap (λ z. now.before + length z) e))

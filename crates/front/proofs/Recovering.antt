@@ -1,5 +1,5 @@
 -- The steps of a recovery, with what others add between them.
-use Rattle.std.proofs.Common.{◌≡◌, ◌≢◌, ℕ, refl, ◌<◌, List, [], ◌∷◌, ◌++◌, length, Some, sym, ap, ◌∙◌, subst, ⊎_elim, arith, length-append, append_assoc, ◌≤◌}
+use Rattle.std.proofs.Common.{◌≡◌, ◌≢◌, ℕ, refl, ◌<◌, List, [], ◌∷◌, ◌++◌, length, Some, sym, ap, ◌∙◌, subst, ⊎_elim, arith, length-append, append_assoc, ◌≤◌, false}
 use Rattle.std.specs.List.{AllByRecursion}
 use Rattle.std.specs.Prelude.{slice_get}
 use Rattle.isa.specs.Programs.{Program}
@@ -13,7 +13,7 @@ use Rattle.inorder.specs.Callers.{CanMend, CanSquash, IsMissing}
 use Rattle.inorder.specs.Legal.{Allowed, applied}
 use Rattle.inorder.specs.Replies.{Has}
 use Rattle.inorder.specs.Tenants.{Miss, Tenant}
-use Rattle.inorder.specs.Unit.{Sizes, UpdateUnit, at}
+use Rattle.inorder.specs.Unit.{Sizes, UpdateUnit, at, is_old}
 use Rattle.inorder.proofs.Ends.{miss_stays}
 use Rattle.inorder.proofs.Histories.{unit_sound}
 use Rattle.inorder.proofs.Moves.{IsActed, IsLeft, at_changed, goes}
@@ -24,15 +24,16 @@ use Rattle.ruu_words.proofs.Stays.{any_stays, place_stays}
 use Rattle.front.specs.Path.{told_of}
 use Rattle.front.specs.declared.path.base_state.Base.{Base}
 use Rattle.front.specs.declared.path.record.Record.{Record}
-use Rattle.front.specs.Knows.{IsNewest, Knows, whats}
+use Rattle.front.specs.Knows.{IsNewest, Knows, whats, IsFolded}
 use Rattle.front.specs.CreateTable.{HasTable, IsRestored}
 use Rattle.front.specs.declared.path.counted.Table.{Table}
 use Rattle.front.proofs.Tables.{table_cut, table_mended, table_stable}
 use Rattle.front.specs.Trail.{Note, record_of, trail}
 use Rattle.front.proofs.CutKnown.{acted, at_last, can_mend, can_squash, mend_known, mend_trail, mended_note, squash_known, squash_trail}
 use Rattle.front.proofs.Cuts.{both_same}
-use Rattle.front.proofs.Lists.{Last, all_map, all_rest, last_cases, whats_append}
+use Rattle.front.proofs.Lists.{Last, all_front, all_rest, all_two, last_cases, whats_append}
 use Rattle.front.proofs.Named.{all_get, all_whats, at_past, one_named}
+use Rattle.front.proofs.Places.{kept_new}
 use Rattle.front.proofs.Splitting.{IsStable, event_legal, last_event, stays, stays_behind}
 use Rattle.front.proofs.Stays.{knows_stable}
 use Rattle.front.proofs.Trails.{IsLastOn, IsNoted, last_on, trail_noted}
@@ -79,6 +80,9 @@ module _ (P : Program) (C : Sizes) (h : List Entry) (legal : IsLegal P C h) (res
   abbrev x : Note
   x = youngest_note.one
 
+  untold : AllByRecursion (λ n. told_of base ≤ n.at) (fs ++ x ∷ [])
+  untold = subst (AllByRecursion (λ n. told_of base ≤ n.at)) youngest_note.is k.untold
+
   pub same_records : Rattle.front.proofs.Cuts.AreSame rest (whats fs) one x.what
   same_records = both_same rest (whats fs) one x.what (k.are ∙ (ap whats youngest_note.is ∙ whats_append fs (x ∷ [])))
 
@@ -86,24 +90,24 @@ module _ (P : Program) (C : Sizes) (h : List Entry) (legal : IsLegal P C h) (res
   last_of_path = last_on P U.tenants (k.gone ++ fs) x (k.path ∙ (ap (λ z. k.gone ++ z) youngest_note.is ∙ sym (append_assoc k.gone fs (x ∷ []))))
 
   -- the tenants of the others are older
-  pub others_older : AllByRecursion (λ r. (p : ℕ) (t : Tenant) → at U.tenants p ≡ Some t → t.station ≡ r.station → t.tag ≡ r.tag → p < x.at) rest
+  pub others_older : AllByRecursion (λ r. (p : ℕ) (t : Tenant) → at U.tenants p ≡ Some t → is_old U p ≡ false → t.station ≡ r.station → t.tag ≡ r.tag → p < x.at) rest
   others_older =
       let o = last_of_path in
-      let Q : Record → Type 0 = λ r. (p : ℕ) (t : Tenant) → at U.tenants p ≡ Some t → t.station ≡ r.station → t.tag ≡ r.tag → p < x.at in
+      let Q : Record → Type 0 = λ r. (p : ℕ) (t : Tenant) → at U.tenants p ≡ Some t → is_old U p ≡ false → t.station ≡ r.station → t.tag ≡ r.tag → p < x.at in
       let noted : AllByRecursion (IsNoted P o.ts) fs = all_rest (IsNoted P o.ts) k.gone fs (subst (AllByRecursion (IsNoted P o.ts)) (sym o.before) (trail_noted P o.ts)) in
-      subst (AllByRecursion Q) (sym same_records.fronts) (all_whats Q fs (all_map (IsNoted P o.ts) (λ n. Q n.what) older fs noted))
+      subst (AllByRecursion Q) (sym same_records.fronts) (all_whats Q fs (all_two (IsNoted P o.ts) (λ n. told_of base ≤ n.at) (λ n. Q n.what) older fs noted (all_front (λ n. told_of base ≤ n.at) fs (x ∷ []) untold)))
     where
-      older : (n : Note) → IsNoted P last_of_path.ts n → (p : ℕ) (t : Tenant) → at U.tenants p ≡ Some t → t.station ≡ n.what.station → t.tag ≡ n.what.tag → p < x.at
-      older n i p t is place tag =
+      older : (n : Note) → IsNoted P last_of_path.ts n → told_of base ≤ n.at → (p : ℕ) (t : Tenant) → at U.tenants p ≡ Some t → is_old U p ≡ false → t.station ≡ n.what.station → t.tag ≡ n.what.tag → p < x.at
+      older n i behind p t is new place tag =
           let o = last_of_path in
           let below = at_below o.ts n.at i.tenant i.is in
           let there : at U.tenants n.at ≡ Some i.tenant = ap (λ z. at z n.at) o.split ∙ at_past o.ys (o.tenant ∷ o.ts) n.at i.tenant (Rattle.inorder.proofs.Positions.at_more o.tenant o.ts n.at i.tenant i.is) in
-          let same : p ≡ n.at = one_named P C h legal p n.at t i.tenant is there (place ∙ ap (λ (z : Record). z.station) (sym i.what)) (tag ∙ ap (λ (z : Record). z.tag) (sym i.what)) in
+          let same : p ≡ n.at = one_named P C h legal p n.at t i.tenant is there new (kept_new P C U (rest ++ one ∷ []) base (IsFolded U (told_of base)) k n.at behind) (place ∙ ap (λ (z : Record). z.station) (sym i.what)) (tag ∙ ap (λ (z : Record). z.tag) (sym i.what)) in
           let last : x.at ≡ length o.ts = ap (λ (z : Note). z.at) o.is in
           omega (arith, same, below, last)
 
   pub miss_older : (i : ℕ) (r : Record) (next p : ℕ) → slice_get rest i ≡ Some r → IsMissOf p r next U → p < x.at
-  miss_older i r next p e m = all_get _ rest others_older i r e p m.tenant m.is m.station_is m.tag_is
+  miss_older i r next p e m = all_get _ rest others_older i r e p m.tenant m.is m.new m.station_is m.tag_is
 
   -- the last one may be squashed
   pub may_squash : (i : ℕ) (r : Record) (next p : ℕ) → slice_get rest i ≡ Some r → IsMissOf p r next U → CanSquash U x.at
@@ -115,7 +119,8 @@ module _ (P : Program) (C : Sizes) (h : List Entry) (legal : IsLegal P C h) (res
       let o = last_of_path in
       let there = at_last P C U ok (k.gone ++ fs) x o in
       let what : record_of P o.tenant ≡ one = ap (λ (z : Note). z.what) (sym o.is) ∙ sym same_records.ones in
-      one_named P C h legal p x.at m.tenant o.tenant m.is there (m.station_is ∙ ap (λ (z : Record). z.station) (sym what)) (m.tag_is ∙ ap (λ (z : Record). z.tag) (sym what))
+      let new = kept_new P C U (rest ++ one ∷ []) base (IsFolded U (told_of base)) k x.at (all_rest (λ n. told_of base ≤ n.at) fs (x ∷ []) untold).0 in
+      one_named P C h legal p x.at m.tenant o.tenant m.is there m.new new (m.station_is ∙ ap (λ (z : Record). z.station) (sym what)) (m.tag_is ∙ ap (λ (z : Record). z.tag) (sym what))
 
   pub last_missing : (next p : ℕ) → IsMissOf p one next U → Has U x.at (IsMissing next)
   last_missing next p m = record { tenant = m.tenant; is = ap (at U.tenants) (sym (last_position next p m)) ∙ m.is; fact = m.fact }
@@ -253,7 +258,7 @@ module _ (P : Program) (C : Sizes) (old new : List Entry) (rest : List Record) (
       }
     where
       one_named_old : (r q : ℕ) → IsMissOf r one next (unit_of P C old) → IsMissOf q one next (unit_of P C old) → r ≡ q
-      one_named_old r q mr m = one_named P C old (adds_old) r q mr.tenant m.tenant mr.is m.is (mr.station_is ∙ sym m.station_is) (mr.tag_is ∙ sym m.tag_is)
+      one_named_old r q mr m = one_named P C old (adds_old) r q mr.tenant m.tenant mr.is m.is mr.new m.new (mr.station_is ∙ sym m.station_is) (mr.tag_is ∙ sym m.tag_is)
         where
           adds_old : IsLegal P C old
           adds_old = Rattle.inorder.proofs.Histories.legal_before P C adds.begins.more old (subst (IsLegal P C) adds.begins.is adds.legal)

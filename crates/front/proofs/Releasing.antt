@@ -1,5 +1,5 @@
 -- The oldest goes to the base registers.
-use Rattle.std.proofs.Common.{◌≡◌, ◌≢◌, ℕ, zero, suc, ◌+◌, ◌%◌, ◌<◌, ◌≤◌, Bool, true, false, cond, eqb, eqb-true, List, [], ◌∷◌, ◌++◌, length, Option, Some, None, refl, sym, ap, ◌∙◌, subst, inl, inr, arith, append_assoc, true≢false}
+use Rattle.std.proofs.Common.{◌≡◌, ◌≢◌, ℕ, zero, suc, ◌<◌, ◌≤◌, Bool, true, false, cond, eqb, eqb-true, List, [], ◌∷◌, ◌++◌, length, Option, Some, None, refl, sym, ap, ◌∙◌, subst, inl, inr, arith, append_assoc, true≢false}
 use Rattle.std.proofs.lemmas.Bool.{le-leb}
 use Rattle.std.specs.List.{AllByRecursion}
 use Rattle.std.specs.Prelude.{slice_index}
@@ -28,10 +28,9 @@ use Rattle.front.specs.Trail.{Note, is_link, record_of}
 use Rattle.front.proofs.CreateVector.{newest_both}
 use Rattle.front.proofs.Lists.{all_both, all_map, whats_length}
 use Rattle.front.proofs.Named.{notes_noted, one_named, stands_right}
-use Rattle.front.proofs.Places.{notes_length, notes_placed, oldest_next, whole_length}
+use Rattle.front.proofs.Places.{kept_new, notes_length, oldest_place}
 use Rattle.front.proofs.Supplies.{link_made}
-use Rattle.front.proofs.Trails.{ArePlacedFrom, IsNoted}
-use Rattle.inorder.proofs.Recent.{all_recent}
+use Rattle.front.proofs.Trails.{IsNoted}
 
 same_tenant : (t u : Tenant) → Some t ≡ Some u → t ≡ u
 same_tenant t u e = cc e
@@ -78,7 +77,8 @@ module _ (P : Program) (C : Sizes) (h : List Entry) (legal : IsLegal P C h) wher
       its_left : HasLeft left noted.tenant
       its_left =
           let i = gone.tenant in
-          let p : gone.p ≡ n.at = one_named P C h legal gone.p n.at i.tenant noted.tenant i.is noted.is (i.station_is ∙ ap (λ (z : Record). z.station) (sym noted.what)) (i.tag_is ∙ ap (λ (z : Record). z.tag) (sym noted.what)) in
+          let new = kept_new P C U records base Again k n.at (subst (AllByRecursion (λ n. told_of base ≤ n.at)) e k.untold).0 in
+          let p : gone.p ≡ n.at = one_named P C h legal gone.p n.at i.tenant noted.tenant i.is noted.is i.new new (i.station_is ∙ ap (λ (z : Record). z.station) (sym noted.what)) (i.tag_is ∙ ap (λ (z : Record). z.tag) (sym noted.what)) in
           subst (HasLeft left) (same_tenant i.tenant noted.tenant (sym i.is ∙ (ap (at U.tenants) p ∙ noted.is))) i.fact
 
       pub note_gone : IsGone U n
@@ -115,9 +115,7 @@ module _ (P : Program) (C : Sizes) (h : List Entry) (legal : IsLegal P C h) wher
     next_is n ns e full =
         let long = notes_length P C U records base Again k in
         let whole : C.ring ≡ length (n ∷ ns) = omega (arith, full, long, k.room, ap (λ z. length z) e) in
-        let placed : ArePlacedFrom C.ring (length k.gone) (n ∷ ns) = subst (ArePlacedFrom C.ring (length k.gone)) e (notes_placed P C U records base Again k (stands_right P C h legal)) in
-        oldest_next C.ring (length k.gone) n ns placed whole ∙ ap (λ z. z % C.ring) (sym (whole_length P C U records base Again k ∙ ap (λ z. length k.gone + length z) e))
-        ∙ ap (next_station C) (sym (all_recent P C h legal))
+        oldest_place P C U records base Again k (stands_right P C h legal) n ns e whole
 
   module _ (records : List Record) (base : Base) (k : Knows P C U records base) where
     -- ready for the next one
@@ -135,6 +133,7 @@ module _ (P : Program) (C : Sizes) (h : List Entry) (legal : IsLegal P C h) wher
             again = all_map (IsFolded U (told_of base)) (IsPassed C U (told_of base)) (λ n x. inl x) k.gone k.again;
             newest = k.newest;
             past = k.past;
+            since = k.since;
             untold = k.untold;
             wide = k.wide;
             base_is = k.base_is;
@@ -172,6 +171,7 @@ module _ (P : Program) (C : Sizes) (h : List Entry) (legal : IsLegal P C h) wher
               again = all_both (IsPassed C U (told_of base)) k.gone (n ∷ []) (all_map (IsFolded U (told_of base)) (IsPassed C U (told_of base)) (λ n x. inl x) k.gone k.again) (inr (next_is records base (IsFolded U (told_of base)) k n ns e full), tt);
               newest = (subst (AllByRecursion (IsNewest U)) e k.newest).1;
               past = k.past;
+              since = k.since;
               untold = (subst (AllByRecursion (λ n. told_of base ≤ n.at)) e k.untold).1;
               wide = length_write base.registers n.what.destination (made_of n.what left) ∙ k.wide;
               base_is = base_more records base (IsFolded U (told_of base)) k n ns e left gone;

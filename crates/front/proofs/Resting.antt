@@ -8,7 +8,7 @@ use Rattle.inorder.specs.History.{IsLegal, unit_of}
 use Rattle.inorder.specs.Legal.{applied}
 use Rattle.inorder.specs.StationWords.{station_word, word_by, word_of}
 use Rattle.inorder.specs.Tenants.{IsNotLive, Live, Retired, Squashed, Standing, Tenant, on_path, stands_on_path}
-use Rattle.inorder.specs.Unit.{Sizes, UpdateUnit, at, recent, tag_after}
+use Rattle.inorder.specs.Unit.{Sizes, UpdateUnit, at, is_old, recent, tag_after}
 use Rattle.inorder.proofs.Histories.{unit_sound}
 use Rattle.inorder.proofs.Moves.{came}
 use Rattle.inorder.proofs.Positions.{all_at, all_from}
@@ -71,12 +71,12 @@ module _ (P : Program) (C : Sizes) (h : List Entry) (legal : IsLegal P C h) wher
   pub somebody : (s : ℕ) (seen : Seen StationState) → SeesStation P C h s seen → seen.state ≢ Free → ¬ HasNobody U
   somebody s seen sees ne none = let b = live_there P C h legal s seen sees ne in all_at IsNotLive U.tenants none b.p b.tenant b.is b.live
 
-  module _ (n : Note) (noted : IsNoted P U.tenants n) (newest : IsNewest U n) (seen : Seen StationState) (sees : SeesStation P C h n.what.station seen) where
+  module _ (n : Note) (noted : IsNoted P U.tenants n) (new : is_old U n.at ≡ false) (newest : IsNewest U n) (seen : Seen StationState) (sees : SeesStation P C h n.what.station seen) where
     place : noted.tenant.station ≡ n.what.station
     place = ap (λ (z : Record). z.station) noted.what
 
     word : station_word C (recent U) n.what.station ≡ word_by (tag_after C (recent U) n.what.station) noted.tenant.standing noted.tenant.tag noted.tenant.fate noted.tenant.made
-    word = ap (word_of (tag_after C (recent U) n.what.station)) (last_now P C h legal n.at n.what.station noted.tenant noted.is place newest)
+    word = ap (word_of (tag_after C (recent U) n.what.station)) (last_now U n.at n.what.station noted.tenant noted.is new place newest)
 
     -- a free word: the last tenant of the station has left this value
     pub note_left : seen.state ≡ Free → HasLeft seen.value noted.tenant

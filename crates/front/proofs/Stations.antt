@@ -11,11 +11,11 @@ use Rattle.inorder.specs.Replies.{IsFull}
 use Rattle.inorder.specs.StationWords.{IsFree, StationWord, last_of, left_value, station_word, word_by, word_of}
 use Rattle.inorder.specs.Steps.{new_tenant}
 use Rattle.inorder.specs.Tenants.{Live, Retired, Squashed, Standing, Tenant, is_live, on_path, stands_live, stands_on_path}
-use Rattle.inorder.specs.Unit.{Sizes, UpdateUnit, at, how_many, next_station, next_tag, recent}
+use Rattle.inorder.specs.Unit.{Sizes, UpdateUnit, at, how_many, is_old, next_station, next_tag, recent}
 use Rattle.inorder.proofs.Creators.{at_cases}
 use Rattle.inorder.proofs.Histories.{unit_sound}
 use Rattle.inorder.proofs.Positions.{all_at, at_below, at_more, at_new}
-use Rattle.inorder.proofs.Stations.{IsElsewhere, all_elsewhere, settling}
+use Rattle.inorder.proofs.Stations.{IsElsewhere, all_elsewhere, fewer_newest, settling, settling_newest}
 use Rattle.ruu_words.specs.declared.station.StationState.{StationState}
 use Rattle.ruu_words.specs.declared.station.StationState.TheVariants.{Free}
 use Rattle.ruu_words.specs.Content.{HasValue}
@@ -33,9 +33,9 @@ use Rattle.front.proofs.Counts.{SaysAt, FailsAt, at_most, count}
 use Rattle.front.proofs.Lists.{all_both, all_map}
 use Rattle.front.proofs.Looks.{free_is}
 use Rattle.front.proofs.Named.{notes_noted, stands_right}
-use Rattle.front.proofs.Places.{notes_placed, oldest_next, whole_length}
-use Rattle.front.proofs.Trails.{ArePlacedFrom, IsNoted}
-use Rattle.inorder.proofs.Recent.{all_recent, last_of_recent, none_old}
+use Rattle.front.proofs.Places.{kept_new, oldest_place}
+use Rattle.front.proofs.Trails.{IsNoted}
+use Rattle.inorder.proofs.Recent.{last_of_recent, live_is_recent, recent_at}
 
 same_tenant : (t u : Tenant) → Some t ≡ Some u → t ≡ u
 same_tenant t u e = cc e
@@ -118,24 +118,26 @@ left_there t k w e free on left v = go t.standing refl
         record { retired = f; value = subst (λ z. HasValue z left) value v }
 
 -- the tenant that is the last of its station
-pub last_now : (P : Program) (C : Sizes) (h : List Entry) → IsLegal P C h → (p s : ℕ) (t : Tenant) → at (unit_of P C h).tenants p ≡ Some t → t.station ≡ s → IsLastAt (unit_of P C h) p s → last_of (recent (unit_of P C h)) s ≡ Some t
-last_now P C h legal p s t is place last =
-    ap (last_of (recent (unit_of P C h))) (sym place)
-    ∙ last_of_recent (unit_of P C h) p t is (none_old P C h legal p) (λ q u lt e f. last q u lt e (f ∙ place))
+pub last_now : (U : UpdateUnit) (p s : ℕ) (t : Tenant) → at U.tenants p ≡ Some t → is_old U p ≡ false → t.station ≡ s → IsLastAt U p s → last_of (recent U) s ≡ Some t
+last_now U p s t is new place last =
+    ap (last_of (recent U)) (sym place)
+    ∙ last_of_recent U p t is new (λ q u lt e f. last q u lt e (f ∙ place))
 
 module _ (P : Program) (C : Sizes) (h : List Entry) (legal : IsLegal P C h) where
   abbrev U : UpdateUnit
   U = unit_of P C h
 
   -- a live tenant at the next station: all are in use
-  pub is_full : (p : ℕ) (t : Tenant) → at U.tenants p ≡ Some t → t.standing ≡ Live → t.station ≡ next_station C (recent U) → IsFull C U
-  is_full p t is live place =
+  pub is_full : how_many is_live U.tenants ≤ C.ring → (p : ℕ) (t : Tenant) → at U.tenants p ≡ Some t → t.standing ≡ Live → t.station ≡ next_station C (recent U) → IsFull C U
+  is_full room p t is live place =
       let st = stands_right P C h legal in
       let n = new_tenant P C U 0 0 (Known 0) (Known 0) in
-      let same : n.station ≡ next_station C U.tenants = ap (next_station C) st.all in
+      let few = fewer_newest is_live U.fresh U.tenants in
+      let there = recent_at U p t is (live_is_recent P C h legal p t is live) in
+      let settled = settling_newest U.fresh U.tenants (settling P U.tenants (unit_sound P C h legal)) in
       ⊎_elim
-      (λ room. absurd (all_at (IsElsewhere n) U.tenants (all_elsewhere P C n U.tenants [] U.tenants refl same room (settling P U.tenants (unit_sound P C h legal)) st.right.placed) p t is live place))
-      (λ (most : C.ring ≤ how_many is_live U.tenants). omega (arith, most, st.right.room))
+      (λ less. absurd (all_at (IsElsewhere n) (recent U) (all_elsewhere P C n (recent U) [] (recent U) refl refl (omega (arith, few, less)) settled st.placed) there.r t there.is live place))
+      (λ (most : C.ring ≤ how_many is_live U.tenants). omega (arith, most, room))
       (cases_lt (how_many is_live U.tenants) C.ring)
 
   -- the next station's tag, where that is free
@@ -160,22 +162,26 @@ module _ (P : Program) (C : Sizes) (h : List Entry) (legal : IsLegal P C h) wher
       go (Some t) e = by (next_tag C (recent U)) t t.standing e
 
   module _ (records : List Record) (base : Base) (k : Knows P C U records base) where
+    -- no more are live than there are stations
+    pub live_room : how_many is_live U.tenants ≤ C.ring
+    live_room = let few = live_fewer P U k.gone k.notes k.path k.retired in omega (arith, few, k.room)
+
     -- where all stations have had a tenant and the next one is free, the oldest has left
     pub oldest_left : (seen : Seen StationState) → SeesStation P C h (next_station C (recent U)) seen → seen.state ≡ Free → (n : Note) (ns : List Note) → k.notes ≡ n ∷ ns → C.ring ≤ length k.notes → IsTenant U n.at n.what.station n.what.tag (HasLeft seen.value)
     oldest_left seen sees free n ns e full =
         let noted : IsNoted P U.tenants n = (subst (AllByRecursion (IsNoted P U.tenants)) e (notes_noted P C h legal records base (IsFolded U (told_of base)) k)).0 in
         let newest : IsNewest U n = (subst (AllByRecursion (IsNewest U)) e k.newest).0 in
         let whole : C.ring ≡ length (n ∷ ns) = omega (arith, full, k.room, ap (λ z. length z) e) in
-        let placed : ArePlacedFrom C.ring (length k.gone) (n ∷ ns) = subst (ArePlacedFrom C.ring (length k.gone)) e (notes_placed P C U records base (IsFolded U (told_of base)) k (stands_right P C h legal)) in
-        let count : how_many on_path U.tenants ≡ length k.gone + length (n ∷ ns) = whole_length P C U records base (IsFolded U (told_of base)) k ∙ ap (λ z. length k.gone + length z) e in
-        let next : n.what.station ≡ next_station C (recent U) = oldest_next C.ring (length k.gone) n ns placed whole ∙ ap (λ z. z % C.ring) (sym count) ∙ ap (next_station C) (sym (all_recent P C h legal)) in
+        let untold = (subst (AllByRecursion (λ n. told_of base ≤ n.at)) e k.untold).0 in
+        let new = kept_new P C U records base (IsFolded U (told_of base)) k n.at untold in
+        let next = oldest_place P C U records base (IsFolded U (told_of base)) k (stands_right P C h legal) n ns e whole in
         let place : noted.tenant.station ≡ next_station C (recent U) = ap (λ (z : Record). z.station) noted.what ∙ next in
-        let last : last_of (recent U) (next_station C (recent U)) ≡ Some noted.tenant = last_now P C h legal n.at (next_station C (recent U)) noted.tenant noted.is place (λ q u lt is same. newest q u lt is (same ∙ sym next)) in
+        let last : last_of (recent U) (next_station C (recent U)) ≡ Some noted.tenant = last_now U n.at (next_station C (recent U)) noted.tenant noted.is new place (λ q u lt is same. newest q u lt is (same ∙ sym next)) in
         let word : station_word C (recent U) (next_station C (recent U)) ≡ word_by (next_tag C (recent U)) noted.tenant.standing noted.tenant.tag noted.tenant.fate noted.tenant.made = ap (word_of (next_tag C (recent U))) last in
         record {
           tenant = noted.tenant;
           is = noted.is;
-          new = none_old P C h legal n.at;
+          new = new;
           station_is = ap (λ (z : Record). z.station) noted.what;
           tag_is = ap (λ (z : Record). z.tag) noted.what;
           fact = left_there noted.tenant (next_tag C (recent U)) (station_word C (recent U) (next_station C (recent U))) word (free_is _ (sym sees.state_is ∙ ap state_code free)) noted.on seen.value sees.value_is;

@@ -1,5 +1,5 @@
 -- What the front knows stays true under the steps of others, and under links and deliveries of its own.
-use Rattle.std.proofs.Common.{◌≡◌, ℕ, ◌%◌, List, sym, ap, ◌∙◌, subst, inl, inr, ⊎_elim, length, ◌≤◌}
+use Rattle.std.proofs.Common.{◌≡◌, ℕ, ◌+◌, ◌%◌, List, refl, sym, ap, ◌∙◌, subst, inl, inr, ⊎_elim, length, ◌≤◌}
 use Rattle.std.specs.Prelude.{slice_index, is_none}
 use Rattle.isa.specs.Instruction.{destination, fixed_next, is_first_half, kind}
 use Rattle.isa.specs.Programs.{Program, instr_of}
@@ -114,6 +114,11 @@ module _ (P : Program) (C : Sizes) (U : UpdateUnit) (by : ℕ) where
   long_stays Renew b a = absurd b
   long_stays (On p act) b a = long_under P C U by p act a
 
+  fresh_stays : (s : Step) → IsQuiet s → (applied P C U by s).fresh ≡ U.fresh
+  fresh_stays (Let i pr f g) b = absurd b
+  fresh_stays Renew b = absurd b
+  fresh_stays (On p act) b = refl
+
   pub goes_stays : (s : Step) → IsQuiet s → Allowed P C U by s → IsSound P U.tenants → (base : Base) → GoesOnAt P C U base → GoesOnAt P C (applied P C U by s) base
   goes_stays s b a ok base g =
       let same = same_front P (applied P C U by s).tenants U.tenants (trail_stays s b a ok) in
@@ -138,6 +143,7 @@ module _ (P : Program) (C : Sizes) (U : UpdateUnit) (by : ℕ) where
         again = all_map Again Again' again k.gone k.again;
         newest = all_map (IsNewest U) (IsNewest V) (newest_stays s b a ok) k.notes k.newest;
         past = subst (λ z. told_of base ≤ z) (sym (long_stays s b a)) k.past;
+        since = subst (λ (z : ℕ × ℕ). z.0 ≤ told_of base + z.1) (λ i. (sym (long_stays s b a) i, sym (fresh_stays s b) i)) k.since;
         untold = k.untold;
         wide = k.wide;
         base_is = λ r h. still_value P C U by s a ok (position (creator_note k.gone r)) (slice_index base.registers r) (k.base_is r h);

@@ -30,9 +30,8 @@ use Rattle.front.specs.Trail.{Note, is_link}
 use Rattle.front.proofs.CreateVector.{Creates, Kept, Older, creates, creator_is}
 use Rattle.front.proofs.Lists.{all_two}
 use Rattle.front.proofs.Named.{notes_noted, notes_small, stands_right}
-use Rattle.front.proofs.Places.{others_next}
+use Rattle.front.proofs.Places.{kept_new, others_next}
 use Rattle.front.proofs.Trails.{IsNoted}
-use Rattle.inorder.proofs.Recent.{none_old}
 
 -- a jump that links has made its return address from the start
 links_made : (o : Outcome) (pc pr nx : ℕ) (made a b : Option ℕ) (st : Standing) (f : Fate) → ((x : ℕ) → o ≢ Address x) → ((c : _) → o ≢ Stops c) → FateBy Links o pc pr nx made a b st f → made ≡ Some (pc_plus_4 pc)
@@ -115,7 +114,7 @@ module _ (P : Program) (C : Sizes) (h : List Entry) (legal : IsLegal P C h) (rec
               waits = λ l. true≢false (sym (ap is_link l) ∙ (ap (λ (z : Record). z.links) g.noted.what ∙ e));
               other = λ same. g.other (sym place ∙ same);
               last = younger_from (λ u. u.station ≢ t.station) U.tenants n.at (at_below U.tenants n.at t g.noted.is) (λ q u lt is same. g.newest q u lt is (same ∙ place));
-              new = none_old P C h legal n.at;
+              new = kept_new P C U records base _ k.stands n.at g.untold;
             } in
             subst (λ b. MaySupply P U (next_station C (recent U)) (creator P U.tenants r) (supply_of (cond b (GivenKnown (pc_plus_4 n.what.pc)) (GivenFrom n.what.station n.what.tag)))) (sym e) comes
 

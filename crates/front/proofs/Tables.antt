@@ -271,7 +271,7 @@ module _ (P : Program) (C : Sizes) (told : ℕ) (T : Table) where
 
 module _ (P : Program) (C : Sizes) (U : UpdateUnit) (by index predicted : ℕ) (first second : Supply) (told : ℕ) (T T' : Table) (k : HasTable P U told T) (past : told ≤ length U.tenants)
     (inside : (new_tenant P C U index predicted first second).station < 32)
-    (unique : (p q : ℕ) (t u : Tenant) → at (applied P C U by (Let index predicted first second)).tenants p ≡ Some t → at (applied P C U by (Let index predicted first second)).tenants q ≡ Some u → t.station ≡ u.station → t.tag ≡ u.tag → p ≡ q)
+    (unique : (p q : ℕ) (t u : Tenant) → told ≤ p → told ≤ q → at (applied P C U by (Let index predicted first second)).tenants p ≡ Some t → at (applied P C U by (Let index predicted first second)).tenants q ≡ Some u → t.station ≡ u.station → t.tag ≡ u.tag → p ≡ q)
     (entered : IsEntered T T' (record_of P (new_tenant P C U index predicted first second))) where
   abbrev new : Tenant
   new = new_tenant P C U index predicted first second
@@ -317,7 +317,7 @@ module _ (P : Program) (C : Sizes) (U : UpdateUnit) (by index predicted : ℕ) (
       here place f =
           let its : e.saved ≡ s = same_saved e.saved s (sym latest_here ∙ (ap (slice_get T'.latest) (sym place) ∙ g)) in
           let tag : t.tag ≡ new.tag = sym f ∙ (ap (λ (z : Saved). z.tag) (sym its) ∙ e.of.tag) in
-          let both : p ≡ length U.tenants = unique p (length U.tenants) t new is (at_new new U.tenants) place tag in
+          let both : p ≡ length U.tenants = unique p (length U.tenants) t new new_one past is (at_new new U.tenants) place tag in
           absurd (omega (arith, lt, both, wide))
 
       there : t.station ≢ new.station → s.tag ≢ t.tag

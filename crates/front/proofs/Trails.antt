@@ -1,14 +1,13 @@
 -- The path of a unit as a list.
-use Rattle.std.proofs.Common.{◌≡◌, ℕ, suc, ◌+◌, ◌%◌, Bool, true, false, cond, List, [], ◌∷◌, ◌++◌, length, Some, refl, sym, ap, ◌∙◌, subst, ⊎_elim, arith, length-append, true≢false}
+use Rattle.std.proofs.Common.{◌≡◌, ℕ, suc, ◌+◌, ◌%◌, Bool, true, false, cond, List, [], ◌∷◌, ◌++◌, length, Some, refl, sym, ap, ◌∙◌, subst, ⊎_elim, arith, true≢false}
 use Rattle.std.specs.List.{AllByRecursion}
 use Rattle.isa.specs.declared.op.Half.TheVariants.{Low}
 use Rattle.isa.specs.Programs.{Program, text_start}
 use Rattle.inorder.specs.Tenants.{Tenant, is_first, on_path}
-use Rattle.inorder.specs.Unit.{Sizes, at, front_half, front_pc, half_after, how_many}
+use Rattle.inorder.specs.Unit.{at, front_half, front_pc, half_after}
 use Rattle.inorder.proofs.Creators.{at_cases}
 use Rattle.inorder.proofs.Grows.{same_length}
 use Rattle.inorder.proofs.Positions.{at_more, at_new}
-use Rattle.inorder.proofs.Stations.{ArePlaced}
 use Rattle.front.specs.Trail.{Note, note, record_of, trail}
 use Rattle.front.proofs.Lists.{Last, all_both, all_front, all_map, all_rest, last_cases, last_not, last_same}
 
@@ -101,40 +100,18 @@ module _ (P : Program) where
       go true f more = absurd (last_not (trail P us) (note P us u) (sym e ∙ trail_on u us f))
       go false f more = (f, more (sym (trail_off u us f) ∙ e))
 
-  -- lengths, and places
-  pub trail_length : (ts : List Tenant) → length (trail P ts) ≡ how_many on_path ts
-  trail_length [] = refl
-  trail_length (t ∷ ts) = go (on_path t) refl (trail_length ts)
-    where
-      go : (b : Bool) → on_path t ≡ b → length (trail P ts) ≡ how_many on_path ts → length (trail P (t ∷ ts)) ≡ how_many on_path (t ∷ ts)
-      go true e more =
-          let long = length-append (trail P ts) (note P ts t ∷ []) in
-          let one : length (trail P ts ++ note P ts t ∷ []) ≡ suc (how_many on_path ts) = omega arith in
-          ap (λ z. length z) (trail_on t ts e) ∙ (one ∙ ap (λ b. cond b (suc (how_many on_path ts)) (how_many on_path ts)) (sym e))
-      go false e more = ap (λ z. length z) (trail_off t ts e) ∙ (more ∙ ap (λ b. cond b (suc (how_many on_path ts)) (how_many on_path ts)) (sym e))
-
 -- from place g on, each at its station
 abbrev pub ArePlacedFrom : ℕ → ℕ → List Note → Type 0
 ArePlacedFrom ring g [] = Unit {0}
 ArePlacedFrom ring g (n ∷ ns) = (n.what.station ≡ g % ring) × ArePlacedFrom ring (suc g) ns
 
-placed_last : (ring g : ℕ) (xs : List Note) (x : Note) → ArePlacedFrom ring g xs → x.what.station ≡ (g + length xs) % ring → ArePlacedFrom ring g (xs ++ x ∷ [])
+pub placed_last : (ring g : ℕ) (xs : List Note) (x : Note) → ArePlacedFrom ring g xs → x.what.station ≡ (g + length xs) % ring → ArePlacedFrom ring g (xs ++ x ∷ [])
 placed_last ring g [] x a e = let none : g + 0 ≡ g = omega arith in (e ∙ ap (λ z. z % ring) none, tt)
 placed_last ring g (y ∷ xs) x a e = let more : g + suc (length xs) ≡ suc g + length xs = omega arith in (a.0, placed_last ring (suc g) xs x a.1 (e ∙ ap (λ z. z % ring) more))
 
 pub placed_rest : (ring g : ℕ) (xs ys : List Note) → ArePlacedFrom ring g (xs ++ ys) → ArePlacedFrom ring (g + length xs) ys
 placed_rest ring g [] ys a = let none : g ≡ g + 0 = omega arith in subst (λ z. ArePlacedFrom ring z ys) none a
 placed_rest ring g (x ∷ xs) ys a = let more : suc g + length xs ≡ g + suc (length xs) = omega arith in subst (λ z. ArePlacedFrom ring z ys) more (placed_rest ring (suc g) xs ys a.1)
-
-pub trail_placed : (P : Program) (C : Sizes) (ts : List Tenant) → ArePlaced C ts → ArePlacedFrom C.ring 0 (trail P ts)
-trail_placed P C [] a = tt
-trail_placed P C (t ∷ ts) a = go (on_path t) refl (trail_placed P C ts a.1)
-  where
-    go : (b : Bool) → on_path t ≡ b → ArePlacedFrom C.ring 0 (trail P ts) → ArePlacedFrom C.ring 0 (trail P (t ∷ ts))
-    go true e more =
-        let long : how_many on_path ts ≡ 0 + length (trail P ts) = omega (arith, trail_length P ts) in
-        subst (ArePlacedFrom C.ring 0) (sym (trail_on P t ts e)) (placed_last C.ring 0 (trail P ts) (note P ts t) more (a.0 e ∙ ap (λ z. z % C.ring) long))
-    go false e more = subst (ArePlacedFrom C.ring 0) (sym (trail_off P t ts e)) more
 
 -- Where the path goes on
 pub pc_past : (ys ts : List Tenant) → AllByRecursion IsOff ys → front_pc (ys ++ ts) ≡ front_pc ts

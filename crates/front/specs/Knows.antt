@@ -1,5 +1,5 @@
 -- What the front knows of the unit: no step of others changes it.
-use Rattle.std.specs.Prelude.{◌≡◌, ◌⊎◌, ℕ, ◌%◌, ◌<◌, ◌≤◌, List, [], ◌++◌, map, length, Some, slice_index}
+use Rattle.std.specs.Prelude.{◌≡◌, ◌⊎◌, ℕ, ◌+◌, ◌%◌, ◌<◌, ◌≤◌, List, [], ◌++◌, map, length, Some, slice_index}
 use Rattle.std.specs.List.{AllByRecursion}
 use Rattle.isa.specs.Programs.{Program}
 use Rattle.inorder.specs.Callers.{IsLastAt}
@@ -58,6 +58,8 @@ pub record Stands (P : Program) (C : Sizes) (U : UpdateUnit) (records : List Rec
   pub again : AllByRecursion Again gone
   pub newest : AllByRecursion (IsNewest U) notes
   pub past : told_of base ≤ length U.tenants
+  -- nothing was renewed since: whoever was let behind those is recent
+  pub since : length U.tenants ≤ told_of base + U.fresh
   pub untold : AllByRecursion (λ n. told_of base ≤ n.at) notes
   pub wide : length base.registers ≡ 34
   pub base_is : (r : ℕ) → r < 34 → value_of U.tenants (position (creator_note gone r)) ≡ Some (slice_index base.registers r)

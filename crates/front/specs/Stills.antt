@@ -3,6 +3,7 @@ use Rattle.std.specs.Prelude.{◌≡◌, ℕ, [], List, length}
 use Rattle.inorder.specs.declared.history.Entry.{Entry}
 use Rattle.inorder.specs.History.{Adds, IsLegal, front, unit_of}
 use Rattle.inorder.specs.Unit.{next_station, recent}
+use Rattle.station.specs.Renewals.{IsNotRenewed, IsRenewed, Seats}
 use Rattle.station.specs.Seats.{Caller, TheCore}
 use Rattle.front.specs.declared.path.base_state.Base.{Base}
 use Rattle.front.specs.declared.path.counted.Counted.{Counted}
@@ -40,3 +41,25 @@ pub record GoesOn (core : TheCore) (seen : List Entry) (seat : Caller) : Type 0 
 -- The next tenant's station at a seat
 abbrev pub next_at : TheCore → List Entry → ℕ
 next_at core seen = next_station core.sizes (recent (unit_of core.program core.sizes seen))
+
+-- The front enters a renewed core with this seat: the path goes on, at station 0
+pub record MayEnter (core : TheCore) (seen : List Entry) (seat : Caller) : Type 0 where
+  pub goes_on : GoesOn core seen seat
+  pub first : next_at seat.core seat.seen ≡ 0
+
+-- It enters the core that it left with this seat: the path goes on where it was left
+pub record MayEnterAgain (core : TheCore) (seen : List Entry) (seat : Caller) : Type 0 where
+  pub goes_on : GoesOn core seen seat
+  pub next : next_at seat.core seat.seen ≡ next_at core seen
+
+-- With the seat that a renewal gives a front that has left enters the renewed core
+abbrev pub RenewedAreEntered : Type 0
+RenewedAreEntered =
+    (core now : TheCore) (old new : Seats) → IsRenewed core old now new →
+    MayEnter core old.front.seen new.front
+
+-- With its own, where the renewal was refused, it enters the core that it left
+abbrev pub RefusedAreEntered : Type 0
+RefusedAreEntered =
+    (core now : TheCore) (old new : Seats) → old.front.core ≡ core → old.front.by ≡ front →
+    IsNotRenewed core old now new → MayEnterAgain core old.front.seen new.front

@@ -6,6 +6,7 @@ mod answers;
 mod dispatch;
 mod dispatcher;
 mod fetch;
+mod laws;
 mod path;
 mod queue;
 mod recovery;
@@ -18,4 +19,5 @@ mod training;
 
 pub use answers::{Made, Recovery, Rest, Turn};
 pub use dispatcher::Front;
+pub use laws::a_front_enters_behind_a_renewal;
 pub use still::FrontStill;

@@ -49,7 +49,7 @@ none_from new mid old s t same = let a = starts_more new mid s in let b = starts
 
 -- only the front renews
 pub only_front_renews : (C : Sizes) (U : UpdateUnit) (by : ℕ) → IsTheirs C U by Renew → by ≢ front → ⊥
-only_front_renews C U by h other = h
+only_front_renews C U by h other = other h
 
 -- The entries of one caller
 

@@ -92,12 +92,12 @@ IsTheirAct by (Retire n) = by ≡ back
 IsTheirAct by Squash = by ≡ front
 IsTheirAct by Mend = by ≡ front
 
--- The front lets no tenant with a spent tag
+-- The front lets no tenant with a spent tag, and it renews
 abbrev pub IsTheirs : Sizes → UpdateUnit → ℕ → Step → Type 0
 IsTheirs C U by (Let index predicted first second) =
     (by ≡ front) × (next_tag C (recent U) < last_tag)
 IsTheirs C U by (On p act) = IsTheirAct by act
-IsTheirs C U by Renew = ⊥
+IsTheirs C U by Renew = by ≡ front
 
 -- A refusal is true at this point, and this caller is one that is told so
 abbrev pub MayRefuse : Program → Sizes → List Entry → ℕ → Refusal → Type 0

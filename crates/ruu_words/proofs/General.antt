@@ -107,7 +107,7 @@ module _ (P : Program) (C : Sizes) (opening : List Entry) where
 
   -- `tell n` is what a step tells of: the number found, or at a store the number stored
   pub allowed : (slots id : ℕ) (me : Me ℕ View) (x : Place) (f tell : ℕ → ℕ) (Kind : ℕ → List Entry → Draft → List Event → Type 0) (z : Step ℕ) → IsPlace C.ring x → IsAlive me.0.role
-      → Plans P C me.0.by me.0 x f (λ n. Kind (tell n)) → Allows (Keeps P C opening) slots id me (index C.ring x) f (λ n found. Tells P C me.0.by Kind z me (tell n) found)
+      → Plans P C me.0.by me.0 x f (λ n. Kind (tell n)) → Allows (Keeps P C opening) slots id me (index C.ring x) f (λ n found. Tells P C opening me.0.by Kind z me (tell n) found)
   allowed slots id me x f tell Kind z fits alive plans s kept _ here small =
       let h : List Entry = kept.history in let d : Draft = kept.draft in let k : IsKept P C opening s h d = kept.kept in let v : View = me.0 in
       let by : ℕ = v.by in
@@ -138,15 +138,15 @@ module _ (P : Program) (C : Sizes) (opening : List Entry) where
             role = refl;
             by_is = refl;
             heirs_are = refl;
-            unborn = λ m i. own-append m (map (entry by) p.events) (between ++ v.seen) ∙ (ap (λ (y : List Entry). y ++ own m (between ++ v.seen)) (own_of_other m by p.events (own_number v.heirs m by fit.above i)) ∙ (ap (λ (y : List Entry). own m y) (sym is) ∙ fit.unborn alive m i));
             told = starts_longer (between ++ v.seen) v.told (map (entry by) p.events) (subst (λ (x : List Entry). StartsWith x v.told) is fit.told);
             kind = p.kind;
           };
+          unborn = λ m i. own-append m (map (entry by) p.events) (between ++ v.seen) ∙ (ap (λ (y : List Entry). y ++ own m (between ++ v.seen)) (own_of_other m by p.events (own_number v.heirs m by fit.above i)) ∙ (ap (λ (y : List Entry). own m y) (sym is) ∙ fit.unborn alive m i));
           slots = refl;
         },
       )
 
   -- the same, where the code gives the index
   pub allowed_at : (slots id : ℕ) (me : Me ℕ View) (x : Place) (i : ℕ) (f tell : ℕ → ℕ) (Kind : ℕ → List Entry → Draft → List Event → Type 0) (z : Step ℕ) → index C.ring x ≡ i → IsPlace C.ring x → IsAlive me.0.role
-      → Plans P C me.0.by me.0 x f (λ n. Kind (tell n)) → Allows (Keeps P C opening) slots id me i f (λ n found. Tells P C me.0.by Kind z me (tell n) found)
-  allowed_at slots id me x i f tell Kind z is fits alive plans = subst (λ (j : ℕ). Allows (Keeps P C opening) slots id me j f (λ n found. Tells P C me.0.by Kind z me (tell n) found)) is (allowed slots id me x f tell Kind z fits alive plans)
+      → Plans P C me.0.by me.0 x f (λ n. Kind (tell n)) → Allows (Keeps P C opening) slots id me i f (λ n found. Tells P C opening me.0.by Kind z me (tell n) found)
+  allowed_at slots id me x i f tell Kind z is fits alive plans = subst (λ (j : ℕ). Allows (Keeps P C opening) slots id me j f (λ n found. Tells P C opening me.0.by Kind z me (tell n) found)) is (allowed slots id me x f tell Kind z fits alive plans)

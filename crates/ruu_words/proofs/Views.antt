@@ -24,15 +24,19 @@ at_end [] a b (suc j) e = absurd (some-ne-none b (sym e))
 at_end (x ∷ xs) a b zero e = inl e
 at_end (x ∷ xs) a b (suc j) e = ⊎_elim (λ h. inl h) (λ h. inr (ap suc h.0, h.1)) (at_end xs a b j e)
 
--- who has no entry in a history has none in its beginning
-own_begin : (id : ℕ) (h seen : List Entry) → StartsWith h seen → own id h ≡ [] → own id seen ≡ []
-own_begin id h seen a e =
+-- who has done nothing from one history to another has done nothing up to one between them
+own_between : (id : ℕ) (h seen old : List Entry) → StartsWith h seen → StartsWith seen old → own id h ≡ own id old → own id h ≡ own id seen
+own_between id h seen old a b e =
     let x : own id h ≡ own id a.more ++ own id seen = ap (own id) a.is ∙ own-append id a.more seen in
+    let y : own id seen ≡ own id b.more ++ own id old = ap (own id) b.is ∙ own-append id b.more old in
     let n = ap (λ l. length l) (sym x ∙ e) in
+    let m = ap (λ l. length l) y in
     let lx = length-append (own id a.more) (own id seen) in
-    no_length (own id seen) (omega arith)
+    let ly = length-append (own id b.more) (own id old) in
+    let none : own id a.more ≡ [] = no_length (own id a.more) (omega arith) in
+    x ∙ ap (λ z. z ++ own id seen) none
 
-starts_empty : (h : List Entry) → StartsWith h []
+pub starts_empty : (h : List Entry) → StartsWith h []
 starts_empty h = record { more = h; is = sym (append-nil h) }
 
 -- What a seat may name is cut in two: its own number stays, and a new caller has one that it might give away
@@ -102,7 +106,7 @@ module _ (P : Program) (C : Sizes) (opening : List Entry) where
             begins = g.begins;
             told = starts_empty h;
             opened = λ _. g.opened live;
-            all_own = λ a. let none = g.unborn live number (q.given a number (inl refl)) in none ∙ sym (own_begin number h v.seen g.begins none);
+            all_own = λ a. own_between number h v.seen opening g.begins (g.opened live) (g.unborn live number (q.given a number (inl refl)));
             unborn = λ a n x. g.unborn live n (q.given a n (inr x));
             caller = q.right_caller;
             above = q.right_above;

@@ -1,19 +1,19 @@
 -- What holds of every word and of every place.
-use Rattle.std.specs.Prelude.{◌≡◌, ◌≢◌, ℕ, ◌^◌, ◌<◌, List, ◌∷◌, length, slice_index, slice_set}
+use Rattle.std.specs.Prelude.{◌≡◌, ◌≢◌, ℕ, ◌^◌, ◌<◌, List, [], ◌∷◌, length, slice_index, slice_set}
 use Rattle.isa.specs.declared.op.Half.{Half}
 use Rattle.inorder.specs.declared.history.Entry.{Entry}
-use Rattle.inorder.specs.declared.history.Event.TheVariants.{Does}
-use Rattle.inorder.specs.declared.history.Step.TheVariants.{Renew}
-use Rattle.inorder.specs.History.{entry, front, unit_of}
+use Rattle.inorder.specs.History.{IsLegal, unit_of}
 use Rattle.inorder.specs.Steps.{MayRenew}
 use Rattle.inorder.specs.Unit.{Sizes}
 use Rattle.isa.specs.Programs.{Program}
 use Rattle.ruu_words.specs.declared.place.Place.{Place}
 use Rattle.ruu_words.specs.declared.rule.Draft.TheVariants.{Nothing}
+use Rattle.ruu_words.specs.declared.rule.Setup.{Setup}
+use Rattle.ruu_words.specs.declared.rule.View.{View}
 use Rattle.ruu_words.specs.Content.{Content}
 use Rattle.ruu_words.specs.Fields.{consumer_of, half_of, index_of, pack, pack_info, pack_link, predicted_of, producer_of, state_of, tag_count, tag_of, value_of}
 use Rattle.ruu_words.specs.Places.{IsPlace, index, words_for}
-use Rattle.ruu_words.specs.Rule.{IsStart}
+use Rattle.ruu_words.specs.Rule.{IsOpening, IsStart, opening_of, renewed, sizes_of}
 
 -- A packed word reads back as its fields, and a word is the packed one of its fields
 pub record ReadsBack (tag state value : ℕ) : Type 0 where
@@ -72,5 +72,12 @@ abbrev pub RenewedWordsAreFirst : Type 0
 RenewedWordsAreFirst =
     (P : Program) (C : Sizes) (seen : List Entry) (words : List ℕ) →
     MayRenew (unit_of P C seen) → IsStart C words → (x : Place) → IsPlace C.ring x →
-    Content P C (unit_of P C (entry front (Does Renew) ∷ seen)) Nothing x
+    Content P C (unit_of P C (renewed seen)) Nothing x
     (slice_index words (index C.ring x))
+
+-- A table may go on from what a seat of another one has seen, where a renewal is allowed behind that
+abbrev pub TablesGoOn : Type 0
+TablesGoOn =
+    (c : Setup) (v : View) → c.opening.views ≡ v ∷ [] → IsLegal c.program (sizes_of c) v.seen →
+    MayRenew (unit_of c.program (sizes_of c) v.seen) →
+    IsOpening c.program (sizes_of c) (opening_of c)

@@ -6,7 +6,10 @@ use Rattle.atomic_table.specs.Table.{Me, State, Step}
 use Rattle.isa.specs.Programs.{Program}
 use Rattle.inorder.specs.declared.history.Entry.{Entry}
 use Rattle.inorder.specs.declared.history.Event.{Event}
+use Rattle.inorder.specs.declared.history.Event.TheVariants.{Does}
+use Rattle.inorder.specs.declared.history.Step.TheVariants.{Renew}
 use Rattle.inorder.specs.History.{IsLegal, IsUnit, StartsWith, back, entry, front, own, renewals, unit_of}
+use Rattle.inorder.specs.Steps.{MayRenew}
 use Rattle.inorder.specs.Unit.{Sizes}
 use Rattle.ruu_words.specs.declared.place.Place.{Place}
 use Rattle.ruu_words.specs.declared.rule.Draft.{Draft}
@@ -24,16 +27,27 @@ use Rattle.ruu_words.specs.Places.{IsPlace, index, words_for}
 abbrev pub sizes_of : Setup → Sizes
 sizes_of c = record { ring = c.ring; queue = c.queue; first_tag = c.first_tag }
 
--- The history that a table opens with: that of the seat it goes on from, or none
+-- The history that a table opens with: that of the seat it goes on from and a renewal, or none
 
--- What the seat has seen whose view this is, if there is one
-abbrev pub seen_by : List View → List Entry
-seen_by [] = []
-seen_by (v ∷ vs) = v.seen
+-- A history, with a renewal behind it
+abbrev pub renewed : List Entry → List Entry
+renewed h = entry front (Does Renew) ∷ h
+
+-- What the seat has seen whose view this is, if there is one, with a renewal behind it
+abbrev pub renewed_of : List View → List Entry
+renewed_of [] = []
+renewed_of (v ∷ vs) = renewed v.seen
 
 -- The history that a table opens with
 abbrev pub opening_of : Setup → List Entry
-opening_of c = seen_by c.opening.views
+opening_of c = renewed_of c.opening.views
+
+-- A table may open with this history: it is legal, nobody is live, no stop has retired, and nobody
+-- was let since its last renewal
+pub record IsOpening (P : Program) (C : Sizes) (h : List Entry) : Type 0 where
+  pub legal : IsLegal P C h
+  pub may : MayRenew (unit_of P C h)
+  pub begun : (unit_of P C h).fresh ≡ 0
 
 -- The numbers of callers
 
@@ -86,9 +100,9 @@ informed v w =
       draft = v.draft;
     }
 
--- Nobody whose number it may still give away has done anything in what it has seen
-abbrev pub Unborn : View → Type 0
-Unborn v = (n : ℕ) → IsHeir v.heirs n → own n v.seen ≡ []
+-- Nobody whose number it may still give away has done anything since the opening, in what it has seen
+abbrev pub Unborn : List Entry → View → Type 0
+Unborn opening v = (n : ℕ) → IsHeir v.heirs n → own n v.seen ≡ own n opening
 
 -- Roles. The first seat is the front's once the back's is cut from it, and a spent one makes no
 -- calls
@@ -108,12 +122,13 @@ IsAlive _ = Unit {0}
 
 -- What a seat has seen begins the history, and has all entries of its caller; it goes on from the
 -- history that the table opened with, and nobody whose number it may still give away has done anything
+-- since
 pub record Fits (opening h : List Entry) (v : View) : Type 0 where
   pub begins : StartsWith h v.seen
   pub told : StartsWith h v.told
   pub opened : IsAlive v.role → StartsWith v.seen opening
   pub all_own : IsAlive v.role → own v.by h ≡ own v.by v.seen
-  pub unborn : IsAlive v.role → (n : ℕ) → IsHeir v.heirs n → own n h ≡ []
+  pub unborn : IsAlive v.role → (n : ℕ) → IsHeir v.heirs n → own n h ≡ own n opening
   pub caller : IsCaller v.role v.by
   pub above : 1 ≤ v.heirs.every → v.by < v.heirs.first
 
@@ -166,13 +181,13 @@ pub record Grows (P : Program) (C : Sizes) (by : ℕ) (v w : View)
   pub role : w.role ≡ v.role
   pub by_is : w.by ≡ v.by
   pub heirs_are : w.heirs ≡ v.heirs
-  pub unborn : Unborn w
   pub told : StartsWith w.seen v.told
   pub kind : Kind (between ++ v.seen) w.draft events
 
--- Of a step: the number found, or at a store the number stored, is n
-pub record Tells (P : Program) (C : Sizes) (by : ℕ)
+-- Of a step in a table with this opening: the number found, or at a store the number stored, is n
+pub record Tells (P : Program) (C : Sizes) (opening : List Entry) (by : ℕ)
     (Kind : ℕ → List Entry → Draft → List Event → Type 0) (s : Step ℕ) (me : Me ℕ View) (n : ℕ)
     (found : Me ℕ View) : Type 0 where
   pub grows : Grows P C by me.0 found.0 (Kind n)
+  pub unborn : Unborn opening found.0
   pub slots : found.1 ≡ me.1

@@ -1,6 +1,6 @@
 //! What holds of the words. Each function is a law: it does nothing, and its contract is proved.
 ghost use Rattle.std.specs.Prelude.{ℕ};
-ghost use Rattle.ruu_words.specs.Laws.{WordsReadBack, InfosReadBack, LinksReadBack, FieldsMakeTheWord, PlacesAreApart, RenewedWordsAreFirst};
+ghost use Rattle.ruu_words.specs.Laws.{WordsReadBack, InfosReadBack, LinksReadBack, FieldsMakeTheWord, PlacesAreApart, RenewedWordsAreFirst, TablesGoOn};
 
 /// A packed word reads back as its fields, and has no other content.
 pub fn words_read_back()
@@ -18,4 +18,10 @@ pub fn places_are_apart()
 /// Behind a renewal the words are those of a first table.
 pub fn a_new_table_has_first_words()
     ensures { RenewedWordsAreFirst }
+{}
+
+/// A table may open with the history that a seat of another table has seen, and a renewal behind it,
+/// where in that history nobody is live and no stop has retired.
+pub fn a_table_goes_on()
+    ensures { TablesGoOn }
 {}

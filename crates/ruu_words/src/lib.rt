@@ -11,7 +11,7 @@ pub mod rule;
 mod station;
 
 pub use info::InfoWord;
-pub use laws::{a_new_table_has_first_words, places_are_apart, words_read_back};
+pub use laws::{a_new_table_has_first_words, a_table_goes_on, places_are_apart, words_read_back};
 pub use link::LinkWord;
 pub use operand::{OperandState, OperandWord};
 pub use place::{Place, word_count};

@@ -161,3 +161,21 @@ module _ (P : Program) (C : Sizes) where
     inside = s.inside;
     knows = back_on by station over v.0.seen w.0.seen es a keeps s.knows;
   }
+
+  -- Where the back adds nothing, no stop retires
+  goes_on_behind : (more seen : List Entry) → IsLegal P C (more ++ seen) → AllByRecursion Keeps more → GoesOn (unit_of P C seen) → GoesOn (unit_of P C (more ++ seen))
+  goes_on_behind [] seen legal keeps g = g
+  goes_on_behind (e ∷ more) seen legal keeps g = go e.by e.event legal.1 keeps.0 (goes_on_behind more seen legal.0 keeps.1 g)
+    where
+      go : (by : ℕ) (x : Event) → MayAdd P C (more ++ seen) by x → IsNoRetirement x → GoesOn (unit_of P C (more ++ seen)) → GoesOn (unit_of P C (entry by x ∷ (more ++ seen)))
+      go by (Does s) may keep g = goes_on_on (unit_of P C (more ++ seen)) by s keep may.1 (unit_sound P C (more ++ seen) legal.0) g
+      go by (Refuses r) may keep g = g
+      go by (Marks m) may keep g = g
+
+  pub stop_stays : (old new : List Entry) → Adds P C back old new [] → GoesOn (unit_of P C old) → GoesOn (unit_of P C new)
+  stop_stays old new a g =
+      let more : List Entry = a.begins.more in
+      let these : own back more ≡ [] = same_end (own back more) [] (own back old) (sym (own-append back more old) ∙ (ap (own back) (sym a.begins.is) ∙ a.mine)) in
+      let legal : IsLegal P C (more ++ old) = subst (IsLegal P C) a.begins.is a.legal in
+      let none = all_keep more old legal (sym (ap renewals a.begins.is) ∙ a.one_table) (subst (AllByRecursion Keeps) (sym these) tt) in
+      subst (λ h. GoesOn (unit_of P C h)) (sym a.begins.is) (goes_on_behind more old legal none g)

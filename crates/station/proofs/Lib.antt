@@ -25,3 +25,4 @@ pub mod Splitting
 pub mod Opens
 pub mod Following
 pub mod Finishing
+pub mod Renewing

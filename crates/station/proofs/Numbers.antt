@@ -1,7 +1,8 @@
 -- The numbers of seats and of those that are cut from them.
-use Rattle.std.proofs.Common.{◌≡◌, ◌≢◌, ◌⊎◌, ℕ, zero, suc, ◌-◌, ◌+◌, ◌*◌, ◌<◌, ◌≤◌, [], sym, refl, ap, ◌∙◌, subst, inl, inr, ⊎_elim, arith}
+use Rattle.std.proofs.Common.{◌≡◌, ◌≢◌, ◌⊎◌, ℕ, zero, suc, ◌-◌, ◌+◌, ◌*◌, ◌<◌, ◌≤◌, List, sym, refl, ap, ◌∙◌, subst, inl, inr, ⊎_elim, arith}
 use mathlib.Core.Logic.{dite}
 use native.Mathlib.Decide.{ℕ_discrete}
+use Rattle.inorder.specs.declared.history.Entry.{Entry}
 use Rattle.inorder.specs.History.{own}
 use Rattle.ruu_words.specs.declared.rule.Draft.TheVariants.{Nothing}
 use Rattle.ruu_words.specs.declared.rule.Heirs.{Heirs}
@@ -15,27 +16,27 @@ use Rattle.station.specs.Seats.{HasHeirs, IsGiver, IsNumbered}
 
 -- Behind a step, or behind a call of the front or of the back
 
-giver_on : (v w : View) → w.by ≡ v.by → w.heirs ≡ v.heirs → Unborn w → IsGiver v → IsGiver w
-giver_on v w by heirs unborn g = record {
+giver_on : (opening : List Entry) (v w : View) → w.by ≡ v.by → w.heirs ≡ v.heirs → Unborn opening w → IsGiver opening v → IsGiver opening w
+giver_on opening v w by heirs unborn g = record {
   some = subst (λ (z : Heirs). 1 ≤ z.every) (sym heirs) g.some;
   above = subst (λ (z : ℕ × Heirs). z.0 < z.1.first) (λ i. (sym by i, sym heirs i)) g.above;
   unborn = unborn;
 }
 
-pub numbered_on : (role : Role) (v w : View) → w.by ≡ v.by → w.heirs ≡ v.heirs → Unborn w → IsNumbered role v → IsNumbered role w
-numbered_on role v w by heirs unborn n = record { caller = subst (IsCaller role) (sym by) n.caller; heirs = go role n.heirs }
+pub numbered_on : (opening : List Entry) (role : Role) (v w : View) → w.by ≡ v.by → w.heirs ≡ v.heirs → Unborn opening w → IsNumbered opening role v → IsNumbered opening role w
+numbered_on opening role v w by heirs unborn n = record { caller = subst (IsCaller role) (sym by) n.caller; heirs = go role n.heirs }
   where
-    go : (r : Role) → HasHeirs r v → HasHeirs r w
+    go : (r : Role) → HasHeirs opening r v → HasHeirs opening r w
     go Start h = absurd h
     go Front h = heirs ∙ h
     go Back h = heirs ∙ h
-    go Worker h = giver_on v w by heirs unborn h
+    go Worker h = giver_on opening v w by heirs unborn h
     go Spent h = absurd h
 
-pub front_numbered : (v w : View) → w.by ≡ v.by → w.heirs ≡ v.heirs → IsNumbered Front v → IsNumbered Front w
+pub front_numbered : {opening : List Entry} (v w : View) → w.by ≡ v.by → w.heirs ≡ v.heirs → IsNumbered opening Front v → IsNumbered opening Front w
 front_numbered v w by heirs n = record { caller = by ∙ n.caller; heirs = heirs ∙ n.heirs }
 
-pub back_numbered : (v w : View) → w.by ≡ v.by → w.heirs ≡ v.heirs → IsNumbered Back v → IsNumbered Back w
+pub back_numbered : {opening : List Entry} (v w : View) → w.by ≡ v.by → w.heirs ≡ v.heirs → IsNumbered opening Back v → IsNumbered opening Back w
 back_numbered v w by heirs n = record { caller = by ∙ n.caller; heirs = heirs ∙ n.heirs }
 
 -- Cuts
@@ -46,35 +47,35 @@ first_of heirs some = record { some = some; k = 0; is = sym (none heirs.first he
     none : (f e : ℕ) → f + 0 * e ≡ f
     none f e = omega arith
 
-module _ (v w : View) where
+module _ (opening : List Entry) (v w : View) where
   -- a seat that has given away a number, and every second of the rest
-  pub left_numbered : w ≡ view v.role v.by (half v.heirs) v.seen v.draft → IsNumbered Worker v → IsNumbered Worker w
+  pub left_numbered : w ≡ view v.role v.by (half v.heirs) v.seen v.draft → IsNumbered opening Worker v → IsNumbered opening Worker w
   left_numbered e n =
       let g = n.heirs in
       let above = g.above in
       let some = g.some in
-      subst (IsNumbered Worker) (sym e) (record {
+      subst (IsNumbered opening Worker) (sym e) (record {
         caller = n.caller;
         heirs = record { some = omega arith; above = omega arith; unborn = λ m i. g.unborn m (half_of v.heirs m i) };
       })
 
   -- and the seat that has got them
-  pub right_numbered : w ≡ view Worker v.heirs.first (other_half v.heirs) v.seen Nothing → IsNumbered Worker v → IsNumbered Worker w
+  pub right_numbered : w ≡ view Worker v.heirs.first (other_half v.heirs) v.seen Nothing → IsNumbered opening Worker v → IsNumbered opening Worker w
   right_numbered e n =
       let g = n.heirs in
       let above = g.above in
       let some = g.some in
       let unit : 2 ≤ v.by = n.caller in
-      subst (IsNumbered Worker) (sym e) (record {
+      subst (IsNumbered opening Worker) (sym e) (record {
         caller = omega arith;
         heirs = record { some = omega arith; above = omega arith; unborn = λ m i. g.unborn m (other_half_of v.heirs m i) };
       })
 
 -- its caller has done nothing
-pub born_now : (v : View) → IsNumbered Worker v → own v.heirs.first v.seen ≡ []
-born_now v n = n.heirs.unborn v.heirs.first (first_of v.heirs n.heirs.some)
+pub born_now : (opening : List Entry) (v : View) → IsNumbered opening Worker v → own v.heirs.first v.seen ≡ own v.heirs.first opening
+born_now opening v n = n.heirs.unborn v.heirs.first (first_of v.heirs n.heirs.some)
 
-pub born_apart : (v : View) → IsNumbered Worker v → v.heirs.first ≢ v.by
+pub born_apart : {opening : List Entry} (v : View) → IsNumbered opening Worker v → v.heirs.first ≢ v.by
 born_apart v n e = let above = n.heirs.above in omega arith
 
 -- All units, and the numbers at a split

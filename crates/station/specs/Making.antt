@@ -7,17 +7,20 @@ use Rattle.inorder.specs.Replies.{last_tag}
 use Rattle.ruu_words.specs.declared.rule.Heirs.{Heirs}
 use Rattle.ruu_words.specs.declared.rule.Setup.{Setup}
 use Rattle.ruu_words.specs.Places.{words_for}
+use Rattle.ruu_words.specs.Rule.{nobody}
 use Rattle.station.specs.Seats.{Caller, TheCore}
 
 -- The table is made for this program and these sizes
-pub record IsCore (words : ℕ) (key : Setup) (P : Program) (ring queue : ℕ) : Type 0 where
+pub record IsCore (words : ℕ) (key : Setup) (P : Program) (ring queue first_tag : ℕ) : Type 0 where
   pub wide : words ≡ words_for ring
   pub program : key.program ≡ P
   pub ring_is : key.ring ≡ ring
   pub queue_is : key.queue ≡ queue
+  pub first_tag_is : key.first_tag ≡ first_tag
   pub least : 2 ≤ ring
   pub most : ring ≤ 32
   pub from_one : 1 ≤ key.first_tag
+  pub below : key.first_tag < last_tag
   pub small : length P.code ≤ 16384
 
 -- A seat of this core that has seen nothing and woken nobody
@@ -33,6 +36,16 @@ first_unit = 2
 -- All numbers from 3 on, which the first unit's seat may give away
 abbrev pub other_units : Heirs
 other_units = record { first = 3; every = 1 }
+
+-- The first seat of a caller: it has seen what its core goes on from, and woken nobody
+abbrev pub first_seat : TheCore → ℕ → Heirs → Caller
+first_seat core by heirs = record { core = core; by = by; heirs = heirs; seen = core.opening; woken = 0 }
+
+-- The first seats of a core. Only the unit's may give numbers away, and all others are its
+pub record AreFirst (core : TheCore) (front_seat back_seat unit_seat : Caller) : Type 0 where
+  pub front_is : front_seat ≡ first_seat core front nobody
+  pub back_is : back_seat ≡ first_seat core back nobody
+  pub unit_is : unit_seat ≡ first_seat core first_unit other_units
 
 -- A core for this program and configuration, with its first seats
 pub record IsMade (P : Program) (config : Settings) (core : TheCore) (front_seat back_seat unit_seat : Caller) : Type 0 where

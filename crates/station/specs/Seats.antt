@@ -69,21 +69,21 @@ pub record IsSeated (P : Program) (C : Sizes) (role : Role) (by station : ℕ) (
   pub inside : station < C.ring
   pub knows : Knows P C role by station over me.0
 
--- It may give numbers away, all above its own, and their callers have done nothing
-pub record IsGiver (v : View) : Type 0 where
+-- It may give numbers away, all above its own, and their callers have done nothing since the opening
+pub record IsGiver (opening : List Entry) (v : View) : Type 0 where
   pub some : 1 ≤ v.heirs.every
   pub above : v.by < v.heirs.first
-  pub unborn : Unborn v
+  pub unborn : Unborn opening v
 
 -- A unit's seat may give numbers away, and no other seat may
-abbrev pub HasHeirs : Role → View → Type 0
-HasHeirs Worker v = IsGiver v
-HasHeirs Start v = ⊥
-HasHeirs Front v = v.heirs ≡ nobody
-HasHeirs Back v = v.heirs ≡ nobody
-HasHeirs Spent v = ⊥
+abbrev pub HasHeirs : List Entry → Role → View → Type 0
+HasHeirs opening Worker v = IsGiver opening v
+HasHeirs opening Start v = ⊥
+HasHeirs opening Front v = v.heirs ≡ nobody
+HasHeirs opening Back v = v.heirs ≡ nobody
+HasHeirs opening Spent v = ⊥
 
--- Its caller's number is one of its role
-pub record IsNumbered (role : Role) (v : View) : Type 0 where
+-- Its caller's number is one of its role, at a table with this opening
+pub record IsNumbered (opening : List Entry) (role : Role) (v : View) : Type 0 where
   pub caller : IsCaller role v.by
-  pub heirs : HasHeirs role v
+  pub heirs : HasHeirs opening role v

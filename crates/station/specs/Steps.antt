@@ -13,7 +13,7 @@ use Rattle.ruu_words.specs.declared.rule.Setup.{Setup}
 use Rattle.ruu_words.specs.declared.rule.View.{View}
 use Rattle.ruu_words.specs.Content.{Content, IsDraft}
 use Rattle.ruu_words.specs.Places.{words_for}
-use Rattle.ruu_words.specs.Rule.{Grows, IsCaller, sizes_of}
+use Rattle.ruu_words.specs.Rule.{Grows, IsCaller, Unborn, opening_of, sizes_of}
 
 -- The seat is at this table, which has the words of a ring of this size
 pub record IsAt (words : TableId) (key : Setup) (ring : ℕ) (seat : TableId) : Type 0 where
@@ -25,6 +25,7 @@ pub record IsAt (words : TableId) (key : Setup) (ring : ℕ) (seat : TableId) : 
 -- What a step tells, of the seat before and after it
 pub record Grown (key : Setup) (by : ℕ) (v w : Me ℕ View) (Kind : List Entry → Draft → List Event → Type 0) : Type 0 where
   pub grows : Grows key.program (sizes_of key) by v.0 w.0 Kind
+  pub unborn : Unborn (opening_of key) w.0
   pub slots : w.1 ≡ v.1
 
 -- A word as it is at its point, with the let in progress there, which is the front's own

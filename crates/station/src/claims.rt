@@ -5,7 +5,7 @@ ghost use Rattle.inorder.specs.declared.history.Source.TheVariants.{Second};
 ghost use Rattle.inorder.specs.History.{IsLegal};
 ghost use Rattle.inorder.specs.Tenants.{needs};
 ghost use Rattle.ruu_words.specs.declared.rule.Role.TheVariants.{Worker};
-ghost use Rattle.ruu_words.specs.Rule.{Unborn, sizes_of};
+ghost use Rattle.ruu_words.specs.Rule.{Unborn, opening_of, sizes_of};
 ghost use Rattle.station.specs.Claiming.{ClaimAnswers, HasSeen, IsNext, IsOpenAs, SourceAnswers, SourceSays};
 ghost use Rattle.station.specs.Seats.{IsSame};
 ghost use Rattle.station.specs.Steps.{IsAt};
@@ -65,10 +65,10 @@ fn needed_source(
     requires legal { IsLegal words.now.key.program (sizes_of words.now.key) seat.old.me.0.seen }
     requires role { seat.old.me.0.role ≡ Worker }
     requires seen { HasSeen words.now.key.program (sizes_of words.now.key) seat.old.me.0.seen station tag (λ t. needed ≡ true → IsNext words.now.key.program k t) }
-    requires unborn { Unborn seat.old.me.0 }
+    requires unborn { Unborn (opening_of words.now.key) seat.old.me.0 }
     ensures same { (seat.new.table_id ≡ seat.old.table_id) × (seat.new.me.0.by ≡ seat.old.me.0.by) }
     ensures heirs { seat.new.me.0.heirs ≡ seat.old.me.0.heirs }
-    ensures unborn { Unborn seat.new.me.0 }
+    ensures unborn { Unborn (opening_of words.now.key) seat.new.me.0 }
     ensures slots { seat.new.me.1 ≡ seat.old.me.1 }
     ensures role { seat.new.me.0.role ≡ Worker }
     ensures answer { SourceAnswers words.now.key.program (sizes_of words.now.key) seat.old.me.0.by seat.old.me.0.seen seat.new.me.0.seen station tag k needed result }
@@ -96,10 +96,10 @@ fn claim_open(
     requires legal { IsLegal words.now.key.program (sizes_of words.now.key) seat.old.me.0.seen }
     requires role { seat.old.me.0.role ≡ Worker }
     requires was_open { HasSeen words.now.key.program (sizes_of words.now.key) seat.old.me.0.seen station tag (IsOpenAs info.half info.index info.predicted) }
-    requires unborn { Unborn seat.old.me.0 }
+    requires unborn { Unborn (opening_of words.now.key) seat.old.me.0 }
     ensures same { (seat.new.table_id ≡ seat.old.table_id) × (seat.new.me.0.by ≡ seat.old.me.0.by) }
     ensures heirs { seat.new.me.0.heirs ≡ seat.old.me.0.heirs }
-    ensures unborn { Unborn seat.new.me.0 }
+    ensures unborn { Unborn (opening_of words.now.key) seat.new.me.0 }
     ensures slots { seat.new.me.1 ≡ seat.old.me.1 }
     ensures role { seat.new.me.0.role ≡ Worker }
     ensures reply { ClaimAnswers words.now.key.program (sizes_of words.now.key) seat.old.me.0.by seat.old.me.0.seen seat.new.me.0.seen station result }
@@ -153,7 +153,7 @@ fn claim_at(
     requires role { seat.old.me.0.role ≡ Worker }
     ensures same { (seat.new.table_id ≡ seat.old.table_id) × (seat.new.me.0.by ≡ seat.old.me.0.by) }
     ensures heirs { seat.new.me.0.heirs ≡ seat.old.me.0.heirs }
-    ensures unborn { Unborn seat.new.me.0 }
+    ensures unborn { Unborn (opening_of words.now.key) seat.new.me.0 }
     ensures slots { seat.new.me.1 ≡ seat.old.me.1 }
     ensures role { seat.new.me.0.role ≡ Worker }
     ensures reply { ClaimAnswers words.now.key.program (sizes_of words.now.key) seat.old.me.0.by seat.old.me.0.seen seat.new.me.0.seen station result }

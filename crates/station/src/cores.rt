@@ -1,27 +1,31 @@
 //! Cores.
-ghost use Rattle.std.specs.Prelude.{◌≡◌, ◌≤◌, ◌<◌, IfOk, length};
+ghost use Rattle.std.specs.Prelude.{◌≡◌, ◌≤◌, ◌<◌, [], IfOk};
 ghost use Rattle.ruu_words.specs.Fields.{tag_count};
 ghost use Rattle.ruu_words.specs.Places.{words_for};
-ghost use Rattle.ruu_words.specs.Rule.{IsStart, sizes_of};
-ghost use Rattle.station.specs.Making.{IsMade, IsSetup};
+ghost use Rattle.ruu_words.specs.Rule.{IsOpening, IsStart, first_view, opening_of, sizes_of};
+ghost use Rattle.station.specs.Making.{AreFirst, IsCore, IsMade, IsSetup};
 ghost use Rattle.station.specs.Seats.{core_of};
 
 use crate::seat::{BackSeat, FrontSeat, SeatOf, UnitSeat};
-use atomic_table::{Badge, Split, Table};
+use atomic_table::{Badge, Seat, Split, Table};
 use isa::{Config, Memory, Program};
 use ruu_words::rule::{OneHistory, Setup, View};
 use ruu_words::{StationState, StationWord, word_count};
 use std::alloc::Global;
 use std::marker::Model;
 
+// The table of a core, whose slots hold nothing.
+pub(crate) type Stations = Table<u8, View, Setup, OneHistory, Global>;
+
 /// The shared words of one unit, and a copy of its program.
 /// The words are those of a register update unit (Sohi): reservation stations in a ring, and links.
 #[derive(Drop)]
 pub struct Core {
-    pub(crate) table: Table<u8, View, Setup, OneHistory, Global>,
+    pub(crate) table: Stations,
     pub(crate) program: Program,
     pub(crate) ring: usize,
     pub(crate) queue: usize,
+    pub(crate) first_tag: u32,
 }
 
 impl Model for Core {
@@ -32,7 +36,7 @@ impl Model for Core {
 
     ghost view = { λ c. core_of c.table.shared.table_id c.table.shared.key };
 
-    ghost invariant = { λ c. IsCore c.table.shared.table_id.words c.table.shared.key c.program c.ring c.queue };
+    ghost invariant = { λ c. IsCore c.table.shared.table_id.words c.table.shared.key c.program c.ring c.queue c.first_tag };
 }
 
 // The first seat becomes the front's, and the back's is new.
@@ -98,6 +102,23 @@ fn first_words(alloc: Global, setup: &Setup) -> Result<Vec<u64>, Memory>
     Ok(words)
 }
 
+// A table of first words, which opens with what the setup has.
+pub(crate) fn first_table(
+    alloc: Global,
+    setup: &Setup,
+) -> Result<(Stations, Seat<u8, View>), Memory>
+    requires opening { IsOpening setup.now.program (sizes_of setup.now) (opening_of setup.now) }
+    requires ring { setup.now.ring ≤ 32 }
+    requires tag { setup.now.first_tag < tag_count }
+    ensures wide { IfOk result (λ t. t.0.shared.table_id.words ≡ words_for setup.now.ring) }
+    ensures key { IfOk result (λ t. t.0.shared.key ≡ setup.now) }
+    ensures seat { IfOk result (λ t. t.1.table_id ≡ t.0.shared.table_id) }
+    ensures view { IfOk result (λ t. t.1.me ≡ (first_view setup.now, [])) }
+{
+    let words = first_words(alloc, setup)?;
+    Ok(Table::of_words(alloc, words.as_slice(), setup)?)
+}
+
 impl Core {
     /// A core for this program, with the front's seat, the back's and a unit's. None has seen anything.
     pub fn make(
@@ -108,40 +129,77 @@ impl Core {
         ensures { IfOk result (λ t. IsMade program.now config.now t.0 t.1 t.2 t.3) }
     {
         let setup = setup_of(alloc, program, config)?;
-        let words = first_words(alloc, &setup)?;
-        let (table, mut first) = Table::of_words(alloc, words.as_slice(), &setup)?;
+        let (table, first) = first_table(alloc, &setup)?;
+        Ok(Core::deal(table, first, setup))
+    }
+
+    // The core of a new table, and its first seats.
+    pub(crate) fn deal(
+        table: Stations,
+        mut first: Seat<u8, View>,
+        setup: Setup,
+    ) -> (Core, FrontSeat, BackSeat, UnitSeat)
+        requires core { IsCore table.shared.table_id.words setup setup.program setup.ring setup.queue setup.first_tag }
+        requires opening { IsOpening setup.program (sizes_of setup) (opening_of setup) }
+        requires key { table.shared.key ≡ setup }
+        requires seat { first.table_id ≡ table.shared.table_id }
+        requires view { first.me ≡ (first_view setup, []) }
+        ensures core { result.0 ≡ core_of table.shared.table_id setup }
+        ensures seats { AreFirst result.0 result.1 result.2 result.3 }
+    {
         let back = table.shared.split_seat::<BackCut>(&mut first);
         let unit = table.shared.split_seat::<FirstCut>(&mut first);
         let front_seat = SeatOf::first_seat(first, &table.shared);
         let back_seat = SeatOf::first_seat(back, &table.shared);
         let unit_seat = SeatOf::first_seat(unit, &table.shared);
-        let core = Core::of(table, setup);
-        Ok((core, front_seat, back_seat, unit_seat))
+        let (core, _opening) = Core::of(table, setup);
+        (core, front_seat, back_seat, unit_seat)
     }
 
-    // A table's setup cannot be shared by threads, and its parts can.
-    fn of(table: Table<u8, View, Setup, OneHistory, Global>, setup: Setup) -> Core
-        requires wide { table.shared.table_id.words ≡ words_for setup.ring }
-        requires key { table.shared.key ≡ setup }
-        requires least { 2 ≤ setup.ring }
-        requires most { setup.ring ≤ 32 }
-        requires from_one { 1 ≤ setup.first_tag }
-        requires small { length setup.program.code ≤ 16384 }
-        ensures { result ≡ core_of table.shared.table_id setup }
+    // A table's setup cannot be shared by threads, and its parts can. What it opens with is left over.
+    pub(crate) fn of(table: Stations, setup: Setup) -> (Core, Badge<View>)
+        requires { IsCore table.shared.table_id.words table.shared.key setup.program setup.ring setup.queue setup.first_tag }
+        ensures core { result.0 ≡ core_of table.shared.table_id table.shared.key }
+        ensures opening { result.1 ≡ setup.opening }
     {
         let Setup {
             program,
             ring,
             queue,
-            first_tag: _,
-            opening: _,
+            first_tag,
+            opening,
         } = setup;
-        Core {
+        let core = Core {
             table,
             program,
             ring,
             queue,
-        }
+            first_tag,
+        };
+        (core, opening)
+    }
+
+    // Its table, and the setup of one that opens with this.
+    pub(crate) fn apart(self, badge: Badge<View>) -> (Stations, Setup)
+        ensures core { self ≡ core_of result.0.shared.table_id result.0.shared.key }
+        ensures kept { IsCore result.0.shared.table_id.words result.0.shared.key result.1.program result.1.ring result.1.queue result.1.first_tag }
+        ensures opening { result.1.opening ≡ badge }
+    {
+        let Core {
+            table,
+            program,
+            ring,
+            queue,
+            first_tag,
+        } = self;
+        let setup = Setup {
+            program,
+            ring,
+            queue,
+            first_tag,
+            opening: badge,
+        };
+        (table, setup)
     }
 
     /// How many reservation stations there are.

@@ -1,10 +1,11 @@
 //! What stays true between calls. Each function is a law: it does nothing, and its contract is proved.
-ghost use Rattle.std.specs.Prelude.{◌≡◌, ℕ, []};
+ghost use Rattle.std.specs.Prelude.{◌≡◌, ℕ};
 ghost use Rattle.inorder.specs.History.{IsLegal, own};
 ghost use Rattle.ruu_words.specs.Rule.{IsCaller, IsHeir};
 ghost use Rattle.station.specs.Finishing.{ClaimedAreInFlight, JobsAreFinished, JobsStayInFlight};
 ghost use Rattle.station.specs.Following.{LetsAreAsked, MissesAreRecovered, MissesStaySeen, MissesStaySquashing, QuestionsLeaveOthers};
 ghost use Rattle.station.specs.Laws.{BacksStay, FrontsStay, JobsAreOfTheProgram, JobsEndAtARenewal, JobsStay, JobsStayClaiming, JobsStayFinishing, JobsStaySeen};
+ghost use Rattle.station.specs.Renewals.{EmptyCoresMayBeRenewed, NoStopStays, NobodyStays};
 ghost use Rattle.station.specs.Quiet.{ClaimsGiveJobs, LetsAreOut, ReadyTenantsStay, SplitsShareNumbers, UnitsAreNumbered};
 
 use crate::seat::{Part, SeatOf, UnitSeat};
@@ -20,6 +21,14 @@ pub fn jobs_stay()
 /// A job of before a renewal is held by nobody behind it.
 pub fn a_job_ends_at_a_renewal()
     ensures { JobsEndAtARenewal }
+{}
+
+/// Where the front has seen that nobody is live, and the back that no stop has retired, that stays so
+/// while the two only look and meet, and a renewal is allowed behind what both have then seen.
+pub fn an_empty_core_may_be_renewed()
+    ensures nobody { NobodyStays }
+    ensures no_stop { NoStopStays }
+    ensures may { EmptyCoresMayBeRenewed }
 {}
 
 /// What the front and the back might do they still may, where they have only looked and met since.
@@ -42,10 +51,11 @@ pub fn a_number_is_of_its_part<P: Part>(seat: &SeatOf<P>)
     let _over = seat.over;
 }
 
-/// Who has no seat has done nothing: a unit's number is given by `make` or by `split`, and those that
-/// a seat may still give away have no entry in what its caller has seen.
+/// Who has no seat has done nothing: a unit's number is given by `make`, `renew` or `split`, and those
+/// that a seat may still give away have no entry, behind that with which the core opened, in what its
+/// caller has seen.
 pub fn no_seat_no_entry(seat: &UnitSeat)
-    ensures { (n : ℕ) → IsHeir seat.now.heirs n → own n seat.now.seen ≡ [] }
+    ensures { (n : ℕ) → IsHeir seat.now.heirs n → own n seat.now.seen ≡ own n seat.now.core.opening }
 {
     let _over = seat.over;
 }

@@ -1,5 +1,6 @@
 //! The words that callers share, their seats, and every call on them. Each step is one load, store,
-//! swap or compare-exchange of one word; no call waits, and none but `Core::make` takes memory.
+//! swap or compare-exchange of one word; no call waits, and only `Core::make` and `Core::renew` take
+//! memory.
 //! The words are reservation stations with tags (Tomasulo 1967) in one ring, let and released in
 //! program order: Sohi's register update unit, as in SimpleScalar's sim-outorder.
 #![tactic(auto)]
@@ -12,6 +13,7 @@ mod laws;
 mod look;
 mod meet;
 mod recovery;
+mod renewal;
 mod results;
 mod retirement;
 mod seat;
@@ -29,8 +31,8 @@ pub use inorder::history::Source;
 pub use laws::{
     a_job_ends_at_a_renewal, a_job_is_finished, a_job_is_of_the_program, a_let_can_be_asked,
     a_let_is_out, a_number_is_of_its_part, a_question_leaves_the_other, a_ready_tenant_is_claimed,
-    a_ready_tenant_stays, a_squash_goes_on, jobs_stay, mays_stay, no_seat_no_entry,
-    numbers_are_given_once, what_is_seen_is_legal,
+    a_ready_tenant_stays, a_squash_goes_on, an_empty_core_may_be_renewed, jobs_stay, mays_stay,
+    no_seat_no_entry, numbers_are_given_once, what_is_seen_is_legal,
 };
 pub use ruu_words::StationState;
 pub use seat::{BackSeat, FrontSeat, Part, SeatOf, UnitSeat, Writer};

@@ -54,7 +54,7 @@ impl Split<View> for UnitCut {
 
 impl Core {
     /// Two unit seats that have both seen what this one had seen. The first is the same caller's, and
-    /// the second that of a caller who has done nothing.
+    /// the second that of a caller who has done nothing at this core.
     pub fn split(&self, mut seat: UnitSeat) -> (UnitSeat, UnitSeat)
         requires core { seat.core ≡ self.now }
         ensures first { result.0 ≡ record seat { heirs = half seat.heirs; woken = 0 } }
@@ -63,7 +63,7 @@ impl Core {
         ensures number { result.1.by ≡ seat.heirs.first }
         ensures heirs { result.1.heirs ≡ other_half seat.heirs }
         ensures other { result.1.by ≢ result.0.by }
-        ensures fresh { own result.1.by result.1.seen ≡ [] }
+        ensures fresh { own result.1.by result.1.seen ≡ own result.1.by self.now.opening }
         ensures woken { result.1.woken ≡ 0 }
     {
         let other = self.table.shared.split_seat::<UnitCut>(&mut seat.seat);
@@ -80,7 +80,7 @@ impl Core {
     }
 
     // The second caller learns what the first has seen.
-    fn tell<P: Part, Q: Part>(&self, from: &mut SeatOf<P>, to: &mut SeatOf<Q>)
+    pub(crate) fn tell<P: Part, Q: Part>(&self, from: &mut SeatOf<P>, to: &mut SeatOf<Q>)
         requires from { from.old.core ≡ self.now }
         requires to { to.old.core ≡ self.now }
         ensures from { from.new ≡ from.old }

@@ -59,7 +59,7 @@ pub struct SeatOf<P: Part> {
 }
 
 impl<P: Part> Model for SeatOf<P> {
-    ghost use Rattle.ruu_words.specs.Rule.{sizes_of};
+    ghost use Rattle.ruu_words.specs.Rule.{opening_of, sizes_of};
     ghost use Rattle.station.specs.Seats.{Caller, IsNumbered, IsSeated, core_of};
 
     ghost Value = { Caller };
@@ -73,18 +73,18 @@ impl<P: Part> Model for SeatOf<P> {
           woken = s.woken;
         } };
 
-    ghost invariant = { λ s. IsSeated s.words.value.key.program (sizes_of s.words.value.key) P.role s.seat.me.0.by s.station s.over s.seat.me × IsNumbered P.role s.seat.me.0 };
+    ghost invariant = { λ s. IsSeated s.words.value.key.program (sizes_of s.words.value.key) P.role s.seat.me.0.by s.station s.over s.seat.me × IsNumbered (opening_of s.words.value.key) P.role s.seat.me.0 };
 }
 
 impl<P: Part> SeatOf<P> {
     ghost use Rattle.std.specs.Prelude.{◌≡◌, false};
-    ghost use Rattle.ruu_words.specs.Rule.{sizes_of};
+    ghost use Rattle.ruu_words.specs.Rule.{opening_of, sizes_of};
     ghost use Rattle.station.specs.Seats.{IsNumbered, IsSeated, core_of};
 
     // A seat at a core where nothing was done yet.
     pub(crate) fn first_seat(seat: Seat<u8, View>, words: &Words) -> SeatOf<P>
         requires seated { IsSeated words.now.key.program (sizes_of words.now.key) P.role seat.me.0.by 0 false seat.me }
-        requires numbered { IsNumbered P.role seat.me.0 }
+        requires numbered { IsNumbered (opening_of words.now.key) P.role seat.me.0 }
         ensures { result ≡
             record {
               core = core_of seat.table_id words.now.key;

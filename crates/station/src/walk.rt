@@ -1,7 +1,7 @@
 //! A value is carried along the links of its station.
 ghost use Rattle.std.specs.Prelude.{◌≡◌, ◌<◌, ◌≤◌, true};
 ghost use Rattle.inorder.specs.History.{IsLegal};
-ghost use Rattle.ruu_words.specs.Rule.{Unborn, sizes_of};
+ghost use Rattle.ruu_words.specs.Rule.{Unborn, opening_of, sizes_of};
 ghost use Rattle.station.specs.Carrying.{HasCarried, HasMadeOf, HasValueOf, HasWalked, IsServing, IsWriter, OfTenant};
 ghost use Rattle.station.specs.Steps.{IsAt};
 ghost use Rattle.station.specs.Waking.{IsSet, IsWith, Wakes};
@@ -80,7 +80,7 @@ pub(crate) fn walk(
     requires made { HasValueOf words.now.key.program (sizes_of words.now.key) seat.old.me.0.seen from.0 from.1 value }
     ensures same { (seat.new.table_id ≡ seat.old.table_id) × (seat.new.me.0.by ≡ seat.old.me.0.by) }
     ensures heirs { seat.new.me.0.heirs ≡ seat.old.me.0.heirs }
-    ensures unborn { Unborn seat.new.me.0 }
+    ensures unborn { Unborn (opening_of words.now.key) seat.new.me.0 }
     ensures slots { seat.new.me.1 ≡ seat.old.me.1 }
     ensures role { seat.new.me.0.role ≡ seat.old.me.0.role }
     ensures walked { OfTenant words.now.key.program (sizes_of words.now.key) seat.old.me.0.seen from.0 from.1 (λ q. HasWalked words.now.key.program (sizes_of words.now.key) seat.old.me.0.by q seat.old.me.0.seen seat.new.me.0.seen) }
@@ -111,10 +111,10 @@ pub(crate) fn carry(
     requires writer { IsWriter seat.old.me.0.role }
     requires legal { IsLegal words.now.key.program (sizes_of words.now.key) seat.old.me.0.seen }
     requires made { HasMadeOf words.now.key.program (sizes_of words.now.key) seat.old.me.0.seen from.0 from.1 outcome }
-    requires unborn { Unborn seat.old.me.0 }
+    requires unborn { Unborn (opening_of words.now.key) seat.old.me.0 }
     ensures same { (seat.new.table_id ≡ seat.old.table_id) × (seat.new.me.0.by ≡ seat.old.me.0.by) }
     ensures heirs { seat.new.me.0.heirs ≡ seat.old.me.0.heirs }
-    ensures unborn { Unborn seat.new.me.0 }
+    ensures unborn { Unborn (opening_of words.now.key) seat.new.me.0 }
     ensures slots { seat.new.me.1 ≡ seat.old.me.1 }
     ensures role { seat.new.me.0.role ≡ seat.old.me.0.role }
     ensures carried { OfTenant words.now.key.program (sizes_of words.now.key) seat.old.me.0.seen from.0 from.1 (λ q. HasCarried words.now.key.program (sizes_of words.now.key) seat.old.me.0.by q outcome seat.old.me.0.seen seat.new.me.0.seen) }

@@ -2,7 +2,7 @@
 ghost use Rattle.std.specs.Prelude.{◌≡◌, ◌<◌, ◌≤◌};
 ghost use Rattle.inorder.specs.History.{IsLegal};
 ghost use Rattle.ruu_words.specs.declared.rule.Role.TheVariants.{Back, Worker};
-ghost use Rattle.ruu_words.specs.Rule.{Unborn, sizes_of};
+ghost use Rattle.ruu_words.specs.Rule.{Unborn, opening_of, sizes_of};
 ghost use Rattle.station.specs.Claiming.{Holds};
 ghost use Rattle.station.specs.Seats.{IsSame};
 ghost use Rattle.station.specs.Steps.{IsAt};
@@ -37,7 +37,7 @@ fn finish_job(
     requires outcome { outcome ≡ outcome_of words.now.key.program job }
     ensures same { (seat.new.table_id ≡ seat.old.table_id) × (seat.new.me.0.by ≡ seat.old.me.0.by) }
     ensures heirs { seat.new.me.0.heirs ≡ seat.old.me.0.heirs }
-    ensures unborn { Unborn seat.new.me.0 }
+    ensures unborn { Unborn (opening_of words.now.key) seat.new.me.0 }
     ensures slots { seat.new.me.1 ≡ seat.old.me.1 }
     ensures role { seat.new.me.0.role ≡ Worker }
     ensures legal { IsLegal words.now.key.program (sizes_of words.now.key) seat.new.me.0.seen }

@@ -1,3 +1,6 @@
+use Rattle.std.proofs.Common.{ap, ◌∙◌}
+use Rattle.inorder.specs.History.{own}
+use Rattle.station.specs.Seats.{TheCore}
 use Rattle.driving.proofs.Gathered.{later, later_on}
 use Rattle.driving.proofs.Histories.{starts_on}
 use Rattle.driving.proofs.seats.gather.Goals as goal
@@ -12,6 +15,8 @@ returns-clause-met c =
     let a = c.meet.ensures in
     let b = c.meet-2.ensures in
     let d = c.meet-3.ensures in
+    let one_core = d.other_kept.core ∙ (b.other_kept.core ∙ (a.other_kept.core ∙ c.requires.one_core)) in
+    let other_core = d.one_kept.core ∙ c.requires.other_core in
     let begins = starts_on one.seen two.seen three.seen b.other_history.begins d.other_history.begins in
     record {
       front = later core s.front c.meet.new.one a.one_kept a.one_heirs a.one_history;
@@ -25,6 +30,6 @@ returns-clause-met c =
       to_front = a.one_told;
       to_back = starts_on s.one.seen one.seen c.meet-2.new.one.seen a.other_history.begins b.one_told;
       to_other = starts_on s.one.seen two.seen c.meet-3.new.one.seen (starts_on s.one.seen one.seen two.seen a.other_history.begins b.other_history.begins) d.one_told;
-      no_more_of_one = c.no_seat_no_entry.ensures;
-      no_more_of_other = c.no_seat_no_entry-2.ensures;
+      no_more_of_one = λ n h. c.no_seat_no_entry.ensures n h ∙ ap (own n) (ap (λ (z : TheCore). z.opening) one_core ∙ c.requires.opening);
+      no_more_of_other = λ n h. c.no_seat_no_entry-2.ensures n h ∙ ap (own n) (ap (λ (z : TheCore). z.opening) other_core ∙ c.requires.opening);
     }

@@ -1,5 +1,5 @@
 use Rattle.std.proofs.Common.{◌≡◌, sym, ap, ◌∙◌, subst, arith}
-use Rattle.inorder.specs.History.{IsUnit}
+use Rattle.inorder.specs.History.{IsUnit, own}
 use Rattle.ruu_words.specs.declared.rule.Heirs.{Heirs}
 use Rattle.ruu_words.specs.Rule.{half, other_half}
 use Rattle.station.specs.Making.{first_unit, other_units}
@@ -23,6 +23,7 @@ returns c =
       program = m.program;
       sizes = m.sizes;
       all = record {
+        opening = m.opening;
         front_core = m.front_is.core_is;
         back_core = m.back_is.core_is;
         one_core = ap (λ (v : Caller). v.core) s.first ∙ m.unit_is.core_is;
@@ -38,5 +39,5 @@ returns c =
       back_seen = m.back_is.seen;
       one_seen = ap (λ (v : Caller). v.seen) s.first ∙ m.unit_is.seen;
       other_seen = s.history ∙ m.unit_is.seen;
-      fresh = s.fresh;
+      fresh = s.fresh ∙ ap (own seats.other.by) m.opening;
     }

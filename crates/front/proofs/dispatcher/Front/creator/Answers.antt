@@ -1,7 +1,6 @@
 use Rattle.std.proofs.Common.{◌≡◌, ◌<◌, Some, None, sym, subst}
 use Rattle.std.specs.Prelude.{slice_index}
 use Rattle.inorder.specs.History.{unit_of}
-use Rattle.inorder.proofs.Recent.{none_old}
 use Rattle.front.specs.Path.{told_of}
 use Rattle.front.specs.CreateTable.{Finds}
 use Rattle.front.specs.Creating.{IsCreator}
@@ -18,7 +17,7 @@ returns-in-Some g c =
     let small : c.args.r < 34 = subst (λ z. z < 34) c.number-at.ensures.value c.number-at.ensures.small in
     let found : Finds f.creators.counted.table c.args.r (Some c.in-Some.creator) = subst (Finds f.creators.counted.table c.args.r) c.in-Some.is c.peek.ensures in
     subst (λ (z : TheFront g.row.P.Denot). IsCreator z.core.program (unit_of z.core.program z.core.sizes z.seen) z.told c.args.r (IsMade c.in-Some.creator.station c.in-Some.creator.tag)) c.self.view_is
-    (made P C (unit_of P C f.seat.seen) f.path.records f.path.base c.self.invariant.knows f.creators.counted.table c.self.invariant.table c.args.r small (none_old P C f.seat.seen c.self.invariant.legal) c.in-Some.creator found)
+    (made P C (unit_of P C f.seat.seen) f.path.records f.path.base c.self.invariant.knows f.creators.counted.table c.self.invariant.table c.args.r small c.in-Some.creator found)
 
 pub returns-in-None : goal.returns-in-None
 returns-in-None g c =

@@ -1,12 +1,12 @@
 use Rattle.std.proofs.Common.{ℕ, [], sym, ap, ◌∙◌, subst}
 use Rattle.inorder.specs.History.{Adds}
 use Rattle.ruu_words.specs.declared.rule.Role.{Role}
-use Rattle.ruu_words.specs.Rule.{IsCaller, sizes_of}
+use Rattle.ruu_words.specs.Rule.{IsCaller, Unborn, opening_of, sizes_of}
 use Rattle.station.specs.Seats.{Caller, IsSeated}
 use Rattle.station.specs.Steps.{Sees}
 use Rattle.station.proofs.Adding.{adds_these}
 use Rattle.station.proofs.Numbers.{numbered_on}
-use Rattle.station.proofs.SameUnit.{Unit_of, of_seat, of_table, unit_at}
+use Rattle.station.proofs.SameUnit.{Unit_of, of_seat, of_table, same_opening, unit_at}
 use Rattle.station.proofs.Seated.{seated_at}
 use Rattle.station.proofs.cores.Core.read.Goals as goal
 
@@ -15,10 +15,12 @@ invariant_of-seat g c =
     let key = c.self.inside.table.shared.key in
     let s = c.seat.inside.seat in
     let table = of_table key _ c.args.self.now c.self.view_is in
-    let seat = of_seat _ c.seat.inside.words.value.key _ _ _ c.args.seat.now c.args.self.now c.seat.view_is c.requires.core in (
+    let value = c.seat.inside.words.value.key in
+    let seat = of_seat _ c.seat.inside.words.value.key _ _ _ c.args.seat.now c.args.self.now c.seat.view_is c.requires.core in
+    let opening = same_opening _ _ value key _ _ _ c.args.seat.now c.args.self.now c.seat.view_is c.requires.core c.self.view_is in (
       subst (λ i. IsSeated c.seat.inside.words.value.key.program (sizes_of c.seat.inside.words.value.key) g.P.Part.role i c.seat.inside.station c.seat.inside.over c.look.new.seat.me) (sym c.look.ensures.same.1)
           (seated_at (unit_at c.seat.inside.words.value.key) key g.P.Part.role s.me.0.by c.seat.inside.station c.seat.inside.over s.me c.look.new.seat.me c.args.place c.look.result (seat ∙ sym table) c.seat.invariant.0 c.look.ensures.step),
-      numbered_on g.P.Part.role s.me.0 c.look.new.seat.me.0 c.look.ensures.same.1 c.look.ensures.heirs c.look.ensures.step.grows.unborn c.seat.invariant.1,
+      numbered_on (opening_of value) g.P.Part.role s.me.0 c.look.new.seat.me.0 c.look.ensures.same.1 c.look.ensures.heirs (subst (λ o. Unborn o c.look.new.seat.me.0) (sym opening) c.look.ensures.step.unborn) c.seat.invariant.1,
     )
 
 pub returns-clause-history : goal.returns-clause-history

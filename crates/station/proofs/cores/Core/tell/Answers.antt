@@ -4,12 +4,12 @@ use Rattle.inorder.specs.declared.history.Entry.{Entry}
 use Rattle.inorder.specs.History.{Adds}
 use Rattle.ruu_words.specs.declared.rule.View.{View}
 use Rattle.ruu_words.specs.declared.place.Place.TheVariants.{Station}
-use Rattle.ruu_words.specs.Rule.{opening_of, sizes_of}
+use Rattle.ruu_words.specs.Rule.{Unborn, opening_of, sizes_of}
 use Rattle.ruu_words.proofs.Views.{joins, splits_note}
 use Rattle.station.specs.Seats.{IsSeated}
 use Rattle.station.specs.Steps.{Sees}
 use Rattle.station.proofs.Adding.{adds_these}
-use Rattle.station.proofs.SameUnit.{Unit_of, not_empty, of_seat, of_table, unit_at}
+use Rattle.station.proofs.SameUnit.{Unit_of, not_empty, of_seat, of_table, same_opening, unit_at}
 use Rattle.station.proofs.Numbers.{numbered_on}
 use Rattle.station.proofs.Seated.{informed_seated, is_alive, seated_at}
 use Rattle.station.proofs.cores.Core.tell.Goals as goal
@@ -41,11 +41,12 @@ invariant_of-to g c =
     let value = c.to.inside.words.value.key in
     let table = of_table key _ c.args.self.now c.self.view_is in
     let seat = of_seat _ value _ _ _ c.args.to.now c.args.self.now c.to.view_is c.requires.to in
+    let opening = same_opening _ _ value key _ _ _ c.args.to.now c.args.self.now c.to.view_is c.requires.to c.self.view_is in
     let told = informed_seated value.program (sizes_of value) g.Q.Part.role s.me.0.by c.to.inside.station c.to.inside.over s.me c.split_seat-note.result.me.0 c.to.invariant.0 in
     let joined : IsSeated value.program (sizes_of value) g.Q.Part.role mid.me.0.by c.to.inside.station c.to.inside.over mid.me = subst (λ (m : Me ℕ View). IsSeated value.program (sizes_of value) g.Q.Part.role m.0.by c.to.inside.station c.to.inside.over m) (sym c.join_seat.ensures.2) told in (
       subst (λ i. IsSeated value.program (sizes_of value) g.Q.Part.role i c.to.inside.station c.to.inside.over c.look.new.seat.me) (sym c.look.ensures.same.1)
           (seated_at (unit_at value) key g.Q.Part.role mid.me.0.by c.to.inside.station c.to.inside.over mid.me c.look.new.seat.me (Station 0) c.look.result (seat ∙ sym table) joined c.look.ensures.step),
-      numbered_on g.Q.Part.role s.me.0 c.look.new.seat.me.0 (c.look.ensures.same.1 ∙ ap (λ m. m.0.by) c.join_seat.ensures.2) (c.look.ensures.heirs ∙ ap (λ m. m.0.heirs) c.join_seat.ensures.2) c.look.ensures.step.grows.unborn c.to.invariant.1,
+      numbered_on (opening_of value) g.Q.Part.role s.me.0 c.look.new.seat.me.0 (c.look.ensures.same.1 ∙ ap (λ m. m.0.by) c.join_seat.ensures.2) (c.look.ensures.heirs ∙ ap (λ m. m.0.heirs) c.join_seat.ensures.2) (subst (λ o. Unborn o c.look.new.seat.me.0) (sym opening) c.look.ensures.step.unborn) c.to.invariant.1,
     )
 
 pub returns-clause-history : goal.returns-clause-history
