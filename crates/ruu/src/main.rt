@@ -7,6 +7,7 @@ ghost use Rattle.requests.specs.Statuses.{status_of};
 
 mod by_hand;
 mod teller;
+mod watching;
 
 use command::{Asked, Line, NoRun, Request, Went, check, go, is_standard_input, requested, status};
 use devices::Counted;
@@ -18,6 +19,7 @@ use std::process::ExitCode;
 use std::sync::Wait;
 use std::thread::Threads;
 use teller::Teller;
+use watching::watch;
 
 fn main(rt: HostRuntime) -> ExitCode {
     let words = match words(&rt) {
@@ -25,6 +27,7 @@ fn main(rt: HostRuntime) -> ExitCode {
         Err(no_run) => return refuse(&rt, &no_run),
     };
     match requested(rt.alloc(), words.as_slice()) {
+        Ok(Request::Run(asked)) if asked.watch.is_wanted() => watch(&rt, &asked),
         Ok(Request::Run(asked)) => run(&rt, &rt, &asked),
         Ok(Request::Check(file)) => check_file(&rt, file),
         Ok(Request::Drive(hand)) => end(&rt, by_hand::drive(&rt, &rt, &hand)),
