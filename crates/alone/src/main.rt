@@ -6,7 +6,7 @@ ghost use Rattle.std.specs.Process.{exit_status};
 ghost use Rattle.alone.specs.Statuses.{status_of};
 
 use bench::{Counted, Fault, Status, alone};
-use isa::{Config, NotTaken};
+use instructions::{Config, NotTaken};
 use std::process::ExitCode;
 
 /// Ring 16, queue 8, one seat, one place, first tag 1, and 1,000,000 instructions at most.

@@ -1,9 +1,9 @@
 -- The answer to a load, at the end of the search.
 use Rattle.std.proofs.Common.{◌≡◌, ◌⊎◌, ℕ, ◌<◌, true, List, [], ◌∷◌, length, Option, Some, None, refl, sym, ap, ◌∙◌, subst, inl, inr, ⊎_elim, arith}
 use Rattle.std.specs.Prelude.{slice_index}
-use Rattle.isa.specs.Instruction.{width}
-use Rattle.isa.specs.Operations.{loaded}
-use Rattle.isa.specs.Programs.{Program}
+use Rattle.instructions.specs.Instruction.{width}
+use Rattle.instructions.specs.Operations.{loaded}
+use Rattle.instructions.specs.Programs.{Program}
 use Rattle.lsq.specs.Bytes.{little_endian}
 use Rattle.lsq.specs.declared.answer.Answer.TheVariants.{Forward}
 use Rattle.lsq.specs.declared.entry.Entry.{Entry as QueueEntry}

@@ -1,7 +1,7 @@
 -- What the calls of a back answer, from what its seat was answered.
 use Rattle.std.proofs.Common.{◌≡◌, ◌≤◌, ◌<◌, ◌%◌, ◌+◌, ℕ, [], Option, None, refl, sym, ap, ◌∙◌, subst, arith, zero-le}
-use Rattle.isa.specs.Programs.{Program}
-use Rattle.isa.specs.declared.stop.Stop.{Stop}
+use Rattle.instructions.specs.Programs.{Program}
+use Rattle.instructions.specs.declared.stop.Stop.{Stop}
 use Rattle.inorder.specs.History.{Adds, IsLegal, back}
 use Rattle.inorder.specs.Machine.{State, start}
 use Rattle.std.proofs.Math.Nat.{mod-lt}

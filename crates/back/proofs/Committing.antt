@@ -1,11 +1,11 @@
 -- What a retired tenant commits is what its answer says.
 use Rattle.std.proofs.Common.{◌≡◌, ◌+◌, ◌≤◌, ℕ, suc, true, false, cond, List, length, Some, unwrap_or, refl, sym, ap, ◌∙◌, subst}
-use Rattle.isa.specs.Instruction.{destination_by, is_low, is_pair, pair_target, pc_plus_4, target_by, target_of, width}
-use Rattle.isa.specs.Registers.{lo}
-use Rattle.isa.specs.Programs.{Program}
-use Rattle.isa.specs.declared.op.Kind.{Kind}
-use Rattle.isa.specs.declared.op.Kind.TheVariants.{Computes, Jumps, Links, Loads, Stores}
-use Rattle.isa.specs.declared.stop.Outcome.TheVariants.{Address}
+use Rattle.instructions.specs.Instruction.{destination_by, is_low, is_pair, pair_target, pc_plus_4, target_by, target_of, width}
+use Rattle.instructions.specs.Registers.{lo}
+use Rattle.instructions.specs.Programs.{Program}
+use Rattle.instructions.specs.declared.op.Kind.{Kind}
+use Rattle.instructions.specs.declared.op.Kind.TheVariants.{Computes, Jumps, Links, Loads, Stores}
+use Rattle.instructions.specs.declared.stop.Outcome.TheVariants.{Address}
 use Rattle.inorder.specs.Committed.{commits, commits_by, with_first, with_stored, with_tenant}
 use Rattle.inorder.specs.Machine.{State, store_bytes, write}
 use Rattle.inorder.specs.Memory.{stored, stored_by}

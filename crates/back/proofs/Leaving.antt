@@ -1,6 +1,6 @@
 -- A back that leaves its core, and one that enters another.
 use Rattle.std.proofs.Common.{◌≡◌, ℕ, List, [], Option, None, refl, sym, ap, ◌∙◌, subst}
-use Rattle.isa.specs.Programs.{Program}
+use Rattle.instructions.specs.Programs.{Program}
 use Rattle.inorder.specs.declared.history.Entry.{Entry}
 use Rattle.inorder.specs.Callers.{GoesOn as HasNoStop}
 use Rattle.inorder.specs.Committed.{ahead, committed}

@@ -2,9 +2,9 @@
 use Rattle.std.proofs.Common.{◌≡◌, ℕ, ◌+◌, ◌%◌, ◌<◌, ◌≤◌, Bool, true, false, ◌&&◌, List, length, Some, None, refl, sym, ap, ◌∙◌, subst, inl, inr, arith, true≢false, unwrap_or, zero-le}
 use Rattle.std.proofs.lemmas.Bool.{cases_lt}
 use Rattle.std.specs.Prelude.{slice_index, is_none}
-use Rattle.isa.specs.Instruction.{width}
-use Rattle.isa.specs.Operations.{loaded}
-use Rattle.isa.specs.Programs.{Program}
+use Rattle.instructions.specs.Instruction.{width}
+use Rattle.instructions.specs.Operations.{loaded}
+use Rattle.instructions.specs.Programs.{Program}
 use Rattle.lsq.specs.Bytes.{little_endian}
 use Rattle.lsq.specs.declared.answer.Answer.TheVariants.{Blocked}
 use Rattle.lsq.specs.declared.entry.Entry.{Entry}

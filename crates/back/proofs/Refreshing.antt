@@ -2,7 +2,7 @@
 use Rattle.std.proofs.Common.{◌≡◌, false, ◌⊎◌, ℕ, ◌<◌, List, [], ◌∷◌, ◌++◌, Option, Some, None, sym, ◌∙◌, subst, inl, inr, append_assoc}
 use Rattle.std.specs.List.{AllByRecursion}
 use Rattle.std.proofs.lemmas.Bool.{cases_lt}
-use Rattle.isa.specs.Programs.{Program}
+use Rattle.instructions.specs.Programs.{Program}
 use Rattle.inorder.specs.declared.history.Entry.{Entry}
 use Rattle.inorder.specs.declared.history.Event.{Event}
 use Rattle.inorder.specs.declared.history.Event.TheVariants.{Does}

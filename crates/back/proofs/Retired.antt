@@ -1,10 +1,10 @@
 -- What a retirement did, as its caller sees it behind the call.
 use Rattle.std.proofs.Common.{◌≡◌, ℕ, Option, ◌+◌, ◌%◌, true, List, [], ◌∷◌, ◌++◌, length, Some, None, refl, sym, ap, ◌∙◌, subst, ⊎_elim, append_assoc}
-use Rattle.isa.specs.Instruction.{is_first_half, kind}
-use Rattle.isa.specs.Programs.{Program, instr_at, instr_of}
-use Rattle.isa.specs.declared.op.Half.{Half}
-use Rattle.isa.specs.declared.instr.Instr.{Instr}
-use Rattle.isa.specs.declared.stop.Stop.{Stop}
+use Rattle.instructions.specs.Instruction.{is_first_half, kind}
+use Rattle.instructions.specs.Programs.{Program, instr_at, instr_of}
+use Rattle.instructions.specs.declared.op.Half.{Half}
+use Rattle.instructions.specs.declared.instr.Instr.{Instr}
+use Rattle.instructions.specs.declared.stop.Stop.{Stop}
 use Rattle.inorder.specs.declared.history.Act.TheVariants.{Retire}
 use Rattle.inorder.specs.declared.history.Entry.{Entry}
 use Rattle.inorder.specs.declared.history.Event.TheVariants.{Does}

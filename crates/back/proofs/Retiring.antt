@@ -2,11 +2,11 @@
 use Rattle.std.proofs.Common.{◌≡◌, ◌≢◌, ℕ, Option, suc, ◌+◌, ◌%◌, Bool, true, false, cond, ◌&&◌, not, List, [], ◌∷◌, ◌++◌, Some, None, refl, sym, ap, ◌∙◌, subst, ⊎_elim, arith, true≢false}
 use Rattle.std.specs.List.{AllByRecursion}
 use Rattle.std.proofs.Math.Nat.{suc-mod}
-use Rattle.isa.specs.Programs.{Program, instr_at}
-use Rattle.isa.specs.declared.op.Half.{Half}
-use Rattle.isa.specs.declared.op.Half.TheVariants.{High, Low}
-use Rattle.isa.specs.declared.instr.Instr.{Instr}
-use Rattle.isa.specs.declared.stop.Stop.{Stop}
+use Rattle.instructions.specs.Programs.{Program, instr_at}
+use Rattle.instructions.specs.declared.op.Half.{Half}
+use Rattle.instructions.specs.declared.op.Half.TheVariants.{High, Low}
+use Rattle.instructions.specs.declared.instr.Instr.{Instr}
+use Rattle.instructions.specs.declared.stop.Stop.{Stop}
 use Rattle.inorder.specs.declared.history.Act.TheVariants.{Retire}
 use Rattle.inorder.specs.declared.history.Step.TheVariants.{On}
 use Rattle.inorder.specs.Callers.{GoesOn, head_station, is_retired, stands_retired}

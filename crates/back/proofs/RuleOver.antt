@@ -1,9 +1,9 @@
 -- What the rule for loads says over the live loads and stores, by what is known of each.
 use Rattle.std.proofs.Common.{◌≡◌, ℕ, suc, ◌<◌, Bool, true, false, cond, List, [], ◌∷◌, ◌++◌, map, length, Some, None, refl, sym, ap, ◌∙◌, ⊎_elim, arith, append_assoc}
 use Rattle.std.specs.Prelude.{slice_get}
-use Rattle.isa.specs.Instruction.{width}
-use Rattle.isa.specs.Programs.{Program}
-use Rattle.isa.specs.declared.op.Kind.TheVariants.{Loads}
+use Rattle.instructions.specs.Instruction.{width}
+use Rattle.instructions.specs.Programs.{Program}
+use Rattle.instructions.specs.declared.op.Kind.TheVariants.{Loads}
 use Rattle.lsq.specs.declared.answer.Answer.{Answer}
 use Rattle.lsq.specs.declared.answer.Answer.TheVariants.{Blocked, Forward, Memory}
 use Rattle.lsq.specs.declared.entry.Entry.{Entry}

@@ -2,10 +2,10 @@
 use Rattle.std.proofs.Common.{◌≡◌, ◌⊎◌, ℕ, ◌+◌, ◌<◌, ◌≤◌, Bool, true, false, cond, ◌&&◌, List, [], ◌∷◌, length, Option, Some, None, refl, sym, ap, ◌∙◌, subst, inl, inr, ⊎_elim, arith, true≢false}
 use Rattle.std.proofs.lemmas.Bool.{cases_lt}
 use Rattle.std.specs.Prelude.{IfNone, IfSome, is_none, is_some, not}
-use Rattle.isa.specs.Instruction.{width}
-use Rattle.isa.specs.Programs.{Program}
-use Rattle.isa.specs.declared.op.Kind.TheVariants.{Stores}
-use Rattle.isa.specs.declared.stop.Outcome.{Outcome}
+use Rattle.instructions.specs.Instruction.{width}
+use Rattle.instructions.specs.Programs.{Program}
+use Rattle.instructions.specs.declared.op.Kind.TheVariants.{Stores}
+use Rattle.instructions.specs.declared.stop.Outcome.{Outcome}
 use Rattle.lsq.specs.declared.answer.Answer.{Answer}
 use Rattle.lsq.specs.declared.answer.Answer.TheVariants.{Blocked, Forward, Memory}
 use Rattle.lsq.specs.declared.entry.Entry.{Entry as QueueEntry}

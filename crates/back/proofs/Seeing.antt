@@ -1,6 +1,6 @@
 -- What looks at a station show of its live tenant.
 use Rattle.std.proofs.Common.{◌≡◌, ℕ, ◌<◌, cond, eqb, List, [], length, Some, None, refl, sym, ap, ◌∙◌, subst, arith}
-use Rattle.isa.specs.Programs.{Program, instr_of}
+use Rattle.instructions.specs.Programs.{Program, instr_of}
 use Rattle.inorder.specs.declared.history.Entry.{Entry}
 use Rattle.inorder.specs.History.{Adds, IsLegal, back, taken_of, unit_of}
 use Rattle.inorder.specs.StationWords.{live_word, station_word}

@@ -1,7 +1,7 @@
 -- Where nothing has retired, nothing is committed.
 use Rattle.std.proofs.Common.{◌≡◌, suc, ◌%◌, ◌&&◌, not, Bool, true, false, cond, List, [], ◌∷◌, None, refl, sym, ap, ◌∙◌, arith}
 use Rattle.std.proofs.Math.Nat.{zero-mod}
-use Rattle.isa.specs.Programs.{Program}
+use Rattle.instructions.specs.Programs.{Program}
 use Rattle.inorder.specs.Callers.{is_retired, stands_retired}
 use Rattle.inorder.specs.Committed.{ahead, commits, commits_by, committed}
 use Rattle.inorder.specs.Machine.{start}

@@ -1,10 +1,10 @@
 -- How a run ends.
 use Rattle.std.specs.Prelude.{◌≡◌, ℕ, Option, Some, None}
-use Rattle.isa.specs.Programs.{Program}
-use Rattle.isa.specs.declared.end.End.{End}
-use Rattle.isa.specs.declared.end.Ending.{Ending}
-use Rattle.isa.specs.declared.end.Ending.TheVariants.{Limit, Stop as ByStop}
-use Rattle.isa.specs.declared.stop.Stop.{Stop}
+use Rattle.instructions.specs.Programs.{Program}
+use Rattle.instructions.specs.declared.end.End.{End}
+use Rattle.instructions.specs.declared.end.Ending.{Ending}
+use Rattle.instructions.specs.declared.end.Ending.TheVariants.{Limit, Stop as ByStop}
+use Rattle.instructions.specs.declared.stop.Stop.{Stop}
 use Rattle.inorder.specs.Machine.{State}
 use Rattle.inorder.specs.Runs.{after, stop}
 

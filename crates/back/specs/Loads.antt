@@ -1,7 +1,7 @@
 -- Loads that wait, and the stores that block them.
 use Rattle.std.specs.Prelude.{◌≡◌, ◌<◌, ℕ, List, Some, slice_get}
-use Rattle.isa.specs.Programs.{Program}
-use Rattle.isa.specs.declared.op.Kind.TheVariants.{Loads, Stores}
+use Rattle.instructions.specs.Programs.{Program}
+use Rattle.instructions.specs.declared.op.Kind.TheVariants.{Loads, Stores}
 use Rattle.inorder.specs.declared.history.Entry.{Entry}
 use Rattle.inorder.specs.Loads.{live_accesses, place_of, queue_of}
 use Rattle.inorder.specs.Replies.{Has}

@@ -1,8 +1,8 @@
 -- What the memory port knows while it answers one load.
 use Rattle.std.specs.Prelude.{◌≡◌, ◌⊎◌, ◌+◌, ◌%◌, ◌<◌, ◌≤◌, ℕ, true, false, List, Option, Some, None, length}
-use Rattle.isa.specs.Instruction.{kind, width}
-use Rattle.isa.specs.Programs.{Program}
-use Rattle.isa.specs.declared.instr.Instr.{Instr}
+use Rattle.instructions.specs.Instruction.{kind, width}
+use Rattle.instructions.specs.Programs.{Program}
+use Rattle.instructions.specs.declared.instr.Instr.{Instr}
 use Rattle.inorder.specs.declared.history.Entry.{Entry}
 use Rattle.inorder.specs.Callers.{CanLoad}
 use Rattle.inorder.specs.Loads.{access_width, entry_of, is_store}

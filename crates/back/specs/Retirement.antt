@@ -1,12 +1,12 @@
 -- What a retirement does to what was committed.
 use Rattle.std.specs.Prelude.{◌+◌, ◌≤◌, ℕ, suc, Bool, true, Option, Some, None}
-use Rattle.isa.specs.Instruction.{destination, is_first_half, kind, pc_plus_4, width}
-use Rattle.isa.specs.Registers.{lo}
-use Rattle.isa.specs.declared.op.Half.{Half}
-use Rattle.isa.specs.declared.instr.Instr.{Instr}
-use Rattle.isa.specs.declared.op.Kind.{Kind}
-use Rattle.isa.specs.declared.op.Kind.TheVariants.{Jumps, Links}
-use Rattle.isa.specs.declared.stop.Stop.{Stop}
+use Rattle.instructions.specs.Instruction.{destination, is_first_half, kind, pc_plus_4, width}
+use Rattle.instructions.specs.Registers.{lo}
+use Rattle.instructions.specs.declared.op.Half.{Half}
+use Rattle.instructions.specs.declared.instr.Instr.{Instr}
+use Rattle.instructions.specs.declared.op.Kind.{Kind}
+use Rattle.instructions.specs.declared.op.Kind.TheVariants.{Jumps, Links}
+use Rattle.instructions.specs.declared.stop.Stop.{Stop}
 use Rattle.inorder.specs.Machine.{State, store_bytes, write}
 use Rattle.station.specs.declared.answers.Last.{Last}
 use Rattle.station.specs.declared.answers.Last.TheVariants.{Done, Stop as WasStop, Stored}

@@ -1,11 +1,11 @@
 -- What the memory port finds at one station.
 use Rattle.std.specs.Prelude.{◌≡◌, ◌≢◌, ◌+◌, ℕ, List, [], ◌∷◌, ◌++◌, Option, Some, None, length, nat_lt, nat_le, if◌then◌else◌}
 use Rattle.std.specs.List.{AllByRecursion}
-use Rattle.isa.specs.Instruction.{kind, width}
-use Rattle.isa.specs.Programs.{Program, instr_of}
-use Rattle.isa.specs.declared.instr.Instr.{Instr}
-use Rattle.isa.specs.declared.op.Kind.{Kind}
-use Rattle.isa.specs.declared.op.Kind.TheVariants.{Loads}
+use Rattle.instructions.specs.Instruction.{kind, width}
+use Rattle.instructions.specs.Programs.{Program, instr_of}
+use Rattle.instructions.specs.declared.instr.Instr.{Instr}
+use Rattle.instructions.specs.declared.op.Kind.{Kind}
+use Rattle.instructions.specs.declared.op.Kind.TheVariants.{Loads}
 use Rattle.inorder.specs.declared.history.Act.TheVariants.{Load as LoadIt}
 use Rattle.inorder.specs.declared.history.Entry.{Entry}
 use Rattle.inorder.specs.declared.history.Event.{Event}

@@ -1,5 +1,5 @@
 //! What the calls answer.
-use isa::Stop;
+use instructions::Stop;
 
 /// What a commit answers.
 #[derive(Clone, Copy, Debug, PartialEq, Eq)]

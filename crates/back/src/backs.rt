@@ -5,7 +5,7 @@ ghost use Rattle.back.specs.Backs.{HasRetiredNothing, IsNew, state_of};
 ghost use Rattle.snapshots.specs.Snapshots.{opening};
 
 use crate::committed::Committed;
-use isa::{Config, Memory, Program, Stop};
+use instructions::{Config, Memory, Program, Stop};
 use snapshots::{Naming, Publisher, Snapper};
 use station::{BackSeat, Core, a_number_is_of_its_part, what_is_seen_is_legal};
 use std::alloc::Global;

@@ -8,7 +8,7 @@ ghost use Rattle.back.specs.Retirement.{IsInside, low_in, next_by, state_behind,
 use crate::answers::Commit;
 use crate::backs::Back;
 use crate::committed::Committed;
-use isa::{Half, Instr, Kind, Reg, Stop, pc_plus_4};
+use instructions::{Half, Instr, Kind, Reg, Stop, pc_plus_4};
 use snapshots::Naming;
 use station::{Core, Last, Retire};
 

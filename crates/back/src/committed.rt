@@ -4,7 +4,7 @@ ghost use Rattle.lsq.specs.Bytes.{little_endian};
 ghost use Rattle.inorder.specs.Machine.{start, store_bytes, write};
 
 use inorder::{number, store};
-use isa::{Memory, Program, Reg};
+use instructions::{Memory, Program, Reg};
 use std::alloc::Global;
 use std::marker::Model;
 

@@ -4,7 +4,7 @@ ghost use Rattle.back.specs.Backs.{state_of};
 ghost use Rattle.back.specs.Ends.{IsInOrder, outcome_of, state_in};
 
 use crate::backs::Back;
-use isa::{End, Ending, Stop};
+use instructions::{End, Ending, Stop};
 use snapshots::Naming;
 use std::sync::Wait;
 

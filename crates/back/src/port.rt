@@ -1,7 +1,7 @@
 //! The memory port: one load over the older stores.
 ghost use Rattle.std.specs.Prelude.{◌≡◌, ◌<◌, ◌≤◌, ◌+◌, ◌∷◌, ◌⊎◌, [], ℕ, IfErr, IfNone, IfOk, IfSome, IsSome, Some, false, true, length, slice_get};
-ghost use Rattle.isa.specs.Instruction.{width as width_in};
-ghost use Rattle.isa.specs.Operations.{loaded as loaded_as};
+ghost use Rattle.instructions.specs.Instruction.{width as width_in};
+ghost use Rattle.instructions.specs.Operations.{loaded as loaded_as};
 ghost use Rattle.inorder.specs.Callers.{head_station};
 ghost use Rattle.inorder.specs.History.{IsLegal, back};
 ghost use Rattle.inorder.specs.Loads.{access_width};
@@ -14,7 +14,7 @@ ghost use Rattle.back.specs.Trials.{NobodyWaits, ThisWaits, TriedAnswers, load_a
 ghost use Rattle.back.specs.Port.{Ceases, IsEntryThere, IsInside, MayAnswer, MayBlock, Remains, SearchFinds, SearchMisses, address_in, content_in, load_entry, seen_as};
 
 use crate::committed::Committed;
-use isa::{Instr, Kind, Op, Program, loaded};
+use instructions::{Instr, Kind, Op, Program, loaded};
 use lsq::{Answer, Entry, Queue, Width};
 use station::{BackSeat, Core, Settle, Source, SourceState, StationState};
 

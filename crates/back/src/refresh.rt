@@ -11,7 +11,7 @@ use crate::answers::Refresh;
 use crate::backs::Back;
 use crate::committed::Committed;
 use crate::port::{Tried, try_load};
-use isa::Program;
+use instructions::Program;
 use snapshots::Naming;
 use station::{BackSeat, Core};
 

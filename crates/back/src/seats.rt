@@ -6,7 +6,7 @@ ghost use Rattle.station.specs.Seats.{IsSame as IsSameSeat};
 ghost use Rattle.back.specs.Backs.{IsSame, SeesMore};
 
 use crate::backs::Back;
-use isa::Half;
+use instructions::Half;
 use snapshots::Naming;
 use station::{Core, Part, SeatOf, Seen, Source, SourceState, StationState};
 

@@ -4,7 +4,7 @@ ghost use Rattle.snapshots.specs.Snapshots.{snapshot};
 ghost use Rattle.back.specs.Backs.{state_of};
 
 use crate::backs::Back;
-use isa::Memory;
+use instructions::Memory;
 use snapshots::{Mark, Naming, Snap};
 use std::sync::Wait;
 

@@ -6,7 +6,7 @@ ghost use Rattle.back.specs.Stills.{GoesOn, head_at, still_of};
 
 use crate::backs::Back;
 use crate::committed::Committed;
-use isa::Program;
+use instructions::Program;
 use snapshots::{Naming, Publisher};
 use station::{BackSeat, what_is_seen_is_legal};
 use std::marker::Model;

@@ -1,14 +1,14 @@
 //! Calls on one back, by hand; and want of memory.
 ghost use Rattle.std.specs.Prelude.{◌≡◌, ◌<◌, [], IfSome, length};
-ghost use Rattle.isa.specs.Instruction.{fixed_next};
-ghost use Rattle.isa.specs.declared.op.Half.TheVariants.{Low};
-ghost use Rattle.isa.specs.Programs.{address, instr_of};
+ghost use Rattle.instructions.specs.Instruction.{fixed_next};
+ghost use Rattle.instructions.specs.declared.op.Half.TheVariants.{Low};
+ghost use Rattle.instructions.specs.Programs.{address, instr_of};
 ghost use Rattle.inorder.specs.Replies.{last_tag};
 ghost use Rattle.station.specs.Seats.{IsSame};
 
 use crate::{Back, Commit, Mark, Naming, Refresh};
-use assembly::parse;
-use isa::{Config, Ending, Half, Memory, Program, Stop, outcome_of};
+use instructions::{Config, Ending, Half, Memory, Program, Stop, outcome_of};
+use isa::parse;
 use station::{
     Claim, Core, Finish, FrontSeat, StationState, Supply, Tenant, UnitSeat, a_job_is_of_the_program,
 };

@@ -2,7 +2,7 @@
 use Rattle.std.proofs.Common.{◌≡◌, ℕ, List, length, take, refl, ap, ◌∙◌, subst, arith, inl, inr, Option, Some, None, Result, Ok, Err, IfErr, IfSome}
 use Rattle.std.proofs.lemmas.Bool.{cases_lt, lt-ltb}
 use Rattle.std.proofs.lemmas.List.{length-take, take_all}
-use Rattle.assembly.specs.Listing.{listing}
+use Rattle.isa.specs.Listing.{listing}
 use Rattle.bench.specs.declared.outcome.Status.{Status}
 use Rattle.bench.specs.declared.outcome.Fault.{Fault}
 use Rattle.bench.specs.declared.outcome.Fault.TheVariants.{Write}

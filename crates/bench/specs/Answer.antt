@@ -1,13 +1,13 @@
 -- What is written for a listing, and what its status is.
 use Rattle.std.specs.Prelude.{ℕ, List, Result, Ok, Err}
-use Rattle.isa.specs.declared.stop.Stop.TheVariants.{Break as BreakStop}
-use Rattle.isa.specs.declared.end.Ending.{Ending}
-use Rattle.isa.specs.declared.end.Ending.TheVariants.{Stop as ByStop, Limit as ByLimit}
-use Rattle.isa.specs.declared.end.End.{End}
-use Rattle.assembly.specs.declared.listing.fault.FaultKind.{FaultKind}
-use Rattle.isa.specs.Programs.{Program}
-use Rattle.assembly.specs.Listing.{listing}
-use Rattle.assembly.specs.Report.{report, fault_line}
+use Rattle.instructions.specs.declared.stop.Stop.TheVariants.{Break as BreakStop}
+use Rattle.instructions.specs.declared.end.Ending.{Ending}
+use Rattle.instructions.specs.declared.end.Ending.TheVariants.{Stop as ByStop, Limit as ByLimit}
+use Rattle.instructions.specs.declared.end.End.{End}
+use Rattle.isa.specs.declared.listing.fault.FaultKind.{FaultKind}
+use Rattle.instructions.specs.Programs.{Program}
+use Rattle.isa.specs.Listing.{listing}
+use Rattle.isa.specs.Report.{report, fault_line}
 use Rattle.inorder.specs.Machine.{State}
 use Rattle.inorder.specs.Runs.{end_of}
 use Rattle.bench.specs.declared.outcome.Status.{Status}

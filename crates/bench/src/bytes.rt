@@ -5,9 +5,9 @@ ghost use Rattle.bench.specs.Answer.{most_taken, text_of, status_of};
 
 use crate::outcome::{Fault, Status};
 use crate::run::run;
-use assembly::{FaultKind, fault_text, parse, report_text};
 use devices::{Counted, read_up_to, write_whole};
-use isa::{Config, Memory, Predictor};
+use instructions::{Config, Memory, Predictor};
+use isa::{FaultKind, fault_text, parse, report_text};
 use std::alloc::Global;
 use std::io::{Read, Write};
 

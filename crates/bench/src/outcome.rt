@@ -5,7 +5,7 @@ ghost use Rattle.bench.specs.declared.outcome.Fault.TheVariants.{Memory as Wants
 ghost use Rattle.bench.specs.Faults.{input_fault};
 
 use devices::{InputFault, WriteFailed};
-use isa::{Ending, Memory, Stop};
+use instructions::{Ending, Memory, Stop};
 use thiserror::Error;
 
 /// What a listing came to, once all was written.

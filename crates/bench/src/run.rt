@@ -3,7 +3,7 @@ ghost use Rattle.std.specs.Prelude.{◌≡◌, IfOk};
 ghost use Rattle.inorder.specs.Runs.{end_of};
 ghost use Rattle.bench.specs.Answer.{end_state};
 
-use isa::{Config, End, Memory, Predictor, Program};
+use instructions::{Config, End, Memory, Predictor, Program};
 use std::alloc::Global;
 use unit::Bench;
 

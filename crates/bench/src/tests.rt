@@ -5,7 +5,7 @@ mod pairs;
 mod rows;
 
 use crate::{Counted, Status, alone};
-use isa::{Config, NotTaken};
+use instructions::{Config, NotTaken};
 use std::alloc::Global;
 use std::test::Fail;
 

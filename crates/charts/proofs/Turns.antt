@@ -6,16 +6,16 @@ use Rattle.std.proofs.lemmas.List.{append-nil, take-append-le}
 use Rattle.std.specs.Io.KnownBytes.{Appends}
 use Rattle.devices.specs.Counted.{GivesPart}
 use Rattle.devices.specs.declared.counted.Counted.{Counted}
-use Rattle.isa.specs.declared.end.End.{End}
-use Rattle.isa.specs.declared.instr.Instr.{Instr}
-use Rattle.isa.specs.declared.stop.Stop.{Stop}
-use Rattle.isa.specs.Settings.{Settings}
+use Rattle.instructions.specs.declared.end.End.{End}
+use Rattle.instructions.specs.declared.instr.Instr.{Instr}
+use Rattle.instructions.specs.declared.stop.Stop.{Stop}
+use Rattle.instructions.specs.Settings.{Settings}
 use Rattle.inorder.specs.Committed.{committed}
 use Rattle.inorder.specs.Runs.{end_from}
 use Rattle.unit.specs.declared.bench.Turn.TheVariants.{Over}
 use Rattle.unit.specs.Changes.{end_state, run_from}
 use Rattle.unit.proofs.Ends.{ends_over, ends_same}
-use Rattle.isa.specs.Programs.{Program}
+use Rattle.instructions.specs.Programs.{Program}
 use Rattle.inorder.specs.Unit.{Sizes, UpdateUnit, empty_unit}
 use Rattle.unit_laws.specs.Moves.{IsReached}
 use Rattle.unit.specs.declared.bench.Turn.{Turn}

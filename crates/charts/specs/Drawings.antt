@@ -1,13 +1,13 @@
 -- The chart: a line for each tenant that has left, and what became of it over the turns.
 use Rattle.std.specs.Prelude.{ℕ, zero, suc, ◌-◌, ◌%◌, List, [], ◌∷◌, ◌++◌, length, Option, Some, None, codes, decimal, if◌then◌else◌}
-use Rattle.assembly.specs.InstrText.{instr_text}
-use Rattle.isa.specs.Instruction.{is_first_half, kind}
-use Rattle.assembly.specs.Report.{hexadecimal, newline}
-use Rattle.isa.specs.declared.instr.Instr.{Instr}
-use Rattle.isa.specs.declared.op.Half.{Half}
-use Rattle.isa.specs.declared.op.Half.TheVariants.{High, Low}
-use Rattle.isa.specs.declared.op.Kind.{Kind}
-use Rattle.isa.specs.declared.op.Kind.TheVariants.{Loads}
+use Rattle.isa.specs.InstrText.{instr_text}
+use Rattle.instructions.specs.Instruction.{is_first_half, kind}
+use Rattle.isa.specs.Report.{hexadecimal, newline}
+use Rattle.instructions.specs.declared.instr.Instr.{Instr}
+use Rattle.instructions.specs.declared.op.Half.{Half}
+use Rattle.instructions.specs.declared.op.Half.TheVariants.{High, Low}
+use Rattle.instructions.specs.declared.op.Kind.{Kind}
+use Rattle.instructions.specs.declared.op.Kind.TheVariants.{Loads}
 use Rattle.unit.specs.declared.station.Station.{Station}
 use Rattle.charts.specs.declared.event.Way.{Way}
 use Rattle.charts.specs.declared.event.Way.TheVariants.{Retired, Squashed}

@@ -1,6 +1,6 @@
 -- What became of the tenants at a turn, in the order of its steps.
 use Rattle.std.specs.Prelude.{ℕ, zero, suc, ◌+◌, Bool, true, false, List, [], ◌∷◌, ◌++◌, length, Option, Some, None, nat_lt, if◌then◌else◌, slice_get}
-use Rattle.isa.specs.Instruction.{first_of, second_of}
+use Rattle.instructions.specs.Instruction.{first_of, second_of}
 use Rattle.unit.specs.declared.bench.Turn.{Turn}
 use Rattle.unit.specs.declared.station.Station.{Station}
 use Rattle.charts.specs.declared.event.Event.{Event}

@@ -1,7 +1,7 @@
 -- A log of the format Kanata, version 0004, which pipeline viewers read. Its cycles are turns, and
 -- its identifiers are positions.
 use Rattle.std.specs.Prelude.{ℕ, List, [], ◌++◌, Option, Some, None, codes, decimal}
-use Rattle.assembly.specs.Report.{hexadecimal, newline}
+use Rattle.isa.specs.Report.{hexadecimal, newline}
 use Rattle.charts.specs.declared.event.Event.{Event}
 use Rattle.charts.specs.declared.event.Event.TheVariants.{Let, Moved, Left}
 use Rattle.charts.specs.declared.event.Way.{Way}

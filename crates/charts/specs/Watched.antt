@@ -3,9 +3,9 @@ use Rattle.std.specs.Prelude.{⊤, ◌≡◌, ◌≤◌, length, ℕ, List, [], 
 use Rattle.std.specs.Io.KnownBytes.{Appends}
 use Rattle.devices.specs.Counted.{Gives}
 use Rattle.devices.specs.declared.counted.Counted.{Counted}
-use Rattle.isa.specs.Programs.{Program}
-use Rattle.isa.specs.Settings.{Settings}
-use Rattle.isa.specs.declared.instr.Instr.{Instr}
+use Rattle.instructions.specs.Programs.{Program}
+use Rattle.instructions.specs.Settings.{Settings}
+use Rattle.instructions.specs.declared.instr.Instr.{Instr}
 use Rattle.inorder.specs.Committed.{committed}
 use Rattle.inorder.specs.Machine.{State}
 use Rattle.inorder.specs.Unit.{Sizes, UpdateUnit, empty_unit}

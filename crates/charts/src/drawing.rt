@@ -1,14 +1,14 @@
 //! The chart: a line for each tenant that has left.
 ghost use Rattle.std.specs.Prelude.{◌≡◌, ◌++◌, ◌-◌, OnOk, string_bytes, length};
-ghost use Rattle.assembly.specs.Report.{newline};
-ghost use Rattle.isa.specs.Instruction.{kind as kind_of};
+ghost use Rattle.isa.specs.Report.{newline};
+ghost use Rattle.instructions.specs.Instruction.{kind as kind_of};
 ghost use Rattle.charts.specs.Drawings.{behind_ran, half_text as half_text_of, line, live_lines};
 ghost use Rattle.charts.specs.Drawings.{mark_behind, padded, picture};
 ghost use Rattle.charts.specs.Drawings.{settled_mark as settled_mark_of, tenant_text, times};
 
 use crate::row::Row;
-use assembly::{Hexadecimal, InstrText};
-use isa::{Half, Instr, Kind};
+use instructions::{Half, Instr, Kind};
+use isa::{Hexadecimal, InstrText};
 use std::alloc::{AllocError, Global};
 use unit::Station;
 

@@ -5,7 +5,7 @@ ghost use Rattle.charts.specs.Kanata.{head, tick, stage_text as stage_text_of, w
 use crate::drawing::half_text;
 use crate::event::{Event, Way};
 use crate::row::{Phase, Row};
-use assembly::{Hexadecimal, InstrText};
+use isa::{Hexadecimal, InstrText};
 use std::alloc::AllocError;
 
 pub(crate) fn push_head(out: &mut String) -> Result<(), AllocError>

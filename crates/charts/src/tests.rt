@@ -4,9 +4,9 @@ mod memory;
 mod told;
 
 use crate::{Format, watch};
-use assembly::parse;
 use devices::Counted;
-use isa::{Config, NotTaken, Program};
+use instructions::{Config, NotTaken, Program};
+use isa::parse;
 use std::alloc::Global;
 use std::test::Fail;
 

@@ -6,7 +6,7 @@ ghost use Rattle.charts.specs.Rows.{writer_of as writer_in};
 
 use crate::event::Event;
 use crate::row::Row;
-use isa::Reg;
+use instructions::Reg;
 
 // The youngest that writes a register.
 fn writer_of(register: Reg, rows: &[Row]) -> Option<Row>

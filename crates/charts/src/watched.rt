@@ -10,7 +10,7 @@ use crate::books::Books;
 use crate::telling::Format;
 use crate::watching::{tell_first, tell_last, tell_turns};
 use devices::{Counted, WriteFailed};
-use isa::{Config, End, Memory, Predictor, Program};
+use instructions::{Config, End, Memory, Predictor, Program};
 use std::alloc::{AllocError, Global};
 use std::io::Write;
 use unit::Bench;

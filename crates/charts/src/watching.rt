@@ -2,7 +2,7 @@
 ghost use Rattle.std.specs.Prelude.{◌≡◌, ◌<◌, ◌+◌, ◌-◌, ◌^◌, ◌++◌, ℕ, List, Option};
 ghost use Rattle.std.specs.Prelude.{IfErr, IfOk, IsOk, OnErr, OnOk, string_bytes};
 ghost use Rattle.devices.specs.Counted.{failures_of, known_by, Gives};
-ghost use Rattle.isa.specs.Programs.{Program};
+ghost use Rattle.instructions.specs.Programs.{Program};
 ghost use Rattle.inorder.specs.Unit.{Sizes};
 ghost use Rattle.unit.specs.Changes.{run_from};
 ghost use Rattle.charts.specs.Events.{events};
@@ -15,7 +15,7 @@ use crate::drawing::push_live;
 use crate::telling::{Format, push_events, push_first, push_turn};
 use crate::watched::Fault;
 use devices::{Counted, write_whole};
-use isa::Predictor;
+use instructions::Predictor;
 use std::alloc::{AllocError, Global};
 use std::io::Write;
 use unit::{Bench, Station, Turn};

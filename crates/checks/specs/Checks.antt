@@ -10,11 +10,11 @@ use Rattle.std.specs.Str.{str_eq_ignore_ascii_case}
 use Rattle.text.specs.Blank.{is_blank}
 use Rattle.text.specs.Label.{statement_of}
 use Rattle.text.specs.Line.{before_comment, lines_of}
-use Rattle.assembly.specs.declared.listing.fault.FaultKind.{FaultKind}
-use Rattle.assembly.specs.declared.listing.fault.FaultKind.TheVariants as kind
-use Rattle.assembly.specs.Listing.{Lines, labels, listing}
-use Rattle.isa.specs.Programs.{Program}
-use Rattle.assembly.specs.Report.{fault_line, newline}
+use Rattle.isa.specs.declared.listing.fault.FaultKind.{FaultKind}
+use Rattle.isa.specs.declared.listing.fault.FaultKind.TheVariants as kind
+use Rattle.isa.specs.Listing.{Lines, labels, listing}
+use Rattle.instructions.specs.Programs.{Program}
+use Rattle.isa.specs.Report.{fault_line, newline}
 use Rattle.checks.specs.Forms.{forms}
 use Rattle.checks.specs.declared.parts.Part.{Part}
 

@@ -4,7 +4,7 @@ ghost use Rattle.checks.specs.Checks.{IsPartOf, IsIn};
 
 use super::parts::{Part, code, find, labels, operands, statement, trimmed, word};
 use super::registers::is_register;
-use assembly::FaultKind;
+use isa::FaultKind;
 use std::alloc::{AllocError, Global};
 use text::{begins_number, is_plain_text, number_in};
 

@@ -1,11 +1,11 @@
 //! What is told of a listing.
 ghost use Rattle.std.specs.Prelude.{IfOk};
-ghost use Rattle.assembly.specs.Listing.{listing};
+ghost use Rattle.isa.specs.Listing.{listing};
 ghost use Rattle.checks.specs.Checks.{IsCheckOf};
 
 use crate::explanation::explained;
 use crate::summary::counted;
-use assembly::{FaultKind, parse};
+use isa::{FaultKind, parse};
 use std::alloc::{AllocError, Global};
 
 /// The status and the text for a listing. For a good one the status is 0, and the text says how many

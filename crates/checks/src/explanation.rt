@@ -8,7 +8,7 @@ use super::blame::part_at_fault;
 use super::forms::form_of;
 use super::lines::{line_at, word_in};
 use super::parts::Part;
-use assembly::{FaultKind, TextFault, fault_text};
+use isa::{FaultKind, TextFault, fault_text};
 use std::alloc::{AllocError, Global};
 
 fn sentence(kind: FaultKind) -> &'static str

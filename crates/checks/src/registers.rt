@@ -1,6 +1,6 @@
 //! What the language takes for a register.
 
-use assembly::{FaultKind, parse};
+use isa::{FaultKind, parse};
 use std::alloc::{AllocError, Global};
 
 /// Whether the text is a register: a listing that jumps by it has no such fault.

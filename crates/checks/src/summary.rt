@@ -2,10 +2,10 @@
 ghost use Rattle.std.specs.Prelude.{◌≡◌, ◌≤◌, length, IfOk};
 ghost use Rattle.text.specs.Label.{labels_of};
 ghost use Rattle.text.specs.Line.{lines_of};
-ghost use Rattle.assembly.specs.Listing.{labels};
+ghost use Rattle.isa.specs.Listing.{labels};
 ghost use Rattle.checks.specs.Checks.{counts_text, how_many_labels};
 
-use isa::Program;
+use instructions::Program;
 use std::alloc::{AllocError, Global};
 use text::{before_comment, next_label, next_line};
 

@@ -1,14 +1,14 @@
 -- What is told of a listing, from what is known of its end.
 use Rattle.std.proofs.Common.{◌≡◌, ◌≤◌, ◌∙◌, ℕ, inl, inr, true, false, List, take, refl, ap, ap₂, sym, subst, arith, Option, Some, None, Result, Ok, Err, IfSome, IfOk, IfErr, IsErrAnd}
 use Rattle.std.proofs.lemmas.Bool.{cases_lt}
-use Rattle.isa.specs.declared.end.End.{End}
-use Rattle.isa.specs.declared.end.Ending.{Ending}
-use Rattle.isa.specs.declared.end.Ending.TheVariants.{Limit}
-use Rattle.assembly.specs.declared.listing.fault.FaultKind.{FaultKind}
-use Rattle.assembly.specs.Listing.{listing}
-use Rattle.isa.specs.Programs.{Program}
-use Rattle.assembly.specs.Report.{fault_line, report_of}
-use Rattle.isa.specs.Settings.{Settings}
+use Rattle.instructions.specs.declared.end.End.{End}
+use Rattle.instructions.specs.declared.end.Ending.{Ending}
+use Rattle.instructions.specs.declared.end.Ending.TheVariants.{Limit}
+use Rattle.isa.specs.declared.listing.fault.FaultKind.{FaultKind}
+use Rattle.isa.specs.Listing.{listing}
+use Rattle.instructions.specs.Programs.{Program}
+use Rattle.isa.specs.Report.{fault_line, report_of}
+use Rattle.instructions.specs.Settings.{Settings}
 use Rattle.inorder.specs.Machine.{State}
 use Rattle.inorder.specs.Runs.{end_of}
 use Rattle.back.specs.Ends.{state_in}

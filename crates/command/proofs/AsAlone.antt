@@ -1,10 +1,10 @@
 -- An answer of a run that came to its end is that of one thread.
 use Rattle.std.proofs.Common.{◌≡◌, ◌∙◌, ◌<◌, ℕ, Bool, true, false, List, sym, ap, subst, arith, Option, Some, None, Result, Ok, Err, IfSome}
-use Rattle.isa.specs.declared.end.Ending.{Ending}
-use Rattle.assembly.specs.declared.listing.fault.FaultKind.{FaultKind}
-use Rattle.assembly.specs.Listing.{listing}
-use Rattle.isa.specs.Programs.{Program}
-use Rattle.isa.specs.Settings.{Settings}
+use Rattle.instructions.specs.declared.end.Ending.{Ending}
+use Rattle.isa.specs.declared.listing.fault.FaultKind.{FaultKind}
+use Rattle.isa.specs.Listing.{listing}
+use Rattle.instructions.specs.Programs.{Program}
+use Rattle.instructions.specs.Settings.{Settings}
 use Rattle.inorder.specs.Machine.{State}
 use Rattle.inorder.specs.Runs.{end_of}
 use Rattle.devices.specs.Counted.{known_by}

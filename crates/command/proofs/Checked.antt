@@ -2,10 +2,10 @@
 use Rattle.std.proofs.Common.{◌≡◌, ◌<◌, ℕ, List, length, take, refl, subst, arith, inl, inr, Option, Some, None, Result, Err, IfSome}
 use Rattle.std.proofs.lemmas.Bool.{cases_lt, lt-ltb}
 use Rattle.std.proofs.lemmas.List.{length-take, take_all}
-use Rattle.assembly.specs.declared.listing.fault.FaultKind.{FaultKind}
-use Rattle.assembly.specs.declared.listing.fault.FaultKind.TheVariants.{TooLong}
-use Rattle.assembly.specs.Listing.{listing}
-use Rattle.isa.specs.Programs.{Program}
+use Rattle.isa.specs.declared.listing.fault.FaultKind.{FaultKind}
+use Rattle.isa.specs.declared.listing.fault.FaultKind.TheVariants.{TooLong}
+use Rattle.isa.specs.Listing.{listing}
+use Rattle.instructions.specs.Programs.{Program}
 use Rattle.bench.specs.Answer.{most_taken}
 use Rattle.checks.specs.Checks.{HasCheck, IsCheckOf}
 

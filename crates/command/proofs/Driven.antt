@@ -1,10 +1,10 @@
 -- What is told of a listing that is driven by hand.
 use Rattle.std.proofs.Common.{◌≡◌, ◌∙◌, ℕ, List, take, refl, ap, sym, subst, arith, Option, Some, None, Result, Ok, Err, IfSome, IfOk, IfErr, OnErr, IsErrAnd}
 use Rattle.std.specs.Io.KnownBytes.{Appends}
-use Rattle.assembly.specs.declared.listing.fault.FaultKind.{FaultKind}
-use Rattle.assembly.specs.Listing.{listing}
-use Rattle.isa.specs.Programs.{Program}
-use Rattle.assembly.specs.Report.{fault_line}
+use Rattle.isa.specs.declared.listing.fault.FaultKind.{FaultKind}
+use Rattle.isa.specs.Listing.{listing}
+use Rattle.instructions.specs.Programs.{Program}
+use Rattle.isa.specs.Report.{fault_line}
 use Rattle.bench.specs.Answer.{most_taken}
 use Rattle.bench.proofs.Taken.{listing_taken}
 use Rattle.drive.specs.declared.script.Fault.{Fault}

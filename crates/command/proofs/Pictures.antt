@@ -2,9 +2,9 @@
 use Rattle.std.proofs.Common.{◌≡◌, ℕ, sym, refl, subst, List, [], Option, Some, None, Result, Ok, Err, OnErr}
 use Rattle.std.proofs.lemmas.List.{append-nil}
 use Rattle.std.specs.Io.KnownBytes.{Appends}
-use Rattle.assembly.specs.declared.listing.fault.FaultKind.{FaultKind}
-use Rattle.isa.specs.Programs.{Program}
-use Rattle.assembly.specs.Report.{fault_line}
+use Rattle.isa.specs.declared.listing.fault.FaultKind.{FaultKind}
+use Rattle.instructions.specs.Programs.{Program}
+use Rattle.isa.specs.Report.{fault_line}
 use Rattle.requests.specs.declared.request.Asked.{Asked}
 use Rattle.command.specs.Watched.{HasReportBegun, InReport, IsBegun, IsWatched, Outputs}
 

@@ -1,9 +1,9 @@
 -- Where a run ends that was seen behind some of its steps.
 use Rattle.std.proofs.Common.{◌≡◌, ◌∙◌, ◌+◌, ◌-◌, ◌<◌, ℕ, zero, suc, sym, ap, refl, arith, Option, Some, None}
-use Rattle.isa.specs.declared.end.Ending.{Ending}
-use Rattle.isa.specs.declared.end.Ending.TheVariants.{Limit, Stop as ByStop}
-use Rattle.isa.specs.declared.stop.Stop.{Stop}
-use Rattle.isa.specs.Programs.{Program}
+use Rattle.instructions.specs.declared.end.Ending.{Ending}
+use Rattle.instructions.specs.declared.end.Ending.TheVariants.{Limit, Stop as ByStop}
+use Rattle.instructions.specs.declared.stop.Stop.{Stop}
+use Rattle.instructions.specs.Programs.{Program}
 use Rattle.inorder.specs.Machine.{Goes, Halts, Ran, State, start, step}
 use Rattle.inorder.specs.Runs.{after, end_after, end_from, end_of, next_state, stop, stop_of, then_state, then_stop}
 use Rattle.back.specs.Ends.{StopsThere}

@@ -1,9 +1,9 @@
 -- What is told where a unit is driven by hand.
 use Rattle.std.specs.Prelude.{◌≡◌, ◌⊎◌, ◌<◌, ℕ, List, Option, Result, Ok, Err, length, take}
 use Rattle.std.specs.Io.KnownBytes.{Appends}
-use Rattle.assembly.specs.declared.listing.fault.FaultKind.{FaultKind}
-use Rattle.isa.specs.Programs.{Program}
-use Rattle.assembly.specs.Report.{fault_line}
+use Rattle.isa.specs.declared.listing.fault.FaultKind.{FaultKind}
+use Rattle.instructions.specs.Programs.{Program}
+use Rattle.isa.specs.Report.{fault_line}
 use Rattle.drive.specs.Sessions.{IsStart, TheSession}
 use Rattle.drive.specs.Scripts.{HasBroken, HasDriven, HasTold}
 use Rattle.requests.specs.declared.request.ByHand.{ByHand}

@@ -1,8 +1,8 @@
 -- What is written where the turns of a run are told.
 use Rattle.std.specs.Prelude.{◌≡◌, ℕ, Bool, true, false, is_some, List, Option, Result, Ok, Err, take}
 use Rattle.std.specs.Io.KnownBytes.{Appends}
-use Rattle.assembly.specs.declared.listing.fault.FaultKind.{FaultKind}
-use Rattle.isa.specs.Programs.{Program}
+use Rattle.isa.specs.declared.listing.fault.FaultKind.{FaultKind}
+use Rattle.instructions.specs.Programs.{Program}
 use Rattle.inorder.specs.Runs.{end_of}
 use Rattle.bench.specs.Answer.{status_for, text_for}
 use Rattle.charts.specs.declared.telling.Format.{Format}

@@ -1,6 +1,6 @@
 //! A unit that is driven by commands.
 ghost use Rattle.std.specs.Prelude.{◌≡◌, ◌≢◌, ◌+◌, ◌-◌, ◌^◌, ◌<◌, IfSome, IfOk, IfErr, Ok, OnOk, None};
-ghost use Rattle.assembly.specs.Listing.{listing};
+ghost use Rattle.isa.specs.Listing.{listing};
 ghost use Rattle.devices.specs.Counted.{failures_of, known_by};
 ghost use Rattle.command.specs.ByHand.{HasBrokenOff, HasToldSome, IsBroken, IsDriven, IsLeft, IsTranscriptOf};
 ghost use Rattle.requests.specs.Predictors.{IsChosen};
@@ -11,10 +11,10 @@ ghost use Rattle.command.specs.declared.went.Refusal.TheVariants.{Memory};
 use crate::running::refused;
 use crate::threads::MOST_TAKEN;
 use crate::{ByHand, Line, Refusal, Went};
-use assembly::{FaultKind, fault_text, parse};
 use devices::{Counted, read_up_to, write_whole};
 use drive::{Fault, Session};
-use isa::{Memory, Program};
+use instructions::{Memory, Program};
+use isa::{FaultKind, fault_text, parse};
 use requests::{Chosen, choose};
 use snapshots::Naming;
 use std::alloc::Global;

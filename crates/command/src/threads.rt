@@ -1,6 +1,6 @@
 //! A run on several threads.
 ghost use Rattle.std.specs.Prelude.{◌≡◌, ◌≢◌, ◌+◌, ◌-◌, ◌^◌, ◌<◌, IfSome, IfOk, IfErr, OnOk, false, string_bytes};
-ghost use Rattle.assembly.specs.Listing.{listing};
+ghost use Rattle.isa.specs.Listing.{listing};
 ghost use Rattle.devices.specs.Counted.{failures_of, known_by, Gives, GivesPart};
 ghost use Rattle.pool.specs.Runs.{IsRight, IsWithin, TakesTurns};
 ghost use Rattle.command.specs.Answers.{HasAnswer, IsAnswer, ended_of};
@@ -10,10 +10,10 @@ ghost use Rattle.command.specs.declared.went.Went.{Went};
 
 use crate::statuses::written;
 use crate::{Asked, Line, Refusal, Went};
-use assembly::{FaultKind, fault_text, parse, report_text};
 use bench::Status;
 use devices::{Counted, read_up_to, write_whole};
-use isa::{End, Program};
+use instructions::{End, Program};
+use isa::{FaultKind, fault_text, parse, report_text};
 use pool::{Gate, Run, Tally};
 use requests::{Chosen, choose};
 use std::alloc::Global;

@@ -1,6 +1,6 @@
 //! A run of the one-thread unit whose turns are told.
 ghost use Rattle.std.specs.Prelude.{◌≡◌, ◌≢◌, ◌+◌, ◌-◌, ◌^◌, ◌<◌, IfSome, IfOk, IfErr, Ok, OnOk, OnErr, None, is_some};
-ghost use Rattle.assembly.specs.Listing.{listing};
+ghost use Rattle.isa.specs.Listing.{listing};
 ghost use Rattle.devices.specs.Counted.{failures_of, known_by};
 ghost use Rattle.inorder.specs.Runs.{end_of};
 ghost use Rattle.unit.specs.Changes.{end_state};
@@ -13,11 +13,11 @@ use crate::running::refused;
 use crate::statuses::written;
 use crate::threads::MOST_TAKEN;
 use crate::{Asked, Line, Refusal, Went};
-use assembly::{FaultKind, fault_text, parse, report_text};
 use bench::{Bench, Status};
 use charts::{Fault, Format, watch};
 use devices::{Counted, read_up_to, write_whole};
-use isa::{End, Memory, Program};
+use instructions::{End, Memory, Program};
+use isa::{FaultKind, fault_text, parse, report_text};
 use requests::choose;
 use std::alloc::Global;
 use std::io::{Read, Write};

@@ -7,19 +7,19 @@ use Rattle.std.proofs.lemmas.Bool.Decides.{nat_tests}
 use Rattle.std.proofs.lemmas.List.{append-nil}
 use Rattle.text.specs.Line.{before_comment}
 use Rattle.text.specs.Label.{labels_of, statement_of}
-use Rattle.isa.specs.declared.op.Op.{Op}
-use Rattle.isa.specs.declared.op.Op.TheVariants.{Beq, Bne, Blez, Bgtz, Bltz, Bgez, J, Jal}
-use Rattle.isa.specs.declared.instr.Instr.{Instr}
-use Rattle.assembly.specs.declared.listing.instr_text.Naming.TheVariants.{Names}
-use Rattle.isa.specs.Instruction.{instr_with}
-use Rattle.isa.specs.Programs.{address}
-use Rattle.assembly.specs.Statement.{statement}
-use Rattle.assembly.specs.Report.{hex8}
-use Rattle.assembly.specs.Listing.{read, labels, is_double}
-use Rattle.assembly.specs.InstrText.{text_of, label_text, said_of, is_nop, IsWritable}
-use Rattle.assembly.proofs.TextBytes.{Of, of_append, all_of, of_other, inner, part_of, part_trimmed, before_whole, split_at}
-use Rattle.assembly.proofs.TextOperands.{label_part, label_is_name}
-use Rattle.assembly.proofs.TextRead.{in_code, text_code, indent_in_code, code_read, code_unlabelled, spoken, text_spoken, spoken_stands}
+use Rattle.instructions.specs.declared.op.Op.{Op}
+use Rattle.instructions.specs.declared.op.Op.TheVariants.{Beq, Bne, Blez, Bgtz, Bltz, Bgez, J, Jal}
+use Rattle.instructions.specs.declared.instr.Instr.{Instr}
+use Rattle.isa.specs.declared.listing.instr_text.Naming.TheVariants.{Names}
+use Rattle.instructions.specs.Instruction.{instr_with}
+use Rattle.instructions.specs.Programs.{address}
+use Rattle.isa.specs.Statement.{statement}
+use Rattle.isa.specs.Report.{hex8}
+use Rattle.isa.specs.Listing.{read, labels, is_double}
+use Rattle.isa.specs.InstrText.{text_of, label_text, said_of, is_nop, IsWritable}
+use Rattle.isa.proofs.TextBytes.{Of, of_append, all_of, of_other, inner, part_of, part_trimmed, before_whole, split_at}
+use Rattle.isa.proofs.TextOperands.{label_part, label_is_name}
+use Rattle.isa.proofs.TextRead.{in_code, text_code, indent_in_code, code_read, code_unlabelled, spoken, text_spoken, spoken_stands}
 use Rattle.conversion.specs.Meaning.{has_target}
 use Rattle.conversion.specs.Writing.{as_line, unlines, printable, label_line, label_lines, code_line, marked, with_mark, IsReadAs, IsText, IsQuieter, IsSound, AllSound}
 use Rattle.conversion.proofs.Pushed.{text_all_quiet, text_label, text_code as code_added}

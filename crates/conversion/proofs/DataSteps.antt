@@ -2,11 +2,11 @@
 use Rattle.std.proofs.Common.{◌≡◌, ℕ, zero, suc, ◌+◌, ◌*◌, ◌%◌, ◌≤◌, ◌<◌, true, false, ◌==◌, List, [], ◌∷◌, ◌++◌, length, take, drop, replicate, refl, ap, ◌∙◌, sym, subst, arith, append_assoc, eqb-true, take_all, length-take, length-drop, take-add}
 use Rattle.std.specs.Prelude.{codes}
 use Rattle.std.specs.Fmt.{decimal}
-use Rattle.assembly.specs.Report.{hexadecimal}
+use Rattle.isa.specs.Report.{hexadecimal}
 use Rattle.std.specs.List.{list_all}
 use Rattle.std.proofs.lemmas.Bool.{and_parts, ne_eqb}
 use Rattle.std.proofs.lemmas.List.{append-nil, length-append, length-replicate}
-use Rattle.isa.specs.declared.instr.Instr.{Instr}
+use Rattle.instructions.specs.declared.instr.Instr.{Instr}
 use Rattle.conversion.specs.Writing.{as_line, unlines, IsText, row_word, row_line, space_line, space_lines, AddsData}
 use Rattle.conversion.proofs.Pushed.{text_bytes}
 use Rattle.conversion.proofs.Blocks.{more_room}

@@ -3,9 +3,9 @@ use Rattle.std.proofs.Common.{◌≡◌, ℕ, ◌+◌, ◌*◌, ◌/◌, ◌%◌
 use Rattle.std.specs.Char.{is_digit}
 use Rattle.std.proofs.lemmas.Bool.{le-leb}
 use Rattle.text.specs.Number.{magnitude, numeral, number_in}
-use Rattle.assembly.specs.Operands.{number}
-use Rattle.assembly.specs.Report.{hex_digit, hex8, hexadecimal}
-use Rattle.assembly.proofs.TextBytes.{inner, IsPart}
+use Rattle.isa.specs.Operands.{number}
+use Rattle.isa.specs.Report.{hex_digit, hex8, hexadecimal}
+use Rattle.isa.proofs.TextBytes.{inner, IsPart}
 use Rattle.conversion.proofs.LabelNames.{digit_back}
 use Rattle.conversion.proofs.Few.{all_under, under}
 

@@ -7,11 +7,11 @@ use Rattle.std.specs.Str.{bytes_eq}
 use Rattle.std.proofs.lemmas.Bool.{cases_eq, cases_Bool, eqb-true, false_from_ne_true}
 use Rattle.std.proofs.lemmas.List.{append-nil}
 use Rattle.std.proofs.lemmas.Slice.Eq.{bytes_eq-Decides}
-use Rattle.isa.specs.Programs.{address}
-use Rattle.assembly.specs.Report.{hex_digit, hex8}
-use Rattle.assembly.specs.InstrText.{label_text}
-use Rattle.assembly.specs.Listing.{is_double}
-use Rattle.assembly.proofs.LabelTable.{lookup_push, lookup_keep}
+use Rattle.instructions.specs.Programs.{address}
+use Rattle.isa.specs.Report.{hex_digit, hex8}
+use Rattle.isa.specs.InstrText.{label_text}
+use Rattle.isa.specs.Listing.{is_double}
+use Rattle.isa.proofs.LabelTable.{lookup_push, lookup_keep}
 use Rattle.conversion.specs.Writing.{marked, with_mark}
 use Rattle.conversion.proofs.Few.{all_under, under}
 

@@ -2,8 +2,8 @@
 use Rattle.std.proofs.Common.{◌≡◌, ℕ, ◌+◌, ◌≤◌, ◌<◌, Bool, true, false, List, [], ◌∷◌, ◌++◌, length, get_or, set, take, ◌∙◌, subst, arith, inl, inr, length-set, get_or-set_same, get_or-set_other, take_all}
 use Rattle.std.proofs.lemmas.Bool.{cases_eq}
 use Rattle.std.proofs.lemmas.List.{take_more}
-use Rattle.isa.specs.declared.instr.Instr.{Instr}
-use Rattle.isa.specs.Programs.{address}
+use Rattle.instructions.specs.declared.instr.Instr.{Instr}
+use Rattle.instructions.specs.Programs.{address}
 use Rattle.conversion.specs.Meaning.{has_target, is_inside}
 use Rattle.conversion.specs.Writing.{IsLabelled, AllMarked}
 

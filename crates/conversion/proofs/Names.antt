@@ -5,9 +5,9 @@ use Rattle.std.specs.List.{list_all}
 use Rattle.std.proofs.lemmas.Bool.{and_from, le-leb}
 use Rattle.std.proofs.lemmas.List.{append-nil, length-append, take_more}
 use Rattle.text.specs.Label.{labels_of, statement_of}
-use Rattle.assembly.specs.Statement.{statement}
-use Rattle.assembly.specs.Listing.{Lines}
-use Rattle.assembly.proofs.TextBytes.{of_append, of_all, all_of}
+use Rattle.isa.specs.Statement.{statement}
+use Rattle.isa.specs.Listing.{Lines}
+use Rattle.isa.proofs.TextBytes.{of_append, of_all, all_of}
 use Rattle.conversion.proofs.Pushed.{unlines_push}
 use Rattle.conversion.specs.Writing.{as_line, unlines, printable, IsQuiet, AllQuiet, IsQuieter, gap_lines, comment_line}
 

@@ -7,9 +7,9 @@ use Rattle.std.proofs.lemmas.Bool.Decides.{nat_tests}
 use Rattle.text.specs.Line.{lines_of, before_comment}
 use Rattle.text.specs.Name.{is_plain, is_plain_text}
 use Rattle.text.proofs.Runs.{strip_whole}
-use Rattle.assembly.specs.Listing.{Lines}
-use Rattle.assembly.proofs.TextBytes.{Of, of_all, all_of, of_other, split_at, inner}
-use Rattle.assembly.proofs.TextRead.{in_code}
+use Rattle.isa.specs.Listing.{Lines}
+use Rattle.isa.proofs.TextBytes.{Of, of_all, all_of, of_other, split_at, inner}
+use Rattle.isa.proofs.TextRead.{in_code}
 use Rattle.conversion.specs.Writing.{unlines, printable, AllPrintable}
 
 no_feed : (b : ℕ) → printable b ≡ true → (b == 10) ≡ false

@@ -3,11 +3,11 @@ use Rattle.std.proofs.Common.{◌≡◌, ℕ, suc, ◌+◌, ◌≤◌, ◌<◌, 
 use Rattle.std.specs.List.{list_all}
 use Rattle.std.proofs.lemmas.Bool.{le-ltb}
 use Rattle.std.proofs.lemmas.List.{append-nil, length-append}
-use Rattle.isa.specs.declared.instr.Instr.{Instr}
-use Rattle.isa.specs.Programs.{address}
-use Rattle.assembly.specs.Statement.{Parsed}
-use Rattle.assembly.specs.Listing.{Lines, read, labels, at, table, numbered, memory, how_many, is_double, fault_in, first_fault}
-use Rattle.assembly.proofs.Behind.{numbered_push, table_push, memory_push}
+use Rattle.instructions.specs.declared.instr.Instr.{Instr}
+use Rattle.instructions.specs.Programs.{address}
+use Rattle.isa.specs.Statement.{Parsed}
+use Rattle.isa.specs.Listing.{Lines, read, labels, at, table, numbered, memory, how_many, is_double, fault_in, first_fault}
+use Rattle.isa.proofs.Behind.{numbered_push, table_push, memory_push}
 use Rattle.conversion.specs.Writing.{as_line, unlines, printable, AllPrintable, Faultless, IsReadAs, AllRead, IsWritten, AllQuiet, IsText}
 use Rattle.conversion.proofs.Printed.{line_plain}
 

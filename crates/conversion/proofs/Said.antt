@@ -7,11 +7,11 @@ use Rattle.std.proofs.lemmas.Bool.{le-ltb, cases_Bool}
 use Rattle.std.proofs.lemmas.List.{append-nil}
 use Rattle.text.specs.Line.{lines_of}
 use Rattle.text.specs.Label.{labels_of, statement_of}
-use Rattle.isa.specs.declared.instr.Instr.{Instr}
-use Rattle.isa.specs.Programs.{address}
-use Rattle.assembly.specs.Statement.{Parsed, statement}
-use Rattle.assembly.specs.InstrText.{label_text, StandsForBy}
-use Rattle.assembly.specs.Listing.{Lines, read, labels, table, numbered, memory, resolve_number, numbered_with, resolve, resolved, listing}
+use Rattle.instructions.specs.declared.instr.Instr.{Instr}
+use Rattle.instructions.specs.Programs.{address}
+use Rattle.isa.specs.Statement.{Parsed, statement}
+use Rattle.isa.specs.InstrText.{label_text, StandsForBy}
+use Rattle.isa.specs.Listing.{Lines, read, labels, table, numbered, memory, resolve_number, numbered_with, resolve, resolved, listing}
 use Rattle.conversion.specs.Meaning.{has_target}
 use Rattle.conversion.specs.Writing.{AllRead, AllSound, AllMarked, IsLabelled, marked, IsText, AddsData}
 use Rattle.conversion.proofs.Printed.{lines_are}

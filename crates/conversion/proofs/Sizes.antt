@@ -6,16 +6,16 @@ use Rattle.std.specs.List.{join_with_byte}
 use Rattle.std.proofs.lemmas.Bool.{cases_Bool, leb-true}
 use Rattle.std.proofs.lemmas.List.{length-append}
 use Rattle.std.proofs.lemmas.Fmt.{length-decimal-le}
-use Rattle.isa.specs.declared.op.Op.{Op}
-use Rattle.isa.specs.declared.op.Op.TheVariants.{Addu}
-use Rattle.isa.specs.declared.instr.Instr.{Instr}
-use Rattle.assembly.specs.declared.listing.form.Slot.{Slot}
-use Rattle.assembly.specs.declared.listing.form.Slot.TheVariants.{Into, First, Second, S16, U16, U5, Label, Offset}
-use Rattle.assembly.specs.declared.listing.instr_text.Naming.TheVariants.{Names}
-use Rattle.assembly.specs.Report.{hex8}
-use Rattle.assembly.specs.Wording.{word_of, slots_of}
-use Rattle.assembly.specs.InstrText.{register_text, signed_text, label_text, operand_text, with_operands_text, is_nop, text_of, Fits, AllFit, IsSignedHalf, IsWritable}
-use Rattle.assembly.proofs.TextNumbers.{signed_positive, signed_negative, below_zero}
+use Rattle.instructions.specs.declared.op.Op.{Op}
+use Rattle.instructions.specs.declared.op.Op.TheVariants.{Addu}
+use Rattle.instructions.specs.declared.instr.Instr.{Instr}
+use Rattle.isa.specs.declared.listing.form.Slot.{Slot}
+use Rattle.isa.specs.declared.listing.form.Slot.TheVariants.{Into, First, Second, S16, U16, U5, Label, Offset}
+use Rattle.isa.specs.declared.listing.instr_text.Naming.TheVariants.{Names}
+use Rattle.isa.specs.Report.{hex8}
+use Rattle.isa.specs.Wording.{word_of, slots_of}
+use Rattle.isa.specs.InstrText.{register_text, signed_text, label_text, operand_text, with_operands_text, is_nop, text_of, Fits, AllFit, IsSignedHalf, IsWritable}
+use Rattle.isa.proofs.TextNumbers.{signed_positive, signed_negative, below_zero}
 use Rattle.conversion.specs.Writing.{code_line}
 use Rattle.conversion.proofs.Few.{all_under, under}
 

@@ -1,7 +1,7 @@
 -- One word more.
 use Rattle.std.proofs.Common.{◌≡◌, ℕ, zero, suc, ◌+◌, ◌<◌, ◌≤◌, inl, inr, List, [], Ok, Err, refl, arith, ap, ◌∙◌, sym, add-one, length}
 use Rattle.std.proofs.lemmas.Bool.{cases_lt}
-use Rattle.isa.specs.declared.instr.Instr.{Instr}
+use Rattle.instructions.specs.declared.instr.Instr.{Instr}
 use Rattle.conversion.specs.declared.refusal.Refusal.{Refusal}
 use Rattle.conversion.specs.Meaning.{appended, meant, with_next, meant_up_to}
 

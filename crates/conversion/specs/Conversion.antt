@@ -1,8 +1,8 @@
 -- What an executable means, and that a listing says it.
 use Rattle.std.specs.Prelude.{◌≡◌, ℕ, List, length, Result, Ok, Err}
-use Rattle.isa.specs.declared.instr.Instr.{Instr}
-use Rattle.isa.specs.Programs.{Program}
-use Rattle.assembly.specs.Listing.{listing}
+use Rattle.instructions.specs.declared.instr.Instr.{Instr}
+use Rattle.instructions.specs.Programs.{Program}
+use Rattle.isa.specs.Listing.{listing}
 use Rattle.executables.specs.declared.refusal.Refusal.{Refusal as FileRefusal}
 use Rattle.executables.specs.declared.refusal.Refusal.TheVariants as file
 use Rattle.executables.specs.Images.{Loaded}

@@ -1,15 +1,15 @@
 -- The text of a listing that is made, and the program that it says.
 use Rattle.std.specs.Prelude.{◌≡◌, ℕ, zero, suc, ◌+◌, ◌≤◌, ◌<◌, Bool, true, false, ◌&&◌, nat_le, List, [], ◌∷◌, ◌++◌, length, replicate, None, Ok, codes, slice_index, slice_index_or, ◌==◌, if◌then◌else◌}
 use Rattle.std.specs.List.{flat_map, list_all}
-use Rattle.isa.specs.declared.instr.Instr.{Instr}
-use Rattle.assembly.specs.declared.listing.instr_text.Naming.TheVariants.{Names}
+use Rattle.instructions.specs.declared.instr.Instr.{Instr}
+use Rattle.isa.specs.declared.listing.instr_text.Naming.TheVariants.{Names}
 use Rattle.std.specs.Fmt.{decimal}
 use Rattle.std.specs.Int.{w32, from_le_bytes}
-use Rattle.assembly.specs.Report.{hexadecimal}
-use Rattle.isa.specs.Programs.{address}
-use Rattle.assembly.specs.Statement.{Parsed}
-use Rattle.assembly.specs.Listing.{Lines, read, labels, table, numbered, memory, fault_in}
-use Rattle.assembly.specs.InstrText.{with_operands_text, text_of, label_text, IsWritable, StandsFor}
+use Rattle.isa.specs.Report.{hexadecimal}
+use Rattle.instructions.specs.Programs.{address}
+use Rattle.isa.specs.Statement.{Parsed}
+use Rattle.isa.specs.Listing.{Lines, read, labels, table, numbered, memory, fault_in}
+use Rattle.isa.specs.InstrText.{with_operands_text, text_of, label_text, IsWritable, StandsFor}
 use Rattle.conversion.specs.Meaning.{has_target, is_inside}
 
 -- ---- lines

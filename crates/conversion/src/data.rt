@@ -3,7 +3,7 @@ ghost use Rattle.std.specs.Prelude.{◌≡◌, ◌≤◌, ◌<◌, ◌+◌, ◌+
 ghost use Rattle.std.specs.List.{list_all};
 ghost use Rattle.conversion.specs.Writing.{as_line, unlines, row_word as word_of, row_line, space_lines, AddsData};
 
-use assembly::Hexadecimal;
+use isa::Hexadecimal;
 use std::alloc::AllocError;
 
 /// How many bytes are in a line.

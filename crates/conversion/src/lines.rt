@@ -3,8 +3,8 @@ ghost use Rattle.std.specs.Prelude.{◌≡◌, ◌≤◌, ◌++◌, OnOk, string
 ghost use Rattle.conversion.specs.Writing.{as_line, code_line, label_line};
 
 use crate::meaning::address_of;
-use assembly::{InstrText, Label, Naming};
-use isa::Instr;
+use instructions::Instr;
+use isa::{InstrText, Label, Naming};
 use std::alloc::AllocError;
 
 /// Adds the line of an instruction. Its target is the label of the address.

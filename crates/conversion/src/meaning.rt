@@ -1,12 +1,12 @@
 //! What the words of a text mean.
 ghost use Rattle.std.specs.Prelude.{◌≡◌, ◌≢◌, ◌<◌, ◌≤◌, Ok, Err, IfOk, IfErr, length};
-ghost use Rattle.isa.specs.Programs.{address as address_at};
+ghost use Rattle.instructions.specs.Programs.{address as address_at};
 ghost use Rattle.conversion.specs.Writing.{AllSound};
 ghost use Rattle.conversion.specs.Meaning.{has_slot as has_slot_of, has_target as has_target_of, is_inside as is_inside_of, checked as checked_by, meant as meant_by, meant_up_to};
 
 use crate::Refusal;
 use crate::foreign::foreign_word;
-use isa::{Instr, Kind, Op, Program};
+use instructions::{Instr, Kind, Op, Program};
 use machine_words::decode;
 use std::alloc::Global;
 

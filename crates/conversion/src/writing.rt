@@ -1,8 +1,8 @@
 //! The text of a listing.
 ghost use Rattle.std.specs.Prelude.{◌≡◌, ℕ, ◌<◌, ◌≤◌, ◌++◌, Ok, false, OnOk, IfOk, IfSome, IsNone, true, length, string_bytes, take};
 ghost use Rattle.std.specs.List.{list_all};
-ghost use Rattle.isa.specs.Programs.{address};
-ghost use Rattle.assembly.specs.Listing.{listing};
+ghost use Rattle.instructions.specs.Programs.{address};
+ghost use Rattle.isa.specs.Listing.{listing};
 ghost use Rattle.conversion.specs.Meaning.{is_inside, has_target as has_target_of};
 ghost use Rattle.conversion.specs.Writing.{IsQuieter, IsLabelled, AllSound, AllMarked, as_line, unlines, label_lines, gap_lines, comment_line, printable};
 
@@ -10,7 +10,7 @@ use crate::data::push_data;
 use crate::lines::{push_label, push_line};
 use crate::meaning::has_target;
 use executables::{Function, name_at};
-use isa::{Instr, Program};
+use instructions::{Instr, Program};
 use std::alloc::{AllocError, Global};
 use std::str;
 

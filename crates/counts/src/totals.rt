@@ -9,7 +9,7 @@ use crate::seats::{CountSeat, WorkerSeat};
 use crate::shares::{Add, Halving, Hiring, Joining, Look, Shares, Sums};
 use crate::tally::{Tally, Total};
 use atomic_table::{Seat, Table};
-use isa::Memory;
+use instructions::Memory;
 use std::alloc::Global;
 use std::marker::Model;
 

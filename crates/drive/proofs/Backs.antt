@@ -1,6 +1,6 @@
 -- A back that has only seen more, or shown a snapshot.
 use Rattle.std.proofs.Common.{◌≡◌, List, Result, Ok, Err, refl, sym, ap, ◌∙◌, subst, IfOk, OnErr, OnOk}
-use Rattle.isa.specs.declared.memory.Memory.{Memory}
+use Rattle.instructions.specs.declared.memory.Memory.{Memory}
 use Rattle.inorder.specs.declared.history.Entry.{Entry}
 use Rattle.inorder.specs.History.{StartsWith}
 use Rattle.back.specs.Backs.{IsSame, TheBack, committed_in, state_of}

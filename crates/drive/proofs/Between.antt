@@ -1,7 +1,7 @@
 -- A turn of the front, without what its predictor is told.
 use Rattle.std.proofs.Common.{◌≡◌, ℕ, List}
-use Rattle.isa.specs.Programs.{Program}
-use Rattle.isa.specs.declared.instr.Instr.{Instr}
+use Rattle.instructions.specs.Programs.{Program}
+use Rattle.instructions.specs.declared.instr.Instr.{Instr}
 use Rattle.inorder.specs.declared.history.Entry.{Entry}
 use Rattle.inorder.specs.Unit.{Sizes}
 use Rattle.front.specs.declared.answers.Turn.{Turn}

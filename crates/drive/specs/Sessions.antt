@@ -1,8 +1,8 @@
 -- What contracts see of a session, and what it answers.
 use Rattle.std.specs.Prelude.{◌≡◌, ◌≢◌, ℕ, ◌≤◌, ◌-◌, ◌^◌, max, Bool, true, false, List, [], Option, Some, None, IsSome}
-use Rattle.isa.specs.Programs.{Program}
-use Rattle.isa.specs.Settings.{Settings}
-use Rattle.isa.specs.Registers.{register_count}
+use Rattle.instructions.specs.Programs.{Program}
+use Rattle.instructions.specs.Settings.{Settings}
+use Rattle.instructions.specs.Registers.{register_count}
 use Rattle.inorder.specs.declared.history.Entry.{Entry}
 use Rattle.inorder.specs.History.{IsLegal, back}
 use Rattle.back.specs.Backs.{TheBack, state_of}

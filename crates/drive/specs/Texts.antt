@@ -1,9 +1,9 @@
 -- The texts of answers.
 use Rattle.std.specs.Prelude.{ℕ, ◌+◌, ◌==◌, List, [], ◌∷◌, ◌++◌, codes, decimal, if◌then◌else◌}
-use Rattle.assembly.specs.Report.{hexadecimal, register_name}
-use Rattle.isa.specs.Endings.{stop_word}
-use Rattle.isa.specs.declared.op.Half.{Half}
-use Rattle.isa.specs.declared.op.Half.TheVariants.{High, Low}
+use Rattle.isa.specs.Report.{hexadecimal, register_name}
+use Rattle.instructions.specs.Endings.{stop_word}
+use Rattle.instructions.specs.declared.op.Half.{Half}
+use Rattle.instructions.specs.declared.op.Half.TheVariants.{High, Low}
 use Rattle.inorder.specs.declared.history.Source.{Source}
 use Rattle.inorder.specs.declared.history.Source.TheVariants.{First, Second}
 use Rattle.back.specs.declared.answers.Commit.{Commit}

@@ -1,6 +1,6 @@
 -- Transcripts: what is told of the lines of a script.
 use Rattle.std.specs.Prelude.{◌≡◌, ℕ, suc, List, [], ◌∷◌, ◌++◌, length, codes, decimal}
-use Rattle.assembly.specs.Report.{newline}
+use Rattle.isa.specs.Report.{newline}
 use Rattle.drive.specs.declared.commands.Command.{Command}
 use Rattle.drive.specs.declared.commands.Line.{Line}
 use Rattle.drive.specs.declared.commands.Line.TheVariants.{Asks, Nothing, Unknown, Wants}

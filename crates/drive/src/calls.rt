@@ -9,7 +9,7 @@ ghost use Rattle.station.specs.Seats.{IsSame};
 
 use back::{Back, Commit, Mark, Naming, Refresh};
 use front::{Front, Made, Recovery, Rest, Turn};
-use isa::{Memory, Predictor, Program, Reg, outcome_of};
+use instructions::{Memory, Predictor, Program, Reg, outcome_of};
 use station::{
     Claim, Core, Finish, Job, Seen, StationState, UnitSeat, a_job_is_of_the_program, jobs_stay,
 };

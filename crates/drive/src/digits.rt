@@ -1,6 +1,6 @@
 //! Words and registers as they are written.
 ghost use Rattle.std.specs.Prelude.{◌≡◌, ◌++◌, OnOk, Some, string_bytes};
-ghost use Rattle.assembly.specs.Report.{hexadecimal, register_name};
+ghost use Rattle.isa.specs.Report.{hexadecimal, register_name};
 ghost use Rattle.drive.specs.Texts.{registers_text};
 
 use std::alloc::AllocError;

@@ -7,7 +7,7 @@ use crate::commands::{Line, Verb, line_in};
 use crate::session::Session;
 use crate::texts::text_of;
 use back::Naming;
-use isa::Predictor;
+use instructions::Predictor;
 use std::alloc::{AllocError, Global};
 use std::sync::Wait;
 

@@ -1,9 +1,9 @@
 //! The names of units, and the numbers of registers.
 ghost use Rattle.std.specs.Prelude.{◌≡◌, ◌<◌, ◌≤◌, IfNone, IfSome};
-ghost use Rattle.isa.specs.Registers.{register_count};
+ghost use Rattle.instructions.specs.Registers.{register_count};
 ghost use Rattle.drive.specs.Units.{both_letters, letter, unit_count, unit_of};
 
-use isa::Reg;
+use instructions::Reg;
 
 /// How many units there can be.
 pub const UNITS: usize = 64;

@@ -2,7 +2,7 @@
 use crate::units::Claimed;
 use back::{Commit, Mark, Refresh, Snap};
 use front::{Made, Recovery, Rest, Turn};
-use isa::Half;
+use instructions::Half;
 use station::{Finish, Seen, SourceState, StationState};
 
 /// Why a command is not allowed. Nothing is done then.

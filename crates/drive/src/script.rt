@@ -8,7 +8,7 @@ use crate::lines::told;
 use crate::session::Session;
 use back::Naming;
 use devices::{Counted, WriteFailed, write_whole};
-use isa::Predictor;
+use instructions::Predictor;
 use std::alloc::{AllocError, Global};
 use std::io::{BufRead, ErrorKind, Write};
 use std::sync::Wait;

@@ -10,7 +10,7 @@ use crate::replies::{Refusal, Reply};
 use crate::units::{Worker, claim_by, finish_by, job_of, no_units};
 use back::{Back, Mark, Naming, Snapper};
 use front::Front;
-use isa::{Config, End, Memory, Predictor, Program};
+use instructions::{Config, End, Memory, Predictor, Program};
 use station::{Core, UnitSeat};
 use std::alloc::Global;
 use std::marker::Model;

@@ -4,10 +4,10 @@ mod reading;
 ghost use Rattle.std.specs.Prelude.{◌≡◌};
 
 use super::*;
-use assembly::parse;
 use back::Naming;
 use devices::Counted;
-use isa::{Config, NotTaken, Program};
+use instructions::{Config, NotTaken, Program};
+use isa::parse;
 use std::alloc::Global;
 use std::marker::Brand;
 use std::sync::Wait;

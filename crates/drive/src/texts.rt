@@ -8,7 +8,7 @@ use crate::units::{Claimed, Held};
 use crate::word_texts::{info_text, operand_text, rest_text};
 use back::{Commit, Refresh, Snap};
 use front::{Made, Recovery, Turn};
-use isa::Half;
+use instructions::Half;
 use station::{Finish, Seen, Source, StationState};
 use std::alloc::{AllocError, Global};
 

@@ -9,7 +9,7 @@ ghost use Rattle.drive.specs.declared.units.Worker.{Worker};
 use crate::calls;
 use crate::names::UNITS;
 use core::mem::replace_with;
-use isa::{Half, Memory, Program};
+use instructions::{Half, Memory, Program};
 use station::{Claim, Core, Finish, Job, Source, UnitSeat};
 use std::alloc::Global;
 

@@ -1,11 +1,11 @@
 -- The calls that drive two tenants, one after another, and what was done after each.
 use Rattle.std.proofs.Common.{◌≡◌, ℕ, ◌<◌, cond, List, [], ◌∷◌, length, Some, refl, sym, ap, ◌∙◌, subst, false}
 use Rattle.std.specs.Prelude.{unwrap_or}
-use Rattle.isa.specs.Operations.{outcome_of}
-use Rattle.isa.specs.Programs.{Program, address, instr_of}
-use Rattle.isa.specs.declared.op.Half.TheVariants.{Low}
-use Rattle.isa.specs.declared.stop.Outcome.{Outcome}
-use Rattle.isa.specs.declared.stop.Outcome.TheVariants.{Value}
+use Rattle.instructions.specs.Operations.{outcome_of}
+use Rattle.instructions.specs.Programs.{Program, address, instr_of}
+use Rattle.instructions.specs.declared.op.Half.TheVariants.{Low}
+use Rattle.instructions.specs.declared.stop.Outcome.{Outcome}
+use Rattle.instructions.specs.declared.stop.Outcome.TheVariants.{Value}
 use Rattle.inorder.specs.declared.history.Entry.{Entry}
 use Rattle.inorder.specs.declared.history.Source.TheVariants.{First, Second}
 use Rattle.inorder.specs.History.{Adds, entry, front, unit_of}

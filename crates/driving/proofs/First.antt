@@ -1,10 +1,10 @@
 -- The first instruction of a new core.
 use Rattle.std.proofs.Common.{◌≡◌, ℕ, ◌<◌, ◌^◌, Bool, true, false, cond, List, [], length, Option, Some, None, IfSome, refl, sym, ◌∙◌, subst, arith}
 use Rattle.std.specs.Prelude.{unwrap_or}
-use Rattle.isa.specs.Instruction.{first_of, fixed_next, kind, second_of}
-use Rattle.isa.specs.Operations.{outcome_of}
-use Rattle.isa.specs.Programs.{Program, instr_of, text_start}
-use Rattle.isa.specs.declared.op.Half.TheVariants.{Low}
+use Rattle.instructions.specs.Instruction.{first_of, fixed_next, kind, second_of}
+use Rattle.instructions.specs.Operations.{outcome_of}
+use Rattle.instructions.specs.Programs.{Program, instr_of, text_start}
+use Rattle.instructions.specs.declared.op.Half.TheVariants.{Low}
 use Rattle.inorder.specs.declared.history.Entry.{Entry}
 use Rattle.inorder.specs.declared.history.Source.TheVariants.{Second}
 use Rattle.inorder.specs.History.{unit_of}

@@ -50,7 +50,7 @@ exactly by old new events s alone mine =
     let its : own by s.more ≡ map (entry by) events = cancel (own by s.more) (map (entry by) events) (own by old) (sym (own-append by s.more old) ∙ (sym (ap (own by) s.is) ∙ mine)) in
     s.is ∙ ap (λ z. z ++ old) (sym (all_own by s.more none) ∙ its)
 
-legal_before : (P : Rattle.isa.specs.Programs.Program) (C : Rattle.inorder.specs.Unit.Sizes) (more h : List Entry) → IsLegal P C (more ++ h) → IsLegal P C h
+legal_before : (P : Rattle.instructions.specs.Programs.Program) (C : Rattle.inorder.specs.Unit.Sizes) (more h : List Entry) → IsLegal P C (more ++ h) → IsLegal P C h
 legal_before P C [] h l = l
 legal_before P C (e ∷ more) h l = legal_before P C more h l.0
 

@@ -1,10 +1,10 @@
 -- A new core, and two tenants for it, of which the second waits for the first.
 use Rattle.std.proofs.Common.{◌≡◌, ℕ, ◌<◌, ◌^◌, List, [], IfSome, refl, sym, subst}
 use Rattle.std.specs.Prelude.{unwrap_or}
-use Rattle.isa.specs.Instruction.{fixed_next}
-use Rattle.isa.specs.Programs.{Program, address, instr_of}
-use Rattle.isa.specs.Settings.{Settings}
-use Rattle.isa.specs.declared.op.Half.TheVariants.{Low}
+use Rattle.instructions.specs.Instruction.{fixed_next}
+use Rattle.instructions.specs.Programs.{Program, address, instr_of}
+use Rattle.instructions.specs.Settings.{Settings}
+use Rattle.instructions.specs.declared.op.Half.TheVariants.{Low}
 use Rattle.inorder.specs.declared.history.Entry.{Entry}
 use Rattle.inorder.specs.History.{Adds}
 use Rattle.inorder.specs.Replies.{last_tag}

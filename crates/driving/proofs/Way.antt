@@ -1,10 +1,10 @@
 -- The way of an instruction through the core: it is let, claimed and finished by the first unit.
 use Rattle.std.proofs.Common.{◌≡◌, ℕ, cond, List, [], ◌∷◌, length, Some, None, sym, ap, ◌∙◌, subst, ⊎_elim, arith}
 use Rattle.std.specs.Prelude.{unwrap_or}
-use Rattle.isa.specs.Instruction.{first_of, kind, second_of}
-use Rattle.isa.specs.Operations.{outcome_of as outcome_of_half}
-use Rattle.isa.specs.Programs.{Program, instr_of}
-use Rattle.isa.specs.declared.stop.Outcome.{Outcome}
+use Rattle.instructions.specs.Instruction.{first_of, kind, second_of}
+use Rattle.instructions.specs.Operations.{outcome_of as outcome_of_half}
+use Rattle.instructions.specs.Programs.{Program, instr_of}
+use Rattle.instructions.specs.declared.stop.Outcome.{Outcome}
 use Rattle.inorder.specs.declared.history.Entry.{Entry}
 use Rattle.inorder.specs.declared.history.Source.TheVariants.{Second}
 use Rattle.inorder.specs.History.{Adds, IsUnit, StartsWith, front, own, unit_of}

@@ -1,6 +1,6 @@
 -- A unit claims the tenant that is ready at a station, and finishes its job.
 use Rattle.std.proofs.Common.{◌≡◌, ℕ, List, sym, ◌∙◌, subst}
-use Rattle.isa.specs.declared.stop.Outcome.{Outcome}
+use Rattle.instructions.specs.declared.stop.Outcome.{Outcome}
 use Rattle.inorder.specs.declared.history.Entry.{Entry}
 use Rattle.inorder.specs.History.{IsUnit}
 use Rattle.ruu_words.specs.Kinds.{IsTenant}

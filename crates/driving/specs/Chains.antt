@@ -1,13 +1,13 @@
 -- Two instructions, of which the second waits for what the first makes.
 use Rattle.std.specs.Prelude.{◌≡◌, ◌≢◌, ℕ, ◌<◌, List, length, Some}
-use Rattle.isa.specs.Instruction.{destination, first_of, fixed_next, kind, second_of}
-use Rattle.isa.specs.Operations.{outcome_of}
-use Rattle.isa.specs.Programs.{Program, address, instr_of, text_start}
-use Rattle.isa.specs.Registers.{register_count}
-use Rattle.isa.specs.declared.op.Half.TheVariants.{Low}
-use Rattle.isa.specs.declared.op.Kind.TheVariants.{Computes}
-use Rattle.isa.specs.declared.stop.Outcome.{Outcome}
-use Rattle.isa.specs.declared.stop.Outcome.TheVariants.{Value}
+use Rattle.instructions.specs.Instruction.{destination, first_of, fixed_next, kind, second_of}
+use Rattle.instructions.specs.Operations.{outcome_of}
+use Rattle.instructions.specs.Programs.{Program, address, instr_of, text_start}
+use Rattle.instructions.specs.Registers.{register_count}
+use Rattle.instructions.specs.declared.op.Half.TheVariants.{Low}
+use Rattle.instructions.specs.declared.op.Kind.TheVariants.{Computes}
+use Rattle.instructions.specs.declared.stop.Outcome.{Outcome}
+use Rattle.instructions.specs.declared.stop.Outcome.TheVariants.{Value}
 use Rattle.inorder.specs.declared.history.Entry.{Entry}
 use Rattle.inorder.specs.Replies.{job_of}
 use Rattle.inorder.specs.Tenants.{Tenant}

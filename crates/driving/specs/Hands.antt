@@ -1,7 +1,7 @@
 -- All seats of a core in one hand.
 use Rattle.std.specs.Prelude.{◌≡◌, ◌≢◌, ◌⊎◌, ℕ, []}
-use Rattle.isa.specs.Programs.{Program}
-use Rattle.isa.specs.Settings.{Settings}
+use Rattle.instructions.specs.Programs.{Program}
+use Rattle.instructions.specs.Settings.{Settings}
 use Rattle.inorder.specs.History.{Adds, IsUnit, StartsWith, back, front, own}
 use Rattle.ruu_words.specs.Rule.{IsHeir}
 use Rattle.station.specs.Seats.{Caller, TheCore}

@@ -6,7 +6,7 @@ ghost use Rattle.driving.specs.Hands.{AreAll};
 
 use crate::hand::{ask_next, claim_next, finish_next, let_next};
 use crate::seats::{Seats, make};
-use isa::{Config, Half, Kind, Memory, Outcome, Program, outcome_of};
+use instructions::{Config, Half, Kind, Memory, Outcome, Program, outcome_of};
 use station::{
     Claim, Core, Source, Supply, Tenant, a_job_is_of_the_program, a_let_can_be_asked,
     a_ready_tenant_is_claimed,

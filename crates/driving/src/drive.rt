@@ -6,7 +6,7 @@ ghost use Rattle.driving.specs.Hands.{AreAll, KnowsUnits};
 ghost use Rattle.driving.specs.Works.{HasValues, IsFirstOutcome, IsWorked, unit_at};
 
 use crate::seats::{Seats, gather, make};
-use isa::{Config, Half, Memory, Outcome, Program, outcome_of};
+use instructions::{Config, Half, Memory, Outcome, Program, outcome_of};
 use station::{
     Claim, Core, Supply, Tenant, a_job_is_finished, a_job_is_of_the_program, a_let_is_out,
     a_ready_tenant_is_claimed, jobs_stay,

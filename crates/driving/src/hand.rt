@@ -7,7 +7,7 @@ ghost use Rattle.driving.specs.Done.{HoldsNext, InAll, IsAskedNext, IsClaimedNex
 ghost use Rattle.driving.specs.Hands.{AreAll, HaveMetTwice};
 
 use crate::seats::{Seats, gather};
-use isa::Outcome;
+use instructions::Outcome;
 use station::{Ask, Claim, Core, Finish, Job, Source, Tenant, jobs_stay, mays_stay};
 
 // All meet, twice.

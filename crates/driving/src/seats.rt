@@ -2,7 +2,7 @@
 ghost use Rattle.std.specs.Prelude.{IfOk};
 ghost use Rattle.driving.specs.Hands.{AreAll, AreNew, HaveMet};
 
-use isa::{Config, Memory, Program};
+use instructions::{Config, Memory, Program};
 use station::{BackSeat, Core, FrontSeat, UnitSeat, no_seat_no_entry, numbers_are_given_once};
 use std::alloc::Global;
 

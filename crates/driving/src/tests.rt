@@ -1,7 +1,7 @@
 //! The example, run.
 use crate::{first_outcome, is_chain, second_outcome};
-use assembly::parse;
-use isa::{Config, Outcome, Stop};
+use instructions::{Config, Outcome, Stop};
+use isa::parse;
 use std::test::Fail;
 
 #[test]

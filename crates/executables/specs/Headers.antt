@@ -1,6 +1,6 @@
 -- The header of an ELF32 file, and where its program headers are.
 use Rattle.std.specs.Prelude.{ℕ, ◌+◌, ◌*◌, ◌==◌, ◌&&◌, Bool, not, nat_lt, List, length, slice_index, Option, Some, None, Result, Ok, Err, if◌then◌else◌}
-use Rattle.isa.specs.Programs.{text_start}
+use Rattle.instructions.specs.Programs.{text_start}
 use Rattle.executables.specs.declared.header.Table.{Table}
 use Rattle.executables.specs.declared.segment.Segment.{Segment}
 use Rattle.executables.specs.declared.refusal.Refusal.{Refusal}

@@ -1,6 +1,6 @@
 -- What the segments of a file load.
 use Rattle.std.specs.Prelude.{ℕ, zero, suc, ◌+◌, ◌*◌, ◌/◌, ◌%◌, ◌==◌, ◌&&◌, ◌||◌, Bool, not, nat_lt, List, ◌++◌, length, take, drop, slice_range, Result, Ok, Err, if◌then◌else◌}
-use Rattle.isa.specs.Programs.{text_start}
+use Rattle.instructions.specs.Programs.{text_start}
 use Rattle.executables.specs.declared.header.Table.{Table}
 use Rattle.executables.specs.declared.segment.Segment.{Segment}
 use Rattle.executables.specs.declared.refusal.Refusal.{Refusal}

@@ -4,7 +4,7 @@ ghost use Rattle.executables.specs.Headers.{has_magic as has_magic_of, unfit as 
 
 use crate::Refusal;
 use crate::bytes::{half_at, word_at};
-use isa::Program;
+use instructions::Program;
 
 /// Where the program headers begin, and how many there are. Each has 32 bytes.
 #[derive(Clone, Copy)]

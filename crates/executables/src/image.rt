@@ -7,7 +7,7 @@ use crate::Refusal;
 use crate::bytes::{words, zeros};
 use crate::header::{PROGRAM_HEADER, Table, table_of};
 use crate::segment::Segment;
-use isa::Program;
+use instructions::Program;
 use std::alloc::{AllocError, Global};
 use std::marker::Model;
 

@@ -1,7 +1,7 @@
 -- A front enters behind a renewal, and where one was refused.
 use Rattle.std.proofs.Common.{◌≡◌, ℕ, [], refl, ap, ◌∙◌, subst}
 use Rattle.std.proofs.Math.Nat.{zero-mod}
-use Rattle.isa.specs.Programs.{Program}
+use Rattle.instructions.specs.Programs.{Program}
 use Rattle.inorder.specs.History.{Adds, front, unit_of}
 use Rattle.inorder.specs.Unit.{Sizes, next_station, recent}
 use Rattle.station.specs.Seats.{Caller, TheCore}

@@ -3,7 +3,7 @@ use Rattle.std.proofs.Common.{◌≡◌, true, false, ◌%◌, ◌<◌, ℕ, Lis
 use Rattle.std.proofs.Math.Nat.{zero-mod}
 use Rattle.std.specs.List.{AllByRecursion}
 use Rattle.std.specs.Prelude.{slice_index}
-use Rattle.isa.specs.Programs.{Program}
+use Rattle.instructions.specs.Programs.{Program}
 use Rattle.inorder.specs.declared.history.Entry.{Entry}
 use Rattle.inorder.specs.History.{IsLegal, front, own, unit_of}
 use Rattle.inorder.specs.Unit.{Sizes, UpdateUnit, at, front_half, front_pc, newest_of, next_station, recent, value_of}

@@ -2,7 +2,7 @@
 use Rattle.std.proofs.Common.{◌≡◌, ◌≢◌, ℕ, zero, suc, ◌<◌, length, ◌∷◌, Bool, true, false, cond, List, [], ◌++◌, Option, Some, None, replicate, refl, sym, ap, ◌∙◌, subst, arith, ◌≤◌, ◌%◌, leb, leb-true, ⊎_elim}
 use Rattle.std.proofs.lemmas.List.{append-nil}
 use Rattle.std.specs.Prelude.{slice_get, slice_index}
-use Rattle.isa.specs.Programs.{Program, text_start}
+use Rattle.instructions.specs.Programs.{Program, text_start}
 use Rattle.inorder.specs.declared.history.Entry.{Entry}
 use Rattle.inorder.specs.declared.history.Step.{Step}
 use Rattle.inorder.specs.declared.history.Step.TheVariants.{Let, On, Renew}
@@ -14,7 +14,7 @@ use Rattle.inorder.proofs.SettledRegisters.{zeros}
 use Rattle.inorder.proofs.Sound.{IsSound}
 use Rattle.ruu_words.proofs.Stays.{front_stays}
 use Rattle.station.specs.Seats.{Caller, IsSame, TheCore}
-use Rattle.isa.specs.declared.op.Half.TheVariants.{Low}
+use Rattle.instructions.specs.declared.op.Half.TheVariants.{Low}
 use Rattle.inorder.proofs.Positions.{at_below}
 use Rattle.std.specs.List.{AllByRecursion}
 use Rattle.front.proofs.Trails.{IsNoted, trail_noted}

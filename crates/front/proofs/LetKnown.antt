@@ -1,7 +1,7 @@
 -- What the front knows behind a let of its own.
 use Rattle.std.proofs.Common.{◌≡◌, ◌≢◌, ℕ, ◌<◌, List, [], ◌∷◌, ◌++◌, length, refl, sym, ap, ◌∙◌, subst, ⊎_elim, arith, length-append, append_assoc, ◌≤◌, inl}
 use Rattle.std.specs.Prelude.{slice_index}
-use Rattle.isa.specs.Programs.{Program}
+use Rattle.instructions.specs.Programs.{Program}
 use Rattle.inorder.specs.declared.history.Step.TheVariants.{Let}
 use Rattle.inorder.specs.declared.history.Supply.{Supply}
 use Rattle.inorder.specs.Legal.{Allowed, applied}

@@ -4,7 +4,7 @@ use Rattle.std.proofs.Math.Nat.{add-mod_right, mod-add-mod}
 use Rattle.std.proofs.lemmas.Bool.{cases_lt}
 use Rattle.std.specs.Prelude.{slice_get}
 use Rattle.std.specs.List.{AllByRecursion}
-use Rattle.isa.specs.Programs.{Program}
+use Rattle.instructions.specs.Programs.{Program}
 use Rattle.inorder.specs.Tenants.{on_path}
 use Rattle.inorder.specs.Unit.{Sizes, UpdateUnit, front_half, front_pc, how_many, is_old, next_station, recent}
 use Rattle.inorder.proofs.Recent.{new_by}

@@ -1,8 +1,8 @@
 -- What the front knows stays true under the steps of others, and under links and deliveries of its own.
 use Rattle.std.proofs.Common.{◌≡◌, ℕ, ◌+◌, ◌%◌, List, refl, sym, ap, ◌∙◌, subst, inl, inr, ⊎_elim, length, ◌≤◌}
 use Rattle.std.specs.Prelude.{slice_index, is_none}
-use Rattle.isa.specs.Instruction.{destination, fixed_next, is_first_half, kind}
-use Rattle.isa.specs.Programs.{Program, instr_of}
+use Rattle.instructions.specs.Instruction.{destination, fixed_next, is_first_half, kind}
+use Rattle.instructions.specs.Programs.{Program, instr_of}
 use Rattle.inorder.specs.declared.history.Act.{Act}
 use Rattle.inorder.specs.declared.history.Act.TheVariants.{Claim, Deliver, Finish, Link, Load, Mend, Retire, Squash}
 use Rattle.inorder.specs.declared.history.Step.{Step}

@@ -1,8 +1,8 @@
 -- The path of a unit as a list.
 use Rattle.std.proofs.Common.{◌≡◌, ℕ, suc, ◌+◌, ◌%◌, Bool, true, false, cond, List, [], ◌∷◌, ◌++◌, length, Some, refl, sym, ap, ◌∙◌, subst, ⊎_elim, arith, true≢false}
 use Rattle.std.specs.List.{AllByRecursion}
-use Rattle.isa.specs.declared.op.Half.TheVariants.{Low}
-use Rattle.isa.specs.Programs.{Program, text_start}
+use Rattle.instructions.specs.declared.op.Half.TheVariants.{Low}
+use Rattle.instructions.specs.Programs.{Program, text_start}
 use Rattle.inorder.specs.Tenants.{Tenant, is_first, on_path}
 use Rattle.inorder.specs.Unit.{at, front_half, front_pc, half_after}
 use Rattle.inorder.proofs.Creators.{at_cases}

@@ -1,12 +1,12 @@
 -- What the predictor is told is what the last tenant of the station did.
 use Rattle.std.proofs.Common.{◌≡◌, ◌≢◌, ℕ, ◌<◌, Bool, ◌&&◌, List, ◌∷◌, ◌++◌, length, Option, Some, None, refl, sym, ap, ◌∙◌, subst, zero, suc, ◌+◌, ◌-◌, ◌≤◌, [], cond, eqb, eqb-true, eq-eqb, true, false, true≢false, inl, inr, ⊎_elim, arith}
 use Rattle.std.specs.List.{AllByRecursion}
-use Rattle.isa.specs.Operations.{outcome_by}
-use Rattle.isa.specs.Programs.{Program}
-use Rattle.isa.specs.declared.op.Kind.{Kind}
-use Rattle.isa.specs.declared.op.Kind.TheVariants.{Computes, Jumps, Links, Loads, Stores}
-use Rattle.isa.specs.declared.stop.Outcome.{Outcome}
-use Rattle.isa.specs.declared.stop.Outcome.TheVariants.{Address, Next, Pair, Stop as Stops, Value}
+use Rattle.instructions.specs.Operations.{outcome_by}
+use Rattle.instructions.specs.Programs.{Program}
+use Rattle.instructions.specs.declared.op.Kind.{Kind}
+use Rattle.instructions.specs.declared.op.Kind.TheVariants.{Computes, Jumps, Links, Loads, Stores}
+use Rattle.instructions.specs.declared.stop.Outcome.{Outcome}
+use Rattle.instructions.specs.declared.stop.Outcome.TheVariants.{Address, Next, Pair, Stop as Stops, Value}
 use Rattle.inorder.specs.declared.history.Entry.{Entry}
 use Rattle.inorder.specs.History.{IsLegal, unit_of}
 use Rattle.inorder.specs.Callers.{IsLastAt, is_retired, stands_retired}

@@ -1,8 +1,8 @@
 -- The create vector as a table: for each register its newest writer, and for each station what the
 -- let of its last tenant replaced.
 use Rattle.std.specs.Prelude.{◌≡◌, ◌≢◌, ℕ, ◌+◌, ◌%◌, ◌^◌, ◌<◌, ◌≤◌, List, ◌∷◌, ◌++◌, length, Option, Some, None, ◌==◌, nat_le, if◌then◌else◌, slice_get, slice_set, slice_index}
-use Rattle.isa.specs.Instruction.{pc_plus_4}
-use Rattle.isa.specs.Programs.{Program}
+use Rattle.instructions.specs.Instruction.{pc_plus_4}
+use Rattle.instructions.specs.Programs.{Program}
 use Rattle.inorder.specs.Callers.{IsLastAt}
 use Rattle.inorder.specs.Tenants.{Tenant}
 use Rattle.inorder.specs.Unit.{UpdateUnit, at}

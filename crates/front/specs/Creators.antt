@@ -1,6 +1,6 @@
 -- The create vector: who creates the newest value of a register.
 use Rattle.std.specs.Prelude.{ℕ, List, [], ◌∷◌, Option, Some, None, ◌==◌, if◌then◌else◌, slice_index}
-use Rattle.isa.specs.Instruction.{pc_plus_4}
+use Rattle.instructions.specs.Instruction.{pc_plus_4}
 use Rattle.inorder.specs.Unit.{can_be_written}
 use Rattle.station.specs.declared.answers.Supply.{Supply}
 use Rattle.station.specs.declared.answers.Supply.TheVariants.{From, Known}

@@ -1,8 +1,8 @@
 -- What contracts see of a front.
 use Rattle.std.specs.Prelude.{◌≡◌, ℕ, Bool, true, List, [], length}
 use Rattle.std.specs.List.{AllByRecursion}
-use Rattle.isa.specs.Programs.{Program}
-use Rattle.isa.specs.declared.instr.Instr.{Instr}
+use Rattle.instructions.specs.Programs.{Program}
+use Rattle.instructions.specs.declared.instr.Instr.{Instr}
 use Rattle.inorder.specs.declared.history.Entry.{Entry}
 use Rattle.inorder.specs.History.{Adds, IsLegal, front, own, unit_of}
 use Rattle.inorder.specs.Tenants.{IsNotLive}

@@ -1,9 +1,9 @@
 -- What a let makes of the predictor.
 use Rattle.std.specs.Prelude.{◌≡◌, ℕ, Bool, true, false, ◌&&◌, ◌-◌, List, length, Option, Some, None}
-use Rattle.isa.specs.declared.op.Half.{Half}
-use Rattle.isa.specs.Instruction.{fixed_next}
-use Rattle.isa.specs.Programs.{Program}
-use Rattle.isa.specs.declared.instr.Instr.{Instr}
+use Rattle.instructions.specs.declared.op.Half.{Half}
+use Rattle.instructions.specs.Instruction.{fixed_next}
+use Rattle.instructions.specs.Programs.{Program}
+use Rattle.instructions.specs.declared.instr.Instr.{Instr}
 use Rattle.inorder.specs.Callers.{is_retired}
 use Rattle.inorder.specs.Tenants.{Tenant, computed_next}
 use Rattle.inorder.specs.Unit.{newest_of}

@@ -1,7 +1,7 @@
 //! Letting a tenant, with its questions.
 ghost use Rattle.std.specs.Prelude.{◌≡◌, ◌<◌, ◌≤◌, IfSome};
 ghost use Rattle.inorder.specs.History.{IsLegal, front, unit_of};
-ghost use Rattle.isa.specs.Instruction.{fixed_next};
+ghost use Rattle.instructions.specs.Instruction.{fixed_next};
 ghost use Rattle.front.specs.CreateTable.{IsTouched};
 ghost use Rattle.front.specs.Fetching.{IsNext};
 ghost use Rattle.front.specs.Fronts.{KnowsPath, KnowsTable};
@@ -13,7 +13,7 @@ use crate::fetch::Fetched;
 use crate::path::{Counted, Path};
 use crate::supply::supply;
 use inorder::history::Source;
-use isa::Program;
+use instructions::Program;
 use station::{Core, FrontSeat, Supply, Tenant};
 
 // Asks for a source that comes from its creator.

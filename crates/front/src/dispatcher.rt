@@ -17,7 +17,7 @@ use crate::path::{Base, Counted, Creators, Path};
 use crate::recovery::recover_on;
 use crate::rest::rest_on;
 use crate::training::guess;
-use isa::{Predictor, Program, Reg};
+use instructions::{Predictor, Program, Reg};
 use station::{Core, FrontSeat, Part, SeatOf, Seen, StationState, what_is_seen_is_legal};
 use std::marker::Model;
 

@@ -9,7 +9,7 @@ ghost use Rattle.station.specs.Seats.{IsSame};
 use crate::answers::Turn;
 use crate::path::Path;
 use crate::queue::queue_is_full;
-use isa::{Half, Instr, Program};
+use instructions::{Half, Instr, Program};
 use station::{Core, FrontSeat, StationState};
 
 // No tenant gets this tag.

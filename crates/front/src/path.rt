@@ -12,7 +12,7 @@ mod record;
 use crate::fetch::Fetched;
 pub use base_state::Base;
 pub use counted::{Counted, Creators};
-use isa::{Half, pc_plus_4};
+use instructions::{Half, pc_plus_4};
 use record::new_record;
 pub use record::{Record, Records};
 use station::FrontSeat;

@@ -1,6 +1,6 @@
 //! Whether the queue takes one more load or store.
 ghost use Rattle.std.specs.Prelude.{◌≡◌, ◌≤◌, []};
-ghost use Rattle.isa.specs.Instruction.{kind};
+ghost use Rattle.instructions.specs.Instruction.{kind};
 ghost use Rattle.inorder.specs.Tenants.{is_access};
 ghost use Rattle.inorder.specs.History.{Adds, IsLegal, front, unit_of};
 ghost use Rattle.front.specs.Fronts.{AddsNothing, KnowsPath};
@@ -8,7 +8,7 @@ ghost use Rattle.front.specs.Queues.{AccessBefore, QueueSays};
 ghost use Rattle.station.specs.Seats.{IsSame};
 
 use crate::path::{Path, Record, Records};
-use isa::{Instr, Kind};
+use instructions::{Instr, Kind};
 use station::{Core, FrontSeat, StationState};
 
 /// A load or store.

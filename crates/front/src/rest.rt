@@ -9,7 +9,7 @@ ghost use Rattle.station.specs.Seats.{IsSame};
 
 use crate::answers::Rest;
 use crate::path::{Creators, Path};
-use isa::Predictor;
+use instructions::Predictor;
 use station::{Core, FrontSeat, StationState};
 use std::snapshot::Snapshot;
 

@@ -8,8 +8,8 @@ mod rests;
 mod stills;
 
 use crate::{Front, Made, Recovery, Turn};
-use assembly::parse;
-use isa::{Config, Instr, NotTaken, Outcome, Predictor, Program, Reg, outcome_of};
+use instructions::{Config, Instr, NotTaken, Outcome, Predictor, Program, Reg, outcome_of};
+use isa::parse;
 use station::{
     BackSeat, Claim, Core, Finish, Job, Retire, Source, StationState, UnitSeat,
     a_job_is_of_the_program,

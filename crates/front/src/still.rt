@@ -6,7 +6,7 @@ ghost use Rattle.front.specs.Stills.{GoesOn, next_at};
 
 use crate::dispatcher::Front;
 use crate::path::{Base, Creators, Path};
-use isa::{Predictor, Program};
+use instructions::{Predictor, Program};
 use station::{FrontSeat, what_is_seen_is_legal};
 use std::marker::Model;
 use std::snapshot::Snapshot;

@@ -3,7 +3,7 @@ ghost use Rattle.std.specs.Prelude.{◌≡◌, ◌<◌};
 ghost use Rattle.front.specs.CreateTable.{IsSupplied, IsTouched};
 
 use crate::path::{Counted, Path};
-use isa::Reg;
+use instructions::Reg;
 use station::Supply;
 
 /// What a new tenant is given for a source that reads this register. The last tenant of its own station leaves.

@@ -3,7 +3,7 @@ ghost use Rattle.front.specs.Training.{Guesses};
 
 use crate::fetch::Fetched;
 use crate::path::Record;
-use isa::Predictor;
+use instructions::Predictor;
 
 /// Tells the predictor of who has left, if it was asked about that tenant, and asks it where the next instruction
 /// goes on, unless that is fixed.

@@ -1,8 +1,8 @@
 -- What a retirement adds to the state that a new tenant finds, and that no other step changes it.
 use Rattle.std.proofs.Common.{◌≡◌, ◌≢◌, ℕ, Bool, true, false, cond, List, [], ◌∷◌, ◌++◌, Some, refl, sym, ap, ◌∙◌, subst, ⊎_elim}
-use Rattle.isa.specs.Programs.{Program}
-use Rattle.isa.specs.declared.op.Kind.{Kind}
-use Rattle.isa.specs.declared.op.Kind.TheVariants.{Computes, Jumps, Links, Loads, Stores}
+use Rattle.instructions.specs.Programs.{Program}
+use Rattle.instructions.specs.declared.op.Kind.{Kind}
+use Rattle.instructions.specs.declared.op.Kind.TheVariants.{Computes, Jumps, Links, Loads, Stores}
 use Rattle.inorder.specs.declared.history.Act.{Act}
 use Rattle.inorder.specs.declared.history.Act.TheVariants.{Claim, Deliver, Finish, Link, Load, Mend, Retire, Squash}
 use Rattle.inorder.specs.declared.history.Source.{Source}

@@ -2,7 +2,7 @@
 use Rattle.std.proofs.Common.{◌≡◌, ◌≢◌, ◌⊎◌, ℕ, zero, suc, ◌+◌, ◌-◌, ◌*◌, ◌/◌, ◌%◌, ◌<◌, ◌≤◌, Bool, true, false, cond, ◌&&◌, eqb, List, [], ◌∷◌, ◌++◌, length, set, Option, Some, None, refl, sym, ap, ◌∙◌, inl, inr, ⊎_elim, arith, length-set, get_or-set_other, get_or-set_same, eq-eqb, ne_eqb}
 use Rattle.std.specs.Prelude.{slice_index}
 use Rattle.std.proofs.lemmas.Option.{slice_get-get_or}
-use Rattle.isa.specs.Programs.{Program, address, instr_at, instr_of}
+use Rattle.instructions.specs.Programs.{Program, address, instr_at, instr_of}
 use Rattle.inorder.specs.Machine.{store_bytes, write}
 use Rattle.inorder.specs.Tenants.{Tenant, destination_of, on_path}
 use Rattle.inorder.specs.Unit.{at, last_writer, older, replaced, value_of, younger}

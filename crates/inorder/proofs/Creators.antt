@@ -1,7 +1,7 @@
 -- Creators are older than the tenants whose sources they give.
 use Rattle.std.proofs.Common.{◌≡◌, ◌⊎◌, ℕ, ◌<◌, Bool, true, false, cond, eqb, List, [], ◌∷◌, length, Option, Some, None, refl, sym, ap, ◌∙◌, subst, inl, inr, ⊎_elim, eqb-true}
-use Rattle.isa.specs.Instruction.{first_of, second_of}
-use Rattle.isa.specs.Programs.{Program, instr_of}
+use Rattle.instructions.specs.Instruction.{first_of, second_of}
+use Rattle.instructions.specs.Programs.{Program, instr_of}
 use Rattle.inorder.specs.declared.history.Source.{Source}
 use Rattle.inorder.specs.declared.history.Source.TheVariants.{First, Second}
 use Rattle.inorder.specs.declared.history.Step.{Step}

@@ -1,8 +1,8 @@
 -- A link that died with its tenant, as a whole legal run.
 use Rattle.std.proofs.Common.{◌≡◌, List, [], ◌∷◌, replicate, Some, None, refl, sym, true, true≢false}
-use Rattle.isa.specs.Operations.{checked_address, computed_by, jump_target, loaded}
-use Rattle.isa.specs.Programs.{Program, instr_at}
-use Rattle.isa.specs.declared.op.Op.TheVariants.{Addiu, Addu, Beq, Break}
+use Rattle.instructions.specs.Operations.{checked_address, computed_by, jump_target, loaded}
+use Rattle.instructions.specs.Programs.{Program, instr_at}
+use Rattle.instructions.specs.declared.op.Op.TheVariants.{Addiu, Addu, Beq, Break}
 use Rattle.inorder.specs.declared.history.Act.TheVariants.{Claim, Deliver, Finish, Link, Mend, Retire, Squash}
 use Rattle.inorder.specs.declared.history.Source.TheVariants.{First, Second}
 use Rattle.inorder.specs.declared.history.Step.TheVariants.{Let, On}

@@ -1,12 +1,12 @@
 -- What a sound unit has committed is in order.
 use Rattle.std.proofs.Common.{◌≡◌, ◌⊎◌, ℕ, Bool, true, false, ◌&&◌, not, eqb, inl, inr, List, [], ◌∷◌, length, Some, refl, sym, ap, ◌∙◌, subst, ⊎_elim, true≢false}
 use Rattle.std.specs.List.{AllByRecursion}
-use Rattle.isa.specs.Programs.{Program}
-use Rattle.isa.specs.Instruction.{is_low, is_pair}
-use Rattle.isa.specs.declared.op.Half.{Half}
-use Rattle.isa.specs.declared.op.Half.TheVariants.{High, Low}
-use Rattle.isa.specs.declared.stop.Outcome.TheVariants.{Stop as Stops}
-use Rattle.isa.specs.declared.stop.Stop.{Stop}
+use Rattle.instructions.specs.Programs.{Program}
+use Rattle.instructions.specs.Instruction.{is_low, is_pair}
+use Rattle.instructions.specs.declared.op.Half.{Half}
+use Rattle.instructions.specs.declared.op.Half.TheVariants.{High, Low}
+use Rattle.instructions.specs.declared.stop.Outcome.TheVariants.{Stop as Stops}
+use Rattle.instructions.specs.declared.stop.Stop.{Stop}
 use Rattle.inorder.specs.Committed.{ahead, commits, commits_by, committed, completes, with_tenant}
 use Rattle.inorder.specs.Machine.{Goes, Halts, State, step}
 use Rattle.inorder.specs.Runs.{after, next_state, stop, stop_of, then_state, then_stop}

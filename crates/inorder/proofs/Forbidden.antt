@@ -2,7 +2,7 @@
 use Rattle.std.proofs.Common.{◌≡◌, ℕ, ◌<◌, ◌≤◌, Bool, true, false, cond, ◌&&◌, eqb, List, [], ◌∷◌, ◌++◌, length, Some, None, refl, sym, ap, ◌∙◌, subst, arith, ⊎_elim}
 use Rattle.std.proofs.lemmas.Bool.{cases_lt}
 use Rattle.std.specs.List.{AllByRecursion}
-use Rattle.isa.specs.Programs.{Program}
+use Rattle.instructions.specs.Programs.{Program}
 use Rattle.inorder.specs.declared.history.Act.TheVariants.{Mend, Squash}
 use Rattle.inorder.specs.declared.history.Step.TheVariants.{On}
 use Rattle.inorder.specs.Guards.{IsClaimedOnce, LoadWaits, MissStays, Restores, SquashedStays, StopEnds}

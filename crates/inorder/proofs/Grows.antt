@@ -2,12 +2,12 @@
 use Rattle.std.proofs.Common.{◌≡◌, ℕ, suc, ◌-◌, Bool, true, false, cond, ◌&&◌, eqb, List, [], ◌∷◌, ◌++◌, length, Option, Some, None, refl, sym, ap, ◌∙◌, subst, true≢false}
 use Rattle.std.specs.List.{AllByRecursion}
 use Rattle.std.specs.Prelude.{option_map}
-use Rattle.isa.specs.Instruction.{destination, first_of, is_first_half, second_of, width}
-use Rattle.isa.specs.Programs.{Program, instr_of}
-use Rattle.isa.specs.declared.instr.Instr.{Instr}
-use Rattle.isa.specs.declared.op.Kind.{Kind}
-use Rattle.isa.specs.declared.op.Kind.TheVariants.{Computes, Jumps, Links, Loads, Stores}
-use Rattle.isa.specs.declared.stop.Outcome.{Outcome}
+use Rattle.instructions.specs.Instruction.{destination, first_of, is_first_half, second_of, width}
+use Rattle.instructions.specs.Programs.{Program, instr_of}
+use Rattle.instructions.specs.declared.instr.Instr.{Instr}
+use Rattle.instructions.specs.declared.op.Kind.{Kind}
+use Rattle.instructions.specs.declared.op.Kind.TheVariants.{Computes, Jumps, Links, Loads, Stores}
+use Rattle.instructions.specs.declared.stop.Outcome.{Outcome}
 use Rattle.inorder.specs.Memory.{Stored, byte_after, byte_at, covers, stored}
 use Rattle.inorder.specs.Steps.{HasAddress}
 use Rattle.inorder.specs.Tenants.{Addr, Busy, Done, Fate, IsNotLive, Live, Miss, Open, Retired, Squashed, Standing, Stopped, Tenant, destination_of, instr, is_first, kind_of, on_path, stands_on_path}

@@ -1,10 +1,10 @@
 -- Between the two halves of an instruction: what waits for the second.
 use Rattle.std.proofs.Common.{◌≡◌, ◌⊎◌, Bool, true, false, cond, ◌&&◌, not, List, [], ◌∷◌, refl, sym, ap, ◌∙◌, inl, inr, true≢false, subst}
 use Rattle.std.specs.List.{AllByRecursion}
-use Rattle.isa.specs.Instruction.{is_low, is_pair}
-use Rattle.isa.specs.Programs.{Program}
-use Rattle.isa.specs.declared.op.Half.{Half}
-use Rattle.isa.specs.declared.op.Half.TheVariants.{High, Low}
+use Rattle.instructions.specs.Instruction.{is_low, is_pair}
+use Rattle.instructions.specs.Programs.{Program}
+use Rattle.instructions.specs.declared.op.Half.{Half}
+use Rattle.instructions.specs.declared.op.Half.TheVariants.{High, Low}
 use Rattle.inorder.specs.Committed.{ahead, commits, committed, completes, with_first, with_retired}
 use Rattle.inorder.specs.Tenants.{Retired, Squashed, Tenant, behind, behind_by, instr, is_first, on_path}
 use Rattle.inorder.specs.Unit.{front_half, front_pc, half_after}

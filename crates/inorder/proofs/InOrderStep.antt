@@ -2,18 +2,18 @@
 use Rattle.std.proofs.Common.{◌≡◌, ◌≢◌, ℕ, zero, suc, ◌+◌, ◌%◌, ◌≤◌, ◌&&◌, Bool, true, false, cond, eqb, leb, ltb, ltb-true, ⊎_elim, List, [], ◌∷◌, length, Option, Some, None, Ok, Err, refl, sym, ap, ◌∙◌, subst, arith, leb-true}
 use Rattle.std.specs.List.{AllByRecursion}
 use Rattle.std.specs.Prelude.{unwrap_or, slice_index, Result}
-use Rattle.isa.specs.Instruction.{destination, destination_by, first_of, is_low, is_pair, pair_target, pc_plus_4, read_by, second_of, target_by, target_of, width}
-use Rattle.isa.specs.Registers.{lo}
-use Rattle.isa.specs.declared.op.Half.{Half}
-use Rattle.isa.specs.declared.op.Half.TheVariants.{High, Low}
-use Rattle.isa.specs.Operations.{as_address, as_value, checked_address, loaded, outcome, outcome_by, outcome_if, outcome_of, paired}
-use Rattle.isa.specs.Programs.{Program, address, instr_at, instr_of}
-use Rattle.isa.specs.declared.instr.Instr.{Instr}
-use Rattle.isa.specs.declared.op.Kind.{Kind}
-use Rattle.isa.specs.declared.op.Kind.TheVariants.{Computes, Jumps, Links, Loads, Stores}
-use Rattle.isa.specs.declared.stop.Outcome.{Outcome}
-use Rattle.isa.specs.declared.stop.Outcome.TheVariants.{Address, Next, Stop as Stops, Value}
-use Rattle.isa.specs.declared.stop.Stop.{Stop}
+use Rattle.instructions.specs.Instruction.{destination, destination_by, first_of, is_low, is_pair, pair_target, pc_plus_4, read_by, second_of, target_by, target_of, width}
+use Rattle.instructions.specs.Registers.{lo}
+use Rattle.instructions.specs.declared.op.Half.{Half}
+use Rattle.instructions.specs.declared.op.Half.TheVariants.{High, Low}
+use Rattle.instructions.specs.Operations.{as_address, as_value, checked_address, loaded, outcome, outcome_by, outcome_if, outcome_of, paired}
+use Rattle.instructions.specs.Programs.{Program, address, instr_at, instr_of}
+use Rattle.instructions.specs.declared.instr.Instr.{Instr}
+use Rattle.instructions.specs.declared.op.Kind.{Kind}
+use Rattle.instructions.specs.declared.op.Kind.TheVariants.{Computes, Jumps, Links, Loads, Stores}
+use Rattle.instructions.specs.declared.stop.Outcome.{Outcome}
+use Rattle.instructions.specs.declared.stop.Outcome.TheVariants.{Address, Next, Stop as Stops, Value}
+use Rattle.instructions.specs.declared.stop.Stop.{Stop}
 use Rattle.inorder.specs.Committed.{ahead, committed, with_stored, with_tenant}
 use Rattle.inorder.specs.Machine.{Goes, Halts, State, advanced, after_access, fetched, ran, step, store_bytes, write}
 use Rattle.inorder.specs.Memory.{byte_at, stored, stored_by}

@@ -1,15 +1,15 @@
 -- A new tenant is sound.
 use Rattle.std.proofs.Common.{◌≡◌, ℕ, Bool, true, false, List, Option, Some, refl, sym, ap, ◌∙◌, subst}
 use Rattle.std.specs.Prelude.{IfSome}
-use Rattle.isa.specs.Instruction.{first_of, fixed_next, fixed_next_by, fixed_next_if, is_first_half, kind, pc_plus_4, second_of}
-use Rattle.isa.specs.Programs.{Program, instr_of}
-use Rattle.isa.specs.declared.instr.Instr.{Instr}
-use Rattle.isa.specs.declared.op.Half.{Half}
-use Rattle.isa.specs.declared.op.Kind.{Kind}
-use Rattle.isa.specs.declared.op.Kind.TheVariants.{Computes, Jumps, Links, Loads, Stores}
-use Rattle.isa.specs.declared.op.Op.{Op}
-use Rattle.isa.specs.declared.op.Op.TheVariants.{Mult, Multu, Div, Divu, Mflo, Mfhi, Mtlo, Mthi, Add, Addi, Addiu, Addu, And, Andi, Beq, Bgez, Bgtz, Blez, Bltz, Bne, Break, J, Jal, Jalr, Jr, Lb, Lbu, Lh, Lhu, Lui, Lw, Nor, Or, Ori, Sb, Sh, Sll, Sllv, Slt, Slti, Sltiu, Sltu, Sra, Srav, Srl, Srlv, Sub, Subu, Sw, Xor, Xori}
-use Rattle.isa.specs.declared.stop.Outcome.{Outcome}
+use Rattle.instructions.specs.Instruction.{first_of, fixed_next, fixed_next_by, fixed_next_if, is_first_half, kind, pc_plus_4, second_of}
+use Rattle.instructions.specs.Programs.{Program, instr_of}
+use Rattle.instructions.specs.declared.instr.Instr.{Instr}
+use Rattle.instructions.specs.declared.op.Half.{Half}
+use Rattle.instructions.specs.declared.op.Kind.{Kind}
+use Rattle.instructions.specs.declared.op.Kind.TheVariants.{Computes, Jumps, Links, Loads, Stores}
+use Rattle.instructions.specs.declared.op.Op.{Op}
+use Rattle.instructions.specs.declared.op.Op.TheVariants.{Mult, Multu, Div, Divu, Mflo, Mfhi, Mtlo, Mthi, Add, Addi, Addiu, Addu, And, Andi, Beq, Bgez, Bgtz, Blez, Bltz, Bne, Break, J, Jal, Jalr, Jr, Lb, Lbu, Lh, Lhu, Lui, Lw, Nor, Or, Ori, Sb, Sh, Sll, Sllv, Slt, Slti, Sltiu, Sltu, Sra, Srav, Srl, Srlv, Sub, Subu, Sw, Xor, Xori}
+use Rattle.instructions.specs.declared.stop.Outcome.{Outcome}
 use Rattle.inorder.specs.declared.history.Supply.{Supply}
 use Rattle.inorder.specs.declared.history.Supply.TheVariants.{From, Known}
 use Rattle.inorder.specs.Steps.{MayLet, MaySupply, let_operand, new_tenant}

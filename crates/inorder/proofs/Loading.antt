@@ -2,11 +2,11 @@
 use Rattle.std.proofs.Common.{◌≡◌, ◌⊎◌, ℕ, ◌<◌, ◌≤◌, Bool, true, false, cond, eqb, List, [], ◌∷◌, length, Some, refl, sym, ap, ◌∙◌, subst, inl, inr, ⊎_elim, arith, eqb-true, ne_eqb}
 use Rattle.std.specs.Prelude.{unwrap_or}
 use native.Mathlib.Decide.{dec_lt}
-use Rattle.isa.specs.Instruction.{kind}
-use Rattle.isa.specs.Operations.{loaded}
-use Rattle.isa.specs.Programs.{Program, instr_of}
-use Rattle.isa.specs.declared.op.Kind.TheVariants.{Loads}
-use Rattle.isa.specs.declared.stop.Outcome.TheVariants.{Address}
+use Rattle.instructions.specs.Instruction.{kind}
+use Rattle.instructions.specs.Operations.{loaded}
+use Rattle.instructions.specs.Programs.{Program, instr_of}
+use Rattle.instructions.specs.declared.op.Kind.TheVariants.{Loads}
+use Rattle.instructions.specs.declared.stop.Outcome.TheVariants.{Address}
 use Rattle.inorder.specs.declared.history.Act.{Act}
 use Rattle.inorder.specs.declared.history.Act.TheVariants.{Claim, Deliver, Finish, Link, Load, Mend, Retire, Squash}
 use Rattle.inorder.specs.declared.history.Source.TheVariants.{First, Second}

@@ -6,9 +6,9 @@ use Rattle.std.specs.Prelude.{slice_index, slice_get, is_some, option_map, take}
 use Rattle.std.proofs.lemmas.List.{take-map, take_at}
 use Rattle.std.proofs.lemmas.Option.{slice_get-map}
 use Rattle.lsq.proofs.LoadsRight.{forward_is, memory_is, blocked_is_right}
-use Rattle.isa.specs.Instruction.{width}
-use Rattle.isa.specs.Programs.{Program}
-use Rattle.isa.specs.declared.op.Kind.TheVariants.{Loads, Stores}
+use Rattle.instructions.specs.Instruction.{width}
+use Rattle.instructions.specs.Programs.{Program}
+use Rattle.instructions.specs.declared.op.Kind.TheVariants.{Loads, Stores}
 use Rattle.lsq.specs.declared.answer.Answer.TheVariants.{Blocked, Forward, Memory}
 use Rattle.lsq.specs.declared.entry.Entry.{Entry}
 use Rattle.inorder.specs.Committed.{commits_by, committed}

@@ -1,13 +1,13 @@
 -- Multiplications and divisions, computed by the definitions alone: in the in-order machine, and as two tenants of a unit.
 use Rattle.std.proofs.Common.{◌≡◌, ℕ, List, [], ◌∷◌, replicate, ◌++◌, Some, refl, true≢false, sym}
-use Rattle.isa.specs.declared.end.Ending.TheVariants.{Stop as ByStop, Limit as ByLimit}
-use Rattle.isa.specs.declared.instr.Instr.{Instr}
-use Rattle.isa.specs.declared.op.Half.TheVariants.{High}
-use Rattle.isa.specs.declared.op.Op.{Op}
-use Rattle.isa.specs.declared.op.Op.TheVariants.{Addiu, Break, Div, Divu, Mfhi, Mflo, Mult, Multu}
-use Rattle.isa.specs.declared.stop.Stop.TheVariants.{Break as BreakStop}
-use Rattle.isa.specs.Operations.{computed_by}
-use Rattle.isa.specs.Programs.{Program, instr_at}
+use Rattle.instructions.specs.declared.end.Ending.TheVariants.{Stop as ByStop, Limit as ByLimit}
+use Rattle.instructions.specs.declared.instr.Instr.{Instr}
+use Rattle.instructions.specs.declared.op.Half.TheVariants.{High}
+use Rattle.instructions.specs.declared.op.Op.{Op}
+use Rattle.instructions.specs.declared.op.Op.TheVariants.{Addiu, Break, Div, Divu, Mfhi, Mflo, Mult, Multu}
+use Rattle.instructions.specs.declared.stop.Stop.TheVariants.{Break as BreakStop}
+use Rattle.instructions.specs.Operations.{computed_by}
+use Rattle.instructions.specs.Programs.{Program, instr_at}
 use Rattle.inorder.specs.declared.history.Act.TheVariants.{Claim, Finish, Retire}
 use Rattle.inorder.specs.declared.history.Step.TheVariants.{Let, On}
 use Rattle.inorder.specs.declared.history.Supply.TheVariants.{Known}

@@ -1,12 +1,12 @@
 -- What multiplications and divisions are: each half computes, and never stops.
 use Rattle.std.proofs.Common.{◌≡◌, ℕ, Bool, true, false, ◌&&◌, Ok, refl, sym, true≢false}
-use Rattle.isa.specs.Instruction.{is_first_half, is_low, is_pair, kind}
-use Rattle.isa.specs.Operations.{computed_by}
-use Rattle.isa.specs.declared.op.Half.{Half}
-use Rattle.isa.specs.declared.op.Half.TheVariants.{Low}
-use Rattle.isa.specs.declared.op.Kind.TheVariants.{Computes}
-use Rattle.isa.specs.declared.op.Op.{Op}
-use Rattle.isa.specs.declared.op.Op.TheVariants.{Addu, Subu, Add, Sub, And, Or, Xor, Nor, Slt, Sltu, Sll, Srl, Sra, Sllv, Srlv, Srav, Mult, Multu, Div, Divu, Mflo, Mfhi, Mtlo, Mthi, Addiu, Addi, Slti, Sltiu, Andi, Ori, Xori, Lui, Lb, Lbu, Lh, Lhu, Lw, Sb, Sh, Sw, Beq, Bne, Blez, Bgtz, Bltz, Bgez, J, Jal, Jr, Jalr, Break}
+use Rattle.instructions.specs.Instruction.{is_first_half, is_low, is_pair, kind}
+use Rattle.instructions.specs.Operations.{computed_by}
+use Rattle.instructions.specs.declared.op.Half.{Half}
+use Rattle.instructions.specs.declared.op.Half.TheVariants.{Low}
+use Rattle.instructions.specs.declared.op.Kind.TheVariants.{Computes}
+use Rattle.instructions.specs.declared.op.Op.{Op}
+use Rattle.instructions.specs.declared.op.Op.TheVariants.{Addu, Subu, Add, Sub, And, Or, Xor, Nor, Slt, Sltu, Sll, Srl, Sra, Sllv, Srlv, Srav, Mult, Multu, Div, Divu, Mflo, Mfhi, Mtlo, Mthi, Addiu, Addi, Slti, Sltiu, Andi, Ori, Xori, Lui, Lb, Lbu, Lh, Lhu, Lw, Sb, Sh, Sw, Beq, Bne, Blez, Bgtz, Bltz, Bgez, J, Jal, Jr, Jalr, Break}
 
 none : false ≡ true → ⊥
 none e = true≢false (sym e)

@@ -4,14 +4,14 @@ use Rattle.std.specs.List.{AllByRecursion}
 use Rattle.std.specs.Prelude.{slice_index, slice_get, IsSome}
 use Rattle.std.proofs.lemmas.List.{map-append}
 use Rattle.lsq.proofs.StoresLeft.{byte_left-append}
-use Rattle.isa.specs.Instruction.{width}
-use Rattle.isa.specs.Programs.{Program}
-use Rattle.isa.specs.declared.op.Kind.{Kind}
-use Rattle.isa.specs.declared.op.Kind.TheVariants.{Computes, Jumps, Links, Loads, Stores}
-use Rattle.isa.specs.declared.op.Op.{Op}
-use Rattle.isa.specs.declared.op.Op.TheVariants.{Mult, Multu, Div, Divu, Mflo, Mfhi, Mtlo, Mthi, Add, Addi, Addiu, Addu, And, Andi, Beq, Bgez, Bgtz, Blez, Bltz, Bne, Break, J, Jal, Jalr, Jr, Lb, Lbu, Lh, Lhu, Lui, Lw, Nor, Or, Ori, Sb, Sh, Sll, Sllv, Slt, Slti, Sltiu, Sltu, Sra, Srav, Srl, Srlv, Sub, Subu, Sw, Xor, Xori}
-use Rattle.isa.specs.declared.stop.Outcome.{Outcome}
-use Rattle.isa.specs.declared.stop.Stop.{Stop}
+use Rattle.instructions.specs.Instruction.{width}
+use Rattle.instructions.specs.Programs.{Program}
+use Rattle.instructions.specs.declared.op.Kind.{Kind}
+use Rattle.instructions.specs.declared.op.Kind.TheVariants.{Computes, Jumps, Links, Loads, Stores}
+use Rattle.instructions.specs.declared.op.Op.{Op}
+use Rattle.instructions.specs.declared.op.Op.TheVariants.{Mult, Multu, Div, Divu, Mflo, Mfhi, Mtlo, Mthi, Add, Addi, Addiu, Addu, And, Andi, Beq, Bgez, Bgtz, Blez, Bltz, Bne, Break, J, Jal, Jalr, Jr, Lb, Lbu, Lh, Lhu, Lui, Lw, Nor, Or, Ori, Sb, Sh, Sll, Sllv, Slt, Slti, Sltiu, Sltu, Sra, Srav, Srl, Srlv, Sub, Subu, Sw, Xor, Xori}
+use Rattle.instructions.specs.declared.stop.Outcome.{Outcome}
+use Rattle.instructions.specs.declared.stop.Stop.{Stop}
 use Rattle.lsq.specs.declared.entry.Entry.{Entry}
 use Rattle.inorder.specs.Committed.{commits, commits_by, committed}
 use Rattle.inorder.specs.Loads.{access_width, address_by, content_by, entry_in, entry_of, is_store, live_accesses, queue_of, with_access}

@@ -1,8 +1,8 @@
 -- Steps that are not allowed in the units of the example runs.
 use Rattle.std.proofs.Common.{List, [], ◌∷◌, arith, ◌≡◌, ◌≢◌, ℕ, Option, Some, None, refl, sym, ap, ◌∙◌, subst}
 use Rattle.std.specs.Prelude.{option_map}
-use Rattle.isa.specs.Operations.{checked_address, computed_by, jump_target, loaded}
-use Rattle.isa.specs.Programs.{instr_at}
+use Rattle.instructions.specs.Operations.{checked_address, computed_by, jump_target, loaded}
+use Rattle.instructions.specs.Programs.{instr_at}
 use Rattle.inorder.specs.declared.history.Act.TheVariants.{Claim, Finish, Load, Retire}
 use Rattle.inorder.specs.declared.history.Step.TheVariants.{Let, On}
 use Rattle.inorder.specs.declared.history.Supply.{Supply}

@@ -1,8 +1,8 @@
 -- A station let again while a job of its old tenant is out, as a whole legal run.
 use Rattle.std.proofs.Common.{◌≡◌, List, [], ◌∷◌, replicate, refl, sym, true≢false}
-use Rattle.isa.specs.Operations.{checked_address, computed_by, jump_target, loaded}
-use Rattle.isa.specs.Programs.{Program, instr_at}
-use Rattle.isa.specs.declared.op.Op.TheVariants.{Addiu, Beq, Break}
+use Rattle.instructions.specs.Operations.{checked_address, computed_by, jump_target, loaded}
+use Rattle.instructions.specs.Programs.{Program, instr_at}
+use Rattle.instructions.specs.declared.op.Op.TheVariants.{Addiu, Beq, Break}
 use Rattle.inorder.specs.declared.history.Act.TheVariants.{Claim, Finish, Mend, Retire, Squash}
 use Rattle.inorder.specs.declared.history.Step.TheVariants.{Let, On}
 use Rattle.inorder.specs.declared.history.Supply.TheVariants.{Known}

@@ -1,9 +1,9 @@
 -- A run with two renewals, computed by the definitions alone, and steps that are not allowed.
 use Rattle.std.proofs.Common.{◌≡◌, ℕ, List, [], ◌∷◌, Some, refl, sym, ap, ◌∙◌, true, true≢false}
-use Rattle.isa.specs.declared.op.Op.TheVariants.{Addiu, Break}
-use Rattle.isa.specs.declared.stop.Stop.TheVariants.{Break as BreakStop}
-use Rattle.isa.specs.Operations.{computed_by}
-use Rattle.isa.specs.Programs.{Program, instr_at}
+use Rattle.instructions.specs.declared.op.Op.TheVariants.{Addiu, Break}
+use Rattle.instructions.specs.declared.stop.Stop.TheVariants.{Break as BreakStop}
+use Rattle.instructions.specs.Operations.{computed_by}
+use Rattle.instructions.specs.Programs.{Program, instr_at}
 use Rattle.inorder.specs.declared.history.Act.TheVariants.{Claim, Finish, Retire}
 use Rattle.inorder.specs.declared.history.Step.TheVariants.{Let, On, Renew}
 use Rattle.inorder.specs.declared.history.Supply.{Supply}

@@ -3,11 +3,11 @@ use Rattle.std.proofs.Common.{◌≡◌, ◌≢◌, ◌⊎◌, ℕ, zero, suc, �
 use Rattle.std.specs.List.{AllByRecursion}
 use Rattle.std.specs.Prelude.{unwrap_or, slice_index}
 use Rattle.std.proofs.lemmas.List.{length-replicate, get_or_past}
-use Rattle.isa.specs.Instruction.{width}
-use Rattle.isa.specs.Programs.{Program}
-use Rattle.isa.specs.declared.op.Kind.{Kind}
-use Rattle.isa.specs.declared.op.Kind.TheVariants.{Computes, Jumps, Links, Loads, Stores}
-use Rattle.isa.specs.declared.stop.Outcome.TheVariants.{Address}
+use Rattle.instructions.specs.Instruction.{width}
+use Rattle.instructions.specs.Programs.{Program}
+use Rattle.instructions.specs.declared.op.Kind.{Kind}
+use Rattle.instructions.specs.declared.op.Kind.TheVariants.{Computes, Jumps, Links, Loads, Stores}
+use Rattle.instructions.specs.declared.stop.Outcome.TheVariants.{Address}
 use Rattle.inorder.specs.Committed.{ahead, commits, commits_by, committed, completes, with_retired, with_tenant, with_write}
 use Rattle.inorder.specs.Machine.{State, write}
 use Rattle.inorder.specs.Memory.{Stored, byte_after, byte_at, stored, stored_by}

@@ -1,9 +1,9 @@
 -- Three instructions on two stations, with a front, a back and two units, as a legal history.
 use Rattle.std.proofs.Common.{◌≡◌, List, [], ◌∷◌, replicate, Some, inl, inr, refl, sym, true, true≢false}
-use Rattle.isa.specs.Operations.{checked_address, computed_by, jump_target, loaded}
-use Rattle.isa.specs.Programs.{Program, instr_at}
-use Rattle.isa.specs.declared.op.Op.TheVariants.{Addiu, Addu, Break}
-use Rattle.isa.specs.declared.stop.Stop.TheVariants.{Break as BreakStop}
+use Rattle.instructions.specs.Operations.{checked_address, computed_by, jump_target, loaded}
+use Rattle.instructions.specs.Programs.{Program, instr_at}
+use Rattle.instructions.specs.declared.op.Op.TheVariants.{Addiu, Addu, Break}
+use Rattle.instructions.specs.declared.stop.Stop.TheVariants.{Break as BreakStop}
 use Rattle.inorder.specs.declared.history.Act.TheVariants.{Claim, Deliver, Finish, Link, Retire}
 use Rattle.inorder.specs.declared.history.Entry.{Entry}
 use Rattle.inorder.specs.declared.history.Mark.TheVariants.{Asked, Walked}

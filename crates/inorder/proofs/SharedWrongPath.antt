@@ -1,7 +1,7 @@
 -- A mispredicted branch with two units, as a legal history: what was claimed on the wrong path is stale.
 use Rattle.std.proofs.Common.{◌≡◌, List, [], ◌∷◌, refl, sym, true≢false}
-use Rattle.isa.specs.Operations.{checked_address, computed_by, jump_target, loaded}
-use Rattle.isa.specs.Programs.{instr_at}
+use Rattle.instructions.specs.Operations.{checked_address, computed_by, jump_target, loaded}
+use Rattle.instructions.specs.Programs.{instr_at}
 use Rattle.inorder.specs.declared.history.Act.TheVariants.{Claim, Finish, Mend, Squash}
 use Rattle.inorder.specs.declared.history.Entry.{Entry}
 use Rattle.inorder.specs.declared.history.Refusal.TheVariants.{Stale}

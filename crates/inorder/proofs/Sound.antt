@@ -1,14 +1,14 @@
 -- What holds of each tenant of a reached unit, and what follows of one whose older tenants have all left.
 use Rattle.std.proofs.Common.{◌≡◌, ◌≢◌, ℕ, ◌<◌, true, List, [], ◌∷◌, length, Option, Some, None}
 use Rattle.std.specs.List.{AllByRecursion}
-use Rattle.isa.specs.Instruction.{first_of, pc_plus_4, second_of}
-use Rattle.isa.specs.Operations.{loaded}
-use Rattle.isa.specs.Programs.{Program, address}
-use Rattle.isa.specs.declared.instr.Instr.{Instr}
-use Rattle.isa.specs.declared.op.Kind.{Kind}
-use Rattle.isa.specs.declared.op.Kind.TheVariants.{Computes, Jumps, Links, Loads, Stores}
-use Rattle.isa.specs.declared.stop.Outcome.{Outcome}
-use Rattle.isa.specs.declared.stop.Outcome.TheVariants.{Address, Next, Stop as Stops, Value}
+use Rattle.instructions.specs.Instruction.{first_of, pc_plus_4, second_of}
+use Rattle.instructions.specs.Operations.{loaded}
+use Rattle.instructions.specs.Programs.{Program, address}
+use Rattle.instructions.specs.declared.instr.Instr.{Instr}
+use Rattle.instructions.specs.declared.op.Kind.{Kind}
+use Rattle.instructions.specs.declared.op.Kind.TheVariants.{Computes, Jumps, Links, Loads, Stores}
+use Rattle.instructions.specs.declared.stop.Outcome.{Outcome}
+use Rattle.instructions.specs.declared.stop.Outcome.TheVariants.{Address, Next, Stop as Stops, Value}
 use Rattle.inorder.specs.Memory.{raw_at}
 use Rattle.inorder.specs.Steps.{CanRetire, HasAddress}
 use Rattle.inorder.specs.Tenants.{Addr, Busy, Done, Fate, IsThere, Live, Miss, Open, Operand, Retired, Squashed, Standing, Stopped, Tenant, behind, computed, instr, kind_of, made_at_let, on_path}

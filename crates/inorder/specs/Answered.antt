@@ -1,7 +1,7 @@
 -- Each call of a unit and of the back has an answer, in every legal history: its step is allowed,
 -- or a refusal is.
 use Rattle.std.specs.Prelude.{◌≡◌, ◌⊎◌, ℕ, List, Some}
-use Rattle.isa.specs.Programs.{Program}
+use Rattle.instructions.specs.Programs.{Program}
 use Rattle.inorder.specs.declared.history.Act.TheVariants.{Claim, Finish, Retire}
 use Rattle.inorder.specs.declared.history.Entry.{Entry}
 use Rattle.inorder.specs.declared.history.Event.TheVariants.{Does, Refuses}

@@ -1,11 +1,11 @@
 -- What the fate of a tenant says of its outcome, of what it made and of where it goes on.
 use Rattle.std.specs.Prelude.{◌≡◌, ◌≢◌, ℕ, ◌<◌, List, length, Some, None}
-use Rattle.isa.specs.Instruction.{pc_plus_4}
-use Rattle.isa.specs.Programs.{Program, address}
-use Rattle.isa.specs.declared.op.Kind.{Kind}
-use Rattle.isa.specs.declared.op.Kind.TheVariants.{Computes, Jumps, Links, Loads, Stores}
-use Rattle.isa.specs.declared.stop.Outcome.TheVariants.{Address, Next, Stop as Stops, Value}
-use Rattle.isa.specs.declared.stop.Stop.{Stop}
+use Rattle.instructions.specs.Instruction.{pc_plus_4}
+use Rattle.instructions.specs.Programs.{Program, address}
+use Rattle.instructions.specs.declared.op.Kind.{Kind}
+use Rattle.instructions.specs.declared.op.Kind.TheVariants.{Computes, Jumps, Links, Loads, Stores}
+use Rattle.instructions.specs.declared.stop.Outcome.TheVariants.{Address, Next, Stop as Stops, Value}
+use Rattle.instructions.specs.declared.stop.Stop.{Stop}
 use Rattle.inorder.specs.Legal.{AreAllowed, Taken, reached}
 use Rattle.inorder.specs.Tenants.{Addr, Done, Miss, Open, Operand, Stopped, Tenant, computed, computed_next, kind_of, missing}
 use Rattle.inorder.specs.Unit.{Sizes, at, older, value_of}

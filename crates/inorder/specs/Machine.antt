@@ -1,17 +1,17 @@
 -- The in-order machine: its state, and one step of it.
 use Rattle.std.specs.Prelude.{ℕ, zero, suc, ◌+◌, ◌/◌, ◌%◌, List, length, replicate, Option, Some, None, slice_index, slice_set}
-use Rattle.isa.specs.declared.instr.Instr.{Instr}
-use Rattle.isa.specs.declared.stop.Stop.{Stop}
-use Rattle.isa.specs.declared.stop.Stop.TheVariants.{BadPc}
-use Rattle.isa.specs.declared.stop.Outcome.{Outcome}
-use Rattle.isa.specs.declared.stop.Outcome.TheVariants.{Value, Next, Address, Stop as Stops, Pair}
-use Rattle.isa.specs.declared.op.Half.TheVariants.{Low, High}
-use Rattle.isa.specs.declared.op.Kind.{Kind}
-use Rattle.isa.specs.declared.op.Kind.TheVariants.{Stores}
-use Rattle.isa.specs.Registers.{register_count}
-use Rattle.isa.specs.Instruction.{kind, destination, first_of, second_of, width, pc_plus_4}
-use Rattle.isa.specs.Operations.{outcome, loaded}
-use Rattle.isa.specs.Programs.{Program, text_start, instr_at}
+use Rattle.instructions.specs.declared.instr.Instr.{Instr}
+use Rattle.instructions.specs.declared.stop.Stop.{Stop}
+use Rattle.instructions.specs.declared.stop.Stop.TheVariants.{BadPc}
+use Rattle.instructions.specs.declared.stop.Outcome.{Outcome}
+use Rattle.instructions.specs.declared.stop.Outcome.TheVariants.{Value, Next, Address, Stop as Stops, Pair}
+use Rattle.instructions.specs.declared.op.Half.TheVariants.{Low, High}
+use Rattle.instructions.specs.declared.op.Kind.{Kind}
+use Rattle.instructions.specs.declared.op.Kind.TheVariants.{Stores}
+use Rattle.instructions.specs.Registers.{register_count}
+use Rattle.instructions.specs.Instruction.{kind, destination, first_of, second_of, width, pc_plus_4}
+use Rattle.instructions.specs.Operations.{outcome, loaded}
+use Rattle.instructions.specs.Programs.{Program, text_start, instr_at}
 use Rattle.lsq.specs.Bytes.{little_endian}
 
 -- registers, data memory, the pc, and how many instructions were run

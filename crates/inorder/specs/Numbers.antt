@@ -1,6 +1,6 @@
 -- The numbers of a unit are 32-bit words.
 use Rattle.std.specs.Prelude.{◌≡◌, ℕ, ◌^◌, ◌<◌, ◌≤◌, List, length, Some, IfSome, slice_index, ⊤}
-use Rattle.isa.specs.Programs.{Program, instr_of}
+use Rattle.instructions.specs.Programs.{Program, instr_of}
 use Rattle.inorder.specs.Legal.{AreAllowed, Taken, reached}
 use Rattle.inorder.specs.Tenants.{Addr, Done, Fate, Miss, Tenant}
 use Rattle.inorder.specs.Unit.{Sizes, at}

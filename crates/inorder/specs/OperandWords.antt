@@ -1,6 +1,6 @@
 -- What the operand words of a station show, and how each step moves them.
 use Rattle.std.specs.Prelude.{⊤, ◌≡◌, ◌≢◌, ◌⊎◌, ℕ, true, false, List, Option, Some, None, ◌==◌, if◌then◌else◌}
-use Rattle.isa.specs.Programs.{Program}
+use Rattle.instructions.specs.Programs.{Program}
 use Rattle.inorder.specs.declared.history.Act.{Act}
 use Rattle.inorder.specs.declared.history.Act.TheVariants.{Deliver}
 use Rattle.inorder.specs.declared.history.Source.{Source}

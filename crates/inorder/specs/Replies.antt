@@ -2,10 +2,10 @@
 -- that was made.
 use Rattle.std.specs.Prelude.{◌≡◌, ◌≢◌, ℕ, ◌-◌, ◌^◌, ◌<◌, Bool, true, false, ◌&&◌, length, Some, None, if◌then◌else◌}
 use Rattle.std.specs.List.{AllByRecursion}
-use Rattle.isa.specs.declared.op.Half.{Half}
-use Rattle.isa.specs.Instruction.{kind}
-use Rattle.isa.specs.Programs.{Program, address, instr_at, instr_of}
-use Rattle.isa.specs.declared.stop.Stop.{Stop}
+use Rattle.instructions.specs.declared.op.Half.{Half}
+use Rattle.instructions.specs.Instruction.{kind}
+use Rattle.instructions.specs.Programs.{Program, address, instr_at, instr_of}
+use Rattle.instructions.specs.declared.stop.Stop.{Stop}
 use Rattle.inorder.specs.declared.history.Source.{Source}
 use Rattle.inorder.specs.declared.history.Source.TheVariants.{First, Second}
 use Rattle.inorder.specs.Steps.{CanRetire, IsNoRetiredStop}

@@ -1,9 +1,9 @@
 -- Runs of the in-order machine.
 use Rattle.std.specs.Prelude.{◌≡◌, ℕ, zero, suc, Option, Some, None}
-use Rattle.isa.specs.declared.stop.Stop.{Stop}
-use Rattle.isa.specs.declared.end.Ending.{Ending}
-use Rattle.isa.specs.declared.end.Ending.TheVariants.{Stop as ByStop, Limit as ByLimit}
-use Rattle.isa.specs.Programs.{Program}
+use Rattle.instructions.specs.declared.stop.Stop.{Stop}
+use Rattle.instructions.specs.declared.end.Ending.{Ending}
+use Rattle.instructions.specs.declared.end.Ending.TheVariants.{Stop as ByStop, Limit as ByLimit}
+use Rattle.instructions.specs.Programs.{Program}
 use Rattle.inorder.specs.Machine.{State, Ran, Goes, Halts, start, step}
 use Rattle.inorder.specs.declared.machine.Stepped.{Stepped}
 use Rattle.inorder.specs.declared.machine.Stepped.TheVariants.{Ran as HasRan, Stopped}

@@ -1,15 +1,15 @@
 -- A tenant: one use of a reservation station by an instruction in flight.
 use Rattle.std.specs.Prelude.{◌≡◌, ◌≢◌, ℕ, Bool, true, false, ◌&&◌, length, Option, Some, None, unwrap_or, if◌then◌else◌}
-use Rattle.isa.specs.Instruction.{destination, is_first_half, kind, pc_plus_4}
-use Rattle.isa.specs.Operations.{outcome_of}
-use Rattle.isa.specs.Programs.{Program, instr_of}
-use Rattle.isa.specs.declared.instr.Instr.{Instr}
-use Rattle.isa.specs.declared.op.Half.{Half}
-use Rattle.isa.specs.declared.op.Kind.{Kind}
-use Rattle.isa.specs.declared.op.Kind.TheVariants.{Links, Loads, Stores}
-use Rattle.isa.specs.declared.stop.Outcome.{Outcome}
-use Rattle.isa.specs.declared.stop.Outcome.TheVariants.{Next}
-use Rattle.isa.specs.declared.stop.Stop.{Stop}
+use Rattle.instructions.specs.Instruction.{destination, is_first_half, kind, pc_plus_4}
+use Rattle.instructions.specs.Operations.{outcome_of}
+use Rattle.instructions.specs.Programs.{Program, instr_of}
+use Rattle.instructions.specs.declared.instr.Instr.{Instr}
+use Rattle.instructions.specs.declared.op.Half.{Half}
+use Rattle.instructions.specs.declared.op.Kind.{Kind}
+use Rattle.instructions.specs.declared.op.Kind.TheVariants.{Links, Loads, Stores}
+use Rattle.instructions.specs.declared.stop.Outcome.{Outcome}
+use Rattle.instructions.specs.declared.stop.Outcome.TheVariants.{Next}
+use Rattle.instructions.specs.declared.stop.Stop.{Stop}
 use Rattle.inorder.specs.declared.history.Source.{Source}
 use Rattle.inorder.specs.declared.history.Source.TheVariants.{First, Second}
 

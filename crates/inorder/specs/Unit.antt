@@ -1,10 +1,10 @@
 -- The one-thread unit: all tenants ever let, the youngest first, so that the tenants before one are
 -- the rest of the list from it on. A tenant's position is how many are before it.
 use Rattle.std.specs.Prelude.{ℕ, zero, suc, ◌+◌, ◌%◌, Bool, true, false, ◌&&◌, List, [], ◌∷◌, length, Option, Some, None, ◌==◌, nat_lt, if◌then◌else◌}
-use Rattle.isa.specs.declared.op.Half.{Half}
-use Rattle.isa.specs.declared.op.Half.TheVariants.{High, Low}
-use Rattle.isa.specs.Programs.{Program}
-use Rattle.isa.specs.Registers.{register_count}
+use Rattle.instructions.specs.declared.op.Half.{Half}
+use Rattle.instructions.specs.declared.op.Half.TheVariants.{High, Low}
+use Rattle.instructions.specs.Programs.{Program}
+use Rattle.instructions.specs.Registers.{register_count}
 use Rattle.inorder.specs.Tenants.{Tenant, destination_of, is_first, on_path}
 
 -- The register update unit, as the list of all its tenants

@@ -1,6 +1,6 @@
 //! What no step of a legal unit may do, and what a recovery restores, as laws.
 ghost use Rattle.std.specs.Prelude.{List};
-ghost use Rattle.isa.specs.Programs.{Program};
+ghost use Rattle.instructions.specs.Programs.{Program};
 ghost use Rattle.inorder.specs.Unit.{Sizes};
 ghost use Rattle.inorder.specs.Legal.{Taken};
 ghost use Rattle.inorder.specs.Guards.{MissStays, SquashedStays, IsClaimedOnce, StopEnds, LoadWaits, Delivers, Restores};

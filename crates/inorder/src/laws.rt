@@ -1,7 +1,7 @@
 //! What holds of every unit that legal steps reach. Each function is a law: it does nothing, and
 //! its contract is proved.
 ghost use Rattle.std.specs.Prelude.{List, ℕ};
-ghost use Rattle.isa.specs.Programs.{Program};
+ghost use Rattle.instructions.specs.Programs.{Program};
 ghost use Rattle.inorder.specs.Unit.{Sizes};
 ghost use Rattle.inorder.specs.Legal.{Taken};
 ghost use Rattle.inorder.specs.Theorem.{IsRight};

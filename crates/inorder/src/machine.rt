@@ -1,11 +1,13 @@
 //! The in-order machine.
 ghost use Rattle.std.specs.Prelude.{◌≡◌, ◌<◌, ◌≤◌, ◌+◌, ◌^◌, ◌-◌, length, slice_index, IfOk};
 ghost use Rattle.inorder.specs.Machine.{write as written, step as step_of, start, advanced, after_access, after_pair};
-ghost use Rattle.isa.specs.Instruction.{kind as kind_of, width as width_of, second_of};
+ghost use Rattle.instructions.specs.Instruction.{kind as kind_of, width as width_of, second_of};
 ghost use Rattle.inorder.specs.Runs.{Running, IsStep, end_from, ending};
 
 use crate::data::{number, store};
-use isa::{Half, Instr, Kind, Memory, Outcome, Program, Reg, Stop, loaded, outcome, pc_plus_4};
+use instructions::{
+    Half, Instr, Kind, Memory, Outcome, Program, Reg, Stop, loaded, outcome, pc_plus_4,
+};
 use std::alloc::Global;
 use std::marker::Model;
 

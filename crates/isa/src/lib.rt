@@ -1,29 +1,16 @@
-//! The integer operations of MIPS I without delay slots: what they are, what each comes to, and the
-//! programs, configurations and predictors that every machine here shares.
+//! The instruction set as programs meet it: listings that are read, instructions and reports that are written, and all that
+//! crate `instructions` has.
 #![tactic(auto)]
 
-mod config;
-mod end;
-mod instr;
-mod memory;
-mod op;
-mod predictor;
-mod products;
-mod program;
-mod reg;
-mod semantics;
-mod stop;
+mod listing;
+mod report;
 
-pub use config::{BadConfig, Config};
-pub use end::{End, Ending};
-pub use instr::Instr;
-pub use memory::Memory;
-pub use op::{Half, Kind, Op};
-pub use predictor::{Bimod, NotTaken, Predictor, Taken};
-pub use program::Program;
-pub use reg::Reg;
-pub use semantics::{loaded, outcome, outcome_of, pc_plus_4};
-pub use stop::{Outcome, Stop};
+pub use instructions::{
+    BadConfig, Bimod, Config, End, Ending, Half, Instr, Kind, Memory, NotTaken, Op, Outcome,
+    Predictor, Program, Reg, Stop, Taken, loaded, outcome, outcome_of, pc_plus_4,
+};
+pub use listing::{FaultKind, InstrText, Label, Naming, TextFault, parse, text_is_read_back};
+pub use report::{Hexadecimal, fault_text, report_text};
 
 #[cfg(test)]
 mod tests;

@@ -2,8 +2,8 @@
 use Rattle.std.proofs.Common.{◌≡◌, ℕ, ◌+◌, ◌-◌, ◌*◌, ◌/◌, ◌%◌, ◌^◌, ◌<◌, arith, ap, ◌∙◌, sym}
 use Rattle.std.proofs.lemmas.Int.{ints}
 use Rattle.std.specs.Int.{w16}
-use Rattle.isa.specs.Operations.{extended}
-use Rattle.isa.specs.Instruction.{pc_plus_4}
+use Rattle.instructions.specs.Operations.{extended}
+use Rattle.instructions.specs.Instruction.{pc_plus_4}
 use Rattle.machine_words.specs.Fields.{opcode_of, rs_of, rt_of, rd_of, shift_of, funct_of, immediate_of, region_index_of}
 use Rattle.machine_words.specs.Words.{registers, immediate, distance, branch_target, region_target}
 

@@ -1,8 +1,8 @@
 -- What holds of every word and every operation.
 use Rattle.std.specs.Prelude.{◌≡◌, ℕ, ◌<◌, ◌^◌, Some}
-use Rattle.isa.specs.declared.op.Op.{Op}
-use Rattle.isa.specs.declared.instr.Instr.{Instr}
-use Rattle.assembly.specs.InstrText.{IsWritable}
+use Rattle.instructions.specs.declared.op.Op.{Op}
+use Rattle.instructions.specs.declared.instr.Instr.{Instr}
+use Rattle.isa.specs.InstrText.{IsWritable}
 use Rattle.machine_words.specs.Words.{decode}
 
 -- two words that say one instruction at an address are one word

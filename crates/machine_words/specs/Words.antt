@@ -1,11 +1,11 @@
 -- What a machine word says.
 use Rattle.std.specs.Prelude.{ℕ, ◌+◌, ◌-◌, ◌*◌, ◌/◌, ◌%◌, ◌^◌, ◌==◌, ◌&&◌, Bool, Option, Some, None, if◌then◌else◌}
 use Rattle.std.specs.Int.{w16}
-use Rattle.isa.specs.declared.op.Op.{Op}
-use Rattle.isa.specs.declared.instr.Instr.{Instr}
-use Rattle.isa.specs.Instruction.{pc_plus_4}
-use Rattle.isa.specs.Operations.{extended}
-use Rattle.assembly.specs.Statement.{implied_target, implied_source}
+use Rattle.instructions.specs.declared.op.Op.{Op}
+use Rattle.instructions.specs.declared.instr.Instr.{Instr}
+use Rattle.instructions.specs.Instruction.{pc_plus_4}
+use Rattle.instructions.specs.Operations.{extended}
+use Rattle.isa.specs.Statement.{implied_target, implied_source}
 use Rattle.machine_words.specs.declared.decoding.Decoded.{Decoded}
 use Rattle.machine_words.specs.declared.layout.Shape.{Shape}
 use Rattle.machine_words.specs.declared.layout.Shape.TheVariants.{ThreeRegisters, ShiftByAmount, ShiftByRegister, TwoRegisters, MoveFrom, MoveTo, JumpRegister, LinkRegister, Bare, SignedHalf, UnsignedHalf, UpperHalf, Store, BranchOnTwo, BranchOnOne, Region}

@@ -4,7 +4,7 @@ ghost use Rattle.machine_words.specs.Words.{instruction_of, decode as decode_of,
 
 use crate::decoding::{Decoded, decode};
 use crate::layout::{Layout, Shape, layout_of};
-use isa::{Op, Reg, pc_plus_4};
+use instructions::{Op, Reg, pc_plus_4};
 
 fn immediate(rs: Reg, rt: u32, number: u32) -> u32
     ensures value { result ≡ immediate_of rs rt number }

@@ -1,10 +1,10 @@
 //! The fields of a word.
 ghost use Rattle.std.specs.Prelude.{◌≡◌, ◌<◌, ◌^◌};
 ghost use Rattle.std.specs.Int.{w16};
-ghost use Rattle.isa.specs.Operations.{extended};
+ghost use Rattle.instructions.specs.Operations.{extended};
 ghost use Rattle.machine_words.specs.Fields.{opcode_of, select_of, rs_of, rt_of, rd_of, shift_of, funct_of, immediate_of, region_index_of};
 
-use isa::Reg;
+use instructions::Reg;
 
 pub fn opcode(word: u32) -> u32
     ensures value { result ≡ opcode_of word }

@@ -4,7 +4,7 @@ ghost use Rattle.std.specs.List.{find};
 ghost use Rattle.machine_words.specs.Layouts.{layout as layout_by, operation_of as operation, has_layout};
 
 use crate::fields;
-use isa::Op;
+use instructions::Op;
 
 /// What stands in the fields of a word behind its opcode.
 #[derive(Clone, Copy, Debug, PartialEq, Eq)]

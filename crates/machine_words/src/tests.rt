@@ -1,6 +1,6 @@
 //! Words of an assembler, and the instructions that they say.
 use crate::*;
-use isa::{Op, Reg};
+use instructions::{Op, Reg};
 
 fn reg(number: u8) -> Reg {
     Reg::new(number).unwrap_or(Reg::ZERO)

@@ -1,9 +1,9 @@
 -- What a run answers.
 use Rattle.std.specs.Prelude.{◌≡◌, ◌+◌, ◌≤◌, ◌<◌, ◌⊎◌, ℕ}
-use Rattle.isa.specs.declared.end.End.{End}
-use Rattle.isa.specs.declared.end.Ending.{Ending}
-use Rattle.isa.specs.declared.end.Ending.TheVariants.{Limit, Stop as ByStop}
-use Rattle.isa.specs.Programs.{Program}
+use Rattle.instructions.specs.declared.end.End.{End}
+use Rattle.instructions.specs.declared.end.Ending.{Ending}
+use Rattle.instructions.specs.declared.end.Ending.TheVariants.{Limit, Stop as ByStop}
+use Rattle.instructions.specs.Programs.{Program}
 use Rattle.back.specs.Ends.{IsInOrder}
 use Rattle.pool.specs.declared.answer.Refusal.TheVariants.{Memory, Thread}
 use Rattle.pool.specs.declared.answer.Run.{Run}

@@ -3,7 +3,7 @@ ghost use Rattle.std.specs.Prelude.{◌≡◌};
 
 use crate::turns::Turns;
 use counts::Tally;
-use isa::End;
+use instructions::End;
 
 /// What a run could not have.
 #[derive(Clone, Copy, Debug, PartialEq, Eq)]

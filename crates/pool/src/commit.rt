@@ -10,7 +10,7 @@ use crate::rest::Rest;
 use crate::turns::Turns;
 use back::{Back, Commit, Mark, Naming, Refresh};
 use counts::{CountSeat, Tally, Total};
-use isa::{Ending, Memory};
+use instructions::{Ending, Memory};
 use std::marker::{Model, PhantomData};
 use std::sync::Wait;
 

@@ -7,7 +7,7 @@ use crate::floor::Floor;
 use crate::gate::Gate;
 use crate::rest::Rest;
 use counts::{Total, WorkerSeat};
-use isa::outcome_of;
+use instructions::outcome_of;
 use station::{Claim, Finish, Job, UnitSeat, a_job_is_of_the_program};
 use std::sync::Wait;
 use std::thread::yield_now;

@@ -6,7 +6,7 @@ use crate::floor::Floor;
 use crate::rest::Rest;
 use counts::{Total, WorkerSeat};
 use front::{Front, Recovery, Turn};
-use isa::Predictor;
+use instructions::Predictor;
 use station::FrontSeat;
 
 // After so many fruitless turns it lets another thread run.

@@ -1,6 +1,6 @@
 //! What the threads of one run share.
 use counts::Counts;
-use isa::Program;
+use instructions::Program;
 use station::Core;
 use std::sync::Wait;
 use std::sync::atomic::Ordering::{Acquire, Release};

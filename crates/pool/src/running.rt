@@ -14,7 +14,7 @@ use crate::threads::start_all;
 use crate::turns::Turns;
 use back::{Back, Naming, Snapper};
 use counts::{CountSeat, Counts, WorkerSeat};
-use isa::{Config, Memory, Predictor, Program};
+use instructions::{Config, Memory, Predictor, Program};
 use station::{Core, UnitSeat};
 use std::alloc::Global;
 use std::marker::Brand;

@@ -5,8 +5,8 @@ mod pairs;
 mod rows;
 
 use crate::{Gate, Run, RunInTurns, run, run_in_turns};
-use assembly::{parse, report_text};
-use isa::{Config, NotTaken};
+use instructions::{Config, NotTaken};
+use isa::{parse, report_text};
 use std::alloc::Global;
 use std::sync::Wait;
 use std::test::Fail;

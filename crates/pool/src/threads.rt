@@ -9,7 +9,7 @@ use crate::gate::Gate;
 use crate::watch::watch;
 use back::{Naming, Snapper};
 use counts::WorkerSeat;
-use isa::{Config, Predictor};
+use instructions::{Config, Predictor};
 use station::UnitSeat;
 use std::sync::Wait;
 use std::thread::{Scope, Threads, available_parallelism};

@@ -4,9 +4,9 @@ use Rattle.std.proofs.lemmas.Bool.{cond-true, cond-false}
 use Rattle.std.proofs.lemmas.Option.{none-some}
 use Rattle.std.proofs.Math.Nat.{le-min, min-le_right}
 use Rattle.clap.specs.Words.{Row, Text, first_of}
-use Rattle.isa.specs.Settings.{first_bad, is_from_to, is_ring}
-use Rattle.isa.specs.declared.config.BadConfig.{BadConfig}
-use Rattle.isa.specs.declared.config.BadConfig.TheVariants.{Ring, Queue, Tag}
+use Rattle.instructions.specs.Settings.{first_bad, is_from_to, is_ring}
+use Rattle.instructions.specs.declared.config.BadConfig.{BadConfig}
+use Rattle.instructions.specs.declared.config.BadConfig.TheVariants.{Ring, Queue, Tag}
 use Rattle.requests.specs.ByHand.{IsNotByHand}
 use Rattle.requests.specs.Values.{IsNumber}
 use Rattle.requests.proofs.OddRings.{is_in, two_or_more}

@@ -3,9 +3,9 @@ use Rattle.std.proofs.Common.{◌≡◌, ◌∙◌, ◌≤◌, ℕ, zero, suc, B
 use Rattle.std.proofs.lemmas.Bool.{cond-true, false≢true, le-leb}
 use Rattle.std.proofs.lemmas.Option.{none-some}
 use Rattle.std.proofs.Math.Nat.{le-min, min-le_right}
-use Rattle.isa.specs.Settings.{first_bad, is_from_to, is_ring}
-use Rattle.isa.specs.declared.config.BadConfig.{BadConfig}
-use Rattle.isa.specs.declared.config.BadConfig.TheVariants.{Ring, Queue, Units, Limit, Turns}
+use Rattle.instructions.specs.Settings.{first_bad, is_from_to, is_ring}
+use Rattle.instructions.specs.declared.config.BadConfig.{BadConfig}
+use Rattle.instructions.specs.declared.config.BadConfig.TheVariants.{Ring, Queue, Units, Limit, Turns}
 use Rattle.requests.specs.Request.{greatest}
 
 pub is_in : (least most n : ℕ) → least ≤ n → n ≤ most → is_from_to least most n ≡ true

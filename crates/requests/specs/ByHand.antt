@@ -2,7 +2,7 @@
 use Rattle.std.specs.Prelude.{◌≡◌, ◌^◌, ◌-◌, false, List, [], Some, codes}
 use Rattle.std.specs.Str.{bytes_eq}
 use Rattle.clap.specs.Words.{Row, Text, first_of, subcommand_of, fault_of}
-use Rattle.isa.specs.Settings.{IsValid}
+use Rattle.instructions.specs.Settings.{IsValid}
 use Rattle.requests.specs.declared.request.ByHand.{ByHand}
 use Rattle.requests.specs.Tool.{tool}
 use Rattle.requests.specs.Values.{IsNumberFrom, IsPredictor, IsQueueCut, is_true}

@@ -1,8 +1,8 @@
 -- The predictor that a command line asks for.
 use Rattle.std.specs.Prelude.{◌≡◌, ℕ, List, replicate}
-use Rattle.isa.specs.declared.instr.Instr.{Instr}
-use Rattle.isa.specs.Instruction.{pc_plus_4}
-use Rattle.isa.specs.Prediction.{taken_target, trained, two_bit}
+use Rattle.instructions.specs.declared.instr.Instr.{Instr}
+use Rattle.instructions.specs.Instruction.{pc_plus_4}
+use Rattle.instructions.specs.Prediction.{taken_target, trained, two_bit}
 use Rattle.requests.specs.declared.chosen.Chosen.{Chosen}
 use Rattle.requests.specs.declared.request.BranchPredictor.{BranchPredictor}
 use Rattle.requests.specs.declared.request.BranchPredictor.TheVariants.{NotTaken, Taken, Bimod}

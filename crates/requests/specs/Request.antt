@@ -5,7 +5,7 @@ use Rattle.clap.specs.Words.{Row, Text, first_of, subcommand_of, fault_of}
 use Rattle.clap.specs.Kinds.{IsAmong}
 use Rattle.clap.specs.declared.error.kind.ErrorKind.{ErrorKind}
 use Rattle.clap.specs.declared.error.kind.ErrorKind.TheVariants.{DisplayHelp, DisplayVersion, OutOfMemory}
-use Rattle.isa.specs.Settings.{IsValid, is_ring}
+use Rattle.instructions.specs.Settings.{IsValid, is_ring}
 use Rattle.requests.specs.declared.request.Asked.{Asked}
 use Rattle.requests.specs.declared.request.BranchPredictor.{BranchPredictor}
 use Rattle.requests.specs.declared.request.ByHand.{ByHand}

@@ -3,7 +3,7 @@ ghost use Rattle.std.specs.Prelude.{◌≡◌, replicate};
 ghost use Rattle.requests.specs.Predictors.{IsChosen};
 
 use crate::BranchPredictor;
-use isa::{Bimod, Instr, NotTaken, Predictor, Taken};
+use instructions::{Bimod, Instr, NotTaken, Predictor, Taken};
 
 /// One of the predictors. The counters serve the bimodal one, and are trained in any case.
 #[derive(Clone, Copy, Drop)]

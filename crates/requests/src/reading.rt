@@ -12,7 +12,7 @@ use crate::values::is_true;
 use crate::watches::watch;
 use crate::{Asked, NoRun, Request};
 use clap::ArgMatches;
-use isa::Config;
+use instructions::Config;
 use std::alloc::Global;
 use std::convert::AsStr;
 

@@ -9,7 +9,7 @@ use crate::refusals::usage;
 use crate::values::is_true;
 use crate::{ByHand, NoRun, is_standard_input};
 use clap::ArgMatches;
-use isa::Config;
+use instructions::Config;
 use std::alloc::Global;
 
 /// What the matches hold, and the defaults where they hold nothing.

@@ -3,7 +3,7 @@ ghost use Rattle.std.specs.Prelude.{◌≡◌, codes};
 ghost use Rattle.std.specs.Str.{bytes_eq};
 ghost use Rattle.requests.specs.Watches.{is_wanted};
 
-use isa::Config;
+use instructions::Config;
 
 /// A branch predictor to choose.
 #[derive(Clone, Copy, PartialEq, Eq)]

@@ -4,7 +4,7 @@ ghost use Rattle.station.specs.Seats.{IsSame};
 
 use crate::drive::{finish_job, finish_one, let_at, made, takes};
 use front::{Front, Turn};
-use isa::{NotTaken, Program};
+use instructions::{NotTaken, Program};
 use station::{Claim, Core, Finish, Source, UnitSeat, jobs_stay};
 use std::process::Abort;
 use std::test::Fail;

@@ -4,10 +4,10 @@ ghost use Rattle.back.specs.Backs.{HasRetiredNothing};
 ghost use Rattle.station.specs.Claiming.{Holds};
 ghost use Rattle.station.specs.Seats.{IsSame};
 
-use assembly::parse;
 use back::{Back, Commit, Naming, Snapper};
 use front::{Front, Turn};
-use isa::{Config, Predictor, Program, outcome_of};
+use instructions::{Config, Predictor, Program, outcome_of};
+use isa::parse;
 use station::{
     BackSeat, Claim, Core, Finish, Job, UnitSeat, a_job_is_of_the_program, what_is_seen_is_legal,
 };

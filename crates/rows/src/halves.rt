@@ -4,7 +4,7 @@ ghost use Rattle.std.specs.Prelude.{◌≡◌, ◌≤◌};
 use crate::drive::{back_at, commits, finish_one, half, let_at, made, retired, takes};
 use back::{Back, Commit, Naming, Snapper};
 use front::{Front, Recovery};
-use isa::{Config, End, Ending, NotTaken, Program, Stop};
+use instructions::{Config, End, Ending, NotTaken, Program, Stop};
 use station::{Core, UnitSeat};
 use std::alloc::Global;
 use std::marker::Brand;

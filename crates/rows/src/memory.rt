@@ -4,7 +4,7 @@ ghost use Rattle.std.specs.Prelude.{◌≡◌, ◌≤◌};
 use crate::drive::{back_at, commits, finish_one, let_at, made, retired, takes};
 use back::{Back, Commit, Naming, Refresh};
 use front::Front;
-use isa::{Config, Ending, NotTaken, Program, Stop};
+use instructions::{Config, Ending, NotTaken, Program, Stop};
 use station::{Core, UnitSeat};
 use std::alloc::Global;
 use std::marker::Brand;

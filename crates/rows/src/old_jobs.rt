@@ -4,7 +4,7 @@ ghost use Rattle.std.specs.Prelude.{◌≡◌, ◌≤◌};
 use crate::drive::{back_at, commits, finish_job, finish_one, let_at, made, retired, takes};
 use back::{Back, Naming};
 use front::{Front, Recovery, Turn};
-use isa::{Config, NotTaken, Program};
+use instructions::{Config, NotTaken, Program};
 use station::{Claim, Core, Finish, StationState, UnitSeat};
 use std::alloc::Global;
 use std::marker::Brand;

@@ -4,7 +4,7 @@ ghost use Rattle.std.specs.Prelude.{◌≡◌};
 use crate::drive::{back_at, commits, finish_one, let_at, made, retired, takes};
 use back::{Commit, Naming};
 use front::Front;
-use isa::{Config, NotTaken, Program, Stop};
+use instructions::{Config, NotTaken, Program, Stop};
 use station::{Core, StationState};
 use std::alloc::Global;
 use std::marker::Brand;

@@ -4,7 +4,7 @@ ghost use Rattle.std.specs.Prelude.{◌≡◌};
 use crate::drive::{back_at, commits, finish_one, let_at, made, retired, takes};
 use back::{Back, Gone, Mark, Naming, NoPlace, Snap, Snapper};
 use front::Front;
-use isa::{Config, NotTaken, Program};
+use instructions::{Config, NotTaken, Program};
 use station::Core;
 use std::alloc::Global;
 use std::marker::Brand;

@@ -4,7 +4,7 @@ ghost use Rattle.std.specs.Prelude.{◌≡◌};
 use crate::drive::{back_at, commits, finish_one, let_at, made, retired, takes};
 use back::{Commit, Naming};
 use front::{Front, Turn};
-use isa::{Config, Ending, NotTaken, Program};
+use instructions::{Config, Ending, NotTaken, Program};
 use station::Core;
 use std::alloc::Global;
 use std::marker::Brand;

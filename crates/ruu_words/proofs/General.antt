@@ -4,7 +4,7 @@ use mathlib.Core.Option.{some, some-ne-none}
 use lib.ListN.{get_elem?}
 use Rattle.atomic_table.specs.Table.{Allows, Me, State, Step, keeps, stepped}
 use Rattle.atomic_table.proofs.Lists.{at_set}
-use Rattle.isa.specs.Programs.{Program}
+use Rattle.instructions.specs.Programs.{Program}
 use Rattle.inorder.specs.declared.history.Entry.{Entry}
 use Rattle.inorder.specs.declared.history.Event.{Event}
 use Rattle.inorder.specs.History.{IsLegal, StartsWith, entry, front, own, renewals, unit_of}

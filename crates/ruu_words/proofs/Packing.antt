@@ -1,6 +1,6 @@
 -- Packed words read back as their fields, and the words of the layout's examples.
 use Rattle.std.proofs.Common.{◌≡◌, ◌/◌, ◌^◌, ap, refl, arith}
-use Rattle.isa.specs.declared.op.Half.TheVariants.{High, Low}
+use Rattle.instructions.specs.declared.op.Half.TheVariants.{High, Low}
 use Rattle.inorder.specs.Replies.{last_tag}
 use Rattle.ruu_words.specs.declared.station.StationState.TheVariants.{Done, Free, Open}
 use Rattle.ruu_words.specs.Fields.{half_by, pack, pack_info, pack_link}

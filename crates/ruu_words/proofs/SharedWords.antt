@@ -1,7 +1,7 @@
 -- The words of the table along the example of two stations.
 use Rattle.std.proofs.Common.{◌≡◌, ℕ, zero, suc, Bool, List, [], ◌∷◌, length, Some, inl, inr, refl, sym, ◌∙◌, subst, true, arith, slice_index}
-use Rattle.isa.specs.Operations.{checked_address, computed_by, jump_target, loaded}
-use Rattle.isa.specs.Programs.{instr_at}
+use Rattle.instructions.specs.Operations.{checked_address, computed_by, jump_target, loaded}
+use Rattle.instructions.specs.Programs.{instr_at}
 use Rattle.inorder.specs.declared.history.Source.{Source}
 use Rattle.inorder.specs.declared.history.Source.TheVariants.{First, Second}
 use Rattle.inorder.specs.History.{unit_of}
@@ -14,7 +14,7 @@ use Rattle.ruu_words.specs.declared.place.Place.{Place}
 use Rattle.ruu_words.specs.declared.place.Place.TheVariants.{Info, Link, Operand, Station}
 use Rattle.ruu_words.specs.declared.rule.Draft.TheVariants.{Nothing}
 use Rattle.ruu_words.specs.Content.{Content, IsLink, IsLinked, NamesLink}
-use Rattle.isa.specs.declared.op.Half.TheVariants.{Low}
+use Rattle.instructions.specs.declared.op.Half.TheVariants.{Low}
 use Rattle.ruu_words.specs.Fields.{pack, pack_info, pack_link}
 use Rattle.ruu_words.specs.Places.{IsPlace, index, words_for}
 

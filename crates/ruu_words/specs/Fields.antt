@@ -1,6 +1,6 @@
 -- The fields of the words.
-use Rattle.isa.specs.declared.op.Half.{Half}
-use Rattle.isa.specs.declared.op.Half.TheVariants.{High, Low}
+use Rattle.instructions.specs.declared.op.Half.{Half}
+use Rattle.instructions.specs.declared.op.Half.TheVariants.{High, Low}
 use Rattle.std.specs.Prelude.{ℕ, zero, suc, ◌+◌, ◌*◌, ◌/◌, ◌%◌, ◌^◌}
 
 -- How many tags there are: a tag has 28 bits

@@ -1,11 +1,11 @@
 -- What holds of every word and of every place.
 use Rattle.std.specs.Prelude.{◌≡◌, ◌≢◌, ℕ, ◌^◌, ◌<◌, List, [], ◌∷◌, length, slice_index, slice_set}
-use Rattle.isa.specs.declared.op.Half.{Half}
+use Rattle.instructions.specs.declared.op.Half.{Half}
 use Rattle.inorder.specs.declared.history.Entry.{Entry}
 use Rattle.inorder.specs.History.{IsLegal, unit_of}
 use Rattle.inorder.specs.Steps.{MayRenew}
 use Rattle.inorder.specs.Unit.{Sizes}
-use Rattle.isa.specs.Programs.{Program}
+use Rattle.instructions.specs.Programs.{Program}
 use Rattle.ruu_words.specs.declared.place.Place.{Place}
 use Rattle.ruu_words.specs.declared.rule.Draft.TheVariants.{Nothing}
 use Rattle.ruu_words.specs.declared.rule.Setup.{Setup}

@@ -2,7 +2,7 @@
 ghost use Rattle.std.specs.Prelude.{◌≡◌, ◌<◌, ◌^◌};
 ghost use Rattle.ruu_words.specs.Fields.{pack_info, half_bit, half_by, half_of, index_of, predicted_of};
 
-use isa::Half;
+use instructions::Half;
 
 /// What the info word of a station holds.
 #[derive(Clone, Copy, Debug, PartialEq, Eq)]

@@ -1,7 +1,7 @@
 //! What a table of these words is made for, what its seats know, and its rule.
 use atomic_table::{Badge, Play, TableRule};
 use inorder::history::{Entry, Supply};
-use isa::Program;
+use instructions::Program;
 use std::collections::LinkedList;
 use std::marker::Brand;
 

@@ -3,7 +3,7 @@ use crate::{
     InfoWord, LinkWord, OperandState, OperandWord, Place, StationState, StationWord, word_count,
 };
 use inorder::history::Source;
-use isa::Half;
+use instructions::Half;
 
 #[test]
 fn words_are_those_of_the_layout(rt: HostRuntime) {

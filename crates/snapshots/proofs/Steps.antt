@@ -4,7 +4,7 @@ use mathlib.Core.Option.{some}
 use lib.ListN.{get_elem?}
 use Rattle.left_right.specs.Register.{Admits, TurnsAt}
 use Rattle.atomic_table.proofs.Lists.{at_set, at_snoc}
-use Rattle.isa.specs.Programs.{Program}
+use Rattle.instructions.specs.Programs.{Program}
 use Rattle.snapshots.specs.Snapshots.{IsSnapshotOf}
 use Rattle.snapshots.specs.Rules.{Kept, Told}
 use Rattle.snapshots.specs.declared.snap.Snap.{Snap}

@@ -1,7 +1,7 @@
 -- Snapshots of the in-order machine.
 use Rattle.std.specs.Prelude.{◌≡◌, replicate, Some, option_map}
-use Rattle.isa.specs.Registers.{register_count}
-use Rattle.isa.specs.Programs.{Program, text_start}
+use Rattle.instructions.specs.Registers.{register_count}
+use Rattle.instructions.specs.Programs.{Program, text_start}
 use Rattle.inorder.specs.Machine.{State}
 use Rattle.inorder.specs.Runs.{after}
 use Rattle.snapshots.specs.declared.snap.Snap.{Snap}

@@ -7,7 +7,7 @@ use crate::rule::{Naming, Sees, SnapWriter};
 use crate::snap::Snap;
 use crate::snapper::Snapper;
 use core::mem::replace_with;
-use isa::Memory;
+use instructions::Memory;
 use left_right::writer::Writer;
 use std::alloc::{AllocError, Global};
 use std::marker::Model;

@@ -11,7 +11,7 @@ use std::marker::{Brand, PhantomData};
 /// Which program it is whose states are published. It has no value at run time: each call with a
 /// `Brand` picks it, in the proof.
 pub trait Naming {
-    ghost use Rattle.isa.specs.Programs.{Program};
+    ghost use Rattle.instructions.specs.Programs.{Program};
 
     ghost program: { Program };
 }

@@ -2,7 +2,7 @@ ghost use Rattle.std.specs.Prelude.{◌≡◌};
 ghost use Rattle.snapshots.specs.Snapshots.{IsSnapshotOf};
 
 use super::*;
-use isa::Memory;
+use instructions::Memory;
 use std::alloc::Global;
 use std::sync::Wait;
 use std::test::*;
@@ -14,7 +14,7 @@ struct ThreeAdds;
 
 impl Naming for ThreeAdds {
     ghost use Rattle.std.specs.Prelude.{[], ◌∷◌};
-    ghost use Rattle.isa.specs.declared.op.Op.TheVariants.{Addiu};
+    ghost use Rattle.instructions.specs.declared.op.Op.TheVariants.{Addiu};
 
     ghost program = { record {
       code = record { op = Addiu; target = 1; first = 0; second = 0; number = 1 }

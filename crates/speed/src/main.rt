@@ -3,10 +3,10 @@
 //! output stays empty; the count and the times in microseconds go to standard error.
 #![tactic(auto)]
 
-use assembly::parse;
 use devices::{Counted, read_up_to};
 use inorder::Machine;
-use isa::{Bimod, Config, Program};
+use instructions::{Bimod, Config, Program};
+use isa::parse;
 use pool::{Open, Run, run};
 use std::alloc::Global;
 use std::env;

@@ -1,9 +1,9 @@
 -- A claimed tenant stays live and gets its outcome, where neither the front nor the back does anything.
 use Rattle.std.proofs.Common.{◌≡◌, ◌≢◌, ℕ, Bool, true, false, cond, eqb, List, [], ◌∷◌, ◌++◌, length, Some, refl, sym, ap, ◌∙◌, subst, ⊎_elim, arith, append_assoc, length-append}
 use Rattle.std.specs.List.{AllByRecursion}
-use Rattle.isa.specs.Programs.{Program}
-use Rattle.isa.specs.declared.stop.Outcome.{Outcome}
-use Rattle.isa.specs.declared.stop.Outcome.TheVariants.{Address, Next, Pair, Stop as Stops, Value}
+use Rattle.instructions.specs.Programs.{Program}
+use Rattle.instructions.specs.declared.stop.Outcome.{Outcome}
+use Rattle.instructions.specs.declared.stop.Outcome.TheVariants.{Address, Next, Pair, Stop as Stops, Value}
 use Rattle.inorder.specs.declared.history.Act.{Act}
 use Rattle.inorder.specs.declared.history.Act.TheVariants.{Claim, Deliver, Finish, Link, Load, Mend, Retire, Squash}
 use Rattle.inorder.specs.declared.history.Entry.{Entry}

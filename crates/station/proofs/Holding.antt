@@ -3,12 +3,12 @@ use Rattle.std.proofs.Common.{◌≡◌, ◌≢◌, ◌⊎◌, ℕ, Bool, true, 
 use Rattle.std.specs.Prelude.{unwrap_or}
 use Rattle.std.proofs.Math.Seq.{take-append_seam}
 use Rattle.std.specs.List.{AllByRecursion}
-use Rattle.isa.specs.Instruction.{kind}
-use Rattle.isa.specs.Programs.{Program, instr_of}
-use Rattle.isa.specs.declared.op.Kind.{Kind}
-use Rattle.isa.specs.declared.op.Kind.TheVariants.{Computes, Jumps, Links, Loads, Stores}
-use Rattle.isa.specs.declared.stop.Outcome.{Outcome}
-use Rattle.isa.specs.declared.stop.Outcome.TheVariants.{Address, Next, Pair, Stop as Stops, Value}
+use Rattle.instructions.specs.Instruction.{kind}
+use Rattle.instructions.specs.Programs.{Program, instr_of}
+use Rattle.instructions.specs.declared.op.Kind.{Kind}
+use Rattle.instructions.specs.declared.op.Kind.TheVariants.{Computes, Jumps, Links, Loads, Stores}
+use Rattle.instructions.specs.declared.stop.Outcome.{Outcome}
+use Rattle.instructions.specs.declared.stop.Outcome.TheVariants.{Address, Next, Pair, Stop as Stops, Value}
 use Rattle.inorder.specs.declared.history.Act.{Act}
 use Rattle.inorder.specs.declared.history.Act.TheVariants.{Claim, Deliver, Finish, Link, Load, Mend, Retire, Squash}
 use Rattle.inorder.specs.declared.history.Entry.{Entry}

@@ -1,6 +1,6 @@
 -- A look at any word.
 use Rattle.std.proofs.Common.{ℕ, ◌++◌, refl, sym}
-use Rattle.isa.specs.Programs.{Program}
+use Rattle.instructions.specs.Programs.{Program}
 use Rattle.inorder.specs.Unit.{Sizes}
 use Rattle.ruu_words.specs.declared.place.Place.{Place}
 use Rattle.ruu_words.specs.declared.rule.View.{View}

@@ -1,7 +1,7 @@
 -- The program and the sizes of a call are those of its core, of its table and of its seat.
 use Rattle.std.proofs.Common.{◌≡◌, ℕ, ◌+◌, ◌*◌, ◌<◌, ◌≤◌, List, sym, ap, ◌∙◌, arith}
 use Rattle.atomic_table.specs.Seated.{TableId}
-use Rattle.isa.specs.Programs.{Program}
+use Rattle.instructions.specs.Programs.{Program}
 use Rattle.inorder.specs.declared.history.Entry.{Entry}
 use Rattle.inorder.specs.Unit.{Sizes}
 use Rattle.ruu_words.specs.declared.rule.Heirs.{Heirs}

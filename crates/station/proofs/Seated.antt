@@ -1,7 +1,7 @@
 -- What a seat's caller knows stays true under the steps of others.
 use Rattle.std.proofs.Common.{◌≡◌, ◌≢◌, ℕ, ◌%◌, Bool, [], ◌++◌, map, sym, ap, ◌∙◌, subst}
 use Rattle.atomic_table.specs.Table.{Me}
-use Rattle.isa.specs.Programs.{Program}
+use Rattle.instructions.specs.Programs.{Program}
 use Rattle.inorder.specs.declared.history.Step.{Step}
 use Rattle.inorder.specs.declared.history.Step.TheVariants.{Let, On, Renew}
 use Rattle.inorder.specs.History.{IsLegal, entry, front, own, unit_of}

@@ -1,8 +1,8 @@
 -- Stops by their numbers.
 use Rattle.std.proofs.Common.{◌≡◌, ◌<◌, refl, arith}
-use Rattle.isa.specs.Operations.{code_of}
-use Rattle.isa.specs.declared.stop.Stop.{Stop}
-use Rattle.isa.specs.declared.stop.Stop.TheVariants.{BadPc, Break, OutOfRange, Overflow, Unaligned}
+use Rattle.instructions.specs.Operations.{code_of}
+use Rattle.instructions.specs.declared.stop.Stop.{Stop}
+use Rattle.instructions.specs.declared.stop.Stop.TheVariants.{BadPc, Break, OutOfRange, Overflow, Unaligned}
 
 pub same_code : (c d : Stop) → code_of c ≡ code_of d → c ≡ d
 same_code Break Break e = refl

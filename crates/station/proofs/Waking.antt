@@ -3,8 +3,8 @@ use Rattle.std.proofs.Common.{◌≡◌, ◌⊎◌, ℕ, ◌<◌, ◌*◌, ◌%�
 use Rattle.std.proofs.lemmas.Nat.Bits.{bit_at-zero, bit_at_set_other, bit_at_set_same}
 use mathlib.Core.Logic.{dite}
 use native.Mathlib.Decide.{ℕ_discrete}
-use Rattle.isa.specs.Programs.{Program}
-use Rattle.isa.specs.declared.stop.Outcome.{Outcome}
+use Rattle.instructions.specs.Programs.{Program}
+use Rattle.instructions.specs.declared.stop.Outcome.{Outcome}
 use Rattle.inorder.specs.declared.history.Act.TheVariants.{Deliver, Finish, Load}
 use Rattle.inorder.specs.declared.history.Entry.{Entry}
 use Rattle.inorder.specs.declared.history.Event.{Event}

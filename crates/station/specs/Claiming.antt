@@ -1,7 +1,7 @@
 -- Claims.
 use Rattle.std.specs.Prelude.{◌≡◌, ◌≢◌, ◌⊎◌, ℕ, Bool, true, false, List, [], ◌∷◌, Some, Result, Ok, Err}
-use Rattle.isa.specs.Programs.{Program}
-use Rattle.isa.specs.declared.op.Half.{Half}
+use Rattle.instructions.specs.Programs.{Program}
+use Rattle.instructions.specs.declared.op.Half.{Half}
 use Rattle.inorder.specs.declared.history.Act.TheVariants.{Claim as ClaimIt}
 use Rattle.inorder.specs.declared.history.Entry.{Entry}
 use Rattle.inorder.specs.declared.history.Event.{Event}

@@ -1,8 +1,8 @@
 -- What becomes of a claimed tenant, where units alone step.
 use Rattle.std.specs.Prelude.{◌≡◌, ℕ, List, Some}
-use Rattle.isa.specs.Programs.{Program}
-use Rattle.isa.specs.declared.stop.Outcome.{Outcome}
-use Rattle.isa.specs.declared.stop.Outcome.TheVariants.{Value}
+use Rattle.instructions.specs.Programs.{Program}
+use Rattle.instructions.specs.declared.stop.Outcome.{Outcome}
+use Rattle.instructions.specs.declared.stop.Outcome.TheVariants.{Value}
 use Rattle.inorder.specs.declared.history.Entry.{Entry}
 use Rattle.inorder.specs.History.{IsLegal, StartsWith, back, front, own}
 use Rattle.inorder.specs.Tenants.{Live, Tenant}

@@ -1,6 +1,6 @@
 -- Moments of a call.
 use Rattle.std.specs.Prelude.{ℕ, List}
-use Rattle.isa.specs.Programs.{Program}
+use Rattle.instructions.specs.Programs.{Program}
 use Rattle.inorder.specs.declared.history.Entry.{Entry}
 use Rattle.inorder.specs.History.{StartsWith, unit_of}
 use Rattle.inorder.specs.Replies.{Has, IsOpen}

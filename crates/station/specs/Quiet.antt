@@ -1,6 +1,6 @@
 -- What the caller of a unit's seat can tell, where others do nothing.
 use Rattle.std.specs.Prelude.{◌≡◌, ◌≢◌, ◌⊎◌, ℕ, List, [], ◌∷◌, Some}
-use Rattle.isa.specs.Programs.{Program}
+use Rattle.instructions.specs.Programs.{Program}
 use Rattle.inorder.specs.declared.history.Entry.{Entry}
 use Rattle.inorder.specs.Callers.{IsReady}
 use Rattle.inorder.specs.History.{Adds, IsLegal, IsUnit, StartsWith, back, front, own, unit_of}

@@ -1,6 +1,6 @@
 -- The steps of a question.
 use Rattle.std.specs.Prelude.{ℕ, List}
-use Rattle.isa.specs.Programs.{Program}
+use Rattle.instructions.specs.Programs.{Program}
 use Rattle.inorder.specs.declared.history.Entry.{Entry}
 use Rattle.inorder.specs.declared.history.Event.{Event}
 use Rattle.inorder.specs.declared.history.Source.{Source}

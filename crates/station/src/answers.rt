@@ -1,6 +1,6 @@
 //! What the calls take and answer.
 use inorder::history::Source;
-use isa::{Half, Stop};
+use instructions::{Half, Stop};
 
 /// A word as it was seen.
 #[derive(Clone, Copy)]

@@ -1,6 +1,6 @@
 //! Claims.
 ghost use Rattle.std.specs.Prelude.{◌≡◌, ◌<◌, true, length};
-ghost use Rattle.isa.specs.Programs.{address};
+ghost use Rattle.instructions.specs.Programs.{address};
 ghost use Rattle.inorder.specs.declared.history.Source.TheVariants.{Second};
 ghost use Rattle.inorder.specs.History.{IsLegal};
 ghost use Rattle.inorder.specs.Tenants.{needs};
@@ -17,7 +17,7 @@ use crate::steps::{Words, claim_tenant, peek, read_info, read_source, recheck};
 use crate::words::{busy_word, has_value, is_open, open_word, tag_in, value_in};
 use atomic_table::Seat;
 use inorder::history::Source;
-use isa::{Kind, Program};
+use instructions::{Kind, Program};
 use ruu_words::InfoWord;
 use ruu_words::rule::View;
 

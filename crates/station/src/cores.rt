@@ -8,7 +8,7 @@ ghost use Rattle.station.specs.Seats.{core_of};
 
 use crate::seat::{BackSeat, FrontSeat, SeatOf, UnitSeat};
 use atomic_table::{Badge, Seat, Split, Table};
-use isa::{Config, Memory, Program};
+use instructions::{Config, Memory, Program};
 use ruu_words::rule::{OneHistory, Setup, View};
 use ruu_words::{StationState, StationWord, word_count};
 use std::alloc::Global;

@@ -13,7 +13,7 @@ use crate::seat::{BackSeat, Part, SeatOf};
 use crate::steps;
 use crate::words::{source_state, tag_in, value_in};
 use inorder::history::Source;
-use isa::Half;
+use instructions::Half;
 use ruu_words::{InfoWord, Place, StationState, StationWord};
 
 impl Core {

@@ -7,7 +7,7 @@ ghost use Rattle.station.specs.Renewals.{HasNobody, HaveMet, HaveSeen, IsNotRene
 use crate::cores::{Core, first_table};
 use crate::laws::a_number_is_of_its_part;
 use crate::seat::{BackSeat, FrontSeat, SeatOf, UnitSeat};
-use isa::Memory;
+use instructions::Memory;
 use std::alloc::Global;
 
 impl Core {

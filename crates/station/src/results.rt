@@ -2,14 +2,14 @@
 ghost use Rattle.std.specs.Prelude.{◌≡◌, ◌<◌, IsTrue, false};
 ghost use Rattle.inorder.specs.StationWords.{live_word};
 ghost use Rattle.inorder.specs.Tenants.{Addr, Stopped};
-ghost use Rattle.isa.specs.declared.stop.Outcome.TheVariants.{Next};
+ghost use Rattle.instructions.specs.declared.stop.Outcome.TheVariants.{Next};
 ghost use Rattle.ruu_words.specs.Content.{IsOperandOf, IsStation};
 ghost use Rattle.ruu_words.specs.Fields.{consumer_of, pack_link, producer_of, state_of, tag_count};
 ghost use Rattle.ruu_words.specs.Kinds.{IsMade, IsUnmade, fate_of};
 ghost use Rattle.station.specs.Writeback.{val_word, wait_word};
 
 use crate::words::done_word;
-use isa::{Outcome, Stop};
+use instructions::{Outcome, Stop};
 use ruu_words::{LinkWord, OperandState, OperandWord, StationState, StationWord};
 
 /// The word of a load or store with its address.

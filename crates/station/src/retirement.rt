@@ -17,7 +17,7 @@ use crate::steps::{
 };
 use crate::words::{has_value, left_word, stop_of, tag_in, value_in};
 use atomic_table::Seat;
-use isa::{Kind, Program};
+use instructions::{Kind, Program};
 use ruu_words::rule::View;
 use ruu_words::{InfoWord, StationState, StationWord};
 

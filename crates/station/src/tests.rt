@@ -1,8 +1,8 @@
 //! Calls on one core, by hand.
 ghost use Rattle.std.specs.Prelude.{◌≡◌, ◌<◌, [], IfSome, length};
-ghost use Rattle.isa.specs.Instruction.{fixed_next};
-ghost use Rattle.isa.specs.Programs.{address, instr_of};
-ghost use Rattle.isa.specs.declared.op.Half.TheVariants.{Low};
+ghost use Rattle.instructions.specs.Instruction.{fixed_next};
+ghost use Rattle.instructions.specs.Programs.{address, instr_of};
+ghost use Rattle.instructions.specs.declared.op.Half.TheVariants.{Low};
 ghost use Rattle.inorder.specs.Replies.{last_tag};
 ghost use Rattle.station.specs.Seats.{IsSame};
 
@@ -10,8 +10,8 @@ use crate::{
     Claim, Core, Finish, FrontSeat, Last, Retire, Source, SourceState, StationState, Supply,
     Tenant, UnitSeat,
 };
-use assembly::parse;
-use isa::{Config, Half, Program, outcome_of};
+use instructions::{Config, Half, Program, outcome_of};
+use isa::parse;
 use std::alloc::Global;
 use std::test::Fail;
 

@@ -10,7 +10,7 @@ use crate::results::{consumer_in, producer_in, value_word, waiting_word};
 use crate::steps::{Words, deliver, end_walk, read_link};
 use atomic_table::Seat;
 use inorder::history::Source;
-use isa::Outcome;
+use instructions::Outcome;
 use ruu_words::rule::View;
 
 // The set of stations with this one, if it was woken.

@@ -1,6 +1,6 @@
 //! Words, made and read.
 ghost use Rattle.std.specs.Prelude.{◌≡◌, suc, ◌<◌, ◌↔◌, IsTrue, Some};
-ghost use Rattle.isa.specs.Operations.{code_of};
+ghost use Rattle.instructions.specs.Operations.{code_of};
 ghost use Rattle.inorder.specs.Replies.{last_tag};
 ghost use Rattle.inorder.specs.StationWords.{IsFree, live_word};
 ghost use Rattle.inorder.specs.Tenants.{Done, Open};
@@ -11,7 +11,7 @@ ghost use Rattle.station.specs.Letting.{given_value};
 ghost use Rattle.station.specs.Looking.{source_state_of};
 
 use crate::answers::{SourceState, Supply};
-use isa::Stop;
+use instructions::Stop;
 use ruu_words::{OperandState, OperandWord, StationState, StationWord};
 
 /// The tag of a station's or an operand's word.

@@ -17,7 +17,7 @@ use crate::steps::{Words, finish_tenant, look, settle_tenant};
 use crate::walk::{carry, walk};
 use crate::words::{busy_word, done_word, value_in};
 use atomic_table::Seat;
-use isa::Outcome;
+use instructions::Outcome;
 use ruu_words::Place;
 use ruu_words::rule::View;
 

@@ -1,10 +1,10 @@
 -- The turns, with what they do to the predictor.
 use Rattle.std.proofs.Common.{◌≡◌, ◌≢◌, ℕ, suc, ◌+◌, ◌-◌, ◌%◌, ◌^◌, ◌<◌, ◌≤◌, Bool, List, [], ◌∷◌, ◌++◌, length, Option, Some, None, refl, sym, ap, ◌∙◌, subst, arith, mod-lt}
 use Rattle.std.specs.Prelude.{IfSome, slice_get, slice_set}
-use Rattle.isa.specs.Instruction.{fixed_next}
-use Rattle.isa.specs.Programs.{Program}
-use Rattle.isa.specs.declared.instr.Instr.{Instr}
-use Rattle.isa.specs.declared.stop.Stop.{Stop}
+use Rattle.instructions.specs.Instruction.{fixed_next}
+use Rattle.instructions.specs.Programs.{Program}
+use Rattle.instructions.specs.declared.instr.Instr.{Instr}
+use Rattle.instructions.specs.declared.stop.Stop.{Stop}
 use Rattle.inorder.specs.Tenants.{instr}
 use Rattle.inorder.specs.Unit.{UpdateUnit}
 use Rattle.unit_laws.specs.Moves.{IsReached}

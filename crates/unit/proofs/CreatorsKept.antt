@@ -5,7 +5,7 @@ use Rattle.std.proofs.lemmas.Bool.{cases_eq}
 use Rattle.std.proofs.lemmas.List.{get_or-set_same, get_or-set_other, length-set, length-take-le}
 use Rattle.std.proofs.lemmas.Option.{slice_get_within}
 use Rattle.circular_buffer.proofs.Places.{slice_get-append_left, slice_get-drop, slice_get-last, slice_get-push, slice_get-take}
-use Rattle.isa.specs.Instruction.{first_of, second_of}
+use Rattle.instructions.specs.Instruction.{first_of, second_of}
 use Rattle.unit.specs.declared.creators.Creators.{Creators}
 use Rattle.unit.specs.declared.station.Station.{Station}
 use Rattle.unit.specs.Creators.{HasCreators, IsCreator, IsOfSame, KnowsCreators, places_of, written_by}

@@ -3,17 +3,17 @@ use Rattle.std.proofs.Common.{◌≡◌, ◌≢◌, ℕ, suc, ◌+◌, ◌%◌, 
 use Rattle.std.specs.Prelude.{Result, Ok, Err, is_some, slice_get, slice_index, unwrap_or}
 use Rattle.std.specs.List.{AllByRecursion}
 use Rattle.std.proofs.lemmas.Option.{slice_get_within}
-use Rattle.isa.specs.Instruction.{first_of, fixed_next, is_first_half, kind, second_of, width}
-use Rattle.isa.specs.Operations.{as_value, computed_by, outcome_by}
-use Rattle.isa.specs.Programs.{Program, instr_at}
-use Rattle.isa.specs.declared.instr.Instr.{Instr}
-use Rattle.isa.specs.declared.op.Half.{Half}
-use Rattle.isa.specs.declared.op.Half.TheVariants.{Low}
-use Rattle.isa.specs.declared.op.Kind.{Kind}
-use Rattle.isa.specs.declared.op.Kind.TheVariants.{Computes, Jumps, Links, Loads, Stores}
-use Rattle.isa.specs.declared.stop.Outcome.TheVariants.{Address}
-use Rattle.isa.specs.declared.stop.Stop.{Stop}
-use Rattle.isa.specs.declared.stop.Stop.TheVariants.{BadPc}
+use Rattle.instructions.specs.Instruction.{first_of, fixed_next, is_first_half, kind, second_of, width}
+use Rattle.instructions.specs.Operations.{as_value, computed_by, outcome_by}
+use Rattle.instructions.specs.Programs.{Program, instr_at}
+use Rattle.instructions.specs.declared.instr.Instr.{Instr}
+use Rattle.instructions.specs.declared.op.Half.{Half}
+use Rattle.instructions.specs.declared.op.Half.TheVariants.{Low}
+use Rattle.instructions.specs.declared.op.Kind.{Kind}
+use Rattle.instructions.specs.declared.op.Kind.TheVariants.{Computes, Jumps, Links, Loads, Stores}
+use Rattle.instructions.specs.declared.stop.Outcome.TheVariants.{Address}
+use Rattle.instructions.specs.declared.stop.Stop.{Stop}
+use Rattle.instructions.specs.declared.stop.Stop.TheVariants.{BadPc}
 use Rattle.inorder.specs.declared.history.Act.TheVariants.{Retire}
 use Rattle.inorder.specs.declared.history.Step.TheVariants.{On}
 use Rattle.inorder.specs.Callers.{is_retired, stands_retired}

@@ -1,9 +1,9 @@
 -- How a run ends.
 use Rattle.std.proofs.Common.{◌≡◌, ℕ, suc, ◌+◌, ◌-◌, ◌*◌, ◌^◌, ◌<◌, ◌≤◌, true, Option, Some, None, refl, sym, ap, ◌∙◌, subst, arith, mul-le-mul_right, suc-mul, true≢false}
 use Rattle.std.specs.Prelude.{is_some}
-use Rattle.isa.specs.Programs.{Program}
-use Rattle.isa.specs.declared.stop.Stop.{Stop}
-use Rattle.isa.specs.declared.end.Ending.TheVariants.{Stop as ByStop, Limit as ByLimit}
+use Rattle.instructions.specs.Programs.{Program}
+use Rattle.instructions.specs.declared.stop.Stop.{Stop}
+use Rattle.instructions.specs.declared.end.Ending.TheVariants.{Stop as ByStop, Limit as ByLimit}
 use Rattle.inorder.specs.Committed.{committed}
 use Rattle.inorder.specs.Machine.{Goes, Halts, Ran as RanStep, State, fetched, step}
 use Rattle.inorder.specs.Runs.{after, end_after, end_from, next_state, stop, stop_of, then_state, then_stop}

@@ -1,10 +1,10 @@
 -- The queue of a window, as it is built.
 use Rattle.std.proofs.Common.{◌≡◌, ◌<◌, ◌≤◌, ◌-◌, ℕ, zero, suc, ◌+◌, Bool, true, false, cond, List, [], ◌∷◌, ◌++◌, length, take, Option, Some, None, refl, sym, ap, ◌∙◌, arith, length-append, length-take, true≢false}
 use Rattle.std.specs.Prelude.{slice_get, is_some, min}
-use Rattle.isa.specs.Instruction.{kind, width}
-use Rattle.isa.specs.declared.op.Kind.{Kind}
-use Rattle.isa.specs.declared.op.Kind.TheVariants.{Computes, Jumps, Links, Loads, Stores}
-use Rattle.isa.specs.declared.op.Op.{Op}
+use Rattle.instructions.specs.Instruction.{kind, width}
+use Rattle.instructions.specs.declared.op.Kind.{Kind}
+use Rattle.instructions.specs.declared.op.Kind.TheVariants.{Computes, Jumps, Links, Loads, Stores}
+use Rattle.instructions.specs.declared.op.Op.{Op}
 use Rattle.inorder.specs.Loads.{access_width, is_store}
 use Rattle.inorder.proofs.QueueBytes.{same_width}
 use Rattle.lsq.specs.declared.entry.Entry.{Entry}

@@ -2,7 +2,7 @@
 use Rattle.std.proofs.Common.{◌≡◌, ◌⊎◌, ℕ, zero, suc, Bool, true, false, cond, List, [], ◌∷◌, ◌++◌, length, drop, Some, refl, sym, ap, ◌∙◌, inl, inr, ⊎_elim, arith, append_assoc, length-append, true≢false}
 use Rattle.std.specs.Prelude.{slice_get}
 use Rattle.std.specs.List.{AllByRecursion}
-use Rattle.isa.specs.Programs.{Program}
+use Rattle.instructions.specs.Programs.{Program}
 use Rattle.inorder.specs.Tenants.{IsNotLive, Live, Retired, Squashed, Standing, Tenant, is_live, stands_live}
 use Rattle.unit.specs.declared.station.Station.{Station}
 use Rattle.unit.specs.Window.{station_of, window}
@@ -94,8 +94,8 @@ window_gone P ys t ts e = window_middle P (gone ys) t ts e ∙ ap (λ l. window 
 
 pub station_alike : (P : Program) (t u : Tenant) → IsAlike t u → station_of P u ≡ station_of P t
 station_alike P t u a =
-    ap (λ i. record (station_of P u) { instr = Rattle.isa.specs.Programs.instr_of P i; destination = Rattle.isa.specs.Instruction.destination (Rattle.isa.specs.Programs.instr_of P i) u.half }) a.index
-    ∙ ap (λ h. record (station_of P u) { instr = Rattle.inorder.specs.Tenants.instr P t; half = h; destination = Rattle.isa.specs.Instruction.destination (Rattle.inorder.specs.Tenants.instr P t) h }) a.half
+    ap (λ i. record (station_of P u) { instr = Rattle.instructions.specs.Programs.instr_of P i; destination = Rattle.instructions.specs.Instruction.destination (Rattle.instructions.specs.Programs.instr_of P i) u.half }) a.index
+    ∙ ap (λ h. record (station_of P u) { instr = Rattle.inorder.specs.Tenants.instr P t; half = h; destination = Rattle.instructions.specs.Instruction.destination (Rattle.inorder.specs.Tenants.instr P t) h }) a.half
     ∙ ap (λ x. record { instr = Rattle.inorder.specs.Tenants.instr P t; half = t.half; destination = Rattle.inorder.specs.Tenants.destination_of P t; pc = x; predicted = u.predicted; next = u.next; made = u.made; stage = Rattle.unit.specs.Window.stage_of u.fate }) a.pc
     ∙ ap (λ x. record { instr = Rattle.inorder.specs.Tenants.instr P t; half = t.half; destination = Rattle.inorder.specs.Tenants.destination_of P t; pc = t.pc; predicted = x; next = u.next; made = u.made; stage = Rattle.unit.specs.Window.stage_of u.fate }) a.predicted
     ∙ ap (λ x. record { instr = Rattle.inorder.specs.Tenants.instr P t; half = t.half; destination = Rattle.inorder.specs.Tenants.destination_of P t; pc = t.pc; predicted = t.predicted; next = x; made = u.made; stage = Rattle.unit.specs.Window.stage_of u.fate }) a.next

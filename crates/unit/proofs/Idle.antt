@@ -1,7 +1,7 @@
 -- A stage that finds nothing to do changes at most what is remembered.
 use Rattle.std.proofs.Common.{◌≡◌, ◌<◌, ℕ, Bool, true, false, List, length, Option, Some, None, refl, sym, ap, ◌∙◌, subst}
 use Rattle.std.specs.Prelude.{slice_get}
-use Rattle.isa.specs.Instruction.{is_first_half}
+use Rattle.instructions.specs.Instruction.{is_first_half}
 use Rattle.unit.specs.declared.bench.Turn.{Turn}
 use Rattle.unit.specs.declared.bench.Turn.TheVariants.{Loaded, Ran}
 use Rattle.unit.specs.declared.pipeline.Pipeline.{Pipeline}

@@ -2,8 +2,8 @@
 use Rattle.std.proofs.Common.{◌≡◌, ℕ, ◌+◌, ◌%◌, ◌^◌, ◌<◌, ◌≤◌, cond, eqb, List, [], ◌∷◌, ◌++◌, length, Some, None, refl, sym, ap, ◌∙◌, subst, arith}
 use Rattle.std.specs.Prelude.{IfSome, slice_get, slice_set}
 use Rattle.std.specs.List.{AllByRecursion}
-use Rattle.isa.specs.Instruction.{fixed_next, kind}
-use Rattle.isa.specs.Programs.{Program, instr_of}
+use Rattle.instructions.specs.Instruction.{fixed_next, kind}
+use Rattle.instructions.specs.Programs.{Program, instr_of}
 use Rattle.inorder.specs.declared.history.Step.{Step}
 use Rattle.inorder.specs.declared.history.Step.TheVariants.{Let as LetStep}
 use Rattle.inorder.specs.Callers.{is_retired}

@@ -2,15 +2,15 @@
 use Rattle.std.proofs.Common.{◌≡◌, ◌≢◌, ◌⊎◌, ◌<◌, ◌≤◌, ◌-◌, ℕ, zero, suc, ◌+◌, Bool, true, false, eqb, List, [], ◌∷◌, ◌++◌, length, take, drop, Option, Some, None, refl, sym, ap, ◌∙◌, subst, inl, inr, ⊎_elim, arith, length-append, length-take-le, true≢false}
 use Rattle.std.specs.Prelude.{min, slice_get, slice_set}
 use Rattle.std.proofs.lemmas.Bool.{cases_lt}
-use Rattle.isa.specs.Instruction.{kind}
+use Rattle.instructions.specs.Instruction.{kind}
 use Rattle.unit.specs.declared.station.Station.{Station}
 use Rattle.unit.specs.declared.station.Stage.{Stage}
 use Rattle.unit.specs.declared.station.Stage.TheVariants.{Open, Addr, Done, Miss, Stops}
 use Rattle.circular_buffer.proofs.Places.{slice_get-take}
 use Rattle.unit.specs.Givers.{FirstGives, NoneGives, given_at, gives}
 use Rattle.unit.specs.Notes.{AreNoted, AreSettled, miss_in, missed_after, settled_at, settled_by}
-use Rattle.isa.specs.declared.op.Kind.{Kind}
-use Rattle.isa.specs.declared.op.Kind.TheVariants.{Computes, Jumps, Links, Loads, Stores}
+use Rattle.instructions.specs.declared.op.Kind.{Kind}
+use Rattle.instructions.specs.declared.op.Kind.TheVariants.{Computes, Jumps, Links, Loads, Stores}
 use Rattle.unit.specs.declared.execute.Operands.{Operands}
 use Rattle.unit.specs.Loads.{load_in, waits_by}
 use Rattle.unit.specs.Window.{miss_of, operands_in, where_open}

@@ -1,9 +1,9 @@
 -- What a settled station does not give.
 use Rattle.std.proofs.Common.{◌≡◌, ℕ, true, false, List, Option, Some, None, refl, sym, true≢false}
 use Rattle.std.specs.Prelude.{slice_get, is_some}
-use Rattle.isa.specs.Instruction.{kind}
-use Rattle.isa.specs.declared.op.Kind.{Kind}
-use Rattle.isa.specs.declared.op.Kind.TheVariants.{Computes, Jumps, Links, Loads, Stores}
+use Rattle.instructions.specs.Instruction.{kind}
+use Rattle.instructions.specs.declared.op.Kind.{Kind}
+use Rattle.instructions.specs.declared.op.Kind.TheVariants.{Computes, Jumps, Links, Loads, Stores}
 use Rattle.unit.specs.declared.execute.Operands.{Operands}
 use Rattle.unit.specs.declared.station.Stage.{Stage}
 use Rattle.unit.specs.declared.station.Stage.TheVariants.{Open, Addr, Done, Miss, Stops}

@@ -2,7 +2,7 @@
 use Rattle.std.proofs.Common.{◌≡◌, ℕ, ◌-◌, ◌<◌, ◌≤◌, zero, suc, Bool, true, false, List, [], ◌∷◌, length, drop, Option, Some, None, refl, sym, ap, ◌∙◌, subst, arith, true≢false}
 use Rattle.std.proofs.Math.Nat.{mod-lt, zero-mod}
 use Rattle.std.specs.Prelude.{slice_get, slice_set, replicate}
-use Rattle.isa.specs.Instruction.{is_first_half}
+use Rattle.instructions.specs.Instruction.{is_first_half}
 use Rattle.inorder.specs.Callers.{is_retired}
 use Rattle.inorder.specs.Machine.{start}
 use Rattle.inorder.specs.Unit.{how_many}

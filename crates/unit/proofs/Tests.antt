@@ -2,11 +2,11 @@
 use Rattle.std.proofs.Common.{◌≡◌, ◌≢◌, ℕ, ◌<◌, ◌≤◌, false, List, [], ◌∷◌, ◌++◌, length, Option, Some, None, refl, sym, ap, ◌∙◌, subst, arith, append_assoc, length-append}
 use Rattle.std.specs.Prelude.{slice_get, unwrap_or}
 use Rattle.std.specs.List.{AllByRecursion}
-use Rattle.isa.specs.Instruction.{first_of, kind, second_of, width}
-use Rattle.isa.specs.Programs.{Program, instr_at, instr_of}
-use Rattle.isa.specs.declared.op.Kind.{Kind}
-use Rattle.isa.specs.declared.op.Kind.TheVariants.{Computes, Jumps, Links, Loads, Stores}
-use Rattle.isa.specs.declared.op.Op.{Op}
+use Rattle.instructions.specs.Instruction.{first_of, kind, second_of, width}
+use Rattle.instructions.specs.Programs.{Program, instr_at, instr_of}
+use Rattle.instructions.specs.declared.op.Kind.{Kind}
+use Rattle.instructions.specs.declared.op.Kind.TheVariants.{Computes, Jumps, Links, Loads, Stores}
+use Rattle.instructions.specs.declared.op.Op.{Op}
 use Rattle.inorder.specs.declared.history.Source.TheVariants.{First, Second}
 use Rattle.inorder.specs.Committed.{ahead, committed}
 use Rattle.inorder.specs.Loads.{queue_of}

@@ -1,10 +1,10 @@
 -- Between two halves: what waits for LO is all that a new tenant finds besides what is committed.
 use Rattle.std.proofs.Common.{◌≡◌, ℕ, suc, Bool, true, false, cond, ◌&&◌, not, List, [], ◌∷◌, ◌++◌, Option, Some, None, refl, sym, ap, ◌∙◌, subst}
 use Rattle.std.specs.Prelude.{unwrap_or}
-use Rattle.isa.specs.Instruction.{destination_by, is_low, is_pair, pair_target, target_by}
-use Rattle.isa.specs.Programs.{Program}
-use Rattle.isa.specs.Registers.{lo}
-use Rattle.isa.specs.declared.op.Half.TheVariants.{Low}
+use Rattle.instructions.specs.Instruction.{destination_by, is_low, is_pair, pair_target, target_by}
+use Rattle.instructions.specs.Programs.{Program}
+use Rattle.instructions.specs.Registers.{lo}
+use Rattle.instructions.specs.declared.op.Half.TheVariants.{Low}
 use Rattle.inorder.specs.Callers.{is_retired, stands_retired}
 use Rattle.inorder.specs.Committed.{ahead, commits, commits_by, committed, completes, with_first, with_retired}
 use Rattle.inorder.specs.Machine.{write}
@@ -162,8 +162,8 @@ same_alike P (t ∷ ts) (u ∷ us) a = go (same_alike P ts us a.1)
       where
         first_alike : (P : Program) (t u : Tenant) → IsAlike t u → is_first P u ≡ is_first P t
         first_alike P t u a =
-            ap (λ i. Rattle.isa.specs.Instruction.is_first_half (Rattle.isa.specs.Programs.instr_of P i).op u.half) a.index
-            ∙ ap (λ h. Rattle.isa.specs.Instruction.is_first_half (instr P t).op h) a.half
+            ap (λ i. Rattle.instructions.specs.Instruction.is_first_half (Rattle.instructions.specs.Programs.instr_of P i).op u.half) a.index
+            ∙ ap (λ h. Rattle.instructions.specs.Instruction.is_first_half (instr P t).op h) a.half
 
 -- Nobody after a live tenant has retired
 

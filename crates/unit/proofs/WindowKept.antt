@@ -1,7 +1,7 @@
 -- The fields of a window, step by step.
 use Rattle.std.proofs.Common.{◌≡◌, ◌<◌, ◌≤◌, ◌-◌, ℕ, zero, suc, ◌+◌, List, [], ◌∷◌, ◌++◌, length, take, drop, set, get_or, Some, refl, sym, ap, ◌∙◌, subst, arith, length-set}
 use Rattle.std.specs.Prelude.{slice_get, slice_index}
-use Rattle.isa.specs.Instruction.{first_of, second_of}
+use Rattle.instructions.specs.Instruction.{first_of, second_of}
 use Rattle.unit.specs.declared.creators.Creators.{Creators}
 use Rattle.unit.specs.declared.station.Station.{Station}
 use Rattle.unit.specs.Creators.{HasCreators, IsCreator, IsOfSame, IsWindow, KnowsCreators, places_of}

@@ -1,9 +1,9 @@
 -- Between the two halves of an instruction: what the first has made waits for the second.
 use Rattle.std.specs.Prelude.{ℕ, Bool, true, false, List, [], ◌∷◌, Option, Some, None, unwrap_or}
-use Rattle.isa.specs.Programs.{Program}
-use Rattle.isa.specs.Registers.{lo}
-use Rattle.isa.specs.declared.op.Half.{Half}
-use Rattle.isa.specs.declared.op.Half.TheVariants.{High, Low}
+use Rattle.instructions.specs.Programs.{Program}
+use Rattle.instructions.specs.Registers.{lo}
+use Rattle.instructions.specs.declared.op.Half.{Half}
+use Rattle.instructions.specs.declared.op.Half.TheVariants.{High, Low}
 use Rattle.inorder.specs.Committed.{commits}
 use Rattle.inorder.specs.Machine.{State, write}
 use Rattle.inorder.specs.Tenants.{Tenant, is_first}

@@ -1,8 +1,8 @@
 -- The loads that the queue of a unit blocks.
 use Rattle.std.specs.Prelude.{◌≡◌, ◌≢◌, ℕ, List, [], ◌∷◌}
-use Rattle.isa.specs.Instruction.{width}
-use Rattle.isa.specs.Programs.{Program}
-use Rattle.isa.specs.declared.op.Kind.TheVariants.{Loads}
+use Rattle.instructions.specs.Instruction.{width}
+use Rattle.instructions.specs.Programs.{Program}
+use Rattle.instructions.specs.declared.op.Kind.TheVariants.{Loads}
 use Rattle.inorder.specs.Loads.{queue_of}
 use Rattle.inorder.specs.Tenants.{Addr, Live, Tenant, instr, kind_of}
 use Rattle.lsq.specs.declared.answer.Answer.TheVariants.{Blocked}

@@ -1,7 +1,7 @@
 -- What each stage of a turn does to the fields.
 use Rattle.std.specs.Prelude.{ℕ, ◌+◌, ◌-◌, ◌%◌, Bool, List, length, Option}
-use Rattle.isa.specs.declared.end.End.{End}
-use Rattle.isa.specs.declared.end.Ending.{Ending}
+use Rattle.instructions.specs.declared.end.End.{End}
+use Rattle.instructions.specs.declared.end.Ending.{Ending}
 use Rattle.inorder.specs.Machine.{State}
 use Rattle.inorder.specs.Runs.{end_from}
 use Rattle.unit.specs.declared.dispatch.Fetched.{Fetched}

@@ -1,8 +1,8 @@
 -- Who has left a station, as far as the predictor is told of it.
 use Rattle.std.specs.Prelude.{◌≡◌, ℕ, List, [], ◌∷◌, Option, Some, None, ◌==◌, if◌then◌else◌}
-use Rattle.isa.specs.Instruction.{fixed_next}
-use Rattle.isa.specs.Programs.{Program}
-use Rattle.isa.specs.declared.instr.Instr.{Instr}
+use Rattle.instructions.specs.Instruction.{fixed_next}
+use Rattle.instructions.specs.Programs.{Program}
+use Rattle.instructions.specs.declared.instr.Instr.{Instr}
 use Rattle.inorder.specs.Tenants.{Done, Fate, Retired, Standing, Tenant, instr}
 use Rattle.unit.specs.declared.leaver.Leaver.{Leaver}
 use Rattle.unit.specs.declared.station.Station.{Station}

@@ -1,9 +1,9 @@
 -- How the oldest station leaves.
 use Rattle.std.specs.Prelude.{◌≡◌, ◌≤◌, ◌+◌, ◌-◌, ◌%◌, ℕ, suc, Bool, true, false, List, [], drop, Option, Some, None, unwrap_or, slice_set}
-use Rattle.isa.specs.Instruction.{is_first_half, second_of, width}
-use Rattle.isa.specs.declared.instr.Instr.{Instr}
-use Rattle.isa.specs.declared.stop.Stop.{Stop}
-use Rattle.isa.specs.declared.stop.Stop.TheVariants.{BadPc}
+use Rattle.instructions.specs.Instruction.{is_first_half, second_of, width}
+use Rattle.instructions.specs.declared.instr.Instr.{Instr}
+use Rattle.instructions.specs.declared.stop.Stop.{Stop}
+use Rattle.instructions.specs.declared.stop.Stop.TheVariants.{BadPc}
 use Rattle.inorder.specs.Machine.{State, store_bytes, write}
 use Rattle.unit.specs.declared.bench.Turn.{Turn}
 use Rattle.unit.specs.declared.bench.Turn.TheVariants.{Halved, Over, Retired}

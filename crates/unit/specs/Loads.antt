@@ -1,10 +1,10 @@
 -- Loads over the live memory instructions before them.
 use Rattle.std.specs.Prelude.{◌≡◌, ◌<◌, ◌≤◌, is_some, ℕ, zero, suc, ◌+◌, Bool, false, List, [], ◌∷◌, ◌++◌, length, take, Option, Some, None, if◌then◌else◌, slice_index, slice_get}
-use Rattle.isa.specs.Instruction.{kind, second_of, width}
-use Rattle.isa.specs.Operations.{loaded}
-use Rattle.isa.specs.declared.op.Kind.{Kind}
-use Rattle.isa.specs.declared.op.Kind.TheVariants.{Loads as LoadKind}
-use Rattle.isa.specs.declared.op.Op.{Op}
+use Rattle.instructions.specs.Instruction.{kind, second_of, width}
+use Rattle.instructions.specs.Operations.{loaded}
+use Rattle.instructions.specs.declared.op.Kind.{Kind}
+use Rattle.instructions.specs.declared.op.Kind.TheVariants.{Loads as LoadKind}
+use Rattle.instructions.specs.declared.op.Op.{Op}
 use Rattle.inorder.specs.Loads.{access_width, content_by, is_store}
 use Rattle.lsq.specs.Bytes.{little_endian}
 use Rattle.lsq.specs.declared.answer.Answer.{Answer}

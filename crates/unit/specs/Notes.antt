@@ -1,8 +1,8 @@
 -- What the unit remembers of its window, so as not to search all of it.
 use Rattle.std.specs.Prelude.{◌≡◌, ◌<◌, ◌≤◌, ℕ, Bool, true, false, List, length, Option, Some, None, slice_get}
-use Rattle.isa.specs.Instruction.{kind}
-use Rattle.isa.specs.declared.op.Kind.{Kind}
-use Rattle.isa.specs.declared.op.Kind.TheVariants.{Stores as StoreKind}
+use Rattle.instructions.specs.Instruction.{kind}
+use Rattle.instructions.specs.declared.op.Kind.{Kind}
+use Rattle.instructions.specs.declared.op.Kind.TheVariants.{Stores as StoreKind}
 use Rattle.unit.specs.declared.station.Stage.{Stage}
 use Rattle.unit.specs.declared.station.Stage.TheVariants.{Addr, Done, Miss, Stops}
 use Rattle.unit.specs.declared.station.Station.{Station}

@@ -1,8 +1,8 @@
 -- What each stage of a turn does to the window.
 use Rattle.std.specs.Prelude.{◌≡◌, ◌<◌, ◌≤◌, ℕ, true, List, [], ◌∷◌, ◌++◌, length, take, Option, Some, None, slice_get, slice_set}
-use Rattle.isa.specs.Operations.{outcome_of}
-use Rattle.isa.specs.Programs.{Program, instr_at}
-use Rattle.isa.specs.declared.instr.Instr.{Instr}
+use Rattle.instructions.specs.Operations.{outcome_of}
+use Rattle.instructions.specs.Programs.{Program, instr_at}
+use Rattle.instructions.specs.declared.instr.Instr.{Instr}
 use Rattle.unit.specs.declared.dispatch.Fetched.{Fetched}
 use Rattle.unit.specs.declared.execute.Operands.{Operands}
 use Rattle.unit.specs.declared.execute.Ready.{Ready}

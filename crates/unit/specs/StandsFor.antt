@@ -1,7 +1,7 @@
 -- The units that the fields stand for.
 use Rattle.std.specs.Prelude.{◌≡◌, ◌%◌, ◌<◌, ◌≤◌, ℕ, List, length, Option, Some, None, slice_get}
 use Rattle.std.specs.List.{AllByRecursion}
-use Rattle.isa.specs.declared.stop.Stop.{Stop}
+use Rattle.instructions.specs.declared.stop.Stop.{Stop}
 use Rattle.inorder.specs.Callers.{is_retired}
 use Rattle.inorder.specs.Committed.{committed}
 use Rattle.inorder.specs.Steps.{IsNoRetiredStop}

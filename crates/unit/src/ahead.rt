@@ -3,7 +3,7 @@ ghost use Rattle.std.specs.Prelude.{◌≡◌, ◌≤◌, ◌+◌, length, slice
 ghost use Rattle.lsq.specs.Bytes.{little_endian};
 
 use crate::committed::Committed;
-use isa::Reg;
+use instructions::Reg;
 use std::marker::Model;
 
 /// What is committed, and what waits for LO.

@@ -10,7 +10,7 @@ use crate::dispatch::Fetched;
 use crate::leaver::Leaver;
 use crate::pipeline::Pipeline;
 use crate::station::Station;
-use isa::{Config, End, Ending, Memory, Predictor, Program, Stop};
+use instructions::{Config, End, Ending, Memory, Predictor, Program, Stop};
 use std::alloc::Global;
 use std::marker::Model;
 

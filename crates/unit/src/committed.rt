@@ -5,7 +5,7 @@ ghost use Rattle.inorder.specs.Machine.{write, start, store_bytes};
 ghost use Rattle.unit.specs.Ahead.{ahead_by, with_low};
 
 use inorder::{number, store};
-use isa::{Memory, Program, Reg};
+use instructions::{Memory, Program, Reg};
 use std::alloc::Global;
 use std::marker::Model;
 
@@ -20,7 +20,7 @@ pub struct Committed {
 
 impl Model for Committed {
     ghost use Rattle.std.specs.Prelude.{◌≡◌, ◌≤◌, length};
-    ghost use Rattle.isa.specs.Registers.{register_count};
+    ghost use Rattle.instructions.specs.Registers.{register_count};
     ghost use Rattle.inorder.specs.Machine.{State};
 
     ghost Value = { State };

@@ -1,6 +1,6 @@
 //! Dispatch.
 ghost use Rattle.std.specs.Prelude.{◌≡◌, ◌<◌, ◌≤◌, ◌-◌, ◌+◌, ◌%◌, [], ◌∷◌, ◌++◌, length, take, slice_get, slice_set, Some, None};
-ghost use Rattle.isa.specs.Instruction.{is_first_half};
+ghost use Rattle.instructions.specs.Instruction.{is_first_half};
 ghost use Rattle.inorder.specs.Unit.{half_after};
 ghost use Rattle.inorder.specs.Tenants.{made_at_let as made_at_let_of};
 ghost use Rattle.unit.specs.Ahead.{waiting_half as waiting_half_of};
@@ -10,7 +10,7 @@ ghost use Rattle.unit.specs.Window.{half_in, let_at, next_in, reaches_memory};
 use crate::leaver::Leaver;
 use crate::pipeline::Pipeline;
 use crate::station::{Stage, Station};
-use isa::{Half, Instr, Kind, Op, pc_plus_4};
+use instructions::{Half, Instr, Kind, Op, pc_plus_4};
 
 /// The instruction that can be let, its half, and its pc.
 #[derive(Clone, Copy)]

@@ -5,14 +5,14 @@ ghost use Rattle.unit.specs.Givers.{Chosen, gives};
 ghost use Rattle.unit.specs.Notes.{AreNoted, AreSettled, missed_after, settled_at, settled_by};
 ghost use Rattle.unit.specs.Stages.{FirstReady};
 ghost use Rattle.unit.specs.Window.{finished as finished_of, operands_by, operands_in};
-ghost use Rattle.isa.specs.Instruction.{kind as kind_of};
+ghost use Rattle.instructions.specs.Instruction.{kind as kind_of};
 
 use crate::ahead::Ahead;
 use crate::pipeline::Pipeline;
 use crate::source::source;
 use crate::station::{Stage, Station};
 use crate::window::Window;
-use isa::{Kind, Outcome, outcome_of};
+use instructions::{Kind, Outcome, outcome_of};
 
 /// The sources of a tenant that can be claimed; 0 for one that is not there and not needed.
 #[derive(Clone, Copy)]

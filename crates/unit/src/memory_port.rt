@@ -1,6 +1,6 @@
 //! The memory port: loads are answered over the live memory instructions before them.
 ghost use Rattle.std.specs.Prelude.{◌≡◌, ◌≢◌, ◌<◌, ◌≤◌, ◌+◌, ◌++◌, ◌∷◌, [], length, take, slice_get, Some, None, IsSome};
-ghost use Rattle.isa.specs.Instruction.{kind as kind_of, second_of, width as width_in};
+ghost use Rattle.instructions.specs.Instruction.{kind as kind_of, second_of, width as width_in};
 ghost use Rattle.lsq.specs.Entries.{load_at};
 ghost use Rattle.lsq.specs.LoadRule.{answer};
 ghost use Rattle.unit.specs.Changes.{LoadsOldest, NoneLoads};
@@ -17,7 +17,7 @@ use crate::pipeline::Pipeline;
 use crate::source::source;
 use crate::station::{Stage, Station};
 use crate::window::Window;
-use isa::{Kind, Op, loaded};
+use instructions::{Kind, Op, loaded};
 use lsq::{Answer, Entry, Queue, Width};
 
 /// The place of a load that is not blocked, and its value.

@@ -11,7 +11,7 @@ use crate::bench::Turn;
 use crate::committed::Committed;
 use crate::leaver::Leaver;
 use crate::window::Window;
-use isa::{Config, Memory, Program, Stop};
+use instructions::{Config, Memory, Program, Stop};
 use std::alloc::Global;
 
 #[derive(Drop)]

@@ -9,7 +9,7 @@ use crate::leaver::{Leaver, told_of};
 use crate::pipeline::Pipeline;
 use crate::source::source;
 use crate::station::{Stage, Station};
-use isa::Stop;
+use instructions::Stop;
 
 // A tenant leaves a station.
 fn leave(leavers: &mut [Option<Leaver>; 32], station: usize, told: Option<Leaver>)

@@ -1,8 +1,8 @@
 //! Turns of listings, and runs beside the in-order machine.
 use crate::{Bench, Turn};
-use assembly::parse;
 use inorder::{Ended, Machine};
-use isa::{Bimod, Config, Ending, NotTaken, Predictor, Program, Stop};
+use instructions::{Bimod, Config, Ending, NotTaken, Predictor, Program, Stop};
+use isa::parse;
 use std::alloc::Global;
 use std::process::Abort;
 use std::test::Fail;

@@ -1,7 +1,7 @@
 //! What a bench shows of its live tenants.
 use crate::{Bench, Stage, Station, Turn};
-use assembly::parse;
-use isa::{Config, NotTaken, Op};
+use instructions::{Config, NotTaken, Op};
+use isa::parse;
 use std::test::Fail;
 
 fn is_open(station: Option<Station>, op: Op) -> bool {

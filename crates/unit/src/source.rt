@@ -5,7 +5,7 @@ ghost use Rattle.unit.specs.Window.{source_in};
 
 use crate::ahead::Ahead;
 use crate::window::Window;
-use isa::Reg;
+use instructions::Reg;
 
 /// What register `r` is worth to the tenant at `i`, if that was made. Its creator is the live tenant
 /// at `at`, if that is older and writes the register.

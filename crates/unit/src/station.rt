@@ -1,5 +1,5 @@
 //! A live tenant, and how far it has come.
-use isa::{Half, Instr, Reg, Stop};
+use instructions::{Half, Instr, Reg, Stop};
 
 /// How far a tenant has come.
 #[derive(Clone, Copy)]

@@ -7,7 +7,7 @@ ghost use Rattle.unit.specs.Window.{access_at, accesses as accesses_of};
 use crate::creators::Creators;
 use crate::dispatch::is_access;
 use crate::station::{Stage, Station};
-use isa::{Half, Instr, Op, Reg};
+use instructions::{Half, Instr, Op, Reg};
 use std::marker::Model;
 
 /// At most 32 stations, in a ring of slots.

@@ -3,13 +3,13 @@ use Rattle.std.proofs.Common.{◌≡◌, ◌≢◌, ℕ, zero, suc, ◌-◌, ◌
 use Rattle.std.specs.Prelude.{slice_get, unwrap_or}
 use Rattle.std.specs.List.{AllByRecursion}
 use Rattle.std.proofs.lemmas.Option.{slice_get_within, get_or_from_slice_get}
-use Rattle.isa.specs.Instruction.{pc_plus_4}
-use Rattle.isa.specs.Operations.{outcome_by}
-use Rattle.isa.specs.Programs.{Program, address, instr_at, instr_of}
-use Rattle.isa.specs.declared.instr.Instr.{Instr}
-use Rattle.isa.specs.declared.op.Kind.TheVariants.{Links}
-use Rattle.isa.specs.declared.stop.Outcome.{Outcome}
-use Rattle.isa.specs.declared.stop.Outcome.TheVariants.{Address, Next, Stop as Stops}
+use Rattle.instructions.specs.Instruction.{pc_plus_4}
+use Rattle.instructions.specs.Operations.{outcome_by}
+use Rattle.instructions.specs.Programs.{Program, address, instr_at, instr_of}
+use Rattle.instructions.specs.declared.instr.Instr.{Instr}
+use Rattle.instructions.specs.declared.op.Kind.TheVariants.{Links}
+use Rattle.instructions.specs.declared.stop.Outcome.{Outcome}
+use Rattle.instructions.specs.declared.stop.Outcome.TheVariants.{Address, Next, Stop as Stops}
 use Rattle.inorder.specs.Steps.{IsNoRetiredStop, MayComeFrom}
 use Rattle.inorder.specs.Tenants.{Addr, Busy, Done, Fate, Live, Miss, Open, Retired, Squashed, Standing, Stopped, Tenant, computed, destination_of, instr, is_live, kind_of, on_path, operand_value, stands_on_path}
 use Rattle.inorder.specs.Unit.{Sizes, UpdateUnit, at, creator, how_many, last_writer, made_by, newest_of, next_station, older, recent, value_of, younger}

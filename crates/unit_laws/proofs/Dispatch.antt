@@ -2,8 +2,8 @@
 use Rattle.std.proofs.Common.{◌≡◌, ℕ, ◌<◌, ◌^◌, true, ◌&&◌, List, [], ◌∷◌, ◌++◌, length, Option, Some, None, refl, sym}
 use Rattle.std.specs.Prelude.{IfSome}
 use Rattle.std.specs.List.{AllByRecursion}
-use Rattle.isa.specs.Instruction.{first_of, second_of, fixed_next, kind}
-use Rattle.isa.specs.Programs.{Program, address, instr_of}
+use Rattle.instructions.specs.Instruction.{first_of, second_of, fixed_next, kind}
+use Rattle.instructions.specs.Programs.{Program, address, instr_of}
 use Rattle.inorder.specs.declared.history.Act.TheVariants.{Link}
 use Rattle.inorder.specs.declared.history.Source.TheVariants.{First, Second}
 use Rattle.inorder.specs.declared.history.Step.{Step}

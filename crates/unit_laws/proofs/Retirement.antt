@@ -1,6 +1,6 @@
 -- The oldest live tenant retires.
 use Rattle.std.proofs.Common.{ℕ, List, [], ◌∷◌, ◌++◌, length}
-use Rattle.isa.specs.Programs.{Program}
+use Rattle.instructions.specs.Programs.{Program}
 use Rattle.inorder.specs.declared.history.Act.TheVariants.{Retire}
 use Rattle.inorder.specs.declared.history.Step.TheVariants.{On}
 use Rattle.inorder.specs.Steps.{MayRetire, retired}

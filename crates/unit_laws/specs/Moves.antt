@@ -1,6 +1,6 @@
 -- Several steps that one caller takes in a unit, one after another.
 use Rattle.std.specs.Prelude.{◌≡◌, ℕ, suc, List, [], ◌∷◌, length}
-use Rattle.isa.specs.Programs.{Program}
+use Rattle.instructions.specs.Programs.{Program}
 use Rattle.inorder.specs.declared.history.Act.TheVariants.{Deliver, Link, Squash}
 use Rattle.inorder.specs.declared.history.Step.{Step}
 use Rattle.inorder.specs.declared.history.Step.TheVariants.{Let, On, Renew}

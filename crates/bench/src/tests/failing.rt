@@ -1,7 +1,7 @@
 //! Readers and writers that fail, and what is taken of a listing.
 use super::{LIMIT, config};
 use crate::{Counted, Fault, Status, alone};
-use isa::NotTaken;
+use instructions::NotTaken;
 use std::io::{self, ErrorKind, Read, Write};
 use std::test::Fail;
 

@@ -2,9 +2,9 @@
 //! stations up to 1,000,000 instructions where no more is said.
 use super::{LIMIT, answer, config};
 use crate::Status;
-use assembly::{parse, report_text};
 use inorder::{Ended, Machine};
-use isa::{End, Ending};
+use instructions::{End, Ending};
+use isa::{parse, report_text};
 use std::alloc::Global;
 use std::process::Abort;
 use std::test::Fail;

@@ -1,7 +1,7 @@
 //! Want of memory.
 use super::*;
 use crate::Fault;
-use isa::End;
+use instructions::End;
 use std::io::{self, Write};
 use std::process::Abort;
 

@@ -5,7 +5,7 @@ use crate::names::register_of;
 use crate::replies::{Refusal, Reply};
 use crate::{calls, reads};
 use back::Naming;
-use isa::Predictor;
+use instructions::Predictor;
 
 impl<'a, P: Predictor + Drop, J: Naming> Session<'a, P, J> {
     ghost use Rattle.std.specs.Prelude.{◌≡◌};

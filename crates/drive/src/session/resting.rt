@@ -3,7 +3,7 @@ use super::Session;
 use crate::calls;
 use crate::replies::Reply;
 use back::Naming;
-use isa::Predictor;
+use instructions::Predictor;
 
 impl<'a, P: Predictor + Drop, J: Naming> Session<'a, P, J> {
     ghost use Rattle.std.specs.Prelude.{◌≡◌};

@@ -3,7 +3,7 @@ use super::Session;
 use crate::calls;
 use crate::replies::{Refusal, Reply};
 use back::Naming;
-use isa::Predictor;
+use instructions::Predictor;
 use std::sync::Wait;
 
 impl<'a, P: Predictor + Drop, J: Naming> Session<'a, P, J> {

@@ -1,9 +1,9 @@
 //! What the path stands on.
 ghost use Rattle.std.specs.Prelude.{◌≡◌, replicate};
-ghost use Rattle.isa.specs.declared.op.Half.TheVariants.{Low};
-ghost use Rattle.isa.specs.Programs.{text_start};
+ghost use Rattle.instructions.specs.declared.op.Half.TheVariants.{Low};
+ghost use Rattle.instructions.specs.Programs.{text_start};
 
-use isa::{Half, Program};
+use instructions::{Half, Program};
 use station::FrontSeat;
 use std::snapshot::Snapshot;
 

@@ -3,7 +3,7 @@ ghost use Rattle.std.specs.Prelude.{◌≡◌, ◌<◌, ◌+◌, ◌%◌, ◌^�
 ghost use Rattle.front.specs.CreateTable.{Finds};
 
 use super::creators::Creator;
-use isa::Reg;
+use instructions::Reg;
 
 /// The tenant that an entry names.
 #[derive(Clone, Copy)]

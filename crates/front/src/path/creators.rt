@@ -5,7 +5,7 @@ ghost use Rattle.front.specs.CreateTable.{Finds, IsEntered, IsRestored, IsTouche
 
 use super::counted::{Counted, Maker, Saved};
 use super::record::Record;
-use isa::{Reg, pc_plus_4};
+use instructions::{Reg, pc_plus_4};
 
 /// The creator of a register whose station was not let again.
 #[derive(Clone, Copy)]

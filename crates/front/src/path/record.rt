@@ -6,7 +6,7 @@ ghost use Rattle.front.specs.Training.{ToldIf};
 use crate::fetch::Fetched;
 use crate::queue::reaches_memory;
 use arrayvec::ArrayVec;
-use isa::{Kind, Predictor};
+use instructions::{Kind, Predictor};
 use std::marker::Model;
 
 /// A tenant of the path whose station was not let again.

@@ -1,7 +1,7 @@
 //! A front that rests.
 use super::{finish_one, finished, let_at, made, retires, takes};
 use crate::{Front, Made, Recovery, Rest, Turn};
-use isa::{Bimod, NotTaken, Outcome, Reg};
+use instructions::{Bimod, NotTaken, Outcome, Reg};
 use station::Core;
 use std::test::Fail;
 

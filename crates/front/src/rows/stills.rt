@@ -1,7 +1,7 @@
 //! A front that leaves its core and enters it again.
 use super::{finish_one, finished, let_at, made, retires, takes};
 use crate::{Front, Made, Rest};
-use isa::{NotTaken, Outcome, Reg};
+use instructions::{NotTaken, Outcome, Reg};
 use station::Core;
 use std::test::Fail;
 

@@ -1,6 +1,6 @@
 //! The predictor of each name.
 use crate::{BranchPredictor, choose};
-use isa::{Instr, Op, Predictor, Reg};
+use instructions::{Instr, Op, Predictor, Reg};
 
 /// A branch at this pc, and where it goes if it is taken.
 const PC: u32 = 0x0040_0010;

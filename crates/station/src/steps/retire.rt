@@ -1,9 +1,9 @@
 //! The steps of a retirement: a look at the oldest live tenant, a store's data, and the write with
 //! which it leaves, or the load that tells why it cannot.
 ghost use Rattle.std.specs.Prelude.{◌≡◌, ◌≢◌, ◌<◌, true, false};
-ghost use Rattle.isa.specs.Instruction.{kind};
-ghost use Rattle.isa.specs.Programs.{instr_of};
-ghost use Rattle.isa.specs.declared.op.Kind.TheVariants.{Stores};
+ghost use Rattle.instructions.specs.Instruction.{kind};
+ghost use Rattle.instructions.specs.Programs.{instr_of};
+ghost use Rattle.instructions.specs.declared.op.Kind.TheVariants.{Stores};
 ghost use Rattle.inorder.specs.declared.history.Refusal.TheVariants.{NotDone, Over};
 ghost use Rattle.inorder.specs.History.{back, unit_of};
 ghost use Rattle.ruu_words.specs.declared.rule.Role.TheVariants.{Back};
@@ -18,7 +18,7 @@ use super::{Words, load, swap};
 use crate::answers::Last;
 use atomic_table::Seat;
 use inorder::history::Source;
-use isa::Half;
+use instructions::Half;
 use ruu_words::Place;
 use ruu_words::rule::View;
 use std::marker::Brand;

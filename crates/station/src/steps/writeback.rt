@@ -14,7 +14,7 @@ ghost use Rattle.station.specs.Writeback.{CanDeliver, CanSettle, HasTenant, val_
 use super::{Words, exchange, load};
 use atomic_table::Seat;
 use inorder::history::Source;
-use isa::Outcome;
+use instructions::Outcome;
 use ruu_words::Place;
 use ruu_words::rule::View;
 use std::marker::Brand;

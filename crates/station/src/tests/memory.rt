@@ -8,8 +8,8 @@ ghost use Rattle.station.specs.Renewals.{HasNobody};
 use crate::{
     BackSeat, Core, FrontSeat, Retire, StationState, UnitSeat, an_empty_core_may_be_renewed,
 };
-use assembly::parse;
-use isa::{Config, Memory, Program};
+use instructions::{Config, Memory, Program};
+use isa::parse;
 use std::alloc::Global;
 use std::test::Fail;
 

@@ -1,7 +1,7 @@
 use Rattle.std.proofs.Common.{◌≡◌, ◌⊎◌, ◌+◌, ◌%◌, [], ◌∷◌, length, refl, sym, ap, ◌∙◌, subst}
 use Rattle.std.specs.Prelude.{slice_index}
-use Rattle.isa.specs.Instruction.{width}
-use Rattle.isa.specs.Operations.{loaded}
+use Rattle.instructions.specs.Instruction.{width}
+use Rattle.instructions.specs.Operations.{loaded}
 use Rattle.lsq.specs.Bytes.{little_endian}
 use Rattle.lsq.specs.LoadRule.{answer}
 use Rattle.inorder.specs.Callers.{CanLoad}

@@ -1,5 +1,5 @@
 use Rattle.std.proofs.Common.{[], length, ap, ◌∙◌, subst, arith}
-use Rattle.isa.specs.Programs.{Program, instr_of}
+use Rattle.instructions.specs.Programs.{Program, instr_of}
 use Rattle.inorder.specs.History.{Adds}
 use Rattle.back.specs.Port.{seen_as}
 use Rattle.back.proofs.Seeing.{sees_entry, two_looks}

@@ -1,5 +1,5 @@
 use Rattle.std.proofs.Common.{◌≡◌, ◌+◌, ◌-◌, ◌%◌, [], ◌∷◌, length, sym, ap, ◌∙◌, subst, arith}
-use Rattle.isa.specs.Instruction.{width}
+use Rattle.instructions.specs.Instruction.{width}
 use Rattle.inorder.specs.History.{Adds}
 use Rattle.lsq.specs.declared.entry.Entry.{Entry as QueueEntry}
 use Rattle.lsq.specs.LoadRule.{answer}

@@ -1,5 +1,5 @@
 use Rattle.std.proofs.Common.{◌≡◌, ◌≤◌, [], length}
-use Rattle.isa.specs.Instruction.{width}
+use Rattle.instructions.specs.Instruction.{width}
 use Rattle.inorder.specs.History.{Adds}
 use Rattle.station.specs.Seats.{IsSame}
 use Rattle.back.specs.Backs.{unit_in}

@@ -1,5 +1,5 @@
 use Rattle.std.proofs.Common.{◌≤◌, ◌+◌, ◌%◌, ℕ, [], length, sym, ap, ◌∙◌, subst}
-use Rattle.isa.specs.Instruction.{width}
+use Rattle.instructions.specs.Instruction.{width}
 use Rattle.inorder.specs.declared.history.Act.TheVariants.{Load as LoadIt}
 use Rattle.inorder.specs.History.{Adds}
 use Rattle.inorder.specs.Machine.{State}

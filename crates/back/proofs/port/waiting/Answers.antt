@@ -1,6 +1,6 @@
 use Rattle.std.proofs.Common.{◌≤◌, ◌+◌, [], length, sym, ap, ◌∙◌, subst}
-use Rattle.isa.specs.Instruction.{width}
-use Rattle.isa.specs.Programs.{Program}
+use Rattle.instructions.specs.Instruction.{width}
+use Rattle.instructions.specs.Programs.{Program}
 use Rattle.inorder.specs.History.{Adds}
 use Rattle.back.specs.Trials.{NoneWaits, SomeWaits, load_at as load_in}
 use Rattle.back.proofs.Searching.{if_none, if_some}

@@ -1,6 +1,6 @@
 use Rattle.std.proofs.Common.{◌≡◌, ℕ, List, Option}
 use Rattle.devices.specs.Counted.{failures_of, known_by}
-use Rattle.isa.specs.Programs.{Program}
+use Rattle.instructions.specs.Programs.{Program}
 use Rattle.inorder.specs.Unit.{Sizes}
 use Rattle.unit.specs.Changes.{run_from}
 use Rattle.unit.proofs.Ends.{left}

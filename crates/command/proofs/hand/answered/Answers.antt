@@ -1,5 +1,5 @@
 use Rattle.std.proofs.Common.{◌∙◌, rules}
-use Rattle.assembly.specs.Listing.{listing}
+use Rattle.isa.specs.Listing.{listing}
 use Rattle.command.proofs.Driven.{fault_told}
 use Rattle.command.proofs.hand.answered.Goals as goal
 

@@ -1,5 +1,5 @@
 use Rattle.std.proofs.Common.{sym, string_bytes}
-use Rattle.assembly.specs.Listing.{listing}
+use Rattle.isa.specs.Listing.{listing}
 use Rattle.command.proofs.Answered.{pool_answers}
 use Rattle.command.proofs.threads.answer.Goals as goal
 

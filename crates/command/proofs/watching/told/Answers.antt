@@ -1,5 +1,5 @@
 use Rattle.std.proofs.Common.{◌∙◌, refl, rules}
-use Rattle.assembly.specs.Listing.{listing}
+use Rattle.isa.specs.Listing.{listing}
 use Rattle.command.proofs.Pictures.{fault_watched}
 use Rattle.command.proofs.watching.told.Goals as goal
 

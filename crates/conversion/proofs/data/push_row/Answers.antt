@@ -1,6 +1,6 @@
 use Rattle.std.proofs.Common.{◌≡◌, ◌++◌, string_bytes}
 use Rattle.std.specs.Prelude.{codes}
-use Rattle.assembly.specs.Report.{hexadecimal}
+use Rattle.isa.specs.Report.{hexadecimal}
 use Rattle.conversion.specs.Writing.{as_line, row_line}
 use Rattle.conversion.proofs.Names.{on_ok}
 use Rattle.conversion.proofs.DataSteps.{row_added}

@@ -1,5 +1,5 @@
 use Rattle.std.proofs.Common.{◌<◌, length, sym, subst}
-use Rattle.isa.specs.Programs.{Program}
+use Rattle.instructions.specs.Programs.{Program}
 use Rattle.station.specs.Writeback.{FinishAnswers}
 use Rattle.drive.proofs.Histories.{between, grows_twice}
 use Rattle.drive.proofs.Jobs.{job_later}

@@ -1,8 +1,8 @@
 use Rattle.std.proofs.Common.{[], ap, ◌∙◌, subst, arith}
 use Rattle.std.specs.Prelude.{unwrap_or}
-use Rattle.isa.specs.Instruction.{fixed_next}
-use Rattle.isa.specs.Programs.{Program, address}
-use Rattle.isa.specs.declared.op.Half.TheVariants.{Low}
+use Rattle.instructions.specs.Instruction.{fixed_next}
+use Rattle.instructions.specs.Programs.{Program, address}
+use Rattle.instructions.specs.declared.op.Half.TheVariants.{Low}
 use Rattle.driving.specs.Chains.{IsSecondOutcome}
 use Rattle.driving.proofs.Chained.{comes_to, may_ask_now, may_let_now, ready_behind, ready_now}
 use Rattle.driving.proofs.SetUp.{nothing_done, set_up}

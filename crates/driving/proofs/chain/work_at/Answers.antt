@@ -1,6 +1,6 @@
 use Rattle.std.proofs.Common.{◌≡◌, ◌<◌, length, sym, ap, ◌∙◌, subst}
-use Rattle.isa.specs.Operations.{outcome_of as outcome_of_half}
-use Rattle.isa.specs.Programs.{Program, instr_of}
+use Rattle.instructions.specs.Operations.{outcome_of as outcome_of_half}
+use Rattle.instructions.specs.Programs.{Program, instr_of}
 use Rattle.station.specs.declared.answers.Claim.TheVariants.{Job as Claimed, NotOpen}
 use Rattle.station.specs.Writeback.{outcome_of}
 use Rattle.driving.proofs.WorkedOut.{is_job, works_out}

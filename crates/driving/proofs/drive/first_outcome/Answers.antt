@@ -1,8 +1,8 @@
 use Rattle.std.proofs.Common.{◌≡◌, ◌<◌, length, sym, ap, ◌∙◌, subst, arith}
 use Rattle.std.specs.Prelude.{unwrap_or}
-use Rattle.isa.specs.Instruction.{fixed_next}
-use Rattle.isa.specs.Programs.{Program, instr_of, text_start}
-use Rattle.isa.specs.declared.op.Half.TheVariants.{Low}
+use Rattle.instructions.specs.Instruction.{fixed_next}
+use Rattle.instructions.specs.Programs.{Program, instr_of, text_start}
+use Rattle.instructions.specs.declared.op.Half.TheVariants.{Low}
 use Rattle.inorder.specs.Replies.{last_tag}
 use Rattle.inorder.specs.Unit.{Sizes}
 use Rattle.driving.specs.Works.{IsFirstOutcome}

@@ -3,7 +3,7 @@ use Rattle.front.specs.declared.path.base_state.Base.{Base}
 use Rattle.front.proofs.Supplied.{supplied_at}
 use Rattle.front.proofs.Tables.{touched_more}
 use Rattle.std.proofs.Common.{refl, ◌≡◌, ◌<◌, ◌/◌, List, [], ◌∷◌, ◌++◌, arith, sym, ◌∙◌, subst}
-use Rattle.isa.specs.Instruction.{first_of, second_of}
+use Rattle.instructions.specs.Instruction.{first_of, second_of}
 use Rattle.inorder.specs.declared.history.Source.TheVariants.{First, Second}
 use Rattle.inorder.specs.History.{Adds, front, unit_of}
 use Rattle.station.specs.Letting.{let_of}

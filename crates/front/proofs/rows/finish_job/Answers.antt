@@ -1,5 +1,5 @@
 use Rattle.std.proofs.Common.{◌<◌, length, sym, subst}
-use Rattle.isa.specs.Programs.{Program}
+use Rattle.instructions.specs.Programs.{Program}
 use Rattle.front.proofs.rows.finish_job.Goals as goal
 
 pub instr-instr-requires : goal.instr-instr-requires

@@ -1,6 +1,6 @@
 use Rattle.std.proofs.Common.{◌≡◌, ℕ, Option, Some, None, ap, ◌∙◌}
 use Rattle.std.specs.Option.{option_map}
-use Rattle.isa.specs.declared.instr.Instr.{Instr}
+use Rattle.instructions.specs.declared.instr.Instr.{Instr}
 use Rattle.machine_words.specs.declared.decoding.Decoded.{Decoded}
 use Rattle.machine_words.specs.Words.{instruction_of, decode as decode_of, packed as packed_of}
 use Rattle.machine_words.proofs.Rebuilt.{packed_back}

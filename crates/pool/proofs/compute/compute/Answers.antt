@@ -1,5 +1,5 @@
 use Rattle.std.proofs.Common.{◌<◌, length, subst, sym}
-use Rattle.isa.specs.Programs.{Program}
+use Rattle.instructions.specs.Programs.{Program}
 use Rattle.pool.proofs.compute.compute.Goals as goal
 
 pub instr-instr-requires : goal.instr-instr-requires

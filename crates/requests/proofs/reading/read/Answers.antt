@@ -1,7 +1,7 @@
 use Rattle.std.proofs.Common.{◌∙◌, sym, ap, subst, codes, refl}
 use Rattle.clap.specs.Words.{found_of, rows_of}
 use Rattle.clap.proofs.WalkLemmas.{first_value-rows}
-use Rattle.isa.specs.Settings.{Settings}
+use Rattle.instructions.specs.Settings.{Settings}
 use Rattle.requests.specs.declared.request.Asked.{Asked}
 use Rattle.requests.specs.Values.{is_true}
 use Rattle.requests.specs.Request.{IsAskedBy}

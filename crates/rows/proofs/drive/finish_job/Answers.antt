@@ -1,5 +1,5 @@
 use Rattle.std.proofs.Common.{◌<◌, length, sym, subst}
-use Rattle.isa.specs.Programs.{Program}
+use Rattle.instructions.specs.Programs.{Program}
 use Rattle.inorder.specs.History.{IsLegal}
 use Rattle.station.specs.Seats.{TheCore}
 use Rattle.rows.proofs.drive.finish_job.Goals as goal

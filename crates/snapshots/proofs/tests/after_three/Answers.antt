@@ -1,6 +1,6 @@
 use Rattle.std.proofs.Common.{refl}
-use Rattle.isa.specs.Programs.{instr_at}
-use Rattle.isa.specs.Operations.{computed_by}
+use Rattle.instructions.specs.Programs.{instr_at}
+use Rattle.instructions.specs.Operations.{computed_by}
 use Rattle.snapshots.proofs.tests.after_three.Goals as goal
 
 pub returns-clause-snap : goal.returns-clause-snap

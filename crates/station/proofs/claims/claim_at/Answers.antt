@@ -2,7 +2,7 @@ use Rattle.std.proofs.Common.{◌≡◌, ◌≢◌, ℕ, List, refl, sym, ◌∙
 use Rattle.atomic_table.specs.Table.{Me}
 use Rattle.inorder.specs.declared.history.Entry.{Entry}
 use Rattle.ruu_words.specs.declared.rule.View.{View}
-use Rattle.isa.specs.declared.op.Half.{Half}
+use Rattle.instructions.specs.declared.op.Half.{Half}
 use Rattle.ruu_words.specs.Fields.{half_of, index_of, predicted_of, state_of, tag_of}
 use Rattle.ruu_words.specs.Kinds.{IsAny, ReadsInfo, Rechecks}
 use Rattle.ruu_words.specs.Rule.{Grows, sizes_of}

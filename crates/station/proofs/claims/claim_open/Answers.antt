@@ -1,8 +1,8 @@
 use Rattle.std.proofs.Common.{◌≡◌, ◌≢◌, ℕ, ◌<◌, Bool, true, List, length, Some, refl, sym, ap, ◌∙◌, subst, rules, arith}
 use Rattle.atomic_table.specs.Table.{Me}
-use Rattle.isa.specs.Instruction.{kind}
-use Rattle.isa.specs.Programs.{Program, instr_of}
-use Rattle.isa.specs.declared.instr.Instr.{Instr}
+use Rattle.instructions.specs.Instruction.{kind}
+use Rattle.instructions.specs.Programs.{Program, instr_of}
+use Rattle.instructions.specs.declared.instr.Instr.{Instr}
 use Rattle.inorder.specs.declared.history.Entry.{Entry}
 use Rattle.inorder.specs.declared.history.Source.TheVariants.{Second}
 use Rattle.inorder.specs.StationWords.{IsBusy}

@@ -1,5 +1,5 @@
 use Rattle.std.proofs.Common.{◌≡◌, ℕ, ◌<◌, sym, ap, subst, length}
-use Rattle.isa.specs.Programs.{Program}
+use Rattle.instructions.specs.Programs.{Program}
 use Rattle.inorder.specs.Replies.{JobFields}
 use Rattle.station.proofs.Retiring.{inside}
 use Rattle.station.proofs.tests.finish_one.Goals as goal

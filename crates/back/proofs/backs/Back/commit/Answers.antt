@@ -1,6 +1,6 @@
 use Rattle.std.proofs.Common.{◌≡◌, ℕ, List, [], ◌∷◌, Some, None, sym, ap, ◌∙◌, subst, arith}
-use Rattle.isa.specs.Programs.{instr_at}
-use Rattle.isa.specs.declared.stop.Stop.TheVariants.{BadPc}
+use Rattle.instructions.specs.Programs.{instr_at}
+use Rattle.instructions.specs.declared.stop.Stop.TheVariants.{BadPc}
 use Rattle.inorder.specs.declared.history.Event.{Event}
 use Rattle.inorder.specs.declared.history.Event.TheVariants.{Refuses}
 use Rattle.inorder.specs.declared.history.Refusal.TheVariants.{Empty as IsEmptyNow, NotDone as IsNotDoneNow, Over as IsOverNow}

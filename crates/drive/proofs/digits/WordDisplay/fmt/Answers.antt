@@ -1,5 +1,5 @@
 use Rattle.std.proofs.Common.{arith, rules}
-use Rattle.assembly.proofs.HexDigits.{eight_digits}
+use Rattle.isa.proofs.HexDigits.{eight_digits}
 use Rattle.drive.proofs.digits.WordDisplay.fmt.Goals as goal
 
 pub returns-clause-writes : goal.returns-clause-writes

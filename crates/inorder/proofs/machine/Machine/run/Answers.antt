@@ -1,12 +1,12 @@
 -- A step that goes on leaves one step less of the run.
 use Rattle.std.proofs.Common.{◌≡◌, ◌<◌, ◌-◌, ℕ, suc, Option, Some, None, refl, sym, ap, ◌∙◌, subst, arith}
-use Rattle.isa.specs.declared.instr.Instr.{Instr}
-use Rattle.isa.specs.declared.op.Kind.{Kind}
-use Rattle.isa.specs.declared.op.Kind.TheVariants.{Computes, Jumps, Links, Loads, Stores}
-use Rattle.isa.specs.declared.stop.Outcome.{Outcome}
-use Rattle.isa.specs.declared.stop.Outcome.TheVariants.{Pair, Value, Next, Address, Stop as Stops}
-use Rattle.isa.specs.Instruction.{kind}
-use Rattle.isa.specs.Programs.{Program, instr_at}
+use Rattle.instructions.specs.declared.instr.Instr.{Instr}
+use Rattle.instructions.specs.declared.op.Kind.{Kind}
+use Rattle.instructions.specs.declared.op.Kind.TheVariants.{Computes, Jumps, Links, Loads, Stores}
+use Rattle.instructions.specs.declared.stop.Outcome.{Outcome}
+use Rattle.instructions.specs.declared.stop.Outcome.TheVariants.{Pair, Value, Next, Address, Stop as Stops}
+use Rattle.instructions.specs.Instruction.{kind}
+use Rattle.instructions.specs.Programs.{Program, instr_at}
 use Rattle.inorder.specs.declared.machine.Stepped.TheVariants.{Ran as HasRan}
 use Rattle.inorder.specs.Machine.{State, Ran, Goes, Halts, after_access, ran, fetched, step}
 use Rattle.inorder.specs.Runs.{Running, IsStep, end_after, end_from}

@@ -1,5 +1,5 @@
 use Rattle.std.proofs.Common.{ℕ, sym, subst}
-use Rattle.isa.specs.declared.op.Half.{Half}
+use Rattle.instructions.specs.declared.op.Half.{Half}
 use Rattle.station.specs.Looking.{SeesInfo}
 use Rattle.station.proofs.Reading.{sees_info}
 use Rattle.station.proofs.cores.Core.info.Goals as goal

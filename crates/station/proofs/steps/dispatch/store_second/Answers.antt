@@ -10,8 +10,8 @@ use Rattle.ruu_words.specs.Places.{index}
 use Rattle.ruu_words.specs.Rule.{IsAlive, sizes_of}
 use Rattle.ruu_words.proofs.Drafting.{second_plan}
 use Rattle.station.specs.Letting.{draft_of, supply_of}
-use Rattle.isa.specs.Instruction.{second_of}
-use Rattle.isa.specs.Programs.{instr_of}
+use Rattle.instructions.specs.Instruction.{second_of}
+use Rattle.instructions.specs.Programs.{instr_of}
 use Rattle.inorder.specs.Unit.{creator, next_tag, recent}
 use Rattle.station.proofs.Given.{given}
 use Rattle.station.proofs.Allowing.{allows_store}

@@ -1,6 +1,6 @@
 use Rattle.std.proofs.Common.{◌≡◌, ◌<◌, ◌+◌, ◌++◌, ◌∷◌, [], length, set, sym, ap, ◌∙◌, subst, arith}
 use Rattle.std.specs.Prelude.{slice_index}
-use Rattle.isa.specs.Instruction.{first_of, second_of}
+use Rattle.instructions.specs.Instruction.{first_of, second_of}
 use Rattle.unit.specs.declared.creators.Creators.{Creators}
 use Rattle.unit.specs.Creators.{IsWindow}
 use Rattle.unit.specs.Slots.{ring_of, slot_of}

@@ -1,9 +1,0 @@
-use Rattle.std.proofs.Common.{◌≡◌, ap, map}
-use Rattle.assembly.specs.Forms.{is_operation, form_with, forms, row}
-use Rattle.assembly.proofs.listing.form.form_of.Goals as goal
-
-pub returns : goal.returns
-unfolding is_operation form_with
-returns c =
-    let same : map row c.as_slice.result.now ≡ forms = ap (map row) c.as_slice.ensures in
-    rw same at c.find_in.ensures

@@ -1,0 +1,2 @@
+pub mod WideProducts
+pub mod Quotients

@@ -1,0 +1,42 @@
+-- What quotients and remainders of whole numbers are, and both at the edges of a word, computed by the definitions.
+use Rattle.std.proofs.Common.{◌≡◌, ◌<◌, ℤ, ◌+ℤ◌, ◌*ℤ◌, int_div, int_rem, unsigned_abs, refl}
+use Rattle.std.proofs.lemmas.Int.{quot-rem, rem_below}
+use Rattle.instructions.specs.Operations.{signed}
+use Rattle.instructions.specs.Products.{half_of, product, quotient, remainder, signed_product, signed_quotient, signed_remainder}
+use Rattle.instructions.specs.declared.op.Half.TheVariants.{High, Low}
+
+-- the remainder is the dividend less the quotient times the divisor
+pub remainder_is_left : (a b : ℤ) → int_div a b *ℤ b +ℤ int_rem a b ≡ a
+remainder_is_left = quot-rem
+
+-- so the quotient is cut towards zero: less than the divisor is left, whatever the signs are
+pub remainder_is_small : (a b : ℤ) → 0 < unsigned_abs b → unsigned_abs (int_rem a b) < unsigned_abs b
+remainder_is_small = rem_below
+
+-- -7 by 2, 7 by -2, -7 by -2
+below_zero : (signed_quotient (signed 0xfffffff9) (signed 2) ≡ 0xfffffffd) × (signed_remainder (signed 0xfffffff9) (signed 2) ≡ 0xffffffff)
+below_zero = (refl, refl)
+
+divisor_below_zero : (signed_quotient (signed 7) (signed 0xfffffffe) ≡ 0xfffffffd) × (signed_remainder (signed 7) (signed 0xfffffffe) ≡ 1)
+divisor_below_zero = (refl, refl)
+
+both_below_zero : (signed_quotient (signed 0xfffffff9) (signed 0xfffffffe) ≡ 3) × (signed_remainder (signed 0xfffffff9) (signed 0xfffffffe) ≡ 0xffffffff)
+both_below_zero = (refl, refl)
+
+-- -2^31 by -1
+least_by_minus_one : (signed_quotient (signed 0x80000000) (signed 0xffffffff) ≡ 0x80000000) × (signed_remainder (signed 0x80000000) (signed 0xffffffff) ≡ 0)
+least_by_minus_one = (refl, refl)
+
+-- 0 divides no number
+zero_divisor : (quotient 9 0 ≡ 0) × (remainder 9 0 ≡ 9)
+zero_divisor = (refl, refl)
+
+signed_zero_divisor : (signed_quotient (signed 0xfffffff7) (signed 0) ≡ 0) × (signed_remainder (signed 0xfffffff7) (signed 0) ≡ 0xfffffff7)
+signed_zero_divisor = (refl, refl)
+
+-- -1 by -1, read with and without signs
+ones : (half_of High (signed_product (signed 0xffffffff) (signed 0xffffffff)) ≡ 0) × (half_of High (product 0xffffffff 0xffffffff) ≡ 0xfffffffe)
+ones = (refl, refl)
+
+low_ones : (half_of Low (signed_product (signed 0xffffffff) (signed 0xffffffff)) ≡ 1) × (half_of Low (product 0xffffffff 0xffffffff) ≡ 1)
+low_ones = (refl, refl)

@@ -1,0 +1,29 @@
+//! The integer operations of MIPS I without delay slots: what they are, what each comes to, and the
+//! programs, configurations and predictors that every machine here shares.
+#![tactic(auto)]
+
+mod config;
+mod end;
+mod instr;
+mod memory;
+mod op;
+mod predictor;
+mod products;
+mod program;
+mod reg;
+mod semantics;
+mod stop;
+
+pub use config::{BadConfig, Config};
+pub use end::{End, Ending};
+pub use instr::Instr;
+pub use memory::Memory;
+pub use op::{Half, Kind, Op};
+pub use predictor::{Bimod, NotTaken, Predictor, Taken};
+pub use program::Program;
+pub use reg::Reg;
+pub use semantics::{loaded, outcome, outcome_of, pc_plus_4};
+pub use stop::{Outcome, Stop};
+
+#[cfg(test)]
+mod tests;

@@ -1,0 +1,156 @@
+//! Operations.
+ghost use Rattle.std.specs.Prelude.{◌≡◌, ◌<◌, ◌≤◌};
+ghost use Rattle.instructions.specs.Instruction.{kind as kind_of, width as width_of, is_branch as is_branch_of, is_pair as is_pair_of, reads_first as reads_first_of, reads_second as reads_second_of, writes as writes_of};
+
+/// An operation, one for each row of the table of MIPS I integer operations. `nop` is `Sll` of
+/// zeros.
+#[derive(Clone, Copy, Debug, PartialEq, Eq)]
+pub enum Op {
+    Addu,
+    Subu,
+    Add,
+    Sub,
+    And,
+    Or,
+    Xor,
+    Nor,
+    Slt,
+    Sltu,
+    Sll,
+    Srl,
+    Sra,
+    Sllv,
+    Srlv,
+    Srav,
+    Mult,
+    Multu,
+    Div,
+    Divu,
+    Mflo,
+    Mfhi,
+    Mtlo,
+    Mthi,
+    Addiu,
+    Addi,
+    Slti,
+    Sltiu,
+    Andi,
+    Ori,
+    Xori,
+    Lui,
+    Lb,
+    Lbu,
+    Lh,
+    Lhu,
+    Lw,
+    Sb,
+    Sh,
+    Sw,
+    Beq,
+    Bne,
+    Blez,
+    Bgtz,
+    Bltz,
+    Bgez,
+    J,
+    Jal,
+    Jr,
+    Jalr,
+    Break,
+}
+
+/// A half of a multiplication or division: the first writes LO, the second HI. Any other
+/// instruction has the low half alone.
+#[derive(Clone, Copy, Debug, PartialEq, Eq)]
+pub enum Half {
+    Low,
+    High,
+}
+
+/// What an operation does.
+#[derive(Clone, Copy, Debug, PartialEq, Eq)]
+pub enum Kind {
+    /// It computes a value from its sources, or stops.
+    Computes,
+    /// It only says where to go on.
+    Jumps,
+    /// It says where to go on, and writes the address behind it.
+    Links,
+    /// It reads memory into a register.
+    Loads,
+    /// It writes a register into memory.
+    Stores,
+}
+
+impl Op {
+    /// What it does.
+    pub fn kind(self) -> Kind
+        ensures { result ≡ kind_of self }
+    {
+        match self {
+            Op::Lb | Op::Lbu | Op::Lh | Op::Lhu | Op::Lw => Kind::Loads,
+            Op::Sb | Op::Sh | Op::Sw => Kind::Stores,
+            Op::Beq | Op::Bne | Op::Blez | Op::Bgtz | Op::Bltz | Op::Bgez | Op::J | Op::Jr =>
+                Kind::Jumps,
+            Op::Jal | Op::Jalr => Kind::Links,
+            _ => Kind::Computes,
+        }
+    }
+
+    /// How many bytes a load or store reaches: 1, 2 or 4.
+    pub fn width(self) -> u32
+        ensures value { result ≡ width_of self }
+        ensures positive { 0 < result }
+        ensures small { result ≤ 4 }
+    {
+        match self {
+            Op::Lb | Op::Lbu | Op::Sb => 1,
+            Op::Lh | Op::Lhu | Op::Sh => 2,
+            _ => 4,
+        }
+    }
+
+    /// It is a conditional branch.
+    pub fn is_branch(self) -> bool
+        ensures { result ≡ is_branch_of self }
+    {
+        matches!(
+            self,
+            Op::Beq | Op::Bne | Op::Blez | Op::Bgtz | Op::Bltz | Op::Bgez
+        )
+    }
+
+    /// It makes two values, one for LO and one for HI.
+    pub fn is_pair(self) -> bool
+        ensures { result ≡ is_pair_of self }
+    {
+        matches!(self, Op::Mult | Op::Multu | Op::Div | Op::Divu)
+    }
+
+    pub(crate) fn reads_first(self) -> bool
+        ensures { result ≡ reads_first_of self }
+    {
+        !matches!(self, Op::Lui | Op::J | Op::Jal | Op::Break)
+    }
+
+    pub(crate) fn reads_second(self) -> bool
+        ensures { result ≡ reads_second_of self }
+    {
+        match self {
+            Op::Addu | Op::Subu | Op::Add | Op::Sub | Op::And | Op::Or | Op::Xor | Op::Nor => true,
+            Op::Slt | Op::Sltu | Op::Sllv | Op::Srlv | Op::Srav => true,
+            Op::Mult | Op::Multu | Op::Div | Op::Divu => true,
+            Op::Sb | Op::Sh | Op::Sw | Op::Beq | Op::Bne => true,
+            _ => false,
+        }
+    }
+
+    pub(crate) fn writes(self) -> bool
+        ensures { result ≡ writes_of self }
+    {
+        match self {
+            Op::Break => false,
+            _ => !matches!(self.kind(), Kind::Jumps | Kind::Stores),
+        }
+    }
+}

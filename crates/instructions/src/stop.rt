@@ -1,0 +1,66 @@
+//! What an instruction comes to, and why a program stops.
+ghost use Rattle.std.specs.Prelude.{◌≡◌, Some};
+ghost use Rattle.instructions.specs.Endings.{stop_word};
+ghost use Rattle.instructions.specs.Operations.{code_of};
+
+use std::fmt;
+
+/// Why a program stops. A stop writes nothing and leaves the pc at the stopping instruction.
+#[derive(Clone, Copy, Debug, PartialEq, Eq)]
+pub enum Stop {
+    /// `break`.
+    Break,
+    /// The signed sum or difference of `add`, `addi` or `sub` does not fit 32 bits.
+    Overflow,
+    /// The address of a halfword is odd, or that of a word is no multiple of 4.
+    Unaligned,
+    /// The access is aligned and reaches past the end of data memory.
+    OutOfRange,
+    /// The pc is the address of no instruction.
+    BadPc,
+}
+
+impl Stop {
+    /// Its number, 0 to 4.
+    pub fn code(self) -> u32
+        ensures { result ≡ code_of self }
+    {
+        match self {
+            Stop::Break => 0,
+            Stop::Overflow => 1,
+            Stop::Unaligned => 2,
+            Stop::OutOfRange => 3,
+            Stop::BadPc => 4,
+        }
+    }
+}
+
+/// Its word, as a report has it.
+impl fmt::Display for Stop {
+    ghost output = { λ stop. Some (stop_word stop) };
+
+    fn fmt<W: fmt::Write>(&self, f: &mut fmt::Formatter<W>) -> fmt::Result {
+        f.write_str(match self {
+            Stop::Break => "break",
+            Stop::Overflow => "overflow",
+            Stop::Unaligned => "unaligned",
+            Stop::OutOfRange => "range",
+            Stop::BadPc => "badpc",
+        })
+    }
+}
+
+/// What an instruction comes to.
+#[derive(Clone, Copy, Debug, PartialEq, Eq)]
+pub enum Outcome {
+    /// The value for its register.
+    Value(u32),
+    /// The pc at which a branch or jump goes on.
+    Next(u32),
+    /// The address of a load or store, aligned and inside data memory.
+    Address(u32),
+    /// It stops.
+    Stop(Stop),
+    /// It makes these values for LO and HI.
+    Pair(u32, u32),
+}

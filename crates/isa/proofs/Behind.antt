@@ -1,0 +1,161 @@
+-- One line behind the lines before it.
+use Rattle.std.proofs.Common.{◌≡◌, ℕ, ◌+◌, ◌<◌, ◌≤◌, true, false, List, [], ◌∷◌, ◌++◌, length, map, Some, None, Result, Err, refl, sym, ap, ◌∙◌, append_assoc, arith}
+use Rattle.std.specs.Prelude.{nat_lt}
+use Rattle.std.proofs.lemmas.Bool.{lt-ltb, le-ltb}
+use Rattle.std.proofs.lemmas.List.{length-append, length-map, append-nil}
+use Rattle.std.proofs.lemmas.Grind.{flat_map-append}
+use Rattle.text.specs.Line.{before_comment}
+use Rattle.text.specs.Name.{is_plain_text}
+use Rattle.text.specs.Label.{labels_of, statement_of}
+use Rattle.instructions.specs.declared.instr.Instr.{Instr}
+use Rattle.isa.specs.declared.listing.fault.FaultKind.{FaultKind}
+use Rattle.isa.specs.declared.listing.fault.FaultKind.TheVariants.{NotAscii, DoubleLabel, TooLong}
+use Rattle.isa.specs.declared.listing.line.Target.{Target}
+use Rattle.instructions.specs.Programs.{address}
+use Rattle.isa.specs.Statement.{Parsed, Line, statement}
+use Rattle.isa.specs.Listing.{Lines, labels, read, code_in, bytes_in, at, table, numbered, memory, how_many, is_double, fault_of, fault_in}
+use Rattle.isa.specs.Held.{IsAdded, IsRead, name_of, rows}
+use Rattle.isa.proofs.Rows.{rows_length, rows_push}
+use Rattle.isa.proofs.Statements.{statement_empty}
+
+-- ---- one line more
+
+pub numbered_push : (k : ℕ) (before : Lines) (l : List ℕ)
+    → numbered k (before ++ l ∷ []) ≡ numbered k before ++ map (λ p. (k + length before, p)) (code_in (read l))
+unfolding numbered
+numbered_push k [] l = append-nil _ ∙ ap (λ (j : ℕ). map (λ p. (j, p)) (code_in (read l))) (omega arith)
+numbered_push k (b ∷ before) l =
+    let first : List (ℕ × Parsed) = map (λ p. (k, p)) (code_in (read b)) in
+    let place : k + 1 + length before ≡ k + length (b ∷ before) = omega arith in
+    ap (λ (t : List (ℕ × Parsed)). first ++ t)
+    (numbered_push (k + 1) before l ∙ ap (λ (j : ℕ). numbered (k + 1) before ++ map (λ p. (j, p)) (code_in (read l))) place)
+    ∙ sym (append_assoc first (numbered (k + 1) before) _)
+
+pub table_push : (n k : ℕ) (before : Lines) (l : List ℕ)
+    → table n (before ++ l ∷ []) ≡ table n before ++ at (address (n + length (numbered k before))) (labels l)
+unfolding table numbered
+table_push n k [] l = append-nil _ ∙ ap (λ (j : ℕ). at (address j) (labels l)) (omega arith)
+table_push n k (b ∷ before) l =
+    let first : List (List ℕ × ℕ) = at (address n) (labels b) in
+    let count : ℕ = length (code_in (read b)) in
+    let size : length (map (λ p. (k, p)) (code_in (read b)) ++ numbered (k + 1) before) ≡ count + length (numbered (k + 1) before) =
+    simp (length-append, length-map) in
+    let place : n + count + length (numbered (k + 1) before) ≡ n + length (map (λ p. (k, p)) (code_in (read b)) ++ numbered (k + 1) before) =
+    omega arith in
+    ap (λ (t : List (List ℕ × ℕ)). first ++ t)
+    (table_push (n + count) (k + 1) before l ∙ ap (λ (j : ℕ). table (n + count) before ++ at (address j) (labels l)) place)
+    ∙ sym (append_assoc first (table (n + count) before) _)
+
+pub memory_push : (before : Lines) (l : List ℕ) → memory (before ++ l ∷ []) ≡ memory before ++ bytes_in (read l)
+unfolding memory
+memory_push before l = flat_map-append (λ l. bytes_in (read l)) before (l ∷ []) ∙ ap (λ (t : List ℕ). memory before ++ t) (append-nil _)
+
+-- ---- this line
+
+module _ (before : Lines) (line text : List ℕ) (held : List (List ℕ × ℕ)) (code : List Instr) (ts : List Target) (bytes : List ℕ)
+    (is : IsRead before held code ts bytes) (front : text ≡ before_comment line) where
+  pub how_many_is : how_many before ≡ length code
+  how_many_is = sym (ap length is.code_is) ∙ rows_length code ts is.length_is
+
+  pub fault_not_plain : is_plain_text text ≡ false → fault_in before line ≡ Some NotAscii
+  unfolding fault_in
+  fault_not_plain e = let p : is_plain_text (before_comment line) ≡ false = rw front at e in rw p refl
+
+  module _ (plain : is_plain_text text ≡ true) (a : ℕ) (at_a : a ≡ address (length code)) where
+    is_plain : is_plain_text (before_comment line) ≡ true
+    is_plain = rw front at plain
+
+    at_count : a ≡ address (how_many before)
+    at_count = at_a ∙ ap address (sym how_many_is)
+
+    pub fault_double : is_double a held (labels_of text) ≡ true → fault_in before line ≡ Some DoubleLabel
+    unfolding fault_in
+    fault_double double =
+        let d : is_double (address (how_many before)) (table 0 before) (labels line) ≡ true =
+        rw (at_count, front, is.labels_are) at double in
+        rw (is_plain, d) refl
+
+    module _ (held' : List (List ℕ × ℕ)) (single : (is_double a held (labels_of text) ≡ false) × (held' ≡ held ++ at a (labels_of text))) where
+      fault_is : fault_in before line ≡ fault_of (length code) (length bytes) (statement (statement_of text))
+      unfolding fault_in
+      fault_is =
+          let d : is_double (address (how_many before)) (table 0 before) (labels line) ≡ false =
+          rw (at_count, front, is.labels_are) at single.0 in
+          rw (is_plain, d, how_many_is, front, is.bytes_are) refl
+
+      table_is : held' ≡ table 0 (before ++ line ∷ [])
+      table_is =
+          let place : a ≡ address (0 + how_many before) = at_count ∙ ap address (omega arith) in
+          single.1 ∙ ap (λ (t : List (List ℕ × ℕ)). t ++ at a (labels_of text)) is.labels_are
+          ∙ ap (λ (b : ℕ). table 0 before ++ at b (labels_of text)) place
+          ∙ ap (λ (c : List ℕ). table 0 before ++ at (address (0 + how_many before)) (labels_of c)) front ∙ sym (table_push 0 1 before line)
+
+      read_is : (r : Result Line FaultKind) → statement (statement_of text) ≡ r → read line ≡ r
+      read_is r e = ap (λ (c : List ℕ). statement (statement_of c)) (sym front) ∙ e
+
+      code_are : (r : Result Line FaultKind) → statement (statement_of text) ≡ r
+          → numbered 1 (before ++ line ∷ []) ≡ rows code ts ++ map (λ p. (1 + length before, p)) (code_in r)
+      code_are r e =
+          numbered_push 1 before line
+          ∙ ap (λ (q : Result Line FaultKind). numbered 1 before ++ map (λ p. (1 + length before, p)) (code_in q)) (read_is r e)
+          ∙ ap (λ (t : List (ℕ × Parsed)). t ++ map (λ p. (1 + length before, p)) (code_in r)) (sym is.code_is)
+
+      bytes_are : (r : Result Line FaultKind) → statement (statement_of text) ≡ r → memory (before ++ line ∷ []) ≡ bytes ++ bytes_in r
+      bytes_are r e =
+          memory_push before line ∙ ap (λ (q : Result Line FaultKind). memory before ++ bytes_in q) (read_is r e)
+          ∙ ap (λ (t : List ℕ). t ++ bytes_in r) (sym is.bytes_are)
+
+      pub fault_statement : (k : FaultKind) → statement (statement_of text) ≡ Err k → fault_in before line ≡ Some k
+      fault_statement k e = fault_is ∙ ap (fault_of (length code) (length bytes)) e
+
+      module _ (ps : List Parsed) (bytes' : List ℕ) (added : IsAdded (statement (statement_of text)) ps bytes bytes') where
+        size_is : length bytes' ≡ length bytes + length added.bytes
+        size_is = ap length added.grown ∙ length-append bytes added.bytes
+
+        pub fault_long_memory : 65536 < length bytes' → fault_in before line ≡ Some TooLong
+        fault_long_memory long =
+            let over : nat_lt 65536 (length bytes + length added.bytes) ≡ true = lt-ltb _ _ (omega (arith, size_is)) in
+            fault_is ∙ ap (fault_of (length code) (length bytes)) added.is ∙ grind (arith, over)
+
+        pub fault_long_code : 16384 < length code + length ps → fault_in before line ≡ Some TooLong
+        fault_long_code long =
+            let over : nat_lt 16384 (length code + length ps) ≡ true = lt-ltb _ _ long in
+            fault_is ∙ ap (fault_of (length code) (length bytes)) added.is ∙ rw over refl
+
+        no_fault : length code + length ps ≤ 16384 → length bytes' ≤ 65536 → fault_in before line ≡ None
+        no_fault short small =
+            let code_short : nat_lt 16384 (length code + length ps) ≡ false = le-ltb _ _ short in
+            let bytes_short : nat_lt 65536 (length bytes + length added.bytes) ≡ false = le-ltb _ _ (omega (arith, size_is)) in
+            fault_is ∙ ap (fault_of (length code) (length bytes)) added.is ∙ rw (code_short, bytes_short) refl
+
+      pub reads_none : (bytes' : List ℕ) → IsAdded (statement (statement_of text)) [] bytes bytes' → length code ≤ 16384 → length bytes' ≤ 65536
+          → (fault_in before line ≡ None) × IsRead (before ++ line ∷ []) held' code ts bytes'
+      reads_none bytes' added short small = (
+        no_fault [] bytes' added (omega arith) small,
+        record {
+          labels_are = table_is;
+          length_is = is.length_is;
+          code_is = sym (code_are _ added.is ∙ append-nil _);
+          bytes_are = added.grown ∙ sym (bytes_are _ added.is);
+        },
+      )
+
+      pub reads_some : (i : Instr) (t : Target) (bytes' : List ℕ) → t.line ≡ length before + 1
+          → IsAdded (statement (statement_of text)) (record { instr = i; label = name_of t } ∷ []) bytes bytes' → length code < 16384 → length bytes' ≤ 65536
+          → (fault_in before line ≡ None) × IsRead (before ++ line ∷ []) held' (code ++ i ∷ []) (ts ++ t ∷ []) bytes'
+      reads_some i t bytes' number added short small = (
+        no_fault _ bytes' added (omega arith) small,
+        record {
+          labels_are = table_is;
+          length_is = omega (arith, is.length_is, length-append code (i ∷ []), length-append ts (t ∷ []));
+          code_is =
+              rows_push code ts i t is.length_is
+              ∙ ap (λ (j : ℕ). rows code ts ++ (j, record { instr = i; label = name_of t }) ∷ []) (number ∙ omega arith)
+              ∙ sym (code_are _ added.is);
+          bytes_are = added.grown ∙ sym (bytes_are _ added.is);
+        },
+      )
+
+-- a line that is a label and nothing else
+pub adds_nothing : (text bytes : List ℕ) → statement_of text ≡ [] → IsAdded (statement (statement_of text)) [] bytes bytes
+adds_nothing text bytes none = record { bytes = []; grown = sym (append-nil bytes); is = ap statement none ∙ statement_empty [] refl }

@@ -1,0 +1,87 @@
+-- All lines of a listing.
+use Rattle.std.proofs.Common.{◌≡◌, ℕ, ◌+◌, ◌≤◌, ◌<◌, List, [], ◌∷◌, ◌++◌, length, Option, Some, None, Result, Err, refl, sym, ap, ◌∙◌, subst, append_assoc, arith}
+use Rattle.std.proofs.lemmas.Bool.{lt-ltb, le-ltb}
+use Rattle.std.proofs.lemmas.List.{append-nil, length-append}
+use Rattle.text.specs.Line.{lines_of, lines_left}
+use Rattle.instructions.specs.declared.instr.Instr.{Instr}
+use Rattle.isa.specs.declared.listing.fault.FaultKind.{FaultKind}
+use Rattle.isa.specs.declared.listing.fault.FaultKind.TheVariants.{TooLong}
+use Rattle.isa.specs.declared.listing.line.Target.{Target}
+use Rattle.isa.specs.Listing.{Lines, table, numbered, memory, first_fault, resolved, with_bytes, listing}
+use Rattle.isa.specs.Held.{IsRead, IsReadLine, IsFaultLine, rows}
+
+-- the lines before, which have no fault, and those that are left
+pub record LinesSoFar (held : List (List ℕ × ℕ)) (code : List Instr) (ts : List Target) (bytes : List ℕ) (number : ℕ) (left all : Lines) : Type 0 where
+  pub before : Lines
+  pub count : length before ≡ number
+  pub read : IsRead before held code ts bytes
+  pub fault : first_fault before left ≡ first_fault [] all
+  pub whole : before ++ left ≡ all
+
+module _ (held : List (List ℕ × ℕ)) (code : List Instr) (ts : List Target) (bytes : List ℕ) (number : ℕ) (left all : Lines)
+    (so_far : LinesSoFar held code ts bytes number left all) where
+  pub so_far_more : (held' : List (List ℕ × ℕ)) (code' : List Instr) (ts' : List Target) (bytes' text : List ℕ) (rest : Option (List ℕ)) → left ≡ lines_of text
+      → ((before : Lines) → length before + 1 ≡ number + 1 → IsRead before held code ts bytes → IsReadLine before text rest held' code' ts' bytes')
+      → LinesSoFar held' code' ts' bytes' (number + 1) (lines_left rest) all
+  unfolding first_fault
+  so_far_more held' code' ts' bytes' text rest is step =
+      let one = step so_far.before (omega (arith, so_far.count)) so_far.read in
+      let ls : Lines = lines_left rest in
+      let fault : first_fault so_far.before (one.line ∷ ls) ≡ first_fault [] all = rw (is ∙ one.lines) at so_far.fault in
+      let whole : so_far.before ++ one.line ∷ ls ≡ all = rw (is ∙ one.lines) at so_far.whole in
+      record {
+        before = so_far.before ++ one.line ∷ [];
+        count = omega (arith, so_far.count, length-append so_far.before (one.line ∷ []));
+        read = one.read;
+        fault = rw one.fault at fault;
+        whole = append_assoc so_far.before (one.line ∷ []) ls ∙ whole;
+      }
+
+  pub so_far_fault : (text : List ℕ) (k : FaultKind) → left ≡ lines_of text
+      → ((before : Lines) → IsRead before held code ts bytes → IsFaultLine before text k) → first_fault [] all ≡ Some (number + 1, k)
+  unfolding first_fault
+  so_far_fault text k is step =
+      let one = step so_far.before so_far.read in
+      let fault : first_fault so_far.before (one.line ∷ one.others) ≡ first_fault [] all = rw (is ∙ one.lines) at so_far.fault in
+      sym fault ∙ rw (one.fault, so_far.count) refl
+
+  pub so_far_done : left ≡ [] → (first_fault [] all ≡ None) × IsRead all held code ts bytes
+  unfolding first_fault
+  so_far_done is =
+      let fault : first_fault so_far.before [] ≡ first_fault [] all = rw is at so_far.fault in
+      let whole : so_far.before ++ [] ≡ all = rw is at so_far.whole in
+      (sym fault, subst (λ (ls : Lines). IsRead ls held code ts bytes) (sym (append-nil so_far.before) ∙ whole) so_far.read)
+
+pub so_far_start : (held : List (List ℕ × ℕ)) (code : List Instr) (ts : List Target) (bytes : List ℕ) (all : Lines)
+    → held ≡ [] → code ≡ [] → ts ≡ [] → bytes ≡ [] → LinesSoFar held code ts bytes 0 all all
+unfolding table numbered memory
+so_far_start held code ts bytes all no_labels no_code no_targets no_bytes = record {
+  before = [];
+  count = refl;
+  read = record {
+    labels_are = no_labels;
+    length_is = ap length no_code ∙ sym (ap length no_targets);
+    code_is = rw no_code refl;
+    bytes_are = no_bytes;
+  };
+  fault = refl;
+  whole = refl;
+}
+
+-- ---- the whole
+
+pub listing_long : (bytes : List ℕ) → 4194304 < length bytes → listing bytes ≡ Err (0, TooLong)
+unfolding listing
+listing_long bytes lt = rw (lt-ltb 4194304 (length bytes) lt) refl
+
+pub listing_fault : (bytes : List ℕ) (f : ℕ × FaultKind) → length bytes ≤ 4194304 → first_fault [] (lines_of bytes) ≡ Some f → listing bytes ≡ Err f
+unfolding listing
+listing_fault bytes f le e = rw (le-ltb 4194304 (length bytes) le, e) refl
+
+pub listing_done : (text : List ℕ) (held : List (List ℕ × ℕ)) (code : List Instr) (ts : List Target) (bytes : List ℕ)
+    (r : Result (List Instr) (ℕ × FaultKind)) → length text ≤ 4194304 → (first_fault [] (lines_of text) ≡ None) × IsRead (lines_of text) held code ts bytes
+    → resolved held (rows code ts) ≡ r → listing text ≡ with_bytes bytes r
+unfolding listing
+listing_done text held code ts bytes r le e all =
+    let one : resolved (table 0 (lines_of text)) (numbered 1 (lines_of text)) ≡ r = rw (e.1.labels_are, e.1.code_is) at all in
+    rw (le-ltb 4194304 (length text) le, e.0, e.1.bytes_are) (ap (with_bytes (memory (lines_of text))) one)

@@ -1,0 +1,56 @@
+-- What the reader of a listing holds behind the lines that it has read.
+use Rattle.std.specs.Prelude.{◌≡◌, ℕ, ◌++◌, List, [], ◌∷◌, length, Option, Some, None, Result, Ok}
+use Rattle.isa.specs.declared.listing.fault.FaultKind.{FaultKind}
+use Rattle.instructions.specs.declared.instr.Instr.{Instr}
+use Rattle.isa.specs.declared.listing.line.Target.{Target}
+use Rattle.std.specs.Option.{option_map}
+use Rattle.isa.specs.Statement.{Parsed, Line}
+use Rattle.text.specs.Line.{lines_of, lines_left}
+use Rattle.isa.specs.Listing.{Lines, table, numbered, memory, fault_in}
+
+-- the label that an instruction names
+abbrev pub name_of : Target → Option (List ℕ)
+name_of t = option_map (λ name. name.now) t.label
+
+-- instructions with the numbers of their lines and their labels
+abbrev pub rows : List Instr → List Target → List (ℕ × Parsed)
+rows [] ts = []
+rows (i ∷ is) [] = []
+rows (i ∷ is) (t ∷ ts) = (t.line, record { instr = i; label = name_of t }) ∷ rows is ts
+
+-- bytes were read and added
+pub record IsAppended (read : Result (List ℕ) FaultKind) (old new : List ℕ) : Type 0 where
+  pub bytes : List ℕ
+  pub grown : new ≡ old ++ bytes
+  pub is : read ≡ Ok bytes
+
+-- a statement was read: its instructions are these, and its bytes were added
+pub record IsAdded (read : Result Line FaultKind) (code : List Parsed) (old new : List ℕ)
+    : Type 0 where
+  pub bytes : List ℕ
+  pub grown : new ≡ old ++ bytes
+  pub is : read ≡ Ok (record { code = code; bytes = bytes })
+
+-- what is held behind the lines before
+pub record IsRead (before : Lines) (labels : List (List ℕ × ℕ)) (code : List Instr)
+    (ts : List Target) (bytes : List ℕ) : Type 0 where
+  pub labels_are : labels ≡ table 0 before
+  pub length_is : length code ≡ length ts
+  pub code_is : rows code ts ≡ numbered 1 before
+  pub bytes_are : bytes ≡ memory before
+
+-- the first line of a text was read: it has no fault, and this is held behind it
+pub record IsReadLine (before : Lines) (text : List ℕ) (rest : Option (List ℕ))
+    (labels : List (List ℕ × ℕ)) (code : List Instr) (ts : List Target) (bytes : List ℕ)
+    : Type 0 where
+  pub line : List ℕ
+  pub lines : lines_of text ≡ line ∷ lines_left rest
+  pub fault : fault_in before line ≡ None
+  pub read : IsRead (before ++ line ∷ []) labels code ts bytes
+
+-- the first line of a text has this fault
+pub record IsFaultLine (before : Lines) (text : List ℕ) (kind : FaultKind) : Type 0 where
+  pub line : List ℕ
+  pub others : Lines
+  pub lines : lines_of text ≡ line ∷ others
+  pub fault : fault_in before line ≡ Some kind

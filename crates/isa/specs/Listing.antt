@@ -1,0 +1,148 @@
+-- A listing: its lines, the first fault, and the program.
+use Rattle.std.specs.Prelude.{ℕ, ◌+◌, ◌||◌, Bool, false, not, nat_lt, List, [], ◌∷◌, ◌++◌, length, map, is_some, Option, Some, None, Result, Ok, Err, if◌then◌else◌}
+use Rattle.std.specs.List.{flat_map}
+use Rattle.std.specs.Map.{lookup}
+use Rattle.std.specs.Str.{bytes_eq}
+use Rattle.text.specs.Line.{lines_of, before_comment}
+use Rattle.text.specs.Name.{is_plain_text}
+use Rattle.text.specs.Label.{labels_of, statement_of}
+use Rattle.instructions.specs.declared.instr.Instr.{Instr}
+use Rattle.isa.specs.declared.listing.fault.FaultKind.{FaultKind}
+use Rattle.isa.specs.declared.listing.fault.FaultKind.TheVariants.{NotAscii, DoubleLabel, TooLong, UnknownLabel}
+use Rattle.instructions.specs.Programs.{Program, address}
+use Rattle.isa.specs.Statement.{Parsed, Line, statement}
+
+-- ---- one line
+
+-- the labels of a line
+abbrev pub labels : List ℕ → List (List ℕ)
+labels line = labels_of (before_comment line)
+
+-- what a line gives to the program, or its fault
+abbrev pub read : List ℕ → Result Line FaultKind
+read line = statement (statement_of (before_comment line))
+
+-- the instructions and the bytes of a line that has no fault
+abbrev pub code_in : Result Line FaultKind → List Parsed
+code_in (Ok l) = l.code
+code_in (Err k) = []
+
+-- the bytes of such a line
+abbrev pub bytes_in : Result Line FaultKind → List ℕ
+bytes_in (Ok l) = l.bytes
+bytes_in (Err k) = []
+
+-- ---- all lines
+
+-- the lines of a text, each a list of bytes
+abbrev pub Lines : Type 0
+Lines = List (List ℕ)
+
+-- names, each with the same address
+abbrev pub at : ℕ → List (List ℕ) → List (List ℕ × ℕ)
+at a names = map (λ x. (x, a)) names
+
+-- the labels of lines, each with the address of the next instruction, the first of which is number
+-- n
+unfoldable pub table : ℕ → Lines → List (List ℕ × ℕ)
+table n [] = []
+table n (l ∷ ls) = at (address n) (labels l) ++ table (n + length (code_in (read l))) ls
+
+-- the instructions of lines, each with the number of its line, the first of which is n
+unfoldable pub numbered : ℕ → Lines → List (ℕ × Parsed)
+numbered n [] = []
+numbered n (l ∷ ls) = map (λ p. (n, p)) (code_in (read l)) ++ numbered (n + 1) ls
+
+-- the bytes that lines add to data memory, in their order
+unfoldable pub memory : Lines → List ℕ
+memory ls = flat_map (λ l. bytes_in (read l)) ls
+
+-- how many instructions lines have
+abbrev pub how_many : Lines → ℕ
+how_many ls = length (numbered 1 ls)
+
+-- ---- the first fault
+
+-- a label stands among earlier ones, or twice
+abbrev pub is_double : ℕ → List (List ℕ × ℕ) → List (List ℕ) → Bool
+is_double a earlier [] = false
+is_double a earlier (x ∷ xs) =
+    is_some (lookup (λ k. bytes_eq k x) earlier) || is_double a (earlier ++ (x, a) ∷ []) xs
+
+-- the fault of a statement behind n instructions and m bytes of data
+abbrev pub fault_of : ℕ → ℕ → Result Line FaultKind → Option FaultKind
+fault_of n m (Ok l) =
+    if nat_lt 16384 (n + length l.code) || nat_lt 65536 (m + length l.bytes) then Some TooLong
+    else None
+fault_of n m (Err k) = Some k
+
+-- the first fault of a line, behind the lines before it
+unfoldable pub fault_in : Lines → List ℕ → Option FaultKind
+fault_in before line =
+    if not (is_plain_text (before_comment line)) then Some NotAscii
+    else (if is_double (address (how_many before)) (table 0 before) (labels line)
+    then Some DoubleLabel
+    else fault_of (how_many before) (length (memory before)) (read line))
+
+-- the fault of line n, or that of the lines behind it
+abbrev pub fault_at : ℕ → Option FaultKind → Option (ℕ × FaultKind) → Option (ℕ × FaultKind)
+fault_at n (Some k) others = Some (n, k)
+fault_at n None others = others
+
+-- the first line with a fault, and its fault, among lines behind those before
+unfoldable pub first_fault : Lines → Lines → Option (ℕ × FaultKind)
+first_fault before [] = None
+first_fault before (l ∷ ls) =
+    fault_at (length before + 1) (fault_in before l) (first_fault (before ++ l ∷ []) ls)
+
+-- ---- the program
+
+-- the address of a label that line n uses
+abbrev pub known : ℕ → Option ℕ → Result ℕ (ℕ × FaultKind)
+known n None = Err (n, UnknownLabel)
+known n (Some a) = Ok a
+
+-- the number of an instruction of line n: the address of its label, where it has one
+abbrev pub resolve_number : List (List ℕ × ℕ) → ℕ → ℕ → Option (List ℕ) → Result ℕ (ℕ × FaultKind)
+resolve_number pairs n number None = Ok number
+resolve_number pairs n number (Some name) = known n (lookup (λ k. bytes_eq k name) pairs)
+
+-- an instruction with this number, unless it is a fault
+abbrev pub numbered_with : Instr → Result ℕ (ℕ × FaultKind) → Result Instr (ℕ × FaultKind)
+numbered_with instr (Ok a) = Ok (record instr { number = a })
+numbered_with instr (Err f) = Err f
+
+-- an instruction with the address of its label
+abbrev pub resolve : List (List ℕ × ℕ) → ℕ × Parsed → Result Instr (ℕ × FaultKind)
+resolve pairs d = numbered_with d.1.instr (resolve_number pairs d.0 d.1.instr.number d.1.label)
+
+-- an instruction before others; the first fault decides
+abbrev pub before_others : Result Instr (ℕ × FaultKind) → Result (List Instr) (ℕ × FaultKind)
+    → Result (List Instr) (ℕ × FaultKind)
+before_others (Err f) others = Err f
+before_others (Ok i) (Err f) = Err f
+before_others (Ok i) (Ok is) = Ok (i ∷ is)
+
+-- all instructions of a listing with the addresses of their labels, or the first fault
+unfoldable pub resolved : List (List ℕ × ℕ) → List (ℕ × Parsed)
+    → Result (List Instr) (ℕ × FaultKind)
+resolved pairs [] = Ok []
+resolved pairs (d ∷ ds) = before_others (resolve pairs d) (resolved pairs ds)
+
+-- a program of these instructions with these bytes of data, unless there is a fault
+abbrev pub with_bytes : List ℕ → Result (List Instr) (ℕ × FaultKind)
+    → Result Program (ℕ × FaultKind)
+with_bytes bytes (Ok code) = Ok (record { code = code; bytes = bytes })
+with_bytes bytes (Err f) = Err f
+
+-- Labels are looked up once no line has a fault of its own.
+abbrev pub program_of : Lines → Option (ℕ × FaultKind) → Result Program (ℕ × FaultKind)
+program_of ls (Some fault) = Err fault
+program_of ls None = with_bytes (memory ls) (resolved (table 0 ls) (numbered 1 ls))
+
+-- The program that a listing is, or its first fault with the number of its line, counted from 1. A
+-- listing that is too long as a whole is refused at line 0.
+unfoldable pub listing : List ℕ → Result Program (ℕ × FaultKind)
+listing bytes =
+    if nat_lt 4194304 (length bytes) then Err (0, TooLong)
+    else program_of (lines_of bytes) (first_fault [] (lines_of bytes))

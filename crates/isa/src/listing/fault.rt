@@ -1,0 +1,102 @@
+//! What is wrong with a listing.
+ghost use Rattle.std.specs.Prelude.{◌≡◌};
+ghost use Rattle.isa.specs.declared.listing.fault.FaultKind.TheVariants.{Memory};
+ghost use Rattle.isa.specs.Reading.{fault_code, fault_name};
+
+use std::alloc::{AllocError, AllocFailed};
+use thiserror::Error;
+
+/// What is wrong.
+#[derive(Clone, Copy, Debug, PartialEq, Eq, Error)]
+pub enum FaultKind {
+    #[error("a byte before the comment is neither a tab nor printable ASCII")]
+    NotAscii,
+    #[error("no operation or directive has this word")]
+    UnknownOp,
+    #[error("no register has this number or name")]
+    BadRegister,
+    #[error("this is no number, or one out of its range")]
+    BadNumber,
+    #[error("these are not the operands of the form")]
+    BadOperands,
+    #[error("no line has this label")]
+    UnknownLabel,
+    #[error("an earlier line has this label, or this line before it")]
+    DoubleLabel,
+    #[error("the listing, its text or its data is too long")]
+    TooLong,
+    #[error("out of memory")]
+    Memory,
+}
+
+impl FaultKind {
+    /// Its number, 1 to 9.
+    pub fn code(self) -> u32
+        ensures { result ≡ fault_code self }
+    {
+        match self {
+            FaultKind::NotAscii => 1,
+            FaultKind::UnknownOp => 2,
+            FaultKind::BadRegister => 3,
+            FaultKind::BadNumber => 4,
+            FaultKind::BadOperands => 5,
+            FaultKind::UnknownLabel => 6,
+            FaultKind::DoubleLabel => 7,
+            FaultKind::TooLong => 8,
+            FaultKind::Memory => 9,
+        }
+    }
+
+    /// Its word, as a report has it.
+    pub fn name(self) -> &'static str
+        ensures { result.now ≡ fault_name self }
+    {
+        match self {
+            FaultKind::NotAscii => "NotAscii",
+            FaultKind::UnknownOp => "UnknownOp",
+            FaultKind::BadRegister => "BadRegister",
+            FaultKind::BadNumber => "BadNumber",
+            FaultKind::BadOperands => "BadOperands",
+            FaultKind::UnknownLabel => "UnknownLabel",
+            FaultKind::DoubleLabel => "DoubleLabel",
+            FaultKind::TooLong => "TooLong",
+            FaultKind::Memory => "Memory",
+        }
+    }
+}
+
+impl From<AllocError> for FaultKind {
+    ghost from_gives = { λ _ e. e ≡ Memory };
+
+    fn from(_error: AllocError) -> FaultKind {
+        FaultKind::Memory
+    }
+}
+
+impl<T: Drop> From<AllocFailed<T>> for FaultKind {
+    ghost from_gives = { λ _ e. e ≡ Memory };
+
+    fn from(_error: AllocFailed<T>) -> FaultKind {
+        FaultKind::Memory
+    }
+}
+
+/// Why a listing was refused, and the line that has the fault, counted from 1. A listing that is
+/// too long as a whole, and want of memory, have line 0.
+#[derive(Clone, Copy, Debug, PartialEq, Eq, Error)]
+#[error("line {line}: {kind}")]
+pub struct TextFault {
+    pub line: u64,
+    pub kind: FaultKind,
+}
+
+impl From<AllocError> for TextFault {
+    ghost from_gives = { λ _ f. (f.line ≡ 0) × (f.kind ≡ Memory) };
+
+    fn from(_error: AllocError) -> TextFault {
+        TextFault {
+            line: 0,
+            kind: FaultKind::Memory,
+        }
+    }
+}

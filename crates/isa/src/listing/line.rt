@@ -1,0 +1,104 @@
+//! One line behind the lines before it.
+ghost use Rattle.std.specs.Prelude.{◌≡◌, ◌≢◌, ◌+◌, ◌≤◌, ◌%◌, ◌∷◌, ◌++◌, [], ◌<◌, None, Some, ℕ, List, length, OnOk, IfOk, IfErr, IfSome};
+ghost use Rattle.std.specs.Option.{option_map};
+ghost use Rattle.text.specs.Line.{code_of};
+ghost use Rattle.isa.specs.Listing.{Lines, fault_in};
+ghost use Rattle.isa.specs.Held.{IsRead, IsReadLine, IsFaultLine};
+
+use super::fault::FaultKind;
+use super::instruction::Draft;
+use super::labels::add_labels;
+use super::statement::statement;
+use super::table::Labels;
+use instructions::{Instr, Program};
+use text::{label_line, next_code};
+
+/// What is to be resolved of an instruction: its label, if it has one, and the number of its line.
+#[derive(Clone, Copy)]
+pub struct Target<'a> {
+    pub line: u64,
+    pub label: Option<&'a [u8]>,
+}
+
+// Reads the code of one line, its labels and its statement; there is none for a line with a byte
+// that may not stand before a comment.
+fn read_line<'a>(
+    labels: &mut Labels<'a>,
+    code: &mut Vec<Instr>,
+    targets: &mut Vec<Target<'a>>,
+    memory: &mut Vec<u8>,
+    source: Option<&'a [u8]>,
+    number: u64,
+) -> Result<(), FaultKind>
+    requires small_code { length code.old.items ≤ 16384 }
+    requires small_memory { length memory.old.items ≤ 65536 }
+    ensures small_code { OnOk result (length code.new.items ≤ 16384) }
+    ensures small_memory { OnOk result (length memory.new.items ≤ 65536) }
+    ensures aligned { OnOk result (length memory.old.items % 4 ≡ 0
+        → length memory.new.items % 4 ≡ 0) }
+    ensures ok { OnOk result ((before : Lines) (line : List ℕ)
+        → option_map (λ t. t.now) source.entry ≡ code_of line → length before + 1 ≡ number
+        → IsRead before labels.old code.old.items targets.old.items memory.old.items
+        → (fault_in before line ≡ None)
+        × IsRead (before ++ line ∷ []) labels.new code.new.items targets.new.items
+        memory.new.items) }
+    ensures fault { IfErr result (λ e. e ≢ FaultKind.Memory → (before : Lines) (line : List ℕ)
+        → option_map (λ t. t.now) source.entry ≡ code_of line
+        → IsRead before labels.old code.old.items targets.old.items memory.old.items
+        → fault_in before line ≡ Some e) }
+{
+    let text = source.ok_or(FaultKind::NotAscii)?;
+    let index = code.len();
+    let rest = add_labels(labels, text, Program::START + 4 * index as u32)?;
+    let mut draft = Draft::new();
+    let found = statement(memory, &mut draft, rest)?;
+    if memory.len() > Program::MOST_BYTES {
+        return Err(FaultKind::TooLong);
+    }
+    if !found {
+        return Ok(());
+    }
+    if index >= Program::MOST_INSTRUCTIONS {
+        return Err(FaultKind::TooLong);
+    }
+    code.push(draft.instr)?;
+    targets.push(Target {
+        line: number,
+        label: draft.label,
+    })?;
+    Ok(())
+}
+
+/// Reads the first line of a text. The answer is what stands behind its line feed, if it has one.
+pub fn read_first_line<'a>(
+    labels: &mut Labels<'a>,
+    code: &mut Vec<Instr>,
+    targets: &mut Vec<Target<'a>>,
+    memory: &mut Vec<u8>,
+    text: &'a [u8],
+    number: u64,
+) -> Result<Option<&'a [u8]>, FaultKind>
+    requires small_code { length code.old.items ≤ 16384 }
+    requires small_memory { length memory.old.items ≤ 65536 }
+    ensures small_code { OnOk result (length code.new.items ≤ 16384) }
+    ensures small_memory { OnOk result (length memory.new.items ≤ 65536) }
+    ensures aligned { OnOk result (length memory.old.items % 4 ≡ 0
+        → length memory.new.items % 4 ≡ 0) }
+    ensures shorter { IfOk result (λ rest. IfSome rest
+        (λ r. length r.now < length text.entry.now)) }
+    ensures ok { IfOk result (λ rest. (before : Lines) → length before + 1 ≡ number
+        → IsRead before labels.old code.old.items targets.old.items memory.old.items
+        → IsReadLine before text.entry.now (option_map (λ r. r.now) rest) labels.new
+        code.new.items targets.new.items memory.new.items) }
+    ensures fault { IfErr result (λ e. e ≢ FaultKind.Memory → (before : Lines)
+        → IsRead before labels.old code.old.items targets.old.items memory.old.items
+        → IsFaultLine before text.entry.now e) }
+{
+    if let Some((name, after)) = label_line(text) {
+        labels.add(name, Program::START + 4 * code.len() as u32)?;
+        return Ok(Some(after));
+    }
+    let (source, after) = next_code(text);
+    read_line(labels, code, targets, memory, source, number)?;
+    Ok(after)
+}

@@ -1,0 +1,73 @@
+//! A statement: a word and its operands.
+ghost use Rattle.std.specs.Prelude.{◌≡◌, ◌≢◌, ◌≤◌, ◌%◌, ◌++◌, Err, length, replicate, OnOk, IfOk, IfErr};
+ghost use Rattle.std.specs.Option.{option_map};
+ghost use Rattle.text.specs.Operand.{operands_left};
+ghost use Rattle.isa.specs.Statement.{view, code_if, with_operands, statement};
+ghost use Rattle.isa.specs.Held.{IsAdded};
+
+use super::directive::{add_words, space};
+use super::fault::FaultKind;
+use super::form::same_word;
+use super::instruction::{Draft, instruction};
+use text::{cut_word, operand_part};
+
+/// Adds the bytes of `.space`.
+fn add_space(memory: &mut Vec<u8>, n: u32) -> Result<(), FaultKind>
+    requires small { length memory.old.items ≤ 65536 }
+    ensures ok { OnOk result (memory.new.items ≡ memory.old.items ++ replicate n 0) }
+    ensures memory { IfErr result (λ e. e ≡ FaultKind.Memory) }
+{
+    let size = memory.len() + n as usize;
+    memory.resize(size, 0)?;
+    Ok(())
+}
+
+/// Reads a word and an operand part, as `statement` does.
+fn with_operands<'a>(
+    memory: &mut Vec<u8>,
+    draft: &mut Draft<'a>,
+    word: &[u8],
+    part: Option<&'a [u8]>,
+) -> Result<bool, FaultKind>
+    requires small { length memory.old.items ≤ 65536 }
+    ensures ok { IfOk result (λ found. IsAdded
+        (with_operands word.now (operands_left (option_map (λ t. t.now) part.entry)))
+        (code_if found (view draft.new)) memory.old.items memory.new.items) }
+    ensures aligned { OnOk result (length memory.old.items % 4 ≡ 0
+        → length memory.new.items % 4 ≡ 0) }
+    ensures fault { IfErr result (λ e. e ≢ FaultKind.Memory
+        → with_operands word.now (operands_left (option_map (λ t. t.now) part.entry)) ≡ Err e) }
+{
+    if same_word(b".space", word) {
+        let n = space(part)?;
+        add_space(memory, n)?;
+        return Ok(false);
+    }
+    if same_word(b".word", word) {
+        add_words(memory, part)?;
+        return Ok(false);
+    }
+    instruction(draft, word, part)?;
+    Ok(true)
+}
+
+/// Reads a statement. The bytes of a directive are added to the memory. Where the statement is an
+/// instruction, the answer is yes, and the draft is that instruction.
+pub fn statement<'a>(
+    memory: &mut Vec<u8>,
+    draft: &mut Draft<'a>,
+    text: &'a [u8],
+) -> Result<bool, FaultKind>
+    requires small { length memory.old.items ≤ 65536 }
+    ensures ok { IfOk result (λ found. IsAdded (statement text.now) (code_if found (view draft.new))
+        memory.old.items memory.new.items) }
+    ensures aligned { OnOk result (length memory.old.items % 4 ≡ 0
+        → length memory.new.items % 4 ≡ 0) }
+    ensures fault { IfErr result (λ e. e ≢ FaultKind.Memory → statement text.now ≡ Err e) }
+{
+    if text.is_empty() {
+        return Ok(false);
+    }
+    let (word, rest) = cut_word(text);
+    with_operands(memory, draft, word, operand_part(rest))
+}

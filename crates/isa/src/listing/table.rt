@@ -1,0 +1,193 @@
+//! The labels that were read, and how one is found by its name.
+ghost use Rattle.std.specs.Prelude.{◌≡◌, ◌≢◌, ◌+◌, ◌≤◌, ◌<◌, ◌^◌, ◌∷◌, ◌++◌, [], is_some, length, map, true, None, OnOk, IfOk, IfErr};
+ghost use Rattle.std.specs.Map.{lookup};
+ghost use Rattle.std.specs.Str.{bytes_eq};
+ghost use Rattle.isa.specs.NameHash.{hash_of, start_of, tag_of};
+ghost use Rattle.isa.specs.Buckets.{pair, IsIndex, IsPlace};
+
+use super::fault::FaultKind;
+use std::alloc::{AllocError, Global};
+use std::collections::BTreeMap;
+use std::hash::{FoldHasher, Hasher};
+use std::marker::Model;
+
+/// In how many buckets, one behind the other, a name may be noted.
+const RUN: usize = 16;
+
+/// More labels than a listing can have.
+const MOST: usize = 0xffff_ffff;
+
+/// The tag of a free bucket.
+const FREE: u8 = 0;
+
+/// A label: a name and the address that it stands for.
+#[derive(Clone, Copy)]
+pub struct Entry<'a> {
+    pub name: &'a [u8],
+    pub address: u32,
+}
+
+/// Where a name is noted, or is to be noted.
+#[derive(Clone, Copy)]
+pub enum Place {
+    /// This entry has it.
+    Known(usize),
+    /// No entry has it, and this bucket is free for one.
+    Free(usize),
+    /// No entry has it, and each bucket where it may stand is taken.
+    Full,
+}
+
+#[tactic(auto, unfolding(crate::specs::NameHash::hash_of))]
+fn hash_of(name: &[u8]) -> u64
+    ensures { result ≡ hash_of name.now }
+{
+    let mut state = FoldHasher::default();
+    state.write(name);
+    state.finish()
+}
+
+fn start_of(hash: u64, last: usize) -> usize
+    requires { last < 2 ^ 32 }
+    ensures value { result ≡ start_of hash last }
+    ensures small { result ≤ last }
+{
+    let product = (hash & 0xffff_ffff) * last as u64;
+    (product >> 32) as usize
+}
+
+fn tag_of(hash: u64) -> u8
+    ensures { result ≡ tag_of hash }
+{
+    ((hash >> 32) % 255 + 1) as u8
+}
+
+// Looks at the buckets where the name may stand, up to a free one, and among the crowded names
+// where none is free.
+fn look_up<'a>(
+    entries: &[Entry<'a>],
+    tags: &[u8],
+    numbers: &[u32],
+    crowded: &BTreeMap<&'a [u8], usize>,
+    name: &[u8],
+    hash: u64,
+) -> Place
+    requires index { IsIndex entries.now tags.now numbers.now crowded.now }
+    requires hash { hash ≡ hash_of name.now }
+    ensures { IsPlace entries.now tags.now crowded.now name.now result }
+{
+    let start = start_of(hash, tags.len() - RUN);
+    let tag = tag_of(hash);
+    for at in start..start + RUN {
+        if tags[at] == FREE {
+            return Place::Free(at);
+        }
+        if tags[at] == tag {
+            let found = numbers[at] as usize;
+            if entries[found].name == name {
+                return Place::Known(found);
+            }
+        }
+    }
+    match crowded.get(name) {
+        Some(found) => Place::Known(*found),
+        None => Place::Full,
+    }
+}
+
+/// The labels in the order in which they were read. A name that finds each of its buckets taken is
+/// crowded, and found by its order: whatever the names are, one is found in few steps.
+#[derive(Drop)]
+pub struct Labels<'a> {
+    entries: Vec<Entry<'a>>,
+    tags: Vec<u8>,
+    numbers: Vec<u32>,
+    crowded: BTreeMap<&'a [u8], usize>,
+}
+
+impl<'a> Model for Labels<'a> {
+    ghost use Rattle.std.specs.Prelude.{ℕ, List, map};
+
+    ghost Value = { List (List ℕ × ℕ) };
+
+    ghost use Rattle.isa.specs.Buckets.{pair, IsIndex};
+
+    ghost view = { λ t. map pair t.entries.items };
+
+    ghost invariant = { λ t. IsIndex t.entries.items t.tags.items t.numbers.items t.crowded };
+}
+
+impl<'a> Labels<'a> {
+    /// No labels, and room for so many.
+    pub fn with_capacity(alloc: Global, most: usize) -> Result<Self, AllocError>
+        requires { most ≤ 4194304 }
+        ensures { IfOk result (λ labels. labels ≡ []) }
+    {
+        let entries = Vec::with_capacity(alloc, most)?;
+        let mut tags = Vec::new(alloc);
+        tags.resize(2 * most + RUN, FREE)?;
+        let mut numbers = Vec::new(alloc);
+        numbers.resize(2 * most + RUN, 0)?;
+        Ok(Labels {
+            entries,
+            tags,
+            numbers,
+            crowded: BTreeMap::new(alloc),
+        })
+    }
+
+    /// The address of a name.
+    pub fn get(&self, name: &[u8]) -> Option<u32>
+        ensures { result ≡ lookup (λ k. bytes_eq k name.now) self.now }
+    {
+        match look_up(
+            self.entries.as_slice(),
+            self.tags.as_slice(),
+            self.numbers.as_slice(),
+            &self.crowded,
+            name,
+            hash_of(name),
+        ) {
+            Place::Known(found) => Some(self.entries[found].address),
+            _ => None,
+        }
+    }
+
+    /// Adds a label.
+    pub fn add(&mut self, name: &'a [u8], address: u32) -> Result<(), FaultKind>
+        ensures absent { OnOk result (lookup (λ k. bytes_eq k name.entry.now) self.old ≡ None) }
+        ensures added { OnOk result (self.new ≡ self.old ++ (name.entry.now, address) ∷ []) }
+        ensures kind { IfErr result (λ e. e ≢ FaultKind.Memory → e ≡ FaultKind.DoubleLabel) }
+        ensures double { IfErr result (λ e. e ≢ FaultKind.Memory
+            → is_some (lookup (λ k. bytes_eq k name.entry.now) self.old) ≡ true) }
+    {
+        let number = self.entries.len();
+        if number >= MOST {
+            return Err(FaultKind::Memory);
+        }
+        self.entries.reserve(1)?;
+        let hash = hash_of(name);
+        match look_up(
+            self.entries.as_slice(),
+            self.tags.as_slice(),
+            self.numbers.as_slice(),
+            &self.crowded,
+            name,
+            hash,
+        ) {
+            Place::Known(_) => return Err(FaultKind::DoubleLabel),
+            Place::Free(at) => {
+                self.tags[at] = tag_of(hash);
+                self.numbers[at] = number as u32;
+            }
+            Place::Full => {
+                self.crowded.insert(name, number)?;
+            }
+        }
+        self.entries.push_reserved(Entry { name, address });
+        Ok(())
+    }
+}
+
+#[cfg(test)]
+mod tests;
