@@ -1,0 +1,207 @@
+#!/usr/bin/env bash
+# Runs of the one-thread unit whose turns are told, by `--chart` and `--trace`: of each example the report is that of
+# `--alone`, and the chart behind it is drawn anew from the log, which says of each turn who was let, went on and left.
+# Then what goes wrong: devices that fail, files that do not open, a log over the listing, want of memory. And a run of
+# 100,000 instructions is told in the memory of one of 100.
+. "$(dirname "$0")/common.bash"
+build_refuse
+build run ruu
+ruu=crates/ruu/out/ruu
+
+# Draws each tenant of a log, and compares the lines with those of the chart. The log and its pictures are described in
+# crates/charts/specs.
+cat > "$work/draw.py" << 'DRAW'
+import sys
+turn, rows, left, order = 0, {}, {}, []
+lines = open(sys.argv[1]).read().split("\n")
+assert lines[:2] == ["Kanata\t0004", "C=\t0"] and lines[-1] == "", "the first lines, or the last one"
+STAGES = {"Ds": ["Ad", "Cm", "Ms", "St"], "Ad": ["Cm"], "Ms": ["Cm"]}
+retired = 0
+for line in lines[2:-1]:
+    what, *of = line.split("\t")
+    if what == "C":
+        assert of == ["1"], line
+        turn += 1
+    elif what == "I":
+        assert int(of[0]) == int(of[1]) == len(rows) and of[2] == "0", line
+        rows[of[0]] = {"let": turn, "at": "Ds", "ran": None, "settled": None}
+    elif what == "L":
+        rows[of[0]]["text"] = of[2]
+    elif what == "W":
+        assert int(of[1]) < int(of[0]), line
+    elif what == "E":
+        assert rows[of[0]]["at"] == of[2], line
+    elif what == "S":
+        row, to = rows[of[0]], of[2]
+        if to == "Ds":
+            assert row["let"] == turn, line
+        else:
+            assert to in STAGES[row["at"]], line
+            row["ran" if row["at"] == "Ds" else "settled"] = (turn, row["at"])
+            row["at"] = to
+    elif what == "R":
+        if of[2] == "0":
+            assert int(of[1]) == retired, line
+            retired += 1
+        left[of[0]] = (turn, "R" if of[2] == "0" else "S")
+        order.append(of[0])
+    else:
+        sys.exit("no line of a log: " + line)
+
+def picture(row, end, mark):
+    text, last, between = "L", row["let"], "."
+    for at, sign, then in ((row["ran"], "X", "-"), (row["settled"], None, "=")):
+        if at:
+            text += between * (at[0] - last - 1) + (sign or {"Ad": "V", "Ms": "M"}[at[1]])
+            last, between = at[0], then
+    return text + between * (end - last - 1) + mark
+
+def drawn(name, end, mark):
+    row = rows[name]
+    pc, instr = row["text"].split(" ", 1)
+    return "%s\t%d\t%s %s %s%s" % (name, row["let"], pc, instr.ljust(26), " " * ((row["let"] - 1) % 64), picture(row, end, mark))
+
+wanted = [drawn(name, *left[name]) for name in order]
+wanted += [drawn(name, turn + 1, ">") for name in rows if name not in left]
+told = open(sys.argv[2]).read().split("\n")
+assert told[-1] == "" and told[:-1] == wanted, "\n".join(t + "\n" + w for t, w in zip(told, wanted) if t != w)
+print(len(rows))
+DRAW
+
+# Runs a listing alone, with a chart, with a log and with both.
+told=0
+tell() { # listing, options
+  local listing=$1 count
+  shift
+  "$ruu" run "$listing" --alone "$@" > "$work/report" 2> "$work/err"
+  status=$?
+  "$ruu" run "$listing" --alone --chart --trace "$work/log" "$@" > "$work/out" 2> "$work/err"
+  [ $? -eq $status ] && [ ! -s "$work/err" ] || fail "$listing $*: another status, or a line"
+  head -c "$(stat -c %s "$work/report")" "$work/out" | cmp -s - "$work/report" || fail "$listing $*: another report"
+  tail -c +$(($(stat -c %s "$work/report") + 1)) "$work/out" > "$work/chart"
+  "$ruu" run "$listing" --alone --chart "$@" > "$work/charted" 2> "$work/err"
+  [ $? -eq $status ] && cmp -s "$work/charted" "$work/out" || fail "$listing $*: another chart without a log"
+  "$ruu" run "$listing" --alone --trace "$work/again" "$@" > "$work/logged" 2> "$work/err"
+  [ $? -eq $status ] && cmp -s "$work/logged" "$work/report" && cmp -s "$work/again" "$work/log" \
+    || fail "$listing $*: another log without a chart"
+  [ "$(cat "$work/err")" = '' ] || fail "$listing $*: a line on standard error"
+  count=$(python3 "$work/draw.py" "$work/log" "$work/chart" 2> "$work/err") || fail "$listing $*: the log draws another chart"
+  told=$((told + count))
+}
+
+for listing in examples/*.s tests/listings/limit.s; do
+  tell "$listing" --limit 2000
+  tell "$listing" --limit 500 --ruu-size 4 --bpred nottaken
+  tell "$listing" --limit 77 --ruu-size 32 --lsq-size 2 --bpred taken
+done
+[ $told -gt 5000 ] || fail "only $told tenants were told"
+echo "the charts and logs of the examples agree on each of $told tenants"
+
+# A listing with a fault has no pictures.
+says() { # name, status, standard error
+  [ "$status" -eq "$2" ] || fail "$1: status $status, and not $2"
+  [ "$(cat "$work/err")" = "$3" ] || fail "$1: another line on standard error"
+}
+
+run() { # words
+  "$ruu" run "$@" > "$work/out" 2> "$work/err"
+  status=$?
+}
+
+run tests/listings/fault.s --alone --chart --trace "$work/log"
+says 'a listing with a fault' 2 ''
+cmp -s "$work/out" tests/listings/fault.report && [ ! -s "$work/log" ] || fail 'a listing with a fault has a picture'
+
+# devices that fail
+listing=examples/forwarding.s
+run $listing --alone --chart --trace /dev/full
+says 'a full log' 5 'ruu: trace'
+cp "$work/out" "$work/beside"
+tell $listing
+cmp -s "$work/beside" "$work/charted" || fail 'a full log cuts the report or the chart'
+"$ruu" run $listing --alone --chart --trace "$work/log" > /dev/full 2> "$work/err"
+status=$?
+says 'a full standard output' 5 'ruu: write'
+[ ! -s "$work/log" ] || fail 'a log without its report'
+
+# files that do not open
+rm -f "$work/log"
+run "$work/nowhere.s" --alone --chart --trace "$work/log"
+says 'a listing that is not there' 5 'ruu: open'
+[ ! -e "$work/log" ] || fail 'a log of a listing that is not there'
+run examples --alone --trace "$work/log"
+says 'a folder as the listing' 5 'ruu: read'
+run $listing --alone --trace "$work/nowhere/log"
+says 'a log in no folder' 5 "ruu: $work/nowhere/log: No such file or directory (os error 2)"
+[ ! -s "$work/out" ] || fail 'a report where the log did not open'
+run $listing --alone --trace examples
+says 'a folder as the log' 5 'ruu: examples: Is a directory (os error 21)'
+
+# the log is never the listing
+cp $listing "$work/own.s"
+ln -s own.s "$work/link.log"
+ln "$work/own.s" "$work/hard.log"
+run "$work/own.s" --alone --trace "$work/own.s"
+[ $status -eq 3 ] && grep -qx 'error: --trace names the file of the listing' "$work/err" || fail "the listing as the log: status $status"
+for log in "$work/./own.s" "$work/link.log" "$work/hard.log"; do
+  run "$work/own.s" --alone --trace "$log"
+  says 'the listing by another name' 3 "ruu: $log: it is the file of the listing"
+  "$ruu" run - --alone --trace "$log" < "$work/own.s" > "$work/out" 2> "$work/err"
+  status=$?
+  says 'the listing from standard input' 3 "ruu: $log: it is the file of the listing"
+done
+cmp -s "$work/own.s" $listing || fail 'the listing was overwritten'
+"$ruu" run - --alone --trace "$work/log" < $listing > "$work/out" 2> "$work/err" && cmp -s "$work/log" "$work/again" \
+  || fail 'standard input has another log'
+
+# without `--alone` they are mistakes
+for words in --chart "--trace $work/log" "--chart --units 1"; do
+  # shellcheck disable=SC2086
+  run $listing $words
+  [ $status -eq 3 ] && [ "$(head -n 1 "$work/err")" = 'error: --chart and --trace need --alone' ] || fail "$words: status $status"
+done
+echo 'what goes wrong has its word and its status, and no log overwrites the listing'
+
+# each allocation is refused in turn: the refusal is named behind a beginning of the report and the chart, and of the
+# log; or all is told as before
+listing=examples/wrong_path.s
+tell $listing --bpred nottaken --ruu-size 4
+mv "$work/out" "$work/whole.out"
+mv "$work/log" "$work/whole.log"
+is_all() {
+  [ "$status" -eq 0 ] && [ -z "$said" ] && cmp -s "$work/out" "$work/whole.out" && cmp -s "$work/log" "$work/whole.log"
+}
+n=0 refused=0
+while :; do
+  n=$((n + 1))
+  : > "$work/log"
+  run_under /dev/null REFUSED=$n "$ruu" run $listing --bpred nottaken --ruu-size 4 --alone --chart --trace "$work/log"
+  $was_refused || break
+  ! $is_held || fail "allocation $n refused: a block was held at the end"
+  for of in out log; do
+    cmp -s -n "$(stat -c %s "$work/$of")" "$work/$of" "$work/whole.$of" || fail "allocation $n refused: no beginning"
+  done
+  if [ "$status" -eq 5 ] && [ "$said" = 'ruu: memory' ]; then
+    refused=$((refused + 1))
+  else
+    is_all || fail "allocation $n refused: status $status"
+  fi
+done
+[ $refused -gt 100 ] || fail "only $refused allocations were refused"
+is_all || fail "with all its memory: status $status"
+echo "each of $((n - 1)) allocations was refused in turn, $refused told"
+
+# the least room in which 100 instructions are told has room for 100,000
+within() { # kilobytes, limit
+  (ulimit -v "$1"; exec "$ruu" run tests/listings/limit.s --alone --chart --trace "$work/log" --limit "$2") > /dev/null 2>&1
+  [ $? -eq 4 ]
+}
+low=0 high=1048576
+within $high 100 || fail 'a run of 100 instructions has no room'
+while [ $((high - low)) -gt 16 ]; do
+  middle=$(((low + high) / 2))
+  if within $middle 100; then high=$middle; else low=$middle; fi
+done 2> /dev/null
+within $((high + 64)) 100000 || fail "100 instructions are told in $high kilobytes, and 100,000 are not"
+[ "$(grep -c '^R' "$work/log")" -ge 100000 ] || fail 'the log of 100,000 instructions is shorter'
+echo "100,000 instructions are told in the $high kilobytes of 100"
