@@ -10,7 +10,7 @@ use Rattle.inorder.specs.declared.history.Event.TheVariants.{Does, Marks, Refuse
 use Rattle.inorder.specs.declared.history.Mark.TheVariants.{Asked, Walked}
 use Rattle.inorder.specs.declared.history.Refusal.TheVariants.{Empty, Moved, NotDone, NotOpen, Stale, Waiting}
 use Rattle.inorder.specs.declared.history.Source.TheVariants.{First}
-use Rattle.inorder.specs.declared.history.Step.TheVariants.{Let, On}
+use Rattle.inorder.specs.declared.history.Step.TheVariants.{Let, On, Renew}
 use Rattle.inorder.specs.declared.history.Supply.TheVariants.{From, Known}
 use Rattle.inorder.specs.History.{MayAdd, back, front, unit_of}
 use Rattle.inorder.specs.Replies.{IsAskedInTime, IsDelivered, IsOpen, IsSpent}
@@ -121,6 +121,16 @@ oldest_is_done m = by_position m.1.p m.1.tenant m.1.is m.1.oldest m.1.stays
 over_comes_first : ¬ MayAdd adds two_stations over back (Refuses Empty)
 unfolding instr_at computed_by jump_target checked_address loaded
 over_comes_first m = m.1.goes_on.0 refl BreakStop refl
+
+-- A renewal by the back or by a unit. The front may renew, where nobody was let
+back_renews_nothing : ¬ MayAdd adds two_stations [] back (Does Renew)
+back_renews_nothing m = apart 1 0 refl m.0
+
+units_renew_nothing : ¬ MayAdd adds two_stations [] 2 (Does Renew)
+units_renew_nothing m = apart 2 0 refl m.0
+
+front_renews : MayAdd adds two_stations [] front (Does Renew)
+front_renews = (refl, record { none = tt; goes_on = tt })
 
 -- A let with a spent tag
 abbrev last_tags : Sizes
