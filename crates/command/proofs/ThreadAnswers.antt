@@ -11,7 +11,6 @@ use Rattle.isa.specs.Report.{report_of}
 use Rattle.instructions.specs.Settings.{Settings}
 use Rattle.back.specs.Ends.{state_in}
 use Rattle.bench.specs.Answer.{ending_status}
-use Rattle.bench.specs.declared.outcome.Fault.TheVariants as fault
 use Rattle.bench.specs.declared.outcome.Status.{Status}
 use Rattle.pool.specs.declared.answer.Run.{Run}
 use Rattle.pool.specs.declared.answer.Run.TheVariants as run

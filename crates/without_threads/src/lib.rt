@@ -2,8 +2,8 @@
 #![tactic(auto)]
 
 mod checking;
+mod drawing;
 mod one_thread;
-mod pictures;
 mod progress;
 mod statuses;
 #[cfg(test)]

@@ -8,7 +8,7 @@ ghost use Rattle.without_threads.specs.Watched.{IsBegun, IsWatched, log_failures
 ghost use Rattle.without_threads.specs.Went.{HoldsOfInput, IsOfOneThread, refused, status_number};
 ghost use Rattle.without_threads.specs.declared.went.Line.TheVariants.{Nothing, Refused};
 
-use crate::pictures::{draw, trace};
+use crate::drawing::{draw, trace};
 use crate::{Line, MOST_TAKEN, Refusal, Went, refused, written};
 use bench::{Bench, Status};
 use devices::{Counted, read_up_to, write_whole};

@@ -3,8 +3,9 @@ ghost use Rattle.std.specs.Prelude.{◌-◌, ◌^◌, ◌<◌, IfSome};
 ghost use Rattle.devices.specs.Counted.{failures_of};
 
 use super::failing::{FailingReader, FailingWriter, LISTING};
-use crate::{Line, Refusal, Went, asked, go_watched};
+use crate::{Line, Refusal, Went, go_watched};
 use devices::Counted;
+use requests::asked;
 use std::alloc::Global;
 use std::io::Read;
 use std::process::Abort;
