@@ -1,5 +1,5 @@
 -- What is told of a listing that is driven by hand.
-use Rattle.std.proofs.Common.{◌≡◌, ◌∙◌, ℕ, List, refl, sym, subst, arith, Option, Result, Ok, Err, IfErr, IsErrAnd}
+use Rattle.std.proofs.Common.{◌≡◌, ℕ, List, refl, subst, arith, Option, Result, Err}
 use Rattle.std.specs.Io.KnownBytes.{Appends}
 use Rattle.isa.specs.declared.listing.fault.FaultKind.{FaultKind}
 use Rattle.isa.specs.Listing.{listing}
@@ -8,20 +8,14 @@ use Rattle.isa.specs.Report.{fault_line}
 use Rattle.drive.specs.declared.script.Fault.{Fault}
 use Rattle.drive.specs.declared.script.Fault.TheVariants as script
 use Rattle.requests.specs.declared.request.ByHand.{ByHand}
-use Rattle.without_threads.specs.declared.went.Refusal.{Refusal}
 use Rattle.without_threads.specs.declared.went.Refusal.TheVariants.{Write}
 use Rattle.command.specs.ByHand.{IsDriven, script_refusal}
 
-write_of : (f : Fault) → script_refusal f ≡ Write → f ≡ script.Write
+-- only where the transcript could not be written is that refused
+pub write_of : (f : Fault) → script_refusal f ≡ Write → f ≡ script.Write
 write_of script.Read is = absurd (grind arith)
 write_of script.Memory is = absurd (grind arith)
 write_of script.Write is = refl
-
--- what holds where the transcript could not be written, holds where that is refused
-pub script_part : {T Q : Type 0} (r : Result T Refusal) (f : Fault) → IsErrAnd r (λ refusal. refusal ≡ script_refusal f)
-    → (f ≡ script.Write → Q) → IfErr r (λ refusal. refusal ≡ Write → Q)
-script_part (Ok x) f gives q = tt
-script_part (Err refusal) f gives q = λ is. q (write_of f (sym gives ∙ is))
 
 -- the line of a fault
 pub fault_told : (hand : ByHand) (found : Result Program (ℕ × FaultKind)) (line : ℕ) (kind : FaultKind) (script before after : Option (List ℕ)) (bytes : List ℕ)
