@@ -5,7 +5,6 @@ use Rattle.instructions.specs.declared.end.End.{End}
 use Rattle.instructions.specs.declared.end.Ending.{Ending}
 use Rattle.instructions.specs.declared.end.Ending.TheVariants.{Limit}
 use Rattle.isa.specs.declared.listing.fault.FaultKind.{FaultKind}
-use Rattle.isa.specs.Listing.{listing}
 use Rattle.instructions.specs.Programs.{Program}
 use Rattle.isa.specs.Report.{report_of}
 use Rattle.instructions.specs.Settings.{Settings}

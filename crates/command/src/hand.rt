@@ -2,8 +2,7 @@
 ghost use Rattle.std.specs.Prelude.{◌≡◌, ◌≢◌, ◌+◌, ◌-◌, ◌^◌, ◌<◌, IfSome, IfOk, IfErr, Ok, OnOk, None};
 ghost use Rattle.isa.specs.Listing.{listing};
 ghost use Rattle.devices.specs.Counted.{failures_of, known_by};
-ghost use Rattle.command.specs.ByHand.{HasBrokenOff, HasToldSome, IsBroken, IsDriven, IsLeft, IsTranscriptOf};
-ghost use Rattle.command.specs.ByHand.{script_refusal};
+ghost use Rattle.command.specs.ByHand.{HasBrokenOff, IsBroken, IsDriven, IsLeft, IsTranscriptOf, script_refusal};
 ghost use Rattle.requests.specs.Predictors.{IsChosen};
 ghost use Rattle.without_threads.specs.Went.{HoldsOfInput, IsOfOneThread, refused};
 ghost use Rattle.without_threads.specs.declared.went.Line.TheVariants.{Nothing, Refused};
