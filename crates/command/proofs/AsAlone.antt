@@ -11,10 +11,10 @@ use Rattle.devices.specs.Counted.{known_by}
 use Rattle.devices.specs.declared.counted.Counted.{Counted}
 use Rattle.bench.specs.Answer.{ending_status, report_of_run, status_for, status_of, text_for, text_of}
 use Rattle.requests.specs.declared.request.Asked.{Asked}
-use Rattle.command.specs.declared.went.Line.{Line}
-use Rattle.command.specs.declared.went.Went.{Went}
-use Rattle.command.specs.Answers.{AsAlone, Early, HasAnswer, IsAnswer, IsAsAlone, IsEarly, IsEnd, IsLineWith}
-use Rattle.command.specs.Went.{HoldsOfInput, AtAStop, AtTheLimit, IsWhole, WithoutThreads, status_number}
+use Rattle.without_threads.specs.declared.went.Line.{Line}
+use Rattle.without_threads.specs.declared.went.Went.{Went}
+use Rattle.without_threads.specs.Answers.{AsAlone, Early, HasAnswer, IsAnswer, IsAsAlone, IsEarly, IsEnd, IsLineWith}
+use Rattle.without_threads.specs.Went.{HoldsOfInput, AtAStop, AtTheLimit, IsWhole, WithoutThreads, status_number}
 
 not_early : (limit : ℕ) (P : Program) (ending : Ending) (state : State) (went : Went) → IsWhole limit went
     → went.status ≡ status_number (ending_status ending) → IsLineWith false state.count went.line

@@ -1,6 +1,4 @@
-mod Answered
 mod AsAlone
-mod Checked
 mod Driven
-mod Pictures
+mod ThreadAnswers
 mod WholeRuns

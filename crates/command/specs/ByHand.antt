@@ -6,7 +6,11 @@ use Rattle.instructions.specs.Programs.{Program}
 use Rattle.isa.specs.Report.{fault_line}
 use Rattle.drive.specs.Sessions.{IsStart, TheSession}
 use Rattle.drive.specs.Scripts.{HasBroken, HasDriven, HasTold}
+use Rattle.drive.specs.declared.script.Fault.{Fault as ScriptFault}
+use Rattle.drive.specs.declared.script.Fault.TheVariants as script
 use Rattle.requests.specs.declared.request.ByHand.{ByHand}
+use Rattle.without_threads.specs.declared.went.Refusal.{Refusal}
+use Rattle.without_threads.specs.declared.went.Refusal.TheVariants.{Memory, Read, Write}
 
 -- all commands of a script were answered, for a program from its start on
 pub record IsTranscriptOf (hand : ByHand) (P : Program) (status : ℕ) (script before after : Option (List ℕ)) :
@@ -51,3 +55,9 @@ pub record IsPart (text : List ℕ) (before after : Option (List ℕ)) : Type 0 
 abbrev pub IsBroken : ByHand → Result Program (ℕ × FaultKind) → (script before after : Option (List ℕ)) → Type 0
 IsBroken hand (Ok P) script before after = HasBrokenOff hand P script before after
 IsBroken hand (Err f) script before after = IsPart (fault_line f.0 f.1) before after
+
+-- what is refused where a script was not answered to its end
+abbrev pub script_refusal : ScriptFault → Refusal
+script_refusal script.Read = Read
+script_refusal script.Memory = Memory
+script_refusal script.Write = Write

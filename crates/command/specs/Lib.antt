@@ -1,4 +1,5 @@
+pub use Rattle.without_threads.specs.Went
+pub use Rattle.without_threads.specs.Answers
+pub use Rattle.without_threads.specs.Watched
 pub mod ByHand
-pub mod Went
-pub mod Answers
-pub mod Watched
+pub mod Threads

@@ -2,18 +2,15 @@
 ghost use Rattle.std.specs.Prelude.{◌≡◌, ◌≢◌, ◌+◌, ◌-◌, ◌^◌, ◌<◌, IfSome, IfOk, IfErr, Ok, OnOk, None};
 ghost use Rattle.isa.specs.Listing.{listing};
 ghost use Rattle.devices.specs.Counted.{failures_of, known_by};
-ghost use Rattle.command.specs.ByHand.{HasBrokenOff, HasToldSome, IsBroken, IsDriven, IsLeft, IsTranscriptOf};
+ghost use Rattle.command.specs.ByHand.{HasBrokenOff, IsBroken, IsDriven, IsLeft, IsTranscriptOf, script_refusal};
 ghost use Rattle.requests.specs.Predictors.{IsChosen};
-ghost use Rattle.command.specs.Went.{HoldsOfInput, IsOfOneThread, refused, script_refusal};
-ghost use Rattle.command.specs.declared.went.Line.TheVariants.{Nothing, Refused};
-ghost use Rattle.command.specs.declared.went.Refusal.TheVariants.{Memory};
+ghost use Rattle.without_threads.specs.Went.{HoldsOfInput, IsOfOneThread, refused};
+ghost use Rattle.without_threads.specs.declared.went.Line.TheVariants.{Nothing, Refused};
 
-use crate::running::refused;
-use crate::threads::MOST_TAKEN;
 use crate::{ByHand, Line, Refusal, Went};
 use devices::{Counted, read_up_to, write_whole};
 use drive::{Fault, Session};
-use instructions::{Memory, Program};
+use instructions::Program;
 use isa::{FaultKind, fault_text, parse};
 use requests::{Chosen, choose};
 use snapshots::Naming;
@@ -21,6 +18,7 @@ use std::alloc::Global;
 use std::io::{BufRead, Read, Write};
 use std::marker::Brand;
 use std::sync::Wait;
+use without_threads::{MOST_TAKEN, refused};
 
 /// Reads the listing, drives its unit by the commands of the script, one a line, and writes what is
 /// answered. The status is 0 at the end of the script, and 2 for a listing with a fault, whose line
@@ -175,26 +173,18 @@ fn drive_by<J: Naming, T: Wait, I: BufRead, W: Write>(
     let mut driven = Session::<Chosen, J>::new(alloc, program, &hand.config, predictor)?;
     let told = drive::drive(wait, alloc, &mut driven, script, writer);
     driven.end(wait);
-    told?;
-    Ok(())
-}
-
-impl From<Memory> for Refusal {
-    ghost from_gives = { λ _ refusal. refusal ≡ Memory };
-
-    fn from(_memory: Memory) -> Refusal {
-        Refusal::Memory
+    match told {
+        Ok(()) => Ok(()),
+        Err(fault) => Err(script_refusal(fault)),
     }
 }
 
-impl From<Fault> for Refusal {
-    ghost from_gives = { λ e refusal. refusal ≡ script_refusal e };
-
-    fn from(fault: Fault) -> Refusal {
-        match fault {
-            Fault::Read => Refusal::Read,
-            Fault::Memory => Refusal::Memory,
-            Fault::Write => Refusal::Write,
-        }
+fn script_refusal(fault: Fault) -> Refusal
+    ensures { result ≡ script_refusal fault }
+{
+    match fault {
+        Fault::Read => Refusal::Read,
+        Fault::Memory => Refusal::Memory,
+        Fault::Write => Refusal::Write,
     }
 }

@@ -1,18 +1,19 @@
 //! The run that a command line asks for.
 ghost use Rattle.std.specs.Prelude.{◌≡◌, ◌≢◌, ◌+◌, ◌-◌, ◌^◌, ◌<◌, IfSome, IfOk, IfErr, OnOk, None, true};
 ghost use Rattle.devices.specs.Counted.{failures_of, known_by, Gives, GivesPart};
-ghost use Rattle.command.specs.Answers.{HasAnswer, IsAsAlone};
-ghost use Rattle.command.specs.Went.{HoldsOfInput, IsOfOneThread, IsWhole, IsWritten, refused, went_of};
-ghost use Rattle.command.specs.declared.went.Line.TheVariants.{Refused};
-ghost use Rattle.command.specs.declared.went.Went.{Went};
+ghost use Rattle.without_threads.specs.Answers.{HasAnswer, IsAsAlone};
+ghost use Rattle.without_threads.specs.Went.{HoldsOfInput, IsOfOneThread, IsWhole, IsWritten, refused, went_of};
+ghost use Rattle.without_threads.specs.declared.went.Line.TheVariants.{Refused};
+ghost use Rattle.without_threads.specs.declared.went.Went.{Went};
 
-use crate::{Asked, Line, Refusal, Went, one_thread, threads};
+use crate::{Asked, Refusal, Went, threads};
 use devices::Counted;
 use pool::Gate;
 use std::alloc::Global;
 use std::io::{Read, Write};
 use std::sync::Wait;
 use std::thread::Threads;
+use without_threads::refused;
 
 /// Reads the listing, runs it and writes its report, or the line of the fault in its text. There is
 /// no reader where the file did not open. A failed read or write is not tried again. The gate
@@ -88,17 +89,8 @@ fn ended<T: Threads + Wait + Sync, R: Read, W: Write, G: Gate + Sync>(
     ensures silent { IfErr result (λ refusal. refusal ≢ Refusal.Write → writer.new ≡ writer.old) }
 {
     if asked.alone {
-        one_thread::run(alloc, asked, reader, writer)
+        without_threads::run(alloc, asked, reader, writer)
     } else {
         threads::run(wait, alloc, asked, reader, writer, gate)
-    }
-}
-
-pub(crate) fn refused(refusal: Refusal) -> Went
-    ensures { result ≡ refused refusal }
-{
-    Went {
-        status: 5,
-        line: Line::Refused(refusal),
     }
 }

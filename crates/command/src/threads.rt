@@ -3,12 +3,12 @@ ghost use Rattle.std.specs.Prelude.{◌≡◌, ◌≢◌, ◌+◌, ◌-◌, ◌^
 ghost use Rattle.isa.specs.Listing.{listing};
 ghost use Rattle.devices.specs.Counted.{failures_of, known_by, Gives, GivesPart};
 ghost use Rattle.pool.specs.Runs.{IsRight, IsWithin, TakesTurns};
-ghost use Rattle.command.specs.Answers.{HasAnswer, IsAnswer, ended_of};
+ghost use Rattle.without_threads.specs.Answers.{HasAnswer, IsAnswer};
+ghost use Rattle.command.specs.Threads.{ended_of, pool_refusal};
 ghost use Rattle.requests.specs.Predictors.{IsChosen};
-ghost use Rattle.command.specs.Went.{IsWritten};
-ghost use Rattle.command.specs.declared.went.Went.{Went};
+ghost use Rattle.without_threads.specs.Went.{IsWritten};
+ghost use Rattle.without_threads.specs.declared.went.Went.{Went};
 
-use crate::statuses::written;
 use crate::{Asked, Line, Refusal, Went};
 use bench::Status;
 use devices::{Counted, read_up_to, write_whole};
@@ -20,9 +20,7 @@ use std::alloc::Global;
 use std::io::{Read, Write};
 use std::sync::Wait;
 use std::thread::Threads;
-
-/// The most bytes that are taken: one more than a listing may have.
-pub(crate) const MOST_TAKEN: usize = 4_194_305;
+use without_threads::{MOST_TAKEN, written};
 
 /// Reads the listing, runs it on threads and writes its report.
 pub(crate) fn run<T: Threads + Wait + Sync, R: Read, W: Write, G: Gate + Sync>(
@@ -110,6 +108,15 @@ fn ended(run: Run) -> Result<(End, Tally), Refusal>
 {
     match run {
         Run::Ended(end, tally) | Run::LimitReached(end, tally) => Ok((end, tally)),
-        Run::Refused(refusal) => Err(Refusal::from(refusal)),
+        Run::Refused(refusal) => Err(pool_refusal(refusal)),
+    }
+}
+
+fn pool_refusal(refusal: pool::Refusal) -> Refusal
+    ensures { result ≡ pool_refusal refusal }
+{
+    match refusal {
+        pool::Refusal::Memory => Refusal::Memory,
+        pool::Refusal::Thread => Refusal::Thread,
     }
 }

@@ -1,7 +1,7 @@
 //! Files that do not open, readers and writers that fail.
 use crate::{Line, Refusal, Went, asked, go};
 use devices::Counted;
-use pool::{Open, Tally};
+use pool::Open;
 use std::alloc::Global;
 use std::io::{self, ErrorKind, Read, Write};
 use std::test::Fail;
@@ -159,40 +159,6 @@ fn a_writer_with_just_enough_room_gets_the_whole_text(rt: HostRuntime) -> Result
             assert_eq!(rt; writer.failures(), 0);
             assert_eq!(rt; writer.into_inner().taken.as_slice(), text);
         }
-    }
-    Ok(())
-}
-
-const TALLY: Tally = Tally {
-    lets: 1,
-    claims: 20,
-    finishes: 300,
-    stale: 4,
-    loads: 50,
-    retires: 600,
-    squashes: 7,
-    mends: 18_446_744_073_709_551_615,
-};
-
-#[test]
-fn a_line_names_what_was_refused_or_done(rt: HostRuntime) -> Result<(), Fail> {
-    let lines: [(Line, &str); 8] = [
-        (Line::Nothing, ""),
-        (
-            Line::Tally(TALLY),
-            "tally lets 1 claims 20 finishes 300 stale 4 loads 50 retires 600 squashes 7 \
-             mends 18446744073709551615",
-        ),
-        (Line::Refused(Refusal::Open), "ruu: open"),
-        (Line::Refused(Refusal::Read), "ruu: read"),
-        (Line::Refused(Refusal::Memory), "ruu: memory"),
-        (Line::Refused(Refusal::Thread), "ruu: thread"),
-        (Line::Refused(Refusal::Write), "ruu: write"),
-        (Line::Refused(Refusal::Trace), "ruu: trace"),
-    ];
-    for (line, text) in lines {
-        let shown = line.to_string(rt.alloc())?;
-        assert_eq!(rt; shown.as_str(), text);
     }
     Ok(())
 }

@@ -1,7 +1,6 @@
 //! What the threads of a run did, and runs that end early.
 use super::answer;
-use crate::{Line, Progress};
-use pool::Tally;
+use crate::Line;
 use std::process::Abort;
 use std::test::*;
 
@@ -19,27 +18,6 @@ fn each_step_is_told_once(rt: HostRuntime) -> Result<(), Fail> {
             "{units}"
         );
     }
-    Ok(())
-}
-
-// What a program may do with the tallies that its gate is told.
-#[test]
-fn progress_is_told_in_the_words_of_a_tally(rt: HostRuntime) -> Result<(), Fail> {
-    let tally = Tally {
-        lets: 1,
-        claims: 2,
-        finishes: 3,
-        stale: 4,
-        loads: 5,
-        retires: 6,
-        squashes: 7,
-        mends: 8,
-    };
-    let line = Progress { tally }.to_string(rt.alloc())?;
-    assert_eq!(rt;
-        line.as_str(),
-        "progress lets 1 claims 2 finishes 3 stale 4 loads 5 retires 6 squashes 7 mends 8"
-    );
     Ok(())
 }
 

@@ -1,10 +1,10 @@
-use Rattle.command.proofs.Driven.{script_part}
+use Rattle.std.proofs.Common.{◌∙◌, sym}
+use Rattle.command.proofs.Driven.{write_of}
 use Rattle.command.proofs.hand.drive_by.Goals as goal
 
-pub returns-in_err-told-clause-broken : goal.returns-in_err-told-clause-broken
-returns-in_err-told-clause-broken g c =
-    script_part c.from_residual-in_err-told.result c.in_err-told.field-0.0 c.from_residual-in_err-told.ensures.1 (λ is. record {
-      first = c.in_ok-driven.driven;
-      starts = c.in_ok-driven.ensures;
-      broken = c.in_err-told.ensures.broken is;
-    })
+pub returns-in-Err-clause-broken : goal.returns-in-Err-clause-broken
+returns-in-Err-clause-broken g c = λ is. record {
+  first = c.in_ok-driven.driven;
+  starts = c.in_ok-driven.ensures;
+  broken = c.in-Err.ensures.broken (write_of c.in-Err.fault (sym c.script_refusal.ensures ∙ is));
+}

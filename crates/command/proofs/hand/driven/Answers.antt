@@ -1,8 +1,8 @@
 use Rattle.command.specs.ByHand.{IsBroken, IsDriven, IsLeft}
-use Rattle.command.specs.declared.went.Refusal.{Refusal}
-use Rattle.command.specs.declared.went.Refusal.TheVariants.{Write}
+use Rattle.without_threads.specs.declared.went.Refusal.{Refusal}
+use Rattle.without_threads.specs.declared.went.Refusal.TheVariants.{Write}
 use Rattle.std.proofs.Common.{◌≡◌, ◌≢◌}
-use Rattle.command.proofs.Driven.{err_taken, ok_taken}
+use Rattle.without_threads.proofs.Taken.{err_taken, ok_taken}
 use Rattle.command.proofs.hand.driven.Goals as goal
 
 pub returns-clause-ok : goal.returns-clause-ok

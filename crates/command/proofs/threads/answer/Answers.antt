@@ -1,6 +1,6 @@
 use Rattle.std.proofs.Common.{sym, string_bytes}
 use Rattle.isa.specs.Listing.{listing}
-use Rattle.command.proofs.Answered.{pool_answers}
+use Rattle.command.proofs.ThreadAnswers.{pool_answers}
 use Rattle.command.proofs.threads.answer.Goals as goal
 
 pub returns-in_ok-text-in-Ok-clause-ok : goal.returns-in_ok-text-in-Ok-clause-ok

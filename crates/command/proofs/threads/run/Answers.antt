@@ -1,6 +1,6 @@
 use Rattle.std.proofs.Common.{◌∙◌, string_bytes}
 use Rattle.devices.specs.Counted.{Gives, GivesPart}
-use Rattle.command.proofs.Answered.{answer_taken, on_write, part_taken}
+use Rattle.without_threads.proofs.Answered.{answer_taken, on_write, part_taken}
 use Rattle.command.proofs.threads.run.Goals as goal
 
 pub returns-in_err-write_whole-clause-part : goal.returns-in_err-write_whole-clause-part

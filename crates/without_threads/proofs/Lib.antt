@@ -1,0 +1,4 @@
+pub mod Answered
+mod Checked
+mod Pictures
+pub mod Taken

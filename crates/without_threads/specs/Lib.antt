@@ -1,0 +1,3 @@
+pub mod Went
+pub mod Answers
+pub mod Watched

@@ -1,0 +1,105 @@
+-- How a run went.
+use Rattle.std.specs.Prelude.{◌≡◌, ◌≢◌, ℕ, ⊤, Result, Ok, Err, List, [], ◌++◌, codes, decimal, Option, IfSome}
+use Rattle.devices.specs.Counted.{known_by}
+use Rattle.devices.specs.declared.counted.Counted.{Counted}
+use Rattle.devices.specs.declared.input.InputFault.{InputFault}
+use Rattle.devices.specs.declared.input.InputFault.TheVariants as input
+use Rattle.bench.specs.declared.outcome.Fault.{Fault}
+use Rattle.bench.specs.declared.outcome.Fault.TheVariants as fault
+use Rattle.bench.specs.declared.outcome.Status.{Status}
+use Rattle.bench.specs.declared.outcome.Status.TheVariants as end
+use Rattle.charts.specs.declared.watched.Fault.{Fault as ChartFault}
+use Rattle.charts.specs.declared.watched.Fault.TheVariants as chart
+use Rattle.counts.specs.declared.tally.Tally.{Tally as Totals}
+use Rattle.without_threads.specs.declared.went.Went.{Went}
+use Rattle.without_threads.specs.declared.went.Line.{Line}
+use Rattle.without_threads.specs.declared.went.Line.TheVariants.{Nothing, Tally, Refused}
+use Rattle.without_threads.specs.declared.went.Refusal.{Refusal}
+use Rattle.without_threads.specs.declared.went.Refusal.TheVariants.{Open, Read, Memory, Thread, Write, Trace}
+
+-- the exit status of a run that was written down
+abbrev pub status_number : Status → ℕ
+status_number end.Break = 0
+status_number end.Stopped = 1
+status_number end.TextFault = 2
+status_number end.Limit = 4
+
+-- a run whose text was written whole
+abbrev pub written : Status → Line → Went
+written status line = record { status = status_number status; line = line }
+
+-- a run that was refused
+abbrev pub refused : Refusal → Went
+refused refusal = record { status = 5; line = Refused refusal }
+
+-- what is refused where the input was not read to its end, and by the one-thread unit
+abbrev pub input_refusal : InputFault → Refusal
+input_refusal input.Read = Read
+input_refusal input.Memory = Memory
+
+abbrev pub refusal_of : Fault → Refusal
+refusal_of fault.Read = Read
+refusal_of fault.Memory = Memory
+refusal_of fault.Write = Write
+
+-- what is refused where a chart was not told to its end
+abbrev pub chart_refusal : ChartFault → Refusal
+chart_refusal chart.Memory = Memory
+chart_refusal chart.Write = Write
+
+-- a run, or its refusal
+abbrev pub went_of : Result Went Refusal → Went
+went_of (Ok went) = went
+went_of (Err refusal) = refused refusal
+
+-- the whole text was written
+abbrev pub IsWritten : Line → Type 0
+IsWritten Nothing = ⊤
+IsWritten (Tally totals) = ⊤
+IsWritten (Refused refusal) = ⊥
+
+-- it came to its end: without threads, at a stop or a fault of the text, or with as many instructions as the limit
+-- allows
+pub data IsWhole (limit : ℕ) (went : Went) : Type 0 where
+  WithoutThreads : went.line ≡ Nothing → IsWhole limit went
+  AtAStop : went.status ≢ status_number end.Limit → IsWhole limit went
+  AtTheLimit : (totals : Totals) → went.line ≡ Tally totals → totals.retires ≡ limit → IsWhole limit went
+
+-- it may be told of a run without threads: none was refused, and none has counted
+abbrev pub IsOfOneThread : Line → Type 0
+IsOfOneThread Nothing = ⊤
+IsOfOneThread (Tally totals) = ⊥
+IsOfOneThread (Refused Thread) = ⊥
+IsOfOneThread (Refused refusal) = ⊤
+
+-- the line for standard error
+abbrev pub refusal_text : Refusal → List ℕ
+refusal_text Open = codes "open"
+refusal_text Read = codes "read"
+refusal_text Memory = codes "memory"
+refusal_text Thread = codes "thread"
+refusal_text Write = codes "write"
+refusal_text Trace = codes "trace"
+
+abbrev pub totals_text : List ℕ → Totals → List ℕ
+totals_text first t =
+    first ++ (decimal t.lets ++ (codes " claims " ++ (decimal t.claims
+    ++ (codes " finishes " ++ (decimal t.finishes ++ (codes " stale " ++ (decimal t.stale
+    ++ (codes " loads " ++ (decimal t.loads ++ (codes " retires " ++ (decimal t.retires
+    ++ (codes " squashes " ++ (decimal t.squashes ++ (codes " mends " ++ decimal t.mends))))))))))))))
+
+abbrev pub tally_text : Totals → List ℕ
+tally_text = totals_text (codes "tally lets ")
+
+-- the line while it runs
+abbrev pub progress_text : Totals → List ℕ
+progress_text = totals_text (codes "progress lets ")
+
+abbrev pub line_text : Line → List ℕ
+line_text Nothing = []
+line_text (Tally totals) = tally_text totals
+line_text (Refused refusal) = codes "ruu: " ++ refusal_text refusal
+
+-- P of the bytes that the reader has left, if there is a reader that tells them
+abbrev pub HoldsOfInput : {R : Type 0} → (R → Option (List ℕ)) → Option (Counted R) → (List ℕ → Type 0) → Type 0
+HoldsOfInput remaining reader P = IfSome reader (λ r. IfSome (known_by remaining r) P)

@@ -1,0 +1,112 @@
+//! What became of each instruction of a run: its chart and its log.
+ghost use Rattle.std.specs.Prelude.{◌≡◌, ◌≢◌, ◌+◌, ◌-◌, ◌^◌, ◌<◌, IfErr, OnOk, OnErr, is_some};
+ghost use Rattle.devices.specs.Counted.{failures_of, known_by};
+ghost use Rattle.without_threads.specs.Watched.{HasBegun, HasTold, IsPicture};
+ghost use Rattle.without_threads.specs.Watched.{log_failures, log_refusal, writer_failures};
+ghost use Rattle.without_threads.specs.Went.{IsOfOneThread, chart_refusal};
+ghost use Rattle.without_threads.specs.declared.went.Line.TheVariants.{Refused};
+
+use crate::Refusal;
+use charts::{Fault, Format, watch};
+use devices::Counted;
+use instructions::Program;
+use requests::{Asked, choose};
+use std::alloc::Global;
+use std::io::Write;
+
+/// The chart, where it is wanted.
+pub(crate) fn draw<W: Write>(
+    alloc: Global,
+    asked: &Asked<'_>,
+    program: &Program,
+    writer: &mut Counted<W>,
+) -> Result<(), Refusal>
+    requires room { failures_of writer.old < 2 ^ 64 - 1 }
+    ensures told { OnOk result (IsPicture asked.now.watch.chart Format.Chart asked.now program.now
+        (known_by W.contents writer.old) (known_by W.contents writer.new)) }
+    ensures quiet { OnOk result (failures_of writer.new ≡ failures_of writer.old) }
+    ensures err { IfErr result (λ refusal. IsOfOneThread (Refused refusal)) }
+    ensures opened { IfErr result (λ refusal. refusal ≢ Refusal.Open) }
+    ensures write { IfErr result (λ refusal.
+        failures_of writer.new ≡ failures_of writer.old + writer_failures refusal) }
+    ensures trace { IfErr result (λ refusal. log_failures refusal ≡ 0) }
+    ensures begun { OnErr result (HasBegun Format.Chart asked.now program.now
+        (known_by W.contents writer.old) (known_by W.contents writer.new)) }
+{
+    if asked.watch.chart {
+        picture(alloc, asked, program, Format::Chart, writer)?;
+    }
+    Ok(())
+}
+
+/// The log, where it is wanted.
+pub(crate) fn trace<L: Write>(
+    alloc: Global,
+    asked: &Asked<'_>,
+    program: &Program,
+    log: &mut Counted<L>,
+) -> Result<(), Refusal>
+    requires room { failures_of log.old < 2 ^ 64 - 1 }
+    ensures told { OnOk result (IsPicture (is_some asked.now.watch.log) Format.Kanata asked.now
+        program.now (known_by L.contents log.old) (known_by L.contents log.new)) }
+    ensures quiet { OnOk result (failures_of log.new ≡ failures_of log.old) }
+    ensures err { IfErr result (λ refusal. IsOfOneThread (Refused refusal)) }
+    ensures opened { IfErr result (λ refusal. refusal ≢ Refusal.Open) }
+    ensures write { IfErr result (λ refusal. writer_failures refusal ≡ 0) }
+    ensures trace { IfErr result (λ refusal.
+        failures_of log.new ≡ failures_of log.old + log_failures refusal) }
+    ensures begun { OnErr result (HasBegun Format.Kanata asked.now program.now
+        (known_by L.contents log.old) (known_by L.contents log.new)) }
+{
+    if asked.watch.log.is_none() {
+        return Ok(());
+    }
+    match picture(alloc, asked, program, Format::Kanata, log) {
+        Ok(()) => Ok(()),
+        Err(fault) => Err(log_refusal(fault)),
+    }
+}
+
+// The run again, told turn by turn.
+fn picture<W: Write>(
+    alloc: Global,
+    asked: &Asked<'_>,
+    program: &Program,
+    format: Format,
+    writer: &mut Counted<W>,
+) -> Result<(), Fault>
+    requires { failures_of writer.old < 2 ^ 64 - 1 }
+    ensures told { OnOk result (HasTold format asked.now program.now
+        (known_by W.contents writer.old) (known_by W.contents writer.new)) }
+    ensures begun { OnErr result (HasBegun format asked.now program.now
+        (known_by W.contents writer.old) (known_by W.contents writer.new)) }
+    ensures quiet { OnOk result (failures_of writer.new ≡ failures_of writer.old) }
+    ensures write { IfErr result (λ fault. fault ≡ Fault.Write →
+        failures_of writer.new ≡ failures_of writer.old + 1) }
+    ensures memory { IfErr result (λ fault. fault ≡ Fault.Memory →
+        failures_of writer.new ≡ failures_of writer.old) }
+{
+    let predictor = choose(asked.predictor);
+    watch(alloc, program, &asked.config, predictor, format, writer)?;
+    Ok(())
+}
+
+fn log_refusal(fault: Fault) -> Refusal
+    ensures { result ≡ log_refusal fault }
+{
+    match fault {
+        Fault::Memory => Refusal::Memory,
+        Fault::Write => Refusal::Trace,
+    }
+}
+
+impl From<Fault> for Refusal {
+    ghost from_gives = { λ e refusal. refusal ≡ chart_refusal e };
+
+    fn from(fault: Fault) -> Refusal {
+        match fault {
+            Fault::Memory => Refusal::Memory,
+            Fault::Write => Refusal::Write,
+        }
+    }
+}

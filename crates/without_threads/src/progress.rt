@@ -1,0 +1,32 @@
+//! What is told while the threads run.
+ghost use Rattle.std.specs.Prelude.{Some};
+ghost use Rattle.without_threads.specs.Went.{progress_text};
+
+use counts::Tally;
+use std::fmt;
+
+/// A tally of threads that run. Its `Display` is the line that tells it, without a line feed.
+#[derive(Clone, Copy, Debug, PartialEq, Eq)]
+pub struct Progress {
+    pub tally: Tally,
+}
+
+impl fmt::Display for Progress {
+    ghost output = { λ progress. Some (progress_text progress.tally) };
+
+    fn fmt<W: fmt::Write>(&self, f: &mut fmt::Formatter<W>) -> fmt::Result {
+        let tally = self.tally;
+        write!(
+            f,
+            "progress lets {} claims {} finishes {} stale {} loads {} retires {} squashes {} mends {}",
+            tally.lets,
+            tally.claims,
+            tally.finishes,
+            tally.stale,
+            tally.loads,
+            tally.retires,
+            tally.squashes,
+            tally.mends,
+        )
+    }
+}

@@ -1,0 +1,6 @@
+//! What needs no threads: devices that fail, and what is written.
+mod alone;
+mod checking;
+mod failing;
+mod lines;
+mod watching;

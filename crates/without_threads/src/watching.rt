@@ -1,0 +1,180 @@
+//! A run of the one-thread unit whose turns are told.
+ghost use Rattle.std.specs.Prelude.{◌≡◌, ◌≢◌, ◌+◌, ◌-◌, ◌^◌, ◌<◌, IfSome, IfOk, IfErr, Ok, OnOk, OnErr, None};
+ghost use Rattle.isa.specs.Listing.{listing};
+ghost use Rattle.devices.specs.Counted.{failures_of, known_by};
+ghost use Rattle.inorder.specs.Runs.{end_of};
+ghost use Rattle.unit.specs.Changes.{end_state};
+ghost use Rattle.without_threads.specs.Watched.{IsBegun, IsWatched, log_failures, outputs, writer_failures};
+ghost use Rattle.without_threads.specs.Went.{HoldsOfInput, IsOfOneThread, refused, status_number};
+ghost use Rattle.without_threads.specs.declared.went.Line.TheVariants.{Nothing, Refused};
+
+use crate::drawing::{draw, trace};
+use crate::{Line, MOST_TAKEN, Refusal, Went, refused, written};
+use bench::{Bench, Status};
+use devices::{Counted, read_up_to, write_whole};
+use instructions::{End, Memory, Program};
+use isa::{FaultKind, fault_text, parse, report_text};
+use requests::{Asked, choose};
+use std::alloc::Global;
+use std::io::{Read, Write};
+
+/// Reads the listing, runs it on the one-thread unit and writes its report; then, as they are asked
+/// for, the chart of that run behind the report, and its log. For a listing with a fault its line is
+/// written, and nothing else. There is no reader where the file did not open. A failed read or write
+/// is not tried again.
+pub fn go_watched<R: Read + Drop, W: Write, L: Write>(
+    alloc: Global,
+    asked: &Asked<'_>,
+    reader: Option<Counted<R>>,
+    writer: &mut Counted<W>,
+    log: &mut Counted<L>,
+) -> Went
+    requires reader_room { IfSome reader (λ r. failures_of r < 2 ^ 64 - 1) }
+    requires writer_room { failures_of writer.old < 2 ^ 64 - 1 }
+    requires log_room { failures_of log.old < 2 ^ 64 - 1 }
+    // Without a reader nothing is run, and only then is opening blamed.
+    ensures open { reader ≡ None → result ≡ refused Refusal.Open }
+    ensures opened { result.line ≡ Refused Refusal.Open → reader ≡ None }
+    // What was written whole is told of the reader's bytes.
+    ensures answer { result.line ≡ Nothing → HoldsOfInput R.remaining reader (λ input.
+        IsWatched asked.now (listing input) result.status
+        (outputs (known_by W.contents writer.old) (known_by L.contents log.old))
+        (outputs (known_by W.contents writer.new) (known_by L.contents log.new))) }
+    ensures quiet { result.line ≡ Nothing → failures_of writer.new ≡ failures_of writer.old }
+    ensures log_quiet { result.line ≡ Nothing → failures_of log.new ≡ failures_of log.old }
+    ensures line { IsOfOneThread result.line }
+    // A refusal has a status of its own.
+    ensures refused { (refusal : Refusal) → result.line ≡ Refused refusal →
+        result ≡ refused refusal }
+    // The writer, or the log, is blamed for one failed call, and only then.
+    ensures write { (refusal : Refusal) → result.line ≡ Refused refusal →
+        failures_of writer.new ≡ failures_of writer.old + writer_failures refusal }
+    ensures trace { (refusal : Refusal) → result.line ≡ Refused refusal →
+        failures_of log.new ≡ failures_of log.old + log_failures refusal }
+    // What was written before a refusal is a beginning, and each part waits for the one before it.
+    ensures begun { (refusal : Refusal) → result.line ≡ Refused refusal →
+        HoldsOfInput R.remaining reader (λ input. IsBegun asked.now (listing input)
+        (outputs (known_by W.contents writer.old) (known_by L.contents log.old))
+        (outputs (known_by W.contents writer.new) (known_by L.contents log.new))) }
+    ensures unopened { reader ≡ None → writer.new ≡ writer.old }
+    ensures log_unopened { reader ≡ None → log.new ≡ log.old }
+{
+    let Some(mut reader) = reader else {
+        return refused(Refusal::Open);
+    };
+    match watched(alloc, asked, &mut reader, writer, log) {
+        Ok(status) => written(status, Line::Nothing),
+        Err(refusal) => refused(refusal),
+    }
+}
+
+// The status, once all is written.
+fn watched<R: Read, W: Write, L: Write>(
+    alloc: Global,
+    asked: &Asked<'_>,
+    reader: &mut Counted<R>,
+    writer: &mut Counted<W>,
+    log: &mut Counted<L>,
+) -> Result<Status, Refusal>
+    requires reader_room { failures_of reader.old < 2 ^ 64 - 1 }
+    requires writer_room { failures_of writer.old < 2 ^ 64 - 1 }
+    requires log_room { failures_of log.old < 2 ^ 64 - 1 }
+    ensures ok { IfOk result (λ status. IfSome (known_by R.remaining reader.old) (λ input.
+        IsWatched asked.now (listing input) (status_number status)
+        (outputs (known_by W.contents writer.old) (known_by L.contents log.old))
+        (outputs (known_by W.contents writer.new) (known_by L.contents log.new)))) }
+    ensures quiet { OnOk result (failures_of writer.new ≡ failures_of writer.old) }
+    ensures log_quiet { OnOk result (failures_of log.new ≡ failures_of log.old) }
+    ensures err { IfErr result (λ refusal. IsOfOneThread (Refused refusal)) }
+    ensures opened { IfErr result (λ refusal. refusal ≢ Refusal.Open) }
+    ensures write { IfErr result (λ refusal.
+        failures_of writer.new ≡ failures_of writer.old + writer_failures refusal) }
+    ensures trace { IfErr result (λ refusal.
+        failures_of log.new ≡ failures_of log.old + log_failures refusal) }
+    ensures begun { OnErr result (IfSome (known_by R.remaining reader.old) (λ input.
+        IsBegun asked.now (listing input)
+        (outputs (known_by W.contents writer.old) (known_by L.contents log.old))
+        (outputs (known_by W.contents writer.new) (known_by L.contents log.new)))) }
+{
+    let listing = read_up_to(alloc, reader, MOST_TAKEN)?;
+    told(alloc, asked, listing.as_slice(), writer, log)
+}
+
+// The same for the bytes of a listing.
+fn told<W: Write, L: Write>(
+    alloc: Global,
+    asked: &Asked<'_>,
+    bytes: &[u8],
+    writer: &mut Counted<W>,
+    log: &mut Counted<L>,
+) -> Result<Status, Refusal>
+    requires writer_room { failures_of writer.old < 2 ^ 64 - 1 }
+    requires log_room { failures_of log.old < 2 ^ 64 - 1 }
+    ensures ok { IfOk result (λ status.
+        IsWatched asked.now (listing bytes.now) (status_number status)
+        (outputs (known_by W.contents writer.old) (known_by L.contents log.old))
+        (outputs (known_by W.contents writer.new) (known_by L.contents log.new))) }
+    ensures quiet { OnOk result (failures_of writer.new ≡ failures_of writer.old) }
+    ensures log_quiet { OnOk result (failures_of log.new ≡ failures_of log.old) }
+    ensures err { IfErr result (λ refusal. IsOfOneThread (Refused refusal)) }
+    ensures opened { IfErr result (λ refusal. refusal ≢ Refusal.Open) }
+    ensures write { IfErr result (λ refusal.
+        failures_of writer.new ≡ failures_of writer.old + writer_failures refusal) }
+    ensures trace { IfErr result (λ refusal.
+        failures_of log.new ≡ failures_of log.old + log_failures refusal) }
+    ensures begun { OnErr result (IsBegun asked.now (listing bytes.now)
+        (outputs (known_by W.contents writer.old) (known_by L.contents log.old))
+        (outputs (known_by W.contents writer.new) (known_by L.contents log.new))) }
+{
+    match parse(alloc, bytes) {
+        Ok(program) => told_of(alloc, asked, &program, writer, log),
+        Err(fault) if fault.kind == FaultKind::Memory => Err(Refusal::Memory),
+        Err(fault) => {
+            let text = fault_text(alloc, &fault)?;
+            write_whole(writer, text.as_str().as_bytes())?;
+            Ok(Status::TextFault)
+        },
+    }
+}
+
+// The same for a program: its report, then the chart, then the log.
+fn told_of<W: Write, L: Write>(
+    alloc: Global,
+    asked: &Asked<'_>,
+    program: &Program,
+    writer: &mut Counted<W>,
+    log: &mut Counted<L>,
+) -> Result<Status, Refusal>
+    requires writer_room { failures_of writer.old < 2 ^ 64 - 1 }
+    requires log_room { failures_of log.old < 2 ^ 64 - 1 }
+    ensures ok { IfOk result (λ status.
+        IsWatched asked.now (Ok program.now) (status_number status)
+        (outputs (known_by W.contents writer.old) (known_by L.contents log.old))
+        (outputs (known_by W.contents writer.new) (known_by L.contents log.new))) }
+    ensures quiet { OnOk result (failures_of writer.new ≡ failures_of writer.old) }
+    ensures log_quiet { OnOk result (failures_of log.new ≡ failures_of log.old) }
+    ensures err { IfErr result (λ refusal. IsOfOneThread (Refused refusal)) }
+    ensures opened { IfErr result (λ refusal. refusal ≢ Refusal.Open) }
+    ensures write { IfErr result (λ refusal.
+        failures_of writer.new ≡ failures_of writer.old + writer_failures refusal) }
+    ensures trace { IfErr result (λ refusal.
+        failures_of log.new ≡ failures_of log.old + log_failures refusal) }
+    ensures begun { OnErr result (IsBegun asked.now (Ok program.now)
+        (outputs (known_by W.contents writer.old) (known_by L.contents log.old))
+        (outputs (known_by W.contents writer.new) (known_by L.contents log.new))) }
+{
+    let end = ran(alloc, asked, program)?;
+    let report = report_text(alloc, &end)?;
+    write_whole(writer, report.as_str().as_bytes())?;
+    draw(alloc, asked, program, writer)?;
+    trace(alloc, asked, program, log)?;
+    Ok(Status::of(end.outcome))
+}
+
+// How a run ends.
+fn ran(alloc: Global, asked: &Asked<'_>, program: &Program) -> Result<End, Memory>
+    ensures { IfOk result (λ end. end_state end ≡ end_of program.now asked.now.config.limit) }
+{
+    let bench = Bench::new(alloc, program, &asked.config, choose(asked.predictor))?;
+    Ok(bench.run(u64::from(asked.config.limit())))
+}

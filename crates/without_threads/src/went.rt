@@ -1,0 +1,131 @@
+//! How a run went.
+ghost use Rattle.std.specs.Prelude.{◌≡◌, Some};
+ghost use Rattle.without_threads.specs.Went.{line_text, refusal_text};
+ghost use Rattle.without_threads.specs.Went.{input_refusal, refusal_of};
+ghost use Rattle.without_threads.specs.declared.went.Refusal.TheVariants.{Memory, Write};
+
+use bench::Fault;
+use counts::Tally;
+use devices::{InputFault, WriteFailed};
+use std::alloc::AllocError;
+use std::fmt;
+
+/// How a run went: the exit status of the program, and what standard error is told.
+#[derive(Clone, Copy, Debug, PartialEq, Eq)]
+pub struct Went {
+    pub status: u8,
+    pub line: Line,
+}
+
+/// What standard error is told of a run. Its `Display` is that line, without a line feed.
+#[derive(Clone, Copy, Debug, PartialEq, Eq)]
+pub enum Line {
+    /// Nothing, not even an empty line.
+    Nothing,
+    /// What the threads of a run did, once its report was written.
+    Tally(Tally),
+    /// There was no run to its end.
+    Refused(Refusal),
+}
+
+/// What a run wanted and did not get.
+#[derive(Clone, Copy, Debug, PartialEq, Eq)]
+pub enum Refusal {
+    /// The file did not open.
+    Open,
+    /// The file could not be read.
+    Read,
+    /// Memory ran out.
+    Memory,
+    /// A thread could not be started.
+    Thread,
+    /// The report, or the chart behind it, could not be written.
+    Write,
+    /// The log could not be written.
+    Trace,
+}
+
+impl fmt::Display for Line {
+    ghost output = { λ line. Some (line_text line) };
+
+    fn fmt<W: fmt::Write>(&self, f: &mut fmt::Formatter<W>) -> fmt::Result {
+        match self {
+            Line::Nothing => Ok(()),
+            Line::Tally(tally) => write!(
+                f,
+                "tally lets {} claims {} finishes {} stale {} loads {} retires {} squashes {} mends {}",
+                tally.lets,
+                tally.claims,
+                tally.finishes,
+                tally.stale,
+                tally.loads,
+                tally.retires,
+                tally.squashes,
+                tally.mends,
+            ),
+            Line::Refused(refusal) => write!(f, "ruu: {refusal}"),
+        }
+    }
+}
+
+impl fmt::Display for Refusal {
+    ghost output = { λ refusal. Some (refusal_text refusal) };
+
+    fn fmt<W: fmt::Write>(&self, f: &mut fmt::Formatter<W>) -> fmt::Result {
+        f.write_str(match self {
+            Refusal::Open => "open",
+            Refusal::Read => "read",
+            Refusal::Memory => "memory",
+            Refusal::Thread => "thread",
+            Refusal::Write => "write",
+            Refusal::Trace => "trace",
+        })
+    }
+}
+
+impl From<InputFault> for Refusal {
+    ghost from_gives = { λ e refusal. refusal ≡ input_refusal e };
+
+    fn from(fault: InputFault) -> Refusal {
+        match fault {
+            InputFault::Read => Refusal::Read,
+            InputFault::Memory => Refusal::Memory,
+        }
+    }
+}
+
+impl From<AllocError> for Refusal {
+    ghost from_gives = { λ _ refusal. refusal ≡ Memory };
+
+    fn from(_error: AllocError) -> Refusal {
+        Refusal::Memory
+    }
+}
+
+impl From<instructions::Memory> for Refusal {
+    ghost from_gives = { λ _ refusal. refusal ≡ Memory };
+
+    fn from(_memory: instructions::Memory) -> Refusal {
+        Refusal::Memory
+    }
+}
+
+impl From<WriteFailed> for Refusal {
+    ghost from_gives = { λ _ refusal. refusal ≡ Write };
+
+    fn from(_failed: WriteFailed) -> Refusal {
+        Refusal::Write
+    }
+}
+
+impl From<Fault> for Refusal {
+    ghost from_gives = { λ e refusal. refusal ≡ refusal_of e };
+
+    fn from(fault: Fault) -> Refusal {
+        match fault {
+            Fault::Read => Refusal::Read,
+            Fault::Memory => Refusal::Memory,
+            Fault::Write => Refusal::Write,
+        }
+    }
+}
