@@ -1,5 +1,5 @@
 -- Which stations were hinted.
-use Rattle.std.proofs.Common.{◌≡◌, ◌≢◌, ◌⊎◌, ℕ, ◌+◌, ◌*◌, ◌<◌, ◌≤◌, ◌%◌, Bool, true, false, IsTrue, IsFalse, List, [], ◌∷◌, ◌++◌, All, Contains, ◌∙◌, ⊎_elim, inl, inr, ap, sym, subst, arith}
+use Rattle.std.proofs.Common.{◌≡◌, ◌≢◌, ◌⊎◌, ℕ, ◌+◌, ◌*◌, ◌<◌, ◌≤◌, ◌%◌, Bool, true, false, IsTrue, IsFalse, List, [], ◌∷◌, ◌++◌, All, Contains, ◌∙◌, ⊎_elim, inl, inr, refl, ap, sym, subst, arith}
 use Rattle.std.proofs.lemmas.List.{append_assoc, append-nil}
 use Rattle.std.proofs.lemmas.List.Elements.{All-nil, All-push, Contains-append_left, Contains-append_right}
 use Rattle.hints.specs.declared.hands.Hand.{Hand}
@@ -59,5 +59,5 @@ hinted ring woken i old new set h =
 
 -- the next station was hinted, or found the queue full
 pub put_or_dropped : (ring woken i : ℕ) (old new then : Hand) (is_put : Bool) → IsSet woken i → (IsTrue is_put → then ≡ putting i new) → (IsFalse is_put → then ≡ new) → (IsFalse is_put → HasHeld ring new (2 * ring)) → HasHinted ring woken i old new → HasHinted ring woken (i + 1) old then
-put_or_dropped ring woken i old new then true set put kept full h = subst (λ z. HasHinted ring woken (i + 1) old z) (sym (put tt)) (hinted ring woken i old new set h)
-put_or_dropped ring woken i old new then false set put kept full h = subst (λ z. HasHinted ring woken (i + 1) old z) (sym (kept tt)) (dropped ring woken i old new new (full tt) h)
+put_or_dropped ring woken i old new then true set put kept full h = subst (λ z. HasHinted ring woken (i + 1) old z) (sym (put refl)) (hinted ring woken i old new set h)
+put_or_dropped ring woken i old new then false set put kept full h = subst (λ z. HasHinted ring woken (i + 1) old z) (sym (kept refl)) (dropped ring woken i old new new (full refl) h)
