@@ -1,10 +1,10 @@
 -- Which stations were hinted.
-use Rattle.std.proofs.Common.{◌≡◌, ◌≢◌, ◌⊎◌, ℕ, ◌+◌, ◌*◌, ◌<◌, ◌≤◌, ◌%◌, Bool, true, false, IsTrue, IsFalse, List, [], ◌∷◌, ◌++◌, All, Contains, ◌∙◌, ⊎_elim, inl, inr, refl, ap, sym, subst, arith}
+use Rattle.std.proofs.Common.{◌≡◌, ◌⊎◌, ℕ, ◌+◌, ◌*◌, ◌<◌, ◌≤◌, ◌%◌, Bool, true, false, IsTrue, IsFalse, [], ◌∷◌, ◌++◌, ◌∙◌, ⊎_elim, inl, inr, refl, ap, sym, subst, arith}
 use Rattle.std.proofs.lemmas.List.{append_assoc, append-nil}
 use Rattle.std.proofs.lemmas.List.Elements.{All-nil, All-push, Contains-append_left, Contains-append_right}
 use Rattle.hints.specs.declared.hands.Hand.{Hand}
 use Rattle.hints.specs.Hinted.{HasHeld, hand, putting}
-use Rattle.pool.specs.HintsPut.{HasHinted, WasFull}
+use Rattle.pool.specs.HintsPut.{HasHinted}
 use Rattle.station.specs.Waking.{IsSet}
 
 -- a station of a ring

@@ -1,7 +1,6 @@
 -- What is hinted to the units, and where a unit looks for work.
 use Rattle.std.specs.Prelude.{◌≡◌, ◌⊎◌, ℕ, ◌+◌, ◌*◌, ◌<◌, ◌%◌, List, ◌++◌, All, Contains}
-use Rattle.atomic_table.specs.Seated.{TableId}
-use Rattle.crossbeam_queue.specs.Passes.{Pass, view}
+use Rattle.crossbeam_queue.specs.Passes.{view}
 use Rattle.hints.specs.declared.hands.Hand.{Hand}
 use Rattle.hints.specs.Hinted.{HasHeld, IsOf, TheHints, hand, taking}
 use Rattle.pool.specs.declared.search.Candidate.{Candidate}

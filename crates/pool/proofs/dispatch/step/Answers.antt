@@ -1,4 +1,4 @@
-use Rattle.std.proofs.Common.{◌<◌, arith, rules, subst, sym}
+use Rattle.std.proofs.Common.{◌<◌, arith}
 use Rattle.pool.proofs.HintsPut.{in_ring}
 use Rattle.pool.proofs.dispatch.step.Goals as goal
 
