@@ -182,7 +182,12 @@ impl<J: Naming, K: Bounds + Ring> Committer<J, K> {
     }
 
     // Commits until the program has ended, the limit is reached or no turn is left.
-    fn turns<G: Gate, R: Wait>(&mut self, wait: &R, floor: &Floor<K>, gate: &G) -> Result<Why, Memory>
+    fn turns<G: Gate, R: Wait>(
+        &mut self,
+        wait: &R,
+        floor: &Floor<K>,
+        gate: &G,
+    ) -> Result<Why, Memory>
         requires core { self.old.back.core ≡ floor.now.core }
         requires counts { floor.now.counts ≡ K.counts }
         requires hints { floor.now.hints.ring ≡ floor.now.core.sizes.ring }
@@ -203,7 +208,12 @@ impl<J: Naming, K: Bounds + Ring> Committer<J, K> {
     }
 
     // The same, and shows the last state.
-    fn shown<G: Gate, R: Wait>(&mut self, wait: &R, floor: &Floor<K>, gate: &G) -> Result<Why, Memory>
+    fn shown<G: Gate, R: Wait>(
+        &mut self,
+        wait: &R,
+        floor: &Floor<K>,
+        gate: &G,
+    ) -> Result<Why, Memory>
         requires core { self.old.back.core ≡ floor.now.core }
         requires counts { floor.now.counts ≡ K.counts }
         requires hints { floor.now.hints.ring ≡ floor.now.core.sizes.ring }

@@ -46,13 +46,7 @@ fn compute<K: Ring>(floor: &Floor<K>, seat: &mut UnitSeat, job: Job) -> Finish
 
 // Waits while the gate holds the unit and it has turns left, and says how many it has then. Another unit
 // works meanwhile.
-fn wait_at<K: Ring, G: Gate>(
-    floor: &Floor<K>,
-    gate: &G,
-    unit: u32,
-    station: u32,
-    turns: u32,
-) -> u32
+fn wait_at<K: Ring, G: Gate>(floor: &Floor<K>, gate: &G, unit: u32, station: u32, turns: u32) -> u32
     ensures { result ≤ turns }
 {
     let mut left = turns;
@@ -109,11 +103,15 @@ fn finish<K: Ring, R: Wait>(
         floor.counts.add_work(&mut worker.count, Total::Stale, 1);
         return;
     }
-    floor
-        .counts
-        .add_work(&mut worker.count, Total::Finishes, 1);
+    floor.counts.add_work(&mut worker.count, Total::Finishes, 1);
     let woken = worker.seat.woken();
-    hint_each(wait, &floor.hints, &mut search.hinter, floor.core.ring(), woken);
+    hint_each(
+        wait,
+        &floor.hints,
+        &mut search.hinter,
+        floor.core.ring(),
+        woken,
+    );
 }
 
 // One turn, and as many more as the gate holds the unit: claims one station, and finishes the job that it gets.
@@ -172,7 +170,15 @@ pub(crate) fn work<K: Ring, G: Gate, R: Wait>(
     let mut rest = Rest::after(floor.core.ring() as u32 / 2);
     let mut left = floor.turns;
     while 0 < left && !floor.is_closed() {
-        left = turn(wait, floor, gate, &mut worker, &mut search, &mut rest, left - 1);
+        left = turn(
+            wait,
+            floor,
+            gate,
+            &mut worker,
+            &mut search,
+            &mut rest,
+            left - 1,
+        );
     }
     if left == 0 {
         floor.call(1);

@@ -38,12 +38,7 @@ fn start_dispatch<
     K: Ring + Send + Sync + 's,
     P: Predictor + Drop + Send + 's,
     R: Wait + Sync + 's,
->(
-    wait: &'s R,
-    scope: &Scope<'s, E>,
-    floor: &'s Floor<K>,
-    dispatcher: Dispatcher<P>,
-) -> bool
+>(wait: &'s R, scope: &Scope<'s, E>, floor: &'s Floor<K>, dispatcher: Dispatcher<P>) -> bool
     requires seat { IsUnused floor.now.core dispatcher.seat }
     requires count { dispatcher.count.of ≡ floor.now.counts }
     requires program { floor.now.program ≡ floor.now.core.program }

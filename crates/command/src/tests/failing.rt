@@ -172,6 +172,7 @@ const TALLY: Tally = Tally {
     retires: 600,
     squashes: 7,
     mends: 18_446_744_073_709_551_615,
+    hints: 9,
 };
 
 #[test]
@@ -181,7 +182,7 @@ fn a_line_names_what_was_refused_or_done(rt: HostRuntime) -> Result<(), Fail> {
         (
             Line::Tally(TALLY),
             "tally lets 1 claims 20 finishes 300 stale 4 loads 50 retires 600 squashes 7 \
-             mends 18446744073709551615",
+             mends 18446744073709551615 hints 9",
         ),
         (Line::Refused(Refusal::Open), "ruu: open"),
         (Line::Refused(Refusal::Read), "ruu: read"),
