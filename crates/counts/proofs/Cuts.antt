@@ -10,12 +10,12 @@ use Rattle.counts.specs.declared.shares.Shares.{Shares}
 use Rattle.counts.specs.declared.tally.Total.TheVariants.{Retires}
 use Rattle.counts.specs.Rule.{Summed, weight}
 use Rattle.counts.specs.Shares.{each, first_half, kept_half, merged, joined_of, no_parts, nothing, second_half, given_half, share, with_retires, without_retires}
-use Rattle.counts.specs.Totals.{position_of}
+use Rattle.counts.specs.Totals.{position_of, total_count}
 use Rattle.counts.proofs.EachShare.{share_each}
 use Rattle.counts.proofs.Parts.{IsCut, halves, joins, joins_idle, joins_some, next_power, twice, whole}
 use Rattle.counts.proofs.Sums.{every_push, every_set, sum_push, sum_set, sum_twice}
 
-pub splits : (id : ℕ) (v l r : Shares) → ((at : ℕ) → at < 8 → IsCut (share at v) (share at l) (share at r)) → Splits Summed id v l r
+pub splits : (id : ℕ) (v l r : Shares) → ((at : ℕ) → at < total_count → IsCut (share at v) (share at l) (share at r)) → Splits Summed id v l r
 splits id v l r cut s h here =
     record {
       wide = h.wide;
@@ -108,7 +108,7 @@ hired id v =
     one false s = halves s
 
 -- a join of two seats that hold parts holds parts
-pub joined_parts : (v w : Shares) → ((at : ℕ) → at < 8 → 0 < (share at v).parts) → (at : ℕ) → at < 8 → 0 < (share at (merged v w)).parts
+pub joined_parts : (v w : Shares) → ((at : ℕ) → at < total_count → 0 < (share at v).parts) → (at : ℕ) → at < total_count → 0 < (share at (merged v w)).parts
 joined_parts v w all at low = subst (λ (s : Share). 0 < s.parts) (sym (share_each (λ i. joined_of (share i v) (share i w)) at low)) (joins_some (share at v) (share at w) (all at low))
 
 -- the ways to cut a seat in two

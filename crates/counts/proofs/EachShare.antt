@@ -4,11 +4,11 @@ use Rattle.std.proofs.Common.{eq-eqb, ne_eqb, refl, ap, ◌∙◌, subst, ⊎_el
 use Rattle.counts.specs.declared.shares.Share.{Share}
 use Rattle.counts.specs.declared.shares.Shares.{Shares}
 use Rattle.counts.specs.declared.tally.Total.{Total}
-use Rattle.counts.specs.declared.tally.Total.TheVariants.{Claims, Finishes, Lets, Loads, Mends, Retires, Squashes, Stale}
+use Rattle.counts.specs.declared.tally.Total.TheVariants.{Claims, Finishes, Hints, Lets, Loads, Mends, Retires, Squashes, Stale}
 use Rattle.counts.specs.Shares.{each, plus, raised_at, share}
-use Rattle.counts.specs.Totals.{position_of}
+use Rattle.counts.specs.Totals.{position_of, total_count}
 
-pub share_each : (f : ℕ → Share) (at : ℕ) → at < 8 → share at (each f) ≡ f at
+pub share_each : (f : ℕ → Share) (at : ℕ) → at < total_count → share at (each f) ≡ f at
 share_each f zero low = refl
 share_each f (suc zero) low = refl
 share_each f (suc (suc zero)) low = refl
@@ -17,9 +17,10 @@ share_each f (suc (suc (suc (suc zero)))) low = refl
 share_each f (suc (suc (suc (suc (suc zero))))) low = refl
 share_each f (suc (suc (suc (suc (suc (suc zero)))))) low = refl
 share_each f (suc (suc (suc (suc (suc (suc (suc zero))))))) low = refl
-share_each f (suc (suc (suc (suc (suc (suc (suc (suc at)))))))) low = absurd (omega arith)
+share_each f (suc (suc (suc (suc (suc (suc (suc (suc zero)))))))) low = refl
+share_each f (suc (suc (suc (suc (suc (suc (suc (suc (suc at))))))))) low = absurd (omega arith)
 
-pub position_small : (t : Total) → position_of t < 8
+pub position_small : (t : Total) → position_of t < total_count
 position_small Lets = omega arith
 position_small Claims = omega arith
 position_small Finishes = omega arith
@@ -28,6 +29,7 @@ position_small Loads = omega arith
 position_small Retires = omega arith
 position_small Squashes = omega arith
 position_small Mends = omega arith
+position_small Hints = omega arith
 
 pub same_or_not : (a b : ℕ) → (a ≡ b) ⊎ (a ≢ b)
 same_or_not zero zero = inl refl
@@ -36,14 +38,14 @@ same_or_not (suc a) zero = inr (λ e. omega arith)
 same_or_not (suc a) (suc b) = ⊎_elim (λ e. inl (ap suc e)) (λ n. inr (λ e. n (omega arith))) (same_or_not a b)
 
 -- an addition raises its own share and no other
-pub raised_here : (at k : ℕ) (v : Shares) → at < 8 → share at (raised_at at k v) ≡ plus k (share at v)
+pub raised_here : (at k : ℕ) (v : Shares) → at < total_count → share at (raised_at at k v) ≡ plus k (share at v)
 raised_here at k v low = share_each (λ x. if x == at then plus k (share x v) else share x v) at low ∙ ap (λ b. if b then plus k (share at v) else share at v) (eq-eqb at at refl)
 
-pub raised_off : (at i k : ℕ) (v : Shares) → i < 8 → i ≢ at → share i (raised_at at k v) ≡ share i v
+pub raised_off : (at i k : ℕ) (v : Shares) → i < total_count → i ≢ at → share i (raised_at at k v) ≡ share i v
 raised_off at i k v low apart = share_each (λ x. if x == at then plus k (share x v) else share x v) i low ∙ ap (λ b. if b then plus k (share i v) else share i v) (ne_eqb i at apart)
 
 -- parts stay at an addition
-pub raised_parts : (at i k : ℕ) (v : Shares) → i < 8 → ((share i (raised_at at k v)).parts ≡ (share i v).parts) × ((share i (raised_at at k v)).halvings ≡ (share i v).halvings)
+pub raised_parts : (at i k : ℕ) (v : Shares) → i < total_count → ((share i (raised_at at k v)).parts ≡ (share i v).parts) × ((share i (raised_at at k v)).halvings ≡ (share i v).halvings)
 raised_parts at i k v low =
     ⊎_elim (λ (e : i ≡ at). subst (λ (z : ℕ). ((share i (raised_at z k v)).parts ≡ (share i v).parts) × ((share i (raised_at z k v)).halvings ≡ (share i v).halvings)) e (let h = raised_here i k v low in (ap (λ s. s.parts) h, ap (λ s. s.halvings) h)))
     (λ apart. (let h = raised_off at i k v low apart in (ap (λ s. s.parts) h, ap (λ s. s.halvings) h))) (same_or_not i at)

@@ -14,14 +14,15 @@ use Rattle.counts.specs.Steps.{AddsTo, Looks}
 use Rattle.counts.proofs.EachShare.{raised_here, raised_off, raised_parts, same_or_not, share_each, word_off, word_set, zeros}
 use Rattle.counts.proofs.Parts.{all_weight, no_weight}
 use Rattle.counts.proofs.Sums.{every_one, every_set, sum_held, sum_one, sum_set}
+use Rattle.counts.specs.Totals.{total_count}
 
-pub begins : Summed (opening (replicate 64 0) [] all_parts)
+pub begins : Summed (opening (replicate 72 0) [] all_parts)
 begins =
     record {
       wide = refl;
       sum = λ at low.
           let own : (share at all_parts).added ≡ 0 = ap (λ s. s.added) (share_each (λ _. everything) at low) in
-          zeros 64 (8 * at) ∙ ap (λ n. n % 2 ^ 64) (sym (sum_one (λ v. (share at v).added) all_parts ∙ own));
+          zeros 72 (8 * at) ∙ ap (λ n. n % 2 ^ 64) (sym (sum_one (λ v. (share at v).added) all_parts ∙ own));
       whole = λ at low.
           let own = share_each (λ _. everything) at low in
           record {
@@ -35,7 +36,7 @@ begins =
 mod-add : (a k : ℕ) → (a % 2 ^ 64 + k) % 2 ^ 64 ≡ (a + k) % 2 ^ 64
 mod-add a k = omega arith
 
-pub adds : (slots id : ℕ) (m : Me (Unit {0}) Shares) (at k : ℕ) → at < 8 → 0 < (share at m.0).parts → Allows Summed slots id m (8 * at) (λ n. (n + k) % 2 ^ 64) (AddsTo (step slots (8 * at) k 0 none) m)
+pub adds : (slots id : ℕ) (m : Me (Unit {0}) Shares) (at k : ℕ) → at < total_count → 0 < (share at m.0).parts → Allows Summed slots id m (8 * at) (λ n. (n + k) % 2 ^ 64) (AddsTo (step slots (8 * at) k 0 none) m)
 adds slots id m at k low some_part s h wide here small =
     let v = m.0 in
     let w = raised_at at k v in
@@ -84,7 +85,7 @@ adds slots id m at k low some_part s h wide here small =
       λ i below e. (let same : at ≡ i = omega arith in ap (λ (z : ℕ). (raised_at z k v, m.1)) same),
     )
 
-pub looks : (slots id : ℕ) (m : Me (Unit {0}) Shares) (at : ℕ) → at < 8 → Allows Summed slots id m (8 * at) (λ n. n) (Looks (step slots (8 * at) 0 0 none) m)
+pub looks : (slots id : ℕ) (m : Me (Unit {0}) Shares) (at : ℕ) → at < total_count → Allows Summed slots id m (8 * at) (λ n. n) (Looks (step slots (8 * at) 0 0 none) m)
 looks slots id m at low s h wide here small =
     let v = m.0 in
     let views : set s.views id v ≡ s.views = set_again s.views id v here in
@@ -104,7 +105,7 @@ looks slots id m at low s h wide here small =
       ),
     )
   where
-    held : (s : State (Unit {0}) Shares) → Summed s → (at : ℕ) → at < 8 → (id : ℕ) (v : Shares) → get_elem? s.views id ≡ some v → HoldsAllAt at v → sum_by (λ u. (share at u).added) s.views ≡ (share at v).added
+    held : (s : State (Unit {0}) Shares) → Summed s → (at : ℕ) → at < total_count → (id : ℕ) (v : Shares) → get_elem? s.views id ≡ some v → HoldsAllAt at v → sum_by (λ u. (share at u).added) s.views ≡ (share at v).added
     held s h at low id v here all =
         let z = h.whole at low in
         let own = all_weight z.depth (share at v) (z.deep id v here) all in
@@ -112,8 +113,8 @@ looks slots id m at low s h wide here small =
         (λ j u there none. h.idle at low j u there (no_weight z.depth (share at u) none)) (z.all ∙ sym own)
 
 -- the same at a word that is a total's
-pub adds_word : (slots id : ℕ) (m : Me (Unit {0}) Shares) (word at k : ℕ) → word ≡ 8 * at → at < 8 → 0 < (share at m.0).parts → Allows Summed slots id m word (λ n. (n + k) % 2 ^ 64) (AddsTo (step slots word k 0 none) m)
+pub adds_word : (slots id : ℕ) (m : Me (Unit {0}) Shares) (word at k : ℕ) → word ≡ 8 * at → at < total_count → 0 < (share at m.0).parts → Allows Summed slots id m word (λ n. (n + k) % 2 ^ 64) (AddsTo (step slots word k 0 none) m)
 adds_word slots id m word at k is low some_part = subst (λ z. Allows Summed slots id m z (λ n. (n + k) % 2 ^ 64) (AddsTo (step slots z k 0 none) m)) (sym is) (adds slots id m at k low some_part)
 
-pub looks_word : (slots id : ℕ) (m : Me (Unit {0}) Shares) (word at : ℕ) → word ≡ 8 * at → at < 8 → Allows Summed slots id m word (λ n. n) (Looks (step slots word 0 0 none) m)
+pub looks_word : (slots id : ℕ) (m : Me (Unit {0}) Shares) (word at : ℕ) → word ≡ 8 * at → at < total_count → Allows Summed slots id m word (λ n. n) (Looks (step slots word 0 0 none) m)
 looks_word slots id m word at is low = subst (λ z. Allows Summed slots id m z (λ n. n) (Looks (step slots z 0 0 none) m)) (sym is) (looks slots id m at low)

@@ -6,6 +6,7 @@ use lib.ListN.{get_elem?}
 use Rattle.counts.specs.declared.shares.Share.{Share}
 use Rattle.counts.specs.declared.shares.Shares.{Shares}
 use Rattle.counts.specs.Shares.{share}
+use Rattle.counts.specs.Totals.{total_count}
 
 -- How many parts a share has where the whole is halved so often
 abbrev pub weight : ℕ → Share → ℕ
@@ -20,7 +21,7 @@ pub record HasAllParts (at : ℕ) (views : List Shares) : Type 0 where
 -- Each total's word is the sum of the shares; the seats hold all parts of it, and one that holds none
 -- has added nothing
 pub record Summed (s : State (Unit {0}) Shares) : Type 0 where
-  pub wide : length s.words ≡ 64
-  pub sum : (at : ℕ) → at < 8 → slice_index s.words (8 * at) ≡ sum_by (λ v. (share at v).added) s.views % 2 ^ 64
-  pub whole : (at : ℕ) → at < 8 → HasAllParts at s.views
-  pub idle : (at : ℕ) → at < 8 → (id : ℕ) (v : Shares) → get_elem? s.views id ≡ some v → (share at v).parts ≡ 0 → (share at v).added ≡ 0
+  pub wide : length s.words ≡ 8 * total_count
+  pub sum : (at : ℕ) → at < total_count → slice_index s.words (8 * at) ≡ sum_by (λ v. (share at v).added) s.views % 2 ^ 64
+  pub whole : (at : ℕ) → at < total_count → HasAllParts at s.views
+  pub idle : (at : ℕ) → at < total_count → (id : ℕ) (v : Shares) → get_elem? s.views id ≡ some v → (share at v).parts ≡ 0 → (share at v).added ≡ 0

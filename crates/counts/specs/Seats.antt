@@ -5,7 +5,7 @@ use Rattle.atomic_table.specs.Table.{Me}
 use Rattle.counts.specs.declared.shares.Shares.{Shares}
 use Rattle.counts.specs.declared.tally.Total.TheVariants.{Retires}
 use Rattle.counts.specs.Shares.{share}
-use Rattle.counts.specs.Totals.{position_of}
+use Rattle.counts.specs.Totals.{position_of, total_count}
 
 -- A seat: whose totals it adds to, and its shares
 pub record Counter : Type 0 where
@@ -14,10 +14,10 @@ pub record Counter : Type 0 where
 
 -- It holds a part of each total
 pub record HasParts (me : Me (Unit {0}) Shares) : Type 0 where
-  pub some : (at : ℕ) → at < 8 → 0 < (share at me.0).parts
+  pub some : (at : ℕ) → at < total_count → 0 < (share at me.0).parts
   pub slots : me.1 ≡ []
 
 -- It holds a part of each total but the retirements
 pub record HasOtherParts (me : Me (Unit {0}) Shares) : Type 0 where
-  pub some : (at : ℕ) → at < 8 → at ≢ position_of Retires → 0 < (share at me.0).parts
+  pub some : (at : ℕ) → at < total_count → at ≢ position_of Retires → 0 < (share at me.0).parts
   pub slots : me.1 ≡ []

@@ -2,7 +2,11 @@
 use Rattle.std.specs.Prelude.{ℕ}
 use Rattle.counts.specs.declared.tally.Tally.{Tally}
 use Rattle.counts.specs.declared.tally.Total.{Total}
-use Rattle.counts.specs.declared.tally.Total.TheVariants.{Claims, Finishes, Lets, Loads, Mends, Retires, Squashes, Stale}
+use Rattle.counts.specs.declared.tally.Total.TheVariants.{Claims, Finishes, Hints, Lets, Loads, Mends, Retires, Squashes, Stale}
+
+-- How many there are
+abbrev pub total_count : ℕ
+total_count = 9
 
 -- Which of them a total is, from 0 on
 abbrev pub position_of : Total → ℕ
@@ -14,6 +18,7 @@ position_of Loads = 4
 position_of Retires = 5
 position_of Squashes = 6
 position_of Mends = 7
+position_of Hints = 8
 
 -- What a tally says of it
 abbrev pub told : Tally → Total → ℕ
@@ -25,3 +30,4 @@ told t Loads = t.loads
 told t Retires = t.retires
 told t Squashes = t.squashes
 told t Mends = t.mends
+told t Hints = t.hints

@@ -1,6 +1,6 @@
 //! What is counted.
 ghost use Rattle.std.specs.Prelude.{◌≡◌, ◌*◌, ◌<◌};
-ghost use Rattle.counts.specs.Totals.{position_of};
+ghost use Rattle.counts.specs.Totals.{position_of, total_count};
 
 /// What the threads of a run did, all together.
 #[derive(Clone, Copy, Debug, PartialEq, Eq)]
@@ -13,6 +13,8 @@ pub struct Tally {
     pub retires: u64,
     pub squashes: u64,
     pub mends: u64,
+    /// Claims of a job at a station that came as a hint.
+    pub hints: u64,
 }
 
 /// One number of a tally.
@@ -26,13 +28,14 @@ pub enum Total {
     Retires,
     Squashes,
     Mends,
+    Hints,
 }
 
 impl Total {
     // Its word: each total has a line of the cache to itself.
     pub(crate) fn word(self) -> usize
         ensures value { result ≡ 8 * position_of self }
-        ensures inside { result < 64 }
+        ensures inside { result < 8 * total_count }
     {
         match self {
             Total::Lets => 0,
@@ -43,6 +46,7 @@ impl Total {
             Total::Retires => 40,
             Total::Squashes => 48,
             Total::Mends => 56,
+            Total::Hints => 64,
         }
     }
 }

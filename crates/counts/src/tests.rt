@@ -85,6 +85,7 @@ fn four_threads_lose_no_addition(rt: HostRuntime) -> Result<(), Fail> {
         retires: 0,
         squashes: 0,
         mends: 0,
+        hints: 0,
     };
     assert_eq!(rt; tally, expected);
     Ok(())
@@ -102,6 +103,7 @@ fn each_total_is_its_own(rt: HostRuntime) -> Result<(), Fail> {
     counts.add(&mut seat, Total::Squashes, 7);
     counts.add(&mut seat, Total::Mends, u64::MAX);
     counts.add(&mut seat, Total::Mends, 9);
+    counts.add(&mut seat, Total::Hints, 10);
     let expected = Tally {
         lets: 1,
         claims: 2,
@@ -111,6 +113,7 @@ fn each_total_is_its_own(rt: HostRuntime) -> Result<(), Fail> {
         retires: 6,
         squashes: 7,
         mends: 8,
+        hints: 10,
     };
     assert_eq!(rt; counts.read(&mut seat), expected);
     Ok(())

@@ -14,7 +14,7 @@ use std::alloc::Global;
 use std::marker::Model;
 
 // Eight words for each total, of which the first is used.
-const WORDS: usize = 64;
+const WORDS: usize = 72;
 
 /// The totals. Contracts see which they are.
 #[derive(Drop)]
@@ -23,14 +23,15 @@ pub struct Counts {
 }
 
 impl Model for Counts {
-    ghost use Rattle.std.specs.Prelude.{◌≡◌};
+    ghost use Rattle.std.specs.Prelude.{◌≡◌, ◌*◌};
     ghost use Rattle.atomic_table.specs.Seated.{TableId};
+    ghost use Rattle.counts.specs.Totals.{total_count};
 
     ghost Value = { TableId };
 
     ghost view = { λ c. c.table.shared.table_id };
 
-    ghost invariant = { λ c. c.table.shared.table_id.words ≡ 64 };
+    ghost invariant = { λ c. c.table.shared.table_id.words ≡ 8 * total_count };
 }
 
 impl Counts {
@@ -157,6 +158,7 @@ impl Counts {
             retires: self.total(seat, Total::Retires),
             squashes: self.total(seat, Total::Squashes),
             mends: self.total(seat, Total::Mends),
+            hints: self.total(seat, Total::Hints),
         }
     }
 }

@@ -64,7 +64,7 @@ impl<J: Ring> Hints<J> {
             .is_ok()
     }
 
-    /// Takes the oldest hint, if there is one.
+    /// Takes the oldest hint, if there is one. At an empty queue it only looks.
     pub fn pop<R: Wait>(&self, wait: &R, hinter: &mut Hinter) -> Option<u32>
         requires of { IsOf self.now hinter.old }
         ensures of { IsOf self.now hinter.new }
@@ -74,6 +74,9 @@ impl<J: Ring> Hints<J> {
         ensures kept { IfNone result (view hinter.new ≡ view hinter.old) }
         ensures empty { IfNone result (HasHeld self.now.ring (view hinter.old) 0) }
     {
+        if self.queue.is_empty_as::<Takes<J>>(hinter) {
+            return None;
+        }
         self.queue.pop_as::<Takes<J>, R>(wait, hinter)
     }
 }

@@ -1,3 +1,4 @@
 pub mod Committing
+pub mod HintsPut
 pub mod Runs
 pub mod Turns

@@ -6,10 +6,12 @@ use crate::answer::{Refusal, Run, RunInTurns};
 use crate::bounds::Bounds;
 use crate::floor::Floor;
 use crate::gate::Gate;
+use crate::hinting::hint_each;
 use crate::rest::Rest;
 use crate::turns::Turns;
 use back::{Back, Commit, Mark, Naming, Refresh};
 use counts::{CountSeat, Tally, Total};
+use hints::{Hinter, Ring};
 use instructions::{Ending, Memory};
 use std::marker::{Model, PhantomData};
 use std::sync::Wait;
@@ -32,7 +34,7 @@ pub(crate) enum Why {
 }
 
 /// The commit side, with the seat that it counts with.
-pub(crate) struct Committer<J: Naming, K: Bounds> {
+pub(crate) struct Committer<J: Naming, K: Bounds + Ring> {
     back: Back<J>,
     count: CountSeat,
     limit: u32,
@@ -42,7 +44,7 @@ pub(crate) struct Committer<J: Naming, K: Bounds> {
     bounds: PhantomData<K>,
 }
 
-impl<J: Naming, K: Bounds> Model for Committer<J, K> {
+impl<J: Naming, K: Bounds + Ring> Model for Committer<J, K> {
     ghost use Rattle.std.specs.Prelude.{◌≡◌, Err, IfOk};
     ghost use Rattle.pool.specs.Committing.{Because, HasCounted, Keeps, TheCommitter};
     ghost use Rattle.pool.specs.declared.answer.Refusal.TheVariants.{Thread};
@@ -72,11 +74,12 @@ enum Turned {
     Over(Why),
 }
 
-impl<J: Naming, K: Bounds> Committer<J, K> {
+impl<J: Naming, K: Bounds + Ring> Committer<J, K> {
     ghost use Rattle.std.specs.Prelude.{◌≡◌, ◌≢◌, ◌+◌, ◌<◌, ◌≤◌, ◌^◌, Err, IfOk, None};
     ghost use Rattle.pool.specs.Runs.{IsLimit, IsRight, IsWithin, LeavesTurns};
     ghost use Rattle.back.specs.Backs.{IsSame};
     ghost use Rattle.pool.specs.Committing.{Because, HasCounted};
+    ghost use Rattle.hints.specs.Hinted.{IsOf};
     ghost use Rattle.pool.specs.declared.commit.Turned.TheVariants.{Over};
     ghost use Rattle.pool.specs.declared.commit.Why.{Why};
 
@@ -100,7 +103,7 @@ impl<J: Naming, K: Bounds> Committer<J, K> {
     }
 
     // Shows the state, and tells the gate what was counted until then.
-    fn show<G: Gate, R: Wait>(&mut self, wait: &R, floor: &Floor, gate: &G) -> Result<(), Memory>
+    fn show<G: Gate, R: Wait>(&mut self, wait: &R, floor: &Floor<K>, gate: &G) -> Result<(), Memory>
         requires counts { floor.now.counts ≡ K.counts }
         ensures back { IsSame self.old.back (record self.new.back { shown = self.old.back.shown }) }
         ensures turns { self.new.turns ≡ self.old.turns }
@@ -112,20 +115,45 @@ impl<J: Naming, K: Bounds> Committer<J, K> {
         Ok(())
     }
 
+    // One refresh. Hints whom a load woke. False where nothing was loaded.
+    fn refresh<R: Wait>(&mut self, wait: &R, floor: &Floor<K>, hinter: &mut Hinter) -> bool
+        requires core { self.old.back.core ≡ floor.now.core }
+        requires counts { floor.now.counts ≡ K.counts }
+        requires hints { floor.now.hints.ring ≡ floor.now.core.sizes.ring }
+        requires hinter { IsOf floor.now.hints hinter.old }
+        ensures core { self.new.back.core ≡ floor.now.core }
+        ensures ended { self.new.back.ended ≡ self.old.back.ended }
+        ensures turns { self.new.turns ≡ self.old.turns }
+        ensures over { self.new.over ≡ self.old.over }
+        ensures hinter { IsOf floor.now.hints hinter.new }
+    {
+        let Refresh::Loaded { .. } = self.back.refresh(&floor.core) else {
+            return false;
+        };
+        floor.counts.add(&mut self.count, Total::Loads, 1);
+        let woken = self.back.woken();
+        hint_each(wait, &floor.hints, hinter, floor.core.ring(), woken);
+        true
+    }
+
     // One commit and one refresh. A refused snapshot is want of memory.
     fn turn<G: Gate, R: Wait>(
         &mut self,
         wait: &R,
-        floor: &Floor,
+        floor: &Floor<K>,
         gate: &G,
+        hinter: &mut Hinter,
     ) -> Result<Turned, Memory>
         requires core { self.old.back.core ≡ floor.now.core }
         requires counts { floor.now.counts ≡ K.counts }
+        requires hints { floor.now.hints.ring ≡ floor.now.core.sizes.ring }
+        requires hinter { IsOf floor.now.hints hinter.old }
         requires begun { self.old.over ≡ Err Refusal.Memory }
         requires taken { (state_of self.old.back).count + self.old.turns.left < self.old.turns.all }
         ensures core { self.new.back.core ≡ floor.now.core }
         ensures begun { self.new.over ≡ Err Refusal.Memory }
         ensures turns { self.new.turns ≡ self.old.turns }
+        ensures hinter { IsOf floor.now.hints hinter.new }
         ensures over { IfOk result (λ turned. (why : Why) → turned ≡ Over why →
             Because K.limit self.new.back self.new.turns.left why) }
     {
@@ -147,24 +175,30 @@ impl<J: Naming, K: Bounds> Committer<J, K> {
             Commit::Half { .. } => turned = Turned::Worked,
             Commit::NotDone | Commit::Empty => {}
         }
-        if let Refresh::Loaded { .. } = self.back.refresh(&floor.core) {
-            floor.counts.add(&mut self.count, Total::Loads, 1);
+        if self.refresh(wait, floor, hinter) {
             turned = Turned::Worked;
         }
         Ok(turned)
     }
 
     // Commits until the program has ended, the limit is reached or no turn is left.
-    fn turns<G: Gate, R: Wait>(&mut self, wait: &R, floor: &Floor, gate: &G) -> Result<Why, Memory>
+    fn turns<G: Gate, R: Wait>(
+        &mut self,
+        wait: &R,
+        floor: &Floor<K>,
+        gate: &G,
+    ) -> Result<Why, Memory>
         requires core { self.old.back.core ≡ floor.now.core }
         requires counts { floor.now.counts ≡ K.counts }
+        requires hints { floor.now.hints.ring ≡ floor.now.core.sizes.ring }
         requires begun { self.old.over ≡ Err Refusal.Memory }
         ensures begun { self.new.over ≡ Err Refusal.Memory }
         ensures over { IfOk result (Because K.limit self.new.back self.new.turns.left) }
     {
+        let mut hinter = floor.hints.hinter();
         let mut rest = Rest::after(PATIENCE);
         while self.turns.take() {
-            match self.turn(wait, floor, gate)? {
+            match self.turn(wait, floor, gate, &mut hinter)? {
                 Turned::Worked => rest.begin_again(),
                 Turned::Idle => rest.rest(),
                 Turned::Over(why) => return Ok(why),
@@ -174,9 +208,15 @@ impl<J: Naming, K: Bounds> Committer<J, K> {
     }
 
     // The same, and shows the last state.
-    fn shown<G: Gate, R: Wait>(&mut self, wait: &R, floor: &Floor, gate: &G) -> Result<Why, Memory>
+    fn shown<G: Gate, R: Wait>(
+        &mut self,
+        wait: &R,
+        floor: &Floor<K>,
+        gate: &G,
+    ) -> Result<Why, Memory>
         requires core { self.old.back.core ≡ floor.now.core }
         requires counts { floor.now.counts ≡ K.counts }
+        requires hints { floor.now.hints.ring ≡ floor.now.core.sizes.ring }
         requires begun { self.old.over ≡ Err Refusal.Memory }
         ensures begun { self.new.over ≡ Err Refusal.Memory }
         ensures over { IfOk result (Because K.limit self.new.back self.new.turns.left) }
@@ -187,9 +227,10 @@ impl<J: Naming, K: Bounds> Committer<J, K> {
     }
 
     /// Commits until there is no more to commit, shows the last state, and keeps why it is over.
-    pub(crate) fn run<G: Gate, R: Wait>(&mut self, wait: &R, floor: &Floor, gate: &G)
+    pub(crate) fn run<G: Gate, R: Wait>(&mut self, wait: &R, floor: &Floor<K>, gate: &G)
         requires core { self.old.back.core ≡ floor.now.core }
         requires counts { floor.now.counts ≡ K.counts }
+        requires hints { floor.now.hints.ring ≡ floor.now.core.sizes.ring }
         requires fresh { self.old.over ≡ Err Refusal.Thread }
         ensures has_run { self.new.over ≢ Err Refusal.Thread }
     {
@@ -201,7 +242,7 @@ impl<J: Naming, K: Bounds> Committer<J, K> {
 
     /// How the run ended, where all other threads have ended. It is refused where not all of them
     /// could be started.
-    pub(crate) fn end<R: Wait>(self, wait: &R, floor: &Floor) -> RunInTurns
+    pub(crate) fn end<R: Wait>(self, wait: &R, floor: &Floor<K>) -> RunInTurns
         requires counts { floor.now.counts ≡ K.counts }
         ensures right { IsRight J.program result.run }
         ensures within { IsWithin K.limit result.run }

@@ -1,19 +1,36 @@
 //! What a unit thread does.
 ghost use Rattle.std.specs.Prelude.{◌≡◌, ◌<◌, ◌≤◌};
 ghost use Rattle.inorder.specs.History.{IsLegal};
-ghost use Rattle.station.specs.Claiming.{Holds};
+ghost use Rattle.pool.specs.HintsPut.{Searches, station_of};
+ghost use Rattle.station.specs.Claiming.{ClaimAnswers, Holds};
+ghost use Rattle.station.specs.Seats.{IsSame};
 
 use crate::floor::Floor;
 use crate::gate::Gate;
+use crate::hinting::hint_each;
 use crate::rest::Rest;
+use crate::search::{Candidate, Search};
 use counts::{Total, WorkerSeat};
+use hints::Ring;
 use instructions::outcome_of;
 use station::{Claim, Finish, Job, UnitSeat, a_job_is_of_the_program};
 use std::sync::Wait;
 use std::thread::yield_now;
 
+// Claims at the station where it looks.
+fn claim<K: Ring>(floor: &Floor<K>, seat: &mut UnitSeat, candidate: Candidate) -> Claim
+    requires core { seat.old.core ≡ floor.now.core }
+    requires station { station_of candidate < floor.now.core.sizes.ring }
+    ensures kept { IsSame seat.old seat.new }
+    ensures reply { ClaimAnswers floor.now.core.program floor.now.core.sizes
+        seat.old.by seat.old.seen seat.new.seen (station_of candidate) result }
+{
+    let station = candidate.station();
+    floor.core.claim(seat, station)
+}
+
 // Computes a claimed tenant, and writes its outcome.
-fn compute(floor: &Floor, seat: &mut UnitSeat, job: Job) -> Finish
+fn compute<K: Ring>(floor: &Floor<K>, seat: &mut UnitSeat, job: Job) -> Finish
     requires core { seat.old.core ≡ floor.now.core }
     requires job { Holds floor.now.core.program floor.now.core.sizes seat.old.by seat.old.seen job }
     requires legal { IsLegal floor.now.core.program floor.now.core.sizes seat.old.seen }
@@ -29,7 +46,7 @@ fn compute(floor: &Floor, seat: &mut UnitSeat, job: Job) -> Finish
 
 // Waits while the gate holds the unit and it has turns left, and says how many it has then. Another unit
 // works meanwhile.
-fn wait_at<G: Gate>(floor: &Floor, gate: &G, unit: u32, station: u32, turns: u32) -> u32
+fn wait_at<K: Ring, G: Gate>(floor: &Floor<K>, gate: &G, unit: u32, station: u32, turns: u32) -> u32
     ensures { result ≤ turns }
 {
     let mut left = turns;
@@ -51,46 +68,117 @@ pub(crate) struct Worker {
     pub count: WorkerSeat,
 }
 
-/// Claims the stations in ring order, one a turn, and finishes what it has claimed. It rests until it is
-/// called, and calls another when it has no turn left.
-pub(crate) fn work<G: Gate, R: Wait>(wait: &R, floor: &Floor, gate: &G, worker: Worker)
+// Counts the claim of a job, and whether its station came as a hint.
+fn count_claim<K: Ring>(floor: &Floor<K>, count: &mut WorkerSeat, candidate: Candidate)
+    requires { count.old.of ≡ floor.now.counts }
+    ensures { count.new.of ≡ floor.now.counts }
+{
+    floor.counts.add_work(count, Total::Claims, 1);
+    if let Candidate::Hinted(_) = candidate {
+        floor.counts.add_work(count, Total::Hints, 1);
+    }
+}
+
+// Finishes a job, counts that, and hints whom its result woke.
+fn finish<K: Ring, R: Wait>(
+    wait: &R,
+    floor: &Floor<K>,
+    worker: &mut Worker,
+    search: &mut Search,
+    job: Job,
+)
+    requires core { worker.old.seat.core ≡ floor.now.core }
+    requires count { worker.old.count.of ≡ floor.now.counts }
+    requires program { floor.now.program ≡ floor.now.core.program }
+    requires hints { floor.now.hints.ring ≡ floor.now.core.sizes.ring }
+    requires search { Searches floor.now.hints search.old }
+    requires job { Holds floor.now.core.program floor.now.core.sizes
+        worker.old.seat.by worker.old.seat.seen job }
+    requires legal { IsLegal floor.now.core.program floor.now.core.sizes worker.old.seat.seen }
+    ensures core { worker.new.seat.core ≡ floor.now.core }
+    ensures count { worker.new.count.of ≡ floor.now.counts }
+    ensures search { Searches floor.now.hints search.new }
+{
+    if let Finish::Stale = compute(floor, &mut worker.seat, job) {
+        floor.counts.add_work(&mut worker.count, Total::Stale, 1);
+        return;
+    }
+    floor.counts.add_work(&mut worker.count, Total::Finishes, 1);
+    let woken = worker.seat.woken();
+    hint_each(
+        wait,
+        &floor.hints,
+        &mut search.hinter,
+        floor.core.ring(),
+        woken,
+    );
+}
+
+// One turn, and as many more as the gate holds the unit: claims one station, and finishes the job that it gets.
+// Without one it rests.
+fn turn<K: Ring, G: Gate, R: Wait>(
+    wait: &R,
+    floor: &Floor<K>,
+    gate: &G,
+    worker: &mut Worker,
+    search: &mut Search,
+    rest: &mut Rest,
+    left: u32,
+) -> u32
+    requires core { worker.old.seat.core ≡ floor.now.core }
+    requires count { worker.old.count.of ≡ floor.now.counts }
+    requires program { floor.now.program ≡ floor.now.core.program }
+    requires hints { floor.now.hints.ring ≡ floor.now.core.sizes.ring }
+    requires search { Searches floor.now.hints search.old }
+    ensures core { worker.new.seat.core ≡ floor.now.core }
+    ensures count { worker.new.count.of ≡ floor.now.counts }
+    ensures search { Searches floor.now.hints search.new }
+    ensures left { result ≤ left }
+{
+    let candidate = search.next(wait, &floor.hints, floor.core.ring());
+    let job = match claim(floor, &mut worker.seat, candidate) {
+        Claim::Job(job) => job,
+        Claim::NotOpen | Claim::Waiting { tag: _, k: _ } | Claim::Moved { tag: _ } => {
+            rest.rest();
+            return left;
+        }
+    };
+    rest.begin_again();
+    count_claim(floor, &mut worker.count, candidate);
+    let left = wait_at(floor, gate, worker.unit, candidate.station() as u32, left);
+    finish(wait, floor, worker, search, job);
+    left
+}
+
+/// Looks for work at the stations that are hinted, and without a hint in ring order, one a turn, and finishes what
+/// it has claimed. It rests until it is called, and calls another when it has no turn left.
+pub(crate) fn work<K: Ring, G: Gate, R: Wait>(
+    wait: &R,
+    floor: &Floor<K>,
+    gate: &G,
+    mut worker: Worker,
+)
     requires core { worker.seat.core ≡ floor.now.core }
     requires count { worker.count.of ≡ floor.now.counts }
     requires program { floor.now.program ≡ floor.now.core.program }
+    requires hints { floor.now.hints.ring ≡ floor.now.core.sizes.ring }
 {
-    let Worker {
-        unit,
-        mut seat,
-        mut count,
-    } = worker;
-    if !floor.is_called(wait, unit) {
+    if !floor.is_called(wait, worker.unit) {
         return;
     }
-    let ring = floor.core.ring();
+    let mut search = Search::new(&floor.hints);
+    let mut rest = Rest::after(floor.core.ring() as u32 / 2);
     let mut left = floor.turns;
-    let mut rest = Rest::after(ring as u32 / 2);
-    let mut station = 0;
-    while 0 < left {
-        left -= 1;
-        match floor.core.claim(&mut seat, station) {
-            Claim::Job(job) => {
-                rest.begin_again();
-                floor.counts.add_work(&mut count, Total::Claims, 1);
-                left = wait_at(floor, gate, unit, station as u32, left);
-                let total = match compute(floor, &mut seat, job) {
-                    Finish::Finished => Total::Finishes,
-                    Finish::Stale => Total::Stale,
-                };
-                floor.counts.add_work(&mut count, total, 1);
-            }
-            Claim::NotOpen => rest.rest(),
-            Claim::Waiting { tag: _, k: _ } => rest.rest(),
-            Claim::Moved { tag: _ } => rest.rest(),
-        }
-        if floor.is_closed() {
-            break;
-        }
-        station = (station + 1) % ring;
+    while 0 < left && !floor.is_closed() {
+        left = turn(
+            wait,
+            floor,
+            gate,
+            &mut worker,
+            &mut search,
+            &mut rest,
+            left - 1,
+        );
     }
     if left == 0 {
         floor.call(1);

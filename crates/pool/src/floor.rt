@@ -1,5 +1,6 @@
 //! What the threads of one run share.
 use counts::Counts;
+use hints::{Hints, Ring};
 use instructions::Program;
 use station::Core;
 use std::sync::Wait;
@@ -8,10 +9,11 @@ use std::sync::atomic::{AtomicBool, AtomicU64};
 
 /// The unit and what goes with it. Each thread has the same number of turns.
 #[derive(Drop)]
-pub(crate) struct Floor {
+pub(crate) struct Floor<K: Ring> {
     pub core: Core,
     pub program: Program,
     pub counts: Counts,
+    pub hints: Hints<K>,
     pub turns: u32,
     closed: AtomicBool,
     // how often there was something new to see: a snapshot, or the end
@@ -20,19 +22,27 @@ pub(crate) struct Floor {
     called: AtomicU64,
 }
 
-impl Floor {
+impl<K: Ring> Floor<K> {
     ghost use Rattle.std.specs.Prelude.{◌≡◌};
 
-    pub(crate) fn new(core: Core, program: Program, counts: Counts, turns: u32) -> Self
+    pub(crate) fn new(
+        core: Core,
+        program: Program,
+        counts: Counts,
+        hints: Hints<K>,
+        turns: u32,
+    ) -> Self
         ensures core { result.core ≡ core }
         ensures program { result.program ≡ program }
         ensures counts { result.counts ≡ counts }
+        ensures hints { result.hints ≡ hints }
         ensures turns { result.turns ≡ turns }
     {
         Floor {
             core,
             program,
             counts,
+            hints,
             turns,
             closed: AtomicBool::new(false),
             news: AtomicU64::new(0),

@@ -14,6 +14,7 @@ use crate::threads::start_all;
 use crate::turns::Turns;
 use back::{Back, Naming, Snapper};
 use counts::{CountSeat, Counts, WorkerSeat};
+use hints::{Hints, Ring};
 use instructions::{Config, Memory, Predictor, Program};
 use station::{Core, UnitSeat};
 use std::alloc::Global;
@@ -26,13 +27,13 @@ use std::thread::Threads;
 fn in_threads<
     'x,
     J: Naming + Send + Sync,
-    K: Bounds + Send + Sync,
+    K: Bounds + Ring + Send + Sync,
     P: Predictor + Drop + Send,
     G: Gate + Sync,
     R: Threads + Wait + Sync,
 >(
     wait: &'x R,
-    floor: &'x Floor,
+    floor: &'x Floor<K>,
     gate: &'x G,
     config: Config,
     dispatcher: Dispatcher<P>,
@@ -46,6 +47,7 @@ fn in_threads<
     requires seat { seat.core ≡ floor.now.core }
     requires count { count.of ≡ floor.now.counts }
     requires program { floor.now.program ≡ floor.now.core.program }
+    requires hints { floor.now.hints.ring ≡ floor.now.core.sizes.ring }
     requires core { committer.old.back.core ≡ floor.now.core }
     requires counts { floor.now.counts ≡ K.counts }
     requires fresh_run { committer.old.over ≡ Err Refusal.Thread }
@@ -59,6 +61,7 @@ fn in_threads<
             requires seat { seat.core ≡ floor.now.core }
             requires count { count.of ≡ floor.now.counts }
             requires program { floor.now.program ≡ floor.now.core.program }
+            requires hints { floor.now.hints.ring ≡ floor.now.core.sizes.ring }
             requires core { committer.now.back.core ≡ floor.now.core }
             requires counts { floor.now.counts ≡ K.counts }
             requires fresh_run { committer.now.over ≡ Err Refusal.Thread }
@@ -77,13 +80,13 @@ fn in_threads<
 fn run_parts<
     'x,
     J: Naming + Send + Sync,
-    K: Bounds + Send + Sync,
+    K: Bounds + Ring + Send + Sync,
     P: Predictor + Drop + Send,
     G: Gate + Sync,
     R: Threads + Wait + Sync,
 >(
     wait: &'x R,
-    floor: &'x Floor,
+    floor: &'x Floor<K>,
     gate: &'x G,
     config: Config,
     dispatcher: Dispatcher<P>,
@@ -97,6 +100,7 @@ fn run_parts<
     requires seat { seat.core ≡ floor.now.core }
     requires count { count.of ≡ floor.now.counts }
     requires program { floor.now.program ≡ floor.now.core.program }
+    requires hints { floor.now.hints.ring ≡ floor.now.core.sizes.ring }
     requires core { committer.back.core ≡ floor.now.core }
     requires counts { floor.now.counts ≡ K.counts }
     requires fresh_run { committer.over ≡ Err Refusal.Thread }
@@ -123,7 +127,7 @@ fn run_parts<
 fn run_named<
     'x,
     J: Naming + Send + Sync,
-    K: Bounds + Send + Sync,
+    K: Bounds + Ring + Send + Sync,
     P: Predictor + Drop + Send,
     G: Gate + Sync,
     R: Threads + Wait + Sync,
@@ -142,6 +146,7 @@ fn run_named<
     requires program { program.now ≡ J.program }
     requires limit { config.now.limit ≡ K.limit }
     requires turns { config.now.turns ≡ K.turns }
+    requires ring { config.now.ring ≡ K.ring }
     ensures right { IfOk result (λ r. IsRight J.program r.run) }
     ensures within { IfOk result (λ r. IsWithin config.now.limit r.run) }
     ensures all { IfOk result (λ r. r.turns.all ≡ config.now.turns) }
@@ -150,12 +155,13 @@ fn run_named<
 {
     let copy = program.copied(alloc)?;
     let (core, front_seat, back_seat, unit_seat) = Core::make(alloc, program, config)?;
+    let hints = Hints::<K>::new(alloc, core.ring())?;
     let (back, snapper) = Back::<J>::new(alloc, &core, back_seat, program, config).map_err(
         |refused| refused.0,
     )?;
     let (back_count, workers) = counts.split_worker(count);
     let (front_count, unit_count) = counts.split_workers(workers);
-    let floor = Floor::new(core, copy, counts, config.turns());
+    let floor = Floor::new(core, copy, counts, hints, config.turns());
     let committer = Committer::<J, K>::new(back, back_count, config.limit(), config.turns());
     let dispatcher = Dispatcher {
         seat: front_seat,

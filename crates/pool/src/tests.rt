@@ -1,6 +1,7 @@
 //! Runs in threads.
 mod ends;
 mod gates;
+mod hinted;
 mod pairs;
 mod rows;
 

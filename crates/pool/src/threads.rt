@@ -9,6 +9,7 @@ use crate::gate::Gate;
 use crate::watch::watch;
 use back::{Naming, Snapper};
 use counts::WorkerSeat;
+use hints::Ring;
 use instructions::{Config, Predictor};
 use station::UnitSeat;
 use std::sync::Wait;
@@ -31,47 +32,53 @@ fn units_at_once<R: Threads>(rt: &R) -> u64
     }
 }
 
-fn start_dispatch<'s, E: 's, P: Predictor + Drop + Send + 's>(
-    scope: &Scope<'s, E>,
-    floor: &'s Floor,
-    dispatcher: Dispatcher<P>,
-) -> bool
+fn start_dispatch<
+    's,
+    E: 's,
+    K: Ring + Send + Sync + 's,
+    P: Predictor + Drop + Send + 's,
+    R: Wait + Sync + 's,
+>(wait: &'s R, scope: &Scope<'s, E>, floor: &'s Floor<K>, dispatcher: Dispatcher<P>) -> bool
     requires seat { IsUnused floor.now.core dispatcher.seat }
     requires count { dispatcher.count.of ≡ floor.now.counts }
     requires program { floor.now.program ≡ floor.now.core.program }
+    requires hints { floor.now.hints.ring ≡ floor.now.core.sizes.ring }
 {
     let job = move ||
         requires seat { IsUnused floor.now.core dispatcher.seat }
         requires count { dispatcher.count.of ≡ floor.now.counts }
         requires program { floor.now.program ≡ floor.now.core.program }
-    { dispatch(floor, dispatcher) };
+        requires hints { floor.now.hints.ring ≡ floor.now.core.sizes.ring }
+    { dispatch(wait, floor, dispatcher) };
     scope.spawn(job).is_ok()
 }
 
-fn start_unit<'s, E: 's, G: Gate + Sync + 's, R: Wait + Sync + 's>(
+fn start_unit<'s, E: 's, K: Ring + Send + Sync + 's, G: Gate + Sync + 's, R: Wait + Sync + 's>(
     wait: &'s R,
     scope: &Scope<'s, E>,
-    floor: &'s Floor,
+    floor: &'s Floor<K>,
     gate: &'s G,
     worker: Worker,
 ) -> bool
     requires core { worker.seat.core ≡ floor.now.core }
     requires count { worker.count.of ≡ floor.now.counts }
     requires program { floor.now.program ≡ floor.now.core.program }
+    requires hints { floor.now.hints.ring ≡ floor.now.core.sizes.ring }
 {
     let job = move ||
         requires core { worker.seat.core ≡ floor.now.core }
         requires count { worker.count.of ≡ floor.now.counts }
         requires program { floor.now.program ≡ floor.now.core.program }
+        requires hints { floor.now.hints.ring ≡ floor.now.core.sizes.ring }
     { work(wait, floor, gate, worker) };
     scope.spawn(job).is_ok()
 }
 
 // Starts the units. Each has seen what the first seat has.
-fn start_units<'s, E: 's, G: Gate + Sync + 's, R: Wait + Sync + 's>(
+fn start_units<'s, E: 's, K: Ring + Send + Sync + 's, G: Gate + Sync + 's, R: Wait + Sync + 's>(
     wait: &'s R,
     scope: &Scope<'s, E>,
-    floor: &'s Floor,
+    floor: &'s Floor<K>,
     gate: &'s G,
     units: u32,
     seat: UnitSeat,
@@ -80,6 +87,7 @@ fn start_units<'s, E: 's, G: Gate + Sync + 's, R: Wait + Sync + 's>(
     requires core { seat.core ≡ floor.now.core }
     requires count { count.of ≡ floor.now.counts }
     requires program { floor.now.program ≡ floor.now.core.program }
+    requires hints { floor.now.hints.ring ≡ floor.now.core.sizes.ring }
     requires units { units ≤ 64 }
 {
     let mut rest = seat;
@@ -105,13 +113,14 @@ fn start_units<'s, E: 's, G: Gate + Sync + 's, R: Wait + Sync + 's>(
 fn start_snappers<
     's,
     E: 's,
+    K: Ring + Send + Sync + 's,
     J: Naming + Send + Sync + 's,
     G: Gate + Sync + 's,
     R: Wait + Sync + 's,
 >(
     wait: &'s R,
     scope: &Scope<'s, E>,
-    floor: &'s Floor,
+    floor: &'s Floor<K>,
     gate: &'s G,
     places: u32,
     mut first: Snapper<J>,
@@ -137,6 +146,7 @@ fn start_snappers<
 pub(crate) fn start_all<
     's,
     E: 's,
+    K: Ring + Send + Sync + 's,
     J: Naming + Send + Sync + 's,
     P: Predictor + Drop + Send + 's,
     G: Gate + Sync + 's,
@@ -144,7 +154,7 @@ pub(crate) fn start_all<
 >(
     wait: &'s R,
     scope: &Scope<'s, E>,
-    floor: &'s Floor,
+    floor: &'s Floor<K>,
     gate: &'s G,
     config: Config,
     dispatcher: Dispatcher<P>,
@@ -157,9 +167,10 @@ pub(crate) fn start_all<
     requires seat { seat.core ≡ floor.now.core }
     requires count { count.of ≡ floor.now.counts }
     requires program { floor.now.program ≡ floor.now.core.program }
+    requires hints { floor.now.hints.ring ≡ floor.now.core.sizes.ring }
 {
     floor.call(units_at_once(wait));
-    start_dispatch(scope, floor, dispatcher)
+    start_dispatch(wait, scope, floor, dispatcher)
         && start_units(wait, scope, floor, gate, config.units(), seat, count)
         && start_snappers(wait, scope, floor, gate, config.places(), first)
 }

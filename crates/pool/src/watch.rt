@@ -3,6 +3,7 @@ ghost use Rattle.snapshots.specs.Snapshots.{IsSnapshotOf};
 
 use crate::floor::Floor;
 use crate::gate::Gate;
+use hints::Ring;
 use snapshots::{Naming, Snap, Snapper};
 use std::sync::Wait;
 
@@ -15,9 +16,9 @@ fn tell<J: Naming, G: Gate>(gate: &G, place: u32, snap: &Snap)
 
 /// Takes snapshots and tells the gate of them, once at least: the first at once, and one more each time that a
 /// snapshot was shown, or the run is over.
-pub(crate) fn watch<J: Naming, G: Gate, R: Wait>(
+pub(crate) fn watch<K: Ring, J: Naming, G: Gate, R: Wait>(
     wait: &R,
-    floor: &Floor,
+    floor: &Floor<K>,
     gate: &G,
     place: u32,
     mut snapper: Snapper<J>,

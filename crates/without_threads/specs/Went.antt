@@ -86,7 +86,8 @@ totals_text first t =
     first ++ (decimal t.lets ++ (codes " claims " ++ (decimal t.claims
     ++ (codes " finishes " ++ (decimal t.finishes ++ (codes " stale " ++ (decimal t.stale
     ++ (codes " loads " ++ (decimal t.loads ++ (codes " retires " ++ (decimal t.retires
-    ++ (codes " squashes " ++ (decimal t.squashes ++ (codes " mends " ++ decimal t.mends))))))))))))))
+    ++ (codes " squashes " ++ (decimal t.squashes ++ (codes " mends " ++ (decimal t.mends
+    ++ (codes " hints " ++ decimal t.hints))))))))))))))))
 
 abbrev pub tally_text : Totals → List ℕ
 tally_text = totals_text (codes "tally lets ")

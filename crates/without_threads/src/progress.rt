@@ -18,7 +18,8 @@ impl fmt::Display for Progress {
         let tally = self.tally;
         write!(
             f,
-            "progress lets {} claims {} finishes {} stale {} loads {} retires {} squashes {} mends {}",
+            "progress lets {} claims {} finishes {} stale {} loads {} retires {} squashes {} mends {} \
+             hints {}",
             tally.lets,
             tally.claims,
             tally.finishes,
@@ -27,6 +28,7 @@ impl fmt::Display for Progress {
             tally.retires,
             tally.squashes,
             tally.mends,
+            tally.hints,
         )
     }
 }

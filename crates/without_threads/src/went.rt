@@ -53,7 +53,8 @@ impl fmt::Display for Line {
             Line::Nothing => Ok(()),
             Line::Tally(tally) => write!(
                 f,
-                "tally lets {} claims {} finishes {} stale {} loads {} retires {} squashes {} mends {}",
+                "tally lets {} claims {} finishes {} stale {} loads {} retires {} squashes {} mends {} \
+                 hints {}",
                 tally.lets,
                 tally.claims,
                 tally.finishes,
@@ -62,6 +63,7 @@ impl fmt::Display for Line {
                 tally.retires,
                 tally.squashes,
                 tally.mends,
+                tally.hints,
             ),
             Line::Refused(refusal) => write!(f, "ruu: {refusal}"),
         }

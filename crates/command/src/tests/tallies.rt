@@ -11,10 +11,15 @@ fn each_step_is_told_once(rt: HostRuntime) -> Result<(), Fail> {
     for units in ["1", "4"] {
         let words = ["ruu", "run", "double.s", "--units", units];
         let (went, _) = answer(&rt, rt.alloc(), words.as_slice(), LISTING)?;
-        let line = went.line.to_string(rt.alloc())?;
+        let Line::Tally(tally) = went.line else {
+            return Err(Fail::from("no tally"));
+        };
+        // the threads' race says how many of the three came as a hint
+        assert!(rt; tally.hints <= 3, "{units}");
+        let line = Line::Tally(Tally { hints: 1, ..tally }).to_string(rt.alloc())?;
         assert_eq!(rt;
             line.as_str(),
-            "tally lets 3 claims 3 finishes 3 stale 0 loads 0 retires 2 squashes 0 mends 0",
+            "tally lets 3 claims 3 finishes 3 stale 0 loads 0 retires 2 squashes 0 mends 0 hints 1",
             "{units}"
         );
     }

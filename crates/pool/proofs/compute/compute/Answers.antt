@@ -3,7 +3,7 @@ use Rattle.instructions.specs.Programs.{Program}
 use Rattle.pool.proofs.compute.compute.Goals as goal
 
 pub instr-instr-requires : goal.instr-instr-requires
-instr-instr-requires c =
+instr-instr-requires g c =
     let core = c.args.floor.now.core in
     let seat = c.args.seat.now in
     subst (λ (P : Program). c.args.job.index < length P.code) (sym c.requires.program)

@@ -5,3 +5,6 @@ ghosts-run_named-J-Naming g a = record { program = a.program.now }
 
 abbrev pub ghosts-run_named-K-Bounds : goal.ghosts-run_named-K-Bounds
 ghosts-run_named-K-Bounds g a = record { counts = a.counts; limit = a.config.now.limit; turns = a.config.now.turns }
+
+abbrev pub ghosts-run_named-K-Ring : goal.ghosts-run_named-K-Ring
+ghosts-run_named-K-Ring g a = record { ring = a.config.now.ring }

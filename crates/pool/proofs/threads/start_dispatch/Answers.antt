@@ -8,13 +8,14 @@ use Rattle.pool.proofs.Sends.{dispatcher_sends}
 use Rattle.pool.proofs.floor.Floor.TheSendSync as floor_crosses
 use Rattle.pool.proofs.threads.start_dispatch.Goals as goal
 
--- what each capture owes: the floor and the dispatcher
+-- what each capture owes: the handle, the floor and the dispatcher
 pub spawn-requires-send-F : goal.spawn-requires-send-F
 spawn-requires-send-F g c κs within =
-    let f : IsSend (row_field (shr_ref_field (record { mir = mir.Syntax.named 5; lft = κs.1.1.1.1.1.0 }) floor.the_row (tt {0})).row).row =
-    shr_send (mir.Syntax.named 5) κs.1.1.1.1.1.0 floor.the_row floor_crosses.the_sync in
-    let d : IsSend (dispatcher.the_row (param 1 g.row.P)) = dispatcher_sends (param 1 g.row.P) c.type_bounds.send-P in
+    let floors = floor.the_row (param 1 g.row.K) g.K.Ring in
+    let f : IsSend (row_field (shr_ref_field (record { mir = mir.Syntax.named 6; lft = κs.1.1.1.1.1.1.0 }) floors (tt {0})).row).row =
+    shr_send (mir.Syntax.named 6) κs.1.1.1.1.1.1.0 floors (floor_crosses.the_sync (param 1 g.row.K) g.K.Ring) in
+    let d : IsSend (dispatcher.the_row (param 2 g.row.P)) = dispatcher_sends (param 2 g.row.P) c.type_bounds.send-P in
     record {
-      owned = λ z vs. (λ vss. (tt, (f.owned z.0 vss.0, (d.owned z.1 vss.1.0, tt))));
+      owned = λ z vs. (λ vss. (tt, (search rules depth 14, (f.owned z.1 vss.1.0, (d.owned z.2 vss.1.1.0, tt)))));
       leaving = λ k x e. search rules depth 10;
     }

@@ -1,0 +1,40 @@
+//! Tells units of stations at which there may be work.
+ghost use Rattle.std.specs.Prelude.{◌≡◌, ◌≢◌, ◌<◌, ◌≤◌, IsFalse, IsTrue};
+ghost use Rattle.crossbeam_queue.specs.Passes.{view};
+ghost use Rattle.hints.specs.Hinted.{IsOf};
+ghost use Rattle.pool.specs.HintsPut.{HasHinted};
+ghost use Rattle.station.specs.Waking.{IsSet};
+
+use hints::{Hinter, Hints, Ring};
+use std::sync::Wait;
+
+// Whether a station is one of these: bit s stands for station s.
+fn is_one_of(stations: u32, station: u32) -> bool
+    requires { station < 32 }
+    ensures set { IsTrue result → IsSet stations station }
+    ensures clear { IsFalse result → IsSet stations station → ⊥ }
+{
+    (stations >> station) & 1 == 1
+}
+
+/// Hints each of these stations, the lowest first: bit s stands for station s. A hint that finds the queue
+/// full is dropped.
+pub(crate) fn hint_each<K: Ring, R: Wait>(
+    wait: &R,
+    hints: &Hints<K>,
+    hinter: &mut Hinter,
+    ring: usize,
+    stations: u32,
+)
+    requires of { IsOf hints.now hinter.old }
+    requires ring { ring ≡ hints.now.ring }
+    requires most { ring ≤ 32 }
+    ensures of { IsOf hints.now hinter.new }
+    ensures hinted { HasHinted ring stations ring (view hinter.old) (view hinter.new) }
+{
+    for station in 0..ring as u32 {
+        if is_one_of(stations, station) {
+            let _is_put = hints.push(wait, hinter, station);
+        }
+    }
+}
