@@ -4,7 +4,7 @@ ghost use Rattle.std.specs.Prelude.{◌≡◌, ◌≤◌, IfOk};
 use crate::drive::{back_at, commits, finish_one, half, let_at, made, retired, takes};
 use back::{Back, Commit, Naming, Snapper, a_back_enters_behind_a_renewal};
 use front::{Front, Rest, Turn, a_front_enters_behind_a_renewal};
-use isa::{Config, Ending, NotTaken, Program, Stop};
+use instructions::{Config, Ending, NotTaken, Program, Stop};
 use station::{Core, UnitSeat, a_number_is_of_its_part};
 use std::alloc::Global;
 use std::marker::Brand;
