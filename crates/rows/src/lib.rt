@@ -12,6 +12,8 @@ mod memory;
 #[cfg(test)]
 mod old_jobs;
 #[cfg(test)]
+mod renewals;
+#[cfg(test)]
 mod retirement;
 #[cfg(test)]
 mod snapshots_of_commits;
