@@ -34,6 +34,8 @@ pub fn go_watched<R: Read + Drop, W: Write, L: Write>(
     requires log_room { failures_of log.old < 2 ^ 64 - 1 }
     // Without a reader nothing is run, and only then is opening blamed.
     ensures open { reader ≡ None → result ≡ refused Refusal.Open }
+    ensures unopened { reader ≡ None → writer.new ≡ writer.old }
+    ensures log_unopened { reader ≡ None → log.new ≡ log.old }
     ensures opened { result.line ≡ Refused Refusal.Open → reader ≡ None }
     // What was written whole is told of the reader's bytes.
     ensures answer { result.line ≡ Nothing → HoldsOfInput R.remaining reader (λ input.
@@ -56,8 +58,6 @@ pub fn go_watched<R: Read + Drop, W: Write, L: Write>(
         HoldsOfInput R.remaining reader (λ input. IsBegun asked.now (listing input)
         (outputs (known_by W.contents writer.old) (known_by L.contents log.old))
         (outputs (known_by W.contents writer.new) (known_by L.contents log.new))) }
-    ensures unopened { reader ≡ None → writer.new ≡ writer.old }
-    ensures log_unopened { reader ≡ None → log.new ≡ log.old }
 {
     let Some(mut reader) = reader else {
         return refused(Refusal::Open);
