@@ -4,3 +4,4 @@ pub mod Jobs
 pub mod Backs
 pub mod Workers
 pub mod Scripts
+pub mod Renewing

@@ -7,7 +7,7 @@ use Rattle.drive.specs.declared.commands.Command.TheVariants as call
 use Rattle.drive.specs.declared.commands.Line.{Line}
 use Rattle.drive.specs.declared.commands.Line.TheVariants.{Asks, Nothing, Unknown, Wants}
 use Rattle.drive.specs.declared.commands.Verb.{Verb}
-use Rattle.drive.specs.declared.commands.Verb.TheVariants.{Claim, Commit, Creator, Finish, Info, Learn, Look, Operand, Recover, Refresh, Rest, Show, Take, Touched, Turn}
+use Rattle.drive.specs.declared.commands.Verb.TheVariants.{Claim, Commit, Creator, Finish, Info, Learn, Look, Operand, Recover, Refresh, Renew, Rest, Show, Take, Touched, Turn}
 use Rattle.drive.specs.declared.commands.Which.{Which}
 use Rattle.drive.specs.declared.commands.Which.TheVariants.{First, Second}
 use Rattle.drive.specs.Units.{unit_of}
@@ -30,6 +30,7 @@ verb_name Touched = codes "touched"
 verb_name Info = codes "info"
 verb_name Operand = codes "operand"
 verb_name Rest = codes "rest"
+verb_name Renew = codes "renew"
 
 -- No character
 abbrev pub is_empty : List ℕ → Bool
@@ -95,6 +96,7 @@ command_of Touched w = bare w call.Touched
 command_of Info w = option_map (λ s. call.Info s) (only_number w)
 command_of Operand w = option_map (λ p. call.Operand p.0 p.1) (station_and_source w)
 command_of Rest w = bare w call.Rest
+command_of Renew w = bare w call.Renew
 
 -- The command that these words are
 pub record IsCommand (w : Texts) (c : Command) : Type 0 where

@@ -3,6 +3,7 @@ pub mod Units
 pub mod Commands
 pub mod Moments
 pub mod Replies
+pub mod Renewals
 pub mod Held
 pub mod Workers
 pub mod Sessions

@@ -23,6 +23,7 @@ use Rattle.drive.specs.declared.units.Held.{Held}
 use Rattle.drive.specs.declared.units.Worker.{Worker}
 use Rattle.drive.specs.Units.{unit_count}
 use Rattle.drive.specs.Replies.{IsCommit, IsCreatorNow, IsInfo, IsLook, IsOperand, IsRecovery, IsRefresh, IsRest, IsShown, IsTurn, source_at}
+use Rattle.drive.specs.Renewals.{HasBegunAgain, HasStayed}
 use Rattle.drive.specs.Workers.{AreWorkers, HasClaimed, HasFinished, HasNone, job_at}
 
 -- A session: its core, the one history that its seats have seen together, its units, its back, the
@@ -93,6 +94,18 @@ pub record HasRested (old new : TheSession) (rest : Rest) : Type 0 where
   pub says : IsRest old.core old.seen new.seen old.told new.told rest
   pub rested : new.rested ≡ rested_after old.rested rest
 
+-- The core was renewed, where the front had rested. Units are made anew
+pub record HasRenewed (old new : TheSession) : Type 0 where
+  pub rested : old.rested ≡ true
+  pub begins : HasBegunAgain old.core new.core old.seen new.seen old.commits new.commits new.told
+  pub units : HasNone new.units
+
+-- There was no memory to renew the core
+pub record WasNotRenewed (old new : TheSession) : Type 0 where
+  pub rested : old.rested ≡ true
+  pub stays : HasStayed old.core new.core old.seen new.seen old.commits new.commits
+  pub units : new.units ≡ old.units
+
 -- Why a command is refused
 abbrev pub MayRefuse : TheSession → Command → Refusal → Type 0
 MayRefuse s (ask.Claim unit station) no.NoUnit = unit_count ≤ unit
@@ -107,6 +120,8 @@ MayRefuse s (ask.Operand station which) no.NoStation = s.core.sizes.ring ≤ sta
 MayRefuse s (ask.Creator register) no.NoRegister = register_count ≤ register
 MayRefuse s ask.Learn no.NoMark = s.mark ≡ None
 MayRefuse s ask.Commit no.NoCount = 2 ^ 64 - 1 ≤ (state_of s.commits).count
+MayRefuse s ask.Renew no.NoRest = s.rested ≡ false
+MayRefuse s ask.Renew no.HasEnded = IsSome s.commits.ended
 MayRefuse s command refusal = ⊥
 
 -- The answer to a command: it is allowed between the two histories, or it is a refusal that changes
@@ -137,6 +152,8 @@ Answers old new (ask.Info station) (say.Info info) =
 Answers old new (ask.Operand station which) (say.Operand seen) =
     IsOperand old.core old.seen new.seen station (source_at which) seen
 Answers old new ask.Rest (say.Rest rest) = HasRested old new rest
+Answers old new ask.Renew say.Renewed = HasRenewed old new
+Answers old new ask.Renew say.Memory = WasNotRenewed old new
 Answers old new command (say.Refused refusal) = MayRefuse old command refusal × (new ≡ old)
 Answers old new command reply = ⊥
 
@@ -160,3 +177,12 @@ changed ask.Touched old new = old
 changed (ask.Info station) old new = record old { seen = new.seen; commits = new.commits }
 changed (ask.Operand station which) old new = record old { seen = new.seen; commits = new.commits }
 changed ask.Rest old new = record old { seen = new.seen; told = new.told; rested = new.rested }
+changed ask.Renew old new =
+    record old {
+      core = new.core;
+      seen = new.seen;
+      units = new.units;
+      commits = new.commits;
+      told = new.told;
+      rested = false;
+    }

@@ -175,6 +175,8 @@ refusal_text no.HoldsJob = codes "this unit holds a job"
 refusal_text no.HoldsNone = codes "this unit holds no job of that station"
 refusal_text no.NoMark = codes "no snapshot was shown yet"
 refusal_text no.NoCount = codes "no more can be counted"
+refusal_text no.NoRest = codes "the front has not rested"
+refusal_text no.HasEnded = codes "the run has ended"
 
 -- What is told of a line
 abbrev pub reply_text : Reply → List ℕ
@@ -195,4 +197,5 @@ reply_text (say.Touched count) = decimal count
 reply_text (say.Info info) = info_text info
 reply_text (say.Operand seen) = operand_text seen
 reply_text (say.Rest rest) = rest_text rest
+reply_text say.Renewed = codes "Renewed"
 reply_text (say.Refused refusal) = refusal_text refusal

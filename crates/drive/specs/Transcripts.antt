@@ -35,7 +35,6 @@ wants_text number v =
 
 -- A command was answered, and the history has grown
 pub record IsAnswered (old new : TheSession) (command : Command) (text : List ℕ) : Type 0 where
-  pub core : new.core ≡ old.core
   pub grows : Grows old.core old.seen new.seen
   pub reply : Reply
   pub says : Answers old new command reply

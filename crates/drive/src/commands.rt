@@ -26,6 +26,7 @@ pub enum Verb {
     Info,
     Operand,
     Rest,
+    Renew,
 }
 
 /// Source 1 or source 2 of an instruction.
@@ -53,6 +54,7 @@ pub enum Command {
     Info(u32),
     Operand(u32, Which),
     Rest,
+    Renew,
 }
 
 /// What a line asks for.
@@ -88,6 +90,7 @@ fn verb_in(word: &[u8]) -> Option<Verb>
         b"info" => Some(Verb::Info),
         b"operand" => Some(Verb::Operand),
         b"rest" => Some(Verb::Rest),
+        b"renew" => Some(Verb::Renew),
         _ => None,
     }
 }
@@ -185,6 +188,7 @@ fn command_in(verb: Verb, words: &Words<'_>) -> Option<Command>
         Verb::Info => only_number(words).map(Command::Info),
         Verb::Operand => station_and_source(words).map(|(station, k)| Command::Operand(station, k)),
         Verb::Rest => bare(words, Command::Rest),
+        Verb::Renew => bare(words, Command::Renew),
     }
 }
 

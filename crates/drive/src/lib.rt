@@ -8,6 +8,7 @@ mod digits;
 mod lines;
 mod names;
 mod reads;
+mod renewal;
 mod replies;
 mod script;
 mod session;

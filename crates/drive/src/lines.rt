@@ -30,6 +30,7 @@ fn word(verb: Verb) -> &'static str
         Verb::Info => "info",
         Verb::Operand => "operand",
         Verb::Rest => "rest",
+        Verb::Renew => "renew",
     }
 }
 
@@ -75,7 +76,7 @@ pub fn told<P: Predictor + Drop, J: Naming, R: Wait>(
         Line::Unknown => unknown(alloc, number),
         Line::Wants(verb) => wants(alloc, number, verb),
         Line::Asks(command) => {
-            let reply = session.answer(wait, command);
+            let reply = session.answer(wait, alloc, command);
             let mut text = text_of(alloc, &reply)?;
             text.push('\n')?;
             Ok(text)

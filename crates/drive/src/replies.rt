@@ -20,6 +20,10 @@ pub enum Refusal {
     NoMark,
     /// As many instructions were committed as can be counted.
     NoCount,
+    /// The front has not rested, or has turned or recovered since.
+    NoRest,
+    /// The run has ended.
+    HasEnded,
 }
 
 /// An info word: the index of an instruction, a half of that, and the predicted next pc.
@@ -40,7 +44,7 @@ pub enum Reply {
     Refresh(Refresh),
     Commit(Commit),
     Shown(Mark),
-    /// There was no memory to show a snapshot.
+    /// There was no memory to show a snapshot, or for another core.
     Memory,
     Taken(Snap),
     /// There is no snapshot to take.
@@ -52,5 +56,6 @@ pub enum Reply {
     Info(Info),
     Operand(Seen<SourceState>),
     Rest(Rest),
+    Renewed,
     Refused(Refusal),
 }

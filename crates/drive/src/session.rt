@@ -1,5 +1,6 @@
 //! A session: a core with all its seats in one hand.
 mod looking;
+mod renewing;
 mod resting;
 mod showing;
 
@@ -170,9 +171,8 @@ impl<'a, P: Predictor + Drop, J: Naming> Session<'a, P, J> {
         Reply::Commit(calls::commit(&self.core, &mut self.all, &mut self.back))
     }
 
-    /// Makes the call that a command asks for, if that is allowed.
-    pub fn answer<R: Wait>(&mut self, wait: &R, command: Command) -> Reply
-        ensures core { self.new.core ≡ self.old.core }
+    /// Makes the call that a command asks for, if that is allowed. The core stays, unless it is renewed.
+    pub fn answer<R: Wait>(&mut self, wait: &R, alloc: Global, command: Command) -> Reply
         ensures grows { Grows self.old.core self.old.seen self.new.seen }
         ensures kept { self.new ≡ changed command self.old self.new }
         ensures reply { Answers self.old self.new command result }
@@ -193,6 +193,7 @@ impl<'a, P: Predictor + Drop, J: Naming> Session<'a, P, J> {
             Command::Info(station) => self.info(station),
             Command::Operand(station, which) => self.operand(station, which),
             Command::Rest => self.rest(),
+            Command::Renew => self.renew(alloc),
         }
     }
 

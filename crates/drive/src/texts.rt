@@ -198,6 +198,8 @@ fn refusal_text(refusal: Refusal) -> &'static str
         Refusal::HoldsNone => "this unit holds no job of that station",
         Refusal::NoMark => "no snapshot was shown yet",
         Refusal::NoCount => "no more can be counted",
+        Refusal::NoRest => "the front has not rested",
+        Refusal::HasEnded => "the run has ended",
     }
 }
 
@@ -223,6 +225,7 @@ pub fn text_of(alloc: Global, reply: &Reply) -> Result<String, AllocError>
         Reply::Info(info) => info_text(alloc, info),
         Reply::Operand(seen) => operand_text(alloc, seen),
         Reply::Rest(rest) => format!(in alloc; "{}", rest_text(*rest)),
+        Reply::Renewed => format!(in alloc; "Renewed"),
         Reply::Refused(refusal) => format!(in alloc; "{}", refusal_text(*refusal)),
     }
 }

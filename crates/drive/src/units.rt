@@ -129,6 +129,16 @@ pub(crate) fn no_units(alloc: Global) -> Result<Vec<Option<Worker>>, Memory>
     Ok(units)
 }
 
+/// No unit is made any more.
+pub(crate) fn forget_units(units: &mut Vec<Option<Worker>>)
+    ensures places { vec_len units.new ≡ vec_len units.old }
+    ensures none { HasNone units.new.items }
+{
+    for at in 0..units.len() {
+        units[at] = None;
+    }
+}
+
 fn part(seat: UnitSeat, core: &Core) -> (UnitSeat, UnitSeat)
     requires { seat.core ≡ core.now }
     ensures kept { IsSame seat result.0 }
