@@ -8,5 +8,6 @@ pub mod Held
 pub mod Workers
 pub mod Sessions
 pub mod Texts
+pub mod Tables
 pub mod Transcripts
 pub mod Scripts

@@ -149,7 +149,7 @@ fn part(seat: UnitSeat, core: &Core) -> (UnitSeat, UnitSeat)
 }
 
 // Takes the unit at a place, which is made if it is not there yet.
-fn take_worker(
+pub(crate) fn take_worker(
     core: &Core,
     all: &mut UnitSeat,
     units: &mut Vec<Option<Worker>>,

@@ -1,18 +1,65 @@
 //! A session whose core is renewed.
 use super::Session;
-use crate::renewal;
+use crate::renewal::{Stage, renew};
 use crate::replies::{Refusal, Reply};
-use crate::units::forget_units;
-use back::Naming;
+use crate::units::{Worker, forget_units};
+use back::{Mark, Naming, Snapper};
 use core::mem::replace_with;
-use instructions::Predictor;
+use instructions::{Predictor, Program};
+use station::what_is_seen_is_legal;
 use std::alloc::Global;
 
 impl<'a, P: Predictor + Drop, J: Naming> Session<'a, P, J> {
-    ghost use Rattle.std.specs.Prelude.{◌≡◌, None, true};
+    ghost use Rattle.std.specs.Prelude.{◌≡◌, None, false, true, vec_len};
     ghost use Rattle.drive.specs.Moments.{Grows};
+    ghost use Rattle.drive.specs.Renewals.{AreAt};
     ghost use Rattle.drive.specs.Sessions.{Answers, changed};
+    ghost use Rattle.drive.specs.Units.{unit_count};
+    ghost use Rattle.drive.specs.Workers.{AreWorkers};
     ghost use Rattle.drive.specs.declared.commands.Command.TheVariants.{Renew};
+    ghost use Rattle.inorder.specs.History.{IsLegal};
+
+    // The session with these parts, whose front has not rested.
+    fn at(
+        stage: Stage<'a, P, J>,
+        program: &'a Program,
+        snapper: Snapper<J>,
+        mark: Option<Mark>,
+        units: Vec<Option<Worker>>,
+    ) -> Self
+        requires named { stage.0.program ≡ J.program }
+        requires program { program.now ≡ stage.0.program }
+        requires at { AreAt stage.0 stage.1 stage.2.core stage.3 }
+        requires workers { AreWorkers stage.0 units.items }
+        requires places { vec_len units ≡ unit_count }
+        ensures session { result ≡ record {
+            core = stage.0;
+            seen = stage.1.seen;
+            units = units.items;
+            commits = stage.3;
+            snapper = snapper;
+            mark = mark;
+            fronts = stage.2.seen;
+            touched = stage.2.touched;
+            told = stage.2.told;
+            rested = false;
+        } }
+        ensures legal { IsLegal stage.0.program stage.0.sizes stage.1.seen }
+    {
+        let (core, all, front, back) = stage;
+        what_is_seen_is_legal(&all);
+        Session {
+            core,
+            program,
+            all,
+            front,
+            back,
+            snapper,
+            mark,
+            rested: false,
+            units,
+        }
+    }
 
     // The session with another core, if there was memory for one.
     fn renewed(self, alloc: Global) -> (Self, Reply)
@@ -33,26 +80,17 @@ impl<'a, P: Predictor + Drop, J: Naming> Session<'a, P, J> {
             rested: _,
             mut units,
         } = self;
-        let (stage, reply) = match renewal::renew(alloc, program, core, all, front, back) {
+        match renew(alloc, program, core, all, front, back) {
             Ok(stage) => {
                 forget_units(&mut units);
-                (stage, Reply::Renewed)
+                let session = Self::at(stage, program, snapper, mark, units);
+                (session, Reply::Renewed)
             }
-            Err(stage) => (stage, Reply::Memory),
-        };
-        let (core, all, front, back) = stage;
-        let session = Session {
-            core,
-            program,
-            all,
-            front,
-            back,
-            snapper,
-            mark,
-            rested: false,
-            units,
-        };
-        (session, reply)
+            Err(stage) => {
+                let session = Self::at(stage, program, snapper, mark, units);
+                (session, Reply::Memory)
+            }
+        }
     }
 
     pub(super) fn renew(&mut self, alloc: Global) -> Reply
