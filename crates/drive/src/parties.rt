@@ -16,9 +16,9 @@ pub enum Party {
 pub(crate) fn party_in(name: &[u8]) -> Option<Party>
     ensures { result ≡ party_of name.now }
 {
-    if name == b"front" {
+    if name == b"front".as_slice() {
         Some(Party::Front)
-    } else if name == b"back" {
+    } else if name == b"back".as_slice() {
         Some(Party::Back)
     } else {
         unit_in(name).map(Party::Unit)
