@@ -4,4 +4,7 @@ pub mod Jobs
 pub mod Backs
 pub mod Workers
 pub mod Scripts
+pub mod Meetings
+pub mod Reports
+pub mod Rows
 pub mod Renewing

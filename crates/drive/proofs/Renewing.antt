@@ -1,7 +1,12 @@
 -- A core that is renewed, with all that stands at it.
-use Rattle.std.proofs.Common.{◌≡◌, ℕ, List, None, length, sym, ap, ◌∙◌}
+use Rattle.std.proofs.Common.{◌≡◌, ℕ, List, ◌∷◌, None, length, sym, ap, ◌∙◌, subst}
 use Rattle.inorder.specs.declared.history.Entry.{Entry}
-use Rattle.inorder.specs.History.{back, unit_of}
+use Rattle.inorder.specs.declared.history.Event.TheVariants.{Does}
+use Rattle.inorder.specs.declared.history.Step.TheVariants.{Renew}
+use Rattle.inorder.specs.History.{IsLegal, StartsWith, back, entry, front, unit_of}
+use Rattle.inorder.specs.Unit.{Sizes}
+use Rattle.instructions.specs.Programs.{Program}
+use Rattle.drive.specs.Moments.{Grows}
 use Rattle.back.specs.Backs.{TheBack, back_of, committed_in, state_of}
 use Rattle.back.specs.Stills.{TheStill, still_of}
 use Rattle.station.specs.Renewals.{IsNotRenewed, IsRenewed, Seats}
@@ -9,7 +14,7 @@ use Rattle.station.specs.Seats.{Caller, TheCore}
 use Rattle.drive.specs.Renewals.{AreAt, HasBegunAgain, HasStayed}
 
 -- How many tenants there are, by what a seat has seen
-pub tenants_in : Caller → ℕ
+abbrev pub tenants_in : Caller → ℕ
 tenants_in s = length (unit_of s.core.program s.core.sizes s.seen).tenants
 
 -- The back with a seat, after it had left as this
@@ -73,3 +78,15 @@ module _ (core now : TheCore) (old new : Seats) (r : IsNotRenewed core old now n
     shown = is_shown new.back commits entered still left enters same;
     state = is_state new.back commits entered still left enters same;
   }
+
+-- The history has grown
+module _ (core now : TheCore) (seen new_seen : List Entry) (commits new_commits : TheBack) (legal : IsLegal now.program now.sizes new_seen) where
+  pub begun_grows : (told : ℕ) → HasBegunAgain core now seen new_seen commits new_commits told → Grows core seen new_seen
+  begun_grows told h = record {
+    begins = subst (λ (xs : List Entry). StartsWith xs seen) (sym h.seen_is)
+        (record { more = entry front (Does Renew) ∷ h.begins.more; is = ap (λ xs. entry front (Does Renew) ∷ xs) h.begins.is });
+    legal = subst (λ (z : Program × Sizes). IsLegal z.0 z.1 new_seen) (λ i. (h.kind.program i, h.kind.sizes i)) legal;
+  }
+
+  pub stayed_grows : HasStayed core now seen new_seen commits new_commits → Grows core seen new_seen
+  stayed_grows h = record { begins = h.begins; legal = subst (λ (z : TheCore). IsLegal z.program z.sizes new_seen) h.core_is legal }

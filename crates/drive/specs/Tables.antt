@@ -1,5 +1,5 @@
 -- Tables: all stations, and who creates which register.
-use Rattle.std.specs.Prelude.{◌≡◌, ℕ, zero, suc, List, [], ◌∷◌, ◌++◌, codes, decimal}
+use Rattle.std.specs.Prelude.{◌≡◌, ℕ, zero, suc, Bool, true, false, List, [], ◌∷◌, ◌++◌, codes, decimal, if◌then◌else◌}
 use Rattle.instructions.specs.Registers.{register_count}
 use Rattle.isa.specs.Report.{newline}
 use Rattle.front.specs.declared.answers.Made.TheVariants.{Base}
@@ -26,10 +26,15 @@ asked_text (ask.Operand s which) = codes "operand " ++ (decimal s ++ (codes " " 
 asked_text (ask.Creator r) = codes "creator " ++ decimal r
 asked_text command = []
 
--- A row: the command, and its answer. A register that nobody creates has none
+-- A register that nobody creates has no row
+abbrev pub has_row : Reply → Bool
+has_row (say.Creator (Base value)) = false
+has_row reply = true
+
+-- A row: the command, and its answer
 abbrev pub row_text : Command → Reply → List ℕ
-row_text command (say.Creator (Base value)) = []
-row_text command reply = asked_text command ++ (codes ": " ++ (reply_text reply ++ newline))
+row_text command reply =
+    if has_row reply then asked_text command ++ (codes ": " ++ (reply_text reply ++ newline)) else []
 
 -- A row is the answer to its command
 pub record IsRow (old new : TheSession) (command : Command) (text : List ℕ) : Type 0 where

@@ -1,6 +1,6 @@
 //! Tables: all stations, and who creates which register.
 ghost use Rattle.std.specs.Prelude.{◌≡◌, ◌++◌, IfOk, OnOk, [], string_bytes};
-ghost use Rattle.drive.specs.Tables.{AreRows, HasRow, IsTable, asked_text, of_stations, which_text};
+ghost use Rattle.drive.specs.Tables.{AreRows, HasRow, IsTable, asked_text, has_row, of_stations, which_text};
 
 use crate::commands::{Command, Which};
 use crate::replies::Reply;
@@ -37,6 +37,15 @@ fn push_asked(out: &mut String, command: Command) -> Result<(), AllocError>
     }
 }
 
+fn has_row(reply: &Reply) -> bool
+    ensures { result ≡ has_row reply.now }
+{
+    match reply {
+        Reply::Creator(Made::Base(_)) => false,
+        _ => true,
+    }
+}
+
 // The row of a command. A register that nobody creates has none.
 fn push_row<P: Predictor + Drop, J: Naming, R: Wait>(
     wait: &R,
@@ -49,7 +58,7 @@ fn push_row<P: Predictor + Drop, J: Naming, R: Wait>(
         (HasRow session.old session.new command (string_bytes out.old) (string_bytes out.new)) }
 {
     let reply = session.answer(wait, alloc, command);
-    if let Reply::Creator(Made::Base(_)) = reply {
+    if !has_row(&reply) {
         return Ok(());
     }
     let text = text_of(alloc, &reply)?;

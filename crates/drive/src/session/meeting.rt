@@ -49,6 +49,7 @@ impl<'a, P: Predictor + Drop, J: Naming> Session<'a, P, J> {
         ensures kept { self.new ≡ changed (Meet one other) self.old self.new }
         ensures reply { Answers self.old self.new (Meet one other) result }
     {
+        let _ = &self.core;
         if is_nobody(one) || is_nobody(other) {
             return Reply::Refused(Refusal::NoUnit);
         }

@@ -33,18 +33,18 @@ impl<'a, P: Predictor + Drop, J: Naming> Session<'a, P, J> {
         requires workers { AreWorkers stage.0 units.items }
         requires places { vec_len units ≡ unit_count }
         ensures session { result ≡ record {
-            core = stage.0;
-            seen = stage.1.seen;
+            core = stage.entry.0;
+            seen = stage.entry.1.seen;
             units = units.items;
-            commits = stage.3;
+            commits = stage.entry.3;
             snapper = snapper;
             mark = mark;
-            fronts = stage.2.seen;
-            touched = stage.2.touched;
-            told = stage.2.told;
+            fronts = stage.entry.2.seen;
+            touched = stage.entry.2.touched;
+            told = stage.entry.2.told;
             rested = false;
         } }
-        ensures legal { IsLegal stage.0.program stage.0.sizes stage.1.seen }
+        ensures legal { IsLegal stage.entry.0.program stage.entry.0.sizes stage.entry.1.seen }
     {
         let (core, all, front, back) = stage;
         what_is_seen_is_legal(&all);
