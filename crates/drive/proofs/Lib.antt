@@ -5,6 +5,6 @@ pub mod Backs
 pub mod Workers
 pub mod Scripts
 pub mod Meetings
-pub mod Reports
+pub mod InOrder
 pub mod Rows
 pub mod Renewing

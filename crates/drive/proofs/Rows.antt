@@ -1,17 +1,27 @@
 -- Tables, row by row.
-use Rattle.std.proofs.Common.{◌≡◌, ◌≢◌, ℕ, ◌+◌, suc, List, [], ◌∷◌, ◌++◌, codes, refl, sym, subst, add-one}
+use Rattle.std.proofs.Common.{◌≡◌, ℕ, ◌+◌, suc, List, [], ◌∷◌, ◌++◌, codes, Bool, false, if◌then◌else◌, sym, ap, subst, add-one}
 use Rattle.isa.specs.Report.{newline}
-use Rattle.front.specs.declared.answers.Made.{Made}
-use Rattle.front.specs.declared.answers.Made.TheVariants.{Base, Made as IsMade}
-use Rattle.instructions.specs.declared.end.End.{End}
 use Rattle.drive.specs.declared.commands.Command.{Command}
 use Rattle.drive.specs.declared.commands.Command.TheVariants as ask
 use Rattle.drive.specs.declared.commands.Which.TheVariants.{First, Second}
 use Rattle.drive.specs.declared.replies.Reply.{Reply}
-use Rattle.drive.specs.declared.replies.Reply.TheVariants as say
-use Rattle.drive.specs.Sessions.{TheSession}
-use Rattle.drive.specs.Tables.{AreRows, HasRow, asked_text, of_registers, of_stations, row_text}
-use Rattle.drive.specs.Texts.{reply_line, reply_text}
+use Rattle.std.proofs.lemmas.List.{append-nil}
+use Rattle.drive.specs.Moments.{Grows}
+use Rattle.drive.specs.Sessions.{Answers, TheSession, changed}
+use Rattle.drive.specs.Tables.{AreRows, HasRow, asked_text, has_row, of_registers, of_stations, row_text}
+use Rattle.drive.specs.Texts.{reply_text}
+
+no_row : (command : Command) (reply : Reply) → has_row reply ≡ false → row_text command reply ≡ []
+no_row command reply e = ap (λ (b : Bool). if b then asked_text command ++ (codes ": " ++ (reply_text reply ++ newline)) else []) e
+
+-- Where a register has no row nothing is written
+pub left_out : (a b : TheSession) (command : Command) (reply : Reply) (before : List ℕ) → Grows a.core a.seen b.seen → Answers a b command reply → b ≡ changed command a b → has_row reply ≡ false →
+    HasRow a b command before before
+left_out a b command reply before grows says kept none = record {
+  text = [];
+  row = record { grows = grows; reply = reply; says = says; kept = kept; text_is = sym (no_row command reply none) };
+  written = sym (append-nil before);
+}
 
 pub one_more_row : (a b c : TheSession) (earlier : List Command) (command : Command) (before after : List ℕ) →
     AreRows a earlier before b → HasRow b c command before after → AreRows a (command ∷ earlier) after c

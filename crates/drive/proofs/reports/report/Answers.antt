@@ -2,7 +2,7 @@ use Rattle.std.proofs.Common.{◌∙◌, ap}
 use Rattle.inorder.specs.Runs.{ending}
 use Rattle.back.specs.Backs.{state_of}
 use Rattle.station.specs.Seats.{TheCore}
-use Rattle.drive.proofs.Reports.{committed_after, machine_state, same_state}
+use Rattle.drive.proofs.InOrder.{committed_after, machine_state, same_state}
 use Rattle.drive.proofs.reports.report.Goals as goal
 
 pub returns-clause-state : goal.returns-clause-state

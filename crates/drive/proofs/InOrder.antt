@@ -13,7 +13,7 @@ use Rattle.inorder.proofs.Histories.{unit_sound}
 use Rattle.back.specs.Backs.{committed_in}
 use Rattle.station.specs.Seats.{TheCore}
 
-nowhere : (c : Stop) (s t : State) → (ByStop c, s) ≡ (ByLimit, t) → ⊥
+nowhere : (c : Stop) (s t : State) → ◌≡◌ {A = Ending × State} (ByStop c, s) (ByLimit, t) → ⊥
 nowhere c s t e = let is : ByStop c ≡ ByLimit = ap (λ (z : Ending × State). z.0) e in absurd (cc)
 
 module _ (P : Program) where
@@ -22,24 +22,24 @@ module _ (P : Program) where
   goes_on zero s t u e goes =
       let same : s ≡ t = ap (λ (z : Ending × State). z.1) e in
       ap (end_after (end_from P zero) s) (ap (step P) same ∙ goes)
-  goes_on (suc k) s t u e goes = go (step P s) refl
+  goes_on (suc k) s t u e goes = go (λ v f. goes_on k v t u f goes) (step P s) refl
     where
-      go : (r : Ran) → step P s ≡ r → end_from P (suc (suc k)) s ≡ (ByLimit, u)
-      go (Goes v) is =
-          ap (end_after (end_from P (suc k)) s) is ∙ goes_on k v t u (sym (ap (end_after (end_from P k) s) is) ∙ e) goes
-      go (Halts c) is = absurd (nowhere c s t (sym (ap (end_after (end_from P k) s) is) ∙ e))
+      go : ((v : State) → end_from P k v ≡ (ByLimit, t) → end_from P (suc k) v ≡ (ByLimit, u)) → (r : Ran) → step P s ≡ r → end_from P (suc (suc k)) s ≡ (ByLimit, u)
+      go earlier (Goes v) is =
+          ap (end_after (end_from P (suc k)) s) is ∙ earlier v (sym (ap (end_after (end_from P k) s) is) ∙ e)
+      go earlier (Halts c) is = absurd (nowhere c s t (sym (ap (end_after (end_from P k) s) is) ∙ e))
+
+  then_goes : (s t : State) (r : Ran) → step P t ≡ r → next_state r ≡ Some s → step P t ≡ Goes s
+  then_goes s t (Goes v) is f = let same : v ≡ s = cc in is ∙ ap Goes same
+  then_goes s t (Halts c) is f = absurd (cc)
 
   pub comes_to : (n : ℕ) (s : State) → after P n ≡ Some s → end_from P n (start P) ≡ (ByLimit, s)
   comes_to zero s e = let same : start P ≡ s = cc in ap (λ t. (ByLimit, t)) same
-  comes_to (suc n) s e = go (after P n) refl
+  comes_to (suc n) s e = go (λ t is. comes_to n t is) (after P n) refl
     where
-      then_goes : (t : State) (r : Ran) → step P t ≡ r → next_state r ≡ Some s → step P t ≡ Goes s
-      then_goes t (Goes v) is f = let same : v ≡ s = cc in is ∙ ap Goes same
-      then_goes t (Halts c) is f = absurd (cc)
-
-      go : (before : Option State) → after P n ≡ before → end_from P (suc n) (start P) ≡ (ByLimit, s)
-      go None is = let none : None ≡ Some s = sym (ap (then_state P) is) ∙ e in absurd (cc)
-      go (Some t) is = goes_on n (start P) t s (comes_to n t is) (then_goes t (step P t) refl (sym (ap (then_state P) is) ∙ e))
+      go : ((t : State) → after P n ≡ Some t → end_from P n (start P) ≡ (ByLimit, t)) → (before : Option State) → after P n ≡ before → end_from P (suc n) (start P) ≡ (ByLimit, s)
+      go earlier None is = let none : ◌≡◌ {A = Option State} None (Some s) = sym (ap (then_state P) is) ∙ e in absurd (cc)
+      go earlier (Some t) is = goes_on n (start P) t s (earlier t is) (then_goes s t (step P t) refl (sym (ap (then_state P) is) ∙ e))
 
 -- What was committed is the state of the machine in order
 pub committed_after : (core now : TheCore) (seen : List Entry) → now ≡ core → IsLegal core.program core.sizes seen → after core.program (committed_in now seen).count ≡ Some (committed_in now seen)
