@@ -4,3 +4,7 @@ pub mod Jobs
 pub mod Backs
 pub mod Workers
 pub mod Scripts
+pub mod Meetings
+pub mod InOrder
+pub mod Rows
+pub mod Renewing

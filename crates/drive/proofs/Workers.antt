@@ -1,17 +1,22 @@
 -- The units of a session, one of which is taken and put back.
-use Rattle.std.proofs.Common.{◌≡◌, ◌≢◌, ◌⊎◌, ◌<◌, ℕ, zero, suc, List, [], ◌∷◌, ◌++◌}
+use Rattle.std.proofs.Common.{◌≡◌, ◌≢◌, ◌⊎◌, ◌<◌, ◌≤◌, ◌+◌, ⊎_elim, arith, ℕ, zero, suc, List, [], ◌∷◌, ◌++◌}
 use Rattle.std.proofs.Common.{Option, Some, None, length, get_or, set, inl, inr, refl, sym, ap, ◌∙◌, subst, get_or-set_same, get_or-set_other, length-set}
-use Rattle.std.proofs.lemmas.Bool.{cases_eq}
-use Rattle.std.proofs.lemmas.List.{get_or_default}
+use Rattle.std.proofs.lemmas.Bool.{cases_eq, cases_lt}
+use Rattle.std.proofs.lemmas.List.{append-nil, get_or_default}
+use Rattle.inorder.specs.declared.history.Entry.{Entry}
+use Rattle.inorder.specs.History.{Adds, StartsWith}
 use Rattle.drive.specs.declared.units.Claimed.{Claimed}
 use Rattle.drive.specs.declared.units.Claimed.TheVariants.{Job, Moved, NotOpen, Waiting}
 use Rattle.drive.specs.declared.units.Held.{Held}
 use Rattle.drive.specs.declared.units.Worker.{Worker}
-use Rattle.drive.specs.Held.{claim_of}
+use Rattle.drive.specs.Held.{claim_of, job_of}
 use Rattle.drive.specs.Replies.{HoldsWhatIs}
-use Rattle.drive.specs.Workers.{AreWorkers, HasNone, HasUnit, IsHolder, IsWorker, job_at, job_from, job_in, worker_at}
+use Rattle.drive.specs.Workers.{AreWorkers, HasNone, HasTold, HasUnit, IsHolder, IsWorker, StaySeen, job_at, job_from, job_in, seen_at, seen_in, worker_at}
+use Rattle.drive.proofs.Histories.{starts_same}
+use Rattle.drive.proofs.Jobs.{job_later}
 use Rattle.station.specs.declared.answers.Claim.{Claim}
-use Rattle.station.specs.Seats.{Caller, TheCore}
+use Rattle.station.specs.Laws.{JobsStaySeen}
+use Rattle.station.specs.Seats.{Caller, IsSame, TheCore}
 
 pub at_place : (units : List (Option Worker)) (at : ℕ) (x : Option Worker) → at < length units → x ≡ get_or units at x → worker_at units at ≡ x
 at_place units at x within is = get_or_default units at None x within ∙ sym is
@@ -54,6 +59,43 @@ module _ (units taken : List (Option Worker)) (at : ℕ) (w : Worker) (within : 
   pub has_unit : (by : ℕ) (job : Option Held) → w.seat.by ≡ by → w.job ≡ job → ((v : Worker) → worker_at units at ≡ Some v → v.seat.by ≡ by) → HasUnit units (set taken at (Some w)) at by job
   has_unit by job by_is job_is number = record { worker = w; is = here; by_is = by_is; job_is = job_is; number = number; others = there }
 
+  -- It is put back with the same job, and has seen more
+  pub stay_seen : StartsWith w.seat.seen (seen_at units at) → w.job ≡ job_at units at → StaySeen units (set taken at (Some w))
+  stay_seen more job = record { keeps = λ k. keep k (cases_eq k at); jobs = λ k. job_is k (cases_eq k at) }
+    where
+      keep : (k : ℕ) → (k ≡ at) ⊎ (k ≢ at) → StartsWith (seen_at (set taken at (Some w)) k) (seen_at units k)
+      keep k (inl e) = subst (λ n. StartsWith (seen_at (set taken at (Some w)) n) (seen_at units n)) (sym e)
+          (subst (λ (x : Option Worker). StartsWith (seen_in x) (seen_at units at)) (sym here) more)
+      keep k (inr ne) = subst (λ (x : Option Worker). StartsWith (seen_in x) (seen_at units k)) (sym (there k ne)) (starts_same (seen_at units k))
+
+      job_is : (k : ℕ) → (k ≡ at) ⊎ (k ≢ at) → job_at (set taken at (Some w)) k ≡ job_at units k
+      job_is k (inl e) = ap (λ n. job_at (set taken at (Some w)) n) e ∙ (ap job_in here ∙ (job ∙ ap (λ n. job_at units n) (sym e)))
+      job_is k (inr ne) = ap job_in (there k ne)
+
+  pub has_told : (old new : List Entry) → StaySeen units (set taken at (Some w)) → StartsWith w.seat.seen old → StartsWith new w.seat.seen →
+      HasTold units (set taken at (Some w)) at old new
+  has_told old new stays learns tells = record {
+    units = stays;
+    learns = subst (λ (x : Option Worker). StartsWith (seen_in x) old) (sym here) learns;
+    tells = subst (λ (x : Option Worker). StartsWith new (seen_in x)) (sym here) tells;
+  }
+
+-- Who is taken has seen what the one there had seen
+pub taken_seen : (units : List (Option Worker)) (at : ℕ) (w : Worker) → ((v : Worker) → worker_at units at ≡ Some v → w ≡ v) → StartsWith w.seat.seen (seen_at units at)
+taken_seen units at w same = go (worker_at units at) same
+  where
+    go : (x : Option Worker) → ((v : Worker) → x ≡ Some v → w ≡ v) → StartsWith w.seat.seen (seen_in x)
+    go None f = record { more = w.seat.seen; is = sym (append-nil w.seat.seen) }
+    go (Some v) f = subst (λ (u : Worker). StartsWith w.seat.seen u.seat.seen) (f v refl) (starts_same w.seat.seen)
+
+-- A unit that has met still holds its job
+pub still_works : (core : TheCore) (stay : JobsStaySeen) (w : Worker) (seat : Caller) → IsWorker core w → IsSame w.seat seat → Adds core.program core.sizes w.seat.by w.seat.seen seat.seen [] →
+    IsWorker core (record { seat = seat; job = w.job })
+still_works core stay w seat is same adds = record {
+  core_is = same.core ∙ is.core_is;
+  holds = λ held e. job_later core stay w.seat seat (job_of held) (is.holds held e) same.by adds;
+}
+
 -- The job of a claim is held
 holds_by : (core : TheCore) (seat : Caller) (answer : Claimed) → HoldsWhatIs core seat (claim_of answer) → (held : Held) → job_from answer ≡ Some held → IsHolder core seat held
 holds_by core seat (Job h) holds held e = let same : h ≡ held = cc in subst (λ (x : Held). IsHolder core seat x) same holds
@@ -71,3 +113,20 @@ push_none [] zero e = refl
 push_none [] (suc k) e = refl
 push_none (x ∷ xs) zero e = e
 push_none (x ∷ xs) (suc k) e = push_none xs k e
+
+-- Where all before one were forgotten, and it is forgotten
+pub forgot : (xs : List (Option Worker)) (at : ℕ) → at < length xs → ((k : ℕ) → k < at → worker_at xs k ≡ None) → (k : ℕ) → k < at + 1 → worker_at (set xs at None) k ≡ None
+forgot xs at within so_far k less = go (cases_eq k at)
+  where
+    go : (k ≡ at) ⊎ (k ≢ at) → worker_at (set xs at None) k ≡ None
+    go (inl e) = ap (λ n. get_or (set xs at None) n None) e ∙ get_or-set_same xs at None None within
+    go (inr ne) = get_or-set_other xs at k None None ne ∙ so_far k (omega (arith, less, ne))
+
+behind_all : (xs : List (Option Worker)) (k : ℕ) → length xs ≤ k → worker_at xs k ≡ None
+behind_all [] zero le = refl
+behind_all [] (suc k) le = refl
+behind_all (x ∷ xs) zero le = absurd (omega (arith, le))
+behind_all (x ∷ xs) (suc k) le = behind_all xs k (omega (arith, le))
+
+pub all_forgotten : (xs : List (Option Worker)) → ((k : ℕ) → k < length xs → worker_at xs k ≡ None) → HasNone xs
+all_forgotten xs f k = ⊎_elim (λ less. f k less) (λ le. behind_all xs k le) (cases_lt k (length xs))

@@ -1,15 +1,18 @@
 -- The commands of a script, and the texts that stand for them.
-use Rattle.std.specs.Prelude.{◌≡◌, ◌≢◌, ◌==◌, ◌&&◌, ℕ, Bool, not, List, [], length, codes, Option, Some, None, if◌then◌else◌}
+use Rattle.std.specs.Prelude.{◌≡◌, ◌≢◌, ◌==◌, ◌&&◌, ℕ, Bool, true, false, not, List, [], length, codes, Option, Some, None, if◌then◌else◌}
 use Rattle.std.specs.Option.{option_map}
+use Rattle.std.specs.Str.{bytes_eq}
 use Rattle.text.specs.Number.{decimal_in}
 use Rattle.drive.specs.declared.commands.Command.{Command}
 use Rattle.drive.specs.declared.commands.Command.TheVariants as call
 use Rattle.drive.specs.declared.commands.Line.{Line}
-use Rattle.drive.specs.declared.commands.Line.TheVariants.{Asks, Nothing, Unknown, Wants}
+use Rattle.drive.specs.declared.commands.Line.TheVariants.{Asks, Nothing, Table as AsksTable, Unknown, Wants}
 use Rattle.drive.specs.declared.commands.Verb.{Verb}
-use Rattle.drive.specs.declared.commands.Verb.TheVariants.{Claim, Commit, Creator, Finish, Info, Learn, Look, Operand, Recover, Refresh, Rest, Show, Take, Touched, Turn}
+use Rattle.drive.specs.declared.commands.Verb.TheVariants.{Claim, Commit, Creator, Finish, Info, Learn, Look, Meet, Operand, Recover, Refresh, Renew, Report, Rest, Show, Table, Take, Touched, Turn}
 use Rattle.drive.specs.declared.commands.Which.{Which}
 use Rattle.drive.specs.declared.commands.Which.TheVariants.{First, Second}
+use Rattle.drive.specs.declared.parties.Party.{Party}
+use Rattle.drive.specs.declared.parties.Party.TheVariants as party
 use Rattle.drive.specs.Units.{unit_of}
 use Rattle.drive.specs.Words.{Texts}
 
@@ -30,6 +33,10 @@ verb_name Touched = codes "touched"
 verb_name Info = codes "info"
 verb_name Operand = codes "operand"
 verb_name Rest = codes "rest"
+verb_name Meet = codes "meet"
+verb_name Report = codes "report"
+verb_name Renew = codes "renew"
+verb_name Table = codes "table"
 
 -- No character
 abbrev pub is_empty : List ℕ → Bool
@@ -78,6 +85,17 @@ source_of text = source_numbered (number_of text)
 abbrev pub station_and_source : Texts → Option (ℕ × Which)
 station_and_source w = if has_two w then both (number_of w.first) (source_of w.second) else None
 
+-- The one with this name: the front, the back, or a unit
+abbrev pub party_of : List ℕ → Option Party
+party_of name =
+    if bytes_eq name (codes "front") then Some party.Front
+    else if bytes_eq name (codes "back") then Some party.Back
+    else option_map (λ u. party.Unit u) (unit_of name)
+
+-- Two that meet
+abbrev pub two_parties : Texts → Option (Party × Party)
+two_parties w = if has_two w then both (party_of w.first) (party_of w.second) else None
+
 -- The command of a word and its operands
 abbrev pub command_of : Verb → Texts → Option Command
 command_of Turn w = bare w call.Turn
@@ -95,6 +113,10 @@ command_of Touched w = bare w call.Touched
 command_of Info w = option_map (λ s. call.Info s) (only_number w)
 command_of Operand w = option_map (λ p. call.Operand p.0 p.1) (station_and_source w)
 command_of Rest w = bare w call.Rest
+command_of Meet w = option_map (λ p. call.Meet p.0 p.1) (two_parties w)
+command_of Report w = bare w call.Report
+command_of Renew w = bare w call.Renew
+command_of Table w = None
 
 -- The command that these words are
 pub record IsCommand (w : Texts) (c : Command) : Type 0 where
@@ -102,9 +124,21 @@ pub record IsCommand (w : Texts) (c : Command) : Type 0 where
   pub named : w.verb ≡ verb_name verb
   pub is : command_of verb w ≡ Some c
 
+-- These words ask for a table
+pub record AsksForTable (w : Texts) : Type 0 where
+  pub named : w.verb ≡ verb_name Table
+  pub bare : is_empty w.first ≡ true
+
+-- The word is that of a command, and its operands are none of it
+pub record IsMistaken (w : Texts) (v : Verb) : Type 0 where
+  pub named : w.verb ≡ verb_name v
+  pub none : command_of v w ≡ None
+  pub no_table : v ≡ Table → is_empty w.first ≡ false
+
 -- What the words of a line come to. A line without words asks for nothing
 abbrev pub IsLine : Texts → Line → Type 0
 IsLine w Nothing = w.verb ≡ []
 IsLine w Unknown = (v : Verb) → w.verb ≢ verb_name v
-IsLine w (Wants v) = (w.verb ≡ verb_name v) × (command_of v w ≡ None)
+IsLine w (Wants v) = IsMistaken w v
 IsLine w (Asks c) = IsCommand w c
+IsLine w AsksTable = AsksForTable w

@@ -3,9 +3,11 @@ pub mod Units
 pub mod Commands
 pub mod Moments
 pub mod Replies
+pub mod Renewals
 pub mod Held
 pub mod Workers
 pub mod Sessions
 pub mod Texts
+pub mod Tables
 pub mod Transcripts
 pub mod Scripts

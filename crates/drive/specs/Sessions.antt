@@ -1,11 +1,13 @@
 -- What contracts see of a session, and what it answers.
-use Rattle.std.specs.Prelude.{◌≡◌, ◌≢◌, ℕ, ◌≤◌, ◌-◌, ◌^◌, max, Bool, true, false, List, [], Option, Some, None, IsSome}
+use Rattle.std.specs.Prelude.{◌≡◌, ◌≢◌, ℕ, ◌<◌, ◌≤◌, ◌-◌, ◌^◌, ◌⊎◌, max, Bool, true, false, List, [], Option, Some, None, IsSome}
 use Rattle.instructions.specs.Programs.{Program}
+use Rattle.instructions.specs.declared.end.End.{End}
 use Rattle.instructions.specs.Settings.{Settings}
 use Rattle.instructions.specs.Registers.{register_count}
 use Rattle.inorder.specs.declared.history.Entry.{Entry}
-use Rattle.inorder.specs.History.{IsLegal, back}
-use Rattle.back.specs.Backs.{TheBack, state_of}
+use Rattle.inorder.specs.History.{IsLegal, StartsWith, back}
+use Rattle.back.specs.Backs.{IsSame as IsSameBack, TheBack, state_of}
+use Rattle.back.specs.Ends.{outcome_of, state_in}
 use Rattle.front.specs.declared.answers.Rest.{Rest}
 use Rattle.front.specs.Rests.{rested_after}
 use Rattle.snapshots.specs.declared.mark.Mark.{Mark}
@@ -15,6 +17,8 @@ use Rattle.station.specs.declared.answers.Finish.{Finish}
 use Rattle.station.specs.Seats.{Caller, TheCore}
 use Rattle.drive.specs.declared.commands.Command.{Command}
 use Rattle.drive.specs.declared.commands.Command.TheVariants as ask
+use Rattle.drive.specs.declared.parties.Party.{Party}
+use Rattle.drive.specs.declared.parties.Party.TheVariants as party
 use Rattle.drive.specs.declared.replies.Refusal.{Refusal}
 use Rattle.drive.specs.declared.replies.Refusal.TheVariants as no
 use Rattle.drive.specs.declared.replies.Reply.{Reply}
@@ -23,11 +27,13 @@ use Rattle.drive.specs.declared.units.Held.{Held}
 use Rattle.drive.specs.declared.units.Worker.{Worker}
 use Rattle.drive.specs.Units.{unit_count}
 use Rattle.drive.specs.Replies.{IsCommit, IsCreatorNow, IsInfo, IsLook, IsOperand, IsRecovery, IsRefresh, IsRest, IsShown, IsTurn, source_at}
-use Rattle.drive.specs.Workers.{AreWorkers, HasClaimed, HasFinished, HasNone, job_at}
+use Rattle.drive.specs.Renewals.{HasBegunAgain, HasStayed}
+use Rattle.drive.specs.Workers.{AreWorkers, HasClaimed, HasFinished, HasNone, StaySeen, job_at, seen_at}
 
 -- A session: its core, the one history that its seats have seen together, its units, its back, the
--- greatest count of its snapper, the mark that was shown last, what the create vector has touched, how
--- many tenants there were when the front last rested, and whether it has not turned or recovered since
+-- greatest count of its snapper, the mark that was shown last, what the front has seen, what its create
+-- vector has touched, how many tenants there were when it last rested, and whether it has not turned or
+-- recovered since
 pub record TheSession : Type 0 where
   pub core : TheCore
   pub seen : List Entry
@@ -35,6 +41,7 @@ pub record TheSession : Type 0 where
   pub commits : TheBack
   pub snapper : ℕ
   pub mark : Option Mark
+  pub fronts : List Entry
   pub touched : ℕ
   pub told : ℕ
   pub rested : Bool
@@ -93,6 +100,59 @@ pub record HasRested (old new : TheSession) (rest : Rest) : Type 0 where
   pub says : IsRest old.core old.seen new.seen old.told new.told rest
   pub rested : new.rested ≡ rested_after old.rested rest
 
+-- What one of those that can meet has seen
+abbrev pub seen_by : Party → TheSession → List Entry
+seen_by party.Front s = s.fronts
+seen_by party.Back s = s.commits.seen
+seen_by (party.Unit unit) s = seen_at s.units unit
+
+-- Nobody has forgotten what it had seen, each unit has the job that it had, and the back is the same
+pub record StaysAsSeen (old new : TheSession) : Type 0 where
+  pub keeps : (p : Party) → StartsWith (seen_by p new) (seen_by p old)
+  pub units : StaySeen old.units new.units
+  pub commits : IsSameBack old.commits new.commits
+
+-- One of them has seen all that was seen before, and its own is part of what is seen now
+pub record HasToldAll (old new : TheSession) (p : Party) : Type 0 where
+  pub stays : StaysAsSeen old new
+  pub learns : StartsWith (seen_by p new) old.seen
+  pub tells : StartsWith new.seen (seen_by p new)
+
+-- Two have met: each has seen what either had seen
+pub record HaveMet (old new : TheSession) (one other : Party) : Type 0 where
+  pub stays : StaysAsSeen old new
+  pub one_told : StartsWith (seen_by one new) (seen_by other old)
+  pub other_told : StartsWith (seen_by other new) (seen_by one old)
+
+-- Nothing can be of this name
+abbrev pub IsNobody : Party → Type 0
+IsNobody (party.Unit unit) = unit_count ≤ unit
+IsNobody p = ⊥
+
+-- A seat can be of this name
+abbrev pub IsSomebody : Party → Type 0
+IsSomebody (party.Unit unit) = unit < unit_count
+IsSomebody p = Unit {0}
+
+-- The committed state, and how the run has ended, if it has
+pub record HasReported (old : TheSession) (end : End) : Type 0 where
+  pub state : state_in end ≡ state_of old.commits
+  pub outcome : end.outcome ≡ outcome_of old.commits.ended
+
+-- The core was renewed, where the front had rested. Units are made anew
+pub record HasRenewed (old new : TheSession) : Type 0 where
+  pub rested : old.rested ≡ true
+  pub begins : HasBegunAgain old.core new.core old.seen new.seen old.commits new.commits new.told
+  pub rests_no_more : new.rested ≡ false
+  pub units : HasNone new.units
+
+-- There was no memory to renew the core
+pub record WasNotRenewed (old new : TheSession) : Type 0 where
+  pub rested : old.rested ≡ true
+  pub stays : HasStayed old.core new.core old.seen new.seen old.commits new.commits
+  pub rests_no_more : new.rested ≡ false
+  pub units : new.units ≡ old.units
+
 -- Why a command is refused
 abbrev pub MayRefuse : TheSession → Command → Refusal → Type 0
 MayRefuse s (ask.Claim unit station) no.NoUnit = unit_count ≤ unit
@@ -107,6 +167,10 @@ MayRefuse s (ask.Operand station which) no.NoStation = s.core.sizes.ring ≤ sta
 MayRefuse s (ask.Creator register) no.NoRegister = register_count ≤ register
 MayRefuse s ask.Learn no.NoMark = s.mark ≡ None
 MayRefuse s ask.Commit no.NoCount = 2 ^ 64 - 1 ≤ (state_of s.commits).count
+MayRefuse s (ask.Meet one other) no.NoUnit = IsNobody one ⊎ IsNobody other
+MayRefuse s (ask.Meet one other) no.NoOther = one ≡ other
+MayRefuse s ask.Renew no.NoRest = s.rested ≡ false
+MayRefuse s ask.Renew no.HasEnded = IsSome s.commits.ended
 MayRefuse s command refusal = ⊥
 
 -- The answer to a command: it is allowed between the two histories, or it is a refusal that changes
@@ -137,15 +201,20 @@ Answers old new (ask.Info station) (say.Info info) =
 Answers old new (ask.Operand station which) (say.Operand seen) =
     IsOperand old.core old.seen new.seen station (source_at which) seen
 Answers old new ask.Rest (say.Rest rest) = HasRested old new rest
+Answers old new (ask.Meet one other) say.Met = HaveMet old new one other
+Answers old new ask.Report (say.Report end) = HasReported old end
+Answers old new ask.Report say.Memory = Unit {0}
+Answers old new ask.Renew say.Renewed = HasRenewed old new
+Answers old new ask.Renew say.Memory = WasNotRenewed old new
 Answers old new command (say.Refused refusal) = MayRefuse old command refusal × (new ≡ old)
 Answers old new command reply = ⊥
 
 -- The session with what a command may change
 abbrev pub changed : Command → TheSession → TheSession → TheSession
 changed ask.Turn old new =
-    record old { seen = new.seen; touched = new.touched; rested = false }
+    record old { seen = new.seen; fronts = new.fronts; touched = new.touched; rested = false }
 changed ask.Recover old new =
-    record old { seen = new.seen; touched = new.touched; rested = false }
+    record old { seen = new.seen; fronts = new.fronts; touched = new.touched; rested = false }
 changed (ask.Claim unit station) old new = record old { seen = new.seen; units = new.units }
 changed (ask.Finish unit station) old new = record old { seen = new.seen; units = new.units }
 changed ask.Refresh old new = record old { seen = new.seen; commits = new.commits }
@@ -154,9 +223,28 @@ changed ask.Show old new =
     record old { seen = new.seen; commits = new.commits; mark = new.mark }
 changed ask.Take old new = record old { snapper = new.snapper }
 changed ask.Learn old new = record old { snapper = new.snapper }
-changed (ask.Look station) old new = record old { seen = new.seen }
-changed (ask.Creator register) old new = record old { seen = new.seen }
+changed (ask.Look station) old new = record old { seen = new.seen; fronts = new.fronts }
+changed (ask.Creator register) old new = record old { seen = new.seen; fronts = new.fronts }
 changed ask.Touched old new = old
 changed (ask.Info station) old new = record old { seen = new.seen; commits = new.commits }
 changed (ask.Operand station which) old new = record old { seen = new.seen; commits = new.commits }
-changed ask.Rest old new = record old { seen = new.seen; told = new.told; rested = new.rested }
+changed ask.Rest old new =
+    record old { seen = new.seen; fronts = new.fronts; told = new.told; rested = new.rested }
+changed (ask.Meet one other) old new =
+    record old {
+      seen = new.seen;
+      units = new.units;
+      commits = new.commits;
+      fronts = new.fronts;
+    }
+changed ask.Report old new = record old { seen = new.seen; commits = new.commits }
+changed ask.Renew old new =
+    record old {
+      core = new.core;
+      seen = new.seen;
+      units = new.units;
+      commits = new.commits;
+      fronts = new.fronts;
+      told = new.told;
+      rested = new.rested;
+    }

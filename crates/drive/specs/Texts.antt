@@ -1,6 +1,6 @@
 -- The texts of answers.
 use Rattle.std.specs.Prelude.{ℕ, ◌+◌, ◌==◌, List, [], ◌∷◌, ◌++◌, codes, decimal, if◌then◌else◌}
-use Rattle.isa.specs.Report.{hexadecimal, register_name}
+use Rattle.isa.specs.Report.{hexadecimal, newline, register_name, report_of}
 use Rattle.instructions.specs.Endings.{stop_word}
 use Rattle.instructions.specs.declared.op.Half.{Half}
 use Rattle.instructions.specs.declared.op.Half.TheVariants.{High, Low}
@@ -175,6 +175,9 @@ refusal_text no.HoldsJob = codes "this unit holds a job"
 refusal_text no.HoldsNone = codes "this unit holds no job of that station"
 refusal_text no.NoMark = codes "no snapshot was shown yet"
 refusal_text no.NoCount = codes "no more can be counted"
+refusal_text no.NoRest = codes "the front has not rested"
+refusal_text no.HasEnded = codes "the run has ended"
+refusal_text no.NoOther = codes "a seat does not meet itself"
 
 -- What is told of a line
 abbrev pub reply_text : Reply → List ℕ
@@ -195,4 +198,12 @@ reply_text (say.Touched count) = decimal count
 reply_text (say.Info info) = info_text info
 reply_text (say.Operand seen) = operand_text seen
 reply_text (say.Rest rest) = rest_text rest
+reply_text say.Met = codes "Met"
+reply_text (say.Report end) = report_of end
+reply_text say.Renewed = codes "Renewed"
 reply_text (say.Refused refusal) = refusal_text refusal
+
+-- The same with the end of its line, which a report has itself
+abbrev pub reply_line : Reply → List ℕ
+reply_line (say.Report end) = report_of end
+reply_line reply = reply_text reply ++ newline

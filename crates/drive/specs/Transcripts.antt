@@ -3,14 +3,15 @@ use Rattle.std.specs.Prelude.{◌≡◌, ℕ, suc, List, [], ◌∷◌, ◌++◌
 use Rattle.isa.specs.Report.{newline}
 use Rattle.drive.specs.declared.commands.Command.{Command}
 use Rattle.drive.specs.declared.commands.Line.{Line}
-use Rattle.drive.specs.declared.commands.Line.TheVariants.{Asks, Nothing, Unknown, Wants}
+use Rattle.drive.specs.declared.commands.Line.TheVariants.{Asks, Nothing, Table, Unknown, Wants}
 use Rattle.drive.specs.declared.commands.Verb.{Verb}
 use Rattle.drive.specs.declared.commands.Verb.TheVariants as verb
 use Rattle.drive.specs.declared.replies.Reply.{Reply}
+use Rattle.drive.specs.Tables.{IsTable}
 use Rattle.drive.specs.Commands.{IsLine, verb_name}
 use Rattle.drive.specs.Moments.{Grows}
 use Rattle.drive.specs.Sessions.{Answers, TheSession, changed}
-use Rattle.drive.specs.Texts.{reply_text}
+use Rattle.drive.specs.Texts.{reply_line}
 use Rattle.drive.specs.Words.{words_of}
 
 -- What the operands of a command are
@@ -21,6 +22,7 @@ operands_text verb.Look = codes "a station"
 operands_text verb.Info = codes "a station"
 operands_text verb.Operand = codes "a station and a source"
 operands_text verb.Creator = codes "a register"
+operands_text verb.Meet = codes "two of front, back and units"
 operands_text _ = codes "no operand"
 
 -- The text for a line whose first word is none of a command
@@ -35,12 +37,11 @@ wants_text number v =
 
 -- A command was answered, and the history has grown
 pub record IsAnswered (old new : TheSession) (command : Command) (text : List ℕ) : Type 0 where
-  pub core : new.core ≡ old.core
   pub grows : Grows old.core old.seen new.seen
   pub reply : Reply
   pub says : Answers old new command reply
   pub kept : new ≡ changed command old new
-  pub text_is : text ≡ reply_text reply ++ newline
+  pub text_is : text ≡ reply_line reply
 
 -- What is told of a line of this number. A line that makes no call changes nothing
 abbrev pub LineSays : TheSession → TheSession → ℕ → Line → List ℕ → Type 0
@@ -48,6 +49,7 @@ LineSays old new number Nothing text = (text ≡ []) × (new ≡ old)
 LineSays old new number Unknown text = (text ≡ unknown_text number) × (new ≡ old)
 LineSays old new number (Wants v) text = (text ≡ wants_text number v) × (new ≡ old)
 LineSays old new number (Asks command) text = IsAnswered old new command text
+LineSays old new number Table text = IsTable old new text
 
 -- What is told of the bytes of a line
 pub record IsTold (old new : TheSession) (number : ℕ) (bytes text : List ℕ) : Type 0 where

@@ -1,5 +1,6 @@
 -- The units of a session.
-use Rattle.std.specs.Prelude.{◌≡◌, ◌≢◌, ℕ, List, Option, Some, None, slice_index_or}
+use Rattle.std.specs.Prelude.{◌≡◌, ◌≢◌, ℕ, List, [], Option, Some, None, slice_index_or}
+use Rattle.inorder.specs.History.{StartsWith}
 use Rattle.inorder.specs.declared.history.Entry.{Entry}
 use Rattle.drive.specs.declared.units.Claimed.{Claimed}
 use Rattle.drive.specs.declared.units.Claimed.TheVariants.{Job}
@@ -72,3 +73,24 @@ pub record HasFinished (core : TheCore) (old new : List Entry) (before after : L
 -- None of them was made
 abbrev pub HasNone : List (Option Worker) → Type 0
 HasNone units = (at : ℕ) → worker_at units at ≡ None
+
+-- What a unit has seen, if it was made
+abbrev pub seen_in : Option Worker → List Entry
+seen_in None = []
+seen_in (Some w) = w.seat.seen
+
+-- What the unit at a place has seen
+abbrev pub seen_at : List (Option Worker) → ℕ → List Entry
+seen_at units at = seen_in (worker_at units at)
+
+-- No unit forgets what it has seen, and each keeps its job
+pub record StaySeen (before after : List (Option Worker)) : Type 0 where
+  pub keeps : (at : ℕ) → StartsWith (seen_at after at) (seen_at before at)
+  pub jobs : (at : ℕ) → job_at after at ≡ job_at before at
+
+-- One unit has seen all that was seen before, and its own is part of what is seen now
+pub record HasTold (before after : List (Option Worker)) (unit : ℕ) (old new : List Entry) :
+    Type 0 where
+  pub units : StaySeen before after
+  pub learns : StartsWith (seen_at after unit) old
+  pub tells : StartsWith new (seen_at after unit)

@@ -1,10 +1,11 @@
 //! The commands of a script.
 ghost use Rattle.std.specs.Prelude.{◌≡◌, ◌≢◌, IfNone, IfSome};
-ghost use Rattle.drive.specs.Commands.{IsLine, bare, command_of, has_one, has_two, number_of, only_number, source_of, station_and_source, unit_and_number, verb_name};
+ghost use Rattle.drive.specs.Commands.{IsLine, bare, command_of, has_one, has_two, number_of, only_number, source_of, station_and_source, two_parties, unit_and_number, verb_name};
 ghost use Rattle.drive.specs.Words.{texts_of, words_of};
 ghost use Rattle.drive.specs.declared.commands.Verb.{Verb};
 
 use crate::names::unit_in;
+use crate::parties::{Party, party_in};
 use crate::words::{Words, words_in};
 use text::decimal_in;
 
@@ -26,6 +27,10 @@ pub enum Verb {
     Info,
     Operand,
     Rest,
+    Meet,
+    Report,
+    Renew,
+    Table,
 }
 
 /// Source 1 or source 2 of an instruction.
@@ -53,6 +58,9 @@ pub enum Command {
     Info(u32),
     Operand(u32, Which),
     Rest,
+    Meet(Party, Party),
+    Report,
+    Renew,
 }
 
 /// What a line asks for.
@@ -65,6 +73,8 @@ pub enum Line {
     /// Its operands are none of this command.
     Wants(Verb),
     Asks(Command),
+    /// All stations, and who creates which register.
+    Table,
 }
 
 // The command with this word.
@@ -88,6 +98,10 @@ fn verb_in(word: &[u8]) -> Option<Verb>
         b"info" => Some(Verb::Info),
         b"operand" => Some(Verb::Operand),
         b"rest" => Some(Verb::Rest),
+        b"meet" => Some(Verb::Meet),
+        b"report" => Some(Verb::Report),
+        b"renew" => Some(Verb::Renew),
+        b"table" => Some(Verb::Table),
         _ => None,
     }
 }
@@ -163,7 +177,18 @@ fn station_and_source(words: &Words<'_>) -> Option<(u32, Which)>
     Some((station, k))
 }
 
-// The command of a word and its operands.
+fn two_parties(words: &Words<'_>) -> Option<(Party, Party)>
+    ensures { result ≡ two_parties (texts_of words.now) }
+{
+    if !has_two(words) {
+        return None;
+    }
+    let one = party_in(words.first)?;
+    let other = party_in(words.second)?;
+    Some((one, other))
+}
+
+// The command of a word and its operands. A table is none: it is many.
 fn command_in(verb: Verb, words: &Words<'_>) -> Option<Command>
     ensures { result ≡ command_of verb (texts_of words.now) }
 {
@@ -185,6 +210,10 @@ fn command_in(verb: Verb, words: &Words<'_>) -> Option<Command>
         Verb::Info => only_number(words).map(Command::Info),
         Verb::Operand => station_and_source(words).map(|(station, k)| Command::Operand(station, k)),
         Verb::Rest => bare(words, Command::Rest),
+        Verb::Meet => two_parties(words).map(|(one, other)| Command::Meet(one, other)),
+        Verb::Report => bare(words, Command::Report),
+        Verb::Renew => bare(words, Command::Renew),
+        Verb::Table => None,
     }
 }
 
@@ -199,6 +228,9 @@ pub fn line_in(line: &[u8]) -> Line
     let Some(verb) = verb_in(words.verb) else {
         return Line::Unknown;
     };
+    if verb == Verb::Table && words.first.is_empty() {
+        return Line::Table;
+    }
     match command_in(verb, &words) {
         Some(command) => Line::Asks(command),
         None => Line::Wants(verb),

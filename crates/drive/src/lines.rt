@@ -5,7 +5,8 @@ ghost use Rattle.drive.specs.Transcripts.{IsTold, operands_text, unknown_text, w
 
 use crate::commands::{Line, Verb, line_in};
 use crate::session::Session;
-use crate::texts::text_of;
+use crate::tables::table;
+use crate::texts::line_of;
 use back::Naming;
 use instructions::Predictor;
 use std::alloc::{AllocError, Global};
@@ -30,6 +31,10 @@ fn word(verb: Verb) -> &'static str
         Verb::Info => "info",
         Verb::Operand => "operand",
         Verb::Rest => "rest",
+        Verb::Meet => "meet",
+        Verb::Report => "report",
+        Verb::Renew => "renew",
+        Verb::Table => "table",
     }
 }
 
@@ -41,6 +46,7 @@ fn operands(verb: Verb) -> &'static str
         Verb::Look | Verb::Info => "a station",
         Verb::Operand => "a station and a source",
         Verb::Creator => "a register",
+        Verb::Meet => "two of front, back and units",
         _ => "no operand",
     }
 }
@@ -75,10 +81,9 @@ pub fn told<P: Predictor + Drop, J: Naming, R: Wait>(
         Line::Unknown => unknown(alloc, number),
         Line::Wants(verb) => wants(alloc, number, verb),
         Line::Asks(command) => {
-            let reply = session.answer(wait, command);
-            let mut text = text_of(alloc, &reply)?;
-            text.push('\n')?;
-            Ok(text)
+            let reply = session.answer(wait, alloc, command);
+            line_of(alloc, &reply)
         }
+        Line::Table => table(wait, alloc, session),
     }
 }

@@ -2,7 +2,7 @@
 use crate::units::Claimed;
 use back::{Commit, Mark, Refresh, Snap};
 use front::{Made, Recovery, Rest, Turn};
-use instructions::Half;
+use instructions::{End, Half};
 use station::{Finish, Seen, SourceState, StationState};
 
 /// Why a command is not allowed. Nothing is done then.
@@ -20,6 +20,12 @@ pub enum Refusal {
     NoMark,
     /// As many instructions were committed as can be counted.
     NoCount,
+    /// The front has not rested, or has turned or recovered since.
+    NoRest,
+    /// The run has ended.
+    HasEnded,
+    /// Two that are one do not meet.
+    NoOther,
 }
 
 /// An info word: the index of an instruction, a half of that, and the predicted next pc.
@@ -31,7 +37,7 @@ pub struct Info {
 }
 
 /// The answer to a command: that of its call, or why that is not allowed.
-#[derive(Clone, Copy)]
+#[derive(Drop)]
 pub enum Reply {
     Turn(Turn),
     Recovery(Recovery),
@@ -40,7 +46,7 @@ pub enum Reply {
     Refresh(Refresh),
     Commit(Commit),
     Shown(Mark),
-    /// There was no memory to show a snapshot.
+    /// There was no memory to show a snapshot, for a report, or for another core.
     Memory,
     Taken(Snap),
     /// There is no snapshot to take.
@@ -52,5 +58,8 @@ pub enum Reply {
     Info(Info),
     Operand(Seen<SourceState>),
     Rest(Rest),
+    Met,
+    Report(End),
+    Renewed,
     Refused(Refusal),
 }

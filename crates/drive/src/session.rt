@@ -1,5 +1,8 @@
 //! A session: a core with all its seats in one hand.
 mod looking;
+mod meeting;
+mod renewing;
+mod reporting;
 mod resting;
 mod showing;
 
@@ -45,6 +48,7 @@ impl<'a, P: Predictor + Drop, J: Naming> Model for Session<'a, P, J> {
       commits = s.back;
       snapper = s.snapper;
       mark = s.mark;
+      fronts = s.front.seen;
       touched = s.front.touched;
       told = s.front.told;
       rested = s.rested;
@@ -55,7 +59,7 @@ impl<'a, P: Predictor + Drop, J: Naming> Model for Session<'a, P, J> {
 }
 
 impl<'a, P: Predictor + Drop, J: Naming> Session<'a, P, J> {
-    ghost use Rattle.std.specs.Prelude.{◌≡◌, IfOk};
+    ghost use Rattle.std.specs.Prelude.{◌≡◌, ◌≤◌, IfOk};
     ghost use Rattle.drive.specs.Moments.{Grows};
     ghost use Rattle.back.specs.Backs.{state_of};
     ghost use Rattle.back.specs.Ends.{IsInOrder, outcome_of, state_in};
@@ -170,9 +174,8 @@ impl<'a, P: Predictor + Drop, J: Naming> Session<'a, P, J> {
         Reply::Commit(calls::commit(&self.core, &mut self.all, &mut self.back))
     }
 
-    /// Makes the call that a command asks for, if that is allowed.
-    pub fn answer<R: Wait>(&mut self, wait: &R, command: Command) -> Reply
-        ensures core { self.new.core ≡ self.old.core }
+    /// Makes the call that a command asks for, if that is allowed. The core stays, unless it is renewed.
+    pub fn answer<R: Wait>(&mut self, wait: &R, alloc: Global, command: Command) -> Reply
         ensures grows { Grows self.old.core self.old.seen self.new.seen }
         ensures kept { self.new ≡ changed command self.old self.new }
         ensures reply { Answers self.old self.new command result }
@@ -193,7 +196,18 @@ impl<'a, P: Predictor + Drop, J: Naming> Session<'a, P, J> {
             Command::Info(station) => self.info(station),
             Command::Operand(station, which) => self.operand(station, which),
             Command::Rest => self.rest(),
+            Command::Meet(one, other) => self.meet(one, other),
+            Command::Report => self.report(alloc),
+            Command::Renew => self.renew(alloc),
         }
+    }
+
+    /// How many stations there are.
+    pub fn ring(&self) -> usize
+        ensures value { result ≡ self.now.core.sizes.ring }
+        ensures most { result ≤ 32 }
+    {
+        self.core.ring()
     }
 
     /// Ends the back, and gives the committed state.

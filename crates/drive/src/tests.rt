@@ -1,4 +1,5 @@
 //! Lines, and rows by hand as scripts with their transcripts.
+mod meeting;
 mod reading;
 
 ghost use Rattle.std.specs.Prelude.{◌≡◌};

@@ -1,6 +1,6 @@
 //! The texts of answers.
 ghost use Rattle.std.specs.Prelude.{◌≡◌, ◌++◌, IfOk, OnOk, string_bytes};
-ghost use Rattle.drive.specs.Texts.{claimed_text, commit_text, half_text, held_text, look_text, made_text, place_text, recovery_text, refresh_text, refusal_text, reply_text, snap_text, source_text, state_text, turn_text, finish_text, values_text};
+ghost use Rattle.drive.specs.Texts.{claimed_text, commit_text, half_text, held_text, look_text, made_text, place_text, recovery_text, refresh_text, refusal_text, reply_line, reply_text, snap_text, source_text, state_text, turn_text, finish_text, values_text};
 
 use crate::digits::{Word, push_registers};
 use crate::replies::{Refusal, Reply};
@@ -9,6 +9,7 @@ use crate::word_texts::{info_text, operand_text, rest_text};
 use back::{Commit, Refresh, Snap};
 use front::{Made, Recovery, Turn};
 use instructions::Half;
+use isa::report_text;
 use station::{Finish, Seen, Source, StationState};
 use std::alloc::{AllocError, Global};
 
@@ -198,6 +199,9 @@ fn refusal_text(refusal: Refusal) -> &'static str
         Refusal::HoldsNone => "this unit holds no job of that station",
         Refusal::NoMark => "no snapshot was shown yet",
         Refusal::NoCount => "no more can be counted",
+        Refusal::NoRest => "the front has not rested",
+        Refusal::HasEnded => "the run has ended",
+        Refusal::NoOther => "a seat does not meet itself",
     }
 }
 
@@ -223,6 +227,21 @@ pub fn text_of(alloc: Global, reply: &Reply) -> Result<String, AllocError>
         Reply::Info(info) => info_text(alloc, info),
         Reply::Operand(seen) => operand_text(alloc, seen),
         Reply::Rest(rest) => format!(in alloc; "{}", rest_text(*rest)),
+        Reply::Met => format!(in alloc; "Met"),
+        Reply::Report(end) => report_text(alloc, end),
+        Reply::Renewed => format!(in alloc; "Renewed"),
         Reply::Refused(refusal) => format!(in alloc; "{}", refusal_text(*refusal)),
     }
+}
+
+/// The text of an answer with the end of its line. A report has its own.
+pub fn line_of(alloc: Global, reply: &Reply) -> Result<String, AllocError>
+    ensures { IfOk result (λ text. string_bytes text ≡ reply_line reply.now) }
+{
+    let mut text = text_of(alloc, reply)?;
+    match reply {
+        Reply::Report(_) => {}
+        _ => text.push('\n')?,
+    }
+    Ok(text)
 }

@@ -129,6 +129,16 @@ pub(crate) fn no_units(alloc: Global) -> Result<Vec<Option<Worker>>, Memory>
     Ok(units)
 }
 
+/// No unit is made any more.
+pub(crate) fn forget_units(units: &mut Vec<Option<Worker>>)
+    ensures places { vec_len units.new ≡ vec_len units.old }
+    ensures none { HasNone units.new.items }
+{
+    for at in 0..units.len() {
+        units[at] = None;
+    }
+}
+
 fn part(seat: UnitSeat, core: &Core) -> (UnitSeat, UnitSeat)
     requires { seat.core ≡ core.now }
     ensures kept { IsSame seat result.0 }
@@ -139,7 +149,7 @@ fn part(seat: UnitSeat, core: &Core) -> (UnitSeat, UnitSeat)
 }
 
 // Takes the unit at a place, which is made if it is not there yet.
-fn take_worker(
+pub(crate) fn take_worker(
     core: &Core,
     all: &mut UnitSeat,
     units: &mut Vec<Option<Worker>>,

@@ -1,0 +1,20 @@
+use Rattle.std.proofs.Common.{sym, ◌∙◌, subst}
+use Rattle.drive.specs.Moments.{Grows}
+use Rattle.drive.proofs.Histories.{grows_on}
+use Rattle.drive.proofs.Meetings.{have_met}
+use Rattle.station.specs.Seats.{TheCore}
+use Rattle.drive.proofs.session.Session.meet.Goals as goal
+
+pub returns-clause-grows : goal.returns-clause-grows
+returns-clause-grows g c =
+    let old = c.args.self.now in
+    let one = c.tell.new.self in
+    let two = c.tell-2.new.self in
+    let three = c.tell-3.new.self in
+    let second = subst (λ (k : TheCore). Grows k one.seen two.seen) c.tell.ensures.core c.tell-2.ensures.grows in
+    let third = subst (λ (k : TheCore). Grows k two.seen three.seen) (c.tell-2.ensures.core ∙ c.tell.ensures.core) c.tell-3.ensures.grows in
+    grows_on old.core old.seen two.seen three.seen (grows_on old.core old.seen one.seen two.seen c.tell.ensures.grows second) third
+
+pub returns-clause-reply : goal.returns-clause-reply
+returns-clause-reply g c =
+    have_met c.args.self.now c.tell.new.self c.tell-2.new.self c.tell-3.new.self c.args.one c.args.other c.tell.ensures.told c.tell-2.ensures.told c.tell-3.ensures.told

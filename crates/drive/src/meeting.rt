@@ -1,0 +1,30 @@
+//! A unit that meets the seat that has seen all.
+ghost use Rattle.std.specs.Prelude.{◌≡◌, ◌<◌, vec_len};
+ghost use Rattle.station.specs.Seats.{IsSame};
+ghost use Rattle.drive.specs.Moments.{Grows};
+ghost use Rattle.drive.specs.Workers.{AreWorkers, HasTold};
+
+use crate::units::{Worker, take_worker};
+use station::{Core, UnitSeat, jobs_stay};
+
+/// The unit at a place, which is made if it is not there yet, learns all, and tells what it has seen.
+pub(crate) fn tell_all(
+    core: &Core,
+    all: &mut UnitSeat,
+    units: &mut Vec<Option<Worker>>,
+    unit: usize,
+)
+    requires all { all.old.core ≡ core.now }
+    requires unit { unit < vec_len units.old }
+    requires workers { AreWorkers core.now units.old.items }
+    ensures all { IsSame all.old all.new }
+    ensures grows { Grows core.now all.old.seen all.new.seen }
+    ensures workers { AreWorkers core.now units.new.items }
+    ensures places { vec_len units.new ≡ vec_len units.old }
+    ensures told { HasTold units.old.items units.new.items unit all.old.seen all.new.seen }
+{
+    let Worker { mut seat, job } = take_worker(core, all, units, unit);
+    jobs_stay();
+    core.meet(&mut seat, all);
+    units[unit] = Some(Worker { seat, job });
+}

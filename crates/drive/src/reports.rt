@@ -1,0 +1,53 @@
+//! The committed state as a run would report it.
+ghost use Rattle.std.specs.Prelude.{◌≡◌, IfOk};
+ghost use Rattle.back.specs.Backs.{IsSame as IsSameBack, state_of};
+ghost use Rattle.back.specs.Ends.{outcome_of, state_in};
+ghost use Rattle.drive.specs.Moments.{Grows};
+ghost use Rattle.station.specs.Seats.{IsSame};
+
+use back::{Back, Naming};
+use inorder::Machine;
+use instructions::{End, Ending, Memory, Program, Stop};
+use station::{Core, UnitSeat};
+use std::alloc::Global;
+
+fn outcome(ended: Option<Stop>) -> Ending
+    ensures { result ≡ outcome_of ended }
+{
+    match ended {
+        Some(code) => Ending::Stop(code),
+        None => Ending::Limit,
+    }
+}
+
+/// The committed state. A back gives its memory away only at its end, so the machine in order runs as many
+/// instructions as were committed: its state behind them is the committed one.
+pub(crate) fn report<J: Naming>(
+    alloc: Global,
+    core: &Core,
+    program: &Program,
+    all: &mut UnitSeat,
+    back: &mut Back<J>,
+) -> Result<End, Memory>
+    requires all { all.old.core ≡ core.now }
+    requires back { back.old.core ≡ core.now }
+    requires program { program.now ≡ core.now.program }
+    ensures all { IsSame all.old all.new }
+    ensures back { IsSameBack back.old back.new }
+    ensures grows { Grows core.now all.old.seen all.new.seen }
+    ensures state { IfOk result (λ end. state_in end ≡ state_of back.old) }
+    ensures outcome { IfOk result (λ end. end.outcome ≡ outcome_of back.old.ended) }
+{
+    back.meet(core, all);
+    let mut machine = Machine::new(alloc, program)?;
+    let count = back.n();
+    machine.run(count);
+    let memory = Vec::from_slice(alloc, machine.memory())?;
+    Ok(End {
+        n: machine.count(),
+        pc: machine.pc(),
+        outcome: outcome(back.ended()),
+        registers: *machine.registers(),
+        memory,
+    })
+}

@@ -1,0 +1,64 @@
+//! Two that meet in a session.
+ghost use Rattle.std.specs.Prelude.{◌≡◌, true, false};
+ghost use Rattle.drive.specs.Sessions.{IsNobody, IsSomebody};
+
+use super::Session;
+use crate::meeting::tell_all;
+use crate::names::UNITS;
+use crate::parties::Party;
+use crate::replies::{Refusal, Reply};
+use back::Naming;
+use instructions::Predictor;
+
+fn is_nobody(party: Party) -> bool
+    ensures is { result ≡ true → IsNobody party }
+    ensures not { result ≡ false → IsSomebody party }
+{
+    match party {
+        Party::Unit(unit) => UNITS <= unit,
+        _ => false,
+    }
+}
+
+impl<'a, P: Predictor + Drop, J: Naming> Session<'a, P, J> {
+    ghost use Rattle.std.specs.Prelude.{◌≡◌};
+    ghost use Rattle.drive.specs.Moments.{Grows};
+    ghost use Rattle.drive.specs.Sessions.{Answers, HasToldAll, IsSomebody, changed};
+    ghost use Rattle.drive.specs.declared.commands.Command.TheVariants.{Meet};
+
+    // One of them learns all that was seen, and tells what it has seen.
+    fn tell(&mut self, party: Party)
+        requires { IsSomebody party }
+        ensures core { self.new.core ≡ self.old.core }
+        ensures grows { Grows self.old.core self.old.seen self.new.seen }
+        ensures kept { self.new ≡ changed (Meet party party) self.old self.new }
+        ensures told { HasToldAll self.old self.new party }
+    {
+        let (core, all) = (&self.core, &mut self.all);
+        match party {
+            Party::Front => self.front.meet(core, all),
+            Party::Back => self.back.meet(core, all),
+            Party::Unit(unit) => tell_all(core, all, &mut self.units, unit),
+        }
+    }
+
+    // They meet by the seat that has seen all: it meets the first, the other, and the first again.
+    pub(super) fn meet(&mut self, one: Party, other: Party) -> Reply
+        ensures core { self.new.core ≡ self.old.core }
+        ensures grows { Grows self.old.core self.old.seen self.new.seen }
+        ensures kept { self.new ≡ changed (Meet one other) self.old self.new }
+        ensures reply { Answers self.old self.new (Meet one other) result }
+    {
+        let _ = &self.core;
+        if is_nobody(one) || is_nobody(other) {
+            return Reply::Refused(Refusal::NoUnit);
+        }
+        if one == other {
+            return Reply::Refused(Refusal::NoOther);
+        }
+        self.tell(one);
+        self.tell(other);
+        self.tell(one);
+        Reply::Met
+    }
+}

@@ -1,0 +1,109 @@
+//! A session whose core is renewed.
+use super::Session;
+use crate::renewal::{Stage, renew};
+use crate::replies::{Refusal, Reply};
+use crate::units::{Worker, forget_units};
+use back::{Mark, Naming, Snapper};
+use core::mem::replace_with;
+use instructions::{Predictor, Program};
+use station::what_is_seen_is_legal;
+use std::alloc::Global;
+
+impl<'a, P: Predictor + Drop, J: Naming> Session<'a, P, J> {
+    ghost use Rattle.std.specs.Prelude.{◌≡◌, None, false, true, vec_len};
+    ghost use Rattle.drive.specs.Moments.{Grows};
+    ghost use Rattle.drive.specs.Renewals.{AreAt};
+    ghost use Rattle.drive.specs.Sessions.{Answers, changed};
+    ghost use Rattle.drive.specs.Units.{unit_count};
+    ghost use Rattle.drive.specs.Workers.{AreWorkers};
+    ghost use Rattle.drive.specs.declared.commands.Command.TheVariants.{Renew};
+    ghost use Rattle.inorder.specs.History.{IsLegal};
+
+    // The session with these parts, whose front has not rested.
+    fn at(
+        stage: Stage<'a, P, J>,
+        program: &'a Program,
+        snapper: Snapper<J>,
+        mark: Option<Mark>,
+        units: Vec<Option<Worker>>,
+    ) -> Self
+        requires named { stage.0.program ≡ J.program }
+        requires program { program.now ≡ stage.0.program }
+        requires at { AreAt stage.0 stage.1 stage.2.core stage.3 }
+        requires workers { AreWorkers stage.0 units.items }
+        requires places { vec_len units ≡ unit_count }
+        ensures session { result ≡ record {
+            core = stage.entry.0;
+            seen = stage.entry.1.seen;
+            units = units.items;
+            commits = stage.entry.3;
+            snapper = snapper;
+            mark = mark;
+            fronts = stage.entry.2.seen;
+            touched = stage.entry.2.touched;
+            told = stage.entry.2.told;
+            rested = false;
+        } }
+        ensures legal { IsLegal stage.entry.0.program stage.entry.0.sizes stage.entry.1.seen }
+    {
+        let (core, all, front, back) = stage;
+        what_is_seen_is_legal(&all);
+        Session {
+            core,
+            program,
+            all,
+            front,
+            back,
+            snapper,
+            mark,
+            rested: false,
+            units,
+        }
+    }
+
+    // The session with another core, if there was memory for one.
+    fn renewed(self, alloc: Global) -> (Self, Reply)
+        requires rested { self.rested ≡ true }
+        requires not_ended { self.commits.ended ≡ None }
+        ensures grows { Grows self.entry.core self.entry.seen result.0.seen }
+        ensures kept { result.0 ≡ changed Renew self.entry result.0 }
+        ensures reply { Answers self.entry result.0 Renew result.1 }
+    {
+        let Session {
+            core,
+            program,
+            all,
+            front,
+            back,
+            snapper,
+            mark,
+            rested: _,
+            mut units,
+        } = self;
+        match renew(alloc, program, core, all, front, back) {
+            Ok(stage) => {
+                forget_units(&mut units);
+                let session = Self::at(stage, program, snapper, mark, units);
+                (session, Reply::Renewed)
+            }
+            Err(stage) => {
+                let session = Self::at(stage, program, snapper, mark, units);
+                (session, Reply::Memory)
+            }
+        }
+    }
+
+    pub(super) fn renew(&mut self, alloc: Global) -> Reply
+        ensures grows { Grows self.old.core self.old.seen self.new.seen }
+        ensures kept { self.new ≡ changed Renew self.old self.new }
+        ensures reply { Answers self.old self.new Renew result }
+    {
+        if !self.rested {
+            return Reply::Refused(Refusal::NoRest);
+        }
+        if self.back.ended().is_some() {
+            return Reply::Refused(Refusal::HasEnded);
+        }
+        replace_with(self, alloc, Session::renewed)
+    }
+}
