@@ -1,11 +1,9 @@
 //! Command lines, and the runs that they ask for.
 mod by_hand;
-mod checking;
 mod failing;
 mod handed_on;
 mod runs;
 mod tallies;
-mod watching;
 
 use crate::{Went, asked, go};
 use devices::Counted;
