@@ -83,8 +83,20 @@ fn push_stations<P: Predictor + Drop, J: Naming, R: Wait>(
     for station in 0..ring as u32 {
         push_row(wait, alloc, session, Command::Look(station), out)?;
         push_row(wait, alloc, session, Command::Info(station), out)?;
-        push_row(wait, alloc, session, Command::Operand(station, Which::First), out)?;
-        push_row(wait, alloc, session, Command::Operand(station, Which::Second), out)?;
+        push_row(
+            wait,
+            alloc,
+            session,
+            Command::Operand(station, Which::First),
+            out,
+        )?;
+        push_row(
+            wait,
+            alloc,
+            session,
+            Command::Operand(station, Which::Second),
+            out,
+        )?;
     }
     Ok(())
 }

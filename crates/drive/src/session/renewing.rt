@@ -33,16 +33,16 @@ impl<'a, P: Predictor + Drop, J: Naming> Session<'a, P, J> {
         requires workers { AreWorkers stage.0 units.items }
         requires places { vec_len units ≡ unit_count }
         ensures session { result ≡ record {
-            core = stage.entry.0;
-            seen = stage.entry.1.seen;
-            units = units.items;
-            commits = stage.entry.3;
-            snapper = snapper;
-            mark = mark;
-            fronts = stage.entry.2.seen;
-            touched = stage.entry.2.touched;
-            told = stage.entry.2.told;
-            rested = false;
+          core = stage.entry.0;
+          seen = stage.entry.1.seen;
+          units = units.items;
+          commits = stage.entry.3;
+          snapper = snapper;
+          mark = mark;
+          fronts = stage.entry.2.seen;
+          touched = stage.entry.2.touched;
+          told = stage.entry.2.told;
+          rested = false;
         } }
         ensures legal { IsLegal stage.entry.0.program stage.entry.0.sizes stage.entry.1.seen }
     {

@@ -25,4 +25,4 @@ returns-clause-told c =
     let seen = starts_on (seen_at units c.args.unit) taken.result.seat.seen w.seat.seen (taken_seen units c.args.unit taken.result taken.ensures.same) c.meet.ensures.one_history.begins in
     let stays = stay_seen units taken.new.units.items c.args.unit w within taken.ensures.place seen taken.ensures.job in
     has_told units taken.new.units.items c.args.unit w within taken.ensures.place old c.meet.new.other.seen stays
-        (subst (λ (h : List Entry). StartsWith w.seat.seen h) taken.ensures.history c.meet.ensures.one_told) c.meet.ensures.other_told
+    (subst (λ (h : List Entry). StartsWith w.seat.seen h) taken.ensures.history c.meet.ensures.one_told) c.meet.ensures.other_told

@@ -18,7 +18,7 @@ enter_again-front-requires-clause-next g c =
     let left = c.leave-front_seat in
     let core_is = left.ensures.core ∙ c.requires.stage.front_is in
     let may = c.a_front_enters_behind_a_renewal.ensures.refused c.args.core c.in-Err.core (seats_of left.result.0 c.leave-back_seat.result.0 c.args.all)
-        (seats_of c.in-Err.front_seat c.in-Err.back_seat c.in-Err.all) core_is left.ensures.by c.in-Err.ensures.err in
+    (seats_of c.in-Err.front_seat c.in-Err.back_seat c.in-Err.all) core_is left.ensures.by c.in-Err.ensures.err in
     may.next ∙ (ap (λ k. next_at k left.result.0.seen) (sym core_is) ∙ left.ensures.next)
 
 pub enter_again-back-requires-clause-goes_on : goal.enter_again-back-requires-clause-goes_on
@@ -26,7 +26,7 @@ enter_again-back-requires-clause-goes_on g c =
     let left = c.leave-back_seat in
     let core_is = left.ensures.core ∙ c.requires.stage.back_core in
     let may = c.a_back_enters_behind_a_renewal.ensures.refused c.args.core c.in-Err.core (seats_of c.leave-front_seat.result.0 left.result.0 c.args.all)
-        (seats_of c.in-Err.front_seat c.in-Err.back_seat c.in-Err.all) core_is (left.ensures.by ∙ c.requires.stage.back_by) c.in-Err.ensures.err in
+    (seats_of c.in-Err.front_seat c.in-Err.back_seat c.in-Err.all) core_is (left.ensures.by ∙ c.requires.stage.back_by) c.in-Err.ensures.err in
     let still_core = ap (λ (s : TheStill). s.core) left.ensures.still ∙ c.requires.stage.back_core in
     let still_seen = ap (λ (s : TheStill). s.seen) left.ensures.still ∙ sym left.ensures.seen in
     subst (λ (z : TheCore × List Entry). GoesOn z.0 z.1 c.in-Err.back_seat) (λ i. (sym still_core i, sym still_seen i)) may.goes_on
@@ -36,5 +36,5 @@ enter_again-back-requires-clause-head g c =
     let left = c.leave-back_seat in
     let core_is = left.ensures.core ∙ c.requires.stage.back_core in
     let may = c.a_back_enters_behind_a_renewal.ensures.refused c.args.core c.in-Err.core (seats_of c.leave-front_seat.result.0 left.result.0 c.args.all)
-        (seats_of c.in-Err.front_seat c.in-Err.back_seat c.in-Err.all) core_is (left.ensures.by ∙ c.requires.stage.back_by) c.in-Err.ensures.err in
+    (seats_of c.in-Err.front_seat c.in-Err.back_seat c.in-Err.all) core_is (left.ensures.by ∙ c.requires.stage.back_by) c.in-Err.ensures.err in
     may.head ∙ (ap (λ k. head_at k left.result.0.seen) (sym core_is) ∙ left.ensures.head)

@@ -12,6 +12,6 @@ returns-clause-state g c =
     let is = committed_after core met.core met.seen (c.meet.ensures.kept.core ∙ c.requires.back) c.meet.ensures.history.legal in
     let last = c.run.new.self.state in
     let ran = machine_state c.args.program.now core.program (state_of met) c.in_ok-machine.machine c.run.new.self c.n-count.result (ending c.run.result)
-        c.requires.program is c.in_ok-machine.ensures c.n-count.ensures c.run.ensures.end in
+    c.requires.program is c.in_ok-machine.ensures c.n-count.ensures c.run.ensures.end in
     same_state last c.registers.result.now c.in_ok-memory.memory.items c.pc.result c.count.result c.registers.ensures (c.in_ok-memory.ensures.items ∙ c.memory.ensures) c.pc.ensures c.count.ensures
-        ∙ (ran ∙ c.meet.ensures.kept.state)
+    ∙ (ran ∙ c.meet.ensures.kept.state)

@@ -10,5 +10,5 @@ loop-station-preserved g c =
     let three = c.push_row-in-loop-station-2.new in
     let four = c.push_row-in-loop-station-3.new in
     one_more_station c.args.session.now at.session one.session two.session three.session four.session at.station
-        (string_bytes at.out) (string_bytes one.out) (string_bytes two.out) (string_bytes three.out) (string_bytes four.out)
-        at.invariant c.in_ok-push_row.ensures c.in_ok-push_row-2.ensures c.in_ok-push_row-3.ensures c.in_ok-push_row-4.ensures
+    (string_bytes at.out) (string_bytes one.out) (string_bytes two.out) (string_bytes three.out) (string_bytes four.out)
+    at.invariant c.in_ok-push_row.ensures c.in_ok-push_row-2.ensures c.in_ok-push_row-3.ensures c.in_ok-push_row-4.ensures

@@ -9,7 +9,7 @@ loop-register-preserved g c =
     let at = c.loop-register in
     let next = c.push_row.new in
     one_more_register c.args.session.now at.session next.session at.register c.args.session.now.core.sizes.ring
-        (string_bytes at.out) (string_bytes next.out) at.invariant c.in_ok-push_row.ensures
+    (string_bytes at.out) (string_bytes next.out) at.invariant c.in_ok-push_row.ensures
 
 pub returns : goal.returns
 returns g c =
