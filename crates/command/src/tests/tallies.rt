@@ -1,6 +1,7 @@
 //! What the threads of a run did, and runs that end early.
 use super::answer;
 use crate::Line;
+use pool::Tally;
 use std::process::Abort;
 use std::test::*;
 
