@@ -24,7 +24,7 @@ share_of total v = share (position_of total) v
 
 -- A share of each total, by its position
 abbrev pub each : (ℕ → Share) → Shares
-each f = record { of = f 0 ∷ f 1 ∷ f 2 ∷ f 3 ∷ f 4 ∷ f 5 ∷ f 6 ∷ f 7 ∷ f 8 ∷ [] }
+each f = record { of = f 0 ∷ f 1 ∷ f 2 ∷ f 3 ∷ f 4 ∷ f 5 ∷ f 6 ∷ f 7 ∷ f 8 ∷ f 9 ∷ [] }
 
 -- All parts of each total, and no part of any
 abbrev pub all_parts : Shares

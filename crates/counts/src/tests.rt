@@ -86,6 +86,7 @@ fn four_threads_lose_no_addition(rt: HostRuntime) -> Result<(), Fail> {
         squashes: 0,
         mends: 0,
         hints: 0,
+        renewals: 0,
     };
     assert_eq!(rt; tally, expected);
     Ok(())
@@ -104,6 +105,7 @@ fn each_total_is_its_own(rt: HostRuntime) -> Result<(), Fail> {
     counts.add(&mut seat, Total::Mends, u64::MAX);
     counts.add(&mut seat, Total::Mends, 9);
     counts.add(&mut seat, Total::Hints, 10);
+    counts.add(&mut seat, Total::Renewals, 11);
     let expected = Tally {
         lets: 1,
         claims: 2,
@@ -114,6 +116,7 @@ fn each_total_is_its_own(rt: HostRuntime) -> Result<(), Fail> {
         squashes: 7,
         mends: 8,
         hints: 10,
+        renewals: 11,
     };
     assert_eq!(rt; counts.read(&mut seat), expected);
     Ok(())

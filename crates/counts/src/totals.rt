@@ -14,7 +14,7 @@ use std::alloc::Global;
 use std::marker::Model;
 
 // Eight words for each total, of which the first is used.
-const WORDS: usize = 72;
+const WORDS: usize = 80;
 
 /// The totals. Contracts see which they are.
 #[derive(Drop)]
@@ -159,6 +159,7 @@ impl Counts {
             squashes: self.total(seat, Total::Squashes),
             mends: self.total(seat, Total::Mends),
             hints: self.total(seat, Total::Hints),
+            renewals: self.total(seat, Total::Renewals),
         }
     }
 }

@@ -1,5 +1,5 @@
 -- What contracts see of the commit thread.
-use Rattle.std.specs.Prelude.{◌≡◌, ◌≢◌, ◌+◌, ◌≤◌, ◌<◌, ℕ, [], None, Result}
+use Rattle.std.specs.Prelude.{◌≡◌, ◌≢◌, ◌+◌, ◌≤◌, ◌<◌, ℕ, Bool, [], None, Option, Some, Err, Result}
 use Rattle.atomic_table.specs.Seated.{TableId}
 use Rattle.back.specs.Backs.{TheBack, state_of}
 use Rattle.counts.specs.declared.tally.Total.TheVariants.{Retires}
@@ -7,14 +7,16 @@ use Rattle.counts.specs.Reads.{HoldsAll}
 use Rattle.counts.specs.Seats.{Counter}
 use Rattle.counts.specs.Shares.{share_of}
 use Rattle.pool.specs.declared.answer.Refusal.{Refusal}
+use Rattle.pool.specs.declared.answer.Refusal.TheVariants.{Memory}
 use Rattle.pool.specs.declared.commit.Why.{Why}
 use Rattle.pool.specs.declared.commit.Why.TheVariants.{AtEnd, AtLimit, Spent}
 use Rattle.pool.specs.Turns.{TheTurns}
 
--- Its back, its turns, and why it commits no more
+-- Its back, its turns, whether its core was ever renewed, and why it commits no more
 pub record TheCommitter : Type 0 where
   pub back : TheBack
   pub turns : TheTurns
+  pub renewed : Bool
   pub over : Result Why Refusal
 
 -- No table
@@ -32,6 +34,16 @@ abbrev pub Because : (limit : ℕ) → TheBack → (left : ℕ) → Why → Type
 Because limit back left AtEnd = back.ended ≢ None
 Because limit back left AtLimit = (state_of back).count ≡ limit
 Because limit back left Spent = left ≡ 0
+
+-- It is no reason, or it holds
+abbrev pub IsReason : (limit : ℕ) → TheBack → (left : ℕ) → Option Why → Type 0
+IsReason limit back left None = Unit {0}
+IsReason limit back left (Some why) = Because limit back left why
+
+-- The run is not over: it has begun, and its program has not ended
+pub record MayRenew (c : TheCommitter) : Type 0 where
+  pub begun : c.over ≡ Err Memory
+  pub going : c.back.ended ≡ None
 
 -- It has not gone past the limit, and where it has ended it has not come to it; each instruction took a turn
 pub record Keeps (limit : ℕ) (back : TheBack) (turns : TheTurns) : Type 0 where

@@ -1,5 +1,5 @@
 -- What a run answers.
-use Rattle.std.specs.Prelude.{◌≡◌, ◌+◌, ◌≤◌, ◌<◌, ◌⊎◌, ℕ}
+use Rattle.std.specs.Prelude.{◌≡◌, ◌+◌, ◌≤◌, ◌<◌, ◌⊎◌, ℕ, Bool, false}
 use Rattle.instructions.specs.declared.end.End.{End}
 use Rattle.instructions.specs.declared.end.Ending.{Ending}
 use Rattle.instructions.specs.declared.end.Ending.TheVariants.{Limit, Stop as ByStop}
@@ -39,12 +39,13 @@ TakesTurns turns (Ended end tally) = end.n ≤ turns
 TakesTurns turns (LimitReached end tally) = end.n ≤ turns
 TakesTurns turns (Refused why) = Unit {0}
 
--- The same where it is known how many turns the commit thread has left; without all its threads a run takes none
-abbrev pub LeavesTurns : TheTurns → Run → Type 0
-LeavesTurns turns (Ended end tally) = end.n + turns.left ≤ turns.all
-LeavesTurns turns (LimitReached end tally) = end.n + turns.left ≤ turns.all
-LeavesTurns turns (Refused Memory) = Unit {0}
-LeavesTurns turns (Refused Thread) = turns.left ≡ turns.all
+-- The same where it is known how many turns the commit thread has left. Without all its threads a run takes none,
+-- unless it has begun and its core was renewed
+abbrev pub LeavesTurns : TheTurns → (renewed : Bool) → Run → Type 0
+LeavesTurns turns renewed (Ended end tally) = end.n + turns.left ≤ turns.all
+LeavesTurns turns renewed (LimitReached end tally) = end.n + turns.left ≤ turns.all
+LeavesTurns turns renewed (Refused Memory) = Unit {0}
+LeavesTurns turns renewed (Refused Thread) = renewed ≡ false → turns.left ≡ turns.all
 
 -- The limit is told only where so many instructions were run, or no turn was left
 abbrev pub IsLimit : (limit left : ℕ) → Run → Type 0

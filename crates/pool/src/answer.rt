@@ -23,18 +23,23 @@ pub enum Run {
     Refused(Refusal),
 }
 
-/// How a run ended, and what its commit thread has left of its turns.
+/// How a run ended, what its commit thread has left of its turns, and whether its core was ever renewed.
 #[derive(Drop)]
 pub struct RunInTurns {
     pub run: Run,
     pub turns: Turns,
+    pub renewed: bool,
 }
 
 impl Run {
-    /// The run, with these turns left.
-    pub(crate) fn with(self, turns: Turns) -> RunInTurns
-        ensures { result ≡ record { run = self; turns = turns } }
+    /// The run, with these turns left, and whether its core was renewed.
+    pub(crate) fn with(self, turns: Turns, renewed: bool) -> RunInTurns
+        ensures { result ≡ record { run = self; turns = turns; renewed = renewed } }
     {
-        RunInTurns { run: self, turns }
+        RunInTurns {
+            run: self,
+            turns,
+            renewed,
+        }
     }
 }

@@ -2,6 +2,8 @@
 ghost use Rattle.std.specs.Prelude.{◌≡◌};
 ghost use Rattle.back.specs.Backs.{state_of};
 
+mod renewal;
+
 use crate::answer::{Refusal, Run, RunInTurns};
 use crate::bounds::Bounds;
 use crate::floor::Floor;
@@ -13,6 +15,7 @@ use back::{Back, Commit, Mark, Naming, Refresh};
 use counts::{CountSeat, Tally, Total};
 use hints::{Hinter, Ring};
 use instructions::{Ending, Memory};
+use station::Core;
 use std::marker::{Model, PhantomData};
 use std::sync::Wait;
 
@@ -39,24 +42,25 @@ pub(crate) struct Committer<J: Naming, K: Bounds + Ring> {
     count: CountSeat,
     limit: u32,
     turns: Turns,
-    // why it commits no more; a thread is wanting until it has begun, and then memory until it is over
+    renewed: bool,
+    // why it commits no more; in each term a thread is wanting until it has begun, and then memory until it is over
     over: Result<Why, Refusal>,
     bounds: PhantomData<K>,
 }
 
 impl<J: Naming, K: Bounds + Ring> Model for Committer<J, K> {
-    ghost use Rattle.std.specs.Prelude.{◌≡◌, Err, IfOk};
+    ghost use Rattle.std.specs.Prelude.{◌≡◌, Err, IfOk, false};
     ghost use Rattle.pool.specs.Committing.{Because, HasCounted, Keeps, TheCommitter};
     ghost use Rattle.pool.specs.declared.answer.Refusal.TheVariants.{Thread};
 
     ghost Value = { TheCommitter };
 
-    ghost view = { λ c. record { back = c.back; turns = c.turns; over = c.over } };
+    ghost view = { λ c. record { back = c.back; turns = c.turns; renewed = c.renewed; over = c.over } };
 
     ghost invariant = { λ c.
         HasCounted K.counts c.back c.count × (c.limit ≡ K.limit) × Keeps K.limit c.back c.turns
         × (c.turns.all ≡ K.turns) × IfOk c.over (Because K.limit c.back c.turns.left)
-        × (c.over ≡ Err Thread → c.turns.left ≡ c.turns.all) };
+        × (c.over ≡ Err Thread → c.renewed ≡ false → c.turns.left ≡ c.turns.all) };
 }
 
 // The gate is told no retirements but those that are shown.
@@ -75,10 +79,10 @@ enum Turned {
 }
 
 impl<J: Naming, K: Bounds + Ring> Committer<J, K> {
-    ghost use Rattle.std.specs.Prelude.{◌≡◌, ◌≢◌, ◌+◌, ◌<◌, ◌≤◌, ◌^◌, Err, IfOk, None};
+    ghost use Rattle.std.specs.Prelude.{◌≡◌, ◌≢◌, ◌+◌, ◌<◌, ◌≤◌, ◌^◌, Err, IfOk, None, true};
     ghost use Rattle.pool.specs.Runs.{IsLimit, IsRight, IsWithin, LeavesTurns};
     ghost use Rattle.back.specs.Backs.{IsSame};
-    ghost use Rattle.pool.specs.Committing.{Because, HasCounted};
+    ghost use Rattle.pool.specs.Committing.{Because, HasCounted, IsReason, MayRenew};
     ghost use Rattle.hints.specs.Hinted.{IsOf};
     ghost use Rattle.pool.specs.declared.commit.Turned.TheVariants.{Over};
     ghost use Rattle.pool.specs.declared.commit.Why.{Why};
@@ -97,6 +101,7 @@ impl<J: Naming, K: Bounds + Ring> Committer<J, K> {
             count,
             limit,
             turns: Turns::new(turns),
+            renewed: false,
             over: Err(Refusal::Thread),
             bounds: PhantomData,
         }
@@ -107,6 +112,7 @@ impl<J: Naming, K: Bounds + Ring> Committer<J, K> {
         requires counts { floor.now.counts ≡ K.counts }
         ensures back { IsSame self.old.back (record self.new.back { shown = self.old.back.shown }) }
         ensures turns { self.new.turns ≡ self.old.turns }
+        ensures renewed { self.new.renewed ≡ self.old.renewed }
         ensures over { self.new.over ≡ self.old.over }
     {
         let mark = self.back.show(wait)?;
@@ -116,23 +122,29 @@ impl<J: Naming, K: Bounds + Ring> Committer<J, K> {
     }
 
     // One refresh. Hints whom a load woke. False where nothing was loaded.
-    fn refresh<R: Wait>(&mut self, wait: &R, floor: &Floor<K>, hinter: &mut Hinter) -> bool
-        requires core { self.old.back.core ≡ floor.now.core }
+    fn refresh<R: Wait>(
+        &mut self,
+        wait: &R,
+        floor: &Floor<K>,
+        core: &Core,
+        hinter: &mut Hinter,
+    ) -> bool
+        requires core { self.old.back.core ≡ core.now }
         requires counts { floor.now.counts ≡ K.counts }
-        requires hints { floor.now.hints.ring ≡ floor.now.core.sizes.ring }
+        requires hints { floor.now.hints.ring ≡ core.now.sizes.ring }
         requires hinter { IsOf floor.now.hints hinter.old }
-        ensures core { self.new.back.core ≡ floor.now.core }
+        ensures core { self.new.back.core ≡ core.now }
         ensures ended { self.new.back.ended ≡ self.old.back.ended }
         ensures turns { self.new.turns ≡ self.old.turns }
         ensures over { self.new.over ≡ self.old.over }
         ensures hinter { IsOf floor.now.hints hinter.new }
     {
-        let Refresh::Loaded { .. } = self.back.refresh(&floor.core) else {
+        let Refresh::Loaded { .. } = self.back.refresh(core) else {
             return false;
         };
         floor.counts.add(&mut self.count, Total::Loads, 1);
         let woken = self.back.woken();
-        hint_each(wait, &floor.hints, hinter, floor.core.ring(), woken);
+        hint_each(wait, &floor.hints, hinter, core.ring(), woken);
         true
     }
 
@@ -141,16 +153,17 @@ impl<J: Naming, K: Bounds + Ring> Committer<J, K> {
         &mut self,
         wait: &R,
         floor: &Floor<K>,
+        core: &Core,
         gate: &G,
         hinter: &mut Hinter,
     ) -> Result<Turned, Memory>
-        requires core { self.old.back.core ≡ floor.now.core }
+        requires core { self.old.back.core ≡ core.now }
         requires counts { floor.now.counts ≡ K.counts }
-        requires hints { floor.now.hints.ring ≡ floor.now.core.sizes.ring }
+        requires hints { floor.now.hints.ring ≡ core.now.sizes.ring }
         requires hinter { IsOf floor.now.hints hinter.old }
         requires begun { self.old.over ≡ Err Refusal.Memory }
         requires taken { (state_of self.old.back).count + self.old.turns.left < self.old.turns.all }
-        ensures core { self.new.back.core ≡ floor.now.core }
+        ensures core { self.new.back.core ≡ core.now }
         ensures begun { self.new.over ≡ Err Refusal.Memory }
         ensures turns { self.new.turns ≡ self.old.turns }
         ensures hinter { IsOf floor.now.hints hinter.new }
@@ -161,7 +174,7 @@ impl<J: Naming, K: Bounds + Ring> Committer<J, K> {
             return Ok(Turned::Over(Why::AtLimit));
         }
         let mut turned = Turned::Idle;
-        match self.back.commit(&floor.core) {
+        match self.back.commit(core) {
             Commit::Ended(_) => return Ok(Turned::Over(Why::AtEnd)),
             Commit::Retired { n, .. } => {
                 floor.counts.add(&mut self.count, Total::Retires, 1);
@@ -175,69 +188,95 @@ impl<J: Naming, K: Bounds + Ring> Committer<J, K> {
             Commit::Half { .. } => turned = Turned::Worked,
             Commit::NotDone | Commit::Empty => {}
         }
-        if self.refresh(wait, floor, hinter) {
+        if self.refresh(wait, floor, core, hinter) {
             turned = Turned::Worked;
         }
         Ok(turned)
     }
 
-    // Commits until the program has ended, the limit is reached or no turn is left.
+    // Commits until the program has ended, the limit is reached or no turn is left, and then says which. It says
+    // nothing where the core is to be renewed.
     fn turns<G: Gate, R: Wait>(
         &mut self,
         wait: &R,
         floor: &Floor<K>,
+        core: &Core,
         gate: &G,
-    ) -> Result<Why, Memory>
-        requires core { self.old.back.core ≡ floor.now.core }
+    ) -> Result<Option<Why>, Memory>
+        requires core { self.old.back.core ≡ core.now }
         requires counts { floor.now.counts ≡ K.counts }
-        requires hints { floor.now.hints.ring ≡ floor.now.core.sizes.ring }
+        requires hints { floor.now.hints.ring ≡ core.now.sizes.ring }
         requires begun { self.old.over ≡ Err Refusal.Memory }
+        ensures core { self.new.back.core ≡ core.now }
         ensures begun { self.new.over ≡ Err Refusal.Memory }
-        ensures over { IfOk result (Because K.limit self.new.back self.new.turns.left) }
+        ensures over { IfOk result (IsReason K.limit self.new.back self.new.turns.left) }
     {
         let mut hinter = floor.hints.hinter();
         let mut rest = Rest::after(PATIENCE);
         while self.turns.take() {
-            match self.turn(wait, floor, gate, &mut hinter)? {
+            match self.turn(wait, floor, core, gate, &mut hinter)? {
                 Turned::Worked => rest.begin_again(),
+                Turned::Idle if floor.has_rested() => return Ok(None),
                 Turned::Idle => rest.rest(),
-                Turned::Over(why) => return Ok(why),
+                Turned::Over(why) => return Ok(Some(why)),
             }
         }
-        Ok(Why::Spent)
+        Ok(Some(Why::Spent))
     }
 
-    // The same, and shows the last state.
+    // The same, and shows the last state where the run is over.
     fn shown<G: Gate, R: Wait>(
         &mut self,
         wait: &R,
         floor: &Floor<K>,
+        core: &Core,
         gate: &G,
-    ) -> Result<Why, Memory>
-        requires core { self.old.back.core ≡ floor.now.core }
+    ) -> Result<Option<Why>, Memory>
+        requires core { self.old.back.core ≡ core.now }
         requires counts { floor.now.counts ≡ K.counts }
-        requires hints { floor.now.hints.ring ≡ floor.now.core.sizes.ring }
+        requires hints { floor.now.hints.ring ≡ core.now.sizes.ring }
         requires begun { self.old.over ≡ Err Refusal.Memory }
+        ensures core { self.new.back.core ≡ core.now }
         ensures begun { self.new.over ≡ Err Refusal.Memory }
-        ensures over { IfOk result (Because K.limit self.new.back self.new.turns.left) }
+        ensures over { IfOk result (IsReason K.limit self.new.back self.new.turns.left) }
     {
-        let why = self.turns(wait, floor, gate)?;
-        self.show(wait, floor, gate)?;
+        let why = self.turns(wait, floor, core, gate)?;
+        if why.is_some() {
+            self.show(wait, floor, gate)?;
+        }
         Ok(why)
     }
 
-    /// Commits until there is no more to commit, shows the last state, and keeps why it is over.
-    pub(crate) fn run<G: Gate, R: Wait>(&mut self, wait: &R, floor: &Floor<K>, gate: &G)
-        requires core { self.old.back.core ≡ floor.now.core }
+    /// Commits until there is no more to commit. Where the run is over it shows the last state, and keeps why it is
+    /// over. True where it is not, and the core is to be renewed.
+    pub(crate) fn run<G: Gate, R: Wait>(
+        &mut self,
+        wait: &R,
+        floor: &Floor<K>,
+        core: &Core,
+        gate: &G,
+    ) -> bool
+        requires core { self.old.back.core ≡ core.now }
         requires counts { floor.now.counts ≡ K.counts }
-        requires hints { floor.now.hints.ring ≡ floor.now.core.sizes.ring }
+        requires hints { floor.now.hints.ring ≡ core.now.sizes.ring }
         requires fresh { self.old.over ≡ Err Refusal.Thread }
+        ensures core { self.new.back.core ≡ core.now }
         ensures has_run { self.new.over ≢ Err Refusal.Thread }
+        ensures rested { result ≡ true → MayRenew self.new }
     {
         self.over = Err(Refusal::Memory);
-        if let Ok(why) = self.shown(wait, floor, gate) {
+        let Ok(reason) = self.shown(wait, floor, core, gate) else {
+            return false;
+        };
+        if let Some(why) = reason {
             self.over = Ok(why);
+            return false;
         }
+        if self.back.ended().is_some() {
+            self.over = Ok(Why::AtEnd);
+            return false;
+        }
+        true
     }
 
     /// How the run ended, where all other threads have ended. It is refused where not all of them
@@ -248,7 +287,7 @@ impl<J: Naming, K: Bounds + Ring> Committer<J, K> {
         ensures within { IsWithin K.limit result.run }
         ensures turns { result.turns ≡ self.turns }
         ensures all { result.turns.all ≡ K.turns }
-        ensures left { LeavesTurns result.turns result.run }
+        ensures left { LeavesTurns result.turns result.renewed result.run }
         ensures limit { IsLimit K.limit result.turns.left result.run }
     {
         let Committer {
@@ -256,15 +295,16 @@ impl<J: Naming, K: Bounds + Ring> Committer<J, K> {
             mut count,
             limit: _,
             turns,
+            renewed,
             over,
             bounds: _,
         } = self;
         let end = back.end(wait);
         let tally = floor.counts.read(&mut count);
         match (over, end.outcome) {
-            (Err(refusal), _) => Run::Refused(refusal).with(turns),
-            (Ok(_), Ending::Stop(_)) => Run::Ended(end, tally).with(turns),
-            (Ok(_), Ending::Limit) => Run::LimitReached(end, tally).with(turns),
+            (Err(refusal), _) => Run::Refused(refusal).with(turns, renewed),
+            (Ok(_), Ending::Stop(_)) => Run::Ended(end, tally).with(turns, renewed),
+            (Ok(_), Ending::Limit) => Run::LimitReached(end, tally).with(turns, renewed),
         }
     }
 }

@@ -1,0 +1,195 @@
+//! The terms of a run: in each, threads work at one core, and give back what they hold where that is to be renewed.
+ghost use Rattle.std.specs.Prelude.{◌≡◌, ◌≤◌, Err, IfSome};
+ghost use Rattle.pool.specs.Committing.{MayRenew};
+ghost use Rattle.pool.specs.Terms.{AreReady, HasLeft};
+
+use crate::answer::Refusal;
+use crate::bounds::Bounds;
+use crate::commit::Committer;
+use crate::dispatch::{Begin, Dispatcher, Left};
+use crate::floor::Floor;
+use crate::gate::Gate;
+use crate::threads::{start_dispatch, start_units, units_at_once};
+use back::Naming;
+use counts::WorkerSeat;
+use hints::Ring;
+use instructions::Predictor;
+use station::{Core, FrontSeat, UnitSeat};
+use std::alloc::Global;
+use std::sync::Wait;
+use std::thread;
+use std::thread::Threads;
+
+/// What a term begins with: the core, its seats, the turns that the dispatch thread has left, and the seat from which
+/// those of its threads are cut that they count with.
+#[derive(Drop)]
+pub(crate) struct Term<P: Predictor + Drop> {
+    pub core: Core,
+    pub seat: FrontSeat,
+    pub begin: Begin<P>,
+    pub turns: u32,
+    pub unit: UnitSeat,
+    pub count: WorkerSeat,
+}
+
+/// What the threads of a term give back where its core is to be renewed.
+#[derive(Drop)]
+pub(crate) struct Given<P: Predictor + Drop> {
+    pub left: Left<P>,
+    pub unit: UnitSeat,
+}
+
+// Starts the threads of a term, commits, and returns when each thread has ended.
+fn in_threads<
+    'x,
+    J: Naming + Send + Sync,
+    K: Bounds + Ring + Send + Sync,
+    P: Predictor + Drop + Send,
+    G: Gate + Sync,
+    R: Threads + Wait + Sync,
+>(
+    wait: &'x R,
+    floor: &'x Floor<K>,
+    core: &'x Core,
+    gate: &'x G,
+    units: u32,
+    dispatcher: Dispatcher<P>,
+    unit: UnitSeat,
+    count: WorkerSeat,
+    committer: &'x mut Committer<J, K>,
+) -> Option<Given<P>>
+    requires ready { AreReady floor.now.program floor.now.hints.ring core.now dispatcher.begin
+        dispatcher.seat unit committer.old.back.core }
+    requires front_count { dispatcher.count.of ≡ floor.now.counts }
+    requires count { count.of ≡ floor.now.counts }
+    requires counts { floor.now.counts ≡ K.counts }
+    requires begun { committer.old.over ≡ Err Refusal.Thread }
+    requires units { units ≤ 64 }
+    ensures core { committer.new.back.core ≡ core.now }
+    ensures may { IfSome result (λ given. MayRenew committer.new) }
+    ensures left { IfSome result (λ given. HasLeft core.now given.left.seat given.left.still) }
+    ensures unit { IfSome result (λ given. given.unit.core ≡ core.now) }
+{
+    thread::scope(
+        thread::scope_env(),
+        wait,
+        move |scope| -> Option<Given<P>>
+            requires ready { AreReady floor.now.program floor.now.hints.ring core.now
+                dispatcher.begin dispatcher.seat unit committer.now.back.core }
+            requires front_count { dispatcher.count.of ≡ floor.now.counts }
+            requires count { count.of ≡ floor.now.counts }
+            requires counts { floor.now.counts ≡ K.counts }
+            requires begun { committer.now.over ≡ Err Refusal.Thread }
+            requires units { units ≤ 64 }
+            ensures core { committer.exit.now.back.core ≡ core.entry.now }
+            ensures may { IfSome result (λ given. MayRenew committer.exit.now) }
+            ensures left { IfSome result (λ given.
+                HasLeft core.entry.now given.left.seat given.left.still) }
+            ensures unit { IfSome result (λ given. given.unit.core ≡ core.entry.now) }
+        {
+            let dispatching = start_dispatch(wait, scope, floor, core, dispatcher)?;
+            let Some(unit) = start_units(wait, scope, floor, core, gate, units, unit, count) else {
+                floor.close();
+                return None;
+            };
+            if !committer.run(wait, floor, core, gate) {
+                floor.close();
+                return None;
+            }
+            let left = dispatching.join(wait)?;
+            Some(Given { left, unit })
+        },
+    )
+}
+
+// One term, and what the next one begins with where the core was renewed.
+fn run_term<
+    J: Naming + Send + Sync,
+    K: Bounds + Ring + Send + Sync,
+    P: Predictor + Drop + Send,
+    G: Gate + Sync,
+    R: Threads + Wait + Sync,
+>(
+    wait: &R,
+    alloc: Global,
+    floor: &Floor<K>,
+    gate: &G,
+    units: u32,
+    term: Term<P>,
+    committer: &mut Committer<J, K>,
+) -> Option<Term<P>>
+    requires ready { AreReady floor.now.program floor.now.hints.ring term.core term.begin term.seat
+        term.unit committer.old.back.core }
+    requires count { term.count.of ≡ floor.now.counts }
+    requires counts { floor.now.counts ≡ K.counts }
+    requires begun { committer.old.over ≡ Err Refusal.Thread }
+    requires units { units ≤ 64 }
+    ensures begun { IfSome result (λ next. committer.new.over ≡ Err Refusal.Thread) }
+    ensures count { IfSome result (λ next. next.count.of ≡ floor.now.counts) }
+    ensures ready { IfSome result (λ next. AreReady floor.now.program floor.now.hints.ring
+        next.core next.begin next.seat next.unit committer.new.back.core) }
+{
+    let Term {
+        core,
+        seat,
+        begin,
+        turns,
+        unit,
+        count,
+    } = term;
+    floor.begin(units_at_once(wait));
+    let (rest, own) = floor.counts.split_workers(count);
+    let (front_count, unit_count) = floor.counts.split_workers(own);
+    let dispatcher = Dispatcher {
+        seat,
+        begin,
+        count: front_count,
+        left: turns,
+    };
+    let given = in_threads(
+        wait, floor, &core, gate, units, dispatcher, unit, unit_count, committer,
+    );
+    let Given { left, unit } = given?;
+    let Left { seat, still, turns } = left;
+    let (core, seat, unit) = committer.renew(alloc, floor, core, seat, unit)?;
+    Some(Term {
+        core,
+        seat,
+        begin: Begin::Again(still),
+        turns,
+        unit,
+        count: rest,
+    })
+}
+
+/// Terms, until the run is over.
+pub(crate) fn run_terms<
+    J: Naming + Send + Sync,
+    K: Bounds + Ring + Send + Sync,
+    P: Predictor + Drop + Send,
+    G: Gate + Sync,
+    R: Threads + Wait + Sync,
+>(
+    wait: &R,
+    alloc: Global,
+    floor: &Floor<K>,
+    gate: &G,
+    units: u32,
+    first: Term<P>,
+    committer: &mut Committer<J, K>,
+)
+    requires ready { AreReady floor.now.program floor.now.hints.ring first.core first.begin first.seat
+        first.unit committer.old.back.core }
+    requires count { first.count.of ≡ floor.now.counts }
+    requires counts { floor.now.counts ≡ K.counts }
+    requires begun { committer.old.over ≡ Err Refusal.Thread }
+    requires units { units ≤ 64 }
+{
+    let mut term = first;
+    for _ in wait.forever() {
+        let Some(next) = run_term(wait, alloc, floor, gate, units, term, committer) else {
+            return;
+        };
+        term = next;
+    }
+}
