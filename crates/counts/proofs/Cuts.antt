@@ -7,10 +7,9 @@ use Rattle.atomic_table.specs.Table.{Joins, Splits}
 use Rattle.atomic_table.proofs.Lists.{at_set}
 use Rattle.counts.specs.declared.shares.Share.{Share}
 use Rattle.counts.specs.declared.shares.Shares.{Shares}
-use Rattle.counts.specs.declared.tally.Total.TheVariants.{Retires}
 use Rattle.counts.specs.Rule.{Summed, weight}
-use Rattle.counts.specs.Shares.{each, first_half, kept_half, merged, joined_of, no_parts, nothing, second_half, given_half, share, with_retires, without_retires}
-use Rattle.counts.specs.Totals.{position_of, total_count}
+use Rattle.counts.specs.Shares.{each, first_half, kept_half, merged, joined_of, no_parts, nothing, second_half, given_half, is_kept, share, with_kept, without_kept}
+use Rattle.counts.specs.Totals.{total_count}
 use Rattle.counts.proofs.EachShare.{share_each}
 use Rattle.counts.proofs.Parts.{IsCut, halves, joins, joins_idle, joins_some, next_power, twice, whole}
 use Rattle.counts.proofs.Sums.{every_push, every_set, sum_push, sum_set, sum_twice}
@@ -98,10 +97,10 @@ each_cut id v f g cut =
 pub halved : (id : ℕ) (v : Shares) → Splits Summed id v (first_half v) (second_half v)
 halved id v = each_cut id v (λ i. kept_half (share i v)) (λ i. given_half (share i v)) (λ at. halves (share at v))
 
-pub hired : (id : ℕ) (v : Shares) → Splits Summed id v (with_retires v) (without_retires v)
+pub hired : (id : ℕ) (v : Shares) → Splits Summed id v (with_kept v) (without_kept v)
 hired id v =
-    each_cut id v (λ i. if i == position_of Retires then share i v else kept_half (share i v))
-    (λ i. if i == position_of Retires then nothing else given_half (share i v)) (λ at. one (at == position_of Retires) (share at v))
+    each_cut id v (λ i. if is_kept i then share i v else kept_half (share i v))
+    (λ i. if is_kept i then nothing else given_half (share i v)) (λ at. one (is_kept at) (share at v))
   where
     one : (b : Bool) (s : Share) → IsCut s (if b then s else kept_half s) (if b then nothing else given_half s)
     one true s = whole s

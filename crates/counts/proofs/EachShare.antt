@@ -4,7 +4,7 @@ use Rattle.std.proofs.Common.{eq-eqb, ne_eqb, refl, ap, ◌∙◌, subst, ⊎_el
 use Rattle.counts.specs.declared.shares.Share.{Share}
 use Rattle.counts.specs.declared.shares.Shares.{Shares}
 use Rattle.counts.specs.declared.tally.Total.{Total}
-use Rattle.counts.specs.declared.tally.Total.TheVariants.{Claims, Finishes, Hints, Lets, Loads, Mends, Retires, Squashes, Stale}
+use Rattle.counts.specs.declared.tally.Total.TheVariants.{Claims, Finishes, Hints, Lets, Loads, Mends, Renewals, Retires, Squashes, Stale}
 use Rattle.counts.specs.Shares.{each, plus, raised_at, share}
 use Rattle.counts.specs.Totals.{position_of, total_count}
 
@@ -18,7 +18,8 @@ share_each f (suc (suc (suc (suc (suc zero))))) low = refl
 share_each f (suc (suc (suc (suc (suc (suc zero)))))) low = refl
 share_each f (suc (suc (suc (suc (suc (suc (suc zero))))))) low = refl
 share_each f (suc (suc (suc (suc (suc (suc (suc (suc zero)))))))) low = refl
-share_each f (suc (suc (suc (suc (suc (suc (suc (suc (suc at))))))))) low = absurd (omega arith)
+share_each f (suc (suc (suc (suc (suc (suc (suc (suc (suc zero))))))))) low = refl
+share_each f (suc (suc (suc (suc (suc (suc (suc (suc (suc (suc at)))))))))) low = absurd (omega arith)
 
 pub position_small : (t : Total) → position_of t < total_count
 position_small Lets = omega arith
@@ -30,6 +31,7 @@ position_small Retires = omega arith
 position_small Squashes = omega arith
 position_small Mends = omega arith
 position_small Hints = omega arith
+position_small Renewals = omega arith
 
 pub same_or_not : (a b : ℕ) → (a ≡ b) ⊎ (a ≢ b)
 same_or_not zero zero = inl refl

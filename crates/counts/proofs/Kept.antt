@@ -16,13 +16,13 @@ use Rattle.counts.proofs.Parts.{all_weight, no_weight}
 use Rattle.counts.proofs.Sums.{every_one, every_set, sum_held, sum_one, sum_set}
 use Rattle.counts.specs.Totals.{total_count}
 
-pub begins : Summed (opening (replicate 72 0) [] all_parts)
+pub begins : Summed (opening (replicate 80 0) [] all_parts)
 begins =
     record {
       wide = refl;
       sum = λ at low.
           let own : (share at all_parts).added ≡ 0 = ap (λ s. s.added) (share_each (λ _. everything) at low) in
-          zeros 72 (8 * at) ∙ ap (λ n. n % 2 ^ 64) (sym (sum_one (λ v. (share at v).added) all_parts ∙ own));
+          zeros 80 (8 * at) ∙ ap (λ n. n % 2 ^ 64) (sym (sum_one (λ v. (share at v).added) all_parts ∙ own));
       whole = λ at low.
           let own = share_each (λ _. everything) at low in
           record {

@@ -1,11 +1,10 @@
 -- What contracts see of a seat, and what is true of each.
-use Rattle.std.specs.Prelude.{◌≡◌, ◌≢◌, ℕ, ◌<◌, []}
+use Rattle.std.specs.Prelude.{◌≡◌, ℕ, ◌<◌, false, []}
 use Rattle.atomic_table.specs.Seated.{TableId}
 use Rattle.atomic_table.specs.Table.{Me}
 use Rattle.counts.specs.declared.shares.Shares.{Shares}
-use Rattle.counts.specs.declared.tally.Total.TheVariants.{Retires}
-use Rattle.counts.specs.Shares.{share}
-use Rattle.counts.specs.Totals.{position_of, total_count}
+use Rattle.counts.specs.Shares.{is_kept, share}
+use Rattle.counts.specs.Totals.{total_count}
 
 -- A seat: whose totals it adds to, and its shares
 pub record Counter : Type 0 where
@@ -17,7 +16,7 @@ pub record HasParts (me : Me (Unit {0}) Shares) : Type 0 where
   pub some : (at : ℕ) → at < total_count → 0 < (share at me.0).parts
   pub slots : me.1 ≡ []
 
--- It holds a part of each total but the retirements
+-- It holds a part of each total but the retirements and the renewals
 pub record HasOtherParts (me : Me (Unit {0}) Shares) : Type 0 where
-  pub some : (at : ℕ) → at < total_count → at ≢ position_of Retires → 0 < (share at me.0).parts
+  pub some : (at : ℕ) → at < total_count → is_kept at ≡ false → 0 < (share at me.0).parts
   pub slots : me.1 ≡ []

@@ -1,9 +1,9 @@
 -- What seats have added to the totals, and the parts of the totals that they hold.
-use Rattle.std.specs.Prelude.{ℕ, ◌+◌, ◌-◌, ◌*◌, ◌^◌, ◌==◌, if◌then◌else◌, max, [], ◌∷◌, get_or}
+use Rattle.std.specs.Prelude.{ℕ, Bool, ◌||◌, ◌+◌, ◌-◌, ◌*◌, ◌^◌, ◌==◌, if◌then◌else◌, max, [], ◌∷◌, get_or}
 use Rattle.counts.specs.declared.shares.Share.{Share}
 use Rattle.counts.specs.declared.shares.Shares.{Shares}
 use Rattle.counts.specs.declared.tally.Total.{Total}
-use Rattle.counts.specs.declared.tally.Total.TheVariants.{Retires}
+use Rattle.counts.specs.declared.tally.Total.TheVariants.{Renewals, Retires}
 use Rattle.counts.specs.Totals.{position_of}
 
 -- No part, to which nothing is added
@@ -24,7 +24,7 @@ share_of total v = share (position_of total) v
 
 -- A share of each total, by its position
 abbrev pub each : (ℕ → Share) → Shares
-each f = record { of = f 0 ∷ f 1 ∷ f 2 ∷ f 3 ∷ f 4 ∷ f 5 ∷ f 6 ∷ f 7 ∷ f 8 ∷ [] }
+each f = record { of = f 0 ∷ f 1 ∷ f 2 ∷ f 3 ∷ f 4 ∷ f 5 ∷ f 6 ∷ f 7 ∷ f 8 ∷ f 9 ∷ [] }
 
 -- All parts of each total, and no part of any
 abbrev pub all_parts : Shares
@@ -62,13 +62,17 @@ first_half v = each (λ i. kept_half (share i v))
 abbrev pub second_half : Shares → Shares
 second_half v = each (λ i. given_half (share i v))
 
--- The same, but that all of the retirements stay with the first
-abbrev pub with_retires : Shares → Shares
-with_retires v = each (λ i. if i == position_of Retires then share i v else kept_half (share i v))
+-- The totals of which a worker has no part: the retirements and the renewals
+abbrev pub is_kept : ℕ → Bool
+is_kept at = at == position_of Retires || at == position_of Renewals
 
--- And the other halves, with no part of the retirements
-abbrev pub without_retires : Shares → Shares
-without_retires v = each (λ i. if i == position_of Retires then nothing else given_half (share i v))
+-- The same, but that all of those stay with the first
+abbrev pub with_kept : Shares → Shares
+with_kept v = each (λ i. if is_kept i then share i v else kept_half (share i v))
+
+-- And the other halves, with no part of those
+abbrev pub without_kept : Shares → Shares
+without_kept v = each (λ i. if is_kept i then nothing else given_half (share i v))
 
 -- Two shares in one
 abbrev pub joined_of : Share → Share → Share

@@ -19,7 +19,7 @@ impl Model for CountSeat {
     ghost invariant = { λ s. HasParts s.seat.me };
 }
 
-/// The right to add to each total but the retirements. It has no bytes.
+/// The right to add to each total but the retirements and the renewals. It has no bytes.
 #[derive(Drop)]
 pub struct WorkerSeat {
     pub(crate) seat: Seat<(), Shares>,

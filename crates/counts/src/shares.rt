@@ -57,15 +57,15 @@ impl Split<Shares> for Halving {
     ghost right = { second_half };
 }
 
-/// The first half keeps all of the retirements.
+/// The first half keeps all of the retirements and of the renewals.
 pub(crate) struct Hiring;
 
 impl Split<Shares> for Hiring {
-    ghost use Rattle.counts.specs.Shares.{with_retires, without_retires};
+    ghost use Rattle.counts.specs.Shares.{with_kept, without_kept};
 
-    ghost left = { with_retires };
+    ghost left = { with_kept };
 
-    ghost right = { without_retires };
+    ghost right = { without_kept };
 }
 
 /// One has what two had.

@@ -15,6 +15,8 @@ pub struct Tally {
     pub mends: u64,
     /// Claims of a job at a station that came as a hint.
     pub hints: u64,
+    /// How often the core was renewed, since all tags of a station were spent.
+    pub renewals: u64,
 }
 
 /// One number of a tally.
@@ -29,6 +31,7 @@ pub enum Total {
     Squashes,
     Mends,
     Hints,
+    Renewals,
 }
 
 impl Total {
@@ -47,6 +50,7 @@ impl Total {
             Total::Squashes => 48,
             Total::Mends => 56,
             Total::Hints => 64,
+            Total::Renewals => 72,
         }
     }
 }

@@ -86,6 +86,7 @@ fn four_threads_lose_no_addition(rt: HostRuntime) -> Result<(), Fail> {
         squashes: 0,
         mends: 0,
         hints: 0,
+        renewals: 0,
     };
     assert_eq!(rt; tally, expected);
     Ok(())
@@ -104,6 +105,7 @@ fn each_total_is_its_own(rt: HostRuntime) -> Result<(), Fail> {
     counts.add(&mut seat, Total::Mends, u64::MAX);
     counts.add(&mut seat, Total::Mends, 9);
     counts.add(&mut seat, Total::Hints, 10);
+    counts.add(&mut seat, Total::Renewals, 11);
     let expected = Tally {
         lets: 1,
         claims: 2,
@@ -114,21 +116,24 @@ fn each_total_is_its_own(rt: HostRuntime) -> Result<(), Fail> {
         squashes: 7,
         mends: 8,
         hints: 10,
+        renewals: 11,
     };
     assert_eq!(rt; counts.read(&mut seat), expected);
     Ok(())
 }
 
 #[test]
-fn workers_count_all_but_retirements(rt: HostRuntime) -> Result<(), Fail> {
+fn workers_count_all_but_what_the_first_keeps(rt: HostRuntime) -> Result<(), Fail> {
     let (counts, seat) = Counts::make(rt.alloc())?;
     let (mut seat, worker) = counts.split_worker(seat);
     let (mut one, mut other) = counts.split_workers(worker);
     counts.add(&mut seat, Total::Retires, 3);
+    counts.add(&mut seat, Total::Renewals, 2);
     counts.add_work(&mut one, Total::Claims, 1);
     counts.add_work(&mut other, Total::Claims, 1);
     let tally = counts.read(&mut seat);
     assert_eq!(rt; tally.retires, 3);
+    assert_eq!(rt; tally.renewals, 2);
     assert_eq!(rt; tally.claims, 2);
     Ok(())
 }

@@ -1,9 +1,9 @@
 //! The totals, and every call on them.
-ghost use Rattle.std.specs.Prelude.{◌≡◌, ◌≢◌, ◌%◌, ◌^◌, ◌<◌, IfOk};
+ghost use Rattle.std.specs.Prelude.{◌≡◌, ◌%◌, ◌^◌, ◌<◌, IfOk, false};
 ghost use Rattle.counts.specs.Reads.{HoldsAll, IsTotal};
 ghost use Rattle.counts.specs.Shares.{all_parts, first_half, merged, added_to, second_half};
-ghost use Rattle.counts.specs.Shares.{share_of, with_retires, without_retires};
-ghost use Rattle.counts.specs.Totals.{told};
+ghost use Rattle.counts.specs.Shares.{is_kept, share_of, with_kept, without_kept};
+ghost use Rattle.counts.specs.Totals.{position_of, told};
 
 use crate::seats::{CountSeat, WorkerSeat};
 use crate::shares::{Add, Halving, Hiring, Joining, Look, Shares, Sums};
@@ -14,7 +14,7 @@ use std::alloc::Global;
 use std::marker::Model;
 
 // Eight words for each total, of which the first is used.
-const WORDS: usize = 72;
+const WORDS: usize = 80;
 
 /// The totals. Contracts see which they are.
 #[derive(Drop)]
@@ -87,11 +87,11 @@ impl Counts {
     }
 
     /// A seat of a worker, which has added nothing. The first has what this one has added, keeps all of
-    /// its part of the retirements, and half of its other parts.
+    /// its part of the retirements and of the renewals, and half of its other parts.
     pub fn split_worker(&self, mut seat: CountSeat) -> (CountSeat, WorkerSeat)
         requires seat { seat.of ≡ self.now }
-        ensures first { result.0 ≡ record { of = self.now; shares = with_retires seat.shares } }
-        ensures second { result.1 ≡ record { of = self.now; shares = without_retires seat.shares } }
+        ensures first { result.0 ≡ record { of = self.now; shares = with_kept seat.shares } }
+        ensures second { result.1 ≡ record { of = self.now; shares = without_kept seat.shares } }
     {
         let second = self.table.shared.split_seat::<Hiring>(&mut seat.seat);
         (seat, WorkerSeat { seat: second })
@@ -110,7 +110,7 @@ impl Counts {
     /// Adds to a total, as `add` does.
     pub fn add_work(&self, seat: &mut WorkerSeat, total: Total, k: u64)
         requires seat { seat.old.of ≡ self.now }
-        requires other { total ≢ Total.Retires }
+        requires other { is_kept (position_of total) ≡ false }
         ensures { seat.new ≡ record { of = self.now; shares = added_to total k seat.old.shares } }
     {
         self.raise(&mut seat.seat, total, k);
@@ -159,6 +159,7 @@ impl Counts {
             squashes: self.total(seat, Total::Squashes),
             mends: self.total(seat, Total::Mends),
             hints: self.total(seat, Total::Hints),
+            renewals: self.total(seat, Total::Renewals),
         }
     }
 }
