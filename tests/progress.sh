@@ -6,7 +6,7 @@ build run ruu
 ruu=crates/ruu/out/ruu
 
 printf 'ori $1,$0,300\nL: addiu $1,$1,-1\nbne $1,$0,L\nbreak\n' > "$work/loop.s"
-numbers='claims [0-9]+ finishes [0-9]+ stale [0-9]+ loads 0 retires ([0-9]+) squashes [0-9]+ mends [0-9]+ hints [0-9]+'
+numbers='claims [0-9]+ finishes [0-9]+ stale [0-9]+ loads 0 retires ([0-9]+) squashes [0-9]+ mends [0-9]+ hints [0-9]+ renewals 0'
 
 for units in 1 4; do
   $ruu run "$work/loop.s" --progress --units $units > "$work/out" 2> "$work/err" || fail "$units units: status $?"

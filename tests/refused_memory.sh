@@ -14,7 +14,7 @@ is_said() { # report, whether it runs on threads
   count=$(sed -n 's/^count //p' "$1")
   if [ "$2" = threads ] && [ -n "$count" ]; then
     local n='[0-9]+'
-    [[ $said =~ ^tally\ lets\ $n\ claims\ $n\ finishes\ $n\ stale\ $n\ loads\ $n\ retires\ $count\ squashes\ $n\ mends\ $n\ hints\ $n$ ]]
+    [[ $said =~ ^tally\ lets\ $n\ claims\ $n\ finishes\ $n\ stale\ $n\ loads\ $n\ retires\ $count\ squashes\ $n\ mends\ $n\ hints\ $n\ renewals\ 0$ ]]
   else
     [ -z "$said" ]
   fi

@@ -1,7 +1,7 @@
 #!/usr/bin/env bash
 # Refuses each allocation of tests of single calls in turn, until none is left to refuse: a core, a renewal, a commit
-# side, a snapshot that is shown, and a run that is told. What is refused is tried again in these tests, so that each
-# run has to end well, and to hold no block at its end.
+# side, a snapshot that is shown, a run that is told, and one on threads that renews. What is refused is tried again in
+# these tests, so that each run has to end well, and to hold no block at its end.
 . "$(dirname "$0")/common.bash"
 build_refuse
 
@@ -21,4 +21,5 @@ station tests::memory::a_core_that_is_refused_memory_is_made_at_the_next_try
 station tests::memory::a_renewal_that_is_refused_memory_is_made_at_the_next_try
 back tests::what_is_refused_memory_is_done_at_the_next_try
 charts tests::memory::a_run_that_is_refused_memory_is_told_at_the_next_try
+pool tests::renewals::a_run_that_is_refused_memory_renews_at_the_next_try
 END_OF_TESTS

@@ -1,6 +1,10 @@
 -- What goes to other threads.
 use Rattle.std.proofs.Common.{rules}
-use denote.Param.Send.{IsSend, recorded_send, struct_send}
+use denote.Param.Send.{IsSend, enum_send, recorded_send, sendable, struct_send, view_send}
+use denote.Param.SendFields.{as_row_send, declared_send}
+use denote.Enum.Enum.{Enum}
+use denote.Enum.Declared.{shape as enum_shape}
+use denote.Struct.Field.{row_field}
 use denote.RattleType.{RattleType}
 use denote.Struct.Declared.{shape}
 use Rattle.counts.specs.contracts.seats.WorkerSeat.{the_row as count_row}
@@ -9,8 +13,18 @@ use Rattle.station.specs.contracts.seat.FrontPart.{the_row as front_row}
 use Rattle.station.specs.contracts.seat.FrontPartPart.TheImpl.{ghosts as front_part}
 use Rattle.station.specs.contracts.seat.UnitPart.{the_row as unit_row}
 use Rattle.station.specs.contracts.seat.UnitPartPart.TheImpl.{ghosts as unit_part}
+use Rattle.front.specs.contracts.still.FrontStill as still
+use Rattle.front.specs.contracts.still.FrontStill.TheInside as inside
+use Rattle.front.specs.contracts.path.base_state.Base as base
+use Rattle.front.specs.contracts.path.counted.Creators as creators
+use Rattle.front.proofs.path.counted.Creators.TheSendSync as creators_cross
+use Rattle.core.specs.contracts.option.Option as option
+use Rattle.core.specs.contracts.snapshot.Snapshot.{the_row as snapshot_row}
+use Rattle.instructions.specs.declared.predictor.Predictor.{Ghosts}
 use Rattle.pool.specs.contracts.compute.Worker as worker
+use Rattle.pool.specs.contracts.dispatch.Begin as begin
 use Rattle.pool.specs.contracts.dispatch.Dispatcher as dispatcher
+use Rattle.pool.specs.contracts.dispatch.Left as left
 
 pub front_seat_sends : IsSend (seat_row front_row front_part)
 unfolding types.Keyed.entry denote.Memory.part_of
@@ -27,5 +41,26 @@ count_sends = search rules
 pub worker_sends : IsSend worker.the_row
 worker_sends = recorded_send worker.the_field.row _ _ worker.the_type.to_one (struct_send (shape worker.the_type) (search rules, (unit_seat_sends, (count_sends, tt))))
 
-pub dispatcher_sends : (P : RattleType) → IsSend P → IsSend (dispatcher.the_row P)
-dispatcher_sends P s = recorded_send (dispatcher.the_field P).row _ _ (dispatcher.the_type P).to_one (struct_send (shape (dispatcher.the_type P)) (front_seat_sends, (s, (count_sends, tt))))
+pub base_sends : IsSend base.the_row
+base_sends = search sendable depth 40
+
+pub creators_sends : IsSend creators.the_row
+creators_sends = creators_cross.the_send
+
+pub left_seat_sends : IsSend (snapshot_row (seat_row front_row front_part))
+left_seat_sends = search sendable depth 40
+
+pub still_sends : (P : RattleType) (G : Ghosts P.Denot) → IsSend P → IsSend (still.the_row P G)
+still_sends P G s = view_send _ _ _ _ _ (declared_send (inside.the_type P G) (base_sends, (creators_sends, (as_row_send (row_field P) s, (left_seat_sends, tt)))))
+
+pub begin_sends : (P : RattleType) (G : Ghosts P.Denot) → IsSend P → IsSend (begin.the_row P G)
+begin_sends P G s = let T = begin.the_type P G in recorded_send (Enum (enum_shape T)) T.D T.to T.to_one (enum_send (enum_shape T) ((s, tt), ((still_sends P G s, tt), tt)))
+
+pub dispatcher_sends : (P : RattleType) (G : Ghosts P.Denot) → IsSend P → IsSend (dispatcher.the_row P G)
+dispatcher_sends P G s = declared_send (dispatcher.the_type P G) (front_seat_sends, (begin_sends P G s, (count_sends, (search rules, tt))))
+
+pub left_sends : (P : RattleType) (G : Ghosts P.Denot) → IsSend P → IsSend (left.the_row P G)
+left_sends P G s = declared_send (left.the_type P G) (front_seat_sends, (still_sends P G s, (search rules, tt)))
+
+pub given_back_sends : (P : RattleType) (G : Ghosts P.Denot) → IsSend P → IsSend (option.the_row (left.the_row P G))
+given_back_sends P G s = let T = option.the_type (left.the_row P G) in recorded_send (Enum (enum_shape T)) T.D T.to T.to_one (enum_send (enum_shape T) (tt, ((left_sends P G s, tt), tt)))

@@ -1,4 +1,5 @@
 pub mod Committing
 pub mod HintsPut
 pub mod Runs
+pub mod Terms
 pub mod Turns

@@ -39,12 +39,19 @@ TakesTurns turns (Ended end tally) = end.n ≤ turns
 TakesTurns turns (LimitReached end tally) = end.n ≤ turns
 TakesTurns turns (Refused why) = Unit {0}
 
--- The same where it is known how many turns the commit thread has left; without all its threads a run takes none
-abbrev pub LeavesTurns : TheTurns → Run → Type 0
-LeavesTurns turns (Ended end tally) = end.n + turns.left ≤ turns.all
-LeavesTurns turns (LimitReached end tally) = end.n + turns.left ≤ turns.all
-LeavesTurns turns (Refused Memory) = Unit {0}
-LeavesTurns turns (Refused Thread) = turns.left ≡ turns.all
+-- The same where it is known how many turns the commit thread has left. Without all its threads a run takes none,
+-- unless it has begun and its core was renewed
+abbrev pub LeavesTurns : TheTurns → (renewals : ℕ) → Run → Type 0
+LeavesTurns turns renewals (Ended end tally) = end.n + turns.left ≤ turns.all
+LeavesTurns turns renewals (LimitReached end tally) = end.n + turns.left ≤ turns.all
+LeavesTurns turns renewals (Refused Memory) = Unit {0}
+LeavesTurns turns renewals (Refused Thread) = renewals ≡ 0 → turns.left ≡ turns.all
+
+-- The tally tells how often the core was renewed
+abbrev pub TellsRenewals : (renewals : ℕ) → Run → Type 0
+TellsRenewals renewals (Ended end tally) = tally.renewals ≡ renewals
+TellsRenewals renewals (LimitReached end tally) = tally.renewals ≡ renewals
+TellsRenewals renewals (Refused why) = Unit {0}
 
 -- The limit is told only where so many instructions were run, or no turn was left
 abbrev pub IsLimit : (limit left : ℕ) → Run → Type 0

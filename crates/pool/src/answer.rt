@@ -23,18 +23,23 @@ pub enum Run {
     Refused(Refusal),
 }
 
-/// How a run ended, and what its commit thread has left of its turns.
+/// How a run ended, what its commit thread has left of its turns, and how often its core was renewed.
 #[derive(Drop)]
 pub struct RunInTurns {
     pub run: Run,
     pub turns: Turns,
+    pub renewals: u32,
 }
 
 impl Run {
-    /// The run, with these turns left.
-    pub(crate) fn with(self, turns: Turns) -> RunInTurns
-        ensures { result ≡ record { run = self; turns = turns } }
+    /// The run, with these turns left and so many renewals.
+    pub(crate) fn with(self, turns: Turns, renewals: u32) -> RunInTurns
+        ensures { result ≡ record { run = self; turns = turns; renewals = renewals } }
     {
-        RunInTurns { run: self, turns }
+        RunInTurns {
+            run: self,
+            turns,
+            renewals,
+        }
     }
 }

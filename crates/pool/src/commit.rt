@@ -2,25 +2,19 @@
 ghost use Rattle.std.specs.Prelude.{◌≡◌};
 ghost use Rattle.back.specs.Backs.{state_of};
 
+mod renewal;
+mod turning;
+
 use crate::answer::{Refusal, Run, RunInTurns};
 use crate::bounds::Bounds;
 use crate::floor::Floor;
-use crate::gate::Gate;
-use crate::hinting::hint_each;
-use crate::rest::Rest;
 use crate::turns::Turns;
-use back::{Back, Commit, Mark, Naming, Refresh};
-use counts::{CountSeat, Tally, Total};
-use hints::{Hinter, Ring};
-use instructions::{Ending, Memory};
+use back::{Back, Naming};
+use counts::CountSeat;
+use hints::Ring;
+use instructions::Ending;
 use std::marker::{Model, PhantomData};
 use std::sync::Wait;
-
-// It shows each so many instructions.
-const SHOWN_EACH: u64 = 64;
-
-// After so many fruitless turns it lets another thread run.
-const PATIENCE: u32 = 4;
 
 /// Why the commit thread commits no more.
 #[derive(Clone, Copy)]
@@ -39,7 +33,8 @@ pub(crate) struct Committer<J: Naming, K: Bounds + Ring> {
     count: CountSeat,
     limit: u32,
     turns: Turns,
-    // why it commits no more; a thread is wanting until it has begun, and then memory until it is over
+    renewals: u32,
+    // why it commits no more; in each term a thread is wanting until it has begun, and then memory until it is over
     over: Result<Why, Refusal>,
     bounds: PhantomData<K>,
 }
@@ -51,40 +46,21 @@ impl<J: Naming, K: Bounds + Ring> Model for Committer<J, K> {
 
     ghost Value = { TheCommitter };
 
-    ghost view = { λ c. record { back = c.back; turns = c.turns; over = c.over } };
+    ghost view = { λ c. record { back = c.back; turns = c.turns; renewals = c.renewals; over = c.over } };
 
     ghost invariant = { λ c.
-        HasCounted K.counts c.back c.count × (c.limit ≡ K.limit) × Keeps K.limit c.back c.turns
+        HasCounted K.counts c.back c.renewals c.count × (c.limit ≡ K.limit) × Keeps K.limit c.back c.renewals c.turns
         × (c.turns.all ≡ K.turns) × IfOk c.over (Because K.limit c.back c.turns.left)
-        × (c.over ≡ Err Thread → c.turns.left ≡ c.turns.all) };
-}
-
-// The gate is told no retirements but those that are shown.
-fn tell<G: Gate>(gate: &G, shown: &Mark, tally: &Tally)
-    requires { tally.now.retires ≡ shown.now.n }
-{
-    gate.counted(tally);
-}
-
-// What a turn came to.
-#[derive(Clone, Copy)]
-enum Turned {
-    Worked,
-    Idle,
-    Over(Why),
+        × (c.over ≡ Err Thread → c.renewals ≡ 0 → c.turns.left ≡ c.turns.all) };
 }
 
 impl<J: Naming, K: Bounds + Ring> Committer<J, K> {
-    ghost use Rattle.std.specs.Prelude.{◌≡◌, ◌≢◌, ◌+◌, ◌<◌, ◌≤◌, ◌^◌, Err, IfOk, None};
-    ghost use Rattle.pool.specs.Runs.{IsLimit, IsRight, IsWithin, LeavesTurns};
-    ghost use Rattle.back.specs.Backs.{IsSame};
-    ghost use Rattle.pool.specs.Committing.{Because, HasCounted};
-    ghost use Rattle.hints.specs.Hinted.{IsOf};
-    ghost use Rattle.pool.specs.declared.commit.Turned.TheVariants.{Over};
-    ghost use Rattle.pool.specs.declared.commit.Why.{Why};
+    ghost use Rattle.std.specs.Prelude.{◌≡◌, Err, None};
+    ghost use Rattle.pool.specs.Committing.{HasCounted};
+    ghost use Rattle.pool.specs.Runs.{IsLimit, IsRight, IsWithin, LeavesTurns, TellsRenewals};
 
     pub(crate) fn new(back: Back<J>, count: CountSeat, limit: u32, turns: u32) -> Self
-        requires count { HasCounted K.counts back count }
+        requires count { HasCounted K.counts back 0 count }
         requires limit { limit ≡ K.limit }
         requires turns { turns ≡ K.turns }
         requires start { (state_of back).count ≡ 0 }
@@ -97,146 +73,9 @@ impl<J: Naming, K: Bounds + Ring> Committer<J, K> {
             count,
             limit,
             turns: Turns::new(turns),
+            renewals: 0,
             over: Err(Refusal::Thread),
             bounds: PhantomData,
-        }
-    }
-
-    // Shows the state, and tells the gate what was counted until then.
-    fn show<G: Gate, R: Wait>(&mut self, wait: &R, floor: &Floor<K>, gate: &G) -> Result<(), Memory>
-        requires counts { floor.now.counts ≡ K.counts }
-        ensures back { IsSame self.old.back (record self.new.back { shown = self.old.back.shown }) }
-        ensures turns { self.new.turns ≡ self.old.turns }
-        ensures over { self.new.over ≡ self.old.over }
-    {
-        let mark = self.back.show(wait)?;
-        let tally = floor.counts.read(&mut self.count);
-        tell(gate, &mark, &tally);
-        Ok(())
-    }
-
-    // One refresh. Hints whom a load woke. False where nothing was loaded.
-    fn refresh<R: Wait>(&mut self, wait: &R, floor: &Floor<K>, hinter: &mut Hinter) -> bool
-        requires core { self.old.back.core ≡ floor.now.core }
-        requires counts { floor.now.counts ≡ K.counts }
-        requires hints { floor.now.hints.ring ≡ floor.now.core.sizes.ring }
-        requires hinter { IsOf floor.now.hints hinter.old }
-        ensures core { self.new.back.core ≡ floor.now.core }
-        ensures ended { self.new.back.ended ≡ self.old.back.ended }
-        ensures turns { self.new.turns ≡ self.old.turns }
-        ensures over { self.new.over ≡ self.old.over }
-        ensures hinter { IsOf floor.now.hints hinter.new }
-    {
-        let Refresh::Loaded { .. } = self.back.refresh(&floor.core) else {
-            return false;
-        };
-        floor.counts.add(&mut self.count, Total::Loads, 1);
-        let woken = self.back.woken();
-        hint_each(wait, &floor.hints, hinter, floor.core.ring(), woken);
-        true
-    }
-
-    // One commit and one refresh. A refused snapshot is want of memory.
-    fn turn<G: Gate, R: Wait>(
-        &mut self,
-        wait: &R,
-        floor: &Floor<K>,
-        gate: &G,
-        hinter: &mut Hinter,
-    ) -> Result<Turned, Memory>
-        requires core { self.old.back.core ≡ floor.now.core }
-        requires counts { floor.now.counts ≡ K.counts }
-        requires hints { floor.now.hints.ring ≡ floor.now.core.sizes.ring }
-        requires hinter { IsOf floor.now.hints hinter.old }
-        requires begun { self.old.over ≡ Err Refusal.Memory }
-        requires taken { (state_of self.old.back).count + self.old.turns.left < self.old.turns.all }
-        ensures core { self.new.back.core ≡ floor.now.core }
-        ensures begun { self.new.over ≡ Err Refusal.Memory }
-        ensures turns { self.new.turns ≡ self.old.turns }
-        ensures hinter { IsOf floor.now.hints hinter.new }
-        ensures over { IfOk result (λ turned. (why : Why) → turned ≡ Over why →
-            Because K.limit self.new.back self.new.turns.left why) }
-    {
-        if self.limit as u64 <= self.back.n() {
-            return Ok(Turned::Over(Why::AtLimit));
-        }
-        let mut turned = Turned::Idle;
-        match self.back.commit(&floor.core) {
-            Commit::Ended(_) => return Ok(Turned::Over(Why::AtEnd)),
-            Commit::Retired { n, .. } => {
-                floor.counts.add(&mut self.count, Total::Retires, 1);
-                if n % SHOWN_EACH == 0 {
-                    self.show(wait, floor, gate)?;
-                    floor.tell();
-                }
-                turned = Turned::Worked;
-            }
-            // its instruction counts with its second half
-            Commit::Half { .. } => turned = Turned::Worked,
-            Commit::NotDone | Commit::Empty => {}
-        }
-        if self.refresh(wait, floor, hinter) {
-            turned = Turned::Worked;
-        }
-        Ok(turned)
-    }
-
-    // Commits until the program has ended, the limit is reached or no turn is left.
-    fn turns<G: Gate, R: Wait>(
-        &mut self,
-        wait: &R,
-        floor: &Floor<K>,
-        gate: &G,
-    ) -> Result<Why, Memory>
-        requires core { self.old.back.core ≡ floor.now.core }
-        requires counts { floor.now.counts ≡ K.counts }
-        requires hints { floor.now.hints.ring ≡ floor.now.core.sizes.ring }
-        requires begun { self.old.over ≡ Err Refusal.Memory }
-        ensures begun { self.new.over ≡ Err Refusal.Memory }
-        ensures over { IfOk result (Because K.limit self.new.back self.new.turns.left) }
-    {
-        let mut hinter = floor.hints.hinter();
-        let mut rest = Rest::after(PATIENCE);
-        while self.turns.take() {
-            match self.turn(wait, floor, gate, &mut hinter)? {
-                Turned::Worked => rest.begin_again(),
-                Turned::Idle => rest.rest(),
-                Turned::Over(why) => return Ok(why),
-            }
-        }
-        Ok(Why::Spent)
-    }
-
-    // The same, and shows the last state.
-    fn shown<G: Gate, R: Wait>(
-        &mut self,
-        wait: &R,
-        floor: &Floor<K>,
-        gate: &G,
-    ) -> Result<Why, Memory>
-        requires core { self.old.back.core ≡ floor.now.core }
-        requires counts { floor.now.counts ≡ K.counts }
-        requires hints { floor.now.hints.ring ≡ floor.now.core.sizes.ring }
-        requires begun { self.old.over ≡ Err Refusal.Memory }
-        ensures begun { self.new.over ≡ Err Refusal.Memory }
-        ensures over { IfOk result (Because K.limit self.new.back self.new.turns.left) }
-    {
-        let why = self.turns(wait, floor, gate)?;
-        self.show(wait, floor, gate)?;
-        Ok(why)
-    }
-
-    /// Commits until there is no more to commit, shows the last state, and keeps why it is over.
-    pub(crate) fn run<G: Gate, R: Wait>(&mut self, wait: &R, floor: &Floor<K>, gate: &G)
-        requires core { self.old.back.core ≡ floor.now.core }
-        requires counts { floor.now.counts ≡ K.counts }
-        requires hints { floor.now.hints.ring ≡ floor.now.core.sizes.ring }
-        requires fresh { self.old.over ≡ Err Refusal.Thread }
-        ensures has_run { self.new.over ≢ Err Refusal.Thread }
-    {
-        self.over = Err(Refusal::Memory);
-        if let Ok(why) = self.shown(wait, floor, gate) {
-            self.over = Ok(why);
         }
     }
 
@@ -248,7 +87,8 @@ impl<J: Naming, K: Bounds + Ring> Committer<J, K> {
         ensures within { IsWithin K.limit result.run }
         ensures turns { result.turns ≡ self.turns }
         ensures all { result.turns.all ≡ K.turns }
-        ensures left { LeavesTurns result.turns result.run }
+        ensures left { LeavesTurns result.turns result.renewals result.run }
+        ensures renewals { TellsRenewals result.renewals result.run }
         ensures limit { IsLimit K.limit result.turns.left result.run }
     {
         let Committer {
@@ -256,15 +96,16 @@ impl<J: Naming, K: Bounds + Ring> Committer<J, K> {
             mut count,
             limit: _,
             turns,
+            renewals,
             over,
             bounds: _,
         } = self;
         let end = back.end(wait);
         let tally = floor.counts.read(&mut count);
         match (over, end.outcome) {
-            (Err(refusal), _) => Run::Refused(refusal).with(turns),
-            (Ok(_), Ending::Stop(_)) => Run::Ended(end, tally).with(turns),
-            (Ok(_), Ending::Limit) => Run::LimitReached(end, tally).with(turns),
+            (Err(refusal), _) => Run::Refused(refusal).with(turns, renewals),
+            (Ok(_), Ending::Stop(_)) => Run::Ended(end, tally).with(turns, renewals),
+            (Ok(_), Ending::Limit) => Run::LimitReached(end, tally).with(turns, renewals),
         }
     }
 }

@@ -13,35 +13,35 @@ use crate::search::{Candidate, Search};
 use counts::{Total, WorkerSeat};
 use hints::Ring;
 use instructions::outcome_of;
-use station::{Claim, Finish, Job, UnitSeat, a_job_is_of_the_program};
+use station::{Claim, Core, Finish, Job, UnitSeat, a_job_is_of_the_program};
 use std::sync::Wait;
 use std::thread::yield_now;
 
 // Claims at the station where it looks.
-fn claim<K: Ring>(floor: &Floor<K>, seat: &mut UnitSeat, candidate: Candidate) -> Claim
-    requires core { seat.old.core ≡ floor.now.core }
-    requires station { station_of candidate < floor.now.core.sizes.ring }
+fn claim(core: &Core, seat: &mut UnitSeat, candidate: Candidate) -> Claim
+    requires core { seat.old.core ≡ core.now }
+    requires station { station_of candidate < core.now.sizes.ring }
     ensures kept { IsSame seat.old seat.new }
-    ensures reply { ClaimAnswers floor.now.core.program floor.now.core.sizes
+    ensures reply { ClaimAnswers core.now.program core.now.sizes
         seat.old.by seat.old.seen seat.new.seen (station_of candidate) result }
 {
     let station = candidate.station();
-    floor.core.claim(seat, station)
+    core.claim(seat, station)
 }
 
 // Computes a claimed tenant, and writes its outcome.
-fn compute<K: Ring>(floor: &Floor<K>, seat: &mut UnitSeat, job: Job) -> Finish
-    requires core { seat.old.core ≡ floor.now.core }
-    requires job { Holds floor.now.core.program floor.now.core.sizes seat.old.by seat.old.seen job }
-    requires legal { IsLegal floor.now.core.program floor.now.core.sizes seat.old.seen }
-    requires program { floor.now.program ≡ floor.now.core.program }
-    ensures core { seat.new.core ≡ floor.now.core }
+fn compute<K: Ring>(floor: &Floor<K>, core: &Core, seat: &mut UnitSeat, job: Job) -> Finish
+    requires core { seat.old.core ≡ core.now }
+    requires job { Holds core.now.program core.now.sizes seat.old.by seat.old.seen job }
+    requires legal { IsLegal core.now.program core.now.sizes seat.old.seen }
+    requires program { floor.now.program ≡ core.now.program }
+    ensures core { seat.new.core ≡ core.now }
 {
     a_job_is_of_the_program();
     let instr = floor.program.instr(job.index as usize);
     let size = floor.program.size();
     let result = outcome_of(instr, job.half, job.pc, job.a, job.b, size);
-    floor.core.finish(seat, job, result)
+    core.finish(seat, job, result)
 }
 
 // Waits while the gate holds the unit and it has turns left, and says how many it has then. Another unit
@@ -50,7 +50,7 @@ fn wait_at<K: Ring, G: Gate>(floor: &Floor<K>, gate: &G, unit: u32, station: u32
     ensures { result ≤ turns }
 {
     let mut left = turns;
-    while gate.held(unit, station) && 0 < left && !floor.is_closed() {
+    while gate.held(unit, station) && 0 < left && !floor.is_over() {
         if left == turns {
             floor.call(1);
         }
@@ -83,35 +83,30 @@ fn count_claim<K: Ring>(floor: &Floor<K>, count: &mut WorkerSeat, candidate: Can
 fn finish<K: Ring, R: Wait>(
     wait: &R,
     floor: &Floor<K>,
+    core: &Core,
     worker: &mut Worker,
     search: &mut Search,
     job: Job,
 )
-    requires core { worker.old.seat.core ≡ floor.now.core }
+    requires core { worker.old.seat.core ≡ core.now }
     requires count { worker.old.count.of ≡ floor.now.counts }
-    requires program { floor.now.program ≡ floor.now.core.program }
-    requires hints { floor.now.hints.ring ≡ floor.now.core.sizes.ring }
+    requires program { floor.now.program ≡ core.now.program }
+    requires hints { floor.now.hints.ring ≡ core.now.sizes.ring }
     requires search { Searches floor.now.hints search.old }
-    requires job { Holds floor.now.core.program floor.now.core.sizes
+    requires job { Holds core.now.program core.now.sizes
         worker.old.seat.by worker.old.seat.seen job }
-    requires legal { IsLegal floor.now.core.program floor.now.core.sizes worker.old.seat.seen }
-    ensures core { worker.new.seat.core ≡ floor.now.core }
+    requires legal { IsLegal core.now.program core.now.sizes worker.old.seat.seen }
+    ensures core { worker.new.seat.core ≡ core.now }
     ensures count { worker.new.count.of ≡ floor.now.counts }
     ensures search { Searches floor.now.hints search.new }
 {
-    if let Finish::Stale = compute(floor, &mut worker.seat, job) {
+    if let Finish::Stale = compute(floor, core, &mut worker.seat, job) {
         floor.counts.add_work(&mut worker.count, Total::Stale, 1);
         return;
     }
     floor.counts.add_work(&mut worker.count, Total::Finishes, 1);
     let woken = worker.seat.woken();
-    hint_each(
-        wait,
-        &floor.hints,
-        &mut search.hinter,
-        floor.core.ring(),
-        woken,
-    );
+    hint_each(wait, &floor.hints, &mut search.hinter, core.ring(), woken);
 }
 
 // One turn, and as many more as the gate holds the unit: claims one station, and finishes the job that it gets.
@@ -119,24 +114,25 @@ fn finish<K: Ring, R: Wait>(
 fn turn<K: Ring, G: Gate, R: Wait>(
     wait: &R,
     floor: &Floor<K>,
+    core: &Core,
     gate: &G,
     worker: &mut Worker,
     search: &mut Search,
     rest: &mut Rest,
     left: u32,
 ) -> u32
-    requires core { worker.old.seat.core ≡ floor.now.core }
+    requires core { worker.old.seat.core ≡ core.now }
     requires count { worker.old.count.of ≡ floor.now.counts }
-    requires program { floor.now.program ≡ floor.now.core.program }
-    requires hints { floor.now.hints.ring ≡ floor.now.core.sizes.ring }
+    requires program { floor.now.program ≡ core.now.program }
+    requires hints { floor.now.hints.ring ≡ core.now.sizes.ring }
     requires search { Searches floor.now.hints search.old }
-    ensures core { worker.new.seat.core ≡ floor.now.core }
+    ensures core { worker.new.seat.core ≡ core.now }
     ensures count { worker.new.count.of ≡ floor.now.counts }
     ensures search { Searches floor.now.hints search.new }
     ensures left { result ≤ left }
 {
-    let candidate = search.next(wait, &floor.hints, floor.core.ring());
-    let job = match claim(floor, &mut worker.seat, candidate) {
+    let candidate = search.next(wait, &floor.hints, core.ring());
+    let job = match claim(core, &mut worker.seat, candidate) {
         Claim::Job(job) => job,
         Claim::NotOpen | Claim::Waiting { tag: _, k: _ } | Claim::Moved { tag: _ } => {
             rest.rest();
@@ -146,33 +142,36 @@ fn turn<K: Ring, G: Gate, R: Wait>(
     rest.begin_again();
     count_claim(floor, &mut worker.count, candidate);
     let left = wait_at(floor, gate, worker.unit, candidate.station() as u32, left);
-    finish(wait, floor, worker, search, job);
+    finish(wait, floor, core, worker, search, job);
     left
 }
 
 /// Looks for work at the stations that are hinted, and without a hint in ring order, one a turn, and finishes what
-/// it has claimed. It rests until it is called, and calls another when it has no turn left.
+/// it has claimed. It rests until it is called, calls another when it has no turn left,
+/// and keeps those that it has left when the term is over.
 pub(crate) fn work<K: Ring, G: Gate, R: Wait>(
     wait: &R,
     floor: &Floor<K>,
+    core: &Core,
     gate: &G,
     mut worker: Worker,
 )
-    requires core { worker.seat.core ≡ floor.now.core }
+    requires core { worker.seat.core ≡ core.now }
     requires count { worker.count.of ≡ floor.now.counts }
-    requires program { floor.now.program ≡ floor.now.core.program }
-    requires hints { floor.now.hints.ring ≡ floor.now.core.sizes.ring }
+    requires program { floor.now.program ≡ core.now.program }
+    requires hints { floor.now.hints.ring ≡ core.now.sizes.ring }
 {
     if !floor.is_called(wait, worker.unit) {
         return;
     }
     let mut search = Search::new(&floor.hints);
-    let mut rest = Rest::after(floor.core.ring() as u32 / 2);
-    let mut left = floor.turns;
-    while 0 < left && !floor.is_closed() {
+    let mut rest = Rest::after(core.ring() as u32 / 2);
+    let mut left = floor.turns_left(worker.unit);
+    while 0 < left && !floor.is_over() {
         left = turn(
             wait,
             floor,
+            core,
             gate,
             &mut worker,
             &mut search,
@@ -180,6 +179,7 @@ pub(crate) fn work<K: Ring, G: Gate, R: Wait>(
             left - 1,
         );
     }
+    floor.keep_turns(worker.unit, left);
     if left == 0 {
         floor.call(1);
     }

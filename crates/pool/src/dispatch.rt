@@ -1,88 +1,182 @@
 //! What the dispatch thread does.
-ghost use Rattle.std.specs.Prelude.{◌≡◌, ◌<◌};
-ghost use Rattle.front.specs.Fronts.{IsUnused, TurnsTo};
+ghost use Rattle.std.specs.Prelude.{◌≡◌, ◌<◌, IfSome, true};
+ghost use Rattle.front.specs.Fronts.{TurnsTo};
 ghost use Rattle.hints.specs.Hinted.{IsOf};
+ghost use Rattle.pool.specs.Terms.{Begins, GivesBack};
+ghost use Rattle.pool.specs.declared.dispatch.Stepped.TheVariants.{Rested};
 
 use crate::floor::Floor;
 use crate::rest::Rest;
 use counts::{Total, WorkerSeat};
-use front::{Front, Recovery, Turn};
+use front::{Front, FrontStill, Recovery, Rest as Rests, Turn};
 use hints::{Hinter, Ring};
-use instructions::Predictor;
-use station::FrontSeat;
+use instructions::{Predictor, Program};
+use station::{Core, FrontSeat};
 use std::sync::Wait;
 
 // After so many fruitless turns it lets another thread run.
 const PATIENCE: u32 = 4;
 
-// One recovery, and one let where there is no miss. Hints the station that was let. False where there was nothing
-// to do.
-fn step<K: Ring, P: Predictor + Drop, R: Wait>(
+// What a turn came to.
+#[derive(Clone, Copy)]
+enum Stepped {
+    Worked,
+    Idle,
+    // all tags of the next station are spent, and nobody is live
+    Rested,
+}
+
+// Lets the next instruction, and hints its station. Where the tags of the station are spent it looks whether
+// anybody is live.
+fn let_next<K: Ring, P: Predictor + Drop, R: Wait>(
     wait: &R,
     floor: &Floor<K>,
+    core: &Core,
     front: &mut Front<P>,
     count: &mut WorkerSeat,
     hinter: &mut Hinter,
-) -> bool
-    requires core { front.old.core ≡ floor.now.core }
+) -> Stepped
+    requires core { front.old.core ≡ core.now }
     requires count { count.old.of ≡ floor.now.counts }
-    requires hints { floor.now.hints.ring ≡ floor.now.core.sizes.ring }
+    requires hints { floor.now.hints.ring ≡ core.now.sizes.ring }
     requires hinter { IsOf floor.now.hints hinter.old }
-    ensures core { front.new.core ≡ floor.now.core }
+    ensures core { front.new.core ≡ core.now }
     ensures count { count.new.of ≡ floor.now.counts }
     ensures hinter { IsOf floor.now.hints hinter.new }
+    ensures rested { result ≡ Rested → front.new.rested ≡ true }
 {
-    if let Recovery::Mended { squashed, .. } = front.recover(&floor.core) {
+    let _ring = core.ring();
+    match front.turn(core) {
+        Turn::Let { station, .. } => {
+            floor.counts.add_work(count, Total::Lets, 1);
+            floor.hints.push(wait, hinter, station as u32);
+            Stepped::Worked
+        }
+        Turn::Spent => match front.rest(core) {
+            Rests::Idle => Stepped::Rested,
+            Rests::Live => Stepped::Idle,
+        },
+        Turn::Full | Turn::NoInstr | Turn::QueueFull => Stepped::Idle,
+    }
+}
+
+// One recovery, and one let where there is no miss.
+fn step<K: Ring, P: Predictor + Drop, R: Wait>(
+    wait: &R,
+    floor: &Floor<K>,
+    core: &Core,
+    front: &mut Front<P>,
+    count: &mut WorkerSeat,
+    hinter: &mut Hinter,
+) -> Stepped
+    requires core { front.old.core ≡ core.now }
+    requires count { count.old.of ≡ floor.now.counts }
+    requires hints { floor.now.hints.ring ≡ core.now.sizes.ring }
+    requires hinter { IsOf floor.now.hints hinter.old }
+    ensures core { front.new.core ≡ core.now }
+    ensures count { count.new.of ≡ floor.now.counts }
+    ensures hinter { IsOf floor.now.hints hinter.new }
+    ensures rested { result ≡ Rested → front.new.rested ≡ true }
+{
+    if let Recovery::Mended { squashed, .. } = front.recover(core) {
         floor
             .counts
             .add_work(count, Total::Squashes, squashed as u64);
         floor.counts.add_work(count, Total::Mends, 1);
-        return true;
+        return Stepped::Worked;
     }
-    let _ring = floor.core.ring();
-    let Turn::Let { station, .. } = front.turn(&floor.core) else {
-        return false;
-    };
-    floor.counts.add_work(count, Total::Lets, 1);
-    floor.hints.push(wait, hinter, station as u32);
-    true
+    let_next(wait, floor, core, front, count, hinter)
 }
 
-/// What the dispatch thread owns: the front's seat, a predictor, and the seat that it counts with.
+/// How the front of a term begins.
 #[derive(Drop)]
-pub(crate) struct Dispatcher<P: Drop> {
-    pub seat: FrontSeat,
-    pub predictor: P,
-    pub count: WorkerSeat,
+pub(crate) enum Begin<P: Predictor + Drop> {
+    /// With a predictor, at the start of the program.
+    Fresh(P),
+    /// Where it was before the core was renewed.
+    Again(FrontStill<P>),
 }
 
-/// Lets instructions out, and recovers from misses.
+/// What the dispatch thread owns: the front's seat, its beginning, the seat that it counts with, and the turns that
+/// it has left.
+#[derive(Drop)]
+pub(crate) struct Dispatcher<P: Predictor + Drop> {
+    pub seat: FrontSeat,
+    pub begin: Begin<P>,
+    pub count: WorkerSeat,
+    pub left: u32,
+}
+
+/// What the dispatch thread gives back where the core is to be renewed.
+#[derive(Drop)]
+pub(crate) struct Left<P: Predictor + Drop> {
+    pub seat: FrontSeat,
+    pub still: FrontStill<P>,
+    pub turns: u32,
+}
+
+// The front at the core of a term.
+fn enter<'x, P: Predictor + Drop>(
+    core: &Core,
+    program: &'x Program,
+    seat: FrontSeat,
+    begin: Begin<P>,
+) -> Front<'x, P>
+    requires begins { Begins core.now begin seat }
+    requires program { program.now ≡ core.now.program }
+    ensures core { result.core ≡ core.now }
+{
+    match begin {
+        Begin::Fresh(predictor) => Front::new(core, seat, program, predictor),
+        Begin::Again(still) => still.enter(seat, program),
+    }
+}
+
+// The front has left, with so many turns left.
+fn leave<P: Predictor + Drop>(core: &Core, front: Front<P>, turns: u32) -> Left<P>
+    requires core { front.core ≡ core.now }
+    requires rested { front.rested ≡ true }
+    ensures { GivesBack core.now result.seat result.still }
+{
+    let (seat, still) = front.leave();
+    Left { seat, still, turns }
+}
+
+/// Lets instructions out, and recovers from misses. Where the tags of a station are spent and nobody is live, the
+/// term is over, and the front leaves.
 pub(crate) fn dispatch<K: Ring, P: Predictor + Drop, R: Wait>(
     wait: &R,
     floor: &Floor<K>,
+    core: &Core,
     dispatcher: Dispatcher<P>,
-)
-    requires seat { IsUnused floor.now.core dispatcher.seat }
+) -> Option<Left<P>>
+    requires begins { Begins core.now dispatcher.begin dispatcher.seat }
     requires count { dispatcher.count.of ≡ floor.now.counts }
-    requires program { floor.now.program ≡ floor.now.core.program }
-    requires hints { floor.now.hints.ring ≡ floor.now.core.sizes.ring }
+    requires program { floor.now.program ≡ core.now.program }
+    requires hints { floor.now.hints.ring ≡ core.now.sizes.ring }
+    ensures { IfSome result (λ left. GivesBack core.now left.seat left.still) }
 {
     let Dispatcher {
         seat,
-        predictor,
+        begin,
         mut count,
+        left,
     } = dispatcher;
-    let mut front = Front::new(&floor.core, seat, &floor.program, predictor);
+    let mut front = enter(core, &floor.program, seat, begin);
     let mut hinter = floor.hints.hinter();
     let mut rest = Rest::after(PATIENCE);
-    for _ in 0..floor.turns {
-        if step(wait, floor, &mut front, &mut count, &mut hinter) {
-            rest.begin_again();
-        } else {
-            rest.rest();
+    for taken in 0..left {
+        match step(wait, floor, core, &mut front, &mut count, &mut hinter) {
+            Stepped::Worked => rest.begin_again(),
+            Stepped::Idle => rest.rest(),
+            Stepped::Rested => {
+                floor.rest();
+                return Some(leave(core, front, left - 1 - taken));
+            }
         }
         if floor.is_closed() {
             break;
         }
     }
+    None
 }

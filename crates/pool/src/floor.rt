@@ -1,52 +1,102 @@
 //! What the threads of one run share.
 use counts::Counts;
 use hints::{Hints, Ring};
-use instructions::Program;
-use station::Core;
+use instructions::{Memory, Program};
+use std::alloc::Global;
 use std::sync::Wait;
 use std::sync::atomic::Ordering::{Acquire, Release};
-use std::sync::atomic::{AtomicBool, AtomicU64};
+use std::sync::atomic::{AtomicBool, AtomicU32, AtomicU64};
 
-/// The unit and what goes with it. Each thread has the same number of turns.
+/// What outlives a renewal of the core. Each thread begins with the same number of turns.
 #[derive(Drop)]
 pub(crate) struct Floor<K: Ring> {
-    pub core: Core,
     pub program: Program,
     pub counts: Counts,
     pub hints: Hints<K>,
     pub turns: u32,
     closed: AtomicBool,
+    // tags are spent and nobody is live: the core is to be renewed
+    rested: AtomicBool,
     // how often there was something new to see: a snapshot, or the end
     news: AtomicU64,
     // units up to this number are to work, and those beyond it rest
     called: AtomicU64,
+    // the turns that each unit has left
+    left: Vec<AtomicU32>,
+}
+
+// So many units, none of which has taken a turn.
+fn unit_turns(alloc: Global, units: u32, turns: u32) -> Result<Vec<AtomicU32>, Memory> {
+    let mut left = Vec::new(alloc);
+    for _ in 0..units {
+        left.push(AtomicU32::new(turns))?;
+    }
+    Ok(left)
 }
 
 impl<K: Ring> Floor<K> {
-    ghost use Rattle.std.specs.Prelude.{◌≡◌};
+    ghost use Rattle.std.specs.Prelude.{◌≡◌, IfOk};
 
     pub(crate) fn new(
-        core: Core,
+        alloc: Global,
         program: Program,
         counts: Counts,
         hints: Hints<K>,
+        units: u32,
         turns: u32,
-    ) -> Self
-        ensures core { result.core ≡ core }
-        ensures program { result.program ≡ program }
-        ensures counts { result.counts ≡ counts }
-        ensures hints { result.hints ≡ hints }
-        ensures turns { result.turns ≡ turns }
+    ) -> Result<Self, Memory>
+        ensures program { IfOk result (λ floor. floor.program ≡ program) }
+        ensures counts { IfOk result (λ floor. floor.counts ≡ counts) }
+        ensures hints { IfOk result (λ floor. floor.hints ≡ hints) }
     {
-        Floor {
-            core,
+        let left = unit_turns(alloc, units, turns)?;
+        Ok(Floor {
             program,
             counts,
             hints,
             turns,
             closed: AtomicBool::new(false),
+            rested: AtomicBool::new(false),
             news: AtomicU64::new(0),
             called: AtomicU64::new(0),
+            left,
+        })
+    }
+
+    /// Begins another term, in which so many units are to work.
+    pub(crate) fn begin(&self, units: u64) {
+        self.rested.store(false, Release);
+        self.called.store(units, Release);
+    }
+
+    /// Tells the threads of the term that the core is to be renewed.
+    pub(crate) fn rest(&self) {
+        self.rested.store(true, Release);
+        self.call(1);
+    }
+
+    /// The core is to be renewed.
+    pub(crate) fn has_rested(&self) -> bool {
+        self.rested.load(Acquire)
+    }
+
+    /// The threads of the term are to end.
+    pub(crate) fn is_over(&self) -> bool {
+        self.is_closed() || self.has_rested()
+    }
+
+    /// The turns that a unit has left.
+    pub(crate) fn turns_left(&self, unit: u32) -> u32 {
+        match self.left.get((unit as usize).saturating_sub(1)) {
+            Some(left) => left.load(Acquire),
+            None => self.turns,
+        }
+    }
+
+    /// Keeps the turns that a unit has left for its next term.
+    pub(crate) fn keep_turns(&self, unit: u32, turns: u32) {
+        if let Some(left) = self.left.get((unit as usize).saturating_sub(1)) {
+            left.store(turns, Release);
         }
     }
 
@@ -84,15 +134,15 @@ impl<K: Ring> Floor<K> {
         self.called.wake_all();
     }
 
-    /// Rests until the unit is called, which takes no turn. False where all threads are to end.
+    /// Rests until the unit is called, which takes no turn. False where the threads of the term are to end.
     pub(crate) fn is_called<R: Wait>(&self, wait: &R, unit: u32) -> bool {
         for _ in wait.forever() {
             let called = self.called.load(Acquire);
-            if unit as u64 <= called || self.is_closed() {
+            if unit as u64 <= called || self.is_over() {
                 break;
             }
             self.called.park(wait, (called & 0xffff_ffff) as u32);
         }
-        !self.is_closed()
+        !self.is_over()
     }
 }

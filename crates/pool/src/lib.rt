@@ -13,6 +13,7 @@ mod hinting;
 mod rest;
 mod running;
 mod search;
+mod terms;
 mod threads;
 mod turns;
 mod watch;

@@ -1,29 +1,31 @@
 //! Runs a program in threads, and joins them.
 ghost use Rattle.std.specs.Prelude.{◌≡◌, Err, IfOk};
+ghost use Rattle.back.specs.Backs.{HasRetiredNothing, IsNew};
 ghost use Rattle.counts.specs.Shares.{all_parts};
-ghost use Rattle.front.specs.Fronts.{IsUnused};
-ghost use Rattle.pool.specs.Runs.{IsLimit, IsRight, IsWithin, LeavesTurns, TakesTurns};
+ghost use Rattle.pool.specs.Runs.{IsLimit, IsRight, IsWithin, LeavesTurns, TakesTurns, TellsRenewals};
+ghost use Rattle.pool.specs.Terms.{AreReady};
 
 use crate::answer::{Refusal, Run, RunInTurns};
 use crate::bounds::Bounds;
 use crate::commit::Committer;
-use crate::dispatch::Dispatcher;
+use crate::dispatch::Begin;
 use crate::floor::Floor;
 use crate::gate::Gate;
-use crate::threads::start_all;
+use crate::terms::{Term, run_terms};
+use crate::threads::start_snappers;
 use crate::turns::Turns;
 use back::{Back, Naming, Snapper};
-use counts::{CountSeat, Counts, WorkerSeat};
+use counts::{CountSeat, Counts};
 use hints::{Hints, Ring};
 use instructions::{Config, Memory, Predictor, Program};
-use station::{Core, UnitSeat};
+use station::{BackSeat, Core};
 use std::alloc::Global;
 use std::marker::Brand;
 use std::sync::Wait;
 use std::thread;
 use std::thread::Threads;
 
-// Starts the threads, commits, and returns when each thread has ended.
+// Starts the snapshot threads, runs all terms, and returns when each thread has ended.
 fn in_threads<
     'x,
     J: Naming + Send + Sync,
@@ -33,95 +35,53 @@ fn in_threads<
     R: Threads + Wait + Sync,
 >(
     wait: &'x R,
+    alloc: Global,
     floor: &'x Floor<K>,
     gate: &'x G,
     config: Config,
-    dispatcher: Dispatcher<P>,
-    seat: UnitSeat,
+    term: Term<P>,
     first: Snapper<J>,
-    count: WorkerSeat,
     committer: &'x mut Committer<J, K>,
 )
-    requires front { IsUnused floor.now.core dispatcher.seat }
-    requires front_count { dispatcher.count.of ≡ floor.now.counts }
-    requires seat { seat.core ≡ floor.now.core }
-    requires count { count.of ≡ floor.now.counts }
-    requires program { floor.now.program ≡ floor.now.core.program }
-    requires hints { floor.now.hints.ring ≡ floor.now.core.sizes.ring }
-    requires core { committer.old.back.core ≡ floor.now.core }
+    requires ready { AreReady floor.now.program floor.now.hints.ring term.core term.begin term.seat
+        term.unit committer.old.back.core }
+    requires count { term.count.of ≡ floor.now.counts }
     requires counts { floor.now.counts ≡ K.counts }
-    requires fresh_run { committer.old.over ≡ Err Refusal.Thread }
+    requires begun { committer.old.over ≡ Err Refusal.Thread }
 {
     thread::scope(
         thread::scope_env(),
         wait,
         move |scope|
-            requires front { IsUnused floor.now.core dispatcher.seat }
-            requires front_count { dispatcher.count.of ≡ floor.now.counts }
-            requires seat { seat.core ≡ floor.now.core }
-            requires count { count.of ≡ floor.now.counts }
-            requires program { floor.now.program ≡ floor.now.core.program }
-            requires hints { floor.now.hints.ring ≡ floor.now.core.sizes.ring }
-            requires core { committer.now.back.core ≡ floor.now.core }
+            requires ready { AreReady floor.now.program floor.now.hints.ring term.core term.begin
+                term.seat term.unit committer.now.back.core }
+            requires count { term.count.of ≡ floor.now.counts }
             requires counts { floor.now.counts ≡ K.counts }
-            requires fresh_run { committer.now.over ≡ Err Refusal.Thread }
+            requires begun { committer.now.over ≡ Err Refusal.Thread }
         {
-            if start_all(
-                wait, scope, floor, gate, config, dispatcher, seat, first, count,
-            ) {
-                committer.run(wait, floor, gate);
+            if start_snappers(wait, scope, floor, gate, config.places(), first) {
+                run_terms(wait, alloc, floor, gate, config.units(), term, committer);
             }
             floor.close();
         },
     )
 }
 
-// A run that has its parts: how it ended.
-fn run_parts<
-    'x,
-    J: Naming + Send + Sync,
-    K: Bounds + Ring + Send + Sync,
-    P: Predictor + Drop + Send,
-    G: Gate + Sync,
-    R: Threads + Wait + Sync,
->(
-    wait: &'x R,
-    floor: &'x Floor<K>,
-    gate: &'x G,
-    config: Config,
-    dispatcher: Dispatcher<P>,
-    seat: UnitSeat,
-    first: Snapper<J>,
-    count: WorkerSeat,
-    mut committer: Committer<J, K>,
-) -> RunInTurns
-    requires front { IsUnused floor.now.core dispatcher.seat }
-    requires front_count { dispatcher.count.of ≡ floor.now.counts }
-    requires seat { seat.core ≡ floor.now.core }
-    requires count { count.of ≡ floor.now.counts }
-    requires program { floor.now.program ≡ floor.now.core.program }
-    requires hints { floor.now.hints.ring ≡ floor.now.core.sizes.ring }
-    requires core { committer.back.core ≡ floor.now.core }
-    requires counts { floor.now.counts ≡ K.counts }
-    requires fresh_run { committer.over ≡ Err Refusal.Thread }
-    ensures right { IsRight J.program result.run }
-    ensures within { IsWithin K.limit result.run }
-    ensures all { result.turns.all ≡ K.turns }
-    ensures left { LeavesTurns result.turns result.run }
-    ensures limit { IsLimit K.limit result.turns.left result.run }
+// The back at a core, and its first snapper.
+fn back_at<J: Naming>(
+    alloc: Global,
+    core: &Core,
+    seat: BackSeat,
+    program: &Program,
+    config: &Config,
+) -> Result<(Back<J>, Snapper<J>), Memory>
+    requires core { seat.core ≡ core.now }
+    requires program { program.now ≡ core.now.program }
+    requires named { program.now ≡ J.program }
+    requires fresh { HasRetiredNothing seat }
+    ensures { IfOk result (λ made. IsNew seat made.0) }
 {
-    in_threads(
-        wait,
-        floor,
-        gate,
-        config,
-        dispatcher,
-        seat,
-        first,
-        count,
-        &mut committer,
-    );
-    committer.end(wait, floor)
+    Back::new(alloc, core, seat, program, config).map_err(|refused| refused.0)
 }
 
 fn run_named<
@@ -150,27 +110,42 @@ fn run_named<
     ensures right { IfOk result (λ r. IsRight J.program r.run) }
     ensures within { IfOk result (λ r. IsWithin config.now.limit r.run) }
     ensures all { IfOk result (λ r. r.turns.all ≡ config.now.turns) }
-    ensures left { IfOk result (λ r. LeavesTurns r.turns r.run) }
+    ensures left { IfOk result (λ r. LeavesTurns r.turns r.renewals r.run) }
+    ensures renewals { IfOk result (λ r. TellsRenewals r.renewals r.run) }
     ensures limit { IfOk result (λ r. IsLimit config.now.limit r.turns.left r.run) }
 {
     let copy = program.copied(alloc)?;
     let (core, front_seat, back_seat, unit_seat) = Core::make(alloc, program, config)?;
     let hints = Hints::<K>::new(alloc, core.ring())?;
-    let (back, snapper) = Back::<J>::new(alloc, &core, back_seat, program, config).map_err(
-        |refused| refused.0,
-    )?;
+    let (back, snapper) = back_at::<J>(alloc, &core, back_seat, program, config)?;
     let (back_count, workers) = counts.split_worker(count);
-    let (front_count, unit_count) = counts.split_workers(workers);
-    let floor = Floor::new(core, copy, counts, hints, config.turns());
-    let committer = Committer::<J, K>::new(back, back_count, config.limit(), config.turns());
-    let dispatcher = Dispatcher {
-        seat: front_seat,
-        predictor,
-        count: front_count,
+    let floor = match Floor::new(alloc, copy, counts, hints, config.units(), config.turns()) {
+        Ok(floor) => floor,
+        Err(memory) => {
+            back.end(wait);
+            return Err(memory);
+        }
     };
-    Ok(run_parts(
-        wait, &floor, gate, *config, dispatcher, unit_seat, snapper, unit_count, committer,
-    ))
+    let mut committer = Committer::<J, K>::new(back, back_count, config.limit(), config.turns());
+    let term = Term {
+        core,
+        seat: front_seat,
+        begin: Begin::Fresh(predictor),
+        turns: config.turns(),
+        unit: unit_seat,
+        count: workers,
+    };
+    in_threads(
+        wait,
+        alloc,
+        &floor,
+        gate,
+        *config,
+        term,
+        snapper,
+        &mut committer,
+    );
+    Ok(committer.end(wait, &floor))
 }
 
 // What is answered where memory is wanting before a thread has begun.
@@ -178,7 +153,7 @@ fn wants_memory(config: &Config) -> RunInTurns
     ensures run { result.run ≡ Run.Refused Refusal.Memory }
     ensures turns { result.turns.all ≡ config.now.turns }
 {
-    Run::Refused(Refusal::Memory).with(Turns::new(config.turns()))
+    Run::Refused(Refusal::Memory).with(Turns::new(config.turns()), 0)
 }
 
 /// Runs a program on as many unit threads as the configuration says, beside one that dispatches, one
@@ -195,7 +170,8 @@ pub fn run_in_turns<'x, P: Predictor + Drop + Send, G: Gate + Sync, R: Threads +
     ensures right { IsRight program.now result.run }
     ensures within { IsWithin config.now.limit result.run }
     ensures all { result.turns.all ≡ config.now.turns }
-    ensures left { LeavesTurns result.turns result.run }
+    ensures left { LeavesTurns result.turns result.renewals result.run }
+    ensures renewals { TellsRenewals result.renewals result.run }
     ensures limit { IsLimit config.now.limit result.turns.left result.run }
 {
     let Ok((counts, count)) = Counts::make(alloc) else {
@@ -223,6 +199,10 @@ pub fn run<'x, P: Predictor + Drop + Send, G: Gate + Sync, R: Threads + Wait + S
     ensures within { IsWithin config.now.limit result }
     ensures turns { TakesTurns config.now.turns result }
 {
-    let RunInTurns { run, turns: _ } = run_in_turns(wait, alloc, program, config, predictor, gate);
+    let RunInTurns {
+        run,
+        turns: _,
+        renewals: _,
+    } = run_in_turns(wait, alloc, program, config, predictor, gate);
     run
 }

@@ -3,6 +3,7 @@ mod ends;
 mod gates;
 mod hinted;
 mod pairs;
+mod renewals;
 mod rows;
 
 use crate::{Gate, Run, RunInTurns, run, run_in_turns};

@@ -1,26 +1,27 @@
 //! Starts the threads of a run.
-ghost use Rattle.std.specs.Prelude.{◌≡◌, ◌<◌, ◌≤◌};
-ghost use Rattle.front.specs.Fronts.{IsUnused};
+ghost use Rattle.std.specs.Prelude.{◌≡◌, ◌<◌, ◌≤◌, IfSome};
+ghost use Rattle.pool.specs.Terms.{Begins, GivesBack};
 
 use crate::compute::{Worker, work};
-use crate::dispatch::{Dispatcher, dispatch};
+use crate::dispatch::{Dispatcher, Left, dispatch};
 use crate::floor::Floor;
 use crate::gate::Gate;
 use crate::watch::watch;
 use back::{Naming, Snapper};
 use counts::WorkerSeat;
 use hints::Ring;
-use instructions::{Config, Predictor};
-use station::UnitSeat;
+use instructions::Predictor;
+use station::{Core, UnitSeat};
+use std::snapshot::Snapshot;
 use std::sync::Wait;
-use std::thread::{Scope, Threads, available_parallelism};
+use std::thread::{Promise, PromisedHandle, Scope, Threads, available_parallelism};
 
 // The most units that a run has.
 const MOST_UNITS: u64 = 64;
 
-// So many units work at once, beside the threads that dispatch and commit: what the machine runs, but one at
-// least, and all of them where it does not say how many processors it has.
-fn units_at_once<R: Threads>(rt: &R) -> u64
+/// So many units work at once, beside the threads that dispatch and commit: what the machine runs, but one at
+/// least, and all of them where it does not say how many processors it has.
+pub(crate) fn units_at_once<R: Threads>(rt: &R) -> u64
     ensures least { 1 ≤ result }
     ensures most { result ≤ MOST_UNITS }
 {
@@ -32,68 +33,101 @@ fn units_at_once<R: Threads>(rt: &R) -> u64
     }
 }
 
-fn start_dispatch<
+/// What the dispatch thread gives back is of this core.
+#[derive(Drop)]
+pub(crate) struct Leaves(Snapshot<Core>);
+
+impl<P: Predictor + Drop> Promise<Option<Left<P>>> for Leaves {
+    ghost use Rattle.std.specs.Prelude.{IfSome};
+    ghost use Rattle.pool.specs.Terms.{GivesBack};
+
+    ghost kept_by = { λ p r. IfSome r (λ left. GivesBack p.0.value left.seat left.still) };
+}
+
+/// A dispatch thread, which gives back what it holds where the core is to be renewed.
+pub(crate) type Leaving<P> = PromisedHandle<Option<Left<P>>, Leaves>;
+
+/// Starts the thread that dispatches.
+pub(crate) fn start_dispatch<
     's,
     E: 's,
     K: Ring + Send + Sync + 's,
     P: Predictor + Drop + Send + 's,
     R: Wait + Sync + 's,
->(wait: &'s R, scope: &Scope<'s, E>, floor: &'s Floor<K>, dispatcher: Dispatcher<P>) -> bool
-    requires seat { IsUnused floor.now.core dispatcher.seat }
+>(
+    wait: &'s R,
+    scope: &Scope<'s, E>,
+    floor: &'s Floor<K>,
+    core: &'s Core,
+    dispatcher: Dispatcher<P>,
+) -> Option<Leaving<P>>
+    requires begins { Begins core.now dispatcher.begin dispatcher.seat }
     requires count { dispatcher.count.of ≡ floor.now.counts }
-    requires program { floor.now.program ≡ floor.now.core.program }
-    requires hints { floor.now.hints.ring ≡ floor.now.core.sizes.ring }
+    requires program { floor.now.program ≡ core.now.program }
+    requires hints { floor.now.hints.ring ≡ core.now.sizes.ring }
+    ensures { IfSome result (λ thread. thread.promise.0.value ≡ core.now) }
 {
-    let job = move ||
-        requires seat { IsUnused floor.now.core dispatcher.seat }
+    let promise = Leaves(Snapshot::of(core));
+    let job = move || -> Option<Left<P>>
+        requires begins { Begins core.now dispatcher.begin dispatcher.seat }
         requires count { dispatcher.count.of ≡ floor.now.counts }
-        requires program { floor.now.program ≡ floor.now.core.program }
-        requires hints { floor.now.hints.ring ≡ floor.now.core.sizes.ring }
-    { dispatch(wait, floor, dispatcher) };
-    scope.spawn(job).is_ok()
+        requires program { floor.now.program ≡ core.now.program }
+        requires hints { floor.now.hints.ring ≡ core.now.sizes.ring }
+        ensures { IfSome result (λ left. GivesBack core.entry.now left.seat left.still) }
+    { dispatch(wait, floor, core, dispatcher) };
+    scope.spawn_with(promise, job).ok()
 }
 
 fn start_unit<'s, E: 's, K: Ring + Send + Sync + 's, G: Gate + Sync + 's, R: Wait + Sync + 's>(
     wait: &'s R,
     scope: &Scope<'s, E>,
     floor: &'s Floor<K>,
+    core: &'s Core,
     gate: &'s G,
     worker: Worker,
 ) -> bool
-    requires core { worker.seat.core ≡ floor.now.core }
+    requires core { worker.seat.core ≡ core.now }
     requires count { worker.count.of ≡ floor.now.counts }
-    requires program { floor.now.program ≡ floor.now.core.program }
-    requires hints { floor.now.hints.ring ≡ floor.now.core.sizes.ring }
+    requires program { floor.now.program ≡ core.now.program }
+    requires hints { floor.now.hints.ring ≡ core.now.sizes.ring }
 {
     let job = move ||
-        requires core { worker.seat.core ≡ floor.now.core }
+        requires core { worker.seat.core ≡ core.now }
         requires count { worker.count.of ≡ floor.now.counts }
-        requires program { floor.now.program ≡ floor.now.core.program }
-        requires hints { floor.now.hints.ring ≡ floor.now.core.sizes.ring }
-    { work(wait, floor, gate, worker) };
+        requires program { floor.now.program ≡ core.now.program }
+        requires hints { floor.now.hints.ring ≡ core.now.sizes.ring }
+    { work(wait, floor, core, gate, worker) };
     scope.spawn(job).is_ok()
 }
 
-// Starts the units. Each has seen what the first seat has.
-fn start_units<'s, E: 's, K: Ring + Send + Sync + 's, G: Gate + Sync + 's, R: Wait + Sync + 's>(
+/// Starts the units. Each has seen what the first seat has. The seat that is left has claimed nothing.
+pub(crate) fn start_units<
+    's,
+    E: 's,
+    K: Ring + Send + Sync + 's,
+    G: Gate + Sync + 's,
+    R: Wait + Sync + 's,
+>(
     wait: &'s R,
     scope: &Scope<'s, E>,
     floor: &'s Floor<K>,
+    core: &'s Core,
     gate: &'s G,
     units: u32,
     seat: UnitSeat,
     count: WorkerSeat,
-) -> bool
-    requires core { seat.core ≡ floor.now.core }
+) -> Option<UnitSeat>
+    requires core { seat.core ≡ core.now }
     requires count { count.of ≡ floor.now.counts }
-    requires program { floor.now.program ≡ floor.now.core.program }
-    requires hints { floor.now.hints.ring ≡ floor.now.core.sizes.ring }
+    requires program { floor.now.program ≡ core.now.program }
+    requires hints { floor.now.hints.ring ≡ core.now.sizes.ring }
     requires units { units ≤ 64 }
+    ensures { IfSome result (λ rest. rest.core ≡ core.now) }
 {
     let mut rest = seat;
     let mut all = count;
     for unit in 0..units {
-        let (own, others) = floor.core.split(rest);
+        let (own, others) = core.split(rest);
         let (count, counts) = floor.counts.split_workers(all);
         rest = others;
         all = counts;
@@ -102,15 +136,15 @@ fn start_units<'s, E: 's, K: Ring + Send + Sync + 's, G: Gate + Sync + 's, R: Wa
             seat: own,
             count,
         };
-        if !start_unit(wait, scope, floor, gate, worker) {
-            return false;
+        if !start_unit(wait, scope, floor, core, gate, worker) {
+            return None;
         }
     }
-    true
+    Some(rest)
 }
 
-// Starts the snapshot threads. A place that gives no snapper has none.
-fn start_snappers<
+/// Starts the snapshot threads. A place that gives no snapper has none.
+pub(crate) fn start_snappers<
     's,
     E: 's,
     K: Ring + Send + Sync + 's,
@@ -140,37 +174,4 @@ fn start_snappers<
     scope
         .spawn(move || watch(wait, floor, gate, 1, first))
         .is_ok()
-}
-
-/// Starts all threads but the commit thread, which is the caller's own.
-pub(crate) fn start_all<
-    's,
-    E: 's,
-    K: Ring + Send + Sync + 's,
-    J: Naming + Send + Sync + 's,
-    P: Predictor + Drop + Send + 's,
-    G: Gate + Sync + 's,
-    R: Threads + Wait + Sync + 's,
->(
-    wait: &'s R,
-    scope: &Scope<'s, E>,
-    floor: &'s Floor<K>,
-    gate: &'s G,
-    config: Config,
-    dispatcher: Dispatcher<P>,
-    seat: UnitSeat,
-    first: Snapper<J>,
-    count: WorkerSeat,
-) -> bool
-    requires front { IsUnused floor.now.core dispatcher.seat }
-    requires front_count { dispatcher.count.of ≡ floor.now.counts }
-    requires seat { seat.core ≡ floor.now.core }
-    requires count { count.of ≡ floor.now.counts }
-    requires program { floor.now.program ≡ floor.now.core.program }
-    requires hints { floor.now.hints.ring ≡ floor.now.core.sizes.ring }
-{
-    floor.call(units_at_once(wait));
-    start_dispatch(wait, scope, floor, dispatcher)
-        && start_units(wait, scope, floor, gate, config.units(), seat, count)
-        && start_snappers(wait, scope, floor, gate, config.places(), first)
 }

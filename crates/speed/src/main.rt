@@ -1,12 +1,13 @@
 //! Times the parser, the in-order machine and the one-thread unit on the listing of standard input; or, given a
-//! number of units and a limit of instructions, the one-thread unit and the unit shared by threads. Standard
-//! output stays empty; the count and the times in microseconds go to standard error.
+//! number of units and a limit of instructions, and then also the stations and the first tag, the one-thread unit and
+//! the unit shared by threads, whose reports have to be the same. Standard output stays empty; the count and the times
+//! in microseconds go to standard error.
 #![tactic(auto)]
 
 use devices::{Counted, read_up_to};
 use inorder::Machine;
-use instructions::{Bimod, Config, Program};
-use isa::parse;
+use instructions::{Bimod, Config, End, Program};
+use isa::{parse, report_text};
 use pool::{Open, Run, run};
 use std::alloc::Global;
 use std::env;
@@ -28,13 +29,24 @@ enum Failure {
     Words,
     /// Want of memory, or of a thread.
     Resource,
+    /// The threads' report is not that of the one-thread unit.
+    Differs,
+}
+
+/// What the threads are to run.
+#[derive(Clone, Copy)]
+struct Shape {
+    units: u64,
+    limit: u64,
+    ring: u64,
+    first_tag: u64,
 }
 
 fn main(rt: HostRuntime) -> ExitCode {
     let result = match asked(&rt) {
         Ok(None) => time_alone(&rt),
-        Ok(Some((units, limit))) => match read(&rt) {
-            Ok(bytes) => time_pool(&rt, rt.alloc(), bytes.as_slice(), units, limit),
+        Ok(Some(shape)) => match read(&rt) {
+            Ok(bytes) => time_pool(&rt, rt.alloc(), bytes.as_slice(), &shape),
             Err(failure) => Err(failure),
         },
         Err(failure) => Err(failure),
@@ -44,11 +56,12 @@ fn main(rt: HostRuntime) -> ExitCode {
         Err(Failure::Text) => 2,
         Err(Failure::Words) => 3,
         Err(Failure::Resource) => 5,
+        Err(Failure::Differs) => 1,
     })
 }
 
-// The number of units and the limit, if the command line has them.
-fn asked(rt: &HostRuntime) -> Result<Option<(u64, u64)>, Failure> {
+// What the threads are to run, if the command line has it.
+fn asked(rt: &HostRuntime) -> Result<Option<Shape>, Failure> {
     let Ok(words) = env::args(rt) else {
         return Err(Failure::Words);
     };
@@ -56,17 +69,22 @@ fn asked(rt: &HostRuntime) -> Result<Option<(u64, u64)>, Failure> {
         return Err(Failure::Resource);
     };
     let words: &Vec<String> = &words;
-    match (words.get(1), words.get(2)) {
-        (None, _) => Ok(None),
-        (Some(units), Some(limit)) => Ok(Some((number(units)?, number(limit)?))),
-        (Some(_), None) => Err(Failure::Words),
+    if words.len() <= 1 {
+        return Ok(None);
     }
+    Ok(Some(Shape {
+        units: number(words.get(1), None)?,
+        limit: number(words.get(2), None)?,
+        ring: number(words.get(3), Some(16))?,
+        first_tag: number(words.get(4), Some(1))?,
+    }))
 }
 
-fn number(word: &String) -> Result<u64, Failure> {
-    match word.as_str().parse() {
-        Ok(number) => Ok(number),
-        Err(_) => Err(Failure::Words),
+// The number that a word is, or the one that is meant without it.
+fn number(word: Option<&String>, usual: Option<u64>) -> Result<u64, Failure> {
+    match word {
+        Some(word) => word.as_str().parse().map_err(|_| Failure::Words),
+        None => usual.ok_or(Failure::Words),
     }
 }
 
@@ -92,19 +110,32 @@ fn parsed(alloc: Global, bytes: &[u8]) -> Result<Program, Failure> {
     }
 }
 
-fn configured(units: u64, limit: u64) -> Result<Config, Failure> {
-    match Config::new(16, 8, units, 1, 1, limit, LIMIT) {
+fn configured(shape: &Shape) -> Result<Config, Failure> {
+    let queue = (shape.ring / 2).max(2);
+    match Config::new(
+        shape.ring,
+        queue,
+        shape.units,
+        1,
+        shape.first_tag,
+        shape.limit,
+        LIMIT,
+    ) {
         Ok(config) => Ok(config),
         Err(_) => Err(Failure::Words),
     }
 }
 
-// How many instructions the one-thread unit ran.
-fn run_alone(alloc: Global, program: &Program, config: &Config) -> Result<u64, Failure> {
+// The end of the one-thread unit's run.
+fn run_alone(alloc: Global, program: &Program, config: &Config) -> Result<End, Failure> {
     match Bench::new(alloc, program, config, Bimod::new()) {
-        Ok(bench) => Ok(bench.run(config.limit() as u64).n),
+        Ok(bench) => Ok(bench.run(config.limit() as u64)),
         Err(_) => Err(Failure::Resource),
     }
+}
+
+fn report(alloc: Global, end: &End) -> Result<String, Failure> {
+    report_text(alloc, end).map_err(|_| Failure::Resource)
 }
 
 fn time_alone(rt: &HostRuntime) -> Result<(), Failure> {
@@ -117,7 +148,13 @@ fn time_alone(rt: &HostRuntime) -> Result<(), Failure> {
     };
     let _ended = machine.run(LIMIT);
     let ran = now(rt)?;
-    let n = run_alone(rt.alloc(), &program, &configured(1, LIMIT)?)?;
+    let shape = Shape {
+        units: 1,
+        limit: LIMIT,
+        ring: 16,
+        first_tag: 1,
+    };
+    let n = run_alone(rt.alloc(), &program, &configured(&shape)?)?.n;
     let ended = now(rt)?;
     let parse_time = parsed.duration_since(started).as_micros();
     let run_time = ran.duration_since(parsed).as_micros();
@@ -130,13 +167,12 @@ fn time_pool<R: Clock + Eprint + Threads + Wait + Sync>(
     rt: &R,
     alloc: Global,
     bytes: &[u8],
-    units: u64,
-    limit: u64,
+    shape: &Shape,
 ) -> Result<(), Failure> {
     let program = parsed(alloc, bytes)?;
-    let config = configured(units, limit)?;
+    let config = configured(shape)?;
     let started = now(rt)?;
-    let n = run_alone(alloc, &program, &config)?;
+    let expected = run_alone(alloc, &program, &config)?;
     let ran = now(rt)?;
     let (end, tally) = match run(rt, alloc, &program, &config, Bimod::new(), &Open) {
         Run::Ended(end, tally) | Run::LimitReached(end, tally) => (end, tally),
@@ -145,6 +181,10 @@ fn time_pool<R: Clock + Eprint + Threads + Wait + Sync>(
     let ended = now(rt)?;
     let unit_time = ran.duration_since(started).as_micros();
     let pool_time = ended.duration_since(ran).as_micros();
+    let n = expected.n;
     let _ = eprintln!(rt; "{n} {} {unit_time} {pool_time} {tally:?}", end.n);
+    if report(alloc, &end)?.as_str() != report(alloc, &expected)?.as_str() {
+        return Err(Failure::Differs);
+    }
     Ok(())
 }

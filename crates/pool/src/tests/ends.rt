@@ -68,13 +68,11 @@ fn the_commit_thread_tells_the_turns_that_it_has_left(rt: HostRuntime) -> Result
             turns,
             ..plain(2)
         };
-        let RunInTurns { run, turns: rest } = run_listing_in_turns(
-            &rt,
-            rt.alloc(),
-            LOOP,
-            &shape,
-            &Open,
-        )?;
+        let RunInTurns {
+            run,
+            turns: rest,
+            ..
+        } = run_listing_in_turns(&rt, rt.alloc(), LOOP, &shape, &Open)?;
         let left = rest.left() as u64;
         match run {
             Run::LimitReached(end, _) => {
@@ -114,23 +112,5 @@ fn many_units_run_a_loop(rt: HostRuntime) -> Result<(), Fail> {
     let run = run_listing(&rt, rt.alloc(), LOOP, &plain(64), &Open)?;
     let text = report(rt.alloc(), &run)?;
     assert!(rt; text.as_bytes() == b"stop break\ncount 601\npc 0x0040000c\n".as_slice());
-    Ok(())
-}
-
-// A ring of two stations has two tags left, and the loop goes on behind them.
-#[test]
-fn spent_tags_end_a_run(rt: HostRuntime) -> Result<(), Fail> {
-    let shape = Shape {
-        ring: 2,
-        first_tag: 268_435_454,
-        turns: 100_000,
-        ..plain(1)
-    };
-    let run = run_listing(&rt, rt.alloc(), LOOP, &shape, &Open)?;
-    let Run::LimitReached(end, tally) = run else {
-        return Err(Fail::from("limit"));
-    };
-    assert!(rt; tally.lets <= 2);
-    assert!(rt; end.n <= 2);
     Ok(())
 }

@@ -119,6 +119,7 @@ fn each_step_is_counted_once(rt: HostRuntime) -> Result<(), Fail> {
             squashes: 0,
             mends: 0,
             hints: tally.hints,
+            renewals: 0,
         };
         assert_eq!(rt; tally, expected);
         assert!(rt; tally.hints <= 3);

@@ -1,0 +1,218 @@
+//! The turns of the commit thread.
+ghost use Rattle.std.specs.Prelude.{◌≡◌, ◌≢◌, ◌+◌, ◌<◌, ◌≤◌, Err, IfOk, true};
+ghost use Rattle.back.specs.Backs.{IsSame, state_of};
+ghost use Rattle.hints.specs.Hinted.{IsOf};
+ghost use Rattle.pool.specs.Committing.{Because, IsReason, IsAtRest};
+ghost use Rattle.pool.specs.declared.commit.turning.Turned.TheVariants.{Over};
+ghost use Rattle.pool.specs.declared.commit.Why.{Why};
+
+use super::{Committer, Why};
+use crate::answer::Refusal;
+use crate::bounds::Bounds;
+use crate::floor::Floor;
+use crate::gate::Gate;
+use crate::hinting::hint_each;
+use crate::rest::Rest;
+use back::{Commit, Mark, Naming, Refresh};
+use counts::{Tally, Total};
+use hints::{Hinter, Ring};
+use instructions::Memory;
+use station::Core;
+use std::sync::Wait;
+
+// It shows each so many instructions.
+const SHOWN_EACH: u64 = 64;
+
+// After so many fruitless turns it lets another thread run.
+const PATIENCE: u32 = 4;
+
+// The gate is told no retirements but those that are shown.
+fn tell<G: Gate>(gate: &G, shown: &Mark, tally: &Tally)
+    requires { tally.now.retires ≡ shown.now.n }
+{
+    gate.counted(tally);
+}
+
+// What a turn came to.
+#[derive(Clone, Copy)]
+enum Turned {
+    Worked,
+    Idle,
+    Over(Why),
+}
+
+impl<J: Naming, K: Bounds + Ring> Committer<J, K> {
+    // Shows the state, and tells the gate what was counted until then.
+    fn show<G: Gate, R: Wait>(&mut self, wait: &R, floor: &Floor<K>, gate: &G) -> Result<(), Memory>
+        requires counts { floor.now.counts ≡ K.counts }
+        ensures back { IsSame self.old.back (record self.new.back { shown = self.old.back.shown }) }
+        ensures turns { self.new.turns ≡ self.old.turns }
+        ensures renewals { self.new.renewals ≡ self.old.renewals }
+        ensures over { self.new.over ≡ self.old.over }
+    {
+        let mark = self.back.show(wait)?;
+        let tally = floor.counts.read(&mut self.count);
+        tell(gate, &mark, &tally);
+        Ok(())
+    }
+
+    // One refresh. Hints whom a load woke. False where nothing was loaded.
+    fn refresh<R: Wait>(
+        &mut self,
+        wait: &R,
+        floor: &Floor<K>,
+        core: &Core,
+        hinter: &mut Hinter,
+    ) -> bool
+        requires core { self.old.back.core ≡ core.now }
+        requires counts { floor.now.counts ≡ K.counts }
+        requires hints { floor.now.hints.ring ≡ core.now.sizes.ring }
+        requires hinter { IsOf floor.now.hints hinter.old }
+        ensures core { self.new.back.core ≡ core.now }
+        ensures ended { self.new.back.ended ≡ self.old.back.ended }
+        ensures turns { self.new.turns ≡ self.old.turns }
+        ensures renewals { self.new.renewals ≡ self.old.renewals }
+        ensures over { self.new.over ≡ self.old.over }
+        ensures hinter { IsOf floor.now.hints hinter.new }
+    {
+        let Refresh::Loaded { .. } = self.back.refresh(core) else {
+            return false;
+        };
+        floor.counts.add(&mut self.count, Total::Loads, 1);
+        let woken = self.back.woken();
+        hint_each(wait, &floor.hints, hinter, core.ring(), woken);
+        true
+    }
+
+    // One commit and one refresh. A refused snapshot is want of memory.
+    fn turn<G: Gate, R: Wait>(
+        &mut self,
+        wait: &R,
+        floor: &Floor<K>,
+        core: &Core,
+        gate: &G,
+        hinter: &mut Hinter,
+    ) -> Result<Turned, Memory>
+        requires core { self.old.back.core ≡ core.now }
+        requires counts { floor.now.counts ≡ K.counts }
+        requires hints { floor.now.hints.ring ≡ core.now.sizes.ring }
+        requires hinter { IsOf floor.now.hints hinter.old }
+        requires begun { self.old.over ≡ Err Refusal.Memory }
+        requires taken { (state_of self.old.back).count + self.old.turns.left < self.old.turns.all }
+        ensures core { self.new.back.core ≡ core.now }
+        ensures begun { self.new.over ≡ Err Refusal.Memory }
+        ensures turns { self.new.turns ≡ self.old.turns }
+        ensures renewals { self.new.renewals ≡ self.old.renewals }
+        ensures hinter { IsOf floor.now.hints hinter.new }
+        ensures over { IfOk result (λ turned. (why : Why) → turned ≡ Over why →
+            Because K.limit self.new.back self.new.turns.left why) }
+    {
+        if self.limit as u64 <= self.back.n() {
+            return Ok(Turned::Over(Why::AtLimit));
+        }
+        let mut turned = Turned::Idle;
+        match self.back.commit(core) {
+            Commit::Ended(_) => return Ok(Turned::Over(Why::AtEnd)),
+            Commit::Retired { n, .. } => {
+                floor.counts.add(&mut self.count, Total::Retires, 1);
+                if n % SHOWN_EACH == 0 {
+                    self.show(wait, floor, gate)?;
+                    floor.tell();
+                }
+                turned = Turned::Worked;
+            }
+            // its instruction counts with its second half
+            Commit::Half { .. } => turned = Turned::Worked,
+            Commit::NotDone | Commit::Empty => {}
+        }
+        if self.refresh(wait, floor, core, hinter) {
+            turned = Turned::Worked;
+        }
+        Ok(turned)
+    }
+
+    // Commits until the program has ended, the limit is reached or no turn is left, and then says which. It says
+    // nothing where the core is to be renewed.
+    fn turns<G: Gate, R: Wait>(
+        &mut self,
+        wait: &R,
+        floor: &Floor<K>,
+        core: &Core,
+        gate: &G,
+    ) -> Result<Option<Why>, Memory>
+        requires core { self.old.back.core ≡ core.now }
+        requires counts { floor.now.counts ≡ K.counts }
+        requires hints { floor.now.hints.ring ≡ core.now.sizes.ring }
+        requires begun { self.old.over ≡ Err Refusal.Memory }
+        ensures core { self.new.back.core ≡ core.now }
+        ensures begun { self.new.over ≡ Err Refusal.Memory }
+        ensures over { IfOk result (IsReason K.limit self.new) }
+    {
+        let mut hinter = floor.hints.hinter();
+        let mut rest = Rest::after(PATIENCE);
+        while self.turns.take() {
+            match self.turn(wait, floor, core, gate, &mut hinter)? {
+                Turned::Worked => rest.begin_again(),
+                Turned::Idle if floor.has_rested() => return Ok(None),
+                Turned::Idle => rest.rest(),
+                Turned::Over(why) => return Ok(Some(why)),
+            }
+        }
+        Ok(Some(Why::Spent))
+    }
+
+    // The same, and shows the last state where the run is over.
+    fn shown<G: Gate, R: Wait>(
+        &mut self,
+        wait: &R,
+        floor: &Floor<K>,
+        core: &Core,
+        gate: &G,
+    ) -> Result<Option<Why>, Memory>
+        requires core { self.old.back.core ≡ core.now }
+        requires counts { floor.now.counts ≡ K.counts }
+        requires hints { floor.now.hints.ring ≡ core.now.sizes.ring }
+        requires begun { self.old.over ≡ Err Refusal.Memory }
+        ensures core { self.new.back.core ≡ core.now }
+        ensures begun { self.new.over ≡ Err Refusal.Memory }
+        ensures over { IfOk result (IsReason K.limit self.new) }
+    {
+        let why = self.turns(wait, floor, core, gate)?;
+        if why.is_some() {
+            self.show(wait, floor, gate)?;
+        }
+        Ok(why)
+    }
+
+    /// Commits until there is no more to commit. Where the run is over it shows the last state, and keeps why it is
+    /// over. True where it is not, and the core is to be renewed.
+    pub(crate) fn run<G: Gate, R: Wait>(
+        &mut self,
+        wait: &R,
+        floor: &Floor<K>,
+        core: &Core,
+        gate: &G,
+    ) -> bool
+        requires core { self.old.back.core ≡ core.now }
+        requires counts { floor.now.counts ≡ K.counts }
+        requires hints { floor.now.hints.ring ≡ core.now.sizes.ring }
+        requires fresh { self.old.over ≡ Err Refusal.Thread }
+        ensures core { self.new.back.core ≡ core.now }
+        ensures has_run { self.new.over ≢ Err Refusal.Thread }
+        ensures rested { result ≡ true → IsAtRest self.new }
+    {
+        self.over = Err(Refusal::Memory);
+        let Ok(reason) = self.shown(wait, floor, core, gate) else {
+            return false;
+        };
+        if let Some(why) = reason {
+            self.over = Ok(why);
+            return false;
+        }
+        if self.back.ended().is_some() {
+            self.over = Ok(Why::AtEnd);
+            return false;
+        }
+        true
+    }
+}
