@@ -1,3 +1,7 @@
 pub mod Lists
 pub mod BooksKept
 pub mod Turns
+pub mod LivePositions
+pub mod TurnPositions
+pub mod RowsNamed
+pub mod Happening

@@ -4,3 +4,5 @@ pub mod Drawings
 pub mod Kanata
 pub mod Telling
 pub mod Watched
+pub mod Named
+pub mod Happened

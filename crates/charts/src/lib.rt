@@ -5,6 +5,7 @@ mod books;
 mod drawing;
 mod event;
 mod kanata;
+mod laws;
 mod leaving;
 mod row;
 mod telling;
@@ -13,6 +14,7 @@ mod watched;
 mod watching;
 
 pub use event::{Event, Way};
+pub use laws::{a_row_names_its_tenant, what_is_told_has_happened};
 pub use row::{Phase, Row};
 pub use telling::Format;
 pub use watched::{Fault, watch};
