@@ -44,6 +44,8 @@ pub fn go_by_hand<T: Wait, R: Read + Drop, I: BufRead, W: Write>(
         (known_by W.contents writer.old) (known_by W.contents writer.new)) }
     ensures quiet { result.line ≡ Nothing → failures_of writer.new ≡ failures_of writer.old }
     ensures line { IsOfOneThread result.line }
+    // There is no log to blame.
+    ensures unlogged { result.line ≢ Refused Refusal.Trace }
     // A refusal has a status of its own.
     ensures refused { (refusal : Refusal) → result.line ≡ Refused refusal →
         result ≡ refused refusal }
@@ -88,6 +90,7 @@ fn driven<T: Wait, R: Read, I: BufRead, W: Write>(
     ensures quiet { OnOk result (failures_of writer.new ≡ failures_of writer.old) }
     ensures err { IfErr result (λ refusal. IsOfOneThread (Refused refusal)) }
     ensures opened { IfErr result (λ refusal. refusal ≢ Refusal.Open) }
+    ensures unlogged { IfErr result (λ refusal. refusal ≢ Refusal.Trace) }
     ensures write { IfErr result (λ refusal. refusal ≡ Refusal.Write →
         failures_of writer.new ≡ failures_of writer.old + 1) }
     ensures broken { IfErr result (λ refusal. refusal ≡ Refusal.Write →
@@ -119,6 +122,7 @@ fn answered<T: Wait, I: BufRead, W: Write>(
     ensures quiet { OnOk result (failures_of writer.new ≡ failures_of writer.old) }
     ensures err { IfErr result (λ refusal. IsOfOneThread (Refused refusal)) }
     ensures opened { IfErr result (λ refusal. refusal ≢ Refusal.Open) }
+    ensures unlogged { IfErr result (λ refusal. refusal ≢ Refusal.Trace) }
     ensures write { IfErr result (λ refusal. refusal ≡ Refusal.Write →
         failures_of writer.new ≡ failures_of writer.old + 1) }
     ensures broken { IfErr result (λ refusal. refusal ≡ Refusal.Write →
@@ -161,6 +165,7 @@ fn drive_by<J: Naming, T: Wait, I: BufRead, W: Write>(
     ensures quiet { OnOk result (failures_of writer.new ≡ failures_of writer.old) }
     ensures err { IfErr result (λ refusal. IsOfOneThread (Refused refusal)) }
     ensures opened { IfErr result (λ refusal. refusal ≢ Refusal.Open) }
+    ensures unlogged { IfErr result (λ refusal. refusal ≢ Refusal.Trace) }
     ensures write { IfErr result (λ refusal. refusal ≡ Refusal.Write →
         failures_of writer.new ≡ failures_of writer.old + 1) }
     ensures broken { IfErr result (λ refusal. refusal ≡ Refusal.Write →

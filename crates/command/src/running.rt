@@ -40,6 +40,8 @@ pub fn go<T: Threads + Wait + Sync, R: Read + Drop, W: Write, G: Gate + Sync>(
         (Gives W.contents writer.old writer.new)) }
     ensures quiet { IsWritten result.line → failures_of writer.new ≡ failures_of writer.old }
     ensures alone { asked.now.alone ≡ true → IsOfOneThread result.line }
+    // There is no log to blame.
+    ensures unlogged { result.line ≢ Refused Refusal.Trace }
     // A run that is refused has a status of its own.
     ensures refused { (refusal : Refusal) → result.line ≡ Refused refusal →
         result ≡ refused refusal }
@@ -79,6 +81,7 @@ fn ended<T: Threads + Wait + Sync, R: Read, W: Write, G: Gate + Sync>(
     ensures alone { asked.now.alone ≡ true → IsOfOneThread (went_of result).line }
     ensures quiet { OnOk result (failures_of writer.new ≡ failures_of writer.old) }
     ensures opened { IfErr result (λ refusal. refusal ≢ Refusal.Open) }
+    ensures unlogged { IfErr result (λ refusal. refusal ≢ Refusal.Trace) }
     ensures read { IfErr result (λ refusal. refusal ≡ Refusal.Read →
         failures_of reader.new ≡ failures_of reader.old + 1) }
     ensures write { IfErr result (λ refusal. refusal ≡ Refusal.Write →

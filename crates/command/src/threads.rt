@@ -39,6 +39,7 @@ pub(crate) fn run<T: Threads + Wait + Sync, R: Read, W: Write, G: Gate + Sync>(
     ensures line { IfOk result (λ went. IsWritten went.line) }
     ensures quiet { OnOk result (failures_of writer.new ≡ failures_of writer.old) }
     ensures opened { IfErr result (λ refusal. refusal ≢ Refusal.Open) }
+    ensures unlogged { IfErr result (λ refusal. refusal ≢ Refusal.Trace) }
     ensures read { IfErr result (λ refusal. refusal ≡ Refusal.Read →
         failures_of reader.new ≡ failures_of reader.old + 1) }
     ensures write { IfErr result (λ refusal. refusal ≡ Refusal.Write →
@@ -67,6 +68,7 @@ fn answer<T: Threads + Wait + Sync, G: Gate + Sync>(
         IsAnswer asked.now (listing bytes.now) (string_bytes answer.1) answer.0) }
     ensures line { IfOk result (λ answer. IsWritten answer.0.line) }
     ensures opened { IfErr result (λ refusal. refusal ≢ Refusal.Open) }
+    ensures unlogged { IfErr result (λ refusal. refusal ≢ Refusal.Trace) }
     ensures unwritten { IfErr result (λ refusal. refusal ≢ Refusal.Write) }
     ensures has_read { IfErr result (λ refusal. refusal ≢ Refusal.Read) }
 {

@@ -10,8 +10,12 @@ use crate::{BranchPredictor, NoRun};
 use clap::ArgMatches;
 use std::alloc::Global;
 
-/// The file of the listing.
-pub(crate) fn file<'a>(alloc: Global, matches: &ArgMatches<'a>) -> Result<&'a str, NoRun>
+/// The file of the listing. A mistake names the command's help, here and below.
+pub(crate) fn file<'a>(
+    alloc: Global,
+    command: &str,
+    matches: &ArgMatches<'a>,
+) -> Result<&'a str, NoRun>
     ensures ok { IfOk result (λ file. value_in matches.now (codes "FILE") ≡ Some file.now) }
     ensures usage { IfErr result IsUsage }
     ensures err { IfErr result (λ _. value_in matches.now (codes "FILE") ≡ None) }
@@ -19,13 +23,14 @@ pub(crate) fn file<'a>(alloc: Global, matches: &ArgMatches<'a>) -> Result<&'a st
     let text = matches.get_str("FILE");
     match text {
         Some(file) => Ok(file),
-        None => Err(usage(alloc, "there is no FILE")),
+        None => Err(usage(alloc, command, "there is no FILE")),
     }
 }
 
 /// The number of an option, if it is in its range.
 pub(crate) fn number<'a>(
     alloc: Global,
+    command: &str,
     matches: &ArgMatches<'a>,
     name: &str,
     least: u64,
@@ -41,13 +46,14 @@ pub(crate) fn number<'a>(
     let text = matches.get_str(name);
     match number_in(text, least, most, default) {
         Some(number) => Ok(number),
-        None => Err(bad_number(alloc, name, least, most)),
+        None => Err(bad_number(alloc, command, name, least, most)),
     }
 }
 
 /// The predictor of `--bpred`.
 pub(crate) fn predictor<'a>(
     alloc: Global,
+    command: &str,
     matches: &ArgMatches<'a>,
 ) -> Result<BranchPredictor, NoRun>
     ensures ok { IfOk result (IsPredictor (value_in matches.now (codes "bpred"))) }
@@ -57,6 +63,6 @@ pub(crate) fn predictor<'a>(
     let text = matches.get_str("bpred");
     match predictor_in(text) {
         Some(predictor) => Ok(predictor),
-        None => Err(usage(alloc, "--bpred takes nottaken, taken or bimod")),
+        None => Err(usage(alloc, command, "--bpred takes nottaken, taken or bimod")),
     }
 }

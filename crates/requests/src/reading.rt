@@ -7,7 +7,7 @@ ghost use Rattle.requests.specs.Request.{IsRequestIn, IsNoRequestIn};
 use crate::entries::{file, number, predictor};
 use crate::options::command;
 use crate::reading_by_hand::by_hand;
-use crate::refusals::{refused, usage};
+use crate::refusals::{no_command, refused, usage};
 use crate::values::is_true;
 use crate::watches::watch;
 use crate::{Asked, NoRun, Request};
@@ -31,7 +31,7 @@ pub fn requested<'a, S: AsStr>(alloc: Global, words: &'a [S]) -> Result<Request<
             },
             None => match matches.subcommand_matches("check") {
                 Some(entered) => {
-                    let listing = file(alloc, entered)?;
+                    let listing = file(alloc, "check", entered)?;
                     Ok(Request::Check(listing))
                 },
                 None => match matches.subcommand_matches("drive") {
@@ -39,7 +39,7 @@ pub fn requested<'a, S: AsStr>(alloc: Global, words: &'a [S]) -> Result<Request<
                         let hand = by_hand(alloc, driven)?;
                         Ok(Request::Drive(hand))
                     },
-                    None => Err(usage(alloc, "there is no command")),
+                    None => Err(no_command(alloc)),
                 },
             },
         },
@@ -54,8 +54,8 @@ pub fn asked<'a, S: AsStr>(alloc: Global, words: &'a [S]) -> Result<Asked<'a>, N
 {
     match requested(alloc, words) {
         Ok(Request::Run(asked)) => Ok(asked),
-        Ok(Request::Check(_)) => Err(usage(alloc, "check runs nothing")),
-        Ok(Request::Drive(_)) => Err(usage(alloc, "drive runs nothing by itself")),
+        Ok(Request::Check(_)) => Err(usage(alloc, "run", "check runs nothing")),
+        Ok(Request::Drive(_)) => Err(usage(alloc, "run", "drive runs nothing by itself")),
         Err(no_run) => Err(no_run),
     }
 }
@@ -66,16 +66,16 @@ fn read<'a>(alloc: Global, matches: &ArgMatches<'a>) -> Result<Asked<'a>, NoRun>
     ensures ok { IfOk result (IsAskedBy (rows_of (found_of matches.now))) }
     ensures err { IfErr result (IsRefusedBy (rows_of (found_of matches.now))) }
 {
-    let file = file(alloc, matches)?;
-    let queue = number(alloc, matches, "lsq-size", 2, 32, 8)?;
-    let units = number(alloc, matches, "units", 1, 64, 2)?;
-    let predictor = predictor(alloc, matches)?;
-    let turns = number(alloc, matches, "turns", 1, 0xffff_ffff, 0xffff_ffff)?;
-    let limit = number(alloc, matches, "limit", 0, 0xffff_ffff, 1_000_000)?;
+    let file = file(alloc, "run", matches)?;
+    let queue = number(alloc, "run", matches, "lsq-size", 2, 32, 8)?;
+    let units = number(alloc, "run", matches, "units", 1, 64, 2)?;
+    let predictor = predictor(alloc, "run", matches)?;
+    let turns = number(alloc, "run", matches, "turns", 1, 0xffff_ffff, 0xffff_ffff)?;
+    let limit = number(alloc, "run", matches, "limit", 0, 0xffff_ffff, 1_000_000)?;
     let alone = is_true(matches.get_str("alone"));
     let progress = is_true(matches.get_str("progress"));
     let watch = watch(alloc, matches, file, alone)?;
-    let ring = number(alloc, matches, "ruu-size", 0, u64::MAX, 16)?;
+    let ring = number(alloc, "run", matches, "ruu-size", 0, u64::MAX, 16)?;
     let Ok(config) = Config::new(ring, queue.min(ring), units, 1, 1, limit, turns) else {
         return Err(NoRun::Ring);
     };

@@ -18,21 +18,22 @@ pub(crate) fn by_hand<'a>(alloc: Global, matches: &ArgMatches<'a>) -> Result<ByH
     ensures usage { IfErr result IsUsage }
     ensures err { IfErr result (λ _. IsNotByHand (rows_of (found_of matches.now))) }
 {
-    let file = file(alloc, matches)?;
+    let file = file(alloc, "drive", matches)?;
     if is_standard_input(file) {
         return Err(usage(
             alloc,
+            "drive",
             "the commands come from standard input, and FILE cannot be -",
         ));
     }
-    let queue = number(alloc, matches, "lsq-size", 2, 32, 8)?;
-    let predictor = predictor(alloc, matches)?;
-    let first_tag = number(alloc, matches, "first-tag", 1, 268_435_454, 1)?;
+    let queue = number(alloc, "drive", matches, "lsq-size", 2, 32, 8)?;
+    let predictor = predictor(alloc, "drive", matches)?;
+    let first_tag = number(alloc, "drive", matches, "first-tag", 1, 268_435_454, 1)?;
     let quiet_prompt = is_true(matches.get_str("quiet-prompt"));
-    let ring = number(alloc, matches, "ruu-size", 2, 32, 16)?;
+    let ring = number(alloc, "drive", matches, "ruu-size", 2, 32, 16)?;
     let queue = queue.min(ring);
     let Ok(config) = Config::new(ring, queue, 64, 1, first_tag, 1_000_000, 0xffff_ffff) else {
-        return Err(usage(alloc, "--ruu-size takes 2, 4, 8, 16 or 32"));
+        return Err(usage(alloc, "drive", "--ruu-size takes 2, 4, 8, 16 or 32"));
     };
     Ok(ByHand {
         file,

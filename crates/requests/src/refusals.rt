@@ -21,22 +21,37 @@ pub(crate) fn refused(alloc: Global, error: &Error) -> NoRun
     }
 }
 
-/// `what` is wrong, in the form of `clap`'s own texts.
-pub(crate) fn usage(alloc: Global, what: &str) -> NoRun
+/// `what` is wrong with the words of a command, in the form of `clap`'s own texts.
+pub(crate) fn usage(alloc: Global, command: &str, what: &str) -> NoRun
     ensures { IsUsage result }
 {
-    match format!(in alloc; "error: {what}\n\nFor more information, try 'ruu run --help'.\n") {
+    let text = format!(in alloc;
+        "error: {what}\n\nFor more information, try 'ruu {command} --help'.\n"
+    );
+    match text {
+        Ok(text) => NoRun::Usage(text),
+        Err(_) => NoRun::Memory,
+    }
+}
+
+/// The words name none of the commands.
+pub(crate) fn no_command(alloc: Global) -> NoRun
+    ensures { IsUsage result }
+{
+    match format!(in alloc;
+        "error: there is no command\n\nFor more information, try 'ruu --help'.\n"
+    ) {
         Ok(text) => NoRun::Usage(text),
         Err(_) => NoRun::Memory,
     }
 }
 
 /// The value of an option is no number of its range.
-pub(crate) fn bad_number(alloc: Global, name: &str, least: u64, most: u64) -> NoRun
+pub(crate) fn bad_number(alloc: Global, command: &str, name: &str, least: u64, most: u64) -> NoRun
     ensures { IsUsage result }
 {
     match format!(in alloc; "--{name} takes a number from {least} to {most}") {
-        Ok(text) => usage(alloc, text.as_str()),
+        Ok(text) => usage(alloc, command, text.as_str()),
         Err(_) => NoRun::Memory,
     }
 }

@@ -44,10 +44,10 @@ pub(crate) fn watch<'a>(
     let chart = is_true(matches.get_str("chart"));
     let log = matches.get_str("trace");
     if !is_allowed(chart, log, alone) {
-        return Err(usage(alloc, "--chart and --trace need --alone"));
+        return Err(usage(alloc, "run", "--chart and --trace need --alone"));
     }
     if !is_other(file, log) {
-        return Err(usage(alloc, "--trace names the file of the listing"));
+        return Err(usage(alloc, "run", "--trace names the file of the listing"));
     }
     Ok(Watch { chart, log })
 }

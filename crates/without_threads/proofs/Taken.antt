@@ -1,5 +1,5 @@
 -- What is told of the bytes that were taken is told of all.
-use Rattle.std.proofs.Common.{◌≡◌, ◌∙◌, ℕ, List, take, ap, subst, Option, Some, None, Result, Ok, Err, IfSome, IfOk, IfErr, OnErr}
+use Rattle.std.proofs.Common.{◌≡◌, ◌∙◌, ℕ, List, take, ap, subst, Option, Some, None, Result, Ok, Err, IfSome, IfOk, IfErr}
 use Rattle.isa.specs.declared.listing.fault.FaultKind.{FaultKind}
 use Rattle.isa.specs.Listing.{listing}
 use Rattle.instructions.specs.Programs.{Program}
@@ -23,8 +23,8 @@ pub err_taken : {T E : Type 0} (r : Result T E) (When : E → Type 0) (F : Resul
 err_taken (Ok x) When F known bytes slice read same is = tt
 err_taken (Err e) When F known bytes slice read same is = λ when. found_taken F known bytes slice read same (is when)
 
-pub cut_taken : {T E : Type 0} (r : Result T E) (F : Result Program (ℕ × FaultKind) → Type 0) (known : Option (List ℕ)) (bytes slice : List ℕ)
-    → IfSome known (λ input. bytes ≡ take most_taken input) → slice ≡ bytes → OnErr r (F (listing slice))
-    → OnErr r (IfSome known (λ input. F (listing input)))
+pub cut_taken : {T E : Type 0} (r : Result T E) (F : E → Result Program (ℕ × FaultKind) → Type 0) (known : Option (List ℕ)) (bytes slice : List ℕ)
+    → IfSome known (λ input. bytes ≡ take most_taken input) → slice ≡ bytes → IfErr r (λ e. F e (listing slice))
+    → IfErr r (λ e. IfSome known (λ input. F e (listing input)))
 cut_taken (Ok x) F known bytes slice read same is = tt
-cut_taken (Err e) F known bytes slice read same is = found_taken F known bytes slice read same is
+cut_taken (Err e) F known bytes slice read same is = found_taken (F e) known bytes slice read same is

@@ -1,5 +1,5 @@
 -- What is written where the turns of a run are told.
-use Rattle.std.specs.Prelude.{◌≡◌, ℕ, Bool, true, false, is_some, List, Option, Result, Ok, Err, take}
+use Rattle.std.specs.Prelude.{◌≡◌, ◌<◌, ℕ, Bool, true, false, is_some, List, Option, Result, Ok, Err, length, take}
 use Rattle.std.specs.Io.KnownBytes.{Appends}
 use Rattle.isa.specs.declared.listing.fault.FaultKind.{FaultKind}
 use Rattle.instructions.specs.Programs.{Program}
@@ -15,7 +15,7 @@ use Rattle.requests.specs.declared.chosen.Chosen.{Chosen}
 use Rattle.requests.specs.declared.request.Asked.{Asked}
 use Rattle.without_threads.specs.declared.went.Refusal.{Refusal}
 use Rattle.without_threads.specs.declared.went.Refusal.TheVariants.{Memory, Trace, Write}
-use Rattle.without_threads.specs.Went.{status_number}
+use Rattle.without_threads.specs.Went.{chart_refusal, status_number}
 
 -- what is known of the bytes of the writer and of the log
 pub record Outputs : Type 0 where
@@ -63,6 +63,11 @@ abbrev pub IsWatched : Asked → Result Program (ℕ × FaultKind) → (status :
 IsWatched asked found status before after =
     (status ≡ status_number (status_for asked.config.limit found)) × IsTextOf asked found before after
 
+-- what is refused where a log was not told to its end
+abbrev pub log_refusal : Fault → Refusal
+log_refusal fault.Memory = Memory
+log_refusal fault.Write = Trace
+
 -- the report, and a beginning of the chart
 pub record HasChartBegun (asked : Asked) (P : Program) (before after : Outputs) : Type 0 where
   pub reported : Option (List ℕ)
@@ -77,22 +82,32 @@ pub record HasLogBegun (asked : Asked) (P : Program) (before after : Outputs) : 
   pub chart : IsPicture asked.watch.chart Chart asked P reported after.text
   pub log : HasBegun Kanata asked P before.log after.log
 
--- a beginning of the text without pictures
-pub record HasReportBegun (asked : Asked) (found : Result Program (ℕ × FaultKind)) (before after : Outputs) : Type 0 where
-  pub n : ℕ
-  pub report : Appends before.text after.text (take n (text_for asked.config.limit found))
+-- what was written of a text: a proper beginning where the writer failed, and else nothing
+abbrev pub IsCutText : Refusal → (text : List ℕ) → (before after : Option (List ℕ)) → Type 0
+IsCutText Write text before after = (n : ℕ) × (n < length text) × Appends before after (take n text)
+IsCutText _ text before after = after ≡ before
+
+-- so much of the text without pictures
+pub record HasReportBegun (asked : Asked) (found : Result Program (ℕ × FaultKind)) (refusal : Refusal)
+    (before after : Outputs) : Type 0 where
+  pub report : IsCutText refusal (text_for asked.config.limit found) before.text after.text
   pub log : after.log ≡ before.log
 
--- where a run with pictures may have been broken off
-pub data IsCut (asked : Asked) (P : Program) (before after : Outputs) : Type 0 where
-  InReport : HasReportBegun asked (Ok P) before after → IsCut asked P before after
-  InChart : HasChartBegun asked P before after → IsCut asked P before after
-  InLog : HasLogBegun asked P before after → IsCut asked P before after
+-- it is the refusal for some fault of a picture
+pub record IsNamed (refusal_for : Fault → Refusal) (refusal : Refusal) : Type 0 where
+  pub fault : Fault
+  pub is : refusal ≡ refusal_for fault
+
+-- where a run with pictures was broken off
+pub data IsCut (asked : Asked) (P : Program) (refusal : Refusal) (before after : Outputs) : Type 0 where
+  InReport : HasReportBegun asked (Ok P) refusal before after → IsCut asked P refusal before after
+  InChart : IsNamed chart_refusal refusal → HasChartBegun asked P before after → IsCut asked P refusal before after
+  InLog : IsNamed log_refusal refusal → HasLogBegun asked P before after → IsCut asked P refusal before after
 
 -- what was written for a listing where that was broken off
-abbrev pub IsBegun : Asked → Result Program (ℕ × FaultKind) → (before after : Outputs) → Type 0
-IsBegun asked (Ok P) before after = IsCut asked P before after
-IsBegun asked (Err f) before after = HasReportBegun asked (Err f) before after
+abbrev pub IsBegun : Asked → Result Program (ℕ × FaultKind) → Refusal → (before after : Outputs) → Type 0
+IsBegun asked (Ok P) refusal before after = IsCut asked P refusal before after
+IsBegun asked (Err f) refusal before after = HasReportBegun asked (Err f) refusal before after
 
 -- how many calls of the writer have failed where a run was refused
 abbrev pub writer_failures : Refusal → ℕ
@@ -103,8 +118,3 @@ writer_failures _ = 0
 abbrev pub log_failures : Refusal → ℕ
 log_failures Trace = 1
 log_failures _ = 0
-
--- what is refused where a log was not told to its end
-abbrev pub log_refusal : Fault → Refusal
-log_refusal fault.Memory = Memory
-log_refusal fault.Write = Trace

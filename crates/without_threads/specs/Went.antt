@@ -87,7 +87,7 @@ totals_text first t =
     ++ (codes " finishes " ++ (decimal t.finishes ++ (codes " stale " ++ (decimal t.stale
     ++ (codes " loads " ++ (decimal t.loads ++ (codes " retires " ++ (decimal t.retires
     ++ (codes " squashes " ++ (decimal t.squashes ++ (codes " mends " ++ (decimal t.mends
-    ++ (codes " hints " ++ decimal t.hints))))))))))))))))
+    ++ (codes " hints " ++ (decimal t.hints ++ (codes " renewals " ++ decimal t.renewals))))))))))))))))))
 
 abbrev pub tally_text : Totals → List ℕ
 tally_text = totals_text (codes "tally lets ")

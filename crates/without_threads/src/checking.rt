@@ -32,6 +32,8 @@ pub fn check<R: Read + Drop, W: Write>(
         HasCheck input result.status (Gives W.contents writer.old writer.new)) }
     ensures quiet { result.line ≡ Nothing → failures_of writer.new ≡ failures_of writer.old }
     ensures line { IsOfOneThread result.line }
+    // There is no log to blame.
+    ensures unlogged { result.line ≢ Refused Refusal.Trace }
     // A refusal has a status of its own.
     ensures refused { (refusal : Refusal) → result.line ≡ Refused refusal →
         result ≡ refused refusal }
@@ -69,6 +71,9 @@ fn checked<R: Read, W: Write>(
     ensures quiet { OnOk result (failures_of writer.new ≡ failures_of writer.old) }
     ensures err { IfErr result (λ refusal. IsOfOneThread (Refused refusal)) }
     ensures opened { IfErr result (λ refusal. refusal ≢ Refusal.Open) }
+    ensures unlogged { IfErr result (λ refusal. refusal ≢ Refusal.Trace) }
+    ensures read { IfErr result (λ refusal. refusal ≡ Refusal.Read →
+        failures_of reader.new ≡ failures_of reader.old + 1) }
     ensures write { IfErr result (λ refusal. refusal ≡ Refusal.Write →
         failures_of writer.new ≡ failures_of writer.old + 1) }
     ensures part { IfErr result (λ refusal. refusal ≡ Refusal.Write →

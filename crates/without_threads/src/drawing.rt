@@ -1,7 +1,7 @@
 //! What became of each instruction of a run: its chart and its log.
 ghost use Rattle.std.specs.Prelude.{◌≡◌, ◌≢◌, ◌+◌, ◌-◌, ◌^◌, ◌<◌, IfErr, OnOk, OnErr, is_some};
 ghost use Rattle.devices.specs.Counted.{failures_of, known_by};
-ghost use Rattle.without_threads.specs.Watched.{HasBegun, HasTold, IsPicture};
+ghost use Rattle.without_threads.specs.Watched.{HasBegun, HasTold, IsNamed, IsPicture};
 ghost use Rattle.without_threads.specs.Watched.{log_failures, log_refusal, writer_failures};
 ghost use Rattle.without_threads.specs.Went.{IsOfOneThread, chart_refusal};
 ghost use Rattle.without_threads.specs.declared.went.Line.TheVariants.{Refused};
@@ -27,6 +27,8 @@ pub(crate) fn draw<W: Write>(
     ensures quiet { OnOk result (failures_of writer.new ≡ failures_of writer.old) }
     ensures err { IfErr result (λ refusal. IsOfOneThread (Refused refusal)) }
     ensures opened { IfErr result (λ refusal. refusal ≢ Refusal.Open) }
+    ensures has_read { IfErr result (λ refusal. refusal ≢ Refusal.Read) }
+    ensures named { IfErr result (λ refusal. IsNamed chart_refusal refusal) }
     ensures write { IfErr result (λ refusal.
         failures_of writer.new ≡ failures_of writer.old + writer_failures refusal) }
     ensures trace { IfErr result (λ refusal. log_failures refusal ≡ 0) }
@@ -52,6 +54,8 @@ pub(crate) fn trace<L: Write>(
     ensures quiet { OnOk result (failures_of log.new ≡ failures_of log.old) }
     ensures err { IfErr result (λ refusal. IsOfOneThread (Refused refusal)) }
     ensures opened { IfErr result (λ refusal. refusal ≢ Refusal.Open) }
+    ensures has_read { IfErr result (λ refusal. refusal ≢ Refusal.Read) }
+    ensures named { IfErr result (λ refusal. IsNamed log_refusal refusal) }
     ensures write { IfErr result (λ refusal. writer_failures refusal ≡ 0) }
     ensures trace { IfErr result (λ refusal.
         failures_of log.new ≡ failures_of log.old + log_failures refusal) }

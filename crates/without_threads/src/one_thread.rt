@@ -31,6 +31,7 @@ pub fn run<R: Read, W: Write>(
     ensures quiet { OnOk result (failures_of writer.new ≡ failures_of writer.old) }
     ensures err { IfErr result (λ refusal. IsOfOneThread (Refused refusal)) }
     ensures opened { IfErr result (λ refusal. refusal ≢ Refusal.Open) }
+    ensures unlogged { IfErr result (λ refusal. refusal ≢ Refusal.Trace) }
     ensures read { IfErr result (λ refusal. refusal ≡ Refusal.Read →
         failures_of reader.new ≡ failures_of reader.old + 1) }
     ensures write { IfErr result (λ refusal. refusal ≡ Refusal.Write →

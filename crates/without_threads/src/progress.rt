@@ -19,7 +19,7 @@ impl fmt::Display for Progress {
         write!(
             f,
             "progress lets {} claims {} finishes {} stale {} loads {} retires {} squashes {} mends {} \
-             hints {}",
+             hints {} renewals {}",
             tally.lets,
             tally.claims,
             tally.finishes,
@@ -29,6 +29,7 @@ impl fmt::Display for Progress {
             tally.squashes,
             tally.mends,
             tally.hints,
+            tally.renewals,
         )
     }
 }

@@ -1,5 +1,5 @@
 //! A run of the one-thread unit whose turns are told.
-ghost use Rattle.std.specs.Prelude.{◌≡◌, ◌≢◌, ◌+◌, ◌-◌, ◌^◌, ◌<◌, IfSome, IfOk, IfErr, Ok, OnOk, OnErr, None};
+ghost use Rattle.std.specs.Prelude.{◌≡◌, ◌≢◌, ◌+◌, ◌-◌, ◌^◌, ◌<◌, IfSome, IfOk, IfErr, Ok, OnOk, None};
 ghost use Rattle.isa.specs.Listing.{listing};
 ghost use Rattle.devices.specs.Counted.{failures_of, known_by};
 ghost use Rattle.inorder.specs.Runs.{end_of};
@@ -54,8 +54,9 @@ pub fn go_watched<R: Read + Drop, W: Write, L: Write>(
     ensures trace { (refusal : Refusal) → result.line ≡ Refused refusal →
         failures_of log.new ≡ failures_of log.old + log_failures refusal }
     // What was written before a refusal is a beginning, and each part waits for the one before it.
+    // Of the report nothing is written, or all, or a proper beginning before a failed call.
     ensures begun { (refusal : Refusal) → result.line ≡ Refused refusal →
-        HoldsOfInput R.remaining reader (λ input. IsBegun asked.now (listing input)
+        HoldsOfInput R.remaining reader (λ input. IsBegun asked.now (listing input) refusal
         (outputs (known_by W.contents writer.old) (known_by L.contents log.old))
         (outputs (known_by W.contents writer.new) (known_by L.contents log.new))) }
 {
@@ -87,12 +88,14 @@ fn watched<R: Read, W: Write, L: Write>(
     ensures log_quiet { OnOk result (failures_of log.new ≡ failures_of log.old) }
     ensures err { IfErr result (λ refusal. IsOfOneThread (Refused refusal)) }
     ensures opened { IfErr result (λ refusal. refusal ≢ Refusal.Open) }
+    ensures read { IfErr result (λ refusal. refusal ≡ Refusal.Read →
+        failures_of reader.new ≡ failures_of reader.old + 1) }
     ensures write { IfErr result (λ refusal.
         failures_of writer.new ≡ failures_of writer.old + writer_failures refusal) }
     ensures trace { IfErr result (λ refusal.
         failures_of log.new ≡ failures_of log.old + log_failures refusal) }
-    ensures begun { OnErr result (IfSome (known_by R.remaining reader.old) (λ input.
-        IsBegun asked.now (listing input)
+    ensures begun { IfErr result (λ refusal. IfSome (known_by R.remaining reader.old) (λ input.
+        IsBegun asked.now (listing input) refusal
         (outputs (known_by W.contents writer.old) (known_by L.contents log.old))
         (outputs (known_by W.contents writer.new) (known_by L.contents log.new)))) }
 {
@@ -118,11 +121,12 @@ fn told<W: Write, L: Write>(
     ensures log_quiet { OnOk result (failures_of log.new ≡ failures_of log.old) }
     ensures err { IfErr result (λ refusal. IsOfOneThread (Refused refusal)) }
     ensures opened { IfErr result (λ refusal. refusal ≢ Refusal.Open) }
+    ensures has_read { IfErr result (λ refusal. refusal ≢ Refusal.Read) }
     ensures write { IfErr result (λ refusal.
         failures_of writer.new ≡ failures_of writer.old + writer_failures refusal) }
     ensures trace { IfErr result (λ refusal.
         failures_of log.new ≡ failures_of log.old + log_failures refusal) }
-    ensures begun { OnErr result (IsBegun asked.now (listing bytes.now)
+    ensures begun { IfErr result (λ refusal. IsBegun asked.now (listing bytes.now) refusal
         (outputs (known_by W.contents writer.old) (known_by L.contents log.old))
         (outputs (known_by W.contents writer.new) (known_by L.contents log.new))) }
 {
@@ -155,11 +159,12 @@ fn told_of<W: Write, L: Write>(
     ensures log_quiet { OnOk result (failures_of log.new ≡ failures_of log.old) }
     ensures err { IfErr result (λ refusal. IsOfOneThread (Refused refusal)) }
     ensures opened { IfErr result (λ refusal. refusal ≢ Refusal.Open) }
+    ensures has_read { IfErr result (λ refusal. refusal ≢ Refusal.Read) }
     ensures write { IfErr result (λ refusal.
         failures_of writer.new ≡ failures_of writer.old + writer_failures refusal) }
     ensures trace { IfErr result (λ refusal.
         failures_of log.new ≡ failures_of log.old + log_failures refusal) }
-    ensures begun { OnErr result (IsBegun asked.now (Ok program.now)
+    ensures begun { IfErr result (λ refusal. IsBegun asked.now (Ok program.now) refusal
         (outputs (known_by W.contents writer.old) (known_by L.contents log.old))
         (outputs (known_by W.contents writer.new) (known_by L.contents log.new))) }
 {

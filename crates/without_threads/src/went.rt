@@ -54,7 +54,7 @@ impl fmt::Display for Line {
             Line::Tally(tally) => write!(
                 f,
                 "tally lets {} claims {} finishes {} stale {} loads {} retires {} squashes {} mends {} \
-                 hints {}",
+                 hints {} renewals {}",
                 tally.lets,
                 tally.claims,
                 tally.finishes,
@@ -64,6 +64,7 @@ impl fmt::Display for Line {
                 tally.squashes,
                 tally.mends,
                 tally.hints,
+                tally.renewals,
             ),
             Line::Refused(refusal) => write!(f, "ruu: {refusal}"),
         }

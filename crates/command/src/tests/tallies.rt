@@ -20,7 +20,8 @@ fn each_step_is_told_once(rt: HostRuntime) -> Result<(), Fail> {
         let line = Line::Tally(Tally { hints: 1, ..tally }).to_string(rt.alloc())?;
         assert_eq!(rt;
             line.as_str(),
-            "tally lets 3 claims 3 finishes 3 stale 0 loads 0 retires 2 squashes 0 mends 0 hints 1",
+            "tally lets 3 claims 3 finishes 3 stale 0 loads 0 retires 2 squashes 0 mends 0 hints 1 \
+             renewals 0",
             "{units}"
         );
     }

@@ -14,6 +14,7 @@ const TALLY: Tally = Tally {
     squashes: 7,
     mends: 18_446_744_073_709_551_615,
     hints: 9,
+    renewals: 10,
 };
 
 #[test]
@@ -23,7 +24,7 @@ fn a_line_names_what_was_refused_or_done(rt: HostRuntime) -> Result<(), Fail> {
         (
             Line::Tally(TALLY),
             "tally lets 1 claims 20 finishes 300 stale 4 loads 50 retires 600 squashes 7 \
-             mends 18446744073709551615 hints 9",
+             mends 18446744073709551615 hints 9 renewals 10",
         ),
         (Line::Refused(Refusal::Open), "ruu: open"),
         (Line::Refused(Refusal::Read), "ruu: read"),
@@ -52,11 +53,13 @@ fn progress_is_told_in_the_words_of_a_tally(rt: HostRuntime) -> Result<(), Fail>
         squashes: 7,
         mends: 8,
         hints: 9,
+        renewals: 10,
     };
     let line = Progress { tally }.to_string(rt.alloc())?;
     assert_eq!(rt;
         line.as_str(),
-        "progress lets 1 claims 2 finishes 3 stale 4 loads 5 retires 6 squashes 7 mends 8 hints 9"
+        "progress lets 1 claims 2 finishes 3 stale 4 loads 5 retires 6 squashes 7 mends 8 hints 9 \
+         renewals 10"
     );
     Ok(())
 }

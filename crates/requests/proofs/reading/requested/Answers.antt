@@ -104,7 +104,7 @@ returns-in-Ok-clause-err g c =
     let same = c.in_ok-command.ensures in
     let taken = at_tool (λ (a : App). fault_of a words ≡ []) app same c.in-Ok.ensures.kinds in
     let has = c.in-Ok.ensures.matches in
-    no_request words c.usage.result c.usage.ensures taken (λ is.
+    no_request words c.no_command.result c.no_command.ensures taken (λ is.
     let run = named app words c.in-Ok.matches (codes "run") is.rows same has is.matches in
     false≢true (c.in-None.ensures.found.1 run)) (record {
       no_check = λ file is.

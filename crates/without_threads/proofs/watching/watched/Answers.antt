@@ -14,5 +14,5 @@ pub returns-clause-begun : goal.returns-clause-begun
 returns-clause-begun g c =
     let before = outputs (g.W.Write.contents c.args.writer.now.inner) (g.L.Write.contents c.args.log.now.inner) in
     let after = outputs (g.W.Write.contents c.told.new.writer.inner) (g.L.Write.contents c.told.new.log.inner) in
-    cut_taken c.told.result (λ found. IsBegun c.args.asked.now found before after) _
+    cut_taken c.told.result (λ refusal found. IsBegun c.args.asked.now found refusal before after) _
     c.in_ok-listing.listing.items c.as_slice.result.now c.in_ok-listing.ensures.ok c.as_slice.ensures.value c.told.ensures.begun
