@@ -1,6 +1,5 @@
 -- Some that meet the seat that has seen all, one after another.
-use Rattle.std.proofs.Common.{◌≡◌, ℕ, List, Option, refl, ◌∙◌}
-use Rattle.inorder.specs.declared.history.Entry.{Entry}
+use Rattle.std.proofs.Common.{List, Option, refl, ◌∙◌}
 use Rattle.inorder.specs.History.{StartsWith}
 use Rattle.back.specs.Backs.{IsSame, TheBack}
 use Rattle.drive.specs.declared.parties.Party.{Party}

@@ -1,5 +1,5 @@
 -- Tables, row by row.
-use Rattle.std.proofs.Common.{◌≡◌, ℕ, ◌+◌, suc, List, [], ◌∷◌, ◌++◌, codes, Bool, false, if◌then◌else◌, sym, ap, subst, add-one}
+use Rattle.std.proofs.Common.{◌≡◌, ℕ, ◌+◌, List, [], ◌∷◌, ◌++◌, codes, Bool, false, if◌then◌else◌, sym, ap, subst, add-one}
 use Rattle.isa.specs.Report.{newline}
 use Rattle.drive.specs.declared.commands.Command.{Command}
 use Rattle.drive.specs.declared.commands.Command.TheVariants as ask

@@ -90,10 +90,24 @@ pub record HasLearnt (old new : TheSession) : Type 0 where
   pub shown : old.mark ≡ Some mark
   pub seen : new ≡ record old { snapper = max old.snapper mark.n }
 
+-- What was committed is as it was
+abbrev pub KeepsCommits : TheSession → TheSession → Type 0
+KeepsCommits old new = IsSameBack old.commits new.commits
+
+-- It is as it was, and some snapshot may have been shown of it
+abbrev pub ShowsCommits : TheSession → TheSession → Type 0
+ShowsCommits old new = IsSameBack (record old.commits { shown = new.commits.shown }) new.commits
+
 -- A snapshot was shown
 pub record HasShown (old new : TheSession) (mark : Mark) : Type 0 where
   pub says : IsShown old.core old.seen new.seen mark
   pub kept : new.mark ≡ Some mark
+  pub commits : ShowsCommits old new
+
+-- There was no memory to show one: the mark that was shown last stays so
+pub record WasNotShown (old new : TheSession) : Type 0 where
+  pub mark : new.mark ≡ old.mark
+  pub commits : ShowsCommits old new
 
 -- The front has rested, if nobody was live
 pub record HasRested (old new : TheSession) (rest : Rest) : Type 0 where
@@ -135,9 +149,10 @@ IsSomebody (party.Unit unit) = unit < unit_count
 IsSomebody p = Unit {0}
 
 -- The committed state, and how the run has ended, if it has
-pub record HasReported (old : TheSession) (end : End) : Type 0 where
+pub record HasReported (old new : TheSession) (end : End) : Type 0 where
   pub state : state_in end ≡ state_of old.commits
   pub outcome : end.outcome ≡ outcome_of old.commits.ended
+  pub commits : KeepsCommits old new
 
 -- The core was renewed, where the front had rested. Units are made anew
 pub record HasRenewed (old new : TheSession) : Type 0 where
@@ -183,11 +198,11 @@ Answers old new (ask.Claim unit station) (say.Claim answer) =
 Answers old new (ask.Finish unit station) (say.Finish answer) =
     HasFinishedAt old new unit station answer
 Answers old new ask.Refresh (say.Refresh refresh) =
-    IsRefresh old.core back old.seen new.seen refresh
+    IsRefresh old.core back old.seen new.seen refresh × KeepsCommits old new
 Answers old new ask.Commit (say.Commit commit) =
     IsCommit old.commits new.commits old.seen new.seen commit
 Answers old new ask.Show (say.Shown mark) = HasShown old new mark
-Answers old new ask.Show say.Memory = Unit {0}
+Answers old new ask.Show say.Memory = WasNotShown old new
 Answers old new ask.Take (say.Taken snap) = HasTaken old new snap
 Answers old new ask.Take say.Gone = new ≡ old
 Answers old new ask.Learn say.Learnt = HasLearnt old new
@@ -197,13 +212,13 @@ Answers old new (ask.Creator register) (say.Creator made) =
     IsCreatorNow old.core old.seen new.seen old.told register made
 Answers old new ask.Touched (say.Touched count) = (count ≡ old.touched) × (new ≡ old)
 Answers old new (ask.Info station) (say.Info info) =
-    IsInfo old.core old.seen new.seen station info
+    IsInfo old.core old.seen new.seen station info × KeepsCommits old new
 Answers old new (ask.Operand station which) (say.Operand seen) =
-    IsOperand old.core old.seen new.seen station (source_at which) seen
+    IsOperand old.core old.seen new.seen station (source_at which) seen × KeepsCommits old new
 Answers old new ask.Rest (say.Rest rest) = HasRested old new rest
 Answers old new (ask.Meet one other) say.Met = HaveMet old new one other
-Answers old new ask.Report (say.Report end) = HasReported old end
-Answers old new ask.Report say.Memory = Unit {0}
+Answers old new ask.Report (say.Report end) = HasReported old new end
+Answers old new ask.Report say.Memory = KeepsCommits old new
 Answers old new ask.Renew say.Renewed = HasRenewed old new
 Answers old new ask.Renew say.Memory = WasNotRenewed old new
 Answers old new command (say.Refused refusal) = MayRefuse old command refusal × (new ≡ old)

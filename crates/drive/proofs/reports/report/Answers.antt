@@ -1,7 +1,6 @@
-use Rattle.std.proofs.Common.{◌∙◌, ap}
+use Rattle.std.proofs.Common.{◌∙◌}
 use Rattle.inorder.specs.Runs.{ending}
 use Rattle.back.specs.Backs.{state_of}
-use Rattle.station.specs.Seats.{TheCore}
 use Rattle.drive.proofs.InOrder.{committed_after, machine_state, same_state}
 use Rattle.drive.proofs.reports.report.Goals as goal
 

@@ -1,4 +1,4 @@
-use Rattle.std.proofs.Common.{sym, ◌∙◌, subst}
+use Rattle.std.proofs.Common.{◌∙◌, subst}
 use Rattle.drive.specs.Moments.{Grows}
 use Rattle.drive.proofs.Histories.{grows_on}
 use Rattle.drive.proofs.Meetings.{have_met}
