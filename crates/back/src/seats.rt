@@ -30,7 +30,8 @@ impl<J: Naming> Back<J> {
         ensures kept { IsSame self.old self.new }
         ensures woken { self.new.woken ≡ self.old.woken }
         ensures history { SeesMore core.now self.old.by self.old.seen self.new.seen }
-        ensures reply { SeesInfo core.now.program core.now.sizes self.new.seen station result.0 result.1 result.2 }
+        ensures reply { SeesInfo core.now.program core.now.sizes
+            self.new.seen station result.0 result.1 result.2 }
     {
         core.info(&mut self.seat, station)
     }

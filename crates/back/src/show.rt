@@ -12,7 +12,8 @@ impl<J: Naming> Back<J> {
     /// Shows the committed state to the snappers, by one step. It waits for those that are reading. At an
     /// error nothing is shown.
     pub fn show<R: Wait>(&mut self, wait: &R) -> Result<Mark, Memory>
-        ensures ok { OnOk result (self.new ≡ record self.old { shown = snapshot (state_of self.old) }) }
+        ensures ok { OnOk result (self.new ≡ record self.old
+            { shown = snapshot (state_of self.old) }) }
         ensures mark { IfOk result (λ mark. mark.n ≡ (state_of self.old).count) }
         ensures err { OnErr result (self.new ≡ self.old) }
     {

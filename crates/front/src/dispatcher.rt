@@ -62,7 +62,8 @@ fn turn_on<P: Predictor>(
     requires knows { KnowsPath core.now seat.old.seen path.old }
     requires table { KnowsTable core.now seat.old.seen path.old.base creators.old }
     ensures kept { IsSame seat.old seat.new }
-    ensures reply { TurnAnswers P.Predicts P.Learns core.now.program core.now.sizes (told_of path.old.base) seat.old.seen seat.new.seen predictor.old predictor.new result }
+    ensures reply { TurnAnswers P.Predicts P.Learns core.now.program core.now.sizes
+        (told_of path.old.base) seat.old.seen seat.new.seen predictor.old predictor.new result }
     ensures told { told_of path.new.base ≡ told_of path.old.base }
     ensures knows { KnowsPath core.now seat.new.seen path.new }
     ensures table { KnowsTable core.now seat.new.seen path.new.base creators.new }
@@ -151,7 +152,8 @@ impl<'a, P: Predictor + Drop> Front<'a, P> {
         requires { self.old.core ≡ core.now }
         ensures core { self.new.core ≡ core.now }
         ensures reply { RestsTo P.Learns core.now self.old self.new result }
-        ensures told { self.new.told ≡ told_after core.now.program core.now.sizes self.old.told self.new.seen result }
+        ensures told { self.new.told ≡ told_after core.now.program core.now.sizes
+            self.old.told self.new.seen result }
         ensures rested { self.new.rested ≡ rested_after self.old.rested result }
         ensures touched { self.new.touched ≡ self.old.touched }
     {
@@ -218,7 +220,8 @@ impl<'a, P: Predictor + Drop> Front<'a, P> {
         ensures told_kept { self.new.told ≡ self.old.told }
         ensures rested { self.new.rested ≡ self.old.rested }
         ensures other_kept { IsSame other.old other.new }
-        ensures other_history { Adds core.now.program core.now.sizes other.old.by other.old.seen other.new.seen [] }
+        ensures other_history { Adds core.now.program core.now.sizes
+            other.old.by other.old.seen other.new.seen [] }
         ensures other_told { StartsWith other.new.seen self.new.seen }
     {
         core.meet(&mut self.seat, other);

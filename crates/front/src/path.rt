@@ -129,9 +129,11 @@ impl Path {
     pub fn enter(&mut self, creators: &mut Counted, next: &Fetched, tag: u32, predicted: u32)
         requires room { length self.old.records < 32 }
         requires station { next.now.station < 32 }
-        ensures records { self.new.records ≡ self.old.records ++ record_for next.now tag predicted ∷ [] }
+        ensures records { self.new.records ≡ self.old.records ++
+            record_for next.now tag predicted ∷ [] }
         ensures base { self.new.base ≡ self.old.base }
-        ensures table { IsEntered creators.old.table creators.new.table (record_for next.now tag predicted) }
+        ensures table { IsEntered creators.old.table creators.new.table
+            (record_for next.now tag predicted) }
         ensures touched { IsTouched 4 creators.old.touched creators.new.touched }
     {
         let newest = new_record(next, tag, predicted);

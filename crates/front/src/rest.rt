@@ -48,8 +48,10 @@ pub fn rest_on<P: Predictor>(
     requires knows { KnowsPath core.now seat.old.seen path.old }
     requires table { KnowsTable core.now seat.old.seen path.old.base creators.old.counted }
     ensures kept { IsSame seat.old seat.new }
-    ensures reply { RestAnswers P.Learns core.now.program core.now.sizes (told_of path.old.base) seat.old.seen seat.new.seen predictor.old predictor.new result }
-    ensures told { told_of path.new.base ≡ told_after core.now.program core.now.sizes (told_of path.old.base) seat.new.seen result }
+    ensures reply { RestAnswers P.Learns core.now.program core.now.sizes
+        (told_of path.old.base) seat.old.seen seat.new.seen predictor.old predictor.new result }
+    ensures told { told_of path.new.base ≡ told_after core.now.program core.now.sizes
+        (told_of path.old.base) seat.new.seen result }
     ensures records { Leaves result path.old.records path.new.records }
     ensures knows { KnowsPath core.now seat.new.seen path.new }
     ensures table { KnowsTable core.now seat.new.seen path.new.base creators.new.counted }

@@ -39,8 +39,14 @@ impl<'a, P: Predictor + Drop> Front<'a, P> {
         ensures core { result.0.core ≡ self.entry.core }
         ensures by { result.0.by ≡ front }
         ensures seen { result.0.seen ≡ self.entry.seen }
-        ensures nobody { HasNobody (unit_of self.entry.core.program self.entry.core.sizes self.entry.seen) }
-        ensures still { result.1 ≡ record { core = self.entry.core; seen = self.entry.seen; predictor = self.entry.predictor; touched = self.entry.touched } }
+        ensures nobody { HasNobody
+            (unit_of self.entry.core.program self.entry.core.sizes self.entry.seen) }
+        ensures still { result.1 ≡ record {
+          core = self.entry.core;
+          seen = self.entry.seen;
+          predictor = self.entry.predictor;
+          touched = self.entry.touched;
+        } }
         ensures goes_on { GoesOn result.1.core result.1.seen result.0 }
         ensures next { next_at result.0.core result.0.seen ≡ next_at result.1.core result.1.seen }
     {
@@ -73,7 +79,8 @@ impl<P: Predictor + Drop> FrontStill<P> {
         ensures seen { result.seen ≡ seat.seen }
         ensures predictor { result.predictor ≡ self.predictor }
         ensures touched { result.touched ≡ self.touched }
-        ensures told { result.told ≡ length (unit_of seat.core.program seat.core.sizes seat.seen).tenants }
+        ensures told { result.told ≡
+            length (unit_of seat.core.program seat.core.sizes seat.seen).tenants }
     {
         what_is_seen_is_legal(&seat);
         let FrontStill {
@@ -111,7 +118,8 @@ impl<P: Predictor + Drop> FrontStill<P> {
         ensures seen { result.seen ≡ seat.seen }
         ensures predictor { result.predictor ≡ self.predictor }
         ensures touched { result.touched ≡ self.touched }
-        ensures told { result.told ≡ length (unit_of seat.core.program seat.core.sizes seat.seen).tenants }
+        ensures told { result.told ≡
+            length (unit_of seat.core.program seat.core.sizes seat.seen).tenants }
     {
         self.enter_at(seat, program, 0)
     }
@@ -125,7 +133,8 @@ impl<P: Predictor + Drop> FrontStill<P> {
         ensures seen { result.seen ≡ seat.seen }
         ensures predictor { result.predictor ≡ self.predictor }
         ensures touched { result.touched ≡ self.touched }
-        ensures told { result.told ≡ length (unit_of seat.core.program seat.core.sizes seat.seen).tenants }
+        ensures told { result.told ≡
+            length (unit_of seat.core.program seat.core.sizes seat.seen).tenants }
     {
         let station = self.base.station;
         self.enter_at(seat, program, station)

@@ -50,7 +50,8 @@ pub(super) fn new_record(next: &Fetched, tag: u32, predicted: u32) -> Record
 impl Record {
     /// Tells a predictor how its instruction went on, if that was asked about it.
     pub fn tell<P: Predictor>(&self, predictor: &mut P)
-        ensures { ToldIf P.Learns self.now.guessed self.now.pc self.now.next predictor.old predictor.new }
+        ensures { ToldIf P.Learns self.now.guessed self.now.pc self.now.next
+            predictor.old predictor.new }
     {
         if self.guessed {
             predictor.told(self.pc, self.next);
