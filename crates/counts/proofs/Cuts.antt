@@ -40,7 +40,8 @@ splits id v l r cut s h here =
           let both = c.weighs w.depth (w.deep id v here) in
           record {
             depth = w.depth + 1;
-            deep = every_push P (set s.views id l) r (every_set P s.views id l (λ j u there. (let low = w.deep j u there in omega arith)) (c.deep_left w.depth (w.deep id v here))) (c.deep_right w.depth (w.deep id v here));
+            deep = every_push P (set s.views id l) r (every_set P s.views id l (λ j u there.
+                (let low = w.deep j u there in omega arith)) (c.deep_left w.depth (w.deep id v here))) (c.deep_right w.depth (w.deep id v here));
             all = omega arith;
           };
       idle = λ at low.

@@ -49,7 +49,8 @@ raised_off at i k v low apart = share_each (λ x. if x == at then plus k (share 
 -- parts stay at an addition
 pub raised_parts : (at i k : ℕ) (v : Shares) → i < total_count → ((share i (raised_at at k v)).parts ≡ (share i v).parts) × ((share i (raised_at at k v)).halvings ≡ (share i v).halvings)
 raised_parts at i k v low =
-    ⊎_elim (λ (e : i ≡ at). subst (λ (z : ℕ). ((share i (raised_at z k v)).parts ≡ (share i v).parts) × ((share i (raised_at z k v)).halvings ≡ (share i v).halvings)) e (let h = raised_here i k v low in (ap (λ s. s.parts) h, ap (λ s. s.halvings) h)))
+    ⊎_elim (λ (e : i ≡ at). subst (λ (z : ℕ). ((share i (raised_at z k v)).parts ≡ (share i v).parts) × ((share i (raised_at z k v)).halvings ≡ (share i v).halvings)) e
+    (let h = raised_here i k v low in (ap (λ s. s.parts) h, ap (λ s. s.halvings) h)))
     (λ apart. (let h = raised_off at i k v low apart in (ap (λ s. s.parts) h, ap (λ s. s.halvings) h))) (same_or_not i at)
 
 pub word_set : (xs : List ℕ) (i x : ℕ) → i < length xs → slice_index (set xs i x) i ≡ x

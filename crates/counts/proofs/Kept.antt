@@ -36,7 +36,8 @@ begins =
 mod-add : (a k : ℕ) → (a % 2 ^ 64 + k) % 2 ^ 64 ≡ (a + k) % 2 ^ 64
 mod-add a k = omega arith
 
-pub adds : (slots id : ℕ) (m : Me (Unit {0}) Shares) (at k : ℕ) → at < total_count → 0 < (share at m.0).parts → Allows Summed slots id m (8 * at) (λ n. (n + k) % 2 ^ 64) (AddsTo (step slots (8 * at) k 0 none) m)
+pub adds : (slots id : ℕ) (m : Me (Unit {0}) Shares) (at k : ℕ) → at < total_count → 0 < (share at m.0).parts →
+    Allows Summed slots id m (8 * at) (λ n. (n + k) % 2 ^ 64) (AddsTo (step slots (8 * at) k 0 none) m)
 adds slots id m at k low some_part s h wide here small =
     let v = m.0 in
     let w = raised_at at k v in
@@ -105,7 +106,8 @@ looks slots id m at low s h wide here small =
       ),
     )
   where
-    held : (s : State (Unit {0}) Shares) → Summed s → (at : ℕ) → at < total_count → (id : ℕ) (v : Shares) → get_elem? s.views id ≡ some v → HoldsAllAt at v → sum_by (λ u. (share at u).added) s.views ≡ (share at v).added
+    held : (s : State (Unit {0}) Shares) → Summed s → (at : ℕ) → at < total_count → (id : ℕ) (v : Shares) → get_elem? s.views id ≡ some v → HoldsAllAt at v →
+        sum_by (λ u. (share at u).added) s.views ≡ (share at v).added
     held s h at low id v here all =
         let z = h.whole at low in
         let own = all_weight z.depth (share at v) (z.deep id v here) all in
@@ -113,7 +115,8 @@ looks slots id m at low s h wide here small =
         (λ j u there none. h.idle at low j u there (no_weight z.depth (share at u) none)) (z.all ∙ sym own)
 
 -- the same at a word that is a total's
-pub adds_word : (slots id : ℕ) (m : Me (Unit {0}) Shares) (word at k : ℕ) → word ≡ 8 * at → at < total_count → 0 < (share at m.0).parts → Allows Summed slots id m word (λ n. (n + k) % 2 ^ 64) (AddsTo (step slots word k 0 none) m)
+pub adds_word : (slots id : ℕ) (m : Me (Unit {0}) Shares) (word at k : ℕ) → word ≡ 8 * at → at < total_count → 0 < (share at m.0).parts →
+    Allows Summed slots id m word (λ n. (n + k) % 2 ^ 64) (AddsTo (step slots word k 0 none) m)
 adds_word slots id m word at k is low some_part = subst (λ z. Allows Summed slots id m z (λ n. (n + k) % 2 ^ 64) (AddsTo (step slots z k 0 none) m)) (sym is) (adds slots id m at k low some_part)
 
 pub looks_word : (slots id : ℕ) (m : Me (Unit {0}) Shares) (word at : ℕ) → word ≡ 8 * at → at < total_count → Allows Summed slots id m word (λ n. n) (Looks (step slots word 0 0 none) m)

@@ -62,7 +62,8 @@ module _ (core now : TheCore) (old new : Seats) (r : IsRenewed core old now new)
 -- With the old one
 module _ (core now : TheCore) (old new : Seats) (r : IsNotRenewed core old now new) (commits entered : TheBack) (still : TheStill) (left : still ≡ still_of commits)
     (enters : entered ≡ back_of new.back None still.shown) (same : state_of entered ≡ committed_in still.core still.seen) where
-  pub stayed_at : (front_core : TheCore) → front_core ≡ new.front.core → old.front.core ≡ core → old.back.core ≡ core → old.unit.core ≡ core → old.back.by ≡ back → AreAt now new.unit front_core entered
+  pub stayed_at : (front_core : TheCore) → front_core ≡ new.front.core → old.front.core ≡ core → old.back.core ≡ core → old.unit.core ≡ core → old.back.by ≡ back →
+      AreAt now new.unit front_core entered
   stayed_at front_core is of_front of_back of_unit by = record {
     all_core = r.met.unit.same.core ∙ (of_unit ∙ sym r.core_is);
     front_is = is ∙ (r.met.front.same.core ∙ (of_front ∙ sym r.core_is));

@@ -58,6 +58,7 @@ hinted ring woken i old new set h =
     }
 
 -- the next station was hinted, or found the queue full
-pub put_or_dropped : (ring woken i : ℕ) (old new then : Hand) (is_put : Bool) → IsSet woken i → (IsTrue is_put → then ≡ putting i new) → (IsFalse is_put → then ≡ new) → (IsFalse is_put → HasHeld ring new (2 * ring)) → HasHinted ring woken i old new → HasHinted ring woken (i + 1) old then
+pub put_or_dropped : (ring woken i : ℕ) (old new then : Hand) (is_put : Bool) → IsSet woken i → (IsTrue is_put → then ≡ putting i new) → (IsFalse is_put → then ≡ new) →
+    (IsFalse is_put → HasHeld ring new (2 * ring)) → HasHinted ring woken i old new → HasHinted ring woken (i + 1) old then
 put_or_dropped ring woken i old new then true set put kept full h = subst (λ z. HasHinted ring woken (i + 1) old z) (sym (put refl)) (hinted ring woken i old new set h)
 put_or_dropped ring woken i old new then false set put kept full h = subst (λ z. HasHinted ring woken (i + 1) old z) (sym (kept refl)) (dropped ring woken i old new new (full refl) h)

@@ -19,4 +19,5 @@ returns-clause-reply g c =
     let told = subst (λ n. RestSays core.program core.sizes front.seen c.rest-answer.new.self.seen n c.rest-answer.new.self.told answer) c.meet.ensures.told_kept says in
     between (λ before behind. RestSays core.program core.sizes before behind c.args.front.now.told c.meet-2.new.self.told answer)
     c.args.all.now.seen front.seen c.rest-answer.new.self.seen c.meet-2.new.self.seen c.meet-2.new.other.seen
-    c.meet.ensures.told (subst (λ n. RestSays core.program core.sizes front.seen c.rest-answer.new.self.seen c.args.front.now.told n answer) (sym c.meet-2.ensures.told_kept) told) c.meet-2.ensures.history.begins c.meet-2.ensures.other_told
+    c.meet.ensures.told (subst (λ n. RestSays core.program core.sizes front.seen c.rest-answer.new.self.seen c.args.front.now.told n answer) (sym c.meet-2.ensures.told_kept) told)
+    c.meet-2.ensures.history.begins c.meet-2.ensures.other_told
