@@ -16,7 +16,8 @@ use Rattle.back.proofs.SeatKept.{kept_by, same_state, state_is}
 
 -- A look or a meeting
 
-pub is_same : (P copy : Program) (state : State) (low : Option ℕ) (head : ℕ) (ended : Option Stop) (shown : Snap) (seat seat' : Caller) → IsKept P seat copy state low head ended shown → IsKept P seat' copy state low head ended shown
+pub is_same : (P copy : Program) (state : State) (low : Option ℕ) (head : ℕ) (ended : Option Stop) (shown : Snap) (seat seat' : Caller) → IsKept P seat copy state low head ended shown →
+    IsKept P seat' copy state low head ended shown
     → seat'.core ≡ seat.core → seat'.by ≡ seat.by → IsSame (back_of seat ended shown) (back_of seat' ended shown)
 is_same P copy state low head ended shown seat seat' k k' core by = record { core = core; by = by; ended = refl; shown = refl; state = same_state P copy state low head ended shown seat seat' k k' }
 
@@ -30,7 +31,8 @@ module _ (P : Program) (seat seat' : Caller) (program : seat.core.program ≡ P)
     program = program;
     copied = copied;
     by_is = by;
-    legal = subst (λ Q. IsLegal Q seat.core.sizes seat.seen) program (legal_before seat.core.program seat.core.sizes a.begins.more seat.seen (subst (IsLegal seat.core.program seat.core.sizes) a.begins.is a.legal));
+    legal = subst (λ Q. IsLegal Q seat.core.sizes seat.seen) program (legal_before seat.core.program seat.core.sizes a.begins.more seat.seen
+        (subst (IsLegal seat.core.program seat.core.sizes) a.begins.is a.legal));
     unit = subst (λ s. KeepsUnit P seat.core.sizes (unit_in seat.core seat.seen) s None 0 None) (sym state_starts) (starts P seat.core.sizes (unit_in seat.core seat.seen) fresh);
     later = subst (λ (s : Snap). s.n ≤ state.count) (sym shown_is) zero-le;
   }

@@ -95,7 +95,8 @@ module _ (P copy : Program) (state : State) (low : Option ℕ) (head : ℕ) (sho
 
   module _ (seat' : Caller) (core : seat'.core ≡ seat.core) (by : seat'.by ≡ seat.by) (k : IsKept P seat copy state low head None shown) (i : Instr) (fetched : instr_at copy state.pc ≡ Some i) where
     -- it was refused
-    pub refused : (event : Event) → IsQuiet event → Adds seat.core.program seat.core.sizes seat.by seat.seen seat'.seen (event ∷ []) → WasRefused (back_of seat None shown) (back_of seat' None shown) event
+    pub refused : (event : Event) → IsQuiet event → Adds seat.core.program seat.core.sizes seat.by seat.seen seat'.seen (event ∷ []) →
+        WasRefused (back_of seat None shown) (back_of seat' None shown) event
     refused event quiet a = record {
       went_on = went_on i k fetched;
       not_ended = refl;
@@ -124,7 +125,8 @@ module _ (P copy : Program) (state : State) (low : Option ℕ) (head : ℕ) (sho
       plain_retired = subst (λ (z : Program × ℕ). IsRetired z.0 seat.core.sizes z.1 seat.seen seat'.seen station tag index half last) (λ j. (k.program j, k.by_is j)) r
 
       pub did : HasRetired P seat.core.sizes seat.seen seat'.seen i half last state low head
-      did = has_retired P seat.core.sizes seat.seen seat'.seen station tag index half i last state low head plain_retired (plain P copy state low head None shown seat k) (subst (λ Q. instr_at Q state.pc ≡ Some i) k.copied fetched)
+      did = has_retired P seat.core.sizes seat.seen seat'.seen station tag index half i last state low head plain_retired (plain P copy state low head None shown seat k)
+          (subst (λ Q. instr_at Q state.pc ≡ Some i) k.copied fetched)
 
       low_count : (waited : Option ℕ) → (with_low waited state).count ≡ state.count
       low_count None = refl
@@ -153,7 +155,8 @@ module _ (P copy : Program) (state : State) (low : Option ℕ) (head : ℕ) (sho
 
       -- what is seen of the tenant that retired
       seen_at : at (unit_in seat'.core seat'.seen).tenants did.p ≡ Some did.tenant
-      seen_at = subst (λ d. at (unit_in d seat'.seen).tenants did.p ≡ Some did.tenant) (sym core) (subst (λ Q. at (unit_of Q seat.core.sizes seat'.seen).tenants did.p ≡ Some did.tenant) (sym k.program) did.is)
+      seen_at = subst (λ d. at (unit_in d seat'.seen).tenants did.p ≡ Some did.tenant) (sym core) (subst (λ Q. at (unit_of Q seat.core.sizes seat'.seen).tenants did.p ≡ Some did.tenant)
+          (sym k.program) did.is)
 
       added : Adds seat.core.program seat.core.sizes seat.by seat.seen seat'.seen (Does (On did.p (Retire did.made)) ∷ [])
       added = subst (λ (z : Program × ℕ). Adds z.0 seat.core.sizes z.1 seat.seen seat'.seen (Does (On did.p (Retire did.made)) ∷ [])) (λ j. (sym k.program j, sym k.by_is j)) did.adds

@@ -41,7 +41,8 @@ module _ (P : Program) (t : Tenant) (n : ℕ) (s : State) (pc : t.pc ≡ s.pc) (
   made_done v e = ap (λ f. made_at_end f t.made n) e
 
   none_stored : (v : ℕ) → t.fate ≡ Done v → with_stored (stored P gone) s.memory ≡ s.memory
-  none_stored v e = ap (λ o. with_stored o s.memory) (ap (λ f. stored_by true (kind_of P t) f (width (instr P t).op) t.second.value) e ∙ stored_done true (kind_of P t) v (width (instr P t).op) t.second.value)
+  none_stored v e = ap (λ o. with_stored o s.memory) (ap (λ f. stored_by true (kind_of P t) f (width (instr P t).op) t.second.value) e ∙
+      stored_done true (kind_of P t) v (width (instr P t).op) t.second.value)
 
   -- behind itself, in both
   behind : pc_plus_4 t.pc ≡ pc_plus_4 s.pc

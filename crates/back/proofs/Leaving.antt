@@ -33,7 +33,8 @@ module _ (P copy : Program) (state : State) (low : Option ℕ) (head : ℕ) (sho
   no_stop v k = k.unit.end_is
 
   -- what it keeps is that of the seat with which it enters
-  pub entered : (v w : Caller) (station : ℕ) → IsKept P v copy state low head None shown → GoesOn v.core v.seen w → IsLegal w.core.program w.core.sizes w.seen → head_at w.core w.seen ≡ station → IsKept P w copy state low station None shown
+  pub entered : (v w : Caller) (station : ℕ) → IsKept P v copy state low head None shown → GoesOn v.core v.seen w → IsLegal w.core.program w.core.sizes w.seen → head_at w.core w.seen ≡ station →
+      IsKept P w copy state low station None shown
   entered v w station k g legal is =
       let C = v.core.sizes in
       let adds : Adds P C back v.seen g.last [] = subst (λ Q. Adds Q C back v.seen g.last []) k.program g.adds in

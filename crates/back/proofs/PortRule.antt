@@ -138,7 +138,8 @@ module _ (P : Program) (C : Sizes) (U : UpdateUnit) (ok : IsSound P U.tenants) (
         ]
       ]
 
-  all_known : (T : Entry → Bool) (Fact : Tenant → Type 0) → ((u : Tenant) → Fact u → T (entry_of P u) ≡ false) → ((q : ℕ) (u : Tenant) → at us q ≡ Some u → u.standing ≡ Live → q < p → Fact u) → youngest T (queue_of P before) ≡ None
+  all_known : (T : Entry → Bool) (Fact : Tenant → Type 0) → ((u : Tenant) → Fact u → T (entry_of P u) ≡ false) → ((q : ℕ) (u : Tenant) → at us q ≡ Some u → u.standing ≡ Live → q < p → Fact u) →
+      youngest T (queue_of P before) ≡ None
   all_known T Fact fails h = none_in P T before (λ q u is b. let z = inner q u is in fails u (h q u z.0 (access_live P u b) z.1))
 
   found_at : (T : Entry → Bool) (o : (j : ℕ) → Type 0) (j : ℕ) (x : Older j) → is_store (kind_of P x.tenant) ≡ true → T (entry_of P x.tenant) ≡ true
@@ -154,7 +155,8 @@ module _ (P : Program) (C : Sizes) (U : UpdateUnit) (ok : IsSound P U.tenants) (
   waits = record { load = it.fact.load; address = a; fate = it.fact.fate }
 
   -- blocked by the store of a station
-  blocked_by : (T : Entry → Bool) (j : ℕ) (x : Older j) (f : FoundIn P T before x.q x.tenant) → is_store (kind_of P x.tenant) ≡ true → answer (queue_of P us) (place_of P us p) ≡ Blocked f.place → IsBlockedAt P U p (behind head C.ring j)
+  blocked_by : (T : Entry → Bool) (j : ℕ) (x : Older j) (f : FoundIn P T before x.q x.tenant) → is_store (kind_of P x.tenant) ≡ true → answer (queue_of P us) (place_of P us p) ≡ Blocked f.place →
+      IsBlockedAt P U p (behind head C.ring j)
   blocked_by T j x f s e = record {
     q = x.q;
     blocks = record {
@@ -233,12 +235,14 @@ module _ (P : Program) (C : Sizes) (U : UpdateUnit) (ok : IsSound P U.tenants) (
         ap (λ y. taken_from y.address (bytes y.width) y.content a w) entry_is
         ∙ sym (ap (λ y. taken_from y.address (bytes y.width) x.tenant.second.value a w) met.entry)
 
-    pub by_store : (raw : ℕ) → ((u : Tenant) → at us x.q ≡ Some u → u.standing ≡ Live → u.station ≡ behind head C.ring s → taken_from e.address (bytes e.width) u.second.value a (width l.op) ≡ Some raw) → CanLoad P U p a (loaded l.op raw)
+    pub by_store : (raw : ℕ) → ((u : Tenant) → at us x.q ≡ Some u → u.standing ≡ Live → u.station ≡ behind head C.ring s →
+        taken_from e.address (bytes e.width) u.second.value a (width l.op) ≡ Some raw) → CanLoad P U p a (loaded l.op raw)
     by_store raw g =
         let taken = gives_is ∙ (ap (λ o. taken_from e.address (bytes e.width) x.tenant.second.value a (width o)) it.fact.op_is ∙ g x.tenant x.is x.alive x.station) in
         can_load raw (forward P us p t a ok it.is live it.fact.load.kind it.fact.fate raw (forward_answer P us p t a ok it.is live it.fact.load.kind it.fact.fate known x.q x.tenant f raw taken))
 
-    pub by_waiting : ((u : Tenant) → at us x.q ≡ Some u → u.standing ≡ Live → u.station ≡ behind head C.ring s → taken_from e.address (bytes e.width) u.second.value a (width l.op) ≡ None) → IsBlockedAt P U p (behind head C.ring s)
+    pub by_waiting : ((u : Tenant) → at us x.q ≡ Some u → u.standing ≡ Live → u.station ≡ behind head C.ring s → taken_from e.address (bytes e.width) u.second.value a (width l.op) ≡ None) →
+        IsBlockedAt P U p (behind head C.ring s)
     by_waiting g =
         let taken = gives_is ∙ (ap (λ o. taken_from e.address (bytes e.width) x.tenant.second.value a (width o)) it.fact.op_is ∙ g x.tenant x.is x.alive x.station) in
         blocked_by (overlaps a w) s x f met.store (blocked_answer P us p t a ok it.is live it.fact.load.kind it.fact.fate known x.q x.tenant f taken)

@@ -115,7 +115,8 @@ path_parts [] = refl
 path_parts (t ∷ ts) = go t.standing (path_parts ts)
   where
     go : (s : Standing) → how_many on_path ts ≡ how_many is_retired ts + how_many is_live ts
-        → cond (stands_on_path s) (suc (how_many on_path ts)) (how_many on_path ts) ≡ cond (stands_retired s) (suc (how_many is_retired ts)) (how_many is_retired ts) + cond (stands_live s) (suc (how_many is_live ts)) (how_many is_live ts)
+        → cond (stands_on_path s) (suc (how_many on_path ts)) (how_many on_path ts) ≡ cond (stands_retired s) (suc (how_many is_retired ts)) (how_many is_retired ts) + cond (stands_live s)
+        (suc (how_many is_live ts)) (how_many is_live ts)
     go Live e = omega (arith, e)
     go Retired e = omega (arith, e)
     go Squashed e = e

@@ -73,7 +73,8 @@ found_in P T (t ∷ ts) q u is b e h = ⊎_elim
         record {
           place = f.place;
           is = grown P T t ts c ∙ (λ i. or_older (cond (fails i) (Some (length (queue_of P ts), entry_of P t)) None) (f.is i));
-          there = ap (λ z. slice_get (live_accesses P ts ++ with_access z (length ts, entry_of P t)) f.place) c ∙ get_front (live_accesses P ts) ((length ts, entry_of P t) ∷ []) f.place (q, entry_of P u) f.there;
+          there = ap (λ z. slice_get (live_accesses P ts ++ with_access z (length ts, entry_of P t)) f.place) c ∙
+              get_front (live_accesses P ts) ((length ts, entry_of P t) ∷ []) f.place (q, entry_of P u) f.there;
         }
     deeper false c old f = record {
       place = f.place;

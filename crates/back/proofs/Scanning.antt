@@ -32,7 +32,14 @@ module _ (P : Program) (C : Sizes) (old cur new : List Entry) (late : List Event
   load_now : (q : ℕ) → Has (unit_of P C old) q (IsLoadAt P station) → Has (unit_of P C cur) q (IsLoadAt P station) ⊎ WasNotWaiting P C old new q
   load_now q h =
       let u = since_at P C old cur a.begins a.legal q h.tenant h.is in ⊎_elim
-      (λ live. inl (record { tenant = u.tenant; is = u.is; fact = record { load = record { live = live; kind = ap (λ i. kind (instr_of P i).op) u.since.index ∙ h.fact.load.kind }; station_is = u.since.station ∙ h.fact.station_is } }))
+      (λ live. inl (record {
+        tenant = u.tenant;
+        is = u.is;
+        fact = record {
+          load = record { live = live; kind = ap (λ i. kind (instr_of P i).op) u.since.index ∙ h.fact.load.kind };
+          station_is = u.since.station ∙ h.fact.station_is;
+        };
+      }))
       (λ gone. inr (once_later P C old cur new (λ U. ¬ Has U q (IsWaitingLoad P)) new_begins (once_now P C old cur (λ U. ¬ Has U q (IsWaitingLoad P)) a.begins
       (λ w. gone (ap (λ (z : Tenant). z.standing) (found u.tenant w.tenant (sym u.is ∙ w.is)) ∙ w.fact.load.live)))))
       (live_or_not u.tenant.standing)
@@ -43,9 +50,14 @@ module _ (P : Program) (C : Sizes) (old cur new : List Entry) (late : List Event
   pub none_on : NoneWaits P C cur new station → (q : ℕ) → Has (unit_of P C old) q (IsLoadAt P station) → WasNotWaiting P C old new q
   none_on n q h = ⊎_elim (λ x. earlier q (n q x)) (λ w. w) (load_now q h)
 
-  pub held_on : (p s : ℕ) → WasOnce P C cur new (HoldsBack P p station s) → NoOtherWaits P C cur new station p → (q : ℕ) → Has (unit_of P C old) q (IsLoadAt P station) → WasNotWaiting P C old new q ⊎ WasBlocked P C old new q
+  pub held_on : (p s : ℕ) → WasOnce P C cur new (HoldsBack P p station s) → NoOtherWaits P C cur new station p → (q : ℕ) → Has (unit_of P C old) q (IsLoadAt P station) → WasNotWaiting P C old new q ⊎
+      WasBlocked P C old new q
   held_on p s w n q h = dite (ℕ_discrete q p)
-      (λ same. inr (once_earlier P C old cur new (λ U. (r : ℕ) × Blocks P U q r) a.begins (record { point = w.point; within = w.within; fact = (w.fact.blocked.q, subst (λ x. Blocks P (unit_of P C w.point) x w.fact.blocked.q) (sym same) w.fact.blocked.blocks) })))
+      (λ same. inr (once_earlier P C old cur new (λ U. (r : ℕ) × Blocks P U q r) a.begins (record {
+        point = w.point;
+        within = w.within;
+        fact = (w.fact.blocked.q, subst (λ x. Blocks P (unit_of P C w.point) x w.fact.blocked.q) (sym same) w.fact.blocked.blocks);
+      })))
       (λ other. ⊎_elim (λ x. inl (earlier q (n q other x))) (λ y. inl y) (load_now q h))
 
 -- What was found lasts
@@ -84,7 +96,8 @@ module _ (P : Program) (C : Sizes) (old cur new : List Entry) (head ring k k' : 
       (λ same. f q (subst (λ x. Has (unit_of P C old) q (IsLoadAt P (behind head ring x))) same h))
       (here_or k k' j next lt)
 
-  first_on : (b : Option (ℕ × ℕ)) → FirstIs P C old new head ring k b → ((q : ℕ) → Has (unit_of P C old) q (IsLoadAt P (behind head ring k)) → WasNotWaiting P C old new q) → FirstIs P C old new head ring k' b
+  first_on : (b : Option (ℕ × ℕ)) → FirstIs P C old new head ring k b → ((q : ℕ) → Has (unit_of P C old) q (IsLoadAt P (behind head ring k)) → WasNotWaiting P C old new q) →
+      FirstIs P C old new head ring k' b
   first_on None f g = λ j lt q h. ⊎_elim (λ less. f j less q h) (λ same. g q (subst (λ x. Has (unit_of P C old) q (IsLoadAt P (behind head ring x))) same h)) (here_or k k' j next lt)
   first_on (Some b) f g = record { place = f.place; bound = let l = f.bound in omega (arith, l, next); load_is = f.load_is; p = f.p; when = f.when; before = f.before }
 
@@ -131,7 +144,8 @@ module _ (P : Program) (C : Sizes) (old cur new : List Entry) (head ring k k' : 
       are_late = s.are_late;
       adds = adds_on P C back old cur new s.late [] s.adds x.adds;
       each = held_each;
-      first = subst (λ o. FirstIs P C old new head ring k' o) (sym some) (keep (first_later P C old cur new head ring k x.adds.begins (Some b) (subst (λ o. FirstIs P C old cur head ring k o) some s.first)));
+      first = subst (λ o. FirstIs P C old new head ring k' o) (sym some) (keep (first_later P C old cur new head ring k x.adds.begins (Some b)
+          (subst (λ o. FirstIs P C old cur head ring k o) some s.first)));
     }
       where
         keep : IsFirst P C old new head ring k b.0 b.1 → IsFirst P C old new head ring k' b.0 b.1

@@ -68,7 +68,8 @@ module _ (P : Program) (C : Sizes) (mid new : List Entry) (b : Adds P C back mid
       (subst (Since t) same i.fact.0, subst (λ (x : Tenant). x.station ≡ t.station) same i.fact.1, subst (λ (x : Tenant). x.tag ≡ t.tag) same i.fact.2)
 
 -- A live tenant is what its station shows
-pub shown : (P : Program) (C : Sizes) (h : List Entry) → IsLegal P C h → (q : ℕ) (u : Tenant) → at (unit_of P C h).tenants q ≡ Some u → u.standing ≡ Live → station_word C (recent (unit_of P C h)) u.station ≡ live_word u.tag u.fate
+pub shown : (P : Program) (C : Sizes) (h : List Entry) → IsLegal P C h → (q : ℕ) (u : Tenant) → at (unit_of P C h).tenants q ≡ Some u → u.standing ≡ Live →
+    station_word C (recent (unit_of P C h)) u.station ≡ live_word u.tag u.fate
 shown P C h legal q u is live =
     let x = recent_at (unit_of P C h) q u is (live_is_recent P C h legal q u is live) in
     ((stations_follow P C (taken_of h) back).shows (allowed_steps P C h legal)).live x.r u x.is live

@@ -109,4 +109,5 @@ module _ (P : Program) (C : Sizes) (old new : List Entry) (events : List Event) 
       head_then = head_is ∙ sym (head_kept_on P C old new point events adds quiet once.within)
 
       place_is : rank us_then p ≡ place
-      place_is = same_rank head (rank us_then p) place C.ring inside (stands_inside P C point point_legal head head_then p it.tenant it.is it.fact.load.live) bound (sym (stands_behind P C point point_legal head head_then p it.tenant it.is it.fact.load.live) ∙ it.fact.station_is)
+      place_is = same_rank head (rank us_then p) place C.ring inside (stands_inside P C point point_legal head head_then p it.tenant it.is it.fact.load.live) bound
+          (sym (stands_behind P C point point_legal head head_then p it.tenant it.is it.fact.load.live) ∙ it.fact.station_is)

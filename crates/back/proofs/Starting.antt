@@ -21,7 +21,8 @@ none_of : (ts : List Tenant) → how_many is_retired ts ≡ 0 → AllByRecursion
 none_of [] e = tt
 none_of (t ∷ ts) e = go (is_retired t) refl e (none_of ts)
   where
-    go : (b : Bool) → is_retired t ≡ b → cond b (suc (how_many is_retired ts)) (how_many is_retired ts) ≡ 0 → (how_many is_retired ts ≡ 0 → AllByRecursion Not_retired ts) → AllByRecursion Not_retired (t ∷ ts)
+    go : (b : Bool) → is_retired t ≡ b → cond b (suc (how_many is_retired ts)) (how_many is_retired ts) ≡ 0 → (how_many is_retired ts ≡ 0 → AllByRecursion Not_retired ts) →
+        AllByRecursion Not_retired (t ∷ ts)
     go true q e more = absurd (omega arith)
     go false q e more = (q, more e)
 

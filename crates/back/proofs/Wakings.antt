@@ -73,7 +73,8 @@ module _ (P : Program) (C : Sizes) (by : ℕ) where
   }
 
   -- two calls that added nothing
-  pub still_after : (id : ℕ) (old mid new : List Entry) (was woken woken' : ℕ) → id ≡ by → Adds P C by old mid [] → woken ≡ was → Adds P C id mid new [] → woken' ≡ woken → WakesNobody P C by old new was woken'
+  pub still_after : (id : ℕ) (old mid new : List Entry) (was woken woken' : ℕ) → id ≡ by → Adds P C by old mid [] → woken ≡ was → Adds P C id mid new [] → woken' ≡ woken →
+      WakesNobody P C by old new was woken'
   still_after id old mid new was woken woken' is a same b same' =
       nobody_on old mid new was woken woken' (nobody_still old mid was woken a same)
       (nobody_still mid new woken woken' (subst (λ z. Adds P C z mid new []) is b) same')

@@ -68,5 +68,6 @@ module _ (P : Program) (C : Sizes) (U : UpdateUnit) (by : ℕ) (s : Step) (a : A
       go (Some t) f g = let m = goes P C U by s a ok p t f in ap made_by m.is ∙ m.goes.made v g
 
 -- an act lets nobody
-pub still_newest : (P : Program) (C : Sizes) (U : UpdateUnit) (by p : ℕ) (act : Act) → Allowed P C U by (On p act) → IsSound P U.tenants → (n : Note) → IsNewest U n → IsNewest (applied P C U by (On p act)) n
+pub still_newest : (P : Program) (C : Sizes) (U : UpdateUnit) (by p : ℕ) (act : Act) → Allowed P C U by (On p act) → IsSound P U.tenants → (n : Note) → IsNewest U n →
+    IsNewest (applied P C U by (On p act)) n
 still_newest P C U by p act a ok n newest = λ q u lt is same. let was = came P C U by p act a ok q u is in newest q was.tenant lt was.is (sym was.goes.station ∙ same)

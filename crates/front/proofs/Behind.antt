@@ -44,5 +44,6 @@ refused_are_entered core now old new here by_is r =
       };
       next =
           ap (λ (z : TheCore). next_at z new.front.seen) place
-          ∙ stays core.program core.sizes (λ U. next_station core.sizes (recent U) ≡ next_at core old.front.seen) (next_stable core.program core.sizes (next_at core old.front.seen)) old.front.seen new.front.seen mine refl;
+          ∙ stays core.program core.sizes (λ U. next_station core.sizes (recent U) ≡ next_at core old.front.seen) (next_stable core.program core.sizes (next_at core old.front.seen)) old.front.seen
+          new.front.seen mine refl;
     }

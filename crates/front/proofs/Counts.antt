@@ -18,7 +18,8 @@ pub count_last : (f : Note → Bool) (xs : List Note) (z : Note) → count f (xs
 count_last f [] z = refl
 count_last f (x ∷ xs) z = go (f x) (f z) (count_last f xs z)
   where
-    go : (a b : Bool) → count f (xs ++ z ∷ []) ≡ cond b (suc (count f xs)) (count f xs) → cond a (suc (count f (xs ++ z ∷ []))) (count f (xs ++ z ∷ [])) ≡ cond b (suc (cond a (suc (count f xs)) (count f xs))) (cond a (suc (count f xs)) (count f xs))
+    go : (a b : Bool) → count f (xs ++ z ∷ []) ≡ cond b (suc (count f xs)) (count f xs) → cond a (suc (count f (xs ++ z ∷ []))) (count f (xs ++ z ∷ [])) ≡ cond b
+        (suc (cond a (suc (count f xs)) (count f xs))) (cond a (suc (count f xs)) (count f xs))
     go true true e = ap suc e
     go true false e = ap suc e
     go false true e = e
@@ -60,7 +61,8 @@ module _ (P : Program) (test : Tenant → Bool) (f : Note → Bool) where
   true_more : (t : Tenant) (ts : List Tenant) (n : Note) → TrueAt (t ∷ ts) n → TrueAt ts n
   true_more t ts n h u is = h u (at_more t ts n.at u is)
 
-  pub at_most : ((t : Tenant) → test t ≡ true → on_path t ≡ true) → (ts : List Tenant) (A B : List Note) → trail P ts ≡ A ++ B → AllByRecursion (FailsAt ts) A → AllByRecursion (SaysAt ts) B → how_many test ts ≤ count f B
+  pub at_most : ((t : Tenant) → test t ≡ true → on_path t ≡ true) → (ts : List Tenant) (A B : List Note) → trail P ts ≡ A ++ B → AllByRecursion (FailsAt ts) A → AllByRecursion (SaysAt ts) B →
+      how_many test ts ≤ count f B
   at_most on [] A B e a b = least (count f B)
   at_most on (t ∷ ts) A B e a b = go (on_path t) refl (at_most on ts)
     where
@@ -74,7 +76,8 @@ module _ (P : Program) (test : Tenant → Bool) (f : Note → Bool) where
       off true h o = absurd (true≢false (sym (on t h) ∙ o))
       off false h o = h
 
-      go : (b : Bool) → on_path t ≡ b → ((A B : List Note) → trail P ts ≡ A ++ B → AllByRecursion (FailsAt ts) A → AllByRecursion (SaysAt ts) B → how_many test ts ≤ count f B) → how_many test (t ∷ ts) ≤ count f B
+      go : (b : Bool) → on_path t ≡ b → ((A B : List Note) → trail P ts ≡ A ++ B → AllByRecursion (FailsAt ts) A → AllByRecursion (SaysAt ts) B → how_many test ts ≤ count f B) →
+          how_many test (t ∷ ts) ≤ count f B
       go false o more = no_more (test t) (how_many test ts) (count f B) (off (test t) refl o) (more A B (sym (trail_off P t ts o) ∙ e) (a' A a) (b' B b))
       go true o more = ⊎_elim
           (λ none.

@@ -1,5 +1,40 @@
 -- The create vector, found among what the front keeps.
-use Rattle.std.proofs.Common.{◌≡◌, ◌≢◌, ◌⊎◌, ℕ, zero, suc, ◌-◌, ◌<◌, Bool, true, false, cond, ◌&&◌, eqb, List, [], ◌∷◌, ◌++◌, length, take, Option, Some, None, refl, sym, ap, ◌∙◌, subst, inl, inr, ⊎_elim, arith, eq-eqb, ne_eqb}
+use Rattle.std.proofs.Common.{
+  ◌≡◌,
+  ◌≢◌,
+  ◌⊎◌,
+  ℕ,
+  zero,
+  suc,
+  ◌-◌,
+  ◌<◌,
+  Bool,
+  true,
+  false,
+  cond,
+  ◌&&◌,
+  eqb,
+  List,
+  [],
+  ◌∷◌,
+  ◌++◌,
+  length,
+  take,
+  Option,
+  Some,
+  None,
+  refl,
+  sym,
+  ap,
+  ◌∙◌,
+  subst,
+  inl,
+  inr,
+  ⊎_elim,
+  arith,
+  eq-eqb,
+  ne_eqb,
+}
 use Rattle.std.proofs.lemmas.Bool.{le-leb}
 use Rattle.std.specs.List.{AllByRecursion}
 use Rattle.std.specs.Prelude.{slice_get}
@@ -31,7 +66,8 @@ writer_is P (t ∷ ts) r = go (on_path t) refl (writer_is P ts r)
         ap (λ b. cond (b && eqb (destination_of P t) r) (Some (length ts)) (last_writer P ts r)) e
         ∙ (by (eqb (destination_of P t) r) more ∙ sym list)
       where
-        by : (b : Bool) → last_writer P ts r ≡ position (newest_note None (trail P ts) r) → cond b (Some (length ts)) (last_writer P ts r) ≡ position (cond b (Some (note P ts t)) (newest_note None (trail P ts) r))
+        by : (b : Bool) → last_writer P ts r ≡ position (newest_note None (trail P ts) r) → cond b (Some (length ts)) (last_writer P ts r) ≡ position
+            (cond b (Some (note P ts t)) (newest_note None (trail P ts) r))
         by true more = refl
         by false more = more
     go false e more =
@@ -140,7 +176,8 @@ written (suc r) n l = le-leb (suc (suc r)) 34 (omega (arith, l))
 pub creator_by : (xs : List Record) (r : ℕ) → r ≢ 0 → r < 34 → creator_in xs r ≡ newest None xs r
 creator_by xs r n l = ap (λ b. cond b (newest None xs r) None) (written r n l)
 
-pub creator_found : (xs : List Record) (j r : ℕ) (x : Record) → r ≢ 0 → r < 34 → 0 < j → newest None xs r ≡ newest None (take j xs) r → slice_get xs (j - 1) ≡ Some x → x.destination ≡ r → Some x ≡ creator_in xs r
+pub creator_found : (xs : List Record) (j r : ℕ) (x : Record) → r ≢ 0 → r < 34 → 0 < j → newest None xs r ≡ newest None (take j xs) r → slice_get xs (j - 1) ≡ Some x → x.destination ≡ r →
+    Some x ≡ creator_in xs r
 creator_found xs j r x n l h same e d =
     sym
     (creator_by xs r n l
@@ -149,7 +186,8 @@ creator_found xs j r x n l h same e d =
     ∙ (ap (after_record (newest None (take (j - 1) xs) r) r) e
     ∙ ap (λ b. cond b (Some x) (newest None (take (j - 1) xs) r)) (eq-eqb x.destination r d)))))
 
-pub creator_passed : (xs : List Record) (j r : ℕ) (x : Record) → 0 < j → newest None xs r ≡ newest None (take j xs) r → slice_get xs (j - 1) ≡ Some x → x.destination ≢ r → newest None xs r ≡ newest None (take (j - 1) xs) r
+pub creator_passed : (xs : List Record) (j r : ℕ) (x : Record) → 0 < j → newest None xs r ≡ newest None (take j xs) r → slice_get xs (j - 1) ≡ Some x → x.destination ≢ r →
+    newest None xs r ≡ newest None (take (j - 1) xs) r
 creator_passed xs j r x h same e d =
     same
     ∙ (one_back r xs j h

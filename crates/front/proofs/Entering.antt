@@ -95,7 +95,8 @@ module _ (P : Program) (C : Sizes) (U V : UpdateUnit) (same : V.tenants ≡ U.te
       one = all ∙ (ap (λ z. length z) (sym same) ∙ sym all')
 
 -- The front at the new seat
-pub entered : (v w : Caller) (base new : Base) (creators : Counted) (path : Path) (P : Program) → IsStill v base creators → GoesOn v.core v.seen w → P ≡ w.core.program → IsLegal w.core.program w.core.sizes w.seen
+pub entered : (v w : Caller) (base new : Base) (creators : Counted) (path : Path) (P : Program) → IsStill v base creators → GoesOn v.core v.seen w → P ≡ w.core.program →
+    IsLegal w.core.program w.core.sizes w.seen
     → path.records ≡ [] → path.base ≡ new → next_at w.core w.seen ≡ new.station % w.core.sizes.ring → told_of new ≡ length (unit_of w.core.program w.core.sizes w.seen).tenants
     → new.registers ≡ base.registers → new.pc ≡ base.pc → new.half ≡ base.half → IsFront P w path creators false
 entered v w base new creators path P s g program legal none is station told registers pc half =
@@ -131,5 +132,6 @@ first_place core h legal none =
     nothing (suc n) = refl
 
 -- where it left, the base has the next station
-pub still_next : (v w : Caller) (base : Base) (creators : Counted) → IsStill v base creators → GoesOn v.core v.seen w → next_at w.core w.seen ≡ next_at v.core v.seen → next_at w.core w.seen ≡ base.station % w.core.sizes.ring
+pub still_next : (v w : Caller) (base : Base) (creators : Counted) → IsStill v base creators → GoesOn v.core v.seen w → next_at w.core w.seen ≡ next_at v.core v.seen →
+    next_at w.core w.seen ≡ base.station % w.core.sizes.ring
 still_next v w base creators s g e = e ∙ ((s.knows.begun (no_notes s.knows.notes s.knows.are)).station ∙ ap (λ (z : Sizes). base.station % z.ring) (sym g.sizes))

@@ -1,5 +1,36 @@
 -- A front between its calls.
-use Rattle.std.proofs.Common.{◌≡◌, ◌≢◌, ℕ, zero, suc, ◌<◌, length, ◌∷◌, Bool, true, false, cond, List, [], ◌++◌, Option, Some, None, replicate, refl, sym, ap, ◌∙◌, subst, arith, ◌≤◌, ◌%◌, leb, leb-true, ⊎_elim}
+use Rattle.std.proofs.Common.{
+  ◌≡◌,
+  ◌≢◌,
+  ℕ,
+  zero,
+  suc,
+  ◌<◌,
+  length,
+  ◌∷◌,
+  Bool,
+  true,
+  false,
+  cond,
+  List,
+  [],
+  ◌++◌,
+  Option,
+  Some,
+  None,
+  replicate,
+  refl,
+  sym,
+  ap,
+  ◌∙◌,
+  subst,
+  arith,
+  ◌≤◌,
+  ◌%◌,
+  leb,
+  leb-true,
+  ⊎_elim,
+}
 use Rattle.std.proofs.lemmas.List.{append-nil}
 use Rattle.std.specs.Prelude.{slice_get, slice_index}
 use Rattle.instructions.specs.Programs.{Program, text_start}
@@ -63,7 +94,8 @@ still_front core P v w path creators rested e f same adds =
     }
 
 -- after a call that knows
-pub front_again : (core : TheCore) (P : Program) (v w : Caller) (path path' : Path) (creators creators' : Counted) (rested rested' : Bool) → v.core ≡ core → IsFront P v path creators rested → IsSame v w
+pub front_again : (core : TheCore) (P : Program) (v w : Caller) (path path' : Path) (creators creators' : Counted) (rested rested' : Bool) → v.core ≡ core → IsFront P v path creators rested →
+    IsSame v w
     → IsLegal core.program core.sizes w.seen → Knows core.program core.sizes (unit_of core.program core.sizes w.seen) path'.records path'.base
     → HasTable core.program (unit_of core.program core.sizes w.seen) (told_of path'.base) creators'.table → (rested' ≡ true → HasRested core w.seen path') → IsFront P w path' creators' rested'
 front_again core P v w path path' creators creators' rested rested' e f same legal knows table rests =
@@ -143,7 +175,8 @@ some_there : (xs ys : List Note) (n : Note) → [] ≢ xs ++ n ∷ ys
 some_there [] ys n e = cc e
 some_there (x ∷ xs) ys n e = cc e
 
-first_table : (P : Program) (C : Sizes) (h : List Entry) → IsLegal P C h → own front h ≡ [] → (told : ℕ) (T : Table) → T.entries ≡ replicate 34 None → length T.latest ≡ 32 → HasTable P (unit_of P C h) told T
+first_table : (P : Program) (C : Sizes) (h : List Entry) → IsLegal P C h → own front h ≡ [] → (told : ℕ) (T : Table) → T.entries ≡ replicate 34 None → length T.latest ≡ 32 →
+    HasTable P (unit_of P C h) told T
 first_table P C h legal none told T entries deep =
     let empty = nobody P C h legal none in
     record {
@@ -188,7 +221,8 @@ new_front core P v path creators u e legal none base entries deep = record {
   by_is = u.by_is;
   program = e ∙ ap (λ (z : TheCore). z.program) (sym u.core_is);
   legal = legal;
-  knows = subst (λ (z : List Record). Knows v.core.program v.core.sizes (unit_of v.core.program v.core.sizes v.seen) z path.base) (sym none) (first_knows v.core.program v.core.sizes v.seen legal u.none path.base base);
+  knows = subst (λ (z : List Record). Knows v.core.program v.core.sizes (unit_of v.core.program v.core.sizes v.seen) z path.base) (sym none)
+      (first_knows v.core.program v.core.sizes v.seen legal u.none path.base base);
 }
 
 pub new_adds : (core : TheCore) (v : Caller) → v.core ≡ core → IsLegal v.core.program v.core.sizes v.seen → AddsNothing core v.seen v.seen

@@ -30,7 +30,8 @@ module _ (P : Program) (C : Sizes) where
   pub at_end : (Fact : UpdateUnit → Type 0) (old new : List Entry) (es : List Event) → Adds P C front old new es → Fact (unit_of P C new) → WasOnce P C old new Fact
   at_end Fact old new es a f = record { point = new; within = record { before_return = starts_same new; behind_call = a.begins }; fact = f }
 
-  pub before_end : (Fact : UpdateUnit → Type 0) (old mid new : List Entry) (es fs : List Event) → Adds P C front old mid es → Adds P C front mid new fs → Fact (unit_of P C mid) → WasOnce P C old new Fact
+  pub before_end : (Fact : UpdateUnit → Type 0) (old mid new : List Entry) (es fs : List Event) → Adds P C front old mid es → Adds P C front mid new fs → Fact (unit_of P C mid) →
+      WasOnce P C old new Fact
   before_end Fact old mid new es fs a b f = record { point = mid; within = record { before_return = b.begins; behind_call = a.begins }; fact = f }
 
   -- the first look
@@ -49,16 +50,19 @@ module _ (P : Program) (C : Sizes) where
     pub looks_spent : seen.state ≡ Free → seen.tag ≡ last_tag → IsSpent C U
     looks_spent free e = next_tag_is P C h legal seen sees free ∙ e
 
-  pub no_instr : (h : List Entry) (records : List Record) (base : Base) → Knows P C (unit_of P C h) records base → (pc : ℕ) → pc ≡ pc_behind base records → instr_at P pc ≡ None → HasNoInstr P (unit_of P C h)
+  pub no_instr : (h : List Entry) (records : List Record) (base : Base) → Knows P C (unit_of P C h) records base → (pc : ℕ) → pc ≡ pc_behind base records → instr_at P pc ≡ None →
+      HasNoInstr P (unit_of P C h)
   no_instr h records base k pc e f = ap (instr_at P) (known_pc P C (unit_of P C h) records base (IsFolded (unit_of P C h) (told_of base)) k ∙ sym e) ∙ f
 
   instr_there : (pc : ℕ) (i : Instr) → instr_at P pc ≡ Some i → instr_at P pc ≢ None
   instr_there pc i e f = let no : Some i ≡ None = sym e ∙ f in absurd (cc no)
 
-  pub some_instr : (h : List Entry) (records : List Record) (base : Base) → Knows P C (unit_of P C h) records base → (pc : ℕ) (i : Instr) → pc ≡ pc_behind base records → instr_at P pc ≡ Some i → ¬ HasNoInstr P (unit_of P C h)
+  pub some_instr : (h : List Entry) (records : List Record) (base : Base) → Knows P C (unit_of P C h) records base → (pc : ℕ) (i : Instr) → pc ≡ pc_behind base records → instr_at P pc ≡ Some i →
+      ¬ HasNoInstr P (unit_of P C h)
   some_instr h records base k pc i e f none = instr_there pc i f (ap (instr_at P) (e ∙ sym (known_pc P C (unit_of P C h) records base (IsFolded (unit_of P C h) (told_of base)) k)) ∙ none)
 
-  pub queue_full : (h : List Entry) (records : List Record) (base : Base) → Knows P C (unit_of P C h) records base → (pc : ℕ) (i : Instr) → pc ≡ pc_behind base records → instr_at P pc ≡ Some i → QueueSays P C (unit_of P C h) i true → IsQueueFull P C (unit_of P C h)
+  pub queue_full : (h : List Entry) (records : List Record) (base : Base) → Knows P C (unit_of P C h) records base → (pc : ℕ) (i : Instr) → pc ≡ pc_behind base records → instr_at P pc ≡ Some i →
+      QueueSays P C (unit_of P C h) i true → IsQueueFull P C (unit_of P C h)
   queue_full h records base k pc i e f q =
       let a = found_at P pc i f in
       record {
@@ -72,7 +76,8 @@ module _ (P : Program) (C : Sizes) where
   same_instr : (i j : Instr) → Some i ≡ Some j → i ≡ j
   same_instr i j e = cc e
 
-  pub queue_free : (h : List Entry) (records : List Record) (base : Base) → Knows P C (unit_of P C h) records base → (pc : ℕ) (i : Instr) → pc ≡ pc_behind base records → instr_at P pc ≡ Some i → QueueSays P C (unit_of P C h) i Rattle.std.proofs.Common.false → ¬ IsQueueFull P C (unit_of P C h)
+  pub queue_free : (h : List Entry) (records : List Record) (base : Base) → Knows P C (unit_of P C h) records base → (pc : ℕ) (i : Instr) → pc ≡ pc_behind base records → instr_at P pc ≡ Some i →
+      QueueSays P C (unit_of P C h) i Rattle.std.proofs.Common.false → ¬ IsQueueFull P C (unit_of P C h)
   queue_free h records base k pc i e f q full =
       let there : pc ≡ address full.index = e ∙ (sym (known_pc P C (unit_of P C h) records base (IsFolded (unit_of P C h) (told_of base)) k) ∙ full.pc) in
       let one : i ≡ instr_of P full.index = same_instr i (instr_of P full.index) (sym f ∙ (ap (instr_at P) there ∙ fetched_at P full.index full.is_there)) in

@@ -90,7 +90,14 @@ module _ (P : Program) (C : Sizes) where
         next = m.next;
         miss = record {
           p = _;
-          named = subst (λ z. IsTenant (unit_of P C h) z m.station i.one.tag IsAny) same (record { tenant = t.tenant; is = t.is; new = t.new; station_is = t.station_is ∙ sym i.station; tag_is = t.tag_is; fact = tt });
+          named = subst (λ z. IsTenant (unit_of P C h) z m.station i.one.tag IsAny) same (record {
+            tenant = t.tenant;
+            is = t.is;
+            new = t.new;
+            station_is = t.station_is ∙ sym i.station;
+            tag_is = t.tag_is;
+            fact = tt;
+          });
           can = can;
         };
       }

@@ -88,7 +88,8 @@ module _ (P : Program) (C : Sizes) (h : List Entry) (legal : IsLegal P C h) wher
     pub retired_left : noted.tenant.standing ≡ Retired → HasLeft seen.value noted.tenant
     retired_left gone = record {
       retired = gone;
-      value = subst (λ o. HasValue o seen.value) (ap (λ z. z.value) (word ∙ ap (λ s. word_by (tag_after C (recent U) n.what.station) s noted.tenant.tag noted.tenant.fate noted.tenant.made) gone)) sees.value_is;
+      value = subst (λ o. HasValue o seen.value) (ap (λ z. z.value) (word ∙ ap (λ s. word_by (tag_after C (recent U) n.what.station) s noted.tenant.tag noted.tenant.fate noted.tenant.made) gone))
+          sees.value_is;
     }
 
   module _ (records : List Record) (base : Base) (Again : Note → Type 0) (k : Stands P C U records base Again) where
@@ -104,7 +105,8 @@ module _ (P : Program) (C : Sizes) (h : List Entry) (legal : IsLegal P C h) wher
 
     -- no tenant is kept: nobody is live
     pub none_kept : k.notes ≡ [] → HasNobody U
-    none_kept e = dead_all (subst (AllByRecursion (λ n. (t : Tenant) → at U.tenants n.at ≡ Some t → IsNotLive t)) (sym (k.path ∙ (ap (λ z. k.gone ++ z) e ∙ Rattle.std.proofs.lemmas.List.append-nil k.gone))) gone_all)
+    none_kept e = dead_all (subst (AllByRecursion (λ n. (t : Tenant) → at U.tenants n.at ≡ Some t → IsNotLive t))
+        (sym (k.path ∙ (ap (λ z. k.gone ++ z) e ∙ Rattle.std.proofs.lemmas.List.append-nil k.gone))) gone_all)
 
     -- the youngest has retired: nobody is live
     pub youngest_left : (l : Last k.notes) → (i : IsNoted P U.tenants l.one) → i.tenant.standing ≡ Retired → HasNobody U

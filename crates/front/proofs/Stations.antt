@@ -1,5 +1,41 @@
 -- The last tenants of stations, and whether all stations are in use.
-use Rattle.std.proofs.Common.{◌≡◌, ◌≢◌, ◌⊎◌, ℕ, suc, ◌+◌, ◌%◌, ◌<◌, ◌≤◌, Bool, true, false, cond, eqb, eqb-true, ne_eqb, List, [], ◌∷◌, ◌++◌, length, Option, Some, None, refl, sym, ap, ◌∙◌, subst, inl, inr, ⊎_elim, arith, true≢false, eq-eqb}
+use Rattle.std.proofs.Common.{
+  ◌≡◌,
+  ◌≢◌,
+  ◌⊎◌,
+  ℕ,
+  suc,
+  ◌+◌,
+  ◌%◌,
+  ◌<◌,
+  ◌≤◌,
+  Bool,
+  true,
+  false,
+  cond,
+  eqb,
+  eqb-true,
+  ne_eqb,
+  List,
+  [],
+  ◌∷◌,
+  ◌++◌,
+  length,
+  Option,
+  Some,
+  None,
+  refl,
+  sym,
+  ap,
+  ◌∙◌,
+  subst,
+  inl,
+  inr,
+  ⊎_elim,
+  arith,
+  true≢false,
+  eq-eqb,
+}
 use Rattle.std.proofs.lemmas.Bool.{cases_lt}
 use Rattle.std.specs.List.{AllByRecursion}
 use Rattle.instructions.specs.Programs.{Program}
@@ -167,7 +203,8 @@ module _ (P : Program) (C : Sizes) (h : List Entry) (legal : IsLegal P C h) wher
     live_room = let few = live_fewer P U k.gone k.notes k.path k.retired in omega (arith, few, k.room)
 
     -- where all stations have had a tenant and the next one is free, the oldest has left
-    pub oldest_left : (seen : Seen StationState) → SeesStation P C h (next_station C (recent U)) seen → seen.state ≡ Free → (n : Note) (ns : List Note) → k.notes ≡ n ∷ ns → C.ring ≤ length k.notes → IsTenant U n.at n.what.station n.what.tag (HasLeft seen.value)
+    pub oldest_left : (seen : Seen StationState) → SeesStation P C h (next_station C (recent U)) seen → seen.state ≡ Free → (n : Note) (ns : List Note) → k.notes ≡ n ∷ ns → C.ring ≤ length k.notes →
+        IsTenant U n.at n.what.station n.what.tag (HasLeft seen.value)
     oldest_left seen sees free n ns e full =
         let noted : IsNoted P U.tenants n = (subst (AllByRecursion (IsNoted P U.tenants)) e (notes_noted P C h legal records base (IsFolded U (told_of base)) k)).0 in
         let newest : IsNewest U n = (subst (AllByRecursion (IsNewest U)) e k.newest).0 in
@@ -184,7 +221,8 @@ module _ (P : Program) (C : Sizes) (h : List Entry) (legal : IsLegal P C h) wher
           new = new;
           station_is = ap (λ (z : Record). z.station) noted.what;
           tag_is = ap (λ (z : Record). z.tag) noted.what;
-          fact = left_there noted.tenant (next_tag C (recent U)) (station_word C (recent U) (next_station C (recent U))) word (free_is _ (sym sees.state_is ∙ ap state_code free)) noted.on seen.value sees.value_is;
+          fact = left_there noted.tenant (next_tag C (recent U)) (station_word C (recent U) (next_station C (recent U))) word (free_is _ (sym sees.state_is ∙ ap state_code free)) noted.on seen.value
+              sees.value_is;
         }
 
     -- a free next station: not all are in use

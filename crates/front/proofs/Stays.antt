@@ -129,7 +129,8 @@ module _ (P : Program) (C : Sizes) (U : UpdateUnit) (by : ℕ) where
   newest_stays Renew b a ok n h = absurd b
   newest_stays (On p act) b a ok n h = still_newest P C U by p act a ok n h
 
-  pub stands_stay : (s : Step) → IsQuiet s → Allowed P C U by s → IsSound P U.tenants → (records : List Record) (base : Base) (Again Again' : Note → Type 0) → ((n : Note) → Again n → Again' n) → Stands P C U records base Again → Stands P C (applied P C U by s) records base Again'
+  pub stands_stay : (s : Step) → IsQuiet s → Allowed P C U by s → IsSound P U.tenants → (records : List Record) (base : Base) (Again Again' : Note → Type 0) → ((n : Note) → Again n → Again' n) →
+      Stands P C U records base Again → Stands P C (applied P C U by s) records base Again'
   stands_stay s b a ok records base Again Again' again k =
       let V = applied P C U by s in
       record {

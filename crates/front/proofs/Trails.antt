@@ -49,7 +49,8 @@ module _ (P : Program) where
   trail_noted (t ∷ ts) = go (on_path t) refl (all_map (IsNoted ts) (IsNoted (t ∷ ts)) (noted_more t ts) (trail P ts) (trail_noted ts))
     where
       go : (b : Bool) → on_path t ≡ b → AllByRecursion (IsNoted (t ∷ ts)) (trail P ts) → AllByRecursion (IsNoted (t ∷ ts)) (trail P (t ∷ ts))
-      go true e all = subst (AllByRecursion (IsNoted (t ∷ ts))) (sym (trail_on t ts e)) (all_both (IsNoted (t ∷ ts)) (trail P ts) (note P ts t ∷ []) all (record { tenant = t; is = at_new t ts; on = e; what = refl }, tt))
+      go true e all = subst (AllByRecursion (IsNoted (t ∷ ts))) (sym (trail_on t ts e)) (all_both (IsNoted (t ∷ ts)) (trail P ts) (note P ts t ∷ []) all
+          (record { tenant = t; is = at_new t ts; on = e; what = refl }, tt))
       go false e all = subst (AllByRecursion (IsNoted (t ∷ ts))) (sym (trail_off t ts e)) all
 
   pub trail_all : (Q : Note → Type 0) (ts : List Tenant) → AllByRecursion Q (trail P ts) → (p : ℕ) (t : Tenant) → at ts p ≡ Some t → on_path t ≡ true → Q (record { at = p; what = record_of P t })
@@ -152,5 +153,9 @@ half_of_last P us xs x e =
 pub same_front : (P : Program) (us vs : List Tenant) → trail P us ≡ trail P vs → (front_pc us ≡ front_pc vs) × (front_half P us ≡ front_half P vs)
 same_front P us vs e = ⊎_elim
     (λ none. (pc_none us (none_on P us (e ∙ none)) ∙ sym (pc_none vs (none_on P vs none)), half_none P us (none_on P us (e ∙ none)) ∙ sym (half_none P vs (none_on P vs none))))
-    (λ (l : Last (trail P vs)). (pc_of_last P us l.front l.one (e ∙ l.is) ∙ sym (pc_of_last P vs l.front l.one l.is), half_of_last P us l.front l.one (e ∙ l.is) ∙ sym (half_of_last P vs l.front l.one l.is)))
+    (λ (l : Last (trail P vs)). (
+      pc_of_last P us l.front l.one (e ∙ l.is) ∙ sym (pc_of_last P vs l.front l.one l.is),
+      half_of_last P us l.front l.one (e ∙ l.is) ∙
+          sym (half_of_last P vs l.front l.one l.is),
+    ))
     (last_cases (trail P vs))

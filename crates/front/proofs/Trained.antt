@@ -1,5 +1,41 @@
 -- What the predictor is told is what the last tenant of the station did.
-use Rattle.std.proofs.Common.{◌≡◌, ◌≢◌, ℕ, ◌<◌, Bool, ◌&&◌, List, ◌∷◌, ◌++◌, length, Option, Some, None, refl, sym, ap, ◌∙◌, subst, zero, suc, ◌+◌, ◌-◌, ◌≤◌, [], cond, eqb, eqb-true, eq-eqb, true, false, true≢false, inl, inr, ⊎_elim, arith}
+use Rattle.std.proofs.Common.{
+  ◌≡◌,
+  ◌≢◌,
+  ℕ,
+  ◌<◌,
+  Bool,
+  ◌&&◌,
+  List,
+  ◌∷◌,
+  ◌++◌,
+  length,
+  Option,
+  Some,
+  None,
+  refl,
+  sym,
+  ap,
+  ◌∙◌,
+  subst,
+  zero,
+  suc,
+  ◌+◌,
+  ◌-◌,
+  ◌≤◌,
+  [],
+  cond,
+  eqb,
+  eqb-true,
+  eq-eqb,
+  true,
+  false,
+  true≢false,
+  inl,
+  inr,
+  ⊎_elim,
+  arith,
+}
 use Rattle.std.specs.List.{AllByRecursion}
 use Rattle.instructions.specs.Operations.{outcome_by}
 use Rattle.instructions.specs.Programs.{Program}
@@ -12,7 +48,28 @@ use Rattle.inorder.specs.History.{IsLegal, unit_of}
 use Rattle.inorder.specs.Callers.{IsLastAt, is_retired, stands_retired}
 use Rattle.inorder.specs.StationWords.{last_of}
 use Rattle.inorder.specs.Steps.{CanRetire}
-use Rattle.inorder.specs.Tenants.{behind, Addr, Busy, Done, Fate, Live, Miss, Open, Retired, Squashed, Standing, Stopped, Tenant, computed, computed_next, instr, kind_of, next_by, operand_value, stands_on_path}
+use Rattle.inorder.specs.Tenants.{
+  behind,
+  Addr,
+  Busy,
+  Done,
+  Fate,
+  Live,
+  Miss,
+  Open,
+  Retired,
+  Squashed,
+  Standing,
+  Stopped,
+  Tenant,
+  computed,
+  computed_next,
+  instr,
+  kind_of,
+  next_by,
+  operand_value,
+  stands_on_path,
+}
 use Rattle.inorder.specs.Unit.{Sizes, UpdateUnit, at, newest_of, next_station, older, recent, younger}
 use Rattle.inorder.proofs.Basics.{split_at}
 use Rattle.inorder.proofs.Fated.{follows_from}
@@ -136,14 +193,16 @@ untold_spot us told s t e =
     let below = at_below us l.0.p t l.0.is in
     record { spot = l.0; new = omega (arith, l.1, below) }
 
-pub untold_last : (us : List Tenant) (told p s : ℕ) (t : Tenant) → at us p ≡ Some t → told ≤ p → t.station ≡ s → ((q : ℕ) (u : Tenant) → p < q → at us q ≡ Some u → u.station ≢ s) → last_of (untold told us) s ≡ Some t
+pub untold_last : (us : List Tenant) (told p s : ℕ) (t : Tenant) → at us p ≡ Some t → told ≤ p → t.station ≡ s → ((q : ℕ) (u : Tenant) → p < q → at us q ≡ Some u → u.station ≢ s) →
+    last_of (untold told us) s ≡ Some t
 untold_last us told p s t is new place last =
     let V : UpdateUnit = record { tenants = us; fresh = length us - told } in
     let below = at_below us p t is in
     ap (last_of (untold told us)) (sym place)
     ∙ last_of_recent V p t is (new_by V p (omega (arith, new, below))) (λ q u lt e f. last q u lt e (f ∙ place))
 
-module _ {S : Type 0} (Learns : S → ℕ → ℕ → S → Type 0) (P : Program) (C : Sizes) (h : List Entry) (legal : IsLegal P C h) (records : List Record) (base : Base) (k : Knows P C (unit_of P C h) records base) where
+module _ {S : Type 0} (Learns : S → ℕ → ℕ → S → Type 0) (P : Program) (C : Sizes) (h : List Entry) (legal : IsLegal P C h) (records : List Record) (base : Base)
+    (k : Knows P C (unit_of P C h) records base) where
   abbrev U : UpdateUnit
   U = unit_of P C h
 
@@ -173,21 +232,24 @@ module _ {S : Type 0} (Learns : S → ℕ → ℕ → S → Type 0) (P : Program
           subst (AllByRecursion Q) (sym k.path)
           (all_both Q k.gone k.notes
           (all_two (IsNoted P U.tenants) (IsFolded U (told_of base)) Q reused_never k.gone (all_front (IsNoted P U.tenants) k.gone k.notes noted) k.again)
-          (all_two (IsNoted P U.tenants) (λ n. n.what.station ≢ next) Q other_never k.notes (notes_noted P C h legal records base (IsFolded U (told_of base)) k) (others_next P C U records base (IsFolded U (told_of base)) k (stands_right P C h legal) few)))
+          (all_two (IsNoted P U.tenants) (λ n. n.what.station ≢ next) Q other_never k.notes (notes_noted P C h legal records base (IsFolded U (told_of base)) k)
+          (others_next P C U records base (IsFolded U (told_of base)) k (stands_right P C h legal) few)))
 
       by : (t : Tenant) (st : Standing) → t.standing ≡ st → last_of (untold (told_of base) U.tenants) next ≡ Some t → ToldIf Learns (stands_retired st && is_guessed P t) t.pc (computed_next P t) s s
       by t Live e f = refl
       by t Squashed e f = refl
       by t Retired e f =
           let l = untold_spot U.tenants (told_of base) next t f in
-          absurd (trail_all P (λ n. (t : Tenant) → at U.tenants n.at ≡ Some t → told_of base ≤ n.at → t.station ≡ next → IsLastAt U n.at next → ⊥) U.tenants all_never l.spot.p t l.spot.is (ap stands_on_path e) t l.spot.is l.new l.spot.place l.spot.last)
+          absurd (trail_all P (λ n. (t : Tenant) → at U.tenants n.at ≡ Some t → told_of base ≤ n.at → t.station ≡ next → IsLastAt U n.at next → ⊥) U.tenants all_never l.spot.p t l.spot.is
+          (ap stands_on_path e) t l.spot.is l.new l.spot.place l.spot.last)
 
       go : (o : Option Tenant) → last_of (untold (told_of base) U.tenants) next ≡ o → IsTold Learns P o s s
       go None e = refl
       go (Some t) e = by t t.standing refl e
 
   -- the oldest leaves: it is told of
-  pub oldest_told : (n : Note) (ns : List Note) → k.notes ≡ n ∷ ns → n.what.station ≡ next → (left : ℕ) → IsLeft U n.what left → (s s' : S) → ToldIf Learns n.what.guessed n.what.pc n.what.next s s' → IsTold Learns P (last_of (untold (told_of base) U.tenants) next) s s'
+  pub oldest_told : (n : Note) (ns : List Note) → k.notes ≡ n ∷ ns → n.what.station ≡ next → (left : ℕ) → IsLeft U n.what left → (s s' : S) → ToldIf Learns n.what.guessed n.what.pc n.what.next s s' →
+      IsTold Learns P (last_of (untold (told_of base) U.tenants) next) s s'
   oldest_told n ns e place left gone s s' told =
       let noted : IsNoted P U.tenants n = (subst (AllByRecursion (IsNoted P U.tenants)) e (notes_noted P C h legal records base (IsFolded U (told_of base)) k)).0 in
       let newest : IsNewest U n = (subst (AllByRecursion (IsNewest U)) e k.newest).0 in

@@ -34,7 +34,8 @@ head_of : (a b : Record) (us vs : List Record) → a ∷ us ≡ b ∷ vs → a �
 head_of a b us vs e = cc e
 
 -- where nothing was added before
-pub lets_since : (P : Program) (C : Sizes) (begin old new : List Entry) (station tag pc predicted : ℕ) → Adds P C front begin old [] → LetsOut P C old new station tag pc predicted → LetsOut P C begin new station tag pc predicted
+pub lets_since : (P : Program) (C : Sizes) (begin old new : List Entry) (station tag pc predicted : ℕ) → Adds P C front begin old [] → LetsOut P C old new station tag pc predicted →
+    LetsOut P C begin new station tag pc predicted
 lets_since P C begin old new station tag pc predicted a l =
     let events = l.second_asked ++ (l.first_asked ++ Does (Let l.index predicted l.first l.second) ∷ []) in
     record {
@@ -54,19 +55,24 @@ lets_since P C begin old new station tag pc predicted a l =
       adds = subst (λ z. Adds P C front begin new z) (append-nil events) (adds_on P C front begin old new [] events a l.adds);
     }
 
-module _ {S : Type 0} (Predicts : S → ℕ → Instr → ℕ → S → Type 0) (Learns : S → ℕ → ℕ → S → Type 0) (P : Program) (C : Sizes) (begin old new : List Entry) (records : List Record) (base : Base) (k : Knows P C (unit_of P C begin) records base) (adds : Adds P C front begin old [])
-    (f : Fetched) (oldest : OldestLeft C (unit_of P C old) records f.left) (ring : ℕ) (ring_is : ring ≡ C.ring) (path path' : Path) (path_is : path.records ≡ records) (predicted tag : ℕ) (d : IsDispatched P C old new f predicted tag) where
+module _ {S : Type 0} (Predicts : S → ℕ → Instr → ℕ → S → Type 0) (Learns : S → ℕ → ℕ → S → Type 0) (P : Program) (C : Sizes) (begin old new : List Entry) (records : List Record) (base : Base)
+    (k : Knows P C (unit_of P C begin) records base) (adds : Adds P C front begin old [])
+    (f : Fetched) (oldest : OldestLeft C (unit_of P C old) records f.left) (ring : ℕ) (ring_is : ring ≡ C.ring) (path path' : Path) (path_is : path.records ≡ records) (predicted tag : ℕ)
+    (d : IsDispatched P C old new f predicted tag) where
   abbrev point : List Entry
   point = d.lets.point
 
   knows_there : Knows P C (unit_of P C point) records base
-  knows_there = stays P C (λ U. Knows P C U records base) (knows_stable P C records base) old point d.lets.before (stays P C (λ U. Knows P C U records base) (knows_stable P C records base) begin old adds k)
+  knows_there = stays P C (λ U. Knows P C U records base) (knows_stable P C records base) old point d.lets.before
+      (stays P C (λ U. Knows P C U records base) (knows_stable P C records base) begin old adds k)
 
-  told_there : (left : Option Record) → Releases ring f.left path left path' → (s s' : S) → ToldOf Learns left s s' → IsTold Learns P (last_of (untold (told_of base) (unit_of P C point).tenants) f.station) s s'
+  told_there : (left : Option Record) → Releases ring f.left path left path' → (s s' : S) → ToldOf Learns left s s' →
+      IsTold Learns P (last_of (untold (told_of base) (unit_of P C point).tenants) f.station) s s'
   told_there None r s s' told =
       let few : length records < C.ring = subst (λ z. length records < z) ring_is (subst (λ z. length z < ring) path_is r.0) in
       subst (λ z. IsTold Learns P (last_of (untold (told_of base) (unit_of P C point).tenants) z) s s') (sym d.lets.station_is)
-      (subst (λ z. IsTold Learns P (last_of (untold (told_of base) (unit_of P C point).tenants) (next_station C (recent (unit_of P C point)))) s z) (sym told) (nobody_told Learns P C point d.lets.before.legal records base knows_there few s))
+      (subst (λ z. IsTold Learns P (last_of (untold (told_of base) (unit_of P C point).tenants) (next_station C (recent (unit_of P C point)))) s z) (sym told)
+      (nobody_told Learns P C point d.lets.before.legal records base knows_there few s))
   told_there (Some x) r s s' told = go knows_there.notes refl
     where
       are : records ≡ x ∷ path'.records
@@ -87,7 +93,8 @@ module _ {S : Type 0} (Predicts : S → ℕ → Instr → ℕ → S → Type 0) 
           subst (λ z. IsTold Learns P (last_of (untold (told_of base) (unit_of P C point).tenants) z) s s') (sym d.lets.station_is)
           (oldest_told Learns P C point d.lets.before.legal records base knows_there n ns e place f.left left s s' its)
 
-  pub is_let : (left : Option Record) → Releases ring f.left path left path' → (s s' : S) → Guesses Predicts Learns left f.instr f.half f.pc predicted s s' → IsLet Predicts Learns P C (told_of base) begin new s s' f.station tag f.pc
+  pub is_let : (left : Option Record) → Releases ring f.left path left path' → (s s' : S) → Guesses Predicts Learns left f.instr f.half f.pc predicted s s' →
+      IsLet Predicts Learns P C (told_of base) begin new s s' f.station tag f.pc
   unfolding lets_since
   is_let left r s s' g = record {
     predicted = predicted;

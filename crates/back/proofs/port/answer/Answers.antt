@@ -20,7 +20,8 @@ pub returns-in-Err-clause-err : goal.returns-in-Err-clause-err
 returns-in-Err-clause-err c p asked =
     let d = c.args.core.now in
     let a = subst (λ x. Adds d.program d.sizes x c.args.seat.now.seen c.search.new.seat.seen []) c.requires.by c.search.ensures.history in
-    unknown_answers d.program d.sizes c.args.seat.now.seen c.search.new.seat.seen a c.args.head c.args.at c.requires.head_is c.requires.head c.requires.at p c.args.load.now asked c.in-Err.k c.in-Err.ensures.err
+    unknown_answers d.program d.sizes c.args.seat.now.seen c.search.new.seat.seen a c.args.head c.args.at c.requires.head_is c.requires.head c.requires.at p c.args.load.now asked c.in-Err.k
+    c.in-Err.ensures.err
 
 pub returns-in_default-clause-ok : goal.returns-in_default-clause-ok
 returns-in_default-clause-ok c p asked =
@@ -39,7 +40,8 @@ returns-in_default-clause-ok c p asked =
 pub returns-in-Forward-clause-history : goal.returns-in-Forward-clause-history
 returns-in-Forward-clause-history c =
     let d = c.args.core.now in
-    two_looks d.program d.sizes c.args.seat.now.by c.search.new.seat.by c.args.seat.now.seen c.search.new.seat.seen c.operand-data.new.seat.seen c.search.ensures.kept.by c.search.ensures.history c.operand-data.ensures.history
+    two_looks d.program d.sizes c.args.seat.now.by c.search.new.seat.by c.args.seat.now.seen c.search.new.seat.seen c.operand-data.new.seat.seen c.search.ensures.kept.by c.search.ensures.history
+    c.operand-data.ensures.history
 
 pub returns-in-Forward-clause-ok : goal.returns-in-Forward-clause-ok
 returns-in-Forward-clause-ok c p asked =
@@ -61,7 +63,8 @@ returns-in-Forward-clause-ok c p asked =
     let shows = subst (λ r. AtStation (unit_in d new.seen) n ((c.args.head + k) % r) (λ u. u.second.value ≡ content_in word.state word.value)) c.ring-ring.ensures.value shown in
     let says = (λ i. answer (record e { content = sym c.content-content.ensures i } ∷ sym c.entry_of.ensures i ∷ []) 1) ∙ sym c.ask.ensures in
     subst (λ v. CanLoad d.program (unit_in d new.seen) p l.address v ⊎ IsStale (unit_in d new.seen) p) (sym c.loaded-in-Forward.ensures)
-    (forward_answers d.program d.sizes old.seen new.seen whole c.args.head c.args.at c.requires.head_is c.requires.head c.requires.at p l asked k e still (content_in word.state word.value) shows c.in-Forward.raw (says ∙ c.in-Forward.is))
+    (forward_answers d.program d.sizes old.seen new.seen whole c.args.head c.args.at c.requires.head_is c.requires.head c.requires.at p l asked k e still (content_in word.state word.value) shows
+    c.in-Forward.raw (says ∙ c.in-Forward.is))
 
 pub returns-in_default-ask : goal.returns-in_default-ask
 returns-in_default-ask c =
@@ -88,5 +91,6 @@ returns-in_default-ask c =
       history = two_looks d.program d.sizes old.by mid.by old.seen mid.seen new.seen c.search.ensures.kept.by c.search.ensures.history c.operand-data.ensures.history;
       bound = found.bound;
       ok = tt;
-      err = λ p asked. waiting_answers d.program d.sizes old.seen new.seen whole c.args.head c.args.at c.requires.head_is c.requires.head c.requires.at p l asked k e still (content_in word.state word.value) shows (λ raw h. c.in_default-ask.not-Forward raw (sym says ∙ h));
+      err = λ p asked. waiting_answers d.program d.sizes old.seen new.seen whole c.args.head c.args.at c.requires.head_is c.requires.head c.requires.at p l asked k e still
+          (content_in word.state word.value) shows (λ raw h. c.in_default-ask.not-Forward raw (sym says ∙ h));
     }

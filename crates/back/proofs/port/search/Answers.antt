@@ -31,7 +31,8 @@ returns-then-is_none-clause-err c =
     let next : k.k ≡ (k.k - 1) + 1 = omega (arith, some) in
     let bound = k.invariant.bound in
     let says = ap (λ (x : QueueEntry). answer (e ∷ x ∷ []) 1) (sym c.entry_of-asked.ensures) ∙ sym c.ask.ensures in
-    step_unknown d.program d.sizes old.seen mid.seen new.seen a b c.args.head d.sizes.ring (k.k - 1) k.k c.args.at l next bound e shows k.found k.invariant.found c.in-Blocked.field-0 (says ∙ c.in-Blocked.is) (is_nothing e.address c.is_none.result c.is_none.ensures c.if-is_none.true)
+    step_unknown d.program d.sizes old.seen mid.seen new.seen a b c.args.head d.sizes.ring (k.k - 1) k.k c.args.at l next bound e shows k.found k.invariant.found c.in-Blocked.field-0
+    (says ∙ c.in-Blocked.is) (is_nothing e.address c.is_none.result c.is_none.ensures c.if-is_none.true)
 
 pub loop-k-preserved-then-is_none-2 : goal.loop-k-preserved-then-is_none-2
 loop-k-preserved-then-is_none-2 c =
@@ -56,7 +57,9 @@ loop-k-preserved-then-is_none-2 c =
       woken = c.look-store.ensures.woken ∙ k.invariant.woken;
       history = two_looks d.program d.sizes old.by mid.by old.seen mid.seen new.seen k.invariant.kept.by k.invariant.history c.look-store.ensures.history;
       bound = omega (arith, bound, some);
-      found = step_met d.program d.sizes old.seen mid.seen new.seen a b c.args.head d.sizes.ring (k.k - 1) k.k c.args.at l next bound e shows (subst (λ o. HasFound d.program (unit_in d mid.seen) (length (unit_in d old.seen).tenants) c.args.head d.sizes.ring k.k c.args.at l.address (width l.op) o) none k.invariant.found) c.in-Blocked.field-0 there.0 (says ∙ c.in-Blocked.is) there.1;
+      found = step_met d.program d.sizes old.seen mid.seen new.seen a b c.args.head d.sizes.ring (k.k - 1) k.k c.args.at l next bound e shows
+          (subst (λ o. HasFound d.program (unit_in d mid.seen) (length (unit_in d old.seen).tenants) c.args.head d.sizes.ring k.k c.args.at l.address (width l.op) o) none k.invariant.found)
+          c.in-Blocked.field-0 there.0 (says ∙ c.in-Blocked.is) there.1;
     }
 
 pub loop-k-preserved-else-is_none-2 : goal.loop-k-preserved-else-is_none-2
@@ -107,7 +110,8 @@ loop-k-preserved c =
       woken = c.look-store.ensures.woken ∙ k.invariant.woken;
       history = two_looks d.program d.sizes old.by mid.by old.seen mid.seen new.seen k.invariant.kept.by k.invariant.history c.look-store.ensures.history;
       bound = omega (arith, bound, some);
-      found = step_memory d.program d.sizes old.seen mid.seen new.seen a b c.args.head d.sizes.ring (k.k - 1) k.k c.args.at l next bound e shows k.found k.invariant.found (λ u x. passed_of e l d.program u x (memory_else e l x.content (λ i h. c.in_default.not-Blocked i (sym says ∙ h))));
+      found = step_memory d.program d.sizes old.seen mid.seen new.seen a b c.args.head d.sizes.ring (k.k - 1) k.k c.args.at l next bound e shows k.found k.invariant.found
+          (λ u x. passed_of e l d.program u x (memory_else e l x.content (λ i h. c.in_default.not-Blocked i (sym says ∙ h))));
     }
 
 pub returns-clause-ok : goal.returns-clause-ok

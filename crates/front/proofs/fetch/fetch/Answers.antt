@@ -17,7 +17,8 @@ returns-in_default c =
       kept = c.look-ahead.ensures.kept;
       history = adds;
       ok = tt;
-      err = full_now P C old h c.args.path.now.records c.args.path.now.base c.requires.knows adds c.ring.result c.next_station-station.result c.ring.ensures.value c.ring.ensures.least c.next_station-station.ensures.value c.look-ahead.result c.look-ahead.ensures.reply c.in_default.not-Free;
+      err = full_now P C old h c.args.path.now.records c.args.path.now.base c.requires.knows adds c.ring.result c.next_station-station.result c.ring.ensures.value c.ring.ensures.least
+          c.next_station-station.ensures.value c.look-ahead.result c.look-ahead.ensures.reply c.in_default.not-Free;
     }
 
 pub returns-in_default-fetch-clause-err : goal.returns-in_default-fetch-clause-err
@@ -28,7 +29,8 @@ returns-in_default-fetch-clause-err c =
     let h = c.look-ahead.new.seat.seen in
     let adds : Adds P C front old h [] = subst (λ i. Adds P C i old h []) c.requires.by c.look-ahead.ensures.history in
     let none : instr_at P c.front_pc-pc.result ≡ None = ap (λ z. instr_at z c.front_pc-pc.result) (sym c.requires.program) ∙ (sym c.fetch.ensures ∙ c.in_default-fetch.is) in
-    no_instr_now P C old h c.args.path.now.records c.args.path.now.base c.requires.knows adds c.ring.result c.next_station-station.result c.ring.ensures.value c.ring.ensures.least c.next_station-station.ensures.value c.look-ahead.result c.look-ahead.ensures.reply c.in-Free.is c.front_pc-pc.result c.front_pc-pc.ensures none
+    no_instr_now P C old h c.args.path.now.records c.args.path.now.base c.requires.knows adds c.ring.result c.next_station-station.result c.ring.ensures.value c.ring.ensures.least
+    c.next_station-station.ensures.value c.look-ahead.result c.look-ahead.ensures.reply c.in-Free.is c.front_pc-pc.result c.front_pc-pc.ensures none
 
 pub queue_is_full-requires-clause-knows : goal.queue_is_full-requires-clause-knows
 queue_is_full-requires-clause-knows c =
@@ -37,7 +39,8 @@ queue_is_full-requires-clause-knows c =
     let old = c.args.seat.now.seen in
     let h = c.look-ahead.new.seat.seen in
     let adds : Adds P C front old h [] = subst (λ i. Adds P C i old h []) c.requires.by c.look-ahead.ensures.history in
-    knows_now P C old h c.args.path.now.records c.args.path.now.base c.requires.knows adds c.ring.result c.next_station-station.result c.ring.ensures.value c.ring.ensures.least c.next_station-station.ensures.value c.look-ahead.result c.look-ahead.ensures.reply
+    knows_now P C old h c.args.path.now.records c.args.path.now.base c.requires.knows adds c.ring.result c.next_station-station.result c.ring.ensures.value c.ring.ensures.least
+    c.next_station-station.ensures.value c.look-ahead.result c.look-ahead.ensures.reply
 
 pub returns-then-queue_is_full-clause-history : goal.returns-then-queue_is_full-clause-history
 returns-then-queue_is_full-clause-history c =
@@ -56,7 +59,9 @@ returns-then-queue_is_full-clause-err c =
     let h = c.look-ahead.new.seat.seen in
     let adds : Adds P C front old h [] = subst (λ i. Adds P C i old h []) c.requires.by c.look-ahead.ensures.history in
     let there : instr_at P c.front_pc-pc.result ≡ Some c.in-Some.instr = ap (λ z. instr_at z c.front_pc-pc.result) (sym c.requires.program) ∙ (sym c.fetch.ensures ∙ c.in-Some.is) in
-    queue_full_now P C old h c.args.path.now.records c.args.path.now.base c.requires.knows adds c.ring.result c.next_station-station.result c.ring.ensures.value c.ring.ensures.least c.next_station-station.ensures.value c.look-ahead.result c.look-ahead.ensures.reply c.in-Free.is c.front_pc-pc.result c.front_pc-pc.ensures c.in-Some.instr there c.queue_is_full.new.seat.seen c.queue_is_full.ensures.history c.if-queue_is_full.ensures.reply
+    queue_full_now P C old h c.args.path.now.records c.args.path.now.base c.requires.knows adds c.ring.result c.next_station-station.result c.ring.ensures.value c.ring.ensures.least
+    c.next_station-station.ensures.value c.look-ahead.result c.look-ahead.ensures.reply c.in-Free.is c.front_pc-pc.result c.front_pc-pc.ensures c.in-Some.instr there c.queue_is_full.new.seat.seen
+    c.queue_is_full.ensures.history c.if-queue_is_full.ensures.reply
 
 pub returns-then-ahead-eq-LAST_TAG-clause-history : goal.returns-then-ahead-eq-LAST_TAG-clause-history
 returns-then-ahead-eq-LAST_TAG-clause-history c =
@@ -75,7 +80,9 @@ returns-then-ahead-eq-LAST_TAG-clause-err c =
     let h = c.look-ahead.new.seat.seen in
     let adds : Adds P C front old h [] = subst (λ i. Adds P C i old h []) c.requires.by c.look-ahead.ensures.history in
     let there : instr_at P c.front_pc-pc.result ≡ Some c.in-Some.instr = ap (λ z. instr_at z c.front_pc-pc.result) (sym c.requires.program) ∙ (sym c.fetch.ensures ∙ c.in-Some.is) in
-    spent_now P C old h c.args.path.now.records c.args.path.now.base c.requires.knows adds c.ring.result c.next_station-station.result c.ring.ensures.value c.ring.ensures.least c.next_station-station.ensures.value c.look-ahead.result c.look-ahead.ensures.reply c.in-Free.is c.front_pc-pc.result c.front_pc-pc.ensures c.in-Some.instr there c.queue_is_full.new.seat.seen c.queue_is_full.ensures.history c.if-queue_is_full.ensures.reply c.if-ahead-eq-LAST_TAG.true
+    spent_now P C old h c.args.path.now.records c.args.path.now.base c.requires.knows adds c.ring.result c.next_station-station.result c.ring.ensures.value c.ring.ensures.least
+    c.next_station-station.ensures.value c.look-ahead.result c.look-ahead.ensures.reply c.in-Free.is c.front_pc-pc.result c.front_pc-pc.ensures c.in-Some.instr there c.queue_is_full.new.seat.seen
+    c.queue_is_full.ensures.history c.if-queue_is_full.ensures.reply c.if-ahead-eq-LAST_TAG.true
 
 pub returns-clause-history : goal.returns-clause-history
 returns-clause-history c =
@@ -94,4 +101,7 @@ returns-clause-ok c =
     let h = c.look-ahead.new.seat.seen in
     let adds : Adds P C front old h [] = subst (λ i. Adds P C i old h []) c.requires.by c.look-ahead.ensures.history in
     let there : instr_at P c.front_pc-pc.result ≡ Some c.in-Some.instr = ap (λ z. instr_at z c.front_pc-pc.result) (sym c.requires.program) ∙ (sym c.fetch.ensures ∙ c.in-Some.is) in
-    can_fetch P C old h c.args.path.now.records c.args.path.now.base c.requires.knows adds c.ring.result c.next_station-station.result c.ring.ensures.value c.ring.ensures.least c.next_station-station.ensures.value c.look-ahead.result c.look-ahead.ensures.reply c.in-Free.is c.front_pc-pc.result c.front_pc-pc.ensures c.in-Some.instr there c.queue_is_full.new.seat.seen c.queue_is_full.ensures.history c.front_half-half.result c.front_half-half.ensures c.if-queue_is_full.ensures.reply c.if-ahead-eq-LAST_TAG.false c.look-ahead.ensures.tag c.next_station-station.ensures.small
+    can_fetch P C old h c.args.path.now.records c.args.path.now.base c.requires.knows adds c.ring.result c.next_station-station.result c.ring.ensures.value c.ring.ensures.least
+    c.next_station-station.ensures.value c.look-ahead.result c.look-ahead.ensures.reply c.in-Free.is c.front_pc-pc.result c.front_pc-pc.ensures c.in-Some.instr there c.queue_is_full.new.seat.seen
+    c.queue_is_full.ensures.history c.front_half-half.result c.front_half-half.ensures c.if-queue_is_full.ensures.reply c.if-ahead-eq-LAST_TAG.false c.look-ahead.ensures.tag
+    c.next_station-station.ensures.small

@@ -12,7 +12,8 @@ look-seen-requires-clause-station g c =
     let P = c.args.core.now.program in
     let C = c.args.core.now.sizes in
     let inv = c.loop-oldest.invariant in
-    all_get (λ x. x.station < C.ring) c.loop-oldest.path.records (small_stations P C c.loop-oldest.seat.seen inv.adds.legal c.loop-oldest.path.records c.loop-oldest.path.base IsAnyone inv.folding.stands (omega (arith, c.requires.least))) 0 c.in-Some.oldest (sym c.at.ensures ∙ c.in-Some.is)
+    all_get (λ x. x.station < C.ring) c.loop-oldest.path.records (small_stations P C c.loop-oldest.seat.seen inv.adds.legal c.loop-oldest.path.records c.loop-oldest.path.base IsAnyone
+    inv.folding.stands (omega (arith, c.requires.least))) 0 c.in-Some.oldest (sym c.at.ensures ∙ c.in-Some.is)
 
 pub loop-oldest-preserved : goal.loop-oldest-preserved
 loop-oldest-preserved g c =
@@ -32,7 +33,8 @@ loop-oldest-preserved g c =
       adds = adds_on P C front c.args.seat.now.seen old new [] [] inv.adds mine;
       folding = fold_more core old new path c.fold.new.self mine inv.folding inv.nobody c.in-Some.oldest c.look-seen.result c.look-seen.ensures.reply out;
       nobody = nobody_now core old new path c.fold.new.self mine inv.folding inv.nobody;
-      told = told_more g.P.Predictor.Learns c.args.path.now.records path.records c.fold.new.self.records c.in-Some.oldest c.args.predictor.now c.loop-oldest.predictor c.tell.new.predictor inv.told out.records c.tell.ensures;
+      told = told_more g.P.Predictor.Learns c.args.path.now.records path.records c.fold.new.self.records c.in-Some.oldest c.args.predictor.now c.loop-oldest.predictor c.tell.new.predictor inv.told
+          out.records c.tell.ensures;
     }
 
 pub returns-clause-none : goal.returns-clause-none
@@ -40,4 +42,5 @@ returns-clause-none g c = none_left c.loop-oldest.path.records (sym c.at.ensures
 
 pub returns-clause-tells : goal.returns-clause-tells
 returns-clause-tells g c =
-    told_all g.P.Predictor.Learns c.args.path.now.records c.loop-oldest.path.records c.args.predictor.now c.loop-oldest.predictor c.loop-oldest.invariant.told (none_left c.loop-oldest.path.records (sym c.at.ensures ∙ c.in_default.is))
+    told_all g.P.Predictor.Learns c.args.path.now.records c.loop-oldest.path.records c.args.predictor.now c.loop-oldest.predictor c.loop-oldest.invariant.told
+    (none_left c.loop-oldest.path.records (sym c.at.ensures ∙ c.in_default.is))

@@ -18,7 +18,8 @@ invariant_of-self g c =
     let core = ap (λ (s : TheBack). s.core) c.self.view_is ∙ c.requires.core in
     let reply = subst (λ (d : TheCore). RefreshAnswers d b.seat.by b.seat.seen c.scan.new.seat.seen c.scan.result) (sym core) c.scan.ensures.reply in
     let calm = is_calm b.seat.core b.seat.by b.seat.seen c.scan.new.seat.seen c.scan.result reply in
-    kept_by g.J.Naming.program b.program b.committed b.low b.head b.ended b.publisher b.seat c.scan.new.seat calm.events c.self.invariant c.scan.ensures.kept.core c.scan.ensures.kept.by calm.adds calm.quiet
+    kept_by g.J.Naming.program b.program b.committed b.low b.head b.ended b.publisher b.seat c.scan.new.seat calm.events c.self.invariant c.scan.ensures.kept.core c.scan.ensures.kept.by calm.adds
+    calm.quiet
 
 pub returns-clause-kept : goal.returns-clause-kept
 returns-clause-kept g c =

@@ -4,4 +4,5 @@ use Rattle.front.proofs.dispatcher.Front.meet.Goals as goal
 
 pub invariant_of-self : goal.invariant_of-self
 invariant_of-self g c =
-    still_front c.args.core.now c.self.inside.program.now c.self.inside.seat c.meet.new.one c.self.inside.path c.self.inside.creators.counted c.self.inside.rested (ap (λ z. z.core) c.self.view_is ∙ c.requires.core) c.self.invariant c.meet.ensures.one_kept c.meet.ensures.one_history
+    still_front c.args.core.now c.self.inside.program.now c.self.inside.seat c.meet.new.one c.self.inside.path c.self.inside.creators.counted c.self.inside.rested
+    (ap (λ z. z.core) c.self.view_is ∙ c.requires.core) c.self.invariant c.meet.ensures.one_kept c.meet.ensures.one_history

@@ -16,7 +16,8 @@ invariant_of-result g c =
       station = c.new-base.ensures.station;
       told = ap (λ (z : Caller). length (unit_of z.core.program z.core.sizes z.seen).tenants) c.new-base.ensures.rested;
     } in
-    new_front c.args.core.now c.args.program.now v c.new.result c.new-2.result.counted c.requires.seat c.requires.program c.what_is_seen_is_legal.ensures c.new.ensures.records (subst (λ (b : Base). IsFirstBase v.core.program v.core.sizes v.seen b) (sym c.new.ensures.base) first)
+    new_front c.args.core.now c.args.program.now v c.new.result c.new-2.result.counted c.requires.seat c.requires.program c.what_is_seen_is_legal.ensures c.new.ensures.records
+    (subst (λ (b : Base). IsFirstBase v.core.program v.core.sizes v.seen b) (sym c.new.ensures.base) first)
     c.new-2.ensures.entries c.new-2.ensures.latest
 
 pub returns-clause-history : goal.returns-clause-history
