@@ -1,36 +1,6 @@
 -- A front between its calls.
-use Rattle.std.proofs.Common.{
-  ◌≡◌,
-  ◌≢◌,
-  ℕ,
-  zero,
-  suc,
-  ◌<◌,
-  length,
-  ◌∷◌,
-  Bool,
-  true,
-  false,
-  cond,
-  List,
-  [],
-  ◌++◌,
-  Option,
-  Some,
-  None,
-  replicate,
-  refl,
-  sym,
-  ap,
-  ◌∙◌,
-  subst,
-  arith,
-  ◌≤◌,
-  ◌%◌,
-  leb,
-  leb-true,
-  ⊎_elim,
-}
+use Rattle.std.proofs.Common.{◌≡◌, ◌≢◌, ℕ, zero, suc, ◌<◌, length, ◌∷◌, Bool, true, false, cond, List, [], ◌++◌, Option, Some, None, replicate, refl, sym, ap, ◌∙◌, subst, arith, ◌≤◌, ◌%◌, leb}
+use Rattle.std.proofs.Common.{leb-true, ⊎_elim}
 use Rattle.std.proofs.lemmas.List.{append-nil}
 use Rattle.std.specs.Prelude.{slice_get, slice_index}
 use Rattle.instructions.specs.Programs.{Program, text_start}

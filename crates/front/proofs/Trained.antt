@@ -1,41 +1,6 @@
 -- What the predictor is told is what the last tenant of the station did.
-use Rattle.std.proofs.Common.{
-  ◌≡◌,
-  ◌≢◌,
-  ℕ,
-  ◌<◌,
-  Bool,
-  ◌&&◌,
-  List,
-  ◌∷◌,
-  ◌++◌,
-  length,
-  Option,
-  Some,
-  None,
-  refl,
-  sym,
-  ap,
-  ◌∙◌,
-  subst,
-  zero,
-  suc,
-  ◌+◌,
-  ◌-◌,
-  ◌≤◌,
-  [],
-  cond,
-  eqb,
-  eqb-true,
-  eq-eqb,
-  true,
-  false,
-  true≢false,
-  inl,
-  inr,
-  ⊎_elim,
-  arith,
-}
+use Rattle.std.proofs.Common.{◌≡◌, ◌≢◌, ℕ, ◌<◌, Bool, ◌&&◌, List, ◌∷◌, ◌++◌, length, Option, Some, None, refl, sym, ap, ◌∙◌, subst, zero, suc, ◌+◌, ◌-◌, ◌≤◌, [], cond, eqb, eqb-true, eq-eqb, true}
+use Rattle.std.proofs.Common.{false, true≢false, inl, inr, ⊎_elim, arith}
 use Rattle.std.specs.List.{AllByRecursion}
 use Rattle.instructions.specs.Operations.{outcome_by}
 use Rattle.instructions.specs.Programs.{Program}
@@ -48,28 +13,8 @@ use Rattle.inorder.specs.History.{IsLegal, unit_of}
 use Rattle.inorder.specs.Callers.{IsLastAt, is_retired, stands_retired}
 use Rattle.inorder.specs.StationWords.{last_of}
 use Rattle.inorder.specs.Steps.{CanRetire}
-use Rattle.inorder.specs.Tenants.{
-  behind,
-  Addr,
-  Busy,
-  Done,
-  Fate,
-  Live,
-  Miss,
-  Open,
-  Retired,
-  Squashed,
-  Standing,
-  Stopped,
-  Tenant,
-  computed,
-  computed_next,
-  instr,
-  kind_of,
-  next_by,
-  operand_value,
-  stands_on_path,
-}
+use Rattle.inorder.specs.Tenants.{behind, Addr, Busy, Done, Fate, Live, Miss, Open, Retired, Squashed, Standing, Stopped, Tenant, computed, computed_next, instr, kind_of, next_by, operand_value}
+use Rattle.inorder.specs.Tenants.{stands_on_path}
 use Rattle.inorder.specs.Unit.{Sizes, UpdateUnit, at, newest_of, next_station, older, recent, younger}
 use Rattle.inorder.proofs.Basics.{split_at}
 use Rattle.inorder.proofs.Fated.{follows_from}

@@ -1,37 +1,6 @@
 -- What the stores of a list leave at one byte of a load.
-use Rattle.std.proofs.Common.{
-  ◌≡◌,
-  ℕ,
-  ◌+◌,
-  ◌-◌,
-  ◌<◌,
-  ◌≤◌,
-  Bool,
-  true,
-  false,
-  cond,
-  ◌&&◌,
-  ltb,
-  leb,
-  List,
-  [],
-  ◌∷◌,
-  ◌++◌,
-  Option,
-  Some,
-  None,
-  option_map,
-  refl,
-  sym,
-  ap,
-  ◌∙◌,
-  arith,
-  true≢false,
-  ltb-true,
-  leb-true,
-  lt-ltb,
-  le-leb,
-}
+use Rattle.std.proofs.Common.{◌≡◌, ℕ, ◌+◌, ◌-◌, ◌<◌, ◌≤◌, Bool, true, false, cond, ◌&&◌, ltb, leb, List, [], ◌∷◌, ◌++◌, Option, Some, None, option_map, refl, sym, ap, ◌∙◌, arith, true≢false, ltb-true}
+use Rattle.std.proofs.Common.{leb-true, lt-ltb, le-leb}
 use Rattle.std.specs.List.{AllByRecursion}
 use Rattle.std.specs.Option.{IsSome, is_none}
 use Rattle.lsq.specs.declared.entry.Entry.{Entry}
