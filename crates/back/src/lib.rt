@@ -7,6 +7,7 @@ mod backs;
 mod commit;
 mod committed;
 mod ends;
+mod entries;
 mod laws;
 mod port;
 mod refresh;

@@ -1,22 +1,20 @@
 //! The memory port: one load over the older stores.
-ghost use Rattle.std.specs.Prelude.{◌≡◌, ◌<◌, ◌≤◌, ◌+◌, ◌∷◌, ◌⊎◌, [], ℕ, IfErr, IfNone, IfOk, IfSome, IsSome, Some, false, true, length, slice_get};
+ghost use Rattle.std.specs.Prelude.{◌≡◌, ◌<◌, ◌≤◌, ◌+◌, IfErr, IfNone, IfOk, IfSome, Some, false, true, length};
 ghost use Rattle.instructions.specs.Instruction.{width as width_in};
 ghost use Rattle.instructions.specs.Operations.{loaded as loaded_as};
 ghost use Rattle.inorder.specs.Callers.{head_station};
 ghost use Rattle.inorder.specs.History.{IsLegal, back};
-ghost use Rattle.inorder.specs.Loads.{access_width};
-ghost use Rattle.lsq.specs.Entries.{load_by};
-ghost use Rattle.lsq.specs.LoadRule.{answer as answered};
 ghost use Rattle.station.specs.Seats.{IsSame};
 ghost use Rattle.back.specs.Wakings.{TryWakes};
 ghost use Rattle.back.specs.Backs.{SeesMore, committed_in, unit_in};
 ghost use Rattle.back.specs.Trials.{NobodyWaits, ThisWaits, TriedAnswers, load_at as load_in};
-ghost use Rattle.back.specs.Port.{Ceases, IsEntryThere, IsInside, MayAnswer, MayBlock, Remains, SearchFinds, SearchMisses, address_in, content_in, load_entry, seen_as};
+ghost use Rattle.back.specs.Port.{Ceases, IsEntryThere, IsInside, MayAnswer, MayBlock, Remains, SearchFinds, SearchMisses};
 
 use crate::committed::Committed;
-use instructions::{Instr, Kind, Op, Program, loaded};
-use lsq::{Answer, Entry, Queue, Width};
-use station::{BackSeat, Core, Settle, Source, SourceState, StationState};
+use crate::entries::{address, ask, content, entry, entry_of};
+use instructions::{Kind, Op, Program, loaded};
+use lsq::{Answer, Entry};
+use station::{BackSeat, Core, Settle, Source};
 
 /// A load with its address.
 #[derive(Clone, Copy)]
@@ -35,70 +33,6 @@ pub enum Tried {
     Blocked(usize),
     /// It got its value: its tag, and the value.
     Loaded(u32, u32),
-}
-
-fn width(op: Op) -> Width
-    ensures { result ≡ access_width op }
-{
-    match op {
-        Op::Lb | Op::Lbu | Op::Sb => Width::Byte,
-        Op::Lh | Op::Lhu | Op::Sh => Width::Half,
-        _ => Width::Word,
-    }
-}
-
-// The address that a station shows.
-fn address(state: StationState, value: u32) -> Option<u32>
-    ensures { result ≡ address_in state value }
-{
-    match state {
-        StationState::Addr => Some(value),
-        _ => None,
-    }
-}
-
-// What the queue holds of an instruction.
-fn entry(instr: &Instr, state: StationState, value: u32) -> Entry
-    ensures { result ≡ seen_as instr.now state value }
-{
-    Entry {
-        store: matches!(instr.op().kind(), Kind::Stores),
-        width: width(instr.op()),
-        address: address(state, value),
-        content: None,
-    }
-}
-
-// The data that an operand shows.
-fn content(state: SourceState, value: u32) -> Option<u32>
-    ensures { result ≡ content_in state value }
-{
-    match state {
-        SourceState::Val => Some(value),
-        _ => None,
-    }
-}
-
-fn entry_of(load: &Load) -> Entry
-    ensures { result ≡ load_entry load.now }
-{
-    Entry {
-        store: false,
-        width: width(load.op),
-        address: Some(load.address),
-        content: None,
-    }
-}
-
-// The answer of the rule to a load over one store.
-fn ask(store: Entry, load: Entry) -> Answer
-    requires { IsSome (load_by load.store load.address load.width) }
-    ensures { result ≡ answered (store ∷ load ∷ []) 1 }
-{
-    let mut queue = Queue::new(2);
-    let _ = queue.push(store);
-    let _ = queue.push(load);
-    queue.answer(1)
 }
 
 // Looks at a tenant. Its instruction is read first, so that the station's word is the newest that is known.
