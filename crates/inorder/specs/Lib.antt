@@ -20,3 +20,5 @@ pub mod History
 pub mod Wakes
 pub mod Callers
 pub mod Answered
+pub mod Moves
+pub mod Still

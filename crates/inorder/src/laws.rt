@@ -13,6 +13,7 @@ ghost use Rattle.inorder.specs.Numbers.{ValuesAreWords};
 ghost use Rattle.inorder.specs.declared.history.Entry.{Entry};
 ghost use Rattle.inorder.specs.History.{IsLegal};
 ghost use Rattle.inorder.specs.Wakes.{AreMarked, LosesNoWake};
+ghost use Rattle.inorder.specs.Moves.{LeadOn, SeveralLead};
 ghost use Rattle.inorder.specs.Loads.{LoadsAreAnswered};
 ghost use Rattle.inorder.specs.Legal.{reached};
 ghost use Rattle.inorder.specs.Renewals.{BeginsAgain, IsKnownOfBefore, PastIsPast, PastStays, RenewalsCount, StopIsNotRenewed};
@@ -75,6 +76,13 @@ pub fn only_retirements_commit()
 pub fn histories_grow()
     ensures { (p : Program) (c : Sizes) (more history : List Taken) →
         HistoryGrows p c more history }
+{}
+
+/// Several allowed steps of one caller lead from a unit that is reached to one that is reached too,
+/// and those of them that retire nobody commit nothing. Two such sequences are one.
+pub fn several_steps_lead_on()
+    ensures lead { (p : Program) (c : Sizes) (by : ℕ) → SeveralLead p c by }
+    ensures on { (p : Program) (c : Sizes) (by : ℕ) → LeadOn p c by }
 {}
 
 /// A live tenant is what its station shows, a station that is not free shows one live tenant, and
