@@ -17,6 +17,7 @@ pub mod Loads
 pub mod Guards
 pub mod Replies
 pub mod History
+pub mod OneHistory
 pub mod Wakes
 pub mod Callers
 pub mod Answered
