@@ -12,8 +12,8 @@ use Rattle.inorder.specs.Unit.{Sizes, UpdateUnit}
 use Rattle.unit.specs.declared.bench.Turn.{Turn}
 use Rattle.unit.specs.declared.bench.Turn.TheVariants.{Halved, Let, Loaded, Over, Ran, Recovered, Retired}
 use Rattle.unit.specs.Turns.{Before, Does, Lets, LoadsOne, Now, Nowhere, Recovers, Retires, Runs}
-use Rattle.unit_laws.specs.Moves.{IsDeliver, IsLink, run_on}
-use Rattle.unit_laws.proofs.Sequences.{all_more, all_weaker}
+use Rattle.inorder.specs.Moves.{IsDeliver, IsLink, run_on}
+use Rattle.inorder.proofs.OneCaller.Sequences.{all_more, all_weaker}
 use Rattle.charts.proofs.LivePositions.{Fewer, IsQuiet, OneLess, OneMore, Stay, all_stand, mend_keeps, positions_live, quiet_after, quiet_run, retire_once, squash_run}
 
 deliver_is_quiet : (s : Step) → IsDeliver s → IsQuiet s

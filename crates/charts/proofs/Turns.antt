@@ -17,7 +17,7 @@ use Rattle.unit.specs.Changes.{end_state, run_from}
 use Rattle.unit.proofs.Ends.{ends_over, ends_same}
 use Rattle.instructions.specs.Programs.{Program}
 use Rattle.inorder.specs.Unit.{Sizes, UpdateUnit, empty_unit}
-use Rattle.unit_laws.specs.Moves.{IsReached}
+use Rattle.inorder.specs.Moves.{IsReached}
 use Rattle.unit.specs.declared.bench.Turn.{Turn}
 use Rattle.unit.specs.declared.pipeline.Pipeline.{Pipeline}
 use Rattle.unit.specs.declared.station.Station.{Station}

@@ -13,7 +13,7 @@ use Rattle.unit.specs.declared.bench.Turn.{Turn}
 use Rattle.unit.specs.StandsFor.{StandsFor, sizes}
 use Rattle.unit.specs.Turns.{BenchFields, Does, Trains}
 use Rattle.unit.specs.Window.{window}
-use Rattle.unit_laws.specs.Moves.{IsReached}
+use Rattle.inorder.specs.Moves.{IsReached}
 use Rattle.charts.specs.declared.telling.Format.{Format}
 use Rattle.charts.specs.declared.event.Event.{Event}
 use Rattle.charts.specs.Events.{events}

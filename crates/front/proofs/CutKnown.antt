@@ -17,7 +17,7 @@ use Rattle.inorder.proofs.Kept.{parts}
 use Rattle.inorder.proofs.Positions.{all_at, younger_at}
 use Rattle.inorder.proofs.Sound.{IsSettled, IsSound, SettledBy}
 use Rattle.inorder.proofs.Stations.{mended_station}
-use Rattle.unit_laws.proofs.Middle.{at_middle, older_middle, sound_from, younger_middle}
+use Rattle.inorder.proofs.OneCaller.Middle.{at_middle, older_middle, sound_from, younger_middle}
 use Rattle.front.proofs.Stays.{long_under}
 use Rattle.front.specs.Path.{told_of}
 use Rattle.front.specs.declared.path.base_state.Base.{Base}

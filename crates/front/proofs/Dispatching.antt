@@ -18,7 +18,7 @@ use Rattle.inorder.proofs.Creators.{at_cases}
 use Rattle.inorder.proofs.Histories.{adds_on, unit_sound}
 use Rattle.inorder.proofs.Letting.{LetStays}
 use Rattle.inorder.proofs.Positions.{at_below, at_more, at_new}
-use Rattle.unit_laws.proofs.Creators.{found_at}
+use Rattle.inorder.proofs.OneCaller.Creators.{found_at}
 use Rattle.ruu_words.specs.Kinds.{IsAny, IsTenant}
 use Rattle.ruu_words.proofs.Drafting.{still_let}
 use Rattle.ruu_words.proofs.Stays.{any_stays}

@@ -21,7 +21,7 @@ use Rattle.inorder.proofs.Kept.{parts}
 use Rattle.inorder.proofs.Moves.{changed_goes}
 use Rattle.inorder.proofs.Positions.{at_below}
 use Rattle.inorder.proofs.Sound.{IsSound}
-use Rattle.unit_laws.proofs.Middle.{sound_from}
+use Rattle.inorder.proofs.OneCaller.Middle.{sound_from}
 use Rattle.front.specs.Path.{told_of}
 use Rattle.front.specs.declared.path.base_state.Base.{Base}
 use Rattle.front.specs.declared.path.record.Record.{Record}

@@ -24,7 +24,7 @@ use Rattle.front.specs.Queues.{QueueSays, live_accesses}
 use Rattle.front.proofs.Looks.{live_there, NamedNow}
 use Rattle.front.proofs.Places.{known_pc}
 use Rattle.front.proofs.Stations.{is_full, live_room, next_tag_is, not_full}
-use Rattle.unit_laws.proofs.Creators.{found_at}
+use Rattle.inorder.proofs.OneCaller.Creators.{found_at}
 
 module _ (P : Program) (C : Sizes) where
   pub at_end : (Fact : UpdateUnit → Type 0) (old new : List Entry) (es : List Event) → Adds P C front old new es → Fact (unit_of P C new) → WasOnce P C old new Fact

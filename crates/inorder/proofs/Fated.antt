@@ -8,7 +8,7 @@ use Rattle.inorder.specs.Legal.{Taken, reached}
 use Rattle.inorder.specs.Tenants.{Addr, Busy, Done, Fate, Miss, Open, Stopped, Tenant, kind_of, missing_of}
 use Rattle.inorder.specs.Unit.{Sizes, older, younger}
 use Rattle.inorder.proofs.Basics.{split_at}
-use Rattle.inorder.proofs.DeliveryKept.{no_first, no_second}
+use Rattle.inorder.proofs.Theorem.DeliveryKept.{no_first, no_second}
 use Rattle.inorder.proofs.Grows.{sound_mid}
 use Rattle.inorder.proofs.Kept.{sound}
 use Rattle.inorder.proofs.SettledRegisters.{next_done}

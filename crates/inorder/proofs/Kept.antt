@@ -10,15 +10,15 @@ use Rattle.inorder.specs.Steps.{mended_as}
 use Rattle.inorder.specs.Tenants.{Done, Tenant, computed}
 use Rattle.inorder.specs.Unit.{Sizes, UpdateUnit, at, older, younger}
 use Rattle.inorder.proofs.Basics.{replaced_split, split_at}
-use Rattle.inorder.proofs.DeliveryKept.{deliver_sound, link_sound}
-use Rattle.inorder.proofs.FinishKept.{claim_sound, finish_sound, load_may}
+use Rattle.inorder.proofs.Theorem.DeliveryKept.{deliver_sound, link_sound}
+use Rattle.inorder.proofs.Theorem.FinishKept.{claim_sound, finish_sound, load_may}
 use Rattle.inorder.proofs.Grows.{end_sound, grow_sound, sound_mid}
-use Rattle.inorder.proofs.LeaveKept.{mend_sound, retire_sound, squash_sound}
-use Rattle.inorder.proofs.LetKept.{let_sound}
+use Rattle.inorder.proofs.Theorem.LeaveKept.{mend_sound, retire_sound, squash_sound}
+use Rattle.inorder.proofs.Theorem.LetKept.{let_sound}
 use Rattle.inorder.proofs.Sound.{IsSound}
-pub use Rattle.inorder.proofs.DeliveryKept.{deliver_grows, link_grows}
-pub use Rattle.inorder.proofs.FinishKept.{claim_grows, finish_grows, load_may_grow}
-pub use Rattle.inorder.proofs.LeaveKept.{retire_grows}
+pub use Rattle.inorder.proofs.Theorem.DeliveryKept.{deliver_grows, link_grows}
+pub use Rattle.inorder.proofs.Theorem.FinishKept.{claim_grows, finish_grows, load_may_grow}
+pub use Rattle.inorder.proofs.Theorem.LeaveKept.{retire_grows}
 
 -- Any step
 

@@ -19,7 +19,7 @@ use Rattle.inorder.specs.Tenants.{Addr, Busy, Done, Fate, Linked, Live, Miss, Op
 use Rattle.inorder.specs.Unit.{Sizes, UpdateUnit, at, older, replaced, younger}
 use Rattle.inorder.proofs.Basics.{split_at}
 use Rattle.inorder.proofs.Grows.{MadeGrows, sound_mid}
-use Rattle.inorder.proofs.FinishKept.{never_pair}
+use Rattle.inorder.proofs.Theorem.FinishKept.{never_pair}
 use Rattle.inorder.proofs.Kept.{finish_grows, load_may_grow, retire_grows}
 use Rattle.inorder.proofs.Positions.{at_below, at_more, at_replaced_else, at_replaced_here, at_there, length_replaced}
 use Rattle.inorder.proofs.Sound.{IsSound, IsSoundAt}

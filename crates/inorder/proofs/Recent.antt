@@ -18,7 +18,6 @@ use Rattle.inorder.specs.Steps.{new_tenant}
 use Rattle.inorder.specs.Tenants.{IsNotLive, Live, Tenant}
 use Rattle.inorder.specs.Unit.{Sizes, UpdateUnit, at, how_many, is_old, newest_of, older, recent, younger}
 use Rattle.inorder.proofs.Basics.{split_at}
-use Rattle.inorder.proofs.Grows.{same_length}
 use Rattle.inorder.proofs.Histories.{allowed_steps, renewals_more}
 use Rattle.inorder.proofs.Kept.{parts}
 use Rattle.inorder.proofs.Letting.{how_many_same}

@@ -140,12 +140,3 @@ IsLegal P C (e ∷ h) = IsLegal P C h × MayAdd P C h e.by e.event
 abbrev pub own : ℕ → List Entry → List Entry
 own by [] = []
 own by (e ∷ h) = if e.by == by then e ∷ own by h else own by h
-
--- What a caller has seen has grown, with no renewal, and these events, the last one first, are all
--- that it added itself. Two such facts in a row are one, with the events of both
-pub record Adds (P : Program) (C : Sizes) (by : ℕ) (old new : List Entry) (events : List Event) :
-    Type 0 where
-  pub begins : StartsWith new old
-  pub legal : IsLegal P C new
-  pub one_table : renewals new ≡ renewals old
-  pub mine : own by new ≡ map (entry by) events ++ own by old

@@ -17,6 +17,9 @@ pub mod Loads
 pub mod Guards
 pub mod Replies
 pub mod History
+pub mod OneHistory
 pub mod Wakes
 pub mod Callers
 pub mod Answered
+pub mod Moves
+pub mod Still

@@ -12,7 +12,9 @@ ghost use Rattle.inorder.specs.Fates.{FatesFollow};
 ghost use Rattle.inorder.specs.Numbers.{ValuesAreWords};
 ghost use Rattle.inorder.specs.declared.history.Entry.{Entry};
 ghost use Rattle.inorder.specs.History.{IsLegal};
+ghost use Rattle.inorder.specs.OneHistory.{TellsOn, TellsOne};
 ghost use Rattle.inorder.specs.Wakes.{AreMarked, LosesNoWake};
+ghost use Rattle.inorder.specs.Moves.{LeadOn, SeveralLead};
 ghost use Rattle.inorder.specs.Loads.{LoadsAreAnswered};
 ghost use Rattle.inorder.specs.Legal.{reached};
 ghost use Rattle.inorder.specs.Renewals.{BeginsAgain, IsKnownOfBefore, PastIsPast, PastStays, RenewalsCount, StopIsNotRenewed};
@@ -22,6 +24,14 @@ ghost use Rattle.inorder.specs.Answered.{FinishIsAnswered, ClaimIsAnswered, Reti
 /// after as many instructions, and a stop that has retired is that machine's stop.
 pub fn one_thread_unit_is_right()
     ensures { (p : Program) (c : Sizes) (history : List Taken) → IsRight p c history }
+{}
+
+/// The headline: what the callers of a shared unit do and are told is one legal history. Each reply
+/// is allowed at its point of it, what a caller had seen before a call begins what it sees behind it,
+/// and at each point the committed registers and memory are those of the machine in order.
+pub fn one_legal_history()
+    ensures call { (p : Program) (c : Sizes) → TellsOne p c }
+    ensures calls { (p : Program) (c : Sizes) → TellsOn p c }
 {}
 
 /// At most as many tenants are live as there are stations. Each tenant of the path has the station
@@ -75,6 +85,13 @@ pub fn only_retirements_commit()
 pub fn histories_grow()
     ensures { (p : Program) (c : Sizes) (more history : List Taken) →
         HistoryGrows p c more history }
+{}
+
+/// Several allowed steps of one caller lead from a unit that is reached to one that is reached too,
+/// and those of them that retire nobody commit nothing. Two such sequences are one.
+pub fn several_steps_lead_on()
+    ensures lead { (p : Program) (c : Sizes) (by : ℕ) → SeveralLead p c by }
+    ensures on { (p : Program) (c : Sizes) (by : ℕ) → LeadOn p c by }
 {}
 
 /// A live tenant is what its station shows, a station that is not free shows one live tenant, and

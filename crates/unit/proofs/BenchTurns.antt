@@ -7,7 +7,7 @@ use Rattle.instructions.specs.declared.instr.Instr.{Instr}
 use Rattle.instructions.specs.declared.stop.Stop.{Stop}
 use Rattle.inorder.specs.Tenants.{instr}
 use Rattle.inorder.specs.Unit.{UpdateUnit}
-use Rattle.unit_laws.specs.Moves.{IsReached}
+use Rattle.inorder.specs.Moves.{IsReached}
 use Rattle.unit.specs.declared.bench.Turn.{Turn}
 use Rattle.unit.specs.declared.bench.Turn.TheVariants.{Halved, Let, Loaded, Over, Ran, Recovered, Retired}
 use Rattle.unit.specs.declared.dispatch.Fetched.{Fetched}

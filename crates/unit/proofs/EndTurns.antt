@@ -31,13 +31,13 @@ use Rattle.inorder.proofs.Pairs.{first_half_computes}
 use Rattle.inorder.proofs.SettledRegisters.{committed_if, next_leaves}
 use Rattle.inorder.proofs.Sound.{DoneBy, FateIs, IsSound, IsSoundAt}
 use Rattle.inorder.proofs.Stations.{Stands, last_at}
-use Rattle.unit_laws.specs.Moves.{IsReached, Leads, with_tenants}
-use Rattle.unit_laws.specs.Still.{AreStill, IsNotBusy}
-use Rattle.unit_laws.proofs.Alike.{still_put, stops_put}
-use Rattle.unit_laws.proofs.Left.{ahead_middle, committed_middle, live_commits}
-use Rattle.unit_laws.proofs.Middle.{all_from, at_middle, sound_from, still_from, younger_middle}
-use Rattle.unit_laws.proofs.Retirement.{retire_run}
-use Rattle.unit_laws.proofs.Sequences.{reach_on, sound_of, stands_of}
+use Rattle.inorder.specs.Moves.{IsReached, Leads, with_tenants}
+use Rattle.inorder.specs.Still.{AreStill, IsNotBusy}
+use Rattle.inorder.proofs.OneCaller.Alike.{still_put, stops_put}
+use Rattle.inorder.proofs.OneCaller.Left.{ahead_middle, committed_middle, live_commits}
+use Rattle.inorder.proofs.OneCaller.Middle.{all_from, at_middle, sound_from, still_from, younger_middle}
+use Rattle.inorder.proofs.OneCaller.Retirement.{retire_run}
+use Rattle.inorder.proofs.OneCaller.Sequences.{reach_on, sound_of, stands_of}
 use Rattle.unit.specs.declared.bench.Turn.{Turn}
 use Rattle.unit.specs.declared.bench.Turn.TheVariants.{Halved, Over, Retired}
 use Rattle.unit.specs.declared.execute.Operands.{Operands}

@@ -9,8 +9,8 @@ use Rattle.inorder.specs.Machine.{Goes, Halts, Ran as RanStep, State, fetched, s
 use Rattle.inorder.specs.Runs.{after, end_after, end_from, next_state, stop, stop_of, then_state, then_stop}
 use Rattle.inorder.specs.Unit.{Sizes, UpdateUnit}
 use Rattle.inorder.proofs.Follows.{in_order}
-use Rattle.unit_laws.specs.Moves.{IsReached}
-use Rattle.unit_laws.proofs.Sequences.{sound_of}
+use Rattle.inorder.specs.Moves.{IsReached}
+use Rattle.inorder.proofs.OneCaller.Sequences.{sound_of}
 use Rattle.unit.specs.declared.bench.Turn.{Turn}
 use Rattle.unit.specs.declared.bench.Turn.TheVariants.{Halved, Let, Loaded, Over, Ran, Recovered, Retired}
 use Rattle.unit.specs.declared.pipeline.Pipeline.{Pipeline}

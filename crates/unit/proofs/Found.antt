@@ -7,8 +7,8 @@ use Rattle.inorder.specs.Tenants.{IsNotLive, Live, Retired, Squashed, Standing, 
 use Rattle.unit.specs.declared.station.Station.{Station}
 use Rattle.unit.specs.Window.{station_of, window}
 use Rattle.unit.proofs.Windows.{window_append, window_if, window_live}
-use Rattle.unit_laws.proofs.Alike.{AreAlike, IsAlike}
-use Rattle.unit_laws.proofs.Recovery.{gone, gone_left}
+use Rattle.inorder.proofs.OneCaller.Alike.{AreAlike, IsAlike}
+use Rattle.inorder.proofs.OneCaller.Recovery.{gone, gone_left}
 
 pub record Found (P : Program) (U : List Tenant) (i : ℕ) (w : Station) : Type 0 where
   pub ys : List Tenant

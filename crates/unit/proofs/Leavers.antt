@@ -13,8 +13,8 @@ use Rattle.instructions.specs.declared.stop.Outcome.{Outcome}
 use Rattle.inorder.specs.Steps.{squashed}
 use Rattle.inorder.specs.Tenants.{Live, Retired, Squashed, Standing, Tenant, instr, kind_of}
 use Rattle.inorder.proofs.Sound.{DoneBy}
-use Rattle.unit_laws.proofs.Alike.{AreAlike, IsAlike}
-use Rattle.unit_laws.proofs.Recovery.{gone, gone_by, mended_to}
+use Rattle.inorder.proofs.OneCaller.Alike.{AreAlike, IsAlike}
+use Rattle.inorder.proofs.OneCaller.Recovery.{gone, gone_by, mended_to}
 use Rattle.unit.specs.declared.leaver.Leaver.{Leaver}
 use Rattle.unit.specs.Leavers.{leaver, leaver_by, told_by, told_of}
 

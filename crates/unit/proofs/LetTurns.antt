@@ -13,11 +13,11 @@ use Rattle.inorder.specs.Steps.{IsNoRetiredStop, new_tenant}
 use Rattle.inorder.specs.Tenants.{Live, Retired, Tenant, instr, is_access}
 use Rattle.inorder.specs.Unit.{Sizes, UpdateUnit, front_half, front_pc, how_many, next_station, recent}
 use Rattle.inorder.proofs.Sound.{IsSound}
-use Rattle.unit_laws.specs.Moves.{IsLink, IsReached, with_let}
-use Rattle.unit_laws.specs.Still.{AreStill}
-use Rattle.unit_laws.proofs.Creators.{IsAt, found_at}
-use Rattle.unit_laws.proofs.Dispatch.{LetRun, MayEnter, let_run}
-use Rattle.unit_laws.proofs.Sequences.{all_more, all_recent, all_weaker, committed_on, link_quiet, reach_on, sound_of, stands_of}
+use Rattle.inorder.specs.Moves.{IsLink, IsReached, with_let}
+use Rattle.inorder.specs.Still.{AreStill}
+use Rattle.inorder.proofs.OneCaller.Creators.{IsAt, found_at}
+use Rattle.inorder.proofs.OneCaller.Dispatch.{LetRun, MayEnter, let_run}
+use Rattle.inorder.proofs.OneCaller.Sequences.{all_more, all_recent, all_weaker, committed_on, link_quiet, reach_on, sound_of, stands_of}
 use Rattle.unit.specs.declared.dispatch.Fetched.{Fetched}
 use Rattle.unit.specs.declared.pipeline.Pipeline.{Pipeline}
 use Rattle.unit.specs.Givers.{NoneGives}
@@ -150,8 +150,8 @@ let_turn b later f pr place none room most long nm to small predicts pe pl wl ll
             no_stop : IsNoRetiredStop k.tenant
             no_stop = λ q. let no : Live ≡ Retired = sym live ∙ q in absurd (cc)
 
-            free : Rattle.unit_laws.specs.Still.IsNotBusy k.tenant.fate
-            free = subst Rattle.unit_laws.specs.Still.IsNotBusy (sym k.alike.fate) tt
+            free : Rattle.inorder.specs.Still.IsNotBusy k.tenant.fate
+            free = subst Rattle.inorder.specs.Still.IsNotBusy (sym k.alike.fate) tt
 
             same : committed P V.tenants ≡ committed P ts
             same = committed_on P C 0 U steps V k.leads sound' (all_more IsNoRetire k.links (LetStep a.index pr k.first k.second ∷ []) (all_weaker IsLink IsNoRetire link_quiet k.links k.are) (tt, tt))

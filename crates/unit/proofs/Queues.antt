@@ -17,8 +17,8 @@ use Rattle.inorder.proofs.Sound.{IsSound}
 use Rattle.lsq.specs.declared.entry.Entry.{Entry}
 use Rattle.lsq.specs.Entries.{bytes}
 use Rattle.lsq.specs.LoadRule.{answer_over, by_lacking, by_overlap, lacks_address, or_older, overlaps, youngest, youngest_from, meets}
-use Rattle.unit_laws.specs.Still.{AreStill}
-use Rattle.unit_laws.proofs.Left.{live_commits, retired_all}
+use Rattle.inorder.specs.Still.{AreStill}
+use Rattle.inorder.proofs.OneCaller.Left.{live_commits, retired_all}
 use Rattle.unit.specs.declared.station.Station.{Station}
 use Rattle.unit.specs.Loads.{address_of, entries, entry, entry_at, with_entry}
 use Rattle.unit.specs.Window.{reaches_memory, source_in, stage_of, station_of, window}

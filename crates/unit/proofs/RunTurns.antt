@@ -26,12 +26,12 @@ use Rattle.lsq.specs.declared.answer.Answer.{Answer}
 use Rattle.lsq.specs.declared.answer.Answer.TheVariants.{Blocked, Forward, Memory}
 use Rattle.lsq.specs.LoadRule.{answer, answer_over}
 use Rattle.inorder.specs.Loads.{place_of}
-use Rattle.unit_laws.specs.Moves.{IsDeliver, IsReached, Leads, with_tenants}
-use Rattle.unit_laws.specs.Still.{AreStill, IsNotBusy}
-use Rattle.unit_laws.proofs.Execution.{ActRun, claimed, loaded_run, ran_run, ran_steps}
-use Rattle.unit_laws.proofs.Left.{ahead_middle}
-use Rattle.unit_laws.proofs.Middle.{all_from, at_middle, older_middle, sound_from, still_from}
-use Rattle.unit_laws.proofs.Sequences.{all_more, all_weaker, committed_on, deliver_quiet, reach_on, sound_of}
+use Rattle.inorder.specs.Moves.{IsDeliver, IsReached, Leads, with_tenants}
+use Rattle.inorder.specs.Still.{AreStill, IsNotBusy}
+use Rattle.inorder.proofs.OneCaller.Execution.{ActRun, claimed, loaded_run, ran_run, ran_steps}
+use Rattle.inorder.proofs.OneCaller.Left.{ahead_middle}
+use Rattle.inorder.proofs.OneCaller.Middle.{all_from, at_middle, older_middle, sound_from, still_from}
+use Rattle.inorder.proofs.OneCaller.Sequences.{all_more, all_weaker, committed_on, deliver_quiet, reach_on, sound_of}
 use Rattle.unit.specs.declared.bench.Turn.TheVariants.{Loaded, Ran}
 use Rattle.unit.specs.declared.execute.Operands.{Operands}
 use Rattle.unit.specs.declared.pipeline.Pipeline.{Pipeline}

@@ -6,7 +6,7 @@ use Rattle.instructions.specs.Instruction.{is_first_half}
 use Rattle.inorder.specs.Callers.{is_retired}
 use Rattle.inorder.specs.Machine.{start}
 use Rattle.inorder.specs.Unit.{how_many}
-use Rattle.unit_laws.specs.Moves.{IsReached}
+use Rattle.inorder.specs.Moves.{IsReached}
 use Rattle.unit.specs.declared.bench.Turn.{Turn}
 use Rattle.unit.specs.declared.leaver.Leaver.{Leaver}
 use Rattle.unit.specs.declared.pipeline.Pipeline.{Pipeline}

@@ -18,9 +18,9 @@ use Rattle.inorder.proofs.Sound.{IsInPlace, IsSound}
 use Rattle.lsq.specs.declared.answer.Answer.{Answer}
 use Rattle.lsq.specs.declared.answer.Answer.TheVariants.{Blocked, Forward, Memory}
 use Rattle.lsq.specs.LoadRule.{answer_over}
-use Rattle.unit_laws.specs.Still.{AreStill}
-use Rattle.unit_laws.proofs.Left.{ahead_middle}
-use Rattle.unit_laws.proofs.Middle.{sound_from}
+use Rattle.inorder.specs.Still.{AreStill}
+use Rattle.inorder.proofs.OneCaller.Left.{ahead_middle}
+use Rattle.inorder.proofs.OneCaller.Middle.{sound_from}
 use Rattle.unit.specs.declared.execute.Operands.{Operands}
 use Rattle.unit.specs.declared.station.Station.{Station}
 use Rattle.unit.specs.Blocked.{AreBlocked, IsBlocked}

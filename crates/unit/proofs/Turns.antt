@@ -10,10 +10,10 @@ use Rattle.inorder.specs.Laws.{IsNoRetire}
 use Rattle.inorder.specs.Steps.{IsNoRetiredStop}
 use Rattle.inorder.specs.Tenants.{Addr, Busy, Done, Fate, Miss, Open, Stopped, Tenant}
 use Rattle.inorder.specs.Unit.{Sizes, UpdateUnit}
-use Rattle.unit_laws.specs.Moves.{IsSquash, Leads, with_tenants}
-use Rattle.unit_laws.specs.Still.{AreStill}
-use Rattle.unit_laws.proofs.Recovery.{RecoverRun, gone, mended_to, recover_run}
-use Rattle.unit_laws.proofs.Sequences.{all_weaker, committed_on, reach_on, sound_of, squash_quiet}
+use Rattle.inorder.specs.Moves.{IsSquash, Leads, with_tenants}
+use Rattle.inorder.specs.Still.{AreStill}
+use Rattle.inorder.proofs.OneCaller.Recovery.{RecoverRun, gone, mended_to, recover_run}
+use Rattle.inorder.proofs.OneCaller.Sequences.{all_weaker, committed_on, reach_on, sound_of, squash_quiet}
 use Rattle.unit.specs.declared.bench.Turn.{Turn}
 use Rattle.unit.specs.declared.bench.Turn.TheVariants.{Recovered}
 use Rattle.unit.specs.declared.pipeline.Pipeline.{Pipeline}

@@ -18,9 +18,9 @@ use Rattle.inorder.proofs.Pairs.{and_left, first_half_computes}
 use Rattle.inorder.proofs.SettledRegisters.{ahead_if, committed_if, retired_on}
 use Rattle.inorder.proofs.Sound.{IsSettled, IsSound, IsSoundAt, SettledBy}
 use Rattle.unit.specs.Ahead.{ahead_by, low_after, low_of, waiting_half}
-use Rattle.unit_laws.proofs.Alike.{AreAlike, IsAlike}
-use Rattle.unit_laws.proofs.Left.{live_commits}
-use Rattle.unit_laws.proofs.Recovery.{gone, gone_by, mended_to}
+use Rattle.inorder.proofs.OneCaller.Alike.{AreAlike, IsAlike}
+use Rattle.inorder.proofs.OneCaller.Left.{live_commits}
+use Rattle.inorder.proofs.OneCaller.Recovery.{gone, gone_by, mended_to}
 
 -- a first half writes LO
 pub first_writes : (P : Program) (t : Tenant) → is_first P t ≡ true → destination_of P t ≡ lo

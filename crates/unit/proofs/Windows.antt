@@ -12,7 +12,7 @@ use Rattle.inorder.proofs.Basics.{last_writer_below, value_of_more}
 use Rattle.inorder.proofs.Commits.{not_complete}
 use Rattle.inorder.proofs.SettledRegisters.{ahead_if, committed_if, committed_pc, register_given, squashed_not, value_of_last, writer_if}
 use Rattle.inorder.proofs.Sound.{IsSettled, IsSound, SettledBy}
-use Rattle.unit_laws.proofs.Left.{live_commits, retired_all, retired_commits}
+use Rattle.inorder.proofs.OneCaller.Left.{live_commits, retired_all, retired_commits}
 use Rattle.unit.specs.Ahead.{low_after, low_of, waiting_half}
 use Rattle.unit.specs.declared.station.Station.{Station}
 use Rattle.unit.specs.Window.{accesses, half_behind, half_in, next_after, next_in, register_after, register_in, source_in, station_of, window}

@@ -12,8 +12,8 @@ use Rattle.unit.specs.Ahead.{low_of}
 use Rattle.unit.specs.Leavers.{leaver}
 use Rattle.unit.specs.Notes.{AreNoted}
 use Rattle.unit.specs.Window.{window}
-use Rattle.unit_laws.specs.Moves.{IsReached}
-use Rattle.unit_laws.specs.Still.{AreStill}
+use Rattle.inorder.specs.Moves.{IsReached}
+use Rattle.inorder.specs.Still.{AreStill}
 
 -- The sizes of the fields, as those of a unit
 abbrev pub sizes : Pipeline → Sizes

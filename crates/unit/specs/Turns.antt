@@ -26,8 +26,8 @@ use Rattle.unit.specs.Ahead.{ahead_by}
 use Rattle.unit.specs.Leavers.{IsAsked, IsTold, leaver}
 use Rattle.unit.specs.Blocked.{AreBlocked, IsUnblocked}
 use Rattle.unit.specs.StandsFor.{GoesOn, HasStopped, StandsFor, sizes}
-use Rattle.unit_laws.specs.Moves.{IsDeliver, IsLink, IsReached, IsSquash, Leads}
-use Rattle.unit_laws.specs.Still.{AreStill}
+use Rattle.inorder.specs.Moves.{IsDeliver, IsLink, IsReached, IsSquash, Leads}
+use Rattle.inorder.specs.Still.{AreStill}
 
 -- A tenant that is no live miss
 abbrev pub IsNoMiss : Tenant → Type 0

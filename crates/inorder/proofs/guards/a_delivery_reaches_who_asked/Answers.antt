@@ -1,4 +1,4 @@
-use Rattle.inorder.proofs.Delivered.{delivers}
+use Rattle.inorder.proofs.Theorem.Delivered.{delivers}
 use Rattle.inorder.proofs.guards.a_delivery_reaches_who_asked.Goals as goal
 
 pub returns : goal.returns

@@ -1,4 +1,4 @@
-use Rattle.inorder.proofs.Forbidden.{load_waits}
+use Rattle.inorder.proofs.Theorem.Forbidden.{load_waits}
 use Rattle.inorder.proofs.guards.a_load_passes_no_unknown_store.Goals as goal
 
 pub returns : goal.returns

@@ -1,4 +1,4 @@
-use Rattle.inorder.proofs.Forbidden.{miss_stays}
+use Rattle.inorder.proofs.Theorem.Forbidden.{miss_stays}
 use Rattle.inorder.proofs.guards.a_miss_does_not_retire.Goals as goal
 
 pub returns : goal.returns

@@ -1,4 +1,4 @@
-use Rattle.inorder.proofs.Forbidden.{squashed_stays}
+use Rattle.inorder.proofs.Theorem.Forbidden.{squashed_stays}
 use Rattle.inorder.proofs.guards.a_squashed_tenant_stays_squashed.Goals as goal
 
 pub returns : goal.returns

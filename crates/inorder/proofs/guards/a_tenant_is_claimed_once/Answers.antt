@@ -1,4 +1,4 @@
-use Rattle.inorder.proofs.Forbidden.{claimed_once}
+use Rattle.inorder.proofs.Theorem.Forbidden.{claimed_once}
 use Rattle.inorder.proofs.guards.a_tenant_is_claimed_once.Goals as goal
 
 pub returns : goal.returns

@@ -1,4 +1,4 @@
-use Rattle.inorder.proofs.Forbidden.{restores}
+use Rattle.inorder.proofs.Theorem.Forbidden.{restores}
 use Rattle.inorder.proofs.guards.recovery_restores.Goals as goal
 
 pub returns : goal.returns

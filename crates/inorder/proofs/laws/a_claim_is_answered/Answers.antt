@@ -1,4 +1,4 @@
-use Rattle.inorder.proofs.EachAnswered.{claim_is_answered}
+use Rattle.inorder.proofs.Theorem.EachAnswered.{claim_is_answered}
 use Rattle.inorder.proofs.laws.a_claim_is_answered.Goals as goal
 
 pub returns : goal.returns

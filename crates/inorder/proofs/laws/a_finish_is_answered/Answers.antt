@@ -1,4 +1,4 @@
-use Rattle.inorder.proofs.EachAnswered.{finish_is_answered}
+use Rattle.inorder.proofs.Theorem.EachAnswered.{finish_is_answered}
 use Rattle.inorder.proofs.laws.a_finish_is_answered.Goals as goal
 
 pub returns : goal.returns

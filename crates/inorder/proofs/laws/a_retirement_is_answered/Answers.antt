@@ -1,4 +1,4 @@
-use Rattle.inorder.proofs.EachAnswered.{retirement_is_answered}
+use Rattle.inorder.proofs.Theorem.EachAnswered.{retirement_is_answered}
 use Rattle.inorder.proofs.laws.a_retirement_is_answered.Goals as goal
 
 pub returns : goal.returns

@@ -1,4 +1,4 @@
-use Rattle.inorder.proofs.Waking.{loses_no_wake}
+use Rattle.inorder.proofs.Theorem.Waking.{loses_no_wake}
 use Rattle.inorder.proofs.laws.no_wake_is_lost.Goals as goal
 
 pub returns : goal.returns

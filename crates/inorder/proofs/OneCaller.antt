@@ -1,0 +1,11 @@
+-- What several steps of one caller come to.
+pub mod Middle
+pub mod Sequences
+pub mod Alike
+pub mod Deliveries
+pub mod Left
+pub mod Creators
+pub mod Dispatch
+pub mod Execution
+pub mod Recovery
+pub mod Retirement

@@ -1,0 +1,612 @@
+-- A loop on two stations, with two mispredictions, as a whole legal run.
+use Rattle.std.proofs.Common.{◌≡◌, List, [], ◌∷◌, replicate, Some, refl, sym, true, true≢false}
+use Rattle.instructions.specs.declared.stop.Stop.TheVariants.{Break as BreakStop}
+use Rattle.instructions.specs.Operations.{checked_address, computed_by, jump_target, loaded}
+use Rattle.instructions.specs.Programs.{Program, instr_at}
+use Rattle.instructions.specs.declared.op.Op.TheVariants.{Addiu, Bne, Break}
+use Rattle.inorder.specs.declared.history.Act.TheVariants.{Claim, Deliver, Finish, Link, Mend, Retire, Squash}
+use Rattle.inorder.specs.declared.history.Source.TheVariants.{First}
+use Rattle.inorder.specs.declared.history.Step.TheVariants.{Let, On}
+use Rattle.inorder.specs.declared.history.Supply.TheVariants.{From, Known}
+use Rattle.inorder.specs.Committed.{committed}
+use Rattle.inorder.specs.Legal.{AreAllowed, Taken, reached}
+use Rattle.inorder.specs.Runs.{after, stop}
+use Rattle.inorder.specs.Unit.{Sizes}
+use Rattle.inorder.proofs.Runs.Examples.{apart, computes_not_links, done_not_stop, less, retired_not_live, squashed_not_live, squashed_not_retired, taken}
+
+-- addiu $1,$0,3 / L: addiu $1,$1,-1 / bne $1,$0,L / break
+abbrev pub loop : Program
+loop =
+    record {
+      code =
+          record { op = Addiu; target = 1; first = 0; second = 0; number = 3 } ∷
+          record { op = Addiu; target = 1; first = 1; second = 0; number = 0xffffffff } ∷
+          record { op = Bne; target = 0; first = 1; second = 0; number = 0x400004 } ∷
+          record { op = Break; target = 0; first = 0; second = 0; number = 0 } ∷ [];
+      bytes = [];
+    }
+
+abbrev pub two_stations : Sizes
+two_stations = record { ring = 2; queue = 2; first_tag = 1 }
+
+-- The counter is 3, then 2; the second instruction waited for the first
+abbrev pub counted_to_two : List Taken
+counted_to_two =
+    taken 1 (On 1 (Retire 0)) ∷
+    taken 1 (On 0 (Retire 0)) ∷
+    taken 2 (On 1 Finish) ∷
+    taken 2 (On 1 Claim) ∷
+    taken 2 (On 1 (Deliver First)) ∷
+    taken 2 (On 0 Finish) ∷
+    taken 2 (On 0 Claim) ∷
+    taken 0 (On 1 (Link First)) ∷
+    taken 0 (Let 1 0x400008 From (Known 0)) ∷
+    taken 0 (Let 0 0x400004 (Known 0) (Known 0)) ∷
+    []
+
+counted_to_two_allowed : AreAllowed loop two_stations counted_to_two
+unfolding instr_at computed_by jump_target checked_address loaded
+counted_to_two_allowed = (
+  (
+    (
+      (
+        (
+          (
+            (
+              (
+                (
+                  (
+                    tt,
+                    record {
+                      room = less _ _ refl;
+                      queue = λ e. absurd (true≢false (sym e));
+                      is_there = less _ _ refl;
+                      pc = refl;
+                      small = less _ _ refl;
+                      predicts = refl;
+                      first_is = refl;
+                      second_is = refl;
+                    },
+                  ),
+                  record {
+                    room = less _ _ refl;
+                    queue = λ e. absurd (true≢false (sym e));
+                    is_there = less _ _ refl;
+                    pc = refl;
+                    small = less _ _ refl;
+                    predicts = refl;
+                    first_is = record {
+                      p = 0;
+                      tenant = _;
+                      creates = refl;
+                      is = refl;
+                      waits = computes_not_links;
+                      other = apart 0 1 refl;
+                      last = tt;
+                      new = refl;
+                    };
+                    second_is = refl;
+                  },
+                ),
+                record { tenant = _; is = refl; may = record { way = refl } },
+              ),
+              record { tenant = _; is = refl; may = record { live = refl; fate = refl; needs = refl } },
+            ),
+            record { tenant = _; is = refl; may = record { live = refl; fate = refl } },
+          ),
+          record {
+            tenant = _;
+            is = refl;
+            may = record { in_time = true; way = refl; waits = refl; value = 3; is_made = refl };
+          },
+        ),
+        record { tenant = _; is = refl; may = record { live = refl; fate = refl; needs = refl } },
+      ),
+      record { tenant = _; is = refl; may = record { live = refl; fate = refl } },
+    ),
+    record {
+      tenant = _;
+      is = refl;
+      may = record { small = less _ _ refl; live = refl; oldest = tt; no_stop = tt; can = tt };
+    },
+  ),
+  record {
+    tenant = _;
+    is = refl;
+    may = record {
+      small = less _ _ refl;
+      live = refl;
+      oldest = (retired_not_live, tt);
+      no_stop = ((λ e c. done_not_stop 3 c), tt);
+      can = tt;
+    };
+  },
+)
+
+-- The branch was predicted not taken, and is mended; the break behind it is squashed
+abbrev pub taken_once : List Taken
+taken_once =
+    taken 1 (On 2 (Retire 0)) ∷
+    taken 0 (On 2 Mend) ∷
+    taken 0 (On 3 Squash) ∷
+    taken 2 (On 2 Finish) ∷
+    taken 2 (On 2 Claim) ∷
+    taken 3 (On 3 Finish) ∷
+    taken 3 (On 3 Claim) ∷
+    taken 0 (Let 3 0x400010 (Known 0) (Known 0)) ∷
+    taken 0 (Let 2 0x40000c (Known 2) (Known 0)) ∷
+    counted_to_two
+
+taken_once_allowed : AreAllowed loop two_stations taken_once
+unfolding instr_at computed_by jump_target checked_address loaded
+taken_once_allowed = (
+  (
+    (
+      (
+        (
+          (
+            (
+              (
+                (
+                  counted_to_two_allowed,
+                  record {
+                    room = less _ _ refl;
+                    queue = λ e. absurd (true≢false (sym e));
+                    is_there = less _ _ refl;
+                    pc = refl;
+                    small = less _ _ refl;
+                    predicts = tt;
+                    first_is = refl;
+                    second_is = refl;
+                  },
+                ),
+                record {
+                  room = less _ _ refl;
+                  queue = λ e. absurd (true≢false (sym e));
+                  is_there = less _ _ refl;
+                  pc = refl;
+                  small = less _ _ refl;
+                  predicts = refl;
+                  first_is = refl;
+                  second_is = refl;
+                },
+              ),
+              record { tenant = _; is = refl; may = record { live = refl; fate = refl; needs = refl } },
+            ),
+            record { tenant = _; is = refl; may = record { live = refl; fate = refl } },
+          ),
+          record { tenant = _; is = refl; may = record { live = refl; fate = refl; needs = refl } },
+        ),
+        record { tenant = _; is = refl; may = record { live = refl; fate = refl } },
+      ),
+      record {
+        tenant = _;
+        is = refl;
+        may = record {
+          live = refl;
+          youngest = tt;
+          p = 2;
+          miss = _;
+          x = 0x400004;
+          miss_at = refl;
+          miss_live = refl;
+          miss_fate = refl;
+        };
+      },
+    ),
+    record {
+      tenant = _;
+      is = refl;
+      may = record { live = refl; youngest = (squashed_not_live, tt); x = 0x400004; fate = refl };
+    },
+  ),
+  record {
+    tenant = _;
+    is = refl;
+    may = record {
+      small = less _ _ refl;
+      live = refl;
+      oldest = (retired_not_live, (retired_not_live, tt));
+      no_stop = ((λ e c. done_not_stop 2 c), ((λ e c. done_not_stop 3 c), tt));
+      can = tt;
+    };
+  },
+)
+
+-- A second time round, where the branch waits for the counter
+abbrev pub counted_to_one : List Taken
+counted_to_one =
+    taken 1 (On 4 (Retire 0)) ∷
+    taken 3 (On 5 Finish) ∷
+    taken 3 (On 5 Claim) ∷
+    taken 2 (On 5 (Deliver First)) ∷
+    taken 2 (On 4 Finish) ∷
+    taken 2 (On 4 Claim) ∷
+    taken 0 (On 5 (Link First)) ∷
+    taken 0 (Let 2 0x40000c From (Known 0)) ∷
+    taken 0 (Let 1 0x400008 (Known 2) (Known 0)) ∷
+    taken_once
+
+counted_to_one_allowed : AreAllowed loop two_stations counted_to_one
+unfolding instr_at computed_by jump_target checked_address loaded
+counted_to_one_allowed = (
+  (
+    (
+      (
+        (
+          (
+            (
+              (
+                (
+                  taken_once_allowed,
+                  record {
+                    room = less _ _ refl;
+                    queue = λ e. absurd (true≢false (sym e));
+                    is_there = less _ _ refl;
+                    pc = refl;
+                    small = less _ _ refl;
+                    predicts = refl;
+                    first_is = refl;
+                    second_is = refl;
+                  },
+                ),
+                record {
+                  room = less _ _ refl;
+                  queue = λ e. absurd (true≢false (sym e));
+                  is_there = less _ _ refl;
+                  pc = refl;
+                  small = less _ _ refl;
+                  predicts = tt;
+                  first_is = record {
+                    p = 4;
+                    tenant = _;
+                    creates = refl;
+                    is = refl;
+                    waits = computes_not_links;
+                    other = apart 1 0 refl;
+                    last = tt;
+                    new = refl;
+                  };
+                  second_is = refl;
+                },
+              ),
+              record { tenant = _; is = refl; may = record { way = refl } },
+            ),
+            record { tenant = _; is = refl; may = record { live = refl; fate = refl; needs = refl } },
+          ),
+          record { tenant = _; is = refl; may = record { live = refl; fate = refl } },
+        ),
+        record {
+          tenant = _;
+          is = refl;
+          may = record { in_time = true; way = refl; waits = refl; value = 1; is_made = refl };
+        },
+      ),
+      record { tenant = _; is = refl; may = record { live = refl; fate = refl; needs = refl } },
+    ),
+    record { tenant = _; is = refl; may = record { live = refl; fate = refl } },
+  ),
+  record {
+    tenant = _;
+    is = refl;
+    may = record {
+      small = less _ _ refl;
+      live = refl;
+      oldest = (squashed_not_live, (retired_not_live, (retired_not_live, (retired_not_live, tt))));
+      no_stop = (
+        (λ e. absurd (squashed_not_retired e)),
+        ((λ e c. done_not_stop 0x400004 c), ((λ e c. done_not_stop 2 c), ((λ e c. done_not_stop 3 c), tt))),
+      );
+      can = tt;
+    };
+  },
+)
+
+-- The second misprediction
+abbrev pub taken_twice : List Taken
+taken_twice =
+    taken 1 (On 5 (Retire 0)) ∷
+    taken 0 (On 5 Mend) ∷
+    taken 0 (On 6 Squash) ∷
+    taken 0 (Let 3 0x400010 (Known 0) (Known 0)) ∷
+    counted_to_one
+
+taken_twice_allowed : AreAllowed loop two_stations taken_twice
+unfolding instr_at computed_by jump_target checked_address loaded
+taken_twice_allowed = (
+  (
+    (
+      (
+        counted_to_one_allowed,
+        record {
+          room = less _ _ refl;
+          queue = λ e. absurd (true≢false (sym e));
+          is_there = less _ _ refl;
+          pc = refl;
+          small = less _ _ refl;
+          predicts = refl;
+          first_is = refl;
+          second_is = refl;
+        },
+      ),
+      record {
+        tenant = _;
+        is = refl;
+        may = record {
+          live = refl;
+          youngest = tt;
+          p = 5;
+          miss = _;
+          x = 0x400004;
+          miss_at = refl;
+          miss_live = refl;
+          miss_fate = refl;
+        };
+      },
+    ),
+    record {
+      tenant = _;
+      is = refl;
+      may = record { live = refl; youngest = (squashed_not_live, tt); x = 0x400004; fate = refl };
+    },
+  ),
+  record {
+    tenant = _;
+    is = refl;
+    may = record {
+      small = less _ _ refl;
+      live = refl;
+      oldest = (
+        retired_not_live,
+        (squashed_not_live, (retired_not_live, (retired_not_live, (retired_not_live, tt)))),
+      );
+      no_stop = (
+        (λ e c. done_not_stop 1 c),
+        (
+          (λ e. absurd (squashed_not_retired e)),
+          ((λ e c. done_not_stop 0x400004 c), ((λ e c. done_not_stop 2 c), ((λ e c. done_not_stop 3 c), tt))),
+        ),
+      );
+      can = tt;
+    };
+  },
+)
+
+-- The branch is not taken, as predicted, and the break retires
+abbrev pub left_the_loop : List Taken
+left_the_loop =
+    taken 1 (On 9 (Retire 0)) ∷
+    taken 2 (On 9 Finish) ∷
+    taken 2 (On 9 Claim) ∷
+    taken 1 (On 8 (Retire 0)) ∷
+    taken 0 (Let 3 0x400010 (Known 0) (Known 0)) ∷
+    taken 1 (On 7 (Retire 0)) ∷
+    taken 2 (On 8 Finish) ∷
+    taken 2 (On 8 Claim) ∷
+    taken 2 (On 8 (Deliver First)) ∷
+    taken 2 (On 7 Finish) ∷
+    taken 2 (On 7 Claim) ∷
+    taken 0 (On 8 (Link First)) ∷
+    taken 0 (Let 2 0x40000c From (Known 0)) ∷
+    taken 0 (Let 1 0x400008 (Known 1) (Known 0)) ∷
+    taken_twice
+
+left_the_loop_allowed : AreAllowed loop two_stations left_the_loop
+unfolding instr_at computed_by jump_target checked_address loaded
+left_the_loop_allowed = (
+  (
+    (
+      (
+        (
+          (
+            (
+              (
+                (
+                  (
+                    (
+                      (
+                        (
+                          (
+                            taken_twice_allowed,
+                            record {
+                              room = less _ _ refl;
+                              queue = λ e. absurd (true≢false (sym e));
+                              is_there = less _ _ refl;
+                              pc = refl;
+                              small = less _ _ refl;
+                              predicts = refl;
+                              first_is = refl;
+                              second_is = refl;
+                            },
+                          ),
+                          record {
+                            room = less _ _ refl;
+                            queue = λ e. absurd (true≢false (sym e));
+                            is_there = less _ _ refl;
+                            pc = refl;
+                            small = less _ _ refl;
+                            predicts = tt;
+                            first_is = record {
+                              p = 7;
+                              tenant = _;
+                              creates = refl;
+                              is = refl;
+                              waits = computes_not_links;
+                              other = apart 1 0 refl;
+                              last = tt;
+                              new = refl;
+                            };
+                            second_is = refl;
+                          },
+                        ),
+                        record { tenant = _; is = refl; may = record { way = refl } },
+                      ),
+                      record { tenant = _; is = refl; may = record { live = refl; fate = refl; needs = refl } },
+                    ),
+                    record { tenant = _; is = refl; may = record { live = refl; fate = refl } },
+                  ),
+                  record {
+                    tenant = _;
+                    is = refl;
+                    may = record { in_time = true; way = refl; waits = refl; value = 0; is_made = refl };
+                  },
+                ),
+                record { tenant = _; is = refl; may = record { live = refl; fate = refl; needs = refl } },
+              ),
+              record { tenant = _; is = refl; may = record { live = refl; fate = refl } },
+            ),
+            record {
+              tenant = _;
+              is = refl;
+              may = record {
+                small = less _ _ refl;
+                live = refl;
+                oldest = (
+                  squashed_not_live,
+                  (
+                    retired_not_live,
+                    (
+                      retired_not_live,
+                      (squashed_not_live, (retired_not_live, (retired_not_live, (retired_not_live, tt)))),
+                    ),
+                  ),
+                );
+                no_stop = (
+                  (λ e. absurd (squashed_not_retired e)),
+                  (
+                    (λ e c. done_not_stop 0x400004 c),
+                    (
+                      (λ e c. done_not_stop 1 c),
+                      (
+                        (λ e. absurd (squashed_not_retired e)),
+                        (
+                          (λ e c. done_not_stop 0x400004 c),
+                          ((λ e c. done_not_stop 2 c), ((λ e c. done_not_stop 3 c), tt)),
+                        ),
+                      ),
+                    ),
+                  ),
+                );
+                can = tt;
+              };
+            },
+          ),
+          record {
+            room = less _ _ refl;
+            queue = λ e. absurd (true≢false (sym e));
+            is_there = less _ _ refl;
+            pc = refl;
+            small = less _ _ refl;
+            predicts = refl;
+            first_is = refl;
+            second_is = refl;
+          },
+        ),
+        record {
+          tenant = _;
+          is = refl;
+          may = record {
+            small = less _ _ refl;
+            live = refl;
+            oldest = (
+              retired_not_live,
+              (
+                squashed_not_live,
+                (
+                  retired_not_live,
+                  (
+                    retired_not_live,
+                    (squashed_not_live, (retired_not_live, (retired_not_live, (retired_not_live, tt)))),
+                  ),
+                ),
+              ),
+            );
+            no_stop = (
+              (λ e c. done_not_stop 0 c),
+              (
+                (λ e. absurd (squashed_not_retired e)),
+                (
+                  (λ e c. done_not_stop 0x400004 c),
+                  (
+                    (λ e c. done_not_stop 1 c),
+                    (
+                      (λ e. absurd (squashed_not_retired e)),
+                      (
+                        (λ e c. done_not_stop 0x400004 c),
+                        ((λ e c. done_not_stop 2 c), ((λ e c. done_not_stop 3 c), tt)),
+                      ),
+                    ),
+                  ),
+                ),
+              ),
+            );
+            can = tt;
+          };
+        },
+      ),
+      record { tenant = _; is = refl; may = record { live = refl; fate = refl; needs = refl } },
+    ),
+    record { tenant = _; is = refl; may = record { live = refl; fate = refl } },
+  ),
+  record {
+    tenant = _;
+    is = refl;
+    may = record {
+      small = less _ _ refl;
+      live = refl;
+      oldest = (
+        retired_not_live,
+        (
+          retired_not_live,
+          (
+            squashed_not_live,
+            (
+              retired_not_live,
+              (
+                retired_not_live,
+                (squashed_not_live, (retired_not_live, (retired_not_live, (retired_not_live, tt)))),
+              ),
+            ),
+          ),
+        ),
+      );
+      no_stop = (
+        (λ e c. done_not_stop 0x40000c c),
+        (
+          (λ e c. done_not_stop 0 c),
+          (
+            (λ e. absurd (squashed_not_retired e)),
+            (
+              (λ e c. done_not_stop 0x400004 c),
+              (
+                (λ e c. done_not_stop 1 c),
+                (
+                  (λ e. absurd (squashed_not_retired e)),
+                  (
+                    (λ e c. done_not_stop 0x400004 c),
+                    ((λ e c. done_not_stop 2 c), ((λ e c. done_not_stop 3 c), tt)),
+                  ),
+                ),
+              ),
+            ),
+          ),
+        ),
+      );
+      can = tt;
+    };
+  },
+)
+
+-- Seven instructions have committed, the counter is 0, and the pc is that of the break
+loop_committed : committed loop (reached loop two_stations left_the_loop).tenants ≡
+    record { registers = replicate 34 0; memory = []; pc = 0x0040000c; count = 7 }
+unfolding instr_at computed_by jump_target checked_address loaded
+loop_committed = refl
+
+loop_in_order : after loop 7 ≡ Some (committed loop (reached loop two_stations left_the_loop).tenants)
+unfolding instr_at computed_by jump_target checked_address loaded
+loop_in_order = refl
+
+loop_stops : stop loop 7 ≡ Some BreakStop
+unfolding instr_at computed_by jump_target checked_address loaded
+loop_stops = refl

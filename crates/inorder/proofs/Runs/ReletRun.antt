@@ -1,0 +1,251 @@
+-- A station let again while a job of its old tenant is out, as a whole legal run.
+use Rattle.std.proofs.Common.{◌≡◌, List, [], ◌∷◌, replicate, refl, sym, true≢false}
+use Rattle.instructions.specs.Operations.{checked_address, computed_by, jump_target, loaded}
+use Rattle.instructions.specs.Programs.{Program, instr_at}
+use Rattle.instructions.specs.declared.op.Op.TheVariants.{Addiu, Beq, Break}
+use Rattle.inorder.specs.declared.history.Act.TheVariants.{Claim, Finish, Mend, Retire, Squash}
+use Rattle.inorder.specs.declared.history.Step.TheVariants.{Let, On}
+use Rattle.inorder.specs.declared.history.Supply.TheVariants.{Known}
+use Rattle.inorder.specs.Committed.{committed}
+use Rattle.inorder.specs.Legal.{AreAllowed, Taken, reached}
+use Rattle.inorder.specs.StationWords.{live_word, station_word}
+use Rattle.inorder.specs.Tenants.{Open}
+use Rattle.inorder.specs.Unit.{Sizes, recent}
+use Rattle.inorder.proofs.Runs.Examples.{done_not_stop, less, retired_not_live, squashed_not_live, squashed_not_retired, taken}
+
+-- beq $0,$0,E / addiu $1,$0,1 / E: addiu $2,$0,2 / break
+abbrev pub relets : Program
+relets =
+    record {
+      code =
+          record { op = Beq; target = 0; first = 0; second = 0; number = 0x400008 } ∷
+          record { op = Addiu; target = 1; first = 0; second = 0; number = 1 } ∷
+          record { op = Addiu; target = 2; first = 0; second = 0; number = 2 } ∷
+          record { op = Break; target = 0; first = 0; second = 0; number = 0 } ∷ [];
+      bytes = [];
+    }
+
+abbrev pub four : Sizes
+four = record { ring = 4; queue = 4; first_tag = 1 }
+
+-- Caller 2 holds a job on the wrong path when the branch is found to be a miss
+abbrev pub job_on_the_wrong_path : List Taken
+job_on_the_wrong_path =
+    taken 3 (On 0 Finish) ∷
+    taken 3 (On 0 Claim) ∷
+    taken 2 (On 1 Claim) ∷
+    taken 0 (Let 2 0x40000c (Known 0) (Known 0)) ∷
+    taken 0 (Let 1 0x400008 (Known 0) (Known 0)) ∷
+    taken 0 (Let 0 0x400004 (Known 0) (Known 0)) ∷
+    []
+
+job_on_the_wrong_path_allowed : AreAllowed relets four job_on_the_wrong_path
+unfolding instr_at computed_by jump_target checked_address loaded
+job_on_the_wrong_path_allowed = (
+  (
+    (
+      (
+        (
+          (
+            tt,
+            record {
+              room = less _ _ refl;
+              queue = λ e. absurd (true≢false (sym e));
+              is_there = less _ _ refl;
+              pc = refl;
+              small = less _ _ refl;
+              predicts = tt;
+              first_is = refl;
+              second_is = refl;
+            },
+          ),
+          record {
+            room = less _ _ refl;
+            queue = λ e. absurd (true≢false (sym e));
+            is_there = less _ _ refl;
+            pc = refl;
+            small = less _ _ refl;
+            predicts = refl;
+            first_is = refl;
+            second_is = refl;
+          },
+        ),
+        record {
+          room = less _ _ refl;
+          queue = λ e. absurd (true≢false (sym e));
+          is_there = less _ _ refl;
+          pc = refl;
+          small = less _ _ refl;
+          predicts = refl;
+          first_is = refl;
+          second_is = refl;
+        },
+      ),
+      record { tenant = _; is = refl; may = record { live = refl; fate = refl; needs = refl } },
+    ),
+    record { tenant = _; is = refl; may = record { live = refl; fate = refl; needs = refl } },
+  ),
+  record { tenant = _; is = refl; may = record { live = refl; fate = refl } },
+)
+
+-- Its station is let again, under the next tag
+abbrev pub relet : List Taken
+relet =
+    taken 0 (Let 2 0x40000c (Known 0) (Known 0)) ∷
+    taken 0 (On 0 Mend) ∷
+    taken 0 (On 1 Squash) ∷
+    taken 0 (On 2 Squash) ∷
+    job_on_the_wrong_path
+
+relet_allowed : AreAllowed relets four relet
+unfolding instr_at computed_by jump_target checked_address loaded
+relet_allowed = (
+  (
+    (
+      (
+        job_on_the_wrong_path_allowed,
+        record {
+          tenant = _;
+          is = refl;
+          may = record {
+            live = refl;
+            youngest = tt;
+            p = 0;
+            miss = _;
+            x = 0x400008;
+            miss_at = refl;
+            miss_live = refl;
+            miss_fate = refl;
+          };
+        },
+      ),
+      record {
+        tenant = _;
+        is = refl;
+        may = record {
+          live = refl;
+          youngest = (squashed_not_live, tt);
+          p = 0;
+          miss = _;
+          x = 0x400008;
+          miss_at = refl;
+          miss_live = refl;
+          miss_fate = refl;
+        };
+      },
+    ),
+    record {
+      tenant = _;
+      is = refl;
+      may = record {
+        live = refl;
+        youngest = (squashed_not_live, (squashed_not_live, tt));
+        x = 0x400008;
+        fate = refl;
+      };
+    },
+  ),
+  record {
+    room = less _ _ refl;
+    queue = λ e. absurd (true≢false (sym e));
+    is_there = less _ _ refl;
+    pc = refl;
+    small = less _ _ refl;
+    predicts = refl;
+    first_is = refl;
+    second_is = refl;
+  },
+)
+
+-- All retire in order; the old job is never finished
+abbrev pub relet_ended : List Taken
+relet_ended =
+    taken 1 (On 4 (Retire 0)) ∷
+    taken 3 (On 4 Finish) ∷
+    taken 3 (On 4 Claim) ∷
+    taken 0 (Let 3 0x400010 (Known 0) (Known 0)) ∷
+    taken 1 (On 3 (Retire 0)) ∷
+    taken 1 (On 0 (Retire 0)) ∷
+    taken 3 (On 3 Finish) ∷
+    taken 3 (On 3 Claim) ∷
+    relet
+
+relet_ended_allowed : AreAllowed relets four relet_ended
+unfolding instr_at computed_by jump_target checked_address loaded
+relet_ended_allowed = (
+  (
+    (
+      (
+        (
+          (
+            (
+              (
+                relet_allowed,
+                record { tenant = _; is = refl; may = record { live = refl; fate = refl; needs = refl } },
+              ),
+              record { tenant = _; is = refl; may = record { live = refl; fate = refl } },
+            ),
+            record {
+              tenant = _;
+              is = refl;
+              may = record { small = less _ _ refl; live = refl; oldest = tt; no_stop = tt; can = tt };
+            },
+          ),
+          record {
+            tenant = _;
+            is = refl;
+            may = record {
+              small = less _ _ refl;
+              live = refl;
+              oldest = (squashed_not_live, (squashed_not_live, (retired_not_live, tt)));
+              no_stop = (
+                (λ e. absurd (squashed_not_retired e)),
+                ((λ e. absurd (squashed_not_retired e)), ((λ e c. done_not_stop 0x400008 c), tt)),
+              );
+              can = tt;
+            };
+          },
+        ),
+        record {
+          room = less _ _ refl;
+          queue = λ e. absurd (true≢false (sym e));
+          is_there = less _ _ refl;
+          pc = refl;
+          small = less _ _ refl;
+          predicts = refl;
+          first_is = refl;
+          second_is = refl;
+        },
+      ),
+      record { tenant = _; is = refl; may = record { live = refl; fate = refl; needs = refl } },
+    ),
+    record { tenant = _; is = refl; may = record { live = refl; fate = refl } },
+  ),
+  record {
+    tenant = _;
+    is = refl;
+    may = record {
+      small = less _ _ refl;
+      live = refl;
+      oldest = (retired_not_live, (squashed_not_live, (squashed_not_live, (retired_not_live, tt))));
+      no_stop = (
+        (λ e c. done_not_stop 2 c),
+        (
+          (λ e. absurd (squashed_not_retired e)),
+          ((λ e. absurd (squashed_not_retired e)), ((λ e c. done_not_stop 0x400008 c), tt)),
+        ),
+      );
+      can = tt;
+    };
+  },
+)
+
+-- Station 1 shows the new tenant, open, with tag 2
+relet_word : station_word four (recent (reached relets four relet)) 1 ≡ live_word 2 Open
+unfolding instr_at computed_by jump_target checked_address loaded
+relet_word = refl
+
+relet_committed : committed relets (reached relets four relet_ended).tenants ≡
+    record { registers = 0 ∷ 0 ∷ 2 ∷ replicate 31 0; memory = []; pc = 0x0040000c; count = 2 }
+unfolding instr_at computed_by jump_target checked_address loaded
+relet_committed = refl

@@ -1,0 +1,231 @@
+-- A fault on the wrong path, squashed by recovery, as a whole legal run.
+use Rattle.std.proofs.Common.{◌≡◌, List, [], ◌∷◌, replicate, Some, refl, sym, true≢false}
+use Rattle.instructions.specs.declared.stop.Stop.TheVariants.{Break as BreakStop}
+use Rattle.instructions.specs.Operations.{checked_address, computed_by, jump_target, loaded}
+use Rattle.instructions.specs.Programs.{Program, instr_at}
+use Rattle.instructions.specs.declared.op.Op.TheVariants.{Beq, Break, Lw}
+use Rattle.inorder.specs.declared.history.Act.TheVariants.{Claim, Finish, Mend, Retire, Squash}
+use Rattle.inorder.specs.declared.history.Step.TheVariants.{Let, On}
+use Rattle.inorder.specs.declared.history.Supply.TheVariants.{Known}
+use Rattle.inorder.specs.Committed.{committed}
+use Rattle.inorder.specs.Legal.{AreAllowed, Taken, reached}
+use Rattle.inorder.specs.Runs.{stop}
+use Rattle.inorder.specs.Unit.{Sizes}
+use Rattle.inorder.proofs.Runs.Examples.{done_not_stop, less, retired_not_live, squashed_not_live, squashed_not_retired, taken}
+
+-- beq $0,$0,E / lw $1,1($0) / E: break
+abbrev pub skips : Program
+skips =
+    record {
+      code =
+          record { op = Beq; target = 0; first = 0; second = 0; number = 0x400008 } ∷
+          record { op = Lw; target = 1; first = 0; second = 0; number = 1 } ∷
+          record { op = Break; target = 0; first = 0; second = 0; number = 0 } ∷ [];
+      bytes = [];
+    }
+
+abbrev pub four_stations : Sizes
+four_stations = record { ring = 4; queue = 2; first_tag = 1 }
+
+-- Let, Let, Let: the branch is predicted not taken
+abbrev pub all_let : List Taken
+all_let =
+    taken 0 (Let 2 0x40000c (Known 0) (Known 0)) ∷
+    taken 0 (Let 1 0x400008 (Known 0) (Known 0)) ∷
+    taken 0 (Let 0 0x400004 (Known 0) (Known 0)) ∷
+    []
+
+all_let_allowed : AreAllowed skips four_stations all_let
+unfolding instr_at computed_by jump_target checked_address loaded
+all_let_allowed = (
+  (
+    (
+      tt,
+      record {
+        room = less _ _ refl;
+        queue = λ e. absurd (true≢false (sym e));
+        is_there = less _ _ refl;
+        pc = refl;
+        small = less _ _ refl;
+        predicts = tt;
+        first_is = refl;
+        second_is = refl;
+      },
+    ),
+    record {
+      room = less _ _ refl;
+      queue = λ e. less _ _ refl;
+      is_there = less _ _ refl;
+      pc = refl;
+      small = less _ _ refl;
+      predicts = refl;
+      first_is = refl;
+      second_is = refl;
+    },
+  ),
+  record {
+    room = less _ _ refl;
+    queue = λ e. absurd (true≢false (sym e));
+    is_there = less _ _ refl;
+    pc = refl;
+    small = less _ _ refl;
+    predicts = refl;
+    first_is = refl;
+    second_is = refl;
+  },
+)
+
+-- The load behind the branch has stopped, its address being odd, and the branch is a miss
+abbrev pub fault_on_the_wrong_path : List Taken
+fault_on_the_wrong_path =
+    taken 2 (On 0 Finish) ∷
+    taken 2 (On 0 Claim) ∷
+    taken 2 (On 1 Finish) ∷
+    taken 2 (On 1 Claim) ∷
+    all_let
+
+fault_on_the_wrong_path_allowed : AreAllowed skips four_stations fault_on_the_wrong_path
+unfolding instr_at computed_by jump_target checked_address loaded
+fault_on_the_wrong_path_allowed = (
+  (
+    (
+      (
+        all_let_allowed,
+        record { tenant = _; is = refl; may = record { live = refl; fate = refl; needs = refl } },
+      ),
+      record { tenant = _; is = refl; may = record { live = refl; fate = refl } },
+    ),
+    record { tenant = _; is = refl; may = record { live = refl; fate = refl; needs = refl } },
+  ),
+  record { tenant = _; is = refl; may = record { live = refl; fate = refl } },
+)
+
+-- Recovered: the younger two are squashed, and the branch is mended
+abbrev pub recovered : List Taken
+recovered =
+    taken 0 (On 0 Mend) ∷
+    taken 0 (On 1 Squash) ∷
+    taken 0 (On 2 Squash) ∷
+    fault_on_the_wrong_path
+
+recovered_allowed : AreAllowed skips four_stations recovered
+unfolding instr_at computed_by jump_target checked_address loaded
+recovered_allowed = (
+  (
+    (
+      fault_on_the_wrong_path_allowed,
+      record {
+        tenant = _;
+        is = refl;
+        may = record {
+          live = refl;
+          youngest = tt;
+          p = 0;
+          miss = _;
+          x = 0x400008;
+          miss_at = refl;
+          miss_live = refl;
+          miss_fate = refl;
+        };
+      },
+    ),
+    record {
+      tenant = _;
+      is = refl;
+      may = record {
+        live = refl;
+        youngest = (squashed_not_live, tt);
+        p = 0;
+        miss = _;
+        x = 0x400008;
+        miss_at = refl;
+        miss_live = refl;
+        miss_fate = refl;
+      };
+    },
+  ),
+  record {
+    tenant = _;
+    is = refl;
+    may = record {
+      live = refl;
+      youngest = (squashed_not_live, (squashed_not_live, tt));
+      x = 0x400008;
+      fate = refl;
+    };
+  },
+)
+
+-- Let, Ran, Retired
+abbrev pub let_again : List Taken
+let_again =
+    taken 1 (On 0 (Retire 0)) ∷
+    taken 2 (On 3 Finish) ∷
+    taken 2 (On 3 Claim) ∷
+    taken 0 (Let 2 0x40000c (Known 0) (Known 0)) ∷
+    recovered
+
+let_again_allowed : AreAllowed skips four_stations let_again
+unfolding instr_at computed_by jump_target checked_address loaded
+let_again_allowed = (
+  (
+    (
+      (
+        recovered_allowed,
+        record {
+          room = less _ _ refl;
+          queue = λ e. absurd (true≢false (sym e));
+          is_there = less _ _ refl;
+          pc = refl;
+          small = less _ _ refl;
+          predicts = refl;
+          first_is = refl;
+          second_is = refl;
+        },
+      ),
+      record { tenant = _; is = refl; may = record { live = refl; fate = refl; needs = refl } },
+    ),
+    record { tenant = _; is = refl; may = record { live = refl; fate = refl } },
+  ),
+  record {
+    tenant = _;
+    is = refl;
+    may = record { small = less _ _ refl; live = refl; oldest = tt; no_stop = tt; can = tt };
+  },
+)
+
+-- Over: the break on the right path retires
+abbrev pub ended : List Taken
+ended =
+    taken 1 (On 3 (Retire 0)) ∷
+    let_again
+
+ended_allowed : AreAllowed skips four_stations ended
+unfolding instr_at computed_by jump_target checked_address loaded
+ended_allowed = (
+  let_again_allowed,
+  record {
+    tenant = _;
+    is = refl;
+    may = record {
+      small = less _ _ refl;
+      live = refl;
+      oldest = (squashed_not_live, (squashed_not_live, (retired_not_live, tt)));
+      no_stop = (
+        (λ e. absurd (squashed_not_retired e)),
+        ((λ e. absurd (squashed_not_retired e)), ((λ e c. done_not_stop 0x400008 c), tt)),
+      );
+      can = tt;
+    };
+  },
+)
+
+-- The fault on the wrong path has left nothing: one instruction has committed
+skips_committed : committed skips (reached skips four_stations ended).tenants ≡
+    record { registers = replicate 34 0; memory = []; pc = 0x00400008; count = 1 }
+unfolding instr_at computed_by jump_target checked_address loaded
+skips_committed = refl
+
+skips_stops : stop skips 1 ≡ Some BreakStop
+unfolding instr_at computed_by jump_target checked_address loaded
+skips_stops = refl

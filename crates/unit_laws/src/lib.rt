@@ -1,2 +1,0 @@
-//! What several steps of one caller come to in the one-thread unit.
-#![tactic(auto)]
