@@ -5,6 +5,7 @@ pub mod Looking
 pub mod Moments
 pub mod Letting
 pub mod Claiming
+pub mod Calls
 pub mod Writeback
 pub mod Waking
 pub mod Carrying

@@ -1,0 +1,91 @@
+-- A step of a call is one of its table.
+use Rattle.std.proofs.Common.{◌≡◌, ℕ, Bool, List, [], sym, ap, refl, ◌∙◌, subst}
+use Rattle.atomic_table.specs.Seated.{TableId}
+use Rattle.atomic_table.specs.Table.{Allows, Me, Step}
+use Rattle.instructions.specs.Programs.{Program}
+use Rattle.inorder.specs.declared.history.Entry.{Entry}
+use Rattle.inorder.specs.declared.history.Event.{Event}
+use Rattle.inorder.specs.History.{IsLegal}
+use Rattle.ruu_words.specs.declared.place.Place.{Place}
+use Rattle.ruu_words.specs.declared.rule.Draft.{Draft}
+use Rattle.ruu_words.specs.declared.rule.Role.{Role}
+use Rattle.ruu_words.specs.declared.rule.Role.TheVariants.{Back, Front, Spent, Start, Worker}
+use Rattle.ruu_words.specs.declared.rule.Setup.{Setup}
+use Rattle.ruu_words.specs.declared.rule.View.{View}
+use Rattle.ruu_words.specs.Places.{IsPlace, index}
+use Rattle.ruu_words.specs.Rule.{Grows, IsAlive, Kept, Tells, Unborn, opening_of, sizes_of}
+use Rattle.ruu_words.proofs.General.{allowed_at}
+use Rattle.station.specs.Calls.{IsCall, IsLater, IsLegalCall, MayTake, StepKind, Takes, TheCall}
+use Rattle.station.specs.Seats.{HasHeirs, IsNumbered, IsSeated, TheCore, core_of}
+use Rattle.station.proofs.Numbers.{numbered_on}
+use Rattle.station.proofs.SameUnit.{Unit_of, unit_at, unit_in}
+
+abbrev pub call_of : TheCore → View → ℕ → TheCall
+call_of core view lent = record { core = core; view = view; lent = lent }
+
+-- a seat with a number is not spent
+pub alive_role : (opening : List Entry) (role : Role) (v : View) → IsNumbered opening role v → IsAlive role
+alive_role opening role v n = go role n.heirs
+  where
+    go : (r : Role) → HasHeirs opening r v → IsAlive r
+    go Start h = absurd h
+    go Front h = tt
+    go Back h = tt
+    go Worker h = tt
+    go Spent h = absurd h
+
+module _ (table : TableId) (key : Setup) (core : TheCore) (here : core_of table key ≡ core) (me : Me ℕ View) (lent : ℕ) (v : TheCall) (is : call_of core me.0 lent ≡ v) where
+  abbrev its : StepKind → List Entry → Draft → List Event → Type 0
+  its K = K key.program (sizes_of key)
+
+  same : call_of (core_of table key) me.0 lent ≡ v
+  same = ap (λ c. call_of c me.0 lent) here ∙ is
+
+  pub may : (role : Role) (at : TableId) (slots id : ℕ) (x : Place) (i : ℕ) (f tell : ℕ → ℕ) (K : ℕ → StepKind) (z : Step ℕ) (ring : ℕ) → key.ring ≡ ring → i ≡ index ring x → IsCall core role at me
+      → IsPlace v.core.sizes.ring x → MayTake role v x f (λ n. K (tell n)) → Allows (Kept key) slots id me i f (λ n found. Tells key.program (sizes_of key) (opening_of key) me.0.by (λ n. its (K n)) z me (tell n) found)
+  may role at slots id x i f tell K z ring ring_is index_is was place m =
+      allowed_at key.program (sizes_of key) (opening_of key) slots id me x i f tell (λ n. its (K n)) z (ap (λ r. index r x) ring_is ∙ sym index_is)
+      (subst (λ (z : TheCall). IsPlace z.core.sizes.ring x) (sym same) place)
+      (subst IsAlive (sym was.role_is) (alive_role core.opening role me.0 was.numbered))
+      (subst (λ z. MayTake role z x f (λ n. K (tell n))) (sym same) m was.role_is)
+
+  pub goes_on : (role : Role) (old_table new_table : TableId) (w : Me ℕ View) (K : StepKind) → IsCall core role old_table me → new_table ≡ old_table → Grows key.program (sizes_of key) me.0.by me.0 w.0 (its K)
+      → Unborn (opening_of key) w.0 → w.1 ≡ me.1 → IsCall core role new_table w
+  goes_on role old_table new_table w K was at g unborn slots = record {
+    at = at ∙ was.at;
+    role_is = g.role ∙ was.role_is;
+    slots = slots ∙ was.slots;
+    legal = subst (λ (c : TheCore). IsLegal c.program c.sizes w.0.seen) here g.legal;
+    numbered = numbered_on core.opening role me.0 w.0 g.by_is g.heirs_are (subst (λ (c : TheCore). Unborn c.opening w.0) here unborn) was.numbered;
+  }
+
+  pub takes : (w : View) (K : StepKind) → Grows key.program (sizes_of key) me.0.by me.0 w (its K) → Takes v (call_of core w lent) K
+  takes w K g = subst (λ z. Takes z (call_of core w lent) K) same (record { same = record { core = sym here; role = g.role; by = g.by_is; heirs = g.heirs_are; lent = refl }; grows = g })
+
+-- the steps of one call are of one core and one caller
+pub behind : (u v w : TheCall) → IsLater u v → IsLater v w → IsLater u w
+behind u v w a b = record { core = b.core ∙ a.core; role = b.role ∙ a.role; by = b.by ∙ a.by; heirs = b.heirs ∙ a.heirs; lent = b.lent ∙ a.lent }
+
+-- what is said of its core and caller
+abbrev pub Of : Type 0
+Of = TheCore × ℕ
+
+abbrev pub of : TheCall → Of
+of v = (v.core, v.view.by)
+
+pub of_one : (v w : TheCall) → IsLater v w → of w ≡ of v
+of_one v w g = λ i. (g.core i, g.by i)
+
+-- a step of the same call later, of the core and the caller as they were named before
+pub later : (v w x : TheCall) (K : StepKind) → IsLater v w → Takes w x K → Grows v.core.program v.core.sizes v.view.by w.view x.view (K v.core.program v.core.sizes)
+later v w x K g t = subst (λ (z : Of). Grows z.0.program z.0.sizes z.1 w.view x.view (K z.0.program z.0.sizes)) (of_one v w g) t.grows
+
+-- what is known of a call that has used one of its fields
+pub legal_at : (core : TheCore) (me : Me ℕ View) (lent : ℕ) (v : TheCall) → call_of core me.0 lent ≡ v → (role : Role) (table : TableId) → IsCall core role table me → IsLegalCall v
+legal_at core me lent v is role table t = subst IsLegalCall is t.legal
+
+pub role_at : (core : TheCore) (me : Me ℕ View) (lent : ℕ) (v : TheCall) → call_of core me.0 lent ≡ v → (role : Role) (table : TableId) → IsCall core role table me → v.view.role ≡ role
+role_at core me lent v is role table t = sym (ap (λ (z : TheCall). z.view.role) is) ∙ t.role_is
+
+pub program_at : (table : TableId) (key : Setup) (core : TheCore) → core_of table key ≡ core → (view : View) (lent : ℕ) (v : TheCall) → call_of core view lent ≡ v → (P : Program) → key.program ≡ P → P ≡ v.core.program
+program_at table key core here view lent v is P e = sym e ∙ (ap (λ (z : TheCore). z.program) here ∙ ap (λ (z : TheCall). z.core.program) is)

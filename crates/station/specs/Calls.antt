@@ -1,0 +1,67 @@
+-- A seat in the middle of a call, and the steps that it takes.
+use Rattle.std.specs.Prelude.{◌≡◌, ℕ, List, []}
+use Rattle.atomic_table.specs.Seated.{TableId}
+use Rattle.atomic_table.specs.Table.{Me}
+use Rattle.instructions.specs.Programs.{Program}
+use Rattle.inorder.specs.declared.history.Entry.{Entry}
+use Rattle.inorder.specs.declared.history.Event.{Event}
+use Rattle.inorder.specs.History.{IsLegal, unit_of}
+use Rattle.inorder.specs.Tenants.{Tenant}
+use Rattle.inorder.specs.Unit.{Sizes, UpdateUnit}
+use Rattle.ruu_words.specs.declared.place.Place.{Place}
+use Rattle.ruu_words.specs.declared.rule.Draft.{Draft}
+use Rattle.ruu_words.specs.declared.rule.Role.{Role}
+use Rattle.ruu_words.specs.declared.rule.View.{View}
+use Rattle.ruu_words.specs.Plans.{Plans}
+use Rattle.ruu_words.specs.Rule.{Grows}
+use Rattle.station.specs.Claiming.{HasSeen}
+use Rattle.station.specs.Seats.{IsNumbered, TheCore}
+
+-- Its core, what the seat knows at this point, and which seat is lent to the call
+pub record TheCall : Type 0 where
+  pub core : TheCore
+  pub view : View
+  pub lent : ℕ
+
+-- What is true of it between two steps
+pub record IsCall (core : TheCore) (role : Role) (table : TableId) (me : Me ℕ View) : Type 0 where
+  pub at : table ≡ core.id
+  pub role_is : me.0.role ≡ role
+  pub slots : me.1 ≡ []
+  pub legal : IsLegal core.program core.sizes me.0.seen
+  pub numbered : IsNumbered core.opening role me.0
+
+-- The same call, later
+pub record IsLater (v w : TheCall) : Type 0 where
+  pub core : w.core ≡ v.core
+  pub role : w.view.role ≡ v.view.role
+  pub by : w.view.by ≡ v.view.by
+  pub heirs : w.view.heirs ≡ v.view.heirs
+  pub lent : w.lent ≡ v.lent
+
+-- A kind of step, of a program and sizes
+abbrev pub StepKind : Type 1
+StepKind = Program → Sizes → List Entry → Draft → List Event → Type 0
+
+-- One step of this kind
+pub record Takes (v w : TheCall) (K : StepKind) : Type 0 where
+  pub same : IsLater v w
+  pub grows : Grows v.core.program v.core.sizes v.view.by v.view w.view (K v.core.program v.core.sizes)
+
+-- A seat of this role may step at this place: where it finds n it leaves f n, and the kind is K n
+abbrev pub MayTake : Role → TheCall → Place → (ℕ → ℕ) → (ℕ → StepKind) → Type 0
+MayTake role v x f K =
+    v.view.role ≡ role
+    → Plans v.core.program v.core.sizes v.view.by v.view x f (λ n. K n v.core.program v.core.sizes)
+
+-- What the caller has seen is legal
+abbrev pub IsLegalCall : TheCall → Type 0
+IsLegalCall v = IsLegal v.core.program v.core.sizes v.view.seen
+
+-- The unit of what it has seen
+abbrev pub seen_unit : TheCall → UpdateUnit
+seen_unit v = unit_of v.core.program v.core.sizes v.view.seen
+
+-- It has seen a tenant of this station and tag, open once, of which this is true
+abbrev pub Saw : TheCall → ℕ → ℕ → (Tenant → Type 0) → Type 0
+Saw v station tag Fact = HasSeen v.core.program v.core.sizes v.view.seen station tag Fact
