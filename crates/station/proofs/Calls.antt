@@ -13,7 +13,7 @@ use Rattle.ruu_words.specs.declared.rule.Role.TheVariants.{Back, Front, Spent, S
 use Rattle.ruu_words.specs.declared.rule.Setup.{Setup}
 use Rattle.ruu_words.specs.declared.rule.View.{View}
 use Rattle.ruu_words.specs.Places.{IsPlace, index}
-use Rattle.ruu_words.specs.Rule.{Grows, IsAlive, Kept, Tells, Unborn, opening_of, sizes_of}
+use Rattle.ruu_words.specs.Rule.{Grows, IsAlive, IsCaller, Kept, Tells, Unborn, opening_of, sizes_of}
 use Rattle.ruu_words.proofs.General.{allowed_at}
 use Rattle.station.specs.Calls.{IsCall, IsLater, IsLegalCall, MayTake, StepKind, Takes, TheCall}
 use Rattle.station.specs.Seats.{HasHeirs, IsNumbered, IsSeated, TheCore, core_of}
@@ -47,7 +47,7 @@ module _ (table : TableId) (key : Setup) (core : TheCore) (here : core_of table 
       allowed_at key.program (sizes_of key) (opening_of key) slots id me x i f tell (λ n. its (K n)) z (ap (λ r. index r x) ring_is ∙ sym index_is)
       (subst (λ (z : TheCall). IsPlace z.core.sizes.ring x) (sym same) place)
       (subst IsAlive (sym was.role_is) (alive_role core.opening role me.0 was.numbered))
-      (subst (λ z. MayTake role z x f (λ n. K (tell n))) (sym same) m was.role_is)
+      (subst (λ z. MayTake role z x f (λ n. K (tell n))) (sym same) m was.role_is was.numbered.caller)
 
   pub goes_on : (role : Role) (old_table new_table : TableId) (w : Me ℕ View) (K : StepKind) → IsCall core role old_table me → new_table ≡ old_table → Grows key.program (sizes_of key) me.0.by me.0 w.0 (its K)
       → Unborn (opening_of key) w.0 → w.1 ≡ me.1 → IsCall core role new_table w
@@ -89,3 +89,6 @@ role_at core me lent v is role table t = sym (ap (λ (z : TheCall). z.view.role)
 
 pub program_at : (table : TableId) (key : Setup) (core : TheCore) → core_of table key ≡ core → (view : View) (lent : ℕ) (v : TheCall) → call_of core view lent ≡ v → (P : Program) → key.program ≡ P → P ≡ v.core.program
 program_at table key core here view lent v is P e = sym e ∙ (ap (λ (z : TheCore). z.program) here ∙ ap (λ (z : TheCall). z.core.program) is)
+
+pub caller_at : (core : TheCore) (me : Me ℕ View) (lent : ℕ) (v : TheCall) → call_of core me.0 lent ≡ v → (role : Role) (table : TableId) → IsCall core role table me → IsCaller role v.view.by
+caller_at core me lent v is role table t = subst (λ (z : TheCall). IsCaller role z.view.by) is t.numbered.caller

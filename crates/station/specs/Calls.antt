@@ -1,5 +1,5 @@
 -- A seat in the middle of a call, and the steps that it takes.
-use Rattle.std.specs.Prelude.{◌≡◌, ℕ, List, []}
+use Rattle.std.specs.Prelude.{◌≡◌, ℕ, List, [], Option}
 use Rattle.atomic_table.specs.Seated.{TableId}
 use Rattle.atomic_table.specs.Table.{Me}
 use Rattle.instructions.specs.Programs.{Program}
@@ -7,15 +7,20 @@ use Rattle.inorder.specs.declared.history.Entry.{Entry}
 use Rattle.inorder.specs.declared.history.Event.{Event}
 use Rattle.inorder.specs.History.{IsLegal, unit_of}
 use Rattle.inorder.specs.Tenants.{Tenant}
-use Rattle.inorder.specs.Unit.{Sizes, UpdateUnit}
+use Rattle.inorder.specs.Unit.{Sizes, UpdateUnit, next_station, next_tag, recent}
 use Rattle.ruu_words.specs.declared.place.Place.{Place}
 use Rattle.ruu_words.specs.declared.rule.Draft.{Draft}
 use Rattle.ruu_words.specs.declared.rule.Role.{Role}
 use Rattle.ruu_words.specs.declared.rule.View.{View}
+use Rattle.inorder.specs.OperandWords.{OperandWord}
+use Rattle.ruu_words.specs.Kinds.{Lets}
 use Rattle.ruu_words.specs.Plans.{Plans}
-use Rattle.ruu_words.specs.Rule.{Grows}
+use Rattle.ruu_words.specs.Rule.{Grows, IsCaller}
+use Rattle.station.specs.declared.answers.Tenant.{Tenant as Letting}
 use Rattle.station.specs.Claiming.{HasSeen}
+use Rattle.station.specs.Letting.{MayLetOut, supply_of}
 use Rattle.station.specs.Seats.{IsNumbered, TheCore}
+use Rattle.station.specs.Writeback.{HasTenant}
 
 -- Its core, what the seat knows at this point, and which seat is lent to the call
 pub record TheCall : Type 0 where
@@ -51,7 +56,7 @@ pub record Takes (v w : TheCall) (K : StepKind) : Type 0 where
 -- A seat of this role may step at this place: where it finds n it leaves f n, and the kind is K n
 abbrev pub MayTake : Role → TheCall → Place → (ℕ → ℕ) → (ℕ → StepKind) → Type 0
 MayTake role v x f K =
-    v.view.role ≡ role
+    v.view.role ≡ role → IsCaller role v.view.by
     → Plans v.core.program v.core.sizes v.view.by v.view x f (λ n. K n v.core.program v.core.sizes)
 
 -- What the caller has seen is legal
@@ -65,3 +70,27 @@ seen_unit v = unit_of v.core.program v.core.sizes v.view.seen
 -- It has seen a tenant of this station and tag, open once, of which this is true
 abbrev pub Saw : TheCall → ℕ → ℕ → (Tenant → Type 0) → Type 0
 Saw v station tag Fact = HasSeen v.core.program v.core.sizes v.view.seen station tag Fact
+
+-- It has seen a tenant of this station and tag, of which this is true
+abbrev pub HasOne : TheCall → ℕ → ℕ → (Tenant → Type 0) → Type 0
+HasOne v station tag Fact = HasTenant v.core.program v.core.sizes v.view.seen station tag Fact
+
+-- At the front's next let: that this tenant may be let, its station, its tag, and its operand's word
+abbrev pub MayLetNow : TheCall → Letting → Type 0
+MayLetNow v t = MayLetOut v.core.program v.core.sizes (seen_unit v) t
+
+-- Where the next tenant goes
+abbrev pub next_place : TheCall → ℕ
+next_place v = next_station v.core.sizes (recent (seen_unit v))
+
+-- The tag that it gets
+abbrev pub new_tag : TheCall → ℕ
+new_tag v = next_tag v.core.sizes (recent (seen_unit v))
+
+-- The word of a source of it, with this value or none
+abbrev pub new_operand : TheCall → Option ℕ → OperandWord
+new_operand v value = record { tag = new_tag v; value = value }
+
+-- What the last store of a let tells
+abbrev pub LetsOut : Letting → StepKind
+LetsOut t P C = Lets P C t.index t.predicted (supply_of t.sources.0) (supply_of t.sources.1)

@@ -5,7 +5,6 @@ pub mod Looking
 pub mod Moments
 pub mod Letting
 pub mod Claiming
-pub mod Calls
 pub mod Writeback
 pub mod Waking
 pub mod Carrying
@@ -13,6 +12,7 @@ pub mod Asking
 pub mod Wakeup
 pub mod Retirement
 pub mod Recovery
+pub mod Calls
 pub mod Renewals
 pub mod Laws
 pub mod Quiet

@@ -10,6 +10,7 @@ ghost use Rattle.ruu_words.specs.Rule.{sizes_of};
 ghost use Rattle.inorder.specs.Callers.{IsReady};
 ghost use Rattle.station.specs.Claiming.{HasSeen, IsNext};
 ghost use Rattle.station.specs.Steps.{Grown, IsAt};
+ghost use Rattle.station.specs.Calls.{Saw, Takes};
 
 use super::{Words, exchange, load};
 use atomic_table::Seat;
@@ -17,6 +18,49 @@ use inorder::history::Source;
 use ruu_words::Place;
 use ruu_words::rule::View;
 use std::marker::Brand;
+use crate::call::Call;
+use crate::seat::UnitPart;
+
+impl<'a> Call<'a, UnitPart> {
+    /// Looks for an open tenant, and tells where there is none.
+    pub(crate) fn peek(&mut self, station: usize) -> u64
+        requires { station < self.old.core.sizes.ring }
+        ensures { Takes self.old self.new (λ P C. Peeks P C station result) }
+    {
+        self.load::<Brand, usize>(Place::Station(station), station)
+    }
+
+    /// Looks again: the open tenant's word is still there, or it has moved.
+    pub(crate) fn recheck(&mut self, station: usize, old: u64) -> u64
+        requires place { station < self.old.core.sizes.ring }
+        requires word { IsStation (live_word (tag_of old) Open) old }
+        requires seen { Saw self.old station (tag_of old) IsAny }
+        ensures { Takes self.old self.new (λ P C. Rechecks P C station (tag_of old) old result) }
+    {
+        self.load::<Brand, (usize, u64)>(Place::Station(station), (station, old))
+    }
+
+    /// Reads a needed source: it has its value, or waits, or its tenant has left.
+    pub(crate) fn read_source(&mut self, station: usize, tag: u32, k: Source) -> u64
+        requires place { station < self.old.core.sizes.ring }
+        requires seen { Saw self.old station tag (IsNext self.old.core.program k) }
+        ensures { Takes self.old self.new (λ P C. ReadsSource P C station tag k result) }
+    {
+        let place = Place::Operand(station, k);
+        self.load::<Brand, (usize, u32, Source)>(place, (station, tag, k))
+    }
+
+    /// Exchanges the word of an open tenant for that of a busy one.
+    pub(crate) fn claim_tenant(&mut self, station: usize, old: u64, new: u64) -> u64
+        requires place { station < self.old.core.sizes.ring }
+        requires old { IsStation (live_word (tag_of old) Open) old }
+        requires new { IsStation (live_word (tag_of old) (Busy self.old.view.by)) new }
+        requires seen { Saw self.old station (tag_of old) (IsReady self.old.core.program) }
+        ensures { Takes self.old self.new (λ P C. Claims P C station (tag_of old) old result) }
+    {
+        self.exchange::<Brand, usize>(Place::Station(station), old, new, station)
+    }
+}
 
 /// Looks for an open tenant, and tells where there is none.
 pub(crate) fn peek(words: &Words, ring: usize, seat: &mut Seat<u8, View>, station: usize) -> u64

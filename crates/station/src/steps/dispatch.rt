@@ -12,6 +12,7 @@ ghost use Rattle.ruu_words.specs.Kinds.{Drafts, Lets};
 ghost use Rattle.ruu_words.specs.Rule.{sizes_of};
 ghost use Rattle.station.specs.Letting.{IsFronts, MayLetOut, draft_of, given_value, supply_of};
 ghost use Rattle.station.specs.Steps.{Grown, IsAt};
+ghost use Rattle.station.specs.Calls.{LetsOut, MayLetNow, Takes, new_operand, new_tag, next_place};
 
 use super::{Words, store};
 use crate::answers::Tenant;
@@ -20,6 +21,62 @@ use inorder::history::Source;
 use ruu_words::Place;
 use ruu_words::rule::View;
 use std::marker::Brand;
+use crate::call::Call;
+use crate::seat::FrontPart;
+
+impl<'a> Call<'a, FrontPart> {
+    /// Stores the info word of the tenant that is about to be let.
+    pub(crate) fn store_info(&mut self, station: usize, word: u64, tenant: Tenant)
+        requires place { station < self.old.core.sizes.ring }
+        requires draft { self.old.view.draft ≡ Nothing }
+        requires may { MayLetNow self.old tenant }
+        requires station { next_place self.old ≡ station }
+        requires half { half_of word ≡ tenant.half }
+        requires index { index_of word ≡ tenant.index }
+        requires predicted { predicted_of word ≡ tenant.predicted }
+        ensures { Takes self.old self.new (λ P C. Drafts P C (draft_of Info tenant)) }
+    {
+        self.store::<Brand, Tenant>(Place::Info(station), word, tenant);
+    }
+
+    /// Stores the word of its first operand.
+    pub(crate) fn store_first(&mut self, station: usize, word: u64, tenant: Tenant)
+        requires place { station < self.old.core.sizes.ring }
+        requires draft { self.old.view.draft ≡ draft_of Info tenant }
+        requires may { MayLetNow self.old tenant }
+        requires station { next_place self.old ≡ station }
+        requires word { IsOperandOf (new_operand self.old (given_value tenant.sources.0)) word }
+        ensures { Takes self.old self.new (λ P C. Drafts P C (draft_of FirstOperand tenant)) }
+    {
+        let place = Place::Operand(station, Source::First);
+        self.store::<Brand, Tenant>(place, word, tenant);
+    }
+
+    /// Stores the word of its second operand.
+    pub(crate) fn store_second(&mut self, station: usize, word: u64, tenant: Tenant)
+        requires place { station < self.old.core.sizes.ring }
+        requires draft { self.old.view.draft ≡ draft_of FirstOperand tenant }
+        requires may { MayLetNow self.old tenant }
+        requires station { next_place self.old ≡ station }
+        requires word { IsOperandOf (new_operand self.old (given_value tenant.sources.1)) word }
+        ensures { Takes self.old self.new (λ P C. Drafts P C (draft_of BothOperands tenant)) }
+    {
+        let place = Place::Operand(station, Source::Second);
+        self.store::<Brand, Tenant>(place, word, tenant);
+    }
+
+    /// Stores the word of its station: the tenant is let.
+    pub(crate) fn let_tenant(&mut self, station: usize, word: u64, tenant: Tenant)
+        requires place { station < self.old.core.sizes.ring }
+        requires draft { self.old.view.draft ≡ draft_of BothOperands tenant }
+        requires may { MayLetNow self.old tenant }
+        requires station { next_place self.old ≡ station }
+        requires word { IsStation (live_word (new_tag self.old) Open) word }
+        ensures { Takes self.old self.new (LetsOut tenant) }
+    {
+        self.store::<Brand, Tenant>(Place::Station(station), word, tenant);
+    }
+}
 
 /// Stores the info word of the tenant that is about to be let.
 pub(crate) fn store_info(

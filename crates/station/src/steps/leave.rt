@@ -9,12 +9,42 @@ ghost use Rattle.ruu_words.specs.Rule.{sizes_of};
 ghost use Rattle.station.specs.Letting.{IsFronts};
 ghost use Rattle.station.specs.Recovery.{HasMiss, HasYoungest, Mends, Squashes};
 ghost use Rattle.station.specs.Steps.{Grown, IsAt};
+ghost use Rattle.station.specs.Calls.{Takes};
 
 use super::{Words, swap};
 use atomic_table::Seat;
 use ruu_words::Place;
 use ruu_words::rule::View;
 use std::marker::Brand;
+use crate::call::Call;
+use crate::seat::FrontPart;
+
+impl<'a> Call<'a, FrontPart> {
+    /// Swaps the word of a miss for that of a tenant that is done.
+    pub(crate) fn mend_tenant(&mut self, station: usize, word: u64)
+        requires place { station < self.old.core.sizes.ring }
+        requires draft { self.old.view.draft ≡ Nothing }
+        requires word { IsStation (live_word (tag_of word) (Done (value_of word))) word }
+        requires miss { HasMiss self.old.core.program self.old.core.sizes self.old.view.seen
+            station (tag_of word) (value_of word) }
+        ensures { Takes self.old self.new (λ P C. Mends P C station) }
+    {
+        self.swap::<Brand, usize>(Place::Station(station), word, station);
+    }
+
+    /// Swaps the word of the youngest live tenant for that of a free station.
+    pub(crate) fn squash_tenant(&mut self, station: usize, tag: u32, word: u64)
+        requires place { station < self.old.core.sizes.ring }
+        requires draft { self.old.view.draft ≡ Nothing }
+        requires word { IsStation (record { tag = suc tag; state = IsFree; value = None }) word }
+        requires youngest { HasYoungest self.old.core.program self.old.core.sizes
+            self.old.view.seen station tag }
+        ensures { Takes self.old self.new (λ P C. Squashes P C station tag) }
+    {
+        let place = Place::Station(station);
+        self.swap::<Brand, (usize, u32)>(place, word, (station, tag));
+    }
+}
 
 /// Swaps the word of a miss for that of a tenant that is done.
 pub(crate) fn mend_tenant(

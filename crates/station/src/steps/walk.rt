@@ -3,12 +3,29 @@ ghost use Rattle.std.specs.Prelude.{◌≡◌, ◌<◌};
 ghost use Rattle.ruu_words.specs.Rule.{sizes_of};
 ghost use Rattle.station.specs.Carrying.{EndsWalk, IsServedAll, IsWriter};
 ghost use Rattle.station.specs.Steps.{Grown, IsAt};
+ghost use Rattle.station.specs.Calls.{Takes};
 
 use super::{Words, load};
 use atomic_table::Seat;
 use ruu_words::Place;
 use ruu_words::rule::View;
 use std::marker::Brand;
+use crate::call::Call;
+use crate::seat::Part;
+
+impl<'a, P: Part> Call<'a, P> {
+    /// Looks at the producer's station once all are served.
+    pub(crate) fn end_walk(&mut self, station: usize, tag: u32, value: u32)
+        requires place { station < self.old.core.sizes.ring }
+        requires writer { IsWriter P.role }
+        requires served { IsServedAll self.old.core.program self.old.core.sizes self.old.view.seen
+            station tag value }
+        ensures { Takes self.old self.new (λ P C. EndsWalk P C station tag) }
+    {
+        let about = (station, tag, value);
+        self.load::<Brand, (usize, u32, u32)>(Place::Station(station), about);
+    }
+}
 
 /// Looks at the producer's station once all are served.
 pub(crate) fn end_walk(
