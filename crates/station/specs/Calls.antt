@@ -1,10 +1,11 @@
 -- A seat in the middle of a call, and the steps that it takes.
-use Rattle.std.specs.Prelude.{◌≡◌, ℕ, List, [], Option}
+use Rattle.std.specs.Prelude.{◌≡◌, ℕ, Bool, List, [], Option, Result}
 use Rattle.atomic_table.specs.Seated.{TableId}
 use Rattle.atomic_table.specs.Table.{Me}
 use Rattle.instructions.specs.Programs.{Program}
 use Rattle.inorder.specs.declared.history.Entry.{Entry}
 use Rattle.inorder.specs.declared.history.Event.{Event}
+use Rattle.inorder.specs.declared.history.Source.{Source}
 use Rattle.inorder.specs.History.{IsLegal, unit_of}
 use Rattle.inorder.specs.Tenants.{Tenant}
 use Rattle.inorder.specs.Unit.{Sizes, UpdateUnit, next_station, next_tag, recent}
@@ -16,8 +17,9 @@ use Rattle.inorder.specs.OperandWords.{OperandWord}
 use Rattle.ruu_words.specs.Kinds.{Lets}
 use Rattle.ruu_words.specs.Plans.{Plans}
 use Rattle.ruu_words.specs.Rule.{Grows, IsCaller}
+use Rattle.station.specs.declared.answers.Claim.{Claim}
 use Rattle.station.specs.declared.answers.Tenant.{Tenant as Letting}
-use Rattle.station.specs.Claiming.{HasSeen}
+use Rattle.station.specs.Claiming.{ClaimAnswers, HasSeen, SourceAnswers}
 use Rattle.station.specs.Letting.{MayLetOut, supply_of}
 use Rattle.station.specs.Seats.{IsNumbered, TheCore}
 use Rattle.station.specs.Writeback.{HasTenant}
@@ -94,3 +96,13 @@ new_operand v value = record { tag = new_tag v; value = value }
 -- What the last store of a let tells
 abbrev pub LetsOut : Letting → StepKind
 LetsOut t P C = Lets P C t.index t.predicted (supply_of t.sources.0) (supply_of t.sources.1)
+
+-- What a claim answers
+abbrev pub AnswersClaim : TheCall → TheCall → ℕ → Claim → Type 0
+AnswersClaim v w station c =
+    ClaimAnswers v.core.program v.core.sizes v.view.by v.view.seen w.view.seen station c
+
+-- What its reading of a source answers
+abbrev pub AnswersSource : TheCall → TheCall → ℕ → ℕ → Source → Bool → Result ℕ Claim → Type 0
+AnswersSource v w s tag k needed r =
+    SourceAnswers v.core.program v.core.sizes v.view.by v.view.seen w.view.seen s tag k needed r

@@ -17,7 +17,6 @@ mod walk;
 mod writeback;
 
 use atomic_table::{Play, Seat, Shared};
-pub(crate) use claim::{claim_tenant, peek, read_source, recheck};
 pub(crate) use dispatch::{let_tenant, store_first, store_info, store_second};
 pub(crate) use leave::{mend_tenant, squash_tenant};
 pub(crate) use look::{look, read_info};
