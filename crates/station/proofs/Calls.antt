@@ -8,6 +8,7 @@ use Rattle.inorder.specs.declared.history.Event.{Event}
 use Rattle.inorder.specs.History.{IsLegal}
 use Rattle.ruu_words.specs.declared.place.Place.{Place}
 use Rattle.ruu_words.specs.declared.rule.Draft.{Draft}
+use Rattle.ruu_words.specs.declared.rule.Heirs.{Heirs}
 use Rattle.ruu_words.specs.declared.rule.Role.{Role}
 use Rattle.ruu_words.specs.declared.rule.Role.TheVariants.{Back, Front, Spent, Start, Worker}
 use Rattle.ruu_words.specs.declared.rule.Setup.{Setup}
@@ -16,9 +17,9 @@ use Rattle.ruu_words.specs.Places.{IsPlace, index}
 use Rattle.ruu_words.specs.Rule.{Grows, IsAlive, IsCaller, Kept, Tells, Unborn, opening_of, sizes_of}
 use Rattle.ruu_words.proofs.General.{allowed_at}
 use Rattle.station.specs.Calls.{IsCall, IsLater, IsLegalCall, MayTake, StepKind, Takes, TheCall}
-use Rattle.station.specs.Seats.{HasHeirs, IsNumbered, IsSeated, TheCore, core_of}
+use Rattle.station.specs.Seats.{Caller, HasHeirs, IsNumbered, IsSeated, TheCore, core_of}
 use Rattle.station.proofs.Numbers.{numbered_on}
-use Rattle.station.proofs.SameUnit.{Unit_of, unit_at, unit_in}
+use Rattle.station.proofs.SameUnit.{Unit_of, of_seat, unit_at, unit_in}
 
 abbrev pub call_of : TheCore → View → ℕ → TheCall
 call_of core view lent = record { core = core; view = view; lent = lent }
@@ -76,6 +77,13 @@ of v = (v.core, v.view.by)
 pub of_one : (v w : TheCall) → IsLater v w → of w ≡ of v
 of_one v w g = λ i. (g.core i, g.by i)
 
+-- what is said of them holds of the same call earlier and later
+pub earlier : (F : Of → Type 0) (v w : TheCall) → IsLater v w → F (of w) → F (of v)
+earlier F v w g = subst F (of_one v w g)
+
+pub on : (F : Of → Type 0) (v w : TheCall) → IsLater v w → F (of v) → F (of w)
+on F v w g = subst F (sym (of_one v w g))
+
 -- a step of the same call later, of the core and the caller as they were named before
 pub later : (v w x : TheCall) (K : StepKind) → IsLater v w → Takes w x K → Grows v.core.program v.core.sizes v.view.by w.view x.view (K v.core.program v.core.sizes)
 later v w x K g t = subst (λ (z : Of). Grows z.0.program z.0.sizes z.1 w.view x.view (K z.0.program z.0.sizes)) (of_one v w g) t.grows
@@ -92,3 +100,27 @@ program_at table key core here view lent v is P e = sym e ∙ (ap (λ (z : TheCo
 
 pub caller_at : (core : TheCore) (me : Me ℕ View) (lent : ℕ) (v : TheCall) → call_of core me.0 lent ≡ v → (role : Role) (table : TableId) → IsCall core role table me → IsCaller role v.view.by
 caller_at core me lent v is role table t = subst (λ (z : TheCall). IsCaller role z.view.by) is t.numbered.caller
+
+-- A seat when a call begins with it, and when the call gives it back
+module _ {woken : ℕ} (id : TableId) (value : Setup) (by : ℕ) (heirs : Heirs) (seen : List Entry) (seat : Caller) (core : TheCore)
+    (seen_as : record { core = core_of id value; by = by; heirs = heirs; seen = seen; woken = woken } ≡ seat) (here : seat.core ≡ core) where
+  same_unit : unit_at value ≡ unit_in core
+  same_unit = of_seat id value by heirs seen seat core seen_as here
+
+  same_opening : opening_of value ≡ core.opening
+  same_opening = ap (λ (z : Caller). z.core.opening) seen_as ∙ ap (λ (z : TheCore). z.opening) here
+
+  pub seated_in : (role : Role) (n station : ℕ) (over : Bool) (me : Me ℕ View) → IsSeated value.program (sizes_of value) role n station over me → IsSeated core.program core.sizes role n station over me
+  seated_in role n station over me s = subst (λ (z : Unit_of). IsSeated z.0 z.1 role n station over me) same_unit s
+
+  -- v is the call as it began, w as it ends
+  pub given_back : (role : Role) (old : View) (lent : ℕ) (v : TheCall) → v ≡ call_of core old lent → (w : TheCall) → IsLater v w
+      → (core' : TheCore) (t : Me ℕ View) (lent' : ℕ) → call_of core' t.0 lent' ≡ w → (table : TableId) → IsCall core' role table t → (me : Me ℕ View) → me ≡ t
+      → (station : ℕ) (over : Bool) → IsSeated core.program core.sizes role old.by station over t → IsSeated value.program (sizes_of value) role me.0.by station over me × IsNumbered (opening_of value) role me.0
+  given_back role old lent v begins w on core' t lent' is table inv me me_is station over s =
+      let core_is : core' ≡ core = ap (λ (z : TheCall). z.core) is ∙ (on.core ∙ ap (λ (z : TheCall). z.core) begins) in
+      let by_is : t.0.by ≡ old.by = ap (λ (z : TheCall). z.view.by) is ∙ (on.by ∙ ap (λ (z : TheCall). z.view.by) begins) in
+      let seated : IsSeated core.program core.sizes role t.0.by station over t = subst (λ n. IsSeated core.program core.sizes role n station over t) (sym by_is) s in
+      let numbered : IsNumbered (opening_of value) role t.0 = subst (λ o. IsNumbered o role t.0) (ap (λ (z : TheCore). z.opening) core_is ∙ sym same_opening) inv.numbered in
+      subst (λ (z : Me ℕ View). IsSeated value.program (sizes_of value) role z.0.by station over z × IsNumbered (opening_of value) role z.0) (sym me_is)
+      (subst (λ (z : Unit_of). IsSeated z.0 z.1 role t.0.by station over t) (sym same_unit) seated, numbered)

@@ -3,6 +3,7 @@ use Rattle.std.specs.Prelude.{◌≡◌, ℕ, Bool, List, [], Option, Result}
 use Rattle.atomic_table.specs.Seated.{TableId}
 use Rattle.atomic_table.specs.Table.{Me}
 use Rattle.instructions.specs.Programs.{Program}
+use Rattle.instructions.specs.declared.stop.Outcome.{Outcome}
 use Rattle.inorder.specs.declared.history.Entry.{Entry}
 use Rattle.inorder.specs.declared.history.Event.{Event}
 use Rattle.inorder.specs.declared.history.Source.{Source}
@@ -18,11 +19,16 @@ use Rattle.ruu_words.specs.Kinds.{Lets}
 use Rattle.ruu_words.specs.Plans.{Plans}
 use Rattle.ruu_words.specs.Rule.{Grows, IsCaller}
 use Rattle.station.specs.declared.answers.Claim.{Claim}
+use Rattle.station.specs.declared.answers.Finish.{Finish}
+use Rattle.station.specs.declared.answers.Job.{Job}
+use Rattle.station.specs.declared.answers.Settle.{Settle}
 use Rattle.station.specs.declared.answers.Tenant.{Tenant as Letting}
+use Rattle.station.specs.Carrying.{HasCarried, HasMadeOf, HasValueOf, HasWalked, IsServing, OfTenant}
 use Rattle.station.specs.Claiming.{ClaimAnswers, HasSeen, SourceAnswers}
 use Rattle.station.specs.Letting.{MayLetOut, supply_of}
 use Rattle.station.specs.Seats.{IsNumbered, TheCore}
-use Rattle.station.specs.Writeback.{HasTenant}
+use Rattle.station.specs.Waking.{Wakes}
+use Rattle.station.specs.Writeback.{FinishAnswers, HasTenant, SettleAnswers}
 
 -- Its core, what the seat knows at this point, and which seat is lent to the call
 pub record TheCall : Type 0 where
@@ -106,3 +112,44 @@ AnswersClaim v w station c =
 abbrev pub AnswersSource : TheCall → TheCall → ℕ → ℕ → Source → Bool → Result ℕ Claim → Type 0
 AnswersSource v w s tag k needed r =
     SourceAnswers v.core.program v.core.sizes v.view.by v.view.seen w.view.seen s tag k needed r
+
+-- The tenant of this station and tag has made this value
+abbrev pub HasMade : TheCall → ℕ × ℕ → ℕ → Type 0
+HasMade v of value = HasValueOf v.core.program v.core.sizes v.view.seen of.0 of.1 value
+
+-- It has come to this outcome, if that is a value
+abbrev pub HasComeTo : TheCall → ℕ × ℕ → Outcome → Type 0
+HasComeTo v of outcome = HasMadeOf v.core.program v.core.sizes v.view.seen of.0 of.1 outcome
+
+-- Who waits for it at one source is served
+abbrev pub Serves : TheCall → TheCall → ℕ × ℕ → ℕ → Source → Type 0
+Serves v w of to k =
+    OfTenant v.core.program v.core.sizes v.view.seen of.0 of.1
+    (λ q. IsServing v.core.program v.core.sizes v.view.by q to k v.view.seen w.view.seen)
+
+-- All who wait for it are served
+abbrev pub WalksOf : TheCall → TheCall → ℕ × ℕ → Type 0
+WalksOf v w of =
+    OfTenant v.core.program v.core.sizes v.view.seen of.0 of.1
+    (λ q. HasWalked v.core.program v.core.sizes v.view.by q v.view.seen w.view.seen)
+
+-- They are, if this outcome is a value
+abbrev pub Carries : TheCall → TheCall → ℕ × ℕ → Outcome → Type 0
+Carries v w of outcome =
+    OfTenant v.core.program v.core.sizes v.view.seen of.0 of.1
+    (λ q. HasCarried v.core.program v.core.sizes v.view.by q outcome v.view.seen w.view.seen)
+
+-- Values were taken to tenants of these stations
+abbrev pub Woke : TheCall → TheCall → (ℕ → Type 0) → Type 0
+Woke v w Station =
+    Wakes v.core.program v.core.sizes v.view.by v.view.seen w.view.seen Station
+
+-- What a writeback answers
+abbrev pub AnswersFinish : TheCall → TheCall → Job → Finish → Type 0
+AnswersFinish v w job r =
+    FinishAnswers v.core.program v.core.sizes v.view.by v.view.seen w.view.seen job r
+
+-- What the settling of a load answers
+abbrev pub AnswersSettle : TheCall → TheCall → ℕ → ℕ → Settle → Type 0
+AnswersSettle v w station tag r =
+    SettleAnswers v.core.program v.core.sizes v.view.by v.view.seen w.view.seen station tag r

@@ -26,8 +26,6 @@ pub(crate) use retire::{
 use ruu_words::Place;
 use ruu_words::rule::{OneHistory, Setup, View};
 pub(crate) use wakeup::{look_at_creator, store_link, take_value};
-pub(crate) use walk::end_walk;
-pub(crate) use writeback::{deliver, finish_tenant, read_link, settle_tenant};
 
 pub(crate) type Words = Shared<u8, View, Setup, OneHistory>;
 

@@ -9,11 +9,11 @@ ghost use Rattle.inorder.specs.Callers.{IsReady};
 ghost use Rattle.station.specs.Claiming.{IsNext};
 ghost use Rattle.station.specs.Calls.{Saw, Takes};
 
+use crate::call::Call;
+use crate::seat::UnitPart;
 use inorder::history::Source;
 use ruu_words::Place;
 use std::marker::Brand;
-use crate::call::Call;
-use crate::seat::UnitPart;
 
 impl<'a> Call<'a, UnitPart> {
     /// Looks for an open tenant, and tells where there is none.

@@ -16,13 +16,13 @@ ghost use Rattle.station.specs.Calls.{LetsOut, MayLetNow, Takes, new_operand, ne
 
 use super::{Words, store};
 use crate::answers::Tenant;
+use crate::call::Call;
+use crate::seat::FrontPart;
 use atomic_table::Seat;
 use inorder::history::Source;
 use ruu_words::Place;
 use ruu_words::rule::View;
 use std::marker::Brand;
-use crate::call::Call;
-use crate::seat::FrontPart;
 
 impl<'a> Call<'a, FrontPart> {
     /// Stores the info word of the tenant that is about to be let.

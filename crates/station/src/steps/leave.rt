@@ -12,12 +12,12 @@ ghost use Rattle.station.specs.Steps.{Grown, IsAt};
 ghost use Rattle.station.specs.Calls.{Takes};
 
 use super::{Words, swap};
+use crate::call::Call;
+use crate::seat::FrontPart;
 use atomic_table::Seat;
 use ruu_words::Place;
 use ruu_words::rule::View;
 use std::marker::Brand;
-use crate::call::Call;
-use crate::seat::FrontPart;
 
 impl<'a> Call<'a, FrontPart> {
     /// Swaps the word of a miss for that of a tenant that is done.

@@ -17,14 +17,14 @@ ghost use Rattle.station.specs.Calls.{Takes, seen_unit};
 
 use super::{Words, load, swap};
 use crate::answers::Last;
+use crate::call::Call;
+use crate::seat::BackPart;
 use atomic_table::Seat;
 use inorder::history::Source;
 use instructions::Half;
 use ruu_words::Place;
 use ruu_words::rule::View;
 use std::marker::Brand;
-use crate::call::Call;
-use crate::seat::BackPart;
 
 impl<'a> Call<'a, BackPart> {
     /// Looks at a station, and tells that a stop has retired.

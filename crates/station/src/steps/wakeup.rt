@@ -12,23 +12,17 @@ ghost use Rattle.station.specs.Writeback.{val_word, wait_word};
 ghost use Rattle.station.specs.Calls.{Takes};
 
 use super::{Words, exchange, load, store};
+use crate::call::Call;
+use crate::seat::FrontPart;
 use atomic_table::Seat;
 use inorder::history::Source;
 use ruu_words::Place;
 use ruu_words::rule::View;
 use std::marker::Brand;
-use crate::call::Call;
-use crate::seat::FrontPart;
 
 impl<'a> Call<'a, FrontPart> {
     /// Stores the link from the creator to source k of a tenant, both by station and tag.
-    pub(crate) fn store_link(
-        &mut self,
-        of: (usize, u32),
-        k: Source,
-        from: (usize, u32),
-        link: u64,
-    )
+    pub(crate) fn store_link(&mut self, of: (usize, u32), k: Source, from: (usize, u32), link: u64)
         requires to { of.0 < self.old.core.sizes.ring }
         requires from { from.0 < self.old.core.sizes.ring }
         requires draft { self.old.view.draft ≡ Nothing }
@@ -43,12 +37,7 @@ impl<'a> Call<'a, FrontPart> {
     }
 
     /// Looks at the creator's station: it tells that the source was asked for in time, or its value.
-    pub(crate) fn look_at_creator(
-        &mut self,
-        of: (usize, u32),
-        k: Source,
-        from: (usize, u32),
-    ) -> u64
+    pub(crate) fn look_at_creator(&mut self, of: (usize, u32), k: Source, from: (usize, u32)) -> u64
         requires from { from.0 < self.old.core.sizes.ring }
         requires draft { self.old.view.draft ≡ Nothing }
         requires asked { HasAskedFrom self.old.core.program self.old.core.sizes self.old.view.seen
