@@ -1,13 +1,15 @@
 -- A step of a call is one of its table.
-use Rattle.std.proofs.Common.{◌≡◌, ℕ, Bool, List, [], sym, ap, refl, ◌∙◌, subst}
+use Rattle.std.proofs.Common.{◌≡◌, ℕ, ◌<◌, Bool, List, [], sym, ap, refl, ◌∙◌, subst}
 use Rattle.atomic_table.specs.Seated.{TableId}
 use Rattle.atomic_table.specs.Table.{Allows, Me, Step}
 use Rattle.instructions.specs.Programs.{Program}
 use Rattle.inorder.specs.declared.history.Entry.{Entry}
 use Rattle.inorder.specs.declared.history.Event.{Event}
-use Rattle.inorder.specs.History.{IsLegal}
+use Rattle.inorder.specs.History.{IsLegal, unit_of}
+use Rattle.inorder.specs.Unit.{next_station, recent}
 use Rattle.ruu_words.specs.declared.place.Place.{Place}
 use Rattle.ruu_words.specs.declared.rule.Draft.{Draft}
+use Rattle.ruu_words.specs.declared.rule.Draft.TheVariants.{Nothing}
 use Rattle.ruu_words.specs.declared.rule.Heirs.{Heirs}
 use Rattle.ruu_words.specs.declared.rule.Role.{Role}
 use Rattle.ruu_words.specs.declared.rule.Role.TheVariants.{Back, Front, Spent, Start, Worker}
@@ -16,7 +18,7 @@ use Rattle.ruu_words.specs.declared.rule.View.{View}
 use Rattle.ruu_words.specs.Places.{IsPlace, index}
 use Rattle.ruu_words.specs.Rule.{Grows, IsAlive, IsCaller, Kept, Tells, Unborn, opening_of, sizes_of}
 use Rattle.ruu_words.proofs.General.{allowed_at}
-use Rattle.station.specs.Calls.{IsCall, IsLater, IsLegalCall, MayTake, StepKind, Takes, TheCall}
+use Rattle.station.specs.Calls.{IsCall, IsLater, IsLegalCall, MayTake, StepKind, Takes, TheCall, next_place}
 use Rattle.station.specs.Seats.{Caller, HasHeirs, IsNumbered, IsSeated, TheCore, core_of}
 use Rattle.station.proofs.Numbers.{numbered_on}
 use Rattle.station.proofs.SameUnit.{Unit_of, of_seat, unit_at, unit_in}
@@ -64,8 +66,8 @@ module _ (table : TableId) (key : Setup) (core : TheCore) (here : core_of table 
   takes w K g = subst (λ z. Takes z (call_of core w lent) K) same (record { same = record { core = sym here; role = g.role; by = g.by_is; heirs = g.heirs_are; lent = refl }; grows = g })
 
 -- the steps of one call are of one core and one caller
-pub behind : (u v w : TheCall) → IsLater u v → IsLater v w → IsLater u w
-behind u v w a b = record { core = b.core ∙ a.core; role = b.role ∙ a.role; by = b.by ∙ a.by; heirs = b.heirs ∙ a.heirs; lent = b.lent ∙ a.lent }
+pub joined : {u v w : TheCall} → IsLater u v → IsLater v w → IsLater u w
+joined a b = record { core = b.core ∙ a.core; role = b.role ∙ a.role; by = b.by ∙ a.by; heirs = b.heirs ∙ a.heirs; lent = b.lent ∙ a.lent }
 
 -- what is said of its core and caller
 abbrev pub Of : Type 0
@@ -77,29 +79,36 @@ of v = (v.core, v.view.by)
 pub of_one : (v w : TheCall) → IsLater v w → of w ≡ of v
 of_one v w g = λ i. (g.core i, g.by i)
 
--- what is said of them holds of the same call earlier and later
-pub earlier : (F : Of → Type 0) (v w : TheCall) → IsLater v w → F (of w) → F (of v)
-earlier F v w g = subst F (of_one v w g)
+-- it holds of the same call before a step and after it
+pub before : (F : Of → Type 0) {v w : TheCall} → IsLater v w → F (of w) → F (of v)
+before F {v} {w} g = subst F (of_one v w g)
 
-pub on : (F : Of → Type 0) (v w : TheCall) → IsLater v w → F (of v) → F (of w)
-on F v w g = subst F (sym (of_one v w g))
+pub after : (F : Of → Type 0) {v w : TheCall} → IsLater v w → F (of v) → F (of w)
+after F {v} {w} g = subst F (sym (of_one v w g))
 
--- a step of the same call later, of the core and the caller as they were named before
-pub later : (v w x : TheCall) (K : StepKind) → IsLater v w → Takes w x K → Grows v.core.program v.core.sizes v.view.by w.view x.view (K v.core.program v.core.sizes)
-later v w x K g t = subst (λ (z : Of). Grows z.0.program z.0.sizes z.1 w.view x.view (K z.0.program z.0.sizes)) (of_one v w g) t.grows
+-- a later step, of the core and the caller as they were named at first
+pub taken : {v w x : TheCall} {K : StepKind} → IsLater v w → Takes w x K → Grows v.core.program v.core.sizes v.view.by w.view x.view (K v.core.program v.core.sizes)
+taken {v} {w} {x} {K} g t = before (λ z. Grows z.0.program z.0.sizes z.1 w.view x.view (K z.0.program z.0.sizes)) g t.grows
+
+-- the next tenant's station, of the core as it was named at first
+pub next_kept : {v w : TheCall} → IsLater v w → next_station v.core.sizes (recent (unit_of v.core.program v.core.sizes w.view.seen)) ≡ next_place v → next_place w ≡ next_place v
+next_kept {v} {w} g e = after (λ z. next_station z.0.sizes (recent (unit_of z.0.program z.0.sizes w.view.seen)) ≡ next_place v) g e
 
 -- what is known of a call that has used one of its fields
-pub legal_at : (core : TheCore) (me : Me ℕ View) (lent : ℕ) (v : TheCall) → call_of core me.0 lent ≡ v → (role : Role) (table : TableId) → IsCall core role table me → IsLegalCall v
-legal_at core me lent v is role table t = subst IsLegalCall is t.legal
+pub legal_at : {core : TheCore} {me : Me ℕ View} {lent : ℕ} {v : TheCall} {role : Role} {table : TableId} → IsCall core role table me → call_of core me.0 lent ≡ v → IsLegalCall v
+legal_at t is = subst IsLegalCall is t.legal
 
-pub role_at : (core : TheCore) (me : Me ℕ View) (lent : ℕ) (v : TheCall) → call_of core me.0 lent ≡ v → (role : Role) (table : TableId) → IsCall core role table me → v.view.role ≡ role
-role_at core me lent v is role table t = sym (ap (λ (z : TheCall). z.view.role) is) ∙ t.role_is
+pub role_at : {core : TheCore} {me : Me ℕ View} {lent : ℕ} {v : TheCall} {role : Role} {table : TableId} → IsCall core role table me → call_of core me.0 lent ≡ v → v.view.role ≡ role
+role_at t is = sym (ap (λ (z : TheCall). z.view.role) is) ∙ t.role_is
+
+pub caller_at : {core : TheCore} {me : Me ℕ View} {lent : ℕ} {v : TheCall} {role : Role} {table : TableId} → IsCall core role table me → call_of core me.0 lent ≡ v → IsCaller role v.view.by
+caller_at {core} {me} {lent} {v} {role} t is = subst (λ (z : TheCall). IsCaller role z.view.by) is t.numbered.caller
+
+pub ring_at : (key : Setup) {table : TableId} {core : TheCore} {view : View} {lent ring : ℕ} {v : TheCall} → key.ring ≡ ring → core_of table key ≡ core → call_of core view lent ≡ v → ring ≡ v.core.sizes.ring
+ring_at key e here is = sym e ∙ (ap (λ (k : TheCore). k.sizes.ring) here ∙ ap (λ (z : TheCall). z.core.sizes.ring) is)
 
 pub program_at : (table : TableId) (key : Setup) (core : TheCore) → core_of table key ≡ core → (view : View) (lent : ℕ) (v : TheCall) → call_of core view lent ≡ v → (P : Program) → key.program ≡ P → P ≡ v.core.program
 program_at table key core here view lent v is P e = sym e ∙ (ap (λ (z : TheCore). z.program) here ∙ ap (λ (z : TheCall). z.core.program) is)
-
-pub caller_at : (core : TheCore) (me : Me ℕ View) (lent : ℕ) (v : TheCall) → call_of core me.0 lent ≡ v → (role : Role) (table : TableId) → IsCall core role table me → IsCaller role v.view.by
-caller_at core me lent v is role table t = subst (λ (z : TheCall). IsCaller role z.view.by) is t.numbered.caller
 
 -- A seat when a call begins with it, and when the call gives it back
 module _ {woken : ℕ} (id : TableId) (value : Setup) (by : ℕ) (heirs : Heirs) (seen : List Entry) (seat : Caller) (core : TheCore)
@@ -124,3 +133,27 @@ module _ {woken : ℕ} (id : TableId) (value : Setup) (by : ℕ) (heirs : Heirs)
       let numbered : IsNumbered (opening_of value) role t.0 = subst (λ o. IsNumbered o role t.0) (ap (λ (z : TheCore). z.opening) core_is ∙ sym same_opening) inv.numbered in
       subst (λ (z : Me ℕ View). IsSeated value.program (sizes_of value) role z.0.by station over z × IsNumbered (opening_of value) role z.0) (sym me_is)
       (subst (λ (z : Unit_of). IsSeated z.0 z.1 role t.0.by station over t) (sym same_unit) seated, numbered)
+
+  -- a front's seat: nothing is being let, and the next tenant goes where it says
+  pub front_back : {old : View} {lent : ℕ} {v w : TheCall} → v ≡ call_of core old lent → IsLater v w → {core' : TheCore} {t : Me ℕ View} {lent' : ℕ} {table : TableId} → IsCall core' Front table t → call_of core' t.0 lent' ≡ w
+      → {me : Me ℕ View} → me ≡ t → (station : ℕ) (over : Bool) → station < v.core.sizes.ring → w.view.draft ≡ Nothing → station ≡ next_place w
+      → IsSeated value.program (sizes_of value) Front me.0.by station over me × IsNumbered (opening_of value) Front me.0
+  front_back {old} {lent} {v} {w} begins on {core'} {t} {lent'} {table} inv is {me} me_is station over inside draft next =
+      let core_is : core' ≡ core = ap (λ (z : TheCall). z.core) is ∙ (on.core ∙ ap (λ (z : TheCall). z.core) begins) in
+      let by_is : t.0.by ≡ old.by = ap (λ (z : TheCall). z.view.by) is ∙ (on.by ∙ ap (λ (z : TheCall). z.view.by) begins) in
+      let here : station ≡ next_place (call_of core' t.0 lent') = subst (λ z. station ≡ next_place z) (sym is) next in
+      given_back Front old lent v begins w on core' t lent' is table inv me me_is station over (record {
+        role_is = inv.role_is;
+        slots = inv.slots;
+        legal = subst (λ (k : TheCore). IsLegal k.program k.sizes t.0.seen) core_is inv.legal;
+        inside = subst (λ (z : TheCall). station < z.core.sizes.ring) begins inside;
+        knows = (sym by_is ∙ inv.numbered.caller, ap (λ (z : TheCall). z.view.draft) is ∙ draft, subst (λ (k : TheCore). station ≡ next_place (call_of k t.0 lent')) core_is here);
+      })
+
+  -- the same where its next tenant goes where it went before
+  pub front_kept : {old : Me ℕ View} {lent : ℕ} {v w : TheCall} → v ≡ call_of core old.0 lent → IsLater v w → {core' : TheCore} {t : Me ℕ View} {lent' : ℕ} {table : TableId} → IsCall core' Front table t → call_of core' t.0 lent' ≡ w
+      → {me : Me ℕ View} → me ≡ t → (station : ℕ) (over : Bool) → IsSeated value.program (sizes_of value) Front old.0.by station over old → w.view.draft ≡ Nothing → next_place w ≡ next_place v
+      → IsSeated value.program (sizes_of value) Front me.0.by station over me × IsNumbered (opening_of value) Front me.0
+  front_kept {old} {lent} {v} begins on inv is me_is station over s draft next =
+      let was = seated_in Front old.0.by station over old s in
+      front_back begins on inv is me_is station over (subst (λ (z : TheCall). station < z.core.sizes.ring) (sym begins) was.inside) draft (was.knows.2 ∙ (sym (ap next_place begins) ∙ sym next))

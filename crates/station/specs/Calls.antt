@@ -18,14 +18,17 @@ use Rattle.inorder.specs.OperandWords.{OperandWord}
 use Rattle.ruu_words.specs.Kinds.{Lets}
 use Rattle.ruu_words.specs.Plans.{Plans}
 use Rattle.ruu_words.specs.Rule.{Grows, IsCaller}
+use Rattle.station.specs.declared.answers.Ask.{Ask}
 use Rattle.station.specs.declared.answers.Claim.{Claim}
 use Rattle.station.specs.declared.answers.Finish.{Finish}
 use Rattle.station.specs.declared.answers.Job.{Job}
 use Rattle.station.specs.declared.answers.Settle.{Settle}
 use Rattle.station.specs.declared.answers.Tenant.{Tenant as Letting}
+use Rattle.station.specs.Asking.{AskAnswers}
 use Rattle.station.specs.Carrying.{HasCarried, HasMadeOf, HasValueOf, HasWalked, IsServing, OfTenant}
 use Rattle.station.specs.Claiming.{ClaimAnswers, HasSeen, SourceAnswers}
 use Rattle.station.specs.Letting.{MayLetOut, supply_of}
+use Rattle.station.specs.Recovery.{IsMended, IsSquashed}
 use Rattle.station.specs.Seats.{IsNumbered, TheCore}
 use Rattle.station.specs.Waking.{Wakes}
 use Rattle.station.specs.Writeback.{FinishAnswers, HasTenant, SettleAnswers}
@@ -153,3 +156,19 @@ AnswersFinish v w job r =
 abbrev pub AnswersSettle : TheCall → TheCall → ℕ → ℕ → Settle → Type 0
 AnswersSettle v w station tag r =
     SettleAnswers v.core.program v.core.sizes v.view.by v.view.seen w.view.seen station tag r
+
+-- What a question for a source, by station and tag, comes to
+abbrev pub AnswersAsk : TheCall → TheCall → ℕ × ℕ → Source → ℕ × ℕ → Ask → Type 0
+AnswersAsk v w of k from r =
+    AskAnswers v.core.program v.core.sizes v.view.by v.view.seen w.view.seen
+    of.0 of.1 k from.0 from.1 r
+
+-- The miss of this station was mended
+abbrev pub MendsAt : TheCall → TheCall → ℕ → Type 0
+MendsAt v w station =
+    IsMended v.core.program v.core.sizes v.view.by station v.view.seen w.view.seen
+
+-- The tenant of this station and tag was squashed
+abbrev pub SquashesAt : TheCall → TheCall → ℕ → ℕ → Type 0
+SquashesAt v w station tag =
+    IsSquashed v.core.program v.core.sizes v.view.by station tag v.view.seen w.view.seen

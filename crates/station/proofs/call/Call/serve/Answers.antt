@@ -4,7 +4,7 @@ use Rattle.ruu_words.specs.Fields.{producer_of, tag_of}
 use Rattle.ruu_words.specs.Kinds.{Delivers}
 use Rattle.station.specs.Writeback.{CanDeliver}
 use Rattle.station.proofs.Carrying.{can_deliver, serves_nobody, serves_one}
-use Rattle.station.proofs.Calls.{Of, later, of_one}
+use Rattle.station.proofs.Calls.{Of, of_one, taken}
 use Rattle.station.proofs.Waking.{wakes_delivering, wakes_not, wakes_reading, wakes_served}
 use Rattle.station.proofs.call.Call.serve.Goals as goal
 
@@ -27,7 +27,7 @@ returns-then-producer_in-from-clause-served g c =
     let m2 = c.deliver-found.new.self.view in
     let old = c.waiting_word-old.result in
     let names : producer_of c.read_link-link.result ≡ c.args.from.1 = sym c.producer_in.ensures ∙ c.if-producer_in-from.true in
-    let g2 = later v c.read_link-link.new.self c.deliver-found.new.self (λ P C. Delivers P C c.args.to c.args.k (tag_of old) old c.deliver-found.result) c.read_link-link.ensures.same c.deliver-found.ensures in
+    let g2 = taken c.read_link-link.ensures.same c.deliver-found.ensures in
     serves_one P C v.view.by c.args.from.0 c.args.from.1 c.args.to c.read_link-link.result c.args.value c.args.k v.view m1 c.read_link-link.ensures.grows c.requires.tags c.requires.made names
     old c.deliver-found.result m2 (c.waiting_word-old.ensures.tag ∙ c.consumer_in-consumer.ensures.value) g2
 
@@ -45,7 +45,7 @@ returns-then-producer_in-from-clause-woken g c =
     let m2 = c.deliver-found.new.self.view in
     let old = c.waiting_word-old.result in
     let n = c.deliver-found.result in
-    let g2 = later v c.read_link-link.new.self c.deliver-found.new.self (λ P C. Delivers P C c.args.to c.args.k (tag_of old) old n) c.read_link-link.ensures.same c.deliver-found.ensures in
+    let g2 = taken c.read_link-link.ensures.same c.deliver-found.ensures in
     let read = wakes_reading P C v.view.by c.args.from.0 c.args.to c.read_link-link.result c.args.k v.view m1 c.read_link-link.ensures.grows in
     wakes_served P C v.view.by c.args.to (nat_eq n old) v.view.seen m1.seen m2.seen read
     (wakes_delivering P C v.view.by c.args.to (tag_of old) old n c.args.k m1 m2 g2 (nat_eq n old) (eqb-true n old) (eq-eqb n old))

@@ -6,7 +6,7 @@ use Rattle.ruu_words.specs.Fields.{half_of, index_of, predicted_of, state_of, ta
 use Rattle.ruu_words.specs.Kinds.{IsAny, ReadsInfo, Rechecks}
 use Rattle.ruu_words.specs.Rule.{Grows}
 use Rattle.station.specs.Calls.{IsLater}
-use Rattle.station.proofs.Calls.{Of, behind, later, of_one}
+use Rattle.station.proofs.Calls.{Of, joined, of_one, taken}
 use Rattle.station.specs.Claiming.{ClaimAnswers, HasSeen, IsOpenAs}
 use Rattle.station.proofs.Opened.{HasInfo, Ready, claim_answers_on, has_seen, informs, peek_refused, peeked, recheck_moved, rechecked}
 use Rattle.station.proofs.claims.Call+UnitPart.claim_at.Goals as goal
@@ -33,11 +33,11 @@ recheck-again-requires-clause-seen c =
     let m2 : View = c.read_info-word.new.self.view in
     let info = c.read_info-word.result in
     let on1 : IsLater v c.peek-found.new.self = c.peek-found.ensures.same in
-    let g2 : Grows P C by m1 m2 (ReadsInfo P C st info) = later v c.peek-found.new.self c.read_info-word.new.self (λ P C. ReadsInfo P C st info) on1 c.read_info-word.ensures in
+    let g2 : Grows P C by m1 m2 (ReadsInfo P C st info) = taken on1 c.read_info-word.ensures in
     let r2 : Ready P C by st tag old (HasInfo info) m2.seen = informs P C by st tag old m1 m2 info g2 r1 in
     let word = c.open_word-open.result in
     let tag_is : tag_of word ≡ tag = c.open_word-open.ensures.tag in
-    let on2 = behind v c.peek-found.new.self c.read_info-word.new.self on1 c.read_info-word.ensures.same in
+    let on2 = joined on1 c.read_info-word.ensures.same in
     let seen : HasSeen P C m2.seen st tag IsAny = has_seen P C by st tag old (HasInfo info) IsAny m2.seen (λ t f. tt) r2 in
     subst (λ (z : Of × ℕ). HasSeen z.0.0.program z.0.0.sizes m2.seen st z.1 IsAny) (λ j. (sym (of_one v c.read_info-word.new.self on2) j, sym tag_is j)) seen
 
@@ -57,14 +57,14 @@ returns-then-again-open-clause-reply c =
     let m2 : View = c.read_info-word.new.self.view in
     let info = c.read_info-word.result in
     let on1 : IsLater v c.peek-found.new.self = c.peek-found.ensures.same in
-    let g2 : Grows P C by m1 m2 (ReadsInfo P C st info) = later v c.peek-found.new.self c.read_info-word.new.self (λ P C. ReadsInfo P C st info) on1 c.read_info-word.ensures in
+    let g2 : Grows P C by m1 m2 (ReadsInfo P C st info) = taken on1 c.read_info-word.ensures in
     let r2 : Ready P C by st tag old (HasInfo info) m2.seen = informs P C by st tag old m1 m2 info g2 r1 in
     let word = c.open_word-open.result in
     let tag_is : tag_of word ≡ tag = c.open_word-open.ensures.tag in
     let m3 : View = c.recheck-again.new.self.view in
     let again = c.recheck-again.result in
-    let on2 = behind v c.peek-found.new.self c.read_info-word.new.self on1 c.read_info-word.ensures.same in
-    let g3 : Grows P C by m2 m3 (Rechecks P C st tag word again) = subst (λ t. Grows P C by m2 m3 (Rechecks P C st t word again)) tag_is (later v c.read_info-word.new.self c.recheck-again.new.self (λ P C. Rechecks P C st (tag_of word) word again) on2 c.recheck-again.ensures) in
+    let on2 = joined on1 c.read_info-word.ensures.same in
+    let g3 : Grows P C by m2 m3 (Rechecks P C st tag word again) = subst (λ t. Grows P C by m2 m3 (Rechecks P C st t word again)) tag_is (taken on2 c.recheck-again.ensures) in
     let miss : again ≢ word = search rules in
     recheck_moved P C by st tag old (HasInfo info) m2 m3 word again g3 r2 miss
 
@@ -84,18 +84,18 @@ claim_open-requires-clause-was_open c =
     let m2 : View = c.read_info-word.new.self.view in
     let info = c.read_info-word.result in
     let on1 : IsLater v c.peek-found.new.self = c.peek-found.ensures.same in
-    let g2 : Grows P C by m1 m2 (ReadsInfo P C st info) = later v c.peek-found.new.self c.read_info-word.new.self (λ P C. ReadsInfo P C st info) on1 c.read_info-word.ensures in
+    let g2 : Grows P C by m1 m2 (ReadsInfo P C st info) = taken on1 c.read_info-word.ensures in
     let r2 : Ready P C by st tag old (HasInfo info) m2.seen = informs P C by st tag old m1 m2 info g2 r1 in
     let word = c.open_word-open.result in
     let tag_is : tag_of word ≡ tag = c.open_word-open.ensures.tag in
     let m3 : View = c.recheck-again.new.self.view in
     let again = c.recheck-again.result in
-    let on2 = behind v c.peek-found.new.self c.read_info-word.new.self on1 c.read_info-word.ensures.same in
-    let g3 : Grows P C by m2 m3 (Rechecks P C st tag word again) = subst (λ t. Grows P C by m2 m3 (Rechecks P C st t word again)) tag_is (later v c.read_info-word.new.self c.recheck-again.new.self (λ P C. Rechecks P C st (tag_of word) word again) on2 c.recheck-again.ensures) in
+    let on2 = joined on1 c.read_info-word.ensures.same in
+    let g3 : Grows P C by m2 m3 (Rechecks P C st tag word again) = subst (λ t. Grows P C by m2 m3 (Rechecks P C st t word again)) tag_is (taken on2 c.recheck-again.ensures) in
     let hit : again ≡ word = search rules in
     let r3 : Ready P C by st tag old (IsOpenAs (half_of info) (index_of info) (predicted_of info)) m3.seen = rechecked P C by st tag old m2 m3 info word again g3 r2 hit in
     let seen = has_seen P C by st tag old (IsOpenAs (half_of info) (index_of info) (predicted_of info)) (IsOpenAs (half_of info) (index_of info) (predicted_of info)) m3.seen (λ t f. f) r3 in
-    let on3 = behind v c.read_info-word.new.self c.recheck-again.new.self on2 c.recheck-again.ensures.same in
+    let on3 = joined on2 c.recheck-again.ensures.same in
     subst (λ (z : Of × (Half × ℕ × ℕ)). HasSeen z.0.0.program z.0.0.sizes m3.seen st tag (IsOpenAs z.1.0 z.1.1 z.1.2)) (λ j. (sym (of_one v c.recheck-again.new.self on3) j, (sym c.unpack-info.ensures.half j, sym c.unpack-info.ensures.index j, sym c.unpack-info.ensures.predicted j))) seen
 
 pub returns-clause-reply : goal.returns-clause-reply
@@ -114,16 +114,16 @@ returns-clause-reply c =
     let m2 : View = c.read_info-word.new.self.view in
     let info = c.read_info-word.result in
     let on1 : IsLater v c.peek-found.new.self = c.peek-found.ensures.same in
-    let g2 : Grows P C by m1 m2 (ReadsInfo P C st info) = later v c.peek-found.new.self c.read_info-word.new.self (λ P C. ReadsInfo P C st info) on1 c.read_info-word.ensures in
+    let g2 : Grows P C by m1 m2 (ReadsInfo P C st info) = taken on1 c.read_info-word.ensures in
     let r2 : Ready P C by st tag old (HasInfo info) m2.seen = informs P C by st tag old m1 m2 info g2 r1 in
     let word = c.open_word-open.result in
     let tag_is : tag_of word ≡ tag = c.open_word-open.ensures.tag in
     let m3 : View = c.recheck-again.new.self.view in
     let again = c.recheck-again.result in
-    let on2 = behind v c.peek-found.new.self c.read_info-word.new.self on1 c.read_info-word.ensures.same in
-    let g3 : Grows P C by m2 m3 (Rechecks P C st tag word again) = subst (λ t. Grows P C by m2 m3 (Rechecks P C st t word again)) tag_is (later v c.read_info-word.new.self c.recheck-again.new.self (λ P C. Rechecks P C st (tag_of word) word again) on2 c.recheck-again.ensures) in
+    let on2 = joined on1 c.read_info-word.ensures.same in
+    let g3 : Grows P C by m2 m3 (Rechecks P C st tag word again) = subst (λ t. Grows P C by m2 m3 (Rechecks P C st t word again)) tag_is (taken on2 c.recheck-again.ensures) in
     let hit : again ≡ word = search rules in
     let r3 : Ready P C by st tag old (IsOpenAs (half_of info) (index_of info) (predicted_of info)) m3.seen = rechecked P C by st tag old m2 m3 info word again g3 r2 hit in
-    let on3 = behind v c.read_info-word.new.self c.recheck-again.new.self on2 c.recheck-again.ensures.same in
+    let on3 = joined on2 c.recheck-again.ensures.same in
     let new = c.claim_open.new.self.view.seen in
     claim_answers_on P C by old m3.seen new st c.claim_open.result r3.adds (subst (λ (z : Of). ClaimAnswers z.0.program z.0.sizes z.1 m3.seen new st c.claim_open.result) (of_one v c.recheck-again.new.self on3) c.claim_open.ensures.reply)

@@ -15,7 +15,7 @@ use Rattle.ruu_words.specs.Kinds.{Claims}
 use Rattle.ruu_words.specs.Rule.{Grows}
 use Rattle.ruu_words.specs.declared.rule.Role.TheVariants.{Worker}
 use Rattle.station.specs.Calls.{IsLater, IsLegalCall}
-use Rattle.station.proofs.Calls.{Of, behind, later, legal_at, of_one, program_at}
+use Rattle.station.proofs.Calls.{Of, joined, legal_at, of_one, program_at, taken}
 use Rattle.station.specs.Claiming.{HasSeen, HasSource, IsNext, IsOpenAs, SourceAnswers}
 use Rattle.station.proofs.Opened.{HasBoth, HasFirst, IsClaimable, Ready, begins, claim_moved, claimed, index_inside, ready_seen, second_next, source_refused, tag_small, takes_first, takes_second}
 use Rattle.station.proofs.claims.Call+UnitPart.claim_open.Goals as goal
@@ -25,7 +25,7 @@ instr-requires c =
     let v = c.args.self.now in
     let P = v.core.program in
     let C = v.core.sizes in
-    let legal : IsLegalCall v = legal_at c.self.inside.core.now c.self.inside.seat.now.me c.self.inside.seat.ghost_name v c.self.view_is Worker c.self.inside.seat.now.table_id c.self.invariant in
+    let legal : IsLegalCall v = legal_at c.self.invariant c.self.view_is in
     let program = program_at c.core.inside.table.shared.table_id c.core.inside.table.shared.key c.self.inside.core.now c.core.view_is c.self.inside.seat.now.me.0 c.self.inside.seat.ghost_name v c.self.view_is c.core.inside.program c.core.invariant.program in
     subst (λ (z : Program). c.args.info.index < length z.code) (sym program) (index_inside P C v.view.seen legal c.requires.was_open.p c.args.station c.args.tag c.args.info.half c.args.info.index c.args.info.predicted c.requires.was_open.named)
 
@@ -34,7 +34,7 @@ returns-in-Err-clause-reply c =
     let v = c.args.self.now in
     let P = v.core.program in
     let C = v.core.sizes in
-    let legal : IsLegalCall v = legal_at c.self.inside.core.now c.self.inside.seat.now.me c.self.inside.seat.ghost_name v c.self.view_is Worker c.self.inside.seat.now.table_id c.self.invariant in
+    let legal : IsLegalCall v = legal_at c.self.invariant c.self.view_is in
     let by = v.view.by in
     let st = c.args.station in
     let tag = c.args.tag in
@@ -50,7 +50,7 @@ needed_source-requires-2-clause-seen c =
     let v = c.args.self.now in
     let P = v.core.program in
     let C = v.core.sizes in
-    let legal : IsLegalCall v = legal_at c.self.inside.core.now c.self.inside.seat.now.me c.self.inside.seat.ghost_name v c.self.view_is Worker c.self.inside.seat.now.table_id c.self.invariant in
+    let legal : IsLegalCall v = legal_at c.self.invariant c.self.view_is in
     let program = program_at c.core.inside.table.shared.table_id c.core.inside.table.shared.key c.self.inside.core.now c.core.view_is c.self.inside.seat.now.me.0 c.self.inside.seat.ghost_name v c.self.view_is c.core.inside.program c.core.invariant.program in
     let by = v.view.by in
     let st = c.args.station in
@@ -73,7 +73,7 @@ returns-in-Err-needed_source-clause-reply c =
     let v = c.args.self.now in
     let P = v.core.program in
     let C = v.core.sizes in
-    let legal : IsLegalCall v = legal_at c.self.inside.core.now c.self.inside.seat.now.me c.self.inside.seat.ghost_name v c.self.view_is Worker c.self.inside.seat.now.table_id c.self.invariant in
+    let legal : IsLegalCall v = legal_at c.self.invariant c.self.view_is in
     let program = program_at c.core.inside.table.shared.table_id c.core.inside.table.shared.key c.self.inside.core.now c.core.view_is c.self.inside.seat.now.me.0 c.self.inside.seat.ghost_name v c.self.view_is c.core.inside.program c.core.invariant.program in
     let by = v.view.by in
     let st = c.args.station in
@@ -98,7 +98,7 @@ open_word-open-requires c =
     let v = c.args.self.now in
     let P = v.core.program in
     let C = v.core.sizes in
-    let legal : IsLegalCall v = legal_at c.self.inside.core.now c.self.inside.seat.now.me c.self.inside.seat.ghost_name v c.self.view_is Worker c.self.inside.seat.now.table_id c.self.invariant in
+    let legal : IsLegalCall v = legal_at c.self.invariant c.self.view_is in
     let small : c.args.tag < last_tag = tag_small P C v.view.seen legal c.requires.was_open.p c.args.station c.args.tag (IsOpenAs c.args.info.half c.args.info.index c.args.info.predicted) c.requires.was_open.named in
     omega arith
 
@@ -111,7 +111,7 @@ claim_tenant-found-requires-clause-seen c =
     let v = c.args.self.now in
     let P = v.core.program in
     let C = v.core.sizes in
-    let legal : IsLegalCall v = legal_at c.self.inside.core.now c.self.inside.seat.now.me c.self.inside.seat.ghost_name v c.self.view_is Worker c.self.inside.seat.now.table_id c.self.invariant in
+    let legal : IsLegalCall v = legal_at c.self.invariant c.self.view_is in
     let program = program_at c.core.inside.table.shared.table_id c.core.inside.table.shared.key c.self.inside.core.now c.core.view_is c.self.inside.seat.now.me.0 c.self.inside.seat.ghost_name v c.self.view_is c.core.inside.program c.core.invariant.program in
     let by = v.view.by in
     let st = c.args.station in
@@ -132,7 +132,7 @@ claim_tenant-found-requires-clause-seen c =
     let got : HasSource P C by m1.seen m2.seen st tag both Second b = subst (λ (z : Of). HasSource z.0.program z.0.sizes z.1 m1.seen m2.seen st tag both Second b) (of_one v c.needed_source.new.self on1) c.in-Ok-needed_source.ensures.answer in
     let r2 : Ready P C by st tag old (HasBoth d i x a both b) m2.seen = takes_second P C by st tag old d i x a both b m1.seen m2.seen r1 got in
     let tag_is : tag_of c.open_word-open.result ≡ tag = c.open_word-open.ensures.tag in
-    let on2 = behind v c.needed_source.new.self c.needed_source-2.new.self on1 c.needed_source-2.ensures.same in
+    let on2 = joined on1 c.needed_source-2.ensures.same in
     subst (λ (z : Of × ℕ). HasSeen z.0.0.program z.0.0.sizes m2.seen st z.1 (IsReady z.0.0.program)) (λ j. (sym (of_one v c.needed_source-2.new.self on2) j, sym tag_is j)) (ready_seen P C by st tag old d i x a both b is m2.seen r2)
 
 pub returns-then-found-open-clause-reply : goal.returns-then-found-open-clause-reply
@@ -140,7 +140,7 @@ returns-then-found-open-clause-reply c =
     let v = c.args.self.now in
     let P = v.core.program in
     let C = v.core.sizes in
-    let legal : IsLegalCall v = legal_at c.self.inside.core.now c.self.inside.seat.now.me c.self.inside.seat.ghost_name v c.self.view_is Worker c.self.inside.seat.now.table_id c.self.invariant in
+    let legal : IsLegalCall v = legal_at c.self.invariant c.self.view_is in
     let program = program_at c.core.inside.table.shared.table_id c.core.inside.table.shared.key c.self.inside.core.now c.core.view_is c.self.inside.seat.now.me.0 c.self.inside.seat.ghost_name v c.self.view_is c.core.inside.program c.core.invariant.program in
     let by = v.view.by in
     let st = c.args.station in
@@ -161,10 +161,10 @@ returns-then-found-open-clause-reply c =
     let got : HasSource P C by m1.seen m2.seen st tag both Second b = subst (λ (z : Of). HasSource z.0.program z.0.sizes z.1 m1.seen m2.seen st tag both Second b) (of_one v c.needed_source.new.self on1) c.in-Ok-needed_source.ensures.answer in
     let r2 : Ready P C by st tag old (HasBoth d i x a both b) m2.seen = takes_second P C by st tag old d i x a both b m1.seen m2.seen r1 got in
     let m3 : View = c.claim_tenant-found.new.self.view in
-    let on2 = behind v c.needed_source.new.self c.needed_source-2.new.self on1 c.needed_source-2.ensures.same in
+    let on2 = joined on1 c.needed_source-2.ensures.same in
     let word = c.open_word-open.result in
     let tag_is : tag_of word ≡ tag = c.open_word-open.ensures.tag in
-    let g : Grows P C by m2 m3 (Claims P C st tag word c.claim_tenant-found.result) = subst (λ t. Grows P C by m2 m3 (Claims P C st t word c.claim_tenant-found.result)) tag_is (later v c.needed_source-2.new.self c.claim_tenant-found.new.self (λ P C. Claims P C st (tag_of word) word c.claim_tenant-found.result) on2 c.claim_tenant-found.ensures) in
+    let g : Grows P C by m2 m3 (Claims P C st tag word c.claim_tenant-found.result) = subst (λ t. Grows P C by m2 m3 (Claims P C st t word c.claim_tenant-found.result)) tag_is (taken on2 c.claim_tenant-found.ensures) in
     let miss : c.claim_tenant-found.result ≢ word = search rules in
     claim_moved P C by st tag old d i x a both b is m2 m3 word c.claim_tenant-found.result g r2 miss
 
@@ -173,7 +173,7 @@ pc_of-pc-requires c =
     let v = c.args.self.now in
     let P = v.core.program in
     let C = v.core.sizes in
-    let legal : IsLegalCall v = legal_at c.self.inside.core.now c.self.inside.seat.now.me c.self.inside.seat.ghost_name v c.self.view_is Worker c.self.inside.seat.now.table_id c.self.invariant in
+    let legal : IsLegalCall v = legal_at c.self.invariant c.self.view_is in
     let program = program_at c.core.inside.table.shared.table_id c.core.inside.table.shared.key c.self.inside.core.now c.core.view_is c.self.inside.seat.now.me.0 c.self.inside.seat.ghost_name v c.self.view_is c.core.inside.program c.core.invariant.program in
     subst (λ (z : Program). c.args.info.index < length z.code) (sym program) (index_inside P C v.view.seen legal c.requires.was_open.p c.args.station c.args.tag c.args.info.half c.args.info.index c.args.info.predicted c.requires.was_open.named)
 
@@ -182,7 +182,7 @@ returns-clause-reply c =
     let v = c.args.self.now in
     let P = v.core.program in
     let C = v.core.sizes in
-    let legal : IsLegalCall v = legal_at c.self.inside.core.now c.self.inside.seat.now.me c.self.inside.seat.ghost_name v c.self.view_is Worker c.self.inside.seat.now.table_id c.self.invariant in
+    let legal : IsLegalCall v = legal_at c.self.invariant c.self.view_is in
     let program = program_at c.core.inside.table.shared.table_id c.core.inside.table.shared.key c.self.inside.core.now c.core.view_is c.self.inside.seat.now.me.0 c.self.inside.seat.ghost_name v c.self.view_is c.core.inside.program c.core.invariant.program in
     let by = v.view.by in
     let st = c.args.station in
@@ -203,9 +203,9 @@ returns-clause-reply c =
     let got : HasSource P C by m1.seen m2.seen st tag both Second b = subst (λ (z : Of). HasSource z.0.program z.0.sizes z.1 m1.seen m2.seen st tag both Second b) (of_one v c.needed_source.new.self on1) c.in-Ok-needed_source.ensures.answer in
     let r2 : Ready P C by st tag old (HasBoth d i x a both b) m2.seen = takes_second P C by st tag old d i x a both b m1.seen m2.seen r1 got in
     let m3 : View = c.claim_tenant-found.new.self.view in
-    let on2 = behind v c.needed_source.new.self c.needed_source-2.new.self on1 c.needed_source-2.ensures.same in
+    let on2 = joined on1 c.needed_source-2.ensures.same in
     let word = c.open_word-open.result in
     let tag_is : tag_of word ≡ tag = c.open_word-open.ensures.tag in
-    let g : Grows P C by m2 m3 (Claims P C st tag word c.claim_tenant-found.result) = subst (λ t. Grows P C by m2 m3 (Claims P C st t word c.claim_tenant-found.result)) tag_is (later v c.needed_source-2.new.self c.claim_tenant-found.new.self (λ P C. Claims P C st (tag_of word) word c.claim_tenant-found.result) on2 c.claim_tenant-found.ensures) in
+    let g : Grows P C by m2 m3 (Claims P C st tag word c.claim_tenant-found.result) = subst (λ t. Grows P C by m2 m3 (Claims P C st t word c.claim_tenant-found.result)) tag_is (taken on2 c.claim_tenant-found.ensures) in
     let hit : c.claim_tenant-found.result ≡ word = search rules in
     claimed P C by st tag old d i x a both b is m2 m3 word c.claim_tenant-found.result g r2 hit _ refl refl refl refl c.pc_of-pc.ensures refl refl refl

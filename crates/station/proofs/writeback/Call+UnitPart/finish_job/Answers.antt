@@ -14,14 +14,14 @@ use Rattle.ruu_words.specs.declared.rule.Role.TheVariants.{Worker}
 use Rattle.station.specs.Calls.{IsLegalCall}
 use Rattle.station.proofs.Calls.{legal_at}
 use Rattle.station.specs.Waking.{IsSet, Wakes}
-use Rattle.station.proofs.Calls.{earlier}
+use Rattle.station.proofs.Calls.{before}
 use Rattle.station.proofs.Waking.{has_woken_none, wakes_behind, wakes_finishing}
 use Rattle.station.proofs.writeback.Call+UnitPart.finish_job.Goals as goal
 
 pub busy_word-old-requires : goal.busy_word-old-requires
 busy_word-old-requires c =
     let v = c.args.self.now in
-    let legal : IsLegalCall v = legal_at c.self.inside.core.now c.self.inside.seat.now.me c.self.inside.seat.ghost_name v c.self.view_is Worker c.self.inside.seat.now.table_id c.self.invariant in
+    let legal : IsLegalCall v = legal_at c.self.invariant c.self.view_is in
     let P = v.core.program in
     let job = c.args.job in
     let held = job_held P v.core.sizes v.view.by v.view.seen job c.args.outcome c.requires.job c.requires.outcome in
@@ -31,7 +31,7 @@ busy_word-old-requires c =
 pub outcome_word-new-requires : goal.outcome_word-new-requires
 outcome_word-new-requires c =
     let v = c.args.self.now in
-    let legal : IsLegalCall v = legal_at c.self.inside.core.now c.self.inside.seat.now.me c.self.inside.seat.ghost_name v c.self.view_is Worker c.self.inside.seat.now.table_id c.self.invariant in
+    let legal : IsLegalCall v = legal_at c.self.invariant c.self.view_is in
     let P = v.core.program in
     let job = c.args.job in
     let held = job_held P v.core.sizes v.view.by v.view.seen job c.args.outcome c.requires.job c.requires.outcome in
@@ -41,7 +41,7 @@ outcome_word-new-requires c =
 pub finish_tenant-found-requires-clause-place : goal.finish_tenant-found-requires-clause-place
 finish_tenant-found-requires-clause-place c =
     let v = c.args.self.now in
-    let legal : IsLegalCall v = legal_at c.self.inside.core.now c.self.inside.seat.now.me c.self.inside.seat.ghost_name v c.self.view_is Worker c.self.inside.seat.now.table_id c.self.invariant in
+    let legal : IsLegalCall v = legal_at c.self.invariant c.self.view_is in
     let P = v.core.program in
     let job = c.args.job in
     let held = job_held P v.core.sizes v.view.by v.view.seen job c.args.outcome c.requires.job c.requires.outcome in
@@ -81,7 +81,7 @@ returns-then-found-old-clause-reply c =
 pub carry-woken-requires-clause-from : goal.carry-woken-requires-clause-from
 carry-woken-requires-clause-from c =
     let v = c.args.self.now in
-    let legal : IsLegalCall v = legal_at c.self.inside.core.now c.self.inside.seat.now.me c.self.inside.seat.ghost_name v c.self.view_is Worker c.self.inside.seat.now.table_id c.self.invariant in
+    let legal : IsLegalCall v = legal_at c.self.invariant c.self.view_is in
     let P = v.core.program in
     let job = c.args.job in
     let held = job_held P v.core.sizes v.view.by v.view.seen job c.args.outcome c.requires.job c.requires.outcome in
@@ -135,4 +135,4 @@ returns-clause-woken c =
     let new = c.carry-woken.new.self.view.seen in
     let done = wakes_finishing P C v.view.by c.args.job.station (tag_of old) old c.finish_tenant-found.result c.args.outcome v.view w c.finish_tenant-found.ensures.grows in
     wakes_behind P C v.view.by v.view.by c.carry-woken.result v.view.seen w.seen new refl done
-    (earlier (λ z. Wakes z.0.program z.0.sizes z.1 w.seen new (IsSet c.carry-woken.result)) v at c.finish_tenant-found.ensures.same c.carry-woken.ensures.woken)
+    (before (λ z. Wakes z.0.program z.0.sizes z.1 w.seen new (IsSet c.carry-woken.result)) c.finish_tenant-found.ensures.same c.carry-woken.ensures.woken)
