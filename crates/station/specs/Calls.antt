@@ -27,7 +27,7 @@ use Rattle.station.specs.declared.answers.Tenant.{Tenant as Letting}
 use Rattle.station.specs.Asking.{AskAnswers}
 use Rattle.station.specs.Carrying.{HasCarried, HasMadeOf, HasValueOf, HasWalked, IsServing, OfTenant}
 use Rattle.station.specs.Claiming.{ClaimAnswers, HasSeen, SourceAnswers}
-use Rattle.station.specs.Letting.{MayLetOut, supply_of}
+use Rattle.station.specs.Letting.{IsLetOut, MayLetOut, supply_of}
 use Rattle.station.specs.Recovery.{IsMended, IsSquashed}
 use Rattle.station.specs.Seats.{IsNumbered, TheCore}
 use Rattle.station.specs.Waking.{Wakes}
@@ -172,3 +172,7 @@ MendsAt v w station =
 abbrev pub SquashesAt : TheCall → TheCall → ℕ → ℕ → Type 0
 SquashesAt v w station tag =
     IsSquashed v.core.program v.core.sizes v.view.by station tag v.view.seen w.view.seen
+
+-- The tenant was let
+abbrev pub IsLetNow : TheCall → TheCall → Letting → Type 0
+IsLetNow v w t = IsLetOut v.core.program v.core.sizes v.view.by t v.view.seen w.view.seen

@@ -17,7 +17,6 @@ mod walk;
 mod writeback;
 
 use atomic_table::{Play, Seat, Shared};
-pub(crate) use dispatch::{let_tenant, store_first, store_info, store_second};
 pub(crate) use look::{look, read_info};
 pub(crate) use retire::{
     Access, Leaving, look_at_head, read_data, retire_tenant, tell_over, tell_waiting,
