@@ -45,7 +45,7 @@ use Rattle.ruu_words.specs.Fields.{state_of, value_of as value_in}
 use Rattle.ruu_words.specs.Kinds.{Answers, HasLink, IsAny, IsMade, IsTenant, IsInTime, IsUnmade, Questions}
 use Rattle.ruu_words.proofs.Building.{looks, marks}
 use Rattle.ruu_words.proofs.Delivery.{by_value, delivers, link_on}
-use Rattle.ruu_words.proofs.General.{Plan, Plans}
+use Rattle.ruu_words.specs.Plans.{Plan, Plans}
 use Rattle.ruu_words.proofs.Linking.{last_stays}
 use Rattle.ruu_words.proofs.StationWords.{its_word}
 use Rattle.ruu_words.proofs.Stays.{any_stays, front_stays, tenant_stays}

@@ -23,7 +23,7 @@ use Rattle.ruu_words.specs.declared.place.Place.{Place}
 use Rattle.ruu_words.specs.declared.place.Place.TheVariants.{Info, Link as LinkPlace, Operand, Station}
 use Rattle.ruu_words.specs.declared.rule.Draft.{Draft}
 use Rattle.ruu_words.specs.Content.{Content, IsDraft, IsStation}
-use Rattle.ruu_words.proofs.General.{Plan}
+use Rattle.ruu_words.specs.Plans.{Plan}
 use Rattle.ruu_words.proofs.Groups.{MayStep, draft_stays, info_stays, link_other, operand_drafted}
 use Rattle.inorder.proofs.Histories.{allowed_steps, unit_sound}
 

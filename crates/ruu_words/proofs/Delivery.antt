@@ -38,7 +38,7 @@ use Rattle.ruu_words.specs.Content.{Content, IsDraft, IsOperand, IsOperandOf, Is
 use Rattle.ruu_words.specs.Fields.{state_of, tag_of}
 use Rattle.ruu_words.specs.Kinds.{Delivers, HasLink, IsTenant}
 use Rattle.ruu_words.proofs.Building.{looks}
-use Rattle.ruu_words.proofs.General.{Plan, Plans}
+use Rattle.ruu_words.specs.Plans.{Plan, Plans}
 use Rattle.ruu_words.proofs.Groups.{SameDraft, draft_stays, info_stays, link_other, operand_drafted}
 use Rattle.inorder.proofs.Histories.{allowed_steps, unit_sound}
 use Rattle.ruu_words.proofs.Packing.{same_word}

@@ -29,7 +29,7 @@ use Rattle.ruu_words.specs.declared.rule.View.{View}
 use Rattle.ruu_words.specs.Content.{Content, IsDraft, IsInfo, IsInfoOf, IsLink, IsOperand, IsOperandOf, IsStation, NamesLink, with_new}
 use Rattle.ruu_words.specs.Fields.{half_of, index_of, predicted_of}
 use Rattle.ruu_words.specs.Kinds.{Drafts, Lets}
-use Rattle.ruu_words.proofs.General.{Plans}
+use Rattle.ruu_words.specs.Plans.{Plans}
 use Rattle.inorder.proofs.Histories.{allowed_steps}
 use Rattle.ruu_words.proofs.Stays.{front_stays}
 

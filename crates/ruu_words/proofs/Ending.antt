@@ -33,7 +33,7 @@ use Rattle.ruu_words.specs.Fields.{state_of, tag_of}
 use Rattle.ruu_words.specs.Kinds.{Heads, IsEarly, IsLate, ReadsData, Tells}
 use Rattle.ruu_words.specs.Rule.{IsCaller}
 use Rattle.ruu_words.proofs.Building.{looks, tells}
-use Rattle.ruu_words.proofs.General.{Plans}
+use Rattle.ruu_words.specs.Plans.{Plans}
 use Rattle.ruu_words.proofs.Reading.{among, delivered, its_operand, not_live, waits}
 use Rattle.ruu_words.proofs.StationWords.{find_last, its_word}
 use Rattle.ruu_words.proofs.Stays.{back_stays}

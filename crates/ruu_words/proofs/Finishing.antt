@@ -23,7 +23,7 @@ use Rattle.ruu_words.specs.Content.{IsStation}
 use Rattle.ruu_words.specs.Kinds.{Finishes, IsTenant, fate_of}
 use Rattle.ruu_words.specs.Rule.{IsCaller}
 use Rattle.ruu_words.proofs.Building.{changes, tells}
-use Rattle.ruu_words.proofs.General.{Plan, Plans}
+use Rattle.ruu_words.specs.Plans.{Plan, Plans}
 use Rattle.ruu_words.proofs.StationWords.{its_word, one_live, still_live, the_tenant}
 use Rattle.ruu_words.proofs.Stays.{computed_stays, ready_stays, tenant_stays_apart}
 

@@ -14,6 +14,7 @@ use Rattle.ruu_words.specs.declared.rule.Draft.{Draft}
 use Rattle.ruu_words.specs.declared.rule.View.{View}
 use Rattle.ruu_words.specs.Content.{Content, IsDraft}
 use Rattle.ruu_words.specs.Places.{IsPlace, index}
+use Rattle.ruu_words.specs.Plans.{Plan, Plans}
 use Rattle.ruu_words.specs.Rule.{Fits, IsAlive, IsCaller, IsKept, IsOf, Keeps, Tells}
 use Rattle.inorder.proofs.Histories.{own-append, own_none, own_of_other, renewals_more, starts_longer, starts_more, starts_same}
 use Rattle.ruu_words.proofs.Heirs.{own_number}
@@ -24,27 +25,9 @@ below_length [] j a e = absurd (some-ne-none a (sym e))
 below_length (x ∷ xs) zero a e = omega arith
 below_length (x ∷ xs) (suc j) a e = let h = below_length xs j a e in omega arith
 
--- What a step on place x shows, where history h and the let in progress d may be there: the events that it adds, and that the words are then those of the unit after them
-pub record Plan (P : Program) (C : Sizes) (id : ℕ) (h : List Entry) (d : Draft) (x : Place) (new : ℕ) (Kind : List Entry → Draft → List Event → Type 0) : Type 0 where
-  pub events : List Event
-  pub draft : Draft
-  pub mine : id ≢ front → draft ≡ d
-  pub legal : IsLegal P C (map (entry id) events ++ h)
-  pub same : renewals (map (entry id) events ++ h) ≡ renewals h
-  pub proper : IsDraft P C (unit_of P C (map (entry id) events ++ h)) draft
-  pub here : Content P C (unit_of P C (map (entry id) events ++ h)) draft x new
-  pub else : (y : Place) (n : ℕ) → IsPlace C.ring y → y ≢ x → Content P C (unit_of P C h) d y n → Content P C (unit_of P C (map (entry id) events ++ h)) draft y n
-  pub kind : Kind h draft events
-
 -- the view of a seat after its step
 abbrev pub stepped_view : View → List Entry → Draft → View
 stepped_view v h d = record { role = v.role; by = v.by; heirs = v.heirs; seen = h; told = v.told; draft = d }
-
-module _ (P : Program) (C : Sizes) where
-  -- The one obligation of each kind of step: a plan at each history that goes on from what was seen, with no entry of the caller in between
-  abbrev pub Plans : ℕ → View → Place → (ℕ → ℕ) → (ℕ → List Entry → Draft → List Event → Type 0) → Type 0
-  Plans id v x f Kind = (between : List Entry) (d : Draft) → IsLegal P C (between ++ v.seen) → renewals (between ++ v.seen) ≡ renewals v.seen → own id between ≡ [] → IsCaller v.role id → (id ≡ front → v.draft ≡ d) → IsDraft P C (unit_of P C (between ++ v.seen)) d
-      → (n : ℕ) → n < 18446744073709551616 → Content P C (unit_of P C (between ++ v.seen)) d x n → Plan P C id (between ++ v.seen) d x (f n) (Kind n)
 
 module _ (P : Program) (C : Sizes) (opening : List Entry) where
   pub kept_after : (id : ℕ) (s : State ℕ View) (h : List Entry) (d : Draft) → IsKept P C opening s h d → (v : View) → get_elem? s.views id ≡ some v → (x : Place) (new : ℕ) → IsPlace C.ring x

@@ -22,7 +22,7 @@ use Rattle.ruu_words.specs.Fields.{tag_of}
 use Rattle.ruu_words.specs.Kinds.{IsAny, IsTenant, Writes}
 use Rattle.ruu_words.specs.Rule.{IsCaller}
 use Rattle.ruu_words.proofs.Building.{changes}
-use Rattle.ruu_words.proofs.General.{Plan, Plans}
+use Rattle.ruu_words.specs.Plans.{Plan, Plans}
 use Rattle.ruu_words.proofs.StationWords.{its_word, live_state, one_at, still_live}
 use Rattle.ruu_words.proofs.Stays.{any_stays, back_stays, front_stays}
 

@@ -36,7 +36,7 @@ use Rattle.ruu_words.specs.Content.{Content, IsDraft, IsLink, IsStation}
 use Rattle.ruu_words.specs.Fields.{pack_link}
 use Rattle.ruu_words.specs.Kinds.{Asks, IsAny, IsTenant, ReadsLink}
 use Rattle.ruu_words.proofs.Building.{looks}
-use Rattle.ruu_words.proofs.General.{Plans}
+use Rattle.ruu_words.specs.Plans.{Plans}
 use Rattle.ruu_words.proofs.Groups.{WasLinked, draft_stays, info_stays, link_stays, operand_drafted}
 use Rattle.inorder.proofs.Histories.{allowed_steps, unit_sound}
 use Rattle.ruu_words.proofs.Stays.{any_stays, front_stays, tenant_stays_apart}

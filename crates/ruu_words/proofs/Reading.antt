@@ -36,7 +36,7 @@ use Rattle.ruu_words.specs.Fields.{state_of, tag_of, value_of}
 use Rattle.ruu_words.specs.Kinds.{IsClosed, IsTenant, ReadsInfo, ReadsOperand, ReadsSource}
 use Rattle.ruu_words.specs.Rule.{IsCaller}
 use Rattle.ruu_words.proofs.Building.{looks, tells}
-use Rattle.ruu_words.proofs.General.{Plans}
+use Rattle.ruu_words.specs.Plans.{Plans}
 use Rattle.inorder.proofs.Histories.{allowed_steps, unit_sound}
 use Rattle.ruu_words.proofs.StationWords.{find_last}
 use Rattle.ruu_words.proofs.Stays.{tenant_stays, was_open_stays}

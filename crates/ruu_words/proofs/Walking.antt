@@ -18,7 +18,7 @@ use Rattle.ruu_words.specs.Content.{IsLink}
 use Rattle.ruu_words.specs.Fields.{consumer_of, pack_link, producer_of}
 use Rattle.ruu_words.specs.Kinds.{Walks}
 use Rattle.ruu_words.proofs.Building.{marks}
-use Rattle.ruu_words.proofs.General.{Plans}
+use Rattle.ruu_words.specs.Plans.{Plans}
 
 -- a source that is served, or is of the tenant with this tag
 abbrev pub IsServedOr : Source → ℕ → Tenant → Type 0

@@ -4,4 +4,5 @@ pub mod Places
 pub mod Laws
 pub mod Content
 pub mod Rule
+pub mod Plans
 pub mod Kinds

@@ -9,7 +9,8 @@ use Rattle.ruu_words.specs.declared.rule.Setup.{Setup}
 use Rattle.ruu_words.specs.declared.rule.View.{View}
 use Rattle.ruu_words.specs.Places.{IsPlace, index}
 use Rattle.ruu_words.specs.Rule.{IsAlive, Kept, Tells, opening_of, sizes_of}
-use Rattle.ruu_words.proofs.General.{Plans, allowed_at}
+use Rattle.ruu_words.specs.Plans.{Plans}
+use Rattle.ruu_words.proofs.General.{allowed_at}
 
 -- the number found
 pub allows : (key : Setup) (ring slots id : ℕ) (me : Me ℕ View) (x : Place) (f tell : ℕ → ℕ) (Kind : ℕ → List Entry → Draft → List Event → Type 0) (z : Step ℕ)

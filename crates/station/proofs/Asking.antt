@@ -38,7 +38,7 @@ use Rattle.ruu_words.specs.Kinds.{Answers, Asks, HasLink, IsAny, IsInTime, IsMad
 use Rattle.ruu_words.specs.Rule.{Grows}
 use Rattle.ruu_words.proofs.Asking.{answer_plan, path_on, question_plan}
 use Rattle.ruu_words.proofs.Delivery.{link_on}
-use Rattle.ruu_words.proofs.General.{Plan, Plans}
+use Rattle.ruu_words.specs.Plans.{Plan, Plans}
 use Rattle.ruu_words.proofs.Linking.{last_stays, link_plan}
 use Rattle.ruu_words.proofs.StationWords.{one_at}
 use Rattle.ruu_words.proofs.Stays.{any_stays, front_stays, tenant_stays, same_before}

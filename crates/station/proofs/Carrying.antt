@@ -33,7 +33,7 @@ use Rattle.ruu_words.specs.Kinds.{Delivers, Finds, HasLink, IsAny, IsTenant, Rea
 use Rattle.ruu_words.specs.Rule.{Grows, IsAlive, IsCaller}
 use Rattle.ruu_words.proofs.Building.{marks}
 use Rattle.ruu_words.proofs.Delivery.{link_on}
-use Rattle.ruu_words.proofs.General.{Plans}
+use Rattle.ruu_words.specs.Plans.{Plans}
 use Rattle.ruu_words.proofs.StationWords.{one_tag}
 use Rattle.ruu_words.proofs.Stays.{any_stays, tenant_stays, same_before}
 use Rattle.ruu_words.proofs.Walking.{IsServedOr, is_walked, served_but_named, served_but_stays, served_unless_named, served_with_it}

@@ -1,7 +1,6 @@
 -- The steps of a let, one after another: what the front knew stays true up to the last.
 use Rattle.std.proofs.Common.{◌≡◌, ℕ, suc, ◌+◌, ◌%◌, ◌<◌, Bool, List, [], ◌∷◌, ◌++◌, map, refl, sym, ap, ◌∙◌, subst, arith}
 use Rattle.std.proofs.Math.Nat.{mod-add-mod}
-use Rattle.atomic_table.specs.Table.{Me}
 use Rattle.instructions.specs.Programs.{Program}
 use Rattle.inorder.specs.declared.history.Entry.{Entry}
 use Rattle.inorder.specs.declared.history.Event.{Event}
@@ -14,7 +13,6 @@ use Rattle.inorder.proofs.Histories.{adds_on, allowed_steps}
 use Rattle.inorder.proofs.StationsShown.{stations_follow}
 use Rattle.ruu_words.specs.declared.rule.Draft.{Draft}
 use Rattle.ruu_words.specs.declared.rule.Draft.TheVariants.{Nothing}
-use Rattle.ruu_words.specs.declared.rule.Role.TheVariants.{Front}
 use Rattle.ruu_words.specs.declared.rule.View.{View}
 use Rattle.ruu_words.specs.Content.{IsStation}
 use Rattle.ruu_words.specs.Fields.{tag_of}
@@ -22,9 +20,10 @@ use Rattle.ruu_words.specs.Kinds.{Lets}
 use Rattle.ruu_words.specs.Rule.{Grows}
 use Rattle.ruu_words.proofs.Drafting.{still_let}
 use Rattle.station.specs.declared.answers.Tenant.{Tenant}
-use Rattle.station.specs.Letting.{IsFronts, IsLetOut, MayLetOut, let_of, supply_of}
-use Rattle.station.specs.Seats.{IsSeated}
+use Rattle.station.specs.Letting.{IsLetOut, MayLetOut, let_of, supply_of}
+use Rattle.station.specs.Calls.{IsLater, IsLegalCall, IsLetNow, LetsOut, MayLetNow, StepKind, Takes, TheCall, new_tag, next_place}
 use Rattle.station.proofs.Adding.{adds_these}
+use Rattle.station.proofs.Calls.{after, before, joined, taken}
 
 -- a caller that has added nothing
 pub adds_none : (P : Program) (C : Sizes) (by : ℕ) (h : List Entry) → IsLegal P C h → Adds P C by h h []
@@ -35,81 +34,107 @@ module _ (P : Program) (C : Sizes) (by : ℕ) (t : Tenant) (old : List Entry) wh
   U h = unit_of P C h
 
   -- the front on its way
-  pub record Ready (draft : Draft) (station tag : ℕ) (me : Me ℕ View) : Type 0 where
-    pub fronts : IsFronts by draft me
-    pub may : MayLetOut P C (U me.0.seen) t
-    pub station_is : next_station C (recent (U me.0.seen)) ≡ station
-    pub tag_is : next_tag C (recent (U me.0.seen)) ≡ tag
-    pub adds : Adds P C by old me.0.seen []
+  pub record Ready (draft : Draft) (station tag : ℕ) (me : View) : Type 0 where
+    pub by_is : by ≡ front
+    pub draft_is : me.draft ≡ draft
+    pub may : MayLetOut P C (U me.seen) t
+    pub station_is : next_station C (recent (U me.seen)) ≡ station
+    pub tag_is : next_tag C (recent (U me.seen)) ≡ tag
+    pub adds : Adds P C by old me.seen []
 
-  pub starts : (me : Me ℕ View) → old ≡ me.0.seen → IsLegal P C me.0.seen → IsFronts by Nothing me → MayLetOut P C (U me.0.seen) t
-      → Ready Nothing (next_station C (recent (U me.0.seen))) (next_tag C (recent (U me.0.seen))) me
-  starts me e legal fronts may = record { fronts = fronts; may = may; station_is = refl; tag_is = refl; adds = subst (λ h. Adds P C by h me.0.seen []) (sym e) (adds_none P C by me.0.seen legal) }
+  pub starts : (me : View) → old ≡ me.seen → IsLegal P C me.seen → by ≡ front → me.draft ≡ Nothing → MayLetOut P C (U me.seen) t
+      → Ready Nothing (next_station C (recent (U me.seen))) (next_tag C (recent (U me.seen))) me
+  starts me e legal by_is draft may = record { by_is = by_is; draft_is = draft; may = may; station_is = refl; tag_is = refl; adds = subst (λ h. Adds P C by h me.seen []) (sym e) (adds_none P C by me.seen legal) }
 
   -- a step that adds nothing
-  pub goes_on : (draft next : Draft) (station tag : ℕ) (v w : Me ℕ View) (Kind : List Entry → Draft → List Event → Type 0) → Ready draft station tag v → (g : Grows P C by v.0 w.0 Kind) → g.events ≡ [] → w.0.draft ≡ next → Ready next station tag w
+  pub goes_on : (draft next : Draft) (station tag : ℕ) (v w : View) (Kind : List Entry → Draft → List Event → Type 0) → Ready draft station tag v → (g : Grows P C by v w Kind) → g.events ≡ [] → w.draft ≡ next → Ready next station tag w
   goes_on draft next station tag v w Kind r g none is =
-      let seen : w.0.seen ≡ g.between ++ v.0.seen = g.is ∙ ap (λ es. map (entry by) es ++ (g.between ++ v.0.seen)) none in
-      let legal : IsLegal P C (g.between ++ v.0.seen) = subst (IsLegal P C) seen g.legal in
-      let apart : own front g.between ≡ [] = subst (λ i. own i g.between ≡ []) r.fronts.by_is g.not_own in
-      let stay = still_let P C t.index t.predicted (supply_of t.sources.0) (supply_of t.sources.1) g.between v.0.seen legal apart r.may.may in
-      let tag_same : next_tag C (recent (U (g.between ++ v.0.seen))) ≡ next_tag C (recent (U v.0.seen)) = stay.tag in
-      let station_same : next_station C (recent (U (g.between ++ v.0.seen))) ≡ next_station C (recent (U v.0.seen)) = ap (λ x. x.station) stay.new in
-      let there : MayLetOut P C (U (g.between ++ v.0.seen)) t = record { may = stay.may; half = r.may.half ∙ sym (ap (λ x. x.half) stay.new); tag = subst (λ n. n < last_tag) (sym tag_same) r.may.tag } in
+      let seen : w.seen ≡ g.between ++ v.seen = g.is ∙ ap (λ es. map (entry by) es ++ (g.between ++ v.seen)) none in
+      let legal : IsLegal P C (g.between ++ v.seen) = subst (IsLegal P C) seen g.legal in
+      let apart : own front g.between ≡ [] = subst (λ i. own i g.between ≡ []) r.by_is g.not_own in
+      let stay = still_let P C t.index t.predicted (supply_of t.sources.0) (supply_of t.sources.1) g.between v.seen legal apart r.may.may in
+      let tag_same : next_tag C (recent (U (g.between ++ v.seen))) ≡ next_tag C (recent (U v.seen)) = stay.tag in
+      let station_same : next_station C (recent (U (g.between ++ v.seen))) ≡ next_station C (recent (U v.seen)) = ap (λ x. x.station) stay.new in
+      let there : MayLetOut P C (U (g.between ++ v.seen)) t = record { may = stay.may; half = r.may.half ∙ sym (ap (λ x. x.half) stay.new); tag = subst (λ n. n < last_tag) (sym tag_same) r.may.tag } in
       record {
-        fronts = record { role = g.role ∙ r.fronts.role; by_is = r.fronts.by_is; draft_is = is };
+        by_is = r.by_is;
+        draft_is = is;
         may = subst (λ h. MayLetOut P C (U h) t) (sym seen) there;
         station_is = ap (λ h. next_station C (recent (U h))) seen ∙ (station_same ∙ r.station_is);
         tag_is = ap (λ h. next_tag C (recent (U h))) seen ∙ (tag_same ∙ r.tag_is);
-        adds = adds_on P C by old v.0.seen w.0.seen [] [] r.adds (adds_these P C by v.0 w.0 Kind [] g none);
+        adds = adds_on P C by old v.seen w.seen [] [] r.adds (adds_these P C by v w Kind [] g none);
       }
 
   -- the tag that a look at its station finds
-  pub tag_found : (draft : Draft) (station tag n : ℕ) (me : Me ℕ View) → Ready draft station tag me → IsStation (station_word C (recent (U me.0.seen)) station) n → tag_of n ≡ tag
+  pub tag_found : (draft : Draft) (station tag n : ℕ) (me : View) → Ready draft station tag me → IsStation (station_word C (recent (U me.seen)) station) n → tag_of n ≡ tag
   tag_found draft station tag n me r word =
-      let moves = (stations_follow P C (taken_of me.0.seen) by).moves (allowed_steps P C me.0.seen r.adds.legal) in
+      let moves = (stations_follow P C (taken_of me.seen) by).moves (allowed_steps P C me.seen r.adds.legal) in
       let free = moves.before_let t.index t.predicted (supply_of t.sources.0) (supply_of t.sources.1) r.may.may in
-      word.tag ∙ (ap (λ s. (station_word C (recent (U me.0.seen)) s).tag) (sym r.station_is) ∙ (free.1 ∙ r.tag_is))
+      word.tag ∙ (ap (λ s. (station_word C (recent (U me.seen)) s).tag) (sym r.station_is) ∙ (free.1 ∙ r.tag_is))
 
   -- the last step
-  pub lets_out : (draft : Draft) (tag : ℕ) (v w : Me ℕ View) → Ready draft (next_station C (recent (U old))) tag v
-      → (g : Grows P C by v.0 w.0 (Lets P C t.index t.predicted (supply_of t.sources.0) (supply_of t.sources.1))) → IsLetOut P C by t old w.0.seen
+  pub lets_out : (draft : Draft) (tag : ℕ) (v w : View) → Ready draft (next_station C (recent (U old))) tag v
+      → (g : Grows P C by v w (Lets P C t.index t.predicted (supply_of t.sources.0) (supply_of t.sources.1))) → IsLetOut P C by t old w.seen
   lets_out draft tag v w r g =
       let Kind = Lets P C t.index t.predicted (supply_of t.sources.0) (supply_of t.sources.1) in
       let added : g.events ≡ let_of t ∷ [] = g.kind.added in
-      let seen : w.0.seen ≡ entry by (let_of t) ∷ (g.between ++ v.0.seen) = g.is ∙ ap (λ es. map (entry by) es ++ (g.between ++ v.0.seen)) added in
-      let legal : IsLegal P C (entry by (let_of t) ∷ (g.between ++ v.0.seen)) = subst (IsLegal P C) seen g.legal in
-      let apart : own front g.between ≡ [] = subst (λ i. own i g.between ≡ []) r.fronts.by_is g.not_own in
-      let stay = still_let P C t.index t.predicted (supply_of t.sources.0) (supply_of t.sources.1) g.between v.0.seen legal.0 apart r.may.may in
-      let station_same : next_station C (recent (U (g.between ++ v.0.seen))) ≡ next_station C (recent (U v.0.seen)) = ap (λ x. x.station) stay.new in
+      let seen : w.seen ≡ entry by (let_of t) ∷ (g.between ++ v.seen) = g.is ∙ ap (λ es. map (entry by) es ++ (g.between ++ v.seen)) added in
+      let legal : IsLegal P C (entry by (let_of t) ∷ (g.between ++ v.seen)) = subst (IsLegal P C) seen g.legal in
+      let apart : own front g.between ≡ [] = subst (λ i. own i g.between ≡ []) r.by_is g.not_own in
+      let stay = still_let P C t.index t.predicted (supply_of t.sources.0) (supply_of t.sources.1) g.between v.seen legal.0 apart r.may.may in
+      let station_same : next_station C (recent (U (g.between ++ v.seen))) ≡ next_station C (recent (U v.seen)) = ap (λ x. x.station) stay.new in
       record {
-        adds = adds_on P C by old v.0.seen w.0.seen [] (let_of t ∷ []) r.adds (adds_these P C by v.0 w.0 Kind (let_of t ∷ []) g added);
-        point = g.between ++ v.0.seen;
+        adds = adds_on P C by old v.seen w.seen [] (let_of t ∷ []) r.adds (adds_these P C by v w Kind (let_of t ∷ []) g added);
+        point = g.between ++ v.seen;
         is = seen;
         station = station_same ∙ r.station_is;
       }
 
-  -- the same, by the number that the seat has at that step
-  pub goes_from : (id : ℕ) → id ≡ by → (draft next : Draft) (station tag : ℕ) (v w : Me ℕ View) (Kind : List Entry → Draft → List Event → Type 0) → Ready draft station tag v → (g : Grows P C id v.0 w.0 Kind) → g.events ≡ [] → w.0.draft ≡ next → Ready next station tag w
-  goes_from id e draft next station tag v w Kind r g none is =
-      let same = subst (λ i. (z : Grows P C i v.0 w.0 Kind) × (z.events ≡ [])) e (g, none) in
-      goes_on draft next station tag v w Kind r same.0 same.1 is
+-- The same of a call of the front, which began as v
+pub record IsReady (v : TheCall) (t : Tenant) (draft : Draft) (w : TheCall) : Type 0 where
+  pub same : IsLater v w
+  pub ready : Ready v.core.program v.core.sizes v.view.by t v.view.seen draft (next_place v) (new_tag v) w.view
+
+pub begins : {v : TheCall} {t : Tenant} → IsLegalCall v → v.view.by ≡ front → v.view.draft ≡ Nothing → MayLetNow v t → IsReady v t Nothing v
+begins {v} {t} legal by_is draft may = record {
+  same = record { core = refl; role = refl; by = refl; heirs = refl; lent = refl };
+  ready = starts v.core.program v.core.sizes v.view.by t v.view.seen v.view refl legal by_is draft may;
+}
+
+pub goes : {v : TheCall} {t : Tenant} {draft next : Draft} {w x : TheCall} {K : StepKind} → IsReady v t draft w → (s : Takes w x K) → s.grows.events ≡ [] → x.view.draft ≡ next → IsReady v t next x
+goes {v} {t} {draft} {next} {w} {x} {K} r s none is =
+    let g = before (λ z. (y : Grows z.0.program z.0.sizes z.1 w.view x.view (K z.0.program z.0.sizes)) × (y.events ≡ [])) r.same (s.grows, none) in
+    record {
+      same = joined r.same s.same;
+      ready = goes_on v.core.program v.core.sizes v.view.by t v.view.seen draft next (next_place v) (new_tag v) w.view x.view (K v.core.program v.core.sizes) r.ready g.0 g.1 is;
+    }
+
+module _ {v : TheCall} {t : Tenant} {draft : Draft} {w : TheCall} (r : IsReady v t draft w) where
+  pub may_at : MayLetNow w t
+  may_at = after (λ z. MayLetOut z.0.program z.0.sizes (unit_of z.0.program z.0.sizes w.view.seen) t) r.same r.ready.may
+
+  pub place_at : next_place w ≡ next_place v
+  place_at = after (λ z. next_station z.0.sizes (recent (unit_of z.0.program z.0.sizes w.view.seen)) ≡ next_place v) r.same r.ready.station_is
+
+  pub tag_at : new_tag w ≡ new_tag v
+  tag_at = after (λ z. next_tag z.0.sizes (recent (unit_of z.0.program z.0.sizes w.view.seen)) ≡ new_tag v) r.same r.ready.tag_is
+
+  pub let_now : {x : TheCall} → Takes w x (LetsOut t) → IsLetNow v x t
+  let_now {x} s = lets_out v.core.program v.core.sizes v.view.by t v.view.seen draft (new_tag v) w.view x.view r.ready (taken r.same s)
 
 below_ring : (n r : ℕ) → 0 < r → n % r < r
 below_ring n r pos = omega arith
 
--- the front's seat behind a let
-pub seated_out : (P : Program) (C : Sizes) (by station ring : ℕ) (over : Bool) (t : Tenant) (old : List Entry) (me : Me ℕ View) → ring ≡ C.ring → station < C.ring → station ≡ next_station C (recent (unit_of P C old)) → IsFronts by Nothing me → me.1 ≡ []
-    → IsLetOut P C by t old me.0.seen → IsSeated P C Front by ((station + 1) % ring) over me
-seated_out P C by station ring over t old me ring_is small station_is fronts slots out =
+pub next_inside : (station r : ℕ) → station < r → (station + 1) % r < r
+next_inside station r small = below_ring (station + 1) r (omega arith)
+
+-- the station behind a let
+pub next_out : {v w : TheCall} {t : Tenant} → IsLater v w → IsLetNow v w t → next_place w ≡ (next_place v + 1) % v.core.sizes.ring
+next_out {v} {w} {t} on out =
+    let P = v.core.program in
+    let C = v.core.sizes in
     let n : ℕ = how_many on_path (recent (unit_of P C out.point)) in
-    let was : station ≡ n % C.ring = station_is ∙ sym out.station in
     let one : n + 1 ≡ suc n = omega arith in
-    let next : (station + 1) % ring ≡ suc n % C.ring = (λ i. (was i + 1) % ring_is i) ∙ (mod-add-mod n C.ring 1 ∙ ap (λ z. z % C.ring) one) in
-    record {
-      role_is = fronts.role;
-      slots = slots;
-      legal = out.adds.legal;
-      inside = subst (λ r. (station + 1) % r < C.ring) (sym ring_is) (below_ring (station + 1) C.ring (omega arith));
-      knows = (fronts.by_is, fronts.draft_is, next ∙ sym (ap (λ h. next_station C (recent (unit_of P C h))) out.is));
-    }
+    let next : (next_place v + 1) % C.ring ≡ suc n % C.ring = ap (λ s. (s + 1) % C.ring) (sym out.station) ∙ (mod-add-mod n C.ring 1 ∙ ap (λ z. z % C.ring) one) in
+    after (λ z. next_station z.0.sizes (recent (unit_of z.0.program z.0.sizes w.view.seen)) ≡ (next_place v + 1) % C.ring) on
+    (ap (λ h. next_station C (recent (unit_of P C h))) out.is ∙ sym next)

@@ -5,7 +5,7 @@ use Rattle.inorder.specs.Unit.{Sizes}
 use Rattle.ruu_words.specs.declared.place.Place.{Place}
 use Rattle.ruu_words.specs.declared.rule.View.{View}
 use Rattle.ruu_words.proofs.Building.{looks}
-use Rattle.ruu_words.proofs.General.{Plans}
+use Rattle.ruu_words.specs.Plans.{Plans}
 use Rattle.station.specs.Steps.{Sees}
 
 module _ (P : Program) (C : Sizes) where

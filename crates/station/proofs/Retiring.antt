@@ -54,7 +54,7 @@ use Rattle.ruu_words.specs.States.{state_code}
 use Rattle.ruu_words.specs.Rule.{Grows, IsCaller}
 use Rattle.ruu_words.proofs.Building.{tells}
 use Rattle.ruu_words.proofs.Ending.{data_plan, head_plan, over_plan}
-use Rattle.ruu_words.proofs.General.{Plan, Plans}
+use Rattle.ruu_words.specs.Plans.{Plan, Plans}
 use Rattle.ruu_words.proofs.Leaving.{retire_plan}
 use Rattle.ruu_words.proofs.StationWords.{addr_state, done_state, live_state, one_at}
 use Rattle.ruu_words.proofs.Stays.{back_stays, same_before}

@@ -37,7 +37,7 @@ use Rattle.ruu_words.specs.Fields.{tag_of}
 use Rattle.ruu_words.specs.Kinds.{IsAny, IsTenant}
 use Rattle.ruu_words.specs.Rule.{Grows}
 use Rattle.ruu_words.proofs.Building.{changes}
-use Rattle.ruu_words.proofs.General.{Plan, Plans}
+use Rattle.ruu_words.specs.Plans.{Plan, Plans}
 use Rattle.ruu_words.proofs.StationWords.{its_word, live_state, one_at}
 use Rattle.ruu_words.proofs.Stays.{any_stays, front_stays}
 use Rattle.station.specs.Letting.{IsFronts}

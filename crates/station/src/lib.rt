@@ -6,6 +6,7 @@
 #![tactic(auto)]
 
 mod answers;
+mod call;
 mod claims;
 mod cores;
 mod dispatch;

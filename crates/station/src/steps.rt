@@ -17,18 +17,12 @@ mod walk;
 mod writeback;
 
 use atomic_table::{Play, Seat, Shared};
-pub(crate) use claim::{claim_tenant, peek, read_source, recheck};
-pub(crate) use dispatch::{let_tenant, store_first, store_info, store_second};
-pub(crate) use leave::{mend_tenant, squash_tenant};
 pub(crate) use look::{look, read_info};
 pub(crate) use retire::{
     Access, Leaving, look_at_head, read_data, retire_tenant, tell_over, tell_waiting,
 };
 use ruu_words::Place;
 use ruu_words::rule::{OneHistory, Setup, View};
-pub(crate) use wakeup::{look_at_creator, store_link, take_value};
-pub(crate) use walk::end_walk;
-pub(crate) use writeback::{deliver, finish_tenant, read_link, settle_tenant};
 
 pub(crate) type Words = Shared<u8, View, Setup, OneHistory>;
 

@@ -3,14 +3,34 @@ ghost use Rattle.std.specs.Prelude.{◌≡◌, ◌<◌};
 ghost use Rattle.ruu_words.specs.Kinds.{ReadsInfo};
 ghost use Rattle.ruu_words.specs.Places.{IsPlace};
 ghost use Rattle.ruu_words.specs.Rule.{IsAlive, sizes_of};
+ghost use Rattle.station.specs.Calls.{Takes};
 ghost use Rattle.station.specs.Steps.{Grown, IsAt, Sees};
 
 use super::{Words, load};
+use crate::call::Call;
+use crate::seat::Part;
 use atomic_table::Seat;
 use ruu_words::Place;
 use ruu_words::rule::View;
 use std::marker::Brand;
 
+impl<'a, P: Part> Call<'a, P> {
+    /// Looks at a word.
+    pub(crate) fn look(&mut self, place: Place) -> u64
+        requires { IsPlace self.old.core.sizes.ring place }
+        ensures { Takes self.old self.new (λ P C. Sees P C self.old.view.by self.old.view place result) }
+    {
+        self.load::<Brand, ()>(place, ())
+    }
+
+    /// Reads the info word of a station.
+    pub(crate) fn read_info(&mut self, station: usize) -> u64
+        requires { station < self.old.core.sizes.ring }
+        ensures { Takes self.old self.new (λ P C. ReadsInfo P C station result) }
+    {
+        self.load::<Brand, usize>(Place::Info(station), station)
+    }
+}
 /// Looks at a word.
 pub(crate) fn look(words: &Words, ring: usize, seat: &mut Seat<u8, View>, place: Place) -> u64
     requires of { IsAt words.now.table_id words.now.key ring seat.old.table_id }

@@ -13,15 +13,74 @@ ghost use Rattle.ruu_words.specs.Rule.{sizes_of};
 ghost use Rattle.station.specs.Retirement.{FindsData, HasAccess, Leaves, LooksAtHead, MayLeave, left_word};
 ghost use Rattle.station.specs.Seats.{IsAtHead};
 ghost use Rattle.station.specs.Steps.{Grown, IsAt};
+ghost use Rattle.station.specs.Calls.{Takes, seen_unit};
 
 use super::{Words, load, swap};
 use crate::answers::Last;
+use crate::call::Call;
+use crate::seat::BackPart;
 use atomic_table::Seat;
 use inorder::history::Source;
 use instructions::Half;
 use ruu_words::Place;
 use ruu_words::rule::View;
 use std::marker::Brand;
+
+impl<'a> Call<'a, BackPart> {
+    /// Looks at a station, and tells that a stop has retired.
+    pub(crate) fn tell_over(&mut self, station: usize)
+        requires place { station < self.old.core.sizes.ring }
+        requires over { IsAtHead self.old.core.sizes (seen_unit self.old) station true }
+        ensures { Takes self.old self.new (λ P C. Tells P C Over) }
+    {
+        self.load::<Brand, ()>(Place::Station(station), ());
+    }
+
+    /// Looks at the oldest live tenant, and tells where it cannot retire, or where there is none.
+    pub(crate) fn look_at_head(&mut self, station: usize) -> u64
+        requires place { station < self.old.core.sizes.ring }
+        requires head { IsAtHead self.old.core.sizes (seen_unit self.old) station false }
+        ensures { Takes self.old self.new
+            (λ P C. LooksAtHead P C self.old.view.by station result) }
+    {
+        self.load::<Brand, usize>(Place::Station(station), station)
+    }
+
+    /// Looks at it again, and tells that the load cannot retire before it has its value.
+    pub(crate) fn tell_waiting(&mut self, access: Access)
+        requires place { access.station < self.old.core.sizes.ring }
+        requires access { HasAccess self.old.core.program self.old.core.sizes self.old.view.seen
+            access }
+        requires load { kind (instr_of self.old.core.program access.index).op ≢ Stores }
+        ensures { Takes self.old self.new (λ P C. Tells P C NotDone) }
+    {
+        let place = Place::Station(access.station);
+        self.load::<Brand, ()>(place, ());
+    }
+
+    /// Reads a store's data, and tells where it is not there.
+    pub(crate) fn read_data(&mut self, access: Access) -> u64
+        requires place { access.station < self.old.core.sizes.ring }
+        requires access { HasAccess self.old.core.program self.old.core.sizes self.old.view.seen
+            access }
+        ensures { Takes self.old self.new (λ P C. FindsData P C access result) }
+    {
+        let place = Place::Operand(access.station, Source::Second);
+        self.load::<Brand, Access>(place, access)
+    }
+
+    /// Swaps the word of the oldest live tenant for that of a free station.
+    pub(crate) fn retire_tenant(&mut self, leaving: Leaving, word: u64)
+        requires place { leaving.station < self.old.core.sizes.ring }
+        requires may { MayLeave self.old.core.program self.old.core.sizes self.old.view.seen
+            leaving }
+        requires word { IsStation (left_word leaving) word }
+        ensures { Takes self.old self.new (λ P C. Leaves P C leaving) }
+    {
+        let place = Place::Station(leaving.station);
+        self.swap::<Brand, Leaving>(place, word, leaving);
+    }
+}
 
 /// A load or store with its address.
 #[derive(Clone, Copy)]

@@ -1,120 +1,79 @@
 //! The steps of a writeback and of a wakeup: a result goes into its station, then along the links.
-ghost use Rattle.std.specs.Prelude.{◌≡◌, ◌<◌};
+ghost use Rattle.std.specs.Prelude.{◌<◌};
 ghost use Rattle.inorder.specs.StationWords.{live_word};
 ghost use Rattle.inorder.specs.Tenants.{Addr, Busy, Done};
 ghost use Rattle.inorder.specs.Callers.{HasJob};
-ghost use Rattle.ruu_words.specs.declared.rule.Role.TheVariants.{Back, Worker};
 ghost use Rattle.ruu_words.specs.Content.{IsOperandOf, IsStation};
 ghost use Rattle.ruu_words.specs.Fields.{tag_of, value_of};
 ghost use Rattle.ruu_words.specs.Kinds.{Delivers, Finishes, ReadsLink, Settles, fate_of};
-ghost use Rattle.ruu_words.specs.Rule.{IsAlive, sizes_of};
-ghost use Rattle.station.specs.Steps.{Grown, IsAt};
-ghost use Rattle.station.specs.Writeback.{CanDeliver, CanSettle, HasTenant, val_word, wait_word};
+ghost use Rattle.station.specs.Writeback.{CanDeliver, CanSettle, val_word, wait_word};
+ghost use Rattle.station.specs.Calls.{HasOne, Takes};
 
-use super::{Words, exchange, load};
-use atomic_table::Seat;
+use crate::call::Call;
+use crate::seat::{BackPart, Part, UnitPart};
 use inorder::history::Source;
 use instructions::Outcome;
 use ruu_words::Place;
-use ruu_words::rule::View;
 use std::marker::Brand;
 
-/// Exchanges the word of a busy tenant for its outcome's.
-pub(crate) fn finish_tenant(
-    words: &Words,
-    ring: usize,
-    seat: &mut Seat<u8, View>,
-    station: usize,
-    old: u64,
-    new: u64,
-    predicted: u32,
-    outcome: Outcome,
-) -> u64
-    requires of { IsAt words.now.table_id words.now.key ring seat.old.table_id }
-    requires place { station < ring }
-    requires role { seat.old.me.0.role ≡ Worker }
-    requires old { IsStation (live_word (tag_of old) (Busy seat.old.me.0.by)) old }
-    requires new { IsStation (live_word (tag_of old) (fate_of predicted outcome)) new }
-    requires job { HasTenant words.now.key.program (sizes_of words.now.key) seat.old.me.0.seen station (tag_of old) (HasJob words.now.key.program seat.old.me.0.by predicted outcome) }
-    ensures same { (seat.new.table_id ≡ seat.old.table_id) × (seat.new.me.0.by ≡ seat.old.me.0.by) }
-    ensures heirs { seat.new.me.0.heirs ≡ seat.old.me.0.heirs }
-    ensures step { Grown words.now.key seat.old.me.0.by seat.old.me seat.new.me (Finishes words.now.key.program (sizes_of words.now.key) station (tag_of old) outcome old result) }
-{
-    let place = Place::Station(station);
-    exchange::<Brand, (usize, Outcome)>(words, ring, seat, place, old, new, (station, outcome))
+impl<'a> Call<'a, UnitPart> {
+    /// Exchanges the word of a busy tenant for its outcome's.
+    pub(crate) fn finish_tenant(
+        &mut self,
+        station: usize,
+        old: u64,
+        new: u64,
+        predicted: u32,
+        outcome: Outcome,
+    ) -> u64
+        requires place { station < self.old.core.sizes.ring }
+        requires old { IsStation (live_word (tag_of old) (Busy self.old.view.by)) old }
+        requires new { IsStation (live_word (tag_of old) (fate_of predicted outcome)) new }
+        requires job { HasOne self.old station (tag_of old)
+            (HasJob self.old.core.program self.old.view.by predicted outcome) }
+        ensures { Takes self.old self.new
+            (λ P C. Finishes P C station (tag_of old) outcome old result) }
+    {
+        let place = Place::Station(station);
+        self.exchange::<Brand, (usize, Outcome)>(place, old, new, (station, outcome))
+    }
 }
 
-/// Exchanges the word of a load with its address for that of its value.
-pub(crate) fn settle_tenant(
-    words: &Words,
-    ring: usize,
-    seat: &mut Seat<u8, View>,
-    station: usize,
-    old: u64,
-    new: u64,
-) -> u64
-    requires of { IsAt words.now.table_id words.now.key ring seat.old.table_id }
-    requires place { station < ring }
-    requires role { seat.old.me.0.role ≡ Back }
-    requires old { IsStation (live_word (tag_of old) (Addr (value_of old))) old }
-    requires new { IsStation (live_word (tag_of old) (Done (value_of new))) new }
-    requires load { CanSettle words.now.key.program (sizes_of words.now.key) seat.old.me.0.seen station (tag_of old) (value_of old) (value_of new) }
-    ensures same { (seat.new.table_id ≡ seat.old.table_id) × (seat.new.me.0.by ≡ seat.old.me.0.by) }
-    ensures heirs { seat.new.me.0.heirs ≡ seat.old.me.0.heirs }
-    ensures step { Grown words.now.key seat.old.me.0.by seat.old.me seat.new.me (Settles words.now.key.program (sizes_of words.now.key) station (tag_of old) old result) }
-{
-    exchange::<Brand, usize>(
-        words,
-        ring,
-        seat,
-        Place::Station(station),
-        old,
-        new,
-        station,
-    )
+impl<'a> Call<'a, BackPart> {
+    /// Exchanges the word of a load with its address for that of its value.
+    pub(crate) fn settle_tenant(&mut self, station: usize, old: u64, new: u64) -> u64
+        requires place { station < self.old.core.sizes.ring }
+        requires old { IsStation (live_word (tag_of old) (Addr (value_of old))) old }
+        requires new { IsStation (live_word (tag_of old) (Done (value_of new))) new }
+        requires load { CanSettle self.old.core.program self.old.core.sizes self.old.view.seen
+            station (tag_of old) (value_of old) (value_of new) }
+        ensures { Takes self.old self.new (λ P C. Settles P C station (tag_of old) old result) }
+    {
+        self.exchange::<Brand, usize>(Place::Station(station), old, new, station)
+    }
 }
 
-/// Reads a link from a producer's station to a source of a consumer's.
-pub(crate) fn read_link(
-    words: &Words,
-    ring: usize,
-    seat: &mut Seat<u8, View>,
-    from: usize,
-    to: usize,
-    k: Source,
-) -> u64
-    requires of { IsAt words.now.table_id words.now.key ring seat.old.table_id }
-    requires from { from < ring }
-    requires to { to < ring }
-    requires alive { IsAlive seat.old.me.0.role }
-    ensures same { (seat.new.table_id ≡ seat.old.table_id) × (seat.new.me.0.by ≡ seat.old.me.0.by) }
-    ensures heirs { seat.new.me.0.heirs ≡ seat.old.me.0.heirs }
-    ensures step { Grown words.now.key seat.old.me.0.by seat.old.me seat.new.me (ReadsLink words.now.key.program (sizes_of words.now.key) from to k result) }
-{
-    let place = Place::Link(from, to, k);
-    load::<Brand, (usize, usize, Source)>(words, ring, seat, place, (from, to, k))
-}
+impl<'a, P: Part> Call<'a, P> {
+    /// Reads a link from a producer's station to a source of a consumer's.
+    pub(crate) fn read_link(&mut self, from: usize, to: usize, k: Source) -> u64
+        requires from { from < self.old.core.sizes.ring }
+        requires to { to < self.old.core.sizes.ring }
+        ensures { Takes self.old self.new (λ P C. ReadsLink P C from to k result) }
+    {
+        let place = Place::Link(from, to, k);
+        self.load::<Brand, (usize, usize, Source)>(place, (from, to, k))
+    }
 
-/// Takes a value along a link, if its consumer still waits.
-pub(crate) fn deliver(
-    words: &Words,
-    ring: usize,
-    seat: &mut Seat<u8, View>,
-    station: usize,
-    k: Source,
-    old: u64,
-    new: u64,
-) -> u64
-    requires of { IsAt words.now.table_id words.now.key ring seat.old.table_id }
-    requires place { station < ring }
-    requires alive { IsAlive seat.old.me.0.role }
-    requires old { IsOperandOf (wait_word (tag_of old)) old }
-    requires new { IsOperandOf (val_word (tag_of old) (value_of new)) new }
-    requires link { CanDeliver words.now.key.program (sizes_of words.now.key) seat.old.me.0.seen station k (tag_of old) (value_of new) }
-    ensures same { (seat.new.table_id ≡ seat.old.table_id) × (seat.new.me.0.by ≡ seat.old.me.0.by) }
-    ensures heirs { seat.new.me.0.heirs ≡ seat.old.me.0.heirs }
-    ensures step { Grown words.now.key seat.old.me.0.by seat.old.me seat.new.me (Delivers words.now.key.program (sizes_of words.now.key) station k (tag_of old) old result) }
-{
-    let place = Place::Operand(station, k);
-    exchange::<Brand, (usize, Source)>(words, ring, seat, place, old, new, (station, k))
+    /// Takes a value along a link, if its consumer still waits.
+    pub(crate) fn deliver(&mut self, station: usize, k: Source, old: u64, new: u64) -> u64
+        requires place { station < self.old.core.sizes.ring }
+        requires old { IsOperandOf (wait_word (tag_of old)) old }
+        requires new { IsOperandOf (val_word (tag_of old) (value_of new)) new }
+        requires link { CanDeliver self.old.core.program self.old.core.sizes self.old.view.seen
+            station k (tag_of old) (value_of new) }
+        ensures { Takes self.old self.new (λ P C. Delivers P C station k (tag_of old) old result) }
+    {
+        let place = Place::Operand(station, k);
+        self.exchange::<Brand, (usize, Source)>(place, old, new, (station, k))
+    }
 }

@@ -1,27 +1,28 @@
-use Rattle.std.proofs.Common.{◌≡◌, ℕ, ◌+◌, ◌<◌, ◌≤◌, ◌%◌, length, sym, ap, ◌∙◌, subst, arith}
+use Rattle.std.proofs.Common.{◌≡◌, ℕ, ◌+◌, ◌<◌, ◌≤◌, ◌%◌, length, sym, ap, ◌∙◌, subst, rules, arith}
 use Rattle.instructions.specs.Programs.{Program}
 use Rattle.ruu_words.specs.declared.rule.Role.TheVariants.{Front}
-use Rattle.ruu_words.specs.Rule.{sizes_of}
-use Rattle.station.specs.Seats.{IsSeated, TheCore}
-use Rattle.station.proofs.LettingOut.{seated_out}
-use Rattle.station.proofs.Numbers.{front_numbered}
-use Rattle.station.proofs.SameUnit.{Unit_of, of_seat, of_table, unit_at}
+use Rattle.station.specs.Calls.{TheCall, next_place}
+use Rattle.station.specs.Seats.{TheCore}
+use Rattle.station.proofs.Calls.{front_back, seated_in}
+use Rattle.station.proofs.LettingOut.{next_inside, next_out}
 use Rattle.station.proofs.cores.Core.let_out.Goals as goal
 
 pub invariant_of-seat : goal.invariant_of-seat
 invariant_of-seat c =
-    let key = c.self.inside.table.shared.key in
+    let core = c.args.self.now in
     let value = c.seat.inside.words.value.key in
-    let s = c.seat.inside.seat in
     let station : ℕ = c.seat.inside.station in
-    let me = c.dispatch-tag.new.seat.me in
-    let table = of_table key _ c.args.self.now c.self.view_is in
-    let seat = of_seat _ value _ _ _ c.args.seat.now c.args.self.now c.seat.view_is c.requires.core in
-    let same : unit_at value ≡ unit_at key = seat ∙ sym table in
-    let was : IsSeated key.program (sizes_of key) Front s.me.0.by station c.seat.inside.over s.me = subst (λ (z : Unit_of). IsSeated z.0 z.1 Front s.me.0.by station c.seat.inside.over s.me) same c.seat.invariant.0 in
-    let ring : c.self.inside.ring ≡ key.ring = sym c.self.invariant.ring_is in
-    let out : IsSeated key.program (sizes_of key) Front s.me.0.by ((station + 1) % c.self.inside.ring) c.seat.inside.over me = seated_out key.program (sizes_of key) s.me.0.by station c.self.inside.ring c.seat.inside.over c.args.tenant s.me.0.seen me ring was.inside was.knows.2 c.dispatch-tag.ensures.front (c.dispatch-tag.ensures.slots ∙ was.slots) c.dispatch-tag.ensures.out in
-    (subst (λ (z : Unit_of × ℕ). IsSeated z.0.0 z.0.1 Front z.1 ((station + 1) % c.self.inside.ring) c.seat.inside.over me) (λ i. (sym same i, sym c.dispatch-tag.ensures.same.1 i)) out, front_numbered s.me.0 me.0 c.dispatch-tag.ensures.same.1 c.dispatch-tag.ensures.heirs c.seat.invariant.1)
+    let v = c.of-call.result in
+    let done = c.dispatch-tag.ensures in
+    let was = seated_in _ value _ _ _ c.args.seat.now core c.seat.view_is c.requires.core Front _ station c.seat.inside.over _ c.seat.invariant.0 in
+    let core_is = ap (λ (z : TheCall). z.core) c.of-call.ensures in
+    let ring : c.self.inside.ring ≡ v.core.sizes.ring = sym c.self.invariant.ring_is ∙ (ap (λ (k : TheCore). k.sizes.ring) c.self.view_is ∙ ap (λ (k : TheCore). k.sizes.ring) (sym core_is)) in
+    let inside : station < v.core.sizes.ring = subst (λ (k : TheCore). station < k.sizes.ring) (sym core_is) was.inside in
+    let here : station ≡ next_place v = was.knows.2 ∙ sym (ap next_place c.of-call.ensures) in
+    front_back _ value _ _ _ c.args.seat.now core c.seat.view_is c.requires.core c.of-call.ensures done.same c.call.invariant c.call.view_is (search rules)
+    ((station + 1) % c.self.inside.ring) c.seat.inside.over
+    (subst (λ r. (station + 1) % r < v.core.sizes.ring) (sym ring) (next_inside station v.core.sizes.ring inside)) done.draft
+    ((λ i. (here i + 1) % ring i) ∙ sym (next_out done.same done.out))
 
 pub dispatch-tag-requires-clause-small : goal.dispatch-tag-requires-clause-small
 dispatch-tag-requires-clause-small c =

@@ -1,22 +1,9 @@
-use Rattle.std.proofs.Common.{◌≡◌, ℕ, sym, ◌∙◌, subst}
-use Rattle.ruu_words.specs.declared.rule.Role.TheVariants.{Front}
-use Rattle.ruu_words.specs.Rule.{sizes_of}
-use Rattle.station.specs.Seats.{IsSeated}
-use Rattle.station.proofs.Mending.{seated_mended}
-use Rattle.station.proofs.Numbers.{front_numbered}
-use Rattle.station.proofs.SameUnit.{Unit_of, of_seat, of_table, unit_at}
+use Rattle.std.proofs.Common.{rules}
+use Rattle.station.proofs.Calls.{front_kept}
 use Rattle.station.proofs.cores.Core.mend.Goals as goal
 
 pub invariant_of-seat : goal.invariant_of-seat
 invariant_of-seat c =
-    let key = c.self.inside.table.shared.key in
-    let value = c.seat.inside.words.value.key in
-    let s = c.seat.inside.seat in
-    let station : ℕ = c.seat.inside.station in
-    let me = c.mend_miss.new.seat.me in
-    let table = of_table key _ c.args.self.now c.self.view_is in
-    let seat = of_seat _ value _ _ _ c.args.seat.now c.args.self.now c.seat.view_is c.requires.core in
-    let same : unit_at value ≡ unit_at key = seat ∙ sym table in
-    let was : IsSeated key.program (sizes_of key) Front s.me.0.by station c.seat.inside.over s.me = subst (λ (z : Unit_of). IsSeated z.0 z.1 Front s.me.0.by station c.seat.inside.over s.me) same c.seat.invariant.0 in
-    let out : IsSeated key.program (sizes_of key) Front s.me.0.by station c.seat.inside.over me = seated_mended key.program (sizes_of key) s.me.0.by station c.args.station c.seat.inside.over s.me.0.seen me was.inside was.knows.2 c.mend_miss.ensures.front (c.mend_miss.ensures.slots ∙ was.slots) c.mend_miss.ensures.mended c.mend_miss.ensures.next in
-    (subst (λ (z : Unit_of × ℕ). IsSeated z.0.0 z.0.1 Front z.1 station c.seat.inside.over me) (λ i. (sym same i, sym c.mend_miss.ensures.same.1 i)) out, front_numbered s.me.0 me.0 c.mend_miss.ensures.same.1 c.mend_miss.ensures.heirs c.seat.invariant.1)
+    let done = c.mend_miss.ensures in
+    front_kept _ c.seat.inside.words.value.key _ _ _ c.args.seat.now c.args.self.now c.seat.view_is c.requires.core c.of-call.ensures done.same c.call.invariant c.call.view_is (search rules)
+    c.seat.inside.station c.seat.inside.over c.seat.invariant.0 done.draft done.next

@@ -1,23 +1,21 @@
-use Rattle.std.proofs.Common.{◌≡◌, ℕ, sym, ◌∙◌, subst}
+use Rattle.std.proofs.Common.{◌≡◌, ℕ, sym, ◌∙◌, subst, rules}
 use Rattle.ruu_words.specs.declared.rule.Role.TheVariants.{Back}
-use Rattle.ruu_words.specs.Rule.{sizes_of}
-use Rattle.station.specs.Seats.{IsSeated}
-use Rattle.station.proofs.Numbers.{back_numbered}
-use Rattle.station.proofs.SameUnit.{Unit_of, of_seat, of_table, unit_at}
+use Rattle.station.specs.Calls.{AnswersSettle, TheCall}
+use Rattle.station.specs.Writeback.{SettleAnswers}
+use Rattle.station.proofs.Calls.{given_back, seated_in}
 use Rattle.station.proofs.Writing.{settled_seated}
 use Rattle.station.proofs.cores.Core.settle.Goals as goal
 
 pub invariant_of-seat : goal.invariant_of-seat
 invariant_of-seat c =
-    let key = c.self.inside.table.shared.key in
-    let value = c.seat.inside.words.value.key in
+    let core = c.args.self.now in
     let s = c.seat.inside.seat in
     let station : ℕ = c.seat.inside.station in
     let over = c.seat.inside.over in
-    let me = c.settle_load-settled.new.seat.me in
-    let table = of_table key _ c.args.self.now c.self.view_is in
-    let seat = of_seat _ value _ _ _ c.args.seat.now c.args.self.now c.seat.view_is c.requires.core in
-    let same : unit_at value ≡ unit_at key = seat ∙ sym table in
-    let was : IsSeated key.program (sizes_of key) Back s.me.0.by station over s.me = subst (λ (z : Unit_of). IsSeated z.0 z.1 Back s.me.0.by station over s.me) same c.seat.invariant.0 in
-    let out : IsSeated key.program (sizes_of key) Back s.me.0.by station over me = settled_seated key.program (sizes_of key) s.me.0.by station c.args.station c.args.tag over s.me me c.settle_load-settled.result.0 was (c.settle_load-settled.ensures.role ∙ sym was.role_is) c.settle_load-settled.ensures.slots c.settle_load-settled.ensures.reply in
-    (subst (λ (z : Unit_of × ℕ). IsSeated z.0.0 z.0.1 Back z.1 station over me) (λ i. (sym same i, sym c.settle_load-settled.ensures.same.1 i)) out, back_numbered s.me.0 me.0 c.settle_load-settled.ensures.same.1 c.settle_load-settled.ensures.heirs c.seat.invariant.1)
+    let t = c.call.inside.seat.now.me in
+    let done = c.settle_load-settled in
+    let was = seated_in _ c.seat.inside.words.value.key _ _ _ c.args.seat.now core c.seat.view_is c.requires.core Back s.me.0.by station over s.me c.seat.invariant.0 in
+    let reply : SettleAnswers core.program core.sizes s.me.0.by s.me.0.seen t.0.seen c.args.station c.args.tag done.result.0 = subst (λ (z : TheCall × TheCall). AnswersSettle z.0 z.1 c.args.station c.args.tag done.result.0) (λ i. (c.of-call.ensures i, sym c.call.view_is i)) done.ensures.reply in
+    given_back _ c.seat.inside.words.value.key _ _ _ c.args.seat.now core c.seat.view_is c.requires.core Back s.me.0 _ c.of-call.result c.of-call.ensures done.new.self done.ensures.same
+    c.call.inside.core.now t c.call.inside.seat.ghost_name c.call.view_is c.call.inside.seat.now.table_id c.call.invariant _ (search rules) station over
+    (settled_seated core.program core.sizes s.me.0.by station c.args.station c.args.tag over s.me t done.result.0 was (c.call.invariant.role_is ∙ sym was.role_is) (c.call.invariant.slots ∙ sym was.slots) reply)

@@ -1,0 +1,159 @@
+-- A step of a call is one of its table.
+use Rattle.std.proofs.Common.{◌≡◌, ℕ, ◌<◌, Bool, List, [], sym, ap, refl, ◌∙◌, subst}
+use Rattle.atomic_table.specs.Seated.{TableId}
+use Rattle.atomic_table.specs.Table.{Allows, Me, Step}
+use Rattle.instructions.specs.Programs.{Program}
+use Rattle.inorder.specs.declared.history.Entry.{Entry}
+use Rattle.inorder.specs.declared.history.Event.{Event}
+use Rattle.inorder.specs.History.{IsLegal, unit_of}
+use Rattle.inorder.specs.Unit.{next_station, recent}
+use Rattle.ruu_words.specs.declared.place.Place.{Place}
+use Rattle.ruu_words.specs.declared.rule.Draft.{Draft}
+use Rattle.ruu_words.specs.declared.rule.Draft.TheVariants.{Nothing}
+use Rattle.ruu_words.specs.declared.rule.Heirs.{Heirs}
+use Rattle.ruu_words.specs.declared.rule.Role.{Role}
+use Rattle.ruu_words.specs.declared.rule.Role.TheVariants.{Back, Front, Spent, Start, Worker}
+use Rattle.ruu_words.specs.declared.rule.Setup.{Setup}
+use Rattle.ruu_words.specs.declared.rule.View.{View}
+use Rattle.ruu_words.specs.Places.{IsPlace, index}
+use Rattle.ruu_words.specs.Rule.{Grows, IsAlive, IsCaller, Kept, Tells, Unborn, opening_of, sizes_of}
+use Rattle.ruu_words.proofs.General.{allowed_at}
+use Rattle.station.specs.Calls.{IsCall, IsLater, IsLegalCall, MayTake, StepKind, Takes, TheCall, next_place}
+use Rattle.station.specs.Seats.{Caller, HasHeirs, IsNumbered, IsSeated, TheCore, core_of}
+use Rattle.station.proofs.Numbers.{numbered_on}
+use Rattle.station.proofs.SameUnit.{Unit_of, of_seat, unit_at, unit_in}
+
+abbrev pub call_of : TheCore → View → ℕ → TheCall
+call_of core view lent = record { core = core; view = view; lent = lent }
+
+-- a seat with a number is not spent
+pub alive_role : (opening : List Entry) (role : Role) (v : View) → IsNumbered opening role v → IsAlive role
+alive_role opening role v n = go role n.heirs
+  where
+    go : (r : Role) → HasHeirs opening r v → IsAlive r
+    go Start h = absurd h
+    go Front h = tt
+    go Back h = tt
+    go Worker h = tt
+    go Spent h = absurd h
+
+module _ (table : TableId) (key : Setup) (core : TheCore) (here : core_of table key ≡ core) (me : Me ℕ View) (lent : ℕ) (v : TheCall) (is : call_of core me.0 lent ≡ v) where
+  abbrev its : StepKind → List Entry → Draft → List Event → Type 0
+  its K = K key.program (sizes_of key)
+
+  same : call_of (core_of table key) me.0 lent ≡ v
+  same = ap (λ c. call_of c me.0 lent) here ∙ is
+
+  pub may : (role : Role) (at : TableId) (slots id : ℕ) (x : Place) (i : ℕ) (f tell : ℕ → ℕ) (K : ℕ → StepKind) (z : Step ℕ) (ring : ℕ) → key.ring ≡ ring → i ≡ index ring x → IsCall core role at me
+      → IsPlace v.core.sizes.ring x → MayTake role v x f (λ n. K (tell n)) → Allows (Kept key) slots id me i f (λ n found. Tells key.program (sizes_of key) (opening_of key) me.0.by (λ n. its (K n)) z me (tell n) found)
+  may role at slots id x i f tell K z ring ring_is index_is was place m =
+      allowed_at key.program (sizes_of key) (opening_of key) slots id me x i f tell (λ n. its (K n)) z (ap (λ r. index r x) ring_is ∙ sym index_is)
+      (subst (λ (z : TheCall). IsPlace z.core.sizes.ring x) (sym same) place)
+      (subst IsAlive (sym was.role_is) (alive_role core.opening role me.0 was.numbered))
+      (subst (λ z. MayTake role z x f (λ n. K (tell n))) (sym same) m was.role_is was.numbered.caller)
+
+  pub goes_on : (role : Role) (old_table new_table : TableId) (w : Me ℕ View) (K : StepKind) → IsCall core role old_table me → new_table ≡ old_table → Grows key.program (sizes_of key) me.0.by me.0 w.0 (its K)
+      → Unborn (opening_of key) w.0 → w.1 ≡ me.1 → IsCall core role new_table w
+  goes_on role old_table new_table w K was at g unborn slots = record {
+    at = at ∙ was.at;
+    role_is = g.role ∙ was.role_is;
+    slots = slots ∙ was.slots;
+    legal = subst (λ (c : TheCore). IsLegal c.program c.sizes w.0.seen) here g.legal;
+    numbered = numbered_on core.opening role me.0 w.0 g.by_is g.heirs_are (subst (λ (c : TheCore). Unborn c.opening w.0) here unborn) was.numbered;
+  }
+
+  pub takes : (w : View) (K : StepKind) → Grows key.program (sizes_of key) me.0.by me.0 w (its K) → Takes v (call_of core w lent) K
+  takes w K g = subst (λ z. Takes z (call_of core w lent) K) same (record { same = record { core = sym here; role = g.role; by = g.by_is; heirs = g.heirs_are; lent = refl }; grows = g })
+
+-- the steps of one call are of one core and one caller
+pub joined : {u v w : TheCall} → IsLater u v → IsLater v w → IsLater u w
+joined a b = record { core = b.core ∙ a.core; role = b.role ∙ a.role; by = b.by ∙ a.by; heirs = b.heirs ∙ a.heirs; lent = b.lent ∙ a.lent }
+
+-- what is said of its core and caller
+abbrev pub Of : Type 0
+Of = TheCore × ℕ
+
+abbrev pub of : TheCall → Of
+of v = (v.core, v.view.by)
+
+pub of_one : (v w : TheCall) → IsLater v w → of w ≡ of v
+of_one v w g = λ i. (g.core i, g.by i)
+
+-- it holds of the same call before a step and after it
+pub before : (F : Of → Type 0) {v w : TheCall} → IsLater v w → F (of w) → F (of v)
+before F {v} {w} g = subst F (of_one v w g)
+
+pub after : (F : Of → Type 0) {v w : TheCall} → IsLater v w → F (of v) → F (of w)
+after F {v} {w} g = subst F (sym (of_one v w g))
+
+-- a later step, of the core and the caller as they were named at first
+pub taken : {v w x : TheCall} {K : StepKind} → IsLater v w → Takes w x K → Grows v.core.program v.core.sizes v.view.by w.view x.view (K v.core.program v.core.sizes)
+taken {v} {w} {x} {K} g t = before (λ z. Grows z.0.program z.0.sizes z.1 w.view x.view (K z.0.program z.0.sizes)) g t.grows
+
+-- the next tenant's station, of the core as it was named at first
+pub next_kept : {v w : TheCall} → IsLater v w → next_station v.core.sizes (recent (unit_of v.core.program v.core.sizes w.view.seen)) ≡ next_place v → next_place w ≡ next_place v
+next_kept {v} {w} g e = after (λ z. next_station z.0.sizes (recent (unit_of z.0.program z.0.sizes w.view.seen)) ≡ next_place v) g e
+
+-- what is known of a call that has used one of its fields
+pub legal_at : {core : TheCore} {me : Me ℕ View} {lent : ℕ} {v : TheCall} {role : Role} {table : TableId} → IsCall core role table me → call_of core me.0 lent ≡ v → IsLegalCall v
+legal_at t is = subst IsLegalCall is t.legal
+
+pub role_at : {core : TheCore} {me : Me ℕ View} {lent : ℕ} {v : TheCall} {role : Role} {table : TableId} → IsCall core role table me → call_of core me.0 lent ≡ v → v.view.role ≡ role
+role_at t is = sym (ap (λ (z : TheCall). z.view.role) is) ∙ t.role_is
+
+pub caller_at : {core : TheCore} {me : Me ℕ View} {lent : ℕ} {v : TheCall} {role : Role} {table : TableId} → IsCall core role table me → call_of core me.0 lent ≡ v → IsCaller role v.view.by
+caller_at {core} {me} {lent} {v} {role} t is = subst (λ (z : TheCall). IsCaller role z.view.by) is t.numbered.caller
+
+pub ring_at : (key : Setup) {table : TableId} {core : TheCore} {view : View} {lent ring : ℕ} {v : TheCall} → key.ring ≡ ring → core_of table key ≡ core → call_of core view lent ≡ v → ring ≡ v.core.sizes.ring
+ring_at key e here is = sym e ∙ (ap (λ (k : TheCore). k.sizes.ring) here ∙ ap (λ (z : TheCall). z.core.sizes.ring) is)
+
+pub program_at : (table : TableId) (key : Setup) (core : TheCore) → core_of table key ≡ core → (view : View) (lent : ℕ) (v : TheCall) → call_of core view lent ≡ v → (P : Program) → key.program ≡ P → P ≡ v.core.program
+program_at table key core here view lent v is P e = sym e ∙ (ap (λ (z : TheCore). z.program) here ∙ ap (λ (z : TheCall). z.core.program) is)
+
+-- A seat when a call begins with it, and when the call gives it back
+module _ {woken : ℕ} (id : TableId) (value : Setup) (by : ℕ) (heirs : Heirs) (seen : List Entry) (seat : Caller) (core : TheCore)
+    (seen_as : record { core = core_of id value; by = by; heirs = heirs; seen = seen; woken = woken } ≡ seat) (here : seat.core ≡ core) where
+  same_unit : unit_at value ≡ unit_in core
+  same_unit = of_seat id value by heirs seen seat core seen_as here
+
+  same_opening : opening_of value ≡ core.opening
+  same_opening = ap (λ (z : Caller). z.core.opening) seen_as ∙ ap (λ (z : TheCore). z.opening) here
+
+  pub seated_in : (role : Role) (n station : ℕ) (over : Bool) (me : Me ℕ View) → IsSeated value.program (sizes_of value) role n station over me → IsSeated core.program core.sizes role n station over me
+  seated_in role n station over me s = subst (λ (z : Unit_of). IsSeated z.0 z.1 role n station over me) same_unit s
+
+  -- v is the call as it began, w as it ends
+  pub given_back : (role : Role) (old : View) (lent : ℕ) (v : TheCall) → v ≡ call_of core old lent → (w : TheCall) → IsLater v w
+      → (core' : TheCore) (t : Me ℕ View) (lent' : ℕ) → call_of core' t.0 lent' ≡ w → (table : TableId) → IsCall core' role table t → (me : Me ℕ View) → me ≡ t
+      → (station : ℕ) (over : Bool) → IsSeated core.program core.sizes role old.by station over t → IsSeated value.program (sizes_of value) role me.0.by station over me × IsNumbered (opening_of value) role me.0
+  given_back role old lent v begins w on core' t lent' is table inv me me_is station over s =
+      let core_is : core' ≡ core = ap (λ (z : TheCall). z.core) is ∙ (on.core ∙ ap (λ (z : TheCall). z.core) begins) in
+      let by_is : t.0.by ≡ old.by = ap (λ (z : TheCall). z.view.by) is ∙ (on.by ∙ ap (λ (z : TheCall). z.view.by) begins) in
+      let seated : IsSeated core.program core.sizes role t.0.by station over t = subst (λ n. IsSeated core.program core.sizes role n station over t) (sym by_is) s in
+      let numbered : IsNumbered (opening_of value) role t.0 = subst (λ o. IsNumbered o role t.0) (ap (λ (z : TheCore). z.opening) core_is ∙ sym same_opening) inv.numbered in
+      subst (λ (z : Me ℕ View). IsSeated value.program (sizes_of value) role z.0.by station over z × IsNumbered (opening_of value) role z.0) (sym me_is)
+      (subst (λ (z : Unit_of). IsSeated z.0 z.1 role t.0.by station over t) (sym same_unit) seated, numbered)
+
+  -- a front's seat: nothing is being let, and the next tenant goes where it says
+  pub front_back : {old : View} {lent : ℕ} {v w : TheCall} → v ≡ call_of core old lent → IsLater v w → {core' : TheCore} {t : Me ℕ View} {lent' : ℕ} {table : TableId} → IsCall core' Front table t → call_of core' t.0 lent' ≡ w
+      → {me : Me ℕ View} → me ≡ t → (station : ℕ) (over : Bool) → station < v.core.sizes.ring → w.view.draft ≡ Nothing → station ≡ next_place w
+      → IsSeated value.program (sizes_of value) Front me.0.by station over me × IsNumbered (opening_of value) Front me.0
+  front_back {old} {lent} {v} {w} begins on {core'} {t} {lent'} {table} inv is {me} me_is station over inside draft next =
+      let core_is : core' ≡ core = ap (λ (z : TheCall). z.core) is ∙ (on.core ∙ ap (λ (z : TheCall). z.core) begins) in
+      let by_is : t.0.by ≡ old.by = ap (λ (z : TheCall). z.view.by) is ∙ (on.by ∙ ap (λ (z : TheCall). z.view.by) begins) in
+      let here : station ≡ next_place (call_of core' t.0 lent') = subst (λ z. station ≡ next_place z) (sym is) next in
+      given_back Front old lent v begins w on core' t lent' is table inv me me_is station over (record {
+        role_is = inv.role_is;
+        slots = inv.slots;
+        legal = subst (λ (k : TheCore). IsLegal k.program k.sizes t.0.seen) core_is inv.legal;
+        inside = subst (λ (z : TheCall). station < z.core.sizes.ring) begins inside;
+        knows = (sym by_is ∙ inv.numbered.caller, ap (λ (z : TheCall). z.view.draft) is ∙ draft, subst (λ (k : TheCore). station ≡ next_place (call_of k t.0 lent')) core_is here);
+      })
+
+  -- the same where its next tenant goes where it went before
+  pub front_kept : {old : Me ℕ View} {lent : ℕ} {v w : TheCall} → v ≡ call_of core old.0 lent → IsLater v w → {core' : TheCore} {t : Me ℕ View} {lent' : ℕ} {table : TableId} → IsCall core' Front table t → call_of core' t.0 lent' ≡ w
+      → {me : Me ℕ View} → me ≡ t → (station : ℕ) (over : Bool) → IsSeated value.program (sizes_of value) Front old.0.by station over old → w.view.draft ≡ Nothing → next_place w ≡ next_place v
+      → IsSeated value.program (sizes_of value) Front me.0.by station over me × IsNumbered (opening_of value) Front me.0
+  front_kept {old} {lent} {v} begins on inv is me_is station over s draft next =
+      let was = seated_in Front old.0.by station over old s in
+      front_back begins on inv is me_is station over (subst (λ (z : TheCall). station < z.core.sizes.ring) (sym begins) was.inside) draft (was.knows.2 ∙ (sym (ap next_place begins) ∙ sym next))

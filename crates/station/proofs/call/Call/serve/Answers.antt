@@ -1,0 +1,58 @@
+use Rattle.std.proofs.Common.{◌≡◌, ℕ, nat_eq, sym, ◌∙◌, subst, eq-eqb}
+use Rattle.std.proofs.lemmas.Bool.{eqb-true}
+use Rattle.ruu_words.specs.Fields.{producer_of, tag_of}
+use Rattle.ruu_words.specs.Kinds.{Delivers}
+use Rattle.station.specs.Writeback.{CanDeliver}
+use Rattle.station.proofs.Carrying.{can_deliver, serves_nobody, serves_one}
+use Rattle.station.proofs.Calls.{Of, of_one, taken}
+use Rattle.station.proofs.Waking.{wakes_delivering, wakes_not, wakes_reading, wakes_served}
+use Rattle.station.proofs.call.Call.serve.Goals as goal
+
+pub deliver-found-requires-clause-link : goal.deliver-found-requires-clause-link
+deliver-found-requires-clause-link g c =
+    let v = c.args.self.now in
+    let P = v.core.program in
+    let C = v.core.sizes in
+    let m1 = c.read_link-link.new.self.view in
+    let names : producer_of c.read_link-link.result ≡ c.args.from.1 = sym c.producer_in.ensures ∙ c.if-producer_in-from.true in
+    let can = can_deliver P C v.view.by c.args.from.0 c.args.from.1 c.args.to c.read_link-link.result c.args.value c.args.k v.view m1 c.read_link-link.ensures.grows c.requires.tags c.requires.made names in
+    subst (λ (z : Of × (ℕ × ℕ)). CanDeliver z.0.0.program z.0.0.sizes m1.seen c.args.to c.args.k z.1.0 z.1.1) (λ i. (sym (of_one v c.read_link-link.new.self c.read_link-link.ensures.same) i, (sym (c.waiting_word-old.ensures.tag ∙ c.consumer_in-consumer.ensures.value) i, sym c.value_word-new.ensures.value i))) can
+
+pub returns-then-producer_in-from-clause-served : goal.returns-then-producer_in-from-clause-served
+returns-then-producer_in-from-clause-served g c =
+    let v = c.args.self.now in
+    let P = v.core.program in
+    let C = v.core.sizes in
+    let m1 = c.read_link-link.new.self.view in
+    let m2 = c.deliver-found.new.self.view in
+    let old = c.waiting_word-old.result in
+    let names : producer_of c.read_link-link.result ≡ c.args.from.1 = sym c.producer_in.ensures ∙ c.if-producer_in-from.true in
+    let g2 = taken c.read_link-link.ensures.same c.deliver-found.ensures in
+    serves_one P C v.view.by c.args.from.0 c.args.from.1 c.args.to c.read_link-link.result c.args.value c.args.k v.view m1 c.read_link-link.ensures.grows c.requires.tags c.requires.made names
+    old c.deliver-found.result m2 (c.waiting_word-old.ensures.tag ∙ c.consumer_in-consumer.ensures.value) g2
+
+pub returns-else-producer_in-from-clause-served : goal.returns-else-producer_in-from-clause-served
+returns-else-producer_in-from-clause-served g c =
+    let v = c.args.self.now in
+    serves_nobody v.core.program v.core.sizes v.view.by c.args.from.0 c.args.from.1 c.args.to c.read_link-link.result c.args.value c.args.k v.view c.read_link-link.new.self.view c.read_link-link.ensures.grows (λ e. c.if-producer_in-from.false (c.producer_in.ensures ∙ e))
+
+pub returns-then-producer_in-from-clause-woken : goal.returns-then-producer_in-from-clause-woken
+returns-then-producer_in-from-clause-woken g c =
+    let v = c.args.self.now in
+    let P = v.core.program in
+    let C = v.core.sizes in
+    let m1 = c.read_link-link.new.self.view in
+    let m2 = c.deliver-found.new.self.view in
+    let old = c.waiting_word-old.result in
+    let n = c.deliver-found.result in
+    let g2 = taken c.read_link-link.ensures.same c.deliver-found.ensures in
+    let read = wakes_reading P C v.view.by c.args.from.0 c.args.to c.read_link-link.result c.args.k v.view m1 c.read_link-link.ensures.grows in
+    wakes_served P C v.view.by c.args.to (nat_eq n old) v.view.seen m1.seen m2.seen read
+    (wakes_delivering P C v.view.by c.args.to (tag_of old) old n c.args.k m1 m2 g2 (nat_eq n old) (eqb-true n old) (eq-eqb n old))
+
+pub returns-else-producer_in-from-clause-woken : goal.returns-else-producer_in-from-clause-woken
+returns-else-producer_in-from-clause-woken g c =
+    let v = c.args.self.now in
+    let m1 = c.read_link-link.new.self.view in
+    wakes_not v.core.program v.core.sizes v.view.by c.args.to v.view.seen m1.seen
+    (wakes_reading v.core.program v.core.sizes v.view.by c.args.from.0 c.args.to c.read_link-link.result c.args.k v.view m1 c.read_link-link.ensures.grows)

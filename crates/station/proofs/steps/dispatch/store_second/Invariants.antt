@@ -1,8 +1,0 @@
-use Rattle.ruu_words.specs.declared.rule.Stage.TheVariants.{BothOperands}
-use Rattle.ruu_words.specs.Kinds.{Drafts}
-use Rattle.ruu_words.specs.Rule.{Tells, opening_of, sizes_of}
-use Rattle.station.specs.Letting.{draft_of}
-use Rattle.station.proofs.steps.dispatch.store_second.Given as goal
-
-abbrev pub ghosts-store : goal.ghosts-store
-ghosts-store a = record { then = Tells a.words.now.key.program (sizes_of a.words.now.key) (opening_of a.words.now.key) a.seat.now.me.0.by (λ _. Drafts a.words.now.key.program (sizes_of a.words.now.key) (draft_of BothOperands a.about)) }

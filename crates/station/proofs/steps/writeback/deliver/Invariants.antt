@@ -1,7 +1,0 @@
-use Rattle.ruu_words.specs.Fields.{tag_of}
-use Rattle.ruu_words.specs.Kinds.{Delivers}
-use Rattle.ruu_words.specs.Rule.{Tells, opening_of, sizes_of}
-use Rattle.station.proofs.steps.writeback.deliver.Given as goal
-
-abbrev pub ghosts-exchange : goal.ghosts-exchange
-ghosts-exchange a = record { then = Tells a.words.now.key.program (sizes_of a.words.now.key) (opening_of a.words.now.key) a.seat.now.me.0.by (Delivers a.words.now.key.program (sizes_of a.words.now.key) a.about.0 a.about.1 (tag_of a.old) a.old) }
