@@ -7,7 +7,8 @@ use Rattle.instructions.specs.Programs.{Program, instr_of}
 use Rattle.instructions.specs.declared.stop.Outcome.{Outcome}
 use Rattle.inorder.specs.declared.history.Entry.{Entry}
 use Rattle.inorder.specs.declared.history.Source.TheVariants.{Second}
-use Rattle.inorder.specs.History.{Adds, IsUnit, StartsWith, front, own, unit_of}
+use Rattle.inorder.specs.History.{IsUnit, StartsWith, front, own, unit_of}
+use Rattle.inorder.specs.OneHistory.{Adds}
 use Rattle.inorder.specs.Replies.{JobFields, job_of}
 use Rattle.inorder.specs.Steps.{MaySupply}
 use Rattle.inorder.specs.Tenants.{Tenant, kind_of, missing, missing_of, needs}

@@ -146,4 +146,9 @@ pub all_commits : (P : Program) (C : Sizes) (history : List Taken) (by : ℕ) �
 all_commits P C history by a =
     let U = reached P C history in
     let s = sound P C history a in
-    record { by_retire = λ p n t. by_retire P C U by p n t s; by_others = λ step. by_others P C U by step s; waits = λ p n t. ahead_by_retire P C U by p n t s; waits_on = λ step. ahead_by_others P C U by step s }
+    record {
+      by_retire = λ p n t. by_retire P C U by p n t s;
+      by_others = λ step. by_others P C U by step s;
+      waits = λ p n t. ahead_by_retire P C U by p n t s;
+      waits_on = λ step. ahead_by_others P C U by step s;
+    }

@@ -42,7 +42,8 @@ let_creator : (c : Option ℕ) (s : Supply) → (let_operand c s).creator ≡ c
 let_creator c (Known v) = refl
 let_creator c From = refl
 
-pub new_older : (P : Program) (C : Sizes) (U : UpdateUnit) (index predicted : ℕ) (first second : Supply) (k : Source) (q : ℕ) → (operand k (new_tenant P C U index predicted first second)).creator ≡ Some q → q < length U.tenants
+pub new_older : (P : Program) (C : Sizes) (U : UpdateUnit) (index predicted : ℕ) (first second : Supply) (k : Source) (q : ℕ) →
+    (operand k (new_tenant P C U index predicted first second)).creator ≡ Some q → q < length U.tenants
 new_older P C U index predicted first second First q e =
     subst (λ z. Below z (length U.tenants)) (sym (let_creator (creator P U.tenants (first_of (instr_of P index))) first) ∙ e)
     (creator_below P U.tenants (first_of (instr_of P index)))
@@ -53,7 +54,8 @@ new_older P C U index predicted first second Second q e =
 older_kept : (P : Program) (C : Sizes) (U : UpdateUnit) (by : ℕ) (s : Step) → Allowed P C U by s → IsSound P U.tenants → AreOlder U.tenants → AreOlder (applied P C U by s).tenants
 older_kept P C U by (Let index predicted first second) a ok o r t k q is e = ⊎_elim
     (λ was. o r t k q was e)
-    (λ (new : (r ≡ length U.tenants) × (new_tenant P C U index predicted first second ≡ t)). subst (λ z. q < z) (sym new.0) (new_older P C U index predicted first second k q (ap (λ x. (operand k x).creator) new.1 ∙ e)))
+    (λ (new : (r ≡ length U.tenants) × (new_tenant P C U index predicted first second ≡ t)). subst (λ z. q < z) (sym new.0)
+    (new_older P C U index predicted first second k q (ap (λ x. (operand k x).creator) new.1 ∙ e)))
     (at_cases (new_tenant P C U index predicted first second) U.tenants r t is)
 older_kept P C U by (On p act) a ok o r t k q is e = let was = came P C U by p act a ok r t is in o r was.tenant k q was.is (sym (was.goes.creator k) ∙ e)
 older_kept P C U by Renew a ok o r t k q is e = o r t k q is e
@@ -63,7 +65,8 @@ are_older P C [] a r t k q is e = absurd (cc)
 are_older P C (s ∷ ss) a r t k q is e = older_kept P C (reached P C ss) s.by s.step a.1 (sound P C ss a.0) (are_older P C ss a.0) r t k q is e
 
 -- what the creator has made is what the source is worth
-pub value_by : (P : Program) (C : Sizes) (ss : List Taken) → AreAllowed P C ss → (r q v : ℕ) (k : Source) (t u : Tenant) → at (reached P C ss).tenants r ≡ Some t → (operand k t).creator ≡ Some q → at (reached P C ss).tenants q ≡ Some u → u.made ≡ Some v
+pub value_by : (P : Program) (C : Sizes) (ss : List Taken) → AreAllowed P C ss → (r q v : ℕ) (k : Source) (t u : Tenant) → at (reached P C ss).tenants r ≡ Some t → (operand k t).creator ≡ Some q →
+    at (reached P C ss).tenants q ≡ Some u → u.made ≡ Some v
     → value_of (older (reached P C ss).tenants r) (operand k t).creator ≡ Some v
 value_by P C ss a r q v k t u is e there made =
     let us = (reached P C ss).tenants in

@@ -149,12 +149,14 @@ goes_on_stays P C U by (On r act) b a ok g p t is =
     (λ (e : at V.tenants p ≡ Some was.tenant). subst IsNoRetiredStop (found was.tenant t (sym e ∙ is)) (g p was.tenant was.is))
     (λ (z : Acted P U by (On r act) V.tenants p was.tenant).
     subst IsNoRetiredStop (found (changed P by z.act was.tenant (older U.tenants p)) t (sym z.now ∙ is))
-    (no_stop_kept was.tenant (changed P by z.act was.tenant (older U.tenants p)) (g p was.tenant was.is) (retired_on P by z.act (younger U.tenants p) was.tenant (older U.tenants p) (subst IsNotBacks z.step b) z.may)))
+    (no_stop_kept was.tenant (changed P by z.act was.tenant (older U.tenants p)) (g p was.tenant was.is)
+    (retired_on P by z.act (younger U.tenants p) was.tenant (older U.tenants p) (subst IsNotBacks z.step b) z.may)))
     (exact P C U by (On r act) a p was.tenant was.is)
 goes_on_stays P C U by Renew b a ok g p t is = g p t is
 
 -- an address stays, but for the back
-addr_on : (P : Program) (by : ℕ) (act : Act) (ys : List Tenant) (t : Tenant) (ts : List Tenant) (x : ℕ) → IsNotBacksAct act → May P by act ys t ts → t.fate ≡ Addr x → (changed P by act t ts).fate ≡ Addr x
+addr_on : (P : Program) (by : ℕ) (act : Act) (ys : List Tenant) (t : Tenant) (ts : List Tenant) (x : ℕ) → IsNotBacksAct act → May P by act ys t ts → t.fate ≡ Addr x →
+    (changed P by act t ts).fate ≡ Addr x
 addr_on P by (Link First) ys t ts x b m e = e
 addr_on P by (Link Second) ys t ts x b m e = e
 addr_on P by (Deliver First) ys t ts x b m e = e
@@ -173,7 +175,8 @@ pub record HasAddr (station tag index x : ℕ) (t : Tenant) : Type 0 where
   pub index_is : t.index ≡ index
   pub fate : t.fate ≡ Addr x
 
-pub addr_head_stays : (P : Program) (C : Sizes) (U : UpdateUnit) (by : ℕ) (s : Step) → IsNotBacks s → Allowed P C U by s → IsSound P U.tenants → (p station tag index x : ℕ) → IsHead U p (HasAddr station tag index x) → IsHead (applied P C U by s) p (HasAddr station tag index x)
+pub addr_head_stays : (P : Program) (C : Sizes) (U : UpdateUnit) (by : ℕ) (s : Step) → IsNotBacks s → Allowed P C U by s → IsSound P U.tenants → (p station tag index x : ℕ) →
+    IsHead U p (HasAddr station tag index x) → IsHead (applied P C U by s) p (HasAddr station tag index x)
 addr_head_stays P C U by s b a ok p station tag index x i =
     let m = goes P C U by s a ok p i.tenant i.is in
     record {
@@ -188,7 +191,8 @@ addr_head_stays P C U by s b a ok p station tag index x i =
     fate : (t : Tenant) → at (applied P C U by s).tenants p ≡ Some t → t.fate ≡ Addr x
     fate t is = ⊎_elim
         (λ e. ap (λ (z : Tenant). z.fate) (found t i.tenant (sym is ∙ e)) ∙ i.fact.fate)
-        (λ (z : Acted P U by s (applied P C U by s).tenants p i.tenant). ap (λ (z : Tenant). z.fate) (found t (changed P by z.act i.tenant (older U.tenants p)) (sym is ∙ z.now)) ∙ addr_on P by z.act (younger U.tenants p) i.tenant (older U.tenants p) x (subst IsNotBacks z.step b) z.may i.fact.fate)
+        (λ (z : Acted P U by s (applied P C U by s).tenants p i.tenant). ap (λ (z : Tenant). z.fate) (found t (changed P by z.act i.tenant (older U.tenants p)) (sym is ∙ z.now)) ∙
+        addr_on P by z.act (younger U.tenants p) i.tenant (older U.tenants p) x (subst IsNotBacks z.step b) z.may i.fact.fate)
         (exact P C U by s a p i.tenant i.is)
 
 -- a retired stop stays one
@@ -208,5 +212,12 @@ pub over_stays : (P : Program) (C : Sizes) (U : UpdateUnit) (by : ℕ) (s : Step
 over_stays P C U by s a o = ⊎_elim
     (λ e. record { p = o.p; stop = record { tenant = o.stop.tenant; is = e; fact = o.stop.fact } })
     (λ (z : Acted P U by s (applied P C U by s).tenants o.p o.stop.tenant).
-    record { p = o.p; stop = record { tenant = changed P by z.act o.stop.tenant (older U.tenants o.p); is = z.now; fact = stop_on P by z.act (younger U.tenants o.p) o.stop.tenant (older U.tenants o.p) z.may o.stop.fact } })
+    record {
+      p = o.p;
+      stop = record {
+        tenant = changed P by z.act o.stop.tenant (older U.tenants o.p);
+        is = z.now;
+        fact = stop_on P by z.act (younger U.tenants o.p) o.stop.tenant (older U.tenants o.p) z.may o.stop.fact;
+      };
+    })
     (exact P C U by s a o.p o.stop.tenant o.stop.is)

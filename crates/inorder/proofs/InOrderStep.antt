@@ -1,5 +1,6 @@
 -- A tenant whose older ones have all left does what the in-order machine does.
-use Rattle.std.proofs.Common.{◌≡◌, ◌≢◌, ℕ, zero, suc, ◌+◌, ◌%◌, ◌≤◌, ◌&&◌, Bool, true, false, cond, eqb, leb, ltb, ltb-true, ⊎_elim, List, [], ◌∷◌, length, Option, Some, None, Ok, Err, refl, sym, ap, ◌∙◌, subst, arith, leb-true}
+use Rattle.std.proofs.Common.{◌≡◌, ◌≢◌, ℕ, zero, suc, ◌+◌, ◌%◌, ◌≤◌, ◌&&◌, Bool, true, false, cond, eqb, leb, ltb, ltb-true, ⊎_elim, List, [], ◌∷◌, length, Option, Some, None, Ok, Err, refl, sym, ap}
+use Rattle.std.proofs.Common.{◌∙◌, subst, arith, leb-true}
 use Rattle.std.specs.List.{AllByRecursion}
 use Rattle.std.specs.Prelude.{unwrap_or, slice_index, Result}
 use Rattle.instructions.specs.Instruction.{destination, destination_by, first_of, is_low, is_pair, pair_target, pc_plus_4, read_by, second_of, target_by, target_of, width}
@@ -18,7 +19,8 @@ use Rattle.inorder.specs.Committed.{ahead, committed, with_stored, with_tenant}
 use Rattle.inorder.specs.Machine.{Goes, Halts, State, advanced, after_access, fetched, ran, step, store_bytes, write}
 use Rattle.inorder.specs.Memory.{byte_at, stored, stored_by}
 use Rattle.inorder.specs.Steps.{CanRetire}
-use Rattle.inorder.specs.Tenants.{Addr, Busy, Done, Fate, IsThere, Miss, Open, Operand, Stopped, Tenant, behind, behind_by, computed, computed_next, destination_of, instr, is_first, kind_of, next_by, on_path, operand_value}
+use Rattle.inorder.specs.Tenants.{Addr, Busy, Done, Fate, IsThere, Miss, Open, Operand, Stopped, Tenant, behind, behind_by, computed, computed_next, destination_of, instr, is_first, kind_of, next_by}
+use Rattle.inorder.specs.Tenants.{on_path, operand_value}
 use Rattle.inorder.specs.Unit.{creator, value_of}
 use Rattle.lsq.specs.Bytes.{little_endian}
 use Rattle.inorder.proofs.Basics.{fetched_at, number_there, read_other}

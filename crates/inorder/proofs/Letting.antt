@@ -35,7 +35,8 @@ abbrev pub IsBesides : Step → Type 0
 IsBesides (On p act) = IsBesidesAct act
 IsBesides _ = ⊥
 
-pub besides_grows : (P : Program) (by : ℕ) (act : Act) (ys : List Tenant) (t : Tenant) (ts : List Tenant) → IsBesidesAct act → May P by act ys t ts → IsSoundAt P ts t → Grows P t (changed P by act t ts)
+pub besides_grows : (P : Program) (by : ℕ) (act : Act) (ys : List Tenant) (t : Tenant) (ts : List Tenant) → IsBesidesAct act → May P by act ys t ts → IsSoundAt P ts t →
+    Grows P t (changed P by act t ts)
 besides_grows P by (Link k) ys t ts b m q = absurd b
 besides_grows P by (Deliver k) ys t ts b m q = deliver_grows P ts t k m
 besides_grows P by Claim ys t ts b m q = claim_grows P t by m
@@ -58,12 +59,14 @@ how_many_fewer f t t' ts [] h = go (f t') (f t) h
     go false false g = omega arith
 how_many_fewer f t t' ts (y ∷ ys) h = go (f y) (how_many_fewer f t t' ts ys h)
   where
-    go : (b : Bool) → how_many f (ys ++ t' ∷ ts) ≤ how_many f (ys ++ t ∷ ts) → cond b (suc (how_many f (ys ++ t' ∷ ts))) (how_many f (ys ++ t' ∷ ts)) ≤ cond b (suc (how_many f (ys ++ t ∷ ts))) (how_many f (ys ++ t ∷ ts))
+    go : (b : Bool) → how_many f (ys ++ t' ∷ ts) ≤ how_many f (ys ++ t ∷ ts) → cond b (suc (how_many f (ys ++ t' ∷ ts))) (how_many f (ys ++ t' ∷ ts)) ≤ cond b (suc (how_many f (ys ++ t ∷ ts)))
+        (how_many f (ys ++ t ∷ ts))
     go true m = omega arith
     go false m = m
 
 -- the stations of younger tenants
-younger_same : (x p : ℕ) (t t' : Tenant) (ts ys : List Tenant) → t'.station ≡ t.station → AllByRecursion (λ u. u.station ≢ x) (younger (ys ++ t ∷ ts) p) → AllByRecursion (λ u. u.station ≢ x) (younger (ys ++ t' ∷ ts) p)
+younger_same : (x p : ℕ) (t t' : Tenant) (ts ys : List Tenant) → t'.station ≡ t.station → AllByRecursion (λ u. u.station ≢ x) (younger (ys ++ t ∷ ts) p) →
+    AllByRecursion (λ u. u.station ≢ x) (younger (ys ++ t' ∷ ts) p)
 younger_same x p t t' ts [] e h = go (eqb p (length ts)) h
   where
     go : (b : Bool) → AllByRecursion (λ u. u.station ≢ x) (cond b [] (t ∷ younger ts p)) → AllByRecursion (λ u. u.station ≢ x) (cond b [] (t' ∷ younger ts p))
@@ -72,11 +75,13 @@ younger_same x p t t' ts [] e h = go (eqb p (length ts)) h
 younger_same x p t t' ts (y ∷ ys) e h =
     go (eqb p (length (ys ++ t' ∷ ts))) (younger_same x p t t' ts ys e) (subst (λ n. AllByRecursion (λ u. u.station ≢ x) (cond (eqb p n) [] (y ∷ younger (ys ++ t ∷ ts) p))) (same_length t t' ts ys) h)
   where
-    go : (b : Bool) → (AllByRecursion (λ u. u.station ≢ x) (younger (ys ++ t ∷ ts) p) → AllByRecursion (λ u. u.station ≢ x) (younger (ys ++ t' ∷ ts) p)) → AllByRecursion (λ u. u.station ≢ x) (cond b [] (y ∷ younger (ys ++ t ∷ ts) p)) → AllByRecursion (λ u. u.station ≢ x) (cond b [] (y ∷ younger (ys ++ t' ∷ ts) p))
+    go : (b : Bool) → (AllByRecursion (λ u. u.station ≢ x) (younger (ys ++ t ∷ ts) p) → AllByRecursion (λ u. u.station ≢ x) (younger (ys ++ t' ∷ ts) p)) →
+        AllByRecursion (λ u. u.station ≢ x) (cond b [] (y ∷ younger (ys ++ t ∷ ts) p)) → AllByRecursion (λ u. u.station ≢ x) (cond b [] (y ∷ younger (ys ++ t' ∷ ts) p))
     go true more m = tt
     go false more m = (m.0, more m.1)
 
-live_access : (P : Program) (t t' : Tenant) → t'.index ≡ t.index → (t'.standing ≡ Live → t.standing ≡ Live) → is_live t' && is_access (kind_of P t') ≡ true → is_live t && is_access (kind_of P t) ≡ true
+live_access : (P : Program) (t t' : Tenant) → t'.index ≡ t.index → (t'.standing ≡ Live → t.standing ≡ Live) → is_live t' && is_access (kind_of P t') ≡ true →
+    is_live t && is_access (kind_of P t) ≡ true
 live_access P t t' index live h = go t'.standing refl h
   where
     go : (st : Standing) → t'.standing ≡ st → is_live t' && is_access (kind_of P t') ≡ true → is_live t && is_access (kind_of P t) ≡ true
@@ -117,7 +122,8 @@ module _ (P : Program) (C : Sizes) (n : ℕ) (t t' : Tenant) (ts ys : List Tenan
   same_station = ap (λ z. z % C.ring) (same_count on_path g.path)
 
   same_tag : next_tag C (recent V) ≡ next_tag C (recent U)
-  same_tag = ap (λ s. C.first_tag + how_many (λ u. eqb u.station s) (recent V)) same_station ∙ ap (λ z. C.first_tag + z) (same_count (λ u. eqb u.station (next_station C (recent U))) (ap (λ z. eqb z (next_station C (recent U))) place))
+  same_tag = ap (λ s. C.first_tag + how_many (λ u. eqb u.station s) (recent V)) same_station ∙ ap (λ z. C.first_tag + z)
+      (same_count (λ u. eqb u.station (next_station C (recent U))) (ap (λ z. eqb z (next_station C (recent U))) place))
 
   same_pc : front_pc vs ≡ front_pc us
   same_pc = front_grows t t' ts ys g.next g.path
@@ -168,7 +174,8 @@ module _ (P : Program) (C : Sizes) (n : ℕ) (t t' : Tenant) (ts ys : List Tenan
         new = subst (λ l. ltb (h.p + n) l ≡ false) (same_length t t' ts ys) h.new;
       }
 
-  let_stays : ((q : ℕ) (u : Tenant) → at us q ≡ Some u → Stays q u) → (index predicted : ℕ) (first second : Supply) → MayLet P C U index predicted first second → MayLet P C V index predicted first second
+  let_stays : ((q : ℕ) (u : Tenant) → at us q ≡ Some u → Stays q u) → (index predicted : ℕ) (first second : Supply) → MayLet P C U index predicted first second →
+      MayLet P C V index predicted first second
   let_stays goes index predicted first second m =
       let i = instr_of P index in
       let fewer = how_many_fewer is_live t t' ts ys (live_only t t' live) in
@@ -192,7 +199,8 @@ pub record LetStays (P : Program) (C : Sizes) (U V : UpdateUnit) (index predicte
   pub new : new_tenant P C V index predicted first second ≡ new_tenant P C U index predicted first second
   pub tag : next_tag C (recent V) ≡ next_tag C (recent U)
 
-stays_at : (P : Program) (C : Sizes) (U : UpdateUnit) (by p : ℕ) (act : Act) → IsBesidesAct act → MayAct P U.tenants by p act → IsSound P U.tenants → (index predicted : ℕ) (first second : Supply) → MayLet P C U index predicted first second
+stays_at : (P : Program) (C : Sizes) (U : UpdateUnit) (by p : ℕ) (act : Act) → IsBesidesAct act → MayAct P U.tenants by p act → IsSound P U.tenants → (index predicted : ℕ) (first second : Supply) →
+    MayLet P C U index predicted first second
     → LetStays P C U (applied P C U by (On p act)) index predicted first second
 stays_at P C U by p act b a sound index predicted first second m =
     let us = U.tenants in
@@ -210,9 +218,11 @@ stays_at P C U by p act b a sound index predicted first second m =
     let stay = let_stays P C U.fresh t t' (older us p) (younger us p) g move.station move.live go index predicted first second m' in
     let same = same_new P C U.fresh t t' (older us p) (younger us p) g move.station move.live index predicted first second in
     let tag = same_tag P C U.fresh t t' (older us p) (younger us p) g move.station move.live in
-    subst (λ (z : List Tenant × List Tenant). LetStays P C (record { tenants = z.0; fresh = U.fresh }) (record { tenants = z.1; fresh = U.fresh }) index predicted first second) (λ j. (sym split j, sym put j)) (record { may = stay; new = same; tag = tag })
+    subst (λ (z : List Tenant × List Tenant). LetStays P C (record { tenants = z.0; fresh = U.fresh }) (record { tenants = z.1; fresh = U.fresh }) index predicted first second)
+    (λ j. (sym split j, sym put j)) (record { may = stay; new = same; tag = tag })
 
-pub let_lasts : (P : Program) (C : Sizes) (U : UpdateUnit) (by : ℕ) (s : Step) → IsBesides s → Allowed P C U by s → IsSound P U.tenants → (index predicted : ℕ) (first second : Supply) → MayLet P C U index predicted first second → LetStays P C U (applied P C U by s) index predicted first second
+pub let_lasts : (P : Program) (C : Sizes) (U : UpdateUnit) (by : ℕ) (s : Step) → IsBesides s → Allowed P C U by s → IsSound P U.tenants → (index predicted : ℕ) (first second : Supply) →
+    MayLet P C U index predicted first second → LetStays P C U (applied P C U by s) index predicted first second
 let_lasts P C U by (Let i p f n) b a sound index predicted first second m = absurd b
 let_lasts P C U by (On p act) b a sound index predicted first second m = stays_at P C U by p act b a sound index predicted first second m
 let_lasts P C U by Renew b a sound index predicted first second m = absurd b

@@ -34,7 +34,8 @@ older_replaced (x ∷ us) r p u below lt = go (eqb p (length us)) refl (older_re
     off : eqb r (length us) ≡ false
     off = eqb_less r (length us) (omega arith)
 
-    go : (b : Bool) → eqb p (length us) ≡ b → (p < length us → r < p → older (replaced us r u) p ≡ replaced (older us p) r u) → older (cond (eqb r (length us)) (u ∷ us) (x ∷ replaced us r u)) p ≡ replaced (cond (eqb p (length us)) us (older us p)) r u
+    go : (b : Bool) → eqb p (length us) ≡ b → (p < length us → r < p → older (replaced us r u) p ≡ replaced (older us p) r u) →
+        older (cond (eqb r (length us)) (u ∷ us) (x ∷ replaced us r u)) p ≡ replaced (cond (eqb p (length us)) us (older us p)) r u
     go true e more =
         ap (λ b. older (cond b (u ∷ us) (x ∷ replaced us r u)) p) off
         ∙ (ap (λ n. cond (eqb p n) (replaced us r u) (older (replaced us r u) p)) (length_replaced us r u)
@@ -49,7 +50,8 @@ older_replaced_after : (U : List Tenant) (r p : ℕ) (u : Tenant) → p ≤ r �
 older_replaced_after [] r p u le = refl
 older_replaced_after (x ∷ us) r p u le = go (eqb r (length us)) refl (eqb p (length us)) refl (older_replaced_after us r p u le)
   where
-    go : (b : Bool) → eqb r (length us) ≡ b → (b' : Bool) → eqb p (length us) ≡ b' → older (replaced us r u) p ≡ older us p → older (cond b (u ∷ us) (x ∷ replaced us r u)) p ≡ cond (eqb p (length us)) us (older us p)
+    go : (b : Bool) → eqb r (length us) ≡ b → (b' : Bool) → eqb p (length us) ≡ b' → older (replaced us r u) p ≡ older us p →
+        older (cond b (u ∷ us) (x ∷ replaced us r u)) p ≡ cond (eqb p (length us)) us (older us p)
     go true e b' f more = refl
     go false e true f more =
         let same = eqb-true p (length us) f in
@@ -94,7 +96,8 @@ load_on P by Squash ys t ts a b m live fate = inr refl
 load_on P by Mend ys t ts a b m live fate = let f = m.fate in absurd (cc)
 
 -- an older tenant grows, since only the youngest live one is squashed or mended
-older_grows : (P : Program) (us : List Tenant) (by r p : ℕ) (act : Act) (t : Tenant) → IsNotBacksAct act → (a : MayAct P us by r act) → IsSound P us → at us p ≡ Some t → t.standing ≡ Live → r < p → Grows P a.tenant (changed P by act a.tenant (older us r))
+older_grows : (P : Program) (us : List Tenant) (by r p : ℕ) (act : Act) (t : Tenant) → IsNotBacksAct act → (a : MayAct P us by r act) → IsSound P us → at us p ≡ Some t → t.standing ≡ Live → r < p →
+    Grows P a.tenant (changed P by act a.tenant (older us r))
 older_grows P us by r p act t b a ok is live lt = go act b a.may
   where
     x : Tenant
@@ -113,7 +116,8 @@ older_grows P us by r p act t b a ok is live lt = go act b a.may
     go Squash b m = absurd (younger_at IsNotLive us r m.youngest p t lt is live)
     go Mend b m = absurd (younger_at IsNotLive us r m.youngest p t lt is live)
 
-read_at : (P : Program) (U : UpdateUnit) (by r p a v : ℕ) (act : Act) → IsNotBacksAct act → MayAct P U.tenants by r act → IsSound P U.tenants → (c : Reads P U p a v) → HasRead P (older (change_at P U.tenants by r act (at U.tenants r)) p) (instr P c.t) (Address a) v
+read_at : (P : Program) (U : UpdateUnit) (by r p a v : ℕ) (act : Act) → IsNotBacksAct act → MayAct P U.tenants by r act → IsSound P U.tenants → (c : Reads P U p a v) →
+    HasRead P (older (change_at P U.tenants by r act (at U.tenants r)) p) (instr P c.t) (Address a) v
 read_at P U by r p a v act b may ok c =
     let us = U.tenants in
     let x = may.tenant in
@@ -130,14 +134,16 @@ read_at P U by r p a v act b may ok c =
       | no le ↦ subst (λ z. HasRead P z (instr P c.t) (Address a) v) (sym (ap (λ z. older z p) put ∙ older_replaced_after us r p x' (omega arith))) c.read
     ]
 
-reads : (P : Program) (C : Sizes) (U : UpdateUnit) (by : ℕ) (s : Step) → IsNotBacks s → Allowed P C U by s → IsSound P U.tenants → (p a v : ℕ) → (c : Reads P U p a v) → HasRead P (older (applied P C U by s).tenants p) (instr P c.t) (Address a) v
+reads : (P : Program) (C : Sizes) (U : UpdateUnit) (by : ℕ) (s : Step) → IsNotBacks s → Allowed P C U by s → IsSound P U.tenants → (p a v : ℕ) → (c : Reads P U p a v) →
+    HasRead P (older (applied P C U by s).tenants p) (instr P c.t) (Address a) v
 reads P C U by (Let index predicted first second) b may ok p a v c =
     let below = at_below U.tenants p c.t c.is in
     subst (λ z. HasRead P z (instr P c.t) (Address a) v) (sym (ap (λ b. cond b U.tenants (older U.tenants p)) (eqb_less p (length U.tenants) below))) c.read
 reads P C U by (On r act) b may ok p a v c = read_at P U by r p a v act b may ok c
 reads P C U by Renew b may ok p a v c = c.read
 
-reads_stays : (P : Program) (C : Sizes) (U : UpdateUnit) (by : ℕ) (s : Step) → IsNotBacks s → Allowed P C U by s → IsSound P U.tenants → (p a v : ℕ) → Reads P U p a v → Reads P (applied P C U by s) p a v ⊎ IsStale (applied P C U by s) p
+reads_stays : (P : Program) (C : Sizes) (U : UpdateUnit) (by : ℕ) (s : Step) → IsNotBacks s → Allowed P C U by s → IsSound P U.tenants → (p a v : ℕ) → Reads P U p a v →
+    Reads P (applied P C U by s) p a v ⊎ IsStale (applied P C U by s) p
 reads_stays P C U by s b may ok p a v c =
     let V = applied P C U by s in
     let read = reads P C U by s b may ok p a v c in ⊎_elim
@@ -196,7 +202,8 @@ of_reads P U p a v c =
       value_is = ap (λ f. loaded i.op (unwrap_or (raw P (older us p) i f) 0)) c.fate ∙ (ap (λ z. loaded i.op (unwrap_or z 0)) raw_is ∙ sym c.read.value);
     }
 
-pub load_stays : (P : Program) (C : Sizes) (U : UpdateUnit) (by : ℕ) (s : Step) → IsNotBacks s → Allowed P C U by s → IsSound P U.tenants → (p a v : ℕ) → CanLoad P U p a v → CanLoad P (applied P C U by s) p a v ⊎ IsStale (applied P C U by s) p
+pub load_stays : (P : Program) (C : Sizes) (U : UpdateUnit) (by : ℕ) (s : Step) → IsNotBacks s → Allowed P C U by s → IsSound P U.tenants → (p a v : ℕ) → CanLoad P U p a v →
+    CanLoad P (applied P C U by s) p a v ⊎ IsStale (applied P C U by s) p
 load_stays P C U by s b may ok p a v c = ⊎_elim
     (λ r. inl (of_reads P (applied P C U by s) p a v r))
     (λ g. inr g)

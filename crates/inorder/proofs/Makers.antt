@@ -1,5 +1,6 @@
 -- What the creator of a source that comes from it is, and when it has made its value.
-use Rattle.std.proofs.Common.{◌≡◌, ◌≢◌, ◌⊎◌, ℕ, zero, suc, ◌<◌, Bool, true, false, cond, ◌&&◌, eqb, List, [], ◌∷◌, length, Option, Some, None, refl, sym, ap, ◌∙◌, subst, inl, ⊎_elim, arith, eqb-true, true≢false}
+use Rattle.std.proofs.Common.{◌≡◌, ◌≢◌, ◌⊎◌, ℕ, zero, suc, ◌<◌, Bool, true, false, cond, ◌&&◌, eqb, List, [], ◌∷◌, length, Option, Some, None, refl, sym, ap, ◌∙◌, subst, inl, ⊎_elim, arith, eqb-true}
+use Rattle.std.proofs.Common.{true≢false}
 use Rattle.std.specs.Prelude.{is_none}
 use Rattle.instructions.specs.Instruction.{first_of, second_of, target_of, destination_by, kind}
 use Rattle.instructions.specs.Programs.{Program, instr_of}
@@ -19,7 +20,8 @@ use Rattle.inorder.specs.declared.history.Supply.TheVariants.{From, Known}
 use Rattle.inorder.specs.Legal.{Allowed, AreAllowed, May, Taken, applied, changed, reached}
 use Rattle.inorder.specs.StationWords.{left_value}
 use Rattle.inorder.specs.Steps.{CanRetire, MaySupply, finished, let_operand, linked, made_at_end, mended_as, new_tenant}
-use Rattle.inorder.specs.Tenants.{Addr, AtLet, Busy, Done, Fate, IsThere, Linked, Live, Miss, Open, Retired, Stopped, Tenant, Unlinked, computed, destination_of, instr, kind_of, made_at_let, on_path, operand, stands_on_path}
+use Rattle.inorder.specs.Tenants.{Addr, AtLet, Busy, Done, Fate, IsThere, Linked, Live, Miss, Open, Retired, Stopped, Tenant, Unlinked, computed, destination_of, instr, kind_of, made_at_let, on_path}
+use Rattle.inorder.specs.Tenants.{operand, stands_on_path}
 use Rattle.inorder.specs.Unit.{Sizes, UpdateUnit, at, can_be_written, creator, last_writer, made_by, next_station, older, recent, value_of, younger}
 use Rattle.inorder.proofs.Basics.{Below, eqb_less, last_writer_below, split_at}
 use Rattle.inorder.proofs.Creators.{are_older, at_cases}
@@ -44,7 +46,8 @@ pub record HasMaker (P : Program) (us : List Tenant) (c : Option ℕ) : Type 0 w
 abbrev pub HaveMakers : Program → List Tenant → Type 0
 HaveMakers P us = (r : ℕ) (t : Tenant) (k : Source) → at us r ≡ Some t → (operand k t).way ≢ AtLet → HasMaker P us (operand k t).creator
 
-let_maker : (P : Program) (U : UpdateUnit) (s : ℕ) (c : Option ℕ) (supply : Supply) → MaySupply P U s c supply → (let_operand c supply).way ≢ AtLet → HasMaker P U.tenants (let_operand c supply).creator
+let_maker : (P : Program) (U : UpdateUnit) (s : ℕ) (c : Option ℕ) (supply : Supply) → MaySupply P U s c supply → (let_operand c supply).way ≢ AtLet →
+    HasMaker P U.tenants (let_operand c supply).creator
 let_maker P U s c (Known v) m ne = absurd (ne refl)
 let_maker P U s c From m ne = record { q = m.p; tenant = m.tenant; creates = m.creates; is = m.is; waits = m.waits }
 
@@ -52,7 +55,8 @@ more_maker : (P : Program) (n : Tenant) (us : List Tenant) (c : Option ℕ) → 
 more_maker P n us c m = record { q = m.q; tenant = m.tenant; creates = m.creates; is = at_more n us m.q m.tenant m.is; waits = m.waits }
 
 -- a source that is not known at the let was not before
-not_at_let : (P : Program) (by : ℕ) (act : Act) (ys : List Tenant) (t : Tenant) (ts : List Tenant) (k : Source) → May P by act ys t ts → (operand k t).way ≡ AtLet → (operand k (changed P by act t ts)).way ≡ AtLet
+not_at_let : (P : Program) (by : ℕ) (act : Act) (ys : List Tenant) (t : Tenant) (ts : List Tenant) (k : Source) → May P by act ys t ts → (operand k t).way ≡ AtLet →
+    (operand k (changed P by act t ts)).way ≡ AtLet
 not_at_let P by (Link First) ys t ts First m e = let w = m.way in absurd (cc)
 not_at_let P by (Link First) ys t ts Second m e = e
 not_at_let P by (Link Second) ys t ts First m e = e
@@ -106,7 +110,8 @@ makers_kept P C U by (On p act) a ok all r t k is ne =
     let was = came P C U by p act a ok r t is in
     let before : (operand k was.tenant).way ≢ AtLet = λ e. ne (⊎_elim
     (λ (same : at V.tenants r ≡ Some was.tenant). ap (λ z. (operand k z).way) (found t was.tenant (sym is ∙ same)) ∙ e)
-    (λ (z : Acted P U by (On p act) V.tenants r was.tenant). ap (λ z. (operand k z).way) (found t (changed P by z.act was.tenant (older U.tenants r)) (sym is ∙ z.now)) ∙ not_at_let P by z.act (younger U.tenants r) was.tenant (older U.tenants r) k z.may e)
+    (λ (z : Acted P U by (On p act) V.tenants r was.tenant). ap (λ z. (operand k z).way) (found t (changed P by z.act was.tenant (older U.tenants r)) (sym is ∙ z.now)) ∙
+    not_at_let P by z.act (younger U.tenants r) was.tenant (older U.tenants r) k z.may e)
     (exact P C U by (On p act) a r was.tenant was.is)) in
     let m = all r was.tenant k was.is before in
     let g = goes P C U by (On p act) a ok m.q m.tenant m.is in
@@ -161,7 +166,8 @@ creator_is_writer P ts (suc r) q u e is = go (can_be_written (suc r)) refl
         none : None ≡ Some q → ⊥
         none e = cc e
 
-pub path_maker : (P : Program) (us : List Tenant) → IsSound P us → (r : ℕ) (t : Tenant) (k : Source) (q : ℕ) (u : Tenant) → at us r ≡ Some t → on_path t ≡ true → (operand k t).creator ≡ Some q → at (older us r) q ≡ Some u → IsWriter P u
+pub path_maker : (P : Program) (us : List Tenant) → IsSound P us → (r : ℕ) (t : Tenant) (k : Source) (q : ℕ) (u : Tenant) → at us r ≡ Some t → on_path t ≡ true → (operand k t).creator ≡ Some q →
+    at (older us r) q ≡ Some u → IsWriter P u
 path_maker P us ok r t k q u is on from there =
     let s = sound_mid P t (older us r) (younger us r) (subst (IsSound P) (split_at us r t is) ok) in
     let placed = s.placed on in
@@ -203,8 +209,10 @@ stops_kept P C U by (On r act) a ok all p t c is e f =
     let was = came P C U by r act a ok p t is in ⊎_elim
     (λ (same : at V.tenants p ≡ Some was.tenant). let one : was.tenant ≡ t = found was.tenant t (sym same ∙ is) in
     subst (λ (z : Tenant). z.standing ≡ Retired → z.fate ≡ Stopped c → IsThere z.made) one (all p was.tenant c was.is) e f)
-    (λ (z : Acted P U by (On r act) V.tenants p was.tenant). let one : changed P by z.act was.tenant (older U.tenants p) ≡ t = found (changed P by z.act was.tenant (older U.tenants p)) t (sym z.now ∙ is) in
-    subst (λ (x : Tenant). x.standing ≡ Retired → x.fate ≡ Stopped c → IsThere x.made) one (stop_made P by z.act (younger U.tenants p) was.tenant (older U.tenants p) c z.may (all p was.tenant c was.is)) e f)
+    (λ (z : Acted P U by (On r act) V.tenants p was.tenant).
+    let one : changed P by z.act was.tenant (older U.tenants p) ≡ t = found (changed P by z.act was.tenant (older U.tenants p)) t (sym z.now ∙ is) in
+    subst (λ (x : Tenant). x.standing ≡ Retired → x.fate ≡ Stopped c → IsThere x.made) one (stop_made P by z.act (younger U.tenants p) was.tenant (older U.tenants p) c z.may
+    (all p was.tenant c was.is)) e f)
     (exact P C U by (On r act) a p was.tenant was.is)
 stops_kept P C U by Renew a ok all p t c is e f = all p t c is e f
 
@@ -244,7 +252,8 @@ module _ (P : Program) (us : List Tenant) (ok : IsSound P us) (q : ℕ) (u : Ten
   by_done Stores v a b c d = absurd (c refl)
 
   pub made_when_done : (v : ℕ) → u.fate ≡ Done v → u.made ≡ Some v
-  made_when_done v e = by_done (kind_of P u) v not_jumps waits not_stores (subst (λ f. FateBy (kind_of P u) (computed P u) u.pc u.predicted u.next u.made u.first.value u.second.value u.standing f) e own_sound.own.fate).0
+  made_when_done v e = by_done (kind_of P u) v not_jumps waits not_stores (subst (λ f. FateBy (kind_of P u) (computed P u) u.pc u.predicted u.next u.made u.first.value u.second.value u.standing f) e
+      own_sound.own.fate).0
 
   pub unmade_before : (f : Fate) → u.fate ≡ f → Unmade f → u.standing ≡ Live → u.made ≡ None
   unmade_before f e un live = go f un (subst (λ f. FateBy (kind_of P u) (computed P u) u.pc u.predicted u.next u.made u.first.value u.second.value u.standing f) e own_sound.own.fate)
@@ -291,7 +300,8 @@ late_by_link us c q u e is late = go u.made refl late
     go None f l = absurd (true≢false l)
     go (Some v) f l = record { q = q; value = v; tenant = u; creates = e; is = is; made = f }
 
-late_kept : (P : Program) (C : Sizes) (ss : List Taken) (by : ℕ) (s : Step) → AreAllowed P C ss → Allowed P C (reached P C ss) by s → AreLate (reached P C ss).tenants → AreLate (applied P C (reached P C ss) by s).tenants
+late_kept : (P : Program) (C : Sizes) (ss : List Taken) (by : ℕ) (s : Step) → AreAllowed P C ss → Allowed P C (reached P C ss) by s → AreLate (reached P C ss).tenants →
+    AreLate (applied P C (reached P C ss) by s).tenants
 late_kept P C ss by (Let index predicted first second) are a all r t k is late = ⊎_elim
     (λ old. let x = all r t k old late in record { q = x.q; value = x.value; tenant = x.tenant; creates = x.creates; is = at_more (new_tenant P C U index predicted first second) U.tenants x.q x.tenant x.is; made = x.made })
     (λ (new : (r ≡ length U.tenants) × (new_tenant P C U index predicted first second ≡ t)). absurd (not_linked P C U index predicted first second k false (ap (λ z. (operand k z).way) new.1 ∙ late)))

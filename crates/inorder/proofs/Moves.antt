@@ -215,7 +215,8 @@ changed_goes P by p Finish ys t ts m q = go (computed P t) refl
 changed_goes P by p Load ys t ts m q =
     refated by (On p Load) t (Done _) t.standing (Some _) t.next (λ e. e) (load_may_grow P ts t m q).made (λ l f. absurd (cc)) (λ c n b. let f = b.fate in let was = m.fate in absurd (cc))
 changed_goes P by p (Retire n) ys t ts m q =
-    refated by (On p (Retire n)) t t.fate Retired _ t.next (λ e. m.live) (retire_grows P ts t n m q).made (λ l f. absurd (cc)) (λ c n b. absurd (subst (CanRetire (kind_of P t) t.second.value) b.fate m.can))
+    refated by (On p (Retire n)) t t.fate Retired _ t.next (λ e. m.live) (retire_grows P ts t n m q).made (λ l f. absurd (cc))
+    (λ c n b. absurd (subst (CanRetire (kind_of P t) t.second.value) b.fate m.can))
 changed_goes P by p Squash ys t ts m q =
     refated by (On p Squash) t t.fate Squashed t.made t.next (λ e. m.live) (λ v e. e) (λ l f. absurd (cc)) (λ c n b. record { fate = b.fate; stays = inr refl })
 changed_goes P by p Mend ys t ts m q =
@@ -237,7 +238,8 @@ pub record IsLeft (P : Program) (ts : List Tenant) (by p : ℕ) (act : Act) (q :
   pub position : q ≢ p
   pub now : at (change_at P ts by p act (at ts p)) q ≡ Some u
 
-pub at_changed : (P : Program) (ts : List Tenant) (by p : ℕ) (act : Act) (t : Tenant) → at ts p ≡ Some t → (q : ℕ) (u : Tenant) → at ts q ≡ Some u → IsActed P ts by p act t q u ⊎ IsLeft P ts by p act q u
+pub at_changed : (P : Program) (ts : List Tenant) (by p : ℕ) (act : Act) (t : Tenant) → at ts p ≡ Some t → (q : ℕ) (u : Tenant) → at ts q ≡ Some u → IsActed P ts by p act t q u ⊎
+    IsLeft P ts by p act q u
 at_changed P ts by p act t is q u here =
     let t' = changed P by act t (older ts p) in
     let put : change_at P ts by p act (at ts p) ≡ replaced ts p t' = ap (change_at P ts by p act) is in
@@ -259,23 +261,30 @@ pub record Backward (by : ℕ) (s : Step) (ts : List Tenant) (q : ℕ) (u : Tena
   pub is : at ts q ≡ Some tenant
   pub goes : Goes by s tenant u
 
-pub goes_at : (P : Program) (ts : List Tenant) (by p : ℕ) (act : Act) → MayAct P ts by p act → IsSound P ts → (q : ℕ) (u : Tenant) → at ts q ≡ Some u → Forward by (On p act) (change_at P ts by p act (at ts p)) q u
+pub goes_at : (P : Program) (ts : List Tenant) (by p : ℕ) (act : Act) → MayAct P ts by p act → IsSound P ts → (q : ℕ) (u : Tenant) → at ts q ≡ Some u →
+    Forward by (On p act) (change_at P ts by p act (at ts p)) q u
 goes_at P ts by p act a sound q u here =
     let t = a.tenant in
     let own = sound_mid P t (older ts p) (younger ts p) (subst (IsSound P) (split_at ts p t a.is) sound) in
     let move = changed_goes P by p act (younger ts p) t (older ts p) a.may own in
     ⊎_elim
-    (λ (z : IsActed P ts by p act t q u). record { tenant = changed P by act t (older ts p); is = z.now; goes = subst (λ x. Goes by (On p act) x (changed P by act t (older ts p))) (sym z.tenant) move })
+    (λ (z : IsActed P ts by p act t q u). record {
+      tenant = changed P by act t (older ts p);
+      is = z.now;
+      goes = subst (λ x. Goes by (On p act) x (changed P by act t (older ts p))) (sym z.tenant) move;
+    })
     (λ (z : IsLeft P ts by p act q u). record { tenant = u; is = z.now; goes = stays by (On p act) u })
     (at_changed P ts by p act t a.is q u here)
 
-pub goes : (P : Program) (C : Sizes) (U : UpdateUnit) (by : ℕ) (s : Step) → Allowed P C U by s → IsSound P U.tenants → (q : ℕ) (u : Tenant) → at U.tenants q ≡ Some u → Forward by s (applied P C U by s).tenants q u
+pub goes : (P : Program) (C : Sizes) (U : UpdateUnit) (by : ℕ) (s : Step) → Allowed P C U by s → IsSound P U.tenants → (q : ℕ) (u : Tenant) → at U.tenants q ≡ Some u →
+    Forward by s (applied P C U by s).tenants q u
 goes P C U by (Let index predicted first second) a sound q u here = record { tenant = u; is = at_more (new_tenant P C U index predicted first second) U.tenants q u here; goes = stays by _ u }
 goes P C U by (On p act) a sound q u here = goes_at P U.tenants by p act a sound q u here
 goes P C U by Renew a sound q u here = record { tenant = u; is = here; goes = stays by _ u }
 
 -- each tenant was there before an act
-pub came : (P : Program) (C : Sizes) (U : UpdateUnit) (by p : ℕ) (act : Act) → Allowed P C U by (On p act) → IsSound P U.tenants → (q : ℕ) (u : Tenant) → at (applied P C U by (On p act)).tenants q ≡ Some u → Backward by (On p act) U.tenants q u
+pub came : (P : Program) (C : Sizes) (U : UpdateUnit) (by p : ℕ) (act : Act) → Allowed P C U by (On p act) → IsSound P U.tenants → (q : ℕ) (u : Tenant) →
+    at (applied P C U by (On p act)).tenants q ≡ Some u → Backward by (On p act) U.tenants q u
 came P C U by p act a sound q u here =
     let ts = U.tenants in
     let below = at_below (change_at P ts by p act (at ts p)) q u here in

@@ -6,7 +6,8 @@ use Rattle.instructions.specs.declared.op.Half.{Half}
 use Rattle.instructions.specs.declared.op.Half.TheVariants.{Low}
 use Rattle.instructions.specs.declared.op.Kind.TheVariants.{Computes}
 use Rattle.instructions.specs.declared.op.Op.{Op}
-use Rattle.instructions.specs.declared.op.Op.TheVariants.{Addu, Subu, Add, Sub, And, Or, Xor, Nor, Slt, Sltu, Sll, Srl, Sra, Sllv, Srlv, Srav, Mult, Multu, Div, Divu, Mflo, Mfhi, Mtlo, Mthi, Addiu, Addi, Slti, Sltiu, Andi, Ori, Xori, Lui, Lb, Lbu, Lh, Lhu, Lw, Sb, Sh, Sw, Beq, Bne, Blez, Bgtz, Bltz, Bgez, J, Jal, Jr, Jalr, Break}
+use Rattle.instructions.specs.declared.op.Op.TheVariants.{Addu, Subu, Add, Sub, And, Or, Xor, Nor, Slt, Sltu, Sll, Srl, Sra, Sllv, Srlv, Srav, Mult, Multu, Div, Divu, Mflo, Mfhi, Mtlo, Mthi, Addiu}
+use Rattle.instructions.specs.declared.op.Op.TheVariants.{Addi, Slti, Sltiu, Andi, Ori, Xori, Lui, Lb, Lbu, Lh, Lhu, Lw, Sb, Sh, Sw, Beq, Bne, Blez, Bgtz, Bltz, Bgez, J, Jal, Jr, Jalr, Break}
 
 none : false ≡ true → ⊥
 none e = true≢false (sym e)

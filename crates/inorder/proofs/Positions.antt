@@ -119,6 +119,7 @@ pub younger_from : (Q : Tenant → Type 0) (U : List Tenant) (p : ℕ) → p < l
 younger_from Q [] p below h = tt
 younger_from Q (u ∷ us) p below h = go (eqb p (length us)) refl (younger_from Q us p)
   where
-    go : (b : Bool) → eqb p (length us) ≡ b → (p < length us → ((q : ℕ) (t : Tenant) → p < q → at us q ≡ Some t → Q t) → AllByRecursion Q (younger us p)) → AllByRecursion Q (cond b [] (u ∷ younger us p))
+    go : (b : Bool) → eqb p (length us) ≡ b → (p < length us → ((q : ℕ) (t : Tenant) → p < q → at us q ≡ Some t → Q t) → AllByRecursion Q (younger us p)) →
+        AllByRecursion Q (cond b [] (u ∷ younger us p))
     go true f more = tt
     go false f more = let ne = not_eqb p (length us) f in (h (length us) u (omega arith) (at_new u us), more (omega arith) (λ q t lt e. h q t lt (at_more u us q t e)))

@@ -1,5 +1,6 @@
 -- The bytes that the live stores leave, by the queue of a unit.
-use Rattle.std.proofs.Common.{◌≡◌, ◌⊎◌, ℕ, zero, suc, ◌+◌, ◌<◌, ◌≤◌, Bool, true, false, ◌&&◌, List, [], ◌∷◌, ◌++◌, map, length, Option, Some, None, refl, sym, ap, ◌∙◌, subst, inl, inr, arith, true≢false}
+use Rattle.std.proofs.Common.{◌≡◌, ◌⊎◌, ℕ, zero, suc, ◌+◌, ◌<◌, ◌≤◌, Bool, true, false, ◌&&◌, List, [], ◌∷◌, ◌++◌, map, length, Option, Some, None, refl, sym, ap, ◌∙◌, subst, inl, inr, arith}
+use Rattle.std.proofs.Common.{true≢false}
 use Rattle.std.specs.List.{AllByRecursion}
 use Rattle.std.specs.Prelude.{slice_index, slice_get, IsSome}
 use Rattle.std.proofs.lemmas.List.{map-append}
@@ -9,7 +10,8 @@ use Rattle.instructions.specs.Programs.{Program}
 use Rattle.instructions.specs.declared.op.Kind.{Kind}
 use Rattle.instructions.specs.declared.op.Kind.TheVariants.{Computes, Jumps, Links, Loads, Stores}
 use Rattle.instructions.specs.declared.op.Op.{Op}
-use Rattle.instructions.specs.declared.op.Op.TheVariants.{Mult, Multu, Div, Divu, Mflo, Mfhi, Mtlo, Mthi, Add, Addi, Addiu, Addu, And, Andi, Beq, Bgez, Bgtz, Blez, Bltz, Bne, Break, J, Jal, Jalr, Jr, Lb, Lbu, Lh, Lhu, Lui, Lw, Nor, Or, Ori, Sb, Sh, Sll, Sllv, Slt, Slti, Sltiu, Sltu, Sra, Srav, Srl, Srlv, Sub, Subu, Sw, Xor, Xori}
+use Rattle.instructions.specs.declared.op.Op.TheVariants.{Mult, Multu, Div, Divu, Mflo, Mfhi, Mtlo, Mthi, Add, Addi, Addiu, Addu, And, Andi, Beq, Bgez, Bgtz, Blez, Bltz, Bne, Break, J, Jal, Jalr, Jr}
+use Rattle.instructions.specs.declared.op.Op.TheVariants.{Lb, Lbu, Lh, Lhu, Lui, Lw, Nor, Or, Ori, Sb, Sh, Sll, Sllv, Slt, Slti, Sltiu, Sltu, Sra, Srav, Srl, Srlv, Sub, Subu, Sw, Xor, Xori}
 use Rattle.instructions.specs.declared.stop.Outcome.{Outcome}
 use Rattle.instructions.specs.declared.stop.Stop.{Stop}
 use Rattle.lsq.specs.declared.entry.Entry.{Entry}
@@ -18,7 +20,8 @@ use Rattle.inorder.specs.Loads.{access_width, address_by, content_by, entry_in, 
 use Rattle.inorder.specs.Machine.{State}
 use Rattle.inorder.specs.Memory.{byte_after, byte_at, stored, stored_by}
 use Rattle.inorder.specs.Steps.{HasAddress}
-use Rattle.inorder.specs.Tenants.{Addr, Busy, Done, Fate, Live, Miss, Open, Retired, Squashed, Standing, Stopped, Tenant, computed, instr, is_access, is_live_access, kind_of, on_path, stands_live, stands_on_path}
+use Rattle.inorder.specs.Tenants.{Addr, Busy, Done, Fate, Live, Miss, Open, Retired, Squashed, Standing, Stopped, Tenant, computed, instr, is_access, is_live_access, kind_of, on_path, stands_live}
+use Rattle.inorder.specs.Tenants.{stands_on_path}
 use Rattle.lsq.specs.Bytes.{joined, little_endian_if_there}
 use Rattle.lsq.specs.Entries.{bytes}
 use Rattle.lsq.specs.LastStores.{byte_by, byte_left}

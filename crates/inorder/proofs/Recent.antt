@@ -1,5 +1,6 @@
 -- The tenants let since the last renewal, among all tenants of a unit.
-use Rattle.std.proofs.Common.{◌≡◌, ◌≢◌, ◌⊎◌, ℕ, zero, suc, ◌+◌, ◌-◌, ◌<◌, ◌≤◌, Bool, true, false, cond, eqb, ltb, List, [], ◌∷◌, ◌++◌, length, Some, refl, sym, ap, ◌∙◌, subst, inl, inr, ⊎_elim, arith, length-append, eqb-true, eq-eqb, ne_eqb, ltb-true, ltb-false, true≢false}
+use Rattle.std.proofs.Common.{◌≡◌, ◌≢◌, ◌⊎◌, ℕ, zero, suc, ◌+◌, ◌-◌, ◌<◌, ◌≤◌, Bool, true, false, cond, eqb, ltb, List, [], ◌∷◌, ◌++◌, length, Some, refl, sym, ap, ◌∙◌, subst, inl, inr, ⊎_elim, arith}
+use Rattle.std.proofs.Common.{length-append, eqb-true, eq-eqb, ne_eqb, ltb-true, ltb-false, true≢false}
 use Rattle.std.proofs.lemmas.Bool.{lt-ltb}
 use Rattle.std.specs.List.{AllByRecursion}
 use Rattle.instructions.specs.Programs.{Program}
@@ -202,7 +203,8 @@ last_by : (ts : List Tenant) (q : ℕ) (u : Tenant) → at ts q ≡ Some u → (
 last_by [] q u is none = absurd (cc is)
 last_by (x ∷ xs) q u is none = go (eqb q (length xs)) refl (last_by xs q u)
   where
-    go : (b : Bool) → eqb q (length xs) ≡ b → (at xs q ≡ Some u → ((r : ℕ) (y : Tenant) → q < r → at xs r ≡ Some y → y.station ≢ u.station) → last_of xs u.station ≡ Some u) → last_of (x ∷ xs) u.station ≡ Some u
+    go : (b : Bool) → eqb q (length xs) ≡ b → (at xs q ≡ Some u → ((r : ℕ) (y : Tenant) → q < r → at xs r ≡ Some y → y.station ≢ u.station) → last_of xs u.station ≡ Some u) →
+        last_of (x ∷ xs) u.station ≡ Some u
     go true e more =
         let same : x ≡ u = same_some x u (ap (λ b. cond b (Some x) (at xs q)) (sym e) ∙ is) in
         ap (λ b. cond b (Some x) (last_of xs u.station)) (eq-eqb x.station u.station (ap (λ (z : Tenant). z.station) same)) ∙ ap Some same
@@ -326,7 +328,8 @@ module _ (P : Program) (C : Sizes) where
       U : UpdateUnit
       U = unit_of P C (more ++ seen)
 
-      go : (by : ℕ) (x : Event) → MayAdd P C (more ++ seen) by x → renewed_by x (renewals (more ++ seen)) ≡ renewals seen → (renewals (more ++ seen) ≡ renewals seen → is_old U p ≡ is_old (unit_of P C seen) p)
+      go : (by : ℕ) (x : Event) → MayAdd P C (more ++ seen) by x → renewed_by x (renewals (more ++ seen)) ≡ renewals seen →
+          (renewals (more ++ seen) ≡ renewals seen → is_old U p ≡ is_old (unit_of P C seen) p)
           → is_old (unit_of P C (entry by x ∷ (more ++ seen))) p ≡ is_old (unit_of P C seen) p
       go by (Does (Let index predicted first second)) may s rest = old_kept P C U by (Let index predicted first second) (λ e. cc e) may.1 p ∙ rest s
       go by (Does (On r act)) may s rest = old_kept P C U by (On r act) (λ e. cc e) may.1 p ∙ rest s

@@ -50,7 +50,8 @@ linked_creator ts Second First t = refl
 linked_creator ts Second Second t = refl
 
 -- a new tenant has asked for nothing
-pub not_linked : (P : Program) (C : Sizes) (U : UpdateUnit) (index predicted : ℕ) (first second : Supply) (k : Source) (b : Bool) → (operand k (new_tenant P C U index predicted first second)).way ≢ Linked b
+pub not_linked : (P : Program) (C : Sizes) (U : UpdateUnit) (index predicted : ℕ) (first second : Supply) (k : Source) (b : Bool) →
+    (operand k (new_tenant P C U index predicted first second)).way ≢ Linked b
 not_linked P C U index predicted first second First b e = way_of first (creator P U.tenants (first_of (instr_of P index))) e
   where
     way_of : (w : Supply) (c : Option ℕ) → (let_operand c w).way ≢ Linked b
@@ -84,7 +85,8 @@ module _ (P : Program) (C : Sizes) where
     abbrev V : UpdateUnit
     V = applied P C U by (On p act)
 
-    in_time_before : (r : ℕ) (k : Source) (t' : Tenant) → at V.tenants r ≡ Some t' → (operand k t').creator ≡ Some q → (operand k t').way ≡ Linked true → (b : Backward by (On p act) U.tenants r t') → (operand k b.tenant).way ≡ Linked true
+    in_time_before : (r : ℕ) (k : Source) (t' : Tenant) → at V.tenants r ≡ Some t' → (operand k t').creator ≡ Some q → (operand k t').way ≡ Linked true → (b : Backward by (On p act) U.tenants r t') →
+        (operand k b.tenant).way ≡ Linked true
     in_time_before r k t' is from way b = go act refl
       where
         by_link : (j : Source) → act ≡ Link j → (operand k b.tenant).way ≡ Linked true
@@ -141,7 +143,8 @@ module _ (P : Program) (C : Sizes) where
             record { tenant = g.tenant; is = g.is; made = g.goes.made v x.0.made },
             λ r t is at_c from way. ⊎_elim
                 (λ (old : at U.tenants r ≡ Some t). x.1 r t old at_c from way)
-                (λ (new : (r ≡ length U.tenants) × (new_tenant P C U index predicted first second ≡ t)). absurd (not_linked P C U index predicted first second k true (ap (λ z. (operand k z).way) new.1 ∙ way)))
+                (λ (new : (r ≡ length U.tenants) × (new_tenant P C U index predicted first second ≡ t)). absurd
+                (not_linked P C U index predicted first second k true (ap (λ z. (operand k z).way) new.1 ∙ way)))
                 (at_cases (new_tenant P C U index predicted first second) U.tenants r t is),
           )
       go h by (Does (On p act)) l may x =
@@ -152,7 +155,8 @@ module _ (P : Program) (C : Sizes) where
       go h by (Refuses r) l may x = x
       go h by (Marks m) l may x = x
 
-  pub served_stays : (q v c : ℕ) (k : Source) (more seen : List Entry) → IsLegal P C (more ++ seen) → HasMade (unit_of P C seen) q v → IsServed (unit_of P C seen) q c k → IsServed (unit_of P C (more ++ seen)) q c k
+  pub served_stays : (q v c : ℕ) (k : Source) (more seen : List Entry) → IsLegal P C (more ++ seen) → HasMade (unit_of P C seen) q v → IsServed (unit_of P C seen) q c k →
+      IsServed (unit_of P C (more ++ seen)) q c k
   served_stays q v c k more seen legal made served =
       linked_stay q v c k (λ t. IsThere (operand k t).value ⊎ IsNotLive t)
       (λ by s t t' m f. ⊎_elim (λ (x : IsThere (operand k t).value). inl (x.0, m.value k x.0 x.1)) (λ (x : IsNotLive t). inr (λ live. x (m.live live))) f)
@@ -177,7 +181,8 @@ module _ (P : Program) (C : Sizes) where
       go : (by : ℕ) (x : Event) → MayAdd P C h by x → AreInside (unit_of P C h) → AreInside (unit_of P C (entry by x ∷ h))
       go by (Does (Let index predicted first second)) may all p t is = ⊎_elim
           (λ old. all p t old)
-          (λ (new : (p ≡ length (unit_of P C h).tenants) × (new_tenant P C (unit_of P C h) index predicted first second ≡ t)). subst (λ (z : Tenant). z.station < C.ring) new.1 (below_mod _ C.ring _ may.1.room))
+          (λ (new : (p ≡ length (unit_of P C h).tenants) × (new_tenant P C (unit_of P C h) index predicted first second ≡ t)). subst (λ (z : Tenant). z.station < C.ring) new.1
+          (below_mod _ C.ring _ may.1.room))
           (at_cases (new_tenant P C (unit_of P C h) index predicted first second) (unit_of P C h).tenants p t is)
       go by (Does (On r act)) may all p t is = let b = came P C (unit_of P C h) by r act may.1 (unit_sound P C h legal.0) p t is in subst (λ z. z < C.ring) (sym b.goes.station) (all p b.tenant b.is)
       go by (Does Renew) may all p t is = all p t is

@@ -1,5 +1,6 @@
 -- Where all tenants have left, the path's pc and registers are the committed ones.
-use Rattle.std.proofs.Common.{◌≡◌, ◌≢◌, ◌⊎◌, ℕ, zero, suc, ◌<◌, ◌≤◌, Bool, true, false, cond, not, ◌&&◌, eqb, ltb, List, [], ◌∷◌, length, replicate, Option, Some, None, refl, sym, ap, ◌∙◌, subst, inl, inr, ⊎_elim, arith, true≢false, eqb-true, false-eqb, ltb-true, ltb-false}
+use Rattle.std.proofs.Common.{◌≡◌, ◌≢◌, ◌⊎◌, ℕ, zero, suc, ◌<◌, ◌≤◌, Bool, true, false, cond, not, ◌&&◌, eqb, ltb, List, [], ◌∷◌, length, replicate, Option, Some, None, refl, sym, ap, ◌∙◌, subst, inl}
+use Rattle.std.proofs.Common.{inr, ⊎_elim, arith, true≢false, eqb-true, false-eqb, ltb-true, ltb-false}
 use Rattle.std.specs.List.{AllByRecursion}
 use Rattle.std.specs.Prelude.{unwrap_or, slice_index}
 use Rattle.std.proofs.lemmas.List.{length-replicate, get_or_past}
@@ -12,7 +13,8 @@ use Rattle.inorder.specs.Committed.{ahead, commits, commits_by, committed, compl
 use Rattle.inorder.specs.Machine.{State, write}
 use Rattle.inorder.specs.Memory.{Stored, byte_after, byte_at, stored, stored_by}
 use Rattle.inorder.specs.Steps.{CanRetire}
-use Rattle.inorder.specs.Tenants.{Addr, Busy, Done, Fate, IsThere, Live, Miss, Open, Retired, Squashed, Standing, Stopped, Tenant, behind, behind_by, computed, computed_next, destination_of, instr, is_first, kind_of, on_path, stands_on_path}
+use Rattle.inorder.specs.Tenants.{Addr, Busy, Done, Fate, IsThere, Live, Miss, Open, Retired, Squashed, Standing, Stopped, Tenant, behind, behind_by, computed, computed_next, destination_of, instr}
+use Rattle.inorder.specs.Tenants.{is_first, kind_of, on_path, stands_on_path}
 use Rattle.inorder.specs.Unit.{at, creator, front_pc, last_writer, value_of}
 use Rattle.inorder.proofs.Basics.{eqb_self, last_writer_below, length_write, read_other, read_same, read_zero, value_of_more}
 use Rattle.inorder.proofs.Pairs.{first_half_computes}

@@ -54,7 +54,8 @@ found : {X : Type 0} (x y : X) → Some x ≡ Some y → x ≡ y
 found x y e = cc e
 
 -- others than the front squash none
-pub path_on : (P : Program) (by : ℕ) (act : Act) (ys : List Tenant) (t : Tenant) (ts : List Tenant) → IsBesidesAct act → May P by act ys t ts → on_path t ≡ true → on_path (changed P by act t ts) ≡ true
+pub path_on : (P : Program) (by : ℕ) (act : Act) (ys : List Tenant) (t : Tenant) (ts : List Tenant) → IsBesidesAct act → May P by act ys t ts → on_path t ≡ true →
+    on_path (changed P by act t ts) ≡ true
 path_on P by (Link k) ys t ts b m e = absurd b
 path_on P by (Deliver First) ys t ts b m e = e
 path_on P by (Deliver Second) ys t ts b m e = e
@@ -66,10 +67,20 @@ path_on P by Squash ys t ts b m e = absurd b
 path_on P by Mend ys t ts b m e = absurd b
 
 -- what the front has asked
-asked_stays : (P : Program) (C : Sizes) (k : Source) (q r : ℕ) (U : UpdateUnit) (by : ℕ) (s : Step) → IsBesides s → Allowed P C U by s → IsSound P U.tenants → Has U r (HasAsked k q) → Has (applied P C U by s) r (HasAsked k q)
+asked_stays : (P : Program) (C : Sizes) (k : Source) (q r : ℕ) (U : UpdateUnit) (by : ℕ) (s : Step) → IsBesides s → Allowed P C U by s → IsSound P U.tenants → Has U r (HasAsked k q) →
+    Has (applied P C U by s) r (HasAsked k q)
 asked_stays P C k q r U by s b a ok i =
     let m = goes P C U by s a ok r i.tenant i.is in
-    record { tenant = m.tenant; is = m.is; fact = record { in_time = i.fact.in_time; way = m.goes.linked k i.fact.in_time i.fact.way; creator = m.goes.creator k ∙ i.fact.creator; path = path m.tenant m.is } }
+    record {
+      tenant = m.tenant;
+      is = m.is;
+      fact = record {
+        in_time = i.fact.in_time;
+        way = m.goes.linked k i.fact.in_time i.fact.way;
+        creator = m.goes.creator k ∙ i.fact.creator;
+        path = path m.tenant m.is;
+      };
+    }
   where
     V : List Tenant
     V = (applied P C U by s).tenants
@@ -104,7 +115,8 @@ module _ (P : Program) (C : Sizes) where
   -- The look at the creator's station
 
   -- the creator u of a source of a tenant of the path, on the path too
-  module _ (h : List Entry) (legal : IsLegal P C h) (r q p : ℕ) (k : Source) (i : Has (unit_of P C h) r (HasAsked k q)) (u : Tenant) (is_q : at (unit_of P C h).tenants q ≡ Some u) (new : is_old (unit_of P C h) q ≡ false) (at_p : u.station ≡ p) (last : IsLastAt (unit_of P C h) q p) where
+  module _ (h : List Entry) (legal : IsLegal P C h) (r q p : ℕ) (k : Source) (i : Has (unit_of P C h) r (HasAsked k q)) (u : Tenant) (is_q : at (unit_of P C h).tenants q ≡ Some u)
+      (new : is_old (unit_of P C h) q ≡ false) (at_p : u.station ≡ p) (last : IsLastAt (unit_of P C h) q p) where
     abbrev U : UpdateUnit
     U = unit_of P C h
 
@@ -165,7 +177,8 @@ module _ (P : Program) (C : Sizes) where
             let value : value_in n ≡ m.0 = subst (λ o. HasValue o (value_in n)) m.1 free.value in
             inr (inl free.state, made m.0 m.2 value)
 
-  pub question_plan : (id : ℕ) (v : View) (p g r q : ℕ) (k : Source) → id ≡ front → v.draft ≡ Nothing → Has (unit_of P C v.seen) r (HasAsked k q) → IsTenant (unit_of P C v.seen) q p g IsAny → IsLastAt (unit_of P C v.seen) q p
+  pub question_plan : (id : ℕ) (v : View) (p g r q : ℕ) (k : Source) → id ≡ front → v.draft ≡ Nothing → Has (unit_of P C v.seen) r (HasAsked k q) → IsTenant (unit_of P C v.seen) q p g IsAny →
+      IsLastAt (unit_of P C v.seen) q p
       → Plans P C id v (Station p) (λ n. n) (Questions P C r k q)
   question_plan id v p g r q k is_front none asked creator last between d legal same apart caller mine draft n small content =
       let h : List Entry = between ++ v.seen in
@@ -187,7 +200,8 @@ module _ (P : Program) (C : Sizes) where
   value_there ts First t = refl
   value_there ts Second t = refl
 
-  pub answer_plan : (id : ℕ) (v : View) (c g r q val old new : ℕ) (k : Source) → id ≡ front → v.draft ≡ Nothing → IsOperandOf (record { tag = g; value = None }) old → IsOperandOf (record { tag = g; value = Some val }) new
+  pub answer_plan : (id : ℕ) (v : View) (c g r q val old new : ℕ) (k : Source) → id ≡ front → v.draft ≡ Nothing → IsOperandOf (record { tag = g; value = None }) old →
+      IsOperandOf (record { tag = g; value = Some val }) new
       → IsTenant (unit_of P C v.seen) r c g (HasLink k q) → IsLastAt (unit_of P C v.seen) r c → HasMade (unit_of P C v.seen) q val
       → Plans P C id v (Operand c k) (λ n. either (n == old) new n) (Answers P C r k old)
   answer_plan id v c g r q val old new k is_front none old_is new_is asks last made between d legal same apart caller mine draft n small content =
@@ -212,7 +226,8 @@ module _ (P : Program) (C : Sizes) where
       let had : IsDelivered U r k = record { tenant = i.tenant; is = i.is; fact = by_value P C g (operand k i.tenant).value n old old_is its' miss } in
       marks P C id h d legal draft (Operand c k) n (Asked r k) (is_front, inl had) content (Answers P C r k old n) (quiet, inr (miss, refl, had)))
     where
-      there : (id : ℕ) (h : List Entry) (legal : IsLegal P C h) (r q val : ℕ) (k : Source) (t : Tenant) → at (unit_of P C h).tenants r ≡ Some t → (operand k t).creator ≡ Some q → HasMade (unit_of P C h) q val
+      there : (id : ℕ) (h : List Entry) (legal : IsLegal P C h) (r q val : ℕ) (k : Source) (t : Tenant) → at (unit_of P C h).tenants r ≡ Some t → (operand k t).creator ≡ Some q →
+          HasMade (unit_of P C h) q val
           → IsDelivered (applied P C (unit_of P C h) id (On r (Deliver k))) r k
       there id h legal r q val k t is from m =
           let us = (unit_of P C h).tenants in

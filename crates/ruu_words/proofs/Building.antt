@@ -111,10 +111,12 @@ module _ (P : Program) (C : Sizes) (id : ℕ) (h : List Entry) (d : Draft) (lega
         subst (λ z. IsStation z n) (sym (moved x ∙ ap (λ b. cond b (word_of (suc t.tag) (Some (changed P id act t (older U.tenants p)))) (station_word C (recent U) x)) off)) c
     others (Info x) n other c = info_stays P C U id p act may (unit_sound P C h legal) d (draft_stays P C U id (On p act) d who may (unit_sound P C h legal) draft).1 x n c
     others (Operand x k) n other c =
-        operand_drafted P C U V x k n ((operands_follow P C (taken_of h) id (allowed_steps P C h legal)).kept p act x k (keeps_operands act of) may) d (draft_stays P C U id (On p act) d who may (unit_sound P C h legal) draft).1 c
+        operand_drafted P C U V x k n ((operands_follow P C (taken_of h) id (allowed_steps P C h legal)).kept p act x k (keeps_operands act of) may) d
+        (draft_stays P C U id (On p act) d who may (unit_sound P C h legal) draft).1 c
     others (LinkPlace x c k) n other l = link_other P C U id p act (no_link act of) may (unit_sound P C h legal) x c k n l
 
-    pub changes : (new : ℕ) → IsStation (word_of (suc t.tag) (Some (changed P id act t (older U.tenants p)))) new → (Kind : List Entry → Draft → List Event → Type 0) → Kind h d (Does (On p act) ∷ []) → Plan P C id h d (Station t.station) new Kind
+    pub changes : (new : ℕ) → IsStation (word_of (suc t.tag) (Some (changed P id act t (older U.tenants p)))) new → (Kind : List Entry → Draft → List Event → Type 0) →
+        Kind h d (Does (On p act) ∷ []) → Plan P C id h d (Station t.station) new Kind
     changes new word Kind kind = record {
       events = Does (On p act) ∷ [];
       draft = d;

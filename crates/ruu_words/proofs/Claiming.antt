@@ -29,7 +29,8 @@ use Rattle.ruu_words.proofs.Stays.{any_stays, ready_stays, tenant_stays, was_ope
 
 module _ (P : Program) (C : Sizes) where
   pub look_plan : (id : ℕ) (v : View) (s : ℕ) → Plans P C id v (Station s) (λ n. n) (Looks P C s)
-  look_plan id v s between d legal same apart caller mine draft n small content = looks P C id (between ++ v.seen) d legal draft (Station s) n content (Looks P C s n) (record { none = refl; word = content })
+  look_plan id v s between d legal same apart caller mine draft n small content = looks P C id (between ++ v.seen) d legal draft (Station s) n content (Looks P C s n)
+      (record { none = refl; word = content })
 
   -- a silent look
   pub silent_plan : (id : ℕ) (v : View) (x : Place) → Plans P C id v x (λ n. n) (λ _ h d events. events ≡ [])
@@ -37,7 +38,8 @@ module _ (P : Program) (C : Sizes) where
 
   -- any word, as it is
   pub read_plan : (id : ℕ) (v : View) (x : Place) → Plans P C id v x (λ n. n) (Reads P C x)
-  read_plan id v x between d legal same apart caller mine draft n small content = looks P C id (between ++ v.seen) d legal draft x n content (Reads P C x n) (record { none = refl; draft = d; proper = draft; content = content })
+  read_plan id v x between d legal same apart caller mine draft n small content = looks P C id (between ++ v.seen) d legal draft x n content (Reads P C x n)
+      (record { none = refl; draft = d; proper = draft; content = content })
 
   pub peek_plan : (id : ℕ) (v : View) (s : ℕ) → v.role ≡ Worker → Plans P C id v (Station s) (λ n. n) (Peeks P C s)
   peek_plan id v s role between d legal same apart caller mine draft n small content =
@@ -52,12 +54,20 @@ module _ (P : Program) (C : Sizes) where
           let l = live_last C (unit_of P C h) s n word (omega arith) in
           record {
             p = l.p;
-            tenant = record { tenant = l.t; is = l.is; new = l.new; station_is = l.station; tag_is = sym (live_state l.t.tag n l.t.fate l.word).0; fact = record { live = l.live; fate = open_state l.t.tag n l.t.fate l.word e } };
+            tenant = record {
+              tenant = l.t;
+              is = l.is;
+              new = l.new;
+              station_is = l.station;
+              tag_is = sym (live_state l.t.tag n l.t.fate l.word).0;
+              fact = record { live = l.live; fate = open_state l.t.tag n l.t.fate l.word e };
+            };
             added = refl;
           }
 
   -- a tenant of the station, where the word is, or is not, that of an open tenant with its tag
-  module _ (h : List Entry) (legal : IsLegal P C h) (p s g old n : ℕ) (old_is : IsStation (live_word g Open) old) (i : IsTenant (unit_of P C h) p s g IsAny) (content : IsStation (station_word C (recent (unit_of P C h)) s) n) where
+  module _ (h : List Entry) (legal : IsLegal P C h) (p s g old n : ℕ) (old_is : IsStation (live_word g Open) old) (i : IsTenant (unit_of P C h) p s g IsAny)
+      (content : IsStation (station_word C (recent (unit_of P C h)) s) n) where
     pub opened : n ≡ old → IsOpen i.tenant
     opened hit =
         let state : state_of n ≡ 1 = ap state_of hit ∙ old_is.state in
@@ -85,7 +95,8 @@ module _ (P : Program) (C : Sizes) where
       tells P C id h d legal draft (Station s) n (Moved p) (worker, was_open_stays P C between v.seen p before, record { tenant = now.tenant; is = now.is; fact = c }) content (Rechecks P C s g old n)
       (inr (miss, record { p = p; tenant = record { tenant = now.tenant; is = now.is; new = now.new; station_is = now.station_is; tag_is = now.tag_is; fact = c }; added = refl })))
 
-  pub claim_plan : (id : ℕ) (v : View) (s g old new p : ℕ) → v.role ≡ Worker → IsStation (live_word g Open) old → IsStation (live_word g (Busy id)) new → IsTenant (unit_of P C v.seen) p s g (IsReady P) → WasOpen P C v.seen p
+  pub claim_plan : (id : ℕ) (v : View) (s g old new p : ℕ) → v.role ≡ Worker → IsStation (live_word g Open) old → IsStation (live_word g (Busy id)) new →
+      IsTenant (unit_of P C v.seen) p s g (IsReady P) → WasOpen P C v.seen p
       → Plans P C id v (Station s) (λ n. either (n == old) new n) (Claims P C s g old)
   claim_plan id v s g old new p role old_is new_is ready before between d legal same apart caller mine draft n small content =
       let h : List Entry = between ++ v.seen in

@@ -51,7 +51,8 @@ module _ (P : Program) (C : Sizes) where
   link_on k q by s t t' m l = record { in_time = l.in_time; way = m.linked k l.in_time l.way; creator = m.creator k ∙ l.creator }
 
   -- where an operand word has the tag of a tenant, that tenant is the last one that these words follow
-  its_last : (h : List Entry) (legal : IsLegal P C h) (W : List Tenant) → Among P C h legal W → (s : ℕ) (k : Source) (n : ℕ) → IsOperand (operand_word W s k) n → (p : ℕ) (t : Tenant) → at (unit_of P C h).tenants p ≡ Some t → is_old (unit_of P C h) p ≡ false → t.station ≡ s → t.tag ≡ tag_of n → last_of W s ≡ Some t
+  its_last : (h : List Entry) (legal : IsLegal P C h) (W : List Tenant) → Among P C h legal W → (s : ℕ) (k : Source) (n : ℕ) → IsOperand (operand_word W s k) n → (p : ℕ) (t : Tenant) →
+      at (unit_of P C h).tenants p ≡ Some t → is_old (unit_of P C h) p ≡ false → t.station ≡ s → t.tag ≡ tag_of n → last_of W s ≡ Some t
   its_last h legal W a s k n word p t is new station_is tag_is = go (last_of W s) refl word
     where
       go : (o : Option Tenant) → last_of W s ≡ o → IsOperand (operand_word_of k o) n → last_of W s ≡ Some t
@@ -97,7 +98,8 @@ module _ (P : Program) (C : Sizes) where
         go false e = e
 
     -- so the new word of the operand is there behind the tenant in progress too
-    behind_draft : (V : UpdateUnit) (d : Draft) (k : Source) (new : ℕ) → SameDraft P C U V d → last_of (recent (operand_unit P C U d k)) s ≡ Some t → IsOperand (operand_word (recent V) s k) new → IsOperand (operand_word (recent (operand_unit P C V d k)) s k) new
+    behind_draft : (V : UpdateUnit) (d : Draft) (k : Source) (new : ℕ) → SameDraft P C U V d → last_of (recent (operand_unit P C U d k)) s ≡ Some t → IsOperand (operand_word (recent V) s k) new →
+        IsOperand (operand_word (recent (operand_unit P C V d k)) s k) new
     behind_draft V Nothing k new same e w = w
     behind_draft V (Of stage index predicted first second) k new same e w = go (has_operand stage k) e
       where
@@ -111,12 +113,14 @@ module _ (P : Program) (C : Sizes) where
         mid true f e = absurd (not_new n (refl, tagged P C (taken_of h) (allowed_steps P C h legal)) f e)
         mid false f e = subst (λ b. IsOperand (operand_word_of k (cond b (Some n') (last_of (recent V) s))) new) (sym (ap (λ (x : Tenant). eqb x.station s) same ∙ f)) w
 
-        go : (b : Bool) → last_of (recent (cond b (with_new P C U index predicted first second) U)) s ≡ Some t → IsOperand (operand_word (recent (cond b (with_new P C V index predicted first second) V)) s k) new
+        go : (b : Bool) → last_of (recent (cond b (with_new P C U index predicted first second) U)) s ≡ Some t →
+            IsOperand (operand_word (recent (cond b (with_new P C V index predicted first second) V)) s k) new
         go true e = mid (eqb n.station s) refl e
         go false e = w
 
   -- the words of the other places
-  others : (id : ℕ) (h : List Entry) (d : Draft) (legal : IsLegal P C h) → IsDraft P C (unit_of P C h) d → (r s : ℕ) (k : Source) (t : Tenant) → at (unit_of P C h).tenants r ≡ Some t → t.station ≡ s → (may : Allowed P C (unit_of P C h) id (On r (Deliver k)))
+  others : (id : ℕ) (h : List Entry) (d : Draft) (legal : IsLegal P C h) → IsDraft P C (unit_of P C h) d → (r s : ℕ) (k : Source) (t : Tenant) → at (unit_of P C h).tenants r ≡ Some t → t.station ≡ s →
+      (may : Allowed P C (unit_of P C h) id (On r (Deliver k)))
       → (y : Place) (n : ℕ) → y ≢ Operand s k → Content P C (unit_of P C h) d y n → Content P C (applied P C (unit_of P C h) id (On r (Deliver k))) d y n
   others id h d legal draft r s k t is station_is may (Station x) n other c =
       subst (λ z. IsStation z n) (sym (((stations_follow P C (taken_of h) id).moves (allowed_steps P C h legal)).kept r (Deliver k) x tt may)) c
@@ -136,7 +140,8 @@ module _ (P : Program) (C : Sizes) where
   by_value g (Some w) n old a b ne = (w, refl)
 
   -- where the word is another, the source has its value, or its tenant has left
-  pub settled : (h : List Entry) (legal : IsLegal P C h) (d : Draft) → IsDraft P C (unit_of P C h) d → (s : ℕ) (k : Source) (g old n : ℕ) → IsOperandOf (record { tag = g; value = None }) old → IsOperand (operand_word (recent (operand_unit P C (unit_of P C h) d k)) s k) n → n ≢ old
+  pub settled : (h : List Entry) (legal : IsLegal P C h) (d : Draft) → IsDraft P C (unit_of P C h) d → (s : ℕ) (k : Source) (g old n : ℕ) → IsOperandOf (record { tag = g; value = None }) old →
+      IsOperand (operand_word (recent (operand_unit P C (unit_of P C h) d k)) s k) n → n ≢ old
       → (r : ℕ) (t : Tenant) → at (unit_of P C h).tenants r ≡ Some t → t.station ≡ s → t.tag ≡ g → IsDelivered (unit_of P C h) r k ⊎ (t.standing ≢ Live)
   settled h legal d draft s k g old n old_is content miss r t is station_is tag_is = go t.standing refl
     where
@@ -150,8 +155,10 @@ module _ (P : Program) (C : Sizes) where
       go Squashed e = inr (λ live. let x = sym e ∙ live in cc x)
 
   -- A delivery that finds the word of the operand that waits: `more` are events that it adds behind itself
-  module _ (id : ℕ) (h : List Entry) (d : Draft) (legal : IsLegal P C h) (draft : IsDraft P C (unit_of P C h) d) (s : ℕ) (k : Source) (g val old n new r q : ℕ) (old_is : IsOperandOf (record { tag = g; value = None }) old) (new_is : IsOperandOf (record { tag = g; value = Some val }) new)
-      (i : IsTenant (unit_of P C h) r s g (HasLink k q)) (made : HasMade (unit_of P C h) q val) (hit : n ≡ old) (content : IsOperand (operand_word (recent (operand_unit P C (unit_of P C h) d k)) s k) n) where
+  module _ (id : ℕ) (h : List Entry) (d : Draft) (legal : IsLegal P C h) (draft : IsDraft P C (unit_of P C h) d) (s : ℕ) (k : Source) (g val old n new r q : ℕ)
+      (old_is : IsOperandOf (record { tag = g; value = None }) old) (new_is : IsOperandOf (record { tag = g; value = Some val }) new)
+      (i : IsTenant (unit_of P C h) r s g (HasLink k q)) (made : HasMade (unit_of P C h) q val) (hit : n ≡ old)
+      (content : IsOperand (operand_word (recent (operand_unit P C (unit_of P C h) d k)) s k) n) where
     is_new : is_old (unit_of P C h) r ≡ false
     is_new = i.new
 

@@ -35,7 +35,8 @@ use Rattle.ruu_words.proofs.Stays.{front_stays}
 
 module _ (P : Program) (C : Sizes) (index predicted : ℕ) (first second : Supply) where
   -- the front may still let it
-  pub still_let : (more seen : List Entry) → IsLegal P C (more ++ seen) → own front more ≡ [] → MayLet P C (unit_of P C seen) index predicted first second → LetStays P C (unit_of P C seen) (unit_of P C (more ++ seen)) index predicted first second
+  pub still_let : (more seen : List Entry) → IsLegal P C (more ++ seen) → own front more ≡ [] → MayLet P C (unit_of P C seen) index predicted first second →
+      LetStays P C (unit_of P C seen) (unit_of P C (more ++ seen)) index predicted first second
   still_let more seen legal none may = front_stays P C (λ V. LetStays P C (unit_of P C seen) V index predicted first second)
       (λ U by s b a ok q. let l = let_lasts P C U by s b a ok index predicted first second q.may in record { may = l.may; new = l.new ∙ q.new; tag = l.tag ∙ q.tag })
       more seen legal none (record { may = may; new = refl; tag = refl })
@@ -51,7 +52,8 @@ info_here t us x n e c = subst (λ b. IsInfo (cond b (Some t) (last_of us x)) n)
 operand_else : (t : Tenant) (us : List Tenant) (x : ℕ) (k : Source) (n : ℕ) → t.station ≢ x → IsOperand (operand_word us x k) n → IsOperand (operand_word (t ∷ us) x k) n
 operand_else t us x k n ne c = subst (λ b. IsOperand (operand_word_of k (cond b (Some t) (last_of us x))) n) (sym (ne_eqb t.station x ne)) c
 
-operand_here : (t : Tenant) (us : List Tenant) (x : ℕ) (k : Source) (n : ℕ) → t.station ≡ x → IsOperandOf (record { tag = t.tag; value = (operand k t).value }) n → IsOperand (operand_word (t ∷ us) x k) n
+operand_here : (t : Tenant) (us : List Tenant) (x : ℕ) (k : Source) (n : ℕ) → t.station ≡ x → IsOperandOf (record { tag = t.tag; value = (operand k t).value }) n →
+    IsOperand (operand_word (t ∷ us) x k) n
 operand_here t us x k n e c = subst (λ b. IsOperand (operand_word_of k (cond b (Some t) (last_of us x))) n) (sym (eq-eqb t.station x e)) c
 
 module _ (P : Program) (C : Sizes) (index predicted : ℕ) (first second : Supply) where
@@ -88,7 +90,8 @@ module _ (P : Program) (C : Sizes) (index predicted : ℕ) (first second : Suppl
       go U e (Link p x j) k other c = c
 
   -- the first operand, then the second
-  pub first_plan : (id : ℕ) (v : View) (s w : ℕ) → id ≡ front → v.draft ≡ Of InfoAlone index predicted first second → MayLet P C (unit_of P C v.seen) index predicted first second → next_station C (recent (unit_of P C v.seen)) ≡ s
+  pub first_plan : (id : ℕ) (v : View) (s w : ℕ) → id ≡ front → v.draft ≡ Of InfoAlone index predicted first second → MayLet P C (unit_of P C v.seen) index predicted first second →
+      next_station C (recent (unit_of P C v.seen)) ≡ s
       → IsOperandOf (record { tag = (new_in (unit_of P C v.seen)).tag; value = (new_in (unit_of P C v.seen)).first.value }) w
       → Plans P C id v (Operand s First) (λ _. w) (λ _. Drafts P C (Of FirstOperand index predicted first second))
   first_plan id v s w is_front was may station_is word between d legal same apart caller mine draft n small content =
@@ -110,14 +113,16 @@ module _ (P : Program) (C : Sizes) (index predicted : ℕ) (first second : Suppl
         kind = record { none = refl; draft = refl };
       }
     where
-      go : (U : UpdateUnit) → (new_in U).station ≡ s → (y : Place) (k : ℕ) → y ≢ Operand s First → Content P C U (Of InfoAlone index predicted first second) y k → Content P C U (Of FirstOperand index predicted first second) y k
+      go : (U : UpdateUnit) → (new_in U).station ≡ s → (y : Place) (k : ℕ) → y ≢ Operand s First → Content P C U (Of InfoAlone index predicted first second) y k →
+          Content P C U (Of FirstOperand index predicted first second) y k
       go U e (Station x) k other c = c
       go U e (Info x) k other c = c
       go U e (Operand x First) k other c = operand_else (new_in U) (recent U) x First k (λ f. other (ap (λ z. Operand z First) (sym f ∙ e))) c
       go U e (Operand x Second) k other c = c
       go U e (Link p x j) k other c = c
 
-  pub second_plan : (id : ℕ) (v : View) (s w : ℕ) → id ≡ front → v.draft ≡ Of FirstOperand index predicted first second → MayLet P C (unit_of P C v.seen) index predicted first second → next_station C (recent (unit_of P C v.seen)) ≡ s
+  pub second_plan : (id : ℕ) (v : View) (s w : ℕ) → id ≡ front → v.draft ≡ Of FirstOperand index predicted first second → MayLet P C (unit_of P C v.seen) index predicted first second →
+      next_station C (recent (unit_of P C v.seen)) ≡ s
       → IsOperandOf (record { tag = (new_in (unit_of P C v.seen)).tag; value = (new_in (unit_of P C v.seen)).second.value }) w
       → Plans P C id v (Operand s Second) (λ _. w) (λ _. Drafts P C (Of BothOperands index predicted first second))
   second_plan id v s w is_front was may station_is word between d legal same apart caller mine draft n small content =
@@ -139,7 +144,8 @@ module _ (P : Program) (C : Sizes) (index predicted : ℕ) (first second : Suppl
         kind = record { none = refl; draft = refl };
       }
     where
-      go : (U : UpdateUnit) → (new_in U).station ≡ s → (y : Place) (k : ℕ) → y ≢ Operand s Second → Content P C U (Of FirstOperand index predicted first second) y k → Content P C U (Of BothOperands index predicted first second) y k
+      go : (U : UpdateUnit) → (new_in U).station ≡ s → (y : Place) (k : ℕ) → y ≢ Operand s Second → Content P C U (Of FirstOperand index predicted first second) y k →
+          Content P C U (Of BothOperands index predicted first second) y k
       go U e (Station x) k other c = c
       go U e (Info x) k other c = c
       go U e (Operand x First) k other c = c
@@ -156,7 +162,13 @@ module _ (P : Program) (C : Sizes) (index predicted : ℕ) (first second : Suppl
       r = z.r;
       producer = z.producer;
       consumer = z.consumer;
-      is = record { producer_is = at_more t us z.q z.producer z.is.producer_is; consumer_is = at_more t us z.r z.consumer z.is.consumer_is; in_time = z.is.in_time; way = z.is.way; creator = z.is.creator };
+      is = record {
+        producer_is = at_more t us z.q z.producer z.is.producer_is;
+        consumer_is = at_more t us z.r z.consumer z.is.consumer_is;
+        in_time = z.is.in_time;
+        way = z.is.way;
+        creator = z.is.creator;
+      };
       producer_new = old_more (unit_of P C h) t z.q ∙ z.producer_new;
       consumer_new = old_more (unit_of P C h) t z.r ∙ z.consumer_new;
       at_p = z.at_p;
@@ -180,7 +192,8 @@ module _ (P : Program) (C : Sizes) (index predicted : ℕ) (first second : Suppl
       us : List Tenant
       us = (unit_of P C h).tenants
 
-  pub let_plan : (id : ℕ) (v : View) (s w : ℕ) → id ≡ front → v.draft ≡ Of BothOperands index predicted first second → MayLet P C (unit_of P C v.seen) index predicted first second → next_station C (recent (unit_of P C v.seen)) ≡ s → IsStation (live_word (next_tag C (recent (unit_of P C v.seen))) Open) w
+  pub let_plan : (id : ℕ) (v : View) (s w : ℕ) → id ≡ front → v.draft ≡ Of BothOperands index predicted first second → MayLet P C (unit_of P C v.seen) index predicted first second →
+      next_station C (recent (unit_of P C v.seen)) ≡ s → IsStation (live_word (next_tag C (recent (unit_of P C v.seen))) Open) w
       → Plans P C id v (Station s) (λ _. w) (λ _. Lets P C index predicted first second)
   let_plan id v s w is_front was may station_is word between d legal same apart caller mine draft n small content =
       let h : List Entry = between ++ v.seen in
@@ -196,15 +209,19 @@ module _ (P : Program) (C : Sizes) (index predicted : ℕ) (first second : Suppl
         legal = (legal, ((is_front, proper.1), proper.0));
         same = refl;
         proper = tt;
-        here = subst (λ z. IsStation z w) (sym (after id h legal proper.0 s ∙ ap (λ b. cond b (live_word (next_tag C (recent U)) Open) (station_word C (recent U) s)) (eq-eqb (next_station C (recent U)) s at_s))) (subst (λ z. IsStation (live_word z Open) w) (sym now.tag) word);
+        here = subst (λ z. IsStation z w) (sym (after id h legal proper.0 s ∙ ap (λ b. cond b (live_word (next_tag C (recent U)) Open) (station_word C (recent U) s))
+            (eq-eqb (next_station C (recent U)) s at_s))) (subst (λ z. IsStation (live_word z Open) w) (sym now.tag) word);
         else = λ y k _ other c. go id h legal proper.0 at_s y k other (subst (λ (z : Draft). Content P C U z y k) d_is c);
         kind = record { added = refl; draft = refl };
       }
     where
-      after : (id : ℕ) (h : List Entry) → IsLegal P C h → MayLet P C (unit_of P C h) index predicted first second → (x : ℕ) → station_word C (recent (with_new P C (unit_of P C h) index predicted first second)) x ≡ cond (eqb (next_station C (recent (unit_of P C h))) x) (live_word (next_tag C (recent (unit_of P C h))) Open) (station_word C (recent (unit_of P C h)) x)
+      after : (id : ℕ) (h : List Entry) → IsLegal P C h → MayLet P C (unit_of P C h) index predicted first second → (x : ℕ) →
+          station_word C (recent (with_new P C (unit_of P C h) index predicted first second)) x ≡ cond (eqb (next_station C (recent (unit_of P C h))) x)
+          (live_word (next_tag C (recent (unit_of P C h))) Open) (station_word C (recent (unit_of P C h)) x)
       after id h legal may x = ((stations_follow P C (taken_of h) id).moves (allowed_steps P C h legal)).after_let index predicted first second x may
 
-      go : (id : ℕ) (h : List Entry) → IsLegal P C h → MayLet P C (unit_of P C h) index predicted first second → next_station C (recent (unit_of P C h)) ≡ s → (y : Place) (k : ℕ) → y ≢ Station s → Content P C (unit_of P C h) (Of BothOperands index predicted first second) y k
+      go : (id : ℕ) (h : List Entry) → IsLegal P C h → MayLet P C (unit_of P C h) index predicted first second → next_station C (recent (unit_of P C h)) ≡ s → (y : Place) (k : ℕ) → y ≢ Station s →
+          Content P C (unit_of P C h) (Of BothOperands index predicted first second) y k
           → Content P C (with_new P C (unit_of P C h) index predicted first second) Nothing y k
       go id h legal may e (Station x) k other c =
           let U : UpdateUnit = unit_of P C h in

@@ -61,7 +61,9 @@ free_word C ts s n none w = go (last_of ts s) refl w
     go (Some t) e w = let f = find_last ts s t e in gone t (all_at IsNotLive ts none f.0 t f.1) t.standing refl w
 
 module _ (P : Program) (C : Sizes) where
-  not_done : (h : List Entry) (p : ℕ) (t : Tenant) → at (unit_of P C h).tenants p ≡ Some t → t.standing ≡ Live → ((q : ℕ) (u : Tenant) → q < p → at (unit_of P C h).tenants q ≡ Some u → u.standing ≢ Live) → GoesOn (unit_of P C h) → ¬ CanRetire (kind_of P t) t.second.value t.fate → IsNotDone P (unit_of P C h)
+  not_done : (h : List Entry) (p : ℕ) (t : Tenant) → at (unit_of P C h).tenants p ≡ Some t → t.standing ≡ Live →
+      ((q : ℕ) (u : Tenant) → q < p → at (unit_of P C h).tenants q ≡ Some u → u.standing ≢ Live) → GoesOn (unit_of P C h) → ¬ CanRetire (kind_of P t) t.second.value t.fate →
+      IsNotDone P (unit_of P C h)
   not_done h p t is live oldest goes_on stays = record {
     goes_on = all_from IsNoRetiredStop (unit_of P C h).tenants goes_on;
     p = p;
@@ -90,7 +92,8 @@ module _ (P : Program) (C : Sizes) where
       let i = back_stays P C (λ U. IsHead U p (HasAddr s g index a)) (λ U by st b may ok q. addr_head_stays P C U by st b may ok p s g index a q) between v.seen legal same (subst (λ z. own z between ≡ []) is_back apart) head in
       let t : Tenant = i.tenant in
       let k : kind_of P t ≡ Loads = ap (λ z. kind (instr_of P z).op) i.fact.index_is ∙ is_load in
-      tells P C id h d legal draft x n NotDone (is_back, not_done h p t i.is i.live i.oldest i.goes_on (λ c. no_store (kind_of P t) t.second.value t.fate k i.fact.fate c)) content (Tells P C NotDone) (record { added = refl })
+      tells P C id h d legal draft x n NotDone (is_back, not_done h p t i.is i.live i.oldest i.goes_on (λ c. no_store (kind_of P t) t.second.value t.fate k i.fact.fate c)) content (Tells P C NotDone)
+      (record { added = refl })
     where
       no_store : (k : Kind) (b : Option ℕ) (f : Fate) → k ≡ Loads → f ≡ Addr a → CanRetire k b f → ⊥
       no_store k b f e g c = let c' : CanRetire k b (Addr a) = subst (CanRetire k b) g c in let x = sym e ∙ c'.0 in cc x

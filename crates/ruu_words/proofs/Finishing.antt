@@ -44,7 +44,8 @@ job_stays P id predicted outcome by s t t' other m j = record {
 }
 
 module _ (P : Program) (C : Sizes) where
-  pub finish_plan : (id : ℕ) (v : View) (s g old new p predicted : ℕ) (outcome : Outcome) → v.role ≡ Worker → IsStation (live_word g (Busy id)) old → IsStation (live_word g (fate_of predicted outcome)) new
+  pub finish_plan : (id : ℕ) (v : View) (s g old new p predicted : ℕ) (outcome : Outcome) → v.role ≡ Worker → IsStation (live_word g (Busy id)) old →
+      IsStation (live_word g (fate_of predicted outcome)) new
       → IsTenant (unit_of P C v.seen) p s g (HasJob P id predicted outcome)
       → Plans P C id v (Station s) (λ n. either (n == old) new n) (Finishes P C s g outcome old)
   finish_plan id v s g old new p predicted outcome role old_is new_is job between d legal same apart caller mine draft n small content =
@@ -61,7 +62,21 @@ module _ (P : Program) (C : Sizes) where
       subst (λ x. Plan P C id h d (Station x) new (Finishes P C s g outcome old n)) now.station_is
       (changes P C id h d legal draft p Finish t tt (inr tt) worker (record { tenant = t; is = now.is; may = record { live = here.0; fate = now.fact.held.fate } }) now.is new
       (subst (λ o. IsStation (word_of (suc t.tag) (Some (finished t o))) new) (sym now.fact.computes) (finished_word t outcome (suc t.tag) new here.0 fits))
-      (Finishes P C s g outcome old n) (inl (hit, record { p = p; tenant = record { tenant = t; is = now.is; new = now.new; station_is = now.station_is; tag_is = now.tag_is; fact = now.fact.computes }; added = refl }))))
+      (Finishes P C s g outcome old n) (inl (
+        hit,
+        record {
+          p = p;
+          tenant = record {
+            tenant = t;
+            is = now.is;
+            new = now.new;
+            station_is = now.station_is;
+            tag_is = now.tag_is;
+            fact = now.fact.computes;
+          };
+          added = refl;
+        },
+      ))))
       (λ miss.
       let gone : t.standing ≡ Squashed = ⊎_elim
       (λ (live : t.standing ≡ Live).

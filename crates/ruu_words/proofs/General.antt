@@ -45,7 +45,8 @@ module _ (P : Program) (C : Sizes) (opening : List Entry) where
             (λ (t : (x ≡ y) × (slice_index (slice_set s.words (index C.ring x) new) (index C.ring y) ≡ new)).
             subst (λ (z : Place × ℕ). Content P C (unit_of P C (more ++ h)) p.draft z.0 z.1) (λ j. (t.0 j, sym t.1 j)) p.here)
             (λ (t : (index C.ring x ≢ index C.ring y) × (slice_index (slice_set s.words (index C.ring x) new) (index C.ring y) ≡ slice_index s.words (index C.ring y))).
-            subst (λ (z : ℕ). Content P C (unit_of P C (more ++ h)) p.draft y z) (sym t.1) (p.else y (slice_index s.words (index C.ring y)) place (λ e. t.0 (ap (index C.ring) (sym e))) (k.words y place)))
+            subst (λ (z : ℕ). Content P C (unit_of P C (more ++ h)) p.draft y z) (sym t.1) (p.else y (slice_index s.words (index C.ring y)) place (λ e. t.0 (ap (index C.ring) (sym e)))
+            (k.words y place)))
             (written C.ring s.words x y new k.wide fits place);
         views = λ j u e. ⊎_elim
             (λ (t : (j ≡ id) × (w ≡ u)). subst (Fits opening (more ++ h)) t.1 (record {
@@ -80,7 +81,8 @@ module _ (P : Program) (C : Sizes) (opening : List Entry) where
             (at_set s.views id i w a at_i);
         draft = λ j u e. ⊎_elim
             (λ (t : (j ≡ id) × (w ≡ u)). λ a is_front. ap (λ (z : View). z.draft) (sym t.1))
-            (λ (t : (j ≢ id) × (get_elem? s.views j ≡ some u)). λ a is_front. k.draft j u t.1 a is_front ∙ sym (p.mine (λ e. k.apart j id front u v t.1 here t.0 a alive (inl (sym is_front)) (inl (sym e)))))
+            (λ (t : (j ≢ id) × (get_elem? s.views j ≡ some u)). λ a is_front. k.draft j u t.1 a is_front ∙
+            sym (p.mine (λ e. k.apart j id front u v t.1 here t.0 a alive (inl (sym is_front)) (inl (sym e)))))
             (at_set s.views id j w u e);
         proper = p.proper;
       }
@@ -124,12 +126,15 @@ module _ (P : Program) (C : Sizes) (opening : List Entry) where
             told = starts_longer (between ++ v.seen) v.told (map (entry by) p.events) (subst (λ (x : List Entry). StartsWith x v.told) is fit.told);
             kind = p.kind;
           };
-          unborn = λ m i. own-append m (map (entry by) p.events) (between ++ v.seen) ∙ (ap (λ (y : List Entry). y ++ own m (between ++ v.seen)) (own_of_other m by p.events (own_number v.heirs m by fit.above i)) ∙ (ap (λ (y : List Entry). own m y) (sym is) ∙ fit.unborn alive m i));
+          unborn = λ m i. own-append m (map (entry by) p.events) (between ++ v.seen) ∙ (ap (λ (y : List Entry). y ++ own m (between ++ v.seen))
+              (own_of_other m by p.events (own_number v.heirs m by fit.above i)) ∙ (ap (λ (y : List Entry). own m y) (sym is) ∙ fit.unborn alive m i));
           slots = refl;
         },
       )
 
   -- the same, where the code gives the index
-  pub allowed_at : (slots id : ℕ) (me : Me ℕ View) (x : Place) (i : ℕ) (f tell : ℕ → ℕ) (Kind : ℕ → List Entry → Draft → List Event → Type 0) (z : Step ℕ) → index C.ring x ≡ i → IsPlace C.ring x → IsAlive me.0.role
+  pub allowed_at : (slots id : ℕ) (me : Me ℕ View) (x : Place) (i : ℕ) (f tell : ℕ → ℕ) (Kind : ℕ → List Entry → Draft → List Event → Type 0) (z : Step ℕ) → index C.ring x ≡ i → IsPlace C.ring x →
+      IsAlive me.0.role
       → Plans P C me.0.by me.0 x f (λ n. Kind (tell n)) → Allows (Keeps P C opening) slots id me i f (λ n found. Tells P C opening me.0.by Kind z me (tell n) found)
-  allowed_at slots id me x i f tell Kind z is fits alive plans = subst (λ (j : ℕ). Allows (Keeps P C opening) slots id me j f (λ n found. Tells P C opening me.0.by Kind z me (tell n) found)) is (allowed slots id me x f tell Kind z fits alive plans)
+  allowed_at slots id me x i f tell Kind z is fits alive plans = subst (λ (j : ℕ). Allows (Keeps P C opening) slots id me j f (λ n found. Tells P C opening me.0.by Kind z me (tell n) found)) is
+      (allowed slots id me x f tell Kind z fits alive plans)

@@ -39,7 +39,8 @@ left_same (Stopped c) made m = refl
 
 module _ (P : Program) (C : Sizes) where
   -- the word that such a write finds
-  found : (h : List Entry) (legal : IsLegal P C h) (p s n : ℕ) (t : Tenant) → at (unit_of P C h).tenants p ≡ Some t → t.station ≡ s → t.standing ≡ Live → IsStation (station_word C (recent (unit_of P C h)) s) n
+  found : (h : List Entry) (legal : IsLegal P C h) (p s n : ℕ) (t : Tenant) → at (unit_of P C h).tenants p ≡ Some t → t.station ≡ s → t.standing ≡ Live →
+      IsStation (station_word C (recent (unit_of P C h)) s) n
       → IsTenant (unit_of P C h) p s (tag_of n) (λ t. IsStation (live_word t.tag t.fate) n)
   found h legal p s n t is station_is live content =
       let w = its_word P C h legal p s n t is station_is live content in

@@ -60,19 +60,23 @@ no_link C U by (On p act) ne h = go act h
     go Squash h = tt
     go Mend h = tt
 
-pub last_stays : (P : Program) (C : Sizes) (U : UpdateUnit) (by : ℕ) (s : Step) → IsBesides s → Allowed P C U by s → IsSound P U.tenants → (r c : ℕ) → IsLastAt U r c → IsLastAt (applied P C U by s) r c
+pub last_stays : (P : Program) (C : Sizes) (U : UpdateUnit) (by : ℕ) (s : Step) → IsBesides s → Allowed P C U by s → IsSound P U.tenants → (r c : ℕ) → IsLastAt U r c →
+    IsLastAt (applied P C U by s) r c
 last_stays P C U by (Let i x f n) b a ok r c l = absurd b
 last_stays P C U by Renew b a ok r c l = absurd b
 last_stays P C U by (On p act) b a ok r c l = λ q u lt is e. let was = came P C U by p act a ok q u is in l q was.tenant lt was.is (sym was.goes.station ∙ e)
 
 module _ (P : Program) (C : Sizes) where
   pub link_read_plan : (id : ℕ) (v : View) (p c : ℕ) (k : Source) → Plans P C id v (LinkPlace p c k) (λ n. n) (ReadsLink P C p c k)
-  link_read_plan id v p c k between d legal same apart caller mine draft n small content = looks P C id (between ++ v.seen) d legal draft (LinkPlace p c k) n content (ReadsLink P C p c k n) (record { none = refl; word = content })
+  link_read_plan id v p c k between d legal same apart caller mine draft n small content = looks P C id (between ++ v.seen) d legal draft (LinkPlace p c k) n content (ReadsLink P C p c k n)
+      (record { none = refl; word = content })
 
   ask_stays : (k : Source) (q : ℕ) (by : ℕ) (s : Step) (t t' : Tenant) → IsNoLink s → Goes by s t t' → CanAsk k q t → CanAsk k q t'
   ask_stays k q by s t t' plain m a = record { way = m.way plain k ∙ a.way; creator = m.creator k ∙ a.creator }
 
-  module _ (id : ℕ) (h : List Entry) (legal : IsLegal P C h) (r c q p : ℕ) (k : Source) (t u : Tenant) (is : at (unit_of P C h).tenants r ≡ Some t) (there : at (unit_of P C h).tenants q ≡ Some u) (t_new : is_old (unit_of P C h) r ≡ false) (u_new : is_old (unit_of P C h) q ≡ false) (can : CanAsk k q t) (at_c : t.station ≡ c) (at_p : u.station ≡ p) (last : IsLastAt (unit_of P C h) r c) (may : Allowed P C (unit_of P C h) id (On r (Link k))) where
+  module _ (id : ℕ) (h : List Entry) (legal : IsLegal P C h) (r c q p : ℕ) (k : Source) (t u : Tenant) (is : at (unit_of P C h).tenants r ≡ Some t) (there : at (unit_of P C h).tenants q ≡ Some u)
+      (t_new : is_old (unit_of P C h) r ≡ false) (u_new : is_old (unit_of P C h) q ≡ false) (can : CanAsk k q t) (at_c : t.station ≡ c) (at_p : u.station ≡ p) (last : IsLastAt (unit_of P C h) r c)
+      (may : Allowed P C (unit_of P C h) id (On r (Link k))) where
     abbrev U : UpdateUnit
     U = unit_of P C h
 
@@ -111,7 +115,13 @@ module _ (P : Program) (C : Sizes) where
             r = r;
             producer = g.tenant;
             consumer = linked (older us r) t k;
-            is = record { producer_is = g.is; consumer_is = here; in_time = is_none (value_of (older us r) (operand k t).creator); way = linked_way (older us r) k t; creator = linked_creator (older us r) k k t ∙ can.creator };
+            is = record {
+              producer_is = g.is;
+              consumer_is = here;
+              in_time = is_none (value_of (older us r) (operand k t).creator);
+              way = linked_way (older us r) k t;
+              creator = linked_creator (older us r) k k t ∙ can.creator;
+            };
             producer_new = old_kept P C U id (On r (Link k)) (λ e. cc e) may q ∙ u_new;
             consumer_new = old_kept P C U id (On r (Link k)) (λ e. cc e) may r ∙ t_new;
             at_p = g.goes.station ∙ at_p;
@@ -152,12 +162,15 @@ module _ (P : Program) (C : Sizes) where
     pub others : (d : Draft) → d ≡ Nothing → IsDraft P C U d → (y : Place) (n : ℕ) → y ≢ LinkPlace p c k → Content P C U d y n → Content P C V d y n
     others d none draft (Station x) n other w =
         subst (λ z. IsStation z n) (sym (((stations_follow P C (taken_of h) id).moves (allowed_steps P C h legal)).kept r (Link k) x tt may)) w
-    others d none draft (Info x) n other w = info_stays P C U id r (Link k) may (unit_sound P C h legal) d (draft_stays P C U id (On r (Link k)) d (inl none) may (unit_sound P C h legal) draft).1 x n w
+    others d none draft (Info x) n other w = info_stays P C U id r (Link k) may (unit_sound P C h legal) d (draft_stays P C U id (On r (Link k)) d (inl none) may (unit_sound P C h legal) draft).1 x n
+        w
     others d none draft (Operand x j) n other w =
-        operand_drafted P C U V x j n ((operands_follow P C (taken_of h) id (allowed_steps P C h legal)).kept r (Link k) x j tt may) d (draft_stays P C U id (On r (Link k)) d (inl none) may (unit_sound P C h legal) draft).1 w
+        operand_drafted P C U V x j n ((operands_follow P C (taken_of h) id (allowed_steps P C h legal)).kept r (Link k) x j tt may) d
+        (draft_stays P C U id (On r (Link k)) d (inl none) may (unit_sound P C h legal) draft).1 w
     others d none draft (LinkPlace p2 c2 k2) n other w = other_word p2 c2 k2 n other w
 
-  pub link_plan : (id : ℕ) (v : View) (p c gp gc : ℕ) (k : Source) (r q new : ℕ) → id ≡ front → v.draft ≡ Nothing → IsTenant (unit_of P C v.seen) r c gc (CanAsk k q) → IsTenant (unit_of P C v.seen) q p gp IsAny → IsLastAt (unit_of P C v.seen) r c → new ≡ pack_link gp gc
+  pub link_plan : (id : ℕ) (v : View) (p c gp gc : ℕ) (k : Source) (r q new : ℕ) → id ≡ front → v.draft ≡ Nothing → IsTenant (unit_of P C v.seen) r c gc (CanAsk k q) →
+      IsTenant (unit_of P C v.seen) q p gp IsAny → IsLastAt (unit_of P C v.seen) r c → new ≡ pack_link gp gc
       → Plans P C id v (LinkPlace p c k) (λ _. new) (λ _. Asks P C r k)
   link_plan id v p c gp gc k r q new is_front none consumer producer last new_is between d legal same apart caller mine draft n small content =
       let h : List Entry = between ++ v.seen in
@@ -175,7 +188,8 @@ module _ (P : Program) (C : Sizes) where
         legal = (legal, (is_front, may));
         same = refl;
         proper = (draft_stays P C U id (On r (Link k)) d (inl quiet) may (unit_sound P C h legal) draft).0;
-        here = subst (λ z. IsLink (applied P C U id (On r (Link k))) p c k z) ((λ x. pack_link (j.tag_is x) (i.tag_is x)) ∙ sym new_is) (new_word id h legal r c q p k i.tenant j.tenant i.is j.is i.new j.new i.fact i.station_is j.station_is l may);
+        here = subst (λ z. IsLink (applied P C U id (On r (Link k))) p c k z) ((λ x. pack_link (j.tag_is x) (i.tag_is x)) ∙ sym new_is)
+            (new_word id h legal r c q p k i.tenant j.tenant i.is j.is i.new j.new i.fact i.station_is j.station_is l may);
         else = λ y m _ other w. others id h legal r c q p k i.tenant j.tenant i.is j.is i.new j.new i.fact i.station_is j.station_is l may d quiet draft y m other w;
         kind = record { added = refl; draft = quiet };
       }

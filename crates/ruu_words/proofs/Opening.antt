@@ -46,14 +46,16 @@ first_only : (h : List Entry) (id : ℕ) (v : View) → get_elem? (first_seat h 
 first_only h zero v e = (refl, some-injective (first_seat h) v e)
 first_only h (suc id) v e = absurd (some-ne-none v (sym e))
 
-pub content : (P : Program) (C : Sizes) (ts : List Tenant) → AllByRecursion IsNotLive ts → (ws : List ℕ) → IsStart C ws → (x : Place) → IsPlace C.ring x → Content P C (begun ts) Nothing x (slice_index ws (index C.ring x))
+pub content : (P : Program) (C : Sizes) (ts : List Tenant) → AllByRecursion IsNotLive ts → (ws : List ℕ) → IsStart C ws → (x : Place) → IsPlace C.ring x →
+    Content P C (begun ts) Nothing x (slice_index ws (index C.ring x))
 content P C ts none ws start (Station s) h = free_word C.first_tag (slice_index ws s) (start.stations s h)
 content P C ts none ws start (Info s) h = start.others (C.ring + s) (omega arith)
 content P C ts none ws start (Operand s k) h = start.others (index C.ring (Operand s k)) (omega arith)
 content P C ts none ws start (Link p c k) h = no_link ts none p c k (slice_index ws (index C.ring (Link p c k))) (start.others (index C.ring (Link p c k)) (omega arith))
 
 -- of a history that a table may open with
-opened : (P : Program) (C : Sizes) (h : List Entry) → IsOpening P C h → (ws : List ℕ) → IsStart C ws → (x : Place) → IsPlace C.ring x → Content P C (unit_of P C h) Nothing x (slice_index ws (index C.ring x))
+opened : (P : Program) (C : Sizes) (h : List Entry) → IsOpening P C h → (ws : List ℕ) → IsStart C ws → (x : Place) → IsPlace C.ring x →
+    Content P C (unit_of P C h) Nothing x (slice_index ws (index C.ring x))
 opened P C h may ws start x place =
     let same : begun (unit_of P C h).tenants ≡ unit_of P C h = λ i. record { tenants = (unit_of P C h).tenants; fresh = sym may.begun i } in
     subst (λ U. Content P C U Nothing x (slice_index ws (index C.ring x))) same (content P C (unit_of P C h).tenants may.may.none ws start x place)

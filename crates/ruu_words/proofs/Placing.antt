@@ -1,5 +1,6 @@
 -- Each place has an index of its own.
-use Rattle.std.proofs.Common.{◌≡◌, ◌≢◌, ◌⊎◌, ℕ, ◌+◌, ◌*◌, ◌<◌, ◌≤◌, List, length, slice_index, slice_set, sym, refl, ap, ◌∙◌, inl, inr, ⊎_elim, arith, mul-le-mul_right, suc, suc-mul, get_or-set_same, get_or-set_other}
+use Rattle.std.proofs.Common.{◌≡◌, ◌≢◌, ◌⊎◌, ℕ, ◌+◌, ◌*◌, ◌<◌, ◌≤◌, List, length, slice_index, slice_set, sym, refl, ap, ◌∙◌, inl, inr, ⊎_elim, arith, mul-le-mul_right, suc, suc-mul, get_or-set_same}
+use Rattle.std.proofs.Common.{get_or-set_other}
 use mathlib.Core.Logic.{dite}
 use native.Mathlib.Decide.{ℕ_discrete, dec_lt}
 use Rattle.inorder.specs.declared.history.Source.{Source}

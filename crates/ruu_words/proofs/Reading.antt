@@ -73,7 +73,8 @@ module _ (P : Program) (C : Sizes) (h : List Entry) (legal : IsLegal P C h) wher
       ap (λ z. last_of z t.station) split ∙ last_live t t (older ws x.r) (younger ws x.r) live refl (subst AreApart split (stands P C (taken_of h) allowed).apart)
 
   -- and no tenant in progress is of its station
-  draft_apart : (index predicted : ℕ) (first second : Supply) → MayLet P C U index predicted first second → (p : ℕ) (t : Tenant) → at us p ≡ Some t → t.standing ≡ Live → t.station ≢ (new_tenant P C U index predicted first second).station
+  draft_apart : (index predicted : ℕ) (first second : Supply) → MayLet P C U index predicted first second → (p : ℕ) (t : Tenant) → at us p ≡ Some t → t.standing ≡ Live →
+      t.station ≢ (new_tenant P C U index predicted first second).station
   draft_apart index predicted first second may p t is live =
       let n : Tenant = new_tenant P C U index predicted first second in
       let x = recent_at U p t is (live_is_recent P C h legal p t is live) in
@@ -84,7 +85,8 @@ module _ (P : Program) (C : Sizes) (h : List Entry) (legal : IsLegal P C h) wher
       (stands P C (taken_of h) allowed).placed in
       all_mid (IsElsewhere n) t (older ws x.r) (younger ws x.r) (subst (AllByRecursion (IsElsewhere n)) (split_at ws x.r t x.is) all) live
 
-  with_draft : (index predicted : ℕ) (first second : Supply) → MayLet P C U index predicted first second → (p : ℕ) (t : Tenant) → at us p ≡ Some t → t.standing ≡ Live → last_of (new_tenant P C U index predicted first second ∷ recent U) t.station ≡ Some t
+  with_draft : (index predicted : ℕ) (first second : Supply) → MayLet P C U index predicted first second → (p : ℕ) (t : Tenant) → at us p ≡ Some t → t.standing ≡ Live →
+      last_of (new_tenant P C U index predicted first second ∷ recent U) t.station ≡ Some t
   with_draft index predicted first second may p t is live =
       let n : Tenant = new_tenant P C U index predicted first second in
       let off = ne_eqb n.station t.station (λ e. draft_apart index predicted first second may p t is live (sym e)) in
@@ -129,7 +131,8 @@ module _ (P : Program) (C : Sizes) (h : List Entry) (legal : IsLegal P C h) wher
       go false = record { tagged_all = tagged P C (taken_of h) allowed; there = of_recent }
 
   -- an operand word with the tag of a tenant of the station is that tenant's
-  pub its_operand : (W : List Tenant) → Among W → (s : ℕ) (k : Source) (n : ℕ) → IsOperand (operand_word W s k) n → (p : ℕ) (t : Tenant) → at us p ≡ Some t → is_old U p ≡ false → t.station ≡ s → t.tag ≡ tag_of n → IsOperandOf (record { tag = t.tag; value = (operand k t).value }) n
+  pub its_operand : (W : List Tenant) → Among W → (s : ℕ) (k : Source) (n : ℕ) → IsOperand (operand_word W s k) n → (p : ℕ) (t : Tenant) → at us p ≡ Some t → is_old U p ≡ false → t.station ≡ s →
+      t.tag ≡ tag_of n → IsOperandOf (record { tag = t.tag; value = (operand k t).value }) n
   its_operand W a s k n word p t is new station_is tag_is = go (last_of W s) refl word
     where
       go : (o : Option Tenant) → last_of W s ≡ o → IsOperand (operand_word_of k o) n → IsOperandOf (record { tag = t.tag; value = (operand k t).value }) n
@@ -145,7 +148,8 @@ module _ (P : Program) (C : Sizes) (h : List Entry) (legal : IsLegal P C h) wher
           found l t e = cc e
 
   -- with another tag, the tenant is not live
-  pub not_live : (d : Draft) → IsDraft P C U d → (s : ℕ) (k : Source) (n : ℕ) → IsOperand (operand_word (recent (operand_unit P C U d k)) s k) n → (p : ℕ) (t : Tenant) → at us p ≡ Some t → t.station ≡ s → t.tag ≢ tag_of n → t.standing ≢ Live
+  pub not_live : (d : Draft) → IsDraft P C U d → (s : ℕ) (k : Source) (n : ℕ) → IsOperand (operand_word (recent (operand_unit P C U d k)) s k) n → (p : ℕ) (t : Tenant) → at us p ≡ Some t →
+      t.station ≡ s → t.tag ≢ tag_of n → t.standing ≢ Live
   not_live d draft s k n word p t is station_is ne live =
       let last = operand_last d k draft p t is live in
       let w : IsOperand (operand_word_of k (Some t)) n = subst (λ o. IsOperand (operand_word_of k o) n) (ap (last_of (recent (operand_unit P C U d k))) (sym station_is) ∙ last) word in
@@ -194,7 +198,8 @@ module _ (P : Program) (C : Sizes) where
         };
       })
 
-  pub source_plan : (id : ℕ) (v : View) (s g p : ℕ) (k : Source) → v.role ≡ Worker → IsTenant (unit_of P C v.seen) p s g (IsNext P k) → WasOpen P C v.seen p → Plans P C id v (Operand s k) (λ n. n) (ReadsSource P C s g k)
+  pub source_plan : (id : ℕ) (v : View) (s g p : ℕ) (k : Source) → v.role ≡ Worker → IsTenant (unit_of P C v.seen) p s g (IsNext P k) → WasOpen P C v.seen p →
+      Plans P C id v (Operand s k) (λ n. n) (ReadsSource P C s g k)
   source_plan id v s g p k role ready before between d legal same apart caller mine draft n small content =
       let h : List Entry = between ++ v.seen in
       let worker : IsUnit id = subst (λ r. IsCaller r id) role caller in
@@ -206,7 +211,22 @@ module _ (P : Program) (C : Sizes) where
       let w = its_operand P C h legal (recent (operand_unit P C (unit_of P C h) d k)) (among P C h legal d k) s k n content p t now.is now.new now.station_is (now.tag_is ∙ sym tag) in
       dite (ℕ_discrete (state_of n) 2)
       (λ there. looks P C id h d legal draft (Operand s k) n content (ReadsSource P C s g k n)
-      (inl (tag, there, record { p = p; tenant = record { tenant = t; is = now.is; new = now.new; station_is = now.station_is; tag_is = now.tag_is; fact = delivered t.tag (operand k t).value n w there }; added = refl })))
+      (inl (
+        tag,
+        there,
+        record {
+          p = p;
+          tenant = record {
+            tenant = t;
+            is = now.is;
+            new = now.new;
+            station_is = now.station_is;
+            tag_is = now.tag_is;
+            fact = delivered t.tag (operand k t).value n w there;
+          };
+          added = refl;
+        },
+      )))
       (λ not. let waiting = least P k t now.fact (waits t.tag (operand k t).value n w not) in
       tells P C id h d legal draft (Operand s k) n (Waiting p k) (worker, was, record { tenant = t; is = now.is; fact = waiting }) content (ReadsSource P C s g k n)
       (inr (inl (tag, not, record { p = p; tenant = record { tenant = t; is = now.is; new = now.new; station_is = now.station_is; tag_is = now.tag_is; fact = waiting }; added = refl })))))

@@ -34,7 +34,8 @@ module _ (P : Program) (C : Sizes) where
       (λ U by s b may ok q. ⊎_elim (λ c. load_stays P C U by s b may ok p a val c) (λ x. inr (gone_stays P C U by s may p x)) q)
       more seen legal same none can
 
-  pub settle_plan : (id : ℕ) (v : View) (s g p a val old new : ℕ) → v.role ≡ Back → IsStation (live_word g (Addr a)) old → IsStation (live_word g (Done val)) new → IsTenant (unit_of P C v.seen) p s g IsAny
+  pub settle_plan : (id : ℕ) (v : View) (s g p a val old new : ℕ) → v.role ≡ Back → IsStation (live_word g (Addr a)) old → IsStation (live_word g (Done val)) new →
+      IsTenant (unit_of P C v.seen) p s g IsAny
       → CanLoad P (unit_of P C v.seen) p a val ⊎ IsStale (unit_of P C v.seen) p
       → Plans P C id v (Station s) (λ n. either (n == old) new n) (Settles P C s g old)
   settle_plan id v s g p a val old new role old_is new_is named can between d legal same apart caller mine draft n small content =
@@ -62,7 +63,14 @@ module _ (P : Program) (C : Sizes) where
       subst (λ x. Plan P C id h d (Station x) new (Settles P C s g old n)) at_s
       (changes P C id h d legal draft p Load t tt (inr tt) is_back (record { tenant = t; is = c.is; may = c.may }) c.is new
       (still_live t.standing (suc t.tag) t.tag (Done (load_value P (older U.tenants p) t)) (Some (load_value P (older U.tenants p) t)) new c.may.live fits)
-      (Settles P C s g old n) (inl (hit, record { p = p; tenant = record { tenant = t; is = c.is; new = live_is_recent P C h legal p t c.is c.may.live; station_is = at_s; tag_is = tag; fact = tt }; added = refl }))))
+      (Settles P C s g old n) (inl (
+        hit,
+        record {
+          p = p;
+          tenant = record { tenant = t; is = c.is; new = live_is_recent P C h legal p t c.is c.may.live; station_is = at_s; tag_is = tag; fact = tt };
+          added = refl;
+        },
+      ))))
       (λ (x : IsStale U p). absurd (apart_from (sym here.0 ∙ (ap (λ (z : Tenant). z.standing) (one_at P C h legal p i.tenant x.tenant i.is x.is) ∙ x.fact))))
       now)
       (λ miss. ⊎_elim

@@ -147,7 +147,8 @@ module _ (P : Program) (C : Sizes) (h : List Entry) (legal : IsLegal P C h) wher
       ne here.state
 
   -- a live word with the tag of a recent tenant of the station is that tenant's
-  pub the_tenant : (p s g n : ℕ) (t : Tenant) → at us p ≡ Some t → is_old U p ≡ false → t.station ≡ s → t.tag ≡ g → IsStation (station_word C (recent U) s) n → state_of n ≢ 0 → tag_of n ≡ g → (t.standing ≡ Live) × IsStation (live_word t.tag t.fate) n
+  pub the_tenant : (p s g n : ℕ) (t : Tenant) → at us p ≡ Some t → is_old U p ≡ false → t.station ≡ s → t.tag ≡ g → IsStation (station_word C (recent U) s) n → state_of n ≢ 0 → tag_of n ≡ g →
+      (t.standing ≡ Live) × IsStation (live_word t.tag t.fate) n
   the_tenant p s g n t is recent e tag w ne tagged =
       let l = live_last C U s n w ne in
       let same : p ≡ l.p = one_tag p l.p t l.t is l.is recent l.new (e ∙ sym l.station) (tag ∙ (sym tagged ∙ (live_state l.t.tag n l.t.fate l.word).0)) in

@@ -80,17 +80,21 @@ module _ (P : Program) (C : Sizes) where
   -- what the back has seen, and others keep, where nothing is renewed
   pub back_stays : (Q : UpdateUnit → Type 0) → ((U : UpdateUnit) (by : ℕ) (s : Step) → IsNotBacks s → Allowed P C U by s → IsSound P U.tenants → Q U → Q (applied P C U by s))
       → (more seen : List Entry) → IsLegal P C (more ++ seen) → renewals (more ++ seen) ≡ renewals seen → own back more ≡ [] → Q (unit_of P C seen) → Q (unit_of P C (more ++ seen))
-  back_stays Q keeps more seen legal same none q = unit_lasts_here P C back Q (λ U by s other plain theirs a ok x. keeps U by s (not_backs C U by s plain theirs other) a ok x) more seen legal same none q
+  back_stays Q keeps more seen legal same none q = unit_lasts_here P C back Q (λ U by s other plain theirs a ok x. keeps U by s (not_backs C U by s plain theirs other) a ok x) more seen legal same
+      none q
 
   -- a fact of a tenant that each step keeps
-  pub fact_stays : (p : ℕ) (Fact : Tenant → Type 0) → ((by : ℕ) (step : Step) (t t' : Tenant) → Goes by step t t' → Fact t → Fact t') → (more seen : List Entry) → IsLegal P C (more ++ seen) → Has (unit_of P C seen) p Fact → Has (unit_of P C (more ++ seen)) p Fact
+  pub fact_stays : (p : ℕ) (Fact : Tenant → Type 0) → ((by : ℕ) (step : Step) (t t' : Tenant) → Goes by step t t' → Fact t → Fact t') → (more seen : List Entry) → IsLegal P C (more ++ seen) →
+      Has (unit_of P C seen) p Fact → Has (unit_of P C (more ++ seen)) p Fact
   fact_stays p Fact keeps more seen legal i = unit_lasts P C (λ U. Has U p Fact)
       (λ U by step a ok q. let m = goes P C U by step a ok p q.tenant q.is in record { tenant = m.tenant; is = m.is; fact = keeps by step q.tenant m.tenant m.goes q.fact })
       more seen legal i
 
   -- so its place
-  pub place_stays : (p : ℕ) (t : Tenant) (more seen : List Entry) → IsLegal P C (more ++ seen) → at (unit_of P C seen).tenants p ≡ Some t → Has (unit_of P C (more ++ seen)) p (λ u. (u.station ≡ t.station) × (u.tag ≡ t.tag))
-  place_stays p t more seen legal is = fact_stays p (λ u. (u.station ≡ t.station) × (u.tag ≡ t.tag)) (λ by step x y m f. (m.station ∙ f.0, m.tag ∙ f.1)) more seen legal (record { tenant = t; is = is; fact = (refl, refl) })
+  pub place_stays : (p : ℕ) (t : Tenant) (more seen : List Entry) → IsLegal P C (more ++ seen) → at (unit_of P C seen).tenants p ≡ Some t →
+      Has (unit_of P C (more ++ seen)) p (λ u. (u.station ≡ t.station) × (u.tag ≡ t.tag))
+  place_stays p t more seen legal is = fact_stays p (λ u. (u.station ≡ t.station) × (u.tag ≡ t.tag)) (λ by step x y m f. (m.station ∙ f.0, m.tag ∙ f.1)) more seen legal
+      (record { tenant = t; is = is; fact = (refl, refl) })
 
   -- It has this name, and more is true of it
   abbrev IsAs : (s g : ℕ) → (Tenant → Type 0) → Tenant → Type 0
@@ -100,24 +104,28 @@ module _ (P : Program) (C : Sizes) where
   as_named p s g Fact U i = record { tenant = i.tenant; is = i.is; fact = (i.station_is, i.tag_is, i.fact) }
 
   -- and it was let since the last renewal, where nothing is renewed
-  since : (p s g : ℕ) (Fact : Tenant → Type 0) (more seen : List Entry) → IsLegal P C (more ++ seen) → renewals (more ++ seen) ≡ renewals seen → IsTenant (unit_of P C seen) p s g Fact → Has (unit_of P C (more ++ seen)) p (IsAs s g Fact) → IsTenant (unit_of P C (more ++ seen)) p s g Fact
+  since : (p s g : ℕ) (Fact : Tenant → Type 0) (more seen : List Entry) → IsLegal P C (more ++ seen) → renewals (more ++ seen) ≡ renewals seen → IsTenant (unit_of P C seen) p s g Fact →
+      Has (unit_of P C (more ++ seen)) p (IsAs s g Fact) → IsTenant (unit_of P C (more ++ seen)) p s g Fact
   since p s g Fact more seen legal same i now =
       let new : is_old (unit_of P C (more ++ seen)) p ≡ false = old_same P C more seen legal same p ∙ i.new in
       record { tenant = now.tenant; is = now.is; new = new; station_is = now.fact.0; tag_is = now.fact.1; fact = now.fact.2 }
 
   -- a fact of a named tenant that each step keeps
-  pub tenant_stays : (p s g : ℕ) (Fact : Tenant → Type 0) → ((by : ℕ) (step : Step) (t t' : Tenant) → Goes by step t t' → Fact t → Fact t') → (more seen : List Entry) → IsLegal P C (more ++ seen) → renewals (more ++ seen) ≡ renewals seen
+  pub tenant_stays : (p s g : ℕ) (Fact : Tenant → Type 0) → ((by : ℕ) (step : Step) (t t' : Tenant) → Goes by step t t' → Fact t → Fact t') → (more seen : List Entry) → IsLegal P C (more ++ seen) →
+      renewals (more ++ seen) ≡ renewals seen
       → IsTenant (unit_of P C seen) p s g Fact → IsTenant (unit_of P C (more ++ seen)) p s g Fact
   tenant_stays p s g Fact keeps more seen legal same i = since p s g Fact more seen legal same i
       (fact_stays p (IsAs s g Fact) (λ by step t t' m f. (m.station ∙ f.0, m.tag ∙ f.1, keeps by step t t' m f.2)) more seen legal (as_named p s g Fact (unit_of P C seen) i))
 
-  pub any_stays : (p s g : ℕ) (more seen : List Entry) → IsLegal P C (more ++ seen) → renewals (more ++ seen) ≡ renewals seen → IsTenant (unit_of P C seen) p s g IsAny → IsTenant (unit_of P C (more ++ seen)) p s g IsAny
+  pub any_stays : (p s g : ℕ) (more seen : List Entry) → IsLegal P C (more ++ seen) → renewals (more ++ seen) ≡ renewals seen → IsTenant (unit_of P C seen) p s g IsAny →
+      IsTenant (unit_of P C (more ++ seen)) p s g IsAny
   any_stays p s g more seen legal same i = tenant_stays p s g IsAny (λ by step t t' m f. tt) more seen legal same i
 
   -- the same of what the steps of other callers keep
   pub tenant_stays_apart : (id p s g : ℕ) (Fact : Tenant → Type 0)
       → ((U : UpdateUnit) (by : ℕ) (step : Step) (t t' : Tenant) → by ≢ id → IsTheirs C U by step → Allowed P C U by step → Goes by step t t' → Fact t → Fact t')
-      → (more seen : List Entry) → IsLegal P C (more ++ seen) → renewals (more ++ seen) ≡ renewals seen → own id more ≡ [] → IsTenant (unit_of P C seen) p s g Fact → IsTenant (unit_of P C (more ++ seen)) p s g Fact
+      → (more seen : List Entry) → IsLegal P C (more ++ seen) → renewals (more ++ seen) ≡ renewals seen → own id more ≡ [] → IsTenant (unit_of P C seen) p s g Fact →
+      IsTenant (unit_of P C (more ++ seen)) p s g Fact
   tenant_stays_apart id p s g Fact keeps more seen legal same none i = since p s g Fact more seen legal same i (unit_lasts_apart P C id (λ U. Has U p (IsAs s g Fact))
       (λ U by step other theirs a ok q. let m = goes P C U by step a ok p q.tenant q.is in
       record { tenant = m.tenant; is = m.is; fact = (m.goes.station ∙ q.fact.0, m.goes.tag ∙ q.fact.1, keeps U by step q.tenant m.tenant other theirs a m.goes q.fact.2) })
@@ -130,7 +138,8 @@ module _ (P : Program) (C : Sizes) where
     pub predicted : t.predicted ≡ u.predicted
 
   -- a tenant that is open was open before, with the same instruction: so an info word that was read in between is its own
-  pub opened_before : (p s g : ℕ) (more seen : List Entry) → IsLegal P C (more ++ seen) → renewals (more ++ seen) ≡ renewals seen → (i : IsTenant (unit_of P C seen) p s g IsAny) → (j : IsTenant (unit_of P C (more ++ seen)) p s g IsOpen) → IsSince i.tenant j.tenant
+  pub opened_before : (p s g : ℕ) (more seen : List Entry) → IsLegal P C (more ++ seen) → renewals (more ++ seen) ≡ renewals seen → (i : IsTenant (unit_of P C seen) p s g IsAny) →
+      (j : IsTenant (unit_of P C (more ++ seen)) p s g IsOpen) → IsSince i.tenant j.tenant
   opened_before p s g more seen legal same i j =
       let k = tenant_stays p s g (IsSince i.tenant) goes_on more seen legal same (record { tenant = i.tenant; is = i.is; new = i.new; station_is = i.station_is; tag_is = i.tag_is; fact = record { opens = λ o. o; index = refl; predicted = refl } }) in
       subst (IsSince i.tenant) (one k.tenant j.tenant (sym k.is ∙ j.is)) k.fact

@@ -1,5 +1,6 @@
 -- Cutting a view in two, and joining two.
-use Rattle.std.proofs.Common.{◌≡◌, ◌≢◌, ℕ, zero, suc, ◌+◌, ◌*◌, ◌<◌, ◌≤◌, List, [], ◌∷◌, ◌++◌, length, set, sym, refl, ap, ◌∙◌, subst, inl, inr, ◌⊎◌, ⊎_elim, arith, append-nil, length-append, length-set}
+use Rattle.std.proofs.Common.{◌≡◌, ◌≢◌, ℕ, zero, suc, ◌+◌, ◌*◌, ◌<◌, ◌≤◌, List, [], ◌∷◌, ◌++◌, length, set, sym, refl, ap, ◌∙◌, subst, inl, inr, ◌⊎◌, ⊎_elim, arith, append-nil, length-append}
+use Rattle.std.proofs.Common.{length-set}
 use mathlib.Core.Option.{some, some-injective, some-ne-none}
 use lib.ListN.{get_elem?}
 use Rattle.atomic_table.specs.Table.{Joins, Splits, State}
@@ -82,9 +83,11 @@ module _ (P : Program) (C : Sizes) (opening : List Entry) where
       apart_at i j n a b (IsLeft e f) (IsRight e' f') ne la lb x y = q.apart (subst (λ (z : View). IsAlive z.role) (sym f') lb) n (subst (λ z. IsOf z n) (sym f) x) (subst (λ z. IsOf z n) (sym f') y)
       apart_at i j n a b (IsElse e f) (IsLeft e' f') ne la lb x y = k.apart i id n a v f here e la live x (left_of n (subst (λ z. IsOf z n) (sym f') y))
       apart_at i j n a b (IsElse e f) (IsElse e' f') ne la lb x y = k.apart i j n a b f f' ne la lb x y
-      apart_at i j n a b (IsElse e f) (IsRight e' f') ne la lb x y = k.apart i id n a v f here e la live x (inr (q.given (subst (λ (z : View). IsAlive z.role) (sym f') lb) n (subst (λ z. IsOf z n) (sym f') y)))
+      apart_at i j n a b (IsElse e f) (IsRight e' f') ne la lb x y = k.apart i id n a v f here e la live x
+          (inr (q.given (subst (λ (z : View). IsAlive z.role) (sym f') lb) n (subst (λ z. IsOf z n) (sym f') y)))
       apart_at i j n a b (IsRight e f) (IsLeft e' f') ne la lb x y = q.apart (subst (λ (z : View). IsAlive z.role) (sym f) la) n (subst (λ z. IsOf z n) (sym f') y) (subst (λ z. IsOf z n) (sym f) x)
-      apart_at i j n a b (IsRight e f) (IsElse e' f') ne la lb x y = k.apart id j n v b here f' (λ o. e' (sym o)) live lb (inr (q.given (subst (λ (z : View). IsAlive z.role) (sym f) la) n (subst (λ z. IsOf z n) (sym f) x))) y
+      apart_at i j n a b (IsRight e f) (IsElse e' f') ne la lb x y = k.apart id j n v b here f' (λ o. e' (sym o)) live lb
+          (inr (q.given (subst (λ (z : View). IsAlive z.role) (sym f) la) n (subst (λ z. IsOf z n) (sym f) x))) y
       apart_at i j n a b (IsRight e f) (IsRight e' f') ne la lb x y = ne (e ∙ sym e')
 
       fits_at : (i : ℕ) (a : View) → Where s.views id L R i a → Fits opening h a
@@ -142,7 +145,8 @@ module _ (P : Program) (C : Sizes) (opening : List Entry) where
         }
 
   -- The first seat is cut into the front's and the back's
-  pub splits_back : (id : ℕ) (v : View) → v.role ≡ Start → v.heirs ≡ record { first = 1; every = 1 } → Splits (Keeps P C opening) id v (view Front v.by (without_first v.heirs) v.seen v.draft) (view Back v.heirs.first nobody v.seen Nothing)
+  pub splits_back : (id : ℕ) (v : View) → v.role ≡ Start → v.heirs ≡ record { first = 1; every = 1 } →
+      Splits (Keeps P C opening) id v (view Front v.by (without_first v.heirs) v.seen v.draft) (view Back v.heirs.first nobody v.seen Nothing)
   splits_back id v is are = splits id v Front Back (without_first v.heirs) v.heirs.first nobody (subst IsAlive (sym is) tt) (λ caller above.
       let one : v.heirs.first ≡ 1 = ap (λ (z : Heirs). z.first) are in
       let step : v.heirs.every ≡ 1 = ap (λ (z : Heirs). z.every) are in
@@ -162,7 +166,8 @@ module _ (P : Program) (C : Sizes) (opening : List Entry) where
       first_is heirs = omega arith
 
   -- The first unit's is cut from the front's
-  pub splits_first : (id : ℕ) (v : View) → v.role ≡ Front → v.heirs ≡ record { first = 2; every = 1 } → Splits (Keeps P C opening) id v (view v.role v.by nobody v.seen v.draft) (view Worker v.heirs.first (without_first v.heirs) v.seen Nothing)
+  pub splits_first : (id : ℕ) (v : View) → v.role ≡ Front → v.heirs ≡ record { first = 2; every = 1 } →
+      Splits (Keeps P C opening) id v (view v.role v.by nobody v.seen v.draft) (view Worker v.heirs.first (without_first v.heirs) v.seen Nothing)
   splits_first id v is are = splits id v v.role Worker nobody v.heirs.first (without_first v.heirs) (subst IsAlive (sym is) tt) (λ caller above.
       let two : v.heirs.first ≡ 2 = ap (λ (z : Heirs). z.first) are in
       let step : v.heirs.every ≡ 1 = ap (λ (z : Heirs). z.every) are in
@@ -182,7 +187,8 @@ module _ (P : Program) (C : Sizes) (opening : List Entry) where
       first_is heirs = omega arith
 
   -- A unit's is cut into two units'
-  pub splits_unit : (id : ℕ) (v : View) → v.role ≡ Worker → 1 ≤ v.heirs.every → Splits (Keeps P C opening) id v (view v.role v.by (half v.heirs) v.seen v.draft) (view Worker v.heirs.first (other_half v.heirs) v.seen Nothing)
+  pub splits_unit : (id : ℕ) (v : View) → v.role ≡ Worker → 1 ≤ v.heirs.every → Splits (Keeps P C opening) id v (view v.role v.by (half v.heirs) v.seen v.draft)
+      (view Worker v.heirs.first (other_half v.heirs) v.seen Nothing)
   splits_unit id v is least = splits id v v.role Worker (half v.heirs) v.heirs.first (other_half v.heirs) (subst IsAlive (sym is) tt) (λ caller above.
       let unit : 2 ≤ v.by = subst (λ r. IsCaller r v.by) is caller in
       let below = above least in
@@ -229,7 +235,8 @@ was_alive views i u x a = subst IsAlive (sym x.role) a
 was_of : (views : List View) (i n : ℕ) (u : View) → (x : WasAt views i u) → IsOf u n → IsOf x.before n
 was_of views i n u x o = ⊎_elim (λ (e : n ≡ u.by). inl (e ∙ sym x.by_is)) (λ (h : IsHeir u.heirs n). inr (subst (λ z. IsHeir z n) (sym x.heirs_are) h)) o
 
-was_at : (views : List View) (id : ℕ) (v : View) (other : ℕ) (w : View) → get_elem? views id ≡ some v → (i : ℕ) (u : View) → get_elem? (set (set views id (informed v w)) other (view Spent 0 nobody [] Nothing)) i ≡ some u → IsAlive u.role → WasAt views i u
+was_at : (views : List View) (id : ℕ) (v : View) (other : ℕ) (w : View) → get_elem? views id ≡ some v → (i : ℕ) (u : View) →
+    get_elem? (set (set views id (informed v w)) other (view Spent 0 nobody [] Nothing)) i ≡ some u → IsAlive u.role → WasAt views i u
 was_at views id v other w here i u e alive = ⊎_elim
     (λ (t : (i ≡ other) × (view Spent 0 nobody [] Nothing ≡ u)). absurd (subst (λ (x : View). IsAlive x.role) (sym t.1) alive))
     (λ (t : (i ≢ other) × (get_elem? (set views id (informed v w)) i ≡ some u)). ⊎_elim

@@ -3,7 +3,8 @@ use Rattle.std.proofs.Common.{◌≡◌, ℕ, cond, List, [], ◌∷◌, ◌++�
 use Rattle.instructions.specs.Programs.{Program}
 use Rattle.inorder.specs.declared.history.Entry.{Entry}
 use Rattle.inorder.specs.declared.history.Event.{Event}
-use Rattle.inorder.specs.History.{Adds, entry, own}
+use Rattle.inorder.specs.History.{entry, own}
+use Rattle.inorder.specs.OneHistory.{Adds}
 use Rattle.inorder.specs.Unit.{Sizes}
 use Rattle.inorder.proofs.Histories.{own-append}
 use Rattle.ruu_words.specs.declared.rule.Draft.{Draft}

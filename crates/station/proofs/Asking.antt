@@ -15,7 +15,8 @@ use Rattle.inorder.specs.declared.history.Source.TheVariants.{First, Second}
 use Rattle.inorder.specs.declared.history.Step.{Step}
 use Rattle.inorder.specs.declared.history.Step.TheVariants.{On}
 use Rattle.inorder.specs.Callers.{CanAsk, HasAsked, HasMade, IsLastAt}
-use Rattle.inorder.specs.History.{Adds, IsLegal, entry, front, own, unit_of, renewals}
+use Rattle.inorder.specs.History.{IsLegal, entry, front, own, unit_of, renewals}
+use Rattle.inorder.specs.OneHistory.{Adds}
 use Rattle.inorder.specs.Legal.{Allowed, applied, changed}
 use Rattle.inorder.specs.Replies.{Has, IsAskedInTime, IsDelivered}
 use Rattle.inorder.specs.Steps.{delivered, linked}

@@ -13,7 +13,8 @@ use Rattle.inorder.specs.declared.history.Source.{Source}
 use Rattle.inorder.specs.declared.history.Source.TheVariants.{First, Second}
 use Rattle.inorder.specs.declared.history.Step.TheVariants.{On}
 use Rattle.inorder.specs.Callers.{HasMade, IsServed}
-use Rattle.inorder.specs.History.{Adds, IsLegal, IsUnitOrBack, entry, taken_of, unit_of, renewals}
+use Rattle.inorder.specs.History.{IsLegal, IsUnitOrBack, entry, taken_of, unit_of, renewals}
+use Rattle.inorder.specs.OneHistory.{Adds}
 use Rattle.inorder.specs.Legal.{Allowed}
 use Rattle.inorder.specs.Replies.{Has, IsDelivered}
 use Rattle.inorder.specs.Steps.{delivered}

@@ -4,7 +4,8 @@ use Rattle.std.proofs.Math.Nat.{mod-add-mod}
 use Rattle.instructions.specs.Programs.{Program}
 use Rattle.inorder.specs.declared.history.Entry.{Entry}
 use Rattle.inorder.specs.declared.history.Event.{Event}
-use Rattle.inorder.specs.History.{Adds, IsLegal, entry, front, own, taken_of, unit_of}
+use Rattle.inorder.specs.History.{IsLegal, entry, front, own, taken_of, unit_of}
+use Rattle.inorder.specs.OneHistory.{Adds}
 use Rattle.inorder.specs.Replies.{last_tag}
 use Rattle.inorder.specs.StationWords.{station_word}
 use Rattle.inorder.specs.Tenants.{on_path}

@@ -16,7 +16,8 @@ use Rattle.inorder.specs.declared.history.Source.TheVariants.{First, Second}
 use Rattle.inorder.specs.declared.history.Step.{Step}
 use Rattle.inorder.specs.declared.history.Step.TheVariants.{On}
 use Rattle.inorder.specs.Callers.{IsReady}
-use Rattle.inorder.specs.History.{Adds, IsLegal, StartsWith, entry, unit_of, renewals}
+use Rattle.inorder.specs.History.{IsLegal, StartsWith, entry, unit_of, renewals}
+use Rattle.inorder.specs.OneHistory.{Adds}
 use Rattle.inorder.specs.Legal.{applied, change_at}
 use Rattle.inorder.specs.Replies.{Has, IsOpen, job_of, last_tag, needed}
 use Rattle.inorder.specs.Tenants.{Busy, IsThere, Live, Tenant, kind_of, missing_of, needs, operand, operand_value}

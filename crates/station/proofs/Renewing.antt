@@ -8,7 +8,8 @@ use Rattle.inorder.specs.declared.history.Event.TheVariants.{Does}
 use Rattle.inorder.specs.declared.history.Step.{Step}
 use Rattle.inorder.specs.declared.history.Step.TheVariants.{Let, On, Renew}
 use Rattle.inorder.specs.Callers.{GoesOn, is_retired}
-use Rattle.inorder.specs.History.{Adds, IsLegal, MayAdd, StartsWith, back, front, own, unit_of}
+use Rattle.inorder.specs.History.{IsLegal, MayAdd, StartsWith, back, front, own, unit_of}
+use Rattle.inorder.specs.OneHistory.{Adds}
 use Rattle.inorder.specs.Legal.{Allowed, applied}
 use Rattle.inorder.specs.Steps.{IsNoRetiredStop}
 use Rattle.inorder.specs.Tenants.{IsNotLive}

@@ -21,7 +21,8 @@ use Rattle.inorder.specs.declared.history.Source.TheVariants.{First, Second}
 use Rattle.inorder.specs.declared.history.Step.{Step}
 use Rattle.inorder.specs.declared.history.Step.TheVariants.{On}
 use Rattle.inorder.specs.Callers.{CanLeave, GoesOn, IsHead, head_station, is_retired, stands_retired}
-use Rattle.inorder.specs.History.{Adds, IsLegal, back, entry, own, taken_of, unit_of, renewals}
+use Rattle.inorder.specs.History.{IsLegal, back, entry, own, taken_of, unit_of, renewals}
+use Rattle.inorder.specs.OneHistory.{Adds}
 use Rattle.inorder.specs.Legal.{Allowed, May, applied, change_at, changed}
 use Rattle.inorder.specs.Replies.{last_tag}
 use Rattle.inorder.specs.StationWords.{IsFree, left_value, live_word}

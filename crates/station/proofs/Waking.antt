@@ -15,7 +15,8 @@ use Rattle.inorder.specs.declared.history.Refusal.{Refusal}
 use Rattle.inorder.specs.declared.history.Refusal.TheVariants.{Stale}
 use Rattle.inorder.specs.declared.history.Source.{Source}
 use Rattle.inorder.specs.declared.history.Step.TheVariants.{On}
-use Rattle.inorder.specs.History.{Adds, IsLegal, entry, renewals, unit_of}
+use Rattle.inorder.specs.History.{IsLegal, entry, renewals, unit_of}
+use Rattle.inorder.specs.OneHistory.{Adds}
 use Rattle.inorder.specs.Replies.{Has}
 use Rattle.inorder.specs.Unit.{Sizes}
 use Rattle.inorder.proofs.Histories.{adds_on, legal_before, unit_lasts}

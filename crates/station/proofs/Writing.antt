@@ -19,7 +19,8 @@ use Rattle.inorder.specs.declared.history.Refusal.TheVariants.{Stale}
 use Rattle.inorder.specs.declared.history.Source.TheVariants.{First, Second}
 use Rattle.inorder.specs.declared.history.Step.TheVariants.{On}
 use Rattle.inorder.specs.Callers.{CanLoad, HasJob}
-use Rattle.inorder.specs.History.{Adds, IsLegal, back, entry, own, unit_of, renewals}
+use Rattle.inorder.specs.History.{IsLegal, back, entry, own, unit_of, renewals}
+use Rattle.inorder.specs.OneHistory.{Adds}
 use Rattle.inorder.specs.Legal.{Allowed, changed}
 use Rattle.inorder.specs.Memory.{load_value}
 use Rattle.inorder.specs.Replies.{IsNamed, IsSquashed, IsStale, JobFields, last_tag}

@@ -1,6 +1,6 @@
 //! Reading calls.
 ghost use Rattle.std.specs.Prelude.{◌≡◌, ◌<◌, ◌≤◌, []};
-ghost use Rattle.inorder.specs.History.{Adds};
+ghost use Rattle.inorder.specs.OneHistory.{Adds};
 ghost use Rattle.inorder.specs.Replies.{last_tag};
 ghost use Rattle.ruu_words.specs.Places.{IsPlace};
 ghost use Rattle.ruu_words.specs.Rule.{IsCaller};

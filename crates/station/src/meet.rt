@@ -1,6 +1,7 @@
 //! What one caller has seen reaches another.
 ghost use Rattle.std.specs.Prelude.{◌≡◌, ◌≢◌, []};
-ghost use Rattle.inorder.specs.History.{Adds, StartsWith, own};
+ghost use Rattle.inorder.specs.History.{StartsWith, own};
+ghost use Rattle.inorder.specs.OneHistory.{Adds};
 ghost use Rattle.ruu_words.specs.Rule.{half, other_half};
 ghost use Rattle.station.specs.Seats.{Caller, IsSame};
 

@@ -1,5 +1,6 @@
 -- A creator that has made nothing, and the instruction at an address.
-use Rattle.std.proofs.Common.{◌≡◌, ◌≢◌, ℕ, zero, suc, ◌-◌, ◌/◌, ◌<◌, Bool, true, false, cond, ◌&&◌, eqb, ltb, List, [], ◌∷◌, length, Option, Some, None, refl, sym, ap, ◌∙◌, subst, arith, eqb-true, true≢false}
+use Rattle.std.proofs.Common.{◌≡◌, ◌≢◌, ℕ, zero, suc, ◌-◌, ◌/◌, ◌<◌, Bool, true, false, cond, ◌&&◌, eqb, ltb, List, [], ◌∷◌, length, Option, Some, None, refl, sym, ap, ◌∙◌, subst, arith, eqb-true}
+use Rattle.std.proofs.Common.{true≢false}
 use Rattle.std.specs.Prelude.{slice_get, unwrap_or}
 use Rattle.std.specs.List.{AllByRecursion}
 use Rattle.std.proofs.lemmas.Option.{slice_get_within, get_or_from_slice_get}
@@ -11,7 +12,8 @@ use Rattle.instructions.specs.declared.op.Kind.TheVariants.{Links}
 use Rattle.instructions.specs.declared.stop.Outcome.{Outcome}
 use Rattle.instructions.specs.declared.stop.Outcome.TheVariants.{Address, Next, Stop as Stops}
 use Rattle.inorder.specs.Steps.{IsNoRetiredStop, MayComeFrom}
-use Rattle.inorder.specs.Tenants.{Addr, Busy, Done, Fate, Live, Miss, Open, Retired, Squashed, Standing, Stopped, Tenant, computed, destination_of, instr, is_live, kind_of, on_path, operand_value, stands_on_path}
+use Rattle.inorder.specs.Tenants.{Addr, Busy, Done, Fate, Live, Miss, Open, Retired, Squashed, Standing, Stopped, Tenant, computed, destination_of, instr, is_live, kind_of, on_path, operand_value}
+use Rattle.inorder.specs.Tenants.{stands_on_path}
 use Rattle.inorder.specs.Unit.{Sizes, UpdateUnit, at, creator, how_many, last_writer, made_by, newest_of, next_station, older, recent, value_of, younger}
 use Rattle.inorder.proofs.Basics.{Below, eqb_less, eqb_self, last_writer_below, split_at}
 use Rattle.inorder.proofs.SettledRegisters.{made_leaves, retired_leaves, writer_if}
@@ -115,7 +117,8 @@ writer_live P ts t r s n on w none = go t.standing refl
         absurd (cc)
 
 -- a source whose creator has made nothing may come from it
-pub pending_may : (P : Program) (C : Sizes) (U : UpdateUnit) (n : Tenant) (r : ℕ) → IsSound P U.tenants → Stands C U.tenants → U.fresh ≡ length U.tenants → AllByRecursion IsNoRetiredStop U.tenants → how_many is_live U.tenants < C.ring
+pub pending_may : (P : Program) (C : Sizes) (U : UpdateUnit) (n : Tenant) (r : ℕ) → IsSound P U.tenants → Stands C U.tenants → U.fresh ≡ length U.tenants → AllByRecursion IsNoRetiredStop U.tenants →
+    how_many is_live U.tenants < C.ring
     → n.station ≡ next_station C (recent U) → value_of U.tenants (creator P U.tenants r) ≡ None → MayComeFrom P U (next_station C (recent U)) (creator P U.tenants r)
 pending_may P C V n zero s st never ns room at none = let no : Some 0 ≡ None = none in absurd (cc)
 pending_may P C V n (suc r) s st never ns room at none = go (ltb (suc r) 34) refl
@@ -148,5 +151,6 @@ pending_may P C V n (suc r) s st never ns room at none = go (ltb (suc r) 34) ref
         }
 
     go : (b : Bool) → ltb (suc r) 34 ≡ b → MayComeFrom P V (next_station C (recent V)) (cond (ltb (suc r) 34) (last_writer P U (suc r)) None)
-    go true e = subst (λ b. MayComeFrom P V (next_station C (recent V)) (cond b (last_writer P U (suc r)) None)) (sym e) (from (last_writer P U (suc r)) refl (ap (λ b. value_of U (cond b (last_writer P U (suc r)) None)) (sym e) ∙ none))
+    go true e = subst (λ b. MayComeFrom P V (next_station C (recent V)) (cond b (last_writer P U (suc r)) None)) (sym e)
+        (from (last_writer P U (suc r)) refl (ap (λ b. value_of U (cond b (last_writer P U (suc r)) None)) (sym e) ∙ none))
     go false e = let no : Some 0 ≡ None = ap (λ b. value_of U (cond b (last_writer P U (suc r)) None)) (sym e) ∙ none in absurd (cc)

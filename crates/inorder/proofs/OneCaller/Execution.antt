@@ -35,7 +35,8 @@ record Keeps (t u : Tenant) : Type 0 where
   pub second : u.second ≡ t.second
   pub free : IsNotBusy u.fate
 
-act_run : (P : Program) (C : Sizes) (by : ℕ) (U : UpdateUnit) (ys : List Tenant) (t u : Tenant) (ts : List Tenant) (steps : List Step) → IsSound P (ys ++ t ∷ ts) → AreStill (ys ++ t ∷ ts) → AllByRecursion IsNoRetiredStop (ys ++ t ∷ ts) → t.standing ≡ Live → Keeps t u → Leads P C by (with_tenants U (ys ++ t ∷ ts)) steps (with_tenants U (ys ++ u ∷ ts)) → ActRun P C by U ys t u ts steps
+act_run : (P : Program) (C : Sizes) (by : ℕ) (U : UpdateUnit) (ys : List Tenant) (t u : Tenant) (ts : List Tenant) (steps : List Step) → IsSound P (ys ++ t ∷ ts) → AreStill (ys ++ t ∷ ts) →
+    AllByRecursion IsNoRetiredStop (ys ++ t ∷ ts) → t.standing ≡ Live → Keeps t u → Leads P C by (with_tenants U (ys ++ t ∷ ts)) steps (with_tenants U (ys ++ u ∷ ts)) → ActRun P C by U ys t u ts steps
 act_run P C by U ys t u ts steps s h ns live k l = go (all_run P C by U [] V (asked_middle P ys t u ts k.first k.second k.free sound' h))
   where
     V : List Tenant
@@ -77,7 +78,8 @@ claimed by t = record t { fate = Busy by }
 abbrev pub ran_steps : List Tenant → List Step
 ran_steps ts = On (length ts) Finish ∷ On (length ts) Claim ∷ []
 
-pub ran_run : (P : Program) (C : Sizes) (by : ℕ) (U : UpdateUnit) (ys : List Tenant) (t : Tenant) (ts : List Tenant) → IsSound P (ys ++ t ∷ ts) → AreStill (ys ++ t ∷ ts) → AllByRecursion IsNoRetiredStop (ys ++ t ∷ ts) → MayClaim P t → ActRun P C by U ys t (finished (claimed by t) (computed P t)) ts (ran_steps ts)
+pub ran_run : (P : Program) (C : Sizes) (by : ℕ) (U : UpdateUnit) (ys : List Tenant) (t : Tenant) (ts : List Tenant) → IsSound P (ys ++ t ∷ ts) → AreStill (ys ++ t ∷ ts) →
+    AllByRecursion IsNoRetiredStop (ys ++ t ∷ ts) → MayClaim P t → ActRun P C by U ys t (finished (claimed by t) (computed P t)) ts (ran_steps ts)
 ran_run P C by U ys t ts s h ns m = act_run P C by U ys t u ts (ran_steps ts) s h ns m.live (record { standing = k.standing; first = k.first; second = k.second; free = k.free }) both
   where
     u : Tenant
@@ -87,15 +89,20 @@ ran_run P C by U ys t ts s h ns m = act_run P C by U ys t u ts (ran_steps ts) s 
     k = finished_keeps (claimed by t) (computed P t)
 
     claim : Leads P C by (with_tenants U (ys ++ t ∷ ts)) (On (length ts) Claim ∷ []) (with_tenants U (ys ++ claimed by t ∷ ts))
-    claim = leads_once P C by (with_tenants U (ys ++ t ∷ ts)) (with_tenants U (ys ++ claimed by t ∷ ts)) (On (length ts) Claim) (allowed_middle P C by U Claim ys t ts m) (changed_middle P C by U Claim ys t ts)
+    claim = leads_once P C by (with_tenants U (ys ++ t ∷ ts)) (with_tenants U (ys ++ claimed by t ∷ ts)) (On (length ts) Claim) (allowed_middle P C by U Claim ys t ts m)
+        (changed_middle P C by U Claim ys t ts)
 
     finish : Leads P C by (with_tenants U (ys ++ claimed by t ∷ ts)) (On (length ts) Finish ∷ []) (with_tenants U (ys ++ u ∷ ts))
-    finish = leads_once P C by (with_tenants U (ys ++ claimed by t ∷ ts)) (with_tenants U (ys ++ u ∷ ts)) (On (length ts) Finish) (allowed_middle P C by U Finish ys (claimed by t) ts (record { live = m.live; fate = refl })) (changed_middle P C by U Finish ys (claimed by t) ts)
+    finish = leads_once P C by (with_tenants U (ys ++ claimed by t ∷ ts)) (with_tenants U (ys ++ u ∷ ts)) (On (length ts) Finish)
+        (allowed_middle P C by U Finish ys (claimed by t) ts (record { live = m.live; fate = refl })) (changed_middle P C by U Finish ys (claimed by t) ts)
 
     both : Leads P C by (with_tenants U (ys ++ t ∷ ts)) (ran_steps ts) (with_tenants U (ys ++ u ∷ ts))
-    both = leads_more P C by (with_tenants U (ys ++ t ∷ ts)) (with_tenants U (ys ++ claimed by t ∷ ts)) (with_tenants U (ys ++ u ∷ ts)) (On (length ts) Finish ∷ []) (On (length ts) Claim ∷ []) claim finish
+    both = leads_more P C by (with_tenants U (ys ++ t ∷ ts)) (with_tenants U (ys ++ claimed by t ∷ ts)) (with_tenants U (ys ++ u ∷ ts)) (On (length ts) Finish ∷ []) (On (length ts) Claim ∷ []) claim
+        finish
 
-pub loaded_run : (P : Program) (C : Sizes) (by : ℕ) (U : UpdateUnit) (ys : List Tenant) (t : Tenant) (ts : List Tenant) → IsSound P (ys ++ t ∷ ts) → AreStill (ys ++ t ∷ ts) → AllByRecursion IsNoRetiredStop (ys ++ t ∷ ts) → MayLoad P ts t → ActRun P C by U ys t (settled P ts t) ts (On (length ts) Load ∷ [])
+pub loaded_run : (P : Program) (C : Sizes) (by : ℕ) (U : UpdateUnit) (ys : List Tenant) (t : Tenant) (ts : List Tenant) → IsSound P (ys ++ t ∷ ts) → AreStill (ys ++ t ∷ ts) →
+    AllByRecursion IsNoRetiredStop (ys ++ t ∷ ts) → MayLoad P ts t → ActRun P C by U ys t (settled P ts t) ts (On (length ts) Load ∷ [])
 loaded_run P C by U ys t ts s h ns m =
     act_run P C by U ys t (settled P ts t) ts (On (length ts) Load ∷ []) s h ns m.live (record { standing = refl; first = refl; second = refl; free = tt })
-    (leads_once P C by (with_tenants U (ys ++ t ∷ ts)) (with_tenants U (ys ++ settled P ts t ∷ ts)) (On (length ts) Load) (allowed_middle P C by U Load ys t ts m) (changed_middle P C by U Load ys t ts))
+    (leads_once P C by (with_tenants U (ys ++ t ∷ ts)) (with_tenants U (ys ++ settled P ts t ∷ ts)) (On (length ts) Load) (allowed_middle P C by U Load ys t ts m)
+    (changed_middle P C by U Load ys t ts))

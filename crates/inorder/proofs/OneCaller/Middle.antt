@@ -35,7 +35,8 @@ replaced_middle (y ∷ ys) t ts u =
     ap (λ b. cond b (u ∷ (ys ++ t ∷ ts)) (y ∷ replaced (ys ++ t ∷ ts) (length ts) u)) (past ys t ts)
     ∙ ap (λ x. y ∷ x) (replaced_middle ys t ts u)
 
-pub allowed_middle : (P : Program) (C : Sizes) (by : ℕ) (U : UpdateUnit) (act : Act) (ys : List Tenant) (t : Tenant) (ts : List Tenant) → May P by act ys t ts → Allowed P C (with_tenants U (ys ++ t ∷ ts)) by (On (length ts) act)
+pub allowed_middle : (P : Program) (C : Sizes) (by : ℕ) (U : UpdateUnit) (act : Act) (ys : List Tenant) (t : Tenant) (ts : List Tenant) → May P by act ys t ts →
+    Allowed P C (with_tenants U (ys ++ t ∷ ts)) by (On (length ts) act)
 allowed_middle P C by U act ys t ts m =
     record {
       tenant = t;
@@ -43,7 +44,8 @@ allowed_middle P C by U act ys t ts m =
       may = subst (λ x. May P by act x t (older (ys ++ t ∷ ts) (length ts))) (sym (younger_middle ys t ts)) (subst (May P by act ys t) (sym (older_middle ys t ts)) m);
     }
 
-pub changed_middle : (P : Program) (C : Sizes) (by : ℕ) (U : UpdateUnit) (act : Act) (ys : List Tenant) (t : Tenant) (ts : List Tenant) → applied P C (with_tenants U (ys ++ t ∷ ts)) by (On (length ts) act) ≡ with_tenants U (ys ++ changed P by act t ts ∷ ts)
+pub changed_middle : (P : Program) (C : Sizes) (by : ℕ) (U : UpdateUnit) (act : Act) (ys : List Tenant) (t : Tenant) (ts : List Tenant) →
+    applied P C (with_tenants U (ys ++ t ∷ ts)) by (On (length ts) act) ≡ with_tenants U (ys ++ changed P by act t ts ∷ ts)
 changed_middle P C by U act ys t ts = ap (with_tenants U) list
   where
     list : change_at P (ys ++ t ∷ ts) by (length ts) act (at (ys ++ t ∷ ts) (length ts)) ≡ ys ++ changed P by act t ts ∷ ts

@@ -43,7 +43,8 @@ left_more : (zs : List Tenant) (y : Tenant) → AllByRecursion IsNotLive zs → 
 left_more [] y a b = (b, tt)
 left_more (z ∷ zs) y a b = (a.0, left_more zs y a.1 b)
 
-squash_run : (P : Program) (C : Sizes) (by : ℕ) (U : UpdateUnit) (zs ys : List Tenant) (t : Tenant) (ts : List Tenant) (x : ℕ) → AllByRecursion IsNotLive zs → t.standing ≡ Live → t.fate ≡ Miss x → SquashRun P C by U zs ys t ts
+squash_run : (P : Program) (C : Sizes) (by : ℕ) (U : UpdateUnit) (zs ys : List Tenant) (t : Tenant) (ts : List Tenant) (x : ℕ) → AllByRecursion IsNotLive zs → t.standing ≡ Live → t.fate ≡ Miss x →
+    SquashRun P C by U zs ys t ts
 squash_run P C by U zs [] t ts x a live miss = record { steps = []; are = tt; leads = leads_nowhere P C by (with_tenants U (zs ++ t ∷ ts)); still = λ h. h; stops = λ h. h }
 squash_run P C by U zs (y ∷ ys) t ts x a live miss = go y.standing refl (λ u n. squash_run P C by U (zs ++ u ∷ []) ys t ts x (left_more zs u a n) live miss)
   where
@@ -93,7 +94,9 @@ squash_run P C by U zs (y ∷ ys) t ts x a live miss = go y.standing refl (λ u 
         is = ap (λ s. gone_by s y) e
 
         once : Leads P C by (with_tenants U (zs ++ y ∷ before)) (On (length before) Squash ∷ []) (with_tenants U (zs ++ u ∷ before))
-        once = leads_once P C by (with_tenants U (zs ++ y ∷ before)) (with_tenants U (zs ++ u ∷ before)) (On (length before) Squash) (allowed_middle P C by U Squash zs y before (record { live = e; youngest = a; p = length ts; miss = t; x = x; miss_at = at_middle ys t ts; miss_live = live; miss_fate = miss })) (changed_middle P C by U Squash zs y before)
+        once = leads_once P C by (with_tenants U (zs ++ y ∷ before)) (with_tenants U (zs ++ u ∷ before)) (On (length before) Squash)
+            (allowed_middle P C by U Squash zs y before (record { live = e; youngest = a; p = length ts; miss = t; x = x; miss_at = at_middle ys t ts; miss_live = live; miss_fate = miss }))
+            (changed_middle P C by U Squash zs y before)
 
         ends : SquashRun P C by U (zs ++ u ∷ []) ys t ts → SquashRun P C by U zs (y ∷ ys) t ts
         ends r =

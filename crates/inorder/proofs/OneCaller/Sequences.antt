@@ -110,12 +110,14 @@ pub sound_on : (P : Program) (C : Sizes) (by : ℕ) (U : UpdateUnit) (steps : Li
 sound_on P C by U [] m s = s
 sound_on P C by U (x ∷ xs) m s = kept P C (run_on P C by U xs) by x (allowed_of P C (run_on P C by U xs) by x m.1) (sound_on P C by U xs m.0 s)
 
-commits_nothing : (P : Program) (C : Sizes) (by : ℕ) (U : UpdateUnit) (steps : List Step) → MayRun P C by U steps → IsSound P U.tenants → AllByRecursion IsNoRetire steps → committed P (run_on P C by U steps).tenants ≡ committed P U.tenants
+commits_nothing : (P : Program) (C : Sizes) (by : ℕ) (U : UpdateUnit) (steps : List Step) → MayRun P C by U steps → IsSound P U.tenants → AllByRecursion IsNoRetire steps →
+    committed P (run_on P C by U steps).tenants ≡ committed P U.tenants
 commits_nothing P C by U [] m s q = refl
 commits_nothing P C by U (x ∷ xs) m s q =
     by_others P C (run_on P C by U xs) by x (sound_on P C by U xs m.0 s) q.0 (allowed_of P C (run_on P C by U xs) by x m.1) ∙ commits_nothing P C by U xs m.0 s q.1
 
-pub committed_on : (P : Program) (C : Sizes) (by : ℕ) (U : UpdateUnit) (steps : List Step) (V : UpdateUnit) → Leads P C by U steps V → IsSound P U.tenants → AllByRecursion IsNoRetire steps → committed P V.tenants ≡ committed P U.tenants
+pub committed_on : (P : Program) (C : Sizes) (by : ℕ) (U : UpdateUnit) (steps : List Step) (V : UpdateUnit) → Leads P C by U steps V → IsSound P U.tenants → AllByRecursion IsNoRetire steps →
+    committed P V.tenants ≡ committed P U.tenants
 committed_on P C by U steps V l s q = ap (λ W. committed P W.tenants) (sym l.is) ∙ commits_nothing P C by U steps l.may s q
 
 pub squash_quiet : (s : Step) → IsSquash s → IsNoRetire s

@@ -16,7 +16,8 @@ use Rattle.inorder.specs.History.{IsLegal, back, front, unit_of}
 use Rattle.inorder.specs.Replies.{HasNoInstr, IsFull, IsLinkedSource}
 use Rattle.inorder.specs.Runs.{after, stop}
 use Rattle.inorder.specs.Unit.{Sizes}
-use Rattle.inorder.proofs.Runs.Examples.{all_walked, apart, at_let_not_linked, busy_not_open, computes_not_links, does, done_not_stop, less, live_not_retired, marks, none_open, refused, retired_not_live, some_apart, unit_2, unit_3}
+use Rattle.inorder.proofs.Runs.Examples.{all_walked, apart, at_let_not_linked, busy_not_open, computes_not_links, does, done_not_stop, less, live_not_retired, marks, none_open, refused}
+use Rattle.inorder.proofs.Runs.Examples.{retired_not_live, some_apart, unit_2, unit_3}
 
 -- addiu $1,$0,5 / addu $2,$1,$1 / break
 abbrev pub adds : Program

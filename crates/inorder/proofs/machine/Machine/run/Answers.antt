@@ -45,8 +45,11 @@ advance P before later limit e less h =
     let t = s.0 in
     let here : step P before.state ≡ Goes t = subst (λ Q. step Q before.state ≡ Goes t) e s.1 in
     let counted : t.count ≡ suc before.state.count = subst (IsMore before.state) here (by_fetch P before.state (instr_at P before.state.pc)) in
-    let left : limit - before.state.count ≡ suc (limit - t.count) = omega (arith, counted, less) in
-    (ap (λ m. m.program) s.2 ∙ e, ap (λ k. end_from P k before.state) left ∙ ap (end_after (end_from P (limit - t.count)) before.state) here ∙ sym (ap (λ m. end_from P (limit - m.state.count) m.state) s.2))
+    let left : limit - before.state.count ≡ suc (limit - t.count) = omega (arith, counted, less) in (
+      ap (λ m. m.program) s.2 ∙ e,
+      ap (λ k. end_from P k before.state) left ∙ ap (end_after (end_from P (limit - t.count)) before.state) here ∙
+          sym (ap (λ m. end_from P (limit - m.state.count) m.state) s.2),
+    )
 
 pub loop-self-preserved : goal.loop-self-preserved
 loop-self-preserved c =
