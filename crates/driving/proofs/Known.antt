@@ -6,7 +6,7 @@ use Rattle.inorder.specs.declared.history.Entry.{Entry}
 use Rattle.inorder.specs.declared.history.Event.{Event}
 use Rattle.inorder.specs.History.{IsLegal, IsUnit, StartsWith, back, entry, front, own, renewals}
 use Rattle.inorder.specs.OneHistory.{Adds}
-use Rattle.ruu_words.specs.Rule.{IsHeir}
+use Rattle.ruu_words.specs.Views.{IsHeir}
 use Rattle.station.specs.Seats.{Caller, TheCore}
 use Rattle.driving.specs.declared.seats.Seats.{Seats}
 use Rattle.driving.specs.Done.{GoesOn, HaveDone}

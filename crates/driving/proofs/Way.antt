@@ -14,7 +14,7 @@ use Rattle.inorder.specs.Steps.{MaySupply}
 use Rattle.inorder.specs.Tenants.{Tenant, kind_of, missing, missing_of, needs}
 use Rattle.inorder.specs.Unit.{Sizes, UpdateUnit, creator, front_pc, next_station, next_tag, recent, value_of}
 use Rattle.ruu_words.specs.Kinds.{IsTenant}
-use Rattle.ruu_words.specs.Rule.{IsHeir}
+use Rattle.ruu_words.specs.Views.{IsHeir}
 use Rattle.station.specs.declared.answers.Claim.{Claim}
 use Rattle.station.specs.declared.answers.Claim.TheVariants.{Job as Claimed}
 use Rattle.station.specs.declared.answers.Finish.{Finish}

@@ -36,7 +36,7 @@ use Rattle.ruu_words.specs.declared.rule.View.{View}
 use Rattle.ruu_words.specs.Content.{IsOperandOf}
 use Rattle.ruu_words.specs.Fields.{pack_link, state_of, value_of as value_in}
 use Rattle.ruu_words.specs.Kinds.{Answers, Asks, HasLink, IsAny, IsInTime, IsMade, IsTenant, IsUnmade, Questions}
-use Rattle.ruu_words.specs.Rule.{Grows}
+use Rattle.ruu_words.specs.Telling.{Grows}
 use Rattle.ruu_words.proofs.Asking.{answer_plan, path_on, question_plan}
 use Rattle.ruu_words.proofs.Delivery.{link_on}
 use Rattle.ruu_words.specs.Plans.{Plan, Plans}

@@ -31,7 +31,8 @@ use Rattle.ruu_words.specs.declared.rule.View.{View}
 use Rattle.ruu_words.specs.Content.{NamesLink}
 use Rattle.ruu_words.specs.Fields.{consumer_of, pack_link, producer_of, tag_of}
 use Rattle.ruu_words.specs.Kinds.{Delivers, Finds, HasLink, IsAny, IsTenant, ReadsLink}
-use Rattle.ruu_words.specs.Rule.{Grows, IsAlive, IsCaller}
+use Rattle.ruu_words.specs.Views.{IsAlive, IsCaller}
+use Rattle.ruu_words.specs.Telling.{Grows}
 use Rattle.ruu_words.proofs.Building.{marks}
 use Rattle.ruu_words.proofs.Delivery.{link_on}
 use Rattle.ruu_words.specs.Plans.{Plans}

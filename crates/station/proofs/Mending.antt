@@ -29,7 +29,7 @@ use Rattle.ruu_words.specs.declared.rule.View.{View}
 use Rattle.ruu_words.specs.Content.{IsStation}
 use Rattle.ruu_words.specs.Fields.{tag_of, value_of}
 use Rattle.ruu_words.specs.Kinds.{IsAny, IsTenant}
-use Rattle.ruu_words.specs.Rule.{Grows}
+use Rattle.ruu_words.specs.Telling.{Grows}
 use Rattle.ruu_words.proofs.Building.{changes}
 use Rattle.ruu_words.specs.Plans.{Plan, Plans}
 use Rattle.ruu_words.proofs.StationWords.{its_word, one_at, still_live}

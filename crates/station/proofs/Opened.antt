@@ -34,7 +34,7 @@ use Rattle.ruu_words.specs.declared.rule.View.{View}
 use Rattle.ruu_words.specs.Content.{IsInfoOf}
 use Rattle.ruu_words.specs.Fields.{half_of, index_of, predicted_of, state_of, tag_of, value_of}
 use Rattle.ruu_words.specs.Kinds.{Claims, Finds, IsAny, IsClosed, IsTenant, Peeks, ReadsInfo, ReadsSource, Rechecks, refuses}
-use Rattle.ruu_words.specs.Rule.{Grows}
+use Rattle.ruu_words.specs.Telling.{Grows}
 use Rattle.ruu_words.proofs.StationWords.{one_at, one_tag}
 use Rattle.ruu_words.proofs.Stays.{any_stays, tenant_stays, same_before}
 use Rattle.station.specs.declared.answers.Claim.{Claim as Answer}

@@ -52,7 +52,8 @@ use Rattle.ruu_words.specs.Content.{IsStation}
 use Rattle.ruu_words.specs.Fields.{half_of, index_of, state_of, tag_of, value_of}
 use Rattle.ruu_words.specs.Kinds.{Heads, IsAny, IsEarly, IsTenant, ReadsData, ReadsInfo, Tells, Writes}
 use Rattle.ruu_words.specs.States.{state_code}
-use Rattle.ruu_words.specs.Rule.{Grows, IsCaller}
+use Rattle.ruu_words.specs.Views.{IsCaller}
+use Rattle.ruu_words.specs.Telling.{Grows}
 use Rattle.ruu_words.proofs.Building.{tells}
 use Rattle.ruu_words.proofs.Ending.{data_plan, head_plan, over_plan}
 use Rattle.ruu_words.specs.Plans.{Plan, Plans}

@@ -24,7 +24,7 @@ use Rattle.inorder.proofs.Moves.{goes}
 use Rattle.ruu_words.specs.declared.place.Place.{Place}
 use Rattle.ruu_words.specs.declared.rule.View.{View}
 use Rattle.ruu_words.specs.Kinds.{Delivers, Finds, Finishes, IsAny, IsTenant, ReadsLink, Settles}
-use Rattle.ruu_words.specs.Rule.{Grows}
+use Rattle.ruu_words.specs.Telling.{Grows}
 use Rattle.ruu_words.proofs.Stays.{any_stays, same_before}
 use Rattle.station.specs.Carrying.{EndsWalk}
 use Rattle.station.specs.Steps.{Sees}

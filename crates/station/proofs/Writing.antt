@@ -40,7 +40,8 @@ use Rattle.ruu_words.specs.declared.place.Place.TheVariants.{Station}
 use Rattle.ruu_words.specs.Content.{IsStation}
 use Rattle.ruu_words.specs.Fields.{value_of}
 use Rattle.ruu_words.specs.Kinds.{Finds, Finishes, IsAny, IsTenant, Settles, refuses}
-use Rattle.ruu_words.specs.Rule.{Grows, IsCaller}
+use Rattle.ruu_words.specs.Views.{IsCaller}
+use Rattle.ruu_words.specs.Telling.{Grows}
 use Rattle.ruu_words.proofs.Settling.{load_lasts}
 use Rattle.ruu_words.proofs.StationWords.{its_word, one_at}
 use Rattle.ruu_words.proofs.Stays.{any_stays, same_before}

@@ -10,7 +10,7 @@ use Rattle.inorder.specs.Tenants.{Tenant}
 use Rattle.inorder.specs.Unit.{Sizes, front_pc, next_station, next_tag, recent}
 use Rattle.ruu_words.specs.declared.rule.Heirs.{Heirs}
 use Rattle.ruu_words.specs.Kinds.{IsTenant}
-use Rattle.ruu_words.specs.Rule.{IsHeir, half, other_half}
+use Rattle.ruu_words.specs.Views.{IsHeir, half, other_half}
 use Rattle.station.specs.declared.answers.Claim.{Claim}
 use Rattle.station.specs.declared.answers.Claim.TheVariants.{Job as Claimed}
 use Rattle.station.specs.declared.answers.Job.{Job}

@@ -10,7 +10,7 @@ use Rattle.inorder.specs.History.{MayAdd, StartsWith, back, front, unit_of}
 use Rattle.inorder.specs.OneHistory.{Adds}
 use Rattle.inorder.specs.Tenants.{IsNotLive}
 use Rattle.inorder.specs.Unit.{Sizes, UpdateUnit}
-use Rattle.ruu_words.specs.Rule.{renewed}
+use Rattle.ruu_words.specs.Openings.{renewed}
 use Rattle.station.specs.Making.{AreFirst}
 use Rattle.station.specs.Seats.{Caller, IsSame, TheCore}
 
