@@ -18,9 +18,7 @@ mod writeback;
 
 use atomic_table::{Play, Seat, Shared};
 pub(crate) use look::{look, read_info};
-pub(crate) use retire::{
-    Access, Leaving, look_at_head, read_data, retire_tenant, tell_over, tell_waiting,
-};
+pub(crate) use retire::{Access, Leaving};
 use ruu_words::Place;
 use ruu_words::rule::{OneHistory, Setup, View};
 
