@@ -25,6 +25,8 @@ use Rattle.station.specs.declared.steps.retire.Leaving.{Leaving}
 use Rattle.ruu_words.specs.declared.station.StationWord.{StationWord}
 use Rattle.station.specs.Retirement.{HasAccess, HasEnd, MayLeave}
 use Rattle.station.proofs.Numbers.{numbered_on}
+use Rattle.station.specs.Steps.{Sees}
+use Rattle.station.proofs.Seated.{seated_on}
 use Rattle.station.proofs.SameUnit.{Unit_of, of_seat, unit_at, unit_in}
 
 abbrev pub call_of : TheCore → View → ℕ → TheCall
@@ -124,6 +126,11 @@ leave_after {v} {w} {l} g = after (λ z. MayLeave z.0.program z.0.sizes w.view.s
 pub end_after : {v w : TheCall} {s : ℕ} {word : StationWord} → IsLater v w → HasEnd v.core.program v.core.sizes w.view.seen s word → HasEnd w.core.program w.core.sizes w.view.seen s word
 end_after {v} {w} {s} {word} g = after (λ z. HasEnd z.0.program z.0.sizes w.view.seen s word) g
 
+-- a look, of the seat before the call and behind it
+pub saw_at : (core : TheCore) {old new : View} {core' : TheCore} {lent lent' : ℕ} {v w : TheCall} → v ≡ call_of core old lent → call_of core' new lent' ≡ w → (x : Place) (n : ℕ) → Takes v w (λ P C. Sees P C v.view.by v.view x n)
+    → Grows core.program core.sizes old.by old new (Sees core.program core.sizes old.by old x n)
+saw_at core begins is x n took = subst (λ (z : TheCall × TheCall). Grows z.0.core.program z.0.core.sizes z.0.view.by z.0.view z.1.view (Sees z.0.core.program z.0.core.sizes z.0.view.by z.0.view x n)) (λ i. (begins i, sym is i)) took.grows
+
 -- A seat when a call begins with it, and when the call gives it back
 module _ {woken : ℕ} (id : TableId) (value : Setup) (by : ℕ) (heirs : Heirs) (seen : List Entry) (seat : Caller) (core : TheCore)
     (seen_as : record { core = core_of id value; by = by; heirs = heirs; seen = seen; woken = woken } ≡ seat) (here : seat.core ≡ core) where
@@ -185,3 +192,12 @@ module _ {woken : ℕ} (id : TableId) (value : Setup) (by : ℕ) (heirs : Heirs)
         inside = inside;
         knows = λ _. head;
       })
+
+  -- the seat that has looked at a word
+  pub look_back : (role : Role) {old : Me ℕ View} {lent : ℕ} {v w : TheCall} → v ≡ call_of core old.0 lent → {core' : TheCore} {t : Me ℕ View} {lent' : ℕ} {table : TableId} → IsCall core' role table t → call_of core' t.0 lent' ≡ w
+      → (x : Place) (n : ℕ) → Takes v w (λ P C. Sees P C v.view.by v.view x n) → {me : Me ℕ View} → me ≡ t → (station : ℕ) (over : Bool) → IsSeated value.program (sizes_of value) role old.0.by station over old
+      → IsSeated value.program (sizes_of value) role me.0.by station over me × IsNumbered (opening_of value) role me.0
+  look_back role {old} {lent} {v} {w} begins {core'} {t} {lent'} {table} inv is x n took {me} me_is station over s =
+      let was = seated_in role old.0.by station over old s in
+      given_back role old.0 lent v begins w took.same core' t lent' is table inv me me_is station over
+      (seated_on core.program core.sizes role old.0.by station over old t x n was (saw_at core begins is x n took) (inv.slots ∙ sym was.slots))
