@@ -3,6 +3,9 @@ pub mod States
 pub mod Places
 pub mod Laws
 pub mod Content
+pub mod Openings
+pub mod Views
 pub mod Rule
+pub mod Telling
 pub mod Plans
 pub mod Kinds

@@ -16,7 +16,10 @@ use Rattle.ruu_words.specs.declared.rule.Role.TheVariants.{Back, Front, Spent, S
 use Rattle.ruu_words.specs.declared.rule.Setup.{Setup}
 use Rattle.ruu_words.specs.declared.rule.View.{View}
 use Rattle.ruu_words.specs.Places.{IsPlace, index}
-use Rattle.ruu_words.specs.Rule.{Grows, IsAlive, IsCaller, Kept, Tells, Unborn, opening_of, sizes_of}
+use Rattle.ruu_words.specs.Openings.{opening_of, sizes_of}
+use Rattle.ruu_words.specs.Views.{IsAlive, IsCaller, Unborn}
+use Rattle.ruu_words.specs.Rule.{Kept}
+use Rattle.ruu_words.specs.Telling.{Grows, Tells}
 use Rattle.ruu_words.proofs.General.{allowed_at}
 use Rattle.station.specs.Calls.{IsCall, IsLater, IsLegalCall, MayTake, StepKind, Takes, TheCall, next_place}
 use Rattle.station.specs.Seats.{Caller, HasHeirs, IsAtHead, IsNumbered, IsSeated, TheCore, core_of}

@@ -17,7 +17,8 @@ use Rattle.ruu_words.specs.declared.rule.View.{View}
 use Rattle.inorder.specs.OperandWords.{OperandWord}
 use Rattle.ruu_words.specs.Kinds.{Lets}
 use Rattle.ruu_words.specs.Plans.{Plans}
-use Rattle.ruu_words.specs.Rule.{Grows, IsCaller}
+use Rattle.ruu_words.specs.Views.{IsCaller}
+use Rattle.ruu_words.specs.Telling.{Grows}
 use Rattle.station.specs.declared.answers.Ask.{Ask}
 use Rattle.station.specs.declared.answers.Claim.{Claim}
 use Rattle.station.specs.declared.answers.Finish.{Finish}

@@ -13,7 +13,9 @@ use Rattle.ruu_words.specs.declared.rule.Setup.{Setup}
 use Rattle.ruu_words.specs.declared.rule.View.{View}
 use Rattle.ruu_words.specs.Content.{Content, IsDraft}
 use Rattle.ruu_words.specs.Places.{words_for}
-use Rattle.ruu_words.specs.Rule.{Grows, IsCaller, Unborn, opening_of, sizes_of}
+use Rattle.ruu_words.specs.Openings.{opening_of, sizes_of}
+use Rattle.ruu_words.specs.Views.{IsCaller, Unborn}
+use Rattle.ruu_words.specs.Telling.{Grows}
 
 -- A word as it is at its point, with the let in progress there, which is the front's own
 pub record Sees (P : Program) (C : Sizes) (by : ℕ) (v : View) (x : Place) (n : ℕ) (h : List Entry) (d : Draft) (events : List Event) : Type 0 where

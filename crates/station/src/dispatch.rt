@@ -1,6 +1,7 @@
 //! Lets.
 ghost use Rattle.std.specs.Prelude.{◌≡◌, ◌<◌, ◌^◌, [], ◌∷◌};
-ghost use Rattle.inorder.specs.History.{Adds, unit_of};
+ghost use Rattle.inorder.specs.History.{unit_of};
+ghost use Rattle.inorder.specs.OneHistory.{Adds};
 ghost use Rattle.inorder.specs.Unit.{next_tag, recent};
 ghost use Rattle.ruu_words.specs.declared.rule.Draft.TheVariants.{Nothing};
 ghost use Rattle.station.specs.Calls.{IsLater, IsLetNow, MayLetNow, new_tag, next_place};

@@ -1,6 +1,7 @@
 use Rattle.std.proofs.Common.{◌≡◌, [], take}
 use Rattle.std.specs.List.{AllByRecursion}
-use Rattle.inorder.specs.History.{Adds, front, unit_of}
+use Rattle.inorder.specs.History.{front, unit_of}
+use Rattle.inorder.specs.OneHistory.{Adds}
 use Rattle.front.specs.Knows.{Knows}
 use Rattle.front.specs.Recoveries.{IsNoMiss}
 use Rattle.station.specs.Seats.{IsSame}

@@ -4,7 +4,7 @@ use Rattle.instructions.specs.declared.op.Half.{Half}
 use Rattle.ruu_words.specs.declared.rule.View.{View}
 use Rattle.ruu_words.specs.Fields.{half_of, index_of, predicted_of, state_of, tag_of}
 use Rattle.ruu_words.specs.Kinds.{IsAny, ReadsInfo, Rechecks}
-use Rattle.ruu_words.specs.Rule.{Grows}
+use Rattle.ruu_words.specs.Telling.{Grows}
 use Rattle.station.specs.Calls.{IsLater}
 use Rattle.station.proofs.Calls.{Of, joined, of_one, taken}
 use Rattle.station.specs.Claiming.{ClaimAnswers, HasSeen, IsOpenAs}

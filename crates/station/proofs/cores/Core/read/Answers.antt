@@ -1,7 +1,7 @@
 use Rattle.std.proofs.Common.{ℕ, List, [], sym, ap, subst, rules}
 use Rattle.inorder.specs.declared.history.Entry.{Entry}
-use Rattle.inorder.specs.History.{Adds}
-use Rattle.ruu_words.specs.Rule.{IsCaller}
+use Rattle.inorder.specs.OneHistory.{Adds}
+use Rattle.ruu_words.specs.Views.{IsCaller}
 use Rattle.station.specs.Seats.{Caller}
 use Rattle.station.specs.Steps.{Sees}
 use Rattle.station.proofs.Adding.{adds_these}

@@ -3,7 +3,8 @@ use Rattle.ruu_words.specs.declared.place.Place.TheVariants.{Station}
 use Rattle.ruu_words.specs.declared.rule.Role.TheVariants.{Back}
 use Rattle.ruu_words.specs.Fields.{tag_of, value_of}
 use Rattle.ruu_words.specs.Kinds.{IsAny, Settles}
-use Rattle.ruu_words.specs.Rule.{Grows, IsCaller}
+use Rattle.ruu_words.specs.Views.{IsCaller}
+use Rattle.ruu_words.specs.Telling.{Grows}
 use Rattle.station.specs.Steps.{Sees}
 use Rattle.station.specs.Carrying.{HasValueOf, HasWalked, OfTenant}
 use Rattle.station.specs.Seats.{TheCore}

@@ -4,7 +4,7 @@ use Rattle.inorder.specs.StationWords.{live_word}
 use Rattle.ruu_words.specs.Content.{IsStation}
 use Rattle.ruu_words.specs.Fields.{tag_of}
 use Rattle.ruu_words.specs.Kinds.{Finishes, fate_of}
-use Rattle.ruu_words.specs.Rule.{Grows}
+use Rattle.ruu_words.specs.Telling.{Grows}
 use Rattle.inorder.specs.History.{IsLegal}
 use Rattle.station.specs.Carrying.{HasCarried, HasMadeOf, OfTenant}
 use Rattle.station.specs.Seats.{TheCore}
