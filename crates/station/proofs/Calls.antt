@@ -22,8 +22,14 @@ use Rattle.ruu_words.specs.Rule.{Kept}
 use Rattle.ruu_words.specs.Telling.{Grows, Tells}
 use Rattle.ruu_words.proofs.General.{allowed_at}
 use Rattle.station.specs.Calls.{IsCall, IsLater, IsLegalCall, MayTake, StepKind, Takes, TheCall, next_place}
-use Rattle.station.specs.Seats.{Caller, HasHeirs, IsNumbered, IsSeated, TheCore, core_of}
+use Rattle.station.specs.Seats.{Caller, HasHeirs, IsAtHead, IsNumbered, IsSeated, TheCore, core_of}
+use Rattle.station.specs.declared.steps.retire.Access.{Access}
+use Rattle.station.specs.declared.steps.retire.Leaving.{Leaving}
+use Rattle.ruu_words.specs.declared.station.StationWord.{StationWord}
+use Rattle.station.specs.Retirement.{HasAccess, HasEnd, MayLeave}
 use Rattle.station.proofs.Numbers.{numbered_on}
+use Rattle.station.specs.Steps.{Sees}
+use Rattle.station.proofs.Seated.{seated_on}
 use Rattle.station.proofs.SameUnit.{Unit_of, of_seat, unit_at, unit_in}
 
 abbrev pub call_of : TheCore → View → ℕ → TheCall
@@ -110,8 +116,23 @@ caller_at {core} {me} {lent} {v} {role} t is = subst (λ (z : TheCall). IsCaller
 pub ring_at : (key : Setup) {table : TableId} {core : TheCore} {view : View} {lent ring : ℕ} {v : TheCall} → key.ring ≡ ring → core_of table key ≡ core → call_of core view lent ≡ v → ring ≡ v.core.sizes.ring
 ring_at key e here is = sym e ∙ (ap (λ (k : TheCore). k.sizes.ring) here ∙ ap (λ (z : TheCall). z.core.sizes.ring) is)
 
-pub program_at : (table : TableId) (key : Setup) (core : TheCore) → core_of table key ≡ core → (view : View) (lent : ℕ) (v : TheCall) → call_of core view lent ≡ v → (P : Program) → key.program ≡ P → P ≡ v.core.program
-program_at table key core here view lent v is P e = sym e ∙ (ap (λ (z : TheCore). z.program) here ∙ ap (λ (z : TheCall). z.core.program) is)
+pub program_at : (key : Setup) {table : TableId} {core : TheCore} {view : View} {lent : ℕ} {v : TheCall} {P : Program} → key.program ≡ P → core_of table key ≡ core → call_of core view lent ≡ v → P ≡ v.core.program
+program_at key e here is = sym e ∙ (ap (λ (k : TheCore). k.program) here ∙ ap (λ (z : TheCall). z.core.program) is)
+
+-- what the oldest live tenant can do, of the core as it is named later
+pub access_after : {v w : TheCall} {a : Access} → IsLater v w → HasAccess v.core.program v.core.sizes w.view.seen a → HasAccess w.core.program w.core.sizes w.view.seen a
+access_after {v} {w} {a} g = after (λ z. HasAccess z.0.program z.0.sizes w.view.seen a) g
+
+pub leave_after : {v w : TheCall} {l : Leaving} → IsLater v w → MayLeave v.core.program v.core.sizes w.view.seen l → MayLeave w.core.program w.core.sizes w.view.seen l
+leave_after {v} {w} {l} g = after (λ z. MayLeave z.0.program z.0.sizes w.view.seen l) g
+
+pub end_after : {v w : TheCall} {s : ℕ} {word : StationWord} → IsLater v w → HasEnd v.core.program v.core.sizes w.view.seen s word → HasEnd w.core.program w.core.sizes w.view.seen s word
+end_after {v} {w} {s} {word} g = after (λ z. HasEnd z.0.program z.0.sizes w.view.seen s word) g
+
+-- a look, of the seat before the call and behind it
+pub saw_at : (core : TheCore) {old new : View} {core' : TheCore} {lent lent' : ℕ} {v w : TheCall} → v ≡ call_of core old lent → call_of core' new lent' ≡ w → (x : Place) (n : ℕ) → Takes v w (λ P C. Sees P C v.view.by v.view x n)
+    → Grows core.program core.sizes old.by old new (Sees core.program core.sizes old.by old x n)
+saw_at core begins is x n took = subst (λ (z : TheCall × TheCall). Grows z.0.core.program z.0.core.sizes z.0.view.by z.0.view z.1.view (Sees z.0.core.program z.0.core.sizes z.0.view.by z.0.view x n)) (λ i. (begins i, sym is i)) took.grows
 
 -- A seat when a call begins with it, and when the call gives it back
 module _ {woken : ℕ} (id : TableId) (value : Setup) (by : ℕ) (heirs : Heirs) (seen : List Entry) (seat : Caller) (core : TheCore)
@@ -160,3 +181,26 @@ module _ {woken : ℕ} (id : TableId) (value : Setup) (by : ℕ) (heirs : Heirs)
   front_kept {old} {lent} {v} begins on inv is me_is station over s draft next =
       let was = seated_in Front old.0.by station over old s in
       front_back begins on inv is me_is station over (subst (λ (z : TheCall). station < z.core.sizes.ring) (sym begins) was.inside) draft (was.knows.2 ∙ (sym (ap next_place begins) ∙ sym next))
+
+  -- a back's seat: where the oldest live tenant stands
+  pub back_back : {old : View} {lent : ℕ} {v w : TheCall} → v ≡ call_of core old lent → IsLater v w → {core' : TheCore} {t : Me ℕ View} {lent' : ℕ} {table : TableId} → IsCall core' Back table t → call_of core' t.0 lent' ≡ w
+      → {me : Me ℕ View} → me ≡ t → (station : ℕ) (over : Bool) → station < core.sizes.ring → IsAtHead core.sizes (unit_of core.program core.sizes t.0.seen) station over
+      → IsSeated value.program (sizes_of value) Back me.0.by station over me × IsNumbered (opening_of value) Back me.0
+  back_back {old} {lent} {v} {w} begins on {core'} {t} {lent'} {table} inv is {me} me_is station over inside head =
+      let core_is : core' ≡ core = ap (λ (z : TheCall). z.core) is ∙ (on.core ∙ ap (λ (z : TheCall). z.core) begins) in
+      given_back Back old lent v begins w on core' t lent' is table inv me me_is station over (record {
+        role_is = inv.role_is;
+        slots = inv.slots;
+        legal = subst (λ (k : TheCore). IsLegal k.program k.sizes t.0.seen) core_is inv.legal;
+        inside = inside;
+        knows = λ _. head;
+      })
+
+  -- the seat that has looked at a word
+  pub look_back : (role : Role) {old : Me ℕ View} {lent : ℕ} {v w : TheCall} → v ≡ call_of core old.0 lent → {core' : TheCore} {t : Me ℕ View} {lent' : ℕ} {table : TableId} → IsCall core' role table t → call_of core' t.0 lent' ≡ w
+      → (x : Place) (n : ℕ) → Takes v w (λ P C. Sees P C v.view.by v.view x n) → {me : Me ℕ View} → me ≡ t → (station : ℕ) (over : Bool) → IsSeated value.program (sizes_of value) role old.0.by station over old
+      → IsSeated value.program (sizes_of value) role me.0.by station over me × IsNumbered (opening_of value) role me.0
+  look_back role {old} {lent} {v} {w} begins {core'} {t} {lent'} {table} inv is x n took {me} me_is station over s =
+      let was = seated_in role old.0.by station over old s in
+      given_back role old.0 lent v begins w took.same core' t lent' is table inv me me_is station over
+      (seated_on core.program core.sizes role old.0.by station over old t x n was (saw_at core begins is x n took) (inv.slots ∙ sym was.slots))

@@ -1,4 +1,3 @@
-pub mod Allowing
 pub mod Looks
 pub mod SameUnit
 pub mod Adding

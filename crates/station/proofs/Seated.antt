@@ -15,16 +15,14 @@ use Rattle.inorder.proofs.Sound.{IsSound}
 use Rattle.ruu_words.specs.declared.place.Place.{Place}
 use Rattle.ruu_words.specs.declared.rule.Role.{Role}
 use Rattle.ruu_words.specs.declared.rule.Role.TheVariants.{Back, Front, Spent, Start, Worker}
-use Rattle.ruu_words.specs.declared.rule.Setup.{Setup}
 use Rattle.ruu_words.specs.declared.rule.View.{View}
-use Rattle.ruu_words.specs.Openings.{sizes_of}
 use Rattle.ruu_words.specs.Views.{IsAlive, informed}
+use Rattle.ruu_words.specs.Telling.{Grows}
 use Rattle.ruu_words.proofs.Stays.{front_stays}
 use Rattle.station.specs.Seats.{IsSeated, Knows}
-use Rattle.station.specs.Steps.{Grown, Sees}
+use Rattle.station.specs.Steps.{Sees}
 use Rattle.station.proofs.Adding.{adds_these}
 use Rattle.station.proofs.Backs.{back_on}
-use Rattle.station.proofs.SameUnit.{Unit_of, unit_at}
 use Rattle.inorder.proofs.Recent.{counts_same}
 
 -- only the front changes the path
@@ -62,38 +60,28 @@ is_begun P C role by station over me s e = go role s.knows (sym s.role_is ∙ e)
     go Spent k e = absurd k
 
 -- a seat after a look
-pub seated_on : (key : Setup) (role : Role) (by station : ℕ) (over : Bool) (v w : Me ℕ View) (x : Place) (n : ℕ) → IsSeated key.program (sizes_of key) role by station over v
-    → Grown key by v w (Sees key.program (sizes_of key) by v.0 x n) → IsSeated key.program (sizes_of key) role by station over w
-seated_on key role by station over v w x n s g =
-    let P = key.program in
-    let C = sizes_of key in
-    let seen : w.0.seen ≡ g.grows.between ++ v.0.seen = g.grows.is ∙ ap (λ es. map (entry by) es ++ (g.grows.between ++ v.0.seen)) g.grows.kind.none in
-    let legal : IsLegal P C (g.grows.between ++ v.0.seen) = subst (IsLegal P C) seen g.grows.legal in
+pub seated_on : (P : Program) (C : Sizes) (role : Role) (by station : ℕ) (over : Bool) (v w : Me ℕ View) (x : Place) (n : ℕ) → IsSeated P C role by station over v
+    → Grows P C by v.0 w.0 (Sees P C by v.0 x n) → w.1 ≡ v.1 → IsSeated P C role by station over w
+seated_on P C role by station over v w x n s g slots =
+    let seen : w.0.seen ≡ g.between ++ v.0.seen = g.is ∙ ap (λ es. map (entry by) es ++ (g.between ++ v.0.seen)) g.kind.none in
+    let legal : IsLegal P C (g.between ++ v.0.seen) = subst (IsLegal P C) seen g.legal in
     record {
-      role_is = g.grows.role ∙ s.role_is;
-      slots = g.slots ∙ s.slots;
-      legal = g.grows.legal;
+      role_is = g.role ∙ s.role_is;
+      slots = slots ∙ s.slots;
+      legal = g.legal;
       inside = s.inside;
       knows = go role s.knows seen legal;
     }
   where
-    go : (r : Role) → Knows key.program (sizes_of key) r by station over v.0 → w.0.seen ≡ g.grows.between ++ v.0.seen → IsLegal key.program (sizes_of key) (g.grows.between ++ v.0.seen) → Knows key.program (sizes_of key) r by station over w.0
+    go : (r : Role) → Knows P C r by station over v.0 → w.0.seen ≡ g.between ++ v.0.seen → IsLegal P C (g.between ++ v.0.seen) → Knows P C r by station over w.0
     go Start k e l = absurd k
     go Front k e l =
-        let P = key.program in
-        let C = sizes_of key in
-        let none : own front g.grows.between ≡ [] = subst (λ i. own i g.grows.between ≡ []) k.0 g.grows.not_own in
-        let stay = front_stays P C (λ U. station ≡ next_station C (recent U)) (λ U b st ok a sound q. q ∙ sym (next_stays P C U b st ok a sound)) g.grows.between v.0.seen l none k.2 in
-        (k.0, g.grows.kind.mine k.0 ∙ k.1, stay ∙ ap (λ h. next_station C (recent (unit_of P C h))) (sym e))
-    go Back k e l = back_on key.program (sizes_of key) by station over v.0.seen w.0.seen [] (adds_these key.program (sizes_of key) by v.0 w.0 (Sees key.program (sizes_of key) by v.0 x n) [] g.grows g.grows.kind.none) tt k
+        let none : own front g.between ≡ [] = subst (λ i. own i g.between ≡ []) k.0 g.not_own in
+        let stay = front_stays P C (λ U. station ≡ next_station C (recent U)) (λ U b st ok a sound q. q ∙ sym (next_stays P C U b st ok a sound)) g.between v.0.seen l none k.2 in
+        (k.0, g.kind.mine k.0 ∙ k.1, stay ∙ ap (λ h. next_station C (recent (unit_of P C h))) (sym e))
+    go Back k e l = back_on P C by station over v.0.seen w.0.seen [] (adds_these P C by v.0 w.0 (Sees P C by v.0 x n) [] g g.kind.none) tt k
     go Worker k e l = tt
     go Spent k e l = absurd k
-
--- the same, where the seat's program and sizes are those of the table
-pub seated_at : (z : Unit_of) (key : Setup) (role : Role) (by station : ℕ) (over : Bool) (v w : Me ℕ View) (x : Place) (n : ℕ) → z ≡ unit_at key → IsSeated z.0 z.1 role by station over v
-    → Grown key by v w (Sees key.program (sizes_of key) by v.0 x n) → IsSeated z.0 z.1 role by station over w
-seated_at z key role by station over v w x n e s g =
-    subst (λ (y : Unit_of). IsSeated y.0 y.1 role by station over w) (sym e) (seated_on key role by station over v w x n (subst (λ (y : Unit_of). IsSeated y.0 y.1 role by station over v) e s) g)
 
 pub front_begun : (r : Role) → r ≡ Front → r ≢ Start
 front_begun r e f = cc

@@ -23,6 +23,7 @@ use Rattle.station.specs.declared.answers.Ask.{Ask}
 use Rattle.station.specs.declared.answers.Claim.{Claim}
 use Rattle.station.specs.declared.answers.Finish.{Finish}
 use Rattle.station.specs.declared.answers.Job.{Job}
+use Rattle.station.specs.declared.answers.Retire.{Retire}
 use Rattle.station.specs.declared.answers.Settle.{Settle}
 use Rattle.station.specs.declared.answers.Tenant.{Tenant as Letting}
 use Rattle.station.specs.Asking.{AskAnswers}
@@ -30,6 +31,7 @@ use Rattle.station.specs.Carrying.{HasCarried, HasMadeOf, HasValueOf, HasWalked,
 use Rattle.station.specs.Claiming.{ClaimAnswers, HasSeen, SourceAnswers}
 use Rattle.station.specs.Letting.{IsLetOut, MayLetOut, supply_of}
 use Rattle.station.specs.Recovery.{IsMended, IsSquashed}
+use Rattle.station.specs.Retirement.{HeadGoesOn, RetireAnswers}
 use Rattle.station.specs.Seats.{IsNumbered, TheCore}
 use Rattle.station.specs.Waking.{Wakes}
 use Rattle.station.specs.Writeback.{FinishAnswers, HasTenant, SettleAnswers}
@@ -177,3 +179,12 @@ SquashesAt v w station tag =
 -- The tenant was let
 abbrev pub IsLetNow : TheCall → TheCall → Letting → Type 0
 IsLetNow v w t = IsLetOut v.core.program v.core.sizes v.view.by t v.view.seen w.view.seen
+
+-- What a retirement answers
+abbrev pub AnswersRetire : TheCall → TheCall → Retire → Type 0
+AnswersRetire v w r =
+    RetireAnswers v.core.program v.core.sizes v.view.by v.view.seen w.view.seen r
+
+-- Behind a retirement from this station the oldest live tenant stands at the next one
+abbrev pub HeadMoves : TheCall → ℕ → Retire → Type 0
+HeadMoves w station r = HeadGoesOn w.core.sizes (seen_unit w) station r

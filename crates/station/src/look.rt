@@ -8,12 +8,14 @@ ghost use Rattle.station.specs.Looking.{SeesInfo, SeesOperand, SeesStation, Sees
 ghost use Rattle.station.specs.Seats.{IsSame};
 
 use crate::answers::{Seen, SourceState};
+use crate::call::Call;
 use crate::cores::Core;
 use crate::seat::{BackSeat, Part, SeatOf};
-use crate::steps;
 use crate::words::{source_state, tag_in, value_in};
+use atomic_table::Seat;
 use inorder::history::Source;
 use instructions::Half;
+use ruu_words::rule::View;
 use ruu_words::{InfoWord, Place, StationState, StationWord};
 
 impl Core {
@@ -28,7 +30,11 @@ impl Core {
         ensures history { Adds self.now.program self.now.sizes seat.old.by seat.old.seen seat.new.seen [] }
         ensures reply { SeesWord self.now.program self.now.sizes seat.new.seen place result }
     {
-        steps::look(&self.table.shared, self.ring, &mut seat.seat, place)
+        let mut call = Call::<P>::of(self, &mut seat.seat);
+        let word = call.look(place);
+        let Call { seat: left, .. } = call;
+        let _left: &Seat<u8, View> = left;
+        word
     }
 
     /// The word of a station.

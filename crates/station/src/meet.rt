@@ -5,9 +5,10 @@ ghost use Rattle.inorder.specs.OneHistory.{Adds};
 ghost use Rattle.ruu_words.specs.Views.{half, other_half};
 ghost use Rattle.station.specs.Seats.{Caller, IsSame};
 
+use crate::call::Call;
 use crate::cores::Core;
 use crate::seat::{Part, SeatOf, UnitPart, UnitSeat};
-use atomic_table::{Join, Split};
+use atomic_table::{Join, Seat, Split};
 use ruu_words::Place;
 use ruu_words::rule::View;
 use std::marker::PhantomData;
@@ -93,12 +94,10 @@ impl Core {
     {
         let note = self.table.shared.split_seat::<NoteCut>(&mut from.seat);
         self.table.shared.join_seat::<Told>(&mut to.seat, note);
-        crate::steps::look(
-            &self.table.shared,
-            self.ring,
-            &mut to.seat,
-            Place::Station(0),
-        );
+        let mut call = Call::<Q>::of(self, &mut to.seat);
+        call.look(Place::Station(0));
+        let Call { seat: left, .. } = call;
+        let _left: &Seat<u8, View> = left;
     }
 
     /// Afterwards each has seen what either had seen. Any two seats can meet.

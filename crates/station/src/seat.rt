@@ -1,9 +1,11 @@
 //! Seats.
-use crate::steps::Words;
-use atomic_table::Seat;
-use ruu_words::rule::View;
+use atomic_table::{Seat, Shared};
+use ruu_words::rule::{OneHistory, Setup, View};
 use std::marker::{Model, PhantomData};
 use std::snapshot::Snapshot;
+
+// The words of a core.
+pub(crate) type Words = Shared<u8, View, Setup, OneHistory>;
 
 /// Whose seat it is.
 pub trait Part {

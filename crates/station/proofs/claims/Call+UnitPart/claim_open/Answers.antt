@@ -26,7 +26,7 @@ instr-requires c =
     let P = v.core.program in
     let C = v.core.sizes in
     let legal : IsLegalCall v = legal_at c.self.invariant c.self.view_is in
-    let program = program_at c.core.inside.table.shared.table_id c.core.inside.table.shared.key c.self.inside.core.now c.core.view_is c.self.inside.seat.now.me.0 c.self.inside.seat.ghost_name v c.self.view_is c.core.inside.program c.core.invariant.program in
+    let program = program_at c.core.inside.table.shared.key c.core.invariant.program c.core.view_is c.self.view_is in
     subst (λ (z : Program). c.args.info.index < length z.code) (sym program) (index_inside P C v.view.seen legal c.requires.was_open.p c.args.station c.args.tag c.args.info.half c.args.info.index c.args.info.predicted c.requires.was_open.named)
 
 pub returns-in-Err-clause-reply : goal.returns-in-Err-clause-reply
@@ -51,7 +51,7 @@ needed_source-requires-2-clause-seen c =
     let P = v.core.program in
     let C = v.core.sizes in
     let legal : IsLegalCall v = legal_at c.self.invariant c.self.view_is in
-    let program = program_at c.core.inside.table.shared.table_id c.core.inside.table.shared.key c.self.inside.core.now c.core.view_is c.self.inside.seat.now.me.0 c.self.inside.seat.ghost_name v c.self.view_is c.core.inside.program c.core.invariant.program in
+    let program = program_at c.core.inside.table.shared.key c.core.invariant.program c.core.view_is c.self.view_is in
     let by = v.view.by in
     let st = c.args.station in
     let tag = c.args.tag in
@@ -74,7 +74,7 @@ returns-in-Err-needed_source-clause-reply c =
     let P = v.core.program in
     let C = v.core.sizes in
     let legal : IsLegalCall v = legal_at c.self.invariant c.self.view_is in
-    let program = program_at c.core.inside.table.shared.table_id c.core.inside.table.shared.key c.self.inside.core.now c.core.view_is c.self.inside.seat.now.me.0 c.self.inside.seat.ghost_name v c.self.view_is c.core.inside.program c.core.invariant.program in
+    let program = program_at c.core.inside.table.shared.key c.core.invariant.program c.core.view_is c.self.view_is in
     let by = v.view.by in
     let st = c.args.station in
     let tag = c.args.tag in
@@ -112,7 +112,7 @@ claim_tenant-found-requires-clause-seen c =
     let P = v.core.program in
     let C = v.core.sizes in
     let legal : IsLegalCall v = legal_at c.self.invariant c.self.view_is in
-    let program = program_at c.core.inside.table.shared.table_id c.core.inside.table.shared.key c.self.inside.core.now c.core.view_is c.self.inside.seat.now.me.0 c.self.inside.seat.ghost_name v c.self.view_is c.core.inside.program c.core.invariant.program in
+    let program = program_at c.core.inside.table.shared.key c.core.invariant.program c.core.view_is c.self.view_is in
     let by = v.view.by in
     let st = c.args.station in
     let tag = c.args.tag in
@@ -141,7 +141,7 @@ returns-then-found-open-clause-reply c =
     let P = v.core.program in
     let C = v.core.sizes in
     let legal : IsLegalCall v = legal_at c.self.invariant c.self.view_is in
-    let program = program_at c.core.inside.table.shared.table_id c.core.inside.table.shared.key c.self.inside.core.now c.core.view_is c.self.inside.seat.now.me.0 c.self.inside.seat.ghost_name v c.self.view_is c.core.inside.program c.core.invariant.program in
+    let program = program_at c.core.inside.table.shared.key c.core.invariant.program c.core.view_is c.self.view_is in
     let by = v.view.by in
     let st = c.args.station in
     let tag = c.args.tag in
@@ -174,7 +174,7 @@ pc_of-pc-requires c =
     let P = v.core.program in
     let C = v.core.sizes in
     let legal : IsLegalCall v = legal_at c.self.invariant c.self.view_is in
-    let program = program_at c.core.inside.table.shared.table_id c.core.inside.table.shared.key c.self.inside.core.now c.core.view_is c.self.inside.seat.now.me.0 c.self.inside.seat.ghost_name v c.self.view_is c.core.inside.program c.core.invariant.program in
+    let program = program_at c.core.inside.table.shared.key c.core.invariant.program c.core.view_is c.self.view_is in
     subst (λ (z : Program). c.args.info.index < length z.code) (sym program) (index_inside P C v.view.seen legal c.requires.was_open.p c.args.station c.args.tag c.args.info.half c.args.info.index c.args.info.predicted c.requires.was_open.named)
 
 pub returns-clause-reply : goal.returns-clause-reply
@@ -183,7 +183,7 @@ returns-clause-reply c =
     let P = v.core.program in
     let C = v.core.sizes in
     let legal : IsLegalCall v = legal_at c.self.invariant c.self.view_is in
-    let program = program_at c.core.inside.table.shared.table_id c.core.inside.table.shared.key c.self.inside.core.now c.core.view_is c.self.inside.seat.now.me.0 c.self.inside.seat.ghost_name v c.self.view_is c.core.inside.program c.core.invariant.program in
+    let program = program_at c.core.inside.table.shared.key c.core.invariant.program c.core.view_is c.self.view_is in
     let by = v.view.by in
     let st = c.args.station in
     let tag = c.args.tag in

@@ -1,7 +1,0 @@
-use Rattle.ruu_words.specs.Openings.{opening_of, sizes_of}
-use Rattle.ruu_words.specs.Telling.{Tells}
-use Rattle.station.specs.Steps.{Sees}
-use Rattle.station.proofs.steps.look.look.Given as goal
-
-abbrev pub ghosts-load : goal.ghosts-load
-ghosts-load a = record { then = Tells a.words.now.key.program (sizes_of a.words.now.key) (opening_of a.words.now.key) a.seat.now.me.0.by (Sees a.words.now.key.program (sizes_of a.words.now.key) a.seat.now.me.0.by a.seat.now.me.0 a.place) }
