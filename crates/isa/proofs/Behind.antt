@@ -1,7 +1,7 @@
 -- One line behind the lines before it.
-use Rattle.std.proofs.Common.{◌≡◌, ℕ, ◌+◌, ◌<◌, ◌≤◌, true, false, List, [], ◌∷◌, ◌++◌, length, map, Some, None, Result, Err, refl, sym, ap, ◌∙◌, append_assoc, arith}
+use Rattle.std.proofs.Common.{◌≡◌, ℕ, ◌+◌, ◌<◌, ◌≤◌, true, false, List, [], ◌∷◌, ◌++◌, length, map, Option, Some, None, Result, Err, refl, sym, ap, ◌∙◌, append_assoc, arith, inl, inr}
 use Rattle.std.specs.Prelude.{nat_lt}
-use Rattle.std.proofs.lemmas.Bool.{lt-ltb, le-ltb}
+use Rattle.std.proofs.lemmas.Bool.{lt-ltb, le-ltb, cases_Bool}
 use Rattle.std.proofs.lemmas.List.{length-append, length-map, append-nil}
 use Rattle.std.proofs.lemmas.Grind.{flat_map-append}
 use Rattle.text.specs.Line.{before_comment}
@@ -9,13 +9,15 @@ use Rattle.text.specs.Name.{is_plain_text}
 use Rattle.text.specs.Label.{labels_of, statement_of}
 use Rattle.instructions.specs.declared.instr.Instr.{Instr}
 use Rattle.isa.specs.declared.listing.fault.FaultKind.{FaultKind}
-use Rattle.isa.specs.declared.listing.fault.FaultKind.TheVariants.{NotAscii, DoubleLabel, TooLong}
+use Rattle.isa.specs.declared.listing.fault.FaultKind.TheVariants.{NotAscii, TooLong}
 use Rattle.isa.specs.declared.listing.line.Target.{Target}
 use Rattle.instructions.specs.Programs.{address}
 use Rattle.isa.specs.Statement.{Parsed, Line, statement}
 use Rattle.isa.specs.Listing.{Lines, labels, read, code_in, bytes_in, at, table, numbered, memory, how_many, is_double, fault_of, fault_in}
+use Rattle.isa.specs.Late.{Mark, pairs, marks, IsLate}
 use Rattle.isa.specs.Held.{IsAdded, IsRead, name_of, rows}
 use Rattle.isa.proofs.Rows.{rows_length, rows_push}
+use Rattle.isa.proofs.LabelTable.{double_marks, pairs_append, pairs_of_marks}
 use Rattle.isa.proofs.Statements.{statement_empty}
 
 -- ---- one line more
@@ -52,14 +54,16 @@ memory_push before l = flat_map-append (λ l. bytes_in (read l)) before (l ∷ [
 
 -- ---- this line
 
-module _ (before : Lines) (line text : List ℕ) (held : List (List ℕ × ℕ)) (code : List Instr) (ts : List Target) (bytes : List ℕ)
-    (is : IsRead before held code ts bytes) (front : text ≡ before_comment line) where
+module _ (before : Lines) (line text : List ℕ) (n : ℕ) (old : List Mark) (code : List Instr) (ts : List Target) (bytes : List ℕ)
+    (is : IsRead before (pairs old) code ts bytes) (front : text ≡ before_comment line) where
   pub how_many_is : how_many before ≡ length code
   how_many_is = sym (ap length is.code_is) ∙ rows_length code ts is.length_is
 
-  pub fault_not_plain : is_plain_text text ≡ false → fault_in before line ≡ Some NotAscii
+  pub fault_not_plain : is_plain_text text ≡ false → IsLate before line n old old (Some NotAscii)
   unfolding fault_in
-  fault_not_plain e = let p : is_plain_text (before_comment line) ≡ false = rw front at e in rw p refl
+  fault_not_plain e =
+      let p : is_plain_text (before_comment line) ≡ false = rw front at e in
+      record { added = []; grown = sym (append-nil old); fault = λ others. rw p refl }
 
   module _ (plain : is_plain_text text ≡ true) (a : ℕ) (at_a : a ≡ address (length code)) where
     is_plain : is_plain_text (before_comment line) ≡ true
@@ -68,25 +72,28 @@ module _ (before : Lines) (line text : List ℕ) (held : List (List ℕ × ℕ))
     at_count : a ≡ address (how_many before)
     at_count = at_a ∙ ap address (sym how_many_is)
 
-    pub fault_double : is_double a held (labels_of text) ≡ true → fault_in before line ≡ Some DoubleLabel
-    unfolding fault_in
-    fault_double double =
-        let d : is_double (address (how_many before)) (table 0 before) (labels line) ≡ true =
-        rw (at_count, front, is.labels_are) at double in
-        rw (is_plain, d) refl
-
-    module _ (held' : List (List ℕ × ℕ)) (single : (is_double a held (labels_of text) ≡ false) × (held' ≡ held ++ at a (labels_of text))) where
-      fault_is : fault_in before line ≡ fault_of (length code) (length bytes) (statement (statement_of text))
+    module _ (new : List Mark) (named : new ≡ old ++ marks n a (labels_of text)) where
+      late_is : (f : Option FaultKind) → fault_of (length code) (length bytes) (statement (statement_of text)) ≡ f → IsLate before line n old new f
       unfolding fault_in
-      fault_is =
-          let d : is_double (address (how_many before)) (table 0 before) (labels line) ≡ false =
-          rw (at_count, front, is.labels_are) at single.0 in
-          rw (is_plain, d, how_many_is, front, is.bytes_are) refl
+      late_is f e = record {
+        added = marks n a (labels_of text);
+        grown = named;
+        fault = λ others.
+            let double : is_double (address (how_many before)) (table 0 before) (labels line) ≡ is_double a (pairs old) (labels_of text) =
+            rw (at_count, front, is.labels_are) refl in
+            let other : fault_of (how_many before) (length (memory before)) (read line) ≡ f = rw (how_many_is, ← is.bytes_are, ← front) e in
+            elim (cases_Bool (is_double a (pairs old) (labels_of text))) [
+              | inl twice ↦ rw (double_marks n a (labels_of text) (pairs old), is_plain, double, twice) refl
+              | inr once ↦ rw (double_marks n a (labels_of text) (pairs old), is_plain, double, once, other) refl
+            ];
+      }
 
-      table_is : held' ≡ table 0 (before ++ line ∷ [])
+      table_is : pairs new ≡ table 0 (before ++ line ∷ [])
       table_is =
           let place : a ≡ address (0 + how_many before) = at_count ∙ ap address (omega arith) in
-          single.1 ∙ ap (λ (t : List (List ℕ × ℕ)). t ++ at a (labels_of text)) is.labels_are
+          let grown : pairs new ≡ pairs old ++ at a (labels_of text) =
+          ap pairs named ∙ pairs_append old (marks n a (labels_of text)) ∙ ap (λ (t : List (List ℕ × ℕ)). pairs old ++ t) (pairs_of_marks n a (labels_of text)) in
+          grown ∙ ap (λ (t : List (List ℕ × ℕ)). t ++ at a (labels_of text)) is.labels_are
           ∙ ap (λ (b : ℕ). table 0 before ++ at b (labels_of text)) place
           ∙ ap (λ (c : List ℕ). table 0 before ++ at (address (0 + how_many before)) (labels_of c)) front ∙ sym (table_push 0 1 before line)
 
@@ -105,31 +112,31 @@ module _ (before : Lines) (line text : List ℕ) (held : List (List ℕ × ℕ))
           memory_push before line ∙ ap (λ (q : Result Line FaultKind). memory before ++ bytes_in q) (read_is r e)
           ∙ ap (λ (t : List ℕ). t ++ bytes_in r) (sym is.bytes_are)
 
-      pub fault_statement : (k : FaultKind) → statement (statement_of text) ≡ Err k → fault_in before line ≡ Some k
-      fault_statement k e = fault_is ∙ ap (fault_of (length code) (length bytes)) e
+      pub fault_statement : (k : FaultKind) → statement (statement_of text) ≡ Err k → IsLate before line n old new (Some k)
+      fault_statement k e = late_is (Some k) (ap (fault_of (length code) (length bytes)) e)
 
       module _ (ps : List Parsed) (bytes' : List ℕ) (added : IsAdded (statement (statement_of text)) ps bytes bytes') where
         size_is : length bytes' ≡ length bytes + length added.bytes
         size_is = ap length added.grown ∙ length-append bytes added.bytes
 
-        pub fault_long_memory : 65536 < length bytes' → fault_in before line ≡ Some TooLong
+        pub fault_long_memory : 65536 < length bytes' → IsLate before line n old new (Some TooLong)
         fault_long_memory long =
             let over : nat_lt 65536 (length bytes + length added.bytes) ≡ true = lt-ltb _ _ (omega (arith, size_is)) in
-            fault_is ∙ ap (fault_of (length code) (length bytes)) added.is ∙ grind (arith, over)
+            late_is (Some TooLong) (ap (fault_of (length code) (length bytes)) added.is ∙ grind (arith, over))
 
-        pub fault_long_code : 16384 < length code + length ps → fault_in before line ≡ Some TooLong
+        pub fault_long_code : 16384 < length code + length ps → IsLate before line n old new (Some TooLong)
         fault_long_code long =
             let over : nat_lt 16384 (length code + length ps) ≡ true = lt-ltb _ _ long in
-            fault_is ∙ ap (fault_of (length code) (length bytes)) added.is ∙ rw over refl
+            late_is (Some TooLong) (ap (fault_of (length code) (length bytes)) added.is ∙ rw over refl)
 
-        no_fault : length code + length ps ≤ 16384 → length bytes' ≤ 65536 → fault_in before line ≡ None
+        no_fault : length code + length ps ≤ 16384 → length bytes' ≤ 65536 → IsLate before line n old new None
         no_fault short small =
             let code_short : nat_lt 16384 (length code + length ps) ≡ false = le-ltb _ _ short in
             let bytes_short : nat_lt 65536 (length bytes + length added.bytes) ≡ false = le-ltb _ _ (omega (arith, size_is)) in
-            fault_is ∙ ap (fault_of (length code) (length bytes)) added.is ∙ rw (code_short, bytes_short) refl
+            late_is None (ap (fault_of (length code) (length bytes)) added.is ∙ rw (code_short, bytes_short) refl)
 
       pub reads_none : (bytes' : List ℕ) → IsAdded (statement (statement_of text)) [] bytes bytes' → length code ≤ 16384 → length bytes' ≤ 65536
-          → (fault_in before line ≡ None) × IsRead (before ++ line ∷ []) held' code ts bytes'
+          → IsLate before line n old new None × IsRead (before ++ line ∷ []) (pairs new) code ts bytes'
       reads_none bytes' added short small = (
         no_fault [] bytes' added (omega arith) small,
         record {
@@ -142,7 +149,7 @@ module _ (before : Lines) (line text : List ℕ) (held : List (List ℕ × ℕ))
 
       pub reads_some : (i : Instr) (t : Target) (bytes' : List ℕ) → t.line ≡ length before + 1
           → IsAdded (statement (statement_of text)) (record { instr = i; label = name_of t } ∷ []) bytes bytes' → length code < 16384 → length bytes' ≤ 65536
-          → (fault_in before line ≡ None) × IsRead (before ++ line ∷ []) held' (code ++ i ∷ []) (ts ++ t ∷ []) bytes'
+          → IsLate before line n old new None × IsRead (before ++ line ∷ []) (pairs new) (code ++ i ∷ []) (ts ++ t ∷ []) bytes'
       reads_some i t bytes' number added short small = (
         no_fault _ bytes' added (omega arith) small,
         record {

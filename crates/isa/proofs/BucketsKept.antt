@@ -1,35 +1,24 @@
 -- The labels with one more: what was noted stays, and the new one is.
-use Rattle.std.proofs.Common.{◌≡◌, ◌≢◌, ℕ, ◌+◌, ◌-◌, ◌^◌, ◌<◌, ◌≤◌, ◌⊎◌, false, cond, List, [], ◌∷◌, ◌++◌, length, map, slice_set, Some, None, refl, sym, ap, ◌∙◌, subst, arith, inl, inr}
+use Rattle.std.proofs.Common.{◌≡◌, ◌≢◌, ℕ, ◌+◌, ◌-◌, ◌^◌, ◌<◌, ◌≤◌, ◌⊎◌, false, cond, List, [], ◌∷◌, ◌++◌, length, map, take, get_or, slice_set, Some, None, refl, sym, ap, ◌∙◌, subst, arith, inl, inr}
 use Rattle.std.specs.Prelude.{slice_index}
 use Rattle.std.specs.Borrow.{Bor}
 use Rattle.std.specs.BTreeMap.{BTreeMap, UpdatesBy}
 use Rattle.std.specs.Cmp.Lexicographic.{slice_cmp}
 use Rattle.std.specs.Ordering.{nat_cmp}
-use Rattle.std.specs.Map.{lookup}
 use Rattle.std.specs.Str.{bytes_eq}
 use Rattle.std.proofs.Math.Nat.{div-le_of_le-mul}
 use Rattle.std.proofs.lemmas.Bool.{cases_Bool, cases_lt}
-use Rattle.std.proofs.lemmas.List.{get_or-set_same, get_or-set_other, get_or_append_left, length-append, length-set}
+use Rattle.std.proofs.lemmas.List.{take_more, get_or-set_same, get_or-set_other, get_or_append_left, length-append, length-set}
 use Rattle.std.proofs.lemmas.Map.Text.{btree_map_updates_str}
 use Rattle.std.proofs.lemmas.Slice.Eq.{bytes_eq-Decides}
 use Rattle.isa.specs.declared.listing.table.Entry.{Entry}
 use Rattle.isa.specs.NameHash.{hash_of, start_of, tag_of}
 use Rattle.isa.specs.Buckets.{pair, entry_at, name_at, found, run, IsTaken, first_for, AreTaken, IsInRun, crowded_at, IsNoted, IsCrowded, IsIndex}
 
--- a map with the same entries
-pub index_same : (es : List Entry) (tags numbers : List ℕ) (crowded after : BTreeMap (Bor (List ℕ)) ℕ) → after.entries ≡ crowded.entries
-    → IsIndex es tags numbers crowded → IsIndex es tags numbers after
-index_same es tags numbers crowded after same index =
-    let at_name : (name : List ℕ) → crowded_at after name ≡ crowded_at crowded name = λ name. ap (lookup _) same in
-    record {
-      room = index.room;
-      few = index.few;
-      same_length = index.same_length;
-      taken = index.taken;
-      crowd = λ name i is. index.crowd name i (sym (at_name name) ∙ is);
-      noted = λ i lt. elim (index.noted i lt) [ inl n ↦ inl n | inr c ↦ inr (record { full = c.full; is = at_name (name_at es i) ∙ c.is }) ];
-      single = index.single;
-    }
+-- the entries up to the next one
+pub index_next : (es : List Entry) (i : ℕ) (d : Entry) (tags numbers : List ℕ) (crowded : BTreeMap (Bor (List ℕ)) ℕ) → i < length es
+    → IsIndex (take i es ++ get_or es i d ∷ []) tags numbers crowded → IsIndex (take (i + 1) es) tags numbers crowded
+index_next es i d tags numbers crowded lt index = rw (take_more es i d lt) index
 
 -- the first bucket of a name is one
 pub start_small : (hash last : ℕ) → start_of hash last ≤ last

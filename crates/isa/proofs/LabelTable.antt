@@ -1,12 +1,16 @@
--- The labels of a line, label after label.
-use Rattle.std.proofs.Common.{◌≡◌, ℕ, Bool, true, false, cond, List, [], ◌∷◌, ◌++◌, Some, None, refl, sym, ap, ◌∙◌, append_assoc, inl, inr}
-use Rattle.std.specs.Prelude.{is_some}
+-- The labels that were read, and the first one that stands twice.
+use Rattle.std.proofs.Common.{◌≡◌, ℕ, Bool, true, false, cond, List, [], ◌∷◌, ◌++◌, ◌+◌, ◌<◌, length, map, take, drop, get_or, Option, Some, None, refl, sym, ap, ◌∙◌, append_assoc, inl, inr}
+use Rattle.std.specs.Prelude.{is_some, if◌then◌else◌}
 use Rattle.std.specs.Map.{lookup}
 use Rattle.std.specs.Str.{bytes_eq}
 use Rattle.std.proofs.lemmas.Bool.{cases_Bool}
-use Rattle.std.proofs.lemmas.List.{append-nil}
+use Rattle.std.proofs.lemmas.List.{append-nil, take_more, drop_more}
 use Rattle.text.specs.Label.{labels_of}
+use Rattle.isa.specs.declared.listing.fault.FaultKind.{FaultKind}
+use Rattle.isa.specs.declared.listing.table.Entry.{Entry}
+use Rattle.isa.specs.Buckets.{pair, found}
 use Rattle.isa.specs.Listing.{is_double, at}
+use Rattle.isa.specs.Late.{Mark, mark, pairs, marks, double_line, or_other}
 
 -- a name behind pairs without it, and another name
 pub lookup_push : (t : List ℕ → Bool) (ps : List (List ℕ × ℕ)) (k : List ℕ) (v : ℕ) → lookup t ps ≡ None → lookup t (ps ++ (k, v) ∷ []) ≡ cond (t k) (Some v) None
@@ -20,33 +24,85 @@ pub lookup_keep : (t : List ℕ → Bool) (ps : List (List ℕ × ℕ)) (k : Lis
 lookup_keep t [] k v e = rw e refl
 lookup_keep t (p ∷ ps) k v e = ap (cond (t p.0) (Some p.1)) (lookup_keep t ps k v e)
 
--- the labels up to here are held behind those before the line
-pub record LabelsSoFar (n : ℕ) (before held : List (List ℕ × ℕ)) (rest all : List (List ℕ)) : Type 0 where
-  pub double : is_double n before all ≡ is_double n held rest
-  pub whole : before ++ at n all ≡ held ++ at n rest
+-- ---- labels with their lines
 
-module _ (n : ℕ) (before held : List (List ℕ × ℕ)) (rest all : List (List ℕ)) (so_far : LabelsSoFar n before held rest all) where
-  module _ (x : List ℕ) (xs : List (List ℕ)) (is : rest ≡ x ∷ xs) where
-    -- one more, which is not held
-    pub labels_more : (held' : List (List ℕ × ℕ)) → lookup (λ k. bytes_eq k x) held ≡ None → held' ≡ held ++ (x, n) ∷ [] → LabelsSoFar n before held' xs all
-    labels_more held' none grown = record {
-      double = so_far.double ∙ rw (is, none, grown) refl;
-      whole = so_far.whole ∙ rw (is, grown, append_assoc) refl;
-    }
+pub marks_append : (xs ys : List Entry) → map mark (xs ++ ys) ≡ map mark xs ++ map mark ys
+marks_append [] ys = refl
+marks_append (x ∷ xs) ys = ap (λ (ms : List Mark). mark x ∷ ms) (marks_append xs ys)
 
-    -- one that is held
-    pub labels_double : is_some (lookup (λ k. bytes_eq k x) held) ≡ true → is_double n before all ≡ true
-    labels_double found = so_far.double ∙ rw (is, found) refl
+pub pairs_append : (xs ys : List Mark) → pairs (xs ++ ys) ≡ pairs xs ++ pairs ys
+pairs_append [] ys = refl
+pairs_append (x ∷ xs) ys = ap (λ (ps : List (List ℕ × ℕ)). x.0 ∷ ps) (pairs_append xs ys)
 
-  -- no label is left
-  pub labels_done : rest ≡ [] → (is_double n before all ≡ false) × (held ≡ before ++ at n all)
-  labels_done is = (so_far.double ∙ rw is refl, sym (so_far.whole ∙ rw is (append-nil held)))
+pub pairs_of_entries : (es : List Entry) → pairs (map mark es) ≡ map pair es
+pairs_of_entries [] = refl
+pairs_of_entries (e ∷ es) = ap (λ (ps : List (List ℕ × ℕ)). pair e ∷ ps) (pairs_of_entries es)
 
--- a text of one label
-module _ (text name : List ℕ) (is : labels_of text ≡ name ∷ []) (n : ℕ) (held : List (List ℕ × ℕ)) where
-  pub only_double : is_some (lookup (λ k. bytes_eq k name) held) ≡ true → is_double n held (labels_of text) ≡ true
-  only_double found = rw (is, found) refl
+pub pairs_of_marks : (n a : ℕ) (names : List (List ℕ)) → pairs (marks n a names) ≡ at a names
+pairs_of_marks n a [] = refl
+pairs_of_marks n a (x ∷ xs) = ap (λ (ps : List (List ℕ × ℕ)). (x, a) ∷ ps) (pairs_of_marks n a xs)
 
-  pub only_single : (held' : List (List ℕ × ℕ)) → lookup (λ k. bytes_eq k name) held ≡ None → held' ≡ held ++ (name, n) ∷ []
-      → (is_double n held (labels_of text) ≡ false) × (held' ≡ held ++ at n (labels_of text))
-  only_single held' none grown = (rw (is, none) refl, rw is grown)
+-- one more label of a line is held
+pub marks_more : (n a : ℕ) (held : List Entry) (e : Entry) (held' : List Entry) (rest names : List (List ℕ)) (all : List Mark)
+    → held' ≡ held ++ e ∷ [] → mark e ≡ ((e.name.now, a), n) → rest ≡ e.name.now ∷ names → map mark held ++ marks n a rest ≡ all
+    → map mark held' ++ marks n a names ≡ all
+marks_more n a held e held' rest names all grown is front so_far =
+    let one : map mark held' ≡ map mark held ++ mark e ∷ [] = ap (map mark) grown ∙ marks_append held (e ∷ []) in
+    let first : marks n a rest ≡ mark e ∷ marks n a names = rw (front, is) refl in
+    ap (λ (ms : List Mark). ms ++ marks n a names) one ∙ append_assoc (map mark held) (mark e ∷ []) (marks n a names)
+    ∙ ap (λ (ms : List Mark). map mark held ++ ms) (sym first) ∙ so_far
+
+-- the label of a text that has one is held
+pub one_mark : (n a : ℕ) (held : List Entry) (e : Entry) (held' : List Entry) (text : List ℕ)
+    → held' ≡ held ++ e ∷ [] → mark e ≡ ((e.name.now, a), n) → labels_of text ≡ e.name.now ∷ [] → map mark held' ≡ map mark held ++ marks n a (labels_of text)
+one_mark n a held e held' text grown is only =
+    let one : marks n a (labels_of text) ≡ mark e ∷ [] = rw (only, is) refl in
+    ap (map mark) grown ∙ marks_append held (e ∷ []) ∙ ap (λ (ms : List Mark). map mark held ++ ms) (sym one)
+
+-- ---- the first label that stands twice
+
+pub double_marks : (n a : ℕ) (names : List (List ℕ)) (held : List (List ℕ × ℕ)) → double_line held (marks n a names) ≡ (if is_double a held names then Some n else None)
+double_marks n a [] held = refl
+double_marks n a (x ∷ xs) held = elim (cases_Bool (is_some (lookup (λ k. bytes_eq k x) held))) [
+  | inl is ↦ rw is refl
+  | inr not ↦ rw not (double_marks n a xs (held ++ (x, a) ∷ []))
+]
+
+pub double_append : (held : List (List ℕ × ℕ)) (xs ys : List Mark) (others : Option (ℕ × FaultKind))
+    → or_other (double_line held (xs ++ ys)) others ≡ or_other (double_line held xs) (or_other (double_line (held ++ pairs xs) ys) others)
+double_append held [] ys others = ap (λ (ps : List (List ℕ × ℕ)). or_other (double_line ps ys) others) (sym (append-nil held))
+double_append held (x ∷ xs) ys others = elim (cases_Bool (is_some (lookup (λ k. bytes_eq k x.0.0) held))) [
+  | inl is ↦ rw is refl
+  | inr not ↦
+      let whole : (held ++ x.0 ∷ []) ++ pairs xs ≡ held ++ pairs (x ∷ xs) = append_assoc held (x.0 ∷ []) (pairs xs) in
+      rw not (double_append (held ++ x.0 ∷ []) xs ys others ∙ ap (λ (ps : List (List ℕ × ℕ)). or_other (double_line (held ++ x.0 ∷ []) xs) (or_other (double_line ps ys) others)) whole)
+]
+
+-- the labels before one are single, and this one too, or it is the first that stands twice
+module _ (held : List (List ℕ × ℕ)) (m : Mark) (ms : List Mark) where
+  pub double_passes : lookup (λ k. bytes_eq k m.0.0) held ≡ None → double_line held (m ∷ ms) ≡ double_line (held ++ m.0 ∷ []) ms
+  double_passes none = rw none refl
+
+  pub double_here : is_some (lookup (λ k. bytes_eq k m.0.0) held) ≡ true → double_line held (m ∷ ms) ≡ Some m.1
+  double_here is = rw is refl
+
+-- the entries behind those before entry i
+module _ (es : List Entry) (i : ℕ) (d : Entry) (lt : i < length es)
+    (so_far : double_line [] (map mark es) ≡ double_line (pairs (map mark (take i es))) (map mark (drop i es))) where
+  first_mark : double_line [] (map mark es) ≡ double_line (pairs (map mark (take i es))) (mark (get_or es i d) ∷ map mark (drop (i + 1) es))
+  first_mark = so_far ∙ ap (λ (xs : List Entry). double_line (pairs (map mark (take i es))) (map mark xs)) (drop_more es i d lt)
+
+  pub double_at : is_some (found (take i es) (get_or es i d).name.now) ≡ true → double_line [] (map mark es) ≡ Some (get_or es i d).line
+  double_at is =
+      first_mark
+      ∙ double_here (pairs (map mark (take i es))) (mark (get_or es i d)) (map mark (drop (i + 1) es)) (rw (pairs_of_entries (take i es)) is)
+
+  pub double_next : found (take i es) (get_or es i d).name.now ≡ None
+      → double_line [] (map mark es) ≡ double_line (pairs (map mark (take (i + 1) es))) (map mark (drop (i + 1) es))
+  double_next none =
+      let m : Mark = mark (get_or es i d) in
+      let more : pairs (map mark (take (i + 1) es)) ≡ pairs (map mark (take i es)) ++ m.0 ∷ [] =
+      ap (λ (xs : List Entry). pairs (map mark xs)) (take_more es i d lt) ∙ ap pairs (marks_append (take i es) (get_or es i d ∷ []))
+      ∙ pairs_append (map mark (take i es)) (m ∷ []) in
+      first_mark ∙ double_passes (pairs (map mark (take i es))) m (map mark (drop (i + 1) es)) (rw (pairs_of_entries (take i es)) none)
+      ∙ ap (λ (ps : List (List ℕ × ℕ)). double_line ps (map mark (drop (i + 1) es))) (sym more)

@@ -22,7 +22,8 @@ pair e = (e.name.now, e.address)
 -- entry i
 abbrev pub entry_at : List Entry → ℕ → Entry
 entry_at es i =
-    slice_index_or es i (record { name = record { ref_ptr = (0, 0); now = [] }; address = 0 })
+    slice_index_or es i
+    (record { name = record { ref_ptr = (0, 0); now = [] }; address = 0; line = 0 })
 
 -- the name of entry i
 abbrev pub name_at : List Entry → ℕ → List ℕ

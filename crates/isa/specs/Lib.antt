@@ -6,6 +6,7 @@ pub mod Statement
 pub mod Listing
 pub mod NameHash
 pub mod Buckets
+pub mod Late
 pub mod Held
 pub mod Report
 pub mod Wording

@@ -1,7 +1,9 @@
 //! The listing language: from bytes to a program, or to the first fault.
-ghost use Rattle.std.specs.Prelude.{◌≡◌, ◌≢◌, ◌≤◌, ◌/◌, ℕ, List, Ok, Err, length, OnOk, IfOk, IfErr};
-ghost use Rattle.isa.specs.Listing.{resolve_number, resolved, listing};
-ghost use Rattle.isa.specs.Held.{name_of, rows};
+ghost use Rattle.std.specs.Prelude.{◌≡◌, ◌≢◌, ◌≤◌, ◌/◌, ◌%◌, ℕ, List, [], map, Option, Some, None, Ok, Err, length, OnOk, IfOk, IfErr};
+ghost use Rattle.text.specs.Line.{lines_of};
+ghost use Rattle.isa.specs.Listing.{resolve_number, resolved, first_fault, listing};
+ghost use Rattle.isa.specs.Late.{mark, pairs, double_line, or_other};
+ghost use Rattle.isa.specs.Held.{name_of, rows, AreRead};
 
 mod directive;
 mod fault;
@@ -16,12 +18,13 @@ mod statement;
 mod table;
 mod wording;
 
+use fault::fault_at;
 pub use fault::{FaultKind, TextFault};
 pub use instr_text::{InstrText, Label, Naming, text_is_read_back};
 use instructions::{Instr, Program};
 use line::{Target, read_first_line};
 use std::alloc::Global;
-use table::Labels;
+use table::{Entry, Labels};
 
 /// How many bytes a listing has at most.
 const MOST_TEXT: usize = 4_194_304;
@@ -66,18 +69,6 @@ fn resolve_all<'a>(
     Ok(())
 }
 
-/// A fault of a line. Want of memory has no line.
-fn fault_at(line: u64, kind: FaultKind) -> TextFault
-    ensures kind { result.kind ≡ kind }
-    ensures line { kind ≢ FaultKind.Memory → result.line ≡ line }
-    ensures memory { kind ≡ FaultKind.Memory → result.line ≡ 0 }
-{
-    match kind {
-        FaultKind::Memory => TextFault { line: 0, kind },
-        _ => TextFault { line, kind },
-    }
-}
-
 /// How many bytes of so few are colons. They are counted in a byte, many at a time.
 fn colons(bytes: &[u8]) -> u8
     requires { length bytes.now ≤ 255 }
@@ -101,6 +92,72 @@ fn most_labels(bytes: &[u8]) -> usize
     found.min(bytes.len() / 4)
 }
 
+/// Reads all lines, but for labels that stand twice.
+fn read_lines<'a>(
+    labels: &mut Vec<Entry<'a>>,
+    code: &mut Vec<Instr>,
+    targets: &mut Vec<Target<'a>>,
+    memory: &mut Vec<u8>,
+    bytes: &'a [u8],
+) -> Result<(), TextFault>
+    requires short { length bytes.now ≤ 4194304 }
+    requires no_labels { labels.old.items ≡ [] }
+    requires no_code { code.old.items ≡ [] }
+    requires no_targets { targets.old.items ≡ [] }
+    requires no_memory { memory.old.items ≡ [] }
+    ensures small_code { OnOk result (length code.new.items ≤ 16384) }
+    ensures small_memory { OnOk result (length memory.new.items ≤ 65536) }
+    ensures aligned { OnOk result (length memory.new.items % 4 ≡ 0) }
+    ensures ok { OnOk result (AreRead (lines_of bytes.entry.now) (map mark labels.new.items)
+        code.new.items targets.new.items memory.new.items) }
+    ensures fault { IfErr result (λ f. f.kind ≢ FaultKind.Memory
+        → or_other (double_line [] (map mark labels.new.items)) (Some (f.line, f.kind))
+        ≡ first_fault [] (lines_of bytes.entry.now)) }
+    ensures memory { IfErr result (λ f. f.kind ≡ FaultKind.Memory → f.line ≡ 0) }
+{
+    let mut number = 0u32;
+    let mut rest = Some(bytes);
+    while let Some(text) = rest {
+        number += 1;
+        match read_first_line(labels, code, targets, memory, text, number) {
+            Ok(after) => rest = after,
+            Err(kind) => return Err(fault_at(u64::from(number), kind)),
+        }
+    }
+    Ok(())
+}
+
+/// The labels, or the first one that stands twice.
+fn labels_of<'a>(alloc: Global, entries: Vec<Entry<'a>>) -> Result<Labels<'a>, TextFault>
+    ensures ok { IfOk result (λ labels. labels ≡ pairs (map mark entries.entry.items)) }
+    ensures fault { IfErr result (λ f. f.kind ≢ FaultKind.Memory
+        → (others : Option (ℕ × FaultKind))
+        → or_other (double_line [] (map mark entries.entry.items)) others
+        ≡ Some (f.line, f.kind)) }
+    ensures single { IfOk result (λ labels. double_line [] (map mark entries.entry.items) ≡ None) }
+    ensures memory { IfErr result (λ f. f.kind ≡ FaultKind.Memory → f.line ≡ 0) }
+{
+    let room = entries.len().min(MOST_TEXT);
+    Labels::of(alloc, entries, room)
+}
+
+/// The first fault: this one, or a label before it that stands twice.
+fn first_of<'a>(alloc: Global, entries: Vec<Entry<'a>>, fault: TextFault) -> TextFault
+    requires memory { fault.kind ≡ FaultKind.Memory → fault.line ≡ 0 }
+    ensures fault { result.kind ≢ FaultKind.Memory → fault.kind ≢ FaultKind.Memory
+        × (or_other (double_line [] (map mark entries.entry.items))
+        (Some (fault.line, fault.kind)) ≡ Some (result.line, result.kind)) }
+    ensures memory { result.kind ≡ FaultKind.Memory → result.line ≡ 0 }
+{
+    if fault.kind == FaultKind::Memory {
+        return fault;
+    }
+    match labels_of(alloc, entries) {
+        Ok(_) => fault,
+        Err(first) => first,
+    }
+}
+
 /// The program of a listing, or its first fault. A fault of a line has its number, counted from 1;
 /// a listing of more than 4,194,304 bytes and want of memory have line 0.
 pub fn parse(alloc: Global, bytes: &[u8]) -> Result<Program, TextFault>
@@ -112,27 +169,15 @@ pub fn parse(alloc: Global, bytes: &[u8]) -> Result<Program, TextFault>
     if bytes.len() > MOST_TEXT {
         return Err(fault_at(0, FaultKind::TooLong));
     }
-    let mut labels = Labels::with_capacity(alloc, most_labels(bytes))?;
+    let mut entries = Vec::with_capacity(alloc, most_labels(bytes))?;
     let mut code = Vec::new(alloc);
     let mut targets = Vec::new(alloc);
     let mut memory = Vec::new(alloc);
-    let mut number = 0;
-    let mut rest = Some(bytes);
-    while let Some(text) = rest {
-        number += 1;
-        let went = read_first_line(
-            &mut labels,
-            &mut code,
-            &mut targets,
-            &mut memory,
-            text,
-            number,
-        );
-        match went {
-            Ok(after) => rest = after,
-            Err(kind) => return Err(fault_at(number, kind)),
-        }
+    let went = read_lines(&mut entries, &mut code, &mut targets, &mut memory, bytes);
+    if let Err(fault) = went {
+        return Err(first_of(alloc, entries, fault));
     }
+    let labels = labels_of(alloc, entries)?;
     resolve_all(&labels, code.as_mut_slice(), targets.as_slice())?;
     Ok(Program::new(code, memory))
 }

@@ -1,5 +1,5 @@
 //! What is wrong with a listing.
-ghost use Rattle.std.specs.Prelude.{◌≡◌};
+ghost use Rattle.std.specs.Prelude.{◌≡◌, ◌≢◌};
 ghost use Rattle.isa.specs.declared.listing.fault.FaultKind.TheVariants.{Memory};
 ghost use Rattle.isa.specs.Reading.{fault_code, fault_name};
 
@@ -88,6 +88,18 @@ impl<T: Drop> From<AllocFailed<T>> for FaultKind {
 pub struct TextFault {
     pub line: u64,
     pub kind: FaultKind,
+}
+
+/// A fault of a line. Want of memory has no line.
+pub fn fault_at(line: u64, kind: FaultKind) -> TextFault
+    ensures kind { result.kind ≡ kind }
+    ensures line { kind ≢ FaultKind.Memory → result.line ≡ line }
+    ensures memory { kind ≡ FaultKind.Memory → result.line ≡ 0 }
+{
+    match kind {
+        FaultKind::Memory => TextFault { line: 0, kind },
+        _ => TextFault { line, kind },
+    }
 }
 
 impl From<AllocError> for TextFault {

@@ -1,15 +1,16 @@
 //! One line behind the lines before it.
-ghost use Rattle.std.specs.Prelude.{◌≡◌, ◌≢◌, ◌+◌, ◌≤◌, ◌%◌, ◌∷◌, ◌++◌, [], ◌<◌, None, Some, ℕ, List, length, OnOk, IfOk, IfErr, IfSome};
+ghost use Rattle.std.specs.Prelude.{◌≡◌, ◌≢◌, ◌+◌, ◌≤◌, ◌%◌, ◌∷◌, ◌++◌, [], ◌<◌, None, Some, ℕ, List, length, map, OnOk, IfOk, IfErr, IfSome};
 ghost use Rattle.std.specs.Option.{option_map};
 ghost use Rattle.text.specs.Line.{code_of};
-ghost use Rattle.isa.specs.Listing.{Lines, fault_in};
+ghost use Rattle.isa.specs.Listing.{Lines};
+ghost use Rattle.isa.specs.Late.{IsLate, mark, pairs};
 ghost use Rattle.isa.specs.Held.{IsRead, IsReadLine, IsFaultLine};
 
 use super::fault::FaultKind;
 use super::instruction::Draft;
 use super::labels::add_labels;
 use super::statement::statement;
-use super::table::Labels;
+use super::table::Entry;
 use instructions::{Instr, Program};
 use text::{label_line, next_code};
 
@@ -23,12 +24,12 @@ pub struct Target<'a> {
 // Reads the code of one line, its labels and its statement; there is none for a line with a byte
 // that may not stand before a comment.
 fn read_line<'a>(
-    labels: &mut Labels<'a>,
+    labels: &mut Vec<Entry<'a>>,
     code: &mut Vec<Instr>,
     targets: &mut Vec<Target<'a>>,
     memory: &mut Vec<u8>,
     source: Option<&'a [u8]>,
-    number: u64,
+    number: u32,
 ) -> Result<(), FaultKind>
     requires small_code { length code.old.items ≤ 16384 }
     requires small_memory { length memory.old.items ≤ 65536 }
@@ -38,18 +39,21 @@ fn read_line<'a>(
         → length memory.new.items % 4 ≡ 0) }
     ensures ok { OnOk result ((before : Lines) (line : List ℕ)
         → option_map (λ t. t.now) source.entry ≡ code_of line → length before + 1 ≡ number
-        → IsRead before labels.old code.old.items targets.old.items memory.old.items
-        → (fault_in before line ≡ None)
-        × IsRead (before ++ line ∷ []) labels.new code.new.items targets.new.items
-        memory.new.items) }
+        → IsRead before (pairs (map mark labels.old.items)) code.old.items targets.old.items
+        memory.old.items
+        → IsLate before line number (map mark labels.old.items) (map mark labels.new.items) None
+        × IsRead (before ++ line ∷ []) (pairs (map mark labels.new.items)) code.new.items
+        targets.new.items memory.new.items) }
     ensures fault { IfErr result (λ e. e ≢ FaultKind.Memory → (before : Lines) (line : List ℕ)
         → option_map (λ t. t.now) source.entry ≡ code_of line
-        → IsRead before labels.old code.old.items targets.old.items memory.old.items
-        → fault_in before line ≡ Some e) }
+        → IsRead before (pairs (map mark labels.old.items)) code.old.items targets.old.items
+        memory.old.items
+        → IsLate before line number (map mark labels.old.items) (map mark labels.new.items)
+        (Some e)) }
 {
     let text = source.ok_or(FaultKind::NotAscii)?;
     let index = code.len();
-    let rest = add_labels(labels, text, Program::START + 4 * index as u32)?;
+    let rest = add_labels(labels, text, Program::START + 4 * index as u32, number)?;
     let mut draft = Draft::new();
     let found = statement(memory, &mut draft, rest)?;
     if memory.len() > Program::MOST_BYTES {
@@ -63,7 +67,7 @@ fn read_line<'a>(
     }
     code.push(draft.instr)?;
     targets.push(Target {
-        line: number,
+        line: u64::from(number),
         label: draft.label,
     })?;
     Ok(())
@@ -71,12 +75,12 @@ fn read_line<'a>(
 
 /// Reads the first line of a text. The answer is what stands behind its line feed, if it has one.
 pub fn read_first_line<'a>(
-    labels: &mut Labels<'a>,
+    labels: &mut Vec<Entry<'a>>,
     code: &mut Vec<Instr>,
     targets: &mut Vec<Target<'a>>,
     memory: &mut Vec<u8>,
     text: &'a [u8],
-    number: u64,
+    number: u32,
 ) -> Result<Option<&'a [u8]>, FaultKind>
     requires small_code { length code.old.items ≤ 16384 }
     requires small_memory { length memory.old.items ≤ 65536 }
@@ -87,15 +91,23 @@ pub fn read_first_line<'a>(
     ensures shorter { IfOk result (λ rest. IfSome rest
         (λ r. length r.now < length text.entry.now)) }
     ensures ok { IfOk result (λ rest. (before : Lines) → length before + 1 ≡ number
-        → IsRead before labels.old code.old.items targets.old.items memory.old.items
-        → IsReadLine before text.entry.now (option_map (λ r. r.now) rest) labels.new
-        code.new.items targets.new.items memory.new.items) }
+        → IsRead before (pairs (map mark labels.old.items)) code.old.items targets.old.items
+        memory.old.items
+        → IsReadLine before text.entry.now (option_map (λ r. r.now) rest) number
+        (map mark labels.old.items) (map mark labels.new.items) code.new.items
+        targets.new.items memory.new.items) }
     ensures fault { IfErr result (λ e. e ≢ FaultKind.Memory → (before : Lines)
-        → IsRead before labels.old code.old.items targets.old.items memory.old.items
-        → IsFaultLine before text.entry.now e) }
+        → IsRead before (pairs (map mark labels.old.items)) code.old.items targets.old.items
+        memory.old.items
+        → IsFaultLine before text.entry.now number (map mark labels.old.items)
+        (map mark labels.new.items) e) }
 {
     if let Some((name, after)) = label_line(text) {
-        labels.add(name, Program::START + 4 * code.len() as u32)?;
+        labels.push(Entry {
+            name,
+            address: Program::START + 4 * code.len() as u32,
+            line: number,
+        })?;
         return Ok(Some(after));
     }
     let (source, after) = next_code(text);

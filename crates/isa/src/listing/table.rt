@@ -3,9 +3,10 @@ ghost use Rattle.std.specs.Prelude.{◌≡◌, ◌≢◌, ◌+◌, ◌≤◌, �
 ghost use Rattle.std.specs.Map.{lookup};
 ghost use Rattle.std.specs.Str.{bytes_eq};
 ghost use Rattle.isa.specs.NameHash.{hash_of, start_of, tag_of};
-ghost use Rattle.isa.specs.Buckets.{pair, IsIndex, IsPlace};
+ghost use Rattle.isa.specs.Buckets.{pair, found, IsIndex, IsPlace};
+ghost use Rattle.isa.specs.Late.{mark, pairs, double_line};
 
-use super::fault::FaultKind;
+use super::fault::{FaultKind, TextFault, fault_at};
 use std::alloc::{AllocError, Global};
 use std::collections::BTreeMap;
 use std::hash::{FoldHasher, Hasher};
@@ -20,11 +21,12 @@ const MOST: usize = 0xffff_ffff;
 /// The tag of a free bucket.
 const FREE: u8 = 0;
 
-/// A label: a name and the address that it stands for.
+/// A label: a name, the address that it stands for, and the line that has it.
 #[derive(Clone, Copy)]
 pub struct Entry<'a> {
     pub name: &'a [u8],
     pub address: u32,
+    pub line: u32,
 }
 
 /// Where a name is noted, or is to be noted.
@@ -95,6 +97,74 @@ fn look_up<'a>(
     }
 }
 
+// Notes one more entry behind those before it.
+fn note<'a>(
+    before: &[Entry<'a>],
+    entry: &Entry<'a>,
+    tags: &mut Vec<u8>,
+    numbers: &mut Vec<u32>,
+    crowded: &mut BTreeMap<&'a [u8], usize>,
+) -> Result<(), FaultKind>
+    requires index { IsIndex before.now tags.old.items numbers.old.items crowded.old }
+    ensures index { OnOk result
+        (IsIndex (before.now ++ entry.now ∷ []) tags.new.items numbers.new.items crowded.new) }
+    ensures absent { OnOk result (found before.now entry.now.name.now ≡ None) }
+    ensures kind { IfErr result (λ e. e ≢ FaultKind.Memory → e ≡ FaultKind.DoubleLabel) }
+    ensures double { IfErr result (λ e. e ≢ FaultKind.Memory
+        → is_some (found before.now entry.now.name.now) ≡ true) }
+{
+    let number = before.len();
+    if number >= MOST {
+        return Err(FaultKind::Memory);
+    }
+    let hash = hash_of(entry.name);
+    match look_up(
+        before,
+        tags.as_slice(),
+        numbers.as_slice(),
+        crowded,
+        entry.name,
+        hash,
+    ) {
+        Place::Known(_) => return Err(FaultKind::DoubleLabel),
+        Place::Free(at) => {
+            tags[at] = tag_of(hash);
+            numbers[at] = number as u32;
+        }
+        Place::Full => {
+            crowded.insert(entry.name, number)?;
+        }
+    }
+    Ok(())
+}
+
+// Notes all entries, or finds the first one whose name stands before it.
+fn note_all<'a>(
+    entries: &[Entry<'a>],
+    tags: &mut Vec<u8>,
+    numbers: &mut Vec<u32>,
+    crowded: &mut BTreeMap<&'a [u8], usize>,
+) -> Result<(), TextFault>
+    requires index { IsIndex [] tags.old.items numbers.old.items crowded.old }
+    ensures index { OnOk result
+        (IsIndex entries.now tags.new.items numbers.new.items crowded.new) }
+    ensures single { OnOk result (double_line [] (map mark entries.now) ≡ None) }
+    ensures kind { IfErr result (λ f. f.kind ≢ FaultKind.Memory
+        → f.kind ≡ FaultKind.DoubleLabel) }
+    ensures double { IfErr result (λ f. f.kind ≢ FaultKind.Memory
+        → double_line [] (map mark entries.now) ≡ Some f.line) }
+    ensures memory { IfErr result (λ f. f.kind ≡ FaultKind.Memory → f.line ≡ 0) }
+{
+    for i in 0..entries.len() {
+        let entry = &entries[i];
+        match note(&entries[..i], entry, tags, numbers, crowded) {
+            Ok(()) => {}
+            Err(kind) => return Err(fault_at(u64::from(entry.line), kind)),
+        }
+    }
+    Ok(())
+}
+
 /// The labels in the order in which they were read. A name that finds each of its buckets taken is
 /// crowded, and found by its order: whatever the names are, one is found in few steps.
 #[derive(Drop)]
@@ -118,21 +188,28 @@ impl<'a> Model for Labels<'a> {
 }
 
 impl<'a> Labels<'a> {
-    /// No labels, and room for so many.
-    pub fn with_capacity(alloc: Global, most: usize) -> Result<Self, AllocError>
-        requires { most ≤ 4194304 }
-        ensures { IfOk result (λ labels. labels ≡ []) }
+    /// The labels of entries, with buckets for so many, or the first one that stands twice.
+    pub fn of(alloc: Global, entries: Vec<Entry<'a>>, room: usize) -> Result<Self, TextFault>
+        requires { room ≤ 4194304 }
+        ensures ok { IfOk result (λ labels. labels ≡ pairs (map mark entries.entry.items)) }
+        ensures single { IfOk result (λ labels. double_line [] (map mark entries.entry.items) ≡ None) }
+        ensures kind { IfErr result (λ f. f.kind ≢ FaultKind.Memory
+            → f.kind ≡ FaultKind.DoubleLabel) }
+        ensures double { IfErr result (λ f. f.kind ≢ FaultKind.Memory
+            → double_line [] (map mark entries.entry.items) ≡ Some f.line) }
+        ensures memory { IfErr result (λ f. f.kind ≡ FaultKind.Memory → f.line ≡ 0) }
     {
-        let entries = Vec::with_capacity(alloc, most)?;
         let mut tags = Vec::new(alloc);
-        tags.resize(2 * most + RUN, FREE)?;
+        tags.resize(2 * room + RUN, FREE)?;
         let mut numbers = Vec::new(alloc);
-        numbers.resize(2 * most + RUN, 0)?;
+        numbers.resize(2 * room + RUN, 0)?;
+        let mut crowded = BTreeMap::new(alloc);
+        note_all(entries.as_slice(), &mut tags, &mut numbers, &mut crowded)?;
         Ok(Labels {
             entries,
             tags,
             numbers,
-            crowded: BTreeMap::new(alloc),
+            crowded,
         })
     }
 
@@ -151,41 +228,6 @@ impl<'a> Labels<'a> {
             Place::Known(found) => Some(self.entries[found].address),
             _ => None,
         }
-    }
-
-    /// Adds a label.
-    pub fn add(&mut self, name: &'a [u8], address: u32) -> Result<(), FaultKind>
-        ensures absent { OnOk result (lookup (λ k. bytes_eq k name.entry.now) self.old ≡ None) }
-        ensures added { OnOk result (self.new ≡ self.old ++ (name.entry.now, address) ∷ []) }
-        ensures kind { IfErr result (λ e. e ≢ FaultKind.Memory → e ≡ FaultKind.DoubleLabel) }
-        ensures double { IfErr result (λ e. e ≢ FaultKind.Memory
-            → is_some (lookup (λ k. bytes_eq k name.entry.now) self.old) ≡ true) }
-    {
-        let number = self.entries.len();
-        if number >= MOST {
-            return Err(FaultKind::Memory);
-        }
-        self.entries.reserve(1)?;
-        let hash = hash_of(name);
-        match look_up(
-            self.entries.as_slice(),
-            self.tags.as_slice(),
-            self.numbers.as_slice(),
-            &self.crowded,
-            name,
-            hash,
-        ) {
-            Place::Known(_) => return Err(FaultKind::DoubleLabel),
-            Place::Free(at) => {
-                self.tags[at] = tag_of(hash);
-                self.numbers[at] = number as u32;
-            }
-            Place::Full => {
-                self.crowded.insert(name, number)?;
-            }
-        }
-        self.entries.push_reserved(Entry { name, address });
-        Ok(())
     }
 }
 

@@ -1,23 +1,12 @@
-use Rattle.std.proofs.Common.{◌∙◌, sym}
-use Rattle.std.proofs.lemmas.Result.{err_from_is_err_and}
+use Rattle.std.proofs.Common.{◌∙◌, sym, refl}
 use Rattle.text.specs.Label.{labels_of}
-use Rattle.isa.proofs.LabelTable.{labels_more, labels_double, labels_done}
+use Rattle.isa.proofs.LabelTable.{marks_more}
 use Rattle.isa.proofs.listing.labels.add_labels.Goals as goal
 
-pub returns-in_err-add-clause-double : goal.returns-in_err-add-clause-double
-returns-in_err-add-clause-double c =
-    let p = err_from_is_err_and c.from_residual.result c.from_residual.ensures.1 in
-    rw (p.1, p.2) (λ apart.
-    labels_double c.args.address _ c.loop-text.labels _ _ c.loop-text.invariant.labels c.in-Some.text.now (labels_of c.in-Some.after.now)
-    c.in-Some.ensures.label (c.in_err-add.ensures.double apart))
-
-pub loop-text-preserved : goal.loop-text-preserved
-loop-text-preserved c = record {
-  text = sym c.in-Some.ensures.statement ∙ c.loop-text.invariant.text;
+pub loop-name-preserved : goal.loop-name-preserved
+loop-name-preserved c = record {
+  text = sym c.in-Some.ensures.statement ∙ c.loop-name.invariant.text;
   labels =
-      labels_more c.args.address _ c.loop-text.labels _ _ c.loop-text.invariant.labels c.in-Some.text.now (labels_of c.in-Some.after.now)
-      c.in-Some.ensures.label c.add.new.self c.in_ok-add.ensures.absent c.in_ok-add.ensures.added;
+      marks_more c.args.line c.args.address c.loop-name.labels.items (record { name = c.in-Some.name; address = c.args.address; line = c.args.line }) _ _
+      (labels_of c.in-Some.after.now) _ c.in_ok-push.ensures.items refl c.in-Some.ensures.label c.loop-name.invariant.labels;
 }
-
-pub returns-clause-single : goal.returns-clause-single
-returns-clause-single c = labels_done c.args.address _ c.loop-text.labels _ _ c.loop-text.invariant.labels c.in_default.ensures.no_label

@@ -1,9 +1,10 @@
-use Rattle.std.proofs.Common.{◌≡◌, ◌+◌, ◌≤◌, ◌%◌, length}
+use Rattle.std.proofs.Common.{◌≡◌, ◌+◌, ◌≤◌, ◌%◌, length, map}
 use Rattle.std.specs.Option.{option_map}
 use Rattle.text.specs.Line.{lines_of, lines_left}
 use Rattle.text.proofs.Splits.{size_left}
+use Rattle.isa.specs.Late.{mark}
 use Rattle.isa.proofs.Whole.{LinesSoFar}
-use Rattle.isa.proofs.listing.parse.Given as goal
+use Rattle.isa.proofs.listing.read_lines.Given as goal
 
 abbrev pub invariant-loop-rest : goal.invariant-loop-rest
 invariant-loop-rest l = record {
@@ -11,7 +12,9 @@ invariant-loop-rest l = record {
   small_memory : length l.memory.items ≤ 65536;
   aligned : length l.memory.items % 4 ≡ 0;
   size : l.number + size_left (option_map (λ t. t.now) l.rest) ≤ length l.bytes + 1;
-  lines : LinesSoFar l.labels l.code.items l.targets.items l.memory.items l.number (lines_left (option_map (λ t. t.now) l.rest)) (lines_of l.bytes);
+  lines :
+      LinesSoFar (map mark l.labels.items) l.code.items l.targets.items l.memory.items l.number (lines_left (option_map (λ t. t.now) l.rest))
+      (lines_of l.bytes);
 }
 
 abbrev pub decreases-loop-rest : goal.decreases-loop-rest
