@@ -80,14 +80,15 @@ fn youngest_overlapping(older: &[Entry], address: u32, width: Width) -> Option<(
     None
 }
 
-fn lacks_address(entry: &Entry) -> bool
+/// It is a store without its address.
+pub fn lacks_address(entry: &Entry) -> bool
     ensures { result ≡ lacks_address entry.now }
 {
     entry.store && entry.address.is_none()
 }
 
-// Whether a store has a byte in common with a load.
-fn overlaps(entry: &Entry, address: u32, width: Width) -> bool
+/// It is a store that has a byte in common with a load of so many bytes from an address on.
+pub fn overlaps(entry: &Entry, address: u32, width: Width) -> bool
     ensures { result ≡ overlaps address (bytes width) entry.now }
 {
     if !entry.store {
@@ -106,8 +107,8 @@ fn end_of(address: u32, width: Width) -> u64
     u64::from(address) + u64::from(width.bytes())
 }
 
-// The bytes of a load from the data of a store, where it has them all.
-fn taken_from(store: &Entry, address: u32, width: Width) -> Option<u32>
+/// The bytes of a load from the data of a store, where it has them all.
+pub fn taken_from(store: &Entry, address: u32, width: Width) -> Option<u32>
     ensures { let stored = bytes store.now.width in
         result ≡ taken_from store.now.address stored store.now.content address (bytes width) }
 {

@@ -7,7 +7,7 @@ mod entry;
 mod law;
 mod queue;
 
-pub use answer::Answer;
+pub use answer::{Answer, lacks_address, overlaps, taken_from};
 pub use entry::{Entry, Width};
 pub use law::loads_read_the_last_stores;
 pub use queue::{Full, MOST_ENTRIES, Queue};

@@ -7,6 +7,7 @@ pub mod CreatorsKept
 pub mod WindowKept
 pub mod Accesses
 pub mod Entries
+pub mod LookBack
 pub mod Ring
 pub mod Noted
 pub mod Windows

@@ -3,6 +3,7 @@ pub mod Slots
 pub mod Creators
 pub mod Givers
 pub mod Loads
+pub mod Forwarding
 pub mod Notes
 pub mod Stages
 pub mod Ahead

@@ -1,5 +1,5 @@
 -- Loads over the live memory instructions before them.
-use Rattle.std.specs.Prelude.{◌≡◌, ◌<◌, ◌≤◌, is_some, ℕ, zero, suc, ◌+◌, Bool, false, List, [], ◌∷◌, ◌++◌, length, take, Option, Some, None, if◌then◌else◌, slice_index, slice_get}
+use Rattle.std.specs.Prelude.{◌≡◌, ◌≤◌, is_some, ℕ, zero, suc, ◌+◌, Bool, false, List, [], ◌∷◌, ◌++◌, length, take, Option, Some, None, if◌then◌else◌, slice_index, slice_get}
 use Rattle.instructions.specs.Instruction.{kind, second_of, width}
 use Rattle.instructions.specs.Operations.{loaded}
 use Rattle.instructions.specs.declared.op.Kind.{Kind}
@@ -82,7 +82,3 @@ AreInside size W = (k : ℕ) (w : Station) → slice_get W k ≡ Some w → IsIn
 abbrev pub waits_at : Option Station → Bool
 waits_at None = false
 waits_at (Some w) = is_some (waits w)
-
--- No load waits for its value
-abbrev pub NoneWaits : List Station → Type 0
-NoneWaits W = (k : ℕ) → k < length W → waits_at (slice_get W k) ≡ false

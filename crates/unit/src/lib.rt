@@ -7,6 +7,7 @@ mod committed;
 mod creators;
 mod dispatch;
 mod execute;
+mod forwarding;
 mod leaver;
 mod memory_port;
 mod pipeline;

@@ -1,12 +1,8 @@
 use Rattle.std.proofs.Common.{◌≡◌, ◌<◌, ℕ, None}
 use Rattle.unit.specs.Givers.{gives}
-use Rattle.unit.specs.Loads.{entries, load_in}
+use Rattle.unit.specs.Loads.{load_in}
 use Rattle.unit.proofs.memory_port.oldest_answered.Given as goal
 
 abbrev pub invariant-loop-at : goal.invariant-loop-at
 invariant-loop-at l =
-    record {
-      queue : l.queue.entries ≡ entries l.ahead.registers l.window l.at;
-      capacity : l.queue.capacity ≡ 32;
-      none : (k : ℕ) → k < l.at → gives (load_in l.ahead.registers l.ahead.memory) l.window k ≡ None;
-    }
+    (k : ℕ) → k < l.at → gives (load_in l.ahead.registers l.ahead.memory) l.window k ≡ None

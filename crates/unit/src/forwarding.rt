@@ -1,0 +1,121 @@
+//! Store-to-load forwarding: what the older stores are to a load.
+ghost use Rattle.std.specs.Prelude.{◌≡◌, ◌<◌, ◌≤◌, length, take, slice_get, Some};
+ghost use Rattle.instructions.specs.Instruction.{second_of};
+ghost use Rattle.lsq.specs.Entries.{bytes};
+ghost use Rattle.inorder.specs.Loads.{access_width, is_store as is_store_of};
+ghost use Rattle.unit.specs.Forwarding.{joined as joined_of, older_of, store_at as store_in};
+ghost use Rattle.unit.specs.Loads.{address_of as address_by, entries, entry as entry_of};
+ghost use Rattle.unit.specs.Window.{source_in};
+
+use crate::ahead::Ahead;
+use crate::source::source;
+use crate::station::{Stage, Station};
+use crate::window::Window;
+use instructions::{Kind, Op};
+use lsq::{Entry, Width, lacks_address, overlaps};
+
+/// What the older stores are to a load.
+#[derive(Clone, Copy)]
+pub enum Older {
+    /// One of them has no address.
+    Unknown,
+    /// None of them has a byte of it.
+    Elsewhere,
+    /// This is the youngest of them that has.
+    Nearest(Entry),
+}
+
+/// What an operation moves.
+pub fn width(op: Op) -> Width
+    ensures { result ≡ access_width op }
+{
+    match op {
+        Op::Lb | Op::Lbu | Op::Sb => Width::Byte,
+        Op::Lh | Op::Lhu | Op::Sh => Width::Half,
+        _ => Width::Word,
+    }
+}
+
+fn address_of(stage: Stage) -> Option<u32>
+    ensures { result ≡ address_by stage }
+{
+    match stage {
+        Stage::Addr(a) => Some(a),
+        _ => None,
+    }
+}
+
+fn is_store(kind: Kind) -> bool
+    ensures { result ≡ is_store_of kind }
+{
+    matches!(kind, Kind::Stores)
+}
+
+// What a store at `i` stores, if that was made.
+fn content(window: &Window, ahead: &Ahead, i: usize, station: &Station) -> Option<u32>
+    requires there { i < length window.now }
+    requires is { slice_get window.now i ≡ Some station.now }
+    ensures { result ≡ source_in ahead.now.registers (take i window.now) (second_of station.now.instr) }
+{
+    let creators = window.creators(i);
+    source(window, ahead, i, station.instr.second(), creators.second)
+}
+
+// What the queue holds of the memory instruction at `i`.
+fn entry(window: &Window, ahead: &Ahead, i: usize, station: &Station) -> Entry
+    requires there { i < length window.now }
+    requires is { slice_get window.now i ≡ Some station.now }
+    ensures { result ≡ entry_of ahead.now.registers (take i window.now) station.now }
+{
+    let op = station.instr.op();
+    Entry {
+        store: is_store(op.kind()),
+        width: width(op),
+        address: address_of(station.stage),
+        content: match op.kind() {
+            Kind::Stores => content(window, ahead, i, station),
+            _ => None,
+        },
+    }
+}
+
+// What the queue holds of the station at `i`, if that is a store.
+fn store_at(window: &Window, ahead: &Ahead, i: usize) -> Option<Entry>
+    requires { i ≤ length window.now }
+    ensures { result ≡ store_in ahead.now.registers window.now (slice_get window.now i) i }
+{
+    match window.peek(i) {
+        Some(station) if is_store(station.instr.op().kind()) => {
+            Some(entry(window, ahead, i, station))
+        }
+        _ => None,
+    }
+}
+
+// What the older stores are to a load with one store more.
+fn joined(older: Older, store: Entry, address: u32, width: Width) -> Older
+    ensures { result ≡ joined_of older store address (bytes width) }
+{
+    if lacks_address(&store) {
+        return Older::Unknown;
+    }
+    match older {
+        Older::Unknown => Older::Unknown,
+        _ if overlaps(&store, address, width) => Older::Nearest(store),
+        _ => older,
+    }
+}
+
+/// What the stores among the first `i` are to a load.
+pub fn look_back(window: &Window, ahead: &Ahead, i: usize, address: u32, width: Width) -> Older
+    requires { i ≤ length window.now }
+    ensures { result ≡ older_of (entries ahead.now.registers window.now i) address (bytes width) }
+{
+    let mut older = Older::Elsewhere;
+    for at in 0..i {
+        if let Some(store) = store_at(window, ahead, at) {
+            older = joined(older, store, address, width);
+        }
+    }
+    older
+}
