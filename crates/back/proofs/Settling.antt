@@ -31,8 +31,8 @@ use Rattle.ruu_words.proofs.Stays.{any_stays, back_stays}
 use Rattle.station.specs.Moments.{WasOnce}
 use Rattle.station.specs.Writeback.{IsWalk, IsWritten, MaySettle, WasStale}
 use Rattle.back.specs.Loads.{IsWaitingLoad}
-use Rattle.back.specs.Port.{IsAsked, IsBlockedAt, IsLoadOf}
-use Rattle.back.specs.Trials.{DidLoad, HasHeldBack, HasPassed, HoldsBack, IsLoadAt, NoOtherWaits, NoneWaits, SomeWaits}
+use Rattle.back.specs.Port.{IsAskedInOrder, IsBlockedAt, IsLoadOf}
+use Rattle.back.specs.Trials.{DidLoad, HasHeldBack, HasPassed, HoldsBack, IsLoadAt, NoOtherWaits, NoLoadWaits, SomeWaits}
 use Rattle.back.specs.declared.port.Load.{Load}
 use Rattle.back.proofs.OwnEntries.{EndsWith, added_own, split_last}
 use Rattle.back.proofs.PortStays.{asked_stays}
@@ -68,7 +68,9 @@ done_stays P C p v U by s a h = ⊎_elim
 
 module _ (P : Program) (C : Sizes) (old new : List Entry) where
   -- a tenant keeps its name
-  named_on : (before : List Entry) → StartsWith new before → IsLegal P C new → renewals new ≡ renewals before → (p station tag : ℕ) → IsNamed (unit_of P C before) p station tag → IsNamed (unit_of P C new) p station tag
+  named_on : (before : List Entry) → StartsWith new before → IsLegal P C new →
+      renewals new ≡ renewals before → (p station tag : ℕ) → IsNamed (unit_of P C before) p station tag →
+      IsNamed (unit_of P C new) p station tag
   named_on before starts legal same p station tag n =
       let i = any_stays P C p station tag starts.more before (subst (IsLegal P C) starts.is legal) (sym (ap renewals starts.is) ∙ same) (record { tenant = n.tenant; is = n.is; new = n.new; station_is = n.station_is; tag_is = n.tag_is; fact = tt }) in
       subst (λ h. IsNamed (unit_of P C h) p station tag) (sym starts.is) (record { tenant = i.tenant; is = i.is; new = i.new; station_is = i.station_is; tag_is = i.tag_is })
@@ -142,7 +144,9 @@ module _ (P : Program) (C : Sizes) (old new : List Entry) where
         let now = subst (λ h. Has (unit_of P C h) w.p (λ t. t.fate ≡ Done v)) (sym all) there in
         record { tenant = w.named.tenant; is = w.named.is; new = w.named.new; station_is = w.named.station_is; tag_is = w.named.tag_is; fact = subst (λ (x : Tenant). x.fate ≡ Done v) (found now.tenant w.named.tenant (sym now.is ∙ w.named.is)) now.fact }
       where
-        step : (U : UpdateUnit) (by : ℕ) (s : Step) → IsNotBacks s → Allowed P C U by s → IsSound P U.tenants → CanLoad P U p address v ⊎ IsStale U p → CanLoad P (applied P C U by s) p address v ⊎ IsStale (applied P C U by s) p
+        step : (U : UpdateUnit) (by : ℕ) (s : Step) → IsNotBacks s → Allowed P C U by s →
+            IsSound P U.tenants → CanLoad P U p address v ⊎ IsStale U p →
+            CanLoad P (applied P C U by s) p address v ⊎ IsStale (applied P C U by s) p
         step U by s b al ok (inl c) = load_stays P C U by s b al ok p address v c
         step U by s b al ok (inr g) = inr (gone_stays P C U by s al p g)
 
@@ -176,7 +180,9 @@ module _ (P : Program) (C : Sizes) (old new : List Entry) where
 pub stale_waits_not : (P : Program) (U : UpdateUnit) (p : ℕ) → IsStale U p → ¬ Has U p (IsWaitingLoad P)
 stale_waits_not P U p g w = apart (sym w.fact.load.live ∙ (ap (λ (z : Tenant). z.standing) (found w.tenant g.tenant (sym w.is ∙ g.is)) ∙ g.fact))
 
-pub may_settle : (P : Program) (C : Sizes) (seen : List Entry) (p station tag address v : ℕ) → IsNamed (unit_of P C seen) p station tag → CanLoad P (unit_of P C seen) p address v ⊎ IsStale (unit_of P C seen) p → MaySettle P C seen station tag v
+pub may_settle : (P : Program) (C : Sizes) (seen : List Entry) (p station tag address v : ℕ) →
+    IsNamed (unit_of P C seen) p station tag →
+    CanLoad P (unit_of P C seen) p address v ⊎ IsStale (unit_of P C seen) p → MaySettle P C seen station tag v
 may_settle P C seen p station tag address v n c = record {
   address = address;
   can = record { p = p; named = record { tenant = n.tenant; is = n.is; new = n.new; station_is = n.station_is; tag_is = n.tag_is; fact = tt }; can = c };
@@ -191,7 +197,7 @@ module _ (P : Program) (C : Sizes) (old mid late : List Entry) (first : Adds P C
   pub named_late : IsNamed (unit_of P C late) w.p station l.tag
   named_late = named_later P C mid late [] then w.p station l.tag w.named
 
-  pub asked_late : IsAsked P (unit_of P C late) w.p station l
+  pub asked_late : IsAskedInOrder P (unit_of P C late) w.p station l
   asked_late = asked_stays P C mid late then w.p station l w.asked
 
   module _ (new : List Entry) where
@@ -199,12 +205,15 @@ module _ (P : Program) (C : Sizes) (old mid late : List Entry) (first : Adds P C
     others : StartsWith new late → NoOtherWaits P C old new station w.p
     others starts q other h = once_later P C old mid new (λ U. ¬ Has U q (IsWaitingLoad P)) (starts_on new late mid starts then.begins) (w.others q other h)
 
-    none : StartsWith new late → ¬ Has (unit_of P C new) w.p (IsWaitingLoad P) → NoneWaits P C old new station
+    none : StartsWith new late → ¬ Has (unit_of P C new) w.p (IsWaitingLoad P) → NoLoadWaits P C old new station
     none starts no_wait q h = dite (ℕ_discrete q w.p)
         (λ same. once_now P C old new (λ U. ¬ Has U q (IsWaitingLoad P)) (starts_on new late old starts both.begins) (λ x. no_wait (subst (λ z. Has (unit_of P C new) z (IsWaitingLoad P)) same x)))
         (λ other. others starts q other h)
 
-    pub did_load : (address v : ℕ) → CanLoad P (unit_of P C late) w.p address v ⊎ IsStale (unit_of P C late) w.p → IsWritten P C back late new station l.tag LoadIt (λ q. IsWalk P C new q) → DidLoad P C back old new station l.tag v
+    pub did_load : (address v : ℕ) →
+        CanLoad P (unit_of P C late) w.p address v ⊎ IsStale (unit_of P C late) w.p →
+        IsWritten P C back late new station l.tag LoadIt (λ q. IsWalk P C new q) →
+        DidLoad P C back old new station l.tag v
     did_load address v can x = record {
       p = x.p;
       tenant = is_done P C late new station l.tag w.p address v named_late can x;

@@ -75,7 +75,10 @@ impl Committed {
     /// Writes the low `width` bytes of a number from an address on.
     pub fn store_at(&mut self, at: usize, width: usize, value: u32)
         requires inside { at + width ≤ length self.old.memory }
-        ensures { self.new ≡ record self.old { memory = store_bytes self.old.memory at width value } }
+        ensures { self.new ≡ record self.old {
+          memory = store_bytes
+              self.old.memory at width value;
+        } }
     {
         store(self.memory.as_mut_slice(), at, width, value);
     }
@@ -93,7 +96,12 @@ impl Committed {
     pub fn advance(&mut self, r: Reg, v: u32, next: u32)
         requires { self.old.count < 2 ^ 64 - 1 }
         ensures registers { self.new.registers ≡ write self.old.registers r v }
-        ensures rest { self.new ≡ record { registers = self.new.registers; memory = self.old.memory; pc = next; count = suc self.old.count } }
+        ensures rest { self.new ≡ record {
+          registers = self.new.registers;
+          memory = self.old.memory;
+          pc = next;
+          count = suc self.old.count;
+        } }
     {
         self.write(r, v);
         self.pc = next;

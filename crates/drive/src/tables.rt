@@ -77,7 +77,8 @@ fn push_stations<P: Predictor + Drop, J: Naming, R: Wait>(
 ) -> Result<(), AllocError>
     requires { string_bytes out.old ≡ [] }
     ensures { OnOk result
-        (AreRows session.old (of_stations session.old.core.sizes.ring) (string_bytes out.new) session.new) }
+        (AreRows session.old (of_stations session.old.core.sizes.ring)
+        (string_bytes out.new) session.new) }
 {
     let ring = session.ring();
     for station in 0..ring as u32 {

@@ -12,11 +12,12 @@ use Rattle.inorder.proofs.Positions.{all_at, at_below, at_more, at_new}
 use Rattle.inorder.proofs.Sound.{IsSound}
 use Rattle.front.specs.declared.path.base_state.Base.{Base}
 use Rattle.front.specs.declared.path.record.Record.{Record}
-use Rattle.front.specs.Knows.{IsFolded, IsNewest, IsReused, Knows, whats}
-use Rattle.front.specs.Path.{told_of}
-use Rattle.front.specs.Rests.{HasNobody, TellsEach, TellsRecords, all_untold, is_let_to, is_untold}
+use Rattle.front.specs.Knows.{IsFolded, IsNewest, IsReused, FrontKnows, whats}
+use Rattle.front.specs.Path.{rested_at}
+use Rattle.front.specs.Rests.{TellsEach, TellsRecords, all_untold, is_let_to, is_untold}
 use Rattle.front.specs.Training.{ToldIf}
 use Rattle.front.specs.Trail.{Note, is_guessed, note, trail}
+use Rattle.station.specs.Renewals.{HasNobody}
 use Rattle.front.proofs.Lists.{Last, all_front, all_rest, all_two, last_cases, last_same, whats_append}
 use Rattle.front.proofs.Resting.{left_path}
 use Rattle.front.proofs.Trained.{went_on}
@@ -41,7 +42,8 @@ module _ {S : Type 0} (Learns : S → ℕ → ℕ → S → Type 0) where
   tells_last [] x a c t = record { middle = a; first = refl; last = subst (λ z. ToldIf Learns x.guessed x.pc x.next a z) (sym t.1.1) t.1.0 }
   tells_last (y ∷ xs) x a c t = let l = tells_last xs x t.0 c t.1.1 in record { middle = l.middle; first = (t.0, (t.1.0, l.first)); last = l.last }
 
-  each_more : (P : Program) (ts : List Tenant) (t : Tenant) (a b c : S) → TellsEach Learns P ts a b → ToldIf Learns (is_guessed P t) t.pc (computed_next P t) b c → TellsEach Learns P (ts ++ t ∷ []) a c
+  each_more : (P : Program) (ts : List Tenant) (t : Tenant) (a b c : S) → TellsEach Learns P ts a b →
+      ToldIf Learns (is_guessed P t) t.pc (computed_next P t) b c → TellsEach Learns P (ts ++ t ∷ []) a c
   each_more P [] t a b c e u = (c, (subst (λ z. ToldIf Learns (is_guessed P t) t.pc (computed_next P t) z c) e u, refl))
   each_more P (v ∷ ts) t a b c e u = (e.0, (e.1.0, each_more P ts t e.0 b c e.1.1 u))
 
@@ -136,7 +138,9 @@ module _ {S : Type 0} (Learns : S → ℕ → ℕ → S → Type 0) (P : Program
     told_it : on_path t ≡ true → (a b : S) → ToldIf Learns (is_guessed P t) t.pc t.next a b → ToldIf Learns (is_guessed P t) t.pc (computed_next P t) a b
     told_it on a b x = subst (λ z. ToldIf Learns (is_guessed P t) t.pc z a b) (sym (went_on P U.tenants ok (length ts) t its_place (left_path t on dead))) x
 
-  pub tells_all : (ts younger : List Tenant) → U.tenants ≡ glue younger ts → (g ns : List Note) → trail P ts ≡ g ++ ns → AllByRecursion (IsFolded U told) g → AllByRecursion IsIn ns → (a b : S) → TellsRecords Learns (whats ns) a b → TellsEach Learns P (all_untold told younger ts) a b
+  pub tells_all : (ts younger : List Tenant) → U.tenants ≡ glue younger ts → (g ns : List Note) →
+      trail P ts ≡ g ++ ns → AllByRecursion (IsFolded U told) g → AllByRecursion IsIn ns → (a b : S) →
+      TellsRecords Learns (whats ns) a b → TellsEach Learns P (all_untold told younger ts) a b
   tells_all [] younger split g ns path outs ins a b tells = empty g ns path tells
     where
       empty : (g ns : List Note) → [] ≡ g ++ ns → TellsRecords Learns (whats ns) a b → b ≡ a
@@ -171,9 +175,10 @@ module _ {S : Type 0} (Learns : S → ℕ → ℕ → S → Type 0) (P : Program
       go false e rest = with_none (off_untold t ts younger split e) (rest g ns (sym (trail_off P t ts e) ∙ path) outs ins a b tells)
 
 -- All that are kept are all of whom nobody was told
-pub all_told : {S : Type 0} (Learns : S → ℕ → ℕ → S → Type 0) (P : Program) (C : Sizes) (U : UpdateUnit) → IsSound P U.tenants → HasNobody U → (records : List Record) (base : Base) → Knows P C U records base
-    → (a b : S) → TellsRecords Learns records a b → TellsEach Learns P (all_untold (told_of base) [] U.tenants) a b
+pub all_told : {S : Type 0} (Learns : S → ℕ → ℕ → S → Type 0) (P : Program) (C : Sizes) (U : UpdateUnit) →
+    IsSound P U.tenants → HasNobody U → (records : List Record) (base : Base) → FrontKnows P C U records base
+    → (a b : S) → TellsRecords Learns records a b → TellsEach Learns P (all_untold (rested_at base) [] U.tenants) a b
 all_told Learns P C U ok nobody records base k a b tells =
-    tells_all Learns P U ok nobody (told_of base) U.tenants [] refl k.gone k.notes k.path k.again
-    (all_two (IsNewest U) (λ n. told_of base ≤ n.at) (λ n. IsNewest U n × (told_of base ≤ n.at)) (λ n x y. (x, y)) k.notes k.newest k.untold)
+    tells_all Learns P U ok nobody (rested_at base) U.tenants [] refl k.gone k.notes k.path k.again
+    (all_two (IsNewest U) (λ n. rested_at base ≤ n.at) (λ n. IsNewest U n × (rested_at base ≤ n.at)) (λ n x y. (x, y)) k.notes k.newest k.untold)
     a b (subst (λ z. TellsRecords Learns z a b) k.are tells)

@@ -39,8 +39,10 @@ pub fn fetch(
     requires knows { KnowsPath core.now seat.old.seen path.now }
     ensures kept { IsSame seat.old seat.new }
     ensures history { AddsNothing core.now seat.old.seen seat.new.seen }
-    ensures ok { IfOk result (CanFetch core.now.program core.now.sizes seat.new.seen path.now.records) }
-    ensures err { IfErr result (Refuses core.now.program core.now.sizes seat.old.seen seat.new.seen) }
+    ensures ok { IfOk result (CanFetch core.now.program core.now.sizes
+        seat.new.seen path.now.records) }
+    ensures err { IfErr result (Refuses core.now.program core.now.sizes
+        seat.old.seen seat.new.seen) }
 {
     let station = path.next_station(core.ring());
     let ahead = core.look(seat, station);

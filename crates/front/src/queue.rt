@@ -48,7 +48,8 @@ pub fn queue_is_full(core: &Core, seat: &mut FrontSeat, path: &Path, instr: &Ins
     requires knows { KnowsPath core.now seat.old.seen path.now }
     ensures kept { IsSame seat.old seat.new }
     ensures history { AddsNothing core.now seat.old.seen seat.new.seen }
-    ensures reply { QueueSays core.now.program core.now.sizes (unit_of core.now.program core.now.sizes seat.new.seen) instr.now result }
+    ensures reply { QueueSays core.now.program core.now.sizes
+        (unit_of core.now.program core.now.sizes seat.new.seen) instr.now result }
 {
     if !reaches_memory(instr) {
         return false;

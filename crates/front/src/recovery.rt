@@ -3,7 +3,7 @@ ghost use Rattle.std.specs.Prelude.{◌≡◌, ◌≤◌, ◌+◌, ◌*◌, [], 
 ghost use Rattle.inorder.specs.History.{Adds, IsLegal, front};
 ghost use Rattle.front.specs.CreateTable.{IsTouched};
 ghost use Rattle.front.specs.Fronts.{AddsNothing, KnowsPath, KnowsTable};
-ghost use Rattle.front.specs.Recoveries.{Finds, IsCut, IsMissAt, RecoverAnswers, squashed_by};
+ghost use Rattle.front.specs.Recoveries.{ScanFinds, IsCut, IsMissAt, RecoverAnswers, squashed_by};
 ghost use Rattle.station.specs.Seats.{IsSame};
 
 use crate::answers::Recovery;
@@ -27,7 +27,8 @@ fn find_miss(core: &Core, seat: &mut FrontSeat, path: &Path) -> Option<Missed>
     requires knows { KnowsPath core.now seat.old.seen path.now }
     ensures kept { IsSame seat.old seat.new }
     ensures history { AddsNothing core.now seat.old.seen seat.new.seen }
-    ensures reply { Finds core.now.program core.now.sizes seat.old.seen seat.new.seen path.now.records result }
+    ensures reply { ScanFinds core.now.program core.now.sizes
+        seat.old.seen seat.new.seen path.now.records result }
 {
     for at in 0..path.records.len() {
         let Some(record) = path.records.at(at) else {
@@ -91,7 +92,8 @@ pub fn recover_on(
     requires knows { KnowsPath core.now seat.old.seen path.old }
     requires table { KnowsTable core.now seat.old.seen path.old.base creators.old }
     ensures kept { IsSame seat.old seat.new }
-    ensures reply { RecoverAnswers core.now.program core.now.sizes seat.old.seen seat.new.seen result }
+    ensures reply { RecoverAnswers core.now.program core.now.sizes
+        seat.old.seen seat.new.seen result }
     ensures base { path.new.base ≡ path.old.base }
     ensures knows { KnowsPath core.now seat.new.seen path.new }
     ensures table { KnowsTable core.now seat.new.seen path.new.base creators.new }

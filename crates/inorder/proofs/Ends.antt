@@ -8,7 +8,7 @@ use Rattle.inorder.specs.declared.history.Act.TheVariants.{Claim, Deliver, Finis
 use Rattle.inorder.specs.declared.history.Source.TheVariants.{First, Second}
 use Rattle.inorder.specs.declared.history.Step.{Step}
 use Rattle.inorder.specs.declared.history.Step.TheVariants.{Let, On, Renew}
-use Rattle.inorder.specs.Callers.{CanLeave, CanMend, CanSquash, IsMissing, IsYoungest}
+use Rattle.inorder.specs.Callers.{CanLeave, CanMend, CanSquash, IsMissing, IsYoungestLive}
 use Rattle.inorder.specs.Legal.{Allowed, May, applied, changed}
 use Rattle.inorder.specs.Replies.{Has}
 use Rattle.inorder.specs.Steps.{CanRetire, IsNoRetiredStop, MayMend, MayRetire, MaySquash, new_tenant}
@@ -63,7 +63,9 @@ stands_on P by Squash ys t ts m = inr (is_squashed m)
 stands_on P by Mend ys t ts m = inl (mended_station t t.fate).1
 
 -- others than the front squash none
-besides_squash : (P : Program) (by : ℕ) (act : Act) (ys : List Tenant) (t : Tenant) (ts : List Tenant) → IsBesidesAct act → May P by act ys t ts → ((changed P by act t ts).standing ≡ t.standing) ⊎ ((n : ℕ) × MayRetire P n ts t)
+besides_squash : (P : Program) (by : ℕ) (act : Act) (ys : List Tenant) (t : Tenant) (ts : List Tenant) →
+    IsBesidesAct act → May P by act ys t ts →
+    ((changed P by act t ts).standing ≡ t.standing) ⊎ ((n : ℕ) × MayRetire P n ts t)
 besides_squash P by (Link k) ys t ts b m = absurd b
 besides_squash P by (Deliver First) ys t ts b m = inl refl
 besides_squash P by (Deliver Second) ys t ts b m = inl refl
@@ -75,7 +77,8 @@ besides_squash P by Squash ys t ts b m = absurd b
 besides_squash P by Mend ys t ts b m = absurd b
 
 -- a miss stays one, but for the front
-miss_on : (P : Program) (by : ℕ) (act : Act) (ys : List Tenant) (t : Tenant) (ts : List Tenant) (x : ℕ) → IsBesidesAct act → May P by act ys t ts → t.fate ≡ Miss x → (changed P by act t ts).fate ≡ Miss x
+miss_on : (P : Program) (by : ℕ) (act : Act) (ys : List Tenant) (t : Tenant) (ts : List Tenant) (x : ℕ) →
+    IsBesidesAct act → May P by act ys t ts → t.fate ≡ Miss x → (changed P by act t ts).fate ≡ Miss x
 miss_on P by (Link k) ys t ts x b m e = absurd b
 miss_on P by (Deliver First) ys t ts x b m e = e
 miss_on P by (Deliver Second) ys t ts x b m e = e
@@ -102,7 +105,9 @@ miss_stays P C U by s b a p x i = ⊎_elim
 
 -- The youngest live tenant
 
-pub youngest_stays : (P : Program) (C : Sizes) (U : UpdateUnit) (by : ℕ) (s : Step) → IsBesides s → Allowed P C U by s → IsSound P U.tenants → (p : ℕ) → IsYoungest U p → IsYoungest (applied P C U by s) p
+pub youngest_stays : (P : Program) (C : Sizes) (U : UpdateUnit) (by : ℕ) (s : Step) → IsBesides s →
+    Allowed P C U by s → IsSound P U.tenants → (p : ℕ) → IsYoungestLive U p →
+    IsYoungestLive (applied P C U by s) p
 youngest_stays P C U by (Let i x f n) b a ok p y = absurd b
 youngest_stays P C U by (On r act) b a ok p y = λ q t lt is live. let was = came P C U by r act a ok q t is in y q was.tenant lt was.is (was.goes.live live)
 youngest_stays P C U by Renew b a ok p y = y
@@ -187,7 +192,9 @@ may_retire P U p n f c small =
     }
 
 -- a fate that can retire stays
-ready_fate : (P : Program) (by : ℕ) (act : Act) (ys : List Tenant) (t : Tenant) (ts : List Tenant) (f : Fate) → IsNotBacksAct act → May P by act ys t ts → t.fate ≡ f → CanRetire (kind_of P t) t.second.value f → (changed P by act t ts).fate ≡ f
+ready_fate : (P : Program) (by : ℕ) (act : Act) (ys : List Tenant) (t : Tenant) (ts : List Tenant) (f : Fate) →
+    IsNotBacksAct act → May P by act ys t ts → t.fate ≡ f → CanRetire (kind_of P t) t.second.value f →
+    (changed P by act t ts).fate ≡ f
 ready_fate P by (Link First) ys t ts f b m e c = e
 ready_fate P by (Link Second) ys t ts f b m e c = e
 ready_fate P by (Deliver First) ys t ts f b m e c = e
@@ -208,7 +215,9 @@ can_more k k' b b' (Miss x) e g c = absurd c
 can_more k k' b b' (Stopped x) e g c = tt
 
 -- a retired tenant keeps its fate, and none retires here
-pub retired_on : (P : Program) (by : ℕ) (act : Act) (ys : List Tenant) (t : Tenant) (ts : List Tenant) → IsNotBacksAct act → May P by act ys t ts → (changed P by act t ts).standing ≡ Retired → (t.standing ≡ Retired) × ((changed P by act t ts).fate ≡ t.fate)
+pub retired_on : (P : Program) (by : ℕ) (act : Act) (ys : List Tenant) (t : Tenant) (ts : List Tenant) →
+    IsNotBacksAct act → May P by act ys t ts → (changed P by act t ts).standing ≡ Retired →
+    (t.standing ≡ Retired) × ((changed P by act t ts).fate ≡ t.fate)
 retired_on P by (Link First) ys t ts b m e = (e, refl)
 retired_on P by (Link Second) ys t ts b m e = (e, refl)
 retired_on P by (Deliver First) ys t ts b m e = (e, refl)

@@ -123,7 +123,7 @@ IsAlive _ = Unit {0}
 -- What a seat has seen begins the history, and has all entries of its caller; it goes on from the
 -- history that the table opened with, and nobody whose number it may still give away has done anything
 -- since
-pub record Fits (opening h : List Entry) (v : View) : Type 0 where
+pub record ViewFits (opening h : List Entry) (v : View) : Type 0 where
   pub begins : StartsWith h v.seen
   pub told : StartsWith h v.told
   pub opened : IsAlive v.role → StartsWith v.seen opening
@@ -143,7 +143,7 @@ pub record IsKept (P : Program) (C : Sizes) (opening : List Entry) (s : State �
   pub words : (x : Place) → IsPlace C.ring x →
       Content P C (unit_of P C h) d x (slice_index s.words (index C.ring x))
   -- each seat has seen a beginning of the history
-  pub views : (id : ℕ) (v : View) → get_elem? s.views id ≡ some v → Fits opening h v
+  pub views : (id : ℕ) (v : View) → get_elem? s.views id ≡ some v → ViewFits opening h v
   -- no two have a number in common
   pub apart : (i j n : ℕ) (u v : View) → get_elem? s.views i ≡ some u → get_elem? s.views j ≡ some v →
       i ≢ j → IsAlive u.role → IsAlive v.role → IsOf u n → ¬ IsOf v n

@@ -1,6 +1,6 @@
 //! What the front keeps of its tenants.
 ghost use Rattle.std.specs.Prelude.{◌≡◌, ◌<◌, ◌≤◌, ◌-◌, [], ◌∷◌, ◌++◌, length, take, slice_get, IfSome, IfNone};
-ghost use Rattle.front.specs.Path.{GoesOn, record_for};
+ghost use Rattle.front.specs.Path.{YoungestGoesOn, record_for};
 ghost use Rattle.front.specs.Training.{ToldIf};
 
 use crate::fetch::Fetched;
@@ -50,7 +50,8 @@ pub(super) fn new_record(next: &Fetched, tag: u32, predicted: u32) -> Record
 impl Record {
     /// Tells a predictor how its instruction went on, if that was asked about it.
     pub fn tell<P: Predictor>(&self, predictor: &mut P)
-        ensures { ToldIf P.Learns self.now.guessed self.now.pc self.now.next predictor.old predictor.new }
+        ensures { ToldIf P.Learns self.now.guessed self.now.pc self.now.next
+            predictor.old predictor.new }
     {
         if self.guessed {
             predictor.told(self.pc, self.next);
@@ -131,7 +132,7 @@ impl Records {
 
     /// The youngest goes on elsewhere.
     pub fn redirect(&mut self, next: u32)
-        ensures { GoesOn next self.old self.new }
+        ensures { YoungestGoesOn next self.old self.new }
     {
         if let Some(youngest) = self.records.pop() {
             self.records.push(Record { next, ..youngest });

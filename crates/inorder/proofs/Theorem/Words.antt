@@ -6,7 +6,7 @@ use Rattle.std.specs.Int.{w32, w8, w16, cast_unsigned, int_div_euclid}
 use Rattle.std.specs.Int.Bits.{and_lt}
 use Rattle.std.proofs.lemmas.Nat.{or_of_32, xor_of_32}
 use Rattle.instructions.specs.Operations.{as_address, as_value, checked_address, computed_by, extended, fits_word, fitted, flag, jump_target, loaded, outcome_by, shifted_left, shifted_signed, signed, taken_if}
-use Rattle.instructions.specs.Products.{divided, half_of, product, signed_divided, signed_product}
+use Rattle.instructions.specs.Products.{divided, word_of_half, product, signed_divided, signed_product}
 use Rattle.instructions.specs.declared.instr.Instr.{Instr}
 use Rattle.instructions.specs.declared.op.Half.{Half}
 use Rattle.instructions.specs.declared.op.Half.TheVariants.{High, Low}
@@ -56,7 +56,7 @@ shifted_left_word : (a n : ℕ) → IsWord (shifted_left a n)
 shifted_left_word a n = word_sum (a * 2 ^ n)
 
 -- products and quotients
-half_word : (half : Half) (n : ℕ) → IsWord (half_of half n)
+half_word : (half : Half) (n : ℕ) → IsWord (word_of_half half n)
 half_word Low n = omega arith
 half_word High n = omega arith
 

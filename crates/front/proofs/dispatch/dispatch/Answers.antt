@@ -8,11 +8,11 @@ use Rattle.inorder.specs.declared.history.Source.TheVariants.{First, Second}
 use Rattle.inorder.specs.History.{Adds, front, unit_of}
 use Rattle.station.specs.Letting.{let_of}
 use Rattle.front.specs.Creators.{supply_in}
-use Rattle.front.specs.Knows.{Knows}
+use Rattle.front.specs.Knows.{FrontKnows}
 use Rattle.front.specs.CreateTable.{IsEntered, HasTable}
 use Rattle.front.specs.declared.path.counted.Table.{Table}
 use Rattle.front.specs.declared.path.record.Record.{Record}
-use Rattle.front.specs.Path.{record_for, told_of}
+use Rattle.front.specs.Path.{record_for, rested_at}
 use Rattle.front.proofs.Dispatching.{IsIndex, dispatched, first_pends, index_of, knows_end, may_let_out, second_pends, small_creator, table_end}
 use Rattle.front.proofs.Questioned.{may_ask, second_still}
 use Rattle.front.proofs.dispatch.dispatch.Goals as goal
@@ -110,7 +110,7 @@ returns-clause-knows c =
     let adds : Adds P C front old new (let_of (record { index = c.saturating_sub-index.result / 4; half = f.half; predicted = c.args.predicted; sources = (c.supply-first.result, c.supply-second.result) }) ∷ []) = subst (λ i. Adds P C i old new (let_of (record { index = c.saturating_sub-index.result / 4; half = f.half; predicted = c.args.predicted; sources = (c.supply-first.result, c.supply-second.result) }) ∷ [])) c.requires.by c.let_out-tag.ensures.history in
     let tag = c.let_out-tag.result in
     let kept : c.enter.new.self.records ≡ records ++ record_for f tag c.args.predicted ∷ [] = c.enter.ensures.records in
-    subst (λ (z : List Record × Base). Knows P C (unit_of P C c.ask-2.new.seat.seen) z.0 z.1) (λ i. (sym kept i, sym c.enter.ensures.base i))
+    subst (λ (z : List Record × Base). FrontKnows P C (unit_of P C c.ask-2.new.seat.seen) z.0 z.1) (λ i. (sym kept i, sym c.enter.ensures.base i))
     (knows_end P C old c.requires.legal records base c.requires.ready f next c.args.predicted (c.saturating_sub-index.result / 4) c.ranges.predicted.fits c.requires.fixed x first_small second_small c.supply-first.result c.supply-second.result first_is second_is new adds tag c.let_out-tag.ensures.reply c.ask.new.seat.seen c.ask-2.new.seat.seen c.ask.ensures.reply c.ask-2.ensures.reply)
 
 pub returns-clause-table : goal.returns-clause-table
@@ -131,7 +131,7 @@ returns-clause-table c =
     let adds : Adds P C front old new (let_of (record { index = c.saturating_sub-index.result / 4; half = f.half; predicted = c.args.predicted; sources = (c.supply-first.result, c.supply-second.result) }) ∷ []) = subst (λ i. Adds P C i old new (let_of (record { index = c.saturating_sub-index.result / 4; half = f.half; predicted = c.args.predicted; sources = (c.supply-first.result, c.supply-second.result) }) ∷ [])) c.requires.by c.let_out-tag.ensures.history in
     let tag = c.let_out-tag.result in
     let entered : IsEntered c.args.creators.now.table c.enter.new.creators.table (record_for f tag c.args.predicted) = subst (λ (z : Table). IsEntered z c.enter.new.creators.table (record_for f tag c.args.predicted)) (c.supply-second.ensures.table ∙ c.supply-first.ensures.table) c.enter.ensures.table in
-    subst (λ (b : Base). HasTable P (unit_of P C c.ask-2.new.seat.seen) (told_of b) c.enter.new.creators.table) (sym c.enter.ensures.base)
+    subst (λ (b : Base). HasTable P (unit_of P C c.ask-2.new.seat.seen) (rested_at b) c.enter.new.creators.table) (sym c.enter.ensures.base)
     (table_end P C old c.requires.legal records base c.requires.ready f next c.args.predicted (c.saturating_sub-index.result / 4) c.ranges.predicted.fits c.requires.fixed x first_small second_small c.supply-first.result c.supply-second.result first_is second_is new adds tag c.let_out-tag.ensures.reply c.ask.new.seat.seen c.ask-2.new.seat.seen c.ask.ensures.reply c.ask-2.ensures.reply c.args.creators.now.table c.enter.new.creators.table c.requires.table (omega (arith, next.small, c.requires.most)) entered)
 
 pub returns-clause-touched : goal.returns-clause-touched

@@ -2,7 +2,7 @@
 use Rattle.std.proofs.Common.{◌<◌, [], sym, ◌∙◌, refl, subst, arith}
 use Rattle.inorder.specs.History.{Adds, front, unit_of}
 use Rattle.inorder.proofs.Histories.{adds_on}
-use Rattle.front.specs.Knows.{Knows}
+use Rattle.front.specs.Knows.{FrontKnows}
 use Rattle.front.proofs.Misses.{all_one_more, is_miss, was_none}
 use Rattle.front.proofs.Named.{all_get, small_stations}
 use Rattle.front.proofs.Splitting.{stays}
@@ -33,7 +33,7 @@ returns-in-Miss-clause-reply c =
     let base = c.args.path.now.base in
     let new = c.look-seen.new.seat.seen in
     let mine : Adds P C front c.loop-at.seat.seen new [] = subst (λ i. Adds P C i c.loop-at.seat.seen new []) (inv.same.by ∙ c.requires.by) c.look-seen.ensures.history in
-    let knows : Knows P C (unit_of P C new) records base = stays P C (λ U. Knows P C U records base) (knows_stable P C records base) c.loop-at.seat.seen new mine inv.knows in
+    let knows : FrontKnows P C (unit_of P C new) records base = stays P C (λ U. FrontKnows P C U records base) (knows_stable P C records base) c.loop-at.seat.seen new mine inv.knows in
     let here = sym c.at.ensures ∙ c.in-Some.is in
     record {
       miss = record {
@@ -62,6 +62,6 @@ loop-at-preserved c =
       core = kept.core ∙ inv.core;
       same = record { core = kept.core ∙ inv.same.core; by = kept.by ∙ inv.same.by };
       adds = both;
-      knows = stays P C (λ U. Knows P C U records base) (knows_stable P C records base) c.loop-at.seat.seen new mine inv.knows;
+      knows = stays P C (λ U. FrontKnows P C U records base) (knows_stable P C records base) c.loop-at.seat.seen new mine inv.knows;
       none = all_one_more _ records c.loop-at.at c.in-Some.record inv.none (sym c.at.ensures ∙ c.in-Some.is) (was_none P C old new c.in-Some.record c.look-seen.result both c.look-seen.ensures.reply c.in_default-state.not-Miss);
     }
