@@ -13,7 +13,8 @@ use Rattle.inorder.specs.declared.history.Entry.{Entry}
 use Rattle.inorder.specs.declared.history.Source.TheVariants.{Second}
 use Rattle.inorder.specs.Callers.{CanLoad, head_station}
 use Rattle.inorder.specs.Committed.{committed}
-use Rattle.inorder.specs.History.{Adds, back, unit_of, renewals}
+use Rattle.inorder.specs.History.{back, unit_of, renewals}
+use Rattle.inorder.specs.OneHistory.{Adds}
 use Rattle.inorder.specs.Replies.{Has, IsStale}
 use Rattle.inorder.specs.Tenants.{Live, Tenant, instr, operand}
 use Rattle.inorder.specs.Unit.{Sizes, UpdateUnit, at}

@@ -1,7 +1,8 @@
 -- A back enters behind a renewal, and where one was refused.
 use Rattle.std.proofs.Common.{◌≡◌, [], ap, ◌∙◌, subst}
 use Rattle.std.proofs.Math.Nat.{zero-mod}
-use Rattle.inorder.specs.History.{Adds, back, unit_of}
+use Rattle.inorder.specs.History.{back, unit_of}
+use Rattle.inorder.specs.OneHistory.{Adds}
 use Rattle.station.specs.Seats.{Caller, TheCore}
 use Rattle.back.specs.Backs.{unit_in}
 use Rattle.back.specs.Stills.{RefusedBacksEnter, RenewedBacksEnter, head_at}

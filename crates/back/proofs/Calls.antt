@@ -2,7 +2,8 @@
 use Rattle.std.proofs.Common.{◌≡◌, ◌≤◌, ◌<◌, ◌%◌, ◌+◌, ℕ, [], Option, None, refl, sym, ap, ◌∙◌, subst, arith, zero-le}
 use Rattle.instructions.specs.Programs.{Program}
 use Rattle.instructions.specs.declared.stop.Stop.{Stop}
-use Rattle.inorder.specs.History.{Adds, IsLegal, back}
+use Rattle.inorder.specs.History.{IsLegal, back}
+use Rattle.inorder.specs.OneHistory.{Adds}
 use Rattle.inorder.specs.Machine.{State, start}
 use Rattle.std.proofs.Math.Nat.{mod-lt}
 use Rattle.inorder.proofs.Histories.{legal_before}

@@ -11,7 +11,8 @@ use Rattle.inorder.specs.declared.history.Event.{Event}
 use Rattle.inorder.specs.declared.history.Event.TheVariants.{Does, Refuses}
 use Rattle.inorder.specs.declared.history.Refusal.TheVariants.{Over}
 use Rattle.inorder.specs.Callers.{GoesOn}
-use Rattle.inorder.specs.History.{Adds, IsLegal, back, entry, unit_of, StartsWith}
+use Rattle.inorder.specs.History.{IsLegal, back, entry, unit_of, StartsWith}
+use Rattle.inorder.specs.OneHistory.{Adds}
 use Rattle.inorder.specs.Machine.{State}
 use Rattle.inorder.specs.Replies.{IsOver}
 use Rattle.inorder.specs.Runs.{stop}

@@ -4,7 +4,8 @@ use Rattle.instructions.specs.Programs.{Program}
 use Rattle.inorder.specs.declared.history.Entry.{Entry}
 use Rattle.inorder.specs.Callers.{GoesOn as HasNoStop}
 use Rattle.inorder.specs.Committed.{ahead, committed}
-use Rattle.inorder.specs.History.{Adds, IsLegal, back, unit_of}
+use Rattle.inorder.specs.History.{IsLegal, back, unit_of}
+use Rattle.inorder.specs.OneHistory.{Adds}
 use Rattle.inorder.specs.Machine.{State, start}
 use Rattle.inorder.specs.Unit.{at}
 use Rattle.snapshots.specs.declared.snap.Snap.{Snap}

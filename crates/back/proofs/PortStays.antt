@@ -8,7 +8,8 @@ use Rattle.inorder.specs.declared.history.Entry.{Entry}
 use Rattle.inorder.specs.declared.history.Source.TheVariants.{First, Second}
 use Rattle.inorder.specs.declared.history.Step.{Step}
 use Rattle.inorder.specs.declared.history.Step.TheVariants.{Let, On, Renew}
-use Rattle.inorder.specs.History.{Adds, IsLegal, back, own, unit_of, renewals}
+use Rattle.inorder.specs.History.{IsLegal, back, own, unit_of, renewals}
+use Rattle.inorder.specs.OneHistory.{Adds}
 use Rattle.inorder.specs.Legal.{Allowed, May, applied, changed}
 use Rattle.inorder.specs.Loads.{access_width, address_by, entry_of, is_store}
 use Rattle.inorder.specs.Replies.{Has, IsStale}

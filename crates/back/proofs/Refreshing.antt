@@ -10,7 +10,8 @@ use Rattle.inorder.specs.declared.history.Act.TheVariants.{Load as LoadIt}
 use Rattle.inorder.specs.declared.history.Step.TheVariants.{On}
 use Rattle.inorder.specs.Callers.{head_station}
 use Rattle.inorder.specs.Committed.{committed}
-use Rattle.inorder.specs.History.{Adds, IsLegal, back, unit_of}
+use Rattle.inorder.specs.History.{IsLegal, back, unit_of}
+use Rattle.inorder.specs.OneHistory.{Adds}
 use Rattle.inorder.specs.Replies.{Has, IsNamed}
 use Rattle.inorder.specs.Tenants.{Tenant}
 use Rattle.inorder.specs.Unit.{Sizes, at, is_old}

@@ -6,7 +6,8 @@ use Rattle.instructions.specs.declared.stop.Stop.{Stop}
 use Rattle.inorder.specs.declared.history.Entry.{Entry}
 use Rattle.inorder.specs.declared.history.Event.{Event}
 use Rattle.inorder.specs.Committed.{committed}
-use Rattle.inorder.specs.History.{Adds, IsLegal, back, unit_of}
+use Rattle.inorder.specs.History.{IsLegal, back, unit_of}
+use Rattle.inorder.specs.OneHistory.{Adds}
 use Rattle.inorder.specs.Machine.{State, fetched}
 use Rattle.inorder.specs.Runs.{after, stop, stop_of, then_stop}
 use Rattle.inorder.specs.Unit.{Sizes}

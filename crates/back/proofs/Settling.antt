@@ -14,7 +14,8 @@ use Rattle.inorder.specs.declared.history.Source.TheVariants.{First, Second}
 use Rattle.inorder.specs.declared.history.Step.{Step}
 use Rattle.inorder.specs.declared.history.Step.TheVariants.{On}
 use Rattle.inorder.specs.Callers.{CanLoad}
-use Rattle.inorder.specs.History.{Adds, IsLegal, StartsWith, back, entry, taken_of, unit_of, renewals}
+use Rattle.inorder.specs.History.{IsLegal, StartsWith, back, entry, taken_of, unit_of, renewals}
+use Rattle.inorder.specs.OneHistory.{Adds}
 use Rattle.inorder.specs.Legal.{Allowed, May, applied, changed}
 use Rattle.inorder.specs.Memory.{load_value}
 use Rattle.inorder.specs.Replies.{Has, IsNamed, IsStale}

@@ -9,7 +9,7 @@ use Rattle.inorder.specs.declared.history.Event.TheVariants.{Does, Refuses}
 use Rattle.inorder.specs.declared.history.Refusal.TheVariants.{Empty as IsEmptyNow, NotDone as IsNotDoneNow}
 use Rattle.inorder.specs.declared.history.Step.TheVariants.{On}
 use Rattle.inorder.specs.Committed.{commits}
-use Rattle.inorder.specs.History.{Adds}
+use Rattle.inorder.specs.OneHistory.{Adds}
 use Rattle.inorder.specs.Replies.{Has}
 use Rattle.inorder.specs.Runs.{stop}
 use Rattle.inorder.specs.Tenants.{Retired as HasRetired, Stopped, Tenant, is_first}

@@ -8,7 +8,8 @@ use Rattle.inorder.specs.declared.history.Event.{Event}
 use Rattle.inorder.specs.declared.history.Event.TheVariants.{Does, Refuses}
 use Rattle.inorder.specs.declared.history.Refusal.TheVariants.{Stale}
 use Rattle.inorder.specs.declared.history.Step.TheVariants.{On}
-use Rattle.inorder.specs.History.{Adds, unit_of}
+use Rattle.inorder.specs.History.{unit_of}
+use Rattle.inorder.specs.OneHistory.{Adds}
 use Rattle.inorder.specs.Replies.{Has, IsNamed}
 use Rattle.inorder.specs.Tenants.{Done}
 use Rattle.inorder.specs.Unit.{Sizes}

@@ -2,7 +2,8 @@
 use Rattle.std.specs.Prelude.{◌≡◌, ℕ, List, []}
 use Rattle.inorder.specs.declared.history.Entry.{Entry}
 use Rattle.inorder.specs.Callers.{head_station}
-use Rattle.inorder.specs.History.{Adds, back}
+use Rattle.inorder.specs.History.{back}
+use Rattle.inorder.specs.OneHistory.{Adds}
 use Rattle.snapshots.specs.declared.snap.Snap.{Snap}
 use Rattle.station.specs.Renewals.{IsNotRenewed, IsRenewed, Seats}
 use Rattle.station.specs.Seats.{Caller, TheCore}

@@ -11,7 +11,8 @@ use Rattle.inorder.specs.declared.history.Entry.{Entry}
 use Rattle.inorder.specs.declared.history.Event.{Event}
 use Rattle.inorder.specs.declared.history.Event.TheVariants.{Does}
 use Rattle.inorder.specs.declared.history.Step.TheVariants.{On}
-use Rattle.inorder.specs.History.{Adds, unit_of}
+use Rattle.inorder.specs.History.{unit_of}
+use Rattle.inorder.specs.OneHistory.{Adds}
 use Rattle.inorder.specs.Replies.{Has, IsNamed}
 use Rattle.inorder.specs.Tenants.{Addr, Done, Live, Tenant}
 use Rattle.inorder.specs.Unit.{Sizes, UpdateUnit}

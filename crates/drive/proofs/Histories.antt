@@ -1,7 +1,8 @@
 -- Histories that begin as others.
 use Rattle.std.proofs.Common.{ℕ, List, [], ◌++◌, refl, sym, ap, ◌∙◌, append_assoc}
 use Rattle.inorder.specs.declared.history.Entry.{Entry}
-use Rattle.inorder.specs.History.{Adds, StartsWith}
+use Rattle.inorder.specs.History.{StartsWith}
+use Rattle.inorder.specs.OneHistory.{Adds}
 use Rattle.station.specs.Seats.{TheCore}
 use Rattle.drive.specs.Moments.{GrowsLegally, IsBetween}
 

@@ -1,7 +1,7 @@
 -- The job that a unit holds stays its own.
 use Rattle.std.proofs.Common.{◌≡◌, ℕ, List, [], sym, subst}
 use Rattle.inorder.specs.declared.history.Entry.{Entry}
-use Rattle.inorder.specs.History.{Adds}
+use Rattle.inorder.specs.OneHistory.{Adds}
 use Rattle.station.specs.declared.answers.Claim.{Claim}
 use Rattle.station.specs.declared.answers.Claim.TheVariants.{Job as Claimed, Moved, NotOpen, Waiting}
 use Rattle.station.specs.declared.answers.Job.{Job}

@@ -4,7 +4,8 @@ use Rattle.std.proofs.Common.{Option, Some, None, length, get_or, set, inl, inr,
 use Rattle.std.proofs.lemmas.Bool.{cases_eq, cases_lt}
 use Rattle.std.proofs.lemmas.List.{append-nil, get_or_default}
 use Rattle.inorder.specs.declared.history.Entry.{Entry}
-use Rattle.inorder.specs.History.{Adds, StartsWith}
+use Rattle.inorder.specs.History.{StartsWith}
+use Rattle.inorder.specs.OneHistory.{Adds}
 use Rattle.drive.specs.declared.units.Claimed.{Claimed}
 use Rattle.drive.specs.declared.units.Claimed.TheVariants.{Job, Moved, NotOpen, Waiting}
 use Rattle.drive.specs.declared.units.Held.{Held}

@@ -4,7 +4,7 @@ use mathlib.Core.Logic.{dite}
 use native.Mathlib.Decide.{ℕ_discrete}
 use Rattle.inorder.specs.declared.history.Entry.{Entry}
 use Rattle.inorder.specs.History.{IsUnit, StartsWith, back, front, own}
-use Rattle.ruu_words.specs.Rule.{IsHeir}
+use Rattle.ruu_words.specs.Views.{IsHeir}
 use Rattle.station.specs.Finishing.{OnlyUnits}
 use Rattle.station.specs.Quiet.{IsQuiet}
 use Rattle.station.specs.Seats.{Caller, TheCore}

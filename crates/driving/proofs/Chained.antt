@@ -8,7 +8,8 @@ use Rattle.instructions.specs.declared.stop.Outcome.{Outcome}
 use Rattle.instructions.specs.declared.stop.Outcome.TheVariants.{Value}
 use Rattle.inorder.specs.declared.history.Entry.{Entry}
 use Rattle.inorder.specs.declared.history.Source.TheVariants.{First, Second}
-use Rattle.inorder.specs.History.{Adds, entry, front, unit_of}
+use Rattle.inorder.specs.History.{entry, front, unit_of}
+use Rattle.inorder.specs.OneHistory.{Adds}
 use Rattle.inorder.specs.Replies.{JobFields, last_tag}
 use Rattle.inorder.specs.Tenants.{Tenant, kind_of, missing_of, needs}
 use Rattle.inorder.specs.Unit.{Sizes, UpdateUnit, at, is_old}

@@ -1,6 +1,6 @@
 -- What the meetings of the first unit with all others come to.
 use Rattle.std.proofs.Common.{◌≡◌, [], ◌∙◌, subst}
-use Rattle.inorder.specs.History.{Adds}
+use Rattle.inorder.specs.OneHistory.{Adds}
 use Rattle.station.specs.Seats.{Caller, IsSame, TheCore}
 use Rattle.driving.specs.Hands.{HasHeardMore}
 use Rattle.driving.proofs.Histories.{starts_on}

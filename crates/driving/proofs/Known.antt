@@ -4,8 +4,9 @@ use mathlib.Core.Logic.{dite}
 use native.Mathlib.Decide.{ℕ_discrete}
 use Rattle.inorder.specs.declared.history.Entry.{Entry}
 use Rattle.inorder.specs.declared.history.Event.{Event}
-use Rattle.inorder.specs.History.{Adds, IsLegal, IsUnit, StartsWith, back, entry, front, own, renewals}
-use Rattle.ruu_words.specs.Rule.{IsHeir}
+use Rattle.inorder.specs.History.{IsLegal, IsUnit, StartsWith, back, entry, front, own, renewals}
+use Rattle.inorder.specs.OneHistory.{Adds}
+use Rattle.ruu_words.specs.Views.{IsHeir}
 use Rattle.station.specs.Seats.{Caller, TheCore}
 use Rattle.driving.specs.declared.seats.Seats.{Seats}
 use Rattle.driving.specs.Done.{GoesOnAlone, HaveDone}

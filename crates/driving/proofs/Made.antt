@@ -1,7 +1,7 @@
 -- The numbers of the units after the first split.
 use Rattle.std.proofs.Common.{◌≡◌, ℕ, sym, ◌∙◌, subst, inl, inr, ⊎_elim}
 use Rattle.inorder.specs.History.{IsUnit}
-use Rattle.ruu_words.specs.Rule.{IsHeir, half, other_half}
+use Rattle.ruu_words.specs.Views.{IsHeir, half, other_half}
 use Rattle.station.specs.Making.{first_unit, other_units}
 use Rattle.station.specs.Quiet.{SplitsShareNumbers, UnitsAreNumbered}
 use Rattle.driving.specs.declared.seats.Seats.{Seats}

@@ -6,7 +6,7 @@ use Rattle.instructions.specs.Programs.{Program, address, instr_of}
 use Rattle.instructions.specs.Settings.{Settings}
 use Rattle.instructions.specs.declared.op.Half.TheVariants.{Low}
 use Rattle.inorder.specs.declared.history.Entry.{Entry}
-use Rattle.inorder.specs.History.{Adds}
+use Rattle.inorder.specs.OneHistory.{Adds}
 use Rattle.inorder.specs.Replies.{last_tag}
 use Rattle.inorder.specs.Unit.{Sizes}
 use Rattle.station.specs.declared.answers.Supply.TheVariants.{From, Known}

@@ -7,13 +7,14 @@ use Rattle.instructions.specs.Programs.{Program, instr_of}
 use Rattle.instructions.specs.declared.stop.Outcome.{Outcome}
 use Rattle.inorder.specs.declared.history.Entry.{Entry}
 use Rattle.inorder.specs.declared.history.Source.TheVariants.{Second}
-use Rattle.inorder.specs.History.{Adds, IsUnit, StartsWith, front, own, unit_of}
+use Rattle.inorder.specs.History.{IsUnit, StartsWith, front, own, unit_of}
+use Rattle.inorder.specs.OneHistory.{Adds}
 use Rattle.inorder.specs.Replies.{JobFields, job_of}
 use Rattle.inorder.specs.Steps.{MaySupply}
 use Rattle.inorder.specs.Tenants.{Tenant, kind_of, missing, missing_of, needs}
 use Rattle.inorder.specs.Unit.{Sizes, UpdateUnit, creator, front_pc, next_station, next_tag, recent, value_of}
 use Rattle.ruu_words.specs.Kinds.{IsTenant}
-use Rattle.ruu_words.specs.Rule.{IsHeir}
+use Rattle.ruu_words.specs.Views.{IsHeir}
 use Rattle.station.specs.declared.answers.Claim.{Claim}
 use Rattle.station.specs.declared.answers.Claim.TheVariants.{Job as Claimed}
 use Rattle.station.specs.declared.answers.Finish.{Finish}

@@ -2,8 +2,9 @@
 use Rattle.std.specs.Prelude.{◌≡◌, ◌≢◌, ◌⊎◌, ℕ, []}
 use Rattle.instructions.specs.Programs.{Program}
 use Rattle.instructions.specs.Settings.{Settings}
-use Rattle.inorder.specs.History.{Adds, IsUnit, StartsWith, back, front, own}
-use Rattle.ruu_words.specs.Rule.{IsHeir}
+use Rattle.inorder.specs.History.{IsUnit, StartsWith, back, front, own}
+use Rattle.inorder.specs.OneHistory.{Adds}
+use Rattle.ruu_words.specs.Views.{IsHeir}
 use Rattle.station.specs.Seats.{Caller, TheCore}
 use Rattle.driving.specs.declared.seats.Seats.{Seats}
 

@@ -2,7 +2,8 @@
 use Rattle.std.proofs.Common.{◌≡◌, ℕ, [], refl, ap, ◌∙◌, subst}
 use Rattle.std.proofs.Math.Nat.{zero-mod}
 use Rattle.instructions.specs.Programs.{Program}
-use Rattle.inorder.specs.History.{Adds, front, unit_of}
+use Rattle.inorder.specs.History.{front, unit_of}
+use Rattle.inorder.specs.OneHistory.{Adds}
 use Rattle.inorder.specs.Unit.{Sizes, next_station, recent}
 use Rattle.station.specs.Seats.{Caller, TheCore}
 use Rattle.front.specs.Stills.{RefusedFrontsEnter, RenewedFrontsEnter, next_at}

@@ -9,7 +9,8 @@ use Rattle.inorder.specs.declared.history.Entry.{Entry}
 use Rattle.inorder.specs.declared.history.Source.{Source}
 use Rattle.inorder.specs.declared.history.Source.TheVariants.{First, Second}
 use Rattle.inorder.specs.declared.history.Step.TheVariants.{Let}
-use Rattle.inorder.specs.History.{Adds, IsLegal, entry, front, unit_of, renewals}
+use Rattle.inorder.specs.History.{IsLegal, entry, front, unit_of, renewals}
+use Rattle.inorder.specs.OneHistory.{Adds}
 use Rattle.inorder.specs.Legal.{applied}
 use Rattle.inorder.specs.Steps.{MayLet, MaySupply, let_operand, new_tenant}
 use Rattle.inorder.specs.Tenants.{Tenant, Unlinked, is_access, is_live, operand}

@@ -5,7 +5,8 @@ use Rattle.std.specs.List.{AllByRecursion}
 use Rattle.std.specs.Prelude.{slice_get}
 use Rattle.instructions.specs.Programs.{Program}
 use Rattle.inorder.specs.declared.history.Entry.{Entry}
-use Rattle.inorder.specs.History.{Adds, IsLegal, StartsWith, front, unit_of, renewals}
+use Rattle.inorder.specs.History.{IsLegal, StartsWith, front, unit_of, renewals}
+use Rattle.inorder.specs.OneHistory.{Adds}
 use Rattle.inorder.specs.Callers.{IsMissing}
 use Rattle.inorder.specs.Tenants.{Tenant, stands_on_path}
 use Rattle.inorder.specs.Unit.{Sizes, UpdateUnit, at}

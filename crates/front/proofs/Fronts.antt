@@ -6,7 +6,8 @@ use Rattle.instructions.specs.Programs.{Program, text_start}
 use Rattle.inorder.specs.declared.history.Entry.{Entry}
 use Rattle.inorder.specs.declared.history.Step.{Step}
 use Rattle.inorder.specs.declared.history.Step.TheVariants.{Let, On, Renew}
-use Rattle.inorder.specs.History.{Adds, IsLegal, front, own, unit_of}
+use Rattle.inorder.specs.History.{IsLegal, front, own, unit_of}
+use Rattle.inorder.specs.OneHistory.{Adds}
 use Rattle.inorder.specs.Legal.{Allowed, applied}
 use Rattle.inorder.specs.Unit.{Sizes, UpdateUnit, at, can_be_written, front_half, front_pc, newest_of, next_station, value_of}
 use Rattle.inorder.proofs.Letting.{IsBesides}

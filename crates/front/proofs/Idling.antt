@@ -1,7 +1,8 @@
 -- The look of a rest: nobody is live.
 use Rattle.std.proofs.Common.{◌≡◌, ◌≤◌, [], ◌∷◌, Some, None, sym, ◌∙◌, subst, ⊎_elim}
 use Rattle.std.specs.List.{AllByRecursion}
-use Rattle.inorder.specs.History.{Adds, front, unit_of}
+use Rattle.inorder.specs.History.{front, unit_of}
+use Rattle.inorder.specs.OneHistory.{Adds}
 use Rattle.ruu_words.specs.declared.station.StationState.{StationState}
 use Rattle.ruu_words.specs.declared.station.StationState.TheVariants.{Free}
 use Rattle.station.specs.declared.answers.Seen.{Seen}

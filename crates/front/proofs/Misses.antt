@@ -4,7 +4,8 @@ use Rattle.std.specs.List.{AllByRecursion}
 use Rattle.std.specs.Prelude.{slice_get}
 use Rattle.instructions.specs.Programs.{Program}
 use Rattle.inorder.specs.declared.history.Entry.{Entry}
-use Rattle.inorder.specs.History.{Adds, IsLegal, front, unit_of}
+use Rattle.inorder.specs.History.{IsLegal, front, unit_of}
+use Rattle.inorder.specs.OneHistory.{Adds}
 use Rattle.inorder.specs.Callers.{IsMissing}
 use Rattle.inorder.specs.Replies.{Has, HasNoMiss}
 use Rattle.inorder.specs.Tenants.{Live, Retired, Tenant, on_path, stands_on_path}

@@ -5,7 +5,8 @@ use Rattle.instructions.specs.Programs.{Program, address, instr_at, instr_of}
 use Rattle.instructions.specs.declared.instr.Instr.{Instr}
 use Rattle.inorder.specs.declared.history.Entry.{Entry}
 use Rattle.inorder.specs.declared.history.Event.{Event}
-use Rattle.inorder.specs.History.{Adds, IsLegal, front, unit_of}
+use Rattle.inorder.specs.History.{IsLegal, front, unit_of}
+use Rattle.inorder.specs.OneHistory.{Adds}
 use Rattle.inorder.specs.Replies.{HasNoInstr, IsFull, HasFullQueue, IsSpent, last_tag}
 use Rattle.inorder.specs.Tenants.{is_access}
 use Rattle.inorder.specs.Unit.{Sizes, UpdateUnit, next_station, recent}

@@ -6,7 +6,8 @@ use Rattle.inorder.specs.declared.history.Act.TheVariants.{Mend}
 use Rattle.inorder.specs.declared.history.Entry.{Entry}
 use Rattle.inorder.specs.declared.history.Event.TheVariants.{Does}
 use Rattle.inorder.specs.declared.history.Step.TheVariants.{On}
-use Rattle.inorder.specs.History.{Adds, IsLegal, front, unit_of}
+use Rattle.inorder.specs.History.{IsLegal, front, unit_of}
+use Rattle.inorder.specs.OneHistory.{Adds}
 use Rattle.inorder.specs.Unit.{Sizes}
 use Rattle.inorder.proofs.Histories.{adds_on}
 use Rattle.ruu_words.specs.Kinds.{IsAny, IsTenant}

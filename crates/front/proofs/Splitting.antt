@@ -6,7 +6,8 @@ use Rattle.inorder.specs.declared.history.Entry.{Entry}
 use Rattle.inorder.specs.declared.history.Event.{Event}
 use Rattle.inorder.specs.declared.history.Event.TheVariants.{Does, Marks, Refuses}
 use Rattle.inorder.specs.declared.history.Step.{Step}
-use Rattle.inorder.specs.History.{Adds, IsLegal, entry, front, own, unit_of}
+use Rattle.inorder.specs.History.{IsLegal, entry, front, own, unit_of}
+use Rattle.inorder.specs.OneHistory.{Adds}
 use Rattle.inorder.specs.Legal.{Allowed, applied}
 use Rattle.inorder.specs.Unit.{Sizes, UpdateUnit}
 use Rattle.inorder.proofs.Histories.{legal_before, own-append, unit_sound}

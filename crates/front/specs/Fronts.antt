@@ -4,7 +4,8 @@ use Rattle.std.specs.List.{AllByRecursion}
 use Rattle.instructions.specs.Programs.{Program}
 use Rattle.instructions.specs.declared.instr.Instr.{Instr}
 use Rattle.inorder.specs.declared.history.Entry.{Entry}
-use Rattle.inorder.specs.History.{Adds, IsLegal, front, own, unit_of}
+use Rattle.inorder.specs.History.{IsLegal, front, own, unit_of}
+use Rattle.inorder.specs.OneHistory.{Adds}
 use Rattle.inorder.specs.Tenants.{IsNotLive}
 use Rattle.station.specs.Seats.{Caller, TheCore}
 use Rattle.front.specs.declared.answers.Made.{Made}

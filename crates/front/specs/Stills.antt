@@ -1,7 +1,8 @@
 -- A front between two cores.
 use Rattle.std.specs.Prelude.{◌≡◌, ℕ, [], List, length}
 use Rattle.inorder.specs.declared.history.Entry.{Entry}
-use Rattle.inorder.specs.History.{Adds, IsLegal, front, unit_of}
+use Rattle.inorder.specs.History.{IsLegal, front, unit_of}
+use Rattle.inorder.specs.OneHistory.{Adds}
 use Rattle.inorder.specs.Unit.{next_station, recent}
 use Rattle.station.specs.Renewals.{HasNobody, IsNotRenewed, IsRenewed, Seats}
 use Rattle.station.specs.Seats.{Caller, TheCore}

@@ -1,6 +1,7 @@
 //! The front, as its callers see it.
 ghost use Rattle.std.specs.Prelude.{◌≡◌, ◌<◌, ◌*◌, []};
-ghost use Rattle.inorder.specs.History.{Adds, IsLegal, StartsWith, front};
+ghost use Rattle.inorder.specs.History.{IsLegal, StartsWith, front};
+ghost use Rattle.inorder.specs.OneHistory.{Adds};
 ghost use Rattle.front.specs.CreateTable.{IsTouched};
 ghost use Rattle.front.specs.Fronts.{AddsNothing, CreatorOf, IsUnused, KnowsPath, KnowsTable, FrontRecoversTo, RestsTo, TurnsTo};
 ghost use Rattle.front.specs.Path.{rested_at};

@@ -1,6 +1,7 @@
 //! What is let next, or why nothing is.
 ghost use Rattle.std.specs.Prelude.{◌≡◌, ◌≤◌, ◌<◌, [], IfOk, IfErr};
-ghost use Rattle.inorder.specs.History.{Adds, IsLegal, front, unit_of};
+ghost use Rattle.inorder.specs.History.{IsLegal, front, unit_of};
+ghost use Rattle.inorder.specs.OneHistory.{Adds};
 ghost use Rattle.front.specs.Fetching.{CanFetch};
 ghost use Rattle.front.specs.Fronts.{AddsNothing, KnowsPath};
 ghost use Rattle.front.specs.Turns.{Refuses};

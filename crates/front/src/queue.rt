@@ -2,7 +2,8 @@
 ghost use Rattle.std.specs.Prelude.{◌≡◌, ◌≤◌, []};
 ghost use Rattle.instructions.specs.Instruction.{kind};
 ghost use Rattle.inorder.specs.Tenants.{is_access};
-ghost use Rattle.inorder.specs.History.{Adds, IsLegal, front, unit_of};
+ghost use Rattle.inorder.specs.History.{IsLegal, front, unit_of};
+ghost use Rattle.inorder.specs.OneHistory.{Adds};
 ghost use Rattle.front.specs.Fronts.{AddsNothing, KnowsPath};
 ghost use Rattle.front.specs.Queues.{AccessBefore, QueueSays};
 ghost use Rattle.station.specs.Seats.{IsSame};

@@ -1,6 +1,7 @@
 //! Recovery from a miss.
 ghost use Rattle.std.specs.Prelude.{◌≡◌, ◌≤◌, ◌+◌, ◌*◌, [], length, take};
-ghost use Rattle.inorder.specs.History.{Adds, IsLegal, front};
+ghost use Rattle.inorder.specs.History.{IsLegal, front};
+ghost use Rattle.inorder.specs.OneHistory.{Adds};
 ghost use Rattle.front.specs.CreateTable.{IsTouched};
 ghost use Rattle.front.specs.Fronts.{AddsNothing, KnowsPath, KnowsTable};
 ghost use Rattle.front.specs.Recoveries.{ScanFinds, IsCut, IsMissAt, RecoverAnswers, squashed_by};

@@ -1,6 +1,7 @@
 //! Coming to rest: all tenants of the path have left.
 ghost use Rattle.std.specs.Prelude.{◌≡◌, ◌≤◌, [], ◌∷◌, IfSome};
-ghost use Rattle.inorder.specs.History.{Adds, IsLegal, front, unit_of};
+ghost use Rattle.inorder.specs.History.{IsLegal, front, unit_of};
+ghost use Rattle.inorder.specs.OneHistory.{Adds};
 ghost use Rattle.front.specs.Folding.{IsFolding, LeavesRecords};
 ghost use Rattle.front.specs.Fronts.{AddsNothing, KnowsPath, KnowsTable};
 ghost use Rattle.front.specs.Path.{rested_at};

@@ -8,7 +8,8 @@ use Rattle.inorder.specs.declared.history.Event.{Event}
 use Rattle.inorder.specs.declared.history.Event.TheVariants.{Does, Marks, Refuses}
 use Rattle.inorder.specs.declared.history.Step.{Step}
 use Rattle.inorder.specs.declared.history.Step.TheVariants.{Let, On, Renew}
-use Rattle.inorder.specs.History.{Adds, IsLegal, IsTheirs, MayAdd, StartsWith, entry, front, own, renewals, renewed_by, taken_of, unit_of, with_event}
+use Rattle.inorder.specs.History.{IsLegal, IsTheirs, MayAdd, StartsWith, entry, front, own, renewals, renewed_by, taken_of, unit_of, with_event}
+use Rattle.inorder.specs.OneHistory.{Adds}
 use Rattle.inorder.specs.Legal.{Allowed, AreAllowed, applied}
 use Rattle.inorder.specs.Unit.{Sizes, UpdateUnit}
 use Rattle.inorder.proofs.Kept.{sound}

@@ -21,7 +21,7 @@ use Rattle.ruu_words.specs.declared.rule.View.{View}
 use Rattle.ruu_words.specs.Content.{IsStation}
 use Rattle.ruu_words.specs.Fields.{state_of, tag_of}
 use Rattle.ruu_words.specs.Kinds.{Claims, Finds, IsAny, IsClosed, IsTenant, Looks, Peeks, Reads, Rechecks, adds_nothing}
-use Rattle.ruu_words.specs.Rule.{IsCaller}
+use Rattle.ruu_words.specs.Views.{IsCaller}
 use Rattle.ruu_words.proofs.Building.{changes, looks, tells}
 use Rattle.ruu_words.proofs.General.{Plan, Plans}
 use Rattle.ruu_words.proofs.StationWords.{its_word, live_last, live_state, not_open, one_live, open_state, still_live, the_tenant}

@@ -31,7 +31,7 @@ use Rattle.ruu_words.specs.declared.rule.View.{View}
 use Rattle.ruu_words.specs.Content.{IsDraft, IsOperand, IsStation, operand_unit}
 use Rattle.ruu_words.specs.Fields.{state_of, tag_of}
 use Rattle.ruu_words.specs.Kinds.{Heads, IsEarly, IsLate, ReadsData, Tells}
-use Rattle.ruu_words.specs.Rule.{IsCaller}
+use Rattle.ruu_words.specs.Views.{IsCaller}
 use Rattle.ruu_words.proofs.Building.{looks, tells}
 use Rattle.ruu_words.proofs.General.{Plans}
 use Rattle.ruu_words.proofs.Reading.{among, delivered, its_operand, not_live, waits}

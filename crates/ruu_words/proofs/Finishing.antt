@@ -21,7 +21,7 @@ use Rattle.ruu_words.specs.declared.rule.Role.TheVariants.{Worker}
 use Rattle.ruu_words.specs.declared.rule.View.{View}
 use Rattle.ruu_words.specs.Content.{IsStation}
 use Rattle.ruu_words.specs.Kinds.{Finishes, IsTenant, fate_of}
-use Rattle.ruu_words.specs.Rule.{IsCaller}
+use Rattle.ruu_words.specs.Views.{IsCaller}
 use Rattle.ruu_words.proofs.Building.{changes, tells}
 use Rattle.ruu_words.proofs.General.{Plan, Plans}
 use Rattle.ruu_words.proofs.StationWords.{its_word, one_live, still_live, the_tenant}

@@ -14,7 +14,9 @@ use Rattle.ruu_words.specs.declared.rule.Draft.{Draft}
 use Rattle.ruu_words.specs.declared.rule.View.{View}
 use Rattle.ruu_words.specs.Content.{Content, IsDraft}
 use Rattle.ruu_words.specs.Places.{IsPlace, index}
-use Rattle.ruu_words.specs.Rule.{ViewFits, IsAlive, IsCaller, IsKept, IsOf, Keeps, Tells}
+use Rattle.ruu_words.specs.Views.{ViewFits, IsAlive, IsCaller, IsOf}
+use Rattle.ruu_words.specs.Rule.{IsKept, Keeps}
+use Rattle.ruu_words.specs.Telling.{Tells}
 use Rattle.inorder.proofs.Histories.{own-append, own_none, own_of_other, renewals_more, starts_longer, starts_more, starts_same}
 use Rattle.ruu_words.proofs.Heirs.{own_number}
 use Rattle.ruu_words.proofs.Placing.{written}

@@ -2,7 +2,7 @@
 use Rattle.std.proofs.Common.{◌≡◌, ◌≢◌, ℕ, suc, ◌+◌, ◌*◌, ◌/◌, ◌<◌, ◌≤◌, sym, ap, ◌∙◌, arith}
 use Rattle.std.proofs.Math.Nat.{mul-div_cancel}
 use Rattle.ruu_words.specs.declared.rule.Heirs.{Heirs}
-use Rattle.ruu_words.specs.Rule.{IsHeir, half, other_half, without_first}
+use Rattle.ruu_words.specs.Views.{IsHeir, half, other_half, without_first}
 
 pub no_heirs : 1 ≤ 0 → ⊥
 no_heirs e = omega arith

@@ -23,7 +23,9 @@ use Rattle.ruu_words.specs.declared.rule.View.{View}
 use Rattle.ruu_words.specs.Content.{Content, IsLinkWord, IsStation}
 use Rattle.ruu_words.specs.Fields.{pack}
 use Rattle.ruu_words.specs.Places.{IsPlace, index}
-use Rattle.ruu_words.specs.Rule.{ViewFits, IsOpening, IsStart, Keeps, Kept, first_view, opening_of, renewed, renewed_of, sizes_of, view}
+use Rattle.ruu_words.specs.Openings.{IsOpening, opening_of, renewed, renewed_of, sizes_of}
+use Rattle.ruu_words.specs.Views.{ViewFits, first_view, view}
+use Rattle.ruu_words.specs.Rule.{IsStart, Keeps, Kept}
 use Rattle.ruu_words.specs.Laws.{TablesGoOn}
 use Rattle.ruu_words.proofs.Views.{starts_empty}
 use Rattle.std.specs.List.{AllByRecursion}

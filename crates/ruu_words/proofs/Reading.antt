@@ -34,7 +34,7 @@ use Rattle.ruu_words.specs.declared.rule.View.{View}
 use Rattle.ruu_words.specs.Content.{IsDraft, IsInfo, IsOperand, IsOperandOf, has_operand, info_unit, operand_unit, with_new}
 use Rattle.ruu_words.specs.Fields.{state_of, tag_of, value_of}
 use Rattle.ruu_words.specs.Kinds.{IsClosed, IsTenant, ReadsInfo, ReadsOperand, ReadsSource}
-use Rattle.ruu_words.specs.Rule.{IsCaller}
+use Rattle.ruu_words.specs.Views.{IsCaller}
 use Rattle.ruu_words.proofs.Building.{looks, tells}
 use Rattle.ruu_words.proofs.General.{Plans}
 use Rattle.inorder.proofs.Histories.{allowed_steps, unit_sound}

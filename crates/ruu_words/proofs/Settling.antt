@@ -20,7 +20,7 @@ use Rattle.ruu_words.specs.declared.rule.Role.TheVariants.{Back}
 use Rattle.ruu_words.specs.declared.rule.View.{View}
 use Rattle.ruu_words.specs.Content.{IsStation}
 use Rattle.ruu_words.specs.Kinds.{IsAny, IsTenant, Settles}
-use Rattle.ruu_words.specs.Rule.{IsCaller}
+use Rattle.ruu_words.specs.Views.{IsCaller}
 use Rattle.ruu_words.proofs.Building.{changes, tells}
 use Rattle.ruu_words.proofs.General.{Plan, Plans}
 use Rattle.ruu_words.proofs.StationWords.{its_word, one_at, one_live, still_live, the_tenant}

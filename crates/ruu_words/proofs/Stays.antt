@@ -28,7 +28,7 @@ use Rattle.inorder.proofs.Sound.{IsSound}
 use Rattle.ruu_words.specs.declared.rule.Draft.{Draft}
 use Rattle.ruu_words.specs.declared.rule.View.{View}
 use Rattle.ruu_words.specs.Kinds.{IsAny, IsTenant}
-use Rattle.ruu_words.specs.Rule.{Grows}
+use Rattle.ruu_words.specs.Telling.{Grows}
 use Rattle.inorder.proofs.Histories.{none_between, only_front_renews, starts_longer, unit_lasts, unit_lasts_apart, unit_lasts_here}
 use Rattle.inorder.proofs.Recent.{old_same}
 

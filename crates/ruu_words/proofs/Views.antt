@@ -15,7 +15,8 @@ use Rattle.ruu_words.specs.declared.rule.Heirs.{Heirs}
 use Rattle.ruu_words.specs.declared.rule.Role.{Role}
 use Rattle.ruu_words.specs.declared.rule.Role.TheVariants.{Back, Front, Spent, Start, Worker}
 use Rattle.ruu_words.specs.declared.rule.View.{View}
-use Rattle.ruu_words.specs.Rule.{ViewFits, IsAlive, IsCaller, IsHeir, IsKept, IsOf, Keeps, half, informed, nobody, other_half, view, without_first}
+use Rattle.ruu_words.specs.Views.{ViewFits, IsAlive, IsCaller, IsHeir, IsOf, half, informed, nobody, other_half, view, without_first}
+use Rattle.ruu_words.specs.Rule.{IsKept, Keeps}
 use Rattle.ruu_words.proofs.Heirs.{half_apart, half_not_first, half_of, later_of, no_heirs, not_first, other_half_of, own_number, positive}
 
 at_end : {A : Type 0} (l : List A) (a b : A) (j : ℕ) → get_elem? (l ++ a ∷ []) j ≡ some b → (get_elem? l j ≡ some b) ⊎ ((j ≡ length l) × (a ≡ b))

@@ -13,7 +13,8 @@ use Rattle.ruu_words.specs.declared.rule.View.{View}
 use Rattle.ruu_words.specs.Content.{Content}
 use Rattle.ruu_words.specs.Fields.{consumer_of, half_of, index_of, pack, pack_info, pack_link, predicted_of, producer_of, state_of, tag_count, tag_of, value_of}
 use Rattle.ruu_words.specs.Places.{IsPlace, index, words_for}
-use Rattle.ruu_words.specs.Rule.{IsOpening, IsStart, opening_of, renewed, sizes_of}
+use Rattle.ruu_words.specs.Openings.{IsOpening, opening_of, renewed, sizes_of}
+use Rattle.ruu_words.specs.Rule.{IsStart}
 
 -- A packed word reads back as its fields, and a word is the packed one of its fields
 pub record ReadsBack (tag state value : ℕ) : Type 0 where

@@ -3,5 +3,8 @@ pub mod States
 pub mod Places
 pub mod Laws
 pub mod Content
+pub mod Openings
+pub mod Views
 pub mod Rule
+pub mod Telling
 pub mod Kinds

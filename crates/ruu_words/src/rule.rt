@@ -65,7 +65,8 @@ pub struct OneHistory;
 
 impl TableRule<u8, View, Setup> for OneHistory {
     ghost use Rattle.std.specs.Prelude.{[]};
-    ghost use Rattle.ruu_words.specs.Rule.{Kept, first_view};
+    ghost use Rattle.ruu_words.specs.Views.{first_view};
+    ghost use Rattle.ruu_words.specs.Rule.{Kept};
 
     ghost holds = { Kept };
 

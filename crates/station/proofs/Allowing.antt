@@ -8,7 +8,10 @@ use Rattle.ruu_words.specs.declared.rule.Draft.{Draft}
 use Rattle.ruu_words.specs.declared.rule.Setup.{Setup}
 use Rattle.ruu_words.specs.declared.rule.View.{View}
 use Rattle.ruu_words.specs.Places.{IsPlace, index}
-use Rattle.ruu_words.specs.Rule.{IsAlive, Kept, Tells, opening_of, sizes_of}
+use Rattle.ruu_words.specs.Openings.{opening_of, sizes_of}
+use Rattle.ruu_words.specs.Views.{IsAlive}
+use Rattle.ruu_words.specs.Rule.{Kept}
+use Rattle.ruu_words.specs.Telling.{Tells}
 use Rattle.ruu_words.proofs.General.{Plans, allowed_at}
 
 -- the number found

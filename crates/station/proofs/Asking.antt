@@ -15,7 +15,8 @@ use Rattle.inorder.specs.declared.history.Source.TheVariants.{First, Second}
 use Rattle.inorder.specs.declared.history.Step.{Step}
 use Rattle.inorder.specs.declared.history.Step.TheVariants.{On}
 use Rattle.inorder.specs.Callers.{CanAsk, HasAsked, HasMade, IsLastAt}
-use Rattle.inorder.specs.History.{Adds, IsLegal, entry, front, own, unit_of, renewals}
+use Rattle.inorder.specs.History.{IsLegal, entry, front, own, unit_of, renewals}
+use Rattle.inorder.specs.OneHistory.{Adds}
 use Rattle.inorder.specs.Legal.{Allowed, applied, changed}
 use Rattle.inorder.specs.Replies.{Has, IsAskedInTime, IsDelivered}
 use Rattle.inorder.specs.Steps.{delivered, linked}
@@ -35,7 +36,7 @@ use Rattle.ruu_words.specs.declared.rule.View.{View}
 use Rattle.ruu_words.specs.Content.{IsOperandOf}
 use Rattle.ruu_words.specs.Fields.{pack_link, state_of, value_of as value_in}
 use Rattle.ruu_words.specs.Kinds.{Answers, Asks, HasLink, IsAny, IsInTime, IsMade, IsTenant, IsUnmade, Questions}
-use Rattle.ruu_words.specs.Rule.{Grows}
+use Rattle.ruu_words.specs.Telling.{Grows}
 use Rattle.ruu_words.proofs.Asking.{answer_plan, path_on, question_plan}
 use Rattle.ruu_words.proofs.Delivery.{link_on}
 use Rattle.ruu_words.proofs.General.{Plan, Plans}

@@ -11,7 +11,8 @@ use Rattle.inorder.specs.declared.history.Event.TheVariants.{Does, Marks, Refuse
 use Rattle.inorder.specs.declared.history.Step.{Step}
 use Rattle.inorder.specs.declared.history.Step.TheVariants.{Let, On, Renew}
 use Rattle.inorder.specs.Callers.{GoesOn, head_station, is_retired}
-use Rattle.inorder.specs.History.{Adds, IsLegal, MayAdd, back, entry, own, unit_of, renewals, renewed_by}
+use Rattle.inorder.specs.History.{IsLegal, MayAdd, back, entry, own, unit_of, renewals, renewed_by}
+use Rattle.inorder.specs.OneHistory.{Adds}
 use Rattle.inorder.specs.Laws.{IsNoRetire}
 use Rattle.inorder.specs.Legal.{Allowed, applied, changed}
 use Rattle.inorder.specs.Steps.{IsNoRetiredStop}

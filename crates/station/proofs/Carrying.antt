@@ -13,7 +13,8 @@ use Rattle.inorder.specs.declared.history.Source.{Source}
 use Rattle.inorder.specs.declared.history.Source.TheVariants.{First, Second}
 use Rattle.inorder.specs.declared.history.Step.TheVariants.{On}
 use Rattle.inorder.specs.Callers.{HasMade, IsServed}
-use Rattle.inorder.specs.History.{Adds, IsLegal, IsUnitOrBack, entry, taken_of, unit_of, renewals}
+use Rattle.inorder.specs.History.{IsLegal, IsUnitOrBack, entry, taken_of, unit_of, renewals}
+use Rattle.inorder.specs.OneHistory.{Adds}
 use Rattle.inorder.specs.Legal.{Allowed}
 use Rattle.inorder.specs.Replies.{Has, IsDelivered}
 use Rattle.inorder.specs.Steps.{delivered}
@@ -30,7 +31,8 @@ use Rattle.ruu_words.specs.declared.rule.View.{View}
 use Rattle.ruu_words.specs.Content.{NamesLink}
 use Rattle.ruu_words.specs.Fields.{consumer_of, pack_link, producer_of, tag_of}
 use Rattle.ruu_words.specs.Kinds.{Delivers, Finds, HasLink, IsAny, IsTenant, ReadsLink}
-use Rattle.ruu_words.specs.Rule.{Grows, IsAlive, IsCaller}
+use Rattle.ruu_words.specs.Views.{IsAlive, IsCaller}
+use Rattle.ruu_words.specs.Telling.{Grows}
 use Rattle.ruu_words.proofs.Building.{marks}
 use Rattle.ruu_words.proofs.Delivery.{link_on}
 use Rattle.ruu_words.proofs.General.{Plans}

@@ -13,7 +13,8 @@ use Rattle.inorder.specs.declared.history.Refusal.TheVariants.{Stale as IsStaleN
 use Rattle.inorder.specs.declared.history.Source.TheVariants.{First, Second}
 use Rattle.inorder.specs.declared.history.Step.{Step}
 use Rattle.inorder.specs.declared.history.Step.TheVariants.{Let, On, Renew}
-use Rattle.inorder.specs.History.{Adds, IsLegal, IsTheirAct, IsTheirs, IsUnit, MayAdd, back, entry, front, own, unit_of, StartsWith}
+use Rattle.inorder.specs.History.{IsLegal, IsTheirAct, IsTheirs, IsUnit, MayAdd, back, entry, front, own, unit_of, StartsWith}
+use Rattle.inorder.specs.OneHistory.{Adds}
 use Rattle.inorder.specs.Legal.{Allowed, May, applied, changed}
 use Rattle.inorder.specs.Replies.{Has, IsNamed, JobFields, job_of}
 use Rattle.inorder.specs.Steps.{finished}

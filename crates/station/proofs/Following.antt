@@ -15,7 +15,8 @@ use Rattle.inorder.specs.declared.history.Source.TheVariants.{First, Second}
 use Rattle.inorder.specs.declared.history.Step.TheVariants.{On}
 use Rattle.inorder.specs.declared.history.Supply.TheVariants.{From as FromCreator}
 use Rattle.inorder.specs.Callers.{IsMissing}
-use Rattle.inorder.specs.History.{Adds, IsLegal, entry, front, own, unit_of, renewals}
+use Rattle.inorder.specs.History.{IsLegal, entry, front, own, unit_of, renewals}
+use Rattle.inorder.specs.OneHistory.{Adds}
 use Rattle.inorder.specs.Legal.{changed}
 use Rattle.inorder.specs.Replies.{Has, last_tag}
 use Rattle.inorder.specs.Steps.{MayComeFrom, MaySupply, let_operand, new_tenant}

@@ -18,7 +18,8 @@ use Rattle.inorder.specs.declared.history.Source.TheVariants.{First, Second}
 use Rattle.inorder.specs.declared.history.Step.{Step}
 use Rattle.inorder.specs.declared.history.Step.TheVariants.{Let, On, Renew}
 use Rattle.inorder.specs.Callers.{IsHeld, IsReady}
-use Rattle.inorder.specs.History.{Adds, entry, front, IsLegal, MayAdd, own, unit_of}
+use Rattle.inorder.specs.History.{entry, front, IsLegal, MayAdd, own, unit_of}
+use Rattle.inorder.specs.OneHistory.{Adds}
 use Rattle.inorder.specs.Legal.{Allowed, May, applied, changed}
 use Rattle.inorder.specs.Replies.{Has, JobFields, job_of, needed}
 use Rattle.inorder.specs.Steps.{CanRetire, new_tenant}

@@ -5,7 +5,8 @@ use Rattle.atomic_table.specs.Table.{Me}
 use Rattle.instructions.specs.Programs.{Program}
 use Rattle.inorder.specs.declared.history.Entry.{Entry}
 use Rattle.inorder.specs.declared.history.Event.{Event}
-use Rattle.inorder.specs.History.{Adds, IsLegal, entry, front, own, taken_of, unit_of}
+use Rattle.inorder.specs.History.{IsLegal, entry, front, own, taken_of, unit_of}
+use Rattle.inorder.specs.OneHistory.{Adds}
 use Rattle.inorder.specs.Replies.{last_tag}
 use Rattle.inorder.specs.StationWords.{station_word}
 use Rattle.inorder.specs.Tenants.{on_path}
@@ -19,7 +20,7 @@ use Rattle.ruu_words.specs.declared.rule.View.{View}
 use Rattle.ruu_words.specs.Content.{IsStation}
 use Rattle.ruu_words.specs.Fields.{tag_of}
 use Rattle.ruu_words.specs.Kinds.{Lets}
-use Rattle.ruu_words.specs.Rule.{Grows}
+use Rattle.ruu_words.specs.Telling.{Grows}
 use Rattle.ruu_words.proofs.Drafting.{still_let}
 use Rattle.station.specs.declared.answers.Tenant.{Tenant}
 use Rattle.station.specs.Letting.{IsFronts, IsLetOut, MayLetOut, let_of, supply_of}

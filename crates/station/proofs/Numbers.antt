@@ -9,7 +9,7 @@ use Rattle.ruu_words.specs.declared.rule.Heirs.{Heirs}
 use Rattle.ruu_words.specs.declared.rule.Role.{Role}
 use Rattle.ruu_words.specs.declared.rule.Role.TheVariants.{Back, Front, Spent, Start, Worker}
 use Rattle.ruu_words.specs.declared.rule.View.{View}
-use Rattle.ruu_words.specs.Rule.{IsCaller, IsHeir, Unborn, half, other_half, view}
+use Rattle.ruu_words.specs.Views.{IsCaller, IsHeir, Unborn, half, other_half, view}
 use Rattle.ruu_words.proofs.Heirs.{half_of, other_half_of}
 use Rattle.station.specs.Quiet.{SplitsShareNumbers, UnitsAreNumbered}
 use Rattle.station.specs.Seats.{HasHeirs, IsGiver, IsNumbered}

@@ -16,7 +16,8 @@ use Rattle.inorder.specs.declared.history.Source.TheVariants.{First, Second}
 use Rattle.inorder.specs.declared.history.Step.{Step}
 use Rattle.inorder.specs.declared.history.Step.TheVariants.{On}
 use Rattle.inorder.specs.Callers.{IsReady}
-use Rattle.inorder.specs.History.{Adds, IsLegal, StartsWith, entry, unit_of, renewals}
+use Rattle.inorder.specs.History.{IsLegal, StartsWith, entry, unit_of, renewals}
+use Rattle.inorder.specs.OneHistory.{Adds}
 use Rattle.inorder.specs.Legal.{applied, change_at}
 use Rattle.inorder.specs.Replies.{Has, IsOpen, job_of, last_tag, needed}
 use Rattle.inorder.specs.Tenants.{Busy, IsThere, Live, Tenant, kind_of, missing_of, needs, operand, operand_value}
@@ -33,7 +34,7 @@ use Rattle.ruu_words.specs.declared.rule.View.{View}
 use Rattle.ruu_words.specs.Content.{IsInfoOf}
 use Rattle.ruu_words.specs.Fields.{half_of, index_of, predicted_of, state_of, tag_of, value_of}
 use Rattle.ruu_words.specs.Kinds.{Claims, Finds, IsAny, IsClosed, IsTenant, Peeks, ReadsInfo, ReadsSource, Rechecks, refuses}
-use Rattle.ruu_words.specs.Rule.{Grows}
+use Rattle.ruu_words.specs.Telling.{Grows}
 use Rattle.ruu_words.proofs.StationWords.{one_at, one_tag}
 use Rattle.ruu_words.proofs.Stays.{any_stays, tenant_stays, same_before}
 use Rattle.station.specs.declared.answers.Claim.{Claim as Answer}

@@ -8,7 +8,8 @@ use Rattle.inorder.specs.declared.history.Event.TheVariants.{Does}
 use Rattle.inorder.specs.declared.history.Step.{Step}
 use Rattle.inorder.specs.declared.history.Step.TheVariants.{Let, On, Renew}
 use Rattle.inorder.specs.Callers.{GoesOn, is_retired}
-use Rattle.inorder.specs.History.{Adds, IsLegal, MayAdd, StartsWith, back, front, own, unit_of}
+use Rattle.inorder.specs.History.{IsLegal, MayAdd, StartsWith, back, front, own, unit_of}
+use Rattle.inorder.specs.OneHistory.{Adds}
 use Rattle.inorder.specs.Legal.{Allowed, applied}
 use Rattle.inorder.specs.Steps.{IsNoRetiredStop}
 use Rattle.inorder.specs.Tenants.{IsNotLive}
@@ -18,7 +19,8 @@ use Rattle.inorder.proofs.Letting.{IsBesides}
 use Rattle.inorder.proofs.Moves.{came}
 use Rattle.inorder.proofs.Positions.{all_at, all_from}
 use Rattle.inorder.proofs.Sound.{IsSound}
-use Rattle.ruu_words.specs.Rule.{IsOpening, nobody, opening_of, renewed, renewed_of, sizes_of, view}
+use Rattle.ruu_words.specs.Openings.{IsOpening, opening_of, renewed, renewed_of, sizes_of}
+use Rattle.ruu_words.specs.Views.{nobody, view}
 use Rattle.ruu_words.specs.declared.rule.Setup.{Setup}
 use Rattle.ruu_words.specs.declared.rule.View.{View}
 use Rattle.ruu_words.proofs.Opening.{goes_on_with}

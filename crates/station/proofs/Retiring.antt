@@ -21,7 +21,8 @@ use Rattle.inorder.specs.declared.history.Source.TheVariants.{First, Second}
 use Rattle.inorder.specs.declared.history.Step.{Step}
 use Rattle.inorder.specs.declared.history.Step.TheVariants.{On}
 use Rattle.inorder.specs.Callers.{CanLeave, GoesOn, IsHead, head_station, is_retired, stands_retired}
-use Rattle.inorder.specs.History.{Adds, IsLegal, back, entry, own, taken_of, unit_of, renewals}
+use Rattle.inorder.specs.History.{IsLegal, back, entry, own, taken_of, unit_of, renewals}
+use Rattle.inorder.specs.OneHistory.{Adds}
 use Rattle.inorder.specs.Legal.{Allowed, May, applied, change_at, changed}
 use Rattle.inorder.specs.Replies.{last_tag}
 use Rattle.inorder.specs.StationWords.{IsFree, left_value, live_word}
@@ -51,7 +52,8 @@ use Rattle.ruu_words.specs.Content.{IsStation}
 use Rattle.ruu_words.specs.Fields.{half_of, index_of, state_of, tag_of, value_of}
 use Rattle.ruu_words.specs.Kinds.{Heads, IsAny, IsEarly, IsTenant, ReadsData, ReadsInfo, Tells, Writes}
 use Rattle.ruu_words.specs.States.{state_code}
-use Rattle.ruu_words.specs.Rule.{Grows, IsCaller}
+use Rattle.ruu_words.specs.Views.{IsCaller}
+use Rattle.ruu_words.specs.Telling.{Grows}
 use Rattle.ruu_words.proofs.Building.{tells}
 use Rattle.ruu_words.proofs.Ending.{data_plan, head_plan, over_plan}
 use Rattle.ruu_words.proofs.General.{Plan, Plans}

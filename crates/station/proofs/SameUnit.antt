@@ -7,7 +7,7 @@ use Rattle.inorder.specs.Unit.{Sizes}
 use Rattle.ruu_words.specs.declared.rule.Heirs.{Heirs}
 use Rattle.ruu_words.specs.declared.rule.Setup.{Setup}
 use Rattle.ruu_words.specs.Places.{words_for}
-use Rattle.ruu_words.specs.Rule.{opening_of, sizes_of}
+use Rattle.ruu_words.specs.Openings.{opening_of, sizes_of}
 use Rattle.station.specs.Seats.{Caller, TheCore, core_of}
 
 -- A program and sizes

@@ -17,7 +17,8 @@ use Rattle.ruu_words.specs.declared.rule.Role.{Role}
 use Rattle.ruu_words.specs.declared.rule.Role.TheVariants.{Back, Front, Spent, Start, Worker}
 use Rattle.ruu_words.specs.declared.rule.Setup.{Setup}
 use Rattle.ruu_words.specs.declared.rule.View.{View}
-use Rattle.ruu_words.specs.Rule.{IsAlive, informed, sizes_of}
+use Rattle.ruu_words.specs.Openings.{sizes_of}
+use Rattle.ruu_words.specs.Views.{IsAlive, informed}
 use Rattle.ruu_words.proofs.Stays.{front_stays}
 use Rattle.station.specs.Seats.{IsSeated, Knows}
 use Rattle.station.specs.Steps.{Grown, Sees}

@@ -8,7 +8,8 @@ use Rattle.inorder.specs.declared.history.Source.{Source}
 use Rattle.inorder.specs.declared.history.Step.{Step}
 use Rattle.inorder.specs.declared.history.Step.TheVariants.{Let, On, Renew}
 use Rattle.inorder.specs.Callers.{CanAsk, CanSquash}
-use Rattle.inorder.specs.History.{Adds, IsLegal, back, front, own, unit_of, renewals}
+use Rattle.inorder.specs.History.{IsLegal, back, front, own, unit_of, renewals}
+use Rattle.inorder.specs.OneHistory.{Adds}
 use Rattle.inorder.specs.Replies.{Has, last_tag}
 use Rattle.inorder.specs.Tenants.{on_path}
 use Rattle.inorder.specs.Unit.{Sizes}

@@ -15,7 +15,8 @@ use Rattle.inorder.specs.declared.history.Refusal.{Refusal}
 use Rattle.inorder.specs.declared.history.Refusal.TheVariants.{Stale}
 use Rattle.inorder.specs.declared.history.Source.{Source}
 use Rattle.inorder.specs.declared.history.Step.TheVariants.{On}
-use Rattle.inorder.specs.History.{Adds, IsLegal, entry, renewals, unit_of}
+use Rattle.inorder.specs.History.{IsLegal, entry, renewals, unit_of}
+use Rattle.inorder.specs.OneHistory.{Adds}
 use Rattle.inorder.specs.Replies.{Has}
 use Rattle.inorder.specs.Unit.{Sizes}
 use Rattle.inorder.proofs.Histories.{adds_on, legal_before, unit_lasts}
@@ -23,7 +24,7 @@ use Rattle.inorder.proofs.Moves.{goes}
 use Rattle.ruu_words.specs.declared.place.Place.{Place}
 use Rattle.ruu_words.specs.declared.rule.View.{View}
 use Rattle.ruu_words.specs.Kinds.{Delivers, Finds, Finishes, IsAny, IsTenant, ReadsLink, Settles}
-use Rattle.ruu_words.specs.Rule.{Grows}
+use Rattle.ruu_words.specs.Telling.{Grows}
 use Rattle.ruu_words.proofs.Stays.{any_stays, same_before}
 use Rattle.station.specs.Carrying.{EndsWalk}
 use Rattle.station.specs.Steps.{Sees}

@@ -9,7 +9,8 @@ use Rattle.inorder.specs.declared.history.Mark.TheVariants.{Asked}
 use Rattle.inorder.specs.declared.history.Source.{Source}
 use Rattle.inorder.specs.declared.history.Step.TheVariants.{On}
 use Rattle.inorder.specs.Callers.{CanAsk, IsLastAt}
-use Rattle.inorder.specs.History.{Adds, unit_of}
+use Rattle.inorder.specs.History.{unit_of}
+use Rattle.inorder.specs.OneHistory.{Adds}
 use Rattle.inorder.specs.Replies.{Has, IsAskedInTime, IsDelivered}
 use Rattle.inorder.specs.Tenants.{Tenant, on_path}
 use Rattle.inorder.specs.Unit.{Sizes, UpdateUnit}

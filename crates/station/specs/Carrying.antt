@@ -8,7 +8,8 @@ use Rattle.inorder.specs.declared.history.Entry.{Entry}
 use Rattle.inorder.specs.declared.history.Event.{Event}
 use Rattle.inorder.specs.declared.history.Source.{Source}
 use Rattle.inorder.specs.Callers.{IsServed}
-use Rattle.inorder.specs.History.{Adds, unit_of}
+use Rattle.inorder.specs.History.{unit_of}
+use Rattle.inorder.specs.OneHistory.{Adds}
 use Rattle.inorder.specs.Tenants.{Tenant}
 use Rattle.inorder.specs.Unit.{Sizes}
 use Rattle.ruu_words.specs.declared.rule.Draft.{Draft}

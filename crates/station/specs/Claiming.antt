@@ -11,7 +11,8 @@ use Rattle.inorder.specs.declared.history.Source.{Source}
 use Rattle.inorder.specs.declared.history.Source.TheVariants.{First, Second}
 use Rattle.inorder.specs.declared.history.Step.TheVariants.{On}
 use Rattle.inorder.specs.Callers.{IsHeld, IsReady}
-use Rattle.inorder.specs.History.{Adds, WasOpen, unit_of}
+use Rattle.inorder.specs.History.{WasOpen, unit_of}
+use Rattle.inorder.specs.OneHistory.{Adds}
 use Rattle.inorder.specs.Replies.{Has, IsNamed, IsOpen, JobFields, job_of}
 use Rattle.inorder.specs.StationWords.{live_word}
 use Rattle.inorder.specs.Tenants.{Busy, IsThere, Tenant, kind_of, needs, operand}

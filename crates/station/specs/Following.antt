@@ -7,7 +7,8 @@ use Rattle.inorder.specs.declared.history.Entry.{Entry}
 use Rattle.inorder.specs.declared.history.Source.{Source}
 use Rattle.inorder.specs.declared.history.Source.TheVariants.{First, Second}
 use Rattle.inorder.specs.Callers.{IsMissing}
-use Rattle.inorder.specs.History.{Adds, front, unit_of}
+use Rattle.inorder.specs.History.{front, unit_of}
+use Rattle.inorder.specs.OneHistory.{Adds}
 use Rattle.inorder.specs.Unit.{Sizes, creator, next_station, next_tag, recent}
 use Rattle.ruu_words.specs.Kinds.{IsAny, IsTenant}
 use Rattle.station.specs.declared.answers.Ask.{Ask}

@@ -8,7 +8,8 @@ use Rattle.inorder.specs.declared.history.Event.TheVariants.{Does}
 use Rattle.inorder.specs.declared.history.Step.TheVariants.{Let}
 use Rattle.inorder.specs.declared.history.Supply.{Supply}
 use Rattle.inorder.specs.declared.history.Supply.TheVariants.{From, Known}
-use Rattle.inorder.specs.History.{Adds, entry, front, unit_of}
+use Rattle.inorder.specs.History.{entry, front, unit_of}
+use Rattle.inorder.specs.OneHistory.{Adds}
 use Rattle.inorder.specs.Replies.{last_tag}
 use Rattle.inorder.specs.Steps.{MayLet}
 use Rattle.inorder.specs.Unit.{Sizes, UpdateUnit, front_half, next_station, next_tag, recent}

@@ -7,7 +7,7 @@ use Rattle.inorder.specs.Replies.{last_tag}
 use Rattle.ruu_words.specs.declared.rule.Heirs.{Heirs}
 use Rattle.ruu_words.specs.declared.rule.Setup.{Setup}
 use Rattle.ruu_words.specs.Places.{words_for}
-use Rattle.ruu_words.specs.Rule.{nobody}
+use Rattle.ruu_words.specs.Views.{nobody}
 use Rattle.station.specs.Seats.{Caller, TheCore}
 
 -- The table is made for this program and these sizes

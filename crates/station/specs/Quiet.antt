@@ -3,13 +3,14 @@ use Rattle.std.specs.Prelude.{◌≡◌, ◌≢◌, ◌⊎◌, ℕ, List, [], �
 use Rattle.instructions.specs.Programs.{Program}
 use Rattle.inorder.specs.declared.history.Entry.{Entry}
 use Rattle.inorder.specs.Callers.{IsReady}
-use Rattle.inorder.specs.History.{Adds, IsLegal, IsUnit, StartsWith, back, front, own, unit_of}
+use Rattle.inorder.specs.History.{IsLegal, IsUnit, StartsWith, back, front, own, unit_of}
+use Rattle.inorder.specs.OneHistory.{Adds}
 use Rattle.inorder.specs.Replies.{IsOpen, job_of}
 use Rattle.inorder.specs.Tenants.{Tenant}
 use Rattle.inorder.specs.Unit.{Sizes, front_pc, next_station, next_tag, recent}
 use Rattle.ruu_words.specs.declared.rule.Heirs.{Heirs}
 use Rattle.ruu_words.specs.Kinds.{IsTenant}
-use Rattle.ruu_words.specs.Rule.{IsHeir, half, other_half}
+use Rattle.ruu_words.specs.Views.{IsHeir, half, other_half}
 use Rattle.station.specs.declared.answers.Claim.{Claim}
 use Rattle.station.specs.declared.answers.Claim.TheVariants.{Job as Claimed}
 use Rattle.station.specs.declared.answers.Job.{Job}

@@ -6,10 +6,11 @@ use Rattle.inorder.specs.declared.history.Entry.{Entry}
 use Rattle.inorder.specs.declared.history.Event.TheVariants.{Does}
 use Rattle.inorder.specs.declared.history.Step.TheVariants.{Renew}
 use Rattle.inorder.specs.Callers.{GoesOn}
-use Rattle.inorder.specs.History.{Adds, MayAdd, StartsWith, back, front, unit_of}
+use Rattle.inorder.specs.History.{MayAdd, StartsWith, back, front, unit_of}
+use Rattle.inorder.specs.OneHistory.{Adds}
 use Rattle.inorder.specs.Tenants.{IsNotLive}
 use Rattle.inorder.specs.Unit.{Sizes, UpdateUnit}
-use Rattle.ruu_words.specs.Rule.{renewed}
+use Rattle.ruu_words.specs.Openings.{renewed}
 use Rattle.station.specs.Making.{AreFirst}
 use Rattle.station.specs.Seats.{Caller, IsSame, TheCore}
 

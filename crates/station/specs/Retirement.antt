@@ -12,7 +12,8 @@ use Rattle.inorder.specs.declared.history.Event.TheVariants.{Does, Refuses}
 use Rattle.inorder.specs.declared.history.Refusal.TheVariants.{Empty as IsEmptyNow, NotDone as IsNotDoneNow, Over as IsOverNow}
 use Rattle.inorder.specs.declared.history.Step.TheVariants.{On}
 use Rattle.inorder.specs.Callers.{IsHead}
-use Rattle.inorder.specs.History.{Adds, back, unit_of}
+use Rattle.inorder.specs.History.{back, unit_of}
+use Rattle.inorder.specs.OneHistory.{Adds}
 use Rattle.inorder.specs.StationWords.{IsFree, StationWord as Shown}
 use Rattle.inorder.specs.Tenants.{Addr, Done, Fate, Stopped, Tenant, kind_of}
 use Rattle.inorder.specs.Unit.{Sizes, UpdateUnit}

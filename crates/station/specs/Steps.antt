@@ -13,7 +13,9 @@ use Rattle.ruu_words.specs.declared.rule.Setup.{Setup}
 use Rattle.ruu_words.specs.declared.rule.View.{View}
 use Rattle.ruu_words.specs.Content.{Content, IsDraft}
 use Rattle.ruu_words.specs.Places.{words_for}
-use Rattle.ruu_words.specs.Rule.{Grows, IsCaller, Unborn, opening_of, sizes_of}
+use Rattle.ruu_words.specs.Openings.{opening_of, sizes_of}
+use Rattle.ruu_words.specs.Views.{IsCaller, Unborn}
+use Rattle.ruu_words.specs.Telling.{Grows}
 
 -- The seat is at this table, which has the words of a ring of this size
 pub record IsAt (words : TableId) (key : Setup) (ring : ℕ) (seat : TableId) : Type 0 where

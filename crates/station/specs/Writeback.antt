@@ -15,7 +15,8 @@ use Rattle.inorder.specs.declared.history.Refusal.TheVariants.{Stale as IsStaleN
 use Rattle.inorder.specs.declared.history.Source.{Source}
 use Rattle.inorder.specs.declared.history.Step.TheVariants.{On}
 use Rattle.inorder.specs.Callers.{CanLoad}
-use Rattle.inorder.specs.History.{Adds, unit_of}
+use Rattle.inorder.specs.History.{unit_of}
+use Rattle.inorder.specs.OneHistory.{Adds}
 use Rattle.inorder.specs.OperandWords.{OperandWord}
 use Rattle.inorder.specs.Replies.{Has, IsNamed, IsStale}
 use Rattle.inorder.specs.Tenants.{Tenant, operand}

@@ -2,7 +2,9 @@
 ghost use Rattle.std.specs.Prelude.{◌≡◌, ◌≤◌, ◌<◌, [], IfOk};
 ghost use Rattle.ruu_words.specs.Fields.{tag_count};
 ghost use Rattle.ruu_words.specs.Places.{words_for};
-ghost use Rattle.ruu_words.specs.Rule.{IsOpening, IsStart, first_view, opening_of, sizes_of};
+ghost use Rattle.ruu_words.specs.Openings.{IsOpening, opening_of, sizes_of};
+ghost use Rattle.ruu_words.specs.Views.{first_view};
+ghost use Rattle.ruu_words.specs.Rule.{IsStart};
 ghost use Rattle.station.specs.Making.{AreFirst, IsCore, IsMade, IsSetup};
 ghost use Rattle.station.specs.Seats.{core_of};
 
@@ -43,7 +45,7 @@ impl Model for Core {
 struct BackCut;
 
 impl Split<View> for BackCut {
-    ghost use Rattle.ruu_words.specs.Rule.{nobody, view, without_first};
+    ghost use Rattle.ruu_words.specs.Views.{nobody, view, without_first};
     ghost use Rattle.ruu_words.specs.declared.rule.Draft.TheVariants.{Nothing};
     ghost use Rattle.ruu_words.specs.declared.rule.Role.TheVariants.{Back, Front};
 
@@ -56,7 +58,7 @@ impl Split<View> for BackCut {
 struct FirstCut;
 
 impl Split<View> for FirstCut {
-    ghost use Rattle.ruu_words.specs.Rule.{nobody, view, without_first};
+    ghost use Rattle.ruu_words.specs.Views.{nobody, view, without_first};
     ghost use Rattle.ruu_words.specs.declared.rule.Draft.TheVariants.{Nothing};
     ghost use Rattle.ruu_words.specs.declared.rule.Role.TheVariants.{Worker};
 

@@ -1,9 +1,10 @@
 //! Lets.
 ghost use Rattle.std.specs.Prelude.{◌≡◌, ◌<◌, ◌^◌, [], ◌∷◌};
-ghost use Rattle.inorder.specs.History.{Adds, IsLegal, unit_of};
+ghost use Rattle.inorder.specs.History.{IsLegal, unit_of};
+ghost use Rattle.inorder.specs.OneHistory.{Adds};
 ghost use Rattle.inorder.specs.Unit.{next_station, next_tag, recent};
 ghost use Rattle.ruu_words.specs.declared.rule.Draft.TheVariants.{Nothing};
-ghost use Rattle.ruu_words.specs.Rule.{sizes_of};
+ghost use Rattle.ruu_words.specs.Openings.{sizes_of};
 ghost use Rattle.station.specs.Letting.{IsFronts, IsLetOut, MayLetOut, let_of};
 ghost use Rattle.station.specs.Seats.{IsSame};
 ghost use Rattle.station.specs.Steps.{IsAt};

@@ -1,7 +1,7 @@
 //! What stays true between calls. Each function is a law: it does nothing, and its contract is proved.
 ghost use Rattle.std.specs.Prelude.{◌≡◌, ℕ};
 ghost use Rattle.inorder.specs.History.{IsLegal, own};
-ghost use Rattle.ruu_words.specs.Rule.{IsCaller, IsHeir};
+ghost use Rattle.ruu_words.specs.Views.{IsCaller, IsHeir};
 ghost use Rattle.station.specs.Finishing.{ClaimedAreInFlight, JobsAreFinished, JobsStayInFlight};
 ghost use Rattle.station.specs.Following.{LetsAreAsked, MissesAreRecovered, MissesStaySeen, MissesStaySquashing, QuestionsLeaveOthers};
 ghost use Rattle.station.specs.Laws.{BacksStay, FrontsStay, JobsAreOfTheProgram, JobsEndAtARenewal, JobsStay, JobsStayClaiming, JobsStayFinishing, JobsStaySeen};

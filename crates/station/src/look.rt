@@ -1,9 +1,9 @@
 //! Reading calls.
 ghost use Rattle.std.specs.Prelude.{◌≡◌, ◌<◌, ◌≤◌, []};
-ghost use Rattle.inorder.specs.History.{Adds};
+ghost use Rattle.inorder.specs.OneHistory.{Adds};
 ghost use Rattle.inorder.specs.Replies.{last_tag};
 ghost use Rattle.ruu_words.specs.Places.{IsPlace};
-ghost use Rattle.ruu_words.specs.Rule.{IsCaller};
+ghost use Rattle.ruu_words.specs.Views.{IsCaller};
 ghost use Rattle.station.specs.Looking.{SeesInfo, SeesOperand, SeesStation, SeesWord};
 ghost use Rattle.station.specs.Seats.{IsSame};
 

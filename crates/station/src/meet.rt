@@ -1,7 +1,8 @@
 //! What one caller has seen reaches another.
 ghost use Rattle.std.specs.Prelude.{◌≡◌, ◌≢◌, []};
-ghost use Rattle.inorder.specs.History.{Adds, StartsWith, own};
-ghost use Rattle.ruu_words.specs.Rule.{half, other_half};
+ghost use Rattle.inorder.specs.History.{StartsWith, own};
+ghost use Rattle.inorder.specs.OneHistory.{Adds};
+ghost use Rattle.ruu_words.specs.Views.{half, other_half};
 ghost use Rattle.station.specs.Seats.{Caller, IsSame};
 
 use crate::cores::Core;
@@ -17,7 +18,7 @@ pub(crate) struct Told;
 
 impl Join<View> for Told {
     ghost use Rattle.std.specs.Prelude.{[]};
-    ghost use Rattle.ruu_words.specs.Rule.{informed, nobody, view};
+    ghost use Rattle.ruu_words.specs.Views.{informed, nobody, view};
     ghost use Rattle.ruu_words.specs.declared.rule.Draft.TheVariants.{Nothing};
     ghost use Rattle.ruu_words.specs.declared.rule.Role.TheVariants.{Spent};
 
@@ -30,7 +31,7 @@ impl Join<View> for Told {
 pub(crate) struct NoteCut;
 
 impl Split<View> for NoteCut {
-    ghost use Rattle.ruu_words.specs.Rule.{nobody, view};
+    ghost use Rattle.ruu_words.specs.Views.{nobody, view};
     ghost use Rattle.ruu_words.specs.declared.rule.Draft.TheVariants.{Nothing};
     ghost use Rattle.ruu_words.specs.declared.rule.Role.TheVariants.{Spent};
 
@@ -43,7 +44,7 @@ impl Split<View> for NoteCut {
 pub(crate) struct UnitCut;
 
 impl Split<View> for UnitCut {
-    ghost use Rattle.ruu_words.specs.Rule.{half, other_half, view};
+    ghost use Rattle.ruu_words.specs.Views.{half, other_half, view};
     ghost use Rattle.ruu_words.specs.declared.rule.Draft.TheVariants.{Nothing};
     ghost use Rattle.ruu_words.specs.declared.rule.Role.TheVariants.{Worker};
 

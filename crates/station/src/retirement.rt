@@ -3,7 +3,7 @@ ghost use Rattle.std.specs.Prelude.{◌≡◌, ◌<◌, false};
 ghost use Rattle.inorder.specs.History.{IsLegal, back, unit_of};
 ghost use Rattle.ruu_words.specs.declared.rule.Role.TheVariants.{Back};
 ghost use Rattle.ruu_words.specs.declared.station.StationState.TheVariants.{Stop};
-ghost use Rattle.ruu_words.specs.Rule.{sizes_of};
+ghost use Rattle.ruu_words.specs.Openings.{sizes_of};
 ghost use Rattle.station.specs.Retirement.{HasAccess, HasEnd, HeadGoesOn, IsLastOf, MayLeave, RetireAnswers, is_stop, kept_value};
 ghost use Rattle.station.specs.Seats.{IsAtHead, IsSame};
 ghost use Rattle.station.specs.Steps.{IsAt};

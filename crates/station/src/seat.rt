@@ -59,7 +59,7 @@ pub struct SeatOf<P: Part> {
 }
 
 impl<P: Part> Model for SeatOf<P> {
-    ghost use Rattle.ruu_words.specs.Rule.{opening_of, sizes_of};
+    ghost use Rattle.ruu_words.specs.Openings.{opening_of, sizes_of};
     ghost use Rattle.station.specs.Seats.{Caller, IsNumbered, IsSeated, core_of};
 
     ghost Value = { Caller };
@@ -78,7 +78,7 @@ impl<P: Part> Model for SeatOf<P> {
 
 impl<P: Part> SeatOf<P> {
     ghost use Rattle.std.specs.Prelude.{◌≡◌, false};
-    ghost use Rattle.ruu_words.specs.Rule.{opening_of, sizes_of};
+    ghost use Rattle.ruu_words.specs.Openings.{opening_of, sizes_of};
     ghost use Rattle.station.specs.Seats.{IsNumbered, IsSeated, core_of};
 
     // A seat at a core where nothing was done yet.

@@ -3,7 +3,7 @@ ghost use Rattle.std.specs.Prelude.{◌≡◌, ◌<◌};
 ghost use Rattle.inorder.specs.History.{IsLegal, unit_of};
 ghost use Rattle.inorder.specs.Unit.{next_station, recent};
 ghost use Rattle.ruu_words.specs.declared.rule.Draft.TheVariants.{Nothing};
-ghost use Rattle.ruu_words.specs.Rule.{sizes_of};
+ghost use Rattle.ruu_words.specs.Openings.{sizes_of};
 ghost use Rattle.station.specs.Asking.{AskAnswers, MayAsk};
 ghost use Rattle.station.specs.Letting.{IsFronts};
 ghost use Rattle.station.specs.Seats.{IsSame};

@@ -1,7 +1,8 @@
 //! A value is carried along the links of its station.
 ghost use Rattle.std.specs.Prelude.{◌≡◌, ◌<◌, ◌≤◌, true};
 ghost use Rattle.inorder.specs.History.{IsLegal};
-ghost use Rattle.ruu_words.specs.Rule.{Unborn, opening_of, sizes_of};
+ghost use Rattle.ruu_words.specs.Openings.{opening_of, sizes_of};
+ghost use Rattle.ruu_words.specs.Views.{Unborn};
 ghost use Rattle.station.specs.Carrying.{HasCarried, HasMadeOf, HasValueOf, HasWalked, IsServing, IsWriter, OfTenant};
 ghost use Rattle.station.specs.Steps.{IsAt};
 ghost use Rattle.station.specs.Waking.{IsSet, IsWith, Wakes};

@@ -2,7 +2,8 @@
 ghost use Rattle.std.specs.Prelude.{◌≡◌, ◌<◌, ◌≤◌};
 ghost use Rattle.inorder.specs.History.{IsLegal};
 ghost use Rattle.ruu_words.specs.declared.rule.Role.TheVariants.{Back, Worker};
-ghost use Rattle.ruu_words.specs.Rule.{Unborn, opening_of, sizes_of};
+ghost use Rattle.ruu_words.specs.Openings.{opening_of, sizes_of};
+ghost use Rattle.ruu_words.specs.Views.{Unborn};
 ghost use Rattle.station.specs.Claiming.{Holds};
 ghost use Rattle.station.specs.Seats.{IsSame};
 ghost use Rattle.station.specs.Steps.{IsAt};

@@ -6,7 +6,7 @@ ghost use Rattle.ruu_words.specs.declared.rule.Role.TheVariants.{Worker};
 ghost use Rattle.ruu_words.specs.Content.{IsStation};
 ghost use Rattle.ruu_words.specs.Fields.{tag_of};
 ghost use Rattle.ruu_words.specs.Kinds.{Claims, IsAny, Peeks, ReadsSource, Rechecks};
-ghost use Rattle.ruu_words.specs.Rule.{sizes_of};
+ghost use Rattle.ruu_words.specs.Openings.{sizes_of};
 ghost use Rattle.inorder.specs.Callers.{IsReady};
 ghost use Rattle.station.specs.Claiming.{HasSeen, IsNext};
 ghost use Rattle.station.specs.Steps.{Grown, IsAt};

@@ -9,7 +9,7 @@ ghost use Rattle.ruu_words.specs.declared.rule.Stage.TheVariants.{BothOperands, 
 ghost use Rattle.ruu_words.specs.Content.{IsOperandOf, IsStation};
 ghost use Rattle.ruu_words.specs.Fields.{half_of, index_of, predicted_of};
 ghost use Rattle.ruu_words.specs.Kinds.{Drafts, Lets};
-ghost use Rattle.ruu_words.specs.Rule.{sizes_of};
+ghost use Rattle.ruu_words.specs.Openings.{sizes_of};
 ghost use Rattle.station.specs.Letting.{IsFronts, MayLetOut, draft_of, given_value, supply_of};
 ghost use Rattle.station.specs.Steps.{Grown, IsAt};
 

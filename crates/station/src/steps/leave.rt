@@ -5,7 +5,7 @@ ghost use Rattle.inorder.specs.Tenants.{Done};
 ghost use Rattle.ruu_words.specs.declared.rule.Draft.TheVariants.{Nothing};
 ghost use Rattle.ruu_words.specs.Content.{IsStation};
 ghost use Rattle.ruu_words.specs.Fields.{tag_of, value_of};
-ghost use Rattle.ruu_words.specs.Rule.{sizes_of};
+ghost use Rattle.ruu_words.specs.Openings.{sizes_of};
 ghost use Rattle.station.specs.Letting.{IsFronts};
 ghost use Rattle.station.specs.Recovery.{HasMiss, HasYoungest, Mends, Squashes};
 ghost use Rattle.station.specs.Steps.{Grown, IsAt};

@@ -2,7 +2,8 @@
 ghost use Rattle.std.specs.Prelude.{◌≡◌, ◌<◌};
 ghost use Rattle.ruu_words.specs.Kinds.{ReadsInfo};
 ghost use Rattle.ruu_words.specs.Places.{IsPlace};
-ghost use Rattle.ruu_words.specs.Rule.{IsAlive, sizes_of};
+ghost use Rattle.ruu_words.specs.Openings.{sizes_of};
+ghost use Rattle.ruu_words.specs.Views.{IsAlive};
 ghost use Rattle.station.specs.Steps.{Grown, IsAt, Sees};
 
 use super::{Words, load};

@@ -9,7 +9,7 @@ ghost use Rattle.inorder.specs.History.{back, unit_of};
 ghost use Rattle.ruu_words.specs.declared.rule.Role.TheVariants.{Back};
 ghost use Rattle.ruu_words.specs.Content.{IsStation};
 ghost use Rattle.ruu_words.specs.Kinds.{Tells};
-ghost use Rattle.ruu_words.specs.Rule.{sizes_of};
+ghost use Rattle.ruu_words.specs.Openings.{sizes_of};
 ghost use Rattle.station.specs.Retirement.{FindsData, HasAccess, Leaves, LooksAtHead, MayLeave, left_word};
 ghost use Rattle.station.specs.Seats.{IsAtHead};
 ghost use Rattle.station.specs.Steps.{Grown, IsAt};

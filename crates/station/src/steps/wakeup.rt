@@ -3,7 +3,7 @@ ghost use Rattle.std.specs.Prelude.{◌≡◌, ◌<◌};
 ghost use Rattle.ruu_words.specs.declared.rule.Draft.TheVariants.{Nothing};
 ghost use Rattle.ruu_words.specs.Content.{IsOperandOf};
 ghost use Rattle.ruu_words.specs.Fields.{pack_link, tag_of, value_of};
-ghost use Rattle.ruu_words.specs.Rule.{sizes_of};
+ghost use Rattle.ruu_words.specs.Openings.{sizes_of};
 ghost use Rattle.station.specs.Asking.{MayAsk};
 ghost use Rattle.station.specs.Letting.{IsFronts};
 ghost use Rattle.station.specs.Steps.{Grown, IsAt};

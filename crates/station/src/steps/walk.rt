@@ -1,6 +1,6 @@
 //! The last step of a walk along the links of a value.
 ghost use Rattle.std.specs.Prelude.{◌≡◌, ◌<◌};
-ghost use Rattle.ruu_words.specs.Rule.{sizes_of};
+ghost use Rattle.ruu_words.specs.Openings.{sizes_of};
 ghost use Rattle.station.specs.Carrying.{EndsWalk, IsServedAll, IsWriter};
 ghost use Rattle.station.specs.Steps.{Grown, IsAt};
 

@@ -7,7 +7,8 @@ ghost use Rattle.ruu_words.specs.declared.rule.Role.TheVariants.{Back, Worker};
 ghost use Rattle.ruu_words.specs.Content.{IsOperandOf, IsStation};
 ghost use Rattle.ruu_words.specs.Fields.{tag_of, value_of};
 ghost use Rattle.ruu_words.specs.Kinds.{Delivers, Finishes, ReadsLink, Settles, fate_of};
-ghost use Rattle.ruu_words.specs.Rule.{IsAlive, sizes_of};
+ghost use Rattle.ruu_words.specs.Openings.{sizes_of};
+ghost use Rattle.ruu_words.specs.Views.{IsAlive};
 ghost use Rattle.station.specs.Steps.{Grown, IsAt};
 ghost use Rattle.station.specs.Writeback.{CanDeliver, CanSettle, HasTenant, val_word, wait_word};
 

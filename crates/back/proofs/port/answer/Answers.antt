@@ -6,7 +6,8 @@ use Rattle.lsq.specs.Bytes.{little_endian}
 use Rattle.lsq.specs.LoadRule.{answer}
 use Rattle.inorder.specs.Callers.{CanLoad}
 use Rattle.inorder.specs.Committed.{committed}
-use Rattle.inorder.specs.History.{Adds, back}
+use Rattle.inorder.specs.History.{back}
+use Rattle.inorder.specs.OneHistory.{Adds}
 use Rattle.inorder.specs.Machine.{State}
 use Rattle.inorder.specs.Replies.{IsStale}
 use Rattle.back.specs.Backs.{unit_in}

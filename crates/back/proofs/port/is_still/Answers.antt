@@ -1,6 +1,6 @@
 use Rattle.std.proofs.Common.{[], true≢false, sym, ap, ◌∙◌, subst, eq-eqb}
 use Rattle.std.specs.Prelude.{is_some}
-use Rattle.inorder.specs.History.{Adds}
+use Rattle.inorder.specs.OneHistory.{Adds}
 use Rattle.back.proofs.Searching.{some_of}
 use Rattle.back.proofs.Trying.{not_there, still_there}
 use Rattle.back.proofs.port.is_still.Goals as goal

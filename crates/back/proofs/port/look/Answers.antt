@@ -1,6 +1,6 @@
 use Rattle.std.proofs.Common.{[], length, ap, ◌∙◌, subst, arith}
 use Rattle.instructions.specs.Programs.{Program, instr_of}
-use Rattle.inorder.specs.History.{Adds}
+use Rattle.inorder.specs.OneHistory.{Adds}
 use Rattle.back.specs.Port.{seen_as}
 use Rattle.back.proofs.Seeing.{sees_entry, two_looks}
 use Rattle.back.proofs.port.look.Goals as goal

@@ -1,6 +1,6 @@
 use Rattle.std.proofs.Common.{◌≡◌, ◌≤◌, [], length}
 use Rattle.instructions.specs.Instruction.{width}
-use Rattle.inorder.specs.History.{Adds}
+use Rattle.inorder.specs.OneHistory.{Adds}
 use Rattle.station.specs.Seats.{IsSame}
 use Rattle.back.specs.Backs.{unit_in}
 use Rattle.back.specs.Port.{HasFound}

@@ -1,7 +1,7 @@
 use Rattle.std.proofs.Common.{◌≤◌, ◌+◌, ◌%◌, ℕ, [], length, sym, ap, ◌∙◌, subst}
 use Rattle.instructions.specs.Instruction.{width}
 use Rattle.inorder.specs.declared.history.Act.TheVariants.{Load as LoadIt}
-use Rattle.inorder.specs.History.{Adds}
+use Rattle.inorder.specs.OneHistory.{Adds}
 use Rattle.inorder.specs.Machine.{State}
 use Rattle.inorder.specs.Replies.{Has, IsNamed}
 use Rattle.inorder.proofs.SettledMemory.{length_memory}

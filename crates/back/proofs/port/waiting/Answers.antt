@@ -1,7 +1,7 @@
 use Rattle.std.proofs.Common.{◌≤◌, ◌+◌, [], length, sym, ap, ◌∙◌, subst}
 use Rattle.instructions.specs.Instruction.{width}
 use Rattle.instructions.specs.Programs.{Program}
-use Rattle.inorder.specs.History.{Adds}
+use Rattle.inorder.specs.OneHistory.{Adds}
 use Rattle.back.specs.Trials.{NoLoadWaits, SomeWaits, load_of_index}
 use Rattle.back.proofs.Searching.{if_none, if_some}
 use Rattle.back.proofs.Seeing.{two_looks}

@@ -1,6 +1,7 @@
 use Rattle.std.proofs.Common.{ℕ, List, [], ◌∙◌, subst}
 use Rattle.inorder.specs.declared.history.Entry.{Entry}
-use Rattle.inorder.specs.History.{Adds, back}
+use Rattle.inorder.specs.History.{back}
+use Rattle.inorder.specs.OneHistory.{Adds}
 use Rattle.back.specs.Stills.{head_at}
 use Rattle.back.proofs.Leaving.{first_head}
 use Rattle.back.proofs.tests.leave_and_enter.Goals as goal

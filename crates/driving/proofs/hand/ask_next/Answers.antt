@@ -1,5 +1,5 @@
 use Rattle.std.proofs.Common.{[], subst}
-use Rattle.inorder.specs.History.{Adds}
+use Rattle.inorder.specs.OneHistory.{Adds}
 use Rattle.station.specs.Asking.{AskAnswers}
 use Rattle.driving.specs.Done.{IsAskedNext}
 use Rattle.driving.proofs.Known.{front_goes_on}

@@ -1,7 +1,7 @@
 use Rattle.std.proofs.Common.{◌≡◌, sym, ap, ◌∙◌, subst, arith}
 use Rattle.inorder.specs.History.{IsUnit, own}
 use Rattle.ruu_words.specs.declared.rule.Heirs.{Heirs}
-use Rattle.ruu_words.specs.Rule.{half, other_half}
+use Rattle.ruu_words.specs.Views.{half, other_half}
 use Rattle.station.specs.Making.{first_unit, other_units}
 use Rattle.station.specs.Seats.{Caller}
 use Rattle.driving.specs.declared.seats.Seats.{Seats}

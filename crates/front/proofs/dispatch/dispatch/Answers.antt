@@ -5,7 +5,8 @@ use Rattle.front.proofs.Tables.{touched_more}
 use Rattle.std.proofs.Common.{refl, ◌≡◌, ◌<◌, ◌/◌, List, [], ◌∷◌, ◌++◌, arith, sym, ◌∙◌, subst}
 use Rattle.instructions.specs.Instruction.{first_of, second_of}
 use Rattle.inorder.specs.declared.history.Source.TheVariants.{First, Second}
-use Rattle.inorder.specs.History.{Adds, front, unit_of}
+use Rattle.inorder.specs.History.{front, unit_of}
+use Rattle.inorder.specs.OneHistory.{Adds}
 use Rattle.station.specs.Letting.{let_of}
 use Rattle.front.specs.Creators.{supply_in}
 use Rattle.front.specs.Knows.{FrontKnows}

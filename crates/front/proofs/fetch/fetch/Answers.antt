@@ -1,7 +1,8 @@
 -- Why nothing is let, or what is.
 use Rattle.std.proofs.Common.{◌≡◌, [], Some, None, sym, ap, ◌∙◌, subst}
 use Rattle.instructions.specs.Programs.{instr_at}
-use Rattle.inorder.specs.History.{Adds, front}
+use Rattle.inorder.specs.History.{front}
+use Rattle.inorder.specs.OneHistory.{Adds}
 use Rattle.inorder.proofs.Histories.{adds_on}
 use Rattle.front.proofs.Looked.{can_fetch, full_now, knows_now, no_instr_now, queue_full_now, spent_now}
 use Rattle.front.proofs.fetch.fetch.Goals as goal

@@ -1,6 +1,7 @@
 use Rattle.std.proofs.Common.{◌≡◌, ◌<◌, ◌-◌, suc, [], sym, ◌∙◌, subst, arith}
 use Rattle.std.specs.List.{AllByRecursion}
-use Rattle.inorder.specs.History.{Adds, front, unit_of}
+use Rattle.inorder.specs.History.{front, unit_of}
+use Rattle.inorder.specs.OneHistory.{Adds}
 use Rattle.front.specs.Knows.{FrontKnows}
 use Rattle.front.proofs.Crowded.{all_in, full_there, room_there}
 use Rattle.front.proofs.InQueue.{few_live, queue_room}

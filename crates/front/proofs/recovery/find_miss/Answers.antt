@@ -1,6 +1,7 @@
 -- The scan for a miss.
 use Rattle.std.proofs.Common.{◌<◌, [], sym, ◌∙◌, refl, subst, arith}
-use Rattle.inorder.specs.History.{Adds, front, unit_of}
+use Rattle.inorder.specs.History.{front, unit_of}
+use Rattle.inorder.specs.OneHistory.{Adds}
 use Rattle.inorder.proofs.Histories.{adds_on}
 use Rattle.front.specs.Knows.{FrontKnows}
 use Rattle.front.proofs.Misses.{all_one_more, is_miss, was_none}

@@ -1,6 +1,7 @@
 use Rattle.std.proofs.Common.{◌≡◌, [], take}
 use Rattle.std.specs.List.{AllByRecursion}
-use Rattle.inorder.specs.History.{Adds, front, unit_of}
+use Rattle.inorder.specs.History.{front, unit_of}
+use Rattle.inorder.specs.OneHistory.{Adds}
 use Rattle.front.specs.Knows.{FrontKnows}
 use Rattle.front.specs.Recoveries.{IsNoLiveMiss}
 use Rattle.station.specs.Seats.{IsSame}

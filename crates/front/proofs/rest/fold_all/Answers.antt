@@ -1,6 +1,7 @@
 -- The records go to the base registers.
 use Rattle.std.proofs.Common.{◌<◌, [], sym, ◌∙◌, subst, arith}
-use Rattle.inorder.specs.History.{Adds, front}
+use Rattle.inorder.specs.History.{front}
+use Rattle.inorder.specs.OneHistory.{Adds}
 use Rattle.inorder.proofs.Histories.{adds_on}
 use Rattle.front.specs.Path.{Released}
 use Rattle.front.proofs.Folding.{IsAnyone, fold_more, nobody_now, none_left, taken_out, told_all, told_more}

@@ -1,5 +1,6 @@
 use Rattle.std.proofs.Common.{◌≡◌, [], length}
-use Rattle.inorder.specs.History.{Adds, front, unit_of}
+use Rattle.inorder.specs.History.{front, unit_of}
+use Rattle.inorder.specs.OneHistory.{Adds}
 use Rattle.front.specs.Folding.{IsFolding}
 use Rattle.front.specs.Rests.{TellsFirst}
 use Rattle.station.specs.Seats.{IsSame}

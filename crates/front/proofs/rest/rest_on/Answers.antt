@@ -1,6 +1,7 @@
 -- A rest.
 use Rattle.std.proofs.Common.{◌≡◌, ◌<◌, ◌-◌, [], length, refl, sym, ap, ◌∙◌, subst, arith}
-use Rattle.inorder.specs.History.{Adds, front, unit_of}
+use Rattle.inorder.specs.History.{front, unit_of}
+use Rattle.inorder.specs.OneHistory.{Adds}
 use Rattle.inorder.proofs.Histories.{adds_on, unit_sound}
 use Rattle.station.specs.Seats.{Caller, TheCore}
 use Rattle.front.specs.CreateTable.{HasTable}

@@ -1,6 +1,6 @@
 use Rattle.std.proofs.Common.{List, [], sym, ◌∙◌, subst}
 use Rattle.inorder.specs.declared.history.Entry.{Entry}
-use Rattle.inorder.specs.History.{Adds}
+use Rattle.inorder.specs.OneHistory.{Adds}
 use Rattle.station.specs.Claiming.{Holds}
 use Rattle.rows.proofs.claims.meets_with_a_job.Goals as goal
 

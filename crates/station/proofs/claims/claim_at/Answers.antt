@@ -5,7 +5,8 @@ use Rattle.ruu_words.specs.declared.rule.View.{View}
 use Rattle.instructions.specs.declared.op.Half.{Half}
 use Rattle.ruu_words.specs.Fields.{half_of, index_of, predicted_of, state_of, tag_of}
 use Rattle.ruu_words.specs.Kinds.{IsAny, ReadsInfo, Rechecks}
-use Rattle.ruu_words.specs.Rule.{Grows, sizes_of}
+use Rattle.ruu_words.specs.Openings.{sizes_of}
+use Rattle.ruu_words.specs.Telling.{Grows}
 use Rattle.station.specs.Claiming.{ClaimAnswers, HasSeen, IsOpenAs}
 use Rattle.station.proofs.Opened.{HasInfo, Ready, claim_answers_on, has_seen, informs, peek_refused, peeked, recheck_moved, rechecked}
 use Rattle.station.proofs.claims.claim_at.Goals as goal

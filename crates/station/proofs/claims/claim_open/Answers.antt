@@ -13,7 +13,8 @@ use Rattle.ruu_words.specs.declared.rule.View.{View}
 use Rattle.ruu_words.specs.Content.{IsStation}
 use Rattle.ruu_words.specs.Fields.{tag_of}
 use Rattle.ruu_words.specs.Kinds.{Claims}
-use Rattle.ruu_words.specs.Rule.{Grows, sizes_of}
+use Rattle.ruu_words.specs.Openings.{sizes_of}
+use Rattle.ruu_words.specs.Telling.{Grows}
 use Rattle.station.specs.Claiming.{HasSeen, HasSource, IsOpenAs, SourceAnswers}
 use Rattle.station.proofs.Opened.{HasBoth, HasFirst, IsClaimable, Ready, begins, claim_moved, claimed, index_inside, ready_seen, second_next, source_refused, tag_small, takes_first, takes_second}
 use Rattle.station.proofs.claims.claim_open.Goals as goal

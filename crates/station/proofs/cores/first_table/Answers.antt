@@ -1,5 +1,6 @@
 use Rattle.std.proofs.Common.{sym, subst}
-use Rattle.ruu_words.specs.Rule.{IsStart, sizes_of}
+use Rattle.ruu_words.specs.Openings.{sizes_of}
+use Rattle.ruu_words.specs.Rule.{IsStart}
 use Rattle.ruu_words.proofs.Opening.{opens_first}
 use Rattle.station.proofs.cores.first_table.Goals as goal
 

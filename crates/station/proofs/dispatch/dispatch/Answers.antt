@@ -12,7 +12,8 @@ use Rattle.ruu_words.specs.declared.rule.View.{View}
 use Rattle.ruu_words.specs.Content.{IsOperandOf, IsStation}
 use Rattle.ruu_words.specs.Fields.{half_of, index_of}
 use Rattle.ruu_words.specs.Kinds.{Drafts, Lets}
-use Rattle.ruu_words.specs.Rule.{Grows, sizes_of}
+use Rattle.ruu_words.specs.Openings.{sizes_of}
+use Rattle.ruu_words.specs.Telling.{Grows}
 use Rattle.ruu_words.proofs.Packing.{infos_read_back}
 use Rattle.station.specs.Letting.{draft_of, given_value, supply_of}
 use Rattle.station.specs.Steps.{Sees}

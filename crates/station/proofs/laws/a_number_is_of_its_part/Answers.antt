@@ -1,5 +1,5 @@
 use Rattle.std.proofs.Common.{subst}
-use Rattle.ruu_words.specs.Rule.{IsCaller}
+use Rattle.ruu_words.specs.Views.{IsCaller}
 use Rattle.station.specs.Seats.{Caller}
 use Rattle.station.proofs.laws.a_number_is_of_its_part.Goals as goal
 

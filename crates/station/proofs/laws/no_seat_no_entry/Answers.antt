@@ -1,6 +1,6 @@
 use Rattle.std.proofs.Common.{◌≡◌, ℕ, subst}
 use Rattle.inorder.specs.History.{own}
-use Rattle.ruu_words.specs.Rule.{IsHeir}
+use Rattle.ruu_words.specs.Views.{IsHeir}
 use Rattle.station.specs.Seats.{Caller}
 use Rattle.station.proofs.laws.no_seat_no_entry.Goals as goal
 

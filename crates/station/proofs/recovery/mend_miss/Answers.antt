@@ -5,7 +5,8 @@ use Rattle.inorder.specs.History.{IsLegal, entry, front, own}
 use Rattle.ruu_words.specs.declared.place.Place.TheVariants.{Station}
 use Rattle.ruu_words.specs.declared.rule.View.{View}
 use Rattle.ruu_words.specs.Fields.{tag_of, value_of}
-use Rattle.ruu_words.specs.Rule.{Grows, sizes_of}
+use Rattle.ruu_words.specs.Openings.{sizes_of}
+use Rattle.ruu_words.specs.Telling.{Grows}
 use Rattle.station.specs.Recovery.{HasMiss, Mends}
 use Rattle.station.specs.Steps.{Sees}
 use Rattle.station.proofs.Mending.{mended_out, miss_on, miss_word, next_out}

@@ -5,7 +5,8 @@ use Rattle.inorder.specs.History.{IsLegal, entry, front, own}
 use Rattle.inorder.specs.Replies.{last_tag}
 use Rattle.ruu_words.specs.declared.place.Place.TheVariants.{Station}
 use Rattle.ruu_words.specs.declared.rule.View.{View}
-use Rattle.ruu_words.specs.Rule.{Grows, sizes_of}
+use Rattle.ruu_words.specs.Openings.{sizes_of}
+use Rattle.ruu_words.specs.Telling.{Grows}
 use Rattle.station.specs.Recovery.{HasYoungest, Squashes}
 use Rattle.station.specs.Steps.{Sees}
 use Rattle.station.proofs.Squashing.{squashed_next, squashed_out, youngest_in, youngest_on, youngest_small, youngest_word}

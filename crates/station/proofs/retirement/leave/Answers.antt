@@ -1,4 +1,4 @@
-use Rattle.ruu_words.specs.Rule.{sizes_of}
+use Rattle.ruu_words.specs.Openings.{sizes_of}
 use Rattle.station.proofs.Retiring.{head_next, leaving_small, retired_out}
 use Rattle.station.proofs.retirement.leave.Goals as goal
 

@@ -9,7 +9,7 @@ use Rattle.inorder.specs.declared.history.Refusal.TheVariants.{NotDone}
 use Rattle.ruu_words.specs.declared.rule.View.{View}
 use Rattle.ruu_words.specs.Fields.{state_of}
 use Rattle.ruu_words.specs.Kinds.{Tells}
-use Rattle.ruu_words.specs.Rule.{sizes_of}
+use Rattle.ruu_words.specs.Openings.{sizes_of}
 use Rattle.station.specs.Retirement.{RetireAnswers}
 use Rattle.station.proofs.Adding.{adds_these}
 use Rattle.station.proofs.Retiring.{answers_on, data_missing, data_there, inside}

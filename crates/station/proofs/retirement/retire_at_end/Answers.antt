@@ -2,7 +2,7 @@ use Rattle.std.proofs.Common.{◌≡◌, ◌≢◌, ℕ, subst, rules}
 use Rattle.atomic_table.specs.Table.{Me}
 use Rattle.ruu_words.specs.declared.rule.View.{View}
 use Rattle.ruu_words.specs.declared.station.StationState.TheVariants.{Addr}
-use Rattle.ruu_words.specs.Rule.{sizes_of}
+use Rattle.ruu_words.specs.Openings.{sizes_of}
 use Rattle.station.specs.Retirement.{RetireAnswers}
 use Rattle.station.proofs.Retiring.{answers_on, end_access, end_adds, end_leaves}
 use Rattle.station.proofs.retirement.retire_at_end.Goals as goal

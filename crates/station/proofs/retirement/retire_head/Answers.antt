@@ -2,7 +2,7 @@ use Rattle.std.proofs.Common.{ℕ, sym, ap, ◌∙◌, subst, inl, inr, ⊎_elim
 use Rattle.atomic_table.specs.Table.{Me}
 use Rattle.ruu_words.specs.declared.rule.View.{View}
 use Rattle.ruu_words.specs.Kinds.{IsEarly}
-use Rattle.ruu_words.specs.Rule.{sizes_of}
+use Rattle.ruu_words.specs.Openings.{sizes_of}
 use Rattle.ruu_words.specs.States.{state_code}
 use Rattle.station.specs.Retirement.{RetireAnswers}
 use Rattle.station.proofs.Retiring.{IsLateState, answers_on, head_early, head_empty, head_late}

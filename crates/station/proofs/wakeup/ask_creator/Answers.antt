@@ -1,6 +1,6 @@
 use Rattle.std.proofs.Common.{◌∙◌, arith}
 use Rattle.ruu_words.specs.Kinds.{IsAny}
-use Rattle.ruu_words.specs.Rule.{sizes_of}
+use Rattle.ruu_words.specs.Openings.{sizes_of}
 use Rattle.station.specs.Asking.{IsAsking}
 use Rattle.station.proofs.Asking.{answered_by, asked_now, found_by, is_answered, is_linked, quiet_found}
 use Rattle.station.proofs.Writing.{tag_small}

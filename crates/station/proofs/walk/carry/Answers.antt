@@ -1,5 +1,5 @@
 use Rattle.std.proofs.Common.{sym, subst}
-use Rattle.ruu_words.specs.Rule.{sizes_of}
+use Rattle.ruu_words.specs.Openings.{sizes_of}
 use Rattle.station.specs.Carrying.{HasCarried}
 use Rattle.station.proofs.Writing.{carries_walk}
 use Rattle.station.proofs.walk.carry.Goals as goal

@@ -2,7 +2,8 @@ use Rattle.std.proofs.Common.{◌≡◌, ℕ, nat_eq, sym, ◌∙◌, subst, eq-
 use Rattle.std.proofs.lemmas.Bool.{eqb-true}
 use Rattle.ruu_words.specs.Fields.{producer_of, tag_of}
 use Rattle.ruu_words.specs.Kinds.{Delivers}
-use Rattle.ruu_words.specs.Rule.{Grows, sizes_of}
+use Rattle.ruu_words.specs.Openings.{sizes_of}
+use Rattle.ruu_words.specs.Telling.{Grows}
 use Rattle.station.specs.Writeback.{CanDeliver}
 use Rattle.station.proofs.Carrying.{can_deliver, serves_nobody, serves_one}
 use Rattle.station.proofs.Waking.{wakes_delivering, wakes_not, wakes_reading, wakes_served}

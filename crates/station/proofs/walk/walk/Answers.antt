@@ -1,6 +1,6 @@
 use Rattle.std.proofs.Common.{◌≡◌, ℕ, ◌+◌, ◌||◌, ◌∙◌, arith}
 use Rattle.inorder.specs.declared.history.Source.TheVariants.{First, Second}
-use Rattle.ruu_words.specs.Rule.{sizes_of}
+use Rattle.ruu_words.specs.Openings.{sizes_of}
 use Rattle.station.specs.Carrying.{HasValueOf}
 use Rattle.station.proofs.Carrying.{all_served, any_of, carries_both, legal_behind, value_behind, walks_away}
 use Rattle.station.proofs.Waking.{either_one, either_other, one_of, wakes_before, wakes_ending, wakes_on}

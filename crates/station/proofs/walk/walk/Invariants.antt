@@ -1,6 +1,6 @@
 use Rattle.std.proofs.Common.{◌≡◌}
 use Rattle.inorder.specs.History.{IsLegal}
-use Rattle.ruu_words.specs.Rule.{sizes_of}
+use Rattle.ruu_words.specs.Openings.{sizes_of}
 use Rattle.station.specs.Carrying.{HasValueOf, IsCarrying, OfTenant}
 use Rattle.station.specs.Waking.{IsSet, Wakes}
 use Rattle.station.proofs.walk.walk.Given as goal

@@ -5,7 +5,8 @@ use Rattle.inorder.specs.StationWords.{live_word}
 use Rattle.ruu_words.specs.Content.{IsStation}
 use Rattle.ruu_words.specs.Fields.{tag_of}
 use Rattle.ruu_words.specs.Kinds.{Finishes, fate_of}
-use Rattle.ruu_words.specs.Rule.{Grows, sizes_of}
+use Rattle.ruu_words.specs.Openings.{sizes_of}
+use Rattle.ruu_words.specs.Telling.{Grows}
 use Rattle.station.specs.Writeback.{HasTenant}
 use Rattle.station.proofs.Writing.{carried_legal, finish_all, finish_made, finish_out, finish_stale, job_held, station_inside, tag_small}
 use Rattle.station.proofs.Waking.{has_woken_none, wakes_behind, wakes_finishing}

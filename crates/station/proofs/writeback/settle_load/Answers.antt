@@ -4,7 +4,9 @@ use Rattle.ruu_words.specs.declared.place.Place.TheVariants.{Station}
 use Rattle.ruu_words.specs.declared.rule.Role.TheVariants.{Back}
 use Rattle.ruu_words.specs.Fields.{tag_of, value_of}
 use Rattle.ruu_words.specs.Kinds.{IsAny, Settles}
-use Rattle.ruu_words.specs.Rule.{Grows, IsCaller, sizes_of}
+use Rattle.ruu_words.specs.Openings.{sizes_of}
+use Rattle.ruu_words.specs.Views.{IsCaller}
+use Rattle.ruu_words.specs.Telling.{Grows}
 use Rattle.station.specs.Steps.{Sees}
 use Rattle.station.specs.Writeback.{CanSettle}
 use Rattle.station.proofs.Adding.{adds_these}

@@ -1,5 +1,5 @@
 use Rattle.std.proofs.Common.{[], refl, sym, ap, ◌∙◌}
-use Rattle.inorder.specs.History.{Adds}
+use Rattle.inorder.specs.OneHistory.{Adds}
 use Rattle.inorder.specs.Machine.{start}
 use Rattle.station.specs.Seats.{TheCore}
 use Rattle.back.proofs.Calls.{is_new, new_kept}

@@ -1,5 +1,5 @@
 use Rattle.std.proofs.Common.{[], sym, ap, ◌∙◌, subst}
-use Rattle.inorder.specs.History.{Adds}
+use Rattle.inorder.specs.OneHistory.{Adds}
 use Rattle.station.specs.Seats.{TheCore}
 use Rattle.back.specs.Backs.{IsSameBack, TheBack, back_of}
 use Rattle.back.proofs.Calls.{is_same}

@@ -1,7 +1,7 @@
 use Rattle.std.proofs.Common.{◌≡◌, ℕ, ◌+◌, ◌<◌, ◌≤◌, ◌%◌, length, sym, ap, ◌∙◌, subst, arith}
 use Rattle.instructions.specs.Programs.{Program}
 use Rattle.ruu_words.specs.declared.rule.Role.TheVariants.{Front}
-use Rattle.ruu_words.specs.Rule.{sizes_of}
+use Rattle.ruu_words.specs.Openings.{sizes_of}
 use Rattle.station.specs.Seats.{IsSeated, TheCore}
 use Rattle.station.proofs.LettingOut.{seated_out}
 use Rattle.station.proofs.Numbers.{front_numbered}

@@ -1,6 +1,6 @@
 use Rattle.std.proofs.Common.{◌≡◌, ℕ, sym, ◌∙◌, subst}
 use Rattle.ruu_words.specs.declared.rule.Role.TheVariants.{Front}
-use Rattle.ruu_words.specs.Rule.{sizes_of}
+use Rattle.ruu_words.specs.Openings.{sizes_of}
 use Rattle.station.specs.Seats.{IsSeated}
 use Rattle.station.proofs.Mending.{seated_mended}
 use Rattle.station.proofs.Numbers.{front_numbered}

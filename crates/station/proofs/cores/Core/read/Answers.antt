@@ -1,7 +1,8 @@
 use Rattle.std.proofs.Common.{ℕ, [], sym, ap, ◌∙◌, subst}
-use Rattle.inorder.specs.History.{Adds}
+use Rattle.inorder.specs.OneHistory.{Adds}
 use Rattle.ruu_words.specs.declared.rule.Role.{Role}
-use Rattle.ruu_words.specs.Rule.{IsCaller, Unborn, opening_of, sizes_of}
+use Rattle.ruu_words.specs.Openings.{opening_of, sizes_of}
+use Rattle.ruu_words.specs.Views.{IsCaller, Unborn}
 use Rattle.station.specs.Seats.{Caller, IsSeated}
 use Rattle.station.specs.Steps.{Sees}
 use Rattle.station.proofs.Adding.{adds_these}

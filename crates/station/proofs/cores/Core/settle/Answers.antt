@@ -1,6 +1,6 @@
 use Rattle.std.proofs.Common.{◌≡◌, ℕ, sym, ◌∙◌, subst}
 use Rattle.ruu_words.specs.declared.rule.Role.TheVariants.{Back}
-use Rattle.ruu_words.specs.Rule.{sizes_of}
+use Rattle.ruu_words.specs.Openings.{sizes_of}
 use Rattle.station.specs.Seats.{IsSeated}
 use Rattle.station.proofs.Numbers.{back_numbered}
 use Rattle.station.proofs.SameUnit.{Unit_of, of_seat, of_table, unit_at}

@@ -1,10 +1,11 @@
 use Rattle.std.proofs.Common.{◌≡◌, ℕ, List, [], sym, ap, ◌∙◌, subst, rules}
 use Rattle.atomic_table.specs.Table.{Me}
 use Rattle.inorder.specs.declared.history.Entry.{Entry}
-use Rattle.inorder.specs.History.{Adds}
+use Rattle.inorder.specs.OneHistory.{Adds}
 use Rattle.ruu_words.specs.declared.rule.View.{View}
 use Rattle.ruu_words.specs.declared.place.Place.TheVariants.{Station}
-use Rattle.ruu_words.specs.Rule.{Unborn, opening_of, sizes_of}
+use Rattle.ruu_words.specs.Openings.{opening_of, sizes_of}
+use Rattle.ruu_words.specs.Views.{Unborn}
 use Rattle.ruu_words.proofs.Views.{joins, splits_note}
 use Rattle.station.specs.Seats.{IsSeated}
 use Rattle.station.specs.Steps.{Sees}

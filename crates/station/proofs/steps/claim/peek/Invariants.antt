@@ -1,5 +1,6 @@
 use Rattle.ruu_words.specs.Kinds.{Peeks}
-use Rattle.ruu_words.specs.Rule.{Tells, opening_of, sizes_of}
+use Rattle.ruu_words.specs.Openings.{opening_of, sizes_of}
+use Rattle.ruu_words.specs.Telling.{Tells}
 use Rattle.station.proofs.steps.claim.peek.Given as goal
 
 abbrev pub ghosts-load : goal.ghosts-load

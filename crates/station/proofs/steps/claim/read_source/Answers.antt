@@ -4,7 +4,8 @@ use Rattle.atomic_table.specs.Table.{step}
 use Rattle.ruu_words.specs.declared.place.Place.TheVariants.{Operand}
 use Rattle.ruu_words.specs.Kinds.{ReadsSource}
 use Rattle.ruu_words.specs.Places.{index}
-use Rattle.ruu_words.specs.Rule.{IsAlive, sizes_of}
+use Rattle.ruu_words.specs.Openings.{sizes_of}
+use Rattle.ruu_words.specs.Views.{IsAlive}
 use Rattle.ruu_words.proofs.Reading.{source_plan}
 use Rattle.station.proofs.Claimed.{next_named}
 use Rattle.station.proofs.Allowing.{allows}

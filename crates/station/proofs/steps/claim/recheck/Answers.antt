@@ -5,7 +5,8 @@ use Rattle.ruu_words.specs.Fields.{tag_of}
 use Rattle.ruu_words.specs.declared.place.Place.TheVariants.{Station}
 use Rattle.ruu_words.specs.Kinds.{Rechecks}
 use Rattle.ruu_words.specs.Places.{index}
-use Rattle.ruu_words.specs.Rule.{IsAlive, sizes_of}
+use Rattle.ruu_words.specs.Openings.{sizes_of}
+use Rattle.ruu_words.specs.Views.{IsAlive}
 use Rattle.ruu_words.proofs.Claiming.{recheck_plan}
 use Rattle.station.proofs.Allowing.{allows}
 use Rattle.station.proofs.steps.claim.recheck.Goals as goal

@@ -5,7 +5,8 @@ use Rattle.inorder.specs.History.{unit_of}
 use Rattle.ruu_words.specs.declared.place.Place.TheVariants.{Station}
 use Rattle.ruu_words.specs.Kinds.{Lets}
 use Rattle.ruu_words.specs.Places.{index}
-use Rattle.ruu_words.specs.Rule.{IsAlive, sizes_of}
+use Rattle.ruu_words.specs.Openings.{sizes_of}
+use Rattle.ruu_words.specs.Views.{IsAlive}
 use Rattle.ruu_words.proofs.Drafting.{let_plan}
 use Rattle.station.specs.Letting.{supply_of}
 use Rattle.station.proofs.Allowing.{allows_store}

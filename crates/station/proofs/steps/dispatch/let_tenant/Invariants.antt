@@ -1,5 +1,6 @@
 use Rattle.ruu_words.specs.Kinds.{Lets}
-use Rattle.ruu_words.specs.Rule.{Tells, opening_of, sizes_of}
+use Rattle.ruu_words.specs.Openings.{opening_of, sizes_of}
+use Rattle.ruu_words.specs.Telling.{Tells}
 use Rattle.station.specs.Letting.{supply_of}
 use Rattle.station.proofs.steps.dispatch.let_tenant.Given as goal
 

@@ -7,7 +7,8 @@ use Rattle.ruu_words.specs.declared.rule.Stage.TheVariants.{FirstOperand}
 use Rattle.ruu_words.specs.declared.place.Place.TheVariants.{Operand}
 use Rattle.ruu_words.specs.Kinds.{Drafts}
 use Rattle.ruu_words.specs.Places.{index}
-use Rattle.ruu_words.specs.Rule.{IsAlive, sizes_of}
+use Rattle.ruu_words.specs.Openings.{sizes_of}
+use Rattle.ruu_words.specs.Views.{IsAlive}
 use Rattle.ruu_words.proofs.Drafting.{first_plan}
 use Rattle.station.specs.Letting.{draft_of, supply_of}
 use Rattle.instructions.specs.Instruction.{first_of}

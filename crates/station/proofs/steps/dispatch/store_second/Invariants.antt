@@ -1,6 +1,7 @@
 use Rattle.ruu_words.specs.declared.rule.Stage.TheVariants.{BothOperands}
 use Rattle.ruu_words.specs.Kinds.{Drafts}
-use Rattle.ruu_words.specs.Rule.{Tells, opening_of, sizes_of}
+use Rattle.ruu_words.specs.Openings.{opening_of, sizes_of}
+use Rattle.ruu_words.specs.Telling.{Tells}
 use Rattle.station.specs.Letting.{draft_of}
 use Rattle.station.proofs.steps.dispatch.store_second.Given as goal
 

@@ -1,7 +1,7 @@
 use mathlib.Core.Option.{none}
 use Rattle.atomic_table.specs.Table.{step}
 use Rattle.ruu_words.specs.Places.{index}
-use Rattle.ruu_words.specs.Rule.{sizes_of}
+use Rattle.ruu_words.specs.Openings.{sizes_of}
 use Rattle.station.specs.Steps.{Sees}
 use Rattle.station.proofs.Allowing.{allows}
 use Rattle.station.proofs.Looks.{sees_plan}

@@ -3,7 +3,7 @@ use Rattle.atomic_table.specs.Table.{step}
 use Rattle.ruu_words.specs.declared.place.Place.TheVariants.{Info}
 use Rattle.ruu_words.specs.Kinds.{ReadsInfo}
 use Rattle.ruu_words.specs.Places.{index}
-use Rattle.ruu_words.specs.Rule.{sizes_of}
+use Rattle.ruu_words.specs.Openings.{sizes_of}
 use Rattle.ruu_words.proofs.Reading.{info_read_plan}
 use Rattle.station.proofs.Allowing.{allows}
 use Rattle.station.proofs.steps.look.read_info.Goals as goal

@@ -1,5 +1,6 @@
 use Rattle.ruu_words.specs.Kinds.{ReadsInfo}
-use Rattle.ruu_words.specs.Rule.{Tells, opening_of, sizes_of}
+use Rattle.ruu_words.specs.Openings.{opening_of, sizes_of}
+use Rattle.ruu_words.specs.Telling.{Tells}
 use Rattle.station.proofs.steps.look.read_info.Given as goal
 
 abbrev pub ghosts-load : goal.ghosts-load

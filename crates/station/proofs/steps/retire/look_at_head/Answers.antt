@@ -4,7 +4,8 @@ use Rattle.atomic_table.specs.Table.{step}
 use Rattle.station.specs.Retirement.{LooksAtHead}
 use Rattle.ruu_words.specs.declared.place.Place.TheVariants.{Station}
 use Rattle.ruu_words.specs.Places.{index}
-use Rattle.ruu_words.specs.Rule.{IsAlive, sizes_of}
+use Rattle.ruu_words.specs.Openings.{sizes_of}
+use Rattle.ruu_words.specs.Views.{IsAlive}
 use Rattle.station.proofs.Allowing.{allows}
 use Rattle.station.proofs.Retiring.{looks_plan}
 use Rattle.station.proofs.steps.retire.look_at_head.Goals as goal

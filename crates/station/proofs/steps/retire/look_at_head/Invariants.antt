@@ -1,4 +1,5 @@
-use Rattle.ruu_words.specs.Rule.{Tells, opening_of, sizes_of}
+use Rattle.ruu_words.specs.Openings.{opening_of, sizes_of}
+use Rattle.ruu_words.specs.Telling.{Tells}
 use Rattle.station.specs.Retirement.{LooksAtHead}
 use Rattle.station.proofs.steps.retire.look_at_head.Given as goal
 

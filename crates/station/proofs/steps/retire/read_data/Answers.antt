@@ -5,7 +5,8 @@ use Rattle.inorder.specs.declared.history.Source.TheVariants.{Second}
 use Rattle.station.specs.Retirement.{FindsData}
 use Rattle.ruu_words.specs.declared.place.Place.TheVariants.{Operand}
 use Rattle.ruu_words.specs.Places.{index}
-use Rattle.ruu_words.specs.Rule.{IsAlive, sizes_of}
+use Rattle.ruu_words.specs.Openings.{sizes_of}
+use Rattle.ruu_words.specs.Views.{IsAlive}
 use Rattle.station.proofs.Allowing.{allows}
 use Rattle.station.proofs.Retiring.{finds_plan}
 use Rattle.station.proofs.steps.retire.read_data.Goals as goal

@@ -1,6 +1,7 @@
 use Rattle.inorder.specs.declared.history.Refusal.TheVariants.{Over}
 use Rattle.ruu_words.specs.Kinds.{Tells as Refuses}
-use Rattle.ruu_words.specs.Rule.{Tells, opening_of, sizes_of}
+use Rattle.ruu_words.specs.Openings.{opening_of, sizes_of}
+use Rattle.ruu_words.specs.Telling.{Tells}
 use Rattle.station.proofs.steps.retire.tell_over.Given as goal
 
 abbrev pub ghosts-load : goal.ghosts-load

@@ -5,7 +5,8 @@ use Rattle.inorder.specs.declared.history.Refusal.TheVariants.{NotDone}
 use Rattle.ruu_words.specs.Kinds.{Tells}
 use Rattle.ruu_words.specs.declared.place.Place.TheVariants.{Station}
 use Rattle.ruu_words.specs.Places.{index}
-use Rattle.ruu_words.specs.Rule.{IsAlive, sizes_of}
+use Rattle.ruu_words.specs.Openings.{sizes_of}
+use Rattle.ruu_words.specs.Views.{IsAlive}
 use Rattle.station.proofs.Allowing.{allows}
 use Rattle.station.proofs.Retiring.{waits_plan}
 use Rattle.station.proofs.steps.retire.tell_waiting.Goals as goal

@@ -3,7 +3,8 @@ use mathlib.Core.Option.{none}
 use Rattle.atomic_table.specs.Table.{step}
 use Rattle.ruu_words.specs.declared.place.Place.TheVariants.{Station}
 use Rattle.ruu_words.specs.Places.{index}
-use Rattle.ruu_words.specs.Rule.{IsAlive, sizes_of}
+use Rattle.ruu_words.specs.Openings.{sizes_of}
+use Rattle.ruu_words.specs.Views.{IsAlive}
 use Rattle.station.specs.Wakeup.{Finds}
 use Rattle.station.proofs.Allowing.{allows}
 use Rattle.station.proofs.Asking.{finds_plan}

@@ -5,7 +5,8 @@ use Rattle.atomic_table.specs.Table.{step}
 use Rattle.ruu_words.specs.declared.place.Place.TheVariants.{Operand}
 use Rattle.ruu_words.specs.Fields.{tag_of, value_of}
 use Rattle.ruu_words.specs.Places.{index}
-use Rattle.ruu_words.specs.Rule.{IsAlive, sizes_of}
+use Rattle.ruu_words.specs.Openings.{sizes_of}
+use Rattle.ruu_words.specs.Views.{IsAlive}
 use Rattle.station.specs.Wakeup.{Ends}
 use Rattle.station.proofs.Allowing.{allows}
 use Rattle.station.proofs.Asking.{ends_plan}

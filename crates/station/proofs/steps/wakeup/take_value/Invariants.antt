@@ -1,5 +1,6 @@
 use Rattle.ruu_words.specs.Fields.{tag_of}
-use Rattle.ruu_words.specs.Rule.{Tells, opening_of, sizes_of}
+use Rattle.ruu_words.specs.Openings.{opening_of, sizes_of}
+use Rattle.ruu_words.specs.Telling.{Tells}
 use Rattle.station.specs.Wakeup.{Ends}
 use Rattle.station.proofs.steps.wakeup.take_value.Given as goal
 

@@ -2,7 +2,7 @@ use mathlib.Core.Option.{none}
 use Rattle.atomic_table.specs.Table.{step}
 use Rattle.ruu_words.specs.declared.place.Place.TheVariants.{Station}
 use Rattle.ruu_words.specs.Places.{index}
-use Rattle.ruu_words.specs.Rule.{sizes_of}
+use Rattle.ruu_words.specs.Openings.{sizes_of}
 use Rattle.station.specs.Carrying.{EndsWalk}
 use Rattle.station.proofs.Allowing.{allows}
 use Rattle.station.proofs.Carrying.{end_plan, writer_alive}

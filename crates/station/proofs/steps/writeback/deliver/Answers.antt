@@ -6,7 +6,7 @@ use Rattle.ruu_words.specs.declared.place.Place.TheVariants.{Operand}
 use Rattle.ruu_words.specs.Fields.{tag_of, value_of}
 use Rattle.ruu_words.specs.Kinds.{Delivers}
 use Rattle.ruu_words.specs.Places.{index}
-use Rattle.ruu_words.specs.Rule.{sizes_of}
+use Rattle.ruu_words.specs.Openings.{sizes_of}
 use Rattle.ruu_words.proofs.Delivery.{deliver_plan}
 use Rattle.station.proofs.Allowing.{allows}
 use Rattle.station.proofs.steps.writeback.deliver.Goals as goal

@@ -1,6 +1,7 @@
 use Rattle.ruu_words.specs.Fields.{tag_of}
 use Rattle.ruu_words.specs.Kinds.{Delivers}
-use Rattle.ruu_words.specs.Rule.{Tells, opening_of, sizes_of}
+use Rattle.ruu_words.specs.Openings.{opening_of, sizes_of}
+use Rattle.ruu_words.specs.Telling.{Tells}
 use Rattle.station.proofs.steps.writeback.deliver.Given as goal
 
 abbrev pub ghosts-exchange : goal.ghosts-exchange

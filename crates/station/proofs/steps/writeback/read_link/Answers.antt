@@ -3,7 +3,7 @@ use Rattle.atomic_table.specs.Table.{step}
 use Rattle.ruu_words.specs.declared.place.Place.TheVariants.{Link}
 use Rattle.ruu_words.specs.Kinds.{ReadsLink}
 use Rattle.ruu_words.specs.Places.{index}
-use Rattle.ruu_words.specs.Rule.{sizes_of}
+use Rattle.ruu_words.specs.Openings.{sizes_of}
 use Rattle.ruu_words.proofs.Linking.{link_read_plan}
 use Rattle.station.proofs.Allowing.{allows}
 use Rattle.station.proofs.steps.writeback.read_link.Goals as goal

@@ -1,5 +1,6 @@
 use Rattle.ruu_words.specs.Kinds.{ReadsLink}
-use Rattle.ruu_words.specs.Rule.{Tells, opening_of, sizes_of}
+use Rattle.ruu_words.specs.Openings.{opening_of, sizes_of}
+use Rattle.ruu_words.specs.Telling.{Tells}
 use Rattle.station.proofs.steps.writeback.read_link.Given as goal
 
 abbrev pub ghosts-load : goal.ghosts-load

@@ -6,7 +6,8 @@ use Rattle.ruu_words.specs.declared.place.Place.TheVariants.{Station}
 use Rattle.ruu_words.specs.Fields.{tag_of, value_of}
 use Rattle.ruu_words.specs.Kinds.{Settles}
 use Rattle.ruu_words.specs.Places.{index}
-use Rattle.ruu_words.specs.Rule.{IsAlive, sizes_of}
+use Rattle.ruu_words.specs.Openings.{sizes_of}
+use Rattle.ruu_words.specs.Views.{IsAlive}
 use Rattle.ruu_words.proofs.Settling.{settle_plan}
 use Rattle.station.proofs.Allowing.{allows}
 use Rattle.station.proofs.steps.writeback.settle_tenant.Goals as goal

@@ -1,6 +1,7 @@
 use Rattle.std.proofs.Common.{[], sym, subst}
 use Rattle.inorder.specs.Callers.{GoesOn}
-use Rattle.inorder.specs.History.{Adds, unit_of}
+use Rattle.inorder.specs.History.{unit_of}
+use Rattle.inorder.specs.OneHistory.{Adds}
 use Rattle.station.specs.Seats.{TheCore}
 use Rattle.station.proofs.tests.memory.renewed.Goals as goal
 
