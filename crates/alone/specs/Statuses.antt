@@ -5,9 +5,9 @@ use Rattle.bench.specs.declared.outcome.Status.{Status}
 use Rattle.bench.specs.declared.outcome.Status.TheVariants.{Break, Stopped, TextFault, Limit}
 
 -- of what a listing came to, or of why nothing was run to its end
-abbrev pub status_of : Result Status Fault → ℕ
-status_of (Ok Break) = 0
-status_of (Ok Stopped) = 1
-status_of (Ok TextFault) = 2
-status_of (Ok Limit) = 4
-status_of (Err fault) = 5
+abbrev pub status_of_run : Result Status Fault → ℕ
+status_of_run (Ok Break) = 0
+status_of_run (Ok Stopped) = 1
+status_of_run (Ok TextFault) = 2
+status_of_run (Ok Limit) = 4
+status_of_run (Err fault) = 5

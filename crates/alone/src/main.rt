@@ -3,7 +3,7 @@
 
 ghost use Rattle.std.specs.Prelude.{◌≡◌, IfSome, IsSome};
 ghost use Rattle.std.specs.Process.{exit_status};
-ghost use Rattle.alone.specs.Statuses.{status_of};
+ghost use Rattle.alone.specs.Statuses.{status_of_run};
 
 use bench::{Counted, Fault, Status, alone};
 use instructions::{Config, NotTaken};
@@ -19,7 +19,7 @@ fn config() -> Option<Config>
 }
 
 fn status(answer: Result<Status, Fault>) -> u8
-    ensures { result ≡ status_of answer }
+    ensures { result ≡ status_of_run answer }
 {
     match answer {
         Ok(Status::Break) => 0,
@@ -40,7 +40,7 @@ fn word(fault: Fault) -> &'static str {
 
 // A failure to print changes no status.
 fn end(rt: &HostRuntime, answer: Result<Status, Fault>) -> ExitCode
-    ensures { exit_status result ≡ status_of answer }
+    ensures { exit_status result ≡ status_of_run answer }
 {
     if let Err(fault) = answer {
         let _ = eprintln!(rt; "ruu: {}", word(fault));

@@ -5,10 +5,10 @@ use Rattle.inorder.specs.History.{back, unit_of}
 use Rattle.inorder.specs.OneHistory.{Adds}
 use Rattle.station.specs.Seats.{Caller, TheCore}
 use Rattle.back.specs.Backs.{unit_in}
-use Rattle.back.specs.Stills.{RefusedAreEntered, RenewedAreEntered, head_at}
+use Rattle.back.specs.Stills.{RefusedBacksEnter, RenewedBacksEnter, head_at}
 use Rattle.back.proofs.Answering.{head_same}
 
-pub renewed_are_entered : RenewedAreEntered
+pub renewed_are_entered : RenewedBacksEnter
 renewed_are_entered core now old new r =
     let one = r.first.back_is in
     record {
@@ -23,7 +23,7 @@ renewed_are_entered core now old new r =
       first = ap (λ (z : Caller). head_at z.core z.seen) one ∙ (ap (head_at now) r.opening ∙ zero-mod now.sizes.ring);
     }
 
-pub refused_are_entered : RefusedAreEntered
+pub refused_are_entered : RefusedBacksEnter
 refused_are_entered core now old new here by_is r =
     let later = r.met.back in
     let place : new.back.core ≡ core = later.same.core ∙ here in

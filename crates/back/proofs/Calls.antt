@@ -10,16 +10,16 @@ use Rattle.inorder.proofs.Histories.{legal_before}
 use Rattle.snapshots.specs.declared.snap.Snap.{Snap}
 use Rattle.station.specs.Seats.{Caller}
 use Rattle.snapshots.specs.Snapshots.{opening}
-use Rattle.back.specs.Backs.{HasRetiredNothing, IsNew, IsSame, back_of, unit_in}
-use Rattle.back.specs.Kept.{IsKept, KeepsUnit}
+use Rattle.back.specs.Backs.{HasRetiredNothing, IsNewBack, IsSameBack, back_of, unit_in}
+use Rattle.back.specs.Kept.{BackIsKept, KeepsUnit}
 use Rattle.back.proofs.Starting.{starts}
 use Rattle.back.proofs.SeatKept.{kept_by, same_state, state_is}
 
 -- A look or a meeting
 
-pub is_same : (P copy : Program) (state : State) (low : Option ℕ) (head : ℕ) (ended : Option Stop) (shown : Snap) (seat seat' : Caller) → IsKept P seat copy state low head ended shown →
-    IsKept P seat' copy state low head ended shown
-    → seat'.core ≡ seat.core → seat'.by ≡ seat.by → IsSame (back_of seat ended shown) (back_of seat' ended shown)
+pub is_same : (P copy : Program) (state : State) (low : Option ℕ) (head : ℕ) (ended : Option Stop) (shown : Snap) (seat seat' : Caller) →
+    BackIsKept P seat copy state low head ended shown → BackIsKept P seat' copy state low head ended shown
+    → seat'.core ≡ seat.core → seat'.by ≡ seat.by → IsSameBack (back_of seat ended shown) (back_of seat' ended shown)
 is_same P copy state low head ended shown seat seat' k k' core by = record { core = core; by = by; ended = refl; shown = refl; state = same_state P copy state low head ended shown seat seat' k k' }
 
 -- A new back
@@ -27,21 +27,20 @@ is_same P copy state low head ended shown seat seat' k k' core by = record { cor
 module _ (P : Program) (seat seat' : Caller) (program : seat.core.program ≡ P) (by : seat.by ≡ back) (fresh : HasRetiredNothing seat)
     (core : seat'.core ≡ seat.core) (by' : seat'.by ≡ seat.by) (woken : seat'.woken ≡ seat.woken) (a : Adds seat.core.program seat.core.sizes seat.by seat.seen seat'.seen [])
     (copy : Program) (state : State) (shown : Snap) (copied : copy ≡ P) (state_starts : state ≡ start P) (shown_is : shown ≡ opening) where
-  at_first : IsKept P seat copy state None 0 None shown
+  at_first : BackIsKept P seat copy state None 0 None shown
   at_first = record {
     program = program;
     copied = copied;
     by_is = by;
-    legal = subst (λ Q. IsLegal Q seat.core.sizes seat.seen) program (legal_before seat.core.program seat.core.sizes a.begins.more seat.seen
-        (subst (IsLegal seat.core.program seat.core.sizes) a.begins.is a.legal));
+    legal = subst (λ Q. IsLegal Q seat.core.sizes seat.seen) program (legal_before seat.core.program seat.core.sizes a.begins.more seat.seen (subst (IsLegal seat.core.program seat.core.sizes) a.begins.is a.legal));
     unit = subst (λ s. KeepsUnit P seat.core.sizes (unit_in seat.core seat.seen) s None 0 None) (sym state_starts) (starts P seat.core.sizes (unit_in seat.core seat.seen) fresh);
     later = subst (λ (s : Snap). s.n ≤ state.count) (sym shown_is) zero-le;
   }
 
-  pub new_kept : IsKept P seat' copy state None 0 None shown
+  pub new_kept : BackIsKept P seat' copy state None 0 None shown
   new_kept = kept_by P copy state None 0 None shown seat seat' [] at_first core by' a tt
 
-  pub is_new : IsNew seat (back_of seat' None shown)
+  pub is_new : IsNewBack seat (back_of seat' None shown)
   is_new = record {
     core = core;
     by = by';
@@ -63,6 +62,6 @@ head_small head x ring r e f least =
 
 -- the same, of what the fields are
 pub kept_as : (P : Program) (seat : Caller) (copy : Program) (state state' : State) (low low' : Option ℕ) (head ring ring' : ℕ) (ended ended' : Option Stop) (shown : Snap)
-    → IsKept P seat copy state low ((head + 1) % ring) ended shown → state ≡ state' → low ≡ low' → ring ≡ ring' → ended ≡ ended' → IsKept P seat copy state' low' ((head + 1) % ring') ended' shown
+    → BackIsKept P seat copy state low ((head + 1) % ring) ended shown → state ≡ state' → low ≡ low' → ring ≡ ring' → ended ≡ ended' → BackIsKept P seat copy state' low' ((head + 1) % ring') ended' shown
 kept_as P seat copy state state' low low' head ring ring' ended ended' shown k s w r e =
-    subst (λ (z : State × Option ℕ × ℕ × Option Stop). IsKept P seat copy z.0 z.1 ((head + 1) % z.2) z.3 shown) (λ i. (s i, w i, r i, e i)) k
+    subst (λ (z : State × Option ℕ × ℕ × Option Stop). BackIsKept P seat copy z.0 z.1 ((head + 1) % z.2) z.3 shown) (λ i. (s i, w i, r i, e i)) k

@@ -27,12 +27,12 @@ use Rattle.station.specs.Retirement.{EndsAs, IsRetired}
 use Rattle.station.specs.Seats.{Caller}
 use Rattle.station.specs.declared.answers.Last.{Last}
 use Rattle.station.specs.declared.answers.Last.TheVariants.{Done, Stop as WasStop, Stored}
-use Rattle.back.specs.Backs.{back_of, state_of, unit_in}
-use Rattle.back.specs.Commits.{HasCommitted, HasEnded, HasHalved, WasRefused, WentOn}
+use Rattle.back.specs.Backs.{back_of, back_state, unit_in}
+use Rattle.back.specs.Commits.{HasCommitted, HasEndedWith, HasHalved, WasRefused, WentOn}
 use Rattle.back.specs.Commits.HowEnded.{Before, Nowhere, Stops}
-use Rattle.back.specs.Kept.{IsKept, KeepsUnit}
-use Rattle.back.specs.Kept.HasStopped.{Nowhere as StopsNowhere}
-use Rattle.back.specs.Retirement.{IsInside, low_by, low_in, state_behind, state_behind_by, stop_in, with_low}
+use Rattle.back.specs.Kept.{BackIsKept, KeepsUnit}
+use Rattle.back.specs.Kept.WhyEnded.{Nowhere as StopsNowhere}
+use Rattle.back.specs.Retirement.{StoreIsInside, low_by, low_in, state_behind, state_behind_by, stop_in, state_with_low}
 use Rattle.back.proofs.Committing.{IsDone}
 use Rattle.back.proofs.OwnEntries.{added_legal, added_own, split_own}
 use Rattle.back.proofs.Retired.{HasRetired, commits_still, has_retired}
@@ -40,7 +40,7 @@ use Rattle.back.proofs.SeatKept.{adds_plain, kept_by, plain, same_state, state_i
 use Rattle.back.proofs.UnitKept.{IsQuiet, all_quiet, quiet_keeps}
 
 module _ (P copy : Program) (state : State) (low : Option ℕ) (head : ℕ) (shown : Snap) (seat : Caller) where
-  pub ended_before : (code : Stop) → IsKept P seat copy state low head (Some code) shown → HasEnded (back_of seat (Some code) shown) (back_of seat (Some code) shown) code
+  pub ended_before : (code : Stop) → BackIsKept P seat copy state low head (Some code) shown → HasEndedWith (back_of seat (Some code) shown) (back_of seat (Some code) shown) code
   ended_before code k = record {
     ended = refl;
     how = Before refl refl;
@@ -48,14 +48,14 @@ module _ (P copy : Program) (state : State) (low : Option ℕ) (head : ℕ) (sho
     stops = stop_is code k;
   }
     where
-      stop_is : (code : Stop) → IsKept P seat copy state low head (Some code) shown → stop seat.core.program (state_of (back_of seat (Some code) shown)).count ≡ Some code
+      stop_is : (code : Stop) → BackIsKept P seat copy state low head (Some code) shown → stop seat.core.program (back_state (back_of seat (Some code) shown)).count ≡ Some code
       stop_is code k =
           let u = plain P copy state low head (Some code) shown seat k in
           let s = stops_there P seat.core.sizes seat.seen (subst (λ Q. Q) refl k.legal) state low head (Some code) u code u.end_is in
           subst (λ (z : Program × State). stop z.0 z.1.count ≡ Some code) (λ i. (sym k.program i, state_is P copy state low head (Some code) shown seat k i)) s
 
   -- there is no instruction at the pc
-  pub nowhere_kept : IsKept P seat copy state low head None shown → instr_at copy state.pc ≡ None → IsKept P seat copy state low head (Some BadPc) shown
+  pub nowhere_kept : BackIsKept P seat copy state low head None shown → instr_at copy state.pc ≡ None → BackIsKept P seat copy state low head (Some BadPc) shown
   nowhere_kept k none = record {
     program = k.program;
     copied = k.copied;
@@ -70,7 +70,7 @@ module _ (P copy : Program) (state : State) (low : Option ℕ) (head : ℕ) (sho
     later = k.later;
   }
 
-  pub nowhere : IsKept P seat copy state low head None shown → instr_at copy state.pc ≡ None → HasEnded (back_of seat None shown) (back_of seat (Some BadPc) shown) BadPc
+  pub nowhere : BackIsKept P seat copy state low head None shown → instr_at copy state.pc ≡ None → HasEndedWith (back_of seat None shown) (back_of seat (Some BadPc) shown) BadPc
   nowhere k none =
       let k' = nowhere_kept k none in
       let b = ended_before BadPc k' in
@@ -81,11 +81,11 @@ module _ (P copy : Program) (state : State) (low : Option ℕ) (head : ℕ) (sho
         stops = b.stops;
       }
     where
-      at_state : instr_at seat.core.program (state_of (back_of seat None shown)).pc ≡ None
+      at_state : instr_at seat.core.program (back_state (back_of seat None shown)).pc ≡ None
       at_state = subst (λ (z : Program × State). instr_at z.0 z.1.pc ≡ None) (λ i. ((k.copied ∙ sym k.program) i, state_is P copy state low head None shown seat k i)) none
 
 module _ (P copy : Program) (state : State) (low : Option ℕ) (head : ℕ) (shown : Snap) (seat : Caller) where
-  went_on : (i : Instr) → IsKept P seat copy state low head None shown → instr_at copy state.pc ≡ Some i → WentOn (back_of seat None shown)
+  went_on : (i : Instr) → BackIsKept P seat copy state low head None shown → instr_at copy state.pc ≡ Some i → WentOn (back_of seat None shown)
   went_on i k e = record {
     not_ended = refl;
     instr = subst (λ (z : Program × State). IsSome (instr_at z.0 z.1.pc)) (λ j. ((k.copied ∙ sym k.program) j, state_is P copy state low head None shown seat k j)) (subst IsSome (sym e) there);
@@ -94,9 +94,10 @@ module _ (P copy : Program) (state : State) (low : Option ℕ) (head : ℕ) (sho
       there : IsSome (Some i)
       there = search rules
 
-  module _ (seat' : Caller) (core : seat'.core ≡ seat.core) (by : seat'.by ≡ seat.by) (k : IsKept P seat copy state low head None shown) (i : Instr) (fetched : instr_at copy state.pc ≡ Some i) where
+  module _ (seat' : Caller) (core : seat'.core ≡ seat.core) (by : seat'.by ≡ seat.by) (k : BackIsKept P seat copy state low head None shown) (i : Instr) (fetched : instr_at copy state.pc ≡ Some i) where
     -- it was refused
-    pub refused : (event : Event) → IsQuiet event → Adds seat.core.program seat.core.sizes seat.by seat.seen seat'.seen (event ∷ []) →
+    pub refused : (event : Event) → IsQuiet event →
+        Adds seat.core.program seat.core.sizes seat.by seat.seen seat'.seen (event ∷ []) →
         WasRefused (back_of seat None shown) (back_of seat' None shown) event
     refused event quiet a = record {
       went_on = went_on i k fetched;
@@ -126,10 +127,9 @@ module _ (P copy : Program) (state : State) (low : Option ℕ) (head : ℕ) (sho
       plain_retired = subst (λ (z : Program × ℕ). IsRetired z.0 seat.core.sizes z.1 seat.seen seat'.seen station tag index half last) (λ j. (k.program j, k.by_is j)) r
 
       pub did : HasRetired P seat.core.sizes seat.seen seat'.seen i half last state low head
-      did = has_retired P seat.core.sizes seat.seen seat'.seen station tag index half i last state low head plain_retired (plain P copy state low head None shown seat k)
-          (subst (λ Q. instr_at Q state.pc ≡ Some i) k.copied fetched)
+      did = has_retired P seat.core.sizes seat.seen seat'.seen station tag index half i last state low head plain_retired (plain P copy state low head None shown seat k) (subst (λ Q. instr_at Q state.pc ≡ Some i) k.copied fetched)
 
-      low_count : (waited : Option ℕ) → (with_low waited state).count ≡ state.count
+      low_count : (waited : Option ℕ) → (state_with_low waited state).count ≡ state.count
       low_count None = refl
       low_count (Some v) = refl
 
@@ -139,7 +139,7 @@ module _ (P copy : Program) (state : State) (low : Option ℕ) (head : ℕ) (sho
       later_count None (Stored a d) = let e = low_count low in omega (arith, e)
       later_count None (WasStop c) = let e = low_count low in omega (arith, e)
 
-      pub retired_kept : IsKept P seat' copy (state_behind i half last low state) (low_in i half last) ((head + 1) % seat.core.sizes.ring) (stop_in last) shown
+      pub retired_kept : BackIsKept P seat' copy (state_behind i half last low state) (low_in i half last) ((head + 1) % seat.core.sizes.ring) (stop_in last) shown
       retired_kept =
           let C = seat.core.sizes in
           let m = later_count (low_in i half last) last in
@@ -156,16 +156,15 @@ module _ (P copy : Program) (state : State) (low : Option ℕ) (head : ℕ) (sho
 
       -- what is seen of the tenant that retired
       seen_at : at (unit_in seat'.core seat'.seen).tenants did.p ≡ Some did.tenant
-      seen_at = subst (λ d. at (unit_in d seat'.seen).tenants did.p ≡ Some did.tenant) (sym core) (subst (λ Q. at (unit_of Q seat.core.sizes seat'.seen).tenants did.p ≡ Some did.tenant)
-          (sym k.program) did.is)
+      seen_at = subst (λ d. at (unit_in d seat'.seen).tenants did.p ≡ Some did.tenant) (sym core) (subst (λ Q. at (unit_of Q seat.core.sizes seat'.seen).tenants did.p ≡ Some did.tenant) (sym k.program) did.is)
 
       added : Adds seat.core.program seat.core.sizes seat.by seat.seen seat'.seen (Does (On did.p (Retire did.made)) ∷ [])
       added = subst (λ (z : Program × ℕ). Adds z.0 seat.core.sizes z.1 seat.seen seat'.seen (Does (On did.p (Retire did.made)) ∷ [])) (λ j. (sym k.program j, sym k.by_is j)) did.adds
 
-      new_state : state_of (back_of seat' (stop_in last) shown) ≡ state_behind i half last low state
+      new_state : back_state (back_of seat' (stop_in last) shown) ≡ state_behind i half last low state
       new_state = sym (state_is P copy (state_behind i half last low state) (low_in i half last) ((head + 1) % seat.core.sizes.ring) (stop_in last) shown seat' retired_kept)
 
-      old_state : state_of (back_of seat None shown) ≡ state
+      old_state : back_state (back_of seat None shown) ≡ state
       old_state = sym (state_is P copy state low head None shown seat k)
 
       same_code : (last : Last) (code : Stop) → stop_in last ≡ Some code → last ≡ WasStop code
@@ -186,10 +185,10 @@ module _ (P copy : Program) (state : State) (low : Option ℕ) (head : ℕ) (sho
           ap (λ l. state_behind i half l low state) is
           ∙ (ap (λ w. state_behind_by w i half (WasStop code) low state) (no_low code) ∙ did.level code is)
 
-      pub did_end : (code : Stop) → stop_in last ≡ Some code → HasEnded (back_of seat None shown) (back_of seat' (stop_in last) shown) code
+      pub did_end : (code : Stop) → stop_in last ≡ Some code → HasEndedWith (back_of seat None shown) (back_of seat' (stop_in last) shown) code
       did_end code e =
           let is : last ≡ WasStop code = same_code last code e in
-          let before = ended_before P copy (state_behind i half last low state) (low_in i half last) ((head + 1) % seat.core.sizes.ring) shown seat' code (subst (λ x. IsKept P seat' copy (state_behind i half last low state) (low_in i half last) ((head + 1) % seat.core.sizes.ring) x shown) e retired_kept) in
+          let before = ended_before P copy (state_behind i half last low state) (low_in i half last) ((head + 1) % seat.core.sizes.ring) shown seat' code (subst (λ x. BackIsKept P seat' copy (state_behind i half last low state) (low_in i half last) ((head + 1) % seat.core.sizes.ring) x shown) e retired_kept) in
           record {
             ended = e;
             how = Stops (went_on i k fetched) did.p did.made
@@ -267,5 +266,5 @@ module _ (P copy : Program) (state : State) (low : Option ℕ) (head : ℕ) (sho
         state = new_state ∙ (ap (λ x. state_behind_by x i half last low state) w ∙ sym old_state);
       }
 
-      pub did_inside : IsInside (length state.memory) i last
-      did_inside = subst (λ n. IsInside n i last) (sym (ap (λ (z : State). length z.memory) k.unit.state_is ∙ length_memory P (unit_in seat.core seat.seen).tenants)) did.inside
+      pub did_inside : StoreIsInside (length state.memory) i last
+      did_inside = subst (λ n. StoreIsInside n i last) (sym (ap (λ (z : State). length z.memory) k.unit.state_is ∙ length_memory P (unit_in seat.core seat.seen).tenants)) did.inside

@@ -18,7 +18,7 @@ use Rattle.inorder.proofs.Sound.{DoneIs, FateIs}
 use Rattle.station.specs.declared.answers.Last.{Last}
 use Rattle.station.specs.declared.answers.Last.TheVariants.{Done as WasDone, Stop as WasStop, Stored}
 use Rattle.station.specs.Retirement.{EndsAs}
-use Rattle.back.specs.Retirement.{IsInside, next_by as goes_to, with_done, with_last, with_low, with_store, written_by}
+use Rattle.back.specs.Retirement.{StoreIsInside, goes_on_at, with_done, with_last, state_with_low, with_store, value_written}
 
 abbrev state_at : List ℕ → List ℕ → ℕ → ℕ → State
 state_at registers memory pc count = record { registers = registers; memory = memory; pc = pc; count = count }
@@ -63,27 +63,27 @@ module _ (P : Program) (t : Tenant) (n : ℕ) (s : State) (pc : t.pc ≡ s.pc) (
   same_write v w e = ap (write s.registers (destination_of P t)) e
 
   abbrev written : ℕ → ℕ
-  written v = written_by (kind_of P t) s.pc v
+  written v = value_written (kind_of P t) s.pc v
 
   abbrev goes : ℕ → ℕ
-  goes v = goes_to (kind_of P t) s.pc v
+  goes v = goes_on_at (kind_of P t) s.pc v
 
   pub done_as : (v : ℕ) (k : Kind) → kind_of P t ≡ k → t.fate ≡ Done v → DoneIs P t v k → with_tenant P gone s ≡ with_done (instr P t) t.half v s
   done_as v Computes ek e d =
-      let value : unwrap_or gone.made 0 ≡ written v = ap (λ m. unwrap_or m 0) (made_done v e ∙ d.1) ∙ sym (ap (λ q. written_by q s.pc v) ek) in
-      let next : computed_next P t ≡ goes v = ap (next_by (behind_it P t)) d.0 ∙ (after ∙ sym (ap (λ q. goes_to q s.pc v) ek)) in
+      let value : unwrap_or gone.made 0 ≡ written v = ap (λ m. unwrap_or m 0) (made_done v e ∙ d.1) ∙ sym (ap (λ q. value_written q s.pc v) ek) in
+      let next : computed_next P t ≡ goes v = ap (next_by (behind_it P t)) d.0 ∙ (after ∙ sym (ap (λ q. goes_on_at q s.pc v) ek)) in
       built (unwrap_or gone.made 0) (written v) _ s.memory (computed_next P t) (goes v) (same_write _ _ value) (none_stored v e) next
   done_as v Jumps ek e d =
       let none : destination_of P t ≡ 0 = ap (λ q. destination_by q (target_of (instr P t) t.half)) ek in
-      let next : computed_next P t ≡ goes v = ap (next_by (behind_it P t)) d.0 ∙ sym (ap (λ q. goes_to q s.pc v) ek) in
+      let next : computed_next P t ≡ goes v = ap (next_by (behind_it P t)) d.0 ∙ sym (ap (λ q. goes_on_at q s.pc v) ek) in
       built (unwrap_or gone.made 0) (written v) _ s.memory (computed_next P t) (goes v) (no_write s.registers (destination_of P t) (unwrap_or gone.made 0) (written v) none) (none_stored v e) next
   done_as v Links ek e d =
-      let value : unwrap_or gone.made 0 ≡ written v = ap (λ m. unwrap_or m 0) (made_done v e ∙ d.2) ∙ (behind ∙ sym (ap (λ q. written_by q s.pc v) ek)) in
-      let next : computed_next P t ≡ goes v = ap (next_by (behind_it P t)) d.0 ∙ sym (ap (λ q. goes_to q s.pc v) ek) in
+      let value : unwrap_or gone.made 0 ≡ written v = ap (λ m. unwrap_or m 0) (made_done v e ∙ d.2) ∙ (behind ∙ sym (ap (λ q. value_written q s.pc v) ek)) in
+      let next : computed_next P t ≡ goes v = ap (next_by (behind_it P t)) d.0 ∙ sym (ap (λ q. goes_on_at q s.pc v) ek) in
       built (unwrap_or gone.made 0) (written v) _ s.memory (computed_next P t) (goes v) (same_write _ _ value) (none_stored v e) next
   done_as v Loads ek e d =
-      let value : unwrap_or gone.made 0 ≡ written v = ap (λ m. unwrap_or m 0) (made_done v e ∙ d.1) ∙ sym (ap (λ q. written_by q s.pc v) ek) in
-      let next : computed_next P t ≡ goes v = ap (next_by (behind_it P t)) d.0.1 ∙ (after ∙ sym (ap (λ q. goes_to q s.pc v) ek)) in
+      let value : unwrap_or gone.made 0 ≡ written v = ap (λ m. unwrap_or m 0) (made_done v e ∙ d.1) ∙ sym (ap (λ q. value_written q s.pc v) ek) in
+      let next : computed_next P t ≡ goes v = ap (next_by (behind_it P t)) d.0.1 ∙ (after ∙ sym (ap (λ q. goes_on_at q s.pc v) ek)) in
       built (unwrap_or gone.made 0) (written v) _ s.memory (computed_next P t) (goes v) (same_write _ _ value) (none_stored v e) next
   done_as v Stores ek e d = absurd d
 
@@ -122,14 +122,14 @@ module _ (P : Program) (t : Tenant) (first : is_first P t ≡ true) where
   first_done (Stored a c) e f = let x = sym computes ∙ e.0 in absurd (cc x)
   first_done (WasStop c) e f = absurd (pair_goes_on P t pair c (subst (FateIs P t) e f).1)
 
-  pub first_as : (n v : ℕ) (s : State) → t.fate ≡ Done v → FateIs P t t.fate → with_first P (retired t n) s ≡ with_low (Some v) s
+  pub first_as : (n v : ℕ) (s : State) → t.fate ≡ Done v → FateIs P t t.fate → with_first P (retired t n) s ≡ state_with_low (Some v) s
   first_as n v s e f =
       let d : DoneIs P t v Computes = subst (DoneIs P t v) computes (subst (FateIs P t) e f).0 in
       let made : unwrap_or (retired t n).made 0 ≡ v = ap (λ m. unwrap_or m 0) (ap (λ x. made_at_end x t.made n) e ∙ d.1) in
       λ i. record s { registers = write s.registers (to_low i) (made i) }
 
 -- its store is inside the memory
-pub inside_as : (P : Program) (t : Tenant) (last : Last) → EndsAs P last t → FateIs P t t.fate → IsInside (length P.bytes) (instr P t) last
+pub inside_as : (P : Program) (t : Tenant) (last : Last) → EndsAs P last t → FateIs P t t.fate → StoreIsInside (length P.bytes) (instr P t) last
 inside_as P t (WasDone v) e f = tt
 inside_as P t (Stored a c) e f = store_in P t a e.0 (subst (FateIs P t) e.1 f).1
 inside_as P t (WasStop c) e f = tt

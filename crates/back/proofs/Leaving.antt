@@ -11,15 +11,15 @@ use Rattle.inorder.specs.Unit.{at}
 use Rattle.snapshots.specs.declared.snap.Snap.{Snap}
 use Rattle.station.specs.Seats.{Caller, TheCore}
 use Rattle.back.specs.Backs.{committed_in, unit_in}
-use Rattle.back.specs.Kept.{IsKept, KeepsUnit}
-use Rattle.back.specs.Stills.{GoesOn, head_at}
+use Rattle.back.specs.Kept.{BackIsKept, KeepsUnit}
+use Rattle.back.specs.Stills.{GoesOnForBack, head_at}
 use Rattle.back.proofs.Starting.{starts}
 use Rattle.back.proofs.SeatKept.{plain, state_is}
 use Rattle.back.proofs.UnitKept.{adds_keeps}
 
 module _ (P copy : Program) (state : State) (low : Option ℕ) (head : ℕ) (shown : Snap) where
   -- where it left it may enter again
-  pub goes_on_here : (v : Caller) → IsKept P v copy state low head None shown → GoesOn v.core v.seen v
+  pub goes_on_here : (v : Caller) → BackIsKept P v copy state low head None shown → GoesOnForBack v.core v.seen v
   goes_on_here v k = record {
     by_is = k.by_is;
     program = refl;
@@ -30,12 +30,13 @@ module _ (P copy : Program) (state : State) (low : Option ℕ) (head : ℕ) (sho
   }
 
   -- one that has not ended has retired no stop
-  pub no_stop : (v : Caller) → IsKept P v copy state low head None shown → HasNoStop (unit_in v.core v.seen)
+  pub no_stop : (v : Caller) → BackIsKept P v copy state low head None shown → HasNoStop (unit_in v.core v.seen)
   no_stop v k = k.unit.end_is
 
   -- what it keeps is that of the seat with which it enters
-  pub entered : (v w : Caller) (station : ℕ) → IsKept P v copy state low head None shown → GoesOn v.core v.seen w → IsLegal w.core.program w.core.sizes w.seen → head_at w.core w.seen ≡ station →
-      IsKept P w copy state low station None shown
+  pub entered : (v w : Caller) (station : ℕ) → BackIsKept P v copy state low head None shown →
+      GoesOnForBack v.core v.seen w → IsLegal w.core.program w.core.sizes w.seen →
+      head_at w.core w.seen ≡ station → BackIsKept P w copy state low station None shown
   entered v w station k g legal is =
       let C = v.core.sizes in
       let adds : Adds P C back v.seen g.last [] = subst (λ Q. Adds Q C back v.seen g.last []) k.program g.adds in
@@ -57,7 +58,9 @@ module _ (P copy : Program) (state : State) (low : Option ℕ) (head : ℕ) (sho
       }
 
   -- and so is the state that it has committed
-  pub same_committed : (v w : Caller) (station : ℕ) → IsKept P v copy state low head None shown → IsKept P w copy state low station None shown → committed_in w.core w.seen ≡ committed_in v.core v.seen
+  pub same_committed : (v w : Caller) (station : ℕ) → BackIsKept P v copy state low head None shown →
+      BackIsKept P w copy state low station None shown →
+      committed_in w.core w.seen ≡ committed_in v.core v.seen
   same_committed v w station k k' = sym (state_is P copy state low station None shown w k') ∙ state_is P copy state low head None shown v k
 
 -- where nobody was seen to do anything of the back's, the head is at the first station

@@ -25,7 +25,7 @@ use Rattle.inorder.proofs.QueueBytes.{store_accesses, store_is}
 use Rattle.inorder.proofs.QueuePlaces.{access_live, at_older, older_length}
 use Rattle.inorder.proofs.Sound.{IsSound}
 use Rattle.back.specs.Loads.{IsWaitingLoad}
-use Rattle.back.specs.Port.{AtStation, HasFound, HasMet, HasUnknown, IsBlockedAt, IsKnown, IsLoadOf, IsMet, IsPassed, behind}
+use Rattle.back.specs.Port.{AtStation, HasFound, HasMet, HasUnknown, IsBlockedAt, IsKnown, IsLoadOf, IsMet, DoesNotWaitFor, station_behind}
 use Rattle.back.specs.declared.port.Load.{Load}
 use Rattle.back.proofs.Ranks.{at_rank, InRing, rank, rank_grows, rank_less, rank_small, same_rank, stands_at}
 use Rattle.back.proofs.RuleOver.{FoundIn, blocked_answer, blocked_lacking, forward_answer, found_in, memory_answer, none_in, whole_place}
@@ -58,7 +58,7 @@ first_true true b e = refl
 first_true false b e = absurd (true≢false (sym e))
 
 module _ (P : Program) (C : Sizes) (U : UpdateUnit) (ok : IsSound P U.tenants) (ring : InRing C U) (n head place : ℕ)
-    (head_is : head ≡ head_station C U) (inside : head < C.ring) (small : place < C.ring) (p : ℕ) (below : p < n) (l : Load) (it : Has U p (IsLoadOf P (behind head C.ring place) l)) where
+    (head_is : head ≡ head_station C U) (inside : head < C.ring) (small : place < C.ring) (p : ℕ) (below : p < n) (l : Load) (it : Has U p (IsLoadOf P (station_behind head C.ring place) l)) where
   abbrev us : List Tenant
   us = U.tenants
 
@@ -78,7 +78,7 @@ module _ (P : Program) (C : Sizes) (U : UpdateUnit) (ok : IsSound P U.tenants) (
   live = it.fact.load.live
 
   -- each live tenant stands by its rank
-  stands : (q : ℕ) (u : Tenant) → at us q ≡ Some u → u.standing ≡ Live → u.station ≡ behind head C.ring (rank us q)
+  stands : (q : ℕ) (u : Tenant) → at us q ≡ Some u → u.standing ≡ Live → u.station ≡ station_behind head C.ring (rank us q)
   stands q u is alive = stands_at P C U ok ring q u is alive ∙ ap (λ h. (h + rank us q) % C.ring) (sym head_is)
 
   rank_is : rank us p ≡ place
@@ -102,7 +102,7 @@ module _ (P : Program) (C : Sizes) (U : UpdateUnit) (ok : IsSound P U.tenants) (
       sym (at_older before (younger us p) t q l) ∙ (sym (ap (λ xs. at xs q) (split_at us p t it.is)) ∙ is)
 
   -- what is so of each station before that of the load is so of each older live tenant
-  each : (Fact : Tenant → Type 0) → ((j : ℕ) → 0 ≤ j → j < place → AtStation U n (behind head C.ring j) Fact) → (q : ℕ) (u : Tenant) → at us q ≡ Some u → u.standing ≡ Live → q < p → Fact u
+  each : (Fact : Tenant → Type 0) → ((j : ℕ) → 0 ≤ j → j < place → AtStation U n (station_behind head C.ring j) Fact) → (q : ℕ) (u : Tenant) → at us q ≡ Some u → u.standing ≡ Live → q < p → Fact u
   each Fact h q u is alive lt = h (rank us q) zero-le (rank_below q u is alive lt) q u (omega (arith, lt, below)) is alive (stands q u is alive)
 
   -- the tenant of a station, and those that are younger than it
@@ -112,7 +112,7 @@ module _ (P : Program) (C : Sizes) (U : UpdateUnit) (ok : IsSound P U.tenants) (
     pub is : at us q ≡ Some tenant
     pub alive : tenant.standing ≡ Live
     pub before_it : q < p
-    pub station : tenant.station ≡ behind head C.ring j
+    pub station : tenant.station ≡ station_behind head C.ring j
     pub rank_of : rank us q ≡ j
 
   older_at : (j : ℕ) → j < place → Older j
@@ -125,7 +125,7 @@ module _ (P : Program) (C : Sizes) (U : UpdateUnit) (ok : IsSound P U.tenants) (
         is = h.is;
         alive = h.live;
         before_it = first h.q h.tenant h.is h.live (ap (λ x. x) h.rank_is);
-        station = stands h.q h.tenant h.is h.live ∙ ap (behind head C.ring) h.rank_is;
+        station = stands h.q h.tenant h.is h.live ∙ ap (station_behind head C.ring) h.rank_is;
         rank_of = h.rank_is;
       }
     where
@@ -138,7 +138,9 @@ module _ (P : Program) (C : Sizes) (U : UpdateUnit) (ok : IsSound P U.tenants) (
         ]
       ]
 
-  all_known : (T : Entry → Bool) (Fact : Tenant → Type 0) → ((u : Tenant) → Fact u → T (entry_of P u) ≡ false) → ((q : ℕ) (u : Tenant) → at us q ≡ Some u → u.standing ≡ Live → q < p → Fact u) →
+  all_known : (T : Entry → Bool) (Fact : Tenant → Type 0) →
+      ((u : Tenant) → Fact u → T (entry_of P u) ≡ false) →
+      ((q : ℕ) (u : Tenant) → at us q ≡ Some u → u.standing ≡ Live → q < p → Fact u) →
       youngest T (queue_of P before) ≡ None
   all_known T Fact fails h = none_in P T before (λ q u is b. let z = inner q u is in fails u (h q u z.0 (access_live P u b) z.1))
 
@@ -155,8 +157,9 @@ module _ (P : Program) (C : Sizes) (U : UpdateUnit) (ok : IsSound P U.tenants) (
   waits = record { load = it.fact.load; address = a; fate = it.fact.fate }
 
   -- blocked by the store of a station
-  blocked_by : (T : Entry → Bool) (j : ℕ) (x : Older j) (f : FoundIn P T before x.q x.tenant) → is_store (kind_of P x.tenant) ≡ true → answer (queue_of P us) (place_of P us p) ≡ Blocked f.place →
-      IsBlockedAt P U p (behind head C.ring j)
+  blocked_by : (T : Entry → Bool) (j : ℕ) (x : Older j) (f : FoundIn P T before x.q x.tenant) →
+      is_store (kind_of P x.tenant) ≡ true → answer (queue_of P us) (place_of P us p) ≡ Blocked f.place →
+      IsBlockedAt P U p (station_behind head C.ring j)
   blocked_by T j x f s e = record {
     q = x.q;
     blocks = record {
@@ -183,7 +186,7 @@ module _ (P : Program) (C : Sizes) (U : UpdateUnit) (ok : IsSound P U.tenants) (
   }
 
   -- the youngest that has no address
-  pub by_unknown : (s : ℕ) → HasUnknown P U n head C.ring place s → IsBlockedAt P U p (behind head C.ring s)
+  pub by_unknown : (s : ℕ) → HasUnknown P U n head C.ring place s → IsBlockedAt P U p (station_behind head C.ring s)
   by_unknown s h =
       let x = older_at s h.bound in
       let lacks = h.it x.q x.tenant (below_n x.q x.before_it) x.is x.alive x.station in
@@ -199,9 +202,9 @@ module _ (P : Program) (C : Sizes) (U : UpdateUnit) (ok : IsSound P U.tenants) (
   pub by_none : HasFound P U n head C.ring 0 place a (width l.op) None → CanLoad P U p a (loaded l.op (little_endian (slice_index (committed P us).memory) a (width l.op)))
   by_none h0 =
       let h = subst (λ o. HasFound P U n head C.ring 0 place a (width o) None) (sym it.fact.op_is) h0 in
-      let facts = each (IsPassed P a w) h in
-      let known = all_known lacks_address (IsPassed P a w) (λ u f. known_not_lacking P u f.known) facts in
-      let none = all_known (overlaps a w) (IsPassed P a w) (λ u f. f.apart) facts in
+      let facts = each (DoesNotWaitFor P a w) h in
+      let known = all_known lacks_address (DoesNotWaitFor P a w) (λ u f. known_not_lacking P u f.known) facts in
+      let none = all_known (overlaps a w) (DoesNotWaitFor P a w) (λ u f. f.apart) facts in
       let r = from_memory P us p t a ok it.is live it.fact.load.kind it.fact.fate (memory_answer P us p t a ok it.is live it.fact.load.kind it.fact.fate known none) in
       subst (λ o. CanLoad P U p a (loaded l.op (little_endian (slice_index (committed P us).memory) a (width o)))) it.fact.op_is (can_load _ r)
 
@@ -235,14 +238,15 @@ module _ (P : Program) (C : Sizes) (U : UpdateUnit) (ok : IsSound P U.tenants) (
         ap (λ y. taken_from y.address (bytes y.width) y.content a w) entry_is
         ∙ sym (ap (λ y. taken_from y.address (bytes y.width) x.tenant.second.value a w) met.entry)
 
-    pub by_store : (raw : ℕ) → ((u : Tenant) → at us x.q ≡ Some u → u.standing ≡ Live → u.station ≡ behind head C.ring s →
-        taken_from e.address (bytes e.width) u.second.value a (width l.op) ≡ Some raw) → CanLoad P U p a (loaded l.op raw)
+    pub by_store : (raw : ℕ) →
+        ((u : Tenant) → at us x.q ≡ Some u → u.standing ≡ Live → u.station ≡ station_behind head C.ring s → taken_from e.address (bytes e.width) u.second.value a (width l.op) ≡ Some raw) →
+        CanLoad P U p a (loaded l.op raw)
     by_store raw g =
         let taken = gives_is ∙ (ap (λ o. taken_from e.address (bytes e.width) x.tenant.second.value a (width o)) it.fact.op_is ∙ g x.tenant x.is x.alive x.station) in
         can_load raw (forward P us p t a ok it.is live it.fact.load.kind it.fact.fate raw (forward_answer P us p t a ok it.is live it.fact.load.kind it.fact.fate known x.q x.tenant f raw taken))
 
-    pub by_waiting : ((u : Tenant) → at us x.q ≡ Some u → u.standing ≡ Live → u.station ≡ behind head C.ring s → taken_from e.address (bytes e.width) u.second.value a (width l.op) ≡ None) →
-        IsBlockedAt P U p (behind head C.ring s)
+    pub by_waiting : ((u : Tenant) → at us x.q ≡ Some u → u.standing ≡ Live → u.station ≡ station_behind head C.ring s → taken_from e.address (bytes e.width) u.second.value a (width l.op) ≡ None) →
+        IsBlockedAt P U p (station_behind head C.ring s)
     by_waiting g =
         let taken = gives_is ∙ (ap (λ o. taken_from e.address (bytes e.width) x.tenant.second.value a (width o)) it.fact.op_is ∙ g x.tenant x.is x.alive x.station) in
         blocked_by (overlaps a w) s x f met.store (blocked_answer P us p t a ok it.is live it.fact.load.kind it.fact.fate known x.q x.tenant f taken)

@@ -24,8 +24,8 @@ use Rattle.lsq.specs.declared.entry.Entry.{Entry as QueueEntry}
 use Rattle.lsq.specs.LoadRule.{meets, overlaps}
 use Rattle.lsq.specs.Entries.{bytes}
 use Rattle.ruu_words.proofs.Stays.{back_stays}
-use Rattle.back.specs.Port.{AtStation, IsAsked, IsKnown, IsMet, IsPassed}
-use Rattle.back.specs.Trials.{IsShown}
+use Rattle.back.specs.Port.{AtStation, IsAskedInOrder, IsKnown, IsMet, DoesNotWaitFor}
+use Rattle.back.specs.Trials.{ShowsAddress}
 use Rattle.back.specs.declared.port.Load.{Load}
 use Rattle.back.proofs.OwnEntries.{added_legal, added_own}
 
@@ -33,8 +33,8 @@ found : (t u : Tenant) → Some t ≡ Some u → t ≡ u
 found t u e = cc e
 
 -- An address stays
-addr_on : (P : Program) (by : ℕ) (act : Act) (ys : List Tenant) (t : Tenant) (ts : List Tenant) (x : ℕ) → IsNotBacksAct act → May P by act ys t ts → t.fate ≡ Addr x →
-    (changed P by act t ts).fate ≡ Addr x
+addr_on : (P : Program) (by : ℕ) (act : Act) (ys : List Tenant) (t : Tenant) (ts : List Tenant) (x : ℕ) →
+    IsNotBacksAct act → May P by act ys t ts → t.fate ≡ Addr x → (changed P by act t ts).fate ≡ Addr x
 addr_on P by (Link First) ys t ts x b m e = e
 addr_on P by (Link Second) ys t ts x b m e = e
 addr_on P by (Deliver First) ys t ts x b m e = e
@@ -47,7 +47,8 @@ addr_on P by Squash ys t ts x b m e = e
 addr_on P by Mend ys t ts x b m e = let f = m.fate in absurd (cc)
 
 -- a live tenant with its address stays so, or is squashed
-addr_live : (P : Program) (by : ℕ) (act : Act) (ys : List Tenant) (t : Tenant) (ts : List Tenant) (x : ℕ) → IsNotBacksAct act → May P by act ys t ts → t.standing ≡ Live → t.fate ≡ Addr x →
+addr_live : (P : Program) (by : ℕ) (act : Act) (ys : List Tenant) (t : Tenant) (ts : List Tenant) (x : ℕ) →
+    IsNotBacksAct act → May P by act ys t ts → t.standing ≡ Live → t.fate ≡ Addr x →
     ((changed P by act t ts).standing ≡ Live) ⊎ ((changed P by act t ts).standing ≡ Squashed)
 addr_live P by (Link First) ys t ts x b m l e = inl l
 addr_live P by (Link Second) ys t ts x b m l e = inl l
@@ -74,8 +75,8 @@ record LeftAt (V : UpdateUnit) (q : ℕ) (u : Tenant) : Type 0 where
   pub is : at V.tenants q ≡ Some tenant
   pub left : Left u tenant
 
-left_at : (P : Program) (C : Sizes) (U : UpdateUnit) (by : ℕ) (s : Step) → IsNotBacks s → Allowed P C U by s → IsSound P U.tenants → (q : ℕ) (u : Tenant) → at U.tenants q ≡ Some u →
-    LeftAt (applied P C U by s) q u
+left_at : (P : Program) (C : Sizes) (U : UpdateUnit) (by : ℕ) (s : Step) → IsNotBacks s → Allowed P C U by s →
+    IsSound P U.tenants → (q : ℕ) (u : Tenant) → at U.tenants q ≡ Some u → LeftAt (applied P C U by s) q u
 left_at P C U by s b a ok q u is =
     let m = goes P C U by s a ok q u is in
     record {
@@ -88,8 +89,7 @@ left_at P C U by s b a ok q u is =
     fate_at u' is' x e = ⊎_elim
         (λ same. ap (λ (z : Tenant). z.fate) (found u' u (sym is' ∙ same)) ∙ e)
         (λ (z : Acted P U by s (applied P C U by s).tenants q u).
-        ap (λ (y : Tenant). y.fate) (found u' (changed P by z.act u (older U.tenants q)) (sym is' ∙ z.now)) ∙
-        addr_on P by z.act (younger U.tenants q) u (older U.tenants q) x (subst IsNotBacks z.step b) z.may e)
+        ap (λ (y : Tenant). y.fate) (found u' (changed P by z.act u (older U.tenants q)) (sym is' ∙ z.now)) ∙ addr_on P by z.act (younger U.tenants q) u (older U.tenants q) x (subst IsNotBacks z.step b) z.may e)
         (exact P C U by s a q u is)
 
     standing_at : (u' : Tenant) → at (applied P C U by s).tenants q ≡ Some u' → (x : ℕ) → u.fate ≡ Addr x → u.standing ≡ Live → (u'.standing ≡ Live) ⊎ (u'.standing ≡ Squashed)
@@ -116,7 +116,8 @@ longer P C U by (Let index predicted first second) a = omega arith
 longer P C U by Renew a = omega arith
 longer P C U by (On p act) a = let e = length_changed P U.tenants by p act a.tenant a.is in omega (arith, e)
 
-at_station_step : (P : Program) (C : Sizes) (n station : ℕ) (Fact : Tenant → Type 0) → Lasting Fact → (U : UpdateUnit) (by : ℕ) (s : Step) → IsNotBacks s → Allowed P C U by s → IsSound P U.tenants →
+at_station_step : (P : Program) (C : Sizes) (n station : ℕ) (Fact : Tenant → Type 0) → Lasting Fact →
+    (U : UpdateUnit) (by : ℕ) (s : Step) → IsNotBacks s → Allowed P C U by s → IsSound P U.tenants →
     Known_at n station Fact U → Known_at n station Fact (applied P C U by s)
 at_station_step P C n station Fact lasting U by s b a ok k =
     let more = longer P C U by s a in
@@ -143,22 +144,21 @@ module _ (P : Program) (C : Sizes) (old new : List Entry) (a : Adds P C back old
   to_new : (Q : UpdateUnit → Type 0) → Q (unit_of P C (a.begins.more ++ old)) → Q (unit_of P C new)
   to_new Q q = subst (λ h. Q (unit_of P C h)) (sym a.begins.is) q
 
-  pub station_stays : (n station : ℕ) (Fact : Tenant → Type 0) → Lasting Fact → n ≤ length (unit_of P C old).tenants → AtStation (unit_of P C old) n station Fact →
+  pub station_stays : (n station : ℕ) (Fact : Tenant → Type 0) → Lasting Fact →
+      n ≤ length (unit_of P C old).tenants → AtStation (unit_of P C old) n station Fact →
       AtStation (unit_of P C new) n station Fact
   station_stays n station Fact lasting few k =
-      (to_new (Known_at n station Fact) (back_stays P C (Known_at n station Fact) (λ U by s b al ok q. at_station_step P C n station Fact lasting U by s b al ok q) a.begins.more old legal calm
-      none_own (few, k))).1
+      (to_new (Known_at n station Fact) (back_stays P C (Known_at n station Fact) (λ U by s b al ok q. at_station_step P C n station Fact lasting U by s b al ok q) a.begins.more old legal calm none_own (few, k))).1
 
   pub length_grows : length (unit_of P C old).tenants ≤ length (unit_of P C new).tenants
   length_grows = to_new (λ U. length (unit_of P C old).tenants ≤ length U.tenants)
-      (back_stays P C (λ U. length (unit_of P C old).tenants ≤ length U.tenants) (λ U by s b al ok q.
-      let l = longer P C U by s al in omega (arith, l, q)) a.begins.more old legal calm none_own (omega arith))
+      (back_stays P C (λ U. length (unit_of P C old).tenants ≤ length U.tenants) (λ U by s b al ok q. let l = longer P C U by s al in omega (arith, l, q)) a.begins.more old legal calm none_own (omega arith))
 
   -- a load that waits goes on, or was squashed
-  pub asked_stays : (p station : ℕ) (l : Load) → IsAsked P (unit_of P C old) p station l → IsAsked P (unit_of P C new) p station l
-  asked_stays p station l q = to_new (λ U. IsAsked P U p station l) (back_stays P C (λ U. IsAsked P U p station l) step a.begins.more old legal calm none_own q)
+  pub asked_stays : (p station : ℕ) (l : Load) → IsAskedInOrder P (unit_of P C old) p station l → IsAskedInOrder P (unit_of P C new) p station l
+  asked_stays p station l q = to_new (λ U. IsAskedInOrder P U p station l) (back_stays P C (λ U. IsAskedInOrder P U p station l) step a.begins.more old legal calm none_own q)
     where
-      step : (U : UpdateUnit) (by : ℕ) (s : Step) → IsNotBacks s → Allowed P C U by s → IsSound P U.tenants → IsAsked P U p station l → IsAsked P (applied P C U by s) p station l
+      step : (U : UpdateUnit) (by : ℕ) (s : Step) → IsNotBacks s → Allowed P C U by s → IsSound P U.tenants → IsAskedInOrder P U p station l → IsAskedInOrder P (applied P C U by s) p station l
       step U by s b al ok (inr gone) = inr (gone_stays P C U by s al p gone)
       step U by s b al ok (inl it) =
           let m = left_at P C U by s b al ok p it.tenant it.is in ⊎_elim
@@ -177,25 +177,16 @@ module _ (P : Program) (C : Sizes) (old new : List Entry) (a : Adds P C back old
           (m.left.stays l.address it.fact.fate it.fact.load.live)
 
   -- the same of what a station shows
-  pub shown_stays : (p station tag address : ℕ) → Has (unit_of P C old) p (IsShown station tag address) → Has (unit_of P C new) p (IsShown station tag address) ⊎ IsStale (unit_of P C new) p
-  shown_stays p station tag address q = to_new (λ U. Has U p (IsShown station tag address) ⊎ IsStale U p)
-      (back_stays P C (λ U. Has U p (IsShown station tag address) ⊎ IsStale U p) step a.begins.more old legal calm none_own (inl q))
+  pub shown_stays : (p station tag address : ℕ) → Has (unit_of P C old) p (ShowsAddress station tag address) → Has (unit_of P C new) p (ShowsAddress station tag address) ⊎ IsStale (unit_of P C new) p
+  shown_stays p station tag address q = to_new (λ U. Has U p (ShowsAddress station tag address) ⊎ IsStale U p) (back_stays P C (λ U. Has U p (ShowsAddress station tag address) ⊎ IsStale U p) step a.begins.more old legal calm none_own (inl q))
     where
-      step : (U : UpdateUnit) (by : ℕ) (s : Step) → IsNotBacks s → Allowed P C U by s → IsSound P U.tenants → Has U p (IsShown station tag address) ⊎ IsStale U p →
-          Has (applied P C U by s) p (IsShown station tag address) ⊎ IsStale (applied P C U by s) p
+      step : (U : UpdateUnit) (by : ℕ) (s : Step) → IsNotBacks s → Allowed P C U by s → IsSound P U.tenants →
+          Has U p (ShowsAddress station tag address) ⊎ IsStale U p →
+          Has (applied P C U by s) p (ShowsAddress station tag address) ⊎ IsStale (applied P C U by s) p
       step U by s b al ok (inr gone) = inr (gone_stays P C U by s al p gone)
       step U by s b al ok (inl it) =
           let m = left_at P C U by s b al ok p it.tenant it.is in ⊎_elim
-          (λ live. inl (record {
-            tenant = m.tenant;
-            is = m.is;
-            fact = record {
-              live = live;
-              station_is = m.left.station ∙ it.fact.station_is;
-              tag_is = m.left.tag ∙ it.fact.tag_is;
-              fate = m.left.fate address it.fact.fate;
-            };
-          }))
+          (λ live. inl (record { tenant = m.tenant; is = m.is; fact = record { live = live; station_is = m.left.station ∙ it.fact.station_is; tag_is = m.left.tag ∙ it.fact.tag_is; fate = m.left.fate address it.fact.fate } }))
           (λ squashed. inr (record { tenant = m.tenant; is = m.is; fact = squashed }))
           (m.left.stays address it.fact.fate it.fact.live)
 
@@ -213,10 +204,10 @@ over_is : (P : Program) (a w : ℕ) (u : Tenant) (b : ℕ) → u.fate ≡ Addr b
 unfolding over_by
 over_is P a w u b e = ap (λ f. is_store (kind_of P u) && meets (address_by (kind_of P u) f (computed P u)) (bytes (access_width (instr P u).op)) a w) e
 
-pub passed_lasts : (P : Program) (a w : ℕ) → Lasting (IsPassed P a w)
+pub passed_lasts : (P : Program) (a w : ℕ) → Lasting (DoesNotWaitFor P a w)
 passed_lasts P a w u u' i f h = go h.known
   where
-    go : IsKnown P u → IsPassed P a w u'
+    go : IsKnown P u → DoesNotWaitFor P a w u'
     go (inl e) =
         let e' : is_store (kind_of P u') ≡ false = ap (λ k. is_store (kind (instr_of P k).op)) i ∙ e in
         record { known = inl e'; apart = ap (λ b. b && meets (entry_of P u').address (bytes (entry_of P u').width) a w) e' }

@@ -28,7 +28,7 @@ use Rattle.station.specs.declared.answers.Last.{Last}
 use Rattle.station.specs.declared.answers.Last.TheVariants.{Done as WasDone, Stop as WasStop, Stored}
 use Rattle.station.specs.Retirement.{EndsAs, IsRetired}
 use Rattle.back.specs.Kept.{KeepsUnit}
-use Rattle.back.specs.Retirement.{IsInside, low_in, state_behind, stop_in, with_low}
+use Rattle.back.specs.Retirement.{StoreIsInside, low_in, state_behind, stop_in, state_with_low}
 use Rattle.back.proofs.Committing.{IsDone, first_done, inside_as}
 use Rattle.back.proofs.OwnEntries.{IsSplit, added_own, split_own}
 use Rattle.back.proofs.UnitKept.{all_quiet, gone_on, quiet_keeps}
@@ -48,8 +48,8 @@ pub record IsStill (t u : Tenant) : Type 0 where
   pub pc : u.pc ≡ t.pc
   pub second : (v : ℕ) → t.second.value ≡ Some v → u.second.value ≡ Some v
 
-pub still_stays : (P : Program) (C : Sizes) (t : Tenant) (p : ℕ) (U : UpdateUnit) (by : ℕ) (s : Step) → Allowed P C U by s → IsSound P U.tenants → Has U p (IsStill t) →
-    Has (applied P C U by s) p (IsStill t)
+pub still_stays : (P : Program) (C : Sizes) (t : Tenant) (p : ℕ) (U : UpdateUnit) (by : ℕ) (s : Step) →
+    Allowed P C U by s → IsSound P U.tenants → Has U p (IsStill t) → Has (applied P C U by s) p (IsStill t)
 still_stays P C t p U by s a ok h = ⊎_elim
     (λ e. record { tenant = h.tenant; is = e; fact = h.fact })
     (λ (z : Acted P U by s (applied P C U by s).tenants p h.tenant).
@@ -103,9 +103,9 @@ pub record HasRetired (P : Program) (C : Sizes) (old new : List Entry) (i : Inst
   pub ends : EndsAs P last tenant
   pub first : is_first P tenant ≡ is_first_half i.op half
   pub done : is_first_half i.op half ≡ true → IsDone last
-  pub level : (code : Stop) → last ≡ WasStop code → with_low low state ≡ state
+  pub level : (code : Stop) → last ≡ WasStop code → state_with_low low state ≡ state
   pub unit : KeepsUnit P C (unit_of P C new) (state_behind i half last low state) (low_in i half last) ((head + 1) % C.ring) (stop_in last)
-  pub inside : IsInside (length P.bytes) i last
+  pub inside : StoreIsInside (length P.bytes) i last
 
 module _ (P : Program) (C : Sizes) (old new : List Entry) (station tag index : ℕ) (half : Half) (i : Instr) (last : Last) (state : State) (low : Option ℕ) (head : ℕ)
     (r : IsRetired P C back old new station tag index half last) (k : KeepsUnit P C (unit_of P C old) state low head None) (fetched : instr_at P state.pc ≡ Some i) where
@@ -140,8 +140,7 @@ module _ (P : Program) (C : Sizes) (old new : List Entry) (station tag index : �
   ok = unit_sound P C before legal_here.0
 
   kept_before : KeepsUnit P C U state low head None
-  kept_before = quiet_keeps P C state low head None s.earlier old legal_here.0 (all_quiet P C s.earlier old [] legal_here.0
-      (none_to new before old until (record { more = s.earlier; is = refl }) r.adds.one_table) s.rest_is tt) k
+  kept_before = quiet_keeps P C state low head None s.earlier old legal_here.0 (all_quiet P C s.earlier old [] legal_here.0 (none_to new before old until (record { more = s.earlier; is = refl }) r.adds.one_table) s.rest_is tt) k
 
   here : Has (unit_of P C (e ∷ before)) r.p (IsStill a.tenant)
   here = record {
@@ -175,9 +174,7 @@ module _ (P : Program) (C : Sizes) (old new : List Entry) (station tag index : �
 
   kept_new : Kept_at new i half
   kept_new = subst (λ h. Kept_at h i half) (sym new_is)
-      (quiet_keeps P C (state_behind i half last low state) (low_in i half last) ((head + 1) % C.ring) (stop_in last) s.later (e ∷ before) legal
-      (all_quiet P C s.later (e ∷ before) [] legal (sym (ap renewals new_is) ∙ none_from new (e ∷ before) old (record { more = s.later; is = new_is }) (record { more = e ∷ s.earlier; is = refl })
-      r.adds.one_table) s.not_own tt) kept_here)
+      (quiet_keeps P C (state_behind i half last low state) (low_in i half last) ((head + 1) % C.ring) (stop_in last) s.later (e ∷ before) legal (all_quiet P C s.later (e ∷ before) [] legal (sym (ap renewals new_is) ∙ none_from new (e ∷ before) old (record { more = s.later; is = new_is }) (record { more = e ∷ s.earlier; is = refl }) r.adds.one_table) s.not_own tt) kept_here)
 
   own_fate : FateIs P a.tenant a.tenant.fate
   own_fate = (own_sound P C U back r.p r.n a ok).own.fate
@@ -189,7 +186,7 @@ module _ (P : Program) (C : Sizes) (old new : List Entry) (station tag index : �
   first_there : is_first P there.tenant ≡ is_first P a.tenant
   first_there = λ j. is_first_half (instr_of P (there.fact.index j)).op (there.fact.half j)
 
-  level_here : (code : Stop) → last ≡ WasStop code → with_low low state ≡ state
+  level_here : (code : Stop) → last ≡ WasStop code → state_with_low low state ≡ state
   level_here code q = kept_before.low_is ∙ (level_stop P C U back r.p r.n a ok code (subst (λ l. EndsAs P l a.tenant) q ends_here) ∙ sym kept_before.state_is)
 
   pub has_retired : HasRetired P C old new i half last state low head
@@ -206,5 +203,5 @@ module _ (P : Program) (C : Sizes) (old new : List Entry) (station tag index : �
     done = λ f. first_done P a.tenant (sym first_here ∙ f) last ends_here own_fate;
     level = level_here;
     unit = kept_new;
-    inside = subst (λ (j : Instr). IsInside (length P.bytes) j last) (sym i_is) (inside_as P a.tenant last ends_here own_fate);
+    inside = subst (λ (j : Instr). StoreIsInside (length P.bytes) j last) (sym i_is) (inside_as P a.tenant last ends_here own_fate);
   }

@@ -18,7 +18,7 @@ use Rattle.inorder.specs.Loads.{address_by, entry_of, is_store}
 use Rattle.inorder.specs.Tenants.{Addr, Busy, Done, Fate, Miss, Open, Stopped, Tenant, computed, kind_of}
 use Rattle.inorder.specs.Unit.{Sizes, UpdateUnit}
 use Rattle.inorder.proofs.QueueBytes.{same_width, store_is}
-use Rattle.back.specs.Port.{AtStation, HasFound, HasMet, HasUnknown, IsEntryOf, IsKnown, IsMet, IsPassed, Lacks, address_of, behind, load_entry}
+use Rattle.back.specs.Port.{AtStation, HasFound, HasMet, HasUnknown, IsEntryOf, IsKnown, IsMet, DoesNotWaitFor, Lacks, shown_address, station_behind, load_entry}
 use Rattle.back.specs.declared.port.Load.{Load}
 use Rattle.back.proofs.PortStays.{known_lasts, length_grows, met_lasts, passed_lasts, station_stays}
 
@@ -75,7 +75,7 @@ and_false : (b : Bool) → (b && false) ≡ false
 and_false true = refl
 and_false false = refl
 
-by_stores : (f : Fate) (o : Outcome) → address_by Stores f o ≡ address_of f
+by_stores : (f : Fate) (o : Outcome) → address_by Stores f o ≡ shown_address f
 by_stores Open o = refl
 by_stores (Busy by) o = refl
 by_stores (Addr a) o = refl
@@ -83,7 +83,7 @@ by_stores (Done v) o = refl
 by_stores (Miss x) o = refl
 by_stores (Stopped c) o = refl
 
-address_back : (f : Fate) (b : ℕ) → address_of f ≡ Some b → f ≡ Addr b
+address_back : (f : Fate) (b : ℕ) → shown_address f ≡ Some b → f ≡ Addr b
 address_back Open b e = absurd (cc e)
 address_back (Busy by) b e = absurd (cc e)
 address_back (Addr a) b e = ap Addr (cc e)
@@ -131,12 +131,12 @@ module _ (e : QueueEntry) (l : Load) where
     known_by : (b : ℕ) → e.address ≡ Some b → IsKnown P u
     known_by b ad = inr (b, address_back u.fate b (sym i.address ∙ ad))
 
-    pub passed_of : answer (e ∷ load_entry l ∷ []) 1 ≡ Memory → IsPassed P a w u
+    pub passed_of : answer (e ∷ load_entry l ∷ []) 1 ≡ Memory → DoesNotWaitFor P a w u
     passed_of h =
         let m = says_memory (lacks_address e) (overlaps a w e) raw_of (sym one_is ∙ h) in
         go e.store refl e.address refl m.0 m.1
       where
-        go : (b : Bool) → e.store ≡ b → (o : Option ℕ) → e.address ≡ o → lacks_address e ≡ false → overlaps a w e ≡ false → IsPassed P a w u
+        go : (b : Bool) → e.store ≡ b → (o : Option ℕ) → e.address ≡ o → lacks_address e ≡ false → overlaps a w e ≡ false → DoesNotWaitFor P a w u
         go false st o ad lacks over =
             let no : is_store (kind_of P u) ≡ false = sym i.store ∙ st in
             record { known = inl no; apart = ap (λ z. z && meets (entry_of P u).address (bytes (entry_of P u).width) a w) no }
@@ -200,17 +200,19 @@ module _ (P : Program) (U : UpdateUnit) (n head ring k k' place a w : ℕ) (next
     | inr same ↦ inl (omega (arith, same, le))
   ]
 
-  each_more : (Fact : Tenant → Type 0) → ((j : ℕ) → k' ≤ j → j < place → AtStation U n (behind head ring j) Fact) → AtStation U n (behind head ring k) Fact → (j : ℕ) → k ≤ j → j < place →
-      AtStation U n (behind head ring j) Fact
+  each_more : (Fact : Tenant → Type 0) →
+      ((j : ℕ) → k' ≤ j → j < place → AtStation U n (station_behind head ring j) Fact) →
+      AtStation U n (station_behind head ring k) Fact → (j : ℕ) → k ≤ j → j < place →
+      AtStation U n (station_behind head ring j) Fact
   each_more Fact h new j le lt = ⊎_elim
-      (λ (e : j ≡ k). subst (λ x. AtStation U n (behind head ring x) Fact) (sym e) new)
+      (λ (e : j ≡ k). subst (λ x. AtStation U n (station_behind head ring x) Fact) (sym e) new)
       (λ more. h j more lt)
       (here_or j le)
 
-  pub none_more : HasFound P U n head ring k' place a w None → AtStation U n (behind head ring k) (IsPassed P a w) → HasFound P U n head ring k place a w None
-  none_more h new = each_more (IsPassed P a w) h new
+  pub none_more : HasFound P U n head ring k' place a w None → AtStation U n (station_behind head ring k) (DoesNotWaitFor P a w) → HasFound P U n head ring k place a w None
+  none_more h new = each_more (DoesNotWaitFor P a w) h new
 
-  pub some_more : (s : ℕ) (e : QueueEntry) → HasMet P U n head ring k' place a w s e → AtStation U n (behind head ring k) (IsKnown P) → HasMet P U n head ring k place a w s e
+  pub some_more : (s : ℕ) (e : QueueEntry) → HasMet P U n head ring k' place a w s e → AtStation U n (station_behind head ring k) (IsKnown P) → HasMet P U n head ring k place a w s e
   some_more s e h new = record {
     here = let l = h.here in omega (arith, l, next);
     bound = h.bound;
@@ -219,21 +221,21 @@ module _ (P : Program) (U : UpdateUnit) (n head ring k k' place a w : ℕ) (next
     it = h.it;
   }
 
-  pub first_met : (e : QueueEntry) → k < place → HasFound P U n head ring k' place a w None → AtStation U n (behind head ring k) (IsMet P a w e) → HasMet P U n head ring k place a w k e
+  pub first_met : (e : QueueEntry) → k < place → HasFound P U n head ring k' place a w None → AtStation U n (station_behind head ring k) (IsMet P a w e) → HasMet P U n head ring k place a w k e
   first_met e small h new = record {
     here = omega arith;
     bound = small;
-    known = each_more (IsKnown P) (λ j le lt. weaker U n (behind head ring j) (IsPassed P a w) (IsKnown P) (λ u x. x.known) (h j le lt))
-        (weaker U n (behind head ring k) (IsMet P a w e) (IsKnown P) (λ u x. inr (x.base, x.fate)) new);
+    known = each_more (IsKnown P) (λ j le lt. weaker U n (station_behind head ring j) (DoesNotWaitFor P a w) (IsKnown P) (λ u x. x.known) (h j le lt))
+        (weaker U n (station_behind head ring k) (IsMet P a w e) (IsKnown P) (λ u x. inr (x.base, x.fate)) new);
     younger = λ j more lt. h j (omega (arith, more, next)) lt;
     it = new;
   }
 
-  known_from : (o : Option (ℕ × QueueEntry)) → HasFound P U n head ring k' place a w o → (j : ℕ) → k' ≤ j → j < place → AtStation U n (behind head ring j) (IsKnown P)
-  known_from None h j le lt = weaker U n (behind head ring j) (IsPassed P a w) (IsKnown P) (λ u x. x.known) (h j le lt)
+  known_from : (o : Option (ℕ × QueueEntry)) → HasFound P U n head ring k' place a w o → (j : ℕ) → k' ≤ j → j < place → AtStation U n (station_behind head ring j) (IsKnown P)
+  known_from None h j le lt = weaker U n (station_behind head ring j) (DoesNotWaitFor P a w) (IsKnown P) (λ u x. x.known) (h j le lt)
   known_from (Some f) h j le lt = h.known j le lt
 
-  pub unknown : (o : Option (ℕ × QueueEntry)) → k < place → HasFound P U n head ring k' place a w o → AtStation U n (behind head ring k) (Lacks P) → HasUnknown P U n head ring place k
+  pub unknown : (o : Option (ℕ × QueueEntry)) → k < place → HasFound P U n head ring k' place a w o → AtStation U n (station_behind head ring k) (Lacks P) → HasUnknown P U n head ring place k
   unknown o small h new = record {
     bound = small;
     younger = λ j more lt. known_from o h j (omega (arith, more, next)) lt;
@@ -243,19 +245,18 @@ module _ (P : Program) (U : UpdateUnit) (n head ring k k' place a w : ℕ) (next
 -- what was found stays so
 module _ (P : Program) (C : Sizes) (old new : List Entry) (added : Adds P C back old new []) (n head ring k place a w : ℕ) (few : n ≤ length (unit_of P C old).tenants) where
   pub found_stays : (o : Option (ℕ × QueueEntry)) → HasFound P (unit_of P C old) n head ring k place a w o → HasFound P (unit_of P C new) n head ring k place a w o
-  found_stays None h = λ j le lt. station_stays P C old new added n (behind head ring j) (IsPassed P a w) (passed_lasts P a w) few (h j le lt)
+  found_stays None h = λ j le lt. station_stays P C old new added n (station_behind head ring j) (DoesNotWaitFor P a w) (passed_lasts P a w) few (h j le lt)
   found_stays (Some f) h = record {
     here = h.here;
     bound = h.bound;
-    known = λ j le lt. station_stays P C old new added n (behind head ring j) (IsKnown P) (known_lasts P) few (h.known j le lt);
-    younger = λ j more lt. station_stays P C old new added n (behind head ring j) (IsPassed P a w) (passed_lasts P a w) few (h.younger j more lt);
-    it = station_stays P C old new added n (behind head ring f.0) (IsMet P a w f.1) (met_lasts P a w f.1) few h.it;
+    known = λ j le lt. station_stays P C old new added n (station_behind head ring j) (IsKnown P) (known_lasts P) few (h.known j le lt);
+    younger = λ j more lt. station_stays P C old new added n (station_behind head ring j) (DoesNotWaitFor P a w) (passed_lasts P a w) few (h.younger j more lt);
+    it = station_stays P C old new added n (station_behind head ring f.0) (IsMet P a w f.1) (met_lasts P a w f.1) few h.it;
   }
 
 -- one store further
-module _ (P : Program) (C : Sizes) (old mid new : List Entry) (before : Adds P C back old mid []) (added : Adds P C back mid new []) (head ring k k' place : ℕ) (l : Load) (next : k' ≡ k + 1)
-    (small : k' ≤ place)
-    (e : QueueEntry) (shows : AtStation (unit_of P C new) (length (unit_of P C mid).tenants) (behind head ring k) (IsEntryOf P e)) where
+module _ (P : Program) (C : Sizes) (old mid new : List Entry) (before : Adds P C back old mid []) (added : Adds P C back mid new []) (head ring k k' place : ℕ) (l : Load) (next : k' ≡ k + 1) (small : k' ≤ place)
+    (e : QueueEntry) (shows : AtStation (unit_of P C new) (length (unit_of P C mid).tenants) (station_behind head ring k) (IsEntryOf P e)) where
   abbrev n : ℕ
   n = length (unit_of P C old).tenants
 
@@ -269,8 +270,8 @@ module _ (P : Program) (C : Sizes) (old mid new : List Entry) (before : Adds P C
   stayed o h = found_stays P C mid new added n head ring k' place l.address (width l.op) few o h
 
   -- of the tenant at the station
-  at_k : (Fact : Tenant → Type 0) → ((u : Tenant) → IsEntryOf P e u → Fact u) → AtStation (unit_of P C new) n (behind head ring k) Fact
-  at_k Fact f = weaker (unit_of P C new) n (behind head ring k) (IsEntryOf P e) Fact f (fewer (unit_of P C new) n (length (unit_of P C mid).tenants) (behind head ring k) (IsEntryOf P e) few shows)
+  at_k : (Fact : Tenant → Type 0) → ((u : Tenant) → IsEntryOf P e u → Fact u) → AtStation (unit_of P C new) n (station_behind head ring k) Fact
+  at_k Fact f = weaker (unit_of P C new) n (station_behind head ring k) (IsEntryOf P e) Fact f (fewer (unit_of P C new) n (length (unit_of P C mid).tenants) (station_behind head ring k) (IsEntryOf P e) few shows)
 
   below : k < place
   below = omega (arith, next, small)
@@ -279,14 +280,13 @@ module _ (P : Program) (C : Sizes) (old mid new : List Entry) (before : Adds P C
   step_unknown o h i ans none = unknown P (unit_of P C new) n head ring k k' place l.address (width l.op) next o below (stayed o h) (at_k (Lacks P) (λ u x. lacks_of e l P u x i ans none))
 
   pub step_met : Found_at k' mid None → (i b : ℕ) → answer (e ∷ load_entry l ∷ []) 1 ≡ Blocked i → e.address ≡ Some b → HasMet P (unit_of P C new) n head ring k place l.address (width l.op) k e
-  step_met h i b ans ad = first_met P (unit_of P C new) n head ring k k' place l.address (width l.op) next e below (stayed None h)
-      (at_k (IsMet P l.address (width l.op) e) (λ u x. met_of e l P u x i b ans ad))
+  step_met h i b ans ad = first_met P (unit_of P C new) n head ring k k' place l.address (width l.op) next e below (stayed None h) (at_k (IsMet P l.address (width l.op) e) (λ u x. met_of e l P u x i b ans ad))
 
   pub step_known : (f : ℕ × QueueEntry) → Found_at k' mid (Some f) → (b : ℕ) → e.address ≡ Some b → Found_at k new (Some f)
   step_known f h b ad = some_more P (unit_of P C new) n head ring k k' place l.address (width l.op) next f.0 f.1 (stayed (Some f) h) (at_k (IsKnown P) (λ u x. known_of e l P u x b ad))
 
-  pub step_memory : (o : Option (ℕ × QueueEntry)) → Found_at k' mid o → ((u : Tenant) → IsEntryOf P e u → IsPassed P l.address (width l.op) u) → Found_at k new o
-  step_memory None h f = none_more P (unit_of P C new) n head ring k k' place l.address (width l.op) next (stayed None h) (at_k (IsPassed P l.address (width l.op)) f)
+  pub step_memory : (o : Option (ℕ × QueueEntry)) → Found_at k' mid o → ((u : Tenant) → IsEntryOf P e u → DoesNotWaitFor P l.address (width l.op) u) → Found_at k new o
+  step_memory None h f = none_more P (unit_of P C new) n head ring k k' place l.address (width l.op) next (stayed None h) (at_k (DoesNotWaitFor P l.address (width l.op)) f)
   step_memory (Some x) h f = some_more P (unit_of P C new) n head ring k k' place l.address (width l.op) next x.0 x.1 (stayed (Some x) h) (at_k (IsKnown P) (λ u i. (f u i).known))
 
 -- options

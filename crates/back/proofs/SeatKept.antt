@@ -16,51 +16,52 @@ use Rattle.inorder.proofs.Histories.{unit_sound}
 use Rattle.snapshots.specs.declared.snap.Snap.{Snap}
 use Rattle.station.specs.Seats.{Caller}
 use Rattle.back.specs.Backs.{unit_in}
-use Rattle.back.specs.Ends.{StopsThere, outcome_of}
-use Rattle.back.specs.Kept.{EndIs, HasStopped, IsKept, KeepsUnit}
-use Rattle.back.specs.Kept.HasStopped.{ByStop, Nowhere}
+use Rattle.back.specs.Ends.{StopsThere, ending_of}
+use Rattle.back.specs.Kept.{EndIs, WhyEnded, BackIsKept, KeepsUnit}
+use Rattle.back.specs.Kept.WhyEnded.{ByStop, Nowhere}
 use Rattle.back.proofs.UnitKept.{IsQuiet, adds_keeps}
 
 -- The machine in order
 
-module _ (P : Program) (C : Sizes) (h : List Entry) (legal : IsLegal P C h) (state : State) (low : Option ℕ) (head : ℕ) (ended : Option Stop) (k : KeepsUnit P C (unit_of P C h) state low head ended)
-  where
-    pub after_is : after P state.count ≡ Some state
-    after_is = subst (λ s. after P s.count ≡ Some s) (sym k.state_is) (in_order_state P (unit_of P C h).tenants (unit_sound P C h legal))
+module _ (P : Program) (C : Sizes) (h : List Entry) (legal : IsLegal P C h) (state : State) (low : Option ℕ) (head : ℕ) (ended : Option Stop) (k : KeepsUnit P C (unit_of P C h) state low head ended) where
+  pub after_is : after P state.count ≡ Some state
+  after_is = subst (λ s. after P s.count ≡ Some s) (sym k.state_is) (in_order_state P (unit_of P C h).tenants (unit_sound P C h legal))
 
-    stopped : (code : Stop) → HasStopped P (unit_of P C h) code → stop P (committed P (unit_of P C h).tenants).count ≡ Some code
-    stopped code (ByStop p t) = stops_of P (unit_of P C h).tenants (unit_sound P C h legal) p t.tenant code t.is t.fact.standing t.fact.fate
-    stopped code (Nowhere is none g) =
-        let s = committed P (unit_of P C h).tenants in
-        ap (then_stop P) (in_order_state P (unit_of P C h).tenants (unit_sound P C h legal)) ∙ (ap (λ i. stop_of (fetched P s i)) none ∙ ap Some (sym is))
+  stopped : (code : Stop) → WhyEnded P (unit_of P C h) code → stop P (committed P (unit_of P C h).tenants).count ≡ Some code
+  stopped code (ByStop p t) = stops_of P (unit_of P C h).tenants (unit_sound P C h legal) p t.tenant code t.is t.fact.standing t.fact.fate
+  stopped code (Nowhere is none g) =
+      let s = committed P (unit_of P C h).tenants in
+      ap (then_stop P) (in_order_state P (unit_of P C h).tenants (unit_sound P C h legal)) ∙ (ap (λ i. stop_of (fetched P s i)) none ∙ ap Some (sym is))
 
-    pub stops_there : (code : Stop) → EndIs P (unit_of P C h) (Some code) → stop P state.count ≡ Some code
-    stops_there code e = subst (λ s. stop P s.count ≡ Some code) (sym k.state_is) (stopped code e)
+  pub stops_there : (code : Stop) → EndIs P (unit_of P C h) (Some code) → stop P state.count ≡ Some code
+  stops_there code e = subst (λ s. stop P s.count ≡ Some code) (sym k.state_is) (stopped code e)
 
-    pub outcome_stops : StopsThere P state.count (outcome_of ended)
-    outcome_stops = go ended k.end_is
-      where
-        go : (ended : Option Stop) → EndIs P (unit_of P C h) ended → StopsThere P state.count (outcome_of ended)
-        go None e = tt
-        go (Some code) e = stops_there code e
+  pub outcome_stops : StopsThere P state.count (ending_of ended)
+  outcome_stops = go ended k.end_is
+    where
+      go : (ended : Option Stop) → EndIs P (unit_of P C h) ended → StopsThere P state.count (ending_of ended)
+      go None e = tt
+      go (Some code) e = stops_there code e
 
 -- Seats
 
 module _ (P copy : Program) (state : State) (low : Option ℕ) (head : ℕ) (ended : Option Stop) (shown : Snap) where
-  pub plain : (seat : Caller) → IsKept P seat copy state low head ended shown → KeepsUnit P seat.core.sizes (unit_of P seat.core.sizes seat.seen) state low head ended
+  pub plain : (seat : Caller) → BackIsKept P seat copy state low head ended shown → KeepsUnit P seat.core.sizes (unit_of P seat.core.sizes seat.seen) state low head ended
   plain seat k = subst (λ Q. KeepsUnit P seat.core.sizes (unit_of Q seat.core.sizes seat.seen) state low head ended) k.program k.unit
 
   -- the state is what was committed
-  pub state_is : (seat : Caller) → IsKept P seat copy state low head ended shown → state ≡ committed seat.core.program (unit_in seat.core seat.seen).tenants
+  pub state_is : (seat : Caller) → BackIsKept P seat copy state low head ended shown → state ≡ committed seat.core.program (unit_in seat.core seat.seen).tenants
   state_is seat k = k.unit.state_is ∙ ap (λ Q. committed Q (unit_in seat.core seat.seen).tenants) (sym k.program)
 
   -- what a call of the seat added, of P and the back
-  pub adds_plain : (seat : Caller) (new : List Entry) (events : List Event) → IsKept P seat copy state low head ended shown → Adds seat.core.program seat.core.sizes seat.by seat.seen new events →
+  pub adds_plain : (seat : Caller) (new : List Entry) (events : List Event) →
+      BackIsKept P seat copy state low head ended shown →
+      Adds seat.core.program seat.core.sizes seat.by seat.seen new events →
       Adds P seat.core.sizes back seat.seen new events
   adds_plain seat new events k a = subst (λ (z : Program × ℕ). Adds z.0 seat.core.sizes z.1 seat.seen new events) (λ i. (k.program i, k.by_is i)) a
 
-  pub kept_by : (seat seat' : Caller) (events : List Event) → IsKept P seat copy state low head ended shown → seat'.core ≡ seat.core → seat'.by ≡ seat.by
-      → Adds seat.core.program seat.core.sizes seat.by seat.seen seat'.seen events → AllByRecursion IsQuiet events → IsKept P seat' copy state low head ended shown
+  pub kept_by : (seat seat' : Caller) (events : List Event) → BackIsKept P seat copy state low head ended shown → seat'.core ≡ seat.core → seat'.by ≡ seat.by
+      → Adds seat.core.program seat.core.sizes seat.by seat.seen seat'.seen events → AllByRecursion IsQuiet events → BackIsKept P seat' copy state low head ended shown
   kept_by seat seat' events k core by a quiet =
       let C = seat.core.sizes in
       let adds = adds_plain seat seat'.seen events k a in
@@ -76,6 +77,6 @@ module _ (P copy : Program) (state : State) (low : Option ℕ) (head : ℕ) (end
       }
 
   -- both show the same state
-  pub same_state : (seat seat' : Caller) → IsKept P seat copy state low head ended shown → IsKept P seat' copy state low head ended shown
+  pub same_state : (seat seat' : Caller) → BackIsKept P seat copy state low head ended shown → BackIsKept P seat' copy state low head ended shown
       → committed seat'.core.program (unit_in seat'.core seat'.seen).tenants ≡ committed seat.core.program (unit_in seat.core seat.seen).tenants
   same_state seat seat' k k' = sym (state_is seat' k') ∙ state_is seat k

@@ -21,7 +21,7 @@ use Rattle.ruu_words.specs.States.{state_code}
 use Rattle.ruu_words.proofs.Stays.{fact_stays}
 use Rattle.station.specs.Looking.{Shows}
 use Rattle.station.specs.Seats.{Caller, IsSame}
-use Rattle.back.specs.Port.{AtStation, IsEntryOf, address_in, address_of, seen_as}
+use Rattle.back.specs.Port.{AtStation, IsEntryOf, address_in, shown_address, seen_as}
 use Rattle.back.proofs.OwnEntries.{added_legal}
 use Rattle.back.proofs.PortStays.{length_grows}
 use Rattle.inorder.proofs.Recent.{live_is_recent, recent_at}
@@ -40,7 +40,7 @@ by_code ShowsDone v = refl
 by_code ShowsMiss v = refl
 by_code ShowsStop v = refl
 
-by_fate : (tag v : ℕ) (f : Fate) → HasValue (live_word tag f).value v → cond (eqb (code (live_word tag f).state) 3) (Some v) None ≡ address_of f
+by_fate : (tag v : ℕ) (f : Fate) → HasValue (live_word tag f).value v → cond (eqb (code (live_word tag f).state) 3) (Some v) None ≡ shown_address f
 by_fate tag v Open h = refl
 by_fate tag v (Busy by) h = refl
 by_fate tag v (Addr a) h = ap Some h
@@ -48,7 +48,7 @@ by_fate tag v (Done x) h = refl
 by_fate tag v (Miss x) h = refl
 by_fate tag v (Stopped c) h = refl
 
-pub address_shown : (s : StationState) (tag v : ℕ) (f : Fate) → state_code s ≡ code (live_word tag f).state → HasValue (live_word tag f).value v → address_in s v ≡ address_of f
+pub address_shown : (s : StationState) (tag v : ℕ) (f : Fate) → state_code s ≡ code (live_word tag f).state → HasValue (live_word tag f).value v → address_in s v ≡ shown_address f
 address_shown s tag v f e h = by_code s v ∙ (ap (λ n. cond (eqb n 3) (Some v) None) e ∙ by_fate tag v f h)
 
 -- What was so of a tenant before
@@ -69,7 +69,8 @@ module _ (P : Program) (C : Sizes) (mid new : List Entry) (b : Adds P C back mid
       (subst (Since t) same i.fact.0, subst (λ (x : Tenant). x.station ≡ t.station) same i.fact.1, subst (λ (x : Tenant). x.tag ≡ t.tag) same i.fact.2)
 
 -- A live tenant is what its station shows
-pub shown : (P : Program) (C : Sizes) (h : List Entry) → IsLegal P C h → (q : ℕ) (u : Tenant) → at (unit_of P C h).tenants q ≡ Some u → u.standing ≡ Live →
+pub shown : (P : Program) (C : Sizes) (h : List Entry) → IsLegal P C h → (q : ℕ) (u : Tenant) →
+    at (unit_of P C h).tenants q ≡ Some u → u.standing ≡ Live →
     station_word C (recent (unit_of P C h)) u.station ≡ live_word u.tag u.fate
 shown P C h legal q u is live =
     let x = recent_at (unit_of P C h) q u is (live_is_recent P C h legal q u is live) in

@@ -14,7 +14,7 @@ use Rattle.inorder.proofs.Histories.{legal_before, unit_sound}
 use Rattle.ruu_words.proofs.Stays.{fact_stays}
 use Rattle.station.specs.Moments.{WasOnce}
 use Rattle.back.specs.Loads.{IsLiveLoad, WasNotWaiting}
-use Rattle.back.specs.Port.{behind}
+use Rattle.back.specs.Port.{station_behind}
 use Rattle.back.specs.Trials.{IsLoadAt}
 use Rattle.back.proofs.Ranks.{in_ring, InRing, rank, rank_grows, rank_small, same_rank, stands_at}
 use Rattle.back.proofs.UnitKept.{IsQuiet, head_kept_on}
@@ -52,7 +52,7 @@ module _ (P : Program) (C : Sizes) (h : List Entry) (legal : IsLegal P C h) (hea
   ring : InRing C (unit_of P C h)
   ring = in_ring P C h legal
 
-  pub stands_behind : (q : ℕ) (t : Tenant) → at us q ≡ Some t → t.standing ≡ Live → t.station ≡ behind head C.ring (rank us q)
+  pub stands_behind : (q : ℕ) (t : Tenant) → at us q ≡ Some t → t.standing ≡ Live → t.station ≡ station_behind head C.ring (rank us q)
   stands_behind q t is live = stands_at P C (unit_of P C h) (unit_sound P C h legal) ring q t is live ∙ ap (λ x. (x + rank us q) % C.ring) (sym head_is)
 
   pub stands_inside : (q : ℕ) (t : Tenant) → at us q ≡ Some t → t.standing ≡ Live → rank us q < C.ring
@@ -68,18 +68,18 @@ module _ (P : Program) (C : Sizes) (old new : List Entry) (events : List Event) 
   abbrev pub rank_of : ℕ → ℕ
   rank_of q = rank (unit_of P C old).tenants q
 
-  station_is : (q : ℕ) → (h : Has (unit_of P C old) q (IsLiveLoad P)) → h.tenant.station ≡ behind head C.ring (rank_of q)
+  station_is : (q : ℕ) → (h : Has (unit_of P C old) q (IsLiveLoad P)) → h.tenant.station ≡ station_behind head C.ring (rank_of q)
   station_is q h = stands_behind P C old old_legal head head_is q h.tenant h.is h.fact.live
 
   -- each live load stands somewhere
-  pub place_of : (q : ℕ) → (h : Has (unit_of P C old) q (IsLiveLoad P)) → Has (unit_of P C old) q (IsLoadAt P (behind head C.ring (rank_of q)))
+  pub place_of : (q : ℕ) → (h : Has (unit_of P C old) q (IsLiveLoad P)) → Has (unit_of P C old) q (IsLoadAt P (station_behind head C.ring (rank_of q)))
   place_of q h = record { tenant = h.tenant; is = h.is; fact = record { load = h.fact; station_is = station_is q h } }
 
   pub place_in : (q : ℕ) → Has (unit_of P C old) q (IsLiveLoad P) → rank_of q < C.ring
   place_in q h = stands_inside P C old old_legal head head_is q h.tenant h.is h.fact.live
 
   -- A load stood there at a moment of the call: then no older one that stands at its place or behind it waits
-  pub none_behind : (place p : ℕ) → place < C.ring → WasOnce P C old new (λ U. Has U p (IsLoadAt P (behind head C.ring place))) → (o : ℕ) → o < p → Has (unit_of P C old) o (IsLiveLoad P)
+  pub none_behind : (place p : ℕ) → place < C.ring → WasOnce P C old new (λ U. Has U p (IsLoadAt P (station_behind head C.ring place))) → (o : ℕ) → o < p → Has (unit_of P C old) o (IsLiveLoad P)
       → place ≤ rank_of o → WasNotWaiting P C old new o
   none_behind place p bound once o less h behind_it = record {
     point = point;
@@ -100,7 +100,7 @@ module _ (P : Program) (C : Sizes) (old new : List Entry) (events : List Event) 
       us_then : List Tenant
       us_then = (unit_of P C point).tenants
 
-      it : Has (unit_of P C point) p (IsLoadAt P (behind head C.ring place))
+      it : Has (unit_of P C point) p (IsLoadAt P (station_behind head C.ring place))
       it = once.fact
 
       point_legal : IsLegal P C point

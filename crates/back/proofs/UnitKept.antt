@@ -32,9 +32,9 @@ use Rattle.inorder.proofs.Histories.{legal_before, unit_sound, none_between}
 use Rattle.inorder.proofs.Moves.{IsActed, IsLeft, at_changed, came}
 use Rattle.inorder.proofs.Sound.{IsSound}
 use Rattle.ruu_words.proofs.Stays.{not_backs}
-use Rattle.back.specs.Commits.{IsRetiredStop}
+use Rattle.back.specs.Commits.{IsRetiredStopOf}
 use Rattle.back.specs.Kept.{EndIs, KeepsUnit}
-use Rattle.back.specs.Kept.HasStopped.{ByStop, Nowhere}
+use Rattle.back.specs.Kept.WhyEnded.{ByStop, Nowhere}
 use Rattle.station.specs.Moments.{IsWithin}
 use Rattle.back.proofs.OwnEntries.{added_legal, added_own, cancel, own_first, own_skip}
 use Rattle.inorder.proofs.Recent.{counts_same}
@@ -56,8 +56,7 @@ goes_on_load : (P : Program) (C : Sizes) (U : UpdateUnit) (by p : ℕ) → Allow
 goes_on_load P C U by p a ok g q u is =
     let us = U.tenants in
     let was = came P C U by p Load a ok q u is in ⊎_elim
-    (λ (z : IsActed P us by p Load a.tenant q was.tenant). subst IsNoRetiredStop (found (changed P by Load a.tenant (older us p)) u (sym z.now ∙ is))
-    (live_goes_on (changed P by Load a.tenant (older us p)) a.may.live))
+    (λ (z : IsActed P us by p Load a.tenant q was.tenant). subst IsNoRetiredStop (found (changed P by Load a.tenant (older us p)) u (sym z.now ∙ is)) (live_goes_on (changed P by Load a.tenant (older us p)) a.may.live))
     (λ (z : IsLeft P us by p Load q was.tenant). subst IsNoRetiredStop (found was.tenant u (sym z.now ∙ is)) (g q was.tenant was.is))
     (at_changed P us by p Load a.tenant a.is q was.tenant was.is)
 
@@ -113,7 +112,8 @@ gone_on P by (Retire n) ys t ts m r = let x = sym m.live ∙ r in absurd (cc x)
 gone_on P by Squash ys t ts m r = let x = sym m.live ∙ r in absurd (cc x)
 gone_on P by Mend ys t ts m r = let x = sym m.live ∙ r in absurd (cc x)
 
-stop_kept : (P : Program) (C : Sizes) (U : UpdateUnit) (by : ℕ) (s : Step) (p : ℕ) (code : Stop) → Allowed P C U by s → Has U p (IsRetiredStop code) → Has (applied P C U by s) p (IsRetiredStop code)
+stop_kept : (P : Program) (C : Sizes) (U : UpdateUnit) (by : ℕ) (s : Step) (p : ℕ) (code : Stop) →
+    Allowed P C U by s → Has U p (IsRetiredStopOf code) → Has (applied P C U by s) p (IsRetiredStopOf code)
 stop_kept P C U by s p code a h = ⊎_elim
     (λ e. record { tenant = h.tenant; is = e; fact = h.fact })
     (λ (z : Acted P U by s (applied P C U by s).tenants p h.tenant).
@@ -121,15 +121,16 @@ stop_kept P C U by s p code a h = ⊎_elim
     record { tenant = changed P by z.act h.tenant (older U.tenants p); is = z.now; fact = record { standing = g.standing; fate = g.fate ∙ h.fact.fate } })
     (exact P C U by s a p h.tenant h.is)
 
-end_kept : (P : Program) (C : Sizes) (U : UpdateUnit) (by : ℕ) (s : Step) (ended : Option Stop) → IsPlain s → Allowed P C U by s → IsSound P U.tenants → EndIs P U ended →
-    EndIs P (applied P C U by s) ended
+end_kept : (P : Program) (C : Sizes) (U : UpdateUnit) (by : ℕ) (s : Step) (ended : Option Stop) → IsPlain s →
+    Allowed P C U by s → IsSound P U.tenants → EndIs P U ended → EndIs P (applied P C U by s) ended
 end_kept P C U by s None n a ok g = goes_on_kept P C U by s n a ok g
 end_kept P C U by s (Some code) n a ok (ByStop p h) = ByStop p (stop_kept P C U by s p code a h)
 end_kept P C U by s (Some code) n a ok (Nowhere is none g) =
     Nowhere is (ap (λ c. instr_at P c.pc) (by_others P C U by s ok (no_retire s n) a) ∙ none) (goes_on_kept P C U by s n a ok g)
 
-pub step_keeps : (P : Program) (C : Sizes) (state : State) (low : Option ℕ) (head : ℕ) (ended : Option Stop) (U : UpdateUnit) (by : ℕ) (s : Step) → IsPlain s → Allowed P C U by s →
-    IsSound P U.tenants → KeepsUnit P C U state low head ended → KeepsUnit P C (applied P C U by s) state low head ended
+pub step_keeps : (P : Program) (C : Sizes) (state : State) (low : Option ℕ) (head : ℕ) (ended : Option Stop) (U : UpdateUnit) (by : ℕ) (s : Step) →
+    IsPlain s → Allowed P C U by s → IsSound P U.tenants → KeepsUnit P C U state low head ended →
+    KeepsUnit P C (applied P C U by s) state low head ended
 step_keeps P C state low head ended U by s n a ok k = record {
   state_is = k.state_is ∙ sym (by_others P C U by s ok (no_retire s n) a);
   low_is = k.low_is ∙ sym (ahead_by_others P C U by s ok (no_retire s n) a);
@@ -173,15 +174,13 @@ heads : (x y : Entry) (xs ys : List Entry) → x ∷ xs ≡ y ∷ ys → (x ≡ 
 heads x y xs ys e = (cc e, cc e)
 
 module _ (P : Program) (C : Sizes) where
-  pub all_quiet : (more seen : List Entry) (events : List Event) → IsLegal P C (more ++ seen) → renewals (more ++ seen) ≡ renewals seen → own back more ≡ map (entry back) events →
+  pub all_quiet : (more seen : List Entry) (events : List Event) → IsLegal P C (more ++ seen) →
+      renewals (more ++ seen) ≡ renewals seen → own back more ≡ map (entry back) events →
       AllByRecursion IsQuiet events → AreQuiet more
   all_quiet [] seen events legal calm mine quiet = tt
   all_quiet (e ∷ more) seen events legal calm mine quiet = dite (ℕ_discrete e.by back)
       (λ same. own_one events same mine quiet (λ xs m q. all_quiet more seen xs legal.0 before m q))
-      (λ other. (
-        others_quiet P C (more ++ seen) e (renewals (more ++ seen)) (calm ∙ sym before) other legal.1,
-        all_quiet more seen events legal.0 before (sym (own_skip back e more other) ∙ mine) quiet,
-      ))
+      (λ other. (others_quiet P C (more ++ seen) e (renewals (more ++ seen)) (calm ∙ sym before) other legal.1, all_quiet more seen events legal.0 before (sym (own_skip back e more other) ∙ mine) quiet))
     where
       before : renewals (more ++ seen) ≡ renewals seen
       before = none_between (e ∷ []) more seen calm
@@ -194,19 +193,22 @@ module _ (P : Program) (C : Sizes) where
           (subst (λ (y : Entry). IsQuiet y.event) (sym z.0) quiet.0, rest xs z.1 quiet.1)
 
   module _ (state : State) (low : Option ℕ) (head : ℕ) (ended : Option Stop) where
-    pub quiet_keeps : (more seen : List Entry) → IsLegal P C (more ++ seen) → AreQuiet more → KeepsUnit P C (unit_of P C seen) state low head ended →
+    pub quiet_keeps : (more seen : List Entry) → IsLegal P C (more ++ seen) → AreQuiet more →
+        KeepsUnit P C (unit_of P C seen) state low head ended →
         KeepsUnit P C (unit_of P C (more ++ seen)) state low head ended
     quiet_keeps [] seen legal quiet k = k
     quiet_keeps (e ∷ more) seen legal quiet k = go e.event legal.1 quiet.0 (quiet_keeps more seen legal.0 quiet.1 k)
       where
-        go : (x : Event) → MayAdd P C (more ++ seen) e.by x → IsQuiet x → KeepsUnit P C (unit_of P C (more ++ seen)) state low head ended →
+        go : (x : Event) → MayAdd P C (more ++ seen) e.by x → IsQuiet x →
+            KeepsUnit P C (unit_of P C (more ++ seen)) state low head ended →
             KeepsUnit P C (unit_of P C (entry e.by x ∷ (more ++ seen))) state low head ended
         go (Does s) m q k' = step_keeps P C state low head ended (unit_of P C (more ++ seen)) e.by s q m.1 (unit_sound P C (more ++ seen) legal.0) k'
         go (Refuses r) m q k' = k'
         go (Marks r) m q k' = k'
 
     -- what the back added is no retirement
-    pub adds_keeps : (old new : List Entry) (events : List Event) → Adds P C back old new events → AllByRecursion IsQuiet events → KeepsUnit P C (unit_of P C old) state low head ended →
+    pub adds_keeps : (old new : List Entry) (events : List Event) → Adds P C back old new events →
+        AllByRecursion IsQuiet events → KeepsUnit P C (unit_of P C old) state low head ended →
         KeepsUnit P C (unit_of P C new) state low head ended
     adds_keeps old new events a quiet k =
         let more = a.begins.more in
@@ -215,7 +217,8 @@ module _ (P : Program) (C : Sizes) where
         (quiet_keeps more old legal (all_quiet more old events legal (sym (ap renewals a.begins.is) ∙ a.one_table) (added_own P C back old new events a) quiet) k)
 
 -- the head at a moment of a call that retired nothing
-pub head_kept_on : (P : Program) (C : Sizes) (old new point : List Entry) (events : List Event) → Adds P C back old new events → AllByRecursion IsQuiet events → IsWithin old new point →
+pub head_kept_on : (P : Program) (C : Sizes) (old new point : List Entry) (events : List Event) →
+    Adds P C back old new events → AllByRecursion IsQuiet events → IsWithin old new point →
     head_station C (unit_of P C point) ≡ head_station C (unit_of P C old)
 head_kept_on P C old new point events a quiet w =
     let more = a.begins.more in
@@ -245,13 +248,13 @@ head_kept_on P C old new point events a quiet w =
     go (e ∷ es) l q = one (es ++ old) e l.1 q.0 ∙ go es l.0 q.1
 
 -- what was committed stays
-pub committed_kept : (P : Program) (C : Sizes) (old new : List Entry) (events : List Event) → Adds P C back old new events → AllByRecursion IsQuiet events →
+pub committed_kept : (P : Program) (C : Sizes) (old new : List Entry) (events : List Event) →
+    Adds P C back old new events → AllByRecursion IsQuiet events →
     committed P (unit_of P C new).tenants ≡ committed P (unit_of P C old).tenants
 committed_kept P C old new events a quiet =
     let more = a.begins.more in
     let legal = added_legal P C back old new events a in
-    subst (λ h. committed P (unit_of P C h).tenants ≡ committed P (unit_of P C old).tenants) (sym a.begins.is)
-    (go more legal (all_quiet P C more old events legal (sym (ap renewals a.begins.is) ∙ a.one_table) (added_own P C back old new events a) quiet))
+    subst (λ h. committed P (unit_of P C h).tenants ≡ committed P (unit_of P C old).tenants) (sym a.begins.is) (go more legal (all_quiet P C more old events legal (sym (ap renewals a.begins.is) ∙ a.one_table) (added_own P C back old new events a) quiet))
   where
     one : (h : List Entry) (e : Entry) → IsLegal P C h → MayAdd P C h e.by e.event → IsQuiet e.event → committed P (unit_of P C (e ∷ h)).tenants ≡ committed P (unit_of P C h).tenants
     one h e l m q = kind e.event m q

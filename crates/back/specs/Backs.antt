@@ -47,27 +47,27 @@ abbrev pub SeesMore : TheCore → ℕ → List Entry → List Entry → Type 0
 SeesMore core by old new = Adds core.program core.sizes by old new []
 
 -- Its registers, memory, pc and n are what the unit has committed in what it has seen
-abbrev pub state_of : TheBack → State
-state_of b = committed_in b.core b.seen
+abbrev pub back_state : TheBack → State
+back_state b = committed_in b.core b.seen
 
 -- A seat whose caller has retired nothing: nobody else retires
 abbrev pub HasRetiredNothing : Caller → Type 0
 HasRetiredNothing seat = how_many is_retired (unit_in seat.core seat.seen).tenants ≡ 0
 
 -- A back with this seat, at the start of the program
-pub record IsNew (seat : Caller) (b : TheBack) : Type 0 where
+pub record IsNewBack (seat : Caller) (b : TheBack) : Type 0 where
   pub core : b.core ≡ seat.core
   pub by : b.by ≡ seat.by
   pub history : Adds seat.core.program seat.core.sizes seat.by seat.seen b.seen []
   pub woken : b.woken ≡ seat.woken
   pub ended : b.ended ≡ None
   pub shown : b.shown ≡ opening
-  pub state : state_of b ≡ start seat.core.program
+  pub state : back_state b ≡ start seat.core.program
 
 -- The same back, which may have seen more
-pub record IsSame (old new : TheBack) : Type 0 where
+pub record IsSameBack (old new : TheBack) : Type 0 where
   pub core : new.core ≡ old.core
   pub by : new.by ≡ old.by
   pub ended : new.ended ≡ old.ended
   pub shown : new.shown ≡ old.shown
-  pub state : state_of new ≡ state_of old
+  pub state : back_state new ≡ back_state old

@@ -13,7 +13,7 @@ use Rattle.inorder.specs.OneHistory.{Adds}
 use Rattle.inorder.specs.Replies.{Has}
 use Rattle.inorder.specs.Runs.{stop}
 use Rattle.inorder.specs.Tenants.{Retired as HasRetired, Stopped, Tenant, is_first}
-use Rattle.back.specs.Backs.{TheBack, state_of, unit_in}
+use Rattle.back.specs.Backs.{TheBack, back_state, unit_in}
 use Rattle.back.specs.declared.answers.Commit.{Commit}
 use Rattle.back.specs.declared.answers.Commit.TheVariants.{Empty, Ended, Half, NotDone, Retired}
 
@@ -24,7 +24,7 @@ HasAdded old new events = Adds old.core.program old.core.sizes old.by old.seen n
 -- It had not ended, and there was an instruction at its pc
 pub record WentOn (old : TheBack) : Type 0 where
   pub not_ended : old.ended ≡ None
-  pub instr : IsSome (instr_at old.core.program (state_of old).pc)
+  pub instr : IsSome (instr_at old.core.program (back_state old).pc)
 
 -- A tenant with this pc that has committed, and with which its instruction is whole
 pub record IsCommitted (P : Program) (pc : ℕ) (t : Tenant) : Type 0 where
@@ -46,8 +46,8 @@ pub record HasCommitted (old new : TheBack) (pc n : ℕ) : Type 0 where
   pub made : ℕ
   pub tenant : Has (unit_in new.core new.seen) p (IsCommitted old.core.program pc)
   pub adds : HasAdded old new (Does (On p (Retire made)) ∷ [])
-  pub n_is : n ≡ (state_of new).count
-  pub one_more : n ≡ suc (state_of old).count
+  pub n_is : n ≡ (back_state new).count
+  pub one_more : n ≡ suc (back_state old).count
 
 -- The first half of the instruction at the pc retired: the count, the pc, the registers and memory
 -- stay those before the instruction until its second half retires
@@ -58,35 +58,35 @@ pub record HasHalved (old new : TheBack) (pc : ℕ) : Type 0 where
   pub made : ℕ
   pub tenant : Has (unit_in new.core new.seen) p (IsRetiredHalf old.core.program pc)
   pub adds : HasAdded old new (Does (On p (Retire made)) ∷ [])
-  pub pc_is : pc ≡ (state_of old).pc
-  pub state : state_of new ≡ state_of old
+  pub pc_is : pc ≡ (back_state old).pc
+  pub state : back_state new ≡ back_state old
 
 -- It was refused, and nothing was committed
 pub record WasRefused (old new : TheBack) (event : Event) : Type 0 where
   pub went_on : WentOn old
   pub not_ended : new.ended ≡ None
   pub adds : HasAdded old new (event ∷ [])
-  pub state : state_of new ≡ state_of old
+  pub state : back_state new ≡ back_state old
 
 -- It is a stop with this code, and has retired
-pub record IsRetiredStop (code : Stop) (t : Tenant) : Type 0 where
+pub record IsRetiredStopOf (code : Stop) (t : Tenant) : Type 0 where
   pub standing : t.standing ≡ HasRetired
   pub fate : t.fate ≡ Stopped code
 
 -- How it ended: before this call, or where there is no instruction, or a stop retired
 pub data HowEnded (old new : TheBack) (code : Stop) : Type 0 where
   Before : old.ended ≡ Some code → new ≡ old → HowEnded old new code
-  Nowhere : old.ended ≡ None → code ≡ BadPc → instr_at old.core.program (state_of old).pc ≡ None →
+  Nowhere : old.ended ≡ None → code ≡ BadPc → instr_at old.core.program (back_state old).pc ≡ None →
       new ≡ record old { ended = Some BadPc } → HowEnded old new code
-  Stops : WentOn old → (p made : ℕ) → Has (unit_in new.core new.seen) p (IsRetiredStop code) →
+  Stops : WentOn old → (p made : ℕ) → Has (unit_in new.core new.seen) p (IsRetiredStopOf code) →
       HasAdded old new (Does (On p (Retire made)) ∷ []) → HowEnded old new code
 
 -- It has ended, with the code with which the machine in order stops there
-pub record HasEnded (old new : TheBack) (code : Stop) : Type 0 where
+pub record HasEndedWith (old new : TheBack) (code : Stop) : Type 0 where
   pub ended : new.ended ≡ Some code
   pub how : HowEnded old new code
-  pub state : state_of new ≡ state_of old
-  pub stops : stop new.core.program (state_of new).count ≡ Some code
+  pub state : back_state new ≡ back_state old
+  pub stops : stop new.core.program (back_state new).count ≡ Some code
 
 -- What `commit` answers, each with what it says
 abbrev pub CommitAnswers : TheBack → TheBack → Commit → Type 0
@@ -94,4 +94,4 @@ CommitAnswers old new (Retired pc n) = HasCommitted old new pc n
 CommitAnswers old new (Half pc) = HasHalved old new pc
 CommitAnswers old new NotDone = WasRefused old new (Refuses IsNotDoneNow)
 CommitAnswers old new Empty = WasRefused old new (Refuses IsEmptyNow)
-CommitAnswers old new (Ended code) = HasEnded old new code
+CommitAnswers old new (Ended code) = HasEndedWith old new code

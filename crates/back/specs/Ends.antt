@@ -18,11 +18,11 @@ StopsThere P n (ByStop code) = stop P n ≡ Some code
 StopsThere P n Limit = Unit {0}
 
 -- It holds the state of the machine in order after its n instructions, and a stop is that machine's next step
-pub record IsInOrder (P : Program) (e : End) : Type 0 where
+pub record EndIsInOrder (P : Program) (e : End) : Type 0 where
   pub state : after P e.n ≡ Some (state_in e)
   pub stops : StopsThere P e.n e.outcome
 
 -- A run ends with the code with which the back has ended, if it has
-abbrev pub outcome_of : Option Stop → Ending
-outcome_of (Some code) = ByStop code
-outcome_of None = Limit
+abbrev pub ending_of : Option Stop → Ending
+ending_of (Some code) = ByStop code
+ending_of None = Limit

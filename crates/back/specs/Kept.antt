@@ -12,30 +12,30 @@ use Rattle.inorder.specs.Unit.{Sizes, UpdateUnit}
 use Rattle.snapshots.specs.declared.snap.Snap.{Snap}
 use Rattle.station.specs.Seats.{Caller}
 use Rattle.back.specs.Backs.{unit_in}
-use Rattle.back.specs.Commits.{IsRetiredStop}
-use Rattle.back.specs.Retirement.{with_low}
+use Rattle.back.specs.Commits.{IsRetiredStopOf}
+use Rattle.back.specs.Retirement.{state_with_low}
 
 -- Why it has ended with this code: a stop has retired, or its pc is the address of no instruction
-pub data HasStopped (P : Program) (U : UpdateUnit) (code : Stop) : Type 0 where
-  ByStop : (p : ℕ) → Has U p (IsRetiredStop code) → HasStopped P U code
-  Nowhere : code ≡ BadPc → instr_at P (committed P U.tenants).pc ≡ None → GoesOn U → HasStopped P U code
+pub data WhyEnded (P : Program) (U : UpdateUnit) (code : Stop) : Type 0 where
+  ByStop : (p : ℕ) → Has U p (IsRetiredStopOf code) → WhyEnded P U code
+  Nowhere : code ≡ BadPc → instr_at P (committed P U.tenants).pc ≡ None → GoesOn U → WhyEnded P U code
 
 -- It has not ended, and no stop has retired; or it has ended with a code
 abbrev pub EndIs : Program → UpdateUnit → Option Stop → Type 0
 EndIs P U None = GoesOn U
-EndIs P U (Some code) = HasStopped P U code
+EndIs P U (Some code) = WhyEnded P U code
 
 -- The unit that it has seen, and its fields: the state is what whole instructions have left, and the
 -- low value, where one waits, is what a first half has made
 pub record KeepsUnit (P : Program) (C : Sizes) (U : UpdateUnit) (state : State) (low : Option ℕ)
     (head : ℕ) (ended : Option Stop) : Type 0 where
   pub state_is : state ≡ committed P U.tenants
-  pub low_is : with_low low state ≡ ahead P U.tenants
+  pub low_is : state_with_low low state ≡ ahead P U.tenants
   pub head_is : head ≡ head_station C U
   pub end_is : EndIs P U ended
 
 -- Its fields, and what its seat has seen
-pub record IsKept (P : Program) (seat : Caller) (copy : Program) (state : State) (low : Option ℕ)
+pub record BackIsKept (P : Program) (seat : Caller) (copy : Program) (state : State) (low : Option ℕ)
     (head : ℕ) (ended : Option Stop) (shown : Snap) : Type 0 where
   pub program : seat.core.program ≡ P
   pub copied : copy ≡ P

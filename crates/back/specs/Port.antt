@@ -31,9 +31,9 @@ content_in Val value = Some value
 content_in _ value = None
 
 -- The address that a tenant of this fate shows, if it does
-abbrev pub address_of : Fate → Option ℕ
-address_of (Addr a) = Some a
-address_of _ = None
+abbrev pub shown_address : Fate → Option ℕ
+shown_address (Addr a) = Some a
+shown_address _ = None
 
 -- What the queue holds of an instruction whose station shows this
 abbrev pub seen_as : Instr → StationState → ℕ → QueueEntry
@@ -50,8 +50,8 @@ abbrev pub load_entry : Load → QueueEntry
 load_entry l = record { store = false; width = access_width l.op; address = Some l.address; content = None }
 
 -- The k-th station behind the head's
-abbrev pub behind : ℕ → ℕ → ℕ → ℕ
-behind head ring k = (head + k) % ring
+abbrev pub station_behind : ℕ → ℕ → ℕ → ℕ
+station_behind head ring k = (head + k) % ring
 
 -- This is so of each live tenant of the station that is one of the first n
 abbrev pub AtStation : UpdateUnit → ℕ → ℕ → (Tenant → Type 0) → Type 0
@@ -62,7 +62,7 @@ AtStation U n station Fact =
 pub record IsEntryOf (P : Program) (e : QueueEntry) (u : Tenant) : Type 0 where
   pub store : e.store ≡ is_store (kind_of P u)
   pub width : e.width ≡ access_width (instr P u).op
-  pub address : e.address ≡ address_of u.fate
+  pub address : e.address ≡ shown_address u.fate
   pub content : e.content ≡ None
 
 -- No store, or one with its address
@@ -70,7 +70,7 @@ abbrev pub IsKnown : Program → Tenant → Type 0
 IsKnown P u = (is_store (kind_of P u) ≡ false) ⊎ ((a : ℕ) × (u.fate ≡ Addr a))
 
 -- It does not wait for this one
-pub record IsPassed (P : Program) (a w : ℕ) (u : Tenant) : Type 0 where
+pub record DoesNotWaitFor (P : Program) (a w : ℕ) (u : Tenant) : Type 0 where
   pub known : IsKnown P u
   pub apart : overlaps a w (entry_of P u) ≡ false
 
@@ -91,21 +91,21 @@ Lacks P u = lacks_address (entry_of P u) ≡ true
 pub record HasMet (P : Program) (U : UpdateUnit) (n head ring k at a w s : ℕ) (e : QueueEntry) : Type 0 where
   pub here : k ≤ s
   pub bound : s < at
-  pub known : (j : ℕ) → k ≤ j → j < at → AtStation U n (behind head ring j) (IsKnown P)
-  pub younger : (j : ℕ) → s < j → j < at → AtStation U n (behind head ring j) (IsPassed P a w)
-  pub it : AtStation U n (behind head ring s) (IsMet P a w e)
+  pub known : (j : ℕ) → k ≤ j → j < at → AtStation U n (station_behind head ring j) (IsKnown P)
+  pub younger : (j : ℕ) → s < j → j < at → AtStation U n (station_behind head ring j) (DoesNotWaitFor P a w)
+  pub it : AtStation U n (station_behind head ring s) (IsMet P a w e)
 
 -- The same, where none may overlap it
 abbrev pub HasFound : Program → UpdateUnit → (n head ring k at a w : ℕ) → Option (ℕ × QueueEntry) → Type 0
 HasFound P U n head ring k at a w None =
-    (j : ℕ) → k ≤ j → j < at → AtStation U n (behind head ring j) (IsPassed P a w)
+    (j : ℕ) → k ≤ j → j < at → AtStation U n (station_behind head ring j) (DoesNotWaitFor P a w)
 HasFound P U n head ring k at a w (Some found) = HasMet P U n head ring k at a w found.0 found.1
 
 -- The youngest store without its address
 pub record HasUnknown (P : Program) (U : UpdateUnit) (n head ring at s : ℕ) : Type 0 where
   pub bound : s < at
-  pub younger : (j : ℕ) → s < j → j < at → AtStation U n (behind head ring j) (IsKnown P)
-  pub it : AtStation U n (behind head ring s) (Lacks P)
+  pub younger : (j : ℕ) → s < j → j < at → AtStation U n (station_behind head ring j) (IsKnown P)
+  pub it : AtStation U n (station_behind head ring s) (Lacks P)
 
 -- It is this load, and waits
 pub record IsLoadOf (P : Program) (station : ℕ) (l : Load) (t : Tenant) : Type 0 where
@@ -116,8 +116,8 @@ pub record IsLoadOf (P : Program) (station : ℕ) (l : Load) (t : Tenant) : Type
   pub op_is : (instr P t).op ≡ l.op
 
 -- Unless it was squashed
-abbrev pub IsAsked : Program → UpdateUnit → ℕ → ℕ → Load → Type 0
-IsAsked P U p station l = Has U p (IsLoadOf P station l) ⊎ IsStale U p
+abbrev pub IsAskedInOrder : Program → UpdateUnit → ℕ → ℕ → Load → Type 0
+IsAskedInOrder P U p station l = Has U p (IsLoadOf P station l) ⊎ IsStale U p
 
 -- A store of this station blocks load p
 pub record IsBlockedAt (P : Program) (U : UpdateUnit) (p station : ℕ) : Type 0 where
@@ -126,8 +126,8 @@ pub record IsBlockedAt (P : Program) (U : UpdateUnit) (p station : ℕ) : Type 0
   pub store : Has U q (λ u. u.station ≡ station)
 
 -- A load inside the memory
-abbrev pub IsInside : Program → Load → Type 0
-IsInside P l = l.address + width l.op ≤ length P.bytes
+abbrev pub LoadIsInside : Program → Load → Type 0
+LoadIsInside P l = l.address + width l.op ≤ length P.bytes
 
 -- Over a core, for a caller that had seen `old` before and has seen `new` now
 
@@ -150,23 +150,23 @@ SearchMisses core old new head at s =
 -- The load at this place may be answered with this value, unless it was squashed
 abbrev pub MayAnswer : TheCore → (old new : List Entry) → (head at : ℕ) → Load → ℕ → Type 0
 MayAnswer core old new head at l v =
-    (p : ℕ) → IsAsked core.program (unit_in core old) p (behind head core.sizes.ring at) l →
+    (p : ℕ) → IsAskedInOrder core.program (unit_in core old) p (station_behind head core.sizes.ring at) l →
     CanLoad core.program (unit_in core new) p l.address v ⊎ IsStale (unit_in core new) p
 
 -- The store at place s blocks it, unless it was squashed
 abbrev pub MayBlock : TheCore → (old new : List Entry) → (head at : ℕ) → Load → ℕ → Type 0
 MayBlock core old new head at l s =
-    (p : ℕ) → IsAsked core.program (unit_in core old) p (behind head core.sizes.ring at) l →
-    IsBlockedAt core.program (unit_in core new) p (behind head core.sizes.ring s) ⊎ IsStale (unit_in core new) p
+    (p : ℕ) → IsAskedInOrder core.program (unit_in core old) p (station_behind head core.sizes.ring at) l →
+    IsBlockedAt core.program (unit_in core new) p (station_behind head core.sizes.ring s) ⊎ IsStale (unit_in core new) p
 
 -- The load of a station waits still
 abbrev pub Remains : TheCore → (old new : List Entry) → ℕ → Load → Type 0
 Remains core old new station l =
-    (p : ℕ) → IsNamed (unit_in core old) p station l.tag → IsAsked core.program (unit_in core old) p station l →
+    (p : ℕ) → IsNamed (unit_in core old) p station l.tag → IsAskedInOrder core.program (unit_in core old) p station l →
     Has (unit_in core new) p (IsLoadOf core.program station l)
 
 -- It waits no more
 abbrev pub Ceases : TheCore → (old new : List Entry) → ℕ → Load → Type 0
 Ceases core old new station l =
-    (p : ℕ) → IsAsked core.program (unit_in core old) p station l →
+    (p : ℕ) → IsAskedInOrder core.program (unit_in core old) p station l →
     ¬ Has (unit_in core new) p (IsWaitingLoad core.program)

@@ -68,7 +68,7 @@ pub record HasFoundBlocked (P : Program) (C : Sizes) (by : ℕ) (old new : List 
   pub nothing : HasLoadedNothing P C by old new
 
 -- No load was in fate Addr, each at a moment of its own within the call
-pub record WasIdle (P : Program) (C : Sizes) (by : ℕ) (old new : List Entry) : Type 0 where
+pub record PortWasIdle (P : Program) (C : Sizes) (by : ℕ) (old new : List Entry) : Type 0 where
   pub each : EachLoad P C old (WasNotWaiting P C old new)
   pub nothing : HasLoadedNothing P C by old new
 
@@ -78,4 +78,4 @@ RefreshAnswers core by old new (Loaded station tag value) =
     HasLoaded core.program core.sizes by old new station tag value
 RefreshAnswers core by old new (Blocked load store) =
     HasFoundBlocked core.program core.sizes by old new load store
-RefreshAnswers core by old new Idle = WasIdle core.program core.sizes by old new
+RefreshAnswers core by old new Idle = PortWasIdle core.program core.sizes by old new

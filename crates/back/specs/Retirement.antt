@@ -12,24 +12,24 @@ use Rattle.station.specs.declared.answers.Last.{Last}
 use Rattle.station.specs.declared.answers.Last.TheVariants.{Done, Stop as WasStop, Stored}
 
 -- The value that an instruction writes that is done with v: a jump that links writes its return address
-abbrev pub written_by : Kind → ℕ → ℕ → ℕ
-written_by Jumps pc v = pc_plus_4 pc
-written_by Links pc v = pc_plus_4 pc
-written_by _ pc v = v
+abbrev pub value_written : Kind → ℕ → ℕ → ℕ
+value_written Jumps pc v = pc_plus_4 pc
+value_written Links pc v = pc_plus_4 pc
+value_written _ pc v = v
 
 -- Where it goes on
-abbrev pub next_by : Kind → ℕ → ℕ → ℕ
-next_by Jumps pc v = v
-next_by Links pc v = v
-next_by _ pc v = pc_plus_4 pc
+abbrev pub goes_on_at : Kind → ℕ → ℕ → ℕ
+goes_on_at Jumps pc v = v
+goes_on_at Links pc v = v
+goes_on_at _ pc v = pc_plus_4 pc
 
 -- The state behind an instruction that is done with v
 abbrev pub with_done : Instr → Half → ℕ → State → State
 with_done i half v s =
     record {
-      registers = write s.registers (destination i half) (written_by (kind i.op) s.pc v);
+      registers = write s.registers (destination i half) (value_written (kind i.op) s.pc v);
       memory = s.memory;
-      pc = next_by (kind i.op) s.pc v;
+      pc = goes_on_at (kind i.op) s.pc v;
       count = suc s.count;
     }
 
@@ -59,15 +59,15 @@ abbrev pub low_in : Instr → Half → Last → Option ℕ
 low_in i half last = low_by (is_first_half i.op half) last
 
 -- The state with the low value that waited, which goes into LO
-abbrev pub with_low : Option ℕ → State → State
-with_low None s = s
-with_low (Some v) s = record s { registers = write s.registers lo v }
+abbrev pub state_with_low : Option ℕ → State → State
+state_with_low None s = s
+state_with_low (Some v) s = record s { registers = write s.registers lo v }
 
 -- The state behind a retired tenant: a first half, whose value waits now, leaves it as it is; with
 -- any other its instruction is whole, and what waited for it is written first
 abbrev pub state_behind_by : (waits : Option ℕ) → Instr → Half → Last → (waited : Option ℕ) → State → State
 state_behind_by (Some v) i half last waited s = s
-state_behind_by None i half last waited s = with_last i half last (with_low waited s)
+state_behind_by None i half last waited s = with_last i half last (state_with_low waited s)
 
 -- The same by the tenant's instruction and half
 abbrev pub state_behind : Instr → Half → Last → Option ℕ → State → State
@@ -79,6 +79,6 @@ stop_in (WasStop code) = Some code
 stop_in _ = None
 
 -- A store is inside a memory of this size
-abbrev pub IsInside : ℕ → Instr → Last → Type 0
-IsInside size i (Stored address content) = address + width i.op ≤ size
-IsInside size i _ = Unit {0}
+abbrev pub StoreIsInside : ℕ → Instr → Last → Type 0
+StoreIsInside size i (Stored address content) = address + width i.op ≤ size
+StoreIsInside size i _ = Unit {0}

@@ -10,18 +10,18 @@ use Rattle.station.specs.Seats.{Caller, TheCore}
 use Rattle.back.specs.Backs.{TheBack, unit_in}
 
 -- The core that it left, what it had seen there, and the snapshot that it showed last
-pub record TheStill : Type 0 where
+pub record TheStillBack : Type 0 where
   pub core : TheCore
   pub seen : List Entry
   pub shown : Snap
 
 -- What is left of a back without its core
-abbrev pub still_of : TheBack → TheStill
+abbrev pub still_of : TheBack → TheStillBack
 still_of b = record { core = b.core; seen = b.seen; shown = b.shown }
 
 -- A seat of a core of the same program and sizes. Its unit has the tenants of a history that goes on
 -- from what was seen by nothing of the back's: a renewal changes no tenant
-pub record GoesOn (core : TheCore) (seen : List Entry) (seat : Caller) : Type 0 where
+pub record GoesOnForBack (core : TheCore) (seen : List Entry) (seat : Caller) : Type 0 where
   pub by_is : seat.by ≡ back
   pub program : seat.core.program ≡ core.program
   pub sizes : seat.core.sizes ≡ core.sizes
@@ -34,23 +34,23 @@ abbrev pub head_at : TheCore → List Entry → ℕ
 head_at core seen = head_station core.sizes (unit_in core seen)
 
 -- The back enters a renewed core with this seat: the oldest live tenant is looked for at station 0
-pub record MayEnter (core : TheCore) (seen : List Entry) (seat : Caller) : Type 0 where
-  pub goes_on : GoesOn core seen seat
+pub record BackMayEnter (core : TheCore) (seen : List Entry) (seat : Caller) : Type 0 where
+  pub goes_on : GoesOnForBack core seen seat
   pub first : head_at seat.core seat.seen ≡ 0
 
 -- It enters the core that it left with this seat: the oldest live tenant is looked for where it was
-pub record MayEnterAgain (core : TheCore) (seen : List Entry) (seat : Caller) : Type 0 where
-  pub goes_on : GoesOn core seen seat
+pub record BackMayEnterAgain (core : TheCore) (seen : List Entry) (seat : Caller) : Type 0 where
+  pub goes_on : GoesOnForBack core seen seat
   pub head : head_at seat.core seat.seen ≡ head_at core seen
 
 -- With the seat that a renewal gives a back that has left enters the renewed core
-abbrev pub RenewedAreEntered : Type 0
-RenewedAreEntered =
+abbrev pub RenewedBacksEnter : Type 0
+RenewedBacksEnter =
     (core now : TheCore) (old new : Seats) → IsRenewed core old now new →
-    MayEnter core old.back.seen new.back
+    BackMayEnter core old.back.seen new.back
 
 -- With its own, where the renewal was refused, it enters the core that it left
-abbrev pub RefusedAreEntered : Type 0
-RefusedAreEntered =
+abbrev pub RefusedBacksEnter : Type 0
+RefusedBacksEnter =
     (core now : TheCore) (old new : Seats) → old.back.core ≡ core → old.back.by ≡ back →
-    IsNotRenewed core old now new → MayEnterAgain core old.back.seen new.back
+    IsNotRenewed core old now new → BackMayEnterAgain core old.back.seen new.back

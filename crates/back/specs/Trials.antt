@@ -21,23 +21,23 @@ use Rattle.station.specs.Moments.{WasOnce}
 use Rattle.station.specs.Seats.{TheCore}
 use Rattle.station.specs.Writeback.{IsWalk}
 use Rattle.back.specs.Loads.{IsLiveLoad, WasNotWaiting}
-use Rattle.back.specs.Port.{IsAsked, IsBlockedAt, behind}
+use Rattle.back.specs.Port.{IsAskedInOrder, IsBlockedAt, station_behind}
 use Rattle.back.specs.Refreshes.{IsTooLate}
 use Rattle.back.specs.declared.port.Load.{Load}
 use Rattle.back.specs.declared.port.Tried.{Tried}
 use Rattle.back.specs.declared.port.Tried.TheVariants.{Blocked, Loaded, Passed}
 
 -- The load of an instruction at an address, if it is one and inside the memory
-abbrev pub load_by : Kind → ℕ → Instr → ℕ → ℕ → Option Load
-load_by Loads size i tag address =
+abbrev pub load_of_kind : Kind → ℕ → Instr → ℕ → ℕ → Option Load
+load_of_kind Loads size i tag address =
     if nat_le (address + width i.op) size then Some (record { tag = tag; address = address; op = i.op }) else None
-load_by _ size i tag address = None
+load_of_kind _ size i tag address = None
 
 -- The same by the index of the instruction, if it is one of the program's
-abbrev pub load_at : Program → ℕ → ℕ → ℕ → Option Load
-load_at P index tag address =
+abbrev pub load_of_index : Program → ℕ → ℕ → ℕ → Option Load
+load_of_index P index tag address =
     if nat_lt index (length P.code)
-    then load_by (kind (instr_of P index).op) (length P.bytes) (instr_of P index) tag address
+    then load_of_kind (kind (instr_of P index).op) (length P.bytes) (instr_of P index) tag address
     else None
 
 -- A live load of this station
@@ -46,15 +46,15 @@ pub record IsLoadAt (P : Program) (station : ℕ) (t : Tenant) : Type 0 where
   pub station_is : t.station ≡ station
 
 -- A live tenant of this station, with this tag and address
-pub record IsShown (station tag address : ℕ) (t : Tenant) : Type 0 where
+pub record ShowsAddress (station tag address : ℕ) (t : Tenant) : Type 0 where
   pub live : t.standing ≡ Live
   pub station_is : t.station ≡ station
   pub tag_is : t.tag ≡ tag
   pub fate : t.fate ≡ Addr address
 
 -- No live load of the station waits, each at a moment of its own
-abbrev pub NoneWaits : Program → Sizes → List Entry → List Entry → ℕ → Type 0
-NoneWaits P C old new station = (q : ℕ) → Has (unit_of P C old) q (IsLoadAt P station) → WasNotWaiting P C old new q
+abbrev pub NoLoadWaits : Program → Sizes → List Entry → List Entry → ℕ → Type 0
+NoLoadWaits P C old new station = (q : ℕ) → Has (unit_of P C old) q (IsLoadAt P station) → WasNotWaiting P C old new q
 
 -- No other waits
 abbrev pub NoOtherWaits : Program → Sizes → List Entry → List Entry → ℕ → ℕ → Type 0
@@ -65,12 +65,12 @@ NoOtherWaits P C old new station p =
 pub record SomeWaits (P : Program) (C : Sizes) (old new : List Entry) (station : ℕ) (l : Load) : Type 0 where
   pub p : ℕ
   pub named : IsNamed (unit_of P C new) p station l.tag
-  pub asked : IsAsked P (unit_of P C new) p station l
+  pub asked : IsAskedInOrder P (unit_of P C new) p station l
   pub others : NoOtherWaits P C old new station p
 
 -- The same two over a core
 abbrev pub NobodyWaits : TheCore → List Entry → List Entry → ℕ → Type 0
-NobodyWaits core old new station = NoneWaits core.program core.sizes old new station
+NobodyWaits core old new station = NoLoadWaits core.program core.sizes old new station
 
 -- This load waits, and no other of the station
 abbrev pub ThisWaits : TheCore → List Entry → List Entry → ℕ → Load → Type 0
@@ -86,7 +86,7 @@ pub record HasPassed (P : Program) (C : Sizes) (by : ℕ) (old new : List Entry)
   pub late : List Event
   pub are_late : AllByRecursion IsTooLate late
   pub adds : Adds P C by old new late
-  pub none : NoneWaits P C old new station
+  pub none : NoLoadWaits P C old new station
 
 -- A store of station s held the load back at a moment of the call, and no other waits here
 pub record HasHeldBack (P : Program) (C : Sizes) (by : ℕ) (old new : List Entry) (station s : ℕ) : Type 0 where
@@ -114,4 +114,4 @@ StationAnswers P C by old new station (Loaded tag value) = DidLoad P C by old ne
 -- The same of the k-th station behind the head's
 abbrev pub TriedAnswers : TheCore → ℕ → List Entry → List Entry → (head k : ℕ) → Tried → Type 0
 TriedAnswers core by old new head k tried =
-    StationAnswers core.program core.sizes by old new (behind head core.sizes.ring k) tried
+    StationAnswers core.program core.sizes by old new (station_behind head core.sizes.ring k) tried

@@ -1,7 +1,7 @@
 //! Backs.
 ghost use Rattle.std.specs.Prelude.{◌≡◌, IfOk, IfErr};
 ghost use Rattle.inorder.specs.Machine.{start};
-ghost use Rattle.back.specs.Backs.{HasRetiredNothing, IsNew, state_of};
+ghost use Rattle.back.specs.Backs.{HasRetiredNothing, IsNewBack, back_state};
 ghost use Rattle.snapshots.specs.Snapshots.{opening};
 
 use crate::committed::Committed;
@@ -28,13 +28,13 @@ pub struct Back<J: Naming> {
 
 impl<J: Naming> Model for Back<J> {
     ghost use Rattle.back.specs.Backs.{TheBack, back_of};
-    ghost use Rattle.back.specs.Kept.{IsKept};
+    ghost use Rattle.back.specs.Kept.{BackIsKept};
 
     ghost Value = { TheBack };
 
     ghost view = { λ b. back_of b.seat b.ended b.publisher };
 
-    ghost invariant = { λ b. IsKept J.program b.seat b.program b.committed b.low b.head b.ended b.publisher };
+    ghost invariant = { λ b. BackIsKept J.program b.seat b.program b.committed b.low b.head b.ended b.publisher };
 }
 
 // What a back needs memory for. The publisher comes last, since it could not be given up without Wait.
@@ -68,7 +68,7 @@ impl<J: Naming> Back<J> {
         requires program { program.now ≡ core.now.program }
         requires named { program.now ≡ J.program }
         requires fresh { HasRetiredNothing seat }
-        ensures ok { IfOk result (λ made. IsNew seat made.0) }
+        ensures ok { IfOk result (λ made. IsNewBack seat made.0) }
         ensures snapper { IfOk result (λ made. made.1 ≡ 0) }
         ensures err { IfErr result (λ refused. refused.1 ≡ seat) }
     {
@@ -93,7 +93,7 @@ impl<J: Naming> Back<J> {
 
     /// How many instructions it has committed.
     pub fn n(&self) -> u64
-        ensures { result ≡ (state_of self.now).count }
+        ensures { result ≡ (back_state self.now).count }
     {
         self.committed.count()
     }

@@ -1,9 +1,9 @@
 //! Commit.
 ghost use Rattle.std.specs.Prelude.{◌≡◌, ◌<◌, ◌-◌, ◌^◌, length};
-ghost use Rattle.back.specs.Backs.{state_of};
+ghost use Rattle.back.specs.Backs.{back_state};
 ghost use Rattle.back.specs.Commits.{CommitAnswers};
 ghost use Rattle.station.specs.declared.answers.Last.TheVariants.{Stored};
-ghost use Rattle.back.specs.Retirement.{IsInside, low_in, next_by, state_behind, stop_in, with_done, with_last, with_low, with_store, written_by};
+ghost use Rattle.back.specs.Retirement.{StoreIsInside, low_in, goes_on_at, state_behind, stop_in, with_done, with_last, state_with_low, with_store, value_written};
 
 use crate::answers::Commit;
 use crate::backs::Back;
@@ -14,7 +14,7 @@ use station::{Core, Last, Retire};
 
 // The value that an instruction writes that is done with v. A jump that links writes its return address.
 fn written(kind: Kind, pc: u32, v: u32) -> u32
-    ensures { result ≡ written_by kind pc v }
+    ensures { result ≡ value_written kind pc v }
 {
     match kind {
         Kind::Jumps | Kind::Links => pc_plus_4(pc),
@@ -23,7 +23,7 @@ fn written(kind: Kind, pc: u32, v: u32) -> u32
 }
 
 fn next(kind: Kind, pc: u32, v: u32) -> u32
-    ensures { result ≡ next_by kind pc v }
+    ensures { result ≡ goes_on_at kind pc v }
 {
     match kind {
         Kind::Jumps | Kind::Links => v,
@@ -46,7 +46,8 @@ fn commit_done(committed: &mut Committed, instr: &Instr, half: Half, v: u32)
 
 fn commit_store(committed: &mut Committed, instr: &Instr, half: Half, address: u32, content: u32)
     requires count { committed.old.count < 2 ^ 64 - 1 }
-    requires inside { IsInside (length committed.old.memory) instr.now (Stored address content) }
+    requires inside { StoreIsInside (length committed.old.memory) instr.now
+        (Stored address content) }
     ensures { committed.new ≡ with_store instr.now half address content committed.old }
 {
     let pc = committed.pc();
@@ -59,7 +60,7 @@ fn commit_store(committed: &mut Committed, instr: &Instr, half: Half, address: u
 // nothing.
 fn commit_last(committed: &mut Committed, instr: &Instr, half: Half, last: Last)
     requires count { committed.old.count < 2 ^ 64 - 1 }
-    requires inside { IsInside (length committed.old.memory) instr.now last }
+    requires inside { StoreIsInside (length committed.old.memory) instr.now last }
     ensures { committed.new ≡ with_last instr.now half last committed.old }
 {
     match last {
@@ -81,7 +82,7 @@ fn low_value(instr: &Instr, half: Half, last: Last) -> Option<u32>
 
 // What waited goes into LO.
 fn commit_low(committed: &mut Committed, waited: Option<u32>)
-    ensures { committed.new ≡ with_low waited committed.old }
+    ensures { committed.new ≡ state_with_low waited committed.old }
 {
     if let Some(v) = waited {
         committed.write(Reg::LO, v);
@@ -98,7 +99,7 @@ fn commit_tenant(
     last: Last,
 ) -> Option<u32>
     requires count { committed.old.count < 2 ^ 64 - 1 }
-    requires inside { IsInside (length committed.old.memory) instr.now last }
+    requires inside { StoreIsInside (length committed.old.memory) instr.now last }
     ensures low { result ≡ low_in instr.now half last }
     ensures state { committed.new ≡ state_behind instr.now half last waited committed.old }
 {
@@ -127,7 +128,7 @@ impl<J: Naming> Back<J> {
     /// buffer of Smith and Pleszkun: whatever has not retired, the committed state is precise.
     pub fn commit(&mut self, core: &Core) -> Commit
         requires core { self.old.core ≡ core.now }
-        requires count { (state_of self.old).count < 2 ^ 64 - 1 }
+        requires count { (back_state self.old).count < 2 ^ 64 - 1 }
         ensures core { self.new.core ≡ self.old.core }
         ensures by { self.new.by ≡ self.old.by }
         ensures shown { self.new.shown ≡ self.old.shown }

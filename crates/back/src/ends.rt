@@ -1,7 +1,7 @@
 //! The end of a back.
 ghost use Rattle.std.specs.Prelude.{◌≡◌};
-ghost use Rattle.back.specs.Backs.{state_of};
-ghost use Rattle.back.specs.Ends.{IsInOrder, outcome_of, state_in};
+ghost use Rattle.back.specs.Backs.{back_state};
+ghost use Rattle.back.specs.Ends.{EndIsInOrder, ending_of, state_in};
 
 use crate::backs::Back;
 use instructions::{End, Ending, Stop};
@@ -10,7 +10,7 @@ use std::sync::Wait;
 
 // How a run ends that has ended with this code, if it has.
 fn outcome(ended: Option<Stop>) -> Ending
-    ensures { result ≡ outcome_of ended }
+    ensures { result ≡ ending_of ended }
 {
     match ended {
         Some(code) => Ending::Stop(code),
@@ -24,9 +24,9 @@ impl<J: Naming> Back<J> {
     /// unless `commit` answered `Ended`. It waits until no snapper reads; from then on each is answered
     /// `Gone`.
     pub fn end<R: Wait>(self, wait: &R) -> End
-        ensures in_order { IsInOrder J.program result }
-        ensures state { state_in result ≡ state_of self }
-        ensures outcome { result.outcome ≡ outcome_of self.ended }
+        ensures in_order { EndIsInOrder J.program result }
+        ensures state { state_in result ≡ back_state self }
+        ensures outcome { result.outcome ≡ ending_of self.ended }
     {
         let Back {
             seat: _,

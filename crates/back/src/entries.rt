@@ -1,5 +1,5 @@
 //! What the load/store queue holds of what a station shows, and its answer over one store.
-ghost use Rattle.std.specs.Prelude.{◌≡◌, ◌∷◌, [], IsSome};
+ghost use Rattle.std.specs.Prelude.{◌≡◌, ◌<◌, ◌∷◌, [], IsSome, Some, false};
 ghost use Rattle.inorder.specs.Loads.{access_width};
 ghost use Rattle.lsq.specs.Entries.{load_by};
 ghost use Rattle.lsq.specs.LoadRule.{answer as answered};

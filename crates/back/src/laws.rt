@@ -1,9 +1,9 @@
 //! What holds of a back between two cores. The function is a law: it does nothing, and its contract is proved.
-ghost use Rattle.back.specs.Stills.{RefusedAreEntered, RenewedAreEntered};
+ghost use Rattle.back.specs.Stills.{RefusedBacksEnter, RenewedBacksEnter};
 
 /// A back that has left its core, and gave its seat to a renewal of it, enters with the seat that comes back: the
 /// renewed core, or the one that it left where the renewal was refused.
 pub fn a_back_enters_behind_a_renewal()
-    ensures renewed { RenewedAreEntered }
-    ensures refused { RefusedAreEntered }
+    ensures renewed { RenewedBacksEnter }
+    ensures refused { RefusedBacksEnter }
 {}

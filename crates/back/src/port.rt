@@ -1,14 +1,13 @@
 //! The memory port: one load over the older stores.
 ghost use Rattle.std.specs.Prelude.{◌≡◌, ◌<◌, ◌≤◌, ◌+◌, IfErr, IfNone, IfOk, IfSome, Some, false, true, length};
 ghost use Rattle.instructions.specs.Instruction.{width as width_in};
-ghost use Rattle.instructions.specs.Operations.{loaded as loaded_as};
 ghost use Rattle.inorder.specs.Callers.{head_station};
 ghost use Rattle.inorder.specs.History.{IsLegal, back};
 ghost use Rattle.station.specs.Seats.{IsSame};
 ghost use Rattle.back.specs.Wakings.{TryWakes};
 ghost use Rattle.back.specs.Backs.{SeesMore, committed_in, unit_in};
-ghost use Rattle.back.specs.Trials.{NobodyWaits, ThisWaits, TriedAnswers, load_at as load_in};
-ghost use Rattle.back.specs.Port.{Ceases, IsEntryThere, IsInside, MayAnswer, MayBlock, Remains, SearchFinds, SearchMisses};
+ghost use Rattle.back.specs.Trials.{NobodyWaits, ThisWaits, TriedAnswers, load_of_index};
+ghost use Rattle.back.specs.Port.{Ceases, IsEntryThere, LoadIsInside, MayAnswer, MayBlock, Remains, SearchFinds, SearchMisses};
 
 use crate::committed::Committed;
 use crate::entries::{address, ask, content, entry, entry_of};
@@ -141,7 +140,7 @@ fn answer(
 
 // The load of an instruction, if it is one.
 fn load_at(program: &Program, index: usize, tag: u32, address: u32) -> Option<Load>
-    ensures { result ≡ load_in program.now index tag address }
+    ensures { result ≡ load_of_index program.now index tag address }
 {
     if index >= program.len() {
         return None;
@@ -166,7 +165,7 @@ fn waiting(core: &Core, seat: &mut BackSeat, program: &Program, station: usize) 
     ensures history { SeesMore core.now seat.old.by seat.old.seen seat.new.seen }
     ensures none { IfNone result (NobodyWaits core.now seat.old.seen seat.new.seen station) }
     ensures some { IfSome result (ThisWaits core.now seat.old.seen seat.new.seen station) }
-    ensures inside { IfSome result (IsInside core.now.program) }
+    ensures inside { IfSome result (LoadIsInside core.now.program) }
 {
     let seen = core.look(seat, station);
     let Some(address) = address(seen.state, seen.value) else {

@@ -3,7 +3,7 @@ ghost use Rattle.std.specs.Prelude.{◌≡◌, ◌<◌, ◌≤◌};
 ghost use Rattle.inorder.specs.Callers.{head_station};
 ghost use Rattle.inorder.specs.History.{IsLegal, back};
 ghost use Rattle.station.specs.Seats.{IsSame as IsSameSeat};
-ghost use Rattle.back.specs.Backs.{IsSame, committed_in, unit_in};
+ghost use Rattle.back.specs.Backs.{IsSameBack, committed_in, unit_in};
 ghost use Rattle.back.specs.Refreshes.{RefreshAnswers};
 ghost use Rattle.back.specs.Wakings.{RefreshWakes};
 
@@ -70,7 +70,7 @@ impl<J: Naming> Back<J> {
     /// The rule is that of SimpleScalar's load/store queue (`lsq_refresh`), as `lsq` defines it.
     pub fn refresh(&mut self, core: &Core) -> Refresh
         requires core { self.old.core ≡ core.now }
-        ensures kept { IsSame self.old self.new }
+        ensures kept { IsSameBack self.old self.new }
         ensures reply { RefreshAnswers core.now self.old.by self.old.seen self.new.seen result }
         ensures woken { RefreshWakes core.now self.old.by self.old.seen self.new.seen
             self.old.woken self.new.woken result }

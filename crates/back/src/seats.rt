@@ -3,7 +3,7 @@ ghost use Rattle.std.specs.Prelude.{◌≡◌, ◌<◌};
 ghost use Rattle.inorder.specs.History.{StartsWith};
 ghost use Rattle.station.specs.Looking.{SeesInfo, SeesOperand, SeesStation};
 ghost use Rattle.station.specs.Seats.{IsSame as IsSameSeat};
-ghost use Rattle.back.specs.Backs.{IsSame, SeesMore};
+ghost use Rattle.back.specs.Backs.{IsSameBack, SeesMore};
 
 use crate::backs::Back;
 use instructions::Half;
@@ -15,7 +15,7 @@ impl<J: Naming> Back<J> {
     pub fn look(&mut self, core: &Core, station: usize) -> Seen<StationState>
         requires core { self.old.core ≡ core.now }
         requires station { station < core.now.sizes.ring }
-        ensures kept { IsSame self.old self.new }
+        ensures kept { IsSameBack self.old self.new }
         ensures woken { self.new.woken ≡ self.old.woken }
         ensures history { SeesMore core.now self.old.by self.old.seen self.new.seen }
         ensures reply { SeesStation core.now.program core.now.sizes self.new.seen station result }
@@ -27,7 +27,7 @@ impl<J: Naming> Back<J> {
     pub fn info(&mut self, core: &Core, station: usize) -> (u32, Half, u32)
         requires core { self.old.core ≡ core.now }
         requires station { station < core.now.sizes.ring }
-        ensures kept { IsSame self.old self.new }
+        ensures kept { IsSameBack self.old self.new }
         ensures woken { self.new.woken ≡ self.old.woken }
         ensures history { SeesMore core.now self.old.by self.old.seen self.new.seen }
         ensures reply { SeesInfo core.now.program core.now.sizes
@@ -40,7 +40,7 @@ impl<J: Naming> Back<J> {
     pub fn operand(&mut self, core: &Core, station: usize, k: Source) -> Seen<SourceState>
         requires core { self.old.core ≡ core.now }
         requires station { station < core.now.sizes.ring }
-        ensures kept { IsSame self.old self.new }
+        ensures kept { IsSameBack self.old self.new }
         ensures woken { self.new.woken ≡ self.old.woken }
         ensures history { SeesMore core.now self.old.by self.old.seen self.new.seen }
         ensures reply { SeesOperand core.now.program core.now.sizes self.new.seen station k result }
@@ -52,7 +52,7 @@ impl<J: Naming> Back<J> {
     pub fn meet<P: Part>(&mut self, core: &Core, other: &mut SeatOf<P>)
         requires core { self.old.core ≡ core.now }
         requires other { other.old.core ≡ core.now }
-        ensures kept { IsSame self.old self.new }
+        ensures kept { IsSameBack self.old self.new }
         ensures woken { self.new.woken ≡ self.old.woken }
         ensures history { SeesMore core.now self.old.by self.old.seen self.new.seen }
         ensures told { StartsWith self.new.seen other.old.seen }

@@ -1,7 +1,7 @@
 //! Snapshots of what was committed.
 ghost use Rattle.std.specs.Prelude.{◌≡◌, IfOk, OnErr, OnOk};
 ghost use Rattle.snapshots.specs.Snapshots.{snapshot};
-ghost use Rattle.back.specs.Backs.{state_of};
+ghost use Rattle.back.specs.Backs.{back_state};
 
 use crate::backs::Back;
 use instructions::Memory;
@@ -13,8 +13,8 @@ impl<J: Naming> Back<J> {
     /// error nothing is shown.
     pub fn show<R: Wait>(&mut self, wait: &R) -> Result<Mark, Memory>
         ensures ok { OnOk result (self.new ≡ record self.old
-            { shown = snapshot (state_of self.old) }) }
-        ensures mark { IfOk result (λ mark. mark.n ≡ (state_of self.old).count) }
+            { shown = snapshot (back_state self.old) }) }
+        ensures mark { IfOk result (λ mark. mark.n ≡ (back_state self.old).count) }
         ensures err { OnErr result (self.new ≡ self.old) }
     {
         let snap = Snap {

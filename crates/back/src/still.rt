@@ -1,8 +1,8 @@
 //! A back that leaves its core, and one that enters another.
 ghost use Rattle.std.specs.Prelude.{◌≡◌, None};
 ghost use Rattle.inorder.specs.Callers.{GoesOn as HasNoStop};
-ghost use Rattle.back.specs.Backs.{back_of, committed_in, state_of, unit_in};
-ghost use Rattle.back.specs.Stills.{GoesOn, head_at, still_of};
+ghost use Rattle.back.specs.Backs.{back_of, committed_in, back_state, unit_in};
+ghost use Rattle.back.specs.Stills.{GoesOnForBack, head_at, still_of};
 
 use crate::backs::Back;
 use crate::committed::Committed;
@@ -27,14 +27,14 @@ pub struct BackStill<J: Naming> {
 
 impl<J: Naming> Model for BackStill<J> {
     ghost use Rattle.std.specs.Prelude.{None};
-    ghost use Rattle.back.specs.Kept.{IsKept};
-    ghost use Rattle.back.specs.Stills.{TheStill};
+    ghost use Rattle.back.specs.Kept.{BackIsKept};
+    ghost use Rattle.back.specs.Stills.{TheStillBack};
 
-    ghost Value = { TheStill };
+    ghost Value = { TheStillBack };
 
     ghost view = { λ b. record { core = b.left.value.core; seen = b.left.value.seen; shown = b.publisher } };
 
-    ghost invariant = { λ b. IsKept J.program b.left.value b.program b.state b.waits b.head None b.publisher };
+    ghost invariant = { λ b. BackIsKept J.program b.left.value b.program b.state b.waits b.head None b.publisher };
 }
 
 impl<J: Naming> Back<J> {
@@ -48,7 +48,7 @@ impl<J: Naming> Back<J> {
         ensures woken { result.0.woken ≡ self.woken }
         ensures no_stop { HasNoStop (unit_in self.core self.seen) }
         ensures still { result.1 ≡ still_of self }
-        ensures goes_on { GoesOn result.1.core result.1.seen result.0 }
+        ensures goes_on { GoesOnForBack result.1.core result.1.seen result.0 }
         ensures head { head_at result.0.core result.0.seen ≡ head_at result.1.core result.1.seen }
     {
         let Back {
@@ -76,10 +76,10 @@ impl<J: Naming> Back<J> {
 impl<J: Naming> BackStill<J> {
     // The oldest live tenant of this seat stands at this station, if there is one.
     fn enter_at(self, seat: BackSeat, head: usize) -> Back<J>
-        requires goes_on { GoesOn self.core self.seen seat }
+        requires goes_on { GoesOnForBack self.core self.seen seat }
         requires head { head_at seat.core seat.seen ≡ head }
         ensures back { result ≡ back_of seat None self.shown }
-        ensures state { state_of result ≡ committed_in self.core self.seen }
+        ensures state { back_state result ≡ committed_in self.core self.seen }
     {
         what_is_seen_is_legal(&seat);
         let BackStill {
@@ -104,20 +104,20 @@ impl<J: Naming> BackStill<J> {
     /// Enters a renewed core, where the oldest live tenant stands at station 0. Registers, memory, pc and count are
     /// those with which it left, and the last snapshot that it showed is the last one still.
     pub fn enter(self, seat: BackSeat) -> Back<J>
-        requires goes_on { GoesOn self.core self.seen seat }
+        requires goes_on { GoesOnForBack self.core self.seen seat }
         requires first { head_at seat.core seat.seen ≡ 0 }
         ensures back { result ≡ back_of seat None self.shown }
-        ensures state { state_of result ≡ committed_in self.core self.seen }
+        ensures state { back_state result ≡ committed_in self.core self.seen }
     {
         self.enter_at(seat, 0)
     }
 
     /// Enters the core that it left, where no renewal came between.
     pub fn enter_again(self, seat: BackSeat) -> Back<J>
-        requires goes_on { GoesOn self.core self.seen seat }
+        requires goes_on { GoesOnForBack self.core self.seen seat }
         requires head { head_at seat.core seat.seen ≡ head_at self.core self.seen }
         ensures back { result ≡ back_of seat None self.shown }
-        ensures state { state_of result ≡ committed_in self.core self.seen }
+        ensures state { back_state result ≡ committed_in self.core self.seen }
     {
         let head = self.head;
         self.enter_at(seat, head)

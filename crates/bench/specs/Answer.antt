@@ -17,11 +17,6 @@ use Rattle.bench.specs.declared.outcome.Status.TheVariants.{Break, Stopped, Text
 abbrev pub most_taken : ℕ
 most_taken = 4194305
 
--- the end of a run as its ending and state
-abbrev pub end_state : End → Ending × State
-end_state e =
-    (e.outcome, record { registers = e.registers; memory = e.memory.items; pc = e.pc; count = e.n })
-
 -- the report of a run
 abbrev pub report_of_run : Ending × State → List ℕ
 report_of_run e = report e.0 e.1.count e.1.pc e.1.registers e.1.memory

@@ -6,15 +6,16 @@ use Rattle.unit.specs.declared.station.Station.{Station}
 use Rattle.charts.specs.declared.event.Event.{Event}
 use Rattle.charts.specs.declared.row.Row.{Row}
 use Rattle.charts.specs.Events.{entry_events, events, left_events, moved_events}
-use Rattle.charts.specs.Rows.{Kept, all_seen, counted, newcomer, next_kept, raised, retires, staying, with_row}
+use Rattle.charts.specs.Rows.{SoFar, all_seen, newcomer, next_kept, retires, staying, with_row}
+use Rattle.devices.specs.Counted.{counted, raised}
 
 -- the rows that stay, as the turn left them
-seen_rows : (k : Kept) (answer : Turn) (W : List Station) (turn : ℕ) (stay later : List Row) → turn ≡ raised k.turns →
+seen_rows : (k : SoFar) (answer : Turn) (W : List Station) (turn : ℕ) (stay later : List Row) → turn ≡ raised k.turns →
     stay ≡ staying answer (length W) k.rows → later ≡ all_seen turn W 0 stay →
     later ≡ all_seen (raised k.turns) W 0 (staying answer (length W) k.rows)
 seen_rows k answer W turn stay later t s e = e ∙ ap (λ n. all_seen n W 0 stay) t ∙ ap (all_seen (raised k.turns) W 0) s
 
-pub turn_events : (k : Kept) (answer : Turn) (W : List Station) (turn : ℕ) (new : Option Row) (none left moved all : List Event) (stay later :
+pub turn_events : (k : SoFar) (answer : Turn) (W : List Station) (turn : ℕ) (new : Option Row) (none left moved all : List Event) (stay later :
     List Row) → turn ≡ raised k.turns → new ≡ newcomer k answer W → none ≡ [] →
     left ≡ none ++ left_events answer (length W) k.retirements k.rows → stay ≡ staying answer (length W) k.rows →
     moved ≡ left ++ moved_events W 0 stay → later ≡ all_seen turn W 0 stay → all ≡ moved ++ entry_events later new → all ≡ events k answer W
@@ -29,7 +30,7 @@ turn_events k answer W turn new none left moved all stay later t n nothing leave
     ∙ ap (λ s. gone ++ (moved_events W 0 kept ++ entry_events s new)) (seen_rows k answer W turn stay later t stays seen)
     ∙ ap (λ o. gone ++ (moved_events W 0 kept ++ entry_events rows o)) n
 
-pub turn_kept : (k : Kept) (answer : Turn) (W : List Station) (turn lets retired : ℕ) (new : Option Row) (stay later rows : List Row) →
+pub turn_kept : (k : SoFar) (answer : Turn) (W : List Station) (turn lets retired : ℕ) (new : Option Row) (stay later rows : List Row) →
     turn ≡ raised k.turns → new ≡ newcomer k answer W → lets ≡ counted (is_some new) k.lets →
     retired ≡ counted (retires answer (length W) (length k.rows)) k.retirements → stay ≡ staying answer (length W) k.rows →
     later ≡ all_seen turn W 0 stay → rows ≡ with_row later new →
@@ -39,7 +40,7 @@ turn_kept k answer W turn lets retired new stay later rows t n l r stays seen jo
     ∙ ap (with_row (all_seen (raised k.turns) W 0 (staying answer (length W) k.rows))) n in
     let counts : lets ≡ counted (is_some (newcomer k answer W)) k.lets = l ∙ ap (λ o. counted (is_some o) k.lets) n in
     let made : (turns lets' retirements : ℕ) (all : List Row) →
-    Kept = λ turns lets' retirements all. record { turns = turns; lets = lets'; retirements = retirements; rows = all } in
+    SoFar = λ turns lets' retirements all. record { turns = turns; lets = lets'; retirements = retirements; rows = all } in
     ap (λ x. made x lets retired rows) t
     ∙ ap (λ x. made (raised k.turns) x retired rows) counts
     ∙ ap (λ x. made (raised k.turns) (counted (is_some (newcomer k answer W)) k.lets) x rows) r

@@ -14,11 +14,12 @@ use Rattle.unit.specs.Turns.{Before, Does, Now, Nowhere}
 use Rattle.unit.specs.Window.{window}
 use Rattle.charts.specs.declared.event.Event.TheVariants.{Moved}
 use Rattle.charts.specs.declared.row.Row.{Row}
-use Rattle.charts.specs.Events.{entry_events, events, is_same, left_events, moved, moved_events, retirement, squash, squashes}
-use Rattle.charts.specs.Happened.{Happened, HasLeft, StandsAs}
+use Rattle.charts.specs.Events.{entry_events, events, is_same, left_events, went_on, moved_events, retirement, squash, squashes}
+use Rattle.charts.specs.Happened.{Happened, HasGone, StandsAs}
 use Rattle.charts.specs.Named.{IsRowOf, StandsIn, live_positions}
-use Rattle.charts.specs.Rows.{Kept, all_seen, is_recovery, let_row, newcomer, phase_of, raised, retires as leaves_one, staying}
-use Rattle.charts.specs.Watched.{AreTurns, Passed, behind, events_at, kept_behind}
+use Rattle.charts.specs.Rows.{SoFar, all_seen, is_recovery, let_row, newcomer, phase_of, retires as leaves_one, staying}
+use Rattle.charts.specs.Watched.{AreTurns, Passed, unit_behind, events_at, kept_behind}
+use Rattle.devices.specs.Counted.{raised}
 use Rattle.charts.proofs.LivePositions.{Fewer, OneLess, OneMore}
 use Rattle.charts.proofs.RowsNamed.{Named, as_before, each_row, fewer_left, matched, named, one_less, position_of, positions_length, row_count, stands_at}
 use Rattle.charts.proofs.TurnPositions.{grows, lets, loads, recovers, retires, runs}
@@ -74,7 +75,7 @@ module _ (P : Program) (us vs : List Tenant) where
       let same : first ≡ r.position = cc in
       (record { stood = h.0; left = subst (λ p. StandsAs vs p HasRetired) same left }, tt)
 
-  squashes_happened : (rows : List Row) (live n : ℕ) → ((i : ℕ) (r : Row) → live ≤ i → slice_get rows i ≡ Some r → HasLeft P us vs r Squashed) →
+  squashes_happened : (rows : List Row) (live n : ℕ) → ((i : ℕ) (r : Row) → live ≤ i → slice_get rows i ≡ Some r → HasGone P us vs r Squashed) →
       AllByRecursion (Happened P us vs) (squashes live rows n)
   squashes_happened rows live zero f = tt
   squashes_happened rows live (suc n) f = go (nat_lt n live) refl (squashes_happened rows live n f)
@@ -96,12 +97,12 @@ module _ (P : Program) (us vs : List Tenant) where
       AllByRecursion (Happened P us vs) (moved_events W i rows)
   moves_happened W i [] h f = tt
   moves_happened W i (r ∷ rs) h f =
-      all_both (Happened P us vs) (moved r (slice_get W i)) (moved_events W (i + 1) rs) (one (slice_get W i) refl) (moves_happened W (i + 1) rs h.1 more)
+      all_both (Happened P us vs) (went_on r (slice_get W i)) (moved_events W (i + 1) rs) (one (slice_get W i) refl) (moves_happened W (i + 1) rs h.1 more)
     where
       more : (j : ℕ) (s : Row) (w : Station) → slice_get rs j ≡ Some s → slice_get W (i + 1 + j) ≡ Some w → StandsIn P vs s.position w
       more j s w e g = let next : i + suc j ≡ i + 1 + j = omega arith in f (suc j) s w e (ap (slice_get W) next ∙ g)
 
-      one : (o : Option Station) → slice_get W i ≡ o → AllByRecursion (Happened P us vs) (moved r o)
+      one : (o : Option Station) → slice_get W i ≡ o → AllByRecursion (Happened P us vs) (went_on r o)
       one None e = tt
       one (Some w) e = go (is_same (phase_of r.station.stage) (phase_of w.stage))
         where
@@ -131,7 +132,7 @@ module _ (P : Program) (us vs : List Tenant) where
       go false false = h
 
   -- all that is told, where those who stay have these positions
-  together : (k : Kept) (answer : Turn) (extra : List ℕ) → AllByRecursion (IsRowOf P us) k.rows →
+  together : (k : SoFar) (answer : Turn) (extra : List ℕ) → AllByRecursion (IsRowOf P us) k.rows →
       map position_of (staying answer (length (window P vs)) k.rows) ++ extra ≡ live_positions vs →
       AllByRecursion (Happened P us vs) (left_events answer (length (window P vs)) k.retirements k.rows) →
       AllByRecursion (Happened P us vs)
@@ -151,7 +152,7 @@ module _ (P : Program) (us vs : List Tenant) where
       all_both (Happened P us vs) went (moved_events W 0 rows ++ came) left
       (all_both (Happened P us vs) (moved_events W 0 rows) came (moves_happened W 0 rows (some_stay answer (length W) k.rows h) there) entry)
 
-module _ (P : Program) (C : Sizes) (U V : UpdateUnit) (k : Kept) (n : Named P U.tenants k) where
+module _ (P : Program) (C : Sizes) (U V : UpdateUnit) (k : SoFar) (n : Named P U.tenants k) where
   each : AllByRecursion (IsRowOf P U.tenants) k.rows
   each = each_row P U.tenants k n
 
@@ -183,7 +184,7 @@ module _ (P : Program) (C : Sizes) (U V : UpdateUnit) (k : Kept) (n : Named P U.
       AllByRecursion (Happened P U.tenants V.tenants) (squashes (length (window P V.tenants)) k.rows (length k.rows))
   some_left f = squashes_happened P U.tenants V.tenants k.rows (length (window P V.tenants)) (length k.rows) gone
     where
-      gone : (i : ℕ) (r : Row) → length (window P V.tenants) ≤ i → slice_get k.rows i ≡ Some r → HasLeft P U.tenants V.tenants r Squashed
+      gone : (i : ℕ) (r : Row) → length (window P V.tenants) ≤ i → slice_get k.rows i ≡ Some r → HasGone P U.tenants V.tenants r Squashed
       gone i r l e =
           let at_i : slice_get (live_positions V.tenants ++ f.gone) i ≡ Some r.position =
           ap (λ x. slice_get x i) (sym (n.positions ∙ f.positions)) ∙ get_position k.rows i r e in
@@ -241,7 +242,7 @@ module _ (P : Program) (C : Sizes) (U V : UpdateUnit) (k : Kept) (n : Named P U.
       together P U.tenants V.tenants k (Over c) [] each (all_of (staying (Over c) (length (window P V.tenants)) k.rows) (as_before P C U V k n same)) (none_left same) tt
 
 pub all_happened : (P : Program) (C : Sizes) (turns : List Passed) (t : Passed) → AreTurns P C (t ∷ turns) → length t.unit.tenants < 2 ^ 64 →
-    AllByRecursion (Happened P (behind turns).tenants t.unit.tenants) (events_at P turns t)
+    AllByRecursion (Happened P (unit_behind turns).tenants t.unit.tenants) (events_at P turns t)
 all_happened P C turns t a small =
-    let more = grows P C (behind turns) t.unit t.answer a.1 in
-    happened P C (behind turns) t.unit (kept_behind P turns) (named P C turns a.0 (omega (arith, more, small))) t.answer a.1
+    let more = grows P C (unit_behind turns) t.unit t.answer a.1 in
+    happened P C (unit_behind turns) t.unit (kept_behind P turns) (named P C turns a.0 (omega (arith, more, small))) t.answer a.1

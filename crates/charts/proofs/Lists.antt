@@ -8,7 +8,7 @@ use Rattle.charts.specs.declared.event.Event.{Event}
 use Rattle.charts.specs.declared.row.Row.{Row}
 use Rattle.unit.specs.declared.station.Station.{Station}
 use Rattle.charts.specs.Rows.{all_seen, listed, seen_in}
-use Rattle.charts.specs.Events.{moved, moved_events, squash, squashes}
+use Rattle.charts.specs.Events.{went_on, moved_events, squash, squashes}
 
 not_less : (n live : ℕ) → live ≤ n → nat_lt n live ≡ false
 not_less n live h = grind (arith, h)
@@ -49,12 +49,12 @@ seen_goes_on turn W i rows r s o later new whole less is there says made so_far 
 
 -- the events of one more row
 pub moves_go_on : (W : List Station) (i : ℕ) (rows : List Row) (r : Row) (o : Option Station) (before new whole : List Event) →
-    i < length rows → r ≡ get_or rows i r → o ≡ slice_get W i → new ≡ before ++ moved r o → before ++ moved_events W i (drop i rows) ≡ whole →
+    i < length rows → r ≡ get_or rows i r → o ≡ slice_get W i → new ≡ before ++ went_on r o → before ++ moved_events W i (drop i rows) ≡ whole →
     new ++ moved_events W (i + 1) (drop (i + 1) rows) ≡ whole
 moves_go_on W i rows r o before new whole less is there made so_far =
     let rest = moved_events W (i + 1) (drop (i + 1) rows) in
-    ap (λ l. l ++ rest) (made ∙ ap (λ x. before ++ moved r x) there)
-    ∙ append_assoc before (moved r (slice_get W i)) rest
+    ap (λ l. l ++ rest) (made ∙ ap (λ x. before ++ went_on r x) there)
+    ∙ append_assoc before (went_on r (slice_get W i)) rest
     ∙ ap (λ l. before ++ moved_events W i l) (sym (dropped rows i r less is))
     ∙ so_far
 

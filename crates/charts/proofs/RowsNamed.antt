@@ -17,8 +17,9 @@ use Rattle.unit.specs.Turns.{Before, Does, Now, Nowhere}
 use Rattle.unit.specs.Window.{station_of, window}
 use Rattle.charts.specs.declared.row.Row.{Row}
 use Rattle.charts.specs.Named.{AreNamed, IsRowOf, StandsIn, live_positions}
-use Rattle.charts.specs.Rows.{Kept, all_seen, counted, let_row, listed, newcomer, next_kept, raised, seen_in, staying, with_row}
-use Rattle.charts.specs.Watched.{AreTurns, Passed, behind, kept_behind}
+use Rattle.charts.specs.Rows.{SoFar, all_seen, let_row, listed, newcomer, next_kept, seen_in, staying, with_row}
+use Rattle.charts.specs.Watched.{AreTurns, Passed, unit_behind, kept_behind}
+use Rattle.devices.specs.Counted.{counted, raised}
 use Rattle.charts.proofs.LivePositions.{Fewer, OneLess, OneMore}
 use Rattle.charts.proofs.Lists.{take_next}
 use Rattle.charts.proofs.TurnPositions.{grows, lets, loads, recovers, retires, runs}
@@ -74,12 +75,12 @@ seen_stations turn W i (r ∷ rs) h =
     ∙ ap (take (suc (length rs))) (sym (drop_there W i w there.1))
 
 -- The rows are those of the live tenants
-pub record Named (P : Program) (ts : List Tenant) (k : Kept) : Type 0 where
+pub record Named (P : Program) (ts : List Tenant) (k : SoFar) : Type 0 where
   pub lets : k.lets ≡ length ts
   pub positions : map position_of k.rows ≡ live_positions ts
   pub stations : map station_in k.rows ≡ window P ts
 
-module _ (P : Program) (C : Sizes) (U V : UpdateUnit) (k : Kept) (n : Named P U.tenants k) where
+module _ (P : Program) (C : Sizes) (U V : UpdateUnit) (k : SoFar) (n : Named P U.tenants k) where
   pub row_count : length k.rows ≡ length (live_positions U.tenants)
   row_count = sym (length-map k.rows position_of) ∙ ap (λ l. length l) n.positions
 
@@ -171,12 +172,12 @@ module _ (P : Program) (C : Sizes) (U V : UpdateUnit) (k : Kept) (n : Named P U.
   next (Over c) (Now r stopped) small = let o = retires P C U V r in plain_next (Over c) o.count refl (one_less o)
   next (Over c) (Nowhere bad nowhere same) small = plain_next (Over c) (ap (λ X. length X.tenants) same) refl (as_before same)
 
-pub named : (P : Program) (C : Sizes) (turns : List Passed) → AreTurns P C turns → length (behind turns).tenants < 2 ^ 64 →
-    Named P (behind turns).tenants (kept_behind P turns)
+pub named : (P : Program) (C : Sizes) (turns : List Passed) → AreTurns P C turns → length (unit_behind turns).tenants < 2 ^ 64 →
+    Named P (unit_behind turns).tenants (kept_behind P turns)
 named P C [] a small = record { lets = refl; positions = refl; stations = refl }
 named P C (t ∷ ts) a small =
-    let more = grows P C (behind ts) t.unit t.answer a.1 in
-    next P C (behind ts) t.unit (kept_behind P ts) (named P C ts a.0 (omega (arith, more, small))) t.answer a.1 small
+    let more = grows P C (unit_behind ts) t.unit t.answer a.1 in
+    next P C (unit_behind ts) t.unit (kept_behind P ts) (named P C ts a.0 (omega (arith, more, small))) t.answer a.1 small
 
 -- Row by row
 
@@ -238,14 +239,14 @@ unfolding Matched
 row_by_row P ts [] m = tt
 row_by_row P ts (r ∷ rs) m = (m.0, row_by_row P ts rs m.1)
 
-pub each_row : (P : Program) (ts : List Tenant) (k : Kept) → Named P ts k → AllByRecursion (IsRowOf P ts) k.rows
+pub each_row : (P : Program) (ts : List Tenant) (k : SoFar) → Named P ts k → AllByRecursion (IsRowOf P ts) k.rows
 each_row P ts k n =
     row_by_row P ts k.rows
     (subst (λ ps. Matched P ts ps (map station_in k.rows)) (sym n.positions)
     (subst (Matched P ts (live_positions ts)) (sym n.stations) (matched P ts)))
 
-pub rows_are_named : (P : Program) (C : Sizes) (turns : List Passed) → AreTurns P C turns → length (behind turns).tenants < 2 ^ 64 →
-    AreNamed P (behind turns).tenants (kept_behind P turns).rows
+pub rows_are_named : (P : Program) (C : Sizes) (turns : List Passed) → AreTurns P C turns → length (unit_behind turns).tenants < 2 ^ 64 →
+    AreNamed P (unit_behind turns).tenants (kept_behind P turns).rows
 rows_are_named P C turns a small =
     let n = named P C turns a small in
-    record { positions = n.positions; each = each_row P (behind turns).tenants (kept_behind P turns) n }
+    record { positions = n.positions; each = each_row P (unit_behind turns).tenants (kept_behind P turns) n }

@@ -4,7 +4,7 @@ use Rattle.std.proofs.KnownBytes.{Appends-trans}
 use Rattle.std.proofs.Math.Seq.{take-append-add}
 use Rattle.std.proofs.lemmas.List.{append-nil, take-append-le}
 use Rattle.std.specs.Io.KnownBytes.{Appends}
-use Rattle.devices.specs.Counted.{GivesPart}
+use Rattle.devices.specs.Counted.{GivesPart, raised}
 use Rattle.devices.specs.declared.counted.Counted.{Counted}
 use Rattle.instructions.specs.declared.end.End.{End}
 use Rattle.instructions.specs.declared.instr.Instr.{Instr}
@@ -26,9 +26,9 @@ use Rattle.unit.specs.Turns.{BenchFields, Does, Falls, IsSame, IsTurn, Moves, Tr
 use Rattle.unit.specs.Window.{window}
 use Rattle.charts.specs.declared.telling.Format.{Format}
 use Rattle.charts.specs.Events.{events}
-use Rattle.charts.specs.Rows.{Kept, next_kept, raised, start_kept}
+use Rattle.charts.specs.Rows.{SoFar, next_kept, start_kept}
 use Rattle.charts.specs.Telling.{first_text, last_text, turn_text}
-use Rattle.charts.specs.Watched.{GivesUpTo, IsBegun, IsTold, Passed, Stood, behind, events_at, kept_behind, sizes_of, told}
+use Rattle.charts.specs.Watched.{GivesUpTo, IsBegun, IsTold, Passed, Stood, unit_behind, events_at, kept_behind, sizes_by, told}
 
 -- Beginnings
 
@@ -56,7 +56,7 @@ sizes_same b later e =
     ∙ ap (λ n. record (sizes later) { ring = b.ring; queue = b.queue; first_tag = n }) e.first_tag
 
 -- what is said of a turn, by the fields and by the unit
-same_text : (f : Format) (P : Program) (k : Kept) (ts : List Passed) (answer : Turn) (W : List Station) (U : UpdateUnit) →
+same_text : (f : Format) (P : Program) (k : SoFar) (ts : List Passed) (answer : Turn) (W : List Station) (U : UpdateUnit) →
     k ≡ kept_behind P ts → W ≡ window P U.tenants →
     turn_text f (raised k.turns) (events k answer W) ≡ turn_text f (raised (kept_behind P ts).turns) (events_at P ts (record {
       answer = answer;
@@ -66,7 +66,7 @@ same_text f P k ts answer W U kept shows =
     ap (λ x. turn_text f (raised x.turns) (events x answer W)) kept
     ∙ ap (λ w. turn_text f (raised (kept_behind P ts).turns) (events (kept_behind P ts) answer w)) shows
 
-sizes_are : (b : Pipeline) (c : Settings) → b.ring ≡ c.ring → b.queue ≡ c.queue → b.first_tag ≡ c.first_tag → sizes b ≡ sizes_of c
+sizes_are : (b : Pipeline) (c : Settings) → b.ring ≡ c.ring → b.queue ≡ c.queue → b.first_tag ≡ c.first_tag → sizes b ≡ sizes_by c
 sizes_are b c r q t =
     ap (λ n. record (sizes b) { ring = n }) r
     ∙ ap (λ n. record (sizes b) { ring = c.ring; queue = n }) q
@@ -80,29 +80,29 @@ module _ {S : Type 0} (Predicts : S → ℕ → Instr → ℕ → S → Type 0) 
     pub unit : UpdateUnit
     pub reached : IsReached P C unit
     pub stands : StandsFor later.pipeline unit
-    pub does : Does P C (behind ts) unit answer
-    pub trains : Trains Predicts Learns P (behind ts) unit answer b.predictor later.predictor
+    pub does : Does P C (unit_behind ts) unit answer
+    pub trains : Trains Predicts Learns P (unit_behind ts) unit answer b.predictor later.predictor
     pub shows : later.pipeline.window ≡ window P unit.tenants
 
   has_passed : (P : Program) (C : Sizes) (b later : BenchFields S) (ts : List Passed) (answer : Turn) → b.pipeline.program.now ≡ P →
-      sizes b.pipeline ≡ C → later.pipeline.program.now ≡ P → IsReached P C (behind ts) → StandsFor b.pipeline (behind ts) →
+      sizes b.pipeline ≡ C → later.pipeline.program.now ≡ P → IsReached P C (unit_behind ts) → StandsFor b.pipeline (unit_behind ts) →
       IsTurn Predicts Learns b answer later → HasPassed P C b later ts answer
-  has_passed P C b later ts answer program size same r s turned = go (turned (behind ts) before s)
+  has_passed P C b later ts answer program size same r s turned = go (turned (unit_behind ts) before s)
     where
-      before : IsReached b.pipeline.program.now (sizes b.pipeline) (behind ts)
-      before = subst (λ Q. IsReached Q (sizes b.pipeline) (behind ts)) (sym program) (subst (λ D. IsReached P D (behind ts)) (sym size) r)
+      before : IsReached b.pipeline.program.now (sizes b.pipeline) (unit_behind ts)
+      before = subst (λ Q. IsReached Q (sizes b.pipeline) (unit_behind ts)) (sym program) (subst (λ D. IsReached P D (unit_behind ts)) (sym size) r)
 
-      go : Turned Predicts Learns b (behind ts) answer later → HasPassed P C b later ts answer
+      go : Turned Predicts Learns b (unit_behind ts) answer later → HasPassed P C b later ts answer
       go m = record {
         unit = m.unit;
         reached = subst (λ D. IsReached P D m.unit) size (subst (λ Q. IsReached Q (sizes b.pipeline) m.unit) program m.reached);
         stands = m.stands;
-        does = subst (λ D. Does P D (behind ts) m.unit answer) size (subst (λ Q. Does Q (sizes b.pipeline) (behind ts) m.unit answer) program m.does);
-        trains = subst (λ Q. Trains Predicts Learns Q (behind ts) m.unit answer b.predictor later.predictor) program m.trains;
+        does = subst (λ D. Does P D (unit_behind ts) m.unit answer) size (subst (λ Q. Does Q (sizes b.pipeline) (unit_behind ts) m.unit answer) program m.does);
+        trains = subst (λ Q. Trains Predicts Learns Q (unit_behind ts) m.unit answer b.predictor later.predictor) program m.trains;
         shows = m.stands.window ∙ ap (λ Q. window Q m.unit.tenants) same;
       }
 
-  pub stood_next : (f : Format) (P : Program) (C : Sizes) (b later : BenchFields S) (k k' : Kept) (answer : Turn) (first : S)
+  pub stood_next : (f : Format) (P : Program) (C : Sizes) (b later : BenchFields S) (k k' : SoFar) (answer : Turn) (first : S)
       (start now new : Option (List ℕ)) → IsTurn Predicts Learns b answer later → IsSame b.pipeline later.pipeline →
       k' ≡ next_kept k answer later.pipeline.window →
       Appends now new (turn_text f (raised k.turns) (events k answer later.pipeline.window)) →
@@ -130,7 +130,7 @@ module _ {S : Type 0} (Predicts : S → ℕ → Instr → ℕ → S → Type 0) 
           }
 
   -- a turn that was told in part, or not at all
-  pub stood_part : (f : Format) (P : Program) (C : Sizes) (b later : BenchFields S) (k : Kept) (answer : Turn) (first : S)
+  pub stood_part : (f : Format) (P : Program) (C : Sizes) (b later : BenchFields S) (k : SoFar) (answer : Turn) (first : S)
       (start now new : Option (List ℕ)) (n : ℕ) → IsTurn Predicts Learns b answer later → IsSame b.pipeline later.pipeline →
       n ≤ length (turn_text f (raised k.turns) (events k answer later.pipeline.window)) →
       Appends now new (take n (turn_text f (raised k.turns) (events k answer later.pipeline.window))) →
@@ -162,7 +162,7 @@ module _ {S : Type 0} (Predicts : S → ℕ → Instr → ℕ → S → Type 0) 
 
   -- The first lines, and the last ones
 
-  pub stood_first : (f : Format) (P : Program) (C : Sizes) (b : BenchFields S) (k : Kept) (first : S) (start now : Option (List ℕ)) →
+  pub stood_first : (f : Format) (P : Program) (C : Sizes) (b : BenchFields S) (k : SoFar) (first : S) (start now : Option (List ℕ)) →
       b.pipeline.program.now ≡ P → sizes b.pipeline ≡ C → StandsFor b.pipeline empty_unit → k ≡ start_kept → b.predictor ≡ first →
       Appends start now (first_text f) → Stood Predicts Learns f P C b k first start now
   stood_first f P C b k first start now program size fresh none untold says = record {
@@ -188,7 +188,7 @@ module _ {S : Type 0} (Predicts : S → ℕ → Instr → ℕ → S → Type 0) 
     says = subst (Appends start new) (sym (take-append-le n (first_text f) (last_text f start_kept) inside)) says;
   }
 
-  pub last_part : (f : Format) (P : Program) (C : Sizes) (b : BenchFields S) (k : Kept) (first : S) (start now new : Option (List ℕ)) (n : ℕ) →
+  pub last_part : (f : Format) (P : Program) (C : Sizes) (b : BenchFields S) (k : SoFar) (first : S) (start now new : Option (List ℕ)) (n : ℕ) →
       n ≤ length (last_text f k) → Appends now new (take n (last_text f k)) → Stood Predicts Learns f P C b k first start now →
       IsBegun Predicts Learns f P C first start new
   last_part f P C b k first start now new n inside says s =
@@ -207,14 +207,14 @@ module _ {S : Type 0} (Predicts : S → ℕ → Instr → ℕ → S → Type 0) 
 
   -- All was told
 
-  pub stood_start : (f : Format) (P : Program) (c : Settings) (b : BenchFields S) (k : Kept) (first : S) (start now : Option (List ℕ)) →
+  pub stood_start : (f : Format) (P : Program) (c : Settings) (b : BenchFields S) (k : SoFar) (first : S) (start now : Option (List ℕ)) →
       b.pipeline.program.now ≡ P → b.pipeline.ring ≡ c.ring → b.pipeline.queue ≡ c.queue → b.pipeline.first_tag ≡ c.first_tag →
       StandsFor b.pipeline empty_unit → k ≡ start_kept → b.predictor ≡ first →
-      Appends start now (first_text f) → Stood Predicts Learns f P (sizes_of c) b k first start now
+      Appends start now (first_text f) → Stood Predicts Learns f P (sizes_by c) b k first start now
   stood_start f P c b k first start now program r q t fresh none untold says =
-      stood_first f P (sizes_of c) b k first start now program (sizes_are b.pipeline c r q t) fresh none untold says
+      stood_first f P (sizes_by c) b k first start now program (sizes_are b.pipeline c r q t) fresh none untold says
 
-  pub all_told : (f : Format) (P : Program) (C : Sizes) (b : BenchFields S) (k : Kept) (first : S) (start now new : Option (List ℕ)) (end : End)
+  pub all_told : (f : Format) (P : Program) (C : Sizes) (b : BenchFields S) (k : SoFar) (first : S) (start now new : Option (List ℕ)) (end : End)
       (limit : ℕ) → Stood Predicts Learns f P C b k first start now → Appends now new (last_text f k) →
       (run_from b.pipeline limit).1 ≡ b.pipeline.committed → end_state end ≡ run_from b.pipeline limit →
       IsTold Predicts Learns f P C first (end_state end).1 start new
@@ -223,7 +223,7 @@ module _ {S : Type 0} (Predicts : S → ℕ → Instr → ℕ → S → Type 0) 
     are = s.are;
     last = b.predictor;
     guessed = s.guessed;
-    ends = sym (s.stands.committed ∙ ap (λ Q. committed Q (behind s.turns).tenants) s.program) ∙ sym stays ∙ ap (λ e. e.1) (sym ends);
+    ends = sym (s.stands.committed ∙ ap (λ Q. committed Q (unit_behind s.turns).tenants) s.program) ∙ sym stays ∙ ap (λ e. e.1) (sym ends);
     says = Appends-trans start now new (told f P s.turns) (last_text f (kept_behind P s.turns)) s.says (subst (λ x. Appends now new (last_text f x)) s.kept says);
   }
 

@@ -19,13 +19,13 @@ times zero text = []
 times (suc n) text = text ++ times n text
 
 -- Which half of an instruction a tenant is, where that has two
-abbrev pub half_text : Instr → Half → List ℕ
-half_text i High = codes " hi"
-half_text i Low = if is_first_half i.op Low then codes " lo" else []
+abbrev pub half_label : Instr → Half → List ℕ
+half_label i High = codes " hi"
+half_label i Low = if is_first_half i.op Low then codes " lo" else []
 
 -- The instruction of a tenant, or its half
 abbrev pub tenant_text : Station → List ℕ
-tenant_text w = instr_text w.instr ++ half_text w.instr w.half
+tenant_text w = instr_text w.instr ++ half_label w.instr w.half
 
 -- In this many columns
 abbrev pub columns : ℕ

@@ -9,7 +9,8 @@ use Rattle.charts.specs.declared.event.Way.TheVariants.{Retired, Squashed}
 use Rattle.charts.specs.declared.row.Phase.{Phase}
 use Rattle.charts.specs.declared.row.Phase.TheVariants.{Waiting, Address, Done, Miss, Stop}
 use Rattle.charts.specs.declared.row.Row.{Row}
-use Rattle.charts.specs.Rows.{Kept, all_seen, awaited, is_recovery, newcomer, phase_of, raised, retires, staying}
+use Rattle.charts.specs.Rows.{SoFar, all_seen, awaited, is_recovery, newcomer, phase_of, retires, staying}
+use Rattle.devices.specs.Counted.{raised}
 
 -- A tenant was squashed, if there is one
 abbrev pub squash : Option Row → List Event
@@ -43,30 +44,30 @@ is_same Stop Stop = true
 is_same _ _ = false
 
 -- A tenant has gone on, if its station says so
-abbrev pub moved : Row → Option Station → List Event
-moved r None = []
-moved r (Some w) =
+abbrev pub went_on : Row → Option Station → List Event
+went_on r None = []
+went_on r (Some w) =
     if is_same (phase_of r.station.stage) (phase_of w.stage) then []
     else Moved r.position (phase_of r.station.stage) (phase_of w.stage) ∷ []
 
 -- Who has gone on, where the first of these is at place i of the window
 abbrev pub moved_events : List Station → (i : ℕ) → List Row → List Event
 moved_events W i [] = []
-moved_events W i (r ∷ rs) = moved r (slice_get W i) ++ moved_events W (i + 1) rs
+moved_events W i (r ∷ rs) = went_on r (slice_get W i) ++ moved_events W (i + 1) rs
 
 -- A tenant was let, and waits for others
-abbrev pub entry : List Row → Row → Event
-entry rows r =
+abbrev pub let_event : List Row → Row → Event
+let_event rows r =
     Let r (awaited (first_of r.station.instr) rows) (awaited (second_of r.station.instr) rows)
 
 -- Who was let, if anybody was
 abbrev pub entry_events : List Row → Option Row → List Event
 entry_events rows None = []
-entry_events rows (Some r) = entry rows r ∷ []
+entry_events rows (Some r) = let_event rows r ∷ []
 
 -- What became of the tenants at a turn that left this window: who has left, then who has gone on,
 -- then who was let
-abbrev pub events : Kept → Turn → List Station → List Event
+abbrev pub events : SoFar → Turn → List Station → List Event
 events k answer W =
     left_events answer (length W) k.retirements k.rows
     ++ (moved_events W 0 (staying answer (length W) k.rows)

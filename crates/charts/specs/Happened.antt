@@ -34,7 +34,7 @@ pub record HasGoneOn (P : Program) (before behind : List Tenant) (position : ℕ
   pub to_is : to ≡ phase_of new.stage
 
 -- It was live, and has left
-pub record HasLeft (P : Program) (before behind : List Tenant) (r : Row) (standing : Standing) : Type 0 where
+pub record HasGone (P : Program) (before behind : List Tenant) (r : Row) (standing : Standing) : Type 0 where
   pub stood : IsRowOf P before r
   pub left : StandsAs behind r.position standing
 
@@ -42,5 +42,5 @@ pub record HasLeft (P : Program) (before behind : List Tenant) (r : Row) (standi
 abbrev pub Happened : Program → List Tenant → List Tenant → Event → Type 0
 Happened P before behind (Let r first second) = WasLet P before behind r
 Happened P before behind (Moved position from to) = HasGoneOn P before behind position from to
-Happened P before behind (Left r (Retired others)) = HasLeft P before behind r tenant.Retired
-Happened P before behind (Left r Squashed) = HasLeft P before behind r tenant.Squashed
+Happened P before behind (Left r (Retired others)) = HasGone P before behind r tenant.Retired
+Happened P before behind (Left r Squashed) = HasGone P before behind r tenant.Squashed

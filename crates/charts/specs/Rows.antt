@@ -9,14 +9,7 @@ use Rattle.charts.specs.declared.row.Phase.{Phase}
 use Rattle.charts.specs.declared.row.Phase.TheVariants.{Waiting, Address, Done, Miss, Stop}
 use Rattle.charts.specs.declared.row.Row.{Row}
 use Rattle.charts.specs.declared.books.Books.{Books}
-
--- One more, up to the greatest number of 64 bits
-abbrev pub raised : ℕ → ℕ
-raised n = min (n + 1) (2 ^ 64 - 1)
-
--- One more, if there is one
-abbrev pub counted : (more : Bool) → ℕ → ℕ
-counted more n = if more then raised n else n
+use Rattle.devices.specs.Counted.{counted, raised}
 
 -- How far a tenant has come
 abbrev pub phase_of : Stage → Phase
@@ -33,10 +26,10 @@ ran_by turn Waiting _ ran = Some turn
 ran_by turn _ _ ran = ran
 
 -- The turn at which a load got its value, or a miss was mended
-abbrev pub settled_by : (turn : ℕ) → (before behind : Phase) → Option ℕ → Option ℕ
-settled_by turn Address Done settled = Some turn
-settled_by turn Miss Done settled = Some turn
-settled_by turn _ _ settled = settled
+abbrev pub settled_turn : (turn : ℕ) → (before behind : Phase) → Option ℕ → Option ℕ
+settled_turn turn Address Done settled = Some turn
+settled_turn turn Miss Done settled = Some turn
+settled_turn turn _ _ settled = settled
 
 -- A tenant behind a turn that left it in this station
 abbrev pub seen : (turn : ℕ) → Row → Station → Row
@@ -45,7 +38,7 @@ seen turn r w =
       position = r.position;
       let_at = r.let_at;
       ran = ran_by turn (phase_of r.station.stage) (phase_of w.stage) r.ran;
-      settled = settled_by turn (phase_of r.station.stage) (phase_of w.stage) r.settled;
+      settled = settled_turn turn (phase_of r.station.stage) (phase_of w.stage) r.settled;
       station = w;
     }
 
@@ -126,26 +119,26 @@ listed (Some w) = w ∷ []
 -- The books
 
 -- How many turns were made, tenants let and retired; and the live ones, the oldest first
-pub record Kept : Type 0 where
+pub record SoFar : Type 0 where
   pub turns : ℕ
   pub lets : ℕ
   pub retirements : ℕ
   pub rows : List Row
 
 -- What the books hold
-abbrev pub kept : Books → Kept
+abbrev pub kept : Books → SoFar
 kept b = record { turns = b.turns; lets = b.lets; retirements = b.retirements; rows = b.rows.items }
 
 -- Before the first turn
-abbrev pub start_kept : Kept
+abbrev pub start_kept : SoFar
 start_kept = record { turns = 0; lets = 0; retirements = 0; rows = [] }
 
 -- Who was let at a turn that left this window
-abbrev pub newcomer : Kept → Turn → List Station → Option Row
+abbrev pub newcomer : SoFar → Turn → List Station → Option Row
 newcomer k answer W = let_row answer (slice_get W (length k.rows)) k.lets (raised k.turns)
 
 -- The books behind a turn that left this window
-abbrev pub next_kept : Kept → Turn → List Station → Kept
+abbrev pub next_kept : SoFar → Turn → List Station → SoFar
 next_kept k answer W =
     record {
       turns = raised k.turns;

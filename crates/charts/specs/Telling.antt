@@ -6,7 +6,8 @@ use Rattle.charts.specs.declared.telling.Format.{Format}
 use Rattle.charts.specs.declared.telling.Format.TheVariants.{Chart, Kanata}
 use Rattle.charts.specs.Drawings.{line, live_lines, way_mark}
 use Rattle.charts.specs.Kanata.{event_lines, head, tick}
-use Rattle.charts.specs.Rows.{Kept, raised}
+use Rattle.charts.specs.Rows.{SoFar}
+use Rattle.devices.specs.Counted.{raised}
 
 -- Before the first turn
 abbrev pub first_text : Format → List ℕ
@@ -38,6 +39,6 @@ abbrev pub turn_text : Format → (turn : ℕ) → List Event → List ℕ
 turn_text f turn es = tick_text f ++ events_text f turn es
 
 -- Behind the last turn
-abbrev pub last_text : Format → Kept → List ℕ
+abbrev pub last_text : Format → SoFar → List ℕ
 last_text Chart k = live_lines (raised k.turns) k.rows
 last_text Kanata k = []

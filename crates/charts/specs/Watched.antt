@@ -1,7 +1,7 @@
 -- A run, turn by turn, and what is said of it.
 use Rattle.std.specs.Prelude.{⊤, ◌≡◌, ◌≤◌, length, ℕ, List, [], ◌∷◌, ◌++◌, take, Option}
 use Rattle.std.specs.Io.KnownBytes.{Appends}
-use Rattle.devices.specs.Counted.{Gives}
+use Rattle.devices.specs.Counted.{Gives, raised}
 use Rattle.devices.specs.declared.counted.Counted.{Counted}
 use Rattle.instructions.specs.Programs.{Program}
 use Rattle.instructions.specs.Settings.{Settings}
@@ -17,7 +17,7 @@ use Rattle.inorder.specs.Moves.{IsReached}
 use Rattle.charts.specs.declared.telling.Format.{Format}
 use Rattle.charts.specs.declared.event.Event.{Event}
 use Rattle.charts.specs.Events.{events}
-use Rattle.charts.specs.Rows.{Kept, next_kept, raised, start_kept}
+use Rattle.charts.specs.Rows.{SoFar, next_kept, start_kept}
 use Rattle.charts.specs.Telling.{first_text, last_text, turn_text}
 
 -- A turn that was made: its answer, and the unit behind it
@@ -26,18 +26,18 @@ pub record Passed : Type 0 where
   pub unit : UpdateUnit
 
 -- The unit behind these turns, the last one first
-abbrev pub behind : List Passed → UpdateUnit
-behind [] = empty_unit
-behind (t ∷ ts) = t.unit
+abbrev pub unit_behind : List Passed → UpdateUnit
+unit_behind [] = empty_unit
+unit_behind (t ∷ ts) = t.unit
 
 -- Each is a turn from the unit that the turns before it have left: legal steps, and the first that
 -- are possible
 abbrev pub AreTurns : Program → Sizes → List Passed → Type 0
 AreTurns P C [] = ⊤
-AreTurns P C (t ∷ ts) = AreTurns P C ts × Does P C (behind ts) t.unit t.answer
+AreTurns P C (t ∷ ts) = AreTurns P C ts × Does P C (unit_behind ts) t.unit t.answer
 
 -- What is kept of the tenants behind these turns
-abbrev pub kept_behind : Program → List Passed → Kept
+abbrev pub kept_behind : Program → List Passed → SoFar
 kept_behind P [] = start_kept
 kept_behind P (t ∷ ts) = next_kept (kept_behind P ts) t.answer (window P t.unit.tenants)
 
@@ -55,8 +55,8 @@ abbrev pub text : Format → Program → List Passed → List ℕ
 text f P ts = told f P ts ++ last_text f (kept_behind P ts)
 
 -- The sizes that a configuration gives a unit
-abbrev pub sizes_of : Settings → Sizes
-sizes_of c = record { ring = c.ring; queue = c.queue; first_tag = c.first_tag }
+abbrev pub sizes_by : Settings → Sizes
+sizes_by c = record { ring = c.ring; queue = c.queue; first_tag = c.first_tag }
 
 -- What is said of runs, by what a predictor says of being asked and told
 module _ {S : Type 0} (Predicts : S → ℕ → Instr → ℕ → S → Type 0) (Learns : S → ℕ → ℕ → S → Type 0) where
@@ -66,18 +66,18 @@ module _ {S : Type 0} (Predicts : S → ℕ → Instr → ℕ → S → Type 0) 
   HasGuessed P first [] last = last ≡ first
   HasGuessed P first (t ∷ ts) last =
       (before : S) × HasGuessed P first ts before
-      × Trains Predicts Learns P (behind ts) t.unit t.answer before last
+      × Trains Predicts Learns P (unit_behind ts) t.unit t.answer before last
 
   -- The bench stands for the unit behind some turns, and these were told
-  pub record Stood (f : Format) (P : Program) (C : Sizes) (b : BenchFields S) (k : Kept) (first : S)
+  pub record Stood (f : Format) (P : Program) (C : Sizes) (b : BenchFields S) (k : SoFar) (first : S)
       (start now : Option (List ℕ)) : Type 0 where
     pub program : b.pipeline.program.now ≡ P
     pub sizes : sizes b.pipeline ≡ C
     pub turns : List Passed
     pub are : AreTurns P C turns
     pub guessed : HasGuessed P first turns b.predictor
-    pub reached : IsReached P C (behind turns)
-    pub stands : StandsFor b.pipeline (behind turns)
+    pub reached : IsReached P C (unit_behind turns)
+    pub stands : StandsFor b.pipeline (unit_behind turns)
     pub kept : k ≡ kept_behind P turns
     pub says : Appends start now (told f P turns)
 
@@ -89,7 +89,7 @@ module _ {S : Type 0} (Predicts : S → ℕ → Instr → ℕ → S → Type 0) 
     pub are : AreTurns P C turns
     pub last : S
     pub guessed : HasGuessed P first turns last
-    pub ends : committed P (behind turns).tenants ≡ end
+    pub ends : committed P (unit_behind turns).tenants ≡ end
     pub says : Appends before after (text f P turns)
 
   -- Only a beginning was told of legal turns by its guesses

@@ -1,9 +1,10 @@
 //! The live tenants of a run, from turn to turn.
 ghost use Rattle.std.specs.Prelude.{◌≡◌, ◌++◌, OnOk, IfOk, length, slice_get};
-ghost use Rattle.charts.specs.Events.{entry_events, events, moved, moved_events};
-ghost use Rattle.charts.specs.Rows.{all_seen as all_seen_of, counted as counted_of, kept};
-ghost use Rattle.charts.specs.Rows.{let_row as let_row_of, next_kept, raised as raised_of};
+ghost use Rattle.charts.specs.Events.{entry_events, events, went_on, moved_events};
+ghost use Rattle.charts.specs.Rows.{all_seen as all_seen_of, kept};
+ghost use Rattle.charts.specs.Rows.{let_row as let_row_of, next_kept};
 ghost use Rattle.charts.specs.Rows.{seen_in, start_kept, with_row};
+ghost use Rattle.devices.specs.Counted.{counted as counted_of, raised as raised_of};
 
 use crate::event::Event;
 use crate::leaving::{leave, retires};
@@ -55,7 +56,7 @@ fn push_moved(
     station: Option<Station>,
 ) -> Result<(), AllocError>
     ensures { OnOk result (events.new.items
-        ≡ events.old.items ++ moved row.now station) }
+        ≡ events.old.items ++ went_on row.now station) }
 {
     let Some(station) = station else {
         return Ok(());

@@ -2,7 +2,7 @@
 ghost use Rattle.std.specs.Prelude.{◌≡◌, ◌++◌, ◌-◌, OnOk, string_bytes, length};
 ghost use Rattle.isa.specs.Report.{newline};
 ghost use Rattle.instructions.specs.Instruction.{kind as kind_of};
-ghost use Rattle.charts.specs.Drawings.{behind_ran, half_text as half_text_of, line, live_lines};
+ghost use Rattle.charts.specs.Drawings.{behind_ran, half_label, line, live_lines};
 ghost use Rattle.charts.specs.Drawings.{mark_behind, padded, picture};
 ghost use Rattle.charts.specs.Drawings.{settled_mark as settled_mark_of, tenant_text, times};
 
@@ -29,7 +29,7 @@ fn push_times(out: &mut String, n: u64, text: &str) -> Result<(), AllocError>
 
 /// Which half of an instruction a tenant is, where that has two.
 pub(crate) fn half_text(instr: &Instr, half: Half) -> &'static str
-    ensures { result.now ≡ half_text_of instr.now half }
+    ensures { result.now ≡ half_label instr.now half }
 {
     match half {
         Half::High => " hi",

@@ -5,14 +5,14 @@ ghost use Rattle.instructions.specs.Programs.{Program};
 ghost use Rattle.inorder.specs.Unit.{Sizes};
 ghost use Rattle.charts.specs.Happened.{Happened};
 ghost use Rattle.charts.specs.Named.{AreNamed};
-ghost use Rattle.charts.specs.Watched.{AreTurns, Passed, behind, events_at, kept_behind};
+ghost use Rattle.charts.specs.Watched.{AreTurns, Passed, unit_behind, events_at, kept_behind};
 
 /// Each row is that of the tenant at its position, which is live and stands in the row's station, and each live
 /// tenant has one: behind any turns, while tenants can be counted.
 pub fn a_row_names_its_tenant()
     ensures { (p : Program) (c : Sizes) (turns : List Passed) → AreTurns p c turns →
-        length (behind turns).tenants < 2 ^ 64 →
-        AreNamed p (behind turns).tenants (kept_behind p turns).rows }
+        length (unit_behind turns).tenants < 2 ^ 64 →
+        AreNamed p (unit_behind turns).tenants (kept_behind p turns).rows }
 {}
 
 /// Each event of a turn has become of the tenant that it names: who was let is the youngest, who has gone on was in
@@ -20,5 +20,6 @@ pub fn a_row_names_its_tenant()
 pub fn what_is_told_has_happened()
     ensures { (p : Program) (c : Sizes) (turns : List Passed) (t : Passed) →
         AreTurns p c (t ∷ turns) → length t.unit.tenants < 2 ^ 64 →
-        AllByRecursion (Happened p (behind turns).tenants t.unit.tenants) (events_at p turns t) }
+        AllByRecursion (Happened p (unit_behind turns).tenants t.unit.tenants)
+        (events_at p turns t) }
 {}

@@ -1,7 +1,7 @@
 //! What is kept of a live tenant.
 ghost use Rattle.std.specs.Prelude.{◌≡◌};
 ghost use Rattle.charts.specs.Events.{is_same as is_same_in};
-ghost use Rattle.charts.specs.Rows.{phase_of as phase_in, ran_by as ran_in, settled_by as settled_in, seen};
+ghost use Rattle.charts.specs.Rows.{phase_of as phase_in, ran_by as ran_in, settled_turn, seen};
 
 use unit::{Stage, Station};
 
@@ -73,7 +73,7 @@ fn ran_by(turn: u64, before: Phase, behind: Phase, ran: Option<u64>) -> Option<u
 }
 
 fn settled_by(turn: u64, before: Phase, behind: Phase, settled: Option<u64>) -> Option<u64>
-    ensures { result ≡ settled_in turn before behind settled }
+    ensures { result ≡ settled_turn turn before behind settled }
 {
     match (before, behind) {
         (Phase::Address, Phase::Done) => Some(turn),

@@ -1,6 +1,6 @@
 //! Whom a new tenant waits for.
 ghost use Rattle.std.specs.Prelude.{◌≡◌};
-ghost use Rattle.charts.specs.Events.{entry as entry_of};
+ghost use Rattle.charts.specs.Events.{let_event};
 ghost use Rattle.charts.specs.Rows.{awaited as awaited_of, unmade as unmade_of};
 ghost use Rattle.charts.specs.Rows.{writer_of as writer_in};
 
@@ -44,7 +44,7 @@ fn awaited(register: Reg, rows: &[Row]) -> Option<u64>
 
 /// It was let behind these.
 pub(crate) fn entry(rows: &[Row], row: &Row) -> Event
-    ensures { result ≡ entry_of rows.now row.now }
+    ensures { result ≡ let_event rows.now row.now }
 {
     let instr = &row.station.instr;
     let first = awaited(instr.first(), rows);

@@ -3,7 +3,7 @@ ghost use Rattle.std.specs.Prelude.{◌≡◌, ◌<◌, ◌+◌, ◌-◌, ◌^�
 ghost use Rattle.devices.specs.Counted.{failures_of, known_by};
 ghost use Rattle.inorder.specs.Runs.{end_of};
 ghost use Rattle.unit.specs.Changes.{end_state};
-ghost use Rattle.charts.specs.Watched.{IsBegun, IsTold, sizes_of};
+ghost use Rattle.charts.specs.Watched.{IsBegun, IsTold, sizes_by};
 ghost use Rattle.charts.specs.declared.watched.Fault.TheVariants.{Memory as NoRoom, Write as Unwritten};
 
 use crate::books::Books;
@@ -63,12 +63,12 @@ pub fn watch<P: Predictor + Drop, W: Write>(
     // which are those of this predictor's guesses.
     ensures end { IfOk result (λ end. end_state end ≡ end_of program.now config.now.limit) }
     ensures told { IfOk result (λ end. IsTold P.Predicts P.Learns format program.now
-        (sizes_of config.now) predictor (end_state end).1
+        (sizes_by config.now) predictor (end_state end).1
         (known_by W.contents writer.old) (known_by W.contents writer.new)) }
     ensures quiet { OnOk result (failures_of writer.new ≡ failures_of writer.old) }
     // What was written before a fault is a beginning of what is told of legal turns.
     ensures begun { OnErr result (IsBegun P.Predicts P.Learns format program.now
-        (sizes_of config.now) predictor
+        (sizes_by config.now) predictor
         (known_by W.contents writer.old) (known_by W.contents writer.new)) }
     ensures write { IfErr result (λ fault. fault ≡ Fault.Write →
         failures_of writer.new ≡ failures_of writer.old + 1) }

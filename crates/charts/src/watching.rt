@@ -6,7 +6,8 @@ ghost use Rattle.instructions.specs.Programs.{Program};
 ghost use Rattle.inorder.specs.Unit.{Sizes};
 ghost use Rattle.unit.specs.Changes.{run_from};
 ghost use Rattle.charts.specs.Events.{events};
-ghost use Rattle.charts.specs.Rows.{kept, listed, next_kept, raised as raised_of};
+ghost use Rattle.charts.specs.Rows.{kept, listed, next_kept};
+ghost use Rattle.devices.specs.Counted.{raised as raised_of};
 ghost use Rattle.charts.specs.Telling.{first_text, last_text, turn_text};
 ghost use Rattle.charts.specs.Watched.{GivesUpTo, IsBegun, Stood};
 
@@ -76,8 +77,8 @@ fn bench_text<P: Predictor + Drop>(
     ensures kept { OnOk result
         (kept books.new ≡ next_kept (kept books.old) answer bench.now.pipeline.window) }
     ensures text { IfOk result (λ text. string_bytes text ≡ turn_text format
-        (raised_of (kept books.old).turns)
-        (events (kept books.old) answer bench.now.pipeline.window)) }
+        (raised_of (kept books.old).turns) (events (kept books.old) answer
+        bench.now.pipeline.window)) }
 {
     let window = window_of(alloc, bench)?;
     turn_text(alloc, books, format, answer, window.as_slice())
@@ -120,14 +121,14 @@ fn tell_turn<P: Predictor + Drop, W: Write>(
     ensures kept { OnOk result
         (kept books.new ≡ next_kept (kept books.old) answer bench.now.pipeline.window) }
     ensures says { OnOk result (Gives W.contents writer.old writer.new (turn_text format
-        (raised_of (kept books.old).turns)
-        (events (kept books.old) answer bench.now.pipeline.window))) }
+        (raised_of (kept books.old).turns) (events (kept books.old) answer
+        bench.now.pipeline.window))) }
     ensures quiet { OnOk result (failures_of writer.new ≡ failures_of writer.old) }
     ensures write { IfErr result (λ fault. fault ≡ Fault.Write →
         failures_of writer.new ≡ failures_of writer.old + 1) }
     ensures part { OnErr result (GivesUpTo W.contents writer.old writer.new (turn_text format
-        (raised_of (kept books.old).turns)
-        (events (kept books.old) answer bench.now.pipeline.window))) }
+        (raised_of (kept books.old).turns) (events (kept books.old) answer
+        bench.now.pipeline.window))) }
     ensures quiet_memory { IfErr result (λ fault. fault ≡ Fault.Memory →
         failures_of writer.new ≡ failures_of writer.old) }
 {

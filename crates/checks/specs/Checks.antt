@@ -15,7 +15,7 @@ use Rattle.isa.specs.declared.listing.fault.FaultKind.TheVariants as kind
 use Rattle.isa.specs.Listing.{Lines, labels, listing}
 use Rattle.instructions.specs.Programs.{Program}
 use Rattle.isa.specs.Report.{fault_line, newline}
-use Rattle.checks.specs.Forms.{forms}
+use Rattle.checks.specs.Forms.{known_forms}
 use Rattle.checks.specs.declared.parts.Part.{Part}
 
 -- ---- a good listing
@@ -43,8 +43,8 @@ abbrev pub IsPartOf : List ℕ → Part → Type 0
 IsPartOf line part = (part.from ≤ part.to) × (part.to ≤ length line)
 
 -- the inner part lies in the outer one
-abbrev pub IsIn : (outer inner : Part) → Type 0
-IsIn outer inner =
+abbrev pub LiesIn : (outer inner : Part) → Type 0
+LiesIn outer inner =
     (outer.from ≤ inner.from) × ((inner.from ≤ inner.to) × (inner.to ≤ outer.to))
 
 -- what stands in the line of the mark under a byte before the mark: a tab stays one
@@ -83,13 +83,14 @@ abbrev pub word_in : List ℕ → List ℕ
 word_in line = before_first is_blank (statement_of (before_comment line))
 
 -- a row of the code's table
-abbrev pub row : Bor (List ℕ) × Bor (List ℕ) → List ℕ × List ℕ
-row e = (e.0.now, e.1.now)
+abbrev pub table_row : Bor (List ℕ) × Bor (List ℕ) → List ℕ × List ℕ
+table_row e = (e.0.now, e.1.now)
 
 -- the form of a word
 unfoldable pub form_of : List ℕ → Option (List ℕ)
-form_of word = lookup (λ k. str_eq_ignore_ascii_case k word) forms
+form_of word = lookup (λ k. str_eq_ignore_ascii_case k word) known_forms
 
+-- what is told of the form behind a fault, if there is one
 abbrev pub form_sentence : Option (List ℕ) → List ℕ
 form_sentence form = option_map_or (λ f. codes " The form is " ++ (f ++ codes ".")) form []
 

@@ -2,8 +2,9 @@
 -- operands are is defined by the forms of the listing language.
 use Rattle.std.specs.Prelude.{ℕ, List, [], ◌∷◌, codes}
 
-abbrev pub forms : List (List ℕ × List ℕ)
-forms =
+-- each operation with its form, in the order of the manual
+abbrev pub known_forms : List (List ℕ × List ℕ)
+known_forms =
     (codes "addu", codes "addu rd,rs,rt")
     ∷ (codes "subu", codes "subu rd,rs,rt")
     ∷ (codes "add", codes "add rd,rs,rt")

@@ -1,6 +1,6 @@
 //! The part of a line that is at fault.
 ghost use Rattle.std.specs.Prelude.{◌≤◌, IfOk};
-ghost use Rattle.checks.specs.Checks.{IsPartOf, IsIn};
+ghost use Rattle.checks.specs.Checks.{IsPartOf, LiesIn};
 
 use super::parts::{Part, code, find, labels, operands, statement, trimmed, word};
 use super::registers::is_register;
@@ -23,7 +23,7 @@ fn end_of_first(line: &[u8], operands: Part) -> usize
 // The operand in which a label is due, which is the last one.
 fn last_operand(line: &[u8], operands: Part) -> Part
     requires { IsPartOf line.now operands }
-    ensures { IsIn operands result }
+    ensures { LiesIn operands result }
 {
     let to = operands.to;
     let mut from = operands.from;
@@ -36,7 +36,7 @@ fn last_operand(line: &[u8], operands: Part) -> Part
 // Where a number is due in an operand: before its parenthesis, if it has one.
 fn number_in_operand(line: &[u8], operand: Part) -> Part
     requires { IsPartOf line.now operand }
-    ensures { IsIn operand result }
+    ensures { LiesIn operand result }
 {
     let to = find(line, operand, b'(').unwrap_or(operand.to);
     let front = Part {
@@ -49,7 +49,7 @@ fn number_in_operand(line: &[u8], operand: Part) -> Part
 // Where a register is due in an operand: behind its parenthesis, if it has one.
 fn register_in_operand(line: &[u8], operand: Part) -> Part
     requires { IsPartOf line.now operand }
-    ensures { IsIn operand result }
+    ensures { LiesIn operand result }
 {
     let Some(open) = find(line, operand, b'(') else {
         return operand;
@@ -68,7 +68,7 @@ fn register_in_operand(line: &[u8], operand: Part) -> Part
 // The first operand with a text that begins as a register and is none.
 fn bad_register(alloc: Global, line: &[u8], operands: Part) -> Result<Part, AllocError>
     requires { IsPartOf line.now operands }
-    ensures { IfOk result (IsIn operands) }
+    ensures { IfOk result (LiesIn operands) }
 {
     let to = operands.to;
     let mut from = operands.from;
@@ -90,7 +90,7 @@ fn bad_register(alloc: Global, line: &[u8], operands: Part) -> Result<Part, Allo
 fn bad_number(line: &[u8], word: Part, operands: Part) -> Part
     requires word { IsPartOf line.now word }
     requires operands { IsPartOf line.now operands }
-    ensures { IsIn operands result }
+    ensures { LiesIn operands result }
 {
     let is_data = line[word.from..word.to].eq_ignore_ascii_case(b".word");
     let to = operands.to;
@@ -112,7 +112,7 @@ fn bad_number(line: &[u8], word: Part, operands: Part) -> Part
 // The first byte that may not stand before a comment.
 fn odd_byte(line: &[u8], code: Part) -> Part
     requires { IsPartOf line.now code }
-    ensures { IsIn code result }
+    ensures { LiesIn code result }
 {
     for at in code.from..code.to {
         if !is_plain_text(&line[at..at + 1]) {

@@ -3,7 +3,7 @@ ghost use Rattle.std.specs.Prelude.{◌≡◌, map};
 ghost use Rattle.std.specs.Map.{lookup};
 ghost use Rattle.std.specs.Option.{option_map};
 ghost use Rattle.std.specs.Str.{str_eq_ignore_ascii_case};
-ghost use Rattle.checks.specs.Checks.{form_of, row};
+ghost use Rattle.checks.specs.Checks.{form_of, table_row};
 
 /// A word, and how it is written with its operands.
 pub(crate) static FORMS: [(&str, &str); 54] = [
@@ -75,7 +75,7 @@ fn same_word(a: &[u8], b: &[u8]) -> bool
 
 fn find_in<'a>(table: &[(&'a str, &'a str)], word: &[u8]) -> Option<&'a str>
     ensures { option_map (λ t. t.now) result ≡ lookup (λ k. str_eq_ignore_ascii_case k word.now)
-        (map row table.now) }
+        (map table_row table.now) }
 {
     for entry in table {
         if same_word(entry.0.as_bytes(), word) {

@@ -1,6 +1,6 @@
 //! The parts of a line: its labels, its statement, its word and its operands.
 ghost use Rattle.std.specs.Prelude.{◌≤◌, ◌<◌, IfSome};
-ghost use Rattle.checks.specs.Checks.{IsPartOf, IsIn};
+ghost use Rattle.checks.specs.Checks.{IsPartOf, LiesIn};
 
 use text::is_name;
 
@@ -74,7 +74,7 @@ fn before_blanks(line: &[u8], part: Part) -> usize
 // The part without the blanks at its ends.
 pub(crate) fn trimmed(line: &[u8], part: Part) -> Part
     requires { IsPartOf line.now part }
-    ensures { IsIn part result }
+    ensures { LiesIn part result }
 {
     let from = behind_blanks(line, part);
     let inner = Part { from, to: part.to };
@@ -131,7 +131,7 @@ fn behind_labels(line: &[u8], code: Part) -> usize
 // The names of the labels, up to the last colon.
 pub(crate) fn labels(line: &[u8], code: Part) -> Part
     requires { IsPartOf line.now code }
-    ensures { IsIn code result }
+    ensures { LiesIn code result }
 {
     let end = behind_labels(line, code);
     let front = Part {
@@ -143,7 +143,7 @@ pub(crate) fn labels(line: &[u8], code: Part) -> Part
 
 pub(crate) fn statement(line: &[u8], code: Part) -> Part
     requires { IsPartOf line.now code }
-    ensures { IsIn code result }
+    ensures { LiesIn code result }
 {
     let from = behind_labels(line, code);
     trimmed(line, Part { from, to: code.to })
@@ -151,7 +151,7 @@ pub(crate) fn statement(line: &[u8], code: Part) -> Part
 
 pub(crate) fn word(line: &[u8], statement: Part) -> Part
     requires { IsPartOf line.now statement }
-    ensures { IsIn statement result }
+    ensures { LiesIn statement result }
 {
     let to = before_blank(line, statement);
     Part {
@@ -163,7 +163,7 @@ pub(crate) fn word(line: &[u8], statement: Part) -> Part
 // All operands, or the word where there are none.
 pub(crate) fn operands(line: &[u8], statement: Part) -> Part
     requires { IsPartOf line.now statement }
-    ensures { IsIn statement result }
+    ensures { LiesIn statement result }
 {
     let word = word(line, statement);
     let behind = Part {

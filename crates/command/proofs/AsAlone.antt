@@ -13,12 +13,12 @@ use Rattle.bench.specs.Answer.{ending_status, report_of_run, status_for, status_
 use Rattle.requests.specs.declared.request.Asked.{Asked}
 use Rattle.without_threads.specs.declared.went.Line.{Line}
 use Rattle.without_threads.specs.declared.went.Went.{Went}
-use Rattle.without_threads.specs.Answers.{AsAlone, Early, HasAnswer, IsAnswer, IsAsAlone, IsEarly, IsEnd, IsLineWith}
+use Rattle.without_threads.specs.Answers.{AsAlone, Early, HasAnswer, IsAnswerFor, IsAsAlone, EndedEarly, IsRunEnd, IsLineWith}
 use Rattle.without_threads.specs.Went.{HoldsOfInput, AtAStop, AtTheLimit, IsWhole, WithoutThreads, status_number}
 
 not_early : (limit : ℕ) (P : Program) (ending : Ending) (state : State) (went : Went) → IsWhole limit went
     → went.status ≡ status_number (ending_status ending) → IsLineWith false state.count went.line
-    → IsEarly limit P ending state → ⊥
+    → EndedEarly limit P ending state → ⊥
 not_early limit P ending state went (WithoutThreads none) status line early =
     subst (λ (l : Line). IsLineWith false state.count l) none line
 not_early limit P ending state went (AtAStop other) status line early =
@@ -30,7 +30,7 @@ not_early limit P ending state went (AtTheLimit totals is all) status line early
 
 ends_alone : (is_alone : Bool) (config : Settings) (P : Program) (ending : Ending) (state : State) (went : Went)
     → IsWhole config.limit went → went.status ≡ status_number (ending_status ending)
-    → IsLineWith is_alone state.count went.line → IsEnd is_alone config P ending state
+    → IsLineWith is_alone state.count went.line → IsRunEnd is_alone config P ending state
     → ◌≡◌ {A = Ending × State} (ending, state) (end_of P config.limit)
 ends_alone true config P ending state went whole status line is = is
 ends_alone false config P ending state went whole status line (AsAlone same, turns) = same
@@ -38,7 +38,7 @@ ends_alone false config P ending state went whole status line (Early early, turn
     absurd (not_early config.limit P ending state went whole status line early)
 
 answers_alone : (asked : Asked) (found : Result Program (ℕ × FaultKind)) (text : List ℕ) (went : Went)
-    → IsWhole asked.config.limit went → IsAnswer asked found text went
+    → IsWhole asked.config.limit went → IsAnswerFor asked found text went
     → (went.status ≡ status_number (status_for asked.config.limit found)) × (text ≡ text_for asked.config.limit found)
 answers_alone asked (Ok P) text went whole is =
     let same = ends_alone asked.alone asked.config P is.ending is.state went whole is.status is.line is.is in (

@@ -14,12 +14,12 @@ use Rattle.bench.specs.declared.outcome.Status.{Status}
 use Rattle.pool.specs.declared.answer.Run.{Run}
 use Rattle.pool.specs.declared.answer.Run.TheVariants as run
 use Rattle.counts.specs.declared.tally.Tally.{Tally as Totals}
-use Rattle.pool.specs.Runs.{IsAfter, IsRight, IsWithin, TakesTurns}
+use Rattle.pool.specs.Runs.{IsAfter, RunIsRight, IsWithinLimit, TakesTurns}
 use Rattle.requests.specs.declared.request.Asked.{Asked}
 use Rattle.without_threads.specs.declared.went.Line.TheVariants.{Tally}
 use Rattle.without_threads.specs.declared.went.Went.{Went}
-use Rattle.without_threads.specs.Answers.{AsAlone, Early, IsAnswer, IsEnd, IsEndOfThreads, IsLineWith, IsReport}
-use Rattle.without_threads.specs.Went.{written}
+use Rattle.without_threads.specs.Answers.{AsAlone, Early, IsAnswerFor, IsRunEnd, IsEndOfThreads, IsLineWith, IsReport}
+use Rattle.without_threads.specs.Went.{written_whole}
 use Rattle.command.specs.Threads.{ended_of}
 use Rattle.command.proofs.WholeRuns.{at_a_stop, at_the_limit}
 
@@ -42,7 +42,7 @@ limit_known config P end totals after outcome within turns = record {
   retires = after.retires;
 }
 
-run_known : (config : Settings) (P : Program) (r : Run) (end : End) (totals : Totals) → IsRight P r → IsWithin config.limit r
+run_known : (config : Settings) (P : Program) (r : Run) (end : End) (totals : Totals) → RunIsRight P r → IsWithinLimit config.limit r
     → TakesTurns config.turns r → ended_of r ≡ Ok (end, totals) → IsKnown config P end totals
 run_known config P (run.Ended e t) end totals right within turns is =
     let same : ◌≡◌ {A = End × Totals} (e, t) (end, totals) = cc in
@@ -60,11 +60,11 @@ run_known config P (run.Refused why) end totals right within turns is = absurd (
 -- the report of that end
 pool_reports : (asked : Asked) (P : Program) (end : End) (totals : Totals) → asked.alone ≡ false
     → IsKnown asked.config P end totals
-    → IsReport asked P (report_of end) (written (ending_status end.outcome) (Tally totals))
+    → IsReport asked P (report_of end) (written_whole (ending_status end.outcome) (Tally totals))
 pool_reports asked P end totals is known = record {
   ending = end.outcome;
   state = state_in end;
-  is = subst (λ b. IsEnd b asked.config P end.outcome (state_in end)) (sym is) (known.is, known.turns);
+  is = subst (λ b. IsRunEnd b asked.config P end.outcome (state_in end)) (sym is) (known.is, known.turns);
   report = refl;
   status = refl;
   line = subst (λ b. IsLineWith b end.n (Tally totals)) (sym is) known.retires;
@@ -72,9 +72,9 @@ pool_reports asked P end totals is known = record {
 
 -- the text and what is told where the threads have run the program of a listing
 pub pool_answers : (asked : Asked) (found : Result Program (ℕ × FaultKind)) (P : Program) (r : Run) (end : End) (totals : Totals)
-    (status : Status) (text : List ℕ) (went : Went) → asked.alone ≡ false → found ≡ Ok P → IsRight P r
-    → IsWithin asked.config.limit r → TakesTurns asked.config.turns r → ended_of r ≡ Ok (end, totals)
+    (status : Status) (text : List ℕ) (went : Went) → asked.alone ≡ false → found ≡ Ok P → RunIsRight P r
+    → IsWithinLimit asked.config.limit r → TakesTurns asked.config.turns r → ended_of r ≡ Ok (end, totals)
     → status ≡ ending_status end.outcome → text ≡ report_of end
-    → went ≡ written status (Tally totals) → IsAnswer asked found text went
+    → went ≡ written_whole status (Tally totals) → IsAnswerFor asked found text went
 pool_answers asked found P r end totals status text went is parsed right within turns ended same reported told =
     rw (parsed, reported, told, same) (pool_reports asked P end totals is (run_known asked.config P r end totals right within turns ended))

@@ -7,7 +7,7 @@ use Rattle.instructions.specs.Programs.{Program}
 use Rattle.inorder.specs.Machine.{Goes, Halts, Ran, State, start, step}
 use Rattle.inorder.specs.Runs.{after, end_after, end_from, end_of, next_state, stop, stop_of, then_state, then_stop}
 use Rattle.back.specs.Ends.{StopsThere}
-use Rattle.pool.specs.Runs.{HasStopped}
+use Rattle.pool.specs.Runs.{IsStopEnding}
 
 goes : (r : Ran) (t : State) → next_state r ≡ Some t → r ≡ Goes t
 goes (Goes s) t is = let same : s ≡ t = cc in ap Goes same
@@ -55,7 +55,7 @@ stops_with P n limit s code is stops below =
     ∙ ap (end_after rest s) (halts_at P (after P n) s code is stops))
 
 -- its next step stops, and it may make one more
-pub at_a_stop : (P : Program) (n limit : ℕ) (s : State) (ending : Ending) → after P n ≡ Some s → HasStopped ending
+pub at_a_stop : (P : Program) (n limit : ℕ) (s : State) (ending : Ending) → after P n ≡ Some s → IsStopEnding ending
     → StopsThere P n ending → n < limit → ◌≡◌ {A = Ending × State} (ending, s) (end_of P limit)
 at_a_stop P n limit s (ByStop code) is stopped stops below = stops_with P n limit s code is stops below
 at_a_stop P n limit s Limit is stopped stops below = absurd stopped

@@ -4,7 +4,7 @@ use Rattle.std.specs.Io.KnownBytes.{Appends}
 use Rattle.isa.specs.declared.listing.fault.FaultKind.{FaultKind}
 use Rattle.instructions.specs.Programs.{Program}
 use Rattle.isa.specs.Report.{fault_line}
-use Rattle.drive.specs.Sessions.{IsStart, TheSession}
+use Rattle.drive.specs.Sessions.{IsStartOfSession, TheSession}
 use Rattle.drive.specs.Scripts.{HasBroken, HasDriven, HasTold}
 use Rattle.drive.specs.declared.script.Fault.{Fault as ScriptFault}
 use Rattle.drive.specs.declared.script.Fault.TheVariants as script
@@ -18,7 +18,7 @@ pub record IsTranscriptOf (hand : ByHand) (P : Program) (status : ℕ) (script b
   pub status_is : status ≡ 0
   pub first : TheSession
   pub last : TheSession
-  pub starts : IsStart P hand.config first
+  pub starts : IsStartOfSession P hand.config first
   pub driven : HasDriven script first last before after
 
 -- what is told for a listing and a script: a transcript, or the fault of the listing
@@ -31,18 +31,18 @@ IsDriven hand (Err f) status script before after =
 -- some commands were answered, and no other
 pub record HasToldSome (hand : ByHand) (P : Program) (script before after : Option (List ℕ)) : Type 0 where
   pub first : TheSession
-  pub starts : IsStart P hand.config first
+  pub starts : IsStartOfSession P hand.config first
   pub told : HasTold script first before after
 
 -- what was written where reading, or memory, came to an end too early
-abbrev pub IsLeft : ByHand → Result Program (ℕ × FaultKind) → (script before after : Option (List ℕ)) → Type 0
-IsLeft hand (Ok P) script before after = (after ≡ before) ⊎ HasToldSome hand P script before after
-IsLeft hand (Err f) script before after = after ≡ before
+abbrev pub WasBrokenOff : ByHand → Result Program (ℕ × FaultKind) → (script before after : Option (List ℕ)) → Type 0
+WasBrokenOff hand (Ok P) script before after = (after ≡ before) ⊎ HasToldSome hand P script before after
+WasBrokenOff hand (Err f) script before after = after ≡ before
 
 -- some commands were answered, and of the answer to one more a proper beginning was written
 pub record HasBrokenOff (hand : ByHand) (P : Program) (script before after : Option (List ℕ)) : Type 0 where
   pub first : TheSession
-  pub starts : IsStart P hand.config first
+  pub starts : IsStartOfSession P hand.config first
   pub broken : HasBroken script first before after
 
 -- a proper beginning of a text was written

@@ -2,7 +2,7 @@
 ghost use Rattle.std.specs.Prelude.{◌≡◌, ◌≢◌, ◌+◌, ◌-◌, ◌^◌, ◌<◌, IfSome, IfOk, IfErr, Ok, OnOk, None};
 ghost use Rattle.isa.specs.Listing.{listing};
 ghost use Rattle.devices.specs.Counted.{failures_of, known_by};
-ghost use Rattle.command.specs.ByHand.{HasBrokenOff, IsBroken, IsDriven, IsLeft, IsTranscriptOf, script_refusal};
+ghost use Rattle.command.specs.ByHand.{HasBrokenOff, IsBroken, IsDriven, WasBrokenOff, IsTranscriptOf, script_refusal};
 ghost use Rattle.requests.specs.Predictors.{IsChosen};
 ghost use Rattle.without_threads.specs.Went.{HoldsOfInput, IsOfOneThread, refused};
 ghost use Rattle.without_threads.specs.declared.went.Line.TheVariants.{Nothing, Refused};
@@ -58,7 +58,7 @@ pub fn go_by_hand<T: Wait, R: Read + Drop, I: BufRead, W: Write>(
     // Any other refusal comes behind whole answers, or before anything is written.
     ensures left { (refusal : Refusal) → result.line ≡ Refused refusal → refusal ≢ Refusal.Write →
         HoldsOfInput R.remaining reader (λ input.
-        IsLeft hand.now (listing input) (I.remaining script.old)
+        WasBrokenOff hand.now (listing input) (I.remaining script.old)
         (known_by W.contents writer.old) (known_by W.contents writer.new)) }
 {
     let Some(mut reader) = reader else {
@@ -99,7 +99,7 @@ fn driven<T: Wait, R: Read, I: BufRead, W: Write>(
         (known_by W.contents writer.old) (known_by W.contents writer.new))) }
     ensures left { IfErr result (λ refusal. refusal ≢ Refusal.Write →
         IfSome (known_by R.remaining reader.old) (λ input.
-        IsLeft hand.now (listing input) (I.remaining script.old)
+        WasBrokenOff hand.now (listing input) (I.remaining script.old)
         (known_by W.contents writer.old) (known_by W.contents writer.new))) }
 {
     let listing = read_up_to(alloc, reader, MOST_TAKEN)?;
@@ -129,7 +129,7 @@ fn answered<T: Wait, I: BufRead, W: Write>(
         IsBroken hand.now (listing bytes.now) (I.remaining script.old)
         (known_by W.contents writer.old) (known_by W.contents writer.new)) }
     ensures left { IfErr result (λ refusal. refusal ≢ Refusal.Write →
-        IsLeft hand.now (listing bytes.now) (I.remaining script.old)
+        WasBrokenOff hand.now (listing bytes.now) (I.remaining script.old)
         (known_by W.contents writer.old) (known_by W.contents writer.new)) }
 {
     match parse(alloc, bytes) {
@@ -172,7 +172,7 @@ fn drive_by<J: Naming, T: Wait, I: BufRead, W: Write>(
         HasBrokenOff hand.now program.now (I.remaining script.old)
         (known_by W.contents writer.old) (known_by W.contents writer.new)) }
     ensures left { IfErr result (λ refusal. refusal ≢ Refusal.Write →
-        IsLeft hand.now (Ok program.now) (I.remaining script.old)
+        WasBrokenOff hand.now (Ok program.now) (I.remaining script.old)
         (known_by W.contents writer.old) (known_by W.contents writer.new)) }
 {
     let mut driven = Session::<Chosen, J>::new(alloc, program, &hand.config, predictor)?;

@@ -2,7 +2,7 @@
 ghost use Rattle.std.specs.Prelude.{◌≡◌, ◌≢◌, ◌+◌, ◌-◌, ◌^◌, ◌<◌, IfSome, IfOk, IfErr, OnOk, None, true};
 ghost use Rattle.devices.specs.Counted.{failures_of, known_by, Gives, GivesPart};
 ghost use Rattle.without_threads.specs.Answers.{HasAnswer, IsAsAlone};
-ghost use Rattle.without_threads.specs.Went.{HoldsOfInput, IsOfOneThread, IsWhole, IsWritten, refused, went_of};
+ghost use Rattle.without_threads.specs.Went.{HoldsOfInput, IsOfOneThread, IsWhole, WasWritten, refused, went_of};
 ghost use Rattle.without_threads.specs.declared.went.Line.TheVariants.{Refused};
 ghost use Rattle.without_threads.specs.declared.went.Went.{Went};
 
@@ -32,13 +32,13 @@ pub fn go<T: Threads + Wait + Sync, R: Read + Drop, W: Write, G: Gate + Sync>(
     ensures open { reader ≡ None → result ≡ refused Refusal.Open }
     ensures opened { result.line ≡ Refused Refusal.Open → reader ≡ None }
     // What was written whole answers the reader's bytes, and the status and the line go with it.
-    ensures answer { IsWritten result.line → HoldsOfInput R.remaining reader (λ input.
+    ensures answer { WasWritten result.line → HoldsOfInput R.remaining reader (λ input.
         HasAnswer asked.now input result (Gives W.contents writer.old writer.new)) }
     // Where the run came to its end, that is what one thread answers, byte for byte.
-    ensures same { IsWritten result.line → IsWhole asked.now.config.limit result →
+    ensures same { WasWritten result.line → IsWhole asked.now.config.limit result →
         HoldsOfInput R.remaining reader (λ input. IsAsAlone asked.now.config.limit input result
         (Gives W.contents writer.old writer.new)) }
-    ensures quiet { IsWritten result.line → failures_of writer.new ≡ failures_of writer.old }
+    ensures quiet { WasWritten result.line → failures_of writer.new ≡ failures_of writer.old }
     ensures alone { asked.now.alone ≡ true → IsOfOneThread result.line }
     // There is no log to blame.
     ensures unlogged { result.line ≢ Refused Refusal.Trace }
@@ -77,7 +77,7 @@ fn ended<T: Threads + Wait + Sync, R: Read, W: Write, G: Gate + Sync>(
     requires writer_room { failures_of writer.old < 2 ^ 64 - 1 }
     ensures ok { IfOk result (λ went. IfSome (known_by R.remaining reader.old) (λ input.
         HasAnswer asked.now input went (Gives W.contents writer.old writer.new))) }
-    ensures line { IfOk result (λ went. IsWritten went.line) }
+    ensures line { IfOk result (λ went. WasWritten went.line) }
     ensures alone { asked.now.alone ≡ true → IsOfOneThread (went_of result).line }
     ensures quiet { OnOk result (failures_of writer.new ≡ failures_of writer.old) }
     ensures opened { IfErr result (λ refusal. refusal ≢ Refusal.Open) }

@@ -2,11 +2,11 @@
 ghost use Rattle.std.specs.Prelude.{◌≡◌, ◌≢◌, ◌+◌, ◌-◌, ◌^◌, ◌<◌, IfSome, IfOk, IfErr, OnOk, false, string_bytes};
 ghost use Rattle.isa.specs.Listing.{listing};
 ghost use Rattle.devices.specs.Counted.{failures_of, known_by, Gives, GivesPart};
-ghost use Rattle.pool.specs.Runs.{IsRight, IsWithin, TakesTurns};
-ghost use Rattle.without_threads.specs.Answers.{HasAnswer, IsAnswer};
+ghost use Rattle.pool.specs.Runs.{RunIsRight, IsWithinLimit, TakesTurns};
+ghost use Rattle.without_threads.specs.Answers.{HasAnswer, IsAnswerFor};
 ghost use Rattle.command.specs.Threads.{ended_of, pool_refusal};
 ghost use Rattle.requests.specs.Predictors.{IsChosen};
-ghost use Rattle.without_threads.specs.Went.{IsWritten};
+ghost use Rattle.without_threads.specs.Went.{WasWritten};
 ghost use Rattle.without_threads.specs.declared.went.Went.{Went};
 
 use crate::{Asked, Line, Refusal, Went};
@@ -36,7 +36,7 @@ pub(crate) fn run<T: Threads + Wait + Sync, R: Read, W: Write, G: Gate + Sync>(
     requires threads { asked.now.alone ≡ false }
     ensures ok { IfOk result (λ went. IfSome (known_by R.remaining reader.old) (λ input.
         HasAnswer asked.now input went (Gives W.contents writer.old writer.new))) }
-    ensures line { IfOk result (λ went. IsWritten went.line) }
+    ensures line { IfOk result (λ went. WasWritten went.line) }
     ensures quiet { OnOk result (failures_of writer.new ≡ failures_of writer.old) }
     ensures opened { IfErr result (λ refusal. refusal ≢ Refusal.Open) }
     ensures unlogged { IfErr result (λ refusal. refusal ≢ Refusal.Trace) }
@@ -65,8 +65,8 @@ fn answer<T: Threads + Wait + Sync, G: Gate + Sync>(
 ) -> Result<(Went, String), Refusal>
     requires threads { asked.now.alone ≡ false }
     ensures ok { IfOk result (λ answer.
-        IsAnswer asked.now (listing bytes.now) (string_bytes answer.1) answer.0) }
-    ensures line { IfOk result (λ answer. IsWritten answer.0.line) }
+        IsAnswerFor asked.now (listing bytes.now) (string_bytes answer.1) answer.0) }
+    ensures line { IfOk result (λ answer. WasWritten answer.0.line) }
     ensures opened { IfErr result (λ refusal. refusal ≢ Refusal.Open) }
     ensures unlogged { IfErr result (λ refusal. refusal ≢ Refusal.Trace) }
     ensures unwritten { IfErr result (λ refusal. refusal ≢ Refusal.Write) }
@@ -98,8 +98,8 @@ fn predicted<T: Threads + Wait + Sync, G: Gate + Sync>(
     gate: &G,
 ) -> Run
     requires predictor { IsChosen asked.now.predictor predictor }
-    ensures right { IsRight program.now result }
-    ensures within { IsWithin asked.now.config.limit result }
+    ensures right { RunIsRight program.now result }
+    ensures within { IsWithinLimit asked.now.config.limit result }
     ensures turns { TakesTurns asked.now.config.turns result }
 {
     pool::run(wait, alloc, program, &asked.config, predictor, gate)

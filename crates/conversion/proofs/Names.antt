@@ -9,7 +9,7 @@ use Rattle.isa.specs.Statement.{statement}
 use Rattle.isa.specs.Listing.{Lines}
 use Rattle.isa.proofs.TextBytes.{of_append, of_all, all_of}
 use Rattle.conversion.proofs.Pushed.{unlines_push}
-use Rattle.conversion.specs.Writing.{as_line, unlines, printable, IsQuiet, AllQuiet, IsQuieter, gap_lines, comment_line}
+use Rattle.conversion.specs.Writing.{as_line, unlines, printable, IsBlankLine, AllQuiet, IsQuieter, gap_lines, comment_line}
 
 pub shown_more : (name : List ℕ) (k : ℕ) → k < length name → 32 ≤ get_or name k 0 → get_or name k 0 ≤ 126 → list_all printable (take k name) ≡ true
     → list_all printable (take (k + 1) name) ≡ true
@@ -18,11 +18,11 @@ shown_more name k lt low high h =
     (all_of printable (take k name ++ get_or name k 0 ∷ [])
     (of_append printable (take k name) (get_or name k 0 ∷ []) (of_all printable (take k name) h) (and_from _ _ (le-leb 32 (get_or name k 0) low) (le-leb (get_or name k 0) 126 high), tt)))
 
-empty_quiet : IsQuiet []
+empty_quiet : IsBlankLine []
 unfolding labels_of statement_of statement
 empty_quiet = record { bytes = refl; labels_are = refl; read_is = refl }
 
-comment_quiet : (text : List ℕ) → list_all printable text ≡ true → IsQuiet (comment_line text)
+comment_quiet : (text : List ℕ) → list_all printable text ≡ true → IsBlankLine (comment_line text)
 unfolding labels_of statement_of statement
 comment_quiet text h = record { bytes = h; labels_are = refl; read_is = refl }
 
@@ -34,7 +34,7 @@ gap_size : (k : ℕ) → length (unlines (gap_lines k)) ≤ 1
 gap_size zero = omega arith
 gap_size (suc k) = omega arith
 
-quiet_push : (ls : Lines) (l : List ℕ) → AllQuiet ls → IsQuiet l → AllQuiet (ls ++ l ∷ [])
+quiet_push : (ls : Lines) (l : List ℕ) → AllQuiet ls → IsBlankLine l → AllQuiet (ls ++ l ∷ [])
 quiet_push [] l h q = (q, tt)
 quiet_push (b ∷ ls) l h q = (h.0, quiet_push ls l h.1 q)
 

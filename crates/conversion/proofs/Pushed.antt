@@ -8,7 +8,7 @@ use Rattle.instructions.specs.Programs.{address}
 use Rattle.isa.specs.Statement.{Parsed}
 use Rattle.isa.specs.Listing.{Lines, read, labels, at, table, numbered, memory, how_many, is_double, fault_in, first_fault}
 use Rattle.isa.proofs.Behind.{numbered_push, table_push, memory_push}
-use Rattle.conversion.specs.Writing.{as_line, unlines, printable, AllPrintable, Faultless, IsReadAs, AllRead, IsWritten, AllQuiet, IsText}
+use Rattle.conversion.specs.Writing.{as_line, unlines, printable, AllPrintable, Faultless, IsReadAs, AllRead, LinesSay, AllQuiet, IsText}
 use Rattle.conversion.proofs.Printed.{line_plain}
 
 -- ---- lists
@@ -42,7 +42,7 @@ read_push (e ∷ ds) (j ∷ is) d i h r = (h.0, read_push ds is d i h.1 r)
 
 -- ---- a line
 
-module _ (ls : Lines) (code : List Instr) (names : List (List ℕ × ℕ)) (bytes : List ℕ) (is : IsWritten ls code names bytes)
+module _ (ls : Lines) (code : List Instr) (names : List (List ℕ × ℕ)) (bytes : List ℕ) (is : LinesSay ls code names bytes)
     (l : List ℕ) (clean : list_all printable l ≡ true) (ns : List (List ℕ)) (labelled : labels l ≡ ns) where
   count_is : how_many ls ≡ length code
   count_is = read_length (numbered 1 ls) code is.code_is
@@ -68,7 +68,7 @@ module _ (ls : Lines) (code : List Instr) (names : List (List ℕ × ℕ)) (byte
   -- without an instruction
   pub push_bytes : (bs : List ℕ) → read l ≡ Ok (record { code = []; bytes = bs }) → is_double (address (length code)) names ns ≡ false
       → length code ≤ 16384 → length bytes + length bs ≤ 65536
-      → IsWritten (ls ++ l ∷ []) code (names ++ at (address (length code)) ns) (bytes ++ bs)
+      → LinesSay (ls ++ l ∷ []) code (names ++ at (address (length code)) ns) (bytes ++ bs)
   push_bytes bs said single short small =
       let numbers : numbered 1 (ls ++ l ∷ []) ≡ numbered 1 ls = numbers_are [] bs said ∙ append-nil (numbered 1 ls) in
       record {
@@ -82,7 +82,7 @@ module _ (ls : Lines) (code : List Instr) (names : List (List ℕ × ℕ)) (byte
   -- with an instruction
   pub push_code : (p : Parsed) (i : Instr) → read l ≡ Ok (record { code = p ∷ []; bytes = [] }) → IsReadAs p i → is_double (address (length code)) names ns ≡ false
       → length code < 16384 → length bytes ≤ 65536
-      → IsWritten (ls ++ l ∷ []) (code ++ i ∷ []) (names ++ at (address (length code)) ns) bytes
+      → LinesSay (ls ++ l ∷ []) (code ++ i ∷ []) (names ++ at (address (length code)) ns) bytes
   push_code p i said stands single short small = record {
     printed = printable_push ls l is.printed clean;
     faultless = faultless_push [] ls l is.faultless (no_fault (p ∷ []) [] said single (omega arith) (omega arith));
@@ -114,7 +114,7 @@ module _ (text new : List ℕ) (code : List Instr) (names : List (List ℕ × �
   text_bytes bs bare said small room = record {
     lines = is.lines ++ l ∷ [];
     is = text_is;
-    written = subst (λ (ns : List (List ℕ × ℕ)). IsWritten (is.lines ++ l ∷ []) code ns (bytes ++ bs)) (append-nil names)
+    written = subst (λ (ns : List (List ℕ × ℕ)). LinesSay (is.lines ++ l ∷ []) code ns (bytes ++ bs)) (append-nil names)
         (push_bytes is.lines code names bytes is.written l clean [] bare bs said refl small room);
     short = length_is;
   }
@@ -130,7 +130,7 @@ module _ (text new : List ℕ) (code : List Instr) (names : List (List ℕ × �
   text_label name labelled said single small room = record {
     lines = is.lines ++ l ∷ [];
     is = text_is;
-    written = subst (λ (bs : List ℕ). IsWritten (is.lines ++ l ∷ []) code (names ++ (name, address (length code)) ∷ []) bs) (append-nil bytes)
+    written = subst (λ (bs : List ℕ). LinesSay (is.lines ++ l ∷ []) code (names ++ (name, address (length code)) ∷ []) bs) (append-nil bytes)
         (push_bytes is.lines code names bytes is.written l clean (name ∷ []) labelled [] said single small (omega arith));
     short = length_is;
   }
@@ -140,7 +140,7 @@ module _ (text new : List ℕ) (code : List Instr) (names : List (List ℕ × �
   text_code p i bare said stands small room = record {
     lines = is.lines ++ l ∷ [];
     is = text_is;
-    written = subst (λ (ns : List (List ℕ × ℕ)). IsWritten (is.lines ++ l ∷ []) (code ++ i ∷ []) ns bytes) (append-nil names)
+    written = subst (λ (ns : List (List ℕ × ℕ)). LinesSay (is.lines ++ l ∷ []) (code ++ i ∷ []) ns bytes) (append-nil names)
         (push_code is.lines code names bytes is.written l clean [] bare p i said stands refl small room);
     short = length_is;
   }

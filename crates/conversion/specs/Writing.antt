@@ -27,7 +27,7 @@ abbrev pub printable : ℕ → Bool
 printable b = nat_le 32 b && nat_le b 126
 
 -- a line without a label and without a statement
-pub record IsQuiet (line : List ℕ) : Type 0 where
+pub record IsBlankLine (line : List ℕ) : Type 0 where
   pub bytes : list_all printable line ≡ true
   pub labels_are : labels line ≡ []
   pub read_is : read line ≡ Ok (record { code = []; bytes = [] })
@@ -35,7 +35,7 @@ pub record IsQuiet (line : List ℕ) : Type 0 where
 -- none of these lines says anything to the parser
 abbrev pub AllQuiet : Lines → Type 0
 AllQuiet [] = Unit {0}
-AllQuiet (l ∷ ls) = IsQuiet l × AllQuiet ls
+AllQuiet (l ∷ ls) = IsBlankLine l × AllQuiet ls
 
 -- ---- the lines of an instruction
 
@@ -131,7 +131,7 @@ AllRead (d ∷ ds) [] = ⊥
 AllRead (d ∷ ds) (i ∷ is) = IsReadAs d.1 i × AllRead ds is
 
 -- lines say these instructions, labels and bytes
-pub record IsWritten (lines : Lines) (code : List Instr) (names : List (List ℕ × ℕ))
+pub record LinesSay (lines : Lines) (code : List Instr) (names : List (List ℕ × ℕ))
     (bytes : List ℕ) : Type 0 where
   pub printed : AllPrintable lines
   pub faultless : Faultless [] lines
@@ -144,7 +144,7 @@ pub record IsText (text : List ℕ) (code : List Instr) (names : List (List ℕ 
     (bytes : List ℕ) (most : ℕ) : Type 0 where
   pub lines : Lines
   pub is : text ≡ unlines lines
-  pub written : IsWritten lines code names bytes
+  pub written : LinesSay lines code names bytes
   pub short : length text ≤ most
 
 -- ---- data

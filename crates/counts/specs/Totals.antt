@@ -22,14 +22,14 @@ position_of Hints = 8
 position_of Renewals = 9
 
 -- What a tally says of it
-abbrev pub told : Tally → Total → ℕ
-told t Lets = t.lets
-told t Claims = t.claims
-told t Finishes = t.finishes
-told t Stale = t.stale
-told t Loads = t.loads
-told t Retires = t.retires
-told t Squashes = t.squashes
-told t Mends = t.mends
-told t Hints = t.hints
-told t Renewals = t.renewals
+abbrev pub tallied : Tally → Total → ℕ
+tallied t Lets = t.lets
+tallied t Claims = t.claims
+tallied t Finishes = t.finishes
+tallied t Stale = t.stale
+tallied t Loads = t.loads
+tallied t Retires = t.retires
+tallied t Squashes = t.squashes
+tallied t Mends = t.mends
+tallied t Hints = t.hints
+tallied t Renewals = t.renewals

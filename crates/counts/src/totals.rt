@@ -3,7 +3,7 @@ ghost use Rattle.std.specs.Prelude.{◌≡◌, ◌%◌, ◌^◌, ◌<◌, IfOk, 
 ghost use Rattle.counts.specs.Reads.{HoldsAll, IsTotal};
 ghost use Rattle.counts.specs.Shares.{all_parts, first_half, merged, added_to, second_half};
 ghost use Rattle.counts.specs.Shares.{is_kept, share_of, with_kept, without_kept};
-ghost use Rattle.counts.specs.Totals.{position_of, told};
+ghost use Rattle.counts.specs.Totals.{position_of, tallied};
 
 use crate::seats::{CountSeat, WorkerSeat};
 use crate::shares::{Add, Halving, Hiring, Joining, Look, Shares, Sums};
@@ -79,9 +79,9 @@ impl Counts {
     pub fn read(&self, seat: &mut CountSeat) -> Tally
         requires seat { seat.old.of ≡ self.now }
         ensures kept { seat.new ≡ seat.old }
-        ensures totals { (total : Total) → IsTotal seat.old.shares total (told result total) }
+        ensures totals { (total : Total) → IsTotal seat.old.shares total (tallied result total) }
         ensures exact { (total : Total) → HoldsAll total seat.old.shares →
-            told result total ≡ (share_of total seat.old.shares).added % 2 ^ 64 }
+            tallied result total ≡ (share_of total seat.old.shares).added % 2 ^ 64 }
     {
         self.all(&mut seat.seat)
     }
@@ -145,9 +145,9 @@ impl Counts {
         requires seat { seat.old.table_id ≡ self.now }
         ensures of { seat.new.table_id ≡ seat.old.table_id }
         ensures kept { seat.new.me ≡ seat.old.me }
-        ensures totals { (total : Total) → IsTotal seat.old.me.0 total (told result total) }
+        ensures totals { (total : Total) → IsTotal seat.old.me.0 total (tallied result total) }
         ensures exact { (total : Total) → HoldsAll total seat.old.me.0 →
-            told result total ≡ (share_of total seat.old.me.0).added % 2 ^ 64 }
+            tallied result total ≡ (share_of total seat.old.me.0).added % 2 ^ 64 }
     {
         Tally {
             lets: self.total(seat, Total::Lets),

@@ -10,10 +10,10 @@ use Rattle.front.specs.declared.answers.Rest.{Rest}
 use Rattle.front.specs.declared.answers.Rest.TheVariants.{Idle, Live}
 use Rattle.front.specs.Rests.{RestAnswers, told_after}
 use Rattle.front.specs.Turns.{IsRefusal as WasRefused, TurnAnswers}
-use Rattle.drive.specs.Replies.{IsRefusal, RestSays, TurnSays}
+use Rattle.drive.specs.Replies.{IsTurnRefusal, RestSays, TurnSays}
 
 module _ {S : Type 0} (Predicts : S → ℕ → Instr → ℕ → S → Type 0) (Learns : S → ℕ → ℕ → S → Type 0) (P : Program) (C : Sizes) (told : ℕ) (old new : List Entry) (before after : S) where
-  refused : (turn : Turn) → WasRefused P C old new before after turn → IsRefusal P C old new turn
+  refused : (turn : Turn) → WasRefused P C old new before after turn → IsTurnRefusal P C old new turn
   refused turn r = record { adds = r.adds; was = r.was }
 
   pub turn_says : (turn : Turn) → TurnAnswers Predicts Learns P C told old new before after turn → TurnSays P C old new turn

@@ -4,7 +4,7 @@ use Rattle.inorder.specs.declared.history.Entry.{Entry}
 use Rattle.inorder.specs.History.{StartsWith}
 use Rattle.inorder.specs.OneHistory.{Adds}
 use Rattle.station.specs.Seats.{TheCore}
-use Rattle.drive.specs.Moments.{Grows, IsBetween}
+use Rattle.drive.specs.Moments.{GrowsLegally, IsBetween}
 
 pub starts_same : (h : List Entry) → StartsWith h h
 starts_same h = record { more = []; is = refl }
@@ -13,10 +13,10 @@ pub starts_on : (a b c : List Entry) → StartsWith b a → StartsWith c b → S
 starts_on a b c s t = record { more = t.more ++ s.more; is = t.is ∙ (ap (λ z. t.more ++ z) s.is ∙ sym (append_assoc t.more s.more a)) }
 
 -- One who looks twice
-pub grows_twice : (core : TheCore) (by other : ℕ) (a b c : List Entry) → Adds core.program core.sizes by a b [] → Adds core.program core.sizes other b c [] → Grows core a c
+pub grows_twice : (core : TheCore) (by other : ℕ) (a b c : List Entry) → Adds core.program core.sizes by a b [] → Adds core.program core.sizes other b c [] → GrowsLegally core a c
 grows_twice core by other a b c s t = record { begins = starts_on a b c s.begins t.begins; legal = t.legal }
 
-pub grows_on : (core : TheCore) (a b c : List Entry) → Grows core a b → Grows core b c → Grows core a c
+pub grows_on : (core : TheCore) (a b c : List Entry) → GrowsLegally core a b → GrowsLegally core b c → GrowsLegally core a c
 grows_on core a b c s t = record { begins = starts_on a b c s.begins t.begins; legal = t.legal }
 
 -- What a caller knew before a call, the call, and what the caller told afterwards

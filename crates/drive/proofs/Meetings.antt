@@ -1,22 +1,22 @@
 -- Some that meet the seat that has seen all, one after another.
 use Rattle.std.proofs.Common.{List, Option, refl, ◌∙◌}
 use Rattle.inorder.specs.History.{StartsWith}
-use Rattle.back.specs.Backs.{IsSame, TheBack}
+use Rattle.back.specs.Backs.{IsSameBack, TheBack}
 use Rattle.drive.specs.declared.parties.Party.{Party}
 use Rattle.drive.specs.declared.parties.Party.TheVariants.{Back, Front, Unit}
 use Rattle.drive.specs.declared.units.Worker.{Worker}
-use Rattle.drive.specs.Sessions.{HasToldAll, HaveMet, StaysAsSeen, TheSession, seen_by}
+use Rattle.drive.specs.Sessions.{HasToldAll, TwoHaveMet, StaysAsSeen, TheSession, seen_by}
 use Rattle.drive.specs.Workers.{StaySeen, seen_at}
 use Rattle.drive.proofs.Histories.{starts_on, starts_same}
 
 pub same_units : (units : List (Option Worker)) → StaySeen units units
 same_units units = record { keeps = λ at. starts_same (seen_at units at); jobs = λ at. refl }
 
-pub same_back : (b : TheBack) → IsSame b b
+pub same_back : (b : TheBack) → IsSameBack b b
 same_back b = record { core = refl; by = refl; ended = refl; shown = refl; state = refl }
 
 module _ (old new : TheSession) where
-  pub stays : StartsWith new.fronts old.fronts → StartsWith new.commits.seen old.commits.seen → StaySeen old.units new.units → IsSame old.commits new.commits → StaysAsSeen old new
+  pub stays : StartsWith new.fronts old.fronts → StartsWith new.commits.seen old.commits.seen → StaySeen old.units new.units → IsSameBack old.commits new.commits → StaysAsSeen old new
   stays front back units same = record { keeps = keeps; units = units; commits = same }
     where
       keeps : (p : Party) → StartsWith (seen_by p new) (seen_by p old)
@@ -27,7 +27,7 @@ module _ (old new : TheSession) where
 units_on : (a b c : List (Option Worker)) → StaySeen a b → StaySeen b c → StaySeen a c
 units_on a b c s t = record { keeps = λ at. starts_on (seen_at a at) (seen_at b at) (seen_at c at) (s.keeps at) (t.keeps at); jobs = λ at. t.jobs at ∙ s.jobs at }
 
-back_on : (a b c : TheBack) → IsSame a b → IsSame b c → IsSame a c
+back_on : (a b c : TheBack) → IsSameBack a b → IsSameBack b c → IsSameBack a c
 back_on a b c s t = record { core = t.core ∙ s.core; by = t.by ∙ s.by; ended = t.ended ∙ s.ended; shown = t.shown ∙ s.shown; state = t.state ∙ s.state }
 
 stays_on : (a b c : TheSession) → StaysAsSeen a b → StaysAsSeen b c → StaysAsSeen a c
@@ -38,7 +38,7 @@ stays_on a b c s t = record {
 }
 
 -- One meets it, then the other, then the one again
-pub have_met : (a b c d : TheSession) (one other : Party) → HasToldAll a b one → HasToldAll b c other → HasToldAll c d one → HaveMet a d one other
+pub have_met : (a b c d : TheSession) (one other : Party) → HasToldAll a b one → HasToldAll b c other → HasToldAll c d one → TwoHaveMet a d one other
 have_met a b c d one other first second third = record {
   stays = stays_on a c d (stays_on a b c first.stays second.stays) third.stays;
   one_told = starts_on (seen_by other a) (seen_by other b) (seen_by one d) (first.stays.keeps other)

@@ -6,9 +6,9 @@ use Rattle.inorder.specs.declared.history.Step.TheVariants.{Renew}
 use Rattle.inorder.specs.History.{IsLegal, StartsWith, back, entry, front, unit_of}
 use Rattle.inorder.specs.Unit.{Sizes}
 use Rattle.instructions.specs.Programs.{Program}
-use Rattle.drive.specs.Moments.{Grows}
-use Rattle.back.specs.Backs.{TheBack, back_of, committed_in, state_of}
-use Rattle.back.specs.Stills.{TheStill, still_of}
+use Rattle.drive.specs.Moments.{GrowsLegally}
+use Rattle.back.specs.Backs.{TheBack, back_of, committed_in, back_state}
+use Rattle.back.specs.Stills.{TheStillBack, still_of}
 use Rattle.station.specs.Renewals.{IsNotRenewed, IsRenewed, Seats}
 use Rattle.station.specs.Seats.{Caller, TheCore}
 use Rattle.drive.specs.Renewals.{AreAt, HasBegunAgain, HasStayed}
@@ -18,16 +18,16 @@ abbrev pub tenants_in : Caller → ℕ
 tenants_in s = length (unit_of s.core.program s.core.sizes s.seen).tenants
 
 -- The back with a seat, after it had left as this
-module _ (seat : Caller) (commits entered : TheBack) (still : TheStill) (left : still ≡ still_of commits)
-    (enters : entered ≡ back_of seat None still.shown) (same : state_of entered ≡ committed_in still.core still.seen) where
+module _ (seat : Caller) (commits entered : TheBack) (still : TheStillBack) (left : still ≡ still_of commits)
+    (enters : entered ≡ back_of seat None still.shown) (same : back_state entered ≡ committed_in still.core still.seen) where
   is_ended : entered.ended ≡ None
   is_ended = ap (λ (b : TheBack). b.ended) enters
 
   is_shown : entered.shown ≡ commits.shown
-  is_shown = ap (λ (b : TheBack). b.shown) enters ∙ ap (λ (s : TheStill). s.shown) left
+  is_shown = ap (λ (b : TheBack). b.shown) enters ∙ ap (λ (s : TheStillBack). s.shown) left
 
-  is_state : state_of entered ≡ state_of commits
-  is_state = same ∙ ap (λ (s : TheStill). committed_in s.core s.seen) left
+  is_state : back_state entered ≡ back_state commits
+  is_state = same ∙ ap (λ (s : TheStillBack). committed_in s.core s.seen) left
 
   is_core : entered.core ≡ seat.core
   is_core = ap (λ (b : TheBack). b.core) enters
@@ -36,8 +36,8 @@ module _ (seat : Caller) (commits entered : TheBack) (still : TheStill) (left : 
   is_by = ap (λ (b : TheBack). b.by) enters
 
 -- With another core
-module _ (core now : TheCore) (old new : Seats) (r : IsRenewed core old now new) (commits entered : TheBack) (still : TheStill) (left : still ≡ still_of commits)
-    (enters : entered ≡ back_of new.back None still.shown) (same : state_of entered ≡ committed_in still.core still.seen) where
+module _ (core now : TheCore) (old new : Seats) (r : IsRenewed core old now new) (commits entered : TheBack) (still : TheStillBack) (left : still ≡ still_of commits)
+    (enters : entered ≡ back_of new.back None still.shown) (same : back_state entered ≡ committed_in still.core still.seen) where
   pub renewed_at : (front_core : TheCore) → front_core ≡ new.front.core → AreAt now new.unit front_core entered
   renewed_at front_core is = record {
     all_core = ap (λ (s : Caller). s.core) r.first.unit_is;
@@ -60,10 +60,10 @@ module _ (core now : TheCore) (old new : Seats) (r : IsRenewed core old now new)
   }
 
 -- With the old one
-module _ (core now : TheCore) (old new : Seats) (r : IsNotRenewed core old now new) (commits entered : TheBack) (still : TheStill) (left : still ≡ still_of commits)
-    (enters : entered ≡ back_of new.back None still.shown) (same : state_of entered ≡ committed_in still.core still.seen) where
-  pub stayed_at : (front_core : TheCore) → front_core ≡ new.front.core → old.front.core ≡ core → old.back.core ≡ core → old.unit.core ≡ core → old.back.by ≡ back →
-      AreAt now new.unit front_core entered
+module _ (core now : TheCore) (old new : Seats) (r : IsNotRenewed core old now new) (commits entered : TheBack) (still : TheStillBack) (left : still ≡ still_of commits)
+    (enters : entered ≡ back_of new.back None still.shown) (same : back_state entered ≡ committed_in still.core still.seen) where
+  pub stayed_at : (front_core : TheCore) → front_core ≡ new.front.core → old.front.core ≡ core →
+      old.back.core ≡ core → old.unit.core ≡ core → old.back.by ≡ back → AreAt now new.unit front_core entered
   stayed_at front_core is of_front of_back of_unit by = record {
     all_core = r.met.unit.same.core ∙ (of_unit ∙ sym r.core_is);
     front_is = is ∙ (r.met.front.same.core ∙ (of_front ∙ sym r.core_is));
@@ -82,12 +82,12 @@ module _ (core now : TheCore) (old new : Seats) (r : IsNotRenewed core old now n
 
 -- The history has grown
 module _ (core now : TheCore) (seen new_seen : List Entry) (commits new_commits : TheBack) (legal : IsLegal now.program now.sizes new_seen) where
-  pub begun_grows : (told : ℕ) → HasBegunAgain core now seen new_seen commits new_commits told → Grows core seen new_seen
+  pub begun_grows : (told : ℕ) → HasBegunAgain core now seen new_seen commits new_commits told → GrowsLegally core seen new_seen
   begun_grows told h = record {
     begins = subst (λ (xs : List Entry). StartsWith xs seen) (sym h.seen_is)
         (record { more = entry front (Does Renew) ∷ h.begins.more; is = ap (λ xs. entry front (Does Renew) ∷ xs) h.begins.is });
     legal = subst (λ (z : Program × Sizes). IsLegal z.0 z.1 new_seen) (λ i. (h.kind.program i, h.kind.sizes i)) legal;
   }
 
-  pub stayed_grows : HasStayed core now seen new_seen commits new_commits → Grows core seen new_seen
+  pub stayed_grows : HasStayed core now seen new_seen commits new_commits → GrowsLegally core seen new_seen
   stayed_grows h = record { begins = h.begins; legal = subst (λ (z : TheCore). IsLegal z.program z.sizes new_seen) h.core_is legal }

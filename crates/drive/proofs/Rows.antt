@@ -6,8 +6,8 @@ use Rattle.drive.specs.declared.commands.Command.TheVariants as ask
 use Rattle.drive.specs.declared.commands.Which.TheVariants.{First, Second}
 use Rattle.drive.specs.declared.replies.Reply.{Reply}
 use Rattle.std.proofs.lemmas.List.{append-nil}
-use Rattle.drive.specs.Moments.{Grows}
-use Rattle.drive.specs.Sessions.{Answers, TheSession, changed}
+use Rattle.drive.specs.Moments.{GrowsLegally}
+use Rattle.drive.specs.Sessions.{Answers, TheSession, after_command}
 use Rattle.drive.specs.Tables.{AreRows, HasRow, asked_text, has_row, of_registers, of_stations, row_text}
 use Rattle.drive.specs.Texts.{reply_text}
 
@@ -15,7 +15,9 @@ no_row : (command : Command) (reply : Reply) → has_row reply ≡ false → row
 no_row command reply e = ap (λ (b : Bool). if b then asked_text command ++ (codes ": " ++ (reply_text reply ++ newline)) else []) e
 
 -- Where a register has no row nothing is written
-pub left_out : (a b : TheSession) (command : Command) (reply : Reply) (before : List ℕ) → Grows a.core a.seen b.seen → Answers a b command reply → b ≡ changed command a b → has_row reply ≡ false →
+pub left_out : (a b : TheSession) (command : Command) (reply : Reply) (before : List ℕ) →
+    GrowsLegally a.core a.seen b.seen → Answers a b command reply → b ≡ after_command command a b →
+    has_row reply ≡ false →
     HasRow a b command before before
 left_out a b command reply before grows says kept none = record {
   text = [];

@@ -6,9 +6,9 @@ use Rattle.std.proofs.KnownBytes.{Appends-trans}
 use Rattle.std.proofs.lemmas.List.{append-nil}
 use Rattle.drive.specs.declared.script.Fault.{Fault}
 use Rattle.drive.specs.declared.script.Fault.TheVariants.{Write}
-use Rattle.drive.specs.Scripts.{AreTold, HasBroken, HasDriven, HasTold, IsCut, IsEnd, LineIsTold, Reads, line_of}
+use Rattle.drive.specs.Scripts.{AreTold, HasBroken, HasDriven, HasTold, LineIsCut, NothingWasLeft, LineIsTold, ReadsScript, line_of}
 use Rattle.drive.specs.Sessions.{TheSession}
-use Rattle.drive.specs.Transcripts.{IsTold}
+use Rattle.drive.specs.Transcripts.{IsToldOfLine}
 
 appends_nothing : (known : Option (List ℕ)) → Appends known known []
 appends_nothing None = tt
@@ -25,7 +25,7 @@ pub one_more_told : (from mid to : Option (List ℕ)) (a b c : TheSession) (out 
     AreTold from mid a b out more count → LineIsTold mid to b c (count + 1) more new → AreTold from to a c out new (count + 1)
 one_more_told from mid to a b c out more new count all one =
     let number : count + 1 ≡ suc (length (map line_of all.chunks)) = add-one count ∙ ap suc (sym (length_lines all.chunks ∙ all.count_is)) in
-    let told : IsTold b c (suc (length (map line_of all.chunks))) (line_of one.chunk) one.text = subst (λ n. IsTold b c n (line_of one.chunk) one.text) number one.told in
+    let told : IsToldOfLine b c (suc (length (map line_of all.chunks))) (line_of one.chunk) one.text = subst (λ n. IsToldOfLine b c n (line_of one.chunk) one.text) number one.told in
     record {
       chunks = one.chunk ∷ all.chunks;
       count_is = ap suc all.count_is ∙ sym (add-one count);
@@ -36,7 +36,7 @@ one_more_told from mid to a b c out more new count all one =
     }
 
 pub all_told : (from to : Option (List ℕ)) (a b c : TheSession) (out more new : Option (List ℕ)) (count : ℕ) →
-    AreTold from to a b out more count → IsEnd to b c more new → HasDriven from a c out new
+    AreTold from to a b out more count → NothingWasLeft to b c more new → HasDriven from a c out new
 all_told from to a b c out more new count all end = record {
   to = to;
   count = count;
@@ -45,12 +45,12 @@ all_told from to a b c out more new count all end = record {
 }
 
 -- A line that was read with what ends it
-pub reads : (from to : Option (List ℕ)) (old chunk : List ℕ) → old ≡ [] → IfSome from (λ xs. chunk ≡ old ++ take_through 10 xs) → DropsThrough from to 10 → Reads from to chunk
+pub reads : (from to : Option (List ℕ)) (old chunk : List ℕ) → old ≡ [] → IfSome from (λ xs. chunk ≡ old ++ take_through 10 xs) → DropsThrough from to 10 → ReadsScript from to chunk
 reads None to old chunk empty is rest = tt
 reads (Some input) to old chunk empty is rest = (is ∙ ap (λ xs. xs ++ take_through 10 input) empty, rest)
 
 pub cut_short : (from to : Option (List ℕ)) (a b : TheSession) (number : ℕ) (out new : Option (List ℕ)) (chunk text bytes : List ℕ) →
-    Reads from to chunk → IsTold a b number (line_of chunk) text → bytes ≡ text → (n : ℕ) × (n < length bytes) × Appends out new (take n bytes) → IsCut from a number out new
+    ReadsScript from to chunk → IsToldOfLine a b number (line_of chunk) text → bytes ≡ text → (n : ℕ) × (n < length bytes) × Appends out new (take n bytes) → LineIsCut from a number out new
 cut_short from to a b number out new chunk text bytes read told same part =
     let whole = subst (λ (xs : List ℕ). (n : ℕ) × (n < length xs) × Appends out new (take n xs)) same part in
     record { to = to; new = b; chunk = chunk; text = text; read = read; told = told; count = whole.0; part = whole.1; written = whole.2 }
@@ -64,5 +64,5 @@ pub some_told : (from mid : Option (List ℕ)) (a b : TheSession) (out more : Op
 some_told from mid a b out more count all = record { to = mid; new = b; count = count; all = all }
 
 pub broken : (from mid : Option (List ℕ)) (a b : TheSession) (out more new : Option (List ℕ)) (count : ℕ) →
-    AreTold from mid a b out more count → IsCut mid b (count + 1) more new → HasBroken from a out new
+    AreTold from mid a b out more count → LineIsCut mid b (count + 1) more new → HasBroken from a out new
 broken from mid a b out more new count all cut = record { to = mid; new = b; between = more; count = count; all = all; cut = cut }

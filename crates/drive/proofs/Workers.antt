@@ -10,9 +10,9 @@ use Rattle.drive.specs.declared.units.Claimed.{Claimed}
 use Rattle.drive.specs.declared.units.Claimed.TheVariants.{Job, Moved, NotOpen, Waiting}
 use Rattle.drive.specs.declared.units.Held.{Held}
 use Rattle.drive.specs.declared.units.Worker.{Worker}
-use Rattle.drive.specs.Held.{claim_of, job_of}
+use Rattle.drive.specs.Held.{claim_of, held_job}
 use Rattle.drive.specs.Replies.{HoldsWhatIs}
-use Rattle.drive.specs.Workers.{AreWorkers, HasNone, HasTold, HasUnit, IsHolder, IsWorker, StaySeen, job_at, job_from, job_in, seen_at, seen_in, worker_at}
+use Rattle.drive.specs.Workers.{AreWorkers, HasNone, UnitHasSeen, HasUnit, IsHolder, IsWorker, StaySeen, job_at, job_from, job_in, seen_at, seen_by_unit, worker_at}
 use Rattle.drive.proofs.Histories.{starts_same}
 use Rattle.drive.proofs.Jobs.{job_later}
 use Rattle.station.specs.declared.answers.Claim.{Claim}
@@ -66,26 +66,26 @@ module _ (units taken : List (Option Worker)) (at : ℕ) (w : Worker) (within : 
     where
       keep : (k : ℕ) → (k ≡ at) ⊎ (k ≢ at) → StartsWith (seen_at (set taken at (Some w)) k) (seen_at units k)
       keep k (inl e) = subst (λ n. StartsWith (seen_at (set taken at (Some w)) n) (seen_at units n)) (sym e)
-          (subst (λ (x : Option Worker). StartsWith (seen_in x) (seen_at units at)) (sym here) more)
-      keep k (inr ne) = subst (λ (x : Option Worker). StartsWith (seen_in x) (seen_at units k)) (sym (there k ne)) (starts_same (seen_at units k))
+          (subst (λ (x : Option Worker). StartsWith (seen_by_unit x) (seen_at units at)) (sym here) more)
+      keep k (inr ne) = subst (λ (x : Option Worker). StartsWith (seen_by_unit x) (seen_at units k)) (sym (there k ne)) (starts_same (seen_at units k))
 
       job_is : (k : ℕ) → (k ≡ at) ⊎ (k ≢ at) → job_at (set taken at (Some w)) k ≡ job_at units k
       job_is k (inl e) = ap (λ n. job_at (set taken at (Some w)) n) e ∙ (ap job_in here ∙ (job ∙ ap (λ n. job_at units n) (sym e)))
       job_is k (inr ne) = ap job_in (there k ne)
 
   pub has_told : (old new : List Entry) → StaySeen units (set taken at (Some w)) → StartsWith w.seat.seen old → StartsWith new w.seat.seen →
-      HasTold units (set taken at (Some w)) at old new
+      UnitHasSeen units (set taken at (Some w)) at old new
   has_told old new stays learns tells = record {
     units = stays;
-    learns = subst (λ (x : Option Worker). StartsWith (seen_in x) old) (sym here) learns;
-    tells = subst (λ (x : Option Worker). StartsWith new (seen_in x)) (sym here) tells;
+    learns = subst (λ (x : Option Worker). StartsWith (seen_by_unit x) old) (sym here) learns;
+    tells = subst (λ (x : Option Worker). StartsWith new (seen_by_unit x)) (sym here) tells;
   }
 
 -- Who is taken has seen what the one there had seen
 pub taken_seen : (units : List (Option Worker)) (at : ℕ) (w : Worker) → ((v : Worker) → worker_at units at ≡ Some v → w ≡ v) → StartsWith w.seat.seen (seen_at units at)
 taken_seen units at w same = go (worker_at units at) same
   where
-    go : (x : Option Worker) → ((v : Worker) → x ≡ Some v → w ≡ v) → StartsWith w.seat.seen (seen_in x)
+    go : (x : Option Worker) → ((v : Worker) → x ≡ Some v → w ≡ v) → StartsWith w.seat.seen (seen_by_unit x)
     go None f = record { more = w.seat.seen; is = sym (append-nil w.seat.seen) }
     go (Some v) f = subst (λ (u : Worker). StartsWith w.seat.seen u.seat.seen) (f v refl) (starts_same w.seat.seen)
 
@@ -94,7 +94,7 @@ pub still_works : (core : TheCore) (stay : JobsStaySeen) (w : Worker) (seat : Ca
     IsWorker core (record { seat = seat; job = w.job })
 still_works core stay w seat is same adds = record {
   core_is = same.core ∙ is.core_is;
-  holds = λ held e. job_later core stay w.seat seat (job_of held) (is.holds held e) same.by adds;
+  holds = λ held e. job_later core stay w.seat seat (held_job held) (is.holds held e) same.by adds;
 }
 
 -- The job of a claim is held

@@ -13,7 +13,7 @@ use Rattle.drive.specs.declared.commands.Which.{Which}
 use Rattle.drive.specs.declared.commands.Which.TheVariants.{First, Second}
 use Rattle.drive.specs.declared.parties.Party.{Party}
 use Rattle.drive.specs.declared.parties.Party.TheVariants as party
-use Rattle.drive.specs.Units.{unit_of}
+use Rattle.drive.specs.Units.{unit_named}
 use Rattle.drive.specs.Words.{Texts}
 
 -- The word of a command
@@ -51,8 +51,8 @@ abbrev pub has_two : Texts → Bool
 has_two w = not (is_empty w.second) && is_empty w.rest
 
 -- The command that has no operands
-abbrev pub bare : Texts → Command → Option Command
-bare w c = if is_empty w.first then Some c else None
+abbrev pub without_operands : Texts → Command → Option Command
+without_operands w c = if is_empty w.first then Some c else None
 
 -- The number of a station or a register
 abbrev pub number_of : List ℕ → Option ℕ
@@ -70,7 +70,7 @@ both (Some a) (Some b) = Some (a, b)
 
 -- A unit and the number of a station
 abbrev pub unit_and_number : Texts → Option (ℕ × ℕ)
-unit_and_number w = if has_two w then both (unit_of w.first) (number_of w.second) else None
+unit_and_number w = if has_two w then both (unit_named w.first) (number_of w.second) else None
 
 -- The source with this number, 1 or 2
 abbrev pub source_numbered : Option ℕ → Option Which
@@ -90,7 +90,7 @@ abbrev pub party_of : List ℕ → Option Party
 party_of name =
     if bytes_eq name (codes "front") then Some party.Front
     else if bytes_eq name (codes "back") then Some party.Back
-    else option_map (λ u. party.Unit u) (unit_of name)
+    else option_map (λ u. party.Unit u) (unit_named name)
 
 -- Two that meet
 abbrev pub two_parties : Texts → Option (Party × Party)
@@ -98,28 +98,28 @@ two_parties w = if has_two w then both (party_of w.first) (party_of w.second) el
 
 -- The command of a word and its operands
 abbrev pub command_of : Verb → Texts → Option Command
-command_of Turn w = bare w call.Turn
-command_of Recover w = bare w call.Recover
+command_of Turn w = without_operands w call.Turn
+command_of Recover w = without_operands w call.Recover
 command_of Claim w = option_map (λ p. call.Claim p.0 p.1) (unit_and_number w)
 command_of Finish w = option_map (λ p. call.Finish p.0 p.1) (unit_and_number w)
-command_of Refresh w = bare w call.Refresh
-command_of Commit w = bare w call.Commit
-command_of Show w = bare w call.Show
-command_of Take w = bare w call.Take
-command_of Learn w = bare w call.Learn
+command_of Refresh w = without_operands w call.Refresh
+command_of Commit w = without_operands w call.Commit
+command_of Show w = without_operands w call.Show
+command_of Take w = without_operands w call.Take
+command_of Learn w = without_operands w call.Learn
 command_of Look w = option_map (λ s. call.Look s) (only_number w)
 command_of Creator w = option_map (λ r. call.Creator r) (only_number w)
-command_of Touched w = bare w call.Touched
+command_of Touched w = without_operands w call.Touched
 command_of Info w = option_map (λ s. call.Info s) (only_number w)
 command_of Operand w = option_map (λ p. call.Operand p.0 p.1) (station_and_source w)
-command_of Rest w = bare w call.Rest
+command_of Rest w = without_operands w call.Rest
 command_of Meet w = option_map (λ p. call.Meet p.0 p.1) (two_parties w)
-command_of Report w = bare w call.Report
-command_of Renew w = bare w call.Renew
+command_of Report w = without_operands w call.Report
+command_of Renew w = without_operands w call.Renew
 command_of Table w = None
 
 -- The command that these words are
-pub record IsCommand (w : Texts) (c : Command) : Type 0 where
+pub record AreWordsOf (w : Texts) (c : Command) : Type 0 where
   pub verb : Verb
   pub named : w.verb ≡ verb_name verb
   pub is : command_of verb w ≡ Some c
@@ -140,5 +140,5 @@ abbrev pub IsLine : Texts → Line → Type 0
 IsLine w Nothing = w.verb ≡ []
 IsLine w Unknown = (v : Verb) → w.verb ≢ verb_name v
 IsLine w (Wants v) = IsMistaken w v
-IsLine w (Asks c) = IsCommand w c
+IsLine w (Asks c) = AreWordsOf w c
 IsLine w AsksTable = AsksForTable w

@@ -7,8 +7,8 @@ use Rattle.station.specs.declared.answers.Claim.TheVariants as claim
 use Rattle.station.specs.declared.answers.Job.{Job}
 
 -- The job with these fields
-abbrev pub job_of : Held → Job
-job_of h =
+abbrev pub held_job : Held → Job
+held_job h =
     record {
       station = h.station;
       tag = h.tag;
@@ -22,7 +22,7 @@ job_of h =
 
 -- The answer of a claim, with its job
 abbrev pub claim_of : Claimed → Claim
-claim_of (told.Job held) = claim.Job (job_of held)
+claim_of (told.Job held) = claim.Job (held_job held)
 claim_of told.NotOpen = claim.NotOpen
 claim_of (told.Waiting tag k) = claim.Waiting tag k
 claim_of (told.Moved tag) = claim.Moved tag

@@ -5,7 +5,7 @@ use Rattle.inorder.specs.History.{IsLegal, StartsWith}
 use Rattle.station.specs.Seats.{TheCore}
 
 -- The history has grown, and it is legal
-pub record Grows (core : TheCore) (old new : List Entry) : Type 0 where
+pub record GrowsLegally (core : TheCore) (old new : List Entry) : Type 0 where
   pub begins : StartsWith new old
   pub legal : IsLegal core.program core.sizes new
 

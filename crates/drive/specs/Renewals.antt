@@ -4,7 +4,7 @@ use Rattle.inorder.specs.declared.history.Entry.{Entry}
 use Rattle.inorder.specs.declared.history.Event.TheVariants.{Does}
 use Rattle.inorder.specs.declared.history.Step.TheVariants.{Renew}
 use Rattle.inorder.specs.History.{MayAdd, StartsWith, back, entry, front, unit_of}
-use Rattle.back.specs.Backs.{TheBack, state_of}
+use Rattle.back.specs.Backs.{TheBack, back_state}
 use Rattle.station.specs.Seats.{Caller, TheCore}
 
 -- The seat that has seen all, the front and the back are of this core
@@ -30,7 +30,7 @@ pub record HasBegunAgain (old new : TheCore) (seen new_seen : List Entry) (commi
   pub seen_is : new_seen ≡ entry front (Does Renew) ∷ last
   pub ended : new_commits.ended ≡ None
   pub shown : new_commits.shown ≡ commits.shown
-  pub state : state_of new_commits ≡ state_of commits
+  pub state : back_state new_commits ≡ back_state commits
   pub told : new_told ≡ length (unit_of old.program old.sizes last).tenants
 
 -- There was no memory for another core: it is the old one, whose seats have met, and what was committed stays
@@ -40,4 +40,4 @@ pub record HasStayed (old new : TheCore) (seen new_seen : List Entry) (commits n
   pub begins : StartsWith new_seen seen
   pub ended : new_commits.ended ≡ None
   pub shown : new_commits.shown ≡ commits.shown
-  pub state : state_of new_commits ≡ state_of commits
+  pub state : back_state new_commits ≡ back_state commits

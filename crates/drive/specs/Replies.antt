@@ -12,7 +12,7 @@ use Rattle.back.specs.Commits.{CommitAnswers}
 use Rattle.back.specs.declared.answers.Commit.{Commit}
 use Rattle.back.specs.declared.answers.Refresh.{Refresh}
 use Rattle.back.specs.Refreshes.{RefreshAnswers}
-use Rattle.front.specs.Creating.{IsCreator}
+use Rattle.front.specs.Creating.{IsCreatorAnswer}
 use Rattle.front.specs.declared.answers.Made.{Made}
 use Rattle.front.specs.declared.answers.Recovery.{Recovery}
 use Rattle.front.specs.declared.answers.Rest.{Rest}
@@ -20,7 +20,6 @@ use Rattle.front.specs.declared.answers.Rest.TheVariants.{Idle, Live}
 use Rattle.front.specs.declared.answers.Turn.{Turn}
 use Rattle.front.specs.declared.answers.Turn.TheVariants.{Let}
 use Rattle.front.specs.Recoveries.{RecoverAnswers}
-use Rattle.front.specs.Rests.{HasNobody}
 use Rattle.front.specs.Turns.{LetsOut, Refuses}
 use Rattle.ruu_words.specs.declared.station.StationState.{StationState}
 use Rattle.snapshots.specs.declared.mark.Mark.{Mark}
@@ -39,6 +38,7 @@ use Rattle.drive.specs.declared.commands.Which.{Which}
 use Rattle.drive.specs.declared.commands.Which.TheVariants as which
 use Rattle.drive.specs.declared.replies.Info.{Info}
 use Rattle.drive.specs.Moments.{IsBetween}
+use Rattle.station.specs.Renewals.{HasNobody}
 
 -- A tenant was let, with some predicted next pc
 pub record HasLet (P : Program) (C : Sizes) (before behind : List Entry) (station tag pc : ℕ) :
@@ -47,7 +47,7 @@ pub record HasLet (P : Program) (C : Sizes) (before behind : List Entry) (statio
   pub lets : LetsOut P C before behind station tag pc predicted
 
 -- A refusal is true at its moment of the call, and adds nothing
-pub record IsRefusal (P : Program) (C : Sizes) (before behind : List Entry) (turn : Turn) :
+pub record IsTurnRefusal (P : Program) (C : Sizes) (before behind : List Entry) (turn : Turn) :
     Type 0 where
   pub adds : Adds P C front before behind []
   pub was : Refuses P C before behind turn
@@ -55,7 +55,7 @@ pub record IsRefusal (P : Program) (C : Sizes) (before behind : List Entry) (tur
 -- A turn of the front
 abbrev pub TurnSays : Program → Sizes → List Entry → List Entry → Turn → Type 0
 TurnSays P C before behind (Let station tag pc) = HasLet P C before behind station tag pc
-TurnSays P C before behind turn = IsRefusal P C before behind turn
+TurnSays P C before behind turn = IsTurnRefusal P C before behind turn
 
 -- What a turn of the front answers, and what it has added to the history
 abbrev pub IsTurn : TheCore → List Entry → List Entry → Turn → Type 0
@@ -110,11 +110,11 @@ IsLook core old new station seen =
 abbrev pub IsCreatorNow : TheCore → List Entry → List Entry → (told register : ℕ) → Made → Type 0
 IsCreatorNow core old new told register made =
     IsBetween old new (λ before behind.
-    IsCreator core.program (unit_in core behind) told register made)
+    IsCreatorAnswer core.program (unit_in core behind) told register made)
 
 -- The info word of a station
-abbrev pub IsInfo : TheCore → List Entry → List Entry → ℕ → Info → Type 0
-IsInfo core old new station info =
+abbrev pub IsInfoSeen : TheCore → List Entry → List Entry → ℕ → Info → Type 0
+IsInfoSeen core old new station info =
     IsBetween old new (λ before behind.
     SeesInfo core.program core.sizes behind station info.index info.half info.predicted)
 
@@ -124,8 +124,8 @@ source_at which.First = First
 source_at which.Second = Second
 
 -- The operand word of a source of a station
-abbrev pub IsOperand : TheCore → List Entry → List Entry → ℕ → Source → Seen SourceState → Type 0
-IsOperand core old new station k seen =
+abbrev pub IsOperandSeen : TheCore → List Entry → List Entry → ℕ → Source → Seen SourceState → Type 0
+IsOperandSeen core old new station k seen =
     IsBetween old new (λ before behind.
     SeesOperand core.program core.sizes behind station k seen)
 
@@ -136,7 +136,7 @@ pub record HasIdled (P : Program) (C : Sizes) (before behind : List Entry) (new_
   pub told : new_told ≡ length (unit_of P C behind).tenants
 
 -- Somebody was live at a moment of the call, and nothing changed
-pub record WasLive (P : Program) (C : Sizes) (before behind : List Entry) (told new_told : ℕ) :
+pub record SomebodyWasLive (P : Program) (C : Sizes) (before behind : List Entry) (told new_told : ℕ) :
     Type 0 where
   pub adds : Adds P C front before behind []
   pub live : WasOnce P C before behind (λ U. ¬ HasNobody U)
@@ -145,7 +145,7 @@ pub record WasLive (P : Program) (C : Sizes) (before behind : List Entry) (told 
 -- A rest of the front
 abbrev pub RestSays : Program → Sizes → List Entry → List Entry → (told new_told : ℕ) → Rest → Type 0
 RestSays P C before behind told new_told Idle = HasIdled P C before behind new_told
-RestSays P C before behind told new_told Live = WasLive P C before behind told new_told
+RestSays P C before behind told new_told Live = SomebodyWasLive P C before behind told new_told
 
 -- What a rest answers, and of how many tenants nobody is told any more before it and behind it
 abbrev pub IsRest : TheCore → List Entry → List Entry → (told new_told : ℕ) → Rest → Type 0

@@ -3,7 +3,7 @@ use Rattle.std.specs.Prelude.{◌≡◌, ℕ, ◌+◌, ◌<◌, List, [], ◌∷
 use Rattle.std.specs.Io.BufRead.{drop_through, strip_last, take_through}
 use Rattle.std.specs.Io.KnownBytes.{Appends, IsAtEnd}
 use Rattle.drive.specs.Sessions.{TheSession}
-use Rattle.drive.specs.Transcripts.{IsTold, IsTranscript}
+use Rattle.drive.specs.Transcripts.{IsToldOfLine, IsTranscript}
 
 -- A line of a script without what ends it
 abbrev pub line_of : List ℕ → List ℕ
@@ -11,27 +11,27 @@ line_of chunk = strip_last 13 (strip_last 10 chunk)
 
 -- The next line of a script was read, with what ends it. This says something where the bytes of
 -- the reader are known
-abbrev pub Reads : Option (List ℕ) → Option (List ℕ) → List ℕ → Type 0
-Reads from to chunk =
+abbrev pub ReadsScript : Option (List ℕ) → Option (List ℕ) → List ℕ → Type 0
+ReadsScript from to chunk =
     IfSome from (λ input. (chunk ≡ take_through 10 input) × (to ≡ Some (drop_through 10 input)))
 
 -- These lines were read, the last one first
 abbrev pub AreRead : Option (List ℕ) → List (List ℕ) → Option (List ℕ) → Type 0
 AreRead from [] to = to ≡ from
 AreRead from (chunk ∷ earlier) to =
-    (middle : Option (List ℕ)) × AreRead from earlier middle × Reads middle to chunk
+    (middle : Option (List ℕ)) × AreRead from earlier middle × ReadsScript middle to chunk
 
 -- A line was read, answered, and what is told of it was written
 pub record LineIsTold (from to : Option (List ℕ)) (old new : TheSession) (number : ℕ)
     (before after : Option (List ℕ)) : Type 0 where
   pub chunk : List ℕ
   pub text : List ℕ
-  pub read : Reads from to chunk
-  pub told : IsTold old new number (line_of chunk) text
+  pub read : ReadsScript from to chunk
+  pub told : IsToldOfLine old new number (line_of chunk) text
   pub written : Appends before after text
 
 -- Nothing was left to read, and nothing was done
-pub record IsEnd (from : Option (List ℕ)) (old new : TheSession)
+pub record NothingWasLeft (from : Option (List ℕ)) (old new : TheSession)
     (before after : Option (List ℕ)) : Type 0 where
   pub read : IsAtEnd from
   pub same : new ≡ old
@@ -65,14 +65,14 @@ pub record HasTold (from : Option (List ℕ)) (old : TheSession)
   pub all : AreTold from to old new before after count
 
 -- A line was read and answered, and a proper beginning of what is told of it was written
-pub record IsCut (from : Option (List ℕ)) (old : TheSession) (number : ℕ)
+pub record LineIsCut (from : Option (List ℕ)) (old : TheSession) (number : ℕ)
     (before after : Option (List ℕ)) : Type 0 where
   pub to : Option (List ℕ)
   pub new : TheSession
   pub chunk : List ℕ
   pub text : List ℕ
-  pub read : Reads from to chunk
-  pub told : IsTold old new number (line_of chunk) text
+  pub read : ReadsScript from to chunk
+  pub told : IsToldOfLine old new number (line_of chunk) text
   pub count : ℕ
   pub part : count < length text
   pub written : Appends before after (take count text)
@@ -86,4 +86,4 @@ pub record HasBroken (from : Option (List ℕ)) (old : TheSession)
   pub between : Option (List ℕ)
   pub count : ℕ
   pub all : AreTold from to old new before between count
-  pub cut : IsCut to new (count + 1) between after
+  pub cut : LineIsCut to new (count + 1) between after

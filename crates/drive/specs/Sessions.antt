@@ -6,8 +6,8 @@ use Rattle.instructions.specs.Settings.{Settings}
 use Rattle.instructions.specs.Registers.{register_count}
 use Rattle.inorder.specs.declared.history.Entry.{Entry}
 use Rattle.inorder.specs.History.{IsLegal, StartsWith, back}
-use Rattle.back.specs.Backs.{IsSame as IsSameBack, TheBack, state_of}
-use Rattle.back.specs.Ends.{outcome_of, state_in}
+use Rattle.back.specs.Backs.{IsSameBack, TheBack, back_state}
+use Rattle.back.specs.Ends.{ending_of, state_in}
 use Rattle.front.specs.declared.answers.Rest.{Rest}
 use Rattle.front.specs.Rests.{rested_after}
 use Rattle.snapshots.specs.declared.mark.Mark.{Mark}
@@ -26,9 +26,9 @@ use Rattle.drive.specs.declared.replies.Reply.TheVariants as say
 use Rattle.drive.specs.declared.units.Held.{Held}
 use Rattle.drive.specs.declared.units.Worker.{Worker}
 use Rattle.drive.specs.Units.{unit_count}
-use Rattle.drive.specs.Replies.{IsCommit, IsCreatorNow, IsInfo, IsLook, IsOperand, IsRecovery, IsRefresh, IsRest, IsShown, IsTurn, source_at}
+use Rattle.drive.specs.Replies.{IsCommit, IsCreatorNow, IsInfoSeen, IsLook, IsOperandSeen, IsRecovery, IsRefresh, IsRest, IsShown, IsTurn, source_at}
 use Rattle.drive.specs.Renewals.{HasBegunAgain, HasStayed}
-use Rattle.drive.specs.Workers.{AreWorkers, HasClaimed, HasFinished, HasNone, StaySeen, job_at, seen_at}
+use Rattle.drive.specs.Workers.{AreWorkers, HasClaimed, UnitHasFinished, HasNone, StaySeen, job_at, seen_at}
 
 -- A session: its core, the one history that its seats have seen together, its units, its back, the
 -- greatest count of its snapper, the mark that was shown last, what the front has seen, what its create
@@ -47,7 +47,7 @@ pub record TheSession : Type 0 where
   pub rested : Bool
 
 -- Its parts are of one core, and it knows when its front is at a rest
-pub record IsWhole (P : Program) (core : TheCore) (program : Program) (all : Caller)
+pub record IsOneCore (P : Program) (core : TheCore) (program : Program) (all : Caller)
     (front_core : TheCore) (front_rested rested : Bool) (commits : TheBack) (units : List (Option Worker)) (count : ℕ) : Type 0 where
   pub named : core.program ≡ P
   pub program_is : program ≡ core.program
@@ -61,7 +61,7 @@ pub record IsWhole (P : Program) (core : TheCore) (program : Program) (all : Cal
   pub legal : IsLegal core.program core.sizes all.seen
 
 -- A session at the start of a program: nothing was done, and no unit was made
-pub record IsStart (P : Program) (config : Settings) (s : TheSession) : Type 0 where
+pub record IsStartOfSession (P : Program) (config : Settings) (s : TheSession) : Type 0 where
   pub program : s.core.program ≡ P
   pub sizes : s.core.sizes ≡
       record { ring = config.ring; queue = config.queue; first_tag = config.first_tag }
@@ -76,7 +76,7 @@ pub record IsStart (P : Program) (config : Settings) (s : TheSession) : Type 0 w
 pub record HasFinishedAt (old new : TheSession) (unit station : ℕ) (answer : Finish) : Type 0 where
   pub held : Held
   pub station_is : held.station ≡ station
-  pub finishes : HasFinished old.core old.seen new.seen old.units new.units unit held answer
+  pub finishes : UnitHasFinished old.core old.seen new.seen old.units new.units unit held answer
 
 -- A snapshot of the machine in order, behind every mark and every snapshot before it
 pub record HasTaken (old new : TheSession) (snap : Snap) : Type 0 where
@@ -110,7 +110,7 @@ pub record WasNotShown (old new : TheSession) : Type 0 where
   pub commits : ShowsCommits old new
 
 -- The front has rested, if nobody was live
-pub record HasRested (old new : TheSession) (rest : Rest) : Type 0 where
+pub record SessionHasRested (old new : TheSession) (rest : Rest) : Type 0 where
   pub says : IsRest old.core old.seen new.seen old.told new.told rest
   pub rested : new.rested ≡ rested_after old.rested rest
 
@@ -133,7 +133,7 @@ pub record HasToldAll (old new : TheSession) (p : Party) : Type 0 where
   pub tells : StartsWith new.seen (seen_by p new)
 
 -- Two have met: each has seen what either had seen
-pub record HaveMet (old new : TheSession) (one other : Party) : Type 0 where
+pub record TwoHaveMet (old new : TheSession) (one other : Party) : Type 0 where
   pub stays : StaysAsSeen old new
   pub one_told : StartsWith (seen_by one new) (seen_by other old)
   pub other_told : StartsWith (seen_by other new) (seen_by one old)
@@ -150,8 +150,8 @@ IsSomebody p = Unit {0}
 
 -- The committed state, and how the run has ended, if it has
 pub record HasReported (old new : TheSession) (end : End) : Type 0 where
-  pub state : state_in end ≡ state_of old.commits
-  pub outcome : end.outcome ≡ outcome_of old.commits.ended
+  pub state : state_in end ≡ back_state old.commits
+  pub outcome : end.outcome ≡ ending_of old.commits.ended
   pub commits : KeepsCommits old new
 
 -- The core was renewed, where the front had rested. Units are made anew
@@ -169,24 +169,24 @@ pub record WasNotRenewed (old new : TheSession) : Type 0 where
   pub units : new.units ≡ old.units
 
 -- Why a command is refused
-abbrev pub MayRefuse : TheSession → Command → Refusal → Type 0
-MayRefuse s (ask.Claim unit station) no.NoUnit = unit_count ≤ unit
-MayRefuse s (ask.Claim unit station) no.NoStation = s.core.sizes.ring ≤ station
-MayRefuse s (ask.Claim unit station) no.HoldsJob = IsSome (job_at s.units unit)
-MayRefuse s (ask.Finish unit station) no.NoUnit = unit_count ≤ unit
-MayRefuse s (ask.Finish unit station) no.HoldsNone =
+abbrev pub MayRefuseCommand : TheSession → Command → Refusal → Type 0
+MayRefuseCommand s (ask.Claim unit station) no.NoUnit = unit_count ≤ unit
+MayRefuseCommand s (ask.Claim unit station) no.NoStation = s.core.sizes.ring ≤ station
+MayRefuseCommand s (ask.Claim unit station) no.HoldsJob = IsSome (job_at s.units unit)
+MayRefuseCommand s (ask.Finish unit station) no.NoUnit = unit_count ≤ unit
+MayRefuseCommand s (ask.Finish unit station) no.HoldsNone =
     (held : Held) → job_at s.units unit ≡ Some held → held.station ≢ station
-MayRefuse s (ask.Look station) no.NoStation = s.core.sizes.ring ≤ station
-MayRefuse s (ask.Info station) no.NoStation = s.core.sizes.ring ≤ station
-MayRefuse s (ask.Operand station which) no.NoStation = s.core.sizes.ring ≤ station
-MayRefuse s (ask.Creator register) no.NoRegister = register_count ≤ register
-MayRefuse s ask.Learn no.NoMark = s.mark ≡ None
-MayRefuse s ask.Commit no.NoCount = 2 ^ 64 - 1 ≤ (state_of s.commits).count
-MayRefuse s (ask.Meet one other) no.NoUnit = IsNobody one ⊎ IsNobody other
-MayRefuse s (ask.Meet one other) no.NoOther = one ≡ other
-MayRefuse s ask.Renew no.NoRest = s.rested ≡ false
-MayRefuse s ask.Renew no.HasEnded = IsSome s.commits.ended
-MayRefuse s command refusal = ⊥
+MayRefuseCommand s (ask.Look station) no.NoStation = s.core.sizes.ring ≤ station
+MayRefuseCommand s (ask.Info station) no.NoStation = s.core.sizes.ring ≤ station
+MayRefuseCommand s (ask.Operand station which) no.NoStation = s.core.sizes.ring ≤ station
+MayRefuseCommand s (ask.Creator register) no.NoRegister = register_count ≤ register
+MayRefuseCommand s ask.Learn no.NoMark = s.mark ≡ None
+MayRefuseCommand s ask.Commit no.NoCount = 2 ^ 64 - 1 ≤ (back_state s.commits).count
+MayRefuseCommand s (ask.Meet one other) no.NoUnit = IsNobody one ⊎ IsNobody other
+MayRefuseCommand s (ask.Meet one other) no.NoOther = one ≡ other
+MayRefuseCommand s ask.Renew no.NoRest = s.rested ≡ false
+MayRefuseCommand s ask.Renew no.HasEnded = IsSome s.commits.ended
+MayRefuseCommand s command refusal = ⊥
 
 -- The answer to a command: it is allowed between the two histories, or it is a refusal that changes
 -- nothing
@@ -212,48 +212,48 @@ Answers old new (ask.Creator register) (say.Creator made) =
     IsCreatorNow old.core old.seen new.seen old.told register made
 Answers old new ask.Touched (say.Touched count) = (count ≡ old.touched) × (new ≡ old)
 Answers old new (ask.Info station) (say.Info info) =
-    IsInfo old.core old.seen new.seen station info × KeepsCommits old new
+    IsInfoSeen old.core old.seen new.seen station info × KeepsCommits old new
 Answers old new (ask.Operand station which) (say.Operand seen) =
-    IsOperand old.core old.seen new.seen station (source_at which) seen × KeepsCommits old new
-Answers old new ask.Rest (say.Rest rest) = HasRested old new rest
-Answers old new (ask.Meet one other) say.Met = HaveMet old new one other
+    IsOperandSeen old.core old.seen new.seen station (source_at which) seen × KeepsCommits old new
+Answers old new ask.Rest (say.Rest rest) = SessionHasRested old new rest
+Answers old new (ask.Meet one other) say.Met = TwoHaveMet old new one other
 Answers old new ask.Report (say.Report end) = HasReported old new end
 Answers old new ask.Report say.Memory = KeepsCommits old new
 Answers old new ask.Renew say.Renewed = HasRenewed old new
 Answers old new ask.Renew say.Memory = WasNotRenewed old new
-Answers old new command (say.Refused refusal) = MayRefuse old command refusal × (new ≡ old)
+Answers old new command (say.Refused refusal) = MayRefuseCommand old command refusal × (new ≡ old)
 Answers old new command reply = ⊥
 
 -- The session with what a command may change
-abbrev pub changed : Command → TheSession → TheSession → TheSession
-changed ask.Turn old new =
+abbrev pub after_command : Command → TheSession → TheSession → TheSession
+after_command ask.Turn old new =
     record old { seen = new.seen; fronts = new.fronts; touched = new.touched; rested = false }
-changed ask.Recover old new =
+after_command ask.Recover old new =
     record old { seen = new.seen; fronts = new.fronts; touched = new.touched; rested = false }
-changed (ask.Claim unit station) old new = record old { seen = new.seen; units = new.units }
-changed (ask.Finish unit station) old new = record old { seen = new.seen; units = new.units }
-changed ask.Refresh old new = record old { seen = new.seen; commits = new.commits }
-changed ask.Commit old new = record old { seen = new.seen; commits = new.commits }
-changed ask.Show old new =
+after_command (ask.Claim unit station) old new = record old { seen = new.seen; units = new.units }
+after_command (ask.Finish unit station) old new = record old { seen = new.seen; units = new.units }
+after_command ask.Refresh old new = record old { seen = new.seen; commits = new.commits }
+after_command ask.Commit old new = record old { seen = new.seen; commits = new.commits }
+after_command ask.Show old new =
     record old { seen = new.seen; commits = new.commits; mark = new.mark }
-changed ask.Take old new = record old { snapper = new.snapper }
-changed ask.Learn old new = record old { snapper = new.snapper }
-changed (ask.Look station) old new = record old { seen = new.seen; fronts = new.fronts }
-changed (ask.Creator register) old new = record old { seen = new.seen; fronts = new.fronts }
-changed ask.Touched old new = old
-changed (ask.Info station) old new = record old { seen = new.seen; commits = new.commits }
-changed (ask.Operand station which) old new = record old { seen = new.seen; commits = new.commits }
-changed ask.Rest old new =
+after_command ask.Take old new = record old { snapper = new.snapper }
+after_command ask.Learn old new = record old { snapper = new.snapper }
+after_command (ask.Look station) old new = record old { seen = new.seen; fronts = new.fronts }
+after_command (ask.Creator register) old new = record old { seen = new.seen; fronts = new.fronts }
+after_command ask.Touched old new = old
+after_command (ask.Info station) old new = record old { seen = new.seen; commits = new.commits }
+after_command (ask.Operand station which) old new = record old { seen = new.seen; commits = new.commits }
+after_command ask.Rest old new =
     record old { seen = new.seen; fronts = new.fronts; told = new.told; rested = new.rested }
-changed (ask.Meet one other) old new =
+after_command (ask.Meet one other) old new =
     record old {
       seen = new.seen;
       units = new.units;
       commits = new.commits;
       fronts = new.fronts;
     }
-changed ask.Report old new = record old { seen = new.seen; commits = new.commits }
-changed ask.Renew old new =
+after_command ask.Report old new = record old { seen = new.seen; commits = new.commits }
+after_command ask.Renew old new =
     record old {
       core = new.core;
       seen = new.seen;

@@ -9,8 +9,8 @@ use Rattle.drive.specs.declared.commands.Which.{Which}
 use Rattle.drive.specs.declared.commands.Which.TheVariants.{First, Second}
 use Rattle.drive.specs.declared.replies.Reply.{Reply}
 use Rattle.drive.specs.declared.replies.Reply.TheVariants as say
-use Rattle.drive.specs.Moments.{Grows}
-use Rattle.drive.specs.Sessions.{Answers, TheSession, changed}
+use Rattle.drive.specs.Moments.{GrowsLegally}
+use Rattle.drive.specs.Sessions.{Answers, TheSession, after_command}
 use Rattle.drive.specs.Texts.{reply_text}
 
 -- One of the two operands
@@ -38,10 +38,10 @@ row_text command reply =
 
 -- A row is the answer to its command
 pub record IsRow (old new : TheSession) (command : Command) (text : List ℕ) : Type 0 where
-  pub grows : Grows old.core old.seen new.seen
+  pub grows : GrowsLegally old.core old.seen new.seen
   pub reply : Reply
   pub says : Answers old new command reply
-  pub kept : new ≡ changed command old new
+  pub kept : new ≡ after_command command old new
   pub text_is : text ≡ row_text command reply
 
 -- It was written behind what was there before

@@ -56,12 +56,12 @@ state_text state.Miss = codes "MISS"
 state_text state.Stop = codes "STOP"
 
 -- What a turn of the front answered
-abbrev pub turn_text : Turn → List ℕ
-turn_text turn.Full = codes "Full"
-turn_text turn.NoInstr = codes "NoInstr"
-turn_text turn.QueueFull = codes "QueueFull"
-turn_text turn.Spent = codes "Spent"
-turn_text (turn.Let station tag pc) =
+abbrev pub front_turn_text : Turn → List ℕ
+front_turn_text turn.Full = codes "Full"
+front_turn_text turn.NoInstr = codes "NoInstr"
+front_turn_text turn.QueueFull = codes "QueueFull"
+front_turn_text turn.Spent = codes "Spent"
+front_turn_text (turn.Let station tag pc) =
     codes "Let station " ++ (decimal station ++ (codes " tag " ++ (decimal tag
     ++ (codes " pc " ++ hexadecimal pc))))
 
@@ -150,8 +150,8 @@ operand_state_text source.Wait = codes "WAIT"
 operand_state_text source.Val = codes "VAL"
 
 -- What was seen of an operand
-abbrev pub operand_text : Seen SourceState → List ℕ
-operand_text seen =
+abbrev pub seen_operand_text : Seen SourceState → List ℕ
+seen_operand_text seen =
     codes "Seen tag " ++ (decimal seen.tag ++ (codes " state " ++ (operand_state_text seen.state
     ++ (codes " value " ++ hexadecimal seen.value))))
 
@@ -181,7 +181,7 @@ refusal_text no.NoOther = codes "a seat does not meet itself"
 
 -- What is told of a line
 abbrev pub reply_text : Reply → List ℕ
-reply_text (say.Turn turn) = turn_text turn
+reply_text (say.Turn turn) = front_turn_text turn
 reply_text (say.Recovery recovery) = recovery_text recovery
 reply_text (say.Claim answer) = claimed_text answer
 reply_text (say.Finish answer) = finish_text answer
@@ -196,7 +196,7 @@ reply_text (say.Look seen) = look_text seen
 reply_text (say.Creator made) = made_text made
 reply_text (say.Touched count) = decimal count
 reply_text (say.Info info) = info_text info
-reply_text (say.Operand seen) = operand_text seen
+reply_text (say.Operand seen) = seen_operand_text seen
 reply_text (say.Rest rest) = rest_text rest
 reply_text say.Met = codes "Met"
 reply_text (say.Report end) = report_of end

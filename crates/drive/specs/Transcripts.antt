@@ -9,8 +9,8 @@ use Rattle.drive.specs.declared.commands.Verb.TheVariants as verb
 use Rattle.drive.specs.declared.replies.Reply.{Reply}
 use Rattle.drive.specs.Tables.{IsTable}
 use Rattle.drive.specs.Commands.{IsLine, verb_name}
-use Rattle.drive.specs.Moments.{Grows}
-use Rattle.drive.specs.Sessions.{Answers, TheSession, changed}
+use Rattle.drive.specs.Moments.{GrowsLegally}
+use Rattle.drive.specs.Sessions.{Answers, TheSession, after_command}
 use Rattle.drive.specs.Texts.{reply_line}
 use Rattle.drive.specs.Words.{words_of}
 
@@ -37,10 +37,10 @@ wants_text number v =
 
 -- A command was answered, and the history has grown
 pub record IsAnswered (old new : TheSession) (command : Command) (text : List ℕ) : Type 0 where
-  pub grows : Grows old.core old.seen new.seen
+  pub grows : GrowsLegally old.core old.seen new.seen
   pub reply : Reply
   pub says : Answers old new command reply
-  pub kept : new ≡ changed command old new
+  pub kept : new ≡ after_command command old new
   pub text_is : text ≡ reply_line reply
 
 -- What is told of a line of this number. A line that makes no call changes nothing
@@ -52,7 +52,7 @@ LineSays old new number (Asks command) text = IsAnswered old new command text
 LineSays old new number Table text = IsTable old new text
 
 -- What is told of the bytes of a line
-pub record IsTold (old new : TheSession) (number : ℕ) (bytes text : List ℕ) : Type 0 where
+pub record IsToldOfLine (old new : TheSession) (number : ℕ) (bytes text : List ℕ) : Type 0 where
   pub line : Line
   pub line_is : IsLine (words_of bytes) line
   pub says : LineSays old new number line text
@@ -64,5 +64,5 @@ IsTranscript first [] text last = (text ≡ []) × (last ≡ first)
 IsTranscript first (line ∷ earlier) text last =
     (middle : TheSession) × (before : List ℕ) × (told : List ℕ)
     × IsTranscript first earlier before middle
-    × IsTold middle last (suc (length earlier)) line told
+    × IsToldOfLine middle last (suc (length earlier)) line told
     × (text ≡ before ++ told)

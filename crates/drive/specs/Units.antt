@@ -17,8 +17,8 @@ both_letters (Some first) (Some second) =
     if nat_lt (26 * (first + 1) + second) unit_count then Some (26 * (first + 1) + second) else None
 
 -- The place of the unit with this name, from 0 on
-abbrev pub unit_of : List ℕ → Option ℕ
-unit_of [] = None
-unit_of (a ∷ []) = letter a
-unit_of (a ∷ b ∷ []) = both_letters (letter a) (letter b)
-unit_of (a ∷ b ∷ c ∷ more) = None
+abbrev pub unit_named : List ℕ → Option ℕ
+unit_named [] = None
+unit_named (a ∷ []) = letter a
+unit_named (a ∷ b ∷ []) = both_letters (letter a) (letter b)
+unit_named (a ∷ b ∷ c ∷ more) = None

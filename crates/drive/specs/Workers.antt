@@ -6,7 +6,7 @@ use Rattle.drive.specs.declared.units.Claimed.{Claimed}
 use Rattle.drive.specs.declared.units.Claimed.TheVariants.{Job}
 use Rattle.drive.specs.declared.units.Held.{Held}
 use Rattle.drive.specs.declared.units.Worker.{Worker}
-use Rattle.drive.specs.Held.{claim_of, job_of}
+use Rattle.drive.specs.Held.{claim_of, held_job}
 use Rattle.drive.specs.Replies.{IsClaim, IsFinish}
 use Rattle.station.specs.declared.answers.Finish.{Finish}
 use Rattle.station.specs.Claiming.{Holds}
@@ -14,7 +14,7 @@ use Rattle.station.specs.Seats.{Caller, TheCore}
 
 -- The seat's caller holds this job
 abbrev pub IsHolder : TheCore → Caller → Held → Type 0
-IsHolder core seat held = Holds core.program core.sizes seat.by seat.seen (job_of held)
+IsHolder core seat held = Holds core.program core.sizes seat.by seat.seen (held_job held)
 
 -- A unit of this core holds the job that is kept for it
 pub record IsWorker (core : TheCore) (w : Worker) : Type 0 where
@@ -63,25 +63,25 @@ pub record HasClaimed (core : TheCore) (old new : List Entry) (before after : Li
   pub says : IsClaim core by old new station (claim_of answer)
 
 -- A unit has finished the job that it held, and holds none
-pub record HasFinished (core : TheCore) (old new : List Entry) (before after : List (Option Worker))
+pub record UnitHasFinished (core : TheCore) (old new : List Entry) (before after : List (Option Worker))
     (unit : ℕ) (held : Held) (answer : Finish) : Type 0 where
   pub held_it : job_at before unit ≡ Some held
   pub by : ℕ
   pub unit_is : HasUnit before after unit by None
-  pub says : IsFinish core by old new (job_of held) answer
+  pub says : IsFinish core by old new (held_job held) answer
 
 -- None of them was made
 abbrev pub HasNone : List (Option Worker) → Type 0
 HasNone units = (at : ℕ) → worker_at units at ≡ None
 
 -- What a unit has seen, if it was made
-abbrev pub seen_in : Option Worker → List Entry
-seen_in None = []
-seen_in (Some w) = w.seat.seen
+abbrev pub seen_by_unit : Option Worker → List Entry
+seen_by_unit None = []
+seen_by_unit (Some w) = w.seat.seen
 
 -- What the unit at a place has seen
 abbrev pub seen_at : List (Option Worker) → ℕ → List Entry
-seen_at units at = seen_in (worker_at units at)
+seen_at units at = seen_by_unit (worker_at units at)
 
 -- No unit forgets what it has seen, and each keeps its job
 pub record StaySeen (before after : List (Option Worker)) : Type 0 where
@@ -89,7 +89,7 @@ pub record StaySeen (before after : List (Option Worker)) : Type 0 where
   pub jobs : (at : ℕ) → job_at after at ≡ job_at before at
 
 -- One unit has seen all that was seen before, and its own is part of what is seen now
-pub record HasTold (before after : List (Option Worker)) (unit : ℕ) (old new : List Entry) :
+pub record UnitHasSeen (before after : List (Option Worker)) (unit : ℕ) (old new : List Entry) :
     Type 0 where
   pub units : StaySeen before after
   pub learns : StartsWith (seen_at after unit) old

@@ -1,7 +1,7 @@
 //! The calls of a session, each between two meetings with the seat that has seen all.
 ghost use Rattle.std.specs.Prelude.{◌≡◌, ◌<◌, ◌-◌, ◌^◌, IfOk};
-ghost use Rattle.back.specs.Backs.{IsSame as IsSameBack, state_of};
-ghost use Rattle.drive.specs.Moments.{Grows};
+ghost use Rattle.back.specs.Backs.{IsSameBack, back_state};
+ghost use Rattle.drive.specs.Moments.{GrowsLegally};
 ghost use Rattle.front.specs.Rests.{rested_after};
 ghost use Rattle.drive.specs.Replies.{HoldsWhatIs, IsClaim, IsCommit, IsCreatorNow, IsFinish, IsLook, IsRecovery, IsRefresh, IsRest, IsShown, IsTurn};
 ghost use Rattle.station.specs.Claiming.{Holds};
@@ -22,7 +22,7 @@ pub fn turn<P: Predictor + Drop>(core: &Core, all: &mut UnitSeat, front: &mut Fr
     ensures all { IsSame all.old all.new }
     ensures front { front.new.core ≡ core.now }
     ensures told { front.new.told ≡ front.old.told }
-    ensures grows { Grows core.now all.old.seen all.new.seen }
+    ensures grows { GrowsLegally core.now all.old.seen all.new.seen }
     ensures reply { IsTurn core.now all.old.seen all.new.seen result }
 {
     front.meet(core, all);
@@ -42,7 +42,7 @@ pub fn recover<P: Predictor + Drop>(
     ensures all { IsSame all.old all.new }
     ensures front { front.new.core ≡ core.now }
     ensures told { front.new.told ≡ front.old.told }
-    ensures grows { Grows core.now all.old.seen all.new.seen }
+    ensures grows { GrowsLegally core.now all.old.seen all.new.seen }
     ensures reply { IsRecovery core.now all.old.seen all.new.seen result }
 {
     front.meet(core, all);
@@ -57,7 +57,7 @@ pub fn refresh<J: Naming>(core: &Core, all: &mut UnitSeat, back: &mut Back<J>) -
     requires back { back.old.core ≡ core.now }
     ensures all { IsSame all.old all.new }
     ensures back { IsSameBack back.old back.new }
-    ensures grows { Grows core.now all.old.seen all.new.seen }
+    ensures grows { GrowsLegally core.now all.old.seen all.new.seen }
     ensures reply { IsRefresh core.now back.old.by all.old.seen all.new.seen result }
 {
     back.meet(core, all);
@@ -73,7 +73,7 @@ pub fn claim(core: &Core, all: &mut UnitSeat, seat: &mut UnitSeat, station: usiz
     requires station { station < core.now.sizes.ring }
     ensures all { IsSame all.old all.new }
     ensures seat { IsSame seat.old seat.new }
-    ensures grows { Grows core.now all.old.seen all.new.seen }
+    ensures grows { GrowsLegally core.now all.old.seen all.new.seen }
     ensures reply { IsClaim core.now seat.old.by all.old.seen all.new.seen station result }
     ensures holds { HoldsWhatIs core.now seat.new result }
 {
@@ -98,7 +98,7 @@ pub fn finish(
     requires job { Holds core.now.program core.now.sizes seat.old.by seat.old.seen job }
     ensures all { IsSame all.old all.new }
     ensures seat { IsSame seat.old seat.new }
-    ensures grows { Grows core.now all.old.seen all.new.seen }
+    ensures grows { GrowsLegally core.now all.old.seen all.new.seen }
     ensures reply { IsFinish core.now seat.old.by all.old.seen all.new.seen job result }
 {
     core.meet(seat, all);
@@ -115,11 +115,11 @@ pub fn finish(
 pub fn commit<J: Naming>(core: &Core, all: &mut UnitSeat, back: &mut Back<J>) -> Commit
     requires all { all.old.core ≡ core.now }
     requires back { back.old.core ≡ core.now }
-    requires count { (state_of back.old).count < 2 ^ 64 - 1 }
+    requires count { (back_state back.old).count < 2 ^ 64 - 1 }
     ensures all { IsSame all.old all.new }
     ensures core { back.new.core ≡ core.now }
     ensures by { back.new.by ≡ back.old.by }
-    ensures grows { Grows core.now all.old.seen all.new.seen }
+    ensures grows { GrowsLegally core.now all.old.seen all.new.seen }
     ensures reply { IsCommit back.old back.new all.old.seen all.new.seen result }
 {
     back.meet(core, all);
@@ -139,7 +139,7 @@ pub fn show<J: Naming, R: Wait>(
     requires back { back.old.core ≡ core.now }
     ensures all { IsSame all.old all.new }
     ensures back { IsSameBack (record back.old { shown = back.new.shown }) back.new }
-    ensures grows { Grows core.now all.old.seen all.new.seen }
+    ensures grows { GrowsLegally core.now all.old.seen all.new.seen }
     ensures reply { IfOk result (IsShown core.now all.old.seen all.new.seen) }
 {
     back.meet(core, all);
@@ -161,7 +161,7 @@ pub fn look<P: Predictor + Drop>(
     ensures told { front.new.told ≡ front.old.told }
     ensures touched { front.new.touched ≡ front.old.touched }
     ensures rested { front.new.rested ≡ front.old.rested }
-    ensures grows { Grows core.now all.old.seen all.new.seen }
+    ensures grows { GrowsLegally core.now all.old.seen all.new.seen }
     ensures reply { IsLook core.now all.old.seen all.new.seen station result }
 {
     front.meet(core, all);
@@ -178,7 +178,7 @@ pub fn rest<P: Predictor + Drop>(core: &Core, all: &mut UnitSeat, front: &mut Fr
     ensures front { front.new.core ≡ core.now }
     ensures rested { front.new.rested ≡ rested_after front.old.rested result }
     ensures touched { front.new.touched ≡ front.old.touched }
-    ensures grows { Grows core.now all.old.seen all.new.seen }
+    ensures grows { GrowsLegally core.now all.old.seen all.new.seen }
     ensures reply { IsRest core.now all.old.seen all.new.seen front.old.told front.new.told result }
 {
     front.meet(core, all);
@@ -200,7 +200,7 @@ pub fn creator<P: Predictor + Drop>(
     ensures front { front.new.core ≡ core.now }
     ensures told { front.new.told ≡ front.old.told }
     ensures touched { front.new.touched ≡ front.old.touched }
-    ensures grows { Grows core.now all.old.seen all.new.seen }
+    ensures grows { GrowsLegally core.now all.old.seen all.new.seen }
     ensures rested { front.new.rested ≡ front.old.rested }
     ensures reply { IsCreatorNow core.now all.old.seen all.new.seen front.old.told register result }
 {

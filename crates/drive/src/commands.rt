@@ -1,6 +1,6 @@
 //! The commands of a script.
 ghost use Rattle.std.specs.Prelude.{◌≡◌, ◌≢◌, IfNone, IfSome};
-ghost use Rattle.drive.specs.Commands.{IsLine, bare, command_of, has_one, has_two, number_of, only_number, source_of, station_and_source, two_parties, unit_and_number, verb_name};
+ghost use Rattle.drive.specs.Commands.{IsLine, without_operands, command_of, has_one, has_two, number_of, only_number, source_of, station_and_source, two_parties, unit_and_number, verb_name};
 ghost use Rattle.drive.specs.Words.{texts_of, words_of};
 ghost use Rattle.drive.specs.declared.commands.Verb.{Verb};
 
@@ -119,7 +119,7 @@ fn has_two(words: &Words<'_>) -> bool
 }
 
 fn bare(words: &Words<'_>, command: Command) -> Option<Command>
-    ensures { result ≡ bare (texts_of words.now) command }
+    ensures { result ≡ without_operands (texts_of words.now) command }
 {
     if words.first.is_empty() {
         Some(command)

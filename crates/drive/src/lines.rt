@@ -1,7 +1,7 @@
 //! What is told of a line of a script.
 ghost use Rattle.std.specs.Prelude.{◌≡◌, IfOk, string_bytes};
 ghost use Rattle.drive.specs.Commands.{verb_name};
-ghost use Rattle.drive.specs.Transcripts.{IsTold, operands_text, unknown_text, wants_text};
+ghost use Rattle.drive.specs.Transcripts.{IsToldOfLine, operands_text, unknown_text, wants_text};
 
 use crate::commands::{Line, Verb, line_in};
 use crate::session::Session;
@@ -74,7 +74,7 @@ pub fn told<P: Predictor + Drop, J: Naming, R: Wait>(
     line: &[u8],
 ) -> Result<String, AllocError>
     ensures { IfOk result (λ text.
-        IsTold session.old session.new number line.now (string_bytes text)) }
+        IsToldOfLine session.old session.new number line.now (string_bytes text)) }
 {
     match line_in(line) {
         Line::Nothing => Ok(String::new(alloc)),

@@ -1,8 +1,8 @@
 //! A unit that meets the seat that has seen all.
 ghost use Rattle.std.specs.Prelude.{◌≡◌, ◌<◌, vec_len};
 ghost use Rattle.station.specs.Seats.{IsSame};
-ghost use Rattle.drive.specs.Moments.{Grows};
-ghost use Rattle.drive.specs.Workers.{AreWorkers, HasTold};
+ghost use Rattle.drive.specs.Moments.{GrowsLegally};
+ghost use Rattle.drive.specs.Workers.{AreWorkers, UnitHasSeen};
 
 use crate::units::{Worker, take_worker};
 use station::{Core, UnitSeat, jobs_stay};
@@ -18,10 +18,10 @@ pub(crate) fn tell_all(
     requires unit { unit < vec_len units.old }
     requires workers { AreWorkers core.now units.old.items }
     ensures all { IsSame all.old all.new }
-    ensures grows { Grows core.now all.old.seen all.new.seen }
+    ensures grows { GrowsLegally core.now all.old.seen all.new.seen }
     ensures workers { AreWorkers core.now units.new.items }
     ensures places { vec_len units.new ≡ vec_len units.old }
-    ensures told { HasTold units.old.items units.new.items unit all.old.seen all.new.seen }
+    ensures told { UnitHasSeen units.old.items units.new.items unit all.old.seen all.new.seen }
 {
     let Worker { mut seat, job } = take_worker(core, all, units, unit);
     jobs_stay();

@@ -1,7 +1,7 @@
 //! The names of units, and the numbers of registers.
 ghost use Rattle.std.specs.Prelude.{◌≡◌, ◌<◌, ◌≤◌, IfNone, IfSome};
 ghost use Rattle.instructions.specs.Registers.{register_count};
-ghost use Rattle.drive.specs.Units.{both_letters, letter, unit_count, unit_of};
+ghost use Rattle.drive.specs.Units.{both_letters, letter, unit_count, unit_named};
 
 use instructions::Reg;
 
@@ -30,7 +30,7 @@ fn both_letters(first: Option<usize>, second: Option<usize>) -> Option<usize>
 
 /// The place of the unit with this name, from 0 on: A to Z, and then AA to BL.
 pub fn unit_in(name: &[u8]) -> Option<usize>
-    ensures place { result ≡ unit_of name.now }
+    ensures place { result ≡ unit_named name.now }
     ensures small { IfSome result (λ at. at < unit_count) }
 {
     match name {

@@ -1,8 +1,8 @@
 //! What the back reads of the words, between two meetings with the seat that has seen all.
 ghost use Rattle.std.specs.Prelude.{◌≡◌, ◌<◌};
-ghost use Rattle.back.specs.Backs.{IsSame as IsSameBack};
-ghost use Rattle.drive.specs.Moments.{Grows};
-ghost use Rattle.drive.specs.Replies.{IsInfo, IsOperand, source_at};
+ghost use Rattle.back.specs.Backs.{IsSameBack};
+ghost use Rattle.drive.specs.Moments.{GrowsLegally};
+ghost use Rattle.drive.specs.Replies.{IsInfoSeen, IsOperandSeen, source_at};
 ghost use Rattle.station.specs.Seats.{IsSame};
 
 use crate::commands::Which;
@@ -17,8 +17,8 @@ pub fn info<J: Naming>(core: &Core, all: &mut UnitSeat, back: &mut Back<J>, stat
     requires station { station < core.now.sizes.ring }
     ensures all { IsSame all.old all.new }
     ensures back { IsSameBack back.old back.new }
-    ensures grows { Grows core.now all.old.seen all.new.seen }
-    ensures reply { IsInfo core.now all.old.seen all.new.seen station result }
+    ensures grows { GrowsLegally core.now all.old.seen all.new.seen }
+    ensures reply { IsInfoSeen core.now all.old.seen all.new.seen station result }
 {
     back.meet(core, all);
     let (index, half, predicted) = back.info(core, station);
@@ -52,8 +52,9 @@ pub fn operand<J: Naming>(
     requires station { station < core.now.sizes.ring }
     ensures all { IsSame all.old all.new }
     ensures back { IsSameBack back.old back.new }
-    ensures grows { Grows core.now all.old.seen all.new.seen }
-    ensures reply { IsOperand core.now all.old.seen all.new.seen station (source_at which) result }
+    ensures grows { GrowsLegally core.now all.old.seen all.new.seen }
+    ensures reply { IsOperandSeen core.now all.old.seen all.new.seen station
+        (source_at which) result }
 {
     back.meet(core, all);
     let answer = back.operand(core, station, source(which));

@@ -1,8 +1,8 @@
 //! The committed state as a run would report it.
 ghost use Rattle.std.specs.Prelude.{◌≡◌, IfOk};
-ghost use Rattle.back.specs.Backs.{IsSame as IsSameBack, state_of};
-ghost use Rattle.back.specs.Ends.{outcome_of, state_in};
-ghost use Rattle.drive.specs.Moments.{Grows};
+ghost use Rattle.back.specs.Backs.{IsSameBack, back_state};
+ghost use Rattle.back.specs.Ends.{ending_of, state_in};
+ghost use Rattle.drive.specs.Moments.{GrowsLegally};
 ghost use Rattle.station.specs.Seats.{IsSame};
 
 use back::{Back, Naming};
@@ -12,7 +12,7 @@ use station::{Core, UnitSeat};
 use std::alloc::Global;
 
 fn outcome(ended: Option<Stop>) -> Ending
-    ensures { result ≡ outcome_of ended }
+    ensures { result ≡ ending_of ended }
 {
     match ended {
         Some(code) => Ending::Stop(code),
@@ -34,9 +34,9 @@ pub(crate) fn report<J: Naming>(
     requires program { program.now ≡ core.now.program }
     ensures all { IsSame all.old all.new }
     ensures back { IsSameBack back.old back.new }
-    ensures grows { Grows core.now all.old.seen all.new.seen }
-    ensures state { IfOk result (λ end. state_in end ≡ state_of back.old) }
-    ensures outcome { IfOk result (λ end. end.outcome ≡ outcome_of back.old.ended) }
+    ensures grows { GrowsLegally core.now all.old.seen all.new.seen }
+    ensures state { IfOk result (λ end. state_in end ≡ back_state back.old) }
+    ensures outcome { IfOk result (λ end. end.outcome ≡ ending_of back.old.ended) }
 {
     back.meet(core, all);
     let mut machine = Machine::new(alloc, program)?;

@@ -2,7 +2,7 @@
 ghost use Rattle.std.specs.Prelude.{◌≡◌, ◌≢◌, ◌+◌, ◌-◌, ◌^◌, ◌<◌, true, false, IfErr, IfOk, OnOk};
 ghost use Rattle.std.specs.Io.BufRead.{strip_last};
 ghost use Rattle.devices.specs.Counted.{failures_of, known_by};
-ghost use Rattle.drive.specs.Scripts.{HasBroken, HasDriven, HasTold, IsCut, IsEnd, LineIsTold, line_of};
+ghost use Rattle.drive.specs.Scripts.{HasBroken, HasDriven, HasTold, LineIsCut, NothingWasLeft, LineIsTold, line_of};
 
 use crate::lines::told;
 use crate::session::Session;
@@ -79,13 +79,13 @@ fn tell_line<P: Predictor + Drop, J: Naming, R: Wait, I: BufRead, W: Write>(
         LineIsTold (I.remaining reader.old) (I.remaining reader.new) session.old session.new number
         (known_by W.contents writer.old) (known_by W.contents writer.new)) }
     ensures end { IfOk result (λ more. more ≡ false →
-        IsEnd (I.remaining reader.old) session.old session.new
+        NothingWasLeft (I.remaining reader.old) session.old session.new
         (known_by W.contents writer.old) (known_by W.contents writer.new)) }
     ensures silent { IfErr result (λ fault. fault ≢ Fault.Write → writer.new ≡ writer.old) }
     ensures write { IfErr result (λ fault. fault ≡ Fault.Write →
         failures_of writer.new ≡ failures_of writer.old + 1) }
     ensures cut { IfErr result (λ fault. fault ≡ Fault.Write →
-        IsCut (I.remaining reader.old) session.old number
+        LineIsCut (I.remaining reader.old) session.old number
         (known_by W.contents writer.old) (known_by W.contents writer.new)) }
 {
     let mut chunk = Vec::new(alloc);

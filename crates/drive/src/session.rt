@@ -37,7 +37,7 @@ pub struct Session<'a, P: Predictor + Drop, J: Naming> {
 
 impl<'a, P: Predictor + Drop, J: Naming> Model for Session<'a, P, J> {
     ghost use Rattle.std.specs.Prelude.{vec_len};
-    ghost use Rattle.drive.specs.Sessions.{IsWhole, TheSession};
+    ghost use Rattle.drive.specs.Sessions.{IsOneCore, TheSession};
 
     ghost Value = { TheSession };
 
@@ -54,16 +54,16 @@ impl<'a, P: Predictor + Drop, J: Naming> Model for Session<'a, P, J> {
       rested = s.rested;
     } };
 
-    ghost invariant = { λ s. IsWhole J.program s.core s.program.now s.all s.front.core s.front.rested s.rested s.back
+    ghost invariant = { λ s. IsOneCore J.program s.core s.program.now s.all s.front.core s.front.rested s.rested s.back
         s.units.items (vec_len s.units) };
 }
 
 impl<'a, P: Predictor + Drop, J: Naming> Session<'a, P, J> {
     ghost use Rattle.std.specs.Prelude.{◌≡◌, ◌≤◌, IfOk};
-    ghost use Rattle.drive.specs.Moments.{Grows};
-    ghost use Rattle.back.specs.Backs.{state_of};
-    ghost use Rattle.back.specs.Ends.{IsInOrder, outcome_of, state_in};
-    ghost use Rattle.drive.specs.Sessions.{Answers, IsStart, changed};
+    ghost use Rattle.drive.specs.Moments.{GrowsLegally};
+    ghost use Rattle.back.specs.Backs.{back_state};
+    ghost use Rattle.back.specs.Ends.{EndIsInOrder, ending_of, state_in};
+    ghost use Rattle.drive.specs.Sessions.{Answers, IsStartOfSession, after_command};
 
     /// A session at the start of a program. No unit is made yet.
     pub fn new(
@@ -73,7 +73,7 @@ impl<'a, P: Predictor + Drop, J: Naming> Session<'a, P, J> {
         predictor: P,
     ) -> Result<Self, Memory>
         requires { program.now ≡ J.program }
-        ensures { IfOk result (λ s. IsStart program.now config.now s) }
+        ensures { IfOk result (λ s. IsStartOfSession program.now config.now s) }
     {
         let (core, front_seat, back_seat, all) = Core::make(alloc, program, config)?;
         let units = no_units(alloc)?;
@@ -96,8 +96,8 @@ impl<'a, P: Predictor + Drop, J: Naming> Session<'a, P, J> {
 
     fn turn(&mut self) -> Reply
         ensures core { self.new.core ≡ self.old.core }
-        ensures grows { Grows self.old.core self.old.seen self.new.seen }
-        ensures kept { self.new ≡ changed Command.Turn self.old self.new }
+        ensures grows { GrowsLegally self.old.core self.old.seen self.new.seen }
+        ensures kept { self.new ≡ after_command Command.Turn self.old self.new }
         ensures reply { Answers self.old self.new Command.Turn result }
     {
         self.rested = false;
@@ -106,8 +106,8 @@ impl<'a, P: Predictor + Drop, J: Naming> Session<'a, P, J> {
 
     fn recover(&mut self) -> Reply
         ensures core { self.new.core ≡ self.old.core }
-        ensures grows { Grows self.old.core self.old.seen self.new.seen }
-        ensures kept { self.new ≡ changed Command.Recover self.old self.new }
+        ensures grows { GrowsLegally self.old.core self.old.seen self.new.seen }
+        ensures kept { self.new ≡ after_command Command.Recover self.old self.new }
         ensures reply { Answers self.old self.new Command.Recover result }
     {
         self.rested = false;
@@ -116,8 +116,8 @@ impl<'a, P: Predictor + Drop, J: Naming> Session<'a, P, J> {
 
     fn claim(&mut self, unit: usize, station: u32) -> Reply
         ensures core { self.new.core ≡ self.old.core }
-        ensures grows { Grows self.old.core self.old.seen self.new.seen }
-        ensures kept { self.new ≡ changed (Command.Claim unit station) self.old self.new }
+        ensures grows { GrowsLegally self.old.core self.old.seen self.new.seen }
+        ensures kept { self.new ≡ after_command (Command.Claim unit station) self.old self.new }
         ensures reply { Answers self.old self.new (Command.Claim unit station) result }
     {
         let ring = self.core.ring();
@@ -136,8 +136,8 @@ impl<'a, P: Predictor + Drop, J: Naming> Session<'a, P, J> {
 
     fn finish(&mut self, unit: usize, station: u32) -> Reply
         ensures core { self.new.core ≡ self.old.core }
-        ensures grows { Grows self.old.core self.old.seen self.new.seen }
-        ensures kept { self.new ≡ changed (Command.Finish unit station) self.old self.new }
+        ensures grows { GrowsLegally self.old.core self.old.seen self.new.seen }
+        ensures kept { self.new ≡ after_command (Command.Finish unit station) self.old self.new }
         ensures reply { Answers self.old self.new (Command.Finish unit station) result }
     {
         let units = &self.units;
@@ -155,8 +155,8 @@ impl<'a, P: Predictor + Drop, J: Naming> Session<'a, P, J> {
 
     fn refresh(&mut self) -> Reply
         ensures core { self.new.core ≡ self.old.core }
-        ensures grows { Grows self.old.core self.old.seen self.new.seen }
-        ensures kept { self.new ≡ changed Command.Refresh self.old self.new }
+        ensures grows { GrowsLegally self.old.core self.old.seen self.new.seen }
+        ensures kept { self.new ≡ after_command Command.Refresh self.old self.new }
         ensures reply { Answers self.old self.new Command.Refresh result }
     {
         Reply::Refresh(calls::refresh(&self.core, &mut self.all, &mut self.back))
@@ -164,8 +164,8 @@ impl<'a, P: Predictor + Drop, J: Naming> Session<'a, P, J> {
 
     fn commit(&mut self) -> Reply
         ensures core { self.new.core ≡ self.old.core }
-        ensures grows { Grows self.old.core self.old.seen self.new.seen }
-        ensures kept { self.new ≡ changed Command.Commit self.old self.new }
+        ensures grows { GrowsLegally self.old.core self.old.seen self.new.seen }
+        ensures kept { self.new ≡ after_command Command.Commit self.old self.new }
         ensures reply { Answers self.old self.new Command.Commit result }
     {
         if self.back.n() == u64::MAX {
@@ -176,8 +176,8 @@ impl<'a, P: Predictor + Drop, J: Naming> Session<'a, P, J> {
 
     /// Makes the call that a command asks for, if that is allowed. The core stays, unless it is renewed.
     pub fn answer<R: Wait>(&mut self, wait: &R, alloc: Global, command: Command) -> Reply
-        ensures grows { Grows self.old.core self.old.seen self.new.seen }
-        ensures kept { self.new ≡ changed command self.old self.new }
+        ensures grows { GrowsLegally self.old.core self.old.seen self.new.seen }
+        ensures kept { self.new ≡ after_command command self.old self.new }
         ensures reply { Answers self.old self.new command result }
     {
         match command {
@@ -212,9 +212,9 @@ impl<'a, P: Predictor + Drop, J: Naming> Session<'a, P, J> {
 
     /// Ends the back, and gives the committed state.
     pub fn end<R: Wait>(self, wait: &R) -> End
-        ensures in_order { IsInOrder J.program result }
-        ensures state { state_in result ≡ state_of self.entry.commits }
-        ensures outcome { result.outcome ≡ outcome_of self.entry.commits.ended }
+        ensures in_order { EndIsInOrder J.program result }
+        ensures state { state_in result ≡ back_state self.entry.commits }
+        ensures outcome { result.outcome ≡ ending_of self.entry.commits.ended }
     {
         let Session {
             core: _,

@@ -1,6 +1,6 @@
 //! The texts of answers.
 ghost use Rattle.std.specs.Prelude.{◌≡◌, ◌++◌, IfOk, OnOk, string_bytes};
-ghost use Rattle.drive.specs.Texts.{claimed_text, commit_text, half_text, held_text, look_text, made_text, place_text, recovery_text, refresh_text, refusal_text, reply_line, reply_text, snap_text, source_text, state_text, turn_text, finish_text, values_text};
+ghost use Rattle.drive.specs.Texts.{claimed_text, commit_text, half_text, held_text, look_text, made_text, place_text, recovery_text, refresh_text, refusal_text, reply_line, reply_text, snap_text, source_text, state_text, front_turn_text, finish_text, values_text};
 
 use crate::digits::{Word, push_registers};
 use crate::replies::{Refusal, Reply};
@@ -56,7 +56,7 @@ fn snap_text(alloc: Global, snap: &Snap) -> Result<String, AllocError>
 }
 
 fn turn_text(alloc: Global, turn: Turn) -> Result<String, AllocError>
-    ensures { IfOk result (λ text. string_bytes text ≡ turn_text turn) }
+    ensures { IfOk result (λ text. string_bytes text ≡ front_turn_text turn) }
 {
     match turn {
         Turn::Full => format!(in alloc; "Full"),

@@ -1,9 +1,9 @@
 //! The units of a session, and the jobs that they hold.
 ghost use Rattle.std.specs.Prelude.{◌≡◌, ◌<◌, IfOk, None, Some, slice_set, vec_len};
 ghost use Rattle.station.specs.Seats.{IsSame};
-ghost use Rattle.drive.specs.Held.{claim_of, job_of as job_with};
-ghost use Rattle.drive.specs.Moments.{Grows};
-ghost use Rattle.drive.specs.Workers.{AreWorkers, HasClaimed, HasFinished, HasNone, IsWorker, job_at, job_from, worker_at};
+ghost use Rattle.drive.specs.Held.{claim_of, held_job};
+ghost use Rattle.drive.specs.Moments.{GrowsLegally};
+ghost use Rattle.drive.specs.Workers.{AreWorkers, HasClaimed, UnitHasFinished, HasNone, IsWorker, job_at, job_from, worker_at};
 ghost use Rattle.drive.specs.declared.units.Worker.{Worker};
 
 use crate::calls;
@@ -43,7 +43,7 @@ pub struct Worker {
 }
 
 fn fields_of(job: Job) -> Held
-    ensures { job_with result ≡ job }
+    ensures { held_job result ≡ job }
 {
     let Job {
         station,
@@ -69,7 +69,7 @@ fn fields_of(job: Job) -> Held
 
 // The job with these fields.
 fn job_with(held: Held) -> Job
-    ensures { result ≡ job_with held }
+    ensures { result ≡ held_job held }
 {
     Job {
         station: held.station,
@@ -188,7 +188,7 @@ pub(crate) fn claim_by(
     requires station { station < core.now.sizes.ring }
     requires free { job_at units.old.items unit ≡ None }
     ensures all { IsSame all.old all.new }
-    ensures grows { Grows core.now all.old.seen all.new.seen }
+    ensures grows { GrowsLegally core.now all.old.seen all.new.seen }
     ensures workers { AreWorkers core.now units.new.items }
     ensures places { vec_len units.new ≡ vec_len units.old }
     ensures reply { HasClaimed core.now all.old.seen all.new.seen units.old.items units.new.items
@@ -216,10 +216,11 @@ pub(crate) fn finish_by(
     requires workers { AreWorkers core.now units.old.items }
     requires holds { job_at units.old.items unit ≡ Some held }
     ensures all { IsSame all.old all.new }
-    ensures grows { Grows core.now all.old.seen all.new.seen }
+    ensures grows { GrowsLegally core.now all.old.seen all.new.seen }
     ensures workers { AreWorkers core.now units.new.items }
     ensures places { vec_len units.new ≡ vec_len units.old }
-    ensures reply { HasFinished core.now all.old.seen all.new.seen units.old.items units.new.items
+    ensures reply { UnitHasFinished core.now all.old.seen all.new.seen
+        units.old.items units.new.items
         unit held result }
 {
     let Worker { mut seat, job: _ } = take_worker(core, all, units, unit);

@@ -1,6 +1,6 @@
 //! The texts of what is read of words, and of a rest.
 ghost use Rattle.std.specs.Prelude.{◌≡◌, IfOk, string_bytes};
-ghost use Rattle.drive.specs.Texts.{info_text, operand_state_text, operand_text, rest_text};
+ghost use Rattle.drive.specs.Texts.{info_text, operand_state_text, seen_operand_text, rest_text};
 
 use crate::digits::Word;
 use crate::replies::Info;
@@ -21,7 +21,7 @@ fn operand_state(state: SourceState) -> &'static str
 
 /// The text of an operand word.
 pub(crate) fn operand_text(alloc: Global, seen: &Seen<SourceState>) -> Result<String, AllocError>
-    ensures { IfOk result (λ text. string_bytes text ≡ operand_text seen.now) }
+    ensures { IfOk result (λ text. string_bytes text ≡ seen_operand_text seen.now) }
 {
     let (tag, state) = (seen.tag, operand_state(seen.state));
     let value = Word(seen.value);

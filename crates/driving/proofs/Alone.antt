@@ -9,7 +9,7 @@ use Rattle.station.specs.Finishing.{OnlyUnits}
 use Rattle.station.specs.Quiet.{IsQuiet}
 use Rattle.station.specs.Seats.{Caller, TheCore}
 use Rattle.driving.specs.declared.seats.Seats.{Seats}
-use Rattle.driving.specs.Hands.{AreAll, HaveMet, IsLater}
+use Rattle.driving.specs.Hands.{AreAll, HaveHeard, HasHeardMore}
 use Rattle.driving.proofs.Histories.{at_least, same_between, starts_on}
 
 -- All but the first unit have only looked and met from s to z
@@ -26,10 +26,10 @@ pub record Stand (s z : Seats) : Type 0 where
 pub stand_still : (s : Seats) → Stand s s
 stand_still s = record { front_by = refl; back_by = refl; other_by = refl; one_heirs = refl; other_heirs = refl; fronts = refl; backs = refl; others = refl }
 
-own_later : (core : TheCore) (u v w : Caller) → v.by ≡ u.by → own u.by v.seen ≡ own u.by u.seen → IsLater core v w → own u.by w.seen ≡ own u.by u.seen
+own_later : (core : TheCore) (u v w : Caller) → v.by ≡ u.by → own u.by v.seen ≡ own u.by u.seen → HasHeardMore core v w → own u.by w.seen ≡ own u.by u.seen
 own_later core u v w by e l = subst (λ n. own n w.seen ≡ own n v.seen) by l.adds.mine ∙ e
 
-pub stand_on : (core : TheCore) (s t u : Seats) (o : Caller) → o.heirs ≡ t.one.heirs → Stand s t → HaveMet core (record t { one = o }) u → Stand s u
+pub stand_on : (core : TheCore) (s t u : Seats) (o : Caller) → o.heirs ≡ t.one.heirs → Stand s t → HaveHeard core (record t { one = o }) u → Stand s u
 stand_on core s t u o heirs a m = record {
   front_by = m.front.by_is ∙ a.front_by;
   back_by = m.back.by_is ∙ a.back_by;
@@ -42,7 +42,7 @@ stand_on core s t u o heirs a m = record {
 }
 
 -- The seats s and z, which are gathered, and what the first unit had seen before the last gathering
-module _ (core : TheCore) (r s t z : Seats) (o : Caller) (all : AreAll core s) (a : HaveMet core r s) (stand : Stand s z) (b : HaveMet core (record t { one = o }) z) where
+module _ (core : TheCore) (r s t z : Seats) (o : Caller) (all : AreAll core s) (a : HaveHeard core r s) (stand : Stand s z) (b : HaveHeard core (record t { one = o }) z) where
   module _ (x y : List Entry) (from : StartsWith x s.one.seen) (on : StartsWith y x) (to : StartsWith o.seen y) where
     -- who has no more entries at the end than at the beginning
     held : (n : ℕ) (u v : List Entry) → StartsWith s.one.seen u → StartsWith v o.seen → own n v ≡ own n u → own n y ≡ own n x

@@ -23,7 +23,7 @@ use Rattle.station.specs.Quiet.{IsClaimable}
 use Rattle.station.specs.Seats.{TheCore}
 use Rattle.driving.specs.declared.seats.Seats.{Seats}
 use Rattle.driving.specs.Chains.{IsChain, WorksOut, first_result}
-use Rattle.driving.specs.Done.{GoesOn, HasReady, HaveDone, InAll, IsAskedNext, IsLetNext, Leads, MayAskNext, MayLetNext, unit_after}
+use Rattle.driving.specs.Done.{GoesOnAlone, HasReady, HaveDone, InAll, IsAskedNext, IsLetNext, CallLeads, MayAskNext, MayLetNext, unit_after}
 use Rattle.driving.proofs.FirstWorks.{either, made}
 use Rattle.driving.proofs.SetUp.{IsSetUp, first_of_two, second_of_two}
 use Rattle.driving.proofs.Known.{exactly}
@@ -32,7 +32,7 @@ use Rattle.driving.proofs.TwoTenants.{a_of, first_station, low_half, may_let_sec
 use Rattle.driving.proofs.Begins.{needs_first}
 
 -- a let, to the letter
-let_is : (core : TheCore) (u : Seats) (t : NewTenant) (tag : ℕ) (old : List Entry) (g : GoesOn core u front old (IsLetNext core t tag)) → g.all ≡ entry front (let_of t) ∷ old
+let_is : (core : TheCore) (u : Seats) (t : NewTenant) (tag : ℕ) (old : List Entry) (g : GoesOnAlone core u front old (IsLetNext core t tag)) → g.all ≡ entry front (let_of t) ∷ old
 let_is core u t tag old g = exactly front old g.all (let_of t ∷ []) g.reply.adds.begins g.alone g.reply.adds.mine
 
 module _ (core : TheCore) (predicted : ℕ) (set : IsSetUp core predicted) where
@@ -60,7 +60,7 @@ module _ (core : TheCore) (predicted : ℕ) (set : IsSetUp core predicted) where
   abbrev b : Tenant
   b = b_linked P C predicted
 
-  module _ (t1 : Seats) (tag : ℕ) (lets : GoesOn core t1 front [] (IsLetNext core first_of_two tag)) where
+  module _ (t1 : Seats) (tag : ℕ) (lets : GoesOnAlone core t1 front [] (IsLetNext core first_of_two tag)) where
     abbrev h1 : List Entry
     h1 = entry front (let_of first_of_two) ∷ []
 
@@ -79,7 +79,7 @@ module _ (core : TheCore) (predicted : ℕ) (set : IsSetUp core predicted) where
     pub may_let_now : InAll core t1 (MayLetNext core second)
     may_let_now = record { all = h1; done = done1; fact = may_let }
 
-    module _ (t2 : Seats) (second_tag : ℕ) (lets2 : Leads core t1 t2 front (IsLetNext core second second_tag)) where
+    module _ (t2 : Seats) (second_tag : ℕ) (lets2 : CallLeads core t1 t2 front (IsLetNext core second second_tag)) where
       abbrev h2 : List Entry
       h2 = entry front (let_of second) ∷ h1
 
@@ -103,8 +103,8 @@ module _ (core : TheCore) (predicted : ℕ) (set : IsSetUp core predicted) where
           let there = second_station P C chain ring queue tags in
           record { all = h2; done = done2; fact = subst (λ (z : ℕ × ℕ). MayAsk P C h2 z.0 z.1 First 0 tag) (λ i. (there i, sym g.reply.tag_is i)) asks }
 
-      module _ (t3 : Seats) (answer : Ask) (asks : Leads core t2 t3 front (IsAskedNext core 1 second_tag First (0, tag) answer)) where
-        abbrev g3 : GoesOn core t3 front h2 (IsAskedNext core 1 second_tag First (0, tag) answer)
+      module _ (t3 : Seats) (answer : Ask) (asks : CallLeads core t2 t3 front (IsAskedNext core 1 second_tag First (0, tag) answer)) where
+        abbrev g3 : GoesOnAlone core t3 front h2 (IsAskedNext core 1 second_tag First (0, tag) answer)
         g3 = asks h2 done2
 
         unit3 : unit_of P C g3.all ≡ two b a
@@ -125,8 +125,8 @@ module _ (core : TheCore) (predicted : ℕ) (set : IsSetUp core predicted) where
         pub ready_now : InAll core t3 (HasReady core 0)
         ready_now = record { all = g3.all; done = g3.done; fact = record { p = 0; tag = a.tag; tenant = ready3 } }
 
-        module _ (t4 : Seats) (outcome : Outcome) (works : Leads core t3 t4 t3.one.by (WorksOut core t3.one.by 0 outcome)) (v : ℕ) (makes : first_result P ≡ Value v) where
-          abbrev g4 : GoesOn core t4 t3.one.by g3.all (WorksOut core t3.one.by 0 outcome)
+        module _ (t4 : Seats) (outcome : Outcome) (works : CallLeads core t3 t4 t3.one.by (WorksOut core t3.one.by 0 outcome)) (v : ℕ) (makes : first_result P ≡ Value v) where
+          abbrev g4 : GoesOnAlone core t4 t3.one.by g3.all (WorksOut core t3.one.by 0 outcome)
           g4 = works g3.all g3.done
 
           abbrev c : Tenant
@@ -151,7 +151,7 @@ module _ (core : TheCore) (predicted : ℕ) (set : IsSetUp core predicted) where
           pub ready_behind : InAll core t4 (HasReady core 1)
           ready_behind = record { all = g4.all; done = g4.done; fact = record { p = 1; tag = c.tag; tenant = ready4 } }
 
-          pub comes_to : (t5 : Seats) (found : Outcome) → Leads core t4 t5 t4.one.by (WorksOut core t4.one.by 1 found) → found ≡ outcome_of (instr_of P 1) Low (address 1) v 0 (length P.bytes)
+          pub comes_to : (t5 : Seats) (found : Outcome) → CallLeads core t4 t5 t4.one.by (WorksOut core t4.one.by 1 found) → found ≡ outcome_of (instr_of P 1) Low (address 1) v 0 (length P.bytes)
           comes_to t5 found works5 =
               let w = (works5 g4.all g4.done).reply 1 c.tag ready4 in
               let f = w.fields_are in

@@ -15,7 +15,7 @@ use Rattle.station.specs.declared.answers.Supply.TheVariants.{Known}
 use Rattle.station.specs.declared.answers.Tenant.{Tenant}
 use Rattle.station.specs.Letting.{MayLetOut}
 use Rattle.driving.specs.declared.drive.Worked.{Worked}
-use Rattle.driving.specs.Works.{IsFirstOutcome, IsRight}
+use Rattle.driving.specs.Works.{IsFirstOutcome, IsWorkedRight}
 
 abbrev pub first_tenant : ℕ → Tenant
 first_tenant predicted = record { index = 0; half = Low; predicted = predicted; sources = (Known 0, Known 0) }
@@ -45,9 +45,9 @@ may_let_first P C seen predicted new code ring queue tag small next = subst (λ 
   tag = omega arith;
 })
 
-pub first_is_right : (P : Program) (C : Sizes) (seen : List Entry) (predicted : ℕ) (w : Worked) → seen ≡ [] → IsRight P (unit_of P C seen) (first_tenant predicted) w → IsFirstOutcome P w.outcome
+pub first_is_right : (P : Program) (C : Sizes) (seen : List Entry) (predicted : ℕ) (w : Worked) → seen ≡ [] → IsWorkedRight P (unit_of P C seen) (first_tenant predicted) w → IsFirstOutcome P w.outcome
 first_is_right P C seen predicted w new right =
-    let r = subst (λ h. IsRight P (unit_of P C h) (first_tenant predicted) w) new right in
+    let r = subst (λ h. IsWorkedRight P (unit_of P C h) (first_tenant predicted) w) new right in
     let a : w.a ≡ 0 = r.first 0 (no_creator P (first_of (instr_of P 0))) in
     let b : w.b ≡ 0 = r.second 0 (no_creator P (second_of (instr_of P 0))) ∙ either (needs (kind (instr_of P 0).op) Second) 0 in
     r.outcome ∙ (λ i. outcome_of (instr_of P 0) Low (r.pc i) (a i) (b i) (length P.bytes))

@@ -2,13 +2,13 @@
 use Rattle.std.proofs.Common.{◌≡◌, [], ◌∙◌, subst}
 use Rattle.inorder.specs.OneHistory.{Adds}
 use Rattle.station.specs.Seats.{Caller, IsSame, TheCore}
-use Rattle.driving.specs.Hands.{IsLater}
+use Rattle.driving.specs.Hands.{HasHeardMore}
 use Rattle.driving.proofs.Histories.{starts_on}
 
-pub later : (core : TheCore) (v w : Caller) → IsSame v w → w.heirs ≡ v.heirs → Adds core.program core.sizes v.by v.seen w.seen [] → IsLater core v w
+pub later : (core : TheCore) (v w : Caller) → IsSame v w → w.heirs ≡ v.heirs → Adds core.program core.sizes v.by v.seen w.seen [] → HasHeardMore core v w
 later core v w same heirs adds = record { core_is = same.core; by_is = same.by; heirs_are = heirs; adds = adds }
 
-pub later_on : (core : TheCore) (u v w : Caller) → IsLater core u v → IsLater core v w → IsLater core u w
+pub later_on : (core : TheCore) (u v w : Caller) → HasHeardMore core u v → HasHeardMore core v w → HasHeardMore core u w
 later_on core u v w a b =
     let again : Adds core.program core.sizes u.by v.seen w.seen [] = subst (λ n. Adds core.program core.sizes n v.seen w.seen []) a.by_is b.adds in
     record {

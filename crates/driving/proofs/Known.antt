@@ -9,8 +9,8 @@ use Rattle.inorder.specs.OneHistory.{Adds}
 use Rattle.ruu_words.specs.Views.{IsHeir}
 use Rattle.station.specs.Seats.{Caller, TheCore}
 use Rattle.driving.specs.declared.seats.Seats.{Seats}
-use Rattle.driving.specs.Done.{GoesOn, HaveDone}
-use Rattle.driving.specs.Hands.{AreAll, HaveMetTwice, IsLater}
+use Rattle.driving.specs.Done.{GoesOnAlone, HaveDone}
+use Rattle.driving.specs.Hands.{AreAll, HaveMetTwice, HasHeardMore}
 use Rattle.driving.proofs.Histories.{own-append, same_between, starts_on, starts_same}
 use Rattle.inorder.proofs.Histories.{none_from}
 
@@ -80,16 +80,16 @@ module _ (core : TheCore) (s t u : Seats) (all : AreAll core s) (met : HaveMetTw
   m = met.once
 
   -- a caller has only looked and met in the meetings
-  met_own : (v w x : Caller) → IsLater core v w → IsLater core w x → own v.by x.seen ≡ own v.by v.seen
+  met_own : (v w x : Caller) → HasHeardMore core v w → HasHeardMore core w x → own v.by x.seen ≡ own v.by v.seen
   met_own v w x a b = subst (λ n. own n x.seen ≡ own n w.seen) a.by_is b.adds.mine ∙ a.adds.mine
 
   -- what another caller had done is still all that it has done
-  still : (v w x y : Caller) → Moves by seen v w → IsLater core w x → IsLater core x y → Adds core.program core.sizes v.by old v.seen [] → v.by ≢ by → own v.by y.seen ≡ own v.by old
+  still : (v w x y : Caller) → Moves by seen v w → HasHeardMore core w x → HasHeardMore core x y → Adds core.program core.sizes v.by old v.seen [] → v.by ≢ by → own v.by y.seen ≡ own v.by old
   still v w x y mv a b d ne =
       subst (λ n. own n y.seen ≡ own n w.seen) mv.by_is (met_own w x y a b) ∙ (ap (own v.by) (mv.others ne) ∙ d.mine)
 
   -- and so it has done nothing up to there
-  quiet : (v w x y : Caller) → Moves by seen v w → IsLater core w x → IsLater core x y → Adds core.program core.sizes v.by old v.seen [] → StartsWith y.seen m.one.seen → v.by ≢ by
+  quiet : (v w x y : Caller) → Moves by seen v w → HasHeardMore core w x → HasHeardMore core x y → Adds core.program core.sizes v.by old v.seen [] → StartsWith y.seen m.one.seen → v.by ≢ by
       → own v.by seen ≡ own v.by old
   quiet v w x y mv a b d told ne =
       let e = ap (λ l. length l) (still v w x y mv a b d ne) in
@@ -142,7 +142,7 @@ module _ (core : TheCore) (s t u : Seats) (all : AreAll core s) (met : HaveMetTw
   legal = legal_before core.program core.sizes known.more seen (subst (IsLegal core.program core.sizes) known.is met.first.one.adds.legal)
 
   -- each caller has seen all of it, and has done nothing since
-  since : (v w x y : Caller) → Moves by seen v w → IsLater core w x → IsLater core x y → Adds core.program core.sizes v.by old v.seen [] → StartsWith y.seen m.one.seen
+  since : (v w x y : Caller) → Moves by seen v w → HasHeardMore core w x → HasHeardMore core x y → Adds core.program core.sizes v.by old v.seen [] → StartsWith y.seen m.one.seen
       → Adds core.program core.sizes y.by seen y.seen []
   since v w x y mv a b d told = record {
     begins = starts_on seen m.one.seen y.seen known told;
@@ -176,13 +176,13 @@ module _ (core : TheCore) (s t u : Seats) (all : AreAll core s) (met : HaveMetTw
   pub before : (mid : List Entry) → StartsWith mid old → StartsWith seen mid → own by mid ≡ own by old → mid ≡ old
   before mid up to mine = exactly by old mid [] up (λ n ne. let e = ap (λ l. length l) (alone n ne) in same_between n old mid seen up to (omega arith)) mine
 
-  pub goes_on : (mid : List Entry) → StartsWith mid old → StartsWith seen mid → own by mid ≡ own by old → (Reply : List Entry → List Entry → Type 0) → Reply mid seen → GoesOn core u by old Reply
+  pub goes_on : (mid : List Entry) → StartsWith mid old → StartsWith seen mid → own by mid ≡ own by old → (Reply : List Entry → List Entry → Type 0) → Reply mid seen → GoesOnAlone core u by old Reply
   goes_on mid up to mine Reply reply = record { all = seen; done = done_then; alone = alone; reply = subst (λ h. Reply h seen) (before mid up to mine) reply }
 
 -- A call of the front, and one of the first unit
 
 pub front_goes_on : (core : TheCore) (s u : Seats) → AreAll core s → (f : Caller) → f.by ≡ s.front.by → StartsWith f.seen s.front.seen → HaveMetTwice core (record s { front = f }) u
-    → (Reply : List Entry → List Entry → Type 0) → Reply s.front.seen f.seen → (old : List Entry) → HaveDone core s old → GoesOn core u front old Reply
+    → (Reply : List Entry → List Entry → Type 0) → Reply s.front.seen f.seen → (old : List Entry) → HaveDone core s old → GoesOnAlone core u front old Reply
 front_goes_on core s u all f by_is begins met Reply reply old done =
     let d = done.front in
     goes_on core s (record s { front = f }) u all met front f.seen
@@ -205,7 +205,7 @@ front_goes_on core s u all f by_is begins met Reply reply old done =
     zero_unit e = omega arith
 
 pub unit_goes_on : (core : TheCore) (s u : Seats) → AreAll core s → (o : Caller) → o.by ≡ s.one.by → o.heirs ≡ s.one.heirs → StartsWith o.seen s.one.seen → HaveMetTwice core (record s { one = o }) u
-    → (Reply : List Entry → List Entry → Type 0) → Reply s.one.seen o.seen → (old : List Entry) → HaveDone core s old → GoesOn core u s.one.by old Reply
+    → (Reply : List Entry → List Entry → Type 0) → Reply s.one.seen o.seen → (old : List Entry) → HaveDone core s old → GoesOnAlone core u s.one.by old Reply
 unit_goes_on core s u all o by_is heirs begins met Reply reply old done =
     let d = done.one in
     goes_on core s (record s { one = o }) u all met s.one.by o.seen

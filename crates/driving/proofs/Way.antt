@@ -29,15 +29,15 @@ use Rattle.station.specs.Quiet.{ClaimsGiveJobs, IsClaimable, IsLetAs, LetsAreOut
 use Rattle.station.specs.Seats.{Caller, IsSame, TheCore}
 use Rattle.station.specs.Writeback.{FinishAnswers, outcome_of}
 use Rattle.driving.specs.declared.seats.Seats.{Seats}
-use Rattle.driving.specs.Hands.{AreAll, HaveMet, KnowsUnits}
-use Rattle.driving.specs.Works.{HasCome, HasValues, IsRight}
+use Rattle.driving.specs.Hands.{AreAll, HaveHeard, KnowsUnits}
+use Rattle.driving.specs.Works.{HasCome, HasBothValues, IsWorkedRight}
 use Rattle.driving.proofs.Begins.{claim_begins, finish_begins, needs_first}
 use Rattle.driving.proofs.Alone.{Stand, only_units, quiet, stand_on, stand_still}
 use Rattle.driving.proofs.Histories.{at_least, same_between, starts_on, starts_same}
 use Rattle.inorder.proofs.Histories.{same_fronts}
 
 -- What a job has of a tenant that was let with its values
-pub record HasItsFields (P : Program) (t : NewTenant) (values : HasValues t) (tag pc : ℕ) (j : Job) : Type 0 where
+pub record HasItsFields (P : Program) (t : NewTenant) (values : HasBothValues t) (tag pc : ℕ) (j : Job) : Type 0 where
   pub tag_is : j.tag ≡ tag
   pub index_is : j.index ≡ t.index
   pub half_is : j.half ≡ t.half
@@ -45,12 +45,12 @@ pub record HasItsFields (P : Program) (t : NewTenant) (values : HasValues t) (ta
   pub first_is : j.a ≡ values.a
   pub second_is : j.b ≡ cond (needs (kind (instr_of P t.index).op) Second) values.b 0
 
-pub record IsItsJob (P : Program) (t : NewTenant) (values : HasValues t) (tag pc : ℕ) (answer : Claim) : Type 0 where
+pub record IsItsJob (P : Program) (t : NewTenant) (values : HasBothValues t) (tag pc : ℕ) (answer : Claim) : Type 0 where
   pub job : Job
   pub is : answer ≡ Claimed job
   pub fields : HasItsFields P t values tag pc job
 
-its_fields : (P : Program) (t : NewTenant) (values : HasValues t) (tag pc : ℕ) (u : Tenant) (j : Job) → u.tag ≡ tag → IsLetAs t pc u → fields_of j ≡ job_of P u → HasItsFields P t values tag pc j
+its_fields : (P : Program) (t : NewTenant) (values : HasBothValues t) (tag pc : ℕ) (u : Tenant) (j : Job) → u.tag ≡ tag → IsLetAs t pc u → fields_of j ≡ job_of P u → HasItsFields P t values tag pc j
 its_fields P t values tag pc u j tag_is its f =
     let first : u.first.value ≡ Some values.a = its.first_is values.a values.first in
     let second : u.second.value ≡ Some values.b = its.second_is values.b values.second in
@@ -64,16 +64,16 @@ its_fields P t values tag pc u j tag_is its f =
     }
 
 -- its values are those of the creators
-pub first_value : (P : Program) (C : Sizes) (U : UpdateUnit) (t : NewTenant) (values : HasValues t) → MayLetOut P C U t
+pub first_value : (P : Program) (C : Sizes) (U : UpdateUnit) (t : NewTenant) (values : HasBothValues t) → MayLetOut P C U t
     → value_of U.tenants (creator P U.tenants (first_of (instr_of P t.index))) ≡ Some values.a
 first_value P C U t values may = subst (λ g. MaySupply P U (next_station C (recent U)) (creator P U.tenants (first_of (instr_of P t.index))) (supply_of g)) values.first may.may.first_is
 
-pub second_value : (P : Program) (C : Sizes) (U : UpdateUnit) (t : NewTenant) (values : HasValues t) → MayLetOut P C U t
+pub second_value : (P : Program) (C : Sizes) (U : UpdateUnit) (t : NewTenant) (values : HasBothValues t) → MayLetOut P C U t
     → value_of U.tenants (creator P U.tenants (second_of (instr_of P t.index))) ≡ Some values.b
 second_value P C U t values may = subst (λ g. MaySupply P U (next_station C (recent U)) (creator P U.tenants (second_of (instr_of P t.index))) (supply_of g)) values.second may.may.second_is
 
 -- a job that was answered has them
-pub has_its_fields : (P : Program) (t : NewTenant) (values : HasValues t) (tag pc : ℕ) (answer : Claim) (j : Job) → IsItsJob P t values tag pc answer → answer ≡ Claimed j
+pub has_its_fields : (P : Program) (t : NewTenant) (values : HasBothValues t) (tag pc : ℕ) (answer : Claim) (j : Job) → IsItsJob P t values tag pc answer → answer ≡ Claimed j
     → HasItsFields P t values tag pc j
 has_its_fields P t values tag pc answer j i is = subst (HasItsFields P t values tag pc) (same i.job j (sym i.is ∙ is)) i.fields
   where
@@ -84,8 +84,8 @@ one_value : (v w : ℕ) → Some v ≡ Some w → v ≡ w
 one_value v w e = cc e
 
 -- and so it comes to what the definitions say
-pub is_right : (P : Program) (C : Sizes) (U : UpdateUnit) (t : NewTenant) (values : HasValues t) (tag named : ℕ) (j : Job) (outcome : Outcome) → MayLetOut P C U t →
-    HasItsFields P t values named (front_pc U.tenants) j → outcome ≡ outcome_of P j → IsRight P U t (record { tag = tag; pc = j.pc; a = j.a; b = j.b; outcome = outcome })
+pub is_right : (P : Program) (C : Sizes) (U : UpdateUnit) (t : NewTenant) (values : HasBothValues t) (tag named : ℕ) (j : Job) (outcome : Outcome) → MayLetOut P C U t →
+    HasItsFields P t values named (front_pc U.tenants) j → outcome ≡ outcome_of P j → IsWorkedRight P U t (record { tag = tag; pc = j.pc; a = j.a; b = j.b; outcome = outcome })
 is_right P C U t values tag named j outcome may f is = record {
   pc = f.pc_is;
   first = λ v e. f.first_is ∙ one_value values.a v (sym (first_value P C U t values may) ∙ e);
@@ -101,9 +101,9 @@ module _ (core : TheCore) where
   C = core.sizes
 
   -- from the let to the claim
-  module _ (s : Seats) (all : AreAll core s) (knows : KnowsUnits s) (t : NewTenant) (values : HasValues t) (may : MayLetOut P C (unit_of P C s.front.seen) t)
+  module _ (s : Seats) (all : AreAll core s) (knows : KnowsUnits s) (t : NewTenant) (values : HasBothValues t) (may : MayLetOut P C (unit_of P C s.front.seen) t)
       (f : Caller) (kept : IsSame s.front f) (lets : Adds P C s.front.by s.front.seen f.seen (let_of t ∷ []))
-      (m : Seats) (all_met : AreAll core m) (met : HaveMet core (record s { front = f }) m) where
+      (m : Seats) (all_met : AreAll core m) (met : HaveHeard core (record s { front = f }) m) where
     abbrev before : List Entry
     before = s.front.seen
 
@@ -116,7 +116,7 @@ module _ (core : TheCore) where
     heard : StartsWith m.one.seen before
     heard = starts_on before f.seen m.one.seen lets.begins (starts_on f.seen m.front.seen m.one.seen met.front.adds.begins met.of_front)
 
-    module _ (n : Seats) (o : Caller) (z : Seats) (stand : Stand m z) (end : HaveMet core (record n { one = o }) z) (on : StartsWith o.seen m.one.seen) where
+    module _ (n : Seats) (o : Caller) (z : Seats) (stand : Stand m z) (end : HaveHeard core (record n { one = o }) z) (on : StartsWith o.seen m.one.seen) where
       -- the front has let this tenant, and nothing else
       let_alone : Adds P C front before m.one.seen (let_of t ∷ [])
       let_alone =
@@ -162,7 +162,7 @@ module _ (core : TheCore) where
 
     -- the claim is a job, with the fields of this tenant
     module _ (o : Caller) (heirs : o.heirs ≡ m.one.heirs) (station : ℕ) (at_station : station ≡ next_station C (recent (unit_of P C before))) (answer : Claim)
-        (reply : ClaimAnswers P C m.one.by m.one.seen o.seen station answer) (z : Seats) (end : HaveMet core (record m { one = o }) z) where
+        (reply : ClaimAnswers P C m.one.by m.one.seen o.seen station answer) (z : Seats) (end : HaveHeard core (record m { one = o }) z) where
       begins : StartsWith o.seen m.one.seen
       begins = claim_begins P C m.one.by m.one.seen o.seen station answer reply
 
@@ -191,14 +191,14 @@ module _ (core : TheCore) where
 
     -- and its outcome is written
     module _ (o : Caller) (same : IsSame m.one o) (heirs : o.heirs ≡ m.one.heirs) (station : ℕ) (j : Job) (claimed : IsClaimed P C m.one.by m.one.seen o.seen station j)
-        (n : Seats) (end : HaveMet core (record m { one = o }) n) where
+        (n : Seats) (end : HaveHeard core (record m { one = o }) n) where
       pub still_holds : JobsStaySeen → Holds P C n.one.by n.one.seen j
       still_holds jobs_stay =
           let mine : Holds P C o.by o.seen j = subst (λ i. Holds P C i o.seen j) (sym same.by) claimed.holds in
           subst (λ i. Holds P C i n.one.seen j) (sym end.one.by_is) (jobs_stay P C o.by o.seen n.one.seen j mine end.one.adds)
 
       module _ (w : Caller) (heirs' : w.heirs ≡ n.one.heirs) (answer : Finish) (reply : FinishAnswers P C n.one.by n.one.seen w.seen j answer)
-          (z : Seats) (last : HaveMet core (record n { one = w }) z) where
+          (z : Seats) (last : HaveHeard core (record n { one = w }) z) where
         written_at : StartsWith w.seen n.one.seen
         written_at = finish_begins P C n.one.by n.one.seen w.seen j answer reply
 

@@ -15,11 +15,11 @@ use Rattle.station.specs.Writeback.{outcome_of}
 use Rattle.inorder.specs.Replies.{job_of}
 use Rattle.driving.specs.declared.seats.Seats.{Seats}
 use Rattle.driving.specs.Chains.{WorksOut}
-use Rattle.driving.specs.Done.{GoesOn, IsClaimedNext, IsFinishedNext, unit_after}
+use Rattle.driving.specs.Done.{GoesOnAlone, IsClaimedNext, IsFinishedNext, unit_after}
 
 module _ (core : TheCore) (t : Seats) (by : ℕ) (unit : IsUnit by) (station : ℕ) where
   -- the claim is a job
-  pub is_job : (answer : Claim) (old : List Entry) (claimed : GoesOn core t by old (IsClaimedNext core by station answer)) (p tag : ℕ)
+  pub is_job : (answer : Claim) (old : List Entry) (claimed : GoesOnAlone core t by old (IsClaimedNext core by station answer)) (p tag : ℕ)
       → (x : IsTenant (unit_after core old) p station tag (IsClaimable core.program))
       → ClaimsGiveJobs → IsJobOf core.program answer x.tenant
   is_job answer old claimed p tag x law = law core.program core.sizes by old claimed.all station tag p answer unit x (λ n ne other. claimed.alone n ne) claimed.reply
@@ -28,10 +28,10 @@ same_job : (a b : Job) → Claimed a ≡ Claimed b → a ≡ b
 same_job a b e = cc e
 
 pub works_out : (core : TheCore) (t u : Seats) (by : ℕ) (unit : IsUnit by) (station : ℕ) (job : Job) (outcome : Outcome) → outcome ≡ outcome_of core.program job → (old : List Entry)
-    → (claimed : GoesOn core t by old (IsClaimedNext core by station (Claimed job))) → t.one.by ≡ by → (answer : Finish) → GoesOn core u t.one.by claimed.all (IsFinishedNext core t.one.by job answer)
-    → ClaimsGiveJobs → GoesOn core u by old (WorksOut core by station outcome)
+    → (claimed : GoesOnAlone core t by old (IsClaimedNext core by station (Claimed job))) → t.one.by ≡ by → (answer : Finish) → GoesOnAlone core u t.one.by claimed.all (IsFinishedNext core t.one.by job answer)
+    → ClaimsGiveJobs → GoesOnAlone core u by old (WorksOut core by station outcome)
 works_out core t u by unit station job outcome is old claimed same answer there law =
-    let finished : GoesOn core u by claimed.all (IsFinishedNext core by job answer) = subst (λ n. GoesOn core u n claimed.all (IsFinishedNext core n job answer)) same there in
+    let finished : GoesOnAlone core u by claimed.all (IsFinishedNext core by job answer) = subst (λ n. GoesOnAlone core u n claimed.all (IsFinishedNext core n job answer)) same there in
     record {
       all = finished.all;
       done = finished.done;

@@ -33,7 +33,7 @@ pub record InAll (core : TheCore) (s : Seats) (Fact : List Entry → Type 0) : T
   pub fact : Fact all
 
 -- One caller has gone on from there, with this reply, and nobody else has done anything
-pub record GoesOn (core : TheCore) (s : Seats) (by : ℕ) (old : List Entry)
+pub record GoesOnAlone (core : TheCore) (s : Seats) (by : ℕ) (old : List Entry)
     (Reply : List Entry → List Entry → Type 0) : Type 0 where
   pub all : List Entry
   pub done : HaveDone core s all
@@ -41,8 +41,8 @@ pub record GoesOn (core : TheCore) (s : Seats) (by : ℕ) (old : List Entry)
   pub reply : Reply old all
 
 -- What a call leads to, whatever was done before
-abbrev pub Leads : TheCore → Seats → Seats → ℕ → (List Entry → List Entry → Type 0) → Type 0
-Leads core s t by Reply = (all : List Entry) → HaveDone core s all → GoesOn core t by all Reply
+abbrev pub CallLeads : TheCore → Seats → Seats → ℕ → (List Entry → List Entry → Type 0) → Type 0
+CallLeads core s t by Reply = (all : List Entry) → HaveDone core s all → GoesOnAlone core t by all Reply
 
 -- The unit behind all of it
 abbrev pub unit_after : TheCore → List Entry → UpdateUnit

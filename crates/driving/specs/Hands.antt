@@ -45,18 +45,18 @@ pub record AreNew (P : Program) (config : Settings) (core : TheCore) (s : Seats)
   pub fresh : own s.other.by s.other.seen ≡ []
 
 -- The same seat, whose caller has looked and met
-pub record IsLater (core : TheCore) (v w : Caller) : Type 0 where
+pub record HasHeardMore (core : TheCore) (v w : Caller) : Type 0 where
   pub core_is : w.core ≡ v.core
   pub by_is : w.by ≡ v.by
   pub heirs_are : w.heirs ≡ v.heirs
   pub adds : Adds core.program core.sizes v.by v.seen w.seen []
 
 -- The first unit has heard of all that the others had seen, and they of what it had
-pub record HaveMet (core : TheCore) (s t : Seats) : Type 0 where
-  pub front : IsLater core s.front t.front
-  pub back : IsLater core s.back t.back
-  pub one : IsLater core s.one t.one
-  pub other : IsLater core s.other t.other
+pub record HaveHeard (core : TheCore) (s t : Seats) : Type 0 where
+  pub front : HasHeardMore core s.front t.front
+  pub back : HasHeardMore core s.back t.back
+  pub one : HasHeardMore core s.one t.one
+  pub other : HasHeardMore core s.other t.other
   pub of_front : StartsWith t.one.seen t.front.seen
   pub of_back : StartsWith t.one.seen t.back.seen
   pub of_other : StartsWith t.one.seen t.other.seen
@@ -71,5 +71,5 @@ pub record HaveMet (core : TheCore) (s t : Seats) : Type 0 where
 pub record HaveMetTwice (core : TheCore) (s u : Seats) : Type 0 where
   pub once : Seats
   pub all : AreAll core once
-  pub first : HaveMet core s once
-  pub second : HaveMet core once u
+  pub first : HaveHeard core s once
+  pub second : HaveHeard core once u

@@ -23,7 +23,7 @@ abbrev pub unit_at : TheCore → Seats → UpdateUnit
 unit_at core s = unit_of core.program core.sizes s.front.seen
 
 -- Both sources have their values from the start
-pub record HasValues (t : Tenant) : Type 0 where
+pub record HasBothValues (t : Tenant) : Type 0 where
   pub a : ℕ
   pub b : ℕ
   pub first : t.sources.0 ≡ Known a
@@ -35,7 +35,7 @@ pub record HasCome (station tag : ℕ) (outcome : Outcome) (U : UpdateUnit) : Ty
   pub tenant : IsTenant U p station tag (HasOutcome outcome)
 
 -- What a unit works out by the definitions, for a tenant that is let in the unit U
-pub record IsRight (P : Program) (U : UpdateUnit) (t : Tenant) (w : Worked) : Type 0 where
+pub record IsWorkedRight (P : Program) (U : UpdateUnit) (t : Tenant) (w : Worked) : Type 0 where
   pub pc : w.pc ≡ front_pc U.tenants
   -- its values are what the creators of its sources have made
   pub first : (v : ℕ) →
@@ -52,7 +52,7 @@ pub record IsRight (P : Program) (U : UpdateUnit) (t : Tenant) (w : Worked) : Ty
 pub record IsWorked (core : TheCore) (old new : Seats) (station : ℕ) (t : Tenant) (w : Worked) :
     Type 0 where
   pub tag : w.tag ≡ next_tag core.sizes (recent (unit_at core old))
-  pub right : IsRight core.program (unit_at core old) t w
+  pub right : IsWorkedRight core.program (unit_at core old) t w
   pub written : WasOnce core.program core.sizes old.one.seen new.one.seen
       (HasCome station w.tag w.outcome)
 

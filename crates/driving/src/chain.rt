@@ -1,7 +1,7 @@
 //! Two instructions, of which the second waits for what the first makes.
 ghost use Rattle.std.specs.Prelude.{◌≡◌, ◌<◌, IfOk, IsTrue};
 ghost use Rattle.driving.specs.Chains.{IsChain, IsSecondOutcome, WorksOut};
-ghost use Rattle.driving.specs.Done.{HasReady, InAll, Leads};
+ghost use Rattle.driving.specs.Done.{HasReady, InAll, CallLeads};
 ghost use Rattle.driving.specs.Hands.{AreAll};
 
 use crate::hand::{ask_next, claim_next, finish_next, let_next};
@@ -40,7 +40,7 @@ fn work_at(core: &Core, program: &Program, seats: &mut Seats, station: usize) ->
     requires station { station < core.now.sizes.ring }
     requires ready { InAll core.now seats.old (HasReady core.now station) }
     ensures all { AreAll core.now seats.new }
-    ensures done { Leads core.now seats.old seats.new seats.old.one.by
+    ensures done { CallLeads core.now seats.old seats.new seats.old.one.by
         (WorksOut core.now seats.old.one.by station result) }
 {
     let answer = claim_next(core, seats, station);

@@ -3,7 +3,7 @@ ghost use Rattle.std.specs.Prelude.{◌≡◌, ◌<◌, IfOk, length};
 ghost use Rattle.inorder.specs.Unit.{next_station, recent};
 ghost use Rattle.station.specs.Letting.{MayLetOut};
 ghost use Rattle.driving.specs.Hands.{AreAll, KnowsUnits};
-ghost use Rattle.driving.specs.Works.{HasValues, IsFirstOutcome, IsWorked, unit_at};
+ghost use Rattle.driving.specs.Works.{HasBothValues, IsFirstOutcome, IsWorked, unit_at};
 
 use crate::seats::{Seats, gather, make};
 use instructions::{Config, Half, Memory, Outcome, Program, outcome_of};
@@ -38,7 +38,7 @@ pub fn work(
     requires knows { KnowsUnits seats.old }
     requires station { station ≡ next_station core.now.sizes (recent (unit_at core.now seats.old)) }
     requires may { MayLetOut core.now.program core.now.sizes (unit_at core.now seats.old) tenant }
-    requires values { HasValues tenant }
+    requires values { HasBothValues tenant }
     ensures all { AreAll core.now seats.new }
     ensures worked { IsWorked core.now seats.old seats.new station tenant result }
 {

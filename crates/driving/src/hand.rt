@@ -3,7 +3,7 @@
 ghost use Rattle.std.specs.Prelude.{◌≡◌, ◌<◌};
 ghost use Rattle.inorder.specs.History.{front};
 ghost use Rattle.station.specs.Writeback.{outcome_of};
-ghost use Rattle.driving.specs.Done.{HoldsNext, InAll, IsAskedNext, IsClaimedNext, IsFinishedNext, IsLetNext, Leads, MayAskNext, MayLetNext};
+ghost use Rattle.driving.specs.Done.{HoldsNext, InAll, IsAskedNext, IsClaimedNext, IsFinishedNext, IsLetNext, CallLeads, MayAskNext, MayLetNext};
 ghost use Rattle.driving.specs.Hands.{AreAll, HaveMetTwice};
 
 use crate::seats::{Seats, gather};
@@ -25,7 +25,7 @@ pub(crate) fn let_next(core: &Core, seats: &mut Seats, tenant: Tenant) -> u32
     requires all { AreAll core.now seats.old }
     requires may { InAll core.now seats.old (MayLetNext core.now tenant) }
     ensures all { AreAll core.now seats.new }
-    ensures done { Leads core.now seats.old seats.new front (IsLetNext core.now tenant result) }
+    ensures done { CallLeads core.now seats.old seats.new front (IsLetNext core.now tenant result) }
 {
     mays_stay();
     let tag = core.let_out(&mut seats.front, tenant);
@@ -47,7 +47,7 @@ pub(crate) fn ask_next(
     requires from { from.0 < core.now.sizes.ring }
     requires may { InAll core.now seats.old (MayAskNext core.now station tag k from) }
     ensures all { AreAll core.now seats.new }
-    ensures done { Leads core.now seats.old seats.new front
+    ensures done { CallLeads core.now seats.old seats.new front
         (IsAskedNext core.now station tag k from result) }
 {
     mays_stay();
@@ -62,7 +62,7 @@ pub(crate) fn claim_next(core: &Core, seats: &mut Seats, station: usize) -> Clai
     requires station { station < core.now.sizes.ring }
     ensures all { AreAll core.now seats.new }
     ensures by { seats.new.one.by ≡ seats.old.one.by }
-    ensures done { Leads core.now seats.old seats.new seats.old.one.by
+    ensures done { CallLeads core.now seats.old seats.new seats.old.one.by
         (IsClaimedNext core.now seats.old.one.by station result) }
 {
     let answer = core.claim(&mut seats.one, station);
@@ -76,7 +76,7 @@ pub(crate) fn finish_next(core: &Core, seats: &mut Seats, job: Job, outcome: Out
     requires job { InAll core.now seats.old (HoldsNext core.now seats.old.one.by job) }
     requires outcome { outcome ≡ outcome_of core.now.program job }
     ensures all { AreAll core.now seats.new }
-    ensures done { Leads core.now seats.old seats.new seats.old.one.by
+    ensures done { CallLeads core.now seats.old seats.new seats.old.one.by
         (IsFinishedNext core.now seats.old.one.by job result) }
 {
     jobs_stay();

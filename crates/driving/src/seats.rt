@@ -1,6 +1,6 @@
 //! All seats of a core, in one hand.
 ghost use Rattle.std.specs.Prelude.{IfOk};
-ghost use Rattle.driving.specs.Hands.{AreAll, AreNew, HaveMet};
+ghost use Rattle.driving.specs.Hands.{AreAll, AreNew, HaveHeard};
 
 use instructions::{Config, Memory, Program};
 use station::{BackSeat, Core, FrontSeat, UnitSeat, no_seat_no_entry, numbers_are_given_once};
@@ -35,7 +35,7 @@ pub fn make(alloc: Global, program: &Program, config: &Config) -> Result<(Core, 
 pub fn gather(core: &Core, seats: &mut Seats)
     requires { AreAll core.now seats.old }
     ensures all { AreAll core.now seats.new }
-    ensures met { HaveMet core.now seats.old seats.new }
+    ensures met { HaveHeard core.now seats.old seats.new }
 {
     core.meet(&mut seats.front, &mut seats.one);
     core.meet(&mut seats.back, &mut seats.one);

@@ -99,5 +99,5 @@ abbrev pub name_window : List ℕ → ℕ → List ℕ
 name_window file at = if nat_lt (length file) at then [] else first_at_most 60 (drop at file)
 
 -- the printable characters from a place on, at most 60
-abbrev pub name_at : List ℕ → ℕ → List ℕ
-name_at file at = up_to (position (λ b. not (is_graphic b)) (name_window file at)) (name_window file at)
+abbrev pub printable_at : List ℕ → ℕ → List ℕ
+printable_at file at = up_to (position (λ b. not (is_graphic b)) (name_window file at)) (name_window file at)

@@ -6,7 +6,7 @@ use Rattle.inorder.specs.History.{front, unit_of}
 use Rattle.inorder.specs.OneHistory.{Adds}
 use Rattle.inorder.specs.Unit.{Sizes, next_station, recent}
 use Rattle.station.specs.Seats.{Caller, TheCore}
-use Rattle.front.specs.Stills.{RefusedAreEntered, RenewedAreEntered, next_at}
+use Rattle.front.specs.Stills.{RefusedFrontsEnter, RenewedFrontsEnter, next_at}
 use Rattle.front.proofs.Splitting.{IsStable, stays}
 use Rattle.front.proofs.Stays.{place_stays, quiet_of}
 
@@ -14,7 +14,7 @@ use Rattle.front.proofs.Stays.{place_stays, quiet_of}
 next_stable : (P : Program) (C : Sizes) (n : ℕ) → IsStable P C (λ U. next_station C (recent U) ≡ n)
 next_stable P C n U by s b a ok e = place_stays P C U by s (quiet_of s b) a ok ∙ e
 
-pub renewed_are_entered : RenewedAreEntered
+pub renewed_are_entered : RenewedFrontsEnter
 renewed_are_entered core now old new r =
     let one = r.first.front_is in
     record {
@@ -29,7 +29,7 @@ renewed_are_entered core now old new r =
       first = ap (λ (z : Caller). next_at z.core z.seen) one ∙ (ap (next_at now) r.opening ∙ zero-mod now.sizes.ring);
     }
 
-pub refused_are_entered : RefusedAreEntered
+pub refused_are_entered : RefusedFrontsEnter
 refused_are_entered core now old new here by_is r =
     let later = r.met.front in
     let place : new.front.core ≡ core = later.same.core ∙ here in

@@ -7,7 +7,7 @@ use Rattle.instructions.specs.Programs.{Program}
 use Rattle.inorder.specs.declared.history.Act.{Act}
 use Rattle.inorder.specs.declared.history.Act.TheVariants.{Mend, Squash}
 use Rattle.inorder.specs.declared.history.Step.TheVariants.{On}
-use Rattle.inorder.specs.Callers.{CanMend, CanSquash, IsMissing, IsYoungest}
+use Rattle.inorder.specs.Callers.{CanMend, CanSquash, IsMissing, IsYoungestLive}
 use Rattle.inorder.specs.Legal.{Allowed, applied, changed}
 use Rattle.inorder.specs.Replies.{Has}
 use Rattle.inorder.specs.Steps.{mended, mended_as, squashed}
@@ -19,11 +19,11 @@ use Rattle.inorder.proofs.Sound.{IsSettled, IsSound, SettledBy}
 use Rattle.inorder.proofs.Stations.{mended_station}
 use Rattle.inorder.proofs.OneCaller.Middle.{at_middle, older_middle, sound_from, younger_middle}
 use Rattle.front.proofs.Stays.{long_under}
-use Rattle.front.specs.Path.{told_of}
+use Rattle.front.specs.Path.{rested_at}
 use Rattle.front.specs.declared.path.base_state.Base.{Base}
 use Rattle.front.specs.declared.path.record.Record.{Record}
 use Rattle.front.specs.Creators.{creator_note, position}
-use Rattle.front.specs.Knows.{IsGone, IsNewest, IsFolded, Knows, whats}
+use Rattle.front.specs.Knows.{IsGone, IsNewest, IsFolded, FrontKnows, whats}
 use Rattle.front.specs.Trail.{Note, note, trail}
 use Rattle.front.proofs.Acts.{still_gone, still_newest, still_folded, still_value}
 use Rattle.front.proofs.Lists.{all_both, all_front, all_map, all_rest, whats_append}
@@ -94,7 +94,7 @@ module _ (P : Program) (C : Sizes) (U : UpdateUnit) (ok : IsSound P U.tenants) (
   pub at_last : at U.tenants x.at ≡ Some t
   at_last = ap (at U.tenants) (ap (λ z. z.at) o.is) ∙ (ap (λ z. at z (length ts)) o.split ∙ at_middle o.ys t ts)
 
-  pub youngest_last : IsYoungest U x.at
+  pub youngest_last : IsYoungestLive U x.at
   youngest_last = λ q u lt is live.
       off_not_live u (off_at o.ys t ts o.off q u (subst (λ (z : Note). z.at < q) o.is lt) (subst (λ z. at z q ≡ Some u) o.split is)) live
 
@@ -144,8 +144,10 @@ module _ (P : Program) (C : Sizes) (U : UpdateUnit) (ok : IsSound P U.tenants) (
 
 module _ (P : Program) (C : Sizes) (U : UpdateUnit) (ok : IsSound P U.tenants) (by p : ℕ) (base : Base) where
   -- the youngest is no more there, and there are others
-  pub squash_known : (a : Allowed P C U by (On p Squash)) → (rest : List Record) (one : Record) (k : Knows P C U (rest ++ one ∷ []) base) → (fs : List Note) (x : Note) → k.notes ≡ fs ++ x ∷ [] →
-      rest ≢ [] → Knows P C (applied P C U by (On p Squash)) rest base
+  pub squash_known : (a : Allowed P C U by (On p Squash)) →
+      (rest : List Record) (one : Record) (k : FrontKnows P C U (rest ++ one ∷ []) base) →
+      (fs : List Note) (x : Note) → k.notes ≡ fs ++ x ∷ [] → rest ≢ [] →
+      FrontKnows P C (applied P C U by (On p Squash)) rest base
   squash_known a rest one k fs x e some =
       let V = applied P C U by (On p Squash) in
       let whole : trail P U.tenants ≡ (k.gone ++ fs) ++ x ∷ [] = k.path ∙ (ap (λ z. k.gone ++ z) e ∙ sym (append_assoc k.gone fs (x ∷ []))) in
@@ -162,18 +164,17 @@ module _ (P : Program) (C : Sizes) (U : UpdateUnit) (ok : IsSound P U.tenants) (
         room = omega (arith, k.room);
         begun = λ none. absurd (some (are ∙ ap whats none));
         retired = all_map (IsGone U) (IsGone V) (still_gone P C U by (On p Squash) a ok) k.gone k.retired;
-        again = all_map (IsFolded U (told_of base)) (IsFolded V (told_of base)) (still_folded P C U by (On p Squash) a ok (told_of base)) k.gone k.again;
+        again = all_map (IsFolded U (rested_at base)) (IsFolded V (rested_at base)) (still_folded P C U by (On p Squash) a ok (rested_at base)) k.gone k.again;
         newest = all_map (IsNewest U) (IsNewest V) (still_newest P C U by p Squash a ok) fs (all_front (IsNewest U) fs (x ∷ []) (subst (AllByRecursion (IsNewest U)) e k.newest));
-        past = subst (λ z. told_of base ≤ z) (sym (long_under P C U by p Squash a)) k.past;
-        since = subst (λ z. z ≤ told_of base + U.fresh) (sym (long_under P C U by p Squash a)) k.since;
-        untold = all_front (λ n. told_of base ≤ n.at) fs (x ∷ []) (subst (AllByRecursion (λ n. told_of base ≤ n.at)) e k.untold);
+        past = subst (λ z. rested_at base ≤ z) (sym (long_under P C U by p Squash a)) k.past;
+        since = subst (λ z. z ≤ rested_at base + U.fresh) (sym (long_under P C U by p Squash a)) k.since;
+        untold = all_front (λ n. rested_at base ≤ n.at) fs (x ∷ []) (subst (AllByRecursion (λ n. rested_at base ≤ n.at)) e k.untold);
         wide = k.wide;
         base_is = λ r h. still_value P C U by (On p Squash) a ok (position (creator_note k.gone r)) (slice_index base.registers r) (k.base_is r h);
       }
 
   -- the youngest goes on elsewhere
-  pub mend_known : (a : Allowed P C U by (On p Mend)) → (rest : List Record) (one : Record) (k : Knows P C U (rest ++ one ∷ []) base) → (fs : List Note) (x : Note) → k.notes ≡ fs ++ x ∷ [] →
-      (next : ℕ) → Has U x.at (IsMissing next) → Knows P C (applied P C U by (On p Mend)) (rest ++ record one { next = next } ∷ []) base
+  pub mend_known : (a : Allowed P C U by (On p Mend)) → (rest : List Record) (one : Record) (k : FrontKnows P C U (rest ++ one ∷ []) base) → (fs : List Note) (x : Note) → k.notes ≡ fs ++ x ∷ [] → (next : ℕ) → Has U x.at (IsMissing next) → FrontKnows P C (applied P C U by (On p Mend)) (rest ++ record one { next = next } ∷ []) base
   mend_known a rest one k fs x e next m =
       let V = applied P C U by (On p Mend) in
       let whole : trail P U.tenants ≡ (k.gone ++ fs) ++ x ∷ [] = k.path ∙ (ap (λ z. k.gone ++ z) e ∙ sym (append_assoc k.gone fs (x ∷ []))) in
@@ -186,7 +187,7 @@ module _ (P : Program) (C : Sizes) (U : UpdateUnit) (ok : IsSound P U.tenants) (
       let long' = length-append fs (y ∷ []) in
       let all : length k.notes ≡ length (fs ++ x ∷ []) = ap (λ z. length z) e in
       let newest : AllByRecursion (IsNewest U) (fs ++ x ∷ []) = subst (AllByRecursion (IsNewest U)) e k.newest in
-      let untold : AllByRecursion (λ n. told_of base ≤ n.at) (fs ++ x ∷ []) = subst (AllByRecursion (λ n. told_of base ≤ n.at)) e k.untold in
+      let untold : AllByRecursion (λ n. rested_at base ≤ n.at) (fs ++ x ∷ []) = subst (AllByRecursion (λ n. rested_at base ≤ n.at)) e k.untold in
       let last : IsNewest U y = (all_rest (IsNewest U) fs (x ∷ []) newest).0 in
       record {
         gone = k.gone;
@@ -196,11 +197,11 @@ module _ (P : Program) (C : Sizes) (U : UpdateUnit) (ok : IsSound P U.tenants) (
         room = omega (arith, k.room);
         begun = λ none. absurd (Rattle.front.proofs.Lists.last_not fs y (sym none));
         retired = all_map (IsGone U) (IsGone V) (still_gone P C U by (On p Mend) a ok) k.gone k.retired;
-        again = all_map (IsFolded U (told_of base)) (IsFolded V (told_of base)) (still_folded P C U by (On p Mend) a ok (told_of base)) k.gone k.again;
+        again = all_map (IsFolded U (rested_at base)) (IsFolded V (rested_at base)) (still_folded P C U by (On p Mend) a ok (rested_at base)) k.gone k.again;
         newest = all_map (IsNewest U) (IsNewest V) (still_newest P C U by p Mend a ok) (fs ++ y ∷ []) (all_both (IsNewest U) fs (y ∷ []) (all_front (IsNewest U) fs (x ∷ []) newest) (last, tt));
-        past = subst (λ z. told_of base ≤ z) (sym (long_under P C U by p Mend a)) k.past;
-        since = subst (λ z. z ≤ told_of base + U.fresh) (sym (long_under P C U by p Mend a)) k.since;
-        untold = all_both (λ n. told_of base ≤ n.at) fs (y ∷ []) (all_front (λ n. told_of base ≤ n.at) fs (x ∷ []) untold) ((all_rest (λ n. told_of base ≤ n.at) fs (x ∷ []) untold).0, tt);
+        past = subst (λ z. rested_at base ≤ z) (sym (long_under P C U by p Mend a)) k.past;
+        since = subst (λ z. z ≤ rested_at base + U.fresh) (sym (long_under P C U by p Mend a)) k.since;
+        untold = all_both (λ n. rested_at base ≤ n.at) fs (y ∷ []) (all_front (λ n. rested_at base ≤ n.at) fs (x ∷ []) untold) ((all_rest (λ n. rested_at base ≤ n.at) fs (x ∷ []) untold).0, tt);
         wide = k.wide;
         base_is = λ r h. still_value P C U by (On p Mend) a ok (position (creator_note k.gone r)) (slice_index base.registers r) (k.base_is r h);
       }

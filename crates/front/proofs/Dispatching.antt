@@ -31,9 +31,9 @@ use Rattle.front.specs.declared.path.base_state.Base.{Base}
 use Rattle.front.specs.declared.fetch.Fetched.{Fetched}
 use Rattle.front.specs.declared.path.record.Record.{Record}
 use Rattle.front.specs.Creators.{supply_in}
-use Rattle.front.specs.Fetching.{IsNext}
-use Rattle.front.specs.Knows.{IsReady, Knows}
-use Rattle.front.specs.Path.{record_for, told_of}
+use Rattle.front.specs.Fetching.{CanBeLet}
+use Rattle.front.specs.Knows.{RecordsAreReady, FrontKnows}
+use Rattle.front.specs.Path.{record_for, rested_at}
 use Rattle.front.specs.Questions.{Asks, IsDispatched}
 use Rattle.front.specs.Trail.{is_link, record_of}
 use Rattle.front.proofs.LetKnown.{let_known}
@@ -44,7 +44,8 @@ use Rattle.front.specs.declared.path.counted.Table.{Table}
 use Rattle.front.proofs.Pending.{IsPending, pending_stable}
 use Rattle.front.proofs.Places.{kept_new, notes_length}
 use Rattle.front.proofs.Questioned.{HasAsked, has_asked, later}
-use Rattle.front.proofs.Splitting.{LastEvent, event_legal, last_event, no_event, stays, stays_behind}
+use Rattle.front.proofs.Splitting.{event_legal, no_event, stays, stays_behind}
+use Rattle.station.proofs.Splitting.{LastEvent, last_event}
 use Rattle.front.proofs.Stations.{live_fewer}
 use Rattle.front.proofs.Stays.{knows_stable, ready_stable}
 use Rattle.front.proofs.Supplies.{comes_from, may_supply}
@@ -68,8 +69,8 @@ index_of P f e =
     let a = found_at P f.pc f.instr e in
     subst (IsIndex P f) (sym (index_is a.index f.pc a.pc)) (record { inside = a.inside; pc = a.pc; is = a.is })
 
-module _ (P : Program) (C : Sizes) (old : List Entry) (legal : IsLegal P C old) (records : List Record) (base : Base) (k : IsReady P C (unit_of P C old) records base)
-    (f : Fetched) (n : IsNext P C old f) (predicted index : ℕ) (small : predicted < 2 ^ 32) (fixed : IfSome (fixed_next f.instr f.half f.pc) (λ x. predicted ≡ x)) (x : IsIndex P f index)
+module _ (P : Program) (C : Sizes) (old : List Entry) (legal : IsLegal P C old) (records : List Record) (base : Base) (k : RecordsAreReady P C (unit_of P C old) records base)
+    (f : Fetched) (n : CanBeLet P C old f) (predicted index : ℕ) (small : predicted < 2 ^ 32) (fixed : IfSome (fixed_next f.instr f.half f.pc) (λ x. predicted ≡ x)) (x : IsIndex P f index)
     (first_small : first_of f.instr < 34) (second_small : second_of f.instr < 34)
     (first second : Supply) (first_given : first ≡ supply_in records base (first_of f.instr)) (second_given : second ≡ supply_in records base (second_of f.instr)) where
   abbrev U : UpdateUnit
@@ -92,12 +93,8 @@ module _ (P : Program) (C : Sizes) (old : List Entry) (legal : IsLegal P C old) 
     pc = sym n.pc ∙ x.pc;
     small = small;
     predicts = subst (λ (z : Instr × Half × ℕ). IfSome (fixed_next z.0 z.1 z.2) (λ y. predicted ≡ y)) (λ i. (sym x.is i, n.half i, n.pc i)) fixed;
-    first_is = subst (λ (i : Instr). MaySupply P U (next_station C (recent U)) (creator P U.tenants (first_of i)) (supply_of first)) (sym x.is)
-        (subst (λ s. MaySupply P U (next_station C (recent U)) (creator P U.tenants (first_of f.instr)) (supply_of s)) (sym first_given)
-        (may_supply P C old legal records base k (first_of f.instr) first_small));
-    second_is = subst (λ (i : Instr). MaySupply P U (next_station C (recent U)) (creator P U.tenants (second_of i)) (supply_of second)) (sym x.is)
-        (subst (λ s. MaySupply P U (next_station C (recent U)) (creator P U.tenants (second_of f.instr)) (supply_of s)) (sym second_given)
-        (may_supply P C old legal records base k (second_of f.instr) second_small));
+    first_is = subst (λ (i : Instr). MaySupply P U (next_station C (recent U)) (creator P U.tenants (first_of i)) (supply_of first)) (sym x.is) (subst (λ s. MaySupply P U (next_station C (recent U)) (creator P U.tenants (first_of f.instr)) (supply_of s)) (sym first_given) (may_supply P C old legal records base k (first_of f.instr) first_small));
+    second_is = subst (λ (i : Instr). MaySupply P U (next_station C (recent U)) (creator P U.tenants (second_of i)) (supply_of second)) (sym x.is) (subst (λ s. MaySupply P U (next_station C (recent U)) (creator P U.tenants (second_of f.instr)) (supply_of s)) (sym second_given) (may_supply P C old legal records base k (second_of f.instr) second_small));
   }
 
   pub may_let_out : MayLetOut P C U tenant
@@ -120,8 +117,8 @@ module _ (P : Program) (C : Sizes) (old : List Entry) (legal : IsLegal P C old) 
     legal_let : IsLegal P C (entry front (let_of tenant) ∷ point)
     legal_let = event_legal P C old new (let_of tenant) [] l
 
-    ready : IsReady P C M records base
-    ready = stays P C (λ V. IsReady P C V records base) (ready_stable P C records base) old point l.before k
+    ready : RecordsAreReady P C M records base
+    ready = stays P C (λ V. RecordsAreReady P C V records base) (ready_stable P C records base) old point l.before k
 
     same : LetStays P C U M index predicted (supply_of first) (supply_of second)
     same =
@@ -160,23 +157,23 @@ module _ (P : Program) (C : Sizes) (old : List Entry) (legal : IsLegal P C old) 
       guessed = is_none (fixed_next (x.is i) (sym half_there i) (sym pc_there i));
     }
 
-    pub knows_behind : Knows P C (unit_of P C new) (records ++ record_for f tag predicted ∷ []) base
+    pub knows_behind : FrontKnows P C (unit_of P C new) (records ++ record_for f tag predicted ∷ []) base
     knows_behind =
         let there = let_known P C M front index predicted (supply_of first) (supply_of second) legal_let.1.1 (unit_sound P C point legal_let.0) (stands_right P C point legal_let.0) records base ready in
-        stays_behind P C (λ V. Knows P C V (records ++ record_for f tag predicted ∷ []) base) (knows_stable P C (records ++ record_for f tag predicted ∷ []) base) old new (let_of tenant) [] l
-        (subst (λ z. Knows P C (applied P C M front let_step) (records ++ z ∷ []) base) kept_of there)
+        stays_behind P C (λ V. FrontKnows P C V (records ++ record_for f tag predicted ∷ []) base) (knows_stable P C (records ++ record_for f tag predicted ∷ []) base) old new (let_of tenant) [] l
+        (subst (λ z. FrontKnows P C (applied P C M front let_step) (records ++ z ∷ []) base) kept_of there)
 
     -- behind the first ones all are recent
-    new_behind : (p : ℕ) → told_of base ≤ p → is_old (applied P C M front let_step) p ≡ false
+    new_behind : (p : ℕ) → rested_at base ≤ p → is_old (applied P C M front let_step) p ≡ false
     new_behind p le = old_more M new_one p ∙ kept_new P C M records base _ ready.stands p le
 
     -- the table
-    module _ (T T' : Table) (table : HasTable P U (told_of base) T) (inside : f.station < 32) (entered : IsEntered T T' (record_for f tag predicted)) where
-      pub table_behind : HasTable P (unit_of P C new) (told_of base) T'
+    module _ (T T' : Table) (table : HasTable P U (rested_at base) T) (inside : f.station < 32) (entered : IsEntered T T' (record_for f tag predicted)) where
+      pub table_behind : HasTable P (unit_of P C new) (rested_at base) T'
       table_behind =
-          let there : HasTable P M (told_of base) T = stays P C (λ V. HasTable P V (told_of base) T) (table_stable P C (told_of base) T) old point l.before table in
-          let after = table_let P C M front index predicted (supply_of first) (supply_of second) (told_of base) T T' there ready.stands.past (subst (λ z. z < 32) place inside) (λ p q t u a b is is'. one_named P C (entry front (let_of tenant) ∷ point) legal_let p q t u is is' (new_behind p a) (new_behind q b)) (subst (IsEntered T T') (sym kept_of) entered) in
-          stays_behind P C (λ V. HasTable P V (told_of base) T') (table_stable P C (told_of base) T') old new (let_of tenant) [] l after
+          let there : HasTable P M (rested_at base) T = stays P C (λ V. HasTable P V (rested_at base) T) (table_stable P C (rested_at base) T) old point l.before table in
+          let after = table_let P C M front index predicted (supply_of first) (supply_of second) (rested_at base) T T' there ready.stands.past (subst (λ z. z < 32) place inside) (λ p q t u a b is is'. one_named P C (entry front (let_of tenant) ∷ point) legal_let p q t u is is' (new_behind p a) (new_behind q b)) (subst (IsEntered T T') (sym kept_of) entered) in
+          stays_behind P C (λ V. HasTable P V (rested_at base) T') (table_stable P C (rested_at base) T') old new (let_of tenant) [] l after
 
     -- its place in the unit
     pub named_new : IsTenant (applied P C M front let_step) (length M.tenants) f.station tag IsAny
@@ -194,8 +191,10 @@ module _ (P : Program) (C : Sizes) (old : List Entry) (legal : IsLegal P C old) 
       pub q : ℕ
       pub pending : IsPending side (length M.tenants) q f.station tag a g (unit_of P C new)
 
-    pends : (s : Source) (r : ℕ) (r_small : r < 34) (given : Supply) → given ≡ supply_in records base r → (operand s new_one).creator ≡ creator P M.tenants r →
-        ((a g : ℕ) → given ≡ GivenFrom a g → (operand s new_one).way ≡ Unlinked) → (a g : ℕ) → given ≡ GivenFrom a g → Pends s a g
+    pends : (s : Source) (r : ℕ) (r_small : r < 34) (given : Supply) → given ≡ supply_in records base r →
+        (operand s new_one).creator ≡ creator P M.tenants r →
+        ((a g : ℕ) → given ≡ GivenFrom a g → (operand s new_one).way ≡ Unlinked) → (a g : ℕ) →
+        given ≡ GivenFrom a g → Pends s a g
     pends s r r_small given given_is c way a g e =
         let d = comes_from P C point legal_let.0 records base ready r r_small a g (sym given_is ∙ e) in
         let V = applied P C M front let_step in
@@ -211,39 +210,25 @@ module _ (P : Program) (C : Sizes) (old : List Entry) (legal : IsLegal P C old) 
             fact = record { can = record { way = way a g e; creator = c ∙ d.creates }; path = refl };
           };
           last = λ q u lt is. let b = at_below V.tenants q u is in absurd (omega (arith, b, lt));
-          creator = record {
-            tenant = t;
-            is = at_more new_one M.tenants d.n.at t d.giver.noted.is;
-            new = new_behind d.n.at d.giver.untold;
-            station_is = at_place;
-            tag_is = ap (λ (z : Record). z.tag) d.giver.noted.what ∙ d.tag;
-            fact = tt;
-          };
+          creator = record { tenant = t; is = at_more new_one M.tenants d.n.at t d.giver.noted.is; new = new_behind d.n.at d.giver.untold; station_is = at_place; tag_is = ap (λ (z : Record). z.tag) d.giver.noted.what ∙ d.tag; fact = tt };
           creator_last = λ q u lt is same_station. ⊎_elim
               (λ there. d.giver.newest q u lt there (same_station ∙ sym d.station))
               (λ (z : (q ≡ length M.tenants) × (new_one ≡ u)). d.giver.other (d.station ∙ (sym same_station ∙ ap (λ (y : Tenant). y.station) (sym z.1))))
               (at_cases new_one M.tenants q u is);
         } in
-        record {
-          q = d.n.at;
-          pending = stays_behind P C (IsPending s (length M.tenants) d.n.at f.station tag a g) (pending_stable P C (length M.tenants) d.n.at f.station tag a g s) old new
-              (let_of tenant) [] l pending;
-        }
+        record { q = d.n.at; pending = stays_behind P C (IsPending s (length M.tenants) d.n.at f.station tag a g) (pending_stable P C (length M.tenants) d.n.at f.station tag a g s) old new (let_of tenant) [] l pending }
 
     pub first_pends : (a g : ℕ) → first ≡ GivenFrom a g → Pends First a g
-    first_pends a g e = pends First (first_of f.instr) first_small first first_given (its_creator (creator P M.tenants (first_of (instr_of P index))) first ∙
-        ap (λ (i : Instr). creator P M.tenants (first_of i)) x.is) (λ a g e. unlinked (creator P M.tenants (first_of (instr_of P index))) first a g e) a g e
+    first_pends a g e = pends First (first_of f.instr) first_small first first_given (its_creator (creator P M.tenants (first_of (instr_of P index))) first ∙ ap (λ (i : Instr). creator P M.tenants (first_of i)) x.is) (λ a g e. unlinked (creator P M.tenants (first_of (instr_of P index))) first a g e) a g e
 
     pub second_pends : (a g : ℕ) → second ≡ GivenFrom a g → Pends Second a g
-    second_pends a g e = pends Second (second_of f.instr) second_small second second_given (its_creator (creator P M.tenants (second_of (instr_of P index))) second ∙
-        ap (λ (i : Instr). creator P M.tenants (second_of i)) x.is) (λ a g e. unlinked (creator P M.tenants (second_of (instr_of P index))) second a g e) a g e
+    second_pends a g e = pends Second (second_of f.instr) second_small second second_given (its_creator (creator P M.tenants (second_of (instr_of P index))) second ∙ ap (λ (i : Instr). creator P M.tenants (second_of i)) x.is) (λ a g e. unlinked (creator P M.tenants (second_of (instr_of P index))) second a g e) a g e
 
     -- the whole, with its questions
     module _ (mid end : List Entry) (asks_first : Asks P C new mid f.station tag First first) (asks_second : Asks P C mid end f.station tag Second second) where
       named_after : IsTenant (unit_of P C new) (length M.tenants) f.station tag IsAny
       named_after =
-          subst (λ z. IsTenant (unit_of P C z) (length M.tenants) f.station tag IsAny) (sym l.is) (any_stays P C (length M.tenants) f.station tag l.after (entry front (let_of tenant) ∷ point) l.legal
-          (sym (ap renewals l.is) ∙ l.since) named_new)
+          subst (λ z. IsTenant (unit_of P C z) (length M.tenants) f.station tag IsAny) (sym l.is) (any_stays P C (length M.tenants) f.station tag l.after (entry front (let_of tenant) ∷ point) l.legal (sym (ap renewals l.is) ∙ l.since) named_new)
 
       one : HasAsked P C new mid (length M.tenants) First first
       one = has_asked P C new mid adds.legal (length M.tenants) f.station tag First first named_after asks_first
@@ -254,11 +239,11 @@ module _ (P : Program) (C : Sizes) (old : List Entry) (legal : IsLegal P C old) 
       two : HasAsked P C mid end (length M.tenants) Second second
       two = has_asked P C mid end one.adds.legal (length M.tenants) f.station tag Second second named_mid asks_second
 
-      pub knows_end : Knows P C (unit_of P C end) (records ++ record_for f tag predicted ∷ []) base
+      pub knows_end : FrontKnows P C (unit_of P C end) (records ++ record_for f tag predicted ∷ []) base
       knows_end = two.knows (records ++ record_for f tag predicted ∷ []) base (one.knows (records ++ record_for f tag predicted ∷ []) base knows_behind)
 
-      pub table_end : (T T' : Table) → HasTable P U (told_of base) T → f.station < 32 → IsEntered T T' (record_for f tag predicted) → HasTable P (unit_of P C end) (told_of base) T'
-      table_end T T' table inside entered = two.table (told_of base) T' (one.table (told_of base) T' (table_behind T T' table inside entered))
+      pub table_end : (T T' : Table) → HasTable P U (rested_at base) T → f.station < 32 → IsEntered T T' (record_for f tag predicted) → HasTable P (unit_of P C end) (rested_at base) T'
+      table_end T T' table inside entered = two.table (rested_at base) T' (one.table (rested_at base) T' (table_behind T T' table inside entered))
 
       pub dispatched : IsDispatched P C old end f predicted tag
       dispatched = record {
@@ -272,8 +257,7 @@ module _ (P : Program) (C : Sizes) (old : List Entry) (legal : IsLegal P C old) 
             more = two.adds.begins.more ++ (one.adds.begins.more ++ l.after);
             is =
                 two.adds.begins.is
-                ∙ (ap (λ z. two.adds.begins.more ++ z) (one.adds.begins.is ∙ (ap (λ z. one.adds.begins.more ++ z) l.is ∙
-                sym (append_assoc one.adds.begins.more l.after (entry front (let_of tenant) ∷ point))))
+                ∙ (ap (λ z. two.adds.begins.more ++ z) (one.adds.begins.is ∙ (ap (λ z. one.adds.begins.more ++ z) l.is ∙ sym (append_assoc one.adds.begins.more l.after (entry front (let_of tenant) ∷ point))))
                 ∙ sym (append_assoc two.adds.begins.more (one.adds.begins.more ++ l.after) (entry front (let_of tenant) ∷ point)));
           };
           station_is = place;

@@ -20,11 +20,12 @@ use Rattle.front.specs.declared.path.Path.{Path}
 use Rattle.front.specs.declared.path.record.Record.{Record}
 use Rattle.front.specs.Fetching.{IsLeft}
 use Rattle.front.specs.Folding.{IsFolding}
-use Rattle.front.specs.Knows.{GoesOnAt, IsFolded, IsGone, IsNewest, Knows, Stands, whats}
-use Rattle.front.specs.Path.{GoesOnWith, Released, last_of, made_of, next_place, place_after, told_of, with_left}
-use Rattle.front.specs.Rests.{HasNobody, TellsFirst, TellsRecords}
+use Rattle.front.specs.Knows.{GoesOnAt, IsFolded, IsGone, IsNewest, FrontKnows, Stands, whats}
+use Rattle.front.specs.Path.{GoesOnWith, Released, youngest_record, made_of, station_of_next, place_after, rested_at, with_left}
+use Rattle.front.specs.Rests.{TellsFirst, TellsRecords}
 use Rattle.front.specs.Training.{ToldIf}
 use Rattle.front.specs.Trail.{Note}
+use Rattle.station.specs.Renewals.{HasNobody}
 use Rattle.front.proofs.Lefts.{tells_more}
 use Rattle.front.proofs.Lists.{all_both, all_front, all_map}
 use Rattle.front.proofs.Looked.{first_note}
@@ -48,16 +49,16 @@ module _ (P : Program) (C : Sizes) (records : List Record) (base : Base) where
   goes_stable U by s b a ok g = goes_stays P C U by s (quiet_of s b) a ok base g
 
 -- which one was taken out
-pub taken_out : (left : ℕ) (old new : Path) (x : Record) (result : Option Record) → IfSome result (λ r. Released left old r new) → IfNone result (old.records ≡ []) → slice_get old.records 0 ≡ Some x →
-    Released left old x new
+pub taken_out : (left : ℕ) (old new : Path) (x : Record) (result : Option Record) →
+    IfSome result (λ r. Released left old r new) → IfNone result (old.records ≡ []) →
+    slice_get old.records 0 ≡ Some x → Released left old x new
 taken_out left old new x None some none e = let no : None ≡ Some x = ap (λ z. slice_get z 0) (sym none) ∙ e in absurd (cc no)
 taken_out left old new x (Some r) some none e =
     let same : Some r ≡ Some x = ap (λ z. slice_get z 0) (sym some.records) ∙ e in
     let one : r ≡ x = cc same in
     subst (λ z. Released left old z new) one some
 
-module _ (core : TheCore) (old new : List Entry) (path path' : Path) (adds : Adds core.program core.sizes front old new []) (f : IsFolding core old path)
-    (nobody : HasNobody (unit_of core.program core.sizes old)) where
+module _ (core : TheCore) (old new : List Entry) (path path' : Path) (adds : Adds core.program core.sizes front old new []) (f : IsFolding core old path) (nobody : HasNobody (unit_of core.program core.sizes old)) where
   abbrev P : Program
   P = core.program
 
@@ -84,7 +85,7 @@ module _ (core : TheCore) (old new : List Entry) (path path' : Path) (adds : Add
       let ns = one.rest in
       let noted : IsNoted P U.tenants n = (subst (AllByRecursion (IsNoted P U.tenants)) one.is (notes_noted P C new adds.legal path.records path.base IsAnyone k)).0 in
       let newest = subst (AllByRecursion (IsNewest U)) one.is k.newest in
-      let untold = subst (AllByRecursion (λ z. told_of path.base ≤ z.at)) one.is k.untold in
+      let untold = subst (AllByRecursion (λ z. rested_at path.base ≤ z.at)) one.is k.untold in
       let retired = left_path noted.tenant noted.on (all_at IsNotLive U.tenants nobody_now n.at noted.tenant noted.is) in
       let sees_it : SeesStation P C new n.what.station seen = subst (λ (z : Record). SeesStation P C new z.station seen) (sym one.what) sees in
       let recent_one = kept_new P C U path.records path.base IsAnyone k n.at untold.0 in
@@ -121,8 +122,9 @@ module _ (core : TheCore) (old new : List Entry) (path path' : Path) (adds : Add
       tail_of a b us vs e = cc e
 
 -- the predictor is told of one more
-pub told_more : {S : Type 0} (Learns : S → ℕ → ℕ → S → Type 0) (all left rest : List Record) (x : Record) (a b c : S) → TellsFirst Learns all left a b → left ≡ x ∷ rest →
-    ToldIf Learns x.guessed x.pc x.next b c → TellsFirst Learns all rest a c
+pub told_more : {S : Type 0} (Learns : S → ℕ → ℕ → S → Type 0) (all left rest : List Record) (x : Record) (a b c : S) →
+    TellsFirst Learns all left a b → left ≡ x ∷ rest → ToldIf Learns x.guessed x.pc x.next b c →
+    TellsFirst Learns all rest a c
 told_more Learns all left rest x a b c t e u = record {
   done = t.done ++ x ∷ [];
   are = t.are ∙ (ap (λ z. t.done ++ z) e ∙ sym (append_assoc t.done (x ∷ []) rest));
@@ -138,49 +140,45 @@ pub none_left : (xs : List Record) → slice_get xs 0 ≡ None → xs ≡ []
 none_left [] e = refl
 none_left (x ∷ xs) e = absurd (cc e)
 
-module _ (core : TheCore) (h : List Entry) (legal : IsLegal core.program core.sizes h) (path : Path) (k : Knows core.program core.sizes (unit_of core.program core.sizes h) path.records path.base)
-  where
-    -- the front is kept apart from the tenants
-    pub folding_begins : (ring : ℕ) → ring ≡ core.sizes.ring → 0 < core.sizes.ring → (path' : Path) → path'.records ≡ path.records → GoesOnWith ring path path'.base → IsFolding core h path'
-    folding_begins ring ring_is pos path' records_are base_is =
-        let goes : GoesOnAt core.program core.sizes (unit_of core.program core.sizes h) path'.base = record {
-          pc = known_pc core.program core.sizes (unit_of core.program core.sizes h) path.records path.base (IsFolded (unit_of core.program core.sizes h) (told_of path.base)) k ∙
-              sym (ap (λ (z : Base). z.pc) base_is);
-          half = known_half core.program core.sizes (unit_of core.program core.sizes h) path.records path.base (IsFolded (unit_of core.program core.sizes h) (told_of path.base)) k ∙
-              sym (ap (λ (z : Base). z.half) base_is);
-          station = known_place core.program core.sizes (unit_of core.program core.sizes h) path.records path.base (IsFolded (unit_of core.program core.sizes h) (told_of path.base)) k
-              (stands_right core.program core.sizes h legal) ∙ place_small (last_of path.records) ∙ ap (λ z. z % core.sizes.ring)
-              (ap (λ z. next_place z path.base path.records) (sym ring_is) ∙ sym (ap (λ (z : Base). z.station) base_is));
-        } in
-        record {
-          stands = record {
-            gone = k.gone;
-            notes = k.notes;
-            path = k.path;
-            are = records_are ∙ k.are;
-            room = k.room;
-            begun = λ none. goes;
-            retired = k.retired;
-            again = all_map (IsFolded (unit_of core.program core.sizes h) (told_of path.base)) IsAnyone (λ n x. tt) k.gone k.again;
-            newest = k.newest;
-            past = subst (λ z. told_of z ≤ length (unit_of core.program core.sizes h).tenants) (sym base_is) k.past;
-            since = subst (λ z. length (unit_of core.program core.sizes h).tenants ≤ told_of z + (unit_of core.program core.sizes h).fresh) (sym base_is) k.since;
-            untold = subst (λ z. AllByRecursion (λ n. told_of z ≤ n.at) k.notes) (sym base_is) k.untold;
-            wide = ap (λ (z : Base). length z.registers) base_is ∙ k.wide;
-            base_is = λ r less. k.base_is r less ∙ ap (λ (z : Base). Some (slice_index z.registers r)) (sym base_is);
-          };
-          goes = goes;
-        }
-      where
-        place_small : (o : Option Record) → place_after core.sizes.ring path.base.station o ≡ place_after core.sizes.ring path.base.station o % core.sizes.ring
-        place_small None = sym (mod-eq_of_lt (mod-lt path.base.station pos))
-        place_small (Some x) = sym (mod-eq_of_lt (mod-lt (x.station + 1) pos))
+module _ (core : TheCore) (h : List Entry) (legal : IsLegal core.program core.sizes h) (path : Path) (k : FrontKnows core.program core.sizes (unit_of core.program core.sizes h) path.records path.base) where
+  -- the front is kept apart from the tenants
+  pub folding_begins : (ring : ℕ) → ring ≡ core.sizes.ring → 0 < core.sizes.ring → (path' : Path) → path'.records ≡ path.records → GoesOnWith ring path path'.base → IsFolding core h path'
+  folding_begins ring ring_is pos path' records_are base_is =
+      let goes : GoesOnAt core.program core.sizes (unit_of core.program core.sizes h) path'.base = record {
+        pc = known_pc core.program core.sizes (unit_of core.program core.sizes h) path.records path.base (IsFolded (unit_of core.program core.sizes h) (rested_at path.base)) k ∙ sym (ap (λ (z : Base). z.pc) base_is);
+        half = known_half core.program core.sizes (unit_of core.program core.sizes h) path.records path.base (IsFolded (unit_of core.program core.sizes h) (rested_at path.base)) k ∙ sym (ap (λ (z : Base). z.half) base_is);
+        station = known_place core.program core.sizes (unit_of core.program core.sizes h) path.records path.base (IsFolded (unit_of core.program core.sizes h) (rested_at path.base)) k (stands_right core.program core.sizes h legal) ∙ place_small (youngest_record path.records) ∙ ap (λ z. z % core.sizes.ring) (ap (λ z. station_of_next z path.base path.records) (sym ring_is) ∙ sym (ap (λ (z : Base). z.station) base_is));
+      } in
+      record {
+        stands = record {
+          gone = k.gone;
+          notes = k.notes;
+          path = k.path;
+          are = records_are ∙ k.are;
+          room = k.room;
+          begun = λ none. goes;
+          retired = k.retired;
+          again = all_map (IsFolded (unit_of core.program core.sizes h) (rested_at path.base)) IsAnyone (λ n x. tt) k.gone k.again;
+          newest = k.newest;
+          past = subst (λ z. rested_at z ≤ length (unit_of core.program core.sizes h).tenants) (sym base_is) k.past;
+          since = subst (λ z. length (unit_of core.program core.sizes h).tenants ≤ rested_at z + (unit_of core.program core.sizes h).fresh) (sym base_is) k.since;
+          untold = subst (λ z. AllByRecursion (λ n. rested_at z ≤ n.at) k.notes) (sym base_is) k.untold;
+          wide = ap (λ (z : Base). length z.registers) base_is ∙ k.wide;
+          base_is = λ r less. k.base_is r less ∙ ap (λ (z : Base). Some (slice_index z.registers r)) (sym base_is);
+        };
+        goes = goes;
+      }
+    where
+      place_small : (o : Option Record) → place_after core.sizes.ring path.base.station o ≡ place_after core.sizes.ring path.base.station o % core.sizes.ring
+      place_small None = sym (mod-eq_of_lt (mod-lt path.base.station pos))
+      place_small (Some x) = sym (mod-eq_of_lt (mod-lt (x.station + 1) pos))
 
 -- The records are gone: the front has rested
 module _ (core : TheCore) (h : List Entry) (path path' : Path) (f : IsFolding core h path) (none : path.records ≡ []) (records_are : path'.records ≡ path.records) where
-  pub knows_rested : told_of path'.base ≡ length (unit_of core.program core.sizes h).tenants → path'.base.registers ≡ path.base.registers → path'.base.pc ≡ path.base.pc →
+  pub knows_rested : rested_at path'.base ≡ length (unit_of core.program core.sizes h).tenants →
+      path'.base.registers ≡ path.base.registers → path'.base.pc ≡ path.base.pc →
       path'.base.half ≡ path.base.half → path'.base.station ≡ path.base.station
-      → Knows core.program core.sizes (unit_of core.program core.sizes h) path'.records path'.base
+      → FrontKnows core.program core.sizes (unit_of core.program core.sizes h) path'.records path'.base
   knows_rested told registers pc half station =
       let s = f.stands in
       let empty : s.notes ≡ [] = no_notes s.notes (sym s.are ∙ none) in
@@ -192,8 +190,7 @@ module _ (core : TheCore) (h : List Entry) (path path' : Path) (f : IsFolding co
         room = omega arith;
         begun = λ e. record { pc = f.goes.pc ∙ sym pc; half = f.goes.half ∙ sym half; station = f.goes.station ∙ ap (λ z. z % core.sizes.ring) (sym station) };
         retired = s.retired;
-        again = all_map (IsNoted core.program (unit_of core.program core.sizes h).tenants) (IsFolded (unit_of core.program core.sizes h) (told_of path'.base))
-            (λ n i. inr (subst (λ z. n.at < z) (sym told) (at_below (unit_of core.program core.sizes h).tenants n.at i.tenant i.is))) s.gone gone_noted;
+        again = all_map (IsNoted core.program (unit_of core.program core.sizes h).tenants) (IsFolded (unit_of core.program core.sizes h) (rested_at path'.base)) (λ n i. inr (subst (λ z. n.at < z) (sym told) (at_below (unit_of core.program core.sizes h).tenants n.at i.tenant i.is))) s.gone gone_noted;
         newest = tt;
         past = omega (arith, told);
         since = omega (arith, told);
@@ -207,5 +204,4 @@ module _ (core : TheCore) (h : List Entry) (path path' : Path) (f : IsFolding co
       no_notes (n ∷ ns) e = absurd (cc e)
 
       gone_noted : AllByRecursion (IsNoted core.program (unit_of core.program core.sizes h).tenants) f.stands.gone
-      gone_noted = all_front (IsNoted core.program (unit_of core.program core.sizes h).tenants) f.stands.gone f.stands.notes
-          (subst (AllByRecursion (IsNoted core.program (unit_of core.program core.sizes h).tenants)) f.stands.path (trail_noted core.program (unit_of core.program core.sizes h).tenants))
+      gone_noted = all_front (IsNoted core.program (unit_of core.program core.sizes h).tenants) f.stands.gone f.stands.notes (subst (AllByRecursion (IsNoted core.program (unit_of core.program core.sizes h).tenants)) f.stands.path (trail_noted core.program (unit_of core.program core.sizes h).tenants))

@@ -1,6 +1,5 @@
 -- A front between its calls.
-use Rattle.std.proofs.Common.{◌≡◌, ◌≢◌, ℕ, zero, suc, ◌<◌, length, ◌∷◌, Bool, true, false, cond, List, [], ◌++◌, Option, Some, None, replicate, refl, sym, ap, ◌∙◌, subst, arith, ◌≤◌, ◌%◌, leb}
-use Rattle.std.proofs.Common.{leb-true, ⊎_elim}
+use Rattle.std.proofs.Common.{◌≡◌, ◌≢◌, ℕ, zero, suc, ◌<◌, length, ◌∷◌, Bool, true, false, cond, List, [], ◌++◌, Option, Some, None, replicate, refl, sym, ap, ◌∙◌, subst, arith, ◌≤◌, ◌%◌, leb, leb-true, ⊎_elim}
 use Rattle.std.proofs.lemmas.List.{append-nil}
 use Rattle.std.specs.Prelude.{slice_get, slice_index}
 use Rattle.instructions.specs.Programs.{Program, text_start}
@@ -24,19 +23,19 @@ use Rattle.front.proofs.Lists.{all_rest}
 use Rattle.front.proofs.CreateVector.{newest_among}
 use Rattle.front.specs.declared.path.base_state.Base.{Base}
 use Rattle.front.proofs.Resting.{nobody_stable, told_stable}
-use Rattle.front.specs.Rests.{HasNobody}
-use Rattle.front.specs.Path.{told_of}
+use Rattle.front.specs.Path.{rested_at}
 use Rattle.front.specs.declared.path.Path.{Path}
 use Rattle.front.specs.Creators.{creator_note, newest_note, position}
 use Rattle.front.specs.declared.path.record.Record.{Record}
 use Rattle.front.specs.Fronts.{AddsNothing, HasRested, IsFront, IsUnused}
-use Rattle.front.specs.Knows.{Knows}
-use Rattle.front.specs.CreateTable.{HasTable, entry_in, entry_of, maker_of}
+use Rattle.front.specs.Knows.{FrontKnows}
+use Rattle.front.specs.CreateTable.{HasTable, table_entry_in, table_entry, maker_of}
 use Rattle.front.specs.declared.path.counted.Counted.{Counted}
 use Rattle.front.specs.declared.path.counted.Table.{Table}
 use Rattle.front.specs.declared.path.counted.Maker.{Maker}
 use Rattle.front.proofs.Tables.{table_stable}
 use Rattle.front.specs.Trail.{Note, trail}
+use Rattle.station.specs.Renewals.{HasNobody}
 use Rattle.front.proofs.Splitting.{stays}
 use Rattle.front.proofs.Stays.{knows_stable}
 
@@ -47,37 +46,37 @@ still_front core P v w path creators rested e f same adds =
     let Fact : TheCore → Type 0 = λ c. Adds c.program c.sizes front v.seen w.seen [] in
     let mine : Fact core = subst (λ i. Adds core.program core.sizes i v.seen w.seen []) f.by_is adds in
     let here : Fact v.core = subst Fact (sym e) mine in
-    let knows : Knows v.core.program v.core.sizes (unit_of v.core.program v.core.sizes w.seen) path.records path.base = stays v.core.program v.core.sizes (λ U. Knows v.core.program v.core.sizes U path.records path.base) (knows_stable v.core.program v.core.sizes path.records path.base) v.seen w.seen here f.knows in
-    let table : HasTable v.core.program (unit_of v.core.program v.core.sizes w.seen) (told_of path.base) creators.table = stays v.core.program v.core.sizes (λ U. HasTable v.core.program U (told_of path.base) creators.table) (table_stable v.core.program v.core.sizes (told_of path.base) creators.table) v.seen w.seen here f.table in
+    let knows : FrontKnows v.core.program v.core.sizes (unit_of v.core.program v.core.sizes w.seen) path.records path.base = stays v.core.program v.core.sizes (λ U. FrontKnows v.core.program v.core.sizes U path.records path.base) (knows_stable v.core.program v.core.sizes path.records path.base) v.seen w.seen here f.knows in
+    let table : HasTable v.core.program (unit_of v.core.program v.core.sizes w.seen) (rested_at path.base) creators.table = stays v.core.program v.core.sizes (λ U. HasTable v.core.program U (rested_at path.base) creators.table) (table_stable v.core.program v.core.sizes (rested_at path.base) creators.table) v.seen w.seen here f.table in
     record {
-      table = subst (λ (z : TheCore). HasTable z.program (unit_of z.program z.sizes w.seen) (told_of path.base) creators.table) (sym same.core) table;
+      table = subst (λ (z : TheCore). HasTable z.program (unit_of z.program z.sizes w.seen) (rested_at path.base) creators.table) (sym same.core) table;
       rests = λ r.
           let there : HasRested v.core w.seen path = record {
             nobody = stays v.core.program v.core.sizes HasNobody (nobody_stable v.core.program v.core.sizes) v.seen w.seen here (f.rests r).nobody;
             none = (f.rests r).none;
-            told = stays v.core.program v.core.sizes (λ U. told_of path.base ≡ length U.tenants) (told_stable v.core.program v.core.sizes (told_of path.base)) v.seen w.seen here (f.rests r).told;
+            told = stays v.core.program v.core.sizes (λ U. rested_at path.base ≡ length U.tenants) (told_stable v.core.program v.core.sizes (rested_at path.base)) v.seen w.seen here (f.rests r).told;
           } in
           subst (λ (z : TheCore). HasRested z w.seen path) (sym same.core) there;
       by_is = same.by ∙ f.by_is;
       program = f.program ∙ ap (λ (z : TheCore). z.program) (sym same.core);
       legal = subst (λ (z : TheCore). IsLegal z.program z.sizes w.seen) (sym same.core) here.legal;
-      knows = subst (λ (z : TheCore). Knows z.program z.sizes (unit_of z.program z.sizes w.seen) path.records path.base) (sym same.core) knows;
+      knows = subst (λ (z : TheCore). FrontKnows z.program z.sizes (unit_of z.program z.sizes w.seen) path.records path.base) (sym same.core) knows;
     }
 
 -- after a call that knows
-pub front_again : (core : TheCore) (P : Program) (v w : Caller) (path path' : Path) (creators creators' : Counted) (rested rested' : Bool) → v.core ≡ core → IsFront P v path creators rested →
-    IsSame v w
-    → IsLegal core.program core.sizes w.seen → Knows core.program core.sizes (unit_of core.program core.sizes w.seen) path'.records path'.base
-    → HasTable core.program (unit_of core.program core.sizes w.seen) (told_of path'.base) creators'.table → (rested' ≡ true → HasRested core w.seen path') → IsFront P w path' creators' rested'
+pub front_again : (core : TheCore) (P : Program) (v w : Caller) (path path' : Path) (creators creators' : Counted) (rested rested' : Bool) →
+    v.core ≡ core → IsFront P v path creators rested → IsSame v w
+    → IsLegal core.program core.sizes w.seen → FrontKnows core.program core.sizes (unit_of core.program core.sizes w.seen) path'.records path'.base
+    → HasTable core.program (unit_of core.program core.sizes w.seen) (rested_at path'.base) creators'.table → (rested' ≡ true → HasRested core w.seen path') → IsFront P w path' creators' rested'
 front_again core P v w path path' creators creators' rested rested' e f same legal knows table rests =
     let both : core ≡ w.core = sym e ∙ sym same.core in
     record {
-      table = subst (λ (z : TheCore). HasTable z.program (unit_of z.program z.sizes w.seen) (told_of path'.base) creators'.table) both table;
+      table = subst (λ (z : TheCore). HasTable z.program (unit_of z.program z.sizes w.seen) (rested_at path'.base) creators'.table) both table;
       rests = λ r. subst (λ (z : TheCore). HasRested z w.seen path') both (rests r);
       by_is = same.by ∙ f.by_is;
       program = f.program ∙ ap (λ (z : TheCore). z.program) (sym same.core);
       legal = subst (λ (z : TheCore). IsLegal z.program z.sizes w.seen) both legal;
-      knows = subst (λ (z : TheCore). Knows z.program z.sizes (unit_of z.program z.sizes w.seen) path'.records path'.base) both knows;
+      knows = subst (λ (z : TheCore). FrontKnows z.program z.sizes (unit_of z.program z.sizes w.seen) path'.records path'.base) both knows;
     }
 
 least : (n : ℕ) → 0 ≤ n
@@ -100,9 +99,9 @@ pub record IsFirstBase (P : Program) (C : Sizes) (h : List Entry) (b : Base) : T
   pub pc : b.pc ≡ text_start
   pub half : b.half ≡ Low
   pub station : b.station ≡ 0
-  pub told : told_of b ≡ length (unit_of P C h).tenants
+  pub told : rested_at b ≡ length (unit_of P C h).tenants
 
-pub first_knows : (P : Program) (C : Sizes) (h : List Entry) → IsLegal P C h → own front h ≡ [] → (b : Base) → IsFirstBase P C h b → Knows P C (unit_of P C h) [] b
+pub first_knows : (P : Program) (C : Sizes) (h : List Entry) → IsLegal P C h → own front h ≡ [] → (b : Base) → IsFirstBase P C h b → FrontKnows P C (unit_of P C h) [] b
 first_knows P C h legal none b f =
     let empty = nobody P C h legal none in
     record {
@@ -146,14 +145,15 @@ some_there : (xs ys : List Note) (n : Note) → [] ≢ xs ++ n ∷ ys
 some_there [] ys n e = cc e
 some_there (x ∷ xs) ys n e = cc e
 
-first_table : (P : Program) (C : Sizes) (h : List Entry) → IsLegal P C h → own front h ≡ [] → (told : ℕ) (T : Table) → T.entries ≡ replicate 34 None → length T.latest ≡ 32 →
+first_table : (P : Program) (C : Sizes) (h : List Entry) → IsLegal P C h → own front h ≡ [] →
+    (told : ℕ) (T : Table) → T.entries ≡ replicate 34 None → length T.latest ≡ 32 →
     HasTable P (unit_of P C h) told T
 first_table P C h legal none told T entries deep =
     let empty = nobody P C h legal none in
     record {
       wide = ap (λ z. length z) entries;
       deep = deep;
-      entries = λ r pos less. ap (λ z. slice_get z r) entries ∙ (nothing_at r 34 less ∙ ap (λ z. Some (entry_in told (trail P z) r)) (sym empty));
+      entries = λ r pos less. ap (λ z. slice_get z r) entries ∙ (nothing_at r 34 less ∙ ap (λ z. Some (table_entry_in told (trail P z) r)) (sym empty));
       latest = λ p t new is last. let no : None ≡ Some t = ap (λ z. at z p) (sym empty) ∙ is in absurd (cc no);
       stale = λ p q t u new lt is is' same s e. let no : None ≡ Some t = ap (λ z. at z p) (sym empty) ∙ is in absurd (cc no);
       replaced = λ xs ys n split. absurd (some_there xs ys n (ap (trail P) (sym empty) ∙ split));
@@ -170,7 +170,7 @@ forgotten P U told T all entries deep = record {
   replaced = λ xs ys n split new. absurd (let i : IsNoted P U.tenants n = (all_rest (IsNoted P U.tenants) xs (n ∷ ys) (subst (AllByRecursion (IsNoted P U.tenants)) split (trail_noted P U.tenants))).0 in let b = at_below U.tenants n.at i.tenant i.is in omega (arith, b, new, all));
 }
   where
-    none : (r : ℕ) (o : Option Note) → newest_note None (trail P U.tenants) r ≡ o → entry_of told o ≡ None
+    none : (r : ℕ) (o : Option Note) → newest_note None (trail P U.tenants) r ≡ o → table_entry told o ≡ None
     none r None e = refl
     none r (Some n) e =
         let i : IsNoted P U.tenants n = ⊎_elim (λ (no : None ≡ Some n). absurd (cc no)) (λ q. q) (newest_among (IsNoted P U.tenants) None (trail P U.tenants) r n (trail_noted P U.tenants) e) in
@@ -187,13 +187,12 @@ pub new_front : (core : TheCore) (P : Program) (v : Caller) (path : Path) (creat
     path.records ≡ [] → IsFirstBase v.core.program v.core.sizes v.seen path.base → creators.table.entries ≡ replicate 34 None →
     length creators.table.latest ≡ 32 → IsFront P v path creators false
 new_front core P v path creators u e legal none base entries deep = record {
-  table = first_table v.core.program v.core.sizes v.seen legal u.none (told_of path.base) creators.table entries deep;
+  table = first_table v.core.program v.core.sizes v.seen legal u.none (rested_at path.base) creators.table entries deep;
   rests = λ r. absurd (cc r);
   by_is = u.by_is;
   program = e ∙ ap (λ (z : TheCore). z.program) (sym u.core_is);
   legal = legal;
-  knows = subst (λ (z : List Record). Knows v.core.program v.core.sizes (unit_of v.core.program v.core.sizes v.seen) z path.base) (sym none)
-      (first_knows v.core.program v.core.sizes v.seen legal u.none path.base base);
+  knows = subst (λ (z : List Record). FrontKnows v.core.program v.core.sizes (unit_of v.core.program v.core.sizes v.seen) z path.base) (sym none) (first_knows v.core.program v.core.sizes v.seen legal u.none path.base base);
 }
 
 pub new_adds : (core : TheCore) (v : Caller) → v.core ≡ core → IsLegal v.core.program v.core.sizes v.seen → AddsNothing core v.seen v.seen

@@ -10,9 +10,9 @@ use Rattle.station.specs.Looking.{SeesStation}
 use Rattle.station.specs.Seats.{Caller, IsSame, TheCore}
 use Rattle.front.specs.declared.path.Path.{Path}
 use Rattle.front.specs.declared.path.record.Record.{Record}
-use Rattle.front.specs.Knows.{IsFolded, IsNewest, Knows}
-use Rattle.front.specs.Path.{last_of, told_of}
-use Rattle.front.specs.Rests.{HasNobody}
+use Rattle.front.specs.Knows.{IsFolded, IsNewest, FrontKnows}
+use Rattle.front.specs.Path.{youngest_record, rested_at}
+use Rattle.station.specs.Renewals.{HasNobody}
 use Rattle.front.proofs.Lists.{Last, all_rest, last_cases}
 use Rattle.front.proofs.Named.{notes_noted}
 use Rattle.front.proofs.Places.{kept_new, last_record}
@@ -27,37 +27,36 @@ pub record HasSeen (core : TheCore) (v w : Caller) : Type 0 where
   pub adds : Adds core.program core.sizes front v.seen w.seen []
   pub nobody : HasNobody (unit_of core.program core.sizes w.seen)
 
-module _ (core : TheCore) (v w : Caller) (same : IsSame v w) (path : Path) (k : Knows core.program core.sizes (unit_of core.program core.sizes v.seen) path.records path.base)
-    (adds : Adds core.program core.sizes front v.seen w.seen []) where
-  knows_now : Knows core.program core.sizes (unit_of core.program core.sizes w.seen) path.records path.base
-  knows_now = stays core.program core.sizes (λ U. Knows core.program core.sizes U path.records path.base) (knows_stable core.program core.sizes path.records path.base) v.seen w.seen adds k
+module _ (core : TheCore) (v w : Caller) (same : IsSame v w) (path : Path) (k : FrontKnows core.program core.sizes (unit_of core.program core.sizes v.seen) path.records path.base) (adds : Adds core.program core.sizes front v.seen w.seen []) where
+  knows_now : FrontKnows core.program core.sizes (unit_of core.program core.sizes w.seen) path.records path.base
+  knows_now = stays core.program core.sizes (λ U. FrontKnows core.program core.sizes U path.records path.base) (knows_stable core.program core.sizes path.records path.base) v.seen w.seen adds k
 
   -- no tenant is kept
-  pub seen_none : last_of path.records ≡ None → HasSeen core v w
+  pub seen_none : youngest_record path.records ≡ None → HasSeen core v w
   seen_none e = record {
     same = same;
     adds = adds;
-    nobody = none_kept core.program core.sizes w.seen adds.legal path.records path.base (IsFolded (unit_of core.program core.sizes w.seen) (told_of path.base)) knows_now
-        (⊎_elim (λ n. n) (λ (l : Last knows_now.notes).
-        let no : None ≡ Some l.one.what = sym e ∙ last_record core.program core.sizes (unit_of core.program core.sizes w.seen) path.records path.base (IsFolded (unit_of core.program core.sizes w.seen) (told_of path.base)) knows_now l in absurd (cc no)) (last_cases knows_now.notes));
+    nobody = none_kept core.program core.sizes w.seen adds.legal path.records path.base (IsFolded (unit_of core.program core.sizes w.seen) (rested_at path.base)) knows_now
+        (⊎_elim (λ n. n) (λ (l : Last knows_now.notes). let no : None ≡ Some l.one.what = sym e ∙ last_record core.program core.sizes (unit_of core.program core.sizes w.seen) path.records path.base (IsFolded (unit_of core.program core.sizes w.seen) (rested_at path.base)) knows_now l in absurd (cc no)) (last_cases knows_now.notes));
   }
 
   -- the youngest one's station is free
-  pub seen_free : (youngest : Record) → last_of path.records ≡ Some youngest → (seen : Seen StationState) → SeesStation core.program core.sizes w.seen youngest.station seen → seen.state ≡ Free →
-      HasSeen core v w
+  pub seen_free : (youngest : Record) → youngest_record path.records ≡ Some youngest →
+      (seen : Seen StationState) → SeesStation core.program core.sizes w.seen youngest.station seen →
+      seen.state ≡ Free → HasSeen core v w
   seen_free youngest e seen sees free = record { same = same; adds = adds; nobody = ⊎_elim none some (last_cases knows_now.notes) }
     where
       none : knows_now.notes ≡ [] → HasNobody (unit_of core.program core.sizes w.seen)
-      none n = none_kept core.program core.sizes w.seen adds.legal path.records path.base (IsFolded (unit_of core.program core.sizes w.seen) (told_of path.base)) knows_now n
+      none n = none_kept core.program core.sizes w.seen adds.legal path.records path.base (IsFolded (unit_of core.program core.sizes w.seen) (rested_at path.base)) knows_now n
 
       some : Last knows_now.notes → HasNobody (unit_of core.program core.sizes w.seen)
       some l =
-          let there : Some youngest ≡ Some l.one.what = sym e ∙ last_record core.program core.sizes (unit_of core.program core.sizes w.seen) path.records path.base (IsFolded (unit_of core.program core.sizes w.seen) (told_of path.base)) knows_now l in
+          let there : Some youngest ≡ Some l.one.what = sym e ∙ last_record core.program core.sizes (unit_of core.program core.sizes w.seen) path.records path.base (IsFolded (unit_of core.program core.sizes w.seen) (rested_at path.base)) knows_now l in
           let one : youngest ≡ l.one.what = cc there in
           let U = unit_of core.program core.sizes w.seen in
-          let noted : IsNoted core.program U.tenants l.one = (all_rest (IsNoted core.program U.tenants) l.front (l.one ∷ []) (subst (AllByRecursion (IsNoted core.program U.tenants)) l.is (notes_noted core.program core.sizes w.seen adds.legal path.records path.base (IsFolded U (told_of path.base)) knows_now))).0 in
+          let noted : IsNoted core.program U.tenants l.one = (all_rest (IsNoted core.program U.tenants) l.front (l.one ∷ []) (subst (AllByRecursion (IsNoted core.program U.tenants)) l.is (notes_noted core.program core.sizes w.seen adds.legal path.records path.base (IsFolded U (rested_at path.base)) knows_now))).0 in
           let newest : IsNewest U l.one = (all_rest (IsNewest U) l.front (l.one ∷ []) (subst (AllByRecursion (IsNewest U)) l.is knows_now.newest)).0 in
-          let untold = (all_rest (λ n. told_of path.base ≤ n.at) l.front (l.one ∷ []) (subst (AllByRecursion (λ n. told_of path.base ≤ n.at)) l.is knows_now.untold)).0 in
-          let new = kept_new core.program core.sizes U path.records path.base (IsFolded U (told_of path.base)) knows_now l.one.at untold in
+          let untold = (all_rest (λ n. rested_at path.base ≤ n.at) l.front (l.one ∷ []) (subst (AllByRecursion (λ n. rested_at path.base ≤ n.at)) l.is knows_now.untold)).0 in
+          let new = kept_new core.program core.sizes U path.records path.base (IsFolded U (rested_at path.base)) knows_now l.one.at untold in
           let left = note_left core.program core.sizes w.seen adds.legal l.one noted new newest seen (subst (λ (z : Record). SeesStation core.program core.sizes w.seen z.station seen) one sees) free in
-          youngest_left core.program core.sizes w.seen adds.legal path.records path.base (IsFolded U (told_of path.base)) knows_now l noted left.retired
+          youngest_left core.program core.sizes w.seen adds.legal path.records path.base (IsFolded U (rested_at path.base)) knows_now l noted left.retired

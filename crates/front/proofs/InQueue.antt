@@ -1,6 +1,5 @@
 -- Loads and stores among what is kept of the path, and those that are live.
-use Rattle.std.proofs.Common.{◌≡◌, ◌≢◌, ℕ, zero, suc, ◌-◌, ◌<◌, ◌≤◌, Bool, true, false, ◌&&◌, cond, List, [], ◌∷◌, ◌++◌, length, take, drop, Some, None, refl, sym, ap, ◌∙◌, subst, ⊎_elim, arith}
-use Rattle.std.proofs.Common.{append_assoc}
+use Rattle.std.proofs.Common.{◌≡◌, ◌≢◌, ℕ, zero, suc, ◌-◌, ◌<◌, ◌≤◌, Bool, true, false, ◌&&◌, cond, List, [], ◌∷◌, ◌++◌, length, take, drop, Some, None, refl, sym, ap, ◌∙◌, subst, ⊎_elim, arith, append_assoc}
 use Rattle.std.proofs.lemmas.List.{append-nil, take-append-drop}
 use Rattle.std.specs.List.{AllByRecursion}
 use Rattle.std.specs.Prelude.{slice_get}
@@ -22,11 +21,11 @@ use Rattle.inorder.proofs.Moves.{changed_goes}
 use Rattle.inorder.proofs.Positions.{at_below}
 use Rattle.inorder.proofs.Sound.{IsSound}
 use Rattle.inorder.proofs.OneCaller.Middle.{sound_from}
-use Rattle.front.specs.Path.{told_of}
+use Rattle.front.specs.Path.{rested_at}
 use Rattle.front.specs.declared.path.base_state.Base.{Base}
 use Rattle.front.specs.declared.path.record.Record.{Record}
-use Rattle.front.specs.Knows.{IsFolded, IsGone, Knows, whats}
-use Rattle.front.specs.Queues.{accesses, live_accesses}
+use Rattle.front.specs.Knows.{IsFolded, IsGone, FrontKnows, whats}
+use Rattle.front.specs.Queues.{memory_records, how_many_accesses}
 use Rattle.front.specs.Trail.{Note, note, trail}
 use Rattle.front.proofs.Counts.{FailsAt, SaysAt, TrueAt, at_least, at_most, count}
 use Rattle.front.proofs.CutKnown.{live_on}
@@ -56,11 +55,11 @@ none_back xs j h e = let same : suc (j - 1) ≡ j = omega arith in drop_none xs 
 pub whole_by : (xs : List Record) (j : ℕ) (x : Record) → 0 < j → slice_get xs (j - 1) ≡ Some x → xs ≡ take (j - 1) xs ++ x ∷ drop j xs
 whole_by xs j x h e = sym (take-append-drop (j - 1) xs) ∙ ap (λ z. take (j - 1) xs ++ z) (one_back xs j x h e)
 
-pub access_more : (xs : List Record) (j : ℕ) (x : Record) → 0 < j → slice_get xs (j - 1) ≡ Some x → x.access ≡ true → accesses (drop (j - 1) xs) ≡ suc (accesses (drop j xs))
-access_more xs j x h e a = ap accesses (one_back xs j x h e) ∙ ap (λ b. cond b (suc (accesses (drop j xs))) (accesses (drop j xs))) a
+pub access_more : (xs : List Record) (j : ℕ) (x : Record) → 0 < j → slice_get xs (j - 1) ≡ Some x → x.access ≡ true → memory_records (drop (j - 1) xs) ≡ suc (memory_records (drop j xs))
+access_more xs j x h e a = ap memory_records (one_back xs j x h e) ∙ ap (λ b. cond b (suc (memory_records (drop j xs))) (memory_records (drop j xs))) a
 
-pub access_same : (xs : List Record) (j : ℕ) (x : Record) → 0 < j → slice_get xs (j - 1) ≡ Some x → x.access ≡ false → accesses (drop (j - 1) xs) ≡ accesses (drop j xs)
-access_same xs j x h e a = ap accesses (one_back xs j x h e) ∙ ap (λ b. cond b (suc (accesses (drop j xs))) (accesses (drop j xs))) a
+pub access_same : (xs : List Record) (j : ℕ) (x : Record) → 0 < j → slice_get xs (j - 1) ≡ Some x → x.access ≡ false → memory_records (drop (j - 1) xs) ≡ memory_records (drop j xs)
+access_same xs j x h e a = ap memory_records (one_back xs j x h e) ∙ ap (λ b. cond b (suc (memory_records (drop j xs))) (memory_records (drop j xs))) a
 
 -- No more are live than the queue takes
 
@@ -73,8 +72,8 @@ count_fewer f t t' ts [] h = go (f t') (f t) h
     go false false g = omega arith
 count_fewer f t t' ts (y ∷ ys) h = go (f y) (count_fewer f t t' ts ys h)
   where
-    go : (b : Bool) → how_many f (ys ++ t' ∷ ts) ≤ how_many f (ys ++ t ∷ ts) → cond b (suc (how_many f (ys ++ t' ∷ ts))) (how_many f (ys ++ t' ∷ ts)) ≤ cond b (suc (how_many f (ys ++ t ∷ ts)))
-        (how_many f (ys ++ t ∷ ts))
+    go : (b : Bool) → how_many f (ys ++ t' ∷ ts) ≤ how_many f (ys ++ t ∷ ts) →
+        cond b (suc (how_many f (ys ++ t' ∷ ts))) (how_many f (ys ++ t' ∷ ts)) ≤ cond b (suc (how_many f (ys ++ t ∷ ts))) (how_many f (ys ++ t ∷ ts))
     go true m = omega arith
     go false m = m
 
@@ -88,12 +87,13 @@ live_access P t t' index live h = go t'.standing refl
     go Retired e = let no : false ≡ true = sym (ap (λ z. stands_live z && is_access (kind_of P t')) e) ∙ h in absurd (cc no)
     go Squashed e = let no : false ≡ true = sym (ap (λ z. stands_live z && is_access (kind_of P t')) e) ∙ h in absurd (cc no)
 
-fewer_under : (P : Program) (C : Sizes) (U : UpdateUnit) (by : ℕ) (s : Step) → Allowed P C U by s → IsSound P U.tenants → live_accesses P U ≤ C.queue → live_accesses P (applied P C U by s) ≤ C.queue
+fewer_under : (P : Program) (C : Sizes) (U : UpdateUnit) (by : ℕ) (s : Step) → Allowed P C U by s →
+    IsSound P U.tenants → how_many_accesses P U ≤ C.queue → how_many_accesses P (applied P C U by s) ≤ C.queue
 fewer_under P C U by (Let index predicted first second) a ok h = go (is_access (kind (instr_of P index).op)) refl
   where
-    go : (b : Bool) → is_access (kind (instr_of P index).op) ≡ b → live_accesses P (applied P C U by (Let index predicted first second)) ≤ C.queue
-    go true e = subst (λ b. cond b (suc (live_accesses P U)) (live_accesses P U) ≤ C.queue) (sym e) (a.queue e)
-    go false e = subst (λ b. cond b (suc (live_accesses P U)) (live_accesses P U) ≤ C.queue) (sym e) h
+    go : (b : Bool) → is_access (kind (instr_of P index).op) ≡ b → how_many_accesses P (applied P C U by (Let index predicted first second)) ≤ C.queue
+    go true e = subst (λ b. cond b (suc (how_many_accesses P U)) (how_many_accesses P U) ≤ C.queue) (sym e) (a.queue e)
+    go false e = subst (λ b. cond b (suc (how_many_accesses P U)) (how_many_accesses P U) ≤ C.queue) (sym e) h
 fewer_under P C U by Renew a ok h = h
 fewer_under P C U by (On p act) a ok h =
     let us = U.tenants in
@@ -102,18 +102,18 @@ fewer_under P C U by (On p act) a ok h =
     let own = sound_mid P t (older us p) (younger us p) (subst (IsSound P) split ok) in
     let m = changed_goes P by p act (younger us p) t (older us p) a.may own in
     let fewer = count_fewer (is_live_access P) t (changed P by act t (older us p)) (older us p) (younger us p) (live_access P t (changed P by act t (older us p)) m.index m.live) in
-    let was : live_accesses P U ≡ how_many (is_live_access P) (younger us p ++ t ∷ older us p) = ap (how_many (is_live_access P)) split in
-    let now : live_accesses P (applied P C U by (On p act)) ≡ how_many (is_live_access P) (younger us p ++ changed P by act t (older us p) ∷ older us p) = ap (how_many (is_live_access P)) (parts P us by p act t a.is) in
+    let was : how_many_accesses P U ≡ how_many (is_live_access P) (younger us p ++ t ∷ older us p) = ap (how_many (is_live_access P)) split in
+    let now : how_many_accesses P (applied P C U by (On p act)) ≡ how_many (is_live_access P) (younger us p ++ changed P by act t (older us p) ∷ older us p) = ap (how_many (is_live_access P)) (parts P us by p act t a.is) in
     omega (arith, fewer, was, now, h)
 
 least : (n : ℕ) → 0 ≤ n
 least n = omega arith
 
-pub queue_room : (P : Program) (C : Sizes) (h : List Entry) → IsLegal P C h → live_accesses P (unit_of P C h) ≤ C.queue
+pub queue_room : (P : Program) (C : Sizes) (h : List Entry) → IsLegal P C h → how_many_accesses P (unit_of P C h) ≤ C.queue
 queue_room P C h legal =
     let whole : h ++ [] ≡ h = append-nil h in
-    subst (λ z. live_accesses P (unit_of P C z) ≤ C.queue) whole
-    (unit_lasts P C (λ U. live_accesses P U ≤ C.queue) (λ U by s a ok q. fewer_under P C U by s a ok q) h [] (subst (IsLegal P C) (sym whole) legal) (least C.queue))
+    subst (λ z. how_many_accesses P (unit_of P C z) ≤ C.queue) whole
+    (unit_lasts P C (λ U. how_many_accesses P U ≤ C.queue) (λ U by s a ok q. fewer_under P C U by s a ok q) h [] (subst (IsLegal P C) (sym whole) legal) (least C.queue))
 
 -- The order of the path
 
@@ -167,7 +167,7 @@ live_behind P us ok p q t u lt is live is' on =
 abbrev pub is_access_note : Note → Bool
 is_access_note n = n.what.access
 
-count_accesses : (xs : List Note) → count is_access_note xs ≡ accesses (whats xs)
+count_accesses : (xs : List Note) → count is_access_note xs ≡ memory_records (whats xs)
 count_accesses [] = refl
 count_accesses (x ∷ xs) = ap (λ z. cond x.what.access (suc z) z) (count_accesses xs)
 
@@ -184,15 +184,7 @@ pub record IsSplit (notes : List Note) (older : List Record) (x : Record) (young
 pub split_whats : (notes : List Note) (older : List Record) (x : Record) (younger : List Record) → whats notes ≡ older ++ x ∷ younger → IsSplit notes older x younger
 split_whats [] [] x younger e = absurd (cc e)
 split_whats [] (y ∷ older) x younger e = absurd (cc e)
-split_whats (n ∷ notes) [] x younger e = record {
-  before = [];
-  one = n;
-  after = notes;
-  is = refl;
-  what = head_of n.what x (whats notes) younger e;
-  rest = tail_of n.what x (whats notes) younger e;
-  prior = refl;
-}
+split_whats (n ∷ notes) [] x younger e = record { before = []; one = n; after = notes; is = refl; what = head_of n.what x (whats notes) younger e; rest = tail_of n.what x (whats notes) younger e; prior = refl }
   where
     head_of : (a b : Record) (xs ys : List Record) → a ∷ xs ≡ b ∷ ys → a ≡ b
     head_of a b xs ys e = cc e
@@ -201,15 +193,7 @@ split_whats (n ∷ notes) [] x younger e = record {
     tail_of a b xs ys e = cc e
 split_whats (n ∷ notes) (y ∷ older) x younger e =
     let s = split_whats notes older x younger (tail_of n.what y (whats notes) (older ++ x ∷ younger) e) in
-    record {
-      before = n ∷ s.before;
-      one = s.one;
-      after = s.after;
-      is = ap (λ z. n ∷ z) s.is;
-      what = s.what;
-      rest = s.rest;
-      prior = λ i. head_of n.what y (whats notes) (older ++ x ∷ younger) e i ∷ s.prior i;
-    }
+    record { before = n ∷ s.before; one = s.one; after = s.after; is = ap (λ z. n ∷ z) s.is; what = s.what; rest = s.rest; prior = λ i. head_of n.what y (whats notes) (older ++ x ∷ younger) e i ∷ s.prior i }
   where
     head_of : (a b : Record) (xs ys : List Record) → a ∷ xs ≡ b ∷ ys → a ≡ b
     head_of a b xs ys e = cc e
@@ -240,7 +224,7 @@ not_live_fails P t ne = go t.standing refl
 retired_not : Retired ≢ Live
 retired_not e = cc e
 
-module _ (P : Program) (C : Sizes) (h : List Entry) (legal : IsLegal P C h) (records : List Record) (base : Base) (k : Knows P C (unit_of P C h) records base) where
+module _ (P : Program) (C : Sizes) (h : List Entry) (legal : IsLegal P C h) (records : List Record) (base : Base) (k : FrontKnows P C (unit_of P C h) records base) where
   abbrev U : UpdateUnit
   U = unit_of P C h
 
@@ -252,13 +236,13 @@ module _ (P : Program) (C : Sizes) (h : List Entry) (legal : IsLegal P C h) (rec
       ap (λ (z : Record). z.access) (sym i.what) ∙ (ap (λ (z : Tenant). is_access (kind_of P z)) (same_tenant i.tenant t (sym i.is ∙ is)) ∙ access_only (is_live t) (is_access (kind_of P t)) test)
 
   noted : AllByRecursion (IsNoted P U.tenants) k.notes
-  noted = notes_noted P C h legal records base (IsFolded U (told_of base)) k
+  noted = notes_noted P C h legal records base (IsFolded U (rested_at base)) k
 
   -- few are kept: few are live
-  pub few_live : live_accesses P U ≤ accesses records
+  pub few_live : how_many_accesses P U ≤ memory_records records
   few_live =
       let few = at_most P (is_live_access P) is_access_note (access_on_path P) U.tenants k.gone k.notes k.path (all_map (IsGone U) (FailsAt P (is_live_access P) is_access_note U.tenants) gone_fail k.gone k.retired) (all_map (IsNoted P U.tenants) (SaysAt P (is_live_access P) is_access_note U.tenants) noted_says k.notes noted) in
-      subst (λ z. live_accesses P U ≤ z) (count_accesses k.notes ∙ ap accesses (sym k.are)) few
+      subst (λ z. how_many_accesses P U ≤ z) (count_accesses k.notes ∙ ap memory_records (sym k.are)) few
 
   module _ (older : List Record) (x : Record) (younger : List Record) (are : records ≡ older ++ x ∷ younger) where
     pub s : IsSplit k.notes older x younger
@@ -277,7 +261,7 @@ module _ (P : Program) (C : Sizes) (h : List Entry) (legal : IsLegal P C h) (rec
     one_noted = (all_rest (IsNoted P U.tenants) s.before (s.one ∷ s.after) noted_all).0
 
     -- it has left: only younger ones are live
-    pub behind_left : one_noted.tenant.standing ≡ Retired → live_accesses P U ≤ accesses younger
+    pub behind_left : one_noted.tenant.standing ≡ Retired → how_many_accesses P U ≤ memory_records younger
     behind_left gone =
         let Fails = FailsAt P (is_live_access P) is_access_note U.tenants in
         let before = all_two (IsNoted P U.tenants) (λ n. n.at < s.one.at) Fails older_fails s.before (all_front (IsNoted P U.tenants) s.before (s.one ∷ s.after) noted_all) (all_rest (λ n. n.at < s.one.at) k.gone s.before order.before) in
@@ -287,21 +271,20 @@ module _ (P : Program) (C : Sizes) (h : List Entry) (legal : IsLegal P C h) (rec
         let few = at_most P (is_live_access P) is_access_note (access_on_path P) U.tenants ((k.gone ++ s.before) ++ s.one ∷ []) s.after path
         (all_both Fails (k.gone ++ s.before) (s.one ∷ []) (all_both Fails k.gone s.before first before) (one, tt))
         (all_map (IsNoted P U.tenants) (SaysAt P (is_live_access P) is_access_note U.tenants) noted_says s.after ((all_rest (IsNoted P U.tenants) s.before (s.one ∷ s.after) noted_all).1)) in
-        subst (λ z. live_accesses P U ≤ z) (count_accesses s.after ∙ ap accesses s.rest) few
+        subst (λ z. how_many_accesses P U ≤ z) (count_accesses s.after ∙ ap memory_records s.rest) few
       where
         older_fails : (n : Note) → IsNoted P U.tenants n → n.at < s.one.at → FailsAt P (is_live_access P) is_access_note U.tenants n
-        older_fails n i lt t is = not_live_fails P t (λ live. retired_not (sym gone ∙ live_behind P U.tenants (unit_sound P C h legal) n.at s.one.at t one_noted.tenant lt is live one_noted.is
-            one_noted.on))
+        older_fails n i lt t is = not_live_fails P t (λ live. retired_not (sym gone ∙ live_behind P U.tenants (unit_sound P C h legal) n.at s.one.at t one_noted.tenant lt is live one_noted.is one_noted.on))
 
     -- it is live: so are all younger ones
-    pub behind_live : one_noted.tenant.standing ≡ Live → x.access ≡ true → suc (accesses younger) ≤ live_accesses P U
+    pub behind_live : one_noted.tenant.standing ≡ Live → x.access ≡ true → suc (memory_records younger) ≤ how_many_accesses P U
     behind_live live access =
         let True = TrueAt P (is_live_access P) is_access_note U.tenants in
         let after : AllByRecursion True s.after = all_two (IsNoted P U.tenants) (λ n. s.one.at < n.at) True younger_true s.after ((all_rest (IsNoted P U.tenants) s.before (s.one ∷ s.after) noted_all).1) order.after in
         let one : True s.one = true_of s.one one_noted live in
         let many = at_least P (is_live_access P) is_access_note U.tenants (k.gone ++ s.before) (s.one ∷ s.after) whole (one, after) in
-        let count_one : count is_access_note (s.one ∷ s.after) ≡ suc (accesses younger) = ap (λ b. cond b (suc (count is_access_note s.after)) (count is_access_note s.after)) (ap (λ (z : Record). z.access) s.what ∙ access) ∙ ap suc (count_accesses s.after ∙ ap accesses s.rest) in
-        subst (λ z. z ≤ live_accesses P U) count_one many
+        let count_one : count is_access_note (s.one ∷ s.after) ≡ suc (memory_records younger) = ap (λ b. cond b (suc (count is_access_note s.after)) (count is_access_note s.after)) (ap (λ (z : Record). z.access) s.what ∙ access) ∙ ap suc (count_accesses s.after ∙ ap memory_records s.rest) in
+        subst (λ z. z ≤ how_many_accesses P U) count_one many
       where
         true_of : (n : Note) → (i : IsNoted P U.tenants n) → i.tenant.standing ≡ Live → TrueAt P (is_live_access P) is_access_note U.tenants n
         true_of n i live t is access =

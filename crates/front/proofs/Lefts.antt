@@ -1,6 +1,5 @@
 -- Telling of all records is telling of all tenants of whom nobody was told.
-use Rattle.std.proofs.Common.{◌≡◌, ◌⊎◌, ℕ, ◌<◌, ◌≤◌, Bool, true, false, not, cond, ◌&&◌, ◌||◌, eqb, eqb-true, eq-eqb, leb, leb-true, le-leb, List, [], ◌∷◌, ◌++◌, length, Some, refl, sym, ap, ◌∙◌}
-use Rattle.std.proofs.Common.{subst, inl, inr, ⊎_elim, arith, append_assoc, true≢false}
+use Rattle.std.proofs.Common.{◌≡◌, ◌⊎◌, ℕ, ◌<◌, ◌≤◌, Bool, true, false, not, cond, ◌&&◌, ◌||◌, eqb, eqb-true, eq-eqb, leb, leb-true, le-leb, List, [], ◌∷◌, ◌++◌, length, Some, refl, sym, ap, ◌∙◌, subst, inl, inr, ⊎_elim, arith, append_assoc, true≢false}
 use mathlib.Core.Logic.{dite}
 use native.Mathlib.Decide.{ℕ_discrete}
 use Rattle.std.proofs.lemmas.List.{append-nil}
@@ -13,11 +12,12 @@ use Rattle.inorder.proofs.Positions.{all_at, at_below, at_more, at_new}
 use Rattle.inorder.proofs.Sound.{IsSound}
 use Rattle.front.specs.declared.path.base_state.Base.{Base}
 use Rattle.front.specs.declared.path.record.Record.{Record}
-use Rattle.front.specs.Knows.{IsFolded, IsNewest, IsReused, Knows, whats}
-use Rattle.front.specs.Path.{told_of}
-use Rattle.front.specs.Rests.{HasNobody, TellsEach, TellsRecords, all_untold, is_let_to, is_untold}
+use Rattle.front.specs.Knows.{IsFolded, IsNewest, IsReused, FrontKnows, whats}
+use Rattle.front.specs.Path.{rested_at}
+use Rattle.front.specs.Rests.{TellsEach, TellsRecords, all_untold, is_let_to, is_untold}
 use Rattle.front.specs.Training.{ToldIf}
 use Rattle.front.specs.Trail.{Note, is_guessed, note, trail}
+use Rattle.station.specs.Renewals.{HasNobody}
 use Rattle.front.proofs.Lists.{Last, all_front, all_rest, all_two, last_cases, last_same, whats_append}
 use Rattle.front.proofs.Resting.{left_path}
 use Rattle.front.proofs.Trained.{went_on}
@@ -42,8 +42,8 @@ module _ {S : Type 0} (Learns : S → ℕ → ℕ → S → Type 0) where
   tells_last [] x a c t = record { middle = a; first = refl; last = subst (λ z. ToldIf Learns x.guessed x.pc x.next a z) (sym t.1.1) t.1.0 }
   tells_last (y ∷ xs) x a c t = let l = tells_last xs x t.0 c t.1.1 in record { middle = l.middle; first = (t.0, (t.1.0, l.first)); last = l.last }
 
-  each_more : (P : Program) (ts : List Tenant) (t : Tenant) (a b c : S) → TellsEach Learns P ts a b → ToldIf Learns (is_guessed P t) t.pc (computed_next P t) b c →
-      TellsEach Learns P (ts ++ t ∷ []) a c
+  each_more : (P : Program) (ts : List Tenant) (t : Tenant) (a b c : S) → TellsEach Learns P ts a b →
+      ToldIf Learns (is_guessed P t) t.pc (computed_next P t) b c → TellsEach Learns P (ts ++ t ∷ []) a c
   each_more P [] t a b c e u = (c, (subst (λ z. ToldIf Learns (is_guessed P t) t.pc (computed_next P t) z c) e u, refl))
   each_more P (v ∷ ts) t a b c e u = (e.0, (e.1.0, each_more P ts t e.0 b c e.1.1 u))
 
@@ -115,8 +115,7 @@ module _ {S : Type 0} (Learns : S → ℕ → ℕ → S → Type 0) (P : Program
         and_false false b e = refl
 
         reused : IsReused U (note P ts t) → (leb told (length ts) && not (is_let_to younger t.station)) ≡ false
-        reused r = and_false (leb told (length ts)) _ (ap not (there_again younger (t ∷ ts) t.station r.p r.tenant.tenant (ap (λ z. at z r.p) (sym split) ∙ r.tenant.is) (omega (arith, r.behind))
-            r.tenant.fact))
+        reused r = and_false (leb told (length ts)) _ (ap not (there_again younger (t ∷ ts) t.station r.p r.tenant.tenant (ap (λ z. at z r.p) (sym split) ∙ r.tenant.is) (omega (arith, r.behind)) r.tenant.fact))
 
         before : length ts < told → (leb told (length ts) && not (is_let_to younger t.station)) ≡ false
         before lt = go (leb told (length ts)) refl
@@ -139,7 +138,8 @@ module _ {S : Type 0} (Learns : S → ℕ → ℕ → S → Type 0) (P : Program
     told_it : on_path t ≡ true → (a b : S) → ToldIf Learns (is_guessed P t) t.pc t.next a b → ToldIf Learns (is_guessed P t) t.pc (computed_next P t) a b
     told_it on a b x = subst (λ z. ToldIf Learns (is_guessed P t) t.pc z a b) (sym (went_on P U.tenants ok (length ts) t its_place (left_path t on dead))) x
 
-  pub tells_all : (ts younger : List Tenant) → U.tenants ≡ glue younger ts → (g ns : List Note) → trail P ts ≡ g ++ ns → AllByRecursion (IsFolded U told) g → AllByRecursion IsIn ns → (a b : S) →
+  pub tells_all : (ts younger : List Tenant) → U.tenants ≡ glue younger ts → (g ns : List Note) →
+      trail P ts ≡ g ++ ns → AllByRecursion (IsFolded U told) g → AllByRecursion IsIn ns → (a b : S) →
       TellsRecords Learns (whats ns) a b → TellsEach Learns P (all_untold told younger ts) a b
   tells_all [] younger split g ns path outs ins a b tells = empty g ns path tells
     where
@@ -154,14 +154,12 @@ module _ {S : Type 0} (Learns : S → ℕ → ℕ → S → Type 0) (P : Program
           let same : all_untold told younger (t ∷ ts) ≡ all_untold told (t ∷ younger) ts = ap (λ z. all_untold told (t ∷ younger) ts ++ cond z (t ∷ []) []) f ∙ append-nil (all_untold told (t ∷ younger) ts) in
           subst (λ z. TellsEach Learns P z a b) (sym same) e
 
-      on : on_path t ≡ true → (ns ≡ []) ⊎ Last ns → ((g ns : List Note) → trail P ts ≡ g ++ ns → AllByRecursion (IsFolded U told) g → AllByRecursion IsIn ns → (a b : S) →
-          TellsRecords Learns (whats ns) a b → TellsEach Learns P (all_untold told (t ∷ younger) ts) a b) → TellsEach Learns P (all_untold told younger (t ∷ ts)) a b
+      on : on_path t ≡ true → (ns ≡ []) ⊎ Last ns → ((g ns : List Note) → trail P ts ≡ g ++ ns → AllByRecursion (IsFolded U told) g → AllByRecursion IsIn ns → (a b : S) → TellsRecords Learns (whats ns) a b → TellsEach Learns P (all_untold told (t ∷ younger) ts) a b) → TellsEach Learns P (all_untold told younger (t ∷ ts)) a b
       on e (inl none) rest =
           let all : trail P ts ++ note P ts t ∷ [] ≡ g = sym (trail_on P t ts e) ∙ (path ∙ (ap (λ z. g ++ z) none ∙ append-nil g)) in
           let parts : AllByRecursion (IsFolded U told) (trail P ts ++ note P ts t ∷ []) = subst (AllByRecursion (IsFolded U told)) (sym all) outs in
           let its : IsFolded U told (note P ts t) = (all_rest (IsFolded U told) (trail P ts) (note P ts t ∷ []) parts).0 in
-          with_none (out_untold t ts younger split its) (rest (trail P ts) [] (sym (append-nil (trail P ts))) (all_front (IsFolded U told) (trail P ts) (note P ts t ∷ []) parts) tt a b
-          (subst (λ z. TellsRecords Learns (whats z) a b) none tells))
+          with_none (out_untold t ts younger split its) (rest (trail P ts) [] (sym (append-nil (trail P ts))) (all_front (IsFolded U told) (trail P ts) (note P ts t ∷ []) parts) tt a b (subst (λ z. TellsRecords Learns (whats z) a b) none tells))
       on e (inr l) rest =
           let two = last_same (trail P ts) (g ++ l.front) (note P ts t) l.one (sym (trail_on P t ts e) ∙ (path ∙ (ap (λ z. g ++ z) l.is ∙ sym (append_assoc g l.front (l.one ∷ []))))) in
           let parts : AllByRecursion IsIn (l.front ++ l.one ∷ []) = subst (AllByRecursion IsIn) l.is ins in
@@ -172,16 +170,15 @@ module _ {S : Type 0} (Learns : S → ℕ → ℕ → S → Type 0) (P : Program
           subst (λ z. TellsEach Learns P (all_untold told (t ∷ younger) ts ++ cond z (t ∷ []) []) a b) (sym (in_untold t ts younger split e its))
           (each_more Learns P (all_untold told (t ∷ younger) ts) t a last.middle b before (told_it t ts younger split e last.middle b one))
 
-      go : (x : Bool) → on_path t ≡ x → ((g ns : List Note) → trail P ts ≡ g ++ ns → AllByRecursion (IsFolded U told) g → AllByRecursion IsIn ns → (a b : S) → TellsRecords Learns (whats ns) a b →
-          TellsEach Learns P (all_untold told (t ∷ younger) ts) a b) → TellsEach Learns P (all_untold told younger (t ∷ ts)) a b
+      go : (x : Bool) → on_path t ≡ x → ((g ns : List Note) → trail P ts ≡ g ++ ns → AllByRecursion (IsFolded U told) g → AllByRecursion IsIn ns → (a b : S) → TellsRecords Learns (whats ns) a b → TellsEach Learns P (all_untold told (t ∷ younger) ts) a b) → TellsEach Learns P (all_untold told younger (t ∷ ts)) a b
       go true e rest = on e (last_cases ns) rest
       go false e rest = with_none (off_untold t ts younger split e) (rest g ns (sym (trail_off P t ts e) ∙ path) outs ins a b tells)
 
 -- All that are kept are all of whom nobody was told
-pub all_told : {S : Type 0} (Learns : S → ℕ → ℕ → S → Type 0) (P : Program) (C : Sizes) (U : UpdateUnit) → IsSound P U.tenants → HasNobody U → (records : List Record) (base : Base) →
-    Knows P C U records base
-    → (a b : S) → TellsRecords Learns records a b → TellsEach Learns P (all_untold (told_of base) [] U.tenants) a b
+pub all_told : {S : Type 0} (Learns : S → ℕ → ℕ → S → Type 0) (P : Program) (C : Sizes) (U : UpdateUnit) →
+    IsSound P U.tenants → HasNobody U → (records : List Record) (base : Base) → FrontKnows P C U records base
+    → (a b : S) → TellsRecords Learns records a b → TellsEach Learns P (all_untold (rested_at base) [] U.tenants) a b
 all_told Learns P C U ok nobody records base k a b tells =
-    tells_all Learns P U ok nobody (told_of base) U.tenants [] refl k.gone k.notes k.path k.again
-    (all_two (IsNewest U) (λ n. told_of base ≤ n.at) (λ n. IsNewest U n × (told_of base ≤ n.at)) (λ n x y. (x, y)) k.notes k.newest k.untold)
+    tells_all Learns P U ok nobody (rested_at base) U.tenants [] refl k.gone k.notes k.path k.again
+    (all_two (IsNewest U) (λ n. rested_at base ≤ n.at) (λ n. IsNewest U n × (rested_at base ≤ n.at)) (λ n x y. (x, y)) k.notes k.newest k.untold)
     a b (subst (λ z. TellsRecords Learns z a b) k.are tells)

@@ -8,7 +8,7 @@ use Rattle.inorder.specs.declared.history.Step.TheVariants.{Let, On, Renew}
 use Rattle.inorder.specs.History.{front, unit_of}
 use Rattle.inorder.specs.OneHistory.{Adds}
 use Rattle.inorder.specs.Legal.{applied}
-use Rattle.inorder.specs.Replies.{HasNoInstr, IsFull, IsQueueFull, IsSpent, last_tag}
+use Rattle.inorder.specs.Replies.{HasNoInstr, IsFull, HasFullQueue, IsSpent, last_tag}
 use Rattle.inorder.specs.Tenants.{Tenant}
 use Rattle.inorder.proofs.Histories.{adds_on}
 use Rattle.inorder.specs.Unit.{Sizes, next_station, next_tag, older, recent, tag_after}
@@ -25,8 +25,8 @@ use Rattle.inorder.specs.StationWords.{left_value}
 use Rattle.front.specs.declared.path.base_state.Base.{Base}
 use Rattle.front.specs.declared.path.record.Record.{Record}
 use Rattle.front.specs.Fetching.{CanFetch, HasLeft, OldestLeft}
-use Rattle.front.specs.Knows.{IsFolded, Knows, whats}
-use Rattle.front.specs.Path.{half_behind, next_place, pc_behind, told_of}
+use Rattle.front.specs.Knows.{IsFolded, FrontKnows, whats}
+use Rattle.front.specs.Path.{next_half, station_of_next, pc_behind, rested_at}
 use Rattle.front.specs.Queues.{QueueSays}
 use Rattle.front.specs.Trail.{Note}
 use Rattle.front.specs.Turns.{NoInstrNow, QueueFullNow, SpentNow, WasNotFull}
@@ -84,14 +84,13 @@ first_note (n ∷ ns) x xs e = record { one = n; rest = ns; is = refl; what = he
     head_of : (a b : Record) (us vs : List Record) → a ∷ us ≡ b ∷ vs → a ≡ b
     head_of a b us vs e = cc e
 
-module _ (P : Program) (C : Sizes) (old h : List Entry) (records : List Record) (base : Base) (k : Knows P C (unit_of P C old) records base) (adds : Adds P C front old h [])
-    (ring station : ℕ) (ring_is : ring ≡ C.ring) (least : 2 ≤ ring) (station_is : station ≡ next_place ring base records) (seen : Seen StationState) (sees : SeesStation P C h station seen) where
-  pub knows_now : Knows P C (unit_of P C h) records base
-  knows_now = stays P C (λ U. Knows P C U records base) (knows_stable P C records base) old h adds k
+module _ (P : Program) (C : Sizes) (old h : List Entry) (records : List Record) (base : Base) (k : FrontKnows P C (unit_of P C old) records base) (adds : Adds P C front old h [])
+    (ring station : ℕ) (ring_is : ring ≡ C.ring) (least : 2 ≤ ring) (station_is : station ≡ station_of_next ring base records) (seen : Seen StationState) (sees : SeesStation P C h station seen) where
+  pub knows_now : FrontKnows P C (unit_of P C h) records base
+  knows_now = stays P C (λ U. FrontKnows P C U records base) (knows_stable P C records base) old h adds k
 
   place : station ≡ next_station C (recent (unit_of P C h))
-  place = station_is ∙ (ap (λ z. next_place z base records) ring_is ∙ sym (known_place P C (unit_of P C h) records base (IsFolded (unit_of P C h) (told_of base)) knows_now
-      (stands_right P C h adds.legal)))
+  place = station_is ∙ (ap (λ z. station_of_next z base records) ring_is ∙ sym (known_place P C (unit_of P C h) records base (IsFolded (unit_of P C h) (rested_at base)) knows_now (stands_right P C h adds.legal)))
 
   sees_next : SeesStation P C h (next_station C (recent (unit_of P C h))) seen
   sees_next = subst (λ z. SeesStation P C h z seen) place sees
@@ -114,8 +113,8 @@ module _ (P : Program) (C : Sizes) (old h : List Entry) (records : List Record) 
       }
 
       module _ (i : Instr) (there : instr_at P pc ≡ Some i) (new : List Entry) (more : Adds P C front h new []) where
-        knows_new : Knows P C (unit_of P C new) records base
-        knows_new = stays P C (λ U. Knows P C U records base) (knows_stable P C records base) h new more knows_now
+        knows_new : FrontKnows P C (unit_of P C new) records base
+        knows_new = stays P C (λ U. FrontKnows P C U records base) (knows_stable P C records base) h new more knows_now
 
         not_full_once : WasNotFull P C old new
         not_full_once = before_end P C (λ U. ¬ IsFull C U) old h new [] [] adds more is_free
@@ -128,7 +127,7 @@ module _ (P : Program) (C : Sizes) (old h : List Entry) (records : List Record) 
 
         pub queue_full_now : QueueSays P C (unit_of P C new) i true → QueueFullNow P C old new
         queue_full_now q = record {
-          queue_full = at_end P C (IsQueueFull P C) old new [] both (queue_full P C new records base knows_new pc i pc_is there q);
+          queue_full = at_end P C (HasFullQueue P C) old new [] both (queue_full P C new records base knows_new pc i pc_is there q);
           not_full = not_full_once;
           instr = instr_once;
         }
@@ -138,29 +137,27 @@ module _ (P : Program) (C : Sizes) (old h : List Entry) (records : List Record) 
           spent = before_end P C (IsSpent C) old h new [] [] adds more (looks_spent P C h adds.legal seen sees_next free e);
           not_full = not_full_once;
           instr = instr_once;
-          room = at_end P C (λ U. ¬ IsQueueFull P C U) old new [] both (queue_free P C new records base knows_new pc i pc_is there q);
+          room = at_end P C (λ U. ¬ HasFullQueue P C U) old new [] both (queue_free P C new records base knows_new pc i pc_is there q);
         }
 
         oldest : OldestLeft C (unit_of P C new) records seen.value
         oldest x xs e many =
             let f = first_note knows_now.notes x xs (sym knows_now.are ∙ e) in
-            let long : C.ring ≤ length knows_now.notes = subst (λ z. C.ring ≤ z) (notes_length P C (unit_of P C h) records base (IsFolded (unit_of P C h) (told_of base)) knows_now) many in
+            let long : C.ring ≤ length knows_now.notes = subst (λ z. C.ring ≤ z) (notes_length P C (unit_of P C h) records base (IsFolded (unit_of P C h) (rested_at base)) knows_now) many in
             let gone = oldest_left P C h adds.legal records base knows_now seen sees_next free f.one f.rest f.is long in
             let still = stays P C (λ U. IsTenant U f.one.at f.one.what.station f.one.what.tag (HasLeft seen.value)) (left_stable P C f.one.at f.one.what.station f.one.what.tag seen.value) h new more gone in
             record { p = f.one.at; tenant = subst (λ (z : Record). IsTenant (unit_of P C new) f.one.at z.station z.tag (HasLeft seen.value)) f.what still }
 
-        pub can_fetch : (half : Half) → half ≡ half_behind base records → QueueSays P C (unit_of P C new) i false → seen.tag ≢ last_tag → seen.tag ≤ last_tag → station < ring →
-            CanFetch P C new records (record { instr = i; half = half; pc = pc; station = station; left = seen.value })
+        pub can_fetch : (half : Half) → half ≡ next_half base records → QueueSays P C (unit_of P C new) i false → seen.tag ≢ last_tag → seen.tag ≤ last_tag → station < ring → CanFetch P C new records (record { instr = i; half = half; pc = pc; station = station; left = seen.value })
         can_fetch half half_is q ne most small =
             let tag : next_tag C (recent (unit_of P C new)) ≡ seen.tag = stays P C (λ U. next_tag C (recent U) ≡ seen.tag) (tag_stable P C seen.tag) h new more (next_tag_is P C h adds.legal seen sees_next free) in
             record {
               next = record {
-                station = station_is ∙ (ap (λ z. next_place z base records) ring_is ∙ sym (known_place P C (unit_of P C new) records base (IsFolded (unit_of P C new) (told_of base)) knows_new
-                    (stands_right P C new more.legal)));
+                station = station_is ∙ (ap (λ z. station_of_next z base records) ring_is ∙ sym (known_place P C (unit_of P C new) records base (IsFolded (unit_of P C new) (rested_at base)) knows_new (stands_right P C new more.legal)));
                 small = subst (λ z. station < z) ring_is small;
                 tag = omega (arith, tag, ne, most);
-                pc = pc_is ∙ sym (known_pc P C (unit_of P C new) records base (IsFolded (unit_of P C new) (told_of base)) knows_new);
-                half = half_is ∙ sym (known_half P C (unit_of P C new) records base (IsFolded (unit_of P C new) (told_of base)) knows_new);
+                pc = pc_is ∙ sym (known_pc P C (unit_of P C new) records base (IsFolded (unit_of P C new) (rested_at base)) knows_new);
+                half = half_is ∙ sym (known_half P C (unit_of P C new) records base (IsFolded (unit_of P C new) (rested_at base)) knows_new);
                 instr = there;
                 queue = q;
               };

@@ -88,7 +88,7 @@ module _ (P : Program) (C : Sizes) (h : List Entry) (legal : IsLegal P C h) (s :
   abbrev U : UpdateUnit
   U = unit_of P C h
 
-  abbrev shows : Rattle.inorder.specs.StationWords.Shows C (recent U)
+  abbrev shows : Rattle.inorder.specs.StationWords.WordsShow C (recent U)
   shows = (stations_follow P C (taken_of h) front).shows (allowed_steps P C h legal)
 
   -- a live miss shows as one

@@ -16,11 +16,11 @@ use Rattle.ruu_words.specs.declared.station.StationState.TheVariants.{Free, Miss
 use Rattle.ruu_words.proofs.Stays.{place_stays}
 use Rattle.station.specs.declared.answers.Seen.{Seen}
 use Rattle.station.specs.Looking.{SeesStation}
-use Rattle.front.specs.Path.{told_of}
+use Rattle.front.specs.Path.{rested_at}
 use Rattle.front.specs.declared.path.base_state.Base.{Base}
 use Rattle.front.specs.declared.path.record.Record.{Record}
-use Rattle.front.specs.Knows.{IsFolded, IsGone, IsNewest, Knows, whats}
-use Rattle.front.specs.Recoveries.{IsMiss, IsNoMiss}
+use Rattle.front.specs.Knows.{IsFolded, IsGone, IsNewest, FrontKnows, whats}
+use Rattle.front.specs.Recoveries.{IsMiss, IsNoLiveMiss}
 use Rattle.front.specs.Trail.{Note, record_of}
 use Rattle.front.proofs.Lists.{all_both, all_map, all_two}
 use Rattle.front.proofs.Looks.{finds_miss, live_there, same_place, shows_miss}
@@ -52,7 +52,8 @@ all_one_more Q xs i x a e q = let one : suc i ≡ i + 1 = omega arith in subst (
 
 module _ (P : Program) (C : Sizes) where
   -- the look at a tenant that is no miss: it was none when the call began
-  pub was_none : (old new : List Entry) (r : Record) (seen : Seen StationState) → Adds P C front old new [] → SeesStation P C new r.station seen → seen.state ≢ MissState → IsNoMiss (unit_of P C old) r
+  pub was_none : (old new : List Entry) (r : Record) (seen : Seen StationState) → Adds P C front old new [] →
+      SeesStation P C new r.station seen → seen.state ≢ MissState → IsNoLiveMiss (unit_of P C old) r
   was_none old new r seen adds sees ne p x t is place tag m =
       let now = stays P C (λ U. Has U p (IsMissing x)) (miss_stable P C p x) old new adds (record { tenant = t; is = is; fact = m }) in
       let still = place_stays P C p t adds.begins.more old (subst (IsLegal P C) adds.begins.is adds.legal) is in
@@ -60,7 +61,7 @@ module _ (P : Program) (C : Sizes) where
       let at_place : now.tenant.station ≡ r.station = ap (λ (z : Tenant). z.station) (same_tenant now.tenant still.tenant (sym now.is ∙ there)) ∙ (still.fact.0 ∙ place) in
       ne (shows_miss P C new adds.legal r.station seen sees p x now.tenant now.is at_place now.fact)
 
-  module _ (h : List Entry) (legal : IsLegal P C h) (records : List Record) (base : Base) (k : Knows P C (unit_of P C h) records base) where
+  module _ (h : List Entry) (legal : IsLegal P C h) (records : List Record) (base : Base) (k : FrontKnows P C (unit_of P C h) records base) where
     abbrev U : UpdateUnit
     U = unit_of P C h
 
@@ -74,8 +75,7 @@ module _ (P : Program) (C : Sizes) where
       pub last : Rattle.inorder.specs.Callers.IsLastAt U p x.station
 
     pub are_there : AllByRecursion IsThere records
-    are_there = subst (AllByRecursion IsThere) (sym k.are) (all_whats IsThere k.notes (all_two (IsNoted P U.tenants) (IsNewest U) (λ n. IsThere n.what)
-        (λ n i l. record { p = n.at; tenant = i.tenant; is = i.is; on = i.on; what = i.what; last = l }) k.notes (notes_noted P C h legal records base (IsFolded U (told_of base)) k) k.newest))
+    are_there = subst (AllByRecursion IsThere) (sym k.are) (all_whats IsThere k.notes (all_two (IsNoted P U.tenants) (IsNewest U) (λ n. IsThere n.what) (λ n i l. record { p = n.at; tenant = i.tenant; is = i.is; on = i.on; what = i.what; last = l }) k.notes (notes_noted P C h legal records base (IsFolded U (rested_at base)) k) k.newest))
 
     -- the look at a tenant that is a miss
     pub is_miss : (i : ℕ) (x : Record) (seen : Seen StationState) → slice_get records i ≡ Some x → SeesStation P C h x.station seen → seen.state ≡ MissState → IsMiss P C h x seen.value
@@ -100,16 +100,16 @@ module _ (P : Program) (C : Sizes) where
     pub gone_miss : (n : Note) → IsGone U n → (x : ℕ) (t : Tenant) → at U.tenants n.at ≡ Some t → ¬ IsMissing x t
     gone_miss n g x t is m = gone_live (sym g.fact ∙ (ap (λ (z : Tenant). z.standing) (same_tenant g.tenant t (sym g.is ∙ is)) ∙ m.live))
 
-    pub named_miss : (n : Note) → IsNoted P U.tenants n → IsNoMiss U n.what → (x : ℕ) (t : Tenant) → at U.tenants n.at ≡ Some t → ¬ IsMissing x t
+    pub named_miss : (n : Note) → IsNoted P U.tenants n → IsNoLiveMiss U n.what → (x : ℕ) (t : Tenant) → at U.tenants n.at ≡ Some t → ¬ IsMissing x t
     named_miss n i none x t is m =
         let one = same_tenant i.tenant t (sym i.is ∙ is) in
         none n.at x t is (ap (λ (z : Tenant). z.station) (sym one) ∙ ap (λ (z : Record). z.station) i.what) (ap (λ (z : Tenant). z.tag) (sym one) ∙ ap (λ (z : Record). z.tag) i.what) m
 
     -- no record is a miss: nobody is
-    pub no_miss : AllByRecursion (IsNoMiss U) records → HasNoMiss U
+    pub no_miss : AllByRecursion (IsNoLiveMiss U) records → HasNoMiss U
     no_miss all p x t is live fate =
         let Q : Note → Type 0 = λ n. (x : ℕ) (t : Tenant) → at U.tenants n.at ≡ Some t → ¬ IsMissing x t in
-        let named = all_two (IsNoted P U.tenants) (λ n. IsNoMiss U n.what) Q named_miss k.notes (notes_noted P C h legal records base (IsFolded U (told_of base)) k) (of_whats (IsNoMiss U) k.notes (subst (AllByRecursion (IsNoMiss U)) k.are all)) in
+        let named = all_two (IsNoted P U.tenants) (λ n. IsNoLiveMiss U n.what) Q named_miss k.notes (notes_noted P C h legal records base (IsFolded U (rested_at base)) k) (of_whats (IsNoLiveMiss U) k.notes (subst (AllByRecursion (IsNoLiveMiss U)) k.are all)) in
         let everybody = subst (AllByRecursion Q) (sym k.path) (all_both Q k.gone k.notes (all_map (IsGone U) Q gone_miss k.gone k.retired) named) in
         trail_all P Q U.tenants everybody p t is (ap stands_on_path live) x t is (record { live = live; fate = fate })
       where

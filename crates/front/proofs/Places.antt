@@ -14,7 +14,7 @@ use Rattle.inorder.proofs.Tags.{passed}
 use Rattle.front.specs.declared.path.base_state.Base.{Base}
 use Rattle.front.specs.declared.path.record.Record.{Record}
 use Rattle.front.specs.Knows.{Stands, whats}
-use Rattle.front.specs.Path.{half_behind, half_behind_last, last_of, next_place, pc_after, pc_behind, place_after, told_of}
+use Rattle.front.specs.Path.{next_half, half_behind_last, youngest_record, station_of_next, pc_after, pc_behind, place_after, rested_at}
 use Rattle.front.specs.Trail.{Note, trail}
 use Rattle.front.proofs.Lists.{Last, last_cases, whats_append, whats_length}
 use Rattle.front.proofs.Parted.{cut_twice, parted, passed_few}
@@ -51,7 +51,7 @@ oldest_next ring g n ns a h = a.0 ∙ (sym (whole g ring) ∙ ap (λ z. (g + z) 
     whole : (g ring : ℕ) → (g + ring) % ring ≡ g % ring
     whole g ring = add-mod_right g ring
 
-last_there : (xs : List Record) (x : Record) → last_of (xs ++ x ∷ []) ≡ Some x
+last_there : (xs : List Record) (x : Record) → youngest_record (xs ++ x ∷ []) ≡ Some x
 last_there xs x =
     let long = length-append xs (x ∷ []) in
     let n : length (xs ++ x ∷ []) - 1 ≡ length xs = omega arith in
@@ -69,7 +69,7 @@ pub record ArePlacedNow (C : Sizes) (U : UpdateUnit) (notes : List Note) : Type 
 
 module _ (P : Program) (C : Sizes) (U : UpdateUnit) (records : List Record) (base : Base) (Again : Note → Type 0) (k : Stands P C U records base Again) where
   -- behind the first ones all are recent
-  pub kept_new : (p : ℕ) → told_of base ≤ p → is_old U p ≡ false
+  pub kept_new : (p : ℕ) → rested_at base ≤ p → is_old U p ≡ false
   kept_new p le = new_by U p (omega (arith, k.since, le))
 
   pub notes_length : length records ≡ length k.notes
@@ -78,8 +78,8 @@ module _ (P : Program) (C : Sizes) (U : UpdateUnit) (records : List Record) (bas
   pub notes_placed : StandsRight C (recent U) → ArePlacedNow C U k.notes
   notes_placed st =
       let parts = parted P C U.fresh U.tenants st.placed in
-      let few = passed_few U.fresh U.tenants (told_of base) k.since in
-      let apart = cut_twice (λ n. n.at < length (passed U.fresh U.tenants)) (λ n. told_of base ≤ n.at) (λ n old new. absurd (omega (arith, few, old, new))) k.gone k.notes parts.olds parts.news (sym k.path ∙ parts.path) parts.before k.untold in
+      let few = passed_few U.fresh U.tenants (rested_at base) k.since in
+      let apart = cut_twice (λ n. n.at < length (passed U.fresh U.tenants)) (λ n. rested_at base ≤ n.at) (λ n old new. absurd (omega (arith, few, old, new))) k.gone k.notes parts.olds parts.news (sym k.path ∙ parts.path) parts.before k.untold in
       let none : 0 + length apart.middle ≡ length apart.middle = omega arith in
       let all = ap (λ z. length z) apart.rest in
       let long = length-append apart.middle k.notes in
@@ -92,11 +92,11 @@ module _ (P : Program) (C : Sizes) (U : UpdateUnit) (records : List Record) (bas
   last_of_whole : (l : Last k.notes) → trail P U.tenants ≡ (k.gone ++ l.front) ++ l.one ∷ []
   last_of_whole l = k.path ∙ (ap (λ z. k.gone ++ z) l.is ∙ sym (append_assoc k.gone l.front (l.one ∷ [])))
 
-  pub last_record : (l : Last k.notes) → last_of records ≡ Some l.one.what
-  last_record l = ap last_of (k.are ∙ (ap whats l.is ∙ whats_append l.front (l.one ∷ []))) ∙ last_there (whats l.front) l.one.what
+  pub last_record : (l : Last k.notes) → youngest_record records ≡ Some l.one.what
+  last_record l = ap youngest_record (k.are ∙ (ap whats l.is ∙ whats_append l.front (l.one ∷ []))) ∙ last_there (whats l.front) l.one.what
 
-  no_record : k.notes ≡ [] → last_of records ≡ None
-  no_record e = ap last_of (k.are ∙ ap whats e)
+  no_record : k.notes ≡ [] → youngest_record records ≡ None
+  no_record e = ap youngest_record (k.are ∙ ap whats e)
 
   -- the front pc
   pub known_pc : front_pc U.tenants ≡ pc_behind base records
@@ -106,14 +106,14 @@ module _ (P : Program) (C : Sizes) (U : UpdateUnit) (records : List Record) (bas
       (last_cases k.notes)
 
   -- the half that comes next
-  pub known_half : front_half P U.tenants ≡ half_behind base records
+  pub known_half : front_half P U.tenants ≡ next_half base records
   known_half = ⊎_elim
       (λ e. (k.begun e).half ∙ sym (ap (half_behind_last base.half) (no_record e)))
       (λ (l : Last k.notes). half_of_last P U.tenants (k.gone ++ l.front) l.one (last_of_whole l) ∙ sym (ap (half_behind_last base.half) (last_record l)))
       (last_cases k.notes)
 
   -- the next tenant's station
-  pub known_place : StandsRight C (recent U) → next_station C (recent U) ≡ next_place C.ring base records
+  pub known_place : StandsRight C (recent U) → next_station C (recent U) ≡ station_of_next C.ring base records
   known_place st = ⊎_elim
       (λ e. (k.begun e).station ∙ sym (ap (place_after C.ring base.station) (no_record e)))
       (λ (l : Last k.notes).

@@ -16,7 +16,7 @@ use Rattle.station.specs.Asking.{IsQuestion}
 use Rattle.station.specs.Letting.{supply_of}
 use Rattle.front.specs.declared.path.base_state.Base.{Base}
 use Rattle.front.specs.declared.path.record.Record.{Record}
-use Rattle.front.specs.Knows.{Knows}
+use Rattle.front.specs.Knows.{FrontKnows}
 use Rattle.front.specs.CreateTable.{HasTable}
 use Rattle.front.specs.declared.path.counted.Table.{Table}
 use Rattle.front.proofs.Tables.{question_leaves_table, table_stable}
@@ -29,8 +29,10 @@ use Rattle.front.proofs.Stays.{knows_stable}
 
 module _ (P : Program) (C : Sizes) where
   -- it may be asked for
-  pub may_ask : (h : List Entry) (station tag : ℕ) (k : Source) (s : Supply) (r : ℕ) → ((a g : ℕ) → s ≡ From a g → a < C.ring) →
-      ((a g : ℕ) → s ≡ From a g → (q : ℕ) × IsPending k r q station tag a g (unit_of P C h)) → MayAskFor P C h station tag k s
+  pub may_ask : (h : List Entry) (station tag : ℕ) (k : Source) (s : Supply) (r : ℕ) →
+      ((a g : ℕ) → s ≡ From a g → a < C.ring) →
+      ((a g : ℕ) → s ≡ From a g → (q : ℕ) × IsPending k r q station tag a g (unit_of P C h)) →
+      MayAskFor P C h station tag k s
   may_ask h station tag k (Known v) r small p = tt
   may_ask h station tag k (From a g) r small p =
       let x = p a g refl in
@@ -40,22 +42,22 @@ module _ (P : Program) (C : Sizes) where
     pub events : List Event
     pub asks : IsAskedFor r k (supply_of s) events
     pub adds : Adds P C front old new events
-    pub knows : (records : List Record) (base : Base) → Knows P C (unit_of P C old) records base → Knows P C (unit_of P C new) records base
+    pub knows : (records : List Record) (base : Base) → FrontKnows P C (unit_of P C old) records base → FrontKnows P C (unit_of P C new) records base
     pub table : (told : ℕ) (T : Table) → HasTable P (unit_of P C old) told T → HasTable P (unit_of P C new) told T
 
-  pub later : (old new : List Entry) (es : List Event) → Adds P C front old new es → (r station tag : ℕ) → IsTenant (unit_of P C old) r station tag IsAny →
-      IsTenant (unit_of P C new) r station tag IsAny
+  pub later : (old new : List Entry) (es : List Event) → Adds P C front old new es → (r station tag : ℕ) →
+      IsTenant (unit_of P C old) r station tag IsAny → IsTenant (unit_of P C new) r station tag IsAny
   later old new es a r station tag i =
-      subst (λ z. IsTenant (unit_of P C z) r station tag IsAny) (sym a.begins.is) (any_stays P C r station tag a.begins.more old (subst (IsLegal P C) a.begins.is a.legal)
-      (sym (ap renewals a.begins.is) ∙ a.one_table) i)
+      subst (λ z. IsTenant (unit_of P C z) r station tag IsAny) (sym a.begins.is) (any_stays P C r station tag a.begins.more old (subst (IsLegal P C) a.begins.is a.legal) (sym (ap renewals a.begins.is) ∙ a.one_table) i)
 
-  pub has_asked : (old new : List Entry) → IsLegal P C old → (r station tag : ℕ) (k : Source) (s : Supply) → IsTenant (unit_of P C old) r station tag IsAny → Asks P C old new station tag k s →
+  pub has_asked : (old new : List Entry) → IsLegal P C old → (r station tag : ℕ) (k : Source) (s : Supply) →
+      IsTenant (unit_of P C old) r station tag IsAny → Asks P C old new station tag k s →
       HasAsked old new r k s
   has_asked old new legal r station tag k (Known v) i e = record {
     events = [];
     asks = refl;
     adds = subst (λ h. Adds P C front old h []) (sym e) (record { begins = record { more = []; is = refl }; legal = legal; one_table = refl; mine = refl });
-    knows = λ records base x. subst (λ h. Knows P C (unit_of P C h) records base) (sym e) x;
+    knows = λ records base x. subst (λ h. FrontKnows P C (unit_of P C h) records base) (sym e) x;
     table = λ told T x. subst (λ h. HasTable P (unit_of P C h) told T) (sym e) x;
   }
   has_asked old new legal r station tag k (From a g) i w =
@@ -65,13 +67,14 @@ module _ (P : Program) (C : Sizes) where
         events = w.events;
         asks = subst (λ z. IsQuestion z k w.events) same w.question;
         adds = w.adds;
-        knows = λ records base x. stays_under P C (λ U. Knows P C U records base) (knows_stable P C records base) w.events (question_leaves P C records base w.r k w.events w.question) old new w.adds
-            x;
+        knows = λ records base x. stays_under P C (λ U. FrontKnows P C U records base) (knows_stable P C records base) w.events (question_leaves P C records base w.r k w.events w.question) old new w.adds x;
         table = λ told T x. stays_under P C (λ U. HasTable P U told T) (table_stable P C told T) w.events (question_leaves_table P C told T w.r k w.events w.question) old new w.adds x;
       }
 
   -- the question for source 1 leaves source 2
-  pub second_still : (old new : List Entry) (station tag : ℕ) (s : Supply) → Asks P C old new station tag First s → (r q a g : ℕ) → IsPending Second r q station tag a g (unit_of P C old) →
+  pub second_still : (old new : List Entry) (station tag : ℕ) (s : Supply) →
+      Asks P C old new station tag First s → (r q a g : ℕ) →
+      IsPending Second r q station tag a g (unit_of P C old) →
       IsPending Second r q station tag a g (unit_of P C new)
   second_still old new station tag (Known v) e r q a g i = subst (λ h. IsPending Second r q station tag a g (unit_of P C h)) (sym e) i
   second_still old new station tag (From b c) w r q a g i =

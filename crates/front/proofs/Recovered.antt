@@ -15,9 +15,9 @@ use Rattle.station.specs.Recovery.{IsMended as IsMendedThere, IsSquashed as IsSq
 use Rattle.front.specs.declared.path.base_state.Base.{Base}
 use Rattle.front.specs.declared.path.record.Record.{Record}
 use Rattle.front.specs.declared.recovery.Missed.{Missed}
-use Rattle.front.specs.Knows.{Knows}
-use Rattle.front.specs.Path.{GoesOn, told_of}
-use Rattle.front.specs.Recoveries.{IsCut, IsFirst, IsMended, IsMissAt, squash_event}
+use Rattle.front.specs.Knows.{FrontKnows}
+use Rattle.front.specs.Path.{YoungestGoesOn, rested_at}
+use Rattle.front.specs.Recoveries.{IsCut, IsFirst, MissIsMended, IsMissAt, squash_event}
 use Rattle.front.proofs.Recovering.{last_position, may_mend, may_squash, mend_step, mend_table, squash_step, squash_table}
 use Rattle.front.specs.CreateTable.{HasTable, IsRestored}
 use Rattle.front.specs.declared.path.counted.Table.{Table}
@@ -37,7 +37,7 @@ get_before (z ∷ xs) y (suc i) x lt e = get_before xs y i x (omega arith) e
 
 module _ (P : Program) (C : Sizes) where
   -- the youngest may be squashed
-  pub squash_allowed : (h : List Entry) → IsLegal P C h → (rest : List Record) (one : Record) (base : Base) → Knows P C (unit_of P C h) (rest ++ one ∷ []) base → (m : Missed)
+  pub squash_allowed : (h : List Entry) → IsLegal P C h → (rest : List Record) (one : Record) (base : Base) → FrontKnows P C (unit_of P C h) (rest ++ one ∷ []) base → (m : Missed)
       → IsMissAt P C h (rest ++ one ∷ []) m → m.at + 1 < length (rest ++ one ∷ []) → MaySquash P C h
   squash_allowed h legal rest one base k m i lt =
       let long = length-append rest (one ∷ []) in
@@ -48,11 +48,11 @@ module _ (P : Program) (C : Sizes) where
   pub record CutOne (old new : List Entry) (rest : List Record) (base : Base) (m : Missed) : Type 0 where
     pub p : ℕ
     pub adds : Adds P C front old new (squash_event p ∷ [])
-    pub knows : Knows P C (unit_of P C new) rest base
+    pub knows : FrontKnows P C (unit_of P C new) rest base
     pub miss : IsMissAt P C new rest m
 
   -- behind it
-  pub squash_done : (old new : List Entry) (rest : List Record) (one : Record) (base : Base) → Knows P C (unit_of P C old) (rest ++ one ∷ []) base → (m : Missed)
+  pub squash_done : (old new : List Entry) (rest : List Record) (one : Record) (base : Base) → FrontKnows P C (unit_of P C old) (rest ++ one ∷ []) base → (m : Missed)
       → IsMissAt P C old (rest ++ one ∷ []) m → m.at + 1 < length (rest ++ one ∷ []) → (station tag : ℕ) → IsSquashedThere P C front station tag old new → CutOne old new rest base m
   squash_done old new rest one base k m i lt station tag s =
       let long = length-append rest (one ∷ []) in
@@ -72,17 +72,17 @@ module _ (P : Program) (C : Sizes) where
     adds = adds_on P C front old mid new (map squash_event c.squashes) (squash_event p ∷ []) c.adds adds;
   }
 
-  pub squash_table_done : (old new : List Entry) (rest : List Record) (one : Record) (base : Base) → Knows P C (unit_of P C old) (rest ++ one ∷ []) base → (station tag : ℕ)
-      → IsSquashedThere P C front station tag old new → (T T' : Table) → HasTable P (unit_of P C old) (told_of base) T → IsRestored T T' station → HasTable P (unit_of P C new) (told_of base) T'
+  pub squash_table_done : (old new : List Entry) (rest : List Record) (one : Record) (base : Base) → FrontKnows P C (unit_of P C old) (rest ++ one ∷ []) base → (station tag : ℕ)
+      → IsSquashedThere P C front station tag old new → (T T' : Table) → HasTable P (unit_of P C old) (rested_at base) T → IsRestored T T' station → HasTable P (unit_of P C new) (rested_at base) T'
   squash_table_done old new rest one base k station tag s T T' table r = squash_table P C old new rest one base k s.p s.adds station tag s.named T T' table r
 
   -- the youngest is the miss: it may be mended
-  pub mend_allowed : (h : List Entry) → IsLegal P C h → (records : List Record) (base : Base) → Knows P C (unit_of P C h) records base → (m : Missed) → IsMissAt P C h records m
+  pub mend_allowed : (h : List Entry) → IsLegal P C h → (records : List Record) (base : Base) → FrontKnows P C (unit_of P C h) records base → (m : Missed) → IsMissAt P C h records m
       → length records ≡ m.at + 1 → SeesMiss P C h m.station
   mend_allowed h legal records base k m i n =
       let rest : List Record = take m.at records in
       let are : records ≡ rest ++ i.one ∷ [] = last_at_end records m.at i.one i.here n in
-      let k' : Knows P C (unit_of P C h) (rest ++ i.one ∷ []) base = subst (λ z. Knows P C (unit_of P C h) z base) are k in
+      let k' : FrontKnows P C (unit_of P C h) (rest ++ i.one ∷ []) base = subst (λ z. FrontKnows P C (unit_of P C h) z base) are k in
       let can = may_mend P C h legal rest i.one base k' m.next i.miss.p i.miss.tenant in
       let same = last_position P C h legal rest i.one base k' m.next i.miss.p i.miss.tenant in
       let t = i.miss.tenant in
@@ -104,20 +104,20 @@ module _ (P : Program) (C : Sizes) where
       }
 
   pub record Mended (begin new : List Entry) (records : List Record) (base : Base) (m : Missed) (squashed : ℕ) : Type 0 where
-    pub knows : (records' : List Record) → GoesOn m.next records records' → Knows P C (unit_of P C new) records' base
-    pub is : IsMended P C begin new m.station squashed
+    pub knows : (records' : List Record) → YoungestGoesOn m.next records records' → FrontKnows P C (unit_of P C new) records' base
+    pub is : MissIsMended P C begin new m.station squashed
 
-  pub mend_done : (begin old new : List Entry) (records : List Record) (base : Base) → Knows P C (unit_of P C old) records base → (m : Missed) → (i : IsMissAt P C old records m)
+  pub mend_done : (begin old new : List Entry) (records : List Record) (base : Base) → FrontKnows P C (unit_of P C old) records base → (m : Missed) → (i : IsMissAt P C old records m)
       → length records ≡ m.at + 1 → IsFirst (unit_of P C begin) i.miss.p → (squashed : ℕ) → IsCut P C begin old squashed → IsMendedThere P C front m.station old new
       → Mended begin new records base m squashed
   mend_done begin old new records base k m i n first squashed cut s =
       let rest : List Record = take m.at records in
       let are : records ≡ rest ++ i.one ∷ [] = last_at_end records m.at i.one i.here n in
-      let k' : Knows P C (unit_of P C old) (rest ++ i.one ∷ []) base = subst (λ z. Knows P C (unit_of P C old) z base) are k in
+      let k' : FrontKnows P C (unit_of P C old) (rest ++ i.one ∷ []) base = subst (λ z. FrontKnows P C (unit_of P C old) z base) are k in
       let z = mend_step P C old new rest i.one base k' s.p s.adds m.next i.miss.p i.miss.tenant in
       let same = z.same i.miss.p i.miss.tenant in
       record {
-        knows = λ records' goes. subst (λ y. Knows P C (unit_of P C new) y base) (sym (goes rest i.one are)) z.knows;
+        knows = λ records' goes. subst (λ y. FrontKnows P C (unit_of P C new) y base) (sym (goes rest i.one are)) z.knows;
         is = record {
           p = s.p;
           tag = i.one.tag;
@@ -129,10 +129,10 @@ module _ (P : Program) (C : Sizes) where
         };
       }
 
-  pub mend_table_done : (old new : List Entry) (records : List Record) (base : Base) → Knows P C (unit_of P C old) records base → (m : Missed) → (i : IsMissAt P C old records m)
-      → length records ≡ m.at + 1 → IsMendedThere P C front m.station old new → (T : Table) → HasTable P (unit_of P C old) (told_of base) T → HasTable P (unit_of P C new) (told_of base) T
+  pub mend_table_done : (old new : List Entry) (records : List Record) (base : Base) → FrontKnows P C (unit_of P C old) records base → (m : Missed) → (i : IsMissAt P C old records m)
+      → length records ≡ m.at + 1 → IsMendedThere P C front m.station old new → (T : Table) → HasTable P (unit_of P C old) (rested_at base) T → HasTable P (unit_of P C new) (rested_at base) T
   mend_table_done old new records base k m i n s T table =
       let rest : List Record = take m.at records in
       let are : records ≡ rest ++ i.one ∷ [] = last_at_end records m.at i.one i.here n in
-      let k' : Knows P C (unit_of P C old) (rest ++ i.one ∷ []) base = subst (λ z. Knows P C (unit_of P C old) z base) are k in
+      let k' : FrontKnows P C (unit_of P C old) (rest ++ i.one ∷ []) base = subst (λ z. FrontKnows P C (unit_of P C old) z base) are k in
       mend_table P C old new rest i.one base k' s.p s.adds m.next i.miss.p i.miss.tenant T table

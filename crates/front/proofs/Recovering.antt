@@ -22,10 +22,10 @@ use Rattle.inorder.proofs.Positions.{at_below}
 use Rattle.inorder.proofs.Sound.{IsSound}
 use Rattle.ruu_words.specs.Kinds.{IsAny, IsTenant}
 use Rattle.ruu_words.proofs.Stays.{any_stays, place_stays}
-use Rattle.front.specs.Path.{told_of}
+use Rattle.front.specs.Path.{rested_at}
 use Rattle.front.specs.declared.path.base_state.Base.{Base}
 use Rattle.front.specs.declared.path.record.Record.{Record}
-use Rattle.front.specs.Knows.{IsNewest, Knows, whats, IsFolded}
+use Rattle.front.specs.Knows.{IsNewest, FrontKnows, whats, IsFolded}
 use Rattle.front.specs.CreateTable.{HasTable, IsRestored}
 use Rattle.front.specs.declared.path.counted.Table.{Table}
 use Rattle.front.proofs.Tables.{table_cut, table_mended, table_stable}
@@ -35,7 +35,8 @@ use Rattle.front.proofs.Cuts.{both_same}
 use Rattle.front.proofs.Lists.{Last, all_front, all_rest, all_two, last_cases, whats_append}
 use Rattle.front.proofs.Named.{all_get, all_whats, at_past, one_named}
 use Rattle.front.proofs.Places.{kept_new}
-use Rattle.front.proofs.Splitting.{IsStable, event_legal, last_event, stays, stays_behind}
+use Rattle.front.proofs.Splitting.{IsStable, event_legal, stays, stays_behind}
+use Rattle.station.proofs.Splitting.{last_event}
 use Rattle.front.proofs.Stays.{knows_stable}
 use Rattle.front.proofs.Trails.{IsLastOn, IsNoted, last_on, trail_noted}
 use Rattle.inorder.proofs.Letting.{IsBesides}
@@ -65,7 +66,7 @@ missing_stable P C p x next U by s b a ok i =
       fact = m.fact;
     }
 
-module _ (P : Program) (C : Sizes) (h : List Entry) (legal : IsLegal P C h) (rest : List Record) (one : Record) (base : Base) (k : Knows P C (unit_of P C h) (rest ++ one ∷ []) base) where
+module _ (P : Program) (C : Sizes) (h : List Entry) (legal : IsLegal P C h) (rest : List Record) (one : Record) (base : Base) (k : FrontKnows P C (unit_of P C h) (rest ++ one ∷ []) base) where
   abbrev U : UpdateUnit
   U = unit_of P C h
 
@@ -81,8 +82,8 @@ module _ (P : Program) (C : Sizes) (h : List Entry) (legal : IsLegal P C h) (res
   abbrev x : Note
   x = youngest_note.one
 
-  untold : AllByRecursion (λ n. told_of base ≤ n.at) (fs ++ x ∷ [])
-  untold = subst (AllByRecursion (λ n. told_of base ≤ n.at)) youngest_note.is k.untold
+  untold : AllByRecursion (λ n. rested_at base ≤ n.at) (fs ++ x ∷ [])
+  untold = subst (AllByRecursion (λ n. rested_at base ≤ n.at)) youngest_note.is k.untold
 
   pub same_records : Rattle.front.proofs.Cuts.AreSame rest (whats fs) one x.what
   same_records = both_same rest (whats fs) one x.what (k.are ∙ (ap whats youngest_note.is ∙ whats_append fs (x ∷ [])))
@@ -96,16 +97,16 @@ module _ (P : Program) (C : Sizes) (h : List Entry) (legal : IsLegal P C h) (res
       let o = last_of_path in
       let Q : Record → Type 0 = λ r. (p : ℕ) (t : Tenant) → at U.tenants p ≡ Some t → is_old U p ≡ false → t.station ≡ r.station → t.tag ≡ r.tag → p < x.at in
       let noted : AllByRecursion (IsNoted P o.ts) fs = all_rest (IsNoted P o.ts) k.gone fs (subst (AllByRecursion (IsNoted P o.ts)) (sym o.before) (trail_noted P o.ts)) in
-      subst (AllByRecursion Q) (sym same_records.fronts) (all_whats Q fs (all_two (IsNoted P o.ts) (λ n. told_of base ≤ n.at) (λ n. Q n.what) older fs noted
-      (all_front (λ n. told_of base ≤ n.at) fs (x ∷ []) untold)))
+      subst (AllByRecursion Q) (sym same_records.fronts) (all_whats Q fs (all_two (IsNoted P o.ts) (λ n. rested_at base ≤ n.at) (λ n. Q n.what) older fs noted (all_front (λ n. rested_at base ≤ n.at) fs (x ∷ []) untold)))
     where
-      older : (n : Note) → IsNoted P last_of_path.ts n → told_of base ≤ n.at → (p : ℕ) (t : Tenant) → at U.tenants p ≡ Some t → is_old U p ≡ false → t.station ≡ n.what.station → t.tag ≡ n.what.tag →
+      older : (n : Note) → IsNoted P last_of_path.ts n → rested_at base ≤ n.at → (p : ℕ) (t : Tenant) →
+          at U.tenants p ≡ Some t → is_old U p ≡ false → t.station ≡ n.what.station → t.tag ≡ n.what.tag →
           p < x.at
       older n i behind p t is new place tag =
           let o = last_of_path in
           let below = at_below o.ts n.at i.tenant i.is in
           let there : at U.tenants n.at ≡ Some i.tenant = ap (λ z. at z n.at) o.split ∙ at_past o.ys (o.tenant ∷ o.ts) n.at i.tenant (Rattle.inorder.proofs.Positions.at_more o.tenant o.ts n.at i.tenant i.is) in
-          let same : p ≡ n.at = one_named P C h legal p n.at t i.tenant is there new (kept_new P C U (rest ++ one ∷ []) base (IsFolded U (told_of base)) k n.at behind) (place ∙ ap (λ (z : Record). z.station) (sym i.what)) (tag ∙ ap (λ (z : Record). z.tag) (sym i.what)) in
+          let same : p ≡ n.at = one_named P C h legal p n.at t i.tenant is there new (kept_new P C U (rest ++ one ∷ []) base (IsFolded U (rested_at base)) k n.at behind) (place ∙ ap (λ (z : Record). z.station) (sym i.what)) (tag ∙ ap (λ (z : Record). z.tag) (sym i.what)) in
           let last : x.at ≡ length o.ts = ap (λ (z : Note). z.at) o.is in
           omega (arith, same, below, last)
 
@@ -122,7 +123,7 @@ module _ (P : Program) (C : Sizes) (h : List Entry) (legal : IsLegal P C h) (res
       let o = last_of_path in
       let there = at_last P C U ok (k.gone ++ fs) x o in
       let what : record_of P o.tenant ≡ one = ap (λ (z : Note). z.what) (sym o.is) ∙ sym same_records.ones in
-      let new = kept_new P C U (rest ++ one ∷ []) base (IsFolded U (told_of base)) k x.at (all_rest (λ n. told_of base ≤ n.at) fs (x ∷ []) untold).0 in
+      let new = kept_new P C U (rest ++ one ∷ []) base (IsFolded U (rested_at base)) k x.at (all_rest (λ n. rested_at base ≤ n.at) fs (x ∷ []) untold).0 in
       one_named P C h legal p x.at m.tenant o.tenant m.is there m.new new (m.station_is ∙ ap (λ (z : Record). z.station) (sym what)) (m.tag_is ∙ ap (λ (z : Record). z.tag) (sym what))
 
   pub last_missing : (next p : ℕ) → IsMissOf p one next U → Has U x.at (IsMissing next)
@@ -141,23 +142,16 @@ elsewhere : (P : Program) (C : Sizes) (U : UpdateUnit) (by p q : ℕ) (act : Act
     → IsMissOf q x next (applied P C U by (On p act))
 elsewhere P C U by p q act x next a ne m = ⊎_elim
     (λ (z : IsActed P U.tenants by p act a.tenant q m.tenant). absurd (ne z.position))
-    (λ (z : IsLeft P U.tenants by p act q m.tenant). record {
-      tenant = m.tenant;
-      is = z.now;
-      new = old_kept P C U by (On p act) (λ e. cc e) a q ∙ m.new;
-      station_is = m.station_is;
-      tag_is = m.tag_is;
-      fact = m.fact;
-    })
+    (λ (z : IsLeft P U.tenants by p act q m.tenant). record { tenant = m.tenant; is = z.now; new = old_kept P C U by (On p act) (λ e. cc e) a q ∙ m.new; station_is = m.station_is; tag_is = m.tag_is; fact = m.fact })
     (at_changed P U.tenants by p act a.tenant a.is q m.tenant m.is)
 
 less_not : (p q : ℕ) → p < q → p ≢ q
 less_not p q h e = absurd (omega (arith, h, e))
 
-module _ (P : Program) (C : Sizes) (old new : List Entry) (rest : List Record) (one : Record) (base : Base) (k : Knows P C (unit_of P C old) (rest ++ one ∷ []) base) where
+module _ (P : Program) (C : Sizes) (old new : List Entry) (rest : List Record) (one : Record) (base : Base) (k : FrontKnows P C (unit_of P C old) (rest ++ one ∷ []) base) where
   -- behind a squash
   pub record SquashedOne (i : ℕ) (r : Record) (next q : ℕ) : Type 0 where
-    pub knows : Knows P C (unit_of P C new) rest base
+    pub knows : FrontKnows P C (unit_of P C new) rest base
     pub miss : IsMissOf q r next (unit_of P C new)
 
   pub squash_step : (p : ℕ) → Adds P C front old new (Does (On p Squash) ∷ []) → (i : ℕ) (r : Record) (next q : ℕ) → slice_get rest i ≡ Some r → IsMissOf q r next (unit_of P C old)
@@ -166,7 +160,7 @@ module _ (P : Program) (C : Sizes) (old new : List Entry) (rest : List Record) (
       let l = last_event P C front old new (Does (On p Squash)) [] adds in
       let legal = event_legal P C old new (Does (On p Squash)) [] l in
       let a = legal.1.1 in
-      let there = stays P C (λ U. Knows P C U (rest ++ one ∷ []) base) (knows_stable P C (rest ++ one ∷ []) base) old l.point l.before k in
+      let there = stays P C (λ U. FrontKnows P C U (rest ++ one ∷ []) base) (knows_stable P C (rest ++ one ∷ []) base) old l.point l.before k in
       let missing = stays P C (IsMissOf q r next) (missing_stable P C q r next) old l.point l.before m in
       let ok = unit_sound P C l.point legal.0 in
       let last = youngest_note P C l.point legal.0 rest one base there in
@@ -176,7 +170,7 @@ module _ (P : Program) (C : Sizes) (old new : List Entry) (rest : List Record) (
       let less = miss_older P C l.point legal.0 rest one base there i r next q e missing in
       let ne : q ≢ p = less_not q p (subst (λ z. q < z) (sym at_p) less) in
       record {
-        knows = stays_behind P C (λ U. Knows P C U rest base) (knows_stable P C rest base) old new (Does (On p Squash)) [] l behind;
+        knows = stays_behind P C (λ U. FrontKnows P C U rest base) (knows_stable P C rest base) old new (Does (On p Squash)) [] l behind;
         miss = stays_behind P C (IsMissOf q r next) (missing_stable P C q r next) old new (Does (On p Squash)) [] l (elsewhere P C (unit_of P C l.point) front p q Squash r next a ne missing);
       }
 
@@ -194,36 +188,36 @@ module _ (P : Program) (C : Sizes) (old new : List Entry) (rest : List Record) (
 
   -- its table
   pub squash_table : (p : ℕ) → Adds P C front old new (Does (On p Squash) ∷ []) → (station tag : ℕ) → IsTenant (unit_of P C new) p station tag IsAny → (T T' : Table)
-      → HasTable P (unit_of P C old) (told_of base) T → IsRestored T T' station → HasTable P (unit_of P C new) (told_of base) T'
+      → HasTable P (unit_of P C old) (rested_at base) T → IsRestored T T' station → HasTable P (unit_of P C new) (rested_at base) T'
   squash_table p adds station tag named T T' table restored =
       let l = last_event P C front old new (Does (On p Squash)) [] adds in
       let legal = event_legal P C old new (Does (On p Squash)) [] l in
       let a = legal.1.1 in
-      let there = stays P C (λ U. Knows P C U (rest ++ one ∷ []) base) (knows_stable P C (rest ++ one ∷ []) base) old l.point l.before k in
+      let there = stays P C (λ U. FrontKnows P C U (rest ++ one ∷ []) base) (knows_stable P C (rest ++ one ∷ []) base) old l.point l.before k in
       let ok = unit_sound P C l.point legal.0 in
       let last = youngest_note P C l.point legal.0 rest one base there in
       let path : List Note = there.gone ++ last.front in
       let whole : trail P (unit_of P C l.point).tenants ≡ path ++ last.one ∷ [] = there.path ∙ (ap (λ z. there.gone ++ z) last.is ∙ sym (append_assoc there.gone last.front (last.one ∷ []))) in
       let noted : IsNoted P (unit_of P C l.point).tenants last.one = (all_rest (IsNoted P (unit_of P C l.point).tenants) path (last.one ∷ []) (subst (AllByRecursion (IsNoted P (unit_of P C l.point).tenants)) whole (trail_noted P (unit_of P C l.point).tenants))).0 in
       let newest : IsNewest (unit_of P C l.point) last.one = (all_rest (IsNewest (unit_of P C l.point)) last.front (last.one ∷ []) (subst (AllByRecursion (IsNewest (unit_of P C l.point))) last.is there.newest)).0 in
-      let untold : told_of base ≤ last.one.at = (all_rest (λ n. told_of base ≤ n.at) last.front (last.one ∷ []) (subst (AllByRecursion (λ n. told_of base ≤ n.at)) last.is there.untold)).0 in
+      let untold : rested_at base ≤ last.one.at = (all_rest (λ n. rested_at base ≤ n.at) last.front (last.one ∷ []) (subst (AllByRecursion (λ n. rested_at base ≤ n.at)) last.is there.untold)).0 in
       let o = last_of_path P C l.point legal.0 rest one base there in
       let this = acted P C (unit_of P C l.point) ok path last.one o p a.tenant a.is a.may.live a.may.youngest in
       let at_p = acts_at P C l.point legal.0 rest one base there p a.tenant a.is a.may.live a.may.youngest in
       let cut = squash_trail P C (unit_of P C l.point) ok path last.one o front p a this in
       let same = its_station p adds station tag named last.one noted at_p in
-      let before = stays P C (λ U. HasTable P U (told_of base) T) (table_stable P C (told_of base) T) old l.point l.before table in
-      let behind = table_cut P C (unit_of P C l.point) front p Squash a ok (told_of base) T T' before path last.one untold whole cut newest noted (subst (IsRestored T T') same restored) in
-      stays_behind P C (λ U. HasTable P U (told_of base) T') (table_stable P C (told_of base) T') old new (Does (On p Squash)) [] l behind
+      let before = stays P C (λ U. HasTable P U (rested_at base) T) (table_stable P C (rested_at base) T) old l.point l.before table in
+      let behind = table_cut P C (unit_of P C l.point) front p Squash a ok (rested_at base) T T' before path last.one untold whole cut newest noted (subst (IsRestored T T') same restored) in
+      stays_behind P C (λ U. HasTable P U (rested_at base) T') (table_stable P C (rested_at base) T') old new (Does (On p Squash)) [] l behind
 
   -- behind a mending
-  pub mend_table : (p : ℕ) → Adds P C front old new (Does (On p Mend) ∷ []) → (next q : ℕ) → IsMissOf q one next (unit_of P C old) → (T : Table) → HasTable P (unit_of P C old) (told_of base) T
-      → HasTable P (unit_of P C new) (told_of base) T
+  pub mend_table : (p : ℕ) → Adds P C front old new (Does (On p Mend) ∷ []) → (next q : ℕ) → IsMissOf q one next (unit_of P C old) → (T : Table) → HasTable P (unit_of P C old) (rested_at base) T
+      → HasTable P (unit_of P C new) (rested_at base) T
   mend_table p adds next q m T table =
       let l = last_event P C front old new (Does (On p Mend)) [] adds in
       let legal = event_legal P C old new (Does (On p Mend)) [] l in
       let a = legal.1.1 in
-      let there = stays P C (λ U. Knows P C U (rest ++ one ∷ []) base) (knows_stable P C (rest ++ one ∷ []) base) old l.point l.before k in
+      let there = stays P C (λ U. FrontKnows P C U (rest ++ one ∷ []) base) (knows_stable P C (rest ++ one ∷ []) base) old l.point l.before k in
       let missing : IsMissOf q one next (unit_of P C l.point) = stays P C (IsMissOf q one next) (missing_stable P C q one next) old l.point l.before m in
       let ok = unit_sound P C l.point legal.0 in
       let last = youngest_note P C l.point legal.0 rest one base there in
@@ -235,12 +229,12 @@ module _ (P : Program) (C : Sizes) (old new : List Entry) (rest : List Record) (
       let fate : o.tenant.fate ≡ Miss next = ap (λ (z : Tenant). z.fate) (same_tenant o.tenant its.tenant (sym (at_last P C (unit_of P C l.point) ok path last.one o) ∙ its.is)) ∙ its.fact.fate in
       let y : Note = mended_note P C (unit_of P C l.point) ok path last.one o next in
       let on = mend_trail P C (unit_of P C l.point) ok path last.one o front p next a this fate in
-      let before = stays P C (λ U. HasTable P U (told_of base) T) (table_stable P C (told_of base) T) old l.point l.before table in
-      let behind = table_mended P C (unit_of P C l.point) front p Mend a ok (told_of base) T before path last.one y whole on refl refl refl refl in
-      stays_behind P C (λ U. HasTable P U (told_of base) T) (table_stable P C (told_of base) T) old new (Does (On p Mend)) [] l behind
+      let before = stays P C (λ U. HasTable P U (rested_at base) T) (table_stable P C (rested_at base) T) old l.point l.before table in
+      let behind = table_mended P C (unit_of P C l.point) front p Mend a ok (rested_at base) T before path last.one y whole on refl refl refl refl in
+      stays_behind P C (λ U. HasTable P U (rested_at base) T) (table_stable P C (rested_at base) T) old new (Does (On p Mend)) [] l behind
 
   pub record MendedOne (p next : ℕ) : Type 0 where
-    pub knows : Knows P C (unit_of P C new) (rest ++ record one { next = next } ∷ []) base
+    pub knows : FrontKnows P C (unit_of P C new) (rest ++ record one { next = next } ∷ []) base
     pub named : IsTenant (unit_of P C new) p one.station one.tag IsAny
     pub same : (q : ℕ) → IsMissOf q one next (unit_of P C old) → q ≡ p
 
@@ -249,7 +243,7 @@ module _ (P : Program) (C : Sizes) (old new : List Entry) (rest : List Record) (
       let l = last_event P C front old new (Does (On p Mend)) [] adds in
       let legal = event_legal P C old new (Does (On p Mend)) [] l in
       let a = legal.1.1 in
-      let there = stays P C (λ U. Knows P C U (rest ++ one ∷ []) base) (knows_stable P C (rest ++ one ∷ []) base) old l.point l.before k in
+      let there = stays P C (λ U. FrontKnows P C U (rest ++ one ∷ []) base) (knows_stable P C (rest ++ one ∷ []) base) old l.point l.before k in
       let missing : IsMissOf q one next (unit_of P C l.point) = stays P C (IsMissOf q one next) (missing_stable P C q one next) old l.point l.before m in
       let ok = unit_sound P C l.point legal.0 in
       let last = youngest_note P C l.point legal.0 rest one base there in
@@ -262,8 +256,7 @@ module _ (P : Program) (C : Sizes) (old new : List Entry) (rest : List Record) (
       let long : (l.after ++ entry front (Does (On p Mend)) ∷ []) ++ l.point ≡ l.after ++ entry front (Does (On p Mend)) ∷ l.point = append_assoc l.after (entry front (Does (On p Mend)) ∷ []) l.point in
       let named = any_stays P C p one.station one.tag (l.after ++ entry front (Does (On p Mend)) ∷ []) l.point (subst (IsLegal P C) (sym long) l.legal) (ap renewals (long ∙ sym l.is) ∙ l.since) point_named in
       record {
-        knows = stays_behind P C (λ U. Knows P C U (rest ++ record one { next = next } ∷ []) base) (knows_stable P C (rest ++ record one { next = next } ∷ []) base) old new (Does (On p Mend)) [] l
-            behind;
+        knows = stays_behind P C (λ U. FrontKnows P C U (rest ++ record one { next = next } ∷ []) base) (knows_stable P C (rest ++ record one { next = next } ∷ []) base) old new (Does (On p Mend)) [] l behind;
         named = subst (λ z. IsTenant (unit_of P C z) p one.station one.tag IsAny) (long ∙ sym l.is) named;
         same = λ r mr. one_named_old r q mr m ∙ same;
       }

@@ -1,6 +1,5 @@
 -- The oldest goes to the base registers.
-use Rattle.std.proofs.Common.{◌≡◌, ◌≢◌, ℕ, zero, suc, ◌<◌, ◌≤◌, Bool, true, false, cond, eqb, eqb-true, List, [], ◌∷◌, ◌++◌, length, Option, Some, None, refl, sym, ap, ◌∙◌, subst, inl, inr, arith}
-use Rattle.std.proofs.Common.{append_assoc, true≢false}
+use Rattle.std.proofs.Common.{◌≡◌, ◌≢◌, ℕ, zero, suc, ◌<◌, ◌≤◌, Bool, true, false, cond, eqb, eqb-true, List, [], ◌∷◌, ◌++◌, length, Option, Some, None, refl, sym, ap, ◌∙◌, subst, inl, inr, arith, append_assoc, true≢false}
 use Rattle.std.proofs.lemmas.Bool.{le-leb}
 use Rattle.std.specs.List.{AllByRecursion}
 use Rattle.std.specs.Prelude.{slice_index}
@@ -23,8 +22,8 @@ use Rattle.front.specs.declared.path.Path.{Path}
 use Rattle.front.specs.declared.path.record.Record.{Record}
 use Rattle.front.specs.Creators.{creator_note, newest_note, position}
 use Rattle.front.specs.Fetching.{HasLeft, IsLeft, OldestLeft}
-use Rattle.front.specs.Knows.{IsFolded, IsGone, IsNewest, IsPassed, IsReady, Knows, Stands, whats}
-use Rattle.front.specs.Path.{Releases, made_of, told_of, with_left}
+use Rattle.front.specs.Knows.{IsFolded, IsGone, IsNewest, IsPassed, RecordsAreReady, FrontKnows, Stands, whats}
+use Rattle.front.specs.Path.{Releases, made_of, rested_at, with_left}
 use Rattle.front.specs.Trail.{Note, is_link, record_of}
 use Rattle.front.proofs.CreateVector.{newest_both}
 use Rattle.front.proofs.Lists.{all_both, all_map, whats_length}
@@ -46,9 +45,9 @@ tail_of : (a b : Record) (us vs : List Record) → a ∷ us ≡ b ∷ vs → us 
 tail_of a b us vs e = cc e
 
 -- whoever leaves, nobody more is told
-pub released_told : (ring left : ℕ) (old : Path) (result : Option Record) (new : Path) → Releases ring left old result new → told_of new.base ≡ told_of old.base
-released_told ring left old None new r = ap (λ (z : Path). told_of z.base) r.1
-released_told ring left old (Some x) new r = ap told_of r.1.base
+pub released_told : (ring left : ℕ) (old : Path) (result : Option Record) (new : Path) → Releases ring left old result new → rested_at new.base ≡ rested_at old.base
+released_told ring left old None new r = ap (λ (z : Path). rested_at z.base) r.1
+released_told ring left old (Some x) new r = ap rested_at r.1.base
 
 module _ (P : Program) (C : Sizes) (h : List Entry) (legal : IsLegal P C h) where
   abbrev U : UpdateUnit
@@ -78,7 +77,7 @@ module _ (P : Program) (C : Sizes) (h : List Entry) (legal : IsLegal P C h) wher
       its_left : HasLeft left noted.tenant
       its_left =
           let i = gone.tenant in
-          let new = kept_new P C U records base Again k n.at (subst (AllByRecursion (λ n. told_of base ≤ n.at)) e k.untold).0 in
+          let new = kept_new P C U records base Again k n.at (subst (AllByRecursion (λ n. rested_at base ≤ n.at)) e k.untold).0 in
           let p : gone.p ≡ n.at = one_named P C h legal gone.p n.at i.tenant noted.tenant i.is noted.is i.new new (i.station_is ∙ ap (λ (z : Record). z.station) (sym noted.what)) (i.tag_is ∙ ap (λ (z : Record). z.tag) (sym noted.what)) in
           subst (HasLeft left) (same_tenant i.tenant noted.tenant (sym i.is ∙ (ap (at U.tenants) p ∙ noted.is))) i.fact
 
@@ -87,8 +86,7 @@ module _ (P : Program) (C : Sizes) (h : List Entry) (legal : IsLegal P C h) wher
 
       note_made : n.what.destination ≢ 0 → value_of U.tenants (Some n.at) ≡ Some (made_of n.what left)
       note_made writes =
-          ap made_by noted.is ∙ (left_made n.at noted.tenant noted.is left its_left (λ z. writes (ap (λ (y : Record). y.destination) (sym noted.what) ∙ z)) ∙
-          ap (λ (y : Record). Some (made_of y left)) noted.what)
+          ap made_by noted.is ∙ (left_made n.at noted.tenant noted.is left its_left (λ z. writes (ap (λ (y : Record). y.destination) (sym noted.what) ∙ z)) ∙ ap (λ (y : Record). Some (made_of y left)) noted.what)
 
       pub base_more : (r : ℕ) → r < 34 → value_of U.tenants (position (creator_note (k.gone ++ n ∷ []) r)) ≡ Some (slice_index (write base.registers n.what.destination (made_of n.what left)) r)
       base_more zero small = ap Some (sym (read_zero base.registers n.what.destination (made_of n.what left) (sym (some_same 0 (slice_index base.registers 0) (k.base_is 0 small)))))
@@ -106,15 +104,12 @@ module _ (P : Program) (C : Sizes) (h : List Entry) (legal : IsLegal P C h) wher
           go true f true g =
               let same : n.what.destination ≡ suc r = eqb-true n.what.destination (suc r) g in
               let writes : n.what.destination ≢ 0 = λ z. absurd (omega (arith, same, z)) in
-              ap (λ z. value_of U.tenants (position z)) (noted_as true f (k.gone ++ n ∷ []) ∙ (newest_both None k.gone (n ∷ []) (suc r) ∙
-              ap (λ b. cond b (Some n) (newest_note None k.gone (suc r))) g))
+              ap (λ z. value_of U.tenants (position z)) (noted_as true f (k.gone ++ n ∷ []) ∙ (newest_both None k.gone (n ∷ []) (suc r) ∙ ap (λ b. cond b (Some n) (newest_note None k.gone (suc r))) g))
               ∙ (note_made writes
-              ∙ ap Some (sym (read_same base.registers r (made_of n.what left) (omega (arith, k.wide, small))) ∙
-              ap (λ z. slice_index (write base.registers z (made_of n.what left)) (suc r)) (sym same)))
+              ∙ ap Some (sym (read_same base.registers r (made_of n.what left) (omega (arith, k.wide, small))) ∙ ap (λ z. slice_index (write base.registers z (made_of n.what left)) (suc r)) (sym same)))
           go true f false g =
               let ne : n.what.destination ≢ suc r = not_eqb n.what.destination (suc r) g in
-              ap (λ z. value_of U.tenants (position z)) (noted_as true f (k.gone ++ n ∷ []) ∙ (newest_both None k.gone (n ∷ []) (suc r) ∙
-              (ap (λ b. cond b (Some n) (newest_note None k.gone (suc r))) g ∙ sym (noted_as true f k.gone))))
+              ap (λ z. value_of U.tenants (position z)) (noted_as true f (k.gone ++ n ∷ []) ∙ (newest_both None k.gone (n ∷ []) (suc r) ∙ (ap (λ b. cond b (Some n) (newest_note None k.gone (suc r))) g ∙ sym (noted_as true f k.gone))))
               ∙ other ne
 
     pub next_is : (n : Note) (ns : List Note) → k.notes ≡ n ∷ ns → C.ring ≤ length records → n.what.station ≡ next_station C (recent U)
@@ -123,12 +118,13 @@ module _ (P : Program) (C : Sizes) (h : List Entry) (legal : IsLegal P C h) wher
         let whole : C.ring ≡ length (n ∷ ns) = omega (arith, full, long, k.room, ap (λ z. length z) e) in
         oldest_place P C U records base Again k (stands_right P C h legal) n ns e whole
 
-  module _ (records : List Record) (base : Base) (k : Knows P C U records base) where
+  module _ (records : List Record) (base : Base) (k : FrontKnows P C U records base) where
     -- ready for the next one
-    pub ready_now : 2 ≤ C.ring → (left : ℕ) → OldestLeft C U records left → (old : Path) → old.records ≡ records → old.base ≡ base → (result : Option Record) (new : Path) →
-        Releases C.ring left old result new → IsReady P C U new.records new.base
+    pub ready_now : 2 ≤ C.ring → (left : ℕ) → OldestLeft C U records left → (old : Path) →
+        old.records ≡ records → old.base ≡ base → (result : Option Record) (new : Path) →
+        Releases C.ring left old result new → RecordsAreReady P C U new.records new.base
     ready_now least left oldest old is_records is_base None new r =
-        let same : IsReady P C U old.records old.base = subst (λ (z : List Record × Base). IsReady P C U z.0 z.1) (λ i. (sym is_records i, sym is_base i)) (record {
+        let same : RecordsAreReady P C U old.records old.base = subst (λ (z : List Record × Base). RecordsAreReady P C U z.0 z.1) (λ i. (sym is_records i, sym is_base i)) (record {
           stands = record {
             gone = k.gone;
             notes = k.notes;
@@ -137,7 +133,7 @@ module _ (P : Program) (C : Sizes) (h : List Entry) (legal : IsLegal P C h) wher
             room = k.room;
             begun = k.begun;
             retired = k.retired;
-            again = all_map (IsFolded U (told_of base)) (IsPassed C U (told_of base)) (λ n x. inl x) k.gone k.again;
+            again = all_map (IsFolded U (rested_at base)) (IsPassed C U (rested_at base)) (λ n x. inl x) k.gone k.again;
             newest = k.newest;
             past = k.past;
             since = k.since;
@@ -147,7 +143,7 @@ module _ (P : Program) (C : Sizes) (h : List Entry) (legal : IsLegal P C h) wher
           };
           free = subst (λ z. length z < C.ring) is_records r.0;
         }) in
-        subst (λ (z : Path). IsReady P C U z.records z.base) (sym r.1) same
+        subst (λ (z : Path). RecordsAreReady P C U z.records z.base) (sym r.1) same
     ready_now least left oldest old is_records is_base (Some x) new r = go k.notes refl
       where
         are : records ≡ x ∷ new.records
@@ -156,7 +152,7 @@ module _ (P : Program) (C : Sizes) (h : List Entry) (legal : IsLegal P C h) wher
         full : C.ring ≤ length records
         full = subst (λ z. C.ring ≤ length z) is_records r.0
 
-        go : (xs : List Note) → k.notes ≡ xs → IsReady P C U new.records new.base
+        go : (xs : List Note) → k.notes ≡ xs → RecordsAreReady P C U new.records new.base
         go [] e = let n = ap (λ z. length z) (sym are ∙ (k.are ∙ ap whats e)) in absurd (omega arith)
         go (n ∷ ns) e =
             let both : n.what ∷ whats ns ≡ x ∷ new.records = sym (ap whats e) ∙ (sym k.are ∙ are) in
@@ -164,27 +160,26 @@ module _ (P : Program) (C : Sizes) (h : List Entry) (legal : IsLegal P C h) wher
             let rest : new.records ≡ whats ns = sym (tail_of n.what x (whats ns) new.records both) in
             let gone : IsLeft U n.what left = subst (λ z. IsLeft U z left) (sym one) (oldest x new.records are full) in
             let base_is : new.base ≡ with_left base n.what left = r.1.base ∙ (λ i. with_left (is_base i) (sym one i) left) in
-            let long = notes_length P C U records base (IsFolded U (told_of base)) k in
+            let long = notes_length P C U records base (IsFolded U (rested_at base)) k in
             let count : length k.notes ≡ suc (length ns) = ap (λ z. length z) e in
             let few : length new.records ≡ length ns = ap (λ z. length z) rest ∙ whats_length ns in
-            let stands : Stands P C U new.records (with_left base n.what left) (IsPassed C U (told_of base)) = record {
+            let stands : Stands P C U new.records (with_left base n.what left) (IsPassed C U (rested_at base)) = record {
               gone = k.gone ++ n ∷ [];
               notes = ns;
               path = k.path ∙ (ap (λ z. k.gone ++ z) e ∙ sym (append_assoc k.gone (n ∷ []) ns));
               are = rest;
               room = omega (arith, k.room, count);
               begun = λ none. let zero_long : length ns ≡ 0 = ap (λ z. length z) none in absurd (omega (arith, least, full, long, count, zero_long));
-              retired = all_both (IsGone U) k.gone (n ∷ []) k.retired (note_gone records base (IsFolded U (told_of base)) k n ns e left gone, tt);
-              again = all_both (IsPassed C U (told_of base)) k.gone (n ∷ []) (all_map (IsFolded U (told_of base)) (IsPassed C U (told_of base)) (λ n x. inl x) k.gone k.again)
-                  (inr (next_is records base (IsFolded U (told_of base)) k n ns e full), tt);
+              retired = all_both (IsGone U) k.gone (n ∷ []) k.retired (note_gone records base (IsFolded U (rested_at base)) k n ns e left gone, tt);
+              again = all_both (IsPassed C U (rested_at base)) k.gone (n ∷ []) (all_map (IsFolded U (rested_at base)) (IsPassed C U (rested_at base)) (λ n x. inl x) k.gone k.again) (inr (next_is records base (IsFolded U (rested_at base)) k n ns e full), tt);
               newest = (subst (AllByRecursion (IsNewest U)) e k.newest).1;
               past = k.past;
               since = k.since;
-              untold = (subst (AllByRecursion (λ n. told_of base ≤ n.at)) e k.untold).1;
+              untold = (subst (AllByRecursion (λ n. rested_at base ≤ n.at)) e k.untold).1;
               wide = length_write base.registers n.what.destination (made_of n.what left) ∙ k.wide;
-              base_is = base_more records base (IsFolded U (told_of base)) k n ns e left gone;
+              base_is = base_more records base (IsFolded U (rested_at base)) k n ns e left gone;
             } in
             record {
-              stands = subst (λ z. Stands P C U new.records z (IsPassed C U (told_of z))) (sym base_is) stands;
+              stands = subst (λ z. Stands P C U new.records z (IsPassed C U (rested_at z))) (sym base_is) stands;
               free = omega (arith, few, count, k.room);
             }

@@ -1,102 +1,28 @@
--- What a call has added, taken apart: the last own event, what others added behind it, and what was before.
-use Rattle.std.proofs.Common.{◌≡◌, ◌≢◌, ℕ, cond, List, [], ◌∷◌, ◌++◌, map, length, refl, sym, ap, ◌∙◌, subst, append_assoc, eq-eqb, ne_eqb, arith}
-use mathlib.Core.Logic.{dite}
-use native.Mathlib.Decide.{ℕ_discrete}
+-- What a call of the front has added, taken apart: what others keep behind its last event, and what stays.
+use Rattle.std.proofs.Common.{◌≡◌, ℕ, List, [], ◌∷◌, ◌++◌, length, refl, sym, ap, ◌∙◌, subst, arith, length-append}
 use Rattle.std.specs.List.{AllByRecursion}
 use Rattle.instructions.specs.Programs.{Program}
 use Rattle.inorder.specs.declared.history.Entry.{Entry}
 use Rattle.inorder.specs.declared.history.Event.{Event}
 use Rattle.inorder.specs.declared.history.Event.TheVariants.{Does, Marks, Refuses}
 use Rattle.inorder.specs.declared.history.Step.{Step}
-use Rattle.inorder.specs.History.{IsLegal, entry, front, own, unit_of, renewals, StartsWith}
+use Rattle.inorder.specs.History.{IsLegal, entry, front, own, unit_of}
 use Rattle.inorder.specs.OneHistory.{Adds}
 use Rattle.inorder.specs.Legal.{Allowed, applied}
 use Rattle.inorder.specs.Unit.{Sizes, UpdateUnit}
-use Rattle.inorder.proofs.Histories.{legal_before, own-append, unit_sound, none_to, none_from}
+use Rattle.inorder.proofs.Histories.{legal_before, own-append, unit_sound}
 use Rattle.inorder.proofs.Letting.{IsBesides}
 use Rattle.inorder.proofs.Sound.{IsSound}
 use Rattle.ruu_words.proofs.Stays.{front_stays}
-
-own_here : (by : ℕ) (e : Entry) (es : List Entry) → e.by ≡ by → own by (e ∷ es) ≡ e ∷ own by es
-own_here by e es h = ap (λ b. cond b (e ∷ own by es) (own by es)) (eq-eqb e.by by h)
-
-own_else : (by : ℕ) (e : Entry) (es : List Entry) → e.by ≢ by → own by (e ∷ es) ≡ own by es
-own_else by e es h = ap (λ b. cond b (e ∷ own by es) (own by es)) (ne_eqb e.by by h)
+use Rattle.station.proofs.Splitting.{LastEvent, last_event}
 
 no_more : (xs ys : List Entry) → xs ++ ys ≡ ys → xs ≡ []
 no_more [] ys e = refl
-no_more (x ∷ xs) ys e = let n = ap (λ z. length z) e in let m = Rattle.std.proofs.Common.length-append xs ys in absurd (omega arith)
-
-cut_back : (xs ys zs : List Entry) → xs ++ zs ≡ ys ++ zs → xs ≡ ys
-cut_back [] ys zs e = sym (no_more ys zs (sym e))
-cut_back (x ∷ xs) [] zs e = no_more (x ∷ xs) zs e
-cut_back (x ∷ xs) (y ∷ ys) zs e = λ i. head_of x y (xs ++ zs) (ys ++ zs) e i ∷ cut_back xs ys zs (tail_of x y (xs ++ zs) (ys ++ zs) e) i
-  where
-    head_of : (a b : Entry) (us vs : List Entry) → a ∷ us ≡ b ∷ vs → a ≡ b
-    head_of a b us vs e = cc e
-
-    tail_of : (a b : Entry) (us vs : List Entry) → a ∷ us ≡ b ∷ vs → us ≡ vs
-    tail_of a b us vs e = cc e
-
--- the last own entry of these
-record LastOwn (by : ℕ) (more : List Entry) (e : Entry) (es : List Entry) : Type 0 where
-  pub after : List Entry
-  pub rest : List Entry
-  pub is : more ≡ after ++ e ∷ rest
-  pub none : own by after ≡ []
-  pub before : own by rest ≡ es
-
-last_own : (by : ℕ) (more : List Entry) (e : Entry) (es : List Entry) → own by more ≡ e ∷ es → LastOwn by more e es
-last_own by [] e es h = absurd (cc h)
-last_own by (x ∷ more) e es h = dite (ℕ_discrete x.by by)
-    (λ mine. let both : x ∷ own by more ≡ e ∷ es = sym (own_here by x more mine) ∙ h in record { after = []; rest = more; is = ap (λ z. z ∷ more) (first x e (own by more) es both); none = refl; before = others x e (own by more) es both })
-    (λ not. let l = last_own by more e es (sym (own_else by x more not) ∙ h) in record { after = x ∷ l.after; rest = l.rest; is = ap (λ z. x ∷ z) l.is; none = own_else by x l.after not ∙ l.none; before = l.before })
-  where
-    first : (a b : Entry) (us vs : List Entry) → a ∷ us ≡ b ∷ vs → a ≡ b
-    first a b us vs e = cc e
-
-    others : (a b : Entry) (us vs : List Entry) → a ∷ us ≡ b ∷ vs → us ≡ vs
-    others a b us vs e = cc e
+no_more (x ∷ xs) ys e = let n = ap (λ z. length z) e in let m = length-append xs ys in absurd (omega arith)
 
 module _ (P : Program) (C : Sizes) where
-  -- the history up to the last own event, with that event's entry and with what others added behind it
-  pub record LastEvent (by : ℕ) (old new : List Entry) (e : Event) (es : List Event) : Type 0 where
-    pub point : List Entry
-    pub after : List Entry
-    pub is : new ≡ after ++ entry by e ∷ point
-    pub none : own by after ≡ []
-    pub legal : IsLegal P C (after ++ entry by e ∷ point)
-    pub since : renewals new ≡ renewals (entry by e ∷ point)
-    pub before : Adds P C by old point es
-
-  pub last_event : (by : ℕ) (old new : List Entry) (e : Event) (es : List Event) → Adds P C by old new (e ∷ es) → LastEvent by old new e es
-  last_event by old new e es a =
-      let more = a.begins.more in
-      let mine : own by more ++ own by old ≡ (entry by e ∷ map (entry by) es) ++ own by old = sym (own-append by more old) ∙ (ap (own by) (sym a.begins.is) ∙ a.mine) in
-      let l = last_own by more (entry by e) (map (entry by) es) (cut_back (own by more) (entry by e ∷ map (entry by) es) (own by old) mine) in
-      let point = l.rest ++ old in
-      let is : new ≡ l.after ++ entry by e ∷ point = a.begins.is ∙ (ap (λ z. z ++ old) l.is ∙ append_assoc l.after (entry by e ∷ l.rest) old) in
-      let legal : IsLegal P C (l.after ++ entry by e ∷ point) = subst (IsLegal P C) is a.legal in
-      let last : StartsWith new (entry by e ∷ point) = record { more = l.after; is = is } in
-      let first : StartsWith (entry by e ∷ point) old = record { more = entry by e ∷ l.rest; is = refl } in
-      let until : StartsWith new point = record { more = l.after ++ entry by e ∷ []; is = is ∙ sym (append_assoc l.after (entry by e ∷ []) point) } in
-      record {
-        point = point;
-        after = l.after;
-        is = is;
-        none = l.none;
-        legal = legal;
-        since = none_from new (entry by e ∷ point) old last first a.one_table;
-        before = record {
-          begins = record { more = l.rest; is = refl };
-          legal = (legal_before P C l.after (entry by e ∷ point) legal).0;
-          one_table = none_to new point old until (record { more = l.rest; is = refl }) a.one_table;
-          mine = own-append by l.rest old ∙ ap (λ z. z ++ own by old) l.before;
-        };
-      }
-
   pub no_event : (by : ℕ) (old new : List Entry) → (a : Adds P C by old new []) → own by a.begins.more ≡ []
-  no_event by old new a = cut_back (own by a.begins.more) [] (own by old) (sym (own-append by a.begins.more old) ∙ (ap (own by) (sym a.begins.is) ∙ a.mine))
+  no_event by old new a = no_more (own by a.begins.more) (own by old) (sym (own-append by a.begins.more old) ∙ (ap (own by) (sym a.begins.is) ∙ a.mine))
 
   -- What others keep
 
@@ -108,8 +34,7 @@ module _ (P : Program) (C : Sizes) where
       subst (λ h. Q (unit_of P C h)) (sym a.begins.is)
       (front_stays P C Q keeps a.begins.more old (subst (IsLegal P C) a.begins.is a.legal) (no_event front old new a) q)
 
-  pub stays_behind : (Q : UpdateUnit → Type 0) → IsStable Q → (old new : List Entry) (e : Event) (es : List Event) → (l : LastEvent front old new e es) → Q (unit_of P C (entry front e ∷ l.point)) →
-      Q (unit_of P C new)
+  pub stays_behind : (Q : UpdateUnit → Type 0) → IsStable Q → (old new : List Entry) (e : Event) (es : List Event) → (l : LastEvent P C front old new e es) → Q (unit_of P C (entry front e ∷ l.point)) → Q (unit_of P C new)
   stays_behind Q keeps old new e es l q =
       subst (λ h. Q (unit_of P C h)) (sym l.is) (front_stays P C Q keeps l.after (entry front e ∷ l.point) l.legal l.none q)
 
@@ -125,14 +50,13 @@ module _ (P : Program) (C : Sizes) where
   kept_event Q (Refuses r) h l k q = q
   kept_event Q (Marks m) h l k q = q
 
-  pub stays_under : (Q : UpdateUnit → Type 0) → IsStable Q → (es : List Event) → AllByRecursion (KeepsEvent Q) es → (old new : List Entry) → Adds P C front old new es → Q (unit_of P C old) →
-      Q (unit_of P C new)
+  pub stays_under : (Q : UpdateUnit → Type 0) → IsStable Q → (es : List Event) → AllByRecursion (KeepsEvent Q) es → (old new : List Entry) → Adds P C front old new es → Q (unit_of P C old) → Q (unit_of P C new)
   stays_under Q keeps [] ks old new a q = stays Q keeps old new a q
   stays_under Q keeps (e ∷ es) ks old new a q =
-      let l = last_event front old new e es a in
+      let l = last_event P C front old new e es a in
       let there = stays_under Q keeps es ks.1 old l.point l.before q in
       stays_behind Q keeps old new e es l (kept_event Q e l.point (legal_before P C l.after (entry front e ∷ l.point) l.legal) ks.0 there)
 
   -- one call's moments
-  pub event_legal : (old new : List Entry) (e : Event) (es : List Event) → (l : LastEvent front old new e es) → IsLegal P C (entry front e ∷ l.point)
+  pub event_legal : (old new : List Entry) (e : Event) (es : List Event) → (l : LastEvent P C front old new e es) → IsLegal P C (entry front e ∷ l.point)
   event_legal old new e es l = legal_before P C l.after (entry front e ∷ l.point) l.legal

@@ -1,6 +1,5 @@
 -- The last tenants of stations, and whether all stations are in use.
-use Rattle.std.proofs.Common.{◌≡◌, ◌≢◌, ◌⊎◌, ℕ, suc, ◌+◌, ◌%◌, ◌<◌, ◌≤◌, Bool, true, false, cond, eqb, eqb-true, ne_eqb, List, [], ◌∷◌, ◌++◌, length, Option, Some, None, refl, sym, ap, ◌∙◌, subst}
-use Rattle.std.proofs.Common.{inl, inr, ⊎_elim, arith, true≢false, eq-eqb}
+use Rattle.std.proofs.Common.{◌≡◌, ◌≢◌, ◌⊎◌, ℕ, suc, ◌+◌, ◌%◌, ◌<◌, ◌≤◌, Bool, true, false, cond, eqb, eqb-true, ne_eqb, List, [], ◌∷◌, ◌++◌, length, Option, Some, None, refl, sym, ap, ◌∙◌, subst, inl, inr, ⊎_elim, arith, true≢false, eq-eqb}
 use Rattle.std.proofs.lemmas.Bool.{cases_lt}
 use Rattle.std.specs.List.{AllByRecursion}
 use Rattle.instructions.specs.Programs.{Program}
@@ -24,11 +23,11 @@ use Rattle.ruu_words.specs.Kinds.{IsTenant}
 use Rattle.ruu_words.specs.States.{state_code}
 use Rattle.station.specs.declared.answers.Seen.{Seen}
 use Rattle.station.specs.Looking.{SeesStation}
-use Rattle.front.specs.Path.{told_of}
+use Rattle.front.specs.Path.{rested_at}
 use Rattle.front.specs.declared.path.base_state.Base.{Base}
 use Rattle.front.specs.declared.path.record.Record.{Record}
 use Rattle.front.specs.Fetching.{HasLeft}
-use Rattle.front.specs.Knows.{IsFolded, IsGone, IsNewest, Knows}
+use Rattle.front.specs.Knows.{IsFolded, IsGone, IsNewest, FrontKnows}
 use Rattle.front.specs.Trail.{Note, trail}
 use Rattle.front.proofs.Counts.{SaysAt, FailsAt, at_most, count}
 use Rattle.front.proofs.Lists.{all_both, all_map}
@@ -162,21 +161,22 @@ module _ (P : Program) (C : Sizes) (h : List Entry) (legal : IsLegal P C h) wher
       go None e = refl
       go (Some t) e = by (next_tag C (recent U)) t t.standing e
 
-  module _ (records : List Record) (base : Base) (k : Knows P C U records base) where
+  module _ (records : List Record) (base : Base) (k : FrontKnows P C U records base) where
     -- no more are live than there are stations
     pub live_room : how_many is_live U.tenants ≤ C.ring
     live_room = let few = live_fewer P U k.gone k.notes k.path k.retired in omega (arith, few, k.room)
 
     -- where all stations have had a tenant and the next one is free, the oldest has left
-    pub oldest_left : (seen : Seen StationState) → SeesStation P C h (next_station C (recent U)) seen → seen.state ≡ Free → (n : Note) (ns : List Note) → k.notes ≡ n ∷ ns → C.ring ≤ length k.notes →
+    pub oldest_left : (seen : Seen StationState) → SeesStation P C h (next_station C (recent U)) seen →
+        seen.state ≡ Free → (n : Note) (ns : List Note) → k.notes ≡ n ∷ ns → C.ring ≤ length k.notes →
         IsTenant U n.at n.what.station n.what.tag (HasLeft seen.value)
     oldest_left seen sees free n ns e full =
-        let noted : IsNoted P U.tenants n = (subst (AllByRecursion (IsNoted P U.tenants)) e (notes_noted P C h legal records base (IsFolded U (told_of base)) k)).0 in
+        let noted : IsNoted P U.tenants n = (subst (AllByRecursion (IsNoted P U.tenants)) e (notes_noted P C h legal records base (IsFolded U (rested_at base)) k)).0 in
         let newest : IsNewest U n = (subst (AllByRecursion (IsNewest U)) e k.newest).0 in
         let whole : C.ring ≡ length (n ∷ ns) = omega (arith, full, k.room, ap (λ z. length z) e) in
-        let untold = (subst (AllByRecursion (λ n. told_of base ≤ n.at)) e k.untold).0 in
-        let new = kept_new P C U records base (IsFolded U (told_of base)) k n.at untold in
-        let next = oldest_place P C U records base (IsFolded U (told_of base)) k (stands_right P C h legal) n ns e whole in
+        let untold = (subst (AllByRecursion (λ n. rested_at base ≤ n.at)) e k.untold).0 in
+        let new = kept_new P C U records base (IsFolded U (rested_at base)) k n.at untold in
+        let next = oldest_place P C U records base (IsFolded U (rested_at base)) k (stands_right P C h legal) n ns e whole in
         let place : noted.tenant.station ≡ next_station C (recent U) = ap (λ (z : Record). z.station) noted.what ∙ next in
         let last : last_of (recent U) (next_station C (recent U)) ≡ Some noted.tenant = last_now U n.at (next_station C (recent U)) noted.tenant noted.is new place (λ q u lt is same. newest q u lt is (same ∙ sym next)) in
         let word : station_word C (recent U) (next_station C (recent U)) ≡ word_by (next_tag C (recent U)) noted.tenant.standing noted.tenant.tag noted.tenant.fate noted.tenant.made = ap (word_of (next_tag C (recent U))) last in
@@ -186,8 +186,7 @@ module _ (P : Program) (C : Sizes) (h : List Entry) (legal : IsLegal P C h) wher
           new = new;
           station_is = ap (λ (z : Record). z.station) noted.what;
           tag_is = ap (λ (z : Record). z.tag) noted.what;
-          fact = left_there noted.tenant (next_tag C (recent U)) (station_word C (recent U) (next_station C (recent U))) word (free_is _ (sym sees.state_is ∙ ap state_code free)) noted.on seen.value
-              sees.value_is;
+          fact = left_there noted.tenant (next_tag C (recent U)) (station_word C (recent U) (next_station C (recent U))) word (free_is _ (sym sees.state_is ∙ ap state_code free)) noted.on seen.value sees.value_is;
         }
 
     -- a free next station: not all are in use

@@ -16,11 +16,11 @@ use Rattle.inorder.proofs.Kept.{link_grows, parts}
 use Rattle.inorder.proofs.Letting.{IsBesides, besides_grows}
 use Rattle.inorder.proofs.Moves.{changed_goes}
 use Rattle.inorder.proofs.Sound.{IsSound, IsSoundAt}
-use Rattle.front.specs.Path.{told_of}
+use Rattle.front.specs.Path.{rested_at}
 use Rattle.front.specs.declared.path.base_state.Base.{Base}
 use Rattle.front.specs.declared.path.record.Record.{Record}
 use Rattle.front.specs.Creators.{creator_note, position}
-use Rattle.front.specs.Knows.{GoesOnAt, IsFolded, IsGone, IsNewest, IsReady, Knows, Stands}
+use Rattle.front.specs.Knows.{GoesOnAt, IsFolded, IsGone, IsNewest, RecordsAreReady, FrontKnows, Stands}
 use Rattle.front.specs.Trail.{Note, is_link, record_of, trail}
 use Rattle.front.proofs.Acts.{still_folded, still_gone, still_newest, still_value}
 use Rattle.front.proofs.Lists.{all_map}
@@ -129,8 +129,10 @@ module _ (P : Program) (C : Sizes) (U : UpdateUnit) (by : ℕ) where
   newest_stays Renew b a ok n h = absurd b
   newest_stays (On p act) b a ok n h = still_newest P C U by p act a ok n h
 
-  pub stands_stay : (s : Step) → IsQuiet s → Allowed P C U by s → IsSound P U.tenants → (records : List Record) (base : Base) (Again Again' : Note → Type 0) → ((n : Note) → Again n → Again' n) →
-      Stands P C U records base Again → Stands P C (applied P C U by s) records base Again'
+  pub stands_stay : (s : Step) → IsQuiet s → Allowed P C U by s → IsSound P U.tenants →
+      (records : List Record) (base : Base) (Again Again' : Note → Type 0) →
+      ((n : Note) → Again n → Again' n) → Stands P C U records base Again →
+      Stands P C (applied P C U by s) records base Again'
   stands_stay s b a ok records base Again Again' again k =
       let V = applied P C U by s in
       record {
@@ -143,30 +145,33 @@ module _ (P : Program) (C : Sizes) (U : UpdateUnit) (by : ℕ) where
         retired = all_map (IsGone U) (IsGone V) (still_gone P C U by s a ok) k.gone k.retired;
         again = all_map Again Again' again k.gone k.again;
         newest = all_map (IsNewest U) (IsNewest V) (newest_stays s b a ok) k.notes k.newest;
-        past = subst (λ z. told_of base ≤ z) (sym (long_stays s b a)) k.past;
-        since = subst (λ (z : ℕ × ℕ). z.0 ≤ told_of base + z.1) (λ i. (sym (long_stays s b a) i, sym (fresh_stays s b) i)) k.since;
+        past = subst (λ z. rested_at base ≤ z) (sym (long_stays s b a)) k.past;
+        since = subst (λ (z : ℕ × ℕ). z.0 ≤ rested_at base + z.1) (λ i. (sym (long_stays s b a) i, sym (fresh_stays s b) i)) k.since;
         untold = k.untold;
         wide = k.wide;
         base_is = λ r h. still_value P C U by s a ok (position (creator_note k.gone r)) (slice_index base.registers r) (k.base_is r h);
       }
 
-  pub knows_stays : (records : List Record) (base : Base) (s : Step) → IsQuiet s → Allowed P C U by s → IsSound P U.tenants → Knows P C U records base → Knows P C (applied P C U by s) records base
-  knows_stays records base s b a ok k = stands_stay s b a ok records base (IsFolded U (told_of base)) (IsFolded (applied P C U by s) (told_of base)) (still_folded P C U by s a ok (told_of base)) k
+  pub knows_stays : (records : List Record) (base : Base) (s : Step) → IsQuiet s → Allowed P C U by s →
+      IsSound P U.tenants → FrontKnows P C U records base → FrontKnows P C (applied P C U by s) records base
+  knows_stays records base s b a ok k = stands_stay s b a ok records base (IsFolded U (rested_at base)) (IsFolded (applied P C U by s) (rested_at base)) (still_folded P C U by s a ok (rested_at base)) k
 
-  pub ready_stays : (records : List Record) (base : Base) (s : Step) → IsQuiet s → Allowed P C U by s → IsSound P U.tenants → IsReady P C U records base → IsReady P C (applied P C U by s) records base
+  pub ready_stays : (records : List Record) (base : Base) (s : Step) → IsQuiet s → Allowed P C U by s →
+      IsSound P U.tenants → RecordsAreReady P C U records base →
+      RecordsAreReady P C (applied P C U by s) records base
   ready_stays records base s b a ok r =
       let V = applied P C U by s in
       let place = place_stays s b a ok in
       record {
         stands = stands_stay s b a ok records base _ _
-            (λ n h. ⊎_elim (λ x. inl (still_folded P C U by s a ok (told_of base) n x)) (λ x. inr (x ∙ sym place)) h)
+            (λ n h. ⊎_elim (λ x. inl (still_folded P C U by s a ok (rested_at base) n x)) (λ x. inr (x ∙ sym place)) h)
             r.stands;
         free = r.free;
       }
 
 module _ (P : Program) (C : Sizes) (records : List Record) (base : Base) where
-  pub knows_stable : IsStable P C (λ U. Knows P C U records base)
+  pub knows_stable : IsStable P C (λ U. FrontKnows P C U records base)
   knows_stable U by s b a ok k = knows_stays P C U by records base s (quiet_of s b) a ok k
 
-  pub ready_stable : IsStable P C (λ U. IsReady P C U records base)
+  pub ready_stable : IsStable P C (λ U. RecordsAreReady P C U records base)
   ready_stable U by s b a ok k = ready_stays P C U by records base s (quiet_of s b) a ok k

@@ -11,16 +11,16 @@ use Rattle.inorder.specs.Tenants.{Tenant}
 use Rattle.inorder.specs.Unit.{Sizes, UpdateUnit, next_station, recent}
 use Rattle.station.specs.declared.answers.Supply.{Supply}
 use Rattle.station.specs.declared.answers.Supply.TheVariants.{From, Known}
-use Rattle.front.specs.Path.{told_of}
+use Rattle.front.specs.Path.{rested_at}
 use Rattle.front.specs.declared.path.base_state.Base.{Base}
 use Rattle.front.specs.declared.path.creators.Creator.{Creator}
 use Rattle.front.specs.declared.path.counted.Maker.{Maker}
 use Rattle.front.specs.declared.path.counted.Saved.{Saved}
 use Rattle.front.specs.declared.path.counted.Table.{Table}
 use Rattle.front.specs.declared.path.record.Record.{Record}
-use Rattle.front.specs.CreateTable.{Finds, HasTable, IsLatest, IsSupplied, entry_of, made_from_start, maker_of, supply_found, supply_made}
+use Rattle.front.specs.CreateTable.{EntryFinds, HasTable, IsLatest, IsSupplied, table_entry, made_from_start, maker_of, supply_found, supply_made}
 use Rattle.front.specs.Creators.{creator_note, newest_note, supply_by, supply_in}
-use Rattle.front.specs.Knows.{IsFolded, IsPassed, IsReady, IsReused}
+use Rattle.front.specs.Knows.{IsFolded, IsPassed, RecordsAreReady, IsReused}
 use Rattle.front.specs.Trail.{Note, record_of}
 use Rattle.front.proofs.CreateVector.{Creates, Kept, Older, newest_among, written}
 use Rattle.front.proofs.Lists.{all_front, all_two}
@@ -42,8 +42,8 @@ by_link base x = go x.links
     go true = refl
     go false = refl
 
-module _ (P : Program) (C : Sizes) (h : List Entry) (legal : IsLegal P C h) (records : List Record) (base : Base) (k : IsReady P C (unit_of P C h) records base) (T : Table)
-    (table : HasTable P (unit_of P C h) (told_of base) T) where
+module _ (P : Program) (C : Sizes) (h : List Entry) (legal : IsLegal P C h) (records : List Record) (base : Base) (k : RecordsAreReady P C (unit_of P C h) records base) (T : Table)
+    (table : HasTable P (unit_of P C h) (rested_at base) T) where
   abbrev U : UpdateUnit
   U = unit_of P C h
 
@@ -51,7 +51,7 @@ module _ (P : Program) (C : Sizes) (h : List Entry) (legal : IsLegal P C h) (rec
   own = next_station C (recent U)
 
   abbrev IsAgain : Note → Type 0
-  IsAgain n = IsPassed C U (told_of base) n
+  IsAgain n = IsPassed C U (rested_at base) n
 
   gone_all : AllByRecursion (λ n. IsAgain n × IsNoted P U.tenants n) k.stands.gone
   gone_all =
@@ -65,11 +65,11 @@ module _ (P : Program) (C : Sizes) (h : List Entry) (legal : IsLegal P C h) (rec
     noted_by : (xs : List Note) → 0 < r → creator_note xs r ≡ newest_note None xs r
     noted_by xs pos = ap (λ b. cond b (newest_note None xs r) None) (written r (λ z. omega (arith, z, pos)) small)
 
-    entry_is : 0 < r → slice_get T.entries r ≡ Some (entry_of (told_of base) whole)
+    entry_is : 0 < r → slice_get T.entries r ≡ Some (table_entry (rested_at base) whole)
     entry_is pos =
         table.entries r pos small
-        ∙ (ap (λ z. Some (entry_of (told_of base) (newest_note None z r))) k.stands.path
-        ∙ ap (λ z. Some (entry_of (told_of base) z)) (sym (noted_by (k.stands.gone ++ k.stands.notes) pos)))
+        ∙ (ap (λ z. Some (table_entry (rested_at base) (newest_note None z r))) k.stands.path
+        ∙ ap (λ z. Some (table_entry (rested_at base) z)) (sym (noted_by (k.stands.gone ++ k.stands.notes) pos)))
 
     -- what is kept of one whose station was not let again
     record IsKept (n : Note) : Type 0 where
@@ -78,7 +78,7 @@ module _ (P : Program) (C : Sizes) (h : List Entry) (legal : IsLegal P C h) (rec
       pub tag : saved.tag ≡ n.what.tag
       pub made : saved.made ≡ made_from_start n.what
 
-    kept : (n : Note) → IsGiver P C U (told_of base) n → IsKept n
+    kept : (n : Note) → IsGiver P C U (rested_at base) n → IsKept n
     kept n g =
         let place : g.noted.tenant.station ≡ n.what.station = ap (λ (z : Record). z.station) g.noted.what in
         let l : IsLatest T.latest (record_of P g.noted.tenant) = table.latest n.at g.noted.tenant g.untold g.noted.is (subst (IsLastAt U n.at) (sym place) g.newest) in
@@ -89,15 +89,15 @@ module _ (P : Program) (C : Sizes) (h : List Entry) (legal : IsLegal P C h) (rec
           made = l.of.made ∙ ap made_from_start g.noted.what;
         }
 
-    go : (o : Option Creator) → Finds T r o → Creates (IsGiver P C U (told_of base)) k.stands.gone records r whole → supply_found own (slice_index base.registers r) o ≡ supply_in records base r
+    go : (o : Option Creator) → EntryFinds T r o → Creates (IsGiver P C U (rested_at base)) k.stands.gone records r whole → supply_found own (slice_index base.registers r) o ≡ supply_in records base r
     go None f (Older e g) = ap (supply_by (slice_index base.registers r)) (sym g)
     go None f (Kept n e gv g) =
         let pos = written_by (k.stands.gone ++ k.stands.notes) r n e in
         let x = kept n gv in
-        absurd (f (maker_of n) x.saved pos (entry_is pos ∙ (ap (λ z. Some (entry_of (told_of base) z)) e ∙ ap Some (entry_there (told_of base) n gv.untold))) x.is x.tag)
+        absurd (f (maker_of n) x.saved pos (entry_is pos ∙ (ap (λ z. Some (table_entry (rested_at base) z)) e ∙ ap Some (entry_there (rested_at base) n gv.untold))) x.is x.tag)
     go (Some c) f (Kept n e gv g) =
         let x = kept n gv in
-        let one = (entry_untold (told_of base) n (record { station = c.station; tag = c.tag }) (sym f.entry ∙ (entry_is f.written ∙ ap (λ z. Some (entry_of (told_of base) z)) e))).same in
+        let one = (entry_untold (rested_at base) n (record { station = c.station; tag = c.tag }) (sym f.entry ∙ (entry_is f.written ∙ ap (λ z. Some (table_entry (rested_at base) z)) e))).same in
         let station : c.station ≡ n.what.station = ap (λ (z : Maker). z.station) one in
         let tag : c.tag ≡ n.what.tag = ap (λ (z : Maker). z.tag) one in
         let same : f.saved ≡ x.saved = same_saved f.saved x.saved (sym f.is ∙ (ap (slice_get T.latest) station ∙ x.is)) in
@@ -107,13 +107,13 @@ module _ (P : Program) (C : Sizes) (h : List Entry) (legal : IsLegal P C h) (rec
         ∙ (by_link (slice_index base.registers r) n.what ∙ ap (supply_by (slice_index base.registers r)) (sym g)))
     go (Some c) f (Older e g) = older (creator_note k.stands.gone r) refl ∙ ap (supply_by (slice_index base.registers r)) (sym g)
       where
-        entry : Some (Some (record { station = c.station; tag = c.tag })) ≡ Some (entry_of (told_of base) (creator_note k.stands.gone r))
-        entry = sym f.entry ∙ (entry_is f.written ∙ ap (λ z. Some (entry_of (told_of base) z)) e)
+        entry : Some (Some (record { station = c.station; tag = c.tag })) ≡ Some (table_entry (rested_at base) (creator_note k.stands.gone r))
+        entry = sym f.entry ∙ (entry_is f.written ∙ ap (λ z. Some (table_entry (rested_at base) z)) e)
 
         older : (o : Option Note) → creator_note k.stands.gone r ≡ o → supply_found own (slice_index base.registers r) (Some c) ≡ Known (slice_index base.registers r)
-        older None x = absurd (no_maker (record { station = c.station; tag = c.tag }) (entry ∙ ap (λ z. Some (entry_of (told_of base) z)) x))
+        older None x = absurd (no_maker (record { station = c.station; tag = c.tag }) (entry ∙ ap (λ z. Some (table_entry (rested_at base) z)) x))
         older (Some n) x =
-            let named = entry_untold (told_of base) n (record { station = c.station; tag = c.tag }) (entry ∙ ap (λ z. Some (entry_of (told_of base) z)) x) in
+            let named = entry_untold (rested_at base) n (record { station = c.station; tag = c.tag }) (entry ∙ ap (λ z. Some (table_entry (rested_at base) z)) x) in
             let one = named.same in
             let station : c.station ≡ n.what.station = ap (λ (z : Maker). z.station) one in
             let tag : c.tag ≡ n.what.tag = ap (λ (z : Maker). z.tag) one in
@@ -122,9 +122,7 @@ module _ (P : Program) (C : Sizes) (h : List Entry) (legal : IsLegal P C h) (rec
             let t : Tenant = its.1.tenant in
             let place : t.station ≡ n.what.station = ap (λ (z : Record). z.station) its.1.what in
             ⊎_elim
-            (λ (r : IsFolded U (told_of base) n). ⊎_elim (λ (i : IsReused U n). absurd (table.stale n.at i.p t i.tenant.tenant named.untold i.behind its.1.is i.tenant.is (i.tenant.fact ∙ sym place)
-            f.saved (ap (slice_get T.latest) (place ∙ sym station) ∙ f.is) (f.tag ∙ (tag ∙ ap (λ (z : Record). z.tag) (sym its.1.what)))))
-            (λ (l : n.at < told_of base). absurd (omega (arith, l, named.untold))) r)
+            (λ (r : IsFolded U (rested_at base) n). ⊎_elim (λ (i : IsReused U n). absurd (table.stale n.at i.p t i.tenant.tenant named.untold i.behind its.1.is i.tenant.is (i.tenant.fact ∙ sym place) f.saved (ap (slice_get T.latest) (place ∙ sym station) ∙ f.is) (f.tag ∙ (tag ∙ ap (λ (z : Record). z.tag) (sym its.1.what))))) (λ (l : n.at < rested_at base). absurd (omega (arith, l, named.untold))) r)
             (λ (o : n.what.station ≡ own). ap (λ b. cond b (Known (slice_index base.registers r)) (supply_made c.station c.tag c.made)) (eq-eqb c.station own (station ∙ o)))
             its.0
 

@@ -21,11 +21,11 @@ use Rattle.inorder.proofs.Positions.{at_below, younger_from}
 use Rattle.inorder.proofs.Sound.{FateBy, IsSound}
 use Rattle.station.specs.declared.answers.Supply.TheVariants.{From as GivenFrom, Known as GivenKnown}
 use Rattle.station.specs.Letting.{supply_of}
-use Rattle.front.specs.Path.{told_of}
+use Rattle.front.specs.Path.{rested_at}
 use Rattle.front.specs.declared.path.base_state.Base.{Base}
 use Rattle.front.specs.declared.path.record.Record.{Record}
 use Rattle.front.specs.Creators.{creator_note, position, supply_by, supply_in}
-use Rattle.front.specs.Knows.{IsNewest, IsReady}
+use Rattle.front.specs.Knows.{IsNewest, RecordsAreReady}
 use Rattle.front.specs.Trail.{Note, is_link}
 use Rattle.front.proofs.CreateVector.{Creates, Kept, Older, creates, creator_is}
 use Rattle.front.proofs.Lists.{all_two}
@@ -34,7 +34,8 @@ use Rattle.front.proofs.Places.{kept_new, others_next}
 use Rattle.front.proofs.Trails.{IsNoted}
 
 -- a jump that links has made its return address from the start
-links_made : (o : Outcome) (pc pr nx : ℕ) (made a b : Option ℕ) (st : Standing) (f : Fate) → ((x : ℕ) → o ≢ Address x) → ((c : _) → o ≢ Stops c) → FateBy Links o pc pr nx made a b st f →
+links_made : (o : Outcome) (pc pr nx : ℕ) (made a b : Option ℕ) (st : Standing) (f : Fate) →
+    ((x : ℕ) → o ≢ Address x) → ((c : _) → o ≢ Stops c) → FateBy Links o pc pr nx made a b st f →
     made ≡ Some (pc_plus_4 pc)
 links_made o pc pr nx made a b st Open na nh h = h.0
 links_made o pc pr nx made a b st (Busy x) na nh h = h.0
@@ -71,11 +72,11 @@ pub record IsGiver (P : Program) (C : Sizes) (U : UpdateUnit) (told : ℕ) (n : 
   pub other : n.what.station ≢ next_station C (recent U)
   pub small : n.what.station < C.ring
 
-module _ (P : Program) (C : Sizes) (h : List Entry) (legal : IsLegal P C h) (records : List Record) (base : Base) (k : IsReady P C (unit_of P C h) records base) where
+module _ (P : Program) (C : Sizes) (h : List Entry) (legal : IsLegal P C h) (records : List Record) (base : Base) (k : RecordsAreReady P C (unit_of P C h) records base) where
   abbrev U : UpdateUnit
   U = unit_of P C h
 
-  givers : AllByRecursion (IsGiver P C U (told_of base)) k.stands.notes
+  givers : AllByRecursion (IsGiver P C U (rested_at base)) k.stands.notes
   givers =
       let s = k.stands in
       let noted = notes_noted P C h legal records base _ s in
@@ -83,28 +84,26 @@ module _ (P : Program) (C : Sizes) (h : List Entry) (legal : IsLegal P C h) (rec
       let both = all_two (IsNoted P U.tenants) (IsNewest U) (λ n. IsNoted P U.tenants n × IsNewest U n) (λ n a b. (a, b)) s.notes noted s.newest in
       let small = notes_small P C h legal records base _ s (omega (arith, k.free)) in
       let apart = all_two (λ n. n.what.station ≢ next_station C (recent U)) (λ n. n.what.station < C.ring) (λ n. (n.what.station ≢ next_station C (recent U)) × (n.what.station < C.ring)) (λ n a b. (a, b)) s.notes others small in
-      let young = all_two (λ n. IsNoted P U.tenants n × IsNewest U n) (λ n. told_of base ≤ n.at) (λ n. (IsNoted P U.tenants n × IsNewest U n) × (told_of base ≤ n.at)) (λ n a b. (a, b)) s.notes both s.untold in
-      all_two (λ n. (IsNoted P U.tenants n × IsNewest U n) × (told_of base ≤ n.at)) (λ n. (n.what.station ≢ next_station C (recent U)) × (n.what.station < C.ring)) (IsGiver P C U (told_of base))
-      (λ n a b. record { untold = a.1; noted = a.0.0; newest = a.0.1; other = b.0; small = b.1 }) s.notes young apart
+      let young = all_two (λ n. IsNoted P U.tenants n × IsNewest U n) (λ n. rested_at base ≤ n.at) (λ n. (IsNoted P U.tenants n × IsNewest U n) × (rested_at base ≤ n.at)) (λ n a b. (a, b)) s.notes both s.untold in
+      all_two (λ n. (IsNoted P U.tenants n × IsNewest U n) × (rested_at base ≤ n.at)) (λ n. (n.what.station ≢ next_station C (recent U)) × (n.what.station < C.ring)) (IsGiver P C U (rested_at base)) (λ n a b. record { untold = a.1; noted = a.0.0; newest = a.0.1; other = b.0; small = b.1 }) s.notes young apart
 
   -- a source of register r
   module _ (r : ℕ) (small : r < 34) where
     whole : creator P U.tenants r ≡ position (creator_note (k.stands.gone ++ k.stands.notes) r)
     whole = creator_is P U.tenants r ∙ ap (λ z. position (creator_note z r)) k.stands.path
 
-    pub found : Creates (IsGiver P C U (told_of base)) k.stands.gone records r (creator_note (k.stands.gone ++ k.stands.notes) r)
-    found = subst (λ z. Creates (IsGiver P C U (told_of base)) k.stands.gone z r (creator_note (k.stands.gone ++ k.stands.notes) r)) (sym k.stands.are)
-        (creates (IsGiver P C U (told_of base)) k.stands.gone k.stands.notes r givers)
+    pub found : Creates (IsGiver P C U (rested_at base)) k.stands.gone records r (creator_note (k.stands.gone ++ k.stands.notes) r)
+    found = subst (λ z. Creates (IsGiver P C U (rested_at base)) k.stands.gone z r (creator_note (k.stands.gone ++ k.stands.notes) r)) (sym k.stands.are) (creates (IsGiver P C U (rested_at base)) k.stands.gone k.stands.notes r givers)
 
-    kept_by : (n : Note) → creator P U.tenants r ≡ Some n.at → IsGiver P C U (told_of base) n → MaySupply P U (next_station C (recent U)) (creator P U.tenants r)
-        (supply_of (supply_by (slice_index base.registers r) (Some n.what)))
+    kept_by : (n : Note) → creator P U.tenants r ≡ Some n.at → IsGiver P C U (rested_at base) n →
+        MaySupply P U (next_station C (recent U)) (creator P U.tenants r) (supply_of (supply_by (slice_index base.registers r) (Some n.what)))
     kept_by n c g = go n.what.links refl
       where
         t : Tenant
         t = g.noted.tenant
 
-        go : (b : Bool) → n.what.links ≡ b → MaySupply P U (next_station C (recent U)) (creator P U.tenants r)
-            (supply_of (cond n.what.links (GivenKnown (pc_plus_4 n.what.pc)) (GivenFrom n.what.station n.what.tag)))
+        go : (b : Bool) → n.what.links ≡ b →
+            MaySupply P U (next_station C (recent U)) (creator P U.tenants r) (supply_of (cond n.what.links (GivenKnown (pc_plus_4 n.what.pc)) (GivenFrom n.what.station n.what.tag)))
         go true e =
             let made : t.made ≡ Some (pc_plus_4 t.pc) = link_made P U.tenants (unit_sound P C h legal) n.at t g.noted.is (ap (λ (z : Record). z.links) g.noted.what ∙ e) in
             let value : value_of U.tenants (creator P U.tenants r) ≡ Some (pc_plus_4 n.what.pc) = ap (value_of U.tenants) c ∙ (ap made_by g.noted.is ∙ (made ∙ ap (λ (z : Record). Some (pc_plus_4 z.pc)) g.noted.what)) in
@@ -126,7 +125,7 @@ module _ (P : Program) (C : Sizes) (h : List Entry) (legal : IsLegal P C h) (rec
     pub may_supply : MaySupply P U (next_station C (recent U)) (creator P U.tenants r) (supply_of (supply_in records base r))
     may_supply = go found
       where
-        go : Creates (IsGiver P C U (told_of base)) k.stands.gone records r (creator_note (k.stands.gone ++ k.stands.notes) r) →
+        go : Creates (IsGiver P C U (rested_at base)) k.stands.gone records r (creator_note (k.stands.gone ++ k.stands.notes) r) →
             MaySupply P U (next_station C (recent U)) (creator P U.tenants r) (supply_of (supply_in records base r))
         go (Older e f) =
             let c : creator P U.tenants r ≡ position (creator_note k.stands.gone r) = whole ∙ ap position e in
@@ -139,7 +138,7 @@ module _ (P : Program) (C : Sizes) (h : List Entry) (legal : IsLegal P C h) (rec
     -- one that comes from its creator
     pub record ComesFrom (s g : ℕ) : Type 0 where
       pub n : Note
-      pub giver : IsGiver P C U (told_of base) n
+      pub giver : IsGiver P C U (rested_at base) n
       pub creates : creator P U.tenants r ≡ Some n.at
       pub station : n.what.station ≡ s
       pub tag : n.what.tag ≡ g
@@ -160,7 +159,7 @@ module _ (P : Program) (C : Sizes) (h : List Entry) (legal : IsLegal P C h) (rec
         by true n l x = absurd (known (pc_plus_4 n.what.pc) (ap (λ z. cond z (GivenKnown (pc_plus_4 n.what.pc)) (GivenFrom n.what.station n.what.tag)) (sym l) ∙ x))
         by false n l x = ap (λ z. cond z (GivenKnown (pc_plus_4 n.what.pc)) (GivenFrom n.what.station n.what.tag)) (sym l) ∙ x
 
-        go : Creates (IsGiver P C U (told_of base)) k.stands.gone records r (creator_note (k.stands.gone ++ k.stands.notes) r) → ComesFrom s g
+        go : Creates (IsGiver P C U (rested_at base)) k.stands.gone records r (creator_note (k.stands.gone ++ k.stands.notes) r) → ComesFrom s g
         go (Older x f) = absurd (known (slice_index base.registers r) (ap (supply_by (slice_index base.registers r)) (sym f) ∙ e))
         go (Kept n x gv f) =
             let its = by n.what.links n refl (ap (supply_by (slice_index base.registers r)) (sym f) ∙ e) in

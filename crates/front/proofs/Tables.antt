@@ -1,6 +1,5 @@
 -- The create vector as a table: it stays under the steps of others, and follows the front's own.
-use Rattle.std.proofs.Common.{◌≡◌, ◌≢◌, ◌⊎◌, ℕ, zero, suc, ◌+◌, ◌%◌, ◌^◌, ◌<◌, ◌≤◌, Bool, true, false, cond, eqb, List, [], ◌∷◌, ◌++◌, length, Some, None, refl, sym, ap, ◌∙◌, subst, inl, inr, ⊎_elim}
-use Rattle.std.proofs.Common.{arith, append_assoc, eq-eqb, ne_eqb, leb, leb-true, le-leb}
+use Rattle.std.proofs.Common.{◌≡◌, ◌≢◌, ◌⊎◌, ℕ, zero, suc, ◌+◌, ◌%◌, ◌^◌, ◌<◌, ◌≤◌, Bool, true, false, cond, eqb, List, [], ◌∷◌, ◌++◌, length, Some, None, refl, sym, ap, ◌∙◌, subst, inl, inr, ⊎_elim, arith, append_assoc, eq-eqb, ne_eqb, leb, leb-true, le-leb}
 use mathlib.Core.Logic.{dite}
 use native.Mathlib.Decide.{ℕ_discrete}
 use Rattle.std.proofs.lemmas.Bool.{cases_lt}
@@ -32,7 +31,7 @@ use Rattle.front.specs.declared.path.counted.Maker.{Maker}
 use Rattle.front.specs.declared.path.counted.Saved.{Saved}
 use Rattle.front.specs.declared.path.counted.Table.{Table}
 use Rattle.front.specs.declared.path.record.Record.{Record}
-use Rattle.front.specs.CreateTable.{HasTable, IsEntered, IsLatest, IsRestored, IsTouched, entry_in, entry_of, maker_of}
+use Rattle.front.specs.CreateTable.{HasTable, IsEntered, IsLatest, IsRestored, IsTouched, table_entry_in, table_entry, maker_of}
 use Rattle.front.specs.Creators.{newest_note}
 use Rattle.front.specs.Knows.{IsNewest}
 use Rattle.front.specs.Trail.{Note, is_link, note, record_of, trail}
@@ -80,24 +79,24 @@ touched_none a old new e = let none : old + 0 ≡ old = omega arith in record { 
 
 -- The entry of a register, with one more tenant
 
-entry_more : (told : ℕ) (xs : List Note) (x : Note) (r : ℕ) → entry_in told (xs ++ x ∷ []) r ≡ entry_of told (cond (eqb x.what.destination r) (Some x) (newest_note None xs r))
-entry_more told xs x r = ap (entry_of told) (newest_both None xs (x ∷ []) r)
+entry_more : (told : ℕ) (xs : List Note) (x : Note) (r : ℕ) → table_entry_in told (xs ++ x ∷ []) r ≡ table_entry told (cond (eqb x.what.destination r) (Some x) (newest_note None xs r))
+entry_more told xs x r = ap (table_entry told) (newest_both None xs (x ∷ []) r)
 
-pub entry_new : (told : ℕ) (xs : List Note) (x : Note) (r : ℕ) → x.what.destination ≡ r → entry_in told (xs ++ x ∷ []) r ≡ entry_of told (Some x)
-entry_new told xs x r e = entry_more told xs x r ∙ ap (λ b. entry_of told (cond b (Some x) (newest_note None xs r))) (eq-eqb x.what.destination r e)
+pub entry_new : (told : ℕ) (xs : List Note) (x : Note) (r : ℕ) → x.what.destination ≡ r → table_entry_in told (xs ++ x ∷ []) r ≡ table_entry told (Some x)
+entry_new told xs x r e = entry_more told xs x r ∙ ap (λ b. table_entry told (cond b (Some x) (newest_note None xs r))) (eq-eqb x.what.destination r e)
 
-pub entry_else : (told : ℕ) (xs : List Note) (x : Note) (r : ℕ) → x.what.destination ≢ r → entry_in told (xs ++ x ∷ []) r ≡ entry_in told xs r
-entry_else told xs x r n = entry_more told xs x r ∙ ap (λ b. entry_of told (cond b (Some x) (newest_note None xs r))) (ne_eqb x.what.destination r n)
+pub entry_else : (told : ℕ) (xs : List Note) (x : Note) (r : ℕ) → x.what.destination ≢ r → table_entry_in told (xs ++ x ∷ []) r ≡ table_entry_in told xs r
+entry_else told xs x r n = entry_more told xs x r ∙ ap (λ b. table_entry told (cond b (Some x) (newest_note None xs r))) (ne_eqb x.what.destination r n)
 
 -- a tenant behind the first ones has an entry, and what has an entry is such a tenant
-pub entry_there : (told : ℕ) (x : Note) → told ≤ x.at → entry_of told (Some x) ≡ Some (maker_of x)
+pub entry_there : (told : ℕ) (x : Note) → told ≤ x.at → table_entry told (Some x) ≡ Some (maker_of x)
 entry_there told x le = ap (λ b. cond b (Some (maker_of x)) None) (le-leb told x.at le)
 
 pub record IsUntold (told : ℕ) (x : Note) (m : Maker) : Type 0 where
   pub untold : told ≤ x.at
   pub same : m ≡ maker_of x
 
-pub entry_untold : (told : ℕ) (x : Note) (m : Maker) → Some (Some m) ≡ Some (entry_of told (Some x)) → IsUntold told x m
+pub entry_untold : (told : ℕ) (x : Note) (m : Maker) → Some (Some m) ≡ Some (table_entry told (Some x)) → IsUntold told x m
 entry_untold told x m e = go (leb told x.at) refl e
   where
     go : (b : Bool) → leb told x.at ≡ b → Some (Some m) ≡ Some (cond b (Some (maker_of x)) None) → IsUntold told x m
@@ -141,7 +140,7 @@ module _ (P : Program) (C : Sizes) (U : UpdateUnit) (by p : ℕ) (act : Act) (a 
   table_on T k e = record {
     wide = k.wide;
     deep = k.deep;
-    entries = λ r pos lt. k.entries r pos lt ∙ ap (λ z. Some (entry_in told z r)) (sym e);
+    entries = λ r pos lt. k.entries r pos lt ∙ ap (λ z. Some (table_entry_in told z r)) (sym e);
     latest = latest_on T.latest k.latest;
     stale = stale_on T k;
     replaced = λ xs ys n split new newest. k.replaced xs ys n (sym e ∙ split) new (last_back n.at n.what.station newest);
@@ -185,25 +184,25 @@ module _ (P : Program) (C : Sizes) (U : UpdateUnit) (by p : ℕ) (act : Act) (a 
       wide (inl pos) (inr more) = ap (λ z. length z) (left (λ b. omega (arith, b.1, more))) ∙ k.wide
       wide (inr none) h = ap (λ z. length z) (left (λ b. omega (arith, b.0, none))) ∙ k.wide
 
-      old_entry : (r : ℕ) → 0 < r → r < 34 → d ≢ r → slice_get T.entries r ≡ Some (entry_in told fs r)
-      old_entry r pos less n = k.entries r pos less ∙ ap Some (ap (λ z. entry_in told z r) e ∙ entry_else told fs x r n)
+      old_entry : (r : ℕ) → 0 < r → r < 34 → d ≢ r → slice_get T.entries r ≡ Some (table_entry_in told fs r)
+      old_entry r pos less n = k.entries r pos less ∙ ap Some (ap (λ z. table_entry_in told z r) e ∙ entry_else told fs x r n)
 
       other : (r : ℕ) → d ≢ r → (0 < d) ⊎ (d ≤ 0) → (d < 34) ⊎ (34 ≤ d) → slice_get T'.entries r ≡ slice_get T.entries r
       other r n (inl pos) (inl less) = ap (λ z. slice_get z r) (set_there pos less) ∙ set_other T.entries d r l.saved.replaced n
       other r n (inl pos) (inr more) = ap (λ z. slice_get z r) (left (λ b. omega (arith, b.1, more)))
       other r n (inr none) h = ap (λ z. slice_get z r) (left (λ b. omega (arith, b.0, none)))
 
-      mine : 0 < d → d < 34 → slice_get T'.entries d ≡ Some (entry_in told fs d)
+      mine : 0 < d → d < 34 → slice_get T'.entries d ≡ Some (table_entry_in told fs d)
       mine pos less =
           let inside : d < length T.entries = subst (λ z. d < z) (sym k.wide) less in
           ap (λ z. slice_get z d) (set_there pos less) ∙ (set_same T.entries d l.saved.replaced inside ∙ ap Some (k.replaced fs [] x e untold newest pos less l.saved here))
 
-      entries : (r : ℕ) → 0 < r → r < 34 → slice_get T'.entries r ≡ Some (entry_in told (trail P V.tenants) r)
+      entries : (r : ℕ) → 0 < r → r < 34 → slice_get T'.entries r ≡ Some (table_entry_in told (trail P V.tenants) r)
       entries r pos less =
           dite (ℕ_discrete d r)
-          (λ same. subst (λ z. slice_get T'.entries z ≡ Some (entry_in told fs z)) same (mine (subst (λ z. 0 < z) (sym same) pos) (subst (λ z. z < 34) (sym same) less)))
+          (λ same. subst (λ z. slice_get T'.entries z ≡ Some (table_entry_in told fs z)) same (mine (subst (λ z. 0 < z) (sym same) pos) (subst (λ z. z < 34) (sym same) less)))
           (λ n. other r n (cases_lt 0 d) (cases_lt d 34) ∙ old_entry r pos less n)
-          ∙ ap (λ z. Some (entry_in told z r)) (sym f)
+          ∙ ap (λ z. Some (table_entry_in told z r)) (sym f)
 
   -- the last one of the path goes on elsewhere
   pub table_mended : (T : Table) → HasTable P U told T → (fs : List Note) (x y : Note) → trail P U.tenants ≡ fs ++ x ∷ [] → trail P V.tenants ≡ fs ++ y ∷ [] → y.at ≡ x.at
@@ -211,24 +210,24 @@ module _ (P : Program) (C : Sizes) (U : UpdateUnit) (by p : ℕ) (act : Act) (a 
   table_mended T k fs x y e f same_at station tag dest = record {
     wide = k.wide;
     deep = k.deep;
-    entries = λ r pos less. k.entries r pos less ∙ ap Some (ap (λ z. entry_in told z r) e ∙ (entry_same r ∙ ap (λ z. entry_in told z r) (sym f)));
+    entries = λ r pos less. k.entries r pos less ∙ ap Some (ap (λ z. table_entry_in told z r) e ∙ (entry_same r ∙ ap (λ z. table_entry_in told z r) (sym f)));
     latest = latest_on T.latest k.latest;
     stale = stale_on T k;
     replaced = λ xs ys n split untold newest pos less s g. replaced xs ys n split (last_cases ys) untold newest pos less s g;
   }
     where
-      entry_same : (r : ℕ) → entry_in told (fs ++ x ∷ []) r ≡ entry_in told (fs ++ y ∷ []) r
+      entry_same : (r : ℕ) → table_entry_in told (fs ++ x ∷ []) r ≡ table_entry_in told (fs ++ y ∷ []) r
       entry_same r =
           entry_more told fs x r
-          ∙ (ap (λ z. entry_of told (cond (eqb z r) (Some x) (newest_note None fs r))) (sym dest)
+          ∙ (ap (λ z. table_entry told (cond (eqb z r) (Some x) (newest_note None fs r))) (sym dest)
           ∙ (either (eqb y.what.destination r) ∙ sym (entry_more told fs y r)))
         where
-          either : (b : Bool) → entry_of told (cond b (Some x) (newest_note None fs r)) ≡ entry_of told (cond b (Some y) (newest_note None fs r))
+          either : (b : Bool) → table_entry told (cond b (Some x) (newest_note None fs r)) ≡ table_entry told (cond b (Some y) (newest_note None fs r))
           either true = λ i. cond (leb told (sym same_at i)) (Some (record { station = sym station i; tag = sym tag i })) None
           either false = refl
 
       replaced : (xs ys : List Note) (n : Note) → trail P V.tenants ≡ xs ++ n ∷ ys → (ys ≡ []) ⊎ Last ys → told ≤ n.at → IsNewest V n → 0 < n.what.destination → n.what.destination < 34 → (s : Saved)
-          → slice_get T.latest n.what.station ≡ Some s → s.replaced ≡ entry_in told xs n.what.destination
+          → slice_get T.latest n.what.station ≡ Some s → s.replaced ≡ table_entry_in told xs n.what.destination
       replaced xs ys n split (inl none) untold newest pos less s g =
           let two = last_same fs xs y n (sym f ∙ (split ∙ ap (λ z. xs ++ n ∷ z) none)) in
           let d : n.what.destination ≡ x.what.destination = ap (λ (z : Note). z.what.destination) (sym two.ones) ∙ dest in
@@ -236,7 +235,7 @@ module _ (P : Program) (C : Sizes) (U : UpdateUnit) (by p : ℕ) (act : Act) (a 
           let here : n.at ≡ x.at = ap (λ (z : Note). z.at) (sym two.ones) ∙ same_at in
           let last : IsNewest U x = subst (λ (z : ℕ × ℕ). IsLastAt U z.0 z.1) (λ i. (here i, place i)) (last_back n.at n.what.station newest) in
           k.replaced fs [] x e (subst (λ z. told ≤ z) here untold) last (subst (λ z. 0 < z) d pos) (subst (λ z. z < 34) d less) s (ap (slice_get T.latest) (sym place) ∙ g)
-          ∙ (λ i. entry_in told (two.fronts i) (sym d i))
+          ∙ (λ i. table_entry_in told (two.fronts i) (sym d i))
       replaced xs ys n split (inr l) untold newest pos less s g =
           let long : fs ++ y ∷ [] ≡ (xs ++ n ∷ l.front) ++ l.one ∷ [] = sym f ∙ (split ∙ (ap (λ z. xs ++ n ∷ z) l.is ∙ sym (append_assoc xs (n ∷ l.front) (l.one ∷ [])))) in
           let two = last_same fs (xs ++ n ∷ l.front) y l.one long in
@@ -272,8 +271,7 @@ module _ (P : Program) (C : Sizes) (told : ℕ) (T : Table) where
 
 module _ (P : Program) (C : Sizes) (U : UpdateUnit) (by index predicted : ℕ) (first second : Supply) (told : ℕ) (T T' : Table) (k : HasTable P U told T) (past : told ≤ length U.tenants)
     (inside : (new_tenant P C U index predicted first second).station < 32)
-    (unique : (p q : ℕ) (t u : Tenant) → told ≤ p → told ≤ q → at (applied P C U by (Let index predicted first second)).tenants p ≡ Some t →
-    at (applied P C U by (Let index predicted first second)).tenants q ≡ Some u → t.station ≡ u.station → t.tag ≡ u.tag → p ≡ q)
+    (unique : (p q : ℕ) (t u : Tenant) → told ≤ p → told ≤ q → at (applied P C U by (Let index predicted first second)).tenants p ≡ Some t → at (applied P C U by (Let index predicted first second)).tenants q ≡ Some u → t.station ≡ u.station → t.tag ≡ u.tag → p ≡ q)
     (entered : IsEntered T T' (record_of P (new_tenant P C U index predicted first second))) where
   abbrev new : Tenant
   new = new_tenant P C U index predicted first second
@@ -331,7 +329,7 @@ module _ (P : Program) (C : Sizes) (U : UpdateUnit) (by index predicted : ℕ) (
           (λ (x : (p ≡ length U.tenants) × (new ≡ t)). absurd (n (ap (λ (z : Tenant). z.station) (sym x.1))))
           (at_cases new U.tenants p t is)
 
-  entries_set : 0 < d → d < 34 → T'.entries ≡ slice_set T.entries d (entry_of told (Some (note P U.tenants new)))
+  entries_set : 0 < d → d < 34 → T'.entries ≡ slice_set T.entries d (table_entry told (Some (note P U.tenants new)))
   entries_set pos less = e.entries pos less ∙ ap (slice_set T.entries d) (sym (entry_there told (note P U.tenants new) past))
 
   other : (r : ℕ) → d ≢ r → (0 < d) ⊎ (d ≤ 0) → (d < 34) ⊎ (34 ≤ d) → slice_get T'.entries r ≡ slice_get T.entries r
@@ -344,26 +342,25 @@ module _ (P : Program) (C : Sizes) (U : UpdateUnit) (by index predicted : ℕ) (
   wide (inl pos) (inr more) = ap (λ z. length z) (e.none (λ b. omega (arith, b.1, more))) ∙ k.wide
   wide (inr none) h = ap (λ z. length z) (e.none (λ b. omega (arith, b.0, none))) ∙ k.wide
 
-  mine : 0 < d → d < 34 → slice_get T'.entries d ≡ Some (entry_in told (trail P U.tenants ++ note P U.tenants new ∷ []) d)
+  mine : 0 < d → d < 34 → slice_get T'.entries d ≡ Some (table_entry_in told (trail P U.tenants ++ note P U.tenants new ∷ []) d)
   mine pos less =
       ap (λ z. slice_get z d) (entries_set pos less)
       ∙ (set_same T.entries d _ (subst (λ z. d < z) (sym k.wide) less)
       ∙ ap Some (sym (entry_new told (trail P U.tenants) (note P U.tenants new) d refl)))
 
-  entries : (r : ℕ) → 0 < r → r < 34 → slice_get T'.entries r ≡ Some (entry_in told (trail P W.tenants) r)
+  entries : (r : ℕ) → 0 < r → r < 34 → slice_get T'.entries r ≡ Some (table_entry_in told (trail P W.tenants) r)
   entries r pos less =
       dite (ℕ_discrete d r)
-      (λ same. subst (λ z. slice_get T'.entries z ≡ Some (entry_in told (trail P U.tenants ++ note P U.tenants new ∷ []) z)) same
-      (mine (subst (λ z. 0 < z) (sym same) pos) (subst (λ z. z < 34) (sym same) less)))
+      (λ same. subst (λ z. slice_get T'.entries z ≡ Some (table_entry_in told (trail P U.tenants ++ note P U.tenants new ∷ []) z)) same (mine (subst (λ z. 0 < z) (sym same) pos) (subst (λ z. z < 34) (sym same) less)))
       (λ n. other r n (cases_lt 0 d) (cases_lt d 34) ∙ (k.entries r pos less ∙ ap Some (sym (entry_else told (trail P U.tenants) (note P U.tenants new) r n))))
-      ∙ ap (λ z. Some (entry_in told z r)) (sym path)
+      ∙ ap (λ z. Some (table_entry_in told z r)) (sym path)
 
   -- one in the middle of the path was there before
   noted_in : (xs ys : List Note) (n : Note) → trail P U.tenants ≡ xs ++ n ∷ ys → IsNoted P U.tenants n
   noted_in xs ys n f = (all_rest (IsNoted P U.tenants) xs (n ∷ ys) (subst (AllByRecursion (IsNoted P U.tenants)) f (trail_noted P U.tenants))).0
 
   replaced : (xs ys : List Note) (n : Note) → trail P W.tenants ≡ xs ++ n ∷ ys → (ys ≡ []) ⊎ Last ys → told ≤ n.at → IsNewest W n → 0 < n.what.destination → n.what.destination < 34 → (s : Saved)
-      → slice_get T'.latest n.what.station ≡ Some s → s.replaced ≡ entry_in told xs n.what.destination
+      → slice_get T'.latest n.what.station ≡ Some s → s.replaced ≡ table_entry_in told xs n.what.destination
   replaced xs ys n split (inl none) untold newest pos less s g =
       let two = last_same (trail P U.tenants) xs (note P U.tenants new) n (sym path ∙ (split ∙ ap (λ z. xs ++ n ∷ z) none)) in
       let place : n.what.station ≡ new.station = ap (λ (z : Note). z.what.station) (sym two.ones) in
@@ -371,7 +368,7 @@ module _ (P : Program) (C : Sizes) (U : UpdateUnit) (by index predicted : ℕ) (
       let its : e.saved ≡ s = same_saved e.saved s (sym latest_here ∙ (ap (slice_get T'.latest) (sym place) ∙ g)) in
       ap (λ (z : Saved). z.replaced) (sym its)
       ∙ (e.replaced _ (k.entries d (subst (λ z. 0 < z) same pos) (subst (λ z. z < 34) same less))
-      ∙ (λ i. entry_in told (two.fronts i) (sym same i)))
+      ∙ (λ i. table_entry_in told (two.fronts i) (sym same i)))
   replaced xs ys n split (inr l) untold newest pos less s g =
       let long : trail P U.tenants ++ note P U.tenants new ∷ [] ≡ (xs ++ n ∷ l.front) ++ l.one ∷ [] = sym path ∙ (split ∙ (ap (λ z. xs ++ n ∷ z) l.is ∙ sym (append_assoc xs (n ∷ l.front) (l.one ∷ [])))) in
       let two = last_same (trail P U.tenants) (xs ++ n ∷ l.front) (note P U.tenants new) l.one long in

@@ -1,6 +1,5 @@
 -- What the predictor is told is what the last tenant of the station did.
-use Rattle.std.proofs.Common.{◌≡◌, ◌≢◌, ℕ, ◌<◌, Bool, ◌&&◌, List, ◌∷◌, ◌++◌, length, Option, Some, None, refl, sym, ap, ◌∙◌, subst, zero, suc, ◌+◌, ◌-◌, ◌≤◌, [], cond, eqb, eqb-true, eq-eqb, true}
-use Rattle.std.proofs.Common.{false, true≢false, inl, inr, ⊎_elim, arith}
+use Rattle.std.proofs.Common.{◌≡◌, ◌≢◌, ℕ, ◌<◌, Bool, ◌&&◌, List, ◌∷◌, ◌++◌, length, Option, Some, None, refl, sym, ap, ◌∙◌, subst, zero, suc, ◌+◌, ◌-◌, ◌≤◌, [], cond, eqb, eqb-true, eq-eqb, true, false, true≢false, inl, inr, ⊎_elim, arith}
 use Rattle.std.specs.List.{AllByRecursion}
 use Rattle.instructions.specs.Operations.{outcome_by}
 use Rattle.instructions.specs.Programs.{Program}
@@ -13,8 +12,7 @@ use Rattle.inorder.specs.History.{IsLegal, unit_of}
 use Rattle.inorder.specs.Callers.{IsLastAt, is_retired, stands_retired}
 use Rattle.inorder.specs.StationWords.{last_of}
 use Rattle.inorder.specs.Steps.{CanRetire}
-use Rattle.inorder.specs.Tenants.{behind, Addr, Busy, Done, Fate, Live, Miss, Open, Retired, Squashed, Standing, Stopped, Tenant, computed, computed_next, instr, kind_of, next_by, operand_value}
-use Rattle.inorder.specs.Tenants.{stands_on_path}
+use Rattle.inorder.specs.Tenants.{behind, Addr, Busy, Done, Fate, Live, Miss, Open, Retired, Squashed, Standing, Stopped, Tenant, computed, computed_next, instr, kind_of, next_by, operand_value, stands_on_path}
 use Rattle.inorder.specs.Unit.{Sizes, UpdateUnit, at, newest_of, next_station, older, recent, younger}
 use Rattle.inorder.proofs.Basics.{split_at}
 use Rattle.inorder.proofs.Fated.{follows_from}
@@ -23,12 +21,12 @@ use Rattle.inorder.proofs.Histories.{unit_sound}
 use Rattle.inorder.proofs.Sound.{GoesOn, IsSound, IsSoundAt}
 use Rattle.inorder.proofs.Creators.{at_cases}
 use Rattle.inorder.proofs.Positions.{at_below, at_more, at_new}
-use Rattle.front.specs.Path.{told_of}
+use Rattle.front.specs.Path.{rested_at}
 use Rattle.front.specs.declared.path.base_state.Base.{Base}
 use Rattle.front.specs.declared.path.record.Record.{Record}
 use Rattle.front.specs.Fetching.{IsLeft}
-use Rattle.front.specs.Knows.{IsFolded, IsNewest, Knows}
-use Rattle.front.specs.Training.{IsTold, ToldIf, untold}
+use Rattle.front.specs.Knows.{IsFolded, IsNewest, FrontKnows}
+use Rattle.front.specs.Training.{PredictorIsTold, ToldIf, untold}
 use Rattle.front.specs.Trail.{Note, is_guessed, trail}
 use Rattle.front.proofs.Lists.{all_both, all_front, all_two}
 use Rattle.front.proofs.Named.{notes_noted, one_named, stands_right}
@@ -138,7 +136,8 @@ untold_spot us told s t e =
     let below = at_below us l.0.p t l.0.is in
     record { spot = l.0; new = omega (arith, l.1, below) }
 
-pub untold_last : (us : List Tenant) (told p s : ℕ) (t : Tenant) → at us p ≡ Some t → told ≤ p → t.station ≡ s → ((q : ℕ) (u : Tenant) → p < q → at us q ≡ Some u → u.station ≢ s) →
+pub untold_last : (us : List Tenant) (told p s : ℕ) (t : Tenant) → at us p ≡ Some t → told ≤ p →
+    t.station ≡ s → ((q : ℕ) (u : Tenant) → p < q → at us q ≡ Some u → u.station ≢ s) →
     last_of (untold told us) s ≡ Some t
 untold_last us told p s t is new place last =
     let V : UpdateUnit = record { tenants = us; fresh = length us - told } in
@@ -146,8 +145,7 @@ untold_last us told p s t is new place last =
     ap (last_of (untold told us)) (sym place)
     ∙ last_of_recent V p t is (new_by V p (omega (arith, new, below))) (λ q u lt e f. last q u lt e (f ∙ place))
 
-module _ {S : Type 0} (Learns : S → ℕ → ℕ → S → Type 0) (P : Program) (C : Sizes) (h : List Entry) (legal : IsLegal P C h) (records : List Record) (base : Base)
-    (k : Knows P C (unit_of P C h) records base) where
+module _ {S : Type 0} (Learns : S → ℕ → ℕ → S → Type 0) (P : Program) (C : Sizes) (h : List Entry) (legal : IsLegal P C h) (records : List Record) (base : Base) (k : FrontKnows P C (unit_of P C h) records base) where
   abbrev U : UpdateUnit
   U = unit_of P C h
 
@@ -155,59 +153,59 @@ module _ {S : Type 0} (Learns : S → ℕ → ℕ → S → Type 0) (P : Program
   next = next_station C (recent U)
 
   -- fewer tenants than stations: nobody is told of
-  pub nobody_told : length records < C.ring → (s : S) → IsTold Learns P (last_of (untold (told_of base) U.tenants) next) s s
-  nobody_told few s = go (last_of (untold (told_of base) U.tenants) next) refl
+  pub nobody_told : length records < C.ring → (s : S) → PredictorIsTold Learns P (last_of (untold (rested_at base) U.tenants) next) s s
+  nobody_told few s = go (last_of (untold (rested_at base) U.tenants) next) refl
     where
-      reused_never : (n : Note) → IsNoted P U.tenants n → IsFolded U (told_of base) n → (t : Tenant) → at U.tenants n.at ≡ Some t → told_of base ≤ n.at → t.station ≡ next → IsLastAt U n.at next → ⊥
+      reused_never : (n : Note) → IsNoted P U.tenants n → IsFolded U (rested_at base) n → (t : Tenant) →
+          at U.tenants n.at ≡ Some t → rested_at base ≤ n.at → t.station ≡ next → IsLastAt U n.at next → ⊥
       reused_never n i (inr l) t is new place last = absurd (omega (arith, l, new))
       reused_never n i (inl r) t is new place last =
           let one = same_tenant i.tenant t (sym i.is ∙ is) in
           let same : n.what.station ≡ next = ap (λ (z : Record). z.station) (sym i.what) ∙ (ap (λ (z : Tenant). z.station) one ∙ place) in
           last r.p r.tenant.tenant r.behind r.tenant.is (r.tenant.fact ∙ same)
 
-      other_never : (n : Note) → IsNoted P U.tenants n → n.what.station ≢ next → (t : Tenant) → at U.tenants n.at ≡ Some t → told_of base ≤ n.at → t.station ≡ next → IsLastAt U n.at next → ⊥
+      other_never : (n : Note) → IsNoted P U.tenants n → n.what.station ≢ next → (t : Tenant) → at U.tenants n.at ≡ Some t → rested_at base ≤ n.at → t.station ≡ next → IsLastAt U n.at next → ⊥
       other_never n i ne t is new place last =
           let one = same_tenant i.tenant t (sym i.is ∙ is) in
           ne (ap (λ (z : Record). z.station) (sym i.what) ∙ (ap (λ (z : Tenant). z.station) one ∙ place))
 
-      all_never : AllByRecursion (λ n. (t : Tenant) → at U.tenants n.at ≡ Some t → told_of base ≤ n.at → t.station ≡ next → IsLastAt U n.at next → ⊥) (trail P U.tenants)
+      all_never : AllByRecursion (λ n. (t : Tenant) → at U.tenants n.at ≡ Some t → rested_at base ≤ n.at → t.station ≡ next → IsLastAt U n.at next → ⊥) (trail P U.tenants)
       all_never =
-          let Q : Note → Type 0 = λ n. (t : Tenant) → at U.tenants n.at ≡ Some t → told_of base ≤ n.at → t.station ≡ next → IsLastAt U n.at next → ⊥ in
+          let Q : Note → Type 0 = λ n. (t : Tenant) → at U.tenants n.at ≡ Some t → rested_at base ≤ n.at → t.station ≡ next → IsLastAt U n.at next → ⊥ in
           let noted : AllByRecursion (IsNoted P U.tenants) (k.gone ++ k.notes) = subst (AllByRecursion (IsNoted P U.tenants)) k.path (trail_noted P U.tenants) in
           subst (AllByRecursion Q) (sym k.path)
           (all_both Q k.gone k.notes
-          (all_two (IsNoted P U.tenants) (IsFolded U (told_of base)) Q reused_never k.gone (all_front (IsNoted P U.tenants) k.gone k.notes noted) k.again)
-          (all_two (IsNoted P U.tenants) (λ n. n.what.station ≢ next) Q other_never k.notes (notes_noted P C h legal records base (IsFolded U (told_of base)) k)
-          (others_next P C U records base (IsFolded U (told_of base)) k (stands_right P C h legal) few)))
+          (all_two (IsNoted P U.tenants) (IsFolded U (rested_at base)) Q reused_never k.gone (all_front (IsNoted P U.tenants) k.gone k.notes noted) k.again)
+          (all_two (IsNoted P U.tenants) (λ n. n.what.station ≢ next) Q other_never k.notes (notes_noted P C h legal records base (IsFolded U (rested_at base)) k) (others_next P C U records base (IsFolded U (rested_at base)) k (stands_right P C h legal) few)))
 
-      by : (t : Tenant) (st : Standing) → t.standing ≡ st → last_of (untold (told_of base) U.tenants) next ≡ Some t → ToldIf Learns (stands_retired st && is_guessed P t) t.pc (computed_next P t) s s
+      by : (t : Tenant) (st : Standing) → t.standing ≡ st → last_of (untold (rested_at base) U.tenants) next ≡ Some t → ToldIf Learns (stands_retired st && is_guessed P t) t.pc (computed_next P t) s s
       by t Live e f = refl
       by t Squashed e f = refl
       by t Retired e f =
-          let l = untold_spot U.tenants (told_of base) next t f in
-          absurd (trail_all P (λ n. (t : Tenant) → at U.tenants n.at ≡ Some t → told_of base ≤ n.at → t.station ≡ next → IsLastAt U n.at next → ⊥) U.tenants all_never l.spot.p t l.spot.is
-          (ap stands_on_path e) t l.spot.is l.new l.spot.place l.spot.last)
+          let l = untold_spot U.tenants (rested_at base) next t f in
+          absurd (trail_all P (λ n. (t : Tenant) → at U.tenants n.at ≡ Some t → rested_at base ≤ n.at → t.station ≡ next → IsLastAt U n.at next → ⊥) U.tenants all_never l.spot.p t l.spot.is (ap stands_on_path e) t l.spot.is l.new l.spot.place l.spot.last)
 
-      go : (o : Option Tenant) → last_of (untold (told_of base) U.tenants) next ≡ o → IsTold Learns P o s s
+      go : (o : Option Tenant) → last_of (untold (rested_at base) U.tenants) next ≡ o → PredictorIsTold Learns P o s s
       go None e = refl
       go (Some t) e = by t t.standing refl e
 
   -- the oldest leaves: it is told of
-  pub oldest_told : (n : Note) (ns : List Note) → k.notes ≡ n ∷ ns → n.what.station ≡ next → (left : ℕ) → IsLeft U n.what left → (s s' : S) → ToldIf Learns n.what.guessed n.what.pc n.what.next s s' →
-      IsTold Learns P (last_of (untold (told_of base) U.tenants) next) s s'
+  pub oldest_told : (n : Note) (ns : List Note) → k.notes ≡ n ∷ ns → n.what.station ≡ next → (left : ℕ) →
+      IsLeft U n.what left → (s s' : S) → ToldIf Learns n.what.guessed n.what.pc n.what.next s s' →
+      PredictorIsTold Learns P (last_of (untold (rested_at base) U.tenants) next) s s'
   oldest_told n ns e place left gone s s' told =
-      let noted : IsNoted P U.tenants n = (subst (AllByRecursion (IsNoted P U.tenants)) e (notes_noted P C h legal records base (IsFolded U (told_of base)) k)).0 in
+      let noted : IsNoted P U.tenants n = (subst (AllByRecursion (IsNoted P U.tenants)) e (notes_noted P C h legal records base (IsFolded U (rested_at base)) k)).0 in
       let newest : IsNewest U n = (subst (AllByRecursion (IsNewest U)) e k.newest).0 in
       let t = noted.tenant in
       let i = gone.tenant in
-      let untold_one = (subst (AllByRecursion (λ n. told_of base ≤ n.at)) e k.untold).0 in
-      let new = kept_new P C U records base (IsFolded U (told_of base)) k n.at untold_one in
+      let untold_one = (subst (AllByRecursion (λ n. rested_at base ≤ n.at)) e k.untold).0 in
+      let new = kept_new P C U records base (IsFolded U (rested_at base)) k n.at untold_one in
       let p : gone.p ≡ n.at = one_named P C h legal gone.p n.at i.tenant t i.is noted.is i.new new (i.station_is ∙ ap (λ (z : Record). z.station) (sym noted.what)) (i.tag_is ∙ ap (λ (z : Record). z.tag) (sym noted.what)) in
       let one : i.tenant ≡ t = same_tenant i.tenant t (sym i.is ∙ (ap (at U.tenants) p ∙ noted.is)) in
       let retired : t.standing ≡ Retired = ap (λ (z : Tenant). z.standing) (sym one) ∙ i.fact.retired in
-      let last : last_of (untold (told_of base) U.tenants) next ≡ Some t = untold_last U.tenants (told_of base) n.at next t noted.is untold_one (ap (λ (z : Record). z.station) noted.what ∙ place) (λ q u lt is same. newest q u lt is (same ∙ sym place)) in
+      let last : last_of (untold (rested_at base) U.tenants) next ≡ Some t = untold_last U.tenants (rested_at base) n.at next t noted.is untold_one (ap (λ (z : Record). z.station) noted.what ∙ place) (λ q u lt is same. newest q u lt is (same ∙ sym place)) in
       let went : computed_next P t ≡ n.what.next = went_on P U.tenants (unit_sound P C h legal) n.at t noted.is retired ∙ ap (λ (z : Record). z.next) noted.what in
       let guessed : is_retired t && is_guessed P t ≡ n.what.guessed = ap (λ z. stands_retired z && is_guessed P t) retired ∙ ap (λ (z : Record). z.guessed) noted.what in
       let pc : t.pc ≡ n.what.pc = ap (λ (z : Record). z.pc) noted.what in
-      subst (λ o. IsTold Learns P o s s') (sym last)
+      subst (λ o. PredictorIsTold Learns P o s s') (sym last)
       (subst (λ (z : Bool × (ℕ × ℕ)). ToldIf Learns z.0 z.1.0 z.1.1 s s') (λ j. (sym guessed j, (sym pc j, sym went j))) told)

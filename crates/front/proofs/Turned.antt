@@ -19,10 +19,10 @@ use Rattle.front.specs.declared.fetch.Fetched.{Fetched}
 use Rattle.front.specs.declared.path.Path.{Path}
 use Rattle.front.specs.declared.path.record.Record.{Record}
 use Rattle.front.specs.Fetching.{HasLeft, IsLeft, OldestLeft}
-use Rattle.front.specs.Knows.{IsFolded, Knows, whats}
-use Rattle.front.specs.Path.{Releases, told_of}
+use Rattle.front.specs.Knows.{IsFolded, FrontKnows, whats}
+use Rattle.front.specs.Path.{Releases, rested_at}
 use Rattle.front.specs.Questions.{IsDispatched}
-use Rattle.front.specs.Training.{Guesses, IsAsked, IsTold, ToldIf, ToldOf, untold}
+use Rattle.front.specs.Training.{Guesses, PredictorIsAsked, PredictorIsTold, ToldIf, ToldOf, untold}
 use Rattle.front.specs.Trail.{Note}
 use Rattle.front.specs.Turns.{IsLet, LetsOut}
 use Rattle.front.proofs.Looked.{left_stable}
@@ -35,7 +35,8 @@ head_of : (a b : Record) (us vs : List Record) → a ∷ us ≡ b ∷ vs → a �
 head_of a b us vs e = cc e
 
 -- where nothing was added before
-pub lets_since : (P : Program) (C : Sizes) (begin old new : List Entry) (station tag pc predicted : ℕ) → Adds P C front begin old [] → LetsOut P C old new station tag pc predicted →
+pub lets_since : (P : Program) (C : Sizes) (begin old new : List Entry) (station tag pc predicted : ℕ) →
+    Adds P C front begin old [] → LetsOut P C old new station tag pc predicted →
     LetsOut P C begin new station tag pc predicted
 lets_since P C begin old new station tag pc predicted a l =
     let events = l.second_asked ++ (l.first_asked ++ Does (Let l.index predicted l.first l.second) ∷ []) in
@@ -56,24 +57,21 @@ lets_since P C begin old new station tag pc predicted a l =
       adds = subst (λ z. Adds P C front begin new z) (append-nil events) (adds_on P C front begin old new [] events a l.adds);
     }
 
-module _ {S : Type 0} (Predicts : S → ℕ → Instr → ℕ → S → Type 0) (Learns : S → ℕ → ℕ → S → Type 0) (P : Program) (C : Sizes) (begin old new : List Entry) (records : List Record) (base : Base)
-    (k : Knows P C (unit_of P C begin) records base) (adds : Adds P C front begin old [])
-    (f : Fetched) (oldest : OldestLeft C (unit_of P C old) records f.left) (ring : ℕ) (ring_is : ring ≡ C.ring) (path path' : Path) (path_is : path.records ≡ records) (predicted tag : ℕ)
-    (d : IsDispatched P C old new f predicted tag) where
+module _ {S : Type 0} (Predicts : S → ℕ → Instr → ℕ → S → Type 0) (Learns : S → ℕ → ℕ → S → Type 0) (P : Program) (C : Sizes) (begin old new : List Entry) (records : List Record) (base : Base) (k : FrontKnows P C (unit_of P C begin) records base) (adds : Adds P C front begin old [])
+    (f : Fetched) (oldest : OldestLeft C (unit_of P C old) records f.left) (ring : ℕ) (ring_is : ring ≡ C.ring) (path path' : Path) (path_is : path.records ≡ records) (predicted tag : ℕ) (d : IsDispatched P C old new f predicted tag) where
   abbrev point : List Entry
   point = d.lets.point
 
-  knows_there : Knows P C (unit_of P C point) records base
-  knows_there = stays P C (λ U. Knows P C U records base) (knows_stable P C records base) old point d.lets.before
-      (stays P C (λ U. Knows P C U records base) (knows_stable P C records base) begin old adds k)
+  knows_there : FrontKnows P C (unit_of P C point) records base
+  knows_there = stays P C (λ U. FrontKnows P C U records base) (knows_stable P C records base) old point d.lets.before (stays P C (λ U. FrontKnows P C U records base) (knows_stable P C records base) begin old adds k)
 
-  told_there : (left : Option Record) → Releases ring f.left path left path' → (s s' : S) → ToldOf Learns left s s' →
-      IsTold Learns P (last_of (untold (told_of base) (unit_of P C point).tenants) f.station) s s'
+  told_there : (left : Option Record) → Releases ring f.left path left path' → (s s' : S) →
+      ToldOf Learns left s s' →
+      PredictorIsTold Learns P (last_of (untold (rested_at base) (unit_of P C point).tenants) f.station) s s'
   told_there None r s s' told =
       let few : length records < C.ring = subst (λ z. length records < z) ring_is (subst (λ z. length z < ring) path_is r.0) in
-      subst (λ z. IsTold Learns P (last_of (untold (told_of base) (unit_of P C point).tenants) z) s s') (sym d.lets.station_is)
-      (subst (λ z. IsTold Learns P (last_of (untold (told_of base) (unit_of P C point).tenants) (next_station C (recent (unit_of P C point)))) s z) (sym told)
-      (nobody_told Learns P C point d.lets.before.legal records base knows_there few s))
+      subst (λ z. PredictorIsTold Learns P (last_of (untold (rested_at base) (unit_of P C point).tenants) z) s s') (sym d.lets.station_is)
+      (subst (λ z. PredictorIsTold Learns P (last_of (untold (rested_at base) (unit_of P C point).tenants) (next_station C (recent (unit_of P C point)))) s z) (sym told) (nobody_told Learns P C point d.lets.before.legal records base knows_there few s))
   told_there (Some x) r s s' told = go knows_there.notes refl
     where
       are : records ≡ x ∷ path'.records
@@ -82,20 +80,21 @@ module _ {S : Type 0} (Predicts : S → ℕ → Instr → ℕ → S → Type 0) 
       full : C.ring ≤ length records
       full = subst (λ z. z ≤ length records) ring_is (subst (λ z. ring ≤ length z) path_is r.0)
 
-      go : (xs : List Note) → knows_there.notes ≡ xs → IsTold Learns P (last_of (untold (told_of base) (unit_of P C point).tenants) f.station) s s'
+      go : (xs : List Note) → knows_there.notes ≡ xs → PredictorIsTold Learns P (last_of (untold (rested_at base) (unit_of P C point).tenants) f.station) s s'
       go [] e = let n = ap (λ z. length z) (sym are ∙ (knows_there.are ∙ ap whats e)) in absurd (omega arith)
       go (n ∷ ns) e =
           let one : n.what ≡ x = head_of n.what x (whats ns) path'.records (sym (ap whats e) ∙ (sym knows_there.are ∙ are)) in
           let gone = oldest x path'.records are full in
           let still = stays P C (λ U. IsTenant U gone.p x.station x.tag (HasLeft f.left)) (left_stable P C gone.p x.station x.tag f.left) old point d.lets.before gone.tenant in
           let left : IsLeft (unit_of P C point) n.what f.left = subst (λ z. IsLeft (unit_of P C point) z f.left) (sym one) (record { p = gone.p; tenant = still }) in
-          let place = next_is P C point d.lets.before.legal records base (IsFolded (unit_of P C point) (told_of base)) knows_there n ns e full in
+          let place = next_is P C point d.lets.before.legal records base (IsFolded (unit_of P C point) (rested_at base)) knows_there n ns e full in
           let its : ToldIf Learns n.what.guessed n.what.pc n.what.next s s' = subst (λ (z : Record). ToldIf Learns z.guessed z.pc z.next s s') (sym one) told in
-          subst (λ z. IsTold Learns P (last_of (untold (told_of base) (unit_of P C point).tenants) z) s s') (sym d.lets.station_is)
+          subst (λ z. PredictorIsTold Learns P (last_of (untold (rested_at base) (unit_of P C point).tenants) z) s s') (sym d.lets.station_is)
           (oldest_told Learns P C point d.lets.before.legal records base knows_there n ns e place f.left left s s' its)
 
-  pub is_let : (left : Option Record) → Releases ring f.left path left path' → (s s' : S) → Guesses Predicts Learns left f.instr f.half f.pc predicted s s' →
-      IsLet Predicts Learns P C (told_of base) begin new s s' f.station tag f.pc
+  pub is_let : (left : Option Record) → Releases ring f.left path left path' → (s s' : S) →
+      Guesses Predicts Learns left f.instr f.half f.pc predicted s s' →
+      IsLet Predicts Learns P C (rested_at base) begin new s s' f.station tag f.pc
   unfolding lets_since
   is_let left r s s' g = record {
     predicted = predicted;
@@ -103,7 +102,7 @@ module _ {S : Type 0} (Predicts : S → ℕ → Instr → ℕ → S → Type 0) 
     trains = record {
       middle = g.middle;
       told = told_there left r s g.middle g.told;
-      asked = subst (λ (z : Instr × Half). IsAsked Predicts (fixed_next z.0 z.1 f.pc) f.pc z.0 predicted g.middle s')
+      asked = subst (λ (z : Instr × Half). PredictorIsAsked Predicts (fixed_next z.0 z.1 f.pc) f.pc z.0 predicted g.middle s')
           (λ i. (sym d.instr i, sym d.half i)) g.asked;
     };
   }

@@ -23,13 +23,13 @@ abbrev pub maker_of : Note → Maker
 maker_of n = record { station = n.what.station; tag = n.what.tag }
 
 -- The entry of a tenant, if there is one: those before `told` have none
-abbrev pub entry_of : ℕ → Option Note → Option Maker
-entry_of told None = None
-entry_of told (Some n) = if nat_le told n.at then Some (maker_of n) else None
+abbrev pub table_entry : ℕ → Option Note → Option Maker
+table_entry told None = None
+table_entry told (Some n) = if nat_le told n.at then Some (maker_of n) else None
 
 -- The newest of these that writes register r
-abbrev pub entry_in : ℕ → List Note → ℕ → Option Maker
-entry_in told notes r = entry_of told (newest_note None notes r)
+abbrev pub table_entry_in : ℕ → List Note → ℕ → Option Maker
+table_entry_in told notes r = table_entry told (newest_note None notes r)
 
 -- A jump that links has made its value from the start
 abbrev pub made_from_start : Record → Option ℕ
@@ -54,14 +54,14 @@ pub record HasTable (P : Program) (U : UpdateUnit) (told : ℕ) (T : Table) : Ty
   pub wide : length T.entries ≡ 34
   pub deep : length T.latest ≡ 32
   pub entries : (r : ℕ) → 0 < r → r < 34 →
-      slice_get T.entries r ≡ Some (entry_in told (trail P U.tenants) r)
+      slice_get T.entries r ≡ Some (table_entry_in told (trail P U.tenants) r)
   pub latest : (p : ℕ) (t : Tenant) → told ≤ p → at U.tenants p ≡ Some t → IsLastAt U p t.station →
       IsLatest T.latest (record_of P t)
   pub stale : (p q : ℕ) (t u : Tenant) → told ≤ p → p < q → at U.tenants p ≡ Some t → at U.tenants q ≡ Some u →
       u.station ≡ t.station → (s : Saved) → slice_get T.latest t.station ≡ Some s → s.tag ≢ t.tag
   pub replaced : (xs ys : List Note) (n : Note) → trail P U.tenants ≡ xs ++ n ∷ ys → told ≤ n.at →
       IsNewest U n → 0 < n.what.destination → n.what.destination < 34 → (s : Saved) →
-      slice_get T.latest n.what.station ≡ Some s → s.replaced ≡ entry_in told xs n.what.destination
+      slice_get T.latest n.what.station ≡ Some s → s.replaced ≡ table_entry_in told xs n.what.destination
 
 -- What is found of register r: its newest writer, if that one's station was not let again
 
@@ -81,9 +81,9 @@ pub record FindsOne (T : Table) (r : ℕ) (c : Creator) : Type 0 where
   pub made : c.made ≡ saved.made
 
 -- What a look at the entry of r finds
-abbrev pub Finds : Table → ℕ → Option Creator → Type 0
-Finds T r None = FindsNone T r
-Finds T r (Some c) = FindsOne T r c
+abbrev pub EntryFinds : Table → ℕ → Option Creator → Type 0
+EntryFinds T r None = FindsNone T r
+EntryFinds T r (Some c) = FindsOne T r c
 
 -- What a new tenant is given, by what was found; the one at its own station leaves
 
@@ -101,7 +101,7 @@ supply_found own base (Some c) =
 -- The source that reads register r is given so
 pub record IsSupplied (T : Table) (own : ℕ) (base : Base) (r : ℕ) (given : Supply) : Type 0 where
   pub found : Option Creator
-  pub finds : Finds T r found
+  pub finds : EntryFinds T r found
   pub is : given ≡ supply_found own (slice_index base.registers r) found
 
 -- What a let makes of the table

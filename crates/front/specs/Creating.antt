@@ -24,6 +24,6 @@ pub record IsBase (P : Program) (U : UpdateUnit) (told r v : ℕ) : Type 0 where
       told ≤ p → ¬ IsLastAt U p t.station
 
 -- What is answered of register r: its creator, or the value that older ones left
-abbrev pub IsCreator : Program → UpdateUnit → ℕ → ℕ → Made → Type 0
-IsCreator P U told r (IsMade station tag) = IsMaker P U told r station tag
-IsCreator P U told r (Base v) = IsBase P U told r v
+abbrev pub IsCreatorAnswer : Program → UpdateUnit → ℕ → ℕ → Made → Type 0
+IsCreatorAnswer P U told r (IsMade station tag) = IsMaker P U told r station tag
+IsCreatorAnswer P U told r (Base v) = IsBase P U told r v

@@ -12,7 +12,7 @@ use Rattle.ruu_words.specs.Content.{HasValue}
 use Rattle.ruu_words.specs.Kinds.{IsTenant}
 use Rattle.front.specs.declared.fetch.Fetched.{Fetched}
 use Rattle.front.specs.declared.path.record.Record.{Record}
-use Rattle.front.specs.Queues.{live_accesses}
+use Rattle.front.specs.Queues.{how_many_accesses}
 
 -- It has retired, and left this value
 pub record HasLeft (left : ℕ) (t : Tenant) : Type 0 where
@@ -25,14 +25,14 @@ pub record IsLeft (U : UpdateUnit) (x : Record) (left : ℕ) : Type 0 where
   pub tenant : IsTenant U p x.station x.tag (HasLeft left)
 
 -- The instruction can be let to the next station
-pub record IsNext (P : Program) (C : Sizes) (seen : List Entry) (f : Fetched) : Type 0 where
+pub record CanBeLet (P : Program) (C : Sizes) (seen : List Entry) (f : Fetched) : Type 0 where
   pub station : f.station ≡ next_station C (recent (unit_of P C seen))
   pub small : f.station < C.ring
   pub tag : next_tag C (recent (unit_of P C seen)) < last_tag
   pub pc : f.pc ≡ front_pc (unit_of P C seen).tenants
   pub half : f.half ≡ front_half P (unit_of P C seen).tenants
   pub instr : instr_at P f.pc ≡ Some f.instr
-  pub queue : is_access (kind f.instr.op) ≡ true → live_accesses P (unit_of P C seen) < C.queue
+  pub queue : is_access (kind f.instr.op) ≡ true → how_many_accesses P (unit_of P C seen) < C.queue
 
 -- Where all stations have had a tenant, the oldest has left
 abbrev pub OldestLeft : Sizes → UpdateUnit → List Record → ℕ → Type 0
@@ -41,5 +41,5 @@ OldestLeft C U records left =
 
 -- Both, in what was seen
 pub record CanFetch (P : Program) (C : Sizes) (seen : List Entry) (records : List Record) (f : Fetched) : Type 0 where
-  pub next : IsNext P C seen f
+  pub next : CanBeLet P C seen f
   pub oldest : OldestLeft C (unit_of P C seen) records f.left

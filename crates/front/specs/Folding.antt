@@ -16,6 +16,6 @@ pub record IsFolding (core : TheCore) (seen : List Entry) (path : Path) : Type 0
   pub goes : GoesOnAt core.program core.sizes (unit_of core.program core.sizes seen) path.base
 
 -- Where nobody was live no record is left, and else all are
-abbrev pub Leaves : Rest → List Record → List Record → Type 0
-Leaves Idle old new = new ≡ []
-Leaves Live old new = new ≡ old
+abbrev pub LeavesRecords : Rest → List Record → List Record → Type 0
+LeavesRecords Idle old new = new ≡ []
+LeavesRecords Live old new = new ≡ old

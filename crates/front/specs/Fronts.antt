@@ -16,21 +16,21 @@ use Rattle.front.specs.declared.path.counted.Counted.{Counted}
 use Rattle.front.specs.declared.path.base_state.Base.{Base}
 use Rattle.front.specs.declared.path.Path.{Path}
 use Rattle.front.specs.CreateTable.{HasTable}
-use Rattle.front.specs.Creating.{IsCreator}
-use Rattle.front.specs.Knows.{Knows}
-use Rattle.front.specs.Path.{told_of}
+use Rattle.front.specs.Creating.{IsCreatorAnswer}
+use Rattle.front.specs.Knows.{FrontKnows}
+use Rattle.front.specs.Path.{rested_at}
 use Rattle.front.specs.Recoveries.{RecoverAnswers}
 use Rattle.front.specs.Rests.{RestAnswers}
 use Rattle.front.specs.Turns.{TurnAnswers}
 
 -- The front has seen this, and knows this much of the path
 abbrev pub KnowsPath : TheCore → List Entry → Path → Type 0
-KnowsPath core seen path = Knows core.program core.sizes (unit_of core.program core.sizes seen) path.records path.base
+KnowsPath core seen path = FrontKnows core.program core.sizes (unit_of core.program core.sizes seen) path.records path.base
 
 -- The create vector is that of the unit, without the tenants that there were when the front last rested
 abbrev pub KnowsTable : TheCore → List Entry → Base → Counted → Type 0
 KnowsTable core seen base creators =
-    HasTable core.program (unit_of core.program core.sizes seen) (told_of base) creators.table
+    HasTable core.program (unit_of core.program core.sizes seen) (rested_at base) creators.table
 
 -- What it has seen has grown, and it has added nothing
 abbrev pub AddsNothing : TheCore → List Entry → List Entry → Type 0
@@ -56,7 +56,7 @@ pub record IsUnused (core : TheCore) (seat : Caller) : Type 0 where
 pub record HasRested (core : TheCore) (seen : List Entry) (path : Path) : Type 0 where
   pub nobody : AllByRecursion IsNotLive (unit_of core.program core.sizes seen).tenants
   pub none : path.records ≡ []
-  pub told : told_of path.base ≡ length (unit_of core.program core.sizes seen).tenants
+  pub told : rested_at path.base ≡ length (unit_of core.program core.sizes seen).tenants
 
 -- The seat is the front's, the path is what it knows, and the create vector is that of the unit
 pub record IsFront (P : Program) (seat : Caller) (path : Path) (creators : Counted) (rested : Bool) : Type 0 where
@@ -73,8 +73,8 @@ TurnsTo Predicts Learns core old new turn =
     TurnAnswers Predicts Learns core.program core.sizes old.told old.seen new.seen old.predictor new.predictor turn
 
 -- What a recovery answers
-abbrev pub RecoversTo : {S : Type 0} → TheCore → TheFront S → TheFront S → Recovery → Type 0
-RecoversTo core old new recovery = RecoverAnswers core.program core.sizes old.seen new.seen recovery
+abbrev pub FrontRecoversTo : {S : Type 0} → TheCore → TheFront S → TheFront S → Recovery → Type 0
+FrontRecoversTo core old new recovery = RecoverAnswers core.program core.sizes old.seen new.seen recovery
 
 -- What a rest answers
 abbrev pub RestsTo : {S : Type 0} → (S → ℕ → ℕ → S → Type 0) → TheCore → TheFront S → TheFront S → Rest → Type 0
@@ -83,4 +83,4 @@ RestsTo Learns core old new rest =
 
 -- Who creates a register, by what the front has seen
 abbrev pub CreatorOf : {S : Type 0} → TheFront S → ℕ → Made → Type 0
-CreatorOf f r made = IsCreator f.core.program (unit_of f.core.program f.core.sizes f.seen) f.told r made
+CreatorOf f r made = IsCreatorAnswer f.core.program (unit_of f.core.program f.core.sizes f.seen) f.told r made

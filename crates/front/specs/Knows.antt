@@ -9,7 +9,7 @@ use Rattle.inorder.specs.Unit.{Sizes, UpdateUnit, front_half, front_pc, next_sta
 use Rattle.front.specs.declared.path.base_state.Base.{Base}
 use Rattle.front.specs.declared.path.record.Record.{Record}
 use Rattle.front.specs.Creators.{creator_note, position}
-use Rattle.front.specs.Path.{told_of}
+use Rattle.front.specs.Path.{rested_at}
 use Rattle.front.specs.Trail.{Note, trail}
 
 -- What the front keeps of each
@@ -57,19 +57,19 @@ pub record Stands (P : Program) (C : Sizes) (U : UpdateUnit) (records : List Rec
   pub retired : AllByRecursion (IsGone U) gone
   pub again : AllByRecursion Again gone
   pub newest : AllByRecursion (IsNewest U) notes
-  pub past : told_of base ≤ length U.tenants
+  pub past : rested_at base ≤ length U.tenants
   -- nothing was renewed since: whoever was let behind those is recent
-  pub since : length U.tenants ≤ told_of base + U.fresh
-  pub untold : AllByRecursion (λ n. told_of base ≤ n.at) notes
+  pub since : length U.tenants ≤ rested_at base + U.fresh
+  pub untold : AllByRecursion (λ n. rested_at base ≤ n.at) notes
   pub wide : length base.registers ≡ 34
   pub base_is : (r : ℕ) → r < 34 → value_of U.tenants (position (creator_note gone r)) ≡ Some (slice_index base.registers r)
 
 -- Between two calls: the stations of all older tenants were let again, but for those that there were
 -- when the front last rested
-abbrev pub Knows : Program → Sizes → UpdateUnit → List Record → Base → Type 0
-Knows P C U records base = Stands P C U records base (IsFolded U (told_of base))
+abbrev pub FrontKnows : Program → Sizes → UpdateUnit → List Record → Base → Type 0
+FrontKnows P C U records base = Stands P C U records base (IsFolded U (rested_at base))
 
 -- Before a let: or they are the next tenant's
-pub record IsReady (P : Program) (C : Sizes) (U : UpdateUnit) (records : List Record) (base : Base) : Type 0 where
-  pub stands : Stands P C U records base (IsPassed C U (told_of base))
+pub record RecordsAreReady (P : Program) (C : Sizes) (U : UpdateUnit) (records : List Record) (base : Base) : Type 0 where
+  pub stands : Stands P C U records base (IsPassed C U (rested_at base))
   pub free : length records < C.ring

@@ -13,12 +13,12 @@ use Rattle.front.specs.declared.path.record.Record.{Record}
 use Rattle.front.specs.Trail.{is_link}
 
 -- The record of the youngest tenant
-abbrev pub last_of : List Record → Option Record
-last_of records = slice_get records (length records - 1)
+abbrev pub youngest_record : List Record → Option Record
+youngest_record records = slice_get records (length records - 1)
 
 -- How many tenants there were when the front last rested: what those have left is in the base
-abbrev pub told_of : Base → ℕ
-told_of base =
+abbrev pub rested_at : Base → ℕ
+rested_at base =
     length (unit_of base.rested.value.core.program base.rested.value.core.sizes base.rested.value.seen).tenants
 
 -- Where the path goes on behind a tenant, or without one
@@ -28,7 +28,7 @@ pc_after start (Some x) = x.next
 
 -- The front pc, by the tenants that are kept
 abbrev pub pc_behind : Base → List Record → ℕ
-pc_behind base records = pc_after base.pc (last_of records)
+pc_behind base records = pc_after base.pc (youngest_record records)
 
 -- The half that comes next, by the same
 abbrev pub half_behind_last : Half → Option Record → Half
@@ -36,8 +36,8 @@ half_behind_last start None = start
 half_behind_last start (Some x) = half_after x.first
 
 -- The same by all records
-abbrev pub half_behind : Base → List Record → Half
-half_behind base records = half_behind_last base.half (last_of records)
+abbrev pub next_half : Base → List Record → Half
+next_half base records = half_behind_last base.half (youngest_record records)
 
 -- The station behind that of a tenant on the ring, or the one to go on at
 abbrev pub place_after : ℕ → ℕ → Option Record → ℕ
@@ -45,8 +45,8 @@ place_after ring start None = start % ring
 place_after ring start (Some x) = (x.station + 1) % ring
 
 -- The next tenant's station
-abbrev pub next_place : ℕ → Base → List Record → ℕ
-next_place ring base records = place_after ring base.station (last_of records)
+abbrev pub station_of_next : ℕ → Base → List Record → ℕ
+station_of_next ring base records = place_after ring base.station (youngest_record records)
 
 -- What a tenant has made that left this value in its station's word
 abbrev pub made_of : Record → ℕ → ℕ
@@ -68,8 +68,8 @@ GoesOnWith ring path base =
     base ≡
     record path.base {
       pc = pc_behind path.base path.records;
-      half = half_behind path.base path.records;
-      station = next_place ring path.base path.records;
+      half = next_half path.base path.records;
+      station = station_of_next ring path.base path.records;
     }
 
 -- Where all stations have had a tenant, the next one goes to the oldest's station
@@ -93,6 +93,6 @@ record_for f tag predicted =
     }
 
 -- The youngest goes on elsewhere
-abbrev pub GoesOn : ℕ → List Record → List Record → Type 0
-GoesOn next old new =
+abbrev pub YoungestGoesOn : ℕ → List Record → List Record → Type 0
+YoungestGoesOn next old new =
     (xs : List Record) (x : Record) → old ≡ xs ++ x ∷ [] → new ≡ xs ++ record x { next = next } ∷ []

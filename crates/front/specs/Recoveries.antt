@@ -30,7 +30,7 @@ IsFirst U p =
 
 -- A miss was mended behind the squashes of all younger tenants, the last one first. It was the oldest at the
 -- beginning of the call
-pub record IsMended (P : Program) (C : Sizes) (old new : List Entry) (station squashed : ℕ) : Type 0 where
+pub record MissIsMended (P : Program) (C : Sizes) (old new : List Entry) (station squashed : ℕ) : Type 0 where
   pub p : ℕ
   pub tag : ℕ
   pub named : IsTenant (unit_of P C new) p station tag IsAny
@@ -41,7 +41,7 @@ pub record IsMended (P : Program) (C : Sizes) (old new : List Entry) (station sq
 
 -- What a recovery answers: a miss was mended, or there was none when it began
 abbrev pub RecoverAnswers : Program → Sizes → List Entry → List Entry → Recovery → Type 0
-RecoverAnswers P C old new (Mended station squashed) = IsMended P C old new station squashed
+RecoverAnswers P C old new (Mended station squashed) = MissIsMended P C old new station squashed
 RecoverAnswers P C old new NoMiss = Adds P C front old new [] × HasNoMiss (unit_of P C old)
 
 -- How many were squashed
@@ -52,8 +52,8 @@ squashed_by NoMiss = 0
 -- The stages of a recovery
 
 -- No live miss has this station and tag
-abbrev pub IsNoMiss : UpdateUnit → Record → Type 0
-IsNoMiss U r =
+abbrev pub IsNoLiveMiss : UpdateUnit → Record → Type 0
+IsNoLiveMiss U r =
     (p x : ℕ) (t : Tenant) → at U.tenants p ≡ Some t → t.station ≡ r.station → t.tag ≡ r.tag →
     ¬ IsMissing x t
 
@@ -73,12 +73,12 @@ pub record IsMissAt (P : Program) (C : Sizes) (seen : List Entry) (records : Lis
 -- And it is the first
 pub record IsFound (P : Program) (C : Sizes) (old new : List Entry) (records : List Record) (m : Missed) : Type 0 where
   pub miss : IsMissAt P C new records m
-  pub first : AllByRecursion (IsNoMiss (unit_of P C old)) (take m.at records)
+  pub first : AllByRecursion (IsNoLiveMiss (unit_of P C old)) (take m.at records)
 
 -- What the scan of the records finds: no miss, or the first
-abbrev pub Finds : Program → Sizes → List Entry → List Entry → List Record → Option Missed → Type 0
-Finds P C old new records None = AllByRecursion (IsNoMiss (unit_of P C old)) records
-Finds P C old new records (Some m) = IsFound P C old new records m
+abbrev pub ScanFinds : Program → Sizes → List Entry → List Entry → List Record → Option Missed → Type 0
+ScanFinds P C old new records None = AllByRecursion (IsNoLiveMiss (unit_of P C old)) records
+ScanFinds P C old new records (Some m) = IsFound P C old new records m
 
 -- All behind one of the tenants were squashed
 pub record IsCut (P : Program) (C : Sizes) (old new : List Entry) (squashed : ℕ) : Type 0 where

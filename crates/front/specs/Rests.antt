@@ -14,10 +14,7 @@ use Rattle.front.specs.declared.answers.Rest.TheVariants.{Idle, Live}
 use Rattle.front.specs.declared.path.record.Record.{Record}
 use Rattle.front.specs.Training.{ToldIf}
 use Rattle.front.specs.Trail.{is_guessed}
-
--- Nobody is live
-abbrev pub HasNobody : UpdateUnit → Type 0
-HasNobody U = AllByRecursion IsNotLive U.tenants
+use Rattle.station.specs.Renewals.{HasNobody}
 
 -- Station s was let to one of these
 abbrev pub is_let_to : List Tenant → ℕ → Bool

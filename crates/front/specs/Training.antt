@@ -20,21 +20,21 @@ ToldIf Learns true pc next old new = Learns old pc next new
 ToldIf Learns false pc next old new = new ≡ old
 
 -- It is told of a station's last tenant, if that was predicted and has retired: its pc, and its computed next pc
-abbrev pub IsTold : {S : Type 0} → (S → ℕ → ℕ → S → Type 0) → Program → Option Tenant → S → S → Type 0
-IsTold Learns P None old new = new ≡ old
-IsTold Learns P (Some t) old new =
+abbrev pub PredictorIsTold : {S : Type 0} → (S → ℕ → ℕ → S → Type 0) → Program → Option Tenant → S → S → Type 0
+PredictorIsTold Learns P None old new = new ≡ old
+PredictorIsTold Learns P (Some t) old new =
     ToldIf Learns (is_retired t && is_guessed P t) t.pc (computed_next P t) old new
 
 -- It is asked where an instruction goes on, unless that is fixed
-abbrev pub IsAsked : {S : Type 0} → (S → ℕ → Instr → ℕ → S → Type 0) → Option ℕ → ℕ → Instr → ℕ → S → S → Type 0
-IsAsked Predicts None pc i predicted old new = Predicts old pc i predicted new
-IsAsked Predicts (Some x) pc i predicted old new = (predicted ≡ x) × (new ≡ old)
+abbrev pub PredictorIsAsked : {S : Type 0} → (S → ℕ → Instr → ℕ → S → Type 0) → Option ℕ → ℕ → Instr → ℕ → S → S → Type 0
+PredictorIsAsked Predicts None pc i predicted old new = Predicts old pc i predicted new
+PredictorIsAsked Predicts (Some x) pc i predicted old new = (predicted ≡ x) × (new ≡ old)
 
 -- The predictor is told of the station's last tenant, and then asked for the new one
 pub record Trains {S : Type 0} (Predicts : S → ℕ → Instr → ℕ → S → Type 0) (Learns : S → ℕ → ℕ → S → Type 0) (P : Program) (last : Option Tenant) (i : Instr) (half : Half) (pc predicted : ℕ) (old new : S) : Type 0 where
   pub middle : S
-  pub told : IsTold Learns P last old middle
-  pub asked : IsAsked Predicts (fixed_next i half pc) pc i predicted middle new
+  pub told : PredictorIsTold Learns P last old middle
+  pub asked : PredictorIsAsked Predicts (fixed_next i half pc) pc i predicted middle new
 
 -- The same, by what the front keeps of a tenant that leaves
 abbrev pub ToldOf : {S : Type 0} → (S → ℕ → ℕ → S → Type 0) → Option Record → S → S → Type 0
@@ -45,4 +45,4 @@ ToldOf Learns (Some x) old new = ToldIf Learns x.guessed x.pc x.next old new
 pub record Guesses {S : Type 0} (Predicts : S → ℕ → Instr → ℕ → S → Type 0) (Learns : S → ℕ → ℕ → S → Type 0) (left : Option Record) (i : Instr) (half : Half) (pc predicted : ℕ) (old new : S) : Type 0 where
   pub middle : S
   pub told : ToldOf Learns left old middle
-  pub asked : IsAsked Predicts (fixed_next i half pc) pc i predicted middle new
+  pub asked : PredictorIsAsked Predicts (fixed_next i half pc) pc i predicted middle new

@@ -12,7 +12,7 @@ use Rattle.inorder.specs.declared.history.Supply.{Supply}
 use Rattle.inorder.specs.declared.history.Supply.TheVariants.{From, Known}
 use Rattle.inorder.specs.History.{StartsWith, entry, front, unit_of}
 use Rattle.inorder.specs.OneHistory.{Adds}
-use Rattle.inorder.specs.Replies.{HasNoInstr, IsFull, IsQueueFull, IsSpent}
+use Rattle.inorder.specs.Replies.{HasNoInstr, IsFull, HasFullQueue, IsSpent}
 use Rattle.inorder.specs.StationWords.{last_of}
 use Rattle.inorder.specs.Unit.{Sizes, front_half, front_pc, next_station, next_tag, recent}
 use Rattle.station.specs.Asking.{IsQuestion}
@@ -35,7 +35,7 @@ pub record NoInstrNow (P : Program) (C : Sizes) (old new : List Entry) : Type 0 
 
 -- The queue had no room, though a station was free and there was an instruction
 pub record QueueFullNow (P : Program) (C : Sizes) (old new : List Entry) : Type 0 where
-  pub queue_full : WasOnce P C old new (IsQueueFull P C)
+  pub queue_full : WasOnce P C old new (HasFullQueue P C)
   pub not_full : WasNotFull P C old new
   pub instr : WasOnce P C old new (λ U. ¬ HasNoInstr P U)
 
@@ -44,7 +44,7 @@ pub record SpentNow (P : Program) (C : Sizes) (old new : List Entry) : Type 0 wh
   pub spent : WasOnce P C old new (IsSpent C)
   pub not_full : WasNotFull P C old new
   pub instr : WasOnce P C old new (λ U. ¬ HasNoInstr P U)
-  pub room : WasOnce P C old new (λ U. ¬ IsQueueFull P C U)
+  pub room : WasOnce P C old new (λ U. ¬ HasFullQueue P C U)
 
 -- What each refusal says
 abbrev pub Refuses : Program → Sizes → List Entry → List Entry → Turn → Type 0

@@ -3,9 +3,9 @@ ghost use Rattle.std.specs.Prelude.{◌≡◌, ◌<◌, ◌≤◌, IfSome};
 ghost use Rattle.inorder.specs.History.{IsLegal, front, unit_of};
 ghost use Rattle.instructions.specs.Instruction.{fixed_next};
 ghost use Rattle.front.specs.CreateTable.{IsTouched};
-ghost use Rattle.front.specs.Fetching.{IsNext};
+ghost use Rattle.front.specs.Fetching.{CanBeLet};
 ghost use Rattle.front.specs.Fronts.{KnowsPath, KnowsTable};
-ghost use Rattle.front.specs.Knows.{IsReady};
+ghost use Rattle.front.specs.Knows.{RecordsAreReady};
 ghost use Rattle.front.specs.Questions.{Asks, IsDispatched, MayAskFor};
 ghost use Rattle.station.specs.Seats.{IsSame};
 
@@ -48,10 +48,10 @@ pub fn dispatch(
     requires by { seat.old.by ≡ front }
     requires most { core.now.sizes.ring ≤ 32 }
     requires legal { IsLegal core.now.program core.now.sizes seat.old.seen }
-    requires ready { IsReady core.now.program core.now.sizes
+    requires ready { RecordsAreReady core.now.program core.now.sizes
         (unit_of core.now.program core.now.sizes seat.old.seen) path.old.records path.old.base }
     requires table { KnowsTable core.now seat.old.seen path.old.base creators.old }
-    requires next { IsNext core.now.program core.now.sizes seat.old.seen next.now }
+    requires next { CanBeLet core.now.program core.now.sizes seat.old.seen next.now }
     requires fixed { IfSome (fixed_next next.now.instr next.now.half next.now.pc)
         (λ x. predicted ≡ x) }
     ensures kept { IsSame seat.old seat.new }

@@ -3,8 +3,8 @@ ghost use Rattle.std.specs.Prelude.{◌≡◌, ◌<◌, ◌*◌, []};
 ghost use Rattle.inorder.specs.History.{IsLegal, StartsWith, front};
 ghost use Rattle.inorder.specs.OneHistory.{Adds};
 ghost use Rattle.front.specs.CreateTable.{IsTouched};
-ghost use Rattle.front.specs.Fronts.{AddsNothing, CreatorOf, IsUnused, KnowsPath, KnowsTable, RecoversTo, RestsTo, TurnsTo};
-ghost use Rattle.front.specs.Path.{told_of};
+ghost use Rattle.front.specs.Fronts.{AddsNothing, CreatorOf, IsUnused, KnowsPath, KnowsTable, FrontRecoversTo, RestsTo, TurnsTo};
+ghost use Rattle.front.specs.Path.{rested_at};
 ghost use Rattle.front.specs.Recoveries.{squashed_by};
 ghost use Rattle.front.specs.Rests.{rested_after, told_after};
 ghost use Rattle.front.specs.Turns.{TurnAnswers};
@@ -38,11 +38,11 @@ pub struct Front<'a, P: Predictor + Drop> {
 
 impl<'a, P: Predictor + Drop> Model for Front<'a, P> {
     ghost use Rattle.front.specs.Fronts.{IsFront, TheFront};
-    ghost use Rattle.front.specs.Path.{told_of};
+    ghost use Rattle.front.specs.Path.{rested_at};
 
     ghost Value = { TheFront P };
 
-    ghost view = { λ f. record { core = f.seat.core; seen = f.seat.seen; predictor = f.predictor; touched = f.creators.counted.touched; told = told_of f.path.base; rested = f.rested } };
+    ghost view = { λ f. record { core = f.seat.core; seen = f.seat.seen; predictor = f.predictor; touched = f.creators.counted.touched; told = rested_at f.path.base; rested = f.rested } };
 
     ghost invariant = { λ f. IsFront f.program.now f.seat f.path f.creators.counted f.rested };
 }
@@ -64,8 +64,8 @@ fn turn_on<P: Predictor>(
     requires table { KnowsTable core.now seat.old.seen path.old.base creators.old }
     ensures kept { IsSame seat.old seat.new }
     ensures reply { TurnAnswers P.Predicts P.Learns core.now.program core.now.sizes
-        (told_of path.old.base) seat.old.seen seat.new.seen predictor.old predictor.new result }
-    ensures told { told_of path.new.base ≡ told_of path.old.base }
+        (rested_at path.old.base) seat.old.seen seat.new.seen predictor.old predictor.new result }
+    ensures told { rested_at path.new.base ≡ rested_at path.old.base }
     ensures knows { KnowsPath core.now seat.new.seen path.new }
     ensures table { KnowsTable core.now seat.new.seen path.new.base creators.new }
     ensures touched { IsTouched 9 creators.old.touched creators.new.touched }
@@ -132,7 +132,7 @@ impl<'a, P: Predictor + Drop> Front<'a, P> {
     pub fn recover(&mut self, core: &Core) -> Recovery
         requires { self.old.core ≡ core.now }
         ensures core { self.new.core ≡ core.now }
-        ensures reply { RecoversTo core.now self.old self.new result }
+        ensures reply { FrontRecoversTo core.now self.old self.new result }
         ensures told { self.new.told ≡ self.old.told }
         ensures touched { IsTouched (4 * squashed_by result) self.old.touched self.new.touched }
         ensures predictor { self.new.predictor ≡ self.old.predictor }

@@ -2,7 +2,7 @@
 //! alone, and all that a turn or a recovery reads or writes of them for that is counted.
 ghost use Rattle.std.specs.Prelude.{◌≡◌, ◌<◌, ◌≤◌, ◌++◌, ◌∷◌, [], length, IfNone, IfSome};
 ghost use Rattle.front.specs.CreateTable.{IsEntered, IsTouched};
-ghost use Rattle.front.specs.Path.{GoesOnWith, Released, Releases, made_of as made_of_record, half_behind, next_place, pc_behind, record_for};
+ghost use Rattle.front.specs.Path.{GoesOnWith, Released, Releases, made_of as made_of_record, next_half, station_of_next, pc_behind, record_for};
 
 mod base_state;
 mod counted;
@@ -59,7 +59,7 @@ impl Path {
 
     /// The half that comes next.
     pub fn front_half(&self) -> Half
-        ensures { result ≡ half_behind self.now.base self.now.records }
+        ensures { result ≡ next_half self.now.base self.now.records }
     {
         match self.records.last() {
             None => self.base.half,
@@ -72,7 +72,7 @@ impl Path {
     pub fn next_station(&self, ring: usize) -> usize
         requires least { 2 ≤ ring }
         requires most { ring ≤ 32 }
-        ensures value { result ≡ next_place ring self.now.base self.now.records }
+        ensures value { result ≡ station_of_next ring self.now.base self.now.records }
         ensures small { result < ring }
     {
         match self.records.last() {
@@ -129,8 +129,8 @@ impl Path {
     pub fn enter(&mut self, creators: &mut Counted, next: &Fetched, tag: u32, predicted: u32)
         requires room { length self.old.records < 32 }
         requires station { next.now.station < 32 }
-        ensures records { self.new.records ≡ self.old.records ++
-            record_for next.now tag predicted ∷ [] }
+        ensures records { self.new.records ≡ self.old.records ++ record_for
+            next.now tag predicted ∷ [] }
         ensures base { self.new.base ≡ self.old.base }
         ensures table { IsEntered creators.old.table creators.new.table
             (record_for next.now tag predicted) }

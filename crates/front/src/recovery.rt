@@ -4,7 +4,7 @@ ghost use Rattle.inorder.specs.History.{IsLegal, front};
 ghost use Rattle.inorder.specs.OneHistory.{Adds};
 ghost use Rattle.front.specs.CreateTable.{IsTouched};
 ghost use Rattle.front.specs.Fronts.{AddsNothing, KnowsPath, KnowsTable};
-ghost use Rattle.front.specs.Recoveries.{Finds, IsCut, IsMissAt, RecoverAnswers, squashed_by};
+ghost use Rattle.front.specs.Recoveries.{ScanFinds, IsCut, IsMissAt, RecoverAnswers, squashed_by};
 ghost use Rattle.station.specs.Seats.{IsSame};
 
 use crate::answers::Recovery;
@@ -28,7 +28,7 @@ fn find_miss(core: &Core, seat: &mut FrontSeat, path: &Path) -> Option<Missed>
     requires knows { KnowsPath core.now seat.old.seen path.now }
     ensures kept { IsSame seat.old seat.new }
     ensures history { AddsNothing core.now seat.old.seen seat.new.seen }
-    ensures reply { Finds core.now.program core.now.sizes
+    ensures reply { ScanFinds core.now.program core.now.sizes
         seat.old.seen seat.new.seen path.now.records result }
 {
     for at in 0..path.records.len() {

@@ -2,11 +2,12 @@
 ghost use Rattle.std.specs.Prelude.{◌≡◌, ◌≤◌, [], ◌∷◌, IfSome};
 ghost use Rattle.inorder.specs.History.{IsLegal, front, unit_of};
 ghost use Rattle.inorder.specs.OneHistory.{Adds};
-ghost use Rattle.front.specs.Folding.{IsFolding, Leaves};
+ghost use Rattle.front.specs.Folding.{IsFolding, LeavesRecords};
 ghost use Rattle.front.specs.Fronts.{AddsNothing, KnowsPath, KnowsTable};
-ghost use Rattle.front.specs.Path.{told_of};
-ghost use Rattle.front.specs.Rests.{HasNobody, RestAnswers, TellsRecords, told_after};
+ghost use Rattle.front.specs.Path.{rested_at};
+ghost use Rattle.front.specs.Rests.{RestAnswers, TellsRecords, told_after};
 ghost use Rattle.station.specs.Seats.{IsSame};
+ghost use Rattle.station.specs.Renewals.{HasNobody};
 
 use crate::answers::Rest;
 use crate::path::{Creators, Path};
@@ -50,10 +51,10 @@ pub fn rest_on<P: Predictor>(
     requires table { KnowsTable core.now seat.old.seen path.old.base creators.old.counted }
     ensures kept { IsSame seat.old seat.new }
     ensures reply { RestAnswers P.Learns core.now.program core.now.sizes
-        (told_of path.old.base) seat.old.seen seat.new.seen predictor.old predictor.new result }
-    ensures told { told_of path.new.base ≡ told_after core.now.program core.now.sizes
-        (told_of path.old.base) seat.new.seen result }
-    ensures records { Leaves result path.old.records path.new.records }
+        (rested_at path.old.base) seat.old.seen seat.new.seen predictor.old predictor.new result }
+    ensures told { rested_at path.new.base ≡ told_after core.now.program core.now.sizes
+        (rested_at path.old.base) seat.new.seen result }
+    ensures records { LeavesRecords result path.old.records path.new.records }
     ensures knows { KnowsPath core.now seat.new.seen path.new }
     ensures table { KnowsTable core.now seat.new.seen path.new.base creators.new.counted }
     ensures touched { creators.new.counted.touched ≡ creators.old.counted.touched }

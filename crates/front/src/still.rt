@@ -1,8 +1,8 @@
 //! A front that leaves its core, and one that enters another.
 ghost use Rattle.std.specs.Prelude.{◌≡◌, ◌%◌, length, true};
 ghost use Rattle.inorder.specs.History.{front, unit_of};
-ghost use Rattle.front.specs.Rests.{HasNobody};
-ghost use Rattle.front.specs.Stills.{GoesOn, next_at};
+ghost use Rattle.station.specs.Renewals.{HasNobody};
+ghost use Rattle.front.specs.Stills.{GoesOnForFront, next_at};
 
 use crate::dispatcher::Front;
 use crate::path::{Base, Creators, Path};
@@ -23,13 +23,13 @@ pub struct FrontStill<P: Predictor + Drop> {
 }
 
 impl<P: Predictor + Drop> Model for FrontStill<P> {
-    ghost use Rattle.front.specs.Stills.{IsStill, TheStill};
+    ghost use Rattle.front.specs.Stills.{FrontIsStill, TheStillFront};
 
-    ghost Value = { TheStill P };
+    ghost Value = { TheStillFront P };
 
     ghost view = { λ f. record { core = f.left.value.core; seen = f.left.value.seen; predictor = f.predictor; touched = f.creators.counted.touched } };
 
-    ghost invariant = { λ f. IsStill f.left.value f.base f.creators.counted };
+    ghost invariant = { λ f. FrontIsStill f.left.value f.base f.creators.counted };
 }
 
 impl<'a, P: Predictor + Drop> Front<'a, P> {
@@ -39,15 +39,15 @@ impl<'a, P: Predictor + Drop> Front<'a, P> {
         ensures core { result.0.core ≡ self.entry.core }
         ensures by { result.0.by ≡ front }
         ensures seen { result.0.seen ≡ self.entry.seen }
-        ensures nobody { HasNobody
-            (unit_of self.entry.core.program self.entry.core.sizes self.entry.seen) }
+        ensures nobody { HasNobody (unit_of self.entry.core.program self.entry.core.sizes
+            self.entry.seen) }
         ensures still { result.1 ≡ record {
           core = self.entry.core;
           seen = self.entry.seen;
           predictor = self.entry.predictor;
           touched = self.entry.touched;
         } }
-        ensures goes_on { GoesOn result.1.core result.1.seen result.0 }
+        ensures goes_on { GoesOnForFront result.1.core result.1.seen result.0 }
         ensures next { next_at result.0.core result.0.seen ≡ next_at result.1.core result.1.seen }
     {
         let Front {
@@ -73,14 +73,14 @@ impl<P: Predictor + Drop> FrontStill<P> {
     // The next tenant of this seat goes to this station.
     fn enter_at<'a>(self, seat: FrontSeat, program: &'a Program, station: usize) -> Front<'a, P>
         requires program { program.now ≡ seat.core.program }
-        requires goes_on { GoesOn self.core self.seen seat }
+        requires goes_on { GoesOnForFront self.core self.seen seat }
         requires next { next_at seat.core seat.seen ≡ station % seat.core.sizes.ring }
         ensures core { result.core ≡ seat.core }
         ensures seen { result.seen ≡ seat.seen }
         ensures predictor { result.predictor ≡ self.predictor }
         ensures touched { result.touched ≡ self.touched }
-        ensures told { result.told ≡
-            length (unit_of seat.core.program seat.core.sizes seat.seen).tenants }
+        ensures told { result.told ≡ length (unit_of seat.core.program seat.core.sizes
+            seat.seen).tenants }
     {
         what_is_seen_is_legal(&seat);
         let FrontStill {
@@ -112,14 +112,14 @@ impl<P: Predictor + Drop> FrontStill<P> {
     /// Enters a renewed core, where the next tenant goes to station 0. The program is that of the core.
     pub fn enter<'a>(self, seat: FrontSeat, program: &'a Program) -> Front<'a, P>
         requires program { program.now ≡ seat.core.program }
-        requires goes_on { GoesOn self.core self.seen seat }
+        requires goes_on { GoesOnForFront self.core self.seen seat }
         requires first { next_at seat.core seat.seen ≡ 0 }
         ensures core { result.core ≡ seat.core }
         ensures seen { result.seen ≡ seat.seen }
         ensures predictor { result.predictor ≡ self.predictor }
         ensures touched { result.touched ≡ self.touched }
-        ensures told { result.told ≡
-            length (unit_of seat.core.program seat.core.sizes seat.seen).tenants }
+        ensures told { result.told ≡ length (unit_of seat.core.program seat.core.sizes
+            seat.seen).tenants }
     {
         self.enter_at(seat, program, 0)
     }
@@ -127,14 +127,14 @@ impl<P: Predictor + Drop> FrontStill<P> {
     /// Enters the core that it left, where no renewal came between.
     pub fn enter_again<'a>(self, seat: FrontSeat, program: &'a Program) -> Front<'a, P>
         requires program { program.now ≡ seat.core.program }
-        requires goes_on { GoesOn self.core self.seen seat }
+        requires goes_on { GoesOnForFront self.core self.seen seat }
         requires next { next_at seat.core seat.seen ≡ next_at self.core self.seen }
         ensures core { result.core ≡ seat.core }
         ensures seen { result.seen ≡ seat.seen }
         ensures predictor { result.predictor ≡ self.predictor }
         ensures touched { result.touched ≡ self.touched }
-        ensures told { result.told ≡
-            length (unit_of seat.core.program seat.core.sizes seat.seen).tenants }
+        ensures told { result.told ≡ length (unit_of seat.core.program seat.core.sizes
+            seat.seen).tenants }
     {
         let station = self.base.station;
         self.enter_at(seat, program, station)

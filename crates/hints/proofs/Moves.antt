@@ -10,7 +10,7 @@ use lib.ListN.{get_elem?}
 use Rattle.crossbeam_queue.specs.Fifo.{Admits, Learns, Pops, Pushes}
 use Rattle.crossbeam_queue.proofs.Lists.{at_set}
 use Rattle.hints.specs.declared.hands.Hand.{Hand}
-use Rattle.hints.specs.Hinted.{Hinted, IsMoment, Knows, Move, by_thread, hand, hints_of, putting, taking}
+use Rattle.hints.specs.Hinted.{Hinted, IsMoment, ThreadKnows, Move, by_thread, hand, hints_of, putting, taking}
 
 abbrev keep : Bool → ℕ → List ℕ → List ℕ
 keep b x xs = cond b (x ∷ xs) xs
@@ -46,11 +46,11 @@ at_end [] a b (suc j) e = absurd (some-ne-none b (sym e))
 at_end (x ∷ xs) a b zero e = inl e
 at_end (x ∷ xs) a b (suc j) e = ⊎_elim (λ h. inl h) (λ (t : (j ≡ length xs) × (a ≡ b)). inr (ap suc t.0, t.1)) (at_end xs a b j e)
 
-set_knows : (puts takes : List Move) (views : List Hand) (t : ℕ) (w : Hand) → Knows puts takes t w
-    → ((j : ℕ) (u : Hand) → j ≢ t → get_elem? views j ≡ some u → Knows puts takes j u)
-    → (j : ℕ) (u : Hand) → get_elem? (set views t w) j ≡ some u → Knows puts takes j u
+set_knows : (puts takes : List Move) (views : List Hand) (t : ℕ) (w : Hand) → ThreadKnows puts takes t w
+    → ((j : ℕ) (u : Hand) → j ≢ t → get_elem? views j ≡ some u → ThreadKnows puts takes j u)
+    → (j : ℕ) (u : Hand) → get_elem? (set views t w) j ≡ some u → ThreadKnows puts takes j u
 set_knows puts takes views t w own rest j u e =
-    ⊎_elim (λ (h : (j ≡ t) × (w ≡ u)). subst (λ (y : ℕ × Hand). Knows puts takes y.0 y.1) (λ i. (sym h.0 i, h.1 i)) own)
+    ⊎_elim (λ (h : (j ≡ t) × (w ≡ u)). subst (λ (y : ℕ × Hand). ThreadKnows puts takes y.0 y.1) (λ i. (sym h.0 i, h.1 i)) own)
     (λ (h : (j ≢ t) × (get_elem? views j ≡ some u)). rest j u h.0 h.1) (at_set views t j w u e)
 
 pub begins : (n : ℕ) → Hinted n [] (hand [] [] ∷ [])
@@ -63,7 +63,7 @@ begins n = record {
   nobody_else = λ t far. record { put = refl; taken = refl };
 }
   where
-    one : (t : ℕ) (v : Hand) → get_elem? (hand [] [] ∷ []) t ≡ some v → Knows [] [] t v
+    one : (t : ℕ) (v : Hand) → get_elem? (hand [] [] ∷ []) t ≡ some v → ThreadKnows [] [] t v
     one zero v e = record { put = ap (λ (u : Hand). u.put) (sym (some-injective _ _ e)); taken = ap (λ (u : Hand). u.taken) (sym (some-injective _ _ e)) }
     one (suc t) v e = absurd (some-ne-none v (sym e))
 
@@ -74,7 +74,7 @@ admits n items views h = record {
   in_order = h.in_order;
   stations = h.stations;
   knows = λ j u e. ⊎_elim (λ was. h.knows j u was)
-      (λ (t : (j ≡ length views) × (hand [] [] ≡ u)). subst (λ z. Knows h.puts h.takes j z) t.1 (h.nobody_else j (let e' = t.0 in omega arith)))
+      (λ (t : (j ≡ length views) × (hand [] [] ≡ u)). subst (λ z. ThreadKnows h.puts h.takes j z) t.1 (h.nobody_else j (let e' = t.0 in omega arith)))
       (at_end views (hand [] []) u j e);
   nobody_else = λ j far. h.nobody_else j (let long = length-append views (hand [] [] ∷ []) in omega arith);
 }

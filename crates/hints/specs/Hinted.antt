@@ -13,7 +13,7 @@ pub record TheHints : Type 0 where
   pub ring : ℕ
 
 -- It is a thread's end of this queue
-pub record IsOf (hints : TheHints) (p : Pass ℕ Hand) : Type 0 where
+pub record IsEndOf (hints : TheHints) (p : Pass ℕ Hand) : Type 0 where
   pub same : p.table_id ≡ hints.id
   pub slots : p.me.1 ≡ []
 
@@ -45,7 +45,7 @@ by_thread thread (m ∷ ms) =
     if m.by == thread then m.hint ∷ by_thread thread ms else by_thread thread ms
 
 -- What this thread has put and taken, of all puts and all takes
-pub record Knows (puts takes : List Move) (thread : ℕ) (v : Hand) : Type 0 where
+pub record ThreadKnows (puts takes : List Move) (thread : ℕ) (v : Hand) : Type 0 where
   pub put : v.put ≡ by_thread thread puts
   pub taken : v.taken ≡ by_thread thread takes
 
@@ -56,8 +56,8 @@ pub record Hinted (ring : ℕ) (items : List ℕ) (views : List Hand) : Type 0 w
   pub takes : List Move
   pub in_order : hints_of puts ≡ hints_of takes ++ items
   pub stations : All (λ x. x < ring) items
-  pub knows : (thread : ℕ) (v : Hand) → get_elem? views thread ≡ some v → Knows puts takes thread v
-  pub nobody_else : (thread : ℕ) → length views ≤ thread → Knows puts takes thread (hand [] [])
+  pub knows : (thread : ℕ) (v : Hand) → get_elem? views thread ≡ some v → ThreadKnows puts takes thread v
+  pub nobody_else : (thread : ℕ) → length views ≤ thread → ThreadKnows puts takes thread (hand [] [])
 
 -- At a moment at which the rule held and a thread had put and taken this, the queue held these hints
 pub record IsMoment (ring : ℕ) (v : Hand) (items : List ℕ) : Type 0 where

@@ -1,7 +1,7 @@
 //! The queue, and every call on it.
 ghost use Rattle.std.specs.Prelude.{◌≡◌, ◌<◌, ◌≤◌, ◌*◌, [], IfNone, IfOk, IfSome, IsFalse, IsTrue};
 ghost use Rattle.crossbeam_queue.specs.Passes.{view};
-ghost use Rattle.hints.specs.Hinted.{HasHeld, IsOf, hand, putting, taking};
+ghost use Rattle.hints.specs.Hinted.{HasHeld, IsEndOf, hand, putting, taking};
 
 use crate::hands::{Below, Hand, Hinter, Puts, Ring, Takes};
 use crossbeam_queue::RuledArrayQueue;
@@ -43,7 +43,7 @@ impl<J: Ring> Hints<J> {
 
     /// A new thread's end: it has put and taken nothing.
     pub fn hinter(&self) -> Hinter
-        ensures of { IsOf self.now result }
+        ensures of { IsEndOf self.now result }
         ensures fresh { view result ≡ hand [] [] }
     {
         self.queue.pass()
@@ -51,9 +51,9 @@ impl<J: Ring> Hints<J> {
 
     /// Puts a hint behind all others. False where it is dropped: the queue was full.
     pub fn push<R: Wait>(&self, wait: &R, hinter: &mut Hinter, station: u32) -> bool
-        requires of { IsOf self.now hinter.old }
+        requires of { IsEndOf self.now hinter.old }
         requires station { station < self.now.ring }
-        ensures of { IsOf self.now hinter.new }
+        ensures of { IsEndOf self.now hinter.new }
         ensures put { IsTrue result → view hinter.new ≡ putting station (view hinter.old) }
         ensures dropped { IsFalse result → view hinter.new ≡ view hinter.old }
         ensures full { IsFalse result →
@@ -66,8 +66,8 @@ impl<J: Ring> Hints<J> {
 
     /// Takes the oldest hint, if there is one. At an empty queue it only looks.
     pub fn pop<R: Wait>(&self, wait: &R, hinter: &mut Hinter) -> Option<u32>
-        requires of { IsOf self.now hinter.old }
-        ensures of { IsOf self.now hinter.new }
+        requires of { IsEndOf self.now hinter.old }
+        ensures of { IsEndOf self.now hinter.new }
         ensures station { IfSome result (λ station. station < self.now.ring) }
         ensures taken { IfSome result (λ station.
             view hinter.new ≡ taking station (view hinter.old)) }

@@ -8,7 +8,7 @@ use Rattle.inorder.specs.declared.history.Act.TheVariants.{Claim, Deliver, Finis
 use Rattle.inorder.specs.declared.history.Source.TheVariants.{First, Second}
 use Rattle.inorder.specs.declared.history.Step.{Step}
 use Rattle.inorder.specs.declared.history.Step.TheVariants.{Let, On, Renew}
-use Rattle.inorder.specs.Callers.{CanLeave, CanMend, CanSquash, IsMissing, IsYoungest}
+use Rattle.inorder.specs.Callers.{CanLeave, CanMend, CanSquash, IsMissing, IsYoungestLive}
 use Rattle.inorder.specs.Legal.{Allowed, May, applied, changed}
 use Rattle.inorder.specs.Replies.{Has}
 use Rattle.inorder.specs.Steps.{CanRetire, IsNoRetiredStop, MayMend, MayRetire, MaySquash, new_tenant}
@@ -63,8 +63,9 @@ stands_on P by Squash ys t ts m = inr (is_squashed m)
 stands_on P by Mend ys t ts m = inl (mended_station t t.fate).1
 
 -- others than the front squash none
-besides_squash : (P : Program) (by : ℕ) (act : Act) (ys : List Tenant) (t : Tenant) (ts : List Tenant) → IsBesidesAct act → May P by act ys t ts → ((changed P by act t ts).standing ≡ t.standing) ⊎
-    ((n : ℕ) × MayRetire P n ts t)
+besides_squash : (P : Program) (by : ℕ) (act : Act) (ys : List Tenant) (t : Tenant) (ts : List Tenant) →
+    IsBesidesAct act → May P by act ys t ts →
+    ((changed P by act t ts).standing ≡ t.standing) ⊎ ((n : ℕ) × MayRetire P n ts t)
 besides_squash P by (Link k) ys t ts b m = absurd b
 besides_squash P by (Deliver First) ys t ts b m = inl refl
 besides_squash P by (Deliver Second) ys t ts b m = inl refl
@@ -76,8 +77,8 @@ besides_squash P by Squash ys t ts b m = absurd b
 besides_squash P by Mend ys t ts b m = absurd b
 
 -- a miss stays one, but for the front
-miss_on : (P : Program) (by : ℕ) (act : Act) (ys : List Tenant) (t : Tenant) (ts : List Tenant) (x : ℕ) → IsBesidesAct act → May P by act ys t ts → t.fate ≡ Miss x →
-    (changed P by act t ts).fate ≡ Miss x
+miss_on : (P : Program) (by : ℕ) (act : Act) (ys : List Tenant) (t : Tenant) (ts : List Tenant) (x : ℕ) →
+    IsBesidesAct act → May P by act ys t ts → t.fate ≡ Miss x → (changed P by act t ts).fate ≡ Miss x
 miss_on P by (Link k) ys t ts x b m e = absurd b
 miss_on P by (Deliver First) ys t ts x b m e = e
 miss_on P by (Deliver Second) ys t ts x b m e = e
@@ -97,22 +98,16 @@ pub miss_stays : (P : Program) (C : Sizes) (U : UpdateUnit) (by : ℕ) (s : Step
 miss_stays P C U by s b a p x i = ⊎_elim
     (λ e. record { tenant = i.tenant; is = e; fact = i.fact })
     (λ (z : Acted P U by s (applied P C U by s).tenants p i.tenant). let b' : IsBesidesAct z.act = subst IsBesides z.step b in ⊎_elim
-    (λ e. record {
-      tenant = changed P by z.act i.tenant (older U.tenants p);
-      is = z.now;
-      fact = record {
-        live = e ∙ i.fact.live;
-        fate = miss_on P by z.act (younger U.tenants p) i.tenant (older U.tenants p) x b' z.may i.fact.fate;
-      };
-    })
+    (λ e. record { tenant = changed P by z.act i.tenant (older U.tenants p); is = z.now; fact = record { live = e ∙ i.fact.live; fate = miss_on P by z.act (younger U.tenants p) i.tenant (older U.tenants p) x b' z.may i.fact.fate } })
     (λ m. absurd (no_retire_miss P i.tenant (older U.tenants p) x m.0 i.fact.fate m.1))
     (besides_squash P by z.act (younger U.tenants p) i.tenant (older U.tenants p) b' z.may))
     (exact P C U by s a p i.tenant i.is)
 
 -- The youngest live tenant
 
-pub youngest_stays : (P : Program) (C : Sizes) (U : UpdateUnit) (by : ℕ) (s : Step) → IsBesides s → Allowed P C U by s → IsSound P U.tenants → (p : ℕ) → IsYoungest U p →
-    IsYoungest (applied P C U by s) p
+pub youngest_stays : (P : Program) (C : Sizes) (U : UpdateUnit) (by : ℕ) (s : Step) → IsBesides s →
+    Allowed P C U by s → IsSound P U.tenants → (p : ℕ) → IsYoungestLive U p →
+    IsYoungestLive (applied P C U by s) p
 youngest_stays P C U by (Let i x f n) b a ok p y = absurd b
 youngest_stays P C U by (On r act) b a ok p y = λ q t lt is live. let was = came P C U by r act a ok q t is in y q was.tenant lt was.is (was.goes.live live)
 youngest_stays P C U by Renew b a ok p y = y
@@ -197,8 +192,9 @@ may_retire P U p n f c small =
     }
 
 -- a fate that can retire stays
-ready_fate : (P : Program) (by : ℕ) (act : Act) (ys : List Tenant) (t : Tenant) (ts : List Tenant) (f : Fate) → IsNotBacksAct act → May P by act ys t ts → t.fate ≡ f →
-    CanRetire (kind_of P t) t.second.value f → (changed P by act t ts).fate ≡ f
+ready_fate : (P : Program) (by : ℕ) (act : Act) (ys : List Tenant) (t : Tenant) (ts : List Tenant) (f : Fate) →
+    IsNotBacksAct act → May P by act ys t ts → t.fate ≡ f → CanRetire (kind_of P t) t.second.value f →
+    (changed P by act t ts).fate ≡ f
 ready_fate P by (Link First) ys t ts f b m e c = e
 ready_fate P by (Link Second) ys t ts f b m e c = e
 ready_fate P by (Deliver First) ys t ts f b m e c = e
@@ -219,7 +215,8 @@ can_more k k' b b' (Miss x) e g c = absurd c
 can_more k k' b b' (Stopped x) e g c = tt
 
 -- a retired tenant keeps its fate, and none retires here
-pub retired_on : (P : Program) (by : ℕ) (act : Act) (ys : List Tenant) (t : Tenant) (ts : List Tenant) → IsNotBacksAct act → May P by act ys t ts → (changed P by act t ts).standing ≡ Retired →
+pub retired_on : (P : Program) (by : ℕ) (act : Act) (ys : List Tenant) (t : Tenant) (ts : List Tenant) →
+    IsNotBacksAct act → May P by act ys t ts → (changed P by act t ts).standing ≡ Retired →
     (t.standing ≡ Retired) × ((changed P by act t ts).fate ≡ t.fate)
 retired_on P by (Link First) ys t ts b m e = (e, refl)
 retired_on P by (Link Second) ys t ts b m e = (e, refl)
@@ -257,8 +254,7 @@ module _ (P : Program) (C : Sizes) (U : UpdateUnit) (by : ℕ) (s : Step) (b : I
       let o = at_there us q (omega arith) in ⊎_elim
       (λ (e : at V.tenants q ≡ Some o.0). subst IsNoRetiredStop (found o.0 t (sym e ∙ is)) (quiet o.0 o.1))
       (λ (z : Acted P U by s V.tenants q o.0). let b' : IsNotBacksAct z.act = subst IsNotBacks z.step b in
-      subst IsNoRetiredStop (found (changed P by z.act o.0 (older us q)) t (sym z.now ∙ is)) (no_stop_on o.0 (changed P by z.act o.0 (older us q)) (quiet o.0 o.1)
-      (retired_on P by z.act (younger us q) o.0 (older us q) b' z.may)))
+      subst IsNoRetiredStop (found (changed P by z.act o.0 (older us q)) t (sym z.now ∙ is)) (no_stop_on o.0 (changed P by z.act o.0 (older us q)) (quiet o.0 o.1) (retired_on P by z.act (younger us q) o.0 (older us q) b' z.may)))
       (exact P C U by s a q o.0 o.1)
 
   module _ (p : ℕ) (t : Tenant) (is : at us p ≡ Some t) (live : t.standing ≡ Live) (oldest : (q : ℕ) (u : Tenant) → q < p → at us q ≡ Some u → u.standing ≢ Live) where
@@ -281,8 +277,7 @@ module _ (P : Program) (C : Sizes) (U : UpdateUnit) (by : ℕ) (s : Step) (b : I
     pub oldest_live : (u : Tenant) → at V.tenants p ≡ Some u → u.standing ≡ Live
     oldest_live u at_p = ⊎_elim
         (λ e. ap (λ (x : Tenant). x.standing) (found u t (sym at_p ∙ e)) ∙ live)
-        (λ (z : Acted P U by s V.tenants p t). ap (λ (x : Tenant). x.standing) (found u (changed P by z.act t (older us p)) (sym at_p ∙ z.now)) ∙
-        (keeps z.act (subst IsNotBacks z.step b) z.may ∙ live))
+        (λ (z : Acted P U by s V.tenants p t). ap (λ (x : Tenant). x.standing) (found u (changed P by z.act t (older us p)) (sym at_p ∙ z.now)) ∙ (keeps z.act (subst IsNotBacks z.step b) z.may ∙ live))
         (exact P C U by s a p t is)
 
     pub still_oldest : (q : ℕ) (u : Tenant) → q < p → at V.tenants q ≡ Some u → u.standing ≢ Live
@@ -305,6 +300,5 @@ module _ (P : Program) (C : Sizes) (U : UpdateUnit) (by : ℕ) (s : Step) (b : I
       still_fate : (t : Tenant) → at V.tenants p ≡ Some t → t.fate ≡ f
       still_fate t is = ⊎_elim
           (λ e. ap (λ (x : Tenant). x.fate) (found t c.tenant (sym is ∙ e)) ∙ c.fate)
-          (λ (z : Acted P U by s V.tenants p c.tenant). ap (λ (x : Tenant). x.fate) (found t (changed P by z.act c.tenant (older us p)) (sym is ∙ z.now)) ∙
-          ready_fate P by z.act (younger us p) c.tenant (older us p) f (subst IsNotBacks z.step b) z.may c.fate c.can)
+          (λ (z : Acted P U by s V.tenants p c.tenant). ap (λ (x : Tenant). x.fate) (found t (changed P by z.act c.tenant (older us p)) (sym is ∙ z.now)) ∙ ready_fate P by z.act (younger us p) c.tenant (older us p) f (subst IsNotBacks z.step b) z.may c.fate c.can)
           (exact P C U by s a p c.tenant c.is)

@@ -12,7 +12,7 @@ use Rattle.inorder.specs.declared.history.Step.TheVariants.{Let, On}
 use Rattle.inorder.specs.declared.history.Supply.{Supply}
 use Rattle.inorder.specs.declared.history.Supply.TheVariants.{From, Known}
 use Rattle.inorder.specs.Legal.{Allowed, Taken, applied, changed, reached}
-use Rattle.inorder.specs.OperandWords.{let_word, KeepsOperands, MovesOperands, OperandsFollow, operand_word, operand_word_of, supply_of}
+use Rattle.inorder.specs.OperandWords.{let_word, KeepsOperands, MovesOperands, OperandsFollow, operand_word, operand_word_of, supply_for}
 use Rattle.inorder.specs.StationWords.{last_of}
 use Rattle.inorder.specs.Steps.{delivered, finished, mended_as, new_tenant}
 use Rattle.inorder.specs.Tenants.{Addr, Busy, Done, Fate, Miss, Open, Stopped, Tenant, computed, operand}
@@ -143,7 +143,7 @@ module _ (P : Program) (C : Sizes) (U : UpdateUnit) (by : ℕ) (tags : AreTagged
   -- what a let gives
   let_operands : (index predicted : ℕ) (first second : Supply) (k : Source) →
       operand_word_of k (Some (new_tenant P C U index predicted first second)) ≡ Some
-      (let_word (next_tag C (recent U)) (supply_of k first second))
+      (let_word (next_tag C (recent U)) (supply_for k first second))
   let_operands index predicted (Known v) second First = refl
   let_operands index predicted From second First = refl
   let_operands index predicted first (Known v) Second = refl
@@ -152,14 +152,14 @@ module _ (P : Program) (C : Sizes) (U : UpdateUnit) (by : ℕ) (tags : AreTagged
   after_let : (index predicted : ℕ) (first second : Supply) (s : ℕ) (k : Source) →
       operand_word (recent (applied P C U by (Let index predicted first second))) s k ≡ cond (eqb
       (next_station C (recent U)) s) (Some
-      (let_word (next_tag C (recent U)) (supply_of k first second))) (operand_word
+      (let_word (next_tag C (recent U)) (supply_for k first second))) (operand_word
       (recent U) s k)
   after_let index predicted first second s k = go (eqb (next_station C (recent U)) s)
     where
       go : (b : Bool) →
           operand_word_of k (cond b (Some (new_tenant P C U index predicted first second))
           (last_of (recent U) s)) ≡ cond b (Some
-          (let_word (next_tag C (recent U)) (supply_of k first second))) (operand_word
+          (let_word (next_tag C (recent U)) (supply_for k first second))) (operand_word
           (recent U) s k)
       go true = let_operands index predicted first second k
       go false = refl

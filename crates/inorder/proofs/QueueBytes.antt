@@ -132,23 +132,23 @@ addressed (Stopped c) o h = absurd (true≢false (sym h))
 
 -- with the queue's addresses, each live store has its own
 pub known : (P : Program) (ts : List Tenant) →
-    AllByRecursion Rattle.lsq.specs.LastStores.HasAddress (queue_of P ts) → AllByRecursion (HasAddress P) ts
+    AllByRecursion Rattle.lsq.specs.LastStores.EntryHasAddress (queue_of P ts) → AllByRecursion (HasAddress P) ts
 known P [] h = tt
 known P (t ∷ ts) h =
-    let parts_of = all_append Rattle.lsq.specs.LastStores.HasAddress (queue_of P ts) (map entry_in
-    (own (is_live_access P t))) (subst (AllByRecursion Rattle.lsq.specs.LastStores.HasAddress)
+    let parts_of = all_append Rattle.lsq.specs.LastStores.EntryHasAddress (queue_of P ts) (map entry_in
+    (own (is_live_access P t))) (subst (AllByRecursion Rattle.lsq.specs.LastStores.EntryHasAddress)
     (map-append entry_in (live_accesses P ts) (own (is_live_access P t))) h) in
     (here parts_of.1, known P ts parts_of.0)
   where
     own : Bool → List (ℕ × Entry)
     own b = with_access b (length ts, entry_of P t)
 
-    here : AllByRecursion Rattle.lsq.specs.LastStores.HasAddress (map entry_in (own (is_live_access P t))) →
+    here : AllByRecursion Rattle.lsq.specs.LastStores.EntryHasAddress (map entry_in (own (is_live_access P t))) →
         HasAddress P t
     here q live k =
         let on : is_live_access P t ≡ true = ap (λ b. b && is_access (kind_of P t)) (ap stands_live live)
         ∙ store_accesses (kind_of P t) k in
-        let e = subst (λ b. AllByRecursion Rattle.lsq.specs.LastStores.HasAddress
+        let e = subst (λ b. AllByRecursion Rattle.lsq.specs.LastStores.EntryHasAddress
         (map entry_in (own b))) on q in
         let some = e.0 (ap is_store k) in
         addressed t.fate (computed P t) (subst (λ x. IsSome (address_by x t.fate (computed P t))) k some)
@@ -245,7 +245,7 @@ byte_left_live P (t ∷ ts) s x l = go t.standing refl (byte_left_live P ts s.1 
             (byte_at P ts x)
             ∙ ap (λ v. byte_by (is_store (kind_of P t)) (address_by (kind_of P t) t.fate (computed P t)) v
             (content_by (kind_of P t) t.second.value) x (byte_at P ts x)) (sym (same_width (instr P t).op))
-            ∙ ap (λ y. Rattle.lsq.specs.LastStores.byte_after (entry_of P t) x y) (more
+            ∙ ap (λ y. Rattle.lsq.specs.LastStores.byte_by_entry (entry_of P t) x y) (more
             ∙ ap (byte_left (queue_of P ts) x) (ap read (sym (committed_if P t ts false (not_complete P t not)))))
             ∙ sym (ap (λ es. byte_left es x (read (committed P (t ∷ ts)))) (queue_more P t ts true q)
             ∙ byte_left-append (queue_of P ts) (entry_of P t ∷ []) x _)

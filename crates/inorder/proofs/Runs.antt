@@ -1,5 +1,7 @@
 -- Whole runs that the check computes. One of them is the words of a table as well: a crate above cites it.
 pub mod Examples
+mod Decided
+mod DecidedSteps
 pub mod SharedRun
 mod LoopRun
 mod WrongPathRun

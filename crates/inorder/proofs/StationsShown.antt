@@ -9,7 +9,7 @@ use Rattle.inorder.specs.declared.history.Source.TheVariants.{First, Second}
 use Rattle.inorder.specs.declared.history.Step.TheVariants.{Let, On}
 use Rattle.inorder.specs.declared.history.Supply.{Supply}
 use Rattle.inorder.specs.Legal.{Allowed, May, Taken, applied, changed, reached}
-use Rattle.inorder.specs.StationWords.{ChangesStation, HasFate, IsFree, KeepsStations, Moves, NamedBy, StationsFollow, last_of, live_word, station_word, word_by, word_of}
+use Rattle.inorder.specs.StationWords.{ChangesStation, HasFate, IsFree, KeepsStations, WordsMove, NamedBy, StationsFollow, last_of, live_word, station_word, word_by, word_of}
 use Rattle.inorder.specs.Steps.{new_tenant}
 use Rattle.inorder.specs.Tenants.{Addr, Busy, Done, Fate, Live, Miss, Open, Retired, Squashed, Standing, Stopped, Tenant, IsNotLive, is_live}
 use Rattle.inorder.specs.Unit.{newest_of, Sizes, UpdateUnit, at, how_many, next_station, next_tag, older, recent, tag_after, younger}
@@ -336,7 +336,7 @@ module _ (P : Program) (C : Sizes) (U : UpdateUnit) (by : ℕ) (sound_U : IsSoun
       (cut U.fresh (younger ts p) (older ts p))
       ∙ ap (λ W. station_word C (newest_of U.fresh W) s) (sym (split_at ts p t a.is))
 
-  moves : Moves P C U by
+  moves : WordsMove P C U by
   moves =
       record {
         before_let = before_let;

@@ -68,14 +68,14 @@ pub record IsMissing (x : ℕ) (t : Tenant) : Type 0 where
   pub fate : t.fate ≡ Miss x
 
 -- No younger tenant is live
-abbrev pub IsYoungest : UpdateUnit → ℕ → Type 0
-IsYoungest U p =
+abbrev pub IsYoungestLive : UpdateUnit → ℕ → Type 0
+IsYoungestLive U p =
     (q : ℕ) (t : Tenant) → p < q → at U.tenants q ≡ Some t → t.standing ≢ Live
 
 -- The youngest live tenant may be squashed, since an older one is a live miss
 pub record CanSquash (U : UpdateUnit) (p : ℕ) : Type 0 where
   pub tenant : Has U p (λ t. t.standing ≡ Live)
-  pub youngest : IsYoungest U p
+  pub youngest : IsYoungestLive U p
   pub q : ℕ
   pub x : ℕ
   pub before : q < p
@@ -84,7 +84,7 @@ pub record CanSquash (U : UpdateUnit) (p : ℕ) : Type 0 where
 -- The youngest live tenant is a miss
 pub record CanMend (U : UpdateUnit) (p x : ℕ) : Type 0 where
   pub miss : Has U p (IsMissing x)
-  pub youngest : IsYoungest U p
+  pub youngest : IsYoungestLive U p
 
 -- The back
 

@@ -117,13 +117,13 @@ IsWalked U q =
     (operand k t).way ≡ Linked true → IsThere (operand k t).value ⊎ IsNotLive t
 
 -- The source is delivered, or was asked for in time
-abbrev pub IsAsked : UpdateUnit → ℕ → Source → Type 0
-IsAsked U p k = IsDelivered U p k ⊎ IsAskedInTime U p k
+abbrev pub WasAskedFor : UpdateUnit → ℕ → Source → Type 0
+WasAskedFor U p k = IsDelivered U p k ⊎ IsAskedInTime U p k
 
 -- A mark is true at this point, and this caller is one that makes it
 abbrev pub MayMark : UpdateUnit → ℕ → Mark → Type 0
 MayMark U by (Walked q) = IsUnitOrBack by × IsWalked U q
-MayMark U by (Asked p k) = (by ≡ front) × IsAsked U p k
+MayMark U by (Asked p k) = (by ≡ front) × WasAskedFor U p k
 
 -- An event of a caller is allowed behind this history
 abbrev pub MayAdd : Program → Sizes → List Entry → ℕ → Event → Type 0

@@ -29,9 +29,9 @@ abbrev pub operand_word : List Tenant → ℕ → Source → Option OperandWord
 operand_word ts s k = operand_word_of k (last_of ts s)
 
 -- Which of the two ways is that of source k
-abbrev pub supply_of : Source → Supply → Supply → Supply
-supply_of First first second = first
-supply_of Second first second = second
+abbrev pub supply_for : Source → Supply → Supply → Supply
+supply_for First first second = first
+supply_for Second first second = second
 
 -- The value, if it is known at the let
 abbrev pub supplied : Supply → Option ℕ
@@ -53,7 +53,7 @@ pub record MovesOperands (P : Program) (C : Sizes) (U : UpdateUnit) (by : ℕ) :
   pub after_let : (index predicted : ℕ) (first second : Supply) (s : ℕ) (k : Source) →
       operand_word (recent (applied P C U by (Let index predicted first second))) s k ≡
       (if next_station C (recent U) == s
-      then Some (let_word (next_tag C (recent U)) (supply_of k first second))
+      then Some (let_word (next_tag C (recent U)) (supply_for k first second))
       else operand_word (recent U) s k)
   -- a delivery to the last tenant of a station gives its operand the value
   pub to_last : (p : ℕ) (k : Source) (t : Tenant) → Allowed P C U by (On p (Deliver k)) →

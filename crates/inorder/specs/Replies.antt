@@ -46,7 +46,7 @@ abbrev pub HasNoInstr : Program → UpdateUnit → Type 0
 HasNoInstr P U = instr_at P (front_pc U.tenants) ≡ None
 
 -- The next instruction is a load or store, and as many are live as the queue takes
-pub record IsQueueFull (P : Program) (C : Sizes) (U : UpdateUnit) : Type 0 where
+pub record HasFullQueue (P : Program) (C : Sizes) (U : UpdateUnit) : Type 0 where
   pub index : ℕ
   pub is_there : index < length P.code
   pub pc : front_pc U.tenants ≡ address index

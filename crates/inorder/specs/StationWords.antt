@@ -99,7 +99,7 @@ pub record NamedBy (C : Sizes) (ts : List Tenant) (s : ℕ) : Type 0 where
   pub last : AllByRecursion (λ u. u.station ≢ s) (younger ts p)
 
 -- Between a unit's tenants and its station words
-pub record Shows (C : Sizes) (ts : List Tenant) : Type 0 where
+pub record WordsShow (C : Sizes) (ts : List Tenant) : Type 0 where
   -- a live tenant is what its station shows
   pub live : (p : ℕ) (t : Tenant) → at ts p ≡ Some t → t.standing ≡ Live →
       station_word C ts t.station ≡ live_word t.tag t.fate
@@ -107,7 +107,7 @@ pub record Shows (C : Sizes) (ts : List Tenant) : Type 0 where
   pub names : (s : ℕ) → (station_word C ts s).state ≢ IsFree → NamedBy C ts s
 
 -- How a step moves the station words
-pub record Moves (P : Program) (C : Sizes) (U : UpdateUnit) (by : ℕ) : Type 0 where
+pub record WordsMove (P : Program) (C : Sizes) (U : UpdateUnit) (by : ℕ) : Type 0 where
   -- a let takes a free station, with its next tag
   pub before_let : (index predicted : ℕ) (first second : Supply) →
       Allowed P C U by (Let index predicted first second) →
@@ -132,5 +132,5 @@ pub record Moves (P : Program) (C : Sizes) (U : UpdateUnit) (by : ℕ) : Type 0 
 
 -- Both are so behind these steps, if each was allowed
 pub record StationsFollow (P : Program) (C : Sizes) (history : List Taken) (by : ℕ) : Type 0 where
-  pub shows : AreAllowed P C history → Shows C (recent (reached P C history))
-  pub moves : AreAllowed P C history → Moves P C (reached P C history) by
+  pub shows : AreAllowed P C history → WordsShow C (recent (reached P C history))
+  pub moves : AreAllowed P C history → WordsMove P C (reached P C history) by

@@ -4,13 +4,13 @@ use Rattle.inorder.specs.Tenants.{Busy, Fate, Linked, Operand, Tenant}
 use Rattle.inorder.specs.Unit.{value_of}
 
 -- A link was asked for
-abbrev pub HasLink : Operand → Type 0
-HasLink o = (in_time : Bool) × (o.way ≡ Linked in_time)
+abbrev pub WasLinked : Operand → Type 0
+WasLinked o = (in_time : Bool) × (o.way ≡ Linked in_time)
 
 -- A source holds what its creator has made, or is linked while that has made nothing
-pub record IsStill (ts : List Tenant) (o : Operand) : Type 0 where
+pub record SourceIsStill (ts : List Tenant) (o : Operand) : Type 0 where
   pub value : o.value ≡ value_of ts o.creator
-  pub way : o.value ≡ None → HasLink o
+  pub way : o.value ≡ None → WasLinked o
 
 -- It is not claimed, or is finished
 abbrev pub IsNotBusy : Fate → Type 0
@@ -20,4 +20,4 @@ IsNotBusy _ = ⊤
 -- Every delivery that is permitted was made, and nobody is busy
 abbrev pub AreStill : List Tenant → Type 0
 AreStill [] = ⊤
-AreStill (t ∷ ts) = (IsStill ts t.first × IsStill ts t.second × IsNotBusy t.fate) × AreStill ts
+AreStill (t ∷ ts) = (SourceIsStill ts t.first × SourceIsStill ts t.second × IsNotBusy t.fate) × AreStill ts

@@ -2,7 +2,7 @@
 use Rattle.std.proofs.Common.{◌≡◌, ◌<◌, ℤ, ◌+ℤ◌, ◌*ℤ◌, int_div, int_rem, unsigned_abs, refl}
 use Rattle.std.proofs.lemmas.Int.{quot-rem, rem_below}
 use Rattle.instructions.specs.Operations.{signed}
-use Rattle.instructions.specs.Products.{half_of, product, quotient, remainder, signed_product, signed_quotient, signed_remainder}
+use Rattle.instructions.specs.Products.{word_of_half, product, quotient, remainder, signed_product, signed_quotient, signed_remainder}
 use Rattle.instructions.specs.declared.op.Half.TheVariants.{High, Low}
 
 -- the remainder is the dividend less the quotient times the divisor
@@ -35,8 +35,8 @@ signed_zero_divisor : (signed_quotient (signed 0xfffffff7) (signed 0) ≡ 0) × 
 signed_zero_divisor = (refl, refl)
 
 -- -1 by -1, read with and without signs
-ones : (half_of High (signed_product (signed 0xffffffff) (signed 0xffffffff)) ≡ 0) × (half_of High (product 0xffffffff 0xffffffff) ≡ 0xfffffffe)
+ones : (word_of_half High (signed_product (signed 0xffffffff) (signed 0xffffffff)) ≡ 0) × (word_of_half High (product 0xffffffff 0xffffffff) ≡ 0xfffffffe)
 ones = (refl, refl)
 
-low_ones : (half_of Low (signed_product (signed 0xffffffff) (signed 0xffffffff)) ≡ 1) × (half_of Low (product 0xffffffff 0xffffffff) ≡ 1)
+low_ones : (word_of_half Low (signed_product (signed 0xffffffff) (signed 0xffffffff)) ≡ 1) × (word_of_half Low (product 0xffffffff 0xffffffff) ≡ 1)
 low_ones = (refl, refl)

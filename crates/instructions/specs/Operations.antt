@@ -13,7 +13,7 @@ use Rattle.instructions.specs.declared.stop.Stop.TheVariants.{Break as BreakStop
 use Rattle.instructions.specs.declared.stop.Outcome.{Outcome}
 use Rattle.instructions.specs.declared.stop.Outcome.TheVariants.{Value, Next, Address, Stop as Stops, Pair}
 use Rattle.instructions.specs.Instruction.{kind, width, pc_plus_4, is_pair}
-use Rattle.instructions.specs.Products.{half_of, product, signed_product, divided, signed_divided}
+use Rattle.instructions.specs.Products.{word_of_half, product, signed_product, divided, signed_divided}
 
 -- the number of a stop
 abbrev pub code_of : Stop → ℕ
@@ -83,8 +83,8 @@ computed_by Sra half a b i = Ok (shifted_signed a (i % 32))
 computed_by Sllv half a b i = Ok (shifted_left a (b % 32))
 computed_by Srlv half a b i = Ok (a / 2 ^ (b % 32))
 computed_by Srav half a b i = Ok (shifted_signed a (b % 32))
-computed_by Mult half a b i = Ok (half_of half (signed_product (signed a) (signed b)))
-computed_by Multu half a b i = Ok (half_of half (product a b))
+computed_by Mult half a b i = Ok (word_of_half half (signed_product (signed a) (signed b)))
+computed_by Multu half a b i = Ok (word_of_half half (product a b))
 computed_by Div half a b i = Ok (signed_divided half (signed a) (signed b))
 computed_by Divu half a b i = Ok (divided half a b)
 computed_by Mflo half a b i = Ok a
@@ -170,6 +170,6 @@ loaded Lh raw = extended w16 (raw % 2 ^ 16)
 loaded _ raw = raw
 
 -- an address is that of an access of w bytes inside the memory
-abbrev pub IsInside : Outcome → ℕ → ℕ → Type 0
-IsInside (Address at) w size = at + w ≤ size
-IsInside _ w size = ⊤
+abbrev pub AddressIsInside : Outcome → ℕ → ℕ → Type 0
+AddressIsInside (Address at) w size = at + w ≤ size
+AddressIsInside _ w size = ⊤

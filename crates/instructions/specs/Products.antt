@@ -6,9 +6,9 @@ use Rattle.instructions.specs.declared.op.Half.{Half}
 use Rattle.instructions.specs.declared.op.Half.TheVariants.{Low, High}
 
 -- the low and the high word of a number of 64 bits
-abbrev pub half_of : Half → ℕ → ℕ
-half_of Low n = n % 2 ^ 32
-half_of High n = n / 2 ^ 32 % 2 ^ 32
+abbrev pub word_of_half : Half → ℕ → ℕ
+word_of_half Low n = n % 2 ^ 32
+word_of_half High n = n / 2 ^ 32 % 2 ^ 32
 
 -- the product of two words, in 64 bits
 abbrev pub product : ℕ → ℕ → ℕ

@@ -1,11 +1,11 @@
 //! Products and quotients of words, by the half that goes to LO or HI.
 ghost use Rattle.std.specs.Prelude.{◌≡◌};
-ghost use Rattle.instructions.specs.Products.{half_of as word_of, quotient as quotient_of, remainder as remainder_of, signed_quotient as signed_quotient_of, signed_remainder as signed_remainder_of, product as product_of, signed_product as signed_product_of, divided as divided_of, signed_divided as signed_divided_of};
+ghost use Rattle.instructions.specs.Products.{word_of_half, quotient as quotient_of, remainder as remainder_of, signed_quotient as signed_quotient_of, signed_remainder as signed_remainder_of, product as product_of, signed_product as signed_product_of, divided as divided_of, signed_divided as signed_divided_of};
 
 use crate::Half;
 
 fn half_of(half: Half, n: u64) -> u32
-    ensures { result ≡ word_of half n }
+    ensures { result ≡ word_of_half half n }
 {
     match half {
         Half::Low => (n & 0xffff_ffff) as u32,
@@ -15,14 +15,14 @@ fn half_of(half: Half, n: u64) -> u32
 
 /// A half of the product of 64 bits.
 pub fn product(half: Half, a: u32, b: u32) -> u32
-    ensures { result ≡ word_of half (product_of a b) }
+    ensures { result ≡ word_of_half half (product_of a b) }
 {
     half_of(half, u64::from(a) * u64::from(b))
 }
 
 /// A half of the signed product of 64 bits.
 pub fn signed_product(half: Half, a: i32, b: i32) -> u32
-    ensures { result ≡ word_of half (signed_product_of a b) }
+    ensures { result ≡ word_of_half half (signed_product_of a b) }
 {
     half_of(half, (i64::from(a) * i64::from(b)).cast_unsigned())
 }

@@ -4,7 +4,7 @@ ghost use Rattle.instructions.specs.declared.op.Half.TheVariants.{Low, High};
 ghost use Rattle.instructions.specs.declared.op.Kind.TheVariants.{Computes};
 ghost use Rattle.std.specs.Int.{w32};
 ghost use Rattle.instructions.specs.Instruction.{is_pair as is_pair_of, kind as kind_of, pc_plus_4 as pc_plus_4_of, width as width_of};
-ghost use Rattle.instructions.specs.Operations.{signed, fitted, flag as flag_of, shifted_signed as shifted_signed_by, computed_by, jump_target as jump_target_of, checked_address as checked_address_of, outcome as whole_outcome, outcome_of as half_outcome, loaded as loaded_of, IsInside};
+ghost use Rattle.instructions.specs.Operations.{signed, fitted, flag as flag_of, shifted_signed as shifted_signed_by, computed_by, jump_target as jump_target_of, checked_address as checked_address_of, outcome as whole_outcome, outcome_of as half_outcome, loaded as loaded_of, AddressIsInside};
 
 use crate::products::{divided, product, signed_divided, signed_product};
 use crate::{Half, Instr, Kind, Op, Outcome, Stop};
@@ -162,7 +162,7 @@ fn checked_address(width: u32, at: u32, size: u32) -> Result<u32, Stop>
 #[inline(always)]
 pub fn outcome(instr: &Instr, pc: u32, a: u32, b: u32, size: u32) -> Outcome
     ensures value { result ≡ whole_outcome instr.now pc a b size }
-    ensures inside { IsInside result (width_of instr.now.op) size }
+    ensures inside { AddressIsInside result (width_of instr.now.op) size }
 {
     if instr.op.is_pair() {
         let (low, high) = pair_values(instr.op, a, b);
@@ -177,7 +177,7 @@ pub fn outcome(instr: &Instr, pc: u32, a: u32, b: u32, size: u32) -> Outcome
 #[inline(always)]
 pub fn outcome_of(instr: &Instr, half: Half, pc: u32, a: u32, b: u32, size: u32) -> Outcome
     ensures value { result ≡ half_outcome instr.now half pc a b size }
-    ensures inside { IsInside result (width_of instr.now.op) size }
+    ensures inside { AddressIsInside result (width_of instr.now.op) size }
 {
     let op = instr.op;
     match op.kind() {

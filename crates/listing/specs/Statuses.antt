@@ -8,19 +8,19 @@ use Rattle.listing.specs.declared.fault.Fault.{Fault}
 use Rattle.listing.specs.declared.fault.Fault.TheVariants.{Refused, TooLong, Read, Write, Memory}
 
 -- 2 where the file has no listing, 5 where a device or memory fails
-abbrev pub status_of : Fault → ℕ
-status_of (Refused why) = 2
-status_of TooLong = 2
-status_of Read = 5
-status_of Write = 5
-status_of Memory = 5
+abbrev pub status_of_fault : Fault → ℕ
+status_of_fault (Refused why) = 2
+status_of_fault TooLong = 2
+status_of_fault Read = 5
+status_of_fault Write = 5
+status_of_fault Memory = 5
 
 -- what a file that has no listing is refused with
-abbrev pub fault_of : NoListing → Fault
-fault_of no.Memory = Memory
-fault_of why = Refused why
+abbrev pub refused_with : NoListing → Fault
+refused_with no.Memory = Memory
+refused_with why = Refused why
 
 -- the fault of an input that could not be read
-abbrev pub input_fault : InputFault → Fault
-input_fault input.Read = Read
-input_fault input.Memory = Memory
+abbrev pub reading_fault : InputFault → Fault
+reading_fault input.Read = Read
+reading_fault input.Memory = Memory

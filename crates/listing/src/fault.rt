@@ -1,7 +1,7 @@
 //! Why no listing was written.
 ghost use Rattle.std.specs.Prelude.{◌≡◌};
 ghost use Rattle.listing.specs.declared.fault.Fault.TheVariants.{Write};
-ghost use Rattle.listing.specs.Statuses.{fault_of, input_fault};
+ghost use Rattle.listing.specs.Statuses.{refused_with, reading_fault};
 
 use conversion::Refusal;
 use devices::{InputFault, WriteFailed};
@@ -32,7 +32,7 @@ impl fmt::Display for Fault {
 }
 
 impl From<Refusal> for Fault {
-    ghost from_gives = { λ why fault. fault ≡ fault_of why };
+    ghost from_gives = { λ why fault. fault ≡ refused_with why };
 
     fn from(why: Refusal) -> Fault {
         match why {
@@ -43,7 +43,7 @@ impl From<Refusal> for Fault {
 }
 
 impl From<InputFault> for Fault {
-    ghost from_gives = { λ why fault. fault ≡ input_fault why };
+    ghost from_gives = { λ why fault. fault ≡ reading_fault why };
 
     fn from(why: InputFault) -> Fault {
         match why {

@@ -3,7 +3,7 @@
 
 ghost use Rattle.std.specs.Prelude.{◌≡◌};
 ghost use Rattle.std.specs.Process.{exit_status};
-ghost use Rattle.listing.specs.Statuses.{status_of};
+ghost use Rattle.listing.specs.Statuses.{status_of_fault};
 
 mod converting;
 mod fault;
@@ -27,7 +27,7 @@ Exit status: 0 the listing was written, 2 the file has none, 3 a mistake on the 
 ";
 
 fn status(fault: &Fault) -> u8
-    ensures { result ≡ status_of fault.now }
+    ensures { result ≡ status_of_fault fault.now }
 {
     match fault {
         Fault::Refused { why: _ } | Fault::TooLong => 2,
@@ -37,7 +37,7 @@ fn status(fault: &Fault) -> u8
 
 // A failure to print changes no status.
 fn refuse(rt: &HostRuntime, file: &str, fault: &Fault) -> ExitCode
-    ensures { exit_status result ≡ status_of fault.now }
+    ensures { exit_status result ≡ status_of_fault fault.now }
 {
     let _ = eprintln!(rt; "ruu: {file}: {fault}");
     ExitCode::from(status(fault))

@@ -10,7 +10,7 @@ use Rattle.lsq.specs.declared.answer.Answer.TheVariants.{Forward, Memory, Blocke
 use Rattle.lsq.specs.Bytes.{byte_of, little_endian}
 use Rattle.lsq.specs.Entries.{bytes}
 use Rattle.lsq.specs.LoadRule.{lacks_address, overlaps, taken_from, forwarded, by_overlap, by_lacking, youngest, answer_over}
-use Rattle.lsq.specs.LastStores.{byte_after, byte_left, HasAddress, ReadsStores, ReadsMemory, WaitsFor}
+use Rattle.lsq.specs.LastStores.{byte_by_entry, byte_left, EntryHasAddress, ReadsStores, ReadsMemory, WaitsFor}
 use Rattle.lsq.proofs.Youngest.{FoundIs, SplitsAt, youngest_is}
 use Rattle.lsq.proofs.LittleEndian.{byte_of-fits, little_endian-fits, byte_of-little_endian, if_there-some, if_there-same}
 use Rattle.lsq.proofs.StoresLeft.{all_known, byte_left-append, left_alone, left_by}
@@ -91,7 +91,7 @@ module _ (older : List Entry) (a w : ℕ) where
   -- the youngest overlapping store decides each byte that it covers
   left_at : (found : ℕ × Entry) (s : SplitsAt (overlaps a w) 0 older found.0 found.1) (k : ℕ) → k < w
       → (before : Option ℕ)
-      → byte_left older (a + k) before ≡ byte_after found.1 (a + k) (byte_left s.older (a + k) before)
+      → byte_left older (a + k) before ≡ byte_by_entry found.1 (a + k) (byte_left s.older (a + k) before)
   left_at found s k l before =
       ap (λ es. byte_left es (a + k) before) s.parts
       ∙ byte_left-append s.older (found.1 ∷ s.younger) (a + k) before
@@ -108,7 +108,7 @@ module _ (older : List Entry) (a w : ℕ) where
       ∙ left_by found.1.store found.1.address (bytes found.1.width) found.1.content (a + k) t.base t.data_is _
       is_store t.at_base t.has_data above below
 
-  reads_stores : (raw : ℕ) (found : ℕ × Entry) → AllByRecursion HasAddress older
+  reads_stores : (raw : ℕ) (found : ℕ × Entry) → AllByRecursion EntryHasAddress older
       → SplitsAt (overlaps a w) 0 older found.0 found.1
       → Covering found.1.address found.1.content (bytes found.1.width) a w raw → ReadsStores older a w raw
   reads_stores raw found known s t = record {
@@ -126,7 +126,7 @@ module _ (older : List Entry) (a w : ℕ) where
       fits x = byte_of-fits (x - t.base) t.data_is
 
   -- the cases of the rule
-  forward_over : (raw : ℕ) (o : Option (ℕ × Entry)) → AllByRecursion HasAddress older
+  forward_over : (raw : ℕ) (o : Option (ℕ × Entry)) → AllByRecursion EntryHasAddress older
       → FoundIs (overlaps a w) 0 older o → by_overlap o a w ≡ Forward raw → ReadsStores older a w raw
   forward_over raw None known n h = absurd (cc)
   forward_over raw (Some found) known s h =
@@ -141,7 +141,7 @@ module _ (older : List Entry) (a w : ℕ) where
   pub forward_is : (raw : ℕ) → answer_over older a w ≡ Forward raw → ReadsStores older a w raw
   forward_is raw h = forward_by raw (youngest lacks_address older) (youngest_is lacks_address older 0) h
 
-  memory_over : (o : Option (ℕ × Entry)) → AllByRecursion HasAddress older → FoundIs (overlaps a w) 0 older o
+  memory_over : (o : Option (ℕ × Entry)) → AllByRecursion EntryHasAddress older → FoundIs (overlaps a w) 0 older o
       → by_overlap o a w ≡ Memory → ReadsMemory older a w
   memory_over None known n h = record {
     known = known;

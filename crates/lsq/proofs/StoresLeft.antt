@@ -7,7 +7,7 @@ use Rattle.lsq.specs.declared.entry.Entry.{Entry}
 use Rattle.lsq.specs.Bytes.{byte_of}
 use Rattle.lsq.specs.Entries.{bytes}
 use Rattle.lsq.specs.LoadRule.{lacks_address, overlaps, meets}
-use Rattle.lsq.specs.LastStores.{byte_by, byte_after, byte_left, HasAddress}
+use Rattle.lsq.specs.LastStores.{byte_by, byte_by_entry, byte_left, EntryHasAddress}
 use Rattle.lsq.proofs.Youngest.{NonePasses}
 
 -- where no store lacks its address, each has it
@@ -16,7 +16,7 @@ has_by true (Some b) h t = refl
 has_by true None h t = absurd (true≢false h)
 has_by false a h t = absurd (true≢false (sym t))
 
-pub all_known : (es : List Entry) → NonePasses lacks_address es → AllByRecursion HasAddress es
+pub all_known : (es : List Entry) → NonePasses lacks_address es → AllByRecursion EntryHasAddress es
 all_known [] n = tt
 all_known (e ∷ es) n = (has_by e.store e.address n.0, all_known es n.1)
 
@@ -24,7 +24,7 @@ all_known (e ∷ es) n = (has_by e.store e.address n.0, all_known es n.1)
 pub byte_left-append : (xs ys : List Entry) (x : ℕ) (before : Option ℕ)
     → byte_left (xs ++ ys) x before ≡ byte_left ys x (byte_left xs x before)
 byte_left-append [] ys x before = refl
-byte_left-append (e ∷ xs) ys x before = byte_left-append xs ys x (byte_after e x before)
+byte_left-append (e ∷ xs) ys x before = byte_left-append xs ys x (byte_by_entry e x before)
 
 -- a byte of a load lies in no range that does not meet the load
 not_over : (b v a w x : ℕ) → a ≤ x → x < a + w → meets (Some b) v a w ≡ false → (leb b x && ltb x (b + v)) ≡ false

@@ -15,13 +15,13 @@ byte_by true (Some base) stored content at before =
 byte_by _ _ stored content at before = before
 
 -- the byte at an address after an entry
-abbrev pub byte_after : Entry → ℕ → Option ℕ → Option ℕ
-byte_after e at before = byte_by e.store e.address (bytes e.width) e.content at before
+abbrev pub byte_by_entry : Entry → ℕ → Option ℕ → Option ℕ
+byte_by_entry e at before = byte_by e.store e.address (bytes e.width) e.content at before
 
 -- the byte at an address after each entry of a list in turn, the oldest first
 abbrev pub byte_left : List Entry → ℕ → Option ℕ → Option ℕ
 byte_left [] at before = before
-byte_left (e ∷ es) at before = byte_left es at (byte_after e at before)
+byte_left (e ∷ es) at before = byte_left es at (byte_by_entry e at before)
 
 -- what a load reads after the entries of a list, from what each byte was before
 abbrev pub number_left : List Entry → (ℕ → Option ℕ) → ℕ → ℕ → Option ℕ
@@ -29,12 +29,12 @@ number_left es before address width =
     little_endian_if_there (λ at. byte_left es at (before at)) address width
 
 -- an entry that is a store has its address
-abbrev pub HasAddress : Entry → Type 0
-HasAddress e = IsTrue e.store → IsSome e.address
+abbrev pub EntryHasAddress : Entry → Type 0
+EntryHasAddress e = IsTrue e.store → IsSome e.address
 
 -- the load reads this number, whatever the bytes were before
 pub record ReadsStores (older : List Entry) (address width raw : ℕ) : Type 0 where
-  pub known : AllByRecursion HasAddress older
+  pub known : AllByRecursion EntryHasAddress older
   pub bytes : (k : ℕ) → k < width → (before : Option ℕ)
       → byte_left older (address + k) before ≡ Some (byte_of k raw)
   pub number : (before : ℕ → Option ℕ) → number_left older before address width ≡ Some raw
@@ -42,7 +42,7 @@ pub record ReadsStores (older : List Entry) (address width raw : ℕ) : Type 0 w
 
 -- no older store writes a byte of the load
 pub record ReadsMemory (older : List Entry) (address width : ℕ) : Type 0 where
-  pub known : AllByRecursion HasAddress older
+  pub known : AllByRecursion EntryHasAddress older
   pub bytes : (k : ℕ) → k < width → (before : Option ℕ)
       → byte_left older (address + k) before ≡ before
   pub number : (before : ℕ → Option ℕ)

@@ -36,14 +36,14 @@ abbrev pub overlaps : ℕ → ℕ → Entry → Bool
 overlaps address width e = e.store && meets e.address (bytes e.width) address width
 
 -- stored bytes from a base on have all of a load among them
-abbrev pub covers : ℕ → ℕ → ℕ → ℕ → Bool
-covers base stored address width =
+abbrev pub has_all_of : ℕ → ℕ → ℕ → ℕ → Bool
+has_all_of base stored address width =
     nat_le base address && nat_le (address + width) (base + stored)
 
 -- what a load reads in the bytes of a store, from its base, width and data, if it has them all
 abbrev pub taken_from : Option ℕ → ℕ → Option ℕ → ℕ → ℕ → Option ℕ
 taken_from (Some base) stored (Some content) address width =
-    if covers base stored address width
+    if has_all_of base stored address width
     then Some (little_endian (λ x. byte_of (x - base) content) address width)
     else None
 taken_from _ stored _ address width = None

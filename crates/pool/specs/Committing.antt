@@ -1,7 +1,7 @@
 -- What contracts see of the commit thread.
 use Rattle.std.specs.Prelude.{◌≡◌, ◌≢◌, ◌+◌, ◌≤◌, ◌<◌, ◌^◌, ℕ, [], None, Option, Some, Err, Result}
 use Rattle.atomic_table.specs.Seated.{TableId}
-use Rattle.back.specs.Backs.{TheBack, state_of}
+use Rattle.back.specs.Backs.{TheBack, back_state}
 use Rattle.counts.specs.declared.tally.Total.TheVariants.{Renewals, Retires}
 use Rattle.counts.specs.Reads.{HoldsAll}
 use Rattle.counts.specs.Seats.{Counter}
@@ -27,14 +27,14 @@ no_table = record { words = 0; slots = 0; views_name = 0; atom = 0; block = 0; o
 pub record HasCounted (counts : TableId) (back : TheBack) (times : ℕ) (count : Counter) : Type 0 where
   pub of : count.of ≡ counts
   pub all : HoldsAll Retires count.shares
-  pub retires : (share_of Retires count.shares).added ≡ (state_of back).count
+  pub retires : (share_of Retires count.shares).added ≡ (back_state back).count
   pub all_renewals : HoldsAll Renewals count.shares
   pub renewals : (share_of Renewals count.shares).added ≡ times
 
 -- The reason holds: the program has ended, the limit is reached, or no turn is left
 abbrev pub Because : (limit : ℕ) → TheBack → (left : ℕ) → Why → Type 0
 Because limit back left AtEnd = back.ended ≢ None
-Because limit back left AtLimit = (state_of back).count ≡ limit
+Because limit back left AtLimit = (back_state back).count ≡ limit
 Because limit back left Spent = left ≡ 0
 
 -- It took a turn since its core was last renewed
@@ -54,9 +54,9 @@ pub record IsAtRest (c : TheCommitter) : Type 0 where
 
 -- It has not gone past the limit, and where it has ended it has not come to it; each instruction took a turn, and so
 -- did each renewal
-pub record Keeps (limit : ℕ) (back : TheBack) (renewals : ℕ) (turns : TheTurns) : Type 0 where
-  pub within : (state_of back).count ≤ limit
-  pub below : back.ended ≢ None → (state_of back).count < limit
-  pub each_turn : (state_of back).count + turns.left ≤ turns.all
+pub record KeepsLimit (limit : ℕ) (back : TheBack) (renewals : ℕ) (turns : TheTurns) : Type 0 where
+  pub within : (back_state back).count ≤ limit
+  pub below : back.ended ≢ None → (back_state back).count < limit
+  pub each_turn : (back_state back).count + turns.left ≤ turns.all
   pub each_term : renewals + turns.left ≤ turns.all
   pub fits : turns.all < 2 ^ 32

@@ -2,7 +2,7 @@
 use Rattle.std.specs.Prelude.{◌≡◌, ◌⊎◌, ℕ, ◌+◌, ◌*◌, ◌<◌, ◌%◌, List, ◌++◌, All, Contains}
 use Rattle.crossbeam_queue.specs.Passes.{view}
 use Rattle.hints.specs.declared.hands.Hand.{Hand}
-use Rattle.hints.specs.Hinted.{HasHeld, IsOf, TheHints, hand, taking}
+use Rattle.hints.specs.Hinted.{HasHeld, IsEndOf, TheHints, hand, taking}
 use Rattle.pool.specs.declared.search.Candidate.{Candidate}
 use Rattle.pool.specs.declared.search.Candidate.TheVariants.{Hinted, Next}
 use Rattle.pool.specs.declared.search.Search.{Search}
@@ -21,9 +21,9 @@ pub record HasHinted (ring woken below : ℕ) (old new : Hand) : Type 0 where
   pub each : (s : ℕ) → s < below → IsSet woken s → Contains stations s ⊎ WasFull ring
 
 -- The station at which a unit looks
-abbrev pub station_of : Candidate → ℕ
-station_of (Hinted station) = station
-station_of (Next station) = station
+abbrev pub candidate_station : Candidate → ℕ
+candidate_station (Hinted station) = station
+candidate_station (Next station) = station
 
 -- It is a hint that was taken; or there was none, and it is the next one in ring order
 abbrev pub LooksAt : (ring : ℕ) → Search → Search → Candidate → Type 0
@@ -35,5 +35,5 @@ LooksAt ring old new (Next station) =
 
 -- It is of this queue, and goes on from a station of its ring
 pub record Searches (hints : TheHints) (search : Search) : Type 0 where
-  pub of : IsOf hints search.hinter
+  pub of : IsEndOf hints search.hinter
   pub next : search.next < hints.ring

@@ -4,34 +4,35 @@ use Rattle.instructions.specs.declared.end.End.{End}
 use Rattle.instructions.specs.declared.end.Ending.{Ending}
 use Rattle.instructions.specs.declared.end.Ending.TheVariants.{Limit, Stop as ByStop}
 use Rattle.instructions.specs.Programs.{Program}
-use Rattle.back.specs.Ends.{IsInOrder}
+use Rattle.back.specs.Ends.{EndIsInOrder}
 use Rattle.pool.specs.declared.answer.Refusal.TheVariants.{Memory, Thread}
 use Rattle.pool.specs.declared.answer.Run.{Run}
 use Rattle.pool.specs.declared.answer.Run.TheVariants.{Ended, LimitReached, Refused}
 use Rattle.pool.specs.Turns.{TheTurns}
 use Rattle.counts.specs.declared.tally.Tally.{Tally}
 
-abbrev pub HasStopped : Ending → Type 0
-HasStopped (ByStop code) = Unit {0}
-HasStopped Limit = ⊥
+-- A stop has ended it, and not the limit
+abbrev pub IsStopEnding : Ending → Type 0
+IsStopEnding (ByStop code) = Unit {0}
+IsStopEnding Limit = ⊥
 
 -- The registers, memory and pc are those of the machine in order after n instructions; n is how many
 -- retired
 pub record IsAfter (P : Program) (end : End) (tally : Tally) : Type 0 where
-  pub in_order : IsInOrder P end
+  pub in_order : EndIsInOrder P end
   pub retires : tally.retires ≡ end.n
 
 -- Where the run has ended, that machine stops there, with the same code
-abbrev pub IsRight : Program → Run → Type 0
-IsRight P (Ended end tally) = IsAfter P end tally × HasStopped end.outcome
-IsRight P (LimitReached end tally) = IsAfter P end tally × (end.outcome ≡ Limit)
-IsRight P (Refused why) = Unit {0}
+abbrev pub RunIsRight : Program → Run → Type 0
+RunIsRight P (Ended end tally) = IsAfter P end tally × IsStopEnding end.outcome
+RunIsRight P (LimitReached end tally) = IsAfter P end tally × (end.outcome ≡ Limit)
+RunIsRight P (Refused why) = Unit {0}
 
 -- Where it has ended it had not come to the limit, and it has run no instruction past it
-abbrev pub IsWithin : (limit : ℕ) → Run → Type 0
-IsWithin limit (Ended end tally) = end.n < limit
-IsWithin limit (LimitReached end tally) = end.n ≤ limit
-IsWithin limit (Refused why) = Unit {0}
+abbrev pub IsWithinLimit : (limit : ℕ) → Run → Type 0
+IsWithinLimit limit (Ended end tally) = end.n < limit
+IsWithinLimit limit (LimitReached end tally) = end.n ≤ limit
+IsWithinLimit limit (Refused why) = Unit {0}
 
 -- Each instruction took the commit thread a turn
 abbrev pub TakesTurns : (turns : ℕ) → Run → Type 0

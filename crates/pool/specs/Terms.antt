@@ -3,17 +3,17 @@ use Rattle.std.specs.Prelude.{◌≡◌, ℕ, List}
 use Rattle.inorder.specs.declared.history.Entry.{Entry}
 use Rattle.inorder.specs.History.{unit_of}
 use Rattle.front.specs.Fronts.{IsUnused}
-use Rattle.front.specs.Rests.{HasNobody}
-use Rattle.front.specs.Stills.{MayEnter, TheStill}
+use Rattle.front.specs.Stills.{FrontMayEnter, TheStillFront}
 use Rattle.instructions.specs.Programs.{Program}
 use Rattle.pool.specs.declared.dispatch.Begin.{Begin}
 use Rattle.pool.specs.declared.dispatch.Begin.TheVariants.{Again, Fresh}
 use Rattle.station.specs.Seats.{Caller, TheCore}
+use Rattle.station.specs.Renewals.{HasNobody}
 
 -- The seat is of this core, and the front enters with it
 pub record Enters (core : TheCore) (left : TheCore) (seen : List Entry) (seat : Caller) : Type 0 where
   pub core_is : seat.core ≡ core
-  pub may : MayEnter left seen seat
+  pub may : FrontMayEnter left seen seat
 
 -- The front begins at this core: with a seat that has let nothing, or behind a renewal
 abbrev pub Begins : {S : Type 0} → TheCore → Begin S → Caller → Type 0
@@ -21,7 +21,7 @@ Begins core (Fresh predictor) seat = IsUnused core seat
 Begins core (Again still) seat = Enters core still.core still.seen seat
 
 -- The front has left this core, with a seat that has seen that nobody is live
-pub record GivesBack {S : Type 0} (core : TheCore) (seat : Caller) (still : TheStill S) : Type 0 where
+pub record GivesBack {S : Type 0} (core : TheCore) (seat : Caller) (still : TheStillFront S) : Type 0 where
   pub core_is : seat.core ≡ core
   pub nobody : HasNobody (unit_of core.program core.sizes seat.seen)
   pub still_core : still.core ≡ core

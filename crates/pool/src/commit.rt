@@ -1,6 +1,6 @@
 //! What the commit thread does.
 ghost use Rattle.std.specs.Prelude.{◌≡◌};
-ghost use Rattle.back.specs.Backs.{state_of};
+ghost use Rattle.back.specs.Backs.{back_state};
 
 mod renewal;
 mod turning;
@@ -41,7 +41,7 @@ pub(crate) struct Committer<J: Naming, K: Bounds + Ring> {
 
 impl<J: Naming, K: Bounds + Ring> Model for Committer<J, K> {
     ghost use Rattle.std.specs.Prelude.{◌≡◌, Err, IfOk};
-    ghost use Rattle.pool.specs.Committing.{Because, HasCounted, Keeps, TheCommitter};
+    ghost use Rattle.pool.specs.Committing.{Because, HasCounted, KeepsLimit, TheCommitter};
     ghost use Rattle.pool.specs.declared.answer.Refusal.TheVariants.{Thread};
 
     ghost Value = { TheCommitter };
@@ -49,7 +49,7 @@ impl<J: Naming, K: Bounds + Ring> Model for Committer<J, K> {
     ghost view = { λ c. record { back = c.back; turns = c.turns; renewals = c.renewals; over = c.over } };
 
     ghost invariant = { λ c.
-        HasCounted K.counts c.back c.renewals c.count × (c.limit ≡ K.limit) × Keeps K.limit c.back c.renewals c.turns
+        HasCounted K.counts c.back c.renewals c.count × (c.limit ≡ K.limit) × KeepsLimit K.limit c.back c.renewals c.turns
         × (c.turns.all ≡ K.turns) × IfOk c.over (Because K.limit c.back c.turns.left)
         × (c.over ≡ Err Thread → c.renewals ≡ 0 → c.turns.left ≡ c.turns.all) };
 }
@@ -57,13 +57,13 @@ impl<J: Naming, K: Bounds + Ring> Model for Committer<J, K> {
 impl<J: Naming, K: Bounds + Ring> Committer<J, K> {
     ghost use Rattle.std.specs.Prelude.{◌≡◌, Err, None};
     ghost use Rattle.pool.specs.Committing.{HasCounted};
-    ghost use Rattle.pool.specs.Runs.{IsLimit, IsRight, IsWithin, LeavesTurns, TellsRenewals};
+    ghost use Rattle.pool.specs.Runs.{IsLimit, RunIsRight, IsWithinLimit, LeavesTurns, TellsRenewals};
 
     pub(crate) fn new(back: Back<J>, count: CountSeat, limit: u32, turns: u32) -> Self
         requires count { HasCounted K.counts back 0 count }
         requires limit { limit ≡ K.limit }
         requires turns { turns ≡ K.turns }
-        requires start { (state_of back).count ≡ 0 }
+        requires start { (back_state back).count ≡ 0 }
         requires going { back.ended ≡ None }
         ensures back { result.back ≡ back }
         ensures over { result.over ≡ Err Refusal.Thread }
@@ -83,8 +83,8 @@ impl<J: Naming, K: Bounds + Ring> Committer<J, K> {
     /// could be started.
     pub(crate) fn end<R: Wait>(self, wait: &R, floor: &Floor<K>) -> RunInTurns
         requires counts { floor.now.counts ≡ K.counts }
-        ensures right { IsRight J.program result.run }
-        ensures within { IsWithin K.limit result.run }
+        ensures right { RunIsRight J.program result.run }
+        ensures within { IsWithinLimit K.limit result.run }
         ensures turns { result.turns ≡ self.turns }
         ensures all { result.turns.all ≡ K.turns }
         ensures left { LeavesTurns result.turns result.renewals result.run }

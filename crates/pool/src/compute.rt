@@ -1,7 +1,7 @@
 //! What a unit thread does.
 ghost use Rattle.std.specs.Prelude.{◌≡◌, ◌<◌, ◌≤◌};
 ghost use Rattle.inorder.specs.History.{IsLegal};
-ghost use Rattle.pool.specs.HintsPut.{Searches, station_of};
+ghost use Rattle.pool.specs.HintsPut.{Searches, candidate_station};
 ghost use Rattle.station.specs.Claiming.{ClaimAnswers, Holds};
 ghost use Rattle.station.specs.Seats.{IsSame};
 
@@ -20,10 +20,10 @@ use std::thread::yield_now;
 // Claims at the station where it looks.
 fn claim(core: &Core, seat: &mut UnitSeat, candidate: Candidate) -> Claim
     requires core { seat.old.core ≡ core.now }
-    requires station { station_of candidate < core.now.sizes.ring }
+    requires station { candidate_station candidate < core.now.sizes.ring }
     ensures kept { IsSame seat.old seat.new }
     ensures reply { ClaimAnswers core.now.program core.now.sizes
-        seat.old.by seat.old.seen seat.new.seen (station_of candidate) result }
+        seat.old.by seat.old.seen seat.new.seen (candidate_station candidate) result }
 {
     let station = candidate.station();
     core.claim(seat, station)

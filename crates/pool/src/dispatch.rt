@@ -1,7 +1,7 @@
 //! What the dispatch thread does.
 ghost use Rattle.std.specs.Prelude.{◌≡◌, ◌<◌, IfSome, true};
 ghost use Rattle.front.specs.Fronts.{TurnsTo};
-ghost use Rattle.hints.specs.Hinted.{IsOf};
+ghost use Rattle.hints.specs.Hinted.{IsEndOf};
 ghost use Rattle.pool.specs.Terms.{Begins, GivesBack};
 ghost use Rattle.pool.specs.declared.dispatch.Stepped.TheVariants.{Rested};
 
@@ -39,10 +39,10 @@ fn let_next<K: Ring, P: Predictor + Drop, R: Wait>(
     requires core { front.old.core ≡ core.now }
     requires count { count.old.of ≡ floor.now.counts }
     requires hints { floor.now.hints.ring ≡ core.now.sizes.ring }
-    requires hinter { IsOf floor.now.hints hinter.old }
+    requires hinter { IsEndOf floor.now.hints hinter.old }
     ensures core { front.new.core ≡ core.now }
     ensures count { count.new.of ≡ floor.now.counts }
-    ensures hinter { IsOf floor.now.hints hinter.new }
+    ensures hinter { IsEndOf floor.now.hints hinter.new }
     ensures rested { result ≡ Rested → front.new.rested ≡ true }
 {
     let _ring = core.ring();
@@ -72,10 +72,10 @@ fn step<K: Ring, P: Predictor + Drop, R: Wait>(
     requires core { front.old.core ≡ core.now }
     requires count { count.old.of ≡ floor.now.counts }
     requires hints { floor.now.hints.ring ≡ core.now.sizes.ring }
-    requires hinter { IsOf floor.now.hints hinter.old }
+    requires hinter { IsEndOf floor.now.hints hinter.old }
     ensures core { front.new.core ≡ core.now }
     ensures count { count.new.of ≡ floor.now.counts }
-    ensures hinter { IsOf floor.now.hints hinter.new }
+    ensures hinter { IsEndOf floor.now.hints hinter.new }
     ensures rested { result ≡ Rested → front.new.rested ≡ true }
 {
     if let Recovery::Mended { squashed, .. } = front.recover(core) {

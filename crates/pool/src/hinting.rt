@@ -1,7 +1,7 @@
 //! Tells units of stations at which there may be work.
 ghost use Rattle.std.specs.Prelude.{◌≡◌, ◌≢◌, ◌<◌, ◌≤◌, IsFalse, IsTrue};
 ghost use Rattle.crossbeam_queue.specs.Passes.{view};
-ghost use Rattle.hints.specs.Hinted.{IsOf};
+ghost use Rattle.hints.specs.Hinted.{IsEndOf};
 ghost use Rattle.pool.specs.HintsPut.{HasHinted};
 ghost use Rattle.station.specs.Waking.{IsSet};
 
@@ -26,10 +26,10 @@ pub(crate) fn hint_each<K: Ring, R: Wait>(
     ring: usize,
     stations: u32,
 )
-    requires of { IsOf hints.now hinter.old }
+    requires of { IsEndOf hints.now hinter.old }
     requires ring { ring ≡ hints.now.ring }
     requires most { ring ≤ 32 }
-    ensures of { IsOf hints.now hinter.new }
+    ensures of { IsEndOf hints.now hinter.new }
     ensures hinted { HasHinted ring stations ring (view hinter.old) (view hinter.new) }
 {
     for station in 0..ring as u32 {

@@ -1,8 +1,8 @@
 //! Runs a program in threads, and joins them.
 ghost use Rattle.std.specs.Prelude.{◌≡◌, Err, IfOk};
-ghost use Rattle.back.specs.Backs.{HasRetiredNothing, IsNew};
+ghost use Rattle.back.specs.Backs.{HasRetiredNothing, IsNewBack};
 ghost use Rattle.counts.specs.Shares.{all_parts};
-ghost use Rattle.pool.specs.Runs.{IsLimit, IsRight, IsWithin, LeavesTurns, TakesTurns, TellsRenewals};
+ghost use Rattle.pool.specs.Runs.{IsLimit, RunIsRight, IsWithinLimit, LeavesTurns, TakesTurns, TellsRenewals};
 ghost use Rattle.pool.specs.Terms.{AreReady};
 
 use crate::answer::{Refusal, Run, RunInTurns};
@@ -79,7 +79,7 @@ fn back_at<J: Naming>(
     requires program { program.now ≡ core.now.program }
     requires named { program.now ≡ J.program }
     requires fresh { HasRetiredNothing seat }
-    ensures { IfOk result (λ made. IsNew seat made.0) }
+    ensures { IfOk result (λ made. IsNewBack seat made.0) }
 {
     Back::new(alloc, core, seat, program, config).map_err(|refused| refused.0)
 }
@@ -107,8 +107,8 @@ fn run_named<
     requires limit { config.now.limit ≡ K.limit }
     requires turns { config.now.turns ≡ K.turns }
     requires ring { config.now.ring ≡ K.ring }
-    ensures right { IfOk result (λ r. IsRight J.program r.run) }
-    ensures within { IfOk result (λ r. IsWithin config.now.limit r.run) }
+    ensures right { IfOk result (λ r. RunIsRight J.program r.run) }
+    ensures within { IfOk result (λ r. IsWithinLimit config.now.limit r.run) }
     ensures all { IfOk result (λ r. r.turns.all ≡ config.now.turns) }
     ensures left { IfOk result (λ r. LeavesTurns r.turns r.renewals r.run) }
     ensures renewals { IfOk result (λ r. TellsRenewals r.renewals r.run) }
@@ -167,8 +167,8 @@ pub fn run_in_turns<'x, P: Predictor + Drop + Send, G: Gate + Sync, R: Threads +
     predictor: P,
     gate: &'x G,
 ) -> RunInTurns
-    ensures right { IsRight program.now result.run }
-    ensures within { IsWithin config.now.limit result.run }
+    ensures right { RunIsRight program.now result.run }
+    ensures within { IsWithinLimit config.now.limit result.run }
     ensures all { result.turns.all ≡ config.now.turns }
     ensures left { LeavesTurns result.turns result.renewals result.run }
     ensures renewals { TellsRenewals result.renewals result.run }
@@ -195,8 +195,8 @@ pub fn run<'x, P: Predictor + Drop + Send, G: Gate + Sync, R: Threads + Wait + S
     predictor: P,
     gate: &'x G,
 ) -> Run
-    ensures right { IsRight program.now result }
-    ensures within { IsWithin config.now.limit result }
+    ensures right { RunIsRight program.now result }
+    ensures within { IsWithinLimit config.now.limit result }
     ensures turns { TakesTurns config.now.turns result }
 {
     let RunInTurns {

@@ -1,6 +1,6 @@
 //! Where a unit looks for work.
 ghost use Rattle.std.specs.Prelude.{◌≡◌, ◌<◌, ◌≤◌};
-ghost use Rattle.pool.specs.HintsPut.{LooksAt, Searches, station_of};
+ghost use Rattle.pool.specs.HintsPut.{LooksAt, Searches, candidate_station};
 
 use hints::{Hinter, Hints, Ring};
 use std::sync::Wait;
@@ -17,7 +17,7 @@ pub(crate) enum Candidate {
 impl Candidate {
     /// The station.
     pub(crate) fn station(self) -> usize
-        ensures { result ≡ station_of self }
+        ensures { result ≡ candidate_station self }
     {
         match self {
             Candidate::Hinted(station) => station,
@@ -56,7 +56,7 @@ impl Search {
         requires ring { ring ≡ hints.now.ring }
         requires most { ring ≤ 32 }
         ensures of { Searches hints.now self.new }
-        ensures station { station_of result < ring }
+        ensures station { candidate_station result < ring }
         ensures looks { LooksAt ring self.old self.new result }
     {
         if let Some(station) = hints.pop(wait, &mut self.hinter) {

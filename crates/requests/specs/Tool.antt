@@ -45,6 +45,7 @@ drive = with_rule (with_rule (with_rule (with_rule (with_rule (with_rule
 abbrev pub with_version : App → App
 with_version = on_top (λ s. record s { has_version = true })
 
+-- `ruu`, with its three commands
 abbrev pub tool : App
 tool = with_subcommand (with_subcommand (with_subcommand (with_version (new_app (codes "ruu")))
     run.top) check.top) drive.top

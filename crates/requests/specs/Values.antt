@@ -10,8 +10,8 @@ use Rattle.requests.specs.declared.request.BranchPredictor.{BranchPredictor}
 use Rattle.requests.specs.declared.request.BranchPredictor.TheVariants.{NotTaken, Taken, Bimod}
 
 -- the text behind a reference
-abbrev pub text_of : Option (Bor Text) → Option Text
-text_of = option_map (λ text. text.now)
+abbrev pub text_behind : Option (Bor Text) → Option Text
+text_behind = option_map (λ text. text.now)
 
 -- the first value that the matches have for an id
 abbrev pub value_in : ArgMatches → Text → Option Text
@@ -40,15 +40,15 @@ pub record IsQueueCut (text : Option Text) (ring queue : ℕ) : Type 0 where
   pub cut : queue ≡ min wanted ring
 
 -- the word of a predictor
-abbrev pub word_of : BranchPredictor → Text
-word_of NotTaken = codes "nottaken"
-word_of Taken = codes "taken"
-word_of Bimod = codes "bimod"
+abbrev pub predictor_word : BranchPredictor → Text
+predictor_word NotTaken = codes "nottaken"
+predictor_word Taken = codes "taken"
+predictor_word Bimod = codes "bimod"
 
 -- the text is the predictor's word, or there is none and it is the default
 abbrev pub IsPredictor : Option Text → BranchPredictor → Type 0
 IsPredictor None predictor = predictor ≡ Bimod
-IsPredictor (Some text) predictor = text ≡ word_of predictor
+IsPredictor (Some text) predictor = text ≡ predictor_word predictor
 
 -- the text is no predictor's word
 abbrev pub IsNoPredictor : Option Text → Type 0

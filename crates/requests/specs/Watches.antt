@@ -3,7 +3,7 @@ use Rattle.std.specs.Prelude.{◌≡◌, Bool, true, ◌||◌, not, is_some, Lis
 use Rattle.std.specs.Str.{bytes_eq}
 use Rattle.clap.specs.Words.{Row, Text, first_of}
 use Rattle.requests.specs.declared.request.Watch.{Watch}
-use Rattle.requests.specs.Values.{is_true, text_of}
+use Rattle.requests.specs.Values.{is_true, text_behind}
 
 -- anything is to be told
 abbrev pub is_wanted : Watch → Bool
@@ -27,7 +27,7 @@ IsOther (Some file) log = is_other file log ≡ true
 -- than that of the listing
 pub record IsWatch (rows : List Row) (watch : Watch) : Type 0 where
   pub chart : watch.chart ≡ is_true (first_of (codes "chart") rows)
-  pub log : text_of watch.log ≡ first_of (codes "trace") rows
+  pub log : text_behind watch.log ≡ first_of (codes "trace") rows
   pub alone :
       is_allowed (is_true (first_of (codes "chart") rows)) (first_of (codes "trace") rows)
       (is_true (first_of (codes "alone") rows)) ≡ true

@@ -1,14 +1,14 @@
 //! What the text of an option stands for.
 ghost use Rattle.std.specs.Prelude.{◌≡◌, IfSome, IfNone};
 ghost use Rattle.requests.specs.Values.{IsNumberFrom, IsNoNumberFrom, IsPredictor, IsNoPredictor};
-ghost use Rattle.requests.specs.Values.{text_of, word_of, is_true};
+ghost use Rattle.requests.specs.Values.{text_behind, predictor_word, is_true};
 
 use crate::BranchPredictor;
 
 /// The number of the text, or the default without one, if it is in its range.
 pub(crate) fn number_in(text: Option<&str>, least: u64, most: u64, default: u64) -> Option<u64>
-    ensures some { IfSome result (IsNumberFrom least most default (text_of text.entry)) }
-    ensures none { IfNone result (IsNoNumberFrom least most default (text_of text.entry)) }
+    ensures some { IfSome result (IsNumberFrom least most default (text_behind text.entry)) }
+    ensures none { IfNone result (IsNoNumberFrom least most default (text_behind text.entry)) }
 {
     let number = match text {
         None => default,
@@ -21,7 +21,7 @@ pub(crate) fn number_in(text: Option<&str>, least: u64, most: u64, default: u64)
 }
 
 fn word_of(predictor: BranchPredictor) -> &'static str
-    ensures { result.now ≡ word_of predictor }
+    ensures { result.now ≡ predictor_word predictor }
 {
     match predictor {
         BranchPredictor::NotTaken => "nottaken",
@@ -32,8 +32,8 @@ fn word_of(predictor: BranchPredictor) -> &'static str
 
 /// The predictor that the text names, or the default without one.
 pub(crate) fn predictor_in(text: Option<&str>) -> Option<BranchPredictor>
-    ensures some { IfSome result (IsPredictor (text_of text.entry)) }
-    ensures none { IfNone result (IsNoPredictor (text_of text.entry)) }
+    ensures some { IfSome result (IsPredictor (text_behind text.entry)) }
+    ensures none { IfNone result (IsNoPredictor (text_behind text.entry)) }
 {
     let Some(text) = text else {
         return Some(BranchPredictor::Bimod);
@@ -52,7 +52,7 @@ pub(crate) fn predictor_in(text: Option<&str>) -> Option<BranchPredictor>
 
 /// The flag was given.
 pub(crate) fn is_true(text: Option<&str>) -> bool
-    ensures { result ≡ is_true (text_of text.entry) }
+    ensures { result ≡ is_true (text_behind text.entry) }
 {
     match text {
         Some(text) => text == "true",

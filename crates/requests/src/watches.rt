@@ -2,7 +2,7 @@
 ghost use Rattle.std.specs.Prelude.{◌≡◌, IfOk, IfErr, Some, codes};
 ghost use Rattle.clap.specs.Words.{found_of, rows_of};
 ghost use Rattle.requests.specs.Request.{IsUsage};
-ghost use Rattle.requests.specs.Values.{is_true, text_of, value_in};
+ghost use Rattle.requests.specs.Values.{is_true, text_behind, value_in};
 ghost use Rattle.requests.specs.Watches.{IsNoWatch, IsWatch, is_allowed, is_other};
 
 use crate::refusals::usage;
@@ -13,14 +13,14 @@ use std::alloc::Global;
 
 // A chart and a log are told of the one-thread unit alone.
 fn is_allowed(chart: bool, log: Option<&str>, alone: bool) -> bool
-    ensures { result ≡ is_allowed chart (text_of log.entry) alone }
+    ensures { result ≡ is_allowed chart (text_behind log.entry) alone }
 {
     alone || !(chart || log.is_some())
 }
 
 // The log goes to another file than that of the listing.
 fn is_other(file: &str, log: Option<&str>) -> bool
-    ensures { result ≡ is_other file.now (text_of log.entry) }
+    ensures { result ≡ is_other file.now (text_behind log.entry) }
 {
     match log {
         None => true,

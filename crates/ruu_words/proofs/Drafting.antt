@@ -26,7 +26,7 @@ use Rattle.ruu_words.specs.declared.rule.Draft.{Draft}
 use Rattle.ruu_words.specs.declared.rule.Draft.TheVariants.{Nothing, Of}
 use Rattle.ruu_words.specs.declared.rule.Stage.TheVariants.{BothOperands, FirstOperand, Info as InfoAlone}
 use Rattle.ruu_words.specs.declared.rule.View.{View}
-use Rattle.ruu_words.specs.Content.{Content, IsDraft, IsInfo, IsInfoOf, IsLink, IsOperand, IsOperandOf, IsStation, NamesLink, with_new}
+use Rattle.ruu_words.specs.Content.{Content, IsDraft, IsInfo, IsInfoOf, IsLinkWord, IsOperand, IsOperandOf, IsStation, NamesLink, with_new}
 use Rattle.ruu_words.specs.Fields.{half_of, index_of, predicted_of}
 use Rattle.ruu_words.specs.Kinds.{Drafts, Lets}
 use Rattle.ruu_words.specs.Plans.{Plans}
@@ -35,7 +35,8 @@ use Rattle.ruu_words.proofs.Stays.{front_stays}
 
 module _ (P : Program) (C : Sizes) (index predicted : ℕ) (first second : Supply) where
   -- the front may still let it
-  pub still_let : (more seen : List Entry) → IsLegal P C (more ++ seen) → own front more ≡ [] → MayLet P C (unit_of P C seen) index predicted first second →
+  pub still_let : (more seen : List Entry) → IsLegal P C (more ++ seen) → own front more ≡ [] →
+      MayLet P C (unit_of P C seen) index predicted first second →
       LetStays P C (unit_of P C seen) (unit_of P C (more ++ seen)) index predicted first second
   still_let more seen legal none may = front_stays P C (λ V. LetStays P C (unit_of P C seen) V index predicted first second)
       (λ U by s b a ok q. let l = let_lasts P C U by s b a ok index predicted first second q.may in record { may = l.may; new = l.new ∙ q.new; tag = l.tag ∙ q.tag })
@@ -90,7 +91,9 @@ module _ (P : Program) (C : Sizes) (index predicted : ℕ) (first second : Suppl
       go U e (Link p x j) k other c = c
 
   -- the first operand, then the second
-  pub first_plan : (id : ℕ) (v : View) (s w : ℕ) → id ≡ front → v.draft ≡ Of InfoAlone index predicted first second → MayLet P C (unit_of P C v.seen) index predicted first second →
+  pub first_plan : (id : ℕ) (v : View) (s w : ℕ) → id ≡ front →
+      v.draft ≡ Of InfoAlone index predicted first second →
+      MayLet P C (unit_of P C v.seen) index predicted first second →
       next_station C (recent (unit_of P C v.seen)) ≡ s
       → IsOperandOf (record { tag = (new_in (unit_of P C v.seen)).tag; value = (new_in (unit_of P C v.seen)).first.value }) w
       → Plans P C id v (Operand s First) (λ _. w) (λ _. Drafts P C (Of FirstOperand index predicted first second))
@@ -113,7 +116,8 @@ module _ (P : Program) (C : Sizes) (index predicted : ℕ) (first second : Suppl
         kind = record { none = refl; draft = refl };
       }
     where
-      go : (U : UpdateUnit) → (new_in U).station ≡ s → (y : Place) (k : ℕ) → y ≢ Operand s First → Content P C U (Of InfoAlone index predicted first second) y k →
+      go : (U : UpdateUnit) → (new_in U).station ≡ s → (y : Place) (k : ℕ) → y ≢ Operand s First →
+          Content P C U (Of InfoAlone index predicted first second) y k →
           Content P C U (Of FirstOperand index predicted first second) y k
       go U e (Station x) k other c = c
       go U e (Info x) k other c = c
@@ -121,7 +125,9 @@ module _ (P : Program) (C : Sizes) (index predicted : ℕ) (first second : Suppl
       go U e (Operand x Second) k other c = c
       go U e (Link p x j) k other c = c
 
-  pub second_plan : (id : ℕ) (v : View) (s w : ℕ) → id ≡ front → v.draft ≡ Of FirstOperand index predicted first second → MayLet P C (unit_of P C v.seen) index predicted first second →
+  pub second_plan : (id : ℕ) (v : View) (s w : ℕ) → id ≡ front →
+      v.draft ≡ Of FirstOperand index predicted first second →
+      MayLet P C (unit_of P C v.seen) index predicted first second →
       next_station C (recent (unit_of P C v.seen)) ≡ s
       → IsOperandOf (record { tag = (new_in (unit_of P C v.seen)).tag; value = (new_in (unit_of P C v.seen)).second.value }) w
       → Plans P C id v (Operand s Second) (λ _. w) (λ _. Drafts P C (Of BothOperands index predicted first second))
@@ -144,7 +150,8 @@ module _ (P : Program) (C : Sizes) (index predicted : ℕ) (first second : Suppl
         kind = record { none = refl; draft = refl };
       }
     where
-      go : (U : UpdateUnit) → (new_in U).station ≡ s → (y : Place) (k : ℕ) → y ≢ Operand s Second → Content P C U (Of FirstOperand index predicted first second) y k →
+      go : (U : UpdateUnit) → (new_in U).station ≡ s → (y : Place) (k : ℕ) → y ≢ Operand s Second →
+          Content P C U (Of FirstOperand index predicted first second) y k →
           Content P C U (Of BothOperands index predicted first second) y k
       go U e (Station x) k other c = c
       go U e (Info x) k other c = c
@@ -155,7 +162,7 @@ module _ (P : Program) (C : Sizes) (index predicted : ℕ) (first second : Suppl
 -- Link words where a tenant is let
 
 module _ (P : Program) (C : Sizes) (index predicted : ℕ) (first second : Supply) where
-  link_let : (h : List Entry) → IsLegal P C h → (p c : ℕ) (k : Source) (n : ℕ) → IsLink (unit_of P C h) p c k n → IsLink (with_new P C (unit_of P C h) index predicted first second) p c k n
+  link_let : (h : List Entry) → IsLegal P C h → (p c : ℕ) (k : Source) (n : ℕ) → IsLinkWord (unit_of P C h) p c k n → IsLinkWord (with_new P C (unit_of P C h) index predicted first second) p c k n
   link_let h legal p c k n l = record {
     names = ⊎_elim (λ e. inl e) (λ (z : NamesLink (unit_of P C h) p c k n). inr (record {
       q = z.q;
@@ -192,8 +199,11 @@ module _ (P : Program) (C : Sizes) (index predicted : ℕ) (first second : Suppl
       us : List Tenant
       us = (unit_of P C h).tenants
 
-  pub let_plan : (id : ℕ) (v : View) (s w : ℕ) → id ≡ front → v.draft ≡ Of BothOperands index predicted first second → MayLet P C (unit_of P C v.seen) index predicted first second →
-      next_station C (recent (unit_of P C v.seen)) ≡ s → IsStation (live_word (next_tag C (recent (unit_of P C v.seen))) Open) w
+  pub let_plan : (id : ℕ) (v : View) (s w : ℕ) → id ≡ front →
+      v.draft ≡ Of BothOperands index predicted first second →
+      MayLet P C (unit_of P C v.seen) index predicted first second →
+      next_station C (recent (unit_of P C v.seen)) ≡ s →
+      IsStation (live_word (next_tag C (recent (unit_of P C v.seen))) Open) w
       → Plans P C id v (Station s) (λ _. w) (λ _. Lets P C index predicted first second)
   let_plan id v s w is_front was may station_is word between d legal same apart caller mine draft n small content =
       let h : List Entry = between ++ v.seen in
@@ -220,7 +230,9 @@ module _ (P : Program) (C : Sizes) (index predicted : ℕ) (first second : Suppl
           (live_word (next_tag C (recent (unit_of P C h))) Open) (station_word C (recent (unit_of P C h)) x)
       after id h legal may x = ((stations_follow P C (taken_of h) id).moves (allowed_steps P C h legal)).after_let index predicted first second x may
 
-      go : (id : ℕ) (h : List Entry) → IsLegal P C h → MayLet P C (unit_of P C h) index predicted first second → next_station C (recent (unit_of P C h)) ≡ s → (y : Place) (k : ℕ) → y ≢ Station s →
+      go : (id : ℕ) (h : List Entry) → IsLegal P C h →
+          MayLet P C (unit_of P C h) index predicted first second →
+          next_station C (recent (unit_of P C h)) ≡ s → (y : Place) (k : ℕ) → y ≢ Station s →
           Content P C (unit_of P C h) (Of BothOperands index predicted first second) y k
           → Content P C (with_new P C (unit_of P C h) index predicted first second) Nothing y k
       go id h legal may e (Station x) k other c =

@@ -15,7 +15,7 @@ use Rattle.ruu_words.specs.declared.rule.View.{View}
 use Rattle.ruu_words.specs.Content.{Content, IsDraft}
 use Rattle.ruu_words.specs.Places.{IsPlace, index}
 use Rattle.ruu_words.specs.Plans.{Plan, Plans}
-use Rattle.ruu_words.specs.Views.{Fits, IsAlive, IsCaller, IsOf}
+use Rattle.ruu_words.specs.Views.{ViewFits, IsAlive, IsCaller, IsOf}
 use Rattle.ruu_words.specs.Rule.{IsKept, Keeps}
 use Rattle.ruu_words.specs.Telling.{Tells}
 use Rattle.inorder.proofs.Histories.{own-append, own_none, own_of_other, renewals_more, starts_longer, starts_more, starts_same}
@@ -51,7 +51,7 @@ module _ (P : Program) (C : Sizes) (opening : List Entry) where
             (k.words y place)))
             (written C.ring s.words x y new k.wide fits place);
         views = λ j u e. ⊎_elim
-            (λ (t : (j ≡ id) × (w ≡ u)). subst (Fits opening (more ++ h)) t.1 (record {
+            (λ (t : (j ≡ id) × (w ≡ u)). subst (ViewFits opening (more ++ h)) t.1 (record {
               begins = starts_same (more ++ h);
               told = starts_longer h v.told more f.told;
               opened = λ _. starts_longer h opening more goes_on;
@@ -98,7 +98,7 @@ module _ (P : Program) (C : Sizes) (opening : List Entry) where
   allowed slots id me x f tell Kind z fits alive plans s kept _ here small =
       let h : List Entry = kept.history in let d : Draft = kept.draft in let k : IsKept P C opening s h d = kept.kept in let v : View = me.0 in
       let by : ℕ = v.by in
-      let fit : Fits opening h v = k.views id v here in
+      let fit : ViewFits opening h v = k.views id v here in
       let between : List Entry = fit.begins.more in
       let is : h ≡ between ++ v.seen = fit.begins.is in
       let k' : IsKept P C opening s (between ++ v.seen) d = subst (λ (x : List Entry). IsKept P C opening s x d) is k in
@@ -135,8 +135,8 @@ module _ (P : Program) (C : Sizes) (opening : List Entry) where
       )
 
   -- the same, where the code gives the index
-  pub allowed_at : (slots id : ℕ) (me : Me ℕ View) (x : Place) (i : ℕ) (f tell : ℕ → ℕ) (Kind : ℕ → List Entry → Draft → List Event → Type 0) (z : Step ℕ) → index C.ring x ≡ i → IsPlace C.ring x →
-      IsAlive me.0.role
+  pub allowed_at : (slots id : ℕ) (me : Me ℕ View) (x : Place) (i : ℕ) (f tell : ℕ → ℕ) (Kind : ℕ → List Entry → Draft → List Event → Type 0) (z : Step ℕ) →
+      index C.ring x ≡ i → IsPlace C.ring x → IsAlive me.0.role
       → Plans P C me.0.by me.0 x f (λ n. Kind (tell n)) → Allows (Keeps P C opening) slots id me i f (λ n found. Tells P C opening me.0.by Kind z me (tell n) found)
   allowed_at slots id me x i f tell Kind z is fits alive plans = subst (λ (j : ℕ). Allows (Keeps P C opening) slots id me j f (λ n found. Tells P C opening me.0.by Kind z me (tell n) found)) is
       (allowed slots id me x f tell Kind z fits alive plans)

@@ -22,7 +22,7 @@ use Rattle.inorder.proofs.Sound.{IsSound}
 use Rattle.inorder.proofs.Tags.{IsNewPlace, IsOldPlace, cut}
 use Rattle.ruu_words.specs.declared.rule.Draft.{Draft}
 use Rattle.ruu_words.specs.declared.rule.Draft.TheVariants.{Nothing, Of}
-use Rattle.ruu_words.specs.Content.{IsDraft, IsInfo, IsInfoOf, IsLink, IsLinked, IsOperand, NamesLink, has_operand, info_unit, operand_unit}
+use Rattle.ruu_words.specs.Content.{IsDraft, IsInfo, IsInfoOf, IsLinkWord, IsLinked, IsOperand, NamesLink, has_operand, info_unit, operand_unit}
 use Rattle.ruu_words.specs.Fields.{pack_link}
 
 -- The let in progress
@@ -36,7 +36,8 @@ SameDraft P C U V (Of stage index predicted first second) = new_tenant P C V ind
 abbrev pub MayStep : Draft → Step → Type 0
 MayStep d s = (d ≡ Nothing) ⊎ IsBesides s
 
-pub draft_stays : (P : Program) (C : Sizes) (U : UpdateUnit) (by : ℕ) (s : Step) (d : Draft) → MayStep d s → Allowed P C U by s → IsSound P U.tenants → IsDraft P C U d →
+pub draft_stays : (P : Program) (C : Sizes) (U : UpdateUnit) (by : ℕ) (s : Step) (d : Draft) → MayStep d s →
+    Allowed P C U by s → IsSound P U.tenants → IsDraft P C U d →
     IsDraft P C (applied P C U by s) d × SameDraft P C U (applied P C U by s) d
 draft_stays P C U by s Nothing b a ok h = (tt, tt)
 draft_stays P C U by s (Of stage index predicted first second) b a ok h = ⊎_elim
@@ -46,7 +47,8 @@ draft_stays P C U by s (Of stage index predicted first second) b a ok h = ⊎_el
 
 -- Info words
 
-info_drafted : (P : Program) (C : Sizes) (U V : UpdateUnit) (x n : ℕ) → (IsInfo (last_of (recent U) x) n → IsInfo (last_of (recent V) x) n) → (d : Draft) → SameDraft P C U V d →
+info_drafted : (P : Program) (C : Sizes) (U V : UpdateUnit) (x n : ℕ) →
+    (IsInfo (last_of (recent U) x) n → IsInfo (last_of (recent V) x) n) → (d : Draft) → SameDraft P C U V d →
     IsInfo (last_of (recent (info_unit P C U d)) x) n → IsInfo (last_of (recent (info_unit P C V d)) x) n
 info_drafted P C U V x n keep Nothing same c = keep c
 info_drafted P C U V x n keep (Of stage index predicted first second) same c =
@@ -66,12 +68,14 @@ info_last t u ts [] x n e f c = subst (λ z. IsInfo (cond (eqb z x) (Some u) (la
     go false i = i
 info_last t u ts (y ∷ ys) x n e f c = go (eqb y.station x) (info_last t u ts ys x n e f) c
   where
-    go : (b : Bool) → (IsInfo (last_of (ys ++ t ∷ ts) x) n → IsInfo (last_of (ys ++ u ∷ ts) x) n) → IsInfo (cond b (Some y) (last_of (ys ++ t ∷ ts) x)) n →
+    go : (b : Bool) → (IsInfo (last_of (ys ++ t ∷ ts) x) n → IsInfo (last_of (ys ++ u ∷ ts) x) n) →
+        IsInfo (cond b (Some y) (last_of (ys ++ t ∷ ts) x)) n →
         IsInfo (cond b (Some y) (last_of (ys ++ u ∷ ts) x)) n
     go true more i = i
     go false more i = more i
 
-info_at : (P : Program) (m : ℕ) (ts : List Tenant) (by p : ℕ) (act : Act) (a : MayAct P ts by p act) → IsSound P ts → (x n : ℕ) → IsInfo (last_of (newest_of m ts) x) n →
+info_at : (P : Program) (m : ℕ) (ts : List Tenant) (by p : ℕ) (act : Act) (a : MayAct P ts by p act) →
+    IsSound P ts → (x n : ℕ) → IsInfo (last_of (newest_of m ts) x) n →
     IsInfo (last_of (newest_of m (change_at P ts by p act (at ts p))) x) n
 info_at P m ts by p act a ok x n c =
     let t = a.tenant in
@@ -87,8 +91,9 @@ info_at P m ts by p act a ok x n c =
     (subst (λ z. IsInfo (last_of z x) n) (new.is t) was)))
     (cut m (younger ts p) (older ts p)))
 
-pub info_stays : (P : Program) (C : Sizes) (U : UpdateUnit) (by p : ℕ) (act : Act) → Allowed P C U by (On p act) → IsSound P U.tenants → (d : Draft) → SameDraft P C U (applied P C U by (On p act)) d →
-    (x n : ℕ)
+pub info_stays : (P : Program) (C : Sizes) (U : UpdateUnit) (by p : ℕ) (act : Act) →
+    Allowed P C U by (On p act) → IsSound P U.tenants → (d : Draft) →
+    SameDraft P C U (applied P C U by (On p act)) d → (x n : ℕ)
     → IsInfo (last_of (recent (info_unit P C U d)) x) n → IsInfo (last_of (recent (info_unit P C (applied P C U by (On p act)) d)) x) n
 info_stays P C U by p act may ok d same x n c = info_drafted P C U (applied P C U by (On p act)) x n (info_at P U.fresh U.tenants by p act may ok x n) d same c
 
@@ -122,7 +127,7 @@ WasLinked P C U by a act p c k =
     → producer.station ≡ p → consumer'.station ≡ c → (b : Bool) × ((operand k consumer).way ≡ Linked b)
 
 pub link_stays : (P : Program) (C : Sizes) (U : UpdateUnit) (by a : ℕ) (act : Act) → Allowed P C U by (On a act) → IsSound P U.tenants → (p c : ℕ) (k : Source) (n : ℕ)
-    → WasLinked P C U by a act p c k → IsLink U p c k n → IsLink (applied P C U by (On a act)) p c k n
+    → WasLinked P C U by a act p c k → IsLinkWord U p c k n → IsLinkWord (applied P C U by (On a act)) p c k n
 link_stays P C U by a act may ok p c k n back l = record {
   names = ⊎_elim (λ e. inl e) (λ (z : NamesLink U p c k n).
       let i = z.is in
@@ -155,6 +160,7 @@ link_stays P C U by a act may ok p c k n back l = record {
       l.stands q r x.tenant y.tenant was_linked (y.goes.live live) (sym x.goes.station ∙ e) (sym y.goes.station ∙ f) ∙ (λ j. pack_link (sym x.goes.tag j) (sym y.goes.tag j));
 }
 
-pub link_other : (P : Program) (C : Sizes) (U : UpdateUnit) (by a : ℕ) (act : Act) → IsNoLink (On a act) → Allowed P C U by (On a act) → IsSound P U.tenants → (p c : ℕ) (k : Source) (n : ℕ) →
-    IsLink U p c k n → IsLink (applied P C U by (On a act)) p c k n
+pub link_other : (P : Program) (C : Sizes) (U : UpdateUnit) (by a : ℕ) (act : Act) → IsNoLink (On a act) →
+    Allowed P C U by (On a act) → IsSound P U.tenants → (p c : ℕ) (k : Source) (n : ℕ) →
+    IsLinkWord U p c k n → IsLinkWord (applied P C U by (On a act)) p c k n
 link_other P C U by a act plain may ok p c k n l = link_stays P C U by a act may ok p c k n (λ q r producer consumer consumer' is i move e f. (i.in_time, sym (move.way plain k) ∙ i.way)) l

@@ -32,7 +32,7 @@ use Rattle.ruu_words.specs.declared.place.Place.TheVariants.{Info, Link as LinkP
 use Rattle.ruu_words.specs.declared.rule.Draft.{Draft}
 use Rattle.ruu_words.specs.declared.rule.Draft.TheVariants.{Nothing}
 use Rattle.ruu_words.specs.declared.rule.View.{View}
-use Rattle.ruu_words.specs.Content.{Content, IsDraft, IsLink, IsStation}
+use Rattle.ruu_words.specs.Content.{Content, IsDraft, IsLinkWord, IsStation}
 use Rattle.ruu_words.specs.Fields.{pack_link}
 use Rattle.ruu_words.specs.Kinds.{Asks, IsAny, IsTenant, ReadsLink}
 use Rattle.ruu_words.proofs.Building.{looks}
@@ -60,8 +60,8 @@ no_link C U by (On p act) ne h = go act h
     go Squash h = tt
     go Mend h = tt
 
-pub last_stays : (P : Program) (C : Sizes) (U : UpdateUnit) (by : ℕ) (s : Step) → IsBesides s → Allowed P C U by s → IsSound P U.tenants → (r c : ℕ) → IsLastAt U r c →
-    IsLastAt (applied P C U by s) r c
+pub last_stays : (P : Program) (C : Sizes) (U : UpdateUnit) (by : ℕ) (s : Step) → IsBesides s →
+    Allowed P C U by s → IsSound P U.tenants → (r c : ℕ) → IsLastAt U r c → IsLastAt (applied P C U by s) r c
 last_stays P C U by (Let i x f n) b a ok r c l = absurd b
 last_stays P C U by Renew b a ok r c l = absurd b
 last_stays P C U by (On p act) b a ok r c l = λ q u lt is e. let was = came P C U by p act a ok q u is in l q was.tenant lt was.is (sym was.goes.station ∙ e)
@@ -105,7 +105,7 @@ module _ (P : Program) (C : Sizes) where
               absurd (younger_at (λ z. z.station ≢ y.station) us x (live_is_last C U ring (old_are_gone P C h legal) x y at_x live) r t (omega arith) is (at_c ∙ sym e)))
         ])
 
-    pub new_word : IsLink V p c k (pack_link u.tag t.tag)
+    pub new_word : IsLinkWord V p c k (pack_link u.tag t.tag)
     new_word =
         let g = goes P C U id (On r (Link k)) may (unit_sound P C h legal) q u there in
         let name = linked_name (older us r) k t in
@@ -138,7 +138,7 @@ module _ (P : Program) (C : Sizes) where
         }
 
     -- another link word
-    pub other_word : (p2 c2 : ℕ) (k2 : Source) (n : ℕ) → LinkPlace p2 c2 k2 ≢ LinkPlace p c k → IsLink U p2 c2 k2 n → IsLink V p2 c2 k2 n
+    pub other_word : (p2 c2 : ℕ) (k2 : Source) (n : ℕ) → LinkPlace p2 c2 k2 ≢ LinkPlace p c k → IsLinkWord U p2 c2 k2 n → IsLinkWord V p2 c2 k2 n
     other_word p2 c2 k2 n other l = link_stays P C U id r (Link k) may (unit_sound P C h legal) p2 c2 k2 n back l
       where
         back : WasLinked P C U id r (Link k) p2 c2 k2
@@ -169,7 +169,8 @@ module _ (P : Program) (C : Sizes) where
         (draft_stays P C U id (On r (Link k)) d (inl none) may (unit_sound P C h legal) draft).1 w
     others d none draft (LinkPlace p2 c2 k2) n other w = other_word p2 c2 k2 n other w
 
-  pub link_plan : (id : ℕ) (v : View) (p c gp gc : ℕ) (k : Source) (r q new : ℕ) → id ≡ front → v.draft ≡ Nothing → IsTenant (unit_of P C v.seen) r c gc (CanAsk k q) →
+  pub link_plan : (id : ℕ) (v : View) (p c gp gc : ℕ) (k : Source) (r q new : ℕ) → id ≡ front →
+      v.draft ≡ Nothing → IsTenant (unit_of P C v.seen) r c gc (CanAsk k q) →
       IsTenant (unit_of P C v.seen) q p gp IsAny → IsLastAt (unit_of P C v.seen) r c → new ≡ pack_link gp gc
       → Plans P C id v (LinkPlace p c k) (λ _. new) (λ _. Asks P C r k)
   link_plan id v p c gp gc k r q new is_front none consumer producer last new_is between d legal same apart caller mine draft n small content =
@@ -188,8 +189,7 @@ module _ (P : Program) (C : Sizes) where
         legal = (legal, (is_front, may));
         same = refl;
         proper = (draft_stays P C U id (On r (Link k)) d (inl quiet) may (unit_sound P C h legal) draft).0;
-        here = subst (λ z. IsLink (applied P C U id (On r (Link k))) p c k z) ((λ x. pack_link (j.tag_is x) (i.tag_is x)) ∙ sym new_is)
-            (new_word id h legal r c q p k i.tenant j.tenant i.is j.is i.new j.new i.fact i.station_is j.station_is l may);
+        here = subst (λ z. IsLinkWord (applied P C U id (On r (Link k))) p c k z) ((λ x. pack_link (j.tag_is x) (i.tag_is x)) ∙ sym new_is) (new_word id h legal r c q p k i.tenant j.tenant i.is j.is i.new j.new i.fact i.station_is j.station_is l may);
         else = λ y m _ other w. others id h legal r c q p k i.tenant j.tenant i.is j.is i.new j.new i.fact i.station_is j.station_is l may d quiet draft y m other w;
         kind = record { added = refl; draft = quiet };
       }

@@ -20,11 +20,11 @@ use Rattle.ruu_words.specs.declared.rule.Draft.TheVariants.{Nothing}
 use Rattle.ruu_words.specs.declared.rule.Role.TheVariants.{Start}
 use Rattle.ruu_words.specs.declared.rule.Setup.{Setup}
 use Rattle.ruu_words.specs.declared.rule.View.{View}
-use Rattle.ruu_words.specs.Content.{Content, IsLink, IsStation}
+use Rattle.ruu_words.specs.Content.{Content, IsLinkWord, IsStation}
 use Rattle.ruu_words.specs.Fields.{pack}
 use Rattle.ruu_words.specs.Places.{IsPlace, index}
 use Rattle.ruu_words.specs.Openings.{IsOpening, opening_of, renewed, renewed_of, sizes_of}
-use Rattle.ruu_words.specs.Views.{Fits, first_view, view}
+use Rattle.ruu_words.specs.Views.{ViewFits, first_view, view}
 use Rattle.ruu_words.specs.Rule.{IsStart, Keeps, Kept}
 use Rattle.ruu_words.specs.Laws.{TablesGoOn}
 use Rattle.ruu_words.proofs.Views.{starts_empty}
@@ -37,7 +37,7 @@ free_word g n e = record { tag = omega arith; state = omega arith; value = omega
 abbrev begun : List Tenant → UpdateUnit
 begun ts = record { tenants = ts; fresh = 0 }
 
-no_link : (ts : List Tenant) → AllByRecursion IsNotLive ts → (p c : ℕ) (k : Source) (n : ℕ) → n ≡ 0 → IsLink (begun ts) p c k n
+no_link : (ts : List Tenant) → AllByRecursion IsNotLive ts → (p c : ℕ) (k : Source) (n : ℕ) → n ≡ 0 → IsLinkWord (begun ts) p c k n
 no_link ts none p c k n e = record { names = inl e; stands = λ q r producer consumer i live f g. absurd (all_at IsNotLive ts none r consumer i.consumer_is live) }
 
 -- the first seat, whose numbers are all that there are
@@ -48,7 +48,8 @@ first_only : (h : List Entry) (id : ℕ) (v : View) → get_elem? (first_seat h 
 first_only h zero v e = (refl, some-injective (first_seat h) v e)
 first_only h (suc id) v e = absurd (some-ne-none v (sym e))
 
-pub content : (P : Program) (C : Sizes) (ts : List Tenant) → AllByRecursion IsNotLive ts → (ws : List ℕ) → IsStart C ws → (x : Place) → IsPlace C.ring x →
+pub content : (P : Program) (C : Sizes) (ts : List Tenant) → AllByRecursion IsNotLive ts → (ws : List ℕ) →
+    IsStart C ws → (x : Place) → IsPlace C.ring x →
     Content P C (begun ts) Nothing x (slice_index ws (index C.ring x))
 content P C ts none ws start (Station s) h = free_word C.first_tag (slice_index ws s) (start.stations s h)
 content P C ts none ws start (Info s) h = start.others (C.ring + s) (omega arith)
@@ -56,8 +57,8 @@ content P C ts none ws start (Operand s k) h = start.others (index C.ring (Opera
 content P C ts none ws start (Link p c k) h = no_link ts none p c k (slice_index ws (index C.ring (Link p c k))) (start.others (index C.ring (Link p c k)) (omega arith))
 
 -- of a history that a table may open with
-opened : (P : Program) (C : Sizes) (h : List Entry) → IsOpening P C h → (ws : List ℕ) → IsStart C ws → (x : Place) → IsPlace C.ring x →
-    Content P C (unit_of P C h) Nothing x (slice_index ws (index C.ring x))
+opened : (P : Program) (C : Sizes) (h : List Entry) → IsOpening P C h → (ws : List ℕ) → IsStart C ws →
+    (x : Place) → IsPlace C.ring x → Content P C (unit_of P C h) Nothing x (slice_index ws (index C.ring x))
 opened P C h may ws start x place =
     let same : begun (unit_of P C h).tenants ≡ unit_of P C h = λ i. record { tenants = (unit_of P C h).tenants; fresh = sym may.begun i } in
     subst (λ U. Content P C U Nothing x (slice_index ws (index C.ring x))) same (content P C (unit_of P C h).tenants may.may.none ws start x place)
@@ -72,7 +73,7 @@ opens P C h may ws start = record {
     wide = start.wide;
     words = opened P C h may ws start;
     views = λ id v e. let f = first_only h id v e in
-        subst (Fits h h) f.1 (record {
+        subst (ViewFits h h) f.1 (record {
           begins = starts_same h;
           told = starts_empty h;
           opened = λ _. starts_same h;

@@ -13,7 +13,7 @@ use Rattle.inorder.proofs.Runs.SharedRun.{adds, made, relet, two_stations}
 use Rattle.ruu_words.specs.declared.place.Place.{Place}
 use Rattle.ruu_words.specs.declared.place.Place.TheVariants.{Info, Link, Operand, Station}
 use Rattle.ruu_words.specs.declared.rule.Draft.TheVariants.{Nothing}
-use Rattle.ruu_words.specs.Content.{Content, IsLink, IsLinked, NamesLink}
+use Rattle.ruu_words.specs.Content.{Content, IsLinkWord, IsLinked, NamesLink}
 use Rattle.instructions.specs.declared.op.Half.TheVariants.{Low}
 use Rattle.ruu_words.specs.Fields.{pack, pack_info, pack_link}
 use Rattle.ruu_words.specs.Places.{IsPlace, index, words_for}
@@ -86,7 +86,7 @@ from_0_to_1 q r k producer consumer is =
     (first_at_0 producer (subst (λ n. at tenants_made n ≡ Some producer) same is.producer_is), back.0)
 
 -- The second tenant stands where the links say, and each of its sources is linked
-linked_1_1 : (k : Source) → IsLink unit_made 0 1 k 0x0000001000000100
+linked_1_1 : (k : Source) → IsLinkWord unit_made 0 1 k 0x0000001000000100
 unfolding instr_at computed_by jump_target checked_address loaded
 linked_1_1 k = record { names = inr (named k); stands = stands }
   where
@@ -126,7 +126,7 @@ linked_1_1 k = record { names = inr (named k); stands = stands }
         let c = tag_is_1 r consumer is.consumer_is in
         omega arith
 
-unlinked : (p c : ℕ) (k : Source) → ¬ ((p ≡ 0) × (c ≡ 1)) → IsLink unit_made p c k 0
+unlinked : (p c : ℕ) (k : Source) → ¬ ((p ≡ 0) × (c ≡ 1)) → IsLinkWord unit_made p c k 0
 unlinked p c k other =
     record {
       names = inl refl;

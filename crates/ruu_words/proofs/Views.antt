@@ -16,7 +16,7 @@ use Rattle.ruu_words.specs.declared.rule.Heirs.{Heirs}
 use Rattle.ruu_words.specs.declared.rule.Role.{Role}
 use Rattle.ruu_words.specs.declared.rule.Role.TheVariants.{Back, Front, Spent, Start, Worker}
 use Rattle.ruu_words.specs.declared.rule.View.{View}
-use Rattle.ruu_words.specs.Views.{Fits, IsAlive, IsCaller, IsHeir, IsOf, half, informed, nobody, other_half, view, without_first}
+use Rattle.ruu_words.specs.Views.{ViewFits, IsAlive, IsCaller, IsHeir, IsOf, half, informed, nobody, other_half, view, without_first}
 use Rattle.ruu_words.specs.Rule.{IsKept, Keeps}
 use Rattle.ruu_words.proofs.Heirs.{half_apart, half_not_first, half_of, later_of, no_heirs, not_first, other_half_of, own_number, positive}
 
@@ -91,10 +91,10 @@ module _ (P : Program) (C : Sizes) (opening : List Entry) where
           (inr (q.given (subst (λ (z : View). IsAlive z.role) (sym f) la) n (subst (λ z. IsOf z n) (sym f) x))) y
       apart_at i j n a b (IsRight e f) (IsRight e' f') ne la lb x y = ne (e ∙ sym e')
 
-      fits_at : (i : ℕ) (a : View) → Where s.views id L R i a → Fits opening h a
+      fits_at : (i : ℕ) (a : View) → Where s.views id L R i a → ViewFits opening h a
       fits_at i a (IsLeft e f) =
           let g = k.views id v here in
-          subst (Fits opening h) f (record {
+          subst (ViewFits opening h) f (record {
             begins = g.begins;
             told = starts_empty h;
             opened = λ _. g.opened live;
@@ -106,7 +106,7 @@ module _ (P : Program) (C : Sizes) (opening : List Entry) where
       fits_at i a (IsElse e f) = k.views i a f
       fits_at i a (IsRight e f) =
           let g = k.views id v here in
-          subst (Fits opening h) f (record {
+          subst (ViewFits opening h) f (record {
             begins = g.begins;
             told = starts_empty h;
             opened = λ _. g.opened live;
@@ -188,8 +188,8 @@ module _ (P : Program) (C : Sizes) (opening : List Entry) where
       first_is heirs = omega arith
 
   -- A unit's is cut into two units'
-  pub splits_unit : (id : ℕ) (v : View) → v.role ≡ Worker → 1 ≤ v.heirs.every → Splits (Keeps P C opening) id v (view v.role v.by (half v.heirs) v.seen v.draft)
-      (view Worker v.heirs.first (other_half v.heirs) v.seen Nothing)
+  pub splits_unit : (id : ℕ) (v : View) → v.role ≡ Worker → 1 ≤ v.heirs.every →
+      Splits (Keeps P C opening) id v (view v.role v.by (half v.heirs) v.seen v.draft) (view Worker v.heirs.first (other_half v.heirs) v.seen Nothing)
   splits_unit id v is least = splits id v v.role Worker (half v.heirs) v.heirs.first (other_half v.heirs) (subst IsAlive (sym is) tt) (λ caller above.
       let unit : 2 ≤ v.by = subst (λ r. IsCaller r v.by) is caller in
       let below = above least in
@@ -236,8 +236,10 @@ was_alive views i u x a = subst IsAlive (sym x.role) a
 was_of : (views : List View) (i n : ℕ) (u : View) → (x : WasAt views i u) → IsOf u n → IsOf x.before n
 was_of views i n u x o = ⊎_elim (λ (e : n ≡ u.by). inl (e ∙ sym x.by_is)) (λ (h : IsHeir u.heirs n). inr (subst (λ z. IsHeir z n) (sym x.heirs_are) h)) o
 
-was_at : (views : List View) (id : ℕ) (v : View) (other : ℕ) (w : View) → get_elem? views id ≡ some v → (i : ℕ) (u : View) →
-    get_elem? (set (set views id (informed v w)) other (view Spent 0 nobody [] Nothing)) i ≡ some u → IsAlive u.role → WasAt views i u
+was_at : (views : List View) (id : ℕ) (v : View) (other : ℕ) (w : View) → get_elem? views id ≡ some v →
+    (i : ℕ) (u : View) →
+    get_elem? (set (set views id (informed v w)) other (view Spent 0 nobody [] Nothing)) i ≡ some u →
+    IsAlive u.role → WasAt views i u
 was_at views id v other w here i u e alive = ⊎_elim
     (λ (t : (i ≡ other) × (view Spent 0 nobody [] Nothing ≡ u)). absurd (subst (λ (x : View). IsAlive x.role) (sym t.1) alive))
     (λ (t : (i ≢ other) × (get_elem? (set views id (informed v w)) i ≡ some u)). ⊎_elim
@@ -260,8 +262,8 @@ module _ (P : Program) (C : Sizes) (opening : List Entry) where
       let b : View = informed v w in let z : View = view Spent 0 nobody [] Nothing in
       let was : get_elem? s.views other ≡ some w = sym (set_else s.views id other b apart) ∙ there in
       let f = k.views id v here in let f' = k.views other w was in
-      let is_both : Fits opening h b = record { begins = f.begins; told = f'.begins; opened = f.opened; all_own = f.all_own; unborn = f.unborn; caller = f.caller; above = f.above } in
-      let is_spent : Fits opening h z = record { begins = starts_empty h; told = starts_empty h; opened = λ a. absurd a; all_own = λ a. absurd a; unborn = λ a. absurd a; caller = tt; above = λ none. absurd (no_heirs none) } in
+      let is_both : ViewFits opening h b = record { begins = f.begins; told = f'.begins; opened = f.opened; all_own = f.all_own; unborn = f.unborn; caller = f.caller; above = f.above } in
+      let is_spent : ViewFits opening h z = record { begins = starts_empty h; told = starts_empty h; opened = λ a. absurd a; all_own = λ a. absurd a; unborn = λ a. absurd a; caller = tt; above = λ none. absurd (no_heirs none) } in
       record {
         history = h;
         draft = d;
@@ -271,9 +273,9 @@ module _ (P : Program) (C : Sizes) (opening : List Entry) where
           wide = k.wide;
           words = k.words;
           views = λ j u e. ⊎_elim
-              (λ (t : (j ≡ other) × (z ≡ u)). subst (Fits opening h) t.1 is_spent)
+              (λ (t : (j ≡ other) × (z ≡ u)). subst (ViewFits opening h) t.1 is_spent)
               (λ (t : (j ≢ other) × (get_elem? (set s.views id b) j ≡ some u)). ⊎_elim
-              (λ (o : (j ≡ id) × (b ≡ u)). subst (Fits opening h) o.1 is_both)
+              (λ (o : (j ≡ id) × (b ≡ u)). subst (ViewFits opening h) o.1 is_both)
               (λ (o : (j ≢ id) × (get_elem? s.views j ≡ some u)). k.views j u o.1)
               (at_set s.views id j b u t.1))
               (at_set (set s.views id b) other j z u e);

@@ -14,7 +14,7 @@ use Rattle.inorder.proofs.Moves.{Goes}
 use Rattle.inorder.proofs.Serving.{AreLinked, are_inside, are_small, linked_stay, served_stays}
 use Rattle.ruu_words.specs.declared.place.Place.{Place}
 use Rattle.ruu_words.specs.declared.rule.View.{View}
-use Rattle.ruu_words.specs.Content.{IsLink}
+use Rattle.ruu_words.specs.Content.{IsLinkWord}
 use Rattle.ruu_words.specs.Fields.{consumer_of, pack_link, producer_of}
 use Rattle.ruu_words.specs.Kinds.{Walks}
 use Rattle.ruu_words.proofs.Building.{marks}
@@ -38,9 +38,8 @@ consumer_is g c n small e = omega arith
 
 module _ (P : Program) (C : Sizes) where
   -- what a link word of the station of tenant q says of the sources that were linked to q
-  pub linked_by_word : (h : List Entry) → IsLegal P C h → (q p c n : ℕ) (k : Source) (u : Tenant) → at (unit_of P C h).tenants q ≡ Some u → u.station ≡ p → IsLink (unit_of P C h) p c k n
-      → (r : ℕ) (t : Tenant) → at (unit_of P C h).tenants r ≡ Some t → t.station ≡ c → (operand k t).creator ≡ Some q → (operand k t).way ≡ Linked true → IsNotLive t ⊎
-      ((producer_of n ≡ u.tag) × (consumer_of n ≡ t.tag))
+  pub linked_by_word : (h : List Entry) → IsLegal P C h → (q p c n : ℕ) (k : Source) (u : Tenant) → at (unit_of P C h).tenants q ≡ Some u → u.station ≡ p → IsLinkWord (unit_of P C h) p c k n
+      → (r : ℕ) (t : Tenant) → at (unit_of P C h).tenants r ≡ Some t → t.station ≡ c → (operand k t).creator ≡ Some q → (operand k t).way ≡ Linked true → IsNotLive t ⊎ ((producer_of n ≡ u.tag) × (consumer_of n ≡ t.tag))
   linked_by_word h legal q p c n k u is_q at_p word r t is at_c from way = go t.standing refl
     where
       go : (st : Standing) → t.standing ≡ st → IsNotLive t ⊎ ((producer_of n ≡ u.tag) × (consumer_of n ≡ t.tag))
@@ -52,7 +51,8 @@ module _ (P : Program) (C : Sizes) where
       go Squashed e = inl (λ live. let x = sym e ∙ live in cc x)
 
   -- a link word that names another producer: all are served
-  pub served_unless_named : (h : List Entry) → IsLegal P C h → (q p c n : ℕ) (k : Source) (u : Tenant) → at (unit_of P C h).tenants q ≡ Some u → u.station ≡ p → IsLink (unit_of P C h) p c k n →
+  pub served_unless_named : (h : List Entry) → IsLegal P C h → (q p c n : ℕ) (k : Source) (u : Tenant) →
+      at (unit_of P C h).tenants q ≡ Some u → u.station ≡ p → IsLinkWord (unit_of P C h) p c k n →
       producer_of n ≢ u.tag → IsServed (unit_of P C h) q c k
   served_unless_named h legal q p c n k u is_q at_p word other r t is at_c from way = ⊎_elim
       (λ gone. inr gone)
@@ -60,14 +60,16 @@ module _ (P : Program) (C : Sizes) where
       (linked_by_word h legal q p c n k u is_q at_p word r t is at_c from way)
 
   -- all but the consumer that it names
-  pub served_but_named : (h : List Entry) → IsLegal P C h → (q p c n : ℕ) (k : Source) (u : Tenant) → at (unit_of P C h).tenants q ≡ Some u → u.station ≡ p → IsLink (unit_of P C h) p c k n →
+  pub served_but_named : (h : List Entry) → IsLegal P C h → (q p c n : ℕ) (k : Source) (u : Tenant) →
+      at (unit_of P C h).tenants q ≡ Some u → u.station ≡ p → IsLinkWord (unit_of P C h) p c k n →
       AreLinked (unit_of P C h) q c k (IsServedOr k (consumer_of n))
   served_but_named h legal q p c n k u is_q at_p word r t is at_c from way = ⊎_elim
       (λ gone. inl (inr gone))
       (λ (z : (producer_of n ≡ u.tag) × (consumer_of n ≡ t.tag)). inr (sym z.1))
       (linked_by_word h legal q p c n k u is_q at_p word r t is at_c from way)
 
-  pub served_but_stays : (q v c g : ℕ) (k : Source) (more seen : List Entry) → IsLegal P C (more ++ seen) → HasMade (unit_of P C seen) q v → AreLinked (unit_of P C seen) q c k (IsServedOr k g) →
+  pub served_but_stays : (q v c g : ℕ) (k : Source) (more seen : List Entry) → IsLegal P C (more ++ seen) →
+      HasMade (unit_of P C seen) q v → AreLinked (unit_of P C seen) q c k (IsServedOr k g) →
       AreLinked (unit_of P C (more ++ seen)) q c k (IsServedOr k g)
   served_but_stays q v c g k more seen legal made all = linked_stay P C q v c k (IsServedOr k g) (served_or_stays k g) more seen legal made all
 

@@ -103,7 +103,7 @@ pub record NamesLink (U : UpdateUnit) (p c : ℕ) (k : Source) (n : ℕ) : Type 
   pub word : n ≡ pack_link producer.tag consumer.tag
 
 -- The word of a link from station p to source k of station c: 0, or that of a linked source
-pub record IsLink (U : UpdateUnit) (p c : ℕ) (k : Source) (n : ℕ) : Type 0 where
+pub record IsLinkWord (U : UpdateUnit) (p c : ℕ) (k : Source) (n : ℕ) : Type 0 where
   pub names : (n ≡ 0) ⊎ NamesLink U p c k n
   -- and a linked source whose tenant has not left stands in its word
   pub stands : (q r : ℕ) (producer consumer : Tenant) →
@@ -152,4 +152,4 @@ abbrev pub Content : Program → Sizes → UpdateUnit → Draft → Place → �
 Content P C U d (Station s) n = IsStation (station_word C (recent U) s) n
 Content P C U d (Info s) n = IsInfo (last_of (recent (info_unit P C U d)) s) n
 Content P C U d (Operand s k) n = IsOperand (operand_word (recent (operand_unit P C U d k)) s k) n
-Content P C U d (Link p c k) n = IsLink U p c k n
+Content P C U d (Link p c k) n = IsLinkWord U p c k n

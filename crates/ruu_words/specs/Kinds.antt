@@ -23,7 +23,7 @@ use Rattle.inorder.specs.Unit.{Sizes, UpdateUnit, at, is_old, recent}
 use Rattle.ruu_words.specs.declared.place.Place.{Place}
 use Rattle.ruu_words.specs.declared.rule.Draft.{Draft}
 use Rattle.ruu_words.specs.declared.rule.Draft.TheVariants.{Nothing}
-use Rattle.ruu_words.specs.Content.{Content, IsDraft, IsInfoOf, IsLink, IsOperandOf, IsStation}
+use Rattle.ruu_words.specs.Content.{Content, IsDraft, IsInfoOf, IsLinkWord, IsOperandOf, IsStation}
 use Rattle.ruu_words.specs.Fields.{state_of, tag_of, value_of}
 
 -- The tenant at p, let since the last renewal, of this station and tag, and what is true of it
@@ -125,7 +125,7 @@ module _ (P : Program) (C : Sizes) where
   pub record ReadsLink (p c : ℕ) (k : Source) (n : ℕ) (h : List Entry) (d : Draft)
       (events : List Event) : Type 0 where
     pub none : events ≡ []
-    pub word : IsLink (unit_of P C h) p c k n
+    pub word : IsLinkWord (unit_of P C h) p c k n
 
   -- Any word, with the let in progress at its point
   pub record Reads (x : Place) (n : ℕ) (h : List Entry) (d : Draft) (events : List Event) :

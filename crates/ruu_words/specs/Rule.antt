@@ -15,7 +15,7 @@ use Rattle.ruu_words.specs.Content.{Content, IsDraft}
 use Rattle.ruu_words.specs.Fields.{pack}
 use Rattle.ruu_words.specs.Places.{IsPlace, index, words_for}
 use Rattle.ruu_words.specs.Openings.{sizes_of, opening_of}
-use Rattle.ruu_words.specs.Views.{IsOf, IsAlive, Fits}
+use Rattle.ruu_words.specs.Views.{IsOf, IsAlive, ViewFits}
 
 -- The rule, for a history h and a let in progress d
 pub record IsKept (P : Program) (C : Sizes) (opening : List Entry) (s : State ℕ View)
@@ -28,7 +28,7 @@ pub record IsKept (P : Program) (C : Sizes) (opening : List Entry) (s : State �
   pub words : (x : Place) → IsPlace C.ring x →
       Content P C (unit_of P C h) d x (slice_index s.words (index C.ring x))
   -- each seat has seen a beginning of the history
-  pub views : (id : ℕ) (v : View) → get_elem? s.views id ≡ some v → Fits opening h v
+  pub views : (id : ℕ) (v : View) → get_elem? s.views id ≡ some v → ViewFits opening h v
   -- no two have a number in common
   pub apart : (i j n : ℕ) (u v : View) → get_elem? s.views i ≡ some u → get_elem? s.views j ≡ some v →
       i ≢ j → IsAlive u.role → IsAlive v.role → IsOf u n → ¬ IsOf v n

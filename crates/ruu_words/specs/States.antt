@@ -20,9 +20,9 @@ state_code Miss = 5
 state_code Stop = 6
 
 -- The number of an operand's state
-abbrev pub operand_code : OperandState → ℕ
-operand_code Wait = 1
-operand_code Val = 2
+abbrev pub operand_state_code : OperandState → ℕ
+operand_state_code Wait = 1
+operand_state_code Val = 2
 
 -- The number of a state of an operand
 abbrev pub IsOperandCode : ℕ → Type 0

@@ -86,7 +86,7 @@ IsAlive _ = Unit {0}
 -- What a seat has seen begins the history, and has all entries of its caller; it goes on from the
 -- history that the table opened with, and nobody whose number it may still give away has done anything
 -- since
-pub record Fits (opening h : List Entry) (v : View) : Type 0 where
+pub record ViewFits (opening h : List Entry) (v : View) : Type 0 where
   pub begins : StartsWith h v.seen
   pub told : StartsWith h v.told
   pub opened : IsAlive v.role → StartsWith v.seen opening

@@ -1,7 +1,7 @@
 //! Operand words.
 ghost use Rattle.std.specs.Prelude.{◌≡◌, ◌<◌};
 ghost use Rattle.ruu_words.specs.Fields.{tag_count, pack, tag_of, state_of, value_of};
-ghost use Rattle.ruu_words.specs.States.{IsOperandCode, operand_code};
+ghost use Rattle.ruu_words.specs.States.{IsOperandCode, operand_state_code};
 
 /// Whether a source has its value.
 #[derive(Clone, Copy, Debug, PartialEq, Eq)]
@@ -24,7 +24,7 @@ impl OperandWord {
     /// Bits 63 to 36 are the tag, 35 to 32 the state, 31 to 0 the value.
     pub fn pack(self) -> u64
         requires tag { self.tag < tag_count }
-        ensures { result ≡ pack self.tag (operand_code self.state) self.value }
+        ensures { result ≡ pack self.tag (operand_state_code self.state) self.value }
     {
         let state: u64 = match self.state {
             OperandState::Wait => 1,
@@ -38,7 +38,7 @@ impl OperandWord {
     pub fn unpack(word: u64) -> OperandWord
         requires state { IsOperandCode (state_of word) }
         ensures tag { result.tag ≡ tag_of word }
-        ensures state { operand_code result.state ≡ state_of word }
+        ensures state { operand_state_code result.state ≡ state_of word }
         ensures value { result.value ≡ value_of word }
     {
         let code = (word >> 32) & 15;

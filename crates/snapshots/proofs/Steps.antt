@@ -6,11 +6,11 @@ use Rattle.left_right.specs.Register.{Admits, TurnsAt}
 use Rattle.atomic_table.proofs.Lists.{at_set, at_snoc}
 use Rattle.instructions.specs.Programs.{Program}
 use Rattle.snapshots.specs.Snapshots.{IsSnapshotOf}
-use Rattle.snapshots.specs.Rules.{Kept, Told}
+use Rattle.snapshots.specs.Rules.{NobodyIsAhead, Told}
 use Rattle.snapshots.specs.declared.snap.Snap.{Snap}
 
 -- A new snapper has seen nothing
-pub admits : (P : Program) → Admits (Kept P) 0
+pub admits : (P : Program) → Admits (NobodyIsAhead P) 0
 admits P published views kept =
     record {
       snapshot = kept.snapshot;
@@ -22,7 +22,7 @@ admits P published views kept =
 
 -- Somebody steps to a snapshot that is no older
 pub rises : (P : Program) (seat had_seen : ℕ) (before next : Snap) →
-    IsSnapshotOf P next → before.n ≤ next.n → TurnsAt (Kept P) seat had_seen before next (Told P)
+    IsSnapshotOf P next → before.n ≤ next.n → TurnsAt (NobodyIsAhead P) seat had_seen before next (Told P)
 rises P seat had_seen before next is later views kept at = (
   next.n,
   record {
@@ -39,7 +39,7 @@ rises P seat had_seen before next is later views kept at = (
 
 -- Somebody looks at what is published
 pub looks : (P : Program) (seat had_seen : ℕ) (published : Snap) →
-    TurnsAt (Kept P) seat had_seen published published (Told P)
+    TurnsAt (NobodyIsAhead P) seat had_seen published published (Told P)
 looks P seat had_seen published views kept at =
     rises P seat had_seen published published kept.snapshot (le_refl published.n) views kept at
 
@@ -50,7 +50,7 @@ newest = fold (λ (published next : Snap). next)
 -- The one snapshot that waits is published
 pub publishes : (P : Program) (seat had_seen : ℕ) (published next snap : Snap) (before waits : List Snap) →
     before ≡ [] → waits ≡ before ++ snap ∷ [] → next ≡ newest published waits →
-    IsSnapshotOf P snap → published.n ≤ snap.n → TurnsAt (Kept P) seat had_seen published next (Told P)
+    IsSnapshotOf P snap → published.n ≤ snap.n → TurnsAt (NobodyIsAhead P) seat had_seen published next (Told P)
 publishes P seat had_seen published next snap before waits empty one is of_program later =
     let alone : waits ≡ snap ∷ [] = one ∙ ap (λ earlier. earlier ++ snap ∷ []) empty in
     let same : next ≡ snap = is ∙ ap (newest published) alone in

@@ -11,7 +11,7 @@ abbrev pub AllBelow : ℕ → List ℕ → Type 0
 AllBelow n views = (seat seen : ℕ) → get_elem? views seat ≡ some seen → seen ≤ n
 
 -- What is published is a snapshot of the program, and nobody has seen a later one
-pub record Kept (P : Program) (published : Snap) (views : List ℕ) : Type 0 where
+pub record NobodyIsAhead (P : Program) (published : Snap) (views : List ℕ) : Type 0 where
   pub snapshot : IsSnapshotOf P published
   pub seen : AllBelow published.n views
 

@@ -1,6 +1,6 @@
 //! What the publisher and the snappers keep: what is published is a snapshot of the program, and it
 //! never goes back.
-ghost use Rattle.snapshots.specs.Rules.{Kept, Told};
+ghost use Rattle.snapshots.specs.Rules.{NobodyIsAhead, Told};
 
 use crate::snap::Snap;
 use crossbeam_utils::rule::{Outcome, Protocol};
@@ -28,7 +28,7 @@ pub struct InOrder<J> {
 }
 
 impl<J: Naming> Protocol<Snap, u64> for InOrder<J> {
-    ghost holds = { Kept J.program };
+    ghost holds = { NobodyIsAhead J.program };
 
     ghost first = { 0 };
 }

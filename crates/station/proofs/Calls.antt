@@ -1,5 +1,5 @@
 -- A step of a call is one of its table.
-use Rattle.std.proofs.Common.{◌≡◌, ℕ, ◌<◌, Bool, List, [], sym, ap, refl, ◌∙◌, subst}
+use Rattle.std.proofs.Common.{◌≡◌, ℕ, ◌<◌, Bool, List, sym, ap, refl, ◌∙◌, subst}
 use Rattle.atomic_table.specs.Seated.{TableId}
 use Rattle.atomic_table.specs.Table.{Allows, Me, Step}
 use Rattle.instructions.specs.Programs.{Program}
@@ -21,7 +21,7 @@ use Rattle.ruu_words.specs.Views.{IsAlive, IsCaller, Unborn}
 use Rattle.ruu_words.specs.Rule.{Kept}
 use Rattle.ruu_words.specs.Telling.{Grows, Tells}
 use Rattle.ruu_words.proofs.General.{allowed_at}
-use Rattle.station.specs.Calls.{IsCall, IsLater, IsLegalCall, MayTake, StepKind, Takes, TheCall, next_place}
+use Rattle.station.specs.Calls.{IsCall, IsLater, IsLegalCall, MayTake, StepKind, Takes, TheCall, call_of, next_place}
 use Rattle.station.specs.Seats.{Caller, HasHeirs, IsAtHead, IsNumbered, IsSeated, TheCore, core_of}
 use Rattle.station.specs.declared.steps.retire.Access.{Access}
 use Rattle.station.specs.declared.steps.retire.Leaving.{Leaving}
@@ -31,9 +31,6 @@ use Rattle.station.proofs.Numbers.{numbered_on}
 use Rattle.station.specs.Steps.{Sees}
 use Rattle.station.proofs.Seated.{seated_on}
 use Rattle.station.proofs.SameUnit.{Unit_of, of_seat, unit_at, unit_in}
-
-abbrev pub call_of : TheCore → View → ℕ → TheCall
-call_of core view lent = record { core = core; view = view; lent = lent }
 
 -- a seat with a number is not spent
 pub alive_role : (opening : List Entry) (role : Role) (v : View) → IsNumbered opening role v → IsAlive role

@@ -42,6 +42,10 @@ pub record TheCall : Type 0 where
   pub view : View
   pub lent : ℕ
 
+-- The call of a core, with what its seat knows and which seat that is
+abbrev pub call_of : TheCore → View → ℕ → TheCall
+call_of core view lent = record { core = core; view = view; lent = lent }
+
 -- What is true of it between two steps
 pub record IsCall (core : TheCore) (role : Role) (table : TableId) (me : Me ℕ View) : Type 0 where
   pub at : table ≡ core.id

@@ -1,7 +1,5 @@
 -- What the steps ask and tell.
 use Rattle.std.specs.Prelude.{◌≡◌, ℕ, List, []}
-use Rattle.atomic_table.specs.Seated.{TableId}
-use Rattle.atomic_table.specs.Table.{Me}
 use Rattle.instructions.specs.Programs.{Program}
 use Rattle.inorder.specs.declared.history.Entry.{Entry}
 use Rattle.inorder.specs.declared.history.Event.{Event}
@@ -9,13 +7,9 @@ use Rattle.inorder.specs.History.{front, unit_of}
 use Rattle.inorder.specs.Unit.{Sizes}
 use Rattle.ruu_words.specs.declared.place.Place.{Place}
 use Rattle.ruu_words.specs.declared.rule.Draft.{Draft}
-use Rattle.ruu_words.specs.declared.rule.Setup.{Setup}
 use Rattle.ruu_words.specs.declared.rule.View.{View}
 use Rattle.ruu_words.specs.Content.{Content, IsDraft}
-use Rattle.ruu_words.specs.Places.{words_for}
-use Rattle.ruu_words.specs.Openings.{opening_of, sizes_of}
-use Rattle.ruu_words.specs.Views.{IsCaller, Unborn}
-use Rattle.ruu_words.specs.Telling.{Grows}
+use Rattle.ruu_words.specs.Views.{IsCaller}
 
 -- A word as it is at its point, with the let in progress there, which is the front's own
 pub record Sees (P : Program) (C : Sizes) (by : ℕ) (v : View) (x : Place) (n : ℕ) (h : List Entry) (d : Draft) (events : List Event) : Type 0 where

@@ -2,7 +2,7 @@
 ghost use Rattle.std.specs.Prelude.{◌≡◌, ◌==◌};
 ghost use prog.Atomic.{either};
 ghost use Rattle.ruu_words.specs.Places.{IsPlace};
-ghost use Rattle.station.specs.Calls.{IsCall, MayTake, Takes};
+ghost use Rattle.station.specs.Calls.{IsCall, MayTake, Takes, call_of};
 
 use crate::cores::Core;
 use crate::seat::Part;
@@ -20,11 +20,11 @@ pub(crate) struct Call<'a, P: Part> {
 }
 
 impl<'a, P: Part> Model for Call<'a, P> {
-    ghost use Rattle.station.specs.Calls.{IsCall, TheCall};
+    ghost use Rattle.station.specs.Calls.{IsCall, TheCall, call_of};
 
     ghost Value = { TheCall };
 
-    ghost view = { λ s. record { core = s.core.now; view = s.seat.now.me.0; lent = s.seat.ghost_name } };
+    ghost view = { λ s. call_of s.core.now s.seat.now.me.0 s.seat.ghost_name };
 
     ghost invariant = { λ s. IsCall s.core.now P.role s.seat.now.table_id s.seat.now.me };
 }
@@ -48,7 +48,7 @@ impl Telling for Brand {
 impl<'a, P: Part> Call<'a, P> {
     pub(crate) fn of(core: &'a Core, seat: &'a mut Seat<u8, View>) -> Call<'a, P>
         requires { IsCall core.now P.role seat.old.table_id seat.old.me }
-        ensures { result ≡ record { core = core.now; view = seat.old.me.0; lent = seat.entry.ghost_name } }
+        ensures { result ≡ call_of core.now seat.old.me.0 seat.entry.ghost_name }
     {
         Call {
             core,

@@ -73,7 +73,8 @@ impl<'a> Call<'a, UnitPart> {
     // Claims the tenant of this station and tag, which was open when its info word was read.
     fn claim_open(&mut self, station: usize, tag: u32, info: InfoWord) -> Claim
         requires place { station < self.old.core.sizes.ring }
-        requires was_open { Saw self.old station tag (IsOpenAs info.half info.index info.predicted) }
+        requires was_open { Saw self.old station tag
+            (IsOpenAs info.half info.index info.predicted) }
         ensures same { IsLater self.old self.new }
         ensures reply { AnswersClaim self.old self.new station result }
     {
@@ -144,7 +145,8 @@ impl Core {
         ensures kept { IsSame seat.old seat.new }
         ensures woken { seat.new.woken ≡ seat.old.woken }
         ensures heirs { seat.new.heirs ≡ seat.old.heirs }
-        ensures reply { ClaimAnswers self.now.program self.now.sizes seat.old.by seat.old.seen seat.new.seen station result }
+        ensures reply { ClaimAnswers self.now.program self.now.sizes seat.old.by seat.old.seen
+            seat.new.seen station result }
     {
         let mut call = Call::<UnitPart>::of(self, &mut seat.seat);
         let answer = call.claim_at(station);

@@ -141,7 +141,8 @@ impl Core {
         mut first: Seat<u8, View>,
         setup: Setup,
     ) -> (Core, FrontSeat, BackSeat, UnitSeat)
-        requires core { IsCore table.shared.table_id.words setup setup.program setup.ring setup.queue setup.first_tag }
+        requires core { IsCore table.shared.table_id.words setup setup.program setup.ring
+            setup.queue setup.first_tag }
         requires opening { IsOpening setup.program (sizes_of setup) (opening_of setup) }
         requires key { table.shared.key ≡ setup }
         requires seat { first.table_id ≡ table.shared.table_id }
@@ -160,7 +161,8 @@ impl Core {
 
     // A table's setup cannot be shared by threads, and its parts can. What it opens with is left over.
     pub(crate) fn of(table: Stations, setup: Setup) -> (Core, Badge<View>)
-        requires { IsCore table.shared.table_id.words table.shared.key setup.program setup.ring setup.queue setup.first_tag }
+        requires { IsCore table.shared.table_id.words table.shared.key setup.program setup.ring
+            setup.queue setup.first_tag }
         ensures core { result.0 ≡ core_of table.shared.table_id table.shared.key }
         ensures opening { result.1 ≡ setup.opening }
     {
@@ -184,7 +186,8 @@ impl Core {
     // Its table, and the setup of one that opens with this.
     pub(crate) fn apart(self, badge: Badge<View>) -> (Stations, Setup)
         ensures core { self ≡ core_of result.0.shared.table_id result.0.shared.key }
-        ensures kept { IsCore result.0.shared.table_id.words result.0.shared.key result.1.program result.1.ring result.1.queue result.1.first_tag }
+        ensures kept { IsCore result.0.shared.table_id.words result.0.shared.key result.1.program
+            result.1.ring result.1.queue result.1.first_tag }
         ensures opening { result.1.opening ≡ badge }
     {
         let Core {

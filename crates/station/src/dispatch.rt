@@ -57,10 +57,13 @@ impl Core {
     /// of a ring in program order, as in Sohi's register update unit.
     pub fn let_out(&self, seat: &mut FrontSeat, tenant: Tenant) -> u32
         requires core { seat.old.core ≡ self.now }
-        requires may { MayLetOut self.now.program self.now.sizes (unit_of self.now.program self.now.sizes seat.old.seen) tenant }
+        requires may { MayLetOut self.now.program self.now.sizes
+            (unit_of self.now.program self.now.sizes seat.old.seen) tenant }
         ensures kept { IsSame seat.old seat.new }
-        ensures history { Adds self.now.program self.now.sizes seat.old.by seat.old.seen seat.new.seen (let_of tenant ∷ []) }
-        ensures reply { result ≡ next_tag self.now.sizes (recent (unit_of self.now.program self.now.sizes seat.old.seen)) }
+        ensures history { Adds self.now.program self.now.sizes seat.old.by seat.old.seen
+            seat.new.seen (let_of tenant ∷ []) }
+        ensures reply { result ≡ next_tag self.now.sizes
+            (recent (unit_of self.now.program self.now.sizes seat.old.seen)) }
     {
         let ring = self.ring;
         let station = seat.station;

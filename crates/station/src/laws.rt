@@ -55,7 +55,8 @@ pub fn a_number_is_of_its_part<P: Part>(seat: &SeatOf<P>)
 /// that a seat may still give away have no entry, behind that with which the core opened, in what its
 /// caller has seen.
 pub fn no_seat_no_entry(seat: &UnitSeat)
-    ensures { (n : ℕ) → IsHeir seat.now.heirs n → own n seat.now.seen ≡ own n seat.now.core.opening }
+    ensures { (n : ℕ) → IsHeir seat.now.heirs n → own n seat.now.seen ≡
+        own n seat.now.core.opening }
 {
     let _over = seat.over;
 }

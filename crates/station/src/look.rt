@@ -27,7 +27,8 @@ impl Core {
         ensures woken { seat.new.woken ≡ seat.old.woken }
         ensures heirs { seat.new.heirs ≡ seat.old.heirs }
         ensures caller { IsCaller P.role seat.old.by }
-        ensures history { Adds self.now.program self.now.sizes seat.old.by seat.old.seen seat.new.seen [] }
+        ensures history { Adds self.now.program self.now.sizes seat.old.by seat.old.seen
+            seat.new.seen [] }
         ensures reply { SeesWord self.now.program self.now.sizes seat.new.seen place result }
     {
         let mut call = Call::<P>::of(self, &mut seat.seat);
@@ -45,7 +46,8 @@ impl Core {
         ensures woken { seat.new.woken ≡ seat.old.woken }
         ensures heirs { seat.new.heirs ≡ seat.old.heirs }
         ensures caller { IsCaller P.role seat.old.by }
-        ensures history { Adds self.now.program self.now.sizes seat.old.by seat.old.seen seat.new.seen [] }
+        ensures history { Adds self.now.program self.now.sizes seat.old.by seat.old.seen
+            seat.new.seen [] }
         ensures reply { SeesStation self.now.program self.now.sizes seat.new.seen station result }
         ensures tag { result.tag ≤ last_tag }
     {
@@ -61,8 +63,10 @@ impl Core {
         requires station { station < self.now.sizes.ring }
         ensures kept { IsSame seat.old seat.new }
         ensures woken { seat.new.woken ≡ seat.old.woken }
-        ensures history { Adds self.now.program self.now.sizes seat.old.by seat.old.seen seat.new.seen [] }
-        ensures reply { SeesInfo self.now.program self.now.sizes seat.new.seen station result.0 result.1 result.2 }
+        ensures history { Adds self.now.program self.now.sizes seat.old.by seat.old.seen
+            seat.new.seen [] }
+        ensures reply { SeesInfo self.now.program self.now.sizes seat.new.seen station
+            result.0 result.1 result.2 }
     {
         let word = self.read(seat, Place::Info(station));
         let InfoWord {
@@ -79,7 +83,8 @@ impl Core {
         requires station { station < self.now.sizes.ring }
         ensures kept { IsSame seat.old seat.new }
         ensures woken { seat.new.woken ≡ seat.old.woken }
-        ensures history { Adds self.now.program self.now.sizes seat.old.by seat.old.seen seat.new.seen [] }
+        ensures history { Adds self.now.program self.now.sizes seat.old.by seat.old.seen
+            seat.new.seen [] }
         ensures reply { SeesOperand self.now.program self.now.sizes seat.new.seen station k result }
     {
         let word = self.read(seat, Place::Operand(station, k));

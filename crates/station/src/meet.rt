@@ -87,7 +87,8 @@ impl Core {
         requires to { to.old.core ≡ self.now }
         ensures from { from.new ≡ from.old }
         ensures kept { IsSame to.old to.new }
-        ensures history { Adds self.now.program self.now.sizes to.old.by to.old.seen to.new.seen [] }
+        ensures history { Adds self.now.program self.now.sizes to.old.by to.old.seen
+            to.new.seen [] }
         ensures told { StartsWith to.new.seen from.old.seen }
         ensures heirs { to.new.heirs ≡ to.old.heirs }
         ensures woken { to.new.woken ≡ to.old.woken }
@@ -107,12 +108,14 @@ impl Core {
         ensures one_kept { IsSame one.old one.new }
         ensures one_heirs { one.new.heirs ≡ one.old.heirs }
         ensures one_woken { one.new.woken ≡ one.old.woken }
-        ensures one_history { Adds self.now.program self.now.sizes one.old.by one.old.seen one.new.seen [] }
+        ensures one_history { Adds self.now.program self.now.sizes one.old.by one.old.seen
+            one.new.seen [] }
         ensures one_told { StartsWith one.new.seen other.old.seen }
         ensures other_kept { IsSame other.old other.new }
         ensures other_heirs { other.new.heirs ≡ other.old.heirs }
         ensures other_woken { other.new.woken ≡ other.old.woken }
-        ensures other_history { Adds self.now.program self.now.sizes other.old.by other.old.seen other.new.seen [] }
+        ensures other_history { Adds self.now.program self.now.sizes other.old.by other.old.seen
+            other.new.seen [] }
         ensures other_told { StartsWith other.new.seen one.new.seen }
     {
         self.tell(other, one);

@@ -64,7 +64,8 @@ impl Core {
         requires core { seat.old.core ≡ self.now }
         requires may { MaySquash self.now.program self.now.sizes seat.old.seen }
         ensures kept { IsSame seat.old seat.new }
-        ensures reply { IsSquashed self.now.program self.now.sizes seat.old.by result.0 result.1 seat.old.seen seat.new.seen }
+        ensures reply { IsSquashed self.now.program self.now.sizes seat.old.by
+            result.0 result.1 seat.old.seen seat.new.seen }
     {
         let next = seat.station;
         let mut call = Call::<FrontPart>::of(self, &mut seat.seat);
@@ -83,7 +84,8 @@ impl Core {
         requires station { station < self.now.sizes.ring }
         requires miss { SeesMiss self.now.program self.now.sizes seat.old.seen station }
         ensures kept { IsSame seat.old seat.new }
-        ensures history { IsMended self.now.program self.now.sizes seat.old.by station seat.old.seen seat.new.seen }
+        ensures history { IsMended self.now.program self.now.sizes seat.old.by
+            station seat.old.seen seat.new.seen }
     {
         let mut call = Call::<FrontPart>::of(self, &mut seat.seat);
         call.mend_miss(station);

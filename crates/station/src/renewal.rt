@@ -16,7 +16,8 @@ impl Core {
         requires front { front.old.core ≡ self.now }
         requires back { back.old.core ≡ self.now }
         requires unit { unit.old.core ≡ self.now }
-        ensures met { HaveMet self.now (seats_of front.old back.old unit.old) (seats_of front.new back.new unit.new) }
+        ensures met { HaveMet self.now (seats_of front.old back.old unit.old)
+            (seats_of front.new back.new unit.new) }
         ensures seen { HaveSeen self.now (seats_of front.old back.old unit.old) front.new.seen }
     {
         a_number_is_of_its_part(front);
@@ -49,8 +50,10 @@ impl Core {
         requires unit { unit.core ≡ self }
         requires nobody { HasNobody (unit_of self.program self.sizes front.seen) }
         requires goes_on { GoesOn (unit_of self.program self.sizes back.seen) }
-        ensures ok { IfOk result (λ t. IsRenewed self (seats_of front back unit) t.0 (seats_of t.1 t.2 t.3)) }
-        ensures err { IfErr result (λ t. IsNotRenewed self (seats_of front back unit) t.1 (seats_of t.2 t.3 t.4)) }
+        ensures ok { IfOk result
+            (λ t. IsRenewed self (seats_of front back unit) t.0 (seats_of t.1 t.2 t.3)) }
+        ensures err { IfErr result
+            (λ t. IsNotRenewed self (seats_of front back unit) t.1 (seats_of t.2 t.3 t.4)) }
     {
         self.gather(&mut front, &mut back, &mut unit);
         let SeatOf {

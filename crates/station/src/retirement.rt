@@ -188,7 +188,8 @@ impl Core {
         requires core { seat.old.core ≡ self.now }
         ensures kept { IsSame seat.old seat.new }
         ensures woken { seat.new.woken ≡ seat.old.woken }
-        ensures reply { RetireAnswers self.now.program self.now.sizes seat.old.by seat.old.seen seat.new.seen result }
+        ensures reply { RetireAnswers self.now.program self.now.sizes seat.old.by seat.old.seen
+            seat.new.seen result }
     {
         let station = seat.station;
         let over = seat.over;

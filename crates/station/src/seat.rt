@@ -85,7 +85,8 @@ impl<P: Part> SeatOf<P> {
 
     // A seat at a core where nothing was done yet.
     pub(crate) fn first_seat(seat: Seat<u8, View>, words: &Words) -> SeatOf<P>
-        requires seated { IsSeated words.now.key.program (sizes_of words.now.key) P.role seat.me.0.by 0 false seat.me }
+        requires seated { IsSeated words.now.key.program (sizes_of words.now.key) P.role
+            seat.me.0.by 0 false seat.me }
         requires numbered { IsNumbered (opening_of words.now.key) P.role seat.me.0 }
         ensures { result ≡
             record {

@@ -30,7 +30,8 @@ fn let_first(core: &Core, seat: &mut FrontSeat, predicted: u32) -> u32
     requires there { 0 < length core.now.program.code }
     requires room { (0 < core.now.sizes.ring) × (0 < core.now.sizes.queue) }
     requires tag { core.now.sizes.first_tag < last_tag }
-    requires predicted { IfSome (fixed_next (instr_of core.now.program 0) Low (address 0)) (λ x. predicted ≡ x) }
+    requires predicted { IfSome (fixed_next (instr_of core.now.program 0) Low (address 0))
+        (λ x. predicted ≡ x) }
     ensures kept { IsSame seat.old seat.new }
 {
     let tenant = Tenant {

@@ -58,9 +58,11 @@ impl Core {
         requires core { seat.old.core ≡ self.now }
         requires station { station < self.now.sizes.ring }
         requires from { from.0 < self.now.sizes.ring }
-        requires may { MayAsk self.now.program self.now.sizes seat.old.seen station tag k from.0 from.1 }
+        requires may { MayAsk self.now.program self.now.sizes seat.old.seen
+            station tag k from.0 from.1 }
         ensures kept { IsSame seat.old seat.new }
-        ensures reply { AskAnswers self.now.program self.now.sizes seat.old.by seat.old.seen seat.new.seen station tag k from.0 from.1 result }
+        ensures reply { AskAnswers self.now.program self.now.sizes seat.old.by seat.old.seen
+            seat.new.seen station tag k from.0 from.1 result }
     {
         let mut call = Call::<FrontPart>::of(self, &mut seat.seat);
         let answer = call.ask_creator((station, tag), k, from);

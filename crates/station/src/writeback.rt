@@ -84,7 +84,8 @@ impl Core {
         requires outcome { outcome ≡ outcome_of self.now.program job }
         ensures kept { IsSame seat.old seat.new }
         ensures heirs { seat.new.heirs ≡ seat.old.heirs }
-        ensures reply { FinishAnswers self.now.program self.now.sizes seat.old.by seat.old.seen seat.new.seen job result }
+        ensures reply { FinishAnswers self.now.program self.now.sizes seat.old.by seat.old.seen
+            seat.new.seen job result }
         ensures woken { HasWoken self.now.program self.now.sizes seat.old.by seat.old.seen
             seat.new.seen seat.new.woken }
     {
@@ -103,7 +104,8 @@ impl Core {
         requires station { station < self.now.sizes.ring }
         requires may { MaySettle self.now.program self.now.sizes seat.old.seen station tag value }
         ensures kept { IsSame seat.old seat.new }
-        ensures reply { SettleAnswers self.now.program self.now.sizes seat.old.by seat.old.seen seat.new.seen station tag result }
+        ensures reply { SettleAnswers self.now.program self.now.sizes seat.old.by seat.old.seen
+            seat.new.seen station tag result }
         ensures woken { HasWoken self.now.program self.now.sizes seat.old.by seat.old.seen
             seat.new.seen seat.new.woken }
     {

@@ -15,11 +15,11 @@ use Rattle.requests.specs.declared.request.Asked.{Asked}
 use Rattle.without_threads.specs.declared.went.Line.{Line}
 use Rattle.without_threads.specs.declared.went.Line.TheVariants.{Nothing, Tally, Refused}
 use Rattle.without_threads.specs.declared.went.Went.{Went}
-use Rattle.without_threads.specs.Went.{status_number, written}
+use Rattle.without_threads.specs.Went.{status_number, written_whole}
 
 -- a run on several threads that had no turn left: it says limit behind some steps of the machine in order, and
 -- might have made more
-pub record IsEarly (limit : ℕ) (P : Program) (ending : Ending) (state : State) : Type 0 where
+pub record EndedEarly (limit : ℕ) (P : Program) (ending : Ending) (state : State) : Type 0 where
   pub outcome : ending ≡ Limit
   pub reached : after P state.count ≡ Some state
   pub below : state.count < limit
@@ -27,13 +27,13 @@ pub record IsEarly (limit : ℕ) (P : Program) (ending : Ending) (state : State)
 -- the end of a run on several threads: that of a run on one thread, or an early one
 pub data IsEndOfThreads (limit : ℕ) (P : Program) (ending : Ending) (state : State) : Type 0 where
   AsAlone : ◌≡◌ {A = Ending × State} (ending, state) (end_of P limit) → IsEndOfThreads limit P ending state
-  Early : IsEarly limit P ending state → IsEndOfThreads limit P ending state
+  Early : EndedEarly limit P ending state → IsEndOfThreads limit P ending state
 
 -- how and where a run ends: on one thread as the machine in order does that may make so many steps; on several
 -- threads, each of which has so many turns, as above
-abbrev pub IsEnd : (is_alone : Bool) → Settings → Program → Ending → State → Type 0
-IsEnd true config P ending state = ◌≡◌ {A = Ending × State} (ending, state) (end_of P config.limit)
-IsEnd false config P ending state =
+abbrev pub IsRunEnd : (is_alone : Bool) → Settings → Program → Ending → State → Type 0
+IsRunEnd true config P ending state = ◌≡◌ {A = Ending × State} (ending, state) (end_of P config.limit)
+IsRunEnd false config P ending state =
     IsEndOfThreads config.limit P ending state × (state.count ≤ config.turns)
 
 -- the line that comes with a report of so many instructions
@@ -47,20 +47,20 @@ IsLineWith false count (Refused refusal) = ⊥
 pub record IsReport (asked : Asked) (P : Program) (text : List ℕ) (went : Went) : Type 0 where
   pub ending : Ending
   pub state : State
-  pub is : IsEnd asked.alone asked.config P ending state
+  pub is : IsRunEnd asked.alone asked.config P ending state
   pub report : text ≡ report_of_run (ending, state)
   pub status : went.status ≡ status_number (ending_status ending)
   pub line : IsLineWith asked.alone state.count went.line
 
 -- what is told of the program of a listing, or of its fault
-abbrev pub IsAnswer : Asked → Result Program (ℕ × FaultKind) → List ℕ → Went → Type 0
-IsAnswer asked (Ok P) text went = IsReport asked P text went
-IsAnswer asked (Err f) text went = (text ≡ fault_line f.0 f.1) × (went ≡ written TextFault Nothing)
+abbrev pub IsAnswerFor : Asked → Result Program (ℕ × FaultKind) → List ℕ → Went → Type 0
+IsAnswerFor asked (Ok P) text went = IsReport asked P text went
+IsAnswerFor asked (Err f) text went = (text ≡ fault_line f.0 f.1) × (went ≡ written_whole TextFault Nothing)
 
 -- P of the text of some answer to the bytes of a listing
 pub record HasAnswer (asked : Asked) (bytes : List ℕ) (went : Went) (P : List ℕ → Type 0) : Type 0 where
   pub text : List ℕ
-  pub is : IsAnswer asked (listing bytes) text went
+  pub is : IsAnswerFor asked (listing bytes) text went
   pub holds : P text
 
 -- P of the text that the one-thread unit has for the bytes of a listing, and its status

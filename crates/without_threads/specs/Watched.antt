@@ -9,7 +9,7 @@ use Rattle.charts.specs.declared.telling.Format.{Format}
 use Rattle.charts.specs.declared.telling.Format.TheVariants.{Chart, Kanata}
 use Rattle.charts.specs.declared.watched.Fault.{Fault}
 use Rattle.charts.specs.declared.watched.Fault.TheVariants as fault
-use Rattle.charts.specs.Watched.{IsTold, IsBegun as IsPartOf, sizes_of}
+use Rattle.charts.specs.Watched.{IsTold, IsBegun as IsPartOf, sizes_by}
 use Rattle.requests.specs.Predictors.{IsChosen, LearnsAs, PredictsAs}
 use Rattle.requests.specs.declared.chosen.Chosen.{Chosen}
 use Rattle.requests.specs.declared.request.Asked.{Asked}
@@ -22,24 +22,25 @@ pub record Outputs : Type 0 where
   pub text : Option (List ℕ)
   pub log : Option (List ℕ)
 
+-- the two of them
 abbrev pub outputs : (text log : Option (List ℕ)) → Outputs
 outputs text log = record { text = text; log = log }
 
 -- the run that is asked for was told whole: each of its turns, by the guesses of its predictor, up to its end
-pub record HasTold (f : Format) (asked : Asked) (P : Program) (before after : Option (List ℕ)) : Type 0 where
+pub record HasToldWhole (f : Format) (asked : Asked) (P : Program) (before after : Option (List ℕ)) : Type 0 where
   pub first : Chosen
   pub chosen : IsChosen asked.predictor first
-  pub told : IsTold PredictsAs LearnsAs f P (sizes_of asked.config) first (end_of P asked.config.limit).1 before after
+  pub told : IsTold PredictsAs LearnsAs f P (sizes_by asked.config) first (end_of P asked.config.limit).1 before after
 
 -- only a beginning of that
 pub record HasBegun (f : Format) (asked : Asked) (P : Program) (before after : Option (List ℕ)) : Type 0 where
   pub first : Chosen
   pub chosen : IsChosen asked.predictor first
-  pub begun : IsPartOf PredictsAs LearnsAs f P (sizes_of asked.config) first before after
+  pub begun : IsPartOf PredictsAs LearnsAs f P (sizes_by asked.config) first before after
 
 -- it was told where that is wanted, and nothing was written where it is not
 abbrev pub IsPicture : (is_wanted : Bool) → Format → Asked → Program → (before after : Option (List ℕ)) → Type 0
-IsPicture true f asked P before after = HasTold f asked P before after
+IsPicture true f asked P before after = HasToldWhole f asked P before after
 IsPicture false f asked P before after = after ≡ before
 
 -- the text without pictures stands behind before: the report, or the line of a fault
@@ -94,19 +95,19 @@ pub record HasReportBegun (asked : Asked) (found : Result Program (ℕ × FaultK
   pub log : after.log ≡ before.log
 
 -- it is the refusal for some fault of a picture
-pub record IsNamed (refusal_for : Fault → Refusal) (refusal : Refusal) : Type 0 where
+pub record IsRefusalOfFault (refusal_for : Fault → Refusal) (refusal : Refusal) : Type 0 where
   pub fault : Fault
   pub is : refusal ≡ refusal_for fault
 
 -- where a run with pictures was broken off
-pub data IsCut (asked : Asked) (P : Program) (refusal : Refusal) (before after : Outputs) : Type 0 where
-  InReport : HasReportBegun asked (Ok P) refusal before after → IsCut asked P refusal before after
-  InChart : IsNamed chart_refusal refusal → HasChartBegun asked P before after → IsCut asked P refusal before after
-  InLog : IsNamed log_refusal refusal → HasLogBegun asked P before after → IsCut asked P refusal before after
+pub data IsBrokenOff (asked : Asked) (P : Program) (refusal : Refusal) (before after : Outputs) : Type 0 where
+  InReport : HasReportBegun asked (Ok P) refusal before after → IsBrokenOff asked P refusal before after
+  InChart : IsRefusalOfFault chart_refusal refusal → HasChartBegun asked P before after → IsBrokenOff asked P refusal before after
+  InLog : IsRefusalOfFault log_refusal refusal → HasLogBegun asked P before after → IsBrokenOff asked P refusal before after
 
 -- what was written for a listing where that was broken off
 abbrev pub IsBegun : Asked → Result Program (ℕ × FaultKind) → Refusal → (before after : Outputs) → Type 0
-IsBegun asked (Ok P) refusal before after = IsCut asked P refusal before after
+IsBegun asked (Ok P) refusal before after = IsBrokenOff asked P refusal before after
 IsBegun asked (Err f) refusal before after = HasReportBegun asked (Err f) refusal before after
 
 -- how many calls of the writer have failed where a run was refused

@@ -25,8 +25,8 @@ status_number end.TextFault = 2
 status_number end.Limit = 4
 
 -- a run whose text was written whole
-abbrev pub written : Status → Line → Went
-written status line = record { status = status_number status; line = line }
+abbrev pub written_whole : Status → Line → Went
+written_whole status line = record { status = status_number status; line = line }
 
 -- a run that was refused
 abbrev pub refused : Refusal → Went
@@ -37,6 +37,7 @@ abbrev pub input_refusal : InputFault → Refusal
 input_refusal input.Read = Read
 input_refusal input.Memory = Memory
 
+-- why a run on one thread was refused
 abbrev pub refusal_of : Fault → Refusal
 refusal_of fault.Read = Read
 refusal_of fault.Memory = Memory
@@ -53,10 +54,10 @@ went_of (Ok went) = went
 went_of (Err refusal) = refused refusal
 
 -- the whole text was written
-abbrev pub IsWritten : Line → Type 0
-IsWritten Nothing = ⊤
-IsWritten (Tally totals) = ⊤
-IsWritten (Refused refusal) = ⊥
+abbrev pub WasWritten : Line → Type 0
+WasWritten Nothing = ⊤
+WasWritten (Tally totals) = ⊤
+WasWritten (Refused refusal) = ⊥
 
 -- it came to its end: without threads, at a stop or a fault of the text, or with as many instructions as the limit
 -- allows
@@ -73,14 +74,15 @@ IsOfOneThread (Refused Thread) = ⊥
 IsOfOneThread (Refused refusal) = ⊤
 
 -- the line for standard error
-abbrev pub refusal_text : Refusal → List ℕ
-refusal_text Open = codes "open"
-refusal_text Read = codes "read"
-refusal_text Memory = codes "memory"
-refusal_text Thread = codes "thread"
-refusal_text Write = codes "write"
-refusal_text Trace = codes "trace"
+abbrev pub refusal_line : Refusal → List ℕ
+refusal_line Open = codes "open"
+refusal_line Read = codes "read"
+refusal_line Memory = codes "memory"
+refusal_line Thread = codes "thread"
+refusal_line Write = codes "write"
+refusal_line Trace = codes "trace"
 
+-- the totals by name, behind the first words of the line
 abbrev pub totals_text : List ℕ → Totals → List ℕ
 totals_text first t =
     first ++ (decimal t.lets ++ (codes " claims " ++ (decimal t.claims
@@ -89,6 +91,7 @@ totals_text first t =
     ++ (codes " squashes " ++ (decimal t.squashes ++ (codes " mends " ++ (decimal t.mends
     ++ (codes " hints " ++ (decimal t.hints ++ (codes " renewals " ++ decimal t.renewals))))))))))))))))))
 
+-- the line behind a run
 abbrev pub tally_text : Totals → List ℕ
 tally_text = totals_text (codes "tally lets ")
 
@@ -96,10 +99,11 @@ tally_text = totals_text (codes "tally lets ")
 abbrev pub progress_text : Totals → List ℕ
 progress_text = totals_text (codes "progress lets ")
 
+-- the line for standard error, if there is one
 abbrev pub line_text : Line → List ℕ
 line_text Nothing = []
 line_text (Tally totals) = tally_text totals
-line_text (Refused refusal) = codes "ruu: " ++ refusal_text refusal
+line_text (Refused refusal) = codes "ruu: " ++ refusal_line refusal
 
 -- P of the bytes that the reader has left, if there is a reader that tells them
 abbrev pub HoldsOfInput : {R : Type 0} → (R → Option (List ℕ)) → Option (Counted R) → (List ℕ → Type 0) → Type 0

@@ -1,7 +1,7 @@
 //! What became of each instruction of a run: its chart and its log.
 ghost use Rattle.std.specs.Prelude.{◌≡◌, ◌≢◌, ◌+◌, ◌-◌, ◌^◌, ◌<◌, IfErr, OnOk, OnErr, is_some};
 ghost use Rattle.devices.specs.Counted.{failures_of, known_by};
-ghost use Rattle.without_threads.specs.Watched.{HasBegun, HasTold, IsNamed, IsPicture};
+ghost use Rattle.without_threads.specs.Watched.{HasBegun, HasToldWhole, IsRefusalOfFault, IsPicture};
 ghost use Rattle.without_threads.specs.Watched.{log_failures, log_refusal, writer_failures};
 ghost use Rattle.without_threads.specs.Went.{IsOfOneThread, chart_refusal};
 ghost use Rattle.without_threads.specs.declared.went.Line.TheVariants.{Refused};
@@ -28,7 +28,7 @@ pub(crate) fn draw<W: Write>(
     ensures err { IfErr result (λ refusal. IsOfOneThread (Refused refusal)) }
     ensures opened { IfErr result (λ refusal. refusal ≢ Refusal.Open) }
     ensures has_read { IfErr result (λ refusal. refusal ≢ Refusal.Read) }
-    ensures named { IfErr result (λ refusal. IsNamed chart_refusal refusal) }
+    ensures named { IfErr result (λ refusal. IsRefusalOfFault chart_refusal refusal) }
     ensures write { IfErr result (λ refusal.
         failures_of writer.new ≡ failures_of writer.old + writer_failures refusal) }
     ensures trace { IfErr result (λ refusal. log_failures refusal ≡ 0) }
@@ -55,7 +55,7 @@ pub(crate) fn trace<L: Write>(
     ensures err { IfErr result (λ refusal. IsOfOneThread (Refused refusal)) }
     ensures opened { IfErr result (λ refusal. refusal ≢ Refusal.Open) }
     ensures has_read { IfErr result (λ refusal. refusal ≢ Refusal.Read) }
-    ensures named { IfErr result (λ refusal. IsNamed log_refusal refusal) }
+    ensures named { IfErr result (λ refusal. IsRefusalOfFault log_refusal refusal) }
     ensures write { IfErr result (λ refusal. writer_failures refusal ≡ 0) }
     ensures trace { IfErr result (λ refusal.
         failures_of log.new ≡ failures_of log.old + log_failures refusal) }
@@ -80,7 +80,7 @@ fn picture<W: Write>(
     writer: &mut Counted<W>,
 ) -> Result<(), Fault>
     requires { failures_of writer.old < 2 ^ 64 - 1 }
-    ensures told { OnOk result (HasTold format asked.now program.now
+    ensures told { OnOk result (HasToldWhole format asked.now program.now
         (known_by W.contents writer.old) (known_by W.contents writer.new)) }
     ensures begun { OnErr result (HasBegun format asked.now program.now
         (known_by W.contents writer.old) (known_by W.contents writer.new)) }

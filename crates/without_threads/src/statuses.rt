@@ -1,13 +1,13 @@
 //! The exit statuses of runs.
 ghost use Rattle.std.specs.Prelude.{◌≡◌};
-ghost use Rattle.without_threads.specs.Went.{refused, status_number, written};
+ghost use Rattle.without_threads.specs.Went.{refused, status_number, written_whole};
 
 use crate::{Line, Refusal, Went};
 use bench::Status;
 
 /// A run whose text was written whole.
 pub fn written(status: Status, line: Line) -> Went
-    ensures { result ≡ written status line }
+    ensures { result ≡ written_whole status line }
 {
     Went {
         status: number(status),

@@ -1,6 +1,6 @@
 //! How a run went.
 ghost use Rattle.std.specs.Prelude.{◌≡◌, Some};
-ghost use Rattle.without_threads.specs.Went.{line_text, refusal_text};
+ghost use Rattle.without_threads.specs.Went.{line_text, refusal_line};
 ghost use Rattle.without_threads.specs.Went.{input_refusal, refusal_of};
 ghost use Rattle.without_threads.specs.declared.went.Refusal.TheVariants.{Memory, Write};
 
@@ -72,7 +72,7 @@ impl fmt::Display for Line {
 }
 
 impl fmt::Display for Refusal {
-    ghost output = { λ refusal. Some (refusal_text refusal) };
+    ghost output = { λ refusal. Some (refusal_line refusal) };
 
     fn fmt<W: fmt::Write>(&self, f: &mut fmt::Formatter<W>) -> fmt::Result {
         f.write_str(match self {

@@ -9,14 +9,14 @@ use instructions::Predictor;
 
 impl<'a, P: Predictor + Drop, J: Naming> Session<'a, P, J> {
     ghost use Rattle.std.specs.Prelude.{◌≡◌};
-    ghost use Rattle.drive.specs.Moments.{Grows};
-    ghost use Rattle.drive.specs.Sessions.{Answers, changed};
+    ghost use Rattle.drive.specs.Moments.{GrowsLegally};
+    ghost use Rattle.drive.specs.Sessions.{Answers, after_command};
     ghost use Rattle.drive.specs.declared.commands.Command.TheVariants.{Creator, Info, Look, Operand, Touched};
 
     pub(super) fn look(&mut self, station: u32) -> Reply
         ensures core { self.new.core ≡ self.old.core }
-        ensures grows { Grows self.old.core self.old.seen self.new.seen }
-        ensures kept { self.new ≡ changed (Look station) self.old self.new }
+        ensures grows { GrowsLegally self.old.core self.old.seen self.new.seen }
+        ensures kept { self.new ≡ after_command (Look station) self.old self.new }
         ensures reply { Answers self.old self.new (Look station) result }
     {
         if self.core.ring() <= station as usize {
@@ -28,8 +28,8 @@ impl<'a, P: Predictor + Drop, J: Naming> Session<'a, P, J> {
 
     pub(super) fn creator(&mut self, register: u32) -> Reply
         ensures core { self.new.core ≡ self.old.core }
-        ensures grows { Grows self.old.core self.old.seen self.new.seen }
-        ensures kept { self.new ≡ changed (Creator register) self.old self.new }
+        ensures grows { GrowsLegally self.old.core self.old.seen self.new.seen }
+        ensures kept { self.new ≡ after_command (Creator register) self.old self.new }
         ensures reply { Answers self.old self.new (Creator register) result }
     {
         let core = &self.core;
@@ -41,8 +41,8 @@ impl<'a, P: Predictor + Drop, J: Naming> Session<'a, P, J> {
 
     pub(super) fn touched(&mut self) -> Reply
         ensures core { self.new.core ≡ self.old.core }
-        ensures grows { Grows self.old.core self.old.seen self.new.seen }
-        ensures kept { self.new ≡ changed Touched self.old self.new }
+        ensures grows { GrowsLegally self.old.core self.old.seen self.new.seen }
+        ensures kept { self.new ≡ after_command Touched self.old self.new }
         ensures reply { Answers self.old self.new Touched result }
     {
         Reply::Touched(self.front.touched())
@@ -50,8 +50,8 @@ impl<'a, P: Predictor + Drop, J: Naming> Session<'a, P, J> {
 
     pub(super) fn info(&mut self, station: u32) -> Reply
         ensures core { self.new.core ≡ self.old.core }
-        ensures grows { Grows self.old.core self.old.seen self.new.seen }
-        ensures kept { self.new ≡ changed (Info station) self.old self.new }
+        ensures grows { GrowsLegally self.old.core self.old.seen self.new.seen }
+        ensures kept { self.new ≡ after_command (Info station) self.old self.new }
         ensures reply { Answers self.old self.new (Info station) result }
     {
         if self.core.ring() <= station as usize {
@@ -63,8 +63,8 @@ impl<'a, P: Predictor + Drop, J: Naming> Session<'a, P, J> {
 
     pub(super) fn operand(&mut self, station: u32, which: Which) -> Reply
         ensures core { self.new.core ≡ self.old.core }
-        ensures grows { Grows self.old.core self.old.seen self.new.seen }
-        ensures kept { self.new ≡ changed (Operand station which) self.old self.new }
+        ensures grows { GrowsLegally self.old.core self.old.seen self.new.seen }
+        ensures kept { self.new ≡ after_command (Operand station which) self.old self.new }
         ensures reply { Answers self.old self.new (Operand station which) result }
     {
         if self.core.ring() <= station as usize {

@@ -22,16 +22,16 @@ fn is_nobody(party: Party) -> bool
 
 impl<'a, P: Predictor + Drop, J: Naming> Session<'a, P, J> {
     ghost use Rattle.std.specs.Prelude.{◌≡◌};
-    ghost use Rattle.drive.specs.Moments.{Grows};
-    ghost use Rattle.drive.specs.Sessions.{Answers, HasToldAll, IsSomebody, changed};
+    ghost use Rattle.drive.specs.Moments.{GrowsLegally};
+    ghost use Rattle.drive.specs.Sessions.{Answers, HasToldAll, IsSomebody, after_command};
     ghost use Rattle.drive.specs.declared.commands.Command.TheVariants.{Meet};
 
     // One of them learns all that was seen, and tells what it has seen.
     fn tell(&mut self, party: Party)
         requires { IsSomebody party }
         ensures core { self.new.core ≡ self.old.core }
-        ensures grows { Grows self.old.core self.old.seen self.new.seen }
-        ensures kept { self.new ≡ changed (Meet party party) self.old self.new }
+        ensures grows { GrowsLegally self.old.core self.old.seen self.new.seen }
+        ensures kept { self.new ≡ after_command (Meet party party) self.old self.new }
         ensures told { HasToldAll self.old self.new party }
     {
         let (core, all) = (&self.core, &mut self.all);
@@ -45,8 +45,8 @@ impl<'a, P: Predictor + Drop, J: Naming> Session<'a, P, J> {
     // They meet by the seat that has seen all: it meets the first, the other, and the first again.
     pub(super) fn meet(&mut self, one: Party, other: Party) -> Reply
         ensures core { self.new.core ≡ self.old.core }
-        ensures grows { Grows self.old.core self.old.seen self.new.seen }
-        ensures kept { self.new ≡ changed (Meet one other) self.old self.new }
+        ensures grows { GrowsLegally self.old.core self.old.seen self.new.seen }
+        ensures kept { self.new ≡ after_command (Meet one other) self.old self.new }
         ensures reply { Answers self.old self.new (Meet one other) result }
     {
         let _ = &self.core;

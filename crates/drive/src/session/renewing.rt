@@ -11,9 +11,9 @@ use std::alloc::Global;
 
 impl<'a, P: Predictor + Drop, J: Naming> Session<'a, P, J> {
     ghost use Rattle.std.specs.Prelude.{◌≡◌, None, false, true, vec_len};
-    ghost use Rattle.drive.specs.Moments.{Grows};
+    ghost use Rattle.drive.specs.Moments.{GrowsLegally};
     ghost use Rattle.drive.specs.Renewals.{AreAt};
-    ghost use Rattle.drive.specs.Sessions.{Answers, changed};
+    ghost use Rattle.drive.specs.Sessions.{Answers, after_command};
     ghost use Rattle.drive.specs.Units.{unit_count};
     ghost use Rattle.drive.specs.Workers.{AreWorkers};
     ghost use Rattle.drive.specs.declared.commands.Command.TheVariants.{Renew};
@@ -65,8 +65,8 @@ impl<'a, P: Predictor + Drop, J: Naming> Session<'a, P, J> {
     fn renewed(self, alloc: Global) -> (Self, Reply)
         requires rested { self.rested ≡ true }
         requires not_ended { self.commits.ended ≡ None }
-        ensures grows { Grows self.entry.core self.entry.seen result.0.seen }
-        ensures kept { result.0 ≡ changed Renew self.entry result.0 }
+        ensures grows { GrowsLegally self.entry.core self.entry.seen result.0.seen }
+        ensures kept { result.0 ≡ after_command Renew self.entry result.0 }
         ensures reply { Answers self.entry result.0 Renew result.1 }
     {
         let Session {
@@ -94,8 +94,8 @@ impl<'a, P: Predictor + Drop, J: Naming> Session<'a, P, J> {
     }
 
     pub(super) fn renew(&mut self, alloc: Global) -> Reply
-        ensures grows { Grows self.old.core self.old.seen self.new.seen }
-        ensures kept { self.new ≡ changed Renew self.old self.new }
+        ensures grows { GrowsLegally self.old.core self.old.seen self.new.seen }
+        ensures kept { self.new ≡ after_command Renew self.old self.new }
         ensures reply { Answers self.old self.new Renew result }
     {
         if !self.rested {

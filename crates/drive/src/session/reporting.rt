@@ -8,14 +8,14 @@ use std::alloc::Global;
 
 impl<'a, P: Predictor + Drop, J: Naming> Session<'a, P, J> {
     ghost use Rattle.std.specs.Prelude.{◌≡◌};
-    ghost use Rattle.drive.specs.Moments.{Grows};
-    ghost use Rattle.drive.specs.Sessions.{Answers, changed};
+    ghost use Rattle.drive.specs.Moments.{GrowsLegally};
+    ghost use Rattle.drive.specs.Sessions.{Answers, after_command};
     ghost use Rattle.drive.specs.declared.commands.Command.TheVariants.{Report};
 
     pub(super) fn report(&mut self, alloc: Global) -> Reply
         ensures core { self.new.core ≡ self.old.core }
-        ensures grows { Grows self.old.core self.old.seen self.new.seen }
-        ensures kept { self.new ≡ changed Report self.old self.new }
+        ensures grows { GrowsLegally self.old.core self.old.seen self.new.seen }
+        ensures kept { self.new ≡ after_command Report self.old self.new }
         ensures reply { Answers self.old self.new Report result }
     {
         let (core, all, back) = (&self.core, &mut self.all, &mut self.back);

@@ -7,14 +7,14 @@ use instructions::Predictor;
 
 impl<'a, P: Predictor + Drop, J: Naming> Session<'a, P, J> {
     ghost use Rattle.std.specs.Prelude.{◌≡◌};
-    ghost use Rattle.drive.specs.Moments.{Grows};
-    ghost use Rattle.drive.specs.Sessions.{Answers, changed};
+    ghost use Rattle.drive.specs.Moments.{GrowsLegally};
+    ghost use Rattle.drive.specs.Sessions.{Answers, after_command};
     ghost use Rattle.drive.specs.declared.commands.Command.TheVariants.{Rest};
 
     pub(super) fn rest(&mut self) -> Reply
         ensures core { self.new.core ≡ self.old.core }
-        ensures grows { Grows self.old.core self.old.seen self.new.seen }
-        ensures kept { self.new ≡ changed Rest self.old self.new }
+        ensures grows { GrowsLegally self.old.core self.old.seen self.new.seen }
+        ensures kept { self.new ≡ after_command Rest self.old self.new }
         ensures reply { Answers self.old self.new Rest result }
     {
         let rest = calls::rest(&self.core, &mut self.all, &mut self.front);

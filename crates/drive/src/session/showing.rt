@@ -8,14 +8,14 @@ use std::sync::Wait;
 
 impl<'a, P: Predictor + Drop, J: Naming> Session<'a, P, J> {
     ghost use Rattle.std.specs.Prelude.{◌≡◌};
-    ghost use Rattle.drive.specs.Moments.{Grows};
-    ghost use Rattle.drive.specs.Sessions.{Answers, changed};
+    ghost use Rattle.drive.specs.Moments.{GrowsLegally};
+    ghost use Rattle.drive.specs.Sessions.{Answers, after_command};
     ghost use Rattle.drive.specs.declared.commands.Command.TheVariants.{Learn, Show, Take};
 
     pub(super) fn show<R: Wait>(&mut self, wait: &R) -> Reply
         ensures core { self.new.core ≡ self.old.core }
-        ensures grows { Grows self.old.core self.old.seen self.new.seen }
-        ensures kept { self.new ≡ changed Show self.old self.new }
+        ensures grows { GrowsLegally self.old.core self.old.seen self.new.seen }
+        ensures kept { self.new ≡ after_command Show self.old self.new }
         ensures reply { Answers self.old self.new Show result }
     {
         match calls::show(wait, &self.core, &mut self.all, &mut self.back) {
@@ -29,8 +29,8 @@ impl<'a, P: Predictor + Drop, J: Naming> Session<'a, P, J> {
 
     pub(super) fn take(&mut self) -> Reply
         ensures core { self.new.core ≡ self.old.core }
-        ensures grows { Grows self.old.core self.old.seen self.new.seen }
-        ensures kept { self.new ≡ changed Take self.old self.new }
+        ensures grows { GrowsLegally self.old.core self.old.seen self.new.seen }
+        ensures kept { self.new ≡ after_command Take self.old self.new }
         ensures reply { Answers self.old self.new Take result }
     {
         match self.snapper.take() {
@@ -41,8 +41,8 @@ impl<'a, P: Predictor + Drop, J: Naming> Session<'a, P, J> {
 
     pub(super) fn learn(&mut self) -> Reply
         ensures core { self.new.core ≡ self.old.core }
-        ensures grows { Grows self.old.core self.old.seen self.new.seen }
-        ensures kept { self.new ≡ changed Learn self.old self.new }
+        ensures grows { GrowsLegally self.old.core self.old.seen self.new.seen }
+        ensures kept { self.new ≡ after_command Learn self.old self.new }
         ensures reply { Answers self.old self.new Learn result }
     {
         match self.mark {

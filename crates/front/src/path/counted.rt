@@ -1,6 +1,6 @@
 //! The create vector's entries and records, each reading and writing counted.
 ghost use Rattle.std.specs.Prelude.{◌≡◌, ◌<◌, ◌+◌, ◌%◌, ◌^◌, length, slice_get, slice_set, replicate, None};
-ghost use Rattle.front.specs.CreateTable.{Finds};
+ghost use Rattle.front.specs.CreateTable.{EntryFinds};
 
 use super::creators::Creator;
 use instructions::Reg;
@@ -128,7 +128,7 @@ impl Creators {
 
     /// The newest writer of a register, if its station was not let again.
     pub fn peek(&self, r: Reg) -> Option<Creator>
-        ensures { Finds self.now.counted.table r result }
+        ensures { EntryFinds self.now.counted.table r result }
     {
         if r.number() == 0 {
             return None;

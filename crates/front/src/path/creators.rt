@@ -1,7 +1,7 @@
 //! The create vector: who creates the newest value of a register. It is found and changed by counted readings
 //! and writings alone.
 ghost use Rattle.std.specs.Prelude.{◌≡◌, ◌<◌, Some, None};
-ghost use Rattle.front.specs.CreateTable.{Finds, IsEntered, IsRestored, IsTouched, made_from_start};
+ghost use Rattle.front.specs.CreateTable.{EntryFinds, IsEntered, IsRestored, IsTouched, made_from_start};
 
 use super::counted::{Counted, Maker, Saved};
 use super::record::Record;
@@ -29,7 +29,7 @@ fn made_at_let(tenant: &Record) -> Option<u32>
 impl Counted {
     /// The newest writer of a register, if its station was not let again. Nobody writes register 0.
     pub fn find(&mut self, r: Reg) -> Option<Creator>
-        ensures found { Finds self.old.table r result }
+        ensures found { EntryFinds self.old.table r result }
         ensures table { self.new.table ≡ self.old.table }
         ensures touched { IsTouched 2 self.old.touched self.new.touched }
     {

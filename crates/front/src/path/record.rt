@@ -1,6 +1,6 @@
 //! What the front keeps of its tenants.
 ghost use Rattle.std.specs.Prelude.{◌≡◌, ◌<◌, ◌≤◌, ◌-◌, [], ◌∷◌, ◌++◌, length, take, slice_get, IfSome, IfNone};
-ghost use Rattle.front.specs.Path.{GoesOn, record_for};
+ghost use Rattle.front.specs.Path.{YoungestGoesOn, record_for};
 ghost use Rattle.front.specs.Training.{ToldIf};
 
 use crate::fetch::Fetched;
@@ -132,7 +132,7 @@ impl Records {
 
     /// The youngest goes on elsewhere.
     pub fn redirect(&mut self, next: u32)
-        ensures { GoesOn next self.old self.new }
+        ensures { YoungestGoesOn next self.old self.new }
     {
         if let Some(youngest) = self.records.pop() {
             self.records.push(Record { next, ..youngest });

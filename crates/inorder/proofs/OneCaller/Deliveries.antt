@@ -12,7 +12,7 @@ use Rattle.inorder.specs.Tenants.{Operand, Tenant, operand}
 use Rattle.inorder.specs.Unit.{Sizes, UpdateUnit, value_of}
 use Rattle.inorder.proofs.Sound.{IsSound, ValueIs}
 use Rattle.inorder.specs.Moves.{IsDeliver, Leads, with_tenants}
-use Rattle.inorder.specs.Still.{AreStill, HasLink, IsNotBusy, IsStill}
+use Rattle.inorder.specs.Still.{AreStill, WasLinked, IsNotBusy, SourceIsStill}
 use Rattle.inorder.proofs.OneCaller.Alike.{AreAlike, IsAlike, alike_both, alike_self, still_alike}
 use Rattle.inorder.proofs.OneCaller.Middle.{allowed_middle, changed_middle}
 use Rattle.inorder.proofs.OneCaller.Sequences.{all_more, leads_more, leads_nowhere, leads_once}
@@ -20,7 +20,7 @@ use Rattle.inorder.proofs.OneCaller.Sequences.{all_more, leads_more, leads_nowhe
 -- a source that may be due
 pub record IsAsked (ts : List Tenant) (o : Operand) : Type 0 where
   pub value : ValueIs ts o
-  pub way : o.value ≡ None → HasLink o
+  pub way : o.value ≡ None → WasLinked o
 
 abbrev pub AreAsked : List Tenant → Type 0
 AreAsked [] = Unit {0}
@@ -36,47 +36,48 @@ record OneRun (P : Program) (C : Sizes) (by : ℕ) (U : UpdateUnit) (ys : List T
   pub later : Tenant
   pub leads : Leads P C by (with_tenants U (ys ++ t ∷ ts)) steps (with_tenants U (ys ++ later ∷ ts))
   pub are : AllByRecursion IsDeliver steps
-  pub still : IsStill ts (operand k later)
+  pub still : SourceIsStill ts (operand k later)
   pub same : operand (other k) later ≡ operand (other k) t
   pub alike : IsAlike t later
 
-deliver_first : (P : Program) (C : Sizes) (by : ℕ) (U : UpdateUnit) (ys : List Tenant) (t : Tenant) (ts : List Tenant) (v : ℕ) → HasLink t.first → t.first.value ≡ None →
-    value_of ts t.first.creator ≡ Some v → OneRun P C by U ys t ts First
+deliver_first : (P : Program) (C : Sizes) (by : ℕ) (U : UpdateUnit) (ys : List Tenant) (t : Tenant) (ts : List Tenant) (v : ℕ) →
+    WasLinked t.first → t.first.value ≡ None → value_of ts t.first.creator ≡ Some v →
+    OneRun P C by U ys t ts First
 deliver_first P C by U ys t ts v w n g =
     record {
       steps = On (length ts) (Deliver First) ∷ [];
       later = delivered ts t First;
-      leads = leads_once P C by (with_tenants U (ys ++ t ∷ ts)) (with_tenants U (ys ++ delivered ts t First ∷ ts)) (On (length ts) (Deliver First))
-          (allowed_middle P C by U (Deliver First) ys t ts (record { in_time = w.0; way = w.1; waits = n; value = v; is_made = g })) (changed_middle P C by U (Deliver First) ys t ts);
+      leads = leads_once P C by (with_tenants U (ys ++ t ∷ ts)) (with_tenants U (ys ++ delivered ts t First ∷ ts)) (On (length ts) (Deliver First)) (allowed_middle P C by U (Deliver First) ys t ts (record { in_time = w.0; way = w.1; waits = n; value = v; is_made = g })) (changed_middle P C by U (Deliver First) ys t ts);
       are = (tt, tt);
       still = record { value = refl; way = λ q. w };
       same = refl;
       alike = record { station = refl; index = refl; half = refl; pc = refl; predicted = refl; next = refl; made = refl; fate = refl; standing = refl };
     }
 
-deliver_second : (P : Program) (C : Sizes) (by : ℕ) (U : UpdateUnit) (ys : List Tenant) (t : Tenant) (ts : List Tenant) (v : ℕ) → HasLink t.second → t.second.value ≡ None →
-    value_of ts t.second.creator ≡ Some v → OneRun P C by U ys t ts Second
+deliver_second : (P : Program) (C : Sizes) (by : ℕ) (U : UpdateUnit) (ys : List Tenant) (t : Tenant) (ts : List Tenant) (v : ℕ) →
+    WasLinked t.second → t.second.value ≡ None → value_of ts t.second.creator ≡ Some v →
+    OneRun P C by U ys t ts Second
 deliver_second P C by U ys t ts v w n g =
     record {
       steps = On (length ts) (Deliver Second) ∷ [];
       later = delivered ts t Second;
-      leads = leads_once P C by (with_tenants U (ys ++ t ∷ ts)) (with_tenants U (ys ++ delivered ts t Second ∷ ts)) (On (length ts) (Deliver Second))
-          (allowed_middle P C by U (Deliver Second) ys t ts (record { in_time = w.0; way = w.1; waits = n; value = v; is_made = g })) (changed_middle P C by U (Deliver Second) ys t ts);
+      leads = leads_once P C by (with_tenants U (ys ++ t ∷ ts)) (with_tenants U (ys ++ delivered ts t Second ∷ ts)) (On (length ts) (Deliver Second)) (allowed_middle P C by U (Deliver Second) ys t ts (record { in_time = w.0; way = w.1; waits = n; value = v; is_made = g })) (changed_middle P C by U (Deliver Second) ys t ts);
       are = (tt, tt);
       still = record { value = refl; way = λ q. w };
       same = refl;
       alike = record { station = refl; index = refl; half = refl; pc = refl; predicted = refl; next = refl; made = refl; fate = refl; standing = refl };
     }
 
-deliver : (P : Program) (C : Sizes) (by : ℕ) (U : UpdateUnit) (ys : List Tenant) (t : Tenant) (ts : List Tenant) (k : Source) (v : ℕ) → HasLink (operand k t) → (operand k t).value ≡ None →
-    value_of ts (operand k t).creator ≡ Some v → OneRun P C by U ys t ts k
+deliver : (P : Program) (C : Sizes) (by : ℕ) (U : UpdateUnit) (ys : List Tenant) (t : Tenant) (ts : List Tenant) (k : Source) (v : ℕ) →
+    WasLinked (operand k t) → (operand k t).value ≡ None → value_of ts (operand k t).creator ≡ Some v →
+    OneRun P C by U ys t ts k
 deliver P C by U ys t ts First v w n g = deliver_first P C by U ys t ts v w n g
 deliver P C by U ys t ts Second v w n g = deliver_second P C by U ys t ts v w n g
 
 one_run : (P : Program) (C : Sizes) (by : ℕ) (U : UpdateUnit) (ys : List Tenant) (t : Tenant) (ts : List Tenant) (k : Source) → IsAsked ts (operand k t) → OneRun P C by U ys t ts k
 one_run P C by U ys t ts k a = go (operand k t).value (value_of ts (operand k t).creator) refl refl
   where
-    nothing : IsStill ts (operand k t) → OneRun P C by U ys t ts k
+    nothing : SourceIsStill ts (operand k t) → OneRun P C by U ys t ts k
     nothing s = record { steps = []; later = t; leads = leads_nowhere P C by (with_tenants U (ys ++ t ∷ ts)); are = tt; still = s; same = refl; alike = alike_self t }
 
     go : (v g : Option ℕ) → (operand k t).value ≡ v → value_of ts (operand k t).creator ≡ g → OneRun P C by U ys t ts k
@@ -129,14 +130,7 @@ all_run P C by U ys (t ∷ ts) a = go (one_run P C by U ys t ts First a.0.0) (λ
                   later = two.later ∷ r.later;
                   leads = leads_more P C by V0 V2 (with_tenants U (ys ++ two.later ∷ r.later)) r.steps both reach rest;
                   are = all_more IsDeliver r.steps both r.are (all_more IsDeliver two.steps one.steps two.are one.are);
-                  still = (
-                    (
-                      still_alike ts r.later r.alike two.later.first (subst (IsStill ts) (sym two.same) one.still),
-                      still_alike ts r.later r.alike two.later.second two.still,
-                      subst IsNotBusy (sym (two.alike.fate ∙ one.alike.fate)) a.0.2,
-                    ),
-                    r.still,
-                  );
+                  still = ((still_alike ts r.later r.alike two.later.first (subst (SourceIsStill ts) (sym two.same) one.still), still_alike ts r.later r.alike two.later.second two.still, subst IsNotBusy (sym (two.alike.fate ∙ one.alike.fate)) a.0.2), r.still);
                   alike = (alike_both t one.later two.later one.alike two.alike, r.alike);
                 }
 
@@ -146,15 +140,10 @@ asked_old P [] s h = tt
 asked_old P (t ∷ ts) s h =
     ((record { value = s.0.own.first; way = h.0.0.way }, record { value = s.0.own.second; way = h.0.1.way }, h.0.2), asked_old P ts s.1 h.1)
 
-pub asked_middle : (P : Program) (ys : List Tenant) (t u : Tenant) (ts : List Tenant) → u.first ≡ t.first → u.second ≡ t.second → IsNotBusy u.fate → IsSound P (ys ++ u ∷ ts) →
-    AreStill (ys ++ t ∷ ts) → AreAsked (ys ++ u ∷ ts)
-asked_middle P [] t u ts e f n s h = (
-  (
-    record { value = s.0.own.first; way = λ q. subst HasLink (sym e) (h.0.0.way (sym (ap (λ x. x.value) e) ∙ q)) },
-    record { value = s.0.own.second; way = λ q. subst HasLink (sym f) (h.0.1.way (sym (ap (λ x. x.value) f) ∙ q)) },
-    n,
-  ),
-  asked_old P ts s.1 h.1,
-)
+pub asked_middle : (P : Program) (ys : List Tenant) (t u : Tenant) (ts : List Tenant) → u.first ≡ t.first →
+    u.second ≡ t.second → IsNotBusy u.fate → IsSound P (ys ++ u ∷ ts) → AreStill (ys ++ t ∷ ts) →
+    AreAsked (ys ++ u ∷ ts)
+asked_middle P [] t u ts e f n s h =
+    ((record { value = s.0.own.first; way = λ q. subst WasLinked (sym e) (h.0.0.way (sym (ap (λ x. x.value) e) ∙ q)) }, record { value = s.0.own.second; way = λ q. subst WasLinked (sym f) (h.0.1.way (sym (ap (λ x. x.value) f) ∙ q)) }, n), asked_old P ts s.1 h.1)
 asked_middle P (y ∷ ys) t u ts e f n s h =
     ((record { value = s.0.own.first; way = h.0.0.way }, record { value = s.0.own.second; way = h.0.1.way }, h.0.2), asked_middle P ys t u ts e f n s.1 h.1)

@@ -16,7 +16,7 @@ use Rattle.inorder.specs.Unit.{front_half, Sizes, UpdateUnit, creator, front_pc,
 use Rattle.inorder.proofs.Sound.{IsSound}
 use Rattle.inorder.proofs.Stations.{Stands}
 use Rattle.inorder.specs.Moves.{IsLink, Leads, with_let}
-use Rattle.inorder.specs.Still.{IsStill}
+use Rattle.inorder.specs.Still.{SourceIsStill}
 use Rattle.inorder.proofs.OneCaller.Alike.{IsAlike}
 use Rattle.inorder.proofs.OneCaller.Creators.{pending_may}
 use Rattle.inorder.proofs.OneCaller.Middle.{allowed_middle, changed_middle}
@@ -40,14 +40,16 @@ pub record LetRun (P : Program) (C : Sizes) (by : ℕ) (U : UpdateUnit) (index p
   pub tenant : Tenant
   pub leads : Leads P C by U (links ++ Let index predicted first second ∷ []) (with_let U tenant)
   pub alike : IsAlike (new_tenant P C U index predicted first second) tenant
-  pub first_still : IsStill U.tenants tenant.first
-  pub second_still : IsStill U.tenants tenant.second
+  pub first_still : SourceIsStill U.tenants tenant.first
+  pub second_still : SourceIsStill U.tenants tenant.second
 
-still_known : (U : List Tenant) (c : Option ℕ) (v : ℕ) → value_of U c ≡ Some v → IsStill U (let_operand c (Known v))
+still_known : (U : List Tenant) (c : Option ℕ) (v : ℕ) → value_of U c ≡ Some v → SourceIsStill U (let_operand c (Known v))
 still_known U c v e = record { value = sym e; way = λ n. let no : Some v ≡ None = n in absurd (cc) }
 
-pub let_run : (P : Program) (C : Sizes) (by : ℕ) (U : UpdateUnit) (index predicted : ℕ) → IsSound P U.tenants → Stands C U.tenants → U.fresh ≡ length U.tenants →
-    AllByRecursion IsNoRetiredStop U.tenants → MayEnter P C U index predicted → LetRun P C by U index predicted
+pub let_run : (P : Program) (C : Sizes) (by : ℕ) (U : UpdateUnit) (index predicted : ℕ) →
+    IsSound P U.tenants → Stands C U.tenants → U.fresh ≡ length U.tenants →
+    AllByRecursion IsNoRetiredStop U.tenants → MayEnter P C U index predicted →
+    LetRun P C by U index predicted
 let_run P C by U k pr s st never ns m = go (value_of ts c) (value_of ts d) refl refl
   where
     ts : List Tenant
@@ -82,12 +84,10 @@ let_run P C by U k pr s st never ns m = go (value_of ts c) (value_of ts d) refl 
     let_only f g a = leads_once P C by U (with_let U (new f g)) (Let k pr f g) a refl
 
     link_first : (t : Tenant) → t.first.way ≡ Rattle.inorder.specs.Tenants.Unlinked → Leads P C by (with_let U t) (On (length ts) (Link First) ∷ []) (with_let U (linked ts t First))
-    link_first t w = leads_once P C by (with_let U t) (with_let U (linked ts t First)) (On (length ts) (Link First)) (allowed_middle P C by (with_let U t) (Link First) [] t ts (record { way = w }))
-        (changed_middle P C by (with_let U t) (Link First) [] t ts)
+    link_first t w = leads_once P C by (with_let U t) (with_let U (linked ts t First)) (On (length ts) (Link First)) (allowed_middle P C by (with_let U t) (Link First) [] t ts (record { way = w })) (changed_middle P C by (with_let U t) (Link First) [] t ts)
 
     link_second : (t : Tenant) → t.second.way ≡ Rattle.inorder.specs.Tenants.Unlinked → Leads P C by (with_let U t) (On (length ts) (Link Second) ∷ []) (with_let U (linked ts t Second))
-    link_second t w = leads_once P C by (with_let U t) (with_let U (linked ts t Second)) (On (length ts) (Link Second))
-        (allowed_middle P C by (with_let U t) (Link Second) [] t ts (record { way = w })) (changed_middle P C by (with_let U t) (Link Second) [] t ts)
+    link_second t w = leads_once P C by (with_let U t) (with_let U (linked ts t Second)) (On (length ts) (Link Second)) (allowed_middle P C by (with_let U t) (Link Second) [] t ts (record { way = w })) (changed_middle P C by (with_let U t) (Link Second) [] t ts)
 
     go : (x y : Option ℕ) → value_of ts c ≡ x → value_of ts d ≡ y → LetRun P C by U k pr
     go (Some x) (Some y) ex ey =

@@ -1,5 +1,5 @@
 -- A link that died with its tenant, as a whole legal run.
-use Rattle.std.proofs.Common.{◌≡◌, List, [], ◌∷◌, replicate, Some, None, refl, sym, true, true≢false}
+use Rattle.std.proofs.Common.{◌≡◌, List, [], ◌∷◌, replicate, Some, None, refl}
 use Rattle.instructions.specs.Operations.{checked_address, computed_by, jump_target, loaded}
 use Rattle.instructions.specs.Programs.{Program, instr_at}
 use Rattle.instructions.specs.declared.op.Op.TheVariants.{Addiu, Addu, Beq, Break}
@@ -13,7 +13,9 @@ use Rattle.inorder.specs.OperandWords.{operand_word}
 use Rattle.inorder.specs.StationWords.{IsFree, live_word, station_word}
 use Rattle.inorder.specs.Tenants.{Busy, Done, Open, Tenant}
 use Rattle.inorder.specs.Unit.{Sizes, creator, recent}
-use Rattle.inorder.proofs.Runs.Examples.{apart, computes_not_links, done_not_stop, less, retired_not_live, squashed_not_live, squashed_not_retired, taken}
+use Rattle.inorder.proofs.Runs.Decided.{given}
+use Rattle.inorder.proofs.Runs.DecidedSteps.{are_allowed}
+use Rattle.inorder.proofs.Runs.Examples.{taken}
 
 -- addiu $1,$0,1 / addiu $3,$0,3 / beq $0,$0,E / addu $2,$1,$1 / E: addu $4,$3,$3 / break
 abbrev pub dead_link : Program
@@ -48,88 +50,7 @@ linked_on_the_wrong_path =
 
 linked_on_the_wrong_path_allowed : AreAllowed dead_link ring_of_four linked_on_the_wrong_path
 unfolding instr_at computed_by jump_target checked_address loaded
-linked_on_the_wrong_path_allowed = (
-  (
-    (
-      (
-        (
-          (
-            (
-              (
-                (
-                  tt,
-                  record {
-                    room = less _ _ refl;
-                    queue = λ e. absurd (true≢false (sym e));
-                    is_there = less _ _ refl;
-                    pc = refl;
-                    small = less _ _ refl;
-                    predicts = refl;
-                    first_is = refl;
-                    second_is = refl;
-                  },
-                ),
-                record {
-                  room = less _ _ refl;
-                  queue = λ e. absurd (true≢false (sym e));
-                  is_there = less _ _ refl;
-                  pc = refl;
-                  small = less _ _ refl;
-                  predicts = refl;
-                  first_is = refl;
-                  second_is = refl;
-                },
-              ),
-              record {
-                room = less _ _ refl;
-                queue = λ e. absurd (true≢false (sym e));
-                is_there = less _ _ refl;
-                pc = refl;
-                small = less _ _ refl;
-                predicts = tt;
-                first_is = refl;
-                second_is = refl;
-              },
-            ),
-            record {
-              room = less _ _ refl;
-              queue = λ e. absurd (true≢false (sym e));
-              is_there = less _ _ refl;
-              pc = refl;
-              small = less _ _ refl;
-              predicts = refl;
-              first_is = record {
-                p = 0;
-                tenant = _;
-                creates = refl;
-                is = refl;
-                waits = computes_not_links;
-                other = apart 0 3 refl;
-                last = (apart 2 0 refl, (apart 1 0 refl, tt));
-                new = refl;
-              };
-              second_is = record {
-                p = 0;
-                tenant = _;
-                creates = refl;
-                is = refl;
-                waits = computes_not_links;
-                other = apart 0 3 refl;
-                last = (apart 2 0 refl, (apart 1 0 refl, tt));
-                new = refl;
-              };
-            },
-          ),
-          record { tenant = _; is = refl; may = record { way = refl } },
-        ),
-        record { tenant = _; is = refl; may = record { way = refl } },
-      ),
-      record { tenant = _; is = refl; may = record { live = refl; fate = refl; needs = refl } },
-    ),
-    record { tenant = _; is = refl; may = record { live = refl; fate = refl; needs = refl } },
-  ),
-  record { tenant = _; is = refl; may = record { live = refl; fate = refl } },
-)
+linked_on_the_wrong_path_allowed = given (are_allowed dead_link ring_of_four linked_on_the_wrong_path) refl
 
 -- Its station is let again, and the new tenant is linked to another creator
 abbrev pub linked_elsewhere : List Taken
@@ -143,66 +64,7 @@ linked_elsewhere =
 
 linked_elsewhere_allowed : AreAllowed dead_link ring_of_four linked_elsewhere
 unfolding instr_at computed_by jump_target checked_address loaded
-linked_elsewhere_allowed = (
-  (
-    (
-      (
-        (
-          linked_on_the_wrong_path_allowed,
-          record {
-            tenant = _;
-            is = refl;
-            may = record {
-              live = refl;
-              youngest = tt;
-              p = 2;
-              miss = _;
-              x = 0x400010;
-              miss_at = refl;
-              miss_live = refl;
-              miss_fate = refl;
-            };
-          },
-        ),
-        record {
-          tenant = _;
-          is = refl;
-          may = record { live = refl; youngest = (squashed_not_live, tt); x = 0x400010; fate = refl };
-        },
-      ),
-      record {
-        room = less _ _ refl;
-        queue = λ e. absurd (true≢false (sym e));
-        is_there = less _ _ refl;
-        pc = refl;
-        small = less _ _ refl;
-        predicts = refl;
-        first_is = record {
-          p = 1;
-          tenant = _;
-          creates = refl;
-          is = refl;
-          waits = computes_not_links;
-          other = apart 1 3 refl;
-          last = (apart 3 1 refl, (apart 2 1 refl, tt));
-          new = refl;
-        };
-        second_is = record {
-          p = 1;
-          tenant = _;
-          creates = refl;
-          is = refl;
-          waits = computes_not_links;
-          other = apart 1 3 refl;
-          last = (apart 3 1 refl, (apart 2 1 refl, tt));
-          new = refl;
-        };
-      },
-    ),
-    record { tenant = _; is = refl; may = record { way = refl } },
-  ),
-  record { tenant = _; is = refl; may = record { way = refl } },
-)
+linked_elsewhere_allowed = given (are_allowed dead_link ring_of_four linked_elsewhere) refl
 
 -- The old links are served, and give the new tenant nothing
 abbrev pub old_link_served : List Taken
@@ -214,24 +76,7 @@ old_link_served =
 
 old_link_served_allowed : AreAllowed dead_link ring_of_four old_link_served
 unfolding instr_at computed_by jump_target checked_address loaded
-old_link_served_allowed = (
-  (
-    (
-      linked_elsewhere_allowed,
-      record { tenant = _; is = refl; may = record { live = refl; fate = refl } },
-    ),
-    record {
-      tenant = _;
-      is = refl;
-      may = record { in_time = true; way = refl; waits = refl; value = 1; is_made = refl };
-    },
-  ),
-  record {
-    tenant = _;
-    is = refl;
-    may = record { in_time = true; way = refl; waits = refl; value = 1; is_made = refl };
-  },
-)
+old_link_served_allowed = given (are_allowed dead_link ring_of_four old_link_served) refl
 
 -- The first instruction has retired, and the second is at work
 abbrev pub as_in_the_picture : List Taken
@@ -242,17 +87,7 @@ as_in_the_picture =
 
 as_in_the_picture_allowed : AreAllowed dead_link ring_of_four as_in_the_picture
 unfolding instr_at computed_by jump_target checked_address loaded
-as_in_the_picture_allowed = (
-  (
-    old_link_served_allowed,
-    record {
-      tenant = _;
-      is = refl;
-      may = record { small = less _ _ refl; live = refl; oldest = tt; no_stop = tt; can = tt };
-    },
-  ),
-  record { tenant = _; is = refl; may = record { live = refl; fate = refl; needs = refl } },
-)
+as_in_the_picture_allowed = given (are_allowed dead_link ring_of_four as_in_the_picture) refl
 
 -- The new tenant gets its own sources, and all retire in order
 abbrev pub links_ended : List Taken
@@ -273,121 +108,7 @@ links_ended =
 
 links_ended_allowed : AreAllowed dead_link ring_of_four links_ended
 unfolding instr_at computed_by jump_target checked_address loaded
-links_ended_allowed = (
-  (
-    (
-      (
-        (
-          (
-            (
-              (
-                (
-                  (
-                    (
-                      (
-                        as_in_the_picture_allowed,
-                        record { tenant = _; is = refl; may = record { live = refl; fate = refl } },
-                      ),
-                      record {
-                        tenant = _;
-                        is = refl;
-                        may = record {
-                          in_time = true;
-                          way = refl;
-                          waits = refl;
-                          value = 3;
-                          is_made = refl;
-                        };
-                      },
-                    ),
-                    record {
-                      tenant = _;
-                      is = refl;
-                      may = record { in_time = true; way = refl; waits = refl; value = 3; is_made = refl };
-                    },
-                  ),
-                  record { tenant = _; is = refl; may = record { live = refl; fate = refl; needs = refl } },
-                ),
-                record { tenant = _; is = refl; may = record { live = refl; fate = refl } },
-              ),
-              record {
-                tenant = _;
-                is = refl;
-                may = record {
-                  small = less _ _ refl;
-                  live = refl;
-                  oldest = (retired_not_live, tt);
-                  no_stop = ((λ e c. done_not_stop 1 c), tt);
-                  can = tt;
-                };
-              },
-            ),
-            record {
-              tenant = _;
-              is = refl;
-              may = record {
-                small = less _ _ refl;
-                live = refl;
-                oldest = (retired_not_live, (retired_not_live, tt));
-                no_stop = ((λ e c. done_not_stop 3 c), ((λ e c. done_not_stop 1 c), tt));
-                can = tt;
-              };
-            },
-          ),
-          record {
-            tenant = _;
-            is = refl;
-            may = record {
-              small = less _ _ refl;
-              live = refl;
-              oldest = (squashed_not_live, (retired_not_live, (retired_not_live, (retired_not_live, tt))));
-              no_stop = (
-                (λ e. absurd (squashed_not_retired e)),
-                (
-                  (λ e c. done_not_stop 0x400010 c),
-                  ((λ e c. done_not_stop 3 c), ((λ e c. done_not_stop 1 c), tt)),
-                ),
-              );
-              can = tt;
-            };
-          },
-        ),
-        record {
-          room = less _ _ refl;
-          queue = λ e. absurd (true≢false (sym e));
-          is_there = less _ _ refl;
-          pc = refl;
-          small = less _ _ refl;
-          predicts = refl;
-          first_is = refl;
-          second_is = refl;
-        },
-      ),
-      record { tenant = _; is = refl; may = record { live = refl; fate = refl; needs = refl } },
-    ),
-    record { tenant = _; is = refl; may = record { live = refl; fate = refl } },
-  ),
-  record {
-    tenant = _;
-    is = refl;
-    may = record {
-      small = less _ _ refl;
-      live = refl;
-      oldest = (
-        retired_not_live,
-        (squashed_not_live, (retired_not_live, (retired_not_live, (retired_not_live, tt)))),
-      );
-      no_stop = (
-        (λ e c. done_not_stop 6 c),
-        (
-          (λ e. absurd (squashed_not_retired e)),
-          ((λ e c. done_not_stop 0x400010 c), ((λ e c. done_not_stop 3 c), ((λ e c. done_not_stop 1 c), tt))),
-        ),
-      );
-      can = tt;
-    };
-  },
-)
+links_ended_allowed = given (are_allowed dead_link ring_of_four links_ended) refl
 
 -- The operands of station 3 are those of its new tenant, and still wait
 still_waits : (operand_word (recent (reached dead_link ring_of_four old_link_served)) 3 First ≡ Some

@@ -1,5 +1,5 @@
 -- Multiplications and divisions, computed by the definitions alone: in the in-order machine, and as two tenants of a unit.
-use Rattle.std.proofs.Common.{◌≡◌, ℕ, List, [], ◌∷◌, replicate, ◌++◌, Some, refl, true≢false, sym}
+use Rattle.std.proofs.Common.{◌≡◌, ℕ, List, [], ◌∷◌, replicate, ◌++◌, Some, refl}
 use Rattle.instructions.specs.declared.end.Ending.TheVariants.{Stop as ByStop, Limit as ByLimit}
 use Rattle.instructions.specs.declared.instr.Instr.{Instr}
 use Rattle.instructions.specs.declared.op.Half.TheVariants.{High}
@@ -15,7 +15,9 @@ use Rattle.inorder.specs.Committed.{ahead, committed}
 use Rattle.inorder.specs.Legal.{AreAllowed, Taken, reached}
 use Rattle.inorder.specs.Runs.{after, end_of}
 use Rattle.inorder.specs.Unit.{Sizes, front_half, front_pc}
-use Rattle.inorder.proofs.Runs.Examples.{done_not_stop, less, retired_not_live, taken}
+use Rattle.inorder.proofs.Runs.Decided.{given}
+use Rattle.inorder.proofs.Runs.DecidedSteps.{are_allowed}
+use Rattle.inorder.proofs.Runs.Examples.{taken}
 
 -- ---- in order
 
@@ -108,69 +110,7 @@ first_half_retired =
 
 first_half_retired_allowed : AreAllowed squares four_stations first_half_retired
 unfolding instr_at computed_by
-first_half_retired_allowed = (
-  (
-    (
-      (
-        (
-          (
-            (
-              (
-                tt,
-                record {
-                  room = less _ _ refl;
-                  queue = λ e. absurd (true≢false (sym e));
-                  is_there = less _ _ refl;
-                  pc = refl;
-                  small = less _ _ refl;
-                  predicts = refl;
-                  first_is = refl;
-                  second_is = refl;
-                },
-              ),
-              record { tenant = _; is = refl; may = record { live = refl; fate = refl; needs = refl } },
-            ),
-            record { tenant = _; is = refl; may = record { live = refl; fate = refl } },
-          ),
-          record {
-            tenant = _;
-            is = refl;
-            may = record {
-              small = less _ _ refl;
-              live = refl;
-              oldest = tt;
-              no_stop = tt;
-              can = tt;
-            };
-          },
-        ),
-        record {
-          room = less _ _ refl;
-          queue = λ e. absurd (true≢false (sym e));
-          is_there = less _ _ refl;
-          pc = refl;
-          small = less _ _ refl;
-          predicts = refl;
-          first_is = refl;
-          second_is = refl;
-        },
-      ),
-      record { tenant = _; is = refl; may = record { live = refl; fate = refl; needs = refl } },
-    ),
-    record { tenant = _; is = refl; may = record { live = refl; fate = refl } },
-  ),
-  record {
-    tenant = _;
-    is = refl;
-    may = record {
-      small = less _ _ refl;
-      live = refl;
-      oldest = (retired_not_live, tt);
-      no_stop = ((λ e c. done_not_stop 0xffffffff c), tt);
-      can = tt;
-    };
-  },
-)
+first_half_retired_allowed = given (are_allowed squares four_stations first_half_retired) refl
 
 -- the state before the pair is committed
 half_committed : Some (committed squares (reached squares four_stations first_half_retired).tenants) ≡ after squares 1
@@ -200,38 +140,7 @@ both_retired =
 
 both_retired_allowed : AreAllowed squares four_stations both_retired
 unfolding instr_at computed_by
-both_retired_allowed = (
-  (
-    (
-      (
-        first_half_retired_allowed,
-        record {
-          room = less _ _ refl;
-          queue = λ e. absurd (true≢false (sym e));
-          is_there = less _ _ refl;
-          pc = refl;
-          small = less _ _ refl;
-          predicts = refl;
-          first_is = refl;
-          second_is = refl;
-        },
-      ),
-      record { tenant = _; is = refl; may = record { live = refl; fate = refl; needs = refl } },
-    ),
-    record { tenant = _; is = refl; may = record { live = refl; fate = refl } },
-  ),
-  record {
-    tenant = _;
-    is = refl;
-    may = record {
-      small = less _ _ refl;
-      live = refl;
-      oldest = (retired_not_live, (retired_not_live, tt));
-      no_stop = ((λ e c. done_not_stop 1 c), ((λ e c. done_not_stop 0xffffffff c), tt));
-      can = tt;
-    };
-  },
-)
+both_retired_allowed = given (are_allowed squares four_stations both_retired) refl
 
 both_committed : Some (committed squares (reached squares four_stations both_retired).tenants) ≡ after squares 2
 unfolding instr_at computed_by

@@ -1,5 +1,5 @@
 -- A station let again while a job of its old tenant is out, as a whole legal run.
-use Rattle.std.proofs.Common.{◌≡◌, List, [], ◌∷◌, replicate, refl, sym, true≢false}
+use Rattle.std.proofs.Common.{◌≡◌, List, [], ◌∷◌, replicate, refl}
 use Rattle.instructions.specs.Operations.{checked_address, computed_by, jump_target, loaded}
 use Rattle.instructions.specs.Programs.{Program, instr_at}
 use Rattle.instructions.specs.declared.op.Op.TheVariants.{Addiu, Beq, Break}
@@ -11,7 +11,9 @@ use Rattle.inorder.specs.Legal.{AreAllowed, Taken, reached}
 use Rattle.inorder.specs.StationWords.{live_word, station_word}
 use Rattle.inorder.specs.Tenants.{Open}
 use Rattle.inorder.specs.Unit.{Sizes, recent}
-use Rattle.inorder.proofs.Runs.Examples.{done_not_stop, less, retired_not_live, squashed_not_live, squashed_not_retired, taken}
+use Rattle.inorder.proofs.Runs.Decided.{given}
+use Rattle.inorder.proofs.Runs.DecidedSteps.{are_allowed}
+use Rattle.inorder.proofs.Runs.Examples.{taken}
 
 -- beq $0,$0,E / addiu $1,$0,1 / E: addiu $2,$0,2 / break
 abbrev pub relets : Program
@@ -41,52 +43,7 @@ job_on_the_wrong_path =
 
 job_on_the_wrong_path_allowed : AreAllowed relets four job_on_the_wrong_path
 unfolding instr_at computed_by jump_target checked_address loaded
-job_on_the_wrong_path_allowed = (
-  (
-    (
-      (
-        (
-          (
-            tt,
-            record {
-              room = less _ _ refl;
-              queue = λ e. absurd (true≢false (sym e));
-              is_there = less _ _ refl;
-              pc = refl;
-              small = less _ _ refl;
-              predicts = tt;
-              first_is = refl;
-              second_is = refl;
-            },
-          ),
-          record {
-            room = less _ _ refl;
-            queue = λ e. absurd (true≢false (sym e));
-            is_there = less _ _ refl;
-            pc = refl;
-            small = less _ _ refl;
-            predicts = refl;
-            first_is = refl;
-            second_is = refl;
-          },
-        ),
-        record {
-          room = less _ _ refl;
-          queue = λ e. absurd (true≢false (sym e));
-          is_there = less _ _ refl;
-          pc = refl;
-          small = less _ _ refl;
-          predicts = refl;
-          first_is = refl;
-          second_is = refl;
-        },
-      ),
-      record { tenant = _; is = refl; may = record { live = refl; fate = refl; needs = refl } },
-    ),
-    record { tenant = _; is = refl; may = record { live = refl; fate = refl; needs = refl } },
-  ),
-  record { tenant = _; is = refl; may = record { live = refl; fate = refl } },
-)
+job_on_the_wrong_path_allowed = given (are_allowed relets four job_on_the_wrong_path) refl
 
 -- Its station is let again, under the next tag
 abbrev pub relet : List Taken
@@ -99,63 +56,7 @@ relet =
 
 relet_allowed : AreAllowed relets four relet
 unfolding instr_at computed_by jump_target checked_address loaded
-relet_allowed = (
-  (
-    (
-      (
-        job_on_the_wrong_path_allowed,
-        record {
-          tenant = _;
-          is = refl;
-          may = record {
-            live = refl;
-            youngest = tt;
-            p = 0;
-            miss = _;
-            x = 0x400008;
-            miss_at = refl;
-            miss_live = refl;
-            miss_fate = refl;
-          };
-        },
-      ),
-      record {
-        tenant = _;
-        is = refl;
-        may = record {
-          live = refl;
-          youngest = (squashed_not_live, tt);
-          p = 0;
-          miss = _;
-          x = 0x400008;
-          miss_at = refl;
-          miss_live = refl;
-          miss_fate = refl;
-        };
-      },
-    ),
-    record {
-      tenant = _;
-      is = refl;
-      may = record {
-        live = refl;
-        youngest = (squashed_not_live, (squashed_not_live, tt));
-        x = 0x400008;
-        fate = refl;
-      };
-    },
-  ),
-  record {
-    room = less _ _ refl;
-    queue = λ e. absurd (true≢false (sym e));
-    is_there = less _ _ refl;
-    pc = refl;
-    small = less _ _ refl;
-    predicts = refl;
-    first_is = refl;
-    second_is = refl;
-  },
-)
+relet_allowed = given (are_allowed relets four relet) refl
 
 -- All retire in order; the old job is never finished
 abbrev pub relet_ended : List Taken
@@ -172,73 +73,7 @@ relet_ended =
 
 relet_ended_allowed : AreAllowed relets four relet_ended
 unfolding instr_at computed_by jump_target checked_address loaded
-relet_ended_allowed = (
-  (
-    (
-      (
-        (
-          (
-            (
-              (
-                relet_allowed,
-                record { tenant = _; is = refl; may = record { live = refl; fate = refl; needs = refl } },
-              ),
-              record { tenant = _; is = refl; may = record { live = refl; fate = refl } },
-            ),
-            record {
-              tenant = _;
-              is = refl;
-              may = record { small = less _ _ refl; live = refl; oldest = tt; no_stop = tt; can = tt };
-            },
-          ),
-          record {
-            tenant = _;
-            is = refl;
-            may = record {
-              small = less _ _ refl;
-              live = refl;
-              oldest = (squashed_not_live, (squashed_not_live, (retired_not_live, tt)));
-              no_stop = (
-                (λ e. absurd (squashed_not_retired e)),
-                ((λ e. absurd (squashed_not_retired e)), ((λ e c. done_not_stop 0x400008 c), tt)),
-              );
-              can = tt;
-            };
-          },
-        ),
-        record {
-          room = less _ _ refl;
-          queue = λ e. absurd (true≢false (sym e));
-          is_there = less _ _ refl;
-          pc = refl;
-          small = less _ _ refl;
-          predicts = refl;
-          first_is = refl;
-          second_is = refl;
-        },
-      ),
-      record { tenant = _; is = refl; may = record { live = refl; fate = refl; needs = refl } },
-    ),
-    record { tenant = _; is = refl; may = record { live = refl; fate = refl } },
-  ),
-  record {
-    tenant = _;
-    is = refl;
-    may = record {
-      small = less _ _ refl;
-      live = refl;
-      oldest = (retired_not_live, (squashed_not_live, (squashed_not_live, (retired_not_live, tt))));
-      no_stop = (
-        (λ e c. done_not_stop 2 c),
-        (
-          (λ e. absurd (squashed_not_retired e)),
-          ((λ e. absurd (squashed_not_retired e)), ((λ e c. done_not_stop 0x400008 c), tt)),
-        ),
-      );
-      can = tt;
-    };
-  },
-)
+relet_ended_allowed = given (are_allowed relets four relet_ended) refl
 
 -- Station 1 shows the new tenant, open, with tag 2
 relet_word : station_word four (recent (reached relets four relet)) 1 ≡ live_word 2 Open

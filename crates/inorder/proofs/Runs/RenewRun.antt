@@ -13,7 +13,9 @@ use Rattle.inorder.specs.Legal.{Allowed, AreAllowed, Taken, reached}
 use Rattle.inorder.specs.Runs.{after}
 use Rattle.inorder.specs.StationWords.{IsFree, IsOpen, station_word}
 use Rattle.inorder.specs.Unit.{Sizes, is_old, recent}
-use Rattle.inorder.proofs.Runs.Examples.{done_not_stop, less, retired_not_live, taken}
+use Rattle.inorder.proofs.Runs.Decided.{given}
+use Rattle.inorder.proofs.Runs.DecidedSteps.{are_allowed}
+use Rattle.inorder.proofs.Runs.Examples.{taken}
 use Rattle.inorder.proofs.Runs.PairRun.{instr, program}
 
 -- addiu $1,$0,1 / addiu $1,$1,1 / break
@@ -31,35 +33,7 @@ once =
 
 once_allowed : AreAllowed counts two_stations once
 unfolding instr_at computed_by
-once_allowed = (
-  (
-    (
-      (
-        (
-          tt,
-          record {
-            room = less _ _ refl;
-            queue = λ e. absurd (true≢false (sym e));
-            is_there = less _ _ refl;
-            pc = refl;
-            small = less _ _ refl;
-            predicts = refl;
-            first_is = refl;
-            second_is = refl;
-          },
-        ),
-        record { tenant = _; is = refl; may = record { live = refl; fate = refl; needs = refl } },
-      ),
-      record { tenant = _; is = refl; may = record { live = refl; fate = refl } },
-    ),
-    record {
-      tenant = _;
-      is = refl;
-      may = record { small = less _ _ refl; live = refl; oldest = tt; no_stop = tt; can = tt };
-    },
-  ),
-  record { none = (retired_not_live, tt); goes_on = ((λ e c. done_not_stop 1 c), tt) },
-)
+once_allowed = given (are_allowed counts two_stations once) refl
 
 -- the second takes the value of the first, which is of before, and the core was renewed again
 abbrev twice : List Taken
@@ -69,44 +43,7 @@ twice =
 
 twice_allowed : AreAllowed counts two_stations twice
 unfolding instr_at computed_by
-twice_allowed = (
-  (
-    (
-      (
-        (
-          once_allowed,
-          record {
-            room = less _ _ refl;
-            queue = λ e. absurd (true≢false (sym e));
-            is_there = less _ _ refl;
-            pc = refl;
-            small = less _ _ refl;
-            predicts = refl;
-            first_is = refl;
-            second_is = refl;
-          },
-        ),
-        record { tenant = _; is = refl; may = record { live = refl; fate = refl; needs = refl } },
-      ),
-      record { tenant = _; is = refl; may = record { live = refl; fate = refl } },
-    ),
-    record {
-      tenant = _;
-      is = refl;
-      may = record {
-        small = less _ _ refl;
-        live = refl;
-        oldest = (retired_not_live, tt);
-        no_stop = ((λ e c. done_not_stop 1 c), tt);
-        can = tt;
-      };
-    },
-  ),
-  record {
-    none = (retired_not_live, (retired_not_live, tt));
-    goes_on = ((λ e c. done_not_stop 2 c), ((λ e c. done_not_stop 1 c), tt));
-  },
-)
+twice_allowed = given (are_allowed counts two_stations twice) refl
 
 -- the stop takes the first station, with the first tag, again
 abbrev stop_let : List Taken
@@ -114,19 +51,7 @@ stop_let = taken 0 (Let 2 0x0040000c (Known 0) (Known 0)) ∷ twice
 
 stop_let_allowed : AreAllowed counts two_stations stop_let
 unfolding instr_at computed_by
-stop_let_allowed = (
-  twice_allowed,
-  record {
-    room = less _ _ refl;
-    queue = λ e. absurd (true≢false (sym e));
-    is_there = less _ _ refl;
-    pc = refl;
-    small = less _ _ refl;
-    predicts = refl;
-    first_is = refl;
-    second_is = refl;
-  },
-)
+stop_let_allowed = given (are_allowed counts two_stations stop_let) refl
 
 renewed_free : station_word two_stations (recent (reached counts two_stations twice)) 0 ≡ record { tag = 1; state = IsFree; value = Some 0 }
 unfolding instr_at computed_by

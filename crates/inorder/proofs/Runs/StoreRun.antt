@@ -1,5 +1,5 @@
 -- Loads over live stores, as whole legal runs.
-use Rattle.std.proofs.Common.{◌≡◌, List, [], ◌∷◌, replicate, refl, sym, true, true≢false}
+use Rattle.std.proofs.Common.{◌≡◌, List, [], ◌∷◌, replicate, refl}
 use Rattle.instructions.specs.Operations.{checked_address, computed_by, jump_target, loaded}
 use Rattle.instructions.specs.Programs.{Program, instr_at}
 use Rattle.instructions.specs.declared.op.Op.TheVariants.{Addiu, Break, Lw, Sb, Sw}
@@ -10,7 +10,9 @@ use Rattle.inorder.specs.declared.history.Supply.TheVariants.{From, Known}
 use Rattle.inorder.specs.Committed.{committed}
 use Rattle.inorder.specs.Legal.{AreAllowed, Taken, reached}
 use Rattle.inorder.specs.Unit.{Sizes}
-use Rattle.inorder.proofs.Runs.Examples.{addr_not_stop, apart, computes_not_links, computes_not_stores, done_not_stop, less, retired_not_live, taken}
+use Rattle.inorder.proofs.Runs.Decided.{given}
+use Rattle.inorder.proofs.Runs.DecidedSteps.{are_allowed}
+use Rattle.inorder.proofs.Runs.Examples.{taken}
 
 -- .space 4 / addiu $1,$0,-1 / sw $1,0($0) / sb $0,1($0) / lw $2,0($0) / break
 abbrev pub bytes_and_words : Program
@@ -46,85 +48,7 @@ stores_have_addresses =
 
 stores_have_addresses_allowed : AreAllowed bytes_and_words four_entries stores_have_addresses
 unfolding instr_at computed_by jump_target checked_address loaded
-stores_have_addresses_allowed = (
-  (
-    (
-      (
-        (
-          (
-            (
-              (
-                (
-                  (
-                    (
-                      tt,
-                      record {
-                        room = less _ _ refl;
-                        queue = λ e. absurd (true≢false (sym e));
-                        is_there = less _ _ refl;
-                        pc = refl;
-                        small = less _ _ refl;
-                        predicts = refl;
-                        first_is = refl;
-                        second_is = refl;
-                      },
-                    ),
-                    record {
-                      room = less _ _ refl;
-                      queue = λ e. less _ _ refl;
-                      is_there = less _ _ refl;
-                      pc = refl;
-                      small = less _ _ refl;
-                      predicts = refl;
-                      first_is = refl;
-                      second_is = record {
-                        p = 0;
-                        tenant = _;
-                        creates = refl;
-                        is = refl;
-                        waits = computes_not_links;
-                        other = apart 0 1 refl;
-                        last = tt;
-                        new = refl;
-                      };
-                    },
-                  ),
-                  record { tenant = _; is = refl; may = record { way = refl } },
-                ),
-                record {
-                  room = less _ _ refl;
-                  queue = λ e. less _ _ refl;
-                  is_there = less _ _ refl;
-                  pc = refl;
-                  small = less _ _ refl;
-                  predicts = refl;
-                  first_is = refl;
-                  second_is = refl;
-                },
-              ),
-              record {
-                room = less _ _ refl;
-                queue = λ e. less _ _ refl;
-                is_there = less _ _ refl;
-                pc = refl;
-                small = less _ _ refl;
-                predicts = refl;
-                first_is = refl;
-                second_is = refl;
-              },
-            ),
-            record { tenant = _; is = refl; may = record { live = refl; fate = refl; needs = refl } },
-          ),
-          record { tenant = _; is = refl; may = record { live = refl; fate = refl } },
-        ),
-        record { tenant = _; is = refl; may = record { live = refl; fate = refl; needs = refl } },
-      ),
-      record { tenant = _; is = refl; may = record { live = refl; fate = refl } },
-    ),
-    record { tenant = _; is = refl; may = record { live = refl; fate = refl; needs = refl } },
-  ),
-  record { tenant = _; is = refl; may = record { live = refl; fate = refl } },
-)
+stores_have_addresses_allowed = given (are_allowed bytes_and_words four_entries stores_have_addresses) refl
 
 -- The load takes three bytes of the word store and one of the byte store
 abbrev pub word_read : List Taken
@@ -137,35 +61,7 @@ word_read =
 
 word_read_allowed : AreAllowed bytes_and_words four_entries word_read
 unfolding instr_at computed_by jump_target checked_address loaded
-word_read_allowed = (
-  (
-    (
-      (
-        stores_have_addresses_allowed,
-        record { tenant = _; is = refl; may = record { live = refl; fate = refl; needs = refl } },
-      ),
-      record { tenant = _; is = refl; may = record { live = refl; fate = refl } },
-    ),
-    record {
-      tenant = _;
-      is = refl;
-      may = record { in_time = true; way = refl; waits = refl; value = 0xffffffff; is_made = refl };
-    },
-  ),
-  record {
-    tenant = _;
-    is = refl;
-    may = record {
-      live = refl;
-      kind = refl;
-      a = 0;
-      fate = refl;
-      addresses = ((λ l k. (1, refl)), ((λ l k. (0, refl)), ((λ l k. absurd (computes_not_stores k)), tt)));
-      bytes = 0xffff00ff;
-      read = refl;
-    };
-  },
-)
+word_read_allowed = given (are_allowed bytes_and_words four_entries word_read) refl
 
 -- All retire in order
 abbrev pub bytes_ended : List Taken
@@ -182,90 +78,7 @@ bytes_ended =
 
 bytes_ended_allowed : AreAllowed bytes_and_words four_entries bytes_ended
 unfolding instr_at computed_by jump_target checked_address loaded
-bytes_ended_allowed = (
-  (
-    (
-      (
-        (
-          (
-            (
-              (
-                word_read_allowed,
-                record {
-                  tenant = _;
-                  is = refl;
-                  may = record { small = less _ _ refl; live = refl; oldest = tt; no_stop = tt; can = tt };
-                },
-              ),
-              record {
-                room = less _ _ refl;
-                queue = λ e. absurd (true≢false (sym e));
-                is_there = less _ _ refl;
-                pc = refl;
-                small = less _ _ refl;
-                predicts = refl;
-                first_is = refl;
-                second_is = refl;
-              },
-            ),
-            record {
-              tenant = _;
-              is = refl;
-              may = record {
-                small = less _ _ refl;
-                live = refl;
-                oldest = (retired_not_live, tt);
-                no_stop = ((λ e c. done_not_stop 0xffffffff c), tt);
-                can = (refl, (0xffffffff, refl));
-              };
-            },
-          ),
-          record {
-            tenant = _;
-            is = refl;
-            may = record {
-              small = less _ _ refl;
-              live = refl;
-              oldest = (retired_not_live, (retired_not_live, tt));
-              no_stop = ((λ e c. addr_not_stop 0 c), ((λ e c. done_not_stop 0xffffffff c), tt));
-              can = (refl, (0, refl));
-            };
-          },
-        ),
-        record {
-          tenant = _;
-          is = refl;
-          may = record {
-            small = less _ _ refl;
-            live = refl;
-            oldest = (retired_not_live, (retired_not_live, (retired_not_live, tt)));
-            no_stop = (
-              (λ e c. addr_not_stop 1 c),
-              ((λ e c. addr_not_stop 0 c), ((λ e c. done_not_stop 0xffffffff c), tt)),
-            );
-            can = tt;
-          };
-        },
-      ),
-      record { tenant = _; is = refl; may = record { live = refl; fate = refl; needs = refl } },
-    ),
-    record { tenant = _; is = refl; may = record { live = refl; fate = refl } },
-  ),
-  record {
-    tenant = _;
-    is = refl;
-    may = record {
-      small = less _ _ refl;
-      live = refl;
-      oldest = (retired_not_live, (retired_not_live, (retired_not_live, (retired_not_live, tt))));
-      no_stop = (
-        (λ e c. done_not_stop 0xffff00ff c),
-        ((λ e c. addr_not_stop 1 c), ((λ e c. addr_not_stop 0 c), ((λ e c. done_not_stop 0xffffffff c), tt))),
-      );
-      can = tt;
-    };
-  },
-)
+bytes_ended_allowed = given (are_allowed bytes_and_words four_entries bytes_ended) refl
 
 -- The byte store is seen in the word that was loaded, and in memory
 bytes_committed : committed bytes_and_words (reached bytes_and_words four_entries bytes_ended).tenants ≡
@@ -307,73 +120,7 @@ load_has_address =
 
 load_has_address_allowed : AreAllowed forwards two_entries load_has_address
 unfolding instr_at computed_by jump_target checked_address loaded
-load_has_address_allowed = (
-  (
-    (
-      (
-        (
-          (
-            (
-              tt,
-              record {
-                room = less _ _ refl;
-                queue = λ e. absurd (true≢false (sym e));
-                is_there = less _ _ refl;
-                pc = refl;
-                small = less _ _ refl;
-                predicts = refl;
-                first_is = refl;
-                second_is = refl;
-              },
-            ),
-            record {
-              room = less _ _ refl;
-              queue = λ e. less _ _ refl;
-              is_there = less _ _ refl;
-              pc = refl;
-              small = less _ _ refl;
-              predicts = refl;
-              first_is = refl;
-              second_is = record {
-                p = 0;
-                tenant = _;
-                creates = refl;
-                is = refl;
-                waits = computes_not_links;
-                other = apart 0 1 refl;
-                last = tt;
-                new = refl;
-              };
-            },
-          ),
-          record { tenant = _; is = refl; may = record { way = refl } },
-        ),
-        record {
-          room = less _ _ refl;
-          queue = λ e. less _ _ refl;
-          is_there = less _ _ refl;
-          pc = refl;
-          small = less _ _ refl;
-          predicts = refl;
-          first_is = refl;
-          second_is = refl;
-        },
-      ),
-      record {
-        room = less _ _ refl;
-        queue = λ e. absurd (true≢false (sym e));
-        is_there = less _ _ refl;
-        pc = refl;
-        small = less _ _ refl;
-        predicts = refl;
-        first_is = refl;
-        second_is = refl;
-      },
-    ),
-    record { tenant = _; is = refl; may = record { live = refl; fate = refl; needs = refl } },
-  ),
-  record { tenant = _; is = refl; may = record { live = refl; fate = refl } },
-)
+load_has_address_allowed = given (are_allowed forwards two_entries load_has_address) refl
 
 -- The store has address and data, and the load takes its word while the store is live
 abbrev pub word_forwarded : List Taken
@@ -388,41 +135,7 @@ word_forwarded =
 
 word_forwarded_allowed : AreAllowed forwards two_entries word_forwarded
 unfolding instr_at computed_by jump_target checked_address loaded
-word_forwarded_allowed = (
-  (
-    (
-      (
-        (
-          (
-            load_has_address_allowed,
-            record { tenant = _; is = refl; may = record { live = refl; fate = refl; needs = refl } },
-          ),
-          record { tenant = _; is = refl; may = record { live = refl; fate = refl } },
-        ),
-        record { tenant = _; is = refl; may = record { live = refl; fate = refl; needs = refl } },
-      ),
-      record { tenant = _; is = refl; may = record { live = refl; fate = refl } },
-    ),
-    record {
-      tenant = _;
-      is = refl;
-      may = record { in_time = true; way = refl; waits = refl; value = 7; is_made = refl };
-    },
-  ),
-  record {
-    tenant = _;
-    is = refl;
-    may = record {
-      live = refl;
-      kind = refl;
-      a = 0;
-      fate = refl;
-      addresses = ((λ l k. (0, refl)), ((λ l k. absurd (computes_not_stores k)), tt));
-      bytes = 7;
-      read = refl;
-    };
-  },
-)
+word_forwarded_allowed = given (are_allowed forwards two_entries word_forwarded) refl
 
 -- All retire in order
 abbrev pub forward_ended : List Taken
@@ -437,59 +150,7 @@ forward_ended =
 
 forward_ended_allowed : AreAllowed forwards two_entries forward_ended
 unfolding instr_at computed_by jump_target checked_address loaded
-forward_ended_allowed = (
-  (
-    (
-      (
-        (
-          (
-            word_forwarded_allowed,
-            record {
-              tenant = _;
-              is = refl;
-              may = record { small = less _ _ refl; live = refl; oldest = tt; no_stop = tt; can = tt };
-            },
-          ),
-          record {
-            tenant = _;
-            is = refl;
-            may = record {
-              small = less _ _ refl;
-              live = refl;
-              oldest = (retired_not_live, tt);
-              no_stop = ((λ e c. done_not_stop 7 c), tt);
-              can = (refl, (7, refl));
-            };
-          },
-        ),
-        record {
-          tenant = _;
-          is = refl;
-          may = record {
-            small = less _ _ refl;
-            live = refl;
-            oldest = (retired_not_live, (retired_not_live, tt));
-            no_stop = ((λ e c. addr_not_stop 0 c), ((λ e c. done_not_stop 7 c), tt));
-            can = tt;
-          };
-        },
-      ),
-      record { tenant = _; is = refl; may = record { live = refl; fate = refl; needs = refl } },
-    ),
-    record { tenant = _; is = refl; may = record { live = refl; fate = refl } },
-  ),
-  record {
-    tenant = _;
-    is = refl;
-    may = record {
-      small = less _ _ refl;
-      live = refl;
-      oldest = (retired_not_live, (retired_not_live, (retired_not_live, tt)));
-      no_stop = ((λ e c. done_not_stop 7 c), ((λ e c. addr_not_stop 0 c), ((λ e c. done_not_stop 7 c), tt)));
-      can = tt;
-    };
-  },
-)
+forward_ended_allowed = given (are_allowed forwards two_entries forward_ended) refl
 
 forward_committed : committed forwards (reached forwards two_entries forward_ended).tenants ≡
     record { registers = 0 ∷ 7 ∷ 7 ∷ replicate 31 0; memory = 7 ∷ 0 ∷ 0 ∷ 0 ∷ []; pc = 0x0040000c; count = 3 }

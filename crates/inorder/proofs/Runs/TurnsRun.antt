@@ -1,5 +1,5 @@
 -- The turns of the one-thread program on a mispredicted branch, as a whole legal run.
-use Rattle.std.proofs.Common.{◌≡◌, List, [], ◌∷◌, replicate, refl, sym, true≢false}
+use Rattle.std.proofs.Common.{◌≡◌, List, [], ◌∷◌, replicate, refl}
 use Rattle.instructions.specs.Operations.{checked_address, computed_by, jump_target, loaded}
 use Rattle.instructions.specs.Programs.{Program, instr_at}
 use Rattle.instructions.specs.declared.op.Op.TheVariants.{Beq, Break, Lw}
@@ -9,7 +9,9 @@ use Rattle.inorder.specs.declared.history.Supply.TheVariants.{Known}
 use Rattle.inorder.specs.Committed.{committed}
 use Rattle.inorder.specs.Legal.{AreAllowed, Taken, reached}
 use Rattle.inorder.specs.Unit.{Sizes}
-use Rattle.inorder.proofs.Runs.Examples.{done_not_stop, less, retired_not_live, squashed_not_live, squashed_not_retired, taken}
+use Rattle.inorder.proofs.Runs.Decided.{given}
+use Rattle.inorder.proofs.Runs.DecidedSteps.{are_allowed}
+use Rattle.inorder.proofs.Runs.Examples.{taken}
 
 -- beq $0,$0,E / lw $1,1($0) / E: break
 abbrev skips : Program
@@ -37,49 +39,7 @@ four_turns =
 
 four_turns_allowed : AreAllowed skips four_stations four_turns
 unfolding instr_at computed_by jump_target checked_address loaded
-four_turns_allowed = (
-  (
-    (
-      (
-        (
-          tt,
-          record {
-            room = less _ _ refl;
-            queue = λ e. absurd (true≢false (sym e));
-            is_there = less _ _ refl;
-            pc = refl;
-            small = less _ _ refl;
-            predicts = tt;
-            first_is = refl;
-            second_is = refl;
-          },
-        ),
-        record {
-          room = less _ _ refl;
-          queue = λ e. less _ _ refl;
-          is_there = less _ _ refl;
-          pc = refl;
-          small = less _ _ refl;
-          predicts = refl;
-          first_is = refl;
-          second_is = refl;
-        },
-      ),
-      record {
-        room = less _ _ refl;
-        queue = λ e. absurd (true≢false (sym e));
-        is_there = less _ _ refl;
-        pc = refl;
-        small = less _ _ refl;
-        predicts = refl;
-        first_is = refl;
-        second_is = refl;
-      },
-    ),
-    record { tenant = _; is = refl; may = record { live = refl; fate = refl; needs = refl } },
-  ),
-  record { tenant = _; is = refl; may = record { live = refl; fate = refl } },
-)
+four_turns_allowed = given (are_allowed skips four_stations four_turns) refl
 
 -- Recovered: the two on the wrong path are squashed, the youngest first, and the branch is mended
 abbrev recovery_turn : List Taken
@@ -91,51 +51,7 @@ recovery_turn =
 
 recovery_turn_allowed : AreAllowed skips four_stations recovery_turn
 unfolding instr_at computed_by jump_target checked_address loaded
-recovery_turn_allowed = (
-  (
-    (
-      four_turns_allowed,
-      record {
-        tenant = _;
-        is = refl;
-        may = record {
-          live = refl;
-          youngest = tt;
-          p = 0;
-          miss = _;
-          x = 0x400008;
-          miss_at = refl;
-          miss_live = refl;
-          miss_fate = refl;
-        };
-      },
-    ),
-    record {
-      tenant = _;
-      is = refl;
-      may = record {
-        live = refl;
-        youngest = (squashed_not_live, tt);
-        p = 0;
-        miss = _;
-        x = 0x400008;
-        miss_at = refl;
-        miss_live = refl;
-        miss_fate = refl;
-      };
-    },
-  ),
-  record {
-    tenant = _;
-    is = refl;
-    may = record {
-      live = refl;
-      youngest = (squashed_not_live, (squashed_not_live, tt));
-      x = 0x400008;
-      fate = refl;
-    };
-  },
-)
+recovery_turn_allowed = given (are_allowed skips four_stations recovery_turn) refl
 
 -- Let, Ran, Retired, and the turn that ends the unit
 abbrev last_turns : List Taken
@@ -149,48 +65,7 @@ last_turns =
 
 last_turns_allowed : AreAllowed skips four_stations last_turns
 unfolding instr_at computed_by jump_target checked_address loaded
-last_turns_allowed = (
-  (
-    (
-      (
-        (
-          recovery_turn_allowed,
-          record {
-            room = less _ _ refl;
-            queue = λ e. absurd (true≢false (sym e));
-            is_there = less _ _ refl;
-            pc = refl;
-            small = less _ _ refl;
-            predicts = refl;
-            first_is = refl;
-            second_is = refl;
-          },
-        ),
-        record { tenant = _; is = refl; may = record { live = refl; fate = refl; needs = refl } },
-      ),
-      record { tenant = _; is = refl; may = record { live = refl; fate = refl } },
-    ),
-    record {
-      tenant = _;
-      is = refl;
-      may = record { small = less _ _ refl; live = refl; oldest = tt; no_stop = tt; can = tt };
-    },
-  ),
-  record {
-    tenant = _;
-    is = refl;
-    may = record {
-      small = less _ _ refl;
-      live = refl;
-      oldest = (squashed_not_live, (squashed_not_live, (retired_not_live, tt)));
-      no_stop = (
-        (λ e. absurd (squashed_not_retired e)),
-        ((λ e. absurd (squashed_not_retired e)), ((λ e c. done_not_stop 0x400008 c), tt)),
-      );
-      can = tt;
-    };
-  },
-)
+last_turns_allowed = given (are_allowed skips four_stations last_turns) refl
 
 turns_committed : committed skips (reached skips four_stations last_turns).tenants ≡
     record { registers = replicate 34 0; memory = []; pc = 0x00400008; count = 1 }

@@ -1,5 +1,5 @@
 -- A fault on the wrong path, squashed by recovery, as a whole legal run.
-use Rattle.std.proofs.Common.{◌≡◌, List, [], ◌∷◌, replicate, Some, refl, sym, true≢false}
+use Rattle.std.proofs.Common.{◌≡◌, List, [], ◌∷◌, replicate, Some, refl}
 use Rattle.instructions.specs.declared.stop.Stop.TheVariants.{Break as BreakStop}
 use Rattle.instructions.specs.Operations.{checked_address, computed_by, jump_target, loaded}
 use Rattle.instructions.specs.Programs.{Program, instr_at}
@@ -11,7 +11,9 @@ use Rattle.inorder.specs.Committed.{committed}
 use Rattle.inorder.specs.Legal.{AreAllowed, Taken, reached}
 use Rattle.inorder.specs.Runs.{stop}
 use Rattle.inorder.specs.Unit.{Sizes}
-use Rattle.inorder.proofs.Runs.Examples.{done_not_stop, less, retired_not_live, squashed_not_live, squashed_not_retired, taken}
+use Rattle.inorder.proofs.Runs.Decided.{given}
+use Rattle.inorder.proofs.Runs.DecidedSteps.{are_allowed}
+use Rattle.inorder.proofs.Runs.Examples.{taken}
 
 -- beq $0,$0,E / lw $1,1($0) / E: break
 abbrev pub skips : Program
@@ -37,43 +39,7 @@ all_let =
 
 all_let_allowed : AreAllowed skips four_stations all_let
 unfolding instr_at computed_by jump_target checked_address loaded
-all_let_allowed = (
-  (
-    (
-      tt,
-      record {
-        room = less _ _ refl;
-        queue = λ e. absurd (true≢false (sym e));
-        is_there = less _ _ refl;
-        pc = refl;
-        small = less _ _ refl;
-        predicts = tt;
-        first_is = refl;
-        second_is = refl;
-      },
-    ),
-    record {
-      room = less _ _ refl;
-      queue = λ e. less _ _ refl;
-      is_there = less _ _ refl;
-      pc = refl;
-      small = less _ _ refl;
-      predicts = refl;
-      first_is = refl;
-      second_is = refl;
-    },
-  ),
-  record {
-    room = less _ _ refl;
-    queue = λ e. absurd (true≢false (sym e));
-    is_there = less _ _ refl;
-    pc = refl;
-    small = less _ _ refl;
-    predicts = refl;
-    first_is = refl;
-    second_is = refl;
-  },
-)
+all_let_allowed = given (are_allowed skips four_stations all_let) refl
 
 -- The load behind the branch has stopped, its address being odd, and the branch is a miss
 abbrev pub fault_on_the_wrong_path : List Taken
@@ -86,19 +52,7 @@ fault_on_the_wrong_path =
 
 fault_on_the_wrong_path_allowed : AreAllowed skips four_stations fault_on_the_wrong_path
 unfolding instr_at computed_by jump_target checked_address loaded
-fault_on_the_wrong_path_allowed = (
-  (
-    (
-      (
-        all_let_allowed,
-        record { tenant = _; is = refl; may = record { live = refl; fate = refl; needs = refl } },
-      ),
-      record { tenant = _; is = refl; may = record { live = refl; fate = refl } },
-    ),
-    record { tenant = _; is = refl; may = record { live = refl; fate = refl; needs = refl } },
-  ),
-  record { tenant = _; is = refl; may = record { live = refl; fate = refl } },
-)
+fault_on_the_wrong_path_allowed = given (are_allowed skips four_stations fault_on_the_wrong_path) refl
 
 -- Recovered: the younger two are squashed, and the branch is mended
 abbrev pub recovered : List Taken
@@ -110,51 +64,7 @@ recovered =
 
 recovered_allowed : AreAllowed skips four_stations recovered
 unfolding instr_at computed_by jump_target checked_address loaded
-recovered_allowed = (
-  (
-    (
-      fault_on_the_wrong_path_allowed,
-      record {
-        tenant = _;
-        is = refl;
-        may = record {
-          live = refl;
-          youngest = tt;
-          p = 0;
-          miss = _;
-          x = 0x400008;
-          miss_at = refl;
-          miss_live = refl;
-          miss_fate = refl;
-        };
-      },
-    ),
-    record {
-      tenant = _;
-      is = refl;
-      may = record {
-        live = refl;
-        youngest = (squashed_not_live, tt);
-        p = 0;
-        miss = _;
-        x = 0x400008;
-        miss_at = refl;
-        miss_live = refl;
-        miss_fate = refl;
-      };
-    },
-  ),
-  record {
-    tenant = _;
-    is = refl;
-    may = record {
-      live = refl;
-      youngest = (squashed_not_live, (squashed_not_live, tt));
-      x = 0x400008;
-      fate = refl;
-    };
-  },
-)
+recovered_allowed = given (are_allowed skips four_stations recovered) refl
 
 -- Let, Ran, Retired
 abbrev pub let_again : List Taken
@@ -167,32 +77,7 @@ let_again =
 
 let_again_allowed : AreAllowed skips four_stations let_again
 unfolding instr_at computed_by jump_target checked_address loaded
-let_again_allowed = (
-  (
-    (
-      (
-        recovered_allowed,
-        record {
-          room = less _ _ refl;
-          queue = λ e. absurd (true≢false (sym e));
-          is_there = less _ _ refl;
-          pc = refl;
-          small = less _ _ refl;
-          predicts = refl;
-          first_is = refl;
-          second_is = refl;
-        },
-      ),
-      record { tenant = _; is = refl; may = record { live = refl; fate = refl; needs = refl } },
-    ),
-    record { tenant = _; is = refl; may = record { live = refl; fate = refl } },
-  ),
-  record {
-    tenant = _;
-    is = refl;
-    may = record { small = less _ _ refl; live = refl; oldest = tt; no_stop = tt; can = tt };
-  },
-)
+let_again_allowed = given (are_allowed skips four_stations let_again) refl
 
 -- Over: the break on the right path retires
 abbrev pub ended : List Taken
@@ -202,23 +87,7 @@ ended =
 
 ended_allowed : AreAllowed skips four_stations ended
 unfolding instr_at computed_by jump_target checked_address loaded
-ended_allowed = (
-  let_again_allowed,
-  record {
-    tenant = _;
-    is = refl;
-    may = record {
-      small = less _ _ refl;
-      live = refl;
-      oldest = (squashed_not_live, (squashed_not_live, (retired_not_live, tt)));
-      no_stop = (
-        (λ e. absurd (squashed_not_retired e)),
-        ((λ e. absurd (squashed_not_retired e)), ((λ e c. done_not_stop 0x400008 c), tt)),
-      );
-      can = tt;
-    };
-  },
-)
+ended_allowed = given (are_allowed skips four_stations ended) refl
 
 -- The fault on the wrong path has left nothing: one instruction has committed
 skips_committed : committed skips (reached skips four_stations ended).tenants ≡

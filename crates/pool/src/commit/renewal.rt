@@ -1,9 +1,9 @@
 //! Renewal of the core, where the back has left.
 ghost use Rattle.std.specs.Prelude.{◌≡◌, ◌+◌, Err, IfSome};
-ghost use Rattle.front.specs.Rests.{HasNobody};
 ghost use Rattle.inorder.specs.History.{unit_of};
 ghost use Rattle.pool.specs.Committing.{IsAtRest};
 ghost use Rattle.pool.specs.Terms.{AreRenewed};
+ghost use Rattle.station.specs.Renewals.{HasNobody};
 
 use super::Committer;
 use crate::answer::Refusal;

@@ -1,7 +1,7 @@
 //! The turns of the commit thread.
 ghost use Rattle.std.specs.Prelude.{◌≡◌, ◌≢◌, ◌+◌, ◌<◌, ◌≤◌, Err, IfOk, true};
-ghost use Rattle.back.specs.Backs.{IsSame, state_of};
-ghost use Rattle.hints.specs.Hinted.{IsOf};
+ghost use Rattle.back.specs.Backs.{IsSameBack, back_state};
+ghost use Rattle.hints.specs.Hinted.{IsEndOf};
 ghost use Rattle.pool.specs.Committing.{Because, IsReason, IsAtRest};
 ghost use Rattle.pool.specs.declared.commit.turning.Turned.TheVariants.{Over};
 ghost use Rattle.pool.specs.declared.commit.Why.{Why};
@@ -45,7 +45,8 @@ impl<J: Naming, K: Bounds + Ring> Committer<J, K> {
     // Shows the state, and tells the gate what was counted until then.
     fn show<G: Gate, R: Wait>(&mut self, wait: &R, floor: &Floor<K>, gate: &G) -> Result<(), Memory>
         requires counts { floor.now.counts ≡ K.counts }
-        ensures back { IsSame self.old.back (record self.new.back { shown = self.old.back.shown }) }
+        ensures back { IsSameBack self.old.back (record self.new.back
+            { shown = self.old.back.shown }) }
         ensures turns { self.new.turns ≡ self.old.turns }
         ensures renewals { self.new.renewals ≡ self.old.renewals }
         ensures over { self.new.over ≡ self.old.over }
@@ -67,13 +68,13 @@ impl<J: Naming, K: Bounds + Ring> Committer<J, K> {
         requires core { self.old.back.core ≡ core.now }
         requires counts { floor.now.counts ≡ K.counts }
         requires hints { floor.now.hints.ring ≡ core.now.sizes.ring }
-        requires hinter { IsOf floor.now.hints hinter.old }
+        requires hinter { IsEndOf floor.now.hints hinter.old }
         ensures core { self.new.back.core ≡ core.now }
         ensures ended { self.new.back.ended ≡ self.old.back.ended }
         ensures turns { self.new.turns ≡ self.old.turns }
         ensures renewals { self.new.renewals ≡ self.old.renewals }
         ensures over { self.new.over ≡ self.old.over }
-        ensures hinter { IsOf floor.now.hints hinter.new }
+        ensures hinter { IsEndOf floor.now.hints hinter.new }
     {
         let Refresh::Loaded { .. } = self.back.refresh(core) else {
             return false;
@@ -96,14 +97,15 @@ impl<J: Naming, K: Bounds + Ring> Committer<J, K> {
         requires core { self.old.back.core ≡ core.now }
         requires counts { floor.now.counts ≡ K.counts }
         requires hints { floor.now.hints.ring ≡ core.now.sizes.ring }
-        requires hinter { IsOf floor.now.hints hinter.old }
+        requires hinter { IsEndOf floor.now.hints hinter.old }
         requires begun { self.old.over ≡ Err Refusal.Memory }
-        requires taken { (state_of self.old.back).count + self.old.turns.left < self.old.turns.all }
+        requires taken { (back_state self.old.back).count +
+            self.old.turns.left < self.old.turns.all }
         ensures core { self.new.back.core ≡ core.now }
         ensures begun { self.new.over ≡ Err Refusal.Memory }
         ensures turns { self.new.turns ≡ self.old.turns }
         ensures renewals { self.new.renewals ≡ self.old.renewals }
-        ensures hinter { IsOf floor.now.hints hinter.new }
+        ensures hinter { IsEndOf floor.now.hints hinter.new }
         ensures over { IfOk result (λ turned. (why : Why) → turned ≡ Over why →
             Because K.limit self.new.back self.new.turns.left why) }
     {

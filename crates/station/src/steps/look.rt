@@ -14,7 +14,8 @@ impl<'a, P: Part> Call<'a, P> {
     /// Looks at a word.
     pub(crate) fn look(&mut self, place: Place) -> u64
         requires { IsPlace self.old.core.sizes.ring place }
-        ensures { Takes self.old self.new (λ P C. Sees P C self.old.view.by self.old.view place result) }
+        ensures { Takes self.old self.new
+            (λ P C. Sees P C self.old.view.by self.old.view place result) }
     {
         self.load::<Brand, ()>(place, ())
     }

@@ -8,7 +8,7 @@ use Rattle.inorder.proofs.SettledMemory.{length_memory}
 use Rattle.station.specs.Writeback.{IsWalk, IsWritten, MaySettle, WasStale}
 use Rattle.back.specs.Backs.{unit_in}
 use Rattle.back.specs.Loads.{IsWaitingLoad}
-use Rattle.back.specs.Port.{IsAsked, IsLoadOf, behind}
+use Rattle.back.specs.Port.{IsAskedInOrder, IsLoadOf, station_behind}
 use Rattle.back.specs.Trials.{DidLoad, HasHeldBack, HasPassed, SomeWaits}
 use Rattle.back.proofs.Answering.{committed_same, head_same}
 use Rattle.back.proofs.Settling.{asked_late, came_late, did_load, has_gone, holds_back, may_settle, named_late}
@@ -52,7 +52,7 @@ settle-requires-clause-may c =
     let ring = c.ring-ring.ensures.value in
     let a = subst (λ x. Adds d.program d.sizes x old.seen mid.seen []) c.requires.by c.waiting.ensures.history in
     let late = c.answer.new.seat in
-    let place = behind c.args.head d.sizes.ring c.args.at in
+    let place = station_behind c.args.head d.sizes.ring c.args.at in
     let by_mid = c.waiting.ensures.kept.by ∙ c.requires.by in
     let by_late = c.answer.ensures.kept.by ∙ by_mid in
     let b = subst (λ x. Adds d.program d.sizes x mid.seen late.seen []) by_mid c.answer.ensures.history in
@@ -69,7 +69,7 @@ returns-in-Settled-clause-reply c =
     let ring = c.ring-ring.ensures.value in
     let a = subst (λ x. Adds d.program d.sizes x old.seen mid.seen []) c.requires.by c.waiting.ensures.history in
     let late = c.answer.new.seat in
-    let place = behind c.args.head d.sizes.ring c.args.at in
+    let place = station_behind c.args.head d.sizes.ring c.args.at in
     let by_mid = c.waiting.ensures.kept.by ∙ c.requires.by in
     let by_late = c.answer.ensures.kept.by ∙ by_mid in
     let b = subst (λ x. Adds d.program d.sizes x mid.seen late.seen []) by_mid c.answer.ensures.history in
@@ -88,7 +88,7 @@ returns-in-Stale-clause-reply c =
     let ring = c.ring-ring.ensures.value in
     let a = subst (λ x. Adds d.program d.sizes x old.seen mid.seen []) c.requires.by c.waiting.ensures.history in
     let late = c.answer.new.seat in
-    let place = behind c.args.head d.sizes.ring c.args.at in
+    let place = station_behind c.args.head d.sizes.ring c.args.at in
     let by_mid = c.waiting.ensures.kept.by ∙ c.requires.by in
     let by_late = c.answer.ensures.kept.by ∙ by_mid in
     let b = subst (λ x. Adds d.program d.sizes x mid.seen late.seen []) by_mid c.answer.ensures.history in
@@ -106,16 +106,16 @@ returns-then-is_still-clause-reply c =
     let ring = c.ring-ring.ensures.value in
     let a = subst (λ x. Adds d.program d.sizes x old.seen mid.seen []) c.requires.by c.waiting.ensures.history in
     let late = c.answer.new.seat in
-    let place = behind c.args.head d.sizes.ring c.args.at in
+    let place = station_behind c.args.head d.sizes.ring c.args.at in
     let by_mid = c.waiting.ensures.kept.by ∙ c.requires.by in
     let by_late = c.answer.ensures.kept.by ∙ by_mid in
     let b = subst (λ x. Adds d.program d.sizes x mid.seen late.seen []) by_mid c.answer.ensures.history in
     let w = subst (λ r. SomeWaits d.program d.sizes old.seen mid.seen ((c.args.head + c.args.at) % r) l) ring c.in-Some.ensures.some in
     let new = c.is_still.new.seat in
     let last = subst (λ x. Adds d.program d.sizes x late.seen new.seen []) by_late c.is_still.ensures.history in
-    let still = subst (λ r. (p : ℕ) → IsNamed (unit_in d late.seen) p ((c.args.head + c.args.at) % r) l.tag → IsAsked d.program (unit_in d late.seen) p ((c.args.head + c.args.at) % r) l → Has (unit_in d new.seen) p (IsLoadOf d.program ((c.args.head + c.args.at) % r) l)) ring (c.is_still.ensures.still c.if-is_still.true) in
+    let still = subst (λ r. (p : ℕ) → IsNamed (unit_in d late.seen) p ((c.args.head + c.args.at) % r) l.tag → IsAskedInOrder d.program (unit_in d late.seen) p ((c.args.head + c.args.at) % r) l → Has (unit_in d new.seen) p (IsLoadOf d.program ((c.args.head + c.args.at) % r) l)) ring (c.is_still.ensures.still c.if-is_still.true) in
     let h = still w.p (named_late d.program d.sizes old.seen mid.seen late.seen a b place l w) (asked_late d.program d.sizes old.seen mid.seen late.seen a b place l w) in
-    let r = holds_back d.program d.sizes old.seen mid.seen late.seen a b place l w new.seen last (behind c.args.head d.sizes.ring c.in-Err.k) (c.in-Err.ensures.err w.p w.asked) h in
+    let r = holds_back d.program d.sizes old.seen mid.seen late.seen a b place l w new.seen last (station_behind c.args.head d.sizes.ring c.in-Err.k) (c.in-Err.ensures.err w.p w.asked) h in
     subst (λ (z : ℕ × ℕ). HasHeldBack d.program d.sizes z.0 old.seen new.seen place ((c.args.head + c.in-Err.k) % z.1)) (λ i. (sym c.requires.by i, sym ring i)) r
 
 pub returns-else-is_still-clause-reply : goal.returns-else-is_still-clause-reply
@@ -127,14 +127,14 @@ returns-else-is_still-clause-reply c =
     let ring = c.ring-ring.ensures.value in
     let a = subst (λ x. Adds d.program d.sizes x old.seen mid.seen []) c.requires.by c.waiting.ensures.history in
     let late = c.answer.new.seat in
-    let place = behind c.args.head d.sizes.ring c.args.at in
+    let place = station_behind c.args.head d.sizes.ring c.args.at in
     let by_mid = c.waiting.ensures.kept.by ∙ c.requires.by in
     let by_late = c.answer.ensures.kept.by ∙ by_mid in
     let b = subst (λ x. Adds d.program d.sizes x mid.seen late.seen []) by_mid c.answer.ensures.history in
     let w = subst (λ r. SomeWaits d.program d.sizes old.seen mid.seen ((c.args.head + c.args.at) % r) l) ring c.in-Some.ensures.some in
     let new = c.is_still.new.seat in
     let last = subst (λ x. Adds d.program d.sizes x late.seen new.seen []) by_late c.is_still.ensures.history in
-    let gone = subst (λ r. (p : ℕ) → IsAsked d.program (unit_in d late.seen) p ((c.args.head + c.args.at) % r) l → ¬ Has (unit_in d new.seen) p (IsWaitingLoad d.program)) ring (c.is_still.ensures.gone c.if-is_still.false) in
+    let gone = subst (λ r. (p : ℕ) → IsAskedInOrder d.program (unit_in d late.seen) p ((c.args.head + c.args.at) % r) l → ¬ Has (unit_in d new.seen) p (IsWaitingLoad d.program)) ring (c.is_still.ensures.gone c.if-is_still.false) in
     subst (λ z. HasPassed d.program d.sizes z old.seen new.seen place) (sym c.requires.by)
     (has_gone d.program d.sizes old.seen mid.seen late.seen a b place l w new.seen last (gone w.p (asked_late d.program d.sizes old.seen mid.seen late.seen a b place l w)))
 

@@ -1,7 +1,7 @@
 use Rattle.std.proofs.Common.{◌≡◌, ◌+◌, ◌%◌, ◌<◌, ℕ, Some, refl, sym, ◌∙◌, subst, arith}
 use Rattle.inorder.specs.History.{back}
-use Rattle.back.specs.Port.{behind}
-use Rattle.back.specs.Refreshes.{HasFoundBlocked, HasLoaded, WasIdle}
+use Rattle.back.specs.Port.{station_behind}
+use Rattle.back.specs.Refreshes.{HasFoundBlocked, HasLoaded, PortWasIdle}
 use Rattle.back.specs.Scans.{Scanned}
 use Rattle.back.specs.Trials.{DidLoad, HasHeldBack, HasPassed}
 use Rattle.back.proofs.Refreshing.{head_now, is_blocked, is_idle, loaded_on, state_now}
@@ -38,7 +38,7 @@ returns-in-Loaded-clause-reply c =
     let ring = c.requires.ring in
     let inside : head < d.sizes.ring = let h = c.requires.head in omega (arith, h, ring) in
     let bound : k.at < d.sizes.ring = let less = c.loop-at-test.true in omega (arith, less, ring) in
-    let x = subst (λ z. DidLoad d.program d.sizes z cur.seen new.seen (behind head d.sizes.ring k.at) c.in-Loaded.tag c.in-Loaded.value) by_cur c.in-Loaded.ensures.reply in
+    let x = subst (λ z. DidLoad d.program d.sizes z cur.seen new.seen (station_behind head d.sizes.ring k.at) c.in-Loaded.tag c.in-Loaded.value) by_cur c.in-Loaded.ensures.reply in
     subst (λ (z : ℕ × ℕ). HasLoaded d.program d.sizes z.0 old.seen new.seen ((head + k.at) % z.1) c.in-Loaded.tag c.in-Loaded.value) (λ i. (sym c.requires.by i, sym ring i))
     (loaded_on d.program d.sizes old.seen cur.seen new.seen head c.requires.head_is inside k.at bound k.blocked k.invariant.scanned c.in-Loaded.tag c.in-Loaded.value x)
 
@@ -61,16 +61,13 @@ loop-at-preserved c =
         kept = kept;
         woken = woken (w.in-Passed.ensures.woken);
         scanned = subst (λ o. Scanned d.program d.sizes back old.seen new.seen head d.sizes.ring (k.at + 1) o) (sym w.blocked-is)
-            (passed_on d.program d.sizes old.seen cur.seen new.seen head d.sizes.ring k.at (k.at + 1) refl k.blocked k.invariant.scanned
-            (subst (λ z. HasPassed d.program d.sizes z cur.seen new.seen (behind head d.sizes.ring k.at)) by_cur w.in-Passed.ensures.reply));
+            (passed_on d.program d.sizes old.seen cur.seen new.seen head d.sizes.ring k.at (k.at + 1) refl k.blocked k.invariant.scanned (subst (λ z. HasPassed d.program d.sizes z cur.seen new.seen (station_behind head d.sizes.ring k.at)) by_cur w.in-Passed.ensures.reply));
       }
       | in-Blocked+then-is_none w ↦ record {
         kept = kept;
         woken = woken (w.in-Blocked.ensures.woken);
         scanned = subst (λ o. Scanned d.program d.sizes back old.seen new.seen head d.sizes.ring (k.at + 1) o) ((λ i. Some ((head + k.at) % sym ring i, w.in-Blocked.store)) ∙ sym w.blocked-is)
-            (held_first d.program d.sizes old.seen cur.seen new.seen head d.sizes.ring k.at (k.at + 1) refl k.blocked k.invariant.scanned w.in-Blocked.store
-            (subst (λ z. HasHeldBack d.program d.sizes z cur.seen new.seen (behind head d.sizes.ring k.at) w.in-Blocked.store) by_cur w.in-Blocked.ensures.reply)
-            (is_nothing k.blocked w.is_none.result w.is_none.ensures w.if-is_none.true));
+            (held_first d.program d.sizes old.seen cur.seen new.seen head d.sizes.ring k.at (k.at + 1) refl k.blocked k.invariant.scanned w.in-Blocked.store (subst (λ z. HasHeldBack d.program d.sizes z cur.seen new.seen (station_behind head d.sizes.ring k.at) w.in-Blocked.store) by_cur w.in-Blocked.ensures.reply) (is_nothing k.blocked w.is_none.result w.is_none.ensures w.if-is_none.true));
       }
       | in-Blocked+else-is_none w ↦ (
           let b = is_something k.blocked w.is_none.result w.is_none.ensures w.if-is_none.false in
@@ -78,8 +75,7 @@ loop-at-preserved c =
             kept = kept;
             woken = woken (w.in-Blocked.ensures.woken);
             scanned = subst (λ o. Scanned d.program d.sizes back old.seen new.seen head d.sizes.ring (k.at + 1) o) (sym w.blocked-is)
-                (held_more d.program d.sizes old.seen cur.seen new.seen head d.sizes.ring k.at (k.at + 1) refl k.blocked k.invariant.scanned w.in-Blocked.store
-                (subst (λ z. HasHeldBack d.program d.sizes z cur.seen new.seen (behind head d.sizes.ring k.at) w.in-Blocked.store) by_cur w.in-Blocked.ensures.reply) b.0 b.1);
+                (held_more d.program d.sizes old.seen cur.seen new.seen head d.sizes.ring k.at (k.at + 1) refl k.blocked k.invariant.scanned w.in-Blocked.store (subst (λ z. HasHeldBack d.program d.sizes z cur.seen new.seen (station_behind head d.sizes.ring k.at) w.in-Blocked.store) by_cur w.in-Blocked.ensures.reply) b.0 b.1);
           })
     ]
 
@@ -106,7 +102,7 @@ returns-in-None-clause-reply c =
     let all : k.at ≡ d.sizes.ring = let r = c.requires.ring in omega (arith, done, end, r) in
     let s = subst (λ x. Scanned d.program d.sizes back old.seen k.seat.seen c.args.head d.sizes.ring x k.blocked) all k.invariant.scanned in
     let inside : c.args.head < d.sizes.ring = let h = c.requires.head in let r = c.requires.ring in omega (arith, h, r) in
-    subst (λ z. WasIdle d.program d.sizes z old.seen k.seat.seen) (sym c.requires.by)
+    subst (λ z. PortWasIdle d.program d.sizes z old.seen k.seat.seen) (sym c.requires.by)
     (is_idle d.program d.sizes old.seen k.seat.seen c.args.head c.requires.head_is inside k.blocked s c.in-None.is)
 
 pub returns-in-Loaded-clause-woken : goal.returns-in-Loaded-clause-woken

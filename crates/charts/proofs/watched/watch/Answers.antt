@@ -1,5 +1,5 @@
 use Rattle.charts.specs.Rows.{kept}
-use Rattle.charts.specs.Watched.{sizes_of}
+use Rattle.charts.specs.Watched.{sizes_by}
 use Rattle.charts.proofs.Turns.{all_told, appends_none, first_part, last_part, on_err, stood_start}
 use Rattle.std.proofs.Common.{arith}
 use Rattle.charts.proofs.watched.watch.Goals as goal
@@ -7,13 +7,13 @@ use Rattle.charts.proofs.watched.watch.Goals as goal
 pub returns-in_err-bench-clause-begun : goal.returns-in_err-bench-clause-begun
 returns-in_err-bench-clause-begun g c =
     on_err c.from_residual.result (first_part g.P.Predictor.Predicts g.P.Predictor.Learns
-    c.args.format c.args.program.now (sizes_of c.args.config.now) c.args.predictor _ _ 0 (omega arith) (appends_none _))
+    c.args.format c.args.program.now (sizes_by c.args.config.now) c.args.predictor _ _ 0 (omega arith) (appends_none _))
 
 pub returns-in_err-tell_first-clause-begun : goal.returns-in_err-tell_first-clause-begun
 returns-in_err-tell_first-clause-begun g c =
     let part = c.in_err-tell_first.ensures.part in
     on_err c.from_residual-in_err-tell_first.result (first_part g.P.Predictor.Predicts g.P.Predictor.Learns
-    c.args.format c.args.program.now (sizes_of c.args.config.now) c.args.predictor _ _ part.n part.inside part.gives)
+    c.args.format c.args.program.now (sizes_by c.args.config.now) c.args.predictor _ _ part.n part.inside part.gives)
 
 pub returns-in_err-tell_turns-clause-begun : goal.returns-in_err-tell_turns-clause-begun
 returns-in_err-tell_turns-clause-begun g c =
@@ -22,7 +22,7 @@ returns-in_err-tell_turns-clause-begun g c =
     c.args.config.now c.in_ok-bench.bench (kept c.new-books.result) c.args.predictor _ _
     made.program made.ring made.queue made.tag made.fresh c.new-books.ensures made.predictor c.in_ok-tell_first.ensures.says in
     on_err c.from_residual-in_err-tell_turns.result (c.in_err-tell_turns.ensures.begun c.args.program.now
-    (sizes_of c.args.config.now) c.args.predictor _ first)
+    (sizes_by c.args.config.now) c.args.predictor _ first)
 
 pub returns-in_err-tell_last-clause-begun : goal.returns-in_err-tell_last-clause-begun
 returns-in_err-tell_last-clause-begun g c =
@@ -32,8 +32,8 @@ returns-in_err-tell_last-clause-begun g c =
     made.program made.ring made.queue made.tag made.fresh c.new-books.ensures made.predictor c.in_ok-tell_first.ensures.says in
     let part = c.in_err-tell_last.ensures.part in
     on_err c.from_residual-in_err-tell_last.result (last_part g.P.Predictor.Predicts g.P.Predictor.Learns c.args.format
-    c.args.program.now (sizes_of c.args.config.now) c.tell_turns.new.bench (kept c.tell_turns.new.books) c.args.predictor _ _ _ part.n part.inside part.gives (c.in_ok-tell_turns.ensures.stood
-    c.args.program.now (sizes_of c.args.config.now) c.args.predictor _ first))
+    c.args.program.now (sizes_by c.args.config.now) c.tell_turns.new.bench (kept c.tell_turns.new.books) c.args.predictor _ _ _ part.n part.inside part.gives (c.in_ok-tell_turns.ensures.stood
+    c.args.program.now (sizes_by c.args.config.now) c.args.predictor _ first))
 
 pub returns-clause-told : goal.returns-clause-told
 returns-clause-told g c =
@@ -41,8 +41,8 @@ returns-clause-told g c =
     let first = stood_start g.P.Predictor.Predicts g.P.Predictor.Learns c.args.format c.args.program.now
     c.args.config.now c.in_ok-bench.bench (kept c.new-books.result) c.args.predictor _ _
     made.program made.ring made.queue made.tag made.fresh c.new-books.ensures made.predictor c.in_ok-tell_first.ensures.says in
-    all_told g.P.Predictor.Predicts g.P.Predictor.Learns c.args.format c.args.program.now (sizes_of c.args.config.now)
+    all_told g.P.Predictor.Predicts g.P.Predictor.Learns c.args.format c.args.program.now (sizes_by c.args.config.now)
     c.tell_turns.new.bench (kept c.tell_turns.new.books) c.args.predictor _ _ _
     c.run.result c.from-limit.result (c.in_ok-tell_turns.ensures.stood c.args.program.now
-    (sizes_of c.args.config.now) c.args.predictor _ first)
+    (sizes_by c.args.config.now) c.args.predictor _ first)
     c.in_ok-tell_last.ensures.says c.in_ok-tell_turns.ensures.stays c.run.ensures

@@ -1,4 +1,4 @@
-use Rattle.command.specs.ByHand.{IsBroken, IsDriven, IsLeft}
+use Rattle.command.specs.ByHand.{IsBroken, IsDriven, WasBrokenOff}
 use Rattle.without_threads.specs.declared.went.Refusal.{Refusal}
 use Rattle.without_threads.specs.declared.went.Refusal.TheVariants.{Write}
 use Rattle.std.proofs.Common.{◌≡◌, ◌≢◌}
@@ -26,5 +26,5 @@ returns-clause-left g c =
     let script = g.I.Read.remaining c.args.script.now in
     let before = g.W.Write.contents c.args.writer.now.inner in
     let after = g.W.Write.contents c.answered.new.writer.inner in
-    err_taken c.answered.result (λ (refusal : Refusal). refusal ≢ Write) (λ found. IsLeft c.args.hand.now found script before after) _ c.in_ok-listing.listing.items
+    err_taken c.answered.result (λ (refusal : Refusal). refusal ≢ Write) (λ found. WasBrokenOff c.args.hand.now found script before after) _ c.in_ok-listing.listing.items
     c.as_slice.result.now c.in_ok-listing.ensures.ok c.as_slice.ensures.value c.answered.ensures.left

@@ -2,7 +2,7 @@ use Rattle.std.proofs.Common.{◌∙◌, List, ap, subst, sym}
 use Rattle.inorder.specs.declared.history.Entry.{Entry}
 use Rattle.inorder.specs.Callers.{GoesOn as HasNoStop}
 use Rattle.inorder.specs.History.{unit_of}
-use Rattle.back.specs.Stills.{GoesOn, TheStill, head_at}
+use Rattle.back.specs.Stills.{GoesOnForBack, TheStillBack, head_at}
 use Rattle.front.specs.Stills.{next_at}
 use Rattle.station.specs.Renewals.{seats_of}
 use Rattle.station.specs.Seats.{TheCore}
@@ -27,9 +27,9 @@ enter_again-back-requires-clause-goes_on g c =
     let core_is = left.ensures.core ∙ c.requires.stage.back_core in
     let may = c.a_back_enters_behind_a_renewal.ensures.refused c.args.core c.in-Err.core (seats_of c.leave-front_seat.result.0 left.result.0 c.args.all)
     (seats_of c.in-Err.front_seat c.in-Err.back_seat c.in-Err.all) core_is (left.ensures.by ∙ c.requires.stage.back_by) c.in-Err.ensures.err in
-    let still_core = ap (λ (s : TheStill). s.core) left.ensures.still ∙ c.requires.stage.back_core in
-    let still_seen = ap (λ (s : TheStill). s.seen) left.ensures.still ∙ sym left.ensures.seen in
-    subst (λ (z : TheCore × List Entry). GoesOn z.0 z.1 c.in-Err.back_seat) (λ i. (sym still_core i, sym still_seen i)) may.goes_on
+    let still_core = ap (λ (s : TheStillBack). s.core) left.ensures.still ∙ c.requires.stage.back_core in
+    let still_seen = ap (λ (s : TheStillBack). s.seen) left.ensures.still ∙ sym left.ensures.seen in
+    subst (λ (z : TheCore × List Entry). GoesOnForBack z.0 z.1 c.in-Err.back_seat) (λ i. (sym still_core i, sym still_seen i)) may.goes_on
 
 pub enter_again-back-requires-clause-head : goal.enter_again-back-requires-clause-head
 enter_again-back-requires-clause-head g c =

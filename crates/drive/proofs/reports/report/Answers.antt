@@ -1,6 +1,6 @@
 use Rattle.std.proofs.Common.{◌∙◌}
 use Rattle.inorder.specs.Runs.{ending}
-use Rattle.back.specs.Backs.{state_of}
+use Rattle.back.specs.Backs.{back_state}
 use Rattle.drive.proofs.InOrder.{committed_after, machine_state, same_state}
 use Rattle.drive.proofs.reports.report.Goals as goal
 
@@ -10,7 +10,7 @@ returns-clause-state g c =
     let met = c.meet.new.self in
     let is = committed_after core met.core met.seen (c.meet.ensures.kept.core ∙ c.requires.back) c.meet.ensures.history.legal in
     let last = c.run.new.self.state in
-    let ran = machine_state c.args.program.now core.program (state_of met) c.in_ok-machine.machine c.run.new.self c.n-count.result (ending c.run.result)
+    let ran = machine_state c.args.program.now core.program (back_state met) c.in_ok-machine.machine c.run.new.self c.n-count.result (ending c.run.result)
     c.requires.program is c.in_ok-machine.ensures c.n-count.ensures c.run.ensures.end in
     same_state last c.registers.result.now c.in_ok-memory.memory.items c.pc.result c.count.result c.registers.ensures (c.in_ok-memory.ensures.items ∙ c.memory.ensures) c.pc.ensures c.count.ensures
     ∙ (ran ∙ c.meet.ensures.kept.state)

@@ -1,5 +1,5 @@
 use Rattle.std.proofs.Common.{◌≤◌, ℕ, refl, sym, ap, ◌∙◌, subst}
-use Rattle.front.specs.Knows.{Knows}
+use Rattle.front.specs.Knows.{FrontKnows}
 use Rattle.inorder.specs.History.{unit_of}
 use Rattle.front.proofs.Releasing.{ready_now, released_told}
 use Rattle.front.proofs.Splitting.{stays}
@@ -7,7 +7,7 @@ use Rattle.front.proofs.Stays.{knows_stable}
 use Rattle.front.proofs.Tables.{table_stable, touched_more, touched_none}
 use Rattle.front.proofs.Turned.{is_let}
 use Rattle.front.specs.CreateTable.{HasTable}
-use Rattle.front.specs.Path.{Releases, told_of}
+use Rattle.front.specs.Path.{Releases, rested_at}
 use Rattle.front.specs.declared.path.counted.Table.{Table}
 use Rattle.front.proofs.dispatcher.turn_on.Goals as goal
 
@@ -15,8 +15,7 @@ pub returns-in-Err-clause-knows : goal.returns-in-Err-clause-knows
 returns-in-Err-clause-knows g c =
     let P = c.args.core.now.program in
     let C = c.args.core.now.sizes in
-    stays P C (λ U. Knows P C U c.args.path.now.records c.args.path.now.base) (knows_stable P C c.args.path.now.records c.args.path.now.base) c.args.seat.now.seen c.fetch.new.seat.seen
-    c.fetch.ensures.history c.requires.knows
+    stays P C (λ U. FrontKnows P C U c.args.path.now.records c.args.path.now.base) (knows_stable P C c.args.path.now.records c.args.path.now.base) c.args.seat.now.seen c.fetch.new.seat.seen c.fetch.ensures.history c.requires.knows
 
 pub dispatch-tag-requires-clause-ready : goal.dispatch-tag-requires-clause-ready
 dispatch-tag-requires-clause-ready g c =
@@ -25,7 +24,7 @@ dispatch-tag-requires-clause-ready g c =
     let h = c.fetch.new.seat.seen in
     let records = c.args.path.now.records in
     let base = c.args.path.now.base in
-    let knows : Knows P C (unit_of P C h) records base = stays P C (λ U. Knows P C U records base) (knows_stable P C records base) c.args.seat.now.seen h c.fetch.ensures.history c.requires.knows in
+    let knows : FrontKnows P C (unit_of P C h) records base = stays P C (λ U. FrontKnows P C U records base) (knows_stable P C records base) c.args.seat.now.seen h c.fetch.ensures.history c.requires.knows in
     let least : 2 ≤ C.ring = subst (λ z. 2 ≤ z) c.ring.ensures.value c.ring.ensures.least in
     let released : Releases C.ring c.in-Ok.next.left c.args.path.now c.release-left.result c.release-left.new.self = subst (λ z. Releases z c.in-Ok.next.left c.args.path.now c.release-left.result c.release-left.new.self) c.ring.ensures.value c.release-left.ensures.reply in
     ready_now P C h c.fetch.ensures.history.legal records base knows least c.in-Ok.next.left c.in-Ok.ensures.ok.oldest c.args.path.now refl refl c.release-left.result c.release-left.new.self released
@@ -34,29 +33,21 @@ pub returns-clause-reply : goal.returns-clause-reply
 returns-clause-reply g c =
     let P = c.args.core.now.program in
     let C = c.args.core.now.sizes in
-    is_let g.P.Predictor.Predicts g.P.Predictor.Learns P C c.args.seat.now.seen c.fetch.new.seat.seen c.dispatch-tag.new.seat.seen c.args.path.now.records c.args.path.now.base c.requires.knows
-    c.fetch.ensures.history c.in-Ok.next c.in-Ok.ensures.ok.oldest c.ring.result c.ring.ensures.value c.args.path.now c.release-left.new.self refl c.guess-predicted.result c.dispatch-tag.result
-    c.dispatch-tag.ensures.reply c.release-left.result c.release-left.ensures.reply c.args.predictor.now c.guess-predicted.new.predictor c.guess-predicted.ensures
+    is_let g.P.Predictor.Predicts g.P.Predictor.Learns P C c.args.seat.now.seen c.fetch.new.seat.seen c.dispatch-tag.new.seat.seen c.args.path.now.records c.args.path.now.base c.requires.knows c.fetch.ensures.history c.in-Ok.next c.in-Ok.ensures.ok.oldest c.ring.result c.ring.ensures.value c.args.path.now c.release-left.new.self refl c.guess-predicted.result c.dispatch-tag.result c.dispatch-tag.ensures.reply c.release-left.result c.release-left.ensures.reply c.args.predictor.now c.guess-predicted.new.predictor c.guess-predicted.ensures
 
 pub returns-in-Err-clause-table : goal.returns-in-Err-clause-table
 returns-in-Err-clause-table g c =
     let P = c.args.core.now.program in
     let C = c.args.core.now.sizes in
-    stays P C (λ U. HasTable P U (told_of c.args.path.now.base) c.args.creators.now.table) (table_stable P C (told_of c.args.path.now.base) c.args.creators.now.table) c.args.seat.now.seen
-    c.fetch.new.seat.seen c.fetch.ensures.history c.requires.table
+    stays P C (λ U. HasTable P U (rested_at c.args.path.now.base) c.args.creators.now.table) (table_stable P C (rested_at c.args.path.now.base) c.args.creators.now.table) c.args.seat.now.seen c.fetch.new.seat.seen c.fetch.ensures.history c.requires.table
 
 pub dispatch-tag-requires-clause-table : goal.dispatch-tag-requires-clause-table
 dispatch-tag-requires-clause-table g c =
     let P = c.args.core.now.program in
     let C = c.args.core.now.sizes in
     let h = c.fetch.new.seat.seen in
-    subst (λ (z : ℕ × Table). HasTable P (unit_of P C h) z.0 z.1) (λ i. (
-      sym (released_told c.ring.result c.in-Ok.next.left c.args.path.now c.release-left.result c.release-left.new.self
-          c.release-left.ensures.reply) i,
-      sym c.release-left.ensures.table i,
-    ))
-    (stays P C (λ U. HasTable P U (told_of c.args.path.now.base) c.args.creators.now.table) (table_stable P C (told_of c.args.path.now.base) c.args.creators.now.table) c.args.seat.now.seen h
-    c.fetch.ensures.history c.requires.table)
+    subst (λ (z : ℕ × Table). HasTable P (unit_of P C h) z.0 z.1) (λ i. (sym (released_told c.ring.result c.in-Ok.next.left c.args.path.now c.release-left.result c.release-left.new.self c.release-left.ensures.reply) i, sym c.release-left.ensures.table i))
+    (stays P C (λ U. HasTable P U (rested_at c.args.path.now.base) c.args.creators.now.table) (table_stable P C (rested_at c.args.path.now.base) c.args.creators.now.table) c.args.seat.now.seen h c.fetch.ensures.history c.requires.table)
 
 pub returns-clause-touched : goal.returns-clause-touched
 returns-clause-touched g c =
@@ -67,5 +58,5 @@ returns-in-Err-clause-touched g c = touched_none _ _ _ refl
 
 pub returns-clause-told : goal.returns-clause-told
 returns-clause-told g c =
-    ap told_of c.dispatch-tag.ensures.base
+    ap rested_at c.dispatch-tag.ensures.base
     ∙ released_told c.ring.result c.in-Ok.next.left c.args.path.now c.release-left.result c.release-left.new.self c.release-left.ensures.reply

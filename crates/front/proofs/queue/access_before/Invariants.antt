@@ -1,12 +1,12 @@
 use Rattle.std.proofs.Common.{◌≡◌, ◌≤◌, ◌+◌, drop, length}
-use Rattle.front.specs.Queues.{accesses}
+use Rattle.front.specs.Queues.{memory_records}
 use Rattle.front.proofs.queue.access_before.Given as goal
 
 abbrev pub invariant-loop-j : goal.invariant-loop-j
 invariant-loop-j l =
     record {
       inside : l.j ≤ length l.records;
-      behind : accesses (drop l.j l.records) + l.left ≡ l.younger;
+      behind : memory_records (drop l.j l.records) + l.left ≡ l.younger;
     }
 
 abbrev pub decreases-loop-j : goal.decreases-loop-j

@@ -2,7 +2,7 @@ use Rattle.std.proofs.Common.{◌≡◌, ◌<◌, ◌-◌, suc, [], sym, ◌∙�
 use Rattle.std.specs.List.{AllByRecursion}
 use Rattle.inorder.specs.History.{front, unit_of}
 use Rattle.inorder.specs.OneHistory.{Adds}
-use Rattle.front.specs.Knows.{Knows}
+use Rattle.front.specs.Knows.{FrontKnows}
 use Rattle.front.proofs.Crowded.{all_in, full_there, room_there}
 use Rattle.front.proofs.InQueue.{few_live, queue_room}
 use Rattle.front.proofs.Named.{small_stations}
@@ -37,7 +37,7 @@ returns-in-Free-clause-reply c =
     let records = c.args.path.now.records in
     let base = c.args.path.now.base in
     let adds : Adds P C front old h [] = subst (λ i. Adds P C i old h []) c.requires.by c.look-seen.ensures.history in
-    let knows : Knows P C (unit_of P C h) records base = stays P C (λ U. Knows P C U records base) (knows_stable P C records base) old h adds c.requires.knows in
+    let knows : FrontKnows P C (unit_of P C h) records base = stays P C (λ U. FrontKnows P C U records base) (knows_stable P C records base) old h adds c.requires.knows in
     let few = room_there P C h adds.legal records base knows _ c.in-Some.record c.in-Some.ensures c.look-seen.result c.look-seen.ensures.reply c.in-Free.is in
     λ a. omega (arith, few, c.queue-queue.ensures, c.if-queue-eq0.false)
 
@@ -50,9 +50,6 @@ returns-clause-reply c =
     let records = c.args.path.now.records in
     let base = c.args.path.now.base in
     let adds : Adds P C front old h [] = subst (λ i. Adds P C i old h []) c.requires.by c.look-seen.ensures.history in
-    let knows : Knows P C (unit_of P C h) records base = stays P C (λ U. Knows P C U records base) (knows_stable P C records base) old h adds c.requires.knows in
-    let whole : suc (c.queue-queue.result - 1) ≡ C.queue = omega (arith, c.queue-queue.ensures, c.if-queue-eq0.false) in (
-      sym c.reaches_memory.ensures ∙ c.if-not-reaches_memory.false,
-      full_there P C h adds.legal records base knows _ c.in-Some.record c.in-Some.ensures c.look-seen.result c.look-seen.ensures.reply
-          c.in_default-state.not-Free whole,
-    )
+    let knows : FrontKnows P C (unit_of P C h) records base = stays P C (λ U. FrontKnows P C U records base) (knows_stable P C records base) old h adds c.requires.knows in
+    let whole : suc (c.queue-queue.result - 1) ≡ C.queue = omega (arith, c.queue-queue.ensures, c.if-queue-eq0.false) in
+    (sym c.reaches_memory.ensures ∙ c.if-not-reaches_memory.false, full_there P C h adds.legal records base knows _ c.in-Some.record c.in-Some.ensures c.look-seen.result c.look-seen.ensures.reply c.in_default-state.not-Free whole)

@@ -3,7 +3,7 @@ use Rattle.std.proofs.Common.{◌<◌, [], sym, ◌∙◌, refl, subst, arith}
 use Rattle.inorder.specs.History.{front, unit_of}
 use Rattle.inorder.specs.OneHistory.{Adds}
 use Rattle.inorder.proofs.Histories.{adds_on}
-use Rattle.front.specs.Knows.{Knows}
+use Rattle.front.specs.Knows.{FrontKnows}
 use Rattle.front.proofs.Misses.{all_one_more, is_miss, was_none}
 use Rattle.front.proofs.Named.{all_get, small_stations}
 use Rattle.front.proofs.Splitting.{stays}
@@ -15,8 +15,7 @@ look-seen-requires-clause-station c =
     let P = c.args.core.now.program in
     let C = c.args.core.now.sizes in
     let inv = c.loop-at.invariant in
-    all_get (λ x. x.station < C.ring) c.args.path.now.records (small_stations P C c.loop-at.seat.seen inv.adds.legal c.args.path.now.records c.args.path.now.base _ inv.knows
-    (omega (arith, c.requires.least))) c.loop-at.at c.in-Some.record (sym c.at.ensures ∙ c.in-Some.is)
+    all_get (λ x. x.station < C.ring) c.args.path.now.records (small_stations P C c.loop-at.seat.seen inv.adds.legal c.args.path.now.records c.args.path.now.base _ inv.knows (omega (arith, c.requires.least))) c.loop-at.at c.in-Some.record (sym c.at.ensures ∙ c.in-Some.is)
 
 pub returns-in-Miss-clause-history : goal.returns-in-Miss-clause-history
 returns-in-Miss-clause-history c =
@@ -35,7 +34,7 @@ returns-in-Miss-clause-reply c =
     let base = c.args.path.now.base in
     let new = c.look-seen.new.seat.seen in
     let mine : Adds P C front c.loop-at.seat.seen new [] = subst (λ i. Adds P C i c.loop-at.seat.seen new []) (inv.same.by ∙ c.requires.by) c.look-seen.ensures.history in
-    let knows : Knows P C (unit_of P C new) records base = stays P C (λ U. Knows P C U records base) (knows_stable P C records base) c.loop-at.seat.seen new mine inv.knows in
+    let knows : FrontKnows P C (unit_of P C new) records base = stays P C (λ U. FrontKnows P C U records base) (knows_stable P C records base) c.loop-at.seat.seen new mine inv.knows in
     let here = sym c.at.ensures ∙ c.in-Some.is in
     record {
       miss = record {
@@ -64,7 +63,6 @@ loop-at-preserved c =
       core = kept.core ∙ inv.core;
       same = record { core = kept.core ∙ inv.same.core; by = kept.by ∙ inv.same.by };
       adds = both;
-      knows = stays P C (λ U. Knows P C U records base) (knows_stable P C records base) c.loop-at.seat.seen new mine inv.knows;
-      none = all_one_more _ records c.loop-at.at c.in-Some.record inv.none (sym c.at.ensures ∙ c.in-Some.is)
-          (was_none P C old new c.in-Some.record c.look-seen.result both c.look-seen.ensures.reply c.in_default-state.not-Miss);
+      knows = stays P C (λ U. FrontKnows P C U records base) (knows_stable P C records base) c.loop-at.seat.seen new mine inv.knows;
+      none = all_one_more _ records c.loop-at.at c.in-Some.record inv.none (sym c.at.ensures ∙ c.in-Some.is) (was_none P C old new c.in-Some.record c.look-seen.result both c.look-seen.ensures.reply c.in_default-state.not-Miss);
     }

@@ -2,8 +2,9 @@ use Rattle.std.proofs.Common.{◌≡◌, [], length}
 use Rattle.inorder.specs.History.{front, unit_of}
 use Rattle.inorder.specs.OneHistory.{Adds}
 use Rattle.front.specs.Folding.{IsFolding}
-use Rattle.front.specs.Rests.{HasNobody, TellsFirst}
+use Rattle.front.specs.Rests.{TellsFirst}
 use Rattle.station.specs.Seats.{IsSame}
+use Rattle.station.specs.Renewals.{HasNobody}
 use Rattle.front.proofs.rest.fold_all.Given as goal
 
 abbrev pub invariant-loop-oldest : goal.invariant-loop-oldest

@@ -1,7 +1,7 @@
 use Rattle.std.proofs.Common.{◌≡◌, Some, sym, subst}
 use Rattle.inorder.specs.Machine.{State}
 use Rattle.inorder.specs.Runs.{after}
-use Rattle.back.specs.Ends.{StopsThere, outcome_of}
+use Rattle.back.specs.Ends.{StopsThere, ending_of}
 use Rattle.back.proofs.SeatKept.{after_is, outcome_stops, plain}
 use Rattle.back.proofs.backs.Back.end.Goals as goal
 
@@ -15,5 +15,5 @@ returns-clause-in_order g c =
     let stops = outcome_stops P b.seat.core.sizes b.seat.seen k.legal b.committed b.low b.head b.ended unit in
     record {
       state = subst (λ (s : State). after P s.count ≡ Some s) (sym c.committed.view_is) after_it;
-      stops = subst (λ o. StopsThere P c.committed.inside.count o) (sym c.outcome.ensures) (subst (λ (s : State). StopsThere P s.count (outcome_of b.ended)) (sym c.committed.view_is) stops);
+      stops = subst (λ o. StopsThere P c.committed.inside.count o) (sym c.outcome.ensures) (subst (λ (s : State). StopsThere P s.count (ending_of b.ended)) (sym c.committed.view_is) stops);
     }

@@ -1,7 +1,7 @@
 use Rattle.std.proofs.Common.{[], sym, ap, ◌∙◌, subst}
 use Rattle.inorder.specs.OneHistory.{Adds}
 use Rattle.station.specs.Seats.{TheCore}
-use Rattle.back.specs.Backs.{IsSame, TheBack, back_of}
+use Rattle.back.specs.Backs.{IsSameBack, TheBack, back_of}
 use Rattle.back.proofs.Calls.{is_same}
 use Rattle.back.proofs.SeatKept.{kept_by}
 use Rattle.back.proofs.backs.Back.operand.Goals as goal
@@ -19,5 +19,5 @@ returns-clause-kept g c =
     let core = ap (λ (s : TheBack). s.core) c.self.view_is ∙ c.requires.core in
     let adds = subst (λ (d : TheCore). Adds d.program d.sizes b.seat.by b.seat.seen c.operand.new.seat.seen []) (sym core) c.operand.ensures.history in
     let kept = kept_by g.J.Naming.program b.program b.committed b.low b.head b.ended b.publisher b.seat c.operand.new.seat [] c.self.invariant c.operand.ensures.kept.core c.operand.ensures.kept.by adds tt in
-    subst (λ old. IsSame old (back_of c.operand.new.seat b.ended b.publisher)) c.self.view_is
+    subst (λ old. IsSameBack old (back_of c.operand.new.seat b.ended b.publisher)) c.self.view_is
     (is_same g.J.Naming.program b.program b.committed b.low b.head b.ended b.publisher b.seat c.operand.new.seat c.self.invariant kept c.operand.ensures.kept.core c.operand.ensures.kept.by)

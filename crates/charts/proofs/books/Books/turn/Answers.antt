@@ -1,13 +1,14 @@
 use Rattle.std.proofs.Common.{◌≡◌, ◌∙◌, ◌++◌, ap, length}
 use Rattle.std.specs.Prelude.{slice_get}
-use Rattle.charts.specs.Rows.{Kept, all_seen, counted, kept, let_row, newcomer, retires}
+use Rattle.charts.specs.Rows.{SoFar, all_seen, kept, let_row, newcomer, retires}
 use Rattle.charts.specs.Events.{entry_events, moved_events}
+use Rattle.devices.specs.Counted.{counted}
 use Rattle.charts.proofs.BooksKept.{turn_events, turn_kept}
 use Rattle.charts.proofs.books.Books.turn.Goals as goal
 
 pub returns-clause-events : goal.returns-clause-events
 returns-clause-events c =
-    let k : Kept = kept c.args.self.now in
+    let k : SoFar = kept c.args.self.now in
     let W = c.args.window.now in
     let there : c.station_at.result ≡ slice_get W (length k.rows) = c.station_at.ensures ∙ ap (slice_get W) c.row_count-count.ensures in
     let new : c.let_row-new.result ≡ newcomer k c.args.answer W = c.let_row-new.ensures
@@ -20,7 +21,7 @@ returns-clause-events c =
 
 pub returns-clause-kept : goal.returns-clause-kept
 returns-clause-kept c =
-    let k : Kept = kept c.args.self.now in
+    let k : SoFar = kept c.args.self.now in
     let W = c.args.window.now in
     let there : c.station_at.result ≡ slice_get W (length k.rows) = c.station_at.ensures ∙ ap (slice_get W) c.row_count-count.ensures in
     let new : c.let_row-new.result ≡ newcomer k c.args.answer W = c.let_row-new.ensures

@@ -1,5 +1,5 @@
 use Rattle.std.proofs.Common.{◌∙◌, subst}
-use Rattle.drive.specs.Moments.{Grows}
+use Rattle.drive.specs.Moments.{GrowsLegally}
 use Rattle.drive.proofs.Histories.{grows_on}
 use Rattle.drive.proofs.Meetings.{have_met}
 use Rattle.station.specs.Seats.{TheCore}
@@ -11,8 +11,8 @@ returns-clause-grows g c =
     let one = c.tell.new.self in
     let two = c.tell-2.new.self in
     let three = c.tell-3.new.self in
-    let second = subst (λ (k : TheCore). Grows k one.seen two.seen) c.tell.ensures.core c.tell-2.ensures.grows in
-    let third = subst (λ (k : TheCore). Grows k two.seen three.seen) (c.tell-2.ensures.core ∙ c.tell.ensures.core) c.tell-3.ensures.grows in
+    let second = subst (λ (k : TheCore). GrowsLegally k one.seen two.seen) c.tell.ensures.core c.tell-2.ensures.grows in
+    let third = subst (λ (k : TheCore). GrowsLegally k two.seen three.seen) (c.tell-2.ensures.core ∙ c.tell.ensures.core) c.tell-3.ensures.grows in
     grows_on old.core old.seen two.seen three.seen (grows_on old.core old.seen one.seen two.seen c.tell.ensures.grows second) third
 
 pub returns-clause-reply : goal.returns-clause-reply

@@ -1,5 +1,5 @@
 use Rattle.std.proofs.Common.{ap, subst, sym}
-use Rattle.drive.specs.Moments.{Grows}
+use Rattle.drive.specs.Moments.{GrowsLegally}
 use Rattle.drive.specs.Renewals.{HasBegunAgain}
 use Rattle.drive.specs.Sessions.{TheSession}
 use Rattle.drive.specs.Workers.{AreWorkers, HasNone}
@@ -20,8 +20,8 @@ returns-in-Ok-clause-grows g c =
     let old = c.self.inside in
     let t = c.in-Ok.stage in
     let grown = begun_grows old.core t.0 old.all.seen t.1.seen old.back t.3 c.at-session.ensures.legal t.2.told c.in-Ok.ensures.renewed in
-    let from = subst (λ (s : TheSession). Grows s.core s.seen t.1.seen) c.self.view_is grown in
-    subst (λ (s : TheSession). Grows c.args.self.core c.args.self.seen s.seen) (sym c.at-session.ensures.session) from
+    let from = subst (λ (s : TheSession). GrowsLegally s.core s.seen t.1.seen) c.self.view_is grown in
+    subst (λ (s : TheSession). GrowsLegally c.args.self.core c.args.self.seen s.seen) (sym c.at-session.ensures.session) from
 
 pub returns-in-Ok-clause-reply : goal.returns-in-Ok-clause-reply
 returns-in-Ok-clause-reply g c =

@@ -1,7 +1,7 @@
 use Rattle.std.proofs.Common.{◌∙◌, sym, ap, subst, length}
 use Rattle.inorder.specs.History.{unit_of}
 use Rattle.station.specs.Seats.{Caller}
-use Rattle.front.specs.Path.{told_of}
+use Rattle.front.specs.Path.{rested_at}
 use Rattle.front.specs.declared.path.base_state.Base.{Base}
 use Rattle.front.proofs.Fronts.{IsFirstBase, new_adds, new_front, nobody}
 use Rattle.front.proofs.dispatcher.Front.new.Goals as goal
@@ -26,6 +26,6 @@ returns-clause-history g c = new_adds c.args.core.now c.args.seat c.requires.sea
 pub returns-clause-told : goal.returns-clause-told
 returns-clause-told g c =
     let v = c.args.seat in
-    ap told_of c.new.ensures.base
+    ap rested_at c.new.ensures.base
     ∙ (ap (λ (z : Caller). length (unit_of z.core.program z.core.sizes z.seen).tenants) c.new-base.ensures.rested
     ∙ ap (λ z. length z) (nobody v.core.program v.core.sizes v.seen c.what_is_seen_is_legal.ensures c.requires.seat.none))

@@ -2,7 +2,7 @@ use Rattle.std.proofs.Common.{◌∙◌, List, ap, subst, sym}
 use Rattle.inorder.specs.declared.history.Entry.{Entry}
 use Rattle.inorder.specs.Callers.{GoesOn as HasNoStop}
 use Rattle.inorder.specs.History.{unit_of}
-use Rattle.back.specs.Stills.{GoesOn, TheStill, head_at}
+use Rattle.back.specs.Stills.{GoesOnForBack, TheStillBack, head_at}
 use Rattle.station.specs.Renewals.{seats_of}
 use Rattle.station.specs.Seats.{TheCore}
 use Rattle.pool.specs.Committing.{TheCommitter}
@@ -22,9 +22,9 @@ enter_again-requires-clause-goes_on g c =
     let core_is = ensured.core ∙ at_core in
     let may = c.a_back_enters_behind_a_renewal.ensures.refused c.args.parts.1 c.in-Err.refused.1 (seats_of c.args.parts.2 left.result.0 c.args.parts.3)
     (seats_of c.in-Err.refused.2 c.in-Err.refused.3 c.in-Err.refused.4) core_is ensured.goes_on.by_is c.in-Err.ensures.err in
-    let still_core = ap (λ (s : TheStill). s.core) ensured.still ∙ at_core in
-    let still_seen = ap (λ (s : TheStill). s.seen) ensured.still ∙ sym ensured.seen in
-    subst (λ (z : TheCore × List Entry). GoesOn z.0 z.1 c.in-Err.refused.3) (λ i. (sym still_core i, sym still_seen i)) may.goes_on
+    let still_core = ap (λ (s : TheStillBack). s.core) ensured.still ∙ at_core in
+    let still_seen = ap (λ (s : TheStillBack). s.seen) ensured.still ∙ sym ensured.seen in
+    subst (λ (z : TheCore × List Entry). GoesOnForBack z.0 z.1 c.in-Err.refused.3) (λ i. (sym still_core i, sym still_seen i)) may.goes_on
 
 pub enter_again-requires-clause-head : goal.enter_again-requires-clause-head
 enter_again-requires-clause-head g c =

@@ -1,7 +1,6 @@
 use Rattle.std.proofs.Common.{◌≡◌, ℕ, nat_eq, sym, ◌∙◌, subst, eq-eqb}
 use Rattle.std.proofs.lemmas.Bool.{eqb-true}
 use Rattle.ruu_words.specs.Fields.{producer_of, tag_of}
-use Rattle.ruu_words.specs.Kinds.{Delivers}
 use Rattle.station.specs.Writeback.{CanDeliver}
 use Rattle.station.proofs.Carrying.{can_deliver, serves_nobody, serves_one}
 use Rattle.station.proofs.Calls.{Of, of_one, taken}

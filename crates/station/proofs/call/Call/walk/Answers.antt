@@ -1,10 +1,10 @@
 use Rattle.std.proofs.Common.{◌≡◌, true, ℕ, ◌+◌, ◌||◌, refl, sym, ap, ◌∙◌, arith}
 use Rattle.inorder.specs.declared.history.Source.TheVariants.{First, Second}
-use Rattle.station.specs.Calls.{IsLater, Serves, TheCall, Woke}
-use Rattle.station.specs.Carrying.{EndsWalk, HasValueOf, IsServedAll, IsServing, OfTenant}
+use Rattle.station.specs.Calls.{IsLater, TheCall}
+use Rattle.station.specs.Carrying.{HasValueOf, IsServedAll, IsServing, OfTenant}
 use Rattle.station.specs.Seats.{TheCore}
 use Rattle.station.specs.Waking.{Wakes}
-use Rattle.station.proofs.Calls.{Of, after, before, joined, legal_at, taken}
+use Rattle.station.proofs.Calls.{after, before, joined, legal_at, taken}
 use Rattle.station.proofs.Carrying.{all_served, any_of, carries_both, legal_behind, value_behind, walks_away}
 use Rattle.station.proofs.Waking.{either_one, either_other, one_of, wakes_before, wakes_ending, wakes_on}
 use Rattle.station.proofs.call.Call.walk.Goals as goal

@@ -13,7 +13,6 @@ use Rattle.ruu_words.specs.Content.{IsStation}
 use Rattle.ruu_words.specs.Fields.{tag_of}
 use Rattle.ruu_words.specs.Kinds.{Claims}
 use Rattle.ruu_words.specs.Telling.{Grows}
-use Rattle.ruu_words.specs.declared.rule.Role.TheVariants.{Worker}
 use Rattle.station.specs.Calls.{IsLater, IsLegalCall}
 use Rattle.station.proofs.Calls.{Of, joined, legal_at, of_one, program_at, taken}
 use Rattle.station.specs.Claiming.{HasSeen, HasSource, IsNext, IsOpenAs, SourceAnswers}

@@ -1,4 +1,4 @@
-use Rattle.std.proofs.Common.{ℕ, List, [], sym, ap, subst, rules}
+use Rattle.std.proofs.Common.{List, [], ap, subst, rules}
 use Rattle.inorder.specs.declared.history.Entry.{Entry}
 use Rattle.inorder.specs.OneHistory.{Adds}
 use Rattle.ruu_words.specs.Views.{IsCaller}

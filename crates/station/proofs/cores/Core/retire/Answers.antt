@@ -1,4 +1,4 @@
-use Rattle.std.proofs.Common.{◌≡◌, ℕ, sym, subst, rules}
+use Rattle.std.proofs.Common.{ℕ, sym, subst, rules}
 use Rattle.ruu_words.specs.declared.rule.Role.TheVariants.{Back}
 use Rattle.station.specs.Calls.{AnswersRetire, TheCall}
 use Rattle.station.specs.Retirement.{RetireAnswers}

@@ -1,4 +1,4 @@
-use Rattle.std.proofs.Common.{◌≡◌, ◌≢◌, ℕ, subst, rules}
+use Rattle.std.proofs.Common.{◌≡◌, ◌≢◌, rules}
 use Rattle.ruu_words.specs.declared.rule.View.{View}
 use Rattle.ruu_words.specs.declared.station.StationState.TheVariants.{Addr}
 use Rattle.station.specs.Retirement.{RetireAnswers}

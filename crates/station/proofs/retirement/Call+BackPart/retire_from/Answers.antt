@@ -1,9 +1,7 @@
-use Rattle.std.proofs.Common.{◌≡◌, true, false, Bool, [], ◌∷◌, subst}
+use Rattle.std.proofs.Common.{[], ◌∷◌}
 use Rattle.inorder.specs.declared.history.Event.TheVariants.{Refuses}
 use Rattle.inorder.specs.declared.history.Refusal.TheVariants.{Over}
 use Rattle.ruu_words.specs.Kinds.{Tells}
-use Rattle.station.specs.Calls.{seen_unit}
-use Rattle.station.specs.Seats.{IsAtHead}
 use Rattle.station.proofs.Adding.{adds_these}
 use Rattle.station.proofs.retirement.Call+BackPart.retire_from.Goals as goal
 

@@ -10,7 +10,6 @@ use Rattle.station.specs.Carrying.{HasCarried, HasMadeOf, OfTenant}
 use Rattle.station.specs.Seats.{TheCore}
 use Rattle.station.specs.Writeback.{HasTenant}
 use Rattle.station.proofs.Writing.{finish_all, finish_made, finish_out, finish_stale, job_held, station_inside, tag_small}
-use Rattle.ruu_words.specs.declared.rule.Role.TheVariants.{Worker}
 use Rattle.station.specs.Calls.{IsLegalCall}
 use Rattle.station.proofs.Calls.{legal_at}
 use Rattle.station.specs.Waking.{IsSet, Wakes}
