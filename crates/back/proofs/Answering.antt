@@ -59,13 +59,16 @@ module _ (P : Program) (C : Sizes) (old new : List Entry) (a : Adds P C back old
   -- the head and what was committed stay
   pub head_same : head_station C (unit_of P C new) ≡ head_station C (unit_of P C old)
   head_same = subst (λ h. head_station C (unit_of P C h) ≡ head_station C (unit_of P C old)) (sym a.begins.is)
-      (back_stays P C (λ U. head_station C U ≡ head_station C (unit_of P C old)) (λ U by s b al ok q. head_stays P C U by s b al ∙ q) a.begins.more old (added_legal P C back old new [] a) (sym (ap renewals a.begins.is) ∙ a.one_table) (added_own P C back old new [] a) refl)
+      (back_stays P C (λ U. head_station C U ≡ head_station C (unit_of P C old)) (λ U by s b al ok q. head_stays P C U by s b al ∙ q) a.begins.more old (added_legal P C back old new [] a)
+      (sym (ap renewals a.begins.is) ∙ a.one_table) (added_own P C back old new [] a) refl)
 
   pub committed_same : committed P (unit_of P C new).tenants ≡ committed P (unit_of P C old).tenants
   committed_same = subst (λ h. committed P (unit_of P C h).tenants ≡ committed P (unit_of P C old).tenants) (sym a.begins.is)
-      (back_stays P C (λ U. committed P U.tenants ≡ committed P (unit_of P C old).tenants) (λ U by s b al ok q. by_others P C U by s ok (no_retire s (not_retire s b)) al ∙ q) a.begins.more old (added_legal P C back old new [] a) (sym (ap renewals a.begins.is) ∙ a.one_table) (added_own P C back old new [] a) refl)
+      (back_stays P C (λ U. committed P U.tenants ≡ committed P (unit_of P C old).tenants) (λ U by s b al ok q. by_others P C U by s ok (no_retire s (not_retire s b)) al ∙ q) a.begins.more old
+      (added_legal P C back old new [] a) (sym (ap renewals a.begins.is) ∙ a.one_table) (added_own P C back old new [] a) refl)
 
-  module _ (head place : ℕ) (head_is : head ≡ head_station C (unit_of P C old)) (inside : head < C.ring) (small : place < C.ring) (p : ℕ) (l : Load) (asked : IsAskedInOrder P (unit_of P C old) p (station_behind head C.ring place) l) where
+  module _ (head place : ℕ) (head_is : head ≡ head_station C (unit_of P C old)) (inside : head < C.ring) (small : place < C.ring) (p : ℕ) (l : Load)
+      (asked : IsAskedInOrder P (unit_of P C old) p (station_behind head C.ring place) l) where
     abbrev U : UpdateUnit
     U = unit_of P C new
 
@@ -103,7 +106,8 @@ module _ (P : Program) (C : Sizes) (old new : List Entry) (a : Adds P C back old
         (λ g. inr g)
         now
 
-    module _ (s : ℕ) (e : QueueEntry) (h : HasMet P U n head C.ring 0 place l.address (width l.op) s e) (content : Option ℕ) (shows : AtStation U n (station_behind head C.ring s) (λ u. u.second.value ≡ content)) where
+    module _ (s : ℕ) (e : QueueEntry) (h : HasMet P U n head C.ring 0 place l.address (width l.op) s e) (content : Option ℕ)
+        (shows : AtStation U n (station_behind head C.ring s) (λ u. u.second.value ≡ content)) where
       module _ (it : Has U p (IsLoadOf P (station_behind head C.ring place) l)) where
         -- what the store gives, by its data
         taken_is : answer (record e { content = content } ∷ load_entry l ∷ []) 1 ≡ forwarded 0 (taken_from e.address (bytes e.width) content l.address (width l.op))
@@ -127,7 +131,8 @@ module _ (P : Program) (C : Sizes) (old new : List Entry) (a : Adds P C back old
         waits_for_it never =
             let o = x P C U ok ring n head place head_now inside small p below l it s e h in
             by_waiting P C U ok ring n head place head_now inside small p below l it s e h
-            (λ u is live st. ap (λ d. taken_from e.address (bytes e.width) d l.address (width l.op)) (shows o.q u (small_q o.q o.before_it) is live st) ∙ forwards_not _ (λ raw f. never raw (taken_is ∙ f)))
+            (λ u is live st. ap (λ d. taken_from e.address (bytes e.width) d l.address (width l.op)) (shows o.q u (small_q o.q o.before_it) is live st) ∙
+            forwards_not _ (λ raw f. never raw (taken_is ∙ f)))
 
       pub forward_answers : (raw : ℕ) → answer (record e { content = content } ∷ load_entry l ∷ []) 1 ≡ Forward raw → CanLoad P U p l.address (loaded l.op raw) ⊎ IsStale U p
       forward_answers raw ans = ⊎_elim (λ it. inl (forwards_it it raw ans)) (λ g. inr g) now

@@ -32,7 +32,8 @@ module _ (P : Program) (seat seat' : Caller) (program : seat.core.program ≡ P)
     program = program;
     copied = copied;
     by_is = by;
-    legal = subst (λ Q. IsLegal Q seat.core.sizes seat.seen) program (legal_before seat.core.program seat.core.sizes a.begins.more seat.seen (subst (IsLegal seat.core.program seat.core.sizes) a.begins.is a.legal));
+    legal = subst (λ Q. IsLegal Q seat.core.sizes seat.seen) program (legal_before seat.core.program seat.core.sizes a.begins.more seat.seen
+        (subst (IsLegal seat.core.program seat.core.sizes) a.begins.is a.legal));
     unit = subst (λ s. KeepsUnit P seat.core.sizes (unit_in seat.core seat.seen) s None 0 None) (sym state_starts) (starts P seat.core.sizes (unit_in seat.core seat.seen) fresh);
     later = subst (λ (s : Snap). s.n ≤ state.count) (sym shown_is) zero-le;
   }
@@ -62,6 +63,7 @@ head_small head x ring r e f least =
 
 -- the same, of what the fields are
 pub kept_as : (P : Program) (seat : Caller) (copy : Program) (state state' : State) (low low' : Option ℕ) (head ring ring' : ℕ) (ended ended' : Option Stop) (shown : Snap)
-    → BackIsKept P seat copy state low ((head + 1) % ring) ended shown → state ≡ state' → low ≡ low' → ring ≡ ring' → ended ≡ ended' → BackIsKept P seat copy state' low' ((head + 1) % ring') ended' shown
+    → BackIsKept P seat copy state low ((head + 1) % ring) ended shown → state ≡ state' → low ≡ low' → ring ≡ ring' → ended ≡ ended' →
+    BackIsKept P seat copy state' low' ((head + 1) % ring') ended' shown
 kept_as P seat copy state state' low low' head ring ring' ended ended' shown k s w r e =
     subst (λ (z : State × Option ℕ × ℕ × Option Stop). BackIsKept P seat copy z.0 z.1 ((head + 1) % z.2) z.3 shown) (λ i. (s i, w i, r i, e i)) k

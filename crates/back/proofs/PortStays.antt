@@ -89,7 +89,8 @@ left_at P C U by s b a ok q u is =
     fate_at u' is' x e = ⊎_elim
         (λ same. ap (λ (z : Tenant). z.fate) (found u' u (sym is' ∙ same)) ∙ e)
         (λ (z : Acted P U by s (applied P C U by s).tenants q u).
-        ap (λ (y : Tenant). y.fate) (found u' (changed P by z.act u (older U.tenants q)) (sym is' ∙ z.now)) ∙ addr_on P by z.act (younger U.tenants q) u (older U.tenants q) x (subst IsNotBacks z.step b) z.may e)
+        ap (λ (y : Tenant). y.fate) (found u' (changed P by z.act u (older U.tenants q)) (sym is' ∙ z.now)) ∙
+        addr_on P by z.act (younger U.tenants q) u (older U.tenants q) x (subst IsNotBacks z.step b) z.may e)
         (exact P C U by s a q u is)
 
     standing_at : (u' : Tenant) → at (applied P C U by s).tenants q ≡ Some u' → (x : ℕ) → u.fate ≡ Addr x → u.standing ≡ Live → (u'.standing ≡ Live) ⊎ (u'.standing ≡ Squashed)
@@ -148,11 +149,13 @@ module _ (P : Program) (C : Sizes) (old new : List Entry) (a : Adds P C back old
       n ≤ length (unit_of P C old).tenants → AtStation (unit_of P C old) n station Fact →
       AtStation (unit_of P C new) n station Fact
   station_stays n station Fact lasting few k =
-      (to_new (Known_at n station Fact) (back_stays P C (Known_at n station Fact) (λ U by s b al ok q. at_station_step P C n station Fact lasting U by s b al ok q) a.begins.more old legal calm none_own (few, k))).1
+      (to_new (Known_at n station Fact) (back_stays P C (Known_at n station Fact) (λ U by s b al ok q. at_station_step P C n station Fact lasting U by s b al ok q) a.begins.more old legal calm
+      none_own (few, k))).1
 
   pub length_grows : length (unit_of P C old).tenants ≤ length (unit_of P C new).tenants
   length_grows = to_new (λ U. length (unit_of P C old).tenants ≤ length U.tenants)
-      (back_stays P C (λ U. length (unit_of P C old).tenants ≤ length U.tenants) (λ U by s b al ok q. let l = longer P C U by s al in omega (arith, l, q)) a.begins.more old legal calm none_own (omega arith))
+      (back_stays P C (λ U. length (unit_of P C old).tenants ≤ length U.tenants) (λ U by s b al ok q.
+      let l = longer P C U by s al in omega (arith, l, q)) a.begins.more old legal calm none_own (omega arith))
 
   -- a load that waits goes on, or was squashed
   pub asked_stays : (p station : ℕ) (l : Load) → IsAskedInOrder P (unit_of P C old) p station l → IsAskedInOrder P (unit_of P C new) p station l
@@ -178,7 +181,8 @@ module _ (P : Program) (C : Sizes) (old new : List Entry) (a : Adds P C back old
 
   -- the same of what a station shows
   pub shown_stays : (p station tag address : ℕ) → Has (unit_of P C old) p (ShowsAddress station tag address) → Has (unit_of P C new) p (ShowsAddress station tag address) ⊎ IsStale (unit_of P C new) p
-  shown_stays p station tag address q = to_new (λ U. Has U p (ShowsAddress station tag address) ⊎ IsStale U p) (back_stays P C (λ U. Has U p (ShowsAddress station tag address) ⊎ IsStale U p) step a.begins.more old legal calm none_own (inl q))
+  shown_stays p station tag address q = to_new (λ U. Has U p (ShowsAddress station tag address) ⊎ IsStale U p)
+      (back_stays P C (λ U. Has U p (ShowsAddress station tag address) ⊎ IsStale U p) step a.begins.more old legal calm none_own (inl q))
     where
       step : (U : UpdateUnit) (by : ℕ) (s : Step) → IsNotBacks s → Allowed P C U by s → IsSound P U.tenants →
           Has U p (ShowsAddress station tag address) ⊎ IsStale U p →
@@ -186,7 +190,16 @@ module _ (P : Program) (C : Sizes) (old new : List Entry) (a : Adds P C back old
       step U by s b al ok (inr gone) = inr (gone_stays P C U by s al p gone)
       step U by s b al ok (inl it) =
           let m = left_at P C U by s b al ok p it.tenant it.is in ⊎_elim
-          (λ live. inl (record { tenant = m.tenant; is = m.is; fact = record { live = live; station_is = m.left.station ∙ it.fact.station_is; tag_is = m.left.tag ∙ it.fact.tag_is; fate = m.left.fate address it.fact.fate } }))
+          (λ live. inl (record {
+            tenant = m.tenant;
+            is = m.is;
+            fact = record {
+              live = live;
+              station_is = m.left.station ∙ it.fact.station_is;
+              tag_is = m.left.tag ∙ it.fact.tag_is;
+              fate = m.left.fate address it.fact.fate;
+            };
+          }))
           (λ squashed. inr (record { tenant = m.tenant; is = m.is; fact = squashed }))
           (m.left.stays address it.fact.fate it.fact.live)
 

@@ -51,17 +51,20 @@ both_quiet (e ∷ es) ys x y = (x.0, both_quiet es ys x.1 y)
 
 -- A load got its value: each older one that was live before does not wait, or is blocked
 
-module _ (P : Program) (C : Sizes) (old cur new : List Entry) (head : ℕ) (head_is : head ≡ head_station C (unit_of P C old)) (inside : head < C.ring) (k : ℕ) (bound : k < C.ring) (blocked : Option (ℕ × ℕ)) (s : Scanned P C back old cur head C.ring k blocked)
+module _ (P : Program) (C : Sizes) (old cur new : List Entry) (head : ℕ) (head_is : head ≡ head_station C (unit_of P C old)) (inside : head < C.ring) (k : ℕ) (bound : k < C.ring)
+    (blocked : Option (ℕ × ℕ)) (s : Scanned P C back old cur head C.ring k blocked)
     (tag value : ℕ) (x : DidLoad P C back cur new (station_behind head C.ring k) tag value) where
   its_adds : Adds P C back old new (x.carried ++ Does (On x.p LoadIt) ∷ s.late)
-  its_adds = subst (λ es. Adds P C back old new es) (append_assoc x.carried (Does (On x.p LoadIt) ∷ []) s.late) (adds_on P C back old cur new s.late (x.carried ++ Does (On x.p LoadIt) ∷ []) s.adds x.adds)
+  its_adds = subst (λ es. Adds P C back old new es) (append_assoc x.carried (Does (On x.p LoadIt) ∷ []) s.late)
+      (adds_on P C back old cur new s.late (x.carried ++ Does (On x.p LoadIt) ∷ []) s.adds x.adds)
 
   its_quiet : AllByRecursion IsQuiet (x.carried ++ Does (On x.p LoadIt) ∷ s.late)
   its_quiet = both_quiet x.carried (Does (On x.p LoadIt) ∷ s.late) (walk_quiet P C new x.p x.carried x.walk) (tt, late_quiet s.late s.are_late)
 
   older_ones : EachLoad P C old (λ o. o < x.p → WasNotWaiting P C old new o ⊎ WasBlocked P C old new o)
   older_ones o h less = elim (cases_lt (rank (unit_of P C old).tenants o) k) [
-    | inl tried ↦ either_later P C old cur new head C.ring k x.adds.begins o (s.each (rank (unit_of P C old).tenants o) tried o (place_of P C old new (x.carried ++ Does (On x.p LoadIt) ∷ s.late) its_adds its_quiet head head_is inside o h))
+    | inl tried ↦ either_later P C old cur new head C.ring k x.adds.begins o (s.each (rank (unit_of P C old).tenants o) tried o
+        (place_of P C old new (x.carried ++ Does (On x.p LoadIt) ∷ s.late) its_adds its_quiet head head_is inside o h))
     | inr behind_it ↦ inl (none_behind P C old new (x.carried ++ Does (On x.p LoadIt) ∷ s.late) its_adds its_quiet head head_is inside k x.p bound
         (once_earlier P C old cur new (λ U. Has U x.p (IsLoadAt P (station_behind head C.ring k))) s.adds.begins x.when) o less h behind_it)
   ]
@@ -132,14 +135,16 @@ module _ (P : Program) (C : Sizes) (old new : List Entry) (head : ℕ) (head_is 
       load_tag = held.load.tenant.tag;
       store_tag = held.blocked.store.tenant.tag;
       load_is = subst (λ z. IsNamed (unit_of P C new) f.p z held.load.tenant.tag) (held.load.fact.station_is ∙ sym f.load_is) (named_new f.p held.load.tenant held.load.is load_new);
-      store_is = subst (λ z. IsNamed (unit_of P C new) held.blocked.q z held.blocked.store.tenant.tag) held.blocked.store.fact (named_new held.blocked.q held.blocked.store.tenant held.blocked.store.is store_new);
+      store_is = subst (λ z. IsNamed (unit_of P C new) held.blocked.q z held.blocked.store.tenant.tag) held.blocked.store.fact
+          (named_new held.blocked.q held.blocked.store.tenant held.blocked.store.is store_new);
       blocks = record { point = point; within = f.when.within; fact = held.blocked.blocks };
     }
 
     older_waits_not : EachLoad P C old (λ o. o < f.p → WasNotWaiting P C old new o)
     older_waits_not o h less = elim (cases_lt (rank_now o) f.place) [
       | inl before ↦ f.before (rank_now o) before o (place_now o h)
-      | inr behind_it ↦ none_behind P C old new s.late s.adds (late_quiet s.late s.are_late) head head_is inside f.place f.p f.bound (record { point = point; within = f.when.within; fact = held.load }) o less h behind_it
+      | inr behind_it ↦ none_behind P C old new s.late s.adds (late_quiet s.late s.are_late) head head_is inside f.place f.p f.bound
+          (record { point = point; within = f.when.within; fact = held.load }) o less h behind_it
     ]
 
     pub is_blocked : HasFoundBlocked P C back old new load store
@@ -170,7 +175,8 @@ is_calm d by old new Idle x = record { events = x.nothing.late; quiet = late_qui
 -- the head and the state in the middle of a scan
 pub head_now : (P : Program) (C : Sizes) (old now : List Entry) (head ring k : ℕ) (blocked : Option (ℕ × ℕ)) → Scanned P C back old now head ring k blocked
     → head ≡ head_station C (unit_of P C old) → head ≡ head_station C (unit_of P C now)
-head_now P C old now head ring k blocked s e = e ∙ sym (head_kept_on P C old now now s.late s.adds (late_quiet s.late s.are_late) (record { before_return = starts_same now; behind_call = s.adds.begins }))
+head_now P C old now head ring k blocked s e = e ∙ sym (head_kept_on P C old now now s.late s.adds (late_quiet s.late s.are_late)
+    (record { before_return = starts_same now; behind_call = s.adds.begins }))
 
 pub state_now : (P : Program) (C : Sizes) (old now : List Entry) (head ring k : ℕ) (blocked : Option (ℕ × ℕ)) → Scanned P C back old now head ring k blocked
     → committed P (unit_of P C now).tenants ≡ committed P (unit_of P C old).tenants

@@ -140,7 +140,8 @@ module _ (P : Program) (C : Sizes) (old new : List Entry) (station tag index : �
   ok = unit_sound P C before legal_here.0
 
   kept_before : KeepsUnit P C U state low head None
-  kept_before = quiet_keeps P C state low head None s.earlier old legal_here.0 (all_quiet P C s.earlier old [] legal_here.0 (none_to new before old until (record { more = s.earlier; is = refl }) r.adds.one_table) s.rest_is tt) k
+  kept_before = quiet_keeps P C state low head None s.earlier old legal_here.0 (all_quiet P C s.earlier old [] legal_here.0
+      (none_to new before old until (record { more = s.earlier; is = refl }) r.adds.one_table) s.rest_is tt) k
 
   here : Has (unit_of P C (e ∷ before)) r.p (IsStill a.tenant)
   here = record {
@@ -174,7 +175,9 @@ module _ (P : Program) (C : Sizes) (old new : List Entry) (station tag index : �
 
   kept_new : Kept_at new i half
   kept_new = subst (λ h. Kept_at h i half) (sym new_is)
-      (quiet_keeps P C (state_behind i half last low state) (low_in i half last) ((head + 1) % C.ring) (stop_in last) s.later (e ∷ before) legal (all_quiet P C s.later (e ∷ before) [] legal (sym (ap renewals new_is) ∙ none_from new (e ∷ before) old (record { more = s.later; is = new_is }) (record { more = e ∷ s.earlier; is = refl }) r.adds.one_table) s.not_own tt) kept_here)
+      (quiet_keeps P C (state_behind i half last low state) (low_in i half last) ((head + 1) % C.ring) (stop_in last) s.later (e ∷ before) legal
+      (all_quiet P C s.later (e ∷ before) [] legal (sym (ap renewals new_is) ∙ none_from new (e ∷ before) old (record { more = s.later; is = new_is }) (record { more = e ∷ s.earlier; is = refl })
+      r.adds.one_table) s.not_own tt) kept_here)
 
   own_fate : FateIs P a.tenant a.tenant.fate
   own_fate = (own_sound P C U back r.p r.n a ok).own.fate

@@ -33,7 +33,14 @@ module _ (P : Program) (C : Sizes) (old cur new : List Entry) (late : List Event
   load_now : (q : ℕ) → Has (unit_of P C old) q (IsLoadAt P station) → Has (unit_of P C cur) q (IsLoadAt P station) ⊎ WasNotWaiting P C old new q
   load_now q h =
       let u = since_at P C old cur a.begins a.legal q h.tenant h.is in ⊎_elim
-      (λ live. inl (record { tenant = u.tenant; is = u.is; fact = record { load = record { live = live; kind = ap (λ i. kind (instr_of P i).op) u.since.index ∙ h.fact.load.kind }; station_is = u.since.station ∙ h.fact.station_is } }))
+      (λ live. inl (record {
+        tenant = u.tenant;
+        is = u.is;
+        fact = record {
+          load = record { live = live; kind = ap (λ i. kind (instr_of P i).op) u.since.index ∙ h.fact.load.kind };
+          station_is = u.since.station ∙ h.fact.station_is;
+        };
+      }))
       (λ gone. inr (once_later P C old cur new (λ U. ¬ Has U q (IsWaitingLoad P)) new_begins (once_now P C old cur (λ U. ¬ Has U q (IsWaitingLoad P)) a.begins
       (λ w. gone (ap (λ (z : Tenant). z.standing) (found u.tenant w.tenant (sym u.is ∙ w.is)) ∙ w.fact.load.live)))))
       (live_or_not u.tenant.standing)
@@ -48,7 +55,11 @@ module _ (P : Program) (C : Sizes) (old cur new : List Entry) (late : List Event
       NoOtherWaits P C cur new station p → (q : ℕ) → Has (unit_of P C old) q (IsLoadAt P station) →
       WasNotWaiting P C old new q ⊎ WasBlocked P C old new q
   held_on p s w n q h = dite (ℕ_discrete q p)
-      (λ same. inr (once_earlier P C old cur new (λ U. (r : ℕ) × Blocks P U q r) a.begins (record { point = w.point; within = w.within; fact = (w.fact.blocked.q, subst (λ x. Blocks P (unit_of P C w.point) x w.fact.blocked.q) (sym same) w.fact.blocked.blocks) })))
+      (λ same. inr (once_earlier P C old cur new (λ U. (r : ℕ) × Blocks P U q r) a.begins (record {
+        point = w.point;
+        within = w.within;
+        fact = (w.fact.blocked.q, subst (λ x. Blocks P (unit_of P C w.point) x w.fact.blocked.q) (sym same) w.fact.blocked.blocks);
+      })))
       (λ other. ⊎_elim (λ x. inl (earlier q (n q other x))) (λ y. inl y) (load_now q h))
 
 -- What was found lasts
@@ -136,7 +147,8 @@ module _ (P : Program) (C : Sizes) (old cur new : List Entry) (head ring k k' : 
       are_late = s.are_late;
       adds = adds_on P C back old cur new s.late [] s.adds x.adds;
       each = held_each;
-      first = subst (λ o. FirstIs P C old new head ring k' o) (sym some) (keep (first_later P C old cur new head ring k x.adds.begins (Some b) (subst (λ o. FirstIs P C old cur head ring k o) some s.first)));
+      first = subst (λ o. FirstIs P C old new head ring k' o) (sym some) (keep (first_later P C old cur new head ring k x.adds.begins (Some b)
+          (subst (λ o. FirstIs P C old cur head ring k o) some s.first)));
     }
       where
         keep : IsFirstBlocked P C old new head ring k b.0 b.1 → IsFirstBlocked P C old new head ring k' b.0 b.1

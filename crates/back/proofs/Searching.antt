@@ -255,7 +255,8 @@ module _ (P : Program) (C : Sizes) (old new : List Entry) (added : Adds P C back
   }
 
 -- one store further
-module _ (P : Program) (C : Sizes) (old mid new : List Entry) (before : Adds P C back old mid []) (added : Adds P C back mid new []) (head ring k k' place : ℕ) (l : Load) (next : k' ≡ k + 1) (small : k' ≤ place)
+module _ (P : Program) (C : Sizes) (old mid new : List Entry) (before : Adds P C back old mid []) (added : Adds P C back mid new []) (head ring k k' place : ℕ) (l : Load) (next : k' ≡ k + 1)
+    (small : k' ≤ place)
     (e : QueueEntry) (shows : AtStation (unit_of P C new) (length (unit_of P C mid).tenants) (station_behind head ring k) (IsEntryOf P e)) where
   abbrev n : ℕ
   n = length (unit_of P C old).tenants
@@ -271,7 +272,8 @@ module _ (P : Program) (C : Sizes) (old mid new : List Entry) (before : Adds P C
 
   -- of the tenant at the station
   at_k : (Fact : Tenant → Type 0) → ((u : Tenant) → IsEntryOf P e u → Fact u) → AtStation (unit_of P C new) n (station_behind head ring k) Fact
-  at_k Fact f = weaker (unit_of P C new) n (station_behind head ring k) (IsEntryOf P e) Fact f (fewer (unit_of P C new) n (length (unit_of P C mid).tenants) (station_behind head ring k) (IsEntryOf P e) few shows)
+  at_k Fact f = weaker (unit_of P C new) n (station_behind head ring k) (IsEntryOf P e) Fact f (fewer (unit_of P C new) n (length (unit_of P C mid).tenants) (station_behind head ring k)
+      (IsEntryOf P e) few shows)
 
   below : k < place
   below = omega (arith, next, small)
@@ -280,7 +282,8 @@ module _ (P : Program) (C : Sizes) (old mid new : List Entry) (before : Adds P C
   step_unknown o h i ans none = unknown P (unit_of P C new) n head ring k k' place l.address (width l.op) next o below (stayed o h) (at_k (Lacks P) (λ u x. lacks_of e l P u x i ans none))
 
   pub step_met : Found_at k' mid None → (i b : ℕ) → answer (e ∷ load_entry l ∷ []) 1 ≡ Blocked i → e.address ≡ Some b → HasMet P (unit_of P C new) n head ring k place l.address (width l.op) k e
-  step_met h i b ans ad = first_met P (unit_of P C new) n head ring k k' place l.address (width l.op) next e below (stayed None h) (at_k (IsMet P l.address (width l.op) e) (λ u x. met_of e l P u x i b ans ad))
+  step_met h i b ans ad = first_met P (unit_of P C new) n head ring k k' place l.address (width l.op) next e below (stayed None h)
+      (at_k (IsMet P l.address (width l.op) e) (λ u x. met_of e l P u x i b ans ad))
 
   pub step_known : (f : ℕ × QueueEntry) → Found_at k' mid (Some f) → (b : ℕ) → e.address ≡ Some b → Found_at k new (Some f)
   step_known f h b ad = some_more P (unit_of P C new) n head ring k k' place l.address (width l.op) next f.0 f.1 (stayed (Some f) h) (at_k (IsKnown P) (λ u x. known_of e l P u x b ad))

@@ -23,25 +23,26 @@ use Rattle.back.proofs.UnitKept.{IsQuiet, adds_keeps}
 
 -- The machine in order
 
-module _ (P : Program) (C : Sizes) (h : List Entry) (legal : IsLegal P C h) (state : State) (low : Option ℕ) (head : ℕ) (ended : Option Stop) (k : KeepsUnit P C (unit_of P C h) state low head ended) where
-  pub after_is : after P state.count ≡ Some state
-  after_is = subst (λ s. after P s.count ≡ Some s) (sym k.state_is) (in_order_state P (unit_of P C h).tenants (unit_sound P C h legal))
+module _ (P : Program) (C : Sizes) (h : List Entry) (legal : IsLegal P C h) (state : State) (low : Option ℕ) (head : ℕ) (ended : Option Stop) (k : KeepsUnit P C (unit_of P C h) state low head ended)
+  where
+    pub after_is : after P state.count ≡ Some state
+    after_is = subst (λ s. after P s.count ≡ Some s) (sym k.state_is) (in_order_state P (unit_of P C h).tenants (unit_sound P C h legal))
 
-  stopped : (code : Stop) → WhyEnded P (unit_of P C h) code → stop P (committed P (unit_of P C h).tenants).count ≡ Some code
-  stopped code (ByStop p t) = stops_of P (unit_of P C h).tenants (unit_sound P C h legal) p t.tenant code t.is t.fact.standing t.fact.fate
-  stopped code (Nowhere is none g) =
-      let s = committed P (unit_of P C h).tenants in
-      ap (then_stop P) (in_order_state P (unit_of P C h).tenants (unit_sound P C h legal)) ∙ (ap (λ i. stop_of (fetched P s i)) none ∙ ap Some (sym is))
+    stopped : (code : Stop) → WhyEnded P (unit_of P C h) code → stop P (committed P (unit_of P C h).tenants).count ≡ Some code
+    stopped code (ByStop p t) = stops_of P (unit_of P C h).tenants (unit_sound P C h legal) p t.tenant code t.is t.fact.standing t.fact.fate
+    stopped code (Nowhere is none g) =
+        let s = committed P (unit_of P C h).tenants in
+        ap (then_stop P) (in_order_state P (unit_of P C h).tenants (unit_sound P C h legal)) ∙ (ap (λ i. stop_of (fetched P s i)) none ∙ ap Some (sym is))
 
-  pub stops_there : (code : Stop) → EndIs P (unit_of P C h) (Some code) → stop P state.count ≡ Some code
-  stops_there code e = subst (λ s. stop P s.count ≡ Some code) (sym k.state_is) (stopped code e)
+    pub stops_there : (code : Stop) → EndIs P (unit_of P C h) (Some code) → stop P state.count ≡ Some code
+    stops_there code e = subst (λ s. stop P s.count ≡ Some code) (sym k.state_is) (stopped code e)
 
-  pub outcome_stops : StopsThere P state.count (ending_of ended)
-  outcome_stops = go ended k.end_is
-    where
-      go : (ended : Option Stop) → EndIs P (unit_of P C h) ended → StopsThere P state.count (ending_of ended)
-      go None e = tt
-      go (Some code) e = stops_there code e
+    pub outcome_stops : StopsThere P state.count (ending_of ended)
+    outcome_stops = go ended k.end_is
+      where
+        go : (ended : Option Stop) → EndIs P (unit_of P C h) ended → StopsThere P state.count (ending_of ended)
+        go None e = tt
+        go (Some code) e = stops_there code e
 
 -- Seats
 

@@ -127,7 +127,8 @@ module _ (P : Program) (C : Sizes) (old new : List Entry) where
         a = legal_then.1.1
 
         n : IsNamed (unit_of P C new) w.p a.tenant.station a.tenant.tag
-        n = named_on before starts w.adds.legal (none_from new before old starts (record { more = ends.earlier; is = refl }) w.adds.one_table) w.p a.tenant.station a.tenant.tag (record { tenant = a.tenant; is = a.is; new = live_is_recent P C before legal_then.0 w.p a.tenant a.is a.may.live; station_is = refl; tag_is = refl })
+        n = named_on before starts w.adds.legal (none_from new before old starts (record { more = ends.earlier; is = refl }) w.adds.one_table) w.p a.tenant.station a.tenant.tag
+            (record { tenant = a.tenant; is = a.is; new = live_is_recent P C before legal_then.0 w.p a.tenant a.is a.may.live; station_is = refl; tag_is = refl })
 
   -- and it is done with that value
   module _ (station tag p address v : ℕ) (named : IsNamed (unit_of P C old) p station tag) (can : CanLoad P (unit_of P C old) p address v ⊎ IsStale (unit_of P C old) p) where
@@ -143,7 +144,14 @@ module _ (P : Program) (C : Sizes) (old new : List Entry) where
         let done = at_load (unit_of P C point) w.p here.1.1 (subst (λ x. CanLoad P (unit_of P C point) x address v ⊎ IsStale (unit_of P C point) x) same can_here) in
         let there = unit_lasts P C (λ U. Has U w.p (λ t. t.fate ≡ Done v)) (λ U by z al ok h. done_stays P C w.p v U by z al h) s.later (e ∷ point) (subst (IsLegal P C) all w.adds.legal) done in
         let now = subst (λ h. Has (unit_of P C h) w.p (λ t. t.fate ≡ Done v)) (sym all) there in
-        record { tenant = w.named.tenant; is = w.named.is; new = w.named.new; station_is = w.named.station_is; tag_is = w.named.tag_is; fact = subst (λ (x : Tenant). x.fate ≡ Done v) (found now.tenant w.named.tenant (sym now.is ∙ w.named.is)) now.fact }
+        record {
+          tenant = w.named.tenant;
+          is = w.named.is;
+          new = w.named.new;
+          station_is = w.named.station_is;
+          tag_is = w.named.tag_is;
+          fact = subst (λ (x : Tenant). x.fate ≡ Done v) (found now.tenant w.named.tenant (sym now.is ∙ w.named.is)) now.fact;
+        }
       where
         step : (U : UpdateUnit) (by : ℕ) (s : Step) → IsNotBacks s → Allowed P C U by s →
             IsSound P U.tenants → CanLoad P U p address v ⊎ IsStale U p →
@@ -191,67 +199,69 @@ may_settle P C seen p station tag address v n c = record {
 
 -- The whole
 
-module _ (P : Program) (C : Sizes) (old mid late : List Entry) (first : Adds P C back old mid []) (then : Adds P C back mid late []) (station : ℕ) (l : Load) (w : SomeWaits P C old mid station l) where
-  both : Adds P C back old late []
-  both = adds_on P C back old mid late [] [] first then
+module _ (P : Program) (C : Sizes) (old mid late : List Entry) (first : Adds P C back old mid []) (then : Adds P C back mid late []) (station : ℕ) (l : Load) (w : SomeWaits P C old mid station l)
+  where
+    both : Adds P C back old late []
+    both = adds_on P C back old mid late [] [] first then
 
-  pub named_late : IsNamed (unit_of P C late) w.p station l.tag
-  named_late = named_later P C mid late [] then w.p station l.tag w.named
+    pub named_late : IsNamed (unit_of P C late) w.p station l.tag
+    named_late = named_later P C mid late [] then w.p station l.tag w.named
 
-  pub asked_late : IsAskedInOrder P (unit_of P C late) w.p station l
-  asked_late = asked_stays P C mid late then w.p station l w.asked
+    pub asked_late : IsAskedInOrder P (unit_of P C late) w.p station l
+    asked_late = asked_stays P C mid late then w.p station l w.asked
 
-  module _ (new : List Entry) where
-    -- no other waits
-    others : StartsWith new late → NoOtherWaits P C old new station w.p
-    others starts q other h = once_later P C old mid new (λ U. ¬ Has U q (IsWaitingLoad P)) (starts_on new late mid starts then.begins) (w.others q other h)
+    module _ (new : List Entry) where
+      -- no other waits
+      others : StartsWith new late → NoOtherWaits P C old new station w.p
+      others starts q other h = once_later P C old mid new (λ U. ¬ Has U q (IsWaitingLoad P)) (starts_on new late mid starts then.begins) (w.others q other h)
 
-    none : StartsWith new late → ¬ Has (unit_of P C new) w.p (IsWaitingLoad P) → NoLoadWaits P C old new station
-    none starts no_wait q h = dite (ℕ_discrete q w.p)
-        (λ same. once_now P C old new (λ U. ¬ Has U q (IsWaitingLoad P)) (starts_on new late old starts both.begins) (λ x. no_wait (subst (λ z. Has (unit_of P C new) z (IsWaitingLoad P)) same x)))
-        (λ other. others starts q other h)
+      none : StartsWith new late → ¬ Has (unit_of P C new) w.p (IsWaitingLoad P) → NoLoadWaits P C old new station
+      none starts no_wait q h = dite (ℕ_discrete q w.p)
+          (λ same. once_now P C old new (λ U. ¬ Has U q (IsWaitingLoad P)) (starts_on new late old starts both.begins) (λ x. no_wait (subst (λ z. Has (unit_of P C new) z (IsWaitingLoad P)) same x)))
+          (λ other. others starts q other h)
 
-    pub did_load : (address v : ℕ) →
-        CanLoad P (unit_of P C late) w.p address v ⊎ IsStale (unit_of P C late) w.p →
-        IsWritten P C back late new station l.tag LoadIt (λ q. IsWalk P C new q) →
-        DidLoad P C back old new station l.tag v
-    did_load address v can x = record {
-      p = x.p;
-      tenant = is_done P C late new station l.tag w.p address v named_late can x;
-      carried = x.behind;
-      walk = x.carried;
-      adds = subst (λ es. Adds P C back old new es) (append-nil (x.behind ++ Does (On x.p LoadIt) ∷ [])) (adds_on P C back old late new [] (x.behind ++ Does (On x.p LoadIt) ∷ []) both x.adds);
-      when = once_earlier P C old late new (λ U. Has U x.p (IsLoadAt P station)) both.begins (stood_there P C late new station l.tag x);
-    }
-
-    pub came_late : WasStale P C back late new station l.tag → HasPassed P C back old new station
-    came_late x = record {
-      late = Refuses (Stale x.p) ∷ [];
-      are_late = ((x.p, refl), tt);
-      adds = adds_on P C back old late new [] (Refuses (Stale x.p) ∷ []) both x.adds;
-      none = none x.adds.begins (stale_waits_not P (unit_of P C new) w.p (is_gone P C late new station l.tag w.p named_late x));
-    }
-
-    module _ (last : Adds P C back late new []) where
-      pub has_gone : ¬ Has (unit_of P C new) w.p (IsWaitingLoad P) → HasPassed P C back old new station
-      has_gone no_wait = record { late = []; are_late = tt; adds = adds_on P C back old late new [] [] both last; none = none last.begins no_wait }
-
-      -- it is there, so it was not squashed before
-      not_stale : Has (unit_of P C new) w.p (IsLoadOf P station l) → ¬ IsStale (unit_of P C late) w.p
-      not_stale h g = stale_waits_not P (unit_of P C new) w.p
-          (subst (λ z. IsStale (unit_of P C z) w.p) (sym last.begins.is) (unit_lasts P C (λ U. IsStale U w.p) (λ U by z al ok x. gone_stays P C U by z al w.p x) last.begins.more late (subst (IsLegal P C) last.begins.is last.legal) g))
-          (record { tenant = h.tenant; is = h.is; fact = record { load = h.fact.load; address = l.address; fate = h.fact.fate } })
-
-      pub holds_back : (s : ℕ) → IsBlockedAt P (unit_of P C late) w.p s ⊎ IsStale (unit_of P C late) w.p → Has (unit_of P C new) w.p (IsLoadOf P station l) → HasHeldBack P C back old new station s
-      holds_back s b h = record {
-        adds = adds_on P C back old late new [] [] both last;
-        p = w.p;
-        when = once_later P C old late new (HoldsBack P w.p station s) last.begins (once_now P C old late (HoldsBack P w.p station s) both.begins (record {
-          blocked = ⊎_elim (λ x. x) (λ g. absurd (not_stale h g)) b;
-          load = ⊎_elim
-              (λ (x : Has (unit_of P C late) w.p (IsLoadOf P station l)). record { tenant = x.tenant; is = x.is; fact = record { load = x.fact.load; station_is = x.fact.station_is } })
-              (λ g. absurd (not_stale h g))
-              asked_late;
-        }));
-        others = others last.begins;
+      pub did_load : (address v : ℕ) →
+          CanLoad P (unit_of P C late) w.p address v ⊎ IsStale (unit_of P C late) w.p →
+          IsWritten P C back late new station l.tag LoadIt (λ q. IsWalk P C new q) →
+          DidLoad P C back old new station l.tag v
+      did_load address v can x = record {
+        p = x.p;
+        tenant = is_done P C late new station l.tag w.p address v named_late can x;
+        carried = x.behind;
+        walk = x.carried;
+        adds = subst (λ es. Adds P C back old new es) (append-nil (x.behind ++ Does (On x.p LoadIt) ∷ [])) (adds_on P C back old late new [] (x.behind ++ Does (On x.p LoadIt) ∷ []) both x.adds);
+        when = once_earlier P C old late new (λ U. Has U x.p (IsLoadAt P station)) both.begins (stood_there P C late new station l.tag x);
       }
+
+      pub came_late : WasStale P C back late new station l.tag → HasPassed P C back old new station
+      came_late x = record {
+        late = Refuses (Stale x.p) ∷ [];
+        are_late = ((x.p, refl), tt);
+        adds = adds_on P C back old late new [] (Refuses (Stale x.p) ∷ []) both x.adds;
+        none = none x.adds.begins (stale_waits_not P (unit_of P C new) w.p (is_gone P C late new station l.tag w.p named_late x));
+      }
+
+      module _ (last : Adds P C back late new []) where
+        pub has_gone : ¬ Has (unit_of P C new) w.p (IsWaitingLoad P) → HasPassed P C back old new station
+        has_gone no_wait = record { late = []; are_late = tt; adds = adds_on P C back old late new [] [] both last; none = none last.begins no_wait }
+
+        -- it is there, so it was not squashed before
+        not_stale : Has (unit_of P C new) w.p (IsLoadOf P station l) → ¬ IsStale (unit_of P C late) w.p
+        not_stale h g = stale_waits_not P (unit_of P C new) w.p
+            (subst (λ z. IsStale (unit_of P C z) w.p) (sym last.begins.is) (unit_lasts P C (λ U. IsStale U w.p) (λ U by z al ok x. gone_stays P C U by z al w.p x) last.begins.more late
+            (subst (IsLegal P C) last.begins.is last.legal) g))
+            (record { tenant = h.tenant; is = h.is; fact = record { load = h.fact.load; address = l.address; fate = h.fact.fate } })
+
+        pub holds_back : (s : ℕ) → IsBlockedAt P (unit_of P C late) w.p s ⊎ IsStale (unit_of P C late) w.p → Has (unit_of P C new) w.p (IsLoadOf P station l) → HasHeldBack P C back old new station s
+        holds_back s b h = record {
+          adds = adds_on P C back old late new [] [] both last;
+          p = w.p;
+          when = once_later P C old late new (HoldsBack P w.p station s) last.begins (once_now P C old late (HoldsBack P w.p station s) both.begins (record {
+            blocked = ⊎_elim (λ x. x) (λ g. absurd (not_stale h g)) b;
+            load = ⊎_elim
+                (λ (x : Has (unit_of P C late) w.p (IsLoadOf P station l)). record { tenant = x.tenant; is = x.is; fact = record { load = x.fact.load; station_is = x.fact.station_is } })
+                (λ g. absurd (not_stale h g))
+                asked_late;
+          }));
+          others = others last.begins;
+        }

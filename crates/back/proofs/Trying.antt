@@ -1,5 +1,6 @@
 -- What is found at one station.
-use Rattle.std.proofs.Common.{◌≡◌, ◌≢◌, ◌⊎◌, ℕ, ◌+◌, ◌<◌, ◌≤◌, Bool, true, false, cond, eqb, eqb-true, leb, leb-true, ltb, List, [], length, Some, None, refl, sym, ap, ◌∙◌, subst, inl, inr, ⊎_elim, arith}
+use Rattle.std.proofs.Common.{◌≡◌, ◌≢◌, ◌⊎◌, ℕ, ◌+◌, ◌<◌, ◌≤◌, Bool, true, false, cond, eqb, eqb-true, leb, leb-true, ltb, List, [], length, Some, None, refl, sym, ap, ◌∙◌, subst, inl, inr, ⊎_elim}
+use Rattle.std.proofs.Common.{arith}
 use Rattle.std.proofs.lemmas.Bool.{cases_lt, le-leb, lt-ltb}
 use mathlib.Core.Logic.{dite}
 use native.Mathlib.Decide.{ℕ_discrete}
@@ -50,10 +51,18 @@ pub starts_on : (h mid point : List Entry) → StartsWith h mid → StartsWith m
 starts_on h mid point a b = subst (λ x. StartsWith x point) (sym a.is) (starts_longer mid point a.more b)
 
 pub once_later : (P : Program) (C : Sizes) (old mid new : List Entry) (Fact : UpdateUnit → Type 0) → StartsWith new mid → WasOnce P C old mid Fact → WasOnce P C old new Fact
-once_later P C old mid new Fact s w = record { point = w.point; within = record { before_return = starts_on new mid w.point s w.within.before_return; behind_call = w.within.behind_call }; fact = w.fact }
+once_later P C old mid new Fact s w = record {
+  point = w.point;
+  within = record { before_return = starts_on new mid w.point s w.within.before_return; behind_call = w.within.behind_call };
+  fact = w.fact;
+}
 
 pub once_earlier : (P : Program) (C : Sizes) (old mid new : List Entry) (Fact : UpdateUnit → Type 0) → StartsWith mid old → WasOnce P C mid new Fact → WasOnce P C old new Fact
-once_earlier P C old mid new Fact s w = record { point = w.point; within = record { before_return = w.within.before_return; behind_call = starts_on w.point mid old w.within.behind_call s }; fact = w.fact }
+once_earlier P C old mid new Fact s w = record {
+  point = w.point;
+  within = record { before_return = w.within.before_return; behind_call = starts_on w.point mid old w.within.behind_call s };
+  fact = w.fact;
+}
 
 -- Two live tenants of one station are one
 
@@ -126,7 +135,8 @@ module _ (P : Program) (C : Sizes) (h : List Entry) (legal : IsLegal P C h) wher
 
 -- The first look
 
-module _ (P : Program) (C : Sizes) (old mid : List Entry) (a : Adds P C back old mid []) (station tag : ℕ) (state : StationState) (value : ℕ) (shows : Shows (station_word C (recent (unit_of P C mid)) station) tag state value) where
+module _ (P : Program) (C : Sizes) (old mid : List Entry) (a : Adds P C back old mid []) (station tag : ℕ) (state : StationState) (value : ℕ)
+    (shows : Shows (station_word C (recent (unit_of P C mid)) station) tag state value) where
   -- a load that was live is of the same station
   same_station : (q : ℕ) (h : Has (unit_of P C old) q (IsLoadAt P station)) (w : Has (unit_of P C mid) q (IsWaitingLoad P)) → w.tenant.station ≡ station
   same_station q h w = (was_there P C old mid a q h.tenant w.tenant h.is w.is).1 ∙ h.fact.station_is
@@ -150,10 +160,12 @@ pub record IsThatLoad (P : Program) (index tag address : ℕ) (l : Load) : Type 
   pub kind_is : kind (instr_of P index).op ≡ Loads
   pub inside : l.address + width l.op ≤ length P.bytes
 
-by_kind : (k : Kind) (size : ℕ) (i : Instr) (tag address : ℕ) (l : Load) → load_of_kind k size i tag address ≡ Some l → (k ≡ Loads) × (address + width i.op ≤ size) × (record { tag = tag; address = address; op = i.op } ≡ l)
+by_kind : (k : Kind) (size : ℕ) (i : Instr) (tag address : ℕ) (l : Load) → load_of_kind k size i tag address ≡ Some l → (k ≡ Loads) × (address + width i.op ≤ size) ×
+    (record { tag = tag; address = address; op = i.op } ≡ l)
 by_kind Loads size i tag address l e = go (leb (address + width i.op) size) refl e
   where
-    go : (b : Bool) → leb (address + width i.op) size ≡ b → cond b (Some (record { tag = tag; address = address; op = i.op })) None ≡ Some l → (Loads ≡ Loads) × (address + width i.op ≤ size) × (record { tag = tag; address = address; op = i.op } ≡ l)
+    go : (b : Bool) → leb (address + width i.op) size ≡ b → cond b (Some (record { tag = tag; address = address; op = i.op })) None ≡ Some l → (Loads ≡ Loads) × (address + width i.op ≤ size) ×
+        (record { tag = tag; address = address; op = i.op } ≡ l)
     go true le h = (refl, leb-true (address + width i.op) size le, cc h)
     go false le h = absurd (cc h)
 by_kind Computes size i tag address l e = absurd (cc e)
@@ -210,7 +222,14 @@ module _ (P : Program) (C : Sizes) (old mid new : List Entry) (a : Adds P C back
   named_new =
       let o = at_there (unit_of P C new).tenants p (long_enough) in
       let w = was_there P C mid new b p first.1.tenant o.0 first.1.is o.1 in
-      record { tenant = o.0; is = o.1; new = old_since P C new mid b.begins b.legal b.one_table p ∙ live_is_recent P C mid a.legal p first.1.tenant first.1.is first.1.fact.live; station_is = w.1 ∙ first.1.fact.station_is; tag_is = w.2 ∙ first.1.fact.tag_is }
+      record {
+        tenant = o.0;
+        is = o.1;
+        new = old_since P C new mid b.begins b.legal b.one_table p ∙ live_is_recent P C mid a.legal p first.1.tenant first.1.is first.1.fact.live;
+        station_is = w.1 ∙
+            first.1.fact.station_is;
+        tag_is = w.2 ∙ first.1.fact.tag_is;
+      }
     where
       long_enough : p < length (unit_of P C new).tenants
       long_enough =
@@ -274,7 +293,8 @@ module _ (P : Program) (C : Sizes) (old mid new : List Entry) (a : Adds P C back
 
 -- The last look
 
-module _ (P : Program) (C : Sizes) (old new : List Entry) (a : Adds P C back old new []) (station tag : ℕ) (state : StationState) (value : ℕ) (shows : Shows (station_word C (recent (unit_of P C new)) station) tag state value) (l : Load) (p : ℕ) where
+module _ (P : Program) (C : Sizes) (old new : List Entry) (a : Adds P C back old new []) (station tag : ℕ) (state : StationState) (value : ℕ)
+    (shows : Shows (station_word C (recent (unit_of P C new)) station) tag state value) (l : Load) (p : ℕ) where
   pub still_there : IsNamed (unit_of P C old) p station l.tag →
       IsAskedInOrder P (unit_of P C old) p station l → tag ≡ l.tag → (x : ℕ) →
       address_in state value ≡ Some x → Has (unit_of P C new) p (IsLoadOf P station l)

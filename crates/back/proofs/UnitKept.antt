@@ -56,7 +56,8 @@ goes_on_load : (P : Program) (C : Sizes) (U : UpdateUnit) (by p : ℕ) → Allow
 goes_on_load P C U by p a ok g q u is =
     let us = U.tenants in
     let was = came P C U by p Load a ok q u is in ⊎_elim
-    (λ (z : IsActed P us by p Load a.tenant q was.tenant). subst IsNoRetiredStop (found (changed P by Load a.tenant (older us p)) u (sym z.now ∙ is)) (live_goes_on (changed P by Load a.tenant (older us p)) a.may.live))
+    (λ (z : IsActed P us by p Load a.tenant q was.tenant). subst IsNoRetiredStop (found (changed P by Load a.tenant (older us p)) u (sym z.now ∙ is))
+    (live_goes_on (changed P by Load a.tenant (older us p)) a.may.live))
     (λ (z : IsLeft P us by p Load q was.tenant). subst IsNoRetiredStop (found was.tenant u (sym z.now ∙ is)) (g q was.tenant was.is))
     (at_changed P us by p Load a.tenant a.is q was.tenant was.is)
 
@@ -180,7 +181,10 @@ module _ (P : Program) (C : Sizes) where
   all_quiet [] seen events legal calm mine quiet = tt
   all_quiet (e ∷ more) seen events legal calm mine quiet = dite (ℕ_discrete e.by back)
       (λ same. own_one events same mine quiet (λ xs m q. all_quiet more seen xs legal.0 before m q))
-      (λ other. (others_quiet P C (more ++ seen) e (renewals (more ++ seen)) (calm ∙ sym before) other legal.1, all_quiet more seen events legal.0 before (sym (own_skip back e more other) ∙ mine) quiet))
+      (λ other. (
+        others_quiet P C (more ++ seen) e (renewals (more ++ seen)) (calm ∙ sym before) other legal.1,
+        all_quiet more seen events legal.0 before (sym (own_skip back e more other) ∙ mine) quiet,
+      ))
     where
       before : renewals (more ++ seen) ≡ renewals seen
       before = none_between (e ∷ []) more seen calm
@@ -254,7 +258,8 @@ pub committed_kept : (P : Program) (C : Sizes) (old new : List Entry) (events : 
 committed_kept P C old new events a quiet =
     let more = a.begins.more in
     let legal = added_legal P C back old new events a in
-    subst (λ h. committed P (unit_of P C h).tenants ≡ committed P (unit_of P C old).tenants) (sym a.begins.is) (go more legal (all_quiet P C more old events legal (sym (ap renewals a.begins.is) ∙ a.one_table) (added_own P C back old new events a) quiet))
+    subst (λ h. committed P (unit_of P C h).tenants ≡ committed P (unit_of P C old).tenants) (sym a.begins.is)
+    (go more legal (all_quiet P C more old events legal (sym (ap renewals a.begins.is) ∙ a.one_table) (added_own P C back old new events a) quiet))
   where
     one : (h : List Entry) (e : Entry) → IsLegal P C h → MayAdd P C h e.by e.event → IsQuiet e.event → committed P (unit_of P C (e ∷ h)).tenants ≡ committed P (unit_of P C h).tenants
     one h e l m q = kind e.event m q

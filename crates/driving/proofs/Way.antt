@@ -127,7 +127,13 @@ module _ (core : TheCore) where
           let same = ap (λ l. length l) last in
           let none : own front m.one.seen ≡ own front m.front.seen =
           same_between front m.front.seen m.one.seen z.front.seen met.of_front (starts_on m.one.seen o.seen z.front.seen on end.to_front) (omega arith) in
-          record { begins = heard; legal = met.one.adds.legal; one_table = same_fronts P C m.one.seen f.seen met.one.adds.legal adds.legal (none ∙ told) ∙ adds.one_table; mine = none ∙ (told ∙ adds.mine) }
+          record {
+            begins = heard;
+            legal = met.one.adds.legal;
+            one_table = same_fronts P C m.one.seen f.seen met.one.adds.legal adds.legal (none ∙ told) ∙ adds.one_table;
+            mine = none ∙
+                (told ∙ adds.mine);
+          }
 
       -- no unit has done anything since
       units_wait : (i : ℕ) → IsUnit i → own i m.one.seen ≡ own i before

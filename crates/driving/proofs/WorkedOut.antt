@@ -28,7 +28,8 @@ same_job : (a b : Job) → Claimed a ≡ Claimed b → a ≡ b
 same_job a b e = cc e
 
 pub works_out : (core : TheCore) (t u : Seats) (by : ℕ) (unit : IsUnit by) (station : ℕ) (job : Job) (outcome : Outcome) → outcome ≡ outcome_of core.program job → (old : List Entry)
-    → (claimed : GoesOnAlone core t by old (IsClaimedNext core by station (Claimed job))) → t.one.by ≡ by → (answer : Finish) → GoesOnAlone core u t.one.by claimed.all (IsFinishedNext core t.one.by job answer)
+    → (claimed : GoesOnAlone core t by old (IsClaimedNext core by station (Claimed job))) → t.one.by ≡ by → (answer : Finish) →
+    GoesOnAlone core u t.one.by claimed.all (IsFinishedNext core t.one.by job answer)
     → ClaimsGiveJobs → GoesOnAlone core u by old (WorksOut core by station outcome)
 works_out core t u by unit station job outcome is old claimed same answer there law =
     let finished : GoesOnAlone core u by claimed.all (IsFinishedNext core by job answer) = subst (λ n. GoesOnAlone core u n claimed.all (IsFinishedNext core n job answer)) same there in

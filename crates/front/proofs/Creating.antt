@@ -30,7 +30,8 @@ same_place p q e = cc e
 same_tenant : (t u : Tenant) → Some t ≡ Some u → t ≡ u
 same_tenant t u e = cc e
 
-module _ (P : Program) (C : Sizes) (U : UpdateUnit) (records : List Record) (base : Base) (k : FrontKnows P C U records base) (T : Table) (table : HasTable P U (rested_at base) T) (r : ℕ) (small : r < 34) where
+module _ (P : Program) (C : Sizes) (U : UpdateUnit) (records : List Record) (base : Base) (k : FrontKnows P C U records base) (T : Table) (table : HasTable P U (rested_at base) T) (r : ℕ)
+    (small : r < 34) where
   abbrev IsOlder : Note → Type 0
   IsOlder n = IsFolded U (rested_at base) n × IsNoted P U.tenants n
 
@@ -44,7 +45,9 @@ module _ (P : Program) (C : Sizes) (U : UpdateUnit) (records : List Record) (bas
   older = all_two (IsFolded U (rested_at base)) (IsNoted P U.tenants) IsOlder (λ n a b. (a, b)) k.gone k.again (all_front (IsNoted P U.tenants) k.gone k.notes noted)
 
   young : AllByRecursion IsYoung k.notes
-  young = all_two (λ n. IsNewest U n × (rested_at base ≤ n.at)) (IsNoted P U.tenants) IsYoung (λ n a b. (a, b)) k.notes (all_two (IsNewest U) (λ n. rested_at base ≤ n.at) (λ n. IsNewest U n × (rested_at base ≤ n.at)) (λ n a b. (a, b)) k.notes k.newest k.untold) (all_rest (IsNoted P U.tenants) k.gone k.notes noted)
+  young = all_two (λ n. IsNewest U n × (rested_at base ≤ n.at)) (IsNoted P U.tenants) IsYoung (λ n a b. (a, b)) k.notes
+      (all_two (IsNewest U) (λ n. rested_at base ≤ n.at) (λ n. IsNewest U n × (rested_at base ≤ n.at)) (λ n a b. (a, b)) k.notes k.newest k.untold)
+      (all_rest (IsNoted P U.tenants) k.gone k.notes noted)
 
   abbrev whole : Option Note
   whole = creator_note (k.gone ++ k.notes) r
@@ -82,7 +85,15 @@ module _ (P : Program) (C : Sizes) (U : UpdateUnit) (records : List Record) (bas
             p = n.at;
             creates = creator_whole ∙ ap position e;
             untold = y.0.1;
-            named = record { tenant = y.1.tenant; is = y.1.is; new = kept_new P C U records base (IsFolded U (rested_at base)) k n.at y.0.1; station_is = ap (λ (z : Record). z.station) y.1.what ∙ station; tag_is = ap (λ (z : Record). z.tag) y.1.what ∙ tag; fact = tt };
+            named = record {
+              tenant = y.1.tenant;
+              is = y.1.is;
+              new = kept_new P C U records base (IsFolded U (rested_at base)) k n.at y.0.1;
+              station_is = ap (λ (z : Record). z.station) y.1.what ∙
+                  station;
+              tag_is = ap (λ (z : Record). z.tag) y.1.what ∙ tag;
+              fact = tt;
+            };
             last = subst (IsLastAt U n.at) station y.0.0;
           }
       go (Older e g) = by (creator_note k.gone r) refl
@@ -100,7 +111,8 @@ module _ (P : Program) (C : Sizes) (U : UpdateUnit) (records : List Record) (bas
               let its = older_one n x in
               let place : its.1.tenant.station ≡ n.what.station = ap (λ (z : Record). z.station) its.1.what in
               ⊎_elim
-              (λ (i : IsReused U n). absurd (table.stale n.at i.p its.1.tenant i.tenant.tenant named.untold i.behind its.1.is i.tenant.is (i.tenant.fact ∙ sym place) f.saved (ap (slice_get T.latest) (place ∙ sym station) ∙ f.is) (f.tag ∙ (tag ∙ ap (λ (z : Record). z.tag) (sym its.1.what)))))
+              (λ (i : IsReused U n). absurd (table.stale n.at i.p its.1.tenant i.tenant.tenant named.untold i.behind its.1.is i.tenant.is (i.tenant.fact ∙ sym place) f.saved
+              (ap (slice_get T.latest) (place ∙ sym station) ∙ f.is) (f.tag ∙ (tag ∙ ap (λ (z : Record). z.tag) (sym its.1.what)))))
               (λ (l : n.at < rested_at base). absurd (omega (arith, l, named.untold)))
               its.0
 
@@ -112,7 +124,9 @@ module _ (P : Program) (C : Sizes) (U : UpdateUnit) (records : List Record) (bas
       go (Kept n e y g) =
           let place : y.1.tenant.station ≡ n.what.station = ap (λ (z : Record). z.station) y.1.what in
           let l = table.latest n.at y.1.tenant y.0.1 y.1.is (subst (IsLastAt U n.at) (sym place) y.0.0) in
-          absurd (f (maker_of n) l.saved (written_by (k.gone ++ k.notes) r n e) (entry_is (written_by (k.gone ++ k.notes) r n e) ∙ (ap (λ z. Some (table_entry (rested_at base) z)) e ∙ ap Some (entry_there (rested_at base) n y.0.1))) (ap (slice_get T.latest) (sym place) ∙ l.is) (l.of.tag ∙ ap (λ (z : Record). z.tag) y.1.what))
+          absurd (f (maker_of n) l.saved (written_by (k.gone ++ k.notes) r n e) (entry_is (written_by (k.gone ++ k.notes) r n e) ∙
+          (ap (λ z. Some (table_entry (rested_at base) z)) e ∙ ap Some (entry_there (rested_at base) n y.0.1))) (ap (slice_get T.latest) (sym place) ∙ l.is)
+          (l.of.tag ∙ ap (λ (z : Record). z.tag) y.1.what))
       go (Older e g) = record {
         value = ap (value_of U.tenants) (creator_whole ∙ ap position e) ∙ k.base_is r small;
         again = λ p t creates is new last. by (creator_note k.gone r) refl p t (sym (creator_whole ∙ ap position e) ∙ creates) is new last;

@@ -31,7 +31,8 @@ pub all_in : (Q : Record → Type 0) (older : List Record) (x : Record) (younger
 all_in Q [] x younger a = a.0
 all_in Q (y ∷ older) x younger a = all_in Q older x younger a.1
 
-module _ (P : Program) (C : Sizes) (h : List Entry) (legal : IsLegal P C h) (records : List Record) (base : Base) (k : FrontKnows P C (unit_of P C h) records base) (n : ℕ) (x : Record) (b : IsBefore records n x) (seen : Seen StationState) (sees : SeesStation P C h x.station seen) where
+module _ (P : Program) (C : Sizes) (h : List Entry) (legal : IsLegal P C h) (records : List Record) (base : Base) (k : FrontKnows P C (unit_of P C h) records base) (n : ℕ) (x : Record)
+    (b : IsBefore records n x) (seen : Seen StationState) (sees : SeesStation P C h x.station seen) where
   abbrev U : UpdateUnit
   U = unit_of P C h
 

@@ -174,7 +174,8 @@ module _ (P : Program) (C : Sizes) (U : UpdateUnit) (ok : IsSound P U.tenants) (
       }
 
   -- the youngest goes on elsewhere
-  pub mend_known : (a : Allowed P C U by (On p Mend)) → (rest : List Record) (one : Record) (k : FrontKnows P C U (rest ++ one ∷ []) base) → (fs : List Note) (x : Note) → k.notes ≡ fs ++ x ∷ [] → (next : ℕ) → Has U x.at (IsMissing next) → FrontKnows P C (applied P C U by (On p Mend)) (rest ++ record one { next = next } ∷ []) base
+  pub mend_known : (a : Allowed P C U by (On p Mend)) → (rest : List Record) (one : Record) (k : FrontKnows P C U (rest ++ one ∷ []) base) → (fs : List Note) (x : Note) → k.notes ≡ fs ++ x ∷ [] →
+      (next : ℕ) → Has U x.at (IsMissing next) → FrontKnows P C (applied P C U by (On p Mend)) (rest ++ record one { next = next } ∷ []) base
   mend_known a rest one k fs x e next m =
       let V = applied P C U by (On p Mend) in
       let whole : trail P U.tenants ≡ (k.gone ++ fs) ++ x ∷ [] = k.path ∙ (ap (λ z. k.gone ++ z) e ∙ sym (append_assoc k.gone fs (x ∷ []))) in

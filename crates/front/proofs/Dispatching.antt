@@ -93,8 +93,12 @@ module _ (P : Program) (C : Sizes) (old : List Entry) (legal : IsLegal P C old) 
     pc = sym n.pc ∙ x.pc;
     small = small;
     predicts = subst (λ (z : Instr × Half × ℕ). IfSome (fixed_next z.0 z.1 z.2) (λ y. predicted ≡ y)) (λ i. (sym x.is i, n.half i, n.pc i)) fixed;
-    first_is = subst (λ (i : Instr). MaySupply P U (next_station C (recent U)) (creator P U.tenants (first_of i)) (supply_of first)) (sym x.is) (subst (λ s. MaySupply P U (next_station C (recent U)) (creator P U.tenants (first_of f.instr)) (supply_of s)) (sym first_given) (may_supply P C old legal records base k (first_of f.instr) first_small));
-    second_is = subst (λ (i : Instr). MaySupply P U (next_station C (recent U)) (creator P U.tenants (second_of i)) (supply_of second)) (sym x.is) (subst (λ s. MaySupply P U (next_station C (recent U)) (creator P U.tenants (second_of f.instr)) (supply_of s)) (sym second_given) (may_supply P C old legal records base k (second_of f.instr) second_small));
+    first_is = subst (λ (i : Instr). MaySupply P U (next_station C (recent U)) (creator P U.tenants (first_of i)) (supply_of first)) (sym x.is)
+        (subst (λ s. MaySupply P U (next_station C (recent U)) (creator P U.tenants (first_of f.instr)) (supply_of s)) (sym first_given)
+        (may_supply P C old legal records base k (first_of f.instr) first_small));
+    second_is = subst (λ (i : Instr). MaySupply P U (next_station C (recent U)) (creator P U.tenants (second_of i)) (supply_of second)) (sym x.is)
+        (subst (λ s. MaySupply P U (next_station C (recent U)) (creator P U.tenants (second_of f.instr)) (supply_of s)) (sym second_given)
+        (may_supply P C old legal records base k (second_of f.instr) second_small));
   }
 
   pub may_let_out : MayLetOut P C U tenant
@@ -210,25 +214,39 @@ module _ (P : Program) (C : Sizes) (old : List Entry) (legal : IsLegal P C old) 
             fact = record { can = record { way = way a g e; creator = c ∙ d.creates }; path = refl };
           };
           last = λ q u lt is. let b = at_below V.tenants q u is in absurd (omega (arith, b, lt));
-          creator = record { tenant = t; is = at_more new_one M.tenants d.n.at t d.giver.noted.is; new = new_behind d.n.at d.giver.untold; station_is = at_place; tag_is = ap (λ (z : Record). z.tag) d.giver.noted.what ∙ d.tag; fact = tt };
+          creator = record {
+            tenant = t;
+            is = at_more new_one M.tenants d.n.at t d.giver.noted.is;
+            new = new_behind d.n.at d.giver.untold;
+            station_is = at_place;
+            tag_is = ap (λ (z : Record). z.tag) d.giver.noted.what ∙ d.tag;
+            fact = tt;
+          };
           creator_last = λ q u lt is same_station. ⊎_elim
               (λ there. d.giver.newest q u lt there (same_station ∙ sym d.station))
               (λ (z : (q ≡ length M.tenants) × (new_one ≡ u)). d.giver.other (d.station ∙ (sym same_station ∙ ap (λ (y : Tenant). y.station) (sym z.1))))
               (at_cases new_one M.tenants q u is);
         } in
-        record { q = d.n.at; pending = stays_behind P C (IsPending s (length M.tenants) d.n.at f.station tag a g) (pending_stable P C (length M.tenants) d.n.at f.station tag a g s) old new (let_of tenant) [] l pending }
+        record {
+          q = d.n.at;
+          pending = stays_behind P C (IsPending s (length M.tenants) d.n.at f.station tag a g) (pending_stable P C (length M.tenants) d.n.at f.station tag a g s) old new
+              (let_of tenant) [] l pending;
+        }
 
     pub first_pends : (a g : ℕ) → first ≡ GivenFrom a g → Pends First a g
-    first_pends a g e = pends First (first_of f.instr) first_small first first_given (its_creator (creator P M.tenants (first_of (instr_of P index))) first ∙ ap (λ (i : Instr). creator P M.tenants (first_of i)) x.is) (λ a g e. unlinked (creator P M.tenants (first_of (instr_of P index))) first a g e) a g e
+    first_pends a g e = pends First (first_of f.instr) first_small first first_given (its_creator (creator P M.tenants (first_of (instr_of P index))) first ∙
+        ap (λ (i : Instr). creator P M.tenants (first_of i)) x.is) (λ a g e. unlinked (creator P M.tenants (first_of (instr_of P index))) first a g e) a g e
 
     pub second_pends : (a g : ℕ) → second ≡ GivenFrom a g → Pends Second a g
-    second_pends a g e = pends Second (second_of f.instr) second_small second second_given (its_creator (creator P M.tenants (second_of (instr_of P index))) second ∙ ap (λ (i : Instr). creator P M.tenants (second_of i)) x.is) (λ a g e. unlinked (creator P M.tenants (second_of (instr_of P index))) second a g e) a g e
+    second_pends a g e = pends Second (second_of f.instr) second_small second second_given (its_creator (creator P M.tenants (second_of (instr_of P index))) second ∙
+        ap (λ (i : Instr). creator P M.tenants (second_of i)) x.is) (λ a g e. unlinked (creator P M.tenants (second_of (instr_of P index))) second a g e) a g e
 
     -- the whole, with its questions
     module _ (mid end : List Entry) (asks_first : Asks P C new mid f.station tag First first) (asks_second : Asks P C mid end f.station tag Second second) where
       named_after : IsTenant (unit_of P C new) (length M.tenants) f.station tag IsAny
       named_after =
-          subst (λ z. IsTenant (unit_of P C z) (length M.tenants) f.station tag IsAny) (sym l.is) (any_stays P C (length M.tenants) f.station tag l.after (entry front (let_of tenant) ∷ point) l.legal (sym (ap renewals l.is) ∙ l.since) named_new)
+          subst (λ z. IsTenant (unit_of P C z) (length M.tenants) f.station tag IsAny) (sym l.is) (any_stays P C (length M.tenants) f.station tag l.after (entry front (let_of tenant) ∷ point) l.legal
+          (sym (ap renewals l.is) ∙ l.since) named_new)
 
       one : HasAsked P C new mid (length M.tenants) First first
       one = has_asked P C new mid adds.legal (length M.tenants) f.station tag First first named_after asks_first
@@ -257,7 +275,8 @@ module _ (P : Program) (C : Sizes) (old : List Entry) (legal : IsLegal P C old) 
             more = two.adds.begins.more ++ (one.adds.begins.more ++ l.after);
             is =
                 two.adds.begins.is
-                ∙ (ap (λ z. two.adds.begins.more ++ z) (one.adds.begins.is ∙ (ap (λ z. one.adds.begins.more ++ z) l.is ∙ sym (append_assoc one.adds.begins.more l.after (entry front (let_of tenant) ∷ point))))
+                ∙ (ap (λ z. two.adds.begins.more ++ z) (one.adds.begins.is ∙ (ap (λ z. one.adds.begins.more ++ z) l.is ∙
+                sym (append_assoc one.adds.begins.more l.after (entry front (let_of tenant) ∷ point))))
                 ∙ sym (append_assoc two.adds.begins.more (one.adds.begins.more ++ l.after) (entry front (let_of tenant) ∷ point)));
           };
           station_is = place;

@@ -112,7 +112,8 @@ module _ (P : Program) (C : Sizes) (h : List Entry) (legal : IsLegal P C h) (rec
 pub recovered : (P : Program) (C : Sizes) (begin mid old new : List Entry) → IsLegal P C begin →
     (records : List Record) (base : Base) → FrontKnows P C (unit_of P C begin) records base → (m : Missed) →
     AllByRecursion (IsNoLiveMiss (unit_of P C begin)) (take m.at records) → Adds P C front begin mid []
-    → (kept : List Record) (kept_base : Base) → kept ≡ take (m.at + 1) records → FrontKnows P C (unit_of P C old) kept kept_base → IsMissAt P C old kept m → length kept ≡ m.at + 1 → (squashed : ℕ) → IsCut P C mid old squashed → IsMendedThere P C front m.station old new → Mended P C begin new kept kept_base m squashed
+    → (kept : List Record) (kept_base : Base) → kept ≡ take (m.at + 1) records → FrontKnows P C (unit_of P C old) kept kept_base → IsMissAt P C old kept m → length kept ≡ m.at + 1 → (squashed : ℕ) →
+    IsCut P C mid old squashed → IsMendedThere P C front m.station old new → Mended P C begin new kept kept_base m squashed
 recovered P C begin mid old new legal records base k m first adds kept kept_base rest k' i long squashed cut s =
     let events = map squash_event cut.squashes in
     let both : Adds P C front begin old events = subst (λ z. Adds P C front begin old z) (append-nil events) (adds_on P C front begin mid old [] events adds cut.adds) in

@@ -58,7 +58,8 @@ taken_out left old new x (Some r) some none e =
     let one : r ≡ x = cc same in
     subst (λ z. Released left old z new) one some
 
-module _ (core : TheCore) (old new : List Entry) (path path' : Path) (adds : Adds core.program core.sizes front old new []) (f : IsFolding core old path) (nobody : HasNobody (unit_of core.program core.sizes old)) where
+module _ (core : TheCore) (old new : List Entry) (path path' : Path) (adds : Adds core.program core.sizes front old new []) (f : IsFolding core old path)
+    (nobody : HasNobody (unit_of core.program core.sizes old)) where
   abbrev P : Program
   P = core.program
 
@@ -140,38 +141,43 @@ pub none_left : (xs : List Record) → slice_get xs 0 ≡ None → xs ≡ []
 none_left [] e = refl
 none_left (x ∷ xs) e = absurd (cc e)
 
-module _ (core : TheCore) (h : List Entry) (legal : IsLegal core.program core.sizes h) (path : Path) (k : FrontKnows core.program core.sizes (unit_of core.program core.sizes h) path.records path.base) where
-  -- the front is kept apart from the tenants
-  pub folding_begins : (ring : ℕ) → ring ≡ core.sizes.ring → 0 < core.sizes.ring → (path' : Path) → path'.records ≡ path.records → GoesOnWith ring path path'.base → IsFolding core h path'
-  folding_begins ring ring_is pos path' records_are base_is =
-      let goes : GoesOnAt core.program core.sizes (unit_of core.program core.sizes h) path'.base = record {
-        pc = known_pc core.program core.sizes (unit_of core.program core.sizes h) path.records path.base (IsFolded (unit_of core.program core.sizes h) (rested_at path.base)) k ∙ sym (ap (λ (z : Base). z.pc) base_is);
-        half = known_half core.program core.sizes (unit_of core.program core.sizes h) path.records path.base (IsFolded (unit_of core.program core.sizes h) (rested_at path.base)) k ∙ sym (ap (λ (z : Base). z.half) base_is);
-        station = known_place core.program core.sizes (unit_of core.program core.sizes h) path.records path.base (IsFolded (unit_of core.program core.sizes h) (rested_at path.base)) k (stands_right core.program core.sizes h legal) ∙ place_small (youngest_record path.records) ∙ ap (λ z. z % core.sizes.ring) (ap (λ z. station_of_next z path.base path.records) (sym ring_is) ∙ sym (ap (λ (z : Base). z.station) base_is));
-      } in
-      record {
-        stands = record {
-          gone = k.gone;
-          notes = k.notes;
-          path = k.path;
-          are = records_are ∙ k.are;
-          room = k.room;
-          begun = λ none. goes;
-          retired = k.retired;
-          again = all_map (IsFolded (unit_of core.program core.sizes h) (rested_at path.base)) IsAnyone (λ n x. tt) k.gone k.again;
-          newest = k.newest;
-          past = subst (λ z. rested_at z ≤ length (unit_of core.program core.sizes h).tenants) (sym base_is) k.past;
-          since = subst (λ z. length (unit_of core.program core.sizes h).tenants ≤ rested_at z + (unit_of core.program core.sizes h).fresh) (sym base_is) k.since;
-          untold = subst (λ z. AllByRecursion (λ n. rested_at z ≤ n.at) k.notes) (sym base_is) k.untold;
-          wide = ap (λ (z : Base). length z.registers) base_is ∙ k.wide;
-          base_is = λ r less. k.base_is r less ∙ ap (λ (z : Base). Some (slice_index z.registers r)) (sym base_is);
-        };
-        goes = goes;
-      }
-    where
-      place_small : (o : Option Record) → place_after core.sizes.ring path.base.station o ≡ place_after core.sizes.ring path.base.station o % core.sizes.ring
-      place_small None = sym (mod-eq_of_lt (mod-lt path.base.station pos))
-      place_small (Some x) = sym (mod-eq_of_lt (mod-lt (x.station + 1) pos))
+module _ (core : TheCore) (h : List Entry) (legal : IsLegal core.program core.sizes h) (path : Path) (k : FrontKnows core.program core.sizes (unit_of core.program core.sizes h) path.records path.base)
+  where
+    -- the front is kept apart from the tenants
+    pub folding_begins : (ring : ℕ) → ring ≡ core.sizes.ring → 0 < core.sizes.ring → (path' : Path) → path'.records ≡ path.records → GoesOnWith ring path path'.base → IsFolding core h path'
+    folding_begins ring ring_is pos path' records_are base_is =
+        let goes : GoesOnAt core.program core.sizes (unit_of core.program core.sizes h) path'.base = record {
+          pc = known_pc core.program core.sizes (unit_of core.program core.sizes h) path.records path.base (IsFolded (unit_of core.program core.sizes h) (rested_at path.base)) k ∙
+              sym (ap (λ (z : Base). z.pc) base_is);
+          half = known_half core.program core.sizes (unit_of core.program core.sizes h) path.records path.base (IsFolded (unit_of core.program core.sizes h) (rested_at path.base)) k ∙
+              sym (ap (λ (z : Base). z.half) base_is);
+          station = known_place core.program core.sizes (unit_of core.program core.sizes h) path.records path.base (IsFolded (unit_of core.program core.sizes h) (rested_at path.base)) k
+              (stands_right core.program core.sizes h legal) ∙ place_small (youngest_record path.records) ∙
+              ap (λ z. z % core.sizes.ring) (ap (λ z. station_of_next z path.base path.records) (sym ring_is) ∙ sym (ap (λ (z : Base). z.station) base_is));
+        } in
+        record {
+          stands = record {
+            gone = k.gone;
+            notes = k.notes;
+            path = k.path;
+            are = records_are ∙ k.are;
+            room = k.room;
+            begun = λ none. goes;
+            retired = k.retired;
+            again = all_map (IsFolded (unit_of core.program core.sizes h) (rested_at path.base)) IsAnyone (λ n x. tt) k.gone k.again;
+            newest = k.newest;
+            past = subst (λ z. rested_at z ≤ length (unit_of core.program core.sizes h).tenants) (sym base_is) k.past;
+            since = subst (λ z. length (unit_of core.program core.sizes h).tenants ≤ rested_at z + (unit_of core.program core.sizes h).fresh) (sym base_is) k.since;
+            untold = subst (λ z. AllByRecursion (λ n. rested_at z ≤ n.at) k.notes) (sym base_is) k.untold;
+            wide = ap (λ (z : Base). length z.registers) base_is ∙ k.wide;
+            base_is = λ r less. k.base_is r less ∙ ap (λ (z : Base). Some (slice_index z.registers r)) (sym base_is);
+          };
+          goes = goes;
+        }
+      where
+        place_small : (o : Option Record) → place_after core.sizes.ring path.base.station o ≡ place_after core.sizes.ring path.base.station o % core.sizes.ring
+        place_small None = sym (mod-eq_of_lt (mod-lt path.base.station pos))
+        place_small (Some x) = sym (mod-eq_of_lt (mod-lt (x.station + 1) pos))
 
 -- The records are gone: the front has rested
 module _ (core : TheCore) (h : List Entry) (path path' : Path) (f : IsFolding core h path) (none : path.records ≡ []) (records_are : path'.records ≡ path.records) where
@@ -190,7 +196,8 @@ module _ (core : TheCore) (h : List Entry) (path path' : Path) (f : IsFolding co
         room = omega arith;
         begun = λ e. record { pc = f.goes.pc ∙ sym pc; half = f.goes.half ∙ sym half; station = f.goes.station ∙ ap (λ z. z % core.sizes.ring) (sym station) };
         retired = s.retired;
-        again = all_map (IsNoted core.program (unit_of core.program core.sizes h).tenants) (IsFolded (unit_of core.program core.sizes h) (rested_at path'.base)) (λ n i. inr (subst (λ z. n.at < z) (sym told) (at_below (unit_of core.program core.sizes h).tenants n.at i.tenant i.is))) s.gone gone_noted;
+        again = all_map (IsNoted core.program (unit_of core.program core.sizes h).tenants) (IsFolded (unit_of core.program core.sizes h) (rested_at path'.base))
+            (λ n i. inr (subst (λ z. n.at < z) (sym told) (at_below (unit_of core.program core.sizes h).tenants n.at i.tenant i.is))) s.gone gone_noted;
         newest = tt;
         past = omega (arith, told);
         since = omega (arith, told);
@@ -204,4 +211,5 @@ module _ (core : TheCore) (h : List Entry) (path path' : Path) (f : IsFolding co
       no_notes (n ∷ ns) e = absurd (cc e)
 
       gone_noted : AllByRecursion (IsNoted core.program (unit_of core.program core.sizes h).tenants) f.stands.gone
-      gone_noted = all_front (IsNoted core.program (unit_of core.program core.sizes h).tenants) f.stands.gone f.stands.notes (subst (AllByRecursion (IsNoted core.program (unit_of core.program core.sizes h).tenants)) f.stands.path (trail_noted core.program (unit_of core.program core.sizes h).tenants))
+      gone_noted = all_front (IsNoted core.program (unit_of core.program core.sizes h).tenants) f.stands.gone f.stands.notes
+          (subst (AllByRecursion (IsNoted core.program (unit_of core.program core.sizes h).tenants)) f.stands.path (trail_noted core.program (unit_of core.program core.sizes h).tenants))

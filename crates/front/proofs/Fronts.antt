@@ -1,5 +1,6 @@
 -- A front between its calls.
-use Rattle.std.proofs.Common.{◌≡◌, ◌≢◌, ℕ, zero, suc, ◌<◌, length, ◌∷◌, Bool, true, false, cond, List, [], ◌++◌, Option, Some, None, replicate, refl, sym, ap, ◌∙◌, subst, arith, ◌≤◌, ◌%◌, leb, leb-true, ⊎_elim}
+use Rattle.std.proofs.Common.{◌≡◌, ◌≢◌, ℕ, zero, suc, ◌<◌, length, ◌∷◌, Bool, true, false, cond, List, [], ◌++◌, Option, Some, None, replicate, refl, sym, ap, ◌∙◌, subst, arith, ◌≤◌, ◌%◌, leb}
+use Rattle.std.proofs.Common.{leb-true, ⊎_elim}
 use Rattle.std.proofs.lemmas.List.{append-nil}
 use Rattle.std.specs.Prelude.{slice_get, slice_index}
 use Rattle.instructions.specs.Programs.{Program, text_start}
@@ -192,7 +193,8 @@ new_front core P v path creators u e legal none base entries deep = record {
   by_is = u.by_is;
   program = e ∙ ap (λ (z : TheCore). z.program) (sym u.core_is);
   legal = legal;
-  knows = subst (λ (z : List Record). FrontKnows v.core.program v.core.sizes (unit_of v.core.program v.core.sizes v.seen) z path.base) (sym none) (first_knows v.core.program v.core.sizes v.seen legal u.none path.base base);
+  knows = subst (λ (z : List Record). FrontKnows v.core.program v.core.sizes (unit_of v.core.program v.core.sizes v.seen) z path.base) (sym none)
+      (first_knows v.core.program v.core.sizes v.seen legal u.none path.base base);
 }
 
 pub new_adds : (core : TheCore) (v : Caller) → v.core ≡ core → IsLegal v.core.program v.core.sizes v.seen → AddsNothing core v.seen v.seen

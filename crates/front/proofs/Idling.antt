@@ -27,7 +27,8 @@ pub record HasSeen (core : TheCore) (v w : Caller) : Type 0 where
   pub adds : Adds core.program core.sizes front v.seen w.seen []
   pub nobody : HasNobody (unit_of core.program core.sizes w.seen)
 
-module _ (core : TheCore) (v w : Caller) (same : IsSame v w) (path : Path) (k : FrontKnows core.program core.sizes (unit_of core.program core.sizes v.seen) path.records path.base) (adds : Adds core.program core.sizes front v.seen w.seen []) where
+module _ (core : TheCore) (v w : Caller) (same : IsSame v w) (path : Path) (k : FrontKnows core.program core.sizes (unit_of core.program core.sizes v.seen) path.records path.base)
+    (adds : Adds core.program core.sizes front v.seen w.seen []) where
   knows_now : FrontKnows core.program core.sizes (unit_of core.program core.sizes w.seen) path.records path.base
   knows_now = stays core.program core.sizes (λ U. FrontKnows core.program core.sizes U path.records path.base) (knows_stable core.program core.sizes path.records path.base) v.seen w.seen adds k
 
@@ -37,7 +38,8 @@ module _ (core : TheCore) (v w : Caller) (same : IsSame v w) (path : Path) (k : 
     same = same;
     adds = adds;
     nobody = none_kept core.program core.sizes w.seen adds.legal path.records path.base (IsFolded (unit_of core.program core.sizes w.seen) (rested_at path.base)) knows_now
-        (⊎_elim (λ n. n) (λ (l : Last knows_now.notes). let no : None ≡ Some l.one.what = sym e ∙ last_record core.program core.sizes (unit_of core.program core.sizes w.seen) path.records path.base (IsFolded (unit_of core.program core.sizes w.seen) (rested_at path.base)) knows_now l in absurd (cc no)) (last_cases knows_now.notes));
+        (⊎_elim (λ n. n) (λ (l : Last knows_now.notes).
+        let no : None ≡ Some l.one.what = sym e ∙ last_record core.program core.sizes (unit_of core.program core.sizes w.seen) path.records path.base (IsFolded (unit_of core.program core.sizes w.seen) (rested_at path.base)) knows_now l in absurd (cc no)) (last_cases knows_now.notes));
   }
 
   -- the youngest one's station is free

@@ -1,5 +1,6 @@
 -- Loads and stores among what is kept of the path, and those that are live.
-use Rattle.std.proofs.Common.{◌≡◌, ◌≢◌, ℕ, zero, suc, ◌-◌, ◌<◌, ◌≤◌, Bool, true, false, ◌&&◌, cond, List, [], ◌∷◌, ◌++◌, length, take, drop, Some, None, refl, sym, ap, ◌∙◌, subst, ⊎_elim, arith, append_assoc}
+use Rattle.std.proofs.Common.{◌≡◌, ◌≢◌, ℕ, zero, suc, ◌-◌, ◌<◌, ◌≤◌, Bool, true, false, ◌&&◌, cond, List, [], ◌∷◌, ◌++◌, length, take, drop, Some, None, refl, sym, ap, ◌∙◌, subst, ⊎_elim, arith}
+use Rattle.std.proofs.Common.{append_assoc}
 use Rattle.std.proofs.lemmas.List.{append-nil, take-append-drop}
 use Rattle.std.specs.List.{AllByRecursion}
 use Rattle.std.specs.Prelude.{slice_get}
@@ -184,7 +185,15 @@ pub record IsSplit (notes : List Note) (older : List Record) (x : Record) (young
 pub split_whats : (notes : List Note) (older : List Record) (x : Record) (younger : List Record) → whats notes ≡ older ++ x ∷ younger → IsSplit notes older x younger
 split_whats [] [] x younger e = absurd (cc e)
 split_whats [] (y ∷ older) x younger e = absurd (cc e)
-split_whats (n ∷ notes) [] x younger e = record { before = []; one = n; after = notes; is = refl; what = head_of n.what x (whats notes) younger e; rest = tail_of n.what x (whats notes) younger e; prior = refl }
+split_whats (n ∷ notes) [] x younger e = record {
+  before = [];
+  one = n;
+  after = notes;
+  is = refl;
+  what = head_of n.what x (whats notes) younger e;
+  rest = tail_of n.what x (whats notes) younger e;
+  prior = refl;
+}
   where
     head_of : (a b : Record) (xs ys : List Record) → a ∷ xs ≡ b ∷ ys → a ≡ b
     head_of a b xs ys e = cc e
@@ -193,7 +202,15 @@ split_whats (n ∷ notes) [] x younger e = record { before = []; one = n; after 
     tail_of a b xs ys e = cc e
 split_whats (n ∷ notes) (y ∷ older) x younger e =
     let s = split_whats notes older x younger (tail_of n.what y (whats notes) (older ++ x ∷ younger) e) in
-    record { before = n ∷ s.before; one = s.one; after = s.after; is = ap (λ z. n ∷ z) s.is; what = s.what; rest = s.rest; prior = λ i. head_of n.what y (whats notes) (older ++ x ∷ younger) e i ∷ s.prior i }
+    record {
+      before = n ∷ s.before;
+      one = s.one;
+      after = s.after;
+      is = ap (λ z. n ∷ z) s.is;
+      what = s.what;
+      rest = s.rest;
+      prior = λ i. head_of n.what y (whats notes) (older ++ x ∷ younger) e i ∷ s.prior i;
+    }
   where
     head_of : (a b : Record) (xs ys : List Record) → a ∷ xs ≡ b ∷ ys → a ≡ b
     head_of a b xs ys e = cc e
@@ -274,7 +291,8 @@ module _ (P : Program) (C : Sizes) (h : List Entry) (legal : IsLegal P C h) (rec
         subst (λ z. how_many_accesses P U ≤ z) (count_accesses s.after ∙ ap memory_records s.rest) few
       where
         older_fails : (n : Note) → IsNoted P U.tenants n → n.at < s.one.at → FailsAt P (is_live_access P) is_access_note U.tenants n
-        older_fails n i lt t is = not_live_fails P t (λ live. retired_not (sym gone ∙ live_behind P U.tenants (unit_sound P C h legal) n.at s.one.at t one_noted.tenant lt is live one_noted.is one_noted.on))
+        older_fails n i lt t is = not_live_fails P t (λ live. retired_not (sym gone ∙ live_behind P U.tenants (unit_sound P C h legal) n.at s.one.at t one_noted.tenant lt is live one_noted.is
+            one_noted.on))
 
     -- it is live: so are all younger ones
     pub behind_live : one_noted.tenant.standing ≡ Live → x.access ≡ true → suc (memory_records younger) ≤ how_many_accesses P U

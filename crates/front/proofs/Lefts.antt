@@ -1,5 +1,6 @@
 -- Telling of all records is telling of all tenants of whom nobody was told.
-use Rattle.std.proofs.Common.{◌≡◌, ◌⊎◌, ℕ, ◌<◌, ◌≤◌, Bool, true, false, not, cond, ◌&&◌, ◌||◌, eqb, eqb-true, eq-eqb, leb, leb-true, le-leb, List, [], ◌∷◌, ◌++◌, length, Some, refl, sym, ap, ◌∙◌, subst, inl, inr, ⊎_elim, arith, append_assoc, true≢false}
+use Rattle.std.proofs.Common.{◌≡◌, ◌⊎◌, ℕ, ◌<◌, ◌≤◌, Bool, true, false, not, cond, ◌&&◌, ◌||◌, eqb, eqb-true, eq-eqb, leb, leb-true, le-leb, List, [], ◌∷◌, ◌++◌, length, Some, refl, sym, ap, ◌∙◌}
+use Rattle.std.proofs.Common.{subst, inl, inr, ⊎_elim, arith, append_assoc, true≢false}
 use mathlib.Core.Logic.{dite}
 use native.Mathlib.Decide.{ℕ_discrete}
 use Rattle.std.proofs.lemmas.List.{append-nil}
@@ -115,7 +116,8 @@ module _ {S : Type 0} (Learns : S → ℕ → ℕ → S → Type 0) (P : Program
         and_false false b e = refl
 
         reused : IsReused U (note P ts t) → (leb told (length ts) && not (is_let_to younger t.station)) ≡ false
-        reused r = and_false (leb told (length ts)) _ (ap not (there_again younger (t ∷ ts) t.station r.p r.tenant.tenant (ap (λ z. at z r.p) (sym split) ∙ r.tenant.is) (omega (arith, r.behind)) r.tenant.fact))
+        reused r = and_false (leb told (length ts)) _ (ap not (there_again younger (t ∷ ts) t.station r.p r.tenant.tenant (ap (λ z. at z r.p) (sym split) ∙ r.tenant.is) (omega (arith, r.behind))
+            r.tenant.fact))
 
         before : length ts < told → (leb told (length ts) && not (is_let_to younger t.station)) ≡ false
         before lt = go (leb told (length ts)) refl
@@ -154,12 +156,14 @@ module _ {S : Type 0} (Learns : S → ℕ → ℕ → S → Type 0) (P : Program
           let same : all_untold told younger (t ∷ ts) ≡ all_untold told (t ∷ younger) ts = ap (λ z. all_untold told (t ∷ younger) ts ++ cond z (t ∷ []) []) f ∙ append-nil (all_untold told (t ∷ younger) ts) in
           subst (λ z. TellsEach Learns P z a b) (sym same) e
 
-      on : on_path t ≡ true → (ns ≡ []) ⊎ Last ns → ((g ns : List Note) → trail P ts ≡ g ++ ns → AllByRecursion (IsFolded U told) g → AllByRecursion IsIn ns → (a b : S) → TellsRecords Learns (whats ns) a b → TellsEach Learns P (all_untold told (t ∷ younger) ts) a b) → TellsEach Learns P (all_untold told younger (t ∷ ts)) a b
+      on : on_path t ≡ true → (ns ≡ []) ⊎ Last ns → ((g ns : List Note) → trail P ts ≡ g ++ ns → AllByRecursion (IsFolded U told) g → AllByRecursion IsIn ns → (a b : S) →
+          TellsRecords Learns (whats ns) a b → TellsEach Learns P (all_untold told (t ∷ younger) ts) a b) → TellsEach Learns P (all_untold told younger (t ∷ ts)) a b
       on e (inl none) rest =
           let all : trail P ts ++ note P ts t ∷ [] ≡ g = sym (trail_on P t ts e) ∙ (path ∙ (ap (λ z. g ++ z) none ∙ append-nil g)) in
           let parts : AllByRecursion (IsFolded U told) (trail P ts ++ note P ts t ∷ []) = subst (AllByRecursion (IsFolded U told)) (sym all) outs in
           let its : IsFolded U told (note P ts t) = (all_rest (IsFolded U told) (trail P ts) (note P ts t ∷ []) parts).0 in
-          with_none (out_untold t ts younger split its) (rest (trail P ts) [] (sym (append-nil (trail P ts))) (all_front (IsFolded U told) (trail P ts) (note P ts t ∷ []) parts) tt a b (subst (λ z. TellsRecords Learns (whats z) a b) none tells))
+          with_none (out_untold t ts younger split its) (rest (trail P ts) [] (sym (append-nil (trail P ts))) (all_front (IsFolded U told) (trail P ts) (note P ts t ∷ []) parts) tt a b
+          (subst (λ z. TellsRecords Learns (whats z) a b) none tells))
       on e (inr l) rest =
           let two = last_same (trail P ts) (g ++ l.front) (note P ts t) l.one (sym (trail_on P t ts e) ∙ (path ∙ (ap (λ z. g ++ z) l.is ∙ sym (append_assoc g l.front (l.one ∷ []))))) in
           let parts : AllByRecursion IsIn (l.front ++ l.one ∷ []) = subst (AllByRecursion IsIn) l.is ins in
@@ -170,7 +174,8 @@ module _ {S : Type 0} (Learns : S → ℕ → ℕ → S → Type 0) (P : Program
           subst (λ z. TellsEach Learns P (all_untold told (t ∷ younger) ts ++ cond z (t ∷ []) []) a b) (sym (in_untold t ts younger split e its))
           (each_more Learns P (all_untold told (t ∷ younger) ts) t a last.middle b before (told_it t ts younger split e last.middle b one))
 
-      go : (x : Bool) → on_path t ≡ x → ((g ns : List Note) → trail P ts ≡ g ++ ns → AllByRecursion (IsFolded U told) g → AllByRecursion IsIn ns → (a b : S) → TellsRecords Learns (whats ns) a b → TellsEach Learns P (all_untold told (t ∷ younger) ts) a b) → TellsEach Learns P (all_untold told younger (t ∷ ts)) a b
+      go : (x : Bool) → on_path t ≡ x → ((g ns : List Note) → trail P ts ≡ g ++ ns → AllByRecursion (IsFolded U told) g → AllByRecursion IsIn ns → (a b : S) → TellsRecords Learns (whats ns) a b →
+          TellsEach Learns P (all_untold told (t ∷ younger) ts) a b) → TellsEach Learns P (all_untold told younger (t ∷ ts)) a b
       go true e rest = on e (last_cases ns) rest
       go false e rest = with_none (off_untold t ts younger split e) (rest g ns (sym (trail_off P t ts e) ∙ path) outs ins a b tells)
 

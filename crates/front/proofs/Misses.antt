@@ -75,7 +75,8 @@ module _ (P : Program) (C : Sizes) where
       pub last : Rattle.inorder.specs.Callers.IsLastAt U p x.station
 
     pub are_there : AllByRecursion IsThere records
-    are_there = subst (AllByRecursion IsThere) (sym k.are) (all_whats IsThere k.notes (all_two (IsNoted P U.tenants) (IsNewest U) (λ n. IsThere n.what) (λ n i l. record { p = n.at; tenant = i.tenant; is = i.is; on = i.on; what = i.what; last = l }) k.notes (notes_noted P C h legal records base (IsFolded U (rested_at base)) k) k.newest))
+    are_there = subst (AllByRecursion IsThere) (sym k.are) (all_whats IsThere k.notes (all_two (IsNoted P U.tenants) (IsNewest U) (λ n. IsThere n.what)
+        (λ n i l. record { p = n.at; tenant = i.tenant; is = i.is; on = i.on; what = i.what; last = l }) k.notes (notes_noted P C h legal records base (IsFolded U (rested_at base)) k) k.newest))
 
     -- the look at a tenant that is a miss
     pub is_miss : (i : ℕ) (x : Record) (seen : Seen StationState) → slice_get records i ≡ Some x → SeesStation P C h x.station seen → seen.state ≡ MissState → IsMiss P C h x seen.value

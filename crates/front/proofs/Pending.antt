@@ -78,7 +78,14 @@ module _ (P : Program) (C : Sizes) (U : UpdateUnit) (by : ℕ) where
           };
         };
         last = last_at s b a ok r station i.last;
-        creator = record { tenant = c.tenant; is = c.is; new = old_kept P C U by s (λ e. subst IsQuiet e b) a q ∙ i.creator.new; station_is = c.goes.station ∙ i.creator.station_is; tag_is = c.goes.tag ∙ i.creator.tag_is; fact = tt };
+        creator = record {
+          tenant = c.tenant;
+          is = c.is;
+          new = old_kept P C U by s (λ e. subst IsQuiet e b) a q ∙ i.creator.new;
+          station_is = c.goes.station ∙ i.creator.station_is;
+          tag_is = c.goes.tag ∙ i.creator.tag_is;
+          fact = tt;
+        };
         creator_last = last_at s b a ok q x i.creator_last;
       }
 
@@ -105,7 +112,8 @@ module _ (P : Program) (C : Sizes) (r q station tag x g : ℕ) where
   pub first_leaves : (p : ℕ) (events : List Event) → IsQuestion p First events → AllByRecursion (KeepsEvent P C (IsPending Second r q station tag x g)) events
   first_leaves p events e = ⊎_elim
       (λ (f : events ≡ Marks (Asked p First) ∷ Does (On p (Link First)) ∷ []). subst (AllByRecursion (KeepsEvent P C (IsPending Second r q station tag x g))) (sym f) (tt, (link, tt)))
-      (λ (f : events ≡ Marks (Asked p First) ∷ Does (On p (Deliver First)) ∷ Does (On p (Link First)) ∷ []). subst (AllByRecursion (KeepsEvent P C (IsPending Second r q station tag x g))) (sym f) (tt, (deliver, (link, tt))))
+      (λ (f : events ≡ Marks (Asked p First) ∷ Does (On p (Deliver First)) ∷ Does (On p (Link First)) ∷ []). subst (AllByRecursion (KeepsEvent P C (IsPending Second r q station tag x g))) (sym f)
+      (tt, (deliver, (link, tt))))
       e
     where
       deliver : KeepsEvent P C (IsPending Second r q station tag x g) (Does (On p (Deliver First)))
@@ -127,7 +135,8 @@ pub question_leaves : (P : Program) (C : Sizes) (records : List Record) (base : 
     IsQuestion p k events → AllByRecursion (KeepsEvent P C (λ U. FrontKnows P C U records base)) events
 question_leaves P C records base p k events e = ⊎_elim
     (λ (f : events ≡ Marks (Asked p k) ∷ Does (On p (Link k)) ∷ []). subst (AllByRecursion (KeepsEvent P C (λ U. FrontKnows P C U records base))) (sym f) (tt, (link, tt)))
-    (λ (f : events ≡ Marks (Asked p k) ∷ Does (On p (Deliver k)) ∷ Does (On p (Link k)) ∷ []). subst (AllByRecursion (KeepsEvent P C (λ U. FrontKnows P C U records base))) (sym f) (tt, (deliver, (link, tt))))
+    (λ (f : events ≡ Marks (Asked p k) ∷ Does (On p (Deliver k)) ∷ Does (On p (Link k)) ∷ []). subst (AllByRecursion (KeepsEvent P C (λ U. FrontKnows P C U records base))) (sym f)
+    (tt, (deliver, (link, tt))))
     e
   where
     deliver : KeepsEvent P C (λ U. FrontKnows P C U records base) (Does (On p (Deliver k)))

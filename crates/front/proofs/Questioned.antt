@@ -48,7 +48,8 @@ module _ (P : Program) (C : Sizes) where
   pub later : (old new : List Entry) (es : List Event) → Adds P C front old new es → (r station tag : ℕ) →
       IsTenant (unit_of P C old) r station tag IsAny → IsTenant (unit_of P C new) r station tag IsAny
   later old new es a r station tag i =
-      subst (λ z. IsTenant (unit_of P C z) r station tag IsAny) (sym a.begins.is) (any_stays P C r station tag a.begins.more old (subst (IsLegal P C) a.begins.is a.legal) (sym (ap renewals a.begins.is) ∙ a.one_table) i)
+      subst (λ z. IsTenant (unit_of P C z) r station tag IsAny) (sym a.begins.is) (any_stays P C r station tag a.begins.more old (subst (IsLegal P C) a.begins.is a.legal)
+      (sym (ap renewals a.begins.is) ∙ a.one_table) i)
 
   pub has_asked : (old new : List Entry) → IsLegal P C old → (r station tag : ℕ) (k : Source) (s : Supply) →
       IsTenant (unit_of P C old) r station tag IsAny → Asks P C old new station tag k s →
@@ -67,7 +68,8 @@ module _ (P : Program) (C : Sizes) where
         events = w.events;
         asks = subst (λ z. IsQuestion z k w.events) same w.question;
         adds = w.adds;
-        knows = λ records base x. stays_under P C (λ U. FrontKnows P C U records base) (knows_stable P C records base) w.events (question_leaves P C records base w.r k w.events w.question) old new w.adds x;
+        knows = λ records base x. stays_under P C (λ U. FrontKnows P C U records base) (knows_stable P C records base) w.events (question_leaves P C records base w.r k w.events w.question) old new
+            w.adds x;
         table = λ told T x. stays_under P C (λ U. HasTable P U told T) (table_stable P C told T) w.events (question_leaves_table P C told T w.r k w.events w.question) old new w.adds x;
       }
 

@@ -97,7 +97,8 @@ module _ (P : Program) (C : Sizes) (h : List Entry) (legal : IsLegal P C h) (res
       let o = last_of_path in
       let Q : Record → Type 0 = λ r. (p : ℕ) (t : Tenant) → at U.tenants p ≡ Some t → is_old U p ≡ false → t.station ≡ r.station → t.tag ≡ r.tag → p < x.at in
       let noted : AllByRecursion (IsNoted P o.ts) fs = all_rest (IsNoted P o.ts) k.gone fs (subst (AllByRecursion (IsNoted P o.ts)) (sym o.before) (trail_noted P o.ts)) in
-      subst (AllByRecursion Q) (sym same_records.fronts) (all_whats Q fs (all_two (IsNoted P o.ts) (λ n. rested_at base ≤ n.at) (λ n. Q n.what) older fs noted (all_front (λ n. rested_at base ≤ n.at) fs (x ∷ []) untold)))
+      subst (AllByRecursion Q) (sym same_records.fronts) (all_whats Q fs (all_two (IsNoted P o.ts) (λ n. rested_at base ≤ n.at) (λ n. Q n.what) older fs noted
+      (all_front (λ n. rested_at base ≤ n.at) fs (x ∷ []) untold)))
     where
       older : (n : Note) → IsNoted P last_of_path.ts n → rested_at base ≤ n.at → (p : ℕ) (t : Tenant) →
           at U.tenants p ≡ Some t → is_old U p ≡ false → t.station ≡ n.what.station → t.tag ≡ n.what.tag →
@@ -142,7 +143,14 @@ elsewhere : (P : Program) (C : Sizes) (U : UpdateUnit) (by p q : ℕ) (act : Act
     → IsMissOf q x next (applied P C U by (On p act))
 elsewhere P C U by p q act x next a ne m = ⊎_elim
     (λ (z : IsActed P U.tenants by p act a.tenant q m.tenant). absurd (ne z.position))
-    (λ (z : IsLeft P U.tenants by p act q m.tenant). record { tenant = m.tenant; is = z.now; new = old_kept P C U by (On p act) (λ e. cc e) a q ∙ m.new; station_is = m.station_is; tag_is = m.tag_is; fact = m.fact })
+    (λ (z : IsLeft P U.tenants by p act q m.tenant). record {
+      tenant = m.tenant;
+      is = z.now;
+      new = old_kept P C U by (On p act) (λ e. cc e) a q ∙ m.new;
+      station_is = m.station_is;
+      tag_is = m.tag_is;
+      fact = m.fact;
+    })
     (at_changed P U.tenants by p act a.tenant a.is q m.tenant m.is)
 
 less_not : (p q : ℕ) → p < q → p ≢ q
@@ -256,7 +264,8 @@ module _ (P : Program) (C : Sizes) (old new : List Entry) (rest : List Record) (
       let long : (l.after ++ entry front (Does (On p Mend)) ∷ []) ++ l.point ≡ l.after ++ entry front (Does (On p Mend)) ∷ l.point = append_assoc l.after (entry front (Does (On p Mend)) ∷ []) l.point in
       let named = any_stays P C p one.station one.tag (l.after ++ entry front (Does (On p Mend)) ∷ []) l.point (subst (IsLegal P C) (sym long) l.legal) (ap renewals (long ∙ sym l.is) ∙ l.since) point_named in
       record {
-        knows = stays_behind P C (λ U. FrontKnows P C U (rest ++ record one { next = next } ∷ []) base) (knows_stable P C (rest ++ record one { next = next } ∷ []) base) old new (Does (On p Mend)) [] l behind;
+        knows = stays_behind P C (λ U. FrontKnows P C U (rest ++ record one { next = next } ∷ []) base) (knows_stable P C (rest ++ record one { next = next } ∷ []) base) old new (Does (On p Mend)) []
+            l behind;
         named = subst (λ z. IsTenant (unit_of P C z) p one.station one.tag IsAny) (long ∙ sym l.is) named;
         same = λ r mr. one_named_old r q mr m ∙ same;
       }

@@ -1,5 +1,6 @@
 -- The oldest goes to the base registers.
-use Rattle.std.proofs.Common.{◌≡◌, ◌≢◌, ℕ, zero, suc, ◌<◌, ◌≤◌, Bool, true, false, cond, eqb, eqb-true, List, [], ◌∷◌, ◌++◌, length, Option, Some, None, refl, sym, ap, ◌∙◌, subst, inl, inr, arith, append_assoc, true≢false}
+use Rattle.std.proofs.Common.{◌≡◌, ◌≢◌, ℕ, zero, suc, ◌<◌, ◌≤◌, Bool, true, false, cond, eqb, eqb-true, List, [], ◌∷◌, ◌++◌, length, Option, Some, None, refl, sym, ap, ◌∙◌, subst, inl, inr, arith}
+use Rattle.std.proofs.Common.{append_assoc, true≢false}
 use Rattle.std.proofs.lemmas.Bool.{le-leb}
 use Rattle.std.specs.List.{AllByRecursion}
 use Rattle.std.specs.Prelude.{slice_index}
@@ -86,7 +87,8 @@ module _ (P : Program) (C : Sizes) (h : List Entry) (legal : IsLegal P C h) wher
 
       note_made : n.what.destination ≢ 0 → value_of U.tenants (Some n.at) ≡ Some (made_of n.what left)
       note_made writes =
-          ap made_by noted.is ∙ (left_made n.at noted.tenant noted.is left its_left (λ z. writes (ap (λ (y : Record). y.destination) (sym noted.what) ∙ z)) ∙ ap (λ (y : Record). Some (made_of y left)) noted.what)
+          ap made_by noted.is ∙ (left_made n.at noted.tenant noted.is left its_left (λ z. writes (ap (λ (y : Record). y.destination) (sym noted.what) ∙ z)) ∙
+          ap (λ (y : Record). Some (made_of y left)) noted.what)
 
       pub base_more : (r : ℕ) → r < 34 → value_of U.tenants (position (creator_note (k.gone ++ n ∷ []) r)) ≡ Some (slice_index (write base.registers n.what.destination (made_of n.what left)) r)
       base_more zero small = ap Some (sym (read_zero base.registers n.what.destination (made_of n.what left) (sym (some_same 0 (slice_index base.registers 0) (k.base_is 0 small)))))
@@ -104,12 +106,15 @@ module _ (P : Program) (C : Sizes) (h : List Entry) (legal : IsLegal P C h) wher
           go true f true g =
               let same : n.what.destination ≡ suc r = eqb-true n.what.destination (suc r) g in
               let writes : n.what.destination ≢ 0 = λ z. absurd (omega (arith, same, z)) in
-              ap (λ z. value_of U.tenants (position z)) (noted_as true f (k.gone ++ n ∷ []) ∙ (newest_both None k.gone (n ∷ []) (suc r) ∙ ap (λ b. cond b (Some n) (newest_note None k.gone (suc r))) g))
+              ap (λ z. value_of U.tenants (position z)) (noted_as true f (k.gone ++ n ∷ []) ∙ (newest_both None k.gone (n ∷ []) (suc r) ∙
+              ap (λ b. cond b (Some n) (newest_note None k.gone (suc r))) g))
               ∙ (note_made writes
-              ∙ ap Some (sym (read_same base.registers r (made_of n.what left) (omega (arith, k.wide, small))) ∙ ap (λ z. slice_index (write base.registers z (made_of n.what left)) (suc r)) (sym same)))
+              ∙ ap Some (sym (read_same base.registers r (made_of n.what left) (omega (arith, k.wide, small))) ∙
+              ap (λ z. slice_index (write base.registers z (made_of n.what left)) (suc r)) (sym same)))
           go true f false g =
               let ne : n.what.destination ≢ suc r = not_eqb n.what.destination (suc r) g in
-              ap (λ z. value_of U.tenants (position z)) (noted_as true f (k.gone ++ n ∷ []) ∙ (newest_both None k.gone (n ∷ []) (suc r) ∙ (ap (λ b. cond b (Some n) (newest_note None k.gone (suc r))) g ∙ sym (noted_as true f k.gone))))
+              ap (λ z. value_of U.tenants (position z)) (noted_as true f (k.gone ++ n ∷ []) ∙ (newest_both None k.gone (n ∷ []) (suc r) ∙
+              (ap (λ b. cond b (Some n) (newest_note None k.gone (suc r))) g ∙ sym (noted_as true f k.gone))))
               ∙ other ne
 
     pub next_is : (n : Note) (ns : List Note) → k.notes ≡ n ∷ ns → C.ring ≤ length records → n.what.station ≡ next_station C (recent U)
@@ -171,7 +176,8 @@ module _ (P : Program) (C : Sizes) (h : List Entry) (legal : IsLegal P C h) wher
               room = omega (arith, k.room, count);
               begun = λ none. let zero_long : length ns ≡ 0 = ap (λ z. length z) none in absurd (omega (arith, least, full, long, count, zero_long));
               retired = all_both (IsGone U) k.gone (n ∷ []) k.retired (note_gone records base (IsFolded U (rested_at base)) k n ns e left gone, tt);
-              again = all_both (IsPassed C U (rested_at base)) k.gone (n ∷ []) (all_map (IsFolded U (rested_at base)) (IsPassed C U (rested_at base)) (λ n x. inl x) k.gone k.again) (inr (next_is records base (IsFolded U (rested_at base)) k n ns e full), tt);
+              again = all_both (IsPassed C U (rested_at base)) k.gone (n ∷ []) (all_map (IsFolded U (rested_at base)) (IsPassed C U (rested_at base)) (λ n x. inl x) k.gone k.again)
+                  (inr (next_is records base (IsFolded U (rested_at base)) k n ns e full), tt);
               newest = (subst (AllByRecursion (IsNewest U)) e k.newest).1;
               past = k.past;
               since = k.since;

@@ -34,7 +34,8 @@ module _ (P : Program) (C : Sizes) where
       subst (λ h. Q (unit_of P C h)) (sym a.begins.is)
       (front_stays P C Q keeps a.begins.more old (subst (IsLegal P C) a.begins.is a.legal) (no_event front old new a) q)
 
-  pub stays_behind : (Q : UpdateUnit → Type 0) → IsStable Q → (old new : List Entry) (e : Event) (es : List Event) → (l : LastEvent P C front old new e es) → Q (unit_of P C (entry front e ∷ l.point)) → Q (unit_of P C new)
+  pub stays_behind : (Q : UpdateUnit → Type 0) → IsStable Q → (old new : List Entry) (e : Event) (es : List Event) → (l : LastEvent P C front old new e es) →
+      Q (unit_of P C (entry front e ∷ l.point)) → Q (unit_of P C new)
   stays_behind Q keeps old new e es l q =
       subst (λ h. Q (unit_of P C h)) (sym l.is) (front_stays P C Q keeps l.after (entry front e ∷ l.point) l.legal l.none q)
 
@@ -50,7 +51,8 @@ module _ (P : Program) (C : Sizes) where
   kept_event Q (Refuses r) h l k q = q
   kept_event Q (Marks m) h l k q = q
 
-  pub stays_under : (Q : UpdateUnit → Type 0) → IsStable Q → (es : List Event) → AllByRecursion (KeepsEvent Q) es → (old new : List Entry) → Adds P C front old new es → Q (unit_of P C old) → Q (unit_of P C new)
+  pub stays_under : (Q : UpdateUnit → Type 0) → IsStable Q → (es : List Event) → AllByRecursion (KeepsEvent Q) es → (old new : List Entry) → Adds P C front old new es → Q (unit_of P C old) →
+      Q (unit_of P C new)
   stays_under Q keeps [] ks old new a q = stays Q keeps old new a q
   stays_under Q keeps (e ∷ es) ks old new a q =
       let l = last_event P C front old new e es a in

@@ -1,5 +1,6 @@
 -- The last tenants of stations, and whether all stations are in use.
-use Rattle.std.proofs.Common.{◌≡◌, ◌≢◌, ◌⊎◌, ℕ, suc, ◌+◌, ◌%◌, ◌<◌, ◌≤◌, Bool, true, false, cond, eqb, eqb-true, ne_eqb, List, [], ◌∷◌, ◌++◌, length, Option, Some, None, refl, sym, ap, ◌∙◌, subst, inl, inr, ⊎_elim, arith, true≢false, eq-eqb}
+use Rattle.std.proofs.Common.{◌≡◌, ◌≢◌, ◌⊎◌, ℕ, suc, ◌+◌, ◌%◌, ◌<◌, ◌≤◌, Bool, true, false, cond, eqb, eqb-true, ne_eqb, List, [], ◌∷◌, ◌++◌, length, Option, Some, None, refl, sym, ap, ◌∙◌, subst}
+use Rattle.std.proofs.Common.{inl, inr, ⊎_elim, arith, true≢false, eq-eqb}
 use Rattle.std.proofs.lemmas.Bool.{cases_lt}
 use Rattle.std.specs.List.{AllByRecursion}
 use Rattle.instructions.specs.Programs.{Program}
@@ -186,7 +187,8 @@ module _ (P : Program) (C : Sizes) (h : List Entry) (legal : IsLegal P C h) wher
           new = new;
           station_is = ap (λ (z : Record). z.station) noted.what;
           tag_is = ap (λ (z : Record). z.tag) noted.what;
-          fact = left_there noted.tenant (next_tag C (recent U)) (station_word C (recent U) (next_station C (recent U))) word (free_is _ (sym sees.state_is ∙ ap state_code free)) noted.on seen.value sees.value_is;
+          fact = left_there noted.tenant (next_tag C (recent U)) (station_word C (recent U) (next_station C (recent U))) word (free_is _ (sym sees.state_is ∙ ap state_code free)) noted.on seen.value
+              sees.value_is;
         }
 
     -- a free next station: not all are in use

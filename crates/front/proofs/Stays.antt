@@ -154,7 +154,8 @@ module _ (P : Program) (C : Sizes) (U : UpdateUnit) (by : ℕ) where
 
   pub knows_stays : (records : List Record) (base : Base) (s : Step) → IsQuiet s → Allowed P C U by s →
       IsSound P U.tenants → FrontKnows P C U records base → FrontKnows P C (applied P C U by s) records base
-  knows_stays records base s b a ok k = stands_stay s b a ok records base (IsFolded U (rested_at base)) (IsFolded (applied P C U by s) (rested_at base)) (still_folded P C U by s a ok (rested_at base)) k
+  knows_stays records base s b a ok k = stands_stay s b a ok records base (IsFolded U (rested_at base)) (IsFolded (applied P C U by s) (rested_at base)) (still_folded P C U by s a ok (rested_at base))
+      k
 
   pub ready_stays : (records : List Record) (base : Base) (s : Step) → IsQuiet s → Allowed P C U by s →
       IsSound P U.tenants → RecordsAreReady P C U records base →

@@ -122,7 +122,9 @@ module _ (P : Program) (C : Sizes) (h : List Entry) (legal : IsLegal P C h) (rec
             let t : Tenant = its.1.tenant in
             let place : t.station ≡ n.what.station = ap (λ (z : Record). z.station) its.1.what in
             ⊎_elim
-            (λ (r : IsFolded U (rested_at base) n). ⊎_elim (λ (i : IsReused U n). absurd (table.stale n.at i.p t i.tenant.tenant named.untold i.behind its.1.is i.tenant.is (i.tenant.fact ∙ sym place) f.saved (ap (slice_get T.latest) (place ∙ sym station) ∙ f.is) (f.tag ∙ (tag ∙ ap (λ (z : Record). z.tag) (sym its.1.what))))) (λ (l : n.at < rested_at base). absurd (omega (arith, l, named.untold))) r)
+            (λ (r : IsFolded U (rested_at base) n). ⊎_elim (λ (i : IsReused U n). absurd (table.stale n.at i.p t i.tenant.tenant named.untold i.behind its.1.is i.tenant.is (i.tenant.fact ∙ sym place)
+            f.saved (ap (slice_get T.latest) (place ∙ sym station) ∙ f.is) (f.tag ∙ (tag ∙ ap (λ (z : Record). z.tag) (sym its.1.what)))))
+            (λ (l : n.at < rested_at base). absurd (omega (arith, l, named.untold))) r)
             (λ (o : n.what.station ≡ own). ap (λ b. cond b (Known (slice_index base.registers r)) (supply_made c.station c.tag c.made)) (eq-eqb c.station own (station ∙ o)))
             its.0
 

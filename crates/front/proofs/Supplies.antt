@@ -85,7 +85,8 @@ module _ (P : Program) (C : Sizes) (h : List Entry) (legal : IsLegal P C h) (rec
       let small = notes_small P C h legal records base _ s (omega (arith, k.free)) in
       let apart = all_two (λ n. n.what.station ≢ next_station C (recent U)) (λ n. n.what.station < C.ring) (λ n. (n.what.station ≢ next_station C (recent U)) × (n.what.station < C.ring)) (λ n a b. (a, b)) s.notes others small in
       let young = all_two (λ n. IsNoted P U.tenants n × IsNewest U n) (λ n. rested_at base ≤ n.at) (λ n. (IsNoted P U.tenants n × IsNewest U n) × (rested_at base ≤ n.at)) (λ n a b. (a, b)) s.notes both s.untold in
-      all_two (λ n. (IsNoted P U.tenants n × IsNewest U n) × (rested_at base ≤ n.at)) (λ n. (n.what.station ≢ next_station C (recent U)) × (n.what.station < C.ring)) (IsGiver P C U (rested_at base)) (λ n a b. record { untold = a.1; noted = a.0.0; newest = a.0.1; other = b.0; small = b.1 }) s.notes young apart
+      all_two (λ n. (IsNoted P U.tenants n × IsNewest U n) × (rested_at base ≤ n.at)) (λ n. (n.what.station ≢ next_station C (recent U)) × (n.what.station < C.ring)) (IsGiver P C U (rested_at base))
+      (λ n a b. record { untold = a.1; noted = a.0.0; newest = a.0.1; other = b.0; small = b.1 }) s.notes young apart
 
   -- a source of register r
   module _ (r : ℕ) (small : r < 34) where
@@ -93,7 +94,8 @@ module _ (P : Program) (C : Sizes) (h : List Entry) (legal : IsLegal P C h) (rec
     whole = creator_is P U.tenants r ∙ ap (λ z. position (creator_note z r)) k.stands.path
 
     pub found : Creates (IsGiver P C U (rested_at base)) k.stands.gone records r (creator_note (k.stands.gone ++ k.stands.notes) r)
-    found = subst (λ z. Creates (IsGiver P C U (rested_at base)) k.stands.gone z r (creator_note (k.stands.gone ++ k.stands.notes) r)) (sym k.stands.are) (creates (IsGiver P C U (rested_at base)) k.stands.gone k.stands.notes r givers)
+    found = subst (λ z. Creates (IsGiver P C U (rested_at base)) k.stands.gone z r (creator_note (k.stands.gone ++ k.stands.notes) r)) (sym k.stands.are)
+        (creates (IsGiver P C U (rested_at base)) k.stands.gone k.stands.notes r givers)
 
     kept_by : (n : Note) → creator P U.tenants r ≡ Some n.at → IsGiver P C U (rested_at base) n →
         MaySupply P U (next_station C (recent U)) (creator P U.tenants r) (supply_of (supply_by (slice_index base.registers r) (Some n.what)))

@@ -1,5 +1,6 @@
 -- The create vector as a table: it stays under the steps of others, and follows the front's own.
-use Rattle.std.proofs.Common.{◌≡◌, ◌≢◌, ◌⊎◌, ℕ, zero, suc, ◌+◌, ◌%◌, ◌^◌, ◌<◌, ◌≤◌, Bool, true, false, cond, eqb, List, [], ◌∷◌, ◌++◌, length, Some, None, refl, sym, ap, ◌∙◌, subst, inl, inr, ⊎_elim, arith, append_assoc, eq-eqb, ne_eqb, leb, leb-true, le-leb}
+use Rattle.std.proofs.Common.{◌≡◌, ◌≢◌, ◌⊎◌, ℕ, zero, suc, ◌+◌, ◌%◌, ◌^◌, ◌<◌, ◌≤◌, Bool, true, false, cond, eqb, List, [], ◌∷◌, ◌++◌, length, Some, None, refl, sym, ap, ◌∙◌, subst, inl, inr, ⊎_elim}
+use Rattle.std.proofs.Common.{arith, append_assoc, eq-eqb, ne_eqb, leb, leb-true, le-leb}
 use mathlib.Core.Logic.{dite}
 use native.Mathlib.Decide.{ℕ_discrete}
 use Rattle.std.proofs.lemmas.Bool.{cases_lt}
@@ -271,7 +272,8 @@ module _ (P : Program) (C : Sizes) (told : ℕ) (T : Table) where
 
 module _ (P : Program) (C : Sizes) (U : UpdateUnit) (by index predicted : ℕ) (first second : Supply) (told : ℕ) (T T' : Table) (k : HasTable P U told T) (past : told ≤ length U.tenants)
     (inside : (new_tenant P C U index predicted first second).station < 32)
-    (unique : (p q : ℕ) (t u : Tenant) → told ≤ p → told ≤ q → at (applied P C U by (Let index predicted first second)).tenants p ≡ Some t → at (applied P C U by (Let index predicted first second)).tenants q ≡ Some u → t.station ≡ u.station → t.tag ≡ u.tag → p ≡ q)
+    (unique : (p q : ℕ) (t u : Tenant) → told ≤ p → told ≤ q → at (applied P C U by (Let index predicted first second)).tenants p ≡ Some t →
+    at (applied P C U by (Let index predicted first second)).tenants q ≡ Some u → t.station ≡ u.station → t.tag ≡ u.tag → p ≡ q)
     (entered : IsEntered T T' (record_of P (new_tenant P C U index predicted first second))) where
   abbrev new : Tenant
   new = new_tenant P C U index predicted first second
@@ -351,7 +353,8 @@ module _ (P : Program) (C : Sizes) (U : UpdateUnit) (by index predicted : ℕ) (
   entries : (r : ℕ) → 0 < r → r < 34 → slice_get T'.entries r ≡ Some (table_entry_in told (trail P W.tenants) r)
   entries r pos less =
       dite (ℕ_discrete d r)
-      (λ same. subst (λ z. slice_get T'.entries z ≡ Some (table_entry_in told (trail P U.tenants ++ note P U.tenants new ∷ []) z)) same (mine (subst (λ z. 0 < z) (sym same) pos) (subst (λ z. z < 34) (sym same) less)))
+      (λ same. subst (λ z. slice_get T'.entries z ≡ Some (table_entry_in told (trail P U.tenants ++ note P U.tenants new ∷ []) z)) same
+      (mine (subst (λ z. 0 < z) (sym same) pos) (subst (λ z. z < 34) (sym same) less)))
       (λ n. other r n (cases_lt 0 d) (cases_lt d 34) ∙ (k.entries r pos less ∙ ap Some (sym (entry_else told (trail P U.tenants) (note P U.tenants new) r n))))
       ∙ ap (λ z. Some (table_entry_in told z r)) (sym path)
 

@@ -1,5 +1,6 @@
 -- What the predictor is told is what the last tenant of the station did.
-use Rattle.std.proofs.Common.{◌≡◌, ◌≢◌, ℕ, ◌<◌, Bool, ◌&&◌, List, ◌∷◌, ◌++◌, length, Option, Some, None, refl, sym, ap, ◌∙◌, subst, zero, suc, ◌+◌, ◌-◌, ◌≤◌, [], cond, eqb, eqb-true, eq-eqb, true, false, true≢false, inl, inr, ⊎_elim, arith}
+use Rattle.std.proofs.Common.{◌≡◌, ◌≢◌, ℕ, ◌<◌, Bool, ◌&&◌, List, ◌∷◌, ◌++◌, length, Option, Some, None, refl, sym, ap, ◌∙◌, subst, zero, suc, ◌+◌, ◌-◌, ◌≤◌, [], cond, eqb, eqb-true, eq-eqb, true}
+use Rattle.std.proofs.Common.{false, true≢false, inl, inr, ⊎_elim, arith}
 use Rattle.std.specs.List.{AllByRecursion}
 use Rattle.instructions.specs.Operations.{outcome_by}
 use Rattle.instructions.specs.Programs.{Program}
@@ -12,7 +13,8 @@ use Rattle.inorder.specs.History.{IsLegal, unit_of}
 use Rattle.inorder.specs.Callers.{IsLastAt, is_retired, stands_retired}
 use Rattle.inorder.specs.StationWords.{last_of}
 use Rattle.inorder.specs.Steps.{CanRetire}
-use Rattle.inorder.specs.Tenants.{behind, Addr, Busy, Done, Fate, Live, Miss, Open, Retired, Squashed, Standing, Stopped, Tenant, computed, computed_next, instr, kind_of, next_by, operand_value, stands_on_path}
+use Rattle.inorder.specs.Tenants.{behind, Addr, Busy, Done, Fate, Live, Miss, Open, Retired, Squashed, Standing, Stopped, Tenant, computed, computed_next, instr, kind_of, next_by, operand_value}
+use Rattle.inorder.specs.Tenants.{stands_on_path}
 use Rattle.inorder.specs.Unit.{Sizes, UpdateUnit, at, newest_of, next_station, older, recent, younger}
 use Rattle.inorder.proofs.Basics.{split_at}
 use Rattle.inorder.proofs.Fated.{follows_from}
@@ -145,7 +147,8 @@ untold_last us told p s t is new place last =
     ap (last_of (untold told us)) (sym place)
     ∙ last_of_recent V p t is (new_by V p (omega (arith, new, below))) (λ q u lt e f. last q u lt e (f ∙ place))
 
-module _ {S : Type 0} (Learns : S → ℕ → ℕ → S → Type 0) (P : Program) (C : Sizes) (h : List Entry) (legal : IsLegal P C h) (records : List Record) (base : Base) (k : FrontKnows P C (unit_of P C h) records base) where
+module _ {S : Type 0} (Learns : S → ℕ → ℕ → S → Type 0) (P : Program) (C : Sizes) (h : List Entry) (legal : IsLegal P C h) (records : List Record) (base : Base)
+    (k : FrontKnows P C (unit_of P C h) records base) where
   abbrev U : UpdateUnit
   U = unit_of P C h
 
@@ -176,14 +179,16 @@ module _ {S : Type 0} (Learns : S → ℕ → ℕ → S → Type 0) (P : Program
           subst (AllByRecursion Q) (sym k.path)
           (all_both Q k.gone k.notes
           (all_two (IsNoted P U.tenants) (IsFolded U (rested_at base)) Q reused_never k.gone (all_front (IsNoted P U.tenants) k.gone k.notes noted) k.again)
-          (all_two (IsNoted P U.tenants) (λ n. n.what.station ≢ next) Q other_never k.notes (notes_noted P C h legal records base (IsFolded U (rested_at base)) k) (others_next P C U records base (IsFolded U (rested_at base)) k (stands_right P C h legal) few)))
+          (all_two (IsNoted P U.tenants) (λ n. n.what.station ≢ next) Q other_never k.notes (notes_noted P C h legal records base (IsFolded U (rested_at base)) k)
+          (others_next P C U records base (IsFolded U (rested_at base)) k (stands_right P C h legal) few)))
 
       by : (t : Tenant) (st : Standing) → t.standing ≡ st → last_of (untold (rested_at base) U.tenants) next ≡ Some t → ToldIf Learns (stands_retired st && is_guessed P t) t.pc (computed_next P t) s s
       by t Live e f = refl
       by t Squashed e f = refl
       by t Retired e f =
           let l = untold_spot U.tenants (rested_at base) next t f in
-          absurd (trail_all P (λ n. (t : Tenant) → at U.tenants n.at ≡ Some t → rested_at base ≤ n.at → t.station ≡ next → IsLastAt U n.at next → ⊥) U.tenants all_never l.spot.p t l.spot.is (ap stands_on_path e) t l.spot.is l.new l.spot.place l.spot.last)
+          absurd (trail_all P (λ n. (t : Tenant) → at U.tenants n.at ≡ Some t → rested_at base ≤ n.at → t.station ≡ next → IsLastAt U n.at next → ⊥) U.tenants all_never l.spot.p t l.spot.is
+          (ap stands_on_path e) t l.spot.is l.new l.spot.place l.spot.last)
 
       go : (o : Option Tenant) → last_of (untold (rested_at base) U.tenants) next ≡ o → PredictorIsTold Learns P o s s
       go None e = refl

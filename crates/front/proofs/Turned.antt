@@ -57,13 +57,16 @@ lets_since P C begin old new station tag pc predicted a l =
       adds = subst (λ z. Adds P C front begin new z) (append-nil events) (adds_on P C front begin old new [] events a l.adds);
     }
 
-module _ {S : Type 0} (Predicts : S → ℕ → Instr → ℕ → S → Type 0) (Learns : S → ℕ → ℕ → S → Type 0) (P : Program) (C : Sizes) (begin old new : List Entry) (records : List Record) (base : Base) (k : FrontKnows P C (unit_of P C begin) records base) (adds : Adds P C front begin old [])
-    (f : Fetched) (oldest : OldestLeft C (unit_of P C old) records f.left) (ring : ℕ) (ring_is : ring ≡ C.ring) (path path' : Path) (path_is : path.records ≡ records) (predicted tag : ℕ) (d : IsDispatched P C old new f predicted tag) where
+module _ {S : Type 0} (Predicts : S → ℕ → Instr → ℕ → S → Type 0) (Learns : S → ℕ → ℕ → S → Type 0) (P : Program) (C : Sizes) (begin old new : List Entry) (records : List Record) (base : Base)
+    (k : FrontKnows P C (unit_of P C begin) records base) (adds : Adds P C front begin old [])
+    (f : Fetched) (oldest : OldestLeft C (unit_of P C old) records f.left) (ring : ℕ) (ring_is : ring ≡ C.ring) (path path' : Path) (path_is : path.records ≡ records) (predicted tag : ℕ)
+    (d : IsDispatched P C old new f predicted tag) where
   abbrev point : List Entry
   point = d.lets.point
 
   knows_there : FrontKnows P C (unit_of P C point) records base
-  knows_there = stays P C (λ U. FrontKnows P C U records base) (knows_stable P C records base) old point d.lets.before (stays P C (λ U. FrontKnows P C U records base) (knows_stable P C records base) begin old adds k)
+  knows_there = stays P C (λ U. FrontKnows P C U records base) (knows_stable P C records base) old point d.lets.before
+      (stays P C (λ U. FrontKnows P C U records base) (knows_stable P C records base) begin old adds k)
 
   told_there : (left : Option Record) → Releases ring f.left path left path' → (s s' : S) →
       ToldOf Learns left s s' →
@@ -71,7 +74,8 @@ module _ {S : Type 0} (Predicts : S → ℕ → Instr → ℕ → S → Type 0) 
   told_there None r s s' told =
       let few : length records < C.ring = subst (λ z. length records < z) ring_is (subst (λ z. length z < ring) path_is r.0) in
       subst (λ z. PredictorIsTold Learns P (last_of (untold (rested_at base) (unit_of P C point).tenants) z) s s') (sym d.lets.station_is)
-      (subst (λ z. PredictorIsTold Learns P (last_of (untold (rested_at base) (unit_of P C point).tenants) (next_station C (recent (unit_of P C point)))) s z) (sym told) (nobody_told Learns P C point d.lets.before.legal records base knows_there few s))
+      (subst (λ z. PredictorIsTold Learns P (last_of (untold (rested_at base) (unit_of P C point).tenants) (next_station C (recent (unit_of P C point)))) s z) (sym told)
+      (nobody_told Learns P C point d.lets.before.legal records base knows_there few s))
   told_there (Some x) r s s' told = go knows_there.notes refl
     where
       are : records ≡ x ∷ path'.records

@@ -98,7 +98,14 @@ pub miss_stays : (P : Program) (C : Sizes) (U : UpdateUnit) (by : ℕ) (s : Step
 miss_stays P C U by s b a p x i = ⊎_elim
     (λ e. record { tenant = i.tenant; is = e; fact = i.fact })
     (λ (z : Acted P U by s (applied P C U by s).tenants p i.tenant). let b' : IsBesidesAct z.act = subst IsBesides z.step b in ⊎_elim
-    (λ e. record { tenant = changed P by z.act i.tenant (older U.tenants p); is = z.now; fact = record { live = e ∙ i.fact.live; fate = miss_on P by z.act (younger U.tenants p) i.tenant (older U.tenants p) x b' z.may i.fact.fate } })
+    (λ e. record {
+      tenant = changed P by z.act i.tenant (older U.tenants p);
+      is = z.now;
+      fact = record {
+        live = e ∙ i.fact.live;
+        fate = miss_on P by z.act (younger U.tenants p) i.tenant (older U.tenants p) x b' z.may i.fact.fate;
+      };
+    })
     (λ m. absurd (no_retire_miss P i.tenant (older U.tenants p) x m.0 i.fact.fate m.1))
     (besides_squash P by z.act (younger U.tenants p) i.tenant (older U.tenants p) b' z.may))
     (exact P C U by s a p i.tenant i.is)
@@ -254,7 +261,8 @@ module _ (P : Program) (C : Sizes) (U : UpdateUnit) (by : ℕ) (s : Step) (b : I
       let o = at_there us q (omega arith) in ⊎_elim
       (λ (e : at V.tenants q ≡ Some o.0). subst IsNoRetiredStop (found o.0 t (sym e ∙ is)) (quiet o.0 o.1))
       (λ (z : Acted P U by s V.tenants q o.0). let b' : IsNotBacksAct z.act = subst IsNotBacks z.step b in
-      subst IsNoRetiredStop (found (changed P by z.act o.0 (older us q)) t (sym z.now ∙ is)) (no_stop_on o.0 (changed P by z.act o.0 (older us q)) (quiet o.0 o.1) (retired_on P by z.act (younger us q) o.0 (older us q) b' z.may)))
+      subst IsNoRetiredStop (found (changed P by z.act o.0 (older us q)) t (sym z.now ∙ is)) (no_stop_on o.0 (changed P by z.act o.0 (older us q)) (quiet o.0 o.1)
+      (retired_on P by z.act (younger us q) o.0 (older us q) b' z.may)))
       (exact P C U by s a q o.0 o.1)
 
   module _ (p : ℕ) (t : Tenant) (is : at us p ≡ Some t) (live : t.standing ≡ Live) (oldest : (q : ℕ) (u : Tenant) → q < p → at us q ≡ Some u → u.standing ≢ Live) where
@@ -277,7 +285,8 @@ module _ (P : Program) (C : Sizes) (U : UpdateUnit) (by : ℕ) (s : Step) (b : I
     pub oldest_live : (u : Tenant) → at V.tenants p ≡ Some u → u.standing ≡ Live
     oldest_live u at_p = ⊎_elim
         (λ e. ap (λ (x : Tenant). x.standing) (found u t (sym at_p ∙ e)) ∙ live)
-        (λ (z : Acted P U by s V.tenants p t). ap (λ (x : Tenant). x.standing) (found u (changed P by z.act t (older us p)) (sym at_p ∙ z.now)) ∙ (keeps z.act (subst IsNotBacks z.step b) z.may ∙ live))
+        (λ (z : Acted P U by s V.tenants p t). ap (λ (x : Tenant). x.standing) (found u (changed P by z.act t (older us p)) (sym at_p ∙ z.now)) ∙
+        (keeps z.act (subst IsNotBacks z.step b) z.may ∙ live))
         (exact P C U by s a p t is)
 
     pub still_oldest : (q : ℕ) (u : Tenant) → q < p → at V.tenants q ≡ Some u → u.standing ≢ Live
@@ -300,5 +309,6 @@ module _ (P : Program) (C : Sizes) (U : UpdateUnit) (by : ℕ) (s : Step) (b : I
       still_fate : (t : Tenant) → at V.tenants p ≡ Some t → t.fate ≡ f
       still_fate t is = ⊎_elim
           (λ e. ap (λ (x : Tenant). x.fate) (found t c.tenant (sym is ∙ e)) ∙ c.fate)
-          (λ (z : Acted P U by s V.tenants p c.tenant). ap (λ (x : Tenant). x.fate) (found t (changed P by z.act c.tenant (older us p)) (sym is ∙ z.now)) ∙ ready_fate P by z.act (younger us p) c.tenant (older us p) f (subst IsNotBacks z.step b) z.may c.fate c.can)
+          (λ (z : Acted P U by s V.tenants p c.tenant). ap (λ (x : Tenant). x.fate) (found t (changed P by z.act c.tenant (older us p)) (sym is ∙ z.now)) ∙
+          ready_fate P by z.act (younger us p) c.tenant (older us p) f (subst IsNotBacks z.step b) z.may c.fate c.can)
           (exact P C U by s a p c.tenant c.is)

@@ -112,7 +112,8 @@ module _ (P : Program) (C : Sizes) where
   unit_sound h legal = sound P C (taken_of h) (allowed_steps h legal)
 
   -- what each allowed entry keeps is true after all of them
-  pub lasts : (Q : List Entry → Type 0) → ((h : List Entry) (e : Entry) → IsLegal P C h → Q h → MayAdd P C h e.by e.event → Q (e ∷ h)) → (more seen : List Entry) → IsLegal P C (more ++ seen) → Q seen → Q (more ++ seen)
+  pub lasts : (Q : List Entry → Type 0) → ((h : List Entry) (e : Entry) → IsLegal P C h → Q h → MayAdd P C h e.by e.event → Q (e ∷ h)) → (more seen : List Entry) → IsLegal P C (more ++ seen) →
+      Q seen → Q (more ++ seen)
   lasts Q keeps [] seen l q = q
   lasts Q keeps (e ∷ more) seen l q = keeps (more ++ seen) e l.0 (lasts Q keeps more seen l.0 q) l.1
 
@@ -178,7 +179,8 @@ module _ (P : Program) (C : Sizes) where
       U : UpdateUnit
       U = unit_of P C (more ++ seen)
 
-      go : (by : ℕ) (x : Event) → MayAdd P C (more ++ seen) by x → by ≢ id → renewed_by x (renewals (more ++ seen)) ≡ renewals seen → (renewals (more ++ seen) ≡ renewals seen → Q U) → Q (unit_of P C (entry by x ∷ (more ++ seen)))
+      go : (by : ℕ) (x : Event) → MayAdd P C (more ++ seen) by x → by ≢ id → renewed_by x (renewals (more ++ seen)) ≡ renewals seen → (renewals (more ++ seen) ≡ renewals seen → Q U) →
+          Q (unit_of P C (entry by x ∷ (more ++ seen)))
       go by (Does (Let index predicted first second)) may other s q = keeps U by (Let index predicted first second) other (λ e. cc e) may.0 may.1 (unit_sound (more ++ seen) legal.0) (q s)
       go by (Does (On p act)) may other s q = keeps U by (On p act) other (λ e. cc e) may.0 may.1 (unit_sound (more ++ seen) legal.0) (q s)
       go by (Does Renew) may other s q = let a = renewals_more more seen in absurd (omega (arith, s, a))

@@ -6,7 +6,8 @@ use Rattle.instructions.specs.declared.op.Op.{Op}
 use Rattle.instructions.specs.declared.instr.Instr.{Instr}
 use Rattle.instructions.specs.Operations.{extended}
 use Rattle.machine_words.specs.declared.layout.Shape.{Shape}
-use Rattle.machine_words.specs.declared.layout.Shape.TheVariants.{ThreeRegisters, ShiftByAmount, ShiftByRegister, TwoRegisters, MoveFrom, MoveTo, JumpRegister, LinkRegister, Bare, SignedHalf, UnsignedHalf, UpperHalf, Store, BranchOnTwo, BranchOnOne, Region}
+use Rattle.machine_words.specs.declared.layout.Shape.TheVariants.{ThreeRegisters, ShiftByAmount, ShiftByRegister, TwoRegisters, MoveFrom, MoveTo, JumpRegister, LinkRegister, Bare, SignedHalf}
+use Rattle.machine_words.specs.declared.layout.Shape.TheVariants.{UnsignedHalf, UpperHalf, Store, BranchOnTwo, BranchOnOne, Region}
 use Rattle.machine_words.specs.Fields.{opcode_of, rs_of, rt_of, rd_of, shift_of, funct_of, immediate_of}
 use Rattle.machine_words.specs.Layouts.{layout, operation_of}
 use Rattle.machine_words.specs.Words.{only_if, read, decode_as, decode, written, packed, registers, immediate}

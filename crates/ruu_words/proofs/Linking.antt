@@ -189,7 +189,8 @@ module _ (P : Program) (C : Sizes) where
         legal = (legal, (is_front, may));
         same = refl;
         proper = (draft_stays P C U id (On r (Link k)) d (inl quiet) may (unit_sound P C h legal) draft).0;
-        here = subst (λ z. IsLinkWord (applied P C U id (On r (Link k))) p c k z) ((λ x. pack_link (j.tag_is x) (i.tag_is x)) ∙ sym new_is) (new_word id h legal r c q p k i.tenant j.tenant i.is j.is i.new j.new i.fact i.station_is j.station_is l may);
+        here = subst (λ z. IsLinkWord (applied P C U id (On r (Link k))) p c k z) ((λ x. pack_link (j.tag_is x) (i.tag_is x)) ∙ sym new_is)
+            (new_word id h legal r c q p k i.tenant j.tenant i.is j.is i.new j.new i.fact i.station_is j.station_is l may);
         else = λ y m _ other w. others id h legal r c q p k i.tenant j.tenant i.is j.is i.new j.new i.fact i.station_is j.station_is l may d quiet draft y m other w;
         kind = record { added = refl; draft = quiet };
       }

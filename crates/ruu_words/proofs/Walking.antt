@@ -39,7 +39,8 @@ consumer_is g c n small e = omega arith
 module _ (P : Program) (C : Sizes) where
   -- what a link word of the station of tenant q says of the sources that were linked to q
   pub linked_by_word : (h : List Entry) → IsLegal P C h → (q p c n : ℕ) (k : Source) (u : Tenant) → at (unit_of P C h).tenants q ≡ Some u → u.station ≡ p → IsLinkWord (unit_of P C h) p c k n
-      → (r : ℕ) (t : Tenant) → at (unit_of P C h).tenants r ≡ Some t → t.station ≡ c → (operand k t).creator ≡ Some q → (operand k t).way ≡ Linked true → IsNotLive t ⊎ ((producer_of n ≡ u.tag) × (consumer_of n ≡ t.tag))
+      → (r : ℕ) (t : Tenant) → at (unit_of P C h).tenants r ≡ Some t → t.station ≡ c → (operand k t).creator ≡ Some q → (operand k t).way ≡ Linked true → IsNotLive t ⊎
+      ((producer_of n ≡ u.tag) × (consumer_of n ≡ t.tag))
   linked_by_word h legal q p c n k u is_q at_p word r t is at_c from way = go t.standing refl
     where
       go : (st : Standing) → t.standing ≡ st → IsNotLive t ⊎ ((producer_of n ≡ u.tag) × (consumer_of n ≡ t.tag))

@@ -82,7 +82,8 @@ weaker U p s g F G f i = record { tenant = i.tenant; is = i.is; new = i.new; sta
 module _ (P : Program) (C : Sizes) where
   -- Plans of the tenants that are named
 
-  plan_as : (id : ℕ) (h : List Entry) (d : Draft) (x : Place) (new : ℕ) (K K' : List Entry → Draft → List Event → Type 0) (p : Plan P C id h d x new K) → ((d' : Draft) (es : List Event) → K h d' es → K' h d' es) → Plan P C id h d x new K'
+  plan_as : (id : ℕ) (h : List Entry) (d : Draft) (x : Place) (new : ℕ) (K K' : List Entry → Draft → List Event → Type 0) (p : Plan P C id h d x new K) →
+      ((d' : Draft) (es : List Event) → K h d' es → K' h d' es) → Plan P C id h d x new K'
   plan_as id h d x new K K' p f = record {
     events = p.events;
     draft = p.draft;
@@ -95,7 +96,8 @@ module _ (P : Program) (C : Sizes) where
     kind = f p.draft p.events p.kind;
   }
 
-  pub links_plan : (id : ℕ) (v : View) (s g : ℕ) (k : Source) (a b new : ℕ) → id ≡ front → v.draft ≡ Nothing → MayAsk P C v.seen s g k a b → new ≡ pack_link b g → Plans P C id v (LinkPlace a s k) (λ _. new) (λ _. Links P C s g k)
+  pub links_plan : (id : ℕ) (v : View) (s g : ℕ) (k : Source) (a b new : ℕ) → id ≡ front → v.draft ≡ Nothing → MayAsk P C v.seen s g k a b → new ≡ pack_link b g →
+      Plans P C id v (LinkPlace a s k) (λ _. new) (λ _. Links P C s g k)
   links_plan id v s g k a b new is none may word between d legal same apart caller mine draft n small content =
       let h : List Entry = between ++ v.seen in
       let U = unit_of P C v.seen in
@@ -105,7 +107,8 @@ module _ (P : Program) (C : Sizes) where
       (link_plan P C id v a s b g k may.r may.q new is none can may.creator may.last word between d legal same apart caller mine draft n small content)
       (λ d' es x r i. subst (λ z. Asks P C z k h d' es) (one_named P C h legal may.r r s g IsAny IsAny named i) x)
 
-  pub finds_plan : (id : ℕ) (v : View) (s g : ℕ) (k : Source) (a b : ℕ) → id ≡ front → v.draft ≡ Nothing → HasAskedFrom P C v.seen s g k a b → Plans P C id v (Station a) (λ n. n) (λ n. Finds P C s g k a b n)
+  pub finds_plan : (id : ℕ) (v : View) (s g : ℕ) (k : Source) (a b : ℕ) → id ≡ front → v.draft ≡ Nothing → HasAskedFrom P C v.seen s g k a b →
+      Plans P C id v (Station a) (λ n. n) (λ n. Finds P C s g k a b n)
   finds_plan id v s g k a b is none asked between d legal same apart caller mine draft n small content =
       let h : List Entry = between ++ v.seen in
       let U = unit_of P C v.seen in
@@ -114,11 +117,13 @@ module _ (P : Program) (C : Sizes) where
       let named = any_stays P C r s g between v.seen legal same (weaker U r s g (HasAsked k q) IsAny (λ t f. tt) asked.of.asks) in
       let creator = any_stays P C q a b between v.seen legal same asked.of.creator in
       plan_as id h d (Station a) n (Questions P C r k q n) (Finds P C s g k a b n)
-      (question_plan P C id v a b r q k is none (record { tenant = asked.of.asks.tenant; is = asked.of.asks.is; fact = asked.of.asks.fact }) asked.of.creator asked.of.creator_last between d legal same apart caller mine draft n small content)
+      (question_plan P C id v a b r q k is none (record { tenant = asked.of.asks.tenant; is = asked.of.asks.is; fact = asked.of.asks.fact }) asked.of.creator asked.of.creator_last between d legal same
+      apart caller mine draft n small content)
       (λ d' es x r' i q' j.
       subst (λ (z : ℕ × ℕ). Questions P C z.0 k z.1 n h d' es) (λ l. (one_named P C h legal r r' s g IsAny IsAny named i l, one_named P C h legal q q' a b IsAny IsAny creator j l)) x)
 
-  pub ends_plan : (id : ℕ) (v : View) (s g : ℕ) (k : Source) (val old new : ℕ) → id ≡ front → v.draft ≡ Nothing → IsOperandOf (wait_word g) old → IsOperandOf (val_word g val) new → CanAnswer P C v.seen s g k val
+  pub ends_plan : (id : ℕ) (v : View) (s g : ℕ) (k : Source) (val old new : ℕ) → id ≡ front → v.draft ≡ Nothing → IsOperandOf (wait_word g) old → IsOperandOf (val_word g val) new →
+      CanAnswer P C v.seen s g k val
       → Plans P C id v (Operand s k) (λ n. either (n == old) new n) (λ n. Ends P C s g k old n)
   ends_plan id v s g k val old new is none old_is new_is can between d legal same apart caller mine draft n small content =
       let h : List Entry = between ++ v.seen in
@@ -136,14 +141,20 @@ module _ (P : Program) (C : Sizes) where
   path_stays U by s b a r i = ⊎_elim
       (λ e. record { tenant = i.tenant; is = e; fact = i.fact })
       (λ (z : Acted P U by s (applied P C U by s).tenants r i.tenant).
-      record { tenant = changed P by z.act i.tenant (older U.tenants r); is = z.now; fact = path_on P by z.act (younger U.tenants r) i.tenant (older U.tenants r) (subst IsBesides z.step b) z.may i.fact })
+      record {
+        tenant = changed P by z.act i.tenant (older U.tenants r);
+        is = z.now;
+        fact = path_on P by z.act (younger U.tenants r) i.tenant (older U.tenants r) (subst IsBesides z.step b) z.may
+            i.fact;
+      })
       (exact P C U by s a r i.tenant i.is)
 
   pub last_on : (r s : ℕ) (more seen : List Entry) → IsLegal P C (more ++ seen) → own front more ≡ [] → IsLastAt (unit_of P C seen) r s → IsLastAt (unit_of P C (more ++ seen)) r s
   last_on r s more seen legal none last = front_stays P C (λ U. IsLastAt U r s) (λ U by st b a ok x. last_stays P C U by st b a ok r s x) more seen legal none last
 
   -- also under the front's link
-  last_linked : (by p r s : ℕ) (k : Source) (h : List Entry) → IsLegal P C (entry by (Does (On p (Link k))) ∷ h) → IsLastAt (unit_of P C h) r s → IsLastAt (unit_of P C (entry by (Does (On p (Link k))) ∷ h)) r s
+  last_linked : (by p r s : ℕ) (k : Source) (h : List Entry) → IsLegal P C (entry by (Does (On p (Link k))) ∷ h) → IsLastAt (unit_of P C h) r s →
+      IsLastAt (unit_of P C (entry by (Does (On p (Link k))) ∷ h)) r s
   last_linked by p r s k h legal last = λ q u lt is e.
       let was = came P C (unit_of P C h) by p (Link k) legal.1.1 (unit_sound P C h legal.0) q u is in
       last q was.tenant lt was.is (sym was.goes.station ∙ e)
@@ -156,7 +167,8 @@ module _ (P : Program) (C : Sizes) where
   next_between : (more seen : List Entry) → IsLegal P C (more ++ seen) → own front more ≡ [] → Next (more ++ seen) ≡ Next seen
   next_between more seen legal none = front_stays P C (λ U. next_station C (recent U) ≡ Next seen) (λ U b st ok a sound q. next_stays P C U b st ok a sound ∙ q) more seen legal none refl
 
-  next_act : (U : UpdateUnit) (by p : ℕ) (act : Act) → (a : Allowed P C U by (On p act)) → on_path (changed P by act a.tenant (older U.tenants p)) ≡ on_path a.tenant → next_station C (recent (applied P C U by (On p act))) ≡ next_station C (recent U)
+  next_act : (U : UpdateUnit) (by p : ℕ) (act : Act) → (a : Allowed P C U by (On p act)) → on_path (changed P by act a.tenant (older U.tenants p)) ≡ on_path a.tenant →
+      next_station C (recent (applied P C U by (On p act))) ≡ next_station C (recent U)
   next_act U by p act a same =
       ap (λ n. n % C.ring) (counts_same P U by p act a.tenant a.is on_path same)
 
@@ -241,7 +253,8 @@ module _ (P : Program) (C : Sizes) where
     calm_mid = no_renewal by is v w (Finds P C s g k a b n) e
 
     asks_mid : IsTenant (unit_of P C (e.between ++ v.seen)) x.r s g (HasLink k x.q)
-    asks_mid = tenant_stays P C x.r s g (HasLink k x.q) (λ b st t t' m f. link_on P C k x.q b st t t' m f) e.between v.seen legal_mid calm_mid (weaker (unit_of P C v.seen) x.r s g (HasAsked k x.q) (HasLink k x.q) (to_link k x.q) x.of.asks)
+    asks_mid = tenant_stays P C x.r s g (HasLink k x.q) (λ b st t t' m f. link_on P C k x.q b st t t' m f) e.between v.seen legal_mid calm_mid
+        (weaker (unit_of P C v.seen) x.r s g (HasAsked k x.q) (HasLink k x.q) (to_link k x.q) x.of.asks)
 
     creator_mid : IsTenant (unit_of P C (e.between ++ v.seen)) x.q a b IsAny
     creator_mid = any_stays P C x.q a b e.between v.seen legal_mid calm_mid x.of.creator
@@ -308,7 +321,8 @@ module _ (P : Program) (C : Sizes) where
       calm_end = no_renewal by is w y (Ends P C s g k o m) f
 
       asks_end : IsTenant (unit_of P C (f.between ++ w.seen)) x.r s g (HasLink k x.q)
-      asks_end = tenant_stays P C x.r s g (HasLink k x.q) (λ b st t t' m f. link_on P C k x.q b st t t' m f) f.between w.seen legal_end calm_end (subst (λ z. IsTenant (unit_of P C z) x.r s g (HasLink k x.q)) (sym (seen_made made)) asks_mid)
+      asks_end = tenant_stays P C x.r s g (HasLink k x.q) (λ b st t t' m f. link_on P C k x.q b st t t' m f) f.between w.seen legal_end calm_end
+          (subst (λ z. IsTenant (unit_of P C z) x.r s g (HasLink k x.q)) (sym (seen_made made)) asks_mid)
 
       creator_end : IsTenant (unit_of P C (f.between ++ w.seen)) x.q a b IsAny
       creator_end = any_stays P C x.q a b f.between w.seen legal_end calm_end (subst (λ z. IsTenant (unit_of P C z) x.q a b IsAny) (sym (seen_made made)) creator_mid)
@@ -395,13 +409,15 @@ module _ (P : Program) (C : Sizes) where
     pub reply : AskAnswers P C by old w.seen s g k a b Linked
     pub next : Next w.seen ≡ Next old
 
-  pub is_linked : (n : ℕ) → {by s g a b : ℕ} {k : Source} {old : List Entry} {v w : View} → by ≡ front → IsAskedNow by s g k a b old v → Grows P C by v w (Finds P C s g k a b n) → IsUnmade (state_of n) → IsLinked by s g k a b old w
+  pub is_linked : (n : ℕ) → {by s g a b : ℕ} {k : Source} {old : List Entry} {v w : View} → by ≡ front → IsAskedNow by s g k a b old v → Grows P C by v w (Finds P C s g k a b n) →
+      IsUnmade (state_of n) → IsLinked by s g k a b old w
   is_linked n {by} {s} {g} {a} {b} {k} {old} {v} {w} is x e un = record { reply = linked_out by s g k a b n old v w is x e un; next = linked_next by s g k a b n old v w is x e un }
 
   pub quiet_found : (n : ℕ) → {by s g a b : ℕ} {k : Source} {old : List Entry} {v w : View} → by ≡ front → IsAskedNow by s g k a b old v → Grows P C by v w (Finds P C s g k a b n) → w.draft ≡ Nothing
   quiet_found n {by} {s} {g} {a} {b} {k} {old} {v} {w} is x e = quiet_mid by s g k a b n old v w is x e
 
-  pub answered_by : (n : ℕ) → {by s g a b tag value : ℕ} {k : Source} {old : List Entry} {v w : View} → tag ≡ g → value ≡ value_in n → by ≡ front → IsAskedNow by s g k a b old v → Grows P C by v w (Finds P C s g k a b n) → IsMade (state_of n) → CanAnswer P C w.seen s tag k value
+  pub answered_by : (n : ℕ) → {by s g a b tag value : ℕ} {k : Source} {old : List Entry} {v w : View} → tag ≡ g → value ≡ value_in n → by ≡ front → IsAskedNow by s g k a b old v →
+      Grows P C by v w (Finds P C s g k a b n) → IsMade (state_of n) → CanAnswer P C w.seen s tag k value
   answered_by n {by} {s} {g} {a} {b} {tag} {value} {k} {old} {v} {w} tag_is value_is is x e made =
       subst (λ (z : ℕ × ℕ). CanAnswer P C w.seen s z.0 k z.1) (λ i. (sym tag_is i, sym value_is i)) (can_answer by s g k a b n old v w is x e made)
 
@@ -411,7 +427,8 @@ module _ (P : Program) (C : Sizes) where
     pub next : Next y.seen ≡ Next old
     pub draft : y.draft ≡ Nothing
 
-  pub is_answered : (n o m : ℕ) → {by id s g tag a b : ℕ} {k : Source} {old : List Entry} {v w y : View} → by ≡ front → IsAskedNow by s g k a b old v → Grows P C by v w (Finds P C s g k a b n) → IsMade (state_of n) → id ≡ by → tag ≡ g → Grows P C id w y (Ends P C s tag k o m)
+  pub is_answered : (n o m : ℕ) → {by id s g tag a b : ℕ} {k : Source} {old : List Entry} {v w y : View} → by ≡ front → IsAskedNow by s g k a b old v → Grows P C by v w (Finds P C s g k a b n) →
+      IsMade (state_of n) → id ≡ by → tag ≡ g → Grows P C id w y (Ends P C s tag k o m)
       → IsAnswered by s g k a b old y
   is_answered n o m {by} {id} {s} {g} {tag} {a} {b} {k} {old} {v} {w} {y} is x e made same tag_is f =
       let f' : Grows P C by w y (Ends P C s g k o m) = subst (λ (z : ℕ × ℕ). Grows P C z.0 w y (Ends P C s z.1 k o m)) (λ i. (same i, tag_is i)) f in
@@ -419,7 +436,8 @@ module _ (P : Program) (C : Sizes) where
       record { reply = end.reply; next = end.next; draft = quiet_end by s g k a b n old v w is x e made o m y f' }
 
 -- the front's seat behind it
-pub seated_asked : (P : Program) (C : Sizes) (by station : ℕ) (over : Bool) (old : List Entry) (me : Me ℕ View) (s g : ℕ) (k : Source) (a b : ℕ) (answer : Ask) → station < C.ring → station ≡ next_station C (recent (unit_of P C old)) → IsFronts by Nothing me → me.1 ≡ [] → AskAnswers P C by old me.0.seen s g k a b answer
+pub seated_asked : (P : Program) (C : Sizes) (by station : ℕ) (over : Bool) (old : List Entry) (me : Me ℕ View) (s g : ℕ) (k : Source) (a b : ℕ) (answer : Ask) → station < C.ring →
+    station ≡ next_station C (recent (unit_of P C old)) → IsFronts by Nothing me → me.1 ≡ [] → AskAnswers P C by old me.0.seen s g k a b answer
     → next_station C (recent (unit_of P C me.0.seen)) ≡ next_station C (recent (unit_of P C old)) → IsSeated P C Front by station over me
 seated_asked P C by station over old me s g k a b answer small is fronts slots out next = record {
   role_is = fronts.role;

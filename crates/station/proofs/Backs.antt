@@ -115,15 +115,18 @@ module _ (P : Program) (C : Sizes) where
       before : renewals (more ++ seen) ≡ renewals seen
       before = none_between (e ∷ []) more seen same
 
-      go : (b : Bool) → eqb e.by back ≡ b → (AllByRecursion Keeps (own back more) → AllByRecursion Keeps more) → AllByRecursion Keeps (cond b (e ∷ own back more) (own back more)) → AllByRecursion Keeps (e ∷ more)
+      go : (b : Bool) → eqb e.by back ≡ b → (AllByRecursion Keeps (own back more) → AllByRecursion Keeps more) → AllByRecursion Keeps (cond b (e ∷ own back more) (own back more)) →
+          AllByRecursion Keeps (e ∷ more)
       go true f rest a = (a.0, rest a.1)
       go false f rest a = (only_back (more ++ seen) e.by e.event legal.1 (renewals (more ++ seen)) (same ∙ sym before) f, rest a)
 
-  at_head_on : (station : ℕ) (over : Bool) (more seen : List Entry) → IsLegal P C (more ++ seen) → AllByRecursion Keeps more → IsAtHead C (unit_of P C seen) station over → IsAtHead C (unit_of P C (more ++ seen)) station over
+  at_head_on : (station : ℕ) (over : Bool) (more seen : List Entry) → IsLegal P C (more ++ seen) → AllByRecursion Keeps more → IsAtHead C (unit_of P C seen) station over →
+      IsAtHead C (unit_of P C (more ++ seen)) station over
   at_head_on station over [] seen legal keeps i = i
   at_head_on station over (e ∷ more) seen legal keeps i = go e.by e.event legal.1 keeps.0 (at_head_on station over more seen legal.0 keeps.1 i)
     where
-      go : (by : ℕ) (x : Event) → MayAdd P C (more ++ seen) by x → IsNoRetirement x → IsAtHead C (unit_of P C (more ++ seen)) station over → IsAtHead C (unit_of P C (entry by x ∷ (more ++ seen))) station over
+      go : (by : ℕ) (x : Event) → MayAdd P C (more ++ seen) by x → IsNoRetirement x → IsAtHead C (unit_of P C (more ++ seen)) station over →
+          IsAtHead C (unit_of P C (entry by x ∷ (more ++ seen))) station over
       go by (Does s) may keep j = record {
         head = j.head ∙ sym (head_on (unit_of P C (more ++ seen)) by s keep may.1);
         ended = ended_on over (unit_of P C (more ++ seen)) by s keep may.1 (unit_sound P C (more ++ seen) legal.0) j.ended;
@@ -154,7 +157,8 @@ module _ (P : Program) (C : Sizes) where
       let none = all_keep more old legal (sym (ap renewals a.begins.is) ∙ a.one_table) (subst (AllByRecursion Keeps) (sym these) (events_keep es keeps)) in
       subst (λ h. IsAtHead C (unit_of P C h) station over) (sym a.begins.is) (at_head_on station over more old legal none (knows is))
 
-  pub back_seated : (by station : ℕ) (over : Bool) (v w : Me ℕ View) (es : List Event) → IsSeated P C Back by station over v → w.0.role ≡ v.0.role → w.1 ≡ v.1 → Adds P C by v.0.seen w.0.seen es → AllByRecursion IsNoRetirement es → IsSeated P C Back by station over w
+  pub back_seated : (by station : ℕ) (over : Bool) (v w : Me ℕ View) (es : List Event) → IsSeated P C Back by station over v → w.0.role ≡ v.0.role → w.1 ≡ v.1 → Adds P C by v.0.seen w.0.seen es →
+      AllByRecursion IsNoRetirement es → IsSeated P C Back by station over w
   back_seated by station over v w es s role slots a keeps = record {
     role_is = role ∙ s.role_is;
     slots = slots ∙ s.slots;

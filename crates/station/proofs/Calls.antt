@@ -51,14 +51,16 @@ module _ (table : TableId) (key : Setup) (core : TheCore) (here : core_of table 
   same = ap (λ c. call_of c me.0 lent) here ∙ is
 
   pub may : (role : Role) (at : TableId) (slots id : ℕ) (x : Place) (i : ℕ) (f tell : ℕ → ℕ) (K : ℕ → StepKind) (z : Step ℕ) (ring : ℕ) → key.ring ≡ ring → i ≡ index ring x → IsCall core role at me
-      → IsPlace v.core.sizes.ring x → MayTake role v x f (λ n. K (tell n)) → Allows (Kept key) slots id me i f (λ n found. Tells key.program (sizes_of key) (opening_of key) me.0.by (λ n. its (K n)) z me (tell n) found)
+      → IsPlace v.core.sizes.ring x → MayTake role v x f (λ n. K (tell n)) → Allows (Kept key) slots id me i f
+      (λ n found. Tells key.program (sizes_of key) (opening_of key) me.0.by (λ n. its (K n)) z me (tell n) found)
   may role at slots id x i f tell K z ring ring_is index_is was place m =
       allowed_at key.program (sizes_of key) (opening_of key) slots id me x i f tell (λ n. its (K n)) z (ap (λ r. index r x) ring_is ∙ sym index_is)
       (subst (λ (z : TheCall). IsPlace z.core.sizes.ring x) (sym same) place)
       (subst IsAlive (sym was.role_is) (alive_role core.opening role me.0 was.numbered))
       (subst (λ z. MayTake role z x f (λ n. K (tell n))) (sym same) m was.role_is was.numbered.caller)
 
-  pub goes_on : (role : Role) (old_table new_table : TableId) (w : Me ℕ View) (K : StepKind) → IsCall core role old_table me → new_table ≡ old_table → Grows key.program (sizes_of key) me.0.by me.0 w.0 (its K)
+  pub goes_on : (role : Role) (old_table new_table : TableId) (w : Me ℕ View) (K : StepKind) → IsCall core role old_table me → new_table ≡ old_table →
+      Grows key.program (sizes_of key) me.0.by me.0 w.0 (its K)
       → Unborn (opening_of key) w.0 → w.1 ≡ me.1 → IsCall core role new_table w
   goes_on role old_table new_table w K was at g unborn slots = record {
     at = at ∙ was.at;
@@ -110,10 +112,12 @@ role_at t is = sym (ap (λ (z : TheCall). z.view.role) is) ∙ t.role_is
 pub caller_at : {core : TheCore} {me : Me ℕ View} {lent : ℕ} {v : TheCall} {role : Role} {table : TableId} → IsCall core role table me → call_of core me.0 lent ≡ v → IsCaller role v.view.by
 caller_at {core} {me} {lent} {v} {role} t is = subst (λ (z : TheCall). IsCaller role z.view.by) is t.numbered.caller
 
-pub ring_at : (key : Setup) {table : TableId} {core : TheCore} {view : View} {lent ring : ℕ} {v : TheCall} → key.ring ≡ ring → core_of table key ≡ core → call_of core view lent ≡ v → ring ≡ v.core.sizes.ring
+pub ring_at : (key : Setup) {table : TableId} {core : TheCore} {view : View} {lent ring : ℕ} {v : TheCall} → key.ring ≡ ring → core_of table key ≡ core → call_of core view lent ≡ v →
+    ring ≡ v.core.sizes.ring
 ring_at key e here is = sym e ∙ (ap (λ (k : TheCore). k.sizes.ring) here ∙ ap (λ (z : TheCall). z.core.sizes.ring) is)
 
-pub program_at : (key : Setup) {table : TableId} {core : TheCore} {view : View} {lent : ℕ} {v : TheCall} {P : Program} → key.program ≡ P → core_of table key ≡ core → call_of core view lent ≡ v → P ≡ v.core.program
+pub program_at : (key : Setup) {table : TableId} {core : TheCore} {view : View} {lent : ℕ} {v : TheCall} {P : Program} → key.program ≡ P → core_of table key ≡ core → call_of core view lent ≡ v →
+    P ≡ v.core.program
 program_at key e here is = sym e ∙ (ap (λ (k : TheCore). k.program) here ∙ ap (λ (z : TheCall). z.core.program) is)
 
 -- what the oldest live tenant can do, of the core as it is named later
@@ -127,9 +131,11 @@ pub end_after : {v w : TheCall} {s : ℕ} {word : StationWord} → IsLater v w �
 end_after {v} {w} {s} {word} g = after (λ z. HasEnd z.0.program z.0.sizes w.view.seen s word) g
 
 -- a look, of the seat before the call and behind it
-pub saw_at : (core : TheCore) {old new : View} {core' : TheCore} {lent lent' : ℕ} {v w : TheCall} → v ≡ call_of core old lent → call_of core' new lent' ≡ w → (x : Place) (n : ℕ) → Takes v w (λ P C. Sees P C v.view.by v.view x n)
+pub saw_at : (core : TheCore) {old new : View} {core' : TheCore} {lent lent' : ℕ} {v w : TheCall} → v ≡ call_of core old lent → call_of core' new lent' ≡ w → (x : Place) (n : ℕ) →
+    Takes v w (λ P C. Sees P C v.view.by v.view x n)
     → Grows core.program core.sizes old.by old new (Sees core.program core.sizes old.by old x n)
-saw_at core begins is x n took = subst (λ (z : TheCall × TheCall). Grows z.0.core.program z.0.core.sizes z.0.view.by z.0.view z.1.view (Sees z.0.core.program z.0.core.sizes z.0.view.by z.0.view x n)) (λ i. (begins i, sym is i)) took.grows
+saw_at core begins is x n took = subst (λ (z : TheCall × TheCall). Grows z.0.core.program z.0.core.sizes z.0.view.by z.0.view z.1.view (Sees z.0.core.program z.0.core.sizes z.0.view.by z.0.view x n))
+    (λ i. (begins i, sym is i)) took.grows
 
 -- A seat when a call begins with it, and when the call gives it back
 module _ {woken : ℕ} (id : TableId) (value : Setup) (by : ℕ) (heirs : Heirs) (seen : List Entry) (seat : Caller) (core : TheCore)
@@ -140,13 +146,15 @@ module _ {woken : ℕ} (id : TableId) (value : Setup) (by : ℕ) (heirs : Heirs)
   same_opening : opening_of value ≡ core.opening
   same_opening = ap (λ (z : Caller). z.core.opening) seen_as ∙ ap (λ (z : TheCore). z.opening) here
 
-  pub seated_in : (role : Role) (n station : ℕ) (over : Bool) (me : Me ℕ View) → IsSeated value.program (sizes_of value) role n station over me → IsSeated core.program core.sizes role n station over me
+  pub seated_in : (role : Role) (n station : ℕ) (over : Bool) (me : Me ℕ View) → IsSeated value.program (sizes_of value) role n station over me →
+      IsSeated core.program core.sizes role n station over me
   seated_in role n station over me s = subst (λ (z : Unit_of). IsSeated z.0 z.1 role n station over me) same_unit s
 
   -- v is the call as it began, w as it ends
   pub given_back : (role : Role) (old : View) (lent : ℕ) (v : TheCall) → v ≡ call_of core old lent → (w : TheCall) → IsLater v w
       → (core' : TheCore) (t : Me ℕ View) (lent' : ℕ) → call_of core' t.0 lent' ≡ w → (table : TableId) → IsCall core' role table t → (me : Me ℕ View) → me ≡ t
-      → (station : ℕ) (over : Bool) → IsSeated core.program core.sizes role old.by station over t → IsSeated value.program (sizes_of value) role me.0.by station over me × IsNumbered (opening_of value) role me.0
+      → (station : ℕ) (over : Bool) → IsSeated core.program core.sizes role old.by station over t → IsSeated value.program (sizes_of value) role me.0.by station over me ×
+      IsNumbered (opening_of value) role me.0
   given_back role old lent v begins w on core' t lent' is table inv me me_is station over s =
       let core_is : core' ≡ core = ap (λ (z : TheCall). z.core) is ∙ (on.core ∙ ap (λ (z : TheCall). z.core) begins) in
       let by_is : t.0.by ≡ old.by = ap (λ (z : TheCall). z.view.by) is ∙ (on.by ∙ ap (λ (z : TheCall). z.view.by) begins) in
@@ -156,7 +164,8 @@ module _ {woken : ℕ} (id : TableId) (value : Setup) (by : ℕ) (heirs : Heirs)
       (subst (λ (z : Unit_of). IsSeated z.0 z.1 role t.0.by station over t) (sym same_unit) seated, numbered)
 
   -- a front's seat: nothing is being let, and the next tenant goes where it says
-  pub front_back : {old : View} {lent : ℕ} {v w : TheCall} → v ≡ call_of core old lent → IsLater v w → {core' : TheCore} {t : Me ℕ View} {lent' : ℕ} {table : TableId} → IsCall core' Front table t → call_of core' t.0 lent' ≡ w
+  pub front_back : {old : View} {lent : ℕ} {v w : TheCall} → v ≡ call_of core old lent → IsLater v w → {core' : TheCore} {t : Me ℕ View} {lent' : ℕ} {table : TableId} → IsCall core' Front table t →
+      call_of core' t.0 lent' ≡ w
       → {me : Me ℕ View} → me ≡ t → (station : ℕ) (over : Bool) → station < v.core.sizes.ring → w.view.draft ≡ Nothing → station ≡ next_place w
       → IsSeated value.program (sizes_of value) Front me.0.by station over me × IsNumbered (opening_of value) Front me.0
   front_back {old} {lent} {v} {w} begins on {core'} {t} {lent'} {table} inv is {me} me_is station over inside draft next =
@@ -172,7 +181,8 @@ module _ {woken : ℕ} (id : TableId) (value : Setup) (by : ℕ) (heirs : Heirs)
       })
 
   -- the same where its next tenant goes where it went before
-  pub front_kept : {old : Me ℕ View} {lent : ℕ} {v w : TheCall} → v ≡ call_of core old.0 lent → IsLater v w → {core' : TheCore} {t : Me ℕ View} {lent' : ℕ} {table : TableId} → IsCall core' Front table t → call_of core' t.0 lent' ≡ w
+  pub front_kept : {old : Me ℕ View} {lent : ℕ} {v w : TheCall} → v ≡ call_of core old.0 lent → IsLater v w → {core' : TheCore} {t : Me ℕ View} {lent' : ℕ} {table : TableId} →
+      IsCall core' Front table t → call_of core' t.0 lent' ≡ w
       → {me : Me ℕ View} → me ≡ t → (station : ℕ) (over : Bool) → IsSeated value.program (sizes_of value) Front old.0.by station over old → w.view.draft ≡ Nothing → next_place w ≡ next_place v
       → IsSeated value.program (sizes_of value) Front me.0.by station over me × IsNumbered (opening_of value) Front me.0
   front_kept {old} {lent} {v} begins on inv is me_is station over s draft next =
@@ -180,7 +190,8 @@ module _ {woken : ℕ} (id : TableId) (value : Setup) (by : ℕ) (heirs : Heirs)
       front_back begins on inv is me_is station over (subst (λ (z : TheCall). station < z.core.sizes.ring) (sym begins) was.inside) draft (was.knows.2 ∙ (sym (ap next_place begins) ∙ sym next))
 
   -- a back's seat: where the oldest live tenant stands
-  pub back_back : {old : View} {lent : ℕ} {v w : TheCall} → v ≡ call_of core old lent → IsLater v w → {core' : TheCore} {t : Me ℕ View} {lent' : ℕ} {table : TableId} → IsCall core' Back table t → call_of core' t.0 lent' ≡ w
+  pub back_back : {old : View} {lent : ℕ} {v w : TheCall} → v ≡ call_of core old lent → IsLater v w → {core' : TheCore} {t : Me ℕ View} {lent' : ℕ} {table : TableId} → IsCall core' Back table t →
+      call_of core' t.0 lent' ≡ w
       → {me : Me ℕ View} → me ≡ t → (station : ℕ) (over : Bool) → station < core.sizes.ring → IsAtHead core.sizes (unit_of core.program core.sizes t.0.seen) station over
       → IsSeated value.program (sizes_of value) Back me.0.by station over me × IsNumbered (opening_of value) Back me.0
   back_back {old} {lent} {v} {w} begins on {core'} {t} {lent'} {table} inv is {me} me_is station over inside head =
@@ -194,8 +205,10 @@ module _ {woken : ℕ} (id : TableId) (value : Setup) (by : ℕ) (heirs : Heirs)
       })
 
   -- the seat that has looked at a word
-  pub look_back : (role : Role) {old : Me ℕ View} {lent : ℕ} {v w : TheCall} → v ≡ call_of core old.0 lent → {core' : TheCore} {t : Me ℕ View} {lent' : ℕ} {table : TableId} → IsCall core' role table t → call_of core' t.0 lent' ≡ w
-      → (x : Place) (n : ℕ) → Takes v w (λ P C. Sees P C v.view.by v.view x n) → {me : Me ℕ View} → me ≡ t → (station : ℕ) (over : Bool) → IsSeated value.program (sizes_of value) role old.0.by station over old
+  pub look_back : (role : Role) {old : Me ℕ View} {lent : ℕ} {v w : TheCall} → v ≡ call_of core old.0 lent → {core' : TheCore} {t : Me ℕ View} {lent' : ℕ} {table : TableId} →
+      IsCall core' role table t → call_of core' t.0 lent' ≡ w
+      → (x : Place) (n : ℕ) → Takes v w (λ P C. Sees P C v.view.by v.view x n) → {me : Me ℕ View} → me ≡ t → (station : ℕ) (over : Bool) →
+      IsSeated value.program (sizes_of value) role old.0.by station over old
       → IsSeated value.program (sizes_of value) role me.0.by station over me × IsNumbered (opening_of value) role me.0
   look_back role {old} {lent} {v} {w} begins {core'} {t} {lent'} {table} inv is x n took {me} me_is station over s =
       let was = seated_in role old.0.by station over old s in

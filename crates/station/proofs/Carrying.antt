@@ -102,7 +102,8 @@ module _ (P : Program) (C : Sizes) where
         more seen legal d.asked;
   }
 
-  deliveries_stay : (q : ℕ) (es : List Event) (more seen : List Entry) → IsLegal P C (more ++ seen) → AllByRecursion (IsDeliveryOf P C seen q) es → AllByRecursion (IsDeliveryOf P C (more ++ seen) q) es
+  deliveries_stay : (q : ℕ) (es : List Event) (more seen : List Entry) → IsLegal P C (more ++ seen) → AllByRecursion (IsDeliveryOf P C seen q) es →
+      AllByRecursion (IsDeliveryOf P C (more ++ seen) q) es
   deliveries_stay q [] more seen legal all = tt
   deliveries_stay q (e ∷ es) more seen legal all = (delivery_stays q e more seen legal all.0, deliveries_stay q es more seen legal all.1)
 
@@ -111,7 +112,8 @@ module _ (P : Program) (C : Sizes) where
   deliveries_on by q es fs old new a all =
       subst (λ z. AllByRecursion (IsDeliveryOf P C z q) es) (sym a.begins.is) (deliveries_stay q es a.begins.more old (subst (IsLegal P C) a.begins.is a.legal) all)
 
-  served_on : (by q v c : ℕ) (k : Source) (fs : List Event) (old new : List Entry) → Adds P C by old new fs → HasMade (unit_of P C old) q v → IsServed (unit_of P C old) q c k → IsServed (unit_of P C new) q c k
+  served_on : (by q v c : ℕ) (k : Source) (fs : List Event) (old new : List Entry) → Adds P C by old new fs → HasMade (unit_of P C old) q v → IsServed (unit_of P C old) q c k →
+      IsServed (unit_of P C new) q c k
   served_on by q v c k fs old new a made served =
       subst (λ z. IsServed (unit_of P C z) q c k) (sym a.begins.is) (served_stays P C q v c k a.begins.more old (subst (IsLegal P C) a.begins.is a.legal) made served)
 
@@ -119,19 +121,22 @@ module _ (P : Program) (C : Sizes) where
   made_on by q v fs old new a made =
       subst (λ z. HasMade (unit_of P C z) q v) (sym a.begins.is) (made_stays P C q v a.begins.more old (subst (IsLegal P C) a.begins.is a.legal) made)
 
-  makes_stays : (p s g v : ℕ) (more seen : List Entry) → IsLegal P C (more ++ seen) → renewals (more ++ seen) ≡ renewals seen → IsTenant (unit_of P C seen) p s g (Makes v) → IsTenant (unit_of P C (more ++ seen)) p s g (Makes v)
+  makes_stays : (p s g v : ℕ) (more seen : List Entry) → IsLegal P C (more ++ seen) → renewals (more ++ seen) ≡ renewals seen → IsTenant (unit_of P C seen) p s g (Makes v) →
+      IsTenant (unit_of P C (more ++ seen)) p s g (Makes v)
   makes_stays p s g v more seen legal same i = tenant_stays P C p s g (Makes v) (λ by step t t' m f. m.made v f) more seen legal same i
 
   makes_on : (by p s g v : ℕ) (fs : List Event) (old new : List Entry) → Adds P C by old new fs → IsTenant (unit_of P C old) p s g (Makes v) → IsTenant (unit_of P C new) p s g (Makes v)
   makes_on by p s g v fs old new a i =
-      subst (λ z. IsTenant (unit_of P C z) p s g (Makes v)) (sym a.begins.is) (makes_stays p s g v a.begins.more old (subst (IsLegal P C) a.begins.is a.legal) (sym (ap renewals a.begins.is) ∙ a.one_table) i)
+      subst (λ z. IsTenant (unit_of P C z) p s g (Makes v)) (sym a.begins.is) (makes_stays p s g v a.begins.more old (subst (IsLegal P C) a.begins.is a.legal)
+      (sym (ap renewals a.begins.is) ∙ a.one_table) i)
 
   pub value_on : (by s g v : ℕ) (fs : List Event) (old new : List Entry) → Adds P C by old new fs → HasValueOf P C old s g v → HasValueOf P C new s g v
   value_on by s g v fs old new a h = record { p = h.p; named = makes_on by h.p s g v fs old new a h.named }
 
   pub any_on : (by p s g : ℕ) (fs : List Event) (old new : List Entry) → Adds P C by old new fs → IsTenant (unit_of P C old) p s g IsAny → IsTenant (unit_of P C new) p s g IsAny
   any_on by p s g fs old new a i =
-      subst (λ z. IsTenant (unit_of P C z) p s g IsAny) (sym a.begins.is) (any_stays P C p s g a.begins.more old (subst (IsLegal P C) a.begins.is a.legal) (sym (ap renewals a.begins.is) ∙ a.one_table) i)
+      subst (λ z. IsTenant (unit_of P C z) p s g IsAny) (sym a.begins.is) (any_stays P C p s g a.begins.more old (subst (IsLegal P C) a.begins.is a.legal) (sym (ap renewals a.begins.is) ∙ a.one_table)
+      i)
 
   -- one station and one tag
   pub one_named : (h : List Entry) → IsLegal P C h → (p q s g : ℕ) (F G : Tenant → Type 0) → IsTenant (unit_of P C h) p s g F → IsTenant (unit_of P C h) q s g G → p ≡ q
@@ -185,8 +190,17 @@ module _ (P : Program) (C : Sizes) where
         let small = are_small P C (g1.between ++ v0.seen) legal1 l.r l.consumer l.is.consumer_is in
         let tag : consumer_of n ≡ l.consumer.tag = consumer_is l.producer.tag l.consumer.tag n (omega arith) l.word in
         let from : producer_of n ≡ l.producer.tag = producer_is l.producer.tag l.consumer.tag n (omega arith) l.word in
-        let one : l.q ≡ q = one_tag P C (g1.between ++ v0.seen) legal1 l.q q l.producer m.tenant l.is.producer_is m.is l.producer_new m.new (l.at_p ∙ sym m.station_is) (sym from ∙ (names ∙ sym m.tag_is)) in
-        (l.r, record { tenant = l.consumer; is = l.is.consumer_is; new = l.consumer_new; station_is = l.at_c; tag_is = sym tag; fact = record { in_time = l.is.in_time; way = l.is.way; creator = l.is.creator ∙ ap Some one } }))
+        let one : l.q ≡ q = one_tag P C (g1.between ++ v0.seen) legal1 l.q q l.producer m.tenant l.is.producer_is m.is l.producer_new m.new (l.at_p ∙ sym m.station_is) (sym from ∙ (names ∙ sym m.tag_is)) in (
+          l.r,
+          record {
+            tenant = l.consumer;
+            is = l.is.consumer_is;
+            new = l.consumer_new;
+            station_is = l.at_c;
+            tag_is = sym tag;
+            fact = record { in_time = l.is.in_time; way = l.is.way; creator = l.is.creator ∙ ap Some one };
+          },
+        ))
         g1.kind.word.names)
       where
         m : IsTenant (unit_of P C (g1.between ++ v0.seen)) q p g IsAny
@@ -203,7 +217,8 @@ module _ (P : Program) (C : Sizes) where
         }
 
     -- and has it now, had it, or has left
-    module _ (old n2 : ℕ) (v2 : View) (to : tag_of old ≡ consumer_of n) (g2 : Grows P C by v1 v2 (Delivers P C c k (tag_of old) old n2)) (q : ℕ) (i : IsTenant (unit_of P C v0.seen) q p g IsAny) (made0 : HasValueOf P C v0.seen p g val) (r : ℕ) (asks : IsTenant (unit_of P C v1.seen) r c (consumer_of n) (HasLink k q)) where
+    module _ (old n2 : ℕ) (v2 : View) (to : tag_of old ≡ consumer_of n) (g2 : Grows P C by v1 v2 (Delivers P C c k (tag_of old) old n2)) (q : ℕ) (i : IsTenant (unit_of P C v0.seen) q p g IsAny)
+        (made0 : HasValueOf P C v0.seen p g val) (r : ℕ) (asks : IsTenant (unit_of P C v1.seen) r c (consumer_of n) (HasLink k q)) where
       abbrev U2 : UpdateUnit
       U2 = unit_of P C (g2.between ++ v1.seen)
 
@@ -232,17 +247,27 @@ module _ (P : Program) (C : Sizes) where
           let one : r ≡ f.p = one_named new legal2 r f.p c (consumer_of n) (HasLink k q) IsAny asks2 named in
           let served : IsServed (unit_of P C new) q c k = served_with_it P C (unit_of P C new) q c (consumer_of n) k (served_but_stays P C q val c (consumer_of n) k more v1.seen legal2 made_mid but)
           (λ x y at_x station tag. ⊎_elim
-          (λ fresh. inl (subst (λ z. IsDelivered (unit_of P C new) z k) (one_tag P C new legal2 f.p x named.tenant y named.is at_x named.new fresh (named.station_is ∙ sym station) (named.tag_is ∙ sym tag)) there))
+          (λ fresh. inl (subst (λ z. IsDelivered (unit_of P C new) z k) (one_tag P C new legal2 f.p x named.tenant y named.is at_x named.new fresh (named.station_is ∙ sym station)
+          (named.tag_is ∙ sym tag)) there))
           (λ left. inr left)
           (recent_or_left P C new legal2 x y at_x)) in
           record {
             events = act ∷ [];
-            each = (subst (λ z. IsDeliveryOf P C z q act) (sym seen2) (record { r = f.p; k = k; is = refl; asked = subst (λ z. Has (unit_of P C new) z (λ x. (operand k x).creator ≡ Some q)) one (record { tenant = asks2.tenant; is = asks2.is; fact = asks2.fact.creator }) }), tt);
+            each = (
+              subst (λ z. IsDeliveryOf P C z q act) (sym seen2) (record {
+                r = f.p;
+                k = k;
+                is = refl;
+                asked = subst (λ z. Has (unit_of P C new) z (λ x. (operand k x).creator ≡ Some q)) one (record { tenant = asks2.tenant; is = asks2.is; fact = asks2.fact.creator });
+              }),
+              tt,
+            );
             adds = adds_on P C by v0.seen v1.seen v2.seen [] (act ∷ []) adds1 (adds_these P C by v1 v2 (Delivers P C c k (tag_of old) old n2) (act ∷ []) g2 f.added);
             served = subst (λ z. IsServed (unit_of P C z) q c k) (sym seen2) served;
           }
 
-      pub serves_miss : g2.events ≡ [] → ((x : ℕ) (t : Tenant) → at (unit_of P C (g2.between ++ v1.seen)).tenants x ≡ Some t → t.station ≡ c → t.tag ≡ tag_of old → IsDelivered (unit_of P C (g2.between ++ v1.seen)) x k ⊎ (t.standing ≢ Live))
+      pub serves_miss : g2.events ≡ [] → ((x : ℕ) (t : Tenant) → at (unit_of P C (g2.between ++ v1.seen)).tenants x ≡ Some t → t.station ≡ c → t.tag ≡ tag_of old →
+          IsDelivered (unit_of P C (g2.between ++ v1.seen)) x k ⊎ (t.standing ≢ Live))
           → IsServing P C by q c k v0.seen v2.seen
       serves_miss none it =
           let new : List Entry = g2.between ++ v1.seen in
@@ -257,7 +282,8 @@ module _ (P : Program) (C : Sizes) where
             served = subst (λ z. IsServed (unit_of P C z) q c k) (sym seen2) served;
           }
 
-    pub serves_one : 1 ≤ C.first_tag → HasValueOf P C v0.seen p g val → producer_of n ≡ g → (old n2 : ℕ) (v2 : View) → tag_of old ≡ consumer_of n → (g2 : Grows P C by v1 v2 (Delivers P C c k (tag_of old) old n2))
+    pub serves_one : 1 ≤ C.first_tag → HasValueOf P C v0.seen p g val → producer_of n ≡ g → (old n2 : ℕ) (v2 : View) → tag_of old ≡ consumer_of n →
+        (g2 : Grows P C by v1 v2 (Delivers P C c k (tag_of old) old n2))
         → OfTenant P C v0.seen p g (λ q. IsServing P C by q c k v0.seen v2.seen)
     serves_one first made names old n2 v2 to g2 q i =
         let asks = asks_it first names q i in
@@ -272,7 +298,8 @@ module _ (P : Program) (C : Sizes) where
   starts_to_carry by q h legal = record { events = []; each = tt; adds = adds_none P C by h legal; served = λ c k below. absurd (omega arith) }
 
   -- both sources of one more station
-  pub carries_on : (by q v n : ℕ) (old a b new : List Entry) → HasMade (unit_of P C old) q v → IsCarrying P C by q n old a → IsServing P C by q n First a b → IsServing P C by q n Second b new → IsCarrying P C by q (suc n) old new
+  pub carries_on : (by q v n : ℕ) (old a b new : List Entry) → HasMade (unit_of P C old) q v → IsCarrying P C by q n old a → IsServing P C by q n First a b → IsServing P C by q n Second b new →
+      IsCarrying P C by q (suc n) old new
   carries_on by q v n old a b new made0 x s s' =
       let made1 = made_on by q v x.events old a x.adds made0 in
       let made2 = made_on by q v s.events a b s.adds made1 in
@@ -298,7 +325,8 @@ module _ (P : Program) (C : Sizes) where
   pub legal_behind : (by s g val n : ℕ) (k : Source) (old new : List Entry) → HasValueOf P C old s g val → OfTenant P C old s g (λ q. IsServing P C by q n k old new) → IsLegal P C new
   legal_behind by s g val n k old new made all = (all made.p (any_of old s g val made)).adds.legal
 
-  pub value_behind : (by s g val n : ℕ) (k : Source) (old new : List Entry) → (made : HasValueOf P C old s g val) → OfTenant P C old s g (λ q. IsServing P C by q n k old new) → HasValueOf P C new s g val
+  pub value_behind : (by s g val n : ℕ) (k : Source) (old new : List Entry) → (made : HasValueOf P C old s g val) → OfTenant P C old s g (λ q. IsServing P C by q n k old new) →
+      HasValueOf P C new s g val
   value_behind by s g val n k old new made all = let x = all made.p (any_of old s g val made) in value_on by s g val x.events old new x.adds made
 
   pub carries_both : (by s g val n m id id' : ℕ) (old a b new : List Entry) → m ≡ suc n → id ≡ by → id' ≡ by → IsLegal P C old → HasValueOf P C old s g val
@@ -328,7 +356,8 @@ module _ (P : Program) (C : Sizes) where
       marks P C id h d legal draft x n (Walked q) (writes v.role id writer caller, now) content (EndsWalk P C s g)
       (λ p i. record { added = ap (λ z. Marks (Walked z) ∷ []) (one_named h legal q p s g (Makes val) IsAny named i) })
 
-  walks_out : (by q s g n : ℕ) (old : List Entry) (v w : View) → IsCarrying P C by q n old v.seen → IsTenant (unit_of P C old) q s g IsAny → (e : Grows P C by v w (EndsWalk P C s g)) → HasWalked P C by q old w.seen
+  walks_out : (by q s g n : ℕ) (old : List Entry) (v w : View) → IsCarrying P C by q n old v.seen → IsTenant (unit_of P C old) q s g IsAny → (e : Grows P C by v w (EndsWalk P C s g)) →
+      HasWalked P C by q old w.seen
   walks_out by q s g n old v w c i e =
       let h : List Entry = e.between ++ v.seen in
       let named = any_stays P C q s g e.between v.seen (legal_behind e) (same_before P C by v w (EndsWalk P C s g) e) (any_on by q s g c.events old v.seen c.adds i) in
@@ -343,5 +372,6 @@ module _ (P : Program) (C : Sizes) where
       legal_behind : (e : Grows P C by v w (EndsWalk P C s g)) → IsLegal P C (e.between ++ v.seen)
       legal_behind e = legal_before P C (map (entry by) e.events) (e.between ++ v.seen) (subst (IsLegal P C) e.is e.legal)
 
-  pub walks_away : (by s g n id : ℕ) (old : List Entry) (v w : View) → id ≡ by → OfTenant P C old s g (λ q. IsCarrying P C by q n old v.seen) → Grows P C id v w (EndsWalk P C s g) → OfTenant P C old s g (λ q. HasWalked P C by q old w.seen)
+  pub walks_away : (by s g n id : ℕ) (old : List Entry) (v w : View) → id ≡ by → OfTenant P C old s g (λ q. IsCarrying P C by q n old v.seen) → Grows P C id v w (EndsWalk P C s g) →
+      OfTenant P C old s g (λ q. HasWalked P C by q old w.seen)
   walks_away by s g n id old v w is carry e q i = walks_out by q s g n old v w (carry q i) i (subst (λ z. Grows P C z v w (EndsWalk P C s g)) is e)

@@ -56,15 +56,18 @@ behind_last P C old new e es l = record {
 
 module _ (P : Program) (C : Sizes) where
   -- source k of the tenant that is let now
-  its_operand : (U : UpdateUnit) (t : NewTenant) (k : Source) → operand k (new_tenant P C U t.index t.predicted (supply_of t.sources.0) (supply_of t.sources.1)) ≡ let_operand (creator P U.tenants (register k (instr_of P t.index))) (supply_of (supply k t))
+  its_operand : (U : UpdateUnit) (t : NewTenant) (k : Source) → operand k (new_tenant P C U t.index t.predicted (supply_of t.sources.0) (supply_of t.sources.1)) ≡ let_operand
+      (creator P U.tenants (register k (instr_of P t.index))) (supply_of (supply k t))
   its_operand U t First = refl
   its_operand U t Second = refl
 
-  its_supply : (U : UpdateUnit) (t : NewTenant) (k : Source) → MayLetOut P C U t → MaySupply P U (next_station C (recent U)) (creator P U.tenants (register k (instr_of P t.index))) (supply_of (supply k t))
+  its_supply : (U : UpdateUnit) (t : NewTenant) (k : Source) → MayLetOut P C U t → MaySupply P U (next_station C (recent U)) (creator P U.tenants (register k (instr_of P t.index)))
+      (supply_of (supply k t))
   its_supply U t First m = m.may.first_is
   its_supply U t Second m = m.may.second_is
 
-  comes_from : (U : UpdateUnit) (t : NewTenant) (k : Source) (a g : ℕ) → MayLetOut P C U t → supply k t ≡ From a g → MayComeFrom P U (next_station C (recent U)) (creator P U.tenants (register k (instr_of P t.index)))
+  comes_from : (U : UpdateUnit) (t : NewTenant) (k : Source) (a g : ℕ) → MayLetOut P C U t → supply k t ≡ From a g →
+      MayComeFrom P U (next_station C (recent U)) (creator P U.tenants (register k (instr_of P t.index)))
   comes_from U t k a g m is = subst (λ z. MaySupply P U (next_station C (recent U)) (creator P U.tenants (register k (instr_of P t.index))) (supply_of z)) is (its_supply U t k m)
 
   -- right behind the let
@@ -99,7 +102,8 @@ module _ (P : Program) (C : Sizes) where
       same_position : {p x : ℕ} → Some p ≡ Some x → p ≡ x
       same_position e = cc e
 
-      go : (x : ℕ) (u : Tenant) → (c : MayComeFrom P (unit_of P C h) (next_station C (recent (unit_of P C h))) (creator P (unit_of P C h).tenants (register k (instr_of P t.index)))) → c.p < x → (n : Tenant) → n.station ≡ next_station C (recent (unit_of P C h)) → at (n ∷ (unit_of P C h).tenants) x ≡ Some u → u.station ≡ c.tenant.station → ⊥
+      go : (x : ℕ) (u : Tenant) → (c : MayComeFrom P (unit_of P C h) (next_station C (recent (unit_of P C h))) (creator P (unit_of P C h).tenants (register k (instr_of P t.index)))) → c.p < x →
+          (n : Tenant) → n.station ≡ next_station C (recent (unit_of P C h)) → at (n ∷ (unit_of P C h).tenants) x ≡ Some u → u.station ≡ c.tenant.station → ⊥
       go x u c less n at_next at_x same = ⊎_elim
           (λ (was : at (unit_of P C h).tenants x ≡ Some u). younger_at (λ z. z.station ≢ c.tenant.station) (unit_of P C h).tenants c.p c.last x u less was same)
           (λ (e : (x ≡ length (unit_of P C h).tenants) × (n ≡ u)). c.other (sym same ∙ (ap (λ (z : Tenant). z.station) (sym e.1) ∙ at_next)))
@@ -174,7 +178,14 @@ module _ (P : Program) (C : Sizes) (s g : ℕ) (j : Source) (a b : ℕ) where
               tag_is = with_tag k t o ∙ m.asks.tag_is;
               fact = asks_with k j ne m.q t o m.asks.fact;
             })
-            (λ (z : IsLeft P U.tenants front r act m.r t). record { tenant = t; is = z.now; new = old_kept P C U front (On r act) (λ e. cc e) al m.r ∙ m.asks.new; station_is = m.asks.station_is; tag_is = m.asks.tag_is; fact = m.asks.fact })
+            (λ (z : IsLeft P U.tenants front r act m.r t). record {
+              tenant = t;
+              is = z.now;
+              new = old_kept P C U front (On r act) (λ e. cc e) al m.r ∙ m.asks.new;
+              station_is = m.asks.station_is;
+              tag_is = m.asks.tag_is;
+              fact = m.asks.fact;
+            })
             (at_changed P U.tenants front r act al.tenant al.is m.r t m.asks.is);
         last = λ x u less is same. let was = came P C U front r act al ok x u is in m.last x was.tenant less was.is (sym was.goes.station ∙ same);
         creator = any_stays P C m.q a b (entry front (Does (On r act)) ∷ []) h legal refl m.creator;
@@ -243,7 +254,14 @@ module _ (P : Program) (C : Sizes) (p s g x : ℕ) where
       let al = legal.1.1 in
       ⊎_elim
       (λ (z : IsActed P (unit_of P C h).tenants front r Squash al.tenant p i.tenant). absurd (ne (sym z.position)))
-      (λ (z : IsLeft P (unit_of P C h).tenants front r Squash p i.tenant). record { tenant = i.tenant; is = z.now; new = old_kept P C (unit_of P C h) front (On r Squash) (λ e. cc e) al p ∙ i.new; station_is = i.station_is; tag_is = i.tag_is; fact = i.fact })
+      (λ (z : IsLeft P (unit_of P C h).tenants front r Squash p i.tenant). record {
+        tenant = i.tenant;
+        is = z.now;
+        new = old_kept P C (unit_of P C h) front (On r Squash) (λ e. cc e) al p ∙ i.new;
+        station_is = i.station_is;
+        tag_is = i.tag_is;
+        fact = i.fact;
+      })
       (at_changed P (unit_of P C h).tenants front r Squash al.tenant al.is p i.tenant i.is)
 
 pub misses_stay_seen : MissesStaySeen

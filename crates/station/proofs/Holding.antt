@@ -1,5 +1,6 @@
 -- A job stays held until its caller finishes it.
-use Rattle.std.proofs.Common.{◌≡◌, ◌≢◌, ◌⊎◌, ℕ, Bool, true, false, cond, List, [], ◌∷◌, ◌++◌, map, length, take, Option, Some, None, refl, sym, ap, ◌∙◌, subst, inl, inr, ⊎_elim, arith, eqb, eq-eqb, length-append}
+use Rattle.std.proofs.Common.{◌≡◌, ◌≢◌, ◌⊎◌, ℕ, Bool, true, false, cond, List, [], ◌∷◌, ◌++◌, map, length, take, Option, Some, None, refl, sym, ap, ◌∙◌, subst, inl, inr, ⊎_elim, arith, eqb, eq-eqb}
+use Rattle.std.proofs.Common.{length-append}
 use Rattle.std.specs.Prelude.{unwrap_or}
 use Rattle.std.proofs.Math.Seq.{take-append_seam}
 use Rattle.std.specs.List.{AllByRecursion}
@@ -86,7 +87,8 @@ module _ (P : Program) (C : Sizes) (by : ℕ) where
   IsHeldAs f p U = Has U p (IsJob P by f)
 
   -- an entry of the caller itself
-  held_own : (p : ℕ) (U : UpdateUnit) (id : ℕ) (s : Step) → Allowed P C U id s → IsNoFinish p (Does s) → (t t' : Tenant) → at U.tenants p ≡ Some t → at (applied P C U id s).tenants p ≡ Some t' → IsHeld by t → IsHeld by t'
+  held_own : (p : ℕ) (U : UpdateUnit) (id : ℕ) (s : Step) → Allowed P C U id s → IsNoFinish p (Does s) → (t t' : Tenant) → at U.tenants p ≡ Some t → at (applied P C U id s).tenants p ≡ Some t' →
+      IsHeld by t → IsHeld by t'
   held_own p U id (Let index predicted first second) a ne t t' is now held = subst (IsHeld by) (found t t' (sym (at_more (new_tenant P C U index predicted first second) U.tenants p t is) ∙ now)) held
   held_own p U id Renew a ne t t' is now held = subst (IsHeld by) (found t t' (sym is ∙ now)) held
   held_own p U id (On r act) a ne t t' is now held = ⊎_elim
@@ -96,7 +98,8 @@ module _ (P : Program) (C : Sizes) (by : ℕ) where
       (λ (z : IsLeft P U.tenants id r act p t). subst (IsHeld by) (found t t' (sym z.now ∙ now)) held)
       (at_changed P U.tenants id r act a.tenant a.is p t is)
 
-  job_step : (f : JobFields) (p : ℕ) (U : UpdateUnit) (id : ℕ) (s : Step) → IsSound P U.tenants → Allowed P C U id s → (id ≢ by) ⊎ IsNoFinish p (Does s) → IsHeldAs f p U → IsHeldAs f p (applied P C U id s)
+  job_step : (f : JobFields) (p : ℕ) (U : UpdateUnit) (id : ℕ) (s : Step) → IsSound P U.tenants → Allowed P C U id s → (id ≢ by) ⊎ IsNoFinish p (Does s) → IsHeldAs f p U →
+      IsHeldAs f p (applied P C U id s)
   job_step f p U id s ok a ne j =
       let g = goes P C U id s a ok p j.tenant j.is in
       record {
@@ -113,12 +116,14 @@ module _ (P : Program) (C : Sizes) (by : ℕ) where
   abbrev IsNoEnd : ℕ → Entry → Type 0
   IsNoEnd p e = (e.by ≢ by) ⊎ IsNoFinish p e.event
 
-  job_entry : (f : JobFields) (p : ℕ) (h : List Entry) (id : ℕ) (e : Event) → IsLegal P C h → MayAdd P C h id e → (id ≢ by) ⊎ IsNoFinish p e → IsHeldAs f p (unit_of P C h) → IsHeldAs f p (unit_of P C (entry id e ∷ h))
+  job_entry : (f : JobFields) (p : ℕ) (h : List Entry) (id : ℕ) (e : Event) → IsLegal P C h → MayAdd P C h id e → (id ≢ by) ⊎ IsNoFinish p e → IsHeldAs f p (unit_of P C h) →
+      IsHeldAs f p (unit_of P C (entry id e ∷ h))
   job_entry f p h id (Does s) legal may ne j = job_step f p (unit_of P C h) id s (unit_sound P C h legal) may.1 ne j
   job_entry f p h id (Refuses r) legal may ne j = j
   job_entry f p h id (Marks m) legal may ne j = j
 
-  job_lasts : (f : JobFields) (p : ℕ) (more seen : List Entry) → IsLegal P C (more ++ seen) → AllByRecursion (IsNoEnd p) more → IsHeldAs f p (unit_of P C seen) → IsHeldAs f p (unit_of P C (more ++ seen))
+  job_lasts : (f : JobFields) (p : ℕ) (more seen : List Entry) → IsLegal P C (more ++ seen) → AllByRecursion (IsNoEnd p) more → IsHeldAs f p (unit_of P C seen) →
+      IsHeldAs f p (unit_of P C (more ++ seen))
   job_lasts f p [] seen legal all j = j
   job_lasts f p (e ∷ more) seen legal all j = job_entry f p (more ++ seen) e.by e.event legal.0 legal.1 all.0 (job_lasts f p more seen legal.0 all.1 j)
 
@@ -127,7 +132,8 @@ module _ (P : Program) (C : Sizes) (by : ℕ) where
   all_no_end p [] h = tt
   all_no_end p (e ∷ more) h = go (eqb e.by by) refl (all_no_end p more) h
     where
-      go : (b : Bool) → eqb e.by by ≡ b → (AllByRecursion (λ e. IsNoFinish p e.event) (own by more) → AllByRecursion (IsNoEnd p) more) → AllByRecursion (λ e. IsNoFinish p e.event) (cond b (e ∷ own by more) (own by more)) → AllByRecursion (IsNoEnd p) (e ∷ more)
+      go : (b : Bool) → eqb e.by by ≡ b → (AllByRecursion (λ e. IsNoFinish p e.event) (own by more) → AllByRecursion (IsNoEnd p) more) →
+          AllByRecursion (λ e. IsNoFinish p e.event) (cond b (e ∷ own by more) (own by more)) → AllByRecursion (IsNoEnd p) (e ∷ more)
       go true f rest a = (inr a.0, rest a.1)
       go false f rest a = (inl (λ same. apart (sym (eq-eqb e.by by same) ∙ f)), rest a)
         where
@@ -202,7 +208,8 @@ module _ (P : Program) (C : Sizes) (by : ℕ) where
       same_position : (p q : ℕ) → Does (On p Finish) ≡ Does (On q Finish) → p ≡ q
       same_position p q e = cc e
 
-      goes_to : (old new more : List Entry) → new ≡ more ++ old → IsLegal P C new → (p : ℕ) (t : Tenant) → at (unit_of P C old).tenants p ≡ Some t → Has (unit_of P C new) p (λ u. (u.station ≡ t.station) × (u.tag ≡ t.tag))
+      goes_to : (old new more : List Entry) → new ≡ more ++ old → IsLegal P C new → (p : ℕ) (t : Tenant) → at (unit_of P C old).tenants p ≡ Some t →
+          Has (unit_of P C new) p (λ u. (u.station ≡ t.station) × (u.tag ≡ t.tag))
       goes_to old new more is legal p t at_p = subst (λ z. Has (unit_of P C z) p (λ u. (u.station ≡ t.station) × (u.tag ≡ t.tag))) (sym is)
           (unit_lasts P C (λ U. Has U p (λ u. (u.station ≡ t.station) × (u.tag ≡ t.tag)))
           (λ U b s a ok x. let g = goes P C U b s a ok p x.tenant x.is in record { tenant = g.tenant; is = g.is; fact = (g.goes.station ∙ x.fact.0, g.goes.tag ∙ x.fact.1) })

@@ -45,10 +45,18 @@ module _ (P : Program) (C : Sizes) (by : ℕ) (t : Tenant) (old : List Entry) wh
 
   pub starts : (me : View) → old ≡ me.seen → IsLegal P C me.seen → by ≡ front → me.draft ≡ Nothing → MayLetOut P C (U me.seen) t
       → Ready Nothing (next_station C (recent (U me.seen))) (next_tag C (recent (U me.seen))) me
-  starts me e legal by_is draft may = record { by_is = by_is; draft_is = draft; may = may; station_is = refl; tag_is = refl; adds = subst (λ h. Adds P C by h me.seen []) (sym e) (adds_none P C by me.seen legal) }
+  starts me e legal by_is draft may = record {
+    by_is = by_is;
+    draft_is = draft;
+    may = may;
+    station_is = refl;
+    tag_is = refl;
+    adds = subst (λ h. Adds P C by h me.seen []) (sym e) (adds_none P C by me.seen legal);
+  }
 
   -- a step that adds nothing
-  pub goes_on : (draft next : Draft) (station tag : ℕ) (v w : View) (Kind : List Entry → Draft → List Event → Type 0) → Ready draft station tag v → (g : Grows P C by v w Kind) → g.events ≡ [] → w.draft ≡ next → Ready next station tag w
+  pub goes_on : (draft next : Draft) (station tag : ℕ) (v w : View) (Kind : List Entry → Draft → List Event → Type 0) → Ready draft station tag v → (g : Grows P C by v w Kind) → g.events ≡ [] →
+      w.draft ≡ next → Ready next station tag w
   goes_on draft next station tag v w Kind r g none is =
       let seen : w.seen ≡ g.between ++ v.seen = g.is ∙ ap (λ es. map (entry by) es ++ (g.between ++ v.seen)) none in
       let legal : IsLegal P C (g.between ++ v.seen) = subst (IsLegal P C) seen g.legal in

@@ -53,7 +53,8 @@ module _ (P : Program) (C : Sizes) where
     can = front_stays P C (λ U. CanMend U m.p x) (λ U by st b a ok q. mend_stays P C U by st b a ok m.p x q) more seen legal none m.can;
   }
 
-  pub mends_plan : (id : ℕ) (v : View) (s g x new : ℕ) → id ≡ front → v.draft ≡ Nothing → HasMiss P C v.seen s g x → IsStation (live_word g (Done x)) new → Plans P C id v (Station s) (λ _. new) (λ _. Mends P C s)
+  pub mends_plan : (id : ℕ) (v : View) (s g x new : ℕ) → id ≡ front → v.draft ≡ Nothing → HasMiss P C v.seen s g x → IsStation (live_word g (Done x)) new →
+      Plans P C id v (Station s) (λ _. new) (λ _. Mends P C s)
   mends_plan id v s g x new is_front none miss word between d legal same apart caller mine draft n small content =
       let h : List Entry = between ++ v.seen in
       let U : UpdateUnit = unit_of P C h in
@@ -105,7 +106,8 @@ module _ (P : Program) (C : Sizes) where
   )
 
   -- the look and the write together
-  pub mended_out : (by s : ℕ) (v0 v1 w : View) (Kind : List Entry → Draft → List Event → Type 0) (g1 : Grows P C by v0 v1 Kind) → g1.events ≡ [] → Grows P C by v1 w (Mends P C s) → by ≡ front → SeesMiss P C v0.seen s
+  pub mended_out : (by s : ℕ) (v0 v1 w : View) (Kind : List Entry → Draft → List Event → Type 0) (g1 : Grows P C by v0 v1 Kind) → g1.events ≡ [] → Grows P C by v1 w (Mends P C s) → by ≡ front →
+      SeesMiss P C v0.seen s
       → IsMended P C by s v0.seen w.seen
   mended_out by s v0 v1 w Kind g1 none g2 is sees =
       let m = g2.kind in
@@ -134,7 +136,8 @@ module _ (P : Program) (C : Sizes) where
       }
 
   station_on : (more seen : List Entry) → IsLegal P C (more ++ seen) → own front more ≡ [] → next_station C (recent (unit_of P C (more ++ seen))) ≡ next_station C (recent (unit_of P C seen))
-  station_on more seen legal none = front_stays P C (λ U. next_station C (recent U) ≡ next_station C (recent (unit_of P C seen))) (λ U b st ok a sound q. next_stays P C U b st ok a sound ∙ q) more seen legal none refl
+  station_on more seen legal none = front_stays P C (λ U. next_station C (recent U) ≡ next_station C (recent (unit_of P C seen))) (λ U b st ok a sound q. next_stays P C U b st ok a sound ∙ q) more
+      seen legal none refl
 
   -- the front's next station stays
   pub next_out : (by s : ℕ) (v0 v1 w : View) (Kind : List Entry → Draft → List Event → Type 0) (g1 : Grows P C by v0 v1 Kind) → g1.events ≡ [] → Grows P C by v1 w (Mends P C s) → by ≡ front
@@ -155,7 +158,8 @@ module _ (P : Program) (C : Sizes) where
       ∙ station_on g1.between v0.seen legal1 none1)))
 
 -- the front's seat behind it
-pub seated_mended : (P : Program) (C : Sizes) (by station s : ℕ) (over : Bool) (old : List Entry) (me : Me ℕ View) → station < C.ring → station ≡ next_station C (recent (unit_of P C old)) → IsFronts by Nothing me → me.1 ≡ [] → IsMended P C by s old me.0.seen
+pub seated_mended : (P : Program) (C : Sizes) (by station s : ℕ) (over : Bool) (old : List Entry) (me : Me ℕ View) → station < C.ring → station ≡ next_station C (recent (unit_of P C old)) →
+    IsFronts by Nothing me → me.1 ≡ [] → IsMended P C by s old me.0.seen
     → next_station C (recent (unit_of P C me.0.seen)) ≡ next_station C (recent (unit_of P C old)) → IsSeated P C Front by station over me
 seated_mended P C by station s over old me small is fronts slots out next = record {
   role_is = fronts.role;

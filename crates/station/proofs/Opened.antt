@@ -115,18 +115,26 @@ module _ (P : Program) (C : Sizes) where
   U h = unit_of P C h
 
   -- a refusal that a step tells
-  told_of : (by : ℕ) (v w : View) (Kind : List Entry → Draft → List Event → Type 0) (g : Grows P C by v w Kind) (s t : ℕ) (Fact : Tenant → Type 0) (r : ℕ → Refusal) → Finds (U (g.between ++ v.seen)) s t g.events Fact (refuses r) → IsTold P C by v.seen w.seen s t (λ p. Refuses (r p))
+  told_of : (by : ℕ) (v w : View) (Kind : List Entry → Draft → List Event → Type 0) (g : Grows P C by v w Kind) (s t : ℕ) (Fact : Tenant → Type 0) (r : ℕ → Refusal) →
+      Finds (U (g.between ++ v.seen)) s t g.events Fact (refuses r) → IsTold P C by v.seen w.seen s t (λ p. Refuses (r p))
   told_of by v w Kind g s t Fact r f =
       let h : List Entry = g.between ++ v.seen in
       let seen : w.seen ≡ entry by (Refuses (r f.p)) ∷ h = g.is ∙ ap (λ es. map (entry by) es ++ h) f.added in
       record {
         p = f.p;
-        named = subst (λ z. Rattle.inorder.specs.Replies.IsNamed (U z) f.p s t) (sym seen) (record { tenant = f.tenant.tenant; is = f.tenant.is; new = f.tenant.new; station_is = f.tenant.station_is; tag_is = f.tenant.tag_is });
+        named = subst (λ z. Rattle.inorder.specs.Replies.IsNamed (U z) f.p s t) (sym seen) (record {
+          tenant = f.tenant.tenant;
+          is = f.tenant.is;
+          new = f.tenant.new;
+          station_is = f.tenant.station_is;
+          tag_is = f.tenant.tag_is;
+        });
         adds = adds_these P C by v w Kind (Refuses (r f.p) ∷ []) g f.added;
       }
 
   -- the word of a needed source, and what it comes to
-  pub source_answers : (by : ℕ) (v w : View) (s g : ℕ) (k : Source) (needed : Bool) (n : ℕ) (x : Grows P C by v w (ReadsSource P C s g k n)) (r : Result ℕ Answer) → SourceSays n g k r → needed ≡ true → SourceAnswers P C by v.seen w.seen s g k needed r
+  pub source_answers : (by : ℕ) (v w : View) (s g : ℕ) (k : Source) (needed : Bool) (n : ℕ) (x : Grows P C by v w (ReadsSource P C s g k n)) (r : Result ℕ Answer) → SourceSays n g k r →
+      needed ≡ true → SourceAnswers P C by v.seen w.seen s g k needed r
   source_answers by v w s g k needed n x (Ok value) says is = ⊎_elim
       (λ there.
       let f = there.2 in
@@ -150,7 +158,8 @@ module _ (P : Program) (C : Sizes) where
       other)
       x.kind
 
-  pub not_needed : (by : ℕ) (seen : List Entry) (s g : ℕ) (k : Source) (needed : Bool) → IsLegal P C seen → needed ≡ false → (p : ℕ) (Fact : Tenant → Type 0) → IsTenant (U seen) p s g Fact → HasSource P C by seen seen s g needed k 0
+  pub not_needed : (by : ℕ) (seen : List Entry) (s g : ℕ) (k : Source) (needed : Bool) → IsLegal P C seen → needed ≡ false → (p : ℕ) (Fact : Tenant → Type 0) → IsTenant (U seen) p s g Fact →
+      HasSource P C by seen seen s g needed k 0
   not_needed by seen s g k needed legal is p Fact i = record {
     p = p;
     named = record { tenant = i.tenant; is = i.is; new = i.new; station_is = i.station_is; tag_is = i.tag_is; fact = subst (λ b. SourceIs b k 0 i.tenant) (sym is) refl };
@@ -190,7 +199,11 @@ module _ (P : Program) (C : Sizes) where
         record {
           p = r.p;
           named = subst (λ z. IsTenant (U z) r.p s g A) (sym a.begins.is) (tenant_stays P C r.p s g A stable a.begins.more seen legal (sym (ap renewals a.begins.is) ∙ a.one_table) r.named);
-          opened = record { point = r.opened.point; within = record { before_return = subst (λ z. StartsWith z r.opened.point) (sym a.begins.is) longer; behind_call = r.opened.within.behind_call }; fact = r.opened.fact };
+          opened = record {
+            point = r.opened.point;
+            within = record { before_return = subst (λ z. StartsWith z r.opened.point) (sym a.begins.is) longer; behind_call = r.opened.within.behind_call };
+            fact = r.opened.fact;
+          };
           adds = adds_on P C by old seen new [] [] r.adds a;
         }
 
@@ -201,7 +214,14 @@ module _ (P : Program) (C : Sizes) where
         let one : i.tenant ≡ r.named.tenant = one_at P C seen legal q i.tenant r.named.tenant i.is (ap (at (U seen).tenants) (sym here) ∙ r.named.is) in
         record {
           p = r.p;
-          named = record { tenant = r.named.tenant; is = r.named.is; new = r.named.new; station_is = r.named.station_is; tag_is = r.named.tag_is; fact = f r.named.tenant r.named.fact (subst B one i.fact) };
+          named = record {
+            tenant = r.named.tenant;
+            is = r.named.is;
+            new = r.named.new;
+            station_is = r.named.station_is;
+            tag_is = r.named.tag_is;
+            fact = f r.named.tenant r.named.fact (subst B one i.fact);
+          };
           opened = r.opened;
           adds = r.adds;
         }
@@ -218,7 +238,14 @@ module _ (P : Program) (C : Sizes) where
         record {
           p = told.p;
           named = told.named;
-          opened = record { point = x.opened.point; within = record { before_return = subst (λ z. StartsWith z x.opened.point) (sym told.adds.begins.is) longer; behind_call = x.opened.within.behind_call }; fact = subst (λ q. Has (U x.opened.point) q IsOpen) here x.opened.fact };
+          opened = record {
+            point = x.opened.point;
+            within = record {
+              before_return = subst (λ z. StartsWith z x.opened.point) (sym told.adds.begins.is) longer;
+              behind_call = x.opened.within.behind_call;
+            };
+            fact = subst (λ q. Has (U x.opened.point) q IsOpen) here x.opened.fact;
+          };
           adds = adds_on P C by old seen new [] (r told.p ∷ []) x.adds told.adds;
         }
 
@@ -251,14 +278,22 @@ module _ (P : Program) (C : Sizes) where
         let is : at (U h).tenants now.p ≡ Some now.named.tenant = ap (λ z. at (U z).tenants now.p) (sym seen) ∙ now.named.is in
         record {
           p = now.p;
-          named = record { tenant = now.named.tenant; is = now.named.is; new = now.named.new; station_is = now.named.station_is; tag_is = now.named.tag_is; fact = λ o. x.kind.its now.p now.named.tenant is now.named.station_is o.live };
+          named = record {
+            tenant = now.named.tenant;
+            is = now.named.is;
+            new = now.named.new;
+            station_is = now.named.station_is;
+            tag_is = now.named.tag_is;
+            fact = λ o. x.kind.its now.p now.named.tenant is now.named.station_is o.live;
+          };
           opened = now.opened;
           adds = now.adds;
         }
 
     -- The second look
 
-    pub rechecked : (v w : View) (info word n : ℕ) (x : Grows P C by v w (Rechecks P C s g word n)) → Ready (HasInfo info) v.seen → n ≡ word → Ready (IsOpenAs (half_of info) (index_of info) (predicted_of info)) w.seen
+    pub rechecked : (v w : View) (info word n : ℕ) (x : Grows P C by v w (Rechecks P C s g word n)) → Ready (HasInfo info) v.seen → n ≡ word →
+        Ready (IsOpenAs (half_of info) (index_of info) (predicted_of info)) w.seen
     rechecked v w info word n x r hit = ⊎_elim
         (λ here.
         let f = here.1 in
@@ -284,20 +319,31 @@ module _ (P : Program) (C : Sizes) where
         let j = seen.named in
         record {
           p = seen.p;
-          named = record { tenant = j.tenant; is = j.is; new = j.new; station_is = j.station_is; tag_is = j.tag_is; fact = record { half_is = j.fact.half_is; index_is = j.fact.index_is; predicted_is = j.fact.predicted_is } };
+          named = record {
+            tenant = j.tenant;
+            is = j.is;
+            new = j.new;
+            station_is = j.station_is;
+            tag_is = j.tag_is;
+            fact = record { half_is = j.fact.half_is; index_is = j.fact.index_is; predicted_is = j.fact.predicted_is };
+          };
           opened = record { point = old; within = record { before_return = starts_same old; behind_call = starts_same old }; fact = record { tenant = j.tenant; is = j.is; fact = j.fact.is_open } };
           adds = adds_none P C by old legal;
         }
 
     pub takes_first : (d : Half) (i x a : ℕ) (seen new : List Entry) → Ready (IsClaimable d i x) seen → HasSource P C by seen new s g true First a → Ready (HasFirst d i x a) new
     takes_first d i x a seen new r h =
-        both_of (IsClaimable d i x) (SourceIs true First a) (HasFirst d i x a) new h.p h.adds.legal (λ t f e. record { its = f; first = e }) (on_to (IsClaimable d i x) (claimable_stable d i x) seen new r h.adds) h.named
+        both_of (IsClaimable d i x) (SourceIs true First a) (HasFirst d i x a) new h.p h.adds.legal (λ t f e. record { its = f; first = e })
+        (on_to (IsClaimable d i x) (claimable_stable d i x) seen new r h.adds) h.named
 
-    pub takes_second : (d : Half) (i x a : ℕ) (both : Bool) (b : ℕ) (seen new : List Entry) → Ready (HasFirst d i x a) seen → HasSource P C by seen new s g both Second b → Ready (HasBoth d i x a both b) new
+    pub takes_second : (d : Half) (i x a : ℕ) (both : Bool) (b : ℕ) (seen new : List Entry) → Ready (HasFirst d i x a) seen → HasSource P C by seen new s g both Second b →
+        Ready (HasBoth d i x a both b) new
     takes_second d i x a both b seen new r h =
-        both_of (HasFirst d i x a) (SourceIs both Second b) (HasBoth d i x a both b) new h.p h.adds.legal (λ t f e. record { its = f; second = e }) (on_to (HasFirst d i x a) (first_stable d i x a) seen new r h.adds) h.named
+        both_of (HasFirst d i x a) (SourceIs both Second b) (HasBoth d i x a both b) new h.p h.adds.legal (λ t f e. record { its = f; second = e })
+        (on_to (HasFirst d i x a) (first_stable d i x a) seen new r h.adds) h.named
 
-    pub source_refused : (A : Tenant → Type 0) (seen new : List Entry) (k : Source) (needed : Bool) (refusal : Answer) → Ready A seen → SourceAnswers P C by seen new s g k needed (Err refusal) → ClaimAnswers P C by old new s refusal
+    pub source_refused : (A : Tenant → Type 0) (seen new : List Entry) (k : Source) (needed : Bool) (refusal : Answer) → Ready A seen → SourceAnswers P C by seen new s g k needed (Err refusal) →
+        ClaimAnswers P C by old new s refusal
     source_refused A seen new k needed refusal r answer = ⊎_elim
         (λ w. subst (ClaimAnswers P C by old new s) (sym w.0) (refused A seen new (λ p. Refuses (Waits p k)) r w.1))
         (λ m. subst (ClaimAnswers P C by old new s) (sym m.0) (refused A seen new (λ p. Refuses (HasMoved p)) r m.1))
@@ -306,7 +352,8 @@ module _ (P : Program) (C : Sizes) where
     pub first_next : (d : Half) (i x : ℕ) (seen : List Entry) → Ready (IsClaimable d i x) seen → HasSeen P C seen s g (λ t. true ≡ true → IsNext P First t)
     first_next d i x seen r = has_seen (IsClaimable d i x) (λ t. true ≡ true → IsNext P First t) seen (λ t f e. tt) r
 
-    pub second_next : (d : Half) (i x a : ℕ) (both : Bool) (seen : List Entry) → needs (kind (instr_of P i).op) Second ≡ both → Ready (HasFirst d i x a) seen → HasSeen P C seen s g (λ t. both ≡ true → IsNext P Second t)
+    pub second_next : (d : Half) (i x a : ℕ) (both : Bool) (seen : List Entry) → needs (kind (instr_of P i).op) Second ≡ both → Ready (HasFirst d i x a) seen →
+        HasSeen P C seen s g (λ t. both ≡ true → IsNext P Second t)
     second_next d i x a both seen is r =
         has_seen (HasFirst d i x a) (λ t. both ≡ true → IsNext P Second t) seen (λ t f e. (ap (λ z. needs (kind (instr_of P z).op) Second) f.its.index_is ∙ (is ∙ e), (a, f.first))) r
 
@@ -368,7 +415,11 @@ module _ (P : Program) (C : Sizes) where
           let has : Has (applied P C (U h) by e) f.p (IsJob P by (fields_of j)) = record { tenant = now; is = at_p; fact = record { held = record { fate = refl; stays = inl f.tenant.fact.live }; ready = is_ready t fact; fields_are = job_fields t j fact pc f.tenant.station_is f.tenant.tag_is js jg ji jd jx ja jb } } in
           record {
             station = js;
-            holds = record { p = f.p; tenant = subst (λ z. Has (U z) f.p (IsJob P by (fields_of j))) (sym seen) has; new = subst (λ z. is_old (U z) f.p ≡ false) (sym seen) (old_kept P C (U h) by e (λ x. cc x) legal.1.1 f.p ∙ f.tenant.new) };
+            holds = record {
+              p = f.p;
+              tenant = subst (λ z. Has (U z) f.p (IsJob P by (fields_of j))) (sym seen) has;
+              new = subst (λ z. is_old (U z) f.p ≡ false) (sym seen) (old_kept P C (U h) by e (λ x. cc x) legal.1.1 f.p ∙ f.tenant.new);
+            };
             adds = adds_on P C by old v.seen w.seen [] (Does e ∷ []) r.adds (adds_these P C by v w (Claims P C s g word n) (Does e ∷ []) y f.added);
           })
           (λ other. absurd (other.0 hit))
@@ -378,15 +429,32 @@ module _ (P : Program) (C : Sizes) where
   longer_open : (by : ℕ) (old mid new : List Entry) (p : ℕ) → Adds P C by old mid [] → WasOpenOnce P C mid new p → WasOpenOnce P C old new p
   longer_open by old mid new p a o = record {
     point = o.point;
-    within = record { before_return = o.within.before_return; behind_call = record { more = o.within.behind_call.more ++ a.begins.more; is = o.within.behind_call.is ∙ (ap (λ z. o.within.behind_call.more ++ z) a.begins.is ∙ sym (Rattle.std.proofs.Common.append_assoc o.within.behind_call.more a.begins.more old)) } };
+    within = record {
+      before_return = o.within.before_return;
+      behind_call = record {
+        more = o.within.behind_call.more ++ a.begins.more;
+        is = o.within.behind_call.is ∙
+            (ap (λ z. o.within.behind_call.more ++ z) a.begins.is ∙ sym (Rattle.std.proofs.Common.append_assoc o.within.behind_call.more a.begins.more old));
+      };
+    };
     fact = o.fact;
   }
 
   pub claim_answers_on : (by : ℕ) (old mid new : List Entry) (s : ℕ) (c : Answer) → Adds P C by old mid [] → ClaimAnswers P C by mid new s c → ClaimAnswers P C by old new s c
   claim_answers_on by old mid new s (Claimed j) a r = record { station = r.station; holds = r.holds; adds = adds_on P C by old mid new [] (Does (On r.holds.p ClaimIt) ∷ []) a r.adds }
   claim_answers_on by old mid new s NotOpen a r = adds_on P C by old mid new [] (Refuses (IsNotOpen s) ∷ []) a r
-  claim_answers_on by old mid new s (Waiting tag k) a r = record { p = r.p; named = r.named; opened = longer_open by old mid new r.p a r.opened; adds = adds_on P C by old mid new [] (Refuses (Waits r.p k) ∷ []) a r.adds }
-  claim_answers_on by old mid new s (Moved tag) a r = record { p = r.p; named = r.named; opened = longer_open by old mid new r.p a r.opened; adds = adds_on P C by old mid new [] (Refuses (HasMoved r.p) ∷ []) a r.adds }
+  claim_answers_on by old mid new s (Waiting tag k) a r = record {
+    p = r.p;
+    named = r.named;
+    opened = longer_open by old mid new r.p a r.opened;
+    adds = adds_on P C by old mid new [] (Refuses (Waits r.p k) ∷ []) a r.adds;
+  }
+  claim_answers_on by old mid new s (Moved tag) a r = record {
+    p = r.p;
+    named = r.named;
+    opened = longer_open by old mid new r.p a r.opened;
+    adds = adds_on P C by old mid new [] (Refuses (HasMoved r.p) ∷ []) a r.adds;
+  }
 
   pub peek_refused : (by : ℕ) (v w : View) (s n : ℕ) (x : Grows P C by v w (Peeks P C s n)) → state_of n ≢ 1 → ClaimAnswers P C by v.seen w.seen s NotOpen
   peek_refused by v w s n x not = ⊎_elim

@@ -70,7 +70,8 @@ module _ (P : Program) (C : Sizes) where
   open_by id e Squash ys t ts w m o = absurd (omega arith)
   open_by id e Mend ys t ts w m o = absurd (omega arith)
 
-  open_step : (p : ℕ) (U : UpdateUnit) (id : ℕ) → id ≡ back → (s : Step) → IsTheirs C U id s → Allowed P C U id s → (t t' : Tenant) → at U.tenants p ≡ Some t → at (applied P C U id s).tenants p ≡ Some t' → IsOpen t → IsOpen t'
+  open_step : (p : ℕ) (U : UpdateUnit) (id : ℕ) → id ≡ back → (s : Step) → IsTheirs C U id s → Allowed P C U id s → (t t' : Tenant) → at U.tenants p ≡ Some t →
+      at (applied P C U id s).tenants p ≡ Some t' → IsOpen t → IsOpen t'
   open_step p U id e (Let index predicted first second) w a t t' is now o = let by_front = w.0 in absurd (omega arith)
   open_step p U id e Renew w a t t' is now o = subst IsOpen (found t t' (sym is ∙ now)) o
   open_step p U id e (On r act) w a t t' is now o = ⊎_elim
@@ -102,10 +103,12 @@ module _ (P : Program) (C : Sizes) where
       more seen legal j
 
   -- behind a live tenant none has its station
-  last_live : (h : List Entry) → IsLegal P C h → (p q : ℕ) (t u : Tenant) → at (unit_of P C h).tenants p ≡ Some t → at (unit_of P C h).tenants q ≡ Some u → t.standing ≡ Live → u.station ≡ t.station → ¬ (p < q)
+  last_live : (h : List Entry) → IsLegal P C h → (p q : ℕ) (t u : Tenant) → at (unit_of P C h).tenants p ≡ Some t → at (unit_of P C h).tenants q ≡ Some u → t.standing ≡ Live → u.station ≡ t.station →
+      ¬ (p < q)
   last_live h legal p q t u is is' live same less =
       let us = (unit_of P C h).tenants in
-      younger_at (λ x. x.station ≢ t.station) us p (live_is_last C (unit_of P C h) (is_ring C (recent (unit_of P C h)) (stands P C (taken_of h) (allowed_steps P C h legal))) (old_are_gone P C h legal) p t is live) q u less is' same
+      younger_at (λ x. x.station ≢ t.station) us p (live_is_last C (unit_of P C h) (is_ring C (recent (unit_of P C h)) (stands P C (taken_of h) (allowed_steps P C h legal))) (old_are_gone P C h legal)
+      p t is live) q u less is' same
 
   neither : (p q : ℕ) → ¬ (p < q) → ¬ (q < p) → q ≡ p
   neither p q a b = dite (ℕ_discrete q p) (λ e. e) (λ ne. ⊎_elim (λ less. absurd (a less)) (λ more. absurd (b (omega arith))) (cases_lt p q))
@@ -134,7 +137,8 @@ module _ (P : Program) (C : Sizes) where
           may = behind.1;
           is_open = subst (λ h. Has (unit_of P C h) p IsOpen) (sym is) (open_lasts p rest old legal all (record { tenant = t.tenant; is = t.is; fact = t.fact.is_open }));
           named = subst (λ h. IsTenant (unit_of P C h) p s g IsAny) (sym is) (any_stays P C p s g rest old legal (sym (ap renewals is) ∙ l.before.one_table) named);
-          job = subst (λ h. HasJob p (job_of P t.tenant) (unit_of P C h)) (sym is) (job_lasts p (job_of P t.tenant) rest old legal (record { tenant = t.tenant; is = t.is; fact = (t.fact.ready, refl) }));
+          job = subst (λ h. HasJob p (job_of P t.tenant) (unit_of P C h)) (sym is) (job_lasts p (job_of P t.tenant) rest old legal
+              (record { tenant = t.tenant; is = t.is; fact = (t.fact.ready, refl) }));
         }
       where
         other : (l : LastEvent P C by old new e []) (n : ℕ) → n ≢ back → n ≢ by → own n l.before.begins.more ≡ []
@@ -151,7 +155,8 @@ module _ (P : Program) (C : Sizes) where
             no_length (own n rest) (omega arith)
 
     -- another tenant that is refused at this station would not be open
-    refused : (e : Event) (l : LastEvent P C by old new e []) → renewals new ≡ renewals old → (q tag : ℕ) → IsNamed (unit_of P C new) q s tag → WasOpenOnce P C old new q → Has (unit_of P C l.point) q IsAny → q ≡ p
+    refused : (e : Event) (l : LastEvent P C by old new e []) → renewals new ≡ renewals old → (q tag : ℕ) → IsNamed (unit_of P C new) q s tag → WasOpenOnce P C old new q →
+        Has (unit_of P C l.point) q IsAny → q ≡ p
     refused e l one_table q tag named was here =
         let x = there e l in
         let m : List Entry = was.point in
@@ -283,7 +288,8 @@ own_first n a x c e =
     let lb = length-append (own n x) (own n c) in
     no_length (own n a) (omega arith)
 
-let_as : (P : Program) (C : Sizes) (U : UpdateUnit) (t : NewTenant) → t.half ≡ front_half P U.tenants → IsLetAs t (front_pc U.tenants) (new_tenant P C U t.index t.predicted (supply_of t.sources.0) (supply_of t.sources.1))
+let_as : (P : Program) (C : Sizes) (U : UpdateUnit) (t : NewTenant) → t.half ≡ front_half P U.tenants →
+    IsLetAs t (front_pc U.tenants) (new_tenant P C U t.index t.predicted (supply_of t.sources.0) (supply_of t.sources.1))
 let_as P C U t half = record {
   index_is = refl;
   half_is = sym half;
@@ -325,7 +331,8 @@ lets_are_out P C old new t m adds =
       second_is = λ v e. g.value Second v (f.second_is v e);
     }
 
-    open_at : (l : LastEvent P C front old new (let_of t) []) {r s g : ℕ} {Fact : Tenant → Type 0} (there : IsTenant (unit_of P C new) r s g Fact) → ((n : ℕ) → IsUnit n → own n new ≡ own n old) → Has (unit_of P C (entry front (let_of t) ∷ l.point)) r IsOpen → IsOpen there.tenant
+    open_at : (l : LastEvent P C front old new (let_of t) []) {r s g : ℕ} {Fact : Tenant → Type 0} (there : IsTenant (unit_of P C new) r s g Fact) → ((n : ℕ) → IsUnit n → own n new ≡ own n old) →
+        Has (unit_of P C (entry front (let_of t) ∷ l.point)) r IsOpen → IsOpen there.tenant
     open_at l {r} there quiet o =
         let last : List Entry = entry front (let_of t) ∷ l.point in
         let long : last ≡ (entry front (let_of t) ∷ l.before.begins.more) ++ old = ap (λ z. entry front (let_of t) ∷ z) l.before.begins.is in

@@ -34,7 +34,8 @@ shows_operand (Some o) n i = (i.tag, ap source_state_of i.state ∙ by_code o.va
 
 module _ (P : Program) (C : Sizes) (h : List Entry) (legal : IsLegal P C h) where
   -- a live tenant is the last of its station, also beside a let in progress
-  info_last : (d : Draft) → IsDraft P C (unit_of P C h) d → (p : ℕ) (t : Tenant) → at (unit_of P C h).tenants p ≡ Some t → t.standing ≡ Live → last_of (recent (info_unit P C (unit_of P C h) d)) t.station ≡ Some t
+  info_last : (d : Draft) → IsDraft P C (unit_of P C h) d → (p : ℕ) (t : Tenant) → at (unit_of P C h).tenants p ≡ Some t → t.standing ≡ Live →
+      last_of (recent (info_unit P C (unit_of P C h) d)) t.station ≡ Some t
   info_last Nothing proper p t is live = operand_last P C h legal Nothing First proper p t is live
   info_last (Of stage index predicted first second) proper p t is live = operand_last P C h legal (Of BothOperands index predicted first second) First proper p t is live
 
@@ -43,16 +44,19 @@ module _ (P : Program) (C : Sizes) (h : List Entry) (legal : IsLegal P C h) wher
     draft = w.draft;
     proper = w.proper;
     shows = shows_info (last_of (recent (info_unit P C (unit_of P C h) w.draft)) s) n w.content;
-    its = λ p t is station live. subst (λ o. ShowsInfo o (index_of n) (half_of n) (predicted_of n)) (ap (last_of (recent (info_unit P C (unit_of P C h) w.draft))) (sym station) ∙ info_last w.draft w.proper p t is live)
+    its = λ p t is station live. subst (λ o. ShowsInfo o (index_of n) (half_of n) (predicted_of n)) (ap (last_of (recent (info_unit P C (unit_of P C h) w.draft))) (sym station) ∙
+        info_last w.draft w.proper p t is live)
         (shows_info (last_of (recent (info_unit P C (unit_of P C h) w.draft)) s) n w.content);
   }
 
-  pub sees_operand : (s : ℕ) (k : Source) (n : ℕ) (seen : Seen SourceState) → seen.tag ≡ tag_of n → seen.state ≡ source_state_of (state_of n) → seen.value ≡ value_of n → SeesWord P C h (Operand s k) n → SeesOperand P C h s k seen
+  pub sees_operand : (s : ℕ) (k : Source) (n : ℕ) (seen : Seen SourceState) → seen.tag ≡ tag_of n → seen.state ≡ source_state_of (state_of n) → seen.value ≡ value_of n →
+      SeesWord P C h (Operand s k) n → SeesOperand P C h s k seen
   sees_operand s k n seen tag state value w =
       let all : ShowsOperand (operand_word (recent (operand_unit P C (unit_of P C h) w.draft k)) s k) seen.tag seen.state seen.value = subst (λ (z : ℕ × (SourceState × ℕ)). ShowsOperand (operand_word (recent (operand_unit P C (unit_of P C h) w.draft k)) s k) z.0 z.1.0 z.1.1) (λ i. (sym tag i, (sym state i, sym value i))) (shows_operand (operand_word (recent (operand_unit P C (unit_of P C h) w.draft k)) s k) n w.content) in
       record {
         draft = w.draft;
         proper = w.proper;
         shows = all;
-        its = λ p t is station live. subst (λ o. ShowsOperand (operand_word_of k o) seen.tag seen.state seen.value) (ap (last_of (recent (operand_unit P C (unit_of P C h) w.draft k))) (sym station) ∙ operand_last P C h legal w.draft k w.proper p t is live) all;
+        its = λ p t is station live. subst (λ o. ShowsOperand (operand_word_of k o) seen.tag seen.state seen.value)
+            (ap (last_of (recent (operand_unit P C (unit_of P C h) w.draft k))) (sym station) ∙ operand_last P C h legal w.draft k w.proper p t is live) all;
       }

@@ -117,7 +117,8 @@ later_on core u v w a b = record {
 }
 
 -- the back tells the front, the unit tells the front, and the front tells both; those who tell stay as they are
-pub have_met : (core : TheCore) (f b u f1 f2 f4 b3 u4 : Caller) → f.by ≡ front → b.by ≡ back → IsLater core f f1 → StartsWith f1.seen b.seen → IsLater core f1 f2 → {f3 : Caller} → StartsWith f2.seen u.seen
+pub have_met : (core : TheCore) (f b u f1 f2 f4 b3 u4 : Caller) → f.by ≡ front → b.by ≡ back → IsLater core f f1 → StartsWith f1.seen b.seen → IsLater core f1 f2 → {f3 : Caller} →
+    StartsWith f2.seen u.seen
     → IsLater core b b3 → StartsWith b3.seen f2.seen → IsLater core u u4 → StartsWith u4.seen f3.seen → f3 ≡ f2 → f4 ≡ f3 → HaveMet core (seats_of f b u) (seats_of f4 b3 u4)
 have_met core f b u f1 f2 f4 b3 u4 is_front is_back l1 t1 l2 {f3} t2 l3 t3 l4 t4 e3 e4 =
     let same : f2 ≡ f4 = sym (e4 ∙ e3) in

@@ -46,7 +46,8 @@ use Rattle.ruu_words.specs.declared.rule.Draft.{Draft}
 use Rattle.ruu_words.specs.declared.rule.Role.TheVariants.{Back}
 use Rattle.ruu_words.specs.declared.rule.View.{View}
 use Rattle.ruu_words.specs.declared.station.StationState.{StationState}
-use Rattle.ruu_words.specs.declared.station.StationState.TheVariants.{Addr as AddrState, Busy as BusyState, Done as DoneState, Free as FreeState, Miss as MissState, Open as OpenState, Stop as StopState}
+use Rattle.ruu_words.specs.declared.station.StationState.TheVariants.{Addr as AddrState, Busy as BusyState, Done as DoneState, Free as FreeState, Miss as MissState, Open as OpenState}
+use Rattle.ruu_words.specs.declared.station.StationState.TheVariants.{Stop as StopState}
 use Rattle.ruu_words.specs.declared.station.StationWord.{StationWord}
 use Rattle.ruu_words.specs.Content.{IsStation}
 use Rattle.ruu_words.specs.Fields.{half_of, index_of, state_of, tag_of, value_of}
@@ -66,7 +67,8 @@ use Rattle.station.specs.declared.answers.Retire.{Retire as Answer}
 use Rattle.station.specs.declared.answers.Retire.TheVariants.{Empty as IsEmpty, NotDone as IsNotDoneYet, Over as IsOver, Retired as HasRetired}
 use Rattle.station.specs.declared.steps.retire.Access.{Access}
 use Rattle.station.specs.declared.steps.retire.Leaving.{Leaving}
-use Rattle.station.specs.Retirement.{EndsAs, FindsData, HasAccess, HasEnd, IsAccess, IsAtEnd, IsEnd, IsLast, IsLastOf, IsLeaving, IsRetired, Leaves, LooksAtHead, MayLeave, RetireAnswers, is_stop, kept_value, left_word}
+use Rattle.station.specs.Retirement.{EndsAs, FindsData, HasAccess, HasEnd, IsAccess, IsAtEnd, IsEnd, IsLast, IsLastOf, IsLeaving, IsRetired, Leaves, LooksAtHead, MayLeave, RetireAnswers, is_stop}
+use Rattle.station.specs.Retirement.{kept_value, left_word}
 use Rattle.station.specs.Seats.{HasEnded, IsAtHead}
 use Rattle.station.proofs.Adding.{adds_these}
 use Rattle.station.proofs.Backs.{IsNoRetirement}
@@ -128,7 +130,11 @@ access_stays a = record {
 
 leaving_stays : (P : Program) (l : Leaving) → Stays (IsLeaving P l)
 leaving_stays P l = record {
-  keeps = λ by s t t' g e x. record { station_is = g.station ∙ x.station_is; tag_is = g.tag ∙ x.tag_is; last_is = record { index_is = g.index ∙ x.last_is.index_is; half_is = g.half ∙ x.last_is.half_is; ends = ends_on P l.last t t' g.index e (g.value Second) x.last_is.ends } };
+  keeps = λ by s t t' g e x. record {
+    station_is = g.station ∙ x.station_is;
+    tag_is = g.tag ∙ x.tag_is;
+    last_is = record { index_is = g.index ∙ x.last_is.index_is; half_is = g.half ∙ x.last_is.half_is; ends = ends_on P l.last t t' g.index e (g.value Second) x.last_is.ends };
+  };
   late = λ t x. ends_late P l.last t x.last_is.ends;
 }
 
@@ -148,8 +154,19 @@ one_head U p q A B a b = dite (ℕ_discrete p q) (λ e. e) (λ ne. ⊎_elim
     (cases_lt p q))
 
 -- a kind of step that tells more
-plan_as : (P : Program) (C : Sizes) (id : ℕ) (h : List Entry) (d : Draft) (x : Place) (new : ℕ) (K L : List Entry → Draft → List Event → Type 0) → ((e : Draft) (es : List Event) → K h e es → L h e es) → Plan P C id h d x new K → Plan P C id h d x new L
-plan_as P C id h d x new K L f p = record { events = p.events; draft = p.draft; mine = p.mine; legal = p.legal; same = p.same; proper = p.proper; here = p.here; else = p.else; kind = f p.draft p.events p.kind }
+plan_as : (P : Program) (C : Sizes) (id : ℕ) (h : List Entry) (d : Draft) (x : Place) (new : ℕ) (K L : List Entry → Draft → List Event → Type 0) →
+    ((e : Draft) (es : List Event) → K h e es → L h e es) → Plan P C id h d x new K → Plan P C id h d x new L
+plan_as P C id h d x new K L f p = record {
+  events = p.events;
+  draft = p.draft;
+  mine = p.mine;
+  legal = p.legal;
+  same = p.same;
+  proper = p.proper;
+  here = p.here;
+  else = p.else;
+  kind = f p.draft p.events p.kind;
+}
 
 abbrev last_fate : Last → Fate
 last_fate (WasDone v) = Done v
@@ -166,7 +183,8 @@ can_last P (WasDone v) t e = tt
 can_last P (Stored a w) t e = (e.0, (w, e.2))
 can_last P (WasStop c) t e = tt
 
-free_last : (g : ℕ) (l : Last) (n : ℕ) → IsStation (record { tag = suc g; state = IsFree; value = Some (kept_value l) }) n → IsStation (record { tag = suc g; state = IsFree; value = left_value (last_fate l) (Some (kept_value l)) }) n
+free_last : (g : ℕ) (l : Last) (n : ℕ) → IsStation (record { tag = suc g; state = IsFree; value = Some (kept_value l) }) n →
+    IsStation (record { tag = suc g; state = IsFree; value = left_value (last_fate l) (Some (kept_value l)) }) n
 free_last g (WasDone v) n w = w
 free_last g (Stored a x) n w = record { tag = w.tag; state = w.state; value = tt }
 free_last g (WasStop c) n w = w
@@ -174,7 +192,8 @@ free_last g (WasStop c) n w = w
 -- Words at the end
 
 early_late : (n : ℕ) → IsEarly n → Rattle.ruu_words.specs.Kinds.IsLate n → ⊥
-early_late n a b = ⊎_elim (λ x. late 1 x b (λ z. cc z) (λ z. cc z) (λ z. cc z)) (λ y. ⊎_elim (λ x. late 2 x b (λ z. cc z) (λ z. cc z) (λ z. cc z)) (λ x. late 5 x b (λ z. cc z) (λ z. cc z) (λ z. cc z)) y) a
+early_late n a b = ⊎_elim (λ x. late 1 x b (λ z. cc z) (λ z. cc z) (λ z. cc z)) (λ y. ⊎_elim (λ x. late 2 x b (λ z. cc z) (λ z. cc z) (λ z. cc z)) (λ x. late 5 x b (λ z. cc z) (λ z. cc z) (λ z. cc z))
+    y) a
   where
     late : (k : ℕ) → n ≡ k → Rattle.ruu_words.specs.Kinds.IsLate n → k ≢ 3 → k ≢ 4 → k ≢ 6 → ⊥
     late k e x f g h = ⊎_elim (λ z. f (sym e ∙ z)) (λ y. ⊎_elim (λ z. g (sym e ∙ z)) (λ z. h (sym e ∙ z)) y) x
@@ -238,7 +257,8 @@ one_more t t' ts [] live e =
     ∙ ap suc (sym (ap (λ s. cond (stands_retired s) (suc (how_many is_retired ts)) (how_many is_retired ts)) live))
 one_more t t' ts (y ∷ ys) live e = go (is_retired y) (one_more t t' ts ys live e)
   where
-    go : (b : Bool) → how_many is_retired (ys ++ t' ∷ ts) ≡ suc (how_many is_retired (ys ++ t ∷ ts)) → cond b (suc (how_many is_retired (ys ++ t' ∷ ts))) (how_many is_retired (ys ++ t' ∷ ts)) ≡ suc (cond b (suc (how_many is_retired (ys ++ t ∷ ts))) (how_many is_retired (ys ++ t ∷ ts)))
+    go : (b : Bool) → how_many is_retired (ys ++ t' ∷ ts) ≡ suc (how_many is_retired (ys ++ t ∷ ts)) →
+        cond b (suc (how_many is_retired (ys ++ t' ∷ ts))) (how_many is_retired (ys ++ t' ∷ ts)) ≡ suc (cond b (suc (how_many is_retired (ys ++ t ∷ ts))) (how_many is_retired (ys ++ t ∷ ts)))
     go true h = ap suc h
     go false h = h
 
@@ -246,7 +266,8 @@ module _ (P : Program) (C : Sizes) where
   abbrev pub U : List Entry → UpdateUnit
   U h = unit_of P C h
 
-  head_step : (Fact : Tenant → Type 0) → Stays Fact → (p : ℕ) (V : UpdateUnit) (by : ℕ) (s : Step) → IsNotBacks s → Allowed P C V by s → IsSound P V.tenants → IsHead V p Fact → IsHead (applied P C V by s) p Fact
+  head_step : (Fact : Tenant → Type 0) → Stays Fact → (p : ℕ) (V : UpdateUnit) (by : ℕ) (s : Step) → IsNotBacks s → Allowed P C V by s → IsSound P V.tenants → IsHead V p Fact →
+      IsHead (applied P C V by s) p Fact
   head_step Fact stays p V by s b a ok i =
       let m = goes P C V by s a ok p i.tenant i.is in
       record {
@@ -261,19 +282,24 @@ module _ (P : Program) (C : Sizes) where
       fate : (t : Tenant) → at (applied P C V by s).tenants p ≡ Some t → t.fate ≡ i.tenant.fate
       fate t is = ⊎_elim
           (λ e. ap (λ (z : Tenant). z.fate) (found t i.tenant (sym is ∙ e)))
-          (λ (z : Acted P V by s (applied P C V by s).tenants p i.tenant). ap (λ (y : Tenant). y.fate) (found t (changed P by z.act i.tenant (older V.tenants p)) (sym is ∙ z.now)) ∙ late_fate P by z.act (younger V.tenants p) i.tenant (older V.tenants p) (subst IsNotBacks z.step b) z.may (stays.late i.tenant i.fact))
+          (λ (z : Acted P V by s (applied P C V by s).tenants p i.tenant). ap (λ (y : Tenant). y.fate) (found t (changed P by z.act i.tenant (older V.tenants p)) (sym is ∙ z.now)) ∙
+          late_fate P by z.act (younger V.tenants p) i.tenant (older V.tenants p) (subst IsNotBacks z.step b) z.may (stays.late i.tenant i.fact))
           (exact P C V by s a p i.tenant i.is)
 
-  head_on : (Fact : Tenant → Type 0) → Stays Fact → (p : ℕ) (more seen : List Entry) → IsLegal P C (more ++ seen) → renewals (more ++ seen) ≡ renewals seen → own back more ≡ [] → IsHead (U seen) p Fact → IsHead (U (more ++ seen)) p Fact
+  head_on : (Fact : Tenant → Type 0) → Stays Fact → (p : ℕ) (more seen : List Entry) → IsLegal P C (more ++ seen) → renewals (more ++ seen) ≡ renewals seen → own back more ≡ [] →
+      IsHead (U seen) p Fact → IsHead (U (more ++ seen)) p Fact
   head_on Fact stays p more seen legal same none i = back_stays P C (λ V. IsHead V p Fact) (λ V by s b a ok q. head_step Fact stays p V by s b a ok q) more seen legal same none i
 
-  pub access_on : (a : Access) (more seen : List Entry) → IsLegal P C (more ++ seen) → renewals (more ++ seen) ≡ renewals seen → own back more ≡ [] → HasAccess P C seen a → HasAccess P C (more ++ seen) a
+  pub access_on : (a : Access) (more seen : List Entry) → IsLegal P C (more ++ seen) → renewals (more ++ seen) ≡ renewals seen → own back more ≡ [] → HasAccess P C seen a →
+      HasAccess P C (more ++ seen) a
   access_on a more seen legal same none x = record { p = x.p; head = head_on (IsAccess a) (access_stays a) x.p more seen legal same none x.head }
 
-  pub leave_on : (l : Leaving) (more seen : List Entry) → IsLegal P C (more ++ seen) → renewals (more ++ seen) ≡ renewals seen → own back more ≡ [] → MayLeave P C seen l → MayLeave P C (more ++ seen) l
+  pub leave_on : (l : Leaving) (more seen : List Entry) → IsLegal P C (more ++ seen) → renewals (more ++ seen) ≡ renewals seen → own back more ≡ [] → MayLeave P C seen l →
+      MayLeave P C (more ++ seen) l
   leave_on l more seen legal same none x = record { p = x.p; head = head_on (IsLeaving P l) (leaving_stays P l) x.p more seen legal same none x.head }
 
-  pub end_on : (s : ℕ) (w : StationWord) (more seen : List Entry) → IsLegal P C (more ++ seen) → renewals (more ++ seen) ≡ renewals seen → own back more ≡ [] → HasEnd P C seen s w → HasEnd P C (more ++ seen) s w
+  pub end_on : (s : ℕ) (w : StationWord) (more seen : List Entry) → IsLegal P C (more ++ seen) → renewals (more ++ seen) ≡ renewals seen → own back more ≡ [] → HasEnd P C seen s w →
+      HasEnd P C (more ++ seen) s w
   end_on s w more seen legal same none x = record { p = x.p; head = head_on (IsAtEnd s w) (end_stays s w) x.p more seen legal same none x.head }
 
   -- Plans
@@ -320,7 +346,8 @@ module _ (P : Program) (C : Sizes) where
       plan_as P C id h d (Operand a.station Second) n (ReadsData P C access.p n) (FindsData P C a n) (λ e es k. record { access = now; data_is = k })
       (data_plan P C id v access.p a.station a.tag a.index a.address role head between d legal same apart caller mine draft n small content)
 
-  pub leaves_plan : (id : ℕ) (v : View) (l : Leaving) (new : ℕ) → v.role ≡ Back → MayLeave P C v.seen l → IsStation (left_word l) new → Plans P C id v (Station l.station) (λ _. new) (λ _. Leaves P C l)
+  pub leaves_plan : (id : ℕ) (v : View) (l : Leaving) (new : ℕ) → v.role ≡ Back → MayLeave P C v.seen l → IsStation (left_word l) new →
+      Plans P C id v (Station l.station) (λ _. new) (λ _. Leaves P C l)
   unfolding leave_on
   leaves_plan id v l new role may word between d legal same apart caller mine draft n small content =
       let h : List Entry = between ++ v.seen in
@@ -476,7 +503,8 @@ module _ (P : Program) (C : Sizes) where
         both : IsEarly (state_of n) → Rattle.ruu_words.specs.Kinds.IsLate (state_of n) → ⊥
         both a b = early_late (state_of n) a b
 
-    pub head_late : (word : StationWord) → word.tag ≡ tag_of n → state_code word.state ≡ state_of n → word.value ≡ value_of n → IsLateState word.state → HasEnd P C w.seen s word × Adds P C by v.seen w.seen []
+    pub head_late : (word : StationWord) → word.tag ≡ tag_of n → state_code word.state ≡ state_of n → word.value ≡ value_of n → IsLateState word.state → HasEnd P C w.seen s word ×
+        Adds P C by v.seen w.seen []
     head_late word tag state value e = ⊎_elim
         (λ a. absurd (not_free word.state e (state ∙ a.0)))
         (λ o. ⊎_elim (λ b. absurd (not_early word.state e (subst IsEarly (sym state) b.0)))
@@ -510,7 +538,8 @@ module _ (P : Program) (C : Sizes) where
     pub end_adds : Adds P C by v.seen w.seen []
     end_adds = adds_these P C by v w (ReadsInfo P C s n) [] g g.kind.none
 
-    pub end_access : (index : ℕ) (half : Half) → index ≡ index_of n → half ≡ half_of n → word.state ≡ AddrState → HasAccess P C w.seen (record { station = s; tag = word.tag; index = index; half = half; address = word.value })
+    pub end_access : (index : ℕ) (half : Half) → index ≡ index_of n → half ≡ half_of n → word.state ≡ AddrState →
+        HasAccess P C w.seen (record { station = s; tag = word.tag; index = index; half = half; address = word.value })
     end_access index half e f state =
         let a : Access = record { station = s; tag = word.tag; index = index; half = half; address = word.value } in
         let i = now.head in
@@ -518,7 +547,8 @@ module _ (P : Program) (C : Sizes) where
         let head : IsHead (U mid) now.p (IsAccess a) = record { tenant = i.tenant; is = i.is; live = i.live; oldest = i.oldest; goes_on = i.goes_on; fact = fact } in
         subst (λ z. HasAccess P C z a) (sym seen_mid) (record { p = now.p; head = head })
 
-    pub end_leaves : (index : ℕ) (half : Half) → index ≡ index_of n → half ≡ half_of n → word.state ≢ AddrState → (x : Last) → IsLastOf word.state word.value x → MayLeave P C w.seen (record { station = s; tag = word.tag; index = index; half = half; last = x })
+    pub end_leaves : (index : ℕ) (half : Half) → index ≡ index_of n → half ≡ half_of n → word.state ≢ AddrState → (x : Last) → IsLastOf word.state word.value x →
+        MayLeave P C w.seen (record { station = s; tag = word.tag; index = index; half = half; last = x })
     end_leaves index half e f state x last =
         let l : Leaving = record { station = s; tag = word.tag; index = index; half = half; last = x } in
         let i = now.head in

@@ -26,7 +26,8 @@ use Rattle.station.proofs.Backs.{back_on}
 use Rattle.inorder.proofs.Recent.{counts_same}
 
 -- only the front changes the path
-pub next_stays : (P : Program) (C : Sizes) (U : UpdateUnit) (by : ℕ) (s : Step) → IsBesides s → Allowed P C U by s → IsSound P U.tenants → next_station C (recent (applied P C U by s)) ≡ next_station C (recent U)
+pub next_stays : (P : Program) (C : Sizes) (U : UpdateUnit) (by : ℕ) (s : Step) → IsBesides s → Allowed P C U by s → IsSound P U.tenants →
+    next_station C (recent (applied P C U by s)) ≡ next_station C (recent U)
 next_stays P C U by (Let index predicted first second) b a sound = absurd b
 next_stays P C U by (On p act) b a sound =
     let us = U.tenants in
@@ -87,7 +88,8 @@ pub front_begun : (r : Role) → r ≡ Front → r ≢ Start
 front_begun r e f = cc
 
 -- a seat that was told of what another has seen
-pub informed_seated : (P : Program) (C : Sizes) (role : Role) (by station : ℕ) (over : Bool) (me : Me ℕ View) (w : View) → IsSeated P C role by station over me → IsSeated P C role by station over (informed me.0 w, me.1)
+pub informed_seated : (P : Program) (C : Sizes) (role : Role) (by station : ℕ) (over : Bool) (me : Me ℕ View) (w : View) → IsSeated P C role by station over me →
+    IsSeated P C role by station over (informed me.0 w, me.1)
 informed_seated P C role by station over me w s = record { role_is = s.role_is; slots = s.slots; legal = s.legal; inside = s.inside; knows = go role s.knows }
   where
     go : (r : Role) → Knows P C r by station over me.0 → Knows P C r by station over (informed me.0 w)

@@ -106,16 +106,25 @@ module _ (P : Program) (C : Sizes) where
       ap (λ z. z % r) a ∙ (mod-add-mod (suc n) r (r - 1) ∙ (ap (λ z. z % r) b ∙ add-mod_left r n))
 
   -- so it is the station before the next one
-  tail_is : (h : List Entry) → IsLegal P C h → (p next ring : ℕ) → (c : CanSquash (U h) p) → ring ≡ C.ring → next < ring → next ≡ next_station C (recent (U h)) → c.tenant.tenant.station ≡ (next + ring - 1) % ring
+  tail_is : (h : List Entry) → IsLegal P C h → (p next ring : ℕ) → (c : CanSquash (U h) p) → ring ≡ C.ring → next < ring → next ≡ next_station C (recent (U h)) →
+      c.tenant.tenant.station ≡ (next + ring - 1) % ring
   tail_is h legal p next ring c ring_is small e =
       let n : ℕ = before h legal p c in
       let at_end : next ≡ suc n % ring = e ∙ (λ i. path_counted h legal p c i % sym ring_is i) in
       its_place h legal p c ∙ (ap (λ z. n % z) (sym ring_is) ∙ (sym (one_back n ring (omega arith)) ∙ ap (λ z. (z + ring - 1) % ring) (sym at_end)))
 
-  pub youngest_in : (h : List Entry) → IsLegal P C h → (next ring : ℕ) → ring ≡ C.ring → next < ring → next ≡ next_station C (recent (U h)) → (m : MaySquash P C h) → HasYoungest P C h ((next + ring - 1) % ring) m.can.tenant.tenant.tag
+  pub youngest_in : (h : List Entry) → IsLegal P C h → (next ring : ℕ) → ring ≡ C.ring → next < ring → next ≡ next_station C (recent (U h)) → (m : MaySquash P C h) →
+      HasYoungest P C h ((next + ring - 1) % ring) m.can.tenant.tenant.tag
   youngest_in h legal next ring ring_is small e m = record {
     p = m.p;
-    named = record { tenant = m.can.tenant.tenant; is = m.can.tenant.is; new = live_is_recent P C h legal m.p m.can.tenant.tenant m.can.tenant.is m.can.tenant.fact; station_is = tail_is h legal m.p next ring m.can ring_is small e; tag_is = refl; fact = tt };
+    named = record {
+      tenant = m.can.tenant.tenant;
+      is = m.can.tenant.is;
+      new = live_is_recent P C h legal m.p m.can.tenant.tenant m.can.tenant.is m.can.tenant.fact;
+      station_is = tail_is h legal m.p next ring m.can ring_is small e;
+      tag_is = refl;
+      fact = tt;
+    };
     can = m.can;
   }
 
@@ -139,7 +148,8 @@ module _ (P : Program) (C : Sizes) where
   pub youngest_small : (h : List Entry) → IsLegal P C h → (s g : ℕ) → HasYoungest P C h s g → g < last_tag
   youngest_small h legal s g y = subst (λ z. z < last_tag) y.named.tag_is (are_small P C h legal y.p y.named.tenant y.named.is)
 
-  pub squashes_plan : (id : ℕ) (v : View) (s g new : ℕ) → id ≡ front → v.draft ≡ Nothing → HasYoungest P C v.seen s g → IsStation (record { tag = suc g; state = IsFree; value = None }) new → Plans P C id v (Station s) (λ _. new) (λ _. Squashes P C s g)
+  pub squashes_plan : (id : ℕ) (v : View) (s g new : ℕ) → id ≡ front → v.draft ≡ Nothing → HasYoungest P C v.seen s g → IsStation (record { tag = suc g; state = IsFree; value = None }) new →
+      Plans P C id v (Station s) (λ _. new) (λ _. Squashes P C s g)
   squashes_plan id v s g new is_front none youngest word between d legal same apart caller mine draft n small content =
       let h : List Entry = between ++ v.seen in
       let now : HasYoungest P C h s g = youngest_on s g between v.seen legal (subst (λ z. own z between ≡ []) is_front apart) youngest in
@@ -160,7 +170,8 @@ module _ (P : Program) (C : Sizes) where
       (λ more. absurd (b.youngest p a.tenant.tenant (omega arith) a.tenant.is a.tenant.fact))
       (cases_lt p q))
 
-  module _ (by s g : ℕ) (v0 v1 w : View) (Kind : List Entry → Draft → List Event → Type 0) (g1 : Grows P C by v0 v1 Kind) (none : g1.events ≡ []) (g2 : Grows P C by v1 w (Squashes P C s g)) (is : by ≡ front) where
+  module _ (by s g : ℕ) (v0 v1 w : View) (Kind : List Entry → Draft → List Event → Type 0) (g1 : Grows P C by v0 v1 Kind) (none : g1.events ≡ []) (g2 : Grows P C by v1 w (Squashes P C s g))
+      (is : by ≡ front) where
     abbrev mid : List Entry
     mid = g1.between ++ v0.seen
 
@@ -216,7 +227,8 @@ module _ (P : Program) (C : Sizes) where
         at_s ∙ (ap (λ n. n % C.ring) (sym counted) ∙ ap (λ h. next_station C (recent (U h))) (sym seen2))
 
 -- the front's seat behind it
-pub seated_squashed : (P : Program) (C : Sizes) (by station tag : ℕ) (over : Bool) (old : List Entry) (me : Me ℕ View) → station < C.ring → IsFronts by Nothing me → me.1 ≡ [] → IsSquashed P C by station tag old me.0.seen → station ≡ next_station C (recent (unit_of P C me.0.seen)) → IsSeated P C Front by station over me
+pub seated_squashed : (P : Program) (C : Sizes) (by station tag : ℕ) (over : Bool) (old : List Entry) (me : Me ℕ View) → station < C.ring → IsFronts by Nothing me → me.1 ≡ [] →
+    IsSquashed P C by station tag old me.0.seen → station ≡ next_station C (recent (unit_of P C me.0.seen)) → IsSeated P C Front by station over me
 seated_squashed P C by station tag over old me small fronts slots out next = record {
   role_is = fronts.role;
   slots = slots;

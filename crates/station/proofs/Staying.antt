@@ -93,7 +93,8 @@ module _ (P : Program) (C : Sizes) where
   misses_stay : (s : ℕ) (more seen : List Entry) → IsLegal P C (more ++ seen) → own front more ≡ [] → SeesMiss P C seen s → SeesMiss P C (more ++ seen) s
   misses_stay s more seen legal none m = record { tag = m.tag; next = m.next; miss = miss_on P C s m.tag m.next more seen legal none m.miss }
 
-  settles_stay : (s g v : ℕ) (more seen : List Entry) → IsLegal P C (more ++ seen) → renewals (more ++ seen) ≡ renewals seen → own back more ≡ [] → MaySettle P C seen s g v → MaySettle P C (more ++ seen) s g v
+  settles_stay : (s g v : ℕ) (more seen : List Entry) → IsLegal P C (more ++ seen) → renewals (more ++ seen) ≡ renewals seen → own back more ≡ [] → MaySettle P C seen s g v →
+      MaySettle P C (more ++ seen) s g v
   settles_stay s g v more seen legal same none may = record {
     address = may.address;
     can = record {

@@ -105,7 +105,8 @@ module _ (P : Program) (C : Sizes) where
     pub adds : Adds P C by old new (Does (On p act) ∷ [])
 
   -- and then this was carried
-  pub writes_out : (by s g : ℕ) (act : Act) (old mid new : List Entry) (Carried : ℕ → List Event → Type 0) → IsOut by s g act old mid → OfTenant P C mid s g (λ q. (es : List Event) × (Carried q es × Adds P C by mid new es)) → IsWritten P C by old new s g act Carried
+  pub writes_out : (by s g : ℕ) (act : Act) (old mid new : List Entry) (Carried : ℕ → List Event → Type 0) → IsOut by s g act old mid →
+      OfTenant P C mid s g (λ q. (es : List Event) × (Carried q es × Adds P C by mid new es)) → IsWritten P C by old new s g act Carried
   writes_out by s g act old mid new Carried out carry =
       let c = carry out.p out.named in
       let named = any_on P C by out.p s g c.0 mid new c.1.1 out.named in
@@ -118,27 +119,43 @@ module _ (P : Program) (C : Sizes) where
       }
 
   -- the tenant that an act changed
-  pub acted : (by p s g : ℕ) (act : Act) (F : Tenant → Type 0) (h : List Entry) → (legal : IsLegal P C (entry by (Does (On p act)) ∷ h)) → (i : IsTenant (unit_of P C h) p s g F) → (G : Tenant → Type 0) → G (changed P by act i.tenant (older (unit_of P C h).tenants p)) → IsTenant (unit_of P C (entry by (Does (On p act)) ∷ h)) p s g G
+  pub acted : (by p s g : ℕ) (act : Act) (F : Tenant → Type 0) (h : List Entry) → (legal : IsLegal P C (entry by (Does (On p act)) ∷ h)) → (i : IsTenant (unit_of P C h) p s g F) →
+      (G : Tenant → Type 0) → G (changed P by act i.tenant (older (unit_of P C h).tenants p)) → IsTenant (unit_of P C (entry by (Does (On p act)) ∷ h)) p s g G
   acted by p s g act F h legal i G fact =
       let us = (unit_of P C h).tenants in
       let t = i.tenant in
       let place = same_place P by act t (older us p) in
       let now : IsActed P us by p act t p t = ⊎_elim (λ z. z) (λ (z : IsLeft P us by p act p t). absurd (z.position refl)) (at_changed P us by p act t i.is p t i.is) in
-      record { tenant = changed P by act t (older us p); is = now.now; new = old_kept P C (unit_of P C h) by (On p act) (λ e. cc e) legal.1.1 p ∙ i.new; station_is = place.0 ∙ i.station_is; tag_is = place.1 ∙ i.tag_is; fact = fact }
+      record {
+        tenant = changed P by act t (older us p);
+        is = now.now;
+        new = old_kept P C (unit_of P C h) by (On p act) (λ e. cc e) legal.1.1 p ∙ i.new;
+        station_is = place.0 ∙ i.station_is;
+        tag_is = place.1 ∙ i.tag_is;
+        fact = fact;
+      }
 
   -- a refusal changes nothing
-  stale_out : (by s g : ℕ) (v w : View) (Kind : List Entry → Draft → List Event → Type 0) (e : Grows P C by v w Kind) → Finds (unit_of P C (e.between ++ v.seen)) s g e.events IsSquashed (refuses Stale) → WasStale P C by v.seen w.seen s g
+  stale_out : (by s g : ℕ) (v w : View) (Kind : List Entry → Draft → List Event → Type 0) (e : Grows P C by v w Kind) →
+      Finds (unit_of P C (e.between ++ v.seen)) s g e.events IsSquashed (refuses Stale) → WasStale P C by v.seen w.seen s g
   stale_out by s g v w Kind e f =
       let h : List Entry = e.between ++ v.seen in
       let seen : w.seen ≡ entry by (Refuses (Stale f.p)) ∷ h = e.is ∙ ap (λ es. map (entry by) es ++ h) f.added in
       record {
         p = f.p;
-        named = subst (λ z. IsNamed (unit_of P C z) f.p s g) (sym seen) (record { tenant = f.tenant.tenant; is = f.tenant.is; new = f.tenant.new; station_is = f.tenant.station_is; tag_is = f.tenant.tag_is });
+        named = subst (λ z. IsNamed (unit_of P C z) f.p s g) (sym seen) (record {
+          tenant = f.tenant.tenant;
+          is = f.tenant.is;
+          new = f.tenant.new;
+          station_is = f.tenant.station_is;
+          tag_is = f.tenant.tag_is;
+        });
         adds = adds_these P C by v w Kind (Refuses (Stale f.p) ∷ []) e f.added;
       }
 
   -- an exchange that hit
-  act_out : (by s g : ℕ) (act : Act) (F : Tenant → Type 0) (v w : View) (Kind : List Entry → Draft → List Event → Type 0) (e : Grows P C by v w Kind) → Finds (unit_of P C (e.between ++ v.seen)) s g e.events F (λ p. Does (On p act) ∷ []) → IsOut by s g act v.seen w.seen
+  act_out : (by s g : ℕ) (act : Act) (F : Tenant → Type 0) (v w : View) (Kind : List Entry → Draft → List Event → Type 0) (e : Grows P C by v w Kind) →
+      Finds (unit_of P C (e.between ++ v.seen)) s g e.events F (λ p. Does (On p act) ∷ []) → IsOut by s g act v.seen w.seen
   act_out by s g act F v w Kind e f =
       let h : List Entry = e.between ++ v.seen in
       let seen : w.seen ≡ entry by (Does (On f.p act)) ∷ h = e.is ∙ ap (λ es. map (entry by) es ++ h) f.added in
@@ -180,7 +197,8 @@ module _ (P : Program) (C : Sizes) where
         go (Stops x) is f = tt
 
   -- what is carried behind it
-  pub finish_all : (by id s g : ℕ) (o o' : Outcome) (old mid new : List Entry) → o ≡ o' → id ≡ by → IsOut by s g Finish old mid → OfTenant P C mid s g (λ q. HasCarried P C id q o mid new) → IsWritten P C by old new s g Finish (λ p. IsCarried P C new p o')
+  pub finish_all : (by id s g : ℕ) (o o' : Outcome) (old mid new : List Entry) → o ≡ o' → id ≡ by → IsOut by s g Finish old mid → OfTenant P C mid s g (λ q. HasCarried P C id q o mid new) →
+      IsWritten P C by old new s g Finish (λ p. IsCarried P C new p o')
   finish_all by id s g o o' old mid new same is out carry = writes_out by s g Finish old mid new (λ p. IsCarried P C new p o') out
       (λ q i.
       let c : HasCarried P C by q o' mid new = subst (λ (z : ℕ × Outcome). HasCarried P C z.0 q z.1 mid new) (λ j. (is j, same j)) (carry q i) in
@@ -277,7 +295,8 @@ module _ (P : Program) (C : Sizes) where
   pub stale_after : (by s g : ℕ) (old mid new : List Entry) → Adds P C by old mid [] → WasStale P C by mid new s g → WasStale P C by old new s g
   stale_after by s g old mid new a w = record { p = w.p; named = w.named; adds = adds_on P C by old mid new [] (Refuses (Stale w.p) ∷ []) a w.adds }
 
-  pub settle_all : (by id s g : ℕ) (old seen mid new : List Entry) → id ≡ by → Adds P C by old seen [] → IsOut by s g Load seen mid → OfTenant P C mid s g (λ q. HasWalked P C id q mid new) → IsWritten P C by old new s g Load (λ p. IsWalk P C new p)
+  pub settle_all : (by id s g : ℕ) (old seen mid new : List Entry) → id ≡ by → Adds P C by old seen [] → IsOut by s g Load seen mid → OfTenant P C mid s g (λ q. HasWalked P C id q mid new) →
+      IsWritten P C by old new s g Load (λ p. IsWalk P C new p)
   settle_all by id s g old seen mid new is a out walk = writes_out by s g Load old mid new (λ p. IsWalk P C new p)
       (record { p = out.p; named = out.named; adds = adds_on P C by old seen mid [] (Does (On out.p Load) ∷ []) a out.adds })
       (λ q i.
@@ -293,7 +312,8 @@ module _ (P : Program) (C : Sizes) where
   walk_keeps : (seen : List Entry) (q : ℕ) (es : List Event) → IsWalk P C seen q es → AllByRecursion (IsNoRetirement P C) es
   walk_keeps seen q es w = subst (AllByRecursion (IsNoRetirement P C)) (sym w.is) (tt, delivers_keep seen q w.deliveries w.each)
 
-  pub settled_seated : (by station s g : ℕ) (over : Bool) (v w : Me ℕ View) (a : Settle) → IsSeated P C Back by station over v → w.0.role ≡ v.0.role → w.1 ≡ v.1 → SettleAnswers P C by v.0.seen w.0.seen s g a → IsSeated P C Back by station over w
+  pub settled_seated : (by station s g : ℕ) (over : Bool) (v w : Me ℕ View) (a : Settle) → IsSeated P C Back by station over v → w.0.role ≡ v.0.role → w.1 ≡ v.1 →
+      SettleAnswers P C by v.0.seen w.0.seen s g a → IsSeated P C Back by station over w
   settled_seated by station s g over v w Settled seated role slots out =
       let act : List Event = Does (On out.p Load) ∷ [] in
       back_seated P C by station over v w (out.behind ++ act) seated role slots out.adds

@@ -97,8 +97,14 @@ value_put ys t u ts e (Some p) = made_put ys t u ts e p
 
 pub still_put : (ys : List Tenant) (t u : Tenant) (ts : List Tenant) → u.made ≡ t.made → u.first ≡ t.first → u.second ≡ t.second → IsNotBusy u.fate → AreStill (ys ++ t ∷ ts) → AreStill (ys ++ u ∷ ts)
 still_put [] t u ts m f g n h = ((subst (SourceIsStill ts) (sym f) h.0.0, subst (SourceIsStill ts) (sym g) h.0.1, n), h.1)
-still_put (y ∷ ys) t u ts m f g n h =
-    ((record { value = h.0.0.value ∙ sym (value_put ys t u ts m y.first.creator); way = h.0.0.way }, record { value = h.0.1.value ∙ sym (value_put ys t u ts m y.second.creator); way = h.0.1.way }, h.0.2), still_put ys t u ts m f g n h.1)
+still_put (y ∷ ys) t u ts m f g n h = (
+  (
+    record { value = h.0.0.value ∙ sym (value_put ys t u ts m y.first.creator); way = h.0.0.way },
+    record { value = h.0.1.value ∙ sym (value_put ys t u ts m y.second.creator); way = h.0.1.way },
+    h.0.2,
+  ),
+  still_put ys t u ts m f g n h.1,
+)
 
 pub stops_put : (ys : List Tenant) (t u : Tenant) (ts : List Tenant) → IsNoRetiredStop u → AllByRecursion IsNoRetiredStop (ys ++ t ∷ ts) → AllByRecursion IsNoRetiredStop (ys ++ u ∷ ts)
 stops_put [] t u ts n h = (n, h.1)

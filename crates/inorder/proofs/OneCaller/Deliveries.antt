@@ -47,7 +47,8 @@ deliver_first P C by U ys t ts v w n g =
     record {
       steps = On (length ts) (Deliver First) ∷ [];
       later = delivered ts t First;
-      leads = leads_once P C by (with_tenants U (ys ++ t ∷ ts)) (with_tenants U (ys ++ delivered ts t First ∷ ts)) (On (length ts) (Deliver First)) (allowed_middle P C by U (Deliver First) ys t ts (record { in_time = w.0; way = w.1; waits = n; value = v; is_made = g })) (changed_middle P C by U (Deliver First) ys t ts);
+      leads = leads_once P C by (with_tenants U (ys ++ t ∷ ts)) (with_tenants U (ys ++ delivered ts t First ∷ ts)) (On (length ts) (Deliver First))
+          (allowed_middle P C by U (Deliver First) ys t ts (record { in_time = w.0; way = w.1; waits = n; value = v; is_made = g })) (changed_middle P C by U (Deliver First) ys t ts);
       are = (tt, tt);
       still = record { value = refl; way = λ q. w };
       same = refl;
@@ -61,7 +62,8 @@ deliver_second P C by U ys t ts v w n g =
     record {
       steps = On (length ts) (Deliver Second) ∷ [];
       later = delivered ts t Second;
-      leads = leads_once P C by (with_tenants U (ys ++ t ∷ ts)) (with_tenants U (ys ++ delivered ts t Second ∷ ts)) (On (length ts) (Deliver Second)) (allowed_middle P C by U (Deliver Second) ys t ts (record { in_time = w.0; way = w.1; waits = n; value = v; is_made = g })) (changed_middle P C by U (Deliver Second) ys t ts);
+      leads = leads_once P C by (with_tenants U (ys ++ t ∷ ts)) (with_tenants U (ys ++ delivered ts t Second ∷ ts)) (On (length ts) (Deliver Second))
+          (allowed_middle P C by U (Deliver Second) ys t ts (record { in_time = w.0; way = w.1; waits = n; value = v; is_made = g })) (changed_middle P C by U (Deliver Second) ys t ts);
       are = (tt, tt);
       still = record { value = refl; way = λ q. w };
       same = refl;
@@ -130,7 +132,14 @@ all_run P C by U ys (t ∷ ts) a = go (one_run P C by U ys t ts First a.0.0) (λ
                   later = two.later ∷ r.later;
                   leads = leads_more P C by V0 V2 (with_tenants U (ys ++ two.later ∷ r.later)) r.steps both reach rest;
                   are = all_more IsDeliver r.steps both r.are (all_more IsDeliver two.steps one.steps two.are one.are);
-                  still = ((still_alike ts r.later r.alike two.later.first (subst (SourceIsStill ts) (sym two.same) one.still), still_alike ts r.later r.alike two.later.second two.still, subst IsNotBusy (sym (two.alike.fate ∙ one.alike.fate)) a.0.2), r.still);
+                  still = (
+                    (
+                      still_alike ts r.later r.alike two.later.first (subst (SourceIsStill ts) (sym two.same) one.still),
+                      still_alike ts r.later r.alike two.later.second two.still,
+                      subst IsNotBusy (sym (two.alike.fate ∙ one.alike.fate)) a.0.2,
+                    ),
+                    r.still,
+                  );
                   alike = (alike_both t one.later two.later one.alike two.alike, r.alike);
                 }
 
@@ -143,7 +152,13 @@ asked_old P (t ∷ ts) s h =
 pub asked_middle : (P : Program) (ys : List Tenant) (t u : Tenant) (ts : List Tenant) → u.first ≡ t.first →
     u.second ≡ t.second → IsNotBusy u.fate → IsSound P (ys ++ u ∷ ts) → AreStill (ys ++ t ∷ ts) →
     AreAsked (ys ++ u ∷ ts)
-asked_middle P [] t u ts e f n s h =
-    ((record { value = s.0.own.first; way = λ q. subst WasLinked (sym e) (h.0.0.way (sym (ap (λ x. x.value) e) ∙ q)) }, record { value = s.0.own.second; way = λ q. subst WasLinked (sym f) (h.0.1.way (sym (ap (λ x. x.value) f) ∙ q)) }, n), asked_old P ts s.1 h.1)
+asked_middle P [] t u ts e f n s h = (
+  (
+    record { value = s.0.own.first; way = λ q. subst WasLinked (sym e) (h.0.0.way (sym (ap (λ x. x.value) e) ∙ q)) },
+    record { value = s.0.own.second; way = λ q. subst WasLinked (sym f) (h.0.1.way (sym (ap (λ x. x.value) f) ∙ q)) },
+    n,
+  ),
+  asked_old P ts s.1 h.1,
+)
 asked_middle P (y ∷ ys) t u ts e f n s h =
     ((record { value = s.0.own.first; way = h.0.0.way }, record { value = s.0.own.second; way = h.0.1.way }, h.0.2), asked_middle P ys t u ts e f n s.1 h.1)

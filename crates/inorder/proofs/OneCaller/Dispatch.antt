@@ -84,10 +84,12 @@ let_run P C by U k pr s st never ns m = go (value_of ts c) (value_of ts d) refl 
     let_only f g a = leads_once P C by U (with_let U (new f g)) (Let k pr f g) a refl
 
     link_first : (t : Tenant) → t.first.way ≡ Rattle.inorder.specs.Tenants.Unlinked → Leads P C by (with_let U t) (On (length ts) (Link First) ∷ []) (with_let U (linked ts t First))
-    link_first t w = leads_once P C by (with_let U t) (with_let U (linked ts t First)) (On (length ts) (Link First)) (allowed_middle P C by (with_let U t) (Link First) [] t ts (record { way = w })) (changed_middle P C by (with_let U t) (Link First) [] t ts)
+    link_first t w = leads_once P C by (with_let U t) (with_let U (linked ts t First)) (On (length ts) (Link First)) (allowed_middle P C by (with_let U t) (Link First) [] t ts (record { way = w }))
+        (changed_middle P C by (with_let U t) (Link First) [] t ts)
 
     link_second : (t : Tenant) → t.second.way ≡ Rattle.inorder.specs.Tenants.Unlinked → Leads P C by (with_let U t) (On (length ts) (Link Second) ∷ []) (with_let U (linked ts t Second))
-    link_second t w = leads_once P C by (with_let U t) (with_let U (linked ts t Second)) (On (length ts) (Link Second)) (allowed_middle P C by (with_let U t) (Link Second) [] t ts (record { way = w })) (changed_middle P C by (with_let U t) (Link Second) [] t ts)
+    link_second t w = leads_once P C by (with_let U t) (with_let U (linked ts t Second)) (On (length ts) (Link Second))
+        (allowed_middle P C by (with_let U t) (Link Second) [] t ts (record { way = w })) (changed_middle P C by (with_let U t) (Link Second) [] t ts)
 
     go : (x y : Option ℕ) → value_of ts c ≡ x → value_of ts d ≡ y → LetRun P C by U k pr
     go (Some x) (Some y) ex ey =

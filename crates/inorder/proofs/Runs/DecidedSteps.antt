@@ -17,7 +17,8 @@ use Rattle.inorder.specs.Memory.{raw_at}
 use Rattle.inorder.specs.Steps.{CanRetire, HasAddress, IsNoRetiredStop, MayLet, MaySupply}
 use Rattle.inorder.specs.Tenants.{Addr, Done, Fate, IsNotLive, Live, Miss, Retired, Squashed, Standing, Stopped, Tenant, instr, is_access, is_live, is_live_access, kind_of, missing, operand}
 use Rattle.inorder.specs.Unit.{Sizes, UpdateUnit, at, creator, front_half, front_pc, how_many, is_old, next_station, older, recent, value_of, younger}
-use Rattle.inorder.proofs.Runs.Decided.{all, equal, has_address, has_left, if_some_is, if_true, is_apart, is_busy, is_false, is_less, is_linked, is_miss, is_unlinked, links_not, loads, none_of, some_is, some_of, stands_live, stays_open, stores_not, then}
+use Rattle.inorder.proofs.Runs.Decided.{all, equal, has_address, has_left, if_some_is, if_true, is_apart, is_busy, is_false, is_less, is_linked, is_miss, is_unlinked, links_not, loads, none_of}
+use Rattle.inorder.proofs.Runs.Decided.{some_is, some_of, stands_live, stays_open, stores_not, then}
 use Rattle.inorder.proofs.Runs.Examples.{addr_not_stop, done_not_stop, live_not_retired, retired_not_live, squashed_not_live, squashed_not_retired}
 
 -- A let

@@ -20,7 +20,8 @@ returns-in_default-clause-none c =
 pub returns-clause-history : goal.returns-clause-history
 returns-clause-history c =
     let d = c.args.core.now in
-    two_looks d.program d.sizes c.args.seat.now.by c.look-seen.new.seat.by c.args.seat.now.seen c.look-seen.new.seat.seen c.info-index.new.seat.seen c.look-seen.ensures.kept.by c.look-seen.ensures.history c.info-index.ensures.history
+    two_looks d.program d.sizes c.args.seat.now.by c.look-seen.new.seat.by c.args.seat.now.seen c.look-seen.new.seat.seen c.info-index.new.seat.seen c.look-seen.ensures.kept.by
+    c.look-seen.ensures.history c.info-index.ensures.history
 
 pub returns-clause-none : goal.returns-clause-none
 returns-clause-none c =
@@ -34,7 +35,8 @@ returns-clause-none c =
     let index = c.info-index.result.0 in
     let b = subst (λ x. Adds d.program d.sizes x mid.seen new.seen []) (c.look-seen.ensures.kept.by ∙ c.requires.by) c.info-index.ensures.history in
     let is = c.load_at.ensures ∙ ap (λ (Q : Program). load_of_index Q index seen.tag address) c.requires.program in
-    if_none c.load_at.result (NoLoadWaits d.program d.sizes old.seen new.seen c.args.station) (λ e. none_read d.program d.sizes old.seen mid.seen new.seen a b c.args.station seen.tag seen.state seen.value c.look-seen.ensures.reply address (sym c.address.ensures ∙ c.in-Some.is) index (λ q t at_q st live. (c.info-index.ensures.reply.its q t at_q st live).0) (sym is ∙ e))
+    if_none c.load_at.result (NoLoadWaits d.program d.sizes old.seen new.seen c.args.station) (λ e. none_read d.program d.sizes old.seen mid.seen new.seen a b c.args.station seen.tag seen.state
+    seen.value c.look-seen.ensures.reply address (sym c.address.ensures ∙ c.in-Some.is) index (λ q t at_q st live. (c.info-index.ensures.reply.its q t at_q st live).0) (sym is ∙ e))
 
 pub returns-clause-some : goal.returns-clause-some
 returns-clause-some c =
@@ -48,7 +50,8 @@ returns-clause-some c =
     let index = c.info-index.result.0 in
     let b = subst (λ x. Adds d.program d.sizes x mid.seen new.seen []) (c.look-seen.ensures.kept.by ∙ c.requires.by) c.info-index.ensures.history in
     let is = c.load_at.ensures ∙ ap (λ (Q : Program). load_of_index Q index seen.tag address) c.requires.program in
-    if_some c.load_at.result (λ l. SomeWaits d.program d.sizes old.seen new.seen c.args.station l) (λ l e. some_waits d.program d.sizes old.seen mid.seen new.seen a b c.args.station seen.tag seen.state seen.value c.look-seen.ensures.reply address (sym c.address.ensures ∙ c.in-Some.is) index (λ q t at_q st live. (c.info-index.ensures.reply.its q t at_q st live).0) l (sym is ∙ e))
+    if_some c.load_at.result (λ l. SomeWaits d.program d.sizes old.seen new.seen c.args.station l) (λ l e. some_waits d.program d.sizes old.seen mid.seen new.seen a b c.args.station seen.tag
+    seen.state seen.value c.look-seen.ensures.reply address (sym c.address.ensures ∙ c.in-Some.is) index (λ q t at_q st live. (c.info-index.ensures.reply.its q t at_q st live).0) l (sym is ∙ e))
 
 pub returns-clause-inside : goal.returns-clause-inside
 returns-clause-inside c =

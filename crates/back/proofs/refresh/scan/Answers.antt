@@ -61,13 +61,16 @@ loop-at-preserved c =
         kept = kept;
         woken = woken (w.in-Passed.ensures.woken);
         scanned = subst (λ o. Scanned d.program d.sizes back old.seen new.seen head d.sizes.ring (k.at + 1) o) (sym w.blocked-is)
-            (passed_on d.program d.sizes old.seen cur.seen new.seen head d.sizes.ring k.at (k.at + 1) refl k.blocked k.invariant.scanned (subst (λ z. HasPassed d.program d.sizes z cur.seen new.seen (station_behind head d.sizes.ring k.at)) by_cur w.in-Passed.ensures.reply));
+            (passed_on d.program d.sizes old.seen cur.seen new.seen head d.sizes.ring k.at (k.at + 1) refl k.blocked k.invariant.scanned
+            (subst (λ z. HasPassed d.program d.sizes z cur.seen new.seen (station_behind head d.sizes.ring k.at)) by_cur w.in-Passed.ensures.reply));
       }
       | in-Blocked+then-is_none w ↦ record {
         kept = kept;
         woken = woken (w.in-Blocked.ensures.woken);
         scanned = subst (λ o. Scanned d.program d.sizes back old.seen new.seen head d.sizes.ring (k.at + 1) o) ((λ i. Some ((head + k.at) % sym ring i, w.in-Blocked.store)) ∙ sym w.blocked-is)
-            (held_first d.program d.sizes old.seen cur.seen new.seen head d.sizes.ring k.at (k.at + 1) refl k.blocked k.invariant.scanned w.in-Blocked.store (subst (λ z. HasHeldBack d.program d.sizes z cur.seen new.seen (station_behind head d.sizes.ring k.at) w.in-Blocked.store) by_cur w.in-Blocked.ensures.reply) (is_nothing k.blocked w.is_none.result w.is_none.ensures w.if-is_none.true));
+            (held_first d.program d.sizes old.seen cur.seen new.seen head d.sizes.ring k.at (k.at + 1) refl k.blocked k.invariant.scanned w.in-Blocked.store
+            (subst (λ z. HasHeldBack d.program d.sizes z cur.seen new.seen (station_behind head d.sizes.ring k.at) w.in-Blocked.store) by_cur w.in-Blocked.ensures.reply)
+            (is_nothing k.blocked w.is_none.result w.is_none.ensures w.if-is_none.true));
       }
       | in-Blocked+else-is_none w ↦ (
           let b = is_something k.blocked w.is_none.result w.is_none.ensures w.if-is_none.false in
@@ -75,7 +78,8 @@ loop-at-preserved c =
             kept = kept;
             woken = woken (w.in-Blocked.ensures.woken);
             scanned = subst (λ o. Scanned d.program d.sizes back old.seen new.seen head d.sizes.ring (k.at + 1) o) (sym w.blocked-is)
-                (held_more d.program d.sizes old.seen cur.seen new.seen head d.sizes.ring k.at (k.at + 1) refl k.blocked k.invariant.scanned w.in-Blocked.store (subst (λ z. HasHeldBack d.program d.sizes z cur.seen new.seen (station_behind head d.sizes.ring k.at) w.in-Blocked.store) by_cur w.in-Blocked.ensures.reply) b.0 b.1);
+                (held_more d.program d.sizes old.seen cur.seen new.seen head d.sizes.ring k.at (k.at + 1) refl k.blocked k.invariant.scanned w.in-Blocked.store
+                (subst (λ z. HasHeldBack d.program d.sizes z cur.seen new.seen (station_behind head d.sizes.ring k.at) w.in-Blocked.store) by_cur w.in-Blocked.ensures.reply) b.0 b.1);
           })
     ]
 

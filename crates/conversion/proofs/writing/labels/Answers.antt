@@ -9,5 +9,6 @@ instructions-preserved c =
     let all = c.instructions.invariant.0 in
     let it = c.instr-item in (
       c.mark.ensures.length ∙ all,
-      marks_more c.instructions.marks.items c.mark.new.marks.items (length c.args.code.now) c.instructions.instr-index c.args.code.now it.result c.instructions-test.true c.instructions.invariant.1 kept (rw (← it.is) (rw all at new)),
+      marks_more c.instructions.marks.items c.mark.new.marks.items (length c.args.code.now) c.instructions.instr-index c.args.code.now it.result c.instructions-test.true c.instructions.invariant.1
+          kept (rw (← it.is) (rw all at new)),
     )

@@ -15,7 +15,8 @@ pub returns-in-Err-clause-knows : goal.returns-in-Err-clause-knows
 returns-in-Err-clause-knows g c =
     let P = c.args.core.now.program in
     let C = c.args.core.now.sizes in
-    stays P C (λ U. FrontKnows P C U c.args.path.now.records c.args.path.now.base) (knows_stable P C c.args.path.now.records c.args.path.now.base) c.args.seat.now.seen c.fetch.new.seat.seen c.fetch.ensures.history c.requires.knows
+    stays P C (λ U. FrontKnows P C U c.args.path.now.records c.args.path.now.base) (knows_stable P C c.args.path.now.records c.args.path.now.base) c.args.seat.now.seen c.fetch.new.seat.seen
+    c.fetch.ensures.history c.requires.knows
 
 pub dispatch-tag-requires-clause-ready : goal.dispatch-tag-requires-clause-ready
 dispatch-tag-requires-clause-ready g c =
@@ -33,21 +34,29 @@ pub returns-clause-reply : goal.returns-clause-reply
 returns-clause-reply g c =
     let P = c.args.core.now.program in
     let C = c.args.core.now.sizes in
-    is_let g.P.Predictor.Predicts g.P.Predictor.Learns P C c.args.seat.now.seen c.fetch.new.seat.seen c.dispatch-tag.new.seat.seen c.args.path.now.records c.args.path.now.base c.requires.knows c.fetch.ensures.history c.in-Ok.next c.in-Ok.ensures.ok.oldest c.ring.result c.ring.ensures.value c.args.path.now c.release-left.new.self refl c.guess-predicted.result c.dispatch-tag.result c.dispatch-tag.ensures.reply c.release-left.result c.release-left.ensures.reply c.args.predictor.now c.guess-predicted.new.predictor c.guess-predicted.ensures
+    is_let g.P.Predictor.Predicts g.P.Predictor.Learns P C c.args.seat.now.seen c.fetch.new.seat.seen c.dispatch-tag.new.seat.seen c.args.path.now.records c.args.path.now.base c.requires.knows
+    c.fetch.ensures.history c.in-Ok.next c.in-Ok.ensures.ok.oldest c.ring.result c.ring.ensures.value c.args.path.now c.release-left.new.self refl c.guess-predicted.result c.dispatch-tag.result
+    c.dispatch-tag.ensures.reply c.release-left.result c.release-left.ensures.reply c.args.predictor.now c.guess-predicted.new.predictor c.guess-predicted.ensures
 
 pub returns-in-Err-clause-table : goal.returns-in-Err-clause-table
 returns-in-Err-clause-table g c =
     let P = c.args.core.now.program in
     let C = c.args.core.now.sizes in
-    stays P C (λ U. HasTable P U (rested_at c.args.path.now.base) c.args.creators.now.table) (table_stable P C (rested_at c.args.path.now.base) c.args.creators.now.table) c.args.seat.now.seen c.fetch.new.seat.seen c.fetch.ensures.history c.requires.table
+    stays P C (λ U. HasTable P U (rested_at c.args.path.now.base) c.args.creators.now.table) (table_stable P C (rested_at c.args.path.now.base) c.args.creators.now.table) c.args.seat.now.seen
+    c.fetch.new.seat.seen c.fetch.ensures.history c.requires.table
 
 pub dispatch-tag-requires-clause-table : goal.dispatch-tag-requires-clause-table
 dispatch-tag-requires-clause-table g c =
     let P = c.args.core.now.program in
     let C = c.args.core.now.sizes in
     let h = c.fetch.new.seat.seen in
-    subst (λ (z : ℕ × Table). HasTable P (unit_of P C h) z.0 z.1) (λ i. (sym (released_told c.ring.result c.in-Ok.next.left c.args.path.now c.release-left.result c.release-left.new.self c.release-left.ensures.reply) i, sym c.release-left.ensures.table i))
-    (stays P C (λ U. HasTable P U (rested_at c.args.path.now.base) c.args.creators.now.table) (table_stable P C (rested_at c.args.path.now.base) c.args.creators.now.table) c.args.seat.now.seen h c.fetch.ensures.history c.requires.table)
+    subst (λ (z : ℕ × Table). HasTable P (unit_of P C h) z.0 z.1) (λ i. (
+      sym (released_told c.ring.result c.in-Ok.next.left c.args.path.now c.release-left.result c.release-left.new.self
+          c.release-left.ensures.reply) i,
+      sym c.release-left.ensures.table i,
+    ))
+    (stays P C (λ U. HasTable P U (rested_at c.args.path.now.base) c.args.creators.now.table) (table_stable P C (rested_at c.args.path.now.base) c.args.creators.now.table) c.args.seat.now.seen h
+    c.fetch.ensures.history c.requires.table)
 
 pub returns-clause-touched : goal.returns-clause-touched
 returns-clause-touched g c =

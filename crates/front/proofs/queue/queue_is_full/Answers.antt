@@ -51,5 +51,8 @@ returns-clause-reply c =
     let base = c.args.path.now.base in
     let adds : Adds P C front old h [] = subst (λ i. Adds P C i old h []) c.requires.by c.look-seen.ensures.history in
     let knows : FrontKnows P C (unit_of P C h) records base = stays P C (λ U. FrontKnows P C U records base) (knows_stable P C records base) old h adds c.requires.knows in
-    let whole : suc (c.queue-queue.result - 1) ≡ C.queue = omega (arith, c.queue-queue.ensures, c.if-queue-eq0.false) in
-    (sym c.reaches_memory.ensures ∙ c.if-not-reaches_memory.false, full_there P C h adds.legal records base knows _ c.in-Some.record c.in-Some.ensures c.look-seen.result c.look-seen.ensures.reply c.in_default-state.not-Free whole)
+    let whole : suc (c.queue-queue.result - 1) ≡ C.queue = omega (arith, c.queue-queue.ensures, c.if-queue-eq0.false) in (
+      sym c.reaches_memory.ensures ∙ c.if-not-reaches_memory.false,
+      full_there P C h adds.legal records base knows _ c.in-Some.record c.in-Some.ensures c.look-seen.result c.look-seen.ensures.reply
+          c.in_default-state.not-Free whole,
+    )

@@ -15,7 +15,8 @@ look-seen-requires-clause-station c =
     let P = c.args.core.now.program in
     let C = c.args.core.now.sizes in
     let inv = c.loop-at.invariant in
-    all_get (λ x. x.station < C.ring) c.args.path.now.records (small_stations P C c.loop-at.seat.seen inv.adds.legal c.args.path.now.records c.args.path.now.base _ inv.knows (omega (arith, c.requires.least))) c.loop-at.at c.in-Some.record (sym c.at.ensures ∙ c.in-Some.is)
+    all_get (λ x. x.station < C.ring) c.args.path.now.records (small_stations P C c.loop-at.seat.seen inv.adds.legal c.args.path.now.records c.args.path.now.base _ inv.knows
+    (omega (arith, c.requires.least))) c.loop-at.at c.in-Some.record (sym c.at.ensures ∙ c.in-Some.is)
 
 pub returns-in-Miss-clause-history : goal.returns-in-Miss-clause-history
 returns-in-Miss-clause-history c =
@@ -64,5 +65,6 @@ loop-at-preserved c =
       same = record { core = kept.core ∙ inv.same.core; by = kept.by ∙ inv.same.by };
       adds = both;
       knows = stays P C (λ U. FrontKnows P C U records base) (knows_stable P C records base) c.loop-at.seat.seen new mine inv.knows;
-      none = all_one_more _ records c.loop-at.at c.in-Some.record inv.none (sym c.at.ensures ∙ c.in-Some.is) (was_none P C old new c.in-Some.record c.look-seen.result both c.look-seen.ensures.reply c.in_default-state.not-Miss);
+      none = all_one_more _ records c.loop-at.at c.in-Some.record inv.none (sym c.at.ensures ∙ c.in-Some.is)
+          (was_none P C old new c.in-Some.record c.look-seen.result both c.look-seen.ensures.reply c.in_default-state.not-Miss);
     }

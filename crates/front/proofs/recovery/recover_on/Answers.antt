@@ -14,24 +14,31 @@ use Rattle.front.specs.CreateTable.{HasTable}
 use Rattle.front.proofs.recovery.recover_on.Goals as goal
 
 pub returns-in_default-clause-reply : goal.returns-in_default-clause-reply
-returns-in_default-clause-reply c = (c.find_miss.ensures.history, no_miss c.args.core.now.program c.args.core.now.sizes c.args.seat.now.seen c.requires.legal c.args.path.now.records c.args.path.now.base c.requires.knows c.in_default.ensures.reply)
+returns-in_default-clause-reply c = (
+  c.find_miss.ensures.history,
+  no_miss c.args.core.now.program c.args.core.now.sizes c.args.seat.now.seen c.requires.legal c.args.path.now.records
+      c.args.path.now.base c.requires.knows c.in_default.ensures.reply,
+)
 
 pub returns-in_default-clause-knows : goal.returns-in_default-clause-knows
 returns-in_default-clause-knows c =
     let P = c.args.core.now.program in
     let C = c.args.core.now.sizes in
-    stays P C (λ U. FrontKnows P C U c.args.path.now.records c.args.path.now.base) (knows_stable P C c.args.path.now.records c.args.path.now.base) c.args.seat.now.seen c.find_miss.new.seat.seen c.find_miss.ensures.history c.requires.knows
+    stays P C (λ U. FrontKnows P C U c.args.path.now.records c.args.path.now.base) (knows_stable P C c.args.path.now.records c.args.path.now.base) c.args.seat.now.seen c.find_miss.new.seat.seen
+    c.find_miss.ensures.history c.requires.knows
 
 pub squash_behind-squashed-requires-clause-knows : goal.squash_behind-squashed-requires-clause-knows
 squash_behind-squashed-requires-clause-knows c =
     let P = c.args.core.now.program in
     let C = c.args.core.now.sizes in
-    stays P C (λ U. FrontKnows P C U c.args.path.now.records c.args.path.now.base) (knows_stable P C c.args.path.now.records c.args.path.now.base) c.args.seat.now.seen c.find_miss.new.seat.seen c.find_miss.ensures.history c.requires.knows
+    stays P C (λ U. FrontKnows P C U c.args.path.now.records c.args.path.now.base) (knows_stable P C c.args.path.now.records c.args.path.now.base) c.args.seat.now.seen c.find_miss.new.seat.seen
+    c.find_miss.ensures.history c.requires.knows
 
 pub mend-requires-clause-miss : goal.mend-requires-clause-miss
 mend-requires-clause-miss c =
     let s = c.squash_behind-squashed in
-    mend_allowed c.args.core.now.program c.args.core.now.sizes s.new.seat.seen s.ensures.history.adds.legal s.new.path.records s.new.path.base s.ensures.knows c.in-Some.missed s.ensures.miss s.ensures.last
+    mend_allowed c.args.core.now.program c.args.core.now.sizes s.new.seat.seen s.ensures.history.adds.legal s.new.path.records s.new.path.base s.ensures.knows c.in-Some.missed s.ensures.miss
+    s.ensures.last
 
 pub returns-clause-reply : goal.returns-clause-reply
 returns-clause-reply c =
@@ -61,7 +68,8 @@ pub returns-in_default-clause-table : goal.returns-in_default-clause-table
 returns-in_default-clause-table c =
     let P = c.args.core.now.program in
     let C = c.args.core.now.sizes in
-    stays P C (λ U. HasTable P U (rested_at c.args.path.now.base) c.args.creators.now.table) (table_stable P C (rested_at c.args.path.now.base) c.args.creators.now.table) c.args.seat.now.seen c.find_miss.new.seat.seen c.find_miss.ensures.history c.requires.table
+    stays P C (λ U. HasTable P U (rested_at c.args.path.now.base) c.args.creators.now.table) (table_stable P C (rested_at c.args.path.now.base) c.args.creators.now.table) c.args.seat.now.seen
+    c.find_miss.new.seat.seen c.find_miss.ensures.history c.requires.table
 
 pub returns-in_default-clause-touched : goal.returns-in_default-clause-touched
 returns-in_default-clause-touched c = touched_none _ _ _ refl
@@ -70,7 +78,8 @@ pub squash_behind-squashed-requires-clause-table : goal.squash_behind-squashed-r
 squash_behind-squashed-requires-clause-table c =
     let P = c.args.core.now.program in
     let C = c.args.core.now.sizes in
-    stays P C (λ U. HasTable P U (rested_at c.args.path.now.base) c.args.creators.now.table) (table_stable P C (rested_at c.args.path.now.base) c.args.creators.now.table) c.args.seat.now.seen c.find_miss.new.seat.seen c.find_miss.ensures.history c.requires.table
+    stays P C (λ U. HasTable P U (rested_at c.args.path.now.base) c.args.creators.now.table) (table_stable P C (rested_at c.args.path.now.base) c.args.creators.now.table) c.args.seat.now.seen
+    c.find_miss.new.seat.seen c.find_miss.ensures.history c.requires.table
 
 pub returns-clause-table : goal.returns-clause-table
 returns-clause-table c =

@@ -47,13 +47,15 @@ loop-missed-preserved c =
       core = kept.core ∙ inv.core;
       same = record { core = kept.core ∙ inv.same.core; by = kept.by ∙ inv.same.by };
       legal = done.adds.legal;
-      cut = cut_more P C c.args.seat.now.seen old new (c.len-all.result - length records) (c.len-all.result - length c.pop.new.self) inv.cut done.p done.adds (omega (arith, inv.fewer, long, whole, left));
+      cut = cut_more P C c.args.seat.now.seen old new (c.len-all.result - length records) (c.len-all.result - length c.pop.new.self) inv.cut done.p done.adds
+          (omega (arith, inv.fewer, long, whole, left));
       knows = subst (λ z. FrontKnows P C (unit_of P C new) z base) (sym same) done.knows;
       miss = subst (λ z. IsMissAt P C new z m) (sym same) done.miss;
       long = omega (arith, many, long, whole, left);
       kept = ap (take (m.at + 1)) same ∙ (sym (take_fewer one.rest one.last (m.at + 1) (omega (arith, many, long, whole))) ∙ (ap (take (m.at + 1)) (sym one.is) ∙ inv.kept));
       fewer = omega (arith, inv.fewer, long, whole, left);
-      table = squash_table_done P C old new one.rest one.last base knows c.squash-station.result.0 c.squash-station.result.1 squashed c.loop-missed.creators.table c.restore.new.self.table inv.table c.restore.ensures.table;
+      table = squash_table_done P C old new one.rest one.last base knows c.squash-station.result.0 c.squash-station.result.1 squashed c.loop-missed.creators.table c.restore.new.self.table inv.table
+          c.restore.ensures.table;
       base = inv.base;
       touched = touched_within _ _ _ _ (omega (arith, inv.fewer, long, whole, left)) (touched_more _ _ _ _ _ inv.touched c.restore.ensures.touched);
     }

@@ -30,7 +30,8 @@ look-seen-requires-clause-station g c =
     let U = unit_of P C c.args.seat.now.seen in
     let records = c.args.path.now.records in
     let base = c.args.path.now.base in
-    all_get (λ x. x.station < C.ring) records (small_stations P C c.args.seat.now.seen c.requires.legal records base (IsFolded U (rested_at base)) c.requires.knows (omega (arith, c.ring-ring.ensures.value, c.ring-ring.ensures.least))) (length records - 1) c.in-Some.youngest (sym c.last.ensures ∙ c.in-Some.is)
+    all_get (λ x. x.station < C.ring) records (small_stations P C c.args.seat.now.seen c.requires.legal records base (IsFolded U (rested_at base)) c.requires.knows
+    (omega (arith, c.ring-ring.ensures.value, c.ring-ring.ensures.least))) (length records - 1) c.in-Some.youngest (sym c.last.ensures ∙ c.in-Some.is)
 
 pub returns-in_default-state : goal.returns-in_default-state
 returns-in_default-state g c =
@@ -61,24 +62,29 @@ fold_all-requires-clause-folding g c =
     let seen : HasSeen c.args.core.now c.args.seat.now c.match-last.seat = elim c.match-last.branch [
       | in-Some+in-Free w ↦
           let mine : Adds c.args.core.now.program c.args.core.now.sizes front c.args.seat.now.seen w.look-seen.new.seat.seen [] = subst (λ i. Adds c.args.core.now.program c.args.core.now.sizes i c.args.seat.now.seen w.look-seen.new.seat.seen []) c.requires.by w.look-seen.ensures.history in
-          subst (HasSeen c.args.core.now c.args.seat.now) (sym w.seat-is) (seen_free c.args.core.now c.args.seat.now w.look-seen.new.seat w.look-seen.ensures.kept c.args.path.now c.requires.knows mine w.in-Some.youngest (sym c.last.ensures ∙ w.in-Some.is) w.look-seen.result w.look-seen.ensures.reply w.in-Free.is)
+          subst (HasSeen c.args.core.now c.args.seat.now) (sym w.seat-is) (seen_free c.args.core.now c.args.seat.now w.look-seen.new.seat w.look-seen.ensures.kept c.args.path.now c.requires.knows mine
+          w.in-Some.youngest (sym c.last.ensures ∙ w.in-Some.is) w.look-seen.result w.look-seen.ensures.reply w.in-Free.is)
       | in_default w ↦
-          subst (HasSeen c.args.core.now c.args.seat.now) (sym w.seat-is) (seen_none c.args.core.now c.args.seat.now c.args.seat.now (record { core = refl; by = refl }) c.args.path.now c.requires.knows (record { begins = record { more = []; is = refl }; legal = c.requires.legal; mine = refl; one_table = refl }) (sym c.last.ensures ∙ w.in_default.is))
+          subst (HasSeen c.args.core.now c.args.seat.now) (sym w.seat-is) (seen_none c.args.core.now c.args.seat.now c.args.seat.now (record { core = refl; by = refl }) c.args.path.now
+          c.requires.knows (record { begins = record { more = []; is = refl }; legal = c.requires.legal; mine = refl; one_table = refl }) (sym c.last.ensures ∙ w.in_default.is))
     ] in
     let P = c.args.core.now.program in
     let C = c.args.core.now.sizes in
     let path = c.args.path.now in
     let knows = stays P C (λ U. FrontKnows P C U path.records path.base) (knows_stable P C path.records path.base) c.args.seat.now.seen c.match-last.seat.seen seen.adds c.requires.knows in
-    folding_begins c.args.core.now c.match-last.seat.seen seen.adds.legal path knows c.ring-ring.result c.ring-ring.ensures.value (omega (arith, c.ring-ring.ensures.value, c.ring-ring.ensures.least)) c.keep_front.new.self c.keep_front.ensures.records c.keep_front.ensures.base
+    folding_begins c.args.core.now c.match-last.seat.seen seen.adds.legal path knows c.ring-ring.result c.ring-ring.ensures.value (omega (arith, c.ring-ring.ensures.value, c.ring-ring.ensures.least))
+    c.keep_front.new.self c.keep_front.ensures.records c.keep_front.ensures.base
 
 pub fold_all-requires-clause-nobody : goal.fold_all-requires-clause-nobody
 fold_all-requires-clause-nobody g c =
     let seen : HasSeen c.args.core.now c.args.seat.now c.match-last.seat = elim c.match-last.branch [
       | in-Some+in-Free w ↦
           let mine : Adds c.args.core.now.program c.args.core.now.sizes front c.args.seat.now.seen w.look-seen.new.seat.seen [] = subst (λ i. Adds c.args.core.now.program c.args.core.now.sizes i c.args.seat.now.seen w.look-seen.new.seat.seen []) c.requires.by w.look-seen.ensures.history in
-          subst (HasSeen c.args.core.now c.args.seat.now) (sym w.seat-is) (seen_free c.args.core.now c.args.seat.now w.look-seen.new.seat w.look-seen.ensures.kept c.args.path.now c.requires.knows mine w.in-Some.youngest (sym c.last.ensures ∙ w.in-Some.is) w.look-seen.result w.look-seen.ensures.reply w.in-Free.is)
+          subst (HasSeen c.args.core.now c.args.seat.now) (sym w.seat-is) (seen_free c.args.core.now c.args.seat.now w.look-seen.new.seat w.look-seen.ensures.kept c.args.path.now c.requires.knows mine
+          w.in-Some.youngest (sym c.last.ensures ∙ w.in-Some.is) w.look-seen.result w.look-seen.ensures.reply w.in-Free.is)
       | in_default w ↦
-          subst (HasSeen c.args.core.now c.args.seat.now) (sym w.seat-is) (seen_none c.args.core.now c.args.seat.now c.args.seat.now (record { core = refl; by = refl }) c.args.path.now c.requires.knows (record { begins = record { more = []; is = refl }; legal = c.requires.legal; mine = refl; one_table = refl }) (sym c.last.ensures ∙ w.in_default.is))
+          subst (HasSeen c.args.core.now c.args.seat.now) (sym w.seat-is) (seen_none c.args.core.now c.args.seat.now c.args.seat.now (record { core = refl; by = refl }) c.args.path.now
+          c.requires.knows (record { begins = record { more = []; is = refl }; legal = c.requires.legal; mine = refl; one_table = refl }) (sym c.last.ensures ∙ w.in_default.is))
     ] in
     seen.nobody
 
@@ -87,9 +93,11 @@ returns-clause-reply g c =
     let seen : HasSeen c.args.core.now c.args.seat.now c.match-last.seat = elim c.match-last.branch [
       | in-Some+in-Free w ↦
           let mine : Adds c.args.core.now.program c.args.core.now.sizes front c.args.seat.now.seen w.look-seen.new.seat.seen [] = subst (λ i. Adds c.args.core.now.program c.args.core.now.sizes i c.args.seat.now.seen w.look-seen.new.seat.seen []) c.requires.by w.look-seen.ensures.history in
-          subst (HasSeen c.args.core.now c.args.seat.now) (sym w.seat-is) (seen_free c.args.core.now c.args.seat.now w.look-seen.new.seat w.look-seen.ensures.kept c.args.path.now c.requires.knows mine w.in-Some.youngest (sym c.last.ensures ∙ w.in-Some.is) w.look-seen.result w.look-seen.ensures.reply w.in-Free.is)
+          subst (HasSeen c.args.core.now c.args.seat.now) (sym w.seat-is) (seen_free c.args.core.now c.args.seat.now w.look-seen.new.seat w.look-seen.ensures.kept c.args.path.now c.requires.knows mine
+          w.in-Some.youngest (sym c.last.ensures ∙ w.in-Some.is) w.look-seen.result w.look-seen.ensures.reply w.in-Free.is)
       | in_default w ↦
-          subst (HasSeen c.args.core.now c.args.seat.now) (sym w.seat-is) (seen_none c.args.core.now c.args.seat.now c.args.seat.now (record { core = refl; by = refl }) c.args.path.now c.requires.knows (record { begins = record { more = []; is = refl }; legal = c.requires.legal; mine = refl; one_table = refl }) (sym c.last.ensures ∙ w.in_default.is))
+          subst (HasSeen c.args.core.now c.args.seat.now) (sym w.seat-is) (seen_none c.args.core.now c.args.seat.now c.args.seat.now (record { core = refl; by = refl }) c.args.path.now
+          c.requires.knows (record { begins = record { more = []; is = refl }; legal = c.requires.legal; mine = refl; one_table = refl }) (sym c.last.ensures ∙ w.in_default.is))
     ] in
     let P = c.args.core.now.program in
     let C = c.args.core.now.sizes in
@@ -110,9 +118,11 @@ returns-clause-knows g c =
     let seen : HasSeen c.args.core.now c.args.seat.now c.match-last.seat = elim c.match-last.branch [
       | in-Some+in-Free w ↦
           let mine : Adds c.args.core.now.program c.args.core.now.sizes front c.args.seat.now.seen w.look-seen.new.seat.seen [] = subst (λ i. Adds c.args.core.now.program c.args.core.now.sizes i c.args.seat.now.seen w.look-seen.new.seat.seen []) c.requires.by w.look-seen.ensures.history in
-          subst (HasSeen c.args.core.now c.args.seat.now) (sym w.seat-is) (seen_free c.args.core.now c.args.seat.now w.look-seen.new.seat w.look-seen.ensures.kept c.args.path.now c.requires.knows mine w.in-Some.youngest (sym c.last.ensures ∙ w.in-Some.is) w.look-seen.result w.look-seen.ensures.reply w.in-Free.is)
+          subst (HasSeen c.args.core.now c.args.seat.now) (sym w.seat-is) (seen_free c.args.core.now c.args.seat.now w.look-seen.new.seat w.look-seen.ensures.kept c.args.path.now c.requires.knows mine
+          w.in-Some.youngest (sym c.last.ensures ∙ w.in-Some.is) w.look-seen.result w.look-seen.ensures.reply w.in-Free.is)
       | in_default w ↦
-          subst (HasSeen c.args.core.now c.args.seat.now) (sym w.seat-is) (seen_none c.args.core.now c.args.seat.now c.args.seat.now (record { core = refl; by = refl }) c.args.path.now c.requires.knows (record { begins = record { more = []; is = refl }; legal = c.requires.legal; mine = refl; one_table = refl }) (sym c.last.ensures ∙ w.in_default.is))
+          subst (HasSeen c.args.core.now c.args.seat.now) (sym w.seat-is) (seen_none c.args.core.now c.args.seat.now c.args.seat.now (record { core = refl; by = refl }) c.args.path.now
+          c.requires.knows (record { begins = record { more = []; is = refl }; legal = c.requires.legal; mine = refl; one_table = refl }) (sym c.last.ensures ∙ w.in_default.is))
     ] in
     let v = c.fold_all.new.seat in
     let here : v.core ≡ c.args.core.now = c.fold_all.ensures.kept.core ∙ (seen.same.core ∙ c.requires.core) in
@@ -125,12 +135,15 @@ returns-clause-table g c =
     let seen : HasSeen c.args.core.now c.args.seat.now c.match-last.seat = elim c.match-last.branch [
       | in-Some+in-Free w ↦
           let mine : Adds c.args.core.now.program c.args.core.now.sizes front c.args.seat.now.seen w.look-seen.new.seat.seen [] = subst (λ i. Adds c.args.core.now.program c.args.core.now.sizes i c.args.seat.now.seen w.look-seen.new.seat.seen []) c.requires.by w.look-seen.ensures.history in
-          subst (HasSeen c.args.core.now c.args.seat.now) (sym w.seat-is) (seen_free c.args.core.now c.args.seat.now w.look-seen.new.seat w.look-seen.ensures.kept c.args.path.now c.requires.knows mine w.in-Some.youngest (sym c.last.ensures ∙ w.in-Some.is) w.look-seen.result w.look-seen.ensures.reply w.in-Free.is)
+          subst (HasSeen c.args.core.now c.args.seat.now) (sym w.seat-is) (seen_free c.args.core.now c.args.seat.now w.look-seen.new.seat w.look-seen.ensures.kept c.args.path.now c.requires.knows mine
+          w.in-Some.youngest (sym c.last.ensures ∙ w.in-Some.is) w.look-seen.result w.look-seen.ensures.reply w.in-Free.is)
       | in_default w ↦
-          subst (HasSeen c.args.core.now c.args.seat.now) (sym w.seat-is) (seen_none c.args.core.now c.args.seat.now c.args.seat.now (record { core = refl; by = refl }) c.args.path.now c.requires.knows (record { begins = record { more = []; is = refl }; legal = c.requires.legal; mine = refl; one_table = refl }) (sym c.last.ensures ∙ w.in_default.is))
+          subst (HasSeen c.args.core.now c.args.seat.now) (sym w.seat-is) (seen_none c.args.core.now c.args.seat.now c.args.seat.now (record { core = refl; by = refl }) c.args.path.now
+          c.requires.knows (record { begins = record { more = []; is = refl }; legal = c.requires.legal; mine = refl; one_table = refl }) (sym c.last.ensures ∙ w.in_default.is))
     ] in
     let v = c.fold_all.new.seat in
     let here : v.core ≡ c.args.core.now = c.fold_all.ensures.kept.core ∙ (seen.same.core ∙ c.requires.core) in
     let new : Path = record { records = c.fold_all.new.path.records; base = record c.fold_all.new.path.base { rested = c.of.result } } in
     let told : rested_at new.base ≡ length (unit_of c.args.core.now.program c.args.core.now.sizes v.seen).tenants = ap (λ (z : Caller). length (unit_of z.core.program z.core.sizes z.seen).tenants) c.of.ensures ∙ ap (λ (z : TheCore). length (unit_of z.program z.sizes v.seen).tenants) here in
-    forgotten c.args.core.now.program (unit_of c.args.core.now.program c.args.core.now.sizes v.seen) (rested_at new.base) c.forget.new.self.counted.table told c.forget.ensures.entries (ap (λ z. length z) c.forget.ensures.latest ∙ c.requires.table.deep)
+    forgotten c.args.core.now.program (unit_of c.args.core.now.program c.args.core.now.sizes v.seen) (rested_at new.base) c.forget.new.self.counted.table told c.forget.ensures.entries
+    (ap (λ z. length z) c.forget.ensures.latest ∙ c.requires.table.deep)

@@ -10,4 +10,5 @@ instr-instr-requires c =
     let claimed = c.in-Job.ensures.reply in
     let t = claimed.holds.tenant in
     let index_is : t.tenant.index ≡ c.in-Job.job.index = ap (λ (z : JobFields). z.index) t.fact.fields_are in
-    subst (λ (z : Program × ℕ). z.1 < length z.0.code) (λ i. (sym c.requires.program i, index_is i)) (inside core.program core.sizes c.claim.new.seat.seen claimed.adds.legal claimed.holds.p t.tenant t.is)
+    subst (λ (z : Program × ℕ). z.1 < length z.0.code) (λ i. (sym c.requires.program i, index_is i))
+    (inside core.program core.sizes c.claim.new.seat.seen claimed.adds.legal claimed.holds.p t.tenant t.is)

@@ -111,7 +111,8 @@ commit_tenant-self-inside-requires-clause-inside g c =
     let found = ap (instr_at b.program) (sym c.pc-pc.ensures) ∙ (sym c.fetch.ensures ∙ c.in-Some-fetch.is) in
     let r = c.in-Retired in
     let did = subst (λ (d : TheCore). IsRetired d.program d.sizes b.seat.by b.seat.seen c.retire.new.seat.seen r.station r.tag r.index r.half r.last) (sym core) r.ensures.reply in
-    did_inside g.J.Naming.program b.program b.committed b.low b.head b.publisher b.seat c.retire.new.seat c.retire.ensures.kept.core c.retire.ensures.kept.by k c.in-Some-fetch.instr found r.station r.tag r.index r.half r.last did
+    did_inside g.J.Naming.program b.program b.committed b.low b.head b.publisher b.seat c.retire.new.seat c.retire.ensures.kept.core c.retire.ensures.kept.by k c.in-Some-fetch.instr found r.station
+    r.tag r.index r.half r.last did
 
 pub invariant_of-self-2 : goal.invariant_of-self-2
 invariant_of-self-2 g c =
@@ -123,7 +124,8 @@ invariant_of-self-2 g c =
     let did = subst (λ (d : TheCore). IsRetired d.program d.sizes b.seat.by b.seat.seen c.retire.new.seat.seen r.station r.tag r.index r.half r.last) (sym core) r.ensures.reply in
     let kept = retired_kept g.J.Naming.program b.program b.committed b.low b.head b.publisher b.seat c.retire.new.seat c.retire.ensures.kept.core c.retire.ensures.kept.by k c.in-Some-fetch.instr found r.station r.tag r.index r.half r.last did in
     let ring = sym (c.ring-ring.ensures.value ∙ sym (ap (λ (d : TheCore). d.sizes.ring) core)) in
-    kept_as g.J.Naming.program c.retire.new.seat b.program _ _ _ _ b.head b.seat.core.sizes.ring c.ring-ring.result _ _ b.publisher kept (sym c.commit_tenant-self-inside.ensures.state) (sym c.commit_tenant-self-inside.ensures.low) ring (sym c.stop-self-inside.ensures)
+    kept_as g.J.Naming.program c.retire.new.seat b.program _ _ _ _ b.head b.seat.core.sizes.ring c.ring-ring.result _ _ b.publisher kept (sym c.commit_tenant-self-inside.ensures.state)
+    (sym c.commit_tenant-self-inside.ensures.low) ring (sym c.stop-self-inside.ensures)
 
 pub returns-clause-reply : goal.returns-clause-reply
 returns-clause-reply g c =
@@ -140,13 +142,21 @@ returns-clause-reply g c =
       | in-Some-default w ↦
           subst (CommitAnswers c.args.self.now (back_of c.retire.new.seat c.stop-self-inside.result b.publisher)) (sym w.result-is)
           (subst (λ (s : TheBack × TheBack). HasEndedWith s.0 s.1 w.in-Some-default.code) (λ i. (old i, new i))
-          (did_end g.J.Naming.program b.program b.committed b.low b.head b.publisher b.seat c.retire.new.seat c.retire.ensures.kept.core c.retire.ensures.kept.by k c.in-Some-fetch.instr found r.station r.tag r.index r.half r.last did w.in-Some-default.code (sym c.stop-self-inside.ensures ∙ w.in-Some-default.is-0)))
+          (did_end g.J.Naming.program b.program b.committed b.low b.head b.publisher b.seat c.retire.new.seat c.retire.ensures.kept.core c.retire.ensures.kept.by k c.in-Some-fetch.instr found
+          r.station r.tag r.index r.half r.last did w.in-Some-default.code (sym c.stop-self-inside.ensures ∙ w.in-Some-default.is-0)))
       | in-None-Some w ↦
           subst (CommitAnswers c.args.self.now (back_of c.retire.new.seat c.stop-self-inside.result b.publisher)) (sym w.result-is)
           (subst (λ (s : TheBack × TheBack × ℕ). HasHalved s.0 s.1 s.2) (λ i. (old i, new i, sym c.pc-pc.ensures i))
-          (did_half g.J.Naming.program b.program b.committed b.low b.head b.publisher b.seat c.retire.new.seat c.retire.ensures.kept.core c.retire.ensures.kept.by k c.in-Some-fetch.instr found r.station r.tag r.index r.half r.last did w.in-None-Some.field-0-1 (sym committed.low ∙ w.in-None-Some.is-1)))
+          (did_half g.J.Naming.program b.program b.committed b.low b.head b.publisher b.seat c.retire.new.seat c.retire.ensures.kept.core c.retire.ensures.kept.by k c.in-Some-fetch.instr found
+          r.station r.tag r.index r.half r.last did w.in-None-Some.field-0-1 (sym committed.low ∙ w.in-None-Some.is-1)))
       | in-None-None w ↦
           subst (CommitAnswers c.args.self.now (back_of c.retire.new.seat c.stop-self-inside.result b.publisher)) (sym w.result-is)
-          (subst (λ (s : TheBack × TheBack × ℕ × ℕ). HasCommitted s.0 s.1 s.2 s.3) (λ i. (old i, new i, sym c.pc-pc.ensures i, (ap (λ (z : State). z.count) (sym committed.state) ∙ sym w.count.ensures) i))
-          (did_commit g.J.Naming.program b.program b.committed b.low b.head b.publisher b.seat c.retire.new.seat c.retire.ensures.kept.core c.retire.ensures.kept.by k c.in-Some-fetch.instr found r.station r.tag r.index r.half r.last did (sym committed.low ∙ w.in-None-None.is-1) (sym c.stop-self-inside.ensures ∙ w.in-None-None.is-0)))
+          (subst (λ (s : TheBack × TheBack × ℕ × ℕ). HasCommitted s.0 s.1 s.2 s.3) (λ i. (
+            old i,
+            new i,
+            sym c.pc-pc.ensures i,
+            (ap (λ (z : State). z.count) (sym committed.state) ∙ sym w.count.ensures) i,
+          ))
+          (did_commit g.J.Naming.program b.program b.committed b.low b.head b.publisher b.seat c.retire.new.seat c.retire.ensures.kept.core c.retire.ensures.kept.by k c.in-Some-fetch.instr found
+          r.station r.tag r.index r.half r.last did (sym committed.low ∙ w.in-None-None.is-1) (sym c.stop-self-inside.ensures ∙ w.in-None-None.is-0)))
     ]

@@ -17,7 +17,9 @@ invariant_of-self-in_default g c =
     let e = c.in_default.ensures in
     front_again core f.program.now f.seat n.seat f.path n.path f.creators.counted n.creators.counted f.rested f.rested here c.self.invariant e.kept e.reply.adds.legal e.knows e.table
     (λ r. record {
-      nobody = stays core.program core.sizes HasNobody (nobody_stable core.program core.sizes) f.seat.seen n.seat.seen e.reply.adds (subst (λ (z : TheCore). HasNobody (unit_of z.program z.sizes f.seat.seen)) here (c.self.invariant.rests r).nobody);
+      nobody = stays core.program core.sizes HasNobody (nobody_stable core.program core.sizes) f.seat.seen n.seat.seen e.reply.adds
+          (subst (λ (z : TheCore). HasNobody (unit_of z.program z.sizes f.seat.seen)) here (c.self.invariant.rests r).nobody);
       none = e.records ∙ (c.self.invariant.rests r).none;
-      told = e.told ∙ stays core.program core.sizes (λ U. rested_at f.path.base ≡ length U.tenants) (told_stable core.program core.sizes (rested_at f.path.base)) f.seat.seen n.seat.seen e.reply.adds ((c.self.invariant.rests r).told ∙ ap (λ (z : TheCore). length (unit_of z.program z.sizes f.seat.seen).tenants) here);
+      told = e.told ∙ stays core.program core.sizes (λ U. rested_at f.path.base ≡ length U.tenants) (told_stable core.program core.sizes (rested_at f.path.base)) f.seat.seen n.seat.seen e.reply.adds
+          ((c.self.invariant.rests r).told ∙ ap (λ (z : TheCore). length (unit_of z.program z.sizes f.seat.seen).tenants) here);
     })

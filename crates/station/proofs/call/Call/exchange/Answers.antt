@@ -12,8 +12,10 @@ compare_exchange-requires g c =
     let s = c.self.inside.seat.now in (
       c.self.invariant.at ∙ sym (ap (λ (z : TheCore). z.id) c.core.view_is),
       subst (λ n. c.index-at.result < n) (sym c.core.invariant.wide) c.index-at.ensures.inside,
-      may shared.table_id shared.key c.self.inside.core.now c.core.view_is s.me c.self.inside.seat.ghost_name c.args.self.now c.self.view_is g.P.Part.role s.table_id shared.table_id.slots s.id c.args.place c.index-at.result (λ n. either (n == c.args.old) c.args.new n) (λ n. n) g.K.Telling.kind
-          (step shared.table_id.slots c.index-at.result c.args.old c.args.new none) c.core.inside.ring c.core.invariant.ring_is c.index-at.ensures.value c.self.invariant c.requires.place c.requires.may,
+      may shared.table_id shared.key c.self.inside.core.now c.core.view_is s.me c.self.inside.seat.ghost_name c.args.self.now c.self.view_is g.P.Part.role s.table_id shared.table_id.slots s.id
+          c.args.place c.index-at.result (λ n. either (n == c.args.old) c.args.new n) (λ n. n) g.K.Telling.kind
+          (step shared.table_id.slots c.index-at.result c.args.old c.args.new none) c.core.inside.ring c.core.invariant.ring_is c.index-at.ensures.value c.self.invariant c.requires.place
+          c.requires.may,
     )
 
 pub invariant_of-self : goal.invariant_of-self
@@ -21,10 +23,12 @@ invariant_of-self g c =
     let shared = c.core.inside.table.shared in
     let s = c.self.inside.seat.now in
     let told = c.compare_exchange.ensures.2 in
-    goes_on shared.table_id shared.key c.self.inside.core.now c.core.view_is s.me c.self.inside.seat.ghost_name c.args.self.now c.self.view_is g.P.Part.role s.table_id c.compare_exchange.new.seat.table_id c.compare_exchange.new.seat.me (g.K.Telling.kind c.compare_exchange.result) c.self.invariant c.compare_exchange.ensures.0 told.grows told.unborn told.slots
+    goes_on shared.table_id shared.key c.self.inside.core.now c.core.view_is s.me c.self.inside.seat.ghost_name c.args.self.now c.self.view_is g.P.Part.role s.table_id
+    c.compare_exchange.new.seat.table_id c.compare_exchange.new.seat.me (g.K.Telling.kind c.compare_exchange.result) c.self.invariant c.compare_exchange.ensures.0 told.grows told.unborn told.slots
 
 pub returns : goal.returns
 returns g c =
     let shared = c.core.inside.table.shared in
     let s = c.self.inside.seat.now in
-    takes shared.table_id shared.key c.self.inside.core.now c.core.view_is s.me c.self.inside.seat.ghost_name c.args.self.now c.self.view_is c.compare_exchange.new.seat.me.0 (g.K.Telling.kind c.compare_exchange.result) c.compare_exchange.ensures.2.grows
+    takes shared.table_id shared.key c.self.inside.core.now c.core.view_is s.me c.self.inside.seat.ghost_name c.args.self.now c.self.view_is c.compare_exchange.new.seat.me.0
+    (g.K.Telling.kind c.compare_exchange.result) c.compare_exchange.ensures.2.grows

@@ -3,4 +3,7 @@ use Rattle.ruu_words.specs.Telling.{Tells}
 use Rattle.station.proofs.call.Call.load.Given as goal
 
 abbrev pub ghosts-load : goal.ghosts-load
-ghosts-load g a = record { then = Tells a.self.now.key.program (sizes_of a.self.now.key) (opening_of a.self.now.key) a.seat.now.me.0.by (λ n. g.K.Telling.kind n a.self.now.key.program (sizes_of a.self.now.key)) }
+ghosts-load g a = record {
+  then = Tells a.self.now.key.program (sizes_of a.self.now.key) (opening_of a.self.now.key) a.seat.now.me.0.by
+      (λ n. g.K.Telling.kind n a.self.now.key.program (sizes_of a.self.now.key));
+}

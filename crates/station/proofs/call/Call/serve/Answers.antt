@@ -15,7 +15,14 @@ deliver-found-requires-clause-link g c =
     let m1 = c.read_link-link.new.self.view in
     let names : producer_of c.read_link-link.result ≡ c.args.from.1 = sym c.producer_in.ensures ∙ c.if-producer_in-from.true in
     let can = can_deliver P C v.view.by c.args.from.0 c.args.from.1 c.args.to c.read_link-link.result c.args.value c.args.k v.view m1 c.read_link-link.ensures.grows c.requires.tags c.requires.made names in
-    subst (λ (z : Of × (ℕ × ℕ)). CanDeliver z.0.0.program z.0.0.sizes m1.seen c.args.to c.args.k z.1.0 z.1.1) (λ i. (sym (of_one v c.read_link-link.new.self c.read_link-link.ensures.same) i, (sym (c.waiting_word-old.ensures.tag ∙ c.consumer_in-consumer.ensures.value) i, sym c.value_word-new.ensures.value i))) can
+    subst (λ (z : Of × (ℕ × ℕ)). CanDeliver z.0.0.program z.0.0.sizes m1.seen c.args.to c.args.k z.1.0 z.1.1)
+    (λ i. (
+      sym (of_one v c.read_link-link.new.self c.read_link-link.ensures.same) i,
+      (
+        sym (c.waiting_word-old.ensures.tag ∙ c.consumer_in-consumer.ensures.value) i,
+        sym c.value_word-new.ensures.value i,
+      ),
+    )) can
 
 pub returns-then-producer_in-from-clause-served : goal.returns-then-producer_in-from-clause-served
 returns-then-producer_in-from-clause-served g c =
@@ -33,7 +40,8 @@ returns-then-producer_in-from-clause-served g c =
 pub returns-else-producer_in-from-clause-served : goal.returns-else-producer_in-from-clause-served
 returns-else-producer_in-from-clause-served g c =
     let v = c.args.self.now in
-    serves_nobody v.core.program v.core.sizes v.view.by c.args.from.0 c.args.from.1 c.args.to c.read_link-link.result c.args.value c.args.k v.view c.read_link-link.new.self.view c.read_link-link.ensures.grows (λ e. c.if-producer_in-from.false (c.producer_in.ensures ∙ e))
+    serves_nobody v.core.program v.core.sizes v.view.by c.args.from.0 c.args.from.1 c.args.to c.read_link-link.result c.args.value c.args.k v.view c.read_link-link.new.self.view
+    c.read_link-link.ensures.grows (λ e. c.if-producer_in-from.false (c.producer_in.ensures ∙ e))
 
 pub returns-then-producer_in-from-clause-woken : goal.returns-then-producer_in-from-clause-woken
 returns-then-producer_in-from-clause-woken g c =

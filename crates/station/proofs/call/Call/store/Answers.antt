@@ -11,7 +11,8 @@ store-requires g c =
     let s = c.self.inside.seat.now in (
       c.self.invariant.at ∙ sym (ap (λ (z : TheCore). z.id) c.core.view_is),
       subst (λ n. c.index-at.result < n) (sym c.core.invariant.wide) c.index-at.ensures.inside,
-      may shared.table_id shared.key c.self.inside.core.now c.core.view_is s.me c.self.inside.seat.ghost_name c.args.self.now c.self.view_is g.P.Part.role s.table_id shared.table_id.slots s.id c.args.place c.index-at.result (λ _. c.args.new) (λ _. c.args.new) g.K.Telling.kind
+      may shared.table_id shared.key c.self.inside.core.now c.core.view_is s.me c.self.inside.seat.ghost_name c.args.self.now c.self.view_is g.P.Part.role s.table_id shared.table_id.slots s.id
+          c.args.place c.index-at.result (λ _. c.args.new) (λ _. c.args.new) g.K.Telling.kind
           (step shared.table_id.slots c.index-at.result c.args.new 0 none) c.core.inside.ring c.core.invariant.ring_is c.index-at.ensures.value c.self.invariant c.requires.place c.requires.may,
     )
 
@@ -20,10 +21,12 @@ invariant_of-self g c =
     let shared = c.core.inside.table.shared in
     let s = c.self.inside.seat.now in
     let told = c.store.ensures.2 in
-    goes_on shared.table_id shared.key c.self.inside.core.now c.core.view_is s.me c.self.inside.seat.ghost_name c.args.self.now c.self.view_is g.P.Part.role s.table_id c.store.new.seat.table_id c.store.new.seat.me (g.K.Telling.kind c.args.new) c.self.invariant c.store.ensures.0 told.grows told.unborn told.slots
+    goes_on shared.table_id shared.key c.self.inside.core.now c.core.view_is s.me c.self.inside.seat.ghost_name c.args.self.now c.self.view_is g.P.Part.role s.table_id c.store.new.seat.table_id
+    c.store.new.seat.me (g.K.Telling.kind c.args.new) c.self.invariant c.store.ensures.0 told.grows told.unborn told.slots
 
 pub returns : goal.returns
 returns g c =
     let shared = c.core.inside.table.shared in
     let s = c.self.inside.seat.now in
-    takes shared.table_id shared.key c.self.inside.core.now c.core.view_is s.me c.self.inside.seat.ghost_name c.args.self.now c.self.view_is c.store.new.seat.me.0 (g.K.Telling.kind c.args.new) c.store.ensures.2.grows
+    takes shared.table_id shared.key c.self.inside.core.now c.core.view_is s.me c.self.inside.seat.ghost_name c.args.self.now c.self.view_is c.store.new.seat.me.0 (g.K.Telling.kind c.args.new)
+    c.store.ensures.2.grows

@@ -3,4 +3,7 @@ use Rattle.ruu_words.specs.Telling.{Tells}
 use Rattle.station.proofs.call.Call.swap.Given as goal
 
 abbrev pub ghosts-swap : goal.ghosts-swap
-ghosts-swap g a = record { then = Tells a.self.now.key.program (sizes_of a.self.now.key) (opening_of a.self.now.key) a.seat.now.me.0.by (λ n. g.K.Telling.kind n a.self.now.key.program (sizes_of a.self.now.key)) }
+ghosts-swap g a = record {
+  then = Tells a.self.now.key.program (sizes_of a.self.now.key) (opening_of a.self.now.key) a.seat.now.me.0.by
+      (λ n. g.K.Telling.kind n a.self.now.key.program (sizes_of a.self.now.key));
+}

@@ -96,7 +96,8 @@ claim_open-requires-clause-was_open c =
     let r3 : Ready P C by st tag old (IsOpenAs (half_of info) (index_of info) (predicted_of info)) m3.seen = rechecked P C by st tag old m2 m3 info word again g3 r2 hit in
     let seen = has_seen P C by st tag old (IsOpenAs (half_of info) (index_of info) (predicted_of info)) (IsOpenAs (half_of info) (index_of info) (predicted_of info)) m3.seen (λ t f. f) r3 in
     let on3 = joined on2 c.recheck-again.ensures.same in
-    subst (λ (z : Of × (Half × ℕ × ℕ)). HasSeen z.0.0.program z.0.0.sizes m3.seen st tag (IsOpenAs z.1.0 z.1.1 z.1.2)) (λ j. (sym (of_one v c.recheck-again.new.self on3) j, (sym c.unpack-info.ensures.half j, sym c.unpack-info.ensures.index j, sym c.unpack-info.ensures.predicted j))) seen
+    subst (λ (z : Of × (Half × ℕ × ℕ)). HasSeen z.0.0.program z.0.0.sizes m3.seen st tag (IsOpenAs z.1.0 z.1.1 z.1.2))
+    (λ j. (sym (of_one v c.recheck-again.new.self on3) j, (sym c.unpack-info.ensures.half j, sym c.unpack-info.ensures.index j, sym c.unpack-info.ensures.predicted j))) seen
 
 pub returns-clause-reply : goal.returns-clause-reply
 returns-clause-reply c =
@@ -126,4 +127,5 @@ returns-clause-reply c =
     let r3 : Ready P C by st tag old (IsOpenAs (half_of info) (index_of info) (predicted_of info)) m3.seen = rechecked P C by st tag old m2 m3 info word again g3 r2 hit in
     let on3 = joined on2 c.recheck-again.ensures.same in
     let new = c.claim_open.new.self.view.seen in
-    claim_answers_on P C by old m3.seen new st c.claim_open.result r3.adds (subst (λ (z : Of). ClaimAnswers z.0.program z.0.sizes z.1 m3.seen new st c.claim_open.result) (of_one v c.recheck-again.new.self on3) c.claim_open.ensures.reply)
+    claim_answers_on P C by old m3.seen new st c.claim_open.result r3.adds (subst (λ (z : Of). ClaimAnswers z.0.program z.0.sizes z.1 m3.seen new st c.claim_open.result)
+    (of_one v c.recheck-again.new.self on3) c.claim_open.ensures.reply)

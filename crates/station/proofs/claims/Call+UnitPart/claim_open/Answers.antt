@@ -26,7 +26,8 @@ instr-requires c =
     let C = v.core.sizes in
     let legal : IsLegalCall v = legal_at c.self.invariant c.self.view_is in
     let program = program_at c.core.inside.table.shared.key c.core.invariant.program c.core.view_is c.self.view_is in
-    subst (λ (z : Program). c.args.info.index < length z.code) (sym program) (index_inside P C v.view.seen legal c.requires.was_open.p c.args.station c.args.tag c.args.info.half c.args.info.index c.args.info.predicted c.requires.was_open.named)
+    subst (λ (z : Program). c.args.info.index < length z.code) (sym program) (index_inside P C v.view.seen legal c.requires.was_open.p c.args.station c.args.tag c.args.info.half c.args.info.index
+    c.args.info.predicted c.requires.was_open.named)
 
 pub returns-in-Err-clause-reply : goal.returns-in-Err-clause-reply
 returns-in-Err-clause-reply c =
@@ -42,7 +43,8 @@ returns-in-Err-clause-reply c =
     let x = c.args.info.predicted in
     let old : List Entry = v.view.seen in
     let r0 : Ready P C by st tag old (IsClaimable d i x) old = begins P C by st tag old d i x legal c.requires.was_open in
-    source_refused P C by st tag old (IsClaimable d i x) old c.needed_source.new.self.view.seen Rattle.inorder.specs.declared.history.Source.TheVariants.First true c.in-Err.refusal r0 c.in-Err.ensures.answer
+    source_refused P C by st tag old (IsClaimable d i x) old c.needed_source.new.self.view.seen Rattle.inorder.specs.declared.history.Source.TheVariants.First true c.in-Err.refusal r0
+    c.in-Err.ensures.answer
 
 pub needed_source-requires-2-clause-seen : goal.needed_source-requires-2-clause-seen
 needed_source-requires-2-clause-seen c =
@@ -65,7 +67,8 @@ needed_source-requires-2-clause-seen c =
     let a = c.in-Ok.value in
     let r1 : Ready P C by st tag old (HasFirst d i x a) m1.seen = takes_first P C by st tag old d i x a old m1.seen r0 c.in-Ok.ensures.answer in
     let on1 : IsLater v c.needed_source.new.self = c.needed_source.ensures.same in
-    subst (λ (z : Of). HasSeen z.0.program z.0.sizes m1.seen st tag (λ t. both ≡ true → IsNext z.0.program Second t)) (sym (of_one v c.needed_source.new.self on1)) (second_next P C by st tag old d i x a both m1.seen is r1)
+    subst (λ (z : Of). HasSeen z.0.program z.0.sizes m1.seen st tag (λ t. both ≡ true → IsNext z.0.program Second t)) (sym (of_one v c.needed_source.new.self on1))
+    (second_next P C by st tag old d i x a both m1.seen is r1)
 
 pub returns-in-Err-needed_source-clause-reply : goal.returns-in-Err-needed_source-clause-reply
 returns-in-Err-needed_source-clause-reply c =
@@ -90,7 +93,9 @@ returns-in-Err-needed_source-clause-reply c =
     let m2 : View = c.needed_source-2.new.self.view in
     let refusal = c.in-Err-needed_source.refusal in
     let on1 : IsLater v c.needed_source.new.self = c.needed_source.ensures.same in
-    source_refused P C by st tag old (HasFirst d i x a) m1.seen m2.seen Second both refusal r1 (subst (λ (z : Of). SourceAnswers z.0.program z.0.sizes z.1 m1.seen m2.seen st tag Second both (Rattle.std.proofs.Common.Err refusal)) (of_one v c.needed_source.new.self on1) c.in-Err-needed_source.ensures.answer)
+    source_refused P C by st tag old (HasFirst d i x a) m1.seen m2.seen Second both refusal r1 (subst
+    (λ (z : Of). SourceAnswers z.0.program z.0.sizes z.1 m1.seen m2.seen st tag Second both (Rattle.std.proofs.Common.Err refusal)) (of_one v c.needed_source.new.self on1)
+    c.in-Err-needed_source.ensures.answer)
 
 pub open_word-open-requires : goal.open_word-open-requires
 open_word-open-requires c =
@@ -132,7 +137,8 @@ claim_tenant-found-requires-clause-seen c =
     let r2 : Ready P C by st tag old (HasBoth d i x a both b) m2.seen = takes_second P C by st tag old d i x a both b m1.seen m2.seen r1 got in
     let tag_is : tag_of c.open_word-open.result ≡ tag = c.open_word-open.ensures.tag in
     let on2 = joined on1 c.needed_source-2.ensures.same in
-    subst (λ (z : Of × ℕ). HasSeen z.0.0.program z.0.0.sizes m2.seen st z.1 (IsReady z.0.0.program)) (λ j. (sym (of_one v c.needed_source-2.new.self on2) j, sym tag_is j)) (ready_seen P C by st tag old d i x a both b is m2.seen r2)
+    subst (λ (z : Of × ℕ). HasSeen z.0.0.program z.0.0.sizes m2.seen st z.1 (IsReady z.0.0.program)) (λ j. (sym (of_one v c.needed_source-2.new.self on2) j, sym tag_is j))
+    (ready_seen P C by st tag old d i x a both b is m2.seen r2)
 
 pub returns-then-found-open-clause-reply : goal.returns-then-found-open-clause-reply
 returns-then-found-open-clause-reply c =
@@ -174,7 +180,8 @@ pc_of-pc-requires c =
     let C = v.core.sizes in
     let legal : IsLegalCall v = legal_at c.self.invariant c.self.view_is in
     let program = program_at c.core.inside.table.shared.key c.core.invariant.program c.core.view_is c.self.view_is in
-    subst (λ (z : Program). c.args.info.index < length z.code) (sym program) (index_inside P C v.view.seen legal c.requires.was_open.p c.args.station c.args.tag c.args.info.half c.args.info.index c.args.info.predicted c.requires.was_open.named)
+    subst (λ (z : Program). c.args.info.index < length z.code) (sym program) (index_inside P C v.view.seen legal c.requires.was_open.p c.args.station c.args.tag c.args.info.half c.args.info.index
+    c.args.info.predicted c.requires.was_open.named)
 
 pub returns-clause-reply : goal.returns-clause-reply
 returns-clause-reply c =

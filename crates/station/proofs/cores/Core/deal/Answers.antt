@@ -16,15 +16,21 @@ use Rattle.station.proofs.cores.Core.deal.Goals as goal
 pub split_seat-back-requires : goal.split_seat-back-requires
 split_seat-back-requires c =
     let key = c.args.table.shared.key in
-    let v = c.requires.view in
-    (search rules, not_empty c.args.setup.ring c.args.table.shared.table_id.words c.requires.core.wide c.requires.core.least, splits_back key.program (sizes_of key) (opening_of key) c.args.first.id c.args.first.me.0 (ap (λ m. m.0.role) v) (ap (λ m. m.0.heirs) v))
+    let v = c.requires.view in (
+      search rules,
+      not_empty c.args.setup.ring c.args.table.shared.table_id.words c.requires.core.wide c.requires.core.least,
+      splits_back key.program (sizes_of key) (opening_of key) c.args.first.id c.args.first.me.0 (ap (λ m. m.0.role) v) (ap (λ m. m.0.heirs) v),
+    )
 
 pub split_seat-unit-requires : goal.split_seat-unit-requires
 split_seat-unit-requires c =
     let key = c.args.table.shared.key in
     let v = c.split_seat-back.ensures.2 in
-    let heirs = ap (λ m. m.0.heirs) v ∙ ap (λ m. without_first m.0.heirs) c.requires.view in
-    (search rules, not_empty c.args.setup.ring c.args.table.shared.table_id.words c.requires.core.wide c.requires.core.least, splits_first key.program (sizes_of key) (opening_of key) c.split_seat-back.new.seat.id c.split_seat-back.new.seat.me.0 (ap (λ m. m.0.role) v) heirs)
+    let heirs = ap (λ m. m.0.heirs) v ∙ ap (λ m. without_first m.0.heirs) c.requires.view in (
+      search rules,
+      not_empty c.args.setup.ring c.args.table.shared.table_id.words c.requires.core.wide c.requires.core.least,
+      splits_first key.program (sizes_of key) (opening_of key) c.split_seat-back.new.seat.id c.split_seat-back.new.seat.me.0 (ap (λ m. m.0.role) v) heirs,
+    )
 
 pub first_seat-back_seat-requires-clause-seated : goal.first_seat-back_seat-requires-clause-seated
 first_seat-back_seat-requires-clause-seated c =

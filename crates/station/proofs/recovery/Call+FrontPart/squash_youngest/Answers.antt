@@ -92,4 +92,5 @@ returns-clause-next c =
     let station : ℕ = (c.args.next + c.core.inside.ring - 1) % c.core.inside.ring in
     let kind = Sees P C v.view.by v.view (Station station) c.look-found.result in
     let on2 = joined c.look-found.ensures.same c.squash_tenant.ensures.same in
-    after (λ z. station ≡ next_station z.0.sizes (recent (unit_of z.0.program z.0.sizes w.seen))) on2 (squashed_next P C v.view.by station c.tag_in-tag.result v.view at w kind g1 g1.kind.none g2 by_is)
+    after (λ z. station ≡ next_station z.0.sizes (recent (unit_of z.0.program z.0.sizes w.seen))) on2
+    (squashed_next P C v.view.by station c.tag_in-tag.result v.view at w kind g1 g1.kind.none g2 by_is)

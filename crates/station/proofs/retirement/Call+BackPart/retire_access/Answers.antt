@@ -18,7 +18,8 @@ pub instr-requires : goal.instr-requires
 instr-requires c =
     let v = c.args.self.now in
     let h = c.requires.access.head in
-    subst (λ (z : Program × ℕ). z.1 < length z.0.code) (λ i. (sym (program_at c.core.inside.table.shared.key c.core.invariant.program c.core.view_is c.self.view_is) i, h.fact.index_is i)) (inside v.core.program v.core.sizes v.view.seen (legal_at c.self.invariant c.self.view_is) c.requires.access.p h.tenant h.is)
+    subst (λ (z : Program × ℕ). z.1 < length z.0.code) (λ i. (sym (program_at c.core.inside.table.shared.key c.core.invariant.program c.core.view_is c.self.view_is) i, h.fact.index_is i))
+    (inside v.core.program v.core.sizes v.view.seen (legal_at c.self.invariant c.self.view_is) c.requires.access.p h.tenant h.is)
 
 pub returns-then-ne-clause-reply : goal.returns-then-ne-clause-reply
 returns-then-ne-clause-reply c =
@@ -51,7 +52,8 @@ leave-requires-clause-may c =
     let store : c.kind-kind.result ≡ Stores = search rules in
     let there_is : state_of n ≡ 2 = search rules in
     let stores : kind (instr_of P c.args.access.index).op ≡ Stores =
-    sym (c.kind-kind.ensures ∙ ap kind (c.op.ensures ∙ (ap (λ (z : Instr). z.op) c.instr.ensures ∙ ap (λ (z : Program). (instr_of z c.args.access.index).op) (program_at c.core.inside.table.shared.key c.core.invariant.program c.core.view_is c.self.view_is)))) ∙ store in
+    sym (c.kind-kind.ensures ∙ ap kind (c.op.ensures ∙ (ap (λ (z : Instr). z.op) c.instr.ensures ∙ ap (λ (z : Program). (instr_of z c.args.access.index).op)
+    (program_at c.core.inside.table.shared.key c.core.invariant.program c.core.view_is c.self.view_is)))) ∙ store in
     let there = data_there P C by v.view m1 c.args.access n c.read_data-found.ensures.grows c.value_in.result c.value_in.ensures stores there_is in
     leave_after c.read_data-found.ensures.same there.0
 
@@ -66,7 +68,9 @@ returns-clause-reply c =
     let store : c.kind-kind.result ≡ Stores = search rules in
     let there_is : state_of n ≡ 2 = search rules in
     let stores : kind (instr_of P c.args.access.index).op ≡ Stores =
-    sym (c.kind-kind.ensures ∙ ap kind (c.op.ensures ∙ (ap (λ (z : Instr). z.op) c.instr.ensures ∙ ap (λ (z : Program). (instr_of z c.args.access.index).op) (program_at c.core.inside.table.shared.key c.core.invariant.program c.core.view_is c.self.view_is)))) ∙ store in
+    sym (c.kind-kind.ensures ∙ ap kind (c.op.ensures ∙ (ap (λ (z : Instr). z.op) c.instr.ensures ∙ ap (λ (z : Program). (instr_of z c.args.access.index).op)
+    (program_at c.core.inside.table.shared.key c.core.invariant.program c.core.view_is c.self.view_is)))) ∙ store in
     let there = data_there P C by v.view m1 c.args.access n c.read_data-found.ensures.grows c.value_in.result c.value_in.ensures stores there_is in
     let new = c.leave.new.self.view.seen in
-    answers_on P C by v.view.seen m1.seen new c.leave.result there.1 (before (λ z. RetireAnswers z.0.program z.0.sizes z.1 m1.seen new c.leave.result) c.read_data-found.ensures.same c.leave.ensures.reply)
+    answers_on P C by v.view.seen m1.seen new c.leave.result there.1 (before (λ z. RetireAnswers z.0.program z.0.sizes z.1 m1.seen new c.leave.result) c.read_data-found.ensures.same
+    c.leave.ensures.reply)

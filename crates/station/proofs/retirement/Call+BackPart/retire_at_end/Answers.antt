@@ -16,7 +16,8 @@ retire_access-requires-clause-access c =
     let n = c.read_info-info.result in
     let g = c.read_info-info.ensures.grows in
     let addr : c.args.found.state ≡ Addr = search rules in
-    access_after c.read_info-info.ensures.same (end_access P C by v.view m1 c.args.station n g (caller_at c.self.invariant c.self.view_is) c.args.found c.requires.end c.unpack-half.result.index c.unpack-half.result.half c.unpack-half.ensures.index c.unpack-half.ensures.half addr)
+    access_after c.read_info-info.ensures.same (end_access P C by v.view m1 c.args.station n g (caller_at c.self.invariant c.self.view_is) c.args.found c.requires.end c.unpack-half.result.index
+    c.unpack-half.result.half c.unpack-half.ensures.index c.unpack-half.ensures.half addr)
 
 pub returns-then-eq-clause-reply : goal.returns-then-eq-clause-reply
 returns-then-eq-clause-reply c =
@@ -28,7 +29,8 @@ returns-then-eq-clause-reply c =
     let n = c.read_info-info.result in
     let g = c.read_info-info.ensures.grows in
     let new = c.retire_access.new.self.view.seen in
-    answers_on P C by v.view.seen m1.seen new c.retire_access.result (end_adds P C by v.view m1 c.args.station n g (caller_at c.self.invariant c.self.view_is) c.args.found c.requires.end) (before (λ z. RetireAnswers z.0.program z.0.sizes z.1 m1.seen new c.retire_access.result) c.read_info-info.ensures.same c.retire_access.ensures.reply)
+    answers_on P C by v.view.seen m1.seen new c.retire_access.result (end_adds P C by v.view m1 c.args.station n g (caller_at c.self.invariant c.self.view_is) c.args.found c.requires.end)
+    (before (λ z. RetireAnswers z.0.program z.0.sizes z.1 m1.seen new c.retire_access.result) c.read_info-info.ensures.same c.retire_access.ensures.reply)
 
 pub leave-requires-clause-may : goal.leave-requires-clause-may
 leave-requires-clause-may c =
@@ -40,7 +42,8 @@ leave-requires-clause-may c =
     let n = c.read_info-info.result in
     let g = c.read_info-info.ensures.grows in
     let ne : c.args.found.state ≢ Addr = search rules in
-    leave_after c.read_info-info.ensures.same (end_leaves P C by v.view m1 c.args.station n g (caller_at c.self.invariant c.self.view_is) c.args.found c.requires.end c.unpack-half.result.index c.unpack-half.result.half c.unpack-half.ensures.index c.unpack-half.ensures.half ne c.last_of-last.result c.last_of-last.ensures)
+    leave_after c.read_info-info.ensures.same (end_leaves P C by v.view m1 c.args.station n g (caller_at c.self.invariant c.self.view_is) c.args.found c.requires.end c.unpack-half.result.index
+    c.unpack-half.result.half c.unpack-half.ensures.index c.unpack-half.ensures.half ne c.last_of-last.result c.last_of-last.ensures)
 
 pub returns-clause-reply : goal.returns-clause-reply
 returns-clause-reply c =
@@ -52,4 +55,5 @@ returns-clause-reply c =
     let n = c.read_info-info.result in
     let g = c.read_info-info.ensures.grows in
     let new = c.leave.new.self.view.seen in
-    answers_on P C by v.view.seen m1.seen new c.leave.result (end_adds P C by v.view m1 c.args.station n g (caller_at c.self.invariant c.self.view_is) c.args.found c.requires.end) (before (λ z. RetireAnswers z.0.program z.0.sizes z.1 m1.seen new c.leave.result) c.read_info-info.ensures.same c.leave.ensures.reply)
+    answers_on P C by v.view.seen m1.seen new c.leave.result (end_adds P C by v.view m1 c.args.station n g (caller_at c.self.invariant c.self.view_is) c.args.found c.requires.end)
+    (before (λ z. RetireAnswers z.0.program z.0.sizes z.1 m1.seen new c.leave.result) c.read_info-info.ensures.same c.leave.ensures.reply)

@@ -59,4 +59,5 @@ returns-in-Addr-clause-reply c =
     let late : IsLateState word.state = ⊎_elim (λ e. subst IsLateState (sym e) tt) (λ o. ⊎_elim (λ e. subst IsLateState (sym e) tt) (λ e. subst IsLateState (sym e) tt) o) c.in-Addr.is in
     let end = head_late P C by v.view m1 c.args.station n g word c.unpack-found.ensures.tag c.unpack-found.ensures.state c.unpack-found.ensures.value late in
     let new = c.retire_at_end.new.self.view.seen in
-    answers_on P C by v.view.seen m1.seen new c.retire_at_end.result end.1 (before (λ z. RetireAnswers z.0.program z.0.sizes z.1 m1.seen new c.retire_at_end.result) c.look_at_head-word.ensures.same c.retire_at_end.ensures.reply)
+    answers_on P C by v.view.seen m1.seen new c.retire_at_end.result end.1 (before (λ z. RetireAnswers z.0.program z.0.sizes z.1 m1.seen new c.retire_at_end.result) c.look_at_head-word.ensures.same
+    c.retire_at_end.ensures.reply)

@@ -35,7 +35,8 @@ settle_tenant-found-requires-clause-load c =
     let can = can_settle P C v.view.by c.args.station c.args.tag c.args.value c.look-seen.result v.view v1 role0 c.requires.may c.look-seen.ensures.grows in
     let old = c.address_word-old in
     let address : value_of old.result ≡ value_of c.look-seen.result = old.ensures.value ∙ c.value_in-address.ensures in
-    subst (λ (z : Of × (ℕ × (ℕ × ℕ))). CanSettle z.0.0.program z.0.0.sizes v1.seen c.args.station z.1.0 z.1.1.0 z.1.1.1) (λ i. (sym (of_one v c.look-seen.new.self c.look-seen.ensures.same) i, (sym old.ensures.tag i, (sym address i, sym c.done_word-new.ensures.value i)))) can
+    subst (λ (z : Of × (ℕ × (ℕ × ℕ))). CanSettle z.0.0.program z.0.0.sizes v1.seen c.args.station z.1.0 z.1.1.0 z.1.1.1)
+    (λ i. (sym (of_one v c.look-seen.new.self c.look-seen.ensures.same) i, (sym old.ensures.tag i, (sym address i, sym c.done_word-new.ensures.value i)))) can
 
 pub returns-then-found-old-clause-reply : goal.returns-then-found-old-clause-reply
 returns-then-found-old-clause-reply c =
@@ -72,7 +73,8 @@ walk-woken-requires-clause-made c =
     let role : v1.role ≡ Back = e1.role ∙ role0 in
     let caller : IsCaller v1.role v.view.by = subst (λ r. IsCaller r v.view.by) (sym e1.role) e1.kind.caller in
     let core : c.settle_tenant-found.new.self.core ≡ v.core = c.settle_tenant-found.ensures.same.core ∙ c.look-seen.ensures.same.core in
-    subst (λ (k : TheCore). HasValueOf k.program k.sizes w.seen c.args.station c.args.tag c.args.value) (sym core) (settle_made P C v.view.by c.args.station c.args.tag (value_of c.look-seen.result) c.args.value old n v1 w role caller can step c.if-found-old.false)
+    subst (λ (k : TheCore). HasValueOf k.program k.sizes w.seen c.args.station c.args.tag c.args.value) (sym core)
+    (settle_made P C v.view.by c.args.station c.args.tag (value_of c.look-seen.result) c.args.value old n v1 w role caller can step c.if-found-old.false)
 
 pub returns-clause-reply : goal.returns-clause-reply
 returns-clause-reply c =
@@ -93,7 +95,9 @@ returns-clause-reply c =
     let out = settle_out P C v.view.by c.args.station c.args.tag (value_of c.look-seen.result) c.args.value old n v1 w role caller can step c.if-found-old.false in
     let id = c.settle_tenant-found.ensures.same.by ∙ c.look-seen.ensures.same.by in
     let core : c.settle_tenant-found.new.self.core ≡ v.core = c.settle_tenant-found.ensures.same.core ∙ c.look-seen.ensures.same.core in
-    settle_all P C v.view.by c.settle_tenant-found.new.self.view.by c.args.station c.args.tag v.view.seen v1.seen w.seen c.walk-woken.new.self.view.seen id seen out (subst (λ (k : TheCore). OfTenant k.program k.sizes w.seen c.args.station c.args.tag (λ q. HasWalked k.program k.sizes c.settle_tenant-found.new.self.view.by q w.seen c.walk-woken.new.self.view.seen)) core c.walk-woken.ensures.walked)
+    settle_all P C v.view.by c.settle_tenant-found.new.self.view.by c.args.station c.args.tag v.view.seen v1.seen w.seen c.walk-woken.new.self.view.seen id seen out
+    (subst (λ (k : TheCore). OfTenant k.program k.sizes w.seen c.args.station c.args.tag (λ q. HasWalked k.program k.sizes c.settle_tenant-found.new.self.view.by q w.seen
+    c.walk-woken.new.self.view.seen)) core c.walk-woken.ensures.walked)
 
 pub returns-then-found-old-clause-woken : goal.returns-then-found-old-clause-woken
 returns-then-found-old-clause-woken c =

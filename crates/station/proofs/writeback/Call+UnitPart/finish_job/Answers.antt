@@ -84,7 +84,8 @@ carry-woken-requires-clause-from c =
     let P = v.core.program in
     let job = c.args.job in
     let held = job_held P v.core.sizes v.view.by v.view.seen job c.args.outcome c.requires.job c.requires.outcome in
-    subst (λ (k : TheCore). job.station < k.sizes.ring) (sym c.finish_tenant-found.ensures.same.core) (station_inside P v.core.sizes v.view.seen legal held.p job.station job.tag (HasJob P v.view.by job.predicted c.args.outcome) held.named)
+    subst (λ (k : TheCore). job.station < k.sizes.ring) (sym c.finish_tenant-found.ensures.same.core)
+    (station_inside P v.core.sizes v.view.seen legal held.p job.station job.tag (HasJob P v.view.by job.predicted c.args.outcome) held.named)
 
 pub carry-woken-requires-clause-made : goal.carry-woken-requires-clause-made
 carry-woken-requires-clause-made c =
@@ -96,7 +97,8 @@ carry-woken-requires-clause-made c =
     let n = c.finish_tenant-found.result in
     let w = c.finish_tenant-found.new.self.view in
     let step = subst (λ g. Grows P C v.view.by v.view w (Finishes P C job.station g c.args.outcome old n)) (c.busy_word-old.ensures v.view.by).tag c.finish_tenant-found.ensures.grows in
-    subst (λ (k : TheCore). HasMadeOf k.program k.sizes w.seen job.station job.tag c.args.outcome) (sym c.finish_tenant-found.ensures.same.core) (finish_made P C v.view.by job.station job.tag old n c.args.outcome v.view w step c.if-found-old.false)
+    subst (λ (k : TheCore). HasMadeOf k.program k.sizes w.seen job.station job.tag c.args.outcome) (sym c.finish_tenant-found.ensures.same.core)
+    (finish_made P C v.view.by job.station job.tag old n c.args.outcome v.view w step c.if-found-old.false)
 
 pub returns-clause-reply : goal.returns-clause-reply
 returns-clause-reply c =
@@ -109,10 +111,14 @@ returns-clause-reply c =
     let w = c.finish_tenant-found.new.self.view in
     let step = subst (λ g. Grows P C v.view.by v.view w (Finishes P C job.station g c.args.outcome old n)) (c.busy_word-old.ensures v.view.by).tag c.finish_tenant-found.ensures.grows in
     let out = finish_out P C v.view.by job.station job.tag old n c.args.outcome v.view w step c.if-found-old.false in
-    finish_all P C v.view.by c.finish_tenant-found.new.self.view.by job.station job.tag c.args.outcome _ v.view.seen w.seen c.carry-woken.new.self.view.seen c.requires.outcome c.finish_tenant-found.ensures.same.by out (subst (λ (k : TheCore). OfTenant k.program k.sizes w.seen job.station job.tag (λ q. HasCarried k.program k.sizes c.finish_tenant-found.new.self.view.by q c.args.outcome w.seen c.carry-woken.new.self.view.seen)) c.finish_tenant-found.ensures.same.core c.carry-woken.ensures.carried)
+    finish_all P C v.view.by c.finish_tenant-found.new.self.view.by job.station job.tag c.args.outcome _ v.view.seen w.seen c.carry-woken.new.self.view.seen c.requires.outcome
+    c.finish_tenant-found.ensures.same.by out (subst (λ (k : TheCore). OfTenant k.program k.sizes w.seen job.station job.tag
+    (λ q. HasCarried k.program k.sizes c.finish_tenant-found.new.self.view.by q c.args.outcome w.seen c.carry-woken.new.self.view.seen)) c.finish_tenant-found.ensures.same.core
+    c.carry-woken.ensures.carried)
 
 pub carry-woken-requires-clause-legal : goal.carry-woken-requires-clause-legal
-carry-woken-requires-clause-legal c = subst (λ (k : TheCore). IsLegal k.program k.sizes c.finish_tenant-found.new.self.view.seen) (sym c.finish_tenant-found.ensures.same.core) c.finish_tenant-found.ensures.grows.legal
+carry-woken-requires-clause-legal c = subst (λ (k : TheCore). IsLegal k.program k.sizes c.finish_tenant-found.new.self.view.seen) (sym c.finish_tenant-found.ensures.same.core)
+    c.finish_tenant-found.ensures.grows.legal
 
 pub returns-then-found-old-clause-woken : goal.returns-then-found-old-clause-woken
 returns-then-found-old-clause-woken c =
@@ -121,7 +127,8 @@ returns-then-found-old-clause-woken c =
     let C = v.core.sizes in
     let old = c.busy_word-old.result in
     let w = c.finish_tenant-found.new.self.view in
-    has_woken_none P C v.view.by v.view.seen w.seen (wakes_finishing P C v.view.by c.args.job.station (tag_of old) old c.finish_tenant-found.result c.args.outcome v.view w c.finish_tenant-found.ensures.grows)
+    has_woken_none P C v.view.by v.view.seen w.seen (wakes_finishing P C v.view.by c.args.job.station (tag_of old) old c.finish_tenant-found.result c.args.outcome v.view w
+    c.finish_tenant-found.ensures.grows)
 
 pub returns-clause-woken : goal.returns-clause-woken
 returns-clause-woken c =

@@ -7,4 +7,5 @@ pub store-requires-clause-may : goal.store-requires-clause-may
 store-requires-clause-may c _ caller =
     let v = c.args.self.now in
     let t = c.args.tenant in
-    info_plan v.core.program v.core.sizes t.index t.predicted (supply_of t.sources.0) (supply_of t.sources.1) v.view.by v.view c.args.station c.args.word caller c.requires.draft c.requires.may.may c.requires.may.tag c.requires.station (c.requires.half ∙ c.requires.may.half) c.requires.index c.requires.predicted
+    info_plan v.core.program v.core.sizes t.index t.predicted (supply_of t.sources.0) (supply_of t.sources.1) v.view.by v.view c.args.station c.args.word caller c.requires.draft c.requires.may.may
+    c.requires.may.tag c.requires.station (c.requires.half ∙ c.requires.may.half) c.requires.index c.requires.predicted

@@ -12,4 +12,5 @@ store-requires-clause-may c _ caller =
     let v = c.args.self.now in
     let t = c.args.tenant in
     let U = seen_unit v in
-    second_plan v.core.program v.core.sizes t.index t.predicted (supply_of t.sources.0) (supply_of t.sources.1) v.view.by v.view c.args.station c.args.word caller c.requires.draft c.requires.may.may c.requires.station (given t.sources.1 (creator v.core.program U.tenants (second_of (instr_of v.core.program t.index))) (next_tag v.core.sizes (recent U)) c.args.word c.requires.word)
+    second_plan v.core.program v.core.sizes t.index t.predicted (supply_of t.sources.0) (supply_of t.sources.1) v.view.by v.view c.args.station c.args.word caller c.requires.draft c.requires.may.may
+    c.requires.station (given t.sources.1 (creator v.core.program U.tenants (second_of (instr_of v.core.program t.index))) (next_tag v.core.sizes (recent U)) c.args.word c.requires.word)

@@ -5,4 +5,5 @@ use Rattle.station.proofs.steps.wakeup.Call+FrontPart.take_value.Goals as goal
 pub exchange-requires-clause-may : goal.exchange-requires-clause-may
 exchange-requires-clause-may c _ caller =
     let v = c.args.self.now in
-    ends_plan v.core.program v.core.sizes v.view.by v.view c.args.station (tag_of c.args.old) c.args.k (value_of c.args.new) c.args.old c.args.new caller c.requires.draft c.requires.old c.requires.new c.requires.answer
+    ends_plan v.core.program v.core.sizes v.view.by v.view c.args.station (tag_of c.args.old) c.args.k (value_of c.args.new) c.args.old c.args.new caller c.requires.draft c.requires.old c.requires.new
+    c.requires.answer

@@ -5,4 +5,5 @@ use Rattle.station.proofs.steps.writeback.Call+BackPart.settle_tenant.Goals as g
 pub exchange-requires-clause-may : goal.exchange-requires-clause-may
 exchange-requires-clause-may c role _ =
     let v = c.args.self.now in
-    settle_plan v.core.program v.core.sizes v.view.by v.view c.args.station (tag_of c.args.old) c.requires.load.p (value_of c.args.old) (value_of c.args.new) c.args.old c.args.new role c.requires.old c.requires.new c.requires.load.named c.requires.load.can
+    settle_plan v.core.program v.core.sizes v.view.by v.view c.args.station (tag_of c.args.old) c.requires.load.p (value_of c.args.old) (value_of c.args.new) c.args.old c.args.new role c.requires.old
+    c.requires.new c.requires.load.named c.requires.load.can
