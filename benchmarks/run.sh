@@ -39,7 +39,7 @@ for program in loop mixed; do
 done
 
 cc -O2 -o "$work/split" benchmarks/split.c
-for width in 40 12; do
+for width in 40 12 7; do
   python3 benchmarks/listing.py $width > "$work/listing.s"
   rm -f "$work/here" "$work/yardstick"
   measure "$work/listing.s" "$work/split" "$work/listing.s"

@@ -192,7 +192,8 @@ impl<'a> Labels<'a> {
     pub fn of(alloc: Global, entries: Vec<Entry<'a>>, room: usize) -> Result<Self, TextFault>
         requires { room ≤ 4194304 }
         ensures ok { IfOk result (λ labels. labels ≡ pairs (map mark entries.entry.items)) }
-        ensures single { IfOk result (λ labels. double_line [] (map mark entries.entry.items) ≡ None) }
+        ensures single { IfOk result (λ labels.
+            double_line [] (map mark entries.entry.items) ≡ None) }
         ensures kind { IfErr result (λ f. f.kind ≢ FaultKind.Memory
             → f.kind ≡ FaultKind.DoubleLabel) }
         ensures double { IfErr result (λ f. f.kind ≢ FaultKind.Memory
