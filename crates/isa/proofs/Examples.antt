@@ -85,7 +85,8 @@ nop_is_a_shift = refl
 
 link_register_left_out : listing (codes "jalr $0")
     ≡ Ok (record { code = record { op = Jalr; target = 31; first = 0; second = 0; number = 0 } ∷ []; bytes = [] })
-unfolding listing fault_in first_fault labels_of statement_of statement with_operands operands instruction is_operation form_with filled fill register register_number decimal_in decimal numeral table numbered memory resolved
+unfolding listing fault_in first_fault labels_of statement_of statement with_operands operands instruction is_operation form_with filled fill register register_number decimal_in decimal numeral table
+    numbered memory resolved
 link_register_left_out = refl
 
 no_label : listing (codes "a b: break") ≡ Err (1, UnknownOp)
@@ -105,7 +106,8 @@ unfolding listing fault_in first_fault labels_of statement_of statement with_ope
 count_before_operands = refl
 
 left_operand_first : listing (codes "addiu $1,$32,x") ≡ Err (1, BadRegister)
-unfolding listing fault_in first_fault labels_of statement_of statement with_operands operands instruction is_operation form_with filled fill register register_number decimal_in decimal numeral table numbered memory
+unfolding listing fault_in first_fault labels_of statement_of statement with_operands operands instruction is_operation form_with filled fill register register_number decimal_in decimal numeral table
+    numbered memory
 left_operand_first = refl
 
 behind_the_text : listing (codes "j E\nE:")
@@ -118,7 +120,8 @@ label_of_a_directive : listing (codes "nop\nE: .word -2\nj E")
       code = record { op = Sll; target = 0; first = 0; second = 0; number = 0 } ∷ record { op = J; target = 0; first = 0; second = 0; number = 0x00400004 } ∷ [];
       bytes = 0xfe ∷ 0xff ∷ 0xff ∷ 0xff ∷ [];
     })
-unfolding listing fault_in first_fault labels_of statement_of statement with_operands operands instruction is_operation form_with filled fill words number number_in magnitude decimal numeral table numbered memory resolved
+unfolding listing fault_in first_fault labels_of statement_of statement with_operands operands instruction is_operation form_with filled fill words number number_in magnitude decimal numeral table
+    numbered memory resolved
 label_of_a_directive = refl
 
 space_of_six : listing (codes ".space 6") ≡ Err (1, BadNumber)

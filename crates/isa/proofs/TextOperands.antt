@@ -1,5 +1,6 @@
 -- The operands of an instruction's text, read back.
-use Rattle.std.proofs.Common.{◌≡◌, ℕ, zero, suc, ◌-◌, ◌%◌, ◌/◌, ◌^◌, ◌<◌, Bool, true, false, ◌&&◌, ◌==◌, List, [], ◌∷◌, ◌++◌, length, get_or, take, map, Some, Ok, Err, refl, ap, arith, inl, inr, eqb-true}
+use Rattle.std.proofs.Common.{◌≡◌, ℕ, zero, suc, ◌-◌, ◌%◌, ◌/◌, ◌^◌, ◌<◌, Bool, true, false, ◌&&◌, ◌==◌, List, [], ◌∷◌, ◌++◌, length, get_or, take, map, Some, Ok, Err, refl, ap, arith, inl, inr}
+use Rattle.std.proofs.Common.{eqb-true}
 use Rattle.std.specs.Prelude.{Result, codes}
 use Rattle.std.specs.Fmt.{digits}
 use Rattle.std.specs.List.{list_all}
@@ -142,7 +143,12 @@ pub offset_of : (naming : Naming) (n r : ℕ) → IsSignedHalf n → r < 32
 unfolding offset_and_register
 offset_of naming n r half small =
     let part = signed_part n half in
-    rw (parenthesized_of (signed_text n) (register_text naming r) (signed_bytes n half) part (register_part naming r small), some_length _ (part_starts _ part), signed_half_of n half, register_of naming r small)
+    rw (
+      parenthesized_of (signed_text n) (register_text naming r) (signed_bytes n half) part (register_part naming r small),
+      some_length _ (part_starts _ part),
+      signed_half_of n half,
+      register_of naming r small,
+    )
     refl
 
 pub offset_part : (naming : Naming) (n r : ℕ) → IsSignedHalf n → r < 32

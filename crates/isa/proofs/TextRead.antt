@@ -19,7 +19,8 @@ use Rattle.isa.specs.Listing.{read, labels}
 use Rattle.isa.specs.Wording.{word_of, slots_of}
 use Rattle.isa.specs.InstrText.{operand_text, with_operands_text, is_nop, text_of, said_of, StandsFor, IsWritable, TextIsReadBack}
 use Rattle.isa.proofs.Statements.{instruction_ok, statement_is}
-use Rattle.isa.proofs.TextBytes.{Of, of_all, of_append, of_other, inner, inner_no_blank, IsPart, part_of, part_starts, part_ends, AreParts, Starts, Ends, ends_behind, joined_ends, some_length, trim_end_whole, before_at, after_at, before_whole, after_whole, split_whole, operands_joined}
+use Rattle.isa.proofs.TextBytes.{Of, of_all, of_append, of_other, inner, inner_no_blank, IsPart, part_of, part_starts, part_ends, AreParts, Starts, Ends, ends_behind, joined_ends, some_length}
+use Rattle.isa.proofs.TextBytes.{trim_end_whole, before_at, after_at, before_whole, after_whole, split_whole, operands_joined}
 use Rattle.isa.proofs.TextOperands.{filled_of, parts_are}
 
 -- ---- words

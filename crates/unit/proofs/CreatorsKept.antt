@@ -90,7 +90,8 @@ was_put (w ∷ ws) (suc i) (suc k) x y same e =
     let p = was_put ws i k x y same e in
     record { w = p.w; is = p.is; instr = p.instr; destination = p.destination }
 
-pub known_put : (ws : List Station) (cs : List Creators) (newest : List ℕ) (start i : ℕ) (x : Station) → KnowsCreators ws cs newest start → IsOfSame x (slice_get ws i) → KnowsCreators (set ws i x) cs newest start
+pub known_put : (ws : List Station) (cs : List Creators) (newest : List ℕ) (start i : ℕ) (x : Station) → KnowsCreators ws cs newest start → IsOfSame x (slice_get ws i) →
+    KnowsCreators (set ws i x) cs newest start
 known_put ws cs newest start i x h same =
     record {
       stations = h.stations ∙ sym (length-set ws i x);
@@ -124,7 +125,8 @@ creator_shift ws i r n start small h k less e =
       youngest = omega (arith, q.youngest, next);
     }
 
-pub known_shift : (ws : List Station) (cs : List Creators) (newest : List ℕ) (start : ℕ) → start < 32 → KnowsCreators ws cs newest start → KnowsCreators (drop 1 ws) (drop 1 cs) newest (slot_of start 1)
+pub known_shift : (ws : List Station) (cs : List Creators) (newest : List ℕ) (start : ℕ) → start < 32 → KnowsCreators ws cs newest start →
+    KnowsCreators (drop 1 ws) (drop 1 cs) newest (slot_of start 1)
 known_shift ws cs newest start small h =
     record {
       stations = length_shift cs ws h.stations;
@@ -144,7 +146,8 @@ known_shift ws cs newest start small h =
 
 -- The youngest is squashed
 
-pub known_pop : (ws : List Station) (cs : List Creators) (newest : List ℕ) (start m : ℕ) (w : Station) (c : Creators) → KnowsCreators ws cs newest start → length ws ≡ suc m → slice_get ws m ≡ Some w → slice_get cs m ≡ Some c → w.destination < 34 → KnowsCreators (take m ws) (take m cs) (set newest w.destination c.replaced) start
+pub known_pop : (ws : List Station) (cs : List Creators) (newest : List ℕ) (start m : ℕ) (w : Station) (c : Creators) → KnowsCreators ws cs newest start → length ws ≡ suc m → slice_get ws m ≡ Some w →
+    slice_get cs m ≡ Some c → w.destination < 34 → KnowsCreators (take m ws) (take m cs) (set newest w.destination c.replaced) start
 known_pop ws cs newest start m w c h len e f small =
     let tenants : length (take m ws) ≡ m = length-take-le m ws (omega (arith, len)) in
     let records : length (take m cs) ≡ m = length-take-le m cs (omega (arith, len, h.stations)) in
@@ -177,7 +180,8 @@ known_pop ws cs newest start m w c h len e f small =
 
 -- A let
 
-pub known_let : (ws : List Station) (cs : List Creators) (newest : List ℕ) (start : ℕ) (w : Station) (c : Creators) → start < 32 → KnowsCreators ws cs newest start → length ws < 32 → w.destination < 34 → HasCreators ws (length ws) w (places_of c start) → KnowsCreators (ws ++ w ∷ []) (cs ++ c ∷ []) (set newest w.destination (slot_of start (length ws))) start
+pub known_let : (ws : List Station) (cs : List Creators) (newest : List ℕ) (start : ℕ) (w : Station) (c : Creators) → start < 32 → KnowsCreators ws cs newest start → length ws < 32 →
+    w.destination < 34 → HasCreators ws (length ws) w (places_of c start) → KnowsCreators (ws ++ w ∷ []) (cs ++ c ∷ []) (set newest w.destination (slot_of start (length ws))) start
 known_let ws cs newest start w c begins h room small has =
     let m = length ws in
     let xs = ws ++ w ∷ [] in

@@ -1,5 +1,6 @@
 -- The turns Retired and Over are steps of the unit.
-use Rattle.std.proofs.Common.{◌≡◌, ◌≢◌, ℕ, suc, ◌+◌, ◌%◌, ◌<◌, ◌≤◌, Bool, true, false, cond, eqb, List, [], ◌∷◌, ◌++◌, length, drop, Option, Some, None, refl, sym, ap, ◌∙◌, subst, inl, inr, add-one, arith}
+use Rattle.std.proofs.Common.{◌≡◌, ◌≢◌, ℕ, suc, ◌+◌, ◌%◌, ◌<◌, ◌≤◌, Bool, true, false, cond, eqb, List, [], ◌∷◌, ◌++◌, length, drop, Option, Some, None, refl, sym, ap, ◌∙◌, subst, inl, inr, add-one}
+use Rattle.std.proofs.Common.{arith}
 use Rattle.std.specs.Prelude.{Result, Ok, Err, is_some, slice_get, slice_index, unwrap_or}
 use Rattle.std.specs.List.{AllByRecursion}
 use Rattle.std.proofs.lemmas.Option.{slice_get_within}
@@ -21,7 +22,8 @@ use Rattle.inorder.specs.Committed.{ahead, commits, commits_by, committed, compl
 use Rattle.inorder.specs.Machine.{State, write}
 use Rattle.inorder.specs.Memory.{stored, stored_by}
 use Rattle.inorder.specs.Steps.{CanRetire, IsNoRetiredStop, MayRetire, made_at_end, retired}
-use Rattle.inorder.specs.Tenants.{Addr, Busy, Done, Fate, IsThere, Miss, Open, Retired as RetiredStanding, Stopped, Tenant, computed, computed_next, destination_of, instr, is_first, kind_of, on_path, operand_value, stands_on_path}
+use Rattle.inorder.specs.Tenants.{Addr, Busy, Done, Fate, IsThere, Miss, Open, Retired as RetiredStanding, Stopped, Tenant, computed, computed_next, destination_of, instr, is_first, kind_of, on_path}
+use Rattle.inorder.specs.Tenants.{operand_value, stands_on_path}
 use Rattle.inorder.specs.Unit.{Sizes, UpdateUnit, at, how_many}
 use Rattle.inorder.proofs.Commits.{not_complete, over}
 use Rattle.inorder.proofs.Halves.{first_low}
@@ -196,7 +198,8 @@ can_leave b h f = go (slice_get b.window 0) refl
     go (Some w) e = some w e w.stage refl
 
 -- the oldest with an address is a store
-oldest_stores : (b : Pipeline) (U : UpdateUnit) (w : Station) (t : Tenant) (ts : List Tenant) (a : ℕ) → Refused b → slice_get b.window 0 ≡ Some w → station_of b.program.now t ≡ w → IsSoundAt b.program.now ts t → t.fate ≡ Addr a → kind_of b.program.now t ≡ Stores
+oldest_stores : (b : Pipeline) (U : UpdateUnit) (w : Station) (t : Tenant) (ts : List Tenant) (a : ℕ) → Refused b → slice_get b.window 0 ≡ Some w → station_of b.program.now t ≡ w →
+    IsSoundAt b.program.now ts t → t.fate ≡ Addr a → kind_of b.program.now t ≡ Stores
 oldest_stores b U w t ts a f e sw s ef = go (access_of (kind_of P t) (instr P t) t.half t.pc (operand_value t.first) (operand_value t.second) (length P.bytes) a (comes_to P ts t a s ef))
   where
     P : Program
@@ -263,7 +266,8 @@ commits_same : (P : Program) (t : Tenant) (s : State) → CommitsSame P t s → 
 commits_same P t s c =
     ap (λ x. record { registers = write s.registers (destination_of P t) (unwrap_or x 0); memory = with_stored (stored P (retired t 0)) s.memory; pc = computed_next P t; count = suc s.count }) c.made
     ∙ ap (λ x. record { registers = write s.registers (destination_of P t) (unwrap_or t.made 0); memory = x; pc = computed_next P t; count = suc s.count }) c.stores
-    ∙ ap (λ x. record { registers = write s.registers (destination_of P t) (unwrap_or t.made 0); memory = memory_with (instr P t) (stage_of t.fate) s.registers s.memory; pc = x; count = suc s.count }) c.goes
+    ∙ ap (λ x. record { registers = write s.registers (destination_of P t) (unwrap_or t.made 0); memory = memory_with (instr P t) (stage_of t.fate) s.registers s.memory; pc = x; count = suc s.count })
+    c.goes
 
 -- What leaves
 
@@ -343,7 +347,8 @@ store_left b t ts a s e k d =
 
 -- The oldest retires
 
-leave : (b later : Pipeline) (answer : Turn) (w : Station) → IsUnit b → Refused b → slice_get b.window 0 ≡ Some w → HasEnded (length b.committed.memory) w.instr w.stage → LeavesTo b w w.stage answer later → Moves b answer later
+leave : (b later : Pipeline) (answer : Turn) (w : Station) → IsUnit b → Refused b → slice_get b.window 0 ≡ Some w → HasEnded (length b.committed.memory) w.instr w.stage →
+    LeavesTo b w w.stage answer later → Moves b answer later
 leave b later answer w h f e ended to U r s = go (found P U.tenants 0 w (ap (λ W. slice_get W 0) (sym s.window) ∙ e))
   where
     P : Program
@@ -567,7 +572,8 @@ leave b later answer w h f e ended to U r s = go (found P U.tenants 0 w (ap (λ 
         by Opens q l = absurd (subst (HasEnded (length b.committed.memory) w.instr) q ended)
         by (Misses x) q l = absurd (subst (HasEnded (length b.committed.memory) w.instr) q ended)
 
-pub retires_turn : (b later : Pipeline) (answer : Turn) → IsUnit b → Refused b → CanLeave (length b.committed.memory) (slice_get b.window 0) → RetiresTo b (slice_get b.window 0) answer later → Moves b answer later
+pub retires_turn : (b later : Pipeline) (answer : Turn) → IsUnit b → Refused b → CanLeave (length b.committed.memory) (slice_get b.window 0) → RetiresTo b (slice_get b.window 0) answer later →
+    Moves b answer later
 retires_turn b later answer h f can to = go (slice_get b.window 0) refl can to
   where
     go : (o : Option Station) → slice_get b.window 0 ≡ o → CanLeave (length b.committed.memory) o → RetiresTo b o answer later → Moves b answer later

@@ -66,7 +66,8 @@ end_halts : (P : Program) (k : ℕ) (s : State) (c : Stop) → step P s ≡ Halt
 end_halts P k s c e = ap (end_after (end_from P k) s) e
 
 -- where the run goes on from later, it ends as from b
-pub ends_same : (limit : ℕ) (b later : Pipeline) (answer : Turn) → IsUnit b → Moves b answer later → IsSame b later → b.committed.count < limit → ((c : Stop) → answer ≡ Over c → ⊥) → Falls answer b later → end_from b.program.now (limit - later.committed.count) later.committed ≡ end_from b.program.now (limit - b.committed.count) b.committed
+pub ends_same : (limit : ℕ) (b later : Pipeline) (answer : Turn) → IsUnit b → Moves b answer later → IsSame b later → b.committed.count < limit → ((c : Stop) → answer ≡ Over c → ⊥) →
+    Falls answer b later → end_from b.program.now (limit - later.committed.count) later.committed ≡ end_from b.program.now (limit - b.committed.count) b.committed
 ends_same limit b later Recovered h l e q n f = ap (λ s. end_from b.program.now (limit - s.count) s) f.0
 ends_same limit b later Let h l e q n f = ap (λ s. end_from b.program.now (limit - s.count) s) f.0
 ends_same limit b later Ran h l e q n f = ap (λ s. end_from b.program.now (limit - s.count) s) f.0
@@ -81,7 +82,8 @@ ends_same limit b later Retired h l e q n f =
     sym (ap (λ x. end_from P x b.committed) k ∙ end_goes P (limit - later.committed.count) b.committed later.committed (goes_of (step P b.committed) later.committed came))
 
 -- the run is over
-pub ends_over : (limit : ℕ) (b later : Pipeline) (c : Stop) → IsUnit b → Moves b (Over c) later → IsSame b later → b.committed.count < limit → Falls (Over c) b later → (ByStop c, later.committed) ≡ end_from b.program.now (limit - b.committed.count) b.committed
+pub ends_over : (limit : ℕ) (b later : Pipeline) (c : Stop) → IsUnit b → Moves b (Over c) later → IsSame b later → b.committed.count < limit → Falls (Over c) b later →
+    (ByStop c, later.committed) ≡ end_from b.program.now (limit - b.committed.count) b.committed
 ends_over limit b later c h t e q f =
     let P = b.program.now in
     let stops : stop_of (step P b.committed) ≡ Some c = sym (ap (then_stop P) (state_is b h)) ∙ ap (λ s. stop P s.count) (sym f) ∙ over_is b later c h t e in

@@ -1,5 +1,6 @@
 -- The tenant of a station.
-use Rattle.std.proofs.Common.{◌≡◌, ◌⊎◌, ℕ, zero, suc, Bool, true, false, cond, List, [], ◌∷◌, ◌++◌, length, drop, Some, refl, sym, ap, ◌∙◌, inl, inr, ⊎_elim, arith, append_assoc, length-append, true≢false}
+use Rattle.std.proofs.Common.{◌≡◌, ◌⊎◌, ℕ, zero, suc, Bool, true, false, cond, List, [], ◌∷◌, ◌++◌, length, drop, Some, refl, sym, ap, ◌∙◌, inl, inr, ⊎_elim, arith, append_assoc, length-append}
+use Rattle.std.proofs.Common.{true≢false}
 use Rattle.std.specs.Prelude.{slice_get}
 use Rattle.std.specs.List.{AllByRecursion}
 use Rattle.instructions.specs.Programs.{Program}
@@ -94,13 +95,67 @@ window_gone P ys t ts e = window_middle P (gone ys) t ts e ∙ ap (λ l. window 
 
 pub station_alike : (P : Program) (t u : Tenant) → IsAlike t u → station_of P u ≡ station_of P t
 station_alike P t u a =
-    ap (λ i. record (station_of P u) { instr = Rattle.instructions.specs.Programs.instr_of P i; destination = Rattle.instructions.specs.Instruction.destination (Rattle.instructions.specs.Programs.instr_of P i) u.half }) a.index
-    ∙ ap (λ h. record (station_of P u) { instr = Rattle.inorder.specs.Tenants.instr P t; half = h; destination = Rattle.instructions.specs.Instruction.destination (Rattle.inorder.specs.Tenants.instr P t) h }) a.half
-    ∙ ap (λ x. record { instr = Rattle.inorder.specs.Tenants.instr P t; half = t.half; destination = Rattle.inorder.specs.Tenants.destination_of P t; pc = x; predicted = u.predicted; next = u.next; made = u.made; stage = Rattle.unit.specs.Window.stage_of u.fate }) a.pc
-    ∙ ap (λ x. record { instr = Rattle.inorder.specs.Tenants.instr P t; half = t.half; destination = Rattle.inorder.specs.Tenants.destination_of P t; pc = t.pc; predicted = x; next = u.next; made = u.made; stage = Rattle.unit.specs.Window.stage_of u.fate }) a.predicted
-    ∙ ap (λ x. record { instr = Rattle.inorder.specs.Tenants.instr P t; half = t.half; destination = Rattle.inorder.specs.Tenants.destination_of P t; pc = t.pc; predicted = t.predicted; next = x; made = u.made; stage = Rattle.unit.specs.Window.stage_of u.fate }) a.next
-    ∙ ap (λ x. record { instr = Rattle.inorder.specs.Tenants.instr P t; half = t.half; destination = Rattle.inorder.specs.Tenants.destination_of P t; pc = t.pc; predicted = t.predicted; next = t.next; made = x; stage = Rattle.unit.specs.Window.stage_of u.fate }) a.made
-    ∙ ap (λ x. record { instr = Rattle.inorder.specs.Tenants.instr P t; half = t.half; destination = Rattle.inorder.specs.Tenants.destination_of P t; pc = t.pc; predicted = t.predicted; next = t.next; made = t.made; stage = Rattle.unit.specs.Window.stage_of x }) a.fate
+    ap (λ i. record (station_of P u) {
+      instr = Rattle.instructions.specs.Programs.instr_of P i;
+      destination = Rattle.instructions.specs.Instruction.destination
+          (Rattle.instructions.specs.Programs.instr_of P i) u.half;
+    }) a.index
+    ∙ ap (λ h. record (station_of P u) {
+      instr = Rattle.inorder.specs.Tenants.instr P t;
+      half = h;
+      destination = Rattle.instructions.specs.Instruction.destination
+          (Rattle.inorder.specs.Tenants.instr P t) h;
+    }) a.half
+    ∙ ap (λ x. record {
+      instr = Rattle.inorder.specs.Tenants.instr P t;
+      half = t.half;
+      destination = Rattle.inorder.specs.Tenants.destination_of P t;
+      pc = x;
+      predicted = u.predicted;
+      next = u.next;
+      made = u.made;
+      stage = Rattle.unit.specs.Window.stage_of u.fate;
+    }) a.pc
+    ∙ ap (λ x. record {
+      instr = Rattle.inorder.specs.Tenants.instr P t;
+      half = t.half;
+      destination = Rattle.inorder.specs.Tenants.destination_of P t;
+      pc = t.pc;
+      predicted = x;
+      next = u.next;
+      made = u.made;
+      stage = Rattle.unit.specs.Window.stage_of u.fate;
+    }) a.predicted
+    ∙ ap (λ x. record {
+      instr = Rattle.inorder.specs.Tenants.instr P t;
+      half = t.half;
+      destination = Rattle.inorder.specs.Tenants.destination_of P t;
+      pc = t.pc;
+      predicted = t.predicted;
+      next = x;
+      made = u.made;
+      stage = Rattle.unit.specs.Window.stage_of u.fate;
+    }) a.next
+    ∙ ap (λ x. record {
+      instr = Rattle.inorder.specs.Tenants.instr P t;
+      half = t.half;
+      destination = Rattle.inorder.specs.Tenants.destination_of P t;
+      pc = t.pc;
+      predicted = t.predicted;
+      next = t.next;
+      made = x;
+      stage = Rattle.unit.specs.Window.stage_of u.fate;
+    }) a.made
+    ∙ ap (λ x. record {
+      instr = Rattle.inorder.specs.Tenants.instr P t;
+      half = t.half;
+      destination = Rattle.inorder.specs.Tenants.destination_of P t;
+      pc = t.pc;
+      predicted = t.predicted;
+      next = t.next;
+      made = t.made;
+      stage = Rattle.unit.specs.Window.stage_of x;
+    }) a.fate
 
 pub window_alike : (P : Program) (ts us : List Tenant) → AreAlike ts us → window P us ≡ window P ts
 window_alike P [] [] a = refl

@@ -1,5 +1,6 @@
 -- Who has left a station, step by step.
-use Rattle.std.proofs.Common.{◌≡◌, ◌≢◌, ◌⊎◌, ℕ, zero, suc, ◌<◌, Bool, true, false, cond, eqb, List, [], ◌∷◌, ◌++◌, length, Option, Some, None, refl, sym, ap, ◌∙◌, subst, inl, inr, ⊎_elim, arith, eq-eqb, ne_eqb, eqb-true, true≢false}
+use Rattle.std.proofs.Common.{◌≡◌, ◌≢◌, ◌⊎◌, ℕ, zero, suc, ◌<◌, Bool, true, false, cond, eqb, List, [], ◌∷◌, ◌++◌, length, Option, Some, None, refl, sym, ap, ◌∙◌, subst, inl, inr, ⊎_elim, arith}
+use Rattle.std.proofs.Common.{eq-eqb, ne_eqb, eqb-true, true≢false}
 use Rattle.std.specs.Prelude.{slice_get, slice_set}
 use Rattle.std.specs.List.{AllByRecursion}
 use Rattle.instructions.specs.Instruction.{fixed_next, fixed_next_by, fixed_next_if, is_first_half, kind}
@@ -52,7 +53,8 @@ leaver_gone P s [] us = refl
 leaver_gone P s (y ∷ ys) us =
     ap (cond (eqb (gone_by y.standing y).station s) (told_of P (gone_by y.standing y))) (leaver_gone P s ys us) ∙ go y.standing refl
   where
-    go : (st : Standing) → y.standing ≡ st → cond (eqb (gone_by y.standing y).station s) (told_of P (gone_by y.standing y)) (leaver P (ys ++ us) s) ≡ cond (eqb y.station s) (told_of P y) (leaver P (ys ++ us) s)
+    go : (st : Standing) → y.standing ≡ st → cond (eqb (gone_by y.standing y).station s) (told_of P (gone_by y.standing y)) (leaver P (ys ++ us) s) ≡ cond (eqb y.station s) (told_of P y)
+        (leaver P (ys ++ us) s)
     go Retired e = ap (λ x. cond (eqb (gone_by x y).station s) (told_of P (gone_by x y)) (leaver P (ys ++ us) s)) e
     go Squashed e = ap (λ x. cond (eqb (gone_by x y).station s) (told_of P (gone_by x y)) (leaver P (ys ++ us) s)) e
     go Live e =
@@ -88,13 +90,15 @@ some_cond true x y = refl
 some_cond false x y = refl
 
 -- the station k tells v, all others as before
-pub leavers_set : (xs : List (Option Leaver)) (P : Program) (us vs : List Tenant) (k n : ℕ) (v : Option Leaver) → k < length xs → ((s : ℕ) → s < n → slice_get xs s ≡ Some (leaver P us s)) → ((s : ℕ) → leaver P vs s ≡ cond (eqb k s) v (leaver P us s)) → (s : ℕ) → s < n → slice_get (slice_set xs k v) s ≡ Some (leaver P vs s)
+pub leavers_set : (xs : List (Option Leaver)) (P : Program) (us vs : List Tenant) (k n : ℕ) (v : Option Leaver) → k < length xs → ((s : ℕ) → s < n → slice_get xs s ≡ Some (leaver P us s)) →
+    ((s : ℕ) → leaver P vs s ≡ cond (eqb k s) v (leaver P us s)) → (s : ℕ) → s < n → slice_get (slice_set xs k v) s ≡ Some (leaver P vs s)
 leavers_set xs P us vs k n v h old new s l =
     get_set xs k s v h ∙ ap (cond (eqb k s) (Some v)) (old s l) ∙ some_cond (eqb k s) v (leaver P us s) ∙ ap Some (sym (new s))
 
 -- The oldest retires
 
-pub leaver_retire : (P : Program) (ys : List Tenant) (t u : Tenant) (ts : List Tenant) (k : ℕ) (v : Option Leaver) → t.station ≡ k → u.station ≡ k → AllByRecursion (λ y. y.station ≢ t.station) ys → told_of P u ≡ v → (s : ℕ) → leaver P (ys ++ u ∷ ts) s ≡ cond (eqb k s) v (leaver P (ys ++ t ∷ ts) s)
+pub leaver_retire : (P : Program) (ys : List Tenant) (t u : Tenant) (ts : List Tenant) (k : ℕ) (v : Option Leaver) → t.station ≡ k → u.station ≡ k → AllByRecursion (λ y. y.station ≢ t.station) ys →
+    told_of P u ≡ v → (s : ℕ) → leaver P (ys ++ u ∷ ts) s ≡ cond (eqb k s) v (leaver P (ys ++ t ∷ ts) s)
 leaver_retire P [] t u ts k v e f a g s =
     ap (λ n. cond (eqb n s) (told_of P u) (leaver P ts s)) f ∙ ap (λ o. cond (eqb k s) o (leaver P ts s)) g ∙ go (eqb k s) refl
   where
@@ -139,7 +143,8 @@ done_next k o pc next v made j d =
     (λ e. let x : DoneBy o pc next made v Links = subst (DoneBy o pc next made v) e d in x.1)
     j
 
-pub told_done : (P : Program) (t : Tenant) (o : Outcome) (v : ℕ) → DoneBy o t.pc t.next t.made v (kind_of P t) → leaver_by (fixed_next (instr P t) t.half t.pc) t.pc v ≡ leaver_by (fixed_next (instr P t) t.half t.pc) t.pc t.next
+pub told_done : (P : Program) (t : Tenant) (o : Outcome) (v : ℕ) → DoneBy o t.pc t.next t.made v (kind_of P t) →
+    leaver_by (fixed_next (instr P t) t.half t.pc) t.pc v ≡ leaver_by (fixed_next (instr P t) t.half t.pc) t.pc t.next
 told_done P t o v d = go (fixed_next (instr P t) t.half t.pc) refl
   where
     go : (f : Option ℕ) → fixed_next (instr P t) t.half t.pc ≡ f → leaver_by (fixed_next (instr P t) t.half t.pc) t.pc v ≡ leaver_by (fixed_next (instr P t) t.half t.pc) t.pc t.next

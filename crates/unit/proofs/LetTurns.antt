@@ -123,12 +123,23 @@ let_turn b later f pr place none room most long nm to small predicts pe pl wl ll
               stands = record {
                 window = shown;
                 committed = s.committed ∙ sym same;
-                leavers = subst (λ l. (n : ℕ) → n < b.ring → slice_get l n ≡ Some (leaver P V.tenants n)) (sym ll) (leavers_set b.leavers P ts V.tenants place b.ring None (omega (arith, pl, most, long)) s.leavers tells);
+                leavers = subst (λ l. (n : ℕ) → n < b.ring → slice_get l n ≡ Some (leaver P V.tenants n)) (sym ll)
+                    (leavers_set b.leavers P ts V.tenants place b.ring None (omega (arith, pl, most, long)) s.leavers tells);
                 over = subst (OverIs V.tenants) (sym none) ((no_stop, over.0), ((k.first_still, k.second_still, free), over.1));
                 low = s.low ∙ sym (same_live P k.tenant ts live).low;
                 oldest = s.oldest ∙ ap (λ n. n % b.ring) (sym (same_live P k.tenant ts live).retired);
               };
-              does = record { goes_on = over.0; no_miss = no_miss P ts (none_in miss_in P b.window ts s.window nm); index = a.index; predicted = pr; first = k.first; second = k.second; links = k.links; are = k.are; leads = k.leads };
+              does = record {
+                goes_on = over.0;
+                no_miss = no_miss P ts (none_in miss_in P b.window ts s.window nm);
+                index = a.index;
+                predicted = pr;
+                first = k.first;
+                second = k.second;
+                links = k.links;
+                are = k.are;
+                leads = k.leads;
+              };
               tenant = k.tenant;
               joins = refl;
               instr = ap (instr_of P) k.alike.index ∙ a.is;

@@ -1,5 +1,6 @@
 -- What is remembered of the window stays right.
-use Rattle.std.proofs.Common.{◌≡◌, ◌≢◌, ◌⊎◌, ◌<◌, ◌≤◌, ◌-◌, ℕ, zero, suc, ◌+◌, Bool, true, false, eqb, List, [], ◌∷◌, ◌++◌, length, take, drop, Option, Some, None, refl, sym, ap, ◌∙◌, subst, inl, inr, ⊎_elim, arith, length-append, length-take-le, true≢false}
+use Rattle.std.proofs.Common.{◌≡◌, ◌≢◌, ◌⊎◌, ◌<◌, ◌≤◌, ◌-◌, ℕ, zero, suc, ◌+◌, Bool, true, false, eqb, List, [], ◌∷◌, ◌++◌, length, take, drop, Option, Some, None, refl, sym, ap, ◌∙◌, subst, inl, inr}
+use Rattle.std.proofs.Common.{⊎_elim, arith, length-append, length-take-le, true≢false}
 use Rattle.std.specs.Prelude.{min, slice_get, slice_set}
 use Rattle.std.proofs.lemmas.Bool.{cases_lt}
 use Rattle.instructions.specs.Instruction.{kind}
@@ -109,7 +110,8 @@ pub noted_more : (missed : Bool) (n : ℕ) (W : List Station) (w : Station) → 
 noted_more missed n W w m s = record { no_miss = λ q. none_more W w m (s.no_miss q); are_settled = settled_more W n w s.are_settled }
 
 -- The youngest are squashed behind a miss, and it is mended
-pub noted_mended : (missed : Bool) (n at x : ℕ) (W : List Station) (y : Station) → FirstGives miss_in W at x → miss_of y.stage ≡ None → AreNoted missed n W → AreNoted false (min n at) (take at W ++ y ∷ [])
+pub noted_mended : (missed : Bool) (n at x : ℕ) (W : List Station) (y : Station) → FirstGives miss_in W at x → miss_of y.stage ≡ None → AreNoted missed n W →
+    AreNoted false (min n at) (take at W ++ y ∷ [])
 noted_mended missed n at x W y first m s =
     let size : length (take at W) ≡ at = length-take-le at W (omega (arith, first.inside)) in
     record {
@@ -159,7 +161,8 @@ open_unsettled k (Addr a) o x e = absurd (cc)
 open_unsettled k (Miss a) o x e = absurd (cc)
 open_unsettled k (Stops c) o x e = absurd (cc)
 
-pub given_station : {X : Type 0} → (give : List Station → Station → Option X) (W : List Station) (i : ℕ) (w : Station) (x : X) → slice_get W i ≡ Some w → gives give W i ≡ Some x → give (take i W) w ≡ Some x
+pub given_station : {X : Type 0} → (give : List Station → Station → Option X) (W : List Station) (i : ℕ) (w : Station) (x : X) → slice_get W i ≡ Some w → gives give W i ≡ Some x →
+    give (take i W) w ≡ Some x
 given_station give W i w x e g = sym (ap (λ o. given_at give W o i) e) ∙ g
 
 missed_none : (missed : Bool) (s : Stage) → missed_after missed s ≡ false → (missed ≡ false) × (miss_of s ≡ None)
@@ -169,7 +172,8 @@ missed_none missed Done e = (e, refl)
 missed_none missed (Miss x) e = absurd (true≢false e)
 missed_none missed (Stops c) e = (e, refl)
 
-pub noted_ran : (registers : List ℕ) (missed : Bool) (n n' i : ℕ) (W : List Station) (x y : Station) (o : Operands) → slice_get W i ≡ Some x → gives (operands_in registers) W i ≡ Some o → AreNoted missed n W → AreSettled n' W → AreNoted (missed_after missed y.stage) n' (slice_set W i y)
+pub noted_ran : (registers : List ℕ) (missed : Bool) (n n' i : ℕ) (W : List Station) (x y : Station) (o : Operands) → slice_get W i ≡ Some x → gives (operands_in registers) W i ≡ Some o →
+    AreNoted missed n W → AreSettled n' W → AreNoted (missed_after missed y.stage) n' (slice_set W i y)
 noted_ran registers missed n n' i W x y o e g s s' =
     let closed : settled_at (slice_get W i) ≡ false = ap settled_at e ∙ open_unsettled (kind x.instr.op) x.stage _ o (given_station (operands_in registers) W i x o e g) in
     record {
@@ -188,7 +192,8 @@ waits_unsettled Jumps s a e = absurd (cc)
 waits_unsettled Links s a e = absurd (cc)
 waits_unsettled Stores s a e = absurd (cc)
 
-pub noted_loaded : (registers memory : List ℕ) (missed : Bool) (n i v : ℕ) (W : List Station) (x y : Station) → slice_get W i ≡ Some x → gives (load_in registers memory) W i ≡ Some v → miss_of y.stage ≡ None → AreNoted missed n W → AreNoted missed n (slice_set W i y)
+pub noted_loaded : (registers memory : List ℕ) (missed : Bool) (n i v : ℕ) (W : List Station) (x y : Station) → slice_get W i ≡ Some x → gives (load_in registers memory) W i ≡ Some v →
+    miss_of y.stage ≡ None → AreNoted missed n W → AreNoted missed n (slice_set W i y)
 noted_loaded registers memory missed n i v W x y e g m s =
     let a = answered_waits registers memory (take i W) x v (given_station (load_in registers memory) W i x v e g) in
     let closed : settled_at (slice_get W i) ≡ false = ap settled_at e ∙ waits_unsettled (kind x.instr.op) x.stage a.0 a.1 in

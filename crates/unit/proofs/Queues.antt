@@ -1,5 +1,6 @@
 -- The queue of a window is that of its unit, but for the addresses of loads that are done.
-use Rattle.std.proofs.Common.{◌≡◌, ◌≢◌, ℕ, zero, suc, ◌+◌, ◌<◌, ◌≤◌, Bool, true, false, cond, ◌&&◌, List, [], ◌∷◌, ◌++◌, map, length, take, Option, Some, None, refl, sym, ap, ◌∙◌, subst, arith, length-append, true≢false}
+use Rattle.std.proofs.Common.{◌≡◌, ◌≢◌, ℕ, zero, suc, ◌+◌, ◌<◌, ◌≤◌, Bool, true, false, cond, ◌&&◌, List, [], ◌∷◌, ◌++◌, map, length, take, Option, Some, None, refl, sym, ap, ◌∙◌, subst, arith}
+use Rattle.std.proofs.Common.{length-append, true≢false}
 use Rattle.std.specs.Prelude.{slice_get, is_none}
 use Rattle.std.specs.List.{AllByRecursion}
 use Rattle.instructions.specs.Instruction.{second_of}
@@ -99,14 +100,23 @@ store_address Jumps f o e = absurd (true≢false (sym e))
 store_address Links f o e = absurd (true≢false (sym e))
 store_address Loads f o e = absurd (true≢false (sym e))
 
-entry_like : (P : Program) (registers : List ℕ) (t : Tenant) (ws : List Station) → t.second.value ≡ source_in registers ws (second_of (instr P t)) → IsLike (entry_of P t) (entry registers ws (station_of P t))
+entry_like : (P : Program) (registers : List ℕ) (t : Tenant) (ws : List Station) → t.second.value ≡ source_in registers ws (second_of (instr P t)) →
+    IsLike (entry_of P t) (entry registers ws (station_of P t))
 entry_like P registers t ws e =
     record {
       store = refl;
-      same = λ q. ap (λ x. record { store = is_store (kind_of P t); width = access_width (instr P t).op; address = x; content = content_by (kind_of P t) (source_in registers ws (second_of (instr P t))) }) (store_address (kind_of P t) t.fate (computed P t) q) ∙ ap (λ x. record { store = is_store (kind_of P t); width = access_width (instr P t).op; address = address_by (kind_of P t) t.fate (computed P t); content = content_by (kind_of P t) x }) (sym e);
+      same = λ q. ap (λ x. record {
+        store = is_store (kind_of P t);
+        width = access_width (instr P t).op;
+        address = x;
+        content = content_by (kind_of P t) (source_in registers ws (second_of (instr P t)));
+      }) (store_address (kind_of P t) t.fate (computed P t) q) ∙
+          ap (λ x. record { store = is_store (kind_of P t); width = access_width (instr P t).op; address = address_by (kind_of P t) t.fate (computed P t); content = content_by (kind_of P t) x })
+          (sym e);
     }
 
-entries_end : (registers : List ℕ) (xs : List Station) (w : Station) → entries registers (xs ++ w ∷ []) (length (xs ++ w ∷ [])) ≡ with_entry (entries registers xs (length xs)) (cond (reaches_memory w.instr.op) (Some (entry registers xs w)) None)
+entries_end : (registers : List ℕ) (xs : List Station) (w : Station) → entries registers (xs ++ w ∷ []) (length (xs ++ w ∷ [])) ≡ with_entry (entries registers xs (length xs))
+    (cond (reaches_memory w.instr.op) (Some (entry registers xs w)) None)
 entries_end registers xs w =
     let long : length (xs ++ w ∷ []) ≡ suc (length xs) = omega (arith, length-append xs (w ∷ [])) in
     let le : length xs ≤ length xs = omega arith in

@@ -80,7 +80,8 @@ station_ran P t (Stop v) = refl
 station_ran P t (Pair l h) = refl
 station_ran P t (Next x) = go (eqb x t.predicted) refl
   where
-    go : (b : Bool) → eqb x t.predicted ≡ b → station_of P (record t { fate = cond (eqb x t.predicted) (Done x) (Miss x) }) ≡ record (station_of P t) { stage = cond (eqb x t.predicted) IsDone (Misses x) }
+    go : (b : Bool) → eqb x t.predicted ≡ b → station_of P (record t { fate = cond (eqb x t.predicted) (Done x) (Miss x) }) ≡ record (station_of P t)
+        { stage = cond (eqb x t.predicted) IsDone (Misses x) }
     go true e = rw e refl
     go false e = rw e refl
 
@@ -110,10 +111,12 @@ knows b U none r s =
     let over : AllByRecursion IsNoRetiredStop U.tenants × AreStill U.tenants = subst (OverIs U.tenants) none s.over in
     record { sound = sound_of b.program.now (sizes b) U r; stops = over.0; still = over.1; registers = ap (λ c. c.registers) (ahead_stands b U r s) }
 
-pub cannot_let : (b : Pipeline) (U : UpdateUnit) → b.over ≡ None → IsReached b.program.now (sizes b) U → StandsFor b U → CannotLet b.program.now b.ring b.queue b.committed.pc b.window → NoLet b.program.now (sizes b) U
+pub cannot_let : (b : Pipeline) (U : UpdateUnit) → b.over ≡ None → IsReached b.program.now (sizes b) U → StandsFor b U → CannotLet b.program.now b.ring b.queue b.committed.pc b.window →
+    NoLet b.program.now (sizes b) U
 cannot_let b U none r s nl =
     let k = knows b U none r s in
-    no_let b.program.now (sizes b) U k.sound k.stops (subst (λ c. CannotLet b.program.now b.ring b.queue c.pc (window b.program.now U.tenants)) s.committed (subst (CannotLet b.program.now b.ring b.queue b.committed.pc) s.window nl))
+    no_let b.program.now (sizes b) U k.sound k.stops (subst (λ c. CannotLet b.program.now b.ring b.queue c.pc (window b.program.now U.tenants)) s.committed
+    (subst (CannotLet b.program.now b.ring b.queue b.committed.pc) s.window nl))
 
 pub nobody_claims : (b : Pipeline) (U : UpdateUnit) → b.over ≡ None → IsReached b.program.now (sizes b) U →
     StandsFor b U → NoneGives (operands_in (registers_of b)) b.window →
@@ -152,10 +155,14 @@ split_of b U ys t ts k e live =
     }
 
 -- One tenant is changed in place, and all that is due delivered
-changed_stands : (b later : Pipeline) (U : UpdateUnit) (ys : List Tenant) (t u : Tenant) (ts : List Tenant) (steps : List Step) (w : Station) → b.over ≡ None → IsReached b.program.now (sizes b) U → StandsFor b U → U.tenants ≡ ys ++ t ∷ ts → t.standing ≡ Live → u.standing ≡ Live → u.station ≡ t.station → AllByRecursion IsNoRetire steps → (k : ActRun b.program.now (sizes b) 0 U ys t u ts steps) → Leads b.program.now (sizes b) 0 U (k.delivers ++ steps) (with_tenants U k.later) → station_of b.program.now u ≡ w → later.window ≡ window b.program.now ts ++ w ∷ window b.program.now ys → StandsFor (record b { window = later.window; missed = later.missed; settled = later.settled }) (with_tenants U k.later)
+changed_stands : (b later : Pipeline) (U : UpdateUnit) (ys : List Tenant) (t u : Tenant) (ts : List Tenant) (steps : List Step) (w : Station) → b.over ≡ None → IsReached b.program.now (sizes b) U →
+    StandsFor b U → U.tenants ≡ ys ++ t ∷ ts → t.standing ≡ Live → u.standing ≡ Live → u.station ≡ t.station → AllByRecursion IsNoRetire steps →
+    (k : ActRun b.program.now (sizes b) 0 U ys t u ts steps) → Leads b.program.now (sizes b) 0 U (k.delivers ++ steps) (with_tenants U k.later) → station_of b.program.now u ≡ w →
+    later.window ≡ window b.program.now ts ++ w ∷ window b.program.now ys → StandsFor (record b { window = later.window; missed = later.missed; settled = later.settled }) (with_tenants U k.later)
 changed_stands b later U ys t u ts steps w none r s split lt lu st quiet k leads sw wl =
     stand_on b later.window later.missed later.settled U (with_tenants U k.later) none s
-    (committed_on P (sizes b) 0 U (k.delivers ++ steps) (with_tenants U k.later) leads (sound_of P (sizes b) U r) (all_more IsNoRetire k.delivers steps (all_weaker IsDeliver IsNoRetire deliver_quiet k.delivers k.are) quiet))
+    (committed_on P (sizes b) 0 U (k.delivers ++ steps) (with_tenants U k.later) leads (sound_of P (sizes b) U r)
+    (all_more IsNoRetire k.delivers steps (all_weaker IsDeliver IsNoRetire deliver_quiet k.delivers k.are) quiet))
     (λ n. leaver_alike P n (ys ++ u ∷ ts) k.later k.alike ∙ leaver_put P n ys t u ts st (told_live P u lu ∙ sym (told_live P t lt)) ∙ ap (λ X. leaver P X n) (sym split))
     (subst (λ X. LeavesSame P X k.later) (sym split) (same_both P (ys ++ t ∷ ts) (ys ++ u ∷ ts) k.later (same_put P ys t u ts lt lu) (same_alike P (ys ++ u ∷ ts) k.later k.alike)))
     (wl ∙ ap (λ x. window P ts ++ x ∷ window P ys) (sym sw) ∙ sym (window_middle P ys u ts lu) ∙ sym (window_alike P (ys ++ u ∷ ts) k.later k.alike))
@@ -212,13 +219,15 @@ ran_turn b later none nm nl to rest U r s = subst (Moved b U Ran) (sym rest) (go
         src = has_sources P regs t ts (sound_from P ys (t ∷ ts) sp.sound) (still_from ys (t ∷ ts) sp.still) (all_from IsNoRetiredStop ys (t ∷ ts) sp.stops).1 sp.before f.found.live
 
         given : operands_in regs W (station_of P t) ≡ Some to.o
-        given = ap (λ l. operands_in regs l (station_of P t)) (sym f.taken) ∙ ap (operands_in regs (take to.i b.window)) f.found.station ∙ given_station (operands_in regs) b.window to.i to.w to.o to.is to.first.here
+        given = ap (λ l. operands_in regs l (station_of P t)) (sym f.taken) ∙ ap (operands_in regs (take to.i b.window)) f.found.station ∙
+            given_station (operands_in regs) b.window to.i to.w to.o to.is to.first.here
 
         is_open : IsOpen t.fate (operands_by (kind_of P t) (source_in regs W (first_of (instr P t))) (source_in regs W (second_of (instr P t)))) to.o
         is_open = open_fate t.fate _ to.o (still_from ys (t ∷ ts) sp.still).0.2 given
 
         needs : AreNeeded (kind_of P t) t.first.value t.second.value to.o
-        needs = needed_are (kind_of P t) t.first.value t.second.value to.o (ap (λ x. operands_by (kind_of P t) x t.second.value) src.first ∙ ap (operands_by (kind_of P t) (source_in regs W (first_of (instr P t)))) src.second ∙ is_open.operands)
+        needs = needed_are (kind_of P t) t.first.value t.second.value to.o (ap (λ x. operands_by (kind_of P t) x t.second.value) src.first ∙
+            ap (operands_by (kind_of P t) (source_in regs W (first_of (instr P t)))) src.second ∙ is_open.operands)
 
         claim : MayClaim P t
         claim = record { live = f.found.live; fate = is_open.open'; needs = needs.none }
@@ -230,7 +239,8 @@ ran_turn b later none nm nl to rest U r s = subst (Moved b U Ran) (sym rest) (go
         u = tenant_finished t1 (computed P t1)
 
         comes : computed P t1 ≡ outcome_of (instr P t) t.half t.pc to.o.a to.o.b (length P.bytes)
-        comes = ap (λ x. outcome_of (instr P t) t.half t.pc x (operand_value t.second) (length P.bytes)) needs.first ∙ ap (λ x. outcome_of (instr P t) t.half t.pc to.o.a x (length P.bytes)) needs.second
+        comes = ap (λ x. outcome_of (instr P t) t.half t.pc x (operand_value t.second) (length P.bytes)) needs.first ∙
+            ap (λ x. outcome_of (instr P t) t.half t.pc to.o.a x (length P.bytes)) needs.second
 
         opened : station_of P t1 ≡ to.w
         opened = ap (λ g. record (station_of P t) { stage = stage_of g }) (sym is_open.open') ∙ f.found.station
@@ -250,7 +260,9 @@ ran_turn b later none nm nl to rest U r s = subst (Moved b U Ran) (sym rest) (go
             record {
               unit = with_tenants U k.later;
               reached = reach_on P C 0 U (k.delivers ++ ran_steps ts) (with_tenants U k.later) r leads;
-              stands = changed_stands b later U ys t u ts (ran_steps ts) (finished to.w (outcome_of to.w.instr to.w.half to.w.pc to.o.a to.o.b (length P.bytes))) none r s f.found.split f.found.live (keeps.0 ∙ f.found.live) keeps.1 (tt, (tt, tt)) k leads shown (to.new ∙ set_shown P b.window U.tenants to.i to.w (finished to.w (outcome_of to.w.instr to.w.half to.w.pc to.o.a to.o.b (length P.bytes))) f);
+              stands = changed_stands b later U ys t u ts (ran_steps ts) (finished to.w (outcome_of to.w.instr to.w.half to.w.pc to.o.a to.o.b (length P.bytes))) none r s f.found.split f.found.live
+                  (keeps.0 ∙ f.found.live) keeps.1 (tt, (tt, tt)) k leads shown (to.new ∙ set_shown P b.window U.tenants to.i to.w
+                  (finished to.w (outcome_of to.w.instr to.w.half to.w.pc to.o.a to.o.b (length P.bytes))) f);
               does = record {
                 goes_on = (knows b U none r s).stops;
                 no_miss = no_miss P U.tenants (none_in miss_in P b.window U.tenants s.window nm);
@@ -294,7 +306,8 @@ pub record CanLoad (P : Program) (ts : List Tenant) (t : Tenant) (v : ℕ) : Typ
   pub value : load_value P ts t ≡ v
   pub unblocked : IsUnblocked P ts t
 
-can_load : (P : Program) (ys : List Tenant) (t : Tenant) (ts : List Tenant) (a v : ℕ) (mem : List ℕ) → IsSound P (ys ++ t ∷ ts) → t.standing ≡ Live → kind_of P t ≡ Loads → t.fate ≡ Addr a → mem ≡ (committed P (ys ++ t ∷ ts)).memory → value_by (answer_over (queue_of P ts) a (width (instr P t).op)) mem (instr P t).op a ≡ Some v → CanLoad P ts t v
+can_load : (P : Program) (ys : List Tenant) (t : Tenant) (ts : List Tenant) (a v : ℕ) (mem : List ℕ) → IsSound P (ys ++ t ∷ ts) → t.standing ≡ Live → kind_of P t ≡ Loads → t.fate ≡ Addr a →
+    mem ≡ (committed P (ys ++ t ∷ ts)).memory → value_by (answer_over (queue_of P ts) a (width (instr P t).op)) mem (instr P t).op a ≡ Some v → CanLoad P ts t v
 can_load P ys t ts a v mem s live ek ef em e = go (answer_over (queue_of P ts) a w) refl
   where
     U : List Tenant
@@ -332,7 +345,8 @@ can_load P ys t ts a v mem s live ek ef em e = go (answer_over (queue_of P ts) a
     go Memory q =
         let f = from_memory P U p t a s (at_middle ys t ts) live ek ef (asks ∙ q) in
         let is : Some (loaded (instr P t).op (little_endian (slice_index mem) a w)) ≡ Some v = sym (ap (λ x. value_by x mem (instr P t).op a) q) ∙ e in
-        given (little_endian (slice_index mem) a w) f.0 (f.1 ∙ ap (λ m. Some (little_endian (slice_index m) a w)) (sym em)) (cc is) (free Memory q (λ k h. let no : Memory ≡ Blocked k = h in absurd (cc)))
+        given (little_endian (slice_index mem) a w) f.0 (f.1 ∙ ap (λ m. Some (little_endian (slice_index m) a w)) (sym em)) (cc is)
+        (free Memory q (λ k h. let no : Memory ≡ Blocked k = h in absurd (cc)))
     go (Blocked k) q = let no : None ≡ Some v = sym (ap (λ x. value_by x mem (instr P t).op a) q) ∙ e in absurd (cc)
 
 abbrev answered_as : Station → ℕ → Station
@@ -379,7 +393,8 @@ loaded_turn b later none nm nl nc to rest U r s = subst (Moved b U Loaded) (sym 
         sp = split_of b U ys t ts (knows b U none r s) f.found.split f.found.live
 
         given : load_in regs mem W (station_of P t) ≡ Some to.value
-        given = ap (λ l. load_in regs mem l (station_of P t)) (sym f.taken) ∙ ap (load_in regs mem (take to.i b.window)) f.found.station ∙ given_station (load_in regs mem) b.window to.i to.w to.value to.is to.first.here
+        given = ap (λ l. load_in regs mem l (station_of P t)) (sym f.taken) ∙ ap (load_in regs mem (take to.i b.window)) f.found.station ∙
+            given_station (load_in regs mem) b.window to.i to.w to.value to.is to.first.here
 
         asks : (a : ℕ) × (waits (station_of P t) ≡ Some a)
         asks = answered_waits regs mem W (station_of P t) to.value given
@@ -413,7 +428,8 @@ loaded_turn b later none nm nl nc to rest U r s = subst (Moved b U Loaded) (sym 
             record {
               unit = with_tenants U k.later;
               reached = reach_on P C 0 U (k.delivers ++ On (length ts) Load ∷ []) (with_tenants U k.later) r leads;
-              stands = changed_stands b later U ys t u ts (On (length ts) Load ∷ []) (record to.w { stage = IsDone; made = Some to.value }) none r s f.found.split f.found.live f.found.live refl (tt, tt) k leads shown (to.new ∙ set_shown P b.window U.tenants to.i to.w (record to.w { stage = IsDone; made = Some to.value }) f);
+              stands = changed_stands b later U ys t u ts (On (length ts) Load ∷ []) (record to.w { stage = IsDone; made = Some to.value }) none r s f.found.split f.found.live f.found.live refl
+                  (tt, tt) k leads shown (to.new ∙ set_shown P b.window U.tenants to.i to.w (record to.w { stage = IsDone; made = Some to.value }) f);
               does = record {
                 goes_on = (knows b U none r s).stops;
                 no_miss = no_miss P U.tenants (none_in miss_in P b.window U.tenants s.window nm);

@@ -1,5 +1,6 @@
 -- A ring of slots as a list.
-use Rattle.std.proofs.Common.{◌≡◌, ◌≢◌, ◌<◌, ◌≤◌, ◌-◌, ℕ, suc, ◌+◌, List, [], ◌∷◌, ◌++◌, length, take, drop, set, refl, sym, ap, ◌∙◌, ⊎_elim, arith, length-append, length-drop, length-set, length-take-le}
+use Rattle.std.proofs.Common.{◌≡◌, ◌≢◌, ◌<◌, ◌≤◌, ◌-◌, ℕ, suc, ◌+◌, List, [], ◌∷◌, ◌++◌, length, take, drop, set, refl, sym, ap, ◌∙◌, ⊎_elim, arith, length-append, length-drop, length-set}
+use Rattle.std.proofs.Common.{length-take-le}
 use Rattle.std.specs.Prelude.{slice_get}
 use Rattle.std.proofs.lemmas.Bool.{cases_eq, cases_lt}
 use Rattle.std.proofs.lemmas.List.{take-take}
@@ -67,8 +68,10 @@ module _ {X : Type 0} where
       let lj : j < n = omega (arith, l, ring_length ys s n long ls ln) in
       ring_get ys s n j long ls ln lj
       ∙ ⊎_elim
-      (λ (same : j ≡ i). ap (λ k. slice_get ys (slot_of s k)) same ∙ slice_get-set_same xs (slot_of s i) x inside ∙ sym (ap (slice_get (set (ring_of xs s n) i x)) same ∙ slice_get-set_same (ring_of xs s n) i x here))
-      (λ other. slice_get-set_other xs (slot_of s i) (slot_of s j) x (slots_apart s j i ls (omega (arith, lj, ln)) (omega (arith, li, ln)) other) ∙ sym (slice_get-set_other (ring_of xs s n) i j x other ∙ ring_get xs s n j e ls ln lj))
+      (λ (same : j ≡ i). ap (λ k. slice_get ys (slot_of s k)) same ∙ slice_get-set_same xs (slot_of s i) x inside ∙
+      sym (ap (slice_get (set (ring_of xs s n) i x)) same ∙ slice_get-set_same (ring_of xs s n) i x here))
+      (λ other. slice_get-set_other xs (slot_of s i) (slot_of s j) x (slots_apart s j i ls (omega (arith, lj, ln)) (omega (arith, li, ln)) other) ∙
+      sym (slice_get-set_other (ring_of xs s n) i j x other ∙ ring_get xs s n j e ls ln lj))
       (cases_eq j i))
 
   -- an item joins

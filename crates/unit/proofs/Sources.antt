@@ -20,7 +20,9 @@ one_back : (r : ℕ) (v : Option ℕ) (W : List Station) (j : ℕ) → 0 < j →
 one_back r v W j h = let same : j - 1 + 1 ≡ j = omega arith in sym (ap (λ k. register_in r v (take k W)) same) ∙ register_step r v W (j - 1)
 
 -- the last writer is found
-pub source_found : (registers : List ℕ) (W : List Station) (i j r : ℕ) (w : Station) → r ≢ 0 → r < 34 → 0 < j → register_in r (Some (slice_index registers r)) (take i W) ≡ register_in r (Some (slice_index registers r)) (take j W) → slice_get W (j - 1) ≡ Some w → w.destination ≡ r → w.made ≡ source_in registers (take i W) r
+pub source_found : (registers : List ℕ) (W : List Station) (i j r : ℕ) (w : Station) → r ≢ 0 → r < 34 → 0 < j →
+    register_in r (Some (slice_index registers r)) (take i W) ≡ register_in r (Some (slice_index registers r)) (take j W) → slice_get W (j - 1) ≡ Some w → w.destination ≡ r →
+    w.made ≡ source_in registers (take i W) r
 source_found registers W i j r w n l h same e d =
     sym
     (source_by registers (take i W) r n l
@@ -51,7 +53,8 @@ unwritten_to r v W j i le none =
     ap (λ k. register_in r v (take k W)) (sym same) ∙ unwritten r v W j (i - j) (λ k from less. let more : k < i = omega (arith, less, same) in none k from more)
 
 -- nobody before it writes the register
-source_ahead : (registers : List ℕ) (W : List Station) (i r : ℕ) → r ≢ 0 → r < 34 → ((k : ℕ) → k < i → written_by (slice_get W k) ≢ Some r) → Some (slice_index registers r) ≡ source_in registers (take i W) r
+source_ahead : (registers : List ℕ) (W : List Station) (i r : ℕ) → r ≢ 0 → r < 34 → ((k : ℕ) → k < i → written_by (slice_get W k) ≢ Some r) →
+    Some (slice_index registers r) ≡ source_in registers (take i W) r
 source_ahead registers W i r n l none =
     sym
     (source_by registers (take i W) r n l
@@ -62,11 +65,13 @@ pub source_far : (registers : List ℕ) (W : List Station) (i r at : ℕ) → r 
 source_far registers W i r at n l h far = source_ahead registers W i r n l (λ k less e. let q = h k less e in absurd (omega (arith, q.older, far)))
 
 -- another tenant stands at the place of its creator
-pub source_other : (registers : List ℕ) (W : List Station) (i r at : ℕ) (w : Station) → r ≢ 0 → r < 34 → IsCreator W i r at → slice_get W at ≡ Some w → w.destination ≢ r → Some (slice_index registers r) ≡ source_in registers (take i W) r
+pub source_other : (registers : List ℕ) (W : List Station) (i r at : ℕ) (w : Station) → r ≢ 0 → r < 34 → IsCreator W i r at → slice_get W at ≡ Some w → w.destination ≢ r →
+    Some (slice_index registers r) ≡ source_in registers (take i W) r
 source_other registers W i r at w n l h e apart = source_ahead registers W i r n l (λ k less f. let q = h k less f in apart (cc (q.writes, ap written_by e)))
 
 -- its creator is in the window
-pub source_live : (registers : List ℕ) (W : List Station) (i r at : ℕ) (w : Station) → r ≢ 0 → r < 34 → IsCreator W i r at → at < i → slice_get W at ≡ Some w → w.destination ≡ r → w.made ≡ source_in registers (take i W) r
+pub source_live : (registers : List ℕ) (W : List Station) (i r at : ℕ) (w : Station) → r ≢ 0 → r < 34 → IsCreator W i r at → at < i → slice_get W at ≡ Some w → w.destination ≡ r →
+    w.made ≡ source_in registers (take i W) r
 source_live registers W i r at w n l h less e d =
     let j : at + 1 ≤ i = omega (arith, less) in
     let one : at + 1 - 1 ≡ at = omega arith in

@@ -64,8 +64,10 @@ none_is give P (t ∷ ts) h = go t.standing refl (none_is give P ts)
     go Live e more =
         let w = window_live P t ts e in
         let less : (k : ℕ) → k ≤ length (window P ts) → k < length (window P ts ++ station_of P t ∷ []) = λ k q. omega (arith, length-append (window P ts) (station_of P t ∷ [])) in
-        let at : (k : ℕ) → k ≤ length (window P ts) → gives give (window P ts ++ station_of P t ∷ []) k ≡ None = λ k q. ap (λ x. gives give x k) (sym w) ∙ h k (subst (λ x. k < length x) (sym w) (less k q)) in
-        ((λ q. sym (gives_here give (window P ts) [] (station_of P t)) ∙ at (length (window P ts)) (omega arith)), more (λ k q. sym (gives_left give (window P ts) (station_of P t ∷ []) k q) ∙ at k (omega arith)))
+        let at : (k : ℕ) → k ≤ length (window P ts) → gives give (window P ts ++ station_of P t ∷ []) k ≡ None = λ k q. ap (λ x. gives give x k) (sym w) ∙ h k (subst (λ x. k < length x) (sym w) (less k q)) in (
+          (λ q. sym (gives_here give (window P ts) [] (station_of P t)) ∙ at (length (window P ts)) (omega arith)),
+          more (λ k q. sym (gives_left give (window P ts) (station_of P t ∷ []) k q) ∙ at k (omega arith)),
+        )
     go Retired e more = away (λ q. let no : Live ≡ Retired = sym q ∙ e in absurd (cc)) (ap stands_live e) more
     go Squashed e more = away (λ q. let no : Live ≡ Squashed = sym q ∙ e in absurd (cc)) (ap stands_live e) more
 
@@ -192,7 +194,8 @@ all_blocked P regs mem ys (t ∷ ts) s h ns e n =
 
 -- nothing can be let
 
-pub no_let : (P : Program) (C : Sizes) (U : UpdateUnit) → IsSound P U.tenants → AllByRecursion IsNoRetiredStop U.tenants → CannotLet P C.ring C.queue (committed P U.tenants).pc (window P U.tenants) → NoLet P C U
+pub no_let : (P : Program) (C : Sizes) (U : UpdateUnit) → IsSound P U.tenants → AllByRecursion IsNoRetiredStop U.tenants → CannotLet P C.ring C.queue (committed P U.tenants).pc (window P U.tenants) →
+    NoLet P C U
 no_let P C U s ns none index predicted f g m = go none
   where
     ts : List Tenant

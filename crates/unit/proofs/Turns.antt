@@ -51,10 +51,12 @@ found_in P W U i w e h = go (found P U i w (ap (λ l. slice_get l i) (sym e) ∙
         }
 
 -- what the stations before it do not give, the tenants before it do not give
-pub oldest_is : {X : Type 0} → (give : List Station → Station → Option X) (P : Program) (W : List Station) (U : List Tenant) (i : ℕ) (w : Station) → (f : FoundIn P W U i w) → ((k : ℕ) → k < i → gives give W k ≡ None) → NoneIs give P f.found.ts
+pub oldest_is : {X : Type 0} → (give : List Station → Station → Option X) (P : Program) (W : List Station) (U : List Tenant) (i : ℕ) (w : Station) → (f : FoundIn P W U i w) →
+    ((k : ℕ) → k < i → gives give W k ≡ None) → NoneIs give P f.found.ts
 oldest_is give P W U i w f first =
     none_is give P f.found.ts
-    (λ k h. sym (gives_left give (window P f.found.ts) (station_of P f.found.t ∷ window P f.found.ys) k h) ∙ ap (λ l. gives give l k) (sym f.whole) ∙ first k (subst (λ n. k < n) (sym f.found.place) h))
+    (λ k h. sym (gives_left give (window P f.found.ts) (station_of P f.found.t ∷ window P f.found.ys) k h) ∙ ap (λ l. gives give l k) (sym f.whole) ∙
+    first k (subst (λ n. k < n) (sym f.found.place) h))
 
 pub none_in : {X : Type 0} → (give : List Station → Station → Option X) (P : Program) (W : List Station) (U : List Tenant) → W ≡ window P U → NoneGives give W → NoneIs give P U
 none_in give P W U e h = none_is give P U (λ k l. ap (λ x. gives give x k) (sym e) ∙ h k (subst (λ x. k < length x) (sym e) l))
@@ -95,7 +97,8 @@ miss_fate (Stopped c) x e = absurd (cc)
 
 -- Recovered
 
-pub recovered_turn : (b later : Pipeline) → b.over ≡ None → RecoversTo b.window later.window → later ≡ record b { window = later.window; missed = later.missed; settled = later.settled } → Moves b Recovered later
+pub recovered_turn : (b later : Pipeline) → b.over ≡ None → RecoversTo b.window later.window → later ≡ record b { window = later.window; missed = later.missed; settled = later.settled } →
+    Moves b Recovered later
 recovered_turn b later none to rest U r s = subst (Moved b U Recovered) (sym rest) (go (found_in P b.window U.tenants to.i to.w s.window to.is))
   where
     P : Program
@@ -147,5 +150,18 @@ recovered_turn b later none to rest U r s = subst (Moved b U Recovered) (sym res
                   (λ n. leaver_recover P n ys t ts to.x f.found.live ∙ ap (λ X. leaver P X n) (sym f.found.split))
                   (subst (λ X. LeavesSame P X V.tenants) (sym f.found.split) (same_recover P ys t ts to.x f.found.live)) shown
                   (k.stops (subst (AllByRecursion IsNoRetiredStop) f.found.split over.0)) (k.still (subst AreStill f.found.split over.1));
-              does = record { goes_on = over.0; ys = ys; tenant = t; ts = ts; stands = f.found.split; live = f.found.live; x = to.x; miss = miss; oldest = no_miss P ts (oldest_is miss_in P b.window U.tenants to.i to.w f to.first.first); squashes = k.squashes; are = k.are; leads = leads };
+              does = record {
+                goes_on = over.0;
+                ys = ys;
+                tenant = t;
+                ts = ts;
+                stands = f.found.split;
+                live = f.found.live;
+                x = to.x;
+                miss = miss;
+                oldest = no_miss P ts (oldest_is miss_in P b.window U.tenants to.i to.w f to.first.first);
+                squashes = k.squashes;
+                are = k.are;
+                leads = leads;
+              };
             }

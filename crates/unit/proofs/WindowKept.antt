@@ -13,7 +13,8 @@ pub window_start : (S : List Station) (C : List Creators) (newest : List ℕ) �
 window_start S C newest s c n = record { begins = omega arith; most = omega arith; every_station = s; every_creator = c; known = known_start newest n }
 
 -- another stage
-pub window_put : (S : List Station) (C : List Creators) (newest : List ℕ) (start len i : ℕ) (x : Station) → IsWindow S C newest start len → i < len → IsOfSame x (slice_get (ring_of S start len) i) → IsWindow (set S (slot_of start i) x) C newest start len
+pub window_put : (S : List Station) (C : List Creators) (newest : List ℕ) (start len i : ℕ) (x : Station) → IsWindow S C newest start len → i < len → IsOfSame x (slice_get (ring_of S start len) i) →
+    IsWindow (set S (slot_of start i) x) C newest start len
 window_put S C newest start len i x h less same =
     record {
       begins = h.begins;
@@ -25,7 +26,9 @@ window_put S C newest start len i x h less same =
     }
 
 -- a let
-pub window_let : (S : List Station) (C : List Creators) (newest : List ℕ) (start len : ℕ) (w : Station) (c : Creators) → IsWindow S C newest start len → len < 32 → first_of w.instr < 34 → second_of w.instr < 34 → w.destination < 34 → c.first ≡ slice_index newest (first_of w.instr) → c.second ≡ slice_index newest (second_of w.instr) → c.replaced ≡ slice_index newest w.destination → IsWindow (set S (slot_of start len) w) (set C (slot_of start len) c) (set newest w.destination (slot_of start len)) start (len + 1)
+pub window_let : (S : List Station) (C : List Creators) (newest : List ℕ) (start len : ℕ) (w : Station) (c : Creators) → IsWindow S C newest start len → len < 32 → first_of w.instr < 34 →
+    second_of w.instr < 34 → w.destination < 34 → c.first ≡ slice_index newest (first_of w.instr) → c.second ≡ slice_index newest (second_of w.instr) → c.replaced ≡ slice_index newest w.destination →
+    IsWindow (set S (slot_of start len) w) (set C (slot_of start len) c) (set newest w.destination (slot_of start len)) start (len + 1)
 window_let S C newest start len w c h room a b r first second replaced =
     let W = ring_of S start len in
     let R = ring_of C start len in
@@ -49,7 +52,8 @@ window_let S C newest start len w c h room a b r first second replaced =
     }
 
 -- the youngest is squashed
-pub window_popped : (S : List Station) (C : List Creators) (newest : List ℕ) (start len m : ℕ) (w : Station) (c : Creators) → IsWindow S C newest start len → len ≡ suc m → slice_get S (slot_of start m) ≡ Some w → slice_get C (slot_of start m) ≡ Some c → w.destination < 34 → IsWindow S C (set newest w.destination c.replaced) start m
+pub window_popped : (S : List Station) (C : List Creators) (newest : List ℕ) (start len m : ℕ) (w : Station) (c : Creators) → IsWindow S C newest start len → len ≡ suc m →
+    slice_get S (slot_of start m) ≡ Some w → slice_get C (slot_of start m) ≡ Some c → w.destination < 34 → IsWindow S C (set newest w.destination c.replaced) start m
 window_popped S C newest start len m w c h one e f small =
     let W = ring_of S start len in
     let R = ring_of C start len in

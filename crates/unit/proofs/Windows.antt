@@ -1,5 +1,6 @@
 -- What a window says of its unit.
-use Rattle.std.proofs.Common.{◌≡◌, ℕ, zero, suc, ◌+◌, ◌-◌, ◌<◌, ltb, ltb-true, Bool, true, false, cond, ◌&&◌, eqb, List, [], ◌∷◌, ◌++◌, length, Option, Some, None, refl, sym, ap, ◌∙◌, arith, append_assoc, append-nil, length-append}
+use Rattle.std.proofs.Common.{◌≡◌, ℕ, zero, suc, ◌+◌, ◌-◌, ◌<◌, ltb, ltb-true, Bool, true, false, cond, ◌&&◌, eqb, List, [], ◌∷◌, ◌++◌, length, Option, Some, None, refl, sym, ap, ◌∙◌, arith}
+use Rattle.std.proofs.Common.{append_assoc, append-nil, length-append}
 use Rattle.std.specs.Prelude.{slice_get, slice_index}
 use Rattle.std.specs.List.{AllByRecursion}
 use Rattle.instructions.specs.Programs.{Program}
@@ -44,7 +45,8 @@ pub window_length : (P : Program) (U : List Tenant) → length (window P U) ≡ 
 window_length P [] = refl
 window_length P (t ∷ ts) = go (is_live t) refl (window_length P ts)
   where
-    go : (b : Bool) → is_live t ≡ b → length (window P ts) ≡ how_many is_live ts → length (cond b (window P ts ++ station_of P t ∷ []) (window P ts)) ≡ cond b (suc (how_many is_live ts)) (how_many is_live ts)
+    go : (b : Bool) → is_live t ≡ b → length (window P ts) ≡ how_many is_live ts → length (cond b (window P ts ++ station_of P t ∷ []) (window P ts)) ≡ cond b (suc (how_many is_live ts))
+        (how_many is_live ts)
     go true e more = omega (arith, more, length-append (window P ts) (station_of P t ∷ []))
     go false e more = more
 
@@ -109,7 +111,8 @@ writer_worth P (t ∷ ts) s n r lt = go t.standing refl (writer_worth P ts s.1 n
         ap (value_of (t ∷ ts)) (writer_if P t ts (suc r) false (ap (λ x. stands_on_path x && eqb (destination_of P t) (suc r)) e))
         ∙ value_of_more t ts (last_writer P ts (suc r)) (last_writer_below P ts (suc r))
 
-    on : (b : Bool) → eqb (destination_of P t) (suc r) ≡ b → t.standing ≡ Live → value_of ts (last_writer P ts (suc r)) ≡ register_in (suc r) (Some (regs ts)) (window P ts) → value_of (t ∷ ts) (last_writer P (t ∷ ts) (suc r)) ≡ register_after (suc r) (register_in (suc r) (Some (regs ts)) (window P ts)) (Some (station_of P t))
+    on : (b : Bool) → eqb (destination_of P t) (suc r) ≡ b → t.standing ≡ Live → value_of ts (last_writer P ts (suc r)) ≡ register_in (suc r) (Some (regs ts)) (window P ts) →
+        value_of (t ∷ ts) (last_writer P (t ∷ ts) (suc r)) ≡ register_after (suc r) (register_in (suc r) (Some (regs ts)) (window P ts)) (Some (station_of P t))
     on true b e more =
         ap (value_of (t ∷ ts)) (writer_if P t ts (suc r) true (ap (λ x. stands_on_path x && eqb (destination_of P t) (suc r)) e ∙ b))
         ∙ value_of_last t ts
@@ -120,7 +123,8 @@ writer_worth P (t ∷ ts) s n r lt = go t.standing refl (writer_worth P ts s.1 n
         ∙ more
         ∙ sym (ap (λ x. cond x t.made (register_in (suc r) (Some (regs ts)) (window P ts))) b)
 
-    go : (st : Standing) → t.standing ≡ st → value_of ts (last_writer P ts (suc r)) ≡ register_in (suc r) (Some (regs ts)) (window P ts) → value_of (t ∷ ts) (last_writer P (t ∷ ts) (suc r)) ≡ register_in (suc r) (Some (regs (t ∷ ts))) (window P (t ∷ ts))
+    go : (st : Standing) → t.standing ≡ st → value_of ts (last_writer P ts (suc r)) ≡ register_in (suc r) (Some (regs ts)) (window P ts) →
+        value_of (t ∷ ts) (last_writer P (t ∷ ts) (suc r)) ≡ register_in (suc r) (Some (regs (t ∷ ts))) (window P (t ∷ ts))
     go Live e more =
         on (eqb (destination_of P t) (suc r)) refl e more
         ∙ sym (register_end (suc r) (Some (regs ts)) (window P ts) (station_of P t))

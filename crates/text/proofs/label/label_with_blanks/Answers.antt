@@ -33,8 +33,10 @@ returns-else-is_name-clause-all_statement c =
 
 pub returns-in_err-after-clause-no_label : goal.returns-in_err-after-clause-no_label
 returns-in_err-after-clause-no_label c =
-    rw c.from_residual.ensures (labels_whole c.args.code.now c.cut.result.0.now (c.cut.ensures.parts ∙ ap (parts c.cut.result.0.now) c.in_err-after.was) (rw c.in_err-after.was at c.cut.ensures.whole)).0
+    rw c.from_residual.ensures (labels_whole c.args.code.now c.cut.result.0.now (c.cut.ensures.parts ∙ ap (parts c.cut.result.0.now) c.in_err-after.was)
+    (rw c.in_err-after.was at c.cut.ensures.whole)).0
 
 pub returns-in_err-after-clause-all_statement : goal.returns-in_err-after-clause-all_statement
 returns-in_err-after-clause-all_statement c =
-    rw c.from_residual.ensures (labels_whole c.args.code.now c.cut.result.0.now (c.cut.ensures.parts ∙ ap (parts c.cut.result.0.now) c.in_err-after.was) (rw c.in_err-after.was at c.cut.ensures.whole)).1
+    rw c.from_residual.ensures (labels_whole c.args.code.now c.cut.result.0.now (c.cut.ensures.parts ∙ ap (parts c.cut.result.0.now) c.in_err-after.was)
+    (rw c.in_err-after.was at c.cut.ensures.whole)).1

@@ -17,5 +17,6 @@ loop-b-preserved c =
     record {
       small = omega arith;
       digits = list_all_more (λ d. is_digit d c.args.radix) ds i 0 lt ∙ ap (λ b. b && is_digit (get_or ds i 0) c.args.radix) c.loop-b.invariant.digits ∙ lt-ltb _ _ passes;
-      value = capped_more c.args.radix c.loop-b.value _ c.in_ok-digit.digit i ds _ (omega arith) lt is (rw (c.min-value.ensures, c.from-in-loop-b.ensures, c.from-in-loop-b-2.ensures) refl) c.loop-b.invariant.value;
+      value = capped_more c.args.radix c.loop-b.value _ c.in_ok-digit.digit i ds _ (omega arith) lt is (rw (c.min-value.ensures, c.from-in-loop-b.ensures, c.from-in-loop-b-2.ensures) refl)
+          c.loop-b.invariant.value;
     }

@@ -19,7 +19,8 @@ returns-then-number c =
     let small : c.args.r < 34 = omega (arith, c.number.ensures.value, c.number.ensures.small) in
     let w = c.in_ok-creator.creator.now in
     let apart : w.destination ≢ c.args.r = λ e. c.if-number.true (c.number-2.ensures.value ∙ e ∙ sym c.number-3.ensures.value) in
-    ap Some c.register-then-number.ensures ∙ source_other c.args.ahead.now.registers c.args.window.now c.args.i c.args.r c.args.at w nonzero small c.requires.creator (sym c.peek.ensures ∙ ap option_copied c.in_ok-creator.was) apart
+    ap Some c.register-then-number.ensures ∙ source_other c.args.ahead.now.registers c.args.window.now c.args.i c.args.r c.args.at w nonzero small c.requires.creator
+    (sym c.peek.ensures ∙ ap option_copied c.in_ok-creator.was) apart
 
 pub returns : goal.returns
 returns c =

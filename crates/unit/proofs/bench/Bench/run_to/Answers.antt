@@ -30,5 +30,6 @@ loop-self-preserved g c =
     let program = c.turn.ensures.same.program in
     record {
       program = program ∙ c.loop-self.invariant.program;
-      ends = ap (λ p. end_from p.now (c.args.limit - later.pipeline.committed.count) later.pipeline.committed) program ∙ ends_same c.args.limit b.pipeline later.pipeline c.turn.result unit moves c.turn.ensures.same less c.in_default.not-Over c.turn.ensures.falls ∙ c.loop-self.invariant.ends;
+      ends = ap (λ p. end_from p.now (c.args.limit - later.pipeline.committed.count) later.pipeline.committed) program ∙
+          ends_same c.args.limit b.pipeline later.pipeline c.turn.result unit moves c.turn.ensures.same less c.in_default.not-Over c.turn.ensures.falls ∙ c.loop-self.invariant.ends;
     }

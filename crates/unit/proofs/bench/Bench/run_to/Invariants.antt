@@ -7,7 +7,8 @@ abbrev pub invariant-loop-self : goal.invariant-loop-self
 invariant-loop-self g l =
     record {
       program : l.self.pipeline.program ≡ l.fn.self.pipeline.program;
-      ends : end_from l.self.pipeline.program.now (l.limit - l.self.pipeline.committed.count) l.self.pipeline.committed ≡ end_from l.fn.self.pipeline.program.now (l.limit - l.fn.self.pipeline.committed.count) l.fn.self.pipeline.committed;
+      ends : end_from l.self.pipeline.program.now (l.limit - l.self.pipeline.committed.count) l.self.pipeline.committed ≡ end_from l.fn.self.pipeline.program.now
+          (l.limit - l.fn.self.pipeline.committed.count) l.fn.self.pipeline.committed;
     }
 
 abbrev pub decreases-loop-self : goal.decreases-loop-self

@@ -21,7 +21,9 @@ invariant_of-self g c =
 pub returns-then-recovers-clause-turn : goal.returns-then-recovers-clause-turn
 returns-then-recovers-clause-turn g c =
     let shows = recovered_shows c.self.inside.pipeline c.recovers.new.self c.self.invariant c.in_default.is c.if-recovers.ensures.window c.recovers.ensures.rest c.recovers.ensures.noted in
-    subst (λ b. IsTurn g.P.Predictor.Predicts g.P.Predictor.Learns b Recovered (fields c.recovers.new.self c.self.inside.predictor)) c.self.view_is (plain_turn g.P.Predictor.Predicts g.P.Predictor.Learns (fields c.self.inside.pipeline c.self.inside.predictor) (fields c.recovers.new.self c.self.inside.predictor) Recovered tt shows.turn refl)
+    subst (λ b. IsTurn g.P.Predictor.Predicts g.P.Predictor.Learns b Recovered (fields c.recovers.new.self c.self.inside.predictor)) c.self.view_is
+    (plain_turn g.P.Predictor.Predicts g.P.Predictor.Learns (fields c.self.inside.pipeline c.self.inside.predictor) (fields c.recovers.new.self c.self.inside.predictor) Recovered tt shows.turn
+    refl)
 
 pub returns-then-recovers-clause-falls : goal.returns-then-recovers-clause-falls
 returns-then-recovers-clause-falls g c =
@@ -66,9 +68,12 @@ returns-in-Some-next-clause-turn g c =
     let miss : NoneGives miss_in b.window = subst (λ x. NoneGives miss_in x.window) (sym same) c.if-recovers.ensures.window in
     let can : CanLet b.program.now b.ring b.queue b.committed.pc b.low b.window next = subst (NextIs b.program.now b.ring b.queue b.committed.pc b.low b.window) c.in-Some-next.is c.next.ensures in
     let turn = let_bench g.P.Predictor.Predicts g.P.Predictor.Learns (fields b c.self.inside.predictor) (fields c.let_out.new.self c.guess-predicted.new.predictor) next c.guess-predicted.result c.leaver-left.result unit none miss can c.guess-predicted.type_inv c.leaver-left.ensures c.guess-predicted.ensures c.let_out.ensures.window c.let_out.ensures.leavers c.let_out.ensures.rest in
-    subst (λ x. IsTurn g.P.Predictor.Predicts g.P.Predictor.Learns x Let (fields c.let_out.new.self c.guess-predicted.new.predictor)) c.self.view_is (subst (λ x. IsTurn g.P.Predictor.Predicts g.P.Predictor.Learns (fields x c.self.inside.predictor) Let (fields c.let_out.new.self c.guess-predicted.new.predictor)) same turn)
+    subst (λ x. IsTurn g.P.Predictor.Predicts g.P.Predictor.Learns x Let (fields c.let_out.new.self c.guess-predicted.new.predictor)) c.self.view_is
+    (subst (λ x. IsTurn g.P.Predictor.Predicts g.P.Predictor.Learns (fields x c.self.inside.predictor) Let (fields c.let_out.new.self c.guess-predicted.new.predictor)) same turn)
 
 pub returns-clause-turn : goal.returns-clause-turn
 returns-clause-turn g c =
     let turn = plain_turn g.P.Predictor.Predicts g.P.Predictor.Learns (fields c.recovers.new.self c.self.inside.predictor) (fields c.moves.new.self c.self.inside.predictor) c.moves.result c.moves.ensures.plain c.moves.ensures.turn refl in
-    subst (λ x. IsTurn g.P.Predictor.Predicts g.P.Predictor.Learns x c.moves.result (fields c.moves.new.self c.self.inside.predictor)) c.self.view_is (subst (λ x. IsTurn g.P.Predictor.Predicts g.P.Predictor.Learns (fields x c.self.inside.predictor) c.moves.result (fields c.moves.new.self c.self.inside.predictor)) c.if-recovers.ensures.same turn)
+    subst (λ x. IsTurn g.P.Predictor.Predicts g.P.Predictor.Learns x c.moves.result (fields c.moves.new.self c.self.inside.predictor)) c.self.view_is
+    (subst (λ x. IsTurn g.P.Predictor.Predicts g.P.Predictor.Learns (fields x c.self.inside.predictor) c.moves.result (fields c.moves.new.self c.self.inside.predictor)) c.if-recovers.ensures.same
+    turn)
