@@ -117,7 +117,8 @@ module _ (P copy : Program) (state : State) (low : Option ℕ) (head : ℕ) (sho
           let whole : a.begins.more ++ seat.seen ≡ s.later ++ e ∷ (s.earlier ++ seat.seen) = ap (λ z. z ++ seat.seen) s.is ∙ append_assoc s.later (e ∷ s.earlier) seat.seen in
           let legal = legal_before P C s.later (e ∷ (s.earlier ++ seat.seen)) (subst (IsLegal P C) whole (added_legal P C back seat.seen seat'.seen (Refuses Over ∷ []) a)) in
           let until : StartsWith seat'.seen (s.earlier ++ seat.seen) = record { more = s.later ++ e ∷ []; is = a.begins.is ∙ (whole ∙ sym (append_assoc s.later (e ∷ []) (s.earlier ++ seat.seen))) } in
-          let u = quiet_keeps P C state low head None s.earlier seat.seen legal.0 (all_quiet P C s.earlier seat.seen [] legal.0 (none_to seat'.seen (s.earlier ++ seat.seen) seat.seen until (record { more = s.earlier; is = refl }) a.one_table) s.rest_is tt) (plain P copy state low head None shown seat k) in
+          let u = quiet_keeps P C state low head None s.earlier seat.seen legal.0 (all_quiet P C s.earlier seat.seen [] legal.0
+          (none_to seat'.seen (s.earlier ++ seat.seen) seat.seen until (record { more = s.earlier; is = refl }) a.one_table) s.rest_is tt) (plain P copy state low head None shown seat k) in
           over_not (unit_of P C (s.earlier ++ seat.seen)) legal.1.1 u.end_is
         where
           over_not : (U : UpdateUnit) → IsOver U → GoesOn U → ⊥
@@ -191,7 +192,8 @@ module _ (P copy : Program) (state : State) (low : Option ℕ) (head : ℕ) (sho
         pub did_end : (code : Stop) → stop_in last ≡ Some code → HasEndedWith (back_of seat None shown) (back_of seat' (stop_in last) shown) code
         did_end code e =
             let is : last ≡ WasStop code = same_code last code e in
-            let before = ended_before P copy (state_behind i half last low state) (low_in i half last) ((head + 1) % seat.core.sizes.ring) shown seat' code (subst (λ x. BackIsKept P seat' copy (state_behind i half last low state) (low_in i half last) ((head + 1) % seat.core.sizes.ring) x shown) e retired_kept) in
+            let before = ended_before P copy (state_behind i half last low state) (low_in i half last) ((head + 1) % seat.core.sizes.ring) shown seat' code
+            (subst (λ x. BackIsKept P seat' copy (state_behind i half last low state) (low_in i half last) ((head + 1) % seat.core.sizes.ring) x shown) e retired_kept) in
             record {
               ended = e;
               how = Stops (went_on i k fetched) did.p did.made

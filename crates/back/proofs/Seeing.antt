@@ -62,7 +62,8 @@ module _ (P : Program) (C : Sizes) (mid new : List Entry) (b : Adds P C back mid
   pub was_there : (q : ℕ) (t u : Tenant) → at (unit_of P C mid).tenants q ≡ Some t → at (unit_of P C new).tenants q ≡ Some u → Since t u × (u.station ≡ t.station) × (u.tag ≡ t.tag)
   was_there q t u before now =
       let legal = added_legal P C back mid new [] b in
-      let i = fact_stays P C q (λ x. Since t x × (x.station ≡ t.station) × (x.tag ≡ t.tag)) (λ by s x y m f. (record { index = m.index ∙ f.0.index; live = λ l. f.0.live (m.live l) }, m.station ∙ f.1, m.tag ∙ f.2)) b.begins.more mid legal
+      let i = fact_stays P C q (λ x. Since t x × (x.station ≡ t.station) × (x.tag ≡ t.tag)) (λ by s x y m f.
+      (record { index = m.index ∙ f.0.index; live = λ l. f.0.live (m.live l) }, m.station ∙ f.1, m.tag ∙ f.2)) b.begins.more mid legal
       (record { tenant = t; is = before; fact = (record { index = refl; live = λ l. l }, refl, refl) }) in
       let there : at (unit_of P C new).tenants q ≡ Some i.tenant = ap (λ h. at (unit_of P C h).tenants q) b.begins.is ∙ i.is in
       let same = found i.tenant u (sym there ∙ now) in

@@ -73,7 +73,8 @@ module _ (P : Program) (C : Sizes) (old new : List Entry) where
       renewals new ≡ renewals before → (p station tag : ℕ) → IsNamed (unit_of P C before) p station tag →
       IsNamed (unit_of P C new) p station tag
   named_on before starts legal same p station tag n =
-      let i = any_stays P C p station tag starts.more before (subst (IsLegal P C) starts.is legal) (sym (ap renewals starts.is) ∙ same) (record { tenant = n.tenant; is = n.is; new = n.new; station_is = n.station_is; tag_is = n.tag_is; fact = tt }) in
+      let i = any_stays P C p station tag starts.more before (subst (IsLegal P C) starts.is legal) (sym (ap renewals starts.is) ∙ same)
+      (record { tenant = n.tenant; is = n.is; new = n.new; station_is = n.station_is; tag_is = n.tag_is; fact = tt }) in
       subst (λ h. IsNamed (unit_of P C h) p station tag) (sym starts.is) (record { tenant = i.tenant; is = i.is; new = i.new; station_is = i.station_is; tag_is = i.tag_is })
 
   pub named_later : (events : List Event) → Adds P C back old new events → (p station tag : ℕ) → IsNamed (unit_of P C old) p station tag → IsNamed (unit_of P C new) p station tag
@@ -140,7 +141,9 @@ module _ (P : Program) (C : Sizes) (old new : List Entry) where
         let point = before station tag w in
         let here = legal_then station tag w in
         let same : p ≡ w.p = one_named w.adds.legal p w.p station tag (named_later (w.behind ++ Does (On w.p LoadIt) ∷ []) w.adds p station tag named) w.named in
-        let can_here = back_stays P C (λ U. CanLoad P U p address v ⊎ IsStale U p) step s.earlier old here.0 (none_to new point old (record { more = s.later ++ e ∷ []; is = all ∙ sym (append_assoc s.later (e ∷ []) point) }) (record { more = s.earlier; is = refl }) w.adds.one_table) s.not_own can in
+        let can_here = back_stays P C (λ U. CanLoad P U p address v ⊎ IsStale U p) step s.earlier old here.0
+        (none_to new point old (record { more = s.later ++ e ∷ []; is = all ∙ sym (append_assoc s.later (e ∷ []) point) }) (record { more = s.earlier; is = refl }) w.adds.one_table) s.not_own
+        can in
         let done = at_load (unit_of P C point) w.p here.1.1 (subst (λ x. CanLoad P (unit_of P C point) x address v ⊎ IsStale (unit_of P C point) x) same can_here) in
         let there = unit_lasts P C (λ U. Has U w.p (λ t. t.fate ≡ Done v)) (λ U by z al ok h. done_stays P C w.p v U by z al h) s.later (e ∷ point) (subst (IsLegal P C) all w.adds.legal) done in
         let now = subst (λ h. Has (unit_of P C h) w.p (λ t. t.fate ≡ Done v)) (sym all) there in

@@ -306,7 +306,8 @@ module _ (P : Program) (C : Sizes) (old new : List Entry) (a : Adds P C back old
       let p_new = old_since P C new old a.begins a.legal a.one_table p ∙ n.new in
       let s_new = live_is_recent P C new a.legal s.0 s.1.tenant s.1.is s.1.fact.live in
       let tags = tagged P C (taken_of new) (allowed_steps P C new a.legal) in
-      let one : p ≡ s.0 = names_recent C (unit_of P C new) tags p s.0 g.tenant s.1.tenant g.is s.1.is p_new s_new (w.1 ∙ (n.station_is ∙ sym s.1.fact.station_is)) (w.2 ∙ (n.tag_is ∙ (sym same ∙ sym s.1.fact.tag_is))) in
+      let one : p ≡ s.0 = names_recent C (unit_of P C new) tags p s.0 g.tenant s.1.tenant g.is s.1.is p_new s_new (w.1 ∙ (n.station_is ∙ sym s.1.fact.station_is))
+      (w.2 ∙ (n.tag_is ∙ (sym same ∙ sym s.1.fact.tag_is))) in
       let t = found g.tenant s.1.tenant (sym g.is ∙ (ap (at (unit_of P C new).tenants) one ∙ s.1.is)) in
       absurd (apart (sym s.1.fact.live ∙ (ap (λ (z : Tenant). z.standing) (sym t) ∙ g.fact))))
       (asked_stays P C old new a p station l asked)

@@ -86,7 +86,8 @@ merges id other v w s h here apart after =
       idle = λ at low.
           let P : Shares → Type 0 = λ u. (share at u).parts ≡ 0 → (share at u).added ≡ 0 in
           let one = share_each (λ i. joined_of (share i v) (share i w)) at low in
-          let both : P (merged v w) = λ none. ap (λ t. t.added) one ∙ joins_idle (share at v) (share at w) (h.idle at low id v here) (h.idle at low other w there) (ap (λ t. t.parts) (sym one) ∙ none) in
+          let both : P (merged v w) = λ none. ap (λ t. t.added) one ∙ joins_idle (share at v) (share at w) (h.idle at low id v here) (h.idle at low other w there) (ap (λ t. t.parts) (sym one) ∙ none)
+          in
           every_set P once other no_parts (every_set P s.views id (merged v w) (h.idle at low) both) (λ _. ap (λ t. t.added) (share_each (λ _. nothing) at low));
     }
 

@@ -60,8 +60,10 @@ module _ (P : Program) (C : Sizes) (h : List Entry) (legal : IsLegal P C h) (rec
   pub room_there : seen.state ≡ Free → how_many_accesses P U ≤ n
   room_there free =
       let last : last_of (recent U) x.station ≡ Some its.tenant = last_now U split.one.at x.station its.tenant its.is new place (λ q u lt is same. newest q u lt is (same ∙ sym at_place)) in
-      let word : station_word C (recent U) x.station ≡ word_by (tag_after C (recent U) x.station) its.tenant.standing its.tenant.tag its.tenant.fate its.tenant.made = ap (word_of (tag_after C (recent U) x.station)) last in
-      let left = left_there its.tenant (tag_after C (recent U) x.station) (station_word C (recent U) x.station) word (free_is _ (sym sees.state_is ∙ ap state_code free)) its.on seen.value sees.value_is in
+      let word : station_word C (recent U) x.station ≡ word_by (tag_after C (recent U) x.station) its.tenant.standing its.tenant.tag its.tenant.fate its.tenant.made = ap
+      (word_of (tag_after C (recent U) x.station)) last in
+      let left = left_there its.tenant (tag_after C (recent U) x.station) (station_word C (recent U) x.station) word (free_is _ (sym sees.state_is ∙ ap state_code free)) its.on seen.value
+      sees.value_is in
       let few = behind_left P C h legal records base k b.older x b.younger b.are left.retired in
       omega (arith, few, b.behind)
 

@@ -163,7 +163,8 @@ module _ (P : Program) (C : Sizes) (old : List Entry) (legal : IsLegal P C old) 
 
     pub knows_behind : FrontKnows P C (unit_of P C new) (records ++ record_for f tag predicted ∷ []) base
     knows_behind =
-        let there = let_known P C M front index predicted (supply_of first) (supply_of second) legal_let.1.1 (unit_sound P C point legal_let.0) (stands_right P C point legal_let.0) records base ready in
+        let there = let_known P C M front index predicted (supply_of first) (supply_of second) legal_let.1.1 (unit_sound P C point legal_let.0) (stands_right P C point legal_let.0) records base ready
+        in
         stays_behind P C (λ V. FrontKnows P C V (records ++ record_for f tag predicted ∷ []) base) (knows_stable P C (records ++ record_for f tag predicted ∷ []) base) old new (let_of tenant) [] l
         (subst (λ z. FrontKnows P C (applied P C M front let_step) (records ++ z ∷ []) base) kept_of there)
 
@@ -176,7 +177,9 @@ module _ (P : Program) (C : Sizes) (old : List Entry) (legal : IsLegal P C old) 
       pub table_behind : HasTable P (unit_of P C new) (rested_at base) T'
       table_behind =
           let there : HasTable P M (rested_at base) T = stays P C (λ V. HasTable P V (rested_at base) T) (table_stable P C (rested_at base) T) old point l.before table in
-          let after = table_let P C M front index predicted (supply_of first) (supply_of second) (rested_at base) T T' there ready.stands.past (subst (λ z. z < 32) place inside) (λ p q t u a b is is'. one_named P C (entry front (let_of tenant) ∷ point) legal_let p q t u is is' (new_behind p a) (new_behind q b)) (subst (IsEntered T T') (sym kept_of) entered) in
+          let after = table_let P C M front index predicted (supply_of first) (supply_of second) (rested_at base) T T' there ready.stands.past (subst (λ z. z < 32) place inside)
+          (λ p q t u a b is is'. one_named P C (entry front (let_of tenant) ∷ point) legal_let p q t u is is' (new_behind p a) (new_behind q b)) (subst (IsEntered T T') (sym kept_of) entered)
+          in
           stays_behind P C (λ V. HasTable P V (rested_at base) T') (table_stable P C (rested_at base) T') old new (let_of tenant) [] l after
 
     -- its place in the unit

@@ -90,7 +90,8 @@ module _ (P : Program) (C : Sizes) (h : List Entry) (legal : IsLegal P C h) (rec
   none_before =
       let prior : AllByRecursion (λ n. IsNoLiveMiss U n.what) s.before = of_whats (IsNoLiveMiss U) s.before (subst (AllByRecursion (IsNoLiveMiss U)) (sym s.prior) first) in
       let gone = all_map (IsGone U) NoMissBefore (λ n g lt. gone_miss P C h legal records base k n g) k.gone k.retired in
-      let before = all_two (IsNoted P U.tenants) (λ n. IsNoLiveMiss U n.what) NoMissBefore (λ n a b lt. named_miss P C h legal records base k n a b) s.before (all_front (IsNoted P U.tenants) s.before (s.one ∷ s.after) noted_all) prior in
+      let before = all_two (IsNoted P U.tenants) (λ n. IsNoLiveMiss U n.what) NoMissBefore (λ n a b lt. named_miss P C h legal records base k n a b) s.before
+      (all_front (IsNoted P U.tenants) s.before (s.one ∷ s.after) noted_all) prior in
       let after = all_map (λ n. s.one.at < n.at) NoMissBefore (λ n gt lt x t is m. after_not n.at s.one.at lt gt) s.after order.after in
       subst (AllByRecursion NoMissBefore) (sym whole)
       (all_both NoMissBefore (k.gone ++ s.before) (s.one ∷ s.after) (all_both NoMissBefore k.gone s.before gone before) ((λ lt x t is m. less_not s.one.at s.one.at lt refl), after))
@@ -102,10 +103,12 @@ module _ (P : Program) (C : Sizes) (h : List Entry) (legal : IsLegal P C h) (rec
       let t = noted.tenant in
       let what : record_of P t ≡ one = noted.what ∙ s.what in
       let still = place_stays P C s.one.at t starts.more h (subst (IsLegal P C) starts.is new_legal) noted.is in
-      let there : Has (unit_of P C new) s.one.at (λ u. (u.station ≡ t.station) × (u.tag ≡ t.tag)) = subst (λ z. Has (unit_of P C z) s.one.at (λ u. (u.station ≡ t.station) × (u.tag ≡ t.tag))) (sym starts.is) still in
+      let there : Has (unit_of P C new) s.one.at (λ u. (u.station ≡ t.station) × (u.tag ≡ t.tag)) = subst (λ z. Has (unit_of P C z) s.one.at (λ u. (u.station ≡ t.station) × (u.tag ≡ t.tag)))
+      (sym starts.is) still in
       let untold = (all_rest (λ n. rested_at base ≤ n.at) s.before (s.one ∷ s.after) (subst (AllByRecursion (λ n. rested_at base ≤ n.at)) s.is k.untold)).0 in
       let recent_one = old_since P C new h starts new_legal renewed s.one.at ∙ kept_new P C U records base (IsFolded U (rested_at base)) k s.one.at untold in
-      let same : p ≡ s.one.at = one_named P C new new_legal p s.one.at named.tenant there.tenant named.is there.is named.new recent_one (named.station_is ∙ sym (there.fact.0 ∙ ap (λ (z : Record). z.station) what)) (named.tag_is ∙ sym (there.fact.1 ∙ ap (λ (z : Record). z.tag) what)) in
+      let same : p ≡ s.one.at = one_named P C new new_legal p s.one.at named.tenant there.tenant named.is there.is named.new recent_one
+      (named.station_is ∙ sym (there.fact.0 ∙ ap (λ (z : Record). z.station) what)) (named.tag_is ∙ sym (there.fact.1 ∙ ap (λ (z : Record). z.tag) what)) in
       λ q x u lt is m. trail_all P NoMissBefore U.tenants none_before q u is (ap stands_on_path m.live) (subst (λ z. q < z) same lt) x u is m
 
 -- The whole recovery
@@ -119,5 +122,6 @@ recovered P C begin mid old new legal records base k m first adds kept kept_base
     let both : Adds P C front begin old events = subst (λ z. Adds P C front begin old z) (append-nil events) (adds_on P C front begin mid old [] events adds cut.adds) in
     let here : slice_get records m.at ≡ Some i.one = sym (get_taken records m.at) ∙ (ap (λ z. slice_get z m.at) (sym rest) ∙ i.here) in
     let t = i.miss.tenant in
-    let oldest = is_first P C begin legal records base k m.at i.one here first old both.legal both.begins both.one_table i.miss.p (record { tenant = t.tenant; is = t.is; new = t.new; station_is = t.station_is; tag_is = t.tag_is; fact = tt }) in
+    let oldest = is_first P C begin legal records base k m.at i.one here first old both.legal both.begins both.one_table i.miss.p
+    (record { tenant = t.tenant; is = t.is; new = t.new; station_is = t.station_is; tag_is = t.tag_is; fact = tt }) in
     mend_done P C begin old new kept kept_base k' m i long oldest squashed (record { squashes = cut.squashes; count = cut.count; adds = both }) s

@@ -47,8 +47,10 @@ still_front core P v w path creators rested e f same adds =
     let Fact : TheCore → Type 0 = λ c. Adds c.program c.sizes front v.seen w.seen [] in
     let mine : Fact core = subst (λ i. Adds core.program core.sizes i v.seen w.seen []) f.by_is adds in
     let here : Fact v.core = subst Fact (sym e) mine in
-    let knows : FrontKnows v.core.program v.core.sizes (unit_of v.core.program v.core.sizes w.seen) path.records path.base = stays v.core.program v.core.sizes (λ U. FrontKnows v.core.program v.core.sizes U path.records path.base) (knows_stable v.core.program v.core.sizes path.records path.base) v.seen w.seen here f.knows in
-    let table : HasTable v.core.program (unit_of v.core.program v.core.sizes w.seen) (rested_at path.base) creators.table = stays v.core.program v.core.sizes (λ U. HasTable v.core.program U (rested_at path.base) creators.table) (table_stable v.core.program v.core.sizes (rested_at path.base) creators.table) v.seen w.seen here f.table in
+    let knows : FrontKnows v.core.program v.core.sizes (unit_of v.core.program v.core.sizes w.seen) path.records path.base = stays v.core.program v.core.sizes
+    (λ U. FrontKnows v.core.program v.core.sizes U path.records path.base) (knows_stable v.core.program v.core.sizes path.records path.base) v.seen w.seen here f.knows in
+    let table : HasTable v.core.program (unit_of v.core.program v.core.sizes w.seen) (rested_at path.base) creators.table = stays v.core.program v.core.sizes
+    (λ U. HasTable v.core.program U (rested_at path.base) creators.table) (table_stable v.core.program v.core.sizes (rested_at path.base) creators.table) v.seen w.seen here f.table in
     record {
       table = subst (λ (z : TheCore). HasTable z.program (unit_of z.program z.sizes w.seen) (rested_at path.base) creators.table) (sym same.core) table;
       rests = λ r.

@@ -39,7 +39,8 @@ module _ (core : TheCore) (v w : Caller) (same : IsSame v w) (path : Path) (k : 
     adds = adds;
     nobody = none_kept core.program core.sizes w.seen adds.legal path.records path.base (IsFolded (unit_of core.program core.sizes w.seen) (rested_at path.base)) knows_now
         (⊎_elim (λ n. n) (λ (l : Last knows_now.notes).
-        let no : None ≡ Some l.one.what = sym e ∙ last_record core.program core.sizes (unit_of core.program core.sizes w.seen) path.records path.base (IsFolded (unit_of core.program core.sizes w.seen) (rested_at path.base)) knows_now l in absurd (cc no)) (last_cases knows_now.notes));
+        let no : None ≡ Some l.one.what = sym e ∙ last_record core.program core.sizes (unit_of core.program core.sizes w.seen) path.records path.base
+        (IsFolded (unit_of core.program core.sizes w.seen) (rested_at path.base)) knows_now l in absurd (cc no)) (last_cases knows_now.notes));
   }
 
   -- the youngest one's station is free
@@ -53,12 +54,16 @@ module _ (core : TheCore) (v w : Caller) (same : IsSame v w) (path : Path) (k : 
 
       some : Last knows_now.notes → HasNobody (unit_of core.program core.sizes w.seen)
       some l =
-          let there : Some youngest ≡ Some l.one.what = sym e ∙ last_record core.program core.sizes (unit_of core.program core.sizes w.seen) path.records path.base (IsFolded (unit_of core.program core.sizes w.seen) (rested_at path.base)) knows_now l in
+          let there : Some youngest ≡ Some l.one.what = sym e ∙ last_record core.program core.sizes (unit_of core.program core.sizes w.seen) path.records path.base
+          (IsFolded (unit_of core.program core.sizes w.seen) (rested_at path.base)) knows_now l in
           let one : youngest ≡ l.one.what = cc there in
           let U = unit_of core.program core.sizes w.seen in
-          let noted : IsNoted core.program U.tenants l.one = (all_rest (IsNoted core.program U.tenants) l.front (l.one ∷ []) (subst (AllByRecursion (IsNoted core.program U.tenants)) l.is (notes_noted core.program core.sizes w.seen adds.legal path.records path.base (IsFolded U (rested_at path.base)) knows_now))).0 in
+          let noted : IsNoted core.program U.tenants l.one = (all_rest (IsNoted core.program U.tenants) l.front (l.one ∷ [])
+          (subst (AllByRecursion (IsNoted core.program U.tenants)) l.is (notes_noted core.program core.sizes w.seen adds.legal path.records path.base (IsFolded U (rested_at path.base))
+          knows_now))).0 in
           let newest : IsNewest U l.one = (all_rest (IsNewest U) l.front (l.one ∷ []) (subst (AllByRecursion (IsNewest U)) l.is knows_now.newest)).0 in
           let untold = (all_rest (λ n. rested_at path.base ≤ n.at) l.front (l.one ∷ []) (subst (AllByRecursion (λ n. rested_at path.base ≤ n.at)) l.is knows_now.untold)).0 in
           let new = kept_new core.program core.sizes U path.records path.base (IsFolded U (rested_at path.base)) knows_now l.one.at untold in
-          let left = note_left core.program core.sizes w.seen adds.legal l.one noted new newest seen (subst (λ (z : Record). SeesStation core.program core.sizes w.seen z.station seen) one sees) free in
+          let left = note_left core.program core.sizes w.seen adds.legal l.one noted new newest seen (subst (λ (z : Record). SeesStation core.program core.sizes w.seen z.station seen) one sees) free
+          in
           youngest_left core.program core.sizes w.seen adds.legal path.records path.base (IsFolded U (rested_at path.base)) knows_now l noted left.retired

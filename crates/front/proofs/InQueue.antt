@@ -104,7 +104,8 @@ fewer_under P C U by (On p act) a ok h =
     let m = changed_goes P by p act (younger us p) t (older us p) a.may own in
     let fewer = count_fewer (is_live_access P) t (changed P by act t (older us p)) (older us p) (younger us p) (live_access P t (changed P by act t (older us p)) m.index m.live) in
     let was : how_many_accesses P U ≡ how_many (is_live_access P) (younger us p ++ t ∷ older us p) = ap (how_many (is_live_access P)) split in
-    let now : how_many_accesses P (applied P C U by (On p act)) ≡ how_many (is_live_access P) (younger us p ++ changed P by act t (older us p) ∷ older us p) = ap (how_many (is_live_access P)) (parts P us by p act t a.is) in
+    let now : how_many_accesses P (applied P C U by (On p act)) ≡ how_many (is_live_access P) (younger us p ++ changed P by act t (older us p) ∷ older us p) = ap (how_many (is_live_access P))
+    (parts P us by p act t a.is) in
     omega (arith, fewer, was, now, h)
 
 least : (n : ℕ) → 0 ≤ n
@@ -258,7 +259,9 @@ module _ (P : Program) (C : Sizes) (h : List Entry) (legal : IsLegal P C h) (rec
   -- few are kept: few are live
   pub few_live : how_many_accesses P U ≤ memory_records records
   few_live =
-      let few = at_most P (is_live_access P) is_access_note (access_on_path P) U.tenants k.gone k.notes k.path (all_map (IsGone U) (FailsAt P (is_live_access P) is_access_note U.tenants) gone_fail k.gone k.retired) (all_map (IsNoted P U.tenants) (SaysAt P (is_live_access P) is_access_note U.tenants) noted_says k.notes noted) in
+      let few = at_most P (is_live_access P) is_access_note (access_on_path P) U.tenants k.gone k.notes k.path
+      (all_map (IsGone U) (FailsAt P (is_live_access P) is_access_note U.tenants) gone_fail k.gone k.retired)
+      (all_map (IsNoted P U.tenants) (SaysAt P (is_live_access P) is_access_note U.tenants) noted_says k.notes noted) in
       subst (λ z. how_many_accesses P U ≤ z) (count_accesses k.notes ∙ ap memory_records (sym k.are)) few
 
   module _ (older : List Record) (x : Record) (younger : List Record) (are : records ≡ older ++ x ∷ younger) where
@@ -281,7 +284,8 @@ module _ (P : Program) (C : Sizes) (h : List Entry) (legal : IsLegal P C h) (rec
     pub behind_left : one_noted.tenant.standing ≡ Retired → how_many_accesses P U ≤ memory_records younger
     behind_left gone =
         let Fails = FailsAt P (is_live_access P) is_access_note U.tenants in
-        let before = all_two (IsNoted P U.tenants) (λ n. n.at < s.one.at) Fails older_fails s.before (all_front (IsNoted P U.tenants) s.before (s.one ∷ s.after) noted_all) (all_rest (λ n. n.at < s.one.at) k.gone s.before order.before) in
+        let before = all_two (IsNoted P U.tenants) (λ n. n.at < s.one.at) Fails older_fails s.before (all_front (IsNoted P U.tenants) s.before (s.one ∷ s.after) noted_all)
+        (all_rest (λ n. n.at < s.one.at) k.gone s.before order.before) in
         let first = all_map (IsGone U) Fails gone_fail k.gone k.retired in
         let one : Fails s.one = gone_fail s.one (record { tenant = one_noted.tenant; is = one_noted.is; fact = gone }) in
         let path : trail P U.tenants ≡ ((k.gone ++ s.before) ++ s.one ∷ []) ++ s.after = whole ∙ sym (append_assoc (k.gone ++ s.before) (s.one ∷ []) s.after) in
@@ -298,10 +302,12 @@ module _ (P : Program) (C : Sizes) (h : List Entry) (legal : IsLegal P C h) (rec
     pub behind_live : one_noted.tenant.standing ≡ Live → x.access ≡ true → suc (memory_records younger) ≤ how_many_accesses P U
     behind_live live access =
         let True = TrueAt P (is_live_access P) is_access_note U.tenants in
-        let after : AllByRecursion True s.after = all_two (IsNoted P U.tenants) (λ n. s.one.at < n.at) True younger_true s.after ((all_rest (IsNoted P U.tenants) s.before (s.one ∷ s.after) noted_all).1) order.after in
+        let after : AllByRecursion True s.after = all_two (IsNoted P U.tenants) (λ n. s.one.at < n.at) True younger_true s.after
+        ((all_rest (IsNoted P U.tenants) s.before (s.one ∷ s.after) noted_all).1) order.after in
         let one : True s.one = true_of s.one one_noted live in
         let many = at_least P (is_live_access P) is_access_note U.tenants (k.gone ++ s.before) (s.one ∷ s.after) whole (one, after) in
-        let count_one : count is_access_note (s.one ∷ s.after) ≡ suc (memory_records younger) = ap (λ b. cond b (suc (count is_access_note s.after)) (count is_access_note s.after)) (ap (λ (z : Record). z.access) s.what ∙ access) ∙ ap suc (count_accesses s.after ∙ ap memory_records s.rest) in
+        let count_one : count is_access_note (s.one ∷ s.after) ≡ suc (memory_records younger) = ap (λ b. cond b (suc (count is_access_note s.after)) (count is_access_note s.after))
+        (ap (λ (z : Record). z.access) s.what ∙ access) ∙ ap suc (count_accesses s.after ∙ ap memory_records s.rest) in
         subst (λ z. z ≤ how_many_accesses P U) count_one many
       where
         true_of : (n : Note) → (i : IsNoted P U.tenants n) → i.tenant.standing ≡ Live → TrueAt P (is_live_access P) is_access_note U.tenants n

@@ -153,7 +153,8 @@ module _ {S : Type 0} (Learns : S → ℕ → ℕ → S → Type 0) (P : Program
     where
       with_none : is_untold told younger t (length ts) ≡ false → TellsEach Learns P (all_untold told (t ∷ younger) ts) a b → TellsEach Learns P (all_untold told younger (t ∷ ts)) a b
       with_none f e =
-          let same : all_untold told younger (t ∷ ts) ≡ all_untold told (t ∷ younger) ts = ap (λ z. all_untold told (t ∷ younger) ts ++ cond z (t ∷ []) []) f ∙ append-nil (all_untold told (t ∷ younger) ts) in
+          let same : all_untold told younger (t ∷ ts) ≡ all_untold told (t ∷ younger) ts = ap (λ z. all_untold told (t ∷ younger) ts ++ cond z (t ∷ []) []) f ∙
+          append-nil (all_untold told (t ∷ younger) ts) in
           subst (λ z. TellsEach Learns P z a b) (sym same) e
 
       on : on_path t ≡ true → (ns ≡ []) ⊎ Last ns → ((g ns : List Note) → trail P ts ≡ g ++ ns → AllByRecursion (IsFolded U told) g → AllByRecursion IsIn ns → (a b : S) →

@@ -146,13 +146,15 @@ module _ (P : Program) (C : Sizes) (old h : List Entry) (records : List Record) 
             let f = first_note knows_now.notes x xs (sym knows_now.are ∙ e) in
             let long : C.ring ≤ length knows_now.notes = subst (λ z. C.ring ≤ z) (notes_length P C (unit_of P C h) records base (IsFolded (unit_of P C h) (rested_at base)) knows_now) many in
             let gone = oldest_left P C h adds.legal records base knows_now seen sees_next free f.one f.rest f.is long in
-            let still = stays P C (λ U. IsTenant U f.one.at f.one.what.station f.one.what.tag (HasLeft seen.value)) (left_stable P C f.one.at f.one.what.station f.one.what.tag seen.value) h new more gone in
+            let still = stays P C (λ U. IsTenant U f.one.at f.one.what.station f.one.what.tag (HasLeft seen.value)) (left_stable P C f.one.at f.one.what.station f.one.what.tag seen.value) h new more
+            gone in
             record { p = f.one.at; tenant = subst (λ (z : Record). IsTenant (unit_of P C new) f.one.at z.station z.tag (HasLeft seen.value)) f.what still }
 
         pub can_fetch : (half : Half) → half ≡ next_half base records → QueueSays P C (unit_of P C new) i false → seen.tag ≢ last_tag → seen.tag ≤ last_tag → station < ring →
             CanFetch P C new records (record { instr = i; half = half; pc = pc; station = station; left = seen.value })
         can_fetch half half_is q ne most small =
-            let tag : next_tag C (recent (unit_of P C new)) ≡ seen.tag = stays P C (λ U. next_tag C (recent U) ≡ seen.tag) (tag_stable P C seen.tag) h new more (next_tag_is P C h adds.legal seen sees_next free) in
+            let tag : next_tag C (recent (unit_of P C new)) ≡ seen.tag = stays P C (λ U. next_tag C (recent U) ≡ seen.tag) (tag_stable P C seen.tag) h new more
+            (next_tag_is P C h adds.legal seen sees_next free) in
             record {
               next = record {
                 station = station_is ∙ (ap (λ z. station_of_next z base records) ring_is ∙ sym (known_place P C (unit_of P C new) records base (IsFolded (unit_of P C new) (rested_at base)) knows_new

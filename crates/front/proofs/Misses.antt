@@ -110,7 +110,8 @@ module _ (P : Program) (C : Sizes) where
     pub no_miss : AllByRecursion (IsNoLiveMiss U) records → HasNoMiss U
     no_miss all p x t is live fate =
         let Q : Note → Type 0 = λ n. (x : ℕ) (t : Tenant) → at U.tenants n.at ≡ Some t → ¬ IsMissing x t in
-        let named = all_two (IsNoted P U.tenants) (λ n. IsNoLiveMiss U n.what) Q named_miss k.notes (notes_noted P C h legal records base (IsFolded U (rested_at base)) k) (of_whats (IsNoLiveMiss U) k.notes (subst (AllByRecursion (IsNoLiveMiss U)) k.are all)) in
+        let named = all_two (IsNoted P U.tenants) (λ n. IsNoLiveMiss U n.what) Q named_miss k.notes (notes_noted P C h legal records base (IsFolded U (rested_at base)) k)
+        (of_whats (IsNoLiveMiss U) k.notes (subst (AllByRecursion (IsNoLiveMiss U)) k.are all)) in
         let everybody = subst (AllByRecursion Q) (sym k.path) (all_both Q k.gone k.notes (all_map (IsGone U) Q gone_miss k.gone k.retired) named) in
         trail_all P Q U.tenants everybody p t is (ap stands_on_path live) x t is (record { live = live; fate = fate })
       where

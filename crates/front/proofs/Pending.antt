@@ -125,7 +125,8 @@ module _ (P : Program) (C : Sizes) (r q station tag x g : ℕ) where
           (λ e. ap (λ (z : Tenant). z.second.way) (same_tenant t' t (sym is' ∙ e)))
           (λ (z : Acted P U front (On p (Link First)) (applied P C U front (On p (Link First))).tenants r t).
           let act : Link First ≡ z.act = act_of p z.p (Link First) z.act z.step in
-          let now : t' ≡ linked (older U.tenants r) t First = same_tenant t' (changed P front z.act t (older U.tenants r)) (sym is' ∙ z.now) ∙ ap (λ y. changed P front y t (older U.tenants r)) (sym act) in
+          let now : t' ≡ linked (older U.tenants r) t First = same_tenant t' (changed P front z.act t (older U.tenants r)) (sym is' ∙ z.now) ∙
+          ap (λ y. changed P front y t (older U.tenants r)) (sym act) in
           ap (λ (z : Tenant). z.second.way) now)
           (exact P C U front (On p (Link First)) a r t is))
           i

@@ -79,7 +79,8 @@ module _ (P : Program) (C : Sizes) (U : UpdateUnit) (records : List Record) (bas
   notes_placed st =
       let parts = parted P C U.fresh U.tenants st.placed in
       let few = passed_few U.fresh U.tenants (rested_at base) k.since in
-      let apart = cut_twice (λ n. n.at < length (passed U.fresh U.tenants)) (λ n. rested_at base ≤ n.at) (λ n old new. absurd (omega (arith, few, old, new))) k.gone k.notes parts.olds parts.news (sym k.path ∙ parts.path) parts.before k.untold in
+      let apart = cut_twice (λ n. n.at < length (passed U.fresh U.tenants)) (λ n. rested_at base ≤ n.at) (λ n old new. absurd (omega (arith, few, old, new))) k.gone k.notes parts.olds parts.news
+      (sym k.path ∙ parts.path) parts.before k.untold in
       let none : 0 + length apart.middle ≡ length apart.middle = omega arith in
       let all = ap (λ z. length z) apart.rest in
       let long = length-append apart.middle k.notes in

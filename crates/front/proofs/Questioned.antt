@@ -63,7 +63,8 @@ module _ (P : Program) (C : Sizes) where
   }
   has_asked old new legal r station tag k (From a g) i w =
       let now = later old new w.events w.adds r station tag i in
-      let same : w.r ≡ r = one_named P C new w.adds.legal w.r r w.named.tenant now.tenant w.named.is now.is w.named.new now.new (w.named.station_is ∙ sym now.station_is) (w.named.tag_is ∙ sym now.tag_is) in
+      let same : w.r ≡ r = one_named P C new w.adds.legal w.r r w.named.tenant now.tenant w.named.is now.is w.named.new now.new (w.named.station_is ∙ sym now.station_is)
+      (w.named.tag_is ∙ sym now.tag_is) in
       record {
         events = w.events;
         asks = subst (λ z. IsQuestion z k w.events) same w.question;

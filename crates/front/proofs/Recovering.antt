@@ -106,8 +106,10 @@ module _ (P : Program) (C : Sizes) (h : List Entry) (legal : IsLegal P C h) (res
       older n i behind p t is new place tag =
           let o = last_of_path in
           let below = at_below o.ts n.at i.tenant i.is in
-          let there : at U.tenants n.at ≡ Some i.tenant = ap (λ z. at z n.at) o.split ∙ at_past o.ys (o.tenant ∷ o.ts) n.at i.tenant (Rattle.inorder.proofs.Positions.at_more o.tenant o.ts n.at i.tenant i.is) in
-          let same : p ≡ n.at = one_named P C h legal p n.at t i.tenant is there new (kept_new P C U (rest ++ one ∷ []) base (IsFolded U (rested_at base)) k n.at behind) (place ∙ ap (λ (z : Record). z.station) (sym i.what)) (tag ∙ ap (λ (z : Record). z.tag) (sym i.what)) in
+          let there : at U.tenants n.at ≡ Some i.tenant = ap (λ z. at z n.at) o.split ∙ at_past o.ys (o.tenant ∷ o.ts) n.at i.tenant
+          (Rattle.inorder.proofs.Positions.at_more o.tenant o.ts n.at i.tenant i.is) in
+          let same : p ≡ n.at = one_named P C h legal p n.at t i.tenant is there new (kept_new P C U (rest ++ one ∷ []) base (IsFolded U (rested_at base)) k n.at behind)
+          (place ∙ ap (λ (z : Record). z.station) (sym i.what)) (tag ∙ ap (λ (z : Record). z.tag) (sym i.what)) in
           let last : x.at ≡ length o.ts = ap (λ (z : Note). z.at) o.is in
           omega (arith, same, below, last)
 
@@ -189,9 +191,11 @@ module _ (P : Program) (C : Sizes) (old new : List Entry) (rest : List Record) (
       let l = last_event P C front old new (Does (On p Squash)) [] adds in
       let t = noted.tenant in
       let at_point : at (unit_of P C l.point).tenants p ≡ Some t = ap (at (unit_of P C l.point).tenants) at_p ∙ noted.is in
-      let long : (l.after ++ entry front (Does (On p Squash)) ∷ []) ++ l.point ≡ l.after ++ entry front (Does (On p Squash)) ∷ l.point = append_assoc l.after (entry front (Does (On p Squash)) ∷ []) l.point in
+      let long : (l.after ++ entry front (Does (On p Squash)) ∷ []) ++ l.point ≡ l.after ++ entry front (Does (On p Squash)) ∷ l.point = append_assoc l.after (entry front (Does (On p Squash)) ∷ [])
+      l.point in
       let later = place_stays P C p t (l.after ++ entry front (Does (On p Squash)) ∷ []) l.point (subst (IsLegal P C) (sym long) l.legal) at_point in
-      let here : Has (unit_of P C new) p (λ u. (u.station ≡ t.station) × (u.tag ≡ t.tag)) = subst (λ z. Has (unit_of P C z) p (λ u. (u.station ≡ t.station) × (u.tag ≡ t.tag))) (long ∙ sym l.is) later in
+      let here : Has (unit_of P C new) p (λ u. (u.station ≡ t.station) × (u.tag ≡ t.tag)) = subst (λ z. Has (unit_of P C z) p (λ u. (u.station ≡ t.station) × (u.tag ≡ t.tag))) (long ∙ sym l.is) later
+      in
       sym named.station_is ∙ (ap (λ (z : Tenant). z.station) (same_tenant named.tenant here.tenant (sym named.is ∙ here.is)) ∙ (here.fact.0 ∙ ap (λ (z : Record). z.station) noted.what))
 
   -- its table
@@ -206,8 +210,10 @@ module _ (P : Program) (C : Sizes) (old new : List Entry) (rest : List Record) (
       let last = youngest_note P C l.point legal.0 rest one base there in
       let path : List Note = there.gone ++ last.front in
       let whole : trail P (unit_of P C l.point).tenants ≡ path ++ last.one ∷ [] = there.path ∙ (ap (λ z. there.gone ++ z) last.is ∙ sym (append_assoc there.gone last.front (last.one ∷ []))) in
-      let noted : IsNoted P (unit_of P C l.point).tenants last.one = (all_rest (IsNoted P (unit_of P C l.point).tenants) path (last.one ∷ []) (subst (AllByRecursion (IsNoted P (unit_of P C l.point).tenants)) whole (trail_noted P (unit_of P C l.point).tenants))).0 in
-      let newest : IsNewest (unit_of P C l.point) last.one = (all_rest (IsNewest (unit_of P C l.point)) last.front (last.one ∷ []) (subst (AllByRecursion (IsNewest (unit_of P C l.point))) last.is there.newest)).0 in
+      let noted : IsNoted P (unit_of P C l.point).tenants last.one = (all_rest (IsNoted P (unit_of P C l.point).tenants) path (last.one ∷ [])
+      (subst (AllByRecursion (IsNoted P (unit_of P C l.point).tenants)) whole (trail_noted P (unit_of P C l.point).tenants))).0 in
+      let newest : IsNewest (unit_of P C l.point) last.one = (all_rest (IsNewest (unit_of P C l.point)) last.front (last.one ∷ [])
+      (subst (AllByRecursion (IsNewest (unit_of P C l.point))) last.is there.newest)).0 in
       let untold : rested_at base ≤ last.one.at = (all_rest (λ n. rested_at base ≤ n.at) last.front (last.one ∷ []) (subst (AllByRecursion (λ n. rested_at base ≤ n.at)) last.is there.untold)).0 in
       let o = last_of_path P C l.point legal.0 rest one base there in
       let this = acted P C (unit_of P C l.point) ok path last.one o p a.tenant a.is a.may.live a.may.youngest in
@@ -260,9 +266,12 @@ module _ (P : Program) (C : Sizes) (old new : List Entry) (rest : List Record) (
       let at_p = acts_at P C l.point legal.0 rest one base there p a.tenant a.is a.may.live a.may.youngest in
       let at_q = last_position P C l.point legal.0 rest one base there next q missing in
       let same : q ≡ p = at_q ∙ sym at_p in
-      let point_named : IsTenant (unit_of P C l.point) p one.station one.tag IsAny = subst (λ z. IsTenant (unit_of P C l.point) z one.station one.tag IsAny) same (record { tenant = missing.tenant; is = missing.is; new = missing.new; station_is = missing.station_is; tag_is = missing.tag_is; fact = tt }) in
-      let long : (l.after ++ entry front (Does (On p Mend)) ∷ []) ++ l.point ≡ l.after ++ entry front (Does (On p Mend)) ∷ l.point = append_assoc l.after (entry front (Does (On p Mend)) ∷ []) l.point in
-      let named = any_stays P C p one.station one.tag (l.after ++ entry front (Does (On p Mend)) ∷ []) l.point (subst (IsLegal P C) (sym long) l.legal) (ap renewals (long ∙ sym l.is) ∙ l.since) point_named in
+      let point_named : IsTenant (unit_of P C l.point) p one.station one.tag IsAny = subst (λ z. IsTenant (unit_of P C l.point) z one.station one.tag IsAny) same
+      (record { tenant = missing.tenant; is = missing.is; new = missing.new; station_is = missing.station_is; tag_is = missing.tag_is; fact = tt }) in
+      let long : (l.after ++ entry front (Does (On p Mend)) ∷ []) ++ l.point ≡ l.after ++ entry front (Does (On p Mend)) ∷ l.point = append_assoc l.after (entry front (Does (On p Mend)) ∷ []) l.point
+      in
+      let named = any_stays P C p one.station one.tag (l.after ++ entry front (Does (On p Mend)) ∷ []) l.point (subst (IsLegal P C) (sym long) l.legal) (ap renewals (long ∙ sym l.is) ∙ l.since)
+      point_named in
       record {
         knows = stays_behind P C (λ U. FrontKnows P C U (rest ++ record one { next = next } ∷ []) base) (knows_stable P C (rest ++ record one { next = next } ∷ []) base) old new (Does (On p Mend)) []
             l behind;

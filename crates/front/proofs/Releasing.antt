@@ -79,7 +79,8 @@ module _ (P : Program) (C : Sizes) (h : List Entry) (legal : IsLegal P C h) wher
       its_left =
           let i = gone.tenant in
           let new = kept_new P C U records base Again k n.at (subst (AllByRecursion (λ n. rested_at base ≤ n.at)) e k.untold).0 in
-          let p : gone.p ≡ n.at = one_named P C h legal gone.p n.at i.tenant noted.tenant i.is noted.is i.new new (i.station_is ∙ ap (λ (z : Record). z.station) (sym noted.what)) (i.tag_is ∙ ap (λ (z : Record). z.tag) (sym noted.what)) in
+          let p : gone.p ≡ n.at = one_named P C h legal gone.p n.at i.tenant noted.tenant i.is noted.is i.new new (i.station_is ∙ ap (λ (z : Record). z.station) (sym noted.what))
+          (i.tag_is ∙ ap (λ (z : Record). z.tag) (sym noted.what)) in
           subst (HasLeft left) (same_tenant i.tenant noted.tenant (sym i.is ∙ (ap (at U.tenants) p ∙ noted.is))) i.fact
 
       pub note_gone : IsGone U n

@@ -114,6 +114,7 @@ module _ (P : Program) (C : Sizes) (h : List Entry) (legal : IsLegal P C h) wher
         let whole : trail P U.tenants ≡ (k.gone ++ l.front) ++ l.one ∷ [] = k.path ∙ (ap (λ z. k.gone ++ z) l.is ∙ sym (append_assoc k.gone l.front (l.one ∷ []))) in
         let order = ordered P U.tenants (k.gone ++ l.front) l.one [] whole in
         let Dead : Note → Type 0 = λ n. (t : Tenant) → at U.tenants n.at ≡ Some t → IsNotLive t in
-        let before : AllByRecursion Dead (k.gone ++ l.front) = all_map (λ n. n.at < l.one.at) Dead (λ n lt t is live. gone_live (sym gone ∙ live_behind P U.tenants (unit_sound P C h legal) n.at l.one.at t i.tenant lt is live i.is i.on)) (k.gone ++ l.front) order.before in
+        let before : AllByRecursion Dead (k.gone ++ l.front) = all_map (λ n. n.at < l.one.at) Dead (λ n lt t is live. gone_live
+        (sym gone ∙ live_behind P U.tenants (unit_sound P C h legal) n.at l.one.at t i.tenant lt is live i.is i.on)) (k.gone ++ l.front) order.before in
         let last : Dead l.one = λ t is live. gone_live (sym gone ∙ (ap (λ (z : Tenant). z.standing) (same_tenant i.tenant t (sym i.is ∙ is)) ∙ live)) in
         dead_all (subst (AllByRecursion Dead) (sym whole) (all_both Dead (k.gone ++ l.front) (l.one ∷ []) before (last, tt)))

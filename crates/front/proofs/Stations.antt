@@ -179,8 +179,10 @@ module _ (P : Program) (C : Sizes) (h : List Entry) (legal : IsLegal P C h) wher
         let new = kept_new P C U records base (IsFolded U (rested_at base)) k n.at untold in
         let next = oldest_place P C U records base (IsFolded U (rested_at base)) k (stands_right P C h legal) n ns e whole in
         let place : noted.tenant.station ≡ next_station C (recent U) = ap (λ (z : Record). z.station) noted.what ∙ next in
-        let last : last_of (recent U) (next_station C (recent U)) ≡ Some noted.tenant = last_now U n.at (next_station C (recent U)) noted.tenant noted.is new place (λ q u lt is same. newest q u lt is (same ∙ sym next)) in
-        let word : station_word C (recent U) (next_station C (recent U)) ≡ word_by (next_tag C (recent U)) noted.tenant.standing noted.tenant.tag noted.tenant.fate noted.tenant.made = ap (word_of (next_tag C (recent U))) last in
+        let last : last_of (recent U) (next_station C (recent U)) ≡ Some noted.tenant = last_now U n.at (next_station C (recent U)) noted.tenant noted.is new place
+        (λ q u lt is same. newest q u lt is (same ∙ sym next)) in
+        let word : station_word C (recent U) (next_station C (recent U)) ≡ word_by (next_tag C (recent U)) noted.tenant.standing noted.tenant.tag noted.tenant.fate noted.tenant.made = ap
+        (word_of (next_tag C (recent U))) last in
         record {
           tenant = noted.tenant;
           is = noted.is;

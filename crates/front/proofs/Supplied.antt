@@ -118,7 +118,8 @@ module _ (P : Program) (C : Sizes) (h : List Entry) (legal : IsLegal P C h) (rec
             let station : c.station ≡ n.what.station = ap (λ (z : Maker). z.station) one in
             let tag : c.tag ≡ n.what.tag = ap (λ (z : Maker). z.tag) one in
             let there : newest_note None k.stands.gone r ≡ Some n = sym (noted_by k.stands.gone f.written) ∙ x in
-            let its : IsAgain n × IsNoted P U.tenants n = ⊎_elim (λ (no : None ≡ Some n). absurd (cc no)) (λ q. q) (newest_among (λ n. IsAgain n × IsNoted P U.tenants n) None k.stands.gone r n gone_all there) in
+            let its : IsAgain n × IsNoted P U.tenants n = ⊎_elim (λ (no : None ≡ Some n). absurd (cc no)) (λ q. q)
+            (newest_among (λ n. IsAgain n × IsNoted P U.tenants n) None k.stands.gone r n gone_all there) in
             let t : Tenant = its.1.tenant in
             let place : t.station ≡ n.what.station = ap (λ (z : Record). z.station) its.1.what in
             ⊎_elim

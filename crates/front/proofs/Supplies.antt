@@ -83,8 +83,10 @@ module _ (P : Program) (C : Sizes) (h : List Entry) (legal : IsLegal P C h) (rec
       let others = others_next P C U records base _ s (stands_right P C h legal) k.free in
       let both = all_two (IsNoted P U.tenants) (IsNewest U) (λ n. IsNoted P U.tenants n × IsNewest U n) (λ n a b. (a, b)) s.notes noted s.newest in
       let small = notes_small P C h legal records base _ s (omega (arith, k.free)) in
-      let apart = all_two (λ n. n.what.station ≢ next_station C (recent U)) (λ n. n.what.station < C.ring) (λ n. (n.what.station ≢ next_station C (recent U)) × (n.what.station < C.ring)) (λ n a b. (a, b)) s.notes others small in
-      let young = all_two (λ n. IsNoted P U.tenants n × IsNewest U n) (λ n. rested_at base ≤ n.at) (λ n. (IsNoted P U.tenants n × IsNewest U n) × (rested_at base ≤ n.at)) (λ n a b. (a, b)) s.notes both s.untold in
+      let apart = all_two (λ n. n.what.station ≢ next_station C (recent U)) (λ n. n.what.station < C.ring) (λ n. (n.what.station ≢ next_station C (recent U)) × (n.what.station < C.ring))
+      (λ n a b. (a, b)) s.notes others small in
+      let young = all_two (λ n. IsNoted P U.tenants n × IsNewest U n) (λ n. rested_at base ≤ n.at) (λ n. (IsNoted P U.tenants n × IsNewest U n) × (rested_at base ≤ n.at)) (λ n a b. (a, b)) s.notes
+      both s.untold in
       all_two (λ n. (IsNoted P U.tenants n × IsNewest U n) × (rested_at base ≤ n.at)) (λ n. (n.what.station ≢ next_station C (recent U)) × (n.what.station < C.ring)) (IsGiver P C U (rested_at base))
       (λ n a b. record { untold = a.1; noted = a.0.0; newest = a.0.1; other = b.0; small = b.1 }) s.notes young apart
 
@@ -108,7 +110,8 @@ module _ (P : Program) (C : Sizes) (h : List Entry) (legal : IsLegal P C h) (rec
             MaySupply P U (next_station C (recent U)) (creator P U.tenants r) (supply_of (cond n.what.links (GivenKnown (pc_plus_4 n.what.pc)) (GivenFrom n.what.station n.what.tag)))
         go true e =
             let made : t.made ≡ Some (pc_plus_4 t.pc) = link_made P U.tenants (unit_sound P C h legal) n.at t g.noted.is (ap (λ (z : Record). z.links) g.noted.what ∙ e) in
-            let value : value_of U.tenants (creator P U.tenants r) ≡ Some (pc_plus_4 n.what.pc) = ap (value_of U.tenants) c ∙ (ap made_by g.noted.is ∙ (made ∙ ap (λ (z : Record). Some (pc_plus_4 z.pc)) g.noted.what)) in
+            let value : value_of U.tenants (creator P U.tenants r) ≡ Some (pc_plus_4 n.what.pc) = ap (value_of U.tenants) c ∙
+            (ap made_by g.noted.is ∙ (made ∙ ap (λ (z : Record). Some (pc_plus_4 z.pc)) g.noted.what)) in
             subst (λ b. MaySupply P U (next_station C (recent U)) (creator P U.tenants r) (supply_of (cond b (GivenKnown (pc_plus_4 n.what.pc)) (GivenFrom n.what.station n.what.tag)))) (sym e) value
         go false e =
             let place : t.station ≡ n.what.station = ap (λ (z : Record). z.station) g.noted.what in

@@ -373,7 +373,8 @@ module _ (P : Program) (C : Sizes) (U : UpdateUnit) (by index predicted : ℕ) (
       ∙ (e.replaced _ (k.entries d (subst (λ z. 0 < z) same pos) (subst (λ z. z < 34) same less))
       ∙ (λ i. table_entry_in told (two.fronts i) (sym same i)))
   replaced xs ys n split (inr l) untold newest pos less s g =
-      let long : trail P U.tenants ++ note P U.tenants new ∷ [] ≡ (xs ++ n ∷ l.front) ++ l.one ∷ [] = sym path ∙ (split ∙ (ap (λ z. xs ++ n ∷ z) l.is ∙ sym (append_assoc xs (n ∷ l.front) (l.one ∷ [])))) in
+      let long : trail P U.tenants ++ note P U.tenants new ∷ [] ≡ (xs ++ n ∷ l.front) ++ l.one ∷ [] = sym path ∙
+      (split ∙ (ap (λ z. xs ++ n ∷ z) l.is ∙ sym (append_assoc xs (n ∷ l.front) (l.one ∷ [])))) in
       let two = last_same (trail P U.tenants) (xs ++ n ∷ l.front) (note P U.tenants new) l.one long in
       let was = noted_in xs l.front n two.fronts in
       k.replaced xs l.front n two.fronts untold (last_old n.at n.what.station newest) pos less s

@@ -205,10 +205,12 @@ module _ {S : Type 0} (Learns : S → ℕ → ℕ → S → Type 0) (P : Program
       let i = gone.tenant in
       let untold_one = (subst (AllByRecursion (λ n. rested_at base ≤ n.at)) e k.untold).0 in
       let new = kept_new P C U records base (IsFolded U (rested_at base)) k n.at untold_one in
-      let p : gone.p ≡ n.at = one_named P C h legal gone.p n.at i.tenant t i.is noted.is i.new new (i.station_is ∙ ap (λ (z : Record). z.station) (sym noted.what)) (i.tag_is ∙ ap (λ (z : Record). z.tag) (sym noted.what)) in
+      let p : gone.p ≡ n.at = one_named P C h legal gone.p n.at i.tenant t i.is noted.is i.new new (i.station_is ∙ ap (λ (z : Record). z.station) (sym noted.what))
+      (i.tag_is ∙ ap (λ (z : Record). z.tag) (sym noted.what)) in
       let one : i.tenant ≡ t = same_tenant i.tenant t (sym i.is ∙ (ap (at U.tenants) p ∙ noted.is)) in
       let retired : t.standing ≡ Retired = ap (λ (z : Tenant). z.standing) (sym one) ∙ i.fact.retired in
-      let last : last_of (untold (rested_at base) U.tenants) next ≡ Some t = untold_last U.tenants (rested_at base) n.at next t noted.is untold_one (ap (λ (z : Record). z.station) noted.what ∙ place) (λ q u lt is same. newest q u lt is (same ∙ sym place)) in
+      let last : last_of (untold (rested_at base) U.tenants) next ≡ Some t = untold_last U.tenants (rested_at base) n.at next t noted.is untold_one (ap (λ (z : Record). z.station) noted.what ∙ place)
+      (λ q u lt is same. newest q u lt is (same ∙ sym place)) in
       let went : computed_next P t ≡ n.what.next = went_on P U.tenants (unit_sound P C h legal) n.at t noted.is retired ∙ ap (λ (z : Record). z.next) noted.what in
       let guessed : is_retired t && is_guessed P t ≡ n.what.guessed = ap (λ z. stands_retired z && is_guessed P t) retired ∙ ap (λ (z : Record). z.guessed) noted.what in
       let pc : t.pc ≡ n.what.pc = ap (λ (z : Record). z.pc) noted.what in

@@ -92,7 +92,8 @@ module _ (P : Program) (C : Sizes) where
         by_link : (j : Source) → act ≡ Link j → (operand k b.tenant).way ≡ Linked true
         by_link j e = ⊎_elim
             (λ (z : IsActed P U.tenants by p act may.tenant r b.tenant).
-            let same : t' ≡ linked (older U.tenants p) may.tenant j = some_same t' (linked (older U.tenants p) may.tenant j) (sym is ∙ (z.now ∙ ap (λ a. Some (changed P by a may.tenant (older U.tenants p))) e)) in ⊎_elim
+            let same : t' ≡ linked (older U.tenants p) may.tenant j = some_same t' (linked (older U.tenants p) may.tenant j)
+            (sym is ∙ (z.now ∙ ap (λ a. Some (changed P by a may.tenant (older U.tenants p))) e)) in ⊎_elim
             (λ (kj : k ≡ j).
             let creator_is : (operand k may.tenant).creator ≡ Some q = ap (λ x. (operand k x).creator) (sym z.tenant) ∙ (sym (b.goes.creator k) ∙ from) in
             let worth = value_by P C (taken_of h) (allowed_steps P C h legal) p q v k may.tenant made.tenant may.is creator_is made.is made.made in

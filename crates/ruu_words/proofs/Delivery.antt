@@ -79,7 +79,8 @@ module _ (P : Program) (C : Sizes) where
         let one : Some n ≡ Some t = ap (λ b. cond b (Some n) (last_of us s)) (sym e) ∙ last in
         let same : n ≡ t = cc one in
         let below = at_below us x.r t x.is in
-        let position : x.r ≡ length us = names_one C (n ∷ us) x.r (length us) t n tags (at_more n us x.r t x.is) (at_new n us) (ap (λ (x : Tenant). x.station) (sym same)) (ap (λ (x : Tenant). x.tag) (sym same)) in
+        let position : x.r ≡ length us = names_one C (n ∷ us) x.r (length us) t n tags (at_more n us x.r t x.is) (at_new n us) (ap (λ (x : Tenant). x.station) (sym same))
+        (ap (λ (x : Tenant). x.tag) (sym same)) in
         omega arith
 
     last_there : (d : Draft) (k : Source) → last_of (recent (operand_unit P C U d k)) s ≡ Some t → last_of us s ≡ Some t
@@ -148,7 +149,8 @@ module _ (P : Program) (C : Sizes) where
       go : (st : Standing) → t.standing ≡ st → IsDelivered (unit_of P C h) r k ⊎ (t.standing ≢ Live)
       go Live live =
           let last = operand_last P C h legal d k draft r t is live in
-          let w : IsOperandOf (record { tag = t.tag; value = (operand k t).value }) n = subst (λ o. IsOperand (operand_word_of k o) n) (ap (last_of (recent (operand_unit P C (unit_of P C h) d k))) (sym station_is) ∙ last) content in
+          let w : IsOperandOf (record { tag = t.tag; value = (operand k t).value }) n = subst (λ o. IsOperand (operand_word_of k o) n)
+          (ap (last_of (recent (operand_unit P C (unit_of P C h) d k))) (sym station_is) ∙ last) content in
           let w' : IsOperandOf (record { tag = g; value = (operand k t).value }) n = subst (λ z. IsOperandOf (record { tag = z; value = (operand k t).value }) n) tag_is w in
           inl (record { tenant = t; is = is; fact = by_value g (operand k t).value n old old_is w' miss })
       go Retired e = inr (λ live. let x = sym e ∙ live in cc x)

@@ -89,7 +89,8 @@ module _ (P : Program) (C : Sizes) where
   load_waits_plan id v x p s g index a role head is_load between d legal same apart caller mine draft n small content =
       let h : List Entry = between ++ v.seen in
       let is_back : id ≡ back = subst (λ r. IsCaller r id) role caller in
-      let i = back_stays P C (λ U. IsHead U p (HasAddr s g index a)) (λ U by st b may ok q. addr_head_stays P C U by st b may ok p s g index a q) between v.seen legal same (subst (λ z. own z between ≡ []) is_back apart) head in
+      let i = back_stays P C (λ U. IsHead U p (HasAddr s g index a)) (λ U by st b may ok q. addr_head_stays P C U by st b may ok p s g index a q) between v.seen legal same
+      (subst (λ z. own z between ≡ []) is_back apart) head in
       let t : Tenant = i.tenant in
       let k : kind_of P t ≡ Loads = ap (λ z. kind (instr_of P z).op) i.fact.index_is ∙ is_load in
       tells P C id h d legal draft x n NotDone (is_back, not_done h p t i.is i.live i.oldest i.goes_on (λ c. no_store (kind_of P t) t.second.value t.fate k i.fact.fate c)) content (Tells P C NotDone)
@@ -126,9 +127,11 @@ module _ (P : Program) (C : Sizes) where
   data_plan id v p s g index a role head between d legal same apart caller mine draft n small content =
       let h : List Entry = between ++ v.seen in
       let is_back : id ≡ back = subst (λ r. IsCaller r id) role caller in
-      let i = back_stays P C (λ U. IsHead U p (HasAddr s g index a)) (λ U by st b may ok q. addr_head_stays P C U by st b may ok p s g index a q) between v.seen legal same (subst (λ z. own z between ≡ []) is_back apart) head in
+      let i = back_stays P C (λ U. IsHead U p (HasAddr s g index a)) (λ U by st b may ok q. addr_head_stays P C U by st b may ok p s g index a q) between v.seen legal same
+      (subst (λ z. own z between ≡ []) is_back apart) head in
       let t : Tenant = i.tenant in
-      let says = its_operand P C h legal (recent (operand_unit P C (unit_of P C h) d Second)) (among P C h legal d Second) s Second n content p t i.is (live_is_recent P C h legal p t i.is i.live) i.fact.station_is in
+      let says = its_operand P C h legal (recent (operand_unit P C (unit_of P C h) d Second)) (among P C h legal d Second) s Second n content p t i.is (live_is_recent P C h legal p t i.is i.live)
+      i.fact.station_is in
       let tagged : t.tag ≡ tag_of n = tag_here h d legal draft s n content p t i.is i.fact.station_is i.live in
       let w = says tagged in
       dite (ℕ_discrete (state_of n) 2)

@@ -51,14 +51,16 @@ module _ (P : Program) (C : Sizes) where
   finish_plan id v s g old new p predicted outcome role old_is new_is job between d legal same apart caller mine draft n small content =
       let h : List Entry = between ++ v.seen in
       let worker : IsUnit id = subst (λ r. IsCaller r id) role caller in
-      let now = tenant_stays_apart P C id p s g (HasJob P id predicted outcome) (λ U by step t t' other theirs may m f. job_stays P id predicted outcome by step t t' other m f) between v.seen legal same apart job in
+      let now = tenant_stays_apart P C id p s g (HasJob P id predicted outcome) (λ U by step t t' other theirs may m f. job_stays P id predicted outcome by step t t' other m f) between v.seen legal
+      same apart job in
       let t : Tenant = now.tenant in
       exchanged n old new (λ z. Plan P C id h d (Station s) z (Finishes P C s g outcome old n))
       (λ hit.
       let word : IsStation (station_word C (recent (unit_of P C h)) s) old = subst (IsStation (station_word C (recent (unit_of P C h)) s)) hit content in
       let state = old_is.state in
       let here = the_tenant P C h legal p s g old t now.is now.new now.station_is now.tag_is word (omega arith) old_is.tag in
-      let fits : IsStation (live_word t.tag (fate_of t.predicted outcome)) new = subst (λ (z : ℕ × ℕ). IsStation (live_word z.0 (fate_of z.1 outcome)) new) (λ i. (sym now.tag_is i, sym now.fact.predicted_is i)) new_is in
+      let fits : IsStation (live_word t.tag (fate_of t.predicted outcome)) new = subst (λ (z : ℕ × ℕ). IsStation (live_word z.0 (fate_of z.1 outcome)) new)
+      (λ i. (sym now.tag_is i, sym now.fact.predicted_is i)) new_is in
       subst (λ x. Plan P C id h d (Station x) new (Finishes P C s g outcome old n)) now.station_is
       (changes P C id h d legal draft p Finish t tt (inr tt) worker (record { tenant = t; is = now.is; may = record { live = here.0; fate = now.fact.held.fate } }) now.is new
       (subst (λ o. IsStation (word_of (suc t.tag) (Some (finished t o))) new) (sym now.fact.computes) (finished_word t outcome (suc t.tag) new here.0 fits))

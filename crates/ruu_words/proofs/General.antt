@@ -109,7 +109,8 @@ module _ (P : Program) (C : Sizes) (opening : List Entry) where
       let mine : by ≡ front → v.draft ≡ d = k.draft id v here alive in
       let p : Plan P C by (between ++ v.seen) d x (f n) (Kind (tell n)) = plans between d k'.legal same apart fit.caller mine k'.proper n small (k'.words x fits) in
       let all : List Entry = map (entry by) p.events ++ (between ++ v.seen) in
-      let done : IsKept P C opening (stepped s (index C.ring x) (f n) id me.1 (stepped_view v all p.draft) keeps) all p.draft = kept_after id s (between ++ v.seen) d k' v here x (f n) fits (Kind (tell n)) p me.1 alive (starts_longer v.seen opening between (fit.opened alive)) in (
+      let done : IsKept P C opening (stepped s (index C.ring x) (f n) id me.1 (stepped_view v all p.draft) keeps) all p.draft = kept_after id s (between ++ v.seen) d k' v here x (f n) fits
+      (Kind (tell n)) p me.1 alive (starts_longer v.seen opening between (fit.opened alive)) in (
         stepped_view v all p.draft,
         keeps,
         tt,

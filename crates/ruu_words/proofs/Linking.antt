@@ -146,7 +146,8 @@ module _ (P : Program) (C : Sizes) where
             (λ (z : IsActed P us id r (Link k) t r2 consumer).
             let same : consumer' ≡ linked (older us r) t k = some_same consumer' (linked (older us r) t k) (sym i.consumer_is ∙ z.now) in ⊎_elim
             (λ (kk : k2 ≡ k).
-            let from : q2 ≡ q = some_same q2 q (sym i.creator ∙ (ap (λ (x : Tenant). (operand k2 x).creator) same ∙ (linked_creator (older us r) k2 k t ∙ (ap (λ j. (operand j t).creator) kk ∙ can.creator)))) in
+            let from : q2 ≡ q = some_same q2 q (sym i.creator ∙ (ap (λ (x : Tenant). (operand k2 x).creator) same ∙
+            (linked_creator (older us r) k2 k t ∙ (ap (λ j. (operand j t).creator) kk ∙ can.creator)))) in
             let g = goes P C U id (On r (Link k)) may (unit_sound P C h legal) q u there in
             let producer_is : producer ≡ g.tenant = some_same producer g.tenant (sym i.producer_is ∙ (ap (at V.tenants) from ∙ g.is)) in
             let pp : p2 ≡ p = sym e ∙ (ap (λ (x : Tenant). x.station) producer_is ∙ (g.goes.station ∙ at_p)) in
@@ -177,7 +178,8 @@ module _ (P : Program) (C : Sizes) where
       let h : List Entry = between ++ v.seen in
       let U : UpdateUnit = unit_of P C h in
       let not_own : own front between ≡ [] = subst (λ z. own z between ≡ []) is_front apart in
-      let i = tenant_stays_apart P C front r c gc (CanAsk k q) (λ U by step t t' other theirs may m f. ask_stays k q by step t t' (no_link C U by step other theirs) m f) between v.seen legal same not_own consumer in
+      let i = tenant_stays_apart P C front r c gc (CanAsk k q) (λ U by step t t' other theirs may m f. ask_stays k q by step t t' (no_link C U by step other theirs) m f) between v.seen legal same
+      not_own consumer in
       let j = any_stays P C q p gp between v.seen legal same producer in
       let l = front_stays P C (λ U. IsLastAt U r c) (λ U by s b a ok x. last_stays P C U by s b a ok r c x) between v.seen legal not_own last in
       let may : Allowed P C U id (On r (Link k)) = record { tenant = i.tenant; is = i.is; may = record { way = i.fact.way } } in

@@ -59,7 +59,8 @@ module _ (P : Program) (C : Sizes) where
       let one : i.tenant ≡ t = one_at P C h legal p i.tenant t i.is c.is in
       let at_s : t.station ≡ s = ap (λ (z : Tenant). z.station) (sym one) ∙ i.station_is in
       let tag : t.tag ≡ g = ap (λ (z : Tenant). z.tag) (sym one) ∙ i.tag_is in
-      let fits : IsStation (live_word t.tag (Done (load_value P (older U.tenants p) t))) new = subst (λ (z : ℕ × ℕ). IsStation (live_word z.0 (Done z.1)) new) (λ j. (sym tag j, sym c.value_is j)) new_is in
+      let fits : IsStation (live_word t.tag (Done (load_value P (older U.tenants p) t))) new = subst (λ (z : ℕ × ℕ). IsStation (live_word z.0 (Done z.1)) new) (λ j. (sym tag j, sym c.value_is j))
+      new_is in
       subst (λ x. Plan P C id h d (Station x) new (Settles P C s g old n)) at_s
       (changes P C id h d legal draft p Load t tt (inr tt) is_back (record { tenant = t; is = c.is; may = c.may }) c.is new
       (still_live t.standing (suc t.tag) t.tag (Done (load_value P (older U.tenants p) t)) (Some (load_value P (older U.tenants p) t)) new c.may.live fits)

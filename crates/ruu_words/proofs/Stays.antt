@@ -141,7 +141,14 @@ module _ (P : Program) (C : Sizes) where
   pub opened_before : (p s g : ℕ) (more seen : List Entry) → IsLegal P C (more ++ seen) → renewals (more ++ seen) ≡ renewals seen → (i : IsTenant (unit_of P C seen) p s g IsAny) →
       (j : IsTenant (unit_of P C (more ++ seen)) p s g IsOpen) → IsSince i.tenant j.tenant
   opened_before p s g more seen legal same i j =
-      let k = tenant_stays p s g (IsSince i.tenant) goes_on more seen legal same (record { tenant = i.tenant; is = i.is; new = i.new; station_is = i.station_is; tag_is = i.tag_is; fact = record { opens = λ o. o; index = refl; predicted = refl } }) in
+      let k = tenant_stays p s g (IsSince i.tenant) goes_on more seen legal same (record {
+        tenant = i.tenant;
+        is = i.is;
+        new = i.new;
+        station_is = i.station_is;
+        tag_is = i.tag_is;
+        fact = record { opens = λ o. o; index = refl; predicted = refl };
+      }) in
       subst (IsSince i.tenant) (one k.tenant j.tenant (sym k.is ∙ j.is)) k.fact
     where
       goes_on : (by : ℕ) (step : Step) (t t' : Tenant) → Goes by step t t' → IsSince i.tenant t → IsSince i.tenant t'

@@ -263,7 +263,15 @@ module _ (P : Program) (C : Sizes) (opening : List Entry) where
       let was : get_elem? s.views other ≡ some w = sym (set_else s.views id other b apart) ∙ there in
       let f = k.views id v here in let f' = k.views other w was in
       let is_both : ViewFits opening h b = record { begins = f.begins; told = f'.begins; opened = f.opened; all_own = f.all_own; unborn = f.unborn; caller = f.caller; above = f.above } in
-      let is_spent : ViewFits opening h z = record { begins = starts_empty h; told = starts_empty h; opened = λ a. absurd a; all_own = λ a. absurd a; unborn = λ a. absurd a; caller = tt; above = λ none. absurd (no_heirs none) } in
+      let is_spent : ViewFits opening h z = record {
+        begins = starts_empty h;
+        told = starts_empty h;
+        opened = λ a. absurd a;
+        all_own = λ a. absurd a;
+        unborn = λ a. absurd a;
+        caller = tt;
+        above = λ none. absurd (no_heirs none);
+      } in
       record {
         history = h;
         draft = d;

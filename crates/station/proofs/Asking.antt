@@ -216,8 +216,10 @@ module _ (P : Program) (C : Sizes) where
       let new : List Entry = entry by (Does (On r (Link k))) ∷ h in
       let seen : w.seen ≡ new = seen_by by is v w (Links P C s g k) e (Does (On r (Link k)) ∷ []) told.added in
       let legal2 : IsLegal P C new = subst (IsLegal P C) seen e.legal in
-      let from : IsTenant (unit_of P C h) r s g (λ t. (operand k t).creator ≡ Some q) = tenant_stays P C r s g (λ t. (operand k t).creator ≡ Some q) (λ b st t t' m f. m.creator k ∙ f) e.between v.seen legal calm (weaker U r s g (IsAsking k q) (λ t. (operand k t).creator ≡ Some q) (λ t f. f.can.creator) may.asks) in
-      let path = front_stays P C (λ U. Has U r (λ t. on_path t ≡ true)) (λ U b st ok x sound i. path_stays U b st ok x r i) e.between v.seen legal none (record { tenant = may.asks.tenant; is = may.asks.is; fact = may.asks.fact.path }) in
+      let from : IsTenant (unit_of P C h) r s g (λ t. (operand k t).creator ≡ Some q) = tenant_stays P C r s g (λ t. (operand k t).creator ≡ Some q) (λ b st t t' m f. m.creator k ∙ f) e.between v.seen
+      legal calm (weaker U r s g (IsAsking k q) (λ t. (operand k t).creator ≡ Some q) (λ t f. f.can.creator) may.asks) in
+      let path = front_stays P C (λ U. Has U r (λ t. on_path t ≡ true)) (λ U b st ok x sound i. path_stays U b st ok x r i) e.between v.seen legal none
+      (record { tenant = may.asks.tenant; is = may.asks.is; fact = may.asks.fact.path }) in
       let same : path.tenant ≡ from.tenant = one_at P C h legal r path.tenant from.tenant path.is from.is in
       let there : HasAsked k q (linked (older us r) from.tenant k) = record {
         in_time = is_none (value_of (older us r) (operand k from.tenant).creator);

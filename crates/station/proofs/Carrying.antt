@@ -182,7 +182,8 @@ module _ (P : Program) (C : Sizes) where
     asks_it first names q i = subst (λ z. (r : ℕ) × IsTenant (unit_of P C z) r c (consumer_of n) (HasLink k q)) (sym seen1) (⊎_elim
         (λ (none : n ≡ 0).
         let its = recent_at (unit_of P C (g1.between ++ v0.seen)) q m.tenant m.is m.new in
-        let least = from_first C (recent (unit_of P C (g1.between ++ v0.seen))) (tagged P C (taken_of (g1.between ++ v0.seen)) (allowed_steps P C (g1.between ++ v0.seen) legal1)) its.r m.tenant its.is in
+        let least = from_first C (recent (unit_of P C (g1.between ++ v0.seen))) (tagged P C (taken_of (g1.between ++ v0.seen)) (allowed_steps P C (g1.between ++ v0.seen) legal1)) its.r m.tenant its.is
+        in
         let tag = m.tag_is in
         let low : producer_of n ≡ 0 = ap producer_of none in
         absurd (omega arith))
@@ -190,7 +191,8 @@ module _ (P : Program) (C : Sizes) where
         let small = are_small P C (g1.between ++ v0.seen) legal1 l.r l.consumer l.is.consumer_is in
         let tag : consumer_of n ≡ l.consumer.tag = consumer_is l.producer.tag l.consumer.tag n (omega arith) l.word in
         let from : producer_of n ≡ l.producer.tag = producer_is l.producer.tag l.consumer.tag n (omega arith) l.word in
-        let one : l.q ≡ q = one_tag P C (g1.between ++ v0.seen) legal1 l.q q l.producer m.tenant l.is.producer_is m.is l.producer_new m.new (l.at_p ∙ sym m.station_is) (sym from ∙ (names ∙ sym m.tag_is)) in (
+        let one : l.q ≡ q = one_tag P C (g1.between ++ v0.seen) legal1 l.q q l.producer m.tenant l.is.producer_is m.is l.producer_new m.new (l.at_p ∙ sym m.station_is)
+        (sym from ∙ (names ∙ sym m.tag_is)) in (
           l.r,
           record {
             tenant = l.consumer;
@@ -240,10 +242,17 @@ module _ (P : Program) (C : Sizes) where
           let legal2 : IsLegal P C new = subst (IsLegal P C) seen2 g2.legal in
           let a : Allowed P C U2 by (On f.p (Deliver k)) = legal2.1.1 in
           let t : Tenant = a.tenant in
-          let now : IsActed P U2.tenants by f.p (Deliver k) t f.p t = ⊎_elim (λ z. z) (λ (z : IsLeft P U2.tenants by f.p (Deliver k) f.p t). absurd (z.position refl)) (at_changed P U2.tenants by f.p (Deliver k) t a.is f.p t a.is) in
-          let there : IsDelivered (unit_of P C new) f.p k = record { tenant = delivered (older U2.tenants f.p) t k; is = now.now; fact = (a.may.value, value_there (older U2.tenants f.p) k t ∙ a.may.is_made) } in
-          let named : IsTenant (unit_of P C new) f.p c (consumer_of n) IsAny = any_stays P C f.p c (consumer_of n) (entry by act ∷ []) (g2.between ++ v1.seen) legal2 refl (record { tenant = f.tenant.tenant; is = f.tenant.is; new = f.tenant.new; station_is = f.tenant.station_is; tag_is = f.tenant.tag_is ∙ to; fact = tt }) in
-          let asks2 : IsTenant (unit_of P C new) r c (consumer_of n) (HasLink k q) = tenant_stays P C r c (consumer_of n) (HasLink k q) (λ b step x x' m l. link_on P C k q b step x x' m l) more v1.seen legal2 (same_before P C by v1 v2 (Delivers P C c k (tag_of old) old n2) g2) asks in
+          let now : IsActed P U2.tenants by f.p (Deliver k) t f.p t = ⊎_elim (λ z. z) (λ (z : IsLeft P U2.tenants by f.p (Deliver k) f.p t). absurd (z.position refl))
+          (at_changed P U2.tenants by f.p (Deliver k) t a.is f.p t a.is) in
+          let there : IsDelivered (unit_of P C new) f.p k = record {
+            tenant = delivered (older U2.tenants f.p) t k;
+            is = now.now;
+            fact = (a.may.value, value_there (older U2.tenants f.p) k t ∙ a.may.is_made);
+          } in
+          let named : IsTenant (unit_of P C new) f.p c (consumer_of n) IsAny = any_stays P C f.p c (consumer_of n) (entry by act ∷ []) (g2.between ++ v1.seen) legal2 refl
+          (record { tenant = f.tenant.tenant; is = f.tenant.is; new = f.tenant.new; station_is = f.tenant.station_is; tag_is = f.tenant.tag_is ∙ to; fact = tt }) in
+          let asks2 : IsTenant (unit_of P C new) r c (consumer_of n) (HasLink k q) = tenant_stays P C r c (consumer_of n) (HasLink k q) (λ b step x x' m l. link_on P C k q b step x x' m l) more
+          v1.seen legal2 (same_before P C by v1 v2 (Delivers P C c k (tag_of old) old n2) g2) asks in
           let one : r ≡ f.p = one_named new legal2 r f.p c (consumer_of n) (HasLink k q) IsAny asks2 named in
           let served : IsServed (unit_of P C new) q c k = served_with_it P C (unit_of P C new) q c (consumer_of n) k (served_but_stays P C q val c (consumer_of n) k more v1.seen legal2 made_mid but)
           (λ x y at_x station tag. ⊎_elim
@@ -273,7 +282,8 @@ module _ (P : Program) (C : Sizes) where
           let new : List Entry = g2.between ++ v1.seen in
           let seen2 : v2.seen ≡ new = g2.is ∙ ap (λ es. map (entry by) es ++ (g2.between ++ v1.seen)) none in
           let legal2 : IsLegal P C new = subst (IsLegal P C) seen2 g2.legal in
-          let served : IsServed (unit_of P C new) q c k = served_with_it P C (unit_of P C new) q c (consumer_of n) k (served_but_stays P C q val c (consumer_of n) k g2.between v1.seen legal2 made_mid but)
+          let served : IsServed (unit_of P C new) q c k = served_with_it P C (unit_of P C new) q c (consumer_of n) k
+          (served_but_stays P C q val c (consumer_of n) k g2.between v1.seen legal2 made_mid but)
           (λ x y at_x station tag. it x y at_x station (tag ∙ sym to)) in
           record {
             events = [];

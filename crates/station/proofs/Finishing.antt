@@ -207,7 +207,14 @@ module _ (P : Program) (C : Sizes) where
       let more : List Entry = l.after ++ entry by e ∷ [] in
       let is : new ≡ more ++ l.point = with_entry by new l.after l.point e l.is in
       let all : AreUnits more = units_behind old new more l.point l.before.begins.more is l.before.begins.is only in
-      let was : IsTenant (unit_of P C l.point) q u.station u.tag IsLive = record { tenant = u; is = may.1.is; new = live_is_recent P C l.point legal_e.0 q u may.1.is may.1.may.live; station_is = refl; tag_is = refl; fact = may.1.may.live } in
+      let was : IsTenant (unit_of P C l.point) q u.station u.tag IsLive = record {
+        tenant = u;
+        is = may.1.is;
+        new = live_is_recent P C l.point legal_e.0 q u may.1.is may.1.may.live;
+        station_is = refl;
+        tag_is = refl;
+        fact = may.1.may.live;
+      } in
       let now = kept_to IsLive live_kept q u.station u.tag more l.point new is a.adds.legal all was in
       let held = a.holds.tenant in
       let same : now.tenant ≡ held.tenant = one_at P C new a.adds.legal q now.tenant held.tenant now.is held.is in
@@ -240,7 +247,8 @@ module _ (P : Program) (C : Sizes) where
       let l = last_event P C by old new x (es ++ e ∷ []) a in
       let f = first_event by old l.point es e l.before in
       let more : List Entry = (l.after ++ entry by x ∷ []) ++ f.more in
-      let is : new ≡ more ++ entry by e ∷ f.point = with_entry by new l.after l.point x l.is ∙ (ap (λ z. (l.after ++ entry by x ∷ []) ++ z) f.behind ∙ sym (append_assoc (l.after ++ entry by x ∷ []) f.more (entry by e ∷ f.point))) in
+      let is : new ≡ more ++ entry by e ∷ f.point = with_entry by new l.after l.point x l.is ∙ (ap (λ z. (l.after ++ entry by x ∷ []) ++ z) f.behind ∙
+      sym (append_assoc (l.after ++ entry by x ∷ []) f.more (entry by e ∷ f.point))) in
       record { point = f.point; more = more; is = with_entry by new more f.point e is; behind = is; before = f.before }
 
   -- A finish is in time
@@ -333,7 +341,8 @@ module _ (P : Program) (C : Sizes) where
             same n q =
                 let rest : List Entry = l.before.begins.more in
                 let whole : new ≡ (l.after ++ entry by e ∷ []) ++ l.point = with_entry by new l.after l.point e l.is in
-                let long : new ≡ ((l.after ++ entry by e ∷ []) ++ rest) ++ old = whole ∙ (ap (λ z. (l.after ++ entry by e ∷ []) ++ z) l.before.begins.is ∙ sym (append_assoc (l.after ++ entry by e ∷ []) rest old)) in
+                let long : new ≡ ((l.after ++ entry by e ∷ []) ++ rest) ++ old = whole ∙ (ap (λ z. (l.after ++ entry by e ∷ []) ++ z) l.before.begins.is ∙
+                sym (append_assoc (l.after ++ entry by e ∷ []) rest old)) in
                 let none : own n ((l.after ++ entry by e ∷ []) ++ rest) ≡ [] = own_none n ((l.after ++ entry by e ∷ []) ++ rest) old (ap (own n) (sym long) ∙ q) in
                 let parts = own-append n (l.after ++ entry by e ∷ []) rest in
                 let a = ap (λ z. length z) (sym parts ∙ none) in

@@ -82,7 +82,8 @@ module _ (P : Program) (C : Sizes) where
       let position : c.p ≡ q = same_position (sym c.creates ∙ creates) in
       let maker : c.tenant ≡ named.tenant = found c.tenant named.tenant (sym c.is ∙ (ap (at U.tenants) position ∙ named.is)) in
       let at_a : c.tenant.station ≡ a = ap (λ (z : Tenant). z.station) maker ∙ named.station_is in
-      let now : operand k n ≡ let_operand (creator P U.tenants (register k (instr_of P t.index))) FromCreator = its_operand U t k ∙ ap (λ z. let_operand (creator P U.tenants (register k (instr_of P t.index))) (supply_of z)) is in
+      let now : operand k n ≡ let_operand (creator P U.tenants (register k (instr_of P t.index))) FromCreator = its_operand U t k ∙
+      ap (λ z. let_operand (creator P U.tenants (register k (instr_of P t.index))) (supply_of z)) is in
       record {
         r = r;
         q = q;
@@ -119,13 +120,15 @@ lets_are_asked P C old new t k a g m from adds =
     let legal : IsLegal P C (entry front e ∷ (more ++ old)) = subst (λ z. IsLegal P C (entry front e ∷ z)) is legal_at in
     let none : own front more ≡ [] = own_none front more old (ap (own front) (sym is) ∙ l.before.mine) in
     let stay = still_let P C t.index t.predicted (supply_of t.sources.0) (supply_of t.sources.1) more old legal.0 none m.may in
-    let may : MayLetOut P C (unit_of P C (more ++ old)) t = record { may = stay.may; half = m.half ∙ sym (ap (λ (x : Tenant). x.half) stay.new); tag = subst (λ n. n < last_tag) (sym stay.tag) m.tag } in
+    let may : MayLetOut P C (unit_of P C (more ++ old)) t = record { may = stay.may; half = m.half ∙ sym (ap (λ (x : Tenant). x.half) stay.new); tag = subst (λ n. n < last_tag) (sym stay.tag) m.tag }
+    in
     let c : Option ℕ = creator P (unit_of P C old).tenants (register k (instr_of P t.index)) in
     let c' : Option ℕ = creator P (unit_of P C (more ++ old)).tenants (register k (instr_of P t.index)) in
     let was = its_operand P C (unit_of P C old) t k ∙ ap (λ z. let_operand c (supply_of z)) from.given in
     let now = its_operand P C (unit_of P C (more ++ old)) t k ∙ ap (λ z. let_operand c' (supply_of z)) from.given in
     let same : c' ≡ c = sym (ap (λ (o : Operand). o.creator) now) ∙ (ap (λ (x : Tenant). (operand k x).creator) stay.new ∙ ap (λ (o : Operand). o.creator) was) in
-    let asked = asked_now P C (more ++ old) t k a g from.q legal may from.given (same ∙ from.creates) (any_stays P C from.q a g more old legal.0 (sym (ap renewals is) ∙ l.before.one_table) from.named) in
+    let asked = asked_now P C (more ++ old) t k a g from.q legal may from.given (same ∙ from.creates) (any_stays P C from.q a g more old legal.0 (sym (ap renewals is) ∙ l.before.one_table) from.named)
+    in
     let here : MayAsk P C (entry front e ∷ l.point) (next_station C (recent (unit_of P C old))) (next_tag C (recent (unit_of P C old))) k a g =
     subst (λ (z : List Entry × (ℕ × ℕ)). MayAsk P C (entry front e ∷ z.0) z.1.0 z.1.1 k a g) (λ i. (sym is i, (ap (λ (x : Tenant). x.station) stay.new i, stay.tag i))) asked in
     (fronts_stay P C (entry front e ∷ l.point) new (behind_last P C old new e [] l)).asks (next_station C (recent (unit_of P C old))) (next_tag C (recent (unit_of P C old))) k a g here
@@ -281,7 +284,8 @@ misses_stay_squashing P C old new s g station tag x q ne m =
     apart : (l : LastEvent P C front old new (Does (On q.p Squash)) []) → q.p ≢ m.p
     apart l same =
         let is = q.adds.begins.is in
-        let named = any_stays P C m.p station tag q.adds.begins.more old (subst (IsLegal P C) is q.adds.legal) (sym (ap renewals is) ∙ q.adds.one_table) (record { tenant = m.named.tenant; is = m.named.is; new = m.named.new; station_is = m.named.station_is; tag_is = m.named.tag_is; fact = tt }) in
+        let named = any_stays P C m.p station tag q.adds.begins.more old (subst (IsLegal P C) is q.adds.legal) (sym (ap renewals is) ∙ q.adds.one_table)
+        (record { tenant = m.named.tenant; is = m.named.is; new = m.named.new; station_is = m.named.station_is; tag_is = m.named.tag_is; fact = tt }) in
         let now = subst (λ z. IsTenant (unit_of P C z) m.p station tag IsAny) (sym is) named in
         let one : q.named.tenant ≡ now.tenant = found q.named.tenant now.tenant (sym q.named.is ∙ (ap (at (unit_of P C new).tenants) same ∙ now.is)) in
         ⊎_elim

@@ -62,8 +62,10 @@ second_same Stores (Some v) None b' g e = refl
 pub fields_stay : (P : Program) (by : ℕ) (s : Step) (t t' : Tenant) → Goes by s t t' → IsReady P t → job_of P t' ≡ job_of P t
 fields_stay P by s t t' m ready =
     let kind_same : kind_of P t' ≡ kind_of P t = ap (λ i. kind (instr_of P i).op) m.index in
-    let first : needed P First t' ≡ needed P First t = ap (λ k. cond (needs k First) (operand_value t'.first) 0) kind_same ∙ first_same (kind_of P t) t.first.value t.second.value t'.first.value (m.value First) ready in
-    let second : needed P Second t' ≡ needed P Second t = ap (λ k. cond (needs k Second) (operand_value t'.second) 0) kind_same ∙ second_same (kind_of P t) t.first.value t.second.value t'.second.value (m.value Second) ready in
+    let first : needed P First t' ≡ needed P First t = ap (λ k. cond (needs k First) (operand_value t'.first) 0) kind_same ∙
+    first_same (kind_of P t) t.first.value t.second.value t'.first.value (m.value First) ready in
+    let second : needed P Second t' ≡ needed P Second t = ap (λ k. cond (needs k Second) (operand_value t'.second) 0) kind_same ∙
+    second_same (kind_of P t) t.first.value t.second.value t'.second.value (m.value Second) ready in
     λ i. record { station = m.station i; tag = m.tag i; index = m.index i; half = m.half i; pc = m.pc i; predicted = m.predicted i; first = first i; second = second i }
 
 -- no act but a finish ends it

@@ -64,7 +64,8 @@ module _ (P : Program) (C : Sizes) (by : ℕ) (t : Tenant) (old : List Entry) wh
       let stay = still_let P C t.index t.predicted (supply_of t.sources.0) (supply_of t.sources.1) g.between v.seen legal apart r.may.may in
       let tag_same : next_tag C (recent (U (g.between ++ v.seen))) ≡ next_tag C (recent (U v.seen)) = stay.tag in
       let station_same : next_station C (recent (U (g.between ++ v.seen))) ≡ next_station C (recent (U v.seen)) = ap (λ x. x.station) stay.new in
-      let there : MayLetOut P C (U (g.between ++ v.seen)) t = record { may = stay.may; half = r.may.half ∙ sym (ap (λ x. x.half) stay.new); tag = subst (λ n. n < last_tag) (sym tag_same) r.may.tag } in
+      let there : MayLetOut P C (U (g.between ++ v.seen)) t = record { may = stay.may; half = r.may.half ∙ sym (ap (λ x. x.half) stay.new); tag = subst (λ n. n < last_tag) (sym tag_same) r.may.tag }
+      in
       record {
         by_is = r.by_is;
         draft_is = is;

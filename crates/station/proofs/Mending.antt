@@ -125,7 +125,8 @@ module _ (P : Program) (C : Sizes) where
       let m1 : IsMissAt p s g x v1.seen = subst (IsMissAt p s g x) (sym seen1) (miss_at p s g x g1.between v0.seen legal1 none1 (sees.miss.named, sees.miss.can)) in
       let m2 : IsMissAt p s g x last = miss_at p s g x g2.between v1.seen legal2.0 none2 m1 in
       let one : m.miss.p ≡ p = one_miss (unit_of P C last) m.miss.p p m.next x m.miss.can m2.1 in
-      let adds = adds_on P C by v0.seen v1.seen w.seen [] (Does (On m.miss.p Mend) ∷ []) (adds_these P C by v0 v1 Kind [] g1 none) (adds_these P C by v1 w (Mends P C s) (Does (On m.miss.p Mend) ∷ []) g2 m.added) in
+      let adds = adds_on P C by v0.seen v1.seen w.seen [] (Does (On m.miss.p Mend) ∷ []) (adds_these P C by v0 v1 Kind [] g1 none)
+      (adds_these P C by v1 w (Mends P C s) (Does (On m.miss.p Mend) ∷ []) g2 m.added) in
       record {
         p = p;
         tag = g;

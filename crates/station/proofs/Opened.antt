@@ -142,7 +142,14 @@ module _ (P : Program) (C : Sizes) where
       let seen : w.seen ≡ h = x.is ∙ ap (λ es. map (entry by) es ++ h) f.added in
       let same : Some (value_of n) ≡ Some value = ap Some (sym says.2) in
       let fact : SourceIs true k value f.tenant.tenant = f.tenant.fact ∙ same in
-      let named : IsTenant (U h) f.p s g (SourceIs needed k value) = record { tenant = f.tenant.tenant; is = f.tenant.is; new = f.tenant.new; station_is = f.tenant.station_is; tag_is = f.tenant.tag_is; fact = subst (λ b. SourceIs b k value f.tenant.tenant) (sym is) fact } in
+      let named : IsTenant (U h) f.p s g (SourceIs needed k value) = record {
+        tenant = f.tenant.tenant;
+        is = f.tenant.is;
+        new = f.tenant.new;
+        station_is = f.tenant.station_is;
+        tag_is = f.tenant.tag_is;
+        fact = subst (λ b. SourceIs b k value f.tenant.tenant) (sym is) fact;
+      } in
       record { p = f.p; named = subst (λ z. IsTenant (U z) f.p s g (SourceIs needed k value)) (sym seen) named; adds = adds_these P C by v w (ReadsSource P C s g k n) [] x f.added })
       (λ other. ⊎_elim (λ waits. absurd (waits.1 says.1)) (λ moved. absurd (moved.0 says.0)) other)
       x.kind
@@ -232,8 +239,10 @@ module _ (P : Program) (C : Sizes) where
         let more : List Entry = told.adds.begins.more in
         let legal : IsLegal P C (more ++ seen) = subst (IsLegal P C) told.adds.begins.is told.adds.legal in
         let any : IsTenant (U seen) x.p s g IsAny = record { tenant = x.named.tenant; is = x.named.is; new = x.named.new; station_is = x.named.station_is; tag_is = x.named.tag_is; fact = tt } in
-        let still : IsTenant (U new) x.p s g IsAny = subst (λ z. IsTenant (U z) x.p s g IsAny) (sym told.adds.begins.is) (any_stays P C x.p s g more seen legal (sym (ap renewals told.adds.begins.is) ∙ told.adds.one_table) any) in
-        let here : x.p ≡ told.p = one_tag P C new told.adds.legal x.p told.p still.tenant told.named.tenant still.is told.named.is still.new told.named.new (still.station_is ∙ sym told.named.station_is) (still.tag_is ∙ sym told.named.tag_is) in
+        let still : IsTenant (U new) x.p s g IsAny = subst (λ z. IsTenant (U z) x.p s g IsAny) (sym told.adds.begins.is)
+        (any_stays P C x.p s g more seen legal (sym (ap renewals told.adds.begins.is) ∙ told.adds.one_table) any) in
+        let here : x.p ≡ told.p = one_tag P C new told.adds.legal x.p told.p still.tenant told.named.tenant still.is told.named.is still.new told.named.new
+        (still.station_is ∙ sym told.named.station_is) (still.tag_is ∙ sym told.named.tag_is) in
         let longer = starts_longer seen x.opened.point more x.opened.within.before_return in
         record {
           p = told.p;
@@ -404,15 +413,26 @@ module _ (P : Program) (C : Sizes) where
           let e = On f.p ClaimIt in
           let seen : w.seen ≡ entry by (Does e) ∷ h = y.is ∙ ap (λ es. map (entry by) es ++ h) f.added in
           let legal : IsLegal P C (entry by (Does e) ∷ h) = subst (IsLegal P C) seen y.legal in
-          let same : IsTenant (U h) r.p s g (HasBoth d i x a both b) = tenant_stays P C r.p s g (HasBoth d i x a both b) (both_stable d i x a both b) y.between v.seen legal.0 (same_before P C by v w (Claims P C s g word n) y) r.named in
-          let here : r.p ≡ f.p = one_tag P C h legal.0 r.p f.p same.tenant f.tenant.tenant same.is f.tenant.is same.new f.tenant.new (same.station_is ∙ sym f.tenant.station_is) (same.tag_is ∙ sym f.tenant.tag_is) in
+          let same : IsTenant (U h) r.p s g (HasBoth d i x a both b) = tenant_stays P C r.p s g (HasBoth d i x a both b) (both_stable d i x a both b) y.between v.seen legal.0
+          (same_before P C by v w (Claims P C s g word n) y) r.named in
+          let here : r.p ≡ f.p = one_tag P C h legal.0 r.p f.p same.tenant f.tenant.tenant same.is f.tenant.is same.new f.tenant.new (same.station_is ∙ sym f.tenant.station_is)
+          (same.tag_is ∙ sym f.tenant.tag_is) in
           let t : Tenant = f.tenant.tenant in
           let one : same.tenant ≡ t = one_at P C h legal.0 f.p same.tenant t (ap (at (U h).tenants) (sym here) ∙ same.is) f.tenant.is in
           let fact : HasBoth d i x a both b t = subst (HasBoth d i x a both b) one same.fact in
           let now : Tenant = record t { fate = Busy by } in
-          let at_p : at (applied P C (U h) by e).tenants f.p ≡ Some now = ap (λ o. at (change_at P (U h).tenants by f.p ClaimIt o) f.p) f.tenant.is ∙ at_replaced_here (U h).tenants f.p t now f.tenant.is in
+          let at_p : at (applied P C (U h) by e).tenants f.p ≡ Some now = ap (λ o. at (change_at P (U h).tenants by f.p ClaimIt o) f.p) f.tenant.is ∙
+          at_replaced_here (U h).tenants f.p t now f.tenant.is in
           let pc : t.pc ≡ j.pc = (its_own h legal.0 f.p t f.tenant.is).place ∙ (ap address fact.its.its.index_is ∙ sym jpc) in
-          let has : Has (applied P C (U h) by e) f.p (IsJob P by (fields_of j)) = record { tenant = now; is = at_p; fact = record { held = record { fate = refl; stays = inl f.tenant.fact.live }; ready = is_ready t fact; fields_are = job_fields t j fact pc f.tenant.station_is f.tenant.tag_is js jg ji jd jx ja jb } } in
+          let has : Has (applied P C (U h) by e) f.p (IsJob P by (fields_of j)) = record {
+            tenant = now;
+            is = at_p;
+            fact = record {
+              held = record { fate = refl; stays = inl f.tenant.fact.live };
+              ready = is_ready t fact;
+              fields_are = job_fields t j fact pc f.tenant.station_is f.tenant.tag_is js jg ji jd jx ja jb;
+            };
+          } in
           record {
             station = js;
             holds = record {

@@ -162,10 +162,12 @@ module _ (P : Program) (C : Sizes) where
         let m : List Entry = was.point in
         let legal_m : IsLegal P C m = legal_before P C was.within.before_return.more m (subst (IsLegal P C) (was.within.before_return.is) legal_new) in
         let same_m = sym (ap renewals was.within.behind_call.is) ∙ none_to new m old was.within.before_return was.within.behind_call one_table in
-        let p_at = any_stays P C p s g was.within.behind_call.more old (subst (IsLegal P C) was.within.behind_call.is legal_m) same_m (record { tenant = t.tenant; is = t.is; new = t.new; station_is = t.station_is; tag_is = t.tag_is; fact = tt }) in
+        let p_at = any_stays P C p s g was.within.behind_call.more old (subst (IsLegal P C) was.within.behind_call.is legal_m) same_m
+        (record { tenant = t.tenant; is = t.is; new = t.new; station_is = t.station_is; tag_is = t.tag_is; fact = tt }) in
         let p_m = subst (λ h. IsTenant (unit_of P C h) p s g IsAny) (sym was.within.behind_call.is) p_at in
         let q_m : was.fact.tenant.station ≡ s = station_of m was.within.before_return q was.fact.tenant was.fact.is named in
-        let q_p : here.tenant.station ≡ s = station_of l.point (record { more = l.after ++ entry by e ∷ []; is = l.is ∙ sym (append_assoc l.after (entry by e ∷ []) l.point) }) q here.tenant here.is named in
+        let q_p : here.tenant.station ≡ s = station_of l.point (record { more = l.after ++ entry by e ∷ []; is = l.is ∙ sym (append_assoc l.after (entry by e ∷ []) l.point) }) q here.tenant here.is
+        named in
         let open_p = x.is_open in
         let same : open_p.tenant ≡ x.named.tenant = one_at P C l.point x.legal p open_p.tenant x.named.tenant open_p.is x.named.is in
         neither p q
@@ -312,11 +314,13 @@ lets_are_out P C old new t m adds =
     let U : UpdateUnit = unit_of P C l.point in
     let n : Tenant = new_tenant P C U t.index t.predicted (supply_of t.sources.0) (supply_of t.sources.1) in
     let r : ℕ = length U.tenants in
-    let same : n ≡ new_tenant P C (unit_of P C old) t.index t.predicted (supply_of t.sources.0) (supply_of t.sources.1) = ap (λ h. new_tenant P C (unit_of P C h) t.index t.predicted (supply_of t.sources.0) (supply_of t.sources.1)) is ∙ stay.new in
+    let same : n ≡ new_tenant P C (unit_of P C old) t.index t.predicted (supply_of t.sources.0) (supply_of t.sources.1) = ap
+    (λ h. new_tenant P C (unit_of P C h) t.index t.predicted (supply_of t.sources.0) (supply_of t.sources.1)) is ∙ stay.new in
     let its : IsLetAs t (front_pc (unit_of P C old).tenants) n = subst (IsLetAs t (front_pc (unit_of P C old).tenants)) (sym same) (let_as P C (unit_of P C old) t m.half) in
     let now : IsTenant (unit_of P C (entry front e ∷ l.point)) r (next_station C (recent (unit_of P C old))) (next_tag C (recent (unit_of P C old))) (IsLetAs t (front_pc (unit_of P C old).tenants)) =
     record { tenant = n; is = at_new n U.tenants; new = new_there U n; station_is = ap (λ (z : Tenant). z.station) same; tag_is = ap (λ (z : Tenant). z.tag) same; fact = its } in
-    let later = tenant_stays P C r (next_station C (recent (unit_of P C old))) (next_tag C (recent (unit_of P C old))) (IsLetAs t (front_pc (unit_of P C old).tenants)) keeps l.after (entry front e ∷ l.point) l.legal (sym (ap renewals l.is) ∙ l.since) now in
+    let later = tenant_stays P C r (next_station C (recent (unit_of P C old))) (next_tag C (recent (unit_of P C old))) (IsLetAs t (front_pc (unit_of P C old).tenants)) keeps l.after
+    (entry front e ∷ l.point) l.legal (sym (ap renewals l.is) ∙ l.since) now in
     let there : IsTenant (unit_of P C new) r (next_station C (recent (unit_of P C old))) (next_tag C (recent (unit_of P C old))) (IsLetAs t (front_pc (unit_of P C old).tenants)) =
     subst (λ z. IsTenant (unit_of P C z) r (next_station C (recent (unit_of P C old))) (next_tag C (recent (unit_of P C old))) (IsLetAs t (front_pc (unit_of P C old).tenants))) (sym l.is) later in
     record { p = r; tenant = there; opens = λ quiet. open_at l there quiet (record { tenant = n; is = at_new n U.tenants; fact = record { live = refl; fate = refl } }) }

@@ -52,7 +52,9 @@ module _ (P : Program) (C : Sizes) (h : List Entry) (legal : IsLegal P C h) wher
   pub sees_operand : (s : ℕ) (k : Source) (n : ℕ) (seen : Seen SourceState) → seen.tag ≡ tag_of n → seen.state ≡ source_state_of (state_of n) → seen.value ≡ value_of n →
       SeesWord P C h (Operand s k) n → SeesOperand P C h s k seen
   sees_operand s k n seen tag state value w =
-      let all : ShowsOperand (operand_word (recent (operand_unit P C (unit_of P C h) w.draft k)) s k) seen.tag seen.state seen.value = subst (λ (z : ℕ × (SourceState × ℕ)). ShowsOperand (operand_word (recent (operand_unit P C (unit_of P C h) w.draft k)) s k) z.0 z.1.0 z.1.1) (λ i. (sym tag i, (sym state i, sym value i))) (shows_operand (operand_word (recent (operand_unit P C (unit_of P C h) w.draft k)) s k) n w.content) in
+      let all : ShowsOperand (operand_word (recent (operand_unit P C (unit_of P C h) w.draft k)) s k) seen.tag seen.state seen.value = subst
+      (λ (z : ℕ × (SourceState × ℕ)). ShowsOperand (operand_word (recent (operand_unit P C (unit_of P C h) w.draft k)) s k) z.0 z.1.0 z.1.1) (λ i. (sym tag i, (sym state i, sym value i)))
+      (shows_operand (operand_word (recent (operand_unit P C (unit_of P C h) w.draft k)) s k) n w.content) in
       record {
         draft = w.draft;
         proper = w.proper;

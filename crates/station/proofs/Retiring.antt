@@ -342,7 +342,8 @@ module _ (P : Program) (C : Sizes) where
       let h : List Entry = between ++ v.seen in
       let is_back : id ≡ back = subst (λ r. IsCaller r id) role caller in
       let now = access_on a between v.seen legal same (subst (λ z. own z between ≡ []) is_back apart) access in
-      let head = map_head (U v.seen) access.p (IsAccess a) (HasAddr a.station a.tag a.index a.address) (λ t x. record { station_is = x.station_is; tag_is = x.tag_is; index_is = x.index_is; fate = x.fate }) access.head in
+      let head = map_head (U v.seen) access.p (IsAccess a) (HasAddr a.station a.tag a.index a.address)
+      (λ t x. record { station_is = x.station_is; tag_is = x.tag_is; index_is = x.index_is; fate = x.fate }) access.head in
       plan_as P C id h d (Operand a.station Second) n (ReadsData P C access.p n) (FindsData P C a n) (λ e es k. record { access = now; data_is = k })
       (data_plan P C id v access.p a.station a.tag a.index a.address role head between d legal same apart caller mine draft n small content)
 
@@ -358,8 +359,23 @@ module _ (P : Program) (C : Sizes) where
       let m : ℕ = kept_value l.last in
       let value : value_of new ≡ m = word.value in
       let fits : m < 4294967296 = omega arith in
-      let named : IsTenant (U v.seen) may.p l.station l.tag IsAny = record { tenant = i.tenant; is = i.is; new = live_is_recent P C v.seen (legal_before P C between v.seen legal) may.p i.tenant i.is i.live; station_is = i.fact.station_is; tag_is = i.fact.tag_is; fact = tt } in
-      let can : CanLeave P (U v.seen) may.p f = record { tenant = i.tenant; is = i.is; live = i.live; oldest = i.oldest; no_stop = λ q u lt e. i.goes_on q u e; fate = fate_last P l.last i.tenant i.fact.last_is.ends; can = can_last P l.last i.tenant i.fact.last_is.ends } in
+      let named : IsTenant (U v.seen) may.p l.station l.tag IsAny = record {
+        tenant = i.tenant;
+        is = i.is;
+        new = live_is_recent P C v.seen (legal_before P C between v.seen legal) may.p i.tenant i.is i.live;
+        station_is = i.fact.station_is;
+        tag_is = i.fact.tag_is;
+        fact = tt;
+      } in
+      let can : CanLeave P (U v.seen) may.p f = record {
+        tenant = i.tenant;
+        is = i.is;
+        live = i.live;
+        oldest = i.oldest;
+        no_stop = λ q u lt e. i.goes_on q u e;
+        fate = fate_last P l.last i.tenant i.fact.last_is.ends;
+        can = can_last P l.last i.tenant i.fact.last_is.ends;
+      } in
       plan_as P C id h d (Station l.station) new (Writes P C (Does (On may.p (Retire m))) may.p l.station n) (Leaves P C l) (λ e es k. record { may = now; added = k.added })
       (retire_plan P C id v l.station l.tag may.p m new f role fits named can (free_last l.tag l.last new word) between d legal same apart caller mine draft n small content)
 
@@ -417,7 +433,14 @@ module _ (P : Program) (C : Sizes) where
     pub retired_out : IsRetired P C by v.seen w.seen l.station l.tag l.index l.half l.last
     retired_out =
         let x = g.kind.may.head.fact in
-        let named : IsTenant V p l.station l.tag (IsLast P l.index l.half l.last) = record { tenant = gone; is = at_p; new = recent_p; station_is = x.station_is; tag_is = x.tag_is; fact = record { index_is = x.last_is.index_is; half_is = x.last_is.half_is; ends = still_ends l.last x.last_is.ends } } in
+        let named : IsTenant V p l.station l.tag (IsLast P l.index l.half l.last) = record {
+          tenant = gone;
+          is = at_p;
+          new = recent_p;
+          station_is = x.station_is;
+          tag_is = x.tag_is;
+          fact = record { index_is = x.last_is.index_is; half_is = x.last_is.half_is; ends = still_ends l.last x.last_is.ends };
+        } in
         record {
           p = p;
           n = m;
@@ -433,15 +456,18 @@ module _ (P : Program) (C : Sizes) where
         let i = g.kind.may.head in
         let n : ℕ = how_many is_retired (recent (U h)) in
         let among = recent_change P (U h) by p (Retire m) t i.is (live_is_recent P C h legal.0 p t i.is i.live) in
-        let more : how_many is_retired (recent V) ≡ suc n = ap (how_many is_retired) among.after ∙ (one_more t gone among.zs (younger us p) i.live refl ∙ ap (λ z. suc (how_many is_retired z)) (sym among.before)) in
-        let here : l.station ≡ n % C.ring = sym i.fact.station_is ∙ head_at P C (U h) (unit_sound P C h legal.0) (is_ring C (recent (U h)) (stands P C (taken_of h) (allowed_steps P C h legal.0))) (old_are_gone P C h legal.0) (record { p = p; tenant = t; is = i.is; live = i.live; oldest = i.oldest }) in
+        let more : how_many is_retired (recent V) ≡ suc n = ap (how_many is_retired) among.after ∙ (one_more t gone among.zs (younger us p) i.live refl ∙
+        ap (λ z. suc (how_many is_retired z)) (sym among.before)) in
+        let here : l.station ≡ n % C.ring = sym i.fact.station_is ∙ head_at P C (U h) (unit_sound P C h legal.0) (is_ring C (recent (U h)) (stands P C (taken_of h) (allowed_steps P C h legal.0)))
+        (old_are_gone P C h legal.0) (record { p = p; tenant = t; is = i.is; live = i.live; oldest = i.oldest }) in
         let one : n + 1 ≡ suc n = omega arith in
         ap (λ z. z % C.ring) (more ∙ sym one) ∙ (sym (mod-add-mod n C.ring 1) ∙ ap (λ z. (z + 1) % C.ring) (sym here))
 
     no_stop : (f : Fate) → t.fate ≡ f → ((c : Stop) → f ≢ Stopped c) → GoesOn V
     no_stop f e apart =
         let ok : IsNoRetiredStop gone = λ r c s. apart c (sym e ∙ s) in
-        let all = all_grows IsNoRetiredStop t gone (older us p) (younger us p) (λ _. ok) (subst (AllByRecursion IsNoRetiredStop) (split_at us p t g.kind.may.head.is) (all_from IsNoRetiredStop us g.kind.may.head.goes_on)) in
+        let all = all_grows IsNoRetiredStop t gone (older us p) (younger us p) (λ _. ok) (subst (AllByRecursion IsNoRetiredStop) (split_at us p t g.kind.may.head.is)
+        (all_from IsNoRetiredStop us g.kind.may.head.goes_on)) in
         all_at IsNoRetiredStop V.tenants (subst (AllByRecursion IsNoRetiredStop) (sym all_now) all)
 
     ended : (x : Last) → EndsAs P x t → HasEnded (is_stop x) V
@@ -543,7 +569,13 @@ module _ (P : Program) (C : Sizes) where
     end_access index half e f state =
         let a : Access = record { station = s; tag = word.tag; index = index; half = half; address = word.value } in
         let i = now.head in
-        let fact : IsAccess a i.tenant = record { station_is = i.fact.station_is; tag_is = i.fact.tag_is; index_is = its_index ∙ sym e; half_is = its_half ∙ sym f; fate = subst (λ z. IsEnd z word.value i.tenant.fate) state i.fact.end } in
+        let fact : IsAccess a i.tenant = record {
+          station_is = i.fact.station_is;
+          tag_is = i.fact.tag_is;
+          index_is = its_index ∙ sym e;
+          half_is = its_half ∙ sym f;
+          fate = subst (λ z. IsEnd z word.value i.tenant.fate) state i.fact.end;
+        } in
         let head : IsHead (U mid) now.p (IsAccess a) = record { tenant = i.tenant; is = i.is; live = i.live; oldest = i.oldest; goes_on = i.goes_on; fact = fact } in
         subst (λ z. HasAccess P C z a) (sym seen_mid) (record { p = now.p; head = head })
 
@@ -552,7 +584,11 @@ module _ (P : Program) (C : Sizes) where
     end_leaves index half e f state x last =
         let l : Leaving = record { station = s; tag = word.tag; index = index; half = half; last = x } in
         let i = now.head in
-        let fact : IsLeaving P l i.tenant = record { station_is = i.fact.station_is; tag_is = i.fact.tag_is; last_is = record { index_is = its_index ∙ sym e; half_is = its_half ∙ sym f; ends = ends_as P word.state word.value i.tenant state i.fact.end x last } } in
+        let fact : IsLeaving P l i.tenant = record {
+          station_is = i.fact.station_is;
+          tag_is = i.fact.tag_is;
+          last_is = record { index_is = its_index ∙ sym e; half_is = its_half ∙ sym f; ends = ends_as P word.state word.value i.tenant state i.fact.end x last };
+        } in
         let head : IsHead (U mid) now.p (IsLeaving P l) = record { tenant = i.tenant; is = i.is; live = i.live; oldest = i.oldest; goes_on = i.goes_on; fact = fact } in
         subst (λ z. MayLeave P C z l) (sym seen_mid) (record { p = now.p; head = head })
 
@@ -573,7 +609,11 @@ module _ (P : Program) (C : Sizes) where
         let d = here.2 in
         let one : d.tenant ≡ i.tenant = one_at P C h legal g.kind.access.p d.tenant i.tenant d.is i.is in
         let second : i.tenant.second.value ≡ Some x = ap (λ (z : Tenant). z.second.value) (sym one) ∙ (d.fact ∙ ap Some (sym e)) in
-        let fact : IsLeaving P l i.tenant = record { station_is = i.fact.station_is; tag_is = i.fact.tag_is; last_is = record { index_is = i.fact.index_is; half_is = i.fact.half_is; ends = (ap (λ k. kind (instr_of P k).op) i.fact.index_is ∙ stores, i.fact.fate, second) } } in
+        let fact : IsLeaving P l i.tenant = record {
+          station_is = i.fact.station_is;
+          tag_is = i.fact.tag_is;
+          last_is = record { index_is = i.fact.index_is; half_is = i.fact.half_is; ends = (ap (λ k. kind (instr_of P k).op) i.fact.index_is ∙ stores, i.fact.fate, second) };
+        } in
         let head : IsHead (U h) g.kind.access.p (IsLeaving P l) = record { tenant = i.tenant; is = i.is; live = i.live; oldest = i.oldest; goes_on = i.goes_on; fact = fact } in
         (subst (λ z. MayLeave P C z l) (sym seen) (record { p = g.kind.access.p; head = head }), adds_these P C by v w (FindsData P C a n) [] g here.1))
         (λ o. absurd (o.0 there))

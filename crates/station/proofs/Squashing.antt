@@ -201,7 +201,8 @@ module _ (P : Program) (C : Sizes) where
         let c2 : CanSquash (U last) m.p = can_stay m.p g2.between v1.seen legal2.0 g2.not_own c1 in
         let one : p ≡ m.p = one_youngest (U last) p m.p g2.kind.youngest.can c2 in
         let named = any_stays P C p s g (entry by (Does (On p Squash)) ∷ []) last legal2 refl g2.kind.youngest.named in
-        let adds = adds_on P C by v0.seen v1.seen w.seen [] (Does (On p Squash) ∷ []) (adds_these P C by v0 v1 Kind [] g1 none) (adds_these P C by v1 w (Squashes P C s g) (Does (On p Squash) ∷ []) g2 g2.kind.added) in
+        let adds = adds_on P C by v0.seen v1.seen w.seen [] (Does (On p Squash) ∷ []) (adds_these P C by v0 v1 Kind [] g1 none)
+        (adds_these P C by v1 w (Squashes P C s g) (Does (On p Squash) ∷ []) g2 g2.kind.added) in
         record {
           p = m.p;
           named = subst (λ (z : List Entry × ℕ). IsTenant (U z.0) z.1 s g IsAny) (λ i. (sym seen2 i, one i)) named;

@@ -73,7 +73,8 @@ module _ (P : Program) (C : Sizes) where
         fact = record { way = g.goes.way (no_link st besides) k ∙ i.fact.way; creator = g.goes.creator k ∙ i.fact.creator };
       })
       more seen legal none (weaker (unit_of P C seen) r s g (IsAsking k q) (CanAsk k q) (λ t f. f.can) may.asks) in
-      let path = front_stays P C (λ U. Has U r (λ t. on_path t ≡ true)) (λ U by st besides ok sound i. path_stays P C U by st besides ok r i) more seen legal none (record { tenant = may.asks.tenant; is = may.asks.is; fact = may.asks.fact.path }) in
+      let path = front_stays P C (λ U. Has U r (λ t. on_path t ≡ true)) (λ U by st besides ok sound i. path_stays P C U by st besides ok r i) more seen legal none
+      (record { tenant = may.asks.tenant; is = may.asks.is; fact = may.asks.fact.path }) in
       let same : path.tenant ≡ can.tenant = one_at P C (more ++ seen) legal r path.tenant can.tenant path.is can.is in
       record {
         r = r;

@@ -118,7 +118,12 @@ module _ (P : Program) (C : Sizes) where
         (among_append (Does (On p (Deliver k))) b.events a.events among);
     woken = λ s h. ⊎_elim
         (λ (f : F s).
-        let x = a.woken s f in record { p = x.p; k = x.k; among = among_right (Does (On x.p (Deliver x.k))) b.events a.events x.among; tenant = has_on by x.p (λ z. z ≡ s) b.events mid new b.adds x.tenant })
+        let x = a.woken s f in record {
+          p = x.p;
+          k = x.k;
+          among = among_right (Does (On x.p (Deliver x.k))) b.events a.events x.among;
+          tenant = has_on by x.p (λ z. z ≡ s) b.events mid new b.adds x.tenant;
+        })
         (λ (g : G s). let x = b.woken s g in record { p = x.p; k = x.k; among = among_left (Does (On x.p (Deliver x.k))) b.events a.events x.among; tenant = x.tenant })
         (either s h);
   }

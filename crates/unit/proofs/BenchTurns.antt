@@ -98,7 +98,8 @@ module _ {S : Type 0} (Predicts : S → ℕ → Instr → ℕ → S → Type 0) 
           let fetched = subst (λ i. Guesses Predicts Learns (leaver P U.tenants x.tenant.station) i f.half f.pc guess b.predictor later.predictor) (sym x.instr) told in
           let halved = subst (λ n. Guesses Predicts Learns (leaver P U.tenants x.tenant.station) (instr P x.tenant) n f.pc guess b.predictor later.predictor) (sym x.half) fetched in
           let placed = subst (λ p. Guesses Predicts Learns (leaver P U.tenants x.tenant.station) (instr P x.tenant) x.tenant.half p guess b.predictor later.predictor) (sym x.pc) halved in
-          let guessed = subst (λ n. Guesses Predicts Learns (leaver P U.tenants x.tenant.station) (instr P x.tenant) x.tenant.half x.tenant.pc n b.predictor later.predictor) (sym x.predicted) placed in
+          let guessed = subst (λ n. Guesses Predicts Learns (leaver P U.tenants x.tenant.station) (instr P x.tenant) x.tenant.half x.tenant.pc n b.predictor later.predictor) (sym x.predicted) placed
+          in
           record { unit = x.unit; reached = x.reached; stands = x.stands; does = x.does; trains = record { tenant = x.tenant; joins = x.joins; guesses = guessed } }
 
 -- Let

@@ -188,7 +188,8 @@ can_leave b h f = go (slice_get b.window 0) refl
     some w e Opens q =
         let full : 0 < length b.window = slice_get_within b.window 0 w e in
         let o = first_ready regs (kind w.instr.op) (first_of w.instr) (second_of w.instr) in
-        let is : gives (operands_in regs) b.window 0 ≡ Some o.0 = ap (λ x. given_at (operands_in regs) b.window x 0) e ∙ ap (λ g. where_open g (operands_by (kind w.instr.op) (source_in regs [] (first_of w.instr)) (source_in regs [] (second_of w.instr)))) q ∙ o.1 in
+        let is : gives (operands_in regs) b.window 0 ≡ Some o.0 = ap (λ x. given_at (operands_in regs) b.window x 0) e ∙
+        ap (λ g. where_open g (operands_by (kind w.instr.op) (source_in regs [] (first_of w.instr)) (source_in regs [] (second_of w.instr)))) q ∙ o.1 in
         let no : Some o.0 ≡ None = sym is ∙ f.ready 0 full in
         absurd (cc)
     some w e (HasAddr a) q = are_inside b h 0 w e a q

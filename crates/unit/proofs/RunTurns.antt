@@ -256,7 +256,8 @@ ran_turn b later none nm nl to rest U r s = subst (Moved b U Ran) (sym rest) (go
 
         with : ActRun P C 0 U ys t u ts (ran_steps ts) → Moved b U Ran now
         with k =
-            let leads : Leads P C 0 U (k.delivers ++ ran_steps ts) (with_tenants U k.later) = subst (λ X. Leads P C 0 (with_tenants U X) (k.delivers ++ ran_steps ts) (with_tenants U k.later)) (sym f.found.split) k.leads in
+            let leads : Leads P C 0 U (k.delivers ++ ran_steps ts) (with_tenants U k.later) = subst (λ X. Leads P C 0 (with_tenants U X) (k.delivers ++ ran_steps ts) (with_tenants U k.later))
+            (sym f.found.split) k.leads in
             record {
               unit = with_tenants U k.later;
               reached = reach_on P C 0 U (k.delivers ++ ran_steps ts) (with_tenants U k.later) r leads;
@@ -424,7 +425,8 @@ loaded_turn b later none nm nl nc to rest U r s = subst (Moved b U Loaded) (sym 
 
         with : ActRun P C 0 U ys t u ts (On (length ts) Load ∷ []) → Moved b U Loaded now
         with k =
-            let leads : Leads P C 0 U (k.delivers ++ On (length ts) Load ∷ []) (with_tenants U k.later) = subst (λ X. Leads P C 0 (with_tenants U X) (k.delivers ++ On (length ts) Load ∷ []) (with_tenants U k.later)) (sym f.found.split) k.leads in
+            let leads : Leads P C 0 U (k.delivers ++ On (length ts) Load ∷ []) (with_tenants U k.later) = subst
+            (λ X. Leads P C 0 (with_tenants U X) (k.delivers ++ On (length ts) Load ∷ []) (with_tenants U k.later)) (sym f.found.split) k.leads in
             record {
               unit = with_tenants U k.later;
               reached = reach_on P C 0 U (k.delivers ++ On (length ts) Load ∷ []) (with_tenants U k.later) r leads;

@@ -64,7 +64,8 @@ none_is give P (t ∷ ts) h = go t.standing refl (none_is give P ts)
     go Live e more =
         let w = window_live P t ts e in
         let less : (k : ℕ) → k ≤ length (window P ts) → k < length (window P ts ++ station_of P t ∷ []) = λ k q. omega (arith, length-append (window P ts) (station_of P t ∷ [])) in
-        let at : (k : ℕ) → k ≤ length (window P ts) → gives give (window P ts ++ station_of P t ∷ []) k ≡ None = λ k q. ap (λ x. gives give x k) (sym w) ∙ h k (subst (λ x. k < length x) (sym w) (less k q)) in (
+        let at : (k : ℕ) → k ≤ length (window P ts) → gives give (window P ts ++ station_of P t ∷ []) k ≡ None = λ k q. ap (λ x. gives give x k) (sym w) ∙
+        h k (subst (λ x. k < length x) (sym w) (less k q)) in (
           (λ q. sym (gives_here give (window P ts) [] (station_of P t)) ∙ at (length (window P ts)) (omega arith)),
           more (λ k q. sym (gives_left give (window P ts) (station_of P t ∷ []) k q) ∙ at k (omega arith)),
         )
@@ -184,7 +185,9 @@ all_blocked P regs mem ys (t ∷ ts) s h ns e n =
     here : IsBlocked P ts t
     here live ek a ef =
         let same : regs ≡ (ahead P ts).registers = e ∙ ap (λ c. c.registers) (ahead_middle P ys t ts live s) in
-        let none : value_by (answer_over (entries regs W (length W)) a (width (instr P t).op)) mem (instr P t).op a ≡ None = sym (ap (λ x. load_by (entries regs W (length W)) mem (instr P t).op (waits_by x (stage_of t.fate))) ek ∙ ap (λ f. load_by (entries regs W (length W)) mem (instr P t).op (waits_by Loads (stage_of f))) ef) ∙ n.0 live in
+        let none : value_by (answer_over (entries regs W (length W)) a (width (instr P t).op)) mem (instr P t).op a ≡ None = sym
+        (ap (λ x. load_by (entries regs W (length W)) mem (instr P t).op (waits_by x (stage_of t.fate))) ek ∙
+        ap (λ f. load_by (entries regs W (length W)) mem (instr P t).op (waits_by Loads (stage_of f))) ef) ∙ n.0 live in
         let b = blocked_by (answer_over (entries regs W (length W)) a (width (instr P t).op)) mem (instr P t).op a none in (
           b.0,
           sym (answer_like (queue_of P ts) (entries (ahead P ts).registers W (length W)) a (width (instr P t).op)

@@ -138,7 +138,8 @@ pending_may P C V n (suc r) s st never ns room at none = go (ltb (suc r) 34) ref
         let sound' = sound_from P (younger U p) (w.t ∷ older U p) (subst (IsSound P) split s) in
         let stop' = all_mid IsNoRetiredStop w.t (older U p) (younger U p) (subst (AllByRecursion IsNoRetiredStop) split ns) in
         let live = writer_live P (older U p) w.t r sound' stop' w.on w.writes made in
-        let apart = all_mid (IsElsewhere n) w.t (older U p) (younger U p) (subst (AllByRecursion (IsElsewhere n)) split (all_elsewhere P C n U [] U refl (at ∙ ap (next_station C) same) room (settling P U s) st.placed)) in
+        let apart = all_mid (IsElsewhere n) w.t (older U p) (younger U p) (subst (AllByRecursion (IsElsewhere n)) split
+        (all_elsewhere P C n U [] U refl (at ∙ ap (next_station C) same) room (settling P U s) st.placed)) in
         record {
           p = p;
           tenant = w.t;

@@ -126,7 +126,8 @@ all_run P C by U ys (t ∷ ts) a = go (one_run P C by U ys t ts First a.0.0) (λ
 
             last : AllRun P C by U (ys ++ two.later ∷ []) ts → AllRun P C by U ys (t ∷ ts)
             last r =
-                let rest : Leads P C by V2 r.steps (with_tenants U (ys ++ two.later ∷ r.later)) = subst (λ X. Leads P C by (with_tenants U X) r.steps (with_tenants U (ys ++ two.later ∷ r.later))) (same ts) (subst (λ X. Leads P C by (with_tenants U ((ys ++ two.later ∷ []) ++ ts)) r.steps (with_tenants U X)) (same r.later) r.leads) in
+                let rest : Leads P C by V2 r.steps (with_tenants U (ys ++ two.later ∷ r.later)) = subst (λ X. Leads P C by (with_tenants U X) r.steps (with_tenants U (ys ++ two.later ∷ r.later)))
+                (same ts) (subst (λ X. Leads P C by (with_tenants U ((ys ++ two.later ∷ []) ++ ts)) r.steps (with_tenants U X)) (same r.later) r.leads) in
                 record {
                   steps = r.steps ++ both;
                   later = two.later ∷ r.later;

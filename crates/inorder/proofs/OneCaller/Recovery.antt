@@ -100,7 +100,8 @@ squash_run P C by U zs (y ∷ ys) t ts x a live miss = go y.standing refl (λ u 
 
         ends : SquashRun P C by U (zs ++ u ∷ []) ys t ts → SquashRun P C by U zs (y ∷ ys) t ts
         ends r =
-            let both = leads_more P C by (with_tenants U (zs ++ y ∷ before)) (with_tenants U (zs ++ u ∷ before)) (with_tenants U (zs ++ u ∷ after)) r.steps (On (length before) Squash ∷ []) once (rest u r) in
+            let both = leads_more P C by (with_tenants U (zs ++ y ∷ before)) (with_tenants U (zs ++ u ∷ before)) (with_tenants U (zs ++ u ∷ after)) r.steps (On (length before) Squash ∷ []) once
+            (rest u r) in
             record {
               steps = r.steps ++ On (length before) Squash ∷ [];
               are = all_more IsSquash r.steps (On (length before) Squash ∷ []) r.are (tt, tt);

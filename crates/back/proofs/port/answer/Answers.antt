@@ -31,9 +31,11 @@ returns-in_default-clause-ok c p asked =
     let old = c.args.seat.now in
     let new = c.search.new.seat in
     let a = subst (λ x. Adds d.program d.sizes x old.seen new.seen []) c.requires.by c.search.ensures.history in
-    let found = subst (λ o. HasFound d.program (unit_in d new.seen) (length (unit_in d old.seen).tenants) c.args.head d.sizes.ring 0 c.args.at l.address (width l.op) o) c.in_default.is c.in-Ok.ensures.ok in
+    let found = subst (λ o. HasFound d.program (unit_in d new.seen) (length (unit_in d old.seen).tenants) c.args.head d.sizes.ring 0 c.args.at l.address (width l.op) o) c.in_default.is
+    c.in-Ok.ensures.ok in
     let r = none_answers d.program d.sizes old.seen new.seen a c.args.head c.args.at c.requires.head_is c.requires.head c.requires.at p l asked found in
-    let memory : (committed d.program (unit_in d new.seen).tenants).memory ≡ c.args.committed.now.memory = ap (λ (s : State). s.memory) (committed_same d.program d.sizes old.seen new.seen a ∙ sym c.requires.state) in
+    let memory : (committed d.program (unit_in d new.seen).tenants).memory ≡ c.args.committed.now.memory = ap (λ (s : State). s.memory)
+    (committed_same d.program d.sizes old.seen new.seen a ∙ sym c.requires.state) in
     let read : little_endian (slice_index (committed d.program (unit_in d new.seen).tenants).memory) l.address (width l.op) ≡ c.number_at-raw.result =
     (λ i. little_endian (slice_index (memory i)) l.address (sym c.width.ensures.value i)) ∙ sym c.number_at-raw.ensures in
     subst (λ v. CanLoad d.program (unit_in d new.seen) p l.address v ⊎ IsStale (unit_in d new.seen) p) (ap (loaded l.op) read ∙ sym c.loaded.ensures) r

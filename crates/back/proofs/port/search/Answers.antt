@@ -26,7 +26,8 @@ returns-then-is_none-clause-err c =
     let l = c.args.load.now in
     let a = subst (λ x. Adds d.program d.sizes x old.seen mid.seen []) c.requires.by k.invariant.history in
     let b = subst (λ x. Adds d.program d.sizes x mid.seen new.seen []) (k.invariant.kept.by ∙ c.requires.by) c.look-store.ensures.history in
-    let shows = subst (λ r. AtStation (unit_in d new.seen) (length (unit_in d mid.seen).tenants) ((c.args.head + (k.k - 1)) % r) (IsEntryOf d.program e)) c.ring-ring.ensures.value c.look-store.ensures.shows in
+    let shows = subst (λ r. AtStation (unit_in d new.seen) (length (unit_in d mid.seen).tenants) ((c.args.head + (k.k - 1)) % r) (IsEntryOf d.program e)) c.ring-ring.ensures.value
+    c.look-store.ensures.shows in
     let some = c.loop-k-test.true in
     let next : k.k ≡ (k.k - 1) + 1 = omega (arith, some) in
     let bound = k.invariant.bound in
@@ -45,7 +46,8 @@ loop-k-preserved-then-is_none-2 c =
     let l = c.args.load.now in
     let a = subst (λ x. Adds d.program d.sizes x old.seen mid.seen []) c.requires.by k.invariant.history in
     let b = subst (λ x. Adds d.program d.sizes x mid.seen new.seen []) (k.invariant.kept.by ∙ c.requires.by) c.look-store.ensures.history in
-    let shows = subst (λ r. AtStation (unit_in d new.seen) (length (unit_in d mid.seen).tenants) ((c.args.head + (k.k - 1)) % r) (IsEntryOf d.program e)) c.ring-ring.ensures.value c.look-store.ensures.shows in
+    let shows = subst (λ r. AtStation (unit_in d new.seen) (length (unit_in d mid.seen).tenants) ((c.args.head + (k.k - 1)) % r) (IsEntryOf d.program e)) c.ring-ring.ensures.value
+    c.look-store.ensures.shows in
     let some = c.loop-k-test.true in
     let next : k.k ≡ (k.k - 1) + 1 = omega (arith, some) in
     let bound = k.invariant.bound in
@@ -73,14 +75,17 @@ loop-k-preserved-else-is_none-2 c =
     let l = c.args.load.now in
     let a = subst (λ x. Adds d.program d.sizes x old.seen mid.seen []) c.requires.by k.invariant.history in
     let b = subst (λ x. Adds d.program d.sizes x mid.seen new.seen []) (k.invariant.kept.by ∙ c.requires.by) c.look-store.ensures.history in
-    let shows = subst (λ r. AtStation (unit_in d new.seen) (length (unit_in d mid.seen).tenants) ((c.args.head + (k.k - 1)) % r) (IsEntryOf d.program e)) c.ring-ring.ensures.value c.look-store.ensures.shows in
+    let shows = subst (λ r. AtStation (unit_in d new.seen) (length (unit_in d mid.seen).tenants) ((c.args.head + (k.k - 1)) % r) (IsEntryOf d.program e)) c.ring-ring.ensures.value
+    c.look-store.ensures.shows in
     let some = c.loop-k-test.true in
     let next : k.k ≡ (k.k - 1) + 1 = omega (arith, some) in
     let bound = k.invariant.bound in
     let says = ap (λ (x : QueueEntry). answer (e ∷ x ∷ []) 1) (sym c.entry_of-asked.ensures) ∙ sym c.ask.ensures in
     let before = is_something k.found c.is_none-in-Blocked.result c.is_none-in-Blocked.ensures c.if-is_none-2.false in
     let there = is_something e.address c.is_none.result c.is_none.ensures c.if-is_none.false in
-    let goes_on = step_known d.program d.sizes old.seen mid.seen new.seen a b c.args.head d.sizes.ring (k.k - 1) k.k c.args.at l next bound e shows before.0 (subst (λ o. HasFound d.program (unit_in d mid.seen) (length (unit_in d old.seen).tenants) c.args.head d.sizes.ring k.k c.args.at l.address (width l.op) o) before.1 k.invariant.found) there.0 there.1 in
+    let goes_on = step_known d.program d.sizes old.seen mid.seen new.seen a b c.args.head d.sizes.ring (k.k - 1) k.k c.args.at l next bound e shows before.0
+    (subst (λ o. HasFound d.program (unit_in d mid.seen) (length (unit_in d old.seen).tenants) c.args.head d.sizes.ring k.k c.args.at l.address (width l.op) o) before.1 k.invariant.found)
+    there.0 there.1 in
     record {
       kept = same_on old mid new k.invariant.kept c.look-store.ensures.kept;
       woken = c.look-store.ensures.woken ∙ k.invariant.woken;
@@ -100,7 +105,8 @@ loop-k-preserved c =
     let l = c.args.load.now in
     let a = subst (λ x. Adds d.program d.sizes x old.seen mid.seen []) c.requires.by k.invariant.history in
     let b = subst (λ x. Adds d.program d.sizes x mid.seen new.seen []) (k.invariant.kept.by ∙ c.requires.by) c.look-store.ensures.history in
-    let shows = subst (λ r. AtStation (unit_in d new.seen) (length (unit_in d mid.seen).tenants) ((c.args.head + (k.k - 1)) % r) (IsEntryOf d.program e)) c.ring-ring.ensures.value c.look-store.ensures.shows in
+    let shows = subst (λ r. AtStation (unit_in d new.seen) (length (unit_in d mid.seen).tenants) ((c.args.head + (k.k - 1)) % r) (IsEntryOf d.program e)) c.ring-ring.ensures.value
+    c.look-store.ensures.shows in
     let some = c.loop-k-test.true in
     let next : k.k ≡ (k.k - 1) + 1 = omega (arith, some) in
     let bound = k.invariant.bound in

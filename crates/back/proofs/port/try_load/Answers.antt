@@ -75,7 +75,8 @@ returns-in-Settled-clause-reply c =
     let b = subst (λ x. Adds d.program d.sizes x mid.seen late.seen []) by_mid c.answer.ensures.history in
     let w = subst (λ r. SomeWaits d.program d.sizes old.seen mid.seen ((c.args.head + c.args.at) % r) l) ring c.in-Some.ensures.some in
     let new = c.settle.new.seat in
-    let x = subst (λ (z : ℕ × ℕ). IsWritten d.program d.sizes z.0 late.seen new.seen ((c.args.head + c.args.at) % z.1) l.tag LoadIt (λ q. IsWalk d.program d.sizes new.seen q)) (λ i. (by_late i, ring i)) c.in-Settled.ensures.reply in
+    let x = subst (λ (z : ℕ × ℕ). IsWritten d.program d.sizes z.0 late.seen new.seen ((c.args.head + c.args.at) % z.1) l.tag LoadIt (λ q. IsWalk d.program d.sizes new.seen q))
+    (λ i. (by_late i, ring i)) c.in-Settled.ensures.reply in
     subst (λ z. DidLoad d.program d.sizes z old.seen new.seen place l.tag c.in-Ok.value) (sym c.requires.by)
     (did_load d.program d.sizes old.seen mid.seen late.seen a b place l w new.seen l.address c.in-Ok.value (c.in-Ok.ensures.ok w.p w.asked) x)
 
@@ -113,7 +114,8 @@ returns-then-is_still-clause-reply c =
     let w = subst (λ r. SomeWaits d.program d.sizes old.seen mid.seen ((c.args.head + c.args.at) % r) l) ring c.in-Some.ensures.some in
     let new = c.is_still.new.seat in
     let last = subst (λ x. Adds d.program d.sizes x late.seen new.seen []) by_late c.is_still.ensures.history in
-    let still = subst (λ r. (p : ℕ) → IsNamed (unit_in d late.seen) p ((c.args.head + c.args.at) % r) l.tag → IsAskedInOrder d.program (unit_in d late.seen) p ((c.args.head + c.args.at) % r) l → Has (unit_in d new.seen) p (IsLoadOf d.program ((c.args.head + c.args.at) % r) l)) ring (c.is_still.ensures.still c.if-is_still.true) in
+    let still = subst (λ r. (p : ℕ) → IsNamed (unit_in d late.seen) p ((c.args.head + c.args.at) % r) l.tag → IsAskedInOrder d.program (unit_in d late.seen) p ((c.args.head + c.args.at) % r) l →
+    Has (unit_in d new.seen) p (IsLoadOf d.program ((c.args.head + c.args.at) % r) l)) ring (c.is_still.ensures.still c.if-is_still.true) in
     let h = still w.p (named_late d.program d.sizes old.seen mid.seen late.seen a b place l w) (asked_late d.program d.sizes old.seen mid.seen late.seen a b place l w) in
     let r = holds_back d.program d.sizes old.seen mid.seen late.seen a b place l w new.seen last (station_behind c.args.head d.sizes.ring c.in-Err.k) (c.in-Err.ensures.err w.p w.asked) h in
     subst (λ (z : ℕ × ℕ). HasHeldBack d.program d.sizes z.0 old.seen new.seen place ((c.args.head + c.in-Err.k) % z.1)) (λ i. (sym c.requires.by i, sym ring i)) r
@@ -134,7 +136,8 @@ returns-else-is_still-clause-reply c =
     let w = subst (λ r. SomeWaits d.program d.sizes old.seen mid.seen ((c.args.head + c.args.at) % r) l) ring c.in-Some.ensures.some in
     let new = c.is_still.new.seat in
     let last = subst (λ x. Adds d.program d.sizes x late.seen new.seen []) by_late c.is_still.ensures.history in
-    let gone = subst (λ r. (p : ℕ) → IsAskedInOrder d.program (unit_in d late.seen) p ((c.args.head + c.args.at) % r) l → ¬ Has (unit_in d new.seen) p (IsWaitingLoad d.program)) ring (c.is_still.ensures.gone c.if-is_still.false) in
+    let gone = subst (λ r. (p : ℕ) → IsAskedInOrder d.program (unit_in d late.seen) p ((c.args.head + c.args.at) % r) l → ¬ Has (unit_in d new.seen) p (IsWaitingLoad d.program)) ring
+    (c.is_still.ensures.gone c.if-is_still.false) in
     subst (λ z. HasPassed d.program d.sizes z old.seen new.seen place) (sym c.requires.by)
     (has_gone d.program d.sizes old.seen mid.seen late.seen a b place l w new.seen last (gone w.p (asked_late d.program d.sizes old.seen mid.seen late.seen a b place l w)))
 
@@ -145,7 +148,8 @@ returns-in-Settled-clause-woken c =
     let mid = c.waiting.new.seat in
     let late = c.answer.new.seat in
     let by_late = c.answer.ensures.kept.by ∙ c.waiting.ensures.kept.by in
-    let first = still_after d.program d.sizes old.by mid.by old.seen mid.seen late.seen old.woken mid.woken late.woken c.waiting.ensures.kept.by c.waiting.ensures.history c.waiting.ensures.woken c.answer.ensures.history c.answer.ensures.woken in
+    let first = still_after d.program d.sizes old.by mid.by old.seen mid.seen late.seen old.woken mid.woken late.woken c.waiting.ensures.kept.by c.waiting.ensures.history c.waiting.ensures.woken
+    c.answer.ensures.history c.answer.ensures.woken in
     let new = c.settle.new.seat in
     woken_behind d.program d.sizes old.by old.seen late.seen new.seen old.woken late.woken new.woken first
     (subst (λ z. HasWoken d.program d.sizes z late.seen new.seen new.woken) by_late c.settle.ensures.woken)
@@ -157,7 +161,8 @@ returns-in-Stale-clause-woken c =
     let mid = c.waiting.new.seat in
     let late = c.answer.new.seat in
     let by_late = c.answer.ensures.kept.by ∙ c.waiting.ensures.kept.by in
-    let first = still_after d.program d.sizes old.by mid.by old.seen mid.seen late.seen old.woken mid.woken late.woken c.waiting.ensures.kept.by c.waiting.ensures.history c.waiting.ensures.woken c.answer.ensures.history c.answer.ensures.woken in
+    let first = still_after d.program d.sizes old.by mid.by old.seen mid.seen late.seen old.woken mid.woken late.woken c.waiting.ensures.kept.by c.waiting.ensures.history c.waiting.ensures.woken
+    c.answer.ensures.history c.answer.ensures.woken in
     let new = c.settle.new.seat in
     let station = (c.args.head + c.args.at) % c.ring-ring.result in
     nobody_on d.program d.sizes old.by old.seen late.seen new.seen old.woken late.woken new.woken first
@@ -171,7 +176,8 @@ returns-then-is_still-clause-woken c =
     let mid = c.waiting.new.seat in
     let late = c.answer.new.seat in
     let by_late = c.answer.ensures.kept.by ∙ c.waiting.ensures.kept.by in
-    let first = still_after d.program d.sizes old.by mid.by old.seen mid.seen late.seen old.woken mid.woken late.woken c.waiting.ensures.kept.by c.waiting.ensures.history c.waiting.ensures.woken c.answer.ensures.history c.answer.ensures.woken in
+    let first = still_after d.program d.sizes old.by mid.by old.seen mid.seen late.seen old.woken mid.woken late.woken c.waiting.ensures.kept.by c.waiting.ensures.history c.waiting.ensures.woken
+    c.answer.ensures.history c.answer.ensures.woken in
     let new = c.is_still.new.seat in
     nobody_on d.program d.sizes old.by old.seen late.seen new.seen old.woken late.woken new.woken first
     (subst (λ z. WakesNobody d.program d.sizes z late.seen new.seen late.woken new.woken) by_late
@@ -184,7 +190,8 @@ returns-else-is_still-clause-woken c =
     let mid = c.waiting.new.seat in
     let late = c.answer.new.seat in
     let by_late = c.answer.ensures.kept.by ∙ c.waiting.ensures.kept.by in
-    let first = still_after d.program d.sizes old.by mid.by old.seen mid.seen late.seen old.woken mid.woken late.woken c.waiting.ensures.kept.by c.waiting.ensures.history c.waiting.ensures.woken c.answer.ensures.history c.answer.ensures.woken in
+    let first = still_after d.program d.sizes old.by mid.by old.seen mid.seen late.seen old.woken mid.woken late.woken c.waiting.ensures.kept.by c.waiting.ensures.history c.waiting.ensures.woken
+    c.answer.ensures.history c.answer.ensures.woken in
     let new = c.is_still.new.seat in
     nobody_on d.program d.sizes old.by old.seen late.seen new.seen old.woken late.woken new.woken first
     (subst (λ z. WakesNobody d.program d.sizes z late.seen new.seen late.woken new.woken) by_late

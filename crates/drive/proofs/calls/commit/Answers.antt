@@ -13,7 +13,8 @@ returns-clause-reply g c =
     let answer = c.commit-answer.result in
     let first = c.args.back.now in
     let last = c.meet-2.new.self in
-    let says = commit_says first c.meet.new.self c.commit-answer.new.self last answer c.meet.ensures.kept c.meet.ensures.woken c.commit-answer.ensures.reply c.meet-2.ensures.kept c.meet-2.ensures.woken in
+    let says = commit_says first c.meet.new.self c.commit-answer.new.self last answer c.meet.ensures.kept c.meet.ensures.woken c.commit-answer.ensures.reply c.meet-2.ensures.kept
+    c.meet-2.ensures.woken in
     between (λ before behind. CommitAnswers (record first { seen = before }) (record last { seen = behind }) answer)
     c.args.all.now.seen c.meet.new.self.seen c.commit-answer.new.self.seen c.meet-2.new.self.seen c.meet-2.new.other.seen
     c.meet.ensures.told says c.meet-2.ensures.history.begins c.meet-2.ensures.other_told

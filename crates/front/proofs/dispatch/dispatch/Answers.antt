@@ -30,8 +30,11 @@ let_out-tag-requires-clause-may c =
     let x : IsIndex P f (c.saturating_sub-index.result / 4) = subst (λ z. IsIndex P f (z / 4)) (sym c.saturating_sub-index.ensures) (index_of P f next.instr) in
     let first_small : first_of f.instr < 34 = subst (λ z. z < 34) c.first.ensures c.supply-first.ensures.small in
     let second_small : second_of f.instr < 34 = subst (λ z. z < 34) c.second.ensures c.supply-second.ensures.small in
-    let first_is : c.supply-first.result ≡ supply_in records base (first_of f.instr) = supplied_at P C old c.requires.legal records base c.requires.ready c.args.creators.now.table c.requires.table f.station next.station c.args.creators.now.table refl c.first.result (first_of f.instr) c.first.ensures first_small c.supply-first.result c.supply-first.ensures.value in
-    let second_is : c.supply-second.result ≡ supply_in records base (second_of f.instr) = supplied_at P C old c.requires.legal records base c.requires.ready c.args.creators.now.table c.requires.table f.station next.station c.supply-first.new.creators.table c.supply-first.ensures.table c.second.result (second_of f.instr) c.second.ensures second_small c.supply-second.result c.supply-second.ensures.value in
+    let first_is : c.supply-first.result ≡ supply_in records base (first_of f.instr) = supplied_at P C old c.requires.legal records base c.requires.ready c.args.creators.now.table c.requires.table
+    f.station next.station c.args.creators.now.table refl c.first.result (first_of f.instr) c.first.ensures first_small c.supply-first.result c.supply-first.ensures.value in
+    let second_is : c.supply-second.result ≡ supply_in records base (second_of f.instr) = supplied_at P C old c.requires.legal records base c.requires.ready c.args.creators.now.table c.requires.table
+    f.station next.station c.supply-first.new.creators.table c.supply-first.ensures.table c.second.result (second_of f.instr) c.second.ensures second_small c.supply-second.result
+    c.supply-second.ensures.value in
     may_let_out P C old c.requires.legal records base c.requires.ready f next c.args.predicted (c.saturating_sub-index.result / 4) c.ranges.predicted.fits c.requires.fixed x first_small second_small
     c.supply-first.result c.supply-second.result first_is second_is
 
@@ -47,10 +50,20 @@ ask-requires-clause-may c =
     let x : IsIndex P f (c.saturating_sub-index.result / 4) = subst (λ z. IsIndex P f (z / 4)) (sym c.saturating_sub-index.ensures) (index_of P f next.instr) in
     let first_small : first_of f.instr < 34 = subst (λ z. z < 34) c.first.ensures c.supply-first.ensures.small in
     let second_small : second_of f.instr < 34 = subst (λ z. z < 34) c.second.ensures c.supply-second.ensures.small in
-    let first_is : c.supply-first.result ≡ supply_in records base (first_of f.instr) = supplied_at P C old c.requires.legal records base c.requires.ready c.args.creators.now.table c.requires.table f.station next.station c.args.creators.now.table refl c.first.result (first_of f.instr) c.first.ensures first_small c.supply-first.result c.supply-first.ensures.value in
-    let second_is : c.supply-second.result ≡ supply_in records base (second_of f.instr) = supplied_at P C old c.requires.legal records base c.requires.ready c.args.creators.now.table c.requires.table f.station next.station c.supply-first.new.creators.table c.supply-first.ensures.table c.second.result (second_of f.instr) c.second.ensures second_small c.supply-second.result c.supply-second.ensures.value in
+    let first_is : c.supply-first.result ≡ supply_in records base (first_of f.instr) = supplied_at P C old c.requires.legal records base c.requires.ready c.args.creators.now.table c.requires.table
+    f.station next.station c.args.creators.now.table refl c.first.result (first_of f.instr) c.first.ensures first_small c.supply-first.result c.supply-first.ensures.value in
+    let second_is : c.supply-second.result ≡ supply_in records base (second_of f.instr) = supplied_at P C old c.requires.legal records base c.requires.ready c.args.creators.now.table c.requires.table
+    f.station next.station c.supply-first.new.creators.table c.supply-first.ensures.table c.second.result (second_of f.instr) c.second.ensures second_small c.supply-second.result
+    c.supply-second.ensures.value in
     let new = c.let_out-tag.new.seat.seen in
-    let adds : Adds P C front old new (let_of (record { index = c.saturating_sub-index.result / 4; half = f.half; predicted = c.args.predicted; sources = (c.supply-first.result, c.supply-second.result) }) ∷ []) = subst (λ i. Adds P C i old new (let_of (record { index = c.saturating_sub-index.result / 4; half = f.half; predicted = c.args.predicted; sources = (c.supply-first.result, c.supply-second.result) }) ∷ [])) c.requires.by c.let_out-tag.ensures.history in
+    let adds : Adds P C front old new (let_of (record {
+      index = c.saturating_sub-index.result / 4;
+      half = f.half;
+      predicted = c.args.predicted;
+      sources = (c.supply-first.result, c.supply-second.result);
+    }) ∷ []) = subst (λ i. Adds P C i old new
+    (let_of (record { index = c.saturating_sub-index.result / 4; half = f.half; predicted = c.args.predicted; sources = (c.supply-first.result, c.supply-second.result) }) ∷ [])) c.requires.by
+    c.let_out-tag.ensures.history in
     let tag = c.let_out-tag.result in
     may_ask P C new f.station tag First c.supply-first.result _ (small_creator P C old c.requires.legal records base c.requires.ready f next c.args.predicted (c.saturating_sub-index.result / 4)
     c.ranges.predicted.fits c.requires.fixed x first_small second_small c.supply-first.result c.supply-second.result first_is second_is (first_of f.instr) first_small c.supply-first.result
@@ -69,10 +82,20 @@ ask-requires-2-clause-may c =
     let x : IsIndex P f (c.saturating_sub-index.result / 4) = subst (λ z. IsIndex P f (z / 4)) (sym c.saturating_sub-index.ensures) (index_of P f next.instr) in
     let first_small : first_of f.instr < 34 = subst (λ z. z < 34) c.first.ensures c.supply-first.ensures.small in
     let second_small : second_of f.instr < 34 = subst (λ z. z < 34) c.second.ensures c.supply-second.ensures.small in
-    let first_is : c.supply-first.result ≡ supply_in records base (first_of f.instr) = supplied_at P C old c.requires.legal records base c.requires.ready c.args.creators.now.table c.requires.table f.station next.station c.args.creators.now.table refl c.first.result (first_of f.instr) c.first.ensures first_small c.supply-first.result c.supply-first.ensures.value in
-    let second_is : c.supply-second.result ≡ supply_in records base (second_of f.instr) = supplied_at P C old c.requires.legal records base c.requires.ready c.args.creators.now.table c.requires.table f.station next.station c.supply-first.new.creators.table c.supply-first.ensures.table c.second.result (second_of f.instr) c.second.ensures second_small c.supply-second.result c.supply-second.ensures.value in
+    let first_is : c.supply-first.result ≡ supply_in records base (first_of f.instr) = supplied_at P C old c.requires.legal records base c.requires.ready c.args.creators.now.table c.requires.table
+    f.station next.station c.args.creators.now.table refl c.first.result (first_of f.instr) c.first.ensures first_small c.supply-first.result c.supply-first.ensures.value in
+    let second_is : c.supply-second.result ≡ supply_in records base (second_of f.instr) = supplied_at P C old c.requires.legal records base c.requires.ready c.args.creators.now.table c.requires.table
+    f.station next.station c.supply-first.new.creators.table c.supply-first.ensures.table c.second.result (second_of f.instr) c.second.ensures second_small c.supply-second.result
+    c.supply-second.ensures.value in
     let new = c.let_out-tag.new.seat.seen in
-    let adds : Adds P C front old new (let_of (record { index = c.saturating_sub-index.result / 4; half = f.half; predicted = c.args.predicted; sources = (c.supply-first.result, c.supply-second.result) }) ∷ []) = subst (λ i. Adds P C i old new (let_of (record { index = c.saturating_sub-index.result / 4; half = f.half; predicted = c.args.predicted; sources = (c.supply-first.result, c.supply-second.result) }) ∷ [])) c.requires.by c.let_out-tag.ensures.history in
+    let adds : Adds P C front old new (let_of (record {
+      index = c.saturating_sub-index.result / 4;
+      half = f.half;
+      predicted = c.args.predicted;
+      sources = (c.supply-first.result, c.supply-second.result);
+    }) ∷ []) = subst (λ i. Adds P C i old new
+    (let_of (record { index = c.saturating_sub-index.result / 4; half = f.half; predicted = c.args.predicted; sources = (c.supply-first.result, c.supply-second.result) }) ∷ [])) c.requires.by
+    c.let_out-tag.ensures.history in
     let tag = c.let_out-tag.result in
     may_ask P C c.ask.new.seat.seen f.station tag Second c.supply-second.result _ (small_creator P C old c.requires.legal records base c.requires.ready f next c.args.predicted
     (c.saturating_sub-index.result / 4) c.ranges.predicted.fits c.requires.fixed x first_small second_small c.supply-first.result c.supply-second.result first_is second_is (second_of f.instr)
@@ -91,10 +114,20 @@ returns-clause-reply c =
     let x : IsIndex P f (c.saturating_sub-index.result / 4) = subst (λ z. IsIndex P f (z / 4)) (sym c.saturating_sub-index.ensures) (index_of P f next.instr) in
     let first_small : first_of f.instr < 34 = subst (λ z. z < 34) c.first.ensures c.supply-first.ensures.small in
     let second_small : second_of f.instr < 34 = subst (λ z. z < 34) c.second.ensures c.supply-second.ensures.small in
-    let first_is : c.supply-first.result ≡ supply_in records base (first_of f.instr) = supplied_at P C old c.requires.legal records base c.requires.ready c.args.creators.now.table c.requires.table f.station next.station c.args.creators.now.table refl c.first.result (first_of f.instr) c.first.ensures first_small c.supply-first.result c.supply-first.ensures.value in
-    let second_is : c.supply-second.result ≡ supply_in records base (second_of f.instr) = supplied_at P C old c.requires.legal records base c.requires.ready c.args.creators.now.table c.requires.table f.station next.station c.supply-first.new.creators.table c.supply-first.ensures.table c.second.result (second_of f.instr) c.second.ensures second_small c.supply-second.result c.supply-second.ensures.value in
+    let first_is : c.supply-first.result ≡ supply_in records base (first_of f.instr) = supplied_at P C old c.requires.legal records base c.requires.ready c.args.creators.now.table c.requires.table
+    f.station next.station c.args.creators.now.table refl c.first.result (first_of f.instr) c.first.ensures first_small c.supply-first.result c.supply-first.ensures.value in
+    let second_is : c.supply-second.result ≡ supply_in records base (second_of f.instr) = supplied_at P C old c.requires.legal records base c.requires.ready c.args.creators.now.table c.requires.table
+    f.station next.station c.supply-first.new.creators.table c.supply-first.ensures.table c.second.result (second_of f.instr) c.second.ensures second_small c.supply-second.result
+    c.supply-second.ensures.value in
     let new = c.let_out-tag.new.seat.seen in
-    let adds : Adds P C front old new (let_of (record { index = c.saturating_sub-index.result / 4; half = f.half; predicted = c.args.predicted; sources = (c.supply-first.result, c.supply-second.result) }) ∷ []) = subst (λ i. Adds P C i old new (let_of (record { index = c.saturating_sub-index.result / 4; half = f.half; predicted = c.args.predicted; sources = (c.supply-first.result, c.supply-second.result) }) ∷ [])) c.requires.by c.let_out-tag.ensures.history in
+    let adds : Adds P C front old new (let_of (record {
+      index = c.saturating_sub-index.result / 4;
+      half = f.half;
+      predicted = c.args.predicted;
+      sources = (c.supply-first.result, c.supply-second.result);
+    }) ∷ []) = subst (λ i. Adds P C i old new
+    (let_of (record { index = c.saturating_sub-index.result / 4; half = f.half; predicted = c.args.predicted; sources = (c.supply-first.result, c.supply-second.result) }) ∷ [])) c.requires.by
+    c.let_out-tag.ensures.history in
     let tag = c.let_out-tag.result in
     dispatched P C old c.requires.legal records base c.requires.ready f next c.args.predicted (c.saturating_sub-index.result / 4) c.ranges.predicted.fits c.requires.fixed x first_small second_small
     c.supply-first.result c.supply-second.result first_is second_is new adds tag c.let_out-tag.ensures.reply c.ask.new.seat.seen c.ask-2.new.seat.seen c.ask.ensures.reply c.ask-2.ensures.reply
@@ -111,10 +144,20 @@ returns-clause-knows c =
     let x : IsIndex P f (c.saturating_sub-index.result / 4) = subst (λ z. IsIndex P f (z / 4)) (sym c.saturating_sub-index.ensures) (index_of P f next.instr) in
     let first_small : first_of f.instr < 34 = subst (λ z. z < 34) c.first.ensures c.supply-first.ensures.small in
     let second_small : second_of f.instr < 34 = subst (λ z. z < 34) c.second.ensures c.supply-second.ensures.small in
-    let first_is : c.supply-first.result ≡ supply_in records base (first_of f.instr) = supplied_at P C old c.requires.legal records base c.requires.ready c.args.creators.now.table c.requires.table f.station next.station c.args.creators.now.table refl c.first.result (first_of f.instr) c.first.ensures first_small c.supply-first.result c.supply-first.ensures.value in
-    let second_is : c.supply-second.result ≡ supply_in records base (second_of f.instr) = supplied_at P C old c.requires.legal records base c.requires.ready c.args.creators.now.table c.requires.table f.station next.station c.supply-first.new.creators.table c.supply-first.ensures.table c.second.result (second_of f.instr) c.second.ensures second_small c.supply-second.result c.supply-second.ensures.value in
+    let first_is : c.supply-first.result ≡ supply_in records base (first_of f.instr) = supplied_at P C old c.requires.legal records base c.requires.ready c.args.creators.now.table c.requires.table
+    f.station next.station c.args.creators.now.table refl c.first.result (first_of f.instr) c.first.ensures first_small c.supply-first.result c.supply-first.ensures.value in
+    let second_is : c.supply-second.result ≡ supply_in records base (second_of f.instr) = supplied_at P C old c.requires.legal records base c.requires.ready c.args.creators.now.table c.requires.table
+    f.station next.station c.supply-first.new.creators.table c.supply-first.ensures.table c.second.result (second_of f.instr) c.second.ensures second_small c.supply-second.result
+    c.supply-second.ensures.value in
     let new = c.let_out-tag.new.seat.seen in
-    let adds : Adds P C front old new (let_of (record { index = c.saturating_sub-index.result / 4; half = f.half; predicted = c.args.predicted; sources = (c.supply-first.result, c.supply-second.result) }) ∷ []) = subst (λ i. Adds P C i old new (let_of (record { index = c.saturating_sub-index.result / 4; half = f.half; predicted = c.args.predicted; sources = (c.supply-first.result, c.supply-second.result) }) ∷ [])) c.requires.by c.let_out-tag.ensures.history in
+    let adds : Adds P C front old new (let_of (record {
+      index = c.saturating_sub-index.result / 4;
+      half = f.half;
+      predicted = c.args.predicted;
+      sources = (c.supply-first.result, c.supply-second.result);
+    }) ∷ []) = subst (λ i. Adds P C i old new
+    (let_of (record { index = c.saturating_sub-index.result / 4; half = f.half; predicted = c.args.predicted; sources = (c.supply-first.result, c.supply-second.result) }) ∷ [])) c.requires.by
+    c.let_out-tag.ensures.history in
     let tag = c.let_out-tag.result in
     let kept : c.enter.new.self.records ≡ records ++ record_for f tag c.args.predicted ∷ [] = c.enter.ensures.records in
     subst (λ (z : List Record × Base). FrontKnows P C (unit_of P C c.ask-2.new.seat.seen) z.0 z.1) (λ i. (sym kept i, sym c.enter.ensures.base i))
@@ -133,12 +176,23 @@ returns-clause-table c =
     let x : IsIndex P f (c.saturating_sub-index.result / 4) = subst (λ z. IsIndex P f (z / 4)) (sym c.saturating_sub-index.ensures) (index_of P f next.instr) in
     let first_small : first_of f.instr < 34 = subst (λ z. z < 34) c.first.ensures c.supply-first.ensures.small in
     let second_small : second_of f.instr < 34 = subst (λ z. z < 34) c.second.ensures c.supply-second.ensures.small in
-    let first_is : c.supply-first.result ≡ supply_in records base (first_of f.instr) = supplied_at P C old c.requires.legal records base c.requires.ready c.args.creators.now.table c.requires.table f.station next.station c.args.creators.now.table refl c.first.result (first_of f.instr) c.first.ensures first_small c.supply-first.result c.supply-first.ensures.value in
-    let second_is : c.supply-second.result ≡ supply_in records base (second_of f.instr) = supplied_at P C old c.requires.legal records base c.requires.ready c.args.creators.now.table c.requires.table f.station next.station c.supply-first.new.creators.table c.supply-first.ensures.table c.second.result (second_of f.instr) c.second.ensures second_small c.supply-second.result c.supply-second.ensures.value in
+    let first_is : c.supply-first.result ≡ supply_in records base (first_of f.instr) = supplied_at P C old c.requires.legal records base c.requires.ready c.args.creators.now.table c.requires.table
+    f.station next.station c.args.creators.now.table refl c.first.result (first_of f.instr) c.first.ensures first_small c.supply-first.result c.supply-first.ensures.value in
+    let second_is : c.supply-second.result ≡ supply_in records base (second_of f.instr) = supplied_at P C old c.requires.legal records base c.requires.ready c.args.creators.now.table c.requires.table
+    f.station next.station c.supply-first.new.creators.table c.supply-first.ensures.table c.second.result (second_of f.instr) c.second.ensures second_small c.supply-second.result
+    c.supply-second.ensures.value in
     let new = c.let_out-tag.new.seat.seen in
-    let adds : Adds P C front old new (let_of (record { index = c.saturating_sub-index.result / 4; half = f.half; predicted = c.args.predicted; sources = (c.supply-first.result, c.supply-second.result) }) ∷ []) = subst (λ i. Adds P C i old new (let_of (record { index = c.saturating_sub-index.result / 4; half = f.half; predicted = c.args.predicted; sources = (c.supply-first.result, c.supply-second.result) }) ∷ [])) c.requires.by c.let_out-tag.ensures.history in
+    let adds : Adds P C front old new (let_of (record {
+      index = c.saturating_sub-index.result / 4;
+      half = f.half;
+      predicted = c.args.predicted;
+      sources = (c.supply-first.result, c.supply-second.result);
+    }) ∷ []) = subst (λ i. Adds P C i old new
+    (let_of (record { index = c.saturating_sub-index.result / 4; half = f.half; predicted = c.args.predicted; sources = (c.supply-first.result, c.supply-second.result) }) ∷ [])) c.requires.by
+    c.let_out-tag.ensures.history in
     let tag = c.let_out-tag.result in
-    let entered : IsEntered c.args.creators.now.table c.enter.new.creators.table (record_for f tag c.args.predicted) = subst (λ (z : Table). IsEntered z c.enter.new.creators.table (record_for f tag c.args.predicted)) (c.supply-second.ensures.table ∙ c.supply-first.ensures.table) c.enter.ensures.table in
+    let entered : IsEntered c.args.creators.now.table c.enter.new.creators.table (record_for f tag c.args.predicted) = subst
+    (λ (z : Table). IsEntered z c.enter.new.creators.table (record_for f tag c.args.predicted)) (c.supply-second.ensures.table ∙ c.supply-first.ensures.table) c.enter.ensures.table in
     subst (λ (b : Base). HasTable P (unit_of P C c.ask-2.new.seat.seen) (rested_at b) c.enter.new.creators.table) (sym c.enter.ensures.base)
     (table_end P C old c.requires.legal records base c.requires.ready f next c.args.predicted (c.saturating_sub-index.result / 4) c.ranges.predicted.fits c.requires.fixed x first_small second_small
     c.supply-first.result c.supply-second.result first_is second_is new adds tag c.let_out-tag.ensures.reply c.ask.new.seat.seen c.ask-2.new.seat.seen c.ask.ensures.reply c.ask-2.ensures.reply

@@ -25,9 +25,11 @@ dispatch-tag-requires-clause-ready g c =
     let h = c.fetch.new.seat.seen in
     let records = c.args.path.now.records in
     let base = c.args.path.now.base in
-    let knows : FrontKnows P C (unit_of P C h) records base = stays P C (λ U. FrontKnows P C U records base) (knows_stable P C records base) c.args.seat.now.seen h c.fetch.ensures.history c.requires.knows in
+    let knows : FrontKnows P C (unit_of P C h) records base = stays P C (λ U. FrontKnows P C U records base) (knows_stable P C records base) c.args.seat.now.seen h c.fetch.ensures.history
+    c.requires.knows in
     let least : 2 ≤ C.ring = subst (λ z. 2 ≤ z) c.ring.ensures.value c.ring.ensures.least in
-    let released : Releases C.ring c.in-Ok.next.left c.args.path.now c.release-left.result c.release-left.new.self = subst (λ z. Releases z c.in-Ok.next.left c.args.path.now c.release-left.result c.release-left.new.self) c.ring.ensures.value c.release-left.ensures.reply in
+    let released : Releases C.ring c.in-Ok.next.left c.args.path.now c.release-left.result c.release-left.new.self = subst
+    (λ z. Releases z c.in-Ok.next.left c.args.path.now c.release-left.result c.release-left.new.self) c.ring.ensures.value c.release-left.ensures.reply in
     ready_now P C h c.fetch.ensures.history.legal records base knows least c.in-Ok.next.left c.in-Ok.ensures.ok.oldest c.args.path.now refl refl c.release-left.result c.release-left.new.self released
 
 pub returns-clause-reply : goal.returns-clause-reply

@@ -23,7 +23,8 @@ returns-in-Miss-clause-history c =
     let P = c.args.core.now.program in
     let C = c.args.core.now.sizes in
     let inv = c.loop-at.invariant in
-    let mine : Adds P C front c.loop-at.seat.seen c.look-seen.new.seat.seen [] = subst (λ i. Adds P C i c.loop-at.seat.seen c.look-seen.new.seat.seen []) (inv.same.by ∙ c.requires.by) c.look-seen.ensures.history in
+    let mine : Adds P C front c.loop-at.seat.seen c.look-seen.new.seat.seen [] = subst (λ i. Adds P C i c.loop-at.seat.seen c.look-seen.new.seat.seen []) (inv.same.by ∙ c.requires.by)
+    c.look-seen.ensures.history in
     adds_on P C front c.args.seat.now.seen c.loop-at.seat.seen c.look-seen.new.seat.seen [] [] inv.adds mine
 
 pub returns-in-Miss-clause-reply : goal.returns-in-Miss-clause-reply

@@ -18,7 +18,8 @@ squash-station-requires-clause-may c =
     let records = c.loop-missed.path.records in
     let many : c.args.missed.at + 1 < length records = omega (arith, c.loop-missed-test.true, c.len.ensures.value) in
     let one = popped records (omega (arith, many)) in
-    let knows : FrontKnows P C (unit_of P C c.loop-missed.seat.seen) (one.rest ++ one.last ∷ []) c.loop-missed.path.base = subst (λ z. FrontKnows P C (unit_of P C c.loop-missed.seat.seen) z c.loop-missed.path.base) one.is inv.knows in
+    let knows : FrontKnows P C (unit_of P C c.loop-missed.seat.seen) (one.rest ++ one.last ∷ []) c.loop-missed.path.base = subst
+    (λ z. FrontKnows P C (unit_of P C c.loop-missed.seat.seen) z c.loop-missed.path.base) one.is inv.knows in
     let miss : IsMissAt P C c.loop-missed.seat.seen (one.rest ++ one.last ∷ []) c.args.missed = subst (λ z. IsMissAt P C c.loop-missed.seat.seen z c.args.missed) one.is inv.miss in
     squash_allowed P C c.loop-missed.seat.seen inv.legal one.rest one.last c.loop-missed.path.base knows c.args.missed miss (subst (λ z. c.args.missed.at + 1 < length z) one.is many)
 
@@ -37,7 +38,8 @@ loop-missed-preserved c =
     let same : c.pop.new.self ≡ one.rest = c.pop.ensures.rest ∙ sym one.rest_is in
     let knows : FrontKnows P C (unit_of P C old) (one.rest ++ one.last ∷ []) base = subst (λ z. FrontKnows P C (unit_of P C old) z base) one.is inv.knows in
     let miss : IsMissAt P C old (one.rest ++ one.last ∷ []) m = subst (λ z. IsMissAt P C old z m) one.is inv.miss in
-    let squashed : IsSquashed P C front c.squash-station.result.0 c.squash-station.result.1 old new = subst (λ i. IsSquashed P C i c.squash-station.result.0 c.squash-station.result.1 old new) (inv.same.by ∙ c.requires.by) c.squash-station.ensures.reply in
+    let squashed : IsSquashed P C front c.squash-station.result.0 c.squash-station.result.1 old new = subst (λ i. IsSquashed P C i c.squash-station.result.0 c.squash-station.result.1 old new)
+    (inv.same.by ∙ c.requires.by) c.squash-station.ensures.reply in
     let done = squash_done P C old new one.rest one.last base knows m miss (subst (λ z. m.at + 1 < length z) one.is many) c.squash-station.result.0 c.squash-station.result.1 squashed in
     let kept = c.squash-station.ensures.kept in
     let long = length-append one.rest (one.last ∷ []) in

@@ -26,7 +26,8 @@ loop-oldest-preserved g c =
     let new = c.look-seen.new.seat.seen in
     let path = c.loop-oldest.path in
     let mine : Adds P C front old new [] = subst (λ i. Adds P C i old new []) (inv.same.by ∙ c.requires.by) c.look-seen.ensures.history in
-    let out : Released c.look-seen.result.value path c.in-Some.oldest c.fold.new.self = taken_out c.look-seen.result.value path c.fold.new.self c.in-Some.oldest c.fold.result c.fold.ensures.some c.fold.ensures.none (sym c.at.ensures ∙ c.in-Some.is) in
+    let out : Released c.look-seen.result.value path c.in-Some.oldest c.fold.new.self = taken_out c.look-seen.result.value path c.fold.new.self c.in-Some.oldest c.fold.result c.fold.ensures.some
+    c.fold.ensures.none (sym c.at.ensures ∙ c.in-Some.is) in
     let kept = c.look-seen.ensures.kept in
     record {
       core = kept.core ∙ inv.core;

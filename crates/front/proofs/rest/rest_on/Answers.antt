@@ -61,7 +61,8 @@ pub fold_all-requires-clause-folding : goal.fold_all-requires-clause-folding
 fold_all-requires-clause-folding g c =
     let seen : HasSeen c.args.core.now c.args.seat.now c.match-last.seat = elim c.match-last.branch [
       | in-Some+in-Free w ↦
-          let mine : Adds c.args.core.now.program c.args.core.now.sizes front c.args.seat.now.seen w.look-seen.new.seat.seen [] = subst (λ i. Adds c.args.core.now.program c.args.core.now.sizes i c.args.seat.now.seen w.look-seen.new.seat.seen []) c.requires.by w.look-seen.ensures.history in
+          let mine : Adds c.args.core.now.program c.args.core.now.sizes front c.args.seat.now.seen w.look-seen.new.seat.seen [] = subst
+          (λ i. Adds c.args.core.now.program c.args.core.now.sizes i c.args.seat.now.seen w.look-seen.new.seat.seen []) c.requires.by w.look-seen.ensures.history in
           subst (HasSeen c.args.core.now c.args.seat.now) (sym w.seat-is) (seen_free c.args.core.now c.args.seat.now w.look-seen.new.seat w.look-seen.ensures.kept c.args.path.now c.requires.knows mine
           w.in-Some.youngest (sym c.last.ensures ∙ w.in-Some.is) w.look-seen.result w.look-seen.ensures.reply w.in-Free.is)
       | in_default w ↦
@@ -79,7 +80,8 @@ pub fold_all-requires-clause-nobody : goal.fold_all-requires-clause-nobody
 fold_all-requires-clause-nobody g c =
     let seen : HasSeen c.args.core.now c.args.seat.now c.match-last.seat = elim c.match-last.branch [
       | in-Some+in-Free w ↦
-          let mine : Adds c.args.core.now.program c.args.core.now.sizes front c.args.seat.now.seen w.look-seen.new.seat.seen [] = subst (λ i. Adds c.args.core.now.program c.args.core.now.sizes i c.args.seat.now.seen w.look-seen.new.seat.seen []) c.requires.by w.look-seen.ensures.history in
+          let mine : Adds c.args.core.now.program c.args.core.now.sizes front c.args.seat.now.seen w.look-seen.new.seat.seen [] = subst
+          (λ i. Adds c.args.core.now.program c.args.core.now.sizes i c.args.seat.now.seen w.look-seen.new.seat.seen []) c.requires.by w.look-seen.ensures.history in
           subst (HasSeen c.args.core.now c.args.seat.now) (sym w.seat-is) (seen_free c.args.core.now c.args.seat.now w.look-seen.new.seat w.look-seen.ensures.kept c.args.path.now c.requires.knows mine
           w.in-Some.youngest (sym c.last.ensures ∙ w.in-Some.is) w.look-seen.result w.look-seen.ensures.reply w.in-Free.is)
       | in_default w ↦
@@ -92,7 +94,8 @@ pub returns-clause-reply : goal.returns-clause-reply
 returns-clause-reply g c =
     let seen : HasSeen c.args.core.now c.args.seat.now c.match-last.seat = elim c.match-last.branch [
       | in-Some+in-Free w ↦
-          let mine : Adds c.args.core.now.program c.args.core.now.sizes front c.args.seat.now.seen w.look-seen.new.seat.seen [] = subst (λ i. Adds c.args.core.now.program c.args.core.now.sizes i c.args.seat.now.seen w.look-seen.new.seat.seen []) c.requires.by w.look-seen.ensures.history in
+          let mine : Adds c.args.core.now.program c.args.core.now.sizes front c.args.seat.now.seen w.look-seen.new.seat.seen [] = subst
+          (λ i. Adds c.args.core.now.program c.args.core.now.sizes i c.args.seat.now.seen w.look-seen.new.seat.seen []) c.requires.by w.look-seen.ensures.history in
           subst (HasSeen c.args.core.now c.args.seat.now) (sym w.seat-is) (seen_free c.args.core.now c.args.seat.now w.look-seen.new.seat w.look-seen.ensures.kept c.args.path.now c.requires.knows mine
           w.in-Some.youngest (sym c.last.ensures ∙ w.in-Some.is) w.look-seen.result w.look-seen.ensures.reply w.in-Free.is)
       | in_default w ↦
@@ -106,7 +109,8 @@ returns-clause-reply g c =
     let both : Adds P C front c.args.seat.now.seen new [] = adds_on P C front c.args.seat.now.seen c.match-last.seat.seen new [] [] seen.adds c.fold_all.ensures.history in
     let nobody = stays P C HasNobody (nobody_stable P C) c.match-last.seat.seen new c.fold_all.ensures.history seen.nobody in
     let knows = stays P C (λ U. FrontKnows P C U path.records path.base) (knows_stable P C path.records path.base) c.args.seat.now.seen new both c.requires.knows in
-    let tells : TellsRecords g.P.Predictor.Learns path.records c.args.predictor.now c.fold_all.new.predictor = subst (λ z. TellsRecords g.P.Predictor.Learns z c.args.predictor.now c.fold_all.new.predictor) c.keep_front.ensures.records c.fold_all.ensures.tells in
+    let tells : TellsRecords g.P.Predictor.Learns path.records c.args.predictor.now c.fold_all.new.predictor = subst
+    (λ z. TellsRecords g.P.Predictor.Learns z c.args.predictor.now c.fold_all.new.predictor) c.keep_front.ensures.records c.fold_all.ensures.tells in
     record {
       adds = both;
       nobody = nobody;
@@ -117,7 +121,8 @@ pub returns-clause-knows : goal.returns-clause-knows
 returns-clause-knows g c =
     let seen : HasSeen c.args.core.now c.args.seat.now c.match-last.seat = elim c.match-last.branch [
       | in-Some+in-Free w ↦
-          let mine : Adds c.args.core.now.program c.args.core.now.sizes front c.args.seat.now.seen w.look-seen.new.seat.seen [] = subst (λ i. Adds c.args.core.now.program c.args.core.now.sizes i c.args.seat.now.seen w.look-seen.new.seat.seen []) c.requires.by w.look-seen.ensures.history in
+          let mine : Adds c.args.core.now.program c.args.core.now.sizes front c.args.seat.now.seen w.look-seen.new.seat.seen [] = subst
+          (λ i. Adds c.args.core.now.program c.args.core.now.sizes i c.args.seat.now.seen w.look-seen.new.seat.seen []) c.requires.by w.look-seen.ensures.history in
           subst (HasSeen c.args.core.now c.args.seat.now) (sym w.seat-is) (seen_free c.args.core.now c.args.seat.now w.look-seen.new.seat w.look-seen.ensures.kept c.args.path.now c.requires.knows mine
           w.in-Some.youngest (sym c.last.ensures ∙ w.in-Some.is) w.look-seen.result w.look-seen.ensures.reply w.in-Free.is)
       | in_default w ↦
@@ -127,14 +132,16 @@ returns-clause-knows g c =
     let v = c.fold_all.new.seat in
     let here : v.core ≡ c.args.core.now = c.fold_all.ensures.kept.core ∙ (seen.same.core ∙ c.requires.core) in
     let new : Path = record { records = c.fold_all.new.path.records; base = record c.fold_all.new.path.base { rested = c.of.result } } in
-    let told : rested_at new.base ≡ length (unit_of c.args.core.now.program c.args.core.now.sizes v.seen).tenants = ap (λ (z : Caller). length (unit_of z.core.program z.core.sizes z.seen).tenants) c.of.ensures ∙ ap (λ (z : TheCore). length (unit_of z.program z.sizes v.seen).tenants) here in
+    let told : rested_at new.base ≡ length (unit_of c.args.core.now.program c.args.core.now.sizes v.seen).tenants = ap (λ (z : Caller). length (unit_of z.core.program z.core.sizes z.seen).tenants)
+    c.of.ensures ∙ ap (λ (z : TheCore). length (unit_of z.program z.sizes v.seen).tenants) here in
     knows_rested c.args.core.now v.seen c.fold_all.new.path new c.fold_all.ensures.folding c.fold_all.ensures.none refl told refl refl refl refl
 
 pub returns-clause-table : goal.returns-clause-table
 returns-clause-table g c =
     let seen : HasSeen c.args.core.now c.args.seat.now c.match-last.seat = elim c.match-last.branch [
       | in-Some+in-Free w ↦
-          let mine : Adds c.args.core.now.program c.args.core.now.sizes front c.args.seat.now.seen w.look-seen.new.seat.seen [] = subst (λ i. Adds c.args.core.now.program c.args.core.now.sizes i c.args.seat.now.seen w.look-seen.new.seat.seen []) c.requires.by w.look-seen.ensures.history in
+          let mine : Adds c.args.core.now.program c.args.core.now.sizes front c.args.seat.now.seen w.look-seen.new.seat.seen [] = subst
+          (λ i. Adds c.args.core.now.program c.args.core.now.sizes i c.args.seat.now.seen w.look-seen.new.seat.seen []) c.requires.by w.look-seen.ensures.history in
           subst (HasSeen c.args.core.now c.args.seat.now) (sym w.seat-is) (seen_free c.args.core.now c.args.seat.now w.look-seen.new.seat w.look-seen.ensures.kept c.args.path.now c.requires.knows mine
           w.in-Some.youngest (sym c.last.ensures ∙ w.in-Some.is) w.look-seen.result w.look-seen.ensures.reply w.in-Free.is)
       | in_default w ↦
@@ -144,6 +151,7 @@ returns-clause-table g c =
     let v = c.fold_all.new.seat in
     let here : v.core ≡ c.args.core.now = c.fold_all.ensures.kept.core ∙ (seen.same.core ∙ c.requires.core) in
     let new : Path = record { records = c.fold_all.new.path.records; base = record c.fold_all.new.path.base { rested = c.of.result } } in
-    let told : rested_at new.base ≡ length (unit_of c.args.core.now.program c.args.core.now.sizes v.seen).tenants = ap (λ (z : Caller). length (unit_of z.core.program z.core.sizes z.seen).tenants) c.of.ensures ∙ ap (λ (z : TheCore). length (unit_of z.program z.sizes v.seen).tenants) here in
+    let told : rested_at new.base ≡ length (unit_of c.args.core.now.program c.args.core.now.sizes v.seen).tenants = ap (λ (z : Caller). length (unit_of z.core.program z.core.sizes z.seen).tenants)
+    c.of.ensures ∙ ap (λ (z : TheCore). length (unit_of z.program z.sizes v.seen).tenants) here in
     forgotten c.args.core.now.program (unit_of c.args.core.now.program c.args.core.now.sizes v.seen) (rested_at new.base) c.forget.new.self.counted.table told c.forget.ensures.entries
     (ap (λ z. length z) c.forget.ensures.latest ∙ c.requires.table.deep)

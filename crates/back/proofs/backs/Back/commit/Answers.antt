@@ -52,7 +52,8 @@ returns-in-NotDone-clause-reply g c =
     let adds = subst (λ (d : TheCore). Adds d.program d.sizes b.seat.by b.seat.seen c.retire.new.seat.seen events) (sym core) c.in-NotDone.ensures.reply in
     let k = subst (λ e. BackIsKept g.J.Naming.program b.seat b.program b.committed b.low b.head e b.publisher) c.in_default.is c.self.invariant in
     let found = ap (instr_at b.program) (sym c.pc-pc.ensures) ∙ (sym c.fetch.ensures ∙ c.in-Some-fetch.is) in
-    let r = refused g.J.Naming.program b.program b.committed b.low b.head b.publisher b.seat c.retire.new.seat c.retire.ensures.kept.core c.retire.ensures.kept.by k c.in-Some-fetch.instr found (Refuses IsNotDoneNow) tt adds in
+    let r = refused g.J.Naming.program b.program b.committed b.low b.head b.publisher b.seat c.retire.new.seat c.retire.ensures.kept.core c.retire.ensures.kept.by k c.in-Some-fetch.instr found
+    (Refuses IsNotDoneNow) tt adds in
     subst (λ (s : TheBack × TheBack). WasRefused s.0 s.1 (Refuses IsNotDoneNow))
     (λ i. (((λ j. back_of b.seat (sym c.in_default.is j) b.publisher) ∙ c.self.view_is) i, back_of c.retire.new.seat (sym c.in_default.is i) b.publisher)) r
 
@@ -72,7 +73,8 @@ returns-in-Empty-clause-reply g c =
     let adds = subst (λ (d : TheCore). Adds d.program d.sizes b.seat.by b.seat.seen c.retire.new.seat.seen events) (sym core) c.in-Empty.ensures.reply in
     let k = subst (λ e. BackIsKept g.J.Naming.program b.seat b.program b.committed b.low b.head e b.publisher) c.in_default.is c.self.invariant in
     let found = ap (instr_at b.program) (sym c.pc-pc.ensures) ∙ (sym c.fetch.ensures ∙ c.in-Some-fetch.is) in
-    let r = refused g.J.Naming.program b.program b.committed b.low b.head b.publisher b.seat c.retire.new.seat c.retire.ensures.kept.core c.retire.ensures.kept.by k c.in-Some-fetch.instr found (Refuses IsEmptyNow) tt adds in
+    let r = refused g.J.Naming.program b.program b.committed b.low b.head b.publisher b.seat c.retire.new.seat c.retire.ensures.kept.core c.retire.ensures.kept.by k c.in-Some-fetch.instr found
+    (Refuses IsEmptyNow) tt adds in
     subst (λ (s : TheBack × TheBack). WasRefused s.0 s.1 (Refuses IsEmptyNow))
     (λ i. (((λ j. back_of b.seat (sym c.in_default.is j) b.publisher) ∙ c.self.view_is) i, back_of c.retire.new.seat (sym c.in_default.is i) b.publisher)) r
 
@@ -99,7 +101,8 @@ pub overflow_add-self : goal.overflow_add-self
 overflow_add-self g c =
     let e = c.ring-ring.ensures.value in
     let core = ap (λ (s : TheBack). s.core) c.self.view_is ∙ c.requires.core in
-    let small = head_fits c.self.inside.head _ _ c.ring-ring.result c.self.invariant.unit.head_is (e ∙ sym (ap (λ (d : TheCore). d.sizes.ring) core)) c.ring-ring.ensures.least c.ring-ring.ensures.most in
+    let small = head_fits c.self.inside.head _ _ c.ring-ring.result c.self.invariant.unit.head_is (e ∙ sym (ap (λ (d : TheCore). d.sizes.ring) core)) c.ring-ring.ensures.least c.ring-ring.ensures.most
+    in
     omega (arith, small)
 
 -- what a retirement did
@@ -122,7 +125,8 @@ invariant_of-self-2 g c =
     let found = ap (instr_at b.program) (sym c.pc-pc.ensures) ∙ (sym c.fetch.ensures ∙ c.in-Some-fetch.is) in
     let r = c.in-Retired in
     let did = subst (λ (d : TheCore). IsRetired d.program d.sizes b.seat.by b.seat.seen c.retire.new.seat.seen r.station r.tag r.index r.half r.last) (sym core) r.ensures.reply in
-    let kept = retired_kept g.J.Naming.program b.program b.committed b.low b.head b.publisher b.seat c.retire.new.seat c.retire.ensures.kept.core c.retire.ensures.kept.by k c.in-Some-fetch.instr found r.station r.tag r.index r.half r.last did in
+    let kept = retired_kept g.J.Naming.program b.program b.committed b.low b.head b.publisher b.seat c.retire.new.seat c.retire.ensures.kept.core c.retire.ensures.kept.by k c.in-Some-fetch.instr found
+    r.station r.tag r.index r.half r.last did in
     let ring = sym (c.ring-ring.ensures.value ∙ sym (ap (λ (d : TheCore). d.sizes.ring) core)) in
     kept_as g.J.Naming.program c.retire.new.seat b.program _ _ _ _ b.head b.seat.core.sizes.ring c.ring-ring.result _ _ b.publisher kept (sym c.commit_tenant-self-inside.ensures.state)
     (sym c.commit_tenant-self-inside.ensures.low) ring (sym c.stop-self-inside.ensures)
@@ -136,7 +140,8 @@ returns-clause-reply g c =
     let r = c.in-Retired in
     let did = subst (λ (d : TheCore). IsRetired d.program d.sizes b.seat.by b.seat.seen c.retire.new.seat.seen r.station r.tag r.index r.half r.last) (sym core) r.ensures.reply in
     let old : back_of b.seat None b.publisher ≡ c.args.self.now = (λ j. back_of b.seat (sym c.in_default.is j) b.publisher) ∙ c.self.view_is in
-    let new : back_of c.retire.new.seat (stop_in r.last) b.publisher ≡ back_of c.retire.new.seat c.stop-self-inside.result b.publisher = λ i. back_of c.retire.new.seat (sym c.stop-self-inside.ensures i) b.publisher in
+    let new : back_of c.retire.new.seat (stop_in r.last) b.publisher ≡ back_of c.retire.new.seat c.stop-self-inside.result b.publisher = λ i. back_of c.retire.new.seat
+    (sym c.stop-self-inside.ensures i) b.publisher in
     let committed = c.commit_tenant-self-inside.ensures in
     elim c.match-self-2.branch [
       | in-Some-default w ↦

@@ -9,7 +9,12 @@ pub invariant_of-back : goal.invariant_of-back
 invariant_of-back g c =
     let P = g.J.Naming.program in
     let seat = c.args.seat in
-    let adds : Adds seat.core.program seat.core.sizes seat.by seat.seen seat.seen [] = record { begins = record { more = []; is = refl }; legal = c.what_is_seen_is_legal.ensures; one_table = refl; mine = refl } in
+    let adds : Adds seat.core.program seat.core.sizes seat.by seat.seen seat.seen [] = record {
+      begins = record { more = []; is = refl };
+      legal = c.what_is_seen_is_legal.ensures;
+      one_table = refl;
+      mine = refl;
+    } in
     let program = ap (λ (d : TheCore). d.program) c.requires.core ∙ (sym c.requires.program ∙ c.requires.named) in
     new_kept P seat seat program c.a_number_is_of_its_part.ensures c.requires.fresh refl refl refl adds
     c.in-Ok.program c.in-Ok.committed c.in-Ok.publisher (c.in-Ok.ensures.program ∙ c.requires.named) (c.in-Ok.ensures.committed ∙ ap start c.requires.named) c.in-Ok.ensures.publisher
@@ -18,7 +23,12 @@ pub returns-in-Ok-clause-ok : goal.returns-in-Ok-clause-ok
 returns-in-Ok-clause-ok g c =
     let P = g.J.Naming.program in
     let seat = c.args.seat in
-    let adds : Adds seat.core.program seat.core.sizes seat.by seat.seen seat.seen [] = record { begins = record { more = []; is = refl }; legal = c.what_is_seen_is_legal.ensures; one_table = refl; mine = refl } in
+    let adds : Adds seat.core.program seat.core.sizes seat.by seat.seen seat.seen [] = record {
+      begins = record { more = []; is = refl };
+      legal = c.what_is_seen_is_legal.ensures;
+      one_table = refl;
+      mine = refl;
+    } in
     let program = ap (λ (d : TheCore). d.program) c.requires.core ∙ (sym c.requires.program ∙ c.requires.named) in
     is_new P seat seat program c.a_number_is_of_its_part.ensures c.requires.fresh refl refl refl adds
     c.in-Ok.program c.in-Ok.committed c.in-Ok.publisher (c.in-Ok.ensures.program ∙ c.requires.named) (c.in-Ok.ensures.committed ∙ ap start c.requires.named) c.in-Ok.ensures.publisher

@@ -14,7 +14,8 @@ deliver-found-requires-clause-link g c =
     let C = v.core.sizes in
     let m1 = c.read_link-link.new.self.view in
     let names : producer_of c.read_link-link.result ≡ c.args.from.1 = sym c.producer_in.ensures ∙ c.if-producer_in-from.true in
-    let can = can_deliver P C v.view.by c.args.from.0 c.args.from.1 c.args.to c.read_link-link.result c.args.value c.args.k v.view m1 c.read_link-link.ensures.grows c.requires.tags c.requires.made names in
+    let can = can_deliver P C v.view.by c.args.from.0 c.args.from.1 c.args.to c.read_link-link.result c.args.value c.args.k v.view m1 c.read_link-link.ensures.grows c.requires.tags c.requires.made
+    names in
     subst (λ (z : Of × (ℕ × ℕ)). CanDeliver z.0.0.program z.0.0.sizes m1.seen c.args.to c.args.k z.1.0 z.1.1)
     (λ i. (
       sym (of_one v c.read_link-link.new.self c.read_link-link.ensures.same) i,

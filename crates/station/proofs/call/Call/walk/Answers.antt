@@ -19,7 +19,8 @@ serve-second-requires-clause-made g c =
     let at1 = c.serve-first.new.self in
     let was = c.loop-to.invariant in
     let from = c.args.from in
-    let served = before (λ z. OfTenant z.0.program z.0.sizes at.view.seen from.0 from.1 (λ q. IsServing z.0.program z.0.sizes z.1 q c.loop-to.to First at.view.seen at1.view.seen)) was.same c.serve-first.ensures.served in
+    let served = before (λ z. OfTenant z.0.program z.0.sizes at.view.seen from.0 from.1 (λ q. IsServing z.0.program z.0.sizes z.1 q c.loop-to.to First at.view.seen at1.view.seen)) was.same
+    c.serve-first.ensures.served in
     after (λ z. HasValueOf z.0.program z.0.sizes at1.view.seen from.0 from.1 c.args.value) (joined was.same c.serve-first.ensures.same)
     (value_behind v.core.program v.core.sizes v.view.by from.0 from.1 c.args.value c.loop-to.to First at.view.seen at1.view.seen was.made served)
 
@@ -63,7 +64,8 @@ end_walk-requires-clause-served g c =
     let at = c.loop-to.self in
     let ring : c.core.inside.ring ≡ v.core.sizes.ring = sym c.core.invariant.ring_is ∙ (ap (λ (k : TheCore). k.sizes.ring) c.core.view_is ∙ ap (λ (z : TheCall). z.core.sizes.ring) c.self.view_is) in
     let end = c.loop-to-test.false in
-    let all = all_served v.core.program v.core.sizes v.view.by c.args.from.0 c.args.from.1 c.args.value c.loop-to.to v.view.seen at.view.seen (omega arith) c.requires.made c.loop-to.invariant.carries in
+    let all = all_served v.core.program v.core.sizes v.view.by c.args.from.0 c.args.from.1 c.args.value c.loop-to.to v.view.seen at.view.seen (omega arith) c.requires.made c.loop-to.invariant.carries
+    in
     after (λ z. IsServedAll z.0.program z.0.sizes at.view.seen c.args.from.0 c.args.from.1 c.args.value) c.loop-to.invariant.same all
 
 pub returns-clause-walked : goal.returns-clause-walked

@@ -62,7 +62,8 @@ needed_source-requires-2-clause-seen c =
     let old : List Entry = v.view.seen in
     let r0 : Ready P C by st tag old (IsClaimable d i x) old = begins P C by st tag old d i x legal c.requires.was_open in
     let both = c.needs_second-both.result in
-    let is : needs (kind (instr_of P i).op) Second ≡ both = sym (c.needs_second-both.ensures ∙ ap (λ k. needs k Second) (c.kind-kind.ensures ∙ ap kind (c.op.ensures ∙ (ap (λ (z : Instr). z.op) c.instr.ensures ∙ ap (λ (z : Program). (instr_of z i).op) program)))) in
+    let is : needs (kind (instr_of P i).op) Second ≡ both = sym (c.needs_second-both.ensures ∙ ap (λ k. needs k Second)
+    (c.kind-kind.ensures ∙ ap kind (c.op.ensures ∙ (ap (λ (z : Instr). z.op) c.instr.ensures ∙ ap (λ (z : Program). (instr_of z i).op) program)))) in
     let m1 : View = c.needed_source.new.self.view in
     let a = c.in-Ok.value in
     let r1 : Ready P C by st tag old (HasFirst d i x a) m1.seen = takes_first P C by st tag old d i x a old m1.seen r0 c.in-Ok.ensures.answer in
@@ -86,7 +87,8 @@ returns-in-Err-needed_source-clause-reply c =
     let old : List Entry = v.view.seen in
     let r0 : Ready P C by st tag old (IsClaimable d i x) old = begins P C by st tag old d i x legal c.requires.was_open in
     let both = c.needs_second-both.result in
-    let is : needs (kind (instr_of P i).op) Second ≡ both = sym (c.needs_second-both.ensures ∙ ap (λ k. needs k Second) (c.kind-kind.ensures ∙ ap kind (c.op.ensures ∙ (ap (λ (z : Instr). z.op) c.instr.ensures ∙ ap (λ (z : Program). (instr_of z i).op) program)))) in
+    let is : needs (kind (instr_of P i).op) Second ≡ both = sym (c.needs_second-both.ensures ∙ ap (λ k. needs k Second)
+    (c.kind-kind.ensures ∙ ap kind (c.op.ensures ∙ (ap (λ (z : Instr). z.op) c.instr.ensures ∙ ap (λ (z : Program). (instr_of z i).op) program)))) in
     let m1 : View = c.needed_source.new.self.view in
     let a = c.in-Ok.value in
     let r1 : Ready P C by st tag old (HasFirst d i x a) m1.seen = takes_first P C by st tag old d i x a old m1.seen r0 c.in-Ok.ensures.answer in
@@ -103,7 +105,8 @@ open_word-open-requires c =
     let P = v.core.program in
     let C = v.core.sizes in
     let legal : IsLegalCall v = legal_at c.self.invariant c.self.view_is in
-    let small : c.args.tag < last_tag = tag_small P C v.view.seen legal c.requires.was_open.p c.args.station c.args.tag (IsOpenAs c.args.info.half c.args.info.index c.args.info.predicted) c.requires.was_open.named in
+    let small : c.args.tag < last_tag = tag_small P C v.view.seen legal c.requires.was_open.p c.args.station c.args.tag (IsOpenAs c.args.info.half c.args.info.index c.args.info.predicted)
+    c.requires.was_open.named in
     omega arith
 
 pub claim_tenant-found-requires-clause-new : goal.claim_tenant-found-requires-clause-new
@@ -126,14 +129,16 @@ claim_tenant-found-requires-clause-seen c =
     let old : List Entry = v.view.seen in
     let r0 : Ready P C by st tag old (IsClaimable d i x) old = begins P C by st tag old d i x legal c.requires.was_open in
     let both = c.needs_second-both.result in
-    let is : needs (kind (instr_of P i).op) Second ≡ both = sym (c.needs_second-both.ensures ∙ ap (λ k. needs k Second) (c.kind-kind.ensures ∙ ap kind (c.op.ensures ∙ (ap (λ (z : Instr). z.op) c.instr.ensures ∙ ap (λ (z : Program). (instr_of z i).op) program)))) in
+    let is : needs (kind (instr_of P i).op) Second ≡ both = sym (c.needs_second-both.ensures ∙ ap (λ k. needs k Second)
+    (c.kind-kind.ensures ∙ ap kind (c.op.ensures ∙ (ap (λ (z : Instr). z.op) c.instr.ensures ∙ ap (λ (z : Program). (instr_of z i).op) program)))) in
     let m1 : View = c.needed_source.new.self.view in
     let a = c.in-Ok.value in
     let r1 : Ready P C by st tag old (HasFirst d i x a) m1.seen = takes_first P C by st tag old d i x a old m1.seen r0 c.in-Ok.ensures.answer in
     let m2 : View = c.needed_source-2.new.self.view in
     let b = c.in-Ok-needed_source.value in
     let on1 : IsLater v c.needed_source.new.self = c.needed_source.ensures.same in
-    let got : HasSource P C by m1.seen m2.seen st tag both Second b = subst (λ (z : Of). HasSource z.0.program z.0.sizes z.1 m1.seen m2.seen st tag both Second b) (of_one v c.needed_source.new.self on1) c.in-Ok-needed_source.ensures.answer in
+    let got : HasSource P C by m1.seen m2.seen st tag both Second b = subst (λ (z : Of). HasSource z.0.program z.0.sizes z.1 m1.seen m2.seen st tag both Second b)
+    (of_one v c.needed_source.new.self on1) c.in-Ok-needed_source.ensures.answer in
     let r2 : Ready P C by st tag old (HasBoth d i x a both b) m2.seen = takes_second P C by st tag old d i x a both b m1.seen m2.seen r1 got in
     let tag_is : tag_of c.open_word-open.result ≡ tag = c.open_word-open.ensures.tag in
     let on2 = joined on1 c.needed_source-2.ensures.same in
@@ -156,20 +161,23 @@ returns-then-found-open-clause-reply c =
     let old : List Entry = v.view.seen in
     let r0 : Ready P C by st tag old (IsClaimable d i x) old = begins P C by st tag old d i x legal c.requires.was_open in
     let both = c.needs_second-both.result in
-    let is : needs (kind (instr_of P i).op) Second ≡ both = sym (c.needs_second-both.ensures ∙ ap (λ k. needs k Second) (c.kind-kind.ensures ∙ ap kind (c.op.ensures ∙ (ap (λ (z : Instr). z.op) c.instr.ensures ∙ ap (λ (z : Program). (instr_of z i).op) program)))) in
+    let is : needs (kind (instr_of P i).op) Second ≡ both = sym (c.needs_second-both.ensures ∙ ap (λ k. needs k Second)
+    (c.kind-kind.ensures ∙ ap kind (c.op.ensures ∙ (ap (λ (z : Instr). z.op) c.instr.ensures ∙ ap (λ (z : Program). (instr_of z i).op) program)))) in
     let m1 : View = c.needed_source.new.self.view in
     let a = c.in-Ok.value in
     let r1 : Ready P C by st tag old (HasFirst d i x a) m1.seen = takes_first P C by st tag old d i x a old m1.seen r0 c.in-Ok.ensures.answer in
     let m2 : View = c.needed_source-2.new.self.view in
     let b = c.in-Ok-needed_source.value in
     let on1 : IsLater v c.needed_source.new.self = c.needed_source.ensures.same in
-    let got : HasSource P C by m1.seen m2.seen st tag both Second b = subst (λ (z : Of). HasSource z.0.program z.0.sizes z.1 m1.seen m2.seen st tag both Second b) (of_one v c.needed_source.new.self on1) c.in-Ok-needed_source.ensures.answer in
+    let got : HasSource P C by m1.seen m2.seen st tag both Second b = subst (λ (z : Of). HasSource z.0.program z.0.sizes z.1 m1.seen m2.seen st tag both Second b)
+    (of_one v c.needed_source.new.self on1) c.in-Ok-needed_source.ensures.answer in
     let r2 : Ready P C by st tag old (HasBoth d i x a both b) m2.seen = takes_second P C by st tag old d i x a both b m1.seen m2.seen r1 got in
     let m3 : View = c.claim_tenant-found.new.self.view in
     let on2 = joined on1 c.needed_source-2.ensures.same in
     let word = c.open_word-open.result in
     let tag_is : tag_of word ≡ tag = c.open_word-open.ensures.tag in
-    let g : Grows P C by m2 m3 (Claims P C st tag word c.claim_tenant-found.result) = subst (λ t. Grows P C by m2 m3 (Claims P C st t word c.claim_tenant-found.result)) tag_is (taken on2 c.claim_tenant-found.ensures) in
+    let g : Grows P C by m2 m3 (Claims P C st tag word c.claim_tenant-found.result) = subst (λ t. Grows P C by m2 m3 (Claims P C st t word c.claim_tenant-found.result)) tag_is
+    (taken on2 c.claim_tenant-found.ensures) in
     let miss : c.claim_tenant-found.result ≢ word = search rules in
     claim_moved P C by st tag old d i x a both b is m2 m3 word c.claim_tenant-found.result g r2 miss
 
@@ -199,19 +207,22 @@ returns-clause-reply c =
     let old : List Entry = v.view.seen in
     let r0 : Ready P C by st tag old (IsClaimable d i x) old = begins P C by st tag old d i x legal c.requires.was_open in
     let both = c.needs_second-both.result in
-    let is : needs (kind (instr_of P i).op) Second ≡ both = sym (c.needs_second-both.ensures ∙ ap (λ k. needs k Second) (c.kind-kind.ensures ∙ ap kind (c.op.ensures ∙ (ap (λ (z : Instr). z.op) c.instr.ensures ∙ ap (λ (z : Program). (instr_of z i).op) program)))) in
+    let is : needs (kind (instr_of P i).op) Second ≡ both = sym (c.needs_second-both.ensures ∙ ap (λ k. needs k Second)
+    (c.kind-kind.ensures ∙ ap kind (c.op.ensures ∙ (ap (λ (z : Instr). z.op) c.instr.ensures ∙ ap (λ (z : Program). (instr_of z i).op) program)))) in
     let m1 : View = c.needed_source.new.self.view in
     let a = c.in-Ok.value in
     let r1 : Ready P C by st tag old (HasFirst d i x a) m1.seen = takes_first P C by st tag old d i x a old m1.seen r0 c.in-Ok.ensures.answer in
     let m2 : View = c.needed_source-2.new.self.view in
     let b = c.in-Ok-needed_source.value in
     let on1 : IsLater v c.needed_source.new.self = c.needed_source.ensures.same in
-    let got : HasSource P C by m1.seen m2.seen st tag both Second b = subst (λ (z : Of). HasSource z.0.program z.0.sizes z.1 m1.seen m2.seen st tag both Second b) (of_one v c.needed_source.new.self on1) c.in-Ok-needed_source.ensures.answer in
+    let got : HasSource P C by m1.seen m2.seen st tag both Second b = subst (λ (z : Of). HasSource z.0.program z.0.sizes z.1 m1.seen m2.seen st tag both Second b)
+    (of_one v c.needed_source.new.self on1) c.in-Ok-needed_source.ensures.answer in
     let r2 : Ready P C by st tag old (HasBoth d i x a both b) m2.seen = takes_second P C by st tag old d i x a both b m1.seen m2.seen r1 got in
     let m3 : View = c.claim_tenant-found.new.self.view in
     let on2 = joined on1 c.needed_source-2.ensures.same in
     let word = c.open_word-open.result in
     let tag_is : tag_of word ≡ tag = c.open_word-open.ensures.tag in
-    let g : Grows P C by m2 m3 (Claims P C st tag word c.claim_tenant-found.result) = subst (λ t. Grows P C by m2 m3 (Claims P C st t word c.claim_tenant-found.result)) tag_is (taken on2 c.claim_tenant-found.ensures) in
+    let g : Grows P C by m2 m3 (Claims P C st tag word c.claim_tenant-found.result) = subst (λ t. Grows P C by m2 m3 (Claims P C st t word c.claim_tenant-found.result)) tag_is
+    (taken on2 c.claim_tenant-found.ensures) in
     let hit : c.claim_tenant-found.result ≡ word = search rules in
     claimed P C by st tag old d i x a both b is m2 m3 word c.claim_tenant-found.result g r2 hit _ refl refl refl refl c.pc_of-pc.ensures refl refl refl

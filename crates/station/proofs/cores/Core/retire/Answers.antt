@@ -18,7 +18,8 @@ invariant_of-seat-in_default c =
     let t = c.call.inside.seat.now.me in
     let done = c.retire_from-answer in
     let was = seated_in _ c.seat.inside.words.value.key _ _ _ c.args.seat.now core c.seat.view_is c.requires.core Back s.0.by station over s c.seat.invariant.0 in
-    let reply : RetireAnswers P C s.0.by s.0.seen t.0.seen done.result = subst (λ (z : TheCall × TheCall). AnswersRetire z.0 z.1 done.result) (λ i. (c.of-call.ensures i, sym c.call.view_is i)) done.ensures.reply in
+    let reply : RetireAnswers P C s.0.by s.0.seen t.0.seen done.result = subst (λ (z : TheCall × TheCall). AnswersRetire z.0 z.1 done.result) (λ i. (c.of-call.ensures i, sym c.call.view_is i))
+    done.ensures.reply in
     let quiet = none_retired P C s.0.by s.0.seen t.0.seen done.result (is_none P C done.result c.in_default.not-Retired) reply in
     back_back _ c.seat.inside.words.value.key _ _ _ c.args.seat.now core c.seat.view_is c.requires.core c.of-call.ensures done.ensures.same c.call.invariant c.call.view_is (search rules)
     station over was.inside (back_on P C s.0.by station over s.0.seen t.0.seen quiet.0 quiet.1.0 quiet.1.1 was.knows c.seat.invariant.1.caller)

@@ -42,7 +42,8 @@ invariant_of-to g c =
     let mid = c.join_seat.new.seat.me in
     let value = c.to.inside.words.value.key in
     let told = informed_seated value.program (sizes_of value) g.Q.Part.role s.me.0.by c.to.inside.station c.to.inside.over s.me c.split_seat-note.result.me.0 c.to.invariant.0 in
-    let heard : IsSeated value.program (sizes_of value) g.Q.Part.role mid.0.by c.to.inside.station c.to.inside.over mid = subst (λ (m : Me ℕ View). IsSeated value.program (sizes_of value) g.Q.Part.role m.0.by c.to.inside.station c.to.inside.over m) (sym c.join_seat.ensures.2) told in
+    let heard : IsSeated value.program (sizes_of value) g.Q.Part.role mid.0.by c.to.inside.station c.to.inside.over mid = subst
+    (λ (m : Me ℕ View). IsSeated value.program (sizes_of value) g.Q.Part.role m.0.by c.to.inside.station c.to.inside.over m) (sym c.join_seat.ensures.2) told in
     look_back _ value _ _ _ c.args.to.now c.args.self.now c.to.view_is c.requires.to g.Q.Part.role c.of-call.ensures c.call.invariant c.call.view_is (Station 0) c.look.result c.look.ensures
     (search rules)
     c.to.inside.station c.to.inside.over heard

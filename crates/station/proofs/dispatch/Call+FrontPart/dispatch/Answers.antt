@@ -36,7 +36,8 @@ store_info-requires-clause-draft c =
     let t = c.args.tenant in
     let by_is = caller_at c.self.invariant c.self.view_is in
     let looked = c.look-found.ensures in
-    let r1 : IsReady v t Nothing c.look-found.new.self = goes (begins (legal_at c.self.invariant c.self.view_is) by_is c.requires.draft c.requires.may) looked looked.grows.kind.none (looked.grows.kind.mine by_is ∙ c.requires.draft) in
+    let r1 : IsReady v t Nothing c.look-found.new.self = goes (begins (legal_at c.self.invariant c.self.view_is) by_is c.requires.draft c.requires.may) looked looked.grows.kind.none
+    (looked.grows.kind.mine by_is ∙ c.requires.draft) in
     r1.ready.draft_is
 
 pub store_info-requires-clause-may : goal.store_info-requires-clause-may
@@ -45,7 +46,8 @@ store_info-requires-clause-may c =
     let t = c.args.tenant in
     let by_is = caller_at c.self.invariant c.self.view_is in
     let looked = c.look-found.ensures in
-    let r1 : IsReady v t Nothing c.look-found.new.self = goes (begins (legal_at c.self.invariant c.self.view_is) by_is c.requires.draft c.requires.may) looked looked.grows.kind.none (looked.grows.kind.mine by_is ∙ c.requires.draft) in
+    let r1 : IsReady v t Nothing c.look-found.new.self = goes (begins (legal_at c.self.invariant c.self.view_is) by_is c.requires.draft c.requires.may) looked looked.grows.kind.none
+    (looked.grows.kind.mine by_is ∙ c.requires.draft) in
     may_at r1
 
 pub store_info-requires-clause-station : goal.store_info-requires-clause-station
@@ -54,7 +56,8 @@ store_info-requires-clause-station c =
     let t = c.args.tenant in
     let by_is = caller_at c.self.invariant c.self.view_is in
     let looked = c.look-found.ensures in
-    let r1 : IsReady v t Nothing c.look-found.new.self = goes (begins (legal_at c.self.invariant c.self.view_is) by_is c.requires.draft c.requires.may) looked looked.grows.kind.none (looked.grows.kind.mine by_is ∙ c.requires.draft) in
+    let r1 : IsReady v t Nothing c.look-found.new.self = goes (begins (legal_at c.self.invariant c.self.view_is) by_is c.requires.draft c.requires.may) looked looked.grows.kind.none
+    (looked.grows.kind.mine by_is ∙ c.requires.draft) in
     place_at r1 ∙ c.requires.station
 
 pub store_first-requires-clause-draft : goal.store_first-requires-clause-draft
@@ -63,7 +66,8 @@ store_first-requires-clause-draft c =
     let t = c.args.tenant in
     let by_is = caller_at c.self.invariant c.self.view_is in
     let looked = c.look-found.ensures in
-    let r1 : IsReady v t Nothing c.look-found.new.self = goes (begins (legal_at c.self.invariant c.self.view_is) by_is c.requires.draft c.requires.may) looked looked.grows.kind.none (looked.grows.kind.mine by_is ∙ c.requires.draft) in
+    let r1 : IsReady v t Nothing c.look-found.new.self = goes (begins (legal_at c.self.invariant c.self.view_is) by_is c.requires.draft c.requires.may) looked looked.grows.kind.none
+    (looked.grows.kind.mine by_is ∙ c.requires.draft) in
     let r2 : IsReady v t (draft_of InfoAlone t) c.store_info.new.self = goes r1 c.store_info.ensures c.store_info.ensures.grows.kind.none c.store_info.ensures.grows.kind.draft in
     r2.ready.draft_is
 
@@ -73,7 +77,8 @@ store_first-requires-clause-may c =
     let t = c.args.tenant in
     let by_is = caller_at c.self.invariant c.self.view_is in
     let looked = c.look-found.ensures in
-    let r1 : IsReady v t Nothing c.look-found.new.self = goes (begins (legal_at c.self.invariant c.self.view_is) by_is c.requires.draft c.requires.may) looked looked.grows.kind.none (looked.grows.kind.mine by_is ∙ c.requires.draft) in
+    let r1 : IsReady v t Nothing c.look-found.new.self = goes (begins (legal_at c.self.invariant c.self.view_is) by_is c.requires.draft c.requires.may) looked looked.grows.kind.none
+    (looked.grows.kind.mine by_is ∙ c.requires.draft) in
     let r2 : IsReady v t (draft_of InfoAlone t) c.store_info.new.self = goes r1 c.store_info.ensures c.store_info.ensures.grows.kind.none c.store_info.ensures.grows.kind.draft in
     may_at r2
 
@@ -83,7 +88,8 @@ store_first-requires-clause-station c =
     let t = c.args.tenant in
     let by_is = caller_at c.self.invariant c.self.view_is in
     let looked = c.look-found.ensures in
-    let r1 : IsReady v t Nothing c.look-found.new.self = goes (begins (legal_at c.self.invariant c.self.view_is) by_is c.requires.draft c.requires.may) looked looked.grows.kind.none (looked.grows.kind.mine by_is ∙ c.requires.draft) in
+    let r1 : IsReady v t Nothing c.look-found.new.self = goes (begins (legal_at c.self.invariant c.self.view_is) by_is c.requires.draft c.requires.may) looked looked.grows.kind.none
+    (looked.grows.kind.mine by_is ∙ c.requires.draft) in
     let r2 : IsReady v t (draft_of InfoAlone t) c.store_info.new.self = goes r1 c.store_info.ensures c.store_info.ensures.grows.kind.none c.store_info.ensures.grows.kind.draft in
     place_at r2 ∙ c.requires.station
 
@@ -93,7 +99,8 @@ store_second-requires-clause-draft c =
     let t = c.args.tenant in
     let by_is = caller_at c.self.invariant c.self.view_is in
     let looked = c.look-found.ensures in
-    let r1 : IsReady v t Nothing c.look-found.new.self = goes (begins (legal_at c.self.invariant c.self.view_is) by_is c.requires.draft c.requires.may) looked looked.grows.kind.none (looked.grows.kind.mine by_is ∙ c.requires.draft) in
+    let r1 : IsReady v t Nothing c.look-found.new.self = goes (begins (legal_at c.self.invariant c.self.view_is) by_is c.requires.draft c.requires.may) looked looked.grows.kind.none
+    (looked.grows.kind.mine by_is ∙ c.requires.draft) in
     let r2 : IsReady v t (draft_of InfoAlone t) c.store_info.new.self = goes r1 c.store_info.ensures c.store_info.ensures.grows.kind.none c.store_info.ensures.grows.kind.draft in
     let r3 : IsReady v t (draft_of FirstOperand t) c.store_first.new.self = goes r2 c.store_first.ensures c.store_first.ensures.grows.kind.none c.store_first.ensures.grows.kind.draft in
     r3.ready.draft_is
@@ -104,7 +111,8 @@ store_second-requires-clause-may c =
     let t = c.args.tenant in
     let by_is = caller_at c.self.invariant c.self.view_is in
     let looked = c.look-found.ensures in
-    let r1 : IsReady v t Nothing c.look-found.new.self = goes (begins (legal_at c.self.invariant c.self.view_is) by_is c.requires.draft c.requires.may) looked looked.grows.kind.none (looked.grows.kind.mine by_is ∙ c.requires.draft) in
+    let r1 : IsReady v t Nothing c.look-found.new.self = goes (begins (legal_at c.self.invariant c.self.view_is) by_is c.requires.draft c.requires.may) looked looked.grows.kind.none
+    (looked.grows.kind.mine by_is ∙ c.requires.draft) in
     let r2 : IsReady v t (draft_of InfoAlone t) c.store_info.new.self = goes r1 c.store_info.ensures c.store_info.ensures.grows.kind.none c.store_info.ensures.grows.kind.draft in
     let r3 : IsReady v t (draft_of FirstOperand t) c.store_first.new.self = goes r2 c.store_first.ensures c.store_first.ensures.grows.kind.none c.store_first.ensures.grows.kind.draft in
     may_at r3
@@ -115,7 +123,8 @@ store_second-requires-clause-station c =
     let t = c.args.tenant in
     let by_is = caller_at c.self.invariant c.self.view_is in
     let looked = c.look-found.ensures in
-    let r1 : IsReady v t Nothing c.look-found.new.self = goes (begins (legal_at c.self.invariant c.self.view_is) by_is c.requires.draft c.requires.may) looked looked.grows.kind.none (looked.grows.kind.mine by_is ∙ c.requires.draft) in
+    let r1 : IsReady v t Nothing c.look-found.new.self = goes (begins (legal_at c.self.invariant c.self.view_is) by_is c.requires.draft c.requires.may) looked looked.grows.kind.none
+    (looked.grows.kind.mine by_is ∙ c.requires.draft) in
     let r2 : IsReady v t (draft_of InfoAlone t) c.store_info.new.self = goes r1 c.store_info.ensures c.store_info.ensures.grows.kind.none c.store_info.ensures.grows.kind.draft in
     let r3 : IsReady v t (draft_of FirstOperand t) c.store_first.new.self = goes r2 c.store_first.ensures c.store_first.ensures.grows.kind.none c.store_first.ensures.grows.kind.draft in
     place_at r3 ∙ c.requires.station
@@ -126,7 +135,8 @@ let_tenant-requires-clause-draft c =
     let t = c.args.tenant in
     let by_is = caller_at c.self.invariant c.self.view_is in
     let looked = c.look-found.ensures in
-    let r1 : IsReady v t Nothing c.look-found.new.self = goes (begins (legal_at c.self.invariant c.self.view_is) by_is c.requires.draft c.requires.may) looked looked.grows.kind.none (looked.grows.kind.mine by_is ∙ c.requires.draft) in
+    let r1 : IsReady v t Nothing c.look-found.new.self = goes (begins (legal_at c.self.invariant c.self.view_is) by_is c.requires.draft c.requires.may) looked looked.grows.kind.none
+    (looked.grows.kind.mine by_is ∙ c.requires.draft) in
     let r2 : IsReady v t (draft_of InfoAlone t) c.store_info.new.self = goes r1 c.store_info.ensures c.store_info.ensures.grows.kind.none c.store_info.ensures.grows.kind.draft in
     let r3 : IsReady v t (draft_of FirstOperand t) c.store_first.new.self = goes r2 c.store_first.ensures c.store_first.ensures.grows.kind.none c.store_first.ensures.grows.kind.draft in
     let r4 : IsReady v t (draft_of BothOperands t) c.store_second.new.self = goes r3 c.store_second.ensures c.store_second.ensures.grows.kind.none c.store_second.ensures.grows.kind.draft in
@@ -138,7 +148,8 @@ let_tenant-requires-clause-may c =
     let t = c.args.tenant in
     let by_is = caller_at c.self.invariant c.self.view_is in
     let looked = c.look-found.ensures in
-    let r1 : IsReady v t Nothing c.look-found.new.self = goes (begins (legal_at c.self.invariant c.self.view_is) by_is c.requires.draft c.requires.may) looked looked.grows.kind.none (looked.grows.kind.mine by_is ∙ c.requires.draft) in
+    let r1 : IsReady v t Nothing c.look-found.new.self = goes (begins (legal_at c.self.invariant c.self.view_is) by_is c.requires.draft c.requires.may) looked looked.grows.kind.none
+    (looked.grows.kind.mine by_is ∙ c.requires.draft) in
     let r2 : IsReady v t (draft_of InfoAlone t) c.store_info.new.self = goes r1 c.store_info.ensures c.store_info.ensures.grows.kind.none c.store_info.ensures.grows.kind.draft in
     let r3 : IsReady v t (draft_of FirstOperand t) c.store_first.new.self = goes r2 c.store_first.ensures c.store_first.ensures.grows.kind.none c.store_first.ensures.grows.kind.draft in
     let r4 : IsReady v t (draft_of BothOperands t) c.store_second.new.self = goes r3 c.store_second.ensures c.store_second.ensures.grows.kind.none c.store_second.ensures.grows.kind.draft in
@@ -150,7 +161,8 @@ let_tenant-requires-clause-station c =
     let t = c.args.tenant in
     let by_is = caller_at c.self.invariant c.self.view_is in
     let looked = c.look-found.ensures in
-    let r1 : IsReady v t Nothing c.look-found.new.self = goes (begins (legal_at c.self.invariant c.self.view_is) by_is c.requires.draft c.requires.may) looked looked.grows.kind.none (looked.grows.kind.mine by_is ∙ c.requires.draft) in
+    let r1 : IsReady v t Nothing c.look-found.new.self = goes (begins (legal_at c.self.invariant c.self.view_is) by_is c.requires.draft c.requires.may) looked looked.grows.kind.none
+    (looked.grows.kind.mine by_is ∙ c.requires.draft) in
     let r2 : IsReady v t (draft_of InfoAlone t) c.store_info.new.self = goes r1 c.store_info.ensures c.store_info.ensures.grows.kind.none c.store_info.ensures.grows.kind.draft in
     let r3 : IsReady v t (draft_of FirstOperand t) c.store_first.new.self = goes r2 c.store_first.ensures c.store_first.ensures.grows.kind.none c.store_first.ensures.grows.kind.draft in
     let r4 : IsReady v t (draft_of BothOperands t) c.store_second.new.self = goes r3 c.store_second.ensures c.store_second.ensures.grows.kind.none c.store_second.ensures.grows.kind.draft in
@@ -162,13 +174,17 @@ store_first-requires-clause-word c =
     let t = c.args.tenant in
     let by_is = caller_at c.self.invariant c.self.view_is in
     let looked = c.look-found.ensures in
-    let r1 : IsReady v t Nothing c.look-found.new.self = goes (begins (legal_at c.self.invariant c.self.view_is) by_is c.requires.draft c.requires.may) looked looked.grows.kind.none (looked.grows.kind.mine by_is ∙ c.requires.draft) in
+    let r1 : IsReady v t Nothing c.look-found.new.self = goes (begins (legal_at c.self.invariant c.self.view_is) by_is c.requires.draft c.requires.may) looked looked.grows.kind.none
+    (looked.grows.kind.mine by_is ∙ c.requires.draft) in
     let r2 : IsReady v t (draft_of InfoAlone t) c.store_info.new.self = goes r1 c.store_info.ensures c.store_info.ensures.grows.kind.none c.store_info.ensures.grows.kind.draft in
     let at = c.look-found.new.self.view in
     let h = looked.grows.between ++ v.view.seen in
     let seen1 : at.seen ≡ h = looked.grows.is ∙ ap (λ es. map (entry v.view.by) es ++ h) looked.grows.kind.none in
-    let word : IsStation (station_word v.core.sizes (recent (unit_of v.core.program v.core.sizes at.seen)) (next_place v)) c.look-found.result = subst (λ (z : List Entry × ℕ). IsStation (station_word v.core.sizes (recent (unit_of v.core.program v.core.sizes z.0)) z.1) c.look-found.result) (λ i. (sym seen1 i, sym c.requires.station i)) looked.grows.kind.content in
-    let tag_is : c.tag_in-tag.result ≡ new_tag v = c.tag_in-tag.ensures.value ∙ tag_found v.core.program v.core.sizes v.view.by t v.view.seen Nothing (next_place v) (new_tag v) c.look-found.result at r1.ready word in
+    let word : IsStation (station_word v.core.sizes (recent (unit_of v.core.program v.core.sizes at.seen)) (next_place v)) c.look-found.result = subst
+    (λ (z : List Entry × ℕ). IsStation (station_word v.core.sizes (recent (unit_of v.core.program v.core.sizes z.0)) z.1) c.look-found.result) (λ i. (sym seen1 i, sym c.requires.station i))
+    looked.grows.kind.content in
+    let tag_is : c.tag_in-tag.result ≡ new_tag v = c.tag_in-tag.ensures.value ∙ tag_found v.core.program v.core.sizes v.view.by t v.view.seen Nothing (next_place v) (new_tag v) c.look-found.result at
+    r1.ready word in
     subst (λ z. IsOperandOf (record { tag = z; value = given_value t.sources.0 }) c.operand_word-first.result) (tag_is ∙ sym (tag_at r2)) c.operand_word-first.ensures
 
 pub store_second-requires-clause-word : goal.store_second-requires-clause-word
@@ -177,14 +193,18 @@ store_second-requires-clause-word c =
     let t = c.args.tenant in
     let by_is = caller_at c.self.invariant c.self.view_is in
     let looked = c.look-found.ensures in
-    let r1 : IsReady v t Nothing c.look-found.new.self = goes (begins (legal_at c.self.invariant c.self.view_is) by_is c.requires.draft c.requires.may) looked looked.grows.kind.none (looked.grows.kind.mine by_is ∙ c.requires.draft) in
+    let r1 : IsReady v t Nothing c.look-found.new.self = goes (begins (legal_at c.self.invariant c.self.view_is) by_is c.requires.draft c.requires.may) looked looked.grows.kind.none
+    (looked.grows.kind.mine by_is ∙ c.requires.draft) in
     let r2 : IsReady v t (draft_of InfoAlone t) c.store_info.new.self = goes r1 c.store_info.ensures c.store_info.ensures.grows.kind.none c.store_info.ensures.grows.kind.draft in
     let r3 : IsReady v t (draft_of FirstOperand t) c.store_first.new.self = goes r2 c.store_first.ensures c.store_first.ensures.grows.kind.none c.store_first.ensures.grows.kind.draft in
     let at = c.look-found.new.self.view in
     let h = looked.grows.between ++ v.view.seen in
     let seen1 : at.seen ≡ h = looked.grows.is ∙ ap (λ es. map (entry v.view.by) es ++ h) looked.grows.kind.none in
-    let word : IsStation (station_word v.core.sizes (recent (unit_of v.core.program v.core.sizes at.seen)) (next_place v)) c.look-found.result = subst (λ (z : List Entry × ℕ). IsStation (station_word v.core.sizes (recent (unit_of v.core.program v.core.sizes z.0)) z.1) c.look-found.result) (λ i. (sym seen1 i, sym c.requires.station i)) looked.grows.kind.content in
-    let tag_is : c.tag_in-tag.result ≡ new_tag v = c.tag_in-tag.ensures.value ∙ tag_found v.core.program v.core.sizes v.view.by t v.view.seen Nothing (next_place v) (new_tag v) c.look-found.result at r1.ready word in
+    let word : IsStation (station_word v.core.sizes (recent (unit_of v.core.program v.core.sizes at.seen)) (next_place v)) c.look-found.result = subst
+    (λ (z : List Entry × ℕ). IsStation (station_word v.core.sizes (recent (unit_of v.core.program v.core.sizes z.0)) z.1) c.look-found.result) (λ i. (sym seen1 i, sym c.requires.station i))
+    looked.grows.kind.content in
+    let tag_is : c.tag_in-tag.result ≡ new_tag v = c.tag_in-tag.ensures.value ∙ tag_found v.core.program v.core.sizes v.view.by t v.view.seen Nothing (next_place v) (new_tag v) c.look-found.result at
+    r1.ready word in
     subst (λ z. IsOperandOf (record { tag = z; value = given_value t.sources.1 }) c.operand_word-second.result) (tag_is ∙ sym (tag_at r3)) c.operand_word-second.ensures
 
 pub let_tenant-requires-clause-word : goal.let_tenant-requires-clause-word
@@ -193,15 +213,19 @@ let_tenant-requires-clause-word c =
     let t = c.args.tenant in
     let by_is = caller_at c.self.invariant c.self.view_is in
     let looked = c.look-found.ensures in
-    let r1 : IsReady v t Nothing c.look-found.new.self = goes (begins (legal_at c.self.invariant c.self.view_is) by_is c.requires.draft c.requires.may) looked looked.grows.kind.none (looked.grows.kind.mine by_is ∙ c.requires.draft) in
+    let r1 : IsReady v t Nothing c.look-found.new.self = goes (begins (legal_at c.self.invariant c.self.view_is) by_is c.requires.draft c.requires.may) looked looked.grows.kind.none
+    (looked.grows.kind.mine by_is ∙ c.requires.draft) in
     let r2 : IsReady v t (draft_of InfoAlone t) c.store_info.new.self = goes r1 c.store_info.ensures c.store_info.ensures.grows.kind.none c.store_info.ensures.grows.kind.draft in
     let r3 : IsReady v t (draft_of FirstOperand t) c.store_first.new.self = goes r2 c.store_first.ensures c.store_first.ensures.grows.kind.none c.store_first.ensures.grows.kind.draft in
     let r4 : IsReady v t (draft_of BothOperands t) c.store_second.new.self = goes r3 c.store_second.ensures c.store_second.ensures.grows.kind.none c.store_second.ensures.grows.kind.draft in
     let at = c.look-found.new.self.view in
     let h = looked.grows.between ++ v.view.seen in
     let seen1 : at.seen ≡ h = looked.grows.is ∙ ap (λ es. map (entry v.view.by) es ++ h) looked.grows.kind.none in
-    let word : IsStation (station_word v.core.sizes (recent (unit_of v.core.program v.core.sizes at.seen)) (next_place v)) c.look-found.result = subst (λ (z : List Entry × ℕ). IsStation (station_word v.core.sizes (recent (unit_of v.core.program v.core.sizes z.0)) z.1) c.look-found.result) (λ i. (sym seen1 i, sym c.requires.station i)) looked.grows.kind.content in
-    let tag_is : c.tag_in-tag.result ≡ new_tag v = c.tag_in-tag.ensures.value ∙ tag_found v.core.program v.core.sizes v.view.by t v.view.seen Nothing (next_place v) (new_tag v) c.look-found.result at r1.ready word in
+    let word : IsStation (station_word v.core.sizes (recent (unit_of v.core.program v.core.sizes at.seen)) (next_place v)) c.look-found.result = subst
+    (λ (z : List Entry × ℕ). IsStation (station_word v.core.sizes (recent (unit_of v.core.program v.core.sizes z.0)) z.1) c.look-found.result) (λ i. (sym seen1 i, sym c.requires.station i))
+    looked.grows.kind.content in
+    let tag_is : c.tag_in-tag.result ≡ new_tag v = c.tag_in-tag.ensures.value ∙ tag_found v.core.program v.core.sizes v.view.by t v.view.seen Nothing (next_place v) (new_tag v) c.look-found.result at
+    r1.ready word in
     subst (λ z. IsStation (live_word z Open) c.open_word-open.result) (tag_is ∙ sym (tag_at r4)) c.open_word-open.ensures
 
 pub returns-clause-draft : goal.returns-clause-draft
@@ -214,12 +238,16 @@ returns-clause-tag c =
     let t = c.args.tenant in
     let by_is = caller_at c.self.invariant c.self.view_is in
     let looked = c.look-found.ensures in
-    let r1 : IsReady v t Nothing c.look-found.new.self = goes (begins (legal_at c.self.invariant c.self.view_is) by_is c.requires.draft c.requires.may) looked looked.grows.kind.none (looked.grows.kind.mine by_is ∙ c.requires.draft) in
+    let r1 : IsReady v t Nothing c.look-found.new.self = goes (begins (legal_at c.self.invariant c.self.view_is) by_is c.requires.draft c.requires.may) looked looked.grows.kind.none
+    (looked.grows.kind.mine by_is ∙ c.requires.draft) in
     let at = c.look-found.new.self.view in
     let h = looked.grows.between ++ v.view.seen in
     let seen1 : at.seen ≡ h = looked.grows.is ∙ ap (λ es. map (entry v.view.by) es ++ h) looked.grows.kind.none in
-    let word : IsStation (station_word v.core.sizes (recent (unit_of v.core.program v.core.sizes at.seen)) (next_place v)) c.look-found.result = subst (λ (z : List Entry × ℕ). IsStation (station_word v.core.sizes (recent (unit_of v.core.program v.core.sizes z.0)) z.1) c.look-found.result) (λ i. (sym seen1 i, sym c.requires.station i)) looked.grows.kind.content in
-    let tag_is : c.tag_in-tag.result ≡ new_tag v = c.tag_in-tag.ensures.value ∙ tag_found v.core.program v.core.sizes v.view.by t v.view.seen Nothing (next_place v) (new_tag v) c.look-found.result at r1.ready word in
+    let word : IsStation (station_word v.core.sizes (recent (unit_of v.core.program v.core.sizes at.seen)) (next_place v)) c.look-found.result = subst
+    (λ (z : List Entry × ℕ). IsStation (station_word v.core.sizes (recent (unit_of v.core.program v.core.sizes z.0)) z.1) c.look-found.result) (λ i. (sym seen1 i, sym c.requires.station i))
+    looked.grows.kind.content in
+    let tag_is : c.tag_in-tag.result ≡ new_tag v = c.tag_in-tag.ensures.value ∙ tag_found v.core.program v.core.sizes v.view.by t v.view.seen Nothing (next_place v) (new_tag v) c.look-found.result at
+    r1.ready word in
     tag_is
 
 pub returns-clause-out : goal.returns-clause-out
@@ -228,7 +256,8 @@ returns-clause-out c =
     let t = c.args.tenant in
     let by_is = caller_at c.self.invariant c.self.view_is in
     let looked = c.look-found.ensures in
-    let r1 : IsReady v t Nothing c.look-found.new.self = goes (begins (legal_at c.self.invariant c.self.view_is) by_is c.requires.draft c.requires.may) looked looked.grows.kind.none (looked.grows.kind.mine by_is ∙ c.requires.draft) in
+    let r1 : IsReady v t Nothing c.look-found.new.self = goes (begins (legal_at c.self.invariant c.self.view_is) by_is c.requires.draft c.requires.may) looked looked.grows.kind.none
+    (looked.grows.kind.mine by_is ∙ c.requires.draft) in
     let r2 : IsReady v t (draft_of InfoAlone t) c.store_info.new.self = goes r1 c.store_info.ensures c.store_info.ensures.grows.kind.none c.store_info.ensures.grows.kind.draft in
     let r3 : IsReady v t (draft_of FirstOperand t) c.store_first.new.self = goes r2 c.store_first.ensures c.store_first.ensures.grows.kind.none c.store_first.ensures.grows.kind.draft in
     let r4 : IsReady v t (draft_of BothOperands t) c.store_second.new.self = goes r3 c.store_second.ensures c.store_second.ensures.grows.kind.none c.store_second.ensures.grows.kind.draft in

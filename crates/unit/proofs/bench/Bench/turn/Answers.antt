@@ -41,7 +41,8 @@ invariant_of-self-in-Some-next g c =
     let can : CanLet b.program.now b.ring b.queue b.committed.pc b.low b.window next = subst (NextIs b.program.now b.ring b.queue b.committed.pc b.low b.window) c.in-Some-next.is c.next.ensures in
     let guess = c.guess-predicted.ensures in
     let fixed = guess_fixed g.P.Predictor.Predicts g.P.Predictor.Learns _ next.pc next.instr c.guess-predicted.result guess.middle c.guess-predicted.new.predictor guess.asked in
-    let shows = let_shows b c.let_out.new.self next c.guess-predicted.result unit none miss can c.guess-predicted.type_inv fixed c.let_out.ensures.window c.let_out.ensures.leavers c.let_out.ensures.rest in
+    let shows = let_shows b c.let_out.new.self next c.guess-predicted.result unit none miss can c.guess-predicted.type_inv fixed c.let_out.ensures.window c.let_out.ensures.leavers
+    c.let_out.ensures.rest in
     shows.unit
 
 pub returns-in-Some-next-clause-falls : goal.returns-in-Some-next-clause-falls
@@ -55,7 +56,8 @@ returns-in-Some-next-clause-falls g c =
     let can : CanLet b.program.now b.ring b.queue b.committed.pc b.low b.window next = subst (NextIs b.program.now b.ring b.queue b.committed.pc b.low b.window) c.in-Some-next.is c.next.ensures in
     let guess = c.guess-predicted.ensures in
     let fixed = guess_fixed g.P.Predictor.Predicts g.P.Predictor.Learns _ next.pc next.instr c.guess-predicted.result guess.middle c.guess-predicted.new.predictor guess.asked in
-    let shows = let_shows b c.let_out.new.self next c.guess-predicted.result unit none miss can c.guess-predicted.type_inv fixed c.let_out.ensures.window c.let_out.ensures.leavers c.let_out.ensures.rest in
+    let shows = let_shows b c.let_out.new.self next c.guess-predicted.result unit none miss can c.guess-predicted.type_inv fixed c.let_out.ensures.window c.let_out.ensures.leavers
+    c.let_out.ensures.rest in
     subst (λ x. Falls Let x.pipeline c.let_out.new.self) c.self.view_is (subst (λ x. Falls Let x c.let_out.new.self) same shows.falls)
 
 pub returns-in-Some-next-clause-turn : goal.returns-in-Some-next-clause-turn
@@ -67,13 +69,16 @@ returns-in-Some-next-clause-turn g c =
     let none : b.over ≡ None = subst (λ x. x.over ≡ None) (sym same) c.in_default.is in
     let miss : NoneGives miss_in b.window = subst (λ x. NoneGives miss_in x.window) (sym same) c.if-recovers.ensures.window in
     let can : CanLet b.program.now b.ring b.queue b.committed.pc b.low b.window next = subst (NextIs b.program.now b.ring b.queue b.committed.pc b.low b.window) c.in-Some-next.is c.next.ensures in
-    let turn = let_bench g.P.Predictor.Predicts g.P.Predictor.Learns (fields b c.self.inside.predictor) (fields c.let_out.new.self c.guess-predicted.new.predictor) next c.guess-predicted.result c.leaver-left.result unit none miss can c.guess-predicted.type_inv c.leaver-left.ensures c.guess-predicted.ensures c.let_out.ensures.window c.let_out.ensures.leavers c.let_out.ensures.rest in
+    let turn = let_bench g.P.Predictor.Predicts g.P.Predictor.Learns (fields b c.self.inside.predictor) (fields c.let_out.new.self c.guess-predicted.new.predictor) next c.guess-predicted.result
+    c.leaver-left.result unit none miss can c.guess-predicted.type_inv c.leaver-left.ensures c.guess-predicted.ensures c.let_out.ensures.window c.let_out.ensures.leavers c.let_out.ensures.rest
+    in
     subst (λ x. IsTurn g.P.Predictor.Predicts g.P.Predictor.Learns x Let (fields c.let_out.new.self c.guess-predicted.new.predictor)) c.self.view_is
     (subst (λ x. IsTurn g.P.Predictor.Predicts g.P.Predictor.Learns (fields x c.self.inside.predictor) Let (fields c.let_out.new.self c.guess-predicted.new.predictor)) same turn)
 
 pub returns-clause-turn : goal.returns-clause-turn
 returns-clause-turn g c =
-    let turn = plain_turn g.P.Predictor.Predicts g.P.Predictor.Learns (fields c.recovers.new.self c.self.inside.predictor) (fields c.moves.new.self c.self.inside.predictor) c.moves.result c.moves.ensures.plain c.moves.ensures.turn refl in
+    let turn = plain_turn g.P.Predictor.Predicts g.P.Predictor.Learns (fields c.recovers.new.self c.self.inside.predictor) (fields c.moves.new.self c.self.inside.predictor) c.moves.result
+    c.moves.ensures.plain c.moves.ensures.turn refl in
     subst (λ x. IsTurn g.P.Predictor.Predicts g.P.Predictor.Learns x c.moves.result (fields c.moves.new.self c.self.inside.predictor)) c.self.view_is
     (subst (λ x. IsTurn g.P.Predictor.Predicts g.P.Predictor.Learns (fields x c.self.inside.predictor) c.moves.result (fields c.moves.new.self c.self.inside.predictor)) c.if-recovers.ensures.same
     turn)

@@ -24,37 +24,43 @@ returns-then-runs-clause-unit c =
 
 pub loads-requires-clause-inside : goal.loads-requires-clause-inside
 loads-requires-clause-inside c =
-    let i : Idle c.args.self.now c.runs.new.self = idle c.args.self.now c.runs.new.self c.requires.unit c.requires.open c.requires.miss c.requires.lets c.if-runs.ensures.window c.if-runs.ensures.same c.runs.ensures.rest c.runs.ensures.noted in
+    let i : Idle c.args.self.now c.runs.new.self = idle c.args.self.now c.runs.new.self c.requires.unit c.requires.open c.requires.miss c.requires.lets c.if-runs.ensures.window c.if-runs.ensures.same
+    c.runs.ensures.rest c.runs.ensures.noted in
     are_inside c.runs.new.self i.unit
 
 pub returns-then-loads-clause-turn : goal.returns-then-loads-clause-turn
 returns-then-loads-clause-turn c =
-    let i : Idle c.args.self.now c.runs.new.self = idle c.args.self.now c.runs.new.self c.requires.unit c.requires.open c.requires.miss c.requires.lets c.if-runs.ensures.window c.if-runs.ensures.same c.runs.ensures.rest c.runs.ensures.noted in
+    let i : Idle c.args.self.now c.runs.new.self = idle c.args.self.now c.runs.new.self c.requires.unit c.requires.open c.requires.miss c.requires.lets c.if-runs.ensures.window c.if-runs.ensures.same
+    c.runs.ensures.rest c.runs.ensures.noted in
     let shows = loaded_shows c.args.self.now c.runs.new.self c.loads.new.self i c.if-loads.ensures.window c.loads.ensures.rest c.loads.ensures.noted in
     shows.turn
 
 pub returns-then-loads-clause-falls : goal.returns-then-loads-clause-falls
 returns-then-loads-clause-falls c =
-    let i : Idle c.args.self.now c.runs.new.self = idle c.args.self.now c.runs.new.self c.requires.unit c.requires.open c.requires.miss c.requires.lets c.if-runs.ensures.window c.if-runs.ensures.same c.runs.ensures.rest c.runs.ensures.noted in
+    let i : Idle c.args.self.now c.runs.new.self = idle c.args.self.now c.runs.new.self c.requires.unit c.requires.open c.requires.miss c.requires.lets c.if-runs.ensures.window c.if-runs.ensures.same
+    c.runs.ensures.rest c.runs.ensures.noted in
     let shows = loaded_shows c.args.self.now c.runs.new.self c.loads.new.self i c.if-loads.ensures.window c.loads.ensures.rest c.loads.ensures.noted in
     shows.falls
 
 pub returns-then-loads-clause-unit : goal.returns-then-loads-clause-unit
 returns-then-loads-clause-unit c =
-    let i : Idle c.args.self.now c.runs.new.self = idle c.args.self.now c.runs.new.self c.requires.unit c.requires.open c.requires.miss c.requires.lets c.if-runs.ensures.window c.if-runs.ensures.same c.runs.ensures.rest c.runs.ensures.noted in
+    let i : Idle c.args.self.now c.runs.new.self = idle c.args.self.now c.runs.new.self c.requires.unit c.requires.open c.requires.miss c.requires.lets c.if-runs.ensures.window c.if-runs.ensures.same
+    c.runs.ensures.rest c.runs.ensures.noted in
     let shows = loaded_shows c.args.self.now c.runs.new.self c.loads.new.self i c.if-loads.ensures.window c.loads.ensures.rest c.loads.ensures.noted in
     shows.unit
 
 pub retires-requires-clause-can : goal.retires-requires-clause-can
 retires-requires-clause-can c =
-    let i : Idle c.args.self.now c.runs.new.self = idle c.args.self.now c.runs.new.self c.requires.unit c.requires.open c.requires.miss c.requires.lets c.if-runs.ensures.window c.if-runs.ensures.same c.runs.ensures.rest c.runs.ensures.noted in
+    let i : Idle c.args.self.now c.runs.new.self = idle c.args.self.now c.runs.new.self c.requires.unit c.requires.open c.requires.miss c.requires.lets c.if-runs.ensures.window c.if-runs.ensures.same
+    c.runs.ensures.rest c.runs.ensures.noted in
     let j : Idle c.args.self.now c.loads.new.self = subst (Idle c.args.self.now) (sym c.if-loads.ensures.same) i in
     let l = subst (λ b. NoneGives (load_in (registers_of b) b.committed.memory) b.window) (sym c.if-loads.ensures.same) c.if-loads.ensures.window in
     leaves_after c.args.self.now c.loads.new.self j l
 
 pub returns-clause-turn : goal.returns-clause-turn
 returns-clause-turn c =
-    let i : Idle c.args.self.now c.runs.new.self = idle c.args.self.now c.runs.new.self c.requires.unit c.requires.open c.requires.miss c.requires.lets c.if-runs.ensures.window c.if-runs.ensures.same c.runs.ensures.rest c.runs.ensures.noted in
+    let i : Idle c.args.self.now c.runs.new.self = idle c.args.self.now c.runs.new.self c.requires.unit c.requires.open c.requires.miss c.requires.lets c.if-runs.ensures.window c.if-runs.ensures.same
+    c.runs.ensures.rest c.runs.ensures.noted in
     let j : Idle c.args.self.now c.loads.new.self = subst (Idle c.args.self.now) (sym c.if-loads.ensures.same) i in
     let l = subst (λ b. NoneGives (load_in (registers_of b) b.committed.memory) b.window) (sym c.if-loads.ensures.same) c.if-loads.ensures.window in
     let shows = retired_shows c.args.self.now c.loads.new.self c.retires.new.self c.retires.result j l c.retires.ensures in
@@ -62,7 +68,8 @@ returns-clause-turn c =
 
 pub returns-clause-falls : goal.returns-clause-falls
 returns-clause-falls c =
-    let i : Idle c.args.self.now c.runs.new.self = idle c.args.self.now c.runs.new.self c.requires.unit c.requires.open c.requires.miss c.requires.lets c.if-runs.ensures.window c.if-runs.ensures.same c.runs.ensures.rest c.runs.ensures.noted in
+    let i : Idle c.args.self.now c.runs.new.self = idle c.args.self.now c.runs.new.self c.requires.unit c.requires.open c.requires.miss c.requires.lets c.if-runs.ensures.window c.if-runs.ensures.same
+    c.runs.ensures.rest c.runs.ensures.noted in
     let j : Idle c.args.self.now c.loads.new.self = subst (Idle c.args.self.now) (sym c.if-loads.ensures.same) i in
     let l = subst (λ b. NoneGives (load_in (registers_of b) b.committed.memory) b.window) (sym c.if-loads.ensures.same) c.if-loads.ensures.window in
     let shows = retired_shows c.args.self.now c.loads.new.self c.retires.new.self c.retires.result j l c.retires.ensures in
@@ -70,7 +77,8 @@ returns-clause-falls c =
 
 pub returns-clause-unit : goal.returns-clause-unit
 returns-clause-unit c =
-    let i : Idle c.args.self.now c.runs.new.self = idle c.args.self.now c.runs.new.self c.requires.unit c.requires.open c.requires.miss c.requires.lets c.if-runs.ensures.window c.if-runs.ensures.same c.runs.ensures.rest c.runs.ensures.noted in
+    let i : Idle c.args.self.now c.runs.new.self = idle c.args.self.now c.runs.new.self c.requires.unit c.requires.open c.requires.miss c.requires.lets c.if-runs.ensures.window c.if-runs.ensures.same
+    c.runs.ensures.rest c.runs.ensures.noted in
     let j : Idle c.args.self.now c.loads.new.self = subst (Idle c.args.self.now) (sym c.if-loads.ensures.same) i in
     let l = subst (λ b. NoneGives (load_in (registers_of b) b.committed.memory) b.window) (sym c.if-loads.ensures.same) c.if-loads.ensures.window in
     let shows = retired_shows c.args.self.now c.loads.new.self c.retires.new.self c.retires.result j l c.retires.ensures in
@@ -78,7 +86,8 @@ returns-clause-unit c =
 
 pub returns-clause-same : goal.returns-clause-same
 returns-clause-same c =
-    let i : Idle c.args.self.now c.runs.new.self = idle c.args.self.now c.runs.new.self c.requires.unit c.requires.open c.requires.miss c.requires.lets c.if-runs.ensures.window c.if-runs.ensures.same c.runs.ensures.rest c.runs.ensures.noted in
+    let i : Idle c.args.self.now c.runs.new.self = idle c.args.self.now c.runs.new.self c.requires.unit c.requires.open c.requires.miss c.requires.lets c.if-runs.ensures.window c.if-runs.ensures.same
+    c.runs.ensures.rest c.runs.ensures.noted in
     let j : Idle c.args.self.now c.loads.new.self = subst (Idle c.args.self.now) (sym c.if-loads.ensures.same) i in
     let l = subst (λ b. NoneGives (load_in (registers_of b) b.committed.memory) b.window) (sym c.if-loads.ensures.same) c.if-loads.ensures.window in
     let shows = retired_shows c.args.self.now c.loads.new.self c.retires.new.self c.retires.result j l c.retires.ensures in
@@ -86,7 +95,8 @@ returns-clause-same c =
 
 pub returns-clause-plain : goal.returns-clause-plain
 returns-clause-plain c =
-    let i : Idle c.args.self.now c.runs.new.self = idle c.args.self.now c.runs.new.self c.requires.unit c.requires.open c.requires.miss c.requires.lets c.if-runs.ensures.window c.if-runs.ensures.same c.runs.ensures.rest c.runs.ensures.noted in
+    let i : Idle c.args.self.now c.runs.new.self = idle c.args.self.now c.runs.new.self c.requires.unit c.requires.open c.requires.miss c.requires.lets c.if-runs.ensures.window c.if-runs.ensures.same
+    c.runs.ensures.rest c.runs.ensures.noted in
     let j : Idle c.args.self.now c.loads.new.self = subst (Idle c.args.self.now) (sym c.if-loads.ensures.same) i in
     let l = subst (λ b. NoneGives (load_in (registers_of b) b.committed.memory) b.window) (sym c.if-loads.ensures.same) c.if-loads.ensures.window in
     retired_plain c.loads.new.self c.retires.new.self c.retires.result (leaves_after c.args.self.now c.loads.new.self j l) c.retires.ensures

@@ -22,6 +22,8 @@ returns c =
     ∙ slot_gives s.creators c.slot_of-slot.result none slot in
     let all : CreatorsAt c.args.self.now c.args.i (places_of made s.start) =
     subst (λ l. CreatorsAt l c.args.i (places_of made s.start)) c.self.view_is (h.known.each c.args.i made is) in
-    let first = subst (λ n. CreatorsAt c.args.self.now c.args.i (record { first = n; second = (places_of made s.start).second; replaced = (places_of made s.start).replaced })) (sym c.place_of.ensures.value) all in
-    let second = subst (λ n. CreatorsAt c.args.self.now c.args.i (record { first = c.place_of.result; second = n; replaced = (places_of made s.start).replaced })) (sym c.place_of-2.ensures.value) first in
+    let first = subst (λ n. CreatorsAt c.args.self.now c.args.i (record { first = n; second = (places_of made s.start).second; replaced = (places_of made s.start).replaced }))
+    (sym c.place_of.ensures.value) all in
+    let second = subst (λ n. CreatorsAt c.args.self.now c.args.i (record { first = c.place_of.result; second = n; replaced = (places_of made s.start).replaced })) (sym c.place_of-2.ensures.value)
+    first in
     subst (λ n. CreatorsAt c.args.self.now c.args.i (record { first = c.place_of.result; second = c.place_of-2.result; replaced = n })) (sym c.place_of-3.ensures.value) second

@@ -20,7 +20,9 @@ invariant_of-self c =
     let room : s.len < 32 = omega (arith, c.requires, ap length c.self.view_is, long) in
     let first : c.number.result ≡ first_of w.instr = c.number.ensures.value ∙ c.first.ensures in
     let second : c.number-2.result ≡ second_of w.instr = c.number-2.ensures.value ∙ c.second.ensures in
-    let all = window_let s.stations s.creators s.newest s.start s.len w made h room (omega (arith, first, c.number.ensures.small)) (omega (arith, second, c.number-2.ensures.small)) (omega (arith, c.number-r.ensures.value, c.number-r.ensures.small)) (ap (slice_index s.newest) first) (ap (slice_index s.newest) second) (ap (slice_index s.newest) c.number-r.ensures.value) in
+    let all = window_let s.stations s.creators s.newest s.start s.len w made h room (omega (arith, first, c.number.ensures.small)) (omega (arith, second, c.number-2.ensures.small))
+    (omega (arith, c.number-r.ensures.value, c.number-r.ensures.small)) (ap (slice_index s.newest) first) (ap (slice_index s.newest) second)
+    (ap (slice_index s.newest) c.number-r.ensures.value) in
     let known =
     subst (λ k. IsWindow (set s.stations k w) (set s.creators k made) (set s.newest c.number-r.result k) s.start (s.len + 1)) (sym c.slot_of-slot.ensures.value)
     (subst (λ r. IsWindow (set s.stations (slot_of s.start s.len) w) (set s.creators (slot_of s.start s.len) made) (set s.newest r (slot_of s.start s.len)) s.start (s.len + 1))
