@@ -2,28 +2,41 @@
 use super::*;
 use std::test::Fail;
 
-// The entries of all tails of a text, and then those of some of its tails once more.
-fn tails<'a>(alloc: Global, text: &'a [u8], more: usize) -> Result<Vec<Entry<'a>>, AllocError> {
-    let mut entries = Vec::new(alloc);
-    for i in 0..text.len() + more {
-        entries.push(Entry {
-            name: &text[i % text.len()..],
-            address: i as u32,
-            line: i as u32 + 1,
-        })?;
+// One entry more for each of the first tails of a text, on lines from the first one on.
+fn push_tails<'a>(
+    entries: &mut Vec<Entry<'a>>,
+    text: &'a [u8],
+    count: usize,
+    first: u32,
+) -> Result<(), AllocError> {
+    let mut line = first;
+    for i in 0..text.len() {
+        if i < count {
+            entries.push(Entry {
+                name: &text[i..],
+                address: line.wrapping_sub(1),
+                line,
+            })?;
+            line = line.wrapping_add(1);
+        }
     }
-    Ok(entries)
+    Ok(())
 }
 
 #[test]
 fn finds_crowded_names(rt: HostRuntime) -> Result<(), Fail> {
     let text = b"abcdefghijklmnopqrstuvwxyz".as_slice();
-    let labels = Labels::of(rt.alloc(), tails(rt.alloc(), text, 0)?, 0)?;
+    let mut once = Vec::new(rt.alloc());
+    push_tails(&mut once, text, text.len(), 1)?;
+    let labels = Labels::of(rt.alloc(), once, 0)?;
     for i in 0..text.len() {
         assert_eq!(rt; labels.get(&text[i..]), Some(i as u32));
     }
     assert_eq!(rt; labels.get(b"a".as_slice()), None);
-    match Labels::of(rt.alloc(), tails(rt.alloc(), text, 2)?, 0) {
+    let mut more = Vec::new(rt.alloc());
+    push_tails(&mut more, text, text.len(), 1)?;
+    push_tails(&mut more, text, 2, 27)?;
+    match Labels::of(rt.alloc(), more, 0) {
         Ok(_) => assert!(rt; false),
         Err(fault) => {
             assert_eq!(rt; fault.line, 27);
