@@ -52,12 +52,12 @@ abbrev pub under : ℕ → ℕ
 under b = if b == 9 then 9 else 32
 
 -- a mark under a part of a line
-abbrev pub mark : List ℕ → Part → List ℕ
-mark line part = map under (take part.from line) ++ replicate (part.to - part.from) 94
+abbrev pub underline : List ℕ → Part → List ℕ
+underline line part = map under (take part.from line) ++ replicate (part.to - part.from) 94
 
 -- the line, and below it the mark
 abbrev pub quote : List ℕ → Part → List ℕ
-quote line part = line ++ (newline ++ (mark line part ++ newline))
+quote line part = line ++ (newline ++ (underline line part ++ newline))
 
 -- what the language wants where this fault is
 abbrev pub sentence : FaultKind → List ℕ

@@ -2,7 +2,7 @@
 ghost use Rattle.std.specs.Prelude.{◌≡◌, ◌++◌, IfOk, OnOk, Some};
 ghost use Rattle.std.specs.Option.{option_map};
 ghost use Rattle.checks.specs.Checks.{IsExplained, IsExplanationBehind, IsPartOf};
-ghost use Rattle.checks.specs.Checks.{form_note, form_sentence, has_form, mark, quote, sentence};
+ghost use Rattle.checks.specs.Checks.{form_note, form_sentence, has_form, quote, sentence, underline};
 
 use super::blame::part_at_fault;
 use super::forms::form_of;
@@ -51,7 +51,7 @@ fn has_form(kind: FaultKind) -> bool
 // The mark: it stands under the part, also behind tabs.
 fn push_mark(text: &mut Vec<u8>, line: &[u8], part: Part) -> Result<(), AllocError>
     requires { IsPartOf line.now part }
-    ensures { OnOk result (text.new.items ≡ text.old.items ++ mark line.now part) }
+    ensures { OnOk result (text.new.items ≡ text.old.items ++ underline line.now part) }
 {
     for byte in &line[..part.from] {
         text.push(if *byte == b'\t' { b'\t' } else { b' ' })?;

@@ -6,7 +6,7 @@ use Rattle.std.proofs.lemmas.List.{append-nil, length-append}
 use Rattle.instructions.specs.declared.instr.Instr.{Instr}
 use Rattle.instructions.specs.Programs.{address}
 use Rattle.isa.specs.Statement.{Parsed}
-use Rattle.isa.specs.Listing.{Lines, read, labels, at, table, numbered, memory, how_many, is_double, fault_in, first_fault}
+use Rattle.isa.specs.Listing.{Lines, read, labels, labels_at, table, numbered, memory, instruction_count, is_double, fault_in, first_fault}
 use Rattle.isa.proofs.Behind.{numbered_push, table_push, memory_push}
 use Rattle.conversion.specs.Writing.{as_line, unlines, printable, AllPrintable, Faultless, IsReadAs, AllRead, LinesSay, AllQuiet, IsText}
 use Rattle.conversion.proofs.Printed.{line_plain}
@@ -44,7 +44,7 @@ read_push (e ∷ ds) (j ∷ is) d i h r = (h.0, read_push ds is d i h.1 r)
 
 module _ (ls : Lines) (code : List Instr) (names : List (List ℕ × ℕ)) (bytes : List ℕ) (is : LinesSay ls code names bytes)
     (l : List ℕ) (clean : list_all printable l ≡ true) (ns : List (List ℕ)) (labelled : labels l ≡ ns) where
-  count_is : how_many ls ≡ length code
+  count_is : instruction_count ls ≡ length code
   count_is = read_length (numbered 1 ls) code is.code_is
 
   module _ (ps : List Parsed) (bs : List ℕ) (said : read l ≡ Ok (record { code = ps; bytes = bs })) where
@@ -54,9 +54,9 @@ module _ (ls : Lines) (code : List Instr) (names : List (List ℕ × ℕ)) (byte
     no_fault single short small =
         rw (line_plain l clean, count_is, is.labels_are, labelled, single, is.bytes_are, said, le-ltb 16384 (length code + length ps) short, le-ltb 65536 (length bytes + length bs) small) refl
 
-    names_are : table 0 (ls ++ l ∷ []) ≡ names ++ at (address (length code)) ns
+    names_are : table 0 (ls ++ l ∷ []) ≡ names ++ labels_at (address (length code)) ns
     names_are =
-        let place : 0 + how_many ls ≡ length code = omega (arith, count_is) in
+        let place : 0 + instruction_count ls ≡ length code = omega (arith, count_is) in
         table_push 0 1 ls l ∙ rw (is.labels_are, labelled, place) refl
 
     memory_is : memory (ls ++ l ∷ []) ≡ bytes ++ bs
@@ -68,7 +68,7 @@ module _ (ls : Lines) (code : List Instr) (names : List (List ℕ × ℕ)) (byte
   -- without an instruction
   pub push_bytes : (bs : List ℕ) → read l ≡ Ok (record { code = []; bytes = bs }) → is_double (address (length code)) names ns ≡ false
       → length code ≤ 16384 → length bytes + length bs ≤ 65536
-      → LinesSay (ls ++ l ∷ []) code (names ++ at (address (length code)) ns) (bytes ++ bs)
+      → LinesSay (ls ++ l ∷ []) code (names ++ labels_at (address (length code)) ns) (bytes ++ bs)
   push_bytes bs said single short small =
       let numbers : numbered 1 (ls ++ l ∷ []) ≡ numbered 1 ls = numbers_are [] bs said ∙ append-nil (numbered 1 ls) in
       record {
@@ -82,7 +82,7 @@ module _ (ls : Lines) (code : List Instr) (names : List (List ℕ × ℕ)) (byte
   -- with an instruction
   pub push_code : (p : Parsed) (i : Instr) → read l ≡ Ok (record { code = p ∷ []; bytes = [] }) → IsReadAs p i → is_double (address (length code)) names ns ≡ false
       → length code < 16384 → length bytes ≤ 65536
-      → LinesSay (ls ++ l ∷ []) (code ++ i ∷ []) (names ++ at (address (length code)) ns) bytes
+      → LinesSay (ls ++ l ∷ []) (code ++ i ∷ []) (names ++ labels_at (address (length code)) ns) bytes
   push_code p i said stands single short small = record {
     printed = printable_push ls l is.printed clean;
     faultless = faultless_push [] ls l is.faultless (no_fault (p ∷ []) [] said single (omega arith) (omega arith));

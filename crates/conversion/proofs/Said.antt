@@ -10,7 +10,7 @@ use Rattle.text.specs.Label.{labels_of, statement_of}
 use Rattle.instructions.specs.declared.instr.Instr.{Instr}
 use Rattle.instructions.specs.Programs.{address}
 use Rattle.isa.specs.Statement.{Parsed, statement}
-use Rattle.isa.specs.InstrText.{label_text, StandsForBy}
+use Rattle.isa.specs.InstrText.{label_text, ReadsAsBy}
 use Rattle.isa.specs.Listing.{Lines, read, labels, table, numbered, memory, resolve_number, numbered_with, resolve, resolved, listing}
 use Rattle.conversion.specs.Meaning.{has_target}
 use Rattle.conversion.specs.Writing.{AllRead, AllSound, AllMarked, IsLabelled, marked, IsText, AddsData}
@@ -30,7 +30,7 @@ empty_read = refl
 
 module _ (marks : List Bool) (n : ℕ) (few : n ≤ 16384) (all : length marks ≡ n) where
   -- the number of an instruction, by its label or its own
-  number_of : (i : Instr) (line : ℕ) (label : Option (List ℕ)) (found : Instr) → StandsForBy label found i → (has_target i.op ≡ false → label ≡ None)
+  number_of : (i : Instr) (line : ℕ) (label : Option (List ℕ)) (found : Instr) → ReadsAsBy label found i → (has_target i.op ≡ false → label ≡ None)
       → (has_target i.op ≡ true → IsLabelled marks i.number)
       → numbered_with found (resolve_number (marked marks n) line found.number label) ≡ Ok i
   number_of i line None found stands bare goes = ap (λ (j : Instr). Ok j) stands

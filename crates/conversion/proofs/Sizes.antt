@@ -13,7 +13,7 @@ use Rattle.isa.specs.declared.listing.form.Slot.{Slot}
 use Rattle.isa.specs.declared.listing.form.Slot.TheVariants.{Into, First, Second, S16, U16, U5, Label, Offset}
 use Rattle.isa.specs.declared.listing.instr_text.Naming.TheVariants.{Names}
 use Rattle.isa.specs.Report.{hex8}
-use Rattle.isa.specs.Wording.{word_of, slots_of}
+use Rattle.isa.specs.Wording.{operation_word, slots_of}
 use Rattle.isa.specs.InstrText.{register_text, signed_text, label_text, operand_text, with_operands_text, is_nop, text_of, Fits, AllFit, IsSignedHalf, IsWritable}
 use Rattle.isa.proofs.TextNumbers.{signed_positive, signed_negative, below_zero}
 use Rattle.conversion.specs.Writing.{code_line}
@@ -68,7 +68,7 @@ few_slots : (op : Op) → nat_le (length (slots_of op)) 3 ≡ true
 few_slots Addu = refl
 few_slots op = refl
 
-short_word : (op : Op) → nat_le (length (word_of op)) 5 ≡ true
+short_word : (op : Op) → nat_le (length (operation_word op)) 5 ≡ true
 short_word Addu = refl
 short_word op = refl
 
@@ -83,7 +83,7 @@ text_size i w = elim (cases_Bool (is_nop i)) [
       let slots = leb-true _ _ (few_slots i.op) in
       let word = leb-true _ _ (short_word i.op) in
       let joined = joined_size i (slots_of i.op) w.fits in
-      let all = operands_size (word_of i.op) (map (λ s. operand_text Names s i) (slots_of i.op)) in
+      let all = operands_size (operation_word i.op) (map (λ s. operand_text Names s i) (slots_of i.op)) in
       rw other (omega arith)
 ]
 

@@ -9,7 +9,7 @@ use Rattle.isa.specs.Report.{hexadecimal}
 use Rattle.instructions.specs.Programs.{address}
 use Rattle.isa.specs.Statement.{Parsed}
 use Rattle.isa.specs.Listing.{Lines, read, labels, table, numbered, memory, fault_in}
-use Rattle.isa.specs.InstrText.{with_operands_text, text_of, label_text, IsWritable, StandsFor}
+use Rattle.isa.specs.InstrText.{with_operands_text, text_of, label_text, IsWritable, ReadsAs}
 use Rattle.conversion.specs.Meaning.{has_target, is_inside}
 
 -- ---- lines
@@ -120,7 +120,7 @@ Faultless before (l ∷ ls) = (fault_in before l ≡ None) × Faultless (before 
 
 -- what was read is this instruction, and has a label only if the operation names a target
 pub record IsReadAs (p : Parsed) (i : Instr) : Type 0 where
-  pub stands : StandsFor p i
+  pub stands : ReadsAs p i
   pub unlabelled : has_target i.op ≡ false → p.label ≡ None
 
 -- so it is of each line and its instruction, in their order

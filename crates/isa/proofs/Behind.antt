@@ -13,8 +13,8 @@ use Rattle.isa.specs.declared.listing.fault.FaultKind.TheVariants.{NotAscii, Too
 use Rattle.isa.specs.declared.listing.line.Target.{Target}
 use Rattle.instructions.specs.Programs.{address}
 use Rattle.isa.specs.Statement.{Parsed, Line, statement}
-use Rattle.isa.specs.Listing.{Lines, labels, read, code_in, bytes_in, at, table, numbered, memory, how_many, is_double, fault_of, fault_in}
-use Rattle.isa.specs.Late.{Mark, pairs, marks, IsLate}
+use Rattle.isa.specs.Listing.{Lines, labels, read, code_in, bytes_in, labels_at, table, numbered, memory, instruction_count, is_double, fault_of, fault_in}
+use Rattle.isa.specs.Late.{Mark, pairs, marks, IsLateLine}
 use Rattle.isa.specs.Held.{IsAdded, IsRead, name_of, rows}
 use Rattle.isa.proofs.Rows.{rows_length, rows_push}
 use Rattle.isa.proofs.LabelTable.{double_marks, pairs_append, pairs_of_marks}
@@ -34,18 +34,18 @@ numbered_push k (b ∷ before) l =
     ∙ sym (append_assoc first (numbered (k + 1) before) _)
 
 pub table_push : (n k : ℕ) (before : Lines) (l : List ℕ)
-    → table n (before ++ l ∷ []) ≡ table n before ++ at (address (n + length (numbered k before))) (labels l)
+    → table n (before ++ l ∷ []) ≡ table n before ++ labels_at (address (n + length (numbered k before))) (labels l)
 unfolding table numbered
-table_push n k [] l = append-nil _ ∙ ap (λ (j : ℕ). at (address j) (labels l)) (omega arith)
+table_push n k [] l = append-nil _ ∙ ap (λ (j : ℕ). labels_at (address j) (labels l)) (omega arith)
 table_push n k (b ∷ before) l =
-    let first : List (List ℕ × ℕ) = at (address n) (labels b) in
+    let first : List (List ℕ × ℕ) = labels_at (address n) (labels b) in
     let count : ℕ = length (code_in (read b)) in
     let size : length (map (λ p. (k, p)) (code_in (read b)) ++ numbered (k + 1) before) ≡ count + length (numbered (k + 1) before) =
     simp (length-append, length-map) in
     let place : n + count + length (numbered (k + 1) before) ≡ n + length (map (λ p. (k, p)) (code_in (read b)) ++ numbered (k + 1) before) =
     omega arith in
     ap (λ (t : List (List ℕ × ℕ)). first ++ t)
-    (table_push (n + count) (k + 1) before l ∙ ap (λ (j : ℕ). table (n + count) before ++ at (address j) (labels l)) place)
+    (table_push (n + count) (k + 1) before l ∙ ap (λ (j : ℕ). table (n + count) before ++ labels_at (address j) (labels l)) place)
     ∙ sym (append_assoc first (table (n + count) before) _)
 
 pub memory_push : (before : Lines) (l : List ℕ) → memory (before ++ l ∷ []) ≡ memory before ++ bytes_in (read l)
@@ -56,10 +56,10 @@ memory_push before l = flat_map-append (λ l. bytes_in (read l)) before (l ∷ [
 
 module _ (before : Lines) (line text : List ℕ) (n : ℕ) (old : List Mark) (code : List Instr) (ts : List Target) (bytes : List ℕ)
     (is : IsRead before (pairs old) code ts bytes) (front : text ≡ before_comment line) where
-  pub how_many_is : how_many before ≡ length code
+  pub how_many_is : instruction_count before ≡ length code
   how_many_is = sym (ap length is.code_is) ∙ rows_length code ts is.length_is
 
-  pub fault_not_plain : is_plain_text text ≡ false → IsLate before line n old old (Some NotAscii)
+  pub fault_not_plain : is_plain_text text ≡ false → IsLateLine before line n old old (Some NotAscii)
   unfolding fault_in
   fault_not_plain e =
       let p : is_plain_text (before_comment line) ≡ false = rw front at e in
@@ -69,19 +69,19 @@ module _ (before : Lines) (line text : List ℕ) (n : ℕ) (old : List Mark) (co
     is_plain : is_plain_text (before_comment line) ≡ true
     is_plain = rw front at plain
 
-    at_count : a ≡ address (how_many before)
+    at_count : a ≡ address (instruction_count before)
     at_count = at_a ∙ ap address (sym how_many_is)
 
     module _ (new : List Mark) (named : new ≡ old ++ marks n a (labels_of text)) where
-      late_is : (f : Option FaultKind) → fault_of (length code) (length bytes) (statement (statement_of text)) ≡ f → IsLate before line n old new f
+      late_is : (f : Option FaultKind) → fault_of (length code) (length bytes) (statement (statement_of text)) ≡ f → IsLateLine before line n old new f
       unfolding fault_in
       late_is f e = record {
         added = marks n a (labels_of text);
         grown = named;
         fault = λ others.
-            let double : is_double (address (how_many before)) (table 0 before) (labels line) ≡ is_double a (pairs old) (labels_of text) =
+            let double : is_double (address (instruction_count before)) (table 0 before) (labels line) ≡ is_double a (pairs old) (labels_of text) =
             rw (at_count, front, is.labels_are) refl in
-            let other : fault_of (how_many before) (length (memory before)) (read line) ≡ f = rw (how_many_is, ← is.bytes_are, ← front) e in
+            let other : fault_of (instruction_count before) (length (memory before)) (read line) ≡ f = rw (how_many_is, ← is.bytes_are, ← front) e in
             elim (cases_Bool (is_double a (pairs old) (labels_of text))) [
               | inl twice ↦ rw (double_marks n a (labels_of text) (pairs old), is_plain, double, twice) refl
               | inr once ↦ rw (double_marks n a (labels_of text) (pairs old), is_plain, double, once, other) refl
@@ -90,12 +90,12 @@ module _ (before : Lines) (line text : List ℕ) (n : ℕ) (old : List Mark) (co
 
       table_is : pairs new ≡ table 0 (before ++ line ∷ [])
       table_is =
-          let place : a ≡ address (0 + how_many before) = at_count ∙ ap address (omega arith) in
-          let grown : pairs new ≡ pairs old ++ at a (labels_of text) =
+          let place : a ≡ address (0 + instruction_count before) = at_count ∙ ap address (omega arith) in
+          let grown : pairs new ≡ pairs old ++ labels_at a (labels_of text) =
           ap pairs named ∙ pairs_append old (marks n a (labels_of text)) ∙ ap (λ (t : List (List ℕ × ℕ)). pairs old ++ t) (pairs_of_marks n a (labels_of text)) in
-          grown ∙ ap (λ (t : List (List ℕ × ℕ)). t ++ at a (labels_of text)) is.labels_are
-          ∙ ap (λ (b : ℕ). table 0 before ++ at b (labels_of text)) place
-          ∙ ap (λ (c : List ℕ). table 0 before ++ at (address (0 + how_many before)) (labels_of c)) front ∙ sym (table_push 0 1 before line)
+          grown ∙ ap (λ (t : List (List ℕ × ℕ)). t ++ labels_at a (labels_of text)) is.labels_are
+          ∙ ap (λ (b : ℕ). table 0 before ++ labels_at b (labels_of text)) place
+          ∙ ap (λ (c : List ℕ). table 0 before ++ labels_at (address (0 + instruction_count before)) (labels_of c)) front ∙ sym (table_push 0 1 before line)
 
       read_is : (r : Result Line FaultKind) → statement (statement_of text) ≡ r → read line ≡ r
       read_is r e = ap (λ (c : List ℕ). statement (statement_of c)) (sym front) ∙ e
@@ -112,31 +112,31 @@ module _ (before : Lines) (line text : List ℕ) (n : ℕ) (old : List Mark) (co
           memory_push before line ∙ ap (λ (q : Result Line FaultKind). memory before ++ bytes_in q) (read_is r e)
           ∙ ap (λ (t : List ℕ). t ++ bytes_in r) (sym is.bytes_are)
 
-      pub fault_statement : (k : FaultKind) → statement (statement_of text) ≡ Err k → IsLate before line n old new (Some k)
+      pub fault_statement : (k : FaultKind) → statement (statement_of text) ≡ Err k → IsLateLine before line n old new (Some k)
       fault_statement k e = late_is (Some k) (ap (fault_of (length code) (length bytes)) e)
 
       module _ (ps : List Parsed) (bytes' : List ℕ) (added : IsAdded (statement (statement_of text)) ps bytes bytes') where
         size_is : length bytes' ≡ length bytes + length added.bytes
         size_is = ap length added.grown ∙ length-append bytes added.bytes
 
-        pub fault_long_memory : 65536 < length bytes' → IsLate before line n old new (Some TooLong)
+        pub fault_long_memory : 65536 < length bytes' → IsLateLine before line n old new (Some TooLong)
         fault_long_memory long =
             let over : nat_lt 65536 (length bytes + length added.bytes) ≡ true = lt-ltb _ _ (omega (arith, size_is)) in
             late_is (Some TooLong) (ap (fault_of (length code) (length bytes)) added.is ∙ grind (arith, over))
 
-        pub fault_long_code : 16384 < length code + length ps → IsLate before line n old new (Some TooLong)
+        pub fault_long_code : 16384 < length code + length ps → IsLateLine before line n old new (Some TooLong)
         fault_long_code long =
             let over : nat_lt 16384 (length code + length ps) ≡ true = lt-ltb _ _ long in
             late_is (Some TooLong) (ap (fault_of (length code) (length bytes)) added.is ∙ rw over refl)
 
-        no_fault : length code + length ps ≤ 16384 → length bytes' ≤ 65536 → IsLate before line n old new None
+        no_fault : length code + length ps ≤ 16384 → length bytes' ≤ 65536 → IsLateLine before line n old new None
         no_fault short small =
             let code_short : nat_lt 16384 (length code + length ps) ≡ false = le-ltb _ _ short in
             let bytes_short : nat_lt 65536 (length bytes + length added.bytes) ≡ false = le-ltb _ _ (omega (arith, size_is)) in
             late_is None (ap (fault_of (length code) (length bytes)) added.is ∙ rw (code_short, bytes_short) refl)
 
       pub reads_none : (bytes' : List ℕ) → IsAdded (statement (statement_of text)) [] bytes bytes' → length code ≤ 16384 → length bytes' ≤ 65536
-          → IsLate before line n old new None × IsRead (before ++ line ∷ []) (pairs new) code ts bytes'
+          → IsLateLine before line n old new None × IsRead (before ++ line ∷ []) (pairs new) code ts bytes'
       reads_none bytes' added short small = (
         no_fault [] bytes' added (omega arith) small,
         record {
@@ -149,7 +149,7 @@ module _ (before : Lines) (line text : List ℕ) (n : ℕ) (old : List Mark) (co
 
       pub reads_some : (i : Instr) (t : Target) (bytes' : List ℕ) → t.line ≡ length before + 1
           → IsAdded (statement (statement_of text)) (record { instr = i; label = name_of t } ∷ []) bytes bytes' → length code < 16384 → length bytes' ≤ 65536
-          → IsLate before line n old new None × IsRead (before ++ line ∷ []) (pairs new) (code ++ i ∷ []) (ts ++ t ∷ []) bytes'
+          → IsLateLine before line n old new None × IsRead (before ++ line ∷ []) (pairs new) (code ++ i ∷ []) (ts ++ t ∷ []) bytes'
       reads_some i t bytes' number added short small = (
         no_fault _ bytes' added (omega arith) small,
         record {

@@ -7,13 +7,13 @@ use Rattle.std.specs.Str.{bytes_eq}
 use Rattle.std.proofs.lemmas.Bool.{cases_Bool, cases_lt}
 use Rattle.std.proofs.lemmas.Slice.Eq.{bytes_eq-Decides}
 use Rattle.isa.specs.declared.listing.table.Entry.{Entry}
-use Rattle.isa.specs.NameHash.{hash_of, tag_of}
-use Rattle.isa.specs.Buckets.{entry_at, name_at, found, run, IsTaken, first_for, AreTaken, crowded_at, IsNoted, IsCrowded, IsIndex}
+use Rattle.isa.specs.NameHash.{hash_of, hash_tag}
+use Rattle.isa.specs.Buckets.{label_entry, name_at, found, bucket_run, IsTaken, first_for, AreTaken, crowded_at, IsNoted, IsCrowded, IsIndex}
 
 -- bucket k has an entry of another name
 pub record IsOther (es : List Entry) (tags numbers : List ℕ) (name : List ℕ) (k : ℕ) : Type 0 where
   pub taken : IsTaken tags k
-  pub other : slice_index tags k ≡ tag_of (hash_of name) → name_at es (slice_index numbers k) ≢ name
+  pub other : slice_index tags k ≡ hash_tag (hash_of name) → name_at es (slice_index numbers k) ≢ name
 
 -- buckets of other names, and one more
 pub others_more : (es : List Entry) (tags numbers name : List ℕ) (first k : ℕ) → ((j : ℕ) → first ≤ j → j < k → IsOther es tags numbers name j)
@@ -51,7 +51,7 @@ module _ (es : List Entry) (tags numbers : List ℕ) (crowded : BTreeMap (Bor (L
     pub are_taken : AreTaken tags name k
     are_taken j low lt = (others j low lt).taken
 
-    pub free_absent : first_for tags name ≤ k → k < first_for tags name + run → slice_index tags k ≡ 0 → found es name ≡ None
+    pub free_absent : first_for tags name ≤ k → k < first_for tags name + bucket_run → slice_index tags k ≡ 0 → found es name ≡ None
     free_absent low high empty = not_found es name (λ i lt is. elim (noted_as i lt is) [
       | inl noted ↦
           let le = noted_behind k others i noted is in
@@ -59,24 +59,24 @@ module _ (es : List Entry) (tags numbers : List ℕ) (crowded : BTreeMap (Bor (L
             | inl behind ↦ absurd (noted.run.behind k low behind empty)
             | inr ge ↦
                 let same : k ≡ noted.at = omega (arith, le, ge) in
-                let tag : 0 ≡ tag_of (hash_of name) = sym empty ∙ ap (slice_index tags) same ∙ noted.tag in
+                let tag : 0 ≡ hash_tag (hash_of name) = sym empty ∙ ap (slice_index tags) same ∙ noted.tag in
                 absurd (omega (arith, tag))
           ]
       | inr crowd ↦ absurd (crowd.full k low high empty)
     ])
 
-    pub full_absent : k ≡ first_for tags name + run → crowded_at crowded name ≡ None → found es name ≡ None
+    pub full_absent : k ≡ first_for tags name + bucket_run → crowded_at crowded name ≡ None → found es name ≡ None
     full_absent end none = not_found es name (λ i lt is. elim (noted_as i lt is) [
       | inl noted ↦ let le = noted_behind k others i noted is in absurd (omega (arith, end, le, noted.run.high))
       | inr crowd ↦ let bad : Some i ≡ None = sym crowd.is ∙ none in absurd cc
     ])
 
   pub known_noted : (k : ℕ) → IsTaken tags k → name_at es (slice_index numbers k) ≡ name
-      → found es name ≡ Some (entry_at es (slice_index numbers k)).address
+      → found es name ≡ Some (label_entry es (slice_index numbers k)).address
   known_noted k taken is =
-      subst (λ (q : List ℕ). found es q ≡ Some (entry_at es (slice_index numbers k)).address) is (index.single _ (index.taken k taken))
+      subst (λ (q : List ℕ). found es q ≡ Some (label_entry es (slice_index numbers k)).address) is (index.single _ (index.taken k taken))
 
-  pub known_crowded : (i : ℕ) → crowded_at crowded name ≡ Some i → (i < length es) × (found es name ≡ Some (entry_at es i).address)
+  pub known_crowded : (i : ℕ) → crowded_at crowded name ≡ Some i → (i < length es) × (found es name ≡ Some (label_entry es i).address)
   known_crowded i is =
       let one = index.crowd name i is in
-      (one.0, subst (λ (q : List ℕ). found es q ≡ Some (entry_at es i).address) one.1 (index.single i one.0))
+      (one.0, subst (λ (q : List ℕ). found es q ≡ Some (label_entry es i).address) one.1 (index.single i one.0))

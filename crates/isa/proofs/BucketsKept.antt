@@ -12,8 +12,8 @@ use Rattle.std.proofs.lemmas.List.{take_more, get_or-set_same, get_or-set_other,
 use Rattle.std.proofs.lemmas.Map.Text.{btree_map_updates_str}
 use Rattle.std.proofs.lemmas.Slice.Eq.{bytes_eq-Decides}
 use Rattle.isa.specs.declared.listing.table.Entry.{Entry}
-use Rattle.isa.specs.NameHash.{hash_of, start_of, tag_of}
-use Rattle.isa.specs.Buckets.{pair, entry_at, name_at, found, run, IsTaken, first_for, AreTaken, IsInRun, crowded_at, IsNoted, IsCrowded, IsIndex}
+use Rattle.isa.specs.NameHash.{hash_of, start_of, hash_tag}
+use Rattle.isa.specs.Buckets.{pair, label_entry, name_at, found, bucket_run, IsTaken, first_for, AreTaken, IsInRun, crowded_at, IsNoted, IsCrowded, IsIndex}
 
 -- the entries up to the next one
 pub index_next : (es : List Entry) (i : ℕ) (d : Entry) (tags numbers : List ℕ) (crowded : BTreeMap (Bor (List ℕ)) ℕ) → i < length es
@@ -46,7 +46,7 @@ found_last (x ∷ es) e is = elim (cases_Bool (bytes_eq x.name.now e.name.now)) 
   | inr not ↦ let others : found es e.name.now ≡ None = rw not at is in rw not (found_last es e others)
 ]
 
-entry_last : (es : List Entry) (e : Entry) → entry_at (es ++ e ∷ []) (length es) ≡ e
+entry_last : (es : List Entry) (e : Entry) → label_entry (es ++ e ∷ []) (length es) ≡ e
 entry_last [] e = refl
 entry_last (x ∷ es) e = entry_last es e
 
@@ -54,7 +54,7 @@ module _ (es : List Entry) (e : Entry) where
   longer : length (es ++ e ∷ []) ≡ length es + 1
   longer = length-append es (e ∷ [])
 
-  entry_before : (i : ℕ) → i < length es → entry_at (es ++ e ∷ []) i ≡ entry_at es i
+  entry_before : (i : ℕ) → i < length es → label_entry (es ++ e ∷ []) i ≡ label_entry es i
   entry_before i lt = get_or_append_left es (e ∷ []) _ i lt
 
   name_before : (i : ℕ) → i < length es → name_at (es ++ e ∷ []) i ≡ name_at es i
@@ -70,9 +70,9 @@ module _ (es : List Entry) (e : Entry) where
     | inr le ↦ let same : length es ≡ i = omega (arith, le, lt, longer) in subst P same last
   ]
 
-  module _ (single : (i : ℕ) → i < length es → found es (name_at es i) ≡ Some (entry_at es i).address) (absent : found es e.name.now ≡ None) where
-    single_more : (i : ℕ) → i < length (es ++ e ∷ []) → found (es ++ e ∷ []) (name_at (es ++ e ∷ []) i) ≡ Some (entry_at (es ++ e ∷ []) i).address
-    single_more = each (λ i. found (es ++ e ∷ []) (name_at (es ++ e ∷ []) i) ≡ Some (entry_at (es ++ e ∷ []) i).address)
+  module _ (single : (i : ℕ) → i < length es → found es (name_at es i) ≡ Some (label_entry es i).address) (absent : found es e.name.now ≡ None) where
+    single_more : (i : ℕ) → i < length (es ++ e ∷ []) → found (es ++ e ∷ []) (name_at (es ++ e ∷ []) i) ≡ Some (label_entry (es ++ e ∷ []) i).address
+    single_more = each (λ i. found (es ++ e ∷ []) (name_at (es ++ e ∷ []) i) ≡ Some (label_entry (es ++ e ∷ []) i).address)
         (λ i lt. rw (name_before i lt, entry_before i lt) (found_stays es e (name_at es i) _ (single i lt)))
         (rw (name_last, entry_last es e) (found_last es e absent))
 
@@ -81,7 +81,7 @@ module _ (es : List Entry) (e : Entry) where
     apart i lt = elim (cases_Bool (bytes_eq e.name.now (name_at es i))) [
       | inl is ↦
           let same : e.name.now ≡ name_at es i = (bytes_eq-Decides e.name.now (name_at es i)).0 is in
-          let bad : None ≡ Some (entry_at es i).address = sym absent ∙ ap (found es) same ∙ single i lt in
+          let bad : None ≡ Some (label_entry es i).address = sym absent ∙ ap (found es) same ∙ single i lt in
           absurd cc
       | inr not ↦ not
     ]
@@ -92,19 +92,19 @@ module _ (es : List Entry) (tags numbers : List ℕ) (crowded : BTreeMap (Bor (L
     (absent : found es e.name.now ≡ None) where
   module _ (at : ℕ) (in_run : IsInRun tags e.name.now at) (empty : slice_index tags at ≡ 0) (lt : at < length tags) where
     abbrev pub tags_after : List ℕ
-    tags_after = slice_set tags at (tag_of (hash_of e.name.now))
+    tags_after = slice_set tags at (hash_tag (hash_of e.name.now))
 
     abbrev pub numbers_after : List ℕ
     numbers_after = slice_set numbers at (length es)
 
-    tag_here : slice_index tags_after at ≡ tag_of (hash_of e.name.now)
-    tag_here = get_or-set_same tags at (tag_of (hash_of e.name.now)) 0 lt
+    tag_here : slice_index tags_after at ≡ hash_tag (hash_of e.name.now)
+    tag_here = get_or-set_same tags at (hash_tag (hash_of e.name.now)) 0 lt
 
     number_here : slice_index numbers_after at ≡ length es
     number_here = get_or-set_same numbers at (length es) 0 (omega (arith, lt, index.same_length))
 
     tag_there : (k : ℕ) → k ≢ at → slice_index tags_after k ≡ slice_index tags k
-    tag_there k other = get_or-set_other tags at k (tag_of (hash_of e.name.now)) 0 other
+    tag_there k other = get_or-set_other tags at k (hash_tag (hash_of e.name.now)) 0 other
 
     number_there : (k : ℕ) → k ≢ at → slice_index numbers_after k ≡ slice_index numbers k
     number_there k other = get_or-set_other numbers at k (length es) 0 other
@@ -116,7 +116,7 @@ module _ (es : List Entry) (tags numbers : List ℕ) (crowded : BTreeMap (Bor (L
     taken_stays k taken is = taken (sym (tag_there k (taken_apart k taken)) ∙ is)
 
     first_stays : (name : List ℕ) → first_for tags_after name ≡ first_for tags name
-    first_stays name = ap (λ (n : ℕ). start_of (hash_of name) (n - run)) (length-set tags at (tag_of (hash_of e.name.now)))
+    first_stays name = ap (λ (n : ℕ). start_of (hash_of name) (n - bucket_run)) (length-set tags at (hash_tag (hash_of e.name.now)))
 
     in_run_stays : (name : List ℕ) (k : ℕ) → IsInRun tags name k → IsInRun tags_after name k
     in_run_stays name k r = record {
@@ -127,7 +127,7 @@ module _ (es : List Entry) (tags numbers : List ℕ) (crowded : BTreeMap (Bor (L
 
     noted_stays : (name : List ℕ) (i : ℕ) → IsNoted tags numbers name i → IsNoted tags_after numbers_after name i
     noted_stays name i n =
-        let taken : IsTaken tags n.at = λ bad. let zero : tag_of (hash_of name) ≡ 0 = sym n.tag ∙ bad in absurd (omega (arith, zero)) in
+        let taken : IsTaken tags n.at = λ bad. let zero : hash_tag (hash_of name) ≡ 0 = sym n.tag ∙ bad in absurd (omega (arith, zero)) in
         let other = taken_apart n.at taken in
         record { at = n.at; run = in_run_stays name n.at n.run; tag = tag_there n.at other ∙ n.tag; number = number_there n.at other ∙ n.number }
 
@@ -148,9 +148,9 @@ module _ (es : List Entry) (tags numbers : List ℕ) (crowded : BTreeMap (Bor (L
 
     pub index_noted : IsIndex (es ++ e ∷ []) tags_after numbers_after crowded
     index_noted = record {
-      room = omega (arith, length-set tags at (tag_of (hash_of e.name.now)), index.room);
-      few = omega (arith, length-set tags at (tag_of (hash_of e.name.now)), index.few);
-      same_length = length-set numbers at (length es) ∙ index.same_length ∙ sym (length-set tags at (tag_of (hash_of e.name.now)));
+      room = omega (arith, length-set tags at (hash_tag (hash_of e.name.now)), index.room);
+      few = omega (arith, length-set tags at (hash_tag (hash_of e.name.now)), index.few);
+      same_length = length-set numbers at (length es) ∙ index.same_length ∙ sym (length-set tags at (hash_tag (hash_of e.name.now)));
       taken = λ k taken. elim (cases_lt k at) [
         | inl less ↦ taken_there k taken (λ same. absurd (omega (arith, same, less)))
         | inr le ↦ elim (cases_lt at k) [
@@ -171,7 +171,7 @@ module _ (es : List Entry) (tags numbers : List ℕ) (crowded : BTreeMap (Bor (L
 
   -- ---- the new name is crowded
 
-  module _ (full : AreTaken tags e.name.now (first_for tags e.name.now + run)) (after : BTreeMap (Bor (List ℕ)) ℕ)
+  module _ (full : AreTaken tags e.name.now (first_for tags e.name.now + bucket_run)) (after : BTreeMap (Bor (List ℕ)) ℕ)
       (updates : UpdatesBy (λ x y. slice_cmp nat_cmp x.now y.now) (λ k. slice_cmp nat_cmp e.name.now k.now) crowded after (Some (length es))) where
     at_name : (q : List ℕ) → crowded_at after q ≡ cond (bytes_eq e.name.now q) (Some (length es)) (crowded_at crowded q)
     at_name q = btree_map_updates_str e.name.now crowded after (Some (length es)) updates q

@@ -9,7 +9,7 @@ use Rattle.text.specs.Label.{labels_of}
 use Rattle.isa.specs.declared.listing.fault.FaultKind.{FaultKind}
 use Rattle.isa.specs.declared.listing.table.Entry.{Entry}
 use Rattle.isa.specs.Buckets.{pair, found}
-use Rattle.isa.specs.Listing.{is_double, at}
+use Rattle.isa.specs.Listing.{is_double, labels_at}
 use Rattle.isa.specs.Late.{Mark, mark, pairs, marks, double_line, or_other}
 
 -- a name behind pairs without it, and another name
@@ -38,7 +38,7 @@ pub pairs_of_entries : (es : List Entry) → pairs (map mark es) ≡ map pair es
 pairs_of_entries [] = refl
 pairs_of_entries (e ∷ es) = ap (λ (ps : List (List ℕ × ℕ)). pair e ∷ ps) (pairs_of_entries es)
 
-pub pairs_of_marks : (n a : ℕ) (names : List (List ℕ)) → pairs (marks n a names) ≡ at a names
+pub pairs_of_marks : (n a : ℕ) (names : List (List ℕ)) → pairs (marks n a names) ≡ labels_at a names
 pairs_of_marks n a [] = refl
 pairs_of_marks n a (x ∷ xs) = ap (λ (ps : List (List ℕ × ℕ)). (x, a) ∷ ps) (pairs_of_marks n a xs)
 

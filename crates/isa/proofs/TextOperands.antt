@@ -6,7 +6,7 @@ use Rattle.std.specs.Fmt.{digits}
 use Rattle.std.specs.List.{list_all}
 use Rattle.std.proofs.lemmas.Bool.{ne_eqb, cases_lt, and_parts}
 use Rattle.std.proofs.lemmas.Bool.Decides.{nat_tests}
-use Rattle.text.specs.Cut.{after}
+use Rattle.text.specs.Cut.{after_byte}
 use Rattle.text.specs.Name.{is_name, goes_on_name}
 use Rattle.text.specs.Number.{numeral, decimal, decimal_in}
 use Rattle.text.specs.Operand.{parenthesized, before_close}
@@ -109,7 +109,7 @@ label_of n = rw (label_is_name n) refl
 not_open : (b : ℕ) → signed_byte b ≡ true → (b == 40) ≡ false
 not_open b h = grind (arith, nat_tests)
 
-after_open : (xs ys : List ℕ) → Of signed_byte xs → after 40 (xs ++ 40 ∷ ys) ≡ Some ys
+after_open : (xs ys : List ℕ) → Of signed_byte xs → after_byte 40 (xs ++ 40 ∷ ys) ≡ Some ys
 after_open [] ys h = refl
 after_open (x ∷ xs) ys h = rw (not_open x h.0) (after_open xs ys h.1)
 

@@ -16,8 +16,8 @@ use Rattle.instructions.specs.Instruction.{instr_with}
 use Rattle.isa.specs.Forms.{is_operation, form_with, form_of}
 use Rattle.isa.specs.Statement.{Parsed, bare, is_word, instruction, with_operands, statement, filled, gives_code}
 use Rattle.isa.specs.Listing.{read, labels}
-use Rattle.isa.specs.Wording.{word_of, slots_of}
-use Rattle.isa.specs.InstrText.{operand_text, with_operands_text, is_nop, text_of, said_of, StandsFor, IsWritable, TextIsReadBack}
+use Rattle.isa.specs.Wording.{operation_word, slots_of}
+use Rattle.isa.specs.InstrText.{operand_text, with_operands_text, is_nop, text_of, said_of, ReadsAs, IsWritable, TextIsReadBack}
 use Rattle.isa.proofs.Statements.{instruction_ok, statement_is}
 use Rattle.isa.proofs.TextBytes.{Of, of_all, of_append, of_other, inner, inner_no_blank, IsPart, part_of, part_starts, part_ends, AreParts, Starts, Ends, ends_behind, joined_ends, some_length}
 use Rattle.isa.proofs.TextBytes.{trim_end_whole, before_at, after_at, before_whole, after_whole, split_whole, operands_joined}
@@ -25,20 +25,20 @@ use Rattle.isa.proofs.TextOperands.{filled_of, parts_are}
 
 -- ---- words
 
-form_is : (op : Op) → form_of (word_of op) (length (slots_of op)) ≡ Ok (word_of op, (op, slots_of op))
+form_is : (op : Op) → form_of (operation_word op) (length (slots_of op)) ≡ Ok (operation_word op, (op, slots_of op))
 unfolding is_operation form_with
 form_is Addu = refl
 form_is op = refl
 
-word_part : (op : Op) → IsPart (word_of op)
+word_part : (op : Op) → IsPart (operation_word op)
 word_part Addu = of_all inner (codes "addu") refl
-word_part op = of_all inner (word_of op) refl
+word_part op = of_all inner (operation_word op) refl
 
-no_space : (op : Op) → is_word (codes ".space") (word_of op) ≡ false
+no_space : (op : Op) → is_word (codes ".space") (operation_word op) ≡ false
 no_space Addu = refl
 no_space op = refl
 
-no_data : (op : Op) → is_word (codes ".word") (word_of op) ≡ false
+no_data : (op : Op) → is_word (codes ".word") (operation_word op) ≡ false
 no_data Addu = refl
 no_data op = refl
 
@@ -148,7 +148,7 @@ nop_code : IsCode (codes "nop")
 nop_code = record { bytes = (refl, (refl, (refl, tt))); starts = refl; ends = refl }
 
 nop_stands : (op : Op) (target first second number : ℕ) → is_nop (instr_with op target first second number) ≡ true
-    → IsWritable (instr_with op target first second number) → StandsFor nothing (instr_with op target first second number)
+    → IsWritable (instr_with op target first second number) → ReadsAs nothing (instr_with op target first second number)
 nop_stands Sll target first second number h w =
     let one = and_parts (target == 0) _ h in
     let two = and_parts (first == 0) (number == 0) one.1 in
@@ -160,19 +160,19 @@ nop_stands Sll target first second number h w =
 nop_stands op target first second number h w = absurd (cc)
 
 module _ (naming : Naming) (i : Instr) (w : IsWritable i) where
-  instruction_is : instruction (word_of i.op) (map (λ s. operand_text naming s i) (slots_of i.op)) ≡ Ok (said_of i)
+  instruction_is : instruction (operation_word i.op) (map (λ s. operand_text naming s i) (slots_of i.op)) ≡ Ok (said_of i)
   unfolding instruction
   instruction_is =
       rw (length-map (slots_of i.op) (λ s. operand_text naming s i), form_is i.op)
       (filled_of naming i (slots_of i.op) (record { instr = bare i.op; label = None }) w.fits)
 
-  whole_statement : statement (with_operands_text (word_of i.op) (map (λ s. operand_text naming s i) (slots_of i.op))) ≡ gives_code (said_of i)
+  whole_statement : statement (with_operands_text (operation_word i.op) (map (λ s. operand_text naming s i) (slots_of i.op))) ≡ gives_code (said_of i)
   whole_statement =
-      blank_behind (word_of i.op) (map (λ s. operand_text naming s i) (slots_of i.op)) (word_part i.op) (parts_are naming i (slots_of i.op) w.fits)
-      ∙ instruction_ok (word_of i.op) (map (λ s. operand_text naming s i) (slots_of i.op)) (no_space i.op) (no_data i.op) (said_of i) instruction_is
+      blank_behind (operation_word i.op) (map (λ s. operand_text naming s i) (slots_of i.op)) (word_part i.op) (parts_are naming i (slots_of i.op) w.fits)
+      ∙ instruction_ok (operation_word i.op) (map (λ s. operand_text naming s i) (slots_of i.op)) (no_space i.op) (no_data i.op) (said_of i) instruction_is
 
-  whole_code : IsCode (with_operands_text (word_of i.op) (map (λ s. operand_text naming s i) (slots_of i.op)))
-  whole_code = with_operands_code (word_of i.op) (map (λ s. operand_text naming s i) (slots_of i.op)) (word_part i.op) (parts_are naming i (slots_of i.op) w.fits)
+  whole_code : IsCode (with_operands_text (operation_word i.op) (map (λ s. operand_text naming s i) (slots_of i.op)))
+  whole_code = with_operands_code (operation_word i.op) (map (λ s. operand_text naming s i) (slots_of i.op)) (word_part i.op) (parts_are naming i (slots_of i.op) w.fits)
 
   pub text_code : IsCode (text_of naming i)
   text_code = elim (cases_Bool (is_nop i)) [
@@ -190,7 +190,7 @@ text_spoken naming i w = elim (cases_Bool (is_nop i)) [
   | inr other ↦ rw other (whole_statement naming i w)
 ]
 
-pub spoken_stands : (i : Instr) → IsWritable i → StandsFor (spoken i) i
+pub spoken_stands : (i : Instr) → IsWritable i → ReadsAs (spoken i) i
 spoken_stands i w = elim (cases_Bool (is_nop i)) [
   | inl nop ↦ rw nop (nop_stands i.op i.target i.first i.second i.number nop w)
   | inr other ↦ rw other w.whole

@@ -8,8 +8,8 @@ use Rattle.isa.specs.declared.listing.fault.FaultKind.{FaultKind}
 use Rattle.isa.specs.declared.listing.fault.FaultKind.TheVariants.{TooLong}
 use Rattle.isa.specs.declared.listing.line.Target.{Target}
 use Rattle.isa.specs.Listing.{Lines, table, numbered, memory, fault_in, fault_at, first_fault, resolved, with_bytes, listing}
-use Rattle.isa.specs.Late.{Mark, pairs, double_line, or_other, IsLate}
-use Rattle.isa.specs.Held.{IsRead, IsReadLine, IsFaultLine, AreRead, rows}
+use Rattle.isa.specs.Late.{Mark, pairs, double_line, or_other, IsLateLine}
+use Rattle.isa.specs.Held.{IsRead, IsReadLine, IsFaultLine, LinesAreRead, rows}
 use Rattle.isa.proofs.LabelTable.{double_append}
 
 -- the lines before, which have no fault but for a label that stands twice, and those that are left
@@ -21,7 +21,7 @@ pub record LinesSoFar (held : List Mark) (code : List Instr) (ts : List Target) 
   pub whole : before ++ left ≡ all
 
 -- what one more line adds to the faults
-fault_more : (before : Lines) (line : List ℕ) (n : ℕ) (old new : List Mark) (f : Option FaultKind) → IsLate before line n old new f → (others : Option (ℕ × FaultKind))
+fault_more : (before : Lines) (line : List ℕ) (n : ℕ) (old new : List Mark) (f : Option FaultKind) → IsLateLine before line n old new f → (others : Option (ℕ × FaultKind))
     → or_other (double_line [] new) (fault_at n f others) ≡ or_other (double_line [] old) (fault_at n (fault_in before line) others)
 fault_more before line n old new f late others =
     ap (λ (ms : List Mark). or_other (double_line [] ms) (fault_at n f others)) late.grown ∙ double_append [] old late.added (fault_at n f others)
@@ -62,7 +62,7 @@ module _ (held : List Mark) (code : List Instr) (ts : List Target) (bytes : List
       ap (λ (k : ℕ). or_other (double_line [] held) (fault_at k (fault_in so_far.before one.line) (first_fault (so_far.before ++ one.line ∷ []) one.others))) place ∙ fault in
       fault_more so_far.before one.line (number + 1) held held' (Some k) one.late (first_fault (so_far.before ++ one.line ∷ []) one.others) ∙ at_number
 
-  pub so_far_done : left ≡ [] → AreRead all held code ts bytes
+  pub so_far_done : left ≡ [] → LinesAreRead all held code ts bytes
   unfolding first_fault
   so_far_done is =
       let whole : so_far.before ++ [] ≡ all = rw is at so_far.whole in
@@ -99,7 +99,7 @@ listing_fault bytes f le e = rw (le-ltb 4194304 (length bytes) le, e) refl
 
 -- no label stands twice
 pub listing_done : (text : List ℕ) (held : List Mark) (labels : List (List ℕ × ℕ)) (code : List Instr) (ts : List Target) (bytes : List ℕ)
-    (r : Result (List Instr) (ℕ × FaultKind)) → length text ≤ 4194304 → AreRead (lines_of text) held code ts bytes → double_line [] held ≡ None
+    (r : Result (List Instr) (ℕ × FaultKind)) → length text ≤ 4194304 → LinesAreRead (lines_of text) held code ts bytes → double_line [] held ≡ None
     → labels ≡ pairs held → resolved labels (rows code ts) ≡ r → listing text ≡ with_bytes bytes r
 unfolding listing
 listing_done text held labels code ts bytes r le are single same all =

@@ -11,7 +11,7 @@ use Rattle.std.specs.Str.{bytes_eq}
 use Rattle.isa.specs.declared.listing.table.Entry.{Entry}
 use Rattle.isa.specs.declared.listing.table.Place.{Place}
 use Rattle.isa.specs.declared.listing.table.Place.TheVariants.{Known, Free, Full}
-use Rattle.isa.specs.NameHash.{hash_of, start_of, tag_of}
+use Rattle.isa.specs.NameHash.{hash_of, start_of, hash_tag}
 
 -- ---- entries
 
@@ -20,14 +20,14 @@ abbrev pub pair : Entry → List ℕ × ℕ
 pair e = (e.name.now, e.address)
 
 -- entry i
-abbrev pub entry_at : List Entry → ℕ → Entry
-entry_at es i =
+abbrev pub label_entry : List Entry → ℕ → Entry
+label_entry es i =
     slice_index_or es i
     (record { name = record { ref_ptr = (0, 0); now = [] }; address = 0; line = 0 })
 
 -- the name of entry i
 abbrev pub name_at : List Entry → ℕ → List ℕ
-name_at es i = (entry_at es i).name.now
+name_at es i = (label_entry es i).name.now
 
 -- the address of a name, by the first entry that has it
 abbrev pub found : List Entry → List ℕ → Option ℕ
@@ -36,8 +36,8 @@ found es name = lookup (λ k. bytes_eq k name) (map pair es)
 -- ---- buckets
 
 -- in how many buckets, one behind the other, a name may be noted
-abbrev pub run : ℕ
-run = 16
+abbrev pub bucket_run : ℕ
+bucket_run = 16
 
 -- bucket k has an entry: its tag is not 0
 abbrev pub IsTaken : List ℕ → ℕ → Type 0
@@ -45,7 +45,7 @@ IsTaken tags k = slice_index tags k ≢ 0
 
 -- the first bucket where a name may be noted
 abbrev pub first_for : List ℕ → List ℕ → ℕ
-first_for tags name = start_of (hash_of name) (length tags - run)
+first_for tags name = start_of (hash_of name) (length tags - bucket_run)
 
 -- the buckets for a name are taken, up to bucket k
 abbrev pub AreTaken : List ℕ → List ℕ → ℕ → Type 0
@@ -54,7 +54,7 @@ AreTaken tags name k = (j : ℕ) → first_for tags name ≤ j → j < k → IsT
 -- bucket k is one of those where a name may be noted, behind taken ones
 pub record IsInRun (tags : List ℕ) (name : List ℕ) (k : ℕ) : Type 0 where
   pub low : first_for tags name ≤ k
-  pub high : k < first_for tags name + run
+  pub high : k < first_for tags name + bucket_run
   pub behind : AreTaken tags name k
 
 -- ---- names in the order of their bytes
@@ -69,19 +69,19 @@ crowded_at crowded name = get_by (λ k. slice_cmp nat_cmp name k.now) crowded
 pub record IsNoted (tags numbers : List ℕ) (name : List ℕ) (i : ℕ) : Type 0 where
   pub at : ℕ
   pub run : IsInRun tags name at
-  pub tag : slice_index tags at ≡ tag_of (hash_of name)
+  pub tag : slice_index tags at ≡ hash_tag (hash_of name)
   pub number : slice_index numbers at ≡ i
 
 -- the buckets of a name are taken, and its order tells that entry i has it
 pub record IsCrowded (tags : List ℕ) (crowded : BTreeMap (Bor (List ℕ)) ℕ) (name : List ℕ) (i : ℕ)
     : Type 0 where
-  pub full : AreTaken tags name (first_for tags name + run)
+  pub full : AreTaken tags name (first_for tags name + bucket_run)
   pub is : crowded_at crowded name ≡ Some i
 
 -- Each entry is noted or crowded under its name, no two have one name, and nothing else is noted.
 pub record IsIndex (es : List Entry) (tags numbers : List ℕ)
     (crowded : BTreeMap (Bor (List ℕ)) ℕ) : Type 0 where
-  pub room : run ≤ length tags
+  pub room : bucket_run ≤ length tags
   pub few : length tags < 2 ^ 32
   pub same_length : length numbers ≡ length tags
   pub taken : (k : ℕ) → IsTaken tags k → slice_index numbers k < length es
@@ -89,14 +89,14 @@ pub record IsIndex (es : List Entry) (tags numbers : List ℕ)
       → (i < length es) × (name_at es i ≡ name)
   pub noted : (i : ℕ) → i < length es
       → IsNoted tags numbers (name_at es i) i ⊎ IsCrowded tags crowded (name_at es i) i
-  pub single : (i : ℕ) → i < length es → found es (name_at es i) ≡ Some (entry_at es i).address
+  pub single : (i : ℕ) → i < length es → found es (name_at es i) ≡ Some (label_entry es i).address
 
 -- what is told of a name
-abbrev pub IsPlace : List Entry → List ℕ → BTreeMap (Bor (List ℕ)) ℕ → List ℕ → Place → Type 0
-IsPlace es tags crowded name (Known i) =
-    (i < length es) × (found es name ≡ Some (entry_at es i).address)
-IsPlace es tags crowded name (Free k) =
+abbrev pub IsNamePlace : List Entry → List ℕ → BTreeMap (Bor (List ℕ)) ℕ → List ℕ → Place → Type 0
+IsNamePlace es tags crowded name (Known i) =
+    (i < length es) × (found es name ≡ Some (label_entry es i).address)
+IsNamePlace es tags crowded name (Free k) =
     (found es name ≡ None) × (IsInRun tags name k × (slice_index tags k ≡ 0))
-IsPlace es tags crowded name Full =
+IsNamePlace es tags crowded name Full =
     (found es name ≡ None)
-    × (AreTaken tags name (first_for tags name + run) × (crowded_at crowded name ≡ None))
+    × (AreTaken tags name (first_for tags name + bucket_run) × (crowded_at crowded name ≡ None))

@@ -7,7 +7,7 @@ use Rattle.std.specs.Option.{option_map}
 use Rattle.isa.specs.Statement.{Parsed, Line}
 use Rattle.text.specs.Line.{lines_of, lines_left}
 use Rattle.isa.specs.Listing.{Lines, table, numbered, memory, first_fault}
-use Rattle.isa.specs.Late.{Mark, IsLate, pairs, double_line, or_other}
+use Rattle.isa.specs.Late.{Mark, IsLateLine, pairs, double_line, or_other}
 
 -- the label that an instruction names
 abbrev pub name_of : Target → Option (List ℕ)
@@ -46,7 +46,7 @@ pub record IsReadLine (before : Lines) (text : List ℕ) (rest : Option (List �
     (old new : List Mark) (code : List Instr) (ts : List Target) (bytes : List ℕ) : Type 0 where
   pub line : List ℕ
   pub lines : lines_of text ≡ line ∷ lines_left rest
-  pub late : IsLate before line n old new None
+  pub late : IsLateLine before line n old new None
   pub read : IsRead (before ++ line ∷ []) (pairs new) code ts bytes
 
 -- the first line of a text has this fault, or a label that stands twice
@@ -55,10 +55,10 @@ pub record IsFaultLine (before : Lines) (text : List ℕ) (n : ℕ) (old new : L
   pub line : List ℕ
   pub others : Lines
   pub lines : lines_of text ≡ line ∷ others
-  pub late : IsLate before line n old new (Some kind)
+  pub late : IsLateLine before line n old new (Some kind)
 
 -- what is held of lines that have no fault but for a label that stands twice
-pub record AreRead (ls : Lines) (held : List Mark) (code : List Instr) (ts : List Target)
+pub record LinesAreRead (ls : Lines) (held : List Mark) (code : List Instr) (ts : List Target)
     (bytes : List ℕ) : Type 0 where
   pub fault : or_other (double_line [] held) None ≡ first_fault [] ls
   pub read : IsRead ls (pairs held) code ts bytes

@@ -12,9 +12,9 @@ use Rattle.isa.specs.declared.listing.instr_text.Naming.{Naming}
 use Rattle.isa.specs.declared.listing.instr_text.Naming.TheVariants.{Numbers, Names}
 use Rattle.instructions.specs.Registers.{general_count}
 use Rattle.isa.specs.Report.{hex8}
-use Rattle.isa.specs.Statement.{Parsed, bare, gives_code, with_target, with_first, with_second, with_number, with_label}
+use Rattle.isa.specs.Statement.{Parsed, bare, gives_code, with_target, with_first_source, with_second_source, with_number, with_label}
 use Rattle.isa.specs.Listing.{read, labels}
-use Rattle.isa.specs.Wording.{word_of, slots_of}
+use Rattle.isa.specs.Wording.{operation_word, slots_of}
 
 -- ---- registers and numbers
 
@@ -37,6 +37,7 @@ abbrev pub register_word : Naming → ℕ → List ℕ
 register_word Numbers r = decimal r
 register_word Names r = name_or r (slice_get names r)
 
+-- a register as an operand
 abbrev pub register_text : Naming → ℕ → List ℕ
 register_text naming r = codes "$" ++ register_word naming r
 
@@ -50,6 +51,7 @@ label_text address = codes "L" ++ hex8 address
 
 -- ---- instructions
 
+-- an operand of an instruction
 abbrev pub operand_text : Naming → Slot → Instr → List ℕ
 operand_text naming Into i = register_text naming i.target
 operand_text naming First i = register_text naming i.first
@@ -71,6 +73,7 @@ abbrev pub is_nop_by : Op → Instr → Bool
 is_nop_by Sll i = (i.target == 0) && ((i.first == 0) && (i.number == 0))
 is_nop_by op i = false
 
+-- an instruction that is written as `nop`
 abbrev pub is_nop : Instr → Bool
 is_nop i = is_nop_by i.op i
 
@@ -78,7 +81,7 @@ is_nop i = is_nop_by i.op i
 abbrev pub text_of : Naming → Instr → List ℕ
 text_of naming i =
     if is_nop i then codes "nop"
-    else with_operands_text (word_of i.op) (map (λ s. operand_text naming s i) (slots_of i.op))
+    else with_operands_text (operation_word i.op) (map (λ s. operand_text naming s i) (slots_of i.op))
 
 -- with registers by their numbers
 abbrev pub instr_text : Instr → List ℕ
@@ -101,6 +104,7 @@ Fits i U5 = i.number ≤ 31
 Fits i Label = i.number < 2 ^ 32
 Fits i Offset = IsSignedHalf i.number × (i.first < general_count)
 
+-- each of these operands says what the instruction has there
 abbrev pub AllFit : Instr → List Slot → Type 0
 AllFit i [] = ⊤
 AllFit i (s ∷ ss) = Fits i s × AllFit i ss
@@ -108,14 +112,15 @@ AllFit i (s ∷ ss) = Fits i s × AllFit i ss
 -- an instruction with what one operand says
 abbrev pub with_slot : Instr → Slot → Parsed → Parsed
 with_slot i Into p = with_target i.target p
-with_slot i First p = with_first i.first p
-with_slot i Second p = with_second i.second p
+with_slot i First p = with_first_source i.first p
+with_slot i Second p = with_second_source i.second p
 with_slot i S16 p = with_number i.number p
 with_slot i U16 p = with_number i.number p
 with_slot i U5 p = with_number i.number p
 with_slot i Label p = with_label (label_text i.number) p
-with_slot i Offset p = with_first i.first (with_number i.number p)
+with_slot i Offset p = with_first_source i.first (with_number i.number p)
 
+-- an instruction with what these operands say, from the left
 abbrev pub with_slots : Instr → List Slot → Parsed → Parsed
 with_slots i [] p = p
 with_slots i (s ∷ ss) p = with_slots i ss (with_slot i s p)
@@ -125,19 +130,20 @@ abbrev pub said_of : Instr → Parsed
 said_of i = with_slots i (slots_of i.op) (record { instr = bare i.op; label = None })
 
 -- an instruction as it was read is this one, where its label stands for the address in its name
-abbrev pub StandsForBy : Option (List ℕ) → Instr → Instr → Type 0
-StandsForBy None found i = found ≡ i
-StandsForBy (Some name) found i =
+abbrev pub ReadsAsBy : Option (List ℕ) → Instr → Instr → Type 0
+ReadsAsBy None found i = found ≡ i
+ReadsAsBy (Some name) found i =
     (name ≡ label_text i.number) × (record found { number = i.number } ≡ i)
 
-abbrev pub StandsFor : Parsed → Instr → Type 0
-StandsFor p i = StandsForBy p.label p.instr i
+-- an instruction with its label, as it was read, is this one
+abbrev pub ReadsAs : Parsed → Instr → Type 0
+ReadsAs p i = ReadsAsBy p.label p.instr i
 
 -- A listing can write an instruction: each operand says what the instruction has there, and what
 -- has no operand is as the operation implies it.
 pub record IsWritable (i : Instr) : Type 0 where
   pub fits : AllFit i (slots_of i.op)
-  pub whole : StandsFor (said_of i) i
+  pub whole : ReadsAs (said_of i) i
 
 -- ---- reading it back
 
@@ -145,7 +151,7 @@ pub record IsWritable (i : Instr) : Type 0 where
 pub record Says (line : List ℕ) (i : Instr) : Type 0 where
   pub parsed : Parsed
   pub is : read line ≡ gives_code parsed
-  pub stands : StandsFor parsed i
+  pub stands : ReadsAs parsed i
   pub bare_line : labels line ≡ []
 
 -- The text of each instruction that a listing can write is read as that instruction, also behind

@@ -38,7 +38,7 @@ or_other (Some n) other = Some (n, DoubleLabel)
 
 -- Line n was read, whose fault other than a label that stands twice is f: its labels are added, and
 -- they and f tell its fault.
-pub record IsLate (before : Lines) (line : List ℕ) (n : ℕ) (old new : List Mark)
+pub record IsLateLine (before : Lines) (line : List ℕ) (n : ℕ) (old new : List Mark)
     (f : Option FaultKind) : Type 0 where
   pub added : List Mark
   pub grown : new ≡ old ++ added

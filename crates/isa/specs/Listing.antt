@@ -39,14 +39,14 @@ abbrev pub Lines : Type 0
 Lines = List (List ℕ)
 
 -- names, each with the same address
-abbrev pub at : ℕ → List (List ℕ) → List (List ℕ × ℕ)
-at a names = map (λ x. (x, a)) names
+abbrev pub labels_at : ℕ → List (List ℕ) → List (List ℕ × ℕ)
+labels_at a names = map (λ x. (x, a)) names
 
 -- the labels of lines, each with the address of the next instruction, the first of which is number
 -- n
 unfoldable pub table : ℕ → Lines → List (List ℕ × ℕ)
 table n [] = []
-table n (l ∷ ls) = at (address n) (labels l) ++ table (n + length (code_in (read l))) ls
+table n (l ∷ ls) = labels_at (address n) (labels l) ++ table (n + length (code_in (read l))) ls
 
 -- the instructions of lines, each with the number of its line, the first of which is n
 unfoldable pub numbered : ℕ → Lines → List (ℕ × Parsed)
@@ -58,8 +58,8 @@ unfoldable pub memory : Lines → List ℕ
 memory ls = flat_map (λ l. bytes_in (read l)) ls
 
 -- how many instructions lines have
-abbrev pub how_many : Lines → ℕ
-how_many ls = length (numbered 1 ls)
+abbrev pub instruction_count : Lines → ℕ
+instruction_count ls = length (numbered 1 ls)
 
 -- ---- the first fault
 
@@ -80,9 +80,9 @@ fault_of n m (Err k) = Some k
 unfoldable pub fault_in : Lines → List ℕ → Option FaultKind
 fault_in before line =
     if not (is_plain_text (before_comment line)) then Some NotAscii
-    else (if is_double (address (how_many before)) (table 0 before) (labels line)
+    else (if is_double (address (instruction_count before)) (table 0 before) (labels line)
     then Some DoubleLabel
-    else fault_of (how_many before) (length (memory before)) (read line))
+    else fault_of (instruction_count before) (length (memory before)) (read line))
 
 -- the fault of line n, or that of the lines behind it
 abbrev pub fault_at : ℕ → Option FaultKind → Option (ℕ × FaultKind) → Option (ℕ × FaultKind)

@@ -11,5 +11,5 @@ abbrev pub start_of : ℕ → ℕ → ℕ
 start_of hash last = hash % 2 ^ 32 * last / 2 ^ 32
 
 -- what a bucket has of a hash, a byte that is not 0
-abbrev pub tag_of : ℕ → ℕ
-tag_of hash = hash / 2 ^ 32 % 255 + 1
+abbrev pub hash_tag : ℕ → ℕ
+hash_tag hash = hash / 2 ^ 32 % 255 + 1

@@ -57,12 +57,12 @@ abbrev pub with_target : ℕ → Parsed → Parsed
 with_target r p = record { instr = record p.instr { target = r }; label = p.label }
 
 -- an instruction with the register of source 1
-abbrev pub with_first : ℕ → Parsed → Parsed
-with_first r p = record { instr = record p.instr { first = r }; label = p.label }
+abbrev pub with_first_source : ℕ → Parsed → Parsed
+with_first_source r p = record { instr = record p.instr { first = r }; label = p.label }
 
 -- an instruction with the register of source 2
-abbrev pub with_second : ℕ → Parsed → Parsed
-with_second r p = record { instr = record p.instr { second = r }; label = p.label }
+abbrev pub with_second_source : ℕ → Parsed → Parsed
+with_second_source r p = record { instr = record p.instr { second = r }; label = p.label }
 
 -- an instruction with its number
 abbrev pub with_number : ℕ → Parsed → Parsed
@@ -75,13 +75,13 @@ with_label name p = record { instr = p.instr; label = Some name }
 -- an instruction with one more operand
 unfoldable pub fill : Slot → List ℕ → Parsed → Result Parsed FaultKind
 fill Into text p = register text >>= λ r. Ok (with_target r p)
-fill First text p = register text >>= λ r. Ok (with_first r p)
-fill Second text p = register text >>= λ r. Ok (with_second r p)
+fill First text p = register text >>= λ r. Ok (with_first_source r p)
+fill Second text p = register text >>= λ r. Ok (with_second_source r p)
 fill S16 text p = signed_half text >>= λ n. Ok (with_number n p)
 fill U16 text p = number 0 65535 text >>= λ n. Ok (with_number n p)
 fill U5 text p = number 0 31 text >>= λ n. Ok (with_number n p)
 fill Label text p = label text >>= λ name. Ok (with_label name p)
-fill Offset text p = offset_and_register text >>= λ a. Ok (with_first a.1 (with_number a.0 p))
+fill Offset text p = offset_and_register text >>= λ a. Ok (with_first_source a.1 (with_number a.0 p))
 
 -- with all operands, from the left
 unfoldable pub filled : List Slot → List (List ℕ) → Parsed → Result Parsed FaultKind
@@ -149,8 +149,8 @@ statement text =
 -- ---- what the code holds
 
 -- an instruction with its label, as the code holds it
-abbrev pub view : Draft → Parsed
-view d = record { instr = d.instr; label = option_map (λ t. t.now) d.label }
+abbrev pub draft_view : Draft → Parsed
+draft_view d = record { instr = d.instr; label = option_map (λ t. t.now) d.label }
 
 -- the instructions of a statement that has one or none
 abbrev pub code_if : Bool → Parsed → List Parsed

@@ -3,7 +3,7 @@ ghost use Rattle.std.specs.Prelude.{◌≡◌, ◌≢◌, ◌≤◌, ◌/◌, �
 ghost use Rattle.text.specs.Line.{lines_of};
 ghost use Rattle.isa.specs.Listing.{resolve_number, resolved, first_fault, listing};
 ghost use Rattle.isa.specs.Late.{mark, pairs, double_line, or_other};
-ghost use Rattle.isa.specs.Held.{name_of, rows, AreRead};
+ghost use Rattle.isa.specs.Held.{name_of, rows, LinesAreRead};
 
 mod directive;
 mod fault;
@@ -108,7 +108,7 @@ fn read_lines<'a>(
     ensures small_code { OnOk result (length code.new.items ≤ 16384) }
     ensures small_memory { OnOk result (length memory.new.items ≤ 65536) }
     ensures aligned { OnOk result (length memory.new.items % 4 ≡ 0) }
-    ensures ok { OnOk result (AreRead (lines_of bytes.entry.now) (map mark labels.new.items)
+    ensures ok { OnOk result (LinesAreRead (lines_of bytes.entry.now) (map mark labels.new.items)
         code.new.items targets.new.items memory.new.items) }
     ensures fault { IfErr result (λ f. f.kind ≢ FaultKind.Memory
         → or_other (double_line [] (map mark labels.new.items)) (Some (f.line, f.kind))

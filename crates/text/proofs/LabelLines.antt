@@ -6,7 +6,7 @@ use Rattle.std.proofs.lemmas.Bool.{cases_lt, not_from_true, not_from_false, eqb-
 use Rattle.std.proofs.lemmas.List.{length-take-le, length-drop, drop_all, take-take}
 use Rattle.text.specs.Name.{goes_on_name, is_code_byte}
 use Rattle.text.specs.Label.{labels_of, statement_of, IsLabelLine}
-use Rattle.text.specs.Line.{code_of, IsFirstCode}
+use Rattle.text.specs.Line.{plain_code, IsFirstCode}
 use Rattle.text.proofs.Splits.{position_some}
 use Rattle.text.proofs.Runs.{run_passes, first_at, in_front}
 use Rattle.text.proofs.Labels.{label_first}

@@ -5,7 +5,7 @@ use Rattle.std.specs.Prelude.{nat_le}
 use Rattle.std.specs.List.{slice_split, position}
 use Rattle.std.specs.Str.Lines.{strip_carriage_return}
 use Rattle.text.specs.Name.{is_code_byte, is_plain, is_plain_text}
-use Rattle.text.specs.Line.{before_comment, code_of, IsFirstCode}
+use Rattle.text.specs.Line.{before_comment, plain_code, IsFirstCode}
 use Rattle.text.proofs.Splits.{position_some, split_whole, split_some}
 use Rattle.text.proofs.Runs.{run_passes, all_pass, pass_together, first_at, none_passes, whole_before, other_byte, in_front, front_length, strip_whole}
 
@@ -19,7 +19,7 @@ code_is_plain : (b : ℕ) → is_code_byte b ≡ true → is_plain b ≡ true
 code_is_plain b h = plain_too (eqb b 9) (nat_le 0x20 b) (nat_le b 0x7e) (not (eqb b 35)) h
 
 module _ (line : List ℕ) (each : (k : ℕ) → k < length line → is_code_byte (get_or line k 0) ≡ true) where
-  all_code : code_of line ≡ Some line
+  all_code : plain_code line ≡ Some line
   all_code =
       let whole : before_comment line ≡ line = whole_before (λ b. eqb b 35) line (λ k lt. other_byte is_code_byte 35 refl _ (each k lt)) in
       let plain : is_plain_text line ≡ true = pass_together is_plain line (λ k lt. code_is_plain (get_or line k 0) (each k lt)) in
@@ -47,7 +47,7 @@ code_first text front rest after i e feed f r a =
     record { line = front; lines = rw (split, no_return front each) refl; code_is = sym (all_code front each) }
 
 -- what the code of a line says of it
-pub code_given : (line text : List ℕ) → code_of line ≡ Some text → (text ≡ before_comment line) × (is_plain_text text ≡ true)
+pub code_given : (line text : List ℕ) → plain_code line ≡ Some text → (text ≡ before_comment line) × (is_plain_text text ≡ true)
 code_given line text e = elim (cases_Bool (is_plain_text (before_comment line))) [
   | inl plain ↦
       let some : Some (before_comment line) ≡ Some text = rw plain at e in
@@ -56,7 +56,7 @@ code_given line text e = elim (cases_Bool (is_plain_text (before_comment line)))
   | inr other ↦ let bad : None ≡ Some text = rw other at e in absurd cc
 ]
 
-pub code_none : (line : List ℕ) → code_of line ≡ None → is_plain_text (before_comment line) ≡ false
+pub code_none : (line : List ℕ) → plain_code line ≡ None → is_plain_text (before_comment line) ≡ false
 code_none line e = elim (cases_Bool (is_plain_text (before_comment line))) [
   | inl plain ↦ let bad : Some (before_comment line) ≡ None = rw plain at e in absurd cc
   | inr other ↦ other

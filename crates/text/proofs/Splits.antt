@@ -1,7 +1,7 @@
 -- A cut at a byte.
 use Rattle.std.proofs.Common.{◌≡◌, ℕ, suc, ◌+◌, ◌≤◌, ◌<◌, eqb, Bool, List, [], ◌∷◌, length, take, drop, Option, Some, None, refl, ap, ◌∙◌, arith, inl, inr}
 use Rattle.std.specs.Borrow.{Bor}
-use Rattle.text.specs.Cut.{after}
+use Rattle.text.specs.Cut.{after_byte}
 use Rattle.std.specs.Option.{option_map, IfSome}
 use Rattle.std.proofs.lemmas.Bool.{cases_lt, cases_Bool, lt-ltb, le-ltb}
 use Rattle.std.proofs.lemmas.List.Splits.{slice_split_first}
@@ -49,17 +49,17 @@ size_step None n h = omega arith
 size_step (Some r) n h = omega arith
 
 -- what stands behind a byte that is not there, and behind the first one that is
-pub after_none : (at : ℕ) (xs : List ℕ) → position (λ b. eqb b at) xs ≡ None → None ≡ after at xs
+pub after_none : (at : ℕ) (xs : List ℕ) → position (λ b. eqb b at) xs ≡ None → None ≡ after_byte at xs
 after_none at xs e = after_whole at xs (position_none (λ b. eqb b at) xs e)
   where
-    after_whole : (at : ℕ) (xs : List ℕ) → length xs ≤ position_or_len (λ b. eqb b at) xs → None ≡ after at xs
+    after_whole : (at : ℕ) (xs : List ℕ) → length xs ≤ position_or_len (λ b. eqb b at) xs → None ≡ after_byte at xs
     after_whole at [] h = refl
     after_whole at (x ∷ xs) h = elim (cases_Bool (eqb x at)) [
       | inl passes ↦ let bad : length (x ∷ xs) ≤ 0 = rw passes at h in absurd (omega arith)
       | inr fails ↦ let more : length (x ∷ xs) ≤ 1 + position_or_len (λ b. eqb b at) xs = rw fails at h in rw fails (after_whole at xs (omega arith))
     ]
 
-pub after_at : (at : ℕ) (xs : List ℕ) → position_or_len (λ b. eqb b at) xs < length xs → Some (after_first (λ b. eqb b at) xs) ≡ after at xs
+pub after_at : (at : ℕ) (xs : List ℕ) → position_or_len (λ b. eqb b at) xs < length xs → Some (after_first (λ b. eqb b at) xs) ≡ after_byte at xs
 after_at at [] h = absurd (omega arith)
 after_at at (x ∷ xs) h = elim (cases_Bool (eqb x at)) [
   | inl passes ↦ rw passes refl
@@ -70,7 +70,7 @@ after_at at (x ∷ xs) h = elim (cases_Bool (eqb x at)) [
       rw fails (ap (λ (k : ℕ). Some (drop k (x ∷ xs))) place ∙ after_at at xs (omega arith))
 ]
 
-pub after_some : (at : ℕ) (xs rest after' : List ℕ) (i : ℕ) → position (λ b. eqb b at) xs ≡ Some i → rest ≡ drop i xs → after' ≡ drop 1 rest → Some after' ≡ after at xs
+pub after_some : (at : ℕ) (xs rest after' : List ℕ) (i : ℕ) → position (λ b. eqb b at) xs ≡ Some i → rest ≡ drop i xs → after' ≡ drop 1 rest → Some after' ≡ after_byte at xs
 after_some at xs rest after' i e r a =
     let is = position_some (λ b. eqb b at) xs i e in
     let tail : after' ≡ after_first (λ b. eqb b at) xs = a ∙ ap (drop 1) r ∙ drop-drop 1 i xs ∙ ap (λ (n : ℕ). drop n xs) (omega arith) in

@@ -8,6 +8,6 @@ parts_left at None = []
 parts_left at (Some text) = slice_split (λ b. b == at) text
 
 -- what stands behind the first byte `at`, if there is one
-abbrev pub after : ℕ → List ℕ → Option (List ℕ)
-after at [] = None
-after at (b ∷ bs) = if b == at then Some bs else after at bs
+abbrev pub after_byte : ℕ → List ℕ → Option (List ℕ)
+after_byte at [] = None
+after_byte at (b ∷ bs) = if b == at then Some bs else after_byte at bs

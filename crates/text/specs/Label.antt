@@ -4,7 +4,7 @@ use Rattle.std.specs.Prelude.{◌≡◌, ℕ, ◌==◌, List, [], ◌∷◌, Som
 use Rattle.std.specs.List.{slice_split, join_with_byte}
 use Rattle.text.specs.Blank.{trim}
 use Rattle.text.specs.Name.{is_name}
-use Rattle.text.specs.Line.{lines_of, code_of}
+use Rattle.text.specs.Line.{lines_of, plain_code}
 
 -- Of the parts between colons, the names at the front are labels; the last part is none.
 abbrev pub labels_in : List (List ℕ) → List (List ℕ)
@@ -30,6 +30,6 @@ pub record IsLabelLine (text name after : List ℕ) : Type 0 where
   pub line : List ℕ
   pub code : List ℕ
   pub lines : lines_of text ≡ line ∷ lines_of after
-  pub code_is : code_of line ≡ Some code
+  pub code_is : plain_code line ≡ Some code
   pub labels_are : labels_of code ≡ name ∷ []
   pub statement_is : statement_of code ≡ []

@@ -19,11 +19,11 @@ abbrev pub before_comment : List ℕ → List ℕ
 before_comment line = before_first (λ b. b == 35) line
 
 -- the same, where each of its bytes may stand there
-abbrev pub code_of : List ℕ → Option (List ℕ)
-code_of line = if is_plain_text (before_comment line) then Some (before_comment line) else None
+abbrev pub plain_code : List ℕ → Option (List ℕ)
+plain_code line = if is_plain_text (before_comment line) then Some (before_comment line) else None
 
 -- the code of the first line of a text, and what is left behind that line
 pub record IsFirstCode (text : List ℕ) (code rest : Option (List ℕ)) : Type 0 where
   pub line : List ℕ
   pub lines : lines_of text ≡ line ∷ lines_left rest
-  pub code_is : code ≡ code_of line
+  pub code_is : code ≡ plain_code line

@@ -2,7 +2,7 @@
 use Rattle.std.specs.Prelude.{ℕ, ◌-◌, ◌==◌, ◌&&◌, not, List, [], ◌∷◌, map, length, take, slice_index, Option, Some, None, if◌then◌else◌}
 use Rattle.std.specs.List.{slice_split, before_first}
 use Rattle.text.specs.Blank.{trim}
-use Rattle.text.specs.Cut.{after}
+use Rattle.text.specs.Cut.{after_byte}
 
 -- the operands of what is left of an operand part
 abbrev pub operands_left : Option (List ℕ) → List (List ℕ)
@@ -36,4 +36,4 @@ both_trimmed front (Some inner) = Some (trim front, trim inner)
 -- What stands before the first `(`, and what stands between it and a `)` at the end. None is for an
 -- operand that has no `(`, or another last byte.
 unfoldable pub parenthesized : List ℕ → Option (List ℕ × List ℕ)
-parenthesized text = both_trimmed (before_first (λ b. b == 40) text) (before_close (after 40 text))
+parenthesized text = both_trimmed (before_first (λ b. b == 40) text) (before_close (after_byte 40 text))

@@ -3,7 +3,7 @@
 ghost use Rattle.std.specs.Prelude.{◌≡◌, ◌==◌, ◌<◌, ◌∷◌, length, IfSome, IfNone, position};
 ghost use Rattle.std.specs.List.{before_first, slice_split};
 ghost use Rattle.std.specs.Option.{option_map};
-ghost use Rattle.text.specs.Cut.{after, parts_left};
+ghost use Rattle.text.specs.Cut.{after_byte, parts_left};
 
 fn find_byte(text: &[u8], at: u8) -> Option<usize>
     ensures { result ≡ position (λ b. b == at) text.now }
@@ -16,7 +16,7 @@ pub fn cut(text: &[u8], at: u8) -> (&[u8], Option<&[u8]>)
     ensures front { result.0.now ≡ before_first (λ b. b == at) text.now }
     ensures parts { slice_split (λ b. b == at) text.now
         ≡ result.0.now ∷ parts_left at (option_map (λ r. r.now) result.1) }
-    ensures rest { option_map (λ r. r.now) result.1 ≡ after at text.now }
+    ensures rest { option_map (λ r. r.now) result.1 ≡ after_byte at text.now }
     ensures shorter { IfSome result.1 (λ r. length r.now < length text.now) }
     ensures whole { IfNone result.1 (result.0.now ≡ text.now) }
 {

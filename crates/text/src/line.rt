@@ -3,7 +3,7 @@
 ghost use Rattle.std.specs.Prelude.{◌≡◌, ◌∷◌, ◌<◌, Some, length, IfSome};
 ghost use Rattle.std.specs.Option.{option_map};
 ghost use Rattle.std.specs.Str.Lines.{strip_carriage_return};
-ghost use Rattle.text.specs.Line.{lines_of, lines_left, before_comment, code_of, IsFirstCode};
+ghost use Rattle.text.specs.Line.{lines_of, lines_left, before_comment, plain_code, IsFirstCode};
 
 use crate::cuts::cut;
 use crate::name::{end_of_code, is_plain_text};
@@ -38,7 +38,7 @@ pub fn before_comment(line: &[u8]) -> &[u8]
 }
 
 fn code_of(line: &[u8]) -> Option<&[u8]>
-    ensures { option_map (λ t. t.now) result ≡ code_of line.now }
+    ensures { option_map (λ t. t.now) result ≡ plain_code line.now }
 {
     let code = before_comment(line);
     if is_plain_text(code) {

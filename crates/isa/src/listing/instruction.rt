@@ -2,7 +2,7 @@
 ghost use Rattle.std.specs.Prelude.{◌≡◌, None, Ok, Err, OnOk, IfErr};
 ghost use Rattle.std.specs.Option.{option_map};
 ghost use Rattle.text.specs.Operand.{operands_left};
-ghost use Rattle.isa.specs.Statement.{view, bare, fill, filled, instruction};
+ghost use Rattle.isa.specs.Statement.{draft_view, bare, fill, filled, instruction};
 
 use super::fault::FaultKind;
 use super::form::{Slot, form_of};
@@ -46,7 +46,7 @@ fn bare(op: Op) -> Instr
 impl<'a> Draft<'a> {
     /// A draft of no meaning, to be filled.
     pub fn new() -> Draft<'a>
-        ensures { view result ≡ record { instr = bare Op.Break; label = None } }
+        ensures { draft_view result ≡ record { instr = bare Op.Break; label = None } }
     {
         let instr = bare(Op::Break);
         Draft { instr, label: None }
@@ -55,8 +55,9 @@ impl<'a> Draft<'a> {
 
 #[tactic(auto, unfolding(crate::specs::Statement::fill))]
 fn fill<'a>(draft: &mut Draft<'a>, slot: Slot, text: &'a [u8]) -> Result<(), FaultKind>
-    ensures ok { OnOk result (fill slot text.now (view draft.old) ≡ Ok (view draft.new)) }
-    ensures err { IfErr result (λ e. fill slot text.now (view draft.old) ≡ Err e) }
+    ensures ok { OnOk result
+        (fill slot text.now (draft_view draft.old) ≡ Ok (draft_view draft.new)) }
+    ensures err { IfErr result (λ e. fill slot text.now (draft_view draft.old) ≡ Err e) }
 {
     match slot {
         Slot::Into => draft.instr.target = register(text)?,
@@ -81,11 +82,11 @@ fn fill_all<'a>(
     part: Option<&'a [u8]>,
 ) -> Result<(), FaultKind>
     ensures ok { OnOk result
-        (filled slots.now (operands_left (option_map (λ t. t.now) part.entry)) (view draft.old)
-        ≡ Ok (view draft.new)) }
+        (filled slots.now (operands_left (option_map (λ t. t.now) part.entry))
+        (draft_view draft.old) ≡ Ok (draft_view draft.new)) }
     ensures err { IfErr result (λ e.
-        filled slots.now (operands_left (option_map (λ t. t.now) part.entry)) (view draft.old)
-        ≡ Err e) }
+        filled slots.now (operands_left (option_map (λ t. t.now) part.entry))
+        (draft_view draft.old) ≡ Err e) }
 {
     let mut rest = part;
     for slot in slots {
@@ -106,7 +107,7 @@ pub fn instruction<'a>(
 ) -> Result<(), FaultKind>
     ensures ok { OnOk result
         (instruction word.now (operands_left (option_map (λ t. t.now) part.entry))
-        ≡ Ok (view draft.new)) }
+        ≡ Ok (draft_view draft.new)) }
     ensures err { IfErr result (λ e.
         instruction word.now (operands_left (option_map (λ t. t.now) part.entry)) ≡ Err e) }
 {

@@ -1,9 +1,9 @@
 //! One line behind the lines before it.
 ghost use Rattle.std.specs.Prelude.{◌≡◌, ◌≢◌, ◌+◌, ◌≤◌, ◌%◌, ◌∷◌, ◌++◌, [], ◌<◌, None, Some, ℕ, List, length, map, OnOk, IfOk, IfErr, IfSome};
 ghost use Rattle.std.specs.Option.{option_map};
-ghost use Rattle.text.specs.Line.{code_of};
+ghost use Rattle.text.specs.Line.{plain_code};
 ghost use Rattle.isa.specs.Listing.{Lines};
-ghost use Rattle.isa.specs.Late.{IsLate, mark, pairs};
+ghost use Rattle.isa.specs.Late.{IsLateLine, mark, pairs};
 ghost use Rattle.isa.specs.Held.{IsRead, IsReadLine, IsFaultLine};
 
 use super::fault::FaultKind;
@@ -38,17 +38,17 @@ fn read_line<'a>(
     ensures aligned { OnOk result (length memory.old.items % 4 ≡ 0
         → length memory.new.items % 4 ≡ 0) }
     ensures ok { OnOk result ((before : Lines) (line : List ℕ)
-        → option_map (λ t. t.now) source.entry ≡ code_of line → length before + 1 ≡ number
+        → option_map (λ t. t.now) source.entry ≡ plain_code line → length before + 1 ≡ number
         → IsRead before (pairs (map mark labels.old.items)) code.old.items targets.old.items
         memory.old.items
-        → IsLate before line number (map mark labels.old.items) (map mark labels.new.items) None
+        → IsLateLine before line number (map mark labels.old.items) (map mark labels.new.items) None
         × IsRead (before ++ line ∷ []) (pairs (map mark labels.new.items)) code.new.items
         targets.new.items memory.new.items) }
     ensures fault { IfErr result (λ e. e ≢ FaultKind.Memory → (before : Lines) (line : List ℕ)
-        → option_map (λ t. t.now) source.entry ≡ code_of line
+        → option_map (λ t. t.now) source.entry ≡ plain_code line
         → IsRead before (pairs (map mark labels.old.items)) code.old.items targets.old.items
         memory.old.items
-        → IsLate before line number (map mark labels.old.items) (map mark labels.new.items)
+        → IsLateLine before line number (map mark labels.old.items) (map mark labels.new.items)
         (Some e)) }
 {
     let text = source.ok_or(FaultKind::NotAscii)?;

@@ -2,7 +2,7 @@
 ghost use Rattle.std.specs.Prelude.{◌≡◌, ◌≢◌, ◌≤◌, ◌%◌, ◌++◌, Err, length, replicate, OnOk, IfOk, IfErr};
 ghost use Rattle.std.specs.Option.{option_map};
 ghost use Rattle.text.specs.Operand.{operands_left};
-ghost use Rattle.isa.specs.Statement.{view, code_if, with_operands, statement};
+ghost use Rattle.isa.specs.Statement.{draft_view, code_if, with_operands, statement};
 ghost use Rattle.isa.specs.Held.{IsAdded};
 
 use super::directive::{add_words, space};
@@ -32,7 +32,7 @@ fn with_operands<'a>(
     requires small { length memory.old.items ≤ 65536 }
     ensures ok { IfOk result (λ found. IsAdded
         (with_operands word.now (operands_left (option_map (λ t. t.now) part.entry)))
-        (code_if found (view draft.new)) memory.old.items memory.new.items) }
+        (code_if found (draft_view draft.new)) memory.old.items memory.new.items) }
     ensures aligned { OnOk result (length memory.old.items % 4 ≡ 0
         → length memory.new.items % 4 ≡ 0) }
     ensures fault { IfErr result (λ e. e ≢ FaultKind.Memory
@@ -59,8 +59,8 @@ pub fn statement<'a>(
     text: &'a [u8],
 ) -> Result<bool, FaultKind>
     requires small { length memory.old.items ≤ 65536 }
-    ensures ok { IfOk result (λ found. IsAdded (statement text.now) (code_if found (view draft.new))
-        memory.old.items memory.new.items) }
+    ensures ok { IfOk result (λ found. IsAdded (statement text.now)
+        (code_if found (draft_view draft.new)) memory.old.items memory.new.items) }
     ensures aligned { OnOk result (length memory.old.items % 4 ≡ 0
         → length memory.new.items % 4 ≡ 0) }
     ensures fault { IfErr result (λ e. e ≢ FaultKind.Memory → statement text.now ≡ Err e) }

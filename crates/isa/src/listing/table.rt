@@ -2,8 +2,8 @@
 ghost use Rattle.std.specs.Prelude.{◌≡◌, ◌≢◌, ◌+◌, ◌≤◌, ◌<◌, ◌^◌, ◌∷◌, ◌++◌, [], is_some, length, map, true, None, OnOk, IfOk, IfErr};
 ghost use Rattle.std.specs.Map.{lookup};
 ghost use Rattle.std.specs.Str.{bytes_eq};
-ghost use Rattle.isa.specs.NameHash.{hash_of, start_of, tag_of};
-ghost use Rattle.isa.specs.Buckets.{pair, found, IsIndex, IsPlace};
+ghost use Rattle.isa.specs.NameHash.{hash_of, start_of, hash_tag};
+ghost use Rattle.isa.specs.Buckets.{pair, found, IsIndex, IsNamePlace};
 ghost use Rattle.isa.specs.Late.{mark, pairs, double_line};
 
 use super::fault::{FaultKind, TextFault, fault_at};
@@ -59,7 +59,7 @@ fn start_of(hash: u64, last: usize) -> usize
 }
 
 fn tag_of(hash: u64) -> u8
-    ensures { result ≡ tag_of hash }
+    ensures { result ≡ hash_tag hash }
 {
     ((hash >> 32) % 255 + 1) as u8
 }
@@ -76,7 +76,7 @@ fn look_up<'a>(
 ) -> Place
     requires index { IsIndex entries.now tags.now numbers.now crowded.now }
     requires hash { hash ≡ hash_of name.now }
-    ensures { IsPlace entries.now tags.now crowded.now name.now result }
+    ensures { IsNamePlace entries.now tags.now crowded.now name.now result }
 {
     let start = start_of(hash, tags.len() - RUN);
     let tag = tag_of(hash);

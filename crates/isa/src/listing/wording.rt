@@ -1,6 +1,6 @@
 //! The word and the operands with which a listing writes an operation.
 ghost use Rattle.std.specs.Prelude.{◌≡◌};
-ghost use Rattle.isa.specs.Wording.{word_of as word_by, slots_of as slots_by};
+ghost use Rattle.isa.specs.Wording.{operation_word, slots_of as slots_by};
 
 use super::form::Slot;
 use Slot::{First, Into, Label, Offset, S16, Second, U5, U16};
@@ -8,7 +8,7 @@ use instructions::Op;
 
 /// Its word.
 pub fn word_of(op: Op) -> &'static str
-    ensures { result.now ≡ word_by op }
+    ensures { result.now ≡ operation_word op }
 {
     match op {
         Op::Addu => "addu",

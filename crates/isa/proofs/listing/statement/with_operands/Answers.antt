@@ -4,7 +4,7 @@ use Rattle.std.specs.Option.{option_map}
 use Rattle.std.proofs.lemmas.Result.{err_from_is_err_and}
 use Rattle.std.proofs.lemmas.List.{append-nil}
 use Rattle.text.specs.Operand.{operands_left}
-use Rattle.isa.specs.Statement.{view, is_word}
+use Rattle.isa.specs.Statement.{draft_view, is_word}
 use Rattle.isa.proofs.Statements.{space_ok, space_fault, words_ok, words_fault, instruction_ok, instruction_fault}
 use Rattle.isa.proofs.listing.statement.with_operands.Goals as goal
 
@@ -58,5 +58,5 @@ returns-clause-ok c =
     record {
       bytes = _;
       grown = sym (append-nil _);
-      is = instruction_ok c.args.word.now (left_of c.args.part) no_space no_words (view c.instruction.new.draft) c.in_ok-instruction.ensures.ok;
+      is = instruction_ok c.args.word.now (left_of c.args.part) no_space no_words (draft_view c.instruction.new.draft) c.in_ok-instruction.ensures.ok;
     }
