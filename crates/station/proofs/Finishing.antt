@@ -16,9 +16,9 @@ use Rattle.inorder.specs.declared.history.Step.TheVariants.{Let, On, Renew}
 use Rattle.inorder.specs.History.{IsLegal, IsTheirAct, IsTheirs, IsUnit, MayAdd, back, entry, front, own, unit_of, StartsWith}
 use Rattle.inorder.specs.OneHistory.{Adds}
 use Rattle.inorder.specs.Legal.{Allowed, May, applied, changed}
-use Rattle.inorder.specs.Replies.{Has, IsNamed, JobFields, job_of}
+use Rattle.inorder.specs.Replies.{Has, JobFields}
 use Rattle.inorder.specs.Steps.{finished}
-use Rattle.inorder.specs.Tenants.{Busy, Done, Fate, Live, Miss, Open, Tenant, computed}
+use Rattle.inorder.specs.Tenants.{Busy, Done, Live, Miss, Open, Tenant, computed}
 use Rattle.inorder.specs.Unit.{Sizes, UpdateUnit, at, older, younger}
 use Rattle.inorder.proofs.Histories.{legal_before, no_length, own-append, own_none, unit_sound, none_from, only_front_renews}
 use Rattle.inorder.proofs.Moves.{IsActed, IsLeft, at_changed, goes}

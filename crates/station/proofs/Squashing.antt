@@ -1,11 +1,10 @@
 -- The steps of squashing the youngest live tenant.
-use Rattle.std.proofs.Common.{◌≡◌, ℕ, suc, ◌+◌, ◌-◌, ◌%◌, ◌<◌, Bool, false, cond, List, [], ◌∷◌, ◌++◌, map, None, refl, sym, ap, ◌∙◌, subst, inl, ⊎_elim, arith}
+use Rattle.std.proofs.Common.{◌≡◌, ℕ, suc, ◌+◌, ◌-◌, ◌%◌, ◌<◌, false, cond, List, [], ◌∷◌, ◌++◌, map, None, refl, sym, ap, ◌∙◌, subst, inl, ⊎_elim, arith}
 use mathlib.Core.Logic.{dite}
 use native.Mathlib.Decide.{ℕ_discrete}
 use Rattle.std.proofs.Math.Nat.{add-mod_left, mod-add-mod}
 use Rattle.std.proofs.lemmas.Bool.{cases_lt}
 use Rattle.std.specs.List.{AllByRecursion}
-use Rattle.atomic_table.specs.Table.{Me}
 use Rattle.instructions.specs.Programs.{Program}
 use Rattle.inorder.specs.declared.history.Act.TheVariants.{Squash}
 use Rattle.inorder.specs.declared.history.Entry.{Entry}
@@ -31,7 +30,6 @@ use Rattle.inorder.proofs.Stations.{is_ring, stands}
 use Rattle.ruu_words.specs.declared.place.Place.TheVariants.{Station}
 use Rattle.ruu_words.specs.declared.rule.Draft.{Draft}
 use Rattle.ruu_words.specs.declared.rule.Draft.TheVariants.{Nothing}
-use Rattle.ruu_words.specs.declared.rule.Role.TheVariants.{Front}
 use Rattle.ruu_words.specs.declared.rule.View.{View}
 use Rattle.ruu_words.specs.Content.{IsStation}
 use Rattle.ruu_words.specs.Fields.{tag_of}
@@ -41,11 +39,12 @@ use Rattle.ruu_words.proofs.Building.{changes}
 use Rattle.ruu_words.specs.Plans.{Plan, Plans}
 use Rattle.ruu_words.proofs.StationWords.{its_word, live_state, one_at}
 use Rattle.ruu_words.proofs.Stays.{any_stays, front_stays}
-use Rattle.station.specs.Letting.{IsFronts}
 use Rattle.station.specs.Recovery.{HasYoungest, IsSquashed, MaySquash, Squashes}
-use Rattle.station.specs.Seats.{IsSeated}
 use Rattle.station.proofs.Adding.{adds_these}
 use Rattle.inorder.proofs.Recent.{IsRecentAt, live_is_recent, recent_at, recent_change, younger_recent}
+use Rattle.station.specs.Steps.{Sees}
+use Rattle.station.specs.Calls.{IsLegalCall, TakesStep, TheCall, let_place}
+use Rattle.station.proofs.Calls.{Of, of_one, only_looked}
 
 -- The path ends with the youngest live tenant
 
@@ -227,13 +226,23 @@ module _ (P : Program) (C : Sizes) where
         let at_s : s ≡ before last legal2.0 y.p y.can % C.ring = sym y.named.station_is ∙ (ap (λ (z : Tenant). z.station) (same_tenant last legal2.0 s g y) ∙ its_place last legal2.0 y.p y.can) in
         at_s ∙ (ap (λ n. n % C.ring) (sym counted) ∙ ap (λ h. next_station C (recent (U h))) (sym seen2))
 
--- the front's seat behind it
-pub seated_squashed : (P : Program) (C : Sizes) (by station tag : ℕ) (over : Bool) (old : List Entry) (me : Me ℕ View) → station < C.ring → IsFronts by Nothing me → me.1 ≡ [] →
-    IsSquashed P C by station tag old me.0.seen → station ≡ next_station C (recent (unit_of P C me.0.seen)) → IsSeated P C Front by station over me
-seated_squashed P C by station tag over old me small fronts slots out next = record {
-  role_is = fronts.role;
-  slots = slots;
-  legal = out.adds.legal;
-  inside = small;
-  knows = (fronts.by_is, fronts.draft_is, next);
-}
+-- The youngest live tenant, whose station is the one before the next, as a look at that station finds it
+module _ {v w : TheCall} {next ring n : ℕ} (legal : IsLegalCall v) (by_is : v.view.by ≡ front) (ring_is : ring ≡ v.core.sizes.ring) (small : next < v.core.sizes.ring) (next_is : next ≡
+    let_place v)
+    (may : MaySquash v.core.program v.core.sizes v.view.seen) (took : TakesStep v w (λ P C. Sees P C v.view.by v.view (Station ((next + ring - 1) % ring)) n)) (tag : ℕ) (read : tag ≡
+    tag_of n) where
+  pub youngest_read : (tag < last_tag) × HasYoungest w.core.program w.core.sizes w.view.seen ((next + ring - 1) % ring) tag
+  youngest_read =
+      let P = v.core.program in
+      let C = v.core.sizes in
+      let old : List Entry = v.view.seen in
+      let looked = only_looked by_is took in
+      let h : List Entry = took.grows.between ++ old in
+      let station : ℕ = (next + ring - 1) % ring in
+      let g : ℕ = may.can.tenant.tenant.tag in
+      let was : HasYoungest P C old station g = youngest_in P C old legal next ring ring_is (subst (λ m. next < m) (sym ring_is) small) next_is may in
+      let now : HasYoungest P C h station g = youngest_on P C station g took.grows.between old looked.legal looked.none was in
+      let tag_is : tag ≡ g = read ∙ youngest_word P C h looked.legal station g n now took.grows.kind.content in (
+        subst (λ z. z < last_tag) (sym tag_is) (youngest_small P C old legal station g was),
+        subst (λ (z : Of × (List Entry × ℕ)). HasYoungest z.0.0.program z.0.0.sizes z.1.0 station z.1.1) (λ i. (sym (of_one v w took.same) i, (sym looked.is i, sym tag_is i))) now,
+      )

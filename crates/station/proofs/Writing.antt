@@ -24,7 +24,6 @@ use Rattle.inorder.specs.OneHistory.{Adds}
 use Rattle.inorder.specs.Legal.{Allowed, changed}
 use Rattle.inorder.specs.Memory.{load_value}
 use Rattle.inorder.specs.Replies.{IsNamed, IsSquashed, IsStale, JobFields, last_tag}
-use Rattle.inorder.specs.StationWords.{station_word}
 use Rattle.inorder.specs.Steps.{finished}
 use Rattle.inorder.specs.Tenants.{Live, Squashed, Tenant, computed, kind_of, needs}
 use Rattle.inorder.specs.Unit.{Sizes, at, older}
@@ -203,9 +202,6 @@ module _ (P : Program) (C : Sizes) where
       (λ q i.
       let c : HasCarried P C by q o' mid new = subst (λ (z : ℕ × Outcome). HasCarried P C z.0 q z.1 mid new) (λ j. (is j, same j)) (carry q i) in
       (c.events, (c.carried, c.adds)))
-
-  pub carried_legal : (by id s g : ℕ) (act : Act) (o : Outcome) (old mid new : List Entry) → IsOut by s g act old mid → OfTenant P C mid s g (λ q. HasCarried P C id q o mid new) → IsLegal P C new
-  carried_legal by id s g act o old mid new out carry = (carry out.p out.named).adds.legal
 
   pub walked_legal : (by id s g : ℕ) (act : Act) (old mid new : List Entry) → IsOut by s g act old mid → OfTenant P C mid s g (λ q. HasWalked P C id q mid new) → IsLegal P C new
   walked_legal by id s g act old mid new out walk = (walk out.p out.named).adds.legal

@@ -1,9 +1,10 @@
 //! Claims.
-ghost use Rattle.std.specs.Prelude.{◌≡◌, ◌<◌, true, length};
+ghost use Rattle.std.specs.Prelude.{◌<◌, ◌≡◌, length, true};
 ghost use Rattle.instructions.specs.Programs.{address};
 ghost use Rattle.inorder.specs.declared.history.Source.TheVariants.{Second};
 ghost use Rattle.inorder.specs.Tenants.{needs};
-ghost use Rattle.station.specs.Calls.{AnswersClaim, AnswersSource, IsLater, IsLegalCall, Saw};
+ghost use Rattle.station.specs.Calls.{AnswersSource, ComesTo, IsLegalCall, IsSameCall, Saw};
+ghost use Rattle.station.specs.Answers.{AnswersClaim};
 ghost use Rattle.station.specs.Claiming.{ClaimAnswers, IsNext, IsOpenAs, SourceSays};
 ghost use Rattle.station.specs.Seats.{IsSame};
 
@@ -56,11 +57,10 @@ impl<'a> Call<'a, UnitPart> {
         k: Source,
         needed: bool,
     ) -> Result<u32, Claim>
-        requires place { station < self.old.core.sizes.ring }
         requires legal { IsLegalCall self.old }
         requires seen { Saw self.old station tag
             (λ t. needed ≡ true → IsNext self.old.core.program k t) }
-        ensures same { IsLater self.old self.new }
+        ensures same { IsSameCall self.old self.new }
         ensures answer { AnswersSource self.old self.new station tag k needed result }
     {
         if !needed {
@@ -72,11 +72,8 @@ impl<'a> Call<'a, UnitPart> {
 
     // Claims the tenant of this station and tag, which was open when its info word was read.
     fn claim_open(&mut self, station: usize, tag: u32, info: InfoWord) -> Claim
-        requires place { station < self.old.core.sizes.ring }
-        requires was_open { Saw self.old station tag
-            (IsOpenAs info.half info.index info.predicted) }
-        ensures same { IsLater self.old self.new }
-        ensures reply { AnswersClaim self.old self.new station result }
+        requires { Saw self.old station tag (IsOpenAs info.half info.index info.predicted) }
+        ensures { ComesTo self.old self.new (AnswersClaim station result) }
     {
         let InfoWord {
             half,
@@ -116,8 +113,7 @@ impl<'a> Call<'a, UnitPart> {
     // Looks for an open tenant, and reads its info word between two looks.
     fn claim_at(&mut self, station: usize) -> Claim
         requires { station < self.old.core.sizes.ring }
-        ensures same { IsLater self.old self.new }
-        ensures reply { AnswersClaim self.old self.new station result }
+        ensures { ComesTo self.old self.new (AnswersClaim station result) }
     {
         let found = self.peek(station);
         if !is_open(found) {

@@ -1,12 +1,12 @@
 //! Lets.
-ghost use Rattle.std.specs.Prelude.{◌≡◌, ◌<◌, ◌^◌, [], ◌∷◌};
-ghost use Rattle.inorder.specs.History.{unit_of};
-ghost use Rattle.inorder.specs.OneHistory.{Adds};
+ghost use Rattle.std.specs.Prelude.{◌<◌, ◌^◌, ◌∷◌, ◌≡◌, []};
 ghost use Rattle.inorder.specs.Unit.{next_tag, recent};
 ghost use Rattle.ruu_words.specs.declared.rule.Draft.TheVariants.{Nothing};
-ghost use Rattle.station.specs.Calls.{IsLater, IsLetNow, MayLetNow, new_tag, next_place};
+ghost use Rattle.station.specs.Calls.{HasLetOut, IsAbout};
 ghost use Rattle.station.specs.Letting.{MayLetOut, let_of};
 ghost use Rattle.station.specs.Seats.{IsSame};
+ghost use Rattle.inorder.specs.History.{unit_of};
+ghost use Rattle.inorder.specs.OneHistory.{Adds};
 
 use crate::answers::Tenant;
 use crate::call::Call;
@@ -20,15 +20,9 @@ use ruu_words::{InfoWord, Place};
 impl<'a> Call<'a, FrontPart> {
     // Stores the words of the tenant, the station's last, and gives its tag.
     fn dispatch(&mut self, station: usize, tenant: Tenant) -> u32
-        requires place { station < self.old.core.sizes.ring }
-        requires draft { self.old.view.draft ≡ Nothing }
-        requires may { MayLetNow self.old tenant }
+        requires letting { IsAbout self.old station Nothing tenant }
         requires small { tenant.index < 2 ^ 31 }
-        requires station { next_place self.old ≡ station }
-        ensures same { IsLater self.old self.new }
-        ensures draft { self.new.view.draft ≡ Nothing }
-        ensures tag { result ≡ new_tag self.old }
-        ensures out { IsLetNow self.old self.new tenant }
+        ensures { HasLetOut self.old self.new tenant result }
     {
         let _ = &self.seat;
         let found = self.look(Place::Station(station));

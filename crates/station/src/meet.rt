@@ -1,9 +1,10 @@
 //! What one caller has seen reaches another.
 ghost use Rattle.std.specs.Prelude.{◌≡◌, ◌≢◌, []};
 ghost use Rattle.inorder.specs.History.{StartsWith, own};
-ghost use Rattle.inorder.specs.OneHistory.{Adds};
 ghost use Rattle.ruu_words.specs.Views.{half, other_half};
-ghost use Rattle.station.specs.Seats.{Caller, IsSame};
+ghost use Rattle.station.specs.Renewals.{HasLooked};
+ghost use Rattle.station.specs.Seats.{IsSame};
+ghost use Rattle.inorder.specs.OneHistory.{Adds};
 
 use crate::call::Call;
 use crate::cores::Core;
@@ -86,12 +87,8 @@ impl Core {
         requires from { from.old.core ≡ self.now }
         requires to { to.old.core ≡ self.now }
         ensures from { from.new ≡ from.old }
-        ensures kept { IsSame to.old to.new }
-        ensures history { Adds self.now.program self.now.sizes to.old.by to.old.seen
-            to.new.seen [] }
+        ensures looked { HasLooked self.now to.old to.new }
         ensures told { StartsWith to.new.seen from.old.seen }
-        ensures heirs { to.new.heirs ≡ to.old.heirs }
-        ensures woken { to.new.woken ≡ to.old.woken }
     {
         let note = self.table.shared.split_seat::<NoteCut>(&mut from.seat);
         self.table.shared.join_seat::<Told>(&mut to.seat, note);

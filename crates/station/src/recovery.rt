@@ -1,7 +1,8 @@
 //! Recovery from a miss.
-ghost use Rattle.std.specs.Prelude.{◌≡◌, ◌<◌};
+ghost use Rattle.std.specs.Prelude.{◌<◌, ◌≡◌};
 ghost use Rattle.ruu_words.specs.declared.rule.Draft.TheVariants.{Nothing};
-ghost use Rattle.station.specs.Calls.{IsLater, MendsAt, SquashesAt, next_place};
+ghost use Rattle.station.specs.Calls.{LeadsTo, let_place};
+ghost use Rattle.station.specs.Answers.{MendsAt, SquashesAt};
 ghost use Rattle.station.specs.Recovery.{IsMended, IsSquashed, MaySquash, SeesMiss};
 ghost use Rattle.station.specs.Seats.{IsSame};
 
@@ -16,14 +17,10 @@ use ruu_words::rule::View;
 impl<'a> Call<'a, FrontPart> {
     // Looks at the miss for where it goes on, and writes that it is done.
     fn mend_miss(&mut self, station: usize)
-        requires place { station < self.old.core.sizes.ring }
         requires draft { self.old.view.draft ≡ Nothing }
         requires miss { SeesMiss self.old.core.program self.old.core.sizes self.old.view.seen
             station }
-        ensures same { IsLater self.old self.new }
-        ensures draft { self.new.view.draft ≡ Nothing }
-        ensures mended { MendsAt self.old self.new station }
-        ensures next { next_place self.new ≡ next_place self.old }
+        ensures { LeadsTo self.old self.new (let_place self.old) (MendsAt station) }
     {
         let _ = &self.seat;
         let found = self.look(Place::Station(station));
@@ -39,12 +36,9 @@ impl<'a> Call<'a, FrontPart> {
         requires place { next < self.old.core.sizes.ring }
         requires draft { self.old.view.draft ≡ Nothing }
         requires may { MaySquash self.old.core.program self.old.core.sizes self.old.view.seen }
-        requires next { next ≡ next_place self.old }
-        ensures same { IsLater self.old self.new }
-        ensures draft { self.new.view.draft ≡ Nothing }
+        requires next { next ≡ let_place self.old }
         ensures inside { result.0 < self.old.core.sizes.ring }
-        ensures squashed { SquashesAt self.old self.new result.0 result.1 }
-        ensures next { result.0 ≡ next_place self.new }
+        ensures squashed { LeadsTo self.old self.new result.0 (SquashesAt result.0 result.1) }
     {
         let core = self.core;
         let station = (next + core.ring - 1) % core.ring;

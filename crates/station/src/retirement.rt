@@ -1,7 +1,7 @@
 //! Retirement.
-ghost use Rattle.std.specs.Prelude.{◌≡◌, ◌<◌, false};
+ghost use Rattle.std.specs.Prelude.{◌<◌, ◌≡◌, false};
 ghost use Rattle.ruu_words.specs.declared.station.StationState.TheVariants.{Stop};
-ghost use Rattle.station.specs.Calls.{AnswersRetire, HeadMoves, IsLater, seen_unit};
+ghost use Rattle.station.specs.Calls.{RetiresFrom, seen_unit};
 ghost use Rattle.station.specs.Retirement.{HasAccess, HasEnd, IsLastOf, MayLeave, RetireAnswers, is_stop, kept_value};
 ghost use Rattle.station.specs.Seats.{IsAtHead, IsSame};
 
@@ -47,12 +47,8 @@ fn ends(last: Last) -> bool
 impl<'a> Call<'a, BackPart> {
     // Writes that the oldest live tenant has left.
     fn leave(&mut self, leaving: Leaving) -> Retire
-        requires place { leaving.station < self.old.core.sizes.ring }
-        requires may { MayLeave self.old.core.program self.old.core.sizes self.old.view.seen
-            leaving }
-        ensures same { IsLater self.old self.new }
-        ensures reply { AnswersRetire self.old self.new result }
-        ensures head { HeadMoves self.new leaving.station result }
+        requires { MayLeave self.old.core.program self.old.core.sizes self.old.view.seen leaving }
+        ensures { RetiresFrom self.old self.new leaving.station result }
     {
         let _ = &self.seat;
         let Leaving {
@@ -76,12 +72,8 @@ impl<'a> Call<'a, BackPart> {
 
     // A store with its data retires, and a load does not before it has its value.
     fn retire_access(&mut self, access: Access) -> Retire
-        requires place { access.station < self.old.core.sizes.ring }
-        requires access { HasAccess self.old.core.program self.old.core.sizes self.old.view.seen
-            access }
-        ensures same { IsLater self.old self.new }
-        ensures reply { AnswersRetire self.old self.new result }
-        ensures head { HeadMoves self.new access.station result }
+        requires { HasAccess self.old.core.program self.old.core.sizes self.old.view.seen access }
+        ensures { RetiresFrom self.old self.new access.station result }
     {
         let Access {
             station,
@@ -116,9 +108,7 @@ impl<'a> Call<'a, BackPart> {
         requires place { station < self.old.core.sizes.ring }
         requires end { HasEnd self.old.core.program self.old.core.sizes self.old.view.seen
             station found }
-        ensures same { IsLater self.old self.new }
-        ensures reply { AnswersRetire self.old self.new result }
-        ensures head { HeadMoves self.new station result }
+        ensures { RetiresFrom self.old self.new station result }
     {
         let _ = &self.seat;
         let info = self.read_info(station);
@@ -149,9 +139,7 @@ impl<'a> Call<'a, BackPart> {
     fn retire_head(&mut self, station: usize) -> Retire
         requires place { station < self.old.core.sizes.ring }
         requires head { IsAtHead self.old.core.sizes (seen_unit self.old) station false }
-        ensures same { IsLater self.old self.new }
-        ensures reply { AnswersRetire self.old self.new result }
-        ensures head { HeadMoves self.new station result }
+        ensures { RetiresFrom self.old self.new station result }
     {
         let word = self.look_at_head(station);
         let found = StationWord::unpack(word);
@@ -168,9 +156,7 @@ impl<'a> Call<'a, BackPart> {
     fn retire_from(&mut self, station: usize, over: bool) -> Retire
         requires place { station < self.old.core.sizes.ring }
         requires head { IsAtHead self.old.core.sizes (seen_unit self.old) station over }
-        ensures same { IsLater self.old self.new }
-        ensures reply { AnswersRetire self.old self.new result }
-        ensures head { HeadMoves self.new station result }
+        ensures { RetiresFrom self.old self.new station result }
     {
         if over {
             self.tell_over(station);
@@ -181,7 +167,7 @@ impl<'a> Call<'a, BackPart> {
 }
 
 impl Core {
-    /// Retires the oldest live tenant, if it is done, a store with its address and data, or a stop.
+    /// RetiresFrom the oldest live tenant, if it is done, a store with its address and data, or a stop.
     /// This is commit, the in-order release from the head of Sohi's register update unit, or of the
     /// reorder buffer of Smith and Pleszkun.
     pub fn retire(&self, seat: &mut BackSeat) -> Retire

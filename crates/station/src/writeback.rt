@@ -1,6 +1,7 @@
 //! Results: into their station, and then along the links.
-ghost use Rattle.std.specs.Prelude.{◌≡◌, ◌<◌};
-ghost use Rattle.station.specs.Calls.{AnswersFinish, AnswersSettle, IsLater, Woke};
+ghost use Rattle.std.specs.Prelude.{◌<◌, ◌≡◌};
+ghost use Rattle.station.specs.Calls.{Carried};
+ghost use Rattle.station.specs.Answers.{AnswersFinish, AnswersSettle};
 ghost use Rattle.station.specs.Claiming.{Holds};
 ghost use Rattle.station.specs.Seats.{IsSame};
 ghost use Rattle.station.specs.Waking.{HasWoken, IsSet};
@@ -23,9 +24,7 @@ impl<'a> Call<'a, UnitPart> {
         requires job { Holds self.old.core.program self.old.core.sizes self.old.view.by
             self.old.view.seen job }
         requires outcome { outcome ≡ outcome_of self.old.core.program job }
-        ensures same { IsLater self.old self.new }
-        ensures reply { AnswersFinish self.old self.new job result.0 }
-        ensures woken { Woke self.old self.new (IsSet result.1) }
+        ensures { Carried self.old self.new (AnswersFinish job result.0) (IsSet result.1) }
     {
         let _ = &self.seat;
         let Job {
@@ -53,12 +52,10 @@ impl<'a> Call<'a, BackPart> {
     // The look tells the address that stands in the word. Where another word stands there, the load
     // was squashed: the exchange fails, and says so.
     fn settle_load(&mut self, station: usize, tag: u32, value: u32) -> (Settle, u32)
-        requires place { station < self.old.core.sizes.ring }
-        requires may { MaySettle self.old.core.program self.old.core.sizes self.old.view.seen
+        requires { MaySettle self.old.core.program self.old.core.sizes self.old.view.seen
             station tag value }
-        ensures same { IsLater self.old self.new }
-        ensures reply { AnswersSettle self.old self.new station tag result.0 }
-        ensures woken { Woke self.old self.new (IsSet result.1) }
+        ensures { Carried self.old self.new (AnswersSettle station tag result.0)
+            (IsSet result.1) }
     {
         let _ = &self.seat;
         let seen = self.look(Place::Station(station));
