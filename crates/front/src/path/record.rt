@@ -1,6 +1,7 @@
 //! What the front keeps of its tenants.
 ghost use Rattle.std.specs.Prelude.{◌≡◌, ◌<◌, ◌≤◌, ◌-◌, [], ◌∷◌, ◌++◌, length, take, slice_get, IfSome, IfNone};
 ghost use Rattle.front.specs.Path.{YoungestGoesOn, record_for};
+ghost use Rattle.front.specs.Recoveries.{may_miss};
 ghost use Rattle.front.specs.Training.{ToldIf};
 
 use crate::fetch::Fetched;
@@ -48,6 +49,13 @@ pub(super) fn new_record(next: &Fetched, tag: u32, predicted: u32) -> Record
 }
 
 impl Record {
+    /// Only a jump can be a miss: it reaches no memory, and writes a register only as a link.
+    pub fn may_miss(&self) -> bool
+        ensures { result ≡ may_miss self.now }
+    {
+        !self.access && (self.links || self.destination == 0)
+    }
+
     /// Tells a predictor how its instruction went on, if that was asked about it.
     pub fn tell<P: Predictor>(&self, predictor: &mut P)
         ensures { ToldIf P.Learns self.now.guessed self.now.pc self.now.next
