@@ -1,3 +1,4 @@
+pub mod Jumps
 pub mod Lists
 pub mod Trails
 pub mod Splitting

@@ -1,15 +1,16 @@
 -- Misses: what a look at each tenant says of them.
-use Rattle.std.proofs.Common.{◌≡◌, ◌≢◌, ℕ, zero, suc, ◌+◌, true, List, [], ◌∷◌, take, Some, sym, ap, ◌∙◌, subst, arith}
+use Rattle.std.proofs.Common.{◌≡◌, ◌≢◌, ℕ, zero, suc, ◌+◌, true, false, true≢false, List, [], ◌∷◌, take, Some, sym, ap, ◌∙◌, subst, ⊎_elim, arith}
+use Rattle.std.proofs.lemmas.Bool.{cases_lt}
 use Rattle.std.specs.List.{AllByRecursion}
 use Rattle.std.specs.Prelude.{slice_get}
 use Rattle.instructions.specs.Programs.{Program}
 use Rattle.inorder.specs.declared.history.Entry.{Entry}
-use Rattle.inorder.specs.History.{IsLegal, front, unit_of}
+use Rattle.inorder.specs.History.{IsLegal, front, taken_of, unit_of}
 use Rattle.inorder.specs.OneHistory.{Adds}
 use Rattle.inorder.specs.Callers.{IsMissing}
 use Rattle.inorder.specs.Replies.{Has, HasNoMiss}
 use Rattle.inorder.specs.Tenants.{Live, Retired, Tenant, on_path, stands_on_path}
-use Rattle.inorder.specs.Unit.{Sizes, UpdateUnit, at}
+use Rattle.inorder.specs.Unit.{Sizes, UpdateUnit, at, older, recent, younger}
 use Rattle.inorder.proofs.Ends.{miss_stays}
 use Rattle.ruu_words.specs.declared.station.StationState.{StationState}
 use Rattle.ruu_words.specs.declared.station.StationState.TheVariants.{Free, Miss as MissState}
@@ -20,14 +21,22 @@ use Rattle.front.specs.Path.{rested_at}
 use Rattle.front.specs.declared.path.base_state.Base.{Base}
 use Rattle.front.specs.declared.path.record.Record.{Record}
 use Rattle.front.specs.Knows.{IsFolded, IsGone, IsNewest, FrontKnows, whats}
-use Rattle.front.specs.Recoveries.{IsMiss, IsNoLiveMiss}
+use Rattle.front.specs.Recoveries.{IsMiss, IsNoLiveMiss, may_miss}
 use Rattle.front.specs.Trail.{Note, record_of}
 use Rattle.front.proofs.Lists.{all_both, all_map, all_two}
 use Rattle.front.proofs.Looks.{finds_miss, live_there, same_place, shows_miss}
 use Rattle.front.proofs.Named.{all_get, all_whats, notes_noted}
 use Rattle.front.proofs.Splitting.{IsStable, stays}
 use Rattle.front.proofs.Trails.{IsNoted, trail_all}
-use Rattle.inorder.proofs.Recent.{live_is_recent}
+use Rattle.inorder.proofs.Fated.{follows_from}
+use Rattle.inorder.proofs.Grows.{sound_mid}
+use Rattle.inorder.proofs.Histories.{allowed_steps, unit_sound}
+use Rattle.inorder.proofs.Basics.{split_at}
+use Rattle.inorder.proofs.Positions.{younger_at}
+use Rattle.inorder.proofs.Recent.{live_is_last, live_is_recent, old_are_gone}
+use Rattle.inorder.proofs.Sound.{IsSound}
+use Rattle.inorder.proofs.Stations.{is_ring, stands}
+use Rattle.front.proofs.Jumps.{only_jumps}
 
 same_tenant : (t u : Tenant) → Some t ≡ Some u → t ≡ u
 same_tenant t u e = cc e
@@ -97,6 +106,23 @@ module _ (P : Program) (C : Sizes) where
             fact = record { live = ap (λ (z : Tenant). z.standing) (sym one) ∙ b.live; fate = ap (λ (z : Tenant). z.fate) (sym one) ∙ finds_miss P C h legal x.station seen sees miss b };
           };
         }
+
+    -- who is no jump is no miss
+    pub no_jump_misses : (i : ℕ) (x : Record) → slice_get records i ≡ Some x → may_miss x ≡ false → IsNoLiveMiss U x
+    no_jump_misses i x e none p y t is place tag m =
+        let us = U.tenants in
+        let there = all_get IsThere records are_there i x e in
+        let its : there.tenant.station ≡ t.station = ap (λ (z : Record). z.station) there.what ∙ sym place in
+        let ring = is_ring C (recent U) (stands P C (taken_of h) (allowed_steps P C h legal)) in
+        let last = live_is_last C U ring (old_are_gone P C h legal) p t is m.live in
+        let same : p ≡ there.p = ⊎_elim
+        (λ lt. absurd (younger_at (λ u. u.station ≢ t.station) us p last there.p there.tenant lt there.is its))
+        (λ ge. ⊎_elim (λ gt. absurd (there.last p t gt is place)) (λ le. omega (arith, ge, le)) (cases_lt there.p p))
+        (cases_lt p there.p) in
+        let one : t ≡ there.tenant = same_tenant t there.tenant (sym is ∙ (ap (at us) same ∙ there.is)) in
+        let own = (sound_mid P t (older us p) (younger us p) (subst (IsSound P) (split_at us p t is) (unit_sound P C h legal))).own in
+        let may = only_jumps P t y ((follows_from P (older us p) t own).fate.miss y m.fate) in
+        true≢false (sym may ∙ (ap (λ z. may_miss (record_of P z)) one ∙ (ap may_miss there.what ∙ none)))
 
     pub gone_miss : (n : Note) → IsGone U n → (x : ℕ) (t : Tenant) → at U.tenants n.at ≡ Some t → ¬ IsMissing x t
     gone_miss n g x t is m = gone_live (sym g.fact ∙ (ap (λ (z : Tenant). z.standing) (same_tenant g.tenant t (sym g.is ∙ is)) ∙ m.live))

@@ -1,5 +1,5 @@
 -- What a recovery answers.
-use Rattle.std.specs.Prelude.{◌≡◌, ℕ, ◌<◌, List, [], ◌∷◌, map, length, take, Option, Some, None, slice_get}
+use Rattle.std.specs.Prelude.{◌≡◌, ℕ, Bool, not, ◌&&◌, ◌||◌, ◌==◌, ◌<◌, List, [], ◌∷◌, map, length, take, Option, Some, None, slice_get}
 use Rattle.std.specs.List.{AllByRecursion}
 use Rattle.instructions.specs.Programs.{Program}
 use Rattle.inorder.specs.declared.history.Act.TheVariants.{Mend, Squash}
@@ -50,6 +50,10 @@ squashed_by (Mended station squashed) = squashed
 squashed_by NoMiss = 0
 
 -- The stages of a recovery
+
+-- It may be a jump: it reaches no memory, and writes a register only as a link
+abbrev pub may_miss : Record → Bool
+may_miss r = not r.access && (r.links || r.destination == 0)
 
 -- No live miss has this station and tag
 abbrev pub IsNoLiveMiss : UpdateUnit → Record → Type 0

@@ -1,14 +1,13 @@
 -- What a rest answers.
 use Rattle.std.specs.Prelude.{◌≡◌, ℕ, Bool, true, false, not, ◌&&◌, ◌||◌, List, [], ◌∷◌, ◌++◌, length, ◌==◌, nat_le, if◌then◌else◌}
-use Rattle.std.specs.List.{AllByRecursion}
 use Rattle.instructions.specs.Guesses.{IsTold}
 use Rattle.instructions.specs.Programs.{Program}
 use Rattle.inorder.specs.declared.history.Entry.{Entry}
 use Rattle.inorder.specs.Callers.{is_retired}
 use Rattle.inorder.specs.History.{front, unit_of}
 use Rattle.inorder.specs.OneHistory.{Adds}
-use Rattle.inorder.specs.Tenants.{IsNotLive, Tenant, computed_next}
-use Rattle.inorder.specs.Unit.{Sizes, UpdateUnit}
+use Rattle.inorder.specs.Tenants.{Tenant, computed_next}
+use Rattle.inorder.specs.Unit.{Sizes}
 use Rattle.station.specs.Moments.{WasOnce}
 use Rattle.front.specs.declared.answers.Rest.{Rest}
 use Rattle.front.specs.declared.answers.Rest.TheVariants.{Idle, Live}

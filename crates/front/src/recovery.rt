@@ -19,7 +19,7 @@ pub struct Missed {
     pub next: u32,
 }
 
-// Looks at the tenants from the oldest on, for the first miss.
+// Looks at the tenants from the oldest on, for the first miss. At those that are no jumps it need not look.
 fn find_miss(core: &Core, seat: &mut FrontSeat, path: &Path) -> Option<Missed>
     requires least { 2 ≤ core.now.sizes.ring }
     requires core { seat.old.core ≡ core.now }
@@ -35,6 +35,9 @@ fn find_miss(core: &Core, seat: &mut FrontSeat, path: &Path) -> Option<Missed>
         let Some(record) = path.records.at(at) else {
             continue;
         };
+        if !record.may_miss() {
+            continue;
+        }
         let seen = core.look(seat, record.station);
         if let StationState::Miss = seen.state {
             return Some(Missed {

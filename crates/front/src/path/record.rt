@@ -1,6 +1,7 @@
 //! What the front keeps of its tenants.
 ghost use Rattle.std.specs.Prelude.{◌≡◌, ◌<◌, ◌≤◌, ◌-◌, [], ◌∷◌, ◌++◌, length, take, slice_get, IfSome, IfNone};
 ghost use Rattle.front.specs.Path.{YoungestGoesOn, record_for};
+ghost use Rattle.front.specs.Recoveries.{may_miss};
 ghost use Rattle.front.specs.Training.{leaver_if};
 
 use crate::fetch::Fetched;
@@ -47,6 +48,13 @@ pub(super) fn new_record(next: &Fetched, tag: u32, predicted: u32) -> Record
 }
 
 impl Record {
+    /// Only a jump can be a miss: it reaches no memory, and writes a register only as a link.
+    pub fn may_miss(&self) -> bool
+        ensures { result ≡ may_miss self.now }
+    {
+        !self.access && (self.links || self.destination == 0)
+    }
+
     /// What a predictor is told of it when it leaves, if that was asked about it.
     pub fn leaver(&self) -> Option<Leaver>
         ensures { result ≡ leaver_if self.now.guessed self.now.pc self.now.next }

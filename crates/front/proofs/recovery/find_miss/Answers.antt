@@ -1,10 +1,11 @@
 -- The scan for a miss.
-use Rattle.std.proofs.Common.{◌<◌, [], sym, ◌∙◌, refl, subst, arith}
+use Rattle.std.proofs.Common.{◌≡◌, ◌<◌, false, [], sym, ◌∙◌, refl, subst, arith}
 use Rattle.inorder.specs.History.{front, unit_of}
 use Rattle.inorder.specs.OneHistory.{Adds}
 use Rattle.inorder.proofs.Histories.{adds_on}
 use Rattle.front.specs.Knows.{FrontKnows}
-use Rattle.front.proofs.Misses.{all_one_more, is_miss, was_none}
+use Rattle.front.specs.Recoveries.{may_miss}
+use Rattle.front.proofs.Misses.{all_one_more, is_miss, no_jump_misses, was_none}
 use Rattle.front.proofs.Named.{all_get, small_stations}
 use Rattle.front.proofs.Splitting.{stays}
 use Rattle.front.proofs.Stays.{knows_stable}
@@ -68,4 +69,21 @@ loop-at-preserved c =
       knows = stays P C (λ U. FrontKnows P C U records base) (knows_stable P C records base) c.loop-at.seat.seen new mine inv.knows;
       none = all_one_more _ records c.loop-at.at c.in-Some.record inv.none (sym c.at.ensures ∙ c.in-Some.is)
           (was_none P C old new c.in-Some.record c.look-seen.result both c.look-seen.ensures.reply c.in_default-state.not-Miss);
+    }
+
+pub loop-at-preserved-then-not-may_miss : goal.loop-at-preserved-then-not-may_miss
+loop-at-preserved-then-not-may_miss c =
+    let P = c.args.core.now.program in
+    let C = c.args.core.now.sizes in
+    let inv = c.loop-at.invariant in
+    let records = c.args.path.now.records in
+    let here = sym c.at.ensures ∙ c.in-Some.is in
+    let none : may_miss c.in-Some.record ≡ false = grind (arith, c.may_miss.ensures, c.if-not-may_miss.true) in
+    record {
+      core = inv.core;
+      same = inv.same;
+      adds = inv.adds;
+      knows = inv.knows;
+      none = all_one_more _ records c.loop-at.at c.in-Some.record inv.none here
+          (no_jump_misses P C c.args.seat.now.seen c.requires.legal records c.args.path.now.base c.requires.knows c.loop-at.at c.in-Some.record here none);
     }
