@@ -1,6 +1,10 @@
-//! Rows by hand over the front, the back and units at one core.
+//! Rows by hand over the calls of a core, the front, the back and units at one core.
 #![tactic(auto)]
 
+#[cfg(test)]
+mod calls;
+#[cfg(test)]
+mod chains;
 #[cfg(test)]
 mod claims;
 #[cfg(test)]
@@ -19,3 +23,5 @@ mod retirement;
 mod snapshots_of_commits;
 #[cfg(test)]
 mod tags;
+#[cfg(test)]
+mod want_of_memory;

@@ -3,7 +3,7 @@ use Rattle.inorder.specs.Callers.{GoesOn}
 use Rattle.inorder.specs.History.{unit_of}
 use Rattle.inorder.specs.OneHistory.{Adds}
 use Rattle.station.specs.Seats.{TheCore}
-use Rattle.station.proofs.tests.memory.renewed.Goals as goal
+use Rattle.rows.proofs.want_of_memory.renewed.Goals as goal
 
 pub renew-requires-in-Err-clause-goes_on : goal.renew-requires-in-Err-clause-goes_on
 renew-requires-in-Err-clause-goes_on c =

@@ -5,12 +5,13 @@ ghost use Rattle.inorder.specs.History.{unit_of};
 ghost use Rattle.station.specs.Making.{AreFirst, IsMade};
 ghost use Rattle.station.specs.Renewals.{HasNobody};
 
-use crate::{
-    BackSeat, Core, FrontSeat, Retire, StationState, UnitSeat, an_empty_core_may_be_renewed,
-};
 use instructions::{Config, Memory, Program};
 use isa::parse;
+use station::{
+    BackSeat, Core, FrontSeat, Retire, StationState, UnitSeat, an_empty_core_may_be_renewed,
+};
 use std::alloc::Global;
+use std::process::Abort;
 use std::test::Fail;
 
 // A core, at the second try where the first was refused memory.
