@@ -64,7 +64,8 @@ impl<J: Ring> Hints<J> {
             .is_ok()
     }
 
-    /// Takes the oldest hint, if there is one. At an empty queue it only looks.
+    /// Takes the oldest hint, if there is one. It looks first where that would stand, and then whether there is none: so
+    /// it reads no word that those who put hints write, but the oldest hint's own. At an empty queue it only looks.
     pub fn pop<R: Wait>(&self, wait: &R, hinter: &mut Hinter) -> Option<u32>
         requires of { IsEndOf self.now hinter.old }
         ensures of { IsEndOf self.now hinter.new }
@@ -74,6 +75,10 @@ impl<J: Ring> Hints<J> {
         ensures kept { IfNone result (view hinter.new ≡ view hinter.old) }
         ensures empty { IfNone result (HasHeld self.now.ring (view hinter.old) 0) }
     {
+        let oldest = self.queue.try_pop_as::<Takes<J>>(hinter);
+        if oldest.is_some() {
+            return oldest;
+        }
         if self.queue.is_empty_as::<Takes<J>>(hinter) {
             return None;
         }

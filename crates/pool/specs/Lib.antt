@@ -3,3 +3,4 @@ pub mod HintsPut
 pub mod Runs
 pub mod Terms
 pub mod Turns
+pub mod Units

@@ -1,12 +1,14 @@
 //! What a unit thread does.
 ghost use Rattle.std.specs.Prelude.{◌≡◌, ◌<◌, ◌≤◌};
 ghost use Rattle.inorder.specs.History.{IsLegal};
-ghost use Rattle.pool.specs.HintsPut.{Searches, candidate_station};
+ghost use Rattle.pool.specs.HintsPut.{candidate_station};
+ghost use Rattle.pool.specs.Units.{Works};
 ghost use Rattle.station.specs.Claiming.{ClaimAnswers, Holds};
 ghost use Rattle.station.specs.Seats.{IsSame};
 
 use crate::floor::Floor;
 use crate::gate::Gate;
+use crate::gathered::Gathered;
 use crate::hinting::hint_each;
 use crate::rest::Rest;
 use crate::search::{Candidate, Search};
@@ -68,45 +70,77 @@ pub(crate) struct Worker {
     pub count: WorkerSeat,
 }
 
-// Counts the claim of a job, and whether its station came as a hint.
-fn count_claim<K: Ring>(floor: &Floor<K>, count: &mut WorkerSeat, candidate: Candidate)
-    requires { count.old.of ≡ floor.now.counts }
-    ensures { count.new.of ≡ floor.now.counts }
+/// A unit at work: its number, its seat, what it has counted, where it looks for work, how it rests, and how often it
+/// has found work in a row.
+#[derive(Drop)]
+pub(crate) struct Unit {
+    number: u32,
+    pub(crate) seat: UnitSeat,
+    pub(crate) count: Gathered,
+    pub(crate) search: Search,
+    rest: Rest,
+    row: usize,
+}
+
+// The unit goes to work.
+fn enter<K: Ring>(floor: &Floor<K>, core: &Core, worker: Worker) -> Unit
+    requires core { worker.seat.core ≡ core.now }
+    requires count { worker.count.of ≡ floor.now.counts }
+    requires program { floor.now.program ≡ core.now.program }
+    requires hints { floor.now.hints.ring ≡ core.now.sizes.ring }
+    ensures { Works core.now floor.now.program floor.now.counts floor.now.hints result }
 {
-    floor.counts.add_work(count, Total::Claims, 1);
+    let Worker { unit, seat, count } = worker;
+    Unit {
+        number: unit,
+        seat,
+        count: Gathered::new(count),
+        search: Search::new(&floor.hints),
+        rest: Rest::after(core.ring() as u32 / 2),
+        row: 0,
+    }
+}
+
+// Counts the claim of a job, and whether its station came as a hint. Where it has found work as often in a row as the
+// queue takes hints, there is enough for another unit.
+fn count_claim<K: Ring>(floor: &Floor<K>, core: &Core, unit: &mut Unit, candidate: Candidate)
+    requires { Works core.now floor.now.program floor.now.counts floor.now.hints unit.old }
+    ensures seat { unit.new.seat ≡ unit.old.seat }
+    ensures works { Works core.now floor.now.program floor.now.counts floor.now.hints unit.new }
+{
+    unit.rest.begin_again();
+    unit.count.count(&floor.counts, Total::Claims, 1);
     if let Candidate::Hinted(_) = candidate {
-        floor.counts.add_work(count, Total::Hints, 1);
+        unit.count.count(&floor.counts, Total::Hints, 1);
+    }
+    if unit.row < 2 * core.ring() {
+        unit.row += 1;
+    } else {
+        unit.row = 0;
+        floor.call_for_work();
     }
 }
 
 // Finishes a job, counts that, and hints whom its result woke.
-fn finish<K: Ring, R: Wait>(
-    wait: &R,
-    floor: &Floor<K>,
-    core: &Core,
-    worker: &mut Worker,
-    search: &mut Search,
-    job: Job,
-)
-    requires core { worker.old.seat.core ≡ core.now }
-    requires count { worker.old.count.of ≡ floor.now.counts }
-    requires program { floor.now.program ≡ core.now.program }
-    requires hints { floor.now.hints.ring ≡ core.now.sizes.ring }
-    requires search { Searches floor.now.hints search.old }
-    requires job { Holds core.now.program core.now.sizes
-        worker.old.seat.by worker.old.seat.seen job }
-    requires legal { IsLegal core.now.program core.now.sizes worker.old.seat.seen }
-    ensures core { worker.new.seat.core ≡ core.now }
-    ensures count { worker.new.count.of ≡ floor.now.counts }
-    ensures search { Searches floor.now.hints search.new }
+fn finish<K: Ring, R: Wait>(wait: &R, floor: &Floor<K>, core: &Core, unit: &mut Unit, job: Job)
+    requires works { Works core.now floor.now.program floor.now.counts floor.now.hints unit.old }
+    requires job { Holds core.now.program core.now.sizes unit.old.seat.by unit.old.seat.seen job }
+    requires legal { IsLegal core.now.program core.now.sizes unit.old.seat.seen }
+    ensures { Works core.now floor.now.program floor.now.counts floor.now.hints unit.new }
 {
-    if let Finish::Stale = compute(floor, core, &mut worker.seat, job) {
-        floor.counts.add_work(&mut worker.count, Total::Stale, 1);
+    if let Finish::Stale = compute(floor, core, &mut unit.seat, job) {
+        unit.count.count(&floor.counts, Total::Stale, 1);
         return;
     }
-    floor.counts.add_work(&mut worker.count, Total::Finishes, 1);
-    let woken = worker.seat.woken();
-    hint_each(wait, &floor.hints, &mut search.hinter, core.ring(), woken);
+    unit.count.count(&floor.counts, Total::Finishes, 1);
+    let woken = unit.seat.woken();
+    hint_each(
+        wait,
+        &floor.hints,
+        &mut unit.search.hinter,
+        core.ring(),
+        woken,
+    );
 }
 
 // One turn, and as many more as the gate holds the unit: claims one station, and finishes the job that it gets.
@@ -116,33 +150,25 @@ fn turn<K: Ring, G: Gate, R: Wait>(
     floor: &Floor<K>,
     core: &Core,
     gate: &G,
-    worker: &mut Worker,
-    search: &mut Search,
-    rest: &mut Rest,
+    unit: &mut Unit,
     left: u32,
 ) -> u32
-    requires core { worker.old.seat.core ≡ core.now }
-    requires count { worker.old.count.of ≡ floor.now.counts }
-    requires program { floor.now.program ≡ core.now.program }
-    requires hints { floor.now.hints.ring ≡ core.now.sizes.ring }
-    requires search { Searches floor.now.hints search.old }
-    ensures core { worker.new.seat.core ≡ core.now }
-    ensures count { worker.new.count.of ≡ floor.now.counts }
-    ensures search { Searches floor.now.hints search.new }
+    requires { Works core.now floor.now.program floor.now.counts floor.now.hints unit.old }
+    ensures works { Works core.now floor.now.program floor.now.counts floor.now.hints unit.new }
     ensures left { result ≤ left }
 {
-    let candidate = search.next(wait, &floor.hints, core.ring());
-    let job = match claim(core, &mut worker.seat, candidate) {
+    let candidate = unit.search.next(wait, &floor.hints, core.ring());
+    let job = match claim(core, &mut unit.seat, candidate) {
         Claim::Job(job) => job,
         Claim::NotOpen | Claim::Waiting { tag: _, k: _ } | Claim::Moved { tag: _ } => {
-            rest.rest();
+            unit.row = 0;
+            unit.rest.rest();
             return left;
         }
     };
-    rest.begin_again();
-    count_claim(floor, &mut worker.count, candidate);
-    let left = wait_at(floor, gate, worker.unit, candidate.station() as u32, left);
-    finish(wait, floor, core, worker, search, job);
+    count_claim(floor, core, unit, candidate);
+    let left = wait_at(floor, gate, unit.number, candidate.station() as u32, left);
+    finish(wait, floor, core, unit, job);
     left
 }
 
@@ -154,32 +180,24 @@ pub(crate) fn work<K: Ring, G: Gate, R: Wait>(
     floor: &Floor<K>,
     core: &Core,
     gate: &G,
-    mut worker: Worker,
+    worker: Worker,
 )
     requires core { worker.seat.core ≡ core.now }
     requires count { worker.count.of ≡ floor.now.counts }
     requires program { floor.now.program ≡ core.now.program }
     requires hints { floor.now.hints.ring ≡ core.now.sizes.ring }
 {
-    if !floor.is_called(wait, worker.unit) {
+    let number = worker.unit;
+    if !floor.is_called(wait, number) {
         return;
     }
-    let mut search = Search::new(&floor.hints);
-    let mut rest = Rest::after(core.ring() as u32 / 2);
-    let mut left = floor.turns_left(worker.unit);
+    let mut unit = enter(floor, core, worker);
+    let mut left = floor.turns_left(number);
     while 0 < left && !floor.is_over() {
-        left = turn(
-            wait,
-            floor,
-            core,
-            gate,
-            &mut worker,
-            &mut search,
-            &mut rest,
-            left - 1,
-        );
+        left = turn(wait, floor, core, gate, &mut unit, left - 1);
     }
-    floor.keep_turns(worker.unit, left);
+    unit.count.add(&floor.counts);
+    floor.keep_turns(number, left);
     if left == 0 {
         floor.call(1);
     }

@@ -6,6 +6,7 @@ ghost use Rattle.pool.specs.Terms.{Begins, GivesBack};
 ghost use Rattle.pool.specs.declared.dispatch.Stepped.TheVariants.{Rested};
 
 use crate::floor::Floor;
+use crate::gathered::Gathered;
 use crate::rest::Rest;
 use counts::{Total, WorkerSeat};
 use front::{Front, FrontStill, Recovery, Rest as Rests, Turn};
@@ -33,22 +34,22 @@ fn let_next<K: Ring, P: Predictor + Drop, R: Wait>(
     floor: &Floor<K>,
     core: &Core,
     front: &mut Front<P>,
-    count: &mut WorkerSeat,
+    count: &mut Gathered,
     hinter: &mut Hinter,
 ) -> Stepped
     requires core { front.old.core ≡ core.now }
-    requires count { count.old.of ≡ floor.now.counts }
+    requires count { count.old.seat.of ≡ floor.now.counts }
     requires hints { floor.now.hints.ring ≡ core.now.sizes.ring }
     requires hinter { IsEndOf floor.now.hints hinter.old }
     ensures core { front.new.core ≡ core.now }
-    ensures count { count.new.of ≡ floor.now.counts }
+    ensures count { count.new.seat.of ≡ floor.now.counts }
     ensures hinter { IsEndOf floor.now.hints hinter.new }
     ensures rested { result ≡ Rested → front.new.rested ≡ true }
 {
     let _ring = core.ring();
     match front.turn(core) {
         Turn::Let { station, .. } => {
-            floor.counts.add_work(count, Total::Lets, 1);
+            count.count(&floor.counts, Total::Lets, 1);
             floor.hints.push(wait, hinter, station as u32);
             Stepped::Worked
         }
@@ -66,23 +67,21 @@ fn step<K: Ring, P: Predictor + Drop, R: Wait>(
     floor: &Floor<K>,
     core: &Core,
     front: &mut Front<P>,
-    count: &mut WorkerSeat,
+    count: &mut Gathered,
     hinter: &mut Hinter,
 ) -> Stepped
     requires core { front.old.core ≡ core.now }
-    requires count { count.old.of ≡ floor.now.counts }
+    requires count { count.old.seat.of ≡ floor.now.counts }
     requires hints { floor.now.hints.ring ≡ core.now.sizes.ring }
     requires hinter { IsEndOf floor.now.hints hinter.old }
     ensures core { front.new.core ≡ core.now }
-    ensures count { count.new.of ≡ floor.now.counts }
+    ensures count { count.new.seat.of ≡ floor.now.counts }
     ensures hinter { IsEndOf floor.now.hints hinter.new }
     ensures rested { result ≡ Rested → front.new.rested ≡ true }
 {
     if let Recovery::Mended { squashed, .. } = front.recover(core) {
-        floor
-            .counts
-            .add_work(count, Total::Squashes, squashed as u64);
-        floor.counts.add_work(count, Total::Mends, 1);
+        count.count(&floor.counts, Total::Squashes, squashed as u64);
+        count.count(&floor.counts, Total::Mends, 1);
         return Stepped::Worked;
     }
     let_next(wait, floor, core, front, count, hinter)
@@ -159,10 +158,11 @@ pub(crate) fn dispatch<K: Ring, P: Predictor + Drop, R: Wait>(
     let Dispatcher {
         seat,
         begin,
-        mut count,
+        count,
         left,
     } = dispatcher;
     let mut front = enter(core, &floor.program, seat, begin);
+    let mut count = Gathered::new(count);
     let mut hinter = floor.hints.hinter();
     let mut rest = Rest::after(PATIENCE);
     for taken in 0..left {
@@ -170,6 +170,7 @@ pub(crate) fn dispatch<K: Ring, P: Predictor + Drop, R: Wait>(
             Stepped::Worked => rest.begin_again(),
             Stepped::Idle => rest.rest(),
             Stepped::Rested => {
+                count.add(&floor.counts);
                 floor.rest();
                 return Some(leave(core, front, left - 1 - taken));
             }
@@ -178,5 +179,6 @@ pub(crate) fn dispatch<K: Ring, P: Predictor + Drop, R: Wait>(
             break;
         }
     }
+    count.add(&floor.counts);
     None
 }

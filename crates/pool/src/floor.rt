@@ -21,6 +21,8 @@ pub(crate) struct Floor<K: Ring> {
     news: AtomicU64,
     // units up to this number are to work, and those beyond it rest
     called: AtomicU64,
+    // so many are to work at once, where there is work for them
+    most: AtomicU64,
     // the turns that each unit has left
     left: Vec<AtomicU32>,
 }
@@ -59,14 +61,23 @@ impl<K: Ring> Floor<K> {
             rested: AtomicBool::new(false),
             news: AtomicU64::new(0),
             called: AtomicU64::new(0),
+            most: AtomicU64::new(0),
             left,
         })
     }
 
-    /// Begins another term, in which so many units are to work.
-    pub(crate) fn begin(&self, units: u64) {
+    /// Begins another term. One unit is to work, and where there is work for more of them so many at once.
+    pub(crate) fn begin(&self, most: u64) {
         self.rested.store(false, Release);
-        self.called.store(units, Release);
+        self.most.store(most, Release);
+        self.called.store(1, Release);
+    }
+
+    /// There is work for one unit more.
+    pub(crate) fn call_for_work(&self) {
+        if self.called.load(Acquire) < self.most.load(Acquire) {
+            self.call(1);
+        }
     }
 
     /// Tells the threads of the term that the core is to be renewed.

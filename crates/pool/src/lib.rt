@@ -9,6 +9,7 @@ mod compute;
 mod dispatch;
 mod floor;
 mod gate;
+mod gathered;
 mod hinting;
 mod rest;
 mod running;

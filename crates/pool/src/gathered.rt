@@ -1,0 +1,98 @@
+//! What a thread has counted: it is gathered, and added to the totals now and then, since each addition is a step on
+//! words that all threads share.
+ghost use Rattle.std.specs.Prelude.{◌≡◌, false};
+ghost use Rattle.counts.specs.Shares.{is_kept};
+ghost use Rattle.counts.specs.Totals.{position_of};
+
+use counts::{Counts, Total, WorkerSeat};
+
+// It adds each time that it has counted so often.
+const EACH: u32 = 64;
+
+/// A seat to count with, and what was counted since that last added to the totals.
+#[derive(Drop)]
+pub(crate) struct Gathered {
+    pub seat: WorkerSeat,
+    lets: u64,
+    claims: u64,
+    finishes: u64,
+    stale: u64,
+    squashes: u64,
+    mends: u64,
+    hints: u64,
+    // so often it may count until it adds
+    left: u32,
+}
+
+impl Gathered {
+    /// Nothing was counted yet.
+    pub(crate) fn new(seat: WorkerSeat) -> Gathered
+        ensures { result.seat ≡ seat }
+    {
+        Gathered {
+            seat,
+            lets: 0,
+            claims: 0,
+            finishes: 0,
+            stale: 0,
+            squashes: 0,
+            mends: 0,
+            hints: 0,
+            left: EACH,
+        }
+    }
+
+    /// Counts.
+    pub(crate) fn count(&mut self, counts: &Counts, total: Total, k: u64)
+        requires seat { self.old.seat.of ≡ counts.now }
+        requires other { is_kept (position_of total) ≡ false }
+        ensures { self.new.seat.of ≡ counts.now }
+    {
+        match total {
+            Total::Lets => self.lets = self.lets.wrapping_add(k),
+            Total::Claims => self.claims = self.claims.wrapping_add(k),
+            Total::Finishes => self.finishes = self.finishes.wrapping_add(k),
+            Total::Stale => self.stale = self.stale.wrapping_add(k),
+            Total::Squashes => self.squashes = self.squashes.wrapping_add(k),
+            Total::Mends => self.mends = self.mends.wrapping_add(k),
+            Total::Hints => self.hints = self.hints.wrapping_add(k),
+            Total::Loads | Total::Retires | Total::Renewals => {
+                counts.add_work(&mut self.seat, total, k);
+            }
+        }
+        if self.left == 0 {
+            self.add(counts);
+        } else {
+            self.left -= 1;
+        }
+    }
+
+    /// Adds what was gathered to the totals.
+    pub(crate) fn add(&mut self, counts: &Counts)
+        requires { self.old.seat.of ≡ counts.now }
+        ensures { self.new.seat.of ≡ counts.now }
+    {
+        counts.add_work(&mut self.seat, Total::Lets, self.lets);
+        counts.add_work(&mut self.seat, Total::Claims, self.claims);
+        counts.add_work(&mut self.seat, Total::Finishes, self.finishes);
+        counts.add_work(&mut self.seat, Total::Stale, self.stale);
+        counts.add_work(&mut self.seat, Total::Squashes, self.squashes);
+        counts.add_work(&mut self.seat, Total::Mends, self.mends);
+        counts.add_work(&mut self.seat, Total::Hints, self.hints);
+        self.begin_again();
+    }
+
+    // All that was gathered is added.
+    fn begin_again(&mut self)
+        ensures { self.new.seat ≡ self.old.seat }
+    {
+        self.lets = 0;
+        self.claims = 0;
+        self.finishes = 0;
+        self.stale = 0;
+        self.squashes = 0;
+        self.mends = 0;
+        self.hints = 0;
+        self.left = EACH;
+    }
+}
