@@ -1,17 +1,19 @@
 #!/usr/bin/env bash
 # Prints what hints cost or save: the unit shared by threads where units find work by hints, beside the same before
 # there were hints, both measured in turn in this run, each time after the one-thread unit in the same process. The
-# commit before is built in a worktree of its own, once (BEFORE names a folder that has it already). The unit has a ring
-# of 16 stations and the predictor bimod. The threads run on the processors that this script may use (taskset).
+# commit before is built in a worktree of its own, once (BEFORE names a folder that has it already, and COMMIT another
+# commit to stand beside). The unit has a ring of 16 stations and the predictor bimod. The threads run on the processors
+# that this script may use (taskset).
 set -eu
 cd "$(dirname "$0")/.."
-before=${BEFORE:-$PWD/../before_hints}
+commit=${COMMIT:-911126a}
+before=${BEFORE:-$PWD/../before_$commit}
 limit=${LIMIT:-300000}
 times=${TIMES:-5}
 work=$(mktemp -d)
 trap 'rm -rf "$work"' EXIT
 
-[ -d "$before" ] || git worktree add -q --detach "$before" 911126a
+[ -d "$before" ] || git worktree add -q --detach "$before" "$commit"
 for tree in "$before" .; do
   (cd "$tree/crates/speed" && rt run < /dev/null > "$work/build.log" 2>&1) || { cat "$work/build.log"; exit 1; }
 done
@@ -23,7 +25,7 @@ shown() { # column, file
 }
 
 echo "               instructions a second, best and middle of $times"
-echo 'program units       with hints       before hints      ratio best  middle'
+echo "program units            today       at $commit      ratio best  middle"
 for program in loop mixed; do
   for units in 1 2 4 16 64; do
     rm -f "$work/with" "$work/before"
