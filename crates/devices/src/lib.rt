@@ -4,10 +4,12 @@
 mod counted;
 mod input;
 mod output;
+mod reply;
 
 pub use counted::Counted;
 pub use input::{InputFault, read_up_to};
 pub use output::{WriteFailed, write_whole};
+pub use reply::{Reply, Unanswered, reply_to};
 
 #[cfg(test)]
 mod tests;

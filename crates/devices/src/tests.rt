@@ -1,6 +1,7 @@
 //! Devices that fail in the middle, and what a reader keeps.
 
 use super::*;
+use std::alloc::Global;
 use std::io::{self, ErrorKind, Read, Write};
 use std::test::Fail;
 
@@ -52,6 +53,46 @@ impl Write for FailingWriter {
         }
         Ok(())
     }
+}
+
+/// Answers an input with its first four bytes, and tells how many there were.
+#[derive(Drop)]
+struct Echo;
+
+impl Reply for Echo {
+    ghost use Rattle.std.specs.Prelude.{⊤};
+
+    type Told = usize;
+
+    type Refusal = InputFault;
+
+    ghost most = { 4 };
+
+    ghost Answers = { λ _ _ _ _. ⊤ };
+
+    fn most(&self) -> usize {
+        4
+    }
+
+    fn text(self, alloc: Global, bytes: &[u8]) -> Result<(usize, Vec<u8>), InputFault> {
+        let mut text = Vec::new(alloc);
+        text.extend_from_slice(bytes)?;
+        Ok((bytes.len(), text))
+    }
+
+    ghost enough = { λ _ _ _ _ is. is };
+}
+
+#[test]
+fn an_input_is_answered_by_what_was_taken(rt: HostRuntime) -> Result<(), Fail> {
+    let input: &[u8] = b"station";
+    let mut reader = Counted::new(input);
+    let mut writer = Counted::new(Vec::new(rt.alloc()));
+    let told = reply_to(rt.alloc(), &mut reader, &mut writer, Echo).ok();
+    assert_eq!(rt; told, Some(4));
+    assert_eq!(rt; writer.into_inner().as_slice(), b"stat".as_slice());
+    assert_eq!(rt; reader.into_inner(), b"ion".as_slice());
+    Ok(())
 }
 
 #[test]

@@ -1,2 +1,3 @@
-pub mod Statuses
 pub mod Listings
+pub mod Statuses
+pub mod Whole

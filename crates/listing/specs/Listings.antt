@@ -1,9 +1,16 @@
--- A listing that was written.
-use Rattle.std.specs.Prelude.{ℕ, List}
+-- Which text is a listing of a file.
+use Rattle.std.specs.Prelude.{ℕ, List, length, ◌<◌}
 use Rattle.conversion.specs.Conversion.{IsSaid}
 
--- P of the text of some listing of a file
-pub record HasListing (file : List ℕ) (P : List ℕ → Type 0) : Type 0 where
-  pub text : List ℕ
+-- one byte more than a file may have
+abbrev pub most_taken : ℕ
+most_taken = 16777217
+
+-- the file is not too long, and the text means its program
+pub record IsListingOf (file text : List ℕ) : Type 0 where
+  pub short : length file < most_taken
   pub said : IsSaid file text
-  pub holds : P text
+
+-- the same, whatever is told of it
+abbrev pub HasListing : (file text : List ℕ) → Type 0
+HasListing file text = (told : Unit {0}) × IsListingOf file text

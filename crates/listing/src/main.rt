@@ -3,14 +3,15 @@
 
 ghost use Rattle.std.specs.Prelude.{◌≡◌};
 ghost use Rattle.std.specs.Process.{exit_status};
-ghost use Rattle.listing.specs.Statuses.{status_of_fault};
+ghost use Rattle.listing.specs.Statuses.{status_of};
 
 mod converting;
-mod fault;
+mod no_listing;
 
+use conversion::Refusal;
 use converting::convert;
-use devices::Counted;
-use fault::Fault;
+use devices::{Counted, Unanswered};
+use no_listing::NoListing;
 use std::env;
 use std::fs::File;
 use std::io::ErrorKind;
@@ -26,21 +27,30 @@ Exit status: 0 the listing was written, 2 the file has none, 3 a mistake on the 
 5 no memory, or a file could not be opened, read or written.
 ";
 
-fn status(fault: &Fault) -> u8
-    ensures { result ≡ status_of_fault fault.now }
+fn status(why: &Unanswered<NoListing>) -> u8
+    ensures { result ≡ status_of why.now }
 {
-    match fault {
-        Fault::Refused { why: _ } | Fault::TooLong => 2,
-        Fault::Read | Fault::Write | Fault::Memory => 5,
+    match why {
+        Unanswered::Refused(
+            NoListing::Refused {
+                why: Refusal::Memory,
+            },
+        ) => 5,
+        Unanswered::Refused(_) => 2,
+        Unanswered::Read | Unanswered::Write => 5,
     }
 }
 
 // A failure to print changes no status.
-fn refuse(rt: &HostRuntime, file: &str, fault: &Fault) -> ExitCode
-    ensures { exit_status result ≡ status_of_fault fault.now }
+fn refuse(rt: &HostRuntime, file: &str, why: &Unanswered<NoListing>) -> ExitCode
+    ensures { exit_status result ≡ status_of why.now }
 {
-    let _ = eprintln!(rt; "ruu: {file}: {fault}");
-    ExitCode::from(status(fault))
+    let _ = match why {
+        Unanswered::Read => eprintln!(rt; "ruu: {file}: it cannot be read to its end"),
+        Unanswered::Refused(no_listing) => eprintln!(rt; "ruu: {file}: {no_listing}"),
+        Unanswered::Write => eprintln!(rt; "ruu: {file}: the listing cannot be written to its end"),
+    };
+    ExitCode::from(status(why))
 }
 
 fn write_listing(rt: &HostRuntime, file: &str) -> ExitCode {
@@ -55,7 +65,7 @@ fn write_listing(rt: &HostRuntime, file: &str) -> ExitCode {
     let mut writer = Counted::new(rt.stdout());
     match convert(rt.alloc(), &mut reader, &mut writer) {
         Ok(()) => ExitCode::from(0),
-        Err(fault) => refuse(rt, file, &fault),
+        Err(why) => refuse(rt, file, &why),
     }
 }
 
