@@ -3,6 +3,8 @@ pub mod WordLines
 pub mod BucketSearch
 pub mod BucketsKept
 pub mod LabelTable
+pub mod NeededBits
+pub mod NeededLabels
 pub mod Bytes
 pub mod Slots
 pub mod FormSearch

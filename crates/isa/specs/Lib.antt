@@ -8,6 +8,7 @@ pub mod NameHash
 pub mod Buckets
 pub mod Late
 pub mod Held
+pub mod Needed
 pub mod Report
 pub mod Wording
 pub mod InstrText

@@ -12,6 +12,7 @@ mod instr_text;
 mod instruction;
 mod labels;
 mod line;
+mod needed;
 mod operand;
 mod register;
 mod statement;
@@ -23,6 +24,7 @@ pub use fault::{FaultKind, TextFault};
 pub use instr_text::{InstrText, Label, Naming, text_is_read_back};
 use instructions::{Instr, Program};
 use line::{Target, read_first_line};
+use needed::needed;
 use std::alloc::Global;
 use table::{Entry, Labels};
 
@@ -127,32 +129,37 @@ fn read_lines<'a>(
     Ok(())
 }
 
-/// The labels, or the first one that stands twice.
-fn labels_of<'a>(alloc: Global, entries: Vec<Entry<'a>>) -> Result<Labels<'a>, TextFault>
-    ensures ok { IfOk result (λ labels. labels ≡ pairs (map mark entries.entry.items)) }
+/// The labels that instructions with these targets need, or the first label that stands twice.
+fn labels_of<'a>(
+    alloc: Global,
+    entries: &[Entry<'a>],
+    targets: &[Target<'a>],
+) -> Result<Labels<'a>, TextFault>
+    ensures ok { IfOk result (λ labels. (code : List Instr) → resolved labels (rows code targets.now)
+        ≡ resolved (pairs (map mark entries.now)) (rows code targets.now)) }
     ensures fault { IfErr result (λ f. f.kind ≢ FaultKind.Memory
         → (others : Option (ℕ × FaultKind))
-        → or_other (double_line [] (map mark entries.entry.items)) others
-        ≡ Some (f.line, f.kind)) }
-    ensures single { IfOk result (λ labels. double_line [] (map mark entries.entry.items) ≡ None) }
+        → or_other (double_line [] (map mark entries.now)) others ≡ Some (f.line, f.kind)) }
+    ensures single { IfOk result (λ labels. double_line [] (map mark entries.now) ≡ None) }
     ensures memory { IfErr result (λ f. f.kind ≡ FaultKind.Memory → f.line ≡ 0) }
 {
-    let room = entries.len().min(MOST_TEXT);
-    Labels::of(alloc, entries, room)
+    let some = needed(alloc, entries, targets)?;
+    let room = some.len().min(MOST_TEXT);
+    Labels::of(alloc, some, room)
 }
 
 /// The first fault: this one, or a label before it that stands twice.
-fn first_of<'a>(alloc: Global, entries: Vec<Entry<'a>>, fault: TextFault) -> TextFault
+fn first_of<'a>(alloc: Global, entries: &[Entry<'a>], fault: TextFault) -> TextFault
     requires memory { fault.kind ≡ FaultKind.Memory → fault.line ≡ 0 }
     ensures fault { result.kind ≢ FaultKind.Memory → fault.kind ≢ FaultKind.Memory
-        × (or_other (double_line [] (map mark entries.entry.items))
+        × (or_other (double_line [] (map mark entries.now))
         (Some (fault.line, fault.kind)) ≡ Some (result.line, result.kind)) }
     ensures memory { result.kind ≡ FaultKind.Memory → result.line ≡ 0 }
 {
     if fault.kind == FaultKind::Memory {
         return fault;
     }
-    match labels_of(alloc, entries) {
+    match labels_of(alloc, entries, &[]) {
         Ok(_) => fault,
         Err(first) => first,
     }
@@ -175,9 +182,9 @@ pub fn parse(alloc: Global, bytes: &[u8]) -> Result<Program, TextFault>
     let mut memory = Vec::new(alloc);
     let went = read_lines(&mut entries, &mut code, &mut targets, &mut memory, bytes);
     if let Err(fault) = went {
-        return Err(first_of(alloc, entries, fault));
+        return Err(first_of(alloc, entries.as_slice(), fault));
     }
-    let labels = labels_of(alloc, entries)?;
+    let labels = labels_of(alloc, entries.as_slice(), targets.as_slice())?;
     resolve_all(&labels, code.as_mut_slice(), targets.as_slice())?;
     Ok(Program::new(code, memory))
 }

@@ -40,8 +40,9 @@ pub enum Place {
     Full,
 }
 
+/// The hash of a name.
 #[tactic(auto, unfolding(crate::specs::NameHash::hash_of))]
-fn hash_of(name: &[u8]) -> u64
+pub fn hash_of(name: &[u8]) -> u64
     ensures { result ≡ hash_of name.now }
 {
     let mut state = FoldHasher::default();
@@ -49,7 +50,8 @@ fn hash_of(name: &[u8]) -> u64
     state.finish()
 }
 
-fn start_of(hash: u64, last: usize) -> usize
+/// The first place for a hash, from 0 to the last one.
+pub fn start_of(hash: u64, last: usize) -> usize
     requires { last < 2 ^ 32 }
     ensures value { result ≡ start_of hash last }
     ensures small { result ≤ last }

@@ -1,0 +1,7 @@
+use Rattle.std.proofs.Common.{◌≡◌, take}
+use Rattle.isa.specs.Needed.{needed_of}
+use Rattle.isa.proofs.listing.needed.add_needed.Given as goal
+
+-- those of the entries so far are added
+abbrev pub invariant-loop-entry : goal.invariant-loop-entry
+invariant-loop-entry l = l.some.items ≡ needed_of l.all (take l.entry-index l.entries)

@@ -1,0 +1,62 @@
+-- The labels that are needed, since an instruction may name them or another label may have the same
+-- name: which they are is told by bits at the hash of a name.
+use Rattle.std.specs.Prelude.{◌≡◌, ℕ, ◌-◌, ◌/◌, ◌%◌, ◌^◌, ◌==◌, ◌<◌, ⊤, Bool, true, List, [], ◌∷◌, map, take, length, Option, Some, None, is_some, slice_index_or}
+use Rattle.std.specs.List.{filter}
+use Rattle.instructions.specs.declared.instr.Instr.{Instr}
+use Rattle.isa.specs.declared.listing.line.Target.{Target}
+use Rattle.isa.specs.declared.listing.needed.Bits.{Bits}
+use Rattle.isa.specs.declared.listing.table.Entry.{Entry}
+use Rattle.isa.specs.NameHash.{hash_of, start_of}
+use Rattle.isa.specs.Buckets.{pair, found, name_at}
+use Rattle.isa.specs.Late.{mark, double_line}
+use Rattle.isa.specs.Listing.{resolved}
+use Rattle.isa.specs.Held.{name_of, rows}
+
+-- the bits of 64 names or more, of which this is one
+abbrev pub bits_for : List Bits → List ℕ → Bits
+bits_for all name =
+    slice_index_or all (start_of (hash_of name) (length all - 1)) (record { met = 0; needed = 0 })
+
+-- the bit of a name among these
+abbrev pub bit_of : ℕ → ℕ
+bit_of hash = hash / 2 ^ 32 % 64
+
+-- this name, or another one with its bit, was met
+abbrev pub IsMet : List Bits → List ℕ → Type 0
+IsMet all name = (bits_for all name).met / 2 ^ bit_of (hash_of name) % 2 ≡ 1
+
+-- this name, or another one with its bit, is needed
+abbrev pub is_needed : List Bits → List ℕ → Bool
+is_needed all name = (bits_for all name).needed / 2 ^ bit_of (hash_of name) % 2 == 1
+
+-- what was met and is needed stays so
+pub record AreKept (old new : List Bits) : Type 0 where
+  pub size : length new ≡ length old
+  pub met : (name : List ℕ) → IsMet old name → IsMet new name
+  pub needed : (name : List ℕ) → is_needed old name ≡ true → is_needed new name ≡ true
+
+-- a name that stands before an entry and in it is needed
+abbrev pub AreWatched : List Bits → List Entry → Type 0
+AreWatched all es = (i : ℕ) → i < length es
+    → is_some (found (take i es) (name_at es i)) ≡ true → is_needed all (name_at es i) ≡ true
+
+-- the label that an instruction names is needed
+abbrev pub IsWanted : List Bits → Option (List ℕ) → Type 0
+IsWanted all None = ⊤
+IsWanted all (Some name) = is_needed all name ≡ true
+
+-- and so for each of these instructions
+abbrev pub AreWanted : List Bits → List Target → Type 0
+AreWanted all [] = ⊤
+AreWanted all (t ∷ ts) = IsWanted all (name_of t) × AreWanted all ts
+
+-- the labels that are needed, in their order
+abbrev pub needed_of : List Bits → List Entry → List Entry
+needed_of all es = filter (λ e. is_needed all e.name.now) es
+
+-- Some of the labels are enough: the first that stands twice is the same, and so are the addresses
+-- that instructions with these targets name.
+pub record AreEnough (es some : List Entry) (ts : List Target) : Type 0 where
+  pub double : double_line [] (map mark some) ≡ double_line [] (map mark es)
+  pub addresses : (code : List Instr)
+      → resolved (map pair some) (rows code ts) ≡ resolved (map pair es) (rows code ts)
