@@ -4,7 +4,7 @@ ghost use Rattle.unit.specs.Changes.{NoneRuns, RunsOldest, with_window};
 ghost use Rattle.unit.specs.Givers.{Chosen, gives};
 ghost use Rattle.unit.specs.Notes.{AreNoted, AreSettled, missed_after, settled_at, settled_by};
 ghost use Rattle.unit.specs.Stages.{FirstReady};
-ghost use Rattle.unit.specs.Window.{finished as finished_of, operands_by, operands_in};
+ghost use Rattle.unit.specs.Window.{made_after as made_after_of, operands_by, operands_in, stage_after as stage_after_of};
 ghost use Rattle.instructions.specs.Instruction.{kind as kind_of};
 
 use crate::ahead::Ahead;
@@ -114,32 +114,28 @@ fn settled(window: &Window, from: usize) -> usize
     window.len()
 }
 
-// The station where its instruction came to this.
-fn finished(station: Station, outcome: Outcome) -> Station
-    ensures { result ≡ finished_of station outcome }
+// How far a tenant comes by its outcome.
+#[inline(always)]
+fn stage_after(outcome: Outcome, predicted: u32) -> Stage
+    ensures { result ≡ stage_after_of outcome predicted }
 {
     match outcome {
-        Outcome::Value(v) | Outcome::Pair(v, _) => Station {
-            stage: Stage::Done,
-            made: Some(v),
-            ..station
-        },
-        Outcome::Next(x) => Station {
-            stage: if x == station.predicted {
-                Stage::Done
-            } else {
-                Stage::Miss(x)
-            },
-            ..station
-        },
-        Outcome::Address(a) => Station {
-            stage: Stage::Addr(a),
-            ..station
-        },
-        Outcome::Stop(c) => Station {
-            stage: Stage::Stops(c),
-            ..station
-        },
+        Outcome::Value(_) | Outcome::Pair(_, _) => Stage::Done,
+        Outcome::Next(x) if x == predicted => Stage::Done,
+        Outcome::Next(x) => Stage::Miss(x),
+        Outcome::Address(a) => Stage::Addr(a),
+        Outcome::Stop(c) => Stage::Stops(c),
+    }
+}
+
+// What it has made by its outcome.
+#[inline(always)]
+fn made_after(outcome: Outcome, made: Option<u32>) -> Option<u32>
+    ensures { result ≡ made_after_of outcome made }
+{
+    match outcome {
+        Outcome::Value(v) | Outcome::Pair(v, _) => Some(v),
+        _ => made,
     }
 }
 
@@ -166,15 +162,16 @@ impl<'a> Pipeline<'a> {
         let Some(ready) = oldest_ready(&self.window, &self.ahead(), self.settled) else {
             return false;
         };
-        let Some(station) = self.window.at(ready.at) else {
+        let Some(station) = self.window.peek(ready.at) else {
             return false;
         };
         let Operands { a, b } = ready.operands;
         let size = self.program.size();
         let outcome = outcome_of(&station.instr, station.half, station.pc, a, b, size);
-        let later = finished(station, outcome);
-        self.missed = missed_by(self.missed, later.stage);
-        self.window.put(ready.at, later);
+        let stage = stage_after(outcome, station.predicted);
+        let made = made_after(outcome, station.made);
+        self.missed = missed_by(self.missed, stage);
+        self.window.advance(ready.at, stage, made);
         true
     }
 }

@@ -93,17 +93,8 @@ impl<'a> Pipeline<'a> {
         let Some(answered) = oldest_answered(&self.window, &self.ahead(), self.settled) else {
             return false;
         };
-        let Some(station) = self.window.at(answered.at) else {
-            return false;
-        };
-        self.window.put(
-            answered.at,
-            Station {
-                stage: Stage::Done,
-                made: Some(answered.value),
-                ..station
-            },
-        );
+        self.window
+            .advance(answered.at, Stage::Done, Some(answered.value));
         true
     }
 }

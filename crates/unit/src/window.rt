@@ -2,7 +2,7 @@
 ghost use Rattle.std.specs.Prelude.{◌≡◌, ◌<◌, ◌≤◌, ◌-◌, [], ◌∷◌, ◌++◌, length, take, drop, slice_get, slice_set, option_copied, Some};
 ghost use Rattle.unit.specs.Creators.{CreatorsAt, IsOfSame};
 ghost use Rattle.unit.specs.Slots.{place_of as place_in, slot_of as slot_in};
-ghost use Rattle.unit.specs.Window.{access_at, accesses as accesses_of};
+ghost use Rattle.unit.specs.Window.{IsAdvanced, access_at, accesses as accesses_of};
 
 use crate::creators::Creators;
 use crate::dispatch::is_access;
@@ -152,6 +152,17 @@ impl Window {
     {
         let slot = slot_of(self.start, i);
         self.stations[slot] = station;
+    }
+
+    /// The tenant at `i` has come further.
+    #[inline(always)]
+    pub fn advance(&mut self, i: usize, stage: Stage, made: Option<u32>)
+        requires { i < length self.old }
+        ensures { IsAdvanced self.old i stage made self.new }
+    {
+        let slot = slot_of(self.start, i);
+        self.stations[slot].stage = stage;
+        self.stations[slot].made = made;
     }
 
     pub fn push(&mut self, station: Station)
