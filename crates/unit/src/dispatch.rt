@@ -137,6 +137,7 @@ impl<'a> Pipeline<'a> {
     }
 
     /// Lets the next instruction.
+    #[inline(always)]
     pub fn let_out(&mut self, next: Fetched, predicted: u32)
         requires oldest { self.old.oldest < self.old.ring }
         requires most { self.old.ring ≤ 32 }

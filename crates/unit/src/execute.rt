@@ -43,6 +43,7 @@ fn needed(kind: Kind, a: Option<u32>, b: Option<u32>) -> Option<Operands>
 }
 
 // What a station needs, if it can be claimed behind the first `i`.
+#[inline(always)]
 fn sources(window: &Window, ahead: &Ahead, i: usize, station: &Station) -> Option<Operands>
     requires there { i < length window.now }
     requires is { slice_get window.now i ≡ Some station.now }
@@ -58,6 +59,7 @@ fn sources(window: &Window, ahead: &Ahead, i: usize, station: &Station) -> Optio
 }
 
 // What the station at `i` needs, if it can be claimed.
+#[inline(always)]
 fn sources_at(window: &Window, ahead: &Ahead, i: usize) -> Option<Operands>
     requires { i ≤ length window.now }
     ensures { result ≡ gives (operands_in ahead.now.registers) window.now i }
@@ -69,6 +71,7 @@ fn sources_at(window: &Window, ahead: &Ahead, i: usize) -> Option<Operands>
 }
 
 // The oldest station that can be claimed; those before `from` can not.
+#[inline(always)]
 fn oldest_ready(window: &Window, ahead: &Ahead, from: usize) -> Option<Ready>
     requires { AreSettled from window.now }
     ensures { FirstReady ahead.now.registers window.now result }
@@ -92,6 +95,7 @@ fn is_settled(station: &Station) -> bool
     }
 }
 
+#[inline(always)]
 fn is_settled_at(window: &Window, i: usize) -> bool
     ensures { result ≡ settled_at (slice_get window.now i) }
 {
@@ -102,6 +106,7 @@ fn is_settled_at(window: &Window, i: usize) -> bool
 }
 
 // How many of the oldest are settled, where as many as `from` are known to be.
+#[inline(always)]
 fn settled(window: &Window, from: usize) -> usize
     requires { AreSettled from window.now }
     ensures { AreSettled result window.now }
@@ -151,6 +156,7 @@ fn missed_by(missed: bool, stage: Stage) -> bool
 
 impl<'a> Pipeline<'a> {
     /// Claims and finishes the oldest tenant that can be claimed.
+    #[inline(always)]
     pub fn runs(&mut self) -> bool
         requires { AreNoted self.old.missed self.old.settled self.old.window }
         ensures window { Chosen result (RunsOldest self.old self.new) (NoneRuns self.old) }

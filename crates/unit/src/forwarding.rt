@@ -107,6 +107,7 @@ fn joined(older: Older, store: Entry, address: u32, width: Width) -> Older
 }
 
 /// What the stores among the first `i` are to a load.
+#[inline(always)]
 pub fn look_back(window: &Window, ahead: &Ahead, i: usize, address: u32, width: Width) -> Older
     requires { i ≤ length window.now }
     ensures { result ≡ older_of (entries ahead.now.registers window.now i) address (bytes width) }

@@ -54,6 +54,7 @@ fn value_of(older: Older, ahead: &Ahead, op: Op, address: u32) -> Option<u32>
 }
 
 // The value of the load at `i`, if it is one with its address that is not blocked.
+#[inline(always)]
 fn value_at(window: &Window, ahead: &Ahead, i: usize) -> Option<u32>
     requires there { i < length window.now }
     requires inside { AreInside (length ahead.now.memory) window.now }
@@ -67,6 +68,7 @@ fn value_at(window: &Window, ahead: &Ahead, i: usize) -> Option<u32>
 }
 
 // The oldest load with its address that is not blocked; none of those before `from` is one.
+#[inline(always)]
 fn oldest_answered(window: &Window, ahead: &Ahead, from: usize) -> Option<Answered>
     requires inside { AreInside (length ahead.now.memory) window.now }
     requires settled { AreSettled from window.now }
@@ -82,6 +84,7 @@ fn oldest_answered(window: &Window, ahead: &Ahead, from: usize) -> Option<Answer
 
 impl<'a> Pipeline<'a> {
     /// Answers the oldest load with its address that is not blocked.
+    #[inline(always)]
     pub fn loads(&mut self) -> bool
         requires inside { AreInside (length self.old.committed.memory) self.old.window }
         requires noted { AreNoted self.old.missed self.old.settled self.old.window }

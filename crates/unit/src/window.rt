@@ -120,6 +120,7 @@ impl Window {
         self.peek(i).copied()
     }
 
+    #[inline(always)]
     pub fn peek(&self, i: usize) -> Option<&Station>
         ensures { option_copied result ≡ slice_get self.now i }
     {
@@ -165,6 +166,7 @@ impl Window {
         self.stations[slot].made = made;
     }
 
+    #[inline(always)]
     pub fn push(&mut self, station: Station)
         requires { length self.old < 32 }
         ensures { self.new ≡ self.old ++ station ∷ [] }
@@ -208,6 +210,7 @@ impl Window {
     }
 
     /// Takes the oldest out.
+    #[inline(always)]
     pub fn shift(&mut self)
         ensures { self.new ≡ drop 1 self.old }
     {
