@@ -1,6 +1,6 @@
 //! The stations of the live tenants, the oldest first, and who makes what they read.
 ghost use Rattle.std.specs.Prelude.{◌≡◌, ◌<◌, ◌≤◌, ◌-◌, [], ◌∷◌, ◌++◌, length, take, drop, slice_get, slice_set, option_copied, Some};
-ghost use Rattle.unit.specs.Creators.{CreatorsAt, IsOfSame};
+ghost use Rattle.unit.specs.Creators.{CreatorsAt, IsCreator, IsOfSame};
 ghost use Rattle.unit.specs.Slots.{place_of as place_in, slot_of as slot_in};
 ghost use Rattle.unit.specs.Window.{IsAdvanced, access_at, accesses as accesses_of};
 
@@ -129,6 +129,13 @@ impl Window {
         }
         let slot = slot_of(self.start, i);
         Some(&self.stations[slot])
+    }
+
+    /// The place of the youngest tenant that writes a register, if one does.
+    pub fn newest_writer(&self, r: Reg) -> u8
+        ensures { IsCreator self.now (length self.now) r result }
+    {
+        place_of(self.newest[r.number() as usize], self.start)
     }
 
     /// The creators of the tenant at `i`, by their places.
