@@ -4,7 +4,7 @@ use Rattle.std.proofs.Common.{arith}
 use Rattle.std.specs.Prelude.{Result, Ok, Err, is_some, slice_get, slice_index, unwrap_or}
 use Rattle.std.specs.List.{AllByRecursion}
 use Rattle.std.proofs.lemmas.Option.{slice_get_within}
-use Rattle.instructions.specs.Instruction.{first_of, fixed_next, is_first_half, kind, second_of, width}
+use Rattle.instructions.specs.Instruction.{destination_by, first_of, fixed_next, is_first_half, kind, second_of, target_of, width}
 use Rattle.instructions.specs.Operations.{as_value, computed_by, outcome_by}
 use Rattle.instructions.specs.Programs.{Program, instr_at}
 use Rattle.instructions.specs.declared.instr.Instr.{Instr}
@@ -53,7 +53,7 @@ use Rattle.unit.specs.Changes.{ahead_of, registers_of}
 use Rattle.unit.specs.Givers.{NoneGives, given_at, gives}
 use Rattle.unit.specs.Leavers.{leaver, leaver_of, told_by, told_of}
 use Rattle.unit.specs.Leaves.{CanLeave, HasEnded, LeavesTo, PassesTo, RetiresTo, halved, left, memory_with, with_station}
-use Rattle.unit.specs.Loads.{AreInside, load_in, waits_by}
+use Rattle.unit.specs.Loads.{AreInside, StoresWriteNone, load_in, waits_by}
 use Rattle.unit.specs.Notes.{miss_in}
 use Rattle.unit.specs.Stages.{CannotLet, NoInstr, NoRoom, QueueFull}
 use Rattle.unit.specs.StandsFor.{HasStopped, IsUnit, OverIs, StandsFor, sizes}
@@ -145,6 +145,14 @@ are_inside b h k w e a q =
     let fits = inside_at P f.ts f.t a sound'.0 fate in
     let fits' : a + width w.instr.op ≤ length P.bytes = subst (λ x. a + width x.instr.op ≤ length P.bytes) f.station fits in
     subst (λ n. a + width w.instr.op ≤ n) (sym (memory_size b h.unit h.stands)) fits'
+
+-- each store of the window writes no register
+pub stores_write_none : (b : Pipeline) → IsUnit b → StoresWriteNone b.window
+stores_write_none b h k w e q =
+    let P = b.program.now in
+    let f : Found P h.unit.tenants k w = found P h.unit.tenants k w (ap (λ W. slice_get W k) (sym h.stands.window) ∙ e) in
+    let stores : kind_of P f.t ≡ Stores = ap (λ x. kind x.instr.op) f.station ∙ q in
+    sym (ap (λ x. x.destination) f.station) ∙ ap (λ x. destination_by x (target_of (instr P f.t) f.t.half)) stores
 
 pub window_room : (b : Pipeline) → IsUnit b → length b.window ≤ 32
 window_room b h = let st = stands_of b.program.now (sizes b) h.unit h.reached in omega (arith, st.room, h.ring, window_length b.program.now h.unit.tenants, ap length h.stands.window)

@@ -8,6 +8,7 @@ pub mod WindowKept
 pub mod Accesses
 pub mod Entries
 pub mod LookBack
+pub mod Walk
 pub mod Ring
 pub mod Noted
 pub mod Windows

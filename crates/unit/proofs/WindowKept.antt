@@ -1,11 +1,13 @@
 -- The fields of a window, step by step.
-use Rattle.std.proofs.Common.{◌≡◌, ◌<◌, ◌≤◌, ◌-◌, ℕ, zero, suc, ◌+◌, List, [], ◌∷◌, ◌++◌, length, take, drop, set, get_or, Some, refl, sym, ap, ◌∙◌, subst, arith, length-set}
+use Rattle.std.proofs.Common.{◌≡◌, ◌<◌, ◌≤◌, ◌-◌, ℕ, zero, suc, ◌+◌, List, [], ◌∷◌, ◌++◌, length, take, drop, set, get_or, Option, Some, refl, sym, ap, ◌∙◌, subst, arith, length-set}
 use Rattle.std.specs.Prelude.{slice_get, slice_index}
 use Rattle.instructions.specs.Instruction.{first_of, second_of}
 use Rattle.unit.specs.declared.creators.Creators.{Creators}
+use Rattle.unit.specs.declared.station.Stage.{Stage}
 use Rattle.unit.specs.declared.station.Station.{Station}
 use Rattle.unit.specs.Creators.{HasCreators, IsCreator, IsOfSame, IsWindow, KnowsCreators, places_of}
 use Rattle.unit.specs.Slots.{place_of, ring_of, slot_of}
+use Rattle.unit.specs.Window.{advanced}
 use Rattle.unit.proofs.CreatorsKept.{known_let, known_pop, known_put, known_shift, known_start}
 use Rattle.unit.proofs.Slots.{ring_cut, ring_get, ring_length, ring_push, ring_set, ring_shift, slot_small}
 
@@ -97,3 +99,16 @@ pub slot_gives : {X : Type 0} (xs : List X) (i : ℕ) (d : X) → i < length xs 
 slot_gives [] i d l = absurd (omega (arith, l))
 slot_gives (y ∷ xs) zero d l = refl
 slot_gives (y ∷ xs) (suc i) d l = slot_gives xs i d (omega (arith, l))
+
+-- A station comes further in its slot
+
+pub advanced_twice : (S : List Station) (k : ℕ) (d e w : Station) (stage : Stage) (made : Option ℕ) → slice_get S k ≡ Some w →
+    set (set S k (record (get_or S k d) { stage = stage })) k (record (get_or (set S k (record (get_or S k d) { stage = stage })) k e) { made = made }) ≡ set S k (advanced w stage made)
+advanced_twice [] k d e w stage made is = absurd (cc is)
+advanced_twice (y ∷ S) zero d e w stage made is = let same : y ≡ w = cc is in ap (λ x. advanced x stage made ∷ S) same
+advanced_twice (y ∷ S) (suc k) d e w stage made is = ap (λ l. y ∷ l) (advanced_twice S k d e w stage made is)
+
+pub advanced_same : (o : Option Station) (w : Station) (stage : Stage) (made : Option ℕ) → o ≡ Some w → IsOfSame (advanced w stage made) o
+advanced_same o w stage made is v e =
+    let same : w ≡ v = cc (is, e) in
+    (ap (λ x. x.instr) same, ap (λ x. x.destination) same)

@@ -1,5 +1,5 @@
 -- Who makes what a tenant reads, as the window remembers it from each let.
-use Rattle.std.specs.Prelude.{◌≡◌, ◌<◌, ◌≤◌, ℕ, List, length, Option, Some, None, slice_get, slice_index}
+use Rattle.std.specs.Prelude.{◌≡◌, ◌≢◌, ◌<◌, ◌≤◌, ℕ, List, length, Option, Some, None, slice_get, slice_index}
 use Rattle.instructions.specs.Instruction.{first_of, second_of}
 use Rattle.unit.specs.declared.creators.Creators.{Creators}
 use Rattle.unit.specs.declared.station.Station.{Station}
@@ -21,6 +21,17 @@ pub record IsYoungest (ws : List Station) (i r at k : ℕ) : Type 0 where
 abbrev pub IsCreator : List Station → ℕ → ℕ → ℕ → Type 0
 IsCreator ws i r at =
     (k : ℕ) → k < i → written_by (slice_get ws k) ≡ Some r → IsYoungest ws i r at k
+
+-- The tenant at a place is the youngest of the first i that writes register r
+pub record IsLastWriter (ws : List Station) (i r at : ℕ) : Type 0 where
+  pub older : at < i
+  pub writes : written_by (slice_get ws at) ≡ Some r
+  pub last : (k : ℕ) → at < k → k < i → written_by (slice_get ws k) ≢ Some r
+
+-- The youngest of the first i tenants that writes register r, or that none does
+abbrev pub LastWriter : List Station → ℕ → ℕ → Option ℕ → Type 0
+LastWriter ws i r None = (k : ℕ) → k < i → written_by (slice_get ws k) ≢ Some r
+LastWriter ws i r (Some at) = IsLastWriter ws i r at
 
 -- The creators of both sources, and who wrote its register before it
 pub record HasCreators (ws : List Station) (i : ℕ) (w : Station) (c : Creators) : Type 0 where

@@ -43,6 +43,19 @@ abbrev pub joined_if : Older → Option Entry → ℕ → ℕ → Older
 joined_if older None a n = older
 joined_if older (Some e) a n = joined older e a n
 
+-- What stores are to a load with an older one, by whether that lacks its address and has a byte of
+-- the load
+abbrev pub preceded_by : Older → Bool → Bool → Entry → Older
+preceded_by older true meets e = Unknown
+preceded_by Unknown false meets e = Unknown
+preceded_by Elsewhere false meets e = if meets then Nearest e else Elsewhere
+preceded_by (Nearest s) false meets e = Nearest s
+
+-- The same with what is an older store at most
+abbrev pub preceded : Older → Option Entry → ℕ → ℕ → Older
+preceded older None a n = older
+preceded older (Some e) a n = preceded_by older (lacks_address e) (overlaps a n e) e
+
 -- What the queue holds of station i, if that is a store
 abbrev pub store_at : List ℕ → List Station → Option Station → ℕ → Option Entry
 store_at registers W None i = None

@@ -1,5 +1,5 @@
 -- The live tenants as a list of stations, the oldest first, and what one of them reads.
-use Rattle.std.specs.Prelude.{ℕ, zero, suc, ◌+◌, ◌-◌, Bool, List, [], ◌∷◌, ◌++◌, length, Option, Some, None, ◌==◌, if◌then◌else◌, slice_index, slice_get, unwrap_or}
+use Rattle.std.specs.Prelude.{◌≡◌, ℕ, zero, suc, ◌+◌, ◌-◌, Bool, List, [], ◌∷◌, ◌++◌, length, Option, Some, None, ◌==◌, if◌then◌else◌, slice_index, slice_get, slice_set, unwrap_or}
 use Rattle.instructions.specs.Instruction.{destination, first_of, is_access, is_first_half, kind, second_of}
 use Rattle.instructions.specs.Programs.{Program}
 use Rattle.instructions.specs.declared.instr.Instr.{Instr}
@@ -79,13 +79,32 @@ operands_in registers ws w =
     (operands_by (kind w.instr.op) (source_in registers ws (first_of w.instr))
     (source_in registers ws (second_of w.instr)))
 
+-- How far a station has come by an outcome, where this next pc was predicted
+abbrev pub stage_after : Outcome → ℕ → Stage
+stage_after (Value v) predicted = Done
+stage_after (Next x) predicted = if x == predicted then Done else Miss x
+stage_after (Address a) predicted = Addr a
+stage_after (Stop c) predicted = Stops c
+stage_after (Pair low high) predicted = Done
+
+-- What it has made by an outcome, where this was made before
+abbrev pub made_after : Outcome → Option ℕ → Option ℕ
+made_after (Value v) made = Some v
+made_after (Pair low high) made = Some low
+made_after _ made = made
+
+-- A station that has come further
+abbrev pub advanced : Station → Stage → Option ℕ → Station
+advanced w stage made = record w { stage = stage; made = made }
+
 -- What a station becomes by its outcome
 abbrev pub finished : Station → Outcome → Station
-finished w (Value v) = record w { stage = Done; made = Some v }
-finished w (Next x) = record w { stage = if x == w.predicted then Done else Miss x }
-finished w (Address a) = record w { stage = Addr a }
-finished w (Stop c) = record w { stage = Stops c }
-finished w (Pair low high) = record w { stage = Done; made = Some low }
+finished w o = advanced w (stage_after o w.predicted) (made_after o w.made)
+
+-- The station at i has come further
+abbrev pub IsAdvanced : List Station → ℕ → Stage → Option ℕ → List Station → Type 0
+IsAdvanced ws i stage made later =
+    (w : Station) → slice_get ws i ≡ Some w → later ≡ slice_set ws i (advanced w stage made)
 
 -- The computed next pc of a miss
 abbrev pub miss_of : Stage → Option ℕ

@@ -24,6 +24,7 @@ impl<'c> Model for Ahead<'c> {
 
 impl<'c> Ahead<'c> {
     /// What a register holds.
+    #[inline(always)]
     pub fn register(&self, r: Reg) -> u32
         ensures { result ≡ slice_index self.now.registers r }
     {

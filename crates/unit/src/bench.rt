@@ -107,6 +107,7 @@ impl<'a, P: Predictor + Drop> Bench<'a, P> {
 
     /// Does the first turn that is possible, in the order of `Turn`. The turn that retires a stop answers Over,
     /// and so does each later one, which changes nothing.
+    #[inline(always)]
     pub fn turn(&mut self) -> Turn
         requires { self.old.pipeline.committed.count < 2 ^ 64 - 1 }
         ensures turn { IsTurn P.Predicts P.Learns self.old result self.new }

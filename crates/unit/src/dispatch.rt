@@ -45,17 +45,14 @@ fn new_station(next: Fetched, predicted: u32) -> Station
     }
 }
 
-// A number modulo the ring size, without a division where it is below two rings, as it mostly is.
+// A number below two rings modulo the ring size, without a division.
+#[inline(always)]
 fn wrapped(n: usize, ring: usize) -> usize
-    requires { 0 < ring }
+    requires { n < ring + ring }
     ensures value { result ≡ n % ring }
     ensures small { result < ring }
 {
-    if n < ring {
-        return n;
-    }
-    let rest = n - ring;
-    if rest < ring { rest } else { rest % ring }
+    if n < ring { n } else { n - ring }
 }
 
 // The half that comes next where nobody is live, by what waits for LO.
@@ -84,7 +81,7 @@ impl<'a> Pipeline<'a> {
     pub fn station_at(&self, i: usize) -> usize
         requires oldest { self.now.oldest < self.now.ring }
         requires most { self.now.ring ≤ 32 }
-        requires near { i ≤ 32 }
+        requires near { i ≤ self.now.ring }
         ensures value { result ≡ (self.now.oldest + i) % self.now.ring }
         ensures small { result < self.now.ring }
     {
@@ -124,6 +121,7 @@ impl<'a> Pipeline<'a> {
     pub fn leaver(&self) -> Option<Leaver>
         requires oldest { self.now.oldest < self.now.ring }
         requires most { self.now.ring ≤ 32 }
+        requires room { length self.now.window < self.now.ring }
         ensures { slice_get self.now.leavers (next_place self.now) ≡ Some result }
     {
         let station = self.station_at(self.window.len());
@@ -131,10 +129,11 @@ impl<'a> Pipeline<'a> {
     }
 
     /// Lets the next instruction.
+    #[inline(always)]
     pub fn let_out(&mut self, next: Fetched, predicted: u32)
         requires oldest { self.old.oldest < self.old.ring }
         requires most { self.old.ring ≤ 32 }
-        requires free { length self.old.window < 32 }
+        requires room { length self.old.window < self.old.ring }
         ensures window { self.new.window ≡ self.old.window ++ let_at next.instr next.half next.pc predicted ∷ [] }
         ensures leavers { self.new.leavers ≡ slice_set self.old.leavers (next_place self.old) None }
         ensures rest { self.new ≡ record self.old { window = self.new.window; leavers = self.new.leavers } }

@@ -4,7 +4,7 @@ ghost use Rattle.unit.specs.Changes.{NoneRuns, RunsOldest, with_window};
 ghost use Rattle.unit.specs.Givers.{Chosen, gives};
 ghost use Rattle.unit.specs.Notes.{AreNoted, AreSettled, missed_after, settled_at, settled_by};
 ghost use Rattle.unit.specs.Stages.{FirstReady};
-ghost use Rattle.unit.specs.Window.{finished as finished_of, operands_by, operands_in};
+ghost use Rattle.unit.specs.Window.{made_after as made_after_of, operands_by, operands_in, stage_after as stage_after_of};
 ghost use Rattle.instructions.specs.Instruction.{kind as kind_of};
 
 use crate::ahead::Ahead;
@@ -43,6 +43,7 @@ fn needed(kind: Kind, a: Option<u32>, b: Option<u32>) -> Option<Operands>
 }
 
 // What a station needs, if it can be claimed behind the first `i`.
+#[inline(always)]
 fn sources(window: &Window, ahead: &Ahead, i: usize, station: &Station) -> Option<Operands>
     requires there { i < length window.now }
     requires is { slice_get window.now i ≡ Some station.now }
@@ -58,6 +59,7 @@ fn sources(window: &Window, ahead: &Ahead, i: usize, station: &Station) -> Optio
 }
 
 // What the station at `i` needs, if it can be claimed.
+#[inline(always)]
 fn sources_at(window: &Window, ahead: &Ahead, i: usize) -> Option<Operands>
     requires { i ≤ length window.now }
     ensures { result ≡ gives (operands_in ahead.now.registers) window.now i }
@@ -69,6 +71,7 @@ fn sources_at(window: &Window, ahead: &Ahead, i: usize) -> Option<Operands>
 }
 
 // The oldest station that can be claimed; those before `from` can not.
+#[inline(always)]
 fn oldest_ready(window: &Window, ahead: &Ahead, from: usize) -> Option<Ready>
     requires { AreSettled from window.now }
     ensures { FirstReady ahead.now.registers window.now result }
@@ -92,6 +95,7 @@ fn is_settled(station: &Station) -> bool
     }
 }
 
+#[inline(always)]
 fn is_settled_at(window: &Window, i: usize) -> bool
     ensures { result ≡ settled_at (slice_get window.now i) }
 {
@@ -102,6 +106,7 @@ fn is_settled_at(window: &Window, i: usize) -> bool
 }
 
 // How many of the oldest are settled, where as many as `from` are known to be.
+#[inline(always)]
 fn settled(window: &Window, from: usize) -> usize
     requires { AreSettled from window.now }
     ensures { AreSettled result window.now }
@@ -114,32 +119,28 @@ fn settled(window: &Window, from: usize) -> usize
     window.len()
 }
 
-// The station where its instruction came to this.
-fn finished(station: Station, outcome: Outcome) -> Station
-    ensures { result ≡ finished_of station outcome }
+// How far a tenant comes by its outcome.
+#[inline(always)]
+fn stage_after(outcome: Outcome, predicted: u32) -> Stage
+    ensures { result ≡ stage_after_of outcome predicted }
 {
     match outcome {
-        Outcome::Value(v) | Outcome::Pair(v, _) => Station {
-            stage: Stage::Done,
-            made: Some(v),
-            ..station
-        },
-        Outcome::Next(x) => Station {
-            stage: if x == station.predicted {
-                Stage::Done
-            } else {
-                Stage::Miss(x)
-            },
-            ..station
-        },
-        Outcome::Address(a) => Station {
-            stage: Stage::Addr(a),
-            ..station
-        },
-        Outcome::Stop(c) => Station {
-            stage: Stage::Stops(c),
-            ..station
-        },
+        Outcome::Value(_) | Outcome::Pair(_, _) => Stage::Done,
+        Outcome::Next(x) if x == predicted => Stage::Done,
+        Outcome::Next(x) => Stage::Miss(x),
+        Outcome::Address(a) => Stage::Addr(a),
+        Outcome::Stop(c) => Stage::Stops(c),
+    }
+}
+
+// What it has made by its outcome.
+#[inline(always)]
+fn made_after(outcome: Outcome, made: Option<u32>) -> Option<u32>
+    ensures { result ≡ made_after_of outcome made }
+{
+    match outcome {
+        Outcome::Value(v) | Outcome::Pair(v, _) => Some(v),
+        _ => made,
     }
 }
 
@@ -155,6 +156,7 @@ fn missed_by(missed: bool, stage: Stage) -> bool
 
 impl<'a> Pipeline<'a> {
     /// Claims and finishes the oldest tenant that can be claimed.
+    #[inline(always)]
     pub fn runs(&mut self) -> bool
         requires { AreNoted self.old.missed self.old.settled self.old.window }
         ensures window { Chosen result (RunsOldest self.old self.new) (NoneRuns self.old) }
@@ -166,15 +168,16 @@ impl<'a> Pipeline<'a> {
         let Some(ready) = oldest_ready(&self.window, &self.ahead(), self.settled) else {
             return false;
         };
-        let Some(station) = self.window.at(ready.at) else {
+        let Some(station) = self.window.peek(ready.at) else {
             return false;
         };
         let Operands { a, b } = ready.operands;
         let size = self.program.size();
         let outcome = outcome_of(&station.instr, station.half, station.pc, a, b, size);
-        let later = finished(station, outcome);
-        self.missed = missed_by(self.missed, later.stage);
-        self.window.put(ready.at, later);
+        let stage = stage_after(outcome, station.predicted);
+        let made = made_after(outcome, station.made);
+        self.missed = missed_by(self.missed, stage);
+        self.window.advance(ready.at, stage, made);
         true
     }
 }

@@ -2,16 +2,17 @@
 ghost use Rattle.std.specs.Prelude.{◌≡◌, ◌<◌, ◌≤◌, length, take, slice_get, Some};
 ghost use Rattle.instructions.specs.Instruction.{second_of};
 ghost use Rattle.lsq.specs.Entries.{bytes};
-ghost use Rattle.unit.specs.Forwarding.{joined as joined_of, older_of, store_at as store_in};
-ghost use Rattle.unit.specs.Loads.{address_of as address_by, entries, entry as entry_of};
+ghost use Rattle.unit.specs.Forwarding.{older_of, preceded as preceded_of, store_at as store_in};
+ghost use Rattle.unit.specs.Loads.{StoresWriteNone, address_of as address_by, entries, entry as entry_of};
 ghost use Rattle.unit.specs.Window.{source_in};
 
 use crate::ahead::Ahead;
 use crate::source::source;
 use crate::station::{Stage, Station};
 use crate::window::Window;
+use crate::writers::{last_writer, writer_before};
 use inorder::{access_entry, is_store};
-use instructions::Kind;
+use instructions::{Kind, Reg};
 use lsq::{Entry, Width, lacks_address, overlaps};
 
 /// What the older stores are to a load.
@@ -69,30 +70,38 @@ fn store_at(window: &Window, ahead: &Ahead, i: usize) -> Option<Entry>
     }
 }
 
-// What the older stores are to a load with one store more.
-fn joined(older: Older, store: Entry, address: u32, width: Width) -> Older
-    ensures { result ≡ joined_of older store address (bytes width) }
+// What stores are to a load with what is an older one at most.
+#[inline(always)]
+fn preceded(older: Older, store: Option<Entry>, address: u32, width: Width) -> Older
+    ensures { result ≡ preceded_of older store address (bytes width) }
 {
+    let Some(store) = store else {
+        return older;
+    };
     if lacks_address(&store) {
         return Older::Unknown;
     }
     match older {
-        Older::Unknown => Older::Unknown,
-        _ if overlaps(&store, address, width) => Older::Nearest(store),
+        Older::Elsewhere if overlaps(&store, address, width) => Older::Nearest(store),
         _ => older,
     }
 }
 
-/// What the stores among the first `i` are to a load.
+/// What the stores among the first `i` are to a load. Stores write no register, so they stand among
+/// those that write register 0.
+#[inline(always)]
 pub fn look_back(window: &Window, ahead: &Ahead, i: usize, address: u32, width: Width) -> Older
-    requires { i ≤ length window.now }
+    requires there { i ≤ length window.now }
+    requires stores { StoresWriteNone window.now }
     ensures { result ≡ older_of (entries ahead.now.registers window.now i) address (bytes width) }
 {
     let mut older = Older::Elsewhere;
-    for at in 0..i {
-        if let Some(store) = store_at(window, ahead, at) {
-            older = joined(older, store, address, width);
+    let mut writer = last_writer(window, Reg::ZERO);
+    while let Some(at) = writer {
+        if at < i {
+            older = preceded(older, store_at(window, ahead, at), address, width);
         }
+        writer = writer_before(window, at, Reg::ZERO);
     }
     older
 }

@@ -19,6 +19,7 @@ mod shown;
 mod source;
 mod station;
 mod window;
+mod writers;
 
 pub use bench::{Bench, Turn};
 pub use station::{Stage, Station};

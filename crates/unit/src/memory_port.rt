@@ -6,7 +6,7 @@ ghost use Rattle.unit.specs.Changes.{LoadsOldest, NoneLoads};
 ghost use Rattle.unit.specs.Forwarding.{value_over};
 ghost use Rattle.unit.specs.Givers.{Chosen, gives};
 ghost use Rattle.inorder.specs.Loads.{access_width as width_of};
-ghost use Rattle.unit.specs.Loads.{AreInside, load_in, waits as waits_of};
+ghost use Rattle.unit.specs.Loads.{AreInside, StoresWriteNone, load_in, waits as waits_of};
 ghost use Rattle.unit.specs.Notes.{AreNoted, AreSettled};
 ghost use Rattle.unit.specs.Stages.{FirstAnswered};
 
@@ -55,9 +55,11 @@ fn value_of(older: Older, ahead: &Ahead, op: Op, address: u32) -> Option<u32>
 }
 
 // The value of the load at `i`, if it is one with its address that is not blocked.
+#[inline(always)]
 fn value_at(window: &Window, ahead: &Ahead, i: usize) -> Option<u32>
     requires there { i < length window.now }
     requires inside { AreInside (length ahead.now.memory) window.now }
+    requires stores { StoresWriteNone window.now }
     ensures { result ≡ gives (load_in ahead.now.registers ahead.now.memory) window.now i }
 {
     let station = window.peek(i)?;
@@ -68,8 +70,10 @@ fn value_at(window: &Window, ahead: &Ahead, i: usize) -> Option<u32>
 }
 
 // The oldest load with its address that is not blocked; none of those before `from` is one.
+#[inline(always)]
 fn oldest_answered(window: &Window, ahead: &Ahead, from: usize) -> Option<Answered>
     requires inside { AreInside (length ahead.now.memory) window.now }
+    requires stores { StoresWriteNone window.now }
     requires settled { AreSettled from window.now }
     ensures { FirstAnswered ahead.now.registers ahead.now.memory window.now result }
 {
@@ -83,8 +87,10 @@ fn oldest_answered(window: &Window, ahead: &Ahead, from: usize) -> Option<Answer
 
 impl<'a> Pipeline<'a> {
     /// Answers the oldest load with its address that is not blocked.
+    #[inline(always)]
     pub fn loads(&mut self) -> bool
         requires inside { AreInside (length self.old.committed.memory) self.old.window }
+        requires stores { StoresWriteNone self.old.window }
         requires noted { AreNoted self.old.missed self.old.settled self.old.window }
         ensures window { Chosen result (LoadsOldest self.old self.new) (NoneLoads self.old) }
         ensures same { Chosen result (Unit {0}) (self.new ≡ self.old) }
@@ -94,17 +100,8 @@ impl<'a> Pipeline<'a> {
         let Some(answered) = oldest_answered(&self.window, &self.ahead(), self.settled) else {
             return false;
         };
-        let Some(station) = self.window.at(answered.at) else {
-            return false;
-        };
-        self.window.put(
-            answered.at,
-            Station {
-                stage: Stage::Done,
-                made: Some(answered.value),
-                ..station
-            },
-        );
+        self.window
+            .advance(answered.at, Stage::Done, Some(answered.value));
         true
     }
 }

@@ -63,6 +63,7 @@ impl<'a> Pipeline<'a> {
     }
 
     /// The state that a new tenant finds where nobody is live.
+    #[inline(always)]
     pub fn ahead(&self) -> Ahead<'_>
         ensures { result ≡ ahead_of self.now }
     {
@@ -73,6 +74,7 @@ impl<'a> Pipeline<'a> {
     }
 
     /// A turn where nothing recovers and nothing can be let.
+    #[inline(always)]
     pub fn moves(&mut self) -> Turn
         requires unit { IsUnit self.old }
         requires count { self.old.committed.count < 2 ^ 64 - 1 }

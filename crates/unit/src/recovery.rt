@@ -41,7 +41,7 @@ fn oldest_miss(window: &Window, from: usize) -> Option<Missed>
 
 impl<'a> Pipeline<'a> {
     /// Squashes all tenants after the oldest miss, and mends it.
-    #[tactic(auto, using(std::proofs::lemmas::List::take_more_set))]
+    #[inline(always)]
     pub fn recovers(&mut self) -> bool
         requires room { length self.old.window ≤ 32 }
         requires noted { AreNoted self.old.missed self.old.settled self.old.window }
@@ -53,6 +53,21 @@ impl<'a> Pipeline<'a> {
         if !self.missed {
             return false;
         }
+        self.recovers_oldest()
+    }
+
+    // The same where a station may be a miss, apart from the way that nearly every turn takes.
+    #[cold]
+    #[inline(never)]
+    #[tactic(auto, using(std::proofs::lemmas::List::take_more_set))]
+    fn recovers_oldest(&mut self) -> bool
+        requires room { length self.old.window ≤ 32 }
+        requires noted { AreNoted self.old.missed self.old.settled self.old.window }
+        ensures window { Chosen result (RecoversOldest self.old self.new) (NoneRecovers self.old) }
+        ensures same { Chosen result (Unit {0}) (self.new ≡ self.old) }
+        ensures rest { self.new ≡ with_window self.old self.new.window self.new.missed self.new.settled }
+        ensures noted { AreNoted self.new.missed self.new.settled self.new.window }
+    {
         let Some(miss) = oldest_miss(&self.window, self.settled) else {
             return false;
         };

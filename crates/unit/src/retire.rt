@@ -21,6 +21,7 @@ fn leave(leavers: &mut [Option<Leaver>; 32], station: usize, told: Option<Leaver
 
 impl<'a> Pipeline<'a> {
     // What the oldest tenant has made or stored is committed, and what has waited for it.
+    #[inline(always)]
     fn commit(&mut self, oldest: &Station)
         requires count { self.old.committed.count < 2 ^ 64 - 1 }
         requires can { HasEnded (length self.old.committed.memory) oldest.now.instr oldest.now.stage }
@@ -41,6 +42,7 @@ impl<'a> Pipeline<'a> {
     }
 
     // The oldest station is free again.
+    #[inline(always)]
     fn shift(&mut self)
         requires oldest { self.old.oldest < self.old.ring }
         requires most { self.old.ring ≤ 32 }
@@ -78,6 +80,7 @@ impl<'a> Pipeline<'a> {
     }
 
     // The oldest tenant commits and leaves its station.
+    #[inline(always)]
     fn leaves(&mut self, oldest: Station) -> Turn
         requires oldest { self.old.oldest < self.old.ring }
         requires most { self.old.ring ≤ 32 }
@@ -94,6 +97,7 @@ impl<'a> Pipeline<'a> {
     }
 
     /// Retires the oldest tenant.
+    #[inline(always)]
     pub fn retires(&mut self) -> Turn
         requires oldest { self.old.oldest < self.old.ring }
         requires most { self.old.ring ≤ 32 }

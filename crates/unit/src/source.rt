@@ -9,6 +9,7 @@ use instructions::Reg;
 
 /// What register `r` is worth to the tenant at `i`, if that was made. Its creator is the live tenant
 /// at `at`, if that is older and writes the register.
+#[inline(always)]
 pub fn source(window: &Window, ahead: &Ahead, i: usize, r: Reg, at: u8) -> Option<u32>
     requires there { i ≤ length window.now }
     requires creator { IsCreator window.now i r at }

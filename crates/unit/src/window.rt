@@ -1,8 +1,8 @@
 //! The stations of the live tenants, the oldest first, and who makes what they read.
 ghost use Rattle.std.specs.Prelude.{◌≡◌, ◌<◌, ◌≤◌, ◌-◌, [], ◌∷◌, ◌++◌, length, take, drop, slice_get, slice_set, option_copied, Some};
-ghost use Rattle.unit.specs.Creators.{CreatorsAt, IsOfSame};
+ghost use Rattle.unit.specs.Creators.{CreatorsAt, IsCreator, IsOfSame};
 ghost use Rattle.unit.specs.Slots.{place_of as place_in, slot_of as slot_in};
-ghost use Rattle.unit.specs.Window.{access_at, accesses as accesses_of};
+ghost use Rattle.unit.specs.Window.{IsAdvanced, access_at, accesses as accesses_of};
 
 use crate::creators::Creators;
 use crate::station::{Stage, Station};
@@ -119,6 +119,7 @@ impl Window {
         self.peek(i).copied()
     }
 
+    #[inline(always)]
     pub fn peek(&self, i: usize) -> Option<&Station>
         ensures { option_copied result ≡ slice_get self.now i }
     {
@@ -127,6 +128,13 @@ impl Window {
         }
         let slot = slot_of(self.start, i);
         Some(&self.stations[slot])
+    }
+
+    /// The place of the youngest tenant that writes a register, if one does.
+    pub fn newest_writer(&self, r: Reg) -> u8
+        ensures { IsCreator self.now (length self.now) r result }
+    {
+        place_of(self.newest[r.number() as usize], self.start)
     }
 
     /// The creators of the tenant at `i`, by their places.
@@ -153,6 +161,18 @@ impl Window {
         self.stations[slot] = station;
     }
 
+    /// The tenant at `i` has come further.
+    #[inline(always)]
+    pub fn advance(&mut self, i: usize, stage: Stage, made: Option<u32>)
+        requires { i < length self.old }
+        ensures { IsAdvanced self.old i stage made self.new }
+    {
+        let slot = slot_of(self.start, i);
+        self.stations[slot].stage = stage;
+        self.stations[slot].made = made;
+    }
+
+    #[inline(always)]
     pub fn push(&mut self, station: Station)
         requires { length self.old < 32 }
         ensures { self.new ≡ self.old ++ station ∷ [] }
@@ -196,6 +216,7 @@ impl Window {
     }
 
     /// Takes the oldest out.
+    #[inline(always)]
     pub fn shift(&mut self)
         ensures { self.new ≡ drop 1 self.old }
     {

@@ -1,9 +1,16 @@
-use Rattle.std.proofs.Common.{◌≡◌}
+use Rattle.std.proofs.Common.{◌≡◌, ℕ, Some}
+use Rattle.std.specs.Prelude.{slice_get}
 use Rattle.lsq.specs.Entries.{bytes}
-use Rattle.unit.specs.Forwarding.{older_of}
-use Rattle.unit.specs.Loads.{entries}
+use Rattle.unit.specs.Creators.{written_by}
+use Rattle.unit.proofs.Walk.{Looked, behind}
 use Rattle.unit.proofs.forwarding.look_back.Given as goal
 
-abbrev pub invariant-loop-at : goal.invariant-loop-at
-invariant-loop-at l =
-    l.older ≡ older_of (entries l.ahead.registers l.window l.at) l.address (bytes l.width)
+abbrev pub invariant-loop-writer : goal.invariant-loop-writer
+invariant-loop-writer l =
+    record {
+      looked : Looked l.ahead.registers l.window l.address (bytes l.width) l.i l.older l.writer;
+      writes : (at : ℕ) → l.writer ≡ Some at → written_by (slice_get l.window at) ≡ Some 0;
+    }
+
+abbrev pub decreases-loop-writer : goal.decreases-loop-writer
+decreases-loop-writer l = behind l.writer

@@ -3,7 +3,7 @@ use Rattle.std.proofs.Common.{sym, subst}
 use Rattle.unit.specs.Changes.{registers_of}
 use Rattle.unit.specs.Givers.{NoneGives}
 use Rattle.unit.specs.Loads.{load_in}
-use Rattle.unit.proofs.EndTurns.{are_inside}
+use Rattle.unit.proofs.EndTurns.{are_inside, stores_write_none}
 use Rattle.unit.proofs.Idle.{Idle, idle, leaves_after, loaded_shows, ran_shows, retired_plain, retired_shows}
 use Rattle.unit.proofs.pipeline.Pipeline.moves.Goals as goal
 
@@ -27,6 +27,12 @@ loads-requires-clause-inside c =
     let i : Idle c.args.self.now c.runs.new.self = idle c.args.self.now c.runs.new.self c.requires.unit c.requires.open c.requires.miss c.requires.lets c.if-runs.ensures.window c.if-runs.ensures.same
     c.runs.ensures.rest c.runs.ensures.noted in
     are_inside c.runs.new.self i.unit
+
+pub loads-requires-clause-stores : goal.loads-requires-clause-stores
+loads-requires-clause-stores c =
+    let i : Idle c.args.self.now c.runs.new.self = idle c.args.self.now c.runs.new.self c.requires.unit c.requires.open c.requires.miss c.requires.lets c.if-runs.ensures.window c.if-runs.ensures.same
+    c.runs.ensures.rest c.runs.ensures.noted in
+    stores_write_none c.runs.new.self i.unit
 
 pub returns-then-loads-clause-turn : goal.returns-then-loads-clause-turn
 returns-then-loads-clause-turn c =

@@ -5,7 +5,7 @@ use Rattle.unit.specs.Notes.{AreNoted, miss_in}
 use Rattle.unit.specs.Stages.{FirstMiss}
 use Rattle.unit.specs.Window.{mended}
 use Rattle.unit.proofs.Noted.{noted_mended}
-use Rattle.unit.proofs.pipeline.Pipeline.recovers.Goals as goal
+use Rattle.unit.proofs.pipeline.Pipeline.recovers_oldest.Goals as goal
 
 pub overflow_add-miss : goal.overflow_add-miss
 overflow_add-miss c =
