@@ -1,7 +1,7 @@
 -- Who can be a miss: only a jump.
 use Rattle.std.proofs.Common.{◌≡◌, ◌≢◌, ℕ, Bool, true, length, ap, sym, ◌∙◌, refl}
 use Rattle.std.specs.Prelude.{Result, Ok, Err, not, ◌&&◌, ◌||◌, ◌==◌}
-use Rattle.instructions.specs.Instruction.{destination_by, target_of}
+use Rattle.instructions.specs.Instruction.{destination_by, is_access, target_of}
 use Rattle.instructions.specs.Operations.{as_address, as_value, outcome_by}
 use Rattle.instructions.specs.Programs.{Program}
 use Rattle.instructions.specs.declared.op.Kind.{Kind}
@@ -9,7 +9,7 @@ use Rattle.instructions.specs.declared.op.Kind.TheVariants.{Computes, Jumps, Lin
 use Rattle.instructions.specs.declared.stop.Outcome.{Outcome}
 use Rattle.instructions.specs.declared.stop.Outcome.TheVariants.{Next}
 use Rattle.instructions.specs.declared.stop.Stop.{Stop}
-use Rattle.inorder.specs.Tenants.{Tenant, computed, instr, is_access, kind_of, operand_value}
+use Rattle.inorder.specs.Tenants.{Tenant, computed, instr, kind_of, operand_value}
 use Rattle.front.specs.Recoveries.{may_miss}
 use Rattle.front.specs.Trail.{is_link, record_of}
 
