@@ -106,7 +106,8 @@ impl Committed {
     /// Writes the low `width` bytes of a number from an address on.
     pub fn store_at(&mut self, at: usize, width: usize, value: u32)
         requires inside { at + width ≤ length self.old.memory }
-        ensures { self.new ≡ record self.old { memory = store_bytes self.old.memory at width value } }
+        ensures { self.new ≡
+            record self.old { memory = store_bytes self.old.memory at width value } }
     {
         store(self.memory.as_mut_slice(), at, width, value);
     }

@@ -29,7 +29,8 @@ pub fn guess<P: Predictor>(
     half: Half,
     pc: u32,
 ) -> u32
-    ensures { Guesses P.Predicts P.Learns left instr.now half pc result predictor.old predictor.new }
+    ensures { Guesses P.Predicts P.Learns left instr.now half pc result
+        predictor.old predictor.new }
 {
     tell(predictor, left);
     match instr.fixed_next(half, pc) {

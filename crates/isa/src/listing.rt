@@ -135,7 +135,8 @@ fn labels_of<'a>(
     entries: &[Entry<'a>],
     targets: &[Target<'a>],
 ) -> Result<Labels<'a>, TextFault>
-    ensures ok { IfOk result (λ labels. (code : List Instr) → resolved labels (rows code targets.now)
+    ensures ok { IfOk result (λ labels. (code : List Instr)
+        → resolved labels (rows code targets.now)
         ≡ resolved (pairs (map mark entries.now)) (rows code targets.now)) }
     ensures fault { IfErr result (λ f. f.kind ≢ FaultKind.Memory
         → (others : Option (ℕ × FaultKind))

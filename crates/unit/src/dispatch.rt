@@ -134,9 +134,11 @@ impl<'a> Pipeline<'a> {
         requires oldest { self.old.oldest < self.old.ring }
         requires most { self.old.ring ≤ 32 }
         requires room { length self.old.window < self.old.ring }
-        ensures window { self.new.window ≡ self.old.window ++ let_at next.instr next.half next.pc predicted ∷ [] }
+        ensures window { self.new.window ≡
+            self.old.window ++ let_at next.instr next.half next.pc predicted ∷ [] }
         ensures leavers { self.new.leavers ≡ slice_set self.old.leavers (next_place self.old) None }
-        ensures rest { self.new ≡ record self.old { window = self.new.window; leavers = self.new.leavers } }
+        ensures rest { self.new ≡
+            record self.old { window = self.new.window; leavers = self.new.leavers } }
     {
         let station = self.station_at(self.window.len());
         self.leavers[station] = None;

@@ -161,7 +161,8 @@ impl<'a> Pipeline<'a> {
         requires { AreNoted self.old.missed self.old.settled self.old.window }
         ensures window { Chosen result (RunsOldest self.old self.new) (NoneRuns self.old) }
         ensures same { Chosen result (Unit {0}) (self.new.window ≡ self.old.window) }
-        ensures rest { self.new ≡ with_window self.old self.new.window self.new.missed self.new.settled }
+        ensures rest { self.new ≡
+            with_window self.old self.new.window self.new.missed self.new.settled }
         ensures noted { AreNoted self.new.missed self.new.settled self.new.window }
     {
         self.settled = settled(&self.window, self.settled);

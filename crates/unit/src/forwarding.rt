@@ -39,7 +39,8 @@ fn address_of(stage: Stage) -> Option<u32>
 fn content(window: &Window, ahead: &Ahead, i: usize, station: &Station) -> Option<u32>
     requires there { i < length window.now }
     requires is { slice_get window.now i ≡ Some station.now }
-    ensures { result ≡ source_in ahead.now.registers (take i window.now) (second_of station.now.instr) }
+    ensures { result ≡
+        source_in ahead.now.registers (take i window.now) (second_of station.now.instr) }
 {
     let creators = window.creators(i);
     source(window, ahead, i, station.instr.second(), creators.second)

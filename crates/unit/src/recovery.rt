@@ -47,7 +47,8 @@ impl<'a> Pipeline<'a> {
         requires noted { AreNoted self.old.missed self.old.settled self.old.window }
         ensures window { Chosen result (RecoversOldest self.old self.new) (NoneRecovers self.old) }
         ensures same { Chosen result (Unit {0}) (self.new ≡ self.old) }
-        ensures rest { self.new ≡ with_window self.old self.new.window self.new.missed self.new.settled }
+        ensures rest { self.new ≡
+            with_window self.old self.new.window self.new.missed self.new.settled }
         ensures noted { AreNoted self.new.missed self.new.settled self.new.window }
     {
         if !self.missed {
@@ -65,7 +66,8 @@ impl<'a> Pipeline<'a> {
         requires noted { AreNoted self.old.missed self.old.settled self.old.window }
         ensures window { Chosen result (RecoversOldest self.old self.new) (NoneRecovers self.old) }
         ensures same { Chosen result (Unit {0}) (self.new ≡ self.old) }
-        ensures rest { self.new ≡ with_window self.old self.new.window self.new.missed self.new.settled }
+        ensures rest { self.new ≡
+            with_window self.old self.new.window self.new.missed self.new.settled }
         ensures noted { AreNoted self.new.missed self.new.settled self.new.window }
     {
         let Some(miss) = oldest_miss(&self.window, self.settled) else {

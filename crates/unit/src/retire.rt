@@ -24,7 +24,8 @@ impl<'a> Pipeline<'a> {
     #[inline(always)]
     fn commit(&mut self, oldest: &Station)
         requires count { self.old.committed.count < 2 ^ 64 - 1 }
-        requires can { HasEnded (length self.old.committed.memory) oldest.now.instr oldest.now.stage }
+        requires can { HasEnded (length self.old.committed.memory)
+            oldest.now.instr oldest.now.stage }
         ensures committed { self.new.committed ≡ with_station oldest.now (ahead_of self.old) }
         ensures rest { self.new ≡ record self.old { committed = self.new.committed; low = None } }
     {
