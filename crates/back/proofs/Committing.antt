@@ -6,7 +6,7 @@ use Rattle.instructions.specs.Programs.{Program}
 use Rattle.instructions.specs.declared.op.Kind.{Kind}
 use Rattle.instructions.specs.declared.op.Kind.TheVariants.{Computes, Jumps, Links, Loads, Stores}
 use Rattle.instructions.specs.declared.stop.Outcome.TheVariants.{Address}
-use Rattle.inorder.specs.Committed.{commits, commits_by, with_first, with_stored, with_tenant}
+use Rattle.inorder.specs.Committed.{ahead_by, commits, commits_by, with_first, with_stored, with_tenant}
 use Rattle.inorder.specs.Machine.{State, store_bytes, write}
 use Rattle.inorder.specs.Memory.{stored, stored_by}
 use Rattle.inorder.specs.Steps.{made_at_end, retired}
@@ -18,7 +18,7 @@ use Rattle.inorder.proofs.Sound.{DoneIs, FateIs}
 use Rattle.station.specs.declared.answers.Last.{Last}
 use Rattle.station.specs.declared.answers.Last.TheVariants.{Done as WasDone, Stop as WasStop, Stored}
 use Rattle.station.specs.Retirement.{EndsAs}
-use Rattle.back.specs.Retirement.{StoreIsInside, goes_on_at, with_done, with_last, state_with_low, with_store, value_written}
+use Rattle.back.specs.Retirement.{StoreIsInside, goes_on_at, with_done, with_last, with_store, value_written}
 
 abbrev state_at : List ℕ → List ℕ → ℕ → ℕ → State
 state_at registers memory pc count = record { registers = registers; memory = memory; pc = pc; count = count }
@@ -122,7 +122,7 @@ module _ (P : Program) (t : Tenant) (first : is_first P t ≡ true) where
   first_done (Stored a c) e f = let x = sym computes ∙ e.0 in absurd (cc x)
   first_done (WasStop c) e f = absurd (pair_goes_on P t pair c (subst (FateIs P t) e f).1)
 
-  pub first_as : (n v : ℕ) (s : State) → t.fate ≡ Done v → FateIs P t t.fate → with_first P (retired t n) s ≡ state_with_low (Some v) s
+  pub first_as : (n v : ℕ) (s : State) → t.fate ≡ Done v → FateIs P t t.fate → with_first P (retired t n) s ≡ ahead_by (Some v) s
   first_as n v s e f =
       let d : DoneIs P t v Computes = subst (DoneIs P t v) computes (subst (FateIs P t) e f).0 in
       let made : unwrap_or (retired t n).made 0 ≡ v = ap (λ m. unwrap_or m 0) (ap (λ x. made_at_end x t.made n) e ∙ d.1) in

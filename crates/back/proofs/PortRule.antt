@@ -2,7 +2,7 @@
 use Rattle.std.proofs.Common.{◌≡◌, ℕ, ◌+◌, ◌%◌, ◌<◌, ◌≤◌, Bool, true, false, ◌&&◌, List, length, Some, None, refl, sym, ap, ◌∙◌, subst, inl, inr, arith, true≢false, unwrap_or, zero-le}
 use Rattle.std.proofs.lemmas.Bool.{cases_lt}
 use Rattle.std.specs.Prelude.{slice_index, is_none}
-use Rattle.instructions.specs.Instruction.{width}
+use Rattle.instructions.specs.Instruction.{is_access, width}
 use Rattle.instructions.specs.Operations.{loaded}
 use Rattle.instructions.specs.Programs.{Program}
 use Rattle.lsq.specs.Bytes.{little_endian}
@@ -16,7 +16,7 @@ use Rattle.inorder.specs.Loads.{access_width, address_by, content_by, entry_of, 
 use Rattle.inorder.specs.Memory.{raw, raw_at}
 use Rattle.inorder.specs.Replies.{Has}
 use Rattle.inorder.specs.Steps.{MayLoad}
-use Rattle.inorder.specs.Tenants.{Addr, Live, Tenant, computed, instr, is_access, is_live_access, kind_of, stands_live}
+use Rattle.inorder.specs.Tenants.{Addr, Live, Tenant, computed, instr, is_live_access, kind_of, stands_live}
 use Rattle.inorder.specs.Unit.{Sizes, UpdateUnit, at, older, younger}
 use Rattle.inorder.proofs.Basics.{split_at}
 use Rattle.inorder.proofs.Loads.{forward, from_memory}

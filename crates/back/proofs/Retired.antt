@@ -11,7 +11,7 @@ use Rattle.inorder.specs.declared.history.Event.TheVariants.{Does}
 use Rattle.inorder.specs.declared.history.Source.TheVariants.{Second}
 use Rattle.inorder.specs.declared.history.Step.{Step}
 use Rattle.inorder.specs.declared.history.Step.TheVariants.{On}
-use Rattle.inorder.specs.Committed.{commits, commits_by}
+use Rattle.inorder.specs.Committed.{ahead_by, commits, commits_by}
 use Rattle.inorder.specs.History.{IsLegal, back, entry, unit_of, renewals, StartsWith}
 use Rattle.inorder.specs.OneHistory.{Adds}
 use Rattle.inorder.specs.Legal.{Allowed, applied, changed}
@@ -28,7 +28,7 @@ use Rattle.station.specs.declared.answers.Last.{Last}
 use Rattle.station.specs.declared.answers.Last.TheVariants.{Done as WasDone, Stop as WasStop, Stored}
 use Rattle.station.specs.Retirement.{EndsAs, IsRetired}
 use Rattle.back.specs.Kept.{KeepsUnit}
-use Rattle.back.specs.Retirement.{StoreIsInside, low_in, state_behind, stop_in, state_with_low}
+use Rattle.back.specs.Retirement.{StoreIsInside, low_in, state_behind, stop_in}
 use Rattle.back.proofs.Committing.{IsDone, first_done, inside_as}
 use Rattle.back.proofs.OwnEntries.{IsSplit, added_own, split_own}
 use Rattle.back.proofs.UnitKept.{all_quiet, gone_on, quiet_keeps}
@@ -103,7 +103,7 @@ pub record HasRetired (P : Program) (C : Sizes) (old new : List Entry) (i : Inst
   pub ends : EndsAs P last tenant
   pub first : is_first P tenant ≡ is_first_half i.op half
   pub done : is_first_half i.op half ≡ true → IsDone last
-  pub level : (code : Stop) → last ≡ WasStop code → state_with_low low state ≡ state
+  pub level : (code : Stop) → last ≡ WasStop code → ahead_by low state ≡ state
   pub unit : KeepsUnit P C (unit_of P C new) (state_behind i half last low state) (low_in i half last) ((head + 1) % C.ring) (stop_in last)
   pub inside : StoreIsInside (length P.bytes) i last
 
@@ -189,7 +189,7 @@ module _ (P : Program) (C : Sizes) (old new : List Entry) (station tag index : �
   first_there : is_first P there.tenant ≡ is_first P a.tenant
   first_there = λ j. is_first_half (instr_of P (there.fact.index j)).op (there.fact.half j)
 
-  level_here : (code : Stop) → last ≡ WasStop code → state_with_low low state ≡ state
+  level_here : (code : Stop) → last ≡ WasStop code → ahead_by low state ≡ state
   level_here code q = kept_before.low_is ∙ (level_stop P C U back r.p r.n a ok code (subst (λ l. EndsAs P l a.tenant) q ends_here) ∙ sym kept_before.state_is)
 
   pub has_retired : HasRetired P C old new i half last state low head

@@ -10,7 +10,7 @@ use Rattle.instructions.specs.declared.stop.Stop.{Stop}
 use Rattle.inorder.specs.declared.history.Act.TheVariants.{Retire}
 use Rattle.inorder.specs.declared.history.Step.TheVariants.{On}
 use Rattle.inorder.specs.Callers.{GoesOn, head_station, is_retired, stands_retired}
-use Rattle.inorder.specs.Committed.{ahead, commits, commits_by, committed, with_retired, with_tenant}
+use Rattle.inorder.specs.Committed.{ahead, ahead_by, commits, commits_by, committed, with_retired, with_tenant}
 use Rattle.inorder.specs.Legal.{Allowed, applied}
 use Rattle.inorder.specs.Machine.{State}
 use Rattle.inorder.specs.Steps.{IsNoRetiredStop, retired}
@@ -30,7 +30,7 @@ use Rattle.station.specs.declared.answers.Last.TheVariants.{Done as WasDone, Sto
 use Rattle.station.specs.Retirement.{EndsAs}
 use Rattle.back.specs.Kept.{EndIs, KeepsUnit}
 use Rattle.back.specs.Kept.WhyEnded.{ByStop}
-use Rattle.back.specs.Retirement.{low_by, low_in, state_behind, state_behind_by, stop_in, with_last, state_with_low}
+use Rattle.back.specs.Retirement.{low_by, low_in, state_behind, state_behind_by, stop_in, with_last}
 use Rattle.back.proofs.Committing.{committed_as, first_as, first_done}
 use Rattle.inorder.proofs.Recent.{live_recent, recent_change}
 use Rattle.inorder.proofs.Stations.{OldGone}
@@ -175,10 +175,10 @@ module _ (P : Program) (C : Sizes) (U : UpdateUnit) (by p n : ℕ) (a : Allowed 
     commits_it : commits (retired t n) ≡ true
     commits_it = ap (commits_by Retired) e
 
-    first_ahead : ahead P V.tenants ≡ state_with_low (Some v) (committed P us)
+    first_ahead : ahead P V.tenants ≡ ahead_by (Some v) (committed P us)
     first_ahead =
         now_ahead ∙ ((λ i. cond (commits_it i) (with_retired (first i) P (retired t n) (ahead P us)) (ahead P us))
-        ∙ (first_as P t first n v (ahead P us) e own_sound.own.fate ∙ ap (state_with_low (Some v)) (level_first first)))
+        ∙ (first_as P t first n v (ahead P us) e own_sound.own.fate ∙ ap (ahead_by (Some v)) (level_first first)))
 
     first_committed : committed P V.tenants ≡ committed P us
     first_committed = now_committed ∙ (λ i. cond (commits_it i && not (first i)) (with_tenant P (retired t n) (ahead P us)) (committed P us))
@@ -219,7 +219,7 @@ module _ (P : Program) (C : Sizes) (U : UpdateUnit) (by p n : ℕ) (a : Allowed 
       go : (b : Bool) → is_first P t ≡ b → (last : Last) → EndsAs P last t → Goal b last
       go true f (WasDone v) e = record {
         state_is = k.state_is ∙ sym (first_committed f v e);
-        low_is = ap (state_with_low (Some v)) k.state_is ∙ sym (first_ahead f v e);
+        low_is = ap (ahead_by (Some v)) k.state_is ∙ sym (first_ahead f v e);
         head_is = next_head;
         end_is = end_after (WasDone v) e k.end_is;
       }

@@ -5,12 +5,7 @@ use Rattle.instructions.specs.declared.end.End.{End}
 use Rattle.instructions.specs.declared.end.Ending.{Ending}
 use Rattle.instructions.specs.declared.end.Ending.TheVariants.{Limit, Stop as ByStop}
 use Rattle.instructions.specs.declared.stop.Stop.{Stop}
-use Rattle.inorder.specs.Machine.{State}
-use Rattle.inorder.specs.Runs.{after, stop}
-
--- The state that an end holds
-abbrev pub state_in : End → State
-state_in e = record { registers = e.registers; memory = e.memory.items; pc = e.pc; count = e.n }
+use Rattle.inorder.specs.Runs.{after, state_in, stop}
 
 -- The next step stops with the code of the outcome, if it has one
 abbrev pub StopsThere : Program → ℕ → Ending → Type 0

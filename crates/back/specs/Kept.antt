@@ -4,7 +4,7 @@ use Rattle.instructions.specs.Programs.{Program, instr_at}
 use Rattle.instructions.specs.declared.stop.Stop.{Stop}
 use Rattle.instructions.specs.declared.stop.Stop.TheVariants.{BadPc}
 use Rattle.inorder.specs.Callers.{GoesOn, head_station}
-use Rattle.inorder.specs.Committed.{ahead, committed}
+use Rattle.inorder.specs.Committed.{ahead, ahead_by, committed}
 use Rattle.inorder.specs.History.{IsLegal, back}
 use Rattle.inorder.specs.Machine.{State}
 use Rattle.inorder.specs.Replies.{Has}
@@ -13,7 +13,6 @@ use Rattle.snapshots.specs.declared.snap.Snap.{Snap}
 use Rattle.station.specs.Seats.{Caller}
 use Rattle.back.specs.Backs.{unit_in}
 use Rattle.back.specs.Commits.{IsRetiredStopOf}
-use Rattle.back.specs.Retirement.{state_with_low}
 
 -- Why it has ended with this code: a stop has retired, or its pc is the address of no instruction
 pub data WhyEnded (P : Program) (U : UpdateUnit) (code : Stop) : Type 0 where
@@ -30,7 +29,7 @@ EndIs P U (Some code) = WhyEnded P U code
 pub record KeepsUnit (P : Program) (C : Sizes) (U : UpdateUnit) (state : State) (low : Option ℕ)
     (head : ℕ) (ended : Option Stop) : Type 0 where
   pub state_is : state ≡ committed P U.tenants
-  pub low_is : state_with_low low state ≡ ahead P U.tenants
+  pub low_is : ahead_by low state ≡ ahead P U.tenants
   pub head_is : head ≡ head_station C U
   pub end_is : EndIs P U ended
 

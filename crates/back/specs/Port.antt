@@ -1,11 +1,11 @@
 -- What the memory port knows while it answers one load.
 use Rattle.std.specs.Prelude.{◌≡◌, ◌⊎◌, ◌+◌, ◌%◌, ◌<◌, ◌≤◌, ℕ, true, false, List, Option, Some, None, length}
-use Rattle.instructions.specs.Instruction.{kind, width}
+use Rattle.instructions.specs.Instruction.{width}
 use Rattle.instructions.specs.Programs.{Program}
 use Rattle.instructions.specs.declared.instr.Instr.{Instr}
 use Rattle.inorder.specs.declared.history.Entry.{Entry}
 use Rattle.inorder.specs.Callers.{CanLoad}
-use Rattle.inorder.specs.Loads.{access_width, entry_of, is_store}
+use Rattle.inorder.specs.Loads.{access_entry, access_width, entry_of, is_store}
 use Rattle.inorder.specs.Replies.{Has, IsNamed, IsStale}
 use Rattle.inorder.specs.Tenants.{Addr, Fate, Live, Tenant, instr, kind_of}
 use Rattle.inorder.specs.Unit.{UpdateUnit, at}
@@ -37,13 +37,7 @@ shown_address _ = None
 
 -- What the queue holds of an instruction whose station shows this
 abbrev pub seen_as : Instr → StationState → ℕ → QueueEntry
-seen_as i state value =
-    record {
-      store = is_store (kind i.op);
-      width = access_width i.op;
-      address = address_in state value;
-      content = None;
-    }
+seen_as i state value = access_entry i.op (address_in state value) None
 
 -- The entry of a load
 abbrev pub load_entry : Load → QueueEntry

@@ -1,12 +1,12 @@
 -- What a retirement does to what was committed.
 use Rattle.std.specs.Prelude.{◌+◌, ◌≤◌, ℕ, suc, Bool, true, Option, Some, None}
 use Rattle.instructions.specs.Instruction.{destination, is_first_half, kind, pc_plus_4, width}
-use Rattle.instructions.specs.Registers.{lo}
 use Rattle.instructions.specs.declared.op.Half.{Half}
 use Rattle.instructions.specs.declared.instr.Instr.{Instr}
 use Rattle.instructions.specs.declared.op.Kind.{Kind}
 use Rattle.instructions.specs.declared.op.Kind.TheVariants.{Jumps, Links}
 use Rattle.instructions.specs.declared.stop.Stop.{Stop}
+use Rattle.inorder.specs.Committed.{ahead_by}
 use Rattle.inorder.specs.Machine.{State, store_bytes, write}
 use Rattle.station.specs.declared.answers.Last.{Last}
 use Rattle.station.specs.declared.answers.Last.TheVariants.{Done, Stop as WasStop, Stored}
@@ -58,16 +58,11 @@ low_by _ _ = None
 abbrev pub low_in : Instr → Half → Last → Option ℕ
 low_in i half last = low_by (is_first_half i.op half) last
 
--- The state with the low value that waited, which goes into LO
-abbrev pub state_with_low : Option ℕ → State → State
-state_with_low None s = s
-state_with_low (Some v) s = record s { registers = write s.registers lo v }
-
 -- The state behind a retired tenant: a first half, whose value waits now, leaves it as it is; with
 -- any other its instruction is whole, and what waited for it is written first
 abbrev pub state_behind_by : (waits : Option ℕ) → Instr → Half → Last → (waited : Option ℕ) → State → State
 state_behind_by (Some v) i half last waited s = s
-state_behind_by None i half last waited s = with_last i half last (state_with_low waited s)
+state_behind_by None i half last waited s = with_last i half last (ahead_by waited s)
 
 -- The same by the tenant's instruction and half
 abbrev pub state_behind : Instr → Half → Last → Option ℕ → State → State

@@ -4,7 +4,7 @@ ghost use Rattle.inorder.specs.Machine.{start};
 ghost use Rattle.back.specs.Backs.{HasRetiredNothing, IsNewBack, back_state};
 ghost use Rattle.snapshots.specs.Snapshots.{opening};
 
-use crate::committed::Committed;
+use inorder::Committed;
 use instructions::{Config, Memory, Program, Stop};
 use snapshots::{Naming, Publisher, Snapper};
 use station::{BackSeat, Core, a_number_is_of_its_part, what_is_seen_is_legal};

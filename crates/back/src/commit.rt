@@ -3,12 +3,12 @@ ghost use Rattle.std.specs.Prelude.{◌≡◌, ◌<◌, ◌-◌, ◌^◌, length
 ghost use Rattle.back.specs.Backs.{back_state};
 ghost use Rattle.back.specs.Commits.{CommitAnswers};
 ghost use Rattle.station.specs.declared.answers.Last.TheVariants.{Stored};
-ghost use Rattle.back.specs.Retirement.{StoreIsInside, low_in, goes_on_at, state_behind, stop_in, with_done, with_last, state_with_low, with_store, value_written};
+ghost use Rattle.back.specs.Retirement.{StoreIsInside, low_in, goes_on_at, state_behind, stop_in, with_done, with_last, with_store, value_written};
 
 use crate::answers::Commit;
 use crate::backs::Back;
-use crate::committed::Committed;
-use instructions::{Half, Instr, Kind, Reg, Stop, pc_plus_4};
+use inorder::Committed;
+use instructions::{Half, Instr, Kind, Stop, pc_plus_4};
 use snapshots::Naming;
 use station::{Core, Last, Retire};
 
@@ -80,15 +80,6 @@ fn low_value(instr: &Instr, half: Half, last: Last) -> Option<u32>
     }
 }
 
-// What waited goes into LO.
-fn commit_low(committed: &mut Committed, waited: Option<u32>)
-    ensures { committed.new ≡ state_with_low waited committed.old }
-{
-    if let Some(v) = waited {
-        committed.write(Reg::LO, v);
-    }
-}
-
 // Commits a retired tenant, and gives what waits then. A first half leaves the state as it is; with any other
 // its instruction is whole, and what waited for it goes into LO.
 fn commit_tenant(
@@ -105,7 +96,7 @@ fn commit_tenant(
 {
     let waits = low_value(instr, half, last);
     if waits.is_none() {
-        commit_low(committed, waited);
+        committed.settle(waited);
         commit_last(committed, instr, half, last);
     }
     waits

@@ -1,7 +1,8 @@
 //! The end of a back.
 ghost use Rattle.std.specs.Prelude.{◌≡◌};
 ghost use Rattle.back.specs.Backs.{back_state};
-ghost use Rattle.back.specs.Ends.{EndIsInOrder, ending_of, state_in};
+ghost use Rattle.back.specs.Ends.{EndIsInOrder, ending_of};
+ghost use Rattle.inorder.specs.Runs.{state_in};
 
 use crate::backs::Back;
 use instructions::{End, Ending, Stop};
@@ -38,13 +39,6 @@ impl<J: Naming> Back<J> {
             publisher,
         } = self;
         publisher.end(wait);
-        let registers = committed.registers;
-        End {
-            n: committed.count,
-            pc: committed.pc,
-            outcome: outcome(ended),
-            registers,
-            memory: committed.memory,
-        }
+        committed.into_end(outcome(ended))
     }
 }

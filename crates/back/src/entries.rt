@@ -1,24 +1,14 @@
 //! What the load/store queue holds of what a station shows, and its answer over one store.
 ghost use Rattle.std.specs.Prelude.{◌≡◌, ◌<◌, ◌∷◌, [], IsSome, Some, false};
-ghost use Rattle.inorder.specs.Loads.{access_width};
 ghost use Rattle.lsq.specs.Entries.{load_by};
 ghost use Rattle.lsq.specs.LoadRule.{answer as answered};
 ghost use Rattle.back.specs.Port.{address_in, content_in, load_entry, seen_as};
 
 use crate::port::Load;
-use instructions::{Instr, Kind, Op};
-use lsq::{Answer, Entry, Queue, Width};
+use inorder::{access_entry, access_width};
+use instructions::Instr;
+use lsq::{Answer, Entry, Queue};
 use station::{SourceState, StationState};
-
-fn width(op: Op) -> Width
-    ensures { result ≡ access_width op }
-{
-    match op {
-        Op::Lb | Op::Lbu | Op::Sb => Width::Byte,
-        Op::Lh | Op::Lhu | Op::Sh => Width::Half,
-        _ => Width::Word,
-    }
-}
 
 // The address that a station shows.
 pub(crate) fn address(state: StationState, value: u32) -> Option<u32>
@@ -34,12 +24,7 @@ pub(crate) fn address(state: StationState, value: u32) -> Option<u32>
 pub(crate) fn entry(instr: &Instr, state: StationState, value: u32) -> Entry
     ensures { result ≡ seen_as instr.now state value }
 {
-    Entry {
-        store: matches!(instr.op().kind(), Kind::Stores),
-        width: width(instr.op()),
-        address: address(state, value),
-        content: None,
-    }
+    access_entry(instr.op(), address(state, value), None)
 }
 
 // The data that an operand shows.
@@ -57,7 +42,7 @@ pub(crate) fn entry_of(load: &Load) -> Entry
 {
     Entry {
         store: false,
-        width: width(load.op),
+        width: access_width(load.op),
         address: Some(load.address),
         content: None,
     }

@@ -5,7 +5,6 @@
 mod answers;
 mod backs;
 mod commit;
-mod committed;
 mod ends;
 mod entries;
 mod laws;

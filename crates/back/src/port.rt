@@ -9,8 +9,8 @@ ghost use Rattle.back.specs.Backs.{SeesMore, committed_in, unit_in};
 ghost use Rattle.back.specs.Trials.{NobodyWaits, ThisWaits, TriedAnswers, load_of_index};
 ghost use Rattle.back.specs.Port.{Ceases, IsEntryThere, LoadIsInside, MayAnswer, MayBlock, Remains, SearchFinds, SearchMisses};
 
-use crate::committed::Committed;
 use crate::entries::{address, ask, content, entry, entry_of};
+use inorder::Committed;
 use instructions::{Kind, Op, Program, loaded};
 use lsq::{Answer, Entry};
 use station::{BackSeat, Core, Settle, Source};

@@ -9,8 +9,8 @@ ghost use Rattle.back.specs.Wakings.{RefreshWakes};
 
 use crate::answers::Refresh;
 use crate::backs::Back;
-use crate::committed::Committed;
 use crate::port::{Tried, try_load};
+use inorder::Committed;
 use instructions::Program;
 use snapshots::Naming;
 use station::{BackSeat, Core};

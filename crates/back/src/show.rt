@@ -20,7 +20,7 @@ impl<J: Naming> Back<J> {
         let snap = Snap {
             n: self.committed.count(),
             pc: self.committed.pc(),
-            registers: self.committed.registers(),
+            registers: *self.committed.registers(),
         };
         self.publisher.publish(wait, snap)
     }

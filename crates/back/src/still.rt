@@ -5,7 +5,7 @@ ghost use Rattle.back.specs.Backs.{back_of, committed_in, back_state, unit_in};
 ghost use Rattle.back.specs.Stills.{GoesOnForBack, head_at, still_of};
 
 use crate::backs::Back;
-use crate::committed::Committed;
+use inorder::Committed;
 use instructions::Program;
 use snapshots::{Naming, Publisher};
 use station::{BackSeat, what_is_seen_is_legal};

@@ -1,7 +1,6 @@
 //! The run of a whole program.
 ghost use Rattle.std.specs.Prelude.{◌≡◌, IfOk};
-ghost use Rattle.inorder.specs.Runs.{end_of};
-ghost use Rattle.unit.specs.Changes.{end_state};
+ghost use Rattle.inorder.specs.Runs.{end_of, end_state};
 
 use instructions::{Config, End, Memory, Predictor, Program};
 use std::alloc::Global;

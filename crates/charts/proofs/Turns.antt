@@ -11,9 +11,9 @@ use Rattle.instructions.specs.declared.instr.Instr.{Instr}
 use Rattle.instructions.specs.declared.stop.Stop.{Stop}
 use Rattle.instructions.specs.Settings.{Settings}
 use Rattle.inorder.specs.Committed.{committed}
-use Rattle.inorder.specs.Runs.{end_from}
+use Rattle.inorder.specs.Runs.{end_from, end_state}
 use Rattle.unit.specs.declared.bench.Turn.TheVariants.{Over}
-use Rattle.unit.specs.Changes.{end_state, run_from}
+use Rattle.unit.specs.Changes.{run_from}
 use Rattle.unit.proofs.Ends.{ends_over, ends_same}
 use Rattle.instructions.specs.Programs.{Program}
 use Rattle.inorder.specs.Unit.{Sizes, UpdateUnit, empty_unit}

@@ -1,8 +1,7 @@
 //! A run that is told while it goes.
 ghost use Rattle.std.specs.Prelude.{◌≡◌, ◌<◌, ◌+◌, ◌-◌, ◌^◌, IfErr, IfOk, OnErr, OnOk};
 ghost use Rattle.devices.specs.Counted.{failures_of, known_by};
-ghost use Rattle.inorder.specs.Runs.{end_of};
-ghost use Rattle.unit.specs.Changes.{end_state};
+ghost use Rattle.inorder.specs.Runs.{end_of, end_state};
 ghost use Rattle.charts.specs.Watched.{IsBegun, IsTold, sizes_by};
 ghost use Rattle.charts.specs.declared.watched.Fault.TheVariants.{Memory as NoRoom, Write as Unwritten};
 

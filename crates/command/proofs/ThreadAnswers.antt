@@ -8,7 +8,7 @@ use Rattle.isa.specs.declared.listing.fault.FaultKind.{FaultKind}
 use Rattle.instructions.specs.Programs.{Program}
 use Rattle.isa.specs.Report.{report_of}
 use Rattle.instructions.specs.Settings.{Settings}
-use Rattle.back.specs.Ends.{state_in}
+use Rattle.inorder.specs.Runs.{state_in}
 use Rattle.bench.specs.Answer.{ending_status}
 use Rattle.bench.specs.declared.outcome.Status.{Status}
 use Rattle.pool.specs.declared.answer.Run.{Run}

@@ -6,8 +6,9 @@ use Rattle.instructions.specs.Settings.{Settings}
 use Rattle.instructions.specs.Registers.{register_count}
 use Rattle.inorder.specs.declared.history.Entry.{Entry}
 use Rattle.inorder.specs.History.{IsLegal, StartsWith, back}
+use Rattle.inorder.specs.Runs.{state_in}
 use Rattle.back.specs.Backs.{IsSameBack, TheBack, back_state}
-use Rattle.back.specs.Ends.{ending_of, state_in}
+use Rattle.back.specs.Ends.{ending_of}
 use Rattle.front.specs.declared.answers.Rest.{Rest}
 use Rattle.front.specs.Rests.{rested_after}
 use Rattle.snapshots.specs.declared.mark.Mark.{Mark}

@@ -62,7 +62,8 @@ impl<'a, P: Predictor + Drop, J: Naming> Session<'a, P, J> {
     ghost use Rattle.std.specs.Prelude.{◌≡◌, ◌≤◌, IfOk};
     ghost use Rattle.drive.specs.Moments.{GrowsLegally};
     ghost use Rattle.back.specs.Backs.{back_state};
-    ghost use Rattle.back.specs.Ends.{EndIsInOrder, ending_of, state_in};
+    ghost use Rattle.back.specs.Ends.{EndIsInOrder, ending_of};
+    ghost use Rattle.inorder.specs.Runs.{state_in};
     ghost use Rattle.drive.specs.Sessions.{Answers, IsStartOfSession, after_command};
 
     /// A session at the start of a program. No unit is made yet.

@@ -3,7 +3,7 @@ use Rattle.std.proofs.Common.{◌≡◌, ◌≢◌, ◌⊎◌, ℕ, ◌+◌, ◌
 use Rattle.std.proofs.Common.{zero, suc, true, false, cond, eqb, refl, sym, ap, subst, inl, inr, arith, eq-eqb, ne_eqb, lt-ltb, mod-eq_of_lt}
 use mathlib.Core.Logic.{dite}
 use native.Mathlib.Decide.{ℕ_discrete}
-use Rattle.instructions.specs.Instruction.{first_of, fixed_next, fixed_next_if, is_first_half, second_of}
+use Rattle.instructions.specs.Instruction.{first_of, fixed_next, fixed_next_if, is_access, is_first_half, second_of}
 use Rattle.instructions.specs.Programs.{Program, address, instr_of, text_start}
 use Rattle.instructions.specs.declared.instr.Instr.{Instr}
 use Rattle.instructions.specs.declared.op.Half.TheVariants.{Low}
@@ -13,7 +13,7 @@ use Rattle.instructions.specs.declared.stop.Outcome.TheVariants.{Value}
 use Rattle.inorder.specs.declared.history.Supply.TheVariants.{From, Known}
 use Rattle.inorder.specs.Replies.{last_tag}
 use Rattle.inorder.specs.Steps.{MayLet, new_tenant}
-use Rattle.inorder.specs.Tenants.{Tenant, is_access, made_at_let}
+use Rattle.inorder.specs.Tenants.{Tenant, made_at_let}
 use Rattle.inorder.specs.Unit.{Sizes, UpdateUnit, at, can_be_written, creator, empty_unit, front_half, front_pc, half_after, how_many, next_station, next_tag, recent, value_of}
 use Rattle.driving.specs.Chains.{IsChain, passed}
 

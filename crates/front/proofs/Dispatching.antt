@@ -2,7 +2,7 @@
 use Rattle.std.proofs.Common.{◌≡◌, ℕ, ◌+◌, ◌-◌, ◌*◌, ◌/◌, ◌<◌, ◌≤◌, ◌^◌, false, List, [], ◌∷◌, ◌++◌, length, Option, Some, refl, sym, ap, ◌∙◌, subst, ⊎_elim, arith, append_assoc}
 use Rattle.std.specs.Prelude.{IfSome, is_none}
 use Rattle.instructions.specs.declared.op.Half.{Half}
-use Rattle.instructions.specs.Instruction.{destination, first_of, fixed_next, is_first_half, kind, second_of}
+use Rattle.instructions.specs.Instruction.{destination, first_of, fixed_next, is_access, is_first_half, kind, second_of}
 use Rattle.instructions.specs.Programs.{Program, address, instr_at, instr_of}
 use Rattle.instructions.specs.declared.instr.Instr.{Instr}
 use Rattle.inorder.specs.declared.history.Entry.{Entry}
@@ -13,7 +13,7 @@ use Rattle.inorder.specs.History.{IsLegal, entry, front, unit_of, renewals}
 use Rattle.inorder.specs.OneHistory.{Adds}
 use Rattle.inorder.specs.Legal.{applied}
 use Rattle.inorder.specs.Steps.{MayLet, MaySupply, let_operand, new_tenant}
-use Rattle.inorder.specs.Tenants.{Tenant, Unlinked, is_access, is_live, operand}
+use Rattle.inorder.specs.Tenants.{Tenant, Unlinked, is_live, operand}
 use Rattle.inorder.specs.Unit.{Sizes, UpdateUnit, creator, front_half, front_pc, how_many, is_old, next_station, next_tag, recent}
 use Rattle.inorder.proofs.Creators.{at_cases}
 use Rattle.inorder.proofs.Histories.{adds_on, unit_sound}

@@ -3,6 +3,7 @@ use Rattle.std.proofs.Common.{◌≡◌, ℕ, suc, ◌+◌, ◌%◌, ◌<◌, �
 use Rattle.std.specs.List.{AllByRecursion}
 use Rattle.std.specs.Prelude.{IfNone, IfSome, slice_get, slice_index}
 use Rattle.std.proofs.lemmas.List.{append-nil}
+use Rattle.instructions.specs.Guesses.{IsTold}
 use Rattle.instructions.specs.Programs.{Program}
 use Rattle.inorder.specs.declared.history.Entry.{Entry}
 use Rattle.inorder.specs.History.{IsLegal, front, unit_of}
@@ -23,7 +24,7 @@ use Rattle.front.specs.Folding.{IsFolding}
 use Rattle.front.specs.Knows.{GoesOnAt, IsFolded, IsGone, IsNewest, FrontKnows, Stands, whats}
 use Rattle.front.specs.Path.{GoesOnWith, Released, youngest_record, made_of, station_of_next, place_after, rested_at, with_left}
 use Rattle.front.specs.Rests.{TellsFirst, TellsRecords}
-use Rattle.front.specs.Training.{ToldIf}
+use Rattle.front.specs.Training.{leaver_if}
 use Rattle.front.specs.Trail.{Note}
 use Rattle.station.specs.Renewals.{HasNobody}
 use Rattle.front.proofs.Lefts.{tells_more}
@@ -124,7 +125,7 @@ module _ (core : TheCore) (old new : List Entry) (path path' : Path) (adds : Add
 
 -- the predictor is told of one more
 pub told_more : {S : Type 0} (Learns : S → ℕ → ℕ → S → Type 0) (all left rest : List Record) (x : Record) (a b c : S) →
-    TellsFirst Learns all left a b → left ≡ x ∷ rest → ToldIf Learns x.guessed x.pc x.next b c →
+    TellsFirst Learns all left a b → left ≡ x ∷ rest → IsTold Learns (leaver_if x.guessed x.pc x.next) b c →
     TellsFirst Learns all rest a c
 told_more Learns all left rest x a b c t e u = record {
   done = t.done ++ x ∷ [];

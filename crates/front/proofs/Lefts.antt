@@ -5,6 +5,7 @@ use mathlib.Core.Logic.{dite}
 use native.Mathlib.Decide.{ℕ_discrete}
 use Rattle.std.proofs.lemmas.List.{append-nil}
 use Rattle.std.specs.List.{AllByRecursion}
+use Rattle.instructions.specs.Guesses.{IsTold}
 use Rattle.instructions.specs.Programs.{Program}
 use Rattle.inorder.specs.Callers.{is_retired, stands_retired}
 use Rattle.inorder.specs.Tenants.{IsNotLive, Live, Retired, Squashed, Standing, Tenant, computed_next, on_path, stands_on_path}
@@ -16,7 +17,7 @@ use Rattle.front.specs.declared.path.record.Record.{Record}
 use Rattle.front.specs.Knows.{IsFolded, IsNewest, IsReused, FrontKnows, whats}
 use Rattle.front.specs.Path.{rested_at}
 use Rattle.front.specs.Rests.{TellsEach, TellsRecords, all_untold, is_let_to, is_untold}
-use Rattle.front.specs.Training.{ToldIf}
+use Rattle.front.specs.Training.{leaver_if}
 use Rattle.front.specs.Trail.{Note, is_guessed, note, trail}
 use Rattle.station.specs.Renewals.{HasNobody}
 use Rattle.front.proofs.Lists.{Last, all_front, all_rest, all_two, last_cases, last_same, whats_append}
@@ -30,22 +31,22 @@ same_tenant t u e = cc e
 -- Tellings, one behind the other
 
 module _ {S : Type 0} (Learns : S → ℕ → ℕ → S → Type 0) where
-  pub tells_more : (xs : List Record) (x : Record) (a b c : S) → TellsRecords Learns xs a b → ToldIf Learns x.guessed x.pc x.next b c → TellsRecords Learns (xs ++ x ∷ []) a c
-  tells_more [] x a b c t u = (c, (subst (λ z. ToldIf Learns x.guessed x.pc x.next z c) t u, refl))
+  pub tells_more : (xs : List Record) (x : Record) (a b c : S) → TellsRecords Learns xs a b → IsTold Learns (leaver_if x.guessed x.pc x.next) b c → TellsRecords Learns (xs ++ x ∷ []) a c
+  tells_more [] x a b c t u = (c, (subst (λ z. IsTold Learns (leaver_if x.guessed x.pc x.next) z c) t u, refl))
   tells_more (y ∷ xs) x a b c t u = (t.0, (t.1.0, tells_more xs x t.0 b c t.1.1 u))
 
   record IsToldLast (xs : List Record) (x : Record) (a c : S) : Type 0 where
     pub middle : S
     pub first : TellsRecords Learns xs a middle
-    pub last : ToldIf Learns x.guessed x.pc x.next middle c
+    pub last : IsTold Learns (leaver_if x.guessed x.pc x.next) middle c
 
   tells_last : (xs : List Record) (x : Record) (a c : S) → TellsRecords Learns (xs ++ x ∷ []) a c → IsToldLast xs x a c
-  tells_last [] x a c t = record { middle = a; first = refl; last = subst (λ z. ToldIf Learns x.guessed x.pc x.next a z) (sym t.1.1) t.1.0 }
+  tells_last [] x a c t = record { middle = a; first = refl; last = subst (λ z. IsTold Learns (leaver_if x.guessed x.pc x.next) a z) (sym t.1.1) t.1.0 }
   tells_last (y ∷ xs) x a c t = let l = tells_last xs x t.0 c t.1.1 in record { middle = l.middle; first = (t.0, (t.1.0, l.first)); last = l.last }
 
   each_more : (P : Program) (ts : List Tenant) (t : Tenant) (a b c : S) → TellsEach Learns P ts a b →
-      ToldIf Learns (is_guessed P t) t.pc (computed_next P t) b c → TellsEach Learns P (ts ++ t ∷ []) a c
-  each_more P [] t a b c e u = (c, (subst (λ z. ToldIf Learns (is_guessed P t) t.pc (computed_next P t) z c) e u, refl))
+      IsTold Learns (leaver_if (is_guessed P t) t.pc (computed_next P t)) b c → TellsEach Learns P (ts ++ t ∷ []) a c
+  each_more P [] t a b c e u = (c, (subst (λ z. IsTold Learns (leaver_if (is_guessed P t) t.pc (computed_next P t)) z c) e u, refl))
   each_more P (v ∷ ts) t a b c e u = (e.0, (e.1.0, each_more P ts t e.0 b c e.1.1 u))
 
 -- A list with younger ones, the oldest of these first
@@ -137,8 +138,8 @@ module _ {S : Type 0} (Learns : S → ℕ → ℕ → S → Type 0) (P : Program
             let a = again_there younger (t ∷ ts) t.station e in
             absurd (i.0 a.q a.tenant (omega (arith, a.behind)) (ap (λ z. at z a.q) split ∙ a.is) a.place)
 
-    told_it : on_path t ≡ true → (a b : S) → ToldIf Learns (is_guessed P t) t.pc t.next a b → ToldIf Learns (is_guessed P t) t.pc (computed_next P t) a b
-    told_it on a b x = subst (λ z. ToldIf Learns (is_guessed P t) t.pc z a b) (sym (went_on P U.tenants ok (length ts) t its_place (left_path t on dead))) x
+    told_it : on_path t ≡ true → (a b : S) → IsTold Learns (leaver_if (is_guessed P t) t.pc t.next) a b → IsTold Learns (leaver_if (is_guessed P t) t.pc (computed_next P t)) a b
+    told_it on a b x = subst (λ z. IsTold Learns (leaver_if (is_guessed P t) t.pc z) a b) (sym (went_on P U.tenants ok (length ts) t its_place (left_path t on dead))) x
 
   pub tells_all : (ts younger : List Tenant) → U.tenants ≡ glue younger ts → (g ns : List Note) →
       trail P ts ≡ g ++ ns → AllByRecursion (IsFolded U told) g → AllByRecursion IsIn ns → (a b : S) →
@@ -171,7 +172,7 @@ module _ {S : Type 0} (Learns : S → ℕ → ℕ → S → Type 0) (P : Program
           let its : IsIn (note P ts t) = subst IsIn (sym two.ones) (all_rest IsIn l.front (l.one ∷ []) parts).0 in
           let last = tells_last Learns (whats l.front) l.one.what a b (subst (λ z. TellsRecords Learns z a b) (ap whats l.is ∙ whats_append l.front (l.one ∷ [])) tells) in
           let before = rest g l.front two.fronts outs (all_front IsIn l.front (l.one ∷ []) parts) a last.middle last.first in
-          let one : ToldIf Learns (is_guessed P t) t.pc t.next last.middle b = subst (λ (z : Note). ToldIf Learns z.what.guessed z.what.pc z.what.next last.middle b) (sym two.ones) last.last in
+          let one : IsTold Learns (leaver_if (is_guessed P t) t.pc t.next) last.middle b = subst (λ (z : Note). IsTold Learns (leaver_if z.what.guessed z.what.pc z.what.next) last.middle b) (sym two.ones) last.last in
           subst (λ z. TellsEach Learns P (all_untold told (t ∷ younger) ts ++ cond z (t ∷ []) []) a b) (sym (in_untold t ts younger split e its))
           (each_more Learns P (all_untold told (t ∷ younger) ts) t a last.middle b before (told_it t ts younger split e last.middle b one))
 

@@ -1,6 +1,6 @@
 -- What was true once in a call, and refusals.
 use Rattle.std.proofs.Common.{◌≡◌, ◌≢◌, ℕ, ◌<◌, ◌≤◌, true, List, [], Option, Some, None, refl, sym, ap, ◌∙◌, subst, arith}
-use Rattle.instructions.specs.Instruction.{kind}
+use Rattle.instructions.specs.Instruction.{is_access, kind}
 use Rattle.instructions.specs.Programs.{Program, address, instr_at, instr_of}
 use Rattle.instructions.specs.declared.instr.Instr.{Instr}
 use Rattle.inorder.specs.declared.history.Entry.{Entry}
@@ -8,7 +8,6 @@ use Rattle.inorder.specs.declared.history.Event.{Event}
 use Rattle.inorder.specs.History.{IsLegal, front, unit_of}
 use Rattle.inorder.specs.OneHistory.{Adds}
 use Rattle.inorder.specs.Replies.{HasNoInstr, IsFull, HasFullQueue, IsSpent, last_tag}
-use Rattle.inorder.specs.Tenants.{is_access}
 use Rattle.inorder.specs.Unit.{Sizes, UpdateUnit, next_station, recent}
 use Rattle.inorder.proofs.Basics.{fetched_at}
 use Rattle.inorder.proofs.Histories.{starts_same}

@@ -1,14 +1,14 @@
 -- What the front knows stays true under the steps of others, and under links and deliveries of its own.
 use Rattle.std.proofs.Common.{◌≡◌, ℕ, ◌+◌, ◌%◌, List, refl, sym, ap, ◌∙◌, subst, inl, inr, ⊎_elim, length, ◌≤◌}
 use Rattle.std.specs.Prelude.{slice_index, is_none}
-use Rattle.instructions.specs.Instruction.{destination, fixed_next, is_first_half, kind}
+use Rattle.instructions.specs.Instruction.{destination, fixed_next, is_access, is_first_half, kind}
 use Rattle.instructions.specs.Programs.{Program, instr_of}
 use Rattle.inorder.specs.declared.history.Act.{Act}
 use Rattle.inorder.specs.declared.history.Act.TheVariants.{Claim, Deliver, Finish, Link, Load, Mend, Retire, Squash}
 use Rattle.inorder.specs.declared.history.Step.{Step}
 use Rattle.inorder.specs.declared.history.Step.TheVariants.{Let, On, Renew}
 use Rattle.inorder.specs.Legal.{Allowed, May, applied, changed}
-use Rattle.inorder.specs.Tenants.{is_access, on_path, Tenant}
+use Rattle.inorder.specs.Tenants.{on_path, Tenant}
 use Rattle.inorder.specs.Unit.{Sizes, UpdateUnit, next_station, older, recent, younger}
 use Rattle.inorder.proofs.Basics.{split_at}
 use Rattle.inorder.proofs.Grows.{Grows, same_length, sound_mid}

@@ -2,6 +2,7 @@
 use Rattle.std.proofs.Common.{◌≡◌, ◌≢◌, ℕ, ◌<◌, Bool, ◌&&◌, List, ◌∷◌, ◌++◌, length, Option, Some, None, refl, sym, ap, ◌∙◌, subst, zero, suc, ◌+◌, ◌-◌, ◌≤◌, [], cond, eqb, eqb-true, eq-eqb, true}
 use Rattle.std.proofs.Common.{false, true≢false, inl, inr, ⊎_elim, arith}
 use Rattle.std.specs.List.{AllByRecursion}
+use Rattle.instructions.specs.Guesses.{IsTold}
 use Rattle.instructions.specs.Operations.{outcome_by}
 use Rattle.instructions.specs.Programs.{Program}
 use Rattle.instructions.specs.declared.op.Kind.{Kind}
@@ -28,7 +29,7 @@ use Rattle.front.specs.declared.path.base_state.Base.{Base}
 use Rattle.front.specs.declared.path.record.Record.{Record}
 use Rattle.front.specs.Fetching.{IsLeft}
 use Rattle.front.specs.Knows.{IsFolded, IsNewest, FrontKnows}
-use Rattle.front.specs.Training.{PredictorIsTold, ToldIf, untold}
+use Rattle.front.specs.Training.{leaver_if, leaver_in, untold}
 use Rattle.front.specs.Trail.{Note, is_guessed, trail}
 use Rattle.front.proofs.Lists.{all_both, all_front, all_two}
 use Rattle.front.proofs.Named.{notes_noted, one_named, stands_right}
@@ -156,7 +157,7 @@ module _ {S : Type 0} (Learns : S → ℕ → ℕ → S → Type 0) (P : Program
   next = next_station C (recent U)
 
   -- fewer tenants than stations: nobody is told of
-  pub nobody_told : length records < C.ring → (s : S) → PredictorIsTold Learns P (last_of (untold (rested_at base) U.tenants) next) s s
+  pub nobody_told : length records < C.ring → (s : S) → IsTold Learns (leaver_in P (last_of (untold (rested_at base) U.tenants) next)) s s
   nobody_told few s = go (last_of (untold (rested_at base) U.tenants) next) refl
     where
       reused_never : (n : Note) → IsNoted P U.tenants n → IsFolded U (rested_at base) n → (t : Tenant) →
@@ -182,7 +183,7 @@ module _ {S : Type 0} (Learns : S → ℕ → ℕ → S → Type 0) (P : Program
           (all_two (IsNoted P U.tenants) (λ n. n.what.station ≢ next) Q other_never k.notes (notes_noted P C h legal records base (IsFolded U (rested_at base)) k)
           (others_next P C U records base (IsFolded U (rested_at base)) k (stands_right P C h legal) few)))
 
-      by : (t : Tenant) (st : Standing) → t.standing ≡ st → last_of (untold (rested_at base) U.tenants) next ≡ Some t → ToldIf Learns (stands_retired st && is_guessed P t) t.pc (computed_next P t) s s
+      by : (t : Tenant) (st : Standing) → t.standing ≡ st → last_of (untold (rested_at base) U.tenants) next ≡ Some t → IsTold Learns (leaver_if (stands_retired st && is_guessed P t) t.pc (computed_next P t)) s s
       by t Live e f = refl
       by t Squashed e f = refl
       by t Retired e f =
@@ -190,14 +191,14 @@ module _ {S : Type 0} (Learns : S → ℕ → ℕ → S → Type 0) (P : Program
           absurd (trail_all P (λ n. (t : Tenant) → at U.tenants n.at ≡ Some t → rested_at base ≤ n.at → t.station ≡ next → IsLastAt U n.at next → ⊥) U.tenants all_never l.spot.p t l.spot.is
           (ap stands_on_path e) t l.spot.is l.new l.spot.place l.spot.last)
 
-      go : (o : Option Tenant) → last_of (untold (rested_at base) U.tenants) next ≡ o → PredictorIsTold Learns P o s s
+      go : (o : Option Tenant) → last_of (untold (rested_at base) U.tenants) next ≡ o → IsTold Learns (leaver_in P o) s s
       go None e = refl
       go (Some t) e = by t t.standing refl e
 
   -- the oldest leaves: it is told of
   pub oldest_told : (n : Note) (ns : List Note) → k.notes ≡ n ∷ ns → n.what.station ≡ next → (left : ℕ) →
-      IsLeft U n.what left → (s s' : S) → ToldIf Learns n.what.guessed n.what.pc n.what.next s s' →
-      PredictorIsTold Learns P (last_of (untold (rested_at base) U.tenants) next) s s'
+      IsLeft U n.what left → (s s' : S) → IsTold Learns (leaver_if n.what.guessed n.what.pc n.what.next) s s' →
+      IsTold Learns (leaver_in P (last_of (untold (rested_at base) U.tenants) next)) s s'
   oldest_told n ns e place left gone s s' told =
       let noted : IsNoted P U.tenants n = (subst (AllByRecursion (IsNoted P U.tenants)) e (notes_noted P C h legal records base (IsFolded U (rested_at base)) k)).0 in
       let newest : IsNewest U n = (subst (AllByRecursion (IsNewest U)) e k.newest).0 in
@@ -214,5 +215,5 @@ module _ {S : Type 0} (Learns : S → ℕ → ℕ → S → Type 0) (P : Program
       let went : computed_next P t ≡ n.what.next = went_on P U.tenants (unit_sound P C h legal) n.at t noted.is retired ∙ ap (λ (z : Record). z.next) noted.what in
       let guessed : is_retired t && is_guessed P t ≡ n.what.guessed = ap (λ z. stands_retired z && is_guessed P t) retired ∙ ap (λ (z : Record). z.guessed) noted.what in
       let pc : t.pc ≡ n.what.pc = ap (λ (z : Record). z.pc) noted.what in
-      subst (λ o. PredictorIsTold Learns P o s s') (sym last)
-      (subst (λ (z : Bool × (ℕ × ℕ)). ToldIf Learns z.0 z.1.0 z.1.1 s s') (λ j. (sym guessed j, (sym pc j, sym went j))) told)
+      subst (λ o. IsTold Learns (leaver_in P o) s s') (sym last)
+      (subst (λ (z : Bool × (ℕ × ℕ)). IsTold Learns (leaver_if z.0 z.1.0 z.1.1) s s') (λ j. (sym guessed j, (sym pc j, sym went j))) told)

@@ -1,6 +1,7 @@
 -- A turn that lets: what the predictor was told and asked, and the whole.
 use Rattle.std.proofs.Common.{◌≡◌, ℕ, ◌<◌, ◌≤◌, List, [], ◌∷◌, ◌++◌, length, Option, Some, None, refl, sym, ap, ◌∙◌, subst, arith}
 use Rattle.std.proofs.lemmas.List.{append-nil}
+use Rattle.instructions.specs.Guesses.{Guesses, IsAsked, IsTold}
 use Rattle.instructions.specs.declared.op.Half.{Half}
 use Rattle.instructions.specs.Instruction.{fixed_next}
 use Rattle.instructions.specs.Programs.{Program}
@@ -22,7 +23,7 @@ use Rattle.front.specs.Fetching.{HasLeft, IsLeft, OldestLeft}
 use Rattle.front.specs.Knows.{IsFolded, FrontKnows, whats}
 use Rattle.front.specs.Path.{Releases, rested_at}
 use Rattle.front.specs.Questions.{IsDispatched}
-use Rattle.front.specs.Training.{Guesses, PredictorIsAsked, PredictorIsTold, ToldIf, ToldOf, untold}
+use Rattle.front.specs.Training.{leaver_if, leaver_in, leaver_of, untold}
 use Rattle.front.specs.Trail.{Note}
 use Rattle.front.specs.Turns.{IsLet, LetsOut}
 use Rattle.front.proofs.Looked.{left_stable}
@@ -69,12 +70,12 @@ module _ {S : Type 0} (Predicts : S → ℕ → Instr → ℕ → S → Type 0) 
       (stays P C (λ U. FrontKnows P C U records base) (knows_stable P C records base) begin old adds k)
 
   told_there : (left : Option Record) → Releases ring f.left path left path' → (s s' : S) →
-      ToldOf Learns left s s' →
-      PredictorIsTold Learns P (last_of (untold (rested_at base) (unit_of P C point).tenants) f.station) s s'
+      IsTold Learns (leaver_of left) s s' →
+      IsTold Learns (leaver_in P (last_of (untold (rested_at base) (unit_of P C point).tenants) f.station)) s s'
   told_there None r s s' told =
       let few : length records < C.ring = subst (λ z. length records < z) ring_is (subst (λ z. length z < ring) path_is r.0) in
-      subst (λ z. PredictorIsTold Learns P (last_of (untold (rested_at base) (unit_of P C point).tenants) z) s s') (sym d.lets.station_is)
-      (subst (λ z. PredictorIsTold Learns P (last_of (untold (rested_at base) (unit_of P C point).tenants) (next_station C (recent (unit_of P C point)))) s z) (sym told)
+      subst (λ z. IsTold Learns (leaver_in P (last_of (untold (rested_at base) (unit_of P C point).tenants) z)) s s') (sym d.lets.station_is)
+      (subst (λ z. IsTold Learns (leaver_in P (last_of (untold (rested_at base) (unit_of P C point).tenants) (next_station C (recent (unit_of P C point))))) s z) (sym told)
       (nobody_told Learns P C point d.lets.before.legal records base knows_there few s))
   told_there (Some x) r s s' told = go knows_there.notes refl
     where
@@ -84,7 +85,7 @@ module _ {S : Type 0} (Predicts : S → ℕ → Instr → ℕ → S → Type 0) 
       full : C.ring ≤ length records
       full = subst (λ z. z ≤ length records) ring_is (subst (λ z. ring ≤ length z) path_is r.0)
 
-      go : (xs : List Note) → knows_there.notes ≡ xs → PredictorIsTold Learns P (last_of (untold (rested_at base) (unit_of P C point).tenants) f.station) s s'
+      go : (xs : List Note) → knows_there.notes ≡ xs → IsTold Learns (leaver_in P (last_of (untold (rested_at base) (unit_of P C point).tenants) f.station)) s s'
       go [] e = let n = ap (λ z. length z) (sym are ∙ (knows_there.are ∙ ap whats e)) in absurd (omega arith)
       go (n ∷ ns) e =
           let one : n.what ≡ x = head_of n.what x (whats ns) path'.records (sym (ap whats e) ∙ (sym knows_there.are ∙ are)) in
@@ -92,12 +93,12 @@ module _ {S : Type 0} (Predicts : S → ℕ → Instr → ℕ → S → Type 0) 
           let still = stays P C (λ U. IsTenant U gone.p x.station x.tag (HasLeft f.left)) (left_stable P C gone.p x.station x.tag f.left) old point d.lets.before gone.tenant in
           let left : IsLeft (unit_of P C point) n.what f.left = subst (λ z. IsLeft (unit_of P C point) z f.left) (sym one) (record { p = gone.p; tenant = still }) in
           let place = next_is P C point d.lets.before.legal records base (IsFolded (unit_of P C point) (rested_at base)) knows_there n ns e full in
-          let its : ToldIf Learns n.what.guessed n.what.pc n.what.next s s' = subst (λ (z : Record). ToldIf Learns z.guessed z.pc z.next s s') (sym one) told in
-          subst (λ z. PredictorIsTold Learns P (last_of (untold (rested_at base) (unit_of P C point).tenants) z) s s') (sym d.lets.station_is)
+          let its : IsTold Learns (leaver_if n.what.guessed n.what.pc n.what.next) s s' = subst (λ (z : Record). IsTold Learns (leaver_if z.guessed z.pc z.next) s s') (sym one) told in
+          subst (λ z. IsTold Learns (leaver_in P (last_of (untold (rested_at base) (unit_of P C point).tenants) z)) s s') (sym d.lets.station_is)
           (oldest_told Learns P C point d.lets.before.legal records base knows_there n ns e place f.left left s s' its)
 
   pub is_let : (left : Option Record) → Releases ring f.left path left path' → (s s' : S) →
-      Guesses Predicts Learns left f.instr f.half f.pc predicted s s' →
+      Guesses Predicts Learns (leaver_of left) f.instr f.half f.pc predicted s s' →
       IsLet Predicts Learns P C (rested_at base) begin new s s' f.station tag f.pc
   unfolding lets_since
   is_let left r s s' g = record {
@@ -106,7 +107,7 @@ module _ {S : Type 0} (Predicts : S → ℕ → Instr → ℕ → S → Type 0) 
     trains = record {
       middle = g.middle;
       told = told_there left r s g.middle g.told;
-      asked = subst (λ (z : Instr × Half). PredictorIsAsked Predicts (fixed_next z.0 z.1 f.pc) f.pc z.0 predicted g.middle s')
+      asked = subst (λ (z : Instr × Half). IsAsked Predicts (fixed_next z.0 z.1 f.pc) f.pc z.0 predicted g.middle s')
           (λ i. (sym d.instr i, sym d.half i)) g.asked;
     };
   }

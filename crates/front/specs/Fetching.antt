@@ -1,12 +1,12 @@
 -- What is known of the next instruction before it is let.
 use Rattle.std.specs.Prelude.{◌≡◌, ℕ, ◌<◌, ◌≤◌, true, List, ◌∷◌, length, Some}
-use Rattle.instructions.specs.Instruction.{kind}
+use Rattle.instructions.specs.Instruction.{is_access, kind}
 use Rattle.instructions.specs.Programs.{Program, instr_at}
 use Rattle.inorder.specs.declared.history.Entry.{Entry}
 use Rattle.inorder.specs.History.{unit_of}
 use Rattle.inorder.specs.Replies.{last_tag}
 use Rattle.inorder.specs.StationWords.{left_value}
-use Rattle.inorder.specs.Tenants.{Retired, Tenant, is_access}
+use Rattle.inorder.specs.Tenants.{Retired, Tenant}
 use Rattle.inorder.specs.Unit.{Sizes, UpdateUnit, front_half, front_pc, next_station, next_tag, recent}
 use Rattle.ruu_words.specs.Content.{HasValue}
 use Rattle.ruu_words.specs.Kinds.{IsTenant}

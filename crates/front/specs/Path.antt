@@ -1,9 +1,8 @@
 -- Where the path goes on.
 use Rattle.std.specs.Prelude.{◌≡◌, ℕ, ◌+◌, ◌%◌, ◌-◌, ◌<◌, ◌≤◌, List, [], ◌∷◌, ◌++◌, length, Option, Some, None, if◌then◌else◌, slice_get, is_none}
-use Rattle.instructions.specs.Instruction.{destination, fixed_next, is_first_half, kind, pc_plus_4}
+use Rattle.instructions.specs.Instruction.{destination, fixed_next, is_access, is_first_half, kind, pc_plus_4}
 use Rattle.instructions.specs.declared.op.Half.{Half}
 use Rattle.inorder.specs.Machine.{write}
-use Rattle.inorder.specs.Tenants.{is_access}
 use Rattle.inorder.specs.History.{unit_of}
 use Rattle.inorder.specs.Unit.{half_after}
 use Rattle.front.specs.declared.fetch.Fetched.{Fetched}

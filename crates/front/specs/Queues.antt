@@ -1,9 +1,9 @@
 -- Whether the queue takes one more load or store.
 use Rattle.std.specs.Prelude.{◌≡◌, ℕ, suc, ◌<◌, ◌≤◌, Bool, true, false, List, [], ◌∷◌, ◌++◌, Option, Some, None, if◌then◌else◌}
-use Rattle.instructions.specs.Instruction.{kind}
+use Rattle.instructions.specs.Instruction.{is_access, kind}
 use Rattle.instructions.specs.Programs.{Program}
 use Rattle.instructions.specs.declared.instr.Instr.{Instr}
-use Rattle.inorder.specs.Tenants.{is_access, is_live_access}
+use Rattle.inorder.specs.Tenants.{is_live_access}
 use Rattle.inorder.specs.Unit.{Sizes, UpdateUnit, how_many}
 use Rattle.front.specs.declared.path.record.Record.{Record}
 

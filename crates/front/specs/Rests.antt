@@ -1,6 +1,7 @@
 -- What a rest answers.
 use Rattle.std.specs.Prelude.{◌≡◌, ℕ, Bool, true, false, not, ◌&&◌, ◌||◌, List, [], ◌∷◌, ◌++◌, length, ◌==◌, nat_le, if◌then◌else◌}
 use Rattle.std.specs.List.{AllByRecursion}
+use Rattle.instructions.specs.Guesses.{IsTold}
 use Rattle.instructions.specs.Programs.{Program}
 use Rattle.inorder.specs.declared.history.Entry.{Entry}
 use Rattle.inorder.specs.Callers.{is_retired}
@@ -12,7 +13,7 @@ use Rattle.station.specs.Moments.{WasOnce}
 use Rattle.front.specs.declared.answers.Rest.{Rest}
 use Rattle.front.specs.declared.answers.Rest.TheVariants.{Idle, Live}
 use Rattle.front.specs.declared.path.record.Record.{Record}
-use Rattle.front.specs.Training.{ToldIf}
+use Rattle.front.specs.Training.{leaver_if}
 use Rattle.front.specs.Trail.{is_guessed}
 use Rattle.station.specs.Renewals.{HasNobody}
 
@@ -37,7 +38,7 @@ all_untold told younger (t ∷ ts) =
 abbrev pub TellsEach : {S : Type 0} → (S → ℕ → ℕ → S → Type 0) → Program → List Tenant → S → S → Type 0
 TellsEach Learns P [] old new = new ≡ old
 TellsEach {S = S} Learns P (t ∷ ts) old new =
-    (middle : S) × (ToldIf Learns (is_guessed P t) t.pc (computed_next P t) old middle × TellsEach Learns P ts middle new)
+    (middle : S) × (IsTold Learns (leaver_if (is_guessed P t) t.pc (computed_next P t)) old middle × TellsEach Learns P ts middle new)
 
 -- Nobody was live, and the predictor was told of all of whom it had not been
 pub record WasIdle {S : Type 0} (Learns : S → ℕ → ℕ → S → Type 0) (P : Program) (C : Sizes) (told : ℕ) (old new : List Entry) (before after : S) : Type 0 where
@@ -72,7 +73,7 @@ rested_after rested Live = rested
 abbrev pub TellsRecords : {S : Type 0} → (S → ℕ → ℕ → S → Type 0) → List Record → S → S → Type 0
 TellsRecords Learns [] old new = new ≡ old
 TellsRecords {S = S} Learns (x ∷ xs) old new =
-    (middle : S) × (ToldIf Learns x.guessed x.pc x.next old middle × TellsRecords Learns xs middle new)
+    (middle : S) × (IsTold Learns (leaver_if x.guessed x.pc x.next) old middle × TellsRecords Learns xs middle new)
 
 -- It was told of the first of these, and those that are left stand behind them
 pub record TellsFirst {S : Type 0} (Learns : S → ℕ → ℕ → S → Type 0) (all left : List Record) (old new : S) : Type 0 where

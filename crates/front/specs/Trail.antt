@@ -1,10 +1,10 @@
 -- The path of a unit, as the front keeps it.
 use Rattle.std.specs.Prelude.{ℕ, Bool, true, false, List, [], ◌∷◌, ◌++◌, length, is_none, if◌then◌else◌}
-use Rattle.instructions.specs.Instruction.{fixed_next}
+use Rattle.instructions.specs.Instruction.{fixed_next, is_access}
 use Rattle.instructions.specs.Programs.{Program}
 use Rattle.instructions.specs.declared.op.Kind.{Kind}
 use Rattle.instructions.specs.declared.op.Kind.TheVariants.{Links}
-use Rattle.inorder.specs.Tenants.{Tenant, destination_of, instr, is_access, is_first, kind_of, on_path}
+use Rattle.inorder.specs.Tenants.{Tenant, destination_of, instr, is_first, kind_of, on_path}
 use Rattle.front.specs.declared.path.record.Record.{Record}
 
 -- A jump that links makes its return address

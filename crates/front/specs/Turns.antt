@@ -1,5 +1,6 @@
 -- What a turn answers.
 use Rattle.std.specs.Prelude.{◌≡◌, ℕ, List, [], ◌∷◌, ◌++◌, length}
+use Rattle.instructions.specs.Guesses.{Guesses}
 use Rattle.instructions.specs.Programs.{Program, instr_of}
 use Rattle.instructions.specs.declared.instr.Instr.{Instr}
 use Rattle.inorder.specs.declared.history.Entry.{Entry}
@@ -19,7 +20,7 @@ use Rattle.station.specs.Asking.{IsQuestion}
 use Rattle.station.specs.Moments.{WasOnce}
 use Rattle.front.specs.declared.answers.Turn.{Turn}
 use Rattle.front.specs.declared.answers.Turn.TheVariants.{Full, NoInstr, QueueFull, Spent, Let as HasLet}
-use Rattle.front.specs.Training.{Trains, untold}
+use Rattle.front.specs.Training.{leaver_in, untold}
 
 -- Refusals. Each is true at a moment of the call, and each that comes before it in this order was not true at
 -- one
@@ -89,7 +90,8 @@ pub record IsLet {S : Type 0} (Predicts : S → ℕ → Instr → ℕ → S → 
     (P : Program) (C : Sizes) (told : ℕ) (old new : List Entry) (before after : S) (station tag pc : ℕ) : Type 0 where
   pub predicted : ℕ
   pub lets : LetsOut P C old new station tag pc predicted
-  pub trains : Trains Predicts Learns P (last_of (untold told (unit_of P C lets.point).tenants) station)
+  pub trains : Guesses Predicts Learns
+      (leaver_in P (last_of (untold told (unit_of P C lets.point).tenants) station))
       (instr_of P lets.index) (front_half P (unit_of P C lets.point).tenants) pc predicted before after
 
 -- What a turn answers: a tenant was let, or a refusal

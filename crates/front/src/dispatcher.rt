@@ -17,8 +17,8 @@ use crate::fetch::fetch;
 use crate::path::{Base, Counted, Creators, Path};
 use crate::recovery::recover_on;
 use crate::rest::rest_on;
-use crate::training::guess;
-use instructions::{Predictor, Program, Reg};
+use crate::training::leaver;
+use instructions::{Predictor, Program, Reg, guess};
 use station::{Core, FrontSeat, Part, SeatOf, Seen, StationState, what_is_seen_is_legal};
 use std::marker::Model;
 
@@ -75,7 +75,8 @@ fn turn_on<P: Predictor>(
         Err(turn) => return turn,
     };
     let left = path.release(creators, core.ring(), next.left);
-    let predicted = guess(predictor, left, &next);
+    let leaver = leaver(left);
+    let predicted = guess(predictor, leaver, &next.instr, next.half, next.pc);
     let tag = dispatch(core, seat, path, creators, &next, predicted);
     Turn::Let {
         station: next.station,

@@ -1,7 +1,5 @@
 //! Whether the queue takes one more load or store.
 ghost use Rattle.std.specs.Prelude.{◌≡◌, ◌≤◌, []};
-ghost use Rattle.instructions.specs.Instruction.{kind};
-ghost use Rattle.inorder.specs.Tenants.{is_access};
 ghost use Rattle.inorder.specs.History.{IsLegal, front, unit_of};
 ghost use Rattle.inorder.specs.OneHistory.{Adds};
 ghost use Rattle.front.specs.Fronts.{AddsNothing, KnowsPath};
@@ -9,15 +7,8 @@ ghost use Rattle.front.specs.Queues.{AccessBefore, QueueSays};
 ghost use Rattle.station.specs.Seats.{IsSame};
 
 use crate::path::{Path, Record, Records};
-use instructions::{Instr, Kind};
+use instructions::Instr;
 use station::{Core, FrontSeat, StationState};
-
-/// A load or store.
-pub fn reaches_memory(instr: &Instr) -> bool
-    ensures { result ≡ is_access (kind instr.now.op) }
-{
-    matches!(instr.op().kind(), Kind::Loads | Kind::Stores)
-}
 
 // The load or store that has `younger` younger ones.
 fn access_before(records: &Records, younger: usize) -> Option<Record>
@@ -52,7 +43,7 @@ pub fn queue_is_full(core: &Core, seat: &mut FrontSeat, path: &Path, instr: &Ins
     ensures reply { QueueSays core.now.program core.now.sizes
         (unit_of core.now.program core.now.sizes seat.new.seen) instr.now result }
 {
-    if !reaches_memory(instr) {
+    if !instr.op().is_access() {
         return false;
     }
     let queue = core.queue();

@@ -11,7 +11,7 @@ ghost use Rattle.station.specs.Renewals.{HasNobody};
 
 use crate::answers::Rest;
 use crate::path::{Creators, Path};
-use instructions::Predictor;
+use instructions::{Predictor, tell};
 use station::{Core, FrontSeat, StationState};
 use std::snapshot::Snapshot;
 
@@ -32,7 +32,8 @@ fn fold_all<P: Predictor>(core: &Core, seat: &mut FrontSeat, path: &mut Path, pr
     while let Some(oldest) = path.records.at(0) {
         let seen = core.look(seat, oldest.station);
         path.fold(seen.value);
-        oldest.tell(predictor);
+        let leaver = oldest.leaver();
+        tell(predictor, leaver);
     }
 }
 

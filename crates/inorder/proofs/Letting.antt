@@ -2,7 +2,7 @@
 use Rattle.std.proofs.Common.{ltb, ⊎_elim, ◌≡◌, ◌≢◌, ℕ, suc, ◌+◌, ◌%◌, ◌≤◌, Bool, true, false, cond, ◌&&◌, eqb, List, [], ◌∷◌, ◌++◌, length, Option, Some, refl, sym, ap, ◌∙◌, subst, arith}
 use Rattle.std.specs.List.{AllByRecursion}
 use Rattle.std.specs.Prelude.{IfSome}
-use Rattle.instructions.specs.Instruction.{first_of, fixed_next, kind, second_of}
+use Rattle.instructions.specs.Instruction.{first_of, fixed_next, is_access, kind, second_of}
 use Rattle.instructions.specs.declared.op.Half.{Half}
 use Rattle.instructions.specs.Programs.{Program, instr_of}
 use Rattle.inorder.specs.declared.history.Act.{Act}
@@ -13,7 +13,7 @@ use Rattle.inorder.specs.declared.history.Supply.{Supply}
 use Rattle.inorder.specs.declared.history.Supply.TheVariants.{From, Known}
 use Rattle.inorder.specs.Legal.{Allowed, May, MayAct, applied, change_at, changed}
 use Rattle.inorder.specs.Steps.{MayLet, MaySupply, let_operand, new_tenant}
-use Rattle.inorder.specs.Tenants.{Live, Open, Retired, Squashed, Standing, Tenant, computed, is_access, is_live, kind_of, made_at_let, on_path, stands_live}
+use Rattle.inorder.specs.Tenants.{Live, Open, Retired, Squashed, Standing, Tenant, computed, is_live, kind_of, made_at_let, on_path, stands_live}
 use Rattle.inorder.specs.Unit.{Sizes, UpdateUnit, at, creator, front_half, front_pc, how_many, next_station, next_tag, older, recent, younger}
 use Rattle.inorder.proofs.Basics.{split_at}
 use Rattle.inorder.proofs.Grows.{Grows, creator_grows, front_grows, half_grows, same_length, sound_mid, value_of_grows}

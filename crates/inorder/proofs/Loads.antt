@@ -6,7 +6,7 @@ use Rattle.std.specs.Prelude.{slice_index, slice_get, is_some, option_map, take}
 use Rattle.std.proofs.lemmas.List.{take-map, take_at}
 use Rattle.std.proofs.lemmas.Option.{slice_get-map}
 use Rattle.lsq.proofs.LoadsRight.{forward_is, memory_is, blocked_is_right}
-use Rattle.instructions.specs.Instruction.{width}
+use Rattle.instructions.specs.Instruction.{is_access, width}
 use Rattle.instructions.specs.Programs.{Program}
 use Rattle.instructions.specs.declared.op.Kind.TheVariants.{Loads, Stores}
 use Rattle.lsq.specs.declared.answer.Answer.TheVariants.{Blocked, Forward, Memory}
@@ -16,7 +16,7 @@ use Rattle.inorder.specs.Legal.{Taken, reached}
 use Rattle.inorder.specs.Loads.{LoadsAreAnswered, WaitsForStore, access_width, address_by, entry_in, entry_of, is_store, live_accesses, place_of, queue_of, with_access}
 use Rattle.inorder.specs.Memory.{byte_at, raw, raw_at}
 use Rattle.inorder.specs.Steps.{MayLoad}
-use Rattle.inorder.specs.Tenants.{Addr, Live, Tenant, computed, instr, is_access, is_live_access, kind_of, stands_live}
+use Rattle.inorder.specs.Tenants.{Addr, Live, Tenant, computed, instr, is_live_access, kind_of, stands_live}
 use Rattle.inorder.specs.Unit.{Sizes, at, older, younger}
 use Rattle.lsq.specs.Bytes.{little_endian}
 use Rattle.lsq.specs.Entries.{bytes, load_by}

@@ -5,7 +5,7 @@ use Rattle.std.specs.List.{AllByRecursion}
 use Rattle.std.specs.Prelude.{slice_index, slice_get, IsSome}
 use Rattle.std.proofs.lemmas.List.{map-append}
 use Rattle.lsq.proofs.StoresLeft.{byte_left-append}
-use Rattle.instructions.specs.Instruction.{width}
+use Rattle.instructions.specs.Instruction.{is_access, width}
 use Rattle.instructions.specs.Programs.{Program}
 use Rattle.instructions.specs.declared.op.Kind.{Kind}
 use Rattle.instructions.specs.declared.op.Kind.TheVariants.{Computes, Jumps, Links, Loads, Stores}
@@ -20,7 +20,7 @@ use Rattle.inorder.specs.Loads.{access_width, address_by, content_by, entry_in, 
 use Rattle.inorder.specs.Machine.{State}
 use Rattle.inorder.specs.Memory.{byte_after, byte_at, stored, stored_by}
 use Rattle.inorder.specs.Steps.{HasAddress}
-use Rattle.inorder.specs.Tenants.{Addr, Busy, Done, Fate, Live, Miss, Open, Retired, Squashed, Standing, Stopped, Tenant, computed, instr, is_access, is_live_access, kind_of, on_path, stands_live}
+use Rattle.inorder.specs.Tenants.{Addr, Busy, Done, Fate, Live, Miss, Open, Retired, Squashed, Standing, Stopped, Tenant, computed, instr, is_live_access, kind_of, on_path, stands_live}
 use Rattle.inorder.specs.Tenants.{stands_on_path}
 use Rattle.lsq.specs.Bytes.{joined, little_endian_if_there}
 use Rattle.lsq.specs.Entries.{bytes}

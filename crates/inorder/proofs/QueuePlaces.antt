@@ -2,10 +2,11 @@
 use Rattle.std.proofs.Common.{◌≡◌, ℕ, ◌<◌, Bool, true, false, cond, ◌&&◌, eqb, List, [], ◌∷◌, ◌++◌, length, Some, refl, sym, ap, ◌∙◌, ⊎_elim, arith, true≢false, append_assoc, length-append, eqb-true}
 use Rattle.std.specs.Prelude.{slice_get}
 use Rattle.std.proofs.lemmas.List.{append-nil}
+use Rattle.instructions.specs.Instruction.{is_access}
 use Rattle.instructions.specs.Programs.{Program}
 use Rattle.lsq.specs.declared.entry.Entry.{Entry}
 use Rattle.inorder.specs.Loads.{entry_of, live_accesses, with_access}
-use Rattle.inorder.specs.Tenants.{Live, Retired, Squashed, Standing, Tenant, is_access, is_live_access, kind_of, stands_live}
+use Rattle.inorder.specs.Tenants.{Live, Retired, Squashed, Standing, Tenant, is_live_access, kind_of, stands_live}
 use Rattle.inorder.specs.Unit.{at, older}
 use Rattle.inorder.proofs.Basics.{eqb_less, eqb_self}
 use Rattle.inorder.proofs.QueueBytes.{get_last}

@@ -1,6 +1,7 @@
 -- What a unit has committed.
 use Rattle.std.specs.Prelude.{ℕ, suc, Bool, true, false, List, [], ◌∷◌, Option, Some, None, unwrap_or, if◌then◌else◌, ◌&&◌, not}
 use Rattle.instructions.specs.Programs.{Program}
+use Rattle.instructions.specs.Registers.{lo}
 use Rattle.inorder.specs.Machine.{State, start, store_bytes, write}
 use Rattle.inorder.specs.Memory.{Stored, stored}
 use Rattle.inorder.specs.Tenants.{Fate, Retired, Standing, Stopped, Tenant, computed_next, destination_of, is_first}
@@ -58,3 +59,12 @@ completes P t = commits t && not (is_first P t)
 abbrev pub committed : Program → List Tenant → State
 committed P [] = start P
 committed P (t ∷ ts) = if completes P t then with_tenant P t (ahead P ts) else committed P ts
+
+-- The registers with a value that waits for LO, if there is one
+abbrev pub with_low : Option ℕ → List ℕ → List ℕ
+with_low None registers = registers
+with_low (Some v) registers = write registers lo v
+
+-- What a state comes to with a value that waits for LO, if there is one
+abbrev pub ahead_by : Option ℕ → State → State
+ahead_by low s = record s { registers = with_low low s.registers }

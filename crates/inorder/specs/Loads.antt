@@ -1,6 +1,6 @@
 -- The live loads and stores as the queue of the rule for loads, and that the rule is right.
 use Rattle.std.specs.Prelude.{◌≡◌, ◌⊎◌, ℕ, ◌<◌, Bool, true, false, IsTrue, IsNone, List, [], ◌∷◌, ◌++◌, map, length, Option, Some, None, slice_get, slice_index}
-use Rattle.instructions.specs.Instruction.{width}
+use Rattle.instructions.specs.Instruction.{kind, width}
 use Rattle.instructions.specs.Programs.{Program}
 use Rattle.instructions.specs.declared.op.Kind.{Kind}
 use Rattle.instructions.specs.declared.op.Kind.TheVariants.{Loads, Stores}
@@ -36,6 +36,16 @@ abbrev pub is_store : Kind → Bool
 is_store Stores = true
 is_store _ = false
 
+-- The entry of a load or store with its address and its data, as far as it has them
+abbrev pub access_entry : Op → Option ℕ → Option ℕ → Entry
+access_entry op address content =
+    record {
+      store = is_store (kind op);
+      width = access_width op;
+      address = address;
+      content = content;
+    }
+
 -- The address, once it was computed; a load keeps it when it is done
 abbrev pub address_by : Kind → Fate → Outcome → Option ℕ
 address_by k (Addr a) o = Some a
@@ -50,12 +60,8 @@ content_by _ v = None
 -- The entry of a load or store in the queue
 abbrev pub entry_of : Program → Tenant → Entry
 entry_of P t =
-    record {
-      store = is_store (kind_of P t);
-      width = access_width (instr P t).op;
-      address = address_by (kind_of P t) t.fate (computed P t);
-      content = content_by (kind_of P t) t.second.value;
-    }
+    access_entry (instr P t).op (address_by (kind_of P t) t.fate (computed P t))
+    (content_by (kind_of P t) t.second.value)
 
 -- A list with one more at its end, if the test holds
 abbrev pub with_access : Bool → ℕ × Entry → List (ℕ × Entry)

@@ -3,13 +3,13 @@
 use Rattle.std.specs.Prelude.{◌≡◌, ◌≢◌, ℕ, ◌-◌, ◌^◌, ◌<◌, Bool, true, false, ◌&&◌, length, Some, None, if◌then◌else◌}
 use Rattle.std.specs.List.{AllByRecursion}
 use Rattle.instructions.specs.declared.op.Half.{Half}
-use Rattle.instructions.specs.Instruction.{kind}
+use Rattle.instructions.specs.Instruction.{is_access, kind}
 use Rattle.instructions.specs.Programs.{Program, address, instr_at, instr_of}
 use Rattle.instructions.specs.declared.stop.Stop.{Stop}
 use Rattle.inorder.specs.declared.history.Source.{Source}
 use Rattle.inorder.specs.declared.history.Source.TheVariants.{First, Second}
 use Rattle.inorder.specs.Steps.{CanRetire, IsNoRetiredStop}
-use Rattle.inorder.specs.Tenants.{IsNotLive, IsThere, Linked, Live, Miss, Open, Retired, Squashed, Stopped, Tenant, is_access, is_live, kind_of, missing, needs, operand, operand_value}
+use Rattle.inorder.specs.Tenants.{IsNotLive, IsThere, Linked, Live, Miss, Open, Retired, Squashed, Stopped, Tenant, is_live, kind_of, missing, needs, operand, operand_value}
 use Rattle.inorder.specs.Unit.{Sizes, UpdateUnit, at, front_pc, how_many, is_old, next_tag, older, recent, value_of}
 
 -- No tenant gets this tag, so that the tag behind each tenant's has its bits too

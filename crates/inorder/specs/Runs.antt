@@ -1,6 +1,7 @@
 -- Runs of the in-order machine.
 use Rattle.std.specs.Prelude.{◌≡◌, ℕ, zero, suc, Option, Some, None}
 use Rattle.instructions.specs.declared.stop.Stop.{Stop}
+use Rattle.instructions.specs.declared.end.End.{End}
 use Rattle.instructions.specs.declared.end.Ending.{Ending}
 use Rattle.instructions.specs.declared.end.Ending.TheVariants.{Stop as ByStop, Limit as ByLimit}
 use Rattle.instructions.specs.Programs.{Program}
@@ -68,3 +69,11 @@ IsStep old answer new (Halts c) = (answer ≡ Stopped c) × (new ≡ old)
 abbrev pub ending : Ended → Ending
 ending (EndedStopped c) = ByStop c
 ending Limit = ByLimit
+
+-- the state that an end holds
+abbrev pub state_in : End → State
+state_in e = record { registers = e.registers; memory = e.memory.items; pc = e.pc; count = e.n }
+
+-- how and where a run has ended
+abbrev pub end_state : End → Ending × State
+end_state e = (e.outcome, state_in e)

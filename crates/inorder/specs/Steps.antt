@@ -1,7 +1,7 @@
 -- The steps of the one-thread unit: where each is allowed, and what it does.
 use Rattle.std.specs.Prelude.{⊤, ◌≡◌, ◌≢◌, ℕ, ◌^◌, ◌<◌, Bool, true, false, List, length, Option, Some, None, ◌==◌, IfSome, is_none, if◌then◌else◌}
 use Rattle.std.specs.List.{AllByRecursion}
-use Rattle.instructions.specs.Instruction.{first_of, fixed_next, kind, second_of}
+use Rattle.instructions.specs.Instruction.{first_of, fixed_next, is_access, kind, second_of}
 use Rattle.instructions.specs.Programs.{Program, address, instr_of}
 use Rattle.instructions.specs.declared.op.Kind.{Kind}
 use Rattle.instructions.specs.declared.op.Kind.TheVariants.{Links, Loads, Stores}
@@ -12,7 +12,7 @@ use Rattle.inorder.specs.declared.history.Source.{Source}
 use Rattle.inorder.specs.declared.history.Supply.{Supply}
 use Rattle.inorder.specs.declared.history.Supply.TheVariants.{From, Known}
 use Rattle.inorder.specs.Memory.{load_value, raw_at}
-use Rattle.inorder.specs.Tenants.{Addr, AtLet, Busy, Done, Fate, IsNotLive, IsThere, Linked, Live, Miss, Open, Operand, Retired, Squashed, Stopped, Tenant, Unlinked, instr, is_access, is_live, is_live_access, kind_of, made_at_let, missing, operand, with_operand}
+use Rattle.inorder.specs.Tenants.{Addr, AtLet, Busy, Done, Fate, IsNotLive, IsThere, Linked, Live, Miss, Open, Operand, Retired, Squashed, Stopped, Tenant, Unlinked, instr, is_live, is_live_access, kind_of, made_at_let, missing, operand, with_operand}
 use Rattle.inorder.specs.Unit.{Sizes, UpdateUnit, at, creator, front_half, front_pc, how_many, is_old, next_station, next_tag, recent, value_of, younger}
 
 -- Let

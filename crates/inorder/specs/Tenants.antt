@@ -1,12 +1,12 @@
 -- A tenant: one use of a reservation station by an instruction in flight.
 use Rattle.std.specs.Prelude.{◌≡◌, ◌≢◌, ℕ, Bool, true, false, ◌&&◌, length, Option, Some, None, unwrap_or, if◌then◌else◌}
-use Rattle.instructions.specs.Instruction.{destination, is_first_half, kind, pc_plus_4}
+use Rattle.instructions.specs.Instruction.{destination, is_access, is_first_half, kind, pc_plus_4}
 use Rattle.instructions.specs.Operations.{outcome_of}
 use Rattle.instructions.specs.Programs.{Program, instr_of}
 use Rattle.instructions.specs.declared.instr.Instr.{Instr}
 use Rattle.instructions.specs.declared.op.Half.{Half}
 use Rattle.instructions.specs.declared.op.Kind.{Kind}
-use Rattle.instructions.specs.declared.op.Kind.TheVariants.{Links, Loads, Stores}
+use Rattle.instructions.specs.declared.op.Kind.TheVariants.{Links, Stores}
 use Rattle.instructions.specs.declared.stop.Outcome.{Outcome}
 use Rattle.instructions.specs.declared.stop.Outcome.TheVariants.{Next}
 use Rattle.instructions.specs.declared.stop.Stop.{Stop}
@@ -108,12 +108,6 @@ IsNotLive t = t.standing ≢ Live
 abbrev pub made_at_let : Kind → ℕ → Option ℕ
 made_at_let Links pc = Some (pc_plus_4 pc)
 made_at_let _ pc = None
-
--- It reaches memory
-abbrev pub is_access : Kind → Bool
-is_access Loads = true
-is_access Stores = true
-is_access _ = false
 
 -- A live load or store
 abbrev pub is_live_access : Program → Tenant → Bool

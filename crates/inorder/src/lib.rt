@@ -1,13 +1,16 @@
 //! The in-order machine, the one-thread unit, and the theorem that the unit is right.
 #![tactic(auto)]
 
+mod accesses;
+mod committed;
 mod data;
 mod guards;
 pub mod history;
 mod laws;
 mod machine;
 
-pub use data::{number, store};
+pub use accesses::{access_entry, access_width, is_store};
+pub use committed::Committed;
 pub use guards::{
     a_delivery_reaches_who_asked, a_load_passes_no_unknown_store, a_miss_does_not_retire,
     a_retired_stop_ends_the_unit, a_squashed_tenant_stays_squashed, a_tenant_is_claimed_once,

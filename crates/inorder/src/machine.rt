@@ -1,10 +1,10 @@
 //! The in-order machine.
 ghost use Rattle.std.specs.Prelude.{◌≡◌, ◌<◌, ◌≤◌, ◌+◌, ◌^◌, ◌-◌, length, slice_index, IfOk};
-ghost use Rattle.inorder.specs.Machine.{write as written, step as step_of, start, advanced, after_access, after_pair};
+ghost use Rattle.inorder.specs.Machine.{step as step_of, start, advanced, after_access, after_pair};
 ghost use Rattle.instructions.specs.Instruction.{kind as kind_of, width as width_of, second_of};
 ghost use Rattle.inorder.specs.Runs.{Running, IsStep, end_from, ending};
 
-use crate::data::{number, store};
+use crate::committed::Committed;
 use instructions::{
     Half, Instr, Kind, Memory, Outcome, Program, Reg, Stop, loaded, outcome, pc_plus_4,
 };
@@ -29,45 +29,19 @@ pub enum Ended {
     Limit,
 }
 
-fn read(registers: &[u32; 34], r: Reg) -> u32
-    ensures { result ≡ slice_index registers.now r }
-{
-    registers[r.number() as usize]
-}
-
-fn write(registers: &mut [u32; 34], r: Reg, value: u32)
-    ensures { registers.new ≡ written registers.old r value }
-{
-    if r.number() != 0 {
-        registers[r.number() as usize] = value;
-    }
-}
-
 /// A machine that runs a program one instruction after another.
 #[derive(Drop)]
 pub struct Machine<'a> {
     program: &'a Program,
-    registers: [u32; 34],
-    memory: Vec<u8>,
-    pc: u32,
-    count: u64,
+    state: Committed,
 }
 
 impl<'a> Model for Machine<'a> {
     ghost Value = { Running };
 
-    ghost view = { λ m. record {
-      program = m.program.now;
-      state = record {
-        registers = m.registers;
-        memory = m.memory.items;
-        pc = m.pc;
-        count = m.count;
-      };
-    } };
+    ghost view = { λ m. record { program = m.program.now; state = m.state } };
 
-    ghost invariant = { λ m.
-        (length m.memory.items ≡ length m.program.now.bytes) × (length m.memory.items ≤ 65536) };
+    ghost invariant = { λ m. length m.state.memory ≡ length m.program.now.bytes };
 }
 
 impl<'a> Machine<'a> {
@@ -77,49 +51,43 @@ impl<'a> Machine<'a> {
         ensures { IfOk result (λ m.
             m ≡ record { program = program.now; state = start program.now }) }
     {
-        let memory = Vec::from_slice(alloc, program.bytes())?;
-        Ok(Machine {
-            program,
-            registers: [0; 34],
-            memory,
-            pc: Program::START,
-            count: 0,
-        })
+        let state = Committed::new(alloc, program)?;
+        Ok(Machine { program, state })
     }
 
     /// How many instructions it has run.
     pub fn count(&self) -> u64
         ensures { result ≡ self.now.state.count }
     {
-        self.count
+        self.state.count()
     }
 
     /// The address of the instruction that the next step runs.
     pub fn pc(&self) -> u32
         ensures { result ≡ self.now.state.pc }
     {
-        self.pc
+        self.state.pc()
     }
 
     /// What a register holds.
     pub fn register(&self, r: Reg) -> u32
         ensures { result ≡ slice_index self.now.state.registers r }
     {
-        read(&self.registers, r)
+        self.state.register(r)
     }
 
     /// The registers, register 0 first.
     pub fn registers(&self) -> &[u32; 34]
         ensures { result.now ≡ self.now.state.registers }
     {
-        &self.registers
+        self.state.registers()
     }
 
     /// The bytes of data memory.
     pub fn memory(&self) -> &[u8]
         ensures { result.now ≡ self.now.state.memory }
     {
-        self.memory.as_slice()
+        self.state.memory()
     }
 
     /// Runs one instruction, or says why it stops.
@@ -127,15 +95,16 @@ impl<'a> Machine<'a> {
         requires { self.old.state.count < 2 ^ 64 - 1 }
         ensures { IsStep self.old result self.new (step_of self.old.program self.old.state) }
     {
-        let Some(instr) = self.program.fetch(self.pc) else {
+        let pc = self.state.pc();
+        let Some(instr) = self.program.fetch(pc) else {
             return Stepped::Stopped(Stop::BadPc);
         };
-        let a = read(&self.registers, instr.first());
-        let b = read(&self.registers, instr.second());
-        match outcome(&instr, self.pc, a, b, self.program.size()) {
+        let a = self.state.register(instr.first());
+        let b = self.state.register(instr.second());
+        match outcome(&instr, pc, a, b, self.program.size()) {
             Outcome::Stop(stop) => return Stepped::Stopped(stop),
-            Outcome::Value(value) => self.advance(&instr, value, pc_plus_4(self.pc)),
-            Outcome::Next(next) => self.advance(&instr, pc_plus_4(self.pc), next),
+            Outcome::Value(value) => self.advance(&instr, value, pc_plus_4(pc)),
+            Outcome::Next(next) => self.advance(&instr, pc_plus_4(pc), next),
             Outcome::Pair(low, high) => self.advance_pair(&instr, low, high),
             Outcome::Address(address) => self.access(&instr, address as usize, b),
         }
@@ -148,9 +117,8 @@ impl<'a> Machine<'a> {
           state = advanced self.old.state instr.now value self.old.state.memory next;
         } }
     {
-        write(&mut self.registers, instr.destination(Half::Low), value);
-        self.pc = next;
-        self.count += 1;
+        self.state
+            .advance(instr.destination(Half::Low), value, next);
     }
 
     // the instruction that makes values for LO and HI
@@ -160,8 +128,9 @@ impl<'a> Machine<'a> {
           state = after_pair self.old.state instr.now low high;
         } }
     {
-        self.advance(instr, low, pc_plus_4(self.pc));
-        write(&mut self.registers, instr.destination(Half::High), high);
+        let next = pc_plus_4(self.state.pc());
+        self.advance(instr, low, next);
+        self.state.write(instr.destination(Half::High), high);
     }
 
     // the load or store at an address, with what source 2 holds
@@ -174,14 +143,14 @@ impl<'a> Machine<'a> {
         } }
     {
         let width = instr.op().width() as usize;
-        let next = pc_plus_4(self.pc);
+        let next = pc_plus_4(self.state.pc());
         match instr.op().kind() {
             Kind::Stores => {
-                store(self.memory.as_mut_slice(), address, width, b);
+                self.state.store_at(address, width, b);
                 self.advance(instr, 0, next);
             }
             _ => {
-                let raw = number(self.memory.as_slice(), address, width);
+                let raw = self.state.number_at(address, width);
                 self.advance(instr, loaded(instr.op(), raw), next);
             }
         }

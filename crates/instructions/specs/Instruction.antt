@@ -40,6 +40,12 @@ kind Jal = Links
 kind Jalr = Links
 kind _ = Computes
 
+-- a load or store
+abbrev pub is_access : Kind → Bool
+is_access Loads = true
+is_access Stores = true
+is_access _ = false
+
 -- the bytes that a load or store reaches
 abbrev pub width : Op → ℕ
 width Lb = 1

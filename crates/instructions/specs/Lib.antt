@@ -6,3 +6,4 @@ pub mod Programs
 pub mod Endings
 pub mod Settings
 pub mod Prediction
+pub mod Guesses

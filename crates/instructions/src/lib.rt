@@ -4,6 +4,7 @@
 
 mod config;
 mod end;
+mod guessing;
 mod instr;
 mod memory;
 mod op;
@@ -16,6 +17,7 @@ mod stop;
 
 pub use config::{BadConfig, Config};
 pub use end::{End, Ending};
+pub use guessing::{Leaver, guess, tell};
 pub use instr::Instr;
 pub use memory::Memory;
 pub use op::{Half, Kind, Op};

@@ -1,6 +1,6 @@
 //! Operations.
 ghost use Rattle.std.specs.Prelude.{◌≡◌, ◌<◌, ◌≤◌};
-ghost use Rattle.instructions.specs.Instruction.{kind as kind_of, width as width_of, is_branch as is_branch_of, is_pair as is_pair_of, reads_first as reads_first_of, reads_second as reads_second_of, writes as writes_of};
+ghost use Rattle.instructions.specs.Instruction.{kind as kind_of, width as width_of, is_access as is_access_of, is_branch as is_branch_of, is_pair as is_pair_of, reads_first as reads_first_of, reads_second as reads_second_of, writes as writes_of};
 
 /// An operation, one for each row of the table of MIPS I integer operations. `nop` is `Sll` of
 /// zeros.
@@ -95,6 +95,13 @@ impl Op {
             Op::Jal | Op::Jalr => Kind::Links,
             _ => Kind::Computes,
         }
+    }
+
+    /// It is a load or store.
+    pub fn is_access(self) -> bool
+        ensures { result ≡ is_access_of (kind_of self) }
+    {
+        matches!(self.kind(), Kind::Loads | Kind::Stores)
     }
 
     /// How many bytes a load or store reaches: 1, 2 or 4.

@@ -1,6 +1,7 @@
 -- The turns, with what they do to the predictor.
 use Rattle.std.proofs.Common.{◌≡◌, ◌≢◌, ℕ, suc, ◌+◌, ◌-◌, ◌%◌, ◌^◌, ◌<◌, ◌≤◌, Bool, List, [], ◌∷◌, ◌++◌, length, Option, Some, None, refl, sym, ap, ◌∙◌, subst, arith, mod-lt}
 use Rattle.std.specs.Prelude.{IfSome, slice_get, slice_set}
+use Rattle.instructions.specs.Guesses.{Guesses, IsAsked}
 use Rattle.instructions.specs.Instruction.{fixed_next}
 use Rattle.instructions.specs.Programs.{Program}
 use Rattle.instructions.specs.declared.instr.Instr.{Instr}
@@ -11,14 +12,14 @@ use Rattle.inorder.specs.Moves.{IsReached}
 use Rattle.unit.specs.declared.bench.Turn.{Turn}
 use Rattle.unit.specs.declared.bench.Turn.TheVariants.{Halved, Let, Loaded, Over, Ran, Recovered, Retired}
 use Rattle.unit.specs.declared.dispatch.Fetched.{Fetched}
-use Rattle.unit.specs.declared.leaver.Leaver.{Leaver}
+use Rattle.instructions.specs.declared.guessing.Leaver.{Leaver}
 use Rattle.unit.specs.declared.pipeline.Pipeline.{Pipeline}
 use Rattle.unit.specs.Givers.{NoneGives}
-use Rattle.unit.specs.Leavers.{IsAsked, leaver}
+use Rattle.unit.specs.Leavers.{leaver}
 use Rattle.unit.specs.Notes.{AreNoted, miss_in}
 use Rattle.unit.specs.Stages.{CanLet, RecoversTo}
 use Rattle.unit.specs.StandsFor.{HasStopped, IsUnit, OverIs, StandsFor, sizes}
-use Rattle.unit.specs.Turns.{Before, BenchFields, Falls, Guesses, IsPlain, IsSame, IsTurn, Moves, Trains, Turned, rank}
+use Rattle.unit.specs.Turns.{Before, BenchFields, Falls, IsPlain, IsSame, IsTurn, Moves, Trains, Turned, rank}
 use Rattle.unit.specs.Window.{let_at}
 use Rattle.unit.proofs.EndTurns.{window_room}
 use Rattle.unit.proofs.Idle.{Shows, same_rest}

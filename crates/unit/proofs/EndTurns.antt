@@ -18,7 +18,7 @@ use Rattle.instructions.specs.declared.stop.Stop.TheVariants.{BadPc}
 use Rattle.inorder.specs.declared.history.Act.TheVariants.{Retire}
 use Rattle.inorder.specs.declared.history.Step.TheVariants.{On}
 use Rattle.inorder.specs.Callers.{is_retired, stands_retired}
-use Rattle.inorder.specs.Committed.{ahead, commits, commits_by, committed, completes, with_stored, with_tenant}
+use Rattle.inorder.specs.Committed.{ahead, ahead_by, commits, commits_by, committed, completes, with_stored, with_tenant}
 use Rattle.inorder.specs.Machine.{State, write}
 use Rattle.inorder.specs.Memory.{stored, stored_by}
 use Rattle.inorder.specs.Steps.{CanRetire, IsNoRetiredStop, MayRetire, made_at_end, retired}
@@ -43,12 +43,12 @@ use Rattle.inorder.proofs.OneCaller.Sequences.{reach_on, sound_of, stands_of}
 use Rattle.unit.specs.declared.bench.Turn.{Turn}
 use Rattle.unit.specs.declared.bench.Turn.TheVariants.{Halved, Over, Retired}
 use Rattle.unit.specs.declared.execute.Operands.{Operands}
-use Rattle.unit.specs.declared.leaver.Leaver.{Leaver}
+use Rattle.instructions.specs.declared.guessing.Leaver.{Leaver}
 use Rattle.unit.specs.declared.pipeline.Pipeline.{Pipeline}
 use Rattle.unit.specs.declared.station.Stage.{Stage}
 use Rattle.unit.specs.declared.station.Stage.TheVariants.{Open as Opens, Addr as HasAddr, Done as IsDone, Miss as Misses, Stops}
 use Rattle.unit.specs.declared.station.Station.{Station}
-use Rattle.unit.specs.Ahead.{ahead_by, low_after, low_of, waiting_half}
+use Rattle.unit.specs.Ahead.{low_after, low_of, waiting_half}
 use Rattle.unit.specs.Changes.{ahead_of, registers_of}
 use Rattle.unit.specs.Givers.{NoneGives, given_at, gives}
 use Rattle.unit.specs.Leavers.{leaver, leaver_of, told_by, told_of}

@@ -16,7 +16,7 @@ use Rattle.inorder.specs.Tenants.{Live, Retired, Squashed, Standing, Tenant, ins
 use Rattle.inorder.proofs.Sound.{DoneBy}
 use Rattle.inorder.proofs.OneCaller.Alike.{AreAlike, IsAlike}
 use Rattle.inorder.proofs.OneCaller.Recovery.{gone, gone_by, mended_to}
-use Rattle.unit.specs.declared.leaver.Leaver.{Leaver}
+use Rattle.instructions.specs.declared.guessing.Leaver.{Leaver}
 use Rattle.unit.specs.Leavers.{leaver, leaver_by, told_by, told_of}
 
 pub told_live : (P : Program) (t : Tenant) → t.standing ≡ Live → told_of P t ≡ None

@@ -2,7 +2,7 @@
 use Rattle.std.proofs.Common.{◌≡◌, ℕ, ◌+◌, ◌%◌, ◌^◌, ◌<◌, ◌≤◌, cond, eqb, List, [], ◌∷◌, ◌++◌, length, Some, None, refl, sym, ap, ◌∙◌, subst, arith}
 use Rattle.std.specs.Prelude.{IfSome, slice_get, slice_set}
 use Rattle.std.specs.List.{AllByRecursion}
-use Rattle.instructions.specs.Instruction.{fixed_next, kind}
+use Rattle.instructions.specs.Instruction.{fixed_next, is_access, kind}
 use Rattle.instructions.specs.Programs.{Program, instr_of}
 use Rattle.inorder.specs.declared.history.Step.{Step}
 use Rattle.inorder.specs.declared.history.Step.TheVariants.{Let as LetStep}
@@ -10,7 +10,7 @@ use Rattle.inorder.specs.Callers.{is_retired}
 use Rattle.inorder.specs.Committed.{committed}
 use Rattle.inorder.specs.Laws.{IsNoRetire}
 use Rattle.inorder.specs.Steps.{IsNoRetiredStop, new_tenant}
-use Rattle.inorder.specs.Tenants.{Live, Retired, Tenant, instr, is_access}
+use Rattle.inorder.specs.Tenants.{Live, Retired, Tenant, instr}
 use Rattle.inorder.specs.Unit.{Sizes, UpdateUnit, front_half, front_pc, how_many, next_station, recent}
 use Rattle.inorder.proofs.Sound.{IsSound}
 use Rattle.inorder.specs.Moves.{IsLink, IsReached, with_let}

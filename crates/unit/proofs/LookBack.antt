@@ -1,13 +1,12 @@
 -- What the older stores are to a load: store by store, and as the rule says it.
 use Rattle.std.proofs.Common.{◌≡◌, ◌<◌, ◌≤◌, ℕ, ◌+◌, Bool, true, false, cond, ◌&&◌, List, [], ◌∷◌, ◌++◌, length, take, Option, Some, None, refl, sym, ap, ◌∙◌, arith}
 use Rattle.std.specs.Prelude.{slice_get, is_none, option_map}
-use Rattle.instructions.specs.Instruction.{kind}
+use Rattle.instructions.specs.Instruction.{is_access, kind}
 use Rattle.instructions.specs.Operations.{loaded}
 use Rattle.instructions.specs.declared.op.Kind.{Kind}
 use Rattle.instructions.specs.declared.op.Kind.TheVariants.{Computes, Jumps, Links, Loads, Stores}
 use Rattle.instructions.specs.declared.op.Op.{Op}
 use Rattle.inorder.specs.Loads.{access_width, is_store}
-use Rattle.inorder.specs.Tenants.{is_access}
 use Rattle.inorder.proofs.QueueBytes.{same_width}
 use Rattle.lsq.specs.declared.entry.Entry.{Entry}
 use Rattle.lsq.specs.Entries.{bytes}

@@ -3,7 +3,7 @@ use Rattle.std.proofs.Common.{◌≡◌, ◌≢◌, ℕ, zero, suc, ◌+◌, ◌
 use Rattle.std.proofs.Common.{length-append, true≢false}
 use Rattle.std.specs.Prelude.{slice_get, is_none}
 use Rattle.std.specs.List.{AllByRecursion}
-use Rattle.instructions.specs.Instruction.{second_of}
+use Rattle.instructions.specs.Instruction.{is_access, second_of}
 use Rattle.instructions.specs.Programs.{Program}
 use Rattle.instructions.specs.declared.op.Kind.{Kind}
 use Rattle.instructions.specs.declared.op.Kind.TheVariants.{Computes, Jumps, Links, Loads, Stores}
@@ -11,7 +11,7 @@ use Rattle.instructions.specs.declared.stop.Outcome.{Outcome}
 use Rattle.inorder.specs.Committed.{ahead}
 use Rattle.inorder.specs.Loads.{access_width, address_by, content_by, entry_in, entry_of, is_store, queue_of}
 use Rattle.inorder.specs.Steps.{IsNoRetiredStop}
-use Rattle.inorder.specs.Tenants.{Addr, Busy, Done, Fate, Live, Miss, Open, Retired, Squashed, Standing, Stopped, Tenant, computed, instr, is_access, kind_of, stands_live, stands_on_path}
+use Rattle.inorder.specs.Tenants.{Addr, Busy, Done, Fate, Live, Miss, Open, Retired, Squashed, Standing, Stopped, Tenant, computed, instr, kind_of, stands_live, stands_on_path}
 use Rattle.inorder.proofs.SettledRegisters.{ahead_if, squashed_not}
 use Rattle.inorder.proofs.QueueBytes.{none_live, queue_more}
 use Rattle.inorder.proofs.Sound.{IsSound}

@@ -12,7 +12,7 @@ use Rattle.instructions.specs.declared.stop.Outcome.TheVariants.{Address, Next, 
 use Rattle.inorder.specs.declared.history.Act.TheVariants.{Load}
 use Rattle.inorder.specs.declared.history.Step.{Step}
 use Rattle.inorder.specs.declared.history.Step.TheVariants.{On}
-use Rattle.inorder.specs.Committed.{ahead, committed}
+use Rattle.inorder.specs.Committed.{ahead, ahead_by, committed}
 use Rattle.inorder.specs.Laws.{IsNoRetire}
 use Rattle.inorder.specs.Loads.{queue_of}
 use Rattle.inorder.specs.Memory.{raw_at, load_value, raw}
@@ -37,7 +37,6 @@ use Rattle.unit.specs.declared.execute.Operands.{Operands}
 use Rattle.unit.specs.declared.pipeline.Pipeline.{Pipeline}
 use Rattle.unit.specs.declared.station.Stage.TheVariants.{Done as IsDone, Miss as Misses}
 use Rattle.unit.specs.declared.station.Station.{Station}
-use Rattle.unit.specs.Ahead.{ahead_by}
 use Rattle.unit.specs.Blocked.{IsUnblocked}
 use Rattle.unit.specs.Changes.{ahead_of, registers_of}
 use Rattle.unit.specs.Givers.{NoneGives}

@@ -2,7 +2,7 @@
 use Rattle.std.proofs.Common.{◌≡◌, ◌≢◌, ℕ, ◌<◌, ◌≤◌, false, List, [], ◌∷◌, ◌++◌, length, Option, Some, None, refl, sym, ap, ◌∙◌, subst, arith, append_assoc, length-append}
 use Rattle.std.specs.Prelude.{slice_get, unwrap_or}
 use Rattle.std.specs.List.{AllByRecursion}
-use Rattle.instructions.specs.Instruction.{first_of, kind, second_of, width}
+use Rattle.instructions.specs.Instruction.{first_of, is_access, kind, second_of, width}
 use Rattle.instructions.specs.Programs.{Program, instr_at, instr_of}
 use Rattle.instructions.specs.declared.op.Kind.{Kind}
 use Rattle.instructions.specs.declared.op.Kind.TheVariants.{Computes, Jumps, Links, Loads, Stores}
@@ -213,5 +213,5 @@ no_let P C U s ns none index predicted f g m = go none
     go (QueueFull q) =
         let both : Some q.instr ≡ Some (instr_of P index) = sym q.is ∙ there in
         let same : q.instr ≡ instr_of P index = cc both in
-        let few = m.queue (sym (ap (λ i. Rattle.inorder.specs.Tenants.is_access (kind i.op)) same) ∙ q.reaches) in
+        let few = m.queue (sym (ap (λ i. is_access (kind i.op)) same) ∙ q.reaches) in
         omega (arith, q.full, few, window_accesses P ts)

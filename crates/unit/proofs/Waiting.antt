@@ -6,7 +6,7 @@ use Rattle.instructions.specs.Programs.{Program}
 use Rattle.instructions.specs.Registers.{lo}
 use Rattle.instructions.specs.declared.op.Half.TheVariants.{Low}
 use Rattle.inorder.specs.Callers.{is_retired, stands_retired}
-use Rattle.inorder.specs.Committed.{ahead, commits, commits_by, committed, completes, with_first, with_retired}
+use Rattle.inorder.specs.Committed.{ahead, ahead_by, commits, commits_by, committed, completes, with_first, with_retired}
 use Rattle.inorder.specs.Machine.{write}
 use Rattle.inorder.specs.Tenants.{Live, Retired, Squashed, Standing, Tenant, destination_of, instr, is_first}
 use Rattle.inorder.specs.Unit.{how_many}
@@ -17,7 +17,7 @@ use Rattle.inorder.proofs.Halves.{first_low, none_waits}
 use Rattle.inorder.proofs.Pairs.{and_left, first_half_computes}
 use Rattle.inorder.proofs.SettledRegisters.{ahead_if, committed_if, retired_on}
 use Rattle.inorder.proofs.Sound.{IsSettled, IsSound, IsSoundAt, SettledBy}
-use Rattle.unit.specs.Ahead.{ahead_by, low_after, low_of, waiting_half}
+use Rattle.unit.specs.Ahead.{low_after, low_of, waiting_half}
 use Rattle.inorder.proofs.OneCaller.Alike.{AreAlike, IsAlike}
 use Rattle.inorder.proofs.OneCaller.Left.{live_commits}
 use Rattle.inorder.proofs.OneCaller.Recovery.{gone, gone_by, mended_to}

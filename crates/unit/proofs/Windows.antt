@@ -3,11 +3,12 @@ use Rattle.std.proofs.Common.{◌≡◌, ℕ, zero, suc, ◌+◌, ◌-◌, ◌<�
 use Rattle.std.proofs.Common.{append_assoc, append-nil, length-append}
 use Rattle.std.specs.Prelude.{slice_get, slice_index}
 use Rattle.std.specs.List.{AllByRecursion}
+use Rattle.instructions.specs.Instruction.{is_access}
 use Rattle.instructions.specs.Programs.{Program}
 use Rattle.inorder.specs.Callers.{is_retired, stands_retired}
 use Rattle.inorder.specs.Committed.{ahead, committed}
 use Rattle.inorder.specs.Steps.{IsNoRetiredStop}
-use Rattle.inorder.specs.Tenants.{Live, Retired, Squashed, Standing, Tenant, destination_of, is_access, is_first, is_live, is_live_access, kind_of, on_path, stands_live, stands_on_path}
+use Rattle.inorder.specs.Tenants.{Live, Retired, Squashed, Standing, Tenant, destination_of, is_first, is_live, is_live_access, kind_of, on_path, stands_live, stands_on_path}
 use Rattle.inorder.specs.Unit.{creator, front_half, front_pc, half_after, how_many, last_writer, value_of}
 use Rattle.inorder.proofs.Basics.{last_writer_below, value_of_more}
 use Rattle.inorder.proofs.Commits.{not_complete}

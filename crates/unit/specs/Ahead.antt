@@ -1,21 +1,10 @@
 -- Between the two halves of an instruction: what the first has made waits for the second.
 use Rattle.std.specs.Prelude.{ℕ, Bool, true, false, List, [], ◌∷◌, Option, Some, None, unwrap_or}
 use Rattle.instructions.specs.Programs.{Program}
-use Rattle.instructions.specs.Registers.{lo}
 use Rattle.instructions.specs.declared.op.Half.{Half}
 use Rattle.instructions.specs.declared.op.Half.TheVariants.{High, Low}
 use Rattle.inorder.specs.Committed.{commits}
-use Rattle.inorder.specs.Machine.{State, write}
 use Rattle.inorder.specs.Tenants.{Tenant, is_first}
-
--- The registers with a value that waits for LO, if there is one
-abbrev pub with_low : Option ℕ → List ℕ → List ℕ
-with_low None registers = registers
-with_low (Some v) registers = write registers lo v
-
--- The state that a new tenant finds where nobody is live: the committed one, but for LO
-abbrev pub ahead_by : Option ℕ → State → State
-ahead_by low s = record s { registers = with_low low s.registers }
 
 -- The half that comes next where nobody is live: the second, where its first has retired
 abbrev pub waiting_half : Option ℕ → Half

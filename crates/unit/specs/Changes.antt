@@ -1,13 +1,12 @@
 -- What each stage of a turn does to the fields.
 use Rattle.std.specs.Prelude.{ℕ, ◌+◌, ◌-◌, ◌%◌, Bool, List, length, Option}
-use Rattle.instructions.specs.declared.end.End.{End}
 use Rattle.instructions.specs.declared.end.Ending.{Ending}
+use Rattle.inorder.specs.Committed.{ahead_by, with_low}
 use Rattle.inorder.specs.Machine.{State}
 use Rattle.inorder.specs.Runs.{end_from}
 use Rattle.unit.specs.declared.dispatch.Fetched.{Fetched}
 use Rattle.unit.specs.declared.pipeline.Pipeline.{Pipeline}
 use Rattle.unit.specs.declared.station.Station.{Station}
-use Rattle.unit.specs.Ahead.{ahead_by, with_low}
 use Rattle.unit.specs.Givers.{NoneGives}
 use Rattle.unit.specs.Loads.{load_in}
 use Rattle.unit.specs.Notes.{miss_in}
@@ -71,8 +70,3 @@ NoneLoads b = NoneGives (load_in (registers_of b) b.committed.memory) b.window
 -- The in-order run from here until the count has reached a limit
 abbrev pub run_from : Pipeline → ℕ → Ending × State
 run_from b limit = end_from b.program.now (limit - b.committed.count) b.committed
-
--- The end of a run as how it ended, and the state
-abbrev pub end_state : End → Ending × State
-end_state e =
-    (e.outcome, record { registers = e.registers; memory = e.memory.items; pc = e.pc; count = e.n })

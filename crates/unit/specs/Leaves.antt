@@ -11,7 +11,7 @@ use Rattle.unit.specs.declared.pipeline.Pipeline.{Pipeline}
 use Rattle.unit.specs.declared.station.Stage.{Stage}
 use Rattle.unit.specs.declared.station.Stage.TheVariants.{Addr, Done, Stops}
 use Rattle.unit.specs.declared.station.Station.{Station}
-use Rattle.unit.specs.declared.leaver.Leaver.{Leaver}
+use Rattle.instructions.specs.declared.guessing.Leaver.{Leaver}
 use Rattle.unit.specs.Changes.{ahead_of}
 use Rattle.unit.specs.Leavers.{leaver_of}
 use Rattle.unit.specs.Window.{source_in}

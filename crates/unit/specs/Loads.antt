@@ -5,7 +5,7 @@ use Rattle.instructions.specs.Operations.{loaded}
 use Rattle.instructions.specs.declared.op.Kind.{Kind}
 use Rattle.instructions.specs.declared.op.Kind.TheVariants.{Loads as LoadKind}
 use Rattle.instructions.specs.declared.op.Op.{Op}
-use Rattle.inorder.specs.Loads.{access_width, content_by, is_store}
+use Rattle.inorder.specs.Loads.{access_entry, content_by}
 use Rattle.lsq.specs.Bytes.{little_endian}
 use Rattle.lsq.specs.declared.answer.Answer.{Answer}
 use Rattle.lsq.specs.declared.answer.Answer.TheVariants.{Blocked, Forward, Memory}
@@ -24,12 +24,8 @@ address_of _ = None
 -- What the queue holds of a memory instruction behind these stations
 abbrev pub entry : List ℕ → List Station → Station → Entry
 entry registers ws w =
-    record {
-      store = is_store (kind w.instr.op);
-      width = access_width w.instr.op;
-      address = address_of w.stage;
-      content = content_by (kind w.instr.op) (source_in registers ws (second_of w.instr));
-    }
+    access_entry w.instr.op (address_of w.stage)
+    (content_by (kind w.instr.op) (source_in registers ws (second_of w.instr)))
 
 -- What the queue holds of station i, if that reaches memory
 abbrev pub entry_at : List ℕ → List Station → Option Station → ℕ → Option Entry

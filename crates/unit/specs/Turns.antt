@@ -1,17 +1,16 @@
 -- What a turn is: the first of these that is possible, as steps of the unit.
-use Rattle.std.specs.Prelude.{◌≡◌, ◌≢◌, ℕ, zero, suc, ◌+◌, ◌*◌, ◌^◌, ◌<◌, true, List, [], ◌∷◌, ◌++◌, length, Option, Some, None, is_some}
+use Rattle.std.specs.Prelude.{◌≡◌, ◌≢◌, ℕ, zero, suc, ◌+◌, ◌*◌, ◌^◌, ◌<◌, true, List, [], ◌∷◌, ◌++◌, length, Some, None, is_some}
 use Rattle.std.specs.List.{AllByRecursion}
-use Rattle.instructions.specs.Instruction.{fixed_next}
+use Rattle.instructions.specs.Guesses.{Guesses}
 use Rattle.instructions.specs.Programs.{Program, instr_at}
 use Rattle.instructions.specs.declared.instr.Instr.{Instr}
-use Rattle.instructions.specs.declared.op.Half.{Half}
 use Rattle.instructions.specs.declared.stop.Stop.{Stop}
 use Rattle.instructions.specs.declared.stop.Stop.TheVariants.{BadPc}
 use Rattle.inorder.specs.declared.history.Act.TheVariants.{Claim, Finish, Load, Mend, Retire}
 use Rattle.inorder.specs.declared.history.Step.{Step}
 use Rattle.inorder.specs.declared.history.Step.TheVariants.{Let as LetStep, On}
 use Rattle.inorder.specs.declared.history.Supply.{Supply}
-use Rattle.inorder.specs.Committed.{ahead, committed}
+use Rattle.inorder.specs.Committed.{ahead, ahead_by, committed}
 use Rattle.inorder.specs.Steps.{MayClaim, MayLet}
 use Rattle.inorder.specs.Tenants.{IsNotLive, Live, Miss, Tenant, instr, is_first}
 use Rattle.inorder.specs.Unit.{Sizes, UpdateUnit}
@@ -21,9 +20,7 @@ use Rattle.unit.specs.declared.pipeline.Pipeline.{Pipeline}
 use Rattle.unit.specs.declared.station.Stage.{Stage}
 use Rattle.unit.specs.declared.station.Stage.TheVariants.{Open, Addr, Miss as Misses}
 use Rattle.unit.specs.declared.station.Station.{Station}
-use Rattle.unit.specs.declared.leaver.Leaver.{Leaver}
-use Rattle.unit.specs.Ahead.{ahead_by}
-use Rattle.unit.specs.Leavers.{IsAsked, IsTold, leaver}
+use Rattle.unit.specs.Leavers.{leaver}
 use Rattle.unit.specs.Blocked.{AreBlocked, IsUnblocked}
 use Rattle.unit.specs.StandsFor.{GoesOn, HasStopped, StandsFor, sizes}
 use Rattle.inorder.specs.Moves.{IsDeliver, IsLink, IsReached, IsSquash, Leads}
@@ -205,19 +202,14 @@ pub record BenchFields (S : Type 0) : Type 0 where
 
 -- What a turn does to a predictor, by what it says of being asked and told
 module _ {S : Type 0} (Predicts : S → ℕ → Instr → ℕ → S → Type 0) (Learns : S → ℕ → ℕ → S → Type 0) where
-  -- It is told, and then asked
-  pub record Guesses (left : Option Leaver) (i : Instr) (half : Half) (pc predicted : ℕ) (old new : S) : Type 0 where
-    pub middle : S
-    pub told : IsTold Learns left old middle
-    pub asked : IsAsked Predicts (fixed_next i half pc) pc i predicted middle new
-
   -- A let tells it of who has left the station of the new tenant, and then asks it for the next pc of that, if it
   -- is not fixed
   pub record TrainsAtLet (P : Program) (U V : UpdateUnit) (old new : S) : Type 0 where
     pub tenant : Tenant
     pub joins : V.tenants ≡ tenant ∷ U.tenants
     pub guesses :
-        Guesses (leaver P U.tenants tenant.station) (instr P tenant) tenant.half tenant.pc tenant.predicted old new
+        Guesses Predicts Learns (leaver P U.tenants tenant.station) (instr P tenant) tenant.half tenant.pc
+        tenant.predicted old new
 
   -- Nothing else changes it
   abbrev pub Trains : Program → UpdateUnit → UpdateUnit → Turn → S → S → Type 0

@@ -1,6 +1,6 @@
 -- The live tenants as a list of stations, the oldest first, and what one of them reads.
 use Rattle.std.specs.Prelude.{ℕ, zero, suc, ◌+◌, ◌-◌, Bool, List, [], ◌∷◌, ◌++◌, length, Option, Some, None, ◌==◌, if◌then◌else◌, slice_index, slice_get, unwrap_or}
-use Rattle.instructions.specs.Instruction.{destination, first_of, is_first_half, kind, second_of}
+use Rattle.instructions.specs.Instruction.{destination, first_of, is_access, is_first_half, kind, second_of}
 use Rattle.instructions.specs.Programs.{Program}
 use Rattle.instructions.specs.declared.instr.Instr.{Instr}
 use Rattle.instructions.specs.declared.op.Half.{Half}
@@ -9,7 +9,7 @@ use Rattle.instructions.specs.declared.op.Kind.TheVariants.{Stores as StoreKind}
 use Rattle.instructions.specs.declared.op.Op.{Op}
 use Rattle.instructions.specs.declared.stop.Outcome.{Outcome}
 use Rattle.instructions.specs.declared.stop.Outcome.TheVariants.{Address, Next, Pair, Stop, Value}
-use Rattle.inorder.specs.Tenants.{Fate, Tenant, destination_of, instr, is_access, is_live, made_at_let}
+use Rattle.inorder.specs.Tenants.{Fate, Tenant, destination_of, instr, is_live, made_at_let}
 use Rattle.inorder.specs.Tenants.{Open as OpenFate, Busy, Addr as AddrFate, Done as DoneFate, Miss as MissFate, Stopped}
 use Rattle.inorder.specs.Unit.{can_be_written, half_after}
 use Rattle.unit.specs.declared.execute.Operands.{Operands}

@@ -2,7 +2,7 @@
 ghost use Rattle.std.specs.Prelude.{◌≡◌, ◌≤◌, ◌+◌, length, slice_index};
 ghost use Rattle.lsq.specs.Bytes.{little_endian};
 
-use crate::committed::Committed;
+use inorder::Committed;
 use instructions::Reg;
 use std::marker::Model;
 
@@ -15,7 +15,7 @@ pub struct Ahead<'c> {
 
 impl<'c> Model for Ahead<'c> {
     ghost use Rattle.inorder.specs.Machine.{State};
-    ghost use Rattle.unit.specs.Ahead.{ahead_by};
+    ghost use Rattle.inorder.specs.Committed.{ahead_by};
 
     ghost Value = { State };
 
@@ -27,7 +27,7 @@ impl<'c> Ahead<'c> {
     pub fn register(&self, r: Reg) -> u32
         ensures { result ≡ slice_index self.now.registers r }
     {
-        self.committed.register(self.low, r)
+        self.committed.register_ahead(self.low, r)
     }
 
     /// The number in `width` bytes from an address on.

@@ -1,16 +1,15 @@
 //! The one-thread unit, as its callers see it.
 ghost use Rattle.std.specs.Prelude.{◌≡◌, ◌<◌, ◌-◌, ◌^◌, nat_lt, length, slice_get, IfOk};
 ghost use Rattle.inorder.specs.Machine.{start};
-ghost use Rattle.unit.specs.Changes.{end_state, run_from};
+ghost use Rattle.inorder.specs.Runs.{end_state};
+ghost use Rattle.unit.specs.Changes.{run_from};
 ghost use Rattle.unit.specs.StandsFor.{IsUnit, StandsFor};
 ghost use Rattle.inorder.specs.Unit.{empty_unit};
-ghost use Rattle.unit.specs.Turns.{Falls, Guesses, IsSame, IsTurn};
+ghost use Rattle.unit.specs.Turns.{Falls, IsSame, IsTurn};
 
-use crate::dispatch::Fetched;
-use crate::leaver::Leaver;
 use crate::pipeline::Pipeline;
 use crate::station::Station;
-use instructions::{Config, End, Ending, Memory, Predictor, Program, Stop};
+use instructions::{Config, End, Ending, Memory, Predictor, Program, Stop, guess};
 use std::alloc::Global;
 use std::marker::Model;
 
@@ -51,19 +50,6 @@ impl<'a, P: Predictor + Drop> Model for Bench<'a, P> {
     ghost view = { λ b. record { pipeline = b.pipeline; predictor = b.predictor } };
 
     ghost invariant = { λ b. IsUnit b.pipeline };
-}
-
-// Tells the predictor of who has left, and asks it where the next instruction goes on, unless that is fixed.
-fn guess<P: Predictor>(predictor: &mut P, left: Option<Leaver>, next: &Fetched) -> u32
-    ensures { Guesses P.Predicts P.Learns left next.now.instr next.now.half next.now.pc result predictor.old predictor.new }
-{
-    if let Some(leaver) = left {
-        predictor.told(leaver.pc, leaver.next);
-    }
-    match next.instr.fixed_next(next.half, next.pc) {
-        Some(fixed) => fixed,
-        None => predictor.predict(next.pc, &next.instr),
-    }
 }
 
 impl<'a, P: Predictor + Drop> Bench<'a, P> {
@@ -135,7 +121,7 @@ impl<'a, P: Predictor + Drop> Bench<'a, P> {
         }
         if let Some(next) = self.pipeline.next() {
             let left = self.pipeline.leaver();
-            let predicted = guess(&mut self.predictor, left, &next);
+            let predicted = guess(&mut self.predictor, left, &next.instr, next.half, next.pc);
             self.pipeline.let_out(next, predicted);
             return Turn::Let;
         }
@@ -161,13 +147,6 @@ impl<'a, P: Predictor + Drop> Bench<'a, P> {
         let mut bench = self;
         let outcome = bench.run_to(limit);
         let committed = bench.pipeline.committed;
-        let registers = committed.registers;
-        End {
-            n: committed.count,
-            pc: committed.pc,
-            outcome,
-            registers,
-            memory: committed.memory,
-        }
+        committed.into_end(outcome)
     }
 }

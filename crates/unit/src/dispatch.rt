@@ -5,12 +5,11 @@ ghost use Rattle.inorder.specs.Unit.{half_after};
 ghost use Rattle.inorder.specs.Tenants.{made_at_let as made_at_let_of};
 ghost use Rattle.unit.specs.Ahead.{waiting_half as waiting_half_of};
 ghost use Rattle.unit.specs.Changes.{NextOf, next_place};
-ghost use Rattle.unit.specs.Window.{half_in, let_at, next_in, reaches_memory};
+ghost use Rattle.unit.specs.Window.{half_in, let_at, next_in};
 
-use crate::leaver::Leaver;
 use crate::pipeline::Pipeline;
 use crate::station::{Stage, Station};
-use instructions::{Half, Instr, Kind, Op, pc_plus_4};
+use instructions::{Half, Instr, Kind, Leaver, pc_plus_4};
 
 /// The instruction that can be let, its half, and its pc.
 #[derive(Clone, Copy)]
@@ -28,13 +27,6 @@ fn made_at_let(kind: Kind, pc: u32) -> Option<u32>
         Kind::Links => Some(pc_plus_4(pc)),
         _ => None,
     }
-}
-
-/// It reaches memory.
-pub fn is_access(op: Op) -> bool
-    ensures { result ≡ reaches_memory op }
-{
-    matches!(op.kind(), Kind::Loads | Kind::Stores)
 }
 
 // The station of a new tenant.
@@ -122,7 +114,7 @@ impl<'a> Pipeline<'a> {
         }
         let (pc, half) = self.front();
         let instr = self.program.fetch(pc)?;
-        if is_access(instr.op()) && self.queue <= self.window.accesses() {
+        if instr.op().is_access() && self.queue <= self.window.accesses() {
             return None;
         }
         Some(Fetched { instr, half, pc })

@@ -2,7 +2,6 @@
 ghost use Rattle.std.specs.Prelude.{◌≡◌, ◌<◌, ◌≤◌, length, take, slice_get, Some};
 ghost use Rattle.instructions.specs.Instruction.{second_of};
 ghost use Rattle.lsq.specs.Entries.{bytes};
-ghost use Rattle.inorder.specs.Loads.{access_width, is_store as is_store_of};
 ghost use Rattle.unit.specs.Forwarding.{joined as joined_of, older_of, store_at as store_in};
 ghost use Rattle.unit.specs.Loads.{address_of as address_by, entries, entry as entry_of};
 ghost use Rattle.unit.specs.Window.{source_in};
@@ -11,7 +10,8 @@ use crate::ahead::Ahead;
 use crate::source::source;
 use crate::station::{Stage, Station};
 use crate::window::Window;
-use instructions::{Kind, Op};
+use inorder::{access_entry, is_store};
+use instructions::Kind;
 use lsq::{Entry, Width, lacks_address, overlaps};
 
 /// What the older stores are to a load.
@@ -25,17 +25,6 @@ pub enum Older {
     Nearest(Entry),
 }
 
-/// What an operation moves.
-pub fn width(op: Op) -> Width
-    ensures { result ≡ access_width op }
-{
-    match op {
-        Op::Lb | Op::Lbu | Op::Sb => Width::Byte,
-        Op::Lh | Op::Lhu | Op::Sh => Width::Half,
-        _ => Width::Word,
-    }
-}
-
 fn address_of(stage: Stage) -> Option<u32>
     ensures { result ≡ address_by stage }
 {
@@ -43,12 +32,6 @@ fn address_of(stage: Stage) -> Option<u32>
         Stage::Addr(a) => Some(a),
         _ => None,
     }
-}
-
-fn is_store(kind: Kind) -> bool
-    ensures { result ≡ is_store_of kind }
-{
-    matches!(kind, Kind::Stores)
 }
 
 // What a store at `i` stores, if that was made.
@@ -68,15 +51,11 @@ fn entry(window: &Window, ahead: &Ahead, i: usize, station: &Station) -> Entry
     ensures { result ≡ entry_of ahead.now.registers (take i window.now) station.now }
 {
     let op = station.instr.op();
-    Entry {
-        store: is_store(op.kind()),
-        width: width(op),
-        address: address_of(station.stage),
-        content: match op.kind() {
-            Kind::Stores => content(window, ahead, i, station),
-            _ => None,
-        },
-    }
+    let data = match op.kind() {
+        Kind::Stores => content(window, ahead, i, station),
+        _ => None,
+    };
+    access_entry(op, address_of(station.stage), data)
 }
 
 // What the queue holds of the station at `i`, if that is a store.
@@ -85,9 +64,7 @@ fn store_at(window: &Window, ahead: &Ahead, i: usize) -> Option<Entry>
     ensures { result ≡ store_in ahead.now.registers window.now (slice_get window.now i) i }
 {
     match window.peek(i) {
-        Some(station) if is_store(station.instr.op().kind()) => {
-            Some(entry(window, ahead, i, station))
-        }
+        Some(station) if is_store(station.instr.op()) => { Some(entry(window, ahead, i, station)) }
         _ => None,
     }
 }

@@ -3,13 +3,7 @@ ghost use Rattle.std.specs.Prelude.{◌≡◌};
 ghost use Rattle.unit.specs.Leavers.{leaver_of};
 
 use crate::station::Station;
-
-/// A tenant whose next pc was asked for and that has retired: its pc, and its computed next pc.
-#[derive(Clone, Copy)]
-pub struct Leaver {
-    pub pc: u32,
-    pub next: u32,
-}
+use instructions::Leaver;
 
 /// What the predictor is told of a tenant that retires.
 pub fn told_of(station: &Station) -> Option<Leaver>

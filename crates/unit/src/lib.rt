@@ -3,7 +3,6 @@
 
 mod ahead;
 mod bench;
-mod committed;
 mod creators;
 mod dispatch;
 mod execute;

@@ -5,16 +5,17 @@ ghost use Rattle.lsq.specs.Entries.{bytes};
 ghost use Rattle.unit.specs.Changes.{LoadsOldest, NoneLoads};
 ghost use Rattle.unit.specs.Forwarding.{value_over};
 ghost use Rattle.unit.specs.Givers.{Chosen, gives};
-ghost use Rattle.inorder.specs.Loads.{access_width};
+ghost use Rattle.inorder.specs.Loads.{access_width as width_of};
 ghost use Rattle.unit.specs.Loads.{AreInside, load_in, waits as waits_of};
 ghost use Rattle.unit.specs.Notes.{AreNoted, AreSettled};
 ghost use Rattle.unit.specs.Stages.{FirstAnswered};
 
 use crate::ahead::Ahead;
-use crate::forwarding::{Older, look_back, width};
+use crate::forwarding::{Older, look_back};
 use crate::pipeline::Pipeline;
 use crate::station::{Stage, Station};
 use crate::window::Window;
+use inorder::access_width;
 use instructions::{Kind, Op, loaded};
 use lsq::taken_from;
 
@@ -38,7 +39,7 @@ fn waits(station: &Station) -> Option<u32>
 // The value of a load of an address, by what the older stores are to it.
 fn value_of(older: Older, ahead: &Ahead, op: Op, address: u32) -> Option<u32>
     requires { address + width_in op ≤ length ahead.now.memory }
-    ensures { result ≡ value_over older ahead.now.memory op address (bytes (access_width op)) }
+    ensures { result ≡ value_over older ahead.now.memory op address (bytes (width_of op)) }
 {
     match older {
         Older::Unknown => None,
@@ -47,7 +48,7 @@ fn value_of(older: Older, ahead: &Ahead, op: Op, address: u32) -> Option<u32>
             Some(loaded(op, raw))
         }
         Older::Nearest(store) => {
-            let raw = taken_from(&store, address, width(op))?;
+            let raw = taken_from(&store, address, access_width(op))?;
             Some(loaded(op, raw))
         }
     }
@@ -62,7 +63,7 @@ fn value_at(window: &Window, ahead: &Ahead, i: usize) -> Option<u32>
     let station = window.peek(i)?;
     let address = waits(station)?;
     let op = station.instr.op();
-    let older = look_back(window, ahead, i, address, width(op));
+    let older = look_back(window, ahead, i, address, access_width(op));
     value_of(older, ahead, op, address)
 }
 

@@ -8,10 +8,9 @@ ghost use Rattle.unit.specs.Turns.{Falls, IsPlain, IsSame, Moves};
 
 use crate::ahead::Ahead;
 use crate::bench::Turn;
-use crate::committed::Committed;
-use crate::leaver::Leaver;
 use crate::window::Window;
-use instructions::{Config, Memory, Program, Stop};
+use inorder::Committed;
+use instructions::{Config, Leaver, Memory, Program, Stop};
 use std::alloc::Global;
 
 #[derive(Drop)]

@@ -5,11 +5,11 @@ ghost use Rattle.unit.specs.Changes.{ahead_of};
 ghost use Rattle.unit.specs.Leaves.{CanLeave, HasEnded, RetiresTo, ended, halved, left, shifted, with_station};
 
 use crate::bench::Turn;
-use crate::leaver::{Leaver, told_of};
+use crate::leaver::told_of;
 use crate::pipeline::Pipeline;
 use crate::source::source;
 use crate::station::{Stage, Station};
-use instructions::Stop;
+use instructions::{Leaver, Stop};
 
 // A tenant leaves a station.
 fn leave(leavers: &mut [Option<Leaver>; 32], station: usize, told: Option<Leaver>)

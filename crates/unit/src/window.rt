@@ -5,7 +5,6 @@ ghost use Rattle.unit.specs.Slots.{place_of as place_in, slot_of as slot_in};
 ghost use Rattle.unit.specs.Window.{access_at, accesses as accesses_of};
 
 use crate::creators::Creators;
-use crate::dispatch::is_access;
 use crate::station::{Stage, Station};
 use instructions::{Half, Instr, Op, Reg};
 use std::marker::Model;
@@ -60,7 +59,7 @@ fn access(station: &Station) -> usize
     ensures value { result ≡ access_at (Some station.now) }
     ensures small { result ≤ 1 }
 {
-    if is_access(station.instr.op()) { 1 } else { 0 }
+    if station.instr.op().is_access() { 1 } else { 0 }
 }
 
 // The slot of the tenant at `i`.

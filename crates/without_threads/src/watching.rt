@@ -2,8 +2,7 @@
 ghost use Rattle.std.specs.Prelude.{◌≡◌, ◌≢◌, ◌+◌, ◌-◌, ◌^◌, ◌<◌, IfSome, IfOk, IfErr, Ok, OnOk, None};
 ghost use Rattle.isa.specs.Listing.{listing};
 ghost use Rattle.devices.specs.Counted.{failures_of, known_by};
-ghost use Rattle.inorder.specs.Runs.{end_of};
-ghost use Rattle.unit.specs.Changes.{end_state};
+ghost use Rattle.inorder.specs.Runs.{end_of, end_state};
 ghost use Rattle.without_threads.specs.Watched.{IsBegun, IsWatched, log_failures, outputs, writer_failures};
 ghost use Rattle.without_threads.specs.Went.{HoldsOfInput, IsOfOneThread, refused, status_number};
 ghost use Rattle.without_threads.specs.declared.went.Line.TheVariants.{Nothing, Refused};

@@ -1,12 +1,11 @@
 //! What the front keeps of its tenants.
 ghost use Rattle.std.specs.Prelude.{◌≡◌, ◌<◌, ◌≤◌, ◌-◌, [], ◌∷◌, ◌++◌, length, take, slice_get, IfSome, IfNone};
 ghost use Rattle.front.specs.Path.{YoungestGoesOn, record_for};
-ghost use Rattle.front.specs.Training.{ToldIf};
+ghost use Rattle.front.specs.Training.{leaver_if};
 
 use crate::fetch::Fetched;
-use crate::queue::reaches_memory;
 use arrayvec::ArrayVec;
-use instructions::{Kind, Predictor};
+use instructions::{Kind, Leaver};
 use std::marker::Model;
 
 /// A tenant of the path whose station was not let again.
@@ -42,19 +41,23 @@ pub(super) fn new_record(next: &Fetched, tag: u32, predicted: u32) -> Record
         destination: next.instr.destination(next.half).number(),
         links: matches!(kind, Kind::Links),
         first: next.instr.is_first_half(next.half),
-        access: reaches_memory(&next.instr),
+        access: next.instr.op().is_access(),
         guessed: next.instr.fixed_next(next.half, next.pc).is_none(),
     }
 }
 
 impl Record {
-    /// Tells a predictor how its instruction went on, if that was asked about it.
-    pub fn tell<P: Predictor>(&self, predictor: &mut P)
-        ensures { ToldIf P.Learns self.now.guessed self.now.pc self.now.next
-            predictor.old predictor.new }
+    /// What a predictor is told of it when it leaves, if that was asked about it.
+    pub fn leaver(&self) -> Option<Leaver>
+        ensures { result ≡ leaver_if self.now.guessed self.now.pc self.now.next }
     {
         if self.guessed {
-            predictor.told(self.pc, self.next);
+            Some(Leaver {
+                pc: self.pc,
+                next: self.next,
+            })
+        } else {
+            None
         }
     }
 }

@@ -2,7 +2,7 @@
 use Rattle.std.proofs.Common.{◌≡◌, ℕ, ◌<◌, ◌^◌, true, ◌&&◌, List, [], ◌∷◌, ◌++◌, length, Option, Some, None, refl, sym}
 use Rattle.std.specs.Prelude.{IfSome}
 use Rattle.std.specs.List.{AllByRecursion}
-use Rattle.instructions.specs.Instruction.{first_of, second_of, fixed_next, kind}
+use Rattle.instructions.specs.Instruction.{first_of, fixed_next, is_access, kind, second_of}
 use Rattle.instructions.specs.Programs.{Program, address, instr_of}
 use Rattle.inorder.specs.declared.history.Act.TheVariants.{Link}
 use Rattle.inorder.specs.declared.history.Source.TheVariants.{First, Second}
@@ -11,7 +11,7 @@ use Rattle.inorder.specs.declared.history.Step.TheVariants.{Let, On}
 use Rattle.inorder.specs.declared.history.Supply.{Supply}
 use Rattle.inorder.specs.declared.history.Supply.TheVariants.{From, Known}
 use Rattle.inorder.specs.Steps.{IsNoRetiredStop, MaySupply, MayLet, let_operand, linked, new_tenant}
-use Rattle.inorder.specs.Tenants.{Tenant, is_access, is_live, kind_of}
+use Rattle.inorder.specs.Tenants.{Tenant, is_live, kind_of}
 use Rattle.inorder.specs.Unit.{front_half, Sizes, UpdateUnit, creator, front_pc, how_many, next_station, recent, value_of}
 use Rattle.inorder.proofs.Sound.{IsSound}
 use Rattle.inorder.proofs.Stations.{Stands}

@@ -1,7 +1,7 @@
 -- Whether each step of a run is allowed: decided by computing, with the proof where it is.
 use Rattle.std.proofs.Common.{◌≡◌, ◌≢◌, ℕ, ◌^◌, List, [], ◌∷◌, length, Option, Some, None, refl}
 use Rattle.std.specs.List.{AllByRecursion}
-use Rattle.instructions.specs.Instruction.{first_of, fixed_next, kind, second_of}
+use Rattle.instructions.specs.Instruction.{first_of, fixed_next, is_access, kind, second_of}
 use Rattle.instructions.specs.Programs.{Program, address, instr_of}
 use Rattle.instructions.specs.declared.op.Kind.{Kind}
 use Rattle.instructions.specs.declared.op.Kind.TheVariants.{Stores}
@@ -15,7 +15,7 @@ use Rattle.inorder.specs.declared.history.Supply.TheVariants.{From, Known}
 use Rattle.inorder.specs.Legal.{Allowed, AreAllowed, May, Taken, reached}
 use Rattle.inorder.specs.Memory.{raw_at}
 use Rattle.inorder.specs.Steps.{CanRetire, HasAddress, IsNoRetiredStop, MayLet, MaySupply}
-use Rattle.inorder.specs.Tenants.{Addr, Done, Fate, IsNotLive, Live, Miss, Retired, Squashed, Standing, Stopped, Tenant, instr, is_access, is_live, is_live_access, kind_of, missing, operand}
+use Rattle.inorder.specs.Tenants.{Addr, Done, Fate, IsNotLive, Live, Miss, Retired, Squashed, Standing, Stopped, Tenant, instr, is_live, is_live_access, kind_of, missing, operand}
 use Rattle.inorder.specs.Unit.{Sizes, UpdateUnit, at, creator, front_half, front_pc, how_many, is_old, next_station, older, recent, value_of, younger}
 use Rattle.inorder.proofs.Runs.Decided.{all, equal, has_address, has_left, if_some_is, if_true, is_apart, is_busy, is_false, is_less, is_linked, is_miss, is_unlinked, links_not, loads, none_of}
 use Rattle.inorder.proofs.Runs.Decided.{some_is, some_of, stands_live, stays_open, stores_not, then}

@@ -1,4 +1,5 @@
 use Rattle.std.proofs.Common.{◌≤◌, ℕ, refl, sym, ap, ◌∙◌, subst}
+use Rattle.instructions.specs.Guesses.{Guesses}
 use Rattle.front.specs.Knows.{FrontKnows}
 use Rattle.inorder.specs.History.{unit_of}
 use Rattle.front.proofs.Releasing.{ready_now, released_told}
@@ -38,7 +39,9 @@ returns-clause-reply g c =
     let C = c.args.core.now.sizes in
     is_let g.P.Predictor.Predicts g.P.Predictor.Learns P C c.args.seat.now.seen c.fetch.new.seat.seen c.dispatch-tag.new.seat.seen c.args.path.now.records c.args.path.now.base c.requires.knows
     c.fetch.ensures.history c.in-Ok.next c.in-Ok.ensures.ok.oldest c.ring.result c.ring.ensures.value c.args.path.now c.release-left.new.self refl c.guess-predicted.result c.dispatch-tag.result
-    c.dispatch-tag.ensures.reply c.release-left.result c.release-left.ensures.reply c.args.predictor.now c.guess-predicted.new.predictor c.guess-predicted.ensures
+    c.dispatch-tag.ensures.reply c.release-left.result c.release-left.ensures.reply c.args.predictor.now c.guess-predicted.new.predictor
+    (subst (λ l. Guesses g.P.Predictor.Predicts g.P.Predictor.Learns l c.in-Ok.next.instr c.in-Ok.next.half c.in-Ok.next.pc c.guess-predicted.result c.args.predictor.now
+    c.guess-predicted.new.predictor) c.leaver-leaver.ensures c.guess-predicted.ensures)
 
 pub returns-in-Err-clause-table : goal.returns-in-Err-clause-table
 returns-in-Err-clause-table g c =

@@ -1,5 +1,6 @@
-use Rattle.std.proofs.Common.{◌≡◌, ◌<◌, ◌-◌, suc, [], sym, ◌∙◌, subst, arith}
+use Rattle.std.proofs.Common.{◌≡◌, ◌<◌, ◌-◌, suc, [], sym, ap, ◌∙◌, subst, arith}
 use Rattle.std.specs.List.{AllByRecursion}
+use Rattle.instructions.specs.Instruction.{is_access, kind}
 use Rattle.inorder.specs.History.{front, unit_of}
 use Rattle.inorder.specs.OneHistory.{Adds}
 use Rattle.front.specs.Knows.{FrontKnows}
@@ -13,7 +14,8 @@ use Rattle.front.proofs.queue.queue_is_full.Goals as goal
 pub returns-then-queue-eq0-clause-reply : goal.returns-then-queue-eq0-clause-reply
 returns-then-queue-eq0-clause-reply c =
     let most = queue_room c.args.core.now.program c.args.core.now.sizes c.args.seat.now.seen c.requires.legal in
-    (sym c.reaches_memory.ensures ∙ c.if-not-reaches_memory.false, omega (arith, most, c.queue-queue.ensures, c.if-queue-eq0.true))
+    let access = ap (λ o. is_access (kind o)) (sym c.op.ensures) ∙ (sym c.is_access.ensures ∙ c.if-not-is_access.false) in
+    (access, omega (arith, most, c.queue-queue.ensures, c.if-queue-eq0.true))
 
 pub returns-in_default-clause-reply : goal.returns-in_default-clause-reply
 returns-in_default-clause-reply c =
@@ -51,8 +53,9 @@ returns-clause-reply c =
     let base = c.args.path.now.base in
     let adds : Adds P C front old h [] = subst (λ i. Adds P C i old h []) c.requires.by c.look-seen.ensures.history in
     let knows : FrontKnows P C (unit_of P C h) records base = stays P C (λ U. FrontKnows P C U records base) (knows_stable P C records base) old h adds c.requires.knows in
+    let access = ap (λ o. is_access (kind o)) (sym c.op.ensures) ∙ (sym c.is_access.ensures ∙ c.if-not-is_access.false) in
     let whole : suc (c.queue-queue.result - 1) ≡ C.queue = omega (arith, c.queue-queue.ensures, c.if-queue-eq0.false) in (
-      sym c.reaches_memory.ensures ∙ c.if-not-reaches_memory.false,
+      access,
       full_there P C h adds.legal records base knows _ c.in-Some.record c.in-Some.ensures c.look-seen.result c.look-seen.ensures.reply
           c.in_default-state.not-Free whole,
     )

@@ -1,5 +1,6 @@
 -- The records go to the base registers.
 use Rattle.std.proofs.Common.{◌<◌, [], sym, ◌∙◌, subst, arith}
+use Rattle.instructions.specs.Guesses.{IsTold}
 use Rattle.inorder.specs.History.{front}
 use Rattle.inorder.specs.OneHistory.{Adds}
 use Rattle.inorder.proofs.Histories.{adds_on}
@@ -36,7 +37,7 @@ loop-oldest-preserved g c =
       folding = fold_more core old new path c.fold.new.self mine inv.folding inv.nobody c.in-Some.oldest c.look-seen.result c.look-seen.ensures.reply out;
       nobody = nobody_now core old new path c.fold.new.self mine inv.folding inv.nobody;
       told = told_more g.P.Predictor.Learns c.args.path.now.records path.records c.fold.new.self.records c.in-Some.oldest c.args.predictor.now c.loop-oldest.predictor c.tell.new.predictor inv.told
-          out.records c.tell.ensures;
+          out.records (subst (λ l. IsTold g.P.Predictor.Learns l c.loop-oldest.predictor c.tell.new.predictor) c.leaver-leaver.ensures c.tell.ensures);
     }
 
 pub returns-clause-none : goal.returns-clause-none

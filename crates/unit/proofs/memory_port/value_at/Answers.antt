@@ -11,4 +11,4 @@ returns c =
     let waits = sym c.waits.ensures ∙ c.in_ok-address.was in
     let right = value_right c.args.ahead.now.registers c.args.ahead.now.memory c.args.window.now w c.args.i
     c.in_ok-address.address c.requires.there there waits in
-    grind (arith, common_steps, c.value_of.ensures, c.look_back-older.ensures, c.width.ensures, c.op-op.ensures, right)
+    grind (arith, common_steps, c.value_of.ensures, c.look_back-older.ensures, c.access_width.ensures, c.op-op.ensures, right)

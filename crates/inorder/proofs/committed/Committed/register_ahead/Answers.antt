@@ -1,8 +1,8 @@
 use Rattle.std.proofs.Common.{◌≡◌, ◌<◌, length, Some, eqb-true, sym, ap, ◌∙◌, subst, arith}
 use Rattle.std.specs.Prelude.{slice_index}
+use Rattle.inorder.specs.Committed.{with_low}
 use Rattle.inorder.proofs.Basics.{read_same}
-use Rattle.unit.specs.Ahead.{with_low}
-use Rattle.unit.proofs.committed.Committed.register.Goals as goal
+use Rattle.inorder.proofs.committed.Committed.register_ahead.Goals as goal
 
 -- what waits is what LO holds
 pub returns-in-Some : goal.returns-in-Some

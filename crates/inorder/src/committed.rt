@@ -1,21 +1,23 @@
-//! What the unit has committed.
+//! What was committed: registers, data memory, pc and the count of instructions.
 ghost use Rattle.std.specs.Prelude.{◌≡◌, ◌<◌, ◌≤◌, ◌+◌, ◌^◌, ◌-◌, suc, length, slice_index, IfOk};
 ghost use Rattle.lsq.specs.Bytes.{little_endian};
-ghost use Rattle.inorder.specs.Machine.{write, start, store_bytes};
-ghost use Rattle.unit.specs.Ahead.{ahead_by, with_low};
+ghost use Rattle.inorder.specs.Committed.{ahead_by, with_low};
+ghost use Rattle.inorder.specs.Machine.{start, store_bytes, write as written};
+ghost use Rattle.inorder.specs.Runs.{end_state};
 
-use inorder::{number, store};
-use instructions::{Memory, Program, Reg};
+use crate::data::{number, store};
+use instructions::{End, Ending, Memory, Program, Reg};
 use std::alloc::Global;
 use std::marker::Model;
 
-/// Registers, memory, pc and the count of instructions.
+/// A state of the machine: its registers, its data memory, the pc of the next instruction, and how many were
+/// counted. A unit holds in it what whole instructions have left.
 #[derive(Drop)]
 pub struct Committed {
-    pub registers: [u32; 34],
-    pub memory: Vec<u8>,
-    pub pc: u32,
-    pub count: u64,
+    registers: [u32; 34],
+    memory: Vec<u8>,
+    pc: u32,
+    count: u64,
 }
 
 impl Model for Committed {
@@ -34,7 +36,7 @@ impl Model for Committed {
 }
 
 impl Committed {
-    /// The state at the start of a program.
+    /// The state at the start of a program: registers 0, memory as the directives give it, pc 0x00400000.
     pub fn new(alloc: Global, program: &Program) -> Result<Committed, Memory>
         ensures { IfOk result (λ c. c ≡ start program.now) }
     {
@@ -54,21 +56,42 @@ impl Committed {
         self.pc
     }
 
-    /// The count of instructions.
+    /// How many instructions were counted.
     pub fn count(&self) -> u64
         ensures { result ≡ self.now.count }
     {
         self.count
     }
 
+    /// What a register holds.
+    pub fn register(&self, r: Reg) -> u32
+        ensures { result ≡ slice_index self.now.registers r }
+    {
+        self.register_ahead(None, r)
+    }
+
     /// What a register holds, where a value may wait for LO.
-    pub fn register(&self, low: Option<u32>, r: Reg) -> u32
+    pub fn register_ahead(&self, low: Option<u32>, r: Reg) -> u32
         ensures { result ≡ slice_index (with_low low self.now.registers) r }
     {
         match low {
             Some(low) if r == Reg::LO => low,
             _ => self.registers[r.number() as usize],
         }
+    }
+
+    /// The registers, register 0 first.
+    pub fn registers(&self) -> &[u32; 34]
+        ensures { result.now ≡ self.now.registers }
+    {
+        &self.registers
+    }
+
+    /// The bytes of data memory.
+    pub fn memory(&self) -> &[u8]
+        ensures { result.now ≡ self.now.memory }
+    {
+        self.memory.as_slice()
     }
 
     /// The number in `width` bytes from an address on.
@@ -88,25 +111,56 @@ impl Committed {
         store(self.memory.as_mut_slice(), at, width, value);
     }
 
-    /// Commits what has waited for LO.
+    /// Writes a register; register 0 stays 0.
+    pub fn write(&mut self, r: Reg, value: u32)
+        ensures { self.new ≡ record self.old { registers = written self.old.registers r value } }
+    {
+        let number = r.number();
+        if number != 0 {
+            self.registers[number as usize] = value;
+        }
+    }
+
+    /// Writes LO, if a value waits for it.
     pub fn settle(&mut self, low: Option<u32>)
         ensures { self.new ≡ ahead_by low self.old }
     {
         if let Some(low) = low {
-            self.registers[Reg::LO.number() as usize] = low;
+            self.write(Reg::LO, low);
         }
     }
 
-    /// Commits an instruction that writes `v` and goes on at `next`.
-    pub fn advance(&mut self, r: Reg, v: u32, next: u32)
+    /// Counts an instruction that writes a register and goes on at `next`.
+    pub fn advance(&mut self, r: Reg, value: u32, next: u32)
         requires { self.old.count < 2 ^ 64 - 1 }
-        ensures registers { self.new.registers ≡ write self.old.registers r v }
-        ensures rest { self.new ≡ record self.old { registers = self.new.registers; pc = next; count = suc self.old.count } }
+        ensures registers { self.new.registers ≡ written self.old.registers r value }
+        ensures rest { self.new ≡ record self.old {
+          registers = self.new.registers;
+          pc = next;
+          count = suc self.old.count;
+        } }
     {
-        if r.number() != 0 {
-            self.registers[r.number() as usize] = v;
-        }
+        self.write(r, value);
         self.pc = next;
         self.count += 1;
+    }
+
+    /// The end of a run that ends so with this state.
+    pub fn into_end(self, outcome: Ending) -> End
+        ensures { end_state result ≡ (outcome, self) }
+    {
+        let Committed {
+            registers,
+            memory,
+            pc,
+            count,
+        } = self;
+        End {
+            n: count,
+            pc,
+            outcome,
+            registers,
+            memory,
+        }
     }
 }

@@ -1,0 +1,39 @@
+//! What a predictor is told, and asked.
+ghost use Rattle.std.specs.Prelude.{◌≡◌};
+ghost use Rattle.instructions.specs.Guesses.{Guesses, IsTold};
+
+use crate::{Half, Instr, Predictor};
+
+/// Who has left, as a predictor is told of it: the instruction at `pc`, about which it was asked, has gone on at
+/// `next`.
+#[derive(Clone, Copy)]
+pub struct Leaver {
+    pub pc: u32,
+    pub next: u32,
+}
+
+/// Tells a predictor of who has left, if there is one.
+pub fn tell<P: Predictor>(predictor: &mut P, left: Option<Leaver>)
+    ensures { IsTold P.Learns left predictor.old predictor.new }
+{
+    if let Some(leaver) = left {
+        predictor.told(leaver.pc, leaver.next);
+    }
+}
+
+/// Tells a predictor of who has left, and asks it where the next instruction goes on, unless that is fixed.
+pub fn guess<P: Predictor>(
+    predictor: &mut P,
+    left: Option<Leaver>,
+    instr: &Instr,
+    half: Half,
+    pc: u32,
+) -> u32
+    ensures { Guesses P.Predicts P.Learns left instr.now half pc result predictor.old predictor.new }
+{
+    tell(predictor, left);
+    match instr.fixed_next(half, pc) {
+        Some(fixed) => fixed,
+        None => predictor.predict(pc, instr),
+    }
+}
