@@ -18,6 +18,7 @@ use Rattle.inorder.proofs.Kept.{sound}
 use Rattle.inorder.proofs.Moves.{came}
 use Rattle.inorder.proofs.Positions.{at_below}
 use Rattle.inorder.proofs.Sound.{IsSound}
+use Rattle.inorder.proofs.Theorem.LetKept.{let_creator}
 
 -- a tenant is the new one, or was there before
 pub at_cases : (t : Tenant) (us : List Tenant) (q : ℕ) (u : Tenant) → at (t ∷ us) q ≡ Some u → (at us q ≡ Some u) ⊎ ((q ≡ length us) × (t ≡ u))
@@ -37,10 +38,6 @@ creator_below P ts r = go (can_be_written r) (last_writer_below P ts r)
 -- each creator is older
 abbrev pub AreOlder : List Tenant → Type 0
 AreOlder us = (r : ℕ) (t : Tenant) (k : Source) (q : ℕ) → at us r ≡ Some t → (operand k t).creator ≡ Some q → q < r
-
-let_creator : (c : Option ℕ) (s : Supply) → (let_operand c s).creator ≡ c
-let_creator c (Known v) = refl
-let_creator c From = refl
 
 pub new_older : (P : Program) (C : Sizes) (U : UpdateUnit) (index predicted : ℕ) (first second : Supply) (k : Source) (q : ℕ) →
     (operand k (new_tenant P C U index predicted first second)).creator ≡ Some q → q < length U.tenants

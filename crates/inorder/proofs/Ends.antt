@@ -1,5 +1,6 @@
 -- What of the oldest and of the youngest live tenant the steps of others keep.
 use Rattle.std.proofs.Common.{◌≡◌, ◌≢◌, ◌⊎◌, ℕ, ◌<◌, Bool, true, false, cond, eqb, eqb-true, List, [], ◌∷◌, length, Option, Some, refl, sym, ap, ◌∙◌, subst, inl, inr, ⊎_elim, arith}
+use Rattle.std.proofs.lemmas.Option.{same_Some}
 use Rattle.instructions.specs.Instruction.{kind}
 use Rattle.instructions.specs.Programs.{Program, instr_of}
 use Rattle.instructions.specs.declared.op.Kind.{Kind}
@@ -239,9 +240,6 @@ retired_on P by Mend ys t ts b m e = let l : t.standing ≡ Retired = sym (mende
 no_stop_on : (t : Tenant) (t' : Tenant) → IsNoRetiredStop t → (t'.standing ≡ Retired → (t.standing ≡ Retired) × (t'.fate ≡ t.fate)) → IsNoRetiredStop t'
 no_stop_on t t' n f e c g = let x = f e in n x.0 c (sym x.1 ∙ g)
 
-found : (t u : Tenant) → Some t ≡ Some u → t ≡ u
-found t u e = cc e
-
 module _ (P : Program) (C : Sizes) (U : UpdateUnit) (by : ℕ) (s : Step) (b : IsNotBacks s) (a : Allowed P C U by s) (ok : IsSound P U.tenants) where
   abbrev us : List Tenant
   us = U.tenants
@@ -254,14 +252,14 @@ module _ (P : Program) (C : Sizes) (U : UpdateUnit) (by : ℕ) (s : Step) (b : I
   older_live p q t below lt is live =
       let o = at_there us q (omega arith) in
       let g = goes P C U by s a ok q o.0 o.1 in
-      (o.0, o.1, g.goes.live (ap (λ (x : Tenant). x.standing) (found g.tenant t (sym g.is ∙ is)) ∙ live))
+      (o.0, o.1, g.goes.live (ap (λ (x : Tenant). x.standing) (same_Some g.tenant t (sym g.is ∙ is)) ∙ live))
 
   pub still_no_stop : (p q : ℕ) (t : Tenant) → p < length us → q < p → ((u : Tenant) → at us q ≡ Some u → IsNoRetiredStop u) → at V.tenants q ≡ Some t → IsNoRetiredStop t
   still_no_stop p q t below lt quiet is =
       let o = at_there us q (omega arith) in ⊎_elim
-      (λ (e : at V.tenants q ≡ Some o.0). subst IsNoRetiredStop (found o.0 t (sym e ∙ is)) (quiet o.0 o.1))
+      (λ (e : at V.tenants q ≡ Some o.0). subst IsNoRetiredStop (same_Some o.0 t (sym e ∙ is)) (quiet o.0 o.1))
       (λ (z : Acted P U by s V.tenants q o.0). let b' : IsNotBacksAct z.act = subst IsNotBacks z.step b in
-      subst IsNoRetiredStop (found (changed P by z.act o.0 (older us q)) t (sym z.now ∙ is)) (no_stop_on o.0 (changed P by z.act o.0 (older us q)) (quiet o.0 o.1)
+      subst IsNoRetiredStop (same_Some (changed P by z.act o.0 (older us q)) t (sym z.now ∙ is)) (no_stop_on o.0 (changed P by z.act o.0 (older us q)) (quiet o.0 o.1)
       (retired_on P by z.act (younger us q) o.0 (older us q) b' z.may)))
       (exact P C U by s a q o.0 o.1)
 
@@ -284,8 +282,8 @@ module _ (P : Program) (C : Sizes) (U : UpdateUnit) (by : ℕ) (s : Step) (b : I
 
     pub oldest_live : (u : Tenant) → at V.tenants p ≡ Some u → u.standing ≡ Live
     oldest_live u at_p = ⊎_elim
-        (λ e. ap (λ (x : Tenant). x.standing) (found u t (sym at_p ∙ e)) ∙ live)
-        (λ (z : Acted P U by s V.tenants p t). ap (λ (x : Tenant). x.standing) (found u (changed P by z.act t (older us p)) (sym at_p ∙ z.now)) ∙
+        (λ e. ap (λ (x : Tenant). x.standing) (same_Some u t (sym at_p ∙ e)) ∙ live)
+        (λ (z : Acted P U by s V.tenants p t). ap (λ (x : Tenant). x.standing) (same_Some u (changed P by z.act t (older us p)) (sym at_p ∙ z.now)) ∙
         (keeps z.act (subst IsNotBacks z.step b) z.may ∙ live))
         (exact P C U by s a p t is)
 
@@ -308,7 +306,7 @@ module _ (P : Program) (C : Sizes) (U : UpdateUnit) (by : ℕ) (s : Step) (b : I
     where
       still_fate : (t : Tenant) → at V.tenants p ≡ Some t → t.fate ≡ f
       still_fate t is = ⊎_elim
-          (λ e. ap (λ (x : Tenant). x.fate) (found t c.tenant (sym is ∙ e)) ∙ c.fate)
-          (λ (z : Acted P U by s V.tenants p c.tenant). ap (λ (x : Tenant). x.fate) (found t (changed P by z.act c.tenant (older us p)) (sym is ∙ z.now)) ∙
+          (λ e. ap (λ (x : Tenant). x.fate) (same_Some t c.tenant (sym is ∙ e)) ∙ c.fate)
+          (λ (z : Acted P U by s V.tenants p c.tenant). ap (λ (x : Tenant). x.fate) (same_Some t (changed P by z.act c.tenant (older us p)) (sym is ∙ z.now)) ∙
           ready_fate P by z.act (younger us p) c.tenant (older us p) f (subst IsNotBacks z.step b) z.may c.fate c.can)
           (exact P C U by s a p c.tenant c.is)

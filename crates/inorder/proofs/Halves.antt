@@ -16,7 +16,7 @@ half_if : (P : Program) (t : Tenant) (ts : List Tenant) (b : Bool) → on_path t
     front_half P (t ∷ ts) ≡ cond b (half_after (is_first P t)) (front_half P ts)
 half_if P t ts b e = ap (λ x. cond x (half_after (is_first P t)) (front_half P ts)) e
 
-completes_if : (P : Program) (t : Tenant) (c f : Bool) → commits t ≡ c → is_first P t ≡ f →
+pub completes_if : (P : Program) (t : Tenant) (c f : Bool) → commits t ≡ c → is_first P t ≡ f →
     completes P t ≡ (c && not f)
 completes_if P t c f e g = ap (λ x. x && not (is_first P t)) e ∙ ap (λ x. c && not x) g
 

@@ -1,6 +1,7 @@
 -- The oldest live tenant: where it stands, and what of it the steps of others keep.
 use Rattle.std.proofs.Common.{◌≡◌, ◌≢◌, ◌⊎◌, ℕ, suc, ◌%◌, ◌<◌, cond, List, [], ◌∷◌, ◌++◌, length, Some, refl, sym, ap, ◌∙◌, subst, inl, inr, ⊎_elim, arith}
 use Rattle.std.specs.List.{AllByRecursion}
+use Rattle.std.proofs.lemmas.Option.{same_Some}
 use Rattle.instructions.specs.Programs.{Program}
 use Rattle.inorder.specs.declared.history.Act.{Act}
 use Rattle.inorder.specs.declared.history.Act.TheVariants.{Claim, Deliver, Finish, Link, Load, Mend, Retire, Squash}
@@ -80,7 +81,7 @@ path_retired (t ∷ ts) h = go t.standing refl (path_retired ts h.1)
         ∙ (r ∙ sym (ap (λ s. cond (stands_retired s) (suc (how_many is_retired ts)) (how_many is_retired ts)) e))
 
 -- behind a live one none has retired
-none_behind : (t : Tenant) (ts ys : List Tenant) → t.standing ≡ Live → AreSettling (ys ++ t ∷ ts) → how_many is_retired (ys ++ t ∷ ts) ≡ how_many is_retired ts
+pub none_behind : (t : Tenant) (ts ys : List Tenant) → t.standing ≡ Live → AreSettling (ys ++ t ∷ ts) → how_many is_retired (ys ++ t ∷ ts) ≡ how_many is_retired ts
 none_behind t ts [] live s = ap (λ z. cond (stands_retired z) (suc (how_many is_retired ts)) (how_many is_retired ts)) live
 none_behind t ts (y ∷ ys) live s = go y.standing refl (none_behind t ts ys live s.1)
   where
@@ -129,13 +130,10 @@ head_stays P C U by (On p act) b a =
     ap (λ z. z % C.ring) (counts_same P U by p act t a.is is_retired (retired_same P by act (younger us p) t (older us p) b a.may))
 head_stays P C U by Renew b a = absurd b
 
-found : (t u : Tenant) → Some t ≡ Some u → t ≡ u
-found t u e = cc e
-
 no_stop_kept : (t t' : Tenant) → IsNoRetiredStop t → (t'.standing ≡ Retired → (t.standing ≡ Retired) × (t'.fate ≡ t.fate)) → IsNoRetiredStop t'
 no_stop_kept t t' n f e c g = let x = f e in n x.0 c (sym x.1 ∙ g)
 
-live_goes_on : (t : Tenant) → t.standing ≡ Live → IsNoRetiredStop t
+pub live_goes_on : (t : Tenant) → t.standing ≡ Live → IsNoRetiredStop t
 live_goes_on t live = λ gone c f. let x = sym live ∙ gone in cc x
 
 pub goes_on_stays : (P : Program) (C : Sizes) (U : UpdateUnit) (by : ℕ) (s : Step) → IsNotBacks s → Allowed P C U by s → IsSound P U.tenants → GoesOn U → GoesOn (applied P C U by s)
@@ -146,16 +144,16 @@ goes_on_stays P C U by (Let index predicted first second) b a ok g p t is = ⊎_
 goes_on_stays P C U by (On r act) b a ok g p t is =
     let V = applied P C U by (On r act) in
     let was = came P C U by r act a ok p t is in ⊎_elim
-    (λ (e : at V.tenants p ≡ Some was.tenant). subst IsNoRetiredStop (found was.tenant t (sym e ∙ is)) (g p was.tenant was.is))
+    (λ (e : at V.tenants p ≡ Some was.tenant). subst IsNoRetiredStop (same_Some was.tenant t (sym e ∙ is)) (g p was.tenant was.is))
     (λ (z : Acted P U by (On r act) V.tenants p was.tenant).
-    subst IsNoRetiredStop (found (changed P by z.act was.tenant (older U.tenants p)) t (sym z.now ∙ is))
+    subst IsNoRetiredStop (same_Some (changed P by z.act was.tenant (older U.tenants p)) t (sym z.now ∙ is))
     (no_stop_kept was.tenant (changed P by z.act was.tenant (older U.tenants p)) (g p was.tenant was.is)
     (retired_on P by z.act (younger U.tenants p) was.tenant (older U.tenants p) (subst IsNotBacks z.step b) z.may)))
     (exact P C U by (On r act) a p was.tenant was.is)
 goes_on_stays P C U by Renew b a ok g p t is = g p t is
 
 -- an address stays, but for the back
-addr_on : (P : Program) (by : ℕ) (act : Act) (ys : List Tenant) (t : Tenant) (ts : List Tenant) (x : ℕ) → IsNotBacksAct act → May P by act ys t ts → t.fate ≡ Addr x →
+pub addr_on : (P : Program) (by : ℕ) (act : Act) (ys : List Tenant) (t : Tenant) (ts : List Tenant) (x : ℕ) → IsNotBacksAct act → May P by act ys t ts → t.fate ≡ Addr x →
     (changed P by act t ts).fate ≡ Addr x
 addr_on P by (Link First) ys t ts x b m e = e
 addr_on P by (Link Second) ys t ts x b m e = e
@@ -190,8 +188,8 @@ addr_head_stays P C U by s b a ok p station tag index x i =
   where
     fate : (t : Tenant) → at (applied P C U by s).tenants p ≡ Some t → t.fate ≡ Addr x
     fate t is = ⊎_elim
-        (λ e. ap (λ (z : Tenant). z.fate) (found t i.tenant (sym is ∙ e)) ∙ i.fact.fate)
-        (λ (z : Acted P U by s (applied P C U by s).tenants p i.tenant). ap (λ (z : Tenant). z.fate) (found t (changed P by z.act i.tenant (older U.tenants p)) (sym is ∙ z.now)) ∙
+        (λ e. ap (λ (z : Tenant). z.fate) (same_Some t i.tenant (sym is ∙ e)) ∙ i.fact.fate)
+        (λ (z : Acted P U by s (applied P C U by s).tenants p i.tenant). ap (λ (z : Tenant). z.fate) (same_Some t (changed P by z.act i.tenant (older U.tenants p)) (sym is ∙ z.now)) ∙
         addr_on P by z.act (younger U.tenants p) i.tenant (older U.tenants p) x (subst IsNotBacks z.step b) z.may i.fact.fate)
         (exact P C U by s a p i.tenant i.is)
 

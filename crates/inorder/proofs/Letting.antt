@@ -50,7 +50,7 @@ pub how_many_same : (f : Tenant → Bool) (t t' : Tenant) (ts ys : List Tenant) 
 how_many_same f t t' ts [] e = ap (λ b. cond b (suc (how_many f ts)) (how_many f ts)) e
 how_many_same f t t' ts (y ∷ ys) e = ap (λ n. cond (f y) (suc n) n) (how_many_same f t t' ts ys e)
 
-how_many_fewer : (f : Tenant → Bool) (t t' : Tenant) (ts ys : List Tenant) → (f t' ≡ true → f t ≡ true) → how_many f (ys ++ t' ∷ ts) ≤ how_many f (ys ++ t ∷ ts)
+pub how_many_fewer : (f : Tenant → Bool) (t t' : Tenant) (ts ys : List Tenant) → (f t' ≡ true → f t ≡ true) → how_many f (ys ++ t' ∷ ts) ≤ how_many f (ys ++ t ∷ ts)
 how_many_fewer f t t' ts [] h = go (f t') (f t) h
   where
     go : (a b : Bool) → (a ≡ true → b ≡ true) → cond a (suc (how_many f ts)) (how_many f ts) ≤ cond b (suc (how_many f ts)) (how_many f ts)

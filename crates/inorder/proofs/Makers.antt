@@ -2,6 +2,7 @@
 use Rattle.std.proofs.Common.{◌≡◌, ◌≢◌, ◌⊎◌, ℕ, zero, suc, ◌<◌, Bool, true, false, cond, ◌&&◌, eqb, List, [], ◌∷◌, length, Option, Some, None, refl, sym, ap, ◌∙◌, subst, inl, ⊎_elim, arith, eqb-true}
 use Rattle.std.proofs.Common.{true≢false}
 use Rattle.std.specs.Prelude.{is_none}
+use Rattle.std.proofs.lemmas.Option.{same_Some}
 use Rattle.instructions.specs.Instruction.{first_of, second_of, target_of, destination_by, kind}
 use Rattle.instructions.specs.Programs.{Program, instr_of}
 use Rattle.instructions.specs.declared.op.Kind.{Kind}
@@ -89,9 +90,6 @@ not_at_let P by Squash ys t ts Second m e = e
 not_at_let P by Mend ys t ts First m e = ap (λ f. (mended_as t f).first.way) m.fate ∙ e
 not_at_let P by Mend ys t ts Second m e = ap (λ f. (mended_as t f).second.way) m.fate ∙ e
 
-found : (t u : Tenant) → Some t ≡ Some u → t ≡ u
-found t u e = cc e
-
 makers_kept : (P : Program) (C : Sizes) (U : UpdateUnit) (by : ℕ) (s : Step) → Allowed P C U by s → IsSound P U.tenants → HaveMakers P U.tenants → HaveMakers P (applied P C U by s).tenants
 makers_kept P C U by (Let index predicted first second) a ok all r t k is ne = ⊎_elim
     (λ old. more_maker P n U.tenants (operand k t).creator (all r t k old ne))
@@ -109,8 +107,8 @@ makers_kept P C U by (On p act) a ok all r t k is ne =
     let V = applied P C U by (On p act) in
     let was = came P C U by p act a ok r t is in
     let before : (operand k was.tenant).way ≢ AtLet = λ e. ne (⊎_elim
-    (λ (same : at V.tenants r ≡ Some was.tenant). ap (λ z. (operand k z).way) (found t was.tenant (sym is ∙ same)) ∙ e)
-    (λ (z : Acted P U by (On p act) V.tenants r was.tenant). ap (λ z. (operand k z).way) (found t (changed P by z.act was.tenant (older U.tenants r)) (sym is ∙ z.now)) ∙
+    (λ (same : at V.tenants r ≡ Some was.tenant). ap (λ z. (operand k z).way) (same_Some t was.tenant (sym is ∙ same)) ∙ e)
+    (λ (z : Acted P U by (On p act) V.tenants r was.tenant). ap (λ z. (operand k z).way) (same_Some t (changed P by z.act was.tenant (older U.tenants r)) (sym is ∙ z.now)) ∙
     not_at_let P by z.act (younger U.tenants r) was.tenant (older U.tenants r) k z.may e)
     (exact P C U by (On p act) a r was.tenant was.is)) in
     let m = all r was.tenant k was.is before in
@@ -137,13 +135,10 @@ last_is_writer : (P : Program) (ts : List Tenant) (r q : ℕ) (u : Tenant) → r
 last_is_writer P [] r q u ne e is = absurd (cc is)
 last_is_writer P (t ∷ ts) r q u ne e is = go (on_path t && eqb (destination_of P t) r) refl (last_is_writer P ts r q u ne)
   where
-    some_same : (x y : ℕ) → Some x ≡ Some y → x ≡ y
-    some_same x y e = cc e
-
     go : (b : Bool) → (on_path t && eqb (destination_of P t) r) ≡ b → (last_writer P ts r ≡ Some q → at ts q ≡ Some u → IsWriter P u) → IsWriter P u
     go true f more =
-        let here : length ts ≡ q = some_same (length ts) q (ap (λ b. cond b (Some (length ts)) (last_writer P ts r)) (sym f) ∙ e) in
-        let same : t ≡ u = found t u (sym (at_new t ts) ∙ (ap (at (t ∷ ts)) here ∙ is)) in
+        let here : length ts ≡ q = same_Some (length ts) q (ap (λ b. cond b (Some (length ts)) (last_writer P ts r)) (sym f) ∙ e) in
+        let same : t ≡ u = same_Some t u (sym (at_new t ts) ∙ (ap (at (t ∷ ts)) here ∙ is)) in
         let both = both_true (on_path t) (eqb (destination_of P t) r) f in
         subst (IsWriter P) same (record { path = both.0; writes = λ z. ne (sym (eqb-true (destination_of P t) r both.1) ∙ z) })
     go false f more =
@@ -207,10 +202,10 @@ stops_kept P C U by (Let index predicted first second) a ok all p t c is e f = �
 stops_kept P C U by (On r act) a ok all p t c is e f =
     let V = applied P C U by (On r act) in
     let was = came P C U by r act a ok p t is in ⊎_elim
-    (λ (same : at V.tenants p ≡ Some was.tenant). let one : was.tenant ≡ t = found was.tenant t (sym same ∙ is) in
+    (λ (same : at V.tenants p ≡ Some was.tenant). let one : was.tenant ≡ t = same_Some was.tenant t (sym same ∙ is) in
     subst (λ (z : Tenant). z.standing ≡ Retired → z.fate ≡ Stopped c → IsThere z.made) one (all p was.tenant c was.is) e f)
     (λ (z : Acted P U by (On r act) V.tenants p was.tenant).
-    let one : changed P by z.act was.tenant (older U.tenants p) ≡ t = found (changed P by z.act was.tenant (older U.tenants p)) t (sym z.now ∙ is) in
+    let one : changed P by z.act was.tenant (older U.tenants p) ≡ t = same_Some (changed P by z.act was.tenant (older U.tenants p)) t (sym z.now ∙ is) in
     subst (λ (x : Tenant). x.standing ≡ Retired → x.fate ≡ Stopped c → IsThere x.made) one (stop_made P by z.act (younger U.tenants p) was.tenant (older U.tenants p) c z.may
     (all p was.tenant c was.is)) e f)
     (exact P C U by (On r act) a p was.tenant was.is)
@@ -303,7 +298,14 @@ late_by_link us c q u e is late = go u.made refl late
 late_kept : (P : Program) (C : Sizes) (ss : List Taken) (by : ℕ) (s : Step) → AreAllowed P C ss → Allowed P C (reached P C ss) by s → AreLate (reached P C ss).tenants →
     AreLate (applied P C (reached P C ss) by s).tenants
 late_kept P C ss by (Let index predicted first second) are a all r t k is late = ⊎_elim
-    (λ old. let x = all r t k old late in record { q = x.q; value = x.value; tenant = x.tenant; creates = x.creates; is = at_more (new_tenant P C U index predicted first second) U.tenants x.q x.tenant x.is; made = x.made })
+    (λ old. let x = all r t k old late in record {
+      q = x.q;
+      value = x.value;
+      tenant = x.tenant;
+      creates = x.creates;
+      is = at_more (new_tenant P C U index predicted first second) U.tenants x.q x.tenant x.is;
+      made = x.made;
+    })
     (λ (new : (r ≡ length U.tenants) × (new_tenant P C U index predicted first second ≡ t)). absurd (not_linked P C U index predicted first second k false (ap (λ z. (operand k z).way) new.1 ∙ late)))
     (at_cases (new_tenant P C U index predicted first second) U.tenants r t is)
   where
@@ -340,7 +342,7 @@ late_kept P C ss by (On p act) are a all r t k is late = ⊎_elim
     by_link : (j : Source) → act ≡ Link j → IsLate us (operand k was.tenant).creator
     by_link j e = ⊎_elim
         (λ (z : IsActed P us by p act a.tenant r was.tenant).
-        let same : t ≡ linked (older us p) a.tenant j = found t (linked (older us p) a.tenant j) (sym is ∙ (z.now ∙ ap (λ x. Some (changed P by x a.tenant (older us p))) e)) in ⊎_elim
+        let same : t ≡ linked (older us p) a.tenant j = same_Some t (linked (older us p) a.tenant j) (sym is ∙ (z.now ∙ ap (λ x. Some (changed P by x a.tenant (older us p))) e)) in ⊎_elim
         (λ (kj : k ≡ j).
         let unlinked : (operand k a.tenant).way ≡ Unlinked = ap (λ x. (operand x a.tenant).way) kj ∙ (subst (λ x. May P by x (younger us p) a.tenant (older us p)) e a.may).way in
         let m = have_makers P C ss are p a.tenant k a.is (λ w. let x = sym unlinked ∙ w in cc x) in
@@ -354,7 +356,7 @@ late_kept P C ss by (On p act) are a all r t k is late = ⊎_elim
         (λ (ne : k ≢ j). all r was.tenant k was.is (ap (λ x. (operand k x).way) z.tenant ∙ (sym (other_way (older us p) k j a.tenant ne) ∙ (ap (λ x. (operand k x).way) (sym same) ∙ late))))
         (source_same k j))
         (λ (z : IsLeft P us by p act r was.tenant).
-        let same : t ≡ was.tenant = found t was.tenant (sym is ∙ z.now) in
+        let same : t ≡ was.tenant = same_Some t was.tenant (sym is ∙ z.now) in
         all r was.tenant k was.is (ap (λ x. (operand k x).way) (sym same) ∙ late))
         (at_changed P us by p act a.tenant a.is r was.tenant was.is)
       where

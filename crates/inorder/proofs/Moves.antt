@@ -1,5 +1,6 @@
 -- What an allowed step does to each tenant.
 use Rattle.std.proofs.Common.{◌≡◌, ◌≢◌, ◌⊎◌, ℕ, Bool, true, false, cond, eqb, List, length, Option, Some, refl, sym, ap, ◌∙◌, subst, inl, inr, ⊎_elim, arith}
+use Rattle.std.proofs.lemmas.Option.{same_Some}
 use mathlib.Core.Logic.{dite}
 use native.Mathlib.Decide.{ℕ_discrete}
 use Rattle.instructions.specs.Programs.{Program}
@@ -225,9 +226,6 @@ changed_goes P by p Mend ys t ts m q =
 
 -- Positions under a step
 
-found : (u t : Tenant) → Some u ≡ Some t → u ≡ t
-found u t e = cc e
-
 -- the tenant at q after an act on p
 pub record IsActed (P : Program) (ts : List Tenant) (by p : ℕ) (act : Act) (t : Tenant) (q : ℕ) (u : Tenant) : Type 0 where
   pub position : q ≡ p
@@ -244,7 +242,7 @@ at_changed P ts by p act t is q u here =
     let t' = changed P by act t (older ts p) in
     let put : change_at P ts by p act (at ts p) ≡ replaced ts p t' = ap (change_at P ts by p act) is in
     dite (ℕ_discrete q p)
-    (λ e. inl (record { position = e; tenant = found u t (sym here ∙ (ap (at ts) e ∙ is)); now = ap (λ z. at z q) put ∙ (ap (at (replaced ts p t')) e ∙ at_replaced_here ts p t t' is) }))
+    (λ e. inl (record { position = e; tenant = same_Some u t (sym here ∙ (ap (at ts) e ∙ is)); now = ap (λ z. at z q) put ∙ (ap (at (replaced ts p t')) e ∙ at_replaced_here ts p t t' is) }))
     (λ ne. inr (record { position = ne; now = ap (λ z. at z q) put ∙ (at_replaced_else ts p q t' ne ∙ here) }))
 
 pub length_changed : (P : Program) (ts : List Tenant) (by p : ℕ) (act : Act) (t : Tenant) → at ts p ≡ Some t → length (change_at P ts by p act (at ts p)) ≡ length ts
@@ -291,4 +289,4 @@ came P C U by p act a sound q u here =
     let wide = length_changed P ts by p act a.tenant a.is in
     let there = at_there ts q (omega arith) in
     let go = goes_at P ts by p act a sound q there.0 there.1 in
-    record { tenant = there.0; is = there.1; goes = subst (Goes by (On p act) there.0) (found go.tenant u (sym go.is ∙ here)) go.goes }
+    record { tenant = there.0; is = there.1; goes = subst (Goes by (On p act) there.0) (same_Some go.tenant u (sym go.is ∙ here)) go.goes }

@@ -3,6 +3,7 @@ use Rattle.std.proofs.Common.{◌≡◌, ◌≢◌, ◌⊎◌, ℕ, zero, suc, �
 use Rattle.std.proofs.Common.{length-append, eqb-true, eq-eqb, ne_eqb, ltb-true, ltb-false, true≢false}
 use Rattle.std.proofs.lemmas.Bool.{lt-ltb}
 use Rattle.std.specs.List.{AllByRecursion}
+use Rattle.std.proofs.lemmas.Option.{same_Some}
 use Rattle.instructions.specs.Programs.{Program}
 use Rattle.inorder.specs.declared.history.Act.{Act}
 use Rattle.inorder.specs.declared.history.Entry.{Entry}
@@ -49,7 +50,7 @@ pub new_from : (U : UpdateUnit) (p : ℕ) → is_old U p ≡ false → length U.
 new_from U p e = ltb-false (p + U.fresh) (length U.tenants) e
 
 -- how many were let before the last renewal
-gone_below : (n : ℕ) (ts : List Tenant) (p : ℕ) → length ts ≤ p + n → length (passed n ts) ≤ p
+pub gone_below : (n : ℕ) (ts : List Tenant) (p : ℕ) → length ts ≤ p + n → length (passed n ts) ≤ p
 gone_below zero ts p le = omega (arith, le)
 gone_below (suc n) [] p le = omega arith
 gone_below (suc n) (t ∷ ts) p le = gone_below n ts p (omega (arith, le))
@@ -196,9 +197,6 @@ live_is_last C U ring gone p t e live =
 
 -- The last tenant of a station
 
-same_some : (t u : Tenant) → Some t ≡ Some u → t ≡ u
-same_some t u e = cc e
-
 last_by : (ts : List Tenant) (q : ℕ) (u : Tenant) → at ts q ≡ Some u → ((r : ℕ) (y : Tenant) → q < r → at ts r ≡ Some y → y.station ≢ u.station) → last_of ts u.station ≡ Some u
 last_by [] q u is none = absurd (cc is)
 last_by (x ∷ xs) q u is none = go (eqb q (length xs)) refl (last_by xs q u)
@@ -206,7 +204,7 @@ last_by (x ∷ xs) q u is none = go (eqb q (length xs)) refl (last_by xs q u)
     go : (b : Bool) → eqb q (length xs) ≡ b → (at xs q ≡ Some u → ((r : ℕ) (y : Tenant) → q < r → at xs r ≡ Some y → y.station ≢ u.station) → last_of xs u.station ≡ Some u) →
         last_of (x ∷ xs) u.station ≡ Some u
     go true e more =
-        let same : x ≡ u = same_some x u (ap (λ b. cond b (Some x) (at xs q)) (sym e) ∙ is) in
+        let same : x ≡ u = same_Some x u (ap (λ b. cond b (Some x) (at xs q)) (sym e) ∙ is) in
         ap (λ b. cond b (Some x) (last_of xs u.station)) (eq-eqb x.station u.station (ap (λ (z : Tenant). z.station) same)) ∙ ap Some same
     go false e more =
         let there : at xs q ≡ Some u = ap (λ b. cond b (Some x) (at xs q)) (sym e) ∙ is in

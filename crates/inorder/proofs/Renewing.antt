@@ -2,6 +2,7 @@
 use Rattle.std.proofs.Common.{◌≡◌, ◌≢◌, ℕ, ◌+◌, true, List, length, Option, Some, refl, sym, ap, ◌∙◌, subst, arith, true≢false}
 use Rattle.std.proofs.Math.Nat.{zero-mod}
 use Rattle.std.proofs.lemmas.Bool.{lt-ltb}
+use Rattle.std.proofs.lemmas.Option.{same_Some}
 use Rattle.instructions.specs.Programs.{Program}
 use Rattle.inorder.specs.declared.history.Supply.{Supply}
 use Rattle.inorder.specs.declared.history.Supply.TheVariants.{From}
@@ -35,14 +36,11 @@ past P C history allowed =
       names = λ p q t u. names_recent C U (tagged P C history allowed) p q t u;
     }
 
-same_some : (p q : ℕ) → Some p ≡ Some q → p ≡ q
-same_some p q e = cc e
-
 -- a source that comes from its creator comes from a recent one
 waits_not : (P : Program) (U : UpdateUnit) (station p : ℕ) (c : Option ℕ) (s : Supply) → MaySupply P U station c s → c ≡ Some p → is_old U p ≡ true → s ≢ From
 waits_not P U station p c s may e old same =
     let from = subst (MaySupply P U station c) same may in
-    let one : p ≡ from.p = same_some p from.p (sym e ∙ from.creates) in
+    let one : p ≡ from.p = same_Some p from.p (sym e ∙ from.creates) in
     true≢false (sym old ∙ (ap (is_old U) one ∙ from.new))
 
 pub known_of_before : (P : Program) (C : Sizes) (U : UpdateUnit) (by : ℕ) → IsKnownOfBefore P C U by

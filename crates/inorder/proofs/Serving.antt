@@ -1,6 +1,7 @@
 -- What stays of a value that was made: its sources that were linked in time are served, once and for all.
 use Rattle.std.proofs.Common.{◌≡◌, ◌≢◌, ◌⊎◌, ℕ, ◌%◌, ◌<◌, Bool, true, false, List, [], ◌∷◌, ◌++◌, length, Option, Some, refl, sym, ap, ◌∙◌, subst, inl, inr, ⊎_elim, arith}
 use Rattle.std.specs.Prelude.{is_none}
+use Rattle.std.proofs.lemmas.Option.{same_Some}
 use Rattle.instructions.specs.Instruction.{first_of, second_of}
 use Rattle.instructions.specs.Programs.{Program, instr_of}
 use Rattle.inorder.specs.declared.history.Act.{Act}
@@ -63,9 +64,6 @@ not_linked P C U index predicted first second Second b e = way_of second (creato
     way_of (Known v) c e = cc e
     way_of From c e = cc e
 
-some_same : {X : Type 0} (x y : X) → Some x ≡ Some y → x ≡ y
-some_same x y e = cc e
-
 -- this is true of each tenant of a station whose source k was linked to q in time
 abbrev pub AreLinked : UpdateUnit → ℕ → ℕ → Source → (Tenant → Type 0) → Type 0
 AreLinked U q station k Fact =
@@ -92,7 +90,7 @@ module _ (P : Program) (C : Sizes) where
         by_link : (j : Source) → act ≡ Link j → (operand k b.tenant).way ≡ Linked true
         by_link j e = ⊎_elim
             (λ (z : IsActed P U.tenants by p act may.tenant r b.tenant).
-            let same : t' ≡ linked (older U.tenants p) may.tenant j = some_same t' (linked (older U.tenants p) may.tenant j)
+            let same : t' ≡ linked (older U.tenants p) may.tenant j = same_Some t' (linked (older U.tenants p) may.tenant j)
             (sym is ∙ (z.now ∙ ap (λ a. Some (changed P by a may.tenant (older U.tenants p))) e)) in ⊎_elim
             (λ (kj : k ≡ j).
             let creator_is : (operand k may.tenant).creator ≡ Some q = ap (λ x. (operand k x).creator) (sym z.tenant) ∙ (sym (b.goes.creator k) ∙ from) in
@@ -105,7 +103,7 @@ module _ (P : Program) (C : Sizes) where
             (λ (ne : k ≢ j). ap (λ x. (operand k x).way) z.tenant ∙ (sym (other_way (older U.tenants p) k j may.tenant ne) ∙ (ap (λ x. (operand k x).way) (sym same) ∙ way)))
             (source_same k j))
             (λ (z : IsLeft P U.tenants by p act r b.tenant).
-            let same : t' ≡ b.tenant = some_same t' b.tenant (sym is ∙ z.now) in
+            let same : t' ≡ b.tenant = same_Some t' b.tenant (sym is ∙ z.now) in
             ap (λ x. (operand k x).way) (sym same) ∙ way)
             (at_changed P U.tenants by p act may.tenant may.is r b.tenant b.is)
           where

@@ -21,6 +21,7 @@ use Rattle.inorder.proofs.Grows.{all_grows, all_mid}
 use Rattle.inorder.proofs.Kept.{parts, sound}
 use Rattle.inorder.proofs.Tags.{IsNewPlace, IsOldPlace, cut, passed}
 use Rattle.inorder.proofs.Sound.{IsSettled, IsSound, SettledBy}
+use Rattle.inorder.proofs.Letting.{how_many_same}
 
 -- whoever retired has only settled ones before it
 abbrev pub AreSettling : List Tenant → Type 0
@@ -52,7 +53,7 @@ fewer_newest f (suc n) (t ∷ ts) = go (f t) (fewer_newest f n ts)
     go false h = h
 
 -- numbers that differ by less than n, and at all, differ modulo n
-apart : (a d n : ℕ) → 0 < d → d < n → (a + d) % n ≢ a % n
+pub apart : (a d n : ℕ) → 0 < d → d < n → (a + d) % n ≢ a % n
 apart a d n pos less same = ⊎_elim far near (cases_lt (a / n) ((a + d) / n))
   where
     e : a / n * n + a % n ≡ a
@@ -158,11 +159,6 @@ let_stands P C U n e live room sound st =
 
 -- A tenant changes, and keeps its station
 
-count_same : (f : Tenant → Bool) (t t' : Tenant) (ts ys : List Tenant) → f t' ≡ f t →
-    how_many f (ys ++ t' ∷ ts) ≡ how_many f (ys ++ t ∷ ts)
-count_same f t t' ts [] e = ap (λ b. cond b (suc (how_many f ts)) (how_many f ts)) e
-count_same f t t' ts (y ∷ ys) e = ap (λ n. cond (f y) (suc n) n) (count_same f t t' ts ys e)
-
 fewer : (t t' : Tenant) (ts ys : List Tenant) → (t'.standing ≡ Live → t.standing ≡ Live) →
     how_many is_live (ys ++ t' ∷ ts) ≤ how_many is_live (ys ++ t ∷ ts)
 fewer t t' ts [] f = go t'.standing t.standing f
@@ -191,7 +187,7 @@ placed_same : (C : Sizes) (t t' : Tenant) (ts ys : List Tenant) → t'.station �
     on_path t' ≡ on_path t → ArePlaced C (ys ++ t ∷ ts) → ArePlaced C (ys ++ t' ∷ ts)
 placed_same C t t' ts [] e f h = ((λ on. e ∙ h.0 (sym f ∙ on)), h.1)
 placed_same C t t' ts (y ∷ ys) e f h = (
-  (λ on. h.0 on ∙ sym (ap (λ n. n % C.ring) (count_same on_path t t' ts ys f))),
+  (λ on. h.0 on ∙ sym (ap (λ n. n % C.ring) (how_many_same on_path t t' ts ys f))),
   placed_same C t t' ts ys e f h.1,
 )
 

@@ -1,5 +1,6 @@
 -- What follows the store of a link: the look at the creator's station, and the exchange.
 use Rattle.std.proofs.Common.{◌≡◌, ◌≢◌, ◌⊎◌, ℕ, ◌==◌, Bool, true, false, List, [], ◌∷◌, ◌++◌, map, Some, None, refl, sym, ap, ◌∙◌, subst, inl, inr, ⊎_elim, true≢false}
+use Rattle.std.proofs.lemmas.Option.{same_Some}
 use prog.Atomic.{either}
 use Rattle.atomic_table.proofs.Lists.{exchanged}
 use Rattle.instructions.specs.Programs.{Program}
@@ -50,9 +51,6 @@ use Rattle.ruu_words.proofs.Linking.{last_stays}
 use Rattle.ruu_words.proofs.StationWords.{its_word}
 use Rattle.ruu_words.proofs.Stays.{any_stays, front_stays, tenant_stays}
 
-found : {X : Type 0} (x y : X) → Some x ≡ Some y → x ≡ y
-found x y e = cc e
-
 -- others than the front squash none
 pub path_on : (P : Program) (by : ℕ) (act : Act) (ys : List Tenant) (t : Tenant) (ts : List Tenant) → IsBesidesAct act → May P by act ys t ts → on_path t ≡ true →
     on_path (changed P by act t ts) ≡ true
@@ -87,9 +85,9 @@ asked_stays P C k q r U by s b a ok i =
 
     path : (t : Tenant) → at V r ≡ Some t → on_path t ≡ true
     path t is = ⊎_elim
-        (λ (e : at V r ≡ Some i.tenant). ap on_path (found t i.tenant (sym is ∙ e)) ∙ i.fact.path)
+        (λ (e : at V r ≡ Some i.tenant). ap on_path (same_Some t i.tenant (sym is ∙ e)) ∙ i.fact.path)
         (λ (z : Acted P U by s V r i.tenant).
-        ap on_path (found t (changed P by z.act i.tenant (older U.tenants r)) (sym is ∙ z.now))
+        ap on_path (same_Some t (changed P by z.act i.tenant (older U.tenants r)) (sym is ∙ z.now))
         ∙ path_on P by z.act (younger U.tenants r) i.tenant (older U.tenants r) (subst IsBesides z.step b) z.may i.fact.path)
         (exact P C U by s a r i.tenant i.is)
 
@@ -126,8 +124,8 @@ module _ (P : Program) (C : Sizes) where
     maker_waits : kind_of P u ≢ Links
     maker_waits =
         let m = have_makers P C (taken_of h) (allowed_steps P C h legal) r i.tenant k i.is (λ e. let x = sym i.fact.way ∙ e in cc x) in
-        let one : q ≡ m.q = found q m.q (sym i.fact.creator ∙ m.creates) in
-        let same : m.tenant ≡ u = found m.tenant u (sym m.is ∙ (ap (at us) (sym one) ∙ is_q)) in
+        let one : q ≡ m.q = same_Some q m.q (sym i.fact.creator ∙ m.creates) in
+        let same : m.tenant ≡ u = same_Some m.tenant u (sym m.is ∙ (ap (at us) (sym one) ∙ is_q)) in
         subst (λ (z : Tenant). kind_of P z ≢ Links) same m.waits
 
     writer : IsWriter P u
@@ -143,8 +141,8 @@ module _ (P : Program) (C : Sizes) where
         go true e = i.fact.way ∙ ap Linked e
         go false e =
             let late = are_late P C (taken_of h) (allowed_steps P C h legal) r i.tenant k i.is (i.fact.way ∙ ap Linked e) in
-            let one : q ≡ late.q = found q late.q (sym i.fact.creator ∙ late.creates) in
-            let same : late.tenant ≡ u = found late.tenant u (sym late.is ∙ (ap (at us) (sym one) ∙ is_q)) in
+            let one : q ≡ late.q = same_Some q late.q (sym i.fact.creator ∙ late.creates) in
+            let same : late.tenant ≡ u = same_Some late.tenant u (sym late.is ∙ (ap (at us) (sym one) ∙ is_q)) in
             let made : u.made ≡ Some late.value = ap (λ (z : Tenant). z.made) (sym same) ∙ late.made in
             absurd (apart late.value (sym none ∙ made))
           where

@@ -1,6 +1,7 @@
 -- The store and the load of a link word.
 use Rattle.std.proofs.Common.{◌≡◌, ◌≢◌, ℕ, false, List, [], ◌∷◌, ◌++◌, Some, refl, sym, ap, ◌∙◌, subst, inl, inr, ⊎_elim, arith}
 use Rattle.std.specs.Prelude.{is_none}
+use Rattle.std.proofs.lemmas.Option.{same_Some}
 use mathlib.Core.Logic.{dite}
 use native.Mathlib.Decide.{ℕ_discrete, dec_lt}
 use Rattle.instructions.specs.Programs.{Program}
@@ -89,9 +90,6 @@ module _ (P : Program) (C : Sizes) where
     abbrev t' : Tenant
     t' = linked (older us r) t k
 
-    some_same : {X : Type 0} (x y : X) → Some x ≡ Some y → x ≡ y
-    some_same x y e = cc e
-
     -- the tenant that asked, afterwards
     here : at V.tenants r ≡ Some (linked (older us r) t k)
     here = ⊎_elim (λ (z : IsActed P us id r (Link k) t r t). z.now) (λ (z : IsLeft P us id r (Link k) r t). absurd (z.position refl)) (at_changed P us id r (Link k) t is r t is)
@@ -131,9 +129,9 @@ module _ (P : Program) (C : Sizes) where
           stands = λ q2 r2 producer consumer i live e f.
               let y = came P C U id r (Link k) may (unit_sound P C h legal) r2 consumer i.consumer_is in
               let one : r2 ≡ r = only r2 y.tenant y.is (y.goes.live live) (sym y.goes.station ∙ f) in
-              let same : consumer ≡ linked (older us r) t k = some_same consumer (linked (older us r) t k) (sym i.consumer_is ∙ (ap (at V.tenants) one ∙ here)) in
-              let from : q2 ≡ q = some_same q2 q (sym i.creator ∙ (ap (λ (x : Tenant). (operand k x).creator) same ∙ (linked_creator (older us r) k k t ∙ can.creator))) in
-              let producer_is : producer ≡ g.tenant = some_same producer g.tenant (sym i.producer_is ∙ (ap (at V.tenants) from ∙ g.is)) in
+              let same : consumer ≡ linked (older us r) t k = same_Some consumer (linked (older us r) t k) (sym i.consumer_is ∙ (ap (at V.tenants) one ∙ here)) in
+              let from : q2 ≡ q = same_Some q2 q (sym i.creator ∙ (ap (λ (x : Tenant). (operand k x).creator) same ∙ (linked_creator (older us r) k k t ∙ can.creator))) in
+              let producer_is : producer ≡ g.tenant = same_Some producer g.tenant (sym i.producer_is ∙ (ap (at V.tenants) from ∙ g.is)) in
               λ j. pack_link ((sym g.goes.tag ∙ ap (λ (x : Tenant). x.tag) (sym producer_is)) j) ((sym name.1 ∙ ap (λ (x : Tenant). x.tag) (sym same)) j);
         }
 
@@ -144,19 +142,19 @@ module _ (P : Program) (C : Sizes) where
         back : WasLinked P C U id r (Link k) p2 c2 k2
         back q2 r2 producer consumer consumer' at_r2 i m e f = ⊎_elim
             (λ (z : IsActed P us id r (Link k) t r2 consumer).
-            let same : consumer' ≡ linked (older us r) t k = some_same consumer' (linked (older us r) t k) (sym i.consumer_is ∙ z.now) in ⊎_elim
+            let same : consumer' ≡ linked (older us r) t k = same_Some consumer' (linked (older us r) t k) (sym i.consumer_is ∙ z.now) in ⊎_elim
             (λ (kk : k2 ≡ k).
-            let from : q2 ≡ q = some_same q2 q (sym i.creator ∙ (ap (λ (x : Tenant). (operand k2 x).creator) same ∙
+            let from : q2 ≡ q = same_Some q2 q (sym i.creator ∙ (ap (λ (x : Tenant). (operand k2 x).creator) same ∙
             (linked_creator (older us r) k2 k t ∙ (ap (λ j. (operand j t).creator) kk ∙ can.creator)))) in
             let g = goes P C U id (On r (Link k)) may (unit_sound P C h legal) q u there in
-            let producer_is : producer ≡ g.tenant = some_same producer g.tenant (sym i.producer_is ∙ (ap (at V.tenants) from ∙ g.is)) in
+            let producer_is : producer ≡ g.tenant = same_Some producer g.tenant (sym i.producer_is ∙ (ap (at V.tenants) from ∙ g.is)) in
             let pp : p2 ≡ p = sym e ∙ (ap (λ (x : Tenant). x.station) producer_is ∙ (g.goes.station ∙ at_p)) in
             let cc' : c2 ≡ c = sym f ∙ (ap (λ (x : Tenant). x.station) same ∙ ((linked_name (older us r) k t).0 ∙ at_c)) in
             absurd (other (λ j. LinkPlace (pp j) (cc' j) (kk j))))
             (λ (ne : k2 ≢ k). (i.in_time, ap (λ (x : Tenant). (operand k2 x).way) z.tenant ∙ (sym (other_way (older us r) k2 k t ne) ∙ (ap (λ (x : Tenant). (operand k2 x).way) (sym same) ∙ i.way))))
             (source_same k2 k))
             (λ (z : IsLeft P us id r (Link k) r2 consumer).
-            let same : consumer' ≡ consumer = some_same consumer' consumer (sym i.consumer_is ∙ z.now) in
+            let same : consumer' ≡ consumer = same_Some consumer' consumer (sym i.consumer_is ∙ z.now) in
             (i.in_time, ap (λ (x : Tenant). (operand k2 x).way) (sym same) ∙ i.way))
             (at_changed P us id r (Link k) t is r2 consumer at_r2)
 

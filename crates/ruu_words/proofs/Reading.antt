@@ -3,6 +3,7 @@ use Rattle.std.proofs.Common.{◌≡◌, ◌≢◌, ℕ, ◌+◌, Bool, true, fa
 use mathlib.Core.Logic.{dite}
 use native.Mathlib.Decide.{ℕ_discrete}
 use Rattle.std.specs.List.{AllByRecursion}
+use Rattle.std.proofs.lemmas.Option.{same_Some}
 use Rattle.instructions.specs.Instruction.{kind}
 use Rattle.instructions.specs.Programs.{Program, instr_of}
 use Rattle.inorder.specs.declared.history.Entry.{Entry}
@@ -141,11 +142,8 @@ module _ (P : Program) (C : Sizes) (h : List Entry) (legal : IsLegal P C h) wher
           let f = find_last W s l e in
           let x = a.there p t is new in
           let same : x.r ≡ f.0 = names_one C W x.r f.0 t l a.tagged_all x.is f.1 (station_is ∙ sym f.2) (tag_is ∙ w.tag) in
-          let one : l ≡ t = found l t (sym f.1 ∙ (ap (at W) (sym same) ∙ x.is)) in
+          let one : l ≡ t = same_Some l t (sym f.1 ∙ (ap (at W) (sym same) ∙ x.is)) in
           subst (λ x. IsOperandOf (record { tag = x.tag; value = (operand k x).value }) n) one w
-        where
-          found : (l t : Tenant) → Some l ≡ Some t → l ≡ t
-          found l t e = cc e
 
   -- with another tag, the tenant is not live
   pub not_live : (d : Draft) → IsDraft P C U d → (s : ℕ) (k : Source) (n : ℕ) → IsOperand (operand_word (recent (operand_unit P C U d k)) s k) n → (p : ℕ) (t : Tenant) → at us p ≡ Some t →

@@ -1,6 +1,7 @@
 -- What a caller has seen of a tenant stays true.
 use Rattle.std.proofs.Common.{◌≡◌, ◌≢◌, ℕ, false, List, [], ◌++◌, map, Option, Some, None, refl, sym, ap, ◌∙◌, subst}
 use Rattle.std.specs.Prelude.{length, unwrap_or}
+use Rattle.std.proofs.lemmas.Option.{same_Some}
 use Rattle.instructions.specs.Instruction.{kind}
 use Rattle.instructions.specs.Operations.{outcome_of, outcome_by}
 use Rattle.instructions.specs.Programs.{Program, instr_of}
@@ -149,13 +150,10 @@ module _ (P : Program) (C : Sizes) where
         tag_is = i.tag_is;
         fact = record { opens = λ o. o; index = refl; predicted = refl };
       }) in
-      subst (IsSince i.tenant) (one k.tenant j.tenant (sym k.is ∙ j.is)) k.fact
+      subst (IsSince i.tenant) (same_Some k.tenant j.tenant (sym k.is ∙ j.is)) k.fact
     where
       goes_on : (by : ℕ) (step : Step) (t t' : Tenant) → Goes by step t t' → IsSince i.tenant t → IsSince i.tenant t'
       goes_on by step t t' m f = record { opens = λ o. f.opens (m.opens o); index = m.index ∙ f.index; predicted = m.predicted ∙ f.predicted }
-
-      one : (t u : Tenant) → Some t ≡ Some u → t ≡ u
-      one t u e = cc e
 
   pub was_open_stays : (more seen : List Entry) (p : ℕ) → WasOpen P C seen p → WasOpen P C (more ++ seen) p
   was_open_stays more seen p w = record { point = w.point; starts = starts_longer seen w.point more w.starts; opened = w.opened }

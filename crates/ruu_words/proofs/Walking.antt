@@ -1,5 +1,6 @@
 -- The walk along the links of a tenant that has made its value.
 use Rattle.std.proofs.Common.{◌≡◌, ◌≢◌, ◌⊎◌, ℕ, ◌<◌, true, List, ◌++◌, Some, refl, sym, ◌∙◌, subst, inl, inr, ⊎_elim, arith}
+use Rattle.std.proofs.lemmas.Option.{same_Some}
 use Rattle.instructions.specs.Programs.{Program}
 use Rattle.inorder.specs.declared.history.Entry.{Entry}
 use Rattle.inorder.specs.declared.history.Mark.TheVariants.{Walked}
@@ -80,13 +81,10 @@ module _ (P : Program) (C : Sizes) where
   served_with_it U q c g k all it r t is at_c from way = ⊎_elim
       (λ z. z)
       (λ (tag : t.tag ≡ g). ⊎_elim
-      (λ (d : IsDelivered U r k). inl (subst (λ (z : Tenant). IsThere (operand k z).value) (one d.tenant t (sym d.is ∙ is)) d.fact))
+      (λ (d : IsDelivered U r k). inl (subst (λ (z : Tenant). IsThere (operand k z).value) (same_Some d.tenant t (sym d.is ∙ is)) d.fact))
       (λ gone. inr gone)
       (it r t is at_c tag))
       (all r t is at_c from way)
-    where
-      one : (x y : Tenant) → Some x ≡ Some y → x ≡ y
-      one x y e = cc e
 
   -- so a walk is whole where each station has been served for both sources
   pub is_walked : (h : List Entry) → IsLegal P C h → (q : ℕ) → ((c : ℕ) (k : Source) → c < C.ring → IsServed (unit_of P C h) q c k) → IsWalked (unit_of P C h) q

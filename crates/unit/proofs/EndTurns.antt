@@ -25,8 +25,8 @@ use Rattle.inorder.specs.Steps.{CanRetire, IsNoRetiredStop, MayRetire, made_at_e
 use Rattle.inorder.specs.Tenants.{Addr, Busy, Done, Fate, IsThere, Miss, Open, Retired as RetiredStanding, Stopped, Tenant, computed, computed_next, destination_of, instr, is_first, kind_of, on_path}
 use Rattle.inorder.specs.Tenants.{operand_value, stands_on_path}
 use Rattle.inorder.specs.Unit.{Sizes, UpdateUnit, at, how_many}
-use Rattle.inorder.proofs.Commits.{not_complete, over}
-use Rattle.inorder.proofs.Halves.{first_low}
+use Rattle.inorder.proofs.Commits.{live_not, not_complete, over}
+use Rattle.inorder.proofs.Halves.{completes_if, first_low}
 use Rattle.inorder.proofs.InOrderStep.{address_in, reached_in, stored_done}
 use Rattle.inorder.proofs.SettledMemory.{length_memory}
 use Rattle.inorder.proofs.Pairs.{first_half_computes}
@@ -36,7 +36,7 @@ use Rattle.inorder.proofs.Stations.{Stands, last_at}
 use Rattle.inorder.specs.Moves.{IsReached, Leads, with_tenants}
 use Rattle.inorder.specs.Still.{AreStill, IsNotBusy}
 use Rattle.inorder.proofs.OneCaller.Alike.{still_put, stops_put}
-use Rattle.inorder.proofs.OneCaller.Left.{ahead_middle, committed_middle, live_commits}
+use Rattle.inorder.proofs.OneCaller.Left.{ahead_middle, committed_middle}
 use Rattle.inorder.proofs.OneCaller.Middle.{all_from, at_middle, sound_from, still_from, younger_middle}
 use Rattle.inorder.proofs.OneCaller.Retirement.{retire_run}
 use Rattle.inorder.proofs.OneCaller.Sequences.{reach_on, sound_of, stands_of}
@@ -65,7 +65,7 @@ use Rattle.unit.proofs.Ring.{mod_first}
 use Rattle.unit.proofs.RunTurns.{ahead_stands, cannot_let, nobody_claims, nobody_loads, knows}
 use Rattle.unit.proofs.Tests.{HasSources, has_sources, no_miss}
 use Rattle.unit.proofs.Turns.{none_in}
-use Rattle.unit.proofs.Waiting.{ahead_low, completes_if, low_if, low_over, none_low, retired_over}
+use Rattle.unit.proofs.Waiting.{ahead_low, low_if, low_over, none_low, retired_over}
 use Rattle.unit.proofs.Windows.{half_worth, path_length, window_length}
 
 -- What the tests of the earlier turns leave
@@ -432,7 +432,7 @@ leave b later answer w h f e ended to U r s = go (found P U.tenants 0 w (ap (λ 
         low x q = low_over P t u ts ys d.live sound' ∙ low_if P u ts x q
 
         low_before : low_of P U.tenants ≡ low_of P ts
-        low_before = ap (low_of P) d.split ∙ low_over P t t ts ys d.live sound' ∙ low_if P t ts false (live_commits t d.live)
+        low_before = ap (low_of P) d.split ∙ low_over P t t ts ys d.live sound' ∙ low_if P t ts false (live_not t d.live)
 
         retired_before : how_many is_retired U.tenants ≡ how_many is_retired ts
         retired_before =
@@ -613,7 +613,7 @@ first_alone b w h none e q = go (found P U 0 w (ap (λ W. slice_get W 0) (sym h.
         is = ap (λ x. is_first_half x.instr.op x.half) d.station ∙ q
 
         before : low_of P U ≡ low_of P d.ts
-        before = ap (low_of P) d.split ∙ low_over P d.t d.t d.ts d.ys d.live s ∙ low_if P d.t d.ts false (live_commits d.t d.live)
+        before = ap (low_of P) d.split ∙ low_over P d.t d.t d.ts d.ys d.live s ∙ low_if P d.t d.ts false (live_not d.t d.live)
 
         waits : waiting_half (low_of P d.ts) ≡ Low
         waits =

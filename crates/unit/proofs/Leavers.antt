@@ -156,4 +156,5 @@ told_store P t k = go (fixed_next (instr P t) t.half t.pc) refl
   where
     go : (f : Option ℕ) → fixed_next (instr P t) t.half t.pc ≡ f → leaver_by (fixed_next (instr P t) t.half t.pc) t.pc t.next ≡ None
     go (Some x) e = rw e refl
-    go None e = ⊎_elim (λ q. let no : Stores ≡ Jumps = sym k ∙ q in absurd (cc)) (λ q. let no : Stores ≡ Links = sym k ∙ q in absurd (cc)) (asked_half (is_first_half (instr P t).op t.half) (instr P t) t.pc e)
+    go None e = ⊎_elim (λ q. let no : Stores ≡ Jumps = sym k ∙ q in absurd (cc)) (λ q. let no : Stores ≡ Links = sym k ∙ q in absurd (cc))
+    (asked_half (is_first_half (instr P t).op t.half) (instr P t) t.pc e)

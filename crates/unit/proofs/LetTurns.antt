@@ -107,7 +107,8 @@ let_turn b later f pr place none room most long nm to small predicts pe pl wl ll
         enter =
             record {
               room = omega (arith, to.room, window_length P ts, ap length s.window);
-              queue = λ q. let few = to.free (sym (ap (λ i. is_access (kind i.op)) a.is) ∙ q) in let same = ap (λ l. Rattle.unit.specs.Window.accesses l (length l)) s.window in omega (arith, few, same, window_accesses P ts);
+              queue = λ q. let few = to.free (sym (ap (λ i. is_access (kind i.op)) a.is) ∙ q) in
+                  let same = ap (λ l. Rattle.unit.specs.Window.accesses l (length l)) s.window in omega (arith, few, same, window_accesses P ts);
               is_there = a.inside;
               pc = front ∙ a.pc;
               small = small;

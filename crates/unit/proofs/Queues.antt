@@ -19,7 +19,8 @@ use Rattle.lsq.specs.declared.entry.Entry.{Entry}
 use Rattle.lsq.specs.Entries.{bytes}
 use Rattle.lsq.specs.LoadRule.{answer_over, by_lacking, by_overlap, lacks_address, or_older, overlaps, youngest, youngest_from, meets}
 use Rattle.inorder.specs.Still.{AreStill}
-use Rattle.inorder.proofs.OneCaller.Left.{live_commits, retired_all}
+use Rattle.inorder.proofs.OneCaller.Left.{retired_all}
+use Rattle.inorder.proofs.Commits.{live_not}
 use Rattle.unit.specs.declared.station.Station.{Station}
 use Rattle.unit.specs.Loads.{address_of, entries, entry, entry_at, with_entry}
 use Rattle.unit.specs.Window.{reaches_memory, source_in, stage_of, station_of, window}
@@ -169,7 +170,7 @@ queue_like P (t ∷ ts) s n h = go t.standing refl (queue_like P ts s.1 n.1 h.1)
         here : all (regs (t ∷ ts)) (window P (t ∷ ts)) ≡ with_entry (all (regs ts) W) (cond (is_access (kind_of P t)) (Some (entry (regs ts) W (station_of P t))) None)
         here =
             ap (λ l. all (regs (t ∷ ts)) l) (window_live P t ts e)
-            ∙ ap (λ c. all c.registers (W ++ station_of P t ∷ [])) (ahead_if P t ts false (live_commits t e))
+            ∙ ap (λ c. all c.registers (W ++ station_of P t ∷ [])) (ahead_if P t ts false (live_not t e))
             ∙ entries_end (regs ts) W (station_of P t)
 
         on : (b : Bool) → is_access (kind_of P t) ≡ b → AreLike (queue_of P (t ∷ ts)) (all (regs (t ∷ ts)) (window P (t ∷ ts)))

@@ -10,16 +10,15 @@ use Rattle.inorder.specs.Committed.{ahead, ahead_by, commits, commits_by, commit
 use Rattle.inorder.specs.Machine.{write}
 use Rattle.inorder.specs.Tenants.{Live, Retired, Squashed, Standing, Tenant, destination_of, instr, is_first}
 use Rattle.inorder.specs.Unit.{how_many}
-use Rattle.inorder.proofs.Commits.{not_complete}
+use Rattle.inorder.proofs.Commits.{live_not, not_complete}
 use Rattle.inorder.proofs.Follows.{commits_retired}
 use Rattle.inorder.proofs.Grows.{all_mid}
-use Rattle.inorder.proofs.Halves.{first_low, none_waits}
+use Rattle.inorder.proofs.Halves.{completes_if, first_low, none_waits}
 use Rattle.inorder.proofs.Pairs.{and_left, first_half_computes}
 use Rattle.inorder.proofs.SettledRegisters.{ahead_if, committed_if, retired_on}
 use Rattle.inorder.proofs.Sound.{IsSettled, IsSound, IsSoundAt, SettledBy}
 use Rattle.unit.specs.Ahead.{low_after, low_of, waiting_half}
 use Rattle.inorder.proofs.OneCaller.Alike.{AreAlike, IsAlike}
-use Rattle.inorder.proofs.OneCaller.Left.{live_commits}
 use Rattle.inorder.proofs.OneCaller.Recovery.{gone, gone_by, mended_to}
 
 -- a first half writes LO
@@ -38,9 +37,6 @@ low_if P t ts b e = ap (λ x. low_after x (is_first P t) t.made (low_of P ts)) e
 
 pub low_first : (P : Program) (t : Tenant) (ts : List Tenant) (f : Bool) → commits t ≡ true → is_first P t ≡ f → low_of P (t ∷ ts) ≡ low_after true f t.made (low_of P ts)
 low_first P t ts f e g = low_if P t ts true e ∙ ap (λ x. low_after true x t.made (low_of P ts)) g
-
-pub completes_if : (P : Program) (t : Tenant) (c f : Bool) → commits t ≡ c → is_first P t ≡ f → completes P t ≡ (c && not f)
-completes_if P t c f e g = ap (λ x. x && not (is_first P t)) e ∙ ap (λ x. c && not x) g
 
 -- a first half that has retired finds all before it committed
 pub level : (P : Program) (t : Tenant) (ts : List Tenant) → IsSoundAt P ts t → t.standing ≡ Retired → is_first P t ≡ true → ahead P ts ≡ committed P ts
@@ -108,13 +104,13 @@ same_other P t u us a b c d =
 pub same_live : (P : Program) (t : Tenant) (ts : List Tenant) → t.standing ≡ Live → LeavesSame P ts (t ∷ ts)
 same_live P t ts e =
     record {
-      low = low_if P t ts false (live_commits t e);
+      low = low_if P t ts false (live_not t e);
       retired = ap (λ s. cond (stands_retired s) (suc (how_many is_retired ts)) (how_many is_retired ts)) e;
     }
 
 -- a live tenant changes, and stays live
 pub same_put : (P : Program) (ys : List Tenant) (t u : Tenant) (ts : List Tenant) → t.standing ≡ Live → u.standing ≡ Live → LeavesSame P (ys ++ t ∷ ts) (ys ++ u ∷ ts)
-same_put P [] t u ts a b = same_other P t u ts (live_commits t a) (live_commits u b) (ap stands_retired a) (ap stands_retired b)
+same_put P [] t u ts a b = same_other P t u ts (live_not t a) (live_not u b) (ap stands_retired a) (ap stands_retired b)
 same_put P (y ∷ ys) t u ts a b = same_more P y (ys ++ t ∷ ts) (ys ++ u ∷ ts) (same_put P ys t u ts a b)
 
 -- those that are live are squashed
@@ -132,7 +128,7 @@ same_gone P (y ∷ ys) us = same_both P (y ∷ (ys ++ us)) (y ∷ (gone ys ++ us
     go : (st : Standing) → y.standing ≡ st → LeavesSame P (y ∷ rest) (gone_by y.standing y ∷ rest)
     go Retired e = stay (ap (λ s. gone_by s y) e)
     go Squashed e = stay (ap (λ s. gone_by s y) e)
-    go Live e = subst (λ s. LeavesSame P (y ∷ rest) (gone_by s y ∷ rest)) (sym e) (same_other P y (gone_by Live y) rest (live_commits y e) refl (ap stands_retired e) refl)
+    go Live e = subst (λ s. LeavesSame P (y ∷ rest) (gone_by s y ∷ rest)) (sym e) (same_other P y (gone_by Live y) rest (live_not y e) refl (ap stands_retired e) refl)
 
 -- a recovery
 pub same_recover : (P : Program) (ys : List Tenant) (t : Tenant) (ts : List Tenant) (x : ℕ) → t.standing ≡ Live → LeavesSame P (ys ++ t ∷ ts) (gone ys ++ mended_to x t ∷ ts)

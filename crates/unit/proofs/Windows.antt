@@ -11,10 +11,10 @@ use Rattle.inorder.specs.Steps.{IsNoRetiredStop}
 use Rattle.inorder.specs.Tenants.{Live, Retired, Squashed, Standing, Tenant, destination_of, is_first, is_live, is_live_access, kind_of, on_path, stands_live, stands_on_path}
 use Rattle.inorder.specs.Unit.{creator, front_half, front_pc, half_after, how_many, last_writer, value_of}
 use Rattle.inorder.proofs.Basics.{last_writer_below, value_of_more}
-use Rattle.inorder.proofs.Commits.{not_complete}
+use Rattle.inorder.proofs.Commits.{live_not, not_complete}
 use Rattle.inorder.proofs.SettledRegisters.{ahead_if, committed_if, committed_pc, register_given, squashed_not, value_of_last, writer_if}
 use Rattle.inorder.proofs.Sound.{IsSettled, IsSound, SettledBy}
-use Rattle.inorder.proofs.OneCaller.Left.{live_commits, retired_all, retired_commits}
+use Rattle.inorder.proofs.OneCaller.Left.{retired_all, retired_commits}
 use Rattle.unit.specs.Ahead.{low_after, low_of, waiting_half}
 use Rattle.unit.specs.declared.station.Station.{Station}
 use Rattle.unit.specs.Window.{accesses, half_behind, half_in, next_after, next_in, register_after, register_in, source_in, station_of, window}
@@ -130,7 +130,7 @@ writer_worth P (t ∷ ts) s n r lt = go t.standing refl (writer_worth P ts s.1 n
         on (eqb (destination_of P t) (suc r)) refl e more
         ∙ sym (register_end (suc r) (Some (regs ts)) (window P ts) (station_of P t))
         ∙ sym (ap (register_in (suc r) (Some (regs ts))) (window_live P t ts e))
-        ∙ sym (ap (λ c. register_in (suc r) (Some (slice_index c.registers (suc r))) (window P (t ∷ ts))) (ahead_if P t ts false (live_commits t e)))
+        ∙ sym (ap (λ c. register_in (suc r) (Some (slice_index c.registers (suc r))) (window P (t ∷ ts))) (ahead_if P t ts false (live_not t e)))
     go Squashed e more =
         off e
         ∙ more

@@ -92,7 +92,7 @@ early_made o pc pr nx made a b st (Done x) na nh h = λ e. let no : None ≡ Som
 early_made o pc pr nx made a b st (Miss x) na nh h = λ e. let no : None ≡ Some (pc_plus_4 pc) = sym e ∙ h.0 in absurd (cc)
 early_made o pc pr nx made a b st (Stopped x) na nh h = absurd (nh x h.1)
 
-links_go : (P : Program) (t : Tenant) → kind_of P t ≡ Links → (x : ℕ) × (computed P t ≡ Next x)
+pub links_go : (P : Program) (t : Tenant) → kind_of P t ≡ Links → (x : ℕ) × (computed P t ≡ Next x)
 links_go P t e = (_, ap (λ k. outcome_by k (instr P t) t.half t.pc (operand_value t.first) (operand_value t.second) (length P.bytes)) e)
 
 no_links : (P : Program) (ts : List Tenant) (t : Tenant) → IsSoundAt P ts t → t.made ≡ None → kind_of P t ≢ Links

@@ -5,7 +5,7 @@ use Rattle.instructions.specs.Programs.{Program}
 use Rattle.inorder.specs.Committed.{ahead, commits, commits_by, committed}
 use Rattle.inorder.specs.Steps.{IsNoRetiredStop}
 use Rattle.inorder.specs.Tenants.{Addr, Busy, Done, Fate, Live, Miss, Open, Retired, Stopped, Tenant, stands_on_path}
-use Rattle.inorder.proofs.Commits.{not_complete, over, over_ahead}
+use Rattle.inorder.proofs.Commits.{live_not, not_complete, over, over_ahead}
 use Rattle.inorder.proofs.SettledRegisters.{ahead_if, committed_if}
 use Rattle.inorder.proofs.Sound.{IsSettled, IsSound, SettledBy}
 
@@ -24,9 +24,6 @@ retired_all P t ts s e n = (here t.fate refl, (s.0.placed (ap stands_on_path e))
     here : (f : Fate) → t.fate ≡ f → SettledBy t.standing t.fate
     here f q = subst (λ x. SettledBy x t.fate) (sym e) (subst (SettledBy Retired) (sym q) (go f q))
 
-pub live_commits : (t : Tenant) → t.standing ≡ Live → commits t ≡ false
-live_commits t e = ap (λ s. commits_by s t.fate) e
-
 pub retired_commits : (t : Tenant) → t.standing ≡ Retired → IsNoRetiredStop t → commits t ≡ true
 retired_commits t e n = ap (λ s. commits_by s t.fate) e ∙ go t.fate refl
   where
@@ -40,8 +37,8 @@ retired_commits t e n = ap (λ s. commits_by s t.fate) e ∙ go t.fate refl
 
 -- nobody after a live tenant has committed
 pub committed_middle : (P : Program) (ys : List Tenant) (t : Tenant) (ts : List Tenant) → t.standing ≡ Live → IsSound P (ys ++ t ∷ ts) → committed P (ys ++ t ∷ ts) ≡ committed P ts
-committed_middle P ys t ts e s = over P t t ts ys e s ∙ committed_if P t ts false (not_complete P t (live_commits t e))
+committed_middle P ys t ts e s = over P t t ts ys e s ∙ committed_if P t ts false (not_complete P t (live_not t e))
 
 -- nor left anything for a new tenant
 pub ahead_middle : (P : Program) (ys : List Tenant) (t : Tenant) (ts : List Tenant) → t.standing ≡ Live → IsSound P (ys ++ t ∷ ts) → ahead P (ys ++ t ∷ ts) ≡ ahead P ts
-ahead_middle P ys t ts e s = over_ahead P t t ts ys e s ∙ ahead_if P t ts false (live_commits t e)
+ahead_middle P ys t ts e s = over_ahead P t t ts ys e s ∙ ahead_if P t ts false (live_not t e)

@@ -16,17 +16,14 @@ use Rattle.inorder.specs.Tenants.{Fate, Miss, Tenant, computed, operand}
 use Rattle.inorder.specs.Unit.{Sizes, UpdateUnit, at, older, value_of, younger}
 use Rattle.inorder.proofs.Moves.{IsActed, IsLeft, at_changed}
 use Rattle.inorder.proofs.Positions.{at_more}
-
--- one tenant is at a position
-one : (ts : List Tenant) (p : ℕ) (t u : Tenant) → at ts p ≡ Some t → at ts p ≡ Some u → t ≡ u
-one ts p t u e f = cc (sym e ∙ f)
+use Rattle.inorder.proofs.Theorem.Forbidden.{same_tenant}
 
 -- the source that a delivery is for
 here : (ts : List Tenant) (t : Tenant) (k : Source) → (operand k (delivered ts t k)).value ≡ value_of ts (operand k t).creator
 here ts t First = refl
 here ts t Second = refl
 
--- the other one of the same tenant
+-- the other same_tenant of the same tenant
 beside : (ts : List Tenant) (t : Tenant) (j k : Source) → k ≢ j → (operand k (delivered ts t j)).value ≡ (operand k t).value
 beside ts t First First ne = absurd (ne refl)
 beside ts t First Second ne = refl
@@ -75,7 +72,7 @@ act_keeps P by p Mend ys t ts k m ne =
 module _ (P : Program) (C : Sizes) (U : UpdateUnit) where
   gives : (by p : ℕ) (k : Source) (t u : Tenant) → Allowed P C U by (On p (Deliver k)) → at U.tenants p ≡ Some t →
       at (applied P C U by (On p (Deliver k))).tenants p ≡ Some u → IsGivenRight (older U.tenants p) k t u
-  gives by p k t u a is now = go (one U.tenants p a.tenant t a.is is)
+  gives by p k t u a is now = go (same_tenant U.tenants p a.tenant t a.is is)
     where
       ts : List Tenant
       ts = older U.tenants p
@@ -87,7 +84,7 @@ module _ (P : Program) (C : Sizes) (U : UpdateUnit) where
 
       go : a.tenant ≡ t → IsGivenRight ts k t u
       go same =
-          let became : u ≡ delivered ts a.tenant k = one (applied P C U by (On p (Deliver k))).tenants p u (delivered ts a.tenant k) now went.now in
+          let became : u ≡ delivered ts a.tenant k = same_tenant (applied P C U by (On p (Deliver k))).tenants p u (delivered ts a.tenant k) now went.now in
           let value : (operand k u).value ≡ value_of ts (operand k t).creator =
           ap (λ (z : Tenant). (operand k z).value) became ∙ (here ts a.tenant k ∙ ap (λ (z : Tenant). value_of ts (operand k z).creator) same) in
           let made : value_of ts (operand k t).creator ≡ Some a.may.value = ap (λ (z : Tenant). value_of ts (operand k z).creator) (sym same) ∙ a.may.is_made in
@@ -105,17 +102,17 @@ module _ (P : Program) (C : Sizes) (U : UpdateUnit) where
       at U.tenants p ≡ Some t → at (applied P C U by s).tenants p ≡ Some u → (operand k u).value ≡ (operand k t).value
   others by p (Let index predicted first second) k t u a ne is now =
       let new = new_tenant P C U index predicted first second in
-      ap (λ (z : Tenant). (operand k z).value) (one (new ∷ U.tenants) p u t now (at_more new U.tenants p t is))
+      ap (λ (z : Tenant). (operand k z).value) (same_tenant (new ∷ U.tenants) p u t now (at_more new U.tenants p t is))
   others by p (On q act) k t u a ne is now = ⊎_elim
       (λ (z : IsActed P U.tenants by q act a.tenant p t).
-      let became : u ≡ changed P by act a.tenant (older U.tenants q) = one _ p u _ now z.now in
+      let became : u ≡ changed P by act a.tenant (older U.tenants q) = same_tenant _ p u _ now z.now in
       let other : act ≢ Deliver k = λ e. ne (ap (λ x. On q x) e ∙ ap (λ x. On x (Deliver k)) (sym z.position)) in
       ap (λ (z : Tenant). (operand k z).value) became
       ∙ (act_keeps P by q act (younger U.tenants q) a.tenant (older U.tenants q) k a.may other
       ∙ ap (λ (z : Tenant). (operand k z).value) (sym z.tenant)))
-      (λ (z : IsLeft P U.tenants by q act p t). ap (λ (x : Tenant). (operand k x).value) (one _ p u t now z.now))
+      (λ (z : IsLeft P U.tenants by q act p t). ap (λ (x : Tenant). (operand k x).value) (same_tenant _ p u t now z.now))
       (at_changed P U.tenants by q act a.tenant a.is p t is)
-  others by p Renew k t u a ne is now = ap (λ (z : Tenant). (operand k z).value) (one U.tenants p u t now is)
+  others by p Renew k t u a ne is now = ap (λ (z : Tenant). (operand k z).value) (same_tenant U.tenants p u t now is)
 
 pub delivers : (P : Program) (C : Sizes) (history : List Taken) → Delivers P C history
 delivers P C history = record { gives = gives P C (reached P C history); others = others P C (reached P C history) }

@@ -22,7 +22,7 @@ use Rattle.inorder.specs.Tenants.{Addr, Busy, Done, Fate, IsNotLive, Live, Miss,
 use Rattle.inorder.specs.Unit.{Sizes, at, older, younger}
 use Rattle.inorder.proofs.Basics.{split_at}
 use Rattle.inorder.proofs.Runs.Examples.{less}
-use Rattle.inorder.proofs.Theorem.Forbidden.{stop_ends}
+use Rattle.inorder.proofs.Theorem.Forbidden.{same_tenant, stop_ends}
 use Rattle.inorder.proofs.Grows.{sound_mid}
 use Rattle.inorder.proofs.Heads.{Oldest, find_oldest}
 use Rattle.inorder.proofs.Histories.{allowed_steps, starts_same, unit_sound}
@@ -37,7 +37,7 @@ standing_cases Squashed = inr (inr refl)
 unit_or_back : (by : ℕ) → IsUnit by → IsUnitOrBack by
 unit_or_back by h = omega arith
 
--- The tenants, one after another
+-- The tenants, same_tenant after another
 
 -- an open tenant of a station, or none
 pub record OpenAt (ts : List Tenant) (s : ℕ) : Type 0 where
@@ -131,9 +131,6 @@ can_or_not Jumps second (Addr a) = inr (λ c. let e = c.0 in cc e)
 can_or_not Links second (Addr a) = inr (λ c. let e = c.0 in cc e)
 can_or_not Loads second (Addr a) = inr (λ c. let e = c.0 in cc e)
 
-one : (ts : List Tenant) (p : ℕ) (t u : Tenant) → at ts p ≡ Some t → at ts p ≡ Some u → t ≡ u
-one ts p t u e f = cc (sym e ∙ f)
-
 -- a claimed tenant has not retired
 busy_stays : (P : Program) (ts : List Tenant) (p by : ℕ) (t : Tenant) → IsSound P ts → at ts p ≡ Some t → t.fate ≡ Busy by → t.standing ≢ Retired
 busy_stays P ts p by t sound is busy gone =
@@ -174,7 +171,7 @@ module _ (P : Program) (C : Sizes) where
     abbrev ts : List Tenant
     ts = (unit_of P C h).tenants
 
-    -- there is one oldest live tenant
+    -- there is same_tenant oldest live tenant
     same_oldest : (p q : ℕ) (t u : Tenant) → at ts p ≡ Some t → at ts q ≡ Some u → t.standing ≡ Live → u.standing ≡ Live →
         AllByRecursion IsNotLive (older ts p) → AllByRecursion IsNotLive (older ts q) → q ≡ p
     same_oldest p q t u is at_q live live_q oldest oldest_q = ⊎_elim
@@ -187,7 +184,7 @@ module _ (P : Program) (C : Sizes) where
     not_done_stays n r =
         let a = r.1.1 in
         let same = same_oldest n.1.p r.0 n.1.tenant a.tenant n.1.is a.is n.1.live a.may.live n.1.oldest a.may.oldest in
-        let both : a.tenant ≡ n.1.tenant = one ts r.0 a.tenant n.1.tenant a.is (subst (λ q. at ts q ≡ Some n.1.tenant) (sym same) n.1.is) in
+        let both : a.tenant ≡ n.1.tenant = same_tenant ts r.0 a.tenant n.1.tenant a.is (subst (λ q. at ts q ≡ Some n.1.tenant) (sym same) n.1.is) in
         n.1.stays (subst (λ (t : Tenant). CanRetire (kind_of P t) t.second.value t.fate) both a.may.can)
 
     empty_retires_not : MayAdd P C h back (Refuses Empty) → ¬ MayRetireOne P C h
