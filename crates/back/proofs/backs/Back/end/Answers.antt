@@ -1,7 +1,8 @@
-use Rattle.std.proofs.Common.{◌≡◌, Some, sym, subst}
+use Rattle.std.proofs.Common.{◌≡◌, Some, sym, ap, subst}
+use Rattle.instructions.specs.declared.end.Ending.{Ending}
 use Rattle.inorder.specs.Machine.{State}
 use Rattle.inorder.specs.Runs.{after}
-use Rattle.back.specs.Ends.{StopsThere, ending_of}
+use Rattle.back.specs.Ends.{StopsThere}
 use Rattle.back.proofs.SeatKept.{after_is, outcome_stops, plain}
 use Rattle.back.proofs.backs.Back.end.Goals as goal
 
@@ -14,6 +15,7 @@ returns-clause-in_order g c =
     let after_it = after_is P b.seat.core.sizes b.seat.seen k.legal b.committed b.low b.head b.ended unit in
     let stops = outcome_stops P b.seat.core.sizes b.seat.seen k.legal b.committed b.low b.head b.ended unit in
     record {
-      state = subst (λ (s : State). after P s.count ≡ Some s) (sym c.committed.view_is) after_it;
-      stops = subst (λ o. StopsThere P c.committed.inside.count o) (sym c.outcome.ensures) (subst (λ (s : State). StopsThere P s.count (ending_of b.ended)) (sym c.committed.view_is) stops);
+      state = subst (λ (s : State). after P s.count ≡ Some s) (sym (ap (λ (z : Ending × State). z.1) c.into_end.ensures)) after_it;
+      stops = subst (λ (z : Ending × State). StopsThere P z.1.count z.0) (sym c.into_end.ensures)
+          (subst (StopsThere P b.committed.count) (sym c.outcome.ensures) stops);
     }
