@@ -21,7 +21,7 @@ use Rattle.inorder.specs.Unit.{Sizes, UpdateUnit}
 use Rattle.station.specs.declared.answers.Finish.{Finish as Answer}
 use Rattle.station.specs.declared.answers.Finish.TheVariants.{Finished, Stale}
 use Rattle.station.specs.Seats.{TheCore}
-use Rattle.station.specs.Writeback.{FinishAnswers, IsCarried, IsWalk, outcome_of as outcome_of_job}
+use Rattle.station.specs.Writeback.{FinishAnswers, IsCarried, IsWalk, job_outcome as outcome_of_job}
 use Rattle.driving.specs.Chains.{IsChain, IsWorkedOut, first_result}
 use Rattle.driving.proofs.SetUp.{IsSetUp}
 use Rattle.driving.proofs.Known.{exactly}

@@ -17,7 +17,7 @@ use Rattle.station.specs.declared.answers.Job.{Job}
 use Rattle.station.specs.Claiming.{IsClaimed, fields_of}
 use Rattle.station.specs.Quiet.{IsClaimable}
 use Rattle.station.specs.Seats.{TheCore}
-use Rattle.station.specs.Writeback.{FinishAnswers, outcome_of as outcome_of_job}
+use Rattle.station.specs.Writeback.{FinishAnswers, job_outcome as outcome_of_job}
 use Rattle.inorder.specs.History.{own}
 use Rattle.driving.specs.Done.{unit_after}
 

@@ -11,7 +11,7 @@ use Rattle.inorder.specs.OneHistory.{Adds}
 use Rattle.inorder.specs.Unit.{Sizes}
 use Rattle.inorder.proofs.Histories.{adds_on}
 use Rattle.ruu_words.specs.Kinds.{IsAny, IsTenant}
-use Rattle.station.specs.Recovery.{IsMended as IsMendedThere, IsSquashed as IsSquashedThere, MaySquash, SeesMiss}
+use Rattle.station.specs.Recovery.{IsMended as IsMendedThere, WasSquashed as IsSquashedThere, SeesYoungest, SeesMiss}
 use Rattle.front.specs.declared.path.base_state.Base.{Base}
 use Rattle.front.specs.declared.path.record.Record.{Record}
 use Rattle.front.specs.declared.recovery.Missed.{Missed}
@@ -38,7 +38,7 @@ get_before (z ∷ xs) y (suc i) x lt e = get_before xs y i x (omega arith) e
 module _ (P : Program) (C : Sizes) where
   -- the youngest may be squashed
   pub squash_allowed : (h : List Entry) → IsLegal P C h → (rest : List Record) (one : Record) (base : Base) → FrontKnows P C (unit_of P C h) (rest ++ one ∷ []) base → (m : Missed)
-      → IsMissAt P C h (rest ++ one ∷ []) m → m.at + 1 < length (rest ++ one ∷ []) → MaySquash P C h
+      → IsMissAt P C h (rest ++ one ∷ []) m → m.at + 1 < length (rest ++ one ∷ []) → SeesYoungest P C h
   squash_allowed h legal rest one base k m i lt =
       let long = length-append rest (one ∷ []) in
       let here = get_before rest one m.at i.one (omega (arith, long, lt)) i.here in

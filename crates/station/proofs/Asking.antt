@@ -1,8 +1,7 @@
 -- The steps of a question, one after another.
-use Rattle.std.proofs.Common.{◌≡◌, ℕ, ◌%◌, ◌<◌, ◌==◌, Bool, true, List, [], ◌∷◌, ◌++◌, map, Some, refl, sym, ap, ◌∙◌, subst, inl, inr, ⊎_elim}
+use Rattle.std.proofs.Common.{◌≡◌, ℕ, ◌%◌, ◌==◌, true, List, [], ◌∷◌, ◌++◌, map, Some, refl, sym, ap, ◌∙◌, subst, inl, inr, ⊎_elim}
 use Rattle.std.specs.Prelude.{is_none}
 use prog.Atomic.{either}
-use Rattle.atomic_table.specs.Table.{Me}
 use Rattle.instructions.specs.Programs.{Program}
 use Rattle.inorder.specs.declared.history.Act.{Act}
 use Rattle.inorder.specs.declared.history.Act.TheVariants.{Deliver, Link}
@@ -31,7 +30,6 @@ use Rattle.ruu_words.specs.declared.place.Place.{Place}
 use Rattle.ruu_words.specs.declared.place.Place.TheVariants.{Link as LinkPlace, Operand, Station}
 use Rattle.ruu_words.specs.declared.rule.Draft.{Draft}
 use Rattle.ruu_words.specs.declared.rule.Draft.TheVariants.{Nothing}
-use Rattle.ruu_words.specs.declared.rule.Role.TheVariants.{Front}
 use Rattle.ruu_words.specs.declared.rule.View.{View}
 use Rattle.ruu_words.specs.Content.{IsOperandOf}
 use Rattle.ruu_words.specs.Fields.{pack_link, state_of, value_of as value_in}
@@ -43,11 +41,8 @@ use Rattle.ruu_words.specs.Plans.{Plan, Plans}
 use Rattle.ruu_words.proofs.Linking.{last_stays, link_plan}
 use Rattle.ruu_words.proofs.StationWords.{one_at}
 use Rattle.ruu_words.proofs.Stays.{any_stays, front_stays, tenant_stays, same_before}
-use Rattle.station.specs.declared.answers.Ask.{Ask}
 use Rattle.station.specs.declared.answers.Ask.TheVariants.{Delivered, Linked}
 use Rattle.station.specs.Asking.{AskAnswers, IsAsking, MayAsk}
-use Rattle.station.specs.Letting.{IsFronts}
-use Rattle.station.specs.Seats.{IsSeated}
 use Rattle.station.specs.Wakeup.{CanAnswer, Ends, Finds, HasAskedFrom, HasAskedOf, Links}
 use Rattle.station.specs.Writeback.{val_word, wait_word}
 use Rattle.station.proofs.Adding.{adds_these}
@@ -242,9 +237,6 @@ module _ (P : Program) (C : Sizes) where
         next = next_by by is v w (Links P C s g k) e (Does (On r (Link k)) ∷ []) told.added (next_act (unit_of P C h) by r (Link k) legal2.1.1 (linked_path (older us r) k legal2.1.1.tenant));
       }
 
-  pub asked_from : (by s g : ℕ) (k : Source) (a b : ℕ) (old : List Entry) (v : View) → IsAskedNow by s g k a b old v → HasAskedFrom P C v.seen s g k a b
-  asked_from by s g k a b old v x = record { r = x.r; q = x.q; of = x.of }
-
   -- The look
 
   module _ (by s g : ℕ) (k : Source) (a b n : ℕ) (old : List Entry) (v w : View) (is : by ≡ front) (x : IsAskedNow by s g k a b old v) (e : Grows P C by v w (Finds P C s g k a b n)) where
@@ -403,9 +395,6 @@ module _ (P : Program) (C : Sizes) where
   pub asked_now : {by s g a b : ℕ} {k : Source} {u v : View} → by ≡ front → MayAsk P C u.seen s g k a b → Grows P C by u v (Links P C s g k) → IsAskedNow by s g k a b u.seen v
   asked_now {by} {s} {g} {a} {b} {k} {u} {v} is may e = asks_out by s g k a b u v is may e
 
-  pub found_by : (n : ℕ) → {by id s g a b : ℕ} {k : Source} {v w : View} → id ≡ by → Grows P C id v w (Finds P C s g k a b n) → Grows P C by v w (Finds P C s g k a b n)
-  found_by n {by} {id} {s} {g} {a} {b} {k} {v} {w} same e = subst (λ i. Grows P C i v w (Finds P C s g k a b n)) same e
-
   -- what is so behind a look that finds a creator with nothing made
   pub record IsLinked (by s g : ℕ) (k : Source) (a b : ℕ) (old : List Entry) (w : View) : Type 0 where
     pub reply : AskAnswers P C by old w.seen s g k a b Linked
@@ -436,15 +425,3 @@ module _ (P : Program) (C : Sizes) where
       let f' : Grows P C by w y (Ends P C s g k o m) = subst (λ (z : ℕ × ℕ). Grows P C z.0 w y (Ends P C s z.1 k o m)) (λ i. (same i, tag_is i)) f in
       let end = delivered_out by s g k a b n old v w is x e made o m y f' in
       record { reply = end.reply; next = end.next; draft = quiet_end by s g k a b n old v w is x e made o m y f' }
-
--- the front's seat behind it
-pub seated_asked : (P : Program) (C : Sizes) (by station : ℕ) (over : Bool) (old : List Entry) (me : Me ℕ View) (s g : ℕ) (k : Source) (a b : ℕ) (answer : Ask) → station < C.ring →
-    station ≡ next_station C (recent (unit_of P C old)) → IsFronts by Nothing me → me.1 ≡ [] → AskAnswers P C by old me.0.seen s g k a b answer
-    → next_station C (recent (unit_of P C me.0.seen)) ≡ next_station C (recent (unit_of P C old)) → IsSeated P C Front by station over me
-seated_asked P C by station over old me s g k a b answer small is fronts slots out next = record {
-  role_is = fronts.role;
-  slots = slots;
-  legal = out.adds.legal;
-  inside = small;
-  knows = (fronts.by_is, fronts.draft_is, is ∙ sym next);
-}

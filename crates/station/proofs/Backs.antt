@@ -28,7 +28,7 @@ use Rattle.inorder.proofs.Positions.{all_at, all_from}
 use Rattle.inorder.proofs.Sound.{IsSound}
 use Rattle.ruu_words.specs.declared.rule.Role.TheVariants.{Back}
 use Rattle.ruu_words.specs.declared.rule.View.{View}
-use Rattle.station.specs.Seats.{HasEnded, IsAtHead, IsSeated}
+use Rattle.station.specs.Seats.{HasRetiredStop, IsAtHead, IsSeated}
 use Rattle.inorder.proofs.Recent.{counts_same}
 
 -- A step that is neither a retirement nor a renewal
@@ -79,7 +79,7 @@ module _ (P : Program) (C : Sizes) where
       (λ (l : (p : ℕ) × (s ≡ On p Load)). subst (λ z. GoesOn (applied P C U by z)) (sym l.1) (load_goes_on U by l.0 (subst (Allowed P C U by) l.1 a) g))
       (is_load_or_not s h)
 
-  ended_on : (over : Bool) (U : UpdateUnit) (by : ℕ) (s : Step) → IsPlain s → Allowed P C U by s → IsSound P U.tenants → HasEnded over U → HasEnded over (applied P C U by s)
+  ended_on : (over : Bool) (U : UpdateUnit) (by : ℕ) (s : Step) → IsPlain s → Allowed P C U by s → IsSound P U.tenants → HasRetiredStop over U → HasRetiredStop over (applied P C U by s)
   ended_on true U by s h a ok o = over_stays P C U by s a o
   ended_on false U by s h a ok g = goes_on_on U by s h a ok g
 

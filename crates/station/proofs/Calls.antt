@@ -21,7 +21,7 @@ use Rattle.ruu_words.specs.Views.{IsAlive, IsCaller, Unborn}
 use Rattle.ruu_words.specs.Rule.{Kept}
 use Rattle.ruu_words.specs.Telling.{Grows, Tells}
 use Rattle.ruu_words.proofs.General.{allowed_at}
-use Rattle.station.specs.Calls.{IsCall, IsLater, IsLegalCall, MayTake, StepKind, Takes, TheCall, call_of, next_place}
+use Rattle.station.specs.Calls.{IsCall, IsSameCall, IsLegalCall, MayStepAt, StepKind, TakesStep, TheCall, call_of, let_place}
 use Rattle.station.specs.Seats.{Caller, HasHeirs, IsAtHead, IsNumbered, IsSeated, TheCore, core_of}
 use Rattle.station.specs.declared.steps.retire.Access.{Access}
 use Rattle.station.specs.declared.steps.retire.Leaving.{Leaving}
@@ -51,13 +51,13 @@ module _ (table : TableId) (key : Setup) (core : TheCore) (here : core_of table 
   same = ap (λ c. call_of c me.0 lent) here ∙ is
 
   pub may : (role : Role) (at : TableId) (slots id : ℕ) (x : Place) (i : ℕ) (f tell : ℕ → ℕ) (K : ℕ → StepKind) (z : Step ℕ) (ring : ℕ) → key.ring ≡ ring → i ≡ index ring x → IsCall core role at me
-      → IsPlace v.core.sizes.ring x → MayTake role v x f (λ n. K (tell n)) → Allows (Kept key) slots id me i f
+      → IsPlace v.core.sizes.ring x → MayStepAt role v x f (λ n. K (tell n)) → Allows (Kept key) slots id me i f
       (λ n found. Tells key.program (sizes_of key) (opening_of key) me.0.by (λ n. its (K n)) z me (tell n) found)
   may role at slots id x i f tell K z ring ring_is index_is was place m =
       allowed_at key.program (sizes_of key) (opening_of key) slots id me x i f tell (λ n. its (K n)) z (ap (λ r. index r x) ring_is ∙ sym index_is)
       (subst (λ (z : TheCall). IsPlace z.core.sizes.ring x) (sym same) place)
       (subst IsAlive (sym was.role_is) (alive_role core.opening role me.0 was.numbered))
-      (subst (λ z. MayTake role z x f (λ n. K (tell n))) (sym same) m was.role_is was.numbered.caller)
+      (subst (λ z. MayStepAt role z x f (λ n. K (tell n))) (sym same) m was.role_is was.numbered.caller)
 
   pub goes_on : (role : Role) (old_table new_table : TableId) (w : Me ℕ View) (K : StepKind) → IsCall core role old_table me → new_table ≡ old_table →
       Grows key.program (sizes_of key) me.0.by me.0 w.0 (its K)
@@ -70,11 +70,11 @@ module _ (table : TableId) (key : Setup) (core : TheCore) (here : core_of table 
     numbered = numbered_on core.opening role me.0 w.0 g.by_is g.heirs_are (subst (λ (c : TheCore). Unborn c.opening w.0) here unborn) was.numbered;
   }
 
-  pub takes : (w : View) (K : StepKind) → Grows key.program (sizes_of key) me.0.by me.0 w (its K) → Takes v (call_of core w lent) K
-  takes w K g = subst (λ z. Takes z (call_of core w lent) K) same (record { same = record { core = sym here; role = g.role; by = g.by_is; heirs = g.heirs_are; lent = refl }; grows = g })
+  pub takes : (w : View) (K : StepKind) → Grows key.program (sizes_of key) me.0.by me.0 w (its K) → TakesStep v (call_of core w lent) K
+  takes w K g = subst (λ z. TakesStep z (call_of core w lent) K) same (record { same = record { core = sym here; role = g.role; by = g.by_is; heirs = g.heirs_are; lent = refl }; grows = g })
 
 -- the steps of one call are of one core and one caller
-pub joined : {u v w : TheCall} → IsLater u v → IsLater v w → IsLater u w
+pub joined : {u v w : TheCall} → IsSameCall u v → IsSameCall v w → IsSameCall u w
 joined a b = record { core = b.core ∙ a.core; role = b.role ∙ a.role; by = b.by ∙ a.by; heirs = b.heirs ∙ a.heirs; lent = b.lent ∙ a.lent }
 
 -- what is said of its core and caller
@@ -84,23 +84,23 @@ Of = TheCore × ℕ
 abbrev pub of : TheCall → Of
 of v = (v.core, v.view.by)
 
-pub of_one : (v w : TheCall) → IsLater v w → of w ≡ of v
+pub of_one : (v w : TheCall) → IsSameCall v w → of w ≡ of v
 of_one v w g = λ i. (g.core i, g.by i)
 
 -- it holds of the same call before a step and after it
-pub before : (F : Of → Type 0) {v w : TheCall} → IsLater v w → F (of w) → F (of v)
+pub before : (F : Of → Type 0) {v w : TheCall} → IsSameCall v w → F (of w) → F (of v)
 before F {v} {w} g = subst F (of_one v w g)
 
-pub after : (F : Of → Type 0) {v w : TheCall} → IsLater v w → F (of v) → F (of w)
+pub after : (F : Of → Type 0) {v w : TheCall} → IsSameCall v w → F (of v) → F (of w)
 after F {v} {w} g = subst F (sym (of_one v w g))
 
 -- a later step, of the core and the caller as they were named at first
-pub taken : {v w x : TheCall} {K : StepKind} → IsLater v w → Takes w x K → Grows v.core.program v.core.sizes v.view.by w.view x.view (K v.core.program v.core.sizes)
+pub taken : {v w x : TheCall} {K : StepKind} → IsSameCall v w → TakesStep w x K → Grows v.core.program v.core.sizes v.view.by w.view x.view (K v.core.program v.core.sizes)
 taken {v} {w} {x} {K} g t = before (λ z. Grows z.0.program z.0.sizes z.1 w.view x.view (K z.0.program z.0.sizes)) g t.grows
 
 -- the next tenant's station, of the core as it was named at first
-pub next_kept : {v w : TheCall} → IsLater v w → next_station v.core.sizes (recent (unit_of v.core.program v.core.sizes w.view.seen)) ≡ next_place v → next_place w ≡ next_place v
-next_kept {v} {w} g e = after (λ z. next_station z.0.sizes (recent (unit_of z.0.program z.0.sizes w.view.seen)) ≡ next_place v) g e
+pub next_kept : {v w : TheCall} → IsSameCall v w → next_station v.core.sizes (recent (unit_of v.core.program v.core.sizes w.view.seen)) ≡ let_place v → let_place w ≡ let_place v
+next_kept {v} {w} g e = after (λ z. next_station z.0.sizes (recent (unit_of z.0.program z.0.sizes w.view.seen)) ≡ let_place v) g e
 
 -- what is known of a call that has used one of its fields
 pub legal_at : {core : TheCore} {me : Me ℕ View} {lent : ℕ} {v : TheCall} {role : Role} {table : TableId} → IsCall core role table me → call_of core me.0 lent ≡ v → IsLegalCall v
@@ -121,18 +121,18 @@ pub program_at : (key : Setup) {table : TableId} {core : TheCore} {view : View} 
 program_at key e here is = sym e ∙ (ap (λ (k : TheCore). k.program) here ∙ ap (λ (z : TheCall). z.core.program) is)
 
 -- what the oldest live tenant can do, of the core as it is named later
-pub access_after : {v w : TheCall} {a : Access} → IsLater v w → HasAccess v.core.program v.core.sizes w.view.seen a → HasAccess w.core.program w.core.sizes w.view.seen a
+pub access_after : {v w : TheCall} {a : Access} → IsSameCall v w → HasAccess v.core.program v.core.sizes w.view.seen a → HasAccess w.core.program w.core.sizes w.view.seen a
 access_after {v} {w} {a} g = after (λ z. HasAccess z.0.program z.0.sizes w.view.seen a) g
 
-pub leave_after : {v w : TheCall} {l : Leaving} → IsLater v w → MayLeave v.core.program v.core.sizes w.view.seen l → MayLeave w.core.program w.core.sizes w.view.seen l
+pub leave_after : {v w : TheCall} {l : Leaving} → IsSameCall v w → MayLeave v.core.program v.core.sizes w.view.seen l → MayLeave w.core.program w.core.sizes w.view.seen l
 leave_after {v} {w} {l} g = after (λ z. MayLeave z.0.program z.0.sizes w.view.seen l) g
 
-pub end_after : {v w : TheCall} {s : ℕ} {word : StationWord} → IsLater v w → HasEnd v.core.program v.core.sizes w.view.seen s word → HasEnd w.core.program w.core.sizes w.view.seen s word
+pub end_after : {v w : TheCall} {s : ℕ} {word : StationWord} → IsSameCall v w → HasEnd v.core.program v.core.sizes w.view.seen s word → HasEnd w.core.program w.core.sizes w.view.seen s word
 end_after {v} {w} {s} {word} g = after (λ z. HasEnd z.0.program z.0.sizes w.view.seen s word) g
 
 -- a look, of the seat before the call and behind it
 pub saw_at : (core : TheCore) {old new : View} {core' : TheCore} {lent lent' : ℕ} {v w : TheCall} → v ≡ call_of core old lent → call_of core' new lent' ≡ w → (x : Place) (n : ℕ) →
-    Takes v w (λ P C. Sees P C v.view.by v.view x n)
+    TakesStep v w (λ P C. Sees P C v.view.by v.view x n)
     → Grows core.program core.sizes old.by old new (Sees core.program core.sizes old.by old x n)
 saw_at core begins is x n took = subst (λ (z : TheCall × TheCall). Grows z.0.core.program z.0.core.sizes z.0.view.by z.0.view z.1.view (Sees z.0.core.program z.0.core.sizes z.0.view.by z.0.view x n))
     (λ i. (begins i, sym is i)) took.grows
@@ -151,7 +151,7 @@ module _ {woken : ℕ} (id : TableId) (value : Setup) (by : ℕ) (heirs : Heirs)
   seated_in role n station over me s = subst (λ (z : Unit_of). IsSeated z.0 z.1 role n station over me) same_unit s
 
   -- v is the call as it began, w as it ends
-  pub given_back : (role : Role) (old : View) (lent : ℕ) (v : TheCall) → v ≡ call_of core old lent → (w : TheCall) → IsLater v w
+  pub given_back : (role : Role) (old : View) (lent : ℕ) (v : TheCall) → v ≡ call_of core old lent → (w : TheCall) → IsSameCall v w
       → (core' : TheCore) (t : Me ℕ View) (lent' : ℕ) → call_of core' t.0 lent' ≡ w → (table : TableId) → IsCall core' role table t → (me : Me ℕ View) → me ≡ t
       → (station : ℕ) (over : Bool) → IsSeated core.program core.sizes role old.by station over t → IsSeated value.program (sizes_of value) role me.0.by station over me ×
       IsNumbered (opening_of value) role me.0
@@ -164,33 +164,33 @@ module _ {woken : ℕ} (id : TableId) (value : Setup) (by : ℕ) (heirs : Heirs)
       (subst (λ (z : Unit_of). IsSeated z.0 z.1 role t.0.by station over t) (sym same_unit) seated, numbered)
 
   -- a front's seat: nothing is being let, and the next tenant goes where it says
-  pub front_back : {old : View} {lent : ℕ} {v w : TheCall} → v ≡ call_of core old lent → IsLater v w → {core' : TheCore} {t : Me ℕ View} {lent' : ℕ} {table : TableId} → IsCall core' Front table t →
+  pub front_back : {old : View} {lent : ℕ} {v w : TheCall} → v ≡ call_of core old lent → IsSameCall v w → {core' : TheCore} {t : Me ℕ View} {lent' : ℕ} {table : TableId} → IsCall core' Front table t →
       call_of core' t.0 lent' ≡ w
-      → {me : Me ℕ View} → me ≡ t → (station : ℕ) (over : Bool) → station < v.core.sizes.ring → w.view.draft ≡ Nothing → station ≡ next_place w
+      → {me : Me ℕ View} → me ≡ t → (station : ℕ) (over : Bool) → station < v.core.sizes.ring → w.view.draft ≡ Nothing → station ≡ let_place w
       → IsSeated value.program (sizes_of value) Front me.0.by station over me × IsNumbered (opening_of value) Front me.0
   front_back {old} {lent} {v} {w} begins on {core'} {t} {lent'} {table} inv is {me} me_is station over inside draft next =
       let core_is : core' ≡ core = ap (λ (z : TheCall). z.core) is ∙ (on.core ∙ ap (λ (z : TheCall). z.core) begins) in
       let by_is : t.0.by ≡ old.by = ap (λ (z : TheCall). z.view.by) is ∙ (on.by ∙ ap (λ (z : TheCall). z.view.by) begins) in
-      let here : station ≡ next_place (call_of core' t.0 lent') = subst (λ z. station ≡ next_place z) (sym is) next in
+      let here : station ≡ let_place (call_of core' t.0 lent') = subst (λ z. station ≡ let_place z) (sym is) next in
       given_back Front old lent v begins w on core' t lent' is table inv me me_is station over (record {
         role_is = inv.role_is;
         slots = inv.slots;
         legal = subst (λ (k : TheCore). IsLegal k.program k.sizes t.0.seen) core_is inv.legal;
         inside = subst (λ (z : TheCall). station < z.core.sizes.ring) begins inside;
-        knows = (sym by_is ∙ inv.numbered.caller, ap (λ (z : TheCall). z.view.draft) is ∙ draft, subst (λ (k : TheCore). station ≡ next_place (call_of k t.0 lent')) core_is here);
+        knows = (sym by_is ∙ inv.numbered.caller, ap (λ (z : TheCall). z.view.draft) is ∙ draft, subst (λ (k : TheCore). station ≡ let_place (call_of k t.0 lent')) core_is here);
       })
 
   -- the same where its next tenant goes where it went before
-  pub front_kept : {old : Me ℕ View} {lent : ℕ} {v w : TheCall} → v ≡ call_of core old.0 lent → IsLater v w → {core' : TheCore} {t : Me ℕ View} {lent' : ℕ} {table : TableId} →
+  pub front_kept : {old : Me ℕ View} {lent : ℕ} {v w : TheCall} → v ≡ call_of core old.0 lent → IsSameCall v w → {core' : TheCore} {t : Me ℕ View} {lent' : ℕ} {table : TableId} →
       IsCall core' Front table t → call_of core' t.0 lent' ≡ w
-      → {me : Me ℕ View} → me ≡ t → (station : ℕ) (over : Bool) → IsSeated value.program (sizes_of value) Front old.0.by station over old → w.view.draft ≡ Nothing → next_place w ≡ next_place v
+      → {me : Me ℕ View} → me ≡ t → (station : ℕ) (over : Bool) → IsSeated value.program (sizes_of value) Front old.0.by station over old → w.view.draft ≡ Nothing → let_place w ≡ let_place v
       → IsSeated value.program (sizes_of value) Front me.0.by station over me × IsNumbered (opening_of value) Front me.0
   front_kept {old} {lent} {v} begins on inv is me_is station over s draft next =
       let was = seated_in Front old.0.by station over old s in
-      front_back begins on inv is me_is station over (subst (λ (z : TheCall). station < z.core.sizes.ring) (sym begins) was.inside) draft (was.knows.2 ∙ (sym (ap next_place begins) ∙ sym next))
+      front_back begins on inv is me_is station over (subst (λ (z : TheCall). station < z.core.sizes.ring) (sym begins) was.inside) draft (was.knows.2 ∙ (sym (ap let_place begins) ∙ sym next))
 
   -- a back's seat: where the oldest live tenant stands
-  pub back_back : {old : View} {lent : ℕ} {v w : TheCall} → v ≡ call_of core old lent → IsLater v w → {core' : TheCore} {t : Me ℕ View} {lent' : ℕ} {table : TableId} → IsCall core' Back table t →
+  pub back_back : {old : View} {lent : ℕ} {v w : TheCall} → v ≡ call_of core old lent → IsSameCall v w → {core' : TheCore} {t : Me ℕ View} {lent' : ℕ} {table : TableId} → IsCall core' Back table t →
       call_of core' t.0 lent' ≡ w
       → {me : Me ℕ View} → me ≡ t → (station : ℕ) (over : Bool) → station < core.sizes.ring → IsAtHead core.sizes (unit_of core.program core.sizes t.0.seen) station over
       → IsSeated value.program (sizes_of value) Back me.0.by station over me × IsNumbered (opening_of value) Back me.0
@@ -207,7 +207,7 @@ module _ {woken : ℕ} (id : TableId) (value : Setup) (by : ℕ) (heirs : Heirs)
   -- the seat that has looked at a word
   pub look_back : (role : Role) {old : Me ℕ View} {lent : ℕ} {v w : TheCall} → v ≡ call_of core old.0 lent → {core' : TheCore} {t : Me ℕ View} {lent' : ℕ} {table : TableId} →
       IsCall core' role table t → call_of core' t.0 lent' ≡ w
-      → (x : Place) (n : ℕ) → Takes v w (λ P C. Sees P C v.view.by v.view x n) → {me : Me ℕ View} → me ≡ t → (station : ℕ) (over : Bool) →
+      → (x : Place) (n : ℕ) → TakesStep v w (λ P C. Sees P C v.view.by v.view x n) → {me : Me ℕ View} → me ≡ t → (station : ℕ) (over : Bool) →
       IsSeated value.program (sizes_of value) role old.0.by station over old
       → IsSeated value.program (sizes_of value) role me.0.by station over me × IsNumbered (opening_of value) role me.0
   look_back role {old} {lent} {v} {w} begins {core'} {t} {lent'} {table} inv is x n took {me} me_is station over s =

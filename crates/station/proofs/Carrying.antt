@@ -31,7 +31,7 @@ use Rattle.ruu_words.specs.declared.rule.View.{View}
 use Rattle.ruu_words.specs.Content.{NamesLink}
 use Rattle.ruu_words.specs.Fields.{consumer_of, pack_link, producer_of, tag_of}
 use Rattle.ruu_words.specs.Kinds.{Delivers, Finds, HasLink, IsAny, IsTenant, ReadsLink}
-use Rattle.ruu_words.specs.Views.{IsAlive, IsCaller}
+use Rattle.ruu_words.specs.Views.{IsCaller}
 use Rattle.ruu_words.specs.Telling.{Grows}
 use Rattle.ruu_words.proofs.Building.{marks}
 use Rattle.ruu_words.proofs.Delivery.{link_on}
@@ -42,7 +42,6 @@ use Rattle.ruu_words.proofs.Walking.{IsServedOr, is_walked, served_but_named, se
 use Rattle.station.specs.Carrying.{EndsWalk, HasValueOf, HasWalked, IsCarrying, IsServedAll, IsServing, IsWriter, Makes, OfTenant}
 use Rattle.station.specs.Writeback.{CanDeliver, IsDeliveryOf}
 use Rattle.station.proofs.Adding.{adds_these}
-use Rattle.station.proofs.LettingOut.{adds_none}
 use Rattle.inorder.proofs.Recent.{recent_at, recent_or_left}
 
 -- units and the back
@@ -52,13 +51,6 @@ writes Front id w c = absurd w
 writes Back id w c = omega arith
 writes Worker id w c = omega arith
 writes Spent id w c = absurd w
-
-pub writer_alive : (r : Role) → IsWriter r → IsAlive r
-writer_alive Start w = absurd w
-writer_alive Front w = absurd w
-writer_alive Back w = tt
-writer_alive Worker w = tt
-writer_alive Spent w = absurd w
 
 -- facts of two lists
 pub all_append : (Q : Event → Type 0) (xs ys : List Event) → AllByRecursion Q xs → AllByRecursion Q ys → AllByRecursion Q (xs ++ ys)
@@ -303,9 +295,6 @@ module _ (P : Program) (C : Sizes) where
         g2.kind
 
   -- The walk
-
-  pub starts_to_carry : (by q : ℕ) (h : List Entry) → IsLegal P C h → IsCarrying P C by q 0 h h
-  starts_to_carry by q h legal = record { events = []; each = tt; adds = adds_none P C by h legal; served = λ c k below. absurd (omega arith) }
 
   -- both sources of one more station
   pub carries_on : (by q v n : ℕ) (old a b new : List Entry) → HasMade (unit_of P C old) q v → IsCarrying P C by q n old a → IsServing P C by q n First a b → IsServing P C by q n Second b new →

@@ -22,7 +22,7 @@ use Rattle.ruu_words.specs.Telling.{Grows}
 use Rattle.ruu_words.proofs.Drafting.{still_let}
 use Rattle.station.specs.declared.answers.Tenant.{Tenant}
 use Rattle.station.specs.Letting.{IsLetOut, MayLetOut, let_of, supply_of}
-use Rattle.station.specs.Calls.{IsLater, IsLegalCall, IsLetNow, LetsOut, MayLetNow, StepKind, Takes, TheCall, new_tag, next_place}
+use Rattle.station.specs.Calls.{IsSameCall, IsLegalCall, IsLetNow, LetsTenant, MayLetNow, StepKind, TakesStep, TheCall, new_tag, let_place}
 use Rattle.station.proofs.Adding.{adds_these}
 use Rattle.station.proofs.Calls.{after, before, joined, taken}
 
@@ -102,8 +102,8 @@ module _ (P : Program) (C : Sizes) (by : ℕ) (t : Tenant) (old : List Entry) wh
 
 -- The same of a call of the front, which began as v
 pub record IsReady (v : TheCall) (t : Tenant) (draft : Draft) (w : TheCall) : Type 0 where
-  pub same : IsLater v w
-  pub ready : Ready v.core.program v.core.sizes v.view.by t v.view.seen draft (next_place v) (new_tag v) w.view
+  pub same : IsSameCall v w
+  pub ready : Ready v.core.program v.core.sizes v.view.by t v.view.seen draft (let_place v) (new_tag v) w.view
 
 pub begins : {v : TheCall} {t : Tenant} → IsLegalCall v → v.view.by ≡ front → v.view.draft ≡ Nothing → MayLetNow v t → IsReady v t Nothing v
 begins {v} {t} legal by_is draft may = record {
@@ -111,25 +111,25 @@ begins {v} {t} legal by_is draft may = record {
   ready = starts v.core.program v.core.sizes v.view.by t v.view.seen v.view refl legal by_is draft may;
 }
 
-pub goes : {v : TheCall} {t : Tenant} {draft next : Draft} {w x : TheCall} {K : StepKind} → IsReady v t draft w → (s : Takes w x K) → s.grows.events ≡ [] → x.view.draft ≡ next → IsReady v t next x
+pub goes : {v : TheCall} {t : Tenant} {draft next : Draft} {w x : TheCall} {K : StepKind} → IsReady v t draft w → (s : TakesStep w x K) → s.grows.events ≡ [] → x.view.draft ≡ next → IsReady v t next x
 goes {v} {t} {draft} {next} {w} {x} {K} r s none is =
     let g = before (λ z. (y : Grows z.0.program z.0.sizes z.1 w.view x.view (K z.0.program z.0.sizes)) × (y.events ≡ [])) r.same (s.grows, none) in
     record {
       same = joined r.same s.same;
-      ready = goes_on v.core.program v.core.sizes v.view.by t v.view.seen draft next (next_place v) (new_tag v) w.view x.view (K v.core.program v.core.sizes) r.ready g.0 g.1 is;
+      ready = goes_on v.core.program v.core.sizes v.view.by t v.view.seen draft next (let_place v) (new_tag v) w.view x.view (K v.core.program v.core.sizes) r.ready g.0 g.1 is;
     }
 
 module _ {v : TheCall} {t : Tenant} {draft : Draft} {w : TheCall} (r : IsReady v t draft w) where
   pub may_at : MayLetNow w t
   may_at = after (λ z. MayLetOut z.0.program z.0.sizes (unit_of z.0.program z.0.sizes w.view.seen) t) r.same r.ready.may
 
-  pub place_at : next_place w ≡ next_place v
-  place_at = after (λ z. next_station z.0.sizes (recent (unit_of z.0.program z.0.sizes w.view.seen)) ≡ next_place v) r.same r.ready.station_is
+  pub place_at : let_place w ≡ let_place v
+  place_at = after (λ z. next_station z.0.sizes (recent (unit_of z.0.program z.0.sizes w.view.seen)) ≡ let_place v) r.same r.ready.station_is
 
   pub tag_at : new_tag w ≡ new_tag v
   tag_at = after (λ z. next_tag z.0.sizes (recent (unit_of z.0.program z.0.sizes w.view.seen)) ≡ new_tag v) r.same r.ready.tag_is
 
-  pub let_now : {x : TheCall} → Takes w x (LetsOut t) → IsLetNow v x t
+  pub let_now : {x : TheCall} → TakesStep w x (LetsTenant t) → IsLetNow v x t
   let_now {x} s = lets_out v.core.program v.core.sizes v.view.by t v.view.seen draft (new_tag v) w.view x.view r.ready (taken r.same s)
 
 below_ring : (n r : ℕ) → 0 < r → n % r < r
@@ -139,12 +139,12 @@ pub next_inside : (station r : ℕ) → station < r → (station + 1) % r < r
 next_inside station r small = below_ring (station + 1) r (omega arith)
 
 -- the station behind a let
-pub next_out : {v w : TheCall} {t : Tenant} → IsLater v w → IsLetNow v w t → next_place w ≡ (next_place v + 1) % v.core.sizes.ring
+pub next_out : {v w : TheCall} {t : Tenant} → IsSameCall v w → IsLetNow v w t → let_place w ≡ (let_place v + 1) % v.core.sizes.ring
 next_out {v} {w} {t} on out =
     let P = v.core.program in
     let C = v.core.sizes in
     let n : ℕ = how_many on_path (recent (unit_of P C out.point)) in
     let one : n + 1 ≡ suc n = omega arith in
-    let next : (next_place v + 1) % C.ring ≡ suc n % C.ring = ap (λ s. (s + 1) % C.ring) (sym out.station) ∙ (mod-add-mod n C.ring 1 ∙ ap (λ z. z % C.ring) one) in
-    after (λ z. next_station z.0.sizes (recent (unit_of z.0.program z.0.sizes w.view.seen)) ≡ (next_place v + 1) % C.ring) on
+    let next : (let_place v + 1) % C.ring ≡ suc n % C.ring = ap (λ s. (s + 1) % C.ring) (sym out.station) ∙ (mod-add-mod n C.ring 1 ∙ ap (λ z. z % C.ring) one) in
+    after (λ z. next_station z.0.sizes (recent (unit_of z.0.program z.0.sizes w.view.seen)) ≡ (let_place v + 1) % C.ring) on
     (ap (λ h. next_station C (recent (unit_of P C h))) out.is ∙ sym next)

@@ -1,9 +1,8 @@
 -- The steps of mending a miss.
-use Rattle.std.proofs.Common.{◌≡◌, ℕ, suc, ◌%◌, ◌<◌, Bool, List, [], ◌∷◌, ◌++◌, map, Some, refl, sym, ap, ◌∙◌, subst, inl, ⊎_elim, arith}
+use Rattle.std.proofs.Common.{◌≡◌, ℕ, suc, ◌%◌, List, [], ◌∷◌, ◌++◌, map, Some, refl, sym, ap, ◌∙◌, subst, inl, ⊎_elim, arith}
 use mathlib.Core.Logic.{dite}
 use native.Mathlib.Decide.{ℕ_discrete}
 use Rattle.std.proofs.lemmas.Bool.{cases_lt}
-use Rattle.atomic_table.specs.Table.{Me}
 use Rattle.instructions.specs.Programs.{Program}
 use Rattle.inorder.specs.declared.history.Act.TheVariants.{Mend}
 use Rattle.inorder.specs.declared.history.Entry.{Entry}
@@ -24,7 +23,6 @@ use Rattle.inorder.proofs.Stations.{mended_station}
 use Rattle.ruu_words.specs.declared.place.Place.TheVariants.{Station}
 use Rattle.ruu_words.specs.declared.rule.Draft.{Draft}
 use Rattle.ruu_words.specs.declared.rule.Draft.TheVariants.{Nothing}
-use Rattle.ruu_words.specs.declared.rule.Role.TheVariants.{Front}
 use Rattle.ruu_words.specs.declared.rule.View.{View}
 use Rattle.ruu_words.specs.Content.{IsStation}
 use Rattle.ruu_words.specs.Fields.{tag_of, value_of}
@@ -34,9 +32,7 @@ use Rattle.ruu_words.proofs.Building.{changes}
 use Rattle.ruu_words.specs.Plans.{Plan, Plans}
 use Rattle.ruu_words.proofs.StationWords.{its_word, one_at, still_live}
 use Rattle.ruu_words.proofs.Stays.{any_stays, front_stays}
-use Rattle.station.specs.Letting.{IsFronts}
 use Rattle.station.specs.Recovery.{HasMiss, IsMended, Mends, SeesMiss}
-use Rattle.station.specs.Seats.{IsSeated}
 use Rattle.station.proofs.Adding.{adds_these}
 use Rattle.station.proofs.Seated.{next_stays}
 use Rattle.inorder.proofs.Recent.{counts_same}
@@ -157,15 +153,3 @@ module _ (P : Program) (C : Sizes) where
       ∙ (station_on g2.between v1.seen legal2.0 none2
       ∙ (ap (λ z. next_station C (recent (unit_of P C z))) seen1
       ∙ station_on g1.between v0.seen legal1 none1)))
-
--- the front's seat behind it
-pub seated_mended : (P : Program) (C : Sizes) (by station s : ℕ) (over : Bool) (old : List Entry) (me : Me ℕ View) → station < C.ring → station ≡ next_station C (recent (unit_of P C old)) →
-    IsFronts by Nothing me → me.1 ≡ [] → IsMended P C by s old me.0.seen
-    → next_station C (recent (unit_of P C me.0.seen)) ≡ next_station C (recent (unit_of P C old)) → IsSeated P C Front by station over me
-seated_mended P C by station s over old me small is fronts slots out next = record {
-  role_is = fronts.role;
-  slots = slots;
-  legal = out.adds.legal;
-  inside = small;
-  knows = (fronts.by_is, fronts.draft_is, is ∙ sym next);
-}

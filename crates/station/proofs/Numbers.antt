@@ -1,5 +1,5 @@
 -- The numbers of seats and of those that are cut from them.
-use Rattle.std.proofs.Common.{◌≡◌, ◌≢◌, ◌⊎◌, ℕ, zero, suc, ◌-◌, ◌+◌, ◌*◌, ◌<◌, ◌≤◌, List, sym, refl, ap, ◌∙◌, subst, inl, inr, ⊎_elim, arith}
+use Rattle.std.proofs.Common.{◌≡◌, ◌⊎◌, ℕ, zero, suc, ◌-◌, ◌+◌, ◌*◌, ◌<◌, ◌≤◌, List, sym, refl, ap, ◌∙◌, subst, inl, inr, ⊎_elim, arith}
 use mathlib.Core.Logic.{dite}
 use native.Mathlib.Decide.{ℕ_discrete}
 use Rattle.inorder.specs.declared.history.Entry.{Entry}
@@ -32,12 +32,6 @@ numbered_on opening role v w by heirs unborn n = record { caller = subst (IsCall
     go Back h = heirs ∙ h
     go Worker h = giver_on opening v w by heirs unborn h
     go Spent h = absurd h
-
-pub front_numbered : {opening : List Entry} (v w : View) → w.by ≡ v.by → w.heirs ≡ v.heirs → IsNumbered opening Front v → IsNumbered opening Front w
-front_numbered v w by heirs n = record { caller = by ∙ n.caller; heirs = heirs ∙ n.heirs }
-
-pub back_numbered : {opening : List Entry} (v w : View) → w.by ≡ v.by → w.heirs ≡ v.heirs → IsNumbered opening Back v → IsNumbered opening Back w
-back_numbered v w by heirs n = record { caller = by ∙ n.caller; heirs = heirs ∙ n.heirs }
 
 -- Cuts
 
@@ -74,9 +68,6 @@ module _ (opening : List Entry) (v w : View) where
 -- its caller has done nothing
 pub born_now : (opening : List Entry) (v : View) → IsNumbered opening Worker v → own v.heirs.first v.seen ≡ own v.heirs.first opening
 born_now opening v n = n.heirs.unborn v.heirs.first (first_of v.heirs n.heirs.some)
-
-pub born_apart : {opening : List Entry} (v : View) → IsNumbered opening Worker v → v.heirs.first ≢ v.by
-born_apart v n e = let above = n.heirs.above in omega arith
 
 -- All units, and the numbers at a split
 

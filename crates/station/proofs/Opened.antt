@@ -20,7 +20,7 @@ use Rattle.inorder.specs.History.{IsLegal, StartsWith, entry, unit_of, renewals}
 use Rattle.inorder.specs.OneHistory.{Adds}
 use Rattle.inorder.specs.Legal.{applied, change_at}
 use Rattle.inorder.specs.Replies.{Has, IsOpen, job_of, last_tag, needed}
-use Rattle.inorder.specs.Tenants.{Busy, IsThere, Live, Tenant, kind_of, missing_of, needs, operand, operand_value}
+use Rattle.inorder.specs.Tenants.{Busy, Tenant, kind_of, missing_of, needs, operand_value}
 use Rattle.inorder.specs.Unit.{Sizes, UpdateUnit, at, older, younger, is_old}
 use Rattle.inorder.proofs.Basics.{split_at}
 use Rattle.inorder.proofs.Grows.{sound_mid}
@@ -40,7 +40,7 @@ use Rattle.ruu_words.proofs.Stays.{any_stays, tenant_stays, same_before}
 use Rattle.station.specs.declared.answers.Claim.{Claim as Answer}
 use Rattle.station.specs.declared.answers.Claim.TheVariants.{Job as Claimed, Moved, NotOpen, Waiting}
 use Rattle.station.specs.declared.answers.Job.{Job}
-use Rattle.station.specs.Claiming.{ClaimAnswers, HasSeen, HasSource, IsClaimed, IsJob, IsNext, IsOpenAs, IsRefused, IsTold, SourceAnswers, SourceIs, SourceSays, fields_of}
+use Rattle.station.specs.Claiming.{ClaimAnswers, HasSeen, HasSource, IsClaimed, IsJob, IsNext, IsOpenAs, IsRefused, HasRefusal, SourceAnswers, SourceIs, SourceSays, fields_of}
 use Rattle.station.specs.Moments.{WasOpenOnce}
 use Rattle.station.proofs.Adding.{adds_these}
 use Rattle.station.proofs.LettingOut.{adds_none}
@@ -116,7 +116,7 @@ module _ (P : Program) (C : Sizes) where
 
   -- a refusal that a step tells
   told_of : (by : ℕ) (v w : View) (Kind : List Entry → Draft → List Event → Type 0) (g : Grows P C by v w Kind) (s t : ℕ) (Fact : Tenant → Type 0) (r : ℕ → Refusal) →
-      Finds (U (g.between ++ v.seen)) s t g.events Fact (refuses r) → IsTold P C by v.seen w.seen s t (λ p. Refuses (r p))
+      Finds (U (g.between ++ v.seen)) s t g.events Fact (refuses r) → HasRefusal P C by v.seen w.seen s t (λ p. Refuses (r p))
   told_of by v w Kind g s t Fact r f =
       let h : List Entry = g.between ++ v.seen in
       let seen : w.seen ≡ entry by (Refuses (r f.p)) ∷ h = g.is ∙ ap (λ es. map (entry by) es ++ h) f.added in
@@ -164,14 +164,6 @@ module _ (P : Program) (C : Sizes) where
       (λ b. inr (b.1, told_of by v w (ReadsSource P C s g k n) x s g IsClosed HasMoved moved.1)) says)
       other)
       x.kind
-
-  pub not_needed : (by : ℕ) (seen : List Entry) (s g : ℕ) (k : Source) (needed : Bool) → IsLegal P C seen → needed ≡ false → (p : ℕ) (Fact : Tenant → Type 0) → IsTenant (U seen) p s g Fact →
-      HasSource P C by seen seen s g needed k 0
-  not_needed by seen s g k needed legal is p Fact i = record {
-    p = p;
-    named = record { tenant = i.tenant; is = i.is; new = i.new; station_is = i.station_is; tag_is = i.tag_is; fact = subst (λ b. SourceIs b k 0 i.tenant) (sym is) refl };
-    adds = adds_none P C by seen legal;
-  }
 
   pub tag_small : (h : List Entry) → IsLegal P C h → (p s g : ℕ) (Fact : Tenant → Type 0) → IsTenant (U h) p s g Fact → g < last_tag
   tag_small h legal p s g Fact i = subst (λ z. z < last_tag) i.tag_is (are_small P C h legal p i.tenant i.is)
@@ -234,7 +226,7 @@ module _ (P : Program) (C : Sizes) where
         }
 
     -- a refusal ends the call
-    refused : (A : Tenant → Type 0) (seen new : List Entry) (r : ℕ → Event) → Ready A seen → IsTold P C by seen new s g r → IsRefused P C by old new s g r
+    refused : (A : Tenant → Type 0) (seen new : List Entry) (r : ℕ → Event) → Ready A seen → HasRefusal P C by seen new s g r → IsRefused P C by old new s g r
     refused A seen new r x told =
         let more : List Entry = told.adds.begins.more in
         let legal : IsLegal P C (more ++ seen) = subst (IsLegal P C) told.adds.begins.is told.adds.legal in

@@ -28,7 +28,7 @@ use Rattle.ruu_words.specs.declared.rule.Draft.TheVariants.{Nothing}
 use Rattle.ruu_words.specs.declared.rule.Role.TheVariants.{Back}
 use Rattle.ruu_words.proofs.Stays.{front_stays}
 use Rattle.station.specs.Making.{AreFirst, IsCore}
-use Rattle.station.specs.Renewals.{EmptyCoresMayBeRenewed, HasNobody, HaveMet, HaveSeen, IsLater, IsRenewed, NoStopStays, NobodyStays, Seats, seats_of}
+use Rattle.station.specs.Renewals.{EmptyCoresMayBeRenewed, HasNobody, HaveMet, HaveSeen, HasLooked, IsRenewed, NoStopStays, NobodyStays, Seats, seats_of}
 use Rattle.station.specs.Seats.{Caller, IsAtHead, IsSeated, TheCore, core_of}
 use Rattle.station.proofs.SameUnit.{Unit_of, unit_at, unit_in}
 use Rattle.station.proofs.Backs.{stop_stays}
@@ -108,7 +108,7 @@ first_back P C h may some = record { role_is = refl; slots = refl; legal = may.l
 
 -- Seats that meet
 
-later_on : (core : TheCore) (u v w : Caller) → IsLater core u v → IsLater core v w → IsLater core u w
+later_on : (core : TheCore) (u v w : Caller) → HasLooked core u v → HasLooked core v w → HasLooked core u w
 later_on core u v w a b = record {
   same = record { core = b.same.core ∙ a.same.core; by = b.same.by ∙ a.same.by };
   heirs = b.heirs ∙ a.heirs;
@@ -117,9 +117,9 @@ later_on core u v w a b = record {
 }
 
 -- the back tells the front, the unit tells the front, and the front tells both; those who tell stay as they are
-pub have_met : (core : TheCore) (f b u f1 f2 f4 b3 u4 : Caller) → f.by ≡ front → b.by ≡ back → IsLater core f f1 → StartsWith f1.seen b.seen → IsLater core f1 f2 → {f3 : Caller} →
+pub have_met : (core : TheCore) (f b u f1 f2 f4 b3 u4 : Caller) → f.by ≡ front → b.by ≡ back → HasLooked core f f1 → StartsWith f1.seen b.seen → HasLooked core f1 f2 → {f3 : Caller} →
     StartsWith f2.seen u.seen
-    → IsLater core b b3 → StartsWith b3.seen f2.seen → IsLater core u u4 → StartsWith u4.seen f3.seen → f3 ≡ f2 → f4 ≡ f3 → HaveMet core (seats_of f b u) (seats_of f4 b3 u4)
+    → HasLooked core b b3 → StartsWith b3.seen f2.seen → HasLooked core u u4 → StartsWith u4.seen f3.seen → f3 ≡ f2 → f4 ≡ f3 → HaveMet core (seats_of f b u) (seats_of f4 b3 u4)
 have_met core f b u f1 f2 f4 b3 u4 is_front is_back l1 t1 l2 {f3} t2 l3 t3 l4 t4 e3 e4 =
     let same : f2 ≡ f4 = sym (e4 ∙ e3) in
     subst (λ (z : Caller). HaveMet core (seats_of f b u) (seats_of z b3 u4)) same (record {

@@ -1,9 +1,7 @@
 -- The steps of a retirement.
 use Rattle.std.proofs.Common.{◌≡◌, ◌≢◌, ℕ, suc, ◌+◌, ◌%◌, ◌<◌, Bool, true, false, cond, List, [], ◌∷◌, ◌++◌, map, length, Some, refl, sym, ap, ◌∙◌, subst, inl, inr, ⊎_elim, arith}
-use mathlib.Core.Logic.{dite}
 use native.Mathlib.Decide.{ℕ_discrete}
 use Rattle.std.proofs.Math.Nat.{mod-add-mod}
-use Rattle.std.proofs.lemmas.Bool.{cases_lt}
 use Rattle.std.specs.List.{AllByRecursion}
 use Rattle.instructions.specs.declared.op.Half.{Half}
 use Rattle.instructions.specs.Instruction.{kind}
@@ -69,7 +67,7 @@ use Rattle.station.specs.declared.steps.retire.Access.{Access}
 use Rattle.station.specs.declared.steps.retire.Leaving.{Leaving}
 use Rattle.station.specs.Retirement.{EndsAs, FindsData, HasAccess, HasEnd, IsAccess, IsAtEnd, IsEnd, IsLast, IsLastOf, IsLeaving, IsRetired, Leaves, LooksAtHead, MayLeave, RetireAnswers, is_stop}
 use Rattle.station.specs.Retirement.{kept_value, left_word}
-use Rattle.station.specs.Seats.{HasEnded, IsAtHead}
+use Rattle.station.specs.Seats.{HasRetiredStop, IsAtHead}
 use Rattle.station.proofs.Adding.{adds_these}
 use Rattle.station.proofs.Backs.{IsNoRetirement}
 use Rattle.station.proofs.Stops.{same_code}
@@ -146,12 +144,6 @@ end_stays s w = record {
 
 map_head : (U : UpdateUnit) (p : ℕ) (A B : Tenant → Type 0) → ((t : Tenant) → A t → B t) → IsHead U p A → IsHead U p B
 map_head U p A B f i = record { tenant = i.tenant; is = i.is; live = i.live; oldest = i.oldest; goes_on = i.goes_on; fact = f i.tenant i.fact }
-
-one_head : (U : UpdateUnit) (p q : ℕ) (A B : Tenant → Type 0) → IsHead U p A → IsHead U q B → p ≡ q
-one_head U p q A B a b = dite (ℕ_discrete p q) (λ e. e) (λ ne. ⊎_elim
-    (λ less. absurd (b.oldest p a.tenant less a.is a.live))
-    (λ more. absurd (a.oldest q b.tenant (omega arith) b.is b.live))
-    (cases_lt p q))
 
 -- a kind of step that tells more
 plan_as : (P : Program) (C : Sizes) (id : ℕ) (h : List Entry) (d : Draft) (x : Place) (new : ℕ) (K L : List Entry → Draft → List Event → Type 0) →
@@ -470,7 +462,7 @@ module _ (P : Program) (C : Sizes) where
         (all_from IsNoRetiredStop us g.kind.may.head.goes_on)) in
         all_at IsNoRetiredStop V.tenants (subst (AllByRecursion IsNoRetiredStop) (sym all_now) all)
 
-    ended : (x : Last) → EndsAs P x t → HasEnded (is_stop x) V
+    ended : (x : Last) → EndsAs P x t → HasRetiredStop (is_stop x) V
     ended (WasDone n) e = no_stop (Done n) e (λ c z. cc z)
     ended (Stored a n) e = no_stop (Addr a) e.1 (λ c z. cc z)
     ended (WasStop c) e = record { p = p; stop = record { tenant = gone; is = at_p; fact = record { code = c; standing = refl; fate = e } } }

@@ -20,9 +20,6 @@ unit_at c = (c.program, sizes_of c)
 abbrev pub unit_in : TheCore → Unit_of
 unit_in c = (c.program, c.sizes)
 
-pub of_table : (key : Setup) (id : TableId) (core : TheCore) → core_of id key ≡ core → unit_at key ≡ unit_in core
-of_table key id core e = ap unit_in e
-
 pub of_seat : {woken : ℕ} (id : TableId) (value : Setup) (by : ℕ) (heirs : Heirs) (seen : List Entry) (seat : Caller) (core : TheCore) →
     record { core = core_of id value; by = by; heirs = heirs; seen = seen; woken = woken } ≡ seat → seat.core ≡ core → unit_at value ≡ unit_in core
 of_seat id value by heirs seen seat core e f = ap (λ (z : Caller). unit_in z.core) e ∙ ap unit_in f

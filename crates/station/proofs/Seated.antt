@@ -84,9 +84,6 @@ seated_on P C role by station over v w x n s g slots =
     go Worker k e l = tt
     go Spent k e l = absurd k
 
-pub front_begun : (r : Role) → r ≡ Front → r ≢ Start
-front_begun r e f = cc
-
 -- a seat that was told of what another has seen
 pub informed_seated : (P : Program) (C : Sizes) (role : Role) (by station : ℕ) (over : Bool) (me : Me ℕ View) (w : View) → IsSeated P C role by station over me →
     IsSeated P C role by station over (informed me.0 w, me.1)

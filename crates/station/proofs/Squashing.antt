@@ -1,11 +1,10 @@
 -- The steps of squashing the youngest live tenant.
-use Rattle.std.proofs.Common.{◌≡◌, ℕ, suc, ◌+◌, ◌-◌, ◌%◌, ◌<◌, Bool, false, cond, List, [], ◌∷◌, ◌++◌, map, None, refl, sym, ap, ◌∙◌, subst, inl, ⊎_elim, arith}
+use Rattle.std.proofs.Common.{◌≡◌, ℕ, suc, ◌+◌, ◌-◌, ◌%◌, ◌<◌, false, cond, List, [], ◌∷◌, ◌++◌, map, None, refl, sym, ap, ◌∙◌, subst, inl, ⊎_elim, arith}
 use mathlib.Core.Logic.{dite}
 use native.Mathlib.Decide.{ℕ_discrete}
 use Rattle.std.proofs.Math.Nat.{add-mod_left, mod-add-mod}
 use Rattle.std.proofs.lemmas.Bool.{cases_lt}
 use Rattle.std.specs.List.{AllByRecursion}
-use Rattle.atomic_table.specs.Table.{Me}
 use Rattle.instructions.specs.Programs.{Program}
 use Rattle.inorder.specs.declared.history.Act.TheVariants.{Squash}
 use Rattle.inorder.specs.declared.history.Entry.{Entry}
@@ -31,7 +30,6 @@ use Rattle.inorder.proofs.Stations.{is_ring, stands}
 use Rattle.ruu_words.specs.declared.place.Place.TheVariants.{Station}
 use Rattle.ruu_words.specs.declared.rule.Draft.{Draft}
 use Rattle.ruu_words.specs.declared.rule.Draft.TheVariants.{Nothing}
-use Rattle.ruu_words.specs.declared.rule.Role.TheVariants.{Front}
 use Rattle.ruu_words.specs.declared.rule.View.{View}
 use Rattle.ruu_words.specs.Content.{IsStation}
 use Rattle.ruu_words.specs.Fields.{tag_of}
@@ -41,9 +39,7 @@ use Rattle.ruu_words.proofs.Building.{changes}
 use Rattle.ruu_words.specs.Plans.{Plan, Plans}
 use Rattle.ruu_words.proofs.StationWords.{its_word, live_state, one_at}
 use Rattle.ruu_words.proofs.Stays.{any_stays, front_stays}
-use Rattle.station.specs.Letting.{IsFronts}
-use Rattle.station.specs.Recovery.{HasYoungest, IsSquashed, MaySquash, Squashes}
-use Rattle.station.specs.Seats.{IsSeated}
+use Rattle.station.specs.Recovery.{HasYoungest, WasSquashed, SeesYoungest, Squashes}
 use Rattle.station.proofs.Adding.{adds_these}
 use Rattle.inorder.proofs.Recent.{IsRecentAt, live_is_recent, recent_at, recent_change, younger_recent}
 
@@ -113,7 +109,7 @@ module _ (P : Program) (C : Sizes) where
       let at_end : next ≡ suc n % ring = e ∙ (λ i. path_counted h legal p c i % sym ring_is i) in
       its_place h legal p c ∙ (ap (λ z. n % z) (sym ring_is) ∙ (sym (one_back n ring (omega arith)) ∙ ap (λ z. (z + ring - 1) % ring) (sym at_end)))
 
-  pub youngest_in : (h : List Entry) → IsLegal P C h → (next ring : ℕ) → ring ≡ C.ring → next < ring → next ≡ next_station C (recent (U h)) → (m : MaySquash P C h) →
+  pub youngest_in : (h : List Entry) → IsLegal P C h → (next ring : ℕ) → ring ≡ C.ring → next < ring → next ≡ next_station C (recent (U h)) → (m : SeesYoungest P C h) →
       HasYoungest P C h ((next + ring - 1) % ring) m.can.tenant.tenant.tag
   youngest_in h legal next ring ring_is small e m = record {
     p = m.p;
@@ -194,7 +190,7 @@ module _ (P : Program) (C : Sizes) where
     can_stay p more seen legal apart c = front_stays P C (λ U. CanSquash U p) (λ U by st b a ok q. squash_stays P C U by st b a ok p q) more seen legal (subst (λ i. own i more ≡ []) is apart) c
 
     -- the look and the write together
-    pub squashed_out : MaySquash P C v0.seen → IsSquashed P C by s g v0.seen w.seen
+    pub squashed_out : SeesYoungest P C v0.seen → WasSquashed P C by s g v0.seen w.seen
     squashed_out m =
         let p : ℕ = g2.kind.youngest.p in
         let c1 : CanSquash (U v1.seen) m.p = subst (λ h. CanSquash (U h) m.p) (sym seen1) (can_stay m.p g1.between v0.seen legal1 g1.not_own m.can) in
@@ -226,14 +222,3 @@ module _ (P : Program) (C : Sizes) where
         let counted : how_many on_path (recent (applied P C (U last) by (On y.p Squash))) ≡ before last legal2.0 y.p y.can = omega (arith, now, was, all) in
         let at_s : s ≡ before last legal2.0 y.p y.can % C.ring = sym y.named.station_is ∙ (ap (λ (z : Tenant). z.station) (same_tenant last legal2.0 s g y) ∙ its_place last legal2.0 y.p y.can) in
         at_s ∙ (ap (λ n. n % C.ring) (sym counted) ∙ ap (λ h. next_station C (recent (U h))) (sym seen2))
-
--- the front's seat behind it
-pub seated_squashed : (P : Program) (C : Sizes) (by station tag : ℕ) (over : Bool) (old : List Entry) (me : Me ℕ View) → station < C.ring → IsFronts by Nothing me → me.1 ≡ [] →
-    IsSquashed P C by station tag old me.0.seen → station ≡ next_station C (recent (unit_of P C me.0.seen)) → IsSeated P C Front by station over me
-seated_squashed P C by station tag over old me small fronts slots out next = record {
-  role_is = fronts.role;
-  slots = slots;
-  legal = out.adds.legal;
-  inside = small;
-  knows = (fronts.by_is, fronts.draft_is, next);
-}

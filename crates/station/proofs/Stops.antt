@@ -1,5 +1,5 @@
 -- Stops by their numbers.
-use Rattle.std.proofs.Common.{◌≡◌, ◌<◌, refl, arith}
+use Rattle.std.proofs.Common.{◌≡◌, refl, arith}
 use Rattle.instructions.specs.Operations.{code_of}
 use Rattle.instructions.specs.declared.stop.Stop.{Stop}
 use Rattle.instructions.specs.declared.stop.Stop.TheVariants.{BadPc, Break, OutOfRange, Overflow, Unaligned}
@@ -30,10 +30,3 @@ same_code BadPc Overflow e = absurd (omega arith)
 same_code BadPc Unaligned e = absurd (omega arith)
 same_code BadPc OutOfRange e = absurd (omega arith)
 same_code BadPc BadPc e = refl
-
-pub code_small : (c : Stop) → code_of c < 5
-code_small Break = omega arith
-code_small Overflow = omega arith
-code_small Unaligned = omega arith
-code_small OutOfRange = omega arith
-code_small BadPc = omega arith

@@ -30,7 +30,6 @@ use Rattle.station.specs.Carrying.{EndsWalk}
 use Rattle.station.specs.Steps.{Sees}
 use Rattle.station.specs.Waking.{HasWoken, IsAmong, IsSet, IsWith, Wakes}
 use Rattle.station.proofs.Adding.{adds_these}
-use Rattle.station.proofs.LettingOut.{adds_none}
 
 -- Lists of events
 
@@ -135,10 +134,6 @@ module _ (P : Program) (C : Sizes) where
     each = λ p k among. let x = w.each p k among in record { tenant = x.tenant; is = x.is; fact = to x.tenant.station x.fact };
     woken = λ s g. w.woken s (back s g);
   }
-
-  -- nothing done yet
-  pub wakes_at_first : (by : ℕ) (h : List Entry) → IsLegal P C h → Wakes P C by h h (IsSet 0)
-  wakes_at_first by h legal = wakes_as by h h (λ s. ⊥) (IsSet 0) (λ s no. absurd no) (λ s set. no_bit s set) (wakes_nobody by h h [] (adds_none P C by h legal) none_in_none)
 
   -- Steps that take nothing to anybody
 

@@ -24,7 +24,6 @@ use Rattle.inorder.specs.OneHistory.{Adds}
 use Rattle.inorder.specs.Legal.{Allowed, changed}
 use Rattle.inorder.specs.Memory.{load_value}
 use Rattle.inorder.specs.Replies.{IsNamed, IsSquashed, IsStale, JobFields, last_tag}
-use Rattle.inorder.specs.StationWords.{station_word}
 use Rattle.inorder.specs.Steps.{finished}
 use Rattle.inorder.specs.Tenants.{Live, Squashed, Tenant, computed, kind_of, needs}
 use Rattle.inorder.specs.Unit.{Sizes, at, older}
@@ -52,7 +51,7 @@ use Rattle.station.specs.Carrying.{HasCarried, HasMadeOf, HasValueOf, HasWalked,
 use Rattle.station.specs.Claiming.{Holds, IsJob, fields_of}
 use Rattle.station.specs.Seats.{IsSeated}
 use Rattle.station.specs.Steps.{Sees}
-use Rattle.station.specs.Writeback.{CanSettle, HasTenant, IsCarried, IsDeliveryOf, IsWalk, IsWritten, MaySettle, SettleAnswers, WasStale, outcome_of}
+use Rattle.station.specs.Writeback.{CanSettle, HasTenant, IsCarried, IsDeliveryOf, IsWalk, IsWritten, MaySettle, SettleAnswers, WasStale, job_outcome}
 use Rattle.station.proofs.Adding.{adds_these}
 use Rattle.station.proofs.Backs.{IsNoRetirement, back_seated}
 use Rattle.station.proofs.Carrying.{all_append, any_on, one_named}
@@ -69,7 +68,7 @@ same_outcome Loads i half pc a b size = refl
 same_outcome Stores i half pc a b size = refl
 
 -- so a job has what its tenant comes to
-pub is_job : (P : Program) (by : ℕ) (j : Job) (o : Outcome) (t : Tenant) → IsJob P by (fields_of j) t → o ≡ outcome_of P j → HasJob P by j.predicted o t
+pub is_job : (P : Program) (by : ℕ) (j : Job) (o : Outcome) (t : Tenant) → IsJob P by (fields_of j) t → o ≡ job_outcome P j → HasJob P by j.predicted o t
 is_job P by j o t is e = record {
   held = is.held;
   ready = is.ready;
@@ -79,7 +78,7 @@ is_job P by j o t is e = record {
 }
 
 module _ (P : Program) (C : Sizes) where
-  pub job_held : (by : ℕ) (seen : List Entry) (j : Job) (o : Outcome) → Holds P C by seen j → o ≡ outcome_of P j → HasTenant P C seen j.station j.tag (HasJob P by j.predicted o)
+  pub job_held : (by : ℕ) (seen : List Entry) (j : Job) (o : Outcome) → Holds P C by seen j → o ≡ job_outcome P j → HasTenant P C seen j.station j.tag (HasJob P by j.predicted o)
   job_held by seen j o h e = record {
     p = h.p;
     named = record {
@@ -203,9 +202,6 @@ module _ (P : Program) (C : Sizes) where
       (λ q i.
       let c : HasCarried P C by q o' mid new = subst (λ (z : ℕ × Outcome). HasCarried P C z.0 q z.1 mid new) (λ j. (is j, same j)) (carry q i) in
       (c.events, (c.carried, c.adds)))
-
-  pub carried_legal : (by id s g : ℕ) (act : Act) (o : Outcome) (old mid new : List Entry) → IsOut by s g act old mid → OfTenant P C mid s g (λ q. HasCarried P C id q o mid new) → IsLegal P C new
-  carried_legal by id s g act o old mid new out carry = (carry out.p out.named).adds.legal
 
   pub walked_legal : (by id s g : ℕ) (act : Act) (old mid new : List Entry) → IsOut by s g act old mid → OfTenant P C mid s g (λ q. HasWalked P C id q mid new) → IsLegal P C new
   walked_legal by id s g act old mid new out walk = (walk out.p out.named).adds.legal

@@ -30,7 +30,7 @@ use Rattle.station.specs.Asking.{AskAnswers}
 use Rattle.station.specs.Carrying.{HasCarried, HasMadeOf, HasValueOf, HasWalked, IsServing, OfTenant}
 use Rattle.station.specs.Claiming.{ClaimAnswers, HasSeen, SourceAnswers}
 use Rattle.station.specs.Letting.{IsLetOut, MayLetOut, supply_of}
-use Rattle.station.specs.Recovery.{IsMended, IsSquashed}
+use Rattle.station.specs.Recovery.{IsMended, WasSquashed}
 use Rattle.station.specs.Retirement.{HeadGoesOn, RetireAnswers}
 use Rattle.station.specs.Seats.{IsNumbered, TheCore}
 use Rattle.station.specs.Waking.{Wakes}
@@ -55,7 +55,7 @@ pub record IsCall (core : TheCore) (role : Role) (table : TableId) (me : Me ℕ 
   pub numbered : IsNumbered core.opening role me.0
 
 -- The same call, later
-pub record IsLater (v w : TheCall) : Type 0 where
+pub record IsSameCall (v w : TheCall) : Type 0 where
   pub core : w.core ≡ v.core
   pub role : w.view.role ≡ v.view.role
   pub by : w.view.by ≡ v.view.by
@@ -67,13 +67,13 @@ abbrev pub StepKind : Type 1
 StepKind = Program → Sizes → List Entry → Draft → List Event → Type 0
 
 -- One step of this kind
-pub record Takes (v w : TheCall) (K : StepKind) : Type 0 where
-  pub same : IsLater v w
+pub record TakesStep (v w : TheCall) (K : StepKind) : Type 0 where
+  pub same : IsSameCall v w
   pub grows : Grows v.core.program v.core.sizes v.view.by v.view w.view (K v.core.program v.core.sizes)
 
 -- A seat of this role may step at this place: where it finds n it leaves f n, and the kind is K n
-abbrev pub MayTake : Role → TheCall → Place → (ℕ → ℕ) → (ℕ → StepKind) → Type 0
-MayTake role v x f K =
+abbrev pub MayStepAt : Role → TheCall → Place → (ℕ → ℕ) → (ℕ → StepKind) → Type 0
+MayStepAt role v x f K =
     v.view.role ≡ role → IsCaller role v.view.by
     → Plans v.core.program v.core.sizes v.view.by v.view x f (λ n. K n v.core.program v.core.sizes)
 
@@ -98,8 +98,8 @@ abbrev pub MayLetNow : TheCall → Letting → Type 0
 MayLetNow v t = MayLetOut v.core.program v.core.sizes (seen_unit v) t
 
 -- Where the next tenant goes
-abbrev pub next_place : TheCall → ℕ
-next_place v = next_station v.core.sizes (recent (seen_unit v))
+abbrev pub let_place : TheCall → ℕ
+let_place v = next_station v.core.sizes (recent (seen_unit v))
 
 -- The tag that it gets
 abbrev pub new_tag : TheCall → ℕ
@@ -110,8 +110,8 @@ abbrev pub new_operand : TheCall → Option ℕ → OperandWord
 new_operand v value = record { tag = new_tag v; value = value }
 
 -- What the last store of a let tells
-abbrev pub LetsOut : Letting → StepKind
-LetsOut t P C = Lets P C t.index t.predicted (supply_of t.sources.0) (supply_of t.sources.1)
+abbrev pub LetsTenant : Letting → StepKind
+LetsTenant t P C = Lets P C t.index t.predicted (supply_of t.sources.0) (supply_of t.sources.1)
 
 -- What a claim answers
 abbrev pub AnswersClaim : TheCall → TheCall → ℕ → Claim → Type 0
@@ -124,8 +124,8 @@ AnswersSource v w s tag k needed r =
     SourceAnswers v.core.program v.core.sizes v.view.by v.view.seen w.view.seen s tag k needed r
 
 -- The tenant of this station and tag has made this value
-abbrev pub HasMade : TheCall → ℕ × ℕ → ℕ → Type 0
-HasMade v of value = HasValueOf v.core.program v.core.sizes v.view.seen of.0 of.1 value
+abbrev pub MadeValue : TheCall → ℕ × ℕ → ℕ → Type 0
+MadeValue v of value = HasValueOf v.core.program v.core.sizes v.view.seen of.0 of.1 value
 
 -- It has come to this outcome, if that is a value
 abbrev pub HasComeTo : TheCall → ℕ × ℕ → Outcome → Type 0
@@ -178,7 +178,7 @@ MendsAt v w station =
 -- The tenant of this station and tag was squashed
 abbrev pub SquashesAt : TheCall → TheCall → ℕ → ℕ → Type 0
 SquashesAt v w station tag =
-    IsSquashed v.core.program v.core.sizes v.view.by station tag v.view.seen w.view.seen
+    WasSquashed v.core.program v.core.sizes v.view.by station tag v.view.seen w.view.seen
 
 -- The tenant was let
 abbrev pub IsLetNow : TheCall → TheCall → Letting → Type 0

@@ -116,7 +116,7 @@ pub record HasSource (P : Program) (C : Sizes) (by : ℕ) (old new : List Entry)
   pub adds : Adds P C by old new []
 
 -- A tenant of the station was refused
-pub record IsTold (P : Program) (C : Sizes) (by : ℕ) (old new : List Entry) (s tag : ℕ) (refusal : ℕ → Event) : Type 0 where
+pub record HasRefusal (P : Program) (C : Sizes) (by : ℕ) (old new : List Entry) (s tag : ℕ) (refusal : ℕ → Event) : Type 0 where
   pub p : ℕ
   pub named : IsNamed (unit_of P C new) p s tag
   pub adds : Adds P C by old new (refusal p ∷ [])
@@ -125,5 +125,5 @@ pub record IsTold (P : Program) (C : Sizes) (by : ℕ) (old new : List Entry) (s
 abbrev pub SourceAnswers : Program → Sizes → ℕ → List Entry → List Entry → ℕ → ℕ → Source → Bool → Result ℕ Claim → Type 0
 SourceAnswers P C by old new s tag k needed (Ok v) = HasSource P C by old new s tag needed k v
 SourceAnswers P C by old new s tag k needed (Err refusal) =
-    ((refusal ≡ Waiting tag k) × IsTold P C by old new s tag (λ p. Refuses (Waits p k)))
-    ⊎ ((refusal ≡ Moved tag) × IsTold P C by old new s tag (λ p. Refuses (HasMoved p)))
+    ((refusal ≡ Waiting tag k) × HasRefusal P C by old new s tag (λ p. Refuses (Waits p k)))
+    ⊎ ((refusal ≡ Moved tag) × HasRefusal P C by old new s tag (λ p. Refuses (HasMoved p)))

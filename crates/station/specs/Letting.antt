@@ -1,6 +1,5 @@
 -- Letting a tenant out.
 use Rattle.std.specs.Prelude.{◌≡◌, ℕ, ◌<◌, List, [], ◌∷◌, Option, Some, None}
-use Rattle.atomic_table.specs.Table.{Me}
 use Rattle.instructions.specs.Programs.{Program}
 use Rattle.inorder.specs.declared.history.Entry.{Entry}
 use Rattle.inorder.specs.declared.history.Event.{Event}
@@ -8,16 +7,14 @@ use Rattle.inorder.specs.declared.history.Event.TheVariants.{Does}
 use Rattle.inorder.specs.declared.history.Step.TheVariants.{Let}
 use Rattle.inorder.specs.declared.history.Supply.{Supply}
 use Rattle.inorder.specs.declared.history.Supply.TheVariants.{From, Known}
-use Rattle.inorder.specs.History.{entry, front, unit_of}
+use Rattle.inorder.specs.History.{entry, unit_of}
 use Rattle.inorder.specs.OneHistory.{Adds}
 use Rattle.inorder.specs.Replies.{last_tag}
 use Rattle.inorder.specs.Steps.{MayLet}
 use Rattle.inorder.specs.Unit.{Sizes, UpdateUnit, front_half, next_station, next_tag, recent}
 use Rattle.ruu_words.specs.declared.rule.Draft.{Draft}
 use Rattle.ruu_words.specs.declared.rule.Draft.TheVariants.{Of}
-use Rattle.ruu_words.specs.declared.rule.Role.TheVariants.{Front}
 use Rattle.ruu_words.specs.declared.rule.Stage.{Stage}
-use Rattle.ruu_words.specs.declared.rule.View.{View}
 use Rattle.station.specs.declared.answers.Supply.{Supply as Given}
 use Rattle.station.specs.declared.answers.Supply.TheVariants.{From as GivenFrom, Known as GivenKnown}
 use Rattle.station.specs.declared.answers.Tenant.{Tenant}
@@ -45,12 +42,6 @@ pub record MayLetOut (P : Program) (C : Sizes) (U : UpdateUnit) (t : Tenant) : T
   pub may : MayLet P C U t.index t.predicted (supply_of t.sources.0) (supply_of t.sources.1)
   pub half : t.half ≡ front_half P U.tenants
   pub tag : next_tag C (recent U) < last_tag
-
--- It is the front's seat, between two steps, with this let in progress
-pub record IsFronts (by : ℕ) (draft : Draft) (me : Me ℕ View) : Type 0 where
-  pub role : me.0.role ≡ Front
-  pub by_is : by ≡ front
-  pub draft_is : me.0.draft ≡ draft
 
 -- The tenant was let, by the last entry of what was seen
 pub record IsLetOut (P : Program) (C : Sizes) (by : ℕ) (t : Tenant) (old new : List Entry) : Type 0 where

@@ -12,7 +12,7 @@ use Rattle.inorder.specs.Tenants.{IsNotLive}
 use Rattle.inorder.specs.Unit.{Sizes, UpdateUnit}
 use Rattle.ruu_words.specs.Openings.{renewed}
 use Rattle.station.specs.Making.{AreFirst}
-use Rattle.station.specs.Seats.{Caller, IsSame, TheCore}
+use Rattle.station.specs.Seats.{Caller, IsSameSeat, TheCore}
 
 -- Nobody is live
 abbrev pub HasNobody : UpdateUnit → Type 0
@@ -30,8 +30,8 @@ seats_of front_seat back_seat unit_seat =
     record { front = front_seat; back = back_seat; unit = unit_seat }
 
 -- The same seat, whose caller has looked and met
-pub record IsLater (core : TheCore) (old new : Caller) : Type 0 where
-  pub same : IsSame old new
+pub record HasLooked (core : TheCore) (old new : Caller) : Type 0 where
+  pub same : IsSameSeat old new
   pub heirs : new.heirs ≡ old.heirs
   pub woken : new.woken ≡ old.woken
   pub adds : Adds core.program core.sizes old.by old.seen new.seen []
@@ -40,9 +40,9 @@ pub record IsLater (core : TheCore) (old new : Caller) : Type 0 where
 pub record HaveMet (core : TheCore) (old new : Seats) : Type 0 where
   pub front_by : old.front.by ≡ front
   pub back_by : old.back.by ≡ back
-  pub front : IsLater core old.front new.front
-  pub back : IsLater core old.back new.back
-  pub unit : IsLater core old.unit new.unit
+  pub front : HasLooked core old.front new.front
+  pub back : HasLooked core old.back new.back
+  pub unit : HasLooked core old.unit new.unit
   pub of_back : StartsWith new.front.seen old.back.seen
   pub of_unit : StartsWith new.front.seen old.unit.seen
   pub to_back : StartsWith new.back.seen new.front.seen

@@ -38,19 +38,19 @@ pub record Caller : Type 0 where
   pub woken : ℕ
 
 -- The same seat at the same core
-pub record IsSame (v w : Caller) : Type 0 where
+pub record IsSameSeat (v w : Caller) : Type 0 where
   pub core : w.core ≡ v.core
   pub by : w.by ≡ v.by
 
 -- A stop has retired, or none has
-abbrev pub HasEnded : Bool → UpdateUnit → Type 0
-HasEnded true U = IsOver U
-HasEnded false U = GoesOn U
+abbrev pub HasRetiredStop : Bool → UpdateUnit → Type 0
+HasRetiredStop true U = IsOver U
+HasRetiredStop false U = GoesOn U
 
 -- Where the oldest live tenant stands, and whether a stop has retired
 pub record IsAtHead (C : Sizes) (U : UpdateUnit) (station : ℕ) (over : Bool) : Type 0 where
   pub head : station ≡ head_station C U
-  pub ended : HasEnded over U
+  pub ended : HasRetiredStop over U
 
 -- The front knows its next tenant's station, and that no let is in progress; the back its oldest
 -- tenant's, and whether the run is over

@@ -56,8 +56,8 @@ abbrev pub val_word : ℕ → ℕ → OperandWord
 val_word tag value = record { tag = tag; value = Some value }
 
 -- What a unit has to compute for a job
-abbrev pub outcome_of : Program → Job → Outcome
-outcome_of P j = outcome_of_half (instr_of P j.index) j.half j.pc j.a j.b (length P.bytes)
+abbrev pub job_outcome : Program → Job → Outcome
+job_outcome P j = outcome_of_half (instr_of P j.index) j.half j.pc j.a j.b (length P.bytes)
 
 -- The load may be answered with this value, unless it was squashed
 pub record MaySettle (P : Program) (C : Sizes) (seen : List Entry) (station tag value : ℕ) : Type 0 where
@@ -100,7 +100,7 @@ pub record WasStale (P : Program) (C : Sizes) (by : ℕ) (old new : List Entry) 
 -- tenant was squashed before
 abbrev pub FinishAnswers : Program → Sizes → ℕ → List Entry → List Entry → Job → Finish → Type 0
 FinishAnswers P C by old new j Finished =
-    IsWritten P C by old new j.station j.tag FinishIt (λ p. IsCarried P C new p (outcome_of P j))
+    IsWritten P C by old new j.station j.tag FinishIt (λ p. IsCarried P C new p (job_outcome P j))
 FinishAnswers P C by old new j Stale = WasStale P C by old new j.station j.tag
 
 -- What `settle` answers: the load was done, and its value carried along its links; or it was

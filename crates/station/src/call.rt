@@ -2,7 +2,7 @@
 ghost use Rattle.std.specs.Prelude.{◌≡◌, ◌==◌};
 ghost use prog.Atomic.{either};
 ghost use Rattle.ruu_words.specs.Places.{IsPlace};
-ghost use Rattle.station.specs.Calls.{IsCall, MayTake, Takes, call_of};
+ghost use Rattle.station.specs.Calls.{IsCall, MayStepAt, TakesStep, call_of};
 
 use crate::cores::Core;
 use crate::seat::Part;
@@ -59,8 +59,8 @@ impl<'a, P: Part> Call<'a, P> {
 
     pub(crate) fn load<K: Telling, A: Copy>(&mut self, place: Place, about: A) -> u64
         requires place { IsPlace self.old.core.sizes.ring place }
-        requires may { MayTake P.role self.old place (λ n. n) K.kind }
-        ensures { Takes self.old self.new (K.kind result) }
+        requires may { MayStepAt P.role self.old place (λ n. n) K.kind }
+        ensures { TakesStep self.old self.new (K.kind result) }
     {
         let _ = about;
         let core = self.core;
@@ -70,8 +70,8 @@ impl<'a, P: Part> Call<'a, P> {
 
     pub(crate) fn store<K: Telling, A: Copy>(&mut self, place: Place, new: u64, about: A)
         requires place { IsPlace self.old.core.sizes.ring place }
-        requires may { MayTake P.role self.old place (λ _. new) (λ _. K.kind new) }
-        ensures { Takes self.old self.new (K.kind new) }
+        requires may { MayStepAt P.role self.old place (λ _. new) (λ _. K.kind new) }
+        ensures { TakesStep self.old self.new (K.kind new) }
     {
         let _ = about;
         let core = self.core;
@@ -81,8 +81,8 @@ impl<'a, P: Part> Call<'a, P> {
 
     pub(crate) fn swap<K: Telling, A: Copy>(&mut self, place: Place, new: u64, about: A) -> u64
         requires place { IsPlace self.old.core.sizes.ring place }
-        requires may { MayTake P.role self.old place (λ _. new) K.kind }
-        ensures { Takes self.old self.new (K.kind result) }
+        requires may { MayStepAt P.role self.old place (λ _. new) K.kind }
+        ensures { TakesStep self.old self.new (K.kind result) }
     {
         let _ = about;
         let core = self.core;
@@ -98,8 +98,8 @@ impl<'a, P: Part> Call<'a, P> {
         about: A,
     ) -> u64
         requires place { IsPlace self.old.core.sizes.ring place }
-        requires may { MayTake P.role self.old place (λ n. either (n == old) new n) K.kind }
-        ensures { Takes self.old self.new (K.kind result) }
+        requires may { MayStepAt P.role self.old place (λ n. either (n == old) new n) K.kind }
+        ensures { TakesStep self.old self.new (K.kind result) }
     {
         let _ = about;
         let core = self.core;

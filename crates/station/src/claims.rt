@@ -3,9 +3,9 @@ ghost use Rattle.std.specs.Prelude.{◌≡◌, ◌<◌, true, length};
 ghost use Rattle.instructions.specs.Programs.{address};
 ghost use Rattle.inorder.specs.declared.history.Source.TheVariants.{Second};
 ghost use Rattle.inorder.specs.Tenants.{needs};
-ghost use Rattle.station.specs.Calls.{AnswersClaim, AnswersSource, IsLater, IsLegalCall, Saw};
+ghost use Rattle.station.specs.Calls.{AnswersClaim, AnswersSource, IsSameCall, IsLegalCall, Saw};
 ghost use Rattle.station.specs.Claiming.{ClaimAnswers, IsNext, IsOpenAs, SourceSays};
-ghost use Rattle.station.specs.Seats.{IsSame};
+ghost use Rattle.station.specs.Seats.{IsSameSeat};
 
 use crate::answers::{Claim, Job};
 use crate::call::Call;
@@ -60,7 +60,7 @@ impl<'a> Call<'a, UnitPart> {
         requires legal { IsLegalCall self.old }
         requires seen { Saw self.old station tag
             (λ t. needed ≡ true → IsNext self.old.core.program k t) }
-        ensures same { IsLater self.old self.new }
+        ensures same { IsSameCall self.old self.new }
         ensures answer { AnswersSource self.old self.new station tag k needed result }
     {
         if !needed {
@@ -75,7 +75,7 @@ impl<'a> Call<'a, UnitPart> {
         requires place { station < self.old.core.sizes.ring }
         requires was_open { Saw self.old station tag
             (IsOpenAs info.half info.index info.predicted) }
-        ensures same { IsLater self.old self.new }
+        ensures same { IsSameCall self.old self.new }
         ensures reply { AnswersClaim self.old self.new station result }
     {
         let InfoWord {
@@ -116,7 +116,7 @@ impl<'a> Call<'a, UnitPart> {
     // Looks for an open tenant, and reads its info word between two looks.
     fn claim_at(&mut self, station: usize) -> Claim
         requires { station < self.old.core.sizes.ring }
-        ensures same { IsLater self.old self.new }
+        ensures same { IsSameCall self.old self.new }
         ensures reply { AnswersClaim self.old self.new station result }
     {
         let found = self.peek(station);
@@ -142,7 +142,7 @@ impl Core {
     pub fn claim(&self, seat: &mut UnitSeat, station: usize) -> Claim
         requires core { seat.old.core ≡ self.now }
         requires station { station < self.now.sizes.ring }
-        ensures kept { IsSame seat.old seat.new }
+        ensures kept { IsSameSeat seat.old seat.new }
         ensures woken { seat.new.woken ≡ seat.old.woken }
         ensures heirs { seat.new.heirs ≡ seat.old.heirs }
         ensures reply { ClaimAnswers self.now.program self.now.sizes seat.old.by seat.old.seen

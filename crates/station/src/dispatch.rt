@@ -4,9 +4,9 @@ ghost use Rattle.inorder.specs.History.{unit_of};
 ghost use Rattle.inorder.specs.OneHistory.{Adds};
 ghost use Rattle.inorder.specs.Unit.{next_tag, recent};
 ghost use Rattle.ruu_words.specs.declared.rule.Draft.TheVariants.{Nothing};
-ghost use Rattle.station.specs.Calls.{IsLater, IsLetNow, MayLetNow, new_tag, next_place};
+ghost use Rattle.station.specs.Calls.{IsSameCall, IsLetNow, MayLetNow, new_tag, let_place};
 ghost use Rattle.station.specs.Letting.{MayLetOut, let_of};
-ghost use Rattle.station.specs.Seats.{IsSame};
+ghost use Rattle.station.specs.Seats.{IsSameSeat};
 
 use crate::answers::Tenant;
 use crate::call::Call;
@@ -24,8 +24,8 @@ impl<'a> Call<'a, FrontPart> {
         requires draft { self.old.view.draft ≡ Nothing }
         requires may { MayLetNow self.old tenant }
         requires small { tenant.index < 2 ^ 31 }
-        requires station { next_place self.old ≡ station }
-        ensures same { IsLater self.old self.new }
+        requires station { let_place self.old ≡ station }
+        ensures same { IsSameCall self.old self.new }
         ensures draft { self.new.view.draft ≡ Nothing }
         ensures tag { result ≡ new_tag self.old }
         ensures out { IsLetNow self.old self.new tenant }
@@ -59,7 +59,7 @@ impl Core {
         requires core { seat.old.core ≡ self.now }
         requires may { MayLetOut self.now.program self.now.sizes
             (unit_of self.now.program self.now.sizes seat.old.seen) tenant }
-        ensures kept { IsSame seat.old seat.new }
+        ensures kept { IsSameSeat seat.old seat.new }
         ensures history { Adds self.now.program self.now.sizes seat.old.by seat.old.seen
             seat.new.seen (let_of tenant ∷ []) }
         ensures reply { result ≡ next_tag self.now.sizes

@@ -5,7 +5,7 @@ ghost use Rattle.inorder.specs.Replies.{last_tag};
 ghost use Rattle.ruu_words.specs.Places.{IsPlace};
 ghost use Rattle.ruu_words.specs.Views.{IsCaller};
 ghost use Rattle.station.specs.Looking.{SeesInfo, SeesOperand, SeesStation, SeesWord};
-ghost use Rattle.station.specs.Seats.{IsSame};
+ghost use Rattle.station.specs.Seats.{IsSameSeat};
 
 use crate::answers::{Seen, SourceState};
 use crate::call::Call;
@@ -23,7 +23,7 @@ impl Core {
     pub(crate) fn read<P: Part>(&self, seat: &mut SeatOf<P>, place: Place) -> u64
         requires core { seat.old.core ≡ self.now }
         requires place { IsPlace self.now.sizes.ring place }
-        ensures kept { IsSame seat.old seat.new }
+        ensures kept { IsSameSeat seat.old seat.new }
         ensures woken { seat.new.woken ≡ seat.old.woken }
         ensures heirs { seat.new.heirs ≡ seat.old.heirs }
         ensures caller { IsCaller P.role seat.old.by }
@@ -42,7 +42,7 @@ impl Core {
     pub fn look<P: Part>(&self, seat: &mut SeatOf<P>, station: usize) -> Seen<StationState>
         requires core { seat.old.core ≡ self.now }
         requires station { station < self.now.sizes.ring }
-        ensures kept { IsSame seat.old seat.new }
+        ensures kept { IsSameSeat seat.old seat.new }
         ensures woken { seat.new.woken ≡ seat.old.woken }
         ensures heirs { seat.new.heirs ≡ seat.old.heirs }
         ensures caller { IsCaller P.role seat.old.by }
@@ -61,7 +61,7 @@ impl Core {
     pub fn info(&self, seat: &mut BackSeat, station: usize) -> (u32, Half, u32)
         requires core { seat.old.core ≡ self.now }
         requires station { station < self.now.sizes.ring }
-        ensures kept { IsSame seat.old seat.new }
+        ensures kept { IsSameSeat seat.old seat.new }
         ensures woken { seat.new.woken ≡ seat.old.woken }
         ensures history { Adds self.now.program self.now.sizes seat.old.by seat.old.seen
             seat.new.seen [] }
@@ -81,7 +81,7 @@ impl Core {
     pub fn operand(&self, seat: &mut BackSeat, station: usize, k: Source) -> Seen<SourceState>
         requires core { seat.old.core ≡ self.now }
         requires station { station < self.now.sizes.ring }
-        ensures kept { IsSame seat.old seat.new }
+        ensures kept { IsSameSeat seat.old seat.new }
         ensures woken { seat.new.woken ≡ seat.old.woken }
         ensures history { Adds self.now.program self.now.sizes seat.old.by seat.old.seen
             seat.new.seen [] }

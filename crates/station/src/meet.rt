@@ -3,7 +3,7 @@ ghost use Rattle.std.specs.Prelude.{◌≡◌, ◌≢◌, []};
 ghost use Rattle.inorder.specs.History.{StartsWith, own};
 ghost use Rattle.inorder.specs.OneHistory.{Adds};
 ghost use Rattle.ruu_words.specs.Views.{half, other_half};
-ghost use Rattle.station.specs.Seats.{Caller, IsSame};
+ghost use Rattle.station.specs.Seats.{IsSameSeat};
 
 use crate::call::Call;
 use crate::cores::Core;
@@ -86,7 +86,7 @@ impl Core {
         requires from { from.old.core ≡ self.now }
         requires to { to.old.core ≡ self.now }
         ensures from { from.new ≡ from.old }
-        ensures kept { IsSame to.old to.new }
+        ensures kept { IsSameSeat to.old to.new }
         ensures history { Adds self.now.program self.now.sizes to.old.by to.old.seen
             to.new.seen [] }
         ensures told { StartsWith to.new.seen from.old.seen }
@@ -105,13 +105,13 @@ impl Core {
     pub fn meet<P: Part, Q: Part>(&self, one: &mut SeatOf<P>, other: &mut SeatOf<Q>)
         requires one { one.old.core ≡ self.now }
         requires other { other.old.core ≡ self.now }
-        ensures one_kept { IsSame one.old one.new }
+        ensures one_kept { IsSameSeat one.old one.new }
         ensures one_heirs { one.new.heirs ≡ one.old.heirs }
         ensures one_woken { one.new.woken ≡ one.old.woken }
         ensures one_history { Adds self.now.program self.now.sizes one.old.by one.old.seen
             one.new.seen [] }
         ensures one_told { StartsWith one.new.seen other.old.seen }
-        ensures other_kept { IsSame other.old other.new }
+        ensures other_kept { IsSameSeat other.old other.new }
         ensures other_heirs { other.new.heirs ≡ other.old.heirs }
         ensures other_woken { other.new.woken ≡ other.old.woken }
         ensures other_history { Adds self.now.program self.now.sizes other.old.by other.old.seen

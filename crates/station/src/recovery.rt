@@ -1,9 +1,9 @@
 //! Recovery from a miss.
 ghost use Rattle.std.specs.Prelude.{◌≡◌, ◌<◌};
 ghost use Rattle.ruu_words.specs.declared.rule.Draft.TheVariants.{Nothing};
-ghost use Rattle.station.specs.Calls.{IsLater, MendsAt, SquashesAt, next_place};
-ghost use Rattle.station.specs.Recovery.{IsMended, IsSquashed, MaySquash, SeesMiss};
-ghost use Rattle.station.specs.Seats.{IsSame};
+ghost use Rattle.station.specs.Calls.{IsSameCall, MendsAt, SquashesAt, let_place};
+ghost use Rattle.station.specs.Recovery.{IsMended, WasSquashed, SeesYoungest, SeesMiss};
+ghost use Rattle.station.specs.Seats.{IsSameSeat};
 
 use crate::call::Call;
 use crate::cores::Core;
@@ -20,10 +20,10 @@ impl<'a> Call<'a, FrontPart> {
         requires draft { self.old.view.draft ≡ Nothing }
         requires miss { SeesMiss self.old.core.program self.old.core.sizes self.old.view.seen
             station }
-        ensures same { IsLater self.old self.new }
+        ensures same { IsSameCall self.old self.new }
         ensures draft { self.new.view.draft ≡ Nothing }
         ensures mended { MendsAt self.old self.new station }
-        ensures next { next_place self.new ≡ next_place self.old }
+        ensures next { let_place self.new ≡ let_place self.old }
     {
         let _ = &self.seat;
         let found = self.look(Place::Station(station));
@@ -38,13 +38,13 @@ impl<'a> Call<'a, FrontPart> {
     fn squash_youngest(&mut self, next: usize) -> (usize, u32)
         requires place { next < self.old.core.sizes.ring }
         requires draft { self.old.view.draft ≡ Nothing }
-        requires may { MaySquash self.old.core.program self.old.core.sizes self.old.view.seen }
-        requires next { next ≡ next_place self.old }
-        ensures same { IsLater self.old self.new }
+        requires may { SeesYoungest self.old.core.program self.old.core.sizes self.old.view.seen }
+        requires next { next ≡ let_place self.old }
+        ensures same { IsSameCall self.old self.new }
         ensures draft { self.new.view.draft ≡ Nothing }
         ensures inside { result.0 < self.old.core.sizes.ring }
         ensures squashed { SquashesAt self.old self.new result.0 result.1 }
-        ensures next { result.0 ≡ next_place self.new }
+        ensures next { result.0 ≡ let_place self.new }
     {
         let core = self.core;
         let station = (next + core.ring - 1) % core.ring;
@@ -62,9 +62,9 @@ impl Core {
     /// tag is spent, so that its links are dead: sim-outorder's `ruu_recover`.
     pub fn squash(&self, seat: &mut FrontSeat) -> (usize, u32)
         requires core { seat.old.core ≡ self.now }
-        requires may { MaySquash self.now.program self.now.sizes seat.old.seen }
-        ensures kept { IsSame seat.old seat.new }
-        ensures reply { IsSquashed self.now.program self.now.sizes seat.old.by
+        requires may { SeesYoungest self.now.program self.now.sizes seat.old.seen }
+        ensures kept { IsSameSeat seat.old seat.new }
+        ensures reply { WasSquashed self.now.program self.now.sizes seat.old.by
             result.0 result.1 seat.old.seen seat.new.seen }
     {
         let next = seat.station;
@@ -83,7 +83,7 @@ impl Core {
         requires core { seat.old.core ≡ self.now }
         requires station { station < self.now.sizes.ring }
         requires miss { SeesMiss self.now.program self.now.sizes seat.old.seen station }
-        ensures kept { IsSame seat.old seat.new }
+        ensures kept { IsSameSeat seat.old seat.new }
         ensures history { IsMended self.now.program self.now.sizes seat.old.by
             station seat.old.seen seat.new.seen }
     {

@@ -1,9 +1,9 @@
 //! Retirement.
 ghost use Rattle.std.specs.Prelude.{◌≡◌, ◌<◌, false};
 ghost use Rattle.ruu_words.specs.declared.station.StationState.TheVariants.{Stop};
-ghost use Rattle.station.specs.Calls.{AnswersRetire, HeadMoves, IsLater, seen_unit};
+ghost use Rattle.station.specs.Calls.{AnswersRetire, HeadMoves, IsSameCall, seen_unit};
 ghost use Rattle.station.specs.Retirement.{HasAccess, HasEnd, IsLastOf, MayLeave, RetireAnswers, is_stop, kept_value};
-ghost use Rattle.station.specs.Seats.{IsAtHead, IsSame};
+ghost use Rattle.station.specs.Seats.{IsAtHead, IsSameSeat};
 
 use crate::answers::{Last, Retire};
 use crate::call::Call;
@@ -50,7 +50,7 @@ impl<'a> Call<'a, BackPart> {
         requires place { leaving.station < self.old.core.sizes.ring }
         requires may { MayLeave self.old.core.program self.old.core.sizes self.old.view.seen
             leaving }
-        ensures same { IsLater self.old self.new }
+        ensures same { IsSameCall self.old self.new }
         ensures reply { AnswersRetire self.old self.new result }
         ensures head { HeadMoves self.new leaving.station result }
     {
@@ -79,7 +79,7 @@ impl<'a> Call<'a, BackPart> {
         requires place { access.station < self.old.core.sizes.ring }
         requires access { HasAccess self.old.core.program self.old.core.sizes self.old.view.seen
             access }
-        ensures same { IsLater self.old self.new }
+        ensures same { IsSameCall self.old self.new }
         ensures reply { AnswersRetire self.old self.new result }
         ensures head { HeadMoves self.new access.station result }
     {
@@ -116,7 +116,7 @@ impl<'a> Call<'a, BackPart> {
         requires place { station < self.old.core.sizes.ring }
         requires end { HasEnd self.old.core.program self.old.core.sizes self.old.view.seen
             station found }
-        ensures same { IsLater self.old self.new }
+        ensures same { IsSameCall self.old self.new }
         ensures reply { AnswersRetire self.old self.new result }
         ensures head { HeadMoves self.new station result }
     {
@@ -149,7 +149,7 @@ impl<'a> Call<'a, BackPart> {
     fn retire_head(&mut self, station: usize) -> Retire
         requires place { station < self.old.core.sizes.ring }
         requires head { IsAtHead self.old.core.sizes (seen_unit self.old) station false }
-        ensures same { IsLater self.old self.new }
+        ensures same { IsSameCall self.old self.new }
         ensures reply { AnswersRetire self.old self.new result }
         ensures head { HeadMoves self.new station result }
     {
@@ -168,7 +168,7 @@ impl<'a> Call<'a, BackPart> {
     fn retire_from(&mut self, station: usize, over: bool) -> Retire
         requires place { station < self.old.core.sizes.ring }
         requires head { IsAtHead self.old.core.sizes (seen_unit self.old) station over }
-        ensures same { IsLater self.old self.new }
+        ensures same { IsSameCall self.old self.new }
         ensures reply { AnswersRetire self.old self.new result }
         ensures head { HeadMoves self.new station result }
     {
@@ -186,7 +186,7 @@ impl Core {
     /// reorder buffer of Smith and Pleszkun.
     pub fn retire(&self, seat: &mut BackSeat) -> Retire
         requires core { seat.old.core ≡ self.now }
-        ensures kept { IsSame seat.old seat.new }
+        ensures kept { IsSameSeat seat.old seat.new }
         ensures woken { seat.new.woken ≡ seat.old.woken }
         ensures reply { RetireAnswers self.now.program self.now.sizes seat.old.by seat.old.seen
             seat.new.seen result }

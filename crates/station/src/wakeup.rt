@@ -1,9 +1,9 @@
 //! Asking for a source.
 ghost use Rattle.std.specs.Prelude.{◌≡◌, ◌<◌};
 ghost use Rattle.ruu_words.specs.declared.rule.Draft.TheVariants.{Nothing};
-ghost use Rattle.station.specs.Calls.{AnswersAsk, IsLater, next_place};
+ghost use Rattle.station.specs.Calls.{AnswersAsk, IsSameCall, let_place};
 ghost use Rattle.station.specs.Asking.{AskAnswers, MayAsk};
-ghost use Rattle.station.specs.Seats.{IsSame};
+ghost use Rattle.station.specs.Seats.{IsSameSeat};
 
 use crate::answers::Ask;
 use crate::call::Call;
@@ -23,10 +23,10 @@ impl<'a> Call<'a, FrontPart> {
         requires draft { self.old.view.draft ≡ Nothing }
         requires may { MayAsk self.old.core.program self.old.core.sizes self.old.view.seen
             of.0 of.1 k from.0 from.1 }
-        ensures same { IsLater self.old self.new }
+        ensures same { IsSameCall self.old self.new }
         ensures draft { self.new.view.draft ≡ Nothing }
         ensures reply { AnswersAsk self.old self.new of k from result }
-        ensures next { next_place self.new ≡ next_place self.old }
+        ensures next { let_place self.new ≡ let_place self.old }
     {
         let _ = &self.seat;
         let link = link_word(from.1, of.1);
@@ -60,7 +60,7 @@ impl Core {
         requires from { from.0 < self.now.sizes.ring }
         requires may { MayAsk self.now.program self.now.sizes seat.old.seen
             station tag k from.0 from.1 }
-        ensures kept { IsSame seat.old seat.new }
+        ensures kept { IsSameSeat seat.old seat.new }
         ensures reply { AskAnswers self.now.program self.now.sizes seat.old.by seat.old.seen
             seat.new.seen station tag k from.0 from.1 result }
     {

@@ -1,6 +1,6 @@
 //! A value is carried along the links of its station.
 ghost use Rattle.std.specs.Prelude.{◌≡◌, ◌<◌, ◌≤◌, true};
-ghost use Rattle.station.specs.Calls.{Carries, HasComeTo, HasMade, IsLater, IsLegalCall, Serves, WalksOf, Woke};
+ghost use Rattle.station.specs.Calls.{Carries, HasComeTo, MadeValue, IsSameCall, IsLegalCall, Serves, WalksOf, Woke};
 ghost use Rattle.station.specs.Carrying.{IsWriter};
 ghost use Rattle.station.specs.Waking.{IsSet, IsWith};
 
@@ -28,8 +28,8 @@ impl<'a, P: Part> Call<'a, P> {
         requires tags { 1 ≤ self.old.core.sizes.first_tag }
         requires from { from.0 < self.old.core.sizes.ring }
         requires to { to < self.old.core.sizes.ring }
-        requires made { HasMade self.old from value }
-        ensures same { IsLater self.old self.new }
+        requires made { MadeValue self.old from value }
+        ensures same { IsSameCall self.old self.new }
         ensures served { Serves self.old self.new from to k }
         ensures woken { Woke self.old self.new (λ s. (result ≡ true) × (s ≡ to)) }
     {
@@ -51,8 +51,8 @@ impl<'a, P: Part> Call<'a, P> {
     pub(crate) fn walk(&mut self, from: (usize, u32), value: u32) -> u32
         requires from { from.0 < self.old.core.sizes.ring }
         requires writer { IsWriter P.role }
-        requires made { HasMade self.old from value }
-        ensures same { IsLater self.old self.new }
+        requires made { MadeValue self.old from value }
+        ensures same { IsSameCall self.old self.new }
         ensures walked { WalksOf self.old self.new from }
         ensures woken { Woke self.old self.new (IsSet result) }
     {
@@ -73,7 +73,7 @@ impl<'a, P: Part> Call<'a, P> {
         requires writer { IsWriter P.role }
         requires legal { IsLegalCall self.old }
         requires made { HasComeTo self.old from outcome }
-        ensures same { IsLater self.old self.new }
+        ensures same { IsSameCall self.old self.new }
         ensures carried { Carries self.old self.new from outcome }
         ensures woken { Woke self.old self.new (IsSet result) }
     {

@@ -1,10 +1,10 @@
 //! Results: into their station, and then along the links.
 ghost use Rattle.std.specs.Prelude.{◌≡◌, ◌<◌};
-ghost use Rattle.station.specs.Calls.{AnswersFinish, AnswersSettle, IsLater, Woke};
+ghost use Rattle.station.specs.Calls.{AnswersFinish, AnswersSettle, IsSameCall, Woke};
 ghost use Rattle.station.specs.Claiming.{Holds};
-ghost use Rattle.station.specs.Seats.{IsSame};
+ghost use Rattle.station.specs.Seats.{IsSameSeat};
 ghost use Rattle.station.specs.Waking.{HasWoken, IsSet};
-ghost use Rattle.station.specs.Writeback.{FinishAnswers, MaySettle, SettleAnswers, outcome_of};
+ghost use Rattle.station.specs.Writeback.{FinishAnswers, MaySettle, SettleAnswers, job_outcome};
 
 use crate::answers::{Finish, Job, Settle};
 use crate::call::Call;
@@ -22,8 +22,8 @@ impl<'a> Call<'a, UnitPart> {
     fn finish_job(&mut self, job: Job, outcome: Outcome) -> (Finish, u32)
         requires job { Holds self.old.core.program self.old.core.sizes self.old.view.by
             self.old.view.seen job }
-        requires outcome { outcome ≡ outcome_of self.old.core.program job }
-        ensures same { IsLater self.old self.new }
+        requires outcome { outcome ≡ job_outcome self.old.core.program job }
+        ensures same { IsSameCall self.old self.new }
         ensures reply { AnswersFinish self.old self.new job result.0 }
         ensures woken { Woke self.old self.new (IsSet result.1) }
     {
@@ -56,7 +56,7 @@ impl<'a> Call<'a, BackPart> {
         requires place { station < self.old.core.sizes.ring }
         requires may { MaySettle self.old.core.program self.old.core.sizes self.old.view.seen
             station tag value }
-        ensures same { IsLater self.old self.new }
+        ensures same { IsSameCall self.old self.new }
         ensures reply { AnswersSettle self.old self.new station tag result.0 }
         ensures woken { Woke self.old self.new (IsSet result.1) }
     {
@@ -81,8 +81,8 @@ impl Core {
     pub fn finish(&self, seat: &mut UnitSeat, job: Job, outcome: Outcome) -> Finish
         requires core { seat.old.core ≡ self.now }
         requires job { Holds self.now.program self.now.sizes seat.old.by seat.old.seen job }
-        requires outcome { outcome ≡ outcome_of self.now.program job }
-        ensures kept { IsSame seat.old seat.new }
+        requires outcome { outcome ≡ job_outcome self.now.program job }
+        ensures kept { IsSameSeat seat.old seat.new }
         ensures heirs { seat.new.heirs ≡ seat.old.heirs }
         ensures reply { FinishAnswers self.now.program self.now.sizes seat.old.by seat.old.seen
             seat.new.seen job result }
@@ -103,7 +103,7 @@ impl Core {
         requires core { seat.old.core ≡ self.now }
         requires station { station < self.now.sizes.ring }
         requires may { MaySettle self.now.program self.now.sizes seat.old.seen station tag value }
-        ensures kept { IsSame seat.old seat.new }
+        ensures kept { IsSameSeat seat.old seat.new }
         ensures reply { SettleAnswers self.now.program self.now.sizes seat.old.by seat.old.seen
             seat.new.seen station tag result }
         ensures woken { HasWoken self.now.program self.now.sizes seat.old.by seat.old.seen

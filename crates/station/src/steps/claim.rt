@@ -7,7 +7,7 @@ ghost use Rattle.ruu_words.specs.Fields.{tag_of};
 ghost use Rattle.ruu_words.specs.Kinds.{Claims, IsAny, Peeks, ReadsSource, Rechecks};
 ghost use Rattle.inorder.specs.Callers.{IsReady};
 ghost use Rattle.station.specs.Claiming.{IsNext};
-ghost use Rattle.station.specs.Calls.{Saw, Takes};
+ghost use Rattle.station.specs.Calls.{Saw, TakesStep};
 
 use crate::call::Call;
 use crate::seat::UnitPart;
@@ -19,7 +19,7 @@ impl<'a> Call<'a, UnitPart> {
     /// Looks for an open tenant, and tells where there is none.
     pub(crate) fn peek(&mut self, station: usize) -> u64
         requires { station < self.old.core.sizes.ring }
-        ensures { Takes self.old self.new (λ P C. Peeks P C station result) }
+        ensures { TakesStep self.old self.new (λ P C. Peeks P C station result) }
     {
         self.load::<Brand, usize>(Place::Station(station), station)
     }
@@ -29,7 +29,7 @@ impl<'a> Call<'a, UnitPart> {
         requires place { station < self.old.core.sizes.ring }
         requires word { IsStation (live_word (tag_of old) Open) old }
         requires seen { Saw self.old station (tag_of old) IsAny }
-        ensures { Takes self.old self.new (λ P C. Rechecks P C station (tag_of old) old result) }
+        ensures { TakesStep self.old self.new (λ P C. Rechecks P C station (tag_of old) old result) }
     {
         self.load::<Brand, (usize, u64)>(Place::Station(station), (station, old))
     }
@@ -38,7 +38,7 @@ impl<'a> Call<'a, UnitPart> {
     pub(crate) fn read_source(&mut self, station: usize, tag: u32, k: Source) -> u64
         requires place { station < self.old.core.sizes.ring }
         requires seen { Saw self.old station tag (IsNext self.old.core.program k) }
-        ensures { Takes self.old self.new (λ P C. ReadsSource P C station tag k result) }
+        ensures { TakesStep self.old self.new (λ P C. ReadsSource P C station tag k result) }
     {
         let place = Place::Operand(station, k);
         self.load::<Brand, (usize, u32, Source)>(place, (station, tag, k))
@@ -50,7 +50,7 @@ impl<'a> Call<'a, UnitPart> {
         requires old { IsStation (live_word (tag_of old) Open) old }
         requires new { IsStation (live_word (tag_of old) (Busy self.old.view.by)) new }
         requires seen { Saw self.old station (tag_of old) (IsReady self.old.core.program) }
-        ensures { Takes self.old self.new (λ P C. Claims P C station (tag_of old) old result) }
+        ensures { TakesStep self.old self.new (λ P C. Claims P C station (tag_of old) old result) }
     {
         self.exchange::<Brand, usize>(Place::Station(station), old, new, station)
     }

@@ -8,7 +8,7 @@ ghost use Rattle.ruu_words.specs.Content.{IsOperandOf, IsStation};
 ghost use Rattle.ruu_words.specs.Fields.{half_of, index_of, predicted_of};
 ghost use Rattle.ruu_words.specs.Kinds.{Drafts};
 ghost use Rattle.station.specs.Letting.{draft_of, given_value};
-ghost use Rattle.station.specs.Calls.{LetsOut, MayLetNow, Takes, new_operand, new_tag, next_place};
+ghost use Rattle.station.specs.Calls.{LetsTenant, MayLetNow, TakesStep, new_operand, new_tag, let_place};
 
 use crate::answers::Tenant;
 use crate::call::Call;
@@ -23,11 +23,11 @@ impl<'a> Call<'a, FrontPart> {
         requires place { station < self.old.core.sizes.ring }
         requires draft { self.old.view.draft ≡ Nothing }
         requires may { MayLetNow self.old tenant }
-        requires station { next_place self.old ≡ station }
+        requires station { let_place self.old ≡ station }
         requires half { half_of word ≡ tenant.half }
         requires index { index_of word ≡ tenant.index }
         requires predicted { predicted_of word ≡ tenant.predicted }
-        ensures { Takes self.old self.new (λ P C. Drafts P C (draft_of Info tenant)) }
+        ensures { TakesStep self.old self.new (λ P C. Drafts P C (draft_of Info tenant)) }
     {
         self.store::<Brand, Tenant>(Place::Info(station), word, tenant);
     }
@@ -37,9 +37,9 @@ impl<'a> Call<'a, FrontPart> {
         requires place { station < self.old.core.sizes.ring }
         requires draft { self.old.view.draft ≡ draft_of Info tenant }
         requires may { MayLetNow self.old tenant }
-        requires station { next_place self.old ≡ station }
+        requires station { let_place self.old ≡ station }
         requires word { IsOperandOf (new_operand self.old (given_value tenant.sources.0)) word }
-        ensures { Takes self.old self.new (λ P C. Drafts P C (draft_of FirstOperand tenant)) }
+        ensures { TakesStep self.old self.new (λ P C. Drafts P C (draft_of FirstOperand tenant)) }
     {
         let place = Place::Operand(station, Source::First);
         self.store::<Brand, Tenant>(place, word, tenant);
@@ -50,9 +50,9 @@ impl<'a> Call<'a, FrontPart> {
         requires place { station < self.old.core.sizes.ring }
         requires draft { self.old.view.draft ≡ draft_of FirstOperand tenant }
         requires may { MayLetNow self.old tenant }
-        requires station { next_place self.old ≡ station }
+        requires station { let_place self.old ≡ station }
         requires word { IsOperandOf (new_operand self.old (given_value tenant.sources.1)) word }
-        ensures { Takes self.old self.new (λ P C. Drafts P C (draft_of BothOperands tenant)) }
+        ensures { TakesStep self.old self.new (λ P C. Drafts P C (draft_of BothOperands tenant)) }
     {
         let place = Place::Operand(station, Source::Second);
         self.store::<Brand, Tenant>(place, word, tenant);
@@ -63,9 +63,9 @@ impl<'a> Call<'a, FrontPart> {
         requires place { station < self.old.core.sizes.ring }
         requires draft { self.old.view.draft ≡ draft_of BothOperands tenant }
         requires may { MayLetNow self.old tenant }
-        requires station { next_place self.old ≡ station }
+        requires station { let_place self.old ≡ station }
         requires word { IsStation (live_word (new_tag self.old) Open) word }
-        ensures { Takes self.old self.new (LetsOut tenant) }
+        ensures { TakesStep self.old self.new (LetsTenant tenant) }
     {
         self.store::<Brand, Tenant>(Place::Station(station), word, tenant);
     }

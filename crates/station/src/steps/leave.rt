@@ -6,7 +6,7 @@ ghost use Rattle.ruu_words.specs.declared.rule.Draft.TheVariants.{Nothing};
 ghost use Rattle.ruu_words.specs.Content.{IsStation};
 ghost use Rattle.ruu_words.specs.Fields.{tag_of, value_of};
 ghost use Rattle.station.specs.Recovery.{HasMiss, HasYoungest, Mends, Squashes};
-ghost use Rattle.station.specs.Calls.{Takes};
+ghost use Rattle.station.specs.Calls.{TakesStep};
 
 use crate::call::Call;
 use crate::seat::FrontPart;
@@ -21,7 +21,7 @@ impl<'a> Call<'a, FrontPart> {
         requires word { IsStation (live_word (tag_of word) (Done (value_of word))) word }
         requires miss { HasMiss self.old.core.program self.old.core.sizes self.old.view.seen
             station (tag_of word) (value_of word) }
-        ensures { Takes self.old self.new (λ P C. Mends P C station) }
+        ensures { TakesStep self.old self.new (λ P C. Mends P C station) }
     {
         self.swap::<Brand, usize>(Place::Station(station), word, station);
     }
@@ -33,7 +33,7 @@ impl<'a> Call<'a, FrontPart> {
         requires word { IsStation (record { tag = suc tag; state = IsFree; value = None }) word }
         requires youngest { HasYoungest self.old.core.program self.old.core.sizes
             self.old.view.seen station tag }
-        ensures { Takes self.old self.new (λ P C. Squashes P C station tag) }
+        ensures { TakesStep self.old self.new (λ P C. Squashes P C station tag) }
     {
         let place = Place::Station(station);
         self.swap::<Brand, (usize, u32)>(place, word, (station, tag));

@@ -1,6 +1,6 @@
 //! The steps of a retirement: a look at the oldest live tenant, a store's data, and the write with
 //! which it leaves, or the load that tells why it cannot.
-ghost use Rattle.std.specs.Prelude.{◌≡◌, ◌≢◌, ◌<◌, true, false};
+ghost use Rattle.std.specs.Prelude.{◌≢◌, ◌<◌, true, false};
 ghost use Rattle.instructions.specs.Instruction.{kind};
 ghost use Rattle.instructions.specs.Programs.{instr_of};
 ghost use Rattle.instructions.specs.declared.op.Kind.TheVariants.{Stores};
@@ -9,7 +9,7 @@ ghost use Rattle.ruu_words.specs.Content.{IsStation};
 ghost use Rattle.ruu_words.specs.Kinds.{Tells};
 ghost use Rattle.station.specs.Retirement.{FindsData, HasAccess, Leaves, LooksAtHead, MayLeave, left_word};
 ghost use Rattle.station.specs.Seats.{IsAtHead};
-ghost use Rattle.station.specs.Calls.{Takes, seen_unit};
+ghost use Rattle.station.specs.Calls.{TakesStep, seen_unit};
 
 use crate::answers::Last;
 use crate::call::Call;
@@ -44,7 +44,7 @@ impl<'a> Call<'a, BackPart> {
     pub(crate) fn tell_over(&mut self, station: usize)
         requires place { station < self.old.core.sizes.ring }
         requires over { IsAtHead self.old.core.sizes (seen_unit self.old) station true }
-        ensures { Takes self.old self.new (λ P C. Tells P C Over) }
+        ensures { TakesStep self.old self.new (λ P C. Tells P C Over) }
     {
         self.load::<Brand, ()>(Place::Station(station), ());
     }
@@ -53,7 +53,7 @@ impl<'a> Call<'a, BackPart> {
     pub(crate) fn look_at_head(&mut self, station: usize) -> u64
         requires place { station < self.old.core.sizes.ring }
         requires head { IsAtHead self.old.core.sizes (seen_unit self.old) station false }
-        ensures { Takes self.old self.new
+        ensures { TakesStep self.old self.new
             (λ P C. LooksAtHead P C self.old.view.by station result) }
     {
         self.load::<Brand, usize>(Place::Station(station), station)
@@ -65,7 +65,7 @@ impl<'a> Call<'a, BackPart> {
         requires access { HasAccess self.old.core.program self.old.core.sizes self.old.view.seen
             access }
         requires load { kind (instr_of self.old.core.program access.index).op ≢ Stores }
-        ensures { Takes self.old self.new (λ P C. Tells P C NotDone) }
+        ensures { TakesStep self.old self.new (λ P C. Tells P C NotDone) }
     {
         let place = Place::Station(access.station);
         self.load::<Brand, ()>(place, ());
@@ -76,7 +76,7 @@ impl<'a> Call<'a, BackPart> {
         requires place { access.station < self.old.core.sizes.ring }
         requires access { HasAccess self.old.core.program self.old.core.sizes self.old.view.seen
             access }
-        ensures { Takes self.old self.new (λ P C. FindsData P C access result) }
+        ensures { TakesStep self.old self.new (λ P C. FindsData P C access result) }
     {
         let place = Place::Operand(access.station, Source::Second);
         self.load::<Brand, Access>(place, access)
@@ -88,7 +88,7 @@ impl<'a> Call<'a, BackPart> {
         requires may { MayLeave self.old.core.program self.old.core.sizes self.old.view.seen
             leaving }
         requires word { IsStation (left_word leaving) word }
-        ensures { Takes self.old self.new (λ P C. Leaves P C leaving) }
+        ensures { TakesStep self.old self.new (λ P C. Leaves P C leaving) }
     {
         let place = Place::Station(leaving.station);
         self.swap::<Brand, Leaving>(place, word, leaving);

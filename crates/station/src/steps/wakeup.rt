@@ -6,7 +6,7 @@ ghost use Rattle.ruu_words.specs.Fields.{pack_link, tag_of, value_of};
 ghost use Rattle.station.specs.Asking.{MayAsk};
 ghost use Rattle.station.specs.Wakeup.{CanAnswer, Ends, Finds, HasAskedFrom, Links};
 ghost use Rattle.station.specs.Writeback.{val_word, wait_word};
-ghost use Rattle.station.specs.Calls.{Takes};
+ghost use Rattle.station.specs.Calls.{TakesStep};
 
 use crate::call::Call;
 use crate::seat::FrontPart;
@@ -23,7 +23,7 @@ impl<'a> Call<'a, FrontPart> {
         requires may { MayAsk self.old.core.program self.old.core.sizes self.old.view.seen
             of.0 of.1 k from.0 from.1 }
         requires link { link ≡ pack_link from.1 of.1 }
-        ensures { Takes self.old self.new (λ P C. Links P C of.0 of.1 k) }
+        ensures { TakesStep self.old self.new (λ P C. Links P C of.0 of.1 k) }
     {
         let place = Place::Link(from.0, of.0, k);
         let about = (of.0, of.1, k);
@@ -36,7 +36,7 @@ impl<'a> Call<'a, FrontPart> {
         requires draft { self.old.view.draft ≡ Nothing }
         requires asked { HasAskedFrom self.old.core.program self.old.core.sizes self.old.view.seen
             of.0 of.1 k from.0 from.1 }
-        ensures { Takes self.old self.new (λ P C. Finds P C of.0 of.1 k from.0 from.1 result) }
+        ensures { TakesStep self.old self.new (λ P C. Finds P C of.0 of.1 k from.0 from.1 result) }
     {
         let place = Place::Station(from.0);
         let about = (of.0, of.1, k, from.0, from.1);
@@ -51,7 +51,7 @@ impl<'a> Call<'a, FrontPart> {
         requires new { IsOperandOf (val_word (tag_of old) (value_of new)) new }
         requires answer { CanAnswer self.old.core.program self.old.core.sizes self.old.view.seen
             station (tag_of old) k (value_of new) }
-        ensures { Takes self.old self.new (λ P C. Ends P C station (tag_of old) k old result) }
+        ensures { TakesStep self.old self.new (λ P C. Ends P C station (tag_of old) k old result) }
     {
         let place = Place::Operand(station, k);
         self.exchange::<Brand, (usize, Source)>(place, old, new, (station, k))

@@ -1,7 +1,7 @@
 //! The last step of a walk along the links of a value.
 ghost use Rattle.std.specs.Prelude.{◌<◌};
 ghost use Rattle.station.specs.Carrying.{EndsWalk, IsServedAll, IsWriter};
-ghost use Rattle.station.specs.Calls.{Takes};
+ghost use Rattle.station.specs.Calls.{TakesStep};
 
 use crate::call::Call;
 use crate::seat::Part;
@@ -15,7 +15,7 @@ impl<'a, P: Part> Call<'a, P> {
         requires writer { IsWriter P.role }
         requires served { IsServedAll self.old.core.program self.old.core.sizes self.old.view.seen
             station tag value }
-        ensures { Takes self.old self.new (λ P C. EndsWalk P C station tag) }
+        ensures { TakesStep self.old self.new (λ P C. EndsWalk P C station tag) }
     {
         let about = (station, tag, value);
         self.load::<Brand, (usize, u32, u32)>(Place::Station(station), about);

@@ -7,7 +7,7 @@ ghost use Rattle.ruu_words.specs.Content.{IsOperandOf, IsStation};
 ghost use Rattle.ruu_words.specs.Fields.{tag_of, value_of};
 ghost use Rattle.ruu_words.specs.Kinds.{Delivers, Finishes, ReadsLink, Settles, fate_of};
 ghost use Rattle.station.specs.Writeback.{CanDeliver, CanSettle, val_word, wait_word};
-ghost use Rattle.station.specs.Calls.{HasOne, Takes};
+ghost use Rattle.station.specs.Calls.{HasOne, TakesStep};
 
 use crate::call::Call;
 use crate::seat::{BackPart, Part, UnitPart};
@@ -31,7 +31,7 @@ impl<'a> Call<'a, UnitPart> {
         requires new { IsStation (live_word (tag_of old) (fate_of predicted outcome)) new }
         requires job { HasOne self.old station (tag_of old)
             (HasJob self.old.core.program self.old.view.by predicted outcome) }
-        ensures { Takes self.old self.new
+        ensures { TakesStep self.old self.new
             (λ P C. Finishes P C station (tag_of old) outcome old result) }
     {
         let place = Place::Station(station);
@@ -47,7 +47,7 @@ impl<'a> Call<'a, BackPart> {
         requires new { IsStation (live_word (tag_of old) (Done (value_of new))) new }
         requires load { CanSettle self.old.core.program self.old.core.sizes self.old.view.seen
             station (tag_of old) (value_of old) (value_of new) }
-        ensures { Takes self.old self.new (λ P C. Settles P C station (tag_of old) old result) }
+        ensures { TakesStep self.old self.new (λ P C. Settles P C station (tag_of old) old result) }
     {
         self.exchange::<Brand, usize>(Place::Station(station), old, new, station)
     }
@@ -58,7 +58,7 @@ impl<'a, P: Part> Call<'a, P> {
     pub(crate) fn read_link(&mut self, from: usize, to: usize, k: Source) -> u64
         requires from { from < self.old.core.sizes.ring }
         requires to { to < self.old.core.sizes.ring }
-        ensures { Takes self.old self.new (λ P C. ReadsLink P C from to k result) }
+        ensures { TakesStep self.old self.new (λ P C. ReadsLink P C from to k result) }
     {
         let place = Place::Link(from, to, k);
         self.load::<Brand, (usize, usize, Source)>(place, (from, to, k))
@@ -71,7 +71,7 @@ impl<'a, P: Part> Call<'a, P> {
         requires new { IsOperandOf (val_word (tag_of old) (value_of new)) new }
         requires link { CanDeliver self.old.core.program self.old.core.sizes self.old.view.seen
             station k (tag_of old) (value_of new) }
-        ensures { Takes self.old self.new (λ P C. Delivers P C station k (tag_of old) old result) }
+        ensures { TakesStep self.old self.new (λ P C. Delivers P C station k (tag_of old) old result) }
     {
         let place = Place::Operand(station, k);
         self.exchange::<Brand, (usize, Source)>(place, old, new, (station, k))

@@ -1,6 +1,6 @@
 use Rattle.std.proofs.Common.{◌≡◌, true, ℕ, ◌+◌, ◌||◌, refl, sym, ap, ◌∙◌, arith}
 use Rattle.inorder.specs.declared.history.Source.TheVariants.{First, Second}
-use Rattle.station.specs.Calls.{IsLater, TheCall}
+use Rattle.station.specs.Calls.{IsSameCall, TheCall}
 use Rattle.station.specs.Carrying.{HasValueOf, IsServedAll, IsServing, OfTenant}
 use Rattle.station.specs.Seats.{TheCore}
 use Rattle.station.specs.Waking.{Wakes}
@@ -42,7 +42,7 @@ loop-to-preserved g c =
     let d = at2.view.seen in
     let r1 = c.serve-first.result in
     let r2 = c.serve-second.result in
-    let on1 : IsLater v at1 = joined was.same c.serve-first.ensures.same in
+    let on1 : IsSameCall v at1 = joined was.same c.serve-first.ensures.same in
     let first = before (λ z. OfTenant z.0.program z.0.sizes a from.0 from.1 (λ q. IsServing z.0.program z.0.sizes z.1 q to First a b)) was.same c.serve-first.ensures.served in
     let second = before (λ z. OfTenant z.0.program z.0.sizes b from.0 from.1 (λ q. IsServing z.0.program z.0.sizes z.1 q to Second b d)) on1 c.serve-second.ensures.served in
     let woke1 = before (λ z. Wakes z.0.program z.0.sizes z.1 a b (λ s. (r1 ≡ true) × (s ≡ to))) was.same c.serve-first.ensures.woken in

@@ -1,12 +1,12 @@
 use Rattle.inorder.specs.History.{IsLegal}
-use Rattle.station.specs.Calls.{IsLater, Woke}
+use Rattle.station.specs.Calls.{IsSameCall, Woke}
 use Rattle.station.specs.Carrying.{HasValueOf, IsCarrying, OfTenant}
 use Rattle.station.specs.Waking.{IsSet}
 use Rattle.station.proofs.call.Call.walk.Given as goal
 
 abbrev pub invariant-loop-to : goal.invariant-loop-to
 invariant-loop-to g l = record {
-  same : IsLater l.fn.self l.self;
+  same : IsSameCall l.fn.self l.self;
   legal : IsLegal l.fn.self.core.program l.fn.self.core.sizes l.self.view.seen;
   made : HasValueOf l.fn.self.core.program l.fn.self.core.sizes l.self.view.seen l.from.0 l.from.1 l.value;
   carries : OfTenant l.fn.self.core.program l.fn.self.core.sizes l.fn.self.view.seen l.from.0 l.from.1

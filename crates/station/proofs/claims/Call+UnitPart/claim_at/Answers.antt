@@ -5,7 +5,7 @@ use Rattle.ruu_words.specs.declared.rule.View.{View}
 use Rattle.ruu_words.specs.Fields.{half_of, index_of, predicted_of, state_of, tag_of}
 use Rattle.ruu_words.specs.Kinds.{IsAny, ReadsInfo, Rechecks}
 use Rattle.ruu_words.specs.Telling.{Grows}
-use Rattle.station.specs.Calls.{IsLater}
+use Rattle.station.specs.Calls.{IsSameCall}
 use Rattle.station.proofs.Calls.{Of, joined, of_one, taken}
 use Rattle.station.specs.Claiming.{ClaimAnswers, HasSeen, IsOpenAs}
 use Rattle.station.proofs.Opened.{HasInfo, Ready, claim_answers_on, has_seen, informs, peek_refused, peeked, recheck_moved, rechecked}
@@ -32,7 +32,7 @@ recheck-again-requires-clause-seen c =
     let r1 : Ready P C by st tag old IsAny m1.seen = peeked P C by st tag old v.view m1 n c.peek-found.ensures.grows refl is_open (sym c.tag_in-tag.ensures.value) in
     let m2 : View = c.read_info-word.new.self.view in
     let info = c.read_info-word.result in
-    let on1 : IsLater v c.peek-found.new.self = c.peek-found.ensures.same in
+    let on1 : IsSameCall v c.peek-found.new.self = c.peek-found.ensures.same in
     let g2 : Grows P C by m1 m2 (ReadsInfo P C st info) = taken on1 c.read_info-word.ensures in
     let r2 : Ready P C by st tag old (HasInfo info) m2.seen = informs P C by st tag old m1 m2 info g2 r1 in
     let word = c.open_word-open.result in
@@ -56,7 +56,7 @@ returns-then-again-open-clause-reply c =
     let r1 : Ready P C by st tag old IsAny m1.seen = peeked P C by st tag old v.view m1 n c.peek-found.ensures.grows refl is_open (sym c.tag_in-tag.ensures.value) in
     let m2 : View = c.read_info-word.new.self.view in
     let info = c.read_info-word.result in
-    let on1 : IsLater v c.peek-found.new.self = c.peek-found.ensures.same in
+    let on1 : IsSameCall v c.peek-found.new.self = c.peek-found.ensures.same in
     let g2 : Grows P C by m1 m2 (ReadsInfo P C st info) = taken on1 c.read_info-word.ensures in
     let r2 : Ready P C by st tag old (HasInfo info) m2.seen = informs P C by st tag old m1 m2 info g2 r1 in
     let word = c.open_word-open.result in
@@ -83,7 +83,7 @@ claim_open-requires-clause-was_open c =
     let r1 : Ready P C by st tag old IsAny m1.seen = peeked P C by st tag old v.view m1 n c.peek-found.ensures.grows refl is_open (sym c.tag_in-tag.ensures.value) in
     let m2 : View = c.read_info-word.new.self.view in
     let info = c.read_info-word.result in
-    let on1 : IsLater v c.peek-found.new.self = c.peek-found.ensures.same in
+    let on1 : IsSameCall v c.peek-found.new.self = c.peek-found.ensures.same in
     let g2 : Grows P C by m1 m2 (ReadsInfo P C st info) = taken on1 c.read_info-word.ensures in
     let r2 : Ready P C by st tag old (HasInfo info) m2.seen = informs P C by st tag old m1 m2 info g2 r1 in
     let word = c.open_word-open.result in
@@ -114,7 +114,7 @@ returns-clause-reply c =
     let r1 : Ready P C by st tag old IsAny m1.seen = peeked P C by st tag old v.view m1 n c.peek-found.ensures.grows refl is_open (sym c.tag_in-tag.ensures.value) in
     let m2 : View = c.read_info-word.new.self.view in
     let info = c.read_info-word.result in
-    let on1 : IsLater v c.peek-found.new.self = c.peek-found.ensures.same in
+    let on1 : IsSameCall v c.peek-found.new.self = c.peek-found.ensures.same in
     let g2 : Grows P C by m1 m2 (ReadsInfo P C st info) = taken on1 c.read_info-word.ensures in
     let r2 : Ready P C by st tag old (HasInfo info) m2.seen = informs P C by st tag old m1 m2 info g2 r1 in
     let word = c.open_word-open.result in

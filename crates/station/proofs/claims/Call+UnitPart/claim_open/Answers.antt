@@ -1,4 +1,4 @@
-use Rattle.std.proofs.Common.{◌≡◌, ◌≢◌, ℕ, ◌<◌, Bool, true, List, length, Some, refl, sym, ap, ◌∙◌, subst, rules, arith}
+use Rattle.std.proofs.Common.{◌≡◌, ◌≢◌, ℕ, ◌<◌, true, List, length, Some, refl, sym, ap, ◌∙◌, subst, rules, arith}
 use Rattle.instructions.specs.Instruction.{kind}
 use Rattle.instructions.specs.Programs.{Program, instr_of}
 use Rattle.instructions.specs.declared.instr.Instr.{Instr}
@@ -13,7 +13,7 @@ use Rattle.ruu_words.specs.Content.{IsStation}
 use Rattle.ruu_words.specs.Fields.{tag_of}
 use Rattle.ruu_words.specs.Kinds.{Claims}
 use Rattle.ruu_words.specs.Telling.{Grows}
-use Rattle.station.specs.Calls.{IsLater, IsLegalCall}
+use Rattle.station.specs.Calls.{IsSameCall, IsLegalCall}
 use Rattle.station.proofs.Calls.{Of, joined, legal_at, of_one, program_at, taken}
 use Rattle.station.specs.Claiming.{HasSeen, HasSource, IsNext, IsOpenAs, SourceAnswers}
 use Rattle.station.proofs.Opened.{HasBoth, HasFirst, IsClaimable, Ready, begins, claim_moved, claimed, index_inside, ready_seen, second_next, source_refused, tag_small, takes_first, takes_second}
@@ -67,7 +67,7 @@ needed_source-requires-2-clause-seen c =
     let m1 : View = c.needed_source.new.self.view in
     let a = c.in-Ok.value in
     let r1 : Ready P C by st tag old (HasFirst d i x a) m1.seen = takes_first P C by st tag old d i x a old m1.seen r0 c.in-Ok.ensures.answer in
-    let on1 : IsLater v c.needed_source.new.self = c.needed_source.ensures.same in
+    let on1 : IsSameCall v c.needed_source.new.self = c.needed_source.ensures.same in
     subst (λ (z : Of). HasSeen z.0.program z.0.sizes m1.seen st tag (λ t. both ≡ true → IsNext z.0.program Second t)) (sym (of_one v c.needed_source.new.self on1))
     (second_next P C by st tag old d i x a both m1.seen is r1)
 
@@ -94,7 +94,7 @@ returns-in-Err-needed_source-clause-reply c =
     let r1 : Ready P C by st tag old (HasFirst d i x a) m1.seen = takes_first P C by st tag old d i x a old m1.seen r0 c.in-Ok.ensures.answer in
     let m2 : View = c.needed_source-2.new.self.view in
     let refusal = c.in-Err-needed_source.refusal in
-    let on1 : IsLater v c.needed_source.new.self = c.needed_source.ensures.same in
+    let on1 : IsSameCall v c.needed_source.new.self = c.needed_source.ensures.same in
     source_refused P C by st tag old (HasFirst d i x a) m1.seen m2.seen Second both refusal r1 (subst
     (λ (z : Of). SourceAnswers z.0.program z.0.sizes z.1 m1.seen m2.seen st tag Second both (Rattle.std.proofs.Common.Err refusal)) (of_one v c.needed_source.new.self on1)
     c.in-Err-needed_source.ensures.answer)
@@ -136,7 +136,7 @@ claim_tenant-found-requires-clause-seen c =
     let r1 : Ready P C by st tag old (HasFirst d i x a) m1.seen = takes_first P C by st tag old d i x a old m1.seen r0 c.in-Ok.ensures.answer in
     let m2 : View = c.needed_source-2.new.self.view in
     let b = c.in-Ok-needed_source.value in
-    let on1 : IsLater v c.needed_source.new.self = c.needed_source.ensures.same in
+    let on1 : IsSameCall v c.needed_source.new.self = c.needed_source.ensures.same in
     let got : HasSource P C by m1.seen m2.seen st tag both Second b = subst (λ (z : Of). HasSource z.0.program z.0.sizes z.1 m1.seen m2.seen st tag both Second b)
     (of_one v c.needed_source.new.self on1) c.in-Ok-needed_source.ensures.answer in
     let r2 : Ready P C by st tag old (HasBoth d i x a both b) m2.seen = takes_second P C by st tag old d i x a both b m1.seen m2.seen r1 got in
@@ -168,7 +168,7 @@ returns-then-found-open-clause-reply c =
     let r1 : Ready P C by st tag old (HasFirst d i x a) m1.seen = takes_first P C by st tag old d i x a old m1.seen r0 c.in-Ok.ensures.answer in
     let m2 : View = c.needed_source-2.new.self.view in
     let b = c.in-Ok-needed_source.value in
-    let on1 : IsLater v c.needed_source.new.self = c.needed_source.ensures.same in
+    let on1 : IsSameCall v c.needed_source.new.self = c.needed_source.ensures.same in
     let got : HasSource P C by m1.seen m2.seen st tag both Second b = subst (λ (z : Of). HasSource z.0.program z.0.sizes z.1 m1.seen m2.seen st tag both Second b)
     (of_one v c.needed_source.new.self on1) c.in-Ok-needed_source.ensures.answer in
     let r2 : Ready P C by st tag old (HasBoth d i x a both b) m2.seen = takes_second P C by st tag old d i x a both b m1.seen m2.seen r1 got in
@@ -214,7 +214,7 @@ returns-clause-reply c =
     let r1 : Ready P C by st tag old (HasFirst d i x a) m1.seen = takes_first P C by st tag old d i x a old m1.seen r0 c.in-Ok.ensures.answer in
     let m2 : View = c.needed_source-2.new.self.view in
     let b = c.in-Ok-needed_source.value in
-    let on1 : IsLater v c.needed_source.new.self = c.needed_source.ensures.same in
+    let on1 : IsSameCall v c.needed_source.new.self = c.needed_source.ensures.same in
     let got : HasSource P C by m1.seen m2.seen st tag both Second b = subst (λ (z : Of). HasSource z.0.program z.0.sizes z.1 m1.seen m2.seen st tag both Second b)
     (of_one v c.needed_source.new.self on1) c.in-Ok-needed_source.ensures.answer in
     let r2 : Ready P C by st tag old (HasBoth d i x a both b) m2.seen = takes_second P C by st tag old d i x a both b m1.seen m2.seen r1 got in

@@ -1,7 +1,7 @@
 use Rattle.std.proofs.Common.{◌≡◌, ℕ, ◌+◌, ◌<◌, ◌≤◌, ◌%◌, length, sym, ap, ◌∙◌, subst, rules, arith}
 use Rattle.instructions.specs.Programs.{Program}
 use Rattle.ruu_words.specs.declared.rule.Role.TheVariants.{Front}
-use Rattle.station.specs.Calls.{TheCall, next_place}
+use Rattle.station.specs.Calls.{TheCall, let_place}
 use Rattle.station.specs.Seats.{TheCore}
 use Rattle.station.proofs.Calls.{front_back, seated_in}
 use Rattle.station.proofs.LettingOut.{next_inside, next_out}
@@ -18,7 +18,7 @@ invariant_of-seat c =
     let core_is = ap (λ (z : TheCall). z.core) c.of-call.ensures in
     let ring : c.self.inside.ring ≡ v.core.sizes.ring = sym c.self.invariant.ring_is ∙ (ap (λ (k : TheCore). k.sizes.ring) c.self.view_is ∙ ap (λ (k : TheCore). k.sizes.ring) (sym core_is)) in
     let inside : station < v.core.sizes.ring = subst (λ (k : TheCore). station < k.sizes.ring) (sym core_is) was.inside in
-    let here : station ≡ next_place v = was.knows.2 ∙ sym (ap next_place c.of-call.ensures) in
+    let here : station ≡ let_place v = was.knows.2 ∙ sym (ap let_place c.of-call.ensures) in
     front_back _ value _ _ _ c.args.seat.now core c.seat.view_is c.requires.core c.of-call.ensures done.same c.call.invariant c.call.view_is (search rules)
     ((station + 1) % c.self.inside.ring) c.seat.inside.over
     (subst (λ r. (station + 1) % r < v.core.sizes.ring) (sym ring) (next_inside station v.core.sizes.ring inside)) done.draft

@@ -9,7 +9,7 @@ use Rattle.ruu_words.specs.declared.rule.Stage.TheVariants.{BothOperands, FirstO
 use Rattle.ruu_words.specs.Content.{IsOperandOf, IsStation}
 use Rattle.ruu_words.specs.Fields.{half_of, index_of}
 use Rattle.ruu_words.proofs.Packing.{infos_read_back}
-use Rattle.station.specs.Calls.{new_tag, next_place}
+use Rattle.station.specs.Calls.{new_tag, let_place}
 use Rattle.station.specs.Letting.{draft_of, given_value}
 use Rattle.station.proofs.Calls.{caller_at, legal_at}
 use Rattle.station.proofs.LettingOut.{IsReady, begins, goes, let_now, may_at, place_at, tag_at, tag_found}
@@ -180,10 +180,10 @@ store_first-requires-clause-word c =
     let at = c.look-found.new.self.view in
     let h = looked.grows.between ++ v.view.seen in
     let seen1 : at.seen ≡ h = looked.grows.is ∙ ap (λ es. map (entry v.view.by) es ++ h) looked.grows.kind.none in
-    let word : IsStation (station_word v.core.sizes (recent (unit_of v.core.program v.core.sizes at.seen)) (next_place v)) c.look-found.result = subst
+    let word : IsStation (station_word v.core.sizes (recent (unit_of v.core.program v.core.sizes at.seen)) (let_place v)) c.look-found.result = subst
     (λ (z : List Entry × ℕ). IsStation (station_word v.core.sizes (recent (unit_of v.core.program v.core.sizes z.0)) z.1) c.look-found.result) (λ i. (sym seen1 i, sym c.requires.station i))
     looked.grows.kind.content in
-    let tag_is : c.tag_in-tag.result ≡ new_tag v = c.tag_in-tag.ensures.value ∙ tag_found v.core.program v.core.sizes v.view.by t v.view.seen Nothing (next_place v) (new_tag v) c.look-found.result at
+    let tag_is : c.tag_in-tag.result ≡ new_tag v = c.tag_in-tag.ensures.value ∙ tag_found v.core.program v.core.sizes v.view.by t v.view.seen Nothing (let_place v) (new_tag v) c.look-found.result at
     r1.ready word in
     subst (λ z. IsOperandOf (record { tag = z; value = given_value t.sources.0 }) c.operand_word-first.result) (tag_is ∙ sym (tag_at r2)) c.operand_word-first.ensures
 
@@ -200,10 +200,10 @@ store_second-requires-clause-word c =
     let at = c.look-found.new.self.view in
     let h = looked.grows.between ++ v.view.seen in
     let seen1 : at.seen ≡ h = looked.grows.is ∙ ap (λ es. map (entry v.view.by) es ++ h) looked.grows.kind.none in
-    let word : IsStation (station_word v.core.sizes (recent (unit_of v.core.program v.core.sizes at.seen)) (next_place v)) c.look-found.result = subst
+    let word : IsStation (station_word v.core.sizes (recent (unit_of v.core.program v.core.sizes at.seen)) (let_place v)) c.look-found.result = subst
     (λ (z : List Entry × ℕ). IsStation (station_word v.core.sizes (recent (unit_of v.core.program v.core.sizes z.0)) z.1) c.look-found.result) (λ i. (sym seen1 i, sym c.requires.station i))
     looked.grows.kind.content in
-    let tag_is : c.tag_in-tag.result ≡ new_tag v = c.tag_in-tag.ensures.value ∙ tag_found v.core.program v.core.sizes v.view.by t v.view.seen Nothing (next_place v) (new_tag v) c.look-found.result at
+    let tag_is : c.tag_in-tag.result ≡ new_tag v = c.tag_in-tag.ensures.value ∙ tag_found v.core.program v.core.sizes v.view.by t v.view.seen Nothing (let_place v) (new_tag v) c.look-found.result at
     r1.ready word in
     subst (λ z. IsOperandOf (record { tag = z; value = given_value t.sources.1 }) c.operand_word-second.result) (tag_is ∙ sym (tag_at r3)) c.operand_word-second.ensures
 
@@ -221,10 +221,10 @@ let_tenant-requires-clause-word c =
     let at = c.look-found.new.self.view in
     let h = looked.grows.between ++ v.view.seen in
     let seen1 : at.seen ≡ h = looked.grows.is ∙ ap (λ es. map (entry v.view.by) es ++ h) looked.grows.kind.none in
-    let word : IsStation (station_word v.core.sizes (recent (unit_of v.core.program v.core.sizes at.seen)) (next_place v)) c.look-found.result = subst
+    let word : IsStation (station_word v.core.sizes (recent (unit_of v.core.program v.core.sizes at.seen)) (let_place v)) c.look-found.result = subst
     (λ (z : List Entry × ℕ). IsStation (station_word v.core.sizes (recent (unit_of v.core.program v.core.sizes z.0)) z.1) c.look-found.result) (λ i. (sym seen1 i, sym c.requires.station i))
     looked.grows.kind.content in
-    let tag_is : c.tag_in-tag.result ≡ new_tag v = c.tag_in-tag.ensures.value ∙ tag_found v.core.program v.core.sizes v.view.by t v.view.seen Nothing (next_place v) (new_tag v) c.look-found.result at
+    let tag_is : c.tag_in-tag.result ≡ new_tag v = c.tag_in-tag.ensures.value ∙ tag_found v.core.program v.core.sizes v.view.by t v.view.seen Nothing (let_place v) (new_tag v) c.look-found.result at
     r1.ready word in
     subst (λ z. IsStation (live_word z Open) c.open_word-open.result) (tag_is ∙ sym (tag_at r4)) c.open_word-open.ensures
 
@@ -243,10 +243,10 @@ returns-clause-tag c =
     let at = c.look-found.new.self.view in
     let h = looked.grows.between ++ v.view.seen in
     let seen1 : at.seen ≡ h = looked.grows.is ∙ ap (λ es. map (entry v.view.by) es ++ h) looked.grows.kind.none in
-    let word : IsStation (station_word v.core.sizes (recent (unit_of v.core.program v.core.sizes at.seen)) (next_place v)) c.look-found.result = subst
+    let word : IsStation (station_word v.core.sizes (recent (unit_of v.core.program v.core.sizes at.seen)) (let_place v)) c.look-found.result = subst
     (λ (z : List Entry × ℕ). IsStation (station_word v.core.sizes (recent (unit_of v.core.program v.core.sizes z.0)) z.1) c.look-found.result) (λ i. (sym seen1 i, sym c.requires.station i))
     looked.grows.kind.content in
-    let tag_is : c.tag_in-tag.result ≡ new_tag v = c.tag_in-tag.ensures.value ∙ tag_found v.core.program v.core.sizes v.view.by t v.view.seen Nothing (next_place v) (new_tag v) c.look-found.result at
+    let tag_is : c.tag_in-tag.result ≡ new_tag v = c.tag_in-tag.ensures.value ∙ tag_found v.core.program v.core.sizes v.view.by t v.view.seen Nothing (let_place v) (new_tag v) c.look-found.result at
     r1.ready word in
     tag_is
 
