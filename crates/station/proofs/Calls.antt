@@ -1,12 +1,12 @@
 -- A step of a call is one of its table.
-use Rattle.std.proofs.Common.{◌≡◌, ℕ, ◌<◌, Bool, List, sym, ap, refl, ◌∙◌, subst}
+use Rattle.std.proofs.Common.{◌≡◌, ℕ, ◌<◌, Bool, List, [], ◌++◌, map, sym, ap, refl, ◌∙◌, subst}
 use Rattle.atomic_table.specs.Seated.{TableId}
 use Rattle.atomic_table.specs.Table.{Allows, Me, Step}
 use Rattle.instructions.specs.Programs.{Program}
 use Rattle.inorder.specs.declared.history.Entry.{Entry}
 use Rattle.inorder.specs.declared.history.Event.{Event}
-use Rattle.inorder.specs.History.{IsLegal, unit_of}
-use Rattle.inorder.specs.Unit.{next_station, recent}
+use Rattle.inorder.specs.History.{IsLegal, entry, front, own, unit_of}
+use Rattle.inorder.specs.Unit.{Sizes, next_station, recent}
 use Rattle.ruu_words.specs.declared.place.Place.{Place}
 use Rattle.ruu_words.specs.declared.rule.Draft.{Draft}
 use Rattle.ruu_words.specs.declared.rule.Draft.TheVariants.{Nothing}
@@ -16,6 +16,7 @@ use Rattle.ruu_words.specs.declared.rule.Role.TheVariants.{Back, Front, Spent, S
 use Rattle.ruu_words.specs.declared.rule.Setup.{Setup}
 use Rattle.ruu_words.specs.declared.rule.View.{View}
 use Rattle.ruu_words.specs.Places.{IsPlace, index}
+use Rattle.ruu_words.specs.Plans.{Plans}
 use Rattle.ruu_words.specs.Openings.{opening_of, sizes_of}
 use Rattle.ruu_words.specs.Views.{IsAlive, IsCaller, Unborn}
 use Rattle.ruu_words.specs.Rule.{Kept}
@@ -50,14 +51,23 @@ module _ (table : TableId) (key : Setup) (core : TheCore) (here : core_of table 
   same : call_of (core_of table key) me.0 lent ≡ v
   same = ap (λ c. call_of c me.0 lent) here ∙ is
 
-  pub may : (role : Role) (at : TableId) (slots id : ℕ) (x : Place) (i : ℕ) (f tell : ℕ → ℕ) (K : ℕ → StepKind) (z : Step ℕ) (ring : ℕ) → key.ring ≡ ring → i ≡ index ring x → IsCall core role at me
-      → IsPlace v.core.sizes.ring x → MayStepAt role v x f (λ n. K (tell n)) → Allows (Kept key) slots id me i f
+  -- at a place of the table, with a plan
+  allowed : (role : Role) (at : TableId) (x : Place) (f : ℕ → ℕ) (K : ℕ → StepKind) → IsCall core role at me → MayStepAt role v x f K →
+      IsPlace key.ring x × Plans key.program (sizes_of key) me.0.by me.0 x f (λ n. its (K n))
+  allowed role at x f K was m = subst (λ z. MayStepAt role z x f K) (sym same) m was.role_is was.numbered.caller
+      (subst (λ (c : TheCore). IsLegal c.program c.sizes me.0.seen) (sym here) was.legal)
+
+  pub at_place : (role : Role) (at : TableId) (x : Place) (f : ℕ → ℕ) (K : ℕ → StepKind) (ring : ℕ) → key.ring ≡ ring → IsCall core role at me → MayStepAt role v x f K → IsPlace ring x
+  at_place role at x f K ring ring_is was m = subst (λ r. IsPlace r x) ring_is (allowed role at x f K was m).0
+
+  pub may : (role : Role) (at : TableId) (slots id : ℕ) (x : Place) (i : ℕ) (f tell : ℕ → ℕ) (K : ℕ → StepKind) (z : Step ℕ) (ring : ℕ) → key.ring ≡ ring → i ≡ index ring x → IsCall core
+      role at me
+      → MayStepAt role v x f (λ n. K (tell n)) → Allows (Kept key) slots id me i f
       (λ n found. Tells key.program (sizes_of key) (opening_of key) me.0.by (λ n. its (K n)) z me (tell n) found)
-  may role at slots id x i f tell K z ring ring_is index_is was place m =
-      allowed_at key.program (sizes_of key) (opening_of key) slots id me x i f tell (λ n. its (K n)) z (ap (λ r. index r x) ring_is ∙ sym index_is)
-      (subst (λ (z : TheCall). IsPlace z.core.sizes.ring x) (sym same) place)
-      (subst IsAlive (sym was.role_is) (alive_role core.opening role me.0 was.numbered))
-      (subst (λ z. MayStepAt role z x f (λ n. K (tell n))) (sym same) m was.role_is was.numbered.caller)
+  may role at slots id x i f tell K z ring ring_is index_is was m =
+      let can = allowed role at x f (λ n. K (tell n)) was m in
+      allowed_at key.program (sizes_of key) (opening_of key) slots id me x i f tell (λ n. its (K n)) z (ap (λ r. index r x) ring_is ∙ sym index_is) can.0
+      (subst IsAlive (sym was.role_is) (alive_role core.opening role me.0 was.numbered)) can.1
 
   pub goes_on : (role : Role) (old_table new_table : TableId) (w : Me ℕ View) (K : StepKind) → IsCall core role old_table me → new_table ≡ old_table →
       Grows key.program (sizes_of key) me.0.by me.0 w.0 (its K)
@@ -134,8 +144,23 @@ end_after {v} {w} {s} {word} g = after (λ z. HasEnd z.0.program z.0.sizes w.vie
 pub saw_at : (core : TheCore) {old new : View} {core' : TheCore} {lent lent' : ℕ} {v w : TheCall} → v ≡ call_of core old lent → call_of core' new lent' ≡ w → (x : Place) (n : ℕ) →
     TakesStep v w (λ P C. Sees P C v.view.by v.view x n)
     → Grows core.program core.sizes old.by old new (Sees core.program core.sizes old.by old x n)
-saw_at core begins is x n took = subst (λ (z : TheCall × TheCall). Grows z.0.core.program z.0.core.sizes z.0.view.by z.0.view z.1.view (Sees z.0.core.program z.0.core.sizes z.0.view.by z.0.view x n))
+saw_at core begins is x n took = subst (λ (z : TheCall × TheCall). Grows z.0.core.program z.0.core.sizes z.0.view.by z.0.view z.1.view (Sees z.0.core.program z.0.core.sizes z.0.view.by
+    z.0.view x n))
     (λ i. (begins i, sym is i)) took.grows
+
+-- behind a look the front has done nothing yet
+pub record HasOnlyLooked (P : Program) (C : Sizes) (between old new : List Entry) : Type 0 where
+  pub is : new ≡ between ++ old
+  pub legal : IsLegal P C (between ++ old)
+  pub none : own front between ≡ []
+
+pub only_looked : {v w : TheCall} {x : Place} {n : ℕ} → v.view.by ≡ front → (took : TakesStep v w (λ P C. Sees P C v.view.by v.view x n)) →
+    HasOnlyLooked v.core.program v.core.sizes took.grows.between v.view.seen w.view.seen
+only_looked {v} {w} by_is took =
+    let g = took.grows in
+    let h : List Entry = g.between ++ v.view.seen in
+    let is : w.view.seen ≡ h = g.is ∙ ap (λ es. map (entry v.view.by) es ++ h) g.kind.none in
+    record { is = is; legal = subst (IsLegal v.core.program v.core.sizes) is g.legal; none = subst (λ i. own i g.between ≡ []) by_is g.not_own }
 
 -- A seat when a call begins with it, and when the call gives it back
 module _ {woken : ℕ} (id : TableId) (value : Setup) (by : ℕ) (heirs : Heirs) (seen : List Entry) (seat : Caller) (core : TheCore)
@@ -164,7 +189,8 @@ module _ {woken : ℕ} (id : TableId) (value : Setup) (by : ℕ) (heirs : Heirs)
       (subst (λ (z : Unit_of). IsSeated z.0 z.1 role t.0.by station over t) (sym same_unit) seated, numbered)
 
   -- a front's seat: nothing is being let, and the next tenant goes where it says
-  pub front_back : {old : View} {lent : ℕ} {v w : TheCall} → v ≡ call_of core old lent → IsSameCall v w → {core' : TheCore} {t : Me ℕ View} {lent' : ℕ} {table : TableId} → IsCall core' Front table t →
+  pub front_back : {old : View} {lent : ℕ} {v w : TheCall} → v ≡ call_of core old lent → IsSameCall v w → {core' : TheCore} {t : Me ℕ View} {lent' : ℕ} {table : TableId} → IsCall core'
+      Front table t →
       call_of core' t.0 lent' ≡ w
       → {me : Me ℕ View} → me ≡ t → (station : ℕ) (over : Bool) → station < v.core.sizes.ring → w.view.draft ≡ Nothing → station ≡ let_place w
       → IsSeated value.program (sizes_of value) Front me.0.by station over me × IsNumbered (opening_of value) Front me.0
@@ -190,7 +216,8 @@ module _ {woken : ℕ} (id : TableId) (value : Setup) (by : ℕ) (heirs : Heirs)
       front_back begins on inv is me_is station over (subst (λ (z : TheCall). station < z.core.sizes.ring) (sym begins) was.inside) draft (was.knows.2 ∙ (sym (ap let_place begins) ∙ sym next))
 
   -- a back's seat: where the oldest live tenant stands
-  pub back_back : {old : View} {lent : ℕ} {v w : TheCall} → v ≡ call_of core old lent → IsSameCall v w → {core' : TheCore} {t : Me ℕ View} {lent' : ℕ} {table : TableId} → IsCall core' Back table t →
+  pub back_back : {old : View} {lent : ℕ} {v w : TheCall} → v ≡ call_of core old lent → IsSameCall v w → {core' : TheCore} {t : Me ℕ View} {lent' : ℕ} {table : TableId} → IsCall core'
+      Back table t →
       call_of core' t.0 lent' ≡ w
       → {me : Me ℕ View} → me ≡ t → (station : ℕ) (over : Bool) → station < core.sizes.ring → IsAtHead core.sizes (unit_of core.program core.sizes t.0.seen) station over
       → IsSeated value.program (sizes_of value) Back me.0.by station over me × IsNumbered (opening_of value) Back me.0

@@ -91,7 +91,8 @@ module _ (P : Program) (C : Sizes) (by : ℕ) where
   -- an entry of the caller itself
   held_own : (p : ℕ) (U : UpdateUnit) (id : ℕ) (s : Step) → Allowed P C U id s → IsNoFinish p (Does s) → (t t' : Tenant) → at U.tenants p ≡ Some t → at (applied P C U id s).tenants p ≡ Some t' →
       IsHeld by t → IsHeld by t'
-  held_own p U id (Let index predicted first second) a ne t t' is now held = subst (IsHeld by) (found t t' (sym (at_more (new_tenant P C U index predicted first second) U.tenants p t is) ∙ now)) held
+  held_own p U id (Let index predicted first second) a ne t t' is now held = subst (IsHeld by) (found t t' (sym (at_more (new_tenant P C U index predicted first second) U.tenants p t is)
+      ∙ now)) held
   held_own p U id Renew a ne t t' is now held = subst (IsHeld by) (found t t' (sym is ∙ now)) held
   held_own p U id (On r act) a ne t t' is now held = ⊎_elim
       (λ (z : IsActed P U.tenants id r act a.tenant p t).

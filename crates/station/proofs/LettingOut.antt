@@ -12,17 +12,20 @@ use Rattle.inorder.specs.Tenants.{on_path}
 use Rattle.inorder.specs.Unit.{how_many, next_station, next_tag, recent, Sizes, UpdateUnit}
 use Rattle.inorder.proofs.Histories.{adds_on, allowed_steps}
 use Rattle.inorder.proofs.StationsShown.{stations_follow}
+use Rattle.ruu_words.specs.declared.place.Place.TheVariants.{Station}
 use Rattle.ruu_words.specs.declared.rule.Draft.{Draft}
 use Rattle.ruu_words.specs.declared.rule.Draft.TheVariants.{Nothing}
 use Rattle.ruu_words.specs.declared.rule.View.{View}
 use Rattle.ruu_words.specs.Content.{IsStation}
 use Rattle.ruu_words.specs.Fields.{tag_of}
-use Rattle.ruu_words.specs.Kinds.{Lets}
+use Rattle.ruu_words.specs.Kinds.{Drafts, Lets}
 use Rattle.ruu_words.specs.Telling.{Grows}
 use Rattle.ruu_words.proofs.Drafting.{still_let}
 use Rattle.station.specs.declared.answers.Tenant.{Tenant}
 use Rattle.station.specs.Letting.{IsLetOut, MayLetOut, let_of, supply_of}
-use Rattle.station.specs.Calls.{IsSameCall, IsLegalCall, IsLetNow, LetsTenant, MayLetNow, StepKind, TakesStep, TheCall, new_tag, let_place}
+use Rattle.station.specs.Steps.{Sees}
+use Rattle.station.specs.Answers.{IsLetNow, MayLetNow}
+use Rattle.station.specs.Calls.{IsAbout, IsLegalCall, IsSameCall, LetsTenant, StepKind, TakesStep, TheCall, caller, let_place, new_tag}
 use Rattle.station.proofs.Adding.{adds_these}
 use Rattle.station.proofs.Calls.{after, before, joined, taken}
 
@@ -64,7 +67,12 @@ module _ (P : Program) (C : Sizes) (by : ℕ) (t : Tenant) (old : List Entry) wh
       let stay = still_let P C t.index t.predicted (supply_of t.sources.0) (supply_of t.sources.1) g.between v.seen legal apart r.may.may in
       let tag_same : next_tag C (recent (U (g.between ++ v.seen))) ≡ next_tag C (recent (U v.seen)) = stay.tag in
       let station_same : next_station C (recent (U (g.between ++ v.seen))) ≡ next_station C (recent (U v.seen)) = ap (λ x. x.station) stay.new in
-      let there : MayLetOut P C (U (g.between ++ v.seen)) t = record { may = stay.may; half = r.may.half ∙ sym (ap (λ x. x.half) stay.new); tag = subst (λ n. n < last_tag) (sym tag_same) r.may.tag }
+      let there : MayLetOut P C (U (g.between ++ v.seen)) t = record {
+        may = stay.may;
+        half = r.may.half ∙ sym (ap (λ x. x.half) stay.new);
+        tag = subst (λ n. n < last_tag) (sym tag_same)
+            r.may.tag;
+      }
       in
       record {
         by_is = r.by_is;
@@ -105,13 +113,14 @@ pub record IsReady (v : TheCall) (t : Tenant) (draft : Draft) (w : TheCall) : Ty
   pub same : IsSameCall v w
   pub ready : Ready v.core.program v.core.sizes v.view.by t v.view.seen draft (let_place v) (new_tag v) w.view
 
-pub begins : {v : TheCall} {t : Tenant} → IsLegalCall v → v.view.by ≡ front → v.view.draft ≡ Nothing → MayLetNow v t → IsReady v t Nothing v
+pub begins : {v : TheCall} {t : Tenant} → IsLegalCall v → v.view.by ≡ front → v.view.draft ≡ Nothing → MayLetNow t v.core (caller v) → IsReady v t Nothing v
 begins {v} {t} legal by_is draft may = record {
   same = record { core = refl; role = refl; by = refl; heirs = refl; lent = refl };
   ready = starts v.core.program v.core.sizes v.view.by t v.view.seen v.view refl legal by_is draft may;
 }
 
-pub goes : {v : TheCall} {t : Tenant} {draft next : Draft} {w x : TheCall} {K : StepKind} → IsReady v t draft w → (s : TakesStep w x K) → s.grows.events ≡ [] → x.view.draft ≡ next → IsReady v t next x
+pub goes : {v : TheCall} {t : Tenant} {draft next : Draft} {w x : TheCall} {K : StepKind} → IsReady v t draft w → (s : TakesStep w x K) → s.grows.events ≡ [] → x.view.draft ≡ next →
+    IsReady v t next x
 goes {v} {t} {draft} {next} {w} {x} {K} r s none is =
     let g = before (λ z. (y : Grows z.0.program z.0.sizes z.1 w.view x.view (K z.0.program z.0.sizes)) × (y.events ≡ [])) r.same (s.grows, none) in
     record {
@@ -120,7 +129,7 @@ goes {v} {t} {draft} {next} {w} {x} {K} r s none is =
     }
 
 module _ {v : TheCall} {t : Tenant} {draft : Draft} {w : TheCall} (r : IsReady v t draft w) where
-  pub may_at : MayLetNow w t
+  pub may_at : MayLetNow t w.core (caller w)
   may_at = after (λ z. MayLetOut z.0.program z.0.sizes (unit_of z.0.program z.0.sizes w.view.seen) t) r.same r.ready.may
 
   pub place_at : let_place w ≡ let_place v
@@ -129,8 +138,33 @@ module _ {v : TheCall} {t : Tenant} {draft : Draft} {w : TheCall} (r : IsReady v
   pub tag_at : new_tag w ≡ new_tag v
   tag_at = after (λ z. next_tag z.0.sizes (recent (unit_of z.0.program z.0.sizes w.view.seen)) ≡ new_tag v) r.same r.ready.tag_is
 
-  pub let_now : {x : TheCall} → TakesStep w x (LetsTenant t) → IsLetNow v x t
+  pub let_now : {x : TheCall} → TakesStep w x (LetsTenant t) → IsLetNow t v.core (caller v) (caller x)
   let_now {x} s = lets_out v.core.program v.core.sizes v.view.by t v.view.seen draft (new_tag v) w.view x.view r.ready (taken r.same s)
+
+-- it is about to let the tenant at that station
+pub about_at : {v : TheCall} {t : Tenant} {draft : Draft} {w : TheCall} {station : ℕ} → IsReady v t draft w → let_place v ≡ station → IsAbout w station draft t
+about_at r is = record { draft_is = r.ready.draft_is; may = may_at r; station_is = place_at r ∙ is }
+
+-- a store of its words
+pub stored : {v : TheCall} {t : Tenant} {draft next : Draft} {w x : TheCall} → IsReady v t draft w → TakesStep w x (λ P C. Drafts P C next) → IsReady v t next x
+stored r s = goes r s s.grows.kind.none s.grows.kind.draft
+
+-- The first step: a look at the station where it goes
+module _ {v w : TheCall} {t : Tenant} {station n : ℕ} (legal : IsLegalCall v) (by_is : v.view.by ≡ front) (about : IsAbout v station Nothing t)
+    (took : TakesStep v w (λ P C. Sees P C v.view.by v.view (Station station) n)) where
+  pub looked : IsReady v t Nothing w
+  looked = goes (begins legal by_is about.draft_is about.may) took took.grows.kind.none (took.grows.kind.mine by_is ∙ about.draft_is)
+
+  -- the tag that it finds
+  pub tag_read : (tag : ℕ) → tag ≡ tag_of n → tag ≡ new_tag v
+  tag_read tag is =
+      let P = v.core.program in
+      let C = v.core.sizes in
+      let h = took.grows.between ++ v.view.seen in
+      let seen : w.view.seen ≡ h = took.grows.is ∙ ap (λ es. map (entry v.view.by) es ++ h) took.grows.kind.none in
+      let word : IsStation (station_word C (recent (unit_of P C w.view.seen)) (let_place v)) n = subst (λ (z : List Entry × ℕ). IsStation (station_word C (recent (unit_of P C z.0)) z.1) n)
+      (λ i. (sym seen i, sym about.station_is i)) took.grows.kind.content in
+      is ∙ tag_found P C v.view.by t v.view.seen Nothing (let_place v) (new_tag v) n w.view looked.ready word
 
 below_ring : (n r : ℕ) → 0 < r → n % r < r
 below_ring n r pos = omega arith
@@ -139,7 +173,7 @@ pub next_inside : (station r : ℕ) → station < r → (station + 1) % r < r
 next_inside station r small = below_ring (station + 1) r (omega arith)
 
 -- the station behind a let
-pub next_out : {v w : TheCall} {t : Tenant} → IsSameCall v w → IsLetNow v w t → let_place w ≡ (let_place v + 1) % v.core.sizes.ring
+pub next_out : {v w : TheCall} {t : Tenant} → IsSameCall v w → IsLetNow t v.core (caller v) (caller w) → let_place w ≡ (let_place v + 1) % v.core.sizes.ring
 next_out {v} {w} {t} on out =
     let P = v.core.program in
     let C = v.core.sizes in

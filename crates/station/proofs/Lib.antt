@@ -5,6 +5,7 @@ pub mod Backs
 pub mod Seated
 pub mod Numbers
 pub mod Calls
+pub mod Places
 pub mod Given
 pub mod LettingOut
 pub mod Reading

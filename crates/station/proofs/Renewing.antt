@@ -146,7 +146,8 @@ have_seen core old new m =
 
 -- The new core
 
-pub setup_unit : (id : TableId) (key setup : Setup) (core : TheCore) → core ≡ core_of id key → IsCore id.words key setup.program setup.ring setup.queue setup.first_tag → unit_at setup ≡ unit_in core
+pub setup_unit : (id : TableId) (key setup : Setup) (core : TheCore) → core ≡ core_of id key → IsCore id.words key setup.program setup.ring setup.queue setup.first_tag → unit_at setup ≡
+    unit_in core
 setup_unit id key setup core e k =
     let here : unit_at setup ≡ unit_at key = λ i. (sym k.program i, record { ring = sym k.ring_is i; queue = sym k.queue_is i; first_tag = sym k.first_tag_is i }) in
     here ∙ sym (ap unit_in e)

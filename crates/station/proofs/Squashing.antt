@@ -42,6 +42,9 @@ use Rattle.ruu_words.proofs.Stays.{any_stays, front_stays}
 use Rattle.station.specs.Recovery.{HasYoungest, WasSquashed, SeesYoungest, Squashes}
 use Rattle.station.proofs.Adding.{adds_these}
 use Rattle.inorder.proofs.Recent.{IsRecentAt, live_is_recent, recent_at, recent_change, younger_recent}
+use Rattle.station.specs.Steps.{Sees}
+use Rattle.station.specs.Calls.{IsLegalCall, TakesStep, TheCall, let_place}
+use Rattle.station.proofs.Calls.{Of, of_one, only_looked}
 
 -- The path ends with the youngest live tenant
 
@@ -222,3 +225,24 @@ module _ (P : Program) (C : Sizes) where
         let counted : how_many on_path (recent (applied P C (U last) by (On y.p Squash))) ≡ before last legal2.0 y.p y.can = omega (arith, now, was, all) in
         let at_s : s ≡ before last legal2.0 y.p y.can % C.ring = sym y.named.station_is ∙ (ap (λ (z : Tenant). z.station) (same_tenant last legal2.0 s g y) ∙ its_place last legal2.0 y.p y.can) in
         at_s ∙ (ap (λ n. n % C.ring) (sym counted) ∙ ap (λ h. next_station C (recent (U h))) (sym seen2))
+
+-- The youngest live tenant, whose station is the one before the next, as a look at that station finds it
+module _ {v w : TheCall} {next ring n : ℕ} (legal : IsLegalCall v) (by_is : v.view.by ≡ front) (ring_is : ring ≡ v.core.sizes.ring) (small : next < v.core.sizes.ring) (next_is : next ≡
+    let_place v)
+    (may : SeesYoungest v.core.program v.core.sizes v.view.seen) (took : TakesStep v w (λ P C. Sees P C v.view.by v.view (Station ((next + ring - 1) % ring)) n)) (tag : ℕ) (read : tag ≡
+    tag_of n) where
+  pub youngest_read : (tag < last_tag) × HasYoungest w.core.program w.core.sizes w.view.seen ((next + ring - 1) % ring) tag
+  youngest_read =
+      let P = v.core.program in
+      let C = v.core.sizes in
+      let old : List Entry = v.view.seen in
+      let looked = only_looked by_is took in
+      let h : List Entry = took.grows.between ++ old in
+      let station : ℕ = (next + ring - 1) % ring in
+      let g : ℕ = may.can.tenant.tenant.tag in
+      let was : HasYoungest P C old station g = youngest_in P C old legal next ring ring_is (subst (λ m. next < m) (sym ring_is) small) next_is may in
+      let now : HasYoungest P C h station g = youngest_on P C station g took.grows.between old looked.legal looked.none was in
+      let tag_is : tag ≡ g = read ∙ youngest_word P C h looked.legal station g n now took.grows.kind.content in (
+        subst (λ z. z < last_tag) (sym tag_is) (youngest_small P C old legal station g was),
+        subst (λ (z : Of × (List Entry × ℕ)). HasYoungest z.0.0.program z.0.0.sizes z.1.0 station z.1.1) (λ i. (sym (of_one v w took.same) i, (sym looked.is i, sym tag_is i))) now,
+      )

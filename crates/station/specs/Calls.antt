@@ -12,29 +12,25 @@ use Rattle.inorder.specs.Tenants.{Tenant}
 use Rattle.inorder.specs.Unit.{Sizes, UpdateUnit, next_station, next_tag, recent}
 use Rattle.ruu_words.specs.declared.place.Place.{Place}
 use Rattle.ruu_words.specs.declared.rule.Draft.{Draft}
+use Rattle.ruu_words.specs.declared.rule.Draft.TheVariants.{Nothing}
 use Rattle.ruu_words.specs.declared.rule.Role.{Role}
 use Rattle.ruu_words.specs.declared.rule.View.{View}
 use Rattle.inorder.specs.OperandWords.{OperandWord}
 use Rattle.ruu_words.specs.Kinds.{Lets}
+use Rattle.ruu_words.specs.Places.{IsPlace}
 use Rattle.ruu_words.specs.Plans.{Plans}
 use Rattle.ruu_words.specs.Views.{IsCaller}
 use Rattle.ruu_words.specs.Telling.{Grows}
-use Rattle.station.specs.declared.answers.Ask.{Ask}
 use Rattle.station.specs.declared.answers.Claim.{Claim}
-use Rattle.station.specs.declared.answers.Finish.{Finish}
-use Rattle.station.specs.declared.answers.Job.{Job}
 use Rattle.station.specs.declared.answers.Retire.{Retire}
-use Rattle.station.specs.declared.answers.Settle.{Settle}
 use Rattle.station.specs.declared.answers.Tenant.{Tenant as Letting}
-use Rattle.station.specs.Asking.{AskAnswers}
 use Rattle.station.specs.Carrying.{HasCarried, HasMadeOf, HasValueOf, HasWalked, IsServing, OfTenant}
-use Rattle.station.specs.Claiming.{ClaimAnswers, HasSeen, SourceAnswers}
-use Rattle.station.specs.Letting.{IsLetOut, MayLetOut, supply_of}
-use Rattle.station.specs.Recovery.{IsMended, WasSquashed}
-use Rattle.station.specs.Retirement.{HeadGoesOn, RetireAnswers}
-use Rattle.station.specs.Seats.{IsNumbered, TheCore}
-use Rattle.station.specs.Waking.{Wakes}
-use Rattle.station.specs.Writeback.{FinishAnswers, HasTenant, SettleAnswers}
+use Rattle.station.specs.Claiming.{HasSeen, SourceAnswers}
+use Rattle.station.specs.Letting.{supply_of}
+use Rattle.station.specs.Retirement.{HeadGoesOn}
+use Rattle.station.specs.Answers.{AnswersRetire, IsLetNow, MayLetNow, Reply, Woke}
+use Rattle.station.specs.Seats.{Caller, IsNumbered, TheCore}
+use Rattle.station.specs.Writeback.{HasTenant}
 
 -- Its core, what the seat knows at this point, and which seat is lent to the call
 pub record TheCall : Type 0 where
@@ -45,6 +41,10 @@ pub record TheCall : Type 0 where
 -- The call of a core, with what its seat knows and which seat that is
 abbrev pub call_of : TheCore → View → ℕ → TheCall
 call_of core view lent = record { core = core; view = view; lent = lent }
+
+-- Its seat as callers see one, with nobody woken yet
+abbrev pub caller : TheCall → Caller
+caller v = record { core = v.core; by = v.view.by; heirs = v.view.heirs; seen = v.view.seen; woken = 0 }
 
 -- What is true of it between two steps
 pub record IsCall (core : TheCore) (role : Role) (table : TableId) (me : Me ℕ View) : Type 0 where
@@ -71,15 +71,22 @@ pub record TakesStep (v w : TheCall) (K : StepKind) : Type 0 where
   pub same : IsSameCall v w
   pub grows : Grows v.core.program v.core.sizes v.view.by v.view w.view (K v.core.program v.core.sizes)
 
--- A seat of this role may step at this place: where it finds n it leaves f n, and the kind is K n
-abbrev pub MayStepAt : Role → TheCall → Place → (ℕ → ℕ) → (ℕ → StepKind) → Type 0
-MayStepAt role v x f K =
-    v.view.role ≡ role → IsCaller role v.view.by
-    → Plans v.core.program v.core.sizes v.view.by v.view x f (λ n. K n v.core.program v.core.sizes)
-
 -- What the caller has seen is legal
 abbrev pub IsLegalCall : TheCall → Type 0
 IsLegalCall v = IsLegal v.core.program v.core.sizes v.view.seen
+
+-- A seat of this role may step at this place, which is one of the table: where it finds n it leaves
+-- f n, and the kind is K n
+abbrev pub MayStepAt : Role → TheCall → Place → (ℕ → ℕ) → (ℕ → StepKind) → Type 0
+MayStepAt role v x f K =
+    v.view.role ≡ role → IsCaller role v.view.by → IsLegalCall v →
+    IsPlace v.core.sizes.ring x ×
+    Plans v.core.program v.core.sizes v.view.by v.view x f (λ n. K n v.core.program v.core.sizes)
+
+-- The same call later, and what it has come to
+pub record ComesTo (v w : TheCall) (Answer : Reply) : Type 0 where
+  pub same : IsSameCall v w
+  pub reply : Answer v.core (caller v) (caller w)
 
 -- The unit of what it has seen
 abbrev pub seen_unit : TheCall → UpdateUnit
@@ -93,10 +100,6 @@ Saw v station tag Fact = HasSeen v.core.program v.core.sizes v.view.seen station
 abbrev pub HasOne : TheCall → ℕ → ℕ → (Tenant → Type 0) → Type 0
 HasOne v station tag Fact = HasTenant v.core.program v.core.sizes v.view.seen station tag Fact
 
--- At the front's next let: that this tenant may be let, its station, its tag, and its operand's word
-abbrev pub MayLetNow : TheCall → Letting → Type 0
-MayLetNow v t = MayLetOut v.core.program v.core.sizes (seen_unit v) t
-
 -- Where the next tenant goes
 abbrev pub let_place : TheCall → ℕ
 let_place v = next_station v.core.sizes (recent (seen_unit v))
@@ -105,6 +108,12 @@ let_place v = next_station v.core.sizes (recent (seen_unit v))
 abbrev pub new_tag : TheCall → ℕ
 new_tag v = next_tag v.core.sizes (recent (seen_unit v))
 
+-- This tenant is about to be let at this station, with so much of its let in progress
+pub record IsAbout (v : TheCall) (station : ℕ) (draft : Draft) (t : Letting) : Type 0 where
+  pub draft_is : v.view.draft ≡ draft
+  pub may : MayLetNow t v.core (caller v)
+  pub station_is : let_place v ≡ station
+
 -- The word of a source of it, with this value or none
 abbrev pub new_operand : TheCall → Option ℕ → OperandWord
 new_operand v value = record { tag = new_tag v; value = value }
@@ -112,11 +121,6 @@ new_operand v value = record { tag = new_tag v; value = value }
 -- What the last store of a let tells
 abbrev pub LetsTenant : Letting → StepKind
 LetsTenant t P C = Lets P C t.index t.predicted (supply_of t.sources.0) (supply_of t.sources.1)
-
--- What a claim answers
-abbrev pub AnswersClaim : TheCall → TheCall → ℕ → Claim → Type 0
-AnswersClaim v w station c =
-    ClaimAnswers v.core.program v.core.sizes v.view.by v.view.seen w.view.seen station c
 
 -- What its reading of a source answers
 abbrev pub AnswersSource : TheCall → TheCall → ℕ → ℕ → Source → Bool → Result ℕ Claim → Type 0
@@ -132,63 +136,47 @@ abbrev pub HasComeTo : TheCall → ℕ × ℕ → Outcome → Type 0
 HasComeTo v of outcome = HasMadeOf v.core.program v.core.sizes v.view.seen of.0 of.1 outcome
 
 -- Who waits for it at one source is served
-abbrev pub Serves : TheCall → TheCall → ℕ × ℕ → ℕ → Source → Type 0
-Serves v w of to k =
-    OfTenant v.core.program v.core.sizes v.view.seen of.0 of.1
-    (λ q. IsServing v.core.program v.core.sizes v.view.by q to k v.view.seen w.view.seen)
+abbrev pub Serves : ℕ × ℕ → ℕ → Source → Reply
+Serves of to k core v w = OfTenant core.program core.sizes v.seen of.0 of.1
+    (λ q. IsServing core.program core.sizes v.by q to k v.seen w.seen)
 
 -- All who wait for it are served
-abbrev pub WalksOf : TheCall → TheCall → ℕ × ℕ → Type 0
-WalksOf v w of =
-    OfTenant v.core.program v.core.sizes v.view.seen of.0 of.1
-    (λ q. HasWalked v.core.program v.core.sizes v.view.by q v.view.seen w.view.seen)
+abbrev pub WalksOf : ℕ × ℕ → Reply
+WalksOf of core v w = OfTenant core.program core.sizes v.seen of.0 of.1
+    (λ q. HasWalked core.program core.sizes v.by q v.seen w.seen)
 
 -- They are, if this outcome is a value
-abbrev pub Carries : TheCall → TheCall → ℕ × ℕ → Outcome → Type 0
-Carries v w of outcome =
-    OfTenant v.core.program v.core.sizes v.view.seen of.0 of.1
-    (λ q. HasCarried v.core.program v.core.sizes v.view.by q outcome v.view.seen w.view.seen)
-
--- Values were taken to tenants of these stations
-abbrev pub Woke : TheCall → TheCall → (ℕ → Type 0) → Type 0
-Woke v w Station =
-    Wakes v.core.program v.core.sizes v.view.by v.view.seen w.view.seen Station
-
--- What a writeback answers
-abbrev pub AnswersFinish : TheCall → TheCall → Job → Finish → Type 0
-AnswersFinish v w job r =
-    FinishAnswers v.core.program v.core.sizes v.view.by v.view.seen w.view.seen job r
-
--- What the settling of a load answers
-abbrev pub AnswersSettle : TheCall → TheCall → ℕ → ℕ → Settle → Type 0
-AnswersSettle v w station tag r =
-    SettleAnswers v.core.program v.core.sizes v.view.by v.view.seen w.view.seen station tag r
-
--- What a question for a source, by station and tag, comes to
-abbrev pub AnswersAsk : TheCall → TheCall → ℕ × ℕ → Source → ℕ × ℕ → Ask → Type 0
-AnswersAsk v w of k from r =
-    AskAnswers v.core.program v.core.sizes v.view.by v.view.seen w.view.seen
-    of.0 of.1 k from.0 from.1 r
-
--- The miss of this station was mended
-abbrev pub MendsAt : TheCall → TheCall → ℕ → Type 0
-MendsAt v w station =
-    IsMended v.core.program v.core.sizes v.view.by station v.view.seen w.view.seen
-
--- The tenant of this station and tag was squashed
-abbrev pub SquashesAt : TheCall → TheCall → ℕ → ℕ → Type 0
-SquashesAt v w station tag =
-    WasSquashed v.core.program v.core.sizes v.view.by station tag v.view.seen w.view.seen
-
--- The tenant was let
-abbrev pub IsLetNow : TheCall → TheCall → Letting → Type 0
-IsLetNow v w t = IsLetOut v.core.program v.core.sizes v.view.by t v.view.seen w.view.seen
-
--- What a retirement answers
-abbrev pub AnswersRetire : TheCall → TheCall → Retire → Type 0
-AnswersRetire v w r =
-    RetireAnswers v.core.program v.core.sizes v.view.by v.view.seen w.view.seen r
+abbrev pub Carries : ℕ × ℕ → Outcome → Reply
+Carries of outcome core v w = OfTenant core.program core.sizes v.seen of.0 of.1
+    (λ q. HasCarried core.program core.sizes v.by q outcome v.seen w.seen)
 
 -- Behind a retirement from this station the oldest live tenant stands at the next one
 abbrev pub HeadMoves : TheCall → ℕ → Retire → Type 0
 HeadMoves w station r = HeadGoesOn w.core.sizes (seen_unit w) station r
+
+-- What a call that carries a value comes to: its answer, and the stations that values were taken to
+pub record Carried (v w : TheCall) (Answer : Reply) (Station : ℕ → Type 0) : Type 0 where
+  pub same : IsSameCall v w
+  pub reply : Answer v.core (caller v) (caller w)
+  pub woken : Woke Station v.core (caller v) (caller w)
+
+-- What a let comes to: the tenant was let under this tag, and none is in progress
+pub record HasLetOut (v w : TheCall) (t : Letting) (tag : ℕ) : Type 0 where
+  pub same : IsSameCall v w
+  pub draft : w.view.draft ≡ Nothing
+  pub tag_is : tag ≡ new_tag v
+  pub out : IsLetNow t v.core (caller v) (caller w)
+
+-- What another call of the front comes to: its answer, no let in progress, and where the next tenant
+-- goes then
+pub record LeadsTo (v w : TheCall) (station : ℕ) (Answer : Reply) : Type 0 where
+  pub same : IsSameCall v w
+  pub draft : w.view.draft ≡ Nothing
+  pub reply : Answer v.core (caller v) (caller w)
+  pub next : let_place w ≡ station
+
+-- What a retirement from this station comes to: its answer, and where the oldest live tenant stands
+pub record RetiresFrom (v w : TheCall) (station : ℕ) (answer : Retire) : Type 0 where
+  pub same : IsSameCall v w
+  pub reply : AnswersRetire answer v.core (caller v) (caller w)
+  pub head : HeadMoves w station answer

@@ -10,6 +10,7 @@ use Rattle.inorder.specs.declared.history.Supply.TheVariants.{From, Known}
 use Rattle.inorder.specs.History.{entry, unit_of}
 use Rattle.inorder.specs.OneHistory.{Adds}
 use Rattle.inorder.specs.Replies.{last_tag}
+use Rattle.ruu_words.specs.Fields.{half_of, index_of, predicted_of}
 use Rattle.inorder.specs.Steps.{MayLet}
 use Rattle.inorder.specs.Unit.{Sizes, UpdateUnit, front_half, next_station, next_tag, recent}
 use Rattle.ruu_words.specs.declared.rule.Draft.{Draft}
@@ -28,6 +29,12 @@ supply_of (GivenFrom station tag) = From
 abbrev pub given_value : Given → Option ℕ
 given_value (GivenKnown v) = Some v
 given_value (GivenFrom station tag) = None
+
+-- An info word is this tenant's
+pub record ShowsTenant (t : Tenant) (word : ℕ) : Type 0 where
+  pub half : half_of word ≡ t.half
+  pub index : index_of word ≡ t.index
+  pub predicted : predicted_of word ≡ t.predicted
 
 -- The let of this tenant in progress, at a stage
 abbrev pub draft_of : Stage → Tenant → Draft

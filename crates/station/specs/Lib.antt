@@ -12,6 +12,7 @@ pub mod Asking
 pub mod Wakeup
 pub mod Retirement
 pub mod Recovery
+pub mod Answers
 pub mod Calls
 pub mod Renewals
 pub mod Laws

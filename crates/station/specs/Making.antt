@@ -1,13 +1,16 @@
 -- A new core.
 use Rattle.std.specs.Prelude.{◌≡◌, ℕ, ◌≤◌, ◌<◌, [], length}
+use Rattle.atomic_table.specs.Seated.{TableId}
+use Rattle.atomic_table.specs.Table.{Me}
 use Rattle.instructions.specs.Programs.{Program}
 use Rattle.instructions.specs.Settings.{Settings}
 use Rattle.inorder.specs.History.{back, front}
 use Rattle.inorder.specs.Replies.{last_tag}
 use Rattle.ruu_words.specs.declared.rule.Heirs.{Heirs}
 use Rattle.ruu_words.specs.declared.rule.Setup.{Setup}
+use Rattle.ruu_words.specs.declared.rule.View.{View}
 use Rattle.ruu_words.specs.Places.{words_for}
-use Rattle.ruu_words.specs.Views.{nobody}
+use Rattle.ruu_words.specs.Views.{first_view, nobody}
 use Rattle.station.specs.Seats.{Caller, TheCore}
 
 -- The table is made for this program and these sizes
@@ -59,6 +62,14 @@ pub record IsNewCore (P : Program) (config : Settings) (core : TheCore) (front_s
   pub back_by : back_seat.by ≡ back
   pub unit_by : unit_seat.by ≡ first_unit
   pub unit_heirs : unit_seat.heirs ≡ other_units
+
+-- A table of this setup, by its name and key, with its first seat, by its table and what it knows
+pub record IsFirstTable (setup : Setup) (table : TableId) (key : Setup) (of : TableId) (me : Me ℕ View) :
+    Type 0 where
+  pub wide : table.words ≡ words_for setup.ring
+  pub key_is : key ≡ setup
+  pub seat : of ≡ table
+  pub view : me ≡ (first_view setup, [])
 
 -- The setup of a new core
 pub record IsSetup (P : Program) (config : Settings) (setup : Setup) : Type 0 where

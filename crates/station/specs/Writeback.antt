@@ -19,8 +19,11 @@ use Rattle.inorder.specs.History.{unit_of}
 use Rattle.inorder.specs.OneHistory.{Adds}
 use Rattle.inorder.specs.OperandWords.{OperandWord}
 use Rattle.inorder.specs.Replies.{Has, IsNamed, IsStale}
-use Rattle.inorder.specs.Tenants.{Tenant, operand}
+use Rattle.inorder.specs.StationWords.{live_word}
+use Rattle.inorder.specs.Tenants.{Fate, Tenant, operand}
 use Rattle.inorder.specs.Unit.{Sizes}
+use Rattle.ruu_words.specs.Content.{IsOperandOf, IsStation}
+use Rattle.ruu_words.specs.Fields.{tag_of, value_of}
 use Rattle.ruu_words.specs.Kinds.{HasLink, IsAny, IsTenant}
 use Rattle.inorder.specs.Callers.{HasMade}
 use Rattle.station.specs.declared.answers.Finish.{Finish}
@@ -54,6 +57,16 @@ wait_word tag = record { tag = tag; value = None }
 -- An operand that has its value
 abbrev pub val_word : ℕ → ℕ → OperandWord
 val_word tag value = record { tag = tag; value = Some value }
+
+-- The words of a station before and after an exchange: its live tenant's, with one tag and these fates
+pub record AreFates (was will : Fate) (old new : ℕ) : Type 0 where
+  pub old_is : IsStation (live_word (tag_of old) was) old
+  pub new_is : IsStation (live_word (tag_of old) will) new
+
+-- The words of an operand before and after an exchange: it waits, and has its value
+pub record AreOperands (old new : ℕ) : Type 0 where
+  pub old_is : IsOperandOf (wait_word (tag_of old)) old
+  pub new_is : IsOperandOf (val_word (tag_of old) (value_of new)) new
 
 -- What a unit has to compute for a job
 abbrev pub job_outcome : Program → Job → Outcome

@@ -1,7 +1,6 @@
 //! A seat in the middle of a call, and the ways to step: one load, store, swap or compare-exchange.
 ghost use Rattle.std.specs.Prelude.{◌≡◌, ◌==◌};
 ghost use prog.Atomic.{either};
-ghost use Rattle.ruu_words.specs.Places.{IsPlace};
 ghost use Rattle.station.specs.Calls.{IsCall, MayStepAt, TakesStep, call_of};
 
 use crate::cores::Core;
@@ -58,8 +57,7 @@ impl<'a, P: Part> Call<'a, P> {
     }
 
     pub(crate) fn load<K: Telling, A: Copy>(&mut self, place: Place, about: A) -> u64
-        requires place { IsPlace self.old.core.sizes.ring place }
-        requires may { MayStepAt P.role self.old place (λ n. n) K.kind }
+        requires { MayStepAt P.role self.old place (λ n. n) K.kind }
         ensures { TakesStep self.old self.new (K.kind result) }
     {
         let _ = about;
@@ -69,8 +67,7 @@ impl<'a, P: Part> Call<'a, P> {
     }
 
     pub(crate) fn store<K: Telling, A: Copy>(&mut self, place: Place, new: u64, about: A)
-        requires place { IsPlace self.old.core.sizes.ring place }
-        requires may { MayStepAt P.role self.old place (λ _. new) (λ _. K.kind new) }
+        requires { MayStepAt P.role self.old place (λ _. new) (λ _. K.kind new) }
         ensures { TakesStep self.old self.new (K.kind new) }
     {
         let _ = about;
@@ -80,8 +77,7 @@ impl<'a, P: Part> Call<'a, P> {
     }
 
     pub(crate) fn swap<K: Telling, A: Copy>(&mut self, place: Place, new: u64, about: A) -> u64
-        requires place { IsPlace self.old.core.sizes.ring place }
-        requires may { MayStepAt P.role self.old place (λ _. new) K.kind }
+        requires { MayStepAt P.role self.old place (λ _. new) K.kind }
         ensures { TakesStep self.old self.new (K.kind result) }
     {
         let _ = about;
@@ -97,8 +93,7 @@ impl<'a, P: Part> Call<'a, P> {
         new: u64,
         about: A,
     ) -> u64
-        requires place { IsPlace self.old.core.sizes.ring place }
-        requires may { MayStepAt P.role self.old place (λ n. either (n == old) new n) K.kind }
+        requires { MayStepAt P.role self.old place (λ n. either (n == old) new n) K.kind }
         ensures { TakesStep self.old self.new (K.kind result) }
     {
         let _ = about;

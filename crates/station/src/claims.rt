@@ -3,8 +3,9 @@ ghost use Rattle.std.specs.Prelude.{◌≡◌, ◌<◌, true, length};
 ghost use Rattle.instructions.specs.Programs.{address};
 ghost use Rattle.inorder.specs.declared.history.Source.TheVariants.{Second};
 ghost use Rattle.inorder.specs.Tenants.{needs};
-ghost use Rattle.station.specs.Calls.{AnswersClaim, AnswersSource, IsSameCall, IsLegalCall, Saw};
-ghost use Rattle.station.specs.Claiming.{ClaimAnswers, IsNext, IsOpenAs, SourceSays};
+ghost use Rattle.station.specs.Calls.{AnswersSource, ComesTo, IsLegalCall, IsSameCall, Saw};
+ghost use Rattle.station.specs.Answers.{AnswersClaim};
+ghost use Rattle.station.specs.Claiming.{IsNext, IsOpenAs, SourceSays};
 ghost use Rattle.station.specs.Seats.{IsSameSeat};
 
 use crate::answers::{Claim, Job};
@@ -56,7 +57,6 @@ impl<'a> Call<'a, UnitPart> {
         k: Source,
         needed: bool,
     ) -> Result<u32, Claim>
-        requires place { station < self.old.core.sizes.ring }
         requires legal { IsLegalCall self.old }
         requires seen { Saw self.old station tag
             (λ t. needed ≡ true → IsNext self.old.core.program k t) }
@@ -72,11 +72,8 @@ impl<'a> Call<'a, UnitPart> {
 
     // Claims the tenant of this station and tag, which was open when its info word was read.
     fn claim_open(&mut self, station: usize, tag: u32, info: InfoWord) -> Claim
-        requires place { station < self.old.core.sizes.ring }
-        requires was_open { Saw self.old station tag
-            (IsOpenAs info.half info.index info.predicted) }
-        ensures same { IsSameCall self.old self.new }
-        ensures reply { AnswersClaim self.old self.new station result }
+        requires { Saw self.old station tag (IsOpenAs info.half info.index info.predicted) }
+        ensures { ComesTo self.old self.new (AnswersClaim station result) }
     {
         let InfoWord {
             half,
@@ -116,8 +113,7 @@ impl<'a> Call<'a, UnitPart> {
     // Looks for an open tenant, and reads its info word between two looks.
     fn claim_at(&mut self, station: usize) -> Claim
         requires { station < self.old.core.sizes.ring }
-        ensures same { IsSameCall self.old self.new }
-        ensures reply { AnswersClaim self.old self.new station result }
+        ensures { ComesTo self.old self.new (AnswersClaim station result) }
     {
         let found = self.peek(station);
         if !is_open(found) {
@@ -145,8 +141,7 @@ impl Core {
         ensures kept { IsSameSeat seat.old seat.new }
         ensures woken { seat.new.woken ≡ seat.old.woken }
         ensures heirs { seat.new.heirs ≡ seat.old.heirs }
-        ensures reply { ClaimAnswers self.now.program self.now.sizes seat.old.by seat.old.seen
-            seat.new.seen station result }
+        ensures reply { AnswersClaim station result self.now seat.old seat.new }
     {
         let mut call = Call::<UnitPart>::of(self, &mut seat.seat);
         let answer = call.claim_at(station);

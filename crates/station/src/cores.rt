@@ -1,11 +1,9 @@
 //! Cores.
-ghost use Rattle.std.specs.Prelude.{◌≡◌, ◌≤◌, ◌<◌, [], IfOk};
+ghost use Rattle.std.specs.Prelude.{◌≡◌, ◌≤◌, ◌<◌, IfOk};
 ghost use Rattle.ruu_words.specs.Fields.{tag_count};
-ghost use Rattle.ruu_words.specs.Places.{words_for};
 ghost use Rattle.ruu_words.specs.Openings.{IsOpening, opening_of, sizes_of};
-ghost use Rattle.ruu_words.specs.Views.{first_view};
 ghost use Rattle.ruu_words.specs.Rule.{IsStart};
-ghost use Rattle.station.specs.Making.{AreFirst, IsCore, IsNewCore, IsSetup};
+ghost use Rattle.station.specs.Making.{AreFirst, IsCore, IsFirstTable, IsNewCore, IsSetup};
 ghost use Rattle.station.specs.Seats.{core_of};
 
 use crate::seat::{BackSeat, FrontSeat, SeatOf, UnitSeat};
@@ -112,10 +110,8 @@ pub(crate) fn first_table(
     requires opening { IsOpening setup.now.program (sizes_of setup.now) (opening_of setup.now) }
     requires ring { setup.now.ring ≤ 32 }
     requires tag { setup.now.first_tag < tag_count }
-    ensures wide { IfOk result (λ t. t.0.shared.table_id.words ≡ words_for setup.now.ring) }
-    ensures key { IfOk result (λ t. t.0.shared.key ≡ setup.now) }
-    ensures seat { IfOk result (λ t. t.1.table_id ≡ t.0.shared.table_id) }
-    ensures view { IfOk result (λ t. t.1.me ≡ (first_view setup.now, [])) }
+    ensures { IfOk result (λ t. IsFirstTable setup.now t.0.shared.table_id t.0.shared.key
+        t.1.table_id t.1.me) }
 {
     let words = first_words(alloc, setup)?;
     Ok(Table::of_words(alloc, words.as_slice(), setup)?)
@@ -144,9 +140,8 @@ impl Core {
         requires core { IsCore table.shared.table_id.words setup setup.program setup.ring
             setup.queue setup.first_tag }
         requires opening { IsOpening setup.program (sizes_of setup) (opening_of setup) }
-        requires key { table.shared.key ≡ setup }
-        requires seat { first.table_id ≡ table.shared.table_id }
-        requires view { first.me ≡ (first_view setup, []) }
+        requires table { IsFirstTable setup table.shared.table_id table.shared.key
+            first.table_id first.me }
         ensures core { result.0 ≡ core_of table.shared.table_id setup }
         ensures seats { AreFirst result.0 result.1 result.2 result.3 }
     {

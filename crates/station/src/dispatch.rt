@@ -1,11 +1,10 @@
 //! Lets.
 ghost use Rattle.std.specs.Prelude.{◌≡◌, ◌<◌, ◌^◌, [], ◌∷◌};
-ghost use Rattle.inorder.specs.History.{unit_of};
-ghost use Rattle.inorder.specs.OneHistory.{Adds};
 ghost use Rattle.inorder.specs.Unit.{next_tag, recent};
 ghost use Rattle.ruu_words.specs.declared.rule.Draft.TheVariants.{Nothing};
-ghost use Rattle.station.specs.Calls.{IsSameCall, IsLetNow, MayLetNow, new_tag, let_place};
-ghost use Rattle.station.specs.Letting.{MayLetOut, let_of};
+ghost use Rattle.station.specs.Calls.{HasLetOut, IsAbout};
+ghost use Rattle.station.specs.Answers.{OnlyAdds, MayLetNow, unit_seen};
+ghost use Rattle.station.specs.Letting.{let_of};
 ghost use Rattle.station.specs.Seats.{IsSameSeat};
 
 use crate::answers::Tenant;
@@ -20,15 +19,9 @@ use ruu_words::{InfoWord, Place};
 impl<'a> Call<'a, FrontPart> {
     // Stores the words of the tenant, the station's last, and gives its tag.
     fn dispatch(&mut self, station: usize, tenant: Tenant) -> u32
-        requires place { station < self.old.core.sizes.ring }
-        requires draft { self.old.view.draft ≡ Nothing }
-        requires may { MayLetNow self.old tenant }
+        requires letting { IsAbout self.old station Nothing tenant }
         requires small { tenant.index < 2 ^ 31 }
-        requires station { let_place self.old ≡ station }
-        ensures same { IsSameCall self.old self.new }
-        ensures draft { self.new.view.draft ≡ Nothing }
-        ensures tag { result ≡ new_tag self.old }
-        ensures out { IsLetNow self.old self.new tenant }
+        ensures { HasLetOut self.old self.new tenant result }
     {
         let _ = &self.seat;
         let found = self.look(Place::Station(station));
@@ -57,13 +50,10 @@ impl Core {
     /// of a ring in program order, as in Sohi's register update unit.
     pub fn let_out(&self, seat: &mut FrontSeat, tenant: Tenant) -> u32
         requires core { seat.old.core ≡ self.now }
-        requires may { MayLetOut self.now.program self.now.sizes
-            (unit_of self.now.program self.now.sizes seat.old.seen) tenant }
+        requires may { MayLetNow tenant self.now seat.old }
         ensures kept { IsSameSeat seat.old seat.new }
-        ensures history { Adds self.now.program self.now.sizes seat.old.by seat.old.seen
-            seat.new.seen (let_of tenant ∷ []) }
-        ensures reply { result ≡ next_tag self.now.sizes
-            (recent (unit_of self.now.program self.now.sizes seat.old.seen)) }
+        ensures history { OnlyAdds (let_of tenant ∷ []) self.now seat.old seat.new }
+        ensures reply { result ≡ next_tag self.now.sizes (recent (unit_seen self.now seat.old)) }
     {
         let ring = self.ring;
         let station = seat.station;

@@ -1,11 +1,12 @@
 //! Reading calls.
 ghost use Rattle.std.specs.Prelude.{◌≡◌, ◌<◌, ◌≤◌, []};
-ghost use Rattle.inorder.specs.OneHistory.{Adds};
 ghost use Rattle.inorder.specs.Replies.{last_tag};
 ghost use Rattle.ruu_words.specs.Places.{IsPlace};
 ghost use Rattle.ruu_words.specs.Views.{IsCaller};
 ghost use Rattle.station.specs.Looking.{SeesInfo, SeesOperand, SeesStation, SeesWord};
+ghost use Rattle.station.specs.Renewals.{HasLooked};
 ghost use Rattle.station.specs.Seats.{IsSameSeat};
+ghost use Rattle.station.specs.Answers.{OnlyAdds};
 
 use crate::answers::{Seen, SourceState};
 use crate::call::Call;
@@ -23,12 +24,8 @@ impl Core {
     pub(crate) fn read<P: Part>(&self, seat: &mut SeatOf<P>, place: Place) -> u64
         requires core { seat.old.core ≡ self.now }
         requires place { IsPlace self.now.sizes.ring place }
-        ensures kept { IsSameSeat seat.old seat.new }
-        ensures woken { seat.new.woken ≡ seat.old.woken }
-        ensures heirs { seat.new.heirs ≡ seat.old.heirs }
+        ensures looked { HasLooked self.now seat.old seat.new }
         ensures caller { IsCaller P.role seat.old.by }
-        ensures history { Adds self.now.program self.now.sizes seat.old.by seat.old.seen
-            seat.new.seen [] }
         ensures reply { SeesWord self.now.program self.now.sizes seat.new.seen place result }
     {
         let mut call = Call::<P>::of(self, &mut seat.seat);
@@ -46,8 +43,7 @@ impl Core {
         ensures woken { seat.new.woken ≡ seat.old.woken }
         ensures heirs { seat.new.heirs ≡ seat.old.heirs }
         ensures caller { IsCaller P.role seat.old.by }
-        ensures history { Adds self.now.program self.now.sizes seat.old.by seat.old.seen
-            seat.new.seen [] }
+        ensures history { OnlyAdds [] self.now seat.old seat.new }
         ensures reply { SeesStation self.now.program self.now.sizes seat.new.seen station result }
         ensures tag { result.tag ≤ last_tag }
     {
@@ -63,8 +59,7 @@ impl Core {
         requires station { station < self.now.sizes.ring }
         ensures kept { IsSameSeat seat.old seat.new }
         ensures woken { seat.new.woken ≡ seat.old.woken }
-        ensures history { Adds self.now.program self.now.sizes seat.old.by seat.old.seen
-            seat.new.seen [] }
+        ensures history { OnlyAdds [] self.now seat.old seat.new }
         ensures reply { SeesInfo self.now.program self.now.sizes seat.new.seen station
             result.0 result.1 result.2 }
     {
@@ -83,8 +78,7 @@ impl Core {
         requires station { station < self.now.sizes.ring }
         ensures kept { IsSameSeat seat.old seat.new }
         ensures woken { seat.new.woken ≡ seat.old.woken }
-        ensures history { Adds self.now.program self.now.sizes seat.old.by seat.old.seen
-            seat.new.seen [] }
+        ensures history { OnlyAdds [] self.now seat.old seat.new }
         ensures reply { SeesOperand self.now.program self.now.sizes seat.new.seen station k result }
     {
         let word = self.read(seat, Place::Operand(station, k));

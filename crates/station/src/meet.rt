@@ -1,9 +1,10 @@
 //! What one caller has seen reaches another.
 ghost use Rattle.std.specs.Prelude.{◌≡◌, ◌≢◌, []};
 ghost use Rattle.inorder.specs.History.{StartsWith, own};
-ghost use Rattle.inorder.specs.OneHistory.{Adds};
 ghost use Rattle.ruu_words.specs.Views.{half, other_half};
+ghost use Rattle.station.specs.Renewals.{HasLooked};
 ghost use Rattle.station.specs.Seats.{IsSameSeat};
+ghost use Rattle.station.specs.Answers.{OnlyAdds};
 
 use crate::call::Call;
 use crate::cores::Core;
@@ -86,12 +87,8 @@ impl Core {
         requires from { from.old.core ≡ self.now }
         requires to { to.old.core ≡ self.now }
         ensures from { from.new ≡ from.old }
-        ensures kept { IsSameSeat to.old to.new }
-        ensures history { Adds self.now.program self.now.sizes to.old.by to.old.seen
-            to.new.seen [] }
+        ensures looked { HasLooked self.now to.old to.new }
         ensures told { StartsWith to.new.seen from.old.seen }
-        ensures heirs { to.new.heirs ≡ to.old.heirs }
-        ensures woken { to.new.woken ≡ to.old.woken }
     {
         let note = self.table.shared.split_seat::<NoteCut>(&mut from.seat);
         self.table.shared.join_seat::<Told>(&mut to.seat, note);
@@ -108,14 +105,12 @@ impl Core {
         ensures one_kept { IsSameSeat one.old one.new }
         ensures one_heirs { one.new.heirs ≡ one.old.heirs }
         ensures one_woken { one.new.woken ≡ one.old.woken }
-        ensures one_history { Adds self.now.program self.now.sizes one.old.by one.old.seen
-            one.new.seen [] }
+        ensures one_history { OnlyAdds [] self.now one.old one.new }
         ensures one_told { StartsWith one.new.seen other.old.seen }
         ensures other_kept { IsSameSeat other.old other.new }
         ensures other_heirs { other.new.heirs ≡ other.old.heirs }
         ensures other_woken { other.new.woken ≡ other.old.woken }
-        ensures other_history { Adds self.now.program self.now.sizes other.old.by other.old.seen
-            other.new.seen [] }
+        ensures other_history { OnlyAdds [] self.now other.old other.new }
         ensures other_told { StartsWith other.new.seen one.new.seen }
     {
         self.tell(other, one);

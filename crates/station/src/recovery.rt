@@ -1,8 +1,9 @@
 //! Recovery from a miss.
 ghost use Rattle.std.specs.Prelude.{◌≡◌, ◌<◌};
 ghost use Rattle.ruu_words.specs.declared.rule.Draft.TheVariants.{Nothing};
-ghost use Rattle.station.specs.Calls.{IsSameCall, MendsAt, SquashesAt, let_place};
-ghost use Rattle.station.specs.Recovery.{IsMended, WasSquashed, SeesYoungest, SeesMiss};
+ghost use Rattle.station.specs.Calls.{LeadsTo, let_place};
+ghost use Rattle.station.specs.Answers.{MendsAt, SquashesAt};
+ghost use Rattle.station.specs.Recovery.{SeesYoungest, SeesMiss};
 ghost use Rattle.station.specs.Seats.{IsSameSeat};
 
 use crate::call::Call;
@@ -16,14 +17,10 @@ use ruu_words::rule::View;
 impl<'a> Call<'a, FrontPart> {
     // Looks at the miss for where it goes on, and writes that it is done.
     fn mend_miss(&mut self, station: usize)
-        requires place { station < self.old.core.sizes.ring }
         requires draft { self.old.view.draft ≡ Nothing }
         requires miss { SeesMiss self.old.core.program self.old.core.sizes self.old.view.seen
             station }
-        ensures same { IsSameCall self.old self.new }
-        ensures draft { self.new.view.draft ≡ Nothing }
-        ensures mended { MendsAt self.old self.new station }
-        ensures next { let_place self.new ≡ let_place self.old }
+        ensures { LeadsTo self.old self.new (let_place self.old) (MendsAt station) }
     {
         let _ = &self.seat;
         let found = self.look(Place::Station(station));
@@ -40,11 +37,8 @@ impl<'a> Call<'a, FrontPart> {
         requires draft { self.old.view.draft ≡ Nothing }
         requires may { SeesYoungest self.old.core.program self.old.core.sizes self.old.view.seen }
         requires next { next ≡ let_place self.old }
-        ensures same { IsSameCall self.old self.new }
-        ensures draft { self.new.view.draft ≡ Nothing }
         ensures inside { result.0 < self.old.core.sizes.ring }
-        ensures squashed { SquashesAt self.old self.new result.0 result.1 }
-        ensures next { result.0 ≡ let_place self.new }
+        ensures squashed { LeadsTo self.old self.new result.0 (SquashesAt result.0 result.1) }
     {
         let core = self.core;
         let station = (next + core.ring - 1) % core.ring;
@@ -64,8 +58,7 @@ impl Core {
         requires core { seat.old.core ≡ self.now }
         requires may { SeesYoungest self.now.program self.now.sizes seat.old.seen }
         ensures kept { IsSameSeat seat.old seat.new }
-        ensures reply { WasSquashed self.now.program self.now.sizes seat.old.by
-            result.0 result.1 seat.old.seen seat.new.seen }
+        ensures reply { SquashesAt result.0 result.1 self.now seat.old seat.new }
     {
         let next = seat.station;
         let mut call = Call::<FrontPart>::of(self, &mut seat.seat);
@@ -84,8 +77,7 @@ impl Core {
         requires station { station < self.now.sizes.ring }
         requires miss { SeesMiss self.now.program self.now.sizes seat.old.seen station }
         ensures kept { IsSameSeat seat.old seat.new }
-        ensures history { IsMended self.now.program self.now.sizes seat.old.by
-            station seat.old.seen seat.new.seen }
+        ensures history { MendsAt station self.now seat.old seat.new }
     {
         let mut call = Call::<FrontPart>::of(self, &mut seat.seat);
         call.mend_miss(station);

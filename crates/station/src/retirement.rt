@@ -1,8 +1,9 @@
 //! Retirement.
 ghost use Rattle.std.specs.Prelude.{◌≡◌, ◌<◌, false};
 ghost use Rattle.ruu_words.specs.declared.station.StationState.TheVariants.{Stop};
-ghost use Rattle.station.specs.Calls.{AnswersRetire, HeadMoves, IsSameCall, seen_unit};
-ghost use Rattle.station.specs.Retirement.{HasAccess, HasEnd, IsLastOf, MayLeave, RetireAnswers, is_stop, kept_value};
+ghost use Rattle.station.specs.Calls.{RetiresFrom, seen_unit};
+ghost use Rattle.station.specs.Answers.{AnswersRetire};
+ghost use Rattle.station.specs.Retirement.{HasAccess, HasEnd, IsLastOf, MayLeave, is_stop, kept_value};
 ghost use Rattle.station.specs.Seats.{IsAtHead, IsSameSeat};
 
 use crate::answers::{Last, Retire};
@@ -47,12 +48,8 @@ fn ends(last: Last) -> bool
 impl<'a> Call<'a, BackPart> {
     // Writes that the oldest live tenant has left.
     fn leave(&mut self, leaving: Leaving) -> Retire
-        requires place { leaving.station < self.old.core.sizes.ring }
-        requires may { MayLeave self.old.core.program self.old.core.sizes self.old.view.seen
-            leaving }
-        ensures same { IsSameCall self.old self.new }
-        ensures reply { AnswersRetire self.old self.new result }
-        ensures head { HeadMoves self.new leaving.station result }
+        requires { MayLeave self.old.core.program self.old.core.sizes self.old.view.seen leaving }
+        ensures { RetiresFrom self.old self.new leaving.station result }
     {
         let _ = &self.seat;
         let Leaving {
@@ -76,12 +73,8 @@ impl<'a> Call<'a, BackPart> {
 
     // A store with its data retires, and a load does not before it has its value.
     fn retire_access(&mut self, access: Access) -> Retire
-        requires place { access.station < self.old.core.sizes.ring }
-        requires access { HasAccess self.old.core.program self.old.core.sizes self.old.view.seen
-            access }
-        ensures same { IsSameCall self.old self.new }
-        ensures reply { AnswersRetire self.old self.new result }
-        ensures head { HeadMoves self.new access.station result }
+        requires { HasAccess self.old.core.program self.old.core.sizes self.old.view.seen access }
+        ensures { RetiresFrom self.old self.new access.station result }
     {
         let Access {
             station,
@@ -116,9 +109,7 @@ impl<'a> Call<'a, BackPart> {
         requires place { station < self.old.core.sizes.ring }
         requires end { HasEnd self.old.core.program self.old.core.sizes self.old.view.seen
             station found }
-        ensures same { IsSameCall self.old self.new }
-        ensures reply { AnswersRetire self.old self.new result }
-        ensures head { HeadMoves self.new station result }
+        ensures { RetiresFrom self.old self.new station result }
     {
         let _ = &self.seat;
         let info = self.read_info(station);
@@ -149,9 +140,7 @@ impl<'a> Call<'a, BackPart> {
     fn retire_head(&mut self, station: usize) -> Retire
         requires place { station < self.old.core.sizes.ring }
         requires head { IsAtHead self.old.core.sizes (seen_unit self.old) station false }
-        ensures same { IsSameCall self.old self.new }
-        ensures reply { AnswersRetire self.old self.new result }
-        ensures head { HeadMoves self.new station result }
+        ensures { RetiresFrom self.old self.new station result }
     {
         let word = self.look_at_head(station);
         let found = StationWord::unpack(word);
@@ -168,9 +157,7 @@ impl<'a> Call<'a, BackPart> {
     fn retire_from(&mut self, station: usize, over: bool) -> Retire
         requires place { station < self.old.core.sizes.ring }
         requires head { IsAtHead self.old.core.sizes (seen_unit self.old) station over }
-        ensures same { IsSameCall self.old self.new }
-        ensures reply { AnswersRetire self.old self.new result }
-        ensures head { HeadMoves self.new station result }
+        ensures { RetiresFrom self.old self.new station result }
     {
         if over {
             self.tell_over(station);
@@ -181,15 +168,14 @@ impl<'a> Call<'a, BackPart> {
 }
 
 impl Core {
-    /// Retires the oldest live tenant, if it is done, a store with its address and data, or a stop.
+    /// RetiresFrom the oldest live tenant, if it is done, a store with its address and data, or a stop.
     /// This is commit, the in-order release from the head of Sohi's register update unit, or of the
     /// reorder buffer of Smith and Pleszkun.
     pub fn retire(&self, seat: &mut BackSeat) -> Retire
         requires core { seat.old.core ≡ self.now }
         ensures kept { IsSameSeat seat.old seat.new }
         ensures woken { seat.new.woken ≡ seat.old.woken }
-        ensures reply { RetireAnswers self.now.program self.now.sizes seat.old.by seat.old.seen
-            seat.new.seen result }
+        ensures reply { AnswersRetire result self.now seat.old seat.new }
     {
         let station = seat.station;
         let over = seat.over;

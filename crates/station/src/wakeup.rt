@@ -1,8 +1,9 @@
 //! Asking for a source.
 ghost use Rattle.std.specs.Prelude.{◌≡◌, ◌<◌};
 ghost use Rattle.ruu_words.specs.declared.rule.Draft.TheVariants.{Nothing};
-ghost use Rattle.station.specs.Calls.{AnswersAsk, IsSameCall, let_place};
-ghost use Rattle.station.specs.Asking.{AskAnswers, MayAsk};
+ghost use Rattle.station.specs.Calls.{LeadsTo, let_place};
+ghost use Rattle.station.specs.Answers.{AnswersAsk};
+ghost use Rattle.station.specs.Asking.{MayAsk};
 ghost use Rattle.station.specs.Seats.{IsSameSeat};
 
 use crate::answers::Ask;
@@ -18,15 +19,10 @@ use ruu_words::rule::View;
 impl<'a> Call<'a, FrontPart> {
     // The link first, and the look behind it: a creator that finishes in between finds the link.
     fn ask_creator(&mut self, of: (usize, u32), k: Source, from: (usize, u32)) -> Ask
-        requires to { of.0 < self.old.core.sizes.ring }
-        requires from { from.0 < self.old.core.sizes.ring }
         requires draft { self.old.view.draft ≡ Nothing }
         requires may { MayAsk self.old.core.program self.old.core.sizes self.old.view.seen
             of.0 of.1 k from.0 from.1 }
-        ensures same { IsSameCall self.old self.new }
-        ensures draft { self.new.view.draft ≡ Nothing }
-        ensures reply { AnswersAsk self.old self.new of k from result }
-        ensures next { let_place self.new ≡ let_place self.old }
+        ensures { LeadsTo self.old self.new (let_place self.old) (AnswersAsk of k from result) }
     {
         let _ = &self.seat;
         let link = link_word(from.1, of.1);
@@ -61,8 +57,7 @@ impl Core {
         requires may { MayAsk self.now.program self.now.sizes seat.old.seen
             station tag k from.0 from.1 }
         ensures kept { IsSameSeat seat.old seat.new }
-        ensures reply { AskAnswers self.now.program self.now.sizes seat.old.by seat.old.seen
-            seat.new.seen station tag k from.0 from.1 result }
+        ensures reply { AnswersAsk (station, tag) k from result self.now seat.old seat.new }
     {
         let mut call = Call::<FrontPart>::of(self, &mut seat.seat);
         let answer = call.ask_creator((station, tag), k, from);

@@ -1,6 +1,6 @@
 //! A value is carried along the links of its station.
 ghost use Rattle.std.specs.Prelude.{◌≡◌, ◌<◌, ◌≤◌, true};
-ghost use Rattle.station.specs.Calls.{Carries, HasComeTo, MadeValue, IsSameCall, IsLegalCall, Serves, WalksOf, Woke};
+ghost use Rattle.station.specs.Calls.{Carried, Carries, HasComeTo, IsLegalCall, MadeValue, Serves, WalksOf};
 ghost use Rattle.station.specs.Carrying.{IsWriter};
 ghost use Rattle.station.specs.Waking.{IsSet, IsWith};
 
@@ -26,13 +26,12 @@ impl<'a, P: Part> Call<'a, P> {
     // where that has got it by this.
     fn serve(&mut self, from: (usize, u32), to: usize, k: Source, value: u32) -> bool
         requires tags { 1 ≤ self.old.core.sizes.first_tag }
-        requires from { from.0 < self.old.core.sizes.ring }
         requires to { to < self.old.core.sizes.ring }
         requires made { MadeValue self.old from value }
-        ensures same { IsSameCall self.old self.new }
-        ensures served { Serves self.old self.new from to k }
-        ensures woken { Woke self.old self.new (λ s. (result ≡ true) × (s ≡ to)) }
+        ensures { Carried self.old self.new (Serves from to k)
+            (λ s. (result ≡ true) × (s ≡ to)) }
     {
+        let _ = &self.seat;
         let link = self.read_link(from.0, to, k);
         if producer_in(link) == from.1 {
             let consumer = consumer_in(link);
@@ -49,12 +48,9 @@ impl<'a, P: Part> Call<'a, P> {
     /// the last one may still need its delivery then, so one more look at the station has the mark.
     /// The answer has a bit for each station that the value was taken to.
     pub(crate) fn walk(&mut self, from: (usize, u32), value: u32) -> u32
-        requires from { from.0 < self.old.core.sizes.ring }
         requires writer { IsWriter P.role }
         requires made { MadeValue self.old from value }
-        ensures same { IsSameCall self.old self.new }
-        ensures walked { WalksOf self.old self.new from }
-        ensures woken { Woke self.old self.new (IsSet result) }
+        ensures { Carried self.old self.new (WalksOf from) (IsSet result) }
     {
         let core = self.core;
         let mut woken = 0;
@@ -69,13 +65,10 @@ impl<'a, P: Part> Call<'a, P> {
 
     /// The same where the outcome is a value; no other is carried.
     pub(crate) fn carry(&mut self, from: (usize, u32), outcome: Outcome) -> u32
-        requires from { from.0 < self.old.core.sizes.ring }
         requires writer { IsWriter P.role }
         requires legal { IsLegalCall self.old }
         requires made { HasComeTo self.old from outcome }
-        ensures same { IsSameCall self.old self.new }
-        ensures carried { Carries self.old self.new from outcome }
-        ensures woken { Woke self.old self.new (IsSet result) }
+        ensures { Carried self.old self.new (Carries from outcome) (IsSet result) }
     {
         match outcome {
             Outcome::Value(value) => self.walk(from, value),

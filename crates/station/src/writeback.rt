@@ -1,10 +1,11 @@
 //! Results: into their station, and then along the links.
 ghost use Rattle.std.specs.Prelude.{◌≡◌, ◌<◌};
-ghost use Rattle.station.specs.Calls.{AnswersFinish, AnswersSettle, IsSameCall, Woke};
+ghost use Rattle.station.specs.Calls.{Carried};
+ghost use Rattle.station.specs.Answers.{AnswersFinish, AnswersSettle, Woke};
 ghost use Rattle.station.specs.Claiming.{Holds};
 ghost use Rattle.station.specs.Seats.{IsSameSeat};
-ghost use Rattle.station.specs.Waking.{HasWoken, IsSet};
-ghost use Rattle.station.specs.Writeback.{FinishAnswers, MaySettle, SettleAnswers, job_outcome};
+ghost use Rattle.station.specs.Waking.{IsSet};
+ghost use Rattle.station.specs.Writeback.{MaySettle, job_outcome};
 
 use crate::answers::{Finish, Job, Settle};
 use crate::call::Call;
@@ -23,9 +24,7 @@ impl<'a> Call<'a, UnitPart> {
         requires job { Holds self.old.core.program self.old.core.sizes self.old.view.by
             self.old.view.seen job }
         requires outcome { outcome ≡ job_outcome self.old.core.program job }
-        ensures same { IsSameCall self.old self.new }
-        ensures reply { AnswersFinish self.old self.new job result.0 }
-        ensures woken { Woke self.old self.new (IsSet result.1) }
+        ensures { Carried self.old self.new (AnswersFinish job result.0) (IsSet result.1) }
     {
         let _ = &self.seat;
         let Job {
@@ -53,12 +52,10 @@ impl<'a> Call<'a, BackPart> {
     // The look tells the address that stands in the word. Where another word stands there, the load
     // was squashed: the exchange fails, and says so.
     fn settle_load(&mut self, station: usize, tag: u32, value: u32) -> (Settle, u32)
-        requires place { station < self.old.core.sizes.ring }
-        requires may { MaySettle self.old.core.program self.old.core.sizes self.old.view.seen
+        requires { MaySettle self.old.core.program self.old.core.sizes self.old.view.seen
             station tag value }
-        ensures same { IsSameCall self.old self.new }
-        ensures reply { AnswersSettle self.old self.new station tag result.0 }
-        ensures woken { Woke self.old self.new (IsSet result.1) }
+        ensures { Carried self.old self.new (AnswersSettle station tag result.0)
+            (IsSet result.1) }
     {
         let _ = &self.seat;
         let seen = self.look(Place::Station(station));
@@ -84,10 +81,8 @@ impl Core {
         requires outcome { outcome ≡ job_outcome self.now.program job }
         ensures kept { IsSameSeat seat.old seat.new }
         ensures heirs { seat.new.heirs ≡ seat.old.heirs }
-        ensures reply { FinishAnswers self.now.program self.now.sizes seat.old.by seat.old.seen
-            seat.new.seen job result }
-        ensures woken { HasWoken self.now.program self.now.sizes seat.old.by seat.old.seen
-            seat.new.seen seat.new.woken }
+        ensures reply { AnswersFinish job result self.now seat.old seat.new }
+        ensures woken { Woke (IsSet seat.new.woken) self.now seat.old seat.new }
     {
         let mut call = Call::<UnitPart>::of(self, &mut seat.seat);
         let written = call.finish_job(job, outcome);
@@ -104,10 +99,8 @@ impl Core {
         requires station { station < self.now.sizes.ring }
         requires may { MaySettle self.now.program self.now.sizes seat.old.seen station tag value }
         ensures kept { IsSameSeat seat.old seat.new }
-        ensures reply { SettleAnswers self.now.program self.now.sizes seat.old.by seat.old.seen
-            seat.new.seen station tag result }
-        ensures woken { HasWoken self.now.program self.now.sizes seat.old.by seat.old.seen
-            seat.new.seen seat.new.woken }
+        ensures reply { AnswersSettle station tag result self.now seat.old seat.new }
+        ensures woken { Woke (IsSet seat.new.woken) self.now seat.old seat.new }
     {
         let mut call = Call::<BackPart>::of(self, &mut seat.seat);
         let settled = call.settle_load(station, tag, value);

@@ -8,6 +8,7 @@ ghost use Rattle.ruu_words.specs.Kinds.{Claims, IsAny, Peeks, ReadsSource, Reche
 ghost use Rattle.inorder.specs.Callers.{IsReady};
 ghost use Rattle.station.specs.Claiming.{IsNext};
 ghost use Rattle.station.specs.Calls.{Saw, TakesStep};
+ghost use Rattle.station.specs.Writeback.{AreFates};
 
 use crate::call::Call;
 use crate::seat::UnitPart;
@@ -26,18 +27,17 @@ impl<'a> Call<'a, UnitPart> {
 
     /// Looks again: the open tenant's word is still there, or it has moved.
     pub(crate) fn recheck(&mut self, station: usize, old: u64) -> u64
-        requires place { station < self.old.core.sizes.ring }
         requires word { IsStation (live_word (tag_of old) Open) old }
         requires seen { Saw self.old station (tag_of old) IsAny }
-        ensures { TakesStep self.old self.new (λ P C. Rechecks P C station (tag_of old) old result) }
+        ensures { TakesStep self.old self.new
+            (λ P C. Rechecks P C station (tag_of old) old result) }
     {
         self.load::<Brand, (usize, u64)>(Place::Station(station), (station, old))
     }
 
     /// Reads a needed source: it has its value, or waits, or its tenant has left.
     pub(crate) fn read_source(&mut self, station: usize, tag: u32, k: Source) -> u64
-        requires place { station < self.old.core.sizes.ring }
-        requires seen { Saw self.old station tag (IsNext self.old.core.program k) }
+        requires { Saw self.old station tag (IsNext self.old.core.program k) }
         ensures { TakesStep self.old self.new (λ P C. ReadsSource P C station tag k result) }
     {
         let place = Place::Operand(station, k);
@@ -46,9 +46,7 @@ impl<'a> Call<'a, UnitPart> {
 
     /// Exchanges the word of an open tenant for that of a busy one.
     pub(crate) fn claim_tenant(&mut self, station: usize, old: u64, new: u64) -> u64
-        requires place { station < self.old.core.sizes.ring }
-        requires old { IsStation (live_word (tag_of old) Open) old }
-        requires new { IsStation (live_word (tag_of old) (Busy self.old.view.by)) new }
+        requires words { AreFates Open (Busy self.old.view.by) old new }
         requires seen { Saw self.old station (tag_of old) (IsReady self.old.core.program) }
         ensures { TakesStep self.old self.new (λ P C. Claims P C station (tag_of old) old result) }
     {

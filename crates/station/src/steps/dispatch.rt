@@ -1,14 +1,13 @@
 //! The stores of a let: the info word, both operand words, and last the station's.
-ghost use Rattle.std.specs.Prelude.{◌≡◌, ◌<◌};
+ghost use Rattle.std.specs.Prelude.{◌<◌};
 ghost use Rattle.inorder.specs.StationWords.{live_word};
 ghost use Rattle.inorder.specs.Tenants.{Open};
 ghost use Rattle.ruu_words.specs.declared.rule.Draft.TheVariants.{Nothing};
 ghost use Rattle.ruu_words.specs.declared.rule.Stage.TheVariants.{BothOperands, FirstOperand, Info};
 ghost use Rattle.ruu_words.specs.Content.{IsOperandOf, IsStation};
-ghost use Rattle.ruu_words.specs.Fields.{half_of, index_of, predicted_of};
 ghost use Rattle.ruu_words.specs.Kinds.{Drafts};
-ghost use Rattle.station.specs.Letting.{draft_of, given_value};
-ghost use Rattle.station.specs.Calls.{LetsTenant, MayLetNow, TakesStep, new_operand, new_tag, let_place};
+ghost use Rattle.station.specs.Letting.{ShowsTenant, draft_of, given_value};
+ghost use Rattle.station.specs.Calls.{IsAbout, LetsTenant, TakesStep, new_operand, new_tag};
 
 use crate::answers::Tenant;
 use crate::call::Call;
@@ -20,13 +19,8 @@ use std::marker::Brand;
 impl<'a> Call<'a, FrontPart> {
     /// Stores the info word of the tenant that is about to be let.
     pub(crate) fn store_info(&mut self, station: usize, word: u64, tenant: Tenant)
-        requires place { station < self.old.core.sizes.ring }
-        requires draft { self.old.view.draft ≡ Nothing }
-        requires may { MayLetNow self.old tenant }
-        requires station { let_place self.old ≡ station }
-        requires half { half_of word ≡ tenant.half }
-        requires index { index_of word ≡ tenant.index }
-        requires predicted { predicted_of word ≡ tenant.predicted }
+        requires letting { IsAbout self.old station Nothing tenant }
+        requires word { ShowsTenant tenant word }
         ensures { TakesStep self.old self.new (λ P C. Drafts P C (draft_of Info tenant)) }
     {
         self.store::<Brand, Tenant>(Place::Info(station), word, tenant);
@@ -34,10 +28,7 @@ impl<'a> Call<'a, FrontPart> {
 
     /// Stores the word of its first operand.
     pub(crate) fn store_first(&mut self, station: usize, word: u64, tenant: Tenant)
-        requires place { station < self.old.core.sizes.ring }
-        requires draft { self.old.view.draft ≡ draft_of Info tenant }
-        requires may { MayLetNow self.old tenant }
-        requires station { let_place self.old ≡ station }
+        requires letting { IsAbout self.old station (draft_of Info tenant) tenant }
         requires word { IsOperandOf (new_operand self.old (given_value tenant.sources.0)) word }
         ensures { TakesStep self.old self.new (λ P C. Drafts P C (draft_of FirstOperand tenant)) }
     {
@@ -47,10 +38,7 @@ impl<'a> Call<'a, FrontPart> {
 
     /// Stores the word of its second operand.
     pub(crate) fn store_second(&mut self, station: usize, word: u64, tenant: Tenant)
-        requires place { station < self.old.core.sizes.ring }
-        requires draft { self.old.view.draft ≡ draft_of FirstOperand tenant }
-        requires may { MayLetNow self.old tenant }
-        requires station { let_place self.old ≡ station }
+        requires letting { IsAbout self.old station (draft_of FirstOperand tenant) tenant }
         requires word { IsOperandOf (new_operand self.old (given_value tenant.sources.1)) word }
         ensures { TakesStep self.old self.new (λ P C. Drafts P C (draft_of BothOperands tenant)) }
     {
@@ -60,10 +48,7 @@ impl<'a> Call<'a, FrontPart> {
 
     /// Stores the word of its station: the tenant is let.
     pub(crate) fn let_tenant(&mut self, station: usize, word: u64, tenant: Tenant)
-        requires place { station < self.old.core.sizes.ring }
-        requires draft { self.old.view.draft ≡ draft_of BothOperands tenant }
-        requires may { MayLetNow self.old tenant }
-        requires station { let_place self.old ≡ station }
+        requires letting { IsAbout self.old station (draft_of BothOperands tenant) tenant }
         requires word { IsStation (live_word (new_tag self.old) Open) word }
         ensures { TakesStep self.old self.new (LetsTenant tenant) }
     {

@@ -16,7 +16,6 @@ use std::marker::Brand;
 impl<'a> Call<'a, FrontPart> {
     /// Swaps the word of a miss for that of a tenant that is done.
     pub(crate) fn mend_tenant(&mut self, station: usize, word: u64)
-        requires place { station < self.old.core.sizes.ring }
         requires draft { self.old.view.draft ≡ Nothing }
         requires word { IsStation (live_word (tag_of word) (Done (value_of word))) word }
         requires miss { HasMiss self.old.core.program self.old.core.sizes self.old.view.seen
@@ -28,7 +27,6 @@ impl<'a> Call<'a, FrontPart> {
 
     /// Swaps the word of the youngest live tenant for that of a free station.
     pub(crate) fn squash_tenant(&mut self, station: usize, tag: u32, word: u64)
-        requires place { station < self.old.core.sizes.ring }
         requires draft { self.old.view.draft ≡ Nothing }
         requires word { IsStation (record { tag = suc tag; state = IsFree; value = None }) word }
         requires youngest { HasYoungest self.old.core.program self.old.core.sizes

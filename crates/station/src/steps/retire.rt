@@ -61,7 +61,6 @@ impl<'a> Call<'a, BackPart> {
 
     /// Looks at it again, and tells that the load cannot retire before it has its value.
     pub(crate) fn tell_waiting(&mut self, access: Access)
-        requires place { access.station < self.old.core.sizes.ring }
         requires access { HasAccess self.old.core.program self.old.core.sizes self.old.view.seen
             access }
         requires load { kind (instr_of self.old.core.program access.index).op ≢ Stores }
@@ -73,9 +72,7 @@ impl<'a> Call<'a, BackPart> {
 
     /// Reads a store's data, and tells where it is not there.
     pub(crate) fn read_data(&mut self, access: Access) -> u64
-        requires place { access.station < self.old.core.sizes.ring }
-        requires access { HasAccess self.old.core.program self.old.core.sizes self.old.view.seen
-            access }
+        requires { HasAccess self.old.core.program self.old.core.sizes self.old.view.seen access }
         ensures { TakesStep self.old self.new (λ P C. FindsData P C access result) }
     {
         let place = Place::Operand(access.station, Source::Second);
@@ -84,7 +81,6 @@ impl<'a> Call<'a, BackPart> {
 
     /// Swaps the word of the oldest live tenant for that of a free station.
     pub(crate) fn retire_tenant(&mut self, leaving: Leaving, word: u64)
-        requires place { leaving.station < self.old.core.sizes.ring }
         requires may { MayLeave self.old.core.program self.old.core.sizes self.old.view.seen
             leaving }
         requires word { IsStation (left_word leaving) word }

@@ -1,11 +1,10 @@
 //! The steps of a question: the link's store, the look at its creator, and the exchange of the operand.
 ghost use Rattle.std.specs.Prelude.{◌≡◌, ◌<◌};
 ghost use Rattle.ruu_words.specs.declared.rule.Draft.TheVariants.{Nothing};
-ghost use Rattle.ruu_words.specs.Content.{IsOperandOf};
 ghost use Rattle.ruu_words.specs.Fields.{pack_link, tag_of, value_of};
 ghost use Rattle.station.specs.Asking.{MayAsk};
 ghost use Rattle.station.specs.Wakeup.{CanAnswer, Ends, Finds, HasAskedFrom, Links};
-ghost use Rattle.station.specs.Writeback.{val_word, wait_word};
+ghost use Rattle.station.specs.Writeback.{AreOperands};
 ghost use Rattle.station.specs.Calls.{TakesStep};
 
 use crate::call::Call;
@@ -17,8 +16,6 @@ use std::marker::Brand;
 impl<'a> Call<'a, FrontPart> {
     /// Stores the link from the creator to source k of a tenant, both by station and tag.
     pub(crate) fn store_link(&mut self, of: (usize, u32), k: Source, from: (usize, u32), link: u64)
-        requires to { of.0 < self.old.core.sizes.ring }
-        requires from { from.0 < self.old.core.sizes.ring }
         requires draft { self.old.view.draft ≡ Nothing }
         requires may { MayAsk self.old.core.program self.old.core.sizes self.old.view.seen
             of.0 of.1 k from.0 from.1 }
@@ -32,7 +29,6 @@ impl<'a> Call<'a, FrontPart> {
 
     /// Looks at the creator's station: it tells that the source was asked for in time, or its value.
     pub(crate) fn look_at_creator(&mut self, of: (usize, u32), k: Source, from: (usize, u32)) -> u64
-        requires from { from.0 < self.old.core.sizes.ring }
         requires draft { self.old.view.draft ≡ Nothing }
         requires asked { HasAskedFrom self.old.core.program self.old.core.sizes self.old.view.seen
             of.0 of.1 k from.0 from.1 }
@@ -45,10 +41,8 @@ impl<'a> Call<'a, FrontPart> {
 
     /// Exchanges the word of an operand that waits for that of its value.
     pub(crate) fn take_value(&mut self, station: usize, k: Source, old: u64, new: u64) -> u64
-        requires place { station < self.old.core.sizes.ring }
         requires draft { self.old.view.draft ≡ Nothing }
-        requires old { IsOperandOf (wait_word (tag_of old)) old }
-        requires new { IsOperandOf (val_word (tag_of old) (value_of new)) new }
+        requires words { AreOperands old new }
         requires answer { CanAnswer self.old.core.program self.old.core.sizes self.old.view.seen
             station (tag_of old) k (value_of new) }
         ensures { TakesStep self.old self.new (λ P C. Ends P C station (tag_of old) k old result) }

@@ -11,7 +11,6 @@ use std::marker::Brand;
 impl<'a, P: Part> Call<'a, P> {
     /// Looks at the producer's station once all are served.
     pub(crate) fn end_walk(&mut self, station: usize, tag: u32, value: u32)
-        requires place { station < self.old.core.sizes.ring }
         requires writer { IsWriter P.role }
         requires served { IsServedAll self.old.core.program self.old.core.sizes self.old.view.seen
             station tag value }

@@ -1,12 +1,12 @@
 //! The steps of a writeback and of a wakeup: a result goes into its station, then along the links.
 ghost use Rattle.std.specs.Prelude.{◌<◌};
-ghost use Rattle.inorder.specs.StationWords.{live_word};
 ghost use Rattle.inorder.specs.Tenants.{Addr, Busy, Done};
 ghost use Rattle.inorder.specs.Callers.{HasJob};
-ghost use Rattle.ruu_words.specs.Content.{IsOperandOf, IsStation};
+ghost use Rattle.ruu_words.specs.declared.place.Place.TheVariants.{Link};
+ghost use Rattle.ruu_words.specs.Places.{IsPlace};
 ghost use Rattle.ruu_words.specs.Fields.{tag_of, value_of};
 ghost use Rattle.ruu_words.specs.Kinds.{Delivers, Finishes, ReadsLink, Settles, fate_of};
-ghost use Rattle.station.specs.Writeback.{CanDeliver, CanSettle, val_word, wait_word};
+ghost use Rattle.station.specs.Writeback.{AreFates, AreOperands, CanDeliver, CanSettle};
 ghost use Rattle.station.specs.Calls.{HasOne, TakesStep};
 
 use crate::call::Call;
@@ -26,9 +26,7 @@ impl<'a> Call<'a, UnitPart> {
         predicted: u32,
         outcome: Outcome,
     ) -> u64
-        requires place { station < self.old.core.sizes.ring }
-        requires old { IsStation (live_word (tag_of old) (Busy self.old.view.by)) old }
-        requires new { IsStation (live_word (tag_of old) (fate_of predicted outcome)) new }
+        requires words { AreFates (Busy self.old.view.by) (fate_of predicted outcome) old new }
         requires job { HasOne self.old station (tag_of old)
             (HasJob self.old.core.program self.old.view.by predicted outcome) }
         ensures { TakesStep self.old self.new
@@ -42,9 +40,7 @@ impl<'a> Call<'a, UnitPart> {
 impl<'a> Call<'a, BackPart> {
     /// Exchanges the word of a load with its address for that of its value.
     pub(crate) fn settle_tenant(&mut self, station: usize, old: u64, new: u64) -> u64
-        requires place { station < self.old.core.sizes.ring }
-        requires old { IsStation (live_word (tag_of old) (Addr (value_of old))) old }
-        requires new { IsStation (live_word (tag_of old) (Done (value_of new))) new }
+        requires words { AreFates (Addr (value_of old)) (Done (value_of new)) old new }
         requires load { CanSettle self.old.core.program self.old.core.sizes self.old.view.seen
             station (tag_of old) (value_of old) (value_of new) }
         ensures { TakesStep self.old self.new (λ P C. Settles P C station (tag_of old) old result) }
@@ -56,8 +52,7 @@ impl<'a> Call<'a, BackPart> {
 impl<'a, P: Part> Call<'a, P> {
     /// Reads a link from a producer's station to a source of a consumer's.
     pub(crate) fn read_link(&mut self, from: usize, to: usize, k: Source) -> u64
-        requires from { from < self.old.core.sizes.ring }
-        requires to { to < self.old.core.sizes.ring }
+        requires { IsPlace self.old.core.sizes.ring (Link from to k) }
         ensures { TakesStep self.old self.new (λ P C. ReadsLink P C from to k result) }
     {
         let place = Place::Link(from, to, k);
@@ -66,12 +61,11 @@ impl<'a, P: Part> Call<'a, P> {
 
     /// Takes a value along a link, if its consumer still waits.
     pub(crate) fn deliver(&mut self, station: usize, k: Source, old: u64, new: u64) -> u64
-        requires place { station < self.old.core.sizes.ring }
-        requires old { IsOperandOf (wait_word (tag_of old)) old }
-        requires new { IsOperandOf (val_word (tag_of old) (value_of new)) new }
+        requires words { AreOperands old new }
         requires link { CanDeliver self.old.core.program self.old.core.sizes self.old.view.seen
             station k (tag_of old) (value_of new) }
-        ensures { TakesStep self.old self.new (λ P C. Delivers P C station k (tag_of old) old result) }
+        ensures { TakesStep self.old self.new
+            (λ P C. Delivers P C station k (tag_of old) old result) }
     {
         let place = Place::Operand(station, k);
         self.exchange::<Brand, (usize, Source)>(place, old, new, (station, k))

@@ -3,8 +3,15 @@ use mathlib.Core.Option.{none}
 use prog.Atomic.{either}
 use Rattle.atomic_table.specs.Table.{step}
 use Rattle.station.specs.Seats.{TheCore}
-use Rattle.station.proofs.Calls.{goes_on, may, takes}
+use Rattle.station.proofs.Calls.{at_place, goes_on, may, takes}
 use Rattle.station.proofs.call.Call.exchange.Goals as goal
+
+pub index-at-requires-clause-place : goal.index-at-requires-clause-place
+index-at-requires-clause-place g c =
+    let shared = c.core.inside.table.shared in
+    let s = c.self.inside.seat.now in
+    at_place shared.table_id shared.key c.self.inside.core.now c.core.view_is s.me c.self.inside.seat.ghost_name c.args.self.now c.self.view_is g.P.Part.role s.table_id c.args.place
+    (λ n. either (n == c.args.old) c.args.new n) g.K.Telling.kind c.core.inside.ring c.core.invariant.ring_is c.self.invariant c.requires
 
 pub compare_exchange-requires : goal.compare_exchange-requires
 compare_exchange-requires g c =
@@ -14,8 +21,7 @@ compare_exchange-requires g c =
       subst (λ n. c.index-at.result < n) (sym c.core.invariant.wide) c.index-at.ensures.inside,
       may shared.table_id shared.key c.self.inside.core.now c.core.view_is s.me c.self.inside.seat.ghost_name c.args.self.now c.self.view_is g.P.Part.role s.table_id shared.table_id.slots s.id
           c.args.place c.index-at.result (λ n. either (n == c.args.old) c.args.new n) (λ n. n) g.K.Telling.kind
-          (step shared.table_id.slots c.index-at.result c.args.old c.args.new none) c.core.inside.ring c.core.invariant.ring_is c.index-at.ensures.value c.self.invariant c.requires.place
-          c.requires.may,
+          (step shared.table_id.slots c.index-at.result c.args.old c.args.new none) c.core.inside.ring c.core.invariant.ring_is c.index-at.ensures.value c.self.invariant c.requires,
     )
 
 pub invariant_of-self : goal.invariant_of-self

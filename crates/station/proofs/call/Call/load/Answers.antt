@@ -2,8 +2,15 @@ use Rattle.std.proofs.Common.{◌<◌, sym, ap, ◌∙◌, subst}
 use mathlib.Core.Option.{none}
 use Rattle.atomic_table.specs.Table.{step}
 use Rattle.station.specs.Seats.{TheCore}
-use Rattle.station.proofs.Calls.{goes_on, may, takes}
+use Rattle.station.proofs.Calls.{at_place, goes_on, may, takes}
 use Rattle.station.proofs.call.Call.load.Goals as goal
+
+pub index-at-requires-clause-place : goal.index-at-requires-clause-place
+index-at-requires-clause-place g c =
+    let shared = c.core.inside.table.shared in
+    let s = c.self.inside.seat.now in
+    at_place shared.table_id shared.key c.self.inside.core.now c.core.view_is s.me c.self.inside.seat.ghost_name c.args.self.now c.self.view_is g.P.Part.role s.table_id c.args.place
+    (λ n. n) g.K.Telling.kind c.core.inside.ring c.core.invariant.ring_is c.self.invariant c.requires
 
 pub load-requires : goal.load-requires
 load-requires g c =
@@ -13,7 +20,7 @@ load-requires g c =
       subst (λ n. c.index-at.result < n) (sym c.core.invariant.wide) c.index-at.ensures.inside,
       may shared.table_id shared.key c.self.inside.core.now c.core.view_is s.me c.self.inside.seat.ghost_name c.args.self.now c.self.view_is g.P.Part.role s.table_id shared.table_id.slots s.id
           c.args.place c.index-at.result (λ n. n) (λ n. n) g.K.Telling.kind
-          (step shared.table_id.slots c.index-at.result 0 0 none) c.core.inside.ring c.core.invariant.ring_is c.index-at.ensures.value c.self.invariant c.requires.place c.requires.may,
+          (step shared.table_id.slots c.index-at.result 0 0 none) c.core.inside.ring c.core.invariant.ring_is c.index-at.ensures.value c.self.invariant c.requires,
     )
 
 pub invariant_of-self : goal.invariant_of-self

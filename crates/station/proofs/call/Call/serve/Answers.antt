@@ -3,9 +3,13 @@ use Rattle.std.proofs.lemmas.Bool.{eqb-true}
 use Rattle.ruu_words.specs.Fields.{producer_of, tag_of}
 use Rattle.station.specs.Writeback.{CanDeliver}
 use Rattle.station.proofs.Carrying.{can_deliver, serves_nobody, serves_one}
-use Rattle.station.proofs.Calls.{Of, of_one, taken}
+use Rattle.station.proofs.Calls.{Of, joined, legal_at, of_one, taken}
+use Rattle.station.proofs.Places.{inside}
 use Rattle.station.proofs.Waking.{wakes_delivering, wakes_not, wakes_reading, wakes_served}
 use Rattle.station.proofs.call.Call.serve.Goals as goal
+
+pub read_link-link-requires : goal.read_link-link-requires
+read_link-link-requires g c = (inside c.args.self.now (legal_at c.self.invariant c.self.view_is) c.requires.made.named, c.requires.to)
 
 pub deliver-found-requires-clause-link : goal.deliver-found-requires-clause-link
 deliver-found-requires-clause-link g c =
@@ -25,8 +29,8 @@ deliver-found-requires-clause-link g c =
       ),
     )) can
 
-pub returns-then-producer_in-from-clause-served : goal.returns-then-producer_in-from-clause-served
-returns-then-producer_in-from-clause-served g c =
+pub returns-then-producer_in-from : goal.returns-then-producer_in-from
+returns-then-producer_in-from g c =
     let v = c.args.self.now in
     let P = v.core.program in
     let C = v.core.sizes in
@@ -35,32 +39,25 @@ returns-then-producer_in-from-clause-served g c =
     let old = c.waiting_word-old.result in
     let names : producer_of c.read_link-link.result ≡ c.args.from.1 = sym c.producer_in.ensures ∙ c.if-producer_in-from.true in
     let g2 = taken c.read_link-link.ensures.same c.deliver-found.ensures in
-    serves_one P C v.view.by c.args.from.0 c.args.from.1 c.args.to c.read_link-link.result c.args.value c.args.k v.view m1 c.read_link-link.ensures.grows c.requires.tags c.requires.made names
-    old c.deliver-found.result m2 (c.waiting_word-old.ensures.tag ∙ c.consumer_in-consumer.ensures.value) g2
-
-pub returns-else-producer_in-from-clause-served : goal.returns-else-producer_in-from-clause-served
-returns-else-producer_in-from-clause-served g c =
-    let v = c.args.self.now in
-    serves_nobody v.core.program v.core.sizes v.view.by c.args.from.0 c.args.from.1 c.args.to c.read_link-link.result c.args.value c.args.k v.view c.read_link-link.new.self.view
-    c.read_link-link.ensures.grows (λ e. c.if-producer_in-from.false (c.producer_in.ensures ∙ e))
-
-pub returns-then-producer_in-from-clause-woken : goal.returns-then-producer_in-from-clause-woken
-returns-then-producer_in-from-clause-woken g c =
-    let v = c.args.self.now in
-    let P = v.core.program in
-    let C = v.core.sizes in
-    let m1 = c.read_link-link.new.self.view in
-    let m2 = c.deliver-found.new.self.view in
-    let old = c.waiting_word-old.result in
     let n = c.deliver-found.result in
-    let g2 = taken c.read_link-link.ensures.same c.deliver-found.ensures in
     let read = wakes_reading P C v.view.by c.args.from.0 c.args.to c.read_link-link.result c.args.k v.view m1 c.read_link-link.ensures.grows in
-    wakes_served P C v.view.by c.args.to (nat_eq n old) v.view.seen m1.seen m2.seen read
-    (wakes_delivering P C v.view.by c.args.to (tag_of old) old n c.args.k m1 m2 g2 (nat_eq n old) (eqb-true n old) (eq-eqb n old))
+    record {
+      same = joined c.read_link-link.ensures.same c.deliver-found.ensures.same;
+      reply = serves_one P C v.view.by c.args.from.0 c.args.from.1 c.args.to c.read_link-link.result c.args.value c.args.k v.view m1 c.read_link-link.ensures.grows c.requires.tags
+          c.requires.made names
+          old c.deliver-found.result m2 (c.waiting_word-old.ensures.tag ∙ c.consumer_in-consumer.ensures.value) g2;
+      woken = wakes_served P C v.view.by c.args.to (nat_eq n old) v.view.seen m1.seen m2.seen read
+          (wakes_delivering P C v.view.by c.args.to (tag_of old) old n c.args.k m1 m2 g2 (nat_eq n old) (eqb-true n old) (eq-eqb n old));
+    }
 
-pub returns-else-producer_in-from-clause-woken : goal.returns-else-producer_in-from-clause-woken
-returns-else-producer_in-from-clause-woken g c =
+pub returns-else-producer_in-from : goal.returns-else-producer_in-from
+returns-else-producer_in-from g c =
     let v = c.args.self.now in
     let m1 = c.read_link-link.new.self.view in
-    wakes_not v.core.program v.core.sizes v.view.by c.args.to v.view.seen m1.seen
-    (wakes_reading v.core.program v.core.sizes v.view.by c.args.from.0 c.args.to c.read_link-link.result c.args.k v.view m1 c.read_link-link.ensures.grows)
+    record {
+      same = c.read_link-link.ensures.same;
+      reply = serves_nobody v.core.program v.core.sizes v.view.by c.args.from.0 c.args.from.1 c.args.to c.read_link-link.result c.args.value c.args.k v.view c.read_link-link.new.self.view
+          c.read_link-link.ensures.grows (λ e. c.if-producer_in-from.false (c.producer_in.ensures ∙ e));
+      woken = wakes_not v.core.program v.core.sizes v.view.by c.args.to v.view.seen m1.seen
+          (wakes_reading v.core.program v.core.sizes v.view.by c.args.from.0 c.args.to c.read_link-link.result c.args.k v.view m1 c.read_link-link.ensures.grows);
+    }

@@ -10,7 +10,8 @@ use Rattle.station.proofs.Waking.{either_one, either_other, one_of, wakes_before
 use Rattle.station.proofs.call.Call.walk.Goals as goal
 
 pub serve-first-requires-clause-made : goal.serve-first-requires-clause-made
-serve-first-requires-clause-made g c = after (λ z. HasValueOf z.0.program z.0.sizes c.loop-to.self.view.seen c.args.from.0 c.args.from.1 c.args.value) c.loop-to.invariant.same c.loop-to.invariant.made
+serve-first-requires-clause-made g c = after (λ z. HasValueOf z.0.program z.0.sizes c.loop-to.self.view.seen c.args.from.0 c.args.from.1 c.args.value) c.loop-to.invariant.same
+    c.loop-to.invariant.made
 
 pub serve-second-requires-clause-made : goal.serve-second-requires-clause-made
 serve-second-requires-clause-made g c =
@@ -20,7 +21,7 @@ serve-second-requires-clause-made g c =
     let was = c.loop-to.invariant in
     let from = c.args.from in
     let served = before (λ z. OfTenant z.0.program z.0.sizes at.view.seen from.0 from.1 (λ q. IsServing z.0.program z.0.sizes z.1 q c.loop-to.to First at.view.seen at1.view.seen)) was.same
-    c.serve-first.ensures.served in
+    c.serve-first.ensures.reply in
     after (λ z. HasValueOf z.0.program z.0.sizes at1.view.seen from.0 from.1 c.args.value) (joined was.same c.serve-first.ensures.same)
     (value_behind v.core.program v.core.sizes v.view.by from.0 from.1 c.args.value c.loop-to.to First at.view.seen at1.view.seen was.made served)
 
@@ -43,8 +44,8 @@ loop-to-preserved g c =
     let r1 = c.serve-first.result in
     let r2 = c.serve-second.result in
     let on1 : IsSameCall v at1 = joined was.same c.serve-first.ensures.same in
-    let first = before (λ z. OfTenant z.0.program z.0.sizes a from.0 from.1 (λ q. IsServing z.0.program z.0.sizes z.1 q to First a b)) was.same c.serve-first.ensures.served in
-    let second = before (λ z. OfTenant z.0.program z.0.sizes b from.0 from.1 (λ q. IsServing z.0.program z.0.sizes z.1 q to Second b d)) on1 c.serve-second.ensures.served in
+    let first = before (λ z. OfTenant z.0.program z.0.sizes a from.0 from.1 (λ q. IsServing z.0.program z.0.sizes z.1 q to First a b)) was.same c.serve-first.ensures.reply in
+    let second = before (λ z. OfTenant z.0.program z.0.sizes b from.0 from.1 (λ q. IsServing z.0.program z.0.sizes z.1 q to Second b d)) on1 c.serve-second.ensures.reply in
     let woke1 = before (λ z. Wakes z.0.program z.0.sizes z.1 a b (λ s. (r1 ≡ true) × (s ≡ to))) was.same c.serve-first.ensures.woken in
     let woke2 = before (λ z. Wakes z.0.program z.0.sizes z.1 b d (λ s. (r2 ≡ true) × (s ≡ to))) on1 c.serve-second.ensures.woken in
     let mid : HasValueOf P C b from.0 from.1 value = value_behind P C by from.0 from.1 value to First a b was.made first in
@@ -62,27 +63,26 @@ pub end_walk-requires-clause-served : goal.end_walk-requires-clause-served
 end_walk-requires-clause-served g c =
     let v = c.args.self.now in
     let at = c.loop-to.self in
-    let ring : c.core.inside.ring ≡ v.core.sizes.ring = sym c.core.invariant.ring_is ∙ (ap (λ (k : TheCore). k.sizes.ring) c.core.view_is ∙ ap (λ (z : TheCall). z.core.sizes.ring) c.self.view_is) in
+    let ring : c.core.inside.ring ≡ v.core.sizes.ring = sym c.core.invariant.ring_is ∙ (ap (λ (k : TheCore). k.sizes.ring) c.core.view_is ∙ ap (λ (z : TheCall). z.core.sizes.ring)
+    c.self.view_is) in
     let end = c.loop-to-test.false in
-    let all = all_served v.core.program v.core.sizes v.view.by c.args.from.0 c.args.from.1 c.args.value c.loop-to.to v.view.seen at.view.seen (omega arith) c.requires.made c.loop-to.invariant.carries
+    let all = all_served v.core.program v.core.sizes v.view.by c.args.from.0 c.args.from.1 c.args.value c.loop-to.to v.view.seen at.view.seen (omega arith) c.requires.made
+    c.loop-to.invariant.carries
     in
     after (λ z. IsServedAll z.0.program z.0.sizes at.view.seen c.args.from.0 c.args.from.1 c.args.value) c.loop-to.invariant.same all
 
-pub returns-clause-walked : goal.returns-clause-walked
-returns-clause-walked g c =
+pub returns : goal.returns
+returns g c =
     let v = c.args.self.now in
     let at = c.loop-to.self in
     let end = taken c.loop-to.invariant.same c.end_walk.ensures in
-    walks_away v.core.program v.core.sizes v.view.by c.args.from.0 c.args.from.1 c.loop-to.to v.view.by v.view.seen at.view c.end_walk.new.self.view refl c.loop-to.invariant.carries end
-
-pub returns-clause-woken : goal.returns-clause-woken
-returns-clause-woken g c =
-    let v = c.args.self.now in
     let P = v.core.program in
     let C = v.core.sizes in
-    let at = c.loop-to.self in
     let w = c.end_walk.new.self.view in
-    let end = taken c.loop-to.invariant.same c.end_walk.ensures in
-    wakes_before P C v.view.by v.view.by c.loop-to.woken v.view.seen at.view.seen w.seen refl c.loop-to.invariant.wakes
-    (wakes_ending P C v.view.by c.args.from.0 c.args.from.1 c.loop-to.invariant.made.p at.view w end
-    (any_of P C at.view.seen c.args.from.0 c.args.from.1 c.args.value c.loop-to.invariant.made))
+    record {
+      same = joined c.loop-to.invariant.same c.end_walk.ensures.same;
+      reply = walks_away v.core.program v.core.sizes v.view.by c.args.from.0 c.args.from.1 c.loop-to.to v.view.by v.view.seen at.view c.end_walk.new.self.view refl c.loop-to.invariant.carries end;
+      woken = wakes_before P C v.view.by v.view.by c.loop-to.woken v.view.seen at.view.seen w.seen refl c.loop-to.invariant.wakes
+          (wakes_ending P C v.view.by c.args.from.0 c.args.from.1 c.loop-to.invariant.made.p at.view w end
+          (any_of P C at.view.seen c.args.from.0 c.args.from.1 c.args.value c.loop-to.invariant.made));
+    }

@@ -1,5 +1,6 @@
 use Rattle.inorder.specs.History.{IsLegal}
-use Rattle.station.specs.Calls.{IsSameCall, Woke}
+use Rattle.station.specs.Calls.{IsSameCall, caller}
+use Rattle.station.specs.Answers.{Woke}
 use Rattle.station.specs.Carrying.{HasValueOf, IsCarrying, OfTenant}
 use Rattle.station.specs.Waking.{IsSet}
 use Rattle.station.proofs.call.Call.walk.Given as goal
@@ -11,5 +12,5 @@ invariant-loop-to g l = record {
   made : HasValueOf l.fn.self.core.program l.fn.self.core.sizes l.self.view.seen l.from.0 l.from.1 l.value;
   carries : OfTenant l.fn.self.core.program l.fn.self.core.sizes l.fn.self.view.seen l.from.0 l.from.1
       (λ q. IsCarrying l.fn.self.core.program l.fn.self.core.sizes l.fn.self.view.by q l.to l.fn.self.view.seen l.self.view.seen);
-  wakes : Woke l.fn.self l.self (IsSet l.woken);
+  wakes : Woke (IsSet l.woken) l.fn.self.core (caller l.fn.self) (caller l.self);
 }

@@ -11,11 +11,14 @@ use Rattle.station.specs.Claiming.{ClaimAnswers, HasSeen, IsOpenAs}
 use Rattle.station.proofs.Opened.{HasInfo, Ready, claim_answers_on, has_seen, informs, peek_refused, peeked, recheck_moved, rechecked}
 use Rattle.station.proofs.claims.Call+UnitPart.claim_at.Goals as goal
 
-pub returns-then-not-is_open-clause-reply : goal.returns-then-not-is_open-clause-reply
-returns-then-not-is_open-clause-reply c =
+pub returns-then-not-is_open : goal.returns-then-not-is_open
+returns-then-not-is_open c =
     let v = c.args.self.now in
     let not : state_of c.peek-found.result ≢ 1 = search rules in
-    peek_refused v.core.program v.core.sizes v.view.by v.view c.peek-found.new.self.view c.args.station c.peek-found.result c.peek-found.ensures.grows not
+    record {
+      same = c.peek-found.ensures.same;
+      reply = peek_refused v.core.program v.core.sizes v.view.by v.view c.peek-found.new.self.view c.args.station c.peek-found.result c.peek-found.ensures.grows not;
+    }
 
 pub recheck-again-requires-clause-seen : goal.recheck-again-requires-clause-seen
 recheck-again-requires-clause-seen c =
@@ -41,8 +44,8 @@ recheck-again-requires-clause-seen c =
     let seen : HasSeen P C m2.seen st tag IsAny = has_seen P C by st tag old (HasInfo info) IsAny m2.seen (λ t f. tt) r2 in
     subst (λ (z : Of × ℕ). HasSeen z.0.0.program z.0.0.sizes m2.seen st z.1 IsAny) (λ j. (sym (of_one v c.read_info-word.new.self on2) j, sym tag_is j)) seen
 
-pub returns-then-again-open-clause-reply : goal.returns-then-again-open-clause-reply
-returns-then-again-open-clause-reply c =
+pub returns-then-again-open : goal.returns-then-again-open
+returns-then-again-open c =
     let v = c.args.self.now in
     let P = v.core.program in
     let C = v.core.sizes in
@@ -66,10 +69,13 @@ returns-then-again-open-clause-reply c =
     let on2 = joined on1 c.read_info-word.ensures.same in
     let g3 : Grows P C by m2 m3 (Rechecks P C st tag word again) = subst (λ t. Grows P C by m2 m3 (Rechecks P C st t word again)) tag_is (taken on2 c.recheck-again.ensures) in
     let miss : again ≢ word = search rules in
-    recheck_moved P C by st tag old (HasInfo info) m2 m3 word again g3 r2 miss
+    record {
+      same = joined on2 c.recheck-again.ensures.same;
+      reply = recheck_moved P C by st tag old (HasInfo info) m2 m3 word again g3 r2 miss;
+    }
 
-pub claim_open-requires-clause-was_open : goal.claim_open-requires-clause-was_open
-claim_open-requires-clause-was_open c =
+pub claim_open-requires : goal.claim_open-requires
+claim_open-requires c =
     let v = c.args.self.now in
     let P = v.core.program in
     let C = v.core.sizes in
@@ -99,8 +105,8 @@ claim_open-requires-clause-was_open c =
     subst (λ (z : Of × (Half × ℕ × ℕ)). HasSeen z.0.0.program z.0.0.sizes m3.seen st tag (IsOpenAs z.1.0 z.1.1 z.1.2))
     (λ j. (sym (of_one v c.recheck-again.new.self on3) j, (sym c.unpack-info.ensures.half j, sym c.unpack-info.ensures.index j, sym c.unpack-info.ensures.predicted j))) seen
 
-pub returns-clause-reply : goal.returns-clause-reply
-returns-clause-reply c =
+pub returns : goal.returns
+returns c =
     let v = c.args.self.now in
     let P = v.core.program in
     let C = v.core.sizes in
@@ -127,5 +133,8 @@ returns-clause-reply c =
     let r3 : Ready P C by st tag old (IsOpenAs (half_of info) (index_of info) (predicted_of info)) m3.seen = rechecked P C by st tag old m2 m3 info word again g3 r2 hit in
     let on3 = joined on2 c.recheck-again.ensures.same in
     let new = c.claim_open.new.self.view.seen in
-    claim_answers_on P C by old m3.seen new st c.claim_open.result r3.adds (subst (λ (z : Of). ClaimAnswers z.0.program z.0.sizes z.1 m3.seen new st c.claim_open.result)
-    (of_one v c.recheck-again.new.self on3) c.claim_open.ensures.reply)
+    record {
+      same = joined on3 c.claim_open.ensures.same;
+      reply = claim_answers_on P C by old m3.seen new st c.claim_open.result r3.adds (subst (λ (z : Of). ClaimAnswers z.0.program z.0.sizes z.1 m3.seen new st c.claim_open.result)
+          (of_one v c.recheck-again.new.self on3) c.claim_open.ensures.reply);
+    }

@@ -26,11 +26,11 @@ instr-requires c =
     let C = v.core.sizes in
     let legal : IsLegalCall v = legal_at c.self.invariant c.self.view_is in
     let program = program_at c.core.inside.table.shared.key c.core.invariant.program c.core.view_is c.self.view_is in
-    subst (λ (z : Program). c.args.info.index < length z.code) (sym program) (index_inside P C v.view.seen legal c.requires.was_open.p c.args.station c.args.tag c.args.info.half c.args.info.index
-    c.args.info.predicted c.requires.was_open.named)
+    subst (λ (z : Program). c.args.info.index < length z.code) (sym program) (index_inside P C v.view.seen legal c.requires.p c.args.station c.args.tag c.args.info.half c.args.info.index
+    c.args.info.predicted c.requires.named)
 
-pub returns-in-Err-clause-reply : goal.returns-in-Err-clause-reply
-returns-in-Err-clause-reply c =
+pub returns-in-Err : goal.returns-in-Err
+returns-in-Err c =
     let v = c.args.self.now in
     let P = v.core.program in
     let C = v.core.sizes in
@@ -42,9 +42,12 @@ returns-in-Err-clause-reply c =
     let i = c.args.info.index in
     let x = c.args.info.predicted in
     let old : List Entry = v.view.seen in
-    let r0 : Ready P C by st tag old (IsClaimable d i x) old = begins P C by st tag old d i x legal c.requires.was_open in
-    source_refused P C by st tag old (IsClaimable d i x) old c.needed_source.new.self.view.seen Rattle.inorder.specs.declared.history.Source.TheVariants.First true c.in-Err.refusal r0
-    c.in-Err.ensures.answer
+    let r0 : Ready P C by st tag old (IsClaimable d i x) old = begins P C by st tag old d i x legal c.requires in
+    record {
+      same = c.needed_source.ensures.same;
+      reply = source_refused P C by st tag old (IsClaimable d i x) old c.needed_source.new.self.view.seen Rattle.inorder.specs.declared.history.Source.TheVariants.First true c.in-Err.refusal r0
+          c.in-Err.ensures.answer;
+    }
 
 pub needed_source-requires-2-clause-seen : goal.needed_source-requires-2-clause-seen
 needed_source-requires-2-clause-seen c =
@@ -60,7 +63,7 @@ needed_source-requires-2-clause-seen c =
     let i = c.args.info.index in
     let x = c.args.info.predicted in
     let old : List Entry = v.view.seen in
-    let r0 : Ready P C by st tag old (IsClaimable d i x) old = begins P C by st tag old d i x legal c.requires.was_open in
+    let r0 : Ready P C by st tag old (IsClaimable d i x) old = begins P C by st tag old d i x legal c.requires in
     let both = c.needs_second-both.result in
     let is : needs (kind (instr_of P i).op) Second ≡ both = sym (c.needs_second-both.ensures ∙ ap (λ k. needs k Second)
     (c.kind-kind.ensures ∙ ap kind (c.op.ensures ∙ (ap (λ (z : Instr). z.op) c.instr.ensures ∙ ap (λ (z : Program). (instr_of z i).op) program)))) in
@@ -71,8 +74,8 @@ needed_source-requires-2-clause-seen c =
     subst (λ (z : Of). HasSeen z.0.program z.0.sizes m1.seen st tag (λ t. both ≡ true → IsNext z.0.program Second t)) (sym (of_one v c.needed_source.new.self on1))
     (second_next P C by st tag old d i x a both m1.seen is r1)
 
-pub returns-in-Err-needed_source-clause-reply : goal.returns-in-Err-needed_source-clause-reply
-returns-in-Err-needed_source-clause-reply c =
+pub returns-in-Err-needed_source : goal.returns-in-Err-needed_source
+returns-in-Err-needed_source c =
     let v = c.args.self.now in
     let P = v.core.program in
     let C = v.core.sizes in
@@ -85,7 +88,7 @@ returns-in-Err-needed_source-clause-reply c =
     let i = c.args.info.index in
     let x = c.args.info.predicted in
     let old : List Entry = v.view.seen in
-    let r0 : Ready P C by st tag old (IsClaimable d i x) old = begins P C by st tag old d i x legal c.requires.was_open in
+    let r0 : Ready P C by st tag old (IsClaimable d i x) old = begins P C by st tag old d i x legal c.requires in
     let both = c.needs_second-both.result in
     let is : needs (kind (instr_of P i).op) Second ≡ both = sym (c.needs_second-both.ensures ∙ ap (λ k. needs k Second)
     (c.kind-kind.ensures ∙ ap kind (c.op.ensures ∙ (ap (λ (z : Instr). z.op) c.instr.ensures ∙ ap (λ (z : Program). (instr_of z i).op) program)))) in
@@ -95,9 +98,12 @@ returns-in-Err-needed_source-clause-reply c =
     let m2 : View = c.needed_source-2.new.self.view in
     let refusal = c.in-Err-needed_source.refusal in
     let on1 : IsSameCall v c.needed_source.new.self = c.needed_source.ensures.same in
-    source_refused P C by st tag old (HasFirst d i x a) m1.seen m2.seen Second both refusal r1 (subst
-    (λ (z : Of). SourceAnswers z.0.program z.0.sizes z.1 m1.seen m2.seen st tag Second both (Rattle.std.proofs.Common.Err refusal)) (of_one v c.needed_source.new.self on1)
-    c.in-Err-needed_source.ensures.answer)
+    record {
+      same = joined on1 c.needed_source-2.ensures.same;
+      reply = source_refused P C by st tag old (HasFirst d i x a) m1.seen m2.seen Second both refusal r1 (subst
+          (λ (z : Of). SourceAnswers z.0.program z.0.sizes z.1 m1.seen m2.seen st tag Second both (Rattle.std.proofs.Common.Err refusal)) (of_one v c.needed_source.new.self on1)
+          c.in-Err-needed_source.ensures.answer);
+    }
 
 pub open_word-open-requires : goal.open_word-open-requires
 open_word-open-requires c =
@@ -105,13 +111,15 @@ open_word-open-requires c =
     let P = v.core.program in
     let C = v.core.sizes in
     let legal : IsLegalCall v = legal_at c.self.invariant c.self.view_is in
-    let small : c.args.tag < last_tag = tag_small P C v.view.seen legal c.requires.was_open.p c.args.station c.args.tag (IsOpenAs c.args.info.half c.args.info.index c.args.info.predicted)
-    c.requires.was_open.named in
+    let small : c.args.tag < last_tag = tag_small P C v.view.seen legal c.requires.p c.args.station c.args.tag (IsOpenAs c.args.info.half c.args.info.index c.args.info.predicted)
+    c.requires.named in
     omega arith
 
-pub claim_tenant-found-requires-clause-new : goal.claim_tenant-found-requires-clause-new
-claim_tenant-found-requires-clause-new c =
-    subst (λ z. IsStation (record { tag = z; state = IsBusy; value = Some 0 }) c.busy_word-busy.result) (sym c.open_word-open.ensures.tag) (c.busy_word-busy.ensures 0)
+pub claim_tenant-found-requires-clause-words : goal.claim_tenant-found-requires-clause-words
+claim_tenant-found-requires-clause-words c = record {
+  old_is = record { tag = refl; state = c.open_word-open.ensures.state; value = c.open_word-open.ensures.value };
+  new_is = subst (λ z. IsStation (record { tag = z; state = IsBusy; value = Some 0 }) c.busy_word-busy.result) (sym c.open_word-open.ensures.tag) (c.busy_word-busy.ensures 0);
+}
 
 pub claim_tenant-found-requires-clause-seen : goal.claim_tenant-found-requires-clause-seen
 claim_tenant-found-requires-clause-seen c =
@@ -127,7 +135,7 @@ claim_tenant-found-requires-clause-seen c =
     let i = c.args.info.index in
     let x = c.args.info.predicted in
     let old : List Entry = v.view.seen in
-    let r0 : Ready P C by st tag old (IsClaimable d i x) old = begins P C by st tag old d i x legal c.requires.was_open in
+    let r0 : Ready P C by st tag old (IsClaimable d i x) old = begins P C by st tag old d i x legal c.requires in
     let both = c.needs_second-both.result in
     let is : needs (kind (instr_of P i).op) Second ≡ both = sym (c.needs_second-both.ensures ∙ ap (λ k. needs k Second)
     (c.kind-kind.ensures ∙ ap kind (c.op.ensures ∙ (ap (λ (z : Instr). z.op) c.instr.ensures ∙ ap (λ (z : Program). (instr_of z i).op) program)))) in
@@ -145,8 +153,8 @@ claim_tenant-found-requires-clause-seen c =
     subst (λ (z : Of × ℕ). HasSeen z.0.0.program z.0.0.sizes m2.seen st z.1 (IsReady z.0.0.program)) (λ j. (sym (of_one v c.needed_source-2.new.self on2) j, sym tag_is j))
     (ready_seen P C by st tag old d i x a both b is m2.seen r2)
 
-pub returns-then-found-open-clause-reply : goal.returns-then-found-open-clause-reply
-returns-then-found-open-clause-reply c =
+pub returns-then-found-open : goal.returns-then-found-open
+returns-then-found-open c =
     let v = c.args.self.now in
     let P = v.core.program in
     let C = v.core.sizes in
@@ -159,7 +167,7 @@ returns-then-found-open-clause-reply c =
     let i = c.args.info.index in
     let x = c.args.info.predicted in
     let old : List Entry = v.view.seen in
-    let r0 : Ready P C by st tag old (IsClaimable d i x) old = begins P C by st tag old d i x legal c.requires.was_open in
+    let r0 : Ready P C by st tag old (IsClaimable d i x) old = begins P C by st tag old d i x legal c.requires in
     let both = c.needs_second-both.result in
     let is : needs (kind (instr_of P i).op) Second ≡ both = sym (c.needs_second-both.ensures ∙ ap (λ k. needs k Second)
     (c.kind-kind.ensures ∙ ap kind (c.op.ensures ∙ (ap (λ (z : Instr). z.op) c.instr.ensures ∙ ap (λ (z : Program). (instr_of z i).op) program)))) in
@@ -179,7 +187,10 @@ returns-then-found-open-clause-reply c =
     let g : Grows P C by m2 m3 (Claims P C st tag word c.claim_tenant-found.result) = subst (λ t. Grows P C by m2 m3 (Claims P C st t word c.claim_tenant-found.result)) tag_is
     (taken on2 c.claim_tenant-found.ensures) in
     let miss : c.claim_tenant-found.result ≢ word = search rules in
-    claim_moved P C by st tag old d i x a both b is m2 m3 word c.claim_tenant-found.result g r2 miss
+    record {
+      same = joined on2 c.claim_tenant-found.ensures.same;
+      reply = claim_moved P C by st tag old d i x a both b is m2 m3 word c.claim_tenant-found.result g r2 miss;
+    }
 
 pub pc_of-pc-requires : goal.pc_of-pc-requires
 pc_of-pc-requires c =
@@ -188,11 +199,11 @@ pc_of-pc-requires c =
     let C = v.core.sizes in
     let legal : IsLegalCall v = legal_at c.self.invariant c.self.view_is in
     let program = program_at c.core.inside.table.shared.key c.core.invariant.program c.core.view_is c.self.view_is in
-    subst (λ (z : Program). c.args.info.index < length z.code) (sym program) (index_inside P C v.view.seen legal c.requires.was_open.p c.args.station c.args.tag c.args.info.half c.args.info.index
-    c.args.info.predicted c.requires.was_open.named)
+    subst (λ (z : Program). c.args.info.index < length z.code) (sym program) (index_inside P C v.view.seen legal c.requires.p c.args.station c.args.tag c.args.info.half c.args.info.index
+    c.args.info.predicted c.requires.named)
 
-pub returns-clause-reply : goal.returns-clause-reply
-returns-clause-reply c =
+pub returns : goal.returns
+returns c =
     let v = c.args.self.now in
     let P = v.core.program in
     let C = v.core.sizes in
@@ -205,7 +216,7 @@ returns-clause-reply c =
     let i = c.args.info.index in
     let x = c.args.info.predicted in
     let old : List Entry = v.view.seen in
-    let r0 : Ready P C by st tag old (IsClaimable d i x) old = begins P C by st tag old d i x legal c.requires.was_open in
+    let r0 : Ready P C by st tag old (IsClaimable d i x) old = begins P C by st tag old d i x legal c.requires in
     let both = c.needs_second-both.result in
     let is : needs (kind (instr_of P i).op) Second ≡ both = sym (c.needs_second-both.ensures ∙ ap (λ k. needs k Second)
     (c.kind-kind.ensures ∙ ap kind (c.op.ensures ∙ (ap (λ (z : Instr). z.op) c.instr.ensures ∙ ap (λ (z : Program). (instr_of z i).op) program)))) in
@@ -225,4 +236,7 @@ returns-clause-reply c =
     let g : Grows P C by m2 m3 (Claims P C st tag word c.claim_tenant-found.result) = subst (λ t. Grows P C by m2 m3 (Claims P C st t word c.claim_tenant-found.result)) tag_is
     (taken on2 c.claim_tenant-found.ensures) in
     let hit : c.claim_tenant-found.result ≡ word = search rules in
-    claimed P C by st tag old d i x a both b is m2 m3 word c.claim_tenant-found.result g r2 hit _ refl refl refl refl c.pc_of-pc.ensures refl refl refl
+    record {
+      same = joined on2 c.claim_tenant-found.ensures.same;
+      reply = claimed P C by st tag old d i x a both b is m2 m3 word c.claim_tenant-found.result g r2 hit _ refl refl refl refl c.pc_of-pc.ensures refl refl refl;
+    }

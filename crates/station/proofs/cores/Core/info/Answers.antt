@@ -10,4 +10,4 @@ returns-clause-reply c =
     let h = c.read-word.new.seat.seen in
     subst (λ (z : ℕ × Half × ℕ). SeesInfo core.program core.sizes h c.args.station z.0 z.1 z.2)
     (λ i. (sym c.unpack-half.ensures.index i, sym c.unpack-half.ensures.half i, sym c.unpack-half.ensures.predicted i))
-    (sees_info core.program core.sizes h c.read-word.ensures.history.legal c.args.station c.read-word.result c.read-word.ensures.reply)
+    (sees_info core.program core.sizes h c.read-word.ensures.looked.adds.legal c.args.station c.read-word.result c.read-word.ensures.reply)

@@ -1,8 +1,12 @@
-use Rattle.std.proofs.Common.{◌≡◌, ℕ, ◌+◌, ◌<◌, ◌≤◌, ◌%◌, length, sym, ap, ◌∙◌, subst, rules, arith}
+use Rattle.std.proofs.Common.{◌≡◌, ℕ, List, ◌+◌, ◌<◌, ◌≤◌, ◌%◌, length, sym, ap, ◌∙◌, subst, rules, arith}
 use Rattle.instructions.specs.Programs.{Program}
+use Rattle.inorder.specs.declared.history.Entry.{Entry}
+use Rattle.inorder.specs.History.{unit_of}
+use Rattle.station.specs.Letting.{MayLetOut}
 use Rattle.ruu_words.specs.declared.rule.Role.TheVariants.{Front}
-use Rattle.station.specs.Calls.{TheCall, let_place}
-use Rattle.station.specs.Seats.{TheCore}
+use Rattle.station.specs.Answers.{MayLetNow}
+use Rattle.station.specs.Calls.{TheCall, let_place, caller}
+use Rattle.station.specs.Seats.{Caller, TheCore}
 use Rattle.station.proofs.Calls.{front_back, seated_in}
 use Rattle.station.proofs.LettingOut.{next_inside, next_out}
 use Rattle.station.proofs.cores.Core.let_out.Goals as goal
@@ -31,3 +35,16 @@ dispatch-tag-requires-clause-small c =
     ap (λ (z : TheCore). length z.program.code) (sym c.self.view_is) ∙ ap (λ (P : Program). length P.code) c.self.invariant.program in
     let there : c.args.tenant.index < length c.args.self.now.program.code = c.requires.may.may.is_there in
     omega arith
+
+pub dispatch-tag-requires-clause-letting : goal.dispatch-tag-requires-clause-letting
+dispatch-tag-requires-clause-letting c =
+    let core = c.args.self.now in
+    let t = c.args.tenant in
+    let was = seated_in _ c.seat.inside.words.value.key _ _ _ c.args.seat.now core c.seat.view_is c.requires.core Front _ c.seat.inside.station c.seat.inside.over _ c.seat.invariant.0 in
+    let seen_is = ap (λ (z : Caller). z.seen) c.seat.view_is in
+    let may = subst (λ (h : List Entry). MayLetOut core.program core.sizes (unit_of core.program core.sizes h) t) (sym seen_is) c.requires.may in
+    record {
+      draft_is = ap (λ (z : TheCall). z.view.draft) c.of-call.ensures ∙ was.knows.1;
+      may = subst (λ (z : TheCall). MayLetNow t z.core (caller z)) (sym c.of-call.ensures) may;
+      station_is = ap let_place c.of-call.ensures ∙ sym was.knows.2;
+    }

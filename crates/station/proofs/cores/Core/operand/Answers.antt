@@ -7,5 +7,6 @@ pub returns-clause-reply : goal.returns-clause-reply
 returns-clause-reply c =
     let core = c.args.self.now in
     let seen : Seen SourceState = record { tag = c.tag_in.result; state = c.source_state-state.result; value = c.value_in.result } in
-    sees_operand core.program core.sizes c.read-word.new.seat.seen c.read-word.ensures.history.legal c.args.station c.args.k c.read-word.result seen c.tag_in.ensures.value c.source_state-state.ensures
+    sees_operand core.program core.sizes c.read-word.new.seat.seen c.read-word.ensures.looked.adds.legal c.args.station c.args.k c.read-word.result seen c.tag_in.ensures.value
+    c.source_state-state.ensures
     c.value_in.ensures c.read-word.ensures.reply

@@ -48,8 +48,8 @@ invariant_of-to g c =
     (search rules)
     c.to.inside.station c.to.inside.over heard
 
-pub returns-clause-history : goal.returns-clause-history
-returns-clause-history g c =
+pub returns-clause-looked : goal.returns-clause-looked
+returns-clause-looked g c =
     let core = c.args.self.now in
     let mid = c.join_seat.new.seat.me.0 in
     let t = c.call.inside.seat.now.me.0 in
@@ -57,5 +57,10 @@ returns-clause-history g c =
     let adds = adds_these core.program core.sizes mid.by mid t (Sees core.program core.sizes mid.by mid (Station 0) c.look.result) [] saw saw.kind.none in
     let by : mid.by ≡ c.args.to.now.by = ap (λ m. m.0.by) c.join_seat.ensures.2 ∙ ap (λ z. z.by) c.to.view_is in
     let seen : mid.seen ≡ c.args.to.now.seen = ap (λ m. m.0.seen) c.join_seat.ensures.2 ∙ ap (λ z. z.seen) c.to.view_is in
-    subst (λ (h : List Entry). Adds core.program core.sizes c.args.to.now.by c.args.to.now.seen h []) (search rules)
-    (subst (λ (z : ℕ × List Entry). Adds core.program core.sizes z.0 z.1 t.seen []) (λ i. (by i, seen i)) adds)
+    record {
+      same = search rules;
+      heirs = search rules;
+      woken = search rules;
+      adds = subst (λ (h : List Entry). Adds core.program core.sizes c.args.to.now.by c.args.to.now.seen h []) (search rules)
+          (subst (λ (z : ℕ × List Entry). Adds core.program core.sizes z.0 z.1 t.seen []) (λ i. (by i, seen i)) adds);
+    }

@@ -11,27 +11,31 @@ use Rattle.ruu_words.specs.Kinds.{Tells}
 use Rattle.station.specs.Retirement.{RetireAnswers}
 use Rattle.station.proofs.Adding.{adds_these}
 use Rattle.station.proofs.Retiring.{answers_on, data_missing, data_there, inside}
-use Rattle.station.proofs.Calls.{before, leave_after, legal_at, program_at}
+use Rattle.station.proofs.Calls.{before, joined, leave_after, legal_at, program_at}
 use Rattle.station.proofs.retirement.Call+BackPart.retire_access.Goals as goal
 
 pub instr-requires : goal.instr-requires
 instr-requires c =
     let v = c.args.self.now in
-    let h = c.requires.access.head in
+    let h = c.requires.head in
     subst (λ (z : Program × ℕ). z.1 < length z.0.code) (λ i. (sym (program_at c.core.inside.table.shared.key c.core.invariant.program c.core.view_is c.self.view_is) i, h.fact.index_is i))
-    (inside v.core.program v.core.sizes v.view.seen (legal_at c.self.invariant c.self.view_is) c.requires.access.p h.tenant h.is)
+    (inside v.core.program v.core.sizes v.view.seen (legal_at c.self.invariant c.self.view_is) c.requires.p h.tenant h.is)
 
-pub returns-then-ne-clause-reply : goal.returns-then-ne-clause-reply
-returns-then-ne-clause-reply c =
+pub returns-then-ne : goal.returns-then-ne
+returns-then-ne c =
     let v = c.args.self.now in
     let P = v.core.program in
     let C = v.core.sizes in
     let by = v.view.by in
     let g = c.tell_waiting.ensures.grows in
-    adds_these P C by v.view c.tell_waiting.new.self.view (Tells P C NotDone) (Refuses NotDone ∷ []) g g.kind.added
+    record {
+      same = c.tell_waiting.ensures.same;
+      reply = adds_these P C by v.view c.tell_waiting.new.self.view (Tells P C NotDone) (Refuses NotDone ∷ []) g g.kind.added;
+      head = tt;
+    }
 
-pub returns-then-not-has_value-clause-reply : goal.returns-then-not-has_value-clause-reply
-returns-then-not-has_value-clause-reply c =
+pub returns-then-not-has_value : goal.returns-then-not-has_value
+returns-then-not-has_value c =
     let v = c.args.self.now in
     let P = v.core.program in
     let C = v.core.sizes in
@@ -39,10 +43,14 @@ returns-then-not-has_value-clause-reply c =
     let m1 : View = c.read_data-found.new.self.view in
     let n = c.read_data-found.result in
     let ne : state_of n ≢ 2 = search rules in
-    data_missing P C by v.view m1 c.args.access n c.read_data-found.ensures.grows ne
+    record {
+      same = c.read_data-found.ensures.same;
+      reply = data_missing P C by v.view m1 c.args.access n c.read_data-found.ensures.grows ne;
+      head = tt;
+    }
 
-pub leave-requires-clause-may : goal.leave-requires-clause-may
-leave-requires-clause-may c =
+pub leave-requires : goal.leave-requires
+leave-requires c =
     let v = c.args.self.now in
     let P = v.core.program in
     let C = v.core.sizes in
@@ -57,8 +65,8 @@ leave-requires-clause-may c =
     let there = data_there P C by v.view m1 c.args.access n c.read_data-found.ensures.grows c.value_in.result c.value_in.ensures stores there_is in
     leave_after c.read_data-found.ensures.same there.0
 
-pub returns-clause-reply : goal.returns-clause-reply
-returns-clause-reply c =
+pub returns : goal.returns
+returns c =
     let v = c.args.self.now in
     let P = v.core.program in
     let C = v.core.sizes in
@@ -72,5 +80,9 @@ returns-clause-reply c =
     (program_at c.core.inside.table.shared.key c.core.invariant.program c.core.view_is c.self.view_is)))) ∙ store in
     let there = data_there P C by v.view m1 c.args.access n c.read_data-found.ensures.grows c.value_in.result c.value_in.ensures stores there_is in
     let new = c.leave.new.self.view.seen in
-    answers_on P C by v.view.seen m1.seen new c.leave.result there.1 (before (λ z. RetireAnswers z.0.program z.0.sizes z.1 m1.seen new c.leave.result) c.read_data-found.ensures.same
-    c.leave.ensures.reply)
+    record {
+      same = joined c.read_data-found.ensures.same c.leave.ensures.same;
+      reply = answers_on P C by v.view.seen m1.seen new c.leave.result there.1 (before (λ z. RetireAnswers z.0.program z.0.sizes z.1 m1.seen new c.leave.result) c.read_data-found.ensures.same
+          c.leave.ensures.reply);
+      head = c.leave.ensures.head;
+    }

@@ -3,11 +3,11 @@ use Rattle.ruu_words.specs.declared.rule.View.{View}
 use Rattle.ruu_words.specs.declared.station.StationState.TheVariants.{Addr}
 use Rattle.station.specs.Retirement.{RetireAnswers}
 use Rattle.station.proofs.Retiring.{answers_on, end_access, end_adds, end_leaves}
-use Rattle.station.proofs.Calls.{access_after, before, caller_at, leave_after}
+use Rattle.station.proofs.Calls.{access_after, before, caller_at, joined, leave_after}
 use Rattle.station.proofs.retirement.Call+BackPart.retire_at_end.Goals as goal
 
-pub retire_access-requires-clause-access : goal.retire_access-requires-clause-access
-retire_access-requires-clause-access c =
+pub retire_access-requires : goal.retire_access-requires
+retire_access-requires c =
     let v = c.args.self.now in
     let P = v.core.program in
     let C = v.core.sizes in
@@ -19,8 +19,8 @@ retire_access-requires-clause-access c =
     access_after c.read_info-info.ensures.same (end_access P C by v.view m1 c.args.station n g (caller_at c.self.invariant c.self.view_is) c.args.found c.requires.end c.unpack-half.result.index
     c.unpack-half.result.half c.unpack-half.ensures.index c.unpack-half.ensures.half addr)
 
-pub returns-then-eq-clause-reply : goal.returns-then-eq-clause-reply
-returns-then-eq-clause-reply c =
+pub returns-then-eq : goal.returns-then-eq
+returns-then-eq c =
     let v = c.args.self.now in
     let P = v.core.program in
     let C = v.core.sizes in
@@ -29,11 +29,16 @@ returns-then-eq-clause-reply c =
     let n = c.read_info-info.result in
     let g = c.read_info-info.ensures.grows in
     let new = c.retire_access.new.self.view.seen in
-    answers_on P C by v.view.seen m1.seen new c.retire_access.result (end_adds P C by v.view m1 c.args.station n g (caller_at c.self.invariant c.self.view_is) c.args.found c.requires.end)
-    (before (λ z. RetireAnswers z.0.program z.0.sizes z.1 m1.seen new c.retire_access.result) c.read_info-info.ensures.same c.retire_access.ensures.reply)
+    record {
+      same = joined c.read_info-info.ensures.same c.retire_access.ensures.same;
+      reply = answers_on P C by v.view.seen m1.seen new c.retire_access.result (end_adds P C by v.view m1 c.args.station n g (caller_at c.self.invariant c.self.view_is) c.args.found
+          c.requires.end)
+          (before (λ z. RetireAnswers z.0.program z.0.sizes z.1 m1.seen new c.retire_access.result) c.read_info-info.ensures.same c.retire_access.ensures.reply);
+      head = c.retire_access.ensures.head;
+    }
 
-pub leave-requires-clause-may : goal.leave-requires-clause-may
-leave-requires-clause-may c =
+pub leave-requires : goal.leave-requires
+leave-requires c =
     let v = c.args.self.now in
     let P = v.core.program in
     let C = v.core.sizes in
@@ -45,8 +50,8 @@ leave-requires-clause-may c =
     leave_after c.read_info-info.ensures.same (end_leaves P C by v.view m1 c.args.station n g (caller_at c.self.invariant c.self.view_is) c.args.found c.requires.end c.unpack-half.result.index
     c.unpack-half.result.half c.unpack-half.ensures.index c.unpack-half.ensures.half ne c.last_of-last.result c.last_of-last.ensures)
 
-pub returns-clause-reply : goal.returns-clause-reply
-returns-clause-reply c =
+pub returns : goal.returns
+returns c =
     let v = c.args.self.now in
     let P = v.core.program in
     let C = v.core.sizes in
@@ -55,5 +60,9 @@ returns-clause-reply c =
     let n = c.read_info-info.result in
     let g = c.read_info-info.ensures.grows in
     let new = c.leave.new.self.view.seen in
-    answers_on P C by v.view.seen m1.seen new c.leave.result (end_adds P C by v.view m1 c.args.station n g (caller_at c.self.invariant c.self.view_is) c.args.found c.requires.end)
-    (before (λ z. RetireAnswers z.0.program z.0.sizes z.1 m1.seen new c.leave.result) c.read_info-info.ensures.same c.leave.ensures.reply)
+    record {
+      same = joined c.read_info-info.ensures.same c.leave.ensures.same;
+      reply = answers_on P C by v.view.seen m1.seen new c.leave.result (end_adds P C by v.view m1 c.args.station n g (caller_at c.self.invariant c.self.view_is) c.args.found c.requires.end)
+          (before (λ z. RetireAnswers z.0.program z.0.sizes z.1 m1.seen new c.leave.result) c.read_info-info.ensures.same c.leave.ensures.reply);
+      head = c.leave.ensures.head;
+    }

@@ -4,7 +4,7 @@ use Rattle.ruu_words.specs.Kinds.{IsEarly}
 use Rattle.ruu_words.specs.States.{state_code}
 use Rattle.station.specs.Retirement.{RetireAnswers}
 use Rattle.station.proofs.Retiring.{IsLateState, answers_on, head_early, head_empty, head_late}
-use Rattle.station.proofs.Calls.{before, end_after}
+use Rattle.station.proofs.Calls.{before, end_after, joined}
 use Rattle.station.proofs.retirement.Call+BackPart.retire_head.Goals as goal
 
 pub retire_at_end-requires-clause-end : goal.retire_at_end-requires-clause-end
@@ -21,8 +21,8 @@ retire_at_end-requires-clause-end c =
     let end = head_late P C by v.view m1 c.args.station n g word c.unpack-found.ensures.tag c.unpack-found.ensures.state c.unpack-found.ensures.value late in
     end_after c.look_at_head-word.ensures.same end.0
 
-pub returns-in-Free-clause-reply : goal.returns-in-Free-clause-reply
-returns-in-Free-clause-reply c =
+pub returns-in-Free : goal.returns-in-Free
+returns-in-Free c =
     let v = c.args.self.now in
     let P = v.core.program in
     let C = v.core.sizes in
@@ -31,10 +31,14 @@ returns-in-Free-clause-reply c =
     let n = c.look_at_head-word.result in
     let g = c.look_at_head-word.ensures.grows in
     let word = c.unpack-found.result in
-    head_empty P C by v.view m1 c.args.station n g (sym c.unpack-found.ensures.state ∙ ap state_code c.in-Free.is)
+    record {
+      same = c.look_at_head-word.ensures.same;
+      reply = head_empty P C by v.view m1 c.args.station n g (sym c.unpack-found.ensures.state ∙ ap state_code c.in-Free.is);
+      head = tt;
+    }
 
-pub returns-in-Open-clause-reply : goal.returns-in-Open-clause-reply
-returns-in-Open-clause-reply c =
+pub returns-in-Open : goal.returns-in-Open
+returns-in-Open c =
     let v = c.args.self.now in
     let P = v.core.program in
     let C = v.core.sizes in
@@ -44,10 +48,14 @@ returns-in-Open-clause-reply c =
     let g = c.look_at_head-word.ensures.grows in
     let word = c.unpack-found.result in
     let early : IsEarly (state_code word.state) = ⊎_elim (λ e. inl (ap state_code e)) (λ o. ⊎_elim (λ e. inr (inl (ap state_code e))) (λ e. inr (inr (ap state_code e))) o) c.in-Open.is in
-    head_early P C by v.view m1 c.args.station n g (subst IsEarly c.unpack-found.ensures.state early)
+    record {
+      same = c.look_at_head-word.ensures.same;
+      reply = head_early P C by v.view m1 c.args.station n g (subst IsEarly c.unpack-found.ensures.state early);
+      head = tt;
+    }
 
-pub returns-in-Addr-clause-reply : goal.returns-in-Addr-clause-reply
-returns-in-Addr-clause-reply c =
+pub returns-in-Addr : goal.returns-in-Addr
+returns-in-Addr c =
     let v = c.args.self.now in
     let P = v.core.program in
     let C = v.core.sizes in
@@ -59,5 +67,10 @@ returns-in-Addr-clause-reply c =
     let late : IsLateState word.state = ⊎_elim (λ e. subst IsLateState (sym e) tt) (λ o. ⊎_elim (λ e. subst IsLateState (sym e) tt) (λ e. subst IsLateState (sym e) tt) o) c.in-Addr.is in
     let end = head_late P C by v.view m1 c.args.station n g word c.unpack-found.ensures.tag c.unpack-found.ensures.state c.unpack-found.ensures.value late in
     let new = c.retire_at_end.new.self.view.seen in
-    answers_on P C by v.view.seen m1.seen new c.retire_at_end.result end.1 (before (λ z. RetireAnswers z.0.program z.0.sizes z.1 m1.seen new c.retire_at_end.result) c.look_at_head-word.ensures.same
-    c.retire_at_end.ensures.reply)
+    record {
+      same = joined c.look_at_head-word.ensures.same c.retire_at_end.ensures.same;
+      reply = answers_on P C by v.view.seen m1.seen new c.retire_at_end.result end.1 (before (λ z. RetireAnswers z.0.program z.0.sizes z.1 m1.seen new c.retire_at_end.result)
+          c.look_at_head-word.ensures.same
+          c.retire_at_end.ensures.reply);
+      head = c.retire_at_end.ensures.head;
+    }

@@ -45,8 +45,8 @@ look_at_creator-found-requires-clause-asked c =
     let at = c.store_link.new.self.view.seen in
     after (λ z. HasAskedFrom z.0.program z.0.sizes at c.args.of.0 c.args.of.1 c.args.k c.args.from.0 c.args.from.1) c.store_link.ensures.same (record { r = x.r; q = x.q; of = x.of })
 
-pub returns-then-not-shows_value-clause-draft : goal.returns-then-not-shows_value-clause-draft
-returns-then-not-shows_value-clause-draft c =
+pub returns-then-not-shows_value : goal.returns-then-not-shows_value
+returns-then-not-shows_value c =
     let v = c.args.self.now in
     let P = v.core.program in
     let C = v.core.sizes in
@@ -55,31 +55,12 @@ returns-then-not-shows_value-clause-draft c =
     let found = c.look_at_creator-found.result in
     let e = taken c.store_link.ensures.same c.look_at_creator-found.ensures in
     let on2 = joined c.store_link.ensures.same c.look_at_creator-found.ensures.same in
-    quiet_found P C found by_is x e
-
-pub returns-then-not-shows_value-clause-reply : goal.returns-then-not-shows_value-clause-reply
-returns-then-not-shows_value-clause-reply c =
-    let v = c.args.self.now in
-    let P = v.core.program in
-    let C = v.core.sizes in
-    let by_is = caller_at c.self.invariant c.self.view_is in
-    let x = asked_now P C by_is c.requires.may c.store_link.ensures.grows in
-    let found = c.look_at_creator-found.result in
-    let e = taken c.store_link.ensures.same c.look_at_creator-found.ensures in
-    let on2 = joined c.store_link.ensures.same c.look_at_creator-found.ensures.same in
-    (is_linked P C found by_is x e (c.shows_value.ensures.unmade c.if-not-shows_value.true)).reply
-
-pub returns-then-not-shows_value-clause-next : goal.returns-then-not-shows_value-clause-next
-returns-then-not-shows_value-clause-next c =
-    let v = c.args.self.now in
-    let P = v.core.program in
-    let C = v.core.sizes in
-    let by_is = caller_at c.self.invariant c.self.view_is in
-    let x = asked_now P C by_is c.requires.may c.store_link.ensures.grows in
-    let found = c.look_at_creator-found.result in
-    let e = taken c.store_link.ensures.same c.look_at_creator-found.ensures in
-    let on2 = joined c.store_link.ensures.same c.look_at_creator-found.ensures.same in
-    next_kept on2 (is_linked P C found by_is x e (c.shows_value.ensures.unmade c.if-not-shows_value.true)).next
+    record {
+      same = on2;
+      draft = quiet_found P C found by_is x e;
+      reply = (is_linked P C found by_is x e (c.shows_value.ensures.unmade c.if-not-shows_value.true)).reply;
+      next = next_kept on2 (is_linked P C found by_is x e (c.shows_value.ensures.unmade c.if-not-shows_value.true)).next;
+    }
 
 pub waiting_word-old-requires : goal.waiting_word-old-requires
 waiting_word-old-requires c =
@@ -116,8 +97,8 @@ take_value-requires-clause-answer c =
     let can = answered_by P C found c.waiting_word-old.ensures.tag (c.value_word-new.ensures.value ∙ c.value_in-value.ensures) by_is x e made in
     after (λ z. CanAnswer z.0.program z.0.sizes c.look_at_creator-found.new.self.view.seen c.args.of.0 (tag_of c.waiting_word-old.result) c.args.k (value_of c.value_word-new.result)) on2 can
 
-pub returns-clause-draft : goal.returns-clause-draft
-returns-clause-draft c =
+pub returns : goal.returns
+returns c =
     let v = c.args.self.now in
     let P = v.core.program in
     let C = v.core.sizes in
@@ -128,32 +109,9 @@ returns-clause-draft c =
     let on2 = joined c.store_link.ensures.same c.look_at_creator-found.ensures.same in
     let made = c.shows_value.ensures.made c.if-not-shows_value.false in
     let end = is_answered P C found c.waiting_word-old.result c.take_value.result by_is x e made refl c.waiting_word-old.ensures.tag (taken on2 c.take_value.ensures) in
-    end.draft
-
-pub returns-clause-reply : goal.returns-clause-reply
-returns-clause-reply c =
-    let v = c.args.self.now in
-    let P = v.core.program in
-    let C = v.core.sizes in
-    let by_is = caller_at c.self.invariant c.self.view_is in
-    let x = asked_now P C by_is c.requires.may c.store_link.ensures.grows in
-    let found = c.look_at_creator-found.result in
-    let e = taken c.store_link.ensures.same c.look_at_creator-found.ensures in
-    let on2 = joined c.store_link.ensures.same c.look_at_creator-found.ensures.same in
-    let made = c.shows_value.ensures.made c.if-not-shows_value.false in
-    let end = is_answered P C found c.waiting_word-old.result c.take_value.result by_is x e made refl c.waiting_word-old.ensures.tag (taken on2 c.take_value.ensures) in
-    end.reply
-
-pub returns-clause-next : goal.returns-clause-next
-returns-clause-next c =
-    let v = c.args.self.now in
-    let P = v.core.program in
-    let C = v.core.sizes in
-    let by_is = caller_at c.self.invariant c.self.view_is in
-    let x = asked_now P C by_is c.requires.may c.store_link.ensures.grows in
-    let found = c.look_at_creator-found.result in
-    let e = taken c.store_link.ensures.same c.look_at_creator-found.ensures in
-    let on2 = joined c.store_link.ensures.same c.look_at_creator-found.ensures.same in
-    let made = c.shows_value.ensures.made c.if-not-shows_value.false in
-    let end = is_answered P C found c.waiting_word-old.result c.take_value.result by_is x e made refl c.waiting_word-old.ensures.tag (taken on2 c.take_value.ensures) in
-    next_kept (joined on2 c.take_value.ensures.same) end.next
+    record {
+      same = joined on2 c.take_value.ensures.same;
+      draft = end.draft;
+      reply = end.reply;
+      next = next_kept (joined on2 c.take_value.ensures.same) end.next;
+    }

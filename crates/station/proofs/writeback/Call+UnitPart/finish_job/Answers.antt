@@ -1,4 +1,4 @@
-use Rattle.std.proofs.Common.{◌≡◌, ◌<◌, sym, subst, refl, arith}
+use Rattle.std.proofs.Common.{◌≡◌, sym, subst, refl, arith}
 use Rattle.inorder.specs.Callers.{HasJob}
 use Rattle.inorder.specs.StationWords.{live_word}
 use Rattle.ruu_words.specs.Content.{IsStation}
@@ -9,11 +9,11 @@ use Rattle.inorder.specs.History.{IsLegal}
 use Rattle.station.specs.Carrying.{HasCarried, HasMadeOf, OfTenant}
 use Rattle.station.specs.Seats.{TheCore}
 use Rattle.station.specs.Writeback.{HasTenant}
-use Rattle.station.proofs.Writing.{finish_all, finish_made, finish_out, finish_stale, job_held, station_inside, tag_small}
+use Rattle.station.proofs.Writing.{finish_all, finish_made, finish_out, finish_stale, job_held, tag_small}
 use Rattle.station.specs.Calls.{IsLegalCall}
 use Rattle.station.proofs.Calls.{legal_at}
 use Rattle.station.specs.Waking.{IsSet, Wakes}
-use Rattle.station.proofs.Calls.{before}
+use Rattle.station.proofs.Calls.{before, joined}
 use Rattle.station.proofs.Waking.{has_woken_none, wakes_behind, wakes_finishing}
 use Rattle.station.proofs.writeback.Call+UnitPart.finish_job.Goals as goal
 
@@ -37,24 +37,14 @@ outcome_word-new-requires c =
     let small = tag_small P v.core.sizes v.view.seen legal held.p job.station job.tag (HasJob P v.view.by job.predicted c.args.outcome) held.named in
     omega arith
 
-pub finish_tenant-found-requires-clause-place : goal.finish_tenant-found-requires-clause-place
-finish_tenant-found-requires-clause-place c =
-    let v = c.args.self.now in
-    let legal : IsLegalCall v = legal_at c.self.invariant c.self.view_is in
-    let P = v.core.program in
-    let job = c.args.job in
-    let held = job_held P v.core.sizes v.view.by v.view.seen job c.args.outcome c.requires.job c.requires.outcome in
-    (station_inside P v.core.sizes v.view.seen legal held.p job.station job.tag (HasJob P v.view.by job.predicted c.args.outcome) held.named)
-
-pub finish_tenant-found-requires-clause-old : goal.finish_tenant-found-requires-clause-old
-finish_tenant-found-requires-clause-old c =
+pub finish_tenant-found-requires-clause-words : goal.finish_tenant-found-requires-clause-words
+finish_tenant-found-requires-clause-words c =
     let is = c.busy_word-old.ensures c.args.self.now.view.by in
-    record { tag = refl; state = is.state; value = is.value }
-
-pub finish_tenant-found-requires-clause-new : goal.finish_tenant-found-requires-clause-new
-finish_tenant-found-requires-clause-new c =
     let tag : tag_of c.busy_word-old.result ≡ c.args.job.tag = (c.busy_word-old.ensures c.args.self.now.view.by).tag in
-    subst (λ g. IsStation (live_word g (fate_of c.args.job.predicted c.args.outcome)) c.outcome_word-new.result) (sym tag) c.outcome_word-new.ensures
+    record {
+      old_is = record { tag = refl; state = is.state; value = is.value };
+      new_is = subst (λ g. IsStation (live_word g (fate_of c.args.job.predicted c.args.outcome)) c.outcome_word-new.result) (sym tag) c.outcome_word-new.ensures;
+    }
 
 pub finish_tenant-found-requires-clause-job : goal.finish_tenant-found-requires-clause-job
 finish_tenant-found-requires-clause-job c =
@@ -65,8 +55,8 @@ finish_tenant-found-requires-clause-job c =
     subst (λ g. HasTenant P v.core.sizes v.view.seen job.station g (HasJob P v.view.by job.predicted c.args.outcome)) (sym tag)
     (job_held P v.core.sizes v.view.by v.view.seen job c.args.outcome c.requires.job c.requires.outcome)
 
-pub returns-then-found-old-clause-reply : goal.returns-then-found-old-clause-reply
-returns-then-found-old-clause-reply c =
+pub returns-then-found-old : goal.returns-then-found-old
+returns-then-found-old c =
     let v = c.args.self.now in
     let P = v.core.program in
     let C = v.core.sizes in
@@ -75,17 +65,12 @@ returns-then-found-old-clause-reply c =
     let n = c.finish_tenant-found.result in
     let w = c.finish_tenant-found.new.self.view in
     let step = subst (λ g. Grows P C v.view.by v.view w (Finishes P C job.station g c.args.outcome old n)) (c.busy_word-old.ensures v.view.by).tag c.finish_tenant-found.ensures.grows in
-    finish_stale P C v.view.by job.station job.tag old n c.args.outcome v.view w step c.if-found-old.true
-
-pub carry-woken-requires-clause-from : goal.carry-woken-requires-clause-from
-carry-woken-requires-clause-from c =
-    let v = c.args.self.now in
-    let legal : IsLegalCall v = legal_at c.self.invariant c.self.view_is in
-    let P = v.core.program in
-    let job = c.args.job in
-    let held = job_held P v.core.sizes v.view.by v.view.seen job c.args.outcome c.requires.job c.requires.outcome in
-    subst (λ (k : TheCore). job.station < k.sizes.ring) (sym c.finish_tenant-found.ensures.same.core)
-    (station_inside P v.core.sizes v.view.seen legal held.p job.station job.tag (HasJob P v.view.by job.predicted c.args.outcome) held.named)
+    record {
+      same = c.finish_tenant-found.ensures.same;
+      reply = finish_stale P C v.view.by job.station job.tag old n c.args.outcome v.view w step c.if-found-old.true;
+      woken = has_woken_none P C v.view.by v.view.seen w.seen (wakes_finishing P C v.view.by c.args.job.station (tag_of old) old c.finish_tenant-found.result c.args.outcome v.view w
+          c.finish_tenant-found.ensures.grows);
+    }
 
 pub carry-woken-requires-clause-made : goal.carry-woken-requires-clause-made
 carry-woken-requires-clause-made c =
@@ -100,8 +85,8 @@ carry-woken-requires-clause-made c =
     subst (λ (k : TheCore). HasMadeOf k.program k.sizes w.seen job.station job.tag c.args.outcome) (sym c.finish_tenant-found.ensures.same.core)
     (finish_made P C v.view.by job.station job.tag old n c.args.outcome v.view w step c.if-found-old.false)
 
-pub returns-clause-reply : goal.returns-clause-reply
-returns-clause-reply c =
+pub returns : goal.returns
+returns c =
     let v = c.args.self.now in
     let P = v.core.program in
     let C = v.core.sizes in
@@ -111,34 +96,18 @@ returns-clause-reply c =
     let w = c.finish_tenant-found.new.self.view in
     let step = subst (λ g. Grows P C v.view.by v.view w (Finishes P C job.station g c.args.outcome old n)) (c.busy_word-old.ensures v.view.by).tag c.finish_tenant-found.ensures.grows in
     let out = finish_out P C v.view.by job.station job.tag old n c.args.outcome v.view w step c.if-found-old.false in
-    finish_all P C v.view.by c.finish_tenant-found.new.self.view.by job.station job.tag c.args.outcome _ v.view.seen w.seen c.carry-woken.new.self.view.seen c.requires.outcome
-    c.finish_tenant-found.ensures.same.by out (subst (λ (k : TheCore). OfTenant k.program k.sizes w.seen job.station job.tag
-    (λ q. HasCarried k.program k.sizes c.finish_tenant-found.new.self.view.by q c.args.outcome w.seen c.carry-woken.new.self.view.seen)) c.finish_tenant-found.ensures.same.core
-    c.carry-woken.ensures.carried)
+    let new = c.carry-woken.new.self.view.seen in
+    let done = wakes_finishing P C v.view.by c.args.job.station (tag_of old) old c.finish_tenant-found.result c.args.outcome v.view w c.finish_tenant-found.ensures.grows in
+    record {
+      same = joined c.finish_tenant-found.ensures.same c.carry-woken.ensures.same;
+      reply = finish_all P C v.view.by c.finish_tenant-found.new.self.view.by job.station job.tag c.args.outcome _ v.view.seen w.seen c.carry-woken.new.self.view.seen c.requires.outcome
+          c.finish_tenant-found.ensures.same.by out (subst (λ (k : TheCore). OfTenant k.program k.sizes w.seen job.station job.tag
+          (λ q. HasCarried k.program k.sizes c.finish_tenant-found.new.self.view.by q c.args.outcome w.seen c.carry-woken.new.self.view.seen)) c.finish_tenant-found.ensures.same.core
+          c.carry-woken.ensures.reply);
+      woken = wakes_behind P C v.view.by v.view.by c.carry-woken.result v.view.seen w.seen new refl done
+          (before (λ z. Wakes z.0.program z.0.sizes z.1 w.seen new (IsSet c.carry-woken.result)) c.finish_tenant-found.ensures.same c.carry-woken.ensures.woken);
+    }
 
 pub carry-woken-requires-clause-legal : goal.carry-woken-requires-clause-legal
 carry-woken-requires-clause-legal c = subst (λ (k : TheCore). IsLegal k.program k.sizes c.finish_tenant-found.new.self.view.seen) (sym c.finish_tenant-found.ensures.same.core)
     c.finish_tenant-found.ensures.grows.legal
-
-pub returns-then-found-old-clause-woken : goal.returns-then-found-old-clause-woken
-returns-then-found-old-clause-woken c =
-    let v = c.args.self.now in
-    let P = v.core.program in
-    let C = v.core.sizes in
-    let old = c.busy_word-old.result in
-    let w = c.finish_tenant-found.new.self.view in
-    has_woken_none P C v.view.by v.view.seen w.seen (wakes_finishing P C v.view.by c.args.job.station (tag_of old) old c.finish_tenant-found.result c.args.outcome v.view w
-    c.finish_tenant-found.ensures.grows)
-
-pub returns-clause-woken : goal.returns-clause-woken
-returns-clause-woken c =
-    let v = c.args.self.now in
-    let P = v.core.program in
-    let C = v.core.sizes in
-    let old = c.busy_word-old.result in
-    let at = c.finish_tenant-found.new.self in
-    let w = at.view in
-    let new = c.carry-woken.new.self.view.seen in
-    let done = wakes_finishing P C v.view.by c.args.job.station (tag_of old) old c.finish_tenant-found.result c.args.outcome v.view w c.finish_tenant-found.ensures.grows in
-    wakes_behind P C v.view.by v.view.by c.carry-woken.result v.view.seen w.seen new refl done
-    (before (λ z. Wakes z.0.program z.0.sizes z.1 w.seen new (IsSet c.carry-woken.result)) c.finish_tenant-found.ensures.same c.carry-woken.ensures.woken)

@@ -1,10 +1,14 @@
+use Rattle.station.proofs.Places.{about_inside}
 use Rattle.ruu_words.proofs.Drafting.{let_plan}
 use Rattle.station.specs.Letting.{supply_of}
 use Rattle.station.proofs.steps.dispatch.Call+FrontPart.let_tenant.Goals as goal
 
-pub store-requires-clause-may : goal.store-requires-clause-may
-store-requires-clause-may c _ caller =
+pub store-requires : goal.store-requires
+store-requires c _ caller legal =
     let v = c.args.self.now in
-    let t = c.args.tenant in
-    let_plan v.core.program v.core.sizes t.index t.predicted (supply_of t.sources.0) (supply_of t.sources.1) v.view.by v.view c.args.station c.args.word caller c.requires.draft c.requires.may.may
-    c.requires.station c.requires.word
+    let t = c.args.tenant in (
+      about_inside c.requires.letting,
+      let_plan v.core.program v.core.sizes t.index t.predicted (supply_of t.sources.0) (supply_of t.sources.1) v.view.by v.view c.args.station c.args.word caller
+          c.requires.letting.draft_is c.requires.letting.may.may
+          c.requires.letting.station_is c.requires.word,
+    )

@@ -1,7 +1,10 @@
+use Rattle.station.proofs.Places.{inside}
 use Rattle.station.proofs.Asking.{finds_plan}
 use Rattle.station.proofs.steps.wakeup.Call+FrontPart.look_at_creator.Goals as goal
 
-pub load-requires-clause-may : goal.load-requires-clause-may
-load-requires-clause-may c _ caller =
-    let v = c.args.self.now in
-    finds_plan v.core.program v.core.sizes v.view.by v.view c.args.of.0 c.args.of.1 c.args.k c.args.from.0 c.args.from.1 caller c.requires.draft c.requires.asked
+pub load-requires : goal.load-requires
+load-requires c _ caller legal =
+    let v = c.args.self.now in (
+      inside v legal c.requires.asked.of.creator,
+      finds_plan v.core.program v.core.sizes v.view.by v.view c.args.of.0 c.args.of.1 c.args.k c.args.from.0 c.args.from.1 caller c.requires.draft c.requires.asked,
+    )

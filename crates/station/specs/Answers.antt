@@ -1,0 +1,78 @@
+-- What the calls of a core answer, of a seat before the call and behind it.
+use Rattle.std.specs.Prelude.{ℕ, List}
+use Rattle.inorder.specs.declared.history.Event.{Event}
+use Rattle.inorder.specs.declared.history.Source.{Source}
+use Rattle.inorder.specs.History.{unit_of}
+use Rattle.inorder.specs.OneHistory.{Adds}
+use Rattle.inorder.specs.Unit.{UpdateUnit}
+use Rattle.station.specs.declared.answers.Ask.{Ask}
+use Rattle.station.specs.declared.answers.Claim.{Claim}
+use Rattle.station.specs.declared.answers.Finish.{Finish}
+use Rattle.station.specs.declared.answers.Job.{Job}
+use Rattle.station.specs.declared.answers.Retire.{Retire}
+use Rattle.station.specs.declared.answers.Settle.{Settle}
+use Rattle.station.specs.declared.answers.Tenant.{Tenant as Letting}
+use Rattle.station.specs.Asking.{AskAnswers}
+use Rattle.station.specs.Claiming.{ClaimAnswers}
+use Rattle.station.specs.Letting.{IsLetOut, MayLetOut}
+use Rattle.station.specs.Recovery.{IsMended, WasSquashed}
+use Rattle.station.specs.Retirement.{RetireAnswers}
+use Rattle.station.specs.Seats.{Caller, TheCore}
+use Rattle.station.specs.Waking.{Wakes}
+use Rattle.station.specs.Writeback.{FinishAnswers, SettleAnswers}
+
+-- What may be said of a seat before a call and behind it, at a core
+abbrev pub Reply : Type 1
+Reply = TheCore → Caller → Caller → Type 0
+
+-- The unit that a seat's caller has seen
+abbrev pub unit_seen : TheCore → Caller → UpdateUnit
+unit_seen core v = unit_of core.program core.sizes v.seen
+
+-- The caller has added these events, the last one first
+abbrev pub OnlyAdds : List Event → Reply
+OnlyAdds events core v w = Adds core.program core.sizes v.by v.seen w.seen events
+
+-- The front may let this tenant out
+abbrev pub MayLetNow : Letting → TheCore → Caller → Type 0
+MayLetNow t core v = MayLetOut core.program core.sizes (unit_seen core v) t
+
+-- The tenant was let
+abbrev pub IsLetNow : Letting → Reply
+IsLetNow t core v w = IsLetOut core.program core.sizes v.by t v.seen w.seen
+
+-- What a question for a source, by station and tag, comes to
+abbrev pub AnswersAsk : ℕ × ℕ → Source → ℕ × ℕ → Ask → Reply
+AnswersAsk of k from r core v w =
+    AskAnswers core.program core.sizes v.by v.seen w.seen of.0 of.1 k from.0 from.1 r
+
+-- What a claim answers
+abbrev pub AnswersClaim : ℕ → Claim → Reply
+AnswersClaim station r core v w =
+    ClaimAnswers core.program core.sizes v.by v.seen w.seen station r
+
+-- What a writeback answers
+abbrev pub AnswersFinish : Job → Finish → Reply
+AnswersFinish job r core v w = FinishAnswers core.program core.sizes v.by v.seen w.seen job r
+
+-- What the settling of a load answers
+abbrev pub AnswersSettle : ℕ → ℕ → Settle → Reply
+AnswersSettle station tag r core v w =
+    SettleAnswers core.program core.sizes v.by v.seen w.seen station tag r
+
+-- Values were taken to tenants of these stations
+abbrev pub Woke : (ℕ → Type 0) → Reply
+Woke Station core v w = Wakes core.program core.sizes v.by v.seen w.seen Station
+
+-- What a retirement answers
+abbrev pub AnswersRetire : Retire → Reply
+AnswersRetire r core v w = RetireAnswers core.program core.sizes v.by v.seen w.seen r
+
+-- The miss of this station was mended
+abbrev pub MendsAt : ℕ → Reply
+MendsAt station core v w = IsMended core.program core.sizes v.by station v.seen w.seen
+
+-- The tenant of this station and tag was squashed
+abbrev pub SquashesAt : ℕ → ℕ → Reply
+SquashesAt station tag core v w =
+    WasSquashed core.program core.sizes v.by station tag v.seen w.seen
