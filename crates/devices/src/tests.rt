@@ -90,8 +90,8 @@ fn an_input_is_answered_by_what_was_taken(rt: HostRuntime) -> Result<(), Fail> {
     let mut writer = Counted::new(Vec::new(rt.alloc()));
     let told = reply_to(rt.alloc(), &mut reader, &mut writer, Echo).ok();
     assert_eq!(rt; told, Some(4));
-    assert_eq!(rt; writer.into_inner().as_slice(), b"stat");
-    assert_eq!(rt; reader.into_inner(), b"ion");
+    assert_eq!(rt; writer.into_inner().as_slice(), b"stat".as_slice());
+    assert_eq!(rt; reader.into_inner(), b"ion".as_slice());
     Ok(())
 }
 
