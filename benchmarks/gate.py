@@ -1,15 +1,17 @@
 #!/usr/bin/env python3
 """What the gate costs, by crate and part: benchmarks/gate.py CRATE.., or all crates with none named, which takes hours.
 
-Of each crate it is proved from nothing, then its tests, then each edit that has to be refused. What is printed are seconds
-of one processor (user and system), so that a machine that does other work beside it changes little. The libraries below a
-crate are built before it is timed, and what the crate's folder out/ held is lost."""
+Of each crate it is proved from nothing, then its tests from nothing, then each edit that has to be refused, over one more
+proof from nothing, as the gate does it. What is printed are seconds of one processor (user and system), so that a machine
+that does other work beside it changes little. The libraries below a crate are built before it is timed, and what the
+crate's folder out/ held is lost."""
 import glob
 import os
 import resource
 import shutil
 import subprocess
 import sys
+import tempfile
 
 ROOT = os.path.dirname(os.path.dirname(os.path.realpath(__file__)))
 
@@ -20,6 +22,18 @@ def seconds(folder, *words):
     run = subprocess.run(words, cwd=folder, stdin=subprocess.DEVNULL, stdout=subprocess.PIPE, stderr=subprocess.STDOUT, check=False)
     after = resource.getrusage(resource.RUSAGE_CHILDREN)
     return after.ru_utime - before.ru_utime + after.ru_stime - before.ru_stime, run.returncode == 0
+
+
+def from_nothing(folder, *words):
+    """The same for a check that begins with nothing that an earlier one kept, here or in another copy of the repository:
+    where the folder of kept work is a link, rt leaves it as it is."""
+    with tempfile.TemporaryDirectory() as empty:
+        shutil.rmtree(f"{folder}/out", ignore_errors=True)
+        os.mkdir(f"{folder}/out")
+        os.symlink(empty, f"{folder}/out/incremental")
+        found = seconds(folder, *words)
+        shutil.rmtree(f"{folder}/out", ignore_errors=True)
+    return found
 
 
 def crates():
@@ -39,17 +53,16 @@ def has_tests(folder):
 def measured(name):
     """Of a crate, the seconds of its proof, of its tests and of its edits, and whether all went well."""
     folder = f"{ROOT}/crates/{name}"
-    # the libraries below are built, and nothing of the crate itself is there
+    # the libraries below are built
     subprocess.run([f"{ROOT}/prove", name], stderr=subprocess.DEVNULL, check=False)
-    shutil.rmtree(f"{folder}/out", ignore_errors=True)
-    proof, is_well = seconds(folder, "rt", "check", "--jobs", "1")
+    proof, is_well = from_nothing(folder, "rt", "check", "--jobs", "1")
     tests = edits = 0.0
     if has_tests(folder):
-        tests, passed = seconds(folder, "rt", "test", "--jobs", "1")
+        tests, passed = from_nothing(folder, "rt", "test", "--jobs", "1")
         is_well = is_well and passed
     count = len(glob.glob(f"{folder}/must-fail/*.edit"))
     if count:
-        edits, refused = seconds(ROOT, "rt", "must-fail", name)
+        edits, refused = seconds(ROOT, "rt", "must-fail", "--anew", name)
         is_well = is_well and refused
     return proof, tests, count, edits, is_well
 

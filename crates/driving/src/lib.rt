@@ -11,6 +11,3 @@ mod seats;
 pub use chain::{is_chain, second_outcome};
 pub use drive::{Worked, first_outcome, work};
 pub use seats::{Seats, gather, make};
-
-#[cfg(test)]
-mod tests;

@@ -2,7 +2,7 @@
 ghost use Rattle.std.specs.Prelude.{◌≡◌, ◌<◌, ◌≤◌};
 ghost use Rattle.station.specs.Seats.{IsSame};
 
-use crate::drive::{finish_job, finish_one, let_at, made, takes};
+use crate::drive::{Done, finish_job, finish_one, let_at, made, takes};
 use front::{Front, Turn};
 use instructions::{NotTaken, Program};
 use station::{Claim, Core, Finish, Source, UnitSeat, jobs_stay};
@@ -34,8 +34,7 @@ fn claim(core: &Core, program: &Program, seat: &mut UnitSeat, station: usize) ->
 {
     match core.claim(seat, station) {
         Claim::Job(job) => {
-            let (a, b) = (job.a, job.b);
-            let finish = finish_job(core, program, seat, job);
+            let Done { a, b, finish, .. } = finish_job(core, program, seat, job);
             Claimed::Job { a, b, finish }
         }
         Claim::NotOpen => Claimed::NotOpen,
@@ -104,8 +103,8 @@ fn meets_with_a_job(
             core.meet(one, other);
             let first = claim(core, program, other, 0);
             let second = claim(core, program, other, 1);
-            let finish = finish_job(core, program, one, job);
-            Some((first, second, finish))
+            let done = finish_job(core, program, one, job);
+            Some((first, second, done.finish))
         }
         Claim::NotOpen => None,
         Claim::Waiting { tag: _, k: _ } => None,

@@ -6,7 +6,7 @@ ghost use Rattle.station.specs.Seats.{IsSame};
 
 use back::{Back, Commit, Naming, Snapper};
 use front::{Front, Turn};
-use instructions::{Config, Predictor, Program, outcome_of};
+use instructions::{Config, NotTaken, Outcome, Predictor, Program, outcome_of};
 use isa::parse;
 use station::{
     BackSeat, Claim, Core, Finish, Job, UnitSeat, a_job_is_of_the_program, what_is_seen_is_legal,
@@ -47,8 +47,26 @@ pub fn takes<'a, P: Predictor + Drop>(
     }
 }
 
+/// What came of a job: its sources, its outcome, and the answer.
+#[derive(Clone, Copy, Debug, PartialEq)]
+pub struct Done {
+    pub a: u32,
+    pub b: u32,
+    pub outcome: Outcome,
+    pub finish: Finish,
+}
+
+pub fn finished(a: u32, b: u32, outcome: Outcome) -> Done {
+    Done {
+        a,
+        b,
+        outcome,
+        finish: Finish::Finished,
+    }
+}
+
 /// Finishes a job by its outcome.
-pub fn finish_job(core: &Core, program: &Program, seat: &mut UnitSeat, job: Job) -> Finish
+pub fn finish_job(core: &Core, program: &Program, seat: &mut UnitSeat, job: Job) -> Done
     requires core { seat.old.core ≡ core.now }
     requires program { program.now ≡ core.now.program }
     requires job { Holds core.now.program core.now.sizes seat.old.by seat.old.seen job }
@@ -57,22 +75,42 @@ pub fn finish_job(core: &Core, program: &Program, seat: &mut UnitSeat, job: Job)
     what_is_seen_is_legal(seat);
     a_job_is_of_the_program();
     let instr = program.instr(job.index as usize);
-    let found = outcome_of(instr, job.half, job.pc, job.a, job.b, program.size());
-    core.finish(seat, job, found)
+    let outcome = outcome_of(instr, job.half, job.pc, job.a, job.b, program.size());
+    let (a, b) = (job.a, job.b);
+    let finish = core.finish(seat, job, outcome);
+    Done {
+        a,
+        b,
+        outcome,
+        finish,
+    }
 }
 
-/// Claims the tenant of a station, and finishes it by its outcome.
-pub fn finish_one(core: &Core, program: &Program, seat: &mut UnitSeat, station: usize) -> bool
+/// Claims the tenant of a station and finishes it.
+pub fn work(core: &Core, program: &Program, seat: &mut UnitSeat, station: usize) -> Option<Done>
     requires core { seat.old.core ≡ core.now }
     requires program { program.now ≡ core.now.program }
     requires station { station < core.now.sizes.ring }
     ensures kept { IsSame seat.old seat.new }
 {
     match core.claim(seat, station) {
-        Claim::Job(job) => finish_job(core, program, seat, job) == Finish::Finished,
-        Claim::NotOpen => false,
-        Claim::Waiting { tag: _, k: _ } => false,
-        Claim::Moved { tag: _ } => false,
+        Claim::Job(job) => Some(finish_job(core, program, seat, job)),
+        Claim::NotOpen => None,
+        Claim::Waiting { tag: _, k: _ } => None,
+        Claim::Moved { tag: _ } => None,
+    }
+}
+
+/// Whether the tenant of a station is claimed and finished.
+pub fn finish_one(core: &Core, program: &Program, seat: &mut UnitSeat, station: usize) -> bool
+    requires core { seat.old.core ≡ core.now }
+    requires program { program.now ≡ core.now.program }
+    requires station { station < core.now.sizes.ring }
+    ensures kept { IsSame seat.old seat.new }
+{
+    match work(core, program, seat, station) {
+        Some(done) => done.finish == Finish::Finished,
+        None => false,
     }
 }
 
@@ -94,6 +132,33 @@ pub fn back_at<J: Naming>(
         Ok(made) => Ok(made),
         Err((memory, _)) => Err(memory.into()),
     }
+}
+
+/// A core, and who works on it by hand: the front, the back, a snapper and a unit.
+pub type Hands<'a, J> = (Core, Front<'a, NotTaken>, Back<J>, Snapper<J>, UnitSeat);
+
+/// The core of so many stations that the configuration has. Its front has taken these turns.
+pub fn by_hand<'a, J: Naming>(
+    rt: &impl Abort,
+    alloc: Global,
+    program: &'a Program,
+    config: &Config,
+    ring: usize,
+    turns: &[Turn],
+) -> Result<Hands<'a, J>, Fail>
+    requires { program.now ≡ J.program }
+    ensures program { IfOk result (λ made. made.0.program ≡ program.now) }
+    ensures ring { IfOk result (λ made. made.0.sizes.ring ≡ ring) }
+    ensures front { IfOk result (λ made. made.1.core ≡ made.0) }
+    ensures back { IfOk result (λ made. made.2.core ≡ made.0) }
+    ensures unit { IfOk result (λ made. made.4.core ≡ made.0) }
+{
+    let (core, seat, back_seat, unit) = Core::make(alloc, program, config)?;
+    assert!(rt; core.ring() == ring);
+    let mut front = Front::new(&core, seat, program, NotTaken);
+    takes(rt, &core, &mut front, turns);
+    let (back, snapper) = back_at::<J>(alloc, &core, back_seat, program, config)?;
+    Ok((core, front, back, snapper, unit))
 }
 
 // A commit, while the count can grow.

@@ -1,7 +1,7 @@
 //! A job that is held while its station is let again and again.
 ghost use Rattle.std.specs.Prelude.{◌≡◌, ◌≤◌};
 
-use crate::drive::{back_at, commits, finish_job, finish_one, let_at, made, retired, takes};
+use crate::drive::{by_hand, commits, finish_job, finish_one, let_at, made, retired, takes};
 use back::{Back, Naming};
 use front::{Front, Recovery, Turn};
 use instructions::{Config, NotTaken, Program};
@@ -67,7 +67,7 @@ fn finishes_late<'a, J: Naming>(
     match core.claim(&mut one, 1) {
         Claim::Job(job) => {
             lets_again(rt, core, program, front, &mut other, back);
-            Some(finish_job(core, program, &mut one, job))
+            Some(finish_job(core, program, &mut one, job).finish)
         }
         Claim::NotOpen => None,
         Claim::Waiting { tag: _, k: _ } => None,
@@ -83,13 +83,11 @@ fn job_over_lets<J: Naming, R: Wait + Abort>(
 ) -> Result<(), Fail>
     requires { program.now ≡ J.program }
 {
-    let (core, seat, back_seat, unit) = Core::make(alloc, program, config)?;
-    assert!(rt; core.ring() == 2);
-    let mut front = Front::new(&core, seat, program, NotTaken);
     let lets = [let_at(0, 1, 0x0040_0000), let_at(1, 1, 0x0040_0004)];
-    takes(rt, &core, &mut front, &lets);
+    let (core, mut front, mut back, _snapper, unit) = by_hand::<J>(
+        rt, alloc, program, config, 2, &lets,
+    )?;
     let units = core.split(unit);
-    let (mut back, _snapper) = back_at::<J>(alloc, &core, back_seat, program, config)?;
     let late = finishes_late(rt, &core, program, &mut front, units, &mut back);
     let word = front.look(&core, 1);
     let end = back.end(rt);

@@ -37,6 +37,3 @@ pub use laws::{
 };
 pub use ruu_words::StationState;
 pub use seat::{BackSeat, FrontSeat, Part, SeatOf, UnitSeat, Writer};
-
-#[cfg(test)]
-mod tests;

@@ -4,8 +4,8 @@ use Rattle.inorder.specs.OneHistory.{Adds}
 use Rattle.station.specs.Claiming.{Holds}
 use Rattle.rows.proofs.claims.meets_with_a_job.Goals as goal
 
-pub finish_job-finish-requires-clause-job : goal.finish_job-finish-requires-clause-job
-finish_job-finish-requires-clause-job c =
+pub finish_job-done-requires-clause-job : goal.finish_job-done-requires-clause-job
+finish_job-done-requires-clause-job c =
     let P = c.args.core.now.program in
     let C = c.args.core.now.sizes in
     let job = c.in-Job.job in
