@@ -1,6 +1,7 @@
 //! Times the parser, the in-order machine and the one-thread unit on the listing of standard input; or, given a
-//! number of units and a limit of instructions, and then also the stations and the first tag, the one-thread unit and
-//! the unit shared by threads, whose reports have to be the same. Standard output stays empty; the count and the times
+//! number of units and a limit of instructions, and then also the stations, the first tag, and how many nanoseconds each
+//! unit takes longer for what it has claimed, the one-thread unit and the unit shared by threads, whose reports have to be
+//! the same. Standard output stays empty; the count and the times
 //! in microseconds go to standard error.
 #![tactic(auto)]
 
@@ -8,7 +9,8 @@ use devices::{Counted, read_up_to};
 use inorder::Machine;
 use instructions::{Bimod, Config, End, Program};
 use isa::{parse, report_text};
-use pool::{Open, Run, run};
+use pool::{Gate, Open, Run, Tally, run};
+use snapshots::Snap;
 use std::alloc::Global;
 use std::env;
 use std::io::Eprint;
@@ -40,6 +42,38 @@ struct Shape {
     limit: u64,
     ring: u64,
     first_tag: u64,
+    // so many nanoseconds longer takes each unit for what it has claimed
+    longer: u64,
+}
+
+// Has each unit take so many nanoseconds longer.
+struct Slow<'a, R: Clock> {
+    clock: &'a R,
+    longer: u64,
+}
+
+impl<'a, R: Clock> Gate for Slow<'a, R> {
+    fn held(&self, _unit: u32, _station: u32) -> bool {
+        take(self.clock, self.longer);
+        false
+    }
+
+    fn seen(&self, _place: u32, _snap: &Snap) {}
+
+    fn counted(&self, _tally: &Tally) {}
+}
+
+// Returns after so many nanoseconds: each look at the clock takes more than one.
+fn take<R: Clock>(clock: &R, nanos: u64) {
+    let Ok(started) = Instant::now(clock) else {
+        return;
+    };
+    for _ in 0..nanos {
+        match Instant::now(clock) {
+            Ok(now) if now.duration_since(started).as_nanos() < nanos as u128 => {}
+            _ => return,
+        }
+    }
 }
 
 fn main(rt: HostRuntime) -> ExitCode {
@@ -77,6 +111,7 @@ fn asked(rt: &HostRuntime) -> Result<Option<Shape>, Failure> {
         limit: number(words.get(2), None)?,
         ring: number(words.get(3), Some(16))?,
         first_tag: number(words.get(4), Some(1))?,
+        longer: number(words.get(5), Some(0))?,
     }))
 }
 
@@ -153,6 +188,7 @@ fn time_alone(rt: &HostRuntime) -> Result<(), Failure> {
         limit: LIMIT,
         ring: 16,
         first_tag: 1,
+        longer: 0,
     };
     let n = run_alone(rt.alloc(), &program, &configured(&shape)?)?.n;
     let ended = now(rt)?;
@@ -174,7 +210,16 @@ fn time_pool<R: Clock + Eprint + Threads + Wait + Sync>(
     let started = now(rt)?;
     let expected = run_alone(alloc, &program, &config)?;
     let ran = now(rt)?;
-    let (end, tally) = match run(rt, alloc, &program, &config, Bimod::new(), &Open) {
+    let gone = if shape.longer == 0 {
+        run(rt, alloc, &program, &config, Bimod::new(), &Open)
+    } else {
+        let slow = Slow {
+            clock: rt,
+            longer: shape.longer,
+        };
+        run(rt, alloc, &program, &config, Bimod::new(), &slow)
+    };
+    let (end, tally) = match gone {
         Run::Ended(end, tally) | Run::LimitReached(end, tally) => (end, tally),
         Run::Refused(_) => return Err(Failure::Resource),
     };
