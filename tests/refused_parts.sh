@@ -19,7 +19,7 @@ while read -r crate name; do
 done <<'END_OF_TESTS'
 rows want_of_memory::a_core_that_is_refused_memory_is_made_at_the_next_try
 rows want_of_memory::a_renewal_that_is_refused_memory_is_made_at_the_next_try
-back tests::what_is_refused_memory_is_done_at_the_next_try
-charts tests::memory::a_run_that_is_refused_memory_is_told_at_the_next_try
-pool tests::renewals::a_run_that_is_refused_memory_renews_at_the_next_try
+rows snapshots_of_commits::what_is_refused_memory_is_done_at_the_next_try
+runs told::memory::a_run_that_is_refused_memory_is_told_at_the_next_try
+runs threads::renewals::a_run_that_is_refused_memory_renews_at_the_next_try
 END_OF_TESTS

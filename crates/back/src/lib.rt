@@ -19,6 +19,3 @@ pub use backs::Back;
 pub use laws::a_back_enters_behind_a_renewal;
 pub use snapshots::{Gone, Mark, Naming, NoPlace, Snap, Snapper};
 pub use still::BackStill;
-
-#[cfg(test)]
-mod tests;

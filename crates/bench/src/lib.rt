@@ -9,6 +9,3 @@ pub use bytes::alone;
 pub use devices::Counted;
 pub use outcome::{Fault, Status};
 pub use unit::{Bench, Turn};
-
-#[cfg(test)]
-mod tests;

@@ -18,6 +18,3 @@ pub use laws::{a_row_names_its_tenant, what_is_told_has_happened};
 pub use row::{Phase, Row};
 pub use telling::Format;
 pub use watched::{Fault, watch};
-
-#[cfg(test)]
-mod tests;

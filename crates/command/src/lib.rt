@@ -3,8 +3,6 @@
 
 mod hand;
 mod running;
-#[cfg(test)]
-mod tests;
 mod threads;
 
 pub use hand::go_by_hand;

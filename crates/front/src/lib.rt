@@ -11,8 +11,6 @@ mod path;
 mod queue;
 mod recovery;
 mod rest;
-#[cfg(test)]
-mod rows;
 mod still;
 mod supply;
 mod training;

@@ -25,6 +25,3 @@ pub use counts::Tally;
 pub use gate::{Gate, Open};
 pub use running::{run, run_in_turns};
 pub use turns::Turns;
-
-#[cfg(test)]
-mod tests;

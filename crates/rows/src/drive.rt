@@ -56,6 +56,15 @@ pub struct Done {
     pub finish: Finish,
 }
 
+pub fn finished(a: u32, b: u32, outcome: Outcome) -> Done {
+    Done {
+        a,
+        b,
+        outcome,
+        finish: Finish::Finished,
+    }
+}
+
 /// Finishes a job by its outcome.
 pub fn finish_job(core: &Core, program: &Program, seat: &mut UnitSeat, job: Job) -> Done
     requires core { seat.old.core ≡ core.now }

@@ -1,10 +1,10 @@
 //! Multiplications, whose two halves retire one by one.
 ghost use Rattle.std.specs.Prelude.{◌≡◌, ◌≤◌};
 
-use crate::drive::{back_at, commits, finish_one, half, let_at, made, retired, takes};
+use crate::drive::{by_hand, commits, finish_one, half, let_at, made, retired, takes};
 use back::{Back, Commit, Naming, Snapper};
-use front::{Front, Recovery};
-use instructions::{Config, End, Ending, NotTaken, Program, Stop};
+use front::{Recovery, Turn};
+use instructions::{Config, End, Ending, Program, Stop};
 use station::{Core, UnitSeat};
 use std::alloc::Global;
 use std::marker::Brand;
@@ -19,16 +19,13 @@ const LO: usize = 32;
 const HI: usize = 33;
 
 // The product of -3 by itself: its halves stand at stations 1 and 2.
-fn let_square<'a>(rt: &impl Abort, core: &Core, front: &mut Front<'a, NotTaken>)
-    requires { front.old.core ≡ core.now }
-{
-    let lets = [
+fn square() -> [Turn; 4] {
+    [
         let_at(0, 1, 0x0040_0000),
         let_at(1, 1, 0x0040_0004),
         let_at(2, 1, 0x0040_0004),
         let_at(3, 1, 0x0040_0008),
-    ];
-    takes(rt, core, front, &lets);
+    ]
 }
 
 // The first half is finished and retires, and the second cannot retire.
@@ -79,11 +76,14 @@ fn snapshots_of_a_product<J: Naming, R: Wait + Abort>(
 ) -> Result<(), Fail>
     requires { program.now ≡ J.program }
 {
-    let (core, seat, back_seat, mut unit) = Core::make(alloc, program, config)?;
-    assert!(rt; core.ring() == 4);
-    let mut front = Front::new(&core, seat, program, NotTaken);
-    let_square(rt, &core, &mut front);
-    let (mut back, mut snapper) = back_at::<J>(alloc, &core, back_seat, program, config)?;
+    let (core, _front, mut back, mut snapper, mut unit) = by_hand::<J>(
+        rt,
+        alloc,
+        program,
+        config,
+        4,
+        &square(),
+    )?;
     first_half_retires(rt, &core, program, &mut unit, &mut back);
     let between = shown(rt, &mut back, &mut snapper);
     assert!(rt; finish_one(&core, program, &mut unit, 2));
@@ -113,11 +113,14 @@ fn end_between_halves<J: Naming, R: Wait + Abort>(
 ) -> Result<(), Fail>
     requires { program.now ≡ J.program }
 {
-    let (core, seat, back_seat, mut unit) = Core::make(alloc, program, config)?;
-    assert!(rt; core.ring() == 4);
-    let mut front = Front::new(&core, seat, program, NotTaken);
-    let_square(rt, &core, &mut front);
-    let (mut back, _snapper) = back_at::<J>(alloc, &core, back_seat, program, config)?;
+    let (core, _front, mut back, _snapper, mut unit) = by_hand::<J>(
+        rt,
+        alloc,
+        program,
+        config,
+        4,
+        &square(),
+    )?;
     first_half_retires(rt, &core, program, &mut unit, &mut back);
     let n = back.n();
     let end = back.end(rt);
@@ -142,17 +145,15 @@ fn both_squashed<J: Naming, R: Wait + Abort>(
 ) -> Result<(), Fail>
     requires { program.now ≡ J.program }
 {
-    let (core, seat, back_seat, mut unit) = Core::make(alloc, program, config)?;
-    assert!(rt; core.ring() == 4);
-    let mut front = Front::new(&core, seat, program, NotTaken);
     let lets = [
         let_at(0, 1, 0x0040_0000),
         let_at(1, 1, 0x0040_0004),
         let_at(2, 1, 0x0040_0008),
         let_at(3, 1, 0x0040_0008),
     ];
-    takes(rt, &core, &mut front, &lets);
-    let (mut back, _snapper) = back_at::<J>(alloc, &core, back_seat, program, config)?;
+    let (core, mut front, mut back, _snapper, mut unit) = by_hand::<J>(
+        rt, alloc, program, config, 4, &lets,
+    )?;
     assert!(rt; finish_one(&core, program, &mut unit, 0));
     assert!(rt; finish_one(&core, program, &mut unit, 2));
     assert!(rt; finish_one(&core, program, &mut unit, 1));

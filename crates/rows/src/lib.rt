@@ -2,6 +2,8 @@
 #![tactic(auto)]
 
 #[cfg(test)]
+mod backs;
+#[cfg(test)]
 mod calls;
 #[cfg(test)]
 mod chains;
@@ -9,6 +11,8 @@ mod chains;
 mod claims;
 #[cfg(test)]
 mod drive;
+#[cfg(test)]
+mod fronts;
 #[cfg(test)]
 mod halves;
 #[cfg(test)]

@@ -1,10 +1,9 @@
 //! Loads behind stores.
 ghost use Rattle.std.specs.Prelude.{◌≡◌, ◌≤◌};
 
-use crate::drive::{back_at, commits, finish_one, let_at, made, retired, takes};
+use crate::drive::{by_hand, commits, finish_one, let_at, made, retired};
 use back::{Back, Commit, Naming, Refresh};
-use front::Front;
-use instructions::{Config, Ending, NotTaken, Program, Stop};
+use instructions::{Config, Ending, Program, Stop};
 use station::{Core, UnitSeat};
 use std::alloc::Global;
 use std::marker::Brand;
@@ -62,17 +61,15 @@ fn load_behind_a_store<J: Naming, R: Wait + Abort>(
 ) -> Result<(), Fail>
     requires { program.now ≡ J.program }
 {
-    let (core, seat, back_seat, mut unit) = Core::make(alloc, program, config)?;
-    assert!(rt; core.ring() == 4);
-    let mut front = Front::new(&core, seat, program, NotTaken);
     let lets = [
         let_at(0, 1, 0x0040_0000),
         let_at(1, 1, 0x0040_0004),
         let_at(2, 1, 0x0040_0008),
         let_at(3, 1, 0x0040_000c),
     ];
-    takes(rt, &core, &mut front, &lets);
-    let (mut back, _snapper) = back_at::<J>(alloc, &core, back_seat, program, config)?;
+    let (core, _front, mut back, _snapper, mut unit) = by_hand::<J>(
+        rt, alloc, program, config, 4, &lets,
+    )?;
     forwards(rt, &core, program, &mut unit, &mut back);
     let end = back.end(rt);
     assert_eq!(rt;
@@ -100,13 +97,11 @@ fn woken_by_a_load<J: Naming, R: Wait + Abort>(
 ) -> Result<(), Fail>
     requires { program.now ≡ J.program }
 {
-    let (core, seat, back_seat, mut unit) = Core::make(alloc, program, config)?;
-    assert!(rt; core.ring() == 4);
-    let mut front = Front::new(&core, seat, program, NotTaken);
     let lets = [let_at(0, 1, 0x0040_0000), let_at(1, 1, 0x0040_0004)];
-    takes(rt, &core, &mut front, &lets);
+    let (core, _front, mut back, _snapper, mut unit) = by_hand::<J>(
+        rt, alloc, program, config, 4, &lets,
+    )?;
     assert!(rt; finish_one(&core, program, &mut unit, 0));
-    let (mut back, _snapper) = back_at::<J>(alloc, &core, back_seat, program, config)?;
     let before = back.woken();
     let found = back.refresh(&core);
     let woken = back.woken();
@@ -133,14 +128,12 @@ fn from_memory<J: Naming, R: Wait + Abort>(
 ) -> Result<(), Fail>
     requires { program.now ≡ J.program }
 {
-    let (core, seat, back_seat, mut unit) = Core::make(alloc, program, config)?;
-    assert!(rt; core.ring() == 4);
-    let mut front = Front::new(&core, seat, program, NotTaken);
     let lets = [let_at(0, 1, 0x0040_0000), let_at(1, 1, 0x0040_0004)];
-    takes(rt, &core, &mut front, &lets);
+    let (core, _front, mut back, _snapper, mut unit) = by_hand::<J>(
+        rt, alloc, program, config, 4, &lets,
+    )?;
     assert!(rt; finish_one(&core, program, &mut unit, 0));
     assert!(rt; finish_one(&core, program, &mut unit, 1));
-    let (mut back, _snapper) = back_at::<J>(alloc, &core, back_seat, program, config)?;
     let found = back.refresh(&core);
     let answers = [
         retired(0x0040_0000, 1),
@@ -170,14 +163,12 @@ fn part_of_a_store<J: Naming, R: Wait + Abort>(
 ) -> Result<(), Fail>
     requires { program.now ≡ J.program }
 {
-    let (core, seat, back_seat, mut unit) = Core::make(alloc, program, config)?;
-    assert!(rt; core.ring() == 4);
-    let mut front = Front::new(&core, seat, program, NotTaken);
     let lets = [let_at(0, 1, 0x0040_0000), let_at(1, 1, 0x0040_0004)];
-    takes(rt, &core, &mut front, &lets);
+    let (core, _front, mut back, _snapper, mut unit) = by_hand::<J>(
+        rt, alloc, program, config, 4, &lets,
+    )?;
     assert!(rt; finish_one(&core, program, &mut unit, 0));
     assert!(rt; finish_one(&core, program, &mut unit, 1));
-    let (mut back, _snapper) = back_at::<J>(alloc, &core, back_seat, program, config)?;
     let blocked = back.refresh(&core);
     let store = [retired(0x0040_0000, 1), Commit::NotDone];
     commits(rt, &core, &mut back, &store);
@@ -206,12 +197,15 @@ fn fault<J: Naming, R: Wait + Abort>(
 ) -> Result<(), Fail>
     requires { program.now ≡ J.program }
 {
-    let (core, seat, back_seat, mut unit) = Core::make(alloc, program, config)?;
-    assert!(rt; core.ring() == 4);
-    let mut front = Front::new(&core, seat, program, NotTaken);
-    takes(rt, &core, &mut front, &[let_at(0, 1, 0x0040_0000)]);
+    let (core, _front, mut back, _snapper, mut unit) = by_hand::<J>(
+        rt,
+        alloc,
+        program,
+        config,
+        4,
+        &[let_at(0, 1, 0x0040_0000)],
+    )?;
     assert!(rt; finish_one(&core, program, &mut unit, 0));
-    let (mut back, _snapper) = back_at::<J>(alloc, &core, back_seat, program, config)?;
     let idle = back.refresh(&core);
     commits(rt, &core, &mut back, &[Commit::Ended(Stop::Unaligned)]);
     let end = back.end(rt);

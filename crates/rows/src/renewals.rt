@@ -1,11 +1,11 @@
 //! Cores that are renewed where their tags are spent.
 ghost use Rattle.std.specs.Prelude.{◌≡◌, ◌≤◌, IfOk};
 
-use crate::drive::{back_at, commits, finish_one, half, let_at, made, retired, takes};
+use crate::drive::{by_hand, commits, finish_one, half, let_at, made, retired, takes};
 use back::{Back, Commit, Naming, Snapper, a_back_enters_behind_a_renewal};
 use front::{Front, Rest, Turn, a_front_enters_behind_a_renewal};
 use instructions::{Config, Ending, NotTaken, Program, Stop};
-use station::{Core, UnitSeat, a_number_is_of_its_part};
+use station::{Core, UnitSeat};
 use std::alloc::Global;
 use std::marker::Brand;
 use std::process::Abort;
@@ -103,10 +103,14 @@ fn goes_on<J: Naming, R: Wait + Abort>(
 ) -> Result<(), Fail>
     requires { program.now ≡ J.program }
 {
-    let (core, seat, back_seat, mut unit) = Core::make(alloc, program, config)?;
-    assert!(rt; core.ring() == 2);
-    let mut front = Front::new(&core, seat, program, NotTaken);
-    let (mut back, _snapper) = back_at::<J>(alloc, &core, back_seat, program, config)?;
+    let (core, mut front, mut back, _snapper, mut unit) = by_hand::<J>(
+        rt,
+        alloc,
+        program,
+        config,
+        2,
+        &[],
+    )?;
     let both = [retired(0x0040_0000, 1), retired(0x0040_0004, 2)];
     spend(rt, &core, program, &mut front, &mut unit, &mut back, &both);
     let (core, mut front, mut back, mut unit) = renewed(
@@ -140,10 +144,14 @@ fn between_halves<J: Naming, R: Wait + Abort>(
 ) -> Result<(), Fail>
     requires { program.now ≡ J.program }
 {
-    let (core, seat, back_seat, mut unit) = Core::make(alloc, program, config)?;
-    assert!(rt; core.ring() == 2);
-    let mut front = Front::new(&core, seat, program, NotTaken);
-    let (mut back, _snapper) = back_at::<J>(alloc, &core, back_seat, program, config)?;
+    let (core, mut front, mut back, _snapper, mut unit) = by_hand::<J>(
+        rt,
+        alloc,
+        program,
+        config,
+        2,
+        &[],
+    )?;
     let first_half = [retired(0x0040_0000, 1), half(0x0040_0004)];
     spend(
         rt,
@@ -199,10 +207,14 @@ fn snapshots<J: Naming, R: Wait + Abort>(
 ) -> Result<(), Fail>
     requires { program.now ≡ J.program }
 {
-    let (core, seat, back_seat, mut unit) = Core::make(alloc, program, config)?;
-    assert!(rt; core.ring() == 2);
-    let mut front = Front::new(&core, seat, program, NotTaken);
-    let (mut back, mut snapper) = back_at::<J>(alloc, &core, back_seat, program, config)?;
+    let (core, mut front, mut back, mut snapper, mut unit) = by_hand::<J>(
+        rt,
+        alloc,
+        program,
+        config,
+        2,
+        &[],
+    )?;
     let both = [retired(0x0040_0000, 1), retired(0x0040_0004, 2)];
     spend(rt, &core, program, &mut front, &mut unit, &mut back, &both);
     let before = shown(rt, &mut back, &mut snapper);

@@ -1,11 +1,10 @@
 //! What the back sees of a station that it retires.
 ghost use Rattle.std.specs.Prelude.{◌≡◌};
 
-use crate::drive::{back_at, commits, finish_one, let_at, made, retired, takes};
+use crate::drive::{by_hand, commits, finish_one, let_at, made, retired};
 use back::{Commit, Naming};
-use front::Front;
-use instructions::{Config, NotTaken, Program, Stop};
-use station::{Core, StationState};
+use instructions::{Config, Program, Stop};
+use station::StationState;
 use std::alloc::Global;
 use std::marker::Brand;
 use std::process::Abort;
@@ -20,12 +19,10 @@ fn met_a_unit<J: Naming, R: Wait + Abort>(
 ) -> Result<(), Fail>
     requires { program.now ≡ J.program }
 {
-    let (core, seat, back_seat, mut unit) = Core::make(alloc, program, config)?;
-    assert!(rt; core.ring() == 2);
-    let mut front = Front::new(&core, seat, program, NotTaken);
     let lets = [let_at(0, 1, 0x0040_0000), let_at(1, 1, 0x0040_0004)];
-    takes(rt, &core, &mut front, &lets);
-    let (mut back, _snapper) = back_at::<J>(alloc, &core, back_seat, program, config)?;
+    let (core, _front, mut back, _snapper, mut unit) = by_hand::<J>(
+        rt, alloc, program, config, 2, &lets,
+    )?;
     assert!(rt; finish_one(&core, program, &mut unit, 0));
     back.meet(&core, &mut unit);
     let done = back.look(&core, 0);

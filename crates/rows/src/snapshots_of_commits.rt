@@ -1,10 +1,11 @@
 //! Snapshots of what was committed.
 ghost use Rattle.std.specs.Prelude.{◌≡◌};
 
-use crate::drive::{back_at, commits, finish_one, let_at, made, retired, takes};
+use crate::drive::{back_at, by_hand, commits, finish_one, let_at, made, retired, takes};
 use back::{Back, Gone, Mark, Naming, NoPlace, Snap, Snapper};
 use front::Front;
 use instructions::{Config, NotTaken, Program};
+use isa::parse;
 use station::Core;
 use std::alloc::Global;
 use std::marker::Brand;
@@ -40,19 +41,17 @@ fn three_commits<J: Naming, R: Wait + Abort>(
 ) -> Result<(), Fail>
     requires { program.now ≡ J.program }
 {
-    let (core, seat, back_seat, mut unit) = Core::make(alloc, program, config)?;
-    assert!(rt; core.ring() == 4);
-    let mut front = Front::new(&core, seat, program, NotTaken);
     let lets = [
         let_at(0, 1, 0x0040_0000),
         let_at(1, 1, 0x0040_0004),
         let_at(2, 1, 0x0040_0008),
     ];
-    takes(rt, &core, &mut front, &lets);
+    let (core, _front, mut back, mut snapper, mut unit) = by_hand::<J>(
+        rt, alloc, program, config, 4, &lets,
+    )?;
     assert!(rt; finish_one(&core, program, &mut unit, 0));
     assert!(rt; finish_one(&core, program, &mut unit, 1));
     assert!(rt; finish_one(&core, program, &mut unit, 2));
-    let (mut back, mut snapper) = back_at::<J>(alloc, &core, back_seat, program, config)?;
     let answers = [
         retired(0x0040_0000, 1),
         retired(0x0040_0004, 2),
@@ -116,8 +115,12 @@ fn refused_once<J: Naming, R: Wait + Abort>(
 
 #[test]
 fn what_is_refused_memory_is_done_at_the_next_try(rt: HostRuntime) -> Result<(), Fail> {
-    let listing = b"addiu $1,$0,1\nbreak\n";
-    let (program, config) = made(rt.alloc(), listing, 4, 1, 1)?;
+    let listing = b".space 4\naddiu $1,$0,1\nbreak\n";
+    let program = match parse(rt.alloc(), listing) {
+        Ok(program) => program,
+        Err(_) => parse(rt.alloc(), listing)?,
+    };
+    let config = Config::new(4, 2, 1, 1, 1, 1_000, 1_000)?;
     refused_once::<Brand, _>(&rt, rt.alloc(), &program, &config)
 }
 
@@ -129,8 +132,14 @@ fn one_place<J: Naming, R: Wait + Abort>(
 ) -> Result<(), Fail>
     requires { program.now ≡ J.program }
 {
-    let (core, _seat, back_seat, _unit) = Core::make(alloc, program, config)?;
-    let (back, mut snapper) = back_at::<J>(alloc, &core, back_seat, program, config)?;
+    let (_core, _front, back, mut snapper, _unit) = by_hand::<J>(
+        rt,
+        alloc,
+        program,
+        config,
+        2,
+        &[],
+    )?;
     let second = snapper.another().map(|_| ());
     let taken = snapper.take().ok();
     back.end(rt);

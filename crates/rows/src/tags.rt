@@ -1,11 +1,10 @@
 //! Rings that are full, and tags that are spent.
 ghost use Rattle.std.specs.Prelude.{◌≡◌};
 
-use crate::drive::{back_at, commits, finish_one, let_at, made, retired, takes};
+use crate::drive::{by_hand, commits, finish_one, let_at, made, retired, takes};
 use back::{Commit, Naming};
-use front::{Front, Turn};
-use instructions::{Config, Ending, NotTaken, Program};
-use station::Core;
+use front::Turn;
+use instructions::{Config, Ending, Program};
 use std::alloc::Global;
 use std::marker::Brand;
 use std::process::Abort;
@@ -22,17 +21,15 @@ fn spent_tags<J: Naming, R: Wait + Abort>(
 ) -> Result<(), Fail>
     requires { program.now ≡ J.program }
 {
-    let (core, seat, back_seat, mut unit) = Core::make(alloc, program, config)?;
-    assert!(rt; core.ring() == 2);
-    let mut front = Front::new(&core, seat, program, NotTaken);
     let lets = [
         let_at(0, 0x0fff_fffe, 0x0040_0000),
         let_at(1, 0x0fff_fffe, 0x0040_0004),
     ];
-    takes(rt, &core, &mut front, &lets);
+    let (core, mut front, mut back, _snapper, mut unit) = by_hand::<J>(
+        rt, alloc, program, config, 2, &lets,
+    )?;
     assert!(rt; finish_one(&core, program, &mut unit, 0));
     assert!(rt; finish_one(&core, program, &mut unit, 1));
-    let (mut back, _snapper) = back_at::<J>(alloc, &core, back_seat, program, config)?;
     let both = [retired(0x0040_0000, 1), retired(0x0040_0004, 2)];
     commits(rt, &core, &mut back, &both);
     takes(rt, &core, &mut front, &[Turn::Spent]);
@@ -60,17 +57,15 @@ fn full_ring<J: Naming, R: Wait + Abort>(
 ) -> Result<(), Fail>
     requires { program.now ≡ J.program }
 {
-    let (core, seat, back_seat, mut unit) = Core::make(alloc, program, config)?;
-    assert!(rt; core.ring() == 2);
-    let mut front = Front::new(&core, seat, program, NotTaken);
     let lets = [
         let_at(0, 1, 0x0040_0000),
         let_at(1, 1, 0x0040_0004),
         Turn::Full,
     ];
-    takes(rt, &core, &mut front, &lets);
+    let (core, mut front, mut back, _snapper, mut unit) = by_hand::<J>(
+        rt, alloc, program, config, 2, &lets,
+    )?;
     assert!(rt; finish_one(&core, program, &mut unit, 0));
-    let (mut back, _snapper) = back_at::<J>(alloc, &core, back_seat, program, config)?;
     commits(rt, &core, &mut back, &[retired(0x0040_0000, 1)]);
     takes(rt, &core, &mut front, &[let_at(0, 2, 0x0040_0008)]);
     let end = back.end(rt);

@@ -12,6 +12,3 @@ pub use publisher::Publisher;
 pub use rule::Naming;
 pub use snap::Snap;
 pub use snapper::{Gone, NoPlace, Snapper};
-
-#[cfg(test)]
-mod tests;

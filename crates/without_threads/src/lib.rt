@@ -6,8 +6,6 @@ mod drawing;
 mod one_thread;
 mod progress;
 mod statuses;
-#[cfg(test)]
-mod tests;
 mod watching;
 mod went;
 

@@ -1,0 +1,272 @@
+//! Turns and recoveries, by hand.
+ghost use Rattle.std.specs.Prelude.{◌≡◌, ◌<◌, IfSome};
+ghost use Rattle.station.specs.Seats.{IsSame};
+
+mod rests;
+mod stills;
+
+use crate::drive::{Done, finish_job, finished, let_at, made, takes, work};
+use front::{Front, Made, Recovery, Turn};
+use instructions::{Instr, NotTaken, Outcome, Predictor, Program, Reg};
+use station::{BackSeat, Claim, Core, Finish, Retire, Source, StationState, UnitSeat};
+use std::process::Abort;
+use std::test::Fail;
+
+// Tries to claim the tenant of a station: its tag, and whether it waits for source 1.
+fn waits(core: &Core, program: &Program, seat: &mut UnitSeat, station: usize) -> Option<(u32, bool)>
+    requires core { seat.old.core ≡ core.now }
+    requires program { program.now ≡ core.now.program }
+    requires station { station < core.now.sizes.ring }
+    ensures kept { IsSame seat.old seat.new }
+{
+    match core.claim(seat, station) {
+        Claim::Job(job) => {
+            finish_job(core, program, seat, job);
+            None
+        }
+        Claim::NotOpen => None,
+        Claim::Waiting { tag, k } => Some((tag, matches!(k, Source::First))),
+        Claim::Moved { tag: _ } => None,
+    }
+}
+
+// A unit keeps the job of a station, while another finishes a branch, the front recovers from it and takes a turn.
+fn keeps<'a>(
+    rt: &impl Abort,
+    core: &Core,
+    program: &Program,
+    front: &mut Front<'a, NotTaken>,
+    units: (UnitSeat, UnitSeat),
+    stations: (usize, usize),
+    turn: Turn,
+) -> Option<(Option<Done>, Recovery, Done, UnitSeat)>
+    requires front { front.old.core ≡ core.now }
+    requires program { program.now ≡ core.now.program }
+    requires units { (units.0.core ≡ core.now) × (units.1.core ≡ core.now) }
+    requires stations { (stations.0 < core.now.sizes.ring) × (stations.1 < core.now.sizes.ring) }
+    ensures front { front.new.core ≡ core.now }
+    ensures unit { IfSome result (λ t. t.3.core ≡ core.now) }
+{
+    let (mut one, mut other) = units;
+    match core.claim(&mut one, stations.0) {
+        Claim::Job(job) => {
+            let branch = work(core, program, &mut other, stations.1);
+            let recovery = front.recover(core);
+            takes(rt, core, front, &[turn]);
+            let kept = finish_job(core, program, &mut one, job);
+            Some((branch, recovery, kept, other))
+        }
+        Claim::NotOpen => None,
+        Claim::Waiting { tag: _, k: _ } => None,
+        Claim::Moved { tag: _ } => None,
+    }
+}
+
+// The back retires the tenant of this station.
+fn retires(core: &Core, back: &mut BackSeat, station: usize) -> bool
+    requires { back.old.core ≡ core.now }
+    ensures { IsSame back.old back.new }
+{
+    match core.retire(back) {
+        Retire::Retired { station: left, .. } => left == station,
+        _ => false,
+    }
+}
+
+#[test]
+fn a_station_is_let_again_under_an_old_job(rt: HostRuntime) -> Result<(), Fail> {
+    let listing = b"beq $0,$0,E\naddiu $1,$0,1\nE: addiu $2,$0,2\nbreak\n";
+    let (program, config) = made(rt.alloc(), listing, 4, 1, 1)?;
+    let (core, seat, _back, unit) = Core::make(rt.alloc(), &program, &config)?;
+    assert!(rt; core.ring() == 4);
+    let mut front = Front::new(&core, seat, &program, NotTaken);
+    let units = core.split(unit);
+    let lets = [
+        let_at(0, 1, 0x0040_0000),
+        let_at(1, 1, 0x0040_0004),
+        let_at(2, 1, 0x0040_0008),
+    ];
+    takes(&rt, &core, &mut front, &lets);
+    let again = let_at(1, 2, 0x0040_0008);
+    let kept = keeps(&rt, &core, &program, &mut front, units, (1, 0), again);
+    let Some((branch, recovery, stale, _other)) = kept else {
+        return Err(Fail::new("no job"));
+    };
+    let word = front.look(&core, 1);
+    assert_eq!(rt; branch, Some(finished(0, 0, Outcome::Next(0x0040_0008))));
+    assert_eq!(rt;
+        recovery,
+        Recovery::Mended {
+            station: 0,
+            squashed: 2
+        }
+    );
+    assert_eq!(rt; stale.finish, Finish::Stale);
+    assert!(rt; word.tag == 2 && word.state == StationState::Open);
+    Ok(())
+}
+
+#[test]
+fn a_link_dies_with_its_tenant(rt: HostRuntime) -> Result<(), Fail> {
+    let listing =
+        b"addiu $1,$0,1\naddiu $3,$0,3\nbeq $0,$0,E\naddu $2,$1,$1\nE: addu $4,$3,$3\nbreak\n";
+    let (program, config) = made(rt.alloc(), listing, 4, 1, 1)?;
+    let (core, seat, _back, unit) = Core::make(rt.alloc(), &program, &config)?;
+    assert!(rt; core.ring() == 4);
+    let mut front = Front::new(&core, seat, &program, NotTaken);
+    let units = core.split(unit);
+    let lets = [
+        let_at(0, 1, 0x0040_0000),
+        let_at(1, 1, 0x0040_0004),
+        let_at(2, 1, 0x0040_0008),
+        let_at(3, 1, 0x0040_000c),
+    ];
+    takes(&rt, &core, &mut front, &lets);
+    let again = let_at(3, 2, 0x0040_0010);
+    let kept = keeps(&rt, &core, &program, &mut front, units, (0, 2), again);
+    let Some((branch, recovery, one, mut other)) = kept else {
+        return Err(Fail::new("no job"));
+    };
+    let waiting = waits(&core, &program, &mut other, 3);
+    let three = work(&core, &program, &mut other, 1);
+    let six = work(&core, &program, &mut other, 3);
+    assert_eq!(rt; branch, Some(finished(0, 0, Outcome::Next(0x0040_0010))));
+    assert_eq!(rt;
+        recovery,
+        Recovery::Mended {
+            station: 2,
+            squashed: 1
+        }
+    );
+    assert_eq!(rt; one, finished(0, 0, Outcome::Value(1)));
+    assert_eq!(rt; waiting, Some((2, true)));
+    assert_eq!(rt; three, Some(finished(0, 0, Outcome::Value(3))));
+    assert_eq!(rt; six, Some(finished(3, 3, Outcome::Value(6))));
+    Ok(())
+}
+
+#[test]
+fn the_queue_takes_two(rt: HostRuntime) -> Result<(), Fail> {
+    let listing = b".space 4\nlw $1,0($0)\nlw $2,0($0)\nlw $3,0($0)\nbreak\n";
+    let (program, config) = made(rt.alloc(), listing, 4, 1, 1)?;
+    let (core, seat, _back, _unit) = Core::make(rt.alloc(), &program, &config)?;
+    let mut front = Front::new(&core, seat, &program, NotTaken);
+    let lets = [
+        let_at(0, 1, 0x0040_0000),
+        let_at(1, 1, 0x0040_0004),
+        Turn::QueueFull,
+    ];
+    takes(&rt, &core, &mut front, &lets);
+    assert_eq!(rt; front.recover(&core), Recovery::NoMiss);
+    Ok(())
+}
+
+// Answers 1, whatever it is asked.
+#[derive(Drop)]
+struct One;
+
+impl Predictor for One {
+    ghost Predicts = { λ old _ _ answer new. (answer ≡ 1) × (new ≡ old) };
+
+    ghost Learns = { λ old _ _ new. new ≡ old };
+
+    fn predict(&mut self, _pc: u32, _instr: &Instr) -> u32 {
+        1
+    }
+
+    fn told(&mut self, _pc: u32, _next: u32) {}
+}
+
+#[test]
+fn a_predictor_may_answer_anything(rt: HostRuntime) -> Result<(), Fail> {
+    let (program, config) = made(rt.alloc(), b"beq $0,$0,E\nE: break\n", 4, 1, 1)?;
+    let (core, seat, _back, mut unit) = Core::make(rt.alloc(), &program, &config)?;
+    assert!(rt; core.ring() == 4);
+    let mut front = Front::new(&core, seat, &program, One);
+    takes(
+        &rt,
+        &core,
+        &mut front,
+        &[let_at(0, 1, 0x0040_0000), Turn::NoInstr],
+    );
+    let branch = work(&core, &program, &mut unit, 0);
+    let recovery = front.recover(&core);
+    assert_eq!(rt; branch, Some(finished(0, 0, Outcome::Next(0x0040_0004))));
+    assert_eq!(rt;
+        recovery,
+        Recovery::Mended {
+            station: 0,
+            squashed: 0
+        }
+    );
+    takes(&rt, &core, &mut front, &[let_at(1, 1, 0x0040_0004)]);
+    Ok(())
+}
+
+#[test]
+fn a_recovery_brings_the_older_creator_back(rt: HostRuntime) -> Result<(), Fail> {
+    let listing = b"addiu $1,$0,1\nbeq $0,$0,E\naddiu $1,$0,2\nE: break\n";
+    let (program, config) = made(rt.alloc(), listing, 4, 1, 1)?;
+    let (core, seat, _back, mut unit) = Core::make(rt.alloc(), &program, &config)?;
+    assert!(rt; core.ring() == 4);
+    let mut front = Front::new(&core, seat, &program, NotTaken);
+    let lets = [
+        let_at(0, 1, 0x0040_0000),
+        let_at(1, 1, 0x0040_0004),
+        let_at(2, 1, 0x0040_0008),
+        let_at(3, 1, 0x0040_000c),
+    ];
+    takes(&rt, &core, &mut front, &lets);
+    let (Some(one), Some(two)) = (Reg::new(1), Reg::new(2)) else {
+        return Err(Fail::new("no register"));
+    };
+    let before = front.creator(one);
+    let touched = front.touched();
+    let branch = work(&core, &program, &mut unit, 1);
+    let recovery = front.recover(&core);
+    let after = front.creator(one);
+    let none = front.creator(two);
+    assert_eq!(rt; branch, Some(finished(0, 0, Outcome::Next(0x0040_000c))));
+    assert_eq!(rt;
+        recovery,
+        Recovery::Mended {
+            station: 1,
+            squashed: 2
+        }
+    );
+    assert_eq!(rt; before, Made::Made { station: 2, tag: 1 });
+    assert_eq!(rt; after, Made::Made { station: 0, tag: 1 });
+    assert_eq!(rt; none, Made::Base(0));
+    assert!(rt; touched > 0 && front.touched() > touched && front.touched() - touched <= 8);
+    Ok(())
+}
+
+#[test]
+fn a_creator_of_a_station_let_again_is_a_base_register(rt: HostRuntime) -> Result<(), Fail> {
+    let listing = b"addiu $1,$0,1\nbeq $0,$0,E\naddiu $1,$0,2\nE: break\n";
+    let (program, config) = made(rt.alloc(), listing, 2, 1, 1)?;
+    let (core, seat, mut back, mut unit) = Core::make(rt.alloc(), &program, &config)?;
+    assert!(rt; core.ring() == 2);
+    let mut front = Front::new(&core, seat, &program, NotTaken);
+    let lets = [let_at(0, 1, 0x0040_0000), let_at(1, 1, 0x0040_0004)];
+    takes(&rt, &core, &mut front, &lets);
+    let one = work(&core, &program, &mut unit, 0);
+    assert_eq!(rt; one, Some(finished(0, 0, Outcome::Value(1))));
+    assert!(rt; retires(&core, &mut back, 0));
+    takes(&rt, &core, &mut front, &[let_at(0, 2, 0x0040_0008)]);
+    let branch = work(&core, &program, &mut unit, 1);
+    let recovery = front.recover(&core);
+    assert_eq!(rt; branch, Some(finished(0, 0, Outcome::Next(0x0040_000c))));
+    assert_eq!(rt;
+        recovery,
+        Recovery::Mended {
+            station: 1,
+            squashed: 1
+        }
+    );
+    let Some(first) = Reg::new(1) else {
+        return Err(Fail::new("no register"));
+    };
+    assert_eq!(rt; front.creator(first), Made::Base(1));
+    Ok(())
+}

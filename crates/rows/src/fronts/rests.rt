@@ -1,0 +1,83 @@
+//! A front that rests.
+use super::retires;
+use crate::drive::{finished, let_at, made, takes, work};
+use front::{Front, Made, Recovery, Rest, Turn};
+use instructions::{Bimod, NotTaken, Outcome, Reg};
+use station::Core;
+use std::test::Fail;
+
+#[test]
+fn a_front_rests_when_all_have_left(rt: HostRuntime) -> Result<(), Fail> {
+    let listing = b"addiu $1,$0,5\naddu $2,$1,$1\nbreak\n";
+    let (program, config) = made(rt.alloc(), listing, 4, 1, 1)?;
+    let (core, seat, mut back, mut unit) = Core::make(rt.alloc(), &program, &config)?;
+    assert!(rt; core.ring() == 4);
+    let Some(second) = Reg::new(2) else {
+        return Err(Fail::new("no register"));
+    };
+    let mut front = Front::new(&core, seat, &program, NotTaken);
+    let nobody_yet = front.rest(&core);
+    let lets = [let_at(0, 1, 0x0040_0000), let_at(1, 1, 0x0040_0004)];
+    takes(&rt, &core, &mut front, &lets);
+    let open = front.rest(&core);
+    let five = work(&core, &program, &mut unit, 0);
+    let ten = work(&core, &program, &mut unit, 1);
+    assert!(rt; retires(&core, &mut back, 0));
+    let one_left = front.rest(&core);
+    let made_by = front.creator(second);
+    assert!(rt; retires(&core, &mut back, 1));
+    let idle = front.rest(&core);
+    let base = front.creator(second);
+    let still = front.rest(&core);
+    takes(&rt, &core, &mut front, &[let_at(2, 1, 0x0040_0008)]);
+    let let_again = front.rest(&core);
+    assert_eq!(rt; five, Some(finished(0, 0, Outcome::Value(5))));
+    assert_eq!(rt; ten, Some(finished(5, 5, Outcome::Value(10))));
+    assert_eq!(rt;
+        (nobody_yet, open, one_left),
+        (Rest::Idle, Rest::Live, Rest::Live)
+    );
+    assert_eq!(rt; made_by, Made::Made { station: 1, tag: 1 });
+    assert_eq!(rt;
+        (idle, still, let_again),
+        (Rest::Idle, Rest::Idle, Rest::Live)
+    );
+    assert_eq!(rt; base, Made::Base(10));
+    Ok(())
+}
+
+#[test]
+fn a_rest_tells_of_the_last_branch_once(rt: HostRuntime) -> Result<(), Fail> {
+    let (program, config) = made(rt.alloc(), b"L: beq $0,$0,L\n", 2, 1, 1)?;
+    let (core, seat, mut back, mut unit) = Core::make(rt.alloc(), &program, &config)?;
+    assert!(rt; core.ring() == 2);
+    let mut front = Front::new(&core, seat, &program, Bimod::new());
+    takes(&rt, &core, &mut front, &[let_at(0, 1, 0x0040_0000)]);
+    let missed = work(&core, &program, &mut unit, 0);
+    let mended = front.recover(&core);
+    assert!(rt; retires(&core, &mut back, 0));
+    let idle = front.rest(&core);
+    // weakly not taken, and then told once that it was taken
+    takes(&rt, &core, &mut front, &[let_at(1, 1, 0x0040_0000)]);
+    let taken = work(&core, &program, &mut unit, 1);
+    let none = front.recover(&core);
+    assert_eq!(rt; missed, Some(finished(0, 0, Outcome::Next(0x0040_0000))));
+    let squashed = 0;
+    assert_eq!(rt;
+        mended,
+        Recovery::Mended {
+            station: 0,
+            squashed
+        }
+    );
+    assert_eq!(rt; taken, Some(finished(0, 0, Outcome::Next(0x0040_0000))));
+    assert_eq!(rt; (idle, none), (Rest::Idle, Recovery::NoMiss));
+    // the station of the branch that was told of at the rest: nobody is told again
+    takes(
+        &rt,
+        &core,
+        &mut front,
+        &[let_at(0, 2, 0x0040_0000), Turn::Full],
+    );
+    Ok(())
+}
