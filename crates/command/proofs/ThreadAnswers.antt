@@ -1,5 +1,5 @@
 -- What is told of a listing that threads have run, from what is known of the end.
-use Rattle.std.proofs.Common.{◌≡◌, ◌≤◌, ◌∙◌, ℕ, inl, inr, false, List, refl, ap, sym, subst, arith, Result, Ok}
+use Rattle.std.proofs.Common.{◌≡◌, ◌≤◌, ◌∙◌, ℕ, inl, inr, false, List, refl, ap, sym, subst, arith, Some, Result, Ok}
 use Rattle.std.proofs.lemmas.Bool.{cases_lt}
 use Rattle.instructions.specs.declared.end.End.{End}
 use Rattle.instructions.specs.declared.end.Ending.{Ending}
@@ -43,7 +43,7 @@ limit_known config P end totals after outcome within turns = record {
 }
 
 run_known : (config : Settings) (P : Program) (r : Run) (end : End) (totals : Totals) → RunIsRight P r → IsWithinLimit config.limit r
-    → TakesTurns config.turns r → ended_of r ≡ Ok (end, totals) → IsKnown config P end totals
+    → TakesTurns config.turns r → ended_of r ≡ Some (end, totals) → IsKnown config P end totals
 run_known config P (run.Ended e t) end totals right within turns is =
     let same : ◌≡◌ {A = End × Totals} (e, t) (end, totals) = cc in
     let order = right.0.in_order in
@@ -73,7 +73,7 @@ pool_reports asked P end totals is known = record {
 -- the text and what is told where the threads have run the program of a listing
 pub pool_answers : (asked : Asked) (found : Result Program (ℕ × FaultKind)) (P : Program) (r : Run) (end : End) (totals : Totals)
     (status : Status) (text : List ℕ) (went : Went) → asked.alone ≡ false → found ≡ Ok P → RunIsRight P r
-    → IsWithinLimit asked.config.limit r → TakesTurns asked.config.turns r → ended_of r ≡ Ok (end, totals)
+    → IsWithinLimit asked.config.limit r → TakesTurns asked.config.turns r → ended_of r ≡ Some (end, totals)
     → status ≡ ending_status end.outcome → text ≡ report_of end
     → went ≡ written_whole status (Tally totals) → IsAnswerFor asked found text went
 pool_answers asked found P r end totals status text went is parsed right within turns ended same reported told =

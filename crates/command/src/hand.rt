@@ -8,6 +8,7 @@ ghost use Rattle.without_threads.specs.Went.{HoldsOfInput, IsOfOneThread, refuse
 ghost use Rattle.without_threads.specs.declared.went.Line.TheVariants.{Nothing, Refused};
 
 use crate::{ByHand, Line, Refusal, Went};
+use bench::MOST_TAKEN;
 use devices::{Counted, read_up_to, write_whole};
 use drive::{Fault, Session};
 use instructions::Program;
@@ -18,7 +19,7 @@ use std::alloc::Global;
 use std::io::{BufRead, Read, Write};
 use std::marker::Brand;
 use std::sync::Wait;
-use without_threads::{MOST_TAKEN, refused};
+use without_threads::refused;
 
 /// Reads the listing, drives its unit by the commands of the script, one a line, and writes what is
 /// answered. The status is 0 at the end of the script, and 2 for a listing with a fault, whose line

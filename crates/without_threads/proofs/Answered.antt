@@ -7,10 +7,7 @@ use Rattle.instructions.specs.Programs.{Program}
 use Rattle.isa.specs.Report.{fault_line}
 use Rattle.inorder.specs.Machine.{State}
 use Rattle.inorder.specs.Runs.{end_of}
-use Rattle.bench.specs.Answer.{most_taken, status_for, status_of, text_for, text_of, ending_status, report_of_run}
-use Rattle.bench.proofs.Taken.{listing_taken}
-use Rattle.bench.specs.declared.outcome.Fault.{Fault}
-use Rattle.bench.specs.declared.outcome.Fault.TheVariants as fault
+use Rattle.bench.specs.Answer.{IsAnswer, status_for, status_of, text_for, text_of, ending_status, report_of_run}
 use Rattle.bench.specs.declared.outcome.Status.{Status}
 use Rattle.bench.specs.declared.outcome.Status.TheVariants.{TextFault}
 use Rattle.requests.specs.declared.request.Asked.{Asked}
@@ -19,8 +16,8 @@ use Rattle.without_threads.specs.declared.went.Line.TheVariants.{Nothing, Refuse
 use Rattle.without_threads.specs.declared.went.Refusal.{Refusal}
 use Rattle.without_threads.specs.declared.went.Refusal.TheVariants.{Write}
 use Rattle.without_threads.specs.declared.went.Went.{Went}
-use Rattle.without_threads.specs.Answers.{HasAnswer, IsAnswerFor, IsRunEnd, IsLineWith}
-use Rattle.without_threads.specs.Went.{IsOfOneThread, WasWritten, refusal_of, status_number, went_of, written_whole}
+use Rattle.without_threads.specs.Answers.{IsAnswerFor, IsAnswerTo, IsRunEnd, IsLineWith}
+use Rattle.without_threads.specs.Went.{IsOfOneThread, WasWritten, status_number, went_of, written_whole}
 
 -- ---- one thread
 
@@ -54,36 +51,11 @@ alone_is asked is (Ok P) text went answer =
 alone_is asked is (Err f) text went answer = answer
 
 -- the text and the status of the one-thread unit are an answer
-pub alone_answers : (asked : Asked) → asked.alone ≡ true → (known : Option (List ℕ)) (status : Status) (P : List ℕ → Type 0)
-    → IfSome known (λ input. status ≡ status_of asked.config.limit input)
-    → IfSome known (λ input. P (text_of asked.config.limit input))
-    → IfSome known (λ input. HasAnswer asked input (written_whole status Nothing) P)
+pub alone_answers : (asked : Asked) → asked.alone ≡ true → (status : Status) (bytes text : List ℕ)
+    → IsAnswer asked.config.limit status bytes text → IsAnswerTo asked (written_whole status Nothing) bytes text
 unfolding text_of status_of
-alone_answers asked is None status P same holds = tt
-alone_answers asked is (Some input) status P same holds = record {
-  text = text_of asked.config.limit input;
-  is = subst (λ (s : Status). IsAnswerFor asked (listing input) (text_of asked.config.limit input) (written_whole s Nothing)) (sym same) (alone_for asked is (listing input));
-  holds = holds;
-}
-
--- a part of such a text is one of an answer's
-pub alone_begins : (asked : Asked) → asked.alone ≡ true → (known : Option (List ℕ)) (P : List ℕ → Type 0)
-    → IfSome known (λ input. P (text_of asked.config.limit input))
-    → IfSome known (λ input. (went : Went) × HasAnswer asked input went P)
-alone_begins asked is None P holds = tt
-alone_begins asked is (Some input) P holds =
-    (written_whole (status_of asked.config.limit input) Nothing, alone_answers asked is (Some input) (status_of asked.config.limit input) P refl holds)
-
-write_of : (f : Fault) → refusal_of f ≡ Write → f ≡ fault.Write
-write_of fault.Read is = absurd (grind arith)
-write_of fault.Memory is = absurd (grind arith)
-write_of fault.Write is = refl
-
--- what holds where the one-thread unit could not write, holds where that is refused
-pub part_of : {T Q : Type 0} (r : Result T Refusal) (f : Fault) → IsErrAnd r (λ refusal. refusal ≡ refusal_of f)
-    → (f ≡ fault.Write → Q) → IfErr r (λ refusal. refusal ≡ Write → Q)
-part_of (Ok x) f gives q = tt
-part_of (Err refusal) f gives q = λ is. q (write_of f (sym gives ∙ is))
+alone_answers asked is status bytes text answer =
+    rw (answer.text_is, answer.status_is) (alone_for asked is (listing bytes))
 
 -- and where it has a fault
 pub fault_answers : (asked : Asked) (found : Result Program (ℕ × FaultKind)) (line : ℕ) (kind : FaultKind)
@@ -91,34 +63,7 @@ pub fault_answers : (asked : Asked) (found : Result Program (ℕ × FaultKind)) 
     → IsAnswerFor asked found text went
 fault_answers asked found line kind text went parsed same told = rw parsed (same, told)
 
--- ---- reading
-
--- an answer to the bytes that were taken is one to all
-pub answer_taken : (asked : Asked) (known : Option (List ℕ)) (bytes slice text out : List ℕ) (went : Went) (P : List ℕ → Type 0)
-    → IfSome known (λ input. bytes ≡ take most_taken input) → slice ≡ bytes → out ≡ text
-    → IsAnswerFor asked (listing slice) text went → P out → IfSome known (λ input. HasAnswer asked input went P)
-answer_taken asked None bytes slice text out went P read same wrote is holds = tt
-answer_taken asked (Some input) bytes slice text out went P read same wrote is holds = record {
-  text = text;
-  is = subst (λ (found : Result Program (ℕ × FaultKind)). IsAnswerFor asked found text went)
-      (ap listing (same ∙ read) ∙ listing_taken input) is;
-  holds = subst P wrote holds;
-}
-
--- the same of a part
-pub part_taken : (asked : Asked) (known : Option (List ℕ)) (bytes slice text out : List ℕ) (went : Went) (P : List ℕ → Type 0)
-    → IfSome known (λ input. bytes ≡ take most_taken input) → slice ≡ bytes → out ≡ text
-    → IsAnswerFor asked (listing slice) text went → P out → IfSome known (λ input. (went : Went) × HasAnswer asked input went P)
-part_taken asked None bytes slice text out went P read same wrote is holds = tt
-part_taken asked (Some input) bytes slice text out went P read same wrote is holds =
-    (went, answer_taken asked (Some input) bytes slice text out went P read same wrote is holds)
-
 -- ---- lines
-
--- what holds at all holds where writing is refused
-pub on_write : {T Q : Type 0} (r : Result T Refusal) → Q → IfErr r (λ refusal. refusal ≡ Write → Q)
-on_write (Ok x) q = tt
-on_write (Err refusal) q = λ is. q
 
 written_nothing : (line : Line) → line ≡ Nothing → WasWritten line × IsOfOneThread line
 written_nothing line is = subst (λ (l : Line). WasWritten l × IsOfOneThread l) (sym is) (tt, tt)

@@ -4,8 +4,6 @@ use Rattle.devices.specs.Counted.{known_by}
 use Rattle.devices.specs.declared.counted.Counted.{Counted}
 use Rattle.devices.specs.declared.input.InputFault.{InputFault}
 use Rattle.devices.specs.declared.input.InputFault.TheVariants as input
-use Rattle.bench.specs.declared.outcome.Fault.{Fault}
-use Rattle.bench.specs.declared.outcome.Fault.TheVariants as fault
 use Rattle.bench.specs.declared.outcome.Status.{Status}
 use Rattle.bench.specs.declared.outcome.Status.TheVariants as end
 use Rattle.charts.specs.declared.watched.Fault.{Fault as ChartFault}
@@ -32,16 +30,10 @@ written_whole status line = record { status = status_number status; line = line 
 abbrev pub refused : Refusal → Went
 refused refusal = record { status = 5; line = Refused refusal }
 
--- what is refused where the input was not read to its end, and by the one-thread unit
+-- what is refused where the input was not read to its end
 abbrev pub input_refusal : InputFault → Refusal
 input_refusal input.Read = Read
 input_refusal input.Memory = Memory
-
--- why a run on one thread was refused
-abbrev pub refusal_of : Fault → Refusal
-refusal_of fault.Read = Read
-refusal_of fault.Memory = Memory
-refusal_of fault.Write = Write
 
 -- what is refused where a chart was not told to its end
 abbrev pub chart_refusal : ChartFault → Refusal

@@ -11,7 +11,7 @@ mod tests;
 mod watching;
 mod went;
 
-pub use checking::{MOST_TAKEN, check};
+pub use checking::check;
 pub use one_thread::run;
 pub use progress::Progress;
 pub use statuses::{refused, written};

@@ -1,10 +1,9 @@
 //! How a run went.
 ghost use Rattle.std.specs.Prelude.{◌≡◌, Some};
 ghost use Rattle.without_threads.specs.Went.{line_text, refusal_line};
-ghost use Rattle.without_threads.specs.Went.{input_refusal, refusal_of};
+ghost use Rattle.without_threads.specs.Went.{input_refusal};
 ghost use Rattle.without_threads.specs.declared.went.Refusal.TheVariants.{Memory, Write};
 
-use bench::Fault;
 use counts::Tally;
 use devices::{InputFault, WriteFailed};
 use std::alloc::AllocError;
@@ -118,17 +117,5 @@ impl From<WriteFailed> for Refusal {
 
     fn from(_failed: WriteFailed) -> Refusal {
         Refusal::Write
-    }
-}
-
-impl From<Fault> for Refusal {
-    ghost from_gives = { λ e refusal. refusal ≡ refusal_of e };
-
-    fn from(fault: Fault) -> Refusal {
-        match fault {
-            Fault::Read => Refusal::Read,
-            Fault::Memory => Refusal::Memory,
-            Fault::Write => Refusal::Write,
-        }
     }
 }
