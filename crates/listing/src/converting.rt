@@ -32,7 +32,7 @@ impl Reply for Converting {
     }
 
     fn text(self, alloc: Global, bytes: &[u8]) -> Result<((), Vec<u8>), NoListing> {
-        if bytes.len() > MOST_TAKEN {
+        if bytes.len() >= MOST_TAKEN {
             return Err(NoListing::TooLong);
         }
         let text = listing_of(alloc, bytes)?;
