@@ -46,6 +46,6 @@ unfoldable pub status_of : (limit : ℕ) → List ℕ → Status
 status_of limit bytes = status_for limit (listing bytes)
 
 -- the status and the text for the bytes of a listing
-pub record IsAnswer (limit : ℕ) (status : Status) (bytes text : List ℕ) : Type 0 where
+pub record IsAnswerAlone (limit : ℕ) (status : Status) (bytes text : List ℕ) : Type 0 where
   pub status_is : status ≡ status_of limit bytes
   pub text_is : text ≡ text_of limit bytes

@@ -3,7 +3,7 @@ use Rattle.std.proofs.Common.{◌≡◌, ◌∙◌, ℕ, List, length, take, ref
 use Rattle.std.proofs.lemmas.Bool.{cases_lt, lt-ltb}
 use Rattle.std.proofs.lemmas.List.{length-take, take_all}
 use Rattle.isa.specs.Listing.{listing}
-use Rattle.bench.specs.Answer.{IsAnswer, most_taken, text_for, text_of, status_for, status_of}
+use Rattle.bench.specs.Answer.{IsAnswerAlone, most_taken, text_for, text_of, status_for, status_of}
 use Rattle.bench.specs.declared.outcome.Status.{Status}
 
 -- the listing that a part of the input is, is that of the whole
@@ -15,10 +15,10 @@ listing_taken input = elim (cases_lt 4194304 (length input)) [
 ]
 
 -- so is its text, and its status
-pub enough : (limit : ℕ) (input : List ℕ) (status : Status) (text : List ℕ)
-    → IsAnswer limit status (take most_taken input) text → IsAnswer limit status input text
+pub taken_is_enough : (limit : ℕ) (input : List ℕ) (status : Status) (text : List ℕ)
+    → IsAnswerAlone limit status (take most_taken input) text → IsAnswerAlone limit status input text
 unfolding text_of status_of
-enough limit input status text is = record {
+taken_is_enough limit input status text is = record {
   status_is = is.status_is ∙ ap (status_for limit) (listing_taken input);
   text_is = is.text_is ∙ ap (text_for limit) (listing_taken input);
 }

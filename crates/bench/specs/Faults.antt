@@ -3,7 +3,7 @@ use Rattle.std.specs.Prelude.{ℕ, List}
 use Rattle.devices.specs.declared.reply.Unanswered.{Unanswered}
 use Rattle.devices.specs.declared.reply.Unanswered.TheVariants as no
 use Rattle.instructions.specs.declared.memory.Memory.{Memory as NoRoom}
-use Rattle.bench.specs.Answer.{IsAnswer}
+use Rattle.bench.specs.Answer.{IsAnswerAlone}
 use Rattle.bench.specs.declared.outcome.Fault.{Fault}
 use Rattle.bench.specs.declared.outcome.Fault.TheVariants.{Read, Memory, Write}
 use Rattle.bench.specs.declared.outcome.Status.{Status}
@@ -16,4 +16,4 @@ unanswered Write = no.Write
 
 -- the text for the bytes of a listing, with some status
 abbrev pub HasAnAnswer : (limit : ℕ) → (bytes text : List ℕ) → Type 0
-HasAnAnswer limit bytes text = (status : Status) × IsAnswer limit status bytes text
+HasAnAnswer limit bytes text = (status : Status) × IsAnswerAlone limit status bytes text

@@ -2,8 +2,8 @@
 ghost use Rattle.std.specs.Prelude.{◌≡◌, ◌-◌, ◌^◌, ◌<◌, IfOk, IfErr, take};
 ghost use Rattle.devices.specs.Counted.{failures_of};
 ghost use Rattle.devices.specs.Replies.{HasReplied, IsUnanswered};
-ghost use Rattle.bench.specs.Answer.{IsAnswer, most_taken};
-ghost use Rattle.bench.specs.Enough.{enough};
+ghost use Rattle.bench.specs.Answer.{IsAnswerAlone, most_taken};
+ghost use Rattle.bench.specs.Enough.{taken_is_enough};
 ghost use Rattle.bench.specs.Faults.{HasAnAnswer, unanswered};
 
 use crate::outcome::{Fault, Status};
@@ -31,7 +31,7 @@ impl<P: Predictor + Drop> Reply for Running<'_, P> {
 
     ghost most = { most_taken };
 
-    ghost Answers = { λ running input status text. IsAnswer running.config.now.limit status input text };
+    ghost Answers = { λ running input status text. IsAnswerAlone running.config.now.limit status input text };
 
     fn most(&self) -> usize {
         MOST_TAKEN
@@ -54,7 +54,7 @@ impl<P: Predictor + Drop> Reply for Running<'_, P> {
     }
 
     ghost enough = { λ running input status text is.
-        enough running.config.now.limit input status text is };
+        taken_is_enough running.config.now.limit input status text is };
 }
 
 /// Reads a listing, runs it up to the limit of the configuration, and writes the report of the run;
@@ -71,7 +71,7 @@ pub fn alone<R: Read, W: Write, P: Predictor + Drop>(
     requires writer_room { failures_of writer.old < 2 ^ 64 - 1 }
     // The status and the text are those of the reader's bytes.
     ensures ok { IfOk result (λ status. HasReplied R.remaining W.contents most_taken
-        reader.old reader.new writer.old writer.new (IsAnswer config.now.limit status)) }
+        reader.old reader.new writer.old writer.new (IsAnswerAlone config.now.limit status)) }
     // Each device is blamed for one failed call, and only then.
     ensures err { IfErr result (λ fault. IsUnanswered R.remaining W.contents most_taken
         reader.old reader.new writer.old writer.new (HasAnAnswer config.now.limit)

@@ -9,7 +9,7 @@ use Rattle.pool.specs.declared.answer.Run.TheVariants as run
 use Rattle.bench.specs.Answer.{most_taken}
 use Rattle.bench.specs.declared.outcome.Status.{Status}
 use Rattle.requests.specs.declared.request.Asked.{Asked}
-use Rattle.without_threads.specs.Answers.{IsAnswerTo, enough}
+use Rattle.without_threads.specs.Answers.{IsAnswerTo, answer_of_all}
 use Rattle.without_threads.specs.Went.{written_whole}
 use Rattle.without_threads.specs.declared.went.Line.{Line}
 use Rattle.without_threads.specs.declared.went.Line.TheVariants.{Nothing, Tally}
@@ -44,4 +44,4 @@ IsAnswerOnThreads asked went bytes text = asked.alone ≡ false → IsAnswerTo a
 -- so much of a listing as is taken is enough to know it
 pub enough_for_threads : (asked : Asked) (bytes : List ℕ) (went : Went) (text : List ℕ)
     → IsAnswerOnThreads asked went (take most_taken bytes) text → IsAnswerOnThreads asked went bytes text
-enough_for_threads asked bytes went text is = λ threads. enough asked bytes went text (is threads)
+enough_for_threads asked bytes went text is = λ threads. answer_of_all asked bytes went text (is threads)

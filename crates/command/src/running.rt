@@ -4,7 +4,7 @@ ghost use Rattle.devices.specs.Counted.{failures_of, Gives};
 ghost use Rattle.devices.specs.Replies.{HasReplied};
 ghost use Rattle.bench.specs.Answer.{most_taken};
 ghost use Rattle.without_threads.specs.Answers.{IsAnswerTo, IsAsAlone, IsSomeAnswerTo};
-ghost use Rattle.without_threads.specs.Replies.{HasWritten, IfRefused, IsLeftBy, IsRefused};
+ghost use Rattle.without_threads.specs.Replies.{HasWritten, IfRefused, IsLeftBy, IsUnansweredBy};
 ghost use Rattle.without_threads.specs.Went.{HoldsOfInput, IsOfOneThread, IsWhole, WasWritten, refused, went_of};
 
 use crate::{Asked, Refusal, Went, threads};
@@ -69,7 +69,7 @@ fn ended<T: Threads + Wait + Sync, R: Read, W: Write, G: Gate + Sync>(
         reader.old reader.new writer.old writer.new (IsAnswerTo asked.now went)) }
     ensures line { IfOk result (λ went. WasWritten went.line) }
     ensures alone { asked.now.alone ≡ true → IsOfOneThread (went_of result).line }
-    ensures err { IfErr result (IsRefused R.remaining W.contents
+    ensures err { IfErr result (IsUnansweredBy R.remaining W.contents
         reader.old reader.new writer.old writer.new (IsSomeAnswerTo asked.now)) }
 {
     if asked.alone {

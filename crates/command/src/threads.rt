@@ -5,7 +5,7 @@ ghost use Rattle.devices.specs.Replies.{HasReplied};
 ghost use Rattle.bench.specs.Answer.{most_taken};
 ghost use Rattle.pool.specs.Runs.{RunIsRight, IsWithinLimit, TakesTurns};
 ghost use Rattle.without_threads.specs.Answers.{IsAnswerTo, IsSomeAnswerTo};
-ghost use Rattle.without_threads.specs.Replies.{IsRefused};
+ghost use Rattle.without_threads.specs.Replies.{IsUnansweredBy};
 ghost use Rattle.without_threads.specs.Went.{WasWritten};
 ghost use Rattle.command.specs.Threads.{IsAnswerOnThreads, ended_of, enough_for_threads, line_with, pool_refusal, told_as};
 ghost use Rattle.requests.specs.Predictors.{IsChosen};
@@ -101,7 +101,7 @@ pub(crate) fn run<T: Threads + Wait + Sync, R: Read, W: Write, G: Gate + Sync>(
     ensures ok { IfOk result (λ went. HasReplied R.remaining W.contents most_taken
         reader.old reader.new writer.old writer.new (IsAnswerTo asked.now went)) }
     ensures line { IfOk result (λ went. WasWritten went.line) }
-    ensures err { IfErr result (IsRefused R.remaining W.contents
+    ensures err { IfErr result (IsUnansweredBy R.remaining W.contents
         reader.old reader.new writer.old writer.new (IsSomeAnswerTo asked.now)) }
 {
     match reply_to(alloc, reader, writer, Running { wait, asked, gate }) {

@@ -3,12 +3,12 @@ use Rattle.std.specs.Prelude.{ℕ, List, length, ◌<◌}
 use Rattle.conversion.specs.Conversion.{IsSaid}
 
 -- one byte more than a file may have
-abbrev pub most_taken : ℕ
-most_taken = 16777217
+abbrev pub most_of_file : ℕ
+most_of_file = 16777217
 
 -- the file is not too long, and the text means its program
 pub record IsListingOf (file text : List ℕ) : Type 0 where
-  pub short : length file < most_taken
+  pub short : length file < most_of_file
   pub said : IsSaid file text
 
 -- the same, whatever is told of it

@@ -7,8 +7,8 @@ use Rattle.listing.specs.declared.no_listing.NoListing.{NoListing}
 use Rattle.listing.specs.declared.no_listing.NoListing.TheVariants.{Refused}
 
 -- 2 where the file has no listing, 5 where a device or memory fails
-abbrev pub status_of : Unanswered NoListing → ℕ
-status_of no.Read = 5
-status_of (no.Refused (Refused Memory)) = 5
-status_of (no.Refused why) = 2
-status_of no.Write = 5
+abbrev pub status_without_listing : Unanswered NoListing → ℕ
+status_without_listing no.Read = 5
+status_without_listing (no.Refused (Refused Memory)) = 5
+status_without_listing (no.Refused why) = 2
+status_without_listing no.Write = 5

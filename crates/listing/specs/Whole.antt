@@ -2,11 +2,11 @@
 use Rattle.std.proofs.Common.{ℕ, List, length, take, subst, arith, inl, inr}
 use Rattle.std.proofs.lemmas.Bool.{cases_lt}
 use Rattle.std.proofs.lemmas.List.{length-take, take_all}
-use Rattle.listing.specs.Listings.{IsListingOf, most_taken}
+use Rattle.listing.specs.Listings.{IsListingOf, most_of_file}
 
 -- a beginning of a file that is shorter than it may be is the file
-pub whole : (file text : List ℕ) → IsListingOf (take most_taken file) text → IsListingOf file text
-whole file text is = elim (cases_lt (length file) most_taken) [
-  | inl below ↦ subst (λ (bytes : List ℕ). IsListingOf bytes text) (take_all most_taken file (omega arith)) is
-  | inr above ↦ absurd (omega (arith, length-take most_taken file, is.short, above))
+pub whole : (file text : List ℕ) → IsListingOf (take most_of_file file) text → IsListingOf file text
+whole file text is = elim (cases_lt (length file) most_of_file) [
+  | inl below ↦ subst (λ (bytes : List ℕ). IsListingOf bytes text) (take_all most_of_file file (omega arith)) is
+  | inr above ↦ absurd (omega (arith, length-take most_of_file file, is.short, above))
 ]

@@ -2,7 +2,7 @@
 ghost use Rattle.std.specs.Prelude.{◌≡◌, ◌-◌, ◌^◌, ◌<◌, IfErr, OnOk};
 ghost use Rattle.devices.specs.Counted.{failures_of};
 ghost use Rattle.devices.specs.Replies.{HasReplied, IsUnanswered};
-ghost use Rattle.listing.specs.Listings.{HasListing, IsListingOf, most_taken};
+ghost use Rattle.listing.specs.Listings.{HasListing, IsListingOf, most_of_file};
 ghost use Rattle.listing.specs.Whole.{whole};
 
 use crate::no_listing::NoListing;
@@ -23,7 +23,7 @@ impl Reply for Converting {
 
     type Refusal = NoListing;
 
-    ghost most = { most_taken };
+    ghost most = { most_of_file };
 
     ghost Answers = { λ _ file _ text. IsListingOf file text };
 
@@ -52,10 +52,10 @@ pub fn convert<R: Read, W: Write>(
     requires reader_room { failures_of reader.old < 2 ^ 64 - 1 }
     requires writer_room { failures_of writer.old < 2 ^ 64 - 1 }
     // What was written whole is a listing of the reader's bytes.
-    ensures ok { OnOk result (HasReplied R.remaining W.contents most_taken
+    ensures ok { OnOk result (HasReplied R.remaining W.contents most_of_file
         reader.old reader.new writer.old writer.new IsListingOf) }
     // Each device is blamed for one failed call, and only then.
-    ensures err { IfErr result (λ why. IsUnanswered R.remaining W.contents most_taken
+    ensures err { IfErr result (λ why. IsUnanswered R.remaining W.contents most_of_file
         reader.old reader.new writer.old writer.new HasListing why) }
 {
     reply_to(alloc, reader, writer, Converting)

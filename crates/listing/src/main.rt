@@ -3,7 +3,7 @@
 
 ghost use Rattle.std.specs.Prelude.{◌≡◌};
 ghost use Rattle.std.specs.Process.{exit_status};
-ghost use Rattle.listing.specs.Statuses.{status_of};
+ghost use Rattle.listing.specs.Statuses.{status_without_listing};
 
 mod converting;
 mod no_listing;
@@ -28,7 +28,7 @@ Exit status: 0 the listing was written, 2 the file has none, 3 a mistake on the 
 ";
 
 fn status(why: &Unanswered<NoListing>) -> u8
-    ensures { result ≡ status_of why.now }
+    ensures { result ≡ status_without_listing why.now }
 {
     match why {
         Unanswered::Refused(
@@ -43,7 +43,7 @@ fn status(why: &Unanswered<NoListing>) -> u8
 
 // A failure to print changes no status.
 fn refuse(rt: &HostRuntime, file: &str, why: &Unanswered<NoListing>) -> ExitCode
-    ensures { exit_status result ≡ status_of why.now }
+    ensures { exit_status result ≡ status_without_listing why.now }
 {
     let _ = match why {
         Unanswered::Read => eprintln!(rt; "ruu: {file}: it cannot be read to its end"),

@@ -1,23 +1,24 @@
 -- What is told of a listing, from what is known of its end.
-use Rattle.std.proofs.Common.{◌≡◌, ◌∙◌, ℕ, true, List, take, refl, ap, ap₂, sym, subst, arith, Option, Some, None, Result, Ok, Err, IfSome, IfOk, IfErr, IsErrAnd}
-use Rattle.instructions.specs.declared.end.Ending.{Ending}
+use Rattle.std.proofs.Common.{◌≡◌, ℕ, true, List, refl, sym, subst, Option, Some, Result, Ok, Err, IfOk, IfErr}
 use Rattle.isa.specs.declared.listing.fault.FaultKind.{FaultKind}
 use Rattle.isa.specs.Listing.{listing}
 use Rattle.instructions.specs.Programs.{Program}
 use Rattle.isa.specs.Report.{fault_line}
-use Rattle.inorder.specs.Machine.{State}
 use Rattle.inorder.specs.Runs.{end_of}
-use Rattle.bench.specs.Answer.{IsAnswer, status_for, status_of, text_for, text_of, ending_status, report_of_run}
+use Rattle.devices.specs.Replies.{HasReplied, HasReplyBegun}
+use Rattle.devices.specs.declared.counted.Counted.{Counted}
+use Rattle.bench.specs.Answer.{IsAnswerAlone, most_taken, status_for, status_of, text_for, text_of}
 use Rattle.bench.specs.declared.outcome.Status.{Status}
 use Rattle.bench.specs.declared.outcome.Status.TheVariants.{TextFault}
 use Rattle.requests.specs.declared.request.Asked.{Asked}
 use Rattle.without_threads.specs.declared.went.Line.{Line}
 use Rattle.without_threads.specs.declared.went.Line.TheVariants.{Nothing, Refused}
 use Rattle.without_threads.specs.declared.went.Refusal.{Refusal}
-use Rattle.without_threads.specs.declared.went.Refusal.TheVariants.{Write}
+use Rattle.without_threads.specs.declared.went.Refusal.TheVariants.{Open, Read, Memory, Thread, Write, Trace}
 use Rattle.without_threads.specs.declared.went.Went.{Went}
 use Rattle.without_threads.specs.Answers.{IsAnswerFor, IsAnswerTo, IsRunEnd, IsLineWith}
-use Rattle.without_threads.specs.Went.{IsOfOneThread, WasWritten, status_number, went_of, written_whole}
+use Rattle.without_threads.specs.Replies.{HasWritten, HasWrittenPart, IsLeftBy, IsUnansweredBy}
+use Rattle.without_threads.specs.Went.{IsOfOneThread, WasWritten, went_of, written_whole}
 
 -- ---- one thread
 
@@ -35,24 +36,9 @@ alone_for asked is (Ok P) =
     }
 alone_for asked is (Err f) = (refl, refl)
 
--- on one thread an answer is the text and the status of the one-thread unit, and no line
-pub alone_is : (asked : Asked) → asked.alone ≡ true → (found : Result Program (ℕ × FaultKind)) (text : List ℕ) (went : Went)
-    → IsAnswerFor asked found text went
-    → (text ≡ text_for asked.config.limit found) × (went ≡ written_whole (status_for asked.config.limit found) Nothing)
-alone_is asked is (Ok P) text went answer =
-    let limit = asked.config.limit in
-    let end : ◌≡◌ {A = Ending × State} (answer.ending, answer.state) (end_of P limit) =
-    subst (λ b. IsRunEnd b asked.config P answer.ending answer.state) is answer.is in
-    let line : went.line ≡ Nothing = subst (λ b. IsLineWith b answer.state.count went.line) is answer.line in
-    let told : ℕ → Line → Went = λ n l. record { status = n; line = l } in (
-      answer.report ∙ ap report_of_run end,
-      ap₂ told (answer.status ∙ ap (λ (e : Ending × State). status_number (ending_status e.0)) end) line,
-    )
-alone_is asked is (Err f) text went answer = answer
-
 -- the text and the status of the one-thread unit are an answer
 pub alone_answers : (asked : Asked) → asked.alone ≡ true → (status : Status) (bytes text : List ℕ)
-    → IsAnswer asked.config.limit status bytes text → IsAnswerTo asked (written_whole status Nothing) bytes text
+    → IsAnswerAlone asked.config.limit status bytes text → IsAnswerTo asked (written_whole status Nothing) bytes text
 unfolding text_of status_of
 alone_answers asked is status bytes text answer =
     rw (answer.text_is, answer.status_is) (alone_for asked is (listing bytes))
@@ -81,3 +67,28 @@ one_thread_tells (Err refusal) is refused = refused
 -- a line with the whole text refuses nothing
 pub written_refuses_nothing : (line : Line) (refusal : Refusal) → WasWritten line → line ≡ Refused refusal → ⊥
 written_refuses_nothing line refusal written is = subst WasWritten is written
+
+-- ---- devices
+
+-- a text that was written whole, of a reader that is there
+pub replied_writes : {R W : Type 0} (remaining : R → Option (List ℕ)) (contents : W → Option (List ℕ)) (most : ℕ) (reader : Option (Counted R))
+    (r r' : Counted R) (w w' : Counted W) (IsText : List ℕ → List ℕ → Type 0) → reader ≡ Some r
+    → HasReplied remaining contents most r r' w w' IsText → HasWritten remaining contents reader w w' IsText
+replied_writes remaining contents most reader r r' w w' IsText there is = rw there (record { text = is.text; quiet = is.quiet })
+
+-- a part of one
+pub begun_writes : {R W : Type 0} (remaining : R → Option (List ℕ)) (contents : W → Option (List ℕ)) (most : ℕ) (reader : Option (Counted R))
+    (r r' : Counted R) (w w' : Counted W) (IsText : List ℕ → List ℕ → Type 0) → reader ≡ Some r
+    → HasReplyBegun remaining contents most r r' w w' IsText → HasWrittenPart remaining contents reader w w' IsText
+begun_writes remaining contents most reader r r' w w' IsText there is = rw there (record { part = is.part; failed = is.failed })
+
+-- how the writer is left where there is no answer
+pub unanswered_leaves : {R W : Type 0} (remaining : R → Option (List ℕ)) (contents : W → Option (List ℕ)) (reader : Option (Counted R))
+    (r r' : Counted R) (w w' : Counted W) (IsText : List ℕ → List ℕ → Type 0) (refusal : Refusal) → reader ≡ Some r
+    → IsUnansweredBy remaining contents r r' w w' IsText refusal → IsLeftBy remaining contents reader w w' IsText refusal
+unanswered_leaves remaining contents reader r r' w w' IsText Open there is = absurd is
+unanswered_leaves remaining contents reader r r' w w' IsText Read there is = is.silent
+unanswered_leaves remaining contents reader r r' w w' IsText Memory there is = is.silent
+unanswered_leaves remaining contents reader r r' w w' IsText Thread there is = is.silent
+unanswered_leaves remaining contents reader r r' w w' IsText Write there is = begun_writes remaining contents most_taken reader r r' w w' IsText there is
+unanswered_leaves remaining contents reader r r' w w' IsText Trace there is = absurd is

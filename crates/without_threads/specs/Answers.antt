@@ -68,9 +68,9 @@ abbrev pub IsSomeAnswerTo : Asked → (bytes text : List ℕ) → Type 0
 IsSomeAnswerTo asked bytes text = (went : Went) × IsAnswerTo asked went bytes text
 
 -- so much of a listing as is taken is enough to know an answer to it
-pub enough : (asked : Asked) (bytes : List ℕ) (went : Went) (text : List ℕ)
+pub answer_of_all : (asked : Asked) (bytes : List ℕ) (went : Went) (text : List ℕ)
     → IsAnswerTo asked went (take most_taken bytes) text → IsAnswerTo asked went bytes text
-enough asked bytes went text is =
+answer_of_all asked bytes went text is =
     subst (λ (found : Result Program (ℕ × FaultKind)). IsAnswerFor asked found text went) (listing_taken bytes) is
 
 -- P of the text that the one-thread unit has for the bytes of a listing, and its status

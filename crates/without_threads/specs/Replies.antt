@@ -17,15 +17,15 @@ IfRefused (Tally totals) P = ⊤
 IfRefused (Refused refusal) P = P refusal
 
 -- a device was blamed for one failed call, and only then; there was a reader, and nobody asked for a log
-abbrev pub IsRefused : {R W : Type 0} → (R → Option (List ℕ)) → (W → Option (List ℕ))
+abbrev pub IsUnansweredBy : {R W : Type 0} → (R → Option (List ℕ)) → (W → Option (List ℕ))
     → (reader reader_new : Counted R) → (writer writer_new : Counted W)
     → (IsText : (input text : List ℕ) → Type 0) → Refusal → Type 0
-IsRefused remaining contents r r' w w' IsText Open = ⊥
-IsRefused remaining contents r r' w w' IsText Read = HasNoReply 1 remaining most_taken r r' w w'
-IsRefused remaining contents r r' w w' IsText Memory = HasNoReply 0 remaining most_taken r r' w w'
-IsRefused remaining contents r r' w w' IsText Thread = HasNoReply 0 remaining most_taken r r' w w'
-IsRefused remaining contents r r' w w' IsText Write = HasReplyBegun remaining contents most_taken r r' w w' IsText
-IsRefused remaining contents r r' w w' IsText Trace = ⊥
+IsUnansweredBy remaining contents r r' w w' IsText Open = ⊥
+IsUnansweredBy remaining contents r r' w w' IsText Read = HasNoReply 1 remaining most_taken r r' w w'
+IsUnansweredBy remaining contents r r' w w' IsText Memory = HasNoReply 0 remaining most_taken r r' w w'
+IsUnansweredBy remaining contents r r' w w' IsText Thread = HasNoReply 0 remaining most_taken r r' w w'
+IsUnansweredBy remaining contents r r' w w' IsText Write = HasReplyBegun remaining contents most_taken r r' w w' IsText
+IsUnansweredBy remaining contents r r' w w' IsText Trace = ⊥
 
 -- a text for the reader's bytes was written whole, and no call of the writer failed
 pub record HasWritten {R W : Type 0} (remaining : R → Option (List ℕ)) (contents : W → Option (List ℕ))

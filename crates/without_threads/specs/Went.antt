@@ -74,10 +74,10 @@ refusal_line Thread = codes "thread"
 refusal_line Write = codes "write"
 refusal_line Trace = codes "trace"
 
--- the totals by name, behind the first words of the line
-abbrev pub totals_text : List ℕ → Totals → List ℕ
-totals_text first t =
-    first ++ (decimal t.lets ++ (codes " claims " ++ (decimal t.claims
+-- each number of a tally behind its name
+abbrev pub totals_text : Totals → List ℕ
+totals_text t =
+    codes "lets " ++ (decimal t.lets ++ (codes " claims " ++ (decimal t.claims
     ++ (codes " finishes " ++ (decimal t.finishes ++ (codes " stale " ++ (decimal t.stale
     ++ (codes " loads " ++ (decimal t.loads ++ (codes " retires " ++ (decimal t.retires
     ++ (codes " squashes " ++ (decimal t.squashes ++ (codes " mends " ++ (decimal t.mends
@@ -85,11 +85,11 @@ totals_text first t =
 
 -- the line behind a run
 abbrev pub tally_text : Totals → List ℕ
-tally_text = totals_text (codes "tally lets ")
+tally_text totals = codes "tally " ++ totals_text totals
 
 -- the line while it runs
 abbrev pub progress_text : Totals → List ℕ
-progress_text = totals_text (codes "progress lets ")
+progress_text totals = codes "progress " ++ totals_text totals
 
 -- the line for standard error, if there is one
 abbrev pub line_text : Line → List ℕ

@@ -8,6 +8,7 @@ mod progress;
 mod statuses;
 #[cfg(test)]
 mod tests;
+mod totals;
 mod watching;
 mod went;
 

@@ -2,11 +2,11 @@
 ghost use Rattle.std.specs.Prelude.{◌≡◌, ◌-◌, ◌^◌, ◌<◌, IfOk, IfErr, true};
 ghost use Rattle.devices.specs.Counted.{failures_of};
 ghost use Rattle.devices.specs.Replies.{HasReplied, IsUnanswered};
-ghost use Rattle.bench.specs.Answer.{IsAnswer, most_taken};
+ghost use Rattle.bench.specs.Answer.{IsAnswerAlone, most_taken};
 ghost use Rattle.bench.specs.Faults.{HasAnAnswer, unanswered};
 ghost use Rattle.requests.specs.Predictors.{IsChosen};
 ghost use Rattle.without_threads.specs.Answers.{IsAnswerTo, IsSomeAnswerTo};
-ghost use Rattle.without_threads.specs.Replies.{IsRefused};
+ghost use Rattle.without_threads.specs.Replies.{IsUnansweredBy};
 ghost use Rattle.without_threads.specs.Went.{IsOfOneThread};
 ghost use Rattle.without_threads.specs.declared.went.Line.TheVariants.{Nothing, Refused};
 
@@ -30,7 +30,7 @@ pub fn run<R: Read, W: Write>(
     ensures ok { IfOk result (λ went. HasReplied R.remaining W.contents most_taken
         reader.old reader.new writer.old writer.new (IsAnswerTo asked.now went)) }
     ensures line { IfOk result (λ went. went.line ≡ Nothing) }
-    ensures err { IfErr result (IsRefused R.remaining W.contents
+    ensures err { IfErr result (IsUnansweredBy R.remaining W.contents
         reader.old reader.new writer.old writer.new (IsSomeAnswerTo asked.now)) }
     ensures thread { IfErr result (λ refusal. IsOfOneThread (Refused refusal)) }
 {
@@ -55,7 +55,7 @@ fn predicted<R: Read, W: Write>(
     requires reader_room { failures_of reader.old < 2 ^ 64 - 1 }
     requires writer_room { failures_of writer.old < 2 ^ 64 - 1 }
     ensures ok { IfOk result (λ status. HasReplied R.remaining W.contents most_taken
-        reader.old reader.new writer.old writer.new (IsAnswer asked.now.config.limit status)) }
+        reader.old reader.new writer.old writer.new (IsAnswerAlone asked.now.config.limit status)) }
     ensures err { IfErr result (λ fault. IsUnanswered R.remaining W.contents most_taken
         reader.old reader.new writer.old writer.new (HasAnAnswer asked.now.config.limit)
         (unanswered fault)) }

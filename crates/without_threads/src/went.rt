@@ -1,9 +1,9 @@
 //! How a run went.
 ghost use Rattle.std.specs.Prelude.{◌≡◌, Some};
-ghost use Rattle.without_threads.specs.Went.{line_text, refusal_line};
-ghost use Rattle.without_threads.specs.Went.{input_refusal};
+ghost use Rattle.without_threads.specs.Went.{input_refusal, line_text, refusal_line};
 ghost use Rattle.without_threads.specs.declared.went.Refusal.TheVariants.{Memory, Write};
 
+use crate::totals::Totals;
 use counts::Tally;
 use devices::{InputFault, WriteFailed};
 use std::alloc::AllocError;
@@ -50,21 +50,7 @@ impl fmt::Display for Line {
     fn fmt<W: fmt::Write>(&self, f: &mut fmt::Formatter<W>) -> fmt::Result {
         match self {
             Line::Nothing => Ok(()),
-            Line::Tally(tally) => write!(
-                f,
-                "tally lets {} claims {} finishes {} stale {} loads {} retires {} squashes {} mends {} \
-                 hints {} renewals {}",
-                tally.lets,
-                tally.claims,
-                tally.finishes,
-                tally.stale,
-                tally.loads,
-                tally.retires,
-                tally.squashes,
-                tally.mends,
-                tally.hints,
-                tally.renewals,
-            ),
+            Line::Tally(tally) => write!(f, "tally {}", Totals { tally: *tally }),
             Line::Refused(refusal) => write!(f, "ruu: {refusal}"),
         }
     }
