@@ -88,7 +88,9 @@ module _ (P : Program) (C : Sizes) (U V : UpdateUnit) (same : V.tenants ≡ U.te
     entries = λ r pos less. k.entries r pos less ∙ (λ i. Some (table_entry_in (one i) (trail P (sym same i)) r));
     latest = λ p t le is last. absurd (let b = at_below V.tenants p t is in omega (arith, b, le, all'));
     stale = λ p q t u le lt is is' place s e. absurd (let b = at_below V.tenants p t is in omega (arith, b, le, all'));
-    replaced = λ xs ys n split le. absurd (let i : IsNoted P V.tenants n = (all_rest (IsNoted P V.tenants) xs (n ∷ ys) (subst (AllByRecursion (IsNoted P V.tenants)) split (trail_noted P V.tenants))).0 in let b = at_below V.tenants n.at i.tenant i.is in omega (arith, b, le, all'));
+    replaced = λ xs ys n split le. absurd
+        (let i : IsNoted P V.tenants n = (all_rest (IsNoted P V.tenants) xs (n ∷ ys) (subst (AllByRecursion (IsNoted P V.tenants)) split (trail_noted P V.tenants))).0 in
+        let b = at_below V.tenants n.at i.tenant i.is in omega (arith, b, le, all'));
   }
     where
       one : told ≡ new

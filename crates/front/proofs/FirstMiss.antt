@@ -3,6 +3,7 @@ use Rattle.std.proofs.Common.{◌≡◌, ℕ, zero, suc, ◌+◌, ◌<◌, ◌�
 use Rattle.std.proofs.lemmas.List.{append-nil, take-append-drop}
 use Rattle.std.specs.List.{AllByRecursion}
 use Rattle.std.specs.Prelude.{slice_get}
+use Rattle.std.proofs.lemmas.Option.{same_Some}
 use Rattle.instructions.specs.Programs.{Program}
 use Rattle.inorder.specs.declared.history.Entry.{Entry}
 use Rattle.inorder.specs.History.{IsLegal, StartsWith, front, unit_of, renewals}
@@ -56,9 +57,6 @@ get_taken xs i = let one : i + 1 ≡ suc i = omega arith in ap (λ z. slice_get 
 of_whats : (Q : Record → Type 0) (xs : List Note) → AllByRecursion Q (whats xs) → AllByRecursion (λ n. Q n.what) xs
 of_whats Q [] a = tt
 of_whats Q (x ∷ xs) a = (a.0, of_whats Q xs a.1)
-
-same_tenant : (t u : Tenant) → Some t ≡ Some u → t ≡ u
-same_tenant t u e = cc e
 
 less_not : (p q : ℕ) → p < q → p ≡ q → ⊥
 less_not p q h e = absurd (omega (arith, h, e))

@@ -170,7 +170,9 @@ forgotten P U told T all entries deep = record {
   entries = λ r pos less. ap (λ z. slice_get z r) entries ∙ (nothing_at r 34 less ∙ ap Some (sym (none r (newest_note None (trail P U.tenants) r) refl)));
   latest = λ p t new is last. absurd (let b = at_below U.tenants p t is in omega (arith, b, new, all));
   stale = λ p q t u new lt is is' same s e. absurd (let b = at_below U.tenants p t is in omega (arith, b, new, all));
-  replaced = λ xs ys n split new. absurd (let i : IsNoted P U.tenants n = (all_rest (IsNoted P U.tenants) xs (n ∷ ys) (subst (AllByRecursion (IsNoted P U.tenants)) split (trail_noted P U.tenants))).0 in let b = at_below U.tenants n.at i.tenant i.is in omega (arith, b, new, all));
+  replaced = λ xs ys n split new. absurd
+      (let i : IsNoted P U.tenants n = (all_rest (IsNoted P U.tenants) xs (n ∷ ys) (subst (AllByRecursion (IsNoted P U.tenants)) split (trail_noted P U.tenants))).0 in
+      let b = at_below U.tenants n.at i.tenant i.is in omega (arith, b, new, all));
 }
   where
     none : (r : ℕ) (o : Option Note) → newest_note None (trail P U.tenants) r ≡ o → table_entry told o ≡ None

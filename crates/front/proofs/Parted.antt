@@ -8,15 +8,10 @@ use Rattle.inorder.specs.Unit.{Sizes, how_many, newest_of}
 use Rattle.inorder.proofs.Positions.{at_below}
 use Rattle.inorder.proofs.Stations.{ArePlaced}
 use Rattle.inorder.proofs.Tags.{passed}
+use Rattle.inorder.proofs.Recent.{gone_below}
 use Rattle.front.specs.Trail.{Note, note, trail}
 use Rattle.front.proofs.Lists.{all_map, head_of, tail_of}
 use Rattle.front.proofs.Trails.{ArePlacedFrom, IsNoted, placed_last, trail_noted, trail_off, trail_on}
-
--- How many were let before the last renewal
-pub passed_few : (n : ℕ) (ts : List Tenant) (p : ℕ) → length ts ≤ p + n → length (passed n ts) ≤ p
-passed_few zero ts p le = omega (arith, le)
-passed_few (suc n) [] p le = omega arith
-passed_few (suc n) (t ∷ ts) p le = passed_few n ts p (omega (arith, le))
 
 -- Each part of the path. The stations of the second are counted from 0
 pub record IsParted (P : Program) (C : Sizes) (n : ℕ) (ts : List Tenant) : Type 0 where
