@@ -1,5 +1,6 @@
 -- What looks at a station show of its live tenant.
 use Rattle.std.proofs.Common.{◌≡◌, ℕ, ◌<◌, cond, eqb, List, [], length, Some, None, refl, sym, ap, ◌∙◌, subst, arith}
+use Rattle.std.proofs.lemmas.Option.{same_Some}
 use Rattle.instructions.specs.Programs.{Program, instr_of}
 use Rattle.inorder.specs.declared.history.Entry.{Entry}
 use Rattle.inorder.specs.History.{IsLegal, back, taken_of, unit_of}
@@ -25,9 +26,6 @@ use Rattle.back.specs.Port.{AtStation, IsEntryOf, address_in, shown_address, see
 use Rattle.back.proofs.OwnEntries.{added_legal}
 use Rattle.back.proofs.PortStays.{length_grows}
 use Rattle.inorder.proofs.Recent.{live_is_recent, recent_at}
-
-found : (t u : Tenant) → Some t ≡ Some u → t ≡ u
-found t u e = cc e
 
 -- The address that a station shows is that of its live tenant
 
@@ -66,7 +64,7 @@ module _ (P : Program) (C : Sizes) (mid new : List Entry) (b : Adds P C back mid
       (record { index = m.index ∙ f.0.index; live = λ l. f.0.live (m.live l) }, m.station ∙ f.1, m.tag ∙ f.2)) b.begins.more mid legal
       (record { tenant = t; is = before; fact = (record { index = refl; live = λ l. l }, refl, refl) }) in
       let there : at (unit_of P C new).tenants q ≡ Some i.tenant = ap (λ h. at (unit_of P C h).tenants q) b.begins.is ∙ i.is in
-      let same = found i.tenant u (sym there ∙ now) in
+      let same = same_Some i.tenant u (sym there ∙ now) in
       (subst (Since t) same i.fact.0, subst (λ (x : Tenant). x.station ≡ t.station) same i.fact.1, subst (λ (x : Tenant). x.tag ≡ t.tag) same i.fact.2)
 
 -- A live tenant is what its station shows

@@ -35,10 +35,9 @@ pub enum Tried {
 }
 
 // Looks at a tenant. Its instruction is read first, so that the station's word is the newest that is known.
-fn look(core: &Core, seat: &mut BackSeat, program: &Program, station: usize) -> Entry
+fn look(core: &Core, seat: &mut BackSeat, station: usize) -> Entry
     requires core { seat.old.core ≡ core.now }
     requires by { seat.old.by ≡ back }
-    requires program { program.now ≡ core.now.program }
     requires station { station < core.now.sizes.ring }
     ensures kept { IsSame seat.old seat.new }
     ensures woken { seat.new.woken ≡ seat.old.woken }
@@ -48,6 +47,7 @@ fn look(core: &Core, seat: &mut BackSeat, program: &Program, station: usize) -> 
     let (index, ..) = core.info(seat, station);
     let seen = core.look(seat, station);
     let index = index as usize;
+    let program = core.program();
     if index < program.len() {
         entry(program.instr(index), seen.state, seen.value)
     } else {
@@ -59,7 +59,6 @@ fn look(core: &Core, seat: &mut BackSeat, program: &Program, station: usize) -> 
 fn search(
     core: &Core,
     seat: &mut BackSeat,
-    program: &Program,
     head: usize,
     at: usize,
     load: &Load,
@@ -67,7 +66,6 @@ fn search(
     requires core { seat.old.core ≡ core.now }
     requires by { seat.old.by ≡ back }
     requires legal { IsLegal core.now.program core.now.sizes seat.old.seen }
-    requires program { program.now ≡ core.now.program }
     requires head { head < core.now.sizes.ring }
     requires at { at < core.now.sizes.ring }
     ensures kept { IsSame seat.old seat.new }
@@ -82,7 +80,7 @@ fn search(
     let mut k = at;
     while k > 0 {
         k -= 1;
-        let store = look(core, seat, program, (head + k) % ring);
+        let store = look(core, seat, (head + k) % ring);
         if let Answer::Blocked(_) = ask(store, asked) {
             if store.address.is_none() {
                 return Err(k);
@@ -99,7 +97,6 @@ fn search(
 fn answer(
     core: &Core,
     seat: &mut BackSeat,
-    program: &Program,
     committed: &Committed,
     head: usize,
     at: usize,
@@ -108,7 +105,6 @@ fn answer(
     requires core { seat.old.core ≡ core.now }
     requires by { seat.old.by ≡ back }
     requires legal { IsLegal core.now.program core.now.sizes seat.old.seen }
-    requires program { program.now ≡ core.now.program }
     requires head { head < core.now.sizes.ring }
     requires head_is { head ≡ head_station core.now.sizes (unit_in core.now seat.old.seen) }
     requires at { at < core.now.sizes.ring }
@@ -122,7 +118,7 @@ fn answer(
     ensures err { IfErr result (MayBlock core.now seat.old.seen seat.new.seen head at load.now) }
 {
     let ring = core.ring();
-    let found = match search(core, seat, program, head, at, load) {
+    let found = match search(core, seat, head, at, load) {
         Ok(found) => found,
         Err(k) => return Err(k),
     };
@@ -155,10 +151,9 @@ fn load_at(program: &Program, index: usize, tag: u32, address: u32) -> Option<Lo
 }
 
 // The load of a station that has its address and waits.
-fn waiting(core: &Core, seat: &mut BackSeat, program: &Program, station: usize) -> Option<Load>
+fn waiting(core: &Core, seat: &mut BackSeat, station: usize) -> Option<Load>
     requires core { seat.old.core ≡ core.now }
     requires by { seat.old.by ≡ back }
-    requires program { program.now ≡ core.now.program }
     requires station { station < core.now.sizes.ring }
     ensures kept { IsSame seat.old seat.new }
     ensures woken { seat.new.woken ≡ seat.old.woken }
@@ -172,7 +167,7 @@ fn waiting(core: &Core, seat: &mut BackSeat, program: &Program, station: usize) 
         return None;
     };
     let (index, ..) = core.info(seat, station);
-    load_at(program, index as usize, seen.tag, address)
+    load_at(core.program(), index as usize, seen.tag, address)
 }
 
 // The load still waits.
@@ -194,14 +189,12 @@ fn is_still(core: &Core, seat: &mut BackSeat, station: usize, load: &Load) -> bo
 pub(crate) fn try_load(
     core: &Core,
     seat: &mut BackSeat,
-    program: &Program,
     committed: &Committed,
     head: usize,
     at: usize,
 ) -> Tried
     requires core { seat.old.core ≡ core.now }
     requires by { seat.old.by ≡ back }
-    requires program { program.now ≡ core.now.program }
     requires head { head < core.now.sizes.ring }
     requires head_is { head ≡ head_station core.now.sizes (unit_in core.now seat.old.seen) }
     requires at { at < core.now.sizes.ring }
@@ -213,10 +206,10 @@ pub(crate) fn try_load(
 {
     let ring = core.ring();
     let station = (head + at) % ring;
-    let Some(load) = waiting(core, seat, program, station) else {
+    let Some(load) = waiting(core, seat, station) else {
         return Tried::Passed;
     };
-    match answer(core, seat, program, committed, head, at, &load) {
+    match answer(core, seat, committed, head, at, &load) {
         Ok(value) => match core.settle(seat, station, load.tag, value) {
             Settle::Settled => Tried::Loaded(load.tag, value),
             Settle::Stale => Tried::Passed,

@@ -202,6 +202,13 @@ impl Core {
         (table, setup)
     }
 
+    /// The program of its instructions.
+    pub fn program(&self) -> &Program
+        ensures { result.now ≡ self.now.program }
+    {
+        &self.program
+    }
+
     /// How many reservation stations there are.
     pub fn ring(&self) -> usize
         ensures value { result ≡ self.now.sizes.ring }
