@@ -32,16 +32,16 @@ fn claim(core: &Core, seat: &mut UnitSeat, candidate: Candidate) -> Claim
 }
 
 // Computes a claimed tenant, and writes its outcome.
-fn compute<K: Ring>(floor: &Floor<K>, core: &Core, seat: &mut UnitSeat, job: Job) -> Finish
+fn compute(core: &Core, seat: &mut UnitSeat, job: Job) -> Finish
     requires core { seat.old.core ≡ core.now }
     requires job { Holds core.now.program core.now.sizes seat.old.by seat.old.seen job }
     requires legal { IsLegal core.now.program core.now.sizes seat.old.seen }
-    requires program { floor.now.program ≡ core.now.program }
     ensures core { seat.new.core ≡ core.now }
 {
     a_job_is_of_the_program();
-    let instr = floor.program.instr(job.index as usize);
-    let size = floor.program.size();
+    let program = core.program();
+    let instr = program.instr(job.index as usize);
+    let size = program.size();
     let result = outcome_of(instr, job.half, job.pc, job.a, job.b, size);
     core.finish(seat, job, result)
 }
@@ -86,9 +86,8 @@ pub(crate) struct Unit {
 fn enter<K: Ring>(floor: &Floor<K>, core: &Core, worker: Worker) -> Unit
     requires core { worker.seat.core ≡ core.now }
     requires count { worker.count.of ≡ floor.now.counts }
-    requires program { floor.now.program ≡ core.now.program }
     requires hints { floor.now.hints.ring ≡ core.now.sizes.ring }
-    ensures { Works core.now floor.now.program floor.now.counts floor.now.hints result }
+    ensures { Works core.now floor.now.counts floor.now.hints result }
 {
     let Worker { unit, seat, count } = worker;
     Unit {
@@ -104,9 +103,9 @@ fn enter<K: Ring>(floor: &Floor<K>, core: &Core, worker: Worker) -> Unit
 // Counts the claim of a job, and whether its station came as a hint. Where it has found work as often in a row as the
 // queue takes hints, there is enough for another unit.
 fn count_claim<K: Ring>(floor: &Floor<K>, core: &Core, unit: &mut Unit, candidate: Candidate)
-    requires { Works core.now floor.now.program floor.now.counts floor.now.hints unit.old }
+    requires { Works core.now floor.now.counts floor.now.hints unit.old }
     ensures seat { unit.new.seat ≡ unit.old.seat }
-    ensures works { Works core.now floor.now.program floor.now.counts floor.now.hints unit.new }
+    ensures works { Works core.now floor.now.counts floor.now.hints unit.new }
 {
     unit.rest.begin_again();
     unit.count.count(&floor.counts, Total::Claims, 1);
@@ -123,12 +122,12 @@ fn count_claim<K: Ring>(floor: &Floor<K>, core: &Core, unit: &mut Unit, candidat
 
 // Finishes a job, counts that, and hints whom its result woke.
 fn finish<K: Ring, R: Wait>(wait: &R, floor: &Floor<K>, core: &Core, unit: &mut Unit, job: Job)
-    requires works { Works core.now floor.now.program floor.now.counts floor.now.hints unit.old }
+    requires works { Works core.now floor.now.counts floor.now.hints unit.old }
     requires job { Holds core.now.program core.now.sizes unit.old.seat.by unit.old.seat.seen job }
     requires legal { IsLegal core.now.program core.now.sizes unit.old.seat.seen }
-    ensures { Works core.now floor.now.program floor.now.counts floor.now.hints unit.new }
+    ensures { Works core.now floor.now.counts floor.now.hints unit.new }
 {
-    if let Finish::Stale = compute(floor, core, &mut unit.seat, job) {
+    if let Finish::Stale = compute(core, &mut unit.seat, job) {
         unit.count.count(&floor.counts, Total::Stale, 1);
         return;
     }
@@ -153,8 +152,8 @@ fn turn<K: Ring, G: Gate, R: Wait>(
     unit: &mut Unit,
     left: u32,
 ) -> u32
-    requires { Works core.now floor.now.program floor.now.counts floor.now.hints unit.old }
-    ensures works { Works core.now floor.now.program floor.now.counts floor.now.hints unit.new }
+    requires { Works core.now floor.now.counts floor.now.hints unit.old }
+    ensures works { Works core.now floor.now.counts floor.now.hints unit.new }
     ensures left { result ≤ left }
 {
     let candidate = unit.search.next(wait, &floor.hints, core.ring());
@@ -184,7 +183,6 @@ pub(crate) fn work<K: Ring, G: Gate, R: Wait>(
 )
     requires core { worker.seat.core ≡ core.now }
     requires count { worker.count.of ≡ floor.now.counts }
-    requires program { floor.now.program ≡ core.now.program }
     requires hints { floor.now.hints.ring ≡ core.now.sizes.ring }
 {
     let number = worker.unit;

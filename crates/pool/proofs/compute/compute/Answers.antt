@@ -1,10 +1,7 @@
-use Rattle.std.proofs.Common.{◌<◌, length, subst, sym}
-use Rattle.instructions.specs.Programs.{Program}
 use Rattle.pool.proofs.compute.compute.Goals as goal
 
 pub instr-instr-requires : goal.instr-instr-requires
-instr-instr-requires g c =
+instr-instr-requires c =
     let core = c.args.core.now in
     let seat = c.args.seat.now in
-    subst (λ (P : Program). c.args.job.index < length P.code) (sym c.requires.program)
-    (c.a_job_is_of_the_program.ensures core.program core.sizes seat.by seat.seen c.args.job c.requires.legal c.requires.job)
+    c.a_job_is_of_the_program.ensures core.program core.sizes seat.by seat.seen c.args.job c.requires.legal c.requires.job
