@@ -21,7 +21,7 @@ use Rattle.ruu_words.specs.Content.{HasValue, code}
 use Rattle.ruu_words.specs.States.{state_code}
 use Rattle.ruu_words.proofs.Stays.{fact_stays}
 use Rattle.station.specs.Looking.{Shows}
-use Rattle.station.specs.Seats.{Caller, IsSame}
+use Rattle.station.specs.Seats.{Caller, IsSameSeat}
 use Rattle.back.specs.Port.{AtStation, IsEntryOf, address_in, shown_address, seen_as}
 use Rattle.back.proofs.OwnEntries.{added_legal}
 use Rattle.back.proofs.PortStays.{length_grows}
@@ -103,5 +103,5 @@ module _ (P : Program) (C : Sizes) (old mid new : List Entry) (a : Adds P C back
 pub two_looks : (P : Program) (C : Sizes) (by by' : ℕ) (old mid new : List Entry) → by' ≡ by → Adds P C by old mid [] → Adds P C by' mid new [] → Adds P C by old new []
 two_looks P C by by' old mid new e a b = adds_on P C by old mid new [] [] a (subst (λ x. Adds P C x mid new []) e b)
 
-pub same_on : (u v x : Caller) → IsSame u v → IsSame v x → IsSame u x
+pub same_on : (u v x : Caller) → IsSameSeat u v → IsSameSeat v x → IsSameSeat u x
 same_on u v x a b = record { core = b.core ∙ a.core; by = b.by ∙ a.by }

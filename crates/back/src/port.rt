@@ -3,7 +3,7 @@ ghost use Rattle.std.specs.Prelude.{◌≡◌, ◌<◌, ◌≤◌, ◌+◌, IfEr
 ghost use Rattle.instructions.specs.Instruction.{width as width_in};
 ghost use Rattle.inorder.specs.Callers.{head_station};
 ghost use Rattle.inorder.specs.History.{IsLegal, back};
-ghost use Rattle.station.specs.Seats.{IsSame};
+ghost use Rattle.station.specs.Seats.{IsSameSeat};
 ghost use Rattle.back.specs.Wakings.{TryWakes};
 ghost use Rattle.back.specs.Backs.{SeesMore, committed_in, unit_in};
 ghost use Rattle.back.specs.Trials.{NobodyWaits, ThisWaits, TriedAnswers, load_of_index};
@@ -39,7 +39,7 @@ fn look(core: &Core, seat: &mut BackSeat, station: usize) -> Entry
     requires core { seat.old.core ≡ core.now }
     requires by { seat.old.by ≡ back }
     requires station { station < core.now.sizes.ring }
-    ensures kept { IsSame seat.old seat.new }
+    ensures kept { IsSameSeat seat.old seat.new }
     ensures woken { seat.new.woken ≡ seat.old.woken }
     ensures history { SeesMore core.now seat.old.by seat.old.seen seat.new.seen }
     ensures shows { IsEntryThere core.now seat.old.seen seat.new.seen station result }
@@ -68,7 +68,7 @@ fn search(
     requires legal { IsLegal core.now.program core.now.sizes seat.old.seen }
     requires head { head < core.now.sizes.ring }
     requires at { at < core.now.sizes.ring }
-    ensures kept { IsSame seat.old seat.new }
+    ensures kept { IsSameSeat seat.old seat.new }
     ensures woken { seat.new.woken ≡ seat.old.woken }
     ensures history { SeesMore core.now seat.old.by seat.old.seen seat.new.seen }
     ensures ok { IfOk result (SearchFinds core.now seat.old.seen seat.new.seen head at load.now) }
@@ -110,7 +110,7 @@ fn answer(
     requires at { at < core.now.sizes.ring }
     requires state { committed.now ≡ committed_in core.now seat.old.seen }
     requires inside { load.now.address + width_in load.now.op ≤ length committed.now.memory }
-    ensures kept { IsSame seat.old seat.new }
+    ensures kept { IsSameSeat seat.old seat.new }
     ensures woken { seat.new.woken ≡ seat.old.woken }
     ensures history { SeesMore core.now seat.old.by seat.old.seen seat.new.seen }
     ensures bound { IfErr result (λ s. s < at) }
@@ -155,7 +155,7 @@ fn waiting(core: &Core, seat: &mut BackSeat, station: usize) -> Option<Load>
     requires core { seat.old.core ≡ core.now }
     requires by { seat.old.by ≡ back }
     requires station { station < core.now.sizes.ring }
-    ensures kept { IsSame seat.old seat.new }
+    ensures kept { IsSameSeat seat.old seat.new }
     ensures woken { seat.new.woken ≡ seat.old.woken }
     ensures history { SeesMore core.now seat.old.by seat.old.seen seat.new.seen }
     ensures none { IfNone result (NobodyWaits core.now seat.old.seen seat.new.seen station) }
@@ -175,7 +175,7 @@ fn is_still(core: &Core, seat: &mut BackSeat, station: usize, load: &Load) -> bo
     requires core { seat.old.core ≡ core.now }
     requires by { seat.old.by ≡ back }
     requires station { station < core.now.sizes.ring }
-    ensures kept { IsSame seat.old seat.new }
+    ensures kept { IsSameSeat seat.old seat.new }
     ensures woken { seat.new.woken ≡ seat.old.woken }
     ensures history { SeesMore core.now seat.old.by seat.old.seen seat.new.seen }
     ensures still { result ≡ true → Remains core.now seat.old.seen seat.new.seen station load.now }
@@ -199,7 +199,7 @@ pub(crate) fn try_load(
     requires head_is { head ≡ head_station core.now.sizes (unit_in core.now seat.old.seen) }
     requires at { at < core.now.sizes.ring }
     requires state { committed.now ≡ committed_in core.now seat.old.seen }
-    ensures kept { IsSame seat.old seat.new }
+    ensures kept { IsSameSeat seat.old seat.new }
     ensures reply { TriedAnswers core.now seat.old.by seat.old.seen seat.new.seen head at result }
     ensures woken { TryWakes core.now seat.old.by seat.old.seen seat.new.seen
         seat.old.woken seat.new.woken result }

@@ -2,7 +2,7 @@
 ghost use Rattle.std.specs.Prelude.{◌≡◌, ◌<◌, ◌≤◌};
 ghost use Rattle.inorder.specs.Callers.{head_station};
 ghost use Rattle.inorder.specs.History.{IsLegal, back};
-ghost use Rattle.station.specs.Seats.{IsSame as IsSameSeat};
+ghost use Rattle.station.specs.Seats.{IsSameSeat};
 ghost use Rattle.back.specs.Backs.{IsSameBack, committed_in, unit_in};
 ghost use Rattle.back.specs.Refreshes.{RefreshAnswers};
 ghost use Rattle.back.specs.Wakings.{RefreshWakes};

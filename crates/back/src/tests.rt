@@ -4,7 +4,7 @@ ghost use Rattle.instructions.specs.Instruction.{fixed_next};
 ghost use Rattle.instructions.specs.declared.op.Half.TheVariants.{Low};
 ghost use Rattle.instructions.specs.Programs.{address, instr_of};
 ghost use Rattle.inorder.specs.Replies.{last_tag};
-ghost use Rattle.station.specs.Seats.{IsSame};
+ghost use Rattle.station.specs.Seats.{IsSameSeat};
 
 use crate::{Back, Commit, Mark, Naming, Refresh};
 use instructions::{Config, Ending, Half, Memory, Program, Stop, outcome_of};
@@ -26,7 +26,7 @@ fn let_first(core: &Core, seat: &mut FrontSeat, predicted: u32) -> u32
     requires room { (0 < core.now.sizes.ring) × (0 < core.now.sizes.queue) }
     requires tag { core.now.sizes.first_tag < last_tag }
     requires predicted { IfSome (fixed_next (instr_of core.now.program 0) Low (address 0)) (λ x. predicted ≡ x) }
-    ensures kept { IsSame seat.old seat.new }
+    ensures kept { IsSameSeat seat.old seat.new }
 {
     let tenant = Tenant {
         index: 0,
@@ -42,7 +42,7 @@ fn finish_one(core: &Core, program: &Program, seat: &mut UnitSeat, station: usiz
     requires core { seat.old.core ≡ core.now }
     requires program { program.now ≡ core.now.program }
     requires station { station < core.now.sizes.ring }
-    ensures kept { IsSame seat.old seat.new }
+    ensures kept { IsSameSeat seat.old seat.new }
 {
     let finished = match core.claim(seat, station) {
         Claim::Job(job) => {

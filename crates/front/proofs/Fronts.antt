@@ -15,7 +15,7 @@ use Rattle.inorder.proofs.Letting.{IsBesides}
 use Rattle.inorder.proofs.SettledRegisters.{zeros}
 use Rattle.inorder.proofs.Sound.{IsSound}
 use Rattle.ruu_words.proofs.Stays.{front_stays}
-use Rattle.station.specs.Seats.{Caller, IsSame, TheCore}
+use Rattle.station.specs.Seats.{Caller, IsSameSeat, TheCore}
 use Rattle.instructions.specs.declared.op.Half.TheVariants.{Low}
 use Rattle.inorder.proofs.Positions.{at_below}
 use Rattle.std.specs.List.{AllByRecursion}
@@ -41,7 +41,7 @@ use Rattle.front.proofs.Splitting.{stays}
 use Rattle.front.proofs.Stays.{knows_stable}
 
 -- a call that added nothing
-pub still_front : (core : TheCore) (P : Program) (v w : Caller) (path : Path) (creators : Counted) (rested : Bool) → v.core ≡ core → IsFront P v path creators rested → IsSame v w
+pub still_front : (core : TheCore) (P : Program) (v w : Caller) (path : Path) (creators : Counted) (rested : Bool) → v.core ≡ core → IsFront P v path creators rested → IsSameSeat v w
     → Adds core.program core.sizes v.by v.seen w.seen [] → IsFront P w path creators rested
 still_front core P v w path creators rested e f same adds =
     let Fact : TheCore → Type 0 = λ c. Adds c.program c.sizes front v.seen w.seen [] in
@@ -68,7 +68,7 @@ still_front core P v w path creators rested e f same adds =
 
 -- after a call that knows
 pub front_again : (core : TheCore) (P : Program) (v w : Caller) (path path' : Path) (creators creators' : Counted) (rested rested' : Bool) →
-    v.core ≡ core → IsFront P v path creators rested → IsSame v w
+    v.core ≡ core → IsFront P v path creators rested → IsSameSeat v w
     → IsLegal core.program core.sizes w.seen → FrontKnows core.program core.sizes (unit_of core.program core.sizes w.seen) path'.records path'.base
     → HasTable core.program (unit_of core.program core.sizes w.seen) (rested_at path'.base) creators'.table → (rested' ≡ true → HasRested core w.seen path') → IsFront P w path' creators' rested'
 front_again core P v w path path' creators creators' rested rested' e f same legal knows table rests =

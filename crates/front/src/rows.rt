@@ -2,7 +2,7 @@
 ghost use Rattle.std.specs.Prelude.{◌≡◌, ◌<◌, IfSome};
 ghost use Rattle.inorder.specs.History.{IsLegal};
 ghost use Rattle.station.specs.Claiming.{Holds};
-ghost use Rattle.station.specs.Seats.{IsSame};
+ghost use Rattle.station.specs.Seats.{IsSameSeat};
 
 mod rests;
 mod stills;
@@ -73,7 +73,7 @@ fn finish_job(core: &Core, program: &Program, seat: &mut UnitSeat, job: Job) -> 
     requires program { program.now ≡ core.now.program }
     requires legal { IsLegal core.now.program core.now.sizes seat.old.seen }
     requires job { Holds core.now.program core.now.sizes seat.old.by seat.old.seen job }
-    ensures kept { IsSame seat.old seat.new }
+    ensures kept { IsSameSeat seat.old seat.new }
 {
     a_job_is_of_the_program();
     let instr = program.instr(job.index as usize);
@@ -93,7 +93,7 @@ fn finish_one(core: &Core, program: &Program, seat: &mut UnitSeat, station: usiz
     requires core { seat.old.core ≡ core.now }
     requires program { program.now ≡ core.now.program }
     requires station { station < core.now.sizes.ring }
-    ensures kept { IsSame seat.old seat.new }
+    ensures kept { IsSameSeat seat.old seat.new }
 {
     match core.claim(seat, station) {
         Claim::Job(job) => Some(finish_job(core, program, seat, job)),
@@ -108,7 +108,7 @@ fn waits(core: &Core, program: &Program, seat: &mut UnitSeat, station: usize) ->
     requires core { seat.old.core ≡ core.now }
     requires program { program.now ≡ core.now.program }
     requires station { station < core.now.sizes.ring }
-    ensures kept { IsSame seat.old seat.new }
+    ensures kept { IsSameSeat seat.old seat.new }
 {
     match core.claim(seat, station) {
         Claim::Job(job) => {
@@ -156,7 +156,7 @@ fn keeps<'a>(
 // The back retires the tenant of this station.
 fn retires(core: &Core, back: &mut BackSeat, station: usize) -> bool
     requires { back.old.core ≡ core.now }
-    ensures { IsSame back.old back.new }
+    ensures { IsSameSeat back.old back.new }
 {
     match core.retire(back) {
         Retire::Retired { station: left, .. } => left == station,

@@ -4,7 +4,7 @@ ghost use Rattle.inorder.specs.History.{IsLegal};
 ghost use Rattle.pool.specs.HintsPut.{candidate_station};
 ghost use Rattle.pool.specs.Units.{Works};
 ghost use Rattle.station.specs.Claiming.{ClaimAnswers, Holds};
-ghost use Rattle.station.specs.Seats.{IsSame};
+ghost use Rattle.station.specs.Seats.{IsSameSeat};
 
 use crate::floor::Floor;
 use crate::gate::Gate;
@@ -23,7 +23,7 @@ use std::thread::yield_now;
 fn claim(core: &Core, seat: &mut UnitSeat, candidate: Candidate) -> Claim
     requires core { seat.old.core ≡ core.now }
     requires station { candidate_station candidate < core.now.sizes.ring }
-    ensures kept { IsSame seat.old seat.new }
+    ensures kept { IsSameSeat seat.old seat.new }
     ensures reply { ClaimAnswers core.now.program core.now.sizes
         seat.old.by seat.old.seen seat.new.seen (candidate_station candidate) result }
 {
