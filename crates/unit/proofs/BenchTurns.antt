@@ -39,11 +39,11 @@ before_moves b c e U r s = let o : HasStopped U.tenants c = subst (OverIs U.tena
 
 -- Recovered
 
-pub recovered_shows : (b later : Pipeline) → IsUnit b → b.over ≡ None → RecoversTo b.window later.window → later ≡ record b { window = later.window; missed = later.missed; settled = later.settled } →
-    AreNoted later.missed later.settled later.window → Shows b Recovered later
+pub recovered_shows : (b later : Pipeline) → IsUnit b → b.over ≡ None → RecoversTo b.window later.window → later ≡ record b { window = later.window; missed = later.missed } →
+    AreNoted later.missed later.window → Shows b Recovered later
 recovered_shows b later h none to rest noted =
     let turn = recovered_turn b later none to rest in
-    let same = same_rest b later later.window later.missed later.settled rest in
+    let same = same_rest b later later.window later.missed rest in
     record {
       turn = turn;
       falls = (ap (λ x. x.committed) rest, ap (λ x. x.low) rest, recover_falls b.window later.window (window_room b h) to);
@@ -134,11 +134,10 @@ let_shows b later f guess h none nm to small predicts wl ll rest =
     long : length later.leavers ≡ 32
     long = ap length ll ∙ Rattle.std.proofs.Common.length-set b.leavers _ _ ∙ h.leavers
 
-    noted : AreNoted later.missed later.settled later.window
+    noted : AreNoted later.missed later.window
     noted =
-        subst (λ m. AreNoted m later.settled later.window) (sym (ap (λ x. x.missed) rest))
-        (subst (λ n. AreNoted b.missed n later.window) (sym (ap (λ x. x.settled) rest)) (subst (AreNoted b.missed b.settled) (sym wl)
-        (noted_more b.missed b.settled b.window (let_at f.instr f.half f.pc guess) refl h.noted)))
+        subst (λ m. AreNoted m later.window) (sym (ap (λ x. x.missed) rest))
+        (subst (AreNoted b.missed) (sym wl) (noted_more b.missed b.window (let_at f.instr f.half f.pc guess) refl h.noted))
 
 pub let_room : (b : Pipeline) (f : Fetched) → IsUnit b → CanLet b.program.now b.ring b.queue b.committed.pc b.low b.window f → length b.window < 32
 let_room b f h to = omega (arith, to.room, h.ring)

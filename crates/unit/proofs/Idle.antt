@@ -21,15 +21,15 @@ use Rattle.unit.proofs.RunTurns.{loaded_turn, ran_turn}
 use Rattle.unit.proofs.Start.{retires_keeps, unit_next}
 use Rattle.unit.proofs.Turns.{moves_from}
 
-pub same_rest : (b later : Pipeline) (W : List Station) (m : Bool) (n : ℕ) → later ≡ record b { window = W; missed = m; settled = n } → IsSame b later
-same_rest b later W m n e = record { program = ap (λ x. x.program) e; ring = ap (λ x. x.ring) e; queue = ap (λ x. x.queue) e; first_tag = ap (λ x. x.first_tag) e }
+pub same_rest : (b later : Pipeline) (W : List Station) (m : Bool) → later ≡ record b { window = W; missed = m } → IsSame b later
+same_rest b later W m e = record { program = ap (λ x. x.program) e; ring = ap (λ x. x.ring) e; queue = ap (λ x. x.queue) e; first_tag = ap (λ x. x.first_tag) e }
 
 same_both : (b c d : Pipeline) → IsSame b c → IsSame c d → IsSame b d
 same_both b c d x y = record { program = y.program ∙ x.program; ring = y.ring ∙ x.ring; queue = y.queue ∙ x.queue; first_tag = y.first_tag ∙ x.first_tag }
 
 -- b' is b, but for what is remembered, and nothing recovers, is let or is claimed there
 pub record Idle (b b' : Pipeline) : Type 0 where
-  pub is : b' ≡ record b { missed = b'.missed; settled = b'.settled }
+  pub is : b' ≡ record b { missed = b'.missed }
   pub unit : IsUnit b'
   pub none : b'.over ≡ None
   pub miss : NoneGives miss_in b'.window
@@ -39,8 +39,8 @@ pub record Idle (b b' : Pipeline) : Type 0 where
 pub idle : (b b' : Pipeline) → IsUnit b → b.over ≡ None → NoneGives miss_in b.window →
     CannotLet b.program.now b.ring b.queue b.committed.pc b.window →
     NoneGives (operands_in (registers_of b)) b.window → b'.window ≡ b.window →
-    b' ≡ record b { window = b'.window; missed = b'.missed; settled = b'.settled } →
-    AreNoted b'.missed b'.settled b'.window → Idle b b'
+    b' ≡ record b { window = b'.window; missed = b'.missed } →
+    AreNoted b'.missed b'.window → Idle b b'
 idle b b' h none miss lets ready same rest noted =
     record {
       is = is;
@@ -51,10 +51,10 @@ idle b b' h none miss lets ready same rest noted =
       ready = subst (λ x. NoneGives (operands_in (registers_of x)) x.window) (sym is) ready;
     }
   where
-    is : b' ≡ record b { missed = b'.missed; settled = b'.settled }
-    is = rest ∙ ap (λ W. record b { window = W; missed = b'.missed; settled = b'.settled }) same
+    is : b' ≡ record b { missed = b'.missed }
+    is = rest ∙ ap (λ W. record b { window = W; missed = b'.missed }) same
 
-    unit : IsUnit (record b { missed = b'.missed; settled = b'.settled })
+    unit : IsUnit (record b { missed = b'.missed })
     unit =
         record {
           unit = h.unit;
@@ -65,11 +65,11 @@ idle b b' h none miss lets ready same rest noted =
           least = h.least;
           leavers = h.leavers;
           oldest = h.oldest;
-          noted = subst (AreNoted b'.missed b'.settled) same noted;
+          noted = subst (AreNoted b'.missed) same noted;
         }
 
 idle_same : (b b' : Pipeline) → Idle b b' → IsSame b b'
-idle_same b b' i = same_rest b b' b.window b'.missed b'.settled i.is
+idle_same b b' i = same_rest b b' b.window b'.missed i.is
 
 -- what a turn has to show
 pub record Shows (b : Pipeline) (answer : Turn) (later : Pipeline) : Type 0 where
@@ -83,11 +83,11 @@ pub record Shows (b : Pipeline) (answer : Turn) (later : Pipeline) : Type 0 wher
 pub ran_shows : (b later : Pipeline) → IsUnit b → b.over ≡ None → NoneGives miss_in b.window →
     CannotLet b.program.now b.ring b.queue b.committed.pc b.window →
     RunsTo (registers_of b) (length b.program.now.bytes) b.window later.window →
-    later ≡ record b { window = later.window; missed = later.missed; settled = later.settled } →
-    AreNoted later.missed later.settled later.window → Shows b Ran later
+    later ≡ record b { window = later.window; missed = later.missed } →
+    AreNoted later.missed later.window → Shows b Ran later
 ran_shows b later h none miss lets to rest noted =
     let turn = ran_turn b later none miss lets to rest in
-    let same = same_rest b later later.window later.missed later.settled rest in
+    let same = same_rest b later later.window later.missed rest in
     record {
       turn = turn;
       falls = (ap (λ x. x.committed) rest, ap (λ x. x.low) rest, run_falls (registers_of b) (length b.program.now.bytes) b.window later.window (window_room b h) to);
@@ -97,23 +97,22 @@ ran_shows b later h none miss lets to rest noted =
 
 -- Loaded
 
-full_rest : (b later : Pipeline) → later ≡ record b { window = later.window } → later ≡ record b { window = later.window; missed = later.missed; settled = later.settled }
+full_rest : (b later : Pipeline) → later ≡ record b { window = later.window } → later ≡ record b { window = later.window; missed = later.missed }
 full_rest b later e =
     e
     ∙ ap (λ m. record b { window = later.window; missed = m }) (sym (ap (λ x. x.missed) e))
-    ∙ ap (λ n. record b { window = later.window; missed = later.missed; settled = n }) (sym (ap (λ x. x.settled) e))
 
 pub loaded_shows : (b b' later : Pipeline) → Idle b b' →
     LoadsTo (registers_of b') b'.committed.memory b'.window later.window →
-    later ≡ record b' { window = later.window } → AreNoted later.missed later.settled later.window →
+    later ≡ record b' { window = later.window } → AreNoted later.missed later.window →
     Shows b Loaded later
 loaded_shows b b' later i to e noted =
     let rest = full_rest b' later e in
     let turn = loaded_turn b' later i.none i.miss i.lets i.ready to rest in
-    let same = same_rest b' later later.window later.missed later.settled rest in
+    let same = same_rest b' later later.window later.missed rest in
     let less = load_falls (registers_of b') b'.committed.memory b'.window later.window (window_room b' i.unit) to in
     record {
-      turn = moves_from b b' b'.missed b'.settled Loaded later i.is turn;
+      turn = moves_from b b' b'.missed Loaded later i.is turn;
       falls = (ap (λ x. x.committed) rest ∙ ap (λ x. x.committed) i.is, ap (λ x. x.low) rest ∙ ap (λ x. x.low) i.is, subst (λ W. rank 32 later.window < rank 32 W) (ap (λ x. x.window) i.is) less);
       unit = unit_next b' later Loaded i.unit turn same (ap (λ x. length x.leavers) rest ∙ i.unit.leavers) noted;
       same = same_both b b' later (idle_same b b' i) same;
@@ -144,7 +143,7 @@ retired_shows b b' later answer i l to =
     let turn = retires_turn b' later answer i.unit f can to in
     let kept = retires_keeps b' later answer i.unit.noted to in
     record {
-      turn = moves_from b b' b'.missed b'.settled answer later i.is turn;
+      turn = moves_from b b' b'.missed answer later i.is turn;
       falls = falls_from answer b b' later i (retires_falls b' later answer i.unit i.none can to);
       unit = unit_next b' later answer i.unit turn kept.same (kept.leavers ∙ i.unit.leavers) kept.noted;
       same = same_both b b' later (idle_same b b' i) kept.same;

@@ -1,9 +1,10 @@
 pub mod Waiting
 pub mod Scan
-pub mod Settled
 pub mod Sources
 pub mod Slots
 pub mod CreatorsKept
+pub mod Sets
+pub mod Watched
 pub mod WindowKept
 pub mod Accesses
 pub mod Entries

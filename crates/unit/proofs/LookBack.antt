@@ -18,9 +18,7 @@ use Rattle.unit.specs.declared.station.Station.{Station}
 use Rattle.unit.specs.Forwarding.{joined, joined_by, joined_if, older_by, older_of, store_at, value_over}
 use Rattle.unit.specs.Givers.{given_at, gives}
 use Rattle.unit.specs.Loads.{entries, entry, entry_at, load_by, load_in, value_by, waits, with_entry}
-use Rattle.unit.specs.Notes.{settled_at}
-use Rattle.unit.proofs.Entries.{entries_step, none_by, same_entries}
-use Rattle.unit.proofs.Settled.{settled_waits}
+use Rattle.unit.proofs.Entries.{entries_step, same_entries}
 
 -- One entry more
 
@@ -140,9 +138,3 @@ value_right registers memory W w i a less e h =
     ∙ sym (ap (λ x. load_by x memory w.instr.op (Some a)) (same_entries registers W i le))
     ∙ sym (ap (load_by (entries registers (take i W) (length (take i W))) memory w.instr.op) h)
     ∙ sym (ap (λ o. given_at (load_in registers memory) W o i) e)
-
--- A settled station gets no value
-pub settled_unanswered : (registers memory : List ℕ) (W : List Station) (k : ℕ) →
-    settled_at (slice_get W k) ≡ true → gives (load_in registers memory) W k ≡ None
-settled_unanswered registers memory W k e =
-    none_by registers memory W (slice_get W k) k (settled_waits (slice_get W k) e)

@@ -9,7 +9,7 @@ use Rattle.unit.specs.declared.station.Stage.{Stage}
 use Rattle.unit.specs.declared.station.Stage.TheVariants.{Open, Addr, Done, Miss, Stops}
 use Rattle.circular_buffer.proofs.Places.{slice_get-take}
 use Rattle.unit.specs.Givers.{FirstGives, NoneGives, given_at, gives}
-use Rattle.unit.specs.Notes.{AreNoted, AreSettled, miss_in, missed_after, settled_at, settled_by}
+use Rattle.unit.specs.Notes.{AreNoted, miss_in, missed_after}
 use Rattle.instructions.specs.declared.op.Kind.{Kind}
 use Rattle.instructions.specs.declared.op.Kind.TheVariants.{Computes, Jumps, Links, Loads, Stores}
 use Rattle.unit.specs.declared.execute.Operands.{Operands}
@@ -56,18 +56,7 @@ miss_gives W k = go (slice_get W k)
     go None = refl
     go (Some w) = refl
 
--- One station changes behind those that are settled
-
-pub settled_set : (W : List Station) (n i : ℕ) (x y : Station) → slice_get W i ≡ Some x → n ≤ i → AreSettled n W → AreSettled n (slice_set W i y)
-settled_set W n i x y e h s =
-    record {
-      inside = omega (arith, s.inside, set_length W i x y e);
-      each = λ k l. let ne : k ≢ i = omega arith in ap settled_at (set_other W i k x y e ne) ∙ s.each k l;
-    }
-
--- a place that is not settled is behind them
-pub behind_settled : (W : List Station) (n i : ℕ) → AreSettled n W → settled_at (slice_get W i) ≡ false → n ≤ i
-behind_settled W n i s e = ⊎_elim (λ l. absurd (true≢false (sym (s.each i l) ∙ e))) (λ l. l) (cases_lt i n)
+-- One station changes
 
 pub none_set : (W : List Station) (i : ℕ) (x y : Station) → slice_get W i ≡ Some x → miss_of y.stage ≡ None → NoneGives miss_in W → NoneGives miss_in (slice_set W i y)
 none_set W i x y e m h k l = miss_gives (slice_set W i y) k ∙ ⊎_elim (λ q. here q) (λ q. there q) (decide k i)
@@ -90,13 +79,6 @@ none_set W i x y e m h k l = miss_gives (slice_set W i y) k ∙ ⊎_elim (λ q. 
 
 -- A station is let
 
-pub settled_more : (W : List Station) (n : ℕ) (w : Station) → AreSettled n W → AreSettled n (W ++ w ∷ [])
-settled_more W n w s =
-    record {
-      inside = omega (arith, s.inside, length-append W (w ∷ []));
-      each = λ k l. let less : k < length W = omega (arith, l, s.inside) in ap settled_at (get_left W (w ∷ []) k less) ∙ s.each k l;
-    }
-
 pub none_more : (W : List Station) (w : Station) → miss_of w.stage ≡ None → NoneGives miss_in W → NoneGives miss_in (W ++ w ∷ [])
 none_more W w m h k l = miss_gives (W ++ w ∷ []) k ∙ ⊎_elim (λ q. left q) (λ q. last q) (cases_lt k (length W))
   where
@@ -106,26 +88,16 @@ none_more W w m h k l = miss_gives (W ++ w ∷ []) k ∙ ⊎_elim (λ q. left q)
     last : length W ≤ k → miss_at (slice_get (W ++ w ∷ []) k) ≡ None
     last q = let same : k ≡ length W = omega (arith, l, q, length-append W (w ∷ [])) in ap (λ j. miss_at (slice_get (W ++ w ∷ []) j)) same ∙ ap miss_at (get_end W [] w) ∙ m
 
-pub noted_more : (missed : Bool) (n : ℕ) (W : List Station) (w : Station) → miss_of w.stage ≡ None → AreNoted missed n W → AreNoted missed n (W ++ w ∷ [])
-noted_more missed n W w m s = record { no_miss = λ q. none_more W w m (s.no_miss q); are_settled = settled_more W n w s.are_settled }
+pub noted_more : (missed : Bool) (W : List Station) (w : Station) → miss_of w.stage ≡ None → AreNoted missed W → AreNoted missed (W ++ w ∷ [])
+noted_more missed W w m s q = none_more W w m (s q)
 
 -- The youngest are squashed behind a miss, and it is mended
-pub noted_mended : (missed : Bool) (n at x : ℕ) (W : List Station) (y : Station) → FirstGives miss_in W at x → miss_of y.stage ≡ None → AreNoted missed n W →
-    AreNoted false (min n at) (take at W ++ y ∷ [])
-noted_mended missed n at x W y first m s =
+pub noted_mended : (at x : ℕ) (W : List Station) (y : Station) → FirstGives miss_in W at x → miss_of y.stage ≡ None → AreNoted false (take at W ++ y ∷ [])
+noted_mended at x W y first m q =
     let size : length (take at W) ≡ at = length-take-le at W (omega (arith, first.inside)) in
-    record {
-      no_miss = λ q. none_more (take at W) y m (λ k l.
-          let less : k < at = omega (arith, l, size) in
-          miss_gives (take at W) k ∙ ap miss_at (slice_get-take at W k less) ∙ sym (miss_gives W k) ∙ first.first k less);
-      are_settled = settled_more (take at W) (min n at) y (record {
-        inside = omega (arith, size);
-        each = λ k l.
-            let less : k < at = omega (arith, l) in
-            let known : k < n = omega (arith, l) in
-            ap settled_at (slice_get-take at W k less) ∙ s.are_settled.each k known;
-      });
-    }
+    none_more (take at W) y m (λ k l.
+    let less : k < at = omega (arith, l, size) in
+    miss_gives (take at W) k ∙ ap miss_at (slice_get-take at W k less) ∙ sym (miss_gives W k) ∙ first.first k less)
 
 -- The oldest leaves
 
@@ -138,28 +110,10 @@ length_drop : (W : List Station) → length (drop 1 W) ≡ length W - 1
 length_drop [] = omega arith
 length_drop (w ∷ W) = omega arith
 
-pub noted_drop : (missed : Bool) (n : ℕ) (W : List Station) → AreNoted missed n W → AreNoted missed (n - 1) (drop 1 W)
-noted_drop missed n W s =
-    record {
-      no_miss = λ q k l. let less : suc k < length W = omega (arith, l, length_drop W) in miss_gives (drop 1 W) k ∙ ap miss_at (get_drop W k) ∙ sym (miss_gives W (suc k)) ∙ s.no_miss q (suc k) less;
-      are_settled = record {
-        inside = omega (arith, s.are_settled.inside, length_drop W);
-        each = λ k l. let less : suc k < n = omega arith in ap settled_at (get_drop W k) ∙ s.are_settled.each (suc k) less;
-      };
-    }
+pub noted_drop : (missed : Bool) (W : List Station) → AreNoted missed W → AreNoted missed (drop 1 W)
+noted_drop missed W s q k l = let less : suc k < length W = omega (arith, l, length_drop W) in miss_gives (drop 1 W) k ∙ ap miss_at (get_drop W k) ∙ sym (miss_gives W (suc k)) ∙ s q (suc k) less
 
 -- A station is finished, or answered
-
-open_unsettled : (k : Kind) (s : Stage) (o : Option Operands) (x : Operands) → where_open s o ≡ Some x → settled_by k s ≡ false
-open_unsettled Computes Open o x e = refl
-open_unsettled Jumps Open o x e = refl
-open_unsettled Links Open o x e = refl
-open_unsettled Loads Open o x e = refl
-open_unsettled Stores Open o x e = refl
-open_unsettled k Done o x e = absurd (cc)
-open_unsettled k (Addr a) o x e = absurd (cc)
-open_unsettled k (Miss a) o x e = absurd (cc)
-open_unsettled k (Stops c) o x e = absurd (cc)
 
 pub given_station : {X : Type 0} → (give : List Station → Station → Option X) (W : List Station) (i : ℕ) (w : Station) (x : X) → slice_get W i ≡ Some w → gives give W i ≡ Some x →
     give (take i W) w ≡ Some x
@@ -172,32 +126,8 @@ missed_none missed Done e = (e, refl)
 missed_none missed (Miss x) e = absurd (true≢false e)
 missed_none missed (Stops c) e = (e, refl)
 
-pub noted_ran : (registers : List ℕ) (missed : Bool) (n n' i : ℕ) (W : List Station) (x y : Station) (o : Operands) → slice_get W i ≡ Some x → gives (operands_in registers) W i ≡ Some o →
-    AreNoted missed n W → AreSettled n' W → AreNoted (missed_after missed y.stage) n' (slice_set W i y)
-noted_ran registers missed n n' i W x y o e g s s' =
-    let closed : settled_at (slice_get W i) ≡ false = ap settled_at e ∙ open_unsettled (kind x.instr.op) x.stage _ o (given_station (operands_in registers) W i x o e g) in
-    record {
-      no_miss = λ q. let m = missed_none missed y.stage q in none_set W i x y e m.1 (s.no_miss m.0);
-      are_settled = settled_set W n' i x y e (behind_settled W n' i s' closed) s';
-    }
+pub noted_ran : (missed : Bool) (i : ℕ) (W : List Station) (x y : Station) → slice_get W i ≡ Some x → AreNoted missed W → AreNoted (missed_after missed y.stage) (slice_set W i y)
+noted_ran missed i W x y e s q = let m = missed_none missed y.stage q in none_set W i x y e m.1 (s m.0)
 
-waits_unsettled : (k : Kind) (s : Stage) (a : ℕ) → waits_by k s ≡ Some a → settled_by k s ≡ false
-waits_unsettled Loads (Addr b) a e = refl
-waits_unsettled Loads Open a e = absurd (cc)
-waits_unsettled Loads Done a e = absurd (cc)
-waits_unsettled Loads (Miss x) a e = absurd (cc)
-waits_unsettled Loads (Stops c) a e = absurd (cc)
-waits_unsettled Computes s a e = absurd (cc)
-waits_unsettled Jumps s a e = absurd (cc)
-waits_unsettled Links s a e = absurd (cc)
-waits_unsettled Stores s a e = absurd (cc)
-
-pub noted_loaded : (registers memory : List ℕ) (missed : Bool) (n i v : ℕ) (W : List Station) (x y : Station) → slice_get W i ≡ Some x → gives (load_in registers memory) W i ≡ Some v →
-    miss_of y.stage ≡ None → AreNoted missed n W → AreNoted missed n (slice_set W i y)
-noted_loaded registers memory missed n i v W x y e g m s =
-    let a = answered_waits registers memory (take i W) x v (given_station (load_in registers memory) W i x v e g) in
-    let closed : settled_at (slice_get W i) ≡ false = ap settled_at e ∙ waits_unsettled (kind x.instr.op) x.stage a.0 a.1 in
-    record {
-      no_miss = λ q. none_set W i x y e m (s.no_miss q);
-      are_settled = settled_set W n i x y e (behind_settled W n i s.are_settled closed) s.are_settled;
-    }
+pub noted_loaded : (missed : Bool) (i : ℕ) (W : List Station) (x y : Station) → slice_get W i ≡ Some x → miss_of y.stage ≡ None → AreNoted missed W → AreNoted missed (slice_set W i y)
+noted_loaded missed i W x y e m s q = none_set W i x y e m (s q)

@@ -157,9 +157,9 @@ split_of b U ys t ts k e live =
 changed_stands : (b later : Pipeline) (U : UpdateUnit) (ys : List Tenant) (t u : Tenant) (ts : List Tenant) (steps : List Step) (w : Station) → b.over ≡ None → IsReached b.program.now (sizes b) U →
     StandsFor b U → U.tenants ≡ ys ++ t ∷ ts → t.standing ≡ Live → u.standing ≡ Live → u.station ≡ t.station → AllByRecursion IsNoRetire steps →
     (k : ActRun b.program.now (sizes b) 0 U ys t u ts steps) → Leads b.program.now (sizes b) 0 U (k.delivers ++ steps) (with_tenants U k.later) → station_of b.program.now u ≡ w →
-    later.window ≡ window b.program.now ts ++ w ∷ window b.program.now ys → StandsFor (record b { window = later.window; missed = later.missed; settled = later.settled }) (with_tenants U k.later)
+    later.window ≡ window b.program.now ts ++ w ∷ window b.program.now ys → StandsFor (record b { window = later.window; missed = later.missed }) (with_tenants U k.later)
 changed_stands b later U ys t u ts steps w none r s split lt lu st quiet k leads sw wl =
-    stand_on b later.window later.missed later.settled U (with_tenants U k.later) none s
+    stand_on b later.window later.missed U (with_tenants U k.later) none s
     (committed_on P (sizes b) 0 U (k.delivers ++ steps) (with_tenants U k.later) leads (sound_of P (sizes b) U r)
     (all_more IsNoRetire k.delivers steps (all_weaker IsDeliver IsNoRetire deliver_quiet k.delivers k.are) quiet))
     (λ n. leaver_alike P n (ys ++ u ∷ ts) k.later k.alike ∙ leaver_put P n ys t u ts st (told_live P u lu ∙ sym (told_live P t lt)) ∙ ap (λ X. leaver P X n) (sym split))
@@ -181,7 +181,7 @@ set_shown P W U i w v f =
 pub ran_turn : (b later : Pipeline) → b.over ≡ None → NoneGives miss_in b.window →
     CannotLet b.program.now b.ring b.queue b.committed.pc b.window →
     RunsTo (registers_of b) (length b.program.now.bytes) b.window later.window →
-    later ≡ record b { window = later.window; missed = later.missed; settled = later.settled } → Moves b Ran later
+    later ≡ record b { window = later.window; missed = later.missed } → Moves b Ran later
 ran_turn b later none nm nl to rest U r s = subst (Moved b U Ran) (sym rest) (go (found_in P b.window U.tenants to.i to.w s.window to.is))
   where
     P : Program
@@ -194,7 +194,7 @@ ran_turn b later none nm nl to rest U r s = subst (Moved b U Ran) (sym rest) (go
     regs = registers_of b
 
     now : Pipeline
-    now = record b { window = later.window; missed = later.missed; settled = later.settled }
+    now = record b { window = later.window; missed = later.missed }
 
     go : FoundIn P b.window U.tenants to.i to.w → Moved b U Ran now
     go f = with (ran_run P C 0 U ys t ts sp.sound sp.still sp.stops claim)
@@ -356,7 +356,7 @@ pub loaded_turn : (b later : Pipeline) → b.over ≡ None → NoneGives miss_in
     CannotLet b.program.now b.ring b.queue b.committed.pc b.window →
     NoneGives (operands_in (registers_of b)) b.window →
     LoadsTo (registers_of b) b.committed.memory b.window later.window →
-    later ≡ record b { window = later.window; missed = later.missed; settled = later.settled } → Moves b Loaded later
+    later ≡ record b { window = later.window; missed = later.missed } → Moves b Loaded later
 loaded_turn b later none nm nl nc to rest U r s = subst (Moved b U Loaded) (sym rest) (go (found_in P b.window U.tenants to.i to.w s.window to.is))
   where
     P : Program
@@ -372,7 +372,7 @@ loaded_turn b later none nm nl nc to rest U r s = subst (Moved b U Loaded) (sym 
     mem = b.committed.memory
 
     now : Pipeline
-    now = record b { window = later.window; missed = later.missed; settled = later.settled }
+    now = record b { window = later.window; missed = later.missed }
 
     go : FoundIn P b.window U.tenants to.i to.w → Moved b U Loaded now
     go f = with (loaded_run P C 0 U ys t ts sp.sound sp.still sp.stops can.may)

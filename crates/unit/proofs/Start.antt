@@ -42,9 +42,9 @@ start_stands b w c o l n z most =
     }
 
 pub start_unit : (b : Pipeline) → b.window ≡ [] → b.committed ≡ start b.program.now → b.over ≡ None →
-    b.leavers ≡ replicate 32 nobody → b.low ≡ None → b.oldest ≡ 0 → b.settled ≡ 0 → 0 < b.ring → b.ring ≤ 32 →
+    b.leavers ≡ replicate 32 nobody → b.low ≡ None → b.oldest ≡ 0 → 0 < b.ring → b.ring ≤ 32 →
     2 ≤ b.queue → IsUnit b
-start_unit b w c o l n f z room most least =
+start_unit b w c o l n f room most least =
     record {
       unit = Rattle.inorder.specs.Unit.empty_unit;
       reached = record { history = []; allowed = tt; is = refl; never = refl };
@@ -54,13 +54,10 @@ start_unit b w c o l n f z room most least =
       least = least;
       leavers = ap length l;
       oldest = omega (arith, f, room);
-      noted = record {
-        no_miss = λ q k h. let no : k < 0 = subst (λ W. k < length W) w h in absurd (omega (arith, no));
-        are_settled = record { inside = omega (arith, z); each = λ k h. let no : k < 0 = subst (λ n. k < n) z h in absurd (omega (arith, no)) };
-      };
+      noted = λ q k h. let no : k < 0 = subst (λ W. k < length W) w h in absurd (omega (arith, no));
     }
 
-pub unit_next : (b later : Pipeline) (answer : Turn) → IsUnit b → Moves b answer later → IsSame b later → length later.leavers ≡ 32 → AreNoted later.missed later.settled later.window → IsUnit later
+pub unit_next : (b later : Pipeline) (answer : Turn) → IsUnit b → Moves b answer later → IsSame b later → length later.leavers ≡ 32 → AreNoted later.missed later.window → IsUnit later
 unit_next b later answer h t e l n = go (t h.unit h.reached h.stands)
   where
     go : Rattle.unit.specs.Turns.Moved b h.unit answer later → IsUnit later
@@ -87,12 +84,12 @@ unit_next b later answer h t e l n = go (t h.unit h.reached h.stands)
 pub record IsKept (b later : Pipeline) : Type 0 where
   pub same : IsSame b later
   pub leavers : length later.leavers ≡ length b.leavers
-  pub noted : AreNoted later.missed later.settled later.window
+  pub noted : AreNoted later.missed later.window
 
 set_long : (xs : List (Option Leaver)) (k : ℕ) (v : Option Leaver) → length (slice_set xs k v) ≡ length xs
 set_long xs k v = Rattle.std.proofs.Common.length-set xs k v
 
-pub retires_keeps : (b later : Pipeline) (answer : Turn) → AreNoted b.missed b.settled b.window → RetiresTo b (slice_get b.window 0) answer later → IsKept b later
+pub retires_keeps : (b later : Pipeline) (answer : Turn) → AreNoted b.missed b.window → RetiresTo b (slice_get b.window 0) answer later → IsKept b later
 retires_keeps b later answer n to = go (slice_get b.window 0) to
   where
     plain : (b' : Pipeline) → later ≡ b' → IsKept b b' → IsKept b later
@@ -104,7 +101,7 @@ retires_keeps b later answer n to = go (slice_get b.window 0) to
         (record {
           same = record { program = refl; ring = refl; queue = refl; first_tag = refl };
           leavers = set_long b.leavers _ _;
-          noted = noted_drop b.missed b.settled b.window n;
+          noted = noted_drop b.missed b.window n;
         })
 
     halves : (w : Station) → (later ≡ halved b w) → IsKept b later
@@ -113,7 +110,7 @@ retires_keeps b later answer n to = go (slice_get b.window 0) to
         (record {
           same = record { program = refl; ring = refl; queue = refl; first_tag = refl };
           leavers = set_long b.leavers _ _;
-          noted = noted_drop b.missed b.settled b.window n;
+          noted = noted_drop b.missed b.window n;
         })
 
     passes : (f : Bool) (w : Station) → PassesTo f b w answer later → IsKept b later
@@ -126,7 +123,7 @@ retires_keeps b later answer n to = go (slice_get b.window 0) to
         (record {
           same = record { program = refl; ring = refl; queue = refl; first_tag = refl };
           leavers = refl;
-          noted = noted_drop b.missed b.settled b.window n;
+          noted = noted_drop b.missed b.window n;
         })
     by w Open l = passes (is_first_half w.instr.op w.half) w l
     by w (Addr a) l = passes (is_first_half w.instr.op w.half) w l

@@ -62,13 +62,13 @@ pub none_in : {X : Type 0} → (give : List Station → Station → Option X) (P
 none_in give P W U e h = none_is give P U (λ k l. ap (λ x. gives give x k) (sym e) ∙ h k (subst (λ x. k < length x) (sym e) l))
 
 -- The fields stand for a unit where nothing was committed
-pub stand_on : (b : Pipeline) (W : List Station) (m : Bool) (n : ℕ) (U V : UpdateUnit) → b.over ≡ None →
+pub stand_on : (b : Pipeline) (W : List Station) (m : Bool) (U V : UpdateUnit) → b.over ≡ None →
     StandsFor b U → committed b.program.now V.tenants ≡ committed b.program.now U.tenants → ((s : ℕ) →
     leaver b.program.now V.tenants s ≡ leaver b.program.now U.tenants s) →
     LeavesSame b.program.now U.tenants V.tenants → W ≡ window b.program.now V.tenants →
     AllByRecursion IsNoRetiredStop V.tenants → AreStill V.tenants →
-    StandsFor (record b { window = W; missed = m; settled = n }) V
-stand_on b W m n U V none s c l k w ns still =
+    StandsFor (record b { window = W; missed = m }) V
+stand_on b W m U V none s c l k w ns still =
     record {
       window = w;
       committed = s.committed ∙ sym c;
@@ -79,10 +79,10 @@ stand_on b W m n U V none s c l k w ns still =
     }
 
 -- What is remembered does not matter
-pub moves_from : (b b' : Pipeline) (m : Bool) (n : ℕ) (answer : Turn) (later : Pipeline) → b' ≡ record b { missed = m; settled = n } → Moves b' answer later → Moves b answer later
-moves_from b b' m n answer later e h = go (subst (λ x. Moves x answer later) e h)
+pub moves_from : (b b' : Pipeline) (m : Bool) (answer : Turn) (later : Pipeline) → b' ≡ record b { missed = m } → Moves b' answer later → Moves b answer later
+moves_from b b' m answer later e h = go (subst (λ x. Moves x answer later) e h)
   where
-    go : Moves (record b { missed = m; settled = n }) answer later → Moves b answer later
+    go : Moves (record b { missed = m }) answer later → Moves b answer later
     go h U r s =
         let x = h U r (record { window = s.window; committed = s.committed; leavers = s.leavers; over = s.over; low = s.low; oldest = s.oldest }) in
         record { unit = x.unit; reached = x.reached; stands = x.stands; does = x.does }
@@ -97,7 +97,7 @@ miss_fate (Stopped c) x e = absurd (cc)
 
 -- Recovered
 
-pub recovered_turn : (b later : Pipeline) → b.over ≡ None → RecoversTo b.window later.window → later ≡ record b { window = later.window; missed = later.missed; settled = later.settled } →
+pub recovered_turn : (b later : Pipeline) → b.over ≡ None → RecoversTo b.window later.window → later ≡ record b { window = later.window; missed = later.missed } →
     Moves b Recovered later
 recovered_turn b later none to rest U r s = subst (Moved b U Recovered) (sym rest) (go (found_in P b.window U.tenants to.i to.w s.window to.is))
   where
@@ -111,7 +111,7 @@ recovered_turn b later none to rest U r s = subst (Moved b U Recovered) (sym res
     over = subst (OverIs U.tenants) none s.over
 
     now : Pipeline
-    now = record b { window = later.window; missed = later.missed; settled = later.settled }
+    now = record b { window = later.window; missed = later.missed }
 
     go : FoundIn P b.window U.tenants to.i to.w → Moved b U Recovered now
     go f = with (recover_run P C 0 U f.found.ys f.found.t f.found.ts to.x f.found.live miss)
@@ -145,7 +145,7 @@ recovered_turn b later none to rest U r s = subst (Moved b U Recovered) (sym res
             record {
               unit = V;
               reached = reach_on P C 0 U steps V r leads;
-              stands = stand_on b later.window later.missed later.settled U V none s
+              stands = stand_on b later.window later.missed U V none s
                   (committed_on P C 0 U steps V leads (sound_of P C U r) (tt, all_weaker IsSquash IsNoRetire squash_quiet k.squashes k.are))
                   (λ n. leaver_recover P n ys t ts to.x f.found.live ∙ ap (λ X. leaver P X n) (sym f.found.split))
                   (subst (λ X. LeavesSame P X V.tenants) (sym f.found.split) (same_recover P ys t ts to.x f.found.live)) shown

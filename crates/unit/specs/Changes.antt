@@ -14,8 +14,8 @@ use Rattle.unit.specs.Stages.{LoadsTo, NextIs, RecoversTo, RunsTo}
 use Rattle.unit.specs.Window.{operands_in}
 
 -- The window changes, and what is remembered of it
-abbrev pub with_window : Pipeline → List Station → Bool → ℕ → Pipeline
-with_window b window missed settled = record b { window = window; missed = missed; settled = settled }
+abbrev pub with_window : Pipeline → List Station → Bool → Pipeline
+with_window b window missed = record b { window = window; missed = missed }
 
 -- The state that a new tenant finds where nobody is live
 abbrev pub ahead_of : Pipeline → State

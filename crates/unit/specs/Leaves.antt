@@ -50,7 +50,6 @@ shifted b =
     record b {
       window = drop 1 b.window;
       oldest = (b.oldest + 1) % b.ring;
-      settled = b.settled - 1;
     }
 
 -- The fields behind a stop that retires

@@ -4,6 +4,7 @@ pub mod Creators
 pub mod Givers
 pub mod Loads
 pub mod Forwarding
+pub mod Waking
 pub mod Notes
 pub mod Stages
 pub mod Ahead

@@ -9,31 +9,13 @@ use Rattle.unit.specs.declared.station.Station.{Station}
 use Rattle.unit.specs.Givers.{NoneGives}
 use Rattle.unit.specs.Window.{miss_of}
 
--- It is done, a stop, or a store with its address
-abbrev pub settled_by : Kind → Stage → Bool
-settled_by _ Done = true
-settled_by _ (Stops c) = true
-settled_by StoreKind (Addr a) = true
-settled_by _ _ = false
-
--- The same of a station, if there is one
-abbrev pub settled_at : Option Station → Bool
-settled_at None = false
-settled_at (Some w) = settled_by (kind w.instr.op) w.stage
-
--- The first n stations are settled
-pub record AreSettled (n : ℕ) (W : List Station) : Type 0 where
-  pub inside : n ≤ length W
-  pub each : (k : ℕ) → k < n → settled_at (slice_get W k) ≡ true
-
 -- The computed next pc of a miss, whatever stands before it
 abbrev pub miss_in : List Station → Station → Option ℕ
 miss_in ws w = miss_of w.stage
 
--- No station is a miss unless `missed` is set, and the first `settled` are settled
-pub record AreNoted (missed : Bool) (settled : ℕ) (W : List Station) : Type 0 where
-  pub no_miss : missed ≡ false → NoneGives miss_in W
-  pub are_settled : AreSettled settled W
+-- No station is a miss unless `missed` is set
+abbrev pub AreNoted : Bool → List Station → Type 0
+AreNoted missed W = missed ≡ false → NoneGives miss_in W
 
 -- Whether some station is a miss, where one gets this stage
 abbrev pub missed_after : Bool → Stage → Bool

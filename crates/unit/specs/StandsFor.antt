@@ -55,4 +55,4 @@ pub record IsUnit (b : Pipeline) : Type 0 where
   pub least : 2 ≤ b.queue
   pub leavers : length b.leavers ≡ 32
   pub oldest : b.oldest < b.ring
-  pub noted : AreNoted b.missed b.settled b.window
+  pub noted : AreNoted b.missed b.window

@@ -2,13 +2,14 @@
 ghost use Rattle.std.specs.Prelude.{◌≡◌, ◌<◌, ◌≤◌, [], ◌∷◌, ◌++◌, length, take, slice_get, Some, None};
 ghost use Rattle.unit.specs.Changes.{NoneRuns, RunsOldest, with_window};
 ghost use Rattle.unit.specs.Givers.{Chosen, gives};
-ghost use Rattle.unit.specs.Notes.{AreNoted, AreSettled, missed_after, settled_at, settled_by};
+ghost use Rattle.unit.specs.Notes.{AreNoted, missed_after};
 ghost use Rattle.unit.specs.Stages.{FirstReady};
 ghost use Rattle.unit.specs.Window.{made_after as made_after_of, operands_by, operands_in, stage_after as stage_after_of};
-ghost use Rattle.instructions.specs.Instruction.{kind as kind_of};
 
 use crate::ahead::Ahead;
+use crate::lacking::lacking;
 use crate::pipeline::Pipeline;
+use crate::sets::{first, without};
 use crate::source::source;
 use crate::station::{Stage, Station};
 use crate::window::Window;
@@ -61,7 +62,6 @@ fn sources(window: &Window, ahead: &Ahead, i: usize, station: &Station) -> Optio
 // What the station at `i` needs, if it can be claimed.
 #[inline(always)]
 fn sources_at(window: &Window, ahead: &Ahead, i: usize) -> Option<Operands>
-    requires { i ≤ length window.now }
     ensures { result ≡ gives (operands_in ahead.now.registers) window.now i }
 {
     match window.peek(i) {
@@ -70,53 +70,32 @@ fn sources_at(window: &Window, ahead: &Ahead, i: usize) -> Option<Operands>
     }
 }
 
-// The oldest station that can be claimed; those before `from` can not.
+// The oldest station that can be claimed. Those that it finds to wait sleep from then on.
 #[inline(always)]
-fn oldest_ready(window: &Window, ahead: &Ahead, from: usize) -> Option<Ready>
-    requires { AreSettled from window.now }
-    ensures { FirstReady ahead.now.registers window.now result }
+fn oldest_ready(window: &mut Window, ahead: &Ahead) -> Option<Ready>
+    ensures ready { FirstReady ahead.now.registers window.old result }
+    ensures same { window.new ≡ window.old }
 {
-    for at in from..window.len() {
+    let mut rest = window.awake();
+    while 0 < rest {
+        let at = first(rest);
         if let Some(operands) = sources_at(window, ahead, at) {
             return Some(Ready { at, operands });
         }
+        sleeps(window, at);
+        rest = without(rest, at);
     }
     None
 }
 
-// It has ended, or is a store with its address.
-fn is_settled(station: &Station) -> bool
-    ensures { result ≡ settled_by (kind_of station.now.instr.op) station.now.stage }
+// The tenant at `i` sleeps, if it waits for another.
+#[inline(never)]
+fn sleeps(window: &mut Window, i: usize)
+    ensures { window.new ≡ window.old }
 {
-    match station.stage {
-        Stage::Done | Stage::Stops(_) => true,
-        Stage::Addr(_) => matches!(station.instr.op().kind(), Kind::Stores),
-        _ => false,
+    if let Some(at) = lacking(window, i) {
+        window.sleep(i, at);
     }
-}
-
-#[inline(always)]
-fn is_settled_at(window: &Window, i: usize) -> bool
-    ensures { result ≡ settled_at (slice_get window.now i) }
-{
-    match window.peek(i) {
-        None => false,
-        Some(station) => is_settled(station),
-    }
-}
-
-// How many of the oldest are settled, where as many as `from` are known to be.
-#[inline(always)]
-fn settled(window: &Window, from: usize) -> usize
-    requires { AreSettled from window.now }
-    ensures { AreSettled result window.now }
-{
-    for i in from..window.len() {
-        if !is_settled_at(window, i) {
-            return i;
-        }
-    }
-    window.len()
 }
 
 // How far a tenant comes by its outcome.
@@ -158,15 +137,17 @@ impl<'a> Pipeline<'a> {
     /// Claims and finishes the oldest tenant that can be claimed.
     #[inline(always)]
     pub fn runs(&mut self) -> bool
-        requires { AreNoted self.old.missed self.old.settled self.old.window }
+        requires { AreNoted self.old.missed self.old.window }
         ensures window { Chosen result (RunsOldest self.old self.new) (NoneRuns self.old) }
         ensures same { Chosen result (Unit {0}) (self.new.window ≡ self.old.window) }
-        ensures rest { self.new ≡
-            with_window self.old self.new.window self.new.missed self.new.settled }
-        ensures noted { AreNoted self.new.missed self.new.settled self.new.window }
+        ensures rest { self.new ≡ with_window self.old self.new.window self.new.missed }
+        ensures noted { AreNoted self.new.missed self.new.window }
     {
-        self.settled = settled(&self.window, self.settled);
-        let Some(ready) = oldest_ready(&self.window, &self.ahead(), self.settled) else {
+        let ahead = Ahead {
+            committed: &self.committed,
+            low: self.low,
+        };
+        let Some(ready) = oldest_ready(&mut self.window, &ahead) else {
             return false;
         };
         let Some(station) = self.window.peek(ready.at) else {

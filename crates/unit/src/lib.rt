@@ -7,6 +7,7 @@ mod creators;
 mod dispatch;
 mod execute;
 mod forwarding;
+mod lacking;
 mod leaver;
 mod memory_port;
 mod pipeline;
@@ -16,8 +17,11 @@ mod retire;
 mod rows;
 #[cfg(test)]
 mod shown;
+mod place;
+mod sets;
 mod source;
 mod station;
+mod waking;
 mod window;
 mod writers;
 

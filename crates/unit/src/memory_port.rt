@@ -7,12 +7,13 @@ ghost use Rattle.unit.specs.Forwarding.{value_over};
 ghost use Rattle.unit.specs.Givers.{Chosen, gives};
 ghost use Rattle.inorder.specs.Loads.{access_width as width_of};
 ghost use Rattle.unit.specs.Loads.{AreInside, StoresWriteNone, load_in, waits as waits_of};
-ghost use Rattle.unit.specs.Notes.{AreNoted, AreSettled};
+ghost use Rattle.unit.specs.Notes.{AreNoted};
 ghost use Rattle.unit.specs.Stages.{FirstAnswered};
 
 use crate::ahead::Ahead;
 use crate::forwarding::{Older, look_back};
 use crate::pipeline::Pipeline;
+use crate::sets::{first, without};
 use crate::station::{Stage, Station};
 use crate::window::Window;
 use inorder::access_width;
@@ -57,7 +58,6 @@ fn value_of(older: Older, ahead: &Ahead, op: Op, address: u32) -> Option<u32>
 // The value of the load at `i`, if it is one with its address that is not blocked.
 #[inline(always)]
 fn value_at(window: &Window, ahead: &Ahead, i: usize) -> Option<u32>
-    requires there { i < length window.now }
     requires inside { AreInside (length ahead.now.memory) window.now }
     requires stores { StoresWriteNone window.now }
     ensures { result ≡ gives (load_in ahead.now.registers ahead.now.memory) window.now i }
@@ -69,18 +69,20 @@ fn value_at(window: &Window, ahead: &Ahead, i: usize) -> Option<u32>
     value_of(older, ahead, op, address)
 }
 
-// The oldest load with its address that is not blocked; none of those before `from` is one.
+// The oldest load with its address that is not blocked.
 #[inline(always)]
-fn oldest_answered(window: &Window, ahead: &Ahead, from: usize) -> Option<Answered>
+fn oldest_answered(window: &Window, ahead: &Ahead) -> Option<Answered>
     requires inside { AreInside (length ahead.now.memory) window.now }
     requires stores { StoresWriteNone window.now }
-    requires settled { AreSettled from window.now }
     ensures { FirstAnswered ahead.now.registers ahead.now.memory window.now result }
 {
-    for at in from..window.len() {
+    let mut rest = window.asking();
+    while 0 < rest {
+        let at = first(rest);
         if let Some(value) = value_at(window, ahead, at) {
             return Some(Answered { at, value });
         }
+        rest = without(rest, at);
     }
     None
 }
@@ -91,17 +93,18 @@ impl<'a> Pipeline<'a> {
     pub fn loads(&mut self) -> bool
         requires inside { AreInside (length self.old.committed.memory) self.old.window }
         requires stores { StoresWriteNone self.old.window }
-        requires noted { AreNoted self.old.missed self.old.settled self.old.window }
+        requires noted { AreNoted self.old.missed self.old.window }
         ensures window { Chosen result (LoadsOldest self.old self.new) (NoneLoads self.old) }
         ensures same { Chosen result (Unit {0}) (self.new ≡ self.old) }
         ensures rest { self.new ≡ record self.old { window = self.new.window } }
-        ensures noted { AreNoted self.new.missed self.new.settled self.new.window }
+        ensures noted { AreNoted self.new.missed self.new.window }
     {
-        let Some(answered) = oldest_answered(&self.window, &self.ahead(), self.settled) else {
+        let Some(answered) = oldest_answered(&self.window, &self.ahead()) else {
             return false;
         };
         self.window
             .advance(answered.at, Stage::Done, Some(answered.value));
+        self.window.answered(answered.at);
         true
     }
 }

@@ -30,8 +30,6 @@ pub struct Pipeline<'a> {
     pub over: Option<Stop>,
     // no station is a miss unless this is set
     pub missed: bool,
-    // as many of the oldest are done, stops, or stores with their address
-    pub settled: usize,
 }
 
 impl<'a> Pipeline<'a> {
@@ -58,7 +56,6 @@ impl<'a> Pipeline<'a> {
             leavers: [None; 32],
             over: None,
             missed: false,
-            settled: 0,
         })
     }
 

@@ -2,7 +2,7 @@
 ghost use Rattle.std.specs.Prelude.{◌≡◌, ◌<◌, ◌≤◌, [], ◌∷◌, ◌++◌, length, take, slice_get, None};
 ghost use Rattle.unit.specs.Changes.{NoneRecovers, RecoversOldest, with_window};
 ghost use Rattle.unit.specs.Givers.{Chosen, gives};
-ghost use Rattle.unit.specs.Notes.{AreNoted, AreSettled, miss_in};
+ghost use Rattle.unit.specs.Notes.{AreNoted, miss_in};
 ghost use Rattle.unit.specs.Stages.{FirstMiss};
 
 use crate::pipeline::Pipeline;
@@ -26,12 +26,11 @@ fn next_at(window: &Window, i: usize) -> Option<u32>
     }
 }
 
-// The oldest miss; it is none of those before `from`.
-fn oldest_miss(window: &Window, from: usize) -> Option<Missed>
-    requires { AreSettled from window.now }
+// The oldest miss.
+fn oldest_miss(window: &Window) -> Option<Missed>
     ensures { FirstMiss window.now result }
 {
-    for at in from..window.len() {
+    for at in 0..window.len() {
         if let Some(next) = next_at(window, at) {
             return Some(Missed { at, next });
         }
@@ -44,12 +43,11 @@ impl<'a> Pipeline<'a> {
     #[inline(always)]
     pub fn recovers(&mut self) -> bool
         requires room { length self.old.window ≤ 32 }
-        requires noted { AreNoted self.old.missed self.old.settled self.old.window }
+        requires noted { AreNoted self.old.missed self.old.window }
         ensures window { Chosen result (RecoversOldest self.old self.new) (NoneRecovers self.old) }
         ensures same { Chosen result (Unit {0}) (self.new ≡ self.old) }
-        ensures rest { self.new ≡
-            with_window self.old self.new.window self.new.missed self.new.settled }
-        ensures noted { AreNoted self.new.missed self.new.settled self.new.window }
+        ensures rest { self.new ≡ with_window self.old self.new.window self.new.missed }
+        ensures noted { AreNoted self.new.missed self.new.window }
     {
         if !self.missed {
             return false;
@@ -63,14 +61,13 @@ impl<'a> Pipeline<'a> {
     #[tactic(auto, using(std::proofs::lemmas::List::take_more_set))]
     fn recovers_oldest(&mut self) -> bool
         requires room { length self.old.window ≤ 32 }
-        requires noted { AreNoted self.old.missed self.old.settled self.old.window }
+        requires noted { AreNoted self.old.missed self.old.window }
         ensures window { Chosen result (RecoversOldest self.old self.new) (NoneRecovers self.old) }
         ensures same { Chosen result (Unit {0}) (self.new ≡ self.old) }
-        ensures rest { self.new ≡
-            with_window self.old self.new.window self.new.missed self.new.settled }
-        ensures noted { AreNoted self.new.missed self.new.settled self.new.window }
+        ensures rest { self.new ≡ with_window self.old self.new.window self.new.missed }
+        ensures noted { AreNoted self.new.missed self.new.window }
     {
-        let Some(miss) = oldest_miss(&self.window, self.settled) else {
+        let Some(miss) = oldest_miss(&self.window) else {
             return false;
         };
         let Some(station) = self.window.at(miss.at) else {
@@ -86,7 +83,6 @@ impl<'a> Pipeline<'a> {
         );
         self.window.cut(miss.at + 1);
         self.missed = false;
-        self.settled = self.settled.min(miss.at);
         true
     }
 }

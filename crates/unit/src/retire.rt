@@ -51,7 +51,6 @@ impl<'a> Pipeline<'a> {
     {
         self.oldest = self.station_at(1);
         self.window.shift();
-        self.settled = self.settled.saturating_sub(1);
     }
 
     // The oldest tenant is a stop: it ends the unit.

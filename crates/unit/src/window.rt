@@ -1,10 +1,16 @@
 //! The stations of the live tenants, the oldest first, and who makes what they read.
-ghost use Rattle.std.specs.Prelude.{◌≡◌, ◌<◌, ◌≤◌, ◌-◌, [], ◌∷◌, ◌++◌, length, take, drop, slice_get, slice_set, option_copied, Some};
+ghost use Rattle.std.specs.Prelude.{◌≡◌, ◌≢◌, ◌<◌, ◌≤◌, ◌-◌, ℕ, [], ◌∷◌, ◌++◌, length, take, drop, slice_get, slice_set, slice_index, option_copied, Some, None};
 ghost use Rattle.unit.specs.Creators.{CreatorsAt, IsCreator, IsOfSame};
-ghost use Rattle.unit.specs.Slots.{place_of as place_in, slot_of as slot_in};
+
 ghost use Rattle.unit.specs.Window.{IsAdvanced, access_at, accesses as accesses_of};
+ghost use Rattle.unit.specs.declared.station.Stage.TheVariants.{Open};
+
+mod watch;
 
 use crate::creators::Creators;
+use crate::sets::{both, with, without};
+use crate::place::{place_of, slot_of};
+use crate::waking::{asking_after, woken};
 use crate::station::{Stage, Station};
 use instructions::{Half, Instr, Op, Reg};
 use std::marker::Model;
@@ -21,6 +27,12 @@ pub struct Window {
     len: usize,
     // how many tenants reach memory
     accesses: usize,
+    // by slot: who may have its operands
+    awake: u32,
+    // by slot: who may be a load that waits for its value
+    asking: u32,
+    // by slot: who sleeps until the tenant there has made its value
+    sleepers: [u32; 32],
 }
 
 impl Model for Window {
@@ -32,12 +44,14 @@ impl Model for Window {
     ghost use Rattle.std.specs.Prelude.{◌≡◌};
     ghost use Rattle.unit.specs.Creators.{IsWindow};
     ghost use Rattle.unit.specs.Slots.{ring_of};
+    ghost use Rattle.unit.specs.Waking.{AreWatched};
     ghost use Rattle.unit.specs.Window.{accesses as accesses_of};
 
     ghost view = { λ w. ring_of w.stations w.start w.len };
 
     ghost invariant = { λ w. IsWindow w.stations w.creators w.newest w.start w.len
-        × (w.accesses ≡ accesses_of (ring_of w.stations w.start w.len) w.len) };
+        × ((w.accesses ≡ accesses_of (ring_of w.stations w.start w.len) w.len)
+        × AreWatched (ring_of w.stations w.start w.len) w.start w.awake w.asking w.sleepers) };
 }
 
 // A slot that nobody has used.
@@ -62,25 +76,6 @@ fn access(station: &Station) -> usize
     if station.instr.op().is_access() { 1 } else { 0 }
 }
 
-// The slot of the tenant at `i`.
-fn slot_of(start: usize, i: usize) -> usize
-    requires start { start < 32 }
-    requires near { i ≤ 32 }
-    ensures value { result ≡ slot_in start i }
-    ensures small { result < 32 }
-{
-    (start + i) % 32
-}
-
-// The place of the tenant in a slot.
-fn place_of(slot: u8, start: usize) -> u8
-    requires { start < 32 }
-    ensures value { result ≡ place_in slot start }
-    ensures small { result < 32 }
-{
-    ((slot as usize + (32 - start)) % 32) as u8
-}
-
 impl Window {
     pub fn new() -> Window
         ensures { result ≡ [] }
@@ -96,6 +91,9 @@ impl Window {
             start: 0,
             len: 0,
             accesses: 0,
+            awake: 0,
+            asking: 0,
+            sleepers: [0; 32],
         }
     }
 
@@ -158,27 +156,36 @@ impl Window {
         ensures { self.new ≡ slice_set self.old i station }
     {
         let slot = slot_of(self.start, i);
+        let set = woken(&mut self.sleepers, slot, true);
+        self.awake = with(both(self.awake, set), slot);
+        self.asking = with(self.asking, slot);
         self.stations[slot] = station;
     }
 
     /// The tenant at `i` has come further.
     #[inline(always)]
     pub fn advance(&mut self, i: usize, stage: Stage, made: Option<u32>)
-        requires { i < length self.old }
+        requires inside { i < length self.old }
+        requires closed { stage ≢ Open }
         ensures { IsAdvanced self.old i stage made self.new }
     {
         let slot = slot_of(self.start, i);
+        let set = woken(&mut self.sleepers, slot, made.is_some());
+        self.awake = without(both(self.awake, set), slot);
+        self.asking = asking_after(self.asking, slot, &self.stations[slot], stage);
         self.stations[slot].stage = stage;
         self.stations[slot].made = made;
     }
 
     #[inline(always)]
     pub fn push(&mut self, station: Station)
-        requires { length self.old < 32 }
+        requires room { length self.old < 32 }
+        requires open { station.stage ≡ Open }
         ensures { self.new ≡ self.old ++ station ∷ [] }
     {
         self.accesses += access(&station);
         let slot = slot_of(self.start, self.len);
+        self.awake = with(self.awake, slot);
         let r = station.destination.number() as usize;
         self.creators[slot] = Creators {
             first: self.newest[station.instr.first().number() as usize],
@@ -203,6 +210,8 @@ impl Window {
         self.accesses -= access(station);
         let slot = slot_of(self.start, last);
         self.newest[r] = self.creators[slot].replaced;
+        self.awake = without(self.awake, slot);
+        self.asking = without(self.asking, slot);
         self.len = last;
     }
 
@@ -224,6 +233,7 @@ impl Window {
             return;
         };
         self.accesses -= access(oldest);
+        self.awake = both(self.awake, self.sleepers[self.start]);
         self.start = slot_of(self.start, 1);
         self.len -= 1;
     }

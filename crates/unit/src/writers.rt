@@ -5,9 +5,9 @@ ghost use Rattle.unit.specs.Creators.{IsCreator, LastWriter, written_by};
 use crate::window::Window;
 use instructions::Reg;
 
-// The youngest of the first `i` tenants that writes a register: at this place, if there is one.
+/// The youngest of the first `i` tenants that writes a register: at this place, if there is one.
 #[inline(always)]
-fn writer(window: &Window, i: usize, r: Reg, at: u8) -> Option<usize>
+pub fn writer(window: &Window, i: usize, r: Reg, at: u8) -> Option<usize>
     requires there { i ≤ length window.now }
     requires creator { IsCreator window.now i r at }
     ensures { LastWriter window.now i r result }

@@ -3,7 +3,7 @@ use Rattle.unit.proofs.Start.{start_stands, start_unit}
 use Rattle.unit.proofs.pipeline.Pipeline.new.Goals as goal
 
 pub returns-clause-unit : goal.returns-clause-unit
-returns-clause-unit c = start_unit _ c.new-window.ensures c.in_ok-committed.ensures refl refl refl refl refl (omega (arith, c.ring.ensures.least))
+returns-clause-unit c = start_unit _ c.new-window.ensures c.in_ok-committed.ensures refl refl refl refl (omega (arith, c.ring.ensures.least))
     (omega (arith, c.ring.ensures.most)) (omega (arith, c.queue.ensures.least))
 
 pub returns-clause-fresh : goal.returns-clause-fresh
