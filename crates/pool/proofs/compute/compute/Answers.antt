@@ -4,7 +4,8 @@ use Rattle.pool.proofs.compute.compute.Goals as goal
 
 pub instr-instr-requires : goal.instr-instr-requires
 instr-instr-requires g c =
-    let core = c.args.core.now in
+    let crew = c.args.crew.now in
+    let core = crew.core.now in
     let seat = c.args.seat.now in
-    subst (λ (P : Program). c.args.job.index < length P.code) (sym c.requires.program)
+    subst (λ (P : Program). c.args.job.index < length P.code) (sym crew.program)
     (c.a_job_is_of_the_program.ensures core.program core.sizes seat.by seat.seen c.args.job c.requires.legal c.requires.job)
