@@ -21,13 +21,13 @@ allocated() { # words of ruu, FILE last
     tr -d , | { read -r blocks; read -r most; echo "$most $blocks"; }
 }
 
-echo "instructions  labels   data  listing   most bytes   2 (24 n + 48 l + b + d) + 24,000"
+echo "instructions  labels   data  listing   most bytes   2 (24 n + 48 l + b + d) + 28,000"
 for sizes in "10 0 0" "1000 0 0" "1000 0 60000" "16000 0 0" "16000 0 60000" "16000 15999 0"; do
   read -r n labels d <<< "$sizes"
   listing "$n" "$labels" "$d" > "$work/l.s"
   b=$(wc -c < "$work/l.s")
   read -r most _ <<< "$(allocated run --alone "$work/l.s")"
-  printf '%12d %7d %6d %8d %12d %12d\n' "$n" "$labels" "$d" "$b" "$most" $((2 * (24 * n + 48 * labels + b + d) + 24000))
+  printf '%12d %7d %6d %8d %12d %12d\n' "$n" "$labels" "$d" "$b" "$most" $((2 * (24 * n + 48 * labels + b + d) + 28000))
 done
 
 echo

@@ -3,8 +3,8 @@
 # is its command line. Then what goes wrong: a listing with a fault or none, a full device, want of memory; and the prompt.
 . "$(dirname "$0")/common.bash"
 build_refuse
-build run ruu
-ruu=crates/ruu/out/ruu
+build run driver
+ruu=crates/driver/out/driver
 
 words_of() { # script
   local first
@@ -60,6 +60,22 @@ printf 'Let station 0 tag 1 pc 0x00400000\nSeen tag 1 state OPEN value 0x0000000
 drive "$work/script" examples/double.s
 is_told 'lines that end otherwise' "$work/told" 0 ''
 echo 'what goes wrong has its word and its status'
+
+# what another program has is named with that program
+elsewhere() { # program, its other one, words
+  local program=$1 other=$2
+  shift 2
+  "crates/$program/out/$program" "$@" < /dev/null > "$work/out" 2> "$work/err"
+  status=$?
+  [ $status -eq 3 ] && [ ! -s "$work/out" ] || fail "$program $1: status $status"
+  grep -q "the program $other has this command" "$work/err" || fail "$program $1: another text"
+}
+
+build run ruu
+elsewhere ruu driver drive examples/double.s
+elsewhere driver ruu run examples/double.s
+elsewhere driver ruu check examples/double.s
+echo 'each program names the other for a command that is not its own'
 
 # each allocation is refused in turn: the refusal is named behind a beginning of the answers, or a snapshot was not
 # shown, or all is told as before

@@ -34,9 +34,14 @@ def prose(page):
 
 
 def place(room):
-    """A folder that looks like the repository, where `./ruu` is the program that is built."""
+    """A folder that looks like the repository, where `./ruu` starts the programs that are built, and proves none."""
     for it in os.listdir(ROOT):
-        os.symlink(f"{ROOT}/crates/ruu/out/ruu" if it == "ruu" else f"{ROOT}/{it}", f"{room}/{it}")
+        if it != "ruu":
+            os.symlink(f"{ROOT}/{it}", f"{room}/{it}")
+    with open(f"{room}/ruu", "w", encoding="utf-8") as script:
+        script.write('#!/bin/sh\nname=ruu\n[ "$1" != drive ] || name=driver\n'
+                     f'exec "{ROOT}/crates/$name/out/$name" "$@"\n')
+    os.chmod(f"{room}/ruu", 0o755)
 
 
 def told(line):

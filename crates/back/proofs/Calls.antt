@@ -17,20 +17,19 @@ use Rattle.back.proofs.SeatKept.{kept_by, same_state, state_is}
 
 -- A look or a meeting
 
-pub is_same : (P copy : Program) (state : State) (low : Option ℕ) (head : ℕ) (ended : Option Stop) (shown : Snap) (seat seat' : Caller) →
-    BackIsKept P seat copy state low head ended shown → BackIsKept P seat' copy state low head ended shown
+pub is_same : (P : Program) (state : State) (low : Option ℕ) (head : ℕ) (ended : Option Stop) (shown : Snap) (seat seat' : Caller) →
+    BackIsKept P seat state low head ended shown → BackIsKept P seat' state low head ended shown
     → seat'.core ≡ seat.core → seat'.by ≡ seat.by → IsSameBack (back_of seat ended shown) (back_of seat' ended shown)
-is_same P copy state low head ended shown seat seat' k k' core by = record { core = core; by = by; ended = refl; shown = refl; state = same_state P copy state low head ended shown seat seat' k k' }
+is_same P state low head ended shown seat seat' k k' core by = record { core = core; by = by; ended = refl; shown = refl; state = same_state P state low head ended shown seat seat' k k' }
 
 -- A new back
 
 module _ (P : Program) (seat seat' : Caller) (program : seat.core.program ≡ P) (by : seat.by ≡ back) (fresh : HasRetiredNothing seat)
     (core : seat'.core ≡ seat.core) (by' : seat'.by ≡ seat.by) (woken : seat'.woken ≡ seat.woken) (a : Adds seat.core.program seat.core.sizes seat.by seat.seen seat'.seen [])
-    (copy : Program) (state : State) (shown : Snap) (copied : copy ≡ P) (state_starts : state ≡ start P) (shown_is : shown ≡ opening) where
-  at_first : BackIsKept P seat copy state None 0 None shown
+    (state : State) (shown : Snap) (state_starts : state ≡ start P) (shown_is : shown ≡ opening) where
+  at_first : BackIsKept P seat state None 0 None shown
   at_first = record {
     program = program;
-    copied = copied;
     by_is = by;
     legal = subst (λ Q. IsLegal Q seat.core.sizes seat.seen) program (legal_before seat.core.program seat.core.sizes a.begins.more seat.seen
         (subst (IsLegal seat.core.program seat.core.sizes) a.begins.is a.legal));
@@ -38,8 +37,8 @@ module _ (P : Program) (seat seat' : Caller) (program : seat.core.program ≡ P)
     later = subst (λ (s : Snap). s.n ≤ state.count) (sym shown_is) zero-le;
   }
 
-  pub new_kept : BackIsKept P seat' copy state None 0 None shown
-  new_kept = kept_by P copy state None 0 None shown seat seat' [] at_first core by' a tt
+  pub new_kept : BackIsKept P seat' state None 0 None shown
+  new_kept = kept_by P state None 0 None shown seat seat' [] at_first core by' a tt
 
   pub is_new : IsNewBack seat (back_of seat' None shown)
   is_new = record {
@@ -49,7 +48,7 @@ module _ (P : Program) (seat seat' : Caller) (program : seat.core.program ≡ P)
     woken = woken;
     ended = refl;
     shown = shown_is;
-    state = sym (state_is P copy state None 0 None shown seat' new_kept) ∙ (state_starts ∙ ap start (sym program));
+    state = sym (state_is P state None 0 None shown seat' new_kept) ∙ (state_starts ∙ ap start (sym program));
   }
 
 -- the head is a station
@@ -62,8 +61,8 @@ head_small head x ring r e f least =
     let small : x % ring < ring = mod-lt x (omega (arith, f, least)) in omega (arith, e, f, small)
 
 -- the same, of what the fields are
-pub kept_as : (P : Program) (seat : Caller) (copy : Program) (state state' : State) (low low' : Option ℕ) (head ring ring' : ℕ) (ended ended' : Option Stop) (shown : Snap)
-    → BackIsKept P seat copy state low ((head + 1) % ring) ended shown → state ≡ state' → low ≡ low' → ring ≡ ring' → ended ≡ ended' →
-    BackIsKept P seat copy state' low' ((head + 1) % ring') ended' shown
-kept_as P seat copy state state' low low' head ring ring' ended ended' shown k s w r e =
-    subst (λ (z : State × Option ℕ × ℕ × Option Stop). BackIsKept P seat copy z.0 z.1 ((head + 1) % z.2) z.3 shown) (λ i. (s i, w i, r i, e i)) k
+pub kept_as : (P : Program) (seat : Caller) (state state' : State) (low low' : Option ℕ) (head ring ring' : ℕ) (ended ended' : Option Stop) (shown : Snap)
+    → BackIsKept P seat state low ((head + 1) % ring) ended shown → state ≡ state' → low ≡ low' → ring ≡ ring' → ended ≡ ended' →
+    BackIsKept P seat state' low' ((head + 1) % ring') ended' shown
+kept_as P seat state state' low low' head ring ring' ended ended' shown k s w r e =
+    subst (λ (z : State × Option ℕ × ℕ × Option Stop). BackIsKept P seat z.0 z.1 ((head + 1) % z.2) z.3 shown) (λ i. (s i, w i, r i, e i)) k

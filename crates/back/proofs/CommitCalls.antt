@@ -40,8 +40,8 @@ use Rattle.back.proofs.Retired.{HasRetired, commits_still, has_retired}
 use Rattle.back.proofs.SeatKept.{adds_plain, kept_by, plain, same_state, state_is, stops_there}
 use Rattle.back.proofs.UnitKept.{IsQuiet, all_quiet, quiet_keeps}
 
-module _ (P copy : Program) (state : State) (low : Option ℕ) (head : ℕ) (shown : Snap) (seat : Caller) where
-  pub ended_before : (code : Stop) → BackIsKept P seat copy state low head (Some code) shown → HasEndedWith (back_of seat (Some code) shown) (back_of seat (Some code) shown) code
+module _ (P : Program) (state : State) (low : Option ℕ) (head : ℕ) (shown : Snap) (seat : Caller) where
+  pub ended_before : (code : Stop) → BackIsKept P seat state low head (Some code) shown → HasEndedWith (back_of seat (Some code) shown) (back_of seat (Some code) shown) code
   ended_before code k = record {
     ended = refl;
     how = Before refl refl;
@@ -49,29 +49,28 @@ module _ (P copy : Program) (state : State) (low : Option ℕ) (head : ℕ) (sho
     stops = stop_is code k;
   }
     where
-      stop_is : (code : Stop) → BackIsKept P seat copy state low head (Some code) shown → stop seat.core.program (back_state (back_of seat (Some code) shown)).count ≡ Some code
+      stop_is : (code : Stop) → BackIsKept P seat state low head (Some code) shown → stop seat.core.program (back_state (back_of seat (Some code) shown)).count ≡ Some code
       stop_is code k =
-          let u = plain P copy state low head (Some code) shown seat k in
+          let u = plain P state low head (Some code) shown seat k in
           let s = stops_there P seat.core.sizes seat.seen (subst (λ Q. Q) refl k.legal) state low head (Some code) u code u.end_is in
-          subst (λ (z : Program × State). stop z.0 z.1.count ≡ Some code) (λ i. (sym k.program i, state_is P copy state low head (Some code) shown seat k i)) s
+          subst (λ (z : Program × State). stop z.0 z.1.count ≡ Some code) (λ i. (sym k.program i, state_is P state low head (Some code) shown seat k i)) s
 
   -- there is no instruction at the pc
-  pub nowhere_kept : BackIsKept P seat copy state low head None shown → instr_at copy state.pc ≡ None → BackIsKept P seat copy state low head (Some BadPc) shown
+  pub nowhere_kept : BackIsKept P seat state low head None shown → instr_at seat.core.program state.pc ≡ None → BackIsKept P seat state low head (Some BadPc) shown
   nowhere_kept k none = record {
     program = k.program;
-    copied = k.copied;
     by_is = k.by_is;
     legal = k.legal;
     unit = record {
       state_is = k.unit.state_is;
       low_is = k.unit.low_is;
       head_is = k.unit.head_is;
-      end_is = StopsNowhere refl (ap (λ (c : State). instr_at P c.pc) (sym k.unit.state_is) ∙ (ap (λ Q. instr_at Q state.pc) (sym k.copied) ∙ none)) k.unit.end_is;
+      end_is = StopsNowhere refl (ap (λ (c : State). instr_at P c.pc) (sym k.unit.state_is) ∙ (ap (λ Q. instr_at Q state.pc) (sym k.program) ∙ none)) k.unit.end_is;
     };
     later = k.later;
   }
 
-  pub nowhere : BackIsKept P seat copy state low head None shown → instr_at copy state.pc ≡ None → HasEndedWith (back_of seat None shown) (back_of seat (Some BadPc) shown) BadPc
+  pub nowhere : BackIsKept P seat state low head None shown → instr_at seat.core.program state.pc ≡ None → HasEndedWith (back_of seat None shown) (back_of seat (Some BadPc) shown) BadPc
   nowhere k none =
       let k' = nowhere_kept k none in
       let b = ended_before BadPc k' in
@@ -83,19 +82,20 @@ module _ (P copy : Program) (state : State) (low : Option ℕ) (head : ℕ) (sho
       }
     where
       at_state : instr_at seat.core.program (back_state (back_of seat None shown)).pc ≡ None
-      at_state = subst (λ (z : Program × State). instr_at z.0 z.1.pc ≡ None) (λ i. ((k.copied ∙ sym k.program) i, state_is P copy state low head None shown seat k i)) none
+      at_state = subst (λ (z : Program × State). instr_at z.0 z.1.pc ≡ None) (λ i. (seat.core.program, state_is P state low head None shown seat k i)) none
 
-module _ (P copy : Program) (state : State) (low : Option ℕ) (head : ℕ) (shown : Snap) (seat : Caller) where
-  went_on : (i : Instr) → BackIsKept P seat copy state low head None shown → instr_at copy state.pc ≡ Some i → WentOn (back_of seat None shown)
+module _ (P : Program) (state : State) (low : Option ℕ) (head : ℕ) (shown : Snap) (seat : Caller) where
+  went_on : (i : Instr) → BackIsKept P seat state low head None shown → instr_at seat.core.program state.pc ≡ Some i → WentOn (back_of seat None shown)
   went_on i k e = record {
     not_ended = refl;
-    instr = subst (λ (z : Program × State). IsSome (instr_at z.0 z.1.pc)) (λ j. ((k.copied ∙ sym k.program) j, state_is P copy state low head None shown seat k j)) (subst IsSome (sym e) there);
+    instr = subst (λ (z : Program × State). IsSome (instr_at z.0 z.1.pc)) (λ j. (seat.core.program, state_is P state low head None shown seat k j)) (subst IsSome (sym e) there);
   }
     where
       there : IsSome (Some i)
       there = search rules
 
-  module _ (seat' : Caller) (core : seat'.core ≡ seat.core) (by : seat'.by ≡ seat.by) (k : BackIsKept P seat copy state low head None shown) (i : Instr) (fetched : instr_at copy state.pc ≡ Some i)
+  module _ (seat' : Caller) (core : seat'.core ≡ seat.core) (by : seat'.by ≡ seat.by) (k : BackIsKept P seat state low head None shown) (i : Instr)
+      (fetched : instr_at seat.core.program state.pc ≡ Some i)
     where
       -- it was refused
       pub refused : (event : Event) → IsQuiet event →
@@ -105,21 +105,21 @@ module _ (P copy : Program) (state : State) (low : Option ℕ) (head : ℕ) (sho
         went_on = went_on i k fetched;
         not_ended = refl;
         adds = a;
-        state = same_state P copy state low head None shown seat seat' k (kept_by P copy state low head None shown seat seat' (event ∷ []) k core by a (quiet, tt));
+        state = same_state P state low head None shown seat seat' k (kept_by P state low head None shown seat seat' (event ∷ []) k core by a (quiet, tt));
       }
 
       -- no stop has retired, so it is not told that one has
       pub not_over : Adds seat.core.program seat.core.sizes seat.by seat.seen seat'.seen (Refuses Over ∷ []) → ⊥
       not_over a0 =
           let C = seat.core.sizes in
-          let a = adds_plain P copy state low head None shown seat seat'.seen (Refuses Over ∷ []) k a0 in
+          let a = adds_plain P state low head None shown seat seat'.seen (Refuses Over ∷ []) k a0 in
           let e = entry back (Refuses Over) in
           let s = split_own back a.begins.more e [] (added_own P C back seat.seen seat'.seen (Refuses Over ∷ []) a) in
           let whole : a.begins.more ++ seat.seen ≡ s.later ++ e ∷ (s.earlier ++ seat.seen) = ap (λ z. z ++ seat.seen) s.is ∙ append_assoc s.later (e ∷ s.earlier) seat.seen in
           let legal = legal_before P C s.later (e ∷ (s.earlier ++ seat.seen)) (subst (IsLegal P C) whole (added_legal P C back seat.seen seat'.seen (Refuses Over ∷ []) a)) in
           let until : StartsWith seat'.seen (s.earlier ++ seat.seen) = record { more = s.later ++ e ∷ []; is = a.begins.is ∙ (whole ∙ sym (append_assoc s.later (e ∷ []) (s.earlier ++ seat.seen))) } in
           let u = quiet_keeps P C state low head None s.earlier seat.seen legal.0 (all_quiet P C s.earlier seat.seen [] legal.0
-          (none_to seat'.seen (s.earlier ++ seat.seen) seat.seen until (record { more = s.earlier; is = refl }) a.one_table) s.rest_is tt) (plain P copy state low head None shown seat k) in
+          (none_to seat'.seen (s.earlier ++ seat.seen) seat.seen until (record { more = s.earlier; is = refl }) a.one_table) s.rest_is tt) (plain P state low head None shown seat k) in
           over_not (unit_of P C (s.earlier ++ seat.seen)) legal.1.1 u.end_is
         where
           over_not : (U : UpdateUnit) → IsOver U → GoesOn U → ⊥
@@ -130,8 +130,8 @@ module _ (P copy : Program) (state : State) (low : Option ℕ) (head : ℕ) (sho
         plain_retired = subst (λ (z : Program × ℕ). IsRetired z.0 seat.core.sizes z.1 seat.seen seat'.seen station tag index half last) (λ j. (k.program j, k.by_is j)) r
 
         pub did : HasRetired P seat.core.sizes seat.seen seat'.seen i half last state low head
-        did = has_retired P seat.core.sizes seat.seen seat'.seen station tag index half i last state low head plain_retired (plain P copy state low head None shown seat k)
-            (subst (λ Q. instr_at Q state.pc ≡ Some i) k.copied fetched)
+        did = has_retired P seat.core.sizes seat.seen seat'.seen station tag index half i last state low head plain_retired (plain P state low head None shown seat k)
+            (subst (λ Q. instr_at Q state.pc ≡ Some i) k.program fetched)
 
         low_count : (waited : Option ℕ) → (ahead_by waited state).count ≡ state.count
         low_count None = refl
@@ -143,14 +143,13 @@ module _ (P copy : Program) (state : State) (low : Option ℕ) (head : ℕ) (sho
         later_count None (Stored a d) = let e = low_count low in omega (arith, e)
         later_count None (WasStop c) = let e = low_count low in omega (arith, e)
 
-        pub retired_kept : BackIsKept P seat' copy (state_behind i half last low state) (low_in i half last) ((head + 1) % seat.core.sizes.ring) (stop_in last) shown
+        pub retired_kept : BackIsKept P seat' (state_behind i half last low state) (low_in i half last) ((head + 1) % seat.core.sizes.ring) (stop_in last) shown
         retired_kept =
             let C = seat.core.sizes in
             let m = later_count (low_in i half last) last in
             let n = k.later in
             record {
               program = ap (λ d. d.program) core ∙ k.program;
-              copied = k.copied;
               by_is = by ∙ k.by_is;
               legal = subst (λ d. IsLegal P d.sizes seat'.seen) (sym core) did.adds.legal;
               unit = subst (λ d. KeepsUnit P d.sizes (unit_of d.program d.sizes seat'.seen) (state_behind i half last low state) (low_in i half last) ((head + 1) % C.ring) (stop_in last)) (sym core)
@@ -167,10 +166,10 @@ module _ (P copy : Program) (state : State) (low : Option ℕ) (head : ℕ) (sho
         added = subst (λ (z : Program × ℕ). Adds z.0 seat.core.sizes z.1 seat.seen seat'.seen (Does (On did.p (Retire did.made)) ∷ [])) (λ j. (sym k.program j, sym k.by_is j)) did.adds
 
         new_state : back_state (back_of seat' (stop_in last) shown) ≡ state_behind i half last low state
-        new_state = sym (state_is P copy (state_behind i half last low state) (low_in i half last) ((head + 1) % seat.core.sizes.ring) (stop_in last) shown seat' retired_kept)
+        new_state = sym (state_is P (state_behind i half last low state) (low_in i half last) ((head + 1) % seat.core.sizes.ring) (stop_in last) shown seat' retired_kept)
 
         old_state : back_state (back_of seat None shown) ≡ state
-        old_state = sym (state_is P copy state low head None shown seat k)
+        old_state = sym (state_is P state low head None shown seat k)
 
         same_code : (last : Last) (code : Stop) → stop_in last ≡ Some code → last ≡ WasStop code
         same_code (Done v) code e = absurd (cc e)
@@ -193,8 +192,8 @@ module _ (P copy : Program) (state : State) (low : Option ℕ) (head : ℕ) (sho
         pub did_end : (code : Stop) → stop_in last ≡ Some code → HasEndedWith (back_of seat None shown) (back_of seat' (stop_in last) shown) code
         did_end code e =
             let is : last ≡ WasStop code = same_code last code e in
-            let before = ended_before P copy (state_behind i half last low state) (low_in i half last) ((head + 1) % seat.core.sizes.ring) shown seat' code
-            (subst (λ x. BackIsKept P seat' copy (state_behind i half last low state) (low_in i half last) ((head + 1) % seat.core.sizes.ring) x shown) e retired_kept) in
+            let before = ended_before P (state_behind i half last low state) (low_in i half last) ((head + 1) % seat.core.sizes.ring) shown seat' code
+            (subst (λ x. BackIsKept P seat' (state_behind i half last low state) (low_in i half last) ((head + 1) % seat.core.sizes.ring) x shown) e retired_kept) in
             record {
               ended = e;
               how = Stops (went_on i k fetched) did.p did.made

@@ -1,5 +1,6 @@
 -- What the port has seen stays true under the steps of others.
 use Rattle.std.proofs.Common.{◌≡◌, ◌⊎◌, ℕ, ◌≤◌, Bool, false, true, ◌&&◌, List, [], ◌++◌, length, Some, None, refl, sym, ap, ◌∙◌, subst, inl, inr, ⊎_elim, arith}
+use Rattle.std.proofs.lemmas.Option.{same_Some}
 use Rattle.instructions.specs.Instruction.{kind}
 use Rattle.instructions.specs.Programs.{Program, instr_of}
 use Rattle.inorder.specs.declared.history.Act.{Act}
@@ -23,28 +24,12 @@ use Rattle.inorder.proofs.Sound.{IsSound}
 use Rattle.lsq.specs.declared.entry.Entry.{Entry as QueueEntry}
 use Rattle.lsq.specs.LoadRule.{meets, overlaps}
 use Rattle.lsq.specs.Entries.{bytes}
+use Rattle.inorder.proofs.Heads.{addr_on}
 use Rattle.ruu_words.proofs.Stays.{back_stays}
 use Rattle.back.specs.Port.{AtStation, IsAskedInOrder, IsKnown, IsMet, DoesNotWaitFor}
 use Rattle.back.specs.Trials.{ShowsAddress}
 use Rattle.back.specs.declared.port.Load.{Load}
 use Rattle.back.proofs.OwnEntries.{added_legal, added_own}
-
-found : (t u : Tenant) → Some t ≡ Some u → t ≡ u
-found t u e = cc e
-
--- An address stays
-addr_on : (P : Program) (by : ℕ) (act : Act) (ys : List Tenant) (t : Tenant) (ts : List Tenant) (x : ℕ) →
-    IsNotBacksAct act → May P by act ys t ts → t.fate ≡ Addr x → (changed P by act t ts).fate ≡ Addr x
-addr_on P by (Link First) ys t ts x b m e = e
-addr_on P by (Link Second) ys t ts x b m e = e
-addr_on P by (Deliver First) ys t ts x b m e = e
-addr_on P by (Deliver Second) ys t ts x b m e = e
-addr_on P by Claim ys t ts x b m e = let f = m.fate in absurd (cc)
-addr_on P by Finish ys t ts x b m e = let f = m.fate in absurd (cc)
-addr_on P by LoadIt ys t ts x b m e = absurd b
-addr_on P by (Retire n) ys t ts x b m e = absurd b
-addr_on P by Squash ys t ts x b m e = e
-addr_on P by Mend ys t ts x b m e = let f = m.fate in absurd (cc)
 
 -- a live tenant with its address stays so, or is squashed
 addr_live : (P : Program) (by : ℕ) (act : Act) (ys : List Tenant) (t : Tenant) (ts : List Tenant) (x : ℕ) →
@@ -87,17 +72,17 @@ left_at P C U by s b a ok q u is =
   where
     fate_at : (u' : Tenant) → at (applied P C U by s).tenants q ≡ Some u' → (x : ℕ) → u.fate ≡ Addr x → u'.fate ≡ Addr x
     fate_at u' is' x e = ⊎_elim
-        (λ same. ap (λ (z : Tenant). z.fate) (found u' u (sym is' ∙ same)) ∙ e)
+        (λ same. ap (λ (z : Tenant). z.fate) (same_Some u' u (sym is' ∙ same)) ∙ e)
         (λ (z : Acted P U by s (applied P C U by s).tenants q u).
-        ap (λ (y : Tenant). y.fate) (found u' (changed P by z.act u (older U.tenants q)) (sym is' ∙ z.now)) ∙
+        ap (λ (y : Tenant). y.fate) (same_Some u' (changed P by z.act u (older U.tenants q)) (sym is' ∙ z.now)) ∙
         addr_on P by z.act (younger U.tenants q) u (older U.tenants q) x (subst IsNotBacks z.step b) z.may e)
         (exact P C U by s a q u is)
 
     standing_at : (u' : Tenant) → at (applied P C U by s).tenants q ≡ Some u' → (x : ℕ) → u.fate ≡ Addr x → u.standing ≡ Live → (u'.standing ≡ Live) ⊎ (u'.standing ≡ Squashed)
     standing_at u' is' x e l = ⊎_elim
-        (λ same. inl (ap (λ (z : Tenant). z.standing) (found u' u (sym is' ∙ same)) ∙ l))
+        (λ same. inl (ap (λ (z : Tenant). z.standing) (same_Some u' u (sym is' ∙ same)) ∙ l))
         (λ (z : Acted P U by s (applied P C U by s).tenants q u).
-        let same = ap (λ (y : Tenant). y.standing) (found u' (changed P by z.act u (older U.tenants q)) (sym is' ∙ z.now)) in ⊎_elim
+        let same = ap (λ (y : Tenant). y.standing) (same_Some u' (changed P by z.act u (older U.tenants q)) (sym is' ∙ z.now)) in ⊎_elim
         (λ v. inl (same ∙ v))
         (λ v. inr (same ∙ v))
         (addr_live P by z.act (younger U.tenants q) u (older U.tenants q) x (subst IsNotBacks z.step b) z.may l e))
@@ -127,7 +112,7 @@ at_station_step P C n station Fact lasting U by s b a ok k =
       λ q u' l is live st.
           let o = at_there U.tenants q (omega (arith, l, few)) in
           let m = left_at P C U by s b a ok q o.0 o.1 in
-          let same = found m.tenant u' (sym m.is ∙ is) in
+          let same = same_Some m.tenant u' (sym m.is ∙ is) in
           let left = subst (Left o.0) same m.left in
           lasting o.0 u' left.index left.fate (k.1 q o.0 l o.1 (left.live live) (sym left.station ∙ st)),
     )

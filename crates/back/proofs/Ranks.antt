@@ -1,5 +1,5 @@
 -- Where the live tenants of a ring stand: one behind the other, from the oldest one on.
-use Rattle.std.proofs.Common.{◌≡◌, ℕ, zero, suc, ◌+◌, ◌%◌, ◌<◌, ◌≤◌, Bool, true, false, cond, eq-eqb, ◌-◌, List, [], ◌∷◌, ◌++◌, length, Some, refl, sym, ap, ◌∙◌, subst, inl, inr, ⊎_elim, arith}
+use Rattle.std.proofs.Common.{◌≡◌, ℕ, zero, suc, ◌+◌, ◌%◌, ◌<◌, ◌≤◌, Bool, true, false, cond, eq-eqb, ◌-◌, List, [], ◌∷◌, length, Some, refl, sym, ap, ◌∙◌, subst, inl, inr, ⊎_elim, arith}
 use Rattle.std.proofs.lemmas.Bool.{cases_lt}
 use Rattle.std.proofs.Math.Nat.{add-mod_right, mod-add-mod, mod-eq_of_lt}
 use Rattle.instructions.specs.Programs.{Program}
@@ -9,9 +9,8 @@ use Rattle.inorder.specs.Tenants.{IsNotLive, Live, Retired, Squashed, Standing, 
 use Rattle.inorder.specs.Unit.{at, how_many, newest_of, older, recent, Sizes, UpdateUnit, younger}
 use Rattle.inorder.proofs.Basics.{eqb_less, split_at}
 use Rattle.inorder.proofs.Creators.{at_cases}
-use Rattle.inorder.proofs.Grows.{all_mid}
 use Rattle.inorder.proofs.Positions.{at_below, at_more, at_new}
-use Rattle.inorder.proofs.Sound.{IsSettled, IsSound, SettledBy}
+use Rattle.inorder.proofs.Sound.{IsSound}
 use Rattle.inorder.proofs.Tags.{passed}
 use Rattle.std.specs.List.{AllByRecursion}
 use Rattle.inorder.proofs.Recent.{live_recent, old_are_gone, recent_at, wide}
@@ -19,6 +18,7 @@ use Rattle.inorder.specs.declared.history.Entry.{Entry}
 use Rattle.inorder.specs.History.{IsLegal, taken_of, unit_of}
 use Rattle.inorder.proofs.Stations.{AreSettling, OldGone, is_ring, settling, settling_newest, stands}
 use Rattle.inorder.proofs.Histories.{allowed_steps}
+use Rattle.inorder.proofs.Heads.{none_behind}
 
 -- how many live tenants are before a position
 abbrev pub rank : List Tenant → ℕ → ℕ
@@ -120,18 +120,6 @@ path_parts (t ∷ ts) = go t.standing (path_parts ts)
     go Live e = omega (arith, e)
     go Retired e = omega (arith, e)
     go Squashed e = e
-
--- behind a live one none has retired
-none_behind : (t : Tenant) (ts ys : List Tenant) → t.standing ≡ Live → AreSettling (ys ++ t ∷ ts) → how_many is_retired (ys ++ t ∷ ts) ≡ how_many is_retired ts
-none_behind t ts [] live s = ap (λ z. cond (stands_retired z) (suc (how_many is_retired ts)) (how_many is_retired ts)) live
-none_behind t ts (y ∷ ys) live s = go y.standing refl (none_behind t ts ys live s.1)
-  where
-    go : (st : Standing) → y.standing ≡ st → how_many is_retired (ys ++ t ∷ ts) ≡ how_many is_retired ts → how_many is_retired (y ∷ (ys ++ t ∷ ts)) ≡ how_many is_retired ts
-    go Live e r = ap (λ z. cond (stands_retired z) (suc (how_many is_retired (ys ++ t ∷ ts))) (how_many is_retired (ys ++ t ∷ ts))) e ∙ r
-    go Squashed e r = ap (λ z. cond (stands_retired z) (suc (how_many is_retired (ys ++ t ∷ ts))) (how_many is_retired (ys ++ t ∷ ts))) e ∙ r
-    go Retired e r =
-        let q = all_mid IsSettled t ts ys (s.0 e) in
-        absurd (subst (λ x. SettledBy x t.fate) live q)
 
 -- All live tenants were let since the last renewal
 

@@ -1,5 +1,6 @@
 -- What a retirement did, as its caller sees it behind the call.
 use Rattle.std.proofs.Common.{◌≡◌, ℕ, Option, ◌+◌, ◌%◌, true, List, [], ◌∷◌, ◌++◌, length, Some, None, refl, sym, ap, ◌∙◌, subst, ⊎_elim, append_assoc}
+use Rattle.std.proofs.lemmas.Option.{same_Some}
 use Rattle.instructions.specs.Instruction.{is_first_half, kind}
 use Rattle.instructions.specs.Programs.{Program, instr_at, instr_of}
 use Rattle.instructions.specs.declared.op.Half.{Half}
@@ -35,9 +36,6 @@ use Rattle.back.proofs.UnitKept.{all_quiet, gone_on, quiet_keeps}
 use Rattle.back.proofs.Retiring.{gone_at, instr_is, level_stop, own_sound, pc_is, retires}
 use Rattle.inorder.proofs.Recent.{old_are_gone}
 
-found : (t u : Tenant) → Some t ≡ Some u → t ≡ u
-found t u e = cc e
-
 -- What a retired tenant still shows later
 
 pub record IsStill (t u : Tenant) : Type 0 where
@@ -55,7 +53,7 @@ still_stays P C t p U by s a ok h = ⊎_elim
     (λ (z : Acted P U by s (applied P C U by s).tenants p h.tenant).
     let g = gone_on P by z.act (younger U.tenants p) h.tenant (older U.tenants p) z.may h.fact.standing in
     let m = goes P C U by s a ok p h.tenant h.is in
-    let same = found m.tenant (changed P by z.act h.tenant (older U.tenants p)) (sym m.is ∙ z.now) in
+    let same = same_Some m.tenant (changed P by z.act h.tenant (older U.tenants p)) (sym m.is ∙ z.now) in
     record {
       tenant = m.tenant;
       is = m.is;
@@ -75,11 +73,8 @@ ended_then : (P : Program) (t u : Tenant) (last : Last) → IsStill t u → CanR
 ended_then P t u (WasDone v) s c e = sym s.fate ∙ e
 ended_then P t u (Stored a d) s c e =
     let there : IsThere t.second.value = (subst (CanRetire (kind_of P t) t.second.value) (sym s.fate ∙ e.1) c).1 in
-    let same : there.0 ≡ d = one there.0 d (sym (s.second there.0 there.1) ∙ e.2) in
+    let same : there.0 ≡ d = same_Some there.0 d (sym (s.second there.0 there.1) ∙ e.2) in
     (sym (ap (λ k. kind (instr_of P k).op) s.index) ∙ e.0, sym s.fate ∙ e.1, there.1 ∙ ap Some same)
-  where
-    one : (x y : ℕ) → Some x ≡ Some y → x ≡ y
-    one x y e = cc e
 ended_then P t u (WasStop code) s c e = sym s.fate ∙ e
 
 -- no stop: it has committed
@@ -155,13 +150,13 @@ module _ (P : Program) (C : Sizes) (old new : List Entry) (station tag index : �
       (unit_lasts P C (λ W. Has W r.p (IsStill a.tenant)) (λ W by step al so h. still_stays P C a.tenant r.p W by step al so h) s.later (e ∷ before) legal here)
 
   ends_there : EndsAs P last there.tenant
-  ends_there = subst (EndsAs P last) (found r.tenant.tenant there.tenant (sym r.tenant.is ∙ there.is)) r.tenant.fact.ends
+  ends_there = subst (EndsAs P last) (same_Some r.tenant.tenant there.tenant (sym r.tenant.is ∙ there.is)) r.tenant.fact.ends
 
   ends_here : EndsAs P last a.tenant
   ends_here = ended_then P a.tenant there.tenant last there.fact a.may.can ends_there
 
   half_is : half ≡ a.tenant.half
-  half_is = sym r.tenant.fact.half_is ∙ (ap (λ (u : Tenant). u.half) (found r.tenant.tenant there.tenant (sym r.tenant.is ∙ there.is)) ∙ there.fact.half)
+  half_is = sym r.tenant.fact.half_is ∙ (ap (λ (u : Tenant). u.half) (same_Some r.tenant.tenant there.tenant (sym r.tenant.is ∙ there.is)) ∙ there.fact.half)
 
   i_is : i ≡ instr P a.tenant
   i_is = instr_is P C U back r.p r.n a ok i (subst (λ (c : State). instr_at P c.pc ≡ Some i) kept_before.state_is fetched)

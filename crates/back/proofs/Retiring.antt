@@ -2,6 +2,7 @@
 use Rattle.std.proofs.Common.{◌≡◌, ◌≢◌, ℕ, Option, suc, ◌+◌, ◌%◌, Bool, true, false, cond, ◌&&◌, not, List, [], ◌∷◌, ◌++◌, Some, None, refl, sym, ap, ◌∙◌, subst, ⊎_elim, arith, true≢false}
 use Rattle.std.specs.List.{AllByRecursion}
 use Rattle.std.proofs.Math.Nat.{suc-mod}
+use Rattle.std.proofs.lemmas.Option.{same_Some}
 use Rattle.instructions.specs.Programs.{Program, instr_at}
 use Rattle.instructions.specs.declared.op.Half.{Half}
 use Rattle.instructions.specs.declared.op.Half.TheVariants.{High, Low}
@@ -18,7 +19,7 @@ use Rattle.inorder.specs.Tenants.{Addr, Busy, Done, Fate, IsNotLive, Live, Miss,
 use Rattle.inorder.specs.Unit.{at, front_half, how_many, older, recent, Sizes, UpdateUnit, younger}
 use Rattle.inorder.proofs.AheadKept.{ahead_by_retire}
 use Rattle.inorder.proofs.Basics.{fetched_at, split_at}
-use Rattle.inorder.proofs.Commits.{by_retire, not_complete, over, over_ahead}
+use Rattle.inorder.proofs.Commits.{by_retire, live_not, not_complete, over, over_ahead}
 use Rattle.inorder.proofs.Grows.{sound_mid}
 use Rattle.inorder.proofs.Halves.{first_low, none_waits, waits}
 use Rattle.inorder.proofs.InOrderStep.{is_pair_here, pair_goes_on}
@@ -35,9 +36,6 @@ use Rattle.back.proofs.Committing.{committed_as, first_as, first_done}
 use Rattle.inorder.proofs.Recent.{live_recent, recent_change}
 use Rattle.inorder.proofs.Stations.{OldGone}
 
-found : (t u : Tenant) → Some t ≡ Some u → t ≡ u
-found t u e = cc e
-
 -- Those before the oldest live tenant are settled, where no stop has retired
 
 settled_by : (st : Standing) (f : Fate) → st ≢ Live → (st ≡ Retired → (c : Stop) → f ≢ Stopped c) → SettledBy st f
@@ -53,9 +51,6 @@ settled_by Retired (Stopped c) n g = absurd (g refl c refl)
 all_settled : (ts : List Tenant) → AllByRecursion IsNotLive ts → AllByRecursion IsNoRetiredStop ts → AllByRecursion IsSettled ts
 all_settled [] l g = tt
 all_settled (t ∷ ts) l g = (settled_by t.standing t.fate l.0 g.0, all_settled ts l.1 g.1)
-
-live_commits_not : (t : Tenant) → t.standing ≡ Live → commits t ≡ false
-live_commits_not t e = ap (λ s. commits_by s t.fate) e
 
 -- One that retires is counted
 
@@ -101,10 +96,10 @@ module _ (P : Program) (C : Sizes) (U : UpdateUnit) (by p n : ℕ) (a : Allowed 
   placed = own_sound.placed (ap stands_on_path a.may.live)
 
   same_committed : committed P us ≡ committed P ts
-  same_committed = ap (committed P) (split_at us p t a.is) ∙ (over P t t ts (younger us p) a.may.live middle ∙ committed_if P t ts false (not_complete P t (live_commits_not t a.may.live)))
+  same_committed = ap (committed P) (split_at us p t a.is) ∙ (over P t t ts (younger us p) a.may.live middle ∙ committed_if P t ts false (not_complete P t (live_not t a.may.live)))
 
   same_ahead : ahead P us ≡ ahead P ts
-  same_ahead = ap (ahead P) (split_at us p t a.is) ∙ (over_ahead P t t ts (younger us p) a.may.live middle ∙ ahead_if P t ts false (live_commits_not t a.may.live))
+  same_ahead = ap (ahead P) (split_at us p t a.is) ∙ (over_ahead P t t ts (younger us p) a.may.live middle ∙ ahead_if P t ts false (live_not t a.may.live))
 
   -- its pc is that of what was committed
   pub pc_is : t.pc ≡ (committed P us).pc
@@ -129,10 +124,7 @@ module _ (P : Program) (C : Sizes) (U : UpdateUnit) (by p n : ℕ) (a : Allowed 
 
   -- the instruction at the pc is its own
   pub instr_is : (i : Instr) → instr_at P (committed P us).pc ≡ Some i → i ≡ instr P t
-  instr_is i e = one i (instr P t) (sym e ∙ (ap (instr_at P) (sym pc_is ∙ own_sound.own.place) ∙ fetched_at P t.index own_sound.own.inside))
-    where
-      one : (i j : Instr) → Some i ≡ Some j → i ≡ j
-      one i j e = cc e
+  instr_is i e = same_Some i (instr P t) (sym e ∙ (ap (instr_at P) (sym pc_is ∙ own_sound.own.place) ∙ fetched_at P t.index own_sound.own.inside))
 
   pub gone_at : at V.tenants p ≡ Some (retired t n)
   gone_at = ⊎_elim
@@ -197,8 +189,8 @@ module _ (P : Program) (C : Sizes) (U : UpdateUnit) (by p n : ℕ) (a : Allowed 
   goes_on : ((c : Stop) → t.fate ≢ Stopped c) → GoesOn U → GoesOn V
   goes_on none g q u is =
       let was = came P C U by p (Retire n) a ok q u is in ⊎_elim
-      (λ (z : IsActed P us by p (Retire n) t q was.tenant). subst IsNoRetiredStop (found (retired t n) u (sym z.now ∙ is)) (λ gone c f. none c f))
-      (λ (z : IsLeft P us by p (Retire n) q was.tenant). subst IsNoRetiredStop (found was.tenant u (sym z.now ∙ is)) (g q was.tenant was.is))
+      (λ (z : IsActed P us by p (Retire n) t q was.tenant). subst IsNoRetiredStop (same_Some (retired t n) u (sym z.now ∙ is)) (λ gone c f. none c f))
+      (λ (z : IsLeft P us by p (Retire n) q was.tenant). subst IsNoRetiredStop (same_Some was.tenant u (sym z.now ∙ is)) (g q was.tenant was.is))
       (at_changed P us by p (Retire n) t a.is q was.tenant was.is)
 
   end_after : (last : Last) → EndsAs P last t → GoesOn U → EndIs P V (stop_in last)

@@ -1,6 +1,7 @@
 -- What was found of the stations up to one.
 use Rattle.std.proofs.Common.{◌≡◌, ◌≢◌, ◌⊎◌, ℕ, ◌+◌, ◌<◌, List, [], ◌∷◌, ◌++◌, Option, Some, None, refl, sym, ap, ◌∙◌, subst, inl, inr, ⊎_elim, arith}
 use Rattle.std.specs.List.{AllByRecursion}
+use Rattle.std.proofs.lemmas.Option.{same_Some}
 use Rattle.std.proofs.lemmas.Bool.{cases_lt}
 use mathlib.Core.Logic.{dite}
 use native.Mathlib.Decide.{ℕ_discrete}
@@ -21,7 +22,7 @@ use Rattle.back.specs.Refreshes.{IsTooLate}
 use Rattle.back.specs.Scans.{EachBehind, FirstIs, IsFirstBlocked, Scanned}
 use Rattle.back.specs.Trials.{HasHeldBack, HasPassed, HoldsBack, IsLoadAt, NoOtherWaits, NoLoadWaits}
 use Rattle.back.proofs.Trying.{once_earlier, once_later, once_now}
-use Rattle.back.proofs.Standing.{found, since_at}
+use Rattle.back.proofs.Standing.{since_at}
 
 live_or_not : (s : Standing) → (s ≡ Live) ⊎ (s ≢ Live)
 live_or_not Live = inl refl
@@ -42,7 +43,7 @@ module _ (P : Program) (C : Sizes) (old cur new : List Entry) (late : List Event
         };
       }))
       (λ gone. inr (once_later P C old cur new (λ U. ¬ Has U q (IsWaitingLoad P)) new_begins (once_now P C old cur (λ U. ¬ Has U q (IsWaitingLoad P)) a.begins
-      (λ w. gone (ap (λ (z : Tenant). z.standing) (found u.tenant w.tenant (sym u.is ∙ w.is)) ∙ w.fact.load.live)))))
+      (λ w. gone (ap (λ (z : Tenant). z.standing) (same_Some u.tenant w.tenant (sym u.is ∙ w.is)) ∙ w.fact.load.live)))))
       (live_or_not u.tenant.standing)
 
   earlier : (q : ℕ) → WasNotWaiting P C cur new q → WasNotWaiting P C old new q

@@ -46,30 +46,29 @@ module _ (P : Program) (C : Sizes) (h : List Entry) (legal : IsLegal P C h) (sta
 
 -- Seats
 
-module _ (P copy : Program) (state : State) (low : Option ℕ) (head : ℕ) (ended : Option Stop) (shown : Snap) where
-  pub plain : (seat : Caller) → BackIsKept P seat copy state low head ended shown → KeepsUnit P seat.core.sizes (unit_of P seat.core.sizes seat.seen) state low head ended
+module _ (P : Program) (state : State) (low : Option ℕ) (head : ℕ) (ended : Option Stop) (shown : Snap) where
+  pub plain : (seat : Caller) → BackIsKept P seat state low head ended shown → KeepsUnit P seat.core.sizes (unit_of P seat.core.sizes seat.seen) state low head ended
   plain seat k = subst (λ Q. KeepsUnit P seat.core.sizes (unit_of Q seat.core.sizes seat.seen) state low head ended) k.program k.unit
 
   -- the state is what was committed
-  pub state_is : (seat : Caller) → BackIsKept P seat copy state low head ended shown → state ≡ committed seat.core.program (unit_in seat.core seat.seen).tenants
+  pub state_is : (seat : Caller) → BackIsKept P seat state low head ended shown → state ≡ committed seat.core.program (unit_in seat.core seat.seen).tenants
   state_is seat k = k.unit.state_is ∙ ap (λ Q. committed Q (unit_in seat.core seat.seen).tenants) (sym k.program)
 
   -- what a call of the seat added, of P and the back
   pub adds_plain : (seat : Caller) (new : List Entry) (events : List Event) →
-      BackIsKept P seat copy state low head ended shown →
+      BackIsKept P seat state low head ended shown →
       Adds seat.core.program seat.core.sizes seat.by seat.seen new events →
       Adds P seat.core.sizes back seat.seen new events
   adds_plain seat new events k a = subst (λ (z : Program × ℕ). Adds z.0 seat.core.sizes z.1 seat.seen new events) (λ i. (k.program i, k.by_is i)) a
 
-  pub kept_by : (seat seat' : Caller) (events : List Event) → BackIsKept P seat copy state low head ended shown → seat'.core ≡ seat.core → seat'.by ≡ seat.by
-      → Adds seat.core.program seat.core.sizes seat.by seat.seen seat'.seen events → AllByRecursion IsQuiet events → BackIsKept P seat' copy state low head ended shown
+  pub kept_by : (seat seat' : Caller) (events : List Event) → BackIsKept P seat state low head ended shown → seat'.core ≡ seat.core → seat'.by ≡ seat.by
+      → Adds seat.core.program seat.core.sizes seat.by seat.seen seat'.seen events → AllByRecursion IsQuiet events → BackIsKept P seat' state low head ended shown
   kept_by seat seat' events k core by a quiet =
       let C = seat.core.sizes in
       let adds = adds_plain seat seat'.seen events k a in
       let unit = adds_keeps P C state low head ended seat.seen seat'.seen events adds quiet (plain seat k) in
       record {
         program = ap (λ d. d.program) core ∙ k.program;
-        copied = k.copied;
         by_is = by ∙ k.by_is;
         legal = subst (λ d. IsLegal P d.sizes seat'.seen) (sym core) adds.legal;
         unit = subst (λ d. KeepsUnit P d.sizes (unit_of d.program d.sizes seat'.seen) state low head ended) (sym core)
@@ -78,6 +77,6 @@ module _ (P copy : Program) (state : State) (low : Option ℕ) (head : ℕ) (end
       }
 
   -- both show the same state
-  pub same_state : (seat seat' : Caller) → BackIsKept P seat copy state low head ended shown → BackIsKept P seat' copy state low head ended shown
+  pub same_state : (seat seat' : Caller) → BackIsKept P seat state low head ended shown → BackIsKept P seat' state low head ended shown
       → committed seat'.core.program (unit_in seat'.core seat'.seen).tenants ≡ committed seat.core.program (unit_in seat.core seat.seen).tenants
   same_state seat seat' k k' = sym (state_is seat' k') ∙ state_is seat k

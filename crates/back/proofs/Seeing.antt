@@ -1,5 +1,6 @@
 -- What looks at a station show of its live tenant.
 use Rattle.std.proofs.Common.{◌≡◌, ℕ, ◌<◌, cond, eqb, List, [], length, Some, None, refl, sym, ap, ◌∙◌, subst, arith}
+use Rattle.std.proofs.lemmas.Option.{same_Some}
 use Rattle.instructions.specs.Programs.{Program, instr_of}
 use Rattle.inorder.specs.declared.history.Entry.{Entry}
 use Rattle.inorder.specs.History.{IsLegal, back, taken_of, unit_of}
@@ -20,14 +21,11 @@ use Rattle.ruu_words.specs.Content.{HasValue, code}
 use Rattle.ruu_words.specs.States.{state_code}
 use Rattle.ruu_words.proofs.Stays.{fact_stays}
 use Rattle.station.specs.Looking.{Shows}
-use Rattle.station.specs.Seats.{Caller, IsSame}
+use Rattle.station.specs.Seats.{Caller, IsSameSeat}
 use Rattle.back.specs.Port.{AtStation, IsEntryOf, address_in, shown_address, seen_as}
 use Rattle.back.proofs.OwnEntries.{added_legal}
 use Rattle.back.proofs.PortStays.{length_grows}
 use Rattle.inorder.proofs.Recent.{live_is_recent, recent_at}
-
-found : (t u : Tenant) → Some t ≡ Some u → t ≡ u
-found t u e = cc e
 
 -- The address that a station shows is that of its live tenant
 
@@ -66,7 +64,7 @@ module _ (P : Program) (C : Sizes) (mid new : List Entry) (b : Adds P C back mid
       (record { index = m.index ∙ f.0.index; live = λ l. f.0.live (m.live l) }, m.station ∙ f.1, m.tag ∙ f.2)) b.begins.more mid legal
       (record { tenant = t; is = before; fact = (record { index = refl; live = λ l. l }, refl, refl) }) in
       let there : at (unit_of P C new).tenants q ≡ Some i.tenant = ap (λ h. at (unit_of P C h).tenants q) b.begins.is ∙ i.is in
-      let same = found i.tenant u (sym there ∙ now) in
+      let same = same_Some i.tenant u (sym there ∙ now) in
       (subst (Since t) same i.fact.0, subst (λ (x : Tenant). x.station ≡ t.station) same i.fact.1, subst (λ (x : Tenant). x.tag ≡ t.tag) same i.fact.2)
 
 -- A live tenant is what its station shows
@@ -105,5 +103,5 @@ module _ (P : Program) (C : Sizes) (old mid new : List Entry) (a : Adds P C back
 pub two_looks : (P : Program) (C : Sizes) (by by' : ℕ) (old mid new : List Entry) → by' ≡ by → Adds P C by old mid [] → Adds P C by' mid new [] → Adds P C by old new []
 two_looks P C by by' old mid new e a b = adds_on P C by old mid new [] [] a (subst (λ x. Adds P C x mid new []) e b)
 
-pub same_on : (u v x : Caller) → IsSame u v → IsSame v x → IsSame u x
+pub same_on : (u v x : Caller) → IsSameSeat u v → IsSameSeat v x → IsSameSeat u x
 same_on u v x a b = record { core = b.core ∙ a.core; by = b.by ∙ a.by }

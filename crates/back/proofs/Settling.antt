@@ -1,6 +1,7 @@
 -- What comes of a load that was answered.
-use Rattle.std.proofs.Common.{◌≡◌, ◌⊎◌, ℕ, List, [], ◌∷◌, ◌++◌, map, Some, refl, sym, ap, ◌∙◌, subst, inl, inr, ⊎_elim, append_assoc}
+use Rattle.std.proofs.Common.{◌≡◌, ◌⊎◌, ℕ, List, [], ◌∷◌, ◌++◌, map, refl, sym, ap, ◌∙◌, subst, inl, inr, ⊎_elim, append_assoc}
 use Rattle.std.proofs.lemmas.List.{append-nil}
+use Rattle.std.proofs.lemmas.Option.{same_Some}
 use mathlib.Core.Logic.{dite}
 use native.Mathlib.Decide.{ℕ_discrete}
 use Rattle.instructions.specs.Programs.{Program}
@@ -39,9 +40,6 @@ use Rattle.back.proofs.OwnEntries.{EndsWith, added_own, split_last}
 use Rattle.back.proofs.PortStays.{asked_stays}
 use Rattle.back.proofs.Trying.{once_earlier, once_later, once_now, starts_on}
 use Rattle.inorder.proofs.Recent.{live_is_recent, names_recent}
-
-found : (t u : Tenant) → Some t ≡ Some u → t ≡ u
-found t u e = cc e
 
 apart : Live ≡ Squashed → ⊥
 apart x = cc x
@@ -116,7 +114,7 @@ module _ (P : Program) (C : Sizes) (old new : List Entry) where
         is = a.is;
         fact = record {
           load = record { live = a.may.live; kind = a.may.kind };
-          station_is = sym n.station_is ∙ (ap (λ (z : Tenant). z.station) (found n.tenant w.named.tenant (sym n.is ∙ w.named.is)) ∙ w.named.station_is);
+          station_is = sym n.station_is ∙ (ap (λ (z : Tenant). z.station) (same_Some n.tenant w.named.tenant (sym n.is ∙ w.named.is)) ∙ w.named.station_is);
         };
       };
     }
@@ -153,7 +151,7 @@ module _ (P : Program) (C : Sizes) (old new : List Entry) where
           new = w.named.new;
           station_is = w.named.station_is;
           tag_is = w.named.tag_is;
-          fact = subst (λ (x : Tenant). x.fate ≡ Done v) (found now.tenant w.named.tenant (sym now.is ∙ w.named.is)) now.fact;
+          fact = subst (λ (x : Tenant). x.fate ≡ Done v) (same_Some now.tenant w.named.tenant (sym now.is ∙ w.named.is)) now.fact;
         }
       where
         step : (U : UpdateUnit) (by : ℕ) (s : Step) → IsNotBacks s → Allowed P C U by s →
@@ -164,7 +162,7 @@ module _ (P : Program) (C : Sizes) (old new : List Entry) where
 
         at_load : (U : UpdateUnit) (q : ℕ) (a : Allowed P C U back (On q LoadIt)) → CanLoad P U q address v ⊎ IsStale U q → Has (applied P C U back (On q LoadIt)) q (λ t. t.fate ≡ Done v)
         at_load U q a (inl c) =
-            let same = found c.tenant a.tenant (sym c.is ∙ a.is) in
+            let same = same_Some c.tenant a.tenant (sym c.is ∙ a.is) in
             record {
               tenant = changed P back LoadIt a.tenant (older U.tenants q);
               is = ⊎_elim
@@ -173,7 +171,7 @@ module _ (P : Program) (C : Sizes) (old new : List Entry) where
                   (at_changed P U.tenants back q LoadIt a.tenant a.is q a.tenant a.is);
               fact = ap Done (ap (load_value P (older U.tenants q)) (sym same) ∙ c.value_is);
             }
-        at_load U q a (inr g) = absurd (apart (sym a.may.live ∙ (ap (λ (z : Tenant). z.standing) (found a.tenant g.tenant (sym a.is ∙ g.is)) ∙ g.fact)))
+        at_load U q a (inr g) = absurd (apart (sym a.may.live ∙ (ap (λ (z : Tenant). z.standing) (same_Some a.tenant g.tenant (sym a.is ∙ g.is)) ∙ g.fact)))
 
   -- One that came too late was squashed
   pub is_gone : (station tag p : ℕ) → IsNamed (unit_of P C old) p station tag → (w : WasStale P C back old new station tag) → IsStale (unit_of P C new) p
@@ -190,7 +188,7 @@ module _ (P : Program) (C : Sizes) (old new : List Entry) where
 
 -- a squashed load does not wait
 pub stale_waits_not : (P : Program) (U : UpdateUnit) (p : ℕ) → IsStale U p → ¬ Has U p (IsWaitingLoad P)
-stale_waits_not P U p g w = apart (sym w.fact.load.live ∙ (ap (λ (z : Tenant). z.standing) (found w.tenant g.tenant (sym w.is ∙ g.is)) ∙ g.fact))
+stale_waits_not P U p g w = apart (sym w.fact.load.live ∙ (ap (λ (z : Tenant). z.standing) (same_Some w.tenant g.tenant (sym w.is ∙ g.is)) ∙ g.fact))
 
 pub may_settle : (P : Program) (C : Sizes) (seen : List Entry) (p station tag address v : ℕ) →
     IsNamed (unit_of P C seen) p station tag →

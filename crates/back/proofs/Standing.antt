@@ -1,6 +1,7 @@
 -- Where the loads of a call stand, which were live when it began: behind the head, by their age.
 use Rattle.std.proofs.Common.{◌≡◌, ℕ, ◌+◌, ◌%◌, ◌<◌, ◌≤◌, List, Some, refl, sym, ap, ◌∙◌, subst, arith}
 use Rattle.std.specs.List.{AllByRecursion}
+use Rattle.std.proofs.lemmas.Option.{same_Some}
 use Rattle.instructions.specs.Programs.{Program}
 use Rattle.inorder.specs.declared.history.Entry.{Entry}
 use Rattle.inorder.specs.declared.history.Event.{Event}
@@ -18,9 +19,6 @@ use Rattle.back.specs.Port.{station_behind}
 use Rattle.back.specs.Trials.{IsLoadAt}
 use Rattle.back.proofs.Ranks.{in_ring, InRing, rank, rank_grows, rank_small, same_rank, stands_at}
 use Rattle.back.proofs.UnitKept.{IsQuiet, head_kept_on}
-
-pub found : (t u : Tenant) → Some t ≡ Some u → t ≡ u
-found t u e = cc e
 
 -- What was so of a tenant before
 
@@ -86,7 +84,7 @@ module _ (P : Program) (C : Sizes) (old new : List Entry) (events : List Event) 
     within = once.within;
     fact = λ w.
         let u = since_at P C old point once.within.behind_call point_legal o h.tenant h.is in
-        let same = found u.tenant w.tenant (sym u.is ∙ w.is) in
+        let same = same_Some u.tenant w.tenant (sym u.is ∙ w.is) in
         let now = stands_behind P C point point_legal head head_then o w.tenant w.is w.fact.load.live in
         let then = ap (λ (z : Tenant). z.station) (sym same) ∙ (u.since.station ∙ station_is o h) in
         let eq = same_rank head (rank us_then o) (rank_of o) C.ring inside (stands_inside P C point point_legal head head_then o w.tenant w.is w.fact.load.live) (place_in o h) (sym now ∙ then) in

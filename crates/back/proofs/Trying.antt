@@ -38,9 +38,7 @@ use Rattle.back.proofs.Seeing.{address_shown, by_code, index_inside, shown, was_
 use Rattle.back.proofs.Ranks.{InRing, in_ring}
 use Rattle.inorder.proofs.Recent.{among_all, names_recent, old_since, live_is_recent, live_is_last}
 use Rattle.std.specs.List.{AllByRecursion}
-
-found : (t u : Tenant) → Some t ≡ Some u → t ≡ u
-found t u e = cc e
+use Rattle.std.proofs.lemmas.Option.{same_Some}
 
 -- Moments
 
@@ -273,9 +271,9 @@ module _ (P : Program) (C : Sizes) (old mid new : List Entry) (a : Adds P C back
       let fits = load_in P t w.fact.address w.fact.load.kind (subst (FateIs P t) w.fact.fate own.fate).1 in
       let addr : w.fact.address ≡ address = ⊎_elim
       (λ (h : Has (unit_of P C new) p (ShowsAddress station tag address)).
-      let e2 = sym w.fact.fate ∙ (ap (λ (x : Tenant). x.fate) (found t h.tenant (sym w.is ∙ h.is)) ∙ h.fact.fate) in one_addr w.fact.address address e2)
+      let e2 = sym w.fact.fate ∙ (ap (λ (x : Tenant). x.fate) (same_Some t h.tenant (sym w.is ∙ h.is)) ∙ h.fact.fate) in one_addr w.fact.address address e2)
       (λ (g : IsStale (unit_of P C new) p).
-      let x = sym w.fact.load.live ∙ (ap (λ (x : Tenant). x.standing) (found t g.tenant (sym w.is ∙ g.is)) ∙ g.fact) in absurd (apart x))
+      let x = sym w.fact.load.live ∙ (ap (λ (x : Tenant). x.standing) (same_Some t g.tenant (sym w.is ∙ g.is)) ∙ g.fact) in absurd (apart x))
       then_shown in
       load_there P index tag address (subst (λ k. k < length P.code) (sym same) inside) (ap (λ k. kind (instr_of P k).op) same ∙ w.fact.load.kind)
       (subst (λ (z : ℕ × ℕ). z.0 + width (instr_of P z.1).op ≤ length P.bytes) (λ i. (addr i, sym same i)) fits) e
@@ -308,7 +306,7 @@ module _ (P : Program) (C : Sizes) (old new : List Entry) (a : Adds P C back old
       let tags = tagged P C (taken_of new) (allowed_steps P C new a.legal) in
       let one : p ≡ s.0 = names_recent C (unit_of P C new) tags p s.0 g.tenant s.1.tenant g.is s.1.is p_new s_new (w.1 ∙ (n.station_is ∙ sym s.1.fact.station_is))
       (w.2 ∙ (n.tag_is ∙ (sym same ∙ sym s.1.fact.tag_is))) in
-      let t = found g.tenant s.1.tenant (sym g.is ∙ (ap (at (unit_of P C new).tenants) one ∙ s.1.is)) in
+      let t = same_Some g.tenant s.1.tenant (sym g.is ∙ (ap (at (unit_of P C new).tenants) one ∙ s.1.is)) in
       absurd (apart (sym s.1.fact.live ∙ (ap (λ (z : Tenant). z.standing) (sym t) ∙ g.fact))))
       (asked_stays P C old new a p station l asked)
     where
@@ -321,7 +319,7 @@ module _ (P : Program) (C : Sizes) (old new : List Entry) (a : Adds P C back old
       (λ (h : Has (unit_of P C new) p (IsLoadOf P station l)).
       let z = shows_it P C new a.legal station tag state value shows p h.tenant h.is h.fact.load.live h.fact.station_is in
       gone (z.0 ∙ h.fact.tag_is) (z.1 ∙ ap shown_address h.fact.fate))
-      (λ (g : IsStale (unit_of P C new) p). apart (sym w.fact.load.live ∙ (ap (λ (z : Tenant). z.standing) (found w.tenant g.tenant (sym w.is ∙ g.is)) ∙ g.fact)))
+      (λ (g : IsStale (unit_of P C new) p). apart (sym w.fact.load.live ∙ (ap (λ (z : Tenant). z.standing) (same_Some w.tenant g.tenant (sym w.is ∙ g.is)) ∙ g.fact)))
       (asked_stays P C old new a p station l asked)
     where
       apart : Live ≡ Squashed → ⊥

@@ -1,6 +1,8 @@
 -- What a back keeps stays true under every step that is no retirement.
 use Rattle.std.proofs.Common.{◌≡◌, ◌≢◌, ℕ, ◌%◌, List, [], ◌∷◌, ◌++◌, map, Option, Some, None, refl, sym, ap, ◌∙◌, subst, ⊎_elim, append_assoc, suc, arith}
 use Rattle.std.specs.List.{AllByRecursion}
+use Rattle.std.proofs.lemmas.Option.{same_Some}
+use Rattle.std.proofs.lemmas.List.{append_cancel_right}
 use mathlib.Core.Logic.{dite}
 use native.Mathlib.Decide.{ℕ_discrete}
 use Rattle.instructions.specs.Programs.{Program, instr_at}
@@ -22,13 +24,13 @@ use Rattle.inorder.specs.Legal.{Allowed, May, applied, changed}
 use Rattle.inorder.specs.Machine.{State}
 use Rattle.inorder.specs.Replies.{Has}
 use Rattle.inorder.specs.Steps.{IsNoRetiredStop}
-use Rattle.inorder.specs.Tenants.{Live, Retired, Tenant}
+use Rattle.inorder.specs.Tenants.{Retired, Tenant}
 use Rattle.inorder.specs.Unit.{Sizes, UpdateUnit, older, younger}
 use Rattle.inorder.proofs.AheadKept.{ahead_by_others}
 use Rattle.inorder.proofs.Commits.{by_others}
 use Rattle.inorder.proofs.Ends.{Acted, IsNotBacks, exact}
-use Rattle.inorder.proofs.Heads.{goes_on_stays, head_stays}
-use Rattle.inorder.proofs.Histories.{legal_before, unit_sound, none_between}
+use Rattle.inorder.proofs.Heads.{goes_on_stays, head_stays, live_goes_on}
+use Rattle.inorder.proofs.Histories.{legal_before, unit_sound, none_between, own_here, own_else}
 use Rattle.inorder.proofs.Moves.{IsActed, IsLeft, at_changed, came}
 use Rattle.inorder.proofs.Sound.{IsSound}
 use Rattle.ruu_words.proofs.Stays.{not_backs}
@@ -36,16 +38,10 @@ use Rattle.back.specs.Commits.{IsRetiredStopOf}
 use Rattle.back.specs.Kept.{EndIs, KeepsUnit}
 use Rattle.back.specs.Kept.WhyEnded.{ByStop, Nowhere}
 use Rattle.station.specs.Moments.{IsWithin}
-use Rattle.back.proofs.OwnEntries.{added_legal, added_own, cancel, own_first, own_skip}
+use Rattle.back.proofs.OwnEntries.{added_legal, added_own}
 use Rattle.inorder.proofs.Recent.{counts_same}
 
-found : (t u : Tenant) → Some t ≡ Some u → t ≡ u
-found t u e = cc e
-
 -- Steps
-
-live_goes_on : (t : Tenant) → t.standing ≡ Live → IsNoRetiredStop t
-live_goes_on t live = λ gone c f. let x = sym live ∙ gone in absurd (cc x)
 
 -- a load leaves the head and the retired ones as they are
 head_load : (P : Program) (C : Sizes) (U : UpdateUnit) (by p : ℕ) → Allowed P C U by (On p Load) → head_station C (applied P C U by (On p Load)) ≡ head_station C U
@@ -56,9 +52,9 @@ goes_on_load : (P : Program) (C : Sizes) (U : UpdateUnit) (by p : ℕ) → Allow
 goes_on_load P C U by p a ok g q u is =
     let us = U.tenants in
     let was = came P C U by p Load a ok q u is in ⊎_elim
-    (λ (z : IsActed P us by p Load a.tenant q was.tenant). subst IsNoRetiredStop (found (changed P by Load a.tenant (older us p)) u (sym z.now ∙ is))
+    (λ (z : IsActed P us by p Load a.tenant q was.tenant). subst IsNoRetiredStop (same_Some (changed P by Load a.tenant (older us p)) u (sym z.now ∙ is))
     (live_goes_on (changed P by Load a.tenant (older us p)) a.may.live))
-    (λ (z : IsLeft P us by p Load q was.tenant). subst IsNoRetiredStop (found was.tenant u (sym z.now ∙ is)) (g q was.tenant was.is))
+    (λ (z : IsLeft P us by p Load q was.tenant). subst IsNoRetiredStop (same_Some was.tenant u (sym z.now ∙ is)) (g q was.tenant was.is))
     (at_changed P us by p Load a.tenant a.is q was.tenant was.is)
 
 -- a step that is neither a retirement nor a renewal
@@ -183,7 +179,7 @@ module _ (P : Program) (C : Sizes) where
       (λ same. own_one events same mine quiet (λ xs m q. all_quiet more seen xs legal.0 before m q))
       (λ other. (
         others_quiet P C (more ++ seen) e (renewals (more ++ seen)) (calm ∙ sym before) other legal.1,
-        all_quiet more seen events legal.0 before (sym (own_skip back e more other) ∙ mine) quiet,
+        all_quiet more seen events legal.0 before (sym (own_else back e more other) ∙ mine) quiet,
       ))
     where
       before : renewals (more ++ seen) ≡ renewals seen
@@ -191,9 +187,9 @@ module _ (P : Program) (C : Sizes) where
 
       own_one : (events : List Event) → e.by ≡ back → own back (e ∷ more) ≡ map (entry back) events → AllByRecursion IsQuiet events
           → ((xs : List Event) → own back more ≡ map (entry back) xs → AllByRecursion IsQuiet xs → AreQuiet more) → AreQuiet (e ∷ more)
-      own_one [] same mine quiet rest = let x = sym (own_first back e more same) ∙ mine in absurd (cc x)
+      own_one [] same mine quiet rest = let x = sym (own_here back e more same) ∙ mine in absurd (cc x)
       own_one (x ∷ xs) same mine quiet rest =
-          let z = heads e (entry back x) (own back more) (map (entry back) xs) (sym (own_first back e more same) ∙ mine) in
+          let z = heads e (entry back x) (own back more) (map (entry back) xs) (sym (own_here back e more same) ∙ mine) in
           (subst (λ (y : Entry). IsQuiet y.event) (sym z.0) quiet.0, rest xs z.1 quiet.1)
 
   module _ (state : State) (low : Option ℕ) (head : ℕ) (ended : Option Stop) where
@@ -230,7 +226,8 @@ head_kept_on P C old new point events a quiet w =
     let all = all_quiet P C more old events legal (sym (ap renewals a.begins.is) ∙ a.one_table) (added_own P C back old new events a) quiet in
     let late = w.before_return.more in
     let early = w.behind_call.more in
-    let split : more ≡ late ++ early = cancel more (late ++ early) old (sym a.begins.is ∙ (w.before_return.is ∙ (ap (λ z. late ++ z) w.behind_call.is ∙ sym (append_assoc late early old)))) in
+    let split : more ≡ late ++ early = append_cancel_right more (late ++ early) old
+    (sym a.begins.is ∙ (w.before_return.is ∙ (ap (λ z. late ++ z) w.behind_call.is ∙ sym (append_assoc late early old)))) in
     let early_quiet = second late early (subst AreQuiet split all) in
     let point_legal = legal_before P C late point (subst (IsLegal P C) w.before_return.is a.legal) in
     subst (λ h. head_station C (unit_of P C h) ≡ head_station C (unit_of P C old)) (sym w.behind_call.is) (go early (subst (IsLegal P C) w.behind_call.is point_legal) early_quiet)

@@ -34,10 +34,9 @@ pub record KeepsUnit (P : Program) (C : Sizes) (U : UpdateUnit) (state : State) 
   pub end_is : EndIs P U ended
 
 -- Its fields, and what its seat has seen
-pub record BackIsKept (P : Program) (seat : Caller) (copy : Program) (state : State) (low : Option ℕ)
+pub record BackIsKept (P : Program) (seat : Caller) (state : State) (low : Option ℕ)
     (head : ℕ) (ended : Option Stop) (shown : Snap) : Type 0 where
   pub program : seat.core.program ≡ P
-  pub copied : copy ≡ P
   pub by_is : seat.by ≡ back
   pub legal : IsLegal P seat.core.sizes seat.seen
   pub unit : KeepsUnit P seat.core.sizes (unit_in seat.core seat.seen) state low head ended

@@ -16,7 +16,6 @@ use std::marker::Model;
 /// the one that holds it ends it.
 pub struct Back<J: Naming> {
     pub(crate) seat: BackSeat,
-    pub(crate) program: Program,
     pub(crate) committed: Committed,
     // what the first half of a multiplication or division has left for LO, while the second is awaited
     pub(crate) low: Option<u32>,
@@ -34,7 +33,7 @@ impl<J: Naming> Model for Back<J> {
 
     ghost view = { λ b. back_of b.seat b.ended b.publisher };
 
-    ghost invariant = { λ b. BackIsKept J.program b.seat b.program b.committed b.low b.head b.ended b.publisher };
+    ghost invariant = { λ b. BackIsKept J.program b.seat b.committed b.low b.head b.ended b.publisher };
 }
 
 // What a back needs memory for. The publisher comes last, since it could not be given up without Wait.
@@ -42,16 +41,14 @@ fn parts<J: Naming>(
     alloc: Global,
     program: &Program,
     config: &Config,
-) -> Result<(Program, Committed, Publisher<J>, Snapper<J>), Memory>
-    ensures program { IfOk result (λ made. made.0 ≡ program.now) }
-    ensures committed { IfOk result (λ made. made.1 ≡ start program.now) }
-    ensures publisher { IfOk result (λ made. made.2 ≡ opening) }
-    ensures snapper { IfOk result (λ made. made.3 ≡ 0) }
+) -> Result<(Committed, Publisher<J>, Snapper<J>), Memory>
+    ensures committed { IfOk result (λ made. made.0 ≡ start program.now) }
+    ensures publisher { IfOk result (λ made. made.1 ≡ opening) }
+    ensures snapper { IfOk result (λ made. made.2 ≡ 0) }
 {
-    let copy = program.copied(alloc)?;
     let committed = Committed::new(alloc, program)?;
     let (publisher, snapper) = Publisher::new(alloc, config.places())?;
-    Ok((copy, committed, publisher, snapper))
+    Ok((committed, publisher, snapper))
 }
 
 impl<J: Naming> Back<J> {
@@ -73,12 +70,11 @@ impl<J: Naming> Back<J> {
         ensures err { IfErr result (λ refused. refused.1 ≡ seat) }
     {
         match parts::<J>(alloc, program, config) {
-            Ok((program, committed, publisher, snapper)) => {
+            Ok((committed, publisher, snapper)) => {
                 what_is_seen_is_legal(&seat);
                 a_number_is_of_its_part(&seat);
                 let back = Back {
                     seat,
-                    program,
                     committed,
                     low: None,
                     head: 0,

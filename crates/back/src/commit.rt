@@ -130,7 +130,7 @@ impl<J: Naming> Back<J> {
             return Commit::Ended(code);
         }
         let pc = self.committed.pc();
-        let Some(instr) = self.program.fetch(pc) else {
+        let Some(instr) = core.program().fetch(pc) else {
             self.ended = Some(Stop::BadPc);
             return Commit::Ended(Stop::BadPc);
         };

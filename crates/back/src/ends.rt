@@ -31,7 +31,6 @@ impl<J: Naming> Back<J> {
     {
         let Back {
             seat: _,
-            program: _,
             committed,
             low: _,
             head: _,

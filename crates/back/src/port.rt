@@ -3,7 +3,7 @@ ghost use Rattle.std.specs.Prelude.{◌≡◌, ◌<◌, ◌≤◌, ◌+◌, IfEr
 ghost use Rattle.instructions.specs.Instruction.{width as width_in};
 ghost use Rattle.inorder.specs.Callers.{head_station};
 ghost use Rattle.inorder.specs.History.{IsLegal, back};
-ghost use Rattle.station.specs.Seats.{IsSame};
+ghost use Rattle.station.specs.Seats.{IsSameSeat};
 ghost use Rattle.back.specs.Wakings.{TryWakes};
 ghost use Rattle.back.specs.Backs.{SeesMore, committed_in, unit_in};
 ghost use Rattle.back.specs.Trials.{NobodyWaits, ThisWaits, TriedAnswers, load_of_index};
@@ -35,12 +35,11 @@ pub enum Tried {
 }
 
 // Looks at a tenant. Its instruction is read first, so that the station's word is the newest that is known.
-fn look(core: &Core, seat: &mut BackSeat, program: &Program, station: usize) -> Entry
+fn look(core: &Core, seat: &mut BackSeat, station: usize) -> Entry
     requires core { seat.old.core ≡ core.now }
     requires by { seat.old.by ≡ back }
-    requires program { program.now ≡ core.now.program }
     requires station { station < core.now.sizes.ring }
-    ensures kept { IsSame seat.old seat.new }
+    ensures kept { IsSameSeat seat.old seat.new }
     ensures woken { seat.new.woken ≡ seat.old.woken }
     ensures history { SeesMore core.now seat.old.by seat.old.seen seat.new.seen }
     ensures shows { IsEntryThere core.now seat.old.seen seat.new.seen station result }
@@ -48,6 +47,7 @@ fn look(core: &Core, seat: &mut BackSeat, program: &Program, station: usize) -> 
     let (index, ..) = core.info(seat, station);
     let seen = core.look(seat, station);
     let index = index as usize;
+    let program = core.program();
     if index < program.len() {
         entry(program.instr(index), seen.state, seen.value)
     } else {
@@ -59,7 +59,6 @@ fn look(core: &Core, seat: &mut BackSeat, program: &Program, station: usize) -> 
 fn search(
     core: &Core,
     seat: &mut BackSeat,
-    program: &Program,
     head: usize,
     at: usize,
     load: &Load,
@@ -67,10 +66,9 @@ fn search(
     requires core { seat.old.core ≡ core.now }
     requires by { seat.old.by ≡ back }
     requires legal { IsLegal core.now.program core.now.sizes seat.old.seen }
-    requires program { program.now ≡ core.now.program }
     requires head { head < core.now.sizes.ring }
     requires at { at < core.now.sizes.ring }
-    ensures kept { IsSame seat.old seat.new }
+    ensures kept { IsSameSeat seat.old seat.new }
     ensures woken { seat.new.woken ≡ seat.old.woken }
     ensures history { SeesMore core.now seat.old.by seat.old.seen seat.new.seen }
     ensures ok { IfOk result (SearchFinds core.now seat.old.seen seat.new.seen head at load.now) }
@@ -82,7 +80,7 @@ fn search(
     let mut k = at;
     while k > 0 {
         k -= 1;
-        let store = look(core, seat, program, (head + k) % ring);
+        let store = look(core, seat, (head + k) % ring);
         if let Answer::Blocked(_) = ask(store, asked) {
             if store.address.is_none() {
                 return Err(k);
@@ -99,7 +97,6 @@ fn search(
 fn answer(
     core: &Core,
     seat: &mut BackSeat,
-    program: &Program,
     committed: &Committed,
     head: usize,
     at: usize,
@@ -108,13 +105,12 @@ fn answer(
     requires core { seat.old.core ≡ core.now }
     requires by { seat.old.by ≡ back }
     requires legal { IsLegal core.now.program core.now.sizes seat.old.seen }
-    requires program { program.now ≡ core.now.program }
     requires head { head < core.now.sizes.ring }
     requires head_is { head ≡ head_station core.now.sizes (unit_in core.now seat.old.seen) }
     requires at { at < core.now.sizes.ring }
     requires state { committed.now ≡ committed_in core.now seat.old.seen }
     requires inside { load.now.address + width_in load.now.op ≤ length committed.now.memory }
-    ensures kept { IsSame seat.old seat.new }
+    ensures kept { IsSameSeat seat.old seat.new }
     ensures woken { seat.new.woken ≡ seat.old.woken }
     ensures history { SeesMore core.now seat.old.by seat.old.seen seat.new.seen }
     ensures bound { IfErr result (λ s. s < at) }
@@ -122,7 +118,7 @@ fn answer(
     ensures err { IfErr result (MayBlock core.now seat.old.seen seat.new.seen head at load.now) }
 {
     let ring = core.ring();
-    let found = match search(core, seat, program, head, at, load) {
+    let found = match search(core, seat, head, at, load) {
         Ok(found) => found,
         Err(k) => return Err(k),
     };
@@ -155,12 +151,11 @@ fn load_at(program: &Program, index: usize, tag: u32, address: u32) -> Option<Lo
 }
 
 // The load of a station that has its address and waits.
-fn waiting(core: &Core, seat: &mut BackSeat, program: &Program, station: usize) -> Option<Load>
+fn waiting(core: &Core, seat: &mut BackSeat, station: usize) -> Option<Load>
     requires core { seat.old.core ≡ core.now }
     requires by { seat.old.by ≡ back }
-    requires program { program.now ≡ core.now.program }
     requires station { station < core.now.sizes.ring }
-    ensures kept { IsSame seat.old seat.new }
+    ensures kept { IsSameSeat seat.old seat.new }
     ensures woken { seat.new.woken ≡ seat.old.woken }
     ensures history { SeesMore core.now seat.old.by seat.old.seen seat.new.seen }
     ensures none { IfNone result (NobodyWaits core.now seat.old.seen seat.new.seen station) }
@@ -172,7 +167,7 @@ fn waiting(core: &Core, seat: &mut BackSeat, program: &Program, station: usize) 
         return None;
     };
     let (index, ..) = core.info(seat, station);
-    load_at(program, index as usize, seen.tag, address)
+    load_at(core.program(), index as usize, seen.tag, address)
 }
 
 // The load still waits.
@@ -180,7 +175,7 @@ fn is_still(core: &Core, seat: &mut BackSeat, station: usize, load: &Load) -> bo
     requires core { seat.old.core ≡ core.now }
     requires by { seat.old.by ≡ back }
     requires station { station < core.now.sizes.ring }
-    ensures kept { IsSame seat.old seat.new }
+    ensures kept { IsSameSeat seat.old seat.new }
     ensures woken { seat.new.woken ≡ seat.old.woken }
     ensures history { SeesMore core.now seat.old.by seat.old.seen seat.new.seen }
     ensures still { result ≡ true → Remains core.now seat.old.seen seat.new.seen station load.now }
@@ -194,29 +189,27 @@ fn is_still(core: &Core, seat: &mut BackSeat, station: usize, load: &Load) -> bo
 pub(crate) fn try_load(
     core: &Core,
     seat: &mut BackSeat,
-    program: &Program,
     committed: &Committed,
     head: usize,
     at: usize,
 ) -> Tried
     requires core { seat.old.core ≡ core.now }
     requires by { seat.old.by ≡ back }
-    requires program { program.now ≡ core.now.program }
     requires head { head < core.now.sizes.ring }
     requires head_is { head ≡ head_station core.now.sizes (unit_in core.now seat.old.seen) }
     requires at { at < core.now.sizes.ring }
     requires state { committed.now ≡ committed_in core.now seat.old.seen }
-    ensures kept { IsSame seat.old seat.new }
+    ensures kept { IsSameSeat seat.old seat.new }
     ensures reply { TriedAnswers core.now seat.old.by seat.old.seen seat.new.seen head at result }
     ensures woken { TryWakes core.now seat.old.by seat.old.seen seat.new.seen
         seat.old.woken seat.new.woken result }
 {
     let ring = core.ring();
     let station = (head + at) % ring;
-    let Some(load) = waiting(core, seat, program, station) else {
+    let Some(load) = waiting(core, seat, station) else {
         return Tried::Passed;
     };
-    match answer(core, seat, program, committed, head, at, &load) {
+    match answer(core, seat, committed, head, at, &load) {
         Ok(value) => match core.settle(seat, station, load.tag, value) {
             Settle::Settled => Tried::Loaded(load.tag, value),
             Settle::Stale => Tried::Passed,

@@ -2,7 +2,7 @@
 ghost use Rattle.std.specs.Prelude.{◌≡◌, ◌<◌, ◌≤◌};
 ghost use Rattle.inorder.specs.Callers.{head_station};
 ghost use Rattle.inorder.specs.History.{IsLegal, back};
-ghost use Rattle.station.specs.Seats.{IsSame as IsSameSeat};
+ghost use Rattle.station.specs.Seats.{IsSameSeat};
 ghost use Rattle.back.specs.Backs.{IsSameBack, committed_in, unit_in};
 ghost use Rattle.back.specs.Refreshes.{RefreshAnswers};
 ghost use Rattle.back.specs.Wakings.{RefreshWakes};
@@ -11,7 +11,6 @@ use crate::answers::Refresh;
 use crate::backs::Back;
 use crate::port::{Tried, try_load};
 use inorder::Committed;
-use instructions::Program;
 use snapshots::Naming;
 use station::{BackSeat, Core};
 
@@ -19,7 +18,6 @@ use station::{BackSeat, Core};
 fn scan(
     core: &Core,
     seat: &mut BackSeat,
-    program: &Program,
     committed: &Committed,
     head: usize,
     ring: usize,
@@ -27,7 +25,6 @@ fn scan(
     requires core { seat.old.core ≡ core.now }
     requires by { seat.old.by ≡ back }
     requires legal { IsLegal core.now.program core.now.sizes seat.old.seen }
-    requires program { program.now ≡ core.now.program }
     requires ring { ring ≡ core.now.sizes.ring }
     requires most { ring ≤ 32 }
     requires head { head < ring }
@@ -41,7 +38,7 @@ fn scan(
     let mut blocked = None;
     for at in 0..ring {
         let station = (head + at) % ring;
-        match try_load(core, seat, program, committed, head, at) {
+        match try_load(core, seat, committed, head, at) {
             Tried::Passed => {}
             Tried::Blocked(store) => {
                 if blocked.is_none() {
@@ -77,13 +74,6 @@ impl<J: Naming> Back<J> {
     {
         let ring = core.ring();
         let head = self.head;
-        scan(
-            core,
-            &mut self.seat,
-            &self.program,
-            &self.committed,
-            head,
-            ring,
-        )
+        scan(core, &mut self.seat, &self.committed, head, ring)
     }
 }

@@ -2,7 +2,7 @@
 ghost use Rattle.std.specs.Prelude.{◌≡◌, ◌<◌};
 ghost use Rattle.inorder.specs.History.{StartsWith};
 ghost use Rattle.station.specs.Looking.{SeesInfo, SeesOperand, SeesStation};
-ghost use Rattle.station.specs.Seats.{IsSame as IsSameSeat};
+ghost use Rattle.station.specs.Seats.{IsSameSeat};
 ghost use Rattle.back.specs.Backs.{IsSameBack, SeesMore};
 
 use crate::backs::Back;

@@ -6,7 +6,6 @@ ghost use Rattle.back.specs.Stills.{GoesOnForBack, head_at, still_of};
 
 use crate::backs::Back;
 use inorder::Committed;
-use instructions::Program;
 use snapshots::{Naming, Publisher};
 use station::{BackSeat, what_is_seen_is_legal};
 use std::marker::Model;
@@ -15,7 +14,6 @@ use std::snapshot::Snapshot;
 /// A back without a core: the memory and the committed registers, pc and count, what waits for LO between two
 /// halves, and the publisher, so that snappers and marks stay good. It is no `Drop`: it enters a core again.
 pub struct BackStill<J: Naming> {
-    program: Program,
     state: Committed,
     // what a first half has made for LO
     waits: Option<u32>,
@@ -34,7 +32,7 @@ impl<J: Naming> Model for BackStill<J> {
 
     ghost view = { λ b. record { core = b.left.value.core; seen = b.left.value.seen; shown = b.publisher } };
 
-    ghost invariant = { λ b. BackIsKept J.program b.left.value b.program b.state b.waits b.head None b.publisher };
+    ghost invariant = { λ b. BackIsKept J.program b.left.value b.state b.waits b.head None b.publisher };
 }
 
 impl<J: Naming> Back<J> {
@@ -53,7 +51,6 @@ impl<J: Naming> Back<J> {
     {
         let Back {
             seat,
-            program,
             committed,
             low,
             head,
@@ -62,7 +59,6 @@ impl<J: Naming> Back<J> {
         } = self;
         let left = Snapshot::of(&seat);
         let still = BackStill {
-            program,
             state: committed,
             waits: low,
             head,
@@ -83,7 +79,6 @@ impl<J: Naming> BackStill<J> {
     {
         what_is_seen_is_legal(&seat);
         let BackStill {
-            program,
             state,
             waits,
             head: _,
@@ -92,7 +87,6 @@ impl<J: Naming> BackStill<J> {
         } = self;
         Back {
             seat,
-            program,
             committed: state,
             low: waits,
             head,

@@ -1,9 +1,8 @@
 -- What is written for a listing, and what its status is.
-use Rattle.std.specs.Prelude.{ℕ, List, Result, Ok, Err}
+use Rattle.std.specs.Prelude.{◌≡◌, ℕ, List, Result, Ok, Err}
 use Rattle.instructions.specs.declared.stop.Stop.TheVariants.{Break as BreakStop}
 use Rattle.instructions.specs.declared.end.Ending.{Ending}
 use Rattle.instructions.specs.declared.end.Ending.TheVariants.{Stop as ByStop, Limit as ByLimit}
-use Rattle.instructions.specs.declared.end.End.{End}
 use Rattle.isa.specs.declared.listing.fault.FaultKind.{FaultKind}
 use Rattle.instructions.specs.Programs.{Program}
 use Rattle.isa.specs.Listing.{listing}
@@ -44,3 +43,8 @@ status_for limit (Err f) = TextFault
 -- the status for the bytes of a listing
 unfoldable pub status_of : (limit : ℕ) → List ℕ → Status
 status_of limit bytes = status_for limit (listing bytes)
+
+-- the status and the text for the bytes of a listing
+pub record IsAnswerAlone (limit : ℕ) (status : Status) (bytes text : List ℕ) : Type 0 where
+  pub status_is : status ≡ status_of limit bytes
+  pub text_is : text ≡ text_of limit bytes

@@ -1,43 +1,60 @@
 //! From the bytes of a reader to the bytes of a writer.
-ghost use Rattle.std.specs.Prelude.{◌≡◌, ◌≢◌, ◌-◌, ◌+◌, ◌^◌, ◌<◌, IfOk, IfErr, OnOk, OnErr, IfSome, string_bytes, take};
-ghost use Rattle.devices.specs.Counted.{failures_of, known_by, Takes, TakesUpTo, Gives, GivesPart};
-ghost use Rattle.bench.specs.Answer.{most_taken, text_of, status_of};
+ghost use Rattle.std.specs.Prelude.{◌≡◌, ◌-◌, ◌^◌, ◌<◌, IfOk, IfErr, take};
+ghost use Rattle.devices.specs.Counted.{failures_of};
+ghost use Rattle.devices.specs.Replies.{HasReplied, IsUnanswered};
+ghost use Rattle.bench.specs.Answer.{IsAnswerAlone, most_taken};
+ghost use Rattle.bench.specs.Enough.{taken_is_enough};
+ghost use Rattle.bench.specs.Faults.{HasAnAnswer, unanswered};
 
 use crate::outcome::{Fault, Status};
 use crate::run::run;
-use devices::{Counted, read_up_to, write_whole};
+use devices::{Counted, Reply, reply_to};
 use instructions::{Config, Memory, Predictor};
 use isa::{FaultKind, fault_text, parse, report_text};
 use std::alloc::Global;
 use std::io::{Read, Write};
 
-/// The most bytes that are taken: one more than a listing may have.
-const MOST_TAKEN: usize = 4_194_305;
+/// The most bytes of a listing that are taken: one more than it may have.
+pub const MOST_TAKEN: usize = 4_194_305;
 
-// what is written for a listing, and its status
-#[tactic(auto, unfolding(crate::specs::Answer::text_of, crate::specs::Answer::status_of))]
-fn answer<P: Predictor + Drop>(
-    alloc: Global,
-    listing: &[u8],
-    config: &Config,
+// A run with these settings.
+#[derive(Drop)]
+struct Running<'a, P> {
+    config: &'a Config,
     predictor: P,
-) -> Result<(Status, String), Memory>
-    ensures status { IfOk result (λ answer. answer.0 ≡ status_of config.now.limit listing.now) }
-    ensures text { IfOk result (λ answer.
-        string_bytes answer.1 ≡ text_of config.now.limit listing.now) }
-{
-    match parse(alloc, listing) {
-        Ok(program) => {
-            let end = run(alloc, &program, config, predictor)?;
-            let text = report_text(alloc, &end)?;
-            Ok((Status::of(end.outcome), text))
-        }
-        Err(fault) if fault.kind == FaultKind::Memory => Err(Memory),
-        Err(fault) => {
-            let text = fault_text(alloc, &fault)?;
-            Ok((Status::TextFault, text))
+}
+
+impl<P: Predictor + Drop> Reply for Running<'_, P> {
+    type Told = Status;
+
+    type Refusal = Memory;
+
+    ghost most = { most_taken };
+
+    ghost Answers = { λ running input status text. IsAnswerAlone running.config.now.limit status input text };
+
+    fn most(&self) -> usize {
+        MOST_TAKEN
+    }
+
+    #[tactic(auto, unfolding(crate::specs::Answer::text_of, crate::specs::Answer::status_of))]
+    fn text(self, alloc: Global, bytes: &[u8]) -> Result<(Status, Vec<u8>), Memory> {
+        match parse(alloc, bytes) {
+            Ok(program) => {
+                let end = run(alloc, &program, self.config, self.predictor)?;
+                let text = report_text(alloc, &end)?;
+                Ok((Status::of(end.outcome), text.into_bytes()))
+            }
+            Err(fault) if fault.kind == FaultKind::Memory => Err(Memory),
+            Err(fault) => {
+                let text = fault_text(alloc, &fault)?;
+                Ok((Status::TextFault, text.into_bytes()))
+            }
         }
     }
+
+    ghost enough = { λ running input status text is.
+        taken_is_enough running.config.now.limit input status text is };
 }
 
 /// Reads a listing, runs it up to the limit of the configuration, and writes the report of the run;
@@ -53,32 +70,12 @@ pub fn alone<R: Read, W: Write, P: Predictor + Drop>(
     requires reader_room { failures_of reader.old < 2 ^ 64 - 1 }
     requires writer_room { failures_of writer.old < 2 ^ 64 - 1 }
     // The status and the text are those of the reader's bytes.
-    ensures status { IfOk result (λ status. IfSome (known_by R.remaining reader.old) (λ input.
-        status ≡ status_of config.now.limit input)) }
-    ensures text { OnOk result (IfSome (known_by R.remaining reader.old) (λ input.
-        Gives W.contents writer.old writer.new (text_of config.now.limit input))) }
-    // So many bytes were taken, or all, and no call of a device failed.
-    ensures taken { OnOk result (IfSome (known_by R.remaining reader.old) (λ input.
-        Takes R.remaining reader.old reader.new (take most_taken input))) }
-    ensures reader_quiet { OnOk result (failures_of reader.new ≡ failures_of reader.old) }
-    ensures writer_quiet { OnOk result (failures_of writer.new ≡ failures_of writer.old) }
-    // Only after a failed call of the reader is there a fault of it. What was taken is a beginning.
-    ensures err { OnErr result (TakesUpTo most_taken R.remaining reader.old reader.new) }
-    ensures read { IfErr result (λ fault. fault ≡ Fault.Read →
-        failures_of reader.new ≡ failures_of reader.old + 1) }
-    ensures well_read { IfErr result (λ fault. fault ≢ Fault.Read →
-        failures_of reader.new ≡ failures_of reader.old) }
-    // Only after a failed call of the writer is there a fault of it: a proper beginning went out.
-    ensures write { IfErr result (λ fault. fault ≡ Fault.Write →
-        failures_of writer.new ≡ failures_of writer.old + 1) }
-    ensures part { IfErr result (λ fault. fault ≡ Fault.Write →
-        IfSome (known_by R.remaining reader.old) (λ input.
-        GivesPart W.contents writer.old writer.new (text_of config.now.limit input))) }
-    // Any other fault comes before anything is written.
-    ensures silent { IfErr result (λ fault. fault ≢ Fault.Write → writer.new ≡ writer.old) }
+    ensures ok { IfOk result (λ status. HasReplied R.remaining W.contents most_taken
+        reader.old reader.new writer.old writer.new (IsAnswerAlone config.now.limit status)) }
+    // Each device is blamed for one failed call, and only then.
+    ensures err { IfErr result (λ fault. IsUnanswered R.remaining W.contents most_taken
+        reader.old reader.new writer.old writer.new (HasAnAnswer config.now.limit)
+        (unanswered fault)) }
 {
-    let listing = read_up_to(alloc, reader, MOST_TAKEN)?;
-    let (status, text) = answer(alloc, listing.as_slice(), config, predictor)?;
-    write_whole(writer, text.as_str().as_bytes())?;
-    Ok(status)
+    Ok(reply_to(alloc, reader, writer, Running { config, predictor })?)
 }

@@ -1,10 +1,9 @@
 //! What a listing comes to, and why none was run.
 ghost use Rattle.std.specs.Prelude.{◌≡◌};
 ghost use Rattle.bench.specs.Answer.{ending_status};
-ghost use Rattle.bench.specs.declared.outcome.Fault.TheVariants.{Memory as WantsMemory, Write as Unwritten};
-ghost use Rattle.bench.specs.Faults.{input_fault};
+ghost use Rattle.bench.specs.Faults.{unanswered};
 
-use devices::{InputFault, WriteFailed};
+use devices::Unanswered;
 use instructions::{Ending, Memory, Stop};
 use thiserror::Error;
 
@@ -48,29 +47,14 @@ pub enum Fault {
     Write,
 }
 
-impl From<InputFault> for Fault {
-    ghost from_gives = { λ e f. f ≡ input_fault e };
+impl From<Unanswered<Memory>> for Fault {
+    ghost from_gives = { λ e fault. unanswered fault ≡ e };
 
-    fn from(fault: InputFault) -> Fault {
-        match fault {
-            InputFault::Read => Fault::Read,
-            InputFault::Memory => Fault::Memory,
+    fn from(why: Unanswered<Memory>) -> Fault {
+        match why {
+            Unanswered::Read => Fault::Read,
+            Unanswered::Refused(Memory) => Fault::Memory,
+            Unanswered::Write => Fault::Write,
         }
-    }
-}
-
-impl From<Memory> for Fault {
-    ghost from_gives = { λ _ f. f ≡ WantsMemory };
-
-    fn from(_memory: Memory) -> Fault {
-        Fault::Memory
-    }
-}
-
-impl From<WriteFailed> for Fault {
-    ghost from_gives = { λ _ f. f ≡ Unwritten };
-
-    fn from(_failed: WriteFailed) -> Fault {
-        Fault::Write
     }
 }

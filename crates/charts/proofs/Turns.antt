@@ -21,8 +21,8 @@ use Rattle.inorder.specs.Moves.{IsReached}
 use Rattle.unit.specs.declared.bench.Turn.{Turn}
 use Rattle.unit.specs.declared.pipeline.Pipeline.{Pipeline}
 use Rattle.unit.specs.declared.station.Station.{Station}
-use Rattle.unit.specs.StandsFor.{IsUnit, StandsFor, sizes}
-use Rattle.unit.specs.Turns.{BenchFields, Does, Falls, IsSame, IsTurn, Moves, Trains, Turned}
+use Rattle.unit.specs.StandsFor.{StandsFor, StandsForSome, sizes}
+use Rattle.unit.specs.Turns.{BenchFields, Does, Falls, IsTurn, Moves, SizesStay, Trains, Turned}
 use Rattle.unit.specs.Window.{window}
 use Rattle.charts.specs.declared.telling.Format.{Format}
 use Rattle.charts.specs.Events.{events}
@@ -49,7 +49,7 @@ begins whole more rest n h = take-append-add whole (more ++ rest) n ∙ ap (λ l
 
 -- Sizes
 
-sizes_same : (b later : Pipeline) → IsSame b later → sizes later ≡ sizes b
+sizes_same : (b later : Pipeline) → SizesStay b later → sizes later ≡ sizes b
 sizes_same b later e =
     ap (λ n. record (sizes later) { ring = n }) e.ring
     ∙ ap (λ n. record (sizes later) { ring = b.ring; queue = n }) e.queue
@@ -103,7 +103,7 @@ module _ {S : Type 0} (Predicts : S → ℕ → Instr → ℕ → S → Type 0) 
       }
 
   pub stood_next : (f : Format) (P : Program) (C : Sizes) (b later : BenchFields S) (k k' : SoFar) (answer : Turn) (first : S)
-      (start now new : Option (List ℕ)) → IsTurn Predicts Learns b answer later → IsSame b.pipeline later.pipeline →
+      (start now new : Option (List ℕ)) → IsTurn Predicts Learns b answer later → SizesStay b.pipeline later.pipeline →
       k' ≡ next_kept k answer later.pipeline.window →
       Appends now new (turn_text f (raised k.turns) (events k answer later.pipeline.window)) →
       Stood Predicts Learns f P C b k first start now → Stood Predicts Learns f P C later k' first start new
@@ -131,7 +131,7 @@ module _ {S : Type 0} (Predicts : S → ℕ → Instr → ℕ → S → Type 0) 
 
   -- a turn that was told in part, or not at all
   pub stood_part : (f : Format) (P : Program) (C : Sizes) (b later : BenchFields S) (k : SoFar) (answer : Turn) (first : S)
-      (start now new : Option (List ℕ)) (n : ℕ) → IsTurn Predicts Learns b answer later → IsSame b.pipeline later.pipeline →
+      (start now new : Option (List ℕ)) (n : ℕ) → IsTurn Predicts Learns b answer later → SizesStay b.pipeline later.pipeline →
       n ≤ length (turn_text f (raised k.turns) (events k answer later.pipeline.window)) →
       Appends now new (take n (turn_text f (raised k.turns) (events k answer later.pipeline.window))) →
       Stood Predicts Learns f P C b k first start now → IsBegun Predicts Learns f P C first start new
@@ -234,14 +234,14 @@ on_err (Err e) p = p
 
 -- Where a run goes on, and where it ends
 
-run_of : (b later : Pipeline) (limit : ℕ) → IsSame b later → run_from later limit ≡ end_from b.program.now (limit - later.committed.count) later.committed
+run_of : (b later : Pipeline) (limit : ℕ) → SizesStay b later → run_from later limit ≡ end_from b.program.now (limit - later.committed.count) later.committed
 run_of b later limit same = ap (λ p. end_from p.now (limit - later.committed.count) later.committed) same.program
 
-pub goes_on : (limit : ℕ) (b later : Pipeline) (answer : Turn) → IsUnit b → Moves b answer later → IsSame b later → b.committed.count < limit →
+pub goes_on : (limit : ℕ) (b later : Pipeline) (answer : Turn) → StandsForSome b → Moves b answer later → SizesStay b later → b.committed.count < limit →
     ((c : Stop) → answer ≡ Over c → ⊥) → Falls answer b later → run_from later limit ≡ run_from b limit
 goes_on limit b later answer unit moves same less more falls = run_of b later limit same ∙ ends_same limit b later answer unit moves same less more falls
 
-pub is_over : (limit : ℕ) (b later : Pipeline) (c : Stop) → IsUnit b → Moves b (Over c) later → IsSame b later → b.committed.count < limit →
+pub is_over : (limit : ℕ) (b later : Pipeline) (c : Stop) → StandsForSome b → Moves b (Over c) later → SizesStay b later → b.committed.count < limit →
     Falls (Over c) b later → (run_from later limit).1 ≡ later.committed
 is_over limit b later c unit moves same less falls =
     ap (λ e. e.1) (run_of b later limit same ∙ ap (λ s. end_from b.program.now (limit - s.count) s) falls ∙ sym (ends_over limit b later c unit moves same less falls))

@@ -12,7 +12,7 @@ use Rattle.text.specs.Label.{statement_of}
 use Rattle.text.specs.Line.{before_comment, lines_of}
 use Rattle.isa.specs.declared.listing.fault.FaultKind.{FaultKind}
 use Rattle.isa.specs.declared.listing.fault.FaultKind.TheVariants as kind
-use Rattle.isa.specs.Listing.{Lines, labels, listing}
+use Rattle.isa.specs.Listing.{Lines, labels}
 use Rattle.instructions.specs.Programs.{Program}
 use Rattle.isa.specs.Report.{fault_line, newline}
 use Rattle.checks.specs.Forms.{known_forms}
@@ -125,9 +125,3 @@ IsCheckOf bytes (Ok P) status text =
     × (text ≡ counts_text (length P.code) (how_many_labels (lines_of bytes)) (length P.bytes))
 IsCheckOf bytes (Err fault) status text =
     (status ≡ 2) × IsExplained bytes fault.0 fault.1 text
-
--- P of what is told of the bytes of a listing
-pub record HasCheck (bytes : List ℕ) (status : ℕ) (P : List ℕ → Type 0) : Type 0 where
-  pub text : List ℕ
-  pub is : IsCheckOf bytes (listing bytes) status text
-  pub holds : P text

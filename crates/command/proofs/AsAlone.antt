@@ -8,12 +8,13 @@ use Rattle.instructions.specs.Settings.{Settings}
 use Rattle.inorder.specs.Machine.{State}
 use Rattle.inorder.specs.Runs.{end_of}
 use Rattle.devices.specs.Counted.{known_by}
+use Rattle.devices.specs.Replies.{HasText, HasTextFor}
 use Rattle.devices.specs.declared.counted.Counted.{Counted}
 use Rattle.bench.specs.Answer.{ending_status, report_of_run, status_for, status_of, text_for, text_of}
 use Rattle.requests.specs.declared.request.Asked.{Asked}
 use Rattle.without_threads.specs.declared.went.Line.{Line}
 use Rattle.without_threads.specs.declared.went.Went.{Went}
-use Rattle.without_threads.specs.Answers.{AsAlone, Early, HasAnswer, IsAnswerFor, IsAsAlone, EndedEarly, IsRunEnd, IsLineWith}
+use Rattle.without_threads.specs.Answers.{AsAlone, Early, IsAnswerFor, IsAnswerTo, IsAsAlone, EndedEarly, IsRunEnd, IsLineWith}
 use Rattle.without_threads.specs.Went.{HoldsOfInput, AtAStop, AtTheLimit, IsWhole, WithoutThreads, status_number}
 
 not_early : (limit : ℕ) (P : Program) (ending : Ending) (state : State) (went : Went) → IsWhole limit went
@@ -48,7 +49,7 @@ answers_alone asked (Ok P) text went whole is =
 answers_alone asked (Err fault) text went whole is = (ap (λ (w : Went). w.status) is.1, is.0)
 
 as_alone : (asked : Asked) (input : List ℕ) (went : Went) (P : List ℕ → Type 0) → IsWhole asked.config.limit went
-    → HasAnswer asked input went P → IsAsAlone asked.config.limit input went P
+    → HasText (IsAnswerTo asked went input) P → IsAsAlone asked.config.limit input went P
 unfolding text_of status_of
 as_alone asked input went P whole has =
     let both = answers_alone asked (listing input) has.text went whole has.is in
@@ -56,7 +57,7 @@ as_alone asked input went P whole has =
 
 -- the same of the bytes that are known
 known_as_alone : (asked : Asked) (known : Option (List ℕ)) (went : Went) (P : List ℕ → Type 0)
-    → IsWhole asked.config.limit went → IfSome known (λ input. HasAnswer asked input went P)
+    → IsWhole asked.config.limit went → HasTextFor known (IsAnswerTo asked went) P
     → IfSome known (λ input. IsAsAlone asked.config.limit input went P)
 known_as_alone asked None went P whole has = tt
 known_as_alone asked (Some input) went P whole has = as_alone asked input went P whole has
@@ -64,7 +65,7 @@ known_as_alone asked (Some input) went P whole has = as_alone asked input went P
 -- the same of a reader's bytes, where there is one
 pub reader_as_alone : {R : Type 0} (remaining : R → Option (List ℕ)) (reader : Option (Counted R)) (r : Counted R)
     → reader ≡ Some r → (asked : Asked) (went : Went) (P : List ℕ → Type 0) → IsWhole asked.config.limit went
-    → IfSome (known_by remaining r) (λ input. HasAnswer asked input went P)
+    → HasTextFor (known_by remaining r) (IsAnswerTo asked went) P
     → HoldsOfInput remaining reader (λ input. IsAsAlone asked.config.limit input went P)
 reader_as_alone remaining reader r is asked went P whole has =
     subst (λ o. HoldsOfInput remaining o (λ input. IsAsAlone asked.config.limit input went P)) (sym is)

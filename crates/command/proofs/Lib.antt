@@ -1,4 +1,4 @@
+mod Answering
 mod AsAlone
-mod Driven
 mod ThreadAnswers
 mod WholeRuns

@@ -1,5 +1,5 @@
 -- What is told of a listing that threads have run, from what is known of the end.
-use Rattle.std.proofs.Common.{◌≡◌, ◌≤◌, ◌∙◌, ℕ, inl, inr, false, List, refl, ap, sym, subst, arith, Result, Ok}
+use Rattle.std.proofs.Common.{◌≡◌, ◌≤◌, ◌∙◌, ℕ, inl, inr, false, List, refl, ap, sym, subst, arith, Option, Some, Result, Ok}
 use Rattle.std.proofs.lemmas.Bool.{cases_lt}
 use Rattle.instructions.specs.declared.end.End.{End}
 use Rattle.instructions.specs.declared.end.Ending.{Ending}
@@ -9,8 +9,12 @@ use Rattle.instructions.specs.Programs.{Program}
 use Rattle.isa.specs.Report.{report_of}
 use Rattle.instructions.specs.Settings.{Settings}
 use Rattle.inorder.specs.Runs.{state_in}
-use Rattle.bench.specs.Answer.{ending_status}
+use Rattle.bench.specs.Answer.{ending_status, most_taken}
 use Rattle.bench.specs.declared.outcome.Status.{Status}
+use Rattle.devices.specs.Replies.{HasNoReply}
+use Rattle.devices.specs.declared.counted.Counted.{Counted}
+use Rattle.pool.specs.declared.answer.Refusal.{Refusal as PoolRefusal}
+use Rattle.pool.specs.declared.answer.Refusal.TheVariants as pool
 use Rattle.pool.specs.declared.answer.Run.{Run}
 use Rattle.pool.specs.declared.answer.Run.TheVariants as run
 use Rattle.counts.specs.declared.tally.Tally.{Tally as Totals}
@@ -20,7 +24,8 @@ use Rattle.without_threads.specs.declared.went.Line.TheVariants.{Tally}
 use Rattle.without_threads.specs.declared.went.Went.{Went}
 use Rattle.without_threads.specs.Answers.{AsAlone, Early, IsAnswerFor, IsRunEnd, IsEndOfThreads, IsLineWith, IsReport}
 use Rattle.without_threads.specs.Went.{written_whole}
-use Rattle.command.specs.Threads.{ended_of}
+use Rattle.without_threads.specs.Replies.{IsUnansweredBy}
+use Rattle.command.specs.Threads.{ended_of, pool_refusal}
 use Rattle.command.proofs.WholeRuns.{at_a_stop, at_the_limit}
 
 -- what is known of the end that a run on threads has
@@ -43,7 +48,7 @@ limit_known config P end totals after outcome within turns = record {
 }
 
 run_known : (config : Settings) (P : Program) (r : Run) (end : End) (totals : Totals) → RunIsRight P r → IsWithinLimit config.limit r
-    → TakesTurns config.turns r → ended_of r ≡ Ok (end, totals) → IsKnown config P end totals
+    → TakesTurns config.turns r → ended_of r ≡ Some (end, totals) → IsKnown config P end totals
 run_known config P (run.Ended e t) end totals right within turns is =
     let same : ◌≡◌ {A = End × Totals} (e, t) (end, totals) = cc in
     let order = right.0.in_order in
@@ -73,8 +78,15 @@ pool_reports asked P end totals is known = record {
 -- the text and what is told where the threads have run the program of a listing
 pub pool_answers : (asked : Asked) (found : Result Program (ℕ × FaultKind)) (P : Program) (r : Run) (end : End) (totals : Totals)
     (status : Status) (text : List ℕ) (went : Went) → asked.alone ≡ false → found ≡ Ok P → RunIsRight P r
-    → IsWithinLimit asked.config.limit r → TakesTurns asked.config.turns r → ended_of r ≡ Ok (end, totals)
+    → IsWithinLimit asked.config.limit r → TakesTurns asked.config.turns r → ended_of r ≡ Some (end, totals)
     → status ≡ ending_status end.outcome → text ≡ report_of end
     → went ≡ written_whole status (Tally totals) → IsAnswerFor asked found text went
 pool_answers asked found P r end totals status text went is parsed right within turns ended same reported told =
     rw (parsed, reported, told, same) (pool_reports asked P end totals is (run_known asked.config P r end totals right within turns ended))
+
+-- what the threads could not have is blamed on no device
+pub refused_by_threads : {R W : Type 0} (remaining : R → Option (List ℕ)) (contents : W → Option (List ℕ)) (r r' : Counted R) (w w' : Counted W)
+    (IsText : List ℕ → List ℕ → Type 0) (why : PoolRefusal) → HasNoReply 0 remaining most_taken r r' w w'
+    → IsUnansweredBy remaining contents r r' w w' IsText (pool_refusal why)
+refused_by_threads remaining contents r r' w w' IsText pool.Memory is = is
+refused_by_threads remaining contents r r' w w' IsText pool.Thread is = is

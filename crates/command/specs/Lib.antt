@@ -1,5 +1,4 @@
 pub use Rattle.without_threads.specs.Went
 pub use Rattle.without_threads.specs.Answers
 pub use Rattle.without_threads.specs.Watched
-pub mod ByHand
 pub mod Threads

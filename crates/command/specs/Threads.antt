@@ -1,5 +1,5 @@
 -- What is told of a run on several threads.
-use Rattle.std.specs.Prelude.{Result, Ok, Err}
+use Rattle.std.specs.Prelude.{Option, Some, None}
 use Rattle.instructions.specs.declared.end.End.{End}
 use Rattle.counts.specs.declared.tally.Tally.{Tally as Totals}
 use Rattle.pool.specs.declared.answer.Refusal.{Refusal as PoolRefusal}
@@ -14,8 +14,8 @@ abbrev pub pool_refusal : PoolRefusal → Refusal
 pool_refusal pool.Memory = Memory
 pool_refusal pool.Thread = Thread
 
--- the end and the tally of a run on several threads, or what it could not have
-abbrev pub ended_of : Run → Result (End × Totals) Refusal
-ended_of (run.Ended end totals) = Ok (end, totals)
-ended_of (run.LimitReached end totals) = Ok (end, totals)
-ended_of (run.Refused why) = Err (pool_refusal why)
+-- the end and the tally of a run on several threads, if it had all that it wanted
+abbrev pub ended_of : Run → Option (End × Totals)
+ended_of (run.Ended end totals) = Some (end, totals)
+ended_of (run.LimitReached end totals) = Some (end, totals)
+ended_of (run.Refused why) = None

@@ -1,26 +1,43 @@
 //! A run on several threads.
-ghost use Rattle.std.specs.Prelude.{◌≡◌, ◌≢◌, ◌+◌, ◌-◌, ◌^◌, ◌<◌, IfSome, IfOk, IfErr, OnOk, false, string_bytes};
-ghost use Rattle.isa.specs.Listing.{listing};
-ghost use Rattle.devices.specs.Counted.{failures_of, known_by, Gives, GivesPart};
+ghost use Rattle.std.specs.Prelude.{◌≡◌, ◌-◌, ◌^◌, ◌<◌, IfOk, IfErr, Some, false, string_bytes};
+ghost use Rattle.devices.specs.Counted.{failures_of};
+ghost use Rattle.devices.specs.Replies.{HasReplied};
+ghost use Rattle.bench.specs.Answer.{most_taken};
 ghost use Rattle.pool.specs.Runs.{RunIsRight, IsWithinLimit, TakesTurns};
-ghost use Rattle.without_threads.specs.Answers.{HasAnswer, IsAnswerFor};
+ghost use Rattle.without_threads.specs.Answers.{IsAnswerTo, IsSomeAnswerTo};
+ghost use Rattle.without_threads.specs.Replies.{IsUnansweredBy};
+ghost use Rattle.without_threads.specs.Went.{WasWritten};
 ghost use Rattle.command.specs.Threads.{ended_of, pool_refusal};
 ghost use Rattle.requests.specs.Predictors.{IsChosen};
-ghost use Rattle.without_threads.specs.Went.{WasWritten};
-ghost use Rattle.without_threads.specs.declared.went.Went.{Went};
 
 use crate::{Asked, Line, Refusal, Went};
-use bench::Status;
-use devices::{Counted, read_up_to, write_whole};
-use instructions::{End, Program};
+use bench::{MOST_TAKEN, Status};
+use devices::{Counted, InputFault, read_up_to, write_whole};
+use instructions::{End, Memory, Program};
 use isa::{FaultKind, fault_text, parse, report_text};
 use pool::{Gate, Run, Tally};
 use requests::{Chosen, choose};
-use std::alloc::Global;
+use std::alloc::{AllocError, Global};
 use std::io::{Read, Write};
 use std::sync::Wait;
 use std::thread::Threads;
-use without_threads::{MOST_TAKEN, written};
+use without_threads::written;
+
+// What a run on threads could not have.
+#[derive(Drop)]
+struct Missing(pool::Refusal);
+
+impl From<AllocError> for Missing {
+    fn from(_error: AllocError) -> Missing {
+        Missing(pool::Refusal::Memory)
+    }
+}
+
+impl From<Memory> for Missing {
+    fn from(_memory: Memory) -> Missing {
+        Missing(pool::Refusal::Memory)
+    }
+}
 
 /// Reads the listing, runs it on threads and writes its report.
 pub(crate) fn run<T: Threads + Wait + Sync, R: Read, W: Write, G: Gate + Sync>(
@@ -34,25 +51,25 @@ pub(crate) fn run<T: Threads + Wait + Sync, R: Read, W: Write, G: Gate + Sync>(
     requires reader_room { failures_of reader.old < 2 ^ 64 - 1 }
     requires writer_room { failures_of writer.old < 2 ^ 64 - 1 }
     requires threads { asked.now.alone ≡ false }
-    ensures ok { IfOk result (λ went. IfSome (known_by R.remaining reader.old) (λ input.
-        HasAnswer asked.now input went (Gives W.contents writer.old writer.new))) }
+    ensures ok { IfOk result (λ went. HasReplied R.remaining W.contents most_taken
+        reader.old reader.new writer.old writer.new (IsAnswerTo asked.now went)) }
     ensures line { IfOk result (λ went. WasWritten went.line) }
-    ensures quiet { OnOk result (failures_of writer.new ≡ failures_of writer.old) }
-    ensures opened { IfErr result (λ refusal. refusal ≢ Refusal.Open) }
-    ensures unlogged { IfErr result (λ refusal. refusal ≢ Refusal.Trace) }
-    ensures read { IfErr result (λ refusal. refusal ≡ Refusal.Read →
-        failures_of reader.new ≡ failures_of reader.old + 1) }
-    ensures write { IfErr result (λ refusal. refusal ≡ Refusal.Write →
-        failures_of writer.new ≡ failures_of writer.old + 1) }
-    ensures part { IfErr result (λ refusal. refusal ≡ Refusal.Write →
-        IfSome (known_by R.remaining reader.old) (λ input. (went : Went) ×
-        HasAnswer asked.now input went (GivesPart W.contents writer.old writer.new))) }
-    ensures silent { IfErr result (λ refusal. refusal ≢ Refusal.Write → writer.new ≡ writer.old) }
+    ensures err { IfErr result (IsUnansweredBy R.remaining W.contents
+        reader.old reader.new writer.old writer.new (IsSomeAnswerTo asked.now)) }
 {
-    let listing = read_up_to(alloc, reader, MOST_TAKEN)?;
-    let (went, text) = answer(wait, alloc, asked, listing.as_slice(), gate)?;
-    write_whole(writer, text.as_str().as_bytes())?;
-    Ok(went)
+    let listing = match read_up_to(alloc, reader, MOST_TAKEN) {
+        Ok(listing) => listing,
+        Err(InputFault::Read) => return Err(Refusal::Read),
+        Err(InputFault::Memory) => return Err(Refusal::Memory),
+    };
+    let (went, text) = match answer(wait, alloc, asked, listing.as_slice(), gate) {
+        Ok(answer) => answer,
+        Err(Missing(refusal)) => return Err(pool_refusal(refusal)),
+    };
+    match write_whole(writer, text.as_str().as_bytes()) {
+        Ok(()) => Ok(went),
+        Err(_) => Err(Refusal::Write),
+    }
 }
 
 // What is told of a listing, and what is written for it.
@@ -62,15 +79,11 @@ fn answer<T: Threads + Wait + Sync, G: Gate + Sync>(
     asked: &Asked<'_>,
     bytes: &[u8],
     gate: &G,
-) -> Result<(Went, String), Refusal>
+) -> Result<(Went, String), Missing>
     requires threads { asked.now.alone ≡ false }
     ensures ok { IfOk result (λ answer.
-        IsAnswerFor asked.now (listing bytes.now) (string_bytes answer.1) answer.0) }
+        IsAnswerTo asked.now answer.0 bytes.now (string_bytes answer.1)) }
     ensures line { IfOk result (λ answer. WasWritten answer.0.line) }
-    ensures opened { IfErr result (λ refusal. refusal ≢ Refusal.Open) }
-    ensures unlogged { IfErr result (λ refusal. refusal ≢ Refusal.Trace) }
-    ensures unwritten { IfErr result (λ refusal. refusal ≢ Refusal.Write) }
-    ensures has_read { IfErr result (λ refusal. refusal ≢ Refusal.Read) }
 {
     match parse(alloc, bytes) {
         Ok(program) => {
@@ -80,7 +93,7 @@ fn answer<T: Threads + Wait + Sync, G: Gate + Sync>(
             let text = report_text(alloc, &end)?;
             Ok((written(Status::of(end.outcome), Line::Tally(tally)), text))
         },
-        Err(fault) if fault.kind == FaultKind::Memory => Err(Refusal::Memory),
+        Err(fault) if fault.kind == FaultKind::Memory => Err(Missing(pool::Refusal::Memory)),
         Err(fault) => {
             let text = fault_text(alloc, &fault)?;
             Ok((written(Status::TextFault, Line::Nothing), text))
@@ -105,12 +118,12 @@ fn predicted<T: Threads + Wait + Sync, G: Gate + Sync>(
     pool::run(wait, alloc, program, &asked.config, predictor, gate)
 }
 
-fn ended(run: Run) -> Result<(End, Tally), Refusal>
-    ensures { result ≡ ended_of run }
+fn ended(run: Run) -> Result<(End, Tally), Missing>
+    ensures { IfOk result (λ ended. ended_of run ≡ Some ended) }
 {
     match run {
         Run::Ended(end, tally) | Run::LimitReached(end, tally) => Ok((end, tally)),
-        Run::Refused(refusal) => Err(pool_refusal(refusal)),
+        Run::Refused(refusal) => Err(Missing(refusal)),
     }
 }
 

@@ -17,7 +17,7 @@ use Rattle.drive.proofs.Histories.{starts_same}
 use Rattle.drive.proofs.Jobs.{job_later}
 use Rattle.station.specs.declared.answers.Claim.{Claim}
 use Rattle.station.specs.Laws.{JobsStaySeen}
-use Rattle.station.specs.Seats.{Caller, IsSame, TheCore}
+use Rattle.station.specs.Seats.{Caller, IsSameSeat, TheCore}
 
 pub at_place : (units : List (Option Worker)) (at : ℕ) (x : Option Worker) → at < length units → x ≡ get_or units at x → worker_at units at ≡ x
 at_place units at x within is = get_or_default units at None x within ∙ sym is
@@ -90,7 +90,7 @@ taken_seen units at w same = go (worker_at units at) same
     go (Some v) f = subst (λ (u : Worker). StartsWith w.seat.seen u.seat.seen) (f v refl) (starts_same w.seat.seen)
 
 -- A unit that has met still holds its job
-pub still_works : (core : TheCore) (stay : JobsStaySeen) (w : Worker) (seat : Caller) → IsWorker core w → IsSame w.seat seat → Adds core.program core.sizes w.seat.by w.seat.seen seat.seen [] →
+pub still_works : (core : TheCore) (stay : JobsStaySeen) (w : Worker) (seat : Caller) → IsWorker core w → IsSameSeat w.seat seat → Adds core.program core.sizes w.seat.by w.seat.seen seat.seen [] →
     IsWorker core (record { seat = seat; job = w.job })
 still_works core stay w seat is same adds = record {
   core_is = same.core ∙ is.core_is;

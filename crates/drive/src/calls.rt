@@ -5,7 +5,7 @@ ghost use Rattle.drive.specs.Moments.{GrowsLegally};
 ghost use Rattle.front.specs.Rests.{rested_after};
 ghost use Rattle.drive.specs.Replies.{HoldsWhatIs, IsClaim, IsCommit, IsCreatorNow, IsFinish, IsLook, IsRecovery, IsRefresh, IsRest, IsShown, IsTurn};
 ghost use Rattle.station.specs.Claiming.{Holds};
-ghost use Rattle.station.specs.Seats.{IsSame};
+ghost use Rattle.station.specs.Seats.{IsSameSeat};
 
 use back::{Back, Commit, Mark, Naming, Refresh};
 use front::{Front, Made, Recovery, Rest, Turn};
@@ -19,7 +19,7 @@ use std::sync::Wait;
 pub fn turn<P: Predictor + Drop>(core: &Core, all: &mut UnitSeat, front: &mut Front<'_, P>) -> Turn
     requires all { all.old.core ≡ core.now }
     requires front { front.old.core ≡ core.now }
-    ensures all { IsSame all.old all.new }
+    ensures all { IsSameSeat all.old all.new }
     ensures front { front.new.core ≡ core.now }
     ensures told { front.new.told ≡ front.old.told }
     ensures grows { GrowsLegally core.now all.old.seen all.new.seen }
@@ -39,7 +39,7 @@ pub fn recover<P: Predictor + Drop>(
 ) -> Recovery
     requires all { all.old.core ≡ core.now }
     requires front { front.old.core ≡ core.now }
-    ensures all { IsSame all.old all.new }
+    ensures all { IsSameSeat all.old all.new }
     ensures front { front.new.core ≡ core.now }
     ensures told { front.new.told ≡ front.old.told }
     ensures grows { GrowsLegally core.now all.old.seen all.new.seen }
@@ -55,7 +55,7 @@ pub fn recover<P: Predictor + Drop>(
 pub fn refresh<J: Naming>(core: &Core, all: &mut UnitSeat, back: &mut Back<J>) -> Refresh
     requires all { all.old.core ≡ core.now }
     requires back { back.old.core ≡ core.now }
-    ensures all { IsSame all.old all.new }
+    ensures all { IsSameSeat all.old all.new }
     ensures back { IsSameBack back.old back.new }
     ensures grows { GrowsLegally core.now all.old.seen all.new.seen }
     ensures reply { IsRefresh core.now back.old.by all.old.seen all.new.seen result }
@@ -71,8 +71,8 @@ pub fn claim(core: &Core, all: &mut UnitSeat, seat: &mut UnitSeat, station: usiz
     requires all { all.old.core ≡ core.now }
     requires seat { seat.old.core ≡ core.now }
     requires station { station < core.now.sizes.ring }
-    ensures all { IsSame all.old all.new }
-    ensures seat { IsSame seat.old seat.new }
+    ensures all { IsSameSeat all.old all.new }
+    ensures seat { IsSameSeat seat.old seat.new }
     ensures grows { GrowsLegally core.now all.old.seen all.new.seen }
     ensures reply { IsClaim core.now seat.old.by all.old.seen all.new.seen station result }
     ensures holds { HoldsWhatIs core.now seat.new result }
@@ -96,8 +96,8 @@ pub fn finish(
     requires seat { seat.old.core ≡ core.now }
     requires program { program.now ≡ core.now.program }
     requires job { Holds core.now.program core.now.sizes seat.old.by seat.old.seen job }
-    ensures all { IsSame all.old all.new }
-    ensures seat { IsSame seat.old seat.new }
+    ensures all { IsSameSeat all.old all.new }
+    ensures seat { IsSameSeat seat.old seat.new }
     ensures grows { GrowsLegally core.now all.old.seen all.new.seen }
     ensures reply { IsFinish core.now seat.old.by all.old.seen all.new.seen job result }
 {
@@ -116,7 +116,7 @@ pub fn commit<J: Naming>(core: &Core, all: &mut UnitSeat, back: &mut Back<J>) ->
     requires all { all.old.core ≡ core.now }
     requires back { back.old.core ≡ core.now }
     requires count { (back_state back.old).count < 2 ^ 64 - 1 }
-    ensures all { IsSame all.old all.new }
+    ensures all { IsSameSeat all.old all.new }
     ensures core { back.new.core ≡ core.now }
     ensures by { back.new.by ≡ back.old.by }
     ensures grows { GrowsLegally core.now all.old.seen all.new.seen }
@@ -137,7 +137,7 @@ pub fn show<J: Naming, R: Wait>(
 ) -> Result<Mark, Memory>
     requires all { all.old.core ≡ core.now }
     requires back { back.old.core ≡ core.now }
-    ensures all { IsSame all.old all.new }
+    ensures all { IsSameSeat all.old all.new }
     ensures back { IsSameBack (record back.old { shown = back.new.shown }) back.new }
     ensures grows { GrowsLegally core.now all.old.seen all.new.seen }
     ensures reply { IfOk result (IsShown core.now all.old.seen all.new.seen) }
@@ -156,7 +156,7 @@ pub fn look<P: Predictor + Drop>(
     requires all { all.old.core ≡ core.now }
     requires front { front.old.core ≡ core.now }
     requires station { station < core.now.sizes.ring }
-    ensures all { IsSame all.old all.new }
+    ensures all { IsSameSeat all.old all.new }
     ensures front { front.new.core ≡ core.now }
     ensures told { front.new.told ≡ front.old.told }
     ensures touched { front.new.touched ≡ front.old.touched }
@@ -174,7 +174,7 @@ pub fn look<P: Predictor + Drop>(
 pub fn rest<P: Predictor + Drop>(core: &Core, all: &mut UnitSeat, front: &mut Front<'_, P>) -> Rest
     requires all { all.old.core ≡ core.now }
     requires front { front.old.core ≡ core.now }
-    ensures all { IsSame all.old all.new }
+    ensures all { IsSameSeat all.old all.new }
     ensures front { front.new.core ≡ core.now }
     ensures rested { front.new.rested ≡ rested_after front.old.rested result }
     ensures touched { front.new.touched ≡ front.old.touched }
@@ -196,7 +196,7 @@ pub fn creator<P: Predictor + Drop>(
 ) -> Made
     requires all { all.old.core ≡ core.now }
     requires front { front.old.core ≡ core.now }
-    ensures all { IsSame all.old all.new }
+    ensures all { IsSameSeat all.old all.new }
     ensures front { front.new.core ≡ core.now }
     ensures told { front.new.told ≡ front.old.told }
     ensures touched { front.new.touched ≡ front.old.touched }

@@ -1,6 +1,6 @@
 //! A unit that meets the seat that has seen all.
 ghost use Rattle.std.specs.Prelude.{◌≡◌, ◌<◌, vec_len};
-ghost use Rattle.station.specs.Seats.{IsSame};
+ghost use Rattle.station.specs.Seats.{IsSameSeat};
 ghost use Rattle.drive.specs.Moments.{GrowsLegally};
 ghost use Rattle.drive.specs.Workers.{AreWorkers, UnitHasSeen};
 
@@ -17,7 +17,7 @@ pub(crate) fn tell_all(
     requires all { all.old.core ≡ core.now }
     requires unit { unit < vec_len units.old }
     requires workers { AreWorkers core.now units.old.items }
-    ensures all { IsSame all.old all.new }
+    ensures all { IsSameSeat all.old all.new }
     ensures grows { GrowsLegally core.now all.old.seen all.new.seen }
     ensures workers { AreWorkers core.now units.new.items }
     ensures places { vec_len units.new ≡ vec_len units.old }

@@ -3,7 +3,7 @@ ghost use Rattle.std.specs.Prelude.{◌≡◌, ◌<◌};
 ghost use Rattle.back.specs.Backs.{IsSameBack};
 ghost use Rattle.drive.specs.Moments.{GrowsLegally};
 ghost use Rattle.drive.specs.Replies.{IsInfoSeen, IsOperandSeen, source_at};
-ghost use Rattle.station.specs.Seats.{IsSame};
+ghost use Rattle.station.specs.Seats.{IsSameSeat};
 
 use crate::commands::Which;
 use crate::replies::Info;
@@ -15,7 +15,7 @@ pub fn info<J: Naming>(core: &Core, all: &mut UnitSeat, back: &mut Back<J>, stat
     requires all { all.old.core ≡ core.now }
     requires back { back.old.core ≡ core.now }
     requires station { station < core.now.sizes.ring }
-    ensures all { IsSame all.old all.new }
+    ensures all { IsSameSeat all.old all.new }
     ensures back { IsSameBack back.old back.new }
     ensures grows { GrowsLegally core.now all.old.seen all.new.seen }
     ensures reply { IsInfoSeen core.now all.old.seen all.new.seen station result }
@@ -50,7 +50,7 @@ pub fn operand<J: Naming>(
     requires all { all.old.core ≡ core.now }
     requires back { back.old.core ≡ core.now }
     requires station { station < core.now.sizes.ring }
-    ensures all { IsSame all.old all.new }
+    ensures all { IsSameSeat all.old all.new }
     ensures back { IsSameBack back.old back.new }
     ensures grows { GrowsLegally core.now all.old.seen all.new.seen }
     ensures reply { IsOperandSeen core.now all.old.seen all.new.seen station

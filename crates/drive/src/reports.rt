@@ -4,7 +4,7 @@ ghost use Rattle.back.specs.Backs.{IsSameBack, back_state};
 ghost use Rattle.back.specs.Ends.{ending_of};
 ghost use Rattle.inorder.specs.Runs.{state_in};
 ghost use Rattle.drive.specs.Moments.{GrowsLegally};
-ghost use Rattle.station.specs.Seats.{IsSame};
+ghost use Rattle.station.specs.Seats.{IsSameSeat};
 
 use back::{Back, Naming};
 use inorder::Machine;
@@ -33,7 +33,7 @@ pub(crate) fn report<J: Naming>(
     requires all { all.old.core ≡ core.now }
     requires back { back.old.core ≡ core.now }
     requires program { program.now ≡ core.now.program }
-    ensures all { IsSame all.old all.new }
+    ensures all { IsSameSeat all.old all.new }
     ensures back { IsSameBack back.old back.new }
     ensures grows { GrowsLegally core.now all.old.seen all.new.seen }
     ensures state { IfOk result (λ end. state_in end ≡ back_state back.old) }

@@ -1,6 +1,6 @@
 //! The units of a session, and the jobs that they hold.
 ghost use Rattle.std.specs.Prelude.{◌≡◌, ◌<◌, IfOk, None, Some, slice_set, vec_len};
-ghost use Rattle.station.specs.Seats.{IsSame};
+ghost use Rattle.station.specs.Seats.{IsSameSeat};
 ghost use Rattle.drive.specs.Held.{claim_of, held_job};
 ghost use Rattle.drive.specs.Moments.{GrowsLegally};
 ghost use Rattle.drive.specs.Workers.{AreWorkers, HasClaimed, UnitHasFinished, HasNone, IsWorker, job_at, job_from, worker_at};
@@ -141,7 +141,7 @@ pub(crate) fn forget_units(units: &mut Vec<Option<Worker>>)
 
 fn part(seat: UnitSeat, core: &Core) -> (UnitSeat, UnitSeat)
     requires { seat.core ≡ core.now }
-    ensures kept { IsSame seat result.0 }
+    ensures kept { IsSameSeat seat result.0 }
     ensures history { result.0.seen ≡ seat.seen }
     ensures other { result.1.core ≡ core.now }
 {
@@ -158,7 +158,7 @@ pub(crate) fn take_worker(
     requires all { all.old.core ≡ core.now }
     requires unit { unit < vec_len units.old }
     requires workers { AreWorkers core.now units.old.items }
-    ensures all { IsSame all.old all.new }
+    ensures all { IsSameSeat all.old all.new }
     ensures history { all.new.seen ≡ all.old.seen }
     ensures worker { IsWorker core.now result }
     ensures job { result.job ≡ job_at units.old.items unit }
@@ -187,7 +187,7 @@ pub(crate) fn claim_by(
     requires workers { AreWorkers core.now units.old.items }
     requires station { station < core.now.sizes.ring }
     requires free { job_at units.old.items unit ≡ None }
-    ensures all { IsSame all.old all.new }
+    ensures all { IsSameSeat all.old all.new }
     ensures grows { GrowsLegally core.now all.old.seen all.new.seen }
     ensures workers { AreWorkers core.now units.new.items }
     ensures places { vec_len units.new ≡ vec_len units.old }
@@ -215,7 +215,7 @@ pub(crate) fn finish_by(
     requires unit { unit < vec_len units.old }
     requires workers { AreWorkers core.now units.old.items }
     requires holds { job_at units.old.items unit ≡ Some held }
-    ensures all { IsSame all.old all.new }
+    ensures all { IsSameSeat all.old all.new }
     ensures grows { GrowsLegally core.now all.old.seen all.new.seen }
     ensures workers { AreWorkers core.now units.new.items }
     ensures places { vec_len units.new ≡ vec_len units.old }

@@ -21,7 +21,7 @@ use Rattle.inorder.specs.Unit.{Sizes, UpdateUnit}
 use Rattle.station.specs.declared.answers.Finish.{Finish as Answer}
 use Rattle.station.specs.declared.answers.Finish.TheVariants.{Finished, Stale}
 use Rattle.station.specs.Seats.{TheCore}
-use Rattle.station.specs.Writeback.{FinishAnswers, IsCarried, IsWalk, outcome_of as outcome_of_job}
+use Rattle.station.specs.Writeback.{FinishAnswers, IsCarried, IsWalk, job_outcome}
 use Rattle.driving.specs.Chains.{IsChain, IsWorkedOut, first_result}
 use Rattle.driving.proofs.SetUp.{IsSetUp}
 use Rattle.driving.proofs.Known.{exactly}
@@ -70,7 +70,7 @@ module _ (core : TheCore) (predicted : ℕ) (set : IsSetUp core predicted) where
         let here = is_claim P C predicted by w.claimed.holds.p (subst (λ (U : UpdateUnit). MayAct P U.tenants by w.claimed.holds.p Claim) unit legal_mid.1.1) in
         ap (unit_of P C) claimed_is ∙ (λ i. applied P C (unit i) by (On (here i) Claim))
 
-    computes : outcome_of_job P w.job ≡ Value v
+    computes : job_outcome P w.job ≡ Value v
     computes =
         let f = w.fields_are in
         let first : w.job.a ≡ 0 = ap (λ (z : JobFields). z.first) f ∙ either (needs (kind_of P a) First) 0 in

@@ -1,11 +1,11 @@
 -- What the meetings of the first unit with all others come to.
 use Rattle.std.proofs.Common.{◌≡◌, [], ◌∙◌, subst}
 use Rattle.inorder.specs.OneHistory.{Adds}
-use Rattle.station.specs.Seats.{Caller, IsSame, TheCore}
+use Rattle.station.specs.Seats.{Caller, IsSameSeat, TheCore}
 use Rattle.driving.specs.Hands.{HasHeardMore}
 use Rattle.driving.proofs.Histories.{starts_on}
 
-pub later : (core : TheCore) (v w : Caller) → IsSame v w → w.heirs ≡ v.heirs → Adds core.program core.sizes v.by v.seen w.seen [] → HasHeardMore core v w
+pub later : (core : TheCore) (v w : Caller) → IsSameSeat v w → w.heirs ≡ v.heirs → Adds core.program core.sizes v.by v.seen w.seen [] → HasHeardMore core v w
 later core v w same heirs adds = record { core_is = same.core; by_is = same.by; heirs_are = heirs; adds = adds }
 
 pub later_on : (core : TheCore) (u v w : Caller) → HasHeardMore core u v → HasHeardMore core v w → HasHeardMore core u w

@@ -1,5 +1,6 @@
 -- Who has all seats of a core in one hand knows what was done, to the letter.
-use Rattle.std.proofs.Common.{◌≡◌, ◌≢◌, ℕ, cond, List, [], ◌∷◌, ◌++◌, map, length, refl, sym, ap, ◌∙◌, subst, ⊎_elim, arith, length-append, eq-eqb, ne_eqb}
+use Rattle.std.proofs.Common.{◌≡◌, ◌≢◌, ℕ, List, [], ◌∷◌, ◌++◌, map, length, refl, sym, ap, ◌∙◌, subst, ⊎_elim, arith, length-append}
+use Rattle.std.proofs.lemmas.List.{append_cancel_right}
 use mathlib.Core.Logic.{dite}
 use native.Mathlib.Decide.{ℕ_discrete}
 use Rattle.inorder.specs.declared.history.Entry.{Entry}
@@ -12,15 +13,9 @@ use Rattle.driving.specs.declared.seats.Seats.{Seats}
 use Rattle.driving.specs.Done.{GoesOnAlone, HaveDone}
 use Rattle.driving.specs.Hands.{AreAll, HaveMetTwice, HasHeardMore}
 use Rattle.driving.proofs.Histories.{own-append, same_between, starts_on, starts_same}
-use Rattle.inorder.proofs.Histories.{none_from}
+use Rattle.inorder.proofs.Histories.{none_from, own_else, own_here}
 
 -- Histories
-
-own_here : (by : ℕ) (e : Entry) (es : List Entry) → e.by ≡ by → own by (e ∷ es) ≡ e ∷ own by es
-own_here by e es h = ap (λ b. cond b (e ∷ own by es) (own by es)) (eq-eqb e.by by h)
-
-own_else : (by : ℕ) (e : Entry) (es : List Entry) → e.by ≢ by → own by (e ∷ es) ≡ own by es
-own_else by e es h = ap (λ b. cond b (e ∷ own by es) (own by es)) (ne_eqb e.by by h)
 
 -- where nobody else has done anything, all entries are the caller's own
 all_own : (by : ℕ) (more : List Entry) → ((n : ℕ) → n ≢ by → own n more ≡ []) → own by more ≡ more
@@ -33,22 +28,12 @@ longer : (xs ys : List Entry) → length (xs ++ ys) ≡ length ys → xs ≡ []
 longer [] ys e = refl
 longer (x ∷ xs) ys e = let l = length-append xs ys in absurd (omega arith)
 
-cancel : (xs ys zs : List Entry) → xs ++ zs ≡ ys ++ zs → xs ≡ ys
-cancel [] [] zs e = refl
-cancel [] (y ∷ ys) zs e = sym (longer (y ∷ ys) zs (ap (λ l. length l) (sym e)))
-cancel (x ∷ xs) [] zs e = longer (x ∷ xs) zs (ap (λ l. length l) e)
-cancel (x ∷ xs) (y ∷ ys) zs e =
-    let head : x ≡ y = cc e in
-    let rest : xs ++ zs ≡ ys ++ zs = cc e in
-    let more = cancel xs ys zs rest in
-    λ i. head i ∷ more i
-
 -- so a history that goes on from another has these entries behind it, and no others
 pub exactly : (by : ℕ) (old new : List Entry) (events : List Event) → StartsWith new old → ((n : ℕ) → n ≢ by → own n new ≡ own n old) → own by new ≡ map (entry by) events ++ own by old
     → new ≡ map (entry by) events ++ old
 exactly by old new events s alone mine =
     let none : (n : ℕ) → n ≢ by → own n s.more ≡ [] = λ n ne. longer (own n s.more) (own n old) (ap (λ l. length l) (sym (own-append n s.more old) ∙ (sym (ap (own n) s.is) ∙ alone n ne))) in
-    let its : own by s.more ≡ map (entry by) events = cancel (own by s.more) (map (entry by) events) (own by old) (sym (own-append by s.more old) ∙ (sym (ap (own by) s.is) ∙ mine)) in
+    let its : own by s.more ≡ map (entry by) events = append_cancel_right (own by s.more) (map (entry by) events) (own by old) (sym (own-append by s.more old) ∙ (sym (ap (own by) s.is) ∙ mine)) in
     s.is ∙ ap (λ z. z ++ old) (sym (all_own by s.more none) ∙ its)
 
 legal_before : (P : Rattle.instructions.specs.Programs.Program) (C : Rattle.inorder.specs.Unit.Sizes) (more h : List Entry) → IsLegal P C (more ++ h) → IsLegal P C h

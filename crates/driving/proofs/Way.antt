@@ -26,8 +26,8 @@ use Rattle.station.specs.Laws.{JobsStaySeen}
 use Rattle.station.specs.Letting.{MayLetOut, let_of, supply_of}
 use Rattle.station.specs.Moments.{WasOnce}
 use Rattle.station.specs.Quiet.{ClaimsGiveJobs, IsClaimable, IsLetAs, LetsAreOut}
-use Rattle.station.specs.Seats.{Caller, IsSame, TheCore}
-use Rattle.station.specs.Writeback.{FinishAnswers, outcome_of}
+use Rattle.station.specs.Seats.{Caller, IsSameSeat, TheCore}
+use Rattle.station.specs.Writeback.{FinishAnswers, job_outcome}
 use Rattle.driving.specs.declared.seats.Seats.{Seats}
 use Rattle.driving.specs.Hands.{AreAll, HaveHeard, KnowsUnits}
 use Rattle.driving.specs.Works.{HasCome, HasBothValues, IsWorkedRight}
@@ -85,7 +85,7 @@ one_value v w e = cc e
 
 -- and so it comes to what the definitions say
 pub is_right : (P : Program) (C : Sizes) (U : UpdateUnit) (t : NewTenant) (values : HasBothValues t) (tag named : ℕ) (j : Job) (outcome : Outcome) → MayLetOut P C U t →
-    HasItsFields P t values named (front_pc U.tenants) j → outcome ≡ outcome_of P j → IsWorkedRight P U t (record { tag = tag; pc = j.pc; a = j.a; b = j.b; outcome = outcome })
+    HasItsFields P t values named (front_pc U.tenants) j → outcome ≡ job_outcome P j → IsWorkedRight P U t (record { tag = tag; pc = j.pc; a = j.a; b = j.b; outcome = outcome })
 is_right P C U t values tag named j outcome may f is = record {
   pc = f.pc_is;
   first = λ v e. f.first_is ∙ one_value values.a v (sym (first_value P C U t values may) ∙ e);
@@ -102,7 +102,7 @@ module _ (core : TheCore) where
 
   -- from the let to the claim
   module _ (s : Seats) (all : AreAll core s) (knows : KnowsUnits s) (t : NewTenant) (values : HasBothValues t) (may : MayLetOut P C (unit_of P C s.front.seen) t)
-      (f : Caller) (kept : IsSame s.front f) (lets : Adds P C s.front.by s.front.seen f.seen (let_of t ∷ []))
+      (f : Caller) (kept : IsSameSeat s.front f) (lets : Adds P C s.front.by s.front.seen f.seen (let_of t ∷ []))
       (m : Seats) (all_met : AreAll core m) (met : HaveHeard core (record s { front = f }) m) where
     abbrev before : List Entry
     before = s.front.seen
@@ -196,7 +196,7 @@ module _ (core : TheCore) where
           record { job = j.job; is = j.is; fields = its_fields P t values tag pc u j.job out.tenant.tag_is its j.fields_are }
 
     -- and its outcome is written
-    module _ (o : Caller) (same : IsSame m.one o) (heirs : o.heirs ≡ m.one.heirs) (station : ℕ) (j : Job) (claimed : IsClaimed P C m.one.by m.one.seen o.seen station j)
+    module _ (o : Caller) (same : IsSameSeat m.one o) (heirs : o.heirs ≡ m.one.heirs) (station : ℕ) (j : Job) (claimed : IsClaimed P C m.one.by m.one.seen o.seen station j)
         (n : Seats) (end : HaveHeard core (record m { one = o }) n) where
       pub still_holds : JobsStaySeen → Holds P C n.one.by n.one.seen j
       still_holds jobs_stay =
@@ -222,7 +222,7 @@ module _ (core : TheCore) where
             let late : IsInFlight P C n.one.seen j = stay P C o.seen n.one.seen j b end.one.adds.legal (only o.seen n.one.seen a b written_at) early in
             finished P C n.one.by n.one.seen w.seen j answer (only n.one.seen w.seen (starts_on m.one.seen o.seen n.one.seen a b) written_at (starts_same w.seen)) (still_holds jobs_stay) late reply
 
-        pub comes_to : (g : ℕ) (outcome : Outcome) → j.tag ≡ g → outcome ≡ outcome_of P j → HasFinished P C w.seen j answer → WasOnce P C s.one.seen z.one.seen (HasCome station g outcome)
+        pub comes_to : (g : ℕ) (outcome : Outcome) → j.tag ≡ g → outcome ≡ job_outcome P j → HasFinished P C w.seen j answer → WasOnce P C s.one.seen z.one.seen (HasCome station g outcome)
         comes_to g outcome tag_is is h =
             let i = h.tenant.named in
             record {

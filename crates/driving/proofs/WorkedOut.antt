@@ -11,7 +11,7 @@ use Rattle.station.specs.declared.answers.Job.{Job}
 use Rattle.station.specs.Claiming.{fields_of}
 use Rattle.station.specs.Quiet.{ClaimsGiveJobs, IsClaimable, IsJobOf}
 use Rattle.station.specs.Seats.{TheCore}
-use Rattle.station.specs.Writeback.{outcome_of}
+use Rattle.station.specs.Writeback.{job_outcome}
 use Rattle.inorder.specs.Replies.{job_of}
 use Rattle.driving.specs.declared.seats.Seats.{Seats}
 use Rattle.driving.specs.Chains.{WorksOut}
@@ -27,7 +27,7 @@ module _ (core : TheCore) (t : Seats) (by : ℕ) (unit : IsUnit by) (station : �
 same_job : (a b : Job) → Claimed a ≡ Claimed b → a ≡ b
 same_job a b e = cc e
 
-pub works_out : (core : TheCore) (t u : Seats) (by : ℕ) (unit : IsUnit by) (station : ℕ) (job : Job) (outcome : Outcome) → outcome ≡ outcome_of core.program job → (old : List Entry)
+pub works_out : (core : TheCore) (t u : Seats) (by : ℕ) (unit : IsUnit by) (station : ℕ) (job : Job) (outcome : Outcome) → outcome ≡ job_outcome core.program job → (old : List Entry)
     → (claimed : GoesOnAlone core t by old (IsClaimedNext core by station (Claimed job))) → t.one.by ≡ by → (answer : Finish) →
     GoesOnAlone core u t.one.by claimed.all (IsFinishedNext core t.one.by job answer)
     → ClaimsGiveJobs → GoesOnAlone core u by old (WorksOut core by station outcome)

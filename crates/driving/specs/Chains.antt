@@ -17,7 +17,7 @@ use Rattle.station.specs.declared.answers.Job.{Job}
 use Rattle.station.specs.Claiming.{IsClaimed, fields_of}
 use Rattle.station.specs.Quiet.{IsClaimable}
 use Rattle.station.specs.Seats.{TheCore}
-use Rattle.station.specs.Writeback.{FinishAnswers, outcome_of as outcome_of_job}
+use Rattle.station.specs.Writeback.{FinishAnswers, job_outcome}
 use Rattle.inorder.specs.History.{own}
 use Rattle.driving.specs.Done.{unit_after}
 
@@ -53,7 +53,7 @@ pub record IsWorkedOut (core : TheCore) (by : ℕ) (t : Tenant) (station : ℕ) 
     (old new : List Entry) : Type 0 where
   pub job : Job
   pub fields_are : fields_of job ≡ job_of core.program t
-  pub outcome_is : outcome ≡ outcome_of_job core.program job
+  pub outcome_is : outcome ≡ job_outcome core.program job
   pub mid : List Entry
   pub claimed : IsClaimed core.program core.sizes by old mid station job
   pub alone : (n : ℕ) → n ≢ by → own n mid ≡ own n old

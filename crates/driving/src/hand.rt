@@ -2,7 +2,7 @@
 //! nobody else can have done anything.
 ghost use Rattle.std.specs.Prelude.{◌≡◌, ◌<◌};
 ghost use Rattle.inorder.specs.History.{front};
-ghost use Rattle.station.specs.Writeback.{outcome_of};
+ghost use Rattle.station.specs.Writeback.{job_outcome};
 ghost use Rattle.driving.specs.Done.{HoldsNext, InAll, IsAskedNext, IsClaimedNext, IsFinishedNext, IsLetNext, CallLeads, MayAskNext, MayLetNext};
 ghost use Rattle.driving.specs.Hands.{AreAll, HaveMetTwice};
 
@@ -74,7 +74,7 @@ pub(crate) fn claim_next(core: &Core, seats: &mut Seats, station: usize) -> Clai
 pub(crate) fn finish_next(core: &Core, seats: &mut Seats, job: Job, outcome: Outcome) -> Finish
     requires all { AreAll core.now seats.old }
     requires job { InAll core.now seats.old (HoldsNext core.now seats.old.one.by job) }
-    requires outcome { outcome ≡ outcome_of core.now.program job }
+    requires outcome { outcome ≡ job_outcome core.now.program job }
     ensures all { AreAll core.now seats.new }
     ensures done { CallLeads core.now seats.old seats.new seats.old.one.by
         (IsFinishedNext core.now seats.old.one.by job result) }

@@ -2,6 +2,7 @@
 use Rattle.std.proofs.Common.{◌≡◌, ℕ, ◌<◌, List, ◌++◌, Option, Some, None, refl, sym, ap, ◌∙◌, subst, cond, ⊎_elim, arith, ◌≤◌}
 use Rattle.std.specs.List.{AllByRecursion}
 use Rattle.std.specs.Prelude.{slice_get, slice_index}
+use Rattle.std.proofs.lemmas.Option.{same_Some}
 use Rattle.instructions.specs.Programs.{Program}
 use Rattle.inorder.specs.Callers.{IsLastAt}
 use Rattle.inorder.specs.Tenants.{Tenant}
@@ -23,12 +24,6 @@ use Rattle.front.proofs.Lists.{all_front, all_rest, all_two}
 use Rattle.front.proofs.Places.{kept_new}
 use Rattle.front.proofs.Supplied.{no_maker, written_by}
 use Rattle.front.proofs.Trails.{IsNoted, trail_noted}
-
-same_place : (p q : ℕ) → Some p ≡ Some q → p ≡ q
-same_place p q e = cc e
-
-same_tenant : (t u : Tenant) → Some t ≡ Some u → t ≡ u
-same_tenant t u e = cc e
 
 module _ (P : Program) (C : Sizes) (U : UpdateUnit) (records : List Record) (base : Base) (k : FrontKnows P C U records base) (T : Table) (table : HasTable P U (rested_at base) T) (r : ℕ)
     (small : r < 34) where
@@ -137,9 +132,9 @@ module _ (P : Program) (C : Sizes) (U : UpdateUnit) (records : List Record) (bas
               IsLastAt U p t.station → ⊥
           by None x p t creates is new last = let no : None ≡ Some p = ap position (sym x) ∙ creates in cc no
           by (Some n) x p t creates is new last =
-              let here : n.at ≡ p = same_place n.at p (ap position (sym x) ∙ creates) in
+              let here : n.at ≡ p = same_Some n.at p (ap position (sym x) ∙ creates) in
               let its = older_one n x in
-              let same : its.1.tenant ≡ t = same_tenant its.1.tenant t (sym its.1.is ∙ (ap (at U.tenants) here ∙ is)) in
+              let same : its.1.tenant ≡ t = same_Some its.1.tenant t (sym its.1.is ∙ (ap (at U.tenants) here ∙ is)) in
               let place : t.station ≡ n.what.station = ap (λ (z : Tenant). z.station) (sym same) ∙ ap (λ (z : Record). z.station) its.1.what in
               ⊎_elim
               (λ (i : IsReused U n). last i.p i.tenant.tenant (subst (λ z. z < i.p) here i.behind) i.tenant.is (i.tenant.fact ∙ sym place))

@@ -1,6 +1,7 @@
 -- The look at the oldest of as many loads and stores as the queue takes.
 use Rattle.std.proofs.Common.{◌≡◌, ◌≢◌, ℕ, suc, ◌≤◌, List, [], ◌∷◌, ◌++◌, Some, sym, ap, ◌∙◌, subst, arith, false}
 use Rattle.std.specs.List.{AllByRecursion}
+use Rattle.std.proofs.lemmas.Option.{same_Some}
 use Rattle.instructions.specs.Programs.{Program}
 use Rattle.inorder.specs.declared.history.Entry.{Entry}
 use Rattle.inorder.specs.History.{IsLegal, unit_of}
@@ -23,9 +24,6 @@ use Rattle.front.proofs.Stations.{last_now, left_there}
 use Rattle.front.proofs.Trails.{IsNoted}
 use Rattle.front.specs.Path.{rested_at}
 use Rattle.front.proofs.Places.{kept_new}
-
-same_tenant : (t u : Tenant) → Some t ≡ Some u → t ≡ u
-same_tenant t u e = cc e
 
 pub all_in : (Q : Record → Type 0) (older : List Record) (x : Record) (younger : List Record) → AllByRecursion Q (older ++ x ∷ younger) → Q x
 all_in Q [] x younger a = a.0
@@ -71,7 +69,7 @@ module _ (P : Program) (C : Sizes) (h : List Entry) (legal : IsLegal P C h) (rec
   full_there ne e =
       let named : NamedNow C U x.station = live_there P C h legal x.station seen sees ne in
       let same = same_place P C h legal x.station seen sees named split.one.at its.tenant its.is place (λ q u lt is here. newest q u lt is (here ∙ sym at_place)) in
-      let one : named.tenant ≡ its.tenant = same_tenant named.tenant its.tenant (sym named.is ∙ (ap (at U.tenants) same ∙ its.is)) in
+      let one : named.tenant ≡ its.tenant = same_Some named.tenant its.tenant (sym named.is ∙ (ap (at U.tenants) same ∙ its.is)) in
       let live : its.tenant.standing ≡ Live = ap (λ (z : Tenant). z.standing) (sym one) ∙ named.live in
       let many = behind_live P C h legal records base k b.older x b.younger b.are live b.access in
       let most = queue_room P C h legal in

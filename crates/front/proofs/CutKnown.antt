@@ -3,6 +3,7 @@ use Rattle.std.proofs.Common.{◌≡◌, ◌≢◌, ℕ, ◌+◌, ◌<◌, true,
 use Rattle.std.proofs.lemmas.Bool.{cases_lt}
 use Rattle.std.specs.List.{AllByRecursion}
 use Rattle.std.specs.Prelude.{slice_index}
+use Rattle.std.proofs.lemmas.Option.{same_Some}
 use Rattle.instructions.specs.Programs.{Program}
 use Rattle.inorder.specs.declared.history.Act.{Act}
 use Rattle.inorder.specs.declared.history.Act.TheVariants.{Mend, Squash}
@@ -36,9 +37,6 @@ off_not_live t off live = true≢false (sym (ap stands_on_path live) ∙ off)
 off_at : (ys : List Tenant) (t : Tenant) (ts : List Tenant) → AllByRecursion IsOff ys → (q : ℕ) (u : Tenant) → length ts < q → at (ys ++ t ∷ ts) q ≡ Some u → IsOff u
 off_at ys t ts off q u lt is = younger_at IsOff (ys ++ t ∷ ts) (length ts) (subst (AllByRecursion IsOff) (sym (younger_middle ys t ts)) off) q u lt is
 
-same_tenant : (t u : Tenant) → Some t ≡ Some u → t ≡ u
-same_tenant t u e = cc e
-
 -- older ones that are live: a tenant of the path is live
 pub live_on : (P : Program) (t : Tenant) (ts : List Tenant) → IsSound P (t ∷ ts) → on_path t ≡ true → (q : ℕ) (u : Tenant) → at ts q ≡ Some u → u.standing ≡ Live → t.standing ≡ Live
 live_on P t ts ok on q u is live = go t.standing refl
@@ -66,7 +64,7 @@ this_one P ys t ts ok off on p u is live youngest = ⊎_elim below (λ ge. ⊎_e
     us = ys ++ t ∷ ts
 
     here : p ≡ length ts → IsThisOne p u t ts
-    here e = record { position = e; tenant = same_tenant u t (sym is ∙ (ap (at us) e ∙ at_middle ys t ts)) }
+    here e = record { position = e; tenant = same_Some u t (sym is ∙ (ap (at us) e ∙ at_middle ys t ts)) }
 
     below : p < length ts → IsThisOne p u t ts
     below lt =
@@ -181,7 +179,7 @@ module _ (P : Program) (C : Sizes) (U : UpdateUnit) (ok : IsSound P U.tenants) (
       let whole : trail P U.tenants ≡ (k.gone ++ fs) ++ x ∷ [] = k.path ∙ (ap (λ z. k.gone ++ z) e ∙ sym (append_assoc k.gone fs (x ∷ []))) in
       let o = last_on P U.tenants (k.gone ++ fs) x whole in
       let this = acted P C U ok (k.gone ++ fs) x o p a.tenant a.is a.may.live a.may.youngest in
-      let fate : o.tenant.fate ≡ Miss next = ap (λ (z : Tenant). z.fate) (same_tenant o.tenant m.tenant (sym (at_last P C U ok (k.gone ++ fs) x o) ∙ m.is)) ∙ m.fact.fate in
+      let fate : o.tenant.fate ≡ Miss next = ap (λ (z : Tenant). z.fate) (same_Some o.tenant m.tenant (sym (at_last P C U ok (k.gone ++ fs) x o) ∙ m.is)) ∙ m.fact.fate in
       let y : Note = mended_note P C U ok (k.gone ++ fs) x o next in
       let same = Rattle.front.proofs.Cuts.both_same rest (whats fs) one x.what (k.are ∙ (ap whats e ∙ whats_append fs (x ∷ []))) in
       let long = length-append fs (x ∷ []) in

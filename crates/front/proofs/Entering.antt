@@ -1,14 +1,12 @@
 -- A front that leaves its core, and one that enters another.
-use Rattle.std.proofs.Common.{◌≡◌, true, false, ◌%◌, ◌<◌, ℕ, List, [], ◌∷◌, ◌++◌, length, Some, refl, sym, ap, ◌∙◌, subst, inr, arith, zero, suc}
-use Rattle.std.proofs.Math.Nat.{zero-mod}
+use Rattle.std.proofs.Common.{◌≡◌, true, false, ◌%◌, ◌<◌, ℕ, List, [], ◌∷◌, ◌++◌, length, Some, refl, sym, ap, ◌∙◌, subst, inr, arith}
 use Rattle.std.specs.List.{AllByRecursion}
 use Rattle.std.specs.Prelude.{slice_index}
 use Rattle.instructions.specs.Programs.{Program}
-use Rattle.inorder.specs.declared.history.Entry.{Entry}
-use Rattle.inorder.specs.History.{IsLegal, front, own, unit_of}
-use Rattle.inorder.specs.Unit.{Sizes, UpdateUnit, at, front_half, front_pc, newest_of, next_station, recent, value_of}
+use Rattle.inorder.specs.History.{IsLegal, unit_of}
+use Rattle.inorder.specs.Unit.{Sizes, UpdateUnit, at, front_half, front_pc, next_station, recent, value_of}
 use Rattle.inorder.proofs.Positions.{at_below}
-use Rattle.station.specs.Seats.{Caller, TheCore}
+use Rattle.station.specs.Seats.{Caller}
 use Rattle.front.proofs.Fronts.{nobody}
 use Rattle.front.specs.declared.path.base_state.Base.{Base}
 use Rattle.front.specs.declared.path.counted.Counted.{Counted}
@@ -88,7 +86,9 @@ module _ (P : Program) (C : Sizes) (U V : UpdateUnit) (same : V.tenants ≡ U.te
     entries = λ r pos less. k.entries r pos less ∙ (λ i. Some (table_entry_in (one i) (trail P (sym same i)) r));
     latest = λ p t le is last. absurd (let b = at_below V.tenants p t is in omega (arith, b, le, all'));
     stale = λ p q t u le lt is is' place s e. absurd (let b = at_below V.tenants p t is in omega (arith, b, le, all'));
-    replaced = λ xs ys n split le. absurd (let i : IsNoted P V.tenants n = (all_rest (IsNoted P V.tenants) xs (n ∷ ys) (subst (AllByRecursion (IsNoted P V.tenants)) split (trail_noted P V.tenants))).0 in let b = at_below V.tenants n.at i.tenant i.is in omega (arith, b, le, all'));
+    replaced = λ xs ys n split le. absurd
+        (let i : IsNoted P V.tenants n = (all_rest (IsNoted P V.tenants) xs (n ∷ ys) (subst (AllByRecursion (IsNoted P V.tenants)) split (trail_noted P V.tenants))).0 in
+        let b = at_below V.tenants n.at i.tenant i.is in omega (arith, b, le, all'));
   }
     where
       one : told ≡ new
@@ -121,16 +121,6 @@ entered v w base new creators path P s g program legal none is station told regi
           (subst (λ (z : Program). HasTable z V (rested_at new) creators.table) (sym g.program) moved);
       rests = λ r. absurd (cc r);
     }
-
--- where nothing was let the first station is the next
-pub first_place : (core : TheCore) (h : List Entry) → IsLegal core.program core.sizes h → own front h ≡ [] → next_at core h ≡ 0
-first_place core h legal none =
-    let empty = nobody core.program core.sizes h legal none in
-    ap (λ z. next_station core.sizes (newest_of (unit_of core.program core.sizes h).fresh z)) empty ∙ (nothing (unit_of core.program core.sizes h).fresh ∙ zero-mod core.sizes.ring)
-  where
-    nothing : (n : ℕ) → next_station core.sizes (newest_of n []) ≡ 0 % core.sizes.ring
-    nothing zero = refl
-    nothing (suc n) = refl
 
 -- where it left, the base has the next station
 pub still_next : (v w : Caller) (base : Base) (creators : Counted) → FrontIsStill v base creators →

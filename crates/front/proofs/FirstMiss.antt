@@ -57,9 +57,6 @@ of_whats : (Q : Record → Type 0) (xs : List Note) → AllByRecursion Q (whats 
 of_whats Q [] a = tt
 of_whats Q (x ∷ xs) a = (a.0, of_whats Q xs a.1)
 
-same_tenant : (t u : Tenant) → Some t ≡ Some u → t ≡ u
-same_tenant t u e = cc e
-
 less_not : (p q : ℕ) → p < q → p ≡ q → ⊥
 less_not p q h e = absurd (omega (arith, h, e))
 

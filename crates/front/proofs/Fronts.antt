@@ -15,7 +15,7 @@ use Rattle.inorder.proofs.Letting.{IsBesides}
 use Rattle.inorder.proofs.SettledRegisters.{zeros}
 use Rattle.inorder.proofs.Sound.{IsSound}
 use Rattle.ruu_words.proofs.Stays.{front_stays}
-use Rattle.station.specs.Seats.{Caller, IsSame, TheCore}
+use Rattle.station.specs.Seats.{Caller, IsSameSeat, TheCore}
 use Rattle.instructions.specs.declared.op.Half.TheVariants.{Low}
 use Rattle.inorder.proofs.Positions.{at_below}
 use Rattle.std.specs.List.{AllByRecursion}
@@ -41,7 +41,7 @@ use Rattle.front.proofs.Splitting.{stays}
 use Rattle.front.proofs.Stays.{knows_stable}
 
 -- a call that added nothing
-pub still_front : (core : TheCore) (P : Program) (v w : Caller) (path : Path) (creators : Counted) (rested : Bool) → v.core ≡ core → IsFront P v path creators rested → IsSame v w
+pub still_front : (core : TheCore) (P : Program) (v w : Caller) (path : Path) (creators : Counted) (rested : Bool) → v.core ≡ core → IsFront P v path creators rested → IsSameSeat v w
     → Adds core.program core.sizes v.by v.seen w.seen [] → IsFront P w path creators rested
 still_front core P v w path creators rested e f same adds =
     let Fact : TheCore → Type 0 = λ c. Adds c.program c.sizes front v.seen w.seen [] in
@@ -68,7 +68,7 @@ still_front core P v w path creators rested e f same adds =
 
 -- after a call that knows
 pub front_again : (core : TheCore) (P : Program) (v w : Caller) (path path' : Path) (creators creators' : Counted) (rested rested' : Bool) →
-    v.core ≡ core → IsFront P v path creators rested → IsSame v w
+    v.core ≡ core → IsFront P v path creators rested → IsSameSeat v w
     → IsLegal core.program core.sizes w.seen → FrontKnows core.program core.sizes (unit_of core.program core.sizes w.seen) path'.records path'.base
     → HasTable core.program (unit_of core.program core.sizes w.seen) (rested_at path'.base) creators'.table → (rested' ≡ true → HasRested core w.seen path') → IsFront P w path' creators' rested'
 front_again core P v w path path' creators creators' rested rested' e f same legal knows table rests =
@@ -170,7 +170,9 @@ forgotten P U told T all entries deep = record {
   entries = λ r pos less. ap (λ z. slice_get z r) entries ∙ (nothing_at r 34 less ∙ ap Some (sym (none r (newest_note None (trail P U.tenants) r) refl)));
   latest = λ p t new is last. absurd (let b = at_below U.tenants p t is in omega (arith, b, new, all));
   stale = λ p q t u new lt is is' same s e. absurd (let b = at_below U.tenants p t is in omega (arith, b, new, all));
-  replaced = λ xs ys n split new. absurd (let i : IsNoted P U.tenants n = (all_rest (IsNoted P U.tenants) xs (n ∷ ys) (subst (AllByRecursion (IsNoted P U.tenants)) split (trail_noted P U.tenants))).0 in let b = at_below U.tenants n.at i.tenant i.is in omega (arith, b, new, all));
+  replaced = λ xs ys n split new. absurd
+      (let i : IsNoted P U.tenants n = (all_rest (IsNoted P U.tenants) xs (n ∷ ys) (subst (AllByRecursion (IsNoted P U.tenants)) split (trail_noted P U.tenants))).0 in
+      let b = at_below U.tenants n.at i.tenant i.is in omega (arith, b, new, all));
 }
   where
     none : (r : ℕ) (o : Option Note) → newest_note None (trail P U.tenants) r ≡ o → table_entry told o ≡ None

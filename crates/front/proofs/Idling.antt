@@ -7,7 +7,7 @@ use Rattle.ruu_words.specs.declared.station.StationState.{StationState}
 use Rattle.ruu_words.specs.declared.station.StationState.TheVariants.{Free}
 use Rattle.station.specs.declared.answers.Seen.{Seen}
 use Rattle.station.specs.Looking.{SeesStation}
-use Rattle.station.specs.Seats.{Caller, IsSame, TheCore}
+use Rattle.station.specs.Seats.{Caller, IsSameSeat, TheCore}
 use Rattle.front.specs.declared.path.Path.{Path}
 use Rattle.front.specs.declared.path.record.Record.{Record}
 use Rattle.front.specs.Knows.{IsFolded, IsNewest, FrontKnows}
@@ -23,11 +23,11 @@ use Rattle.front.proofs.Trails.{IsNoted}
 
 -- A seat has seen that nobody is live, and has added nothing
 pub record HasSeen (core : TheCore) (v w : Caller) : Type 0 where
-  pub same : IsSame v w
+  pub same : IsSameSeat v w
   pub adds : Adds core.program core.sizes front v.seen w.seen []
   pub nobody : HasNobody (unit_of core.program core.sizes w.seen)
 
-module _ (core : TheCore) (v w : Caller) (same : IsSame v w) (path : Path) (k : FrontKnows core.program core.sizes (unit_of core.program core.sizes v.seen) path.records path.base)
+module _ (core : TheCore) (v w : Caller) (same : IsSameSeat v w) (path : Path) (k : FrontKnows core.program core.sizes (unit_of core.program core.sizes v.seen) path.records path.base)
     (adds : Adds core.program core.sizes front v.seen w.seen []) where
   knows_now : FrontKnows core.program core.sizes (unit_of core.program core.sizes w.seen) path.records path.base
   knows_now = stays core.program core.sizes (λ U. FrontKnows core.program core.sizes U path.records path.base) (knows_stable core.program core.sizes path.records path.base) v.seen w.seen adds k

@@ -4,6 +4,7 @@ use Rattle.std.proofs.Common.{append_assoc}
 use Rattle.std.proofs.lemmas.List.{append-nil, take-append-drop}
 use Rattle.std.specs.List.{AllByRecursion}
 use Rattle.std.specs.Prelude.{slice_get}
+use Rattle.std.proofs.lemmas.Option.{same_Some}
 use Rattle.instructions.specs.Instruction.{is_access, kind}
 use Rattle.instructions.specs.Programs.{Program, instr_of}
 use Rattle.inorder.specs.declared.history.Entry.{Entry}
@@ -22,6 +23,7 @@ use Rattle.inorder.proofs.Moves.{changed_goes}
 use Rattle.inorder.proofs.Positions.{at_below}
 use Rattle.inorder.proofs.Sound.{IsSound}
 use Rattle.inorder.proofs.OneCaller.Middle.{sound_from}
+use Rattle.inorder.proofs.Letting.{how_many_fewer}
 use Rattle.front.specs.Path.{rested_at}
 use Rattle.front.specs.declared.path.base_state.Base.{Base}
 use Rattle.front.specs.declared.path.record.Record.{Record}
@@ -64,20 +66,6 @@ access_same xs j x h e a = ap memory_records (one_back xs j x h e) ∙ ap (λ b.
 
 -- No more are live than the queue takes
 
-count_fewer : (f : Tenant → Bool) (t t' : Tenant) (ts ys : List Tenant) → (f t' ≡ true → f t ≡ true) → how_many f (ys ++ t' ∷ ts) ≤ how_many f (ys ++ t ∷ ts)
-count_fewer f t t' ts [] h = go (f t') (f t) h
-  where
-    go : (a b : Bool) → (a ≡ true → b ≡ true) → cond a (suc (how_many f ts)) (how_many f ts) ≤ cond b (suc (how_many f ts)) (how_many f ts)
-    go true b g = subst (λ x. suc (how_many f ts) ≤ cond x (suc (how_many f ts)) (how_many f ts)) (sym (g refl)) (omega arith)
-    go false true g = omega arith
-    go false false g = omega arith
-count_fewer f t t' ts (y ∷ ys) h = go (f y) (count_fewer f t t' ts ys h)
-  where
-    go : (b : Bool) → how_many f (ys ++ t' ∷ ts) ≤ how_many f (ys ++ t ∷ ts) →
-        cond b (suc (how_many f (ys ++ t' ∷ ts))) (how_many f (ys ++ t' ∷ ts)) ≤ cond b (suc (how_many f (ys ++ t ∷ ts))) (how_many f (ys ++ t ∷ ts))
-    go true m = omega arith
-    go false m = m
-
 live_access : (P : Program) (t t' : Tenant) → t'.index ≡ t.index → (t'.standing ≡ Live → t.standing ≡ Live) → is_live_access P t' ≡ true → is_live_access P t ≡ true
 live_access P t t' index live h = go t'.standing refl
   where
@@ -102,7 +90,7 @@ fewer_under P C U by (On p act) a ok h =
     let split = split_at us p t a.is in
     let own = sound_mid P t (older us p) (younger us p) (subst (IsSound P) split ok) in
     let m = changed_goes P by p act (younger us p) t (older us p) a.may own in
-    let fewer = count_fewer (is_live_access P) t (changed P by act t (older us p)) (older us p) (younger us p) (live_access P t (changed P by act t (older us p)) m.index m.live) in
+    let fewer = how_many_fewer (is_live_access P) t (changed P by act t (older us p)) (older us p) (younger us p) (live_access P t (changed P by act t (older us p)) m.index m.live) in
     let was : how_many_accesses P U ≡ how_many (is_live_access P) (younger us p ++ t ∷ older us p) = ap (how_many (is_live_access P)) split in
     let now : how_many_accesses P (applied P C U by (On p act)) ≡ how_many (is_live_access P) (younger us p ++ changed P by act t (older us p) ∷ older us p) = ap (how_many (is_live_access P))
     (parts P us by p act t a.is) in
@@ -156,9 +144,6 @@ ordered P (t ∷ ts) xs x ys e = go (on_path t) refl (ordered P ts)
           after = subst (AllByRecursion (λ m. x.at < m.at)) (sym l.is) (all_both (λ m. x.at < m.at) l.front (l.one ∷ []) i.after (last, tt));
         })
         (last_cases ys)
-
-same_tenant : (t u : Tenant) → Some t ≡ Some u → t ≡ u
-same_tenant t u e = cc e
 
 -- a tenant of the path behind a live one is live
 pub live_behind : (P : Program) (us : List Tenant) → IsSound P us → (p q : ℕ) (t u : Tenant) → p < q → at us p ≡ Some t → t.standing ≡ Live → at us q ≡ Some u → on_path u ≡ true → u.standing ≡ Live
@@ -247,11 +232,11 @@ module _ (P : Program) (C : Sizes) (h : List Entry) (legal : IsLegal P C h) (rec
   U = unit_of P C h
 
   gone_fail : (n : Note) → IsGone U n → FailsAt P (is_live_access P) is_access_note U.tenants n
-  gone_fail n g t is = not_live_fails P t (λ live. retired_not (sym g.fact ∙ (ap (λ (z : Tenant). z.standing) (same_tenant g.tenant t (sym g.is ∙ is)) ∙ live)))
+  gone_fail n g t is = not_live_fails P t (λ live. retired_not (sym g.fact ∙ (ap (λ (z : Tenant). z.standing) (same_Some g.tenant t (sym g.is ∙ is)) ∙ live)))
 
   noted_says : (n : Note) → IsNoted P U.tenants n → SaysAt P (is_live_access P) is_access_note U.tenants n
   noted_says n i t is test =
-      ap (λ (z : Record). z.access) (sym i.what) ∙ (ap (λ (z : Tenant). is_access (kind_of P z)) (same_tenant i.tenant t (sym i.is ∙ is)) ∙ access_only (is_live t) (is_access (kind_of P t)) test)
+      ap (λ (z : Record). z.access) (sym i.what) ∙ (ap (λ (z : Tenant). is_access (kind_of P z)) (same_Some i.tenant t (sym i.is ∙ is)) ∙ access_only (is_live t) (is_access (kind_of P t)) test)
 
   noted : AllByRecursion (IsNoted P U.tenants) k.notes
   noted = notes_noted P C h legal records base (IsFolded U (rested_at base)) k
@@ -312,7 +297,7 @@ module _ (P : Program) (C : Sizes) (h : List Entry) (legal : IsLegal P C h) (rec
       where
         true_of : (n : Note) → (i : IsNoted P U.tenants n) → i.tenant.standing ≡ Live → TrueAt P (is_live_access P) is_access_note U.tenants n
         true_of n i live t is access =
-            let one = same_tenant i.tenant t (sym i.is ∙ is) in
+            let one = same_Some i.tenant t (sym i.is ∙ is) in
             let its : is_access (kind_of P t) ≡ true = ap (λ (z : Tenant). is_access (kind_of P z)) (sym one) ∙ (ap (λ (z : Record). z.access) i.what ∙ access) in
             ap (λ (z : Tenant). stands_live z.standing && is_access (kind_of P t)) (sym one) ∙ (ap (λ z. stands_live z && is_access (kind_of P t)) live ∙ its)
 

@@ -5,6 +5,7 @@ use mathlib.Core.Logic.{dite}
 use native.Mathlib.Decide.{ℕ_discrete}
 use Rattle.std.proofs.lemmas.List.{append-nil}
 use Rattle.std.specs.List.{AllByRecursion}
+use Rattle.std.proofs.lemmas.Option.{same_Some}
 use Rattle.instructions.specs.Guesses.{IsTold}
 use Rattle.instructions.specs.Programs.{Program}
 use Rattle.inorder.specs.Callers.{is_retired, stands_retired}
@@ -24,9 +25,6 @@ use Rattle.front.proofs.Lists.{Last, all_front, all_rest, all_two, last_cases, l
 use Rattle.front.proofs.Resting.{left_path}
 use Rattle.front.proofs.Trained.{went_on}
 use Rattle.front.proofs.Trails.{trail_off, trail_on}
-
-same_tenant : (t u : Tenant) → Some t ≡ Some u → t ≡ u
-same_tenant t u e = cc e
 
 -- Tellings, one behind the other
 
@@ -82,7 +80,7 @@ there_again [] ts s q u is le place = let b = at_below ts q u is in absurd (omeg
 there_again (y ∷ ys) ts s q u is le place = dite (ℕ_discrete q (length ts))
     (λ same.
     let there : at (glue ys (y ∷ ts)) q ≡ Some y = ap (at (glue ys (y ∷ ts))) same ∙ at_glue ys (y ∷ ts) (length ts) y (at_new y ts) in
-    let one : y ≡ u = same_tenant y u (sym there ∙ is) in
+    let one : y ≡ u = same_Some y u (sym there ∙ is) in
     ap (λ b. b || is_let_to ys s) (eq-eqb y.station s (ap (λ (z : Tenant). z.station) one ∙ place)))
     (λ ne. or_true (eqb y.station s) (is_let_to ys s) (there_again ys (y ∷ ts) s q u is (omega (arith, le, ne)) place))
   where
@@ -172,7 +170,8 @@ module _ {S : Type 0} (Learns : S → ℕ → ℕ → S → Type 0) (P : Program
           let its : IsIn (note P ts t) = subst IsIn (sym two.ones) (all_rest IsIn l.front (l.one ∷ []) parts).0 in
           let last = tells_last Learns (whats l.front) l.one.what a b (subst (λ z. TellsRecords Learns z a b) (ap whats l.is ∙ whats_append l.front (l.one ∷ [])) tells) in
           let before = rest g l.front two.fronts outs (all_front IsIn l.front (l.one ∷ []) parts) a last.middle last.first in
-          let one : IsTold Learns (leaver_if (is_guessed P t) t.pc t.next) last.middle b = subst (λ (z : Note). IsTold Learns (leaver_if z.what.guessed z.what.pc z.what.next) last.middle b) (sym two.ones) last.last in
+          let one : IsTold Learns (leaver_if (is_guessed P t) t.pc t.next) last.middle b =
+          subst (λ (z : Note). IsTold Learns (leaver_if z.what.guessed z.what.pc z.what.next) last.middle b) (sym two.ones) last.last in
           subst (λ z. TellsEach Learns P (all_untold told (t ∷ younger) ts ++ cond z (t ∷ []) []) a b) (sym (in_untold t ts younger split e its))
           (each_more Learns P (all_untold told (t ∷ younger) ts) t a last.middle b before (told_it t ts younger split e last.middle b one))
 

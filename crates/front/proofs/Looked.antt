@@ -1,5 +1,6 @@
 -- What the looks before a let tell: why nothing can be let, or that it can.
 use Rattle.std.proofs.Common.{◌≡◌, ◌≢◌, ℕ, ◌+◌, ◌<◌, ◌≤◌, true, false, List, [], ◌∷◌, length, Some, None, refl, sym, ap, ◌∙◌, subst, arith, eqb}
+use Rattle.std.proofs.lemmas.Option.{same_Some}
 use Rattle.instructions.specs.declared.op.Half.{Half}
 use Rattle.instructions.specs.Programs.{Program, instr_at}
 use Rattle.instructions.specs.declared.instr.Instr.{Instr}
@@ -40,9 +41,6 @@ use Rattle.front.proofs.Stays.{knows_stable, place_stays, quiet_of}
 use Rattle.inorder.proofs.Recent.{counts_same, old_kept}
 use Rattle.inorder.proofs.Letting.{IsBesides}
 
-same_tenant : (t u : Tenant) → Some t ≡ Some u → t ≡ u
-same_tenant t u e = cc e
-
 -- What stays
 
 pub tag_stable : (P : Program) (C : Sizes) (n : ℕ) → IsStable P C (λ U. next_tag C (recent U) ≡ n)
@@ -60,7 +58,7 @@ pub left_stable : (P : Program) (C : Sizes) (p s g left : ℕ) → IsStable P C 
 left_stable P C p s g left U by st b a ok i =
     let z = gone_there P C U by st a ok p i.tenant i.is i.fact.retired in
     let m = goes P C U by st a ok p i.tenant i.is in
-    let one = same_tenant m.tenant z.tenant (sym m.is ∙ z.is) in
+    let one = same_Some m.tenant z.tenant (sym m.is ∙ z.is) in
     record {
       tenant = z.tenant;
       is = z.is;

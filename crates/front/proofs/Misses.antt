@@ -3,6 +3,7 @@ use Rattle.std.proofs.Common.{◌≡◌, ◌≢◌, ℕ, zero, suc, ◌+◌, tru
 use Rattle.std.proofs.lemmas.Bool.{cases_lt}
 use Rattle.std.specs.List.{AllByRecursion}
 use Rattle.std.specs.Prelude.{slice_get}
+use Rattle.std.proofs.lemmas.Option.{same_Some}
 use Rattle.instructions.specs.Programs.{Program}
 use Rattle.inorder.specs.declared.history.Entry.{Entry}
 use Rattle.inorder.specs.History.{IsLegal, front, taken_of, unit_of}
@@ -38,9 +39,6 @@ use Rattle.inorder.proofs.Sound.{IsSound}
 use Rattle.inorder.proofs.Stations.{is_ring, stands}
 use Rattle.front.proofs.Jumps.{only_jumps}
 
-same_tenant : (t u : Tenant) → Some t ≡ Some u → t ≡ u
-same_tenant t u e = cc e
-
 not_free : MissState ≢ Free
 not_free e = cc e
 
@@ -67,7 +65,7 @@ module _ (P : Program) (C : Sizes) where
       let now = stays P C (λ U. Has U p (IsMissing x)) (miss_stable P C p x) old new adds (record { tenant = t; is = is; fact = m }) in
       let still = place_stays P C p t adds.begins.more old (subst (IsLegal P C) adds.begins.is adds.legal) is in
       let there : at (unit_of P C new).tenants p ≡ Some still.tenant = ap (λ z. at (unit_of P C z).tenants p) adds.begins.is ∙ still.is in
-      let at_place : now.tenant.station ≡ r.station = ap (λ (z : Tenant). z.station) (same_tenant now.tenant still.tenant (sym now.is ∙ there)) ∙ (still.fact.0 ∙ place) in
+      let at_place : now.tenant.station ≡ r.station = ap (λ (z : Tenant). z.station) (same_Some now.tenant still.tenant (sym now.is ∙ there)) ∙ (still.fact.0 ∙ place) in
       ne (shows_miss P C new adds.legal r.station seen sees p x now.tenant now.is at_place now.fact)
 
   module _ (h : List Entry) (legal : IsLegal P C h) (records : List Record) (base : Base) (k : FrontKnows P C (unit_of P C h) records base) where
@@ -94,7 +92,7 @@ module _ (P : Program) (C : Sizes) where
         let b = live_there P C h legal x.station seen sees (λ f. not_free (sym miss ∙ f)) in
         let place : there.tenant.station ≡ x.station = ap (λ (z : Record). z.station) there.what in
         let same = same_place P C h legal x.station seen sees b there.p there.tenant there.is place there.last in
-        let one : b.tenant ≡ there.tenant = same_tenant b.tenant there.tenant (sym b.is ∙ (ap (at U.tenants) same ∙ there.is)) in
+        let one : b.tenant ≡ there.tenant = same_Some b.tenant there.tenant (sym b.is ∙ (ap (at U.tenants) same ∙ there.is)) in
         record {
           p = there.p;
           tenant = record {
@@ -119,17 +117,17 @@ module _ (P : Program) (C : Sizes) where
         (λ lt. absurd (younger_at (λ u. u.station ≢ t.station) us p last there.p there.tenant lt there.is its))
         (λ ge. ⊎_elim (λ gt. absurd (there.last p t gt is place)) (λ le. omega (arith, ge, le)) (cases_lt there.p p))
         (cases_lt p there.p) in
-        let one : t ≡ there.tenant = same_tenant t there.tenant (sym is ∙ (ap (at us) same ∙ there.is)) in
+        let one : t ≡ there.tenant = same_Some t there.tenant (sym is ∙ (ap (at us) same ∙ there.is)) in
         let own = (sound_mid P t (older us p) (younger us p) (subst (IsSound P) (split_at us p t is) (unit_sound P C h legal))).own in
         let may = only_jumps P t y ((follows_from P (older us p) t own).fate.miss y m.fate) in
         true≢false (sym may ∙ (ap (λ z. may_miss (record_of P z)) one ∙ (ap may_miss there.what ∙ none)))
 
     pub gone_miss : (n : Note) → IsGone U n → (x : ℕ) (t : Tenant) → at U.tenants n.at ≡ Some t → ¬ IsMissing x t
-    gone_miss n g x t is m = gone_live (sym g.fact ∙ (ap (λ (z : Tenant). z.standing) (same_tenant g.tenant t (sym g.is ∙ is)) ∙ m.live))
+    gone_miss n g x t is m = gone_live (sym g.fact ∙ (ap (λ (z : Tenant). z.standing) (same_Some g.tenant t (sym g.is ∙ is)) ∙ m.live))
 
     pub named_miss : (n : Note) → IsNoted P U.tenants n → IsNoLiveMiss U n.what → (x : ℕ) (t : Tenant) → at U.tenants n.at ≡ Some t → ¬ IsMissing x t
     named_miss n i none x t is m =
-        let one = same_tenant i.tenant t (sym i.is ∙ is) in
+        let one = same_Some i.tenant t (sym i.is ∙ is) in
         none n.at x t is (ap (λ (z : Tenant). z.station) (sym one) ∙ ap (λ (z : Record). z.station) i.what) (ap (λ (z : Tenant). z.tag) (sym one) ∙ ap (λ (z : Record). z.tag) i.what) m
 
     -- no record is a miss: nobody is

@@ -1,5 +1,6 @@
 -- What was true once in a call, and refusals.
-use Rattle.std.proofs.Common.{◌≡◌, ◌≢◌, ℕ, ◌<◌, ◌≤◌, true, List, [], Option, Some, None, refl, sym, ap, ◌∙◌, subst, arith}
+use Rattle.std.proofs.Common.{◌≡◌, ◌≢◌, ℕ, ◌<◌, true, List, Some, None, sym, ap, ◌∙◌, arith}
+use Rattle.std.proofs.lemmas.Option.{same_Some}
 use Rattle.instructions.specs.Instruction.{is_access, kind}
 use Rattle.instructions.specs.Programs.{Program, address, instr_at, instr_of}
 use Rattle.instructions.specs.declared.instr.Instr.{Instr}
@@ -77,16 +78,13 @@ module _ (P : Program) (C : Sizes) where
         full = q.1;
       }
 
-  same_instr : (i j : Instr) → Some i ≡ Some j → i ≡ j
-  same_instr i j e = cc e
-
   pub queue_free : (h : List Entry) (records : List Record) (base : Base) →
       FrontKnows P C (unit_of P C h) records base → (pc : ℕ) (i : Instr) → pc ≡ pc_behind base records →
       instr_at P pc ≡ Some i → QueueSays P C (unit_of P C h) i Rattle.std.proofs.Common.false →
       ¬ HasFullQueue P C (unit_of P C h)
   queue_free h records base k pc i e f q full =
       let there : pc ≡ address full.index = e ∙ (sym (known_pc P C (unit_of P C h) records base (IsFolded (unit_of P C h) (rested_at base)) k) ∙ full.pc) in
-      let one : i ≡ instr_of P full.index = same_instr i (instr_of P full.index) (sym f ∙ (ap (instr_at P) there ∙ fetched_at P full.index full.is_there)) in
+      let one : i ≡ instr_of P full.index = same_Some i (instr_of P full.index) (sym f ∙ (ap (instr_at P) there ∙ fetched_at P full.index full.is_there)) in
       let less = q (ap (λ (z : Instr). is_access (kind z.op)) one ∙ full.access) in
       let count : how_many_accesses P (unit_of P C h) ≡ C.queue = full.full in
       absurd (omega (arith, less, count))

@@ -1,5 +1,5 @@
 -- The path in two parts: the tenants let before the last renewal, and those let since.
-use Rattle.std.proofs.Common.{◌≡◌, ℕ, zero, suc, ◌+◌, ◌%◌, ◌<◌, ◌≤◌, Bool, true, false, cond, List, [], ◌∷◌, ◌++◌, length, refl, sym, ap, ◌∙◌, subst, arith, append_assoc, length-append}
+use Rattle.std.proofs.Common.{◌≡◌, ℕ, zero, suc, ◌+◌, ◌%◌, ◌<◌, Bool, true, false, cond, List, [], ◌∷◌, ◌++◌, length, refl, sym, ap, ◌∙◌, subst, arith, append_assoc, length-append}
 use Rattle.std.proofs.lemmas.List.{append-nil}
 use Rattle.std.specs.List.{AllByRecursion}
 use Rattle.instructions.specs.Programs.{Program}
@@ -11,12 +11,6 @@ use Rattle.inorder.proofs.Tags.{passed}
 use Rattle.front.specs.Trail.{Note, note, trail}
 use Rattle.front.proofs.Lists.{all_map, head_of, tail_of}
 use Rattle.front.proofs.Trails.{ArePlacedFrom, IsNoted, placed_last, trail_noted, trail_off, trail_on}
-
--- How many were let before the last renewal
-pub passed_few : (n : ℕ) (ts : List Tenant) (p : ℕ) → length ts ≤ p + n → length (passed n ts) ≤ p
-passed_few zero ts p le = omega (arith, le)
-passed_few (suc n) [] p le = omega arith
-passed_few (suc n) (t ∷ ts) p le = passed_few n ts p (omega (arith, le))
 
 -- Each part of the path. The stations of the second are counted from 0
 pub record IsParted (P : Program) (C : Sizes) (n : ℕ) (ts : List Tenant) : Type 0 where

@@ -1,6 +1,7 @@
 -- A source that comes from its creator and was not asked for yet: it can be asked for.
 use Rattle.std.proofs.Common.{◌≡◌, ℕ, List, [], ◌∷◌, Some, sym, ap, ◌∙◌, subst, ⊎_elim}
 use Rattle.std.specs.List.{AllByRecursion}
+use Rattle.std.proofs.lemmas.Option.{same_Some}
 use Rattle.instructions.specs.Programs.{Program}
 use Rattle.inorder.specs.declared.history.Act.{Act}
 use Rattle.inorder.specs.declared.history.Act.TheVariants.{Claim, Deliver, Finish, Link, Load, Mend, Retire, Squash}
@@ -38,18 +39,15 @@ pub record IsPending (k : Source) (r q station tag s g : ℕ) (U : UpdateUnit) :
   pub creator : IsTenant U q s g IsAny
   pub creator_last : IsLastAt U q s
 
-same_tenant : (t u : Tenant) → Some t ≡ Some u → t ≡ u
-same_tenant t u e = cc e
-
 module _ (P : Program) (C : Sizes) (U : UpdateUnit) (by : ℕ) where
   -- the path stays
   path_at : (s : Step) → IsQuiet s → Allowed P C U by s → IsSound P U.tenants → (p : ℕ) (t t' : Tenant) → at U.tenants p ≡ Some t → at (applied P C U by s).tenants p ≡ Some t' → on_path t' ≡ on_path t
   path_at s b a ok p t t' is is' = ⊎_elim
-      (λ e. ap on_path (same_tenant t' t (sym is' ∙ e)))
+      (λ e. ap on_path (same_Some t' t (sym is' ∙ e)))
       (λ (z : Acted P U by s (applied P C U by s).tenants p t).
       let us = U.tenants in
       let own = sound_mid P t (older us p) (younger us p) (subst (IsSound P) (split_at us p t is) ok) in
-      ap on_path (same_tenant t' (changed P by z.act t (older us p)) (sym is' ∙ z.now))
+      ap on_path (same_Some t' (changed P by z.act t (older us p)) (sym is' ∙ z.now))
       ∙ (quiet_grows P by z.act (younger us p) t (older us p) (subst IsQuiet z.step b) z.may own).path)
       (exact P C U by s a p t is)
 
@@ -122,10 +120,10 @@ module _ (P : Program) (C : Sizes) (r q station tag x g : ℕ) where
       link : KeepsEvent P C (IsPending Second r q station tag x g) (Does (On p (Link First)))
       link U a ok i = pending_stays P C U front (On p (Link First)) tt a ok Second r q station tag x g
           (λ t t' is is' m. ⊎_elim
-          (λ e. ap (λ (z : Tenant). z.second.way) (same_tenant t' t (sym is' ∙ e)))
+          (λ e. ap (λ (z : Tenant). z.second.way) (same_Some t' t (sym is' ∙ e)))
           (λ (z : Acted P U front (On p (Link First)) (applied P C U front (On p (Link First))).tenants r t).
           let act : Link First ≡ z.act = act_of p z.p (Link First) z.act z.step in
-          let now : t' ≡ linked (older U.tenants r) t First = same_tenant t' (changed P front z.act t (older U.tenants r)) (sym is' ∙ z.now) ∙
+          let now : t' ≡ linked (older U.tenants r) t First = same_Some t' (changed P front z.act t (older U.tenants r)) (sym is' ∙ z.now) ∙
           ap (λ y. changed P front y t (older U.tenants r)) (sym act) in
           ap (λ (z : Tenant). z.second.way) now)
           (exact P C U front (On p (Link First)) a r t is))

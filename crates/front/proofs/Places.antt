@@ -1,15 +1,14 @@
 -- Where the tenants of the path stand, and where the next one goes.
-use Rattle.std.proofs.Common.{◌≡◌, ◌≢◌, ℕ, false, suc, ◌+◌, ◌-◌, ◌*◌, ◌/◌, ◌%◌, ◌<◌, ◌≤◌, List, [], ◌∷◌, ◌++◌, length, Some, None, refl, sym, ap, ◌∙◌, subst, ⊎_elim, arith, append_assoc}
-use Rattle.std.proofs.Common.{length-append, div-add-mod', mul-le-mul_right, suc-mul}
+use Rattle.std.proofs.Common.{◌≡◌, ◌≢◌, ℕ, false, suc, ◌+◌, ◌-◌, ◌%◌, ◌<◌, ◌≤◌, List, [], ◌∷◌, ◌++◌, length, Some, None, refl, sym, ap, ◌∙◌, subst, ⊎_elim, arith, append_assoc}
+use Rattle.std.proofs.Common.{length-append}
 use Rattle.std.proofs.Math.Nat.{add-mod_right, mod-add-mod}
-use Rattle.std.proofs.lemmas.Bool.{cases_lt}
 use Rattle.std.specs.Prelude.{slice_get}
 use Rattle.std.specs.List.{AllByRecursion}
 use Rattle.instructions.specs.Programs.{Program}
 use Rattle.inorder.specs.Tenants.{on_path}
 use Rattle.inorder.specs.Unit.{Sizes, UpdateUnit, front_half, front_pc, how_many, is_old, next_station, recent}
-use Rattle.inorder.proofs.Recent.{new_by}
-use Rattle.inorder.proofs.Stations.{Stands as StandsRight}
+use Rattle.inorder.proofs.Recent.{gone_below, new_by}
+use Rattle.inorder.proofs.Stations.{Stands as StandsRight, apart}
 use Rattle.inorder.proofs.Tags.{passed}
 use Rattle.front.specs.declared.path.base_state.Base.{Base}
 use Rattle.front.specs.declared.path.record.Record.{Record}
@@ -17,24 +16,8 @@ use Rattle.front.specs.Knows.{Stands, whats}
 use Rattle.front.specs.Path.{next_half, half_behind_last, youngest_record, station_of_next, pc_after, pc_behind, place_after, rested_at}
 use Rattle.front.specs.Trail.{Note, trail}
 use Rattle.front.proofs.Lists.{Last, last_cases, whats_append, whats_length}
-use Rattle.front.proofs.Parted.{cut_twice, parted, passed_few}
+use Rattle.front.proofs.Parted.{cut_twice, parted}
 use Rattle.front.proofs.Trails.{ArePlacedFrom, half_of_last, pc_of_last, placed_rest}
-
--- numbers that differ by less than n, and at all, differ modulo n
-apart : (a d n : ℕ) → 0 < d → d < n → (a + d) % n ≢ a % n
-apart a d n pos less same = ⊎_elim far near (cases_lt (a / n) ((a + d) / n))
-  where
-    e : a / n * n + a % n ≡ a
-    e = div-add-mod' a n
-
-    f : (a + d) / n * n + (a + d) % n ≡ a + d
-    f = div-add-mod' (a + d) n
-
-    far : a / n < (a + d) / n → ⊥
-    far h = let m = mul-le-mul_right n h in omega (arith, e, f, m, suc-mul (a / n) n)
-
-    near : (a + d) / n ≤ a / n → ⊥
-    near h = let m = mul-le-mul_right n h in omega (arith, e, f, m)
 
 -- fewer than all places: none is the next
 not_next : (ring g : ℕ) (ns : List Note) → ArePlacedFrom ring g ns → length ns < ring → AllByRecursion (λ n. n.what.station ≢ (g + length ns) % ring) ns
@@ -78,7 +61,7 @@ module _ (P : Program) (C : Sizes) (U : UpdateUnit) (records : List Record) (bas
   pub notes_placed : StandsRight C (recent U) → ArePlacedNow C U k.notes
   notes_placed st =
       let parts = parted P C U.fresh U.tenants st.placed in
-      let few = passed_few U.fresh U.tenants (rested_at base) k.since in
+      let few = gone_below U.fresh U.tenants (rested_at base) k.since in
       let apart = cut_twice (λ n. n.at < length (passed U.fresh U.tenants)) (λ n. rested_at base ≤ n.at) (λ n old new. absurd (omega (arith, few, old, new))) k.gone k.notes parts.olds parts.news
       (sym k.path ∙ parts.path) parts.before k.untold in
       let none : 0 + length apart.middle ≡ length apart.middle = omega arith in

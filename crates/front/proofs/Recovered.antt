@@ -11,7 +11,7 @@ use Rattle.inorder.specs.OneHistory.{Adds}
 use Rattle.inorder.specs.Unit.{Sizes}
 use Rattle.inorder.proofs.Histories.{adds_on}
 use Rattle.ruu_words.specs.Kinds.{IsAny, IsTenant}
-use Rattle.station.specs.Recovery.{IsMended as IsMendedThere, IsSquashed as IsSquashedThere, MaySquash, SeesMiss}
+use Rattle.station.specs.Recovery.{IsMended as IsMendedThere, SeesMiss, SeesWrongPath, WasSquashed}
 use Rattle.front.specs.declared.path.base_state.Base.{Base}
 use Rattle.front.specs.declared.path.record.Record.{Record}
 use Rattle.front.specs.declared.recovery.Missed.{Missed}
@@ -38,7 +38,7 @@ get_before (z ∷ xs) y (suc i) x lt e = get_before xs y i x (omega arith) e
 module _ (P : Program) (C : Sizes) where
   -- the youngest may be squashed
   pub squash_allowed : (h : List Entry) → IsLegal P C h → (rest : List Record) (one : Record) (base : Base) → FrontKnows P C (unit_of P C h) (rest ++ one ∷ []) base → (m : Missed)
-      → IsMissAt P C h (rest ++ one ∷ []) m → m.at + 1 < length (rest ++ one ∷ []) → MaySquash P C h
+      → IsMissAt P C h (rest ++ one ∷ []) m → m.at + 1 < length (rest ++ one ∷ []) → SeesWrongPath P C h
   squash_allowed h legal rest one base k m i lt =
       let long = length-append rest (one ∷ []) in
       let here = get_before rest one m.at i.one (omega (arith, long, lt)) i.here in
@@ -53,7 +53,7 @@ module _ (P : Program) (C : Sizes) where
 
   -- behind it
   pub squash_done : (old new : List Entry) (rest : List Record) (one : Record) (base : Base) → FrontKnows P C (unit_of P C old) (rest ++ one ∷ []) base → (m : Missed)
-      → IsMissAt P C old (rest ++ one ∷ []) m → m.at + 1 < length (rest ++ one ∷ []) → (station tag : ℕ) → IsSquashedThere P C front station tag old new → CutOne old new rest base m
+      → IsMissAt P C old (rest ++ one ∷ []) m → m.at + 1 < length (rest ++ one ∷ []) → (station tag : ℕ) → WasSquashed P C front station tag old new → CutOne old new rest base m
   squash_done old new rest one base k m i lt station tag s =
       let long = length-append rest (one ∷ []) in
       let here = get_before rest one m.at i.one (omega (arith, long, lt)) i.here in
@@ -73,7 +73,7 @@ module _ (P : Program) (C : Sizes) where
   }
 
   pub squash_table_done : (old new : List Entry) (rest : List Record) (one : Record) (base : Base) → FrontKnows P C (unit_of P C old) (rest ++ one ∷ []) base → (station tag : ℕ)
-      → IsSquashedThere P C front station tag old new → (T T' : Table) → HasTable P (unit_of P C old) (rested_at base) T → IsRestored T T' station → HasTable P (unit_of P C new) (rested_at base) T'
+      → WasSquashed P C front station tag old new → (T T' : Table) → HasTable P (unit_of P C old) (rested_at base) T → IsRestored T T' station → HasTable P (unit_of P C new) (rested_at base) T'
   squash_table_done old new rest one base k station tag s T T' table r = squash_table P C old new rest one base k s.p s.adds station tag s.named T T' table r
 
   -- the youngest is the miss: it may be mended

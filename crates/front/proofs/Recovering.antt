@@ -2,6 +2,7 @@
 use Rattle.std.proofs.Common.{◌≡◌, ◌≢◌, ℕ, refl, ◌<◌, List, [], ◌∷◌, ◌++◌, length, Some, sym, ap, ◌∙◌, subst, ⊎_elim, arith, length-append, append_assoc, ◌≤◌, false}
 use Rattle.std.specs.List.{AllByRecursion}
 use Rattle.std.specs.Prelude.{slice_get}
+use Rattle.std.proofs.lemmas.Option.{same_Some}
 use Rattle.instructions.specs.Programs.{Program}
 use Rattle.inorder.specs.declared.history.Act.{Act}
 use Rattle.inorder.specs.declared.history.Act.TheVariants.{Mend, Squash}
@@ -42,9 +43,6 @@ use Rattle.front.proofs.Trails.{IsLastOn, IsNoted, last_on, trail_noted}
 use Rattle.inorder.proofs.Letting.{IsBesides}
 use Rattle.inorder.proofs.Recent.{old_kept}
 
-same_tenant : (t u : Tenant) → Some t ≡ Some u → t ≡ u
-same_tenant t u e = cc e
-
 no_records : (xs : List Record) (x : Record) → xs ++ x ∷ [] ≢ []
 no_records xs x e = let n = ap (λ z. length z) e in let m = length-append xs (x ∷ []) in absurd (omega arith)
 
@@ -56,7 +54,7 @@ pub missing_stable : (P : Program) (C : Sizes) (p : ℕ) (x : Record) (next : �
 missing_stable P C p x next U by s b a ok i =
     let m = miss_stays P C U by s b a p next (record { tenant = i.tenant; is = i.is; fact = i.fact }) in
     let g = goes P C U by s a ok p i.tenant i.is in
-    let one = same_tenant g.tenant m.tenant (sym g.is ∙ m.is) in
+    let one = same_Some g.tenant m.tenant (sym g.is ∙ m.is) in
     record {
       tenant = m.tenant;
       is = m.is;
@@ -196,7 +194,7 @@ module _ (P : Program) (C : Sizes) (old new : List Entry) (rest : List Record) (
       let later = place_stays P C p t (l.after ++ entry front (Does (On p Squash)) ∷ []) l.point (subst (IsLegal P C) (sym long) l.legal) at_point in
       let here : Has (unit_of P C new) p (λ u. (u.station ≡ t.station) × (u.tag ≡ t.tag)) = subst (λ z. Has (unit_of P C z) p (λ u. (u.station ≡ t.station) × (u.tag ≡ t.tag))) (long ∙ sym l.is) later
       in
-      sym named.station_is ∙ (ap (λ (z : Tenant). z.station) (same_tenant named.tenant here.tenant (sym named.is ∙ here.is)) ∙ (here.fact.0 ∙ ap (λ (z : Record). z.station) noted.what))
+      sym named.station_is ∙ (ap (λ (z : Tenant). z.station) (same_Some named.tenant here.tenant (sym named.is ∙ here.is)) ∙ (here.fact.0 ∙ ap (λ (z : Record). z.station) noted.what))
 
   -- its table
   pub squash_table : (p : ℕ) → Adds P C front old new (Does (On p Squash) ∷ []) → (station tag : ℕ) → IsTenant (unit_of P C new) p station tag IsAny → (T T' : Table)
@@ -240,7 +238,7 @@ module _ (P : Program) (C : Sizes) (old new : List Entry) (rest : List Record) (
       let whole : trail P (unit_of P C l.point).tenants ≡ path ++ last.one ∷ [] = there.path ∙ (ap (λ z. there.gone ++ z) last.is ∙ sym (append_assoc there.gone last.front (last.one ∷ []))) in
       let o = last_of_path P C l.point legal.0 rest one base there in
       let this = acted P C (unit_of P C l.point) ok path last.one o p a.tenant a.is a.may.live a.may.youngest in
-      let fate : o.tenant.fate ≡ Miss next = ap (λ (z : Tenant). z.fate) (same_tenant o.tenant its.tenant (sym (at_last P C (unit_of P C l.point) ok path last.one o) ∙ its.is)) ∙ its.fact.fate in
+      let fate : o.tenant.fate ≡ Miss next = ap (λ (z : Tenant). z.fate) (same_Some o.tenant its.tenant (sym (at_last P C (unit_of P C l.point) ok path last.one o) ∙ its.is)) ∙ its.fact.fate in
       let y : Note = mended_note P C (unit_of P C l.point) ok path last.one o next in
       let on = mend_trail P C (unit_of P C l.point) ok path last.one o front p next a this fate in
       let before = stays P C (λ U. HasTable P U (rested_at base) T) (table_stable P C (rested_at base) T) old l.point l.before table in

@@ -4,6 +4,7 @@ use Rattle.std.proofs.Common.{append_assoc, true≢false}
 use Rattle.std.proofs.lemmas.Bool.{le-leb}
 use Rattle.std.specs.List.{AllByRecursion}
 use Rattle.std.specs.Prelude.{slice_index}
+use Rattle.std.proofs.lemmas.Option.{same_Some}
 use Rattle.instructions.specs.Instruction.{pc_plus_4}
 use Rattle.instructions.specs.Programs.{Program}
 use Rattle.instructions.specs.declared.op.Kind.TheVariants.{Links}
@@ -32,12 +33,6 @@ use Rattle.front.proofs.Named.{notes_noted, one_named, stands_right}
 use Rattle.front.proofs.Places.{kept_new, notes_length, oldest_place}
 use Rattle.front.proofs.Supplies.{link_made}
 use Rattle.front.proofs.Trails.{IsNoted}
-
-same_tenant : (t u : Tenant) → Some t ≡ Some u → t ≡ u
-same_tenant t u e = cc e
-
-some_same : (a b : ℕ) → Some a ≡ Some b → a ≡ b
-some_same a b e = cc e
 
 head_of : (a b : Record) (us vs : List Record) → a ∷ us ≡ b ∷ vs → a ≡ b
 head_of a b us vs e = cc e
@@ -81,7 +76,7 @@ module _ (P : Program) (C : Sizes) (h : List Entry) (legal : IsLegal P C h) wher
           let new = kept_new P C U records base Again k n.at (subst (AllByRecursion (λ n. rested_at base ≤ n.at)) e k.untold).0 in
           let p : gone.p ≡ n.at = one_named P C h legal gone.p n.at i.tenant noted.tenant i.is noted.is i.new new (i.station_is ∙ ap (λ (z : Record). z.station) (sym noted.what))
           (i.tag_is ∙ ap (λ (z : Record). z.tag) (sym noted.what)) in
-          subst (HasLeft left) (same_tenant i.tenant noted.tenant (sym i.is ∙ (ap (at U.tenants) p ∙ noted.is))) i.fact
+          subst (HasLeft left) (same_Some i.tenant noted.tenant (sym i.is ∙ (ap (at U.tenants) p ∙ noted.is))) i.fact
 
       pub note_gone : IsGone U n
       note_gone = record { tenant = noted.tenant; is = noted.is; fact = its_left.retired }
@@ -92,7 +87,7 @@ module _ (P : Program) (C : Sizes) (h : List Entry) (legal : IsLegal P C h) wher
           ap (λ (y : Record). Some (made_of y left)) noted.what)
 
       pub base_more : (r : ℕ) → r < 34 → value_of U.tenants (position (creator_note (k.gone ++ n ∷ []) r)) ≡ Some (slice_index (write base.registers n.what.destination (made_of n.what left)) r)
-      base_more zero small = ap Some (sym (read_zero base.registers n.what.destination (made_of n.what left) (sym (some_same 0 (slice_index base.registers 0) (k.base_is 0 small)))))
+      base_more zero small = ap Some (sym (read_zero base.registers n.what.destination (made_of n.what left) (sym (same_Some 0 (slice_index base.registers 0) (k.base_is 0 small)))))
       base_more (suc r) small = go (can_be_written (suc r)) refl (eqb n.what.destination (suc r)) refl
         where
           noted_as : (b : Bool) → can_be_written (suc r) ≡ b → (xs : List Note) → creator_note xs (suc r) ≡ cond b (newest_note None xs (suc r)) None

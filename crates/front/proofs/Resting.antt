@@ -1,6 +1,7 @@
 -- Nobody is live: it stays so, and the youngest tenant of the path tells it.
 use Rattle.std.proofs.Common.{◌≡◌, ◌≢◌, ℕ, ◌<◌, true, false, List, [], ◌∷◌, ◌++◌, Some, refl, sym, ap, ◌∙◌, subst, append_assoc, length}
 use Rattle.std.specs.List.{AllByRecursion}
+use Rattle.std.proofs.lemmas.Option.{same_Some}
 use Rattle.instructions.specs.Programs.{Program}
 use Rattle.inorder.specs.declared.history.Entry.{Entry}
 use Rattle.inorder.specs.declared.history.Step.TheVariants.{Let, On, Renew}
@@ -31,9 +32,6 @@ use Rattle.front.proofs.Looks.{free_is, live_there}
 use Rattle.front.proofs.Splitting.{IsStable}
 use Rattle.front.proofs.Stations.{last_now, left_there}
 use Rattle.front.proofs.Trails.{IsNoted, trail_all}
-
-same_tenant : (t u : Tenant) → Some t ≡ Some u → t ≡ u
-same_tenant t u e = cc e
 
 gone_live : Retired ≢ Live
 gone_live e = cc e
@@ -94,7 +92,7 @@ module _ (P : Program) (C : Sizes) (h : List Entry) (legal : IsLegal P C h) wher
 
   module _ (records : List Record) (base : Base) (Again : Note → Type 0) (k : Stands P C U records base Again) where
     gone_dead : (n : Note) → IsGone U n → (t : Tenant) → at U.tenants n.at ≡ Some t → IsNotLive t
-    gone_dead n g t is live = gone_live (sym g.fact ∙ (ap (λ (z : Tenant). z.standing) (same_tenant g.tenant t (sym g.is ∙ is)) ∙ live))
+    gone_dead n g t is live = gone_live (sym g.fact ∙ (ap (λ (z : Tenant). z.standing) (same_Some g.tenant t (sym g.is ∙ is)) ∙ live))
 
     dead_all : AllByRecursion (λ n. (t : Tenant) → at U.tenants n.at ≡ Some t → IsNotLive t) (trail P U.tenants) → HasNobody U
     dead_all all = all_from IsNotLive U.tenants
@@ -116,5 +114,5 @@ module _ (P : Program) (C : Sizes) (h : List Entry) (legal : IsLegal P C h) wher
         let Dead : Note → Type 0 = λ n. (t : Tenant) → at U.tenants n.at ≡ Some t → IsNotLive t in
         let before : AllByRecursion Dead (k.gone ++ l.front) = all_map (λ n. n.at < l.one.at) Dead (λ n lt t is live. gone_live
         (sym gone ∙ live_behind P U.tenants (unit_sound P C h legal) n.at l.one.at t i.tenant lt is live i.is i.on)) (k.gone ++ l.front) order.before in
-        let last : Dead l.one = λ t is live. gone_live (sym gone ∙ (ap (λ (z : Tenant). z.standing) (same_tenant i.tenant t (sym i.is ∙ is)) ∙ live)) in
+        let last : Dead l.one = λ t is live. gone_live (sym gone ∙ (ap (λ (z : Tenant). z.standing) (same_Some i.tenant t (sym i.is ∙ is)) ∙ live)) in
         dead_all (subst (AllByRecursion Dead) (sym whole) (all_both Dead (k.gone ++ l.front) (l.one ∷ []) before (last, tt)))

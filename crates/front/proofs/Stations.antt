@@ -1,8 +1,9 @@
 -- The last tenants of stations, and whether all stations are in use.
-use Rattle.std.proofs.Common.{◌≡◌, ◌≢◌, ◌⊎◌, ℕ, suc, ◌+◌, ◌%◌, ◌<◌, ◌≤◌, Bool, true, false, cond, eqb, eqb-true, ne_eqb, List, [], ◌∷◌, ◌++◌, length, Option, Some, None, refl, sym, ap, ◌∙◌, subst}
-use Rattle.std.proofs.Common.{inl, inr, ⊎_elim, arith, true≢false, eq-eqb}
+use Rattle.std.proofs.Common.{◌≡◌, ◌≢◌, ◌⊎◌, ℕ, suc, ◌+◌, ◌<◌, ◌≤◌, Bool, true, false, cond, eqb, eqb-true, List, [], ◌∷◌, ◌++◌, length, Option, Some, None, refl, sym, ap, ◌∙◌, subst}
+use Rattle.std.proofs.Common.{⊎_elim, arith, true≢false, eq-eqb}
 use Rattle.std.proofs.lemmas.Bool.{cases_lt}
 use Rattle.std.specs.List.{AllByRecursion}
+use Rattle.std.proofs.lemmas.Option.{same_Some}
 use Rattle.instructions.specs.Programs.{Program}
 use Rattle.inorder.specs.declared.history.Entry.{Entry}
 use Rattle.inorder.specs.declared.history.Supply.TheVariants.{Known}
@@ -37,9 +38,6 @@ use Rattle.front.proofs.Named.{notes_noted, stands_right}
 use Rattle.front.proofs.Places.{kept_new, oldest_place}
 use Rattle.front.proofs.Trails.{IsNoted}
 use Rattle.inorder.proofs.Recent.{last_of_recent, live_is_recent, recent_at}
-
-same_tenant : (t u : Tenant) → Some t ≡ Some u → t ≡ u
-same_tenant t u e = cc e
 
 -- the last tenant of a station
 pub record LastSpot (us : List Tenant) (s : ℕ) (t : Tenant) : Type 0 where
@@ -83,7 +81,7 @@ live_on_path t h = go t.standing refl
     go Squashed e = let no : false ≡ true = sym (ap stands_live e) ∙ h in absurd (cc no)
 
 pub gone_fails : (U : UpdateUnit) (n : Note) → IsGone U n → (t : Tenant) → at U.tenants n.at ≡ Some t → is_live t ≡ false
-gone_fails U n g t is = ap (λ (z : Tenant). stands_live z.standing) (sym (same_tenant g.tenant t (sym g.is ∙ is))) ∙ ap stands_live g.fact
+gone_fails U n g t is = ap (λ (z : Tenant). stands_live z.standing) (sym (same_Some g.tenant t (sym g.is ∙ is))) ∙ ap stands_live g.fact
 
 count_all : (xs : List Note) → count (λ n. true) xs ≡ length xs
 count_all [] = refl

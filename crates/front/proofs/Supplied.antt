@@ -2,6 +2,7 @@
 use Rattle.std.proofs.Common.{◌≡◌, ◌≢◌, ℕ, zero, suc, ◌<◌, Bool, true, false, cond, List, ◌++◌, Option, Some, None, refl, sym, ap, ◌∙◌, subst, ⊎_elim, arith, eq-eqb, ne_eqb}
 use Rattle.std.specs.List.{AllByRecursion}
 use Rattle.std.specs.Prelude.{slice_get, slice_index}
+use Rattle.std.proofs.lemmas.Option.{same_Some}
 use Rattle.instructions.specs.Instruction.{pc_plus_4}
 use Rattle.instructions.specs.Programs.{Program}
 use Rattle.inorder.specs.declared.history.Entry.{Entry}
@@ -25,7 +26,7 @@ use Rattle.front.specs.Trail.{Note, record_of}
 use Rattle.front.proofs.CreateVector.{Creates, Kept, Older, newest_among, written}
 use Rattle.front.proofs.Lists.{all_front, all_two}
 use Rattle.front.proofs.Supplies.{IsGiver, found}
-use Rattle.front.proofs.Tables.{entry_there, entry_untold, same_saved}
+use Rattle.front.proofs.Tables.{entry_there, entry_untold}
 use Rattle.front.proofs.Trails.{IsNoted, trail_noted}
 
 pub no_maker : (a : Maker) → Some (Some a) ≢ Some None
@@ -100,7 +101,7 @@ module _ (P : Program) (C : Sizes) (h : List Entry) (legal : IsLegal P C h) (rec
         let one = (entry_untold (rested_at base) n (record { station = c.station; tag = c.tag }) (sym f.entry ∙ (entry_is f.written ∙ ap (λ z. Some (table_entry (rested_at base) z)) e))).same in
         let station : c.station ≡ n.what.station = ap (λ (z : Maker). z.station) one in
         let tag : c.tag ≡ n.what.tag = ap (λ (z : Maker). z.tag) one in
-        let same : f.saved ≡ x.saved = same_saved f.saved x.saved (sym f.is ∙ (ap (slice_get T.latest) station ∙ x.is)) in
+        let same : f.saved ≡ x.saved = same_Some f.saved x.saved (sym f.is ∙ (ap (slice_get T.latest) station ∙ x.is)) in
         let made : c.made ≡ made_from_start n.what = f.made ∙ (ap (λ (z : Saved). z.made) same ∙ x.made) in
         ap (λ b. cond b (Known (slice_index base.registers r)) (supply_made c.station c.tag c.made)) (ne_eqb c.station own (λ y. gv.other (sym station ∙ y)))
         ∙ ((λ i. supply_made (station i) (tag i) (made i))

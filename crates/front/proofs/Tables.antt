@@ -6,6 +6,7 @@ use native.Mathlib.Decide.{ℕ_discrete}
 use Rattle.std.proofs.lemmas.Bool.{cases_lt}
 use Rattle.std.specs.List.{AllByRecursion}
 use Rattle.std.specs.Prelude.{slice_get, slice_set}
+use Rattle.std.proofs.lemmas.Option.{same_Some}
 use Rattle.instructions.specs.Instruction.{destination, kind, pc_plus_4}
 use Rattle.instructions.specs.Programs.{Program, instr_of}
 use Rattle.inorder.specs.declared.history.Act.{Act}
@@ -60,9 +61,6 @@ pub set_length : {X : Type 0} → (xs : List X) (i : ℕ) (x : X) → length (sl
 set_length [] i x = refl
 set_length (y ∷ ys) zero x = refl
 set_length (y ∷ ys) (suc i) x = ap suc (set_length ys i x)
-
-pub same_saved : (a b : Saved) → Some a ≡ Some b → a ≡ b
-same_saved a b e = cc e
 
 -- Readings and writings, one after another
 
@@ -317,7 +315,7 @@ module _ (P : Program) (C : Sizes) (U : UpdateUnit) (by index predicted : ℕ) (
 
       here : t.station ≡ new.station → s.tag ≢ t.tag
       here place f =
-          let its : e.saved ≡ s = same_saved e.saved s (sym latest_here ∙ (ap (slice_get T'.latest) (sym place) ∙ g)) in
+          let its : e.saved ≡ s = same_Some e.saved s (sym latest_here ∙ (ap (slice_get T'.latest) (sym place) ∙ g)) in
           let tag : t.tag ≡ new.tag = sym f ∙ (ap (λ (z : Saved). z.tag) (sym its) ∙ e.of.tag) in
           let both : p ≡ length U.tenants = unique p (length U.tenants) t new new_one past is (at_new new U.tenants) place tag in
           absurd (omega (arith, lt, both, wide))
@@ -368,7 +366,7 @@ module _ (P : Program) (C : Sizes) (U : UpdateUnit) (by index predicted : ℕ) (
       let two = last_same (trail P U.tenants) xs (note P U.tenants new) n (sym path ∙ (split ∙ ap (λ z. xs ++ n ∷ z) none)) in
       let place : n.what.station ≡ new.station = ap (λ (z : Note). z.what.station) (sym two.ones) in
       let same : n.what.destination ≡ d = ap (λ (z : Note). z.what.destination) (sym two.ones) in
-      let its : e.saved ≡ s = same_saved e.saved s (sym latest_here ∙ (ap (slice_get T'.latest) (sym place) ∙ g)) in
+      let its : e.saved ≡ s = same_Some e.saved s (sym latest_here ∙ (ap (slice_get T'.latest) (sym place) ∙ g)) in
       ap (λ (z : Saved). z.replaced) (sym its)
       ∙ (e.replaced _ (k.entries d (subst (λ z. 0 < z) same pos) (subst (λ z. z < 34) same less))
       ∙ (λ i. table_entry_in told (two.fronts i) (sym same i)))

@@ -2,6 +2,7 @@
 use Rattle.std.proofs.Common.{◌≡◌, ◌≢◌, ℕ, ◌<◌, Bool, ◌&&◌, List, ◌∷◌, ◌++◌, length, Option, Some, None, refl, sym, ap, ◌∙◌, subst, zero, suc, ◌+◌, ◌-◌, ◌≤◌, [], cond, eqb, eqb-true, eq-eqb, true}
 use Rattle.std.proofs.Common.{false, true≢false, inl, inr, ⊎_elim, arith}
 use Rattle.std.specs.List.{AllByRecursion}
+use Rattle.std.proofs.lemmas.Option.{same_Some}
 use Rattle.instructions.specs.Guesses.{IsTold}
 use Rattle.instructions.specs.Operations.{outcome_by}
 use Rattle.instructions.specs.Programs.{Program}
@@ -37,9 +38,6 @@ use Rattle.front.proofs.Places.{kept_new, others_next}
 use Rattle.front.proofs.Stations.{LastSpot}
 use Rattle.front.proofs.Trails.{IsNoted, trail_all, trail_noted}
 use Rattle.inorder.proofs.Recent.{last_of_recent, new_by}
-
-same_tenant : (t u : Tenant) → Some t ≡ Some u → t ≡ u
-same_tenant t u e = cc e
 
 -- Where a tenant that has retired went on
 
@@ -164,13 +162,13 @@ module _ {S : Type 0} (Learns : S → ℕ → ℕ → S → Type 0) (P : Program
           at U.tenants n.at ≡ Some t → rested_at base ≤ n.at → t.station ≡ next → IsLastAt U n.at next → ⊥
       reused_never n i (inr l) t is new place last = absurd (omega (arith, l, new))
       reused_never n i (inl r) t is new place last =
-          let one = same_tenant i.tenant t (sym i.is ∙ is) in
+          let one = same_Some i.tenant t (sym i.is ∙ is) in
           let same : n.what.station ≡ next = ap (λ (z : Record). z.station) (sym i.what) ∙ (ap (λ (z : Tenant). z.station) one ∙ place) in
           last r.p r.tenant.tenant r.behind r.tenant.is (r.tenant.fact ∙ same)
 
       other_never : (n : Note) → IsNoted P U.tenants n → n.what.station ≢ next → (t : Tenant) → at U.tenants n.at ≡ Some t → rested_at base ≤ n.at → t.station ≡ next → IsLastAt U n.at next → ⊥
       other_never n i ne t is new place last =
-          let one = same_tenant i.tenant t (sym i.is ∙ is) in
+          let one = same_Some i.tenant t (sym i.is ∙ is) in
           ne (ap (λ (z : Record). z.station) (sym i.what) ∙ (ap (λ (z : Tenant). z.station) one ∙ place))
 
       all_never : AllByRecursion (λ n. (t : Tenant) → at U.tenants n.at ≡ Some t → rested_at base ≤ n.at → t.station ≡ next → IsLastAt U n.at next → ⊥) (trail P U.tenants)
@@ -183,7 +181,8 @@ module _ {S : Type 0} (Learns : S → ℕ → ℕ → S → Type 0) (P : Program
           (all_two (IsNoted P U.tenants) (λ n. n.what.station ≢ next) Q other_never k.notes (notes_noted P C h legal records base (IsFolded U (rested_at base)) k)
           (others_next P C U records base (IsFolded U (rested_at base)) k (stands_right P C h legal) few)))
 
-      by : (t : Tenant) (st : Standing) → t.standing ≡ st → last_of (untold (rested_at base) U.tenants) next ≡ Some t → IsTold Learns (leaver_if (stands_retired st && is_guessed P t) t.pc (computed_next P t)) s s
+      by : (t : Tenant) (st : Standing) → t.standing ≡ st → last_of (untold (rested_at base) U.tenants) next ≡ Some t →
+          IsTold Learns (leaver_if (stands_retired st && is_guessed P t) t.pc (computed_next P t)) s s
       by t Live e f = refl
       by t Squashed e f = refl
       by t Retired e f =
@@ -208,7 +207,7 @@ module _ {S : Type 0} (Learns : S → ℕ → ℕ → S → Type 0) (P : Program
       let new = kept_new P C U records base (IsFolded U (rested_at base)) k n.at untold_one in
       let p : gone.p ≡ n.at = one_named P C h legal gone.p n.at i.tenant t i.is noted.is i.new new (i.station_is ∙ ap (λ (z : Record). z.station) (sym noted.what))
       (i.tag_is ∙ ap (λ (z : Record). z.tag) (sym noted.what)) in
-      let one : i.tenant ≡ t = same_tenant i.tenant t (sym i.is ∙ (ap (at U.tenants) p ∙ noted.is)) in
+      let one : i.tenant ≡ t = same_Some i.tenant t (sym i.is ∙ (ap (at U.tenants) p ∙ noted.is)) in
       let retired : t.standing ≡ Retired = ap (λ (z : Tenant). z.standing) (sym one) ∙ i.fact.retired in
       let last : last_of (untold (rested_at base) U.tenants) next ≡ Some t = untold_last U.tenants (rested_at base) n.at next t noted.is untold_one (ap (λ (z : Record). z.station) noted.what ∙ place)
       (λ q u lt is same. newest q u lt is (same ∙ sym place)) in

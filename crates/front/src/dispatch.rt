@@ -7,7 +7,7 @@ ghost use Rattle.front.specs.Fetching.{CanBeLet};
 ghost use Rattle.front.specs.Fronts.{KnowsPath, KnowsTable};
 ghost use Rattle.front.specs.Knows.{RecordsAreReady};
 ghost use Rattle.front.specs.Questions.{Asks, IsDispatched, MayAskFor};
-ghost use Rattle.station.specs.Seats.{IsSame};
+ghost use Rattle.station.specs.Seats.{IsSameSeat};
 
 use crate::fetch::Fetched;
 use crate::path::{Counted, Path};
@@ -22,7 +22,7 @@ fn ask(core: &Core, seat: &mut FrontSeat, station: usize, tag: u32, k: Source, f
     requires by { seat.old.by ≡ front }
     requires station { station < core.now.sizes.ring }
     requires may { MayAskFor core.now.program core.now.sizes seat.old.seen station tag k from }
-    ensures kept { IsSame seat.old seat.new }
+    ensures kept { IsSameSeat seat.old seat.new }
     ensures reply { Asks core.now.program core.now.sizes
         seat.old.seen seat.new.seen station tag k from }
 {
@@ -54,7 +54,7 @@ pub fn dispatch(
     requires next { CanBeLet core.now.program core.now.sizes seat.old.seen next.now }
     requires fixed { IfSome (fixed_next next.now.instr next.now.half next.now.pc)
         (λ x. predicted ≡ x) }
-    ensures kept { IsSame seat.old seat.new }
+    ensures kept { IsSameSeat seat.old seat.new }
     ensures reply { IsDispatched core.now.program core.now.sizes
         seat.old.seen seat.new.seen next.now predicted result }
     ensures base { path.new.base ≡ path.old.base }

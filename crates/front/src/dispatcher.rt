@@ -9,7 +9,7 @@ ghost use Rattle.front.specs.Recoveries.{squashed_by};
 ghost use Rattle.front.specs.Rests.{rested_after, told_after};
 ghost use Rattle.front.specs.Turns.{TurnAnswers};
 ghost use Rattle.station.specs.Looking.{SeesStation};
-ghost use Rattle.station.specs.Seats.{IsSame};
+ghost use Rattle.station.specs.Seats.{IsSameSeat};
 
 use crate::answers::{Made, Recovery, Rest, Turn};
 use crate::dispatch::dispatch;
@@ -62,7 +62,7 @@ fn turn_on<P: Predictor>(
     requires program { program.now ≡ core.now.program }
     requires knows { KnowsPath core.now seat.old.seen path.old }
     requires table { KnowsTable core.now seat.old.seen path.old.base creators.old }
-    ensures kept { IsSame seat.old seat.new }
+    ensures kept { IsSameSeat seat.old seat.new }
     ensures reply { TurnAnswers P.Predicts P.Learns core.now.program core.now.sizes
         (rested_at path.old.base) seat.old.seen seat.new.seen predictor.old predictor.new result }
     ensures told { rested_at path.new.base ≡ rested_at path.old.base }
@@ -221,7 +221,7 @@ impl<'a, P: Predictor + Drop> Front<'a, P> {
         ensures touched { self.new.touched ≡ self.old.touched }
         ensures told_kept { self.new.told ≡ self.old.told }
         ensures rested { self.new.rested ≡ self.old.rested }
-        ensures other_kept { IsSame other.old other.new }
+        ensures other_kept { IsSameSeat other.old other.new }
         ensures other_history { Adds core.now.program core.now.sizes
             other.old.by other.old.seen other.new.seen [] }
         ensures other_told { StartsWith other.new.seen self.new.seen }

@@ -5,7 +5,7 @@ ghost use Rattle.inorder.specs.OneHistory.{Adds};
 ghost use Rattle.front.specs.Fetching.{CanFetch};
 ghost use Rattle.front.specs.Fronts.{AddsNothing, KnowsPath};
 ghost use Rattle.front.specs.Turns.{Refuses};
-ghost use Rattle.station.specs.Seats.{IsSame};
+ghost use Rattle.station.specs.Seats.{IsSameSeat};
 
 use crate::answers::Turn;
 use crate::path::Path;
@@ -38,7 +38,7 @@ pub fn fetch(
     requires legal { IsLegal core.now.program core.now.sizes seat.old.seen }
     requires program { program.now ≡ core.now.program }
     requires knows { KnowsPath core.now seat.old.seen path.now }
-    ensures kept { IsSame seat.old seat.new }
+    ensures kept { IsSameSeat seat.old seat.new }
     ensures history { AddsNothing core.now seat.old.seen seat.new.seen }
     ensures ok { IfOk result (CanFetch core.now.program core.now.sizes
         seat.new.seen path.now.records) }

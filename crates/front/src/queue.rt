@@ -4,7 +4,7 @@ ghost use Rattle.inorder.specs.History.{IsLegal, front, unit_of};
 ghost use Rattle.inorder.specs.OneHistory.{Adds};
 ghost use Rattle.front.specs.Fronts.{AddsNothing, KnowsPath};
 ghost use Rattle.front.specs.Queues.{AccessBefore, QueueSays};
-ghost use Rattle.station.specs.Seats.{IsSame};
+ghost use Rattle.station.specs.Seats.{IsSameSeat};
 
 use crate::path::{Path, Record, Records};
 use instructions::Instr;
@@ -38,7 +38,7 @@ pub fn queue_is_full(core: &Core, seat: &mut FrontSeat, path: &Path, instr: &Ins
     requires legal { IsLegal core.now.program core.now.sizes seat.old.seen }
     requires least { 2 ≤ core.now.sizes.ring }
     requires knows { KnowsPath core.now seat.old.seen path.now }
-    ensures kept { IsSame seat.old seat.new }
+    ensures kept { IsSameSeat seat.old seat.new }
     ensures history { AddsNothing core.now seat.old.seen seat.new.seen }
     ensures reply { QueueSays core.now.program core.now.sizes
         (unit_of core.now.program core.now.sizes seat.new.seen) instr.now result }

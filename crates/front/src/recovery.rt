@@ -5,7 +5,7 @@ ghost use Rattle.inorder.specs.OneHistory.{Adds};
 ghost use Rattle.front.specs.CreateTable.{IsTouched};
 ghost use Rattle.front.specs.Fronts.{AddsNothing, KnowsPath, KnowsTable};
 ghost use Rattle.front.specs.Recoveries.{ScanFinds, IsCut, IsMissAt, RecoverAnswers, squashed_by};
-ghost use Rattle.station.specs.Seats.{IsSame};
+ghost use Rattle.station.specs.Seats.{IsSameSeat};
 
 use crate::answers::Recovery;
 use crate::path::{Counted, Path};
@@ -26,7 +26,7 @@ fn find_miss(core: &Core, seat: &mut FrontSeat, path: &Path) -> Option<Missed>
     requires by { seat.old.by ≡ front }
     requires legal { IsLegal core.now.program core.now.sizes seat.old.seen }
     requires knows { KnowsPath core.now seat.old.seen path.now }
-    ensures kept { IsSame seat.old seat.new }
+    ensures kept { IsSameSeat seat.old seat.new }
     ensures history { AddsNothing core.now seat.old.seen seat.new.seen }
     ensures reply { ScanFinds core.now.program core.now.sizes
         seat.old.seen seat.new.seen path.now.records result }
@@ -64,7 +64,7 @@ fn squash_behind(
     requires knows { KnowsPath core.now seat.old.seen path.old }
     requires table { KnowsTable core.now seat.old.seen path.old.base creators.old }
     requires miss { IsMissAt core.now.program core.now.sizes seat.old.seen path.old.records missed }
-    ensures kept { IsSame seat.old seat.new }
+    ensures kept { IsSameSeat seat.old seat.new }
     ensures history { IsCut core.now.program core.now.sizes seat.old.seen seat.new.seen result }
     ensures base { path.new.base ≡ path.old.base }
     ensures knows { KnowsPath core.now seat.new.seen path.new }
@@ -95,7 +95,7 @@ pub fn recover_on(
     requires legal { IsLegal core.now.program core.now.sizes seat.old.seen }
     requires knows { KnowsPath core.now seat.old.seen path.old }
     requires table { KnowsTable core.now seat.old.seen path.old.base creators.old }
-    ensures kept { IsSame seat.old seat.new }
+    ensures kept { IsSameSeat seat.old seat.new }
     ensures reply { RecoverAnswers core.now.program core.now.sizes
         seat.old.seen seat.new.seen result }
     ensures base { path.new.base ≡ path.old.base }

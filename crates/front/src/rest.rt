@@ -6,7 +6,7 @@ ghost use Rattle.front.specs.Folding.{IsFolding, LeavesRecords};
 ghost use Rattle.front.specs.Fronts.{AddsNothing, KnowsPath, KnowsTable};
 ghost use Rattle.front.specs.Path.{rested_at};
 ghost use Rattle.front.specs.Rests.{RestAnswers, TellsRecords, told_after};
-ghost use Rattle.station.specs.Seats.{IsSame};
+ghost use Rattle.station.specs.Seats.{IsSameSeat};
 ghost use Rattle.station.specs.Renewals.{HasNobody};
 
 use crate::answers::Rest;
@@ -23,7 +23,7 @@ fn fold_all<P: Predictor>(core: &Core, seat: &mut FrontSeat, path: &mut Path, pr
     requires least { 2 ≤ core.now.sizes.ring }
     requires folding { IsFolding core.now seat.old.seen path.old }
     requires nobody { HasNobody (unit_of core.now.program core.now.sizes seat.old.seen) }
-    ensures kept { IsSame seat.old seat.new }
+    ensures kept { IsSameSeat seat.old seat.new }
     ensures history { AddsNothing core.now seat.old.seen seat.new.seen }
     ensures folding { IsFolding core.now seat.new.seen path.new }
     ensures none { path.new.records ≡ [] }
@@ -50,7 +50,7 @@ pub fn rest_on<P: Predictor>(
     requires legal { IsLegal core.now.program core.now.sizes seat.old.seen }
     requires knows { KnowsPath core.now seat.old.seen path.old }
     requires table { KnowsTable core.now seat.old.seen path.old.base creators.old.counted }
-    ensures kept { IsSame seat.old seat.new }
+    ensures kept { IsSameSeat seat.old seat.new }
     ensures reply { RestAnswers P.Learns core.now.program core.now.sizes
         (rested_at path.old.base) seat.old.seen seat.new.seen predictor.old predictor.new result }
     ensures told { rested_at path.new.base ≡ told_after core.now.program core.now.sizes

@@ -1,5 +1,5 @@
 -- The labels with one more: what was noted stays, and the new one is.
-use Rattle.std.proofs.Common.{◌≡◌, ◌≢◌, ℕ, ◌+◌, ◌-◌, ◌^◌, ◌<◌, ◌≤◌, ◌⊎◌, false, cond, List, [], ◌∷◌, ◌++◌, length, map, take, get_or, slice_set, Some, None, refl, sym, ap, ◌∙◌, subst, arith, inl, inr}
+use Rattle.std.proofs.Common.{◌≡◌, ◌≢◌, ℕ, zero, suc, ◌+◌, ◌-◌, ◌^◌, ◌<◌, ◌≤◌, ◌⊎◌, false, cond, List, [], ◌∷◌, ◌++◌, length, map, take, replicate, get_or, slice_set, Some, None, refl, sym, ap, ◌∙◌, subst, arith, inl, inr}
 use Rattle.std.specs.Prelude.{slice_index}
 use Rattle.std.specs.Borrow.{Bor}
 use Rattle.std.specs.BTreeMap.{BTreeMap, UpdatesBy}
@@ -8,7 +8,7 @@ use Rattle.std.specs.Ordering.{nat_cmp}
 use Rattle.std.specs.Str.{bytes_eq}
 use Rattle.std.proofs.Math.Nat.{div-le_of_le-mul}
 use Rattle.std.proofs.lemmas.Bool.{cases_Bool, cases_lt}
-use Rattle.std.proofs.lemmas.List.{take_more, get_or-set_same, get_or-set_other, get_or_append_left, length-append, length-set}
+use Rattle.std.proofs.lemmas.List.{take_more, get_or-set_same, get_or-set_other, get_or_append_left, length-append, length-set, length-replicate}
 use Rattle.std.proofs.lemmas.Map.Text.{btree_map_updates_str}
 use Rattle.std.proofs.lemmas.Slice.Eq.{bytes_eq-Decides}
 use Rattle.isa.specs.declared.listing.table.Entry.{Entry}
@@ -23,6 +23,27 @@ index_next es i d tags numbers crowded lt index = rw (take_more es i d lt) index
 -- the first bucket of a name is one
 pub start_small : (hash last : ℕ) → start_of hash last ≤ last
 start_small hash last = div-le_of_le-mul (2 ^ 32) (grind arith)
+
+-- ---- no entry yet
+
+pub index_none : (n : ℕ) (tags numbers : List ℕ) (crowded : BTreeMap (Bor (List ℕ)) ℕ) → bucket_run ≤ n → n < 2 ^ 32 → tags ≡ replicate n 0
+    → numbers ≡ replicate n 0 → ((name : List ℕ) → crowded_at crowded name ≡ None) → IsIndex [] tags numbers crowded
+index_none n tags numbers crowded room few free zeros none =
+    let size : length tags ≡ n = ap length free ∙ length-replicate n 0 in
+    record {
+      room = omega (arith, size);
+      few = omega (arith, size);
+      same_length = ap length zeros ∙ length-replicate n 0 ∙ sym size;
+      taken = λ k taken. absurd (taken (ap (λ (ts : List ℕ). slice_index ts k) free ∙ zero_at n k));
+      crowd = λ name i is. let bad : None ≡ Some i = sym (none name) ∙ is in absurd (cc);
+      noted = λ i lt. absurd (omega (arith, lt));
+      single = λ i lt. absurd (omega (arith, lt));
+    }
+  where
+    zero_at : (n k : ℕ) → slice_index (replicate n 0) k ≡ 0
+    zero_at zero k = refl
+    zero_at (suc n) zero = refl
+    zero_at (suc n) (suc k) = zero_at n k
 
 -- ---- the entries
 

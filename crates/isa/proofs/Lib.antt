@@ -17,3 +17,4 @@ pub mod TextBytes
 pub mod TextNumbers
 pub mod TextOperands
 pub mod TextRead
+mod TextWritten

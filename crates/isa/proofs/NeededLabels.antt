@@ -2,37 +2,35 @@
 use Rattle.std.proofs.Common.{◌≡◌, ℕ, suc, ◌+◌, ◌<◌, Bool, true, false, List, [], ◌∷◌, ◌++◌, length, map, take}
 use Rattle.std.proofs.Common.{get_or, Option, Some, None, Result, Ok, Err, refl, sym, ap, ◌∙◌, subst, append_assoc, arith, inl, inr}
 use Rattle.std.specs.Prelude.{is_some, IfOk}
-use Rattle.std.specs.List.{filter}
 use Rattle.std.specs.Map.{lookup}
 use Rattle.std.specs.Str.{bytes_eq}
 use Rattle.std.proofs.lemmas.Bool.{cases_Bool, cases_lt}
-use Rattle.std.proofs.lemmas.List.{append-nil, take_more}
+use Rattle.std.proofs.lemmas.List.{append-nil, take_more, map_more, get_or-map}
 use Rattle.std.proofs.lemmas.Slice.Eq.{bytes_eq-Decides}
 use Rattle.instructions.specs.declared.instr.Instr.{Instr}
-use Rattle.isa.specs.declared.listing.fault.FaultKind.{FaultKind}
 use Rattle.isa.specs.declared.listing.line.Target.{Target}
 use Rattle.isa.specs.declared.listing.needed.Bits.{Bits}
 use Rattle.isa.specs.declared.listing.table.Entry.{Entry}
 use Rattle.isa.specs.Buckets.{pair, found, name_at, label_entry}
 use Rattle.isa.specs.Held.{name_of, rows}
 use Rattle.isa.specs.Late.{mark, pairs, double_line}
-use Rattle.isa.specs.Listing.{known, resolve_number, numbered_with, before_others, resolved}
-use Rattle.isa.specs.Needed.{IsMet, is_needed, AreEnough, AreKept, AreWanted, AreWatched, IsWanted, needed_of}
+use Rattle.isa.specs.Listing.{known, resolve_number, resolved}
+use Rattle.isa.specs.Needed.{short_hash, hashes_of, WasMet, is_needed_by, is_needed, AreEnough, AreKept, AreWanted, AreWatched, IsWanted, needed_of}
 use Rattle.isa.proofs.BucketsKept.{pairs_more}
 use Rattle.isa.proofs.LabelTable.{lookup_keep, pairs_of_entries}
 
 -- ---- one more label was met
 
 module _ (es : List Entry) (i : ℕ) (lt : i < length es) (old new : List Bits) (kept : AreKept old new) (name : List ℕ) (is : name_at es i ≡ name)
-    (met : IsMet new name) (needed : IsMet old name → is_needed new name ≡ true) (so_far : (q : List ℕ) → is_some (found (take i es) q) ≡ true → IsMet old q) where
+    (met : WasMet new name) (needed : WasMet old name → is_needed new name ≡ true) (so_far : (q : List ℕ) → is_some (found (take i es) q) ≡ true → WasMet old q) where
   one_more : (q : List ℕ) → found (take (i + 1) es) q ≡ lookup (λ k. bytes_eq k q) (map pair (take i es) ++ pair (label_entry es i) ∷ [])
   one_more q = ap (λ (xs : List Entry). found xs q) (take_more es i _ lt) ∙ ap (lookup (λ k. bytes_eq k q)) (pairs_more (take i es) (label_entry es i))
 
-  pub met_more : (q : List ℕ) → is_some (found (take (i + 1) es) q) ≡ true → IsMet new q
+  pub met_more : (q : List ℕ) → is_some (found (take (i + 1) es) q) ≡ true → WasMet new q
   met_more q h = elim (cases_Bool (bytes_eq (name_at es i) q)) [
     | inl same ↦
         let one : name_at es i ≡ q = (bytes_eq-Decides (name_at es i) q).0 same in
-        subst (λ (p : List ℕ). IsMet new p) (sym is ∙ one) met
+        subst (λ (p : List ℕ). WasMet new p) (sym is ∙ one) met
     | inr not ↦
         let others : found (take (i + 1) es) q ≡ found (take i es) q =
         one_more q ∙ lookup_keep (λ k. bytes_eq k q) (map pair (take i es)) (name_at es i) (label_entry es i).address not in
@@ -49,6 +47,18 @@ module _ (es : List Entry) (i : ℕ) (lt : i < length es) (old new : List Bits) 
         let there : is_some (found (take i es) name) ≡ true = subst (λ (q : List ℕ). is_some (found (take i es) q) ≡ true) is here in
         subst (λ (q : List ℕ). is_needed new q ≡ true) (sym (ap (name_at es) same ∙ is)) (needed (so_far name there))
   ]
+
+-- ---- hashes of labels
+
+pub hash_more : (es : List Entry) (i : ℕ) (d : Entry) → i < length es → (old new : List ℕ) (hash : ℕ) → old ≡ hashes_of (take i es) → new ≡ old ++ hash ∷ []
+    → hash ≡ short_hash (get_or es i d).name.now → new ≡ hashes_of (take (i + 1) es)
+hash_more es i d lt old new hash so_far grown is =
+    grown ∙ ap (λ (hs : List ℕ). hs ++ hash ∷ []) so_far ∙ ap (λ (h : ℕ). hashes_of (take i es) ++ h ∷ []) is
+    ∙ sym (map_more (λ e. short_hash e.name.now) es i d lt)
+
+pub hash_at : (es : List Entry) (hashes : List ℕ) (i : ℕ) (d : Entry) (h : ℕ) → hashes ≡ hashes_of es → i < length es
+    → get_or hashes i h ≡ short_hash (get_or es i d).name.now
+hash_at es hashes i d h are lt = ap (λ (hs : List ℕ). get_or hs i h) are ∙ get_or-map (λ e. short_hash e.name.now) es i d h lt
 
 -- ---- labels that instructions name
 
@@ -93,15 +103,23 @@ module _ (all : List Bits) where
     | inr not ↦ rw not (push_no es e free)
   ]
 
-  module _ (es : List Entry) (i : ℕ) (e : Entry) (lt : i < length es) (is : e ≡ get_or es i e) where
-    next : take (i + 1) es ≡ take i es ++ e ∷ []
-    next = take_more es i e lt ∙ ap (λ (x : Entry). take i es ++ x ∷ []) (sym is)
+  module _ (es : List Entry) (i : ℕ) (d : Entry) (lt : i < length es) where
+    next : take (i + 1) es ≡ take i es ++ get_or es i d ∷ []
+    next = take_more es i d lt
 
-    pub needed_yes : is_needed all e.name.now ≡ true → (some : List Entry) → some ≡ needed_of all (take i es) → some ++ e ∷ [] ≡ needed_of all (take (i + 1) es)
-    needed_yes wanted some so_far = ap (λ (l : List Entry). l ++ e ∷ []) so_far ∙ sym (push_yes (take i es) e wanted) ∙ ap (needed_of all) (sym next)
+    pub needed_yes : is_needed all (get_or es i d).name.now ≡ true → (some : List Entry) → some ≡ needed_of all (take i es)
+        → some ++ get_or es i d ∷ [] ≡ needed_of all (take (i + 1) es)
+    needed_yes wanted some so_far =
+        ap (λ (l : List Entry). l ++ get_or es i d ∷ []) so_far ∙ sym (push_yes (take i es) (get_or es i d) wanted) ∙ ap (needed_of all) (sym next)
 
-    pub needed_no : is_needed all e.name.now ≡ false → (some : List Entry) → some ≡ needed_of all (take i es) → some ≡ needed_of all (take (i + 1) es)
-    needed_no free some so_far = so_far ∙ sym (push_no (take i es) e free) ∙ ap (needed_of all) (sym next)
+    pub needed_no : is_needed all (get_or es i d).name.now ≡ false → (some : List Entry) → some ≡ needed_of all (take i es)
+        → some ≡ needed_of all (take (i + 1) es)
+    needed_no free some so_far = so_far ∙ sym (push_no (take i es) (get_or es i d) free) ∙ ap (needed_of all) (sym next)
+
+    -- what is told of a label by its hash
+    pub needed_at : (hashes : List ℕ) (h : ℕ) (told : Bool) → hashes ≡ hashes_of es → told ≡ is_needed_by all (get_or hashes i h)
+        → is_needed all (get_or es i d).name.now ≡ told
+    needed_at hashes h told are is = sym (is ∙ ap (is_needed_by all) (hash_at es hashes i d h are lt))
 
   found_needed : (es : List Entry) (name : List ℕ) → is_needed all name ≡ true → found (needed_of all es) name ≡ found es name
   found_needed [] name wanted = refl

@@ -1,5 +1,5 @@
 -- An instruction as a listing writes it, and that reading the text gives it back.
-use Rattle.std.specs.Prelude.{◌≡◌, ℕ, ◌-◌, ◌≤◌, ◌<◌, ◌^◌, ◌⊎◌, ⊤, ◌==◌, ◌&&◌, Bool, false, List, [], ◌∷◌, ◌++◌, map, replicate, Option, Some, None, slice_get, if◌then◌else◌, codes}
+use Rattle.std.specs.Prelude.{◌≡◌, ℕ, zero, suc, ◌-◌, ◌≤◌, ◌<◌, ◌^◌, ◌⊎◌, ⊤, ◌==◌, ◌&&◌, Bool, false, List, [], ◌∷◌, ◌++◌, map, replicate, Option, Some, None, slice_get, if◌then◌else◌, codes}
 use Rattle.std.specs.Fmt.{decimal, signed_decimal}
 use Rattle.std.specs.List.{join_with_byte}
 use Rattle.std.specs.Int.{w32, cast_signed}
@@ -67,6 +67,16 @@ operand_text naming Offset i =
 abbrev pub with_operands_text : List ℕ → List (List ℕ) → List ℕ
 with_operands_text word [] = word
 with_operands_text word (p ∷ ps) = word ++ 32 ∷ join_with_byte 44 (p ∷ ps)
+
+-- what stands before an operand: a blank before the first one, and a comma before each other
+abbrev pub separator : ℕ → List ℕ
+separator zero = codes " "
+separator (suc at) = codes ","
+
+-- operands, of which the first one is at this place, each behind its separator
+abbrev pub separated_text : ℕ → List (List ℕ) → List ℕ
+separated_text at [] = []
+separated_text at (p ∷ ps) = separator at ++ (p ++ separated_text (suc at) ps)
 
 -- a shift of register 0 by nothing
 abbrev pub is_nop_by : Op → Instr → Bool

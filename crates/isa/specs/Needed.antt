@@ -12,27 +12,43 @@ use Rattle.isa.specs.Late.{mark, double_line}
 use Rattle.isa.specs.Listing.{resolved}
 use Rattle.isa.specs.Held.{name_of, rows}
 
--- the bits of 64 names or more, of which this is one
-abbrev pub bits_for : List Bits → List ℕ → Bits
-bits_for all name =
-    slice_index_or all (start_of (hash_of name) (length all - 1)) (record { met = 0; needed = 0 })
+-- the half of the hash of a name that tells its bits
+abbrev pub short_hash : List ℕ → ℕ
+short_hash name = hash_of name % 2 ^ 32
 
--- the bit of a name among these
+-- those of labels
+abbrev pub hashes_of : List Entry → List ℕ
+hashes_of es = map (λ e. short_hash e.name.now) es
+
+-- the bits of 64 hashes or more, of which this is one
+abbrev pub bits_at : List Bits → ℕ → Bits
+bits_at all hash =
+    slice_index_or all (start_of hash (length all - 1)) (record { met = 0; needed = 0 })
+
+-- the bits of a name, and of others
+abbrev pub bits_for : List Bits → List ℕ → Bits
+bits_for all name = bits_at all (short_hash name)
+
+-- the bit of a hash among these
 abbrev pub bit_of : ℕ → ℕ
-bit_of hash = hash / 2 ^ 32 % 64
+bit_of hash = hash % 64
 
 -- this name, or another one with its bit, was met
-abbrev pub IsMet : List Bits → List ℕ → Type 0
-IsMet all name = (bits_for all name).met / 2 ^ bit_of (hash_of name) % 2 ≡ 1
+abbrev pub WasMet : List Bits → List ℕ → Type 0
+WasMet all name = (bits_for all name).met / 2 ^ bit_of (short_hash name) % 2 ≡ 1
+
+-- a name with this hash, or with its bit, is needed
+abbrev pub is_needed_by : List Bits → ℕ → Bool
+is_needed_by all hash = (bits_at all hash).needed / 2 ^ bit_of hash % 2 == 1
 
 -- this name, or another one with its bit, is needed
 abbrev pub is_needed : List Bits → List ℕ → Bool
-is_needed all name = (bits_for all name).needed / 2 ^ bit_of (hash_of name) % 2 == 1
+is_needed all name = is_needed_by all (short_hash name)
 
 -- what was met and is needed stays so
 pub record AreKept (old new : List Bits) : Type 0 where
   pub size : length new ≡ length old
-  pub met : (name : List ℕ) → IsMet old name → IsMet new name
+  pub met : (name : List ℕ) → WasMet old name → WasMet new name
   pub needed : (name : List ℕ) → is_needed old name ≡ true → is_needed new name ≡ true
 
 -- a name that stands before an entry and in it is needed

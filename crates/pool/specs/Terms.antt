@@ -4,7 +4,6 @@ use Rattle.inorder.specs.declared.history.Entry.{Entry}
 use Rattle.inorder.specs.History.{unit_of}
 use Rattle.front.specs.Fronts.{IsUnused}
 use Rattle.front.specs.Stills.{FrontMayEnter, TheStillFront}
-use Rattle.instructions.specs.Programs.{Program}
 use Rattle.pool.specs.declared.dispatch.Begin.{Begin}
 use Rattle.pool.specs.declared.dispatch.Begin.TheVariants.{Again, Fresh}
 use Rattle.station.specs.Seats.{Caller, TheCore}
@@ -27,10 +26,9 @@ pub record GivesBack {S : Type 0} (core : TheCore) (seat : Caller) (still : TheS
   pub still_core : still.core ≡ core
   pub still_seen : still.seen ≡ seat.seen
 
--- All parts of a term are at its core, and the run's program and ring are those of the core
-pub record AreReady {S : Type 0} (program : Program) (ring : ℕ) (core : TheCore) (begin : Begin S)
+-- All parts of a term are at its core, and the run's ring is that of the core
+pub record AreReady {S : Type 0} (ring : ℕ) (core : TheCore) (begin : Begin S)
     (seat unit : Caller) (back_core : TheCore) : Type 0 where
-  pub program_is : program ≡ core.program
   pub ring_is : ring ≡ core.sizes.ring
   pub begins : Begins core begin seat
   pub unit_is : unit.core ≡ core

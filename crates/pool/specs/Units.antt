@@ -2,15 +2,13 @@
 use Rattle.std.specs.Prelude.{◌≡◌}
 use Rattle.atomic_table.specs.Seated.{TableId}
 use Rattle.hints.specs.Hinted.{TheHints}
-use Rattle.instructions.specs.Programs.{Program}
 use Rattle.pool.specs.HintsPut.{Searches}
 use Rattle.pool.specs.declared.compute.Unit.{Unit}
 use Rattle.station.specs.Seats.{TheCore}
 
--- It works at this core, in a run of its program, adds to the run's totals, and looks for work in the run's hints
-pub record Works (core : TheCore) (program : Program) (counts : TableId) (hints : TheHints) (unit : Unit) : Type 0 where
+-- It works at this core, adds to the run's totals, and looks for work in the run's hints
+pub record Works (core : TheCore) (counts : TableId) (hints : TheHints) (unit : Unit) : Type 0 where
   pub core_is : unit.seat.core ≡ core
-  pub program_is : program ≡ core.program
   pub count_is : unit.count.seat.of ≡ counts
   pub ring_is : hints.ring ≡ core.sizes.ring
   pub searches : Searches hints unit.search

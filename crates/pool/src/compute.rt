@@ -4,7 +4,7 @@ ghost use Rattle.inorder.specs.History.{IsLegal};
 ghost use Rattle.pool.specs.HintsPut.{candidate_station};
 ghost use Rattle.pool.specs.Units.{Works};
 ghost use Rattle.station.specs.Claiming.{ClaimAnswers, Holds};
-ghost use Rattle.station.specs.Seats.{IsSame};
+ghost use Rattle.station.specs.Seats.{IsSameSeat};
 
 use crate::floor::Floor;
 use crate::gate::Gate;
@@ -23,7 +23,7 @@ use std::thread::yield_now;
 fn claim(core: &Core, seat: &mut UnitSeat, candidate: Candidate) -> Claim
     requires core { seat.old.core ≡ core.now }
     requires station { candidate_station candidate < core.now.sizes.ring }
-    ensures kept { IsSame seat.old seat.new }
+    ensures kept { IsSameSeat seat.old seat.new }
     ensures reply { ClaimAnswers core.now.program core.now.sizes
         seat.old.by seat.old.seen seat.new.seen (candidate_station candidate) result }
 {
@@ -32,16 +32,16 @@ fn claim(core: &Core, seat: &mut UnitSeat, candidate: Candidate) -> Claim
 }
 
 // Computes a claimed tenant, and writes its outcome.
-fn compute<K: Ring>(floor: &Floor<K>, core: &Core, seat: &mut UnitSeat, job: Job) -> Finish
+fn compute(core: &Core, seat: &mut UnitSeat, job: Job) -> Finish
     requires core { seat.old.core ≡ core.now }
     requires job { Holds core.now.program core.now.sizes seat.old.by seat.old.seen job }
     requires legal { IsLegal core.now.program core.now.sizes seat.old.seen }
-    requires program { floor.now.program ≡ core.now.program }
     ensures core { seat.new.core ≡ core.now }
 {
     a_job_is_of_the_program();
-    let instr = floor.program.instr(job.index as usize);
-    let size = floor.program.size();
+    let program = core.program();
+    let instr = program.instr(job.index as usize);
+    let size = program.size();
     let result = outcome_of(instr, job.half, job.pc, job.a, job.b, size);
     core.finish(seat, job, result)
 }
@@ -71,7 +71,7 @@ pub(crate) struct Worker {
 }
 
 /// A unit at work: its number, its seat, what it has counted, where it looks for work, how it rests, and how often it
-/// has found work in a row.
+/// has found work since it last looked in vain without a hint.
 #[derive(Drop)]
 pub(crate) struct Unit {
     number: u32,
@@ -86,9 +86,8 @@ pub(crate) struct Unit {
 fn enter<K: Ring>(floor: &Floor<K>, core: &Core, worker: Worker) -> Unit
     requires core { worker.seat.core ≡ core.now }
     requires count { worker.count.of ≡ floor.now.counts }
-    requires program { floor.now.program ≡ core.now.program }
     requires hints { floor.now.hints.ring ≡ core.now.sizes.ring }
-    ensures { Works core.now floor.now.program floor.now.counts floor.now.hints result }
+    ensures { Works core.now floor.now.counts floor.now.hints result }
 {
     let Worker { unit, seat, count } = worker;
     Unit {
@@ -101,12 +100,12 @@ fn enter<K: Ring>(floor: &Floor<K>, core: &Core, worker: Worker) -> Unit
     }
 }
 
-// Counts the claim of a job, and whether its station came as a hint. Where it has found work as often in a row as the
-// queue takes hints, there is enough for another unit.
+// Counts the claim of a job, and whether its station came as a hint. Where it has found work as often as the queue
+// takes hints, and never looked in vain without one, there is enough for another unit.
 fn count_claim<K: Ring>(floor: &Floor<K>, core: &Core, unit: &mut Unit, candidate: Candidate)
-    requires { Works core.now floor.now.program floor.now.counts floor.now.hints unit.old }
+    requires { Works core.now floor.now.counts floor.now.hints unit.old }
     ensures seat { unit.new.seat ≡ unit.old.seat }
-    ensures works { Works core.now floor.now.program floor.now.counts floor.now.hints unit.new }
+    ensures works { Works core.now floor.now.counts floor.now.hints unit.new }
 {
     unit.rest.begin_again();
     unit.count.count(&floor.counts, Total::Claims, 1);
@@ -123,12 +122,12 @@ fn count_claim<K: Ring>(floor: &Floor<K>, core: &Core, unit: &mut Unit, candidat
 
 // Finishes a job, counts that, and hints whom its result woke.
 fn finish<K: Ring, R: Wait>(wait: &R, floor: &Floor<K>, core: &Core, unit: &mut Unit, job: Job)
-    requires works { Works core.now floor.now.program floor.now.counts floor.now.hints unit.old }
+    requires works { Works core.now floor.now.counts floor.now.hints unit.old }
     requires job { Holds core.now.program core.now.sizes unit.old.seat.by unit.old.seat.seen job }
     requires legal { IsLegal core.now.program core.now.sizes unit.old.seat.seen }
-    ensures { Works core.now floor.now.program floor.now.counts floor.now.hints unit.new }
+    ensures { Works core.now floor.now.counts floor.now.hints unit.new }
 {
-    if let Finish::Stale = compute(floor, core, &mut unit.seat, job) {
+    if let Finish::Stale = compute(core, &mut unit.seat, job) {
         unit.count.count(&floor.counts, Total::Stale, 1);
         return;
     }
@@ -153,15 +152,17 @@ fn turn<K: Ring, G: Gate, R: Wait>(
     unit: &mut Unit,
     left: u32,
 ) -> u32
-    requires { Works core.now floor.now.program floor.now.counts floor.now.hints unit.old }
-    ensures works { Works core.now floor.now.program floor.now.counts floor.now.hints unit.new }
+    requires { Works core.now floor.now.counts floor.now.hints unit.old }
+    ensures works { Works core.now floor.now.counts floor.now.hints unit.new }
     ensures left { result ≤ left }
 {
     let candidate = unit.search.next(wait, &floor.hints, core.ring());
     let job = match claim(core, &mut unit.seat, candidate) {
         Claim::Job(job) => job,
         Claim::NotOpen | Claim::Waiting { tag: _, k: _ } | Claim::Moved { tag: _ } => {
-            unit.row = 0;
+            if let Candidate::Next(_) = candidate {
+                unit.row = 0;
+            }
             unit.rest.rest();
             return left;
         }
@@ -184,7 +185,6 @@ pub(crate) fn work<K: Ring, G: Gate, R: Wait>(
 )
     requires core { worker.seat.core ≡ core.now }
     requires count { worker.count.of ≡ floor.now.counts }
-    requires program { floor.now.program ≡ core.now.program }
     requires hints { floor.now.hints.ring ≡ core.now.sizes.ring }
 {
     let number = worker.unit;

@@ -11,7 +11,7 @@ use crate::rest::Rest;
 use counts::{Total, WorkerSeat};
 use front::{Front, FrontStill, Recovery, Rest as Rests, Turn};
 use hints::{Hinter, Ring};
-use instructions::{Predictor, Program};
+use instructions::Predictor;
 use station::{Core, FrontSeat};
 use std::sync::Wait;
 
@@ -115,19 +115,13 @@ pub(crate) struct Left<P: Predictor + Drop> {
 }
 
 // The front at the core of a term.
-fn enter<'x, P: Predictor + Drop>(
-    core: &Core,
-    program: &'x Program,
-    seat: FrontSeat,
-    begin: Begin<P>,
-) -> Front<'x, P>
+fn enter<'x, P: Predictor + Drop>(core: &'x Core, seat: FrontSeat, begin: Begin<P>) -> Front<'x, P>
     requires begins { Begins core.now begin seat }
-    requires program { program.now ≡ core.now.program }
     ensures core { result.core ≡ core.now }
 {
     match begin {
-        Begin::Fresh(predictor) => Front::new(core, seat, program, predictor),
-        Begin::Again(still) => still.enter(seat, program),
+        Begin::Fresh(predictor) => Front::new(core, seat, core.program(), predictor),
+        Begin::Again(still) => still.enter(seat, core.program()),
     }
 }
 
@@ -151,7 +145,6 @@ pub(crate) fn dispatch<K: Ring, P: Predictor + Drop, R: Wait>(
 ) -> Option<Left<P>>
     requires begins { Begins core.now dispatcher.begin dispatcher.seat }
     requires count { dispatcher.count.of ≡ floor.now.counts }
-    requires program { floor.now.program ≡ core.now.program }
     requires hints { floor.now.hints.ring ≡ core.now.sizes.ring }
     ensures { IfSome result (λ left. GivesBack core.now left.seat left.still) }
 {
@@ -161,7 +154,7 @@ pub(crate) fn dispatch<K: Ring, P: Predictor + Drop, R: Wait>(
         count,
         left,
     } = dispatcher;
-    let mut front = enter(core, &floor.program, seat, begin);
+    let mut front = enter(core, seat, begin);
     let mut count = Gathered::new(count);
     let mut hinter = floor.hints.hinter();
     let mut rest = Rest::after(PATIENCE);

@@ -1,7 +1,7 @@
 //! What the threads of one run share.
 use counts::Counts;
 use hints::{Hints, Ring};
-use instructions::{Memory, Program};
+use instructions::Memory;
 use std::alloc::Global;
 use std::sync::Wait;
 use std::sync::atomic::Ordering::{Acquire, Release};
@@ -10,7 +10,6 @@ use std::sync::atomic::{AtomicBool, AtomicU32, AtomicU64};
 /// What outlives a renewal of the core. Each thread begins with the same number of turns.
 #[derive(Drop)]
 pub(crate) struct Floor<K: Ring> {
-    pub program: Program,
     pub counts: Counts,
     pub hints: Hints<K>,
     pub turns: u32,
@@ -41,19 +40,16 @@ impl<K: Ring> Floor<K> {
 
     pub(crate) fn new(
         alloc: Global,
-        program: Program,
         counts: Counts,
         hints: Hints<K>,
         units: u32,
         turns: u32,
     ) -> Result<Self, Memory>
-        ensures program { IfOk result (λ floor. floor.program ≡ program) }
         ensures counts { IfOk result (λ floor. floor.counts ≡ counts) }
         ensures hints { IfOk result (λ floor. floor.hints ≡ hints) }
     {
         let left = unit_turns(alloc, units, turns)?;
         Ok(Floor {
-            program,
             counts,
             hints,
             turns,

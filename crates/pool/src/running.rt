@@ -43,7 +43,7 @@ fn in_threads<
     first: Snapper<J>,
     committer: &'x mut Committer<J, K>,
 )
-    requires ready { AreReady floor.now.program floor.now.hints.ring term.core term.begin term.seat
+    requires ready { AreReady floor.now.hints.ring term.core term.begin term.seat
         term.unit committer.old.back.core }
     requires count { term.count.of ≡ floor.now.counts }
     requires counts { floor.now.counts ≡ K.counts }
@@ -53,7 +53,7 @@ fn in_threads<
         thread::scope_env(),
         wait,
         move |scope|
-            requires ready { AreReady floor.now.program floor.now.hints.ring term.core term.begin
+            requires ready { AreReady floor.now.hints.ring term.core term.begin
                 term.seat term.unit committer.now.back.core }
             requires count { term.count.of ≡ floor.now.counts }
             requires counts { floor.now.counts ≡ K.counts }
@@ -114,12 +114,11 @@ fn run_named<
     ensures renewals { IfOk result (λ r. TellsRenewals r.renewals r.run) }
     ensures limit { IfOk result (λ r. IsLimit config.now.limit r.turns.left r.run) }
 {
-    let copy = program.copied(alloc)?;
     let (core, front_seat, back_seat, unit_seat) = Core::make(alloc, program, config)?;
     let hints = Hints::<K>::new(alloc, core.ring())?;
     let (back, snapper) = back_at::<J>(alloc, &core, back_seat, program, config)?;
     let (back_count, workers) = counts.split_worker(count);
-    let floor = match Floor::new(alloc, copy, counts, hints, config.units(), config.turns()) {
+    let floor = match Floor::new(alloc, counts, hints, config.units(), config.turns()) {
         Ok(floor) => floor,
         Err(memory) => {
             back.end(wait);

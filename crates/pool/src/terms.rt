@@ -59,7 +59,7 @@ fn in_threads<
     count: WorkerSeat,
     committer: &'c mut Committer<J, K>,
 ) -> (&'c mut Committer<J, K>, Option<Given<P>>)
-    requires ready { AreReady floor.now.program floor.now.hints.ring core.now dispatcher.begin
+    requires ready { AreReady floor.now.hints.ring core.now dispatcher.begin
         dispatcher.seat unit committer.old.back.core }
     requires front_count { dispatcher.count.of ≡ floor.now.counts }
     requires count { count.of ≡ floor.now.counts }
@@ -75,7 +75,7 @@ fn in_threads<
         thread::scope_env(),
         wait,
         move |scope| -> (&mut Committer<J, K>, Option<Given<P>>)
-            requires ready { AreReady floor.now.program floor.now.hints.ring core.now
+            requires ready { AreReady floor.now.hints.ring core.now
                 dispatcher.begin dispatcher.seat unit committer.now.back.core }
             requires front_count { dispatcher.count.of ≡ floor.now.counts }
             requires count { count.of ≡ floor.now.counts }
@@ -126,7 +126,7 @@ fn run_term<
     term: Term<P>,
     committer: &'c mut Committer<J, K>,
 ) -> (&'c mut Committer<J, K>, Option<Term<P>>)
-    requires ready { AreReady floor.now.program floor.now.hints.ring term.core term.begin term.seat
+    requires ready { AreReady floor.now.hints.ring term.core term.begin term.seat
         term.unit committer.old.back.core }
     requires count { term.count.of ≡ floor.now.counts }
     requires counts { floor.now.counts ≡ K.counts }
@@ -134,7 +134,7 @@ fn run_term<
     requires units { units ≤ 64 }
     ensures begun { IfSome result.1 (λ next. result.0.now.over ≡ Err Refusal.Thread) }
     ensures count { IfSome result.1 (λ next. next.count.of ≡ floor.now.counts) }
-    ensures ready { IfSome result.1 (λ next. AreReady floor.now.program floor.now.hints.ring
+    ensures ready { IfSome result.1 (λ next. AreReady floor.now.hints.ring
         next.core next.begin next.seat next.unit result.0.now.back.core) }
 {
     let Term {
@@ -192,7 +192,7 @@ pub(crate) fn run_terms<
     first: Term<P>,
     committer: &mut Committer<J, K>,
 )
-    requires ready { AreReady floor.now.program floor.now.hints.ring first.core first.begin
+    requires ready { AreReady floor.now.hints.ring first.core first.begin
         first.seat first.unit committer.old.back.core }
     requires count { first.count.of ≡ floor.now.counts }
     requires counts { floor.now.counts ≡ K.counts }

@@ -63,7 +63,6 @@ pub(crate) fn start_dispatch<
 ) -> Option<Leaving<P>>
     requires begins { Begins core.now dispatcher.begin dispatcher.seat }
     requires count { dispatcher.count.of ≡ floor.now.counts }
-    requires program { floor.now.program ≡ core.now.program }
     requires hints { floor.now.hints.ring ≡ core.now.sizes.ring }
     ensures { IfSome result (λ thread. thread.promise.0.value ≡ core.now) }
 {
@@ -71,7 +70,6 @@ pub(crate) fn start_dispatch<
     let job = move || -> Option<Left<P>>
         requires begins { Begins core.now dispatcher.begin dispatcher.seat }
         requires count { dispatcher.count.of ≡ floor.now.counts }
-        requires program { floor.now.program ≡ core.now.program }
         requires hints { floor.now.hints.ring ≡ core.now.sizes.ring }
         ensures { IfSome result (λ left. GivesBack core.entry.now left.seat left.still) }
     { dispatch(wait, floor, core, dispatcher) };
@@ -88,13 +86,11 @@ fn start_unit<'s, E: 's, K: Ring + Send + Sync + 's, G: Gate + Sync + 's, R: Wai
 ) -> bool
     requires core { worker.seat.core ≡ core.now }
     requires count { worker.count.of ≡ floor.now.counts }
-    requires program { floor.now.program ≡ core.now.program }
     requires hints { floor.now.hints.ring ≡ core.now.sizes.ring }
 {
     let job = move ||
         requires core { worker.seat.core ≡ core.now }
         requires count { worker.count.of ≡ floor.now.counts }
-        requires program { floor.now.program ≡ core.now.program }
         requires hints { floor.now.hints.ring ≡ core.now.sizes.ring }
     { work(wait, floor, core, gate, worker) };
     scope.spawn(job).is_ok()
@@ -119,7 +115,6 @@ pub(crate) fn start_units<
 ) -> Option<UnitSeat>
     requires core { seat.core ≡ core.now }
     requires count { count.of ≡ floor.now.counts }
-    requires program { floor.now.program ≡ core.now.program }
     requires hints { floor.now.hints.ring ≡ core.now.sizes.ring }
     requires units { units ≤ 64 }
     ensures { IfSome result (λ rest. rest.core ≡ core.now) }

@@ -5,7 +5,7 @@ use Rattle.clap.specs.Faults.{is_simple_and_free}
 use Rattle.clap.proofs.OnLiterals.{clap_on_literals}
 use Rattle.clap.specs.declared.builder.arg.Arg.{Arg}
 use Rattle.clap.specs.declared.builder.command.Command.{Command}
-use Rattle.requests.specs.Tool.{IsArg, IsCommand, tool}
+use Rattle.requests.specs.Tool.{Becomes, IsArg, IsCommand, tool}
 
 pub extended : {app : App} {rule : Rule} {old new : Command} {arg : Arg}
     → IsCommand app old → IsArg rule arg → AddsArg old arg new → IsCommand (with_rule app rule) new
@@ -13,6 +13,15 @@ extended old arg adds = record {
   is = adds.shape arg.local ∙ ap₂ with_rule old.is arg.is;
   local = adds.globals ∙ ap₂ ◌||◌ old.local arg.local;
 }
+
+pub one_more : {rule : Rule} {old new : Command} {arg : Arg} → IsArg rule arg → AddsArg old arg new
+    → Becomes (λ app. with_rule app rule) old new
+one_more arg adds = record { changes = λ app old. extended old arg adds }
+
+-- one change behind another
+pub then : {one other : App → App} {old middle new : Command} → Becomes one old middle → Becomes other middle new
+    → Becomes (λ app. other (one app)) old new
+then first second = record { changes = λ app old. second.changes _ (first.changes app old) }
 
 -- a command with one more below it
 pub joined : {app below : App} {old one new : Command} → app_of old ≡ app → IsCommand below one → AddsSubcommand old one new

@@ -20,14 +20,23 @@ option_rule name = record (new_rule name) { long = Some name; value_names = 1 }
 abbrev pub flag_rule : Text → Rule
 flag_rule name = record (new_rule name) { long = Some name; action = Some SetTrue }
 
+-- the file of the listing, and how much the unit holds
+abbrev pub sized : App → App
+sized app = with_rule (with_rule (with_rule app file_rule) (option_rule (codes "ruu-size"))) (option_rule (codes "lsq-size"))
+
+-- what runs the listing, and for how long
+abbrev pub bounded : App → App
+bounded app = with_rule (with_rule (with_rule (with_rule app
+    (option_rule (codes "units"))) (option_rule (codes "bpred"))) (option_rule (codes "turns"))) (option_rule (codes "limit"))
+
+-- how it is seen
+abbrev pub viewed : App → App
+viewed app = with_rule (with_rule (with_rule (with_rule app
+    (flag_rule (codes "alone"))) (flag_rule (codes "progress"))) (flag_rule (codes "chart"))) (option_rule (codes "trace"))
+
 -- `ruu run`
 abbrev pub run : App
-run = with_rule (with_rule (with_rule (with_rule (with_rule (with_rule (with_rule (with_rule (with_rule (with_rule (with_rule
-    (new_app (codes "run")) file_rule)
-    (option_rule (codes "ruu-size"))) (option_rule (codes "lsq-size")))
-    (option_rule (codes "units"))) (option_rule (codes "bpred")))
-    (option_rule (codes "turns"))) (option_rule (codes "limit"))) (flag_rule (codes "alone")))
-    (flag_rule (codes "progress"))) (flag_rule (codes "chart"))) (option_rule (codes "trace"))
+run = viewed (bounded (sized (new_app (codes "run"))))
 
 -- `ruu check`
 abbrev pub check : App
@@ -35,11 +44,8 @@ check = with_rule (new_app (codes "check")) file_rule
 
 -- `ruu drive`
 abbrev pub drive : App
-drive = with_rule (with_rule (with_rule (with_rule (with_rule (with_rule
-    (new_app (codes "drive")) file_rule)
-    (option_rule (codes "ruu-size"))) (option_rule (codes "lsq-size")))
-    (option_rule (codes "bpred"))) (option_rule (codes "first-tag")))
-    (flag_rule (codes "quiet-prompt"))
+drive = with_rule (with_rule (with_rule (sized (new_app (codes "drive")))
+    (option_rule (codes "bpred"))) (option_rule (codes "first-tag"))) (flag_rule (codes "quiet-prompt"))
 
 -- `ruu`, which has a version
 abbrev pub with_version : App → App
@@ -59,3 +65,7 @@ pub record IsArg (rule : Rule) (arg : Arg) : Type 0 where
 pub record IsCommand (app : App) (command : Command) : Type 0 where
   pub is : app_of command ≡ app
   pub local : (out-Command command).has_globals ≡ false
+
+-- whatever the old command stands for, the new one stands for that with this change
+pub record Becomes (change : App → App) (old new : Command) : Type 0 where
+  pub changes : (app : App) → IsCommand app old → IsCommand (change app) new

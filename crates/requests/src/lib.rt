@@ -5,6 +5,7 @@ mod chosen;
 mod entries;
 mod no_run;
 mod options;
+mod program;
 mod reading;
 mod reading_by_hand;
 mod refusals;
@@ -16,5 +17,7 @@ mod watches;
 
 pub use chosen::{Chosen, choose};
 pub use no_run::{NoRun, status};
+pub use program::{refuse, words};
 pub use reading::{asked, requested};
+pub use refusals::of_another_program;
 pub use request::{Asked, BranchPredictor, ByHand, Request, Watch, is_standard_input};

@@ -1,7 +1,8 @@
 //! The command line, as `clap` reads it and as its help shows it.
-ghost use Rattle.std.specs.Prelude.{◌≡◌, IfOk};
-ghost use Rattle.clap.specs.Words.{app_of};
-ghost use Rattle.requests.specs.Tool.{IsArg, IsCommand, tool, run, check, drive};
+ghost use Rattle.std.specs.Prelude.{◌≡◌, IfOk, codes};
+ghost use Rattle.clap.specs.Words.{app_of, new_app, with_rule};
+ghost use Rattle.requests.specs.Tool.{Becomes, IsArg, IsCommand, tool, run, check, drive};
+ghost use Rattle.requests.specs.Tool.{sized, bounded, viewed, with_version};
 ghost use Rattle.requests.specs.Tool.{file_rule, option_rule, flag_rule};
 
 use clap::{Arg, ArgAction, Command};
@@ -12,58 +13,73 @@ pub(crate) fn command<'a>(alloc: Global) -> Result<Command<'a>, AllocError>
     ensures { IfOk result (λ c. app_of c ≡ tool) }
 {
     let run = run(alloc)?;
+    let running = top(alloc).subcommand(run)?;
     let check = check(alloc)?;
-    let by_hand = by_hand(alloc)?;
-    let top = Command::new(alloc, "ruu");
-    let named = top.about(ABOUT);
-    let versioned = named.version(VERSION);
-    let running = versioned.subcommand(run)?;
     let checking = running.subcommand(check)?;
+    let by_hand = by_hand(alloc)?;
     checking.subcommand(by_hand)
+}
+
+fn top<'a>(alloc: Global) -> Command<'a>
+    ensures { app_of result ≡ with_version (new_app (codes "ruu")) }
+{
+    let top = Command::new(alloc, "ruu");
+    top.about(ABOUT).version(VERSION)
 }
 
 fn run<'a>(alloc: Global) -> Result<Command<'a>, AllocError>
     ensures { IfOk result (IsCommand run) }
 {
-    let top = Command::new(alloc, "run");
-    let named = top.about(RUN);
-    let ended = named.after_help(NOTES);
-    ended
-        .arg(file(alloc))?
-        .arg(option(alloc, "ruu-size", "N", RING))?
-        .arg(option(alloc, "lsq-size", "N", QUEUE))?
-        .arg(option(alloc, "units", "N", UNITS))?
-        .arg(option(alloc, "bpred", "NAME", PREDICTOR))?
-        .arg(option(alloc, "turns", "N", TURNS))?
-        .arg(option(alloc, "limit", "N", LIMIT))?
-        .arg(flag(alloc, "alone", ALONE))?
-        .arg(flag(alloc, "progress", PROGRESS))?
-        .arg(flag(alloc, "chart", CHART))?
-        .arg(option(alloc, "trace", "FILE", TRACE))
+    let named = headed(alloc, "run", RUN, NOTES);
+    let sized = with_sizes(alloc, named)?;
+    let bounded = with_bounds(alloc, sized)?;
+    with_views(alloc, bounded)
 }
 
 fn check<'a>(alloc: Global) -> Result<Command<'a>, AllocError>
     ensures { IfOk result (IsCommand check) }
 {
-    let top = Command::new(alloc, "check");
-    let named = top.about(CHECK);
-    let ended = named.after_help(CHECK_NOTES);
-    ended.arg(file(alloc))
+    let named = headed(alloc, "check", CHECK, CHECK_NOTES);
+    named.arg(file(alloc))
 }
 
 fn by_hand<'a>(alloc: Global) -> Result<Command<'a>, AllocError>
     ensures { IfOk result (IsCommand drive) }
 {
-    let top = Command::new(alloc, "drive");
-    let named = top.about(DRIVE);
-    let ended = named.after_help(DRIVE_NOTES);
-    ended
-        .arg(file(alloc))?
-        .arg(option(alloc, "ruu-size", "N", RING))?
-        .arg(option(alloc, "lsq-size", "N", QUEUE))?
-        .arg(option(alloc, "bpred", "NAME", PREDICTOR))?
-        .arg(option(alloc, "first-tag", "N", FIRST_TAG))?
-        .arg(flag(alloc, "quiet-prompt", QUIET_PROMPT))
+    let named = headed(alloc, "drive", DRIVE, DRIVE_NOTES);
+    let sized = with_sizes(alloc, named)?;
+    let predicting = with_option(alloc, sized, "bpred", "NAME", PREDICTOR)?;
+    let tagged = with_option(alloc, predicting, "first-tag", "N", FIRST_TAG)?;
+    with_flag(alloc, tagged, "quiet-prompt", QUIET_PROMPT)
+}
+
+// The file of the listing, and how much the unit holds.
+fn with_sizes<'a>(alloc: Global, command: Command<'a>) -> Result<Command<'a>, AllocError>
+    ensures { IfOk result (Becomes sized command.entry) }
+{
+    let filed = command.arg(file(alloc))?;
+    let ringed = with_option(alloc, filed, "ruu-size", "N", RING)?;
+    with_option(alloc, ringed, "lsq-size", "N", QUEUE)
+}
+
+// What runs the listing, and for how long.
+fn with_bounds<'a>(alloc: Global, command: Command<'a>) -> Result<Command<'a>, AllocError>
+    ensures { IfOk result (Becomes bounded command.entry) }
+{
+    let manned = with_option(alloc, command, "units", "N", UNITS)?;
+    let predicting = with_option(alloc, manned, "bpred", "NAME", PREDICTOR)?;
+    let timed = with_option(alloc, predicting, "turns", "N", TURNS)?;
+    with_option(alloc, timed, "limit", "N", LIMIT)
+}
+
+// How it is seen.
+fn with_views<'a>(alloc: Global, command: Command<'a>) -> Result<Command<'a>, AllocError>
+    ensures { IfOk result (Becomes viewed command.entry) }
+{
+    let lonely = with_flag(alloc, command, "alone", ALONE)?;
+    let telling = with_flag(alloc, lonely, "progress", PROGRESS)?;
+    let drawing = with_flag(alloc, telling, "chart", CHART)?;
+    with_option(alloc, drawing, "trace", "FILE", TRACE)
 }
 
 const ABOUT: &str =
@@ -127,6 +143,37 @@ The commands are explained in docs/TEACHING.md.
 
 Exit status: 0 all commands were answered, 2 a fault in the listing, 3 a mistake on the
 command line, 5 no memory, or a file could not be opened, read or written.";
+
+// A command with what it is for and what stands below its options.
+fn headed<'a>(alloc: Global, name: &'a str, about: &'a str, notes: &'a str) -> Command<'a>
+    ensures { IsCommand (new_app name.now) result }
+{
+    let command = Command::new(alloc, name);
+    command.about(about).after_help(notes)
+}
+
+fn with_option<'a>(
+    alloc: Global,
+    command: Command<'a>,
+    name: &'a str,
+    value: &'a str,
+    help: &'a str,
+) -> Result<Command<'a>, AllocError>
+    ensures { IfOk result (Becomes (λ app. with_rule app (option_rule name.now)) command.entry) }
+{
+    command.arg(option(alloc, name, value, help))
+}
+
+fn with_flag<'a>(
+    alloc: Global,
+    command: Command<'a>,
+    name: &'a str,
+    help: &'a str,
+) -> Result<Command<'a>, AllocError>
+    ensures { IfOk result (Becomes (λ app. with_rule app (flag_rule name.now)) command.entry) }
+{
+    command.arg(flag(alloc, name, help))
+}
 
 fn file<'a>(alloc: Global) -> Arg<'a>
     ensures { IsArg file_rule result }

@@ -34,6 +34,16 @@ pub(crate) fn usage(alloc: Global, command: &str, what: &str) -> NoRun
     }
 }
 
+/// Another program has this command.
+pub fn of_another_program(alloc: Global, command: &str, program: &str) -> NoRun
+    ensures { IsUsage result }
+{
+    match format!(in alloc; "the program {program} has this command, and ./ruu starts it") {
+        Ok(text) => usage(alloc, command, text.as_str()),
+        Err(_) => NoRun::Memory,
+    }
+}
+
 /// The words name none of the commands.
 pub(crate) fn no_command(alloc: Global) -> NoRun
     ensures { IsUsage result }

@@ -4,7 +4,7 @@ ghost use Rattle.instructions.specs.Instruction.{fixed_next};
 ghost use Rattle.instructions.specs.Programs.{address, instr_of};
 ghost use Rattle.instructions.specs.declared.op.Half.TheVariants.{Low};
 ghost use Rattle.inorder.specs.Replies.{last_tag};
-ghost use Rattle.station.specs.Seats.{IsSame};
+ghost use Rattle.station.specs.Seats.{IsSameSeat};
 
 use crate::drive::{finish_one, made, work};
 use instructions::{Half, Program};
@@ -24,7 +24,7 @@ fn let_first(core: &Core, seat: &mut FrontSeat, predicted: u32) -> u32
     requires tag { core.now.sizes.first_tag < last_tag }
     requires predicted { IfSome (fixed_next (instr_of core.now.program 0) Low (address 0))
         (λ x. predicted ≡ x) }
-    ensures kept { IsSame seat.old seat.new }
+    ensures kept { IsSameSeat seat.old seat.new }
 {
     let tenant = Tenant {
         index: 0,

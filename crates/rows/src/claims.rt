@@ -1,6 +1,6 @@
 //! Claims, by hand.
 ghost use Rattle.std.specs.Prelude.{◌≡◌, ◌<◌, ◌≤◌};
-ghost use Rattle.station.specs.Seats.{IsSame};
+ghost use Rattle.station.specs.Seats.{IsSameSeat};
 
 use crate::drive::{Done, finish_job, finish_one, let_at, made, takes};
 use front::{Front, Turn};
@@ -30,7 +30,7 @@ fn claim(core: &Core, program: &Program, seat: &mut UnitSeat, station: usize) ->
     requires core { seat.old.core ≡ core.now }
     requires program { program.now ≡ core.now.program }
     requires station { station < core.now.sizes.ring }
-    ensures kept { IsSame seat.old seat.new }
+    ensures kept { IsSameSeat seat.old seat.new }
 {
     match core.claim(seat, station) {
         Claim::Job(job) => {

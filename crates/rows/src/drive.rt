@@ -2,7 +2,7 @@
 ghost use Rattle.std.specs.Prelude.{◌≡◌, ◌<◌, IfOk};
 ghost use Rattle.back.specs.Backs.{HasRetiredNothing};
 ghost use Rattle.station.specs.Claiming.{Holds};
-ghost use Rattle.station.specs.Seats.{IsSame};
+ghost use Rattle.station.specs.Seats.{IsSameSeat};
 
 use back::{Back, Commit, Naming, Snapper};
 use front::{Front, Turn};
@@ -70,7 +70,7 @@ pub fn finish_job(core: &Core, program: &Program, seat: &mut UnitSeat, job: Job)
     requires core { seat.old.core ≡ core.now }
     requires program { program.now ≡ core.now.program }
     requires job { Holds core.now.program core.now.sizes seat.old.by seat.old.seen job }
-    ensures kept { IsSame seat.old seat.new }
+    ensures kept { IsSameSeat seat.old seat.new }
 {
     what_is_seen_is_legal(seat);
     a_job_is_of_the_program();
@@ -91,7 +91,7 @@ pub fn work(core: &Core, program: &Program, seat: &mut UnitSeat, station: usize)
     requires core { seat.old.core ≡ core.now }
     requires program { program.now ≡ core.now.program }
     requires station { station < core.now.sizes.ring }
-    ensures kept { IsSame seat.old seat.new }
+    ensures kept { IsSameSeat seat.old seat.new }
 {
     match core.claim(seat, station) {
         Claim::Job(job) => Some(finish_job(core, program, seat, job)),
@@ -106,7 +106,7 @@ pub fn finish_one(core: &Core, program: &Program, seat: &mut UnitSeat, station: 
     requires core { seat.old.core ≡ core.now }
     requires program { program.now ≡ core.now.program }
     requires station { station < core.now.sizes.ring }
-    ensures kept { IsSame seat.old seat.new }
+    ensures kept { IsSameSeat seat.old seat.new }
 {
     match work(core, program, seat, station) {
         Some(done) => done.finish == Finish::Finished,

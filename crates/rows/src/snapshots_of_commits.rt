@@ -102,14 +102,15 @@ fn refused_once<J: Naming, R: Wait + Abort>(
     let before = snapper.take().ok();
     let second = back.show(rt).ok();
     let after = snapper.take().ok();
+    let n = back.n();
+    let woken = back.woken();
     let end = back.end(rt);
     let shown = if first.is_some() { 1 } else { 0 };
     assert_eq!(rt; before.map(|snap| snap.n), Some(shown));
-    assert_eq!(rt;
-        (first.or(second), after.map(|snap| snap.n)),
-        (Some(Mark { n: 1 }), Some(1))
-    );
-    assert_eq!(rt; (end.n, end.registers[1]), (1, 1));
+    assert_eq!(rt; first.or(second), Some(Mark { n: 1 }));
+    assert_eq!(rt; after.map(|snap| (snap.n, snap.registers[1])), Some((1, 1)));
+    assert_eq!(rt; (n, end.n, end.registers[1]), (1, 1, 1));
+    assert_eq!(rt; woken, 0);
     Ok(())
 }
 

@@ -2,7 +2,7 @@
 ghost use Rattle.std.specs.Prelude.{◌≡◌, IfOk};
 ghost use Rattle.inorder.specs.Callers.{GoesOn};
 ghost use Rattle.inorder.specs.History.{unit_of};
-ghost use Rattle.station.specs.Making.{AreFirst, IsMade};
+ghost use Rattle.station.specs.Making.{AreFirst, IsNewCore};
 ghost use Rattle.station.specs.Renewals.{HasNobody};
 
 use instructions::{Config, Memory, Program};
@@ -20,7 +20,7 @@ fn made(
     program: &Program,
     config: &Config,
 ) -> Result<(Core, FrontSeat, BackSeat, UnitSeat), Memory>
-    ensures { IfOk result (λ t. IsMade program.now config.now t.0 t.1 t.2 t.3) }
+    ensures { IfOk result (λ t. IsNewCore program.now config.now t.0 t.1 t.2 t.3) }
 {
     match Core::make(alloc, program, config) {
         Ok(made) => Ok(made),

@@ -3,18 +3,16 @@
 
 ghost use Rattle.std.specs.Prelude.{◌≡◌};
 ghost use Rattle.std.specs.Process.{exit_status};
-ghost use Rattle.requests.specs.Statuses.{status_of};
 
-mod by_hand;
 mod teller;
 mod watching;
 
-use command::{Asked, Line, NoRun, Request, Went, check, go, is_standard_input, requested, status};
+use command::{Asked, Line, Request, Went, check, go, is_standard_input, requested};
 use devices::Counted;
 use pool::Open;
-use std::env;
+use requests::{of_another_program, refuse, words};
 use std::fs::File;
-use std::io::{ErrorKind, Read};
+use std::io::Read;
 use std::process::ExitCode;
 use std::sync::Wait;
 use std::thread::Threads;
@@ -30,32 +28,9 @@ fn main(rt: HostRuntime) -> ExitCode {
         Ok(Request::Run(asked)) if asked.watch.is_wanted() => watch(&rt, &asked),
         Ok(Request::Run(asked)) => run(&rt, &rt, &asked),
         Ok(Request::Check(file)) => check_file(&rt, file),
-        Ok(Request::Drive(hand)) => end(&rt, by_hand::drive(&rt, &rt, &hand)),
+        Ok(Request::Drive(_)) => refuse(&rt, &of_another_program(rt.alloc(), "drive", "driver")),
         Err(no_run) => refuse(&rt, &no_run),
     }
-}
-
-// The words of the command line, of which the first is the program's name.
-fn words(rt: &HostRuntime) -> Result<Vec<String>, NoRun> {
-    match env::args(rt) {
-        Ok(words) => Ok(words.collect(rt.alloc())?),
-        Err(error) => Err(match error.kind() {
-            ErrorKind::OutOfMemory => NoRun::Memory,
-            _ => NoRun::Usage(format!(in rt.alloc(); "error: a word is no UTF-8\n")?),
-        }),
-    }
-}
-
-// A failure to print changes no status.
-fn refuse(rt: &HostRuntime, no_run: &NoRun) -> ExitCode
-    ensures { exit_status result ≡ status_of no_run.now }
-{
-    let _ = match no_run {
-        NoRun::Help(text) => print!(rt; "{text}"),
-        NoRun::Usage(text) => eprint!(rt; "{text}"),
-        _ => eprintln!(rt; "{no_run}"),
-    };
-    ExitCode::from(status(no_run))
 }
 
 fn run<T: Threads + Wait + Sync>(rt: &HostRuntime, wait: &T, asked: &Asked<'_>) -> ExitCode {

@@ -42,7 +42,7 @@ use Rattle.ruu_words.specs.declared.rule.Draft.{Draft}
 use Rattle.ruu_words.specs.declared.rule.Draft.TheVariants.{Nothing}
 use Rattle.ruu_words.specs.declared.rule.View.{View}
 use Rattle.ruu_words.specs.Content.{HasValue, IsOperand, IsOperandOf, IsStation, operand_unit}
-use Rattle.ruu_words.specs.Fields.{state_of, value_of as value_in}
+use Rattle.ruu_words.specs.Fields.{state_of, word_value}
 use Rattle.ruu_words.specs.Kinds.{Answers, HasLink, IsAny, IsMade, IsTenant, IsInTime, IsUnmade, Questions}
 use Rattle.ruu_words.proofs.Building.{looks, marks}
 use Rattle.ruu_words.proofs.Delivery.{by_value, delivers, link_on}
@@ -150,13 +150,13 @@ module _ (P : Program) (C : Sizes) where
             apart v e = cc e
 
     -- by its word
-    pub says : (n : ℕ) → IsStation (station_word C (recent U) p) n → (IsUnmade (state_of n) × IsInTime U r k q) ⊎ (IsMade (state_of n) × HasMade U q (value_in n))
+    pub says : (n : ℕ) → IsStation (station_word C (recent U) p) n → (IsUnmade (state_of n) × IsInTime U r k q) ⊎ (IsMade (state_of n) × HasMade U q (word_value n))
     says n w = go u.standing refl
       where
-        made : (v : ℕ) → u.made ≡ Some v → value_in n ≡ v → HasMade U q (value_in n)
+        made : (v : ℕ) → u.made ≡ Some v → word_value n ≡ v → HasMade U q (word_value n)
         made v e f = record { tenant = u; is = is_q; made = e ∙ ap Some (sym f) }
 
-        live : u.standing ≡ Live → (f : Fate) → u.fate ≡ f → IsStation (live_word u.tag f) n → (IsUnmade (state_of n) × IsInTime U r k q) ⊎ (IsMade (state_of n) × HasMade U q (value_in n))
+        live : u.standing ≡ Live → (f : Fate) → u.fate ≡ f → IsStation (live_word u.tag f) n → (IsUnmade (state_of n) × IsInTime U r k q) ⊎ (IsMade (state_of n) × HasMade U q (word_value n))
         live l (Done v) e x = inr (inr x.state, made v (made_when_done P us (unit_sound P C h legal) q u is_q maker_waits writer v e) x.value)
         live l Open e x = inl (not_ends (state_of n) 1 x.state (λ z. cc z) (λ z. cc z), in_time (unmade_before P us (unit_sound P C h legal) q u is_q maker_waits writer Open e tt l))
         live l (Busy by) e x = inl (not_ends (state_of n) 2 x.state (λ z. cc z) (λ z. cc z), in_time (unmade_before P us (unit_sound P C h legal) q u is_q maker_waits writer (Busy by) e tt l))
@@ -164,7 +164,7 @@ module _ (P : Program) (C : Sizes) where
         live l (Miss a) e x = inl (not_ends (state_of n) 5 x.state (λ z. cc z) (λ z. cc z), in_time (unmade_before P us (unit_sound P C h legal) q u is_q maker_waits writer (Miss a) e tt l))
         live l (Stopped c) e x = inl (not_ends (state_of n) 6 x.state (λ z. cc z) (λ z. cc z), in_time (unmade_before P us (unit_sound P C h legal) q u is_q maker_waits writer (Stopped c) e tt l))
 
-        go : (st : Standing) → u.standing ≡ st → (IsUnmade (state_of n) × IsInTime U r k q) ⊎ (IsMade (state_of n) × HasMade U q (value_in n))
+        go : (st : Standing) → u.standing ≡ st → (IsUnmade (state_of n) × IsInTime U r k q) ⊎ (IsMade (state_of n) × HasMade U q (word_value n))
         go Live l = live l u.fate refl (its_word P C h legal q p n u is_q at_p l w)
         go Squashed gone = absurd (true≢false (sym writer.path ∙ ap stands_on_path gone))
         go Retired gone =
@@ -172,7 +172,7 @@ module _ (P : Program) (C : Sizes) where
             let here : last_of (recent U) p ≡ Some u = ap (last_of (recent U)) (sym at_p) ∙ last_of_recent U q u is_q new (λ x y lt e f. last x y lt e (f ∙ at_p)) in
             let word : IsStation (word_of (tag_after C (recent U) p) (Some u)) n = subst (λ o. IsStation (word_of (tag_after C (recent U) p) o) n) here w in
             let free : IsStation (word_by (tag_after C (recent U) p) Retired u.tag u.fate u.made) n = subst (λ st. IsStation (word_by (tag_after C (recent U) p) st u.tag u.fate u.made) n) gone word in
-            let value : value_in n ≡ m.0 = subst (λ o. HasValue o (value_in n)) m.1 free.value in
+            let value : word_value n ≡ m.0 = subst (λ o. HasValue o (word_value n)) m.1 free.value in
             inr (inl free.state, made m.0 m.2 value)
 
   pub question_plan : (id : ℕ) (v : View) (p g r q : ℕ) (k : Source) → id ≡ front → v.draft ≡ Nothing → Has (unit_of P C v.seen) r (HasAsked k q) → IsTenant (unit_of P C v.seen) q p g IsAny →
@@ -187,7 +187,7 @@ module _ (P : Program) (C : Sizes) where
       let l = front_stays P C (λ U. IsLastAt U q p) (λ U by s b a ok x. last_stays P C U by s b a ok q p x) between v.seen legal apart_front last in ⊎_elim
       (λ (x : IsUnmade (state_of n) × IsInTime (unit_of P C h) r k q).
       marks P C id h d legal draft (Station p) n (Asked r k) (is_front, inr x.1.asked) content (Questions P C r k q n) (quiet, inl (x.0, refl, x.1)))
-      (λ (x : IsMade (state_of n) × HasMade (unit_of P C h) q (value_in n)).
+      (λ (x : IsMade (state_of n) × HasMade (unit_of P C h) q (word_value n)).
       looks P C id h d legal draft (Station p) n content (Questions P C r k q n) (quiet, inr (x.0, refl, x.1)))
       (says h legal r q p k i j.tenant j.is j.new j.station_is l n content)
 

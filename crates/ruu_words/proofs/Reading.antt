@@ -33,7 +33,7 @@ use Rattle.ruu_words.specs.declared.rule.Draft.TheVariants.{Nothing, Of}
 use Rattle.ruu_words.specs.declared.rule.Role.TheVariants.{Worker}
 use Rattle.ruu_words.specs.declared.rule.View.{View}
 use Rattle.ruu_words.specs.Content.{IsDraft, IsInfo, IsOperand, IsOperandOf, has_operand, info_unit, operand_unit, with_new}
-use Rattle.ruu_words.specs.Fields.{state_of, tag_of, value_of}
+use Rattle.ruu_words.specs.Fields.{state_of, tag_of, word_value}
 use Rattle.ruu_words.specs.Kinds.{IsClosed, IsTenant, ReadsInfo, ReadsOperand, ReadsSource}
 use Rattle.ruu_words.specs.Views.{IsCaller}
 use Rattle.ruu_words.proofs.Building.{looks, tells}
@@ -158,7 +158,7 @@ pub waits : (g : ℕ) (value : Option ℕ) (n : ℕ) → IsOperandOf (record { t
 waits g None n w ne = refl
 waits g (Some v) n w ne = absurd (ne w.state)
 
-pub delivered : (g : ℕ) (value : Option ℕ) (n : ℕ) → IsOperandOf (record { tag = g; value = value }) n → state_of n ≡ 2 → value ≡ Some (value_of n)
+pub delivered : (g : ℕ) (value : Option ℕ) (n : ℕ) → IsOperandOf (record { tag = g; value = value }) n → state_of n ≡ 2 → value ≡ Some (word_value n)
 delivered g None n w e = let s = w.state in absurd (omega arith)
 delivered g (Some v) n w e = ap Some (sym w.value)
 

@@ -12,7 +12,7 @@ use Rattle.inorder.proofs.StationsShown.{stations_follow}
 use Rattle.inorder.proofs.Recent.{among_all, live_is_recent, names_recent, recent_at}
 use Rattle.inorder.proofs.Tags.{tagged}
 use Rattle.ruu_words.specs.Content.{IsStation}
-use Rattle.ruu_words.specs.Fields.{state_of, tag_of, value_of}
+use Rattle.ruu_words.specs.Fields.{state_of, tag_of, word_value}
 use Rattle.inorder.proofs.Histories.{allowed_steps}
 use Rattle.ruu_words.proofs.Packing.{same_word}
 
@@ -77,7 +77,7 @@ busy_state g n (Done v) w e = let s = w.state in absurd (omega arith)
 busy_state g n (Miss x) w e = let s = w.state in absurd (omega arith)
 busy_state g n (Stopped c) w e = let s = w.state in absurd (omega arith)
 
-pub addr_state : (g n : ℕ) (f : Fate) → IsStation (live_word g f) n → state_of n ≡ 3 → f ≡ Addr (value_of n)
+pub addr_state : (g n : ℕ) (f : Fate) → IsStation (live_word g f) n → state_of n ≡ 3 → f ≡ Addr (word_value n)
 addr_state g n Open w e = let s = w.state in absurd (omega arith)
 addr_state g n (Busy by) w e = let s = w.state in absurd (omega arith)
 addr_state g n (Addr a) w e = ap Addr (sym w.value)
@@ -85,7 +85,7 @@ addr_state g n (Done v) w e = let s = w.state in absurd (omega arith)
 addr_state g n (Miss x) w e = let s = w.state in absurd (omega arith)
 addr_state g n (Stopped c) w e = let s = w.state in absurd (omega arith)
 
-pub done_state : (g n : ℕ) (f : Fate) → IsStation (live_word g f) n → state_of n ≡ 4 → f ≡ Done (value_of n)
+pub done_state : (g n : ℕ) (f : Fate) → IsStation (live_word g f) n → state_of n ≡ 4 → f ≡ Done (word_value n)
 done_state g n Open w e = let s = w.state in absurd (omega arith)
 done_state g n (Busy by) w e = let s = w.state in absurd (omega arith)
 done_state g n (Addr a) w e = let s = w.state in absurd (omega arith)
@@ -93,7 +93,7 @@ done_state g n (Done v) w e = ap Done (sym w.value)
 done_state g n (Miss x) w e = let s = w.state in absurd (omega arith)
 done_state g n (Stopped c) w e = let s = w.state in absurd (omega arith)
 
-pub miss_state : (g n : ℕ) (f : Fate) → IsStation (live_word g f) n → state_of n ≡ 5 → f ≡ Miss (value_of n)
+pub miss_state : (g n : ℕ) (f : Fate) → IsStation (live_word g f) n → state_of n ≡ 5 → f ≡ Miss (word_value n)
 miss_state g n Open w e = let s = w.state in absurd (omega arith)
 miss_state g n (Busy by) w e = let s = w.state in absurd (omega arith)
 miss_state g n (Addr a) w e = let s = w.state in absurd (omega arith)

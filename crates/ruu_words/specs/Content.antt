@@ -16,7 +16,7 @@ use Rattle.ruu_words.specs.declared.rule.Draft.{Draft}
 use Rattle.ruu_words.specs.declared.rule.Draft.TheVariants.{Nothing, Of}
 use Rattle.ruu_words.specs.declared.rule.Stage.{Stage}
 use Rattle.ruu_words.specs.declared.rule.Stage.TheVariants.{BothOperands, FirstOperand, Info as InfoAlone}
-use Rattle.ruu_words.specs.Fields.{half_of, index_of, pack_link, predicted_of, state_of, tag_of, value_of}
+use Rattle.ruu_words.specs.Fields.{half_of, index_of, pack_link, predicted_of, state_of, tag_of, word_value}
 
 -- Station words
 
@@ -39,7 +39,7 @@ HasValue (Some v) n = n ≡ v
 pub record IsStation (shows : StationWord) (n : ℕ) : Type 0 where
   pub tag : tag_of n ≡ shows.tag
   pub state : state_of n ≡ code shows.state
-  pub value : HasValue shows.value (value_of n)
+  pub value : HasValue shows.value (word_value n)
 
 -- Info words
 
@@ -70,7 +70,7 @@ operand_value (Some v) = v
 pub record IsOperandOf (o : OperandWord) (n : ℕ) : Type 0 where
   pub tag : tag_of n ≡ o.tag
   pub state : state_of n ≡ operand_code o.value
-  pub value : value_of n ≡ operand_value o.value
+  pub value : word_value n ≡ operand_value o.value
 
 -- The same; a station that has had no tenant has the word 0
 abbrev pub IsOperand : Option OperandWord → ℕ → Type 0

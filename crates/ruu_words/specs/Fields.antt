@@ -20,8 +20,8 @@ abbrev pub state_of : ℕ → ℕ
 state_of word = word / 2 ^ 32 % 16
 
 -- Its value
-abbrev pub value_of : ℕ → ℕ
-value_of word = word % 2 ^ 32
+abbrev pub word_value : ℕ → ℕ
+word_value word = word % 2 ^ 32
 
 -- The bit of a half
 abbrev pub half_bit : Half → ℕ

@@ -24,7 +24,7 @@ use Rattle.ruu_words.specs.declared.place.Place.{Place}
 use Rattle.ruu_words.specs.declared.rule.Draft.{Draft}
 use Rattle.ruu_words.specs.declared.rule.Draft.TheVariants.{Nothing}
 use Rattle.ruu_words.specs.Content.{Content, IsDraft, IsInfoOf, IsLinkWord, IsOperandOf, IsStation}
-use Rattle.ruu_words.specs.Fields.{state_of, tag_of, value_of}
+use Rattle.ruu_words.specs.Fields.{state_of, tag_of, word_value}
 
 -- The tenant at p, let since the last renewal, of this station and tag, and what is true of it
 pub record IsTenant (U : UpdateUnit) (p station tag : ℕ) (Fact : Tenant → Type 0) : Type 0 where
@@ -150,7 +150,7 @@ module _ (P : Program) (C : Sizes) where
   Questions r k q n h d events =
       (d ≡ Nothing)
       × ((IsUnmade (state_of n) × (events ≡ Marks (Asked r k) ∷ []) × IsInTime (unit_of P C h) r k q)
-      ⊎ (IsMade (state_of n) × (events ≡ []) × HasMade (unit_of P C h) q (value_of n)))
+      ⊎ (IsMade (state_of n) × (events ≡ []) × HasMade (unit_of P C h) q (word_value n)))
 
   -- The exchange that ends a question: the source has its value, or had it before
   abbrev pub Answers : (r : ℕ) (k : Source) (old n : ℕ) → List Entry → Draft → List Event → Type 0
@@ -175,7 +175,7 @@ module _ (P : Program) (C : Sizes) where
   abbrev pub ReadsData : (p n : ℕ) → List Entry → Draft → List Event → Type 0
   ReadsData p n h d events =
       ((state_of n ≡ 2) × (events ≡ [])
-      × IsHead (unit_of P C h) p (λ t. t.second.value ≡ Some (value_of n)))
+      × IsHead (unit_of P C h) p (λ t. t.second.value ≡ Some (word_value n)))
       ⊎ ((state_of n ≢ 2) × (events ≡ Refuses NotDone ∷ []))
 
   -- Loads of a claim
@@ -197,7 +197,7 @@ module _ (P : Program) (C : Sizes) where
   abbrev pub ReadsSource : (s g : ℕ) (k : Source) (n : ℕ) → List Entry → Draft → List Event → Type 0
   ReadsSource s g k n h d events =
       ((tag_of n ≡ g) × (state_of n ≡ 2)
-      × Finds (unit_of P C h) s g events (λ t. (operand k t).value ≡ Some (value_of n))
+      × Finds (unit_of P C h) s g events (λ t. (operand k t).value ≡ Some (word_value n))
       adds_nothing)
       ⊎ ((tag_of n ≡ g) × (state_of n ≢ 2)
       × Finds (unit_of P C h) s g events (λ t. missing P t ≡ Some k) (refuses (λ p. Waiting p k)))

@@ -11,7 +11,7 @@ use Rattle.ruu_words.specs.declared.rule.Draft.TheVariants.{Nothing}
 use Rattle.ruu_words.specs.declared.rule.Setup.{Setup}
 use Rattle.ruu_words.specs.declared.rule.View.{View}
 use Rattle.ruu_words.specs.Content.{Content}
-use Rattle.ruu_words.specs.Fields.{consumer_of, half_of, index_of, pack, pack_info, pack_link, predicted_of, producer_of, state_of, tag_count, tag_of, value_of}
+use Rattle.ruu_words.specs.Fields.{consumer_of, half_of, index_of, pack, pack_info, pack_link, predicted_of, producer_of, state_of, tag_count, tag_of, word_value}
 use Rattle.ruu_words.specs.Places.{IsPlace, index, words_for}
 use Rattle.ruu_words.specs.Openings.{IsOpening, opening_of, renewed, sizes_of}
 use Rattle.ruu_words.specs.Rule.{IsStart}
@@ -21,7 +21,7 @@ pub record ReadsBack (tag state value : ℕ) : Type 0 where
   pub word : pack tag state value < 2 ^ 64
   pub tag_is : tag_of (pack tag state value) ≡ tag
   pub state_is : state_of (pack tag state value) ≡ state
-  pub value_is : value_of (pack tag state value) ≡ value
+  pub value_is : word_value (pack tag state value) ≡ value
 
 -- So it is of each tag, state and value that has its bits
 abbrev pub WordsReadBack : Type 0
@@ -57,7 +57,7 @@ LinksReadBack =
 -- Two words with the same fields are one
 abbrev pub FieldsMakeTheWord : Type 0
 FieldsMakeTheWord =
-    (n m : ℕ) → tag_of n ≡ tag_of m → state_of n ≡ state_of m → value_of n ≡ value_of m → n ≡ m
+    (n m : ℕ) → tag_of n ≡ tag_of m → state_of n ≡ state_of m → word_value n ≡ word_value m → n ≡ m
 
 -- Places with one index are one, and a write at one leaves the others
 pub record PlacesAreApart (n : ℕ) : Type 0 where

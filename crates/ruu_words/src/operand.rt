@@ -1,6 +1,6 @@
 //! Operand words.
 ghost use Rattle.std.specs.Prelude.{◌≡◌, ◌<◌};
-ghost use Rattle.ruu_words.specs.Fields.{tag_count, pack, tag_of, state_of, value_of};
+ghost use Rattle.ruu_words.specs.Fields.{tag_count, pack, tag_of, state_of, word_value};
 ghost use Rattle.ruu_words.specs.States.{IsOperandCode, operand_state_code};
 
 /// Whether a source has its value.
@@ -39,7 +39,7 @@ impl OperandWord {
         requires state { IsOperandCode (state_of word) }
         ensures tag { result.tag ≡ tag_of word }
         ensures state { operand_state_code result.state ≡ state_of word }
-        ensures value { result.value ≡ value_of word }
+        ensures value { result.value ≡ word_value word }
     {
         let code = (word >> 32) & 15;
         let state = if code == 1 {

@@ -1,7 +1,7 @@
 //! Station words.
 ghost use Rattle.std.specs.Prelude.{◌≡◌, ◌<◌, ◌≤◌, ◌+◌, ◌^◌};
 ghost use Rattle.inorder.specs.Replies.{last_tag};
-ghost use Rattle.ruu_words.specs.Fields.{tag_count, pack, tag_of, state_of, value_of};
+ghost use Rattle.ruu_words.specs.Fields.{tag_count, pack, tag_of, state_of, word_value};
 ghost use Rattle.ruu_words.specs.States.{state_count, state_code};
 
 /// How far the last tenant of a station has come.
@@ -80,7 +80,7 @@ impl StationWord {
         requires state { state_of word < state_count }
         ensures tag { result.tag ≡ tag_of word }
         ensures state { state_code result.state ≡ state_of word }
-        ensures value { result.value ≡ value_of word }
+        ensures value { result.value ≡ word_value word }
     {
         let state = StationState::of((word >> 32) & 15);
         StationWord {

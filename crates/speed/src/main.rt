@@ -1,14 +1,15 @@
 //! Times the parser, the in-order machine and the one-thread unit on the listing of standard input; or, given a
-//! number of units and a limit of instructions, and then also the stations and the first tag, the one-thread unit and
-//! the unit shared by threads, whose reports have to be the same. Standard output stays empty; the count and the times
-//! in microseconds go to standard error.
+//! number of units and a limit of instructions, and then also the stations, the first tag, and how many nanoseconds
+//! longer each unit takes for what it has claimed, the one-thread unit and the unit shared by threads, whose reports
+//! have to be the same. Standard output stays empty; the count and the times in microseconds go to standard error.
 #![tactic(auto)]
 
 use devices::{Counted, read_up_to};
 use inorder::Machine;
 use instructions::{Bimod, Config, End, Program};
 use isa::{parse, report_text};
-use pool::{Open, Run, run};
+use pool::{Gate, Open, Run, Tally, run};
+use snapshots::Snap;
 use std::alloc::Global;
 use std::env;
 use std::io::Eprint;
@@ -40,6 +41,39 @@ struct Shape {
     limit: u64,
     ring: u64,
     first_tag: u64,
+    // How many nanoseconds longer each unit takes for what it has claimed.
+    longer: u64,
+}
+
+// Has each unit take so many nanoseconds longer.
+#[derive(Drop)]
+struct Slow<'a, R: Clock> {
+    clock: &'a R,
+    longer: u64,
+}
+
+impl<'a, R: Clock> Gate for Slow<'a, R> {
+    fn held(&self, _unit: u32, _station: u32) -> bool {
+        take(self.clock, self.longer);
+        false
+    }
+
+    fn seen(&self, _place: u32, _snap: &Snap) {}
+
+    fn counted(&self, _tally: &Tally) {}
+}
+
+// Returns after so many nanoseconds: each look at the clock takes more than one.
+fn take<R: Clock>(clock: &R, nanos: u64) {
+    let Ok(started) = Instant::now(clock) else {
+        return;
+    };
+    for _ in 0..nanos {
+        match Instant::now(clock) {
+            Ok(now) if now.duration_since(started).as_nanos() < nanos as u128 => {}
+            _ => return,
+        }
+    }
 }
 
 fn main(rt: HostRuntime) -> ExitCode {
@@ -77,6 +111,7 @@ fn asked(rt: &HostRuntime) -> Result<Option<Shape>, Failure> {
         limit: number(words.get(2), None)?,
         ring: number(words.get(3), Some(16))?,
         first_tag: number(words.get(4), Some(1))?,
+        longer: number(words.get(5), Some(0))?,
     }))
 }
 
@@ -153,6 +188,7 @@ fn time_alone(rt: &HostRuntime) -> Result<(), Failure> {
         limit: LIMIT,
         ring: 16,
         first_tag: 1,
+        longer: 0,
     };
     let n = run_alone(rt.alloc(), &program, &configured(&shape)?)?.n;
     let ended = now(rt)?;
@@ -161,6 +197,31 @@ fn time_alone(rt: &HostRuntime) -> Result<(), Failure> {
     let unit_time = ended.duration_since(ran).as_micros();
     let _ = eprintln!(rt; "{n} {parse_time} {run_time} {unit_time}");
     Ok(())
+}
+
+// The end of the run by threads, and its tally.
+fn run_shared<R: Clock + Threads + Wait + Sync>(
+    rt: &R,
+    alloc: Global,
+    program: &Program,
+    config: &Config,
+    longer: u64,
+) -> Result<(End, Tally), Failure> {
+    let run = match longer {
+        0 => run(rt, alloc, program, config, Bimod::new(), &Open),
+        _ => run(
+            rt,
+            alloc,
+            program,
+            config,
+            Bimod::new(),
+            &Slow { clock: rt, longer },
+        ),
+    };
+    match run {
+        Run::Ended(end, tally) | Run::LimitReached(end, tally) => Ok((end, tally)),
+        Run::Refused(_) => Err(Failure::Resource),
+    }
 }
 
 fn time_pool<R: Clock + Eprint + Threads + Wait + Sync>(
@@ -174,10 +235,7 @@ fn time_pool<R: Clock + Eprint + Threads + Wait + Sync>(
     let started = now(rt)?;
     let expected = run_alone(alloc, &program, &config)?;
     let ran = now(rt)?;
-    let (end, tally) = match run(rt, alloc, &program, &config, Bimod::new(), &Open) {
-        Run::Ended(end, tally) | Run::LimitReached(end, tally) => (end, tally),
-        Run::Refused(_) => return Err(Failure::Resource),
-    };
+    let (end, tally) = run_shared(rt, alloc, &program, &config, shape.longer)?;
     let ended = now(rt)?;
     let unit_time = ran.duration_since(started).as_micros();
     let pool_time = ended.duration_since(ran).as_micros();

@@ -32,7 +32,7 @@ use Rattle.ruu_words.specs.declared.rule.Draft.{Draft}
 use Rattle.ruu_words.specs.declared.rule.Draft.TheVariants.{Nothing}
 use Rattle.ruu_words.specs.declared.rule.View.{View}
 use Rattle.ruu_words.specs.Content.{IsOperandOf}
-use Rattle.ruu_words.specs.Fields.{pack_link, state_of, value_of as value_in}
+use Rattle.ruu_words.specs.Fields.{pack_link, state_of, word_value}
 use Rattle.ruu_words.specs.Kinds.{Answers, Asks, HasLink, IsAny, IsInTime, IsMade, IsTenant, IsUnmade, Questions}
 use Rattle.ruu_words.specs.Telling.{Grows}
 use Rattle.ruu_words.proofs.Asking.{answer_plan, path_on, question_plan}
@@ -290,14 +290,14 @@ module _ (P : Program) (C : Sizes) where
     linked_next un = next_by by is v w (Finds P C s g k a b n) e (Marks (Asked x.r k) ∷ []) (told_linked un).0 refl ∙ x.next
 
     -- it has made the value that the word shows
-    pub told_made : IsMade (state_of n) → (e.events ≡ []) × HasMade (unit_of P C (e.between ++ v.seen)) x.q (value_in n)
+    pub told_made : IsMade (state_of n) → (e.events ≡ []) × HasMade (unit_of P C (e.between ++ v.seen)) x.q (word_value n)
     told_made made = ⊎_elim (λ l. absurd (not_both (state_of n) made l.0)) (λ r. (r.1, r.2)) told_mid.1
 
     seen_made : IsMade (state_of n) → w.seen ≡ e.between ++ v.seen
     seen_made made = seen_by by is v w (Finds P C s g k a b n) e [] (told_made made).0
 
-    pub can_answer : IsMade (state_of n) → CanAnswer P C w.seen s g k (value_in n)
-    can_answer made = subst (λ z. CanAnswer P C z s g k (value_in n)) (sym (seen_made made)) (record {
+    pub can_answer : IsMade (state_of n) → CanAnswer P C w.seen s g k (word_value n)
+    can_answer made = subst (λ z. CanAnswer P C z s g k (word_value n)) (sym (seen_made made)) (record {
       r = x.r;
       q = x.q;
       asks = asks_mid;
@@ -407,7 +407,7 @@ module _ (P : Program) (C : Sizes) where
   pub quiet_found : (n : ℕ) → {by s g a b : ℕ} {k : Source} {old : List Entry} {v w : View} → by ≡ front → IsAskedNow by s g k a b old v → Grows P C by v w (Finds P C s g k a b n) → w.draft ≡ Nothing
   quiet_found n {by} {s} {g} {a} {b} {k} {old} {v} {w} is x e = quiet_mid by s g k a b n old v w is x e
 
-  pub answered_by : (n : ℕ) → {by s g a b tag value : ℕ} {k : Source} {old : List Entry} {v w : View} → tag ≡ g → value ≡ value_in n → by ≡ front → IsAskedNow by s g k a b old v →
+  pub answered_by : (n : ℕ) → {by s g a b tag value : ℕ} {k : Source} {old : List Entry} {v w : View} → tag ≡ g → value ≡ word_value n → by ≡ front → IsAskedNow by s g k a b old v →
       Grows P C by v w (Finds P C s g k a b n) → IsMade (state_of n) → CanAnswer P C w.seen s tag k value
   answered_by n {by} {s} {g} {a} {b} {tag} {value} {k} {old} {v} {w} tag_is value_is is x e made =
       subst (λ (z : ℕ × ℕ). CanAnswer P C w.seen s z.0 k z.1) (λ i. (sym tag_is i, sym value_is i)) (can_answer by s g k a b n old v w is x e made)

@@ -30,7 +30,7 @@ use Rattle.station.specs.declared.answers.Finish.TheVariants.{Finished, Stale}
 use Rattle.station.specs.declared.answers.Job.{Job}
 use Rattle.station.specs.Claiming.{Holds, IsClaimed}
 use Rattle.station.specs.Finishing.{ClaimedAreInFlight, HasFinished, HasOutcome, IsInFlight, IsLive, JobsAreFinished, JobsStayInFlight, OnlyUnits}
-use Rattle.station.specs.Writeback.{FinishAnswers, HasTenant, IsWritten, WasStale, outcome_of}
+use Rattle.station.specs.Writeback.{FinishAnswers, HasTenant, IsWritten, WasStale, job_outcome}
 use Rattle.station.proofs.Holding.{holds_seen}
 use Rattle.station.proofs.Splitting.{LastEvent, last_event, own_else, own_here}
 use Rattle.station.proofs.Writing.{is_job}
@@ -255,8 +255,8 @@ module _ (P : Program) (C : Sizes) where
 
   module _ (by : ℕ) (old new : List Entry) (j : Job) (only : OnlyUnits old new) (holds : Holds P C by old j) where
     -- the tenant at the moment of the finish
-    written : (a : IsWritten P C by old new j.station j.tag Finish (λ p. Rattle.station.specs.Writeback.IsCarried P C new p (outcome_of P j))) →
-        HasTenant P C new j.station j.tag (HasOutcome (outcome_of P j))
+    written : (a : IsWritten P C by old new j.station j.tag Finish (λ p. Rattle.station.specs.Writeback.IsCarried P C new p (job_outcome P j))) →
+        HasTenant P C new j.station j.tag (HasOutcome (job_outcome P j))
     written a =
         let p : ℕ = a.p in
         let e : Event = Does (On p Finish) in
@@ -278,7 +278,7 @@ module _ (P : Program) (C : Sizes) where
         let here : h.p ≡ p = one_tag P C point legal_e.0 h.p p u t h.tenant.is at_p h.new new_p
         (ap (λ (z : JobFields). z.station) fields ∙ sym station_is) (ap (λ (z : JobFields). z.tag) fields ∙ sym tag_is) in
         let one : u ≡ t = found u t (sym h.tenant.is ∙ (ap (at (unit_of P C point).tenants) here ∙ at_p)) in
-        let o : Outcome = outcome_of P j in
+        let o : Outcome = job_outcome P j in
         let comes : computed P t ≡ o = ap (computed P) (sym one) ∙ (is_job P by j o u h.tenant.fact refl).computes in
         let has : HasOutcome o (finished t (computed P t)) = subst (λ z. HasOutcome o (finished t z)) (sym comes) (has_outcome t o may.1.may.live) in
         let m = goes P C (unit_of P C point) by (On p Finish) may.1 (unit_sound P C point legal_e.0) p t at_p in
@@ -298,13 +298,13 @@ module _ (P : Program) (C : Sizes) where
         front_part (x ∷ xs) ys all = (all.0, front_part xs ys all.1)
 
         acted : (p : ℕ) (point : List Entry) (t t' : Tenant) → at (unit_of P C point).tenants p ≡ Some t → (a : Allowed P C (unit_of P C point) by (On p Finish)) →
-            at (applied P C (unit_of P C point) by (On p Finish)).tenants p ≡ Some t' → HasOutcome (outcome_of P j) (finished t (computed P t)) → HasOutcome (outcome_of P j) t'
+            at (applied P C (unit_of P C point) by (On p Finish)).tenants p ≡ Some t' → HasOutcome (job_outcome P j) (finished t (computed P t)) → HasOutcome (job_outcome P j) t'
         acted p point t t' is a now has =
             let us = (unit_of P C point).tenants in
             ⊎_elim
             (λ (z : IsActed P us by p Finish a.tenant p t).
-            subst (HasOutcome (outcome_of P j)) (found (changed P by Finish a.tenant (older us p)) t' (sym z.now ∙ now))
-            (subst (λ x. HasOutcome (outcome_of P j) (finished x (computed P x))) z.tenant has))
+            subst (HasOutcome (job_outcome P j)) (found (changed P by Finish a.tenant (older us p)) t' (sym z.now ∙ now))
+            (subst (λ x. HasOutcome (job_outcome P j) (finished x (computed P x))) z.tenant has))
             (λ (z : IsLeft P us by p Finish p t). absurd (z.position refl))
             (at_changed P us by p Finish a.tenant a.is p t is)
 

@@ -25,7 +25,7 @@ use Rattle.ruu_words.specs.declared.rule.Draft.{Draft}
 use Rattle.ruu_words.specs.declared.rule.Draft.TheVariants.{Nothing}
 use Rattle.ruu_words.specs.declared.rule.View.{View}
 use Rattle.ruu_words.specs.Content.{IsStation}
-use Rattle.ruu_words.specs.Fields.{tag_of, value_of}
+use Rattle.ruu_words.specs.Fields.{tag_of, word_value}
 use Rattle.ruu_words.specs.Kinds.{IsAny, IsTenant}
 use Rattle.ruu_words.specs.Telling.{Grows}
 use Rattle.ruu_words.proofs.Building.{changes}
@@ -69,7 +69,7 @@ module _ (P : Program) (C : Sizes) where
       (Mends P C s) (record { tag = g; next = x; miss = now; added = refl; draft = quiet }))
 
   -- the word that a look at it finds
-  pub miss_word : (h : List Entry) → IsLegal P C h → (s g x n : ℕ) → HasMiss P C h s g x → IsStation (station_word C (recent (unit_of P C h)) s) n → (tag_of n ≡ g) × (value_of n ≡ x)
+  pub miss_word : (h : List Entry) → IsLegal P C h → (s g x n : ℕ) → HasMiss P C h s g x → IsStation (station_word C (recent (unit_of P C h)) s) n → (tag_of n ≡ g) × (word_value n ≡ x)
   miss_word h legal s g x n m word =
       let t : Tenant = m.can.miss.tenant in
       let one : m.named.tenant ≡ t = one_at P C h legal m.p m.named.tenant t m.named.is m.can.miss.is in

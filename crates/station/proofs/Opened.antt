@@ -32,7 +32,7 @@ use Rattle.inorder.proofs.Sound.{IsSound}
 use Rattle.ruu_words.specs.declared.rule.Draft.{Draft}
 use Rattle.ruu_words.specs.declared.rule.View.{View}
 use Rattle.ruu_words.specs.Content.{IsInfoOf}
-use Rattle.ruu_words.specs.Fields.{half_of, index_of, predicted_of, state_of, tag_of, value_of}
+use Rattle.ruu_words.specs.Fields.{half_of, index_of, predicted_of, state_of, tag_of, word_value}
 use Rattle.ruu_words.specs.Kinds.{Claims, Finds, IsAny, IsClosed, IsTenant, Peeks, ReadsInfo, ReadsSource, Rechecks, refuses}
 use Rattle.ruu_words.specs.Telling.{Grows}
 use Rattle.ruu_words.proofs.StationWords.{one_at, one_tag}
@@ -140,7 +140,7 @@ module _ (P : Program) (C : Sizes) where
       let f = there.2 in
       let h : List Entry = x.between ++ v.seen in
       let seen : w.seen ≡ h = x.is ∙ ap (λ es. map (entry by) es ++ h) f.added in
-      let same : Some (value_of n) ≡ Some value = ap Some (sym says.2) in
+      let same : Some (word_value n) ≡ Some value = ap Some (sym says.2) in
       let fact : SourceIs true k value f.tenant.tenant = f.tenant.fact ∙ same in
       let named : IsTenant (U h) f.p s g (SourceIs needed k value) = record {
         tenant = f.tenant.tenant;

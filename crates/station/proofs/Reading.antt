@@ -14,7 +14,7 @@ use Rattle.ruu_words.specs.declared.rule.Draft.TheVariants.{Nothing, Of}
 use Rattle.ruu_words.specs.declared.rule.Stage.TheVariants.{BothOperands}
 use Rattle.ruu_words.specs.declared.place.Place.TheVariants.{Info, Operand}
 use Rattle.ruu_words.specs.Content.{IsDraft, IsInfo, IsOperand, info_unit, operand_code, operand_unit}
-use Rattle.ruu_words.specs.Fields.{half_of, index_of, predicted_of, state_of, tag_of, value_of}
+use Rattle.ruu_words.specs.Fields.{half_of, index_of, predicted_of, state_of, tag_of, word_value}
 use Rattle.ruu_words.proofs.Reading.{operand_last}
 use Rattle.station.specs.declared.answers.Seen.{Seen}
 use Rattle.station.specs.declared.answers.SourceState.{SourceState}
@@ -28,8 +28,8 @@ by_code : (v : Option ℕ) → source_state_of (operand_code v) ≡ source_state
 by_code None = refl
 by_code (Some v) = refl
 
-shows_operand : (o : Option OperandWord) (n : ℕ) → IsOperand o n → ShowsOperand o (tag_of n) (source_state_of (state_of n)) (value_of n)
-shows_operand None n e = (ap tag_of e, ap (λ z. source_state_of (state_of z)) e, ap value_of e)
+shows_operand : (o : Option OperandWord) (n : ℕ) → IsOperand o n → ShowsOperand o (tag_of n) (source_state_of (state_of n)) (word_value n)
+shows_operand None n e = (ap tag_of e, ap (λ z. source_state_of (state_of z)) e, ap word_value e)
 shows_operand (Some o) n i = (i.tag, ap source_state_of i.state ∙ by_code o.value, i.value)
 
 module _ (P : Program) (C : Sizes) (h : List Entry) (legal : IsLegal P C h) where
@@ -49,7 +49,7 @@ module _ (P : Program) (C : Sizes) (h : List Entry) (legal : IsLegal P C h) wher
         (shows_info (last_of (recent (info_unit P C (unit_of P C h) w.draft)) s) n w.content);
   }
 
-  pub sees_operand : (s : ℕ) (k : Source) (n : ℕ) (seen : Seen SourceState) → seen.tag ≡ tag_of n → seen.state ≡ source_state_of (state_of n) → seen.value ≡ value_of n →
+  pub sees_operand : (s : ℕ) (k : Source) (n : ℕ) (seen : Seen SourceState) → seen.tag ≡ tag_of n → seen.state ≡ source_state_of (state_of n) → seen.value ≡ word_value n →
       SeesWord P C h (Operand s k) n → SeesOperand P C h s k seen
   sees_operand s k n seen tag state value w =
       let all : ShowsOperand (operand_word (recent (operand_unit P C (unit_of P C h) w.draft k)) s k) seen.tag seen.state seen.value = subst

@@ -48,7 +48,7 @@ use Rattle.ruu_words.specs.declared.station.StationState.TheVariants.{Addr as Ad
 use Rattle.ruu_words.specs.declared.station.StationState.TheVariants.{Stop as StopState}
 use Rattle.ruu_words.specs.declared.station.StationWord.{StationWord}
 use Rattle.ruu_words.specs.Content.{IsStation}
-use Rattle.ruu_words.specs.Fields.{half_of, index_of, state_of, tag_of, value_of}
+use Rattle.ruu_words.specs.Fields.{half_of, index_of, state_of, tag_of, word_value}
 use Rattle.ruu_words.specs.Kinds.{Heads, IsAny, IsEarly, IsTenant, ReadsData, ReadsInfo, Tells, Writes}
 use Rattle.ruu_words.specs.States.{state_code}
 use Rattle.ruu_words.specs.Views.{IsCaller}
@@ -214,7 +214,7 @@ not_early OpenState l e = l
 not_early BusyState l e = l
 not_early MissState l e = l
 
-stop_state : (g n : ℕ) (f : Fate) → IsStation (live_word g f) n → state_of n ≡ 6 → (c : Stop) × (value_of n ≡ code_of c) × (f ≡ Stopped c)
+stop_state : (g n : ℕ) (f : Fate) → IsStation (live_word g f) n → state_of n ≡ 6 → (c : Stop) × (word_value n ≡ code_of c) × (f ≡ Stopped c)
 stop_state g n Open w e = let s = w.state in absurd (omega arith)
 stop_state g n (Busy by) w e = let s = w.state in absurd (omega arith)
 stop_state g n (Addr a) w e = let s = w.state in absurd (omega arith)
@@ -222,7 +222,7 @@ stop_state g n (Done v) w e = let s = w.state in absurd (omega arith)
 stop_state g n (Miss x) w e = let s = w.state in absurd (omega arith)
 stop_state g n (Stopped c) w e = (c, w.value, refl)
 
-is_end : (st : StationState) (v n g : ℕ) (f : Fate) → state_code st ≡ state_of n → v ≡ value_of n → IsStation (live_word g f) n → IsLateState st → IsEnd st v f
+is_end : (st : StationState) (v n g : ℕ) (f : Fate) → state_code st ≡ state_of n → v ≡ word_value n → IsStation (live_word g f) n → IsLateState st → IsEnd st v f
 is_end AddrState v n g f state value w l = addr_state g n f w (sym state) ∙ ap Addr (sym value)
 is_end DoneState v n g f state value w l = done_state g n f w (sym state) ∙ ap Done (sym value)
 is_end StopState v n g f state value w l = let s = stop_state g n f w (sym state) in (s.0, value ∙ s.1, s.2)
@@ -324,7 +324,9 @@ module _ (P : Program) (C : Sizes) where
           is = i.is;
           live = i.live;
           oldest = older_from IsNotLive us now.p (at_below us now.p t i.is) (λ q u lt e. i.oldest q u lt e);
-          stays = λ c. let c' : CanRetire (kind_of P t) t.second.value (Addr a.address) = subst (CanRetire (kind_of P t) t.second.value) i.fact.fate c in load (sym (ap (λ k. kind (instr_of P k).op) i.fact.index_is) ∙ c'.0);
+          stays = λ c.
+              let c' : CanRetire (kind_of P t) t.second.value (Addr a.address) = subst (CanRetire (kind_of P t) t.second.value) i.fact.fate c in
+              load (sym (ap (λ k. kind (instr_of P k).op) i.fact.index_is) ∙ c'.0);
         },
       ) content (Tells P C NotDone) (record { added = refl })
 
@@ -349,7 +351,7 @@ module _ (P : Program) (C : Sizes) where
       let i = may.head in
       let f : Fate = last_fate l.last in
       let m : ℕ = kept_value l.last in
-      let value : value_of new ≡ m = word.value in
+      let value : word_value new ≡ m = word.value in
       let fits : m < 4294967296 = omega arith in
       let named : IsTenant (U v.seen) may.p l.station l.tag IsAny = record {
         tenant = i.tenant;
@@ -521,7 +523,7 @@ module _ (P : Program) (C : Sizes) where
         both : IsEarly (state_of n) → Rattle.ruu_words.specs.Kinds.IsLate (state_of n) → ⊥
         both a b = early_late (state_of n) a b
 
-    pub head_late : (word : StationWord) → word.tag ≡ tag_of n → state_code word.state ≡ state_of n → word.value ≡ value_of n → IsLateState word.state → HasEnd P C w.seen s word ×
+    pub head_late : (word : StationWord) → word.tag ≡ tag_of n → state_code word.state ≡ state_of n → word.value ≡ word_value n → IsLateState word.state → HasEnd P C w.seen s word ×
         Adds P C by v.seen w.seen []
     head_late word tag state value e = ⊎_elim
         (λ a. absurd (not_free word.state e (state ∙ a.0)))
@@ -589,7 +591,7 @@ module _ (P : Program) (C : Sizes) where
     pub data_missing : state_of n ≢ 2 → Adds P C by v.seen w.seen (Refuses NotDone ∷ [])
     data_missing ne = ⊎_elim (λ here. absurd (ne here.0)) (λ o. adds_these P C by v w (FindsData P C a n) (Refuses NotDone ∷ []) g o.1) g.kind.data_is
 
-    pub data_there : (x : ℕ) → x ≡ value_of n → kind (instr_of P a.index).op ≡ Stores → state_of n ≡ 2
+    pub data_there : (x : ℕ) → x ≡ word_value n → kind (instr_of P a.index).op ≡ Stores → state_of n ≡ 2
         → MayLeave P C w.seen (record { station = a.station; tag = a.tag; index = a.index; half = a.half; last = Stored a.address x }) × Adds P C by v.seen w.seen []
     data_there x e stores there = ⊎_elim
         (λ here.

@@ -42,8 +42,20 @@ record LastOwn (by : ℕ) (more : List Entry) (e : Entry) (es : List Entry) : Ty
 last_own : (by : ℕ) (more : List Entry) (e : Entry) (es : List Entry) → own by more ≡ e ∷ es → LastOwn by more e es
 last_own by [] e es h = absurd (cc h)
 last_own by (x ∷ more) e es h = dite (ℕ_discrete x.by by)
-    (λ mine. let both : x ∷ own by more ≡ e ∷ es = sym (own_here by x more mine) ∙ h in record { after = []; rest = more; is = ap (λ z. z ∷ more) (first x e (own by more) es both); none = refl; before = others x e (own by more) es both })
-    (λ not. let l = last_own by more e es (sym (own_else by x more not) ∙ h) in record { after = x ∷ l.after; rest = l.rest; is = ap (λ z. x ∷ z) l.is; none = own_else by x l.after not ∙ l.none; before = l.before })
+    (λ mine. let both : x ∷ own by more ≡ e ∷ es = sym (own_here by x more mine) ∙ h in record {
+      after = [];
+      rest = more;
+      is = ap (λ z. z ∷ more) (first x e (own by more) es both);
+      none = refl;
+      before = others x e (own by more) es both;
+    })
+    (λ not. let l = last_own by more e es (sym (own_else by x more not) ∙ h) in record {
+      after = x ∷ l.after;
+      rest = l.rest;
+      is = ap (λ z. x ∷ z) l.is;
+      none = own_else by x l.after not ∙ l.none;
+      before = l.before;
+    })
   where
     first : (a b : Entry) (us vs : List Entry) → a ∷ us ≡ b ∷ vs → a ≡ b
     first a b us vs e = cc e

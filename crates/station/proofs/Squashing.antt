@@ -39,7 +39,7 @@ use Rattle.ruu_words.proofs.Building.{changes}
 use Rattle.ruu_words.specs.Plans.{Plan, Plans}
 use Rattle.ruu_words.proofs.StationWords.{its_word, live_state, one_at}
 use Rattle.ruu_words.proofs.Stays.{any_stays, front_stays}
-use Rattle.station.specs.Recovery.{HasYoungest, IsSquashed, MaySquash, Squashes}
+use Rattle.station.specs.Recovery.{HasYoungest, SeesWrongPath, Squashes, WasSquashed}
 use Rattle.station.proofs.Adding.{adds_these}
 use Rattle.inorder.proofs.Recent.{IsRecentAt, live_is_recent, recent_at, recent_change, younger_recent}
 use Rattle.station.specs.Steps.{Sees}
@@ -112,7 +112,7 @@ module _ (P : Program) (C : Sizes) where
       let at_end : next ≡ suc n % ring = e ∙ (λ i. path_counted h legal p c i % sym ring_is i) in
       its_place h legal p c ∙ (ap (λ z. n % z) (sym ring_is) ∙ (sym (one_back n ring (omega arith)) ∙ ap (λ z. (z + ring - 1) % ring) (sym at_end)))
 
-  pub youngest_in : (h : List Entry) → IsLegal P C h → (next ring : ℕ) → ring ≡ C.ring → next < ring → next ≡ next_station C (recent (U h)) → (m : MaySquash P C h) →
+  pub youngest_in : (h : List Entry) → IsLegal P C h → (next ring : ℕ) → ring ≡ C.ring → next < ring → next ≡ next_station C (recent (U h)) → (m : SeesWrongPath P C h) →
       HasYoungest P C h ((next + ring - 1) % ring) m.can.tenant.tenant.tag
   youngest_in h legal next ring ring_is small e m = record {
     p = m.p;
@@ -193,7 +193,7 @@ module _ (P : Program) (C : Sizes) where
     can_stay p more seen legal apart c = front_stays P C (λ U. CanSquash U p) (λ U by st b a ok q. squash_stays P C U by st b a ok p q) more seen legal (subst (λ i. own i more ≡ []) is apart) c
 
     -- the look and the write together
-    pub squashed_out : MaySquash P C v0.seen → IsSquashed P C by s g v0.seen w.seen
+    pub squashed_out : SeesWrongPath P C v0.seen → WasSquashed P C by s g v0.seen w.seen
     squashed_out m =
         let p : ℕ = g2.kind.youngest.p in
         let c1 : CanSquash (U v1.seen) m.p = subst (λ h. CanSquash (U h) m.p) (sym seen1) (can_stay m.p g1.between v0.seen legal1 g1.not_own m.can) in
@@ -229,7 +229,7 @@ module _ (P : Program) (C : Sizes) where
 -- The youngest live tenant, whose station is the one before the next, as a look at that station finds it
 module _ {v w : TheCall} {next ring n : ℕ} (legal : IsLegalCall v) (by_is : v.view.by ≡ front) (ring_is : ring ≡ v.core.sizes.ring) (small : next < v.core.sizes.ring) (next_is : next ≡
     let_place v)
-    (may : MaySquash v.core.program v.core.sizes v.view.seen) (took : TakesStep v w (λ P C. Sees P C v.view.by v.view (Station ((next + ring - 1) % ring)) n)) (tag : ℕ) (read : tag ≡
+    (may : SeesWrongPath v.core.program v.core.sizes v.view.seen) (took : TakesStep v w (λ P C. Sees P C v.view.by v.view (Station ((next + ring - 1) % ring)) n)) (tag : ℕ) (read : tag ≡
     tag_of n) where
   pub youngest_read : (tag < last_tag) × HasYoungest w.core.program w.core.sizes w.view.seen ((next + ring - 1) % ring) tag
   youngest_read =

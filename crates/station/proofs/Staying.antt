@@ -26,7 +26,7 @@ use Rattle.station.specs.declared.answers.Tenant.{Tenant}
 use Rattle.station.specs.Asking.{IsAsking, MayAsk}
 use Rattle.station.specs.Laws.{BacksStay, FrontsStay}
 use Rattle.station.specs.Letting.{MayLetOut, supply_of}
-use Rattle.station.specs.Recovery.{MaySquash, SeesMiss}
+use Rattle.station.specs.Recovery.{SeesMiss, SeesWrongPath}
 use Rattle.station.specs.Writeback.{MaySettle}
 use Rattle.station.proofs.Asking.{last_on, path_stays, weaker}
 use Rattle.station.proofs.Mending.{miss_on}
@@ -85,7 +85,7 @@ module _ (P : Program) (C : Sizes) where
         creator_last = last_on P C q a more seen legal none may.creator_last;
       }
 
-  squashes_stay : (more seen : List Entry) → IsLegal P C (more ++ seen) → own front more ≡ [] → MaySquash P C seen → MaySquash P C (more ++ seen)
+  squashes_stay : (more seen : List Entry) → IsLegal P C (more ++ seen) → own front more ≡ [] → SeesWrongPath P C seen → SeesWrongPath P C (more ++ seen)
   squashes_stay more seen legal none may = record {
     p = may.p;
     can = front_stays P C (λ U. CanSquash U may.p) (λ U by s besides ok sound c. squash_stays P C U by s besides ok sound may.p c) more seen legal none may.can;
@@ -114,7 +114,7 @@ fronts_stay P C old new added =
     record {
       lets = λ t may. subst (λ h. MayLetOut P C (unit_of P C h) t) (sym is) (lets_stay P C t more old legal none may);
       asks = λ s g k a b may. subst (λ h. MayAsk P C h s g k a b) (sym is) (asks_stay P C s g k a b more old legal none may);
-      squashes = λ may. subst (λ h. MaySquash P C h) (sym is) (squashes_stay P C more old legal none may);
+      squashes = λ may. subst (λ h. SeesWrongPath P C h) (sym is) (squashes_stay P C more old legal none may);
       mends = λ s m. subst (λ h. SeesMiss P C h s) (sym is) (misses_stay P C s more old legal none m);
     }
 

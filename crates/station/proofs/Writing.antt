@@ -37,7 +37,7 @@ use Rattle.ruu_words.specs.declared.rule.Role.TheVariants.{Back}
 use Rattle.ruu_words.specs.declared.rule.View.{View}
 use Rattle.ruu_words.specs.declared.place.Place.TheVariants.{Station}
 use Rattle.ruu_words.specs.Content.{IsStation}
-use Rattle.ruu_words.specs.Fields.{value_of}
+use Rattle.ruu_words.specs.Fields.{word_value}
 use Rattle.ruu_words.specs.Kinds.{Finds, Finishes, IsAny, IsTenant, Settles, refuses}
 use Rattle.ruu_words.specs.Views.{IsCaller}
 use Rattle.ruu_words.specs.Telling.{Grows}
@@ -51,7 +51,7 @@ use Rattle.station.specs.Carrying.{HasCarried, HasMadeOf, HasValueOf, HasWalked,
 use Rattle.station.specs.Claiming.{Holds, IsJob, fields_of}
 use Rattle.station.specs.Seats.{IsSeated}
 use Rattle.station.specs.Steps.{Sees}
-use Rattle.station.specs.Writeback.{CanSettle, HasTenant, IsCarried, IsDeliveryOf, IsWalk, IsWritten, MaySettle, SettleAnswers, WasStale, outcome_of}
+use Rattle.station.specs.Writeback.{CanSettle, HasTenant, IsCarried, IsDeliveryOf, IsWalk, IsWritten, MaySettle, SettleAnswers, WasStale, job_outcome}
 use Rattle.station.proofs.Adding.{adds_these}
 use Rattle.station.proofs.Backs.{IsNoRetirement, back_seated}
 use Rattle.station.proofs.Carrying.{all_append, any_on, one_named}
@@ -68,7 +68,7 @@ same_outcome Loads i half pc a b size = refl
 same_outcome Stores i half pc a b size = refl
 
 -- so a job has what its tenant comes to
-pub is_job : (P : Program) (by : ℕ) (j : Job) (o : Outcome) (t : Tenant) → IsJob P by (fields_of j) t → o ≡ outcome_of P j → HasJob P by j.predicted o t
+pub is_job : (P : Program) (by : ℕ) (j : Job) (o : Outcome) (t : Tenant) → IsJob P by (fields_of j) t → o ≡ job_outcome P j → HasJob P by j.predicted o t
 is_job P by j o t is e = record {
   held = is.held;
   ready = is.ready;
@@ -78,7 +78,7 @@ is_job P by j o t is e = record {
 }
 
 module _ (P : Program) (C : Sizes) where
-  pub job_held : (by : ℕ) (seen : List Entry) (j : Job) (o : Outcome) → Holds P C by seen j → o ≡ outcome_of P j → HasTenant P C seen j.station j.tag (HasJob P by j.predicted o)
+  pub job_held : (by : ℕ) (seen : List Entry) (j : Job) (o : Outcome) → Holds P C by seen j → o ≡ job_outcome P j → HasTenant P C seen j.station j.tag (HasJob P by j.predicted o)
   job_held by seen j o h e = record {
     p = h.p;
     named = record {
@@ -229,13 +229,13 @@ module _ (P : Program) (C : Sizes) where
     own_none = subst (λ z. own z e1.between ≡ []) (is_back v.role by role e1.kind.caller) e1.not_own
 
     -- the look tells the address, unless the load is squashed
-    pub can_settle : CanSettle P C v1.seen s g (value_of n) val
+    pub can_settle : CanSettle P C v1.seen s g (word_value n) val
     can_settle =
         let h : List Entry = e1.between ++ v.seen in
         let c = may.can in
         let named : IsTenant (unit_of P C h) c.p s g IsAny = any_stays P C c.p s g e1.between v.seen legal1 same1 c.named in
         let now = load_lasts P C c.p may.address val e1.between v.seen legal1 same1 own_none c.can in
-        subst (λ z. CanSettle P C z s g (value_of n) val) (sym seen1) (record {
+        subst (λ z. CanSettle P C z s g (word_value n) val) (sym seen1) (record {
           p = c.p;
           named = named;
           can = ⊎_elim
@@ -243,7 +243,7 @@ module _ (P : Program) (C : Sizes) where
               let one : named.tenant ≡ x.tenant = one_at P C h legal1 c.p named.tenant x.tenant named.is x.is in
               let at_s : x.tenant.station ≡ s = ap (λ (z : Tenant). z.station) (sym one) ∙ named.station_is in
               let word = its_word P C h legal1 c.p s n x.tenant x.is at_s x.may.live e1.kind.content in
-              let address : value_of n ≡ may.address = (subst (λ f. IsStation (Rattle.inorder.specs.StationWords.live_word x.tenant.tag f) n) x.fate word).value in
+              let address : word_value n ≡ may.address = (subst (λ f. IsStation (Rattle.inorder.specs.StationWords.live_word x.tenant.tag f) n) x.fate word).value in
               inl (subst (λ a. CanLoad P (unit_of P C h) c.p a val) (sym address) x))
               (λ x. inr x)
               now;

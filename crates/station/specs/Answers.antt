@@ -13,7 +13,7 @@ use Rattle.station.specs.declared.answers.Tenant.{Tenant as Letting}
 use Rattle.station.specs.Asking.{AskAnswers}
 use Rattle.station.specs.Claiming.{ClaimAnswers}
 use Rattle.station.specs.Letting.{IsLetOut, MayLetOut}
-use Rattle.station.specs.Recovery.{IsMended, IsSquashed}
+use Rattle.station.specs.Recovery.{IsMended, WasSquashed}
 use Rattle.station.specs.Retirement.{RetireAnswers}
 use Rattle.station.specs.Seats.{Caller, TheCore}
 use Rattle.station.specs.Waking.{Wakes}
@@ -69,4 +69,4 @@ MendsAt station core v w = IsMended core.program core.sizes v.by station v.seen 
 -- The tenant of this station and tag was squashed
 abbrev pub SquashesAt : ℕ → ℕ → Reply
 SquashesAt station tag core v w =
-    IsSquashed core.program core.sizes v.by station tag v.seen w.seen
+    WasSquashed core.program core.sizes v.by station tag v.seen w.seen

@@ -18,7 +18,7 @@ use Rattle.inorder.specs.StationWords.{live_word}
 use Rattle.inorder.specs.Tenants.{Busy, IsThere, Tenant, kind_of, needs, operand}
 use Rattle.inorder.specs.Unit.{is_old, Sizes}
 use Rattle.ruu_words.specs.Content.{IsStation}
-use Rattle.ruu_words.specs.Fields.{state_of, tag_of, value_of}
+use Rattle.ruu_words.specs.Fields.{state_of, tag_of, word_value}
 use Rattle.ruu_words.specs.Kinds.{IsTenant}
 use Rattle.station.specs.declared.answers.Claim.{Claim}
 use Rattle.station.specs.declared.answers.Claim.TheVariants.{Job as Claimed, Moved, NotOpen, Waiting}
@@ -99,7 +99,7 @@ pub record IsOpenAs (half : Half) (index predicted : ℕ) (t : Tenant) : Type 0 
 
 -- A word with the tag has the source's value or waits; with another tag its tenant has left
 abbrev pub SourceSays : (word tag : ℕ) → Source → Result ℕ Claim → Type 0
-SourceSays word tag k (Ok v) = (tag_of word ≡ tag) × (state_of word ≡ 2) × (v ≡ value_of word)
+SourceSays word tag k (Ok v) = (tag_of word ≡ tag) × (state_of word ≡ 2) × (v ≡ word_value word)
 SourceSays word tag k (Err refusal) =
     ((tag_of word ≡ tag) × (state_of word ≢ 2) × (refusal ≡ Waiting tag k))
     ⊎ ((tag_of word ≢ tag) × (refusal ≡ Moved tag))

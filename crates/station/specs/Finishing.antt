@@ -12,7 +12,7 @@ use Rattle.station.specs.declared.answers.Finish.{Finish}
 use Rattle.station.specs.declared.answers.Finish.TheVariants.{Finished}
 use Rattle.station.specs.declared.answers.Job.{Job}
 use Rattle.station.specs.Claiming.{Holds, IsClaimed}
-use Rattle.station.specs.Writeback.{FinishAnswers, HasTenant, outcome_of}
+use Rattle.station.specs.Writeback.{FinishAnswers, HasTenant, job_outcome}
 
 -- From one of these histories to the other neither the front nor the back has done anything
 pub record OnlyUnits (old new : List Entry) : Type 0 where
@@ -36,7 +36,7 @@ pub record HasOutcome (outcome : Outcome) (t : Tenant) : Type 0 where
 -- The finish was in time, and the tenant has the outcome of its job
 pub record HasFinished (P : Program) (C : Sizes) (new : List Entry) (j : Job) (answer : Finish) : Type 0 where
   pub is : answer ≡ Finished
-  pub tenant : HasTenant P C new j.station j.tag (HasOutcome (outcome_of P j))
+  pub tenant : HasTenant P C new j.station j.tag (HasOutcome (job_outcome P j))
 
 -- A tenant is live when it was claimed
 abbrev pub ClaimedAreInFlight : Type 0

@@ -17,7 +17,7 @@ use Rattle.station.specs.declared.answers.Supply.TheVariants.{From}
 use Rattle.station.specs.declared.answers.Tenant.{Tenant}
 use Rattle.station.specs.Asking.{AskAnswers, MayAsk}
 use Rattle.station.specs.Letting.{MayLetOut, let_of}
-use Rattle.station.specs.Recovery.{HasMiss, IsSquashed, MaySquash}
+use Rattle.station.specs.Recovery.{HasMiss, SeesWrongPath, WasSquashed}
 use Rattle.station.specs.Writeback.{HasTenant}
 
 -- From a let to its questions
@@ -71,11 +71,11 @@ MissesStaySeen =
 abbrev pub MissesStaySquashing : Type 0
 MissesStaySquashing =
     (P : Program) (C : Sizes) (old new : List Entry) (s g station tag next : ℕ) →
-    IsSquashed P C front s g old new → (station ≢ s) ⊎ (tag ≢ g) →
+    WasSquashed P C front s g old new → (station ≢ s) ⊎ (tag ≢ g) →
     SeesLiveMiss P C old station tag next → SeesLiveMiss P C new station tag next
 
 -- There is a younger live tenant, which may be squashed, or it can be mended
 abbrev pub MissesAreRecovered : Type 0
 MissesAreRecovered =
     (P : Program) (C : Sizes) (seen : List Entry) (station tag next : ℕ) →
-    SeesLiveMiss P C seen station tag next → MaySquash P C seen ⊎ HasMiss P C seen station tag next
+    SeesLiveMiss P C seen station tag next → SeesWrongPath P C seen ⊎ HasMiss P C seen station tag next

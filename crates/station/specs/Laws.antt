@@ -18,7 +18,7 @@ use Rattle.station.specs.declared.answers.Tenant.{Tenant}
 use Rattle.station.specs.Asking.{MayAsk}
 use Rattle.station.specs.Claiming.{ClaimAnswers, Holds}
 use Rattle.station.specs.Letting.{MayLetOut}
-use Rattle.station.specs.Recovery.{MaySquash, SeesMiss}
+use Rattle.station.specs.Recovery.{SeesMiss, SeesWrongPath}
 use Rattle.station.specs.Writeback.{FinishAnswers, MaySettle}
 
 -- Tenant p is not finished by it
@@ -64,7 +64,7 @@ pub record FrontMays (P : Program) (C : Sizes) (old new : List Entry) : Type 0 w
   pub lets : (t : Tenant) → MayLetOut P C (unit_of P C old) t → MayLetOut P C (unit_of P C new) t
   pub asks : (station tag : ℕ) (k : Source) (from_station from_tag : ℕ) →
       MayAsk P C old station tag k from_station from_tag → MayAsk P C new station tag k from_station from_tag
-  pub squashes : MaySquash P C old → MaySquash P C new
+  pub squashes : SeesWrongPath P C old → SeesWrongPath P C new
   pub mends : (station : ℕ) → SeesMiss P C old station → SeesMiss P C new station
 
 -- So it is as long as the front itself adds nothing

@@ -51,7 +51,7 @@ pub record AreFirst (core : TheCore) (front_seat back_seat unit_seat : Caller) :
   pub unit_is : unit_seat ≡ first_seat core first_unit other_units
 
 -- A core for this program and configuration, with its first seats
-pub record IsMade (P : Program) (config : Settings) (core : TheCore) (front_seat back_seat unit_seat : Caller) : Type 0 where
+pub record IsNewCore (P : Program) (config : Settings) (core : TheCore) (front_seat back_seat unit_seat : Caller) : Type 0 where
   pub program : core.program ≡ P
   pub sizes : core.sizes ≡ record { ring = config.ring; queue = config.queue; first_tag = config.first_tag }
   pub opening : core.opening ≡ []

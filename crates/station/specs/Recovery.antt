@@ -45,7 +45,7 @@ pub record IsMended (P : Program) (C : Sizes) (by station : ℕ) (old new : List
   pub adds : Adds P C by old new (Does (On p Mend) ∷ [])
 
 -- In what was seen there is a youngest live tenant, and an older live miss
-pub record MaySquash (P : Program) (C : Sizes) (seen : List Entry) : Type 0 where
+pub record SeesWrongPath (P : Program) (C : Sizes) (seen : List Entry) : Type 0 where
   pub p : ℕ
   pub can : CanSquash (unit_of P C seen) p
 
@@ -62,7 +62,7 @@ pub record Squashes (P : Program) (C : Sizes) (s g : ℕ) (h : List Entry) (d : 
   pub draft : d ≡ Nothing
 
 -- That tenant, of this station and tag, was squashed
-pub record IsSquashed (P : Program) (C : Sizes) (by station tag : ℕ) (old new : List Entry) : Type 0 where
+pub record WasSquashed (P : Program) (C : Sizes) (by station tag : ℕ) (old new : List Entry) : Type 0 where
   pub p : ℕ
   pub named : IsTenant (unit_of P C new) p station tag IsAny
   pub can : CanSquash (unit_of P C old) p

@@ -12,7 +12,7 @@ use Rattle.inorder.specs.Tenants.{IsNotLive}
 use Rattle.inorder.specs.Unit.{Sizes, UpdateUnit}
 use Rattle.ruu_words.specs.Openings.{renewed}
 use Rattle.station.specs.Making.{AreFirst}
-use Rattle.station.specs.Seats.{Caller, IsSame, TheCore}
+use Rattle.station.specs.Seats.{Caller, IsSameSeat, TheCore}
 
 -- Nobody is live
 abbrev pub HasNobody : UpdateUnit → Type 0
@@ -31,7 +31,7 @@ seats_of front_seat back_seat unit_seat =
 
 -- The same seat, whose caller has looked and met
 pub record HasLooked (core : TheCore) (old new : Caller) : Type 0 where
-  pub same : IsSame old new
+  pub same : IsSameSeat old new
   pub heirs : new.heirs ≡ old.heirs
   pub woken : new.woken ≡ old.woken
   pub adds : Adds core.program core.sizes old.by old.seen new.seen []

@@ -38,7 +38,7 @@ pub record Caller : Type 0 where
   pub woken : ℕ
 
 -- The same seat at the same core
-pub record IsSame (v w : Caller) : Type 0 where
+pub record IsSameSeat (v w : Caller) : Type 0 where
   pub core : w.core ≡ v.core
   pub by : w.by ≡ v.by
 

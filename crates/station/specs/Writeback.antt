@@ -23,7 +23,7 @@ use Rattle.inorder.specs.StationWords.{live_word}
 use Rattle.inorder.specs.Tenants.{Fate, Tenant, operand}
 use Rattle.inorder.specs.Unit.{Sizes}
 use Rattle.ruu_words.specs.Content.{IsOperandOf, IsStation}
-use Rattle.ruu_words.specs.Fields.{tag_of, value_of}
+use Rattle.ruu_words.specs.Fields.{tag_of, word_value}
 use Rattle.ruu_words.specs.Kinds.{HasLink, IsAny, IsTenant}
 use Rattle.inorder.specs.Callers.{HasMade}
 use Rattle.station.specs.declared.answers.Finish.{Finish}
@@ -66,11 +66,11 @@ pub record AreFates (was will : Fate) (old new : ℕ) : Type 0 where
 -- The words of an operand before and after an exchange: it waits, and has its value
 pub record AreOperands (old new : ℕ) : Type 0 where
   pub old_is : IsOperandOf (wait_word (tag_of old)) old
-  pub new_is : IsOperandOf (val_word (tag_of old) (value_of new)) new
+  pub new_is : IsOperandOf (val_word (tag_of old) (word_value new)) new
 
 -- What a unit has to compute for a job
-abbrev pub outcome_of : Program → Job → Outcome
-outcome_of P j = outcome_of_half (instr_of P j.index) j.half j.pc j.a j.b (length P.bytes)
+abbrev pub job_outcome : Program → Job → Outcome
+job_outcome P j = outcome_of_half (instr_of P j.index) j.half j.pc j.a j.b (length P.bytes)
 
 -- The load may be answered with this value, unless it was squashed
 pub record MaySettle (P : Program) (C : Sizes) (seen : List Entry) (station tag value : ℕ) : Type 0 where
@@ -113,7 +113,7 @@ pub record WasStale (P : Program) (C : Sizes) (by : ℕ) (old new : List Entry) 
 -- tenant was squashed before
 abbrev pub FinishAnswers : Program → Sizes → ℕ → List Entry → List Entry → Job → Finish → Type 0
 FinishAnswers P C by old new j Finished =
-    IsWritten P C by old new j.station j.tag FinishIt (λ p. IsCarried P C new p (outcome_of P j))
+    IsWritten P C by old new j.station j.tag FinishIt (λ p. IsCarried P C new p (job_outcome P j))
 FinishAnswers P C by old new j Stale = WasStale P C by old new j.station j.tag
 
 -- What `settle` answers: the load was done, and its value carried along its links; or it was

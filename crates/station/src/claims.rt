@@ -6,7 +6,7 @@ ghost use Rattle.inorder.specs.Tenants.{needs};
 ghost use Rattle.station.specs.Calls.{AnswersSource, ComesTo, IsLegalCall, IsSameCall, Saw};
 ghost use Rattle.station.specs.Answers.{AnswersClaim};
 ghost use Rattle.station.specs.Claiming.{ClaimAnswers, IsNext, IsOpenAs, SourceSays};
-ghost use Rattle.station.specs.Seats.{IsSame};
+ghost use Rattle.station.specs.Seats.{IsSameSeat};
 
 use crate::answers::{Claim, Job};
 use crate::call::Call;
@@ -138,7 +138,7 @@ impl Core {
     pub fn claim(&self, seat: &mut UnitSeat, station: usize) -> Claim
         requires core { seat.old.core ≡ self.now }
         requires station { station < self.now.sizes.ring }
-        ensures kept { IsSame seat.old seat.new }
+        ensures kept { IsSameSeat seat.old seat.new }
         ensures woken { seat.new.woken ≡ seat.old.woken }
         ensures heirs { seat.new.heirs ≡ seat.old.heirs }
         ensures reply { ClaimAnswers self.now.program self.now.sizes seat.old.by seat.old.seen

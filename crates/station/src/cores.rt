@@ -3,7 +3,7 @@ ghost use Rattle.std.specs.Prelude.{◌≡◌, ◌≤◌, ◌<◌, IfOk};
 ghost use Rattle.ruu_words.specs.Fields.{tag_count};
 ghost use Rattle.ruu_words.specs.Openings.{IsOpening, opening_of, sizes_of};
 ghost use Rattle.ruu_words.specs.Rule.{IsStart};
-ghost use Rattle.station.specs.Making.{AreFirst, IsCore, IsFirstTable, IsMade, IsSetup};
+ghost use Rattle.station.specs.Making.{AreFirst, IsCore, IsFirstTable, IsNewCore, IsSetup};
 ghost use Rattle.station.specs.Seats.{core_of};
 
 use crate::seat::{BackSeat, FrontSeat, SeatOf, UnitSeat};
@@ -124,7 +124,7 @@ impl Core {
         program: &Program,
         config: &Config,
     ) -> Result<(Core, FrontSeat, BackSeat, UnitSeat), Memory>
-        ensures { IfOk result (λ t. IsMade program.now config.now t.0 t.1 t.2 t.3) }
+        ensures { IfOk result (λ t. IsNewCore program.now config.now t.0 t.1 t.2 t.3) }
     {
         let setup = setup_of(alloc, program, config)?;
         let (table, first) = first_table(alloc, &setup)?;
@@ -200,6 +200,13 @@ impl Core {
             opening: badge,
         };
         (table, setup)
+    }
+
+    /// The program of its instructions.
+    pub fn program(&self) -> &Program
+        ensures { result.now ≡ self.now.program }
+    {
+        &self.program
     }
 
     /// How many reservation stations there are.

@@ -4,7 +4,7 @@ ghost use Rattle.inorder.specs.Unit.{next_tag, recent};
 ghost use Rattle.ruu_words.specs.declared.rule.Draft.TheVariants.{Nothing};
 ghost use Rattle.station.specs.Calls.{HasLetOut, IsAbout};
 ghost use Rattle.station.specs.Letting.{MayLetOut, let_of};
-ghost use Rattle.station.specs.Seats.{IsSame};
+ghost use Rattle.station.specs.Seats.{IsSameSeat};
 ghost use Rattle.inorder.specs.History.{unit_of};
 ghost use Rattle.inorder.specs.OneHistory.{Adds};
 
@@ -53,7 +53,7 @@ impl Core {
         requires core { seat.old.core ≡ self.now }
         requires may { MayLetOut self.now.program self.now.sizes
             (unit_of self.now.program self.now.sizes seat.old.seen) tenant }
-        ensures kept { IsSame seat.old seat.new }
+        ensures kept { IsSameSeat seat.old seat.new }
         ensures history { Adds self.now.program self.now.sizes seat.old.by seat.old.seen
             seat.new.seen (let_of tenant ∷ []) }
         ensures reply { result ≡ next_tag self.now.sizes

@@ -5,7 +5,7 @@ ghost use Rattle.ruu_words.specs.Places.{IsPlace};
 ghost use Rattle.ruu_words.specs.Views.{IsCaller};
 ghost use Rattle.station.specs.Looking.{SeesInfo, SeesOperand, SeesStation, SeesWord};
 ghost use Rattle.station.specs.Renewals.{HasLooked};
-ghost use Rattle.station.specs.Seats.{IsSame};
+ghost use Rattle.station.specs.Seats.{IsSameSeat};
 ghost use Rattle.inorder.specs.OneHistory.{Adds};
 
 use crate::answers::{Seen, SourceState};
@@ -39,7 +39,7 @@ impl Core {
     pub fn look<P: Part>(&self, seat: &mut SeatOf<P>, station: usize) -> Seen<StationState>
         requires core { seat.old.core ≡ self.now }
         requires station { station < self.now.sizes.ring }
-        ensures kept { IsSame seat.old seat.new }
+        ensures kept { IsSameSeat seat.old seat.new }
         ensures woken { seat.new.woken ≡ seat.old.woken }
         ensures heirs { seat.new.heirs ≡ seat.old.heirs }
         ensures caller { IsCaller P.role seat.old.by }
@@ -58,7 +58,7 @@ impl Core {
     pub fn info(&self, seat: &mut BackSeat, station: usize) -> (u32, Half, u32)
         requires core { seat.old.core ≡ self.now }
         requires station { station < self.now.sizes.ring }
-        ensures kept { IsSame seat.old seat.new }
+        ensures kept { IsSameSeat seat.old seat.new }
         ensures woken { seat.new.woken ≡ seat.old.woken }
         ensures history { Adds self.now.program self.now.sizes seat.old.by seat.old.seen
             seat.new.seen [] }
@@ -78,7 +78,7 @@ impl Core {
     pub fn operand(&self, seat: &mut BackSeat, station: usize, k: Source) -> Seen<SourceState>
         requires core { seat.old.core ≡ self.now }
         requires station { station < self.now.sizes.ring }
-        ensures kept { IsSame seat.old seat.new }
+        ensures kept { IsSameSeat seat.old seat.new }
         ensures woken { seat.new.woken ≡ seat.old.woken }
         ensures history { Adds self.now.program self.now.sizes seat.old.by seat.old.seen
             seat.new.seen [] }

@@ -3,7 +3,7 @@ ghost use Rattle.std.specs.Prelude.{◌≡◌, ◌≢◌, []};
 ghost use Rattle.inorder.specs.History.{StartsWith, own};
 ghost use Rattle.ruu_words.specs.Views.{half, other_half};
 ghost use Rattle.station.specs.Renewals.{HasLooked};
-ghost use Rattle.station.specs.Seats.{IsSame};
+ghost use Rattle.station.specs.Seats.{IsSameSeat};
 ghost use Rattle.inorder.specs.OneHistory.{Adds};
 
 use crate::call::Call;
@@ -102,13 +102,13 @@ impl Core {
     pub fn meet<P: Part, Q: Part>(&self, one: &mut SeatOf<P>, other: &mut SeatOf<Q>)
         requires one { one.old.core ≡ self.now }
         requires other { other.old.core ≡ self.now }
-        ensures one_kept { IsSame one.old one.new }
+        ensures one_kept { IsSameSeat one.old one.new }
         ensures one_heirs { one.new.heirs ≡ one.old.heirs }
         ensures one_woken { one.new.woken ≡ one.old.woken }
         ensures one_history { Adds self.now.program self.now.sizes one.old.by one.old.seen
             one.new.seen [] }
         ensures one_told { StartsWith one.new.seen other.old.seen }
-        ensures other_kept { IsSame other.old other.new }
+        ensures other_kept { IsSameSeat other.old other.new }
         ensures other_heirs { other.new.heirs ≡ other.old.heirs }
         ensures other_woken { other.new.woken ≡ other.old.woken }
         ensures other_history { Adds self.now.program self.now.sizes other.old.by other.old.seen

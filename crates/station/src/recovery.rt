@@ -3,8 +3,8 @@ ghost use Rattle.std.specs.Prelude.{◌<◌, ◌≡◌};
 ghost use Rattle.ruu_words.specs.declared.rule.Draft.TheVariants.{Nothing};
 ghost use Rattle.station.specs.Calls.{LeadsTo, let_place};
 ghost use Rattle.station.specs.Answers.{MendsAt, SquashesAt};
-ghost use Rattle.station.specs.Recovery.{IsMended, IsSquashed, MaySquash, SeesMiss};
-ghost use Rattle.station.specs.Seats.{IsSame};
+ghost use Rattle.station.specs.Recovery.{IsMended, SeesMiss, SeesWrongPath, WasSquashed};
+ghost use Rattle.station.specs.Seats.{IsSameSeat};
 
 use crate::call::Call;
 use crate::cores::Core;
@@ -35,7 +35,7 @@ impl<'a> Call<'a, FrontPart> {
     fn squash_youngest(&mut self, next: usize) -> (usize, u32)
         requires place { next < self.old.core.sizes.ring }
         requires draft { self.old.view.draft ≡ Nothing }
-        requires may { MaySquash self.old.core.program self.old.core.sizes self.old.view.seen }
+        requires may { SeesWrongPath self.old.core.program self.old.core.sizes self.old.view.seen }
         requires next { next ≡ let_place self.old }
         ensures inside { result.0 < self.old.core.sizes.ring }
         ensures squashed { LeadsTo self.old self.new result.0 (SquashesAt result.0 result.1) }
@@ -56,9 +56,9 @@ impl Core {
     /// tag is spent, so that its links are dead: sim-outorder's `ruu_recover`.
     pub fn squash(&self, seat: &mut FrontSeat) -> (usize, u32)
         requires core { seat.old.core ≡ self.now }
-        requires may { MaySquash self.now.program self.now.sizes seat.old.seen }
-        ensures kept { IsSame seat.old seat.new }
-        ensures reply { IsSquashed self.now.program self.now.sizes seat.old.by
+        requires may { SeesWrongPath self.now.program self.now.sizes seat.old.seen }
+        ensures kept { IsSameSeat seat.old seat.new }
+        ensures reply { WasSquashed self.now.program self.now.sizes seat.old.by
             result.0 result.1 seat.old.seen seat.new.seen }
     {
         let next = seat.station;
@@ -77,7 +77,7 @@ impl Core {
         requires core { seat.old.core ≡ self.now }
         requires station { station < self.now.sizes.ring }
         requires miss { SeesMiss self.now.program self.now.sizes seat.old.seen station }
-        ensures kept { IsSame seat.old seat.new }
+        ensures kept { IsSameSeat seat.old seat.new }
         ensures history { IsMended self.now.program self.now.sizes seat.old.by
             station seat.old.seen seat.new.seen }
     {

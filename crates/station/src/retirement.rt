@@ -3,7 +3,7 @@ ghost use Rattle.std.specs.Prelude.{◌<◌, ◌≡◌, false};
 ghost use Rattle.ruu_words.specs.declared.station.StationState.TheVariants.{Stop};
 ghost use Rattle.station.specs.Calls.{RetiresFrom, seen_unit};
 ghost use Rattle.station.specs.Retirement.{HasAccess, HasEnd, IsLastOf, MayLeave, RetireAnswers, is_stop, kept_value};
-ghost use Rattle.station.specs.Seats.{IsAtHead, IsSame};
+ghost use Rattle.station.specs.Seats.{IsAtHead, IsSameSeat};
 
 use crate::answers::{Last, Retire};
 use crate::call::Call;
@@ -172,7 +172,7 @@ impl Core {
     /// reorder buffer of Smith and Pleszkun.
     pub fn retire(&self, seat: &mut BackSeat) -> Retire
         requires core { seat.old.core ≡ self.now }
-        ensures kept { IsSame seat.old seat.new }
+        ensures kept { IsSameSeat seat.old seat.new }
         ensures woken { seat.new.woken ≡ seat.old.woken }
         ensures reply { RetireAnswers self.now.program self.now.sizes seat.old.by seat.old.seen
             seat.new.seen result }

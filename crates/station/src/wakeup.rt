@@ -4,7 +4,7 @@ ghost use Rattle.ruu_words.specs.declared.rule.Draft.TheVariants.{Nothing};
 ghost use Rattle.station.specs.Calls.{LeadsTo, let_place};
 ghost use Rattle.station.specs.Answers.{AnswersAsk};
 ghost use Rattle.station.specs.Asking.{AskAnswers, MayAsk};
-ghost use Rattle.station.specs.Seats.{IsSame};
+ghost use Rattle.station.specs.Seats.{IsSameSeat};
 
 use crate::answers::Ask;
 use crate::call::Call;
@@ -56,7 +56,7 @@ impl Core {
         requires from { from.0 < self.now.sizes.ring }
         requires may { MayAsk self.now.program self.now.sizes seat.old.seen
             station tag k from.0 from.1 }
-        ensures kept { IsSame seat.old seat.new }
+        ensures kept { IsSameSeat seat.old seat.new }
         ensures reply { AskAnswers self.now.program self.now.sizes seat.old.by seat.old.seen
             seat.new.seen station tag k from.0 from.1 result }
     {

@@ -5,7 +5,7 @@ ghost use Rattle.inorder.specs.Replies.{last_tag};
 ghost use Rattle.inorder.specs.StationWords.{IsFree, live_word};
 ghost use Rattle.inorder.specs.Tenants.{Done, Open};
 ghost use Rattle.ruu_words.specs.Content.{IsOperandOf, IsStation};
-ghost use Rattle.ruu_words.specs.Fields.{state_of, tag_count, tag_of, value_of};
+ghost use Rattle.ruu_words.specs.Fields.{state_of, tag_count, tag_of, word_value};
 ghost use Rattle.station.specs.Claiming.{IsBusyWord};
 ghost use Rattle.station.specs.Letting.{given_value};
 ghost use Rattle.station.specs.Looking.{source_state_of};
@@ -24,7 +24,7 @@ pub(crate) fn tag_in(word: u64) -> u32
 
 /// The value in a station's or an operand's word.
 pub(crate) fn value_in(word: u64) -> u32
-    ensures { result ≡ value_of word }
+    ensures { result ≡ word_value word }
 {
     (word & 0xffff_ffff) as u32
 }

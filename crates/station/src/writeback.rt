@@ -3,9 +3,9 @@ ghost use Rattle.std.specs.Prelude.{◌<◌, ◌≡◌};
 ghost use Rattle.station.specs.Calls.{Carried};
 ghost use Rattle.station.specs.Answers.{AnswersFinish, AnswersSettle};
 ghost use Rattle.station.specs.Claiming.{Holds};
-ghost use Rattle.station.specs.Seats.{IsSame};
+ghost use Rattle.station.specs.Seats.{IsSameSeat};
 ghost use Rattle.station.specs.Waking.{HasWoken, IsSet};
-ghost use Rattle.station.specs.Writeback.{FinishAnswers, MaySettle, SettleAnswers, outcome_of};
+ghost use Rattle.station.specs.Writeback.{FinishAnswers, MaySettle, SettleAnswers, job_outcome};
 
 use crate::answers::{Finish, Job, Settle};
 use crate::call::Call;
@@ -23,7 +23,7 @@ impl<'a> Call<'a, UnitPart> {
     fn finish_job(&mut self, job: Job, outcome: Outcome) -> (Finish, u32)
         requires job { Holds self.old.core.program self.old.core.sizes self.old.view.by
             self.old.view.seen job }
-        requires outcome { outcome ≡ outcome_of self.old.core.program job }
+        requires outcome { outcome ≡ job_outcome self.old.core.program job }
         ensures { Carried self.old self.new (AnswersFinish job result.0) (IsSet result.1) }
     {
         let _ = &self.seat;
@@ -78,8 +78,8 @@ impl Core {
     pub fn finish(&self, seat: &mut UnitSeat, job: Job, outcome: Outcome) -> Finish
         requires core { seat.old.core ≡ self.now }
         requires job { Holds self.now.program self.now.sizes seat.old.by seat.old.seen job }
-        requires outcome { outcome ≡ outcome_of self.now.program job }
-        ensures kept { IsSame seat.old seat.new }
+        requires outcome { outcome ≡ job_outcome self.now.program job }
+        ensures kept { IsSameSeat seat.old seat.new }
         ensures heirs { seat.new.heirs ≡ seat.old.heirs }
         ensures reply { FinishAnswers self.now.program self.now.sizes seat.old.by seat.old.seen
             seat.new.seen job result }
@@ -100,7 +100,7 @@ impl Core {
         requires core { seat.old.core ≡ self.now }
         requires station { station < self.now.sizes.ring }
         requires may { MaySettle self.now.program self.now.sizes seat.old.seen station tag value }
-        ensures kept { IsSame seat.old seat.new }
+        ensures kept { IsSameSeat seat.old seat.new }
         ensures reply { SettleAnswers self.now.program self.now.sizes seat.old.by seat.old.seen
             seat.new.seen station tag result }
         ensures woken { HasWoken self.now.program self.now.sizes seat.old.by seat.old.seen

@@ -18,8 +18,8 @@ use Rattle.unit.specs.Givers.{NoneGives}
 use Rattle.unit.specs.Leavers.{leaver}
 use Rattle.unit.specs.Notes.{AreNoted, miss_in}
 use Rattle.unit.specs.Stages.{CanLet, RecoversTo}
-use Rattle.unit.specs.StandsFor.{HasStopped, IsUnit, OverIs, StandsFor, sizes}
-use Rattle.unit.specs.Turns.{Before, BenchFields, Falls, IsPlain, IsSame, IsTurn, Moves, Trains, Turned, rank}
+use Rattle.unit.specs.StandsFor.{HasStopped, OverIs, StandsFor, StandsForSome, sizes}
+use Rattle.unit.specs.Turns.{Before, BenchFields, Falls, IsPlain, IsTurn, Moves, SizesStay, Trains, Turned, rank}
 use Rattle.unit.specs.Window.{let_at}
 use Rattle.unit.proofs.EndTurns.{window_room}
 use Rattle.unit.proofs.Idle.{Shows, same_rest}
@@ -39,7 +39,8 @@ before_moves b c e U r s = let o : HasStopped U.tenants c = subst (OverIs U.tena
 
 -- Recovered
 
-pub recovered_shows : (b later : Pipeline) → IsUnit b → b.over ≡ None → RecoversTo b.window later.window → later ≡ record b { window = later.window; missed = later.missed; settled = later.settled } →
+pub recovered_shows : (b later : Pipeline) → StandsForSome b → b.over ≡ None → RecoversTo b.window later.window →
+    later ≡ record b { window = later.window; missed = later.missed; settled = later.settled } →
     AreNoted later.missed later.settled later.window → Shows b Recovered later
 recovered_shows b later h none to rest noted =
     let turn = recovered_turn b later none to rest in
@@ -105,7 +106,7 @@ module _ {S : Type 0} (Predicts : S → ℕ → Instr → ℕ → S → Type 0) 
 
 -- Let
 
-pub let_shows : (b later : Pipeline) (f : Fetched) (guess : ℕ) → IsUnit b → b.over ≡ None →
+pub let_shows : (b later : Pipeline) (f : Fetched) (guess : ℕ) → StandsForSome b → b.over ≡ None →
     NoneGives miss_in b.window → CanLet b.program.now b.ring b.queue b.committed.pc b.low b.window f → guess < 2 ^ 32 →
     IfSome (fixed_next f.instr f.half f.pc) (λ x. guess ≡ x) →
     later.window ≡ b.window ++ let_at f.instr f.half f.pc guess ∷ [] →
@@ -128,7 +129,7 @@ let_shows b later f guess h none nm to small predicts wl ll rest =
     falls : Falls Let b later
     falls = (ap (λ x. x.committed) rest, ap (λ x. x.low) rest, subst (λ W. rank 32 W < rank 32 b.window) (sym wl) (let_falls b.window (let_at f.instr f.half f.pc guess) room (omega arith)))
 
-    same : IsSame b later
+    same : SizesStay b later
     same = record { program = ap (λ x. x.program) rest; ring = ap (λ x. x.ring) rest; queue = ap (λ x. x.queue) rest; first_tag = ap (λ x. x.first_tag) rest }
 
     long : length later.leavers ≡ 32
@@ -140,12 +141,12 @@ let_shows b later f guess h none nm to small predicts wl ll rest =
         (subst (λ n. AreNoted b.missed n later.window) (sym (ap (λ x. x.settled) rest)) (subst (AreNoted b.missed b.settled) (sym wl)
         (noted_more b.missed b.settled b.window (let_at f.instr f.half f.pc guess) refl h.noted)))
 
-pub let_room : (b : Pipeline) (f : Fetched) → IsUnit b → CanLet b.program.now b.ring b.queue b.committed.pc b.low b.window f → length b.window < 32
+pub let_room : (b : Pipeline) (f : Fetched) → StandsForSome b → CanLet b.program.now b.ring b.queue b.committed.pc b.low b.window f → length b.window < 32
 let_room b f h to = omega (arith, to.room, h.ring)
 
 -- the let of a bench
 module _ {S : Type 0} (Predicts : S → ℕ → Instr → ℕ → S → Type 0) (Learns : S → ℕ → ℕ → S → Type 0) where
-  pub let_bench : (b later : BenchFields S) (f : Fetched) (guess : ℕ) (left : Option Leaver) → IsUnit b.pipeline →
+  pub let_bench : (b later : BenchFields S) (f : Fetched) (guess : ℕ) (left : Option Leaver) → StandsForSome b.pipeline →
       b.pipeline.over ≡ None → NoneGives miss_in b.pipeline.window →
       CanLet b.pipeline.program.now b.pipeline.ring b.pipeline.queue b.pipeline.committed.pc b.pipeline.low b.pipeline.window f →
       guess < 2 ^ 32 →

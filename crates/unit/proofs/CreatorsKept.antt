@@ -9,7 +9,7 @@ use Rattle.instructions.specs.Instruction.{first_of, second_of}
 use Rattle.unit.specs.declared.creators.Creators.{Creators}
 use Rattle.unit.specs.declared.station.Station.{Station}
 use Rattle.unit.specs.Creators.{HasCreators, IsCreator, IsOfSame, KnowsCreators, places_of, written_by}
-use Rattle.unit.specs.Slots.{place_of, slot_of}
+use Rattle.unit.specs.Slots.{place_from, slot_of}
 use Rattle.unit.proofs.Slots.{place_next, place_slot}
 
 -- Lists
@@ -100,25 +100,25 @@ known_put ws cs newest start i x h same =
           let p = was_put ws i k x y same f in
           let q = has_alike ws (set ws i x) k p.w (places_of c start) (λ j less. written_put ws i j x same) (h.each k c e p.w p.is) in
           record {
-            first = subst (λ a. IsCreator (set ws i x) k (first_of a) (place_of c.first start)) (sym p.instr) q.first;
-            second = subst (λ a. IsCreator (set ws i x) k (second_of a) (place_of c.second start)) (sym p.instr) q.second;
-            replaced = subst (λ a. IsCreator (set ws i x) k a (place_of c.replaced start)) (sym p.destination) q.replaced;
+            first = subst (λ a. IsCreator (set ws i x) k (first_of a) (place_from c.first start)) (sym p.instr) q.first;
+            second = subst (λ a. IsCreator (set ws i x) k (second_of a) (place_from c.second start)) (sym p.instr) q.second;
+            replaced = subst (λ a. IsCreator (set ws i x) k a (place_from c.replaced start)) (sym p.destination) q.replaced;
           };
       newest_writer = λ r l.
-          let at = place_of (slice_index newest r) start in
+          let at = place_from (slice_index newest r) start in
           subst (λ n. IsCreator (set ws i x) n r at) (sym (length-set ws i x))
           (creator_alike ws (set ws i x) (length ws) r at (λ k less. written_put ws i k x same) (h.newest_writer r l));
     }
 
 -- The oldest leaves
 
-creator_shift : (ws : List Station) (i r n start : ℕ) → start < 32 → IsCreator ws (suc i) r (place_of n start) → IsCreator (drop 1 ws) i r (place_of n (slot_of start 1))
+creator_shift : (ws : List Station) (i r n start : ℕ) → start < 32 → IsCreator ws (suc i) r (place_from n start) → IsCreator (drop 1 ws) i r (place_from n (slot_of start 1))
 creator_shift ws i r n start small h k less e =
-    let at = place_of n (slot_of start 1) in
+    let at = place_from n (slot_of start 1) in
     let more : suc k < suc i = omega (arith, less) in
     let q = h (suc k) more (sym (ap written_by (slice_get-drop 1 ws k (suc k) (one_more k))) ∙ e) in
-    let some : 0 < place_of n start = omega (arith, q.youngest) in
-    let next : place_of n start ≡ suc at = place_next n start small some in
+    let some : 0 < place_from n start = omega (arith, q.youngest) in
+    let next : place_from n start ≡ suc at = place_next n start small some in
     record {
       older = omega (arith, q.older, next);
       writes = ap written_by (slice_get-drop 1 ws at (suc at) (one_more at)) ∙ ap (λ p. written_by (slice_get ws p)) (sym next) ∙ q.writes;
@@ -139,7 +139,7 @@ known_shift ws cs newest start small h =
             replaced = creator_shift ws i w.destination c.replaced start small q.replaced;
           };
       newest_writer = λ r l k less e.
-          let at = place_of (slice_index newest r) start in
+          let at = place_from (slice_index newest r) start in
           let all = subst (λ n. IsCreator ws n r at) (longer ws k less) (h.newest_writer r l) in
           creator_shift ws (length (drop 1 ws)) r (slice_index newest r) start small all k less e;
     }
@@ -153,7 +153,7 @@ known_pop ws cs newest start m w c h len e f small =
     let records : length (take m cs) ≡ m = length-take-le m cs (omega (arith, len, h.stations)) in
     let table = set newest w.destination c.replaced in
     let kept : (k : ℕ) → k < m → written_by (slice_get (take m ws) k) ≡ written_by (slice_get ws k) = λ k less. ap written_by (slice_get-take m ws k less) in
-    let before = creator_alike ws (take m ws) m w.destination (place_of c.replaced start) kept (h.each m c f w e).replaced in
+    let before = creator_alike ws (take m ws) m w.destination (place_from c.replaced start) kept (h.each m c f w e).replaced in
     record {
       stations = records ∙ sym tenants;
       registers = length-set newest w.destination c.replaced ∙ h.registers;
@@ -162,15 +162,15 @@ known_pop ws cs newest start m w c h len e f small =
           let q = took m ws i x k in
           has_alike ws (take m ws) i x (places_of y start) (λ j less. let below : j < m = omega (arith, less, p.0) in kept j below) (h.each i y p.1 x q.1);
       newest_writer = λ r l.
-          subst (λ n. IsCreator (take m ws) n r (place_of (slice_index table r) start)) (sym tenants)
+          subst (λ n. IsCreator (take m ws) n r (place_from (slice_index table r) start)) (sym tenants)
           (⊎_elim
           (λ (same : r ≡ w.destination).
           let value : slice_index table r ≡ c.replaced = ap (slice_index table) same ∙ get_or-set_same newest w.destination c.replaced 0 (omega (arith, small, h.registers)) in
-          subst (λ n. IsCreator (take m ws) m r (place_of n start)) (sym value) (subst (λ d. IsCreator (take m ws) m d (place_of c.replaced start)) (sym same) before))
+          subst (λ n. IsCreator (take m ws) m r (place_from n start)) (sym value) (subst (λ d. IsCreator (take m ws) m d (place_from c.replaced start)) (sym same) before))
           (λ other.
           let value : slice_index table r ≡ slice_index newest r = get_or-set_other newest w.destination r c.replaced 0 other in
-          subst (λ n. IsCreator (take m ws) m r (place_of n start)) (sym value) (λ k less g.
-          let at = place_of (slice_index newest r) start in
+          subst (λ n. IsCreator (take m ws) m r (place_from n start)) (sym value) (λ k less g.
+          let at = place_from (slice_index newest r) start in
           let q = h.newest_writer r l k (omega (arith, less, len)) (sym (kept k less) ∙ g) in
           let apart : at ≢ m = λ (same : at ≡ m). other (cc (q.writes, ap (λ j. written_by (slice_get ws j)) same, ap written_by e)) in
           let below : at < m = omega (arith, q.older, len, apart) in
@@ -209,18 +209,18 @@ known_let ws cs newest start w c begins h room small has =
           has_alike ws xs i x (places_of y start) (λ j less. let below : j < m = omega (arith, less, inside) in kept j below) (h.each i y creators x there))
           (cases_eq i m);
       newest_writer = λ r l.
-          subst (λ n. IsCreator xs n r (place_of (slice_index table r) start)) (sym tenants)
+          subst (λ n. IsCreator xs n r (place_from (slice_index table r) start)) (sym tenants)
           (⊎_elim
           (λ (same : r ≡ w.destination).
           let value : slice_index table r ≡ v = ap (slice_index table) same ∙ get_or-set_same newest w.destination v 0 (omega (arith, small, h.registers)) in
-          let place : place_of (slice_index table r) start ≡ m = ap (λ n. place_of n start) value ∙ place_slot start m begins room in
+          let place : place_from (slice_index table r) start ≡ m = ap (λ n. place_from n start) value ∙ place_slot start m begins room in
           subst (IsCreator xs (suc m) r) (sym place) (λ k less g. record { older = omega arith; writes = last ∙ ap Some (sym same); youngest = omega (arith, less) }))
           (λ other.
           let value : slice_index table r ≡ slice_index newest r = get_or-set_other newest w.destination r v 0 other in
-          subst (λ n. IsCreator xs (suc m) r (place_of n start)) (sym value) (λ k less g.
+          subst (λ n. IsCreator xs (suc m) r (place_from n start)) (sym value) (λ k less g.
           let apart : k ≢ m = λ (same : k ≡ m). other (cc (g, ap (λ j. written_by (slice_get xs j)) same, last)) in
           let below : k < m = omega (arith, less, apart) in
           let q = h.newest_writer r l k below (sym (kept k below) ∙ g) in
-          record { older = omega (arith, q.older); writes = kept (place_of (slice_index newest r) start) q.older ∙ q.writes; youngest = q.youngest }))
+          record { older = omega (arith, q.older); writes = kept (place_from (slice_index newest r) start) q.older ∙ q.writes; youngest = q.youngest }))
           (cases_eq r w.destination));
     }

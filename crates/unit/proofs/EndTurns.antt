@@ -51,12 +51,12 @@ use Rattle.unit.specs.declared.station.Station.{Station}
 use Rattle.unit.specs.Ahead.{low_after, low_of, waiting_half}
 use Rattle.unit.specs.Changes.{ahead_of, registers_of}
 use Rattle.unit.specs.Givers.{NoneGives, given_at, gives}
-use Rattle.unit.specs.Leavers.{leaver, leaver_of, told_by, told_of}
-use Rattle.unit.specs.Leaves.{CanLeave, HasEnded, LeavesTo, PassesTo, RetiresTo, halved, left, memory_with, with_station}
+use Rattle.unit.specs.Leavers.{leaver, told_at, told_by, told_of}
+use Rattle.unit.specs.Leaves.{HasEnded, LeavesTo, OldestHasEnded, PassesTo, RetiresTo, halved, left, memory_with, with_station}
 use Rattle.unit.specs.Loads.{AreInside, StoresWriteNone, load_in, waits_by}
 use Rattle.unit.specs.Notes.{miss_in}
 use Rattle.unit.specs.Stages.{CannotLet, NoInstr, NoRoom, QueueFull}
-use Rattle.unit.specs.StandsFor.{HasStopped, IsUnit, OverIs, StandsFor, sizes}
+use Rattle.unit.specs.StandsFor.{HasStopped, OverIs, StandsFor, StandsForSome, sizes}
 use Rattle.unit.specs.Turns.{Falls, Moved, Moves, Nowhere, Now, Retires}
 use Rattle.unit.specs.Window.{half_in, miss_of, operands_by, operands_in, source_in, stage_of, station_of, where_open, window}
 use Rattle.unit.proofs.Found.{Found, drop_first, found, nobody, window_behind, window_middle}
@@ -136,7 +136,7 @@ memory_size : (b : Pipeline) (U : UpdateUnit) → StandsFor b U → length b.com
 memory_size b U s = ap (λ c. length c.memory) s.committed ∙ length_memory b.program.now U.tenants
 
 -- each access of the window is inside the memory
-pub are_inside : (b : Pipeline) → IsUnit b → AreInside (length b.committed.memory) b.window
+pub are_inside : (b : Pipeline) → StandsForSome b → AreInside (length b.committed.memory) b.window
 are_inside b h k w e a q =
     let P = b.program.now in
     let f : Found P h.unit.tenants k w = found P h.unit.tenants k w (ap (λ W. slice_get W k) (sym h.stands.window) ∙ e) in
@@ -147,14 +147,14 @@ are_inside b h k w e a q =
     subst (λ n. a + width w.instr.op ≤ n) (sym (memory_size b h.unit h.stands)) fits'
 
 -- each store of the window writes no register
-pub stores_write_none : (b : Pipeline) → IsUnit b → StoresWriteNone b.window
+pub stores_write_none : (b : Pipeline) → StandsForSome b → StoresWriteNone b.window
 stores_write_none b h k w e q =
     let P = b.program.now in
     let f : Found P h.unit.tenants k w = found P h.unit.tenants k w (ap (λ W. slice_get W k) (sym h.stands.window) ∙ e) in
     let stores : kind_of P f.t ≡ Stores = ap (λ x. kind x.instr.op) f.station ∙ q in
     sym (ap (λ x. x.destination) f.station) ∙ ap (λ x. destination_by x (target_of (instr P f.t) f.t.half)) stores
 
-pub window_room : (b : Pipeline) → IsUnit b → length b.window ≤ 32
+pub window_room : (b : Pipeline) → StandsForSome b → length b.window ≤ 32
 window_room b h = let st = stands_of b.program.now (sizes b) h.unit h.reached in omega (arith, st.room, h.ring, window_length b.program.now h.unit.tenants, ap length h.stands.window)
 
 -- The oldest can leave where nothing else can be done
@@ -179,7 +179,7 @@ first_ready g k r q =
     let y = source_first g q in
     (_, ap (λ v. operands_by k v (source_in g [] q)) x.1 ∙ ap (operands_by k (Some x.0)) y.1 ∙ both_there k x.0 y.0)
 
-pub can_leave : (b : Pipeline) → IsUnit b → Refused b → CanLeave (length b.committed.memory) (slice_get b.window 0)
+pub can_leave : (b : Pipeline) → StandsForSome b → Refused b → OldestHasEnded (length b.committed.memory) (slice_get b.window 0)
 can_leave b h f = go (slice_get b.window 0) refl
   where
     regs : List ℕ
@@ -202,7 +202,7 @@ can_leave b h f = go (slice_get b.window 0) refl
         absurd (cc)
     some w e (HasAddr a) q = are_inside b h 0 w e a q
 
-    go : (o : Option Station) → slice_get b.window 0 ≡ o → CanLeave (length b.committed.memory) o
+    go : (o : Option Station) → slice_get b.window 0 ≡ o → OldestHasEnded (length b.committed.memory) o
     go None e = tt
     go (Some w) e = some w e w.stage refl
 
@@ -219,11 +219,11 @@ oldest_stores b U w t ts a f e sw s ef = go (access_of (kind_of P t) (instr P t)
     go (IsLoad k) =
         let full : 0 < length b.window = slice_get_within b.window 0 w e in
         let waits : waits_by (kind_of P t) (stage_of t.fate) ≡ Some a = ap (λ x. waits_by x (stage_of t.fate)) k ∙ ap (λ g. waits_by Loads (stage_of g)) ef in
-        let given : gives (load_in (registers_of b) b.committed.memory) b.window 0 ≡ Rattle.unit.specs.Loads.load_by [] b.committed.memory (instr P t).op
+        let given : gives (load_in (registers_of b) b.committed.memory) b.window 0 ≡ Rattle.unit.specs.Loads.loaded_over [] b.committed.memory (instr P t).op
         (Some a) = ap (λ x. given_at (load_in (registers_of b) b.committed.memory) b.window x 0) e
         ∙ sym (ap (load_in (registers_of b) b.committed.memory []) sw)
-        ∙ ap (Rattle.unit.specs.Loads.load_by [] b.committed.memory (instr P t).op) waits in
-        let no : Rattle.unit.specs.Loads.load_by [] b.committed.memory (instr P t).op (Some a) ≡ None = sym given ∙ f.loads 0 full in
+        ∙ ap (Rattle.unit.specs.Loads.loaded_over [] b.committed.memory (instr P t).op) waits in
+        let no : Rattle.unit.specs.Loads.loaded_over [] b.committed.memory (instr P t).op (Some a) ≡ None = sym given ∙ f.loads 0 full in
         absurd (cc no)
 
 -- Nobody is live
@@ -284,7 +284,7 @@ pub record Left (b : Pipeline) (t : Tenant) : Type 0 where
   pub can : CanRetire (kind_of b.program.now t) t.second.value t.fate
   pub commits : commits (retired t 0) ≡ true
   pub same : CommitsSame b.program.now t (ahead_of b)
-  pub told : told_of b.program.now (retired t 0) ≡ leaver_of (station_of b.program.now t)
+  pub told : told_of b.program.now (retired t 0) ≡ told_at (station_of b.program.now t)
   pub made : (retired t 0).made ≡ t.made
   pub makes : is_first b.program.now t ≡ true → (v : ℕ) × (t.made ≡ Some v)
   pub free : IsNotBusy t.fate
@@ -356,7 +356,7 @@ store_left b t ts a s e k d =
 
 -- The oldest retires
 
-leave : (b later : Pipeline) (answer : Turn) (w : Station) → IsUnit b → Refused b → slice_get b.window 0 ≡ Some w → HasEnded (length b.committed.memory) w.instr w.stage →
+leave : (b later : Pipeline) (answer : Turn) (w : Station) → StandsForSome b → Refused b → slice_get b.window 0 ≡ Some w → HasEnded (length b.committed.memory) w.instr w.stage →
     LeavesTo b w w.stage answer later → Moves b answer later
 leave b later answer w h f e ended to U r s = go (found P U.tenants 0 w (ap (λ W. slice_get W 0) (sym s.window) ∙ e))
   where
@@ -495,7 +495,7 @@ leave b later answer w h f e ended to U r s = go (found P U.tenants 0 w (ap (λ 
                 committed = ap (λ x. with_station x (ahead_of b)) (sym d.station)
                     ∙ sym (commits_same P t (ahead_of b) c.same)
                     ∙ ap (with_tenant P u) (ahead_stands b U r s) ∙ sym (commit true (completes_if P u true false c.commits qf));
-                leavers = leavers_set b.leavers P U.tenants V.tenants b.oldest b.ring (leaver_of w) near s.leavers (tells (leaver_of w) (c.told ∙ ap leaver_of d.station));
+                leavers = leavers_set b.leavers P U.tenants V.tenants b.oldest b.ring (told_at w) near s.leavers (tells (told_at w) (c.told ∙ ap told_at d.station));
                 over = subst (OverIs V.tenants) (sym f.none) (stops_put ys t u ts c.no_stop stops, still_put ys t u ts c.made refl refl c.free still);
                 low = sym (low true c.commits ∙ ap (λ x. low_after true x u.made (low_of P ts)) qf);
                 oldest = next;
@@ -511,7 +511,7 @@ leave b later answer w h f e ended to U r s = go (found P U.tenants 0 w (ap (λ 
               stands = record {
                 window = shown;
                 committed = s.committed ∙ sym same;
-                leavers = leavers_set b.leavers P U.tenants V.tenants b.oldest b.ring (leaver_of w) near s.leavers (tells (leaver_of w) (c.told ∙ ap leaver_of d.station));
+                leavers = leavers_set b.leavers P U.tenants V.tenants b.oldest b.ring (told_at w) near s.leavers (tells (told_at w) (c.told ∙ ap told_at d.station));
                 over = subst (OverIs V.tenants) (sym f.none) (stops_put ys t u ts c.no_stop stops, still_put ys t u ts c.made refl refl c.free still);
                 low = ap (λ x. Some (unwrap_or x.made 0)) (sym d.station) ∙ sym waits;
                 oldest = next;
@@ -581,16 +581,17 @@ leave b later answer w h f e ended to U r s = go (found P U.tenants 0 w (ap (λ 
         by Opens q l = absurd (subst (HasEnded (length b.committed.memory) w.instr) q ended)
         by (Misses x) q l = absurd (subst (HasEnded (length b.committed.memory) w.instr) q ended)
 
-pub retires_turn : (b later : Pipeline) (answer : Turn) → IsUnit b → Refused b → CanLeave (length b.committed.memory) (slice_get b.window 0) → RetiresTo b (slice_get b.window 0) answer later →
+pub retires_turn : (b later : Pipeline) (answer : Turn) → StandsForSome b → Refused b →
+    OldestHasEnded (length b.committed.memory) (slice_get b.window 0) → RetiresTo b (slice_get b.window 0) answer later →
     Moves b answer later
 retires_turn b later answer h f can to = go (slice_get b.window 0) refl can to
   where
-    go : (o : Option Station) → slice_get b.window 0 ≡ o → CanLeave (length b.committed.memory) o → RetiresTo b o answer later → Moves b answer later
+    go : (o : Option Station) → slice_get b.window 0 ≡ o → OldestHasEnded (length b.committed.memory) o → RetiresTo b o answer later → Moves b answer later
     go None e c l = λ U r s. subst (λ x. Moved b U x later) (sym l.0) (subst (Moved b U (Over BadPc)) (sym l.1) (nowhere_turn b f.none h.room f.lets h.least e U r s))
     go (Some w) e c l = leave b later answer w h f e c l
 
 -- a first half that leaves finds nothing that waits
-first_alone : (b : Pipeline) (w : Station) → IsUnit b → b.over ≡ None → slice_get b.window 0 ≡ Some w → is_first_half w.instr.op w.half ≡ true → b.low ≡ None
+first_alone : (b : Pipeline) (w : Station) → StandsForSome b → b.over ≡ None → slice_get b.window 0 ≡ Some w → is_first_half w.instr.op w.half ≡ true → b.low ≡ None
 first_alone b w h none e q = go (found P U 0 w (ap (λ W. slice_get W 0) (sym h.stands.window) ∙ e))
   where
     P : Program
@@ -633,8 +634,8 @@ first_alone b w h none e q = go (found P U 0 w (ap (λ W. slice_get W 0) (sym h.
             nil [] z = refl
             nil (x ∷ xs) z = absurd (omega (arith, z))
 
-pub retires_falls : (b later : Pipeline) (answer : Turn) → IsUnit b → b.over ≡ None →
-    CanLeave (length b.committed.memory) (slice_get b.window 0) → RetiresTo b (slice_get b.window 0) answer later →
+pub retires_falls : (b later : Pipeline) (answer : Turn) → StandsForSome b → b.over ≡ None →
+    OldestHasEnded (length b.committed.memory) (slice_get b.window 0) → RetiresTo b (slice_get b.window 0) answer later →
     Falls answer b later
 retires_falls b later answer unit none can to = go (slice_get b.window 0) refl can to
   where
@@ -649,6 +650,6 @@ retires_falls b later answer unit none can to = go (slice_get b.window 0) refl c
     by w e Opens h l = absurd h
     by w e (Misses x) h l = absurd h
 
-    go : (o : Option Station) → slice_get b.window 0 ≡ o → CanLeave (length b.committed.memory) o → RetiresTo b o answer later → Falls answer b later
+    go : (o : Option Station) → slice_get b.window 0 ≡ o → OldestHasEnded (length b.committed.memory) o → RetiresTo b o answer later → Falls answer b later
     go None e c l = subst (λ x. Falls x b later) (sym l.0) (ap (λ x. x.committed) l.1)
     go (Some w) e c l = by w e w.stage c l

@@ -14,18 +14,19 @@ use Rattle.inorder.proofs.OneCaller.Sequences.{sound_of}
 use Rattle.unit.specs.declared.bench.Turn.{Turn}
 use Rattle.unit.specs.declared.bench.Turn.TheVariants.{Halved, Let, Loaded, Over, Ran, Recovered, Retired}
 use Rattle.unit.specs.declared.pipeline.Pipeline.{Pipeline}
-use Rattle.unit.specs.StandsFor.{IsUnit, sizes}
-use Rattle.unit.specs.Turns.{Before, Falls, IsOver, IsSame, Moves, Now, Nowhere, rank}
+use Rattle.unit.specs.Changes.{RetiresOne, run_from}
+use Rattle.unit.specs.StandsFor.{StandsForSome, sizes}
+use Rattle.unit.specs.Turns.{Before, EndsHere, Falls, Moves, Now, Nowhere, SizesStay, rank}
 use Rattle.unit.proofs.Ranks.{rank_bound}
 
-state_is : (b : Pipeline) → IsUnit b → after b.program.now b.committed.count ≡ Some b.committed
+state_is : (b : Pipeline) → StandsForSome b → after b.program.now b.committed.count ≡ Some b.committed
 state_is b h =
     let P = b.program.now in
     let e = (in_order P h.unit.tenants (sound_of P (sizes b) h.unit h.reached)).state in
     subst (λ s. after P s.count ≡ Some s) (sym h.stands.committed) e
 
 -- the code of an over is that of the machine in order
-over_stop : (P : Program) (C : Sizes) (U V : UpdateUnit) (c : Stop) → IsReached P C U → IsReached P C V → IsOver P C U V c → stop P (committed P V.tenants).count ≡ Some c
+over_stop : (P : Program) (C : Sizes) (U V : UpdateUnit) (c : Stop) → IsReached P C U → IsReached P C V → EndsHere P C U V c → stop P (committed P V.tenants).count ≡ Some c
 over_stop P C U V c r q (Before s e) = (in_order P V.tenants (sound_of P C V q)).stops s.p s.tenant c s.is s.retired s.fate
 over_stop P C U V c r q (Now k s) = (in_order P V.tenants (sound_of P C V q)).stops s.p s.tenant c s.is s.retired s.fate
 over_stop P C U V c r q (Nowhere b n e) =
@@ -34,7 +35,7 @@ over_stop P C U V c r q (Nowhere b n e) =
     ∙ ap (λ i. stop_of (fetched P (committed P U.tenants) i)) n.no_instr
     ∙ ap Some (sym b)
 
-over_is : (b later : Pipeline) (c : Stop) → IsUnit b → Moves b (Over c) later → IsSame b later → stop b.program.now later.committed.count ≡ Some c
+over_is : (b later : Pipeline) (c : Stop) → StandsForSome b → Moves b (Over c) later → SizesStay b later → stop b.program.now later.committed.count ≡ Some c
 over_is b later c h t e =
     let P = b.program.now in
     let n = t h.unit h.reached h.stands in
@@ -42,7 +43,7 @@ over_is b later c h t e =
     ap (λ s. stop P s.count) same ∙ over_stop P (sizes b) h.unit n.unit c h.reached n.reached n.does
 
 -- the state behind a turn is that of the machine in order
-state_next : (b later : Pipeline) (answer : Turn) → IsUnit b → Moves b answer later → IsSame b later → after b.program.now later.committed.count ≡ Some later.committed
+state_next : (b later : Pipeline) (answer : Turn) → StandsForSome b → Moves b answer later → SizesStay b later → after b.program.now later.committed.count ≡ Some later.committed
 state_next b later answer h t e =
     let P = b.program.now in
     let n = t h.unit h.reached h.stands in
@@ -66,7 +67,7 @@ end_halts : (P : Program) (k : ℕ) (s : State) (c : Stop) → step P s ≡ Halt
 end_halts P k s c e = ap (end_after (end_from P k) s) e
 
 -- where the run goes on from later, it ends as from b
-pub ends_same : (limit : ℕ) (b later : Pipeline) (answer : Turn) → IsUnit b → Moves b answer later → IsSame b later → b.committed.count < limit → ((c : Stop) → answer ≡ Over c → ⊥) →
+pub ends_same : (limit : ℕ) (b later : Pipeline) (answer : Turn) → StandsForSome b → Moves b answer later → SizesStay b later → b.committed.count < limit → ((c : Stop) → answer ≡ Over c → ⊥) →
     Falls answer b later → end_from b.program.now (limit - later.committed.count) later.committed ≡ end_from b.program.now (limit - b.committed.count) b.committed
 ends_same limit b later Recovered h l e q n f = ap (λ s. end_from b.program.now (limit - s.count) s) f.0
 ends_same limit b later Let h l e q n f = ap (λ s. end_from b.program.now (limit - s.count) s) f.0
@@ -82,7 +83,7 @@ ends_same limit b later Retired h l e q n f =
     sym (ap (λ x. end_from P x b.committed) k ∙ end_goes P (limit - later.committed.count) b.committed later.committed (goes_of (step P b.committed) later.committed came))
 
 -- the run is over
-pub ends_over : (limit : ℕ) (b later : Pipeline) (c : Stop) → IsUnit b → Moves b (Over c) later → IsSame b later → b.committed.count < limit → Falls (Over c) b later →
+pub ends_over : (limit : ℕ) (b later : Pipeline) (c : Stop) → StandsForSome b → Moves b (Over c) later → SizesStay b later → b.committed.count < limit → Falls (Over c) b later →
     (ByStop c, later.committed) ≡ end_from b.program.now (limit - b.committed.count) b.committed
 ends_over limit b later c h t e q f =
     let P = b.program.now in
@@ -137,3 +138,43 @@ left_falls limit b later Halved h n f =
 left_falls limit b later Retired h n f =
     retirement_falls limit b later (omega (arith, h, f, halves_most later.low))
 left_falls limit b later (Over c) h n f = absurd (n c refl)
+
+-- Turns up to a retirement
+
+-- a turn that neither retires an instruction nor ends the unit leaves the committed state
+pub committed_stays : (b later : Pipeline) (answer : Turn) → ((c : Stop) → answer ≡ Over c → ⊥) → (answer ≡ Retired → ⊥) → Falls answer b later → later.committed ≡ b.committed
+committed_stays b later Recovered n m f = f.0
+committed_stays b later Let n m f = f.0
+committed_stays b later Ran n m f = f.0
+committed_stays b later Loaded n m f = f.0
+committed_stays b later Halved n m f = f.0
+committed_stays b later (Over c) n m f = absurd (n c refl)
+committed_stays b later Retired n m f = absurd (m refl)
+
+run_alike : (b start : Pipeline) (limit : ℕ) → b.program ≡ start.program → b.committed ≡ start.committed → run_from b limit ≡ run_from start limit
+run_alike b start limit p e = ap (λ q. end_from q.now (limit - b.committed.count) b.committed) p ∙ ap (λ s. end_from start.program.now (limit - s.count) s) e
+
+-- the last of them retires an instruction
+pub one_retired : (start b later : Pipeline) → StandsForSome b → Moves b Retired later → SizesStay b later → b.program ≡ start.program → b.committed ≡ start.committed →
+    Falls Retired b later → RetiresOne None start later
+one_retired start b later h l e p s f =
+    let count : b.committed.count ≡ start.committed.count = ap (λ x. x.count) s in (
+      f ∙ ap suc count,
+      λ limit less.
+          let below : b.committed.count < limit = omega (arith, count, less) in
+          ap (λ q. end_from q.now (limit - later.committed.count) later.committed) e.program
+          ∙ ends_same limit b later Retired h l e below (λ c o. absurd (cc)) f
+          ∙ run_alike b start limit p s,
+    )
+
+-- the last of them ends the unit
+pub one_over : (start b later : Pipeline) (c : Stop) → StandsForSome b → Moves b (Over c) later → SizesStay b later → b.program ≡ start.program → b.committed ≡ start.committed →
+    Falls (Over c) b later → RetiresOne (Some c) start later
+one_over start b later c h l e p s f limit less =
+    let count : b.committed.count ≡ start.committed.count = ap (λ x. x.count) s in
+    let below : b.committed.count < limit = omega (arith, count, less) in
+    ends_over limit b later c h l e below f ∙ run_alike b start limit p s
+
+-- and the measure of a run falls
+pub one_falls : (limit : ℕ) (b later : Pipeline) → b.committed.count < limit → RetiresOne None b later → left limit later < left limit b
+one_falls limit b later less o = left_falls limit b later Retired less (λ c e. absurd (cc)) o.0

@@ -4,7 +4,7 @@ use Rattle.std.proofs.Common.{length-take, true≢false}
 use Rattle.std.specs.Prelude.{slice_get, is_some, min}
 use Rattle.unit.specs.declared.station.Station.{Station}
 use Rattle.unit.specs.Givers.{given_at, gives}
-use Rattle.unit.specs.Loads.{entries, entry, entry_at, load_by, load_in, waits, waits_at, with_entry}
+use Rattle.unit.specs.Loads.{entries, entry_at, entry_behind, load_in, loaded_over, waits, waits_at, with_entry}
 use Rattle.unit.specs.Window.{reaches_memory}
 use Rattle.unit.proofs.Scan.{get_left, take_left}
 
@@ -23,7 +23,7 @@ entries_left registers xs zs (suc k) h =
   where
     same : (o : Option Station) → k ≤ length xs → entry_at registers (xs ++ zs) o k ≡ entry_at registers xs o k
     same None le = refl
-    same (Some w) le = ap (λ t. cond (reaches_memory w.instr.op) (Some (entry registers t w)) None) (take_left xs zs k le)
+    same (Some w) le = ap (λ t. cond (reaches_memory w.instr.op) (Some (entry_behind registers t w)) None) (take_left xs zs k le)
 
 -- a station that waits for no value is not answered
 pub none_by : (registers memory : List ℕ) (W : List Station) (o : Option Station) (k : ℕ) → waits_at o ≡ false → given_at (load_in registers memory) W o k ≡ None
@@ -31,7 +31,7 @@ none_by registers memory W None k e = refl
 none_by registers memory W (Some w) k e = go (waits w) refl
   where
     go : (a : Option ℕ) → waits w ≡ a → load_in registers memory (take k W) w ≡ None
-    go None q = ap (load_by (entries registers (take k W) (length (take k W))) memory w.instr.op) q
+    go None q = ap (loaded_over (entries registers (take k W) (length (take k W))) memory w.instr.op) q
     go (Some a) q = let no : true ≡ false = sym (ap is_some q) ∙ e in absurd (true≢false no)
 
 -- The first i stations alone
@@ -48,12 +48,12 @@ same_entries registers W i h =
 pub idle_gives : (registers memory : List ℕ) (W : List Station) (w : Station) (i : ℕ) → slice_get W i ≡ Some w → waits w ≡ None → gives (load_in registers memory) W i ≡ None
 idle_gives registers memory W w i e h =
     ap (λ o. given_at (load_in registers memory) W o i) e
-    ∙ ap (load_by (entries registers (take i W) (length (take i W))) memory w.instr.op) h
+    ∙ ap (loaded_over (entries registers (take i W) (length (take i W))) memory w.instr.op) h
 
 -- a load that is given a value waits for it
 pub answered_waits : (registers memory : List ℕ) (ws : List Station) (w : Station) (v : ℕ) → load_in registers memory ws w ≡ Some v → (a : ℕ) × (waits w ≡ Some a)
 answered_waits registers memory ws w v e = go (waits w) refl
   where
     go : (o : Option ℕ) → waits w ≡ o → (a : ℕ) × (waits w ≡ Some a)
-    go None q = let no : None ≡ Some v = sym (ap (load_by (entries registers ws (length ws)) memory w.instr.op) q) ∙ e in absurd (cc)
+    go None q = let no : None ≡ Some v = sym (ap (loaded_over (entries registers ws (length ws)) memory w.instr.op) q) ∙ e in absurd (cc)
     go (Some a) q = (a, q)

@@ -8,12 +8,12 @@ use Rattle.unit.specs.declared.pipeline.Pipeline.{Pipeline}
 use Rattle.unit.specs.declared.station.Station.{Station}
 use Rattle.unit.specs.Changes.{registers_of}
 use Rattle.unit.specs.Givers.{NoneGives}
-use Rattle.unit.specs.Leaves.{CanLeave, PassesTo, RetiresTo}
+use Rattle.unit.specs.Leaves.{OldestHasEnded, PassesTo, RetiresTo}
 use Rattle.unit.specs.Loads.{load_in}
 use Rattle.unit.specs.Notes.{AreNoted, miss_in}
 use Rattle.unit.specs.Stages.{CannotLet, LoadsTo, RunsTo}
-use Rattle.unit.specs.StandsFor.{IsUnit}
-use Rattle.unit.specs.Turns.{Falls, IsPlain, IsSame, Moves, rank}
+use Rattle.unit.specs.StandsFor.{StandsForSome}
+use Rattle.unit.specs.Turns.{Falls, IsPlain, Moves, SizesStay, rank}
 use Rattle.unit.specs.Window.{operands_in}
 use Rattle.unit.proofs.EndTurns.{Refused, can_leave, retires_falls, retires_turn, window_room}
 use Rattle.unit.proofs.Ranks.{load_falls, run_falls}
@@ -21,22 +21,22 @@ use Rattle.unit.proofs.RunTurns.{loaded_turn, ran_turn}
 use Rattle.unit.proofs.Start.{retires_keeps, unit_next}
 use Rattle.unit.proofs.Turns.{moves_from}
 
-pub same_rest : (b later : Pipeline) (W : List Station) (m : Bool) (n : ℕ) → later ≡ record b { window = W; missed = m; settled = n } → IsSame b later
+pub same_rest : (b later : Pipeline) (W : List Station) (m : Bool) (n : ℕ) → later ≡ record b { window = W; missed = m; settled = n } → SizesStay b later
 same_rest b later W m n e = record { program = ap (λ x. x.program) e; ring = ap (λ x. x.ring) e; queue = ap (λ x. x.queue) e; first_tag = ap (λ x. x.first_tag) e }
 
-same_both : (b c d : Pipeline) → IsSame b c → IsSame c d → IsSame b d
+same_both : (b c d : Pipeline) → SizesStay b c → SizesStay c d → SizesStay b d
 same_both b c d x y = record { program = y.program ∙ x.program; ring = y.ring ∙ x.ring; queue = y.queue ∙ x.queue; first_tag = y.first_tag ∙ x.first_tag }
 
 -- b' is b, but for what is remembered, and nothing recovers, is let or is claimed there
 pub record Idle (b b' : Pipeline) : Type 0 where
   pub is : b' ≡ record b { missed = b'.missed; settled = b'.settled }
-  pub unit : IsUnit b'
+  pub unit : StandsForSome b'
   pub none : b'.over ≡ None
   pub miss : NoneGives miss_in b'.window
   pub lets : CannotLet b'.program.now b'.ring b'.queue b'.committed.pc b'.window
   pub ready : NoneGives (operands_in (registers_of b')) b'.window
 
-pub idle : (b b' : Pipeline) → IsUnit b → b.over ≡ None → NoneGives miss_in b.window →
+pub idle : (b b' : Pipeline) → StandsForSome b → b.over ≡ None → NoneGives miss_in b.window →
     CannotLet b.program.now b.ring b.queue b.committed.pc b.window →
     NoneGives (operands_in (registers_of b)) b.window → b'.window ≡ b.window →
     b' ≡ record b { window = b'.window; missed = b'.missed; settled = b'.settled } →
@@ -44,7 +44,7 @@ pub idle : (b b' : Pipeline) → IsUnit b → b.over ≡ None → NoneGives miss
 idle b b' h none miss lets ready same rest noted =
     record {
       is = is;
-      unit = subst IsUnit (sym is) unit;
+      unit = subst StandsForSome (sym is) unit;
       none = subst (λ x. x.over ≡ None) (sym is) none;
       miss = subst (λ x. NoneGives miss_in x.window) (sym is) miss;
       lets = subst (λ x. CannotLet x.program.now x.ring x.queue x.committed.pc x.window) (sym is) lets;
@@ -54,7 +54,7 @@ idle b b' h none miss lets ready same rest noted =
     is : b' ≡ record b { missed = b'.missed; settled = b'.settled }
     is = rest ∙ ap (λ W. record b { window = W; missed = b'.missed; settled = b'.settled }) same
 
-    unit : IsUnit (record b { missed = b'.missed; settled = b'.settled })
+    unit : StandsForSome (record b { missed = b'.missed; settled = b'.settled })
     unit =
         record {
           unit = h.unit;
@@ -68,19 +68,19 @@ idle b b' h none miss lets ready same rest noted =
           noted = subst (AreNoted b'.missed b'.settled) same noted;
         }
 
-idle_same : (b b' : Pipeline) → Idle b b' → IsSame b b'
+idle_same : (b b' : Pipeline) → Idle b b' → SizesStay b b'
 idle_same b b' i = same_rest b b' b.window b'.missed b'.settled i.is
 
 -- what a turn has to show
 pub record Shows (b : Pipeline) (answer : Turn) (later : Pipeline) : Type 0 where
   pub turn : Moves b answer later
   pub falls : Falls answer b later
-  pub unit : IsUnit later
-  pub same : IsSame b later
+  pub unit : StandsForSome later
+  pub same : SizesStay b later
 
 -- Ran
 
-pub ran_shows : (b later : Pipeline) → IsUnit b → b.over ≡ None → NoneGives miss_in b.window →
+pub ran_shows : (b later : Pipeline) → StandsForSome b → b.over ≡ None → NoneGives miss_in b.window →
     CannotLet b.program.now b.ring b.queue b.committed.pc b.window →
     RunsTo (registers_of b) (length b.program.now.bytes) b.window later.window →
     later ≡ record b { window = later.window; missed = later.missed; settled = later.settled } →
@@ -150,11 +150,11 @@ retired_shows b b' later answer i l to =
       same = same_both b b' later (idle_same b b' i) kept.same;
     }
 
-pub leaves_after : (b b' : Pipeline) → Idle b b' → NoneGives (load_in (registers_of b') b'.committed.memory) b'.window → CanLeave (length b'.committed.memory) (slice_get b'.window 0)
+pub leaves_after : (b b' : Pipeline) → Idle b b' → NoneGives (load_in (registers_of b') b'.committed.memory) b'.window → OldestHasEnded (length b'.committed.memory) (slice_get b'.window 0)
 leaves_after b b' i l = can_leave b' i.unit (refused b b' i l)
 
 -- a retirement is no let
-pub retired_plain : (b later : Pipeline) (answer : Turn) → CanLeave (length b.committed.memory) (slice_get b.window 0) → RetiresTo b (slice_get b.window 0) answer later → IsPlain answer
+pub retired_plain : (b later : Pipeline) (answer : Turn) → OldestHasEnded (length b.committed.memory) (slice_get b.window 0) → RetiresTo b (slice_get b.window 0) answer later → IsPlain answer
 retired_plain b later answer can to = go (slice_get b.window 0) to
   where
     passes : (f : Bool) (w : Station) → PassesTo f b w answer later → IsPlain answer

@@ -15,9 +15,9 @@ use Rattle.lsq.proofs.Youngest.{youngest_from-snoc}
 use Rattle.unit.specs.declared.forwarding.Older.{Older}
 use Rattle.unit.specs.declared.forwarding.Older.TheVariants.{Elsewhere, Nearest, Unknown}
 use Rattle.unit.specs.declared.station.Station.{Station}
-use Rattle.unit.specs.Forwarding.{joined, joined_by, joined_if, older_by, older_of, store_at, value_over}
+use Rattle.unit.specs.Forwarding.{joined_by, joined_if, joined_with, older_by, older_of, store_at, value_over}
 use Rattle.unit.specs.Givers.{given_at, gives}
-use Rattle.unit.specs.Loads.{entries, entry, entry_at, load_by, load_in, value_by, waits, with_entry}
+use Rattle.unit.specs.Loads.{entries, entry_at, entry_behind, load_in, loaded_over, value_by, waits, with_entry}
 use Rattle.unit.specs.Notes.{settled_at}
 use Rattle.unit.proofs.Entries.{entries_step, none_by, same_entries}
 use Rattle.unit.proofs.Settled.{settled_waits}
@@ -38,7 +38,7 @@ by_entry false false at e None None = refl
 by_entry false false at e None (Some y) = refl
 
 older_more : (es : List Entry) (e : Entry) (a n : ℕ) →
-    older_of (es ++ e ∷ []) a n ≡ joined (older_of es a n) e a n
+    older_of (es ++ e ∷ []) a n ≡ joined_with (older_of es a n) e a n
 older_more es e a n =
     let at : length es ≡ 0 + length es = omega arith in
     ap (λ o. older_by o (youngest (overlaps a n) (es ++ e ∷ [])))
@@ -54,7 +54,7 @@ joined_no Elsewhere e = refl
 joined_no (Nearest s) e = refl
 
 -- an entry that is no store is nothing to the load
-no_store : (older : Older) (e : Entry) (a n : ℕ) → e.store ≡ false → joined older e a n ≡ older
+no_store : (older : Older) (e : Entry) (a n : ℕ) → e.store ≡ false → joined_with older e a n ≡ older
 no_store older e a n q =
     ap (λ b. joined_by older (b && is_none e.address) (overlaps a n e) e) q
     ∙ ap (λ b. joined_by older false (b && meets e.address (bytes e.width) a n) e) q
@@ -72,7 +72,7 @@ station_more registers W (Some w) k a n = go (kind w.instr.op) refl
     es = entries registers W k
 
     e : Entry
-    e = entry registers (take k W) w
+    e = entry_behind registers (take k W) w
 
     with : Bool → Older
     with b = older_of (with_entry es (cond b (Some e) None)) a n
@@ -137,8 +137,8 @@ value_right registers memory W w i a less e h =
     let le : i ≤ length W = omega (arith, less) in
     by_rule (youngest lacks_address es) (youngest (overlaps a n) es) es memory w.instr.op a n refl
     ∙ ap (λ m. value_by (answer_over es a m) memory w.instr.op a) (same_width w.instr.op)
-    ∙ sym (ap (λ x. load_by x memory w.instr.op (Some a)) (same_entries registers W i le))
-    ∙ sym (ap (load_by (entries registers (take i W) (length (take i W))) memory w.instr.op) h)
+    ∙ sym (ap (λ x. loaded_over x memory w.instr.op (Some a)) (same_entries registers W i le))
+    ∙ sym (ap (loaded_over (entries registers (take i W) (length (take i W))) memory w.instr.op) h)
     ∙ sym (ap (λ o. given_at (load_in registers memory) W o i) e)
 
 -- A settled station gets no value

@@ -172,13 +172,13 @@ missed_none missed Done e = (e, refl)
 missed_none missed (Miss x) e = absurd (true≢false e)
 missed_none missed (Stops c) e = (e, refl)
 
-pub noted_ran : (registers : List ℕ) (missed : Bool) (n n' i : ℕ) (W : List Station) (x y : Station) (o : Operands) → slice_get W i ≡ Some x → gives (operands_in registers) W i ≡ Some o →
-    AreNoted missed n W → AreSettled n' W → AreNoted (missed_after missed y.stage) n' (slice_set W i y)
-noted_ran registers missed n n' i W x y o e g s s' =
+pub noted_ran : (registers : List ℕ) (missed : Bool) (n i : ℕ) (W : List Station) (x y : Station) (o : Operands) → slice_get W i ≡ Some x → gives (operands_in registers) W i ≡ Some o →
+    AreNoted missed n W → AreNoted (missed_after missed y.stage) n (slice_set W i y)
+noted_ran registers missed n i W x y o e g s =
     let closed : settled_at (slice_get W i) ≡ false = ap settled_at e ∙ open_unsettled (kind x.instr.op) x.stage _ o (given_station (operands_in registers) W i x o e g) in
     record {
       no_miss = λ q. let m = missed_none missed y.stage q in none_set W i x y e m.1 (s.no_miss m.0);
-      are_settled = settled_set W n' i x y e (behind_settled W n' i s' closed) s';
+      are_settled = settled_set W n i x y e (behind_settled W n i s.are_settled closed) s.are_settled;
     }
 
 waits_unsettled : (k : Kind) (s : Stage) (a : ℕ) → waits_by k s ≡ Some a → settled_by k s ≡ false

@@ -22,7 +22,7 @@ use Rattle.inorder.specs.Still.{AreStill}
 use Rattle.inorder.proofs.OneCaller.Left.{retired_all}
 use Rattle.inorder.proofs.Commits.{live_not}
 use Rattle.unit.specs.declared.station.Station.{Station}
-use Rattle.unit.specs.Loads.{address_of, entries, entry, entry_at, with_entry}
+use Rattle.unit.specs.Loads.{address_of, entries, entry_at, entry_behind, with_entry}
 use Rattle.unit.specs.Window.{reaches_memory, source_in, stage_of, station_of, window}
 use Rattle.unit.proofs.Entries.{entries_left}
 use Rattle.unit.proofs.Scan.{get_end, take_middle}
@@ -102,7 +102,7 @@ store_address Links f o e = absurd (true≢false (sym e))
 store_address Loads f o e = absurd (true≢false (sym e))
 
 entry_like : (P : Program) (registers : List ℕ) (t : Tenant) (ws : List Station) → t.second.value ≡ source_in registers ws (second_of (instr P t)) →
-    IsLike (entry_of P t) (entry registers ws (station_of P t))
+    IsLike (entry_of P t) (entry_behind registers ws (station_of P t))
 entry_like P registers t ws e =
     record {
       store = refl;
@@ -117,14 +117,14 @@ entry_like P registers t ws e =
     }
 
 entries_end : (registers : List ℕ) (xs : List Station) (w : Station) → entries registers (xs ++ w ∷ []) (length (xs ++ w ∷ [])) ≡ with_entry (entries registers xs (length xs))
-    (cond (reaches_memory w.instr.op) (Some (entry registers xs w)) None)
+    (cond (reaches_memory w.instr.op) (Some (entry_behind registers xs w)) None)
 entries_end registers xs w =
     let long : length (xs ++ w ∷ []) ≡ suc (length xs) = omega (arith, length-append xs (w ∷ [])) in
     let le : length xs ≤ length xs = omega arith in
     ap (entries registers (xs ++ w ∷ [])) long
     ∙ ap (λ es. with_entry es (entry_at registers (xs ++ w ∷ []) (slice_get (xs ++ w ∷ []) (length xs)) (length xs))) (entries_left registers xs (w ∷ []) (length xs) le)
     ∙ ap (λ o. with_entry (entries registers xs (length xs)) (entry_at registers (xs ++ w ∷ []) o (length xs))) (get_end xs [] w)
-    ∙ ap (λ l. with_entry (entries registers xs (length xs)) (cond (reaches_memory w.instr.op) (Some (entry registers l w)) None)) (take_middle xs (w ∷ []))
+    ∙ ap (λ l. with_entry (entries registers xs (length xs)) (cond (reaches_memory w.instr.op) (Some (entry_behind registers l w)) None)) (take_middle xs (w ∷ []))
 
 -- The whole queue
 pub queue_like : (P : Program) (ts : List Tenant) → IsSound P ts → AllByRecursion IsNoRetiredStop ts → AreStill ts →
@@ -167,7 +167,7 @@ queue_like P (t ∷ ts) s n h = go t.standing refl (queue_like P ts s.1 n.1 h.1)
         second : t.second.value ≡ source_in (regs ts) W (second_of (instr P t))
         second = h.0.1.value ∙ ap (Rattle.inorder.specs.Unit.value_of ts) placed.second ∙ source_worth P ts s.1 n.1 (second_of (instr P t))
 
-        here : all (regs (t ∷ ts)) (window P (t ∷ ts)) ≡ with_entry (all (regs ts) W) (cond (is_access (kind_of P t)) (Some (entry (regs ts) W (station_of P t))) None)
+        here : all (regs (t ∷ ts)) (window P (t ∷ ts)) ≡ with_entry (all (regs ts) W) (cond (is_access (kind_of P t)) (Some (entry_behind (regs ts) W (station_of P t))) None)
         here =
             ap (λ l. all (regs (t ∷ ts)) l) (window_live P t ts e)
             ∙ ap (λ c. all c.registers (W ++ station_of P t ∷ [])) (ahead_if P t ts false (live_not t e))
@@ -175,12 +175,12 @@ queue_like P (t ∷ ts) s n h = go t.standing refl (queue_like P ts s.1 n.1 h.1)
 
         on : (b : Bool) → is_access (kind_of P t) ≡ b → AreLike (queue_of P (t ∷ ts)) (all (regs (t ∷ ts)) (window P (t ∷ ts)))
         on true q =
-            same (queue_of P ts ++ entry_of P t ∷ []) (all (regs ts) W ++ entry (regs ts) W (station_of P t) ∷ [])
+            same (queue_of P ts ++ entry_of P t ∷ []) (all (regs ts) W ++ entry_behind (regs ts) W (station_of P t) ∷ [])
             (queue_more P t ts true (ap (λ x. stands_live x && is_access (kind_of P t)) e ∙ q))
-            (here ∙ ap (λ b. with_entry (all (regs ts) W) (cond b (Some (entry (regs ts) W (station_of P t))) None)) q)
-            (like_more (queue_of P ts) (all (regs ts) W) (entry_of P t) (entry (regs ts) W (station_of P t)) more (entry_like P (regs ts) t W second))
+            (here ∙ ap (λ b. with_entry (all (regs ts) W) (cond b (Some (entry_behind (regs ts) W (station_of P t))) None)) q)
+            (like_more (queue_of P ts) (all (regs ts) W) (entry_of P t) (entry_behind (regs ts) W (station_of P t)) more (entry_like P (regs ts) t W second))
         on false q =
             same (queue_of P ts) (all (regs ts) W)
             (queue_more P t ts false (ap (λ x. stands_live x && is_access (kind_of P t)) e ∙ q) ∙ append_none (queue_of P ts))
-            (here ∙ ap (λ b. with_entry (all (regs ts) W) (cond b (Some (entry (regs ts) W (station_of P t))) None)) q)
+            (here ∙ ap (λ b. with_entry (all (regs ts) W) (cond b (Some (entry_behind (regs ts) W (station_of P t))) None)) q)
             more

@@ -17,7 +17,7 @@ use Rattle.unit.specs.Loads.{load_in, waits_by}
 use Rattle.unit.specs.Notes.{miss_in}
 use Rattle.unit.specs.Stages.{LoadsTo, RecoversTo, RunsTo}
 use Rattle.unit.specs.Turns.{digit, rank}
-use Rattle.unit.specs.Window.{finished, mended, miss_of, operands_in, where_open}
+use Rattle.unit.specs.Window.{miss_of, operands_in, station_after, station_mended, where_open}
 use Rattle.unit.proofs.Entries.{answered_waits}
 use Rattle.unit.proofs.Noted.{given_station}
 use Rattle.unit.proofs.Scan.{Place, place_at, set_middle, take_middle}
@@ -69,17 +69,17 @@ recover_falls W W' room r =
     let p = place_at W r.i r.w r.is in
     let taken : take r.i W ≡ p.xs = ap (λ k. take k W) p.place ∙ ap (take (length p.xs)) p.is ∙ take_middle p.xs (r.w ∷ p.zs) in
     let two : digit r.w.stage ≡ 2 = miss_digit r.w.stage r.x (given_station miss_in W r.i r.w r.x r.is r.first.here) in
-    lower W W' [] r.i r.w (mended r.w r.x) room p (r.new ∙ ap (λ l. l ++ mended r.w r.x ∷ []) taken) (omega (arith, two))
+    lower W W' [] r.i r.w (station_mended r.w r.x) room p (r.new ∙ ap (λ l. l ++ station_mended r.w r.x ∷ []) taken) (omega (arith, two))
 
 pub let_falls : (W : List Station) (w : Station) → length W < 32 → digit w.stage ≤ 5 → rank 32 (W ++ w ∷ []) < rank 32 W
 let_falls W w room most = subst (λ l. rank 32 (W ++ w ∷ []) < rank 32 l) (append-nil W) (rank_less 32 W w [] [] room (omega (arith, most)))
 
-finished_digit : (w : Station) (o : Outcome) → digit (finished w o).stage ≤ 3
-finished_digit w (Value v) = omega arith
-finished_digit w (Address v) = omega arith
-finished_digit w (Stop v) = omega arith
-finished_digit w (Pair l h) = omega arith
-finished_digit w (Next x) = go (eqb x w.predicted)
+after_digit : (w : Station) (o : Outcome) → digit (station_after w o).stage ≤ 3
+after_digit w (Value v) = omega arith
+after_digit w (Address v) = omega arith
+after_digit w (Stop v) = omega arith
+after_digit w (Pair l h) = omega arith
+after_digit w (Next x) = go (eqb x w.predicted)
   where
     go : (t : Bool) → digit (cond t Done (Miss x)) ≤ 3
     go true = omega arith
@@ -95,9 +95,9 @@ open_digit (Stops c) o x e = absurd (cc)
 pub run_falls : (g : List ℕ) (size : ℕ) (W W' : List Station) → length W ≤ 32 → RunsTo g size W W' → rank 32 W' < rank 32 W
 run_falls g size W W' room r =
     let p = place_at W r.i r.w r.is in
-    let v = finished r.w (outcome_of r.w.instr r.w.half r.w.pc r.o.a r.o.b size) in
+    let v = station_after r.w (outcome_of r.w.instr r.w.half r.w.pc r.o.a r.o.b size) in
     let five : digit r.w.stage ≡ 5 = open_digit r.w.stage _ r.o (given_station (operands_in g) W r.i r.w r.o r.is r.first.here) in
-    let low = finished_digit r.w (outcome_of r.w.instr r.w.half r.w.pc r.o.a r.o.b size) in
+    let low = after_digit r.w (outcome_of r.w.instr r.w.half r.w.pc r.o.a r.o.b size) in
     lower W W' p.zs r.i r.w v room p (r.new ∙ set_place W r.i r.w v p) (omega (arith, five, low))
 
 waits_digit : (k : Kind) (s : Stage) (a : ℕ) → waits_by k s ≡ Some a → digit s ≡ 3

@@ -16,7 +16,7 @@ use Rattle.inorder.specs.Committed.{ahead, ahead_by, committed}
 use Rattle.inorder.specs.Laws.{IsNoRetire}
 use Rattle.inorder.specs.Loads.{queue_of}
 use Rattle.inorder.specs.Memory.{raw_at, load_value, raw}
-use Rattle.inorder.specs.Steps.{IsNoRetiredStop, MayClaim, MayLoad, finished as tenant_finished, settled}
+use Rattle.inorder.specs.Steps.{IsNoRetiredStop, MayClaim, MayLoad, finished, settled}
 use Rattle.inorder.specs.Tenants.{Addr, Busy, Done, Fate, Live, Miss, Open, Stopped, Tenant, computed, instr, kind_of, operand_value}
 use Rattle.inorder.specs.Unit.{Sizes, UpdateUnit, older}
 use Rattle.inorder.proofs.Loads.{answers, forward, from_memory}
@@ -41,12 +41,12 @@ use Rattle.unit.specs.Blocked.{IsUnblocked}
 use Rattle.unit.specs.Changes.{ahead_of, registers_of}
 use Rattle.unit.specs.Givers.{NoneGives}
 use Rattle.unit.specs.Leavers.{leaver}
-use Rattle.unit.specs.Loads.{entries, load_by, load_in, value_by, waits, waits_by}
+use Rattle.unit.specs.Loads.{entries, load_in, loaded_over, value_by, waits, waits_by}
 use Rattle.unit.specs.Notes.{miss_in}
 use Rattle.unit.specs.Stages.{CannotLet, LoadsTo, RunsTo}
 use Rattle.unit.specs.StandsFor.{OverIs, StandsFor, sizes}
 use Rattle.unit.specs.Turns.{Moved, Moves, NoLet}
-use Rattle.unit.specs.Window.{finished, operands_by, operands_in, source_in, stage_of, station_of, where_open, window}
+use Rattle.unit.specs.Window.{operands_by, operands_in, source_in, stage_of, station_after, station_of, where_open, window}
 use Rattle.unit.proofs.Waiting.{LeavesSame, ahead_low, same_alike, same_both, same_put}
 use Rattle.unit.proofs.Entries.{answered_waits}
 use Rattle.unit.proofs.Found.{window_alike, window_middle}
@@ -72,7 +72,7 @@ open_fate (Miss y) o x n e = absurd (cc)
 open_fate (Stopped y) o x n e = absurd (cc)
 
 -- the station of a finished tenant
-station_ran : (P : Program) (t : Tenant) (o : Outcome) → station_of P (tenant_finished t o) ≡ finished (station_of P t) o
+station_ran : (P : Program) (t : Tenant) (o : Outcome) → station_of P (finished t o) ≡ station_after (station_of P t) o
 station_ran P t (Value v) = refl
 station_ran P t (Address v) = refl
 station_ran P t (Stop v) = refl
@@ -84,7 +84,7 @@ station_ran P t (Next x) = go (eqb x t.predicted) refl
     go true e = rw e refl
     go false e = rw e refl
 
-finished_stays : (t : Tenant) (o : Outcome) → ((tenant_finished t o).standing ≡ t.standing) × ((tenant_finished t o).station ≡ t.station)
+finished_stays : (t : Tenant) (o : Outcome) → ((finished t o).standing ≡ t.standing) × ((finished t o).station ≡ t.station)
 finished_stays t (Value v) = (refl, refl)
 finished_stays t (Address v) = (refl, refl)
 finished_stays t (Stop v) = (refl, refl)
@@ -235,7 +235,7 @@ ran_turn b later none nm nl to rest U r s = subst (Moved b U Ran) (sym rest) (go
         t1 = claimed 0 t
 
         u : Tenant
-        u = tenant_finished t1 (computed P t1)
+        u = finished t1 (computed P t1)
 
         comes : computed P t1 ≡ outcome_of (instr P t) t.half t.pc to.o.a to.o.b (length P.bytes)
         comes = ap (λ x. outcome_of (instr P t) t.half t.pc x (operand_value t.second) (length P.bytes)) needs.first ∙
@@ -244,11 +244,11 @@ ran_turn b later none nm nl to rest U r s = subst (Moved b U Ran) (sym rest) (go
         opened : station_of P t1 ≡ to.w
         opened = ap (λ g. record (station_of P t) { stage = stage_of g }) (sym is_open.open') ∙ f.found.station
 
-        shown : station_of P u ≡ finished to.w (outcome_of to.w.instr to.w.half to.w.pc to.o.a to.o.b (length P.bytes))
+        shown : station_of P u ≡ station_after to.w (outcome_of to.w.instr to.w.half to.w.pc to.o.a to.o.b (length P.bytes))
         shown =
             station_ran P t1 (computed P t1)
-            ∙ ap (finished (station_of P t1)) comes
-            ∙ ap (λ w. finished w (outcome_of w.instr w.half w.pc to.o.a to.o.b (length P.bytes))) opened
+            ∙ ap (station_after (station_of P t1)) comes
+            ∙ ap (λ w. station_after w (outcome_of w.instr w.half w.pc to.o.a to.o.b (length P.bytes))) opened
 
         keeps : (u.standing ≡ t1.standing) × (u.station ≡ t1.station)
         keeps = finished_stays t1 (computed P t1)
@@ -260,9 +260,10 @@ ran_turn b later none nm nl to rest U r s = subst (Moved b U Ran) (sym rest) (go
             record {
               unit = with_tenants U k.later;
               reached = reach_on P C 0 U (k.delivers ++ ran_steps ts) (with_tenants U k.later) r leads;
-              stands = changed_stands b later U ys t u ts (ran_steps ts) (finished to.w (outcome_of to.w.instr to.w.half to.w.pc to.o.a to.o.b (length P.bytes))) none r s f.found.split f.found.live
+              stands = changed_stands b later U ys t u ts (ran_steps ts)
+                  (station_after to.w (outcome_of to.w.instr to.w.half to.w.pc to.o.a to.o.b (length P.bytes))) none r s f.found.split f.found.live
                   (keeps.0 ∙ f.found.live) keeps.1 (tt, (tt, tt)) k leads shown (to.new ∙ set_shown P b.window U.tenants to.i to.w
-                  (finished to.w (outcome_of to.w.instr to.w.half to.w.pc to.o.a to.o.b (length P.bytes))) f);
+                  (station_after to.w (outcome_of to.w.instr to.w.half to.w.pc to.o.a to.o.b (length P.bytes))) f);
               does = record {
                 goes_on = (knows b U none r s).stops;
                 no_miss = no_miss P U.tenants (none_in miss_in P b.window U.tenants s.window nm);
@@ -414,7 +415,7 @@ loaded_turn b later none nm nl nc to rest U r s = subst (Moved b U Loaded) (sym 
         can : CanLoad P ts t to.value
         can =
             can_load P ys t ts a to.value mem sp.sound f.found.live is_waiting.kind is_waiting.fate (ap (λ c. c.memory) s.committed ∙ ap (λ X. (committed P X).memory) f.found.split)
-            (ap (λ x. value_by x mem (instr P t).op a) same ∙ sym (ap (load_by (entries regs W (length W)) mem (instr P t).op) asks.1) ∙ given)
+            (ap (λ x. value_by x mem (instr P t).op a) same ∙ sym (ap (loaded_over (entries regs W (length W)) mem (instr P t).op) asks.1) ∙ given)
 
         u : Tenant
         u = settled P ts t

@@ -5,7 +5,7 @@ use Rattle.std.specs.Prelude.{slice_get}
 use Rattle.std.proofs.lemmas.Bool.{cases_eq, cases_lt}
 use Rattle.std.proofs.lemmas.List.{take-take}
 use Rattle.circular_buffer.proofs.Places.{slice_get-append_left, slice_get-append_right, slice_get-drop, slice_get-last, slice_get-push, slice_get-set_other, slice_get-set_same, slice_get-take}
-use Rattle.unit.specs.Slots.{place_of, ring_of, slot_of}
+use Rattle.unit.specs.Slots.{place_from, ring_of, slot_of}
 
 -- Numbers
 
@@ -19,11 +19,11 @@ next_slot : (s i : ℕ) → slot_of (slot_of s 1) i ≡ slot_of s (1 + i)
 next_slot s i = omega arith
 
 -- the place of the slot of a place
-pub place_slot : (s i : ℕ) → s < 32 → i < 32 → place_of (slot_of s i) s ≡ i
+pub place_slot : (s i : ℕ) → s < 32 → i < 32 → place_from (slot_of s i) s ≡ i
 place_slot s i ls li = omega (arith, ls, li)
 
 -- a place that is not the oldest comes one nearer
-pub place_next : (n s : ℕ) → s < 32 → 0 < place_of n s → place_of n s ≡ suc (place_of n (slot_of s 1))
+pub place_next : (n s : ℕ) → s < 32 → 0 < place_from n s → place_from n s ≡ suc (place_from n (slot_of s 1))
 place_next n s l h = ⊎_elim (λ less. omega (arith, less, h)) (λ last. omega (arith, last, l, h)) (cases_lt s 31)
 
 module _ {X : Type 0} where

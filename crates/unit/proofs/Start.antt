@@ -15,8 +15,8 @@ use Rattle.unit.specs.declared.station.Stage.TheVariants.{Open, Addr, Done, Miss
 use Rattle.unit.specs.declared.station.Station.{Station}
 use Rattle.unit.specs.Leaves.{LeavesTo, PassesTo, RetiresTo, halved, left}
 use Rattle.unit.specs.Notes.{AreNoted}
-use Rattle.unit.specs.StandsFor.{IsUnit, OverIs, StandsFor, sizes}
-use Rattle.unit.specs.Turns.{IsSame, Moves}
+use Rattle.unit.specs.StandsFor.{OverIs, StandsFor, StandsForSome, sizes}
+use Rattle.unit.specs.Turns.{Moves, SizesStay}
 use Rattle.unit.proofs.Noted.{noted_drop}
 
 -- each of n options is none
@@ -43,7 +43,7 @@ start_stands b w c o l n z most =
 
 pub start_unit : (b : Pipeline) → b.window ≡ [] → b.committed ≡ start b.program.now → b.over ≡ None →
     b.leavers ≡ replicate 32 nobody → b.low ≡ None → b.oldest ≡ 0 → b.settled ≡ 0 → 0 < b.ring → b.ring ≤ 32 →
-    2 ≤ b.queue → IsUnit b
+    2 ≤ b.queue → StandsForSome b
 start_unit b w c o l n f z room most least =
     record {
       unit = Rattle.inorder.specs.Unit.empty_unit;
@@ -60,10 +60,11 @@ start_unit b w c o l n f z room most least =
       };
     }
 
-pub unit_next : (b later : Pipeline) (answer : Turn) → IsUnit b → Moves b answer later → IsSame b later → length later.leavers ≡ 32 → AreNoted later.missed later.settled later.window → IsUnit later
+pub unit_next : (b later : Pipeline) (answer : Turn) → StandsForSome b → Moves b answer later → SizesStay b later →
+    length later.leavers ≡ 32 → AreNoted later.missed later.settled later.window → StandsForSome later
 unit_next b later answer h t e l n = go (t h.unit h.reached h.stands)
   where
-    go : Rattle.unit.specs.Turns.Moved b h.unit answer later → IsUnit later
+    go : Rattle.unit.specs.Turns.Moved b h.unit answer later → StandsForSome later
     go x =
         record {
           unit = x.unit;
@@ -85,7 +86,7 @@ unit_next b later answer h t e l n = go (t h.unit h.reached h.stands)
 
 -- what a retirement keeps
 pub record IsKept (b later : Pipeline) : Type 0 where
-  pub same : IsSame b later
+  pub same : SizesStay b later
   pub leavers : length later.leavers ≡ length b.leavers
   pub noted : AreNoted later.missed later.settled later.window
 

@@ -25,7 +25,7 @@ use Rattle.unit.specs.declared.execute.Operands.{Operands}
 use Rattle.unit.specs.declared.station.Station.{Station}
 use Rattle.unit.specs.Blocked.{AreBlocked, IsBlocked}
 use Rattle.unit.specs.Givers.{NoneGives, given_at, gives}
-use Rattle.unit.specs.Loads.{entries, load_by, load_in, value_by, waits_by}
+use Rattle.unit.specs.Loads.{entries, load_in, loaded_over, value_by, waits_by}
 use Rattle.unit.specs.Notes.{miss_in}
 use Rattle.unit.specs.Stages.{CannotLet, NoInstr, NoRoom, QueueFull}
 use Rattle.unit.specs.Turns.{IsNoMiss, IsUnclaimable, NoLet}
@@ -186,8 +186,8 @@ all_blocked P regs mem ys (t ∷ ts) s h ns e n =
     here live ek a ef =
         let same : regs ≡ (ahead P ts).registers = e ∙ ap (λ c. c.registers) (ahead_middle P ys t ts live s) in
         let none : value_by (answer_over (entries regs W (length W)) a (width (instr P t).op)) mem (instr P t).op a ≡ None = sym
-        (ap (λ x. load_by (entries regs W (length W)) mem (instr P t).op (waits_by x (stage_of t.fate))) ek ∙
-        ap (λ f. load_by (entries regs W (length W)) mem (instr P t).op (waits_by Loads (stage_of f))) ef) ∙ n.0 live in
+        (ap (λ x. loaded_over (entries regs W (length W)) mem (instr P t).op (waits_by x (stage_of t.fate))) ek ∙
+        ap (λ f. loaded_over (entries regs W (length W)) mem (instr P t).op (waits_by Loads (stage_of f))) ef) ∙ n.0 live in
         let b = blocked_by (answer_over (entries regs W (length W)) a (width (instr P t).op)) mem (instr P t).op a none in (
           b.0,
           sym (answer_like (queue_of P ts) (entries (ahead P ts).registers W (length W)) a (width (instr P t).op)

@@ -24,7 +24,7 @@ use Rattle.unit.specs.Notes.{miss_in}
 use Rattle.unit.specs.Stages.{RecoversTo}
 use Rattle.unit.specs.StandsFor.{OverIs, StandsFor, sizes}
 use Rattle.unit.specs.Turns.{Moved, Moves}
-use Rattle.unit.specs.Window.{mended, miss_of, stage_of, station_of, window}
+use Rattle.unit.specs.Window.{miss_of, stage_of, station_mended, station_of, window}
 use Rattle.unit.proofs.Waiting.{LeavesSame, same_recover}
 use Rattle.unit.proofs.Found.{Found, found, window_gone, window_middle}
 use Rattle.unit.proofs.Leavers.{leaver_recover}
@@ -134,8 +134,8 @@ recovered_turn b later none to rest U r s = subst (Moved b U Recovered) (sym res
         shown : later.window ≡ window P V.tenants
         shown =
             to.new
-            ∙ ap (λ l. l ++ mended to.w to.x ∷ []) f.taken
-            ∙ ap (λ w. window P ts ++ mended w to.x ∷ []) (sym f.found.station)
+            ∙ ap (λ l. l ++ station_mended to.w to.x ∷ []) f.taken
+            ∙ ap (λ w. window P ts ++ station_mended w to.x ∷ []) (sym f.found.station)
             ∙ sym (window_gone P ys (mended_to to.x t) ts f.found.live)
 
         with : RecoverRun P C 0 U ys t ts to.x → Moved b U Recovered now

@@ -14,7 +14,7 @@ use Rattle.unit.specs.declared.forwarding.Older.TheVariants.{Elsewhere, Nearest,
 use Rattle.unit.specs.declared.station.Station.{Station}
 use Rattle.unit.specs.Creators.{IsCreator, LastWriter, written_by}
 use Rattle.unit.specs.Forwarding.{joined_by, joined_if, older_of, preceded, preceded_by, store_at}
-use Rattle.unit.specs.Loads.{StoresWriteNone, entries, entry}
+use Rattle.unit.specs.Loads.{StoresWriteNone, entries, entry_behind}
 use Rattle.unit.proofs.LookBack.{older_step}
 
 -- Writers
@@ -102,10 +102,10 @@ no_store_here : (registers : List ℕ) (W : List Station) (k : ℕ) → StoresWr
 no_store_here registers W k u n = go (slice_get W k) refl
   where
     by : (w : Station) → slice_get W k ≡ Some w → (x : Kind) → kind w.instr.op ≡ x → store_at registers W (Some w) k ≡ None
-    by w e Computes q = ap (λ y. cond (is_store y) (Some (entry registers (Rattle.std.proofs.Common.take k W) w)) None) q
-    by w e Jumps q = ap (λ y. cond (is_store y) (Some (entry registers (Rattle.std.proofs.Common.take k W) w)) None) q
-    by w e Links q = ap (λ y. cond (is_store y) (Some (entry registers (Rattle.std.proofs.Common.take k W) w)) None) q
-    by w e Loads q = ap (λ y. cond (is_store y) (Some (entry registers (Rattle.std.proofs.Common.take k W) w)) None) q
+    by w e Computes q = ap (λ y. cond (is_store y) (Some (entry_behind registers (Rattle.std.proofs.Common.take k W) w)) None) q
+    by w e Jumps q = ap (λ y. cond (is_store y) (Some (entry_behind registers (Rattle.std.proofs.Common.take k W) w)) None) q
+    by w e Links q = ap (λ y. cond (is_store y) (Some (entry_behind registers (Rattle.std.proofs.Common.take k W) w)) None) q
+    by w e Loads q = ap (λ y. cond (is_store y) (Some (entry_behind registers (Rattle.std.proofs.Common.take k W) w)) None) q
     by w e Stores q = absurd (n (ap written_by e ∙ ap Some (u k w e q)))
 
     go : (o : Option Station) → slice_get W k ≡ o → store_at registers W o k ≡ None

@@ -6,8 +6,8 @@ use Rattle.unit.specs.declared.creators.Creators.{Creators}
 use Rattle.unit.specs.declared.station.Stage.{Stage}
 use Rattle.unit.specs.declared.station.Station.{Station}
 use Rattle.unit.specs.Creators.{HasCreators, IsCreator, IsOfSame, IsWindow, KnowsCreators, places_of}
-use Rattle.unit.specs.Slots.{place_of, ring_of, slot_of}
-use Rattle.unit.specs.Window.{advanced}
+use Rattle.unit.specs.Slots.{place_from, ring_of, slot_of}
+use Rattle.unit.specs.Window.{further_on}
 use Rattle.unit.proofs.CreatorsKept.{known_let, known_pop, known_put, known_shift, known_start}
 use Rattle.unit.proofs.Slots.{ring_cut, ring_get, ring_length, ring_push, ring_set, ring_shift, slot_small}
 
@@ -38,9 +38,9 @@ window_let S C newest start len w c h room a b r first second replaced =
     let table = set newest w.destination (slot_of start len) in
     let has : HasCreators W (length W) w (places_of c start) =
     record {
-      first = subst (λ n. IsCreator W (length W) (first_of w.instr) (place_of n start)) (sym first) (h.known.newest_writer (first_of w.instr) a);
-      second = subst (λ n. IsCreator W (length W) (second_of w.instr) (place_of n start)) (sym second) (h.known.newest_writer (second_of w.instr) b);
-      replaced = subst (λ n. IsCreator W (length W) w.destination (place_of n start)) (sym replaced) (h.known.newest_writer w.destination r);
+      first = subst (λ n. IsCreator W (length W) (first_of w.instr) (place_from n start)) (sym first) (h.known.newest_writer (first_of w.instr) a);
+      second = subst (λ n. IsCreator W (length W) (second_of w.instr) (place_from n start)) (sym second) (h.known.newest_writer (second_of w.instr) b);
+      replaced = subst (λ n. IsCreator W (length W) w.destination (place_from n start)) (sym replaced) (h.known.newest_writer w.destination r);
     } in
     record {
       begins = h.begins;
@@ -102,13 +102,13 @@ slot_gives (y ∷ xs) (suc i) d l = slot_gives xs i d (omega (arith, l))
 
 -- A station comes further in its slot
 
-pub advanced_twice : (S : List Station) (k : ℕ) (d e w : Station) (stage : Stage) (made : Option ℕ) → slice_get S k ≡ Some w →
-    set (set S k (record (get_or S k d) { stage = stage })) k (record (get_or (set S k (record (get_or S k d) { stage = stage })) k e) { made = made }) ≡ set S k (advanced w stage made)
-advanced_twice [] k d e w stage made is = absurd (cc is)
-advanced_twice (y ∷ S) zero d e w stage made is = let same : y ≡ w = cc is in ap (λ x. advanced x stage made ∷ S) same
-advanced_twice (y ∷ S) (suc k) d e w stage made is = ap (λ l. y ∷ l) (advanced_twice S k d e w stage made is)
+pub further_twice : (S : List Station) (k : ℕ) (d e w : Station) (stage : Stage) (made : Option ℕ) → slice_get S k ≡ Some w →
+    set (set S k (record (get_or S k d) { stage = stage })) k (record (get_or (set S k (record (get_or S k d) { stage = stage })) k e) { made = made }) ≡ set S k (further_on w stage made)
+further_twice [] k d e w stage made is = absurd (cc is)
+further_twice (y ∷ S) zero d e w stage made is = let same : y ≡ w = cc is in ap (λ x. further_on x stage made ∷ S) same
+further_twice (y ∷ S) (suc k) d e w stage made is = ap (λ l. y ∷ l) (further_twice S k d e w stage made is)
 
-pub advanced_same : (o : Option Station) (w : Station) (stage : Stage) (made : Option ℕ) → o ≡ Some w → IsOfSame (advanced w stage made) o
-advanced_same o w stage made is v e =
+pub further_same : (o : Option Station) (w : Station) (stage : Stage) (made : Option ℕ) → o ≡ Some w → IsOfSame (further_on w stage made) o
+further_same o w stage made is v e =
     let same : w ≡ v = cc (is, e) in
     (ap (λ x. x.instr) same, ap (λ x. x.destination) same)

@@ -1,6 +1,8 @@
 -- What each stage of a turn does to the fields.
-use Rattle.std.specs.Prelude.{ℕ, ◌+◌, ◌-◌, ◌%◌, Bool, List, length, Option}
+use Rattle.std.specs.Prelude.{◌≡◌, ◌<◌, ℕ, suc, ◌+◌, ◌-◌, ◌%◌, Bool, List, length, Option, Some, None}
 use Rattle.instructions.specs.declared.end.Ending.{Ending}
+use Rattle.instructions.specs.declared.end.Ending.TheVariants.{Stop as ByStop}
+use Rattle.instructions.specs.declared.stop.Stop.{Stop}
 use Rattle.inorder.specs.Committed.{ahead_by, with_low}
 use Rattle.inorder.specs.Machine.{State}
 use Rattle.inorder.specs.Runs.{end_from}
@@ -70,3 +72,12 @@ NoneLoads b = NoneGives (load_in (registers_of b) b.committed.memory) b.window
 -- The in-order run from here until the count has reached a limit
 abbrev pub run_from : Pipeline → ℕ → Ending × State
 run_from b limit = end_from b.program.now (limit - b.committed.count) b.committed
+
+-- Turns up to a retirement, of runs with a limit that is not reached: the count is one more, and each
+-- goes on as it did; or the unit has ended, as each of them does
+abbrev pub RetiresOne : Option Stop → Pipeline → Pipeline → Type 0
+RetiresOne None b later =
+    (later.committed.count ≡ suc b.committed.count) ×
+    ((limit : ℕ) → b.committed.count < limit → run_from later limit ≡ run_from b limit)
+RetiresOne (Some c) b later =
+    (limit : ℕ) → b.committed.count < limit → (ByStop c, later.committed) ≡ run_from b limit

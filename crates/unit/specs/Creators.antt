@@ -3,7 +3,7 @@ use Rattle.std.specs.Prelude.{◌≡◌, ◌≢◌, ◌<◌, ◌≤◌, ℕ, Lis
 use Rattle.instructions.specs.Instruction.{first_of, second_of}
 use Rattle.unit.specs.declared.creators.Creators.{Creators}
 use Rattle.unit.specs.declared.station.Station.{Station}
-use Rattle.unit.specs.Slots.{place_of, ring_of}
+use Rattle.unit.specs.Slots.{place_from, ring_of}
 
 -- The register that a station writes, if there is a station
 abbrev pub written_by : Option Station → Option ℕ
@@ -47,9 +47,9 @@ CreatorsAt ws i c = (w : Station) → slice_get ws i ≡ Some w → HasCreators 
 abbrev pub places_of : Creators → ℕ → Creators
 places_of c start =
     record {
-      first = place_of c.first start;
-      second = place_of c.second start;
-      replaced = place_of c.replaced start;
+      first = place_from c.first start;
+      second = place_from c.second start;
+      replaced = place_from c.replaced start;
     }
 
 -- Each tenant has its creators, and each register its newest writer, all by their slots
@@ -59,7 +59,7 @@ pub record KnowsCreators (ws : List Station) (cs : List Creators) (newest : List
   pub registers : length newest ≡ 34
   pub each : (i : ℕ) (c : Creators) → slice_get cs i ≡ Some c → CreatorsAt ws i (places_of c start)
   pub newest_writer :
-      (r : ℕ) → r < 34 → IsCreator ws (length ws) r (place_of (slice_index newest r) start)
+      (r : ℕ) → r < 34 → IsCreator ws (length ws) r (place_from (slice_index newest r) start)
 
 -- The fields of a window
 pub record IsWindow (stations : List Station) (creators : List Creators) (newest : List ℕ)

@@ -11,7 +11,7 @@ use Rattle.lsq.specs.LoadRule.{lacks_address, overlaps, taken_from, youngest}
 use Rattle.unit.specs.declared.forwarding.Older.{Older}
 use Rattle.unit.specs.declared.forwarding.Older.TheVariants.{Elsewhere, Nearest, Unknown}
 use Rattle.unit.specs.declared.station.Station.{Station}
-use Rattle.unit.specs.Loads.{entry}
+use Rattle.unit.specs.Loads.{entry_behind}
 
 -- What they are, by the youngest without its address and the youngest with a byte of the load
 abbrev pub older_by : Option (ℕ × Entry) → Option (ℕ × Entry) → Older
@@ -35,13 +35,13 @@ joined_by older true meets e = Unknown
 joined_by older false meets e = met_by older meets e
 
 -- What they are to the load with one store more
-abbrev pub joined : Older → Entry → ℕ → ℕ → Older
-joined older e a n = joined_by older (lacks_address e) (overlaps a n e) e
+abbrev pub joined_with : Older → Entry → ℕ → ℕ → Older
+joined_with older e a n = joined_by older (lacks_address e) (overlaps a n e) e
 
 -- The same with what is a store at most
 abbrev pub joined_if : Older → Option Entry → ℕ → ℕ → Older
 joined_if older None a n = older
-joined_if older (Some e) a n = joined older e a n
+joined_if older (Some e) a n = joined_with older e a n
 
 -- What stores are to a load with an older one, by whether that lacks its address and has a byte of
 -- the load
@@ -60,7 +60,7 @@ preceded older (Some e) a n = preceded_by older (lacks_address e) (overlaps a n 
 abbrev pub store_at : List ℕ → List Station → Option Station → ℕ → Option Entry
 store_at registers W None i = None
 store_at registers W (Some w) i =
-    if is_store (kind w.instr.op) then Some (entry registers (take i W) w) else None
+    if is_store (kind w.instr.op) then Some (entry_behind registers (take i W) w) else None
 
 -- The value of a load of so many bytes from an address on, by what the older stores are to it
 abbrev pub value_over : Older → List ℕ → Op → ℕ → ℕ → Option ℕ

@@ -12,8 +12,8 @@ leaver_by None pc next = Some (record { pc = pc; next = next })
 leaver_by (Some x) pc next = None
 
 -- What a station tells when its tenant retires
-abbrev pub leaver_of : Station → Option Leaver
-leaver_of w = leaver_by (fixed_next w.instr w.half w.pc) w.pc w.next
+abbrev pub told_at : Station → Option Leaver
+told_at w = leaver_by (fixed_next w.instr w.half w.pc) w.pc w.next
 
 -- A tenant that was predicted and has retired: its pc and its computed next pc
 abbrev pub told_by : Standing → Fate → Option ℕ → ℕ → Option Leaver

@@ -13,7 +13,7 @@ use Rattle.unit.specs.declared.station.Stage.TheVariants.{Addr, Done, Stops}
 use Rattle.unit.specs.declared.station.Station.{Station}
 use Rattle.instructions.specs.declared.guessing.Leaver.{Leaver}
 use Rattle.unit.specs.Changes.{ahead_of}
-use Rattle.unit.specs.Leavers.{leaver_of}
+use Rattle.unit.specs.Leavers.{told_at}
 use Rattle.unit.specs.Window.{source_in}
 
 -- It is done, a stop, or an access inside a memory of this size
@@ -24,9 +24,9 @@ HasEnded size i (Addr a) = a + width i.op ≤ size
 HasEnded size i _ = ⊥
 
 -- The oldest station, if there is one, has ended
-abbrev pub CanLeave : ℕ → Option Station → Type 0
-CanLeave size None = Unit {0}
-CanLeave size (Some w) = HasEnded size w.instr w.stage
+abbrev pub OldestHasEnded : ℕ → Option Station → Type 0
+OldestHasEnded size None = Unit {0}
+OldestHasEnded size (Some w) = HasEnded size w.instr w.stage
 
 -- The memory behind a station: a store writes its data
 abbrev pub memory_with : Instr → Stage → List ℕ → List ℕ → List ℕ
@@ -59,7 +59,7 @@ ended b c = record (shifted b) { over = Some c }
 
 -- Who has left each station, behind one that retires from the oldest
 abbrev pub leavers_with : Pipeline → Station → List (Option Leaver)
-leavers_with b w = slice_set b.leavers b.oldest (leaver_of w)
+leavers_with b w = slice_set b.leavers b.oldest (told_at w)
 
 -- The fields behind a first half that retires: what it made waits
 abbrev pub halved : Pipeline → Station → Pipeline

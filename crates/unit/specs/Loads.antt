@@ -22,15 +22,15 @@ address_of (Addr a) = Some a
 address_of _ = None
 
 -- What the queue holds of a memory instruction behind these stations
-abbrev pub entry : List ℕ → List Station → Station → Entry
-entry registers ws w =
+abbrev pub entry_behind : List ℕ → List Station → Station → Entry
+entry_behind registers ws w =
     access_entry w.instr.op (address_of w.stage)
     (content_by (kind w.instr.op) (source_in registers ws (second_of w.instr)))
 
 -- What the queue holds of station i, if that reaches memory
 abbrev pub entry_at : List ℕ → List Station → Option Station → ℕ → Option Entry
 entry_at registers W None i = None
-entry_at registers W (Some w) i = if reaches_memory w.instr.op then Some (entry registers (take i W) w) else None
+entry_at registers W (Some w) i = if reaches_memory w.instr.op then Some (entry_behind registers (take i W) w) else None
 
 -- A queue that an entry joins, if there is one
 abbrev pub with_entry : List Entry → Option Entry → List Entry
@@ -58,13 +58,13 @@ value_by Memory memory op a = Some (loaded op (little_endian (slice_index memory
 value_by (Blocked place) memory op a = None
 
 -- The value of a load of an address over these entries, if it is one
-abbrev pub load_by : List Entry → List ℕ → Op → Option ℕ → Option ℕ
-load_by es memory op None = None
-load_by es memory op (Some a) = value_by (answer_over es a (width op)) memory op a
+abbrev pub loaded_over : List Entry → List ℕ → Op → Option ℕ → Option ℕ
+loaded_over es memory op None = None
+loaded_over es memory op (Some a) = value_by (answer_over es a (width op)) memory op a
 
 -- The value of a load behind these stations, if it is one with its address that is not blocked
 abbrev pub load_in : List ℕ → List ℕ → List Station → Station → Option ℕ
-load_in registers memory ws w = load_by (entries registers ws (length ws)) memory w.instr.op (waits w)
+load_in registers memory ws w = loaded_over (entries registers ws (length ws)) memory w.instr.op (waits w)
 
 -- An access with its address is inside the memory
 abbrev pub IsInside : ℕ → Station → Type 0

@@ -10,5 +10,5 @@ abbrev pub slot_of : ℕ → ℕ → ℕ
 slot_of start i = (start + i) % 32
 
 -- The place of the item of a slot
-abbrev pub place_of : ℕ → ℕ → ℕ
-place_of slot start = (slot + (32 - start)) % 32
+abbrev pub place_from : ℕ → ℕ → ℕ
+place_from slot start = (slot + (32 - start)) % 32

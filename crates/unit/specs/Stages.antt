@@ -13,7 +13,7 @@ use Rattle.unit.specs.declared.station.Stage.TheVariants.{Done}
 use Rattle.unit.specs.Givers.{FirstGives, NoneGives}
 use Rattle.unit.specs.Loads.{load_in}
 use Rattle.unit.specs.Notes.{miss_in}
-use Rattle.unit.specs.Window.{accesses, finished, half_in, mended, next_in, operands_in, reaches_memory}
+use Rattle.unit.specs.Window.{accesses, half_in, next_in, operands_in, reaches_memory, station_after, station_mended}
 
 -- The oldest miss is mended, and all after it are gone
 pub record RecoversTo (W W' : List Station) : Type 0 where
@@ -22,7 +22,7 @@ pub record RecoversTo (W W' : List Station) : Type 0 where
   pub x : ℕ
   pub first : FirstGives miss_in W i x
   pub is : slice_get W i ≡ Some w
-  pub new : W' ≡ take i W ++ mended w x ∷ []
+  pub new : W' ≡ take i W ++ station_mended w x ∷ []
 
 -- The next instruction can be let
 pub record CanLet (P : Program) (ring queue pc : ℕ) (low : Option ℕ) (W : List Station)
@@ -63,7 +63,7 @@ pub record RunsTo (registers : List ℕ) (size : ℕ) (W W' : List Station) : Ty
   pub o : Operands
   pub first : FirstGives (operands_in registers) W i o
   pub is : slice_get W i ≡ Some w
-  pub new : W' ≡ slice_set W i (finished w (outcome_of w.instr w.half w.pc o.a o.b size))
+  pub new : W' ≡ slice_set W i (station_after w (outcome_of w.instr w.half w.pc o.a o.b size))
 
 -- The oldest load that is not blocked, or that there is none
 abbrev pub FirstAnswered : List ℕ → List ℕ → List Station → Option Answered → Type 0

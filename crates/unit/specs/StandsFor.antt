@@ -28,12 +28,12 @@ pub record HasStopped (ts : List Tenant) (c : Stop) : Type 0 where
   pub fate : tenant.fate ≡ Stopped c
 
 -- No stop has retired: the unit goes on
-abbrev pub GoesOn : List Tenant → Type 0
-GoesOn ts = AllByRecursion IsNoRetiredStop ts
+abbrev pub NoStopRetired : List Tenant → Type 0
+NoStopRetired ts = AllByRecursion IsNoRetiredStop ts
 
 -- The unit goes on, and every delivery that is due was made; or it has ended with a code
 abbrev pub OverIs : List Tenant → Option Stop → Type 0
-OverIs ts None = GoesOn ts × AreStill ts
+OverIs ts None = NoStopRetired ts × AreStill ts
 OverIs ts (Some c) = HasStopped ts c
 
 -- The fields are those of the unit U
@@ -46,7 +46,7 @@ pub record StandsFor (b : Pipeline) (U : UpdateUnit) : Type 0 where
   pub oldest : b.oldest ≡ how_many is_retired U.tenants % b.ring
 
 -- Some unit that legal steps reach stands behind the fields
-pub record IsUnit (b : Pipeline) : Type 0 where
+pub record StandsForSome (b : Pipeline) : Type 0 where
   pub unit : UpdateUnit
   pub reached : IsReached b.program.now (sizes b) unit
   pub stands : StandsFor b unit

@@ -22,7 +22,7 @@ use Rattle.unit.specs.declared.station.Stage.TheVariants.{Open, Addr, Miss as Mi
 use Rattle.unit.specs.declared.station.Station.{Station}
 use Rattle.unit.specs.Leavers.{leaver}
 use Rattle.unit.specs.Blocked.{AreBlocked, IsUnblocked}
-use Rattle.unit.specs.StandsFor.{GoesOn, HasStopped, StandsFor, sizes}
+use Rattle.unit.specs.StandsFor.{HasStopped, NoStopRetired, StandsFor, sizes}
 use Rattle.inorder.specs.Moves.{IsDeliver, IsLink, IsReached, IsSquash, Leads}
 use Rattle.inorder.specs.Still.{AreStill}
 
@@ -44,7 +44,7 @@ IsIn U ys t ts = U.tenants ≡ ys ++ t ∷ ts
 
 -- The oldest miss: all after it are squashed, and it is mended
 pub record Recovers (P : Program) (C : Sizes) (U V : UpdateUnit) : Type 0 where
-  pub goes_on : GoesOn U.tenants
+  pub goes_on : NoStopRetired U.tenants
   pub ys : List Tenant
   pub tenant : Tenant
   pub ts : List Tenant
@@ -59,7 +59,7 @@ pub record Recovers (P : Program) (C : Sizes) (U V : UpdateUnit) : Type 0 where
 
 -- A tenant is let, with its links
 pub record Lets (P : Program) (C : Sizes) (U V : UpdateUnit) : Type 0 where
-  pub goes_on : GoesOn U.tenants
+  pub goes_on : NoStopRetired U.tenants
   pub no_miss : AllByRecursion IsNoMiss U.tenants
   pub index : ℕ
   pub predicted : ℕ
@@ -71,7 +71,7 @@ pub record Lets (P : Program) (C : Sizes) (U V : UpdateUnit) : Type 0 where
 
 -- The oldest tenant that can be claimed is claimed and finished, and every delivery that is due is made
 pub record Runs (P : Program) (C : Sizes) (U V : UpdateUnit) : Type 0 where
-  pub goes_on : GoesOn U.tenants
+  pub goes_on : NoStopRetired U.tenants
   pub no_miss : AllByRecursion IsNoMiss U.tenants
   pub no_let : NoLet P C U
   pub ys : List Tenant
@@ -86,7 +86,7 @@ pub record Runs (P : Program) (C : Sizes) (U V : UpdateUnit) : Type 0 where
 
 -- The oldest load with its address that no store blocks gets its value, and every delivery that is due is made
 pub record LoadsOne (P : Program) (C : Sizes) (U V : UpdateUnit) : Type 0 where
-  pub goes_on : GoesOn U.tenants
+  pub goes_on : NoStopRetired U.tenants
   pub no_miss : AllByRecursion IsNoMiss U.tenants
   pub no_let : NoLet P C U
   pub no_claim : AllByRecursion (IsUnclaimable P) U.tenants
@@ -103,7 +103,7 @@ pub record LoadsOne (P : Program) (C : Sizes) (U V : UpdateUnit) : Type 0 where
 
 -- The oldest live tenant retires
 pub record Retires (P : Program) (C : Sizes) (U V : UpdateUnit) : Type 0 where
-  pub goes_on : GoesOn U.tenants
+  pub goes_on : NoStopRetired U.tenants
   pub no_miss : AllByRecursion IsNoMiss U.tenants
   pub no_let : NoLet P C U
   pub no_claim : AllByRecursion (IsUnclaimable P) U.tenants
@@ -126,15 +126,15 @@ pub record Halves (P : Program) (C : Sizes) (U V : UpdateUnit) : Type 0 where
 
 -- Nobody is live, and there is no instruction to go on with
 pub record IsNowhere (P : Program) (U : UpdateUnit) : Type 0 where
-  pub goes_on : GoesOn U.tenants
+  pub goes_on : NoStopRetired U.tenants
   pub nobody : AllByRecursion IsNotLive U.tenants
   pub no_instr : instr_at P (committed P U.tenants).pc ≡ None
 
 -- The unit has ended before, or a stop retires, or nobody is live and there is no instruction
-pub data IsOver (P : Program) (C : Sizes) (U V : UpdateUnit) (c : Stop) : Type 0 where
-  Before : HasStopped V.tenants c → V ≡ U → IsOver P C U V c
-  Now : Retires P C U V → HasStopped V.tenants c → IsOver P C U V c
-  Nowhere : c ≡ BadPc → IsNowhere P U → V ≡ U → IsOver P C U V c
+pub data EndsHere (P : Program) (C : Sizes) (U V : UpdateUnit) (c : Stop) : Type 0 where
+  Before : HasStopped V.tenants c → V ≡ U → EndsHere P C U V c
+  Now : Retires P C U V → HasStopped V.tenants c → EndsHere P C U V c
+  Nowhere : c ≡ BadPc → IsNowhere P U → V ≡ U → EndsHere P C U V c
 
 -- What each answer of a turn says of the unit before it and behind it
 abbrev pub Does : Program → Sizes → UpdateUnit → UpdateUnit → Turn → Type 0
@@ -144,7 +144,7 @@ Does P C U V Ran = Runs P C U V
 Does P C U V Loaded = LoadsOne P C U V
 Does P C U V Halved = Halves P C U V
 Does P C U V Retired = Retires P C U V
-Does P C U V (Over c) = IsOver P C U V c
+Does P C U V (Over c) = EndsHere P C U V c
 
 -- From the unit U the turn makes steps that lead to one that the later fields stand for
 pub record Moved (b : Pipeline) (U : UpdateUnit) (answer : Turn) (later : Pipeline) : Type 0 where
@@ -184,7 +184,7 @@ Falls _ b later =
     (rank 32 later.window < rank 32 b.window)
 
 -- The sizes and the program stay
-pub record IsSame (b later : Pipeline) : Type 0 where
+pub record SizesStay (b later : Pipeline) : Type 0 where
   pub program : later.program ≡ b.program
   pub ring : later.ring ≡ b.ring
   pub queue : later.queue ≡ b.queue

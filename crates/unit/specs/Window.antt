@@ -94,17 +94,17 @@ made_after (Pair low high) made = Some low
 made_after _ made = made
 
 -- A station that has come further
-abbrev pub advanced : Station → Stage → Option ℕ → Station
-advanced w stage made = record w { stage = stage; made = made }
+abbrev pub further_on : Station → Stage → Option ℕ → Station
+further_on w stage made = record w { stage = stage; made = made }
 
 -- What a station becomes by its outcome
-abbrev pub finished : Station → Outcome → Station
-finished w o = advanced w (stage_after o w.predicted) (made_after o w.made)
+abbrev pub station_after : Station → Outcome → Station
+station_after w o = further_on w (stage_after o w.predicted) (made_after o w.made)
 
 -- The station at i has come further
 abbrev pub IsAdvanced : List Station → ℕ → Stage → Option ℕ → List Station → Type 0
 IsAdvanced ws i stage made later =
-    (w : Station) → slice_get ws i ≡ Some w → later ≡ slice_set ws i (advanced w stage made)
+    (w : Station) → slice_get ws i ≡ Some w → later ≡ slice_set ws i (further_on w stage made)
 
 -- The computed next pc of a miss
 abbrev pub miss_of : Stage → Option ℕ
@@ -112,8 +112,8 @@ miss_of (Miss x) = Some x
 miss_of _ = None
 
 -- A miss that goes on where it has to
-abbrev pub mended : Station → ℕ → Station
-mended w x = record w { stage = Done; next = x }
+abbrev pub station_mended : Station → ℕ → Station
+station_mended w x = record w { stage = Done; next = x }
 
 -- The station of a half of an instruction that is let at a pc
 abbrev pub let_at : Instr → Half → ℕ → ℕ → Station

@@ -10,7 +10,7 @@ use std::marker::Model;
 #[derive(Drop)]
 pub struct Ahead<'c> {
     pub committed: &'c Committed,
-    pub low: Option<u32>,
+    pub low: &'c Option<u32>,
 }
 
 impl<'c> Model for Ahead<'c> {
@@ -19,7 +19,7 @@ impl<'c> Model for Ahead<'c> {
 
     ghost Value = { State };
 
-    ghost view = { λ a. ahead_by a.low a.committed.now };
+    ghost view = { λ a. ahead_by a.low.now a.committed.now };
 }
 
 impl<'c> Ahead<'c> {
@@ -28,7 +28,7 @@ impl<'c> Ahead<'c> {
     pub fn register(&self, r: Reg) -> u32
         ensures { result ≡ slice_index self.now.registers r }
     {
-        self.committed.register_ahead(self.low, r)
+        self.committed.register_ahead(*self.low, r)
     }
 
     /// The number in `width` bytes from an address on.

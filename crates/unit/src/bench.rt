@@ -2,10 +2,10 @@
 ghost use Rattle.std.specs.Prelude.{◌≡◌, ◌<◌, ◌-◌, ◌^◌, nat_lt, length, slice_get, IfOk};
 ghost use Rattle.inorder.specs.Machine.{start};
 ghost use Rattle.inorder.specs.Runs.{end_state};
-ghost use Rattle.unit.specs.Changes.{run_from};
-ghost use Rattle.unit.specs.StandsFor.{IsUnit, StandsFor};
+ghost use Rattle.unit.specs.Changes.{RetiresOne, run_from};
+ghost use Rattle.unit.specs.StandsFor.{StandsFor, StandsForSome};
 ghost use Rattle.inorder.specs.Unit.{empty_unit};
-ghost use Rattle.unit.specs.Turns.{Falls, IsSame, IsTurn};
+ghost use Rattle.unit.specs.Turns.{Falls, IsTurn, SizesStay};
 
 use crate::pipeline::Pipeline;
 use crate::station::Station;
@@ -42,14 +42,14 @@ pub struct Bench<'a, P: Predictor + Drop> {
 }
 
 impl<'a, P: Predictor + Drop> Model for Bench<'a, P> {
-    ghost use Rattle.unit.specs.StandsFor.{IsUnit};
+    ghost use Rattle.unit.specs.StandsFor.{StandsForSome};
     ghost use Rattle.unit.specs.Turns.{BenchFields};
 
     ghost Value = { BenchFields P };
 
     ghost view = { λ b. record { pipeline = b.pipeline; predictor = b.predictor } };
 
-    ghost invariant = { λ b. IsUnit b.pipeline };
+    ghost invariant = { λ b. StandsForSome b.pipeline };
 }
 
 impl<'a, P: Predictor + Drop> Bench<'a, P> {
@@ -85,7 +85,7 @@ impl<'a, P: Predictor + Drop> Bench<'a, P> {
     /// How many instructions were counted. At any time some unit that legal steps reach stands behind the fields.
     pub fn count(&self) -> u64
         ensures value { result ≡ self.now.pipeline.committed.count }
-        ensures unit { IsUnit self.now.pipeline }
+        ensures unit { StandsForSome self.now.pipeline }
     {
         let state = &self.pipeline.committed;
         state.count()
@@ -112,7 +112,7 @@ impl<'a, P: Predictor + Drop> Bench<'a, P> {
         requires { self.old.pipeline.committed.count < 2 ^ 64 - 1 }
         ensures turn { IsTurn P.Predicts P.Learns self.old result self.new }
         ensures falls { Falls result self.old.pipeline self.new.pipeline }
-        ensures same { IsSame self.old.pipeline self.new.pipeline }
+        ensures same { SizesStay self.old.pipeline self.new.pipeline }
     {
         if let Some(code) = self.pipeline.over {
             return Turn::Over(code);
@@ -129,12 +129,30 @@ impl<'a, P: Predictor + Drop> Bench<'a, P> {
         self.pipeline.moves()
     }
 
+    // Turns until an instruction retires, and else tells why the unit ended. No other turn counts,
+    // so none of them is followed by a look at the count.
+    #[inline(always)]
+    fn retires_one(&mut self) -> Option<Stop>
+        requires { self.old.pipeline.committed.count < 2 ^ 64 - 1 }
+        ensures program { self.new.pipeline.program ≡ self.old.pipeline.program }
+        ensures ends { RetiresOne result self.old.pipeline self.new.pipeline }
+    {
+        loop {
+            let _ = &self.pipeline;
+            match self.turn() {
+                Turn::Over(code) => return Some(code),
+                Turn::Retired => return None,
+                _ => {}
+            }
+        }
+    }
+
     // Turns until it stops, or its count has reached a limit.
     fn run_to(&mut self, limit: u64) -> Ending
         ensures { (result, self.new.pipeline.committed) ≡ run_from self.old.pipeline limit }
     {
         while self.pipeline.committed.count() < limit {
-            if let Turn::Over(code) = self.turn() {
+            if let Some(code) = self.retires_one() {
                 return Ending::Stop(code);
             }
         }

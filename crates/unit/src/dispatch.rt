@@ -93,12 +93,9 @@ impl<'a> Pipeline<'a> {
         ensures pc { result.0 ≡ next_in self.now.committed.pc self.now.window }
         ensures half { result.1 ≡ half_in self.now.low self.now.window }
     {
-        match self.window.len().checked_sub(1) {
+        match self.window.last() {
             None => (self.committed.pc(), waiting_half(self.low)),
-            Some(last) => match self.window.peek(last) {
-                None => (self.committed.pc(), waiting_half(self.low)),
-                Some(station) => (station.next, half_behind(station)),
-            },
+            Some(station) => (station.next, half_behind(station)),
         }
     }
 

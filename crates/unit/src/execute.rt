@@ -5,7 +5,6 @@ ghost use Rattle.unit.specs.Givers.{Chosen, gives};
 ghost use Rattle.unit.specs.Notes.{AreNoted, AreSettled, missed_after, settled_at, settled_by};
 ghost use Rattle.unit.specs.Stages.{FirstReady};
 ghost use Rattle.unit.specs.Window.{made_after as made_after_of, operands_by, operands_in, stage_after as stage_after_of};
-ghost use Rattle.instructions.specs.Instruction.{kind as kind_of};
 
 use crate::ahead::Ahead;
 use crate::pipeline::Pipeline;
@@ -85,12 +84,13 @@ fn oldest_ready(window: &Window, ahead: &Ahead, from: usize) -> Option<Ready>
 }
 
 // It has ended, or is a store with its address.
-fn is_settled(station: &Station) -> bool
-    ensures { result ≡ settled_by (kind_of station.now.instr.op) station.now.stage }
+#[inline(always)]
+fn settles(kind: Kind, stage: Stage) -> bool
+    ensures { result ≡ settled_by kind stage }
 {
-    match station.stage {
+    match stage {
         Stage::Done | Stage::Stops(_) => true,
-        Stage::Addr(_) => matches!(station.instr.op().kind(), Kind::Stores),
+        Stage::Addr(_) => matches!(kind, Kind::Stores),
         _ => false,
     }
 }
@@ -101,7 +101,7 @@ fn is_settled_at(window: &Window, i: usize) -> bool
 {
     match window.peek(i) {
         None => false,
-        Some(station) => is_settled(station),
+        Some(station) => settles(station.instr.op().kind(), station.stage),
     }
 }
 
@@ -165,7 +165,6 @@ impl<'a> Pipeline<'a> {
             with_window self.old self.new.window self.new.missed self.new.settled }
         ensures noted { AreNoted self.new.missed self.new.settled self.new.window }
     {
-        self.settled = settled(&self.window, self.settled);
         let Some(ready) = oldest_ready(&self.window, &self.ahead(), self.settled) else {
             return false;
         };
@@ -179,6 +178,7 @@ impl<'a> Pipeline<'a> {
         let made = made_after(outcome, station.made);
         self.missed = missed_by(self.missed, stage);
         self.window.advance(ready.at, stage, made);
+        self.settled = settled(&self.window, self.settled);
         true
     }
 }

@@ -3,7 +3,7 @@ ghost use Rattle.std.specs.Prelude.{◌≡◌, ◌<◌, ◌≤◌, length, take,
 ghost use Rattle.instructions.specs.Instruction.{second_of};
 ghost use Rattle.lsq.specs.Entries.{bytes};
 ghost use Rattle.unit.specs.Forwarding.{older_of, preceded as preceded_of, store_at as store_in};
-ghost use Rattle.unit.specs.Loads.{StoresWriteNone, address_of as address_by, entries, entry as entry_of};
+ghost use Rattle.unit.specs.Loads.{StoresWriteNone, address_of as address_by, entries, entry_behind};
 ghost use Rattle.unit.specs.Window.{source_in};
 
 use crate::ahead::Ahead;
@@ -50,7 +50,7 @@ fn content(window: &Window, ahead: &Ahead, i: usize, station: &Station) -> Optio
 fn entry(window: &Window, ahead: &Ahead, i: usize, station: &Station) -> Entry
     requires there { i < length window.now }
     requires is { slice_get window.now i ≡ Some station.now }
-    ensures { result ≡ entry_of ahead.now.registers (take i window.now) station.now }
+    ensures { result ≡ entry_behind ahead.now.registers (take i window.now) station.now }
 {
     let op = station.instr.op();
     let data = match op.kind() {

@@ -2,9 +2,9 @@
 ghost use Rattle.std.specs.Prelude.{◌≡◌, ◌<◌, ◌≤◌, ◌-◌, ◌^◌, None, IfOk};
 ghost use Rattle.inorder.specs.Machine.{start};
 ghost use Rattle.unit.specs.Changes.{NextOf, NoneRecovers, ahead_of};
-ghost use Rattle.unit.specs.StandsFor.{IsUnit, StandsFor};
+ghost use Rattle.unit.specs.StandsFor.{StandsFor, StandsForSome};
 ghost use Rattle.inorder.specs.Unit.{empty_unit};
-ghost use Rattle.unit.specs.Turns.{Falls, IsPlain, IsSame, Moves};
+ghost use Rattle.unit.specs.Turns.{Falls, IsPlain, Moves, SizesStay};
 
 use crate::ahead::Ahead;
 use crate::bench::Turn;
@@ -36,7 +36,7 @@ pub struct Pipeline<'a> {
 
 impl<'a> Pipeline<'a> {
     pub fn new(alloc: Global, program: &'a Program, config: &Config) -> Result<Self, Memory>
-        ensures unit { IfOk result (λ b. IsUnit b) }
+        ensures unit { IfOk result (λ b. StandsForSome b) }
         ensures start { IfOk result (λ b. b.committed ≡ start program.now) }
         ensures program { IfOk result (λ b. b.program.now ≡ program.now) }
         ensures ring { IfOk result (λ b. b.ring ≡ config.now.ring) }
@@ -69,22 +69,22 @@ impl<'a> Pipeline<'a> {
     {
         Ahead {
             committed: &self.committed,
-            low: self.low,
+            low: &self.low,
         }
     }
 
     /// A turn where nothing recovers and nothing can be let.
     #[inline(always)]
     pub fn moves(&mut self) -> Turn
-        requires unit { IsUnit self.old }
+        requires unit { StandsForSome self.old }
         requires count { self.old.committed.count < 2 ^ 64 - 1 }
         requires open { self.old.over ≡ None }
         requires miss { NoneRecovers self.old }
         requires lets { NextOf self.old None }
         ensures turn { Moves self.old result self.new }
         ensures falls { Falls result self.old self.new }
-        ensures unit { IsUnit self.new }
-        ensures same { IsSame self.old self.new }
+        ensures unit { StandsForSome self.new }
+        ensures same { SizesStay self.old self.new }
         ensures plain { IsPlain result }
     {
         if self.runs() {

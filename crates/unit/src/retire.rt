@@ -1,8 +1,8 @@
 //! Retirement.
-ghost use Rattle.std.specs.Prelude.{◌≡◌, ◌<◌, ◌≤◌, ◌-◌, ◌^◌, None, length, slice_get, slice_set};
+ghost use Rattle.std.specs.Prelude.{◌≡◌, ◌<◌, ◌≤◌, ◌-◌, ◌^◌, None, Some, length, slice_get, slice_set};
 ghost use Rattle.unit.specs.declared.bench.Turn.TheVariants.{Halved, Over, Retired};
 ghost use Rattle.unit.specs.Changes.{ahead_of};
-ghost use Rattle.unit.specs.Leaves.{CanLeave, HasEnded, RetiresTo, ended, halved, left, shifted, with_station};
+ghost use Rattle.unit.specs.Leaves.{HasEnded, OldestHasEnded, RetiresTo, ended, halved, left, shifted, with_station};
 
 use crate::bench::Turn;
 use crate::leaver::told_of;
@@ -44,25 +44,27 @@ impl<'a> Pipeline<'a> {
 
     // The oldest station is free again.
     #[inline(always)]
-    fn shift(&mut self)
+    fn shift(&mut self, oldest: &Station)
         requires oldest { self.old.oldest < self.old.ring }
         requires most { self.old.ring ≤ 32 }
+        requires is { slice_get self.old.window 0 ≡ Some oldest.now }
         ensures { self.new ≡ shifted self.old }
     {
         self.oldest = self.station_at(1);
-        self.window.shift();
+        self.window.shift(oldest);
         self.settled = self.settled.saturating_sub(1);
     }
 
     // The oldest tenant is a stop: it ends the unit.
-    fn ends(&mut self, code: Stop) -> Turn
+    fn ends(&mut self, oldest: Station, code: Stop) -> Turn
         requires oldest { self.old.oldest < self.old.ring }
         requires most { self.old.ring ≤ 32 }
+        requires is { slice_get self.old.window 0 ≡ Some oldest }
         ensures answer { result ≡ Over code }
         ensures later { self.new ≡ ended self.old code }
     {
         self.over = Some(code);
-        self.shift();
+        self.shift(&oldest);
         Turn::Over(code)
     }
 
@@ -71,12 +73,13 @@ impl<'a> Pipeline<'a> {
         requires oldest { self.old.oldest < self.old.ring }
         requires most { self.old.ring ≤ 32 }
         requires leavers { length self.old.leavers ≡ 32 }
+        requires is { slice_get self.old.window 0 ≡ Some oldest }
         ensures answer { result ≡ Halved }
         ensures later { self.new ≡ halved self.old oldest }
     {
         leave(&mut self.leavers, self.oldest, told_of(&oldest));
         self.low = Some(oldest.made.unwrap_or(0));
-        self.shift();
+        self.shift(&oldest);
         Turn::Halved
     }
 
@@ -88,12 +91,13 @@ impl<'a> Pipeline<'a> {
         requires leavers { length self.old.leavers ≡ 32 }
         requires count { self.old.committed.count < 2 ^ 64 - 1 }
         requires can { HasEnded (length self.old.committed.memory) oldest.instr oldest.stage }
+        requires is { slice_get self.old.window 0 ≡ Some oldest }
         ensures answer { result ≡ Retired }
         ensures later { self.new ≡ left self.old oldest }
     {
         leave(&mut self.leavers, self.oldest, told_of(&oldest));
         self.commit(&oldest);
-        self.shift();
+        self.shift(&oldest);
         Turn::Retired
     }
 
@@ -104,14 +108,15 @@ impl<'a> Pipeline<'a> {
         requires most { self.old.ring ≤ 32 }
         requires leavers { length self.old.leavers ≡ 32 }
         requires count { self.old.committed.count < 2 ^ 64 - 1 }
-        requires can { CanLeave (length self.old.committed.memory) (slice_get self.old.window 0) }
+        requires can { OldestHasEnded (length self.old.committed.memory)
+            (slice_get self.old.window 0) }
         ensures { RetiresTo self.old (slice_get self.old.window 0) result self.new }
     {
         let Some(oldest) = self.window.at(0) else {
             return Turn::Over(Stop::BadPc);
         };
         match oldest.stage {
-            Stage::Stops(code) => self.ends(code),
+            Stage::Stops(code) => self.ends(oldest, code),
             _ if oldest.instr.is_first_half(oldest.half) => self.halves(oldest),
             _ => self.leaves(oldest),
         }

@@ -1,7 +1,7 @@
 //! The stations of the live tenants, the oldest first, and who makes what they read.
 ghost use Rattle.std.specs.Prelude.{◌≡◌, ◌<◌, ◌≤◌, ◌-◌, [], ◌∷◌, ◌++◌, length, take, drop, slice_get, slice_set, option_copied, Some};
 ghost use Rattle.unit.specs.Creators.{CreatorsAt, IsCreator, IsOfSame};
-ghost use Rattle.unit.specs.Slots.{place_of as place_in, slot_of as slot_in};
+ghost use Rattle.unit.specs.Slots.{place_from as place_in, slot_of as slot_in};
 ghost use Rattle.unit.specs.Window.{IsAdvanced, access_at, accesses as accesses_of};
 
 use crate::creators::Creators;
@@ -130,6 +130,18 @@ impl Window {
         Some(&self.stations[slot])
     }
 
+    /// The youngest tenant.
+    #[inline(always)]
+    pub fn last(&self) -> Option<&Station>
+        ensures { option_copied result ≡ slice_get self.now (length self.now - 1) }
+    {
+        if self.len == 0 {
+            return None;
+        }
+        let slot = slot_of(self.start, self.len - 1);
+        Some(&self.stations[slot])
+    }
+
     /// The place of the youngest tenant that writes a register, if one does.
     pub fn newest_writer(&self, r: Reg) -> u8
         ensures { IsCreator self.now (length self.now) r result }
@@ -217,12 +229,10 @@ impl Window {
 
     /// Takes the oldest out.
     #[inline(always)]
-    pub fn shift(&mut self)
+    pub fn shift(&mut self, oldest: &Station)
+        requires { slice_get self.old 0 ≡ Some oldest.now }
         ensures { self.new ≡ drop 1 self.old }
     {
-        let Some(oldest) = self.peek(0) else {
-            return;
-        };
         self.accesses -= access(oldest);
         self.start = slot_of(self.start, 1);
         self.len -= 1;

@@ -1,4 +1,3 @@
 pub mod Answered
-mod Checked
 mod Pictures
 pub mod Taken

@@ -4,7 +4,7 @@ use Rattle.isa.specs.declared.listing.fault.FaultKind.{FaultKind}
 use Rattle.isa.specs.Listing.{listing}
 use Rattle.instructions.specs.Programs.{Program}
 use Rattle.bench.specs.Answer.{most_taken}
-use Rattle.bench.proofs.Taken.{listing_taken}
+use Rattle.bench.specs.Enough.{listing_taken}
 
 found_taken : (F : Result Program (ℕ × FaultKind) → Type 0) (known : Option (List ℕ)) (bytes slice : List ℕ)
     → IfSome known (λ input. bytes ≡ take most_taken input) → slice ≡ bytes → F (listing slice) → IfSome known (λ input. F (listing input))

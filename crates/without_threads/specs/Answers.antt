@@ -1,5 +1,6 @@
 -- What is told of a listing.
-use Rattle.std.specs.Prelude.{◌≡◌, ◌≤◌, ◌<◌, ℕ, Bool, true, false, Result, Ok, Err, List, Some}
+use Rattle.std.specs.Prelude.{◌≡◌, ◌≤◌, ◌<◌, ℕ, Bool, true, false, Result, Ok, Err, List, Some, take}
+use Rattle.std.proofs.Common.{subst}
 use Rattle.instructions.specs.declared.end.Ending.{Ending}
 use Rattle.instructions.specs.declared.end.Ending.TheVariants.{Limit}
 use Rattle.isa.specs.declared.listing.fault.FaultKind.{FaultKind}
@@ -9,7 +10,8 @@ use Rattle.isa.specs.Report.{fault_line}
 use Rattle.instructions.specs.Settings.{Settings}
 use Rattle.inorder.specs.Machine.{State}
 use Rattle.inorder.specs.Runs.{after, end_of}
-use Rattle.bench.specs.Answer.{ending_status, report_of_run, status_of, text_of}
+use Rattle.bench.specs.Answer.{ending_status, most_taken, report_of_run, status_of, text_of}
+use Rattle.bench.specs.Enough.{listing_taken}
 use Rattle.bench.specs.declared.outcome.Status.TheVariants.{TextFault}
 use Rattle.requests.specs.declared.request.Asked.{Asked}
 use Rattle.without_threads.specs.declared.went.Line.{Line}
@@ -57,11 +59,19 @@ abbrev pub IsAnswerFor : Asked → Result Program (ℕ × FaultKind) → List �
 IsAnswerFor asked (Ok P) text went = IsReport asked P text went
 IsAnswerFor asked (Err f) text went = (text ≡ fault_line f.0 f.1) × (went ≡ written_whole TextFault Nothing)
 
--- P of the text of some answer to the bytes of a listing
-pub record HasAnswer (asked : Asked) (bytes : List ℕ) (went : Went) (P : List ℕ → Type 0) : Type 0 where
-  pub text : List ℕ
-  pub is : IsAnswerFor asked (listing bytes) text went
-  pub holds : P text
+-- the text goes with what is told of the bytes of a listing
+abbrev pub IsAnswerTo : Asked → Went → (bytes text : List ℕ) → Type 0
+IsAnswerTo asked went bytes text = IsAnswerFor asked (listing bytes) text went
+
+-- the same, whatever is told
+abbrev pub IsSomeAnswerTo : Asked → (bytes text : List ℕ) → Type 0
+IsSomeAnswerTo asked bytes text = (went : Went) × IsAnswerTo asked went bytes text
+
+-- so much of a listing as is taken is enough to know an answer to it
+pub answer_of_all : (asked : Asked) (bytes : List ℕ) (went : Went) (text : List ℕ)
+    → IsAnswerTo asked went (take most_taken bytes) text → IsAnswerTo asked went bytes text
+answer_of_all asked bytes went text is =
+    subst (λ (found : Result Program (ℕ × FaultKind)). IsAnswerFor asked found text went) (listing_taken bytes) is
 
 -- P of the text that the one-thread unit has for the bytes of a listing, and its status
 pub record IsAsAlone (limit : ℕ) (bytes : List ℕ) (went : Went) (P : List ℕ → Type 0) : Type 0 where

@@ -1,3 +1,5 @@
-pub mod Went
 pub mod Answers
+pub mod Checked
+pub mod Replies
 pub mod Watched
+pub mod Went

@@ -4,8 +4,6 @@ use Rattle.devices.specs.Counted.{known_by}
 use Rattle.devices.specs.declared.counted.Counted.{Counted}
 use Rattle.devices.specs.declared.input.InputFault.{InputFault}
 use Rattle.devices.specs.declared.input.InputFault.TheVariants as input
-use Rattle.bench.specs.declared.outcome.Fault.{Fault}
-use Rattle.bench.specs.declared.outcome.Fault.TheVariants as fault
 use Rattle.bench.specs.declared.outcome.Status.{Status}
 use Rattle.bench.specs.declared.outcome.Status.TheVariants as end
 use Rattle.charts.specs.declared.watched.Fault.{Fault as ChartFault}
@@ -32,16 +30,10 @@ written_whole status line = record { status = status_number status; line = line 
 abbrev pub refused : Refusal → Went
 refused refusal = record { status = 5; line = Refused refusal }
 
--- what is refused where the input was not read to its end, and by the one-thread unit
+-- what is refused where the input was not read to its end
 abbrev pub input_refusal : InputFault → Refusal
 input_refusal input.Read = Read
 input_refusal input.Memory = Memory
-
--- why a run on one thread was refused
-abbrev pub refusal_of : Fault → Refusal
-refusal_of fault.Read = Read
-refusal_of fault.Memory = Memory
-refusal_of fault.Write = Write
 
 -- what is refused where a chart was not told to its end
 abbrev pub chart_refusal : ChartFault → Refusal
@@ -82,10 +74,10 @@ refusal_line Thread = codes "thread"
 refusal_line Write = codes "write"
 refusal_line Trace = codes "trace"
 
--- the totals by name, behind the first words of the line
-abbrev pub totals_text : List ℕ → Totals → List ℕ
-totals_text first t =
-    first ++ (decimal t.lets ++ (codes " claims " ++ (decimal t.claims
+-- each number of a tally behind its name
+abbrev pub totals_text : Totals → List ℕ
+totals_text t =
+    codes "lets " ++ (decimal t.lets ++ (codes " claims " ++ (decimal t.claims
     ++ (codes " finishes " ++ (decimal t.finishes ++ (codes " stale " ++ (decimal t.stale
     ++ (codes " loads " ++ (decimal t.loads ++ (codes " retires " ++ (decimal t.retires
     ++ (codes " squashes " ++ (decimal t.squashes ++ (codes " mends " ++ (decimal t.mends
@@ -93,11 +85,11 @@ totals_text first t =
 
 -- the line behind a run
 abbrev pub tally_text : Totals → List ℕ
-tally_text = totals_text (codes "tally lets ")
+tally_text totals = codes "tally " ++ totals_text totals
 
 -- the line while it runs
 abbrev pub progress_text : Totals → List ℕ
-progress_text = totals_text (codes "progress lets ")
+progress_text totals = codes "progress " ++ totals_text totals
 
 -- the line for standard error, if there is one
 abbrev pub line_text : Line → List ℕ

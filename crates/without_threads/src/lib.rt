@@ -6,10 +6,11 @@ mod drawing;
 mod one_thread;
 mod progress;
 mod statuses;
+mod totals;
 mod watching;
 mod went;
 
-pub use checking::{MOST_TAKEN, check};
+pub use checking::check;
 pub use one_thread::run;
 pub use progress::Progress;
 pub use statuses::{refused, written};

@@ -1,12 +1,14 @@
 //! A run of the one-thread unit.
-ghost use Rattle.std.specs.Prelude.{◌≡◌, ◌≢◌, ◌+◌, ◌-◌, ◌^◌, ◌<◌, IfSome, IfOk, IfErr, OnOk, true};
-ghost use Rattle.devices.specs.Counted.{failures_of, known_by, Gives, GivesPart};
-ghost use Rattle.bench.specs.Answer.{text_of, status_of};
-ghost use Rattle.without_threads.specs.Answers.{HasAnswer};
+ghost use Rattle.std.specs.Prelude.{◌≡◌, ◌-◌, ◌^◌, ◌<◌, IfOk, IfErr, true};
+ghost use Rattle.devices.specs.Counted.{failures_of};
+ghost use Rattle.devices.specs.Replies.{HasReplied, IsUnanswered};
+ghost use Rattle.bench.specs.Answer.{IsAnswerAlone, most_taken};
+ghost use Rattle.bench.specs.Faults.{HasAnAnswer, unanswered};
 ghost use Rattle.requests.specs.Predictors.{IsChosen};
+ghost use Rattle.without_threads.specs.Answers.{IsAnswerTo, IsSomeAnswerTo};
+ghost use Rattle.without_threads.specs.Replies.{IsUnansweredBy};
 ghost use Rattle.without_threads.specs.Went.{IsOfOneThread};
 ghost use Rattle.without_threads.specs.declared.went.Line.TheVariants.{Nothing, Refused};
-ghost use Rattle.without_threads.specs.declared.went.Went.{Went};
 
 use crate::{Line, Refusal, Went, written};
 use bench::{Fault, Status, alone};
@@ -25,25 +27,20 @@ pub fn run<R: Read, W: Write>(
     requires reader_room { failures_of reader.old < 2 ^ 64 - 1 }
     requires writer_room { failures_of writer.old < 2 ^ 64 - 1 }
     requires alone { asked.now.alone ≡ true }
-    ensures ok { IfOk result (λ went. IfSome (known_by R.remaining reader.old) (λ input.
-        HasAnswer asked.now input went (Gives W.contents writer.old writer.new))) }
+    ensures ok { IfOk result (λ went. HasReplied R.remaining W.contents most_taken
+        reader.old reader.new writer.old writer.new (IsAnswerTo asked.now went)) }
     ensures line { IfOk result (λ went. went.line ≡ Nothing) }
-    ensures quiet { OnOk result (failures_of writer.new ≡ failures_of writer.old) }
-    ensures err { IfErr result (λ refusal. IsOfOneThread (Refused refusal)) }
-    ensures opened { IfErr result (λ refusal. refusal ≢ Refusal.Open) }
-    ensures unlogged { IfErr result (λ refusal. refusal ≢ Refusal.Trace) }
-    ensures read { IfErr result (λ refusal. refusal ≡ Refusal.Read →
-        failures_of reader.new ≡ failures_of reader.old + 1) }
-    ensures write { IfErr result (λ refusal. refusal ≡ Refusal.Write →
-        failures_of writer.new ≡ failures_of writer.old + 1) }
-    ensures part { IfErr result (λ refusal. refusal ≡ Refusal.Write →
-        IfSome (known_by R.remaining reader.old) (λ input. (went : Went) ×
-        HasAnswer asked.now input went (GivesPart W.contents writer.old writer.new))) }
-    ensures silent { IfErr result (λ refusal. refusal ≢ Refusal.Write → writer.new ≡ writer.old) }
+    ensures err { IfErr result (IsUnansweredBy R.remaining W.contents
+        reader.old reader.new writer.old writer.new (IsSomeAnswerTo asked.now)) }
+    ensures thread { IfErr result (λ refusal. IsOfOneThread (Refused refusal)) }
 {
     let predictor = choose(asked.predictor);
-    let status = predicted(alloc, asked, predictor, reader, writer)?;
-    Ok(written(status, Line::Nothing))
+    match predicted(alloc, asked, predictor, reader, writer) {
+        Ok(status) => Ok(written(status, Line::Nothing)),
+        Err(Fault::Read) => Err(Refusal::Read),
+        Err(Fault::Memory) => Err(Refusal::Memory),
+        Err(Fault::Write) => Err(Refusal::Write),
+    }
 }
 
 // With the predictor that is asked for.
@@ -57,19 +54,11 @@ fn predicted<R: Read, W: Write>(
     requires predictor { IsChosen asked.now.predictor predictor }
     requires reader_room { failures_of reader.old < 2 ^ 64 - 1 }
     requires writer_room { failures_of writer.old < 2 ^ 64 - 1 }
-    ensures status { IfOk result (λ status. IfSome (known_by R.remaining reader.old) (λ input.
-        status ≡ status_of asked.now.config.limit input)) }
-    ensures text { OnOk result (IfSome (known_by R.remaining reader.old) (λ input.
-        Gives W.contents writer.old writer.new (text_of asked.now.config.limit input))) }
-    ensures quiet { OnOk result (failures_of writer.new ≡ failures_of writer.old) }
-    ensures read { IfErr result (λ fault. fault ≡ Fault.Read →
-        failures_of reader.new ≡ failures_of reader.old + 1) }
-    ensures write { IfErr result (λ fault. fault ≡ Fault.Write →
-        failures_of writer.new ≡ failures_of writer.old + 1) }
-    ensures part { IfErr result (λ fault. fault ≡ Fault.Write →
-        IfSome (known_by R.remaining reader.old) (λ input.
-        GivesPart W.contents writer.old writer.new (text_of asked.now.config.limit input))) }
-    ensures silent { IfErr result (λ fault. fault ≢ Fault.Write → writer.new ≡ writer.old) }
+    ensures ok { IfOk result (λ status. HasReplied R.remaining W.contents most_taken
+        reader.old reader.new writer.old writer.new (IsAnswerAlone asked.now.config.limit status)) }
+    ensures err { IfErr result (λ fault. IsUnanswered R.remaining W.contents most_taken
+        reader.old reader.new writer.old writer.new (HasAnAnswer asked.now.config.limit)
+        (unanswered fault)) }
 {
     alone(alloc, reader, writer, &asked.config, predictor)
 }

@@ -2,6 +2,7 @@
 ghost use Rattle.std.specs.Prelude.{Some};
 ghost use Rattle.without_threads.specs.Went.{progress_text};
 
+use crate::totals::Totals;
 use counts::Tally;
 use std::fmt;
 
@@ -15,21 +16,6 @@ impl fmt::Display for Progress {
     ghost output = { λ progress. Some (progress_text progress.tally) };
 
     fn fmt<W: fmt::Write>(&self, f: &mut fmt::Formatter<W>) -> fmt::Result {
-        let tally = self.tally;
-        write!(
-            f,
-            "progress lets {} claims {} finishes {} stale {} loads {} retires {} squashes {} mends {} \
-             hints {} renewals {}",
-            tally.lets,
-            tally.claims,
-            tally.finishes,
-            tally.stale,
-            tally.loads,
-            tally.retires,
-            tally.squashes,
-            tally.mends,
-            tally.hints,
-            tally.renewals,
-        )
+        write!(f, "progress {}", Totals { tally: self.tally })
     }
 }

@@ -8,8 +8,8 @@ ghost use Rattle.without_threads.specs.Went.{HoldsOfInput, IsOfOneThread, refuse
 ghost use Rattle.without_threads.specs.declared.went.Line.TheVariants.{Nothing, Refused};
 
 use crate::drawing::{draw, trace};
-use crate::{Line, MOST_TAKEN, Refusal, Went, refused, written};
-use bench::{Bench, Status};
+use crate::{Line, Refusal, Went, refused, written};
+use bench::{Bench, MOST_TAKEN, Status};
 use devices::{Counted, read_up_to, write_whole};
 use instructions::{End, Memory, Program};
 use isa::{FaultKind, fault_text, parse, report_text};

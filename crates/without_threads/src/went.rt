@@ -1,10 +1,9 @@
 //! How a run went.
 ghost use Rattle.std.specs.Prelude.{◌≡◌, Some};
-ghost use Rattle.without_threads.specs.Went.{line_text, refusal_line};
-ghost use Rattle.without_threads.specs.Went.{input_refusal, refusal_of};
+ghost use Rattle.without_threads.specs.Went.{input_refusal, line_text, refusal_line};
 ghost use Rattle.without_threads.specs.declared.went.Refusal.TheVariants.{Memory, Write};
 
-use bench::Fault;
+use crate::totals::Totals;
 use counts::Tally;
 use devices::{InputFault, WriteFailed};
 use std::alloc::AllocError;
@@ -51,21 +50,7 @@ impl fmt::Display for Line {
     fn fmt<W: fmt::Write>(&self, f: &mut fmt::Formatter<W>) -> fmt::Result {
         match self {
             Line::Nothing => Ok(()),
-            Line::Tally(tally) => write!(
-                f,
-                "tally lets {} claims {} finishes {} stale {} loads {} retires {} squashes {} mends {} \
-                 hints {} renewals {}",
-                tally.lets,
-                tally.claims,
-                tally.finishes,
-                tally.stale,
-                tally.loads,
-                tally.retires,
-                tally.squashes,
-                tally.mends,
-                tally.hints,
-                tally.renewals,
-            ),
+            Line::Tally(tally) => write!(f, "tally {}", Totals { tally: *tally }),
             Line::Refused(refusal) => write!(f, "ruu: {refusal}"),
         }
     }
@@ -118,17 +103,5 @@ impl From<WriteFailed> for Refusal {
 
     fn from(_failed: WriteFailed) -> Refusal {
         Refusal::Write
-    }
-}
-
-impl From<Fault> for Refusal {
-    ghost from_gives = { λ e refusal. refusal ≡ refusal_of e };
-
-    fn from(fault: Fault) -> Refusal {
-        match fault {
-            Fault::Read => Refusal::Read,
-            Fault::Memory => Refusal::Memory,
-            Fault::Write => Refusal::Write,
-        }
     }
 }

@@ -1,7 +1,7 @@
 //! Instructions as a listing writes them.
 ghost use Rattle.std.specs.Prelude.{◌≡◌, Some, slice_get, map};
 ghost use Rattle.std.specs.Option.{option_map};
-ghost use Rattle.isa.specs.InstrText.{TextIsReadBack, names, register_text, label_text, operand_text, text_of, is_nop as is_nop_of};
+ghost use Rattle.isa.specs.InstrText.{TextIsReadBack, names, register_text, label_text, operand_text, separator, separated_text, text_of, is_nop as is_nop_of};
 
 use super::form::Slot;
 use super::wording::{slots_of, word_of};
@@ -138,18 +138,37 @@ impl InstrText {
         let naming = Naming::Numbers;
         InstrText { naming, instr }
     }
+}
 
-    // one of its operands
-    fn operand(&self, slot: Slot) -> Operand
-        ensures naming { result.naming ≡ self.now.naming }
-        ensures slot { result.slot ≡ slot }
-        ensures instr { result.instr ≡ self.now.instr }
-    {
-        Operand {
-            naming: self.naming,
-            slot,
-            instr: self.instr,
+// what stands before an operand: a blank before the first one, and a comma before each other
+fn separator(at: usize) -> &'static str
+    ensures { result.now ≡ separator at }
+{
+    if at == 0 { " " } else { "," }
+}
+
+// operands of an instruction, from the first one on
+#[derive(Clone, Copy)]
+struct Operands<'a> {
+    text: InstrText,
+    slots: &'a [Slot],
+}
+
+impl fmt::Display for Operands<'_> {
+    ghost output = { λ o. Some (separated_text 0
+        (map (λ s. operand_text o.text.naming s o.text.instr) o.slots.now)) };
+
+    fn fmt<W: fmt::Write>(&self, f: &mut fmt::Formatter<W>) -> fmt::Result {
+        for (at, slot) in self.slots.iter().enumerate() {
+            let separator = separator(at);
+            let operand = Operand {
+                naming: self.text.naming,
+                slot: *slot,
+                instr: self.text.instr,
+            };
+            write!(f, "{separator}{operand}")?;
         }
+        Ok(())
     }
 }
 
@@ -161,22 +180,11 @@ impl fmt::Display for InstrText {
             return f.write_str("nop");
         }
         let word = word_of(self.instr.op);
-        match slots_of(self.instr.op) {
-            [one] => {
-                let one = self.operand(*one);
-                write!(f, "{word} {one}")
-            }
-            [one, two] => {
-                let (one, two) = (self.operand(*one), self.operand(*two));
-                write!(f, "{word} {one},{two}")
-            }
-            [one, two, three] => {
-                let (one, two) = (self.operand(*one), self.operand(*two));
-                let three = self.operand(*three);
-                write!(f, "{word} {one},{two},{three}")
-            }
-            _ => f.write_str(word),
-        }
+        let operands = Operands {
+            text: *self,
+            slots: slots_of(self.instr.op),
+        };
+        write!(f, "{word}{operands}")
     }
 }
 

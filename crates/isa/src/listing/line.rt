@@ -21,6 +21,33 @@ pub struct Target<'a> {
     pub label: Option<&'a [u8]>,
 }
 
+// Adds an instruction, and what is to be resolved of it.
+fn add_instruction<'a>(
+    code: &mut Vec<Instr>,
+    targets: &mut Vec<Target<'a>>,
+    draft: Draft<'a>,
+    number: u32,
+) -> Result<(), FaultKind>
+    requires small_code { length code.old.items ≤ 16384 }
+    ensures room { OnOk result (length code.old.items < 16384) }
+    ensures small_code { OnOk result (length code.new.items ≤ 16384) }
+    ensures ok { OnOk result (code.new.items ≡ code.old.items ++ draft.entry.instr ∷ []) }
+    ensures target { OnOk result (targets.new.items
+        ≡ targets.old.items ++ record { line = number; label = draft.entry.label } ∷ []) }
+    ensures fault { IfErr result (λ e. e ≢ FaultKind.Memory
+        → (e ≡ FaultKind.TooLong) × (16384 ≤ length code.old.items)) }
+{
+    if code.len() >= Program::MOST_INSTRUCTIONS {
+        return Err(FaultKind::TooLong);
+    }
+    code.push(draft.instr)?;
+    targets.push(Target {
+        line: u64::from(number),
+        label: draft.label,
+    })?;
+    Ok(())
+}
+
 // Reads the code of one line, its labels and its statement; there is none for a line with a byte
 // that may not stand before a comment.
 fn read_line<'a>(
@@ -62,15 +89,7 @@ fn read_line<'a>(
     if !found {
         return Ok(());
     }
-    if index >= Program::MOST_INSTRUCTIONS {
-        return Err(FaultKind::TooLong);
-    }
-    code.push(draft.instr)?;
-    targets.push(Target {
-        line: u64::from(number),
-        label: draft.label,
-    })?;
-    Ok(())
+    add_instruction(code, targets, draft, number)
 }
 
 /// Reads the first line of a text. The answer is what stands behind its line feed, if it has one.

@@ -2,7 +2,7 @@
 //! are known to be distinct and unused by bits at their hashes, without a look at other names.
 ghost use Rattle.std.specs.Prelude.{◌≡◌, ◌≤◌, ◌<◌, ◌^◌, ◌++◌, [], true, length, OnOk, IfOk};
 ghost use Rattle.std.specs.Option.{option_map};
-ghost use Rattle.isa.specs.Needed.{bit_of, needed_of, is_needed, AreEnough, AreKept, AreWanted, AreWatched, IsMet, IsWanted};
+ghost use Rattle.isa.specs.Needed.{short_hash, hashes_of, bit_of, needed_of, is_needed_by, is_needed, AreEnough, AreKept, AreWanted, AreWatched, WasMet, IsWanted};
 
 use super::line::Target;
 use super::table::{Entry, hash_of, start_of};
@@ -21,30 +21,39 @@ const SHARE: usize = 8;
 /// Labels for which room is made.
 const MOST: usize = 4_194_304;
 
+// The half of the hash of a name that tells its bits.
+fn short_hash(name: &[u8]) -> u32
+    ensures { result ≡ short_hash name.now }
+{
+    (hash_of(name) & 0xffff_ffff) as u32
+}
+
 // Which bit is that of a name.
-fn bit_of(hash: u64) -> u32
+fn bit_of(hash: u32) -> u32
     ensures value { result ≡ bit_of hash }
     ensures small { result < 64 }
 {
-    ((hash >> 32) % 64) as u32
+    hash % 64
 }
 
-// Meets a name, which is needed if it was met before.
-fn meet(all: &mut Vec<Bits>, name: &[u8])
+// Meets a name, which is needed if it was met before. The answer is its hash.
+fn meet(all: &mut Vec<Bits>, name: &[u8]) -> u32
     requires room { 1 ≤ length all.old.items }
     requires few { length all.old.items ≤ 2 ^ 32 }
     ensures kept { AreKept all.old.items all.new.items }
-    ensures met { IsMet all.new.items name.now }
-    ensures needed { IsMet all.old.items name.now → is_needed all.new.items name.now ≡ true }
+    ensures met { WasMet all.new.items name.now }
+    ensures needed { WasMet all.old.items name.now → is_needed all.new.items name.now ≡ true }
+    ensures hash { result ≡ short_hash name.now }
 {
-    let hash = hash_of(name);
-    let at = start_of(hash, all.len() - 1);
+    let hash = short_hash(name);
+    let at = start_of(u64::from(hash), all.len() - 1);
     let bit = 1u64 << bit_of(hash);
     let before = all[at];
     all[at] = Bits {
         met: before.met | bit,
         needed: before.needed | (before.met & bit),
     };
+    hash
 }
 
 // Notes that a name is needed.
@@ -54,8 +63,8 @@ fn need(all: &mut Vec<Bits>, name: &[u8])
     ensures kept { AreKept all.old.items all.new.items }
     ensures needed { is_needed all.new.items name.now ≡ true }
 {
-    let hash = hash_of(name);
-    let at = start_of(hash, all.len() - 1);
+    let hash = short_hash(name);
+    let at = start_of(u64::from(hash), all.len() - 1);
     let bit = 1u64 << bit_of(hash);
     let before = all[at];
     all[at] = Bits {
@@ -76,27 +85,34 @@ fn want(all: &mut Vec<Bits>, label: Option<&[u8]>)
     }
 }
 
-// Whether a name may stand twice, or an instruction may name it.
-fn is_needed(all: &[Bits], name: &[u8]) -> bool
+// Whether a name with this hash may stand twice, or an instruction may name it.
+fn is_needed(all: &[Bits], hash: u32) -> bool
     requires room { 1 ≤ length all.now }
     requires few { length all.now ≤ 2 ^ 32 }
-    ensures { result ≡ is_needed all.now name.now }
+    ensures { result ≡ is_needed_by all.now hash }
 {
-    let hash = hash_of(name);
-    let at = start_of(hash, all.len() - 1);
+    let at = start_of(u64::from(hash), all.len() - 1);
     all[at].needed >> bit_of(hash) & 1 == 1
 }
 
-// Meets all names in their order.
-fn meet_all<'a>(all: &mut Vec<Bits>, entries: &[Entry<'a>])
+// Meets all names in their order. The answer is their hashes.
+fn meet_all<'a>(
+    alloc: Global,
+    all: &mut Vec<Bits>,
+    entries: &[Entry<'a>],
+) -> Result<Vec<u32>, AllocError>
     requires room { 1 ≤ length all.old.items }
     requires few { length all.old.items ≤ 2 ^ 32 }
     ensures size { length all.new.items ≡ length all.old.items }
-    ensures watched { AreWatched all.new.items entries.now }
+    ensures watched { OnOk result (AreWatched all.new.items entries.now) }
+    ensures hashes { IfOk result (λ hashes. hashes.items ≡ hashes_of entries.now) }
 {
+    let mut hashes = Vec::with_capacity(alloc, entries.len().min(MOST))?;
     for i in 0..entries.len() {
-        meet(all, entries[i].name);
+        let hash = meet(all, entries[i].name);
+        hashes.push(hash)?;
     }
+    Ok(hashes)
 }
 
 // Notes what labels instructions need.
@@ -115,16 +131,18 @@ fn need_all<'a>(all: &mut Vec<Bits>, targets: &[Target<'a>])
 fn add_needed<'a>(
     some: &mut Vec<Entry<'a>>,
     all: &[Bits],
+    hashes: &[u32],
     entries: &[Entry<'a>],
 ) -> Result<(), AllocError>
     requires room { 1 ≤ length all.now }
     requires few { length all.now ≤ 2 ^ 32 }
+    requires hashes { hashes.now ≡ hashes_of entries.now }
     requires none { some.old.items ≡ [] }
     ensures { OnOk result (some.new.items ≡ needed_of all.now entries.now) }
 {
-    for entry in entries {
-        if is_needed(all, entry.name) {
-            some.push(*entry)?;
+    for i in 0..entries.len() {
+        if is_needed(all, hashes[i]) {
+            some.push(entries[i])?;
         }
     }
     Ok(())
@@ -141,9 +159,9 @@ pub fn needed<'a>(
     let mut all = Vec::new(alloc);
     let none = Bits { met: 0, needed: 0 };
     all.resize(entries.len().min(MOST) / SHARE + 1, none)?;
-    meet_all(&mut all, entries);
+    let hashes = meet_all(alloc, &mut all, entries)?;
     need_all(&mut all, targets);
     let mut some = Vec::new(alloc);
-    add_needed(&mut some, all.as_slice(), entries)?;
+    add_needed(&mut some, all.as_slice(), hashes.as_slice(), entries)?;
     Ok(some)
 }

@@ -1,5 +1,6 @@
 //! A unit driven by commands: command lines, answers, and devices that fail.
 use crate::failing::{FailingReader, FailingWriter, LISTING};
+use by_hand::{ByHand, go_by_hand};
 use command::*;
 use devices::Counted;
 use std::alloc::Global;

@@ -1,7 +1,7 @@
 //! The steps of a question: the link's store, the look at its creator, and the exchange of the operand.
 ghost use Rattle.std.specs.Prelude.{◌≡◌, ◌<◌};
 ghost use Rattle.ruu_words.specs.declared.rule.Draft.TheVariants.{Nothing};
-ghost use Rattle.ruu_words.specs.Fields.{pack_link, tag_of, value_of};
+ghost use Rattle.ruu_words.specs.Fields.{pack_link, tag_of, word_value};
 ghost use Rattle.station.specs.Asking.{MayAsk};
 ghost use Rattle.station.specs.Wakeup.{CanAnswer, Ends, Finds, HasAskedFrom, Links};
 ghost use Rattle.station.specs.Writeback.{AreOperands};
@@ -44,7 +44,7 @@ impl<'a> Call<'a, FrontPart> {
         requires draft { self.old.view.draft ≡ Nothing }
         requires words { AreOperands old new }
         requires answer { CanAnswer self.old.core.program self.old.core.sizes self.old.view.seen
-            station (tag_of old) k (value_of new) }
+            station (tag_of old) k (word_value new) }
         ensures { TakesStep self.old self.new (λ P C. Ends P C station (tag_of old) k old result) }
     {
         let place = Place::Operand(station, k);

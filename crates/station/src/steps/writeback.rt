@@ -4,7 +4,7 @@ ghost use Rattle.inorder.specs.Tenants.{Addr, Busy, Done};
 ghost use Rattle.inorder.specs.Callers.{HasJob};
 ghost use Rattle.ruu_words.specs.declared.place.Place.TheVariants.{Link};
 ghost use Rattle.ruu_words.specs.Places.{IsPlace};
-ghost use Rattle.ruu_words.specs.Fields.{tag_of, value_of};
+ghost use Rattle.ruu_words.specs.Fields.{tag_of, word_value};
 ghost use Rattle.ruu_words.specs.Kinds.{Delivers, Finishes, ReadsLink, Settles, fate_of};
 ghost use Rattle.station.specs.Writeback.{AreFates, AreOperands, CanDeliver, CanSettle};
 ghost use Rattle.station.specs.Calls.{HasOne, TakesStep};
@@ -40,9 +40,9 @@ impl<'a> Call<'a, UnitPart> {
 impl<'a> Call<'a, BackPart> {
     /// Exchanges the word of a load with its address for that of its value.
     pub(crate) fn settle_tenant(&mut self, station: usize, old: u64, new: u64) -> u64
-        requires words { AreFates (Addr (value_of old)) (Done (value_of new)) old new }
+        requires words { AreFates (Addr (word_value old)) (Done (word_value new)) old new }
         requires load { CanSettle self.old.core.program self.old.core.sizes self.old.view.seen
-            station (tag_of old) (value_of old) (value_of new) }
+            station (tag_of old) (word_value old) (word_value new) }
         ensures { TakesStep self.old self.new (λ P C. Settles P C station (tag_of old) old result) }
     {
         self.exchange::<Brand, usize>(Place::Station(station), old, new, station)
@@ -63,7 +63,7 @@ impl<'a, P: Part> Call<'a, P> {
     pub(crate) fn deliver(&mut self, station: usize, k: Source, old: u64, new: u64) -> u64
         requires words { AreOperands old new }
         requires link { CanDeliver self.old.core.program self.old.core.sizes self.old.view.seen
-            station k (tag_of old) (value_of new) }
+            station k (tag_of old) (word_value new) }
         ensures { TakesStep self.old self.new
             (λ P C. Delivers P C station k (tag_of old) old result) }
     {

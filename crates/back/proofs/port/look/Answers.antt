@@ -20,7 +20,7 @@ returns-then-index-len-clause-shows c =
     let b = subst (λ x. Adds d.program d.sizes x mid.seen c.look-seen.new.seat.seen []) (c.info-index.ensures.kept.by ∙ c.requires.by) c.look-seen.ensures.history in
     sees_entry d.program d.sizes c.args.seat.now.seen mid.seen c.look-seen.new.seat.seen a b c.args.station c.info-index.result.0 (λ q t is st live. (c.info-index.ensures.reply.its q t is st live).0)
     seen.tag seen.state seen.value c.look-seen.ensures.reply
-    c.entry.result (λ l. c.entry.ensures ∙ ap (λ i. seen_as i seen.state seen.value) (c.instr.ensures ∙ ap (λ (Q : Program). instr_of Q c.info-index.result.0) c.requires.program))
+    c.entry.result (λ l. c.entry.ensures ∙ ap (λ i. seen_as i seen.state seen.value) (c.instr.ensures ∙ ap (λ (Q : Program). instr_of Q c.info-index.result.0) c.program-program.ensures))
 
 pub returns-else-index-len-clause-history : goal.returns-else-index-len-clause-history
 returns-else-index-len-clause-history c =
@@ -37,7 +37,7 @@ returns-else-index-len-clause-shows c =
     let b = subst (λ x. Adds d.program d.sizes x mid.seen c.look-seen.new.seat.seen []) (c.info-index.ensures.kept.by ∙ c.requires.by) c.look-seen.ensures.history in
     let few = c.if-index-len.false in
     let len = c.len.ensures.value in
-    let same = ap (λ (Q : Program). length Q.code) c.requires.program in
+    let same = ap (λ (Q : Program). length Q.code) c.program-program.ensures in
     sees_entry d.program d.sizes c.args.seat.now.seen mid.seen c.look-seen.new.seat.seen a b c.args.station c.info-index.result.0 (λ q t is st live. (c.info-index.ensures.reply.its q t is st live).0)
     seen.tag seen.state seen.value c.look-seen.ensures.reply
     c.default.result (λ l. absurd (omega (arith, few, len, same, l)))

@@ -1,7 +1,7 @@
 use Rattle.std.proofs.Common.{◌≡◌, ◌≤◌, [], length}
 use Rattle.instructions.specs.Instruction.{width}
 use Rattle.inorder.specs.OneHistory.{Adds}
-use Rattle.station.specs.Seats.{IsSame}
+use Rattle.station.specs.Seats.{IsSameSeat}
 use Rattle.back.specs.Backs.{unit_in}
 use Rattle.back.specs.Port.{HasFound}
 use Rattle.back.proofs.port.search.Given as goal
@@ -10,7 +10,7 @@ use Rattle.back.proofs.port.search.Given as goal
 abbrev pub invariant-loop-k : goal.invariant-loop-k
 invariant-loop-k l =
     record {
-      kept : IsSame l.fn.seat l.seat;
+      kept : IsSameSeat l.fn.seat l.seat;
       history : Adds l.core.program l.core.sizes l.fn.seat.by l.fn.seat.seen l.seat.seen [];
       woken : l.seat.woken ≡ l.fn.seat.woken;
       bound : l.k ≤ l.at;

@@ -34,7 +34,7 @@ returns-clause-none c =
     let address = c.in-Some.address in
     let index = c.info-index.result.0 in
     let b = subst (λ x. Adds d.program d.sizes x mid.seen new.seen []) (c.look-seen.ensures.kept.by ∙ c.requires.by) c.info-index.ensures.history in
-    let is = c.load_at.ensures ∙ ap (λ (Q : Program). load_of_index Q index seen.tag address) c.requires.program in
+    let is = c.load_at.ensures ∙ ap (λ (Q : Program). load_of_index Q index seen.tag address) c.program.ensures in
     if_none c.load_at.result (NoLoadWaits d.program d.sizes old.seen new.seen c.args.station) (λ e. none_read d.program d.sizes old.seen mid.seen new.seen a b c.args.station seen.tag seen.state
     seen.value c.look-seen.ensures.reply address (sym c.address.ensures ∙ c.in-Some.is) index (λ q t at_q st live. (c.info-index.ensures.reply.its q t at_q st live).0) (sym is ∙ e))
 
@@ -49,7 +49,7 @@ returns-clause-some c =
     let address = c.in-Some.address in
     let index = c.info-index.result.0 in
     let b = subst (λ x. Adds d.program d.sizes x mid.seen new.seen []) (c.look-seen.ensures.kept.by ∙ c.requires.by) c.info-index.ensures.history in
-    let is = c.load_at.ensures ∙ ap (λ (Q : Program). load_of_index Q index seen.tag address) c.requires.program in
+    let is = c.load_at.ensures ∙ ap (λ (Q : Program). load_of_index Q index seen.tag address) c.program.ensures in
     if_some c.load_at.result (λ l. SomeWaits d.program d.sizes old.seen new.seen c.args.station l) (λ l e. some_waits d.program d.sizes old.seen mid.seen new.seen a b c.args.station seen.tag
     seen.state seen.value c.look-seen.ensures.reply address (sym c.address.ensures ∙ c.in-Some.is) index (λ q t at_q st live. (c.info-index.ensures.reply.its q t at_q st live).0) l (sym is ∙ e))
 
@@ -64,5 +64,5 @@ returns-clause-inside c =
     let address = c.in-Some.address in
     let index = c.info-index.result.0 in
     let b = subst (λ x. Adds d.program d.sizes x mid.seen new.seen []) (c.look-seen.ensures.kept.by ∙ c.requires.by) c.info-index.ensures.history in
-    let is = c.load_at.ensures ∙ ap (λ (Q : Program). load_of_index Q index seen.tag address) c.requires.program in
+    let is = c.load_at.ensures ∙ ap (λ (Q : Program). load_of_index Q index seen.tag address) c.program.ensures in
     if_some c.load_at.result (λ l. l.address + width l.op ≤ length d.program.bytes) (λ l e. (load_says d.program index seen.tag address l (sym is ∙ e)).inside)

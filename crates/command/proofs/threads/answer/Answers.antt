@@ -1,4 +1,4 @@
-use Rattle.std.proofs.Common.{sym, string_bytes}
+use Rattle.std.proofs.Common.{string_bytes}
 use Rattle.isa.specs.Listing.{listing}
 use Rattle.command.proofs.ThreadAnswers.{pool_answers}
 use Rattle.command.proofs.threads.answer.Goals as goal
@@ -9,4 +9,4 @@ returns-in_ok-text-in-Ok-clause-ok g c =
     pool_answers c.args.asked.now (listing c.args.bytes.now) c.in-Ok.program c.predicted-run.result ended.end ended.tally
     c.of.result (string_bytes c.in_ok-text-in-Ok.text) c.written.result
     c.requires.threads c.in-Ok.ensures.ok c.predicted-run.ensures.right c.predicted-run.ensures.within c.predicted-run.ensures.turns
-    (sym ended.ensures) c.of.ensures c.in_ok-text-in-Ok.ensures c.written.ensures
+    ended.ensures c.of.ensures c.in_ok-text-in-Ok.ensures c.written.ensures

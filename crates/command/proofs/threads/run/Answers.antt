@@ -1,20 +1,28 @@
-use Rattle.std.proofs.Common.{◌∙◌, string_bytes}
-use Rattle.devices.specs.Counted.{Gives, GivesPart}
-use Rattle.without_threads.proofs.Answered.{answer_taken, on_write, part_taken}
+use Rattle.std.proofs.Common.{◌∙◌}
+use Rattle.devices.specs.Counted.{known_by, Gives, GivesPart}
+use Rattle.command.proofs.Answering.{answers_all, answers_all_somehow, has_read}
 use Rattle.command.proofs.threads.run.Goals as goal
 
-pub returns-in_err-write_whole-clause-part : goal.returns-in_err-write_whole-clause-part
-returns-in_err-write_whole-clause-part g c =
-    on_write _ (part_taken c.args.asked.now _ c.in_ok-listing.listing.items c.as_slice.result.now
-    (string_bytes c.in_ok-went.text) c.as_bytes.result.now c.in_ok-went.went
-    (GivesPart g.W.Write.contents c.args.writer.now c.write_whole.new.writer) c.in_ok-listing.ensures.ok
-    c.as_slice.ensures.value (c.as_bytes.ensures.value ∙ c.as_str.ensures.value) c.in_ok-went.ensures.ok
-    c.in_err-write_whole.ensures.err)
+pub returns-in-Ok-write_whole-clause-ok : goal.returns-in-Ok-write_whole-clause-ok
+returns-in-Ok-write_whole-clause-ok g c =
+    let taken = c.in-Ok.ensures in
+    let same = c.as_bytes.ensures.value ∙ c.as_str.ensures.value in
+    record {
+      read = has_read g.R.Read.remaining c.args.reader.now c.read_up_to.new.reader c.in-Ok.listing.items taken.ok taken.taken taken.quiet;
+      text = answers_all c.args.asked.now (known_by g.R.Read.remaining c.args.reader.now) c.in-Ok.listing.items _ _ _ _
+          (Gives g.W.Write.contents c.args.writer.now c.write_whole.new.writer) taken.ok c.as_slice.ensures.value same
+          c.in-Ok-answer.ensures.ok c.in-Ok-write_whole.ensures.ok;
+      quiet = c.in-Ok-write_whole.ensures.quiet;
+    }
 
-pub returns-clause-ok : goal.returns-clause-ok
-returns-clause-ok g c =
-    answer_taken c.args.asked.now _ c.in_ok-listing.listing.items c.as_slice.result.now
-    (string_bytes c.in_ok-went.text) c.as_bytes.result.now c.in_ok-went.went
-    (Gives g.W.Write.contents c.args.writer.now c.write_whole.new.writer) c.in_ok-listing.ensures.ok
-    c.as_slice.ensures.value (c.as_bytes.ensures.value ∙ c.as_str.ensures.value) c.in_ok-went.ensures.ok
-    c.in_ok-write_whole.ensures.ok
+pub returns-clause-err : goal.returns-clause-err
+returns-clause-err g c =
+    let taken = c.in-Ok.ensures in
+    let same = c.as_bytes.ensures.value ∙ c.as_str.ensures.value in
+    record {
+      read = has_read g.R.Read.remaining c.args.reader.now c.read_up_to.new.reader c.in-Ok.listing.items taken.ok taken.taken taken.quiet;
+      part = answers_all_somehow c.args.asked.now (known_by g.R.Read.remaining c.args.reader.now) c.in-Ok.listing.items _ _ _ _
+          (GivesPart g.W.Write.contents c.args.writer.now c.write_whole.new.writer) taken.ok c.as_slice.ensures.value same
+          c.in-Ok-answer.ensures.ok c.in-Err-write_whole.ensures.err;
+      failed = c.in-Err-write_whole.ensures.failed;
+    }

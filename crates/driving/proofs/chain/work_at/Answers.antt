@@ -2,7 +2,7 @@ use Rattle.std.proofs.Common.{◌≡◌, ◌<◌, length, sym, ap, ◌∙◌, su
 use Rattle.instructions.specs.Operations.{outcome_of as outcome_of_half}
 use Rattle.instructions.specs.Programs.{Program, instr_of}
 use Rattle.station.specs.declared.answers.Claim.TheVariants.{Job as Claimed, NotOpen}
-use Rattle.station.specs.Writeback.{outcome_of}
+use Rattle.station.specs.Writeback.{job_outcome}
 use Rattle.driving.proofs.WorkedOut.{is_job, works_out}
 use Rattle.driving.proofs.chain.work_at.Goals as goal
 
@@ -42,7 +42,7 @@ pub returns-clause-done : goal.returns-clause-done
 returns-clause-done c =
     let core = c.args.core.now in
     let job = c.in-Job.job in
-    let outcome : c.outcome_of-outcome.result ≡ outcome_of core.program job = c.outcome_of-outcome.ensures.value
+    let outcome : c.outcome_of-outcome.result ≡ job_outcome core.program job = c.outcome_of-outcome.ensures.value
     ∙ ((λ i. outcome_of_half (c.instr-instr.ensures i) job.half job.pc job.a job.b (c.size.ensures.value i))
     ∙ ap (λ (p : Program). outcome_of_half (instr_of p job.index) job.half job.pc job.a job.b (length p.bytes)) c.requires.program) in
     λ all done.

@@ -4,7 +4,7 @@ use Rattle.instructions.specs.Programs.{Program, instr_of}
 use Rattle.inorder.specs.History.{unit_of}
 use Rattle.inorder.specs.Unit.{front_pc}
 use Rattle.station.specs.declared.answers.Claim.TheVariants.{Job as Claimed, NotOpen}
-use Rattle.station.specs.Writeback.{outcome_of}
+use Rattle.station.specs.Writeback.{job_outcome}
 use Rattle.driving.proofs.Way.{comes_to, finishes, has_its_fields, is_right, its_job}
 use Rattle.driving.proofs.drive.work.Goals as goal
 
@@ -56,7 +56,7 @@ returns-clause-worked c =
     c.claim-answer.new.seat c.claim-answer.ensures.heirs c.args.station c.requires.station c.claim-answer.result c.claim-answer.ensures.reply
     c.gather-2.new.seats c.gather-2.ensures.met c.a_let_is_out.ensures c.a_ready_tenant_is_claimed.ensures in
     let fields = has_its_fields core.program t c.requires.values _ (front_pc U.tenants) c.claim-answer.result job j c.in-Job.is in
-    let outcome : c.outcome_of-outcome.result ≡ outcome_of core.program job = c.outcome_of-outcome.ensures.value
+    let outcome : c.outcome_of-outcome.result ≡ job_outcome core.program job = c.outcome_of-outcome.ensures.value
     ∙ ((λ i. outcome_of_half (c.instr-instr.ensures i) job.half job.pc job.a job.b (c.size.ensures.value i))
     ∙ ap (λ (p : Program). outcome_of_half (instr_of p job.index) job.half job.pc job.a job.b (length p.bytes)) c.requires.program) in
     let law = c.a_job_is_finished.ensures in

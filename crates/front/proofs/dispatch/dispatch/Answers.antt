@@ -68,7 +68,9 @@ ask-requires-clause-may c =
     may_ask P C new f.station tag First c.supply-first.result _ (small_creator P C old c.requires.legal records base c.requires.ready f next c.args.predicted (c.saturating_sub-index.result / 4)
     c.ranges.predicted.fits c.requires.fixed x first_small second_small c.supply-first.result c.supply-second.result first_is second_is (first_of f.instr) first_small c.supply-first.result
     first_is)
-    (λ a g e. let p = first_pends P C old c.requires.legal records base c.requires.ready f next c.args.predicted (c.saturating_sub-index.result / 4) c.ranges.predicted.fits c.requires.fixed x first_small second_small c.supply-first.result c.supply-second.result first_is second_is new adds tag c.let_out-tag.ensures.reply a g e in (p.q, p.pending))
+    (λ a g e. let p = first_pends P C old c.requires.legal records base c.requires.ready f next c.args.predicted (c.saturating_sub-index.result / 4)
+    c.ranges.predicted.fits c.requires.fixed x first_small second_small c.supply-first.result c.supply-second.result first_is second_is new adds tag c.let_out-tag.ensures.reply a g e in
+    (p.q, p.pending))
 
 pub ask-requires-2-clause-may : goal.ask-requires-2-clause-may
 ask-requires-2-clause-may c =
@@ -100,7 +102,9 @@ ask-requires-2-clause-may c =
     may_ask P C c.ask.new.seat.seen f.station tag Second c.supply-second.result _ (small_creator P C old c.requires.legal records base c.requires.ready f next c.args.predicted
     (c.saturating_sub-index.result / 4) c.ranges.predicted.fits c.requires.fixed x first_small second_small c.supply-first.result c.supply-second.result first_is second_is (second_of f.instr)
     second_small c.supply-second.result second_is)
-    (λ a g e. let p = second_pends P C old c.requires.legal records base c.requires.ready f next c.args.predicted (c.saturating_sub-index.result / 4) c.ranges.predicted.fits c.requires.fixed x first_small second_small c.supply-first.result c.supply-second.result first_is second_is new adds tag c.let_out-tag.ensures.reply a g e in (p.q, second_still P C new c.ask.new.seat.seen f.station tag c.supply-first.result c.ask.ensures.reply _ p.q a g p.pending))
+    (λ a g e. let p = second_pends P C old c.requires.legal records base c.requires.ready f next c.args.predicted (c.saturating_sub-index.result / 4)
+    c.ranges.predicted.fits c.requires.fixed x first_small second_small c.supply-first.result c.supply-second.result first_is second_is new adds tag c.let_out-tag.ensures.reply a g e in
+    (p.q, second_still P C new c.ask.new.seat.seen f.station tag c.supply-first.result c.ask.ensures.reply _ p.q a g p.pending))
 
 pub returns-clause-reply : goal.returns-clause-reply
 returns-clause-reply c =

@@ -1,7 +1,7 @@
 -- Squashes from the tail on.
 use Rattle.std.proofs.Common.{◌≡◌, ◌<◌, ◌+◌, ◌-◌, [], ◌∷◌, ◌++◌, length, take, sym, ap, ◌∙◌, subst, arith, length-append}
 use Rattle.inorder.specs.History.{front, unit_of}
-use Rattle.station.specs.Recovery.{IsSquashed}
+use Rattle.station.specs.Recovery.{WasSquashed}
 use Rattle.front.specs.Knows.{FrontKnows}
 use Rattle.front.specs.Recoveries.{IsMissAt}
 use Rattle.front.proofs.FirstMiss.{take_fewer}
@@ -38,7 +38,7 @@ loop-missed-preserved c =
     let same : c.pop.new.self ≡ one.rest = c.pop.ensures.rest ∙ sym one.rest_is in
     let knows : FrontKnows P C (unit_of P C old) (one.rest ++ one.last ∷ []) base = subst (λ z. FrontKnows P C (unit_of P C old) z base) one.is inv.knows in
     let miss : IsMissAt P C old (one.rest ++ one.last ∷ []) m = subst (λ z. IsMissAt P C old z m) one.is inv.miss in
-    let squashed : IsSquashed P C front c.squash-station.result.0 c.squash-station.result.1 old new = subst (λ i. IsSquashed P C i c.squash-station.result.0 c.squash-station.result.1 old new)
+    let squashed : WasSquashed P C front c.squash-station.result.0 c.squash-station.result.1 old new = subst (λ i. WasSquashed P C i c.squash-station.result.0 c.squash-station.result.1 old new)
     (inv.same.by ∙ c.requires.by) c.squash-station.ensures.reply in
     let done = squash_done P C old new one.rest one.last base knows m miss (subst (λ z. m.at + 1 < length z) one.is many) c.squash-station.result.0 c.squash-station.result.1 squashed in
     let kept = c.squash-station.ensures.kept in

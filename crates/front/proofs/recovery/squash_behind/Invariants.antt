@@ -4,14 +4,14 @@ use Rattle.front.specs.Path.{rested_at}
 use Rattle.front.specs.CreateTable.{HasTable, IsTouched}
 use Rattle.front.specs.Knows.{FrontKnows}
 use Rattle.front.specs.Recoveries.{IsCut, IsMissAt}
-use Rattle.station.specs.Seats.{IsSame}
+use Rattle.station.specs.Seats.{IsSameSeat}
 use Rattle.front.proofs.recovery.squash_behind.Given as goal
 
 abbrev pub invariant-loop-missed : goal.invariant-loop-missed
 invariant-loop-missed l =
     record {
       core : l.seat.core ≡ l.core;
-      same : IsSame l.fn.seat l.seat;
+      same : IsSameSeat l.fn.seat l.seat;
       legal : IsLegal l.core.program l.core.sizes l.seat.seen;
       cut : IsCut l.core.program l.core.sizes l.fn.seat.seen l.seat.seen (l.all - length l.path.records);
       knows : FrontKnows l.core.program l.core.sizes (unit_of l.core.program l.core.sizes l.seat.seen) l.path.records l.path.base;

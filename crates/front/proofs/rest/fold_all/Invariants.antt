@@ -3,7 +3,7 @@ use Rattle.inorder.specs.History.{front, unit_of}
 use Rattle.inorder.specs.OneHistory.{Adds}
 use Rattle.front.specs.Folding.{IsFolding}
 use Rattle.front.specs.Rests.{TellsFirst}
-use Rattle.station.specs.Seats.{IsSame}
+use Rattle.station.specs.Seats.{IsSameSeat}
 use Rattle.station.specs.Renewals.{HasNobody}
 use Rattle.front.proofs.rest.fold_all.Given as goal
 
@@ -11,7 +11,7 @@ abbrev pub invariant-loop-oldest : goal.invariant-loop-oldest
 invariant-loop-oldest g l =
     record {
       core : l.seat.core ≡ l.core;
-      same : IsSame l.fn.seat l.seat;
+      same : IsSameSeat l.fn.seat l.seat;
       adds : Adds l.core.program l.core.sizes front l.fn.seat.seen l.seat.seen [];
       folding : IsFolding l.core l.seat.seen l.path;
       nobody : HasNobody (unit_of l.core.program l.core.sizes l.seat.seen);

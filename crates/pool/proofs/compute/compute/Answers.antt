@@ -3,8 +3,8 @@ use Rattle.instructions.specs.Programs.{Program}
 use Rattle.pool.proofs.compute.compute.Goals as goal
 
 pub instr-instr-requires : goal.instr-instr-requires
-instr-instr-requires g c =
+instr-instr-requires c =
     let core = c.args.core.now in
     let seat = c.args.seat.now in
-    subst (λ (P : Program). c.args.job.index < length P.code) (sym c.requires.program)
+    subst (λ (P : Program). c.args.job.index < length P.code) (sym c.program-program.ensures)
     (c.a_job_is_of_the_program.ensures core.program core.sizes seat.by seat.seen c.args.job c.requires.legal c.requires.job)

@@ -6,7 +6,6 @@ pub in_threads-requires-clause-ready : goal.in_threads-requires-clause-ready
 in_threads-requires-clause-ready g c κs within =
     let made : c.in_ok-back.back.core ≡ c.in_ok-core.core = search (rules, c.in_ok-back.ensures) in
     record {
-      program_is = search rules;
       ring_is = search rules;
       begins = search rules;
       unit_is = search rules;

@@ -1,22 +1,19 @@
-use Rattle.std.proofs.Common.{sym, subst, IfSome}
-use Rattle.devices.specs.Counted.{Gives, GivesPart}
-use Rattle.without_threads.specs.Answers.{HasAnswer}
-use Rattle.without_threads.specs.declared.went.Went.{Went}
-use Rattle.without_threads.proofs.Answered.{alone_answers, alone_begins, part_of}
+use Rattle.bench.specs.Answer.{IsAnswerAlone, most_taken}
+use Rattle.devices.proofs.Replied.{replied_as}
+use Rattle.without_threads.specs.Answers.{IsAnswerTo}
+use Rattle.without_threads.specs.Went.{written_whole}
+use Rattle.without_threads.specs.declared.went.Line.TheVariants.{Nothing}
+use Rattle.without_threads.proofs.Answered.{alone_answers, alone_begins}
 use Rattle.without_threads.proofs.one_thread.run.Goals as goal
 
-pub returns-in_err-status-clause-part : goal.returns-in_err-status-clause-part
-returns-in_err-status-clause-part g c =
-    part_of c.from_residual.result c.in_err-status.field-0.0 c.from_residual.ensures.1 (λ is.
-    alone_begins c.args.asked.now c.requires.alone (g.R.Read.remaining c.args.reader.now.inner)
-    (GivesPart g.W.Write.contents c.args.writer.now c.predicted.new.writer)
-    (c.in_err-status.ensures.part is))
+pub returns-in-Ok-clause-ok : goal.returns-in-Ok-clause-ok
+returns-in-Ok-clause-ok g c =
+    let asked = c.args.asked.now in
+    rw c.written.ensures (replied_as g.R.Read.remaining g.W.Write.contents most_taken _ _ _ _
+    (IsAnswerAlone asked.config.limit c.in-Ok.status) (IsAnswerTo asked (written_whole c.in-Ok.status Nothing))
+    (alone_answers asked c.requires.alone c.in-Ok.status) c.in-Ok.ensures.ok)
 
-pub returns-clause-ok : goal.returns-clause-ok
-returns-clause-ok g c =
-    let known = g.R.Read.remaining c.args.reader.now.inner in
-    let gives = Gives g.W.Write.contents c.args.writer.now c.predicted.new.writer in
-    subst (λ (went : Went). IfSome known (λ input. HasAnswer c.args.asked.now input went gives))
-    (sym c.written.ensures)
-    (alone_answers c.args.asked.now c.requires.alone known c.in_ok-status.status gives
-    c.in_ok-status.ensures.status c.in_ok-status.ensures.text)
+pub returns-in-Err-Write-clause-err : goal.returns-in-Err-Write-clause-err
+returns-in-Err-Write-clause-err g c =
+    alone_begins g.R.Read.remaining g.W.Write.contents _ _ _ _ c.args.asked.now c.requires.alone
+    c.in-Err-Write.field-0 c.in-Err-Write.field-0-is c.in-Err-Write.ensures.err

@@ -11,7 +11,7 @@ returns-clause-in_order g c =
     let b = c.self.inside in
     let P = g.J.Naming.program in
     let k = c.self.invariant in
-    let unit = plain P b.program b.committed b.low b.head b.ended b.publisher b.seat k in
+    let unit = plain P b.committed b.low b.head b.ended b.publisher b.seat k in
     let after_it = after_is P b.seat.core.sizes b.seat.seen k.legal b.committed b.low b.head b.ended unit in
     let stops = outcome_stops P b.seat.core.sizes b.seat.seen k.legal b.committed b.low b.head b.ended unit in
     record {

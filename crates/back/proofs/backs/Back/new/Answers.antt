@@ -17,7 +17,7 @@ invariant_of-back g c =
     } in
     let program = ap (λ (d : TheCore). d.program) c.requires.core ∙ (sym c.requires.program ∙ c.requires.named) in
     new_kept P seat seat program c.a_number_is_of_its_part.ensures c.requires.fresh refl refl refl adds
-    c.in-Ok.program c.in-Ok.committed c.in-Ok.publisher (c.in-Ok.ensures.program ∙ c.requires.named) (c.in-Ok.ensures.committed ∙ ap start c.requires.named) c.in-Ok.ensures.publisher
+    c.in-Ok.committed c.in-Ok.publisher (c.in-Ok.ensures.committed ∙ ap start c.requires.named) c.in-Ok.ensures.publisher
 
 pub returns-in-Ok-clause-ok : goal.returns-in-Ok-clause-ok
 returns-in-Ok-clause-ok g c =
@@ -31,4 +31,4 @@ returns-in-Ok-clause-ok g c =
     } in
     let program = ap (λ (d : TheCore). d.program) c.requires.core ∙ (sym c.requires.program ∙ c.requires.named) in
     is_new P seat seat program c.a_number_is_of_its_part.ensures c.requires.fresh refl refl refl adds
-    c.in-Ok.program c.in-Ok.committed c.in-Ok.publisher (c.in-Ok.ensures.program ∙ c.requires.named) (c.in-Ok.ensures.committed ∙ ap start c.requires.named) c.in-Ok.ensures.publisher
+    c.in-Ok.committed c.in-Ok.publisher (c.in-Ok.ensures.committed ∙ ap start c.requires.named) c.in-Ok.ensures.publisher

@@ -6,5 +6,8 @@ use Rattle.counts.proofs.totals.Counts.raise.Goals as goal
 
 pub fetch_add-requires : goal.fetch_add-requires
 fetch_add-requires c =
-    let total = c.args.total in
-    (search rules, (let w = c.self.invariant in let i = c.word-word.ensures.inside in omega arith), adds_word _ _ _ _ (position_of total) _ c.word-word.ensures.value (position_small total) c.requires.part)
+    let total = c.args.total in (
+      search rules,
+      (let w = c.self.invariant in let i = c.word-word.ensures.inside in omega arith),
+      adds_word _ _ _ _ (position_of total) _ c.word-word.ensures.value (position_small total) c.requires.part,
+    )

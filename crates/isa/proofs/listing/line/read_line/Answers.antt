@@ -1,4 +1,5 @@
-use Rattle.std.proofs.Common.{ℕ, List, Option, Bor, ◌∙◌, refl, sym, ap, arith}
+use Rattle.std.proofs.Common.{ℕ, List, Option, Result, Ok, Err, Bor, ◌∙◌, refl, sym, ap, arith}
+use Rattle.std.specs.Prelude.{OnOk, IfErr}
 use Rattle.std.specs.Option.{option_map}
 use Rattle.std.proofs.lemmas.Result.{err_from_is_err_and}
 use Rattle.isa.specs.Statement.{statement}
@@ -9,6 +10,14 @@ use Rattle.isa.proofs.listing.line.read_line.Goals as goal
 
 abbrev text_of : Option (Bor (List ℕ)) → Option (List ℕ)
 text_of source = option_map (λ t. t.now) source
+
+err_more : {X E : Type 0} (r : Result X E) (P Q : E → Type 0) → IfErr r P → ((e : E) → P e → Q e) → IfErr r Q
+err_more (Ok x) P Q h f = h
+err_more (Err e) P Q h f = f e h
+
+ok_by_three : {X E : Type 0} (r : Result X E) (P Q R S : Type 0) → OnOk r P → OnOk r Q → OnOk r R → (P → Q → R → S) → OnOk r S
+ok_by_three (Ok x) P Q R S p q r f = f p q r
+ok_by_three (Err e) P Q R S p q r f = p
 
 pub returns-in_err-text-clause-fault : goal.returns-in_err-text-clause-fault
 returns-in_err-text-clause-fault c =
@@ -41,18 +50,21 @@ returns-then-not-found-clause-ok c = λ before line given n is.
     reads_none before _ _ _ _ _ _ _ is code.0 code.1 _
     (omega (arith, c.len-index.ensures)) _ c.in_ok-rest.ensures.added _ added (omega arith) (omega arith)
 
-pub returns-then-index-ge-MOST_INSTRUCTIONS-clause-fault : goal.returns-then-index-ge-MOST_INSTRUCTIONS-clause-fault
-returns-then-index-ge-MOST_INSTRUCTIONS-clause-fault c = λ _ before line given is.
+pub returns-clause-fault : goal.returns-clause-fault
+returns-clause-fault c = err_more c.add_instruction.result _ _ c.add_instruction.ensures.fault (λ e told apart before line given is.
     let code = code_given line _ (sym given ∙ ap text_of c.in_ok-text.ensures.ok_part) in
     let added = rw (c.in_ok-rest.ensures.ok, c.if-not-found.false) at c.in_ok-found.ensures.ok in
-    fault_long_code before _ _ _ _ _ _ _ is code.0 code.1 _
-    (omega (arith, c.len-index.ensures)) _ c.in_ok-rest.ensures.added _ _ added (omega (arith, c.len-index.ensures))
+    let full = told apart in
+    rw full.0
+    (fault_long_code before _ _ _ _ _ _ _ is code.0 code.1 _
+    (omega (arith, c.len-index.ensures)) _ c.in_ok-rest.ensures.added _ _ added (omega (arith, full.1))))
 
 pub returns-clause-ok : goal.returns-clause-ok
-returns-clause-ok c = λ before line given n is.
+returns-clause-ok c =
+    let told = c.add_instruction.ensures in
+    ok_by_three c.add_instruction.result _ _ _ _ told.room told.ok told.target (λ room pushed noted before line given n is.
     let code = code_given line _ (sym given ∙ ap text_of c.in_ok-text.ensures.ok_part) in
     let added = rw (c.in_ok-rest.ensures.ok, c.if-not-found.false) at c.in_ok-found.ensures.ok in
-    rw (c.in_ok-push.ensures.items, c.in_ok-push-2.ensures.items)
+    rw (pushed, noted)
     (reads_some before _ _ _ _ _ _ _ is code.0 code.1 _
-    (omega (arith, c.len-index.ensures)) _ c.in_ok-rest.ensures.added _ _ _ (c.from.ensures ∙ sym n) added
-    (omega (arith, c.len-index.ensures)) (omega arith))
+    (omega (arith, c.len-index.ensures)) _ c.in_ok-rest.ensures.added _ _ _ (sym n) added (omega (arith, room, c.len-index.ensures)) (omega arith)))

@@ -3,5 +3,5 @@ use Rattle.isa.specs.Needed.{needed_of}
 use Rattle.isa.proofs.listing.needed.add_needed.Given as goal
 
 -- those of the entries so far are added
-abbrev pub invariant-loop-entry : goal.invariant-loop-entry
-invariant-loop-entry l = l.some.items ≡ needed_of l.all (take l.entry-index l.entries)
+abbrev pub invariant-loop-i : goal.invariant-loop-i
+invariant-loop-i l = l.some.items ≡ needed_of l.all (take l.i l.entries)

@@ -1,7 +1,7 @@
 use Rattle.std.proofs.Common.{◌≡◌, ℕ, List, ◌++◌, refl, sym, ◌∙◌, subst}
 use Rattle.inorder.specs.declared.history.Entry.{Entry}
 use Rattle.ruu_words.specs.declared.place.Place.TheVariants.{Station}
-use Rattle.ruu_words.specs.Fields.{tag_of, value_of}
+use Rattle.ruu_words.specs.Fields.{tag_of, word_value}
 use Rattle.station.specs.Recovery.{HasMiss}
 use Rattle.station.specs.Steps.{Sees}
 use Rattle.station.proofs.Calls.{Of, caller_at, joined, legal_at, next_kept, of_one, only_looked, taken}
@@ -33,7 +33,7 @@ mend_tenant-requires-clause-miss c =
     let found = miss_word P C h looked.legal c.args.station tag next c.look-found.result miss1 c.look-found.ensures.grows.kind.content in
     let done = c.done_word-done.result in
     let tag_is : tag_of done ≡ tag = c.done_word-done.ensures.tag ∙ (c.tag_in-tag.ensures.value ∙ found.0) in
-    let next_is : value_of done ≡ next = c.done_word-done.ensures.value ∙ (c.value_in-next.ensures ∙ found.1) in
+    let next_is : word_value done ≡ next = c.done_word-done.ensures.value ∙ (c.value_in-next.ensures ∙ found.1) in
     subst (λ (z : Of × (List Entry × (ℕ × ℕ))). HasMiss z.0.0.program z.0.0.sizes z.1.0 c.args.station z.1.1.0 z.1.1.1)
     (λ i. (sym (of_one v c.look-found.new.self c.look-found.ensures.same) i, (sym looked.is i, (sym tag_is i, sym next_is i)))) miss1
 

@@ -1,5 +1,5 @@
 use Rattle.std.proofs.Common.{◌∙◌, refl, arith}
-use Rattle.ruu_words.specs.Fields.{tag_of, value_of}
+use Rattle.ruu_words.specs.Fields.{tag_of, word_value}
 use Rattle.ruu_words.specs.Kinds.{IsAny}
 use Rattle.station.specs.Asking.{IsAsking}
 use Rattle.station.specs.Wakeup.{CanAnswer, HasAskedFrom}
@@ -95,7 +95,7 @@ take_value-requires-clause-answer c =
     let on2 = joined c.store_link.ensures.same c.look_at_creator-found.ensures.same in
     let made = c.shows_value.ensures.made c.if-not-shows_value.false in
     let can = answered_by P C found c.waiting_word-old.ensures.tag (c.value_word-new.ensures.value ∙ c.value_in-value.ensures) by_is x e made in
-    after (λ z. CanAnswer z.0.program z.0.sizes c.look_at_creator-found.new.self.view.seen c.args.of.0 (tag_of c.waiting_word-old.result) c.args.k (value_of c.value_word-new.result)) on2 can
+    after (λ z. CanAnswer z.0.program z.0.sizes c.look_at_creator-found.new.self.view.seen c.args.of.0 (tag_of c.waiting_word-old.result) c.args.k (word_value c.value_word-new.result)) on2 can
 
 pub returns : goal.returns
 returns c =

@@ -1,7 +1,7 @@
 use Rattle.std.proofs.Common.{◌≡◌, ℕ, [], refl, sym, ◌∙◌, subst, arith}
 use Rattle.ruu_words.specs.declared.place.Place.TheVariants.{Station}
 use Rattle.ruu_words.specs.declared.rule.Role.TheVariants.{Back}
-use Rattle.ruu_words.specs.Fields.{tag_of, value_of}
+use Rattle.ruu_words.specs.Fields.{tag_of, word_value}
 use Rattle.ruu_words.specs.Kinds.{IsAny, Settles}
 use Rattle.ruu_words.specs.Views.{IsCaller}
 use Rattle.ruu_words.specs.Telling.{Grows}
@@ -38,7 +38,7 @@ settle_tenant-found-requires-clause-load c =
     let v1 = c.look-seen.new.self.view in
     let can = can_settle P C v.view.by c.args.station c.args.tag c.args.value c.look-seen.result v.view v1 role0 c.requires c.look-seen.ensures.grows in
     let old = c.address_word-old in
-    let address : value_of old.result ≡ value_of c.look-seen.result = old.ensures.value ∙ c.value_in-address.ensures in
+    let address : word_value old.result ≡ word_value c.look-seen.result = old.ensures.value ∙ c.value_in-address.ensures in
     subst (λ (z : Of × (ℕ × (ℕ × ℕ))). CanSettle z.0.0.program z.0.0.sizes v1.seen c.args.station z.1.0 z.1.1.0 z.1.1.1)
     (λ i. (sym (of_one v c.look-seen.new.self c.look-seen.ensures.same) i, (sym old.ensures.tag i, (sym address i, sym c.done_word-new.ensures.value i)))) can
 
@@ -64,7 +64,7 @@ returns-then-found-old c =
     record {
       same = joined c.look-seen.ensures.same c.settle_tenant-found.ensures.same;
       reply = stale_after P C v.view.by c.args.station c.args.tag v.view.seen v1.seen w.seen seen
-          (settle_stale P C v.view.by c.args.station c.args.tag (value_of c.look-seen.result) c.args.value old n v1 w role caller can step c.if-found-old.true);
+          (settle_stale P C v.view.by c.args.station c.args.tag (word_value c.look-seen.result) c.args.value old n v1 w role caller can step c.if-found-old.true);
       woken = has_woken_none P C v.view.by v.view.seen w.seen (wakes_settled P C v.view.by v.view.by c.args.station (tag_of old) old n v.view.seen at.view w refl looked took);
     }
 
@@ -85,7 +85,7 @@ walk-woken-requires-clause-made c =
     let caller : IsCaller v1.role v.view.by = subst (λ r. IsCaller r v.view.by) (sym e1.role) e1.kind.caller in
     let core : c.settle_tenant-found.new.self.core ≡ v.core = c.settle_tenant-found.ensures.same.core ∙ c.look-seen.ensures.same.core in
     subst (λ (k : TheCore). HasValueOf k.program k.sizes w.seen c.args.station c.args.tag c.args.value) (sym core)
-    (settle_made P C v.view.by c.args.station c.args.tag (value_of c.look-seen.result) c.args.value old n v1 w role caller can step c.if-found-old.false)
+    (settle_made P C v.view.by c.args.station c.args.tag (word_value c.look-seen.result) c.args.value old n v1 w role caller can step c.if-found-old.false)
 
 pub returns : goal.returns
 returns c =
@@ -103,7 +103,7 @@ returns c =
     let step = subst (λ t. Grows P C v.view.by v1 w (Settles P C c.args.station t old n)) c.address_word-old.ensures.tag (taken c.look-seen.ensures.same c.settle_tenant-found.ensures) in
     let role : v1.role ≡ Back = e1.role ∙ role0 in
     let caller : IsCaller v1.role v.view.by = subst (λ r. IsCaller r v.view.by) (sym e1.role) e1.kind.caller in
-    let out = settle_out P C v.view.by c.args.station c.args.tag (value_of c.look-seen.result) c.args.value old n v1 w role caller can step c.if-found-old.false in
+    let out = settle_out P C v.view.by c.args.station c.args.tag (word_value c.look-seen.result) c.args.value old n v1 w role caller can step c.if-found-old.false in
     let id = c.settle_tenant-found.ensures.same.by ∙ c.look-seen.ensures.same.by in
     let core : c.settle_tenant-found.new.self.core ≡ v.core = c.settle_tenant-found.ensures.same.core ∙ c.look-seen.ensures.same.core in
     let at = c.look-seen.new.self in

@@ -3,7 +3,7 @@ use Rattle.std.proofs.Common.{◌≡◌, None, refl, sym, subst}
 use Rattle.unit.specs.Givers.{NoneGives}
 use Rattle.unit.specs.Notes.{miss_in}
 use Rattle.unit.specs.Stages.{CanLet, NextIs}
-use Rattle.unit.specs.StandsFor.{IsUnit}
+use Rattle.unit.specs.StandsFor.{StandsForSome}
 use Rattle.unit.specs.Turns.{Falls, IsTurn}
 use Rattle.unit.specs.declared.bench.Turn.TheVariants.{Let, Recovered}
 use Rattle.unit.proofs.BenchTurns.{fields, guess_fixed, let_bench, let_shows, plain_turn, recovered_shows}
@@ -35,7 +35,7 @@ invariant_of-self-in-Some-next g c =
     let b = c.recovers.new.self in
     let same = c.if-recovers.ensures.same in
     let next = c.in-Some-next.next in
-    let unit : IsUnit b = subst IsUnit (sym same) c.self.invariant in
+    let unit : StandsForSome b = subst StandsForSome (sym same) c.self.invariant in
     let none : b.over ≡ None = subst (λ x. x.over ≡ None) (sym same) c.in_default.is in
     let miss : NoneGives miss_in b.window = subst (λ x. NoneGives miss_in x.window) (sym same) c.if-recovers.ensures.window in
     let can : CanLet b.program.now b.ring b.queue b.committed.pc b.low b.window next = subst (NextIs b.program.now b.ring b.queue b.committed.pc b.low b.window) c.in-Some-next.is c.next.ensures in
@@ -50,7 +50,7 @@ returns-in-Some-next-clause-falls g c =
     let b = c.recovers.new.self in
     let same = c.if-recovers.ensures.same in
     let next = c.in-Some-next.next in
-    let unit : IsUnit b = subst IsUnit (sym same) c.self.invariant in
+    let unit : StandsForSome b = subst StandsForSome (sym same) c.self.invariant in
     let none : b.over ≡ None = subst (λ x. x.over ≡ None) (sym same) c.in_default.is in
     let miss : NoneGives miss_in b.window = subst (λ x. NoneGives miss_in x.window) (sym same) c.if-recovers.ensures.window in
     let can : CanLet b.program.now b.ring b.queue b.committed.pc b.low b.window next = subst (NextIs b.program.now b.ring b.queue b.committed.pc b.low b.window) c.in-Some-next.is c.next.ensures in
@@ -65,7 +65,7 @@ returns-in-Some-next-clause-turn g c =
     let b = c.recovers.new.self in
     let same = c.if-recovers.ensures.same in
     let next = c.in-Some-next.next in
-    let unit : IsUnit b = subst IsUnit (sym same) c.self.invariant in
+    let unit : StandsForSome b = subst StandsForSome (sym same) c.self.invariant in
     let none : b.over ≡ None = subst (λ x. x.over ≡ None) (sym same) c.in_default.is in
     let miss : NoneGives miss_in b.window = subst (λ x. NoneGives miss_in x.window) (sym same) c.if-recovers.ensures.window in
     let can : CanLet b.program.now b.ring b.queue b.committed.pc b.low b.window next = subst (NextIs b.program.now b.ring b.queue b.committed.pc b.low b.window) c.in-Some-next.is c.next.ensures in

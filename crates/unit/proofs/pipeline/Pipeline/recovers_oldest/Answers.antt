@@ -3,7 +3,7 @@ use Rattle.std.proofs.lemmas.List.{take_more_set}
 use Rattle.unit.specs.Givers.{FirstGives}
 use Rattle.unit.specs.Notes.{AreNoted, miss_in}
 use Rattle.unit.specs.Stages.{FirstMiss}
-use Rattle.unit.specs.Window.{mended}
+use Rattle.unit.specs.Window.{station_mended}
 use Rattle.unit.proofs.Noted.{noted_mended}
 use Rattle.unit.proofs.pipeline.Pipeline.recovers_oldest.Goals as goal
 
@@ -19,7 +19,7 @@ returns-clause-noted c =
     let b = c.args.self.now in
     let W = b.window in
     let at = c.in-Some.miss.at in
-    let y = mended c.in-Some-at.station c.in-Some.miss.next in
+    let y = station_mended c.in-Some-at.station c.in-Some.miss.next in
     let first : FirstGives miss_in W at c.in-Some.miss.next = subst (FirstMiss W) c.in-Some.is c.oldest_miss.ensures in
     let is : c.cut.new.self ≡ take at W ++ y ∷ [] = c.cut.ensures ∙ ap (take (at + 1)) c.put.ensures ∙ take_more_set W at y first.inside in
     subst (AreNoted false c.min-self.result) (sym is)

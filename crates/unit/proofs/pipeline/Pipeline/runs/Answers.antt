@@ -1,11 +1,24 @@
-use Rattle.std.proofs.Common.{◌≡◌, Some, sym, ap, ◌∙◌, subst}
+use Rattle.std.proofs.Common.{◌≡◌, false, Some, sym, ap, ◌∙◌, subst}
 use Rattle.std.specs.Prelude.{option_copied, slice_get}
 use Rattle.unit.specs.Changes.{registers_of}
-use Rattle.unit.specs.Notes.{AreNoted}
+use Rattle.unit.specs.Givers.{NoneGives}
+use Rattle.unit.specs.Notes.{AreNoted, AreSettled, miss_in}
 use Rattle.unit.specs.Stages.{FirstReady}
-use Rattle.unit.specs.Window.{advanced}
+use Rattle.unit.specs.Window.{further_on}
 use Rattle.unit.proofs.Noted.{noted_ran}
 use Rattle.unit.proofs.pipeline.Pipeline.runs.Goals as goal
+
+pub settled-self-requires : goal.settled-self-requires
+settled-self-requires c =
+    let b = c.args.self.now in
+    let at = c.in-Some.ready.at in
+    let w = c.in-Some-peek.station.now in
+    let is : slice_get b.window at ≡ Some w = sym c.peek.ensures ∙ ap option_copied c.in-Some-peek.is in
+    let ready = subst (λ s. FirstReady s.registers b.window c.oldest_ready.result) c.ahead.ensures c.oldest_ready.ensures in
+    let first = subst (FirstReady (registers_of b) b.window) c.in-Some.is ready in
+    let y = further_on w c.stage_after-stage.result c.made_after-made.result in
+    let noted = noted_ran (registers_of b) b.missed b.settled at b.window w y c.in-Some.ready.operands is first.here c.requires in
+    subst (AreSettled b.settled) (sym (c.advance.ensures w is)) noted.are_settled
 
 pub returns-clause-noted : goal.returns-clause-noted
 returns-clause-noted c =
@@ -15,6 +28,7 @@ returns-clause-noted c =
     let is : slice_get b.window at ≡ Some w = sym c.peek.ensures ∙ ap option_copied c.in-Some-peek.is in
     let ready = subst (λ s. FirstReady s.registers b.window c.oldest_ready.result) c.ahead.ensures c.oldest_ready.ensures in
     let first = subst (FirstReady (registers_of b) b.window) c.in-Some.is ready in
-    let y = advanced w c.stage_after-stage.result c.made_after-made.result in
-    let noted = noted_ran (registers_of b) b.missed b.settled c.settled-self.result at b.window w y c.in-Some.ready.operands is first.here c.requires c.settled-self.ensures in
-    subst (λ m. AreNoted m c.settled-self.result c.advance.new.self) (sym c.missed_by-self.ensures) (subst (AreNoted _ c.settled-self.result) (sym (c.advance.ensures w is)) noted)
+    let y = further_on w c.stage_after-stage.result c.made_after-made.result in
+    let noted = noted_ran (registers_of b) b.missed b.settled at b.window w y c.in-Some.ready.operands is first.here c.requires in
+    let later = subst (AreNoted _ b.settled) (sym (c.advance.ensures w is)) noted in
+    record { no_miss = subst (λ m. m ≡ false → NoneGives miss_in c.advance.new.self) (sym c.missed_by-self.ensures) later.no_miss; are_settled = c.settled-self.ensures }

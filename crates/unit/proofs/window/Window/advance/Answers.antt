@@ -2,10 +2,10 @@ use Rattle.std.proofs.Common.{◌≡◌, ◌<◌, length, set, get_or, Some, sym
 use Rattle.std.specs.Prelude.{slice_get}
 use Rattle.unit.specs.Creators.{IsWindow}
 use Rattle.unit.specs.Slots.{ring_of}
-use Rattle.unit.specs.Window.{accesses, advanced}
+use Rattle.unit.specs.Window.{accesses, further_on}
 use Rattle.unit.proofs.Accesses.{count_put}
 use Rattle.unit.proofs.Slots.{ring_get, ring_length, ring_set}
-use Rattle.unit.proofs.WindowKept.{advanced_same, advanced_twice, slot_gives, window_put}
+use Rattle.unit.proofs.WindowKept.{further_same, further_twice, slot_gives, window_put}
 use Rattle.unit.proofs.window.Window.advance.Goals as goal
 
 pub invariant_of-self : goal.invariant_of-self
@@ -18,12 +18,12 @@ invariant_of-self c =
     let slot : k < length s.stations = omega (arith, c.slot_of-slot.ensures.small, h.every_station) in
     let w = get_or s.stations k c.index-self-slot.result in
     let there : slice_get s.stations k ≡ Some w = slot_gives s.stations k c.index-self-slot.result slot in
-    let x = advanced w c.args.stage c.args.made in
+    let x = further_on w c.args.stage c.args.made in
     let is : slice_get (ring_of s.stations s.start s.len) c.args.i ≡ Some w =
     ring_get s.stations s.start s.len c.args.i h.every_station h.begins h.most inside ∙ ap (slice_get s.stations) (sym c.slot_of-slot.ensures.value) ∙ there in
-    let same = advanced_same (slice_get (ring_of s.stations s.start s.len) c.args.i) w c.args.stage c.args.made is in
+    let same = further_same (slice_get (ring_of s.stations s.start s.len) c.args.i) w c.args.stage c.args.made is in
     subst (λ l. IsWindow l s.creators s.newest s.start s.len × (s.accesses ≡ accesses (ring_of l s.start s.len) s.len))
-    (sym (advanced_twice s.stations k c.index-self-slot.result c.index-self-slot-2.result w c.args.stage c.args.made there))
+    (sym (further_twice s.stations k c.index-self-slot.result c.index-self-slot-2.result w c.args.stage c.args.made there))
     (subst (λ j. IsWindow (set s.stations j x) s.creators s.newest s.start s.len × (s.accesses ≡ accesses (ring_of (set s.stations j x) s.start s.len) s.len)) (sym c.slot_of-slot.ensures.value) (
       window_put s.stations s.creators s.newest s.start s.len c.args.i x h inside same,
       count_put s.stations s.start s.len c.args.i s.accesses x h.every_station h.begins h.most inside same c.self.invariant.1,
@@ -39,8 +39,8 @@ returns c w e =
     let there : slice_get s.stations k ≡ Some w =
     ap (slice_get s.stations) c.slot_of-slot.ensures.value ∙ sym (ring_get s.stations s.start s.len c.args.i h.every_station h.begins h.most inside)
     ∙ ap (λ l. slice_get l c.args.i) c.self.view_is ∙ e in
-    let x = advanced w c.args.stage c.args.made in
-    ap (λ l. ring_of l s.start s.len) (advanced_twice s.stations k c.index-self-slot.result c.index-self-slot-2.result w c.args.stage c.args.made there)
+    let x = further_on w c.args.stage c.args.made in
+    ap (λ l. ring_of l s.start s.len) (further_twice s.stations k c.index-self-slot.result c.index-self-slot-2.result w c.args.stage c.args.made there)
     ∙ ap (λ j. ring_of (set s.stations j x) s.start s.len) c.slot_of-slot.ensures.value
     ∙ ring_set s.stations s.start s.len c.args.i x h.every_station h.begins h.most inside
     ∙ ap (λ l. set l c.args.i x) c.self.view_is

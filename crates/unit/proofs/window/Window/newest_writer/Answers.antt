@@ -1,7 +1,7 @@
 use Rattle.std.proofs.Common.{◌≡◌, ◌<◌, length, sym, ap, ◌∙◌, subst, arith}
 use Rattle.std.specs.Prelude.{slice_index}
 use Rattle.unit.specs.Creators.{IsCreator}
-use Rattle.unit.specs.Slots.{place_of, ring_of}
+use Rattle.unit.specs.Slots.{place_from, ring_of}
 use Rattle.unit.proofs.window.Window.newest_writer.Goals as goal
 
 pub returns : goal.returns
@@ -10,6 +10,7 @@ returns c =
     let h = c.self.invariant.0 in
     let small : c.args.r < 34 = omega (arith, c.number.ensures.value, c.number.ensures.small) in
     let all = h.known.newest_writer c.args.r small in
-    let placed = subst (λ r. IsCreator (ring_of s.stations s.start s.len) (length (ring_of s.stations s.start s.len)) c.args.r (place_of (slice_index s.newest r) s.start)) (sym c.number.ensures.value) all in
-    let is = subst (λ n. IsCreator (ring_of s.stations s.start s.len) (length (ring_of s.stations s.start s.len)) c.args.r n) (sym c.place_of.ensures.value) placed in
+    let ws = ring_of s.stations s.start s.len in
+    let placed = subst (λ r. IsCreator ws (length ws) c.args.r (place_from (slice_index s.newest r) s.start)) (sym c.number.ensures.value) all in
+    let is = subst (λ n. IsCreator ws (length ws) c.args.r n) (sym c.place_of.ensures.value) placed in
     subst (λ l. IsCreator l (length l) c.args.r c.place_of.result) c.self.view_is is

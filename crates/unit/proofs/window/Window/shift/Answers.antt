@@ -1,5 +1,5 @@
-use Rattle.std.proofs.Common.{◌≡◌, ◌<◌, ◌-◌, suc, length, drop, Some, sym, ap, ◌∙◌, subst, arith}
-use Rattle.std.specs.Prelude.{option_copied, slice_get}
+use Rattle.std.proofs.Common.{◌≡◌, ◌<◌, ◌-◌, suc, length, drop, sym, ap, ◌∙◌, subst, arith}
+use Rattle.std.specs.Prelude.{slice_get}
 use Rattle.std.proofs.lemmas.Option.{slice_get_within}
 use Rattle.unit.specs.Creators.{IsWindow}
 use Rattle.unit.specs.Slots.{ring_of}
@@ -13,9 +13,8 @@ pub invariant_of-self : goal.invariant_of-self
 invariant_of-self c =
     let s = c.self.inside in
     let h = c.self.invariant.0 in
-    let w = c.in-Some.oldest.now in
-    let is : slice_get c.args.self.now 0 ≡ Some w = sym c.peek.ensures ∙ ap option_copied c.in-Some.is in
-    let there = ap (λ l. slice_get l 0) c.self.view_is ∙ is in
+    let w = c.args.oldest.now in
+    let there = ap (λ l. slice_get l 0) c.self.view_is ∙ c.requires in
     let long = ring_length s.stations s.start s.len h.every_station h.begins h.most in
     let inside : 0 < length (ring_of s.stations s.start s.len) = slice_get_within (ring_of s.stations s.start s.len) 0 w there in
     let some : 0 < s.len = omega (arith, inside, long) in
@@ -29,9 +28,8 @@ pub overflow_sub-self : goal.overflow_sub-self
 overflow_sub-self c =
     let s = c.self.inside in
     let h = c.self.invariant.0 in
-    let w = c.in-Some.oldest.now in
-    let is : slice_get c.args.self.now 0 ≡ Some w = sym c.peek.ensures ∙ ap option_copied c.in-Some.is in
-    let there = ap (λ l. slice_get l 0) c.self.view_is ∙ is in
+    let w = c.args.oldest.now in
+    let there = ap (λ l. slice_get l 0) c.self.view_is ∙ c.requires in
     let long = ring_length s.stations s.start s.len h.every_station h.begins h.most in
     let inside : 0 < length (ring_of s.stations s.start s.len) = slice_get_within (ring_of s.stations s.start s.len) 0 w there in
     let one : s.len ≡ suc (s.len - 1) = omega (arith, inside, long) in
@@ -42,9 +40,8 @@ pub returns : goal.returns
 returns c =
     let s = c.self.inside in
     let h = c.self.invariant.0 in
-    let w = c.in-Some.oldest.now in
-    let is : slice_get c.args.self.now 0 ≡ Some w = sym c.peek.ensures ∙ ap option_copied c.in-Some.is in
-    let there = ap (λ l. slice_get l 0) c.self.view_is ∙ is in
+    let w = c.args.oldest.now in
+    let there = ap (λ l. slice_get l 0) c.self.view_is ∙ c.requires in
     let long = ring_length s.stations s.start s.len h.every_station h.begins h.most in
     let inside : 0 < length (ring_of s.stations s.start s.len) = slice_get_within (ring_of s.stations s.start s.len) 0 w there in
     let some : 0 < s.len = omega (arith, inside, long) in

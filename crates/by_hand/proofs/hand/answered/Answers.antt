@@ -1,0 +1,11 @@
+use Rattle.std.proofs.Common.{◌∙◌, rules}
+use Rattle.isa.specs.Listing.{listing}
+use Rattle.by_hand.proofs.Driven.{fault_told}
+use Rattle.by_hand.proofs.hand.answered.Goals as goal
+
+pub returns-in_ok-write_whole-in-Err-2-clause-ok :
+    goal.returns-in_ok-write_whole-in-Err-2-clause-ok
+returns-in_ok-write_whole-in-Err-2-clause-ok g c =
+    let fault = c.in-Err.fault in
+    fault_told c.args.hand.now (listing c.args.bytes.now) fault.line fault.kind _ _ _ c.as_bytes.result.now
+    (c.in-Err.ensures.fault (search rules)) (c.as_bytes.ensures.value ∙ c.as_str.ensures.value ∙ c.in_ok-text-in-Err-2.ensures) c.in_ok-write_whole-in-Err-2.ensures.ok

@@ -1,0 +1,2 @@
+pub use Rattle.without_threads.specs.Went
+pub mod ByHand

@@ -1,0 +1,195 @@
+//! A unit that is driven by commands.
+ghost use Rattle.std.specs.Prelude.{◌≡◌, ◌≢◌, ◌+◌, ◌-◌, ◌^◌, ◌<◌, IfSome, IfOk, IfErr, Ok, OnOk, None};
+ghost use Rattle.isa.specs.Listing.{listing};
+ghost use Rattle.devices.specs.Counted.{failures_of, known_by};
+ghost use Rattle.by_hand.specs.ByHand.{HasBrokenOff, IsBroken, IsDriven, WasBrokenOff, IsTranscriptOf, script_refusal};
+ghost use Rattle.requests.specs.Predictors.{IsChosen};
+ghost use Rattle.without_threads.specs.Went.{HoldsOfInput, IsOfOneThread, refused};
+ghost use Rattle.without_threads.specs.declared.went.Line.TheVariants.{Nothing, Refused};
+
+use bench::MOST_TAKEN;
+use devices::{Counted, read_up_to, write_whole};
+use drive::{Fault, Session};
+use instructions::Program;
+use isa::{FaultKind, fault_text, parse};
+use requests::{ByHand, Chosen, choose};
+use snapshots::Naming;
+use std::alloc::Global;
+use std::io::{BufRead, Read, Write};
+use std::marker::Brand;
+use std::sync::Wait;
+use without_threads::{Line, Refusal, Went, refused};
+
+/// Reads the listing, drives its unit by the commands of the script, one a line, and writes what is
+/// answered. The status is 0 at the end of the script, and 2 for a listing with a fault, whose line
+/// is written in place of answers. There is no reader where the file did not open. A failed read or
+/// write is not tried again.
+pub fn go_by_hand<T: Wait, R: Read + Drop, I: BufRead, W: Write>(
+    wait: &T,
+    alloc: Global,
+    hand: &ByHand<'_>,
+    reader: Option<Counted<R>>,
+    script: &mut I,
+    writer: &mut Counted<W>,
+) -> Went
+    requires reader_room { IfSome reader (λ r. failures_of r < 2 ^ 64 - 1) }
+    requires writer_room { failures_of writer.old < 2 ^ 64 - 1 }
+    // Without a reader nothing is driven, and only then is opening blamed.
+    ensures open { reader ≡ None → result ≡ refused Refusal.Open }
+    ensures unopened { reader ≡ None → writer.new ≡ writer.old }
+    ensures opened { result.line ≡ Refused Refusal.Open → reader ≡ None }
+    // What was written whole answers the listing and the script.
+    ensures answer { result.line ≡ Nothing → HoldsOfInput R.remaining reader (λ input.
+        IsDriven hand.now (listing input) result.status (I.remaining script.old)
+        (known_by W.contents writer.old) (known_by W.contents writer.new)) }
+    ensures quiet { result.line ≡ Nothing → failures_of writer.new ≡ failures_of writer.old }
+    ensures line { IsOfOneThread result.line }
+    // There is no log to blame.
+    ensures unlogged { result.line ≢ Refused Refusal.Trace }
+    // A refusal has a status of its own.
+    ensures refused { (refusal : Refusal) → result.line ≡ Refused refusal →
+        result ≡ refused refusal }
+    // Only after a failed call of the writer is it refused for that.
+    ensures write { result.line ≡ Refused Refusal.Write →
+        failures_of writer.new ≡ failures_of writer.old + 1 }
+    ensures broken { result.line ≡ Refused Refusal.Write → HoldsOfInput R.remaining reader
+        (λ input. IsBroken hand.now (listing input) (I.remaining script.old)
+        (known_by W.contents writer.old) (known_by W.contents writer.new)) }
+    // Any other refusal comes behind whole answers, or before anything is written.
+    ensures left { (refusal : Refusal) → result.line ≡ Refused refusal → refusal ≢ Refusal.Write →
+        HoldsOfInput R.remaining reader (λ input.
+        WasBrokenOff hand.now (listing input) (I.remaining script.old)
+        (known_by W.contents writer.old) (known_by W.contents writer.new)) }
+{
+    let Some(mut reader) = reader else {
+        return refused(Refusal::Open);
+    };
+    match driven(wait, alloc, hand, &mut reader, script, writer) {
+        Ok(status) => Went {
+            status,
+            line: Line::Nothing,
+        },
+        Err(refusal) => refused(refusal),
+    }
+}
+
+// The status, once all is answered.
+fn driven<T: Wait, R: Read, I: BufRead, W: Write>(
+    wait: &T,
+    alloc: Global,
+    hand: &ByHand<'_>,
+    reader: &mut Counted<R>,
+    script: &mut I,
+    writer: &mut Counted<W>,
+) -> Result<u8, Refusal>
+    requires reader_room { failures_of reader.old < 2 ^ 64 - 1 }
+    requires writer_room { failures_of writer.old < 2 ^ 64 - 1 }
+    ensures ok { IfOk result (λ status. IfSome (known_by R.remaining reader.old) (λ input.
+        IsDriven hand.now (listing input) status (I.remaining script.old)
+        (known_by W.contents writer.old) (known_by W.contents writer.new))) }
+    ensures quiet { OnOk result (failures_of writer.new ≡ failures_of writer.old) }
+    ensures err { IfErr result (λ refusal. IsOfOneThread (Refused refusal)) }
+    ensures opened { IfErr result (λ refusal. refusal ≢ Refusal.Open) }
+    ensures unlogged { IfErr result (λ refusal. refusal ≢ Refusal.Trace) }
+    ensures write { IfErr result (λ refusal. refusal ≡ Refusal.Write →
+        failures_of writer.new ≡ failures_of writer.old + 1) }
+    ensures broken { IfErr result (λ refusal. refusal ≡ Refusal.Write →
+        IfSome (known_by R.remaining reader.old) (λ input.
+        IsBroken hand.now (listing input) (I.remaining script.old)
+        (known_by W.contents writer.old) (known_by W.contents writer.new))) }
+    ensures left { IfErr result (λ refusal. refusal ≢ Refusal.Write →
+        IfSome (known_by R.remaining reader.old) (λ input.
+        WasBrokenOff hand.now (listing input) (I.remaining script.old)
+        (known_by W.contents writer.old) (known_by W.contents writer.new))) }
+{
+    let listing = read_up_to(alloc, reader, MOST_TAKEN)?;
+    answered(wait, alloc, hand, listing.as_slice(), script, writer)
+}
+
+// Answers the commands for the bytes of a listing.
+fn answered<T: Wait, I: BufRead, W: Write>(
+    wait: &T,
+    alloc: Global,
+    hand: &ByHand<'_>,
+    bytes: &[u8],
+    script: &mut I,
+    writer: &mut Counted<W>,
+) -> Result<u8, Refusal>
+    requires writer_room { failures_of writer.old < 2 ^ 64 - 1 }
+    ensures ok { IfOk result (λ status.
+        IsDriven hand.now (listing bytes.now) status (I.remaining script.old)
+        (known_by W.contents writer.old) (known_by W.contents writer.new)) }
+    ensures quiet { OnOk result (failures_of writer.new ≡ failures_of writer.old) }
+    ensures err { IfErr result (λ refusal. IsOfOneThread (Refused refusal)) }
+    ensures opened { IfErr result (λ refusal. refusal ≢ Refusal.Open) }
+    ensures unlogged { IfErr result (λ refusal. refusal ≢ Refusal.Trace) }
+    ensures write { IfErr result (λ refusal. refusal ≡ Refusal.Write →
+        failures_of writer.new ≡ failures_of writer.old + 1) }
+    ensures broken { IfErr result (λ refusal. refusal ≡ Refusal.Write →
+        IsBroken hand.now (listing bytes.now) (I.remaining script.old)
+        (known_by W.contents writer.old) (known_by W.contents writer.new)) }
+    ensures left { IfErr result (λ refusal. refusal ≢ Refusal.Write →
+        WasBrokenOff hand.now (listing bytes.now) (I.remaining script.old)
+        (known_by W.contents writer.old) (known_by W.contents writer.new)) }
+{
+    match parse(alloc, bytes) {
+        Ok(program) => {
+            let predictor = choose(hand.predictor);
+            drive_by::<Brand, T, I, W>(wait, alloc, hand, &program, predictor, script, writer)?;
+            Ok(0)
+        },
+        Err(fault) if fault.kind == FaultKind::Memory => Err(Refusal::Memory),
+        Err(fault) => {
+            let text = fault_text(alloc, &fault)?;
+            write_whole(writer, text.as_str().as_bytes())?;
+            Ok(2)
+        },
+    }
+}
+
+// Answers the commands for a program, with the predictor that is asked for.
+fn drive_by<J: Naming, T: Wait, I: BufRead, W: Write>(
+    wait: &T,
+    alloc: Global,
+    hand: &ByHand<'_>,
+    program: &Program,
+    predictor: Chosen,
+    script: &mut I,
+    writer: &mut Counted<W>,
+) -> Result<(), Refusal>
+    requires named { program.now ≡ J.program }
+    requires predictor { IsChosen hand.now.predictor predictor }
+    requires writer_room { failures_of writer.old < 2 ^ 64 - 1 }
+    ensures ok { OnOk result (IsTranscriptOf hand.now program.now 0 (I.remaining script.old)
+        (known_by W.contents writer.old) (known_by W.contents writer.new)) }
+    ensures quiet { OnOk result (failures_of writer.new ≡ failures_of writer.old) }
+    ensures err { IfErr result (λ refusal. IsOfOneThread (Refused refusal)) }
+    ensures opened { IfErr result (λ refusal. refusal ≢ Refusal.Open) }
+    ensures unlogged { IfErr result (λ refusal. refusal ≢ Refusal.Trace) }
+    ensures write { IfErr result (λ refusal. refusal ≡ Refusal.Write →
+        failures_of writer.new ≡ failures_of writer.old + 1) }
+    ensures broken { IfErr result (λ refusal. refusal ≡ Refusal.Write →
+        HasBrokenOff hand.now program.now (I.remaining script.old)
+        (known_by W.contents writer.old) (known_by W.contents writer.new)) }
+    ensures left { IfErr result (λ refusal. refusal ≢ Refusal.Write →
+        WasBrokenOff hand.now (Ok program.now) (I.remaining script.old)
+        (known_by W.contents writer.old) (known_by W.contents writer.new)) }
+{
+    let mut driven = Session::<Chosen, J>::new(alloc, program, &hand.config, predictor)?;
+    let told = drive::drive(wait, alloc, &mut driven, script, writer);
+    driven.end(wait);
+    match told {
+        Ok(()) => Ok(()),
+        Err(fault) => Err(script_refusal(fault)),
+    }
+}
+
+fn script_refusal(fault: Fault) -> Refusal
+    ensures { result ≡ script_refusal fault }
+{
+    match fault {
+        Fault::Read => Refusal::Read,
+        Fault::Memory => Refusal::Memory,
+        Fault::Write => Refusal::Write,
+    }
+}

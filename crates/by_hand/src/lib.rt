@@ -1,0 +1,8 @@
+//! A shared unit that is driven by commands, from the bytes of a listing and of a script.
+#![tactic(auto)]
+
+mod hand;
+
+pub use hand::go_by_hand;
+pub use requests::{ByHand, Request, requested};
+pub use without_threads::{Line, Refusal, Went};

@@ -1,0 +1,35 @@
+//! A tally as text.
+ghost use Rattle.std.specs.Prelude.{Some};
+ghost use Rattle.without_threads.specs.Went.{totals_text};
+
+use counts::Tally;
+use std::fmt;
+
+/// The numbers of a tally. Their `Display` tells each behind its name.
+#[derive(Drop)]
+pub(crate) struct Totals {
+    pub tally: Tally,
+}
+
+impl fmt::Display for Totals {
+    ghost output = { λ totals. Some (totals_text totals.tally) };
+
+    fn fmt<W: fmt::Write>(&self, f: &mut fmt::Formatter<W>) -> fmt::Result {
+        let tally = self.tally;
+        write!(
+            f,
+            "lets {} claims {} finishes {} stale {} loads {} retires {} squashes {} mends {} hints {} \
+             renewals {}",
+            tally.lets,
+            tally.claims,
+            tally.finishes,
+            tally.stale,
+            tally.loads,
+            tally.retires,
+            tally.squashes,
+            tally.mends,
+            tally.hints,
+            tally.renewals,
+        )
+    }
+}
