@@ -1,69 +1,88 @@
 #!/usr/bin/env python3
-"""What the gate costs, by crate and part: benchmarks/gate.py CRATE.., or all crates with none named, which takes hours.
+"""What the gate costs, by crate and part: benchmarks/gate.py [--to FILE] COMMAND .., as benchmarks/gate.py rt ci lsq.
 
-Of each crate it is proved from nothing, then its tests, then each edit that has to be refused. What is printed are seconds
-of one processor (user and system), so that a machine that does other work beside it changes little. The libraries below a
-crate are built before it is timed, and what the crate's folder out/ held is lost."""
-import glob
+Runs the command, looks each half second at the processes of the checker, and prints behind it a table of the seconds of one
+processor (user and system) of each crate: of its proof, of its tests, and of the edits that have to be refused. With --to the
+table goes to a file. What a process does behind the last look at it is counted in the last line alone, which is exact. Only
+what is proved anew costs anything: `rt ci --anew` proves all. The status is that of the command."""
+import collections
 import os
 import resource
-import shutil
 import subprocess
 import sys
+import time
 
-ROOT = os.path.dirname(os.path.dirname(os.path.realpath(__file__)))
-
-
-def seconds(folder, *words):
-    """Runs a command, and returns the processor's seconds that it took and whether it ended well."""
-    before = resource.getrusage(resource.RUSAGE_CHILDREN)
-    run = subprocess.run(words, cwd=folder, stdin=subprocess.DEVNULL, stdout=subprocess.PIPE, stderr=subprocess.STDOUT, check=False)
-    after = resource.getrusage(resource.RUSAGE_CHILDREN)
-    return after.ru_utime - before.ru_utime + after.ru_stime - before.ru_stime, run.returncode == 0
+PARTS = ("proof", "tests", "edits")
+TICKS = os.sysconf("SC_CLK_TCK")
 
 
-def crates():
-    with open(f"{ROOT}/crates.txt", encoding="utf-8") as lines:
-        return [it.partition("#")[0].partition(":")[0].split()[0] for it in lines if it.partition("#")[0].strip()]
+def words_of(process):
+    with open(f"/proc/{process}/cmdline", "rb") as it:
+        return it.read().decode(errors="replace").split("\0")
 
 
-def has_tests(folder):
-    for at, _, names in os.walk(f"{folder}/src"):
-        for it in names:
-            with open(f"{at}/{it}", encoding="utf-8") as text:
-                if "#[test]" in text.read():
-                    return True
-    return False
+def fields_of(process):
+    """Of what the system says of a process, that behind its name: its state, its parent, .."""
+    with open(f"/proc/{process}/stat", encoding="utf-8") as it:
+        return it.read().rpartition(")")[2].split()
 
 
-def measured(name):
-    """Of a crate, the seconds of its proof, of its tests and of its edits, and whether all went well."""
-    folder = f"{ROOT}/crates/{name}"
-    # the libraries below are built, and nothing of the crate itself is there
-    subprocess.run([f"{ROOT}/prove", name], stderr=subprocess.DEVNULL, check=False)
-    shutil.rmtree(f"{folder}/out", ignore_errors=True)
-    proof, is_well = seconds(folder, "rt", "check", "--jobs", "1")
-    tests = edits = 0.0
-    if has_tests(folder):
-        tests, passed = seconds(folder, "rt", "test", "--jobs", "1")
-        is_well = is_well and passed
-    count = len(glob.glob(f"{folder}/must-fail/*.edit"))
-    if count:
-        edits, refused = seconds(ROOT, "rt", "must-fail", name)
-        is_well = is_well and refused
-    return proof, tests, count, edits, is_well
+def is_below(process, top):
+    while process not in ("0", str(top)):
+        process = fields_of(process)[1]
+    return process == str(top)
 
 
-def main(names):
-    print("| crate | proof | tests | edits | their seconds |\n|---|---|---|---|---|")
-    whole, bad = [0.0, 0.0, 0, 0.0], []
-    for name in names or crates():
-        proof, tests, count, edits, is_well = measured(name)
-        whole = [one + more for one, more in zip(whole, (proof, tests, count, edits))]
-        bad += [] if is_well else [name]
-        print(f"| `{name}`{'' if is_well else ' FAILED'} | {proof:.0f} | {tests:.0f} | {count} | {edits:.0f} |", flush=True)
-    print(f"| all | {whole[0]:.0f} | {whole[1]:.0f} | {whole[2]} | {whole[3]:.0f} |")
-    return 1 if bad else 0
+def part_of(process, words):
+    if os.path.basename(os.readlink(f"/proc/{process}/cwd")).startswith("rt-edit-"):
+        return "edits"
+    return "tests" if "--test" in words else "proof"
+
+
+def look(found, top):
+    """Notes of each process of the checker below this one its crate, its part and its seconds until now."""
+    for process in filter(str.isdigit, os.listdir("/proc")):
+        try:
+            words = words_of(process)
+            if "--crate-name" not in words or not is_below(process, top):
+                continue
+            crate, fields = words[words.index("--crate-name") + 1], fields_of(process)
+            seconds = (int(fields[11]) + int(fields[12])) / TICKS
+            found[process, fields[19]] = (crate, part_of(process, words), seconds)
+        except (OSError, IndexError, ValueError):
+            continue
+
+
+def table(found, whole, took):
+    rows = collections.defaultdict(lambda: dict.fromkeys(PARTS, 0.0))
+    for crate, part, seconds in found.values():
+        rows[crate][part] += seconds
+    lines = ["| crate | proof | tests | edits |", "|---|---|---|---|"]
+    for crate, row in sorted(rows.items(), key=lambda it: -sum(it[1].values())):
+        lines.append(f"| `{crate}` | " + " | ".join(f"{row[part]:.0f}" for part in PARTS) + " |")
+    sums = [sum(row[part] for row in rows.values()) for part in PARTS]
+    lines.append("| all that was seen | " + " | ".join(f"{it:.0f}" for it in sums) + " |")
+    lines.append(f"{whole / 60:.0f} minutes of one processor, in {took / 60:.0f} minutes")
+    return "\n".join(lines)
+
+
+def main(words):
+    to = None
+    if words[:1] == ["--to"]:
+        to, words = words[1], words[2:]
+    found, began = {}, time.monotonic()
+    run = subprocess.Popen(words)
+    while run.poll() is None:
+        look(found, run.pid)
+        time.sleep(0.5)
+    used = resource.getrusage(resource.RUSAGE_CHILDREN)
+    text = table(found, used.ru_utime + used.ru_stime, time.monotonic() - began)
+    if to is None:
+        print(text)
+    else:
+        with open(to, "w", encoding="utf-8") as it:
+            it.write(text + "\n")
+    return run.returncode if run.returncode >= 0 else 128 - run.returncode
 
 
 if __name__ == "__main__":

@@ -1,5 +1,5 @@
 -- How a run ends.
-use Rattle.std.specs.Prelude.{◌≡◌, ℕ, Option, Some, None}
+use Rattle.std.specs.Prelude.{⊤, ◌≡◌, ℕ, Option, Some, None}
 use Rattle.instructions.specs.Programs.{Program}
 use Rattle.instructions.specs.declared.end.End.{End}
 use Rattle.instructions.specs.declared.end.Ending.{Ending}
@@ -10,7 +10,7 @@ use Rattle.inorder.specs.Runs.{after, state_in, stop}
 -- The next step stops with the code of the outcome, if it has one
 abbrev pub StopsThere : Program → ℕ → Ending → Type 0
 StopsThere P n (ByStop code) = stop P n ≡ Some code
-StopsThere P n Limit = Unit {0}
+StopsThere P n Limit = ⊤
 
 -- It holds the state of the machine in order after its n instructions, and a stop is that machine's next step
 pub record EndIsInOrder (P : Program) (e : End) : Type 0 where

@@ -1,5 +1,5 @@
 -- What a retirement does to what was committed.
-use Rattle.std.specs.Prelude.{◌+◌, ◌≤◌, ℕ, suc, Bool, true, Option, Some, None}
+use Rattle.std.specs.Prelude.{⊤, ◌+◌, ◌≤◌, ℕ, suc, Bool, true, Option, Some, None}
 use Rattle.instructions.specs.Instruction.{destination, is_first_half, kind, pc_plus_4, width}
 use Rattle.instructions.specs.declared.op.Half.{Half}
 use Rattle.instructions.specs.declared.instr.Instr.{Instr}
@@ -76,4 +76,4 @@ stop_in _ = None
 -- A store is inside a memory of this size
 abbrev pub StoreIsInside : ℕ → Instr → Last → Type 0
 StoreIsInside size i (Stored address content) = address + width i.op ≤ size
-StoreIsInside size i _ = Unit {0}
+StoreIsInside size i _ = ⊤

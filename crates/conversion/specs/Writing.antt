@@ -1,5 +1,5 @@
 -- The text of a listing that is made, and the program that it says.
-use Rattle.std.specs.Prelude.{◌≡◌, ℕ, zero, suc, ◌+◌, ◌≤◌, ◌<◌, Bool, true, false, ◌&&◌, nat_le, List, [], ◌∷◌, ◌++◌, length, replicate, None, Ok, codes, slice_index, slice_index_or, ◌==◌, if◌then◌else◌}
+use Rattle.std.specs.Prelude.{⊤, ◌≡◌, ℕ, zero, suc, ◌+◌, ◌≤◌, ◌<◌, Bool, true, false, ◌&&◌, nat_le, List, [], ◌∷◌, ◌++◌, length, replicate, None, Ok, codes, slice_index, slice_index_or, ◌==◌, if◌then◌else◌}
 use Rattle.std.specs.List.{flat_map, list_all}
 use Rattle.instructions.specs.declared.instr.Instr.{Instr}
 use Rattle.isa.specs.declared.listing.instr_text.Naming.TheVariants.{Names}
@@ -34,7 +34,7 @@ pub record IsBlankLine (line : List ℕ) : Type 0 where
 
 -- none of these lines says anything to the parser
 abbrev pub AllQuiet : Lines → Type 0
-AllQuiet [] = Unit {0}
+AllQuiet [] = ⊤
 AllQuiet (l ∷ ls) = IsBlankLine l × AllQuiet ls
 
 -- ---- the lines of an instruction
@@ -96,12 +96,12 @@ pub record IsSound (n : ℕ) (i : Instr) : Type 0 where
 
 -- so it is of each of them
 abbrev pub AllSound : ℕ → List Instr → Type 0
-AllSound n [] = Unit {0}
+AllSound n [] = ⊤
 AllSound n (i ∷ is) = IsSound n i × AllSound n is
 
 -- each instruction that goes to one of n instructions goes to one that has a label
 abbrev pub AllMarked : List Bool → ℕ → List Instr → Type 0
-AllMarked marks n [] = Unit {0}
+AllMarked marks n [] = ⊤
 AllMarked marks n (i ∷ is) =
     (has_target i.op ≡ true → is_inside n i.number ≡ true → IsLabelled marks i.number)
     × AllMarked marks n is
@@ -110,12 +110,12 @@ AllMarked marks n (i ∷ is) =
 
 -- each line is printable ASCII
 abbrev pub AllPrintable : Lines → Type 0
-AllPrintable [] = Unit {0}
+AllPrintable [] = ⊤
 AllPrintable (l ∷ ls) = (list_all printable l ≡ true) × AllPrintable ls
 
 -- no line has a fault, behind those before it
 abbrev pub Faultless : Lines → Lines → Type 0
-Faultless before [] = Unit {0}
+Faultless before [] = ⊤
 Faultless before (l ∷ ls) = (fault_in before l ≡ None) × Faultless (before ++ l ∷ []) ls
 
 -- what was read is this instruction, and has a label only if the operation names a target
@@ -125,7 +125,7 @@ pub record IsReadAs (p : Parsed) (i : Instr) : Type 0 where
 
 -- so it is of each line and its instruction, in their order
 abbrev pub AllRead : List (ℕ × Parsed) → List Instr → Type 0
-AllRead [] [] = Unit {0}
+AllRead [] [] = ⊤
 AllRead [] (i ∷ is) = ⊥
 AllRead (d ∷ ds) [] = ⊥
 AllRead (d ∷ ds) (i ∷ is) = IsReadAs d.1 i × AllRead ds is

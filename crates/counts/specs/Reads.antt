@@ -1,5 +1,5 @@
 -- What is read of a total.
-use Rattle.std.specs.Prelude.{◌≡◌, ℕ, ◌*◌, ◌^◌, slice_index}
+use Rattle.std.specs.Prelude.{⊤, ◌≡◌, ℕ, ◌*◌, ◌^◌, slice_index}
 use Rattle.atomic_table.specs.Table.{State}
 use mathlib.Core.Option.{some}
 use lib.ListN.{get_elem?}
@@ -11,7 +11,7 @@ use Rattle.counts.specs.Totals.{position_of}
 
 -- At a moment at which the rule held and some seat had these shares, the total at a position was n
 pub record IsTotalAt (v : Shares) (at n : ℕ) : Type 0 where
-  pub moment : State (Unit {0}) Shares
+  pub moment : State ⊤ Shares
   pub sums : Summed moment
   pub id : ℕ
   pub here : get_elem? moment.views id ≡ some v

@@ -1,5 +1,5 @@
 -- The rule: at every moment each total is the sum of the seats' shares modulo 2^64.
-use Rattle.std.specs.Prelude.{◌≡◌, ℕ, ◌-◌, ◌*◌, ◌%◌, ◌^◌, ◌<◌, ◌≤◌, List, length, slice_index, sum_by}
+use Rattle.std.specs.Prelude.{⊤, ◌≡◌, ℕ, ◌-◌, ◌*◌, ◌%◌, ◌^◌, ◌<◌, ◌≤◌, List, length, slice_index, sum_by}
 use Rattle.atomic_table.specs.Table.{State}
 use mathlib.Core.Option.{some}
 use lib.ListN.{get_elem?}
@@ -20,7 +20,7 @@ pub record HasAllParts (at : ℕ) (views : List Shares) : Type 0 where
 
 -- Each total's word is the sum of the shares; the seats hold all parts of it, and one that holds none
 -- has added nothing
-pub record Summed (s : State (Unit {0}) Shares) : Type 0 where
+pub record Summed (s : State ⊤ Shares) : Type 0 where
   pub wide : length s.words ≡ 8 * total_count
   pub sum : (at : ℕ) → at < total_count → slice_index s.words (8 * at) ≡ sum_by (λ v. (share at v).added) s.views % 2 ^ 64
   pub whole : (at : ℕ) → at < total_count → HasAllParts at s.views

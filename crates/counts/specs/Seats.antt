@@ -1,5 +1,5 @@
 -- What contracts see of a seat, and what is true of each.
-use Rattle.std.specs.Prelude.{◌≡◌, ℕ, ◌<◌, false, []}
+use Rattle.std.specs.Prelude.{⊤, ◌≡◌, ℕ, ◌<◌, false, []}
 use Rattle.atomic_table.specs.Seated.{TableId}
 use Rattle.atomic_table.specs.Table.{Me}
 use Rattle.counts.specs.declared.shares.Shares.{Shares}
@@ -12,11 +12,11 @@ pub record Counter : Type 0 where
   pub shares : Shares
 
 -- It holds a part of each total
-pub record HasParts (me : Me (Unit {0}) Shares) : Type 0 where
+pub record HasParts (me : Me ⊤ Shares) : Type 0 where
   pub some : (at : ℕ) → at < total_count → 0 < (share at me.0).parts
   pub slots : me.1 ≡ []
 
 -- It holds a part of each total but the retirements and the renewals
-pub record HasOtherParts (me : Me (Unit {0}) Shares) : Type 0 where
+pub record HasOtherParts (me : Me ⊤ Shares) : Type 0 where
   pub some : (at : ℕ) → at < total_count → is_kept at ≡ false → 0 < (share at me.0).parts
   pub slots : me.1 ≡ []

@@ -1,5 +1,5 @@
 -- What the calls of a session answer.
-use Rattle.std.specs.Prelude.{◌≡◌, ℕ, List, [], length}
+use Rattle.std.specs.Prelude.{⊤, ◌≡◌, ℕ, List, [], length}
 use Rattle.instructions.specs.Programs.{Program}
 use Rattle.inorder.specs.declared.history.Entry.{Entry}
 use Rattle.inorder.specs.declared.history.Source.{Source}
@@ -88,7 +88,7 @@ IsRefresh core by old new refresh =
 -- The job of a claim is its caller's
 abbrev pub HoldsWhatIs : TheCore → Caller → Claim → Type 0
 HoldsWhatIs core seat (Claimed job) = Holds core.program core.sizes seat.by seat.seen job
-HoldsWhatIs core seat claim = Unit {0}
+HoldsWhatIs core seat claim = ⊤
 
 -- A commit by the back
 abbrev pub IsCommit : TheBack → TheBack → List Entry → List Entry → Commit → Type 0

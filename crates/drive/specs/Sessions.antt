@@ -1,5 +1,5 @@
 -- What contracts see of a session, and what it answers.
-use Rattle.std.specs.Prelude.{◌≡◌, ◌≢◌, ℕ, ◌<◌, ◌≤◌, ◌-◌, ◌^◌, ◌⊎◌, max, Bool, true, false, List, [], Option, Some, None, IsSome}
+use Rattle.std.specs.Prelude.{⊤, ◌≡◌, ◌≢◌, ℕ, ◌<◌, ◌≤◌, ◌-◌, ◌^◌, ◌⊎◌, max, Bool, true, false, List, [], Option, Some, None, IsSome}
 use Rattle.instructions.specs.Programs.{Program}
 use Rattle.instructions.specs.declared.end.End.{End}
 use Rattle.instructions.specs.Settings.{Settings}
@@ -147,7 +147,7 @@ IsNobody p = ⊥
 -- A seat can be of this name
 abbrev pub IsSomebody : Party → Type 0
 IsSomebody (party.Unit unit) = unit < unit_count
-IsSomebody p = Unit {0}
+IsSomebody p = ⊤
 
 -- The committed state, and how the run has ended, if it has
 pub record HasReported (old new : TheSession) (end : End) : Type 0 where

@@ -1,5 +1,5 @@
 -- What the front knows while its records go to the base registers.
-use Rattle.std.specs.Prelude.{◌≡◌, [], List}
+use Rattle.std.specs.Prelude.{⊤, ◌≡◌, [], List}
 use Rattle.inorder.specs.declared.history.Entry.{Entry}
 use Rattle.inorder.specs.History.{unit_of}
 use Rattle.station.specs.Seats.{TheCore}
@@ -12,7 +12,7 @@ use Rattle.front.specs.Knows.{GoesOnAt, Stands}
 -- The tenants before the records have retired, whether or not their stations were let again, and the
 -- base says where the path goes on
 pub record IsFolding (core : TheCore) (seen : List Entry) (path : Path) : Type 0 where
-  pub stands : Stands core.program core.sizes (unit_of core.program core.sizes seen) path.records path.base (λ n. Unit {0})
+  pub stands : Stands core.program core.sizes (unit_of core.program core.sizes seen) path.records path.base (λ n. ⊤)
   pub goes : GoesOnAt core.program core.sizes (unit_of core.program core.sizes seen) path.base
 
 -- Where nobody was live no record is left, and else all are

@@ -1,5 +1,5 @@
 -- The questions behind a let.
-use Rattle.std.specs.Prelude.{◌≡◌, ℕ, ◌<◌, List}
+use Rattle.std.specs.Prelude.{⊤, ◌≡◌, ℕ, ◌<◌, List}
 use Rattle.instructions.specs.Programs.{Program}
 use Rattle.inorder.specs.declared.history.Entry.{Entry}
 use Rattle.inorder.specs.declared.history.Event.{Event}
@@ -17,7 +17,7 @@ use Rattle.instructions.specs.Programs.{instr_of}
 
 -- A source that comes from its creator can be asked for
 abbrev pub MayAskFor : Program → Sizes → List Entry → ℕ → ℕ → Source → Supply → Type 0
-MayAskFor P C seen station tag k (Known v) = Unit {0}
+MayAskFor P C seen station tag k (Known v) = ⊤
 MayAskFor P C seen station tag k (From s g) = (s < C.ring) × MayAsk P C seen station tag k s g
 
 -- Source k of the tenant of this station and tag was asked for

@@ -1,6 +1,6 @@
 -- Legal histories of a shared unit. A history is a list of entries, the last one first, so that
 -- what was there before an entry is what is behind it in the list.
-use Rattle.std.specs.Prelude.{◌≡◌, ◌⊎◌, ℕ, suc, ◌<◌, ◌≤◌, true, List, [], ◌∷◌, ◌++◌, map, Some, ◌==◌, if◌then◌else◌}
+use Rattle.std.specs.Prelude.{⊤, ◌≡◌, ◌⊎◌, ℕ, suc, ◌<◌, ◌≤◌, true, List, [], ◌∷◌, ◌++◌, map, Some, ◌==◌, if◌then◌else◌}
 use Rattle.instructions.specs.Programs.{Program}
 use Rattle.inorder.specs.declared.history.Act.{Act}
 use Rattle.inorder.specs.declared.history.Act.TheVariants.{Claim, Deliver, Finish, Link, Load, Mend, Retire, Squash}
@@ -84,7 +84,7 @@ pub record WasOpen (P : Program) (C : Sizes) (h : List Entry) (p : ℕ) : Type 0
 -- This caller may act so, if the unit allows it: anybody delivers
 abbrev pub IsTheirAct : ℕ → Act → Type 0
 IsTheirAct by (Link k) = by ≡ front
-IsTheirAct by (Deliver k) = Unit {0}
+IsTheirAct by (Deliver k) = ⊤
 IsTheirAct by Claim = IsUnit by
 IsTheirAct by Finish = IsUnit by
 IsTheirAct by Load = by ≡ back
@@ -133,7 +133,7 @@ MayAdd P C h by (Marks m) = MayMark (unit_of P C h) by m
 
 -- Each entry was allowed behind those before it
 abbrev pub IsLegal : Program → Sizes → List Entry → Type 0
-IsLegal P C [] = Unit {0}
+IsLegal P C [] = ⊤
 IsLegal P C (e ∷ h) = IsLegal P C h × MayAdd P C h e.by e.event
 
 -- The entries of one caller

@@ -1,5 +1,5 @@
 -- Which text is a listing of a file.
-use Rattle.std.specs.Prelude.{ℕ, List, length, ◌<◌}
+use Rattle.std.specs.Prelude.{⊤, ℕ, List, length, ◌<◌}
 use Rattle.conversion.specs.Conversion.{IsSaid}
 
 -- one byte more than a file may have
@@ -13,4 +13,4 @@ pub record IsListingOf (file text : List ℕ) : Type 0 where
 
 -- the same, whatever is told of it
 abbrev pub HasListing : (file text : List ℕ) → Type 0
-HasListing file text = (told : Unit {0}) × IsListingOf file text
+HasListing file text = (told : ⊤) × IsListingOf file text

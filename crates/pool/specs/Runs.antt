@@ -1,5 +1,5 @@
 -- What a run answers.
-use Rattle.std.specs.Prelude.{◌≡◌, ◌+◌, ◌≤◌, ◌<◌, ◌⊎◌, ℕ}
+use Rattle.std.specs.Prelude.{⊤, ◌≡◌, ◌+◌, ◌≤◌, ◌<◌, ◌⊎◌, ℕ}
 use Rattle.instructions.specs.declared.end.End.{End}
 use Rattle.instructions.specs.declared.end.Ending.{Ending}
 use Rattle.instructions.specs.declared.end.Ending.TheVariants.{Limit, Stop as ByStop}
@@ -13,7 +13,7 @@ use Rattle.counts.specs.declared.tally.Tally.{Tally}
 
 -- A stop has ended it, and not the limit
 abbrev pub IsStopEnding : Ending → Type 0
-IsStopEnding (ByStop code) = Unit {0}
+IsStopEnding (ByStop code) = ⊤
 IsStopEnding Limit = ⊥
 
 -- The registers, memory and pc are those of the machine in order after n instructions; n is how many
@@ -26,35 +26,35 @@ pub record IsAfter (P : Program) (end : End) (tally : Tally) : Type 0 where
 abbrev pub RunIsRight : Program → Run → Type 0
 RunIsRight P (Ended end tally) = IsAfter P end tally × IsStopEnding end.outcome
 RunIsRight P (LimitReached end tally) = IsAfter P end tally × (end.outcome ≡ Limit)
-RunIsRight P (Refused why) = Unit {0}
+RunIsRight P (Refused why) = ⊤
 
 -- Where it has ended it had not come to the limit, and it has run no instruction past it
 abbrev pub IsWithinLimit : (limit : ℕ) → Run → Type 0
 IsWithinLimit limit (Ended end tally) = end.n < limit
 IsWithinLimit limit (LimitReached end tally) = end.n ≤ limit
-IsWithinLimit limit (Refused why) = Unit {0}
+IsWithinLimit limit (Refused why) = ⊤
 
 -- Each instruction took the commit thread a turn
 abbrev pub TakesTurns : (turns : ℕ) → Run → Type 0
 TakesTurns turns (Ended end tally) = end.n ≤ turns
 TakesTurns turns (LimitReached end tally) = end.n ≤ turns
-TakesTurns turns (Refused why) = Unit {0}
+TakesTurns turns (Refused why) = ⊤
 
 -- The same where it is known how many turns the commit thread has left. Without all its threads a run takes none,
 -- unless it has begun and its core was renewed
 abbrev pub LeavesTurns : TheTurns → (renewals : ℕ) → Run → Type 0
 LeavesTurns turns renewals (Ended end tally) = end.n + turns.left ≤ turns.all
 LeavesTurns turns renewals (LimitReached end tally) = end.n + turns.left ≤ turns.all
-LeavesTurns turns renewals (Refused Memory) = Unit {0}
+LeavesTurns turns renewals (Refused Memory) = ⊤
 LeavesTurns turns renewals (Refused Thread) = renewals ≡ 0 → turns.left ≡ turns.all
 
 -- The tally tells how often the core was renewed
 abbrev pub TellsRenewals : (renewals : ℕ) → Run → Type 0
 TellsRenewals renewals (Ended end tally) = tally.renewals ≡ renewals
 TellsRenewals renewals (LimitReached end tally) = tally.renewals ≡ renewals
-TellsRenewals renewals (Refused why) = Unit {0}
+TellsRenewals renewals (Refused why) = ⊤
 
 -- The limit is told only where so many instructions were run, or no turn was left
 abbrev pub IsLimit : (limit left : ℕ) → Run → Type 0
 IsLimit limit left (LimitReached end tally) = (end.n ≡ limit) ⊎ (left ≡ 0)
-IsLimit limit left _ = Unit {0}
+IsLimit limit left _ = ⊤

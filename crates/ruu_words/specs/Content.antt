@@ -1,5 +1,5 @@
 -- What the words hold, for a unit and a let in progress.
-use Rattle.std.specs.Prelude.{◌≡◌, ◌⊎◌, ℕ, suc, ◌<◌, Bool, true, false, List, ◌∷◌, Option, Some, None, if◌then◌else◌}
+use Rattle.std.specs.Prelude.{⊤, ◌≡◌, ◌⊎◌, ℕ, suc, ◌<◌, Bool, true, false, List, ◌∷◌, Option, Some, None, if◌then◌else◌}
 use Rattle.instructions.specs.Programs.{Program}
 use Rattle.inorder.specs.declared.history.Source.{Source}
 use Rattle.inorder.specs.declared.history.Source.TheVariants.{First, Second}
@@ -32,7 +32,7 @@ code IsStop = 6
 
 -- The number, where it has a meaning
 abbrev pub HasValue : Option ℕ → ℕ → Type 0
-HasValue None n = Unit {0}
+HasValue None n = ⊤
 HasValue (Some v) n = n ≡ v
 
 -- The word n is that of a station that shows this
@@ -141,7 +141,7 @@ operand_unit P C U (Of stage index predicted first second) k =
 
 -- It may be let
 abbrev pub IsDraft : Program → Sizes → UpdateUnit → Draft → Type 0
-IsDraft P C U Nothing = Unit {0}
+IsDraft P C U Nothing = ⊤
 IsDraft P C U (Of stage index predicted first second) =
     MayLet P C U index predicted first second × (next_tag C (recent U) < last_tag)
 

@@ -1,6 +1,6 @@
 -- What each kind of step tells: of the history before it, of the let in progress behind it, and of
 -- the events that it adds.
-use Rattle.std.specs.Prelude.{◌≡◌, ◌≢◌, ◌⊎◌, ℕ, Bool, false, List, [], ◌∷◌, Some, None, ◌==◌, if◌then◌else◌}
+use Rattle.std.specs.Prelude.{⊤, ◌≡◌, ◌≢◌, ◌⊎◌, ℕ, Bool, false, List, [], ◌∷◌, Some, None, ◌==◌, if◌then◌else◌}
 use Rattle.instructions.specs.Programs.{Program}
 use Rattle.instructions.specs.declared.stop.Outcome.{Outcome}
 use Rattle.instructions.specs.declared.stop.Outcome.TheVariants.{Address, Next, Pair, Stop as Stops, Value}
@@ -37,7 +37,7 @@ pub record IsTenant (U : UpdateUnit) (p station tag : ℕ) (Fact : Tenant → Ty
 
 -- Nothing more is said of it
 abbrev pub IsAny : Tenant → Type 0
-IsAny t = Unit {0}
+IsAny t = ⊤
 
 -- It is not open
 abbrev pub IsClosed : Tenant → Type 0

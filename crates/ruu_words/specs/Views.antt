@@ -1,5 +1,5 @@
 -- Views: what a seat of a table has seen, whose it is, and which numbers it may give away.
-use Rattle.std.specs.Prelude.{◌≡◌, ◌⊎◌, ℕ, ◌+◌, ◌*◌, ◌<◌, ◌≤◌, List, []}
+use Rattle.std.specs.Prelude.{⊤, ◌≡◌, ◌⊎◌, ℕ, ◌+◌, ◌*◌, ◌<◌, ◌≤◌, List, []}
 use mathlib.Core.Option.{some}
 use Rattle.inorder.specs.declared.history.Entry.{Entry}
 use Rattle.inorder.specs.History.{IsUnit, StartsWith, back, front, own}
@@ -76,12 +76,12 @@ IsCaller Start by = by ≡ front
 IsCaller Front by = by ≡ front
 IsCaller Back by = by ≡ back
 IsCaller Worker by = IsUnit by
-IsCaller Spent by = Unit {0}
+IsCaller Spent by = ⊤
 
 -- The seat is not spent
 abbrev pub IsAlive : Role → Type 0
 IsAlive Spent = ⊥
-IsAlive _ = Unit {0}
+IsAlive _ = ⊤
 
 -- What a seat has seen begins the history, and has all entries of its caller; it goes on from the
 -- history that the table opened with, and nobody whose number it may still give away has done anything

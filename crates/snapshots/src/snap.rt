@@ -1,5 +1,5 @@
 //! Snapshots.
-ghost use Rattle.std.specs.Prelude.{◌≡◌};
+ghost use Rattle.std.specs.Prelude.{⊤, ◌≡◌};
 ghost use Rattle.snapshots.specs.Snapshots.{opening};
 
 use left_right::Absorb;
@@ -34,7 +34,7 @@ impl Absorb<Snap> for Snap {
 
     ghost applied = { λ shown next. next };
 
-    ghost never_fails = { Unit {0} };
+    ghost never_fails = { ⊤ };
 
     fn absorb_first(&mut self, operation: &Snap, _other: &Snap) -> Result<(), AllocError> {
         *self = *operation;

@@ -1,5 +1,5 @@
 -- Carrying a value along the links of its tenant's station.
-use Rattle.std.specs.Prelude.{◌≡◌, ℕ, ◌<◌, List, Some}
+use Rattle.std.specs.Prelude.{⊤, ◌≡◌, ℕ, ◌<◌, List, Some}
 use Rattle.std.specs.List.{AllByRecursion}
 use Rattle.instructions.specs.Programs.{Program}
 use Rattle.instructions.specs.declared.stop.Outcome.{Outcome}
@@ -22,8 +22,8 @@ use Rattle.station.specs.Writeback.{HasTenant, IsCarried, IsDeliveryOf, IsWalk}
 abbrev pub IsWriter : Role → Type 0
 IsWriter Start = ⊥
 IsWriter Front = ⊥
-IsWriter Back = Unit {0}
-IsWriter Worker = Unit {0}
+IsWriter Back = ⊤
+IsWriter Worker = ⊤
 IsWriter Spent = ⊥
 
 -- The tenant has made this value
@@ -63,7 +63,7 @@ pub record HasCarried (P : Program) (C : Sizes) (by q : ℕ) (outcome : Outcome)
 -- The tenant has made the value of this outcome, if it is one
 abbrev pub HasMadeOf : Program → Sizes → List Entry → ℕ → ℕ → Outcome → Type 0
 HasMadeOf P C seen station tag (Value v) = HasValueOf P C seen station tag v
-HasMadeOf P C seen station tag _ = Unit {0}
+HasMadeOf P C seen station tag _ = ⊤
 
 -- Of the tenant of this station and tag
 abbrev pub OfTenant : Program → Sizes → List Entry → ℕ → ℕ → (ℕ → Type 0) → Type 0

@@ -1,5 +1,5 @@
 -- Claims.
-use Rattle.std.specs.Prelude.{◌≡◌, ◌≢◌, ◌⊎◌, ℕ, Bool, true, false, List, [], ◌∷◌, Some, Result, Ok, Err}
+use Rattle.std.specs.Prelude.{⊤, ◌≡◌, ◌≢◌, ◌⊎◌, ℕ, Bool, true, false, List, [], ◌∷◌, Some, Result, Ok, Err}
 use Rattle.instructions.specs.Programs.{Program}
 use Rattle.instructions.specs.declared.op.Half.{Half}
 use Rattle.inorder.specs.declared.history.Act.TheVariants.{Claim as ClaimIt}
@@ -33,7 +33,7 @@ pub record HasSeen (P : Program) (C : Sizes) (seen : List Entry) (station tag : 
 
 -- Source k is the next that a claim reads: it is needed, and those before it are there
 abbrev pub IsNext : Program → Source → Tenant → Type 0
-IsNext P First t = Unit {0}
+IsNext P First t = ⊤
 IsNext P Second t = (needs (kind_of P t) Second ≡ true) × IsThere t.first.value
 
 -- The fields of a job

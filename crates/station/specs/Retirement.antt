@@ -1,5 +1,5 @@
 -- Retirement.
-use Rattle.std.specs.Prelude.{◌≡◌, ℕ, suc, ◌+◌, ◌%◌, Bool, true, false, List, [], ◌∷◌, Some}
+use Rattle.std.specs.Prelude.{⊤, ◌≡◌, ℕ, suc, ◌+◌, ◌%◌, Bool, true, false, List, [], ◌∷◌, Some}
 use Rattle.instructions.specs.declared.op.Half.{Half}
 use Rattle.instructions.specs.Operations.{code_of}
 use Rattle.instructions.specs.Programs.{Program}
@@ -141,4 +141,4 @@ is_stop _ = false
 -- Behind a retirement the oldest live tenant stands at the next station
 abbrev pub HeadGoesOn : Sizes → UpdateUnit → ℕ → Retire → Type 0
 HeadGoesOn C U s (Retired station tag index half last) = IsAtHead C U ((s + 1) % C.ring) (is_stop last)
-HeadGoesOn C U s _ = Unit {0}
+HeadGoesOn C U s _ = ⊤

@@ -1,5 +1,5 @@
 -- What contracts see of a core and of its seats, and what a seat's caller knows between its calls.
-use Rattle.std.specs.Prelude.{◌≡◌, ℕ, ◌<◌, ◌≤◌, Bool, true, false, List, []}
+use Rattle.std.specs.Prelude.{⊤, ◌≡◌, ℕ, ◌<◌, ◌≤◌, Bool, true, false, List, []}
 use Rattle.atomic_table.specs.Seated.{TableId}
 use Rattle.atomic_table.specs.Table.{Me}
 use Rattle.instructions.specs.Programs.{Program}
@@ -58,7 +58,7 @@ abbrev pub Knows : Program → Sizes → Role → ℕ → ℕ → Bool → View 
 Knows P C Front by station over v =
     (by ≡ front) × (v.draft ≡ Nothing) × (station ≡ next_station C (recent (unit_of P C v.seen)))
 Knows P C Back by station over v = by ≡ back → IsAtHead C (unit_of P C v.seen) station over
-Knows P C Worker by station over v = Unit {0}
+Knows P C Worker by station over v = ⊤
 Knows P C Start by station over v = ⊥
 Knows P C Spent by station over v = ⊥
 

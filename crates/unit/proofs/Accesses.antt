@@ -49,7 +49,7 @@ same_access (w ∷ ws) zero (suc k) x same = refl
 same_access (w ∷ ws) (suc i) zero x same = refl
 same_access (w ∷ ws) (suc i) (suc k) x same = same_access ws i k x same
 
-accesses_set : (ws : List Station) (i k : ℕ) (x : Station) → IsOfSame x (slice_get ws i) →
+pub accesses_set : (ws : List Station) (i k : ℕ) (x : Station) → IsOfSame x (slice_get ws i) →
     accesses (set ws i x) k ≡ accesses ws k
 accesses_set ws i zero x same = refl
 accesses_set ws i (suc k) x same =

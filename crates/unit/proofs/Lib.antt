@@ -23,5 +23,6 @@ pub mod RunTurns
 pub mod EndTurns
 pub mod Start
 pub mod Idle
+pub mod Stalls
 pub mod BenchTurns
 pub mod Ends

@@ -11,7 +11,7 @@ use Rattle.inorder.specs.declared.history.Source.TheVariants.{First, Second}
 use Rattle.inorder.specs.Committed.{ahead, committed}
 use Rattle.inorder.specs.Loads.{queue_of}
 use Rattle.inorder.specs.Steps.{IsNoRetiredStop, MayClaim}
-use Rattle.inorder.specs.Tenants.{Addr, Busy, Done, Fate, Live, Miss, Open, Retired, Squashed, Standing, Stopped, Tenant, instr, kind_of, missing_of, stands_live, stands_on_path}
+use Rattle.inorder.specs.Tenants.{Live, Retired, Squashed, Standing, Tenant, instr, kind_of, missing_of, stands_live, stands_on_path}
 use Rattle.inorder.specs.Unit.{Sizes, UpdateUnit, creator, value_of}
 use Rattle.inorder.proofs.Basics.{fetched_at}
 use Rattle.inorder.proofs.Sound.{IsInPlace, IsSound}

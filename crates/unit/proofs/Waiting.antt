@@ -1,12 +1,12 @@
 -- Between two halves: what waits for LO is all that a new tenant finds besides what is committed.
-use Rattle.std.proofs.Common.{◌≡◌, ℕ, suc, Bool, true, false, cond, ◌&&◌, not, List, [], ◌∷◌, ◌++◌, Option, Some, None, refl, sym, ap, ◌∙◌, subst}
+use Rattle.std.proofs.Common.{◌≡◌, ℕ, suc, Bool, true, false, cond, List, [], ◌∷◌, ◌++◌, Option, Some, None, refl, sym, ap, ◌∙◌, subst}
 use Rattle.std.specs.Prelude.{unwrap_or}
 use Rattle.instructions.specs.Instruction.{destination_by, is_low, is_pair, pair_target, target_by}
 use Rattle.instructions.specs.Programs.{Program}
 use Rattle.instructions.specs.Registers.{lo}
 use Rattle.instructions.specs.declared.op.Half.TheVariants.{Low}
 use Rattle.inorder.specs.Callers.{is_retired, stands_retired}
-use Rattle.inorder.specs.Committed.{ahead, ahead_by, commits, commits_by, committed, completes, with_first, with_retired}
+use Rattle.inorder.specs.Committed.{ahead, ahead_by, commits, commits_by, committed, with_first, with_retired}
 use Rattle.inorder.specs.Machine.{write}
 use Rattle.inorder.specs.Tenants.{Live, Retired, Squashed, Standing, Tenant, destination_of, instr, is_first}
 use Rattle.inorder.specs.Unit.{how_many}

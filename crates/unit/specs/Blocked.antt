@@ -1,5 +1,5 @@
 -- The loads that the queue of a unit blocks.
-use Rattle.std.specs.Prelude.{◌≡◌, ◌≢◌, ℕ, List, [], ◌∷◌}
+use Rattle.std.specs.Prelude.{⊤, ◌≡◌, ◌≢◌, ℕ, List, [], ◌∷◌}
 use Rattle.instructions.specs.Instruction.{width}
 use Rattle.instructions.specs.Programs.{Program}
 use Rattle.instructions.specs.declared.op.Kind.TheVariants.{Loads}
@@ -16,7 +16,7 @@ IsBlocked P ts t =
 
 -- Each of them is blocked by those before it
 abbrev pub AreBlocked : Program → List Tenant → Type 0
-AreBlocked P [] = Unit {0}
+AreBlocked P [] = ⊤
 AreBlocked P (t ∷ ts) = IsBlocked P ts t × AreBlocked P ts
 
 -- The rule blocks the load t by none of the live memory instructions before it

@@ -1,5 +1,5 @@
 -- How the oldest station leaves.
-use Rattle.std.specs.Prelude.{◌≡◌, ◌≤◌, ◌+◌, ◌-◌, ◌%◌, ℕ, suc, Bool, true, false, List, [], drop, Option, Some, None, unwrap_or, slice_set}
+use Rattle.std.specs.Prelude.{⊤, ◌≡◌, ◌≤◌, ◌+◌, ◌-◌, ◌%◌, ℕ, suc, Bool, true, false, List, [], drop, Option, Some, None, unwrap_or, slice_set}
 use Rattle.instructions.specs.Instruction.{is_first_half, second_of, width}
 use Rattle.instructions.specs.declared.instr.Instr.{Instr}
 use Rattle.instructions.specs.declared.stop.Stop.{Stop}
@@ -18,14 +18,14 @@ use Rattle.unit.specs.Window.{source_in}
 
 -- It is done, a stop, or an access inside a memory of this size
 abbrev pub HasEnded : ℕ → Instr → Stage → Type 0
-HasEnded size i Done = Unit {0}
-HasEnded size i (Stops c) = Unit {0}
+HasEnded size i Done = ⊤
+HasEnded size i (Stops c) = ⊤
 HasEnded size i (Addr a) = a + width i.op ≤ size
 HasEnded size i _ = ⊥
 
 -- The oldest station, if there is one, has ended
 abbrev pub OldestHasEnded : ℕ → Option Station → Type 0
-OldestHasEnded size None = Unit {0}
+OldestHasEnded size None = ⊤
 OldestHasEnded size (Some w) = HasEnded size w.instr w.stage
 
 -- The memory behind a station: a store writes its data

@@ -1,5 +1,5 @@
 -- What a turn is: the first of these that is possible, as steps of the unit.
-use Rattle.std.specs.Prelude.{◌≡◌, ◌≢◌, ℕ, zero, suc, ◌+◌, ◌*◌, ◌^◌, ◌<◌, true, List, [], ◌∷◌, ◌++◌, length, Some, None, is_some}
+use Rattle.std.specs.Prelude.{⊤, ◌≡◌, ◌≢◌, ℕ, zero, suc, ◌+◌, ◌*◌, ◌^◌, ◌<◌, Bool, true, false, List, [], ◌∷◌, ◌++◌, length, Some, None, is_some}
 use Rattle.std.specs.List.{AllByRecursion}
 use Rattle.instructions.specs.Guesses.{Guesses}
 use Rattle.instructions.specs.Programs.{Program, instr_at}
@@ -20,6 +20,7 @@ use Rattle.unit.specs.declared.pipeline.Pipeline.{Pipeline}
 use Rattle.unit.specs.declared.station.Stage.{Stage}
 use Rattle.unit.specs.declared.station.Stage.TheVariants.{Open, Addr, Miss as Misses}
 use Rattle.unit.specs.declared.station.Station.{Station}
+use Rattle.unit.specs.Changes.{NextOf}
 use Rattle.unit.specs.Leavers.{leaver}
 use Rattle.unit.specs.Blocked.{AreBlocked, IsUnblocked}
 use Rattle.unit.specs.StandsFor.{HasStopped, NoStopRetired, StandsFor, sizes}
@@ -193,7 +194,17 @@ pub record SizesStay (b later : Pipeline) : Type 0 where
 -- Any turn but a let
 abbrev pub IsPlain : Turn → Type 0
 IsPlain Let = ⊥
-IsPlain _ = Unit {0}
+IsPlain _ = ⊤
+
+-- Dispatch may be known to be stalled: then nothing can be let
+abbrev pub IsStalled : Bool → Pipeline → Type 0
+IsStalled stalled b = stalled ≡ true → NextOf b None
+
+-- What could not be let before such a turn can not be let behind it, since no tenant has left
+abbrev pub stalled_after : Turn → Bool
+stalled_after Ran = true
+stalled_after Loaded = true
+stalled_after _ = false
 
 -- The fields of a bench
 pub record BenchFields (S : Type 0) : Type 0 where

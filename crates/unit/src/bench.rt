@@ -5,7 +5,7 @@ ghost use Rattle.inorder.specs.Runs.{end_state};
 ghost use Rattle.unit.specs.Changes.{RetiresOne, run_from};
 ghost use Rattle.unit.specs.StandsFor.{StandsFor, StandsForSome};
 ghost use Rattle.inorder.specs.Unit.{empty_unit};
-ghost use Rattle.unit.specs.Turns.{Falls, IsTurn, SizesStay};
+ghost use Rattle.unit.specs.Turns.{Falls, IsTurn, SizesStay, stalled_after};
 
 use crate::pipeline::Pipeline;
 use crate::station::Station;
@@ -32,6 +32,14 @@ pub enum Turn {
     Over(Stop),
 }
 
+// What could not be let before a turn can not be let behind it, since no tenant has left.
+#[inline(always)]
+fn stalls(turn: Turn) -> bool
+    ensures { result ≡ stalled_after turn }
+{
+    matches!(turn, Turn::Ran | Turn::Loaded)
+}
+
 /// An out-of-order unit that one caller turns. Its predictor is asked for the next pc of a conditional branch,
 /// `jr` or `jalr` when that is let, and told how such an instruction went on when its station is let again, if
 /// it has retired.
@@ -39,17 +47,20 @@ pub enum Turn {
 pub struct Bench<'a, P: Predictor + Drop> {
     pipeline: Pipeline<'a>,
     predictor: P,
+    // nothing can be let before a tenant leaves
+    stalled: bool,
 }
 
 impl<'a, P: Predictor + Drop> Model for Bench<'a, P> {
+    ghost use Rattle.std.specs.Prelude.{◌≡◌, true};
     ghost use Rattle.unit.specs.StandsFor.{StandsForSome};
-    ghost use Rattle.unit.specs.Turns.{BenchFields};
+    ghost use Rattle.unit.specs.Turns.{BenchFields, IsStalled};
 
     ghost Value = { BenchFields P };
 
     ghost view = { λ b. record { pipeline = b.pipeline; predictor = b.predictor } };
 
-    ghost invariant = { λ b. StandsForSome b.pipeline };
+    ghost invariant = { λ b. StandsForSome b.pipeline × IsStalled b.stalled b.pipeline };
 }
 
 impl<'a, P: Predictor + Drop> Bench<'a, P> {
@@ -72,6 +83,7 @@ impl<'a, P: Predictor + Drop> Bench<'a, P> {
         Ok(Bench {
             pipeline,
             predictor,
+            stalled: false,
         })
     }
 
@@ -118,15 +130,19 @@ impl<'a, P: Predictor + Drop> Bench<'a, P> {
             return Turn::Over(code);
         }
         if self.pipeline.recovers() {
+            self.stalled = false;
             return Turn::Recovered;
         }
-        if let Some(next) = self.pipeline.next() {
+        if let Some(next) = self.pipeline.next_unless(self.stalled) {
             let left = self.pipeline.leaver();
             let predicted = guess(&mut self.predictor, left, &next.instr, next.half, next.pc);
             self.pipeline.let_out(next, predicted);
+            self.stalled = false;
             return Turn::Let;
         }
-        self.pipeline.moves()
+        let turn = self.pipeline.moves();
+        self.stalled = stalls(turn);
+        turn
     }
 
     // Turns until an instruction retires, and else tells why the unit ended. No other turn counts,

@@ -5,6 +5,7 @@ ghost use Rattle.inorder.specs.Unit.{half_after};
 ghost use Rattle.inorder.specs.Tenants.{made_at_let as made_at_let_of};
 ghost use Rattle.unit.specs.Ahead.{waiting_half as waiting_half_of};
 ghost use Rattle.unit.specs.Changes.{NextOf, next_place};
+ghost use Rattle.unit.specs.Turns.{IsStalled};
 ghost use Rattle.unit.specs.Window.{half_in, let_at, next_in};
 
 use crate::pipeline::Pipeline;
@@ -112,6 +113,18 @@ impl<'a> Pipeline<'a> {
             return None;
         }
         Some(Fetched { instr, half, pc })
+    }
+
+    /// The same, where it may be known that none can.
+    #[inline(always)]
+    pub fn next_unless(&self, stalled: bool) -> Option<Fetched>
+        requires { IsStalled stalled self.now }
+        ensures { NextOf self.now result }
+    {
+        if stalled {
+            return None;
+        }
+        self.next()
     }
 
     /// Who has left the station that is let next, if the predictor is told of it.

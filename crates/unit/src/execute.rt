@@ -1,5 +1,5 @@
 //! Execution.
-ghost use Rattle.std.specs.Prelude.{◌≡◌, ◌<◌, ◌≤◌, [], ◌∷◌, ◌++◌, length, take, slice_get, Some, None};
+ghost use Rattle.std.specs.Prelude.{⊤, ◌≡◌, ◌<◌, ◌≤◌, [], ◌∷◌, ◌++◌, length, take, slice_get, Some, None};
 ghost use Rattle.unit.specs.Changes.{NoneRuns, RunsOldest, with_window};
 ghost use Rattle.unit.specs.Givers.{Chosen, gives};
 ghost use Rattle.unit.specs.Notes.{AreNoted, AreSettled, missed_after, settled_at, settled_by};
@@ -88,11 +88,8 @@ fn oldest_ready(window: &Window, ahead: &Ahead, from: usize) -> Option<Ready>
 fn settles(kind: Kind, stage: Stage) -> bool
     ensures { result ≡ settled_by kind stage }
 {
-    match stage {
-        Stage::Done | Stage::Stops(_) => true,
-        Stage::Addr(_) => matches!(kind, Kind::Stores),
-        _ => false,
-    }
+    matches!(stage, Stage::Done | Stage::Stops(_))
+        || (matches!(stage, Stage::Addr(_)) && matches!(kind, Kind::Stores))
 }
 
 #[inline(always)]
@@ -160,7 +157,7 @@ impl<'a> Pipeline<'a> {
     pub fn runs(&mut self) -> bool
         requires { AreNoted self.old.missed self.old.settled self.old.window }
         ensures window { Chosen result (RunsOldest self.old self.new) (NoneRuns self.old) }
-        ensures same { Chosen result (Unit {0}) (self.new.window ≡ self.old.window) }
+        ensures same { Chosen result ⊤ (self.new.window ≡ self.old.window) }
         ensures rest { self.new ≡
             with_window self.old self.new.window self.new.missed self.new.settled }
         ensures noted { AreNoted self.new.missed self.new.settled self.new.window }

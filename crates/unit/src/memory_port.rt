@@ -1,5 +1,5 @@
 //! The memory port: loads are answered over the live memory instructions before them.
-ghost use Rattle.std.specs.Prelude.{◌≡◌, ◌<◌, ◌≤◌, ◌+◌, length};
+ghost use Rattle.std.specs.Prelude.{⊤, ◌≡◌, ◌<◌, ◌≤◌, ◌+◌, length};
 ghost use Rattle.instructions.specs.Instruction.{width as width_in};
 ghost use Rattle.lsq.specs.Entries.{bytes};
 ghost use Rattle.unit.specs.Changes.{LoadsOldest, NoneLoads};
@@ -93,7 +93,7 @@ impl<'a> Pipeline<'a> {
         requires stores { StoresWriteNone self.old.window }
         requires noted { AreNoted self.old.missed self.old.settled self.old.window }
         ensures window { Chosen result (LoadsOldest self.old self.new) (NoneLoads self.old) }
-        ensures same { Chosen result (Unit {0}) (self.new ≡ self.old) }
+        ensures same { Chosen result ⊤ (self.new ≡ self.old) }
         ensures rest { self.new ≡ record self.old { window = self.new.window } }
         ensures noted { AreNoted self.new.missed self.new.settled self.new.window }
     {

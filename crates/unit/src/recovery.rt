@@ -1,5 +1,5 @@
 //! Recovery from a miss.
-ghost use Rattle.std.specs.Prelude.{◌≡◌, ◌<◌, ◌≤◌, [], ◌∷◌, ◌++◌, length, take, slice_get, None};
+ghost use Rattle.std.specs.Prelude.{⊤, ◌≡◌, ◌<◌, ◌≤◌, [], ◌∷◌, ◌++◌, length, take, slice_get, None};
 ghost use Rattle.unit.specs.Changes.{NoneRecovers, RecoversOldest, with_window};
 ghost use Rattle.unit.specs.Givers.{Chosen, gives};
 ghost use Rattle.unit.specs.Notes.{AreNoted, AreSettled, miss_in};
@@ -46,7 +46,7 @@ impl<'a> Pipeline<'a> {
         requires room { length self.old.window ≤ 32 }
         requires noted { AreNoted self.old.missed self.old.settled self.old.window }
         ensures window { Chosen result (RecoversOldest self.old self.new) (NoneRecovers self.old) }
-        ensures same { Chosen result (Unit {0}) (self.new ≡ self.old) }
+        ensures same { Chosen result ⊤ (self.new ≡ self.old) }
         ensures rest { self.new ≡
             with_window self.old self.new.window self.new.missed self.new.settled }
         ensures noted { AreNoted self.new.missed self.new.settled self.new.window }
@@ -65,7 +65,7 @@ impl<'a> Pipeline<'a> {
         requires room { length self.old.window ≤ 32 }
         requires noted { AreNoted self.old.missed self.old.settled self.old.window }
         ensures window { Chosen result (RecoversOldest self.old self.new) (NoneRecovers self.old) }
-        ensures same { Chosen result (Unit {0}) (self.new ≡ self.old) }
+        ensures same { Chosen result ⊤ (self.new ≡ self.old) }
         ensures rest { self.new ≡
             with_window self.old self.new.window self.new.missed self.new.settled }
         ensures noted { AreNoted self.new.missed self.new.settled self.new.window }

@@ -9,7 +9,7 @@ pub returns-in-Over-clause-ends : goal.returns-in-Over-clause-ends
 returns-in-Over-clause-ends g c =
     let b = c.loop-code.self in
     let later = c.turn.new.self in
-    let unit : StandsForSome b.pipeline = subst (λ x. StandsForSome x.pipeline) c.self.view_is c.self.invariant in
+    let unit : StandsForSome b.pipeline = subst (λ x. StandsForSome x.pipeline) c.self.view_is c.self.invariant.0 in
     let moves = moves_of g.P.Predictor.Predicts g.P.Predictor.Learns b later _ c.in-Over.ensures.turn in
     let kept = c.loop-code.invariant in
     one_over c.args.self.now.pipeline b.pipeline later.pipeline c.in-Over.code unit moves c.in-Over.ensures.same kept.program kept.committed c.in-Over.ensures.falls
@@ -18,7 +18,7 @@ pub returns-in-Retired-clause-ends : goal.returns-in-Retired-clause-ends
 returns-in-Retired-clause-ends g c =
     let b = c.loop-code.self in
     let later = c.turn.new.self in
-    let unit : StandsForSome b.pipeline = subst (λ x. StandsForSome x.pipeline) c.self.view_is c.self.invariant in
+    let unit : StandsForSome b.pipeline = subst (λ x. StandsForSome x.pipeline) c.self.view_is c.self.invariant.0 in
     let moves = moves_of g.P.Predictor.Predicts g.P.Predictor.Learns b later _ c.in-Retired.ensures.turn in
     let kept = c.loop-code.invariant in
     one_retired c.args.self.now.pipeline b.pipeline later.pipeline unit moves c.in-Retired.ensures.same kept.program kept.committed c.in-Retired.ensures.falls

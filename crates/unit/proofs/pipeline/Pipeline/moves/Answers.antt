@@ -1,10 +1,11 @@
 -- Each answer of a turn that asks no predictor.
-use Rattle.std.proofs.Common.{sym, subst}
+use Rattle.std.proofs.Common.{sym, ◌∙◌, subst, true≢false}
 use Rattle.unit.specs.Changes.{registers_of}
 use Rattle.unit.specs.Givers.{NoneGives}
 use Rattle.unit.specs.Loads.{load_in}
 use Rattle.unit.proofs.EndTurns.{are_inside, stores_write_none}
 use Rattle.unit.proofs.Idle.{Idle, idle, leaves_after, loaded_shows, ran_shows, retired_plain, retired_shows}
+use Rattle.unit.proofs.Stalls.{loaded_stalls, ran_stalls, retired_unstalled}
 use Rattle.unit.proofs.pipeline.Pipeline.moves.Goals as goal
 
 pub returns-then-runs-clause-turn : goal.returns-then-runs-clause-turn
@@ -106,3 +107,17 @@ returns-clause-plain c =
     let j : Idle c.args.self.now c.loads.new.self = subst (Idle c.args.self.now) (sym c.if-loads.ensures.same) i in
     let l = subst (λ b. NoneGives (load_in (registers_of b) b.committed.memory) b.window) (sym c.if-loads.ensures.same) c.if-loads.ensures.window in
     retired_plain c.loads.new.self c.retires.new.self c.retires.result (leaves_after c.args.self.now c.loads.new.self j l) c.retires.ensures
+
+pub returns-then-runs-clause-stalled : goal.returns-then-runs-clause-stalled
+returns-then-runs-clause-stalled c e = ran_stalls c.args.self.now c.runs.new.self c.requires.lets c.if-runs.ensures.window c.runs.ensures.rest
+
+pub returns-then-loads-clause-stalled : goal.returns-then-loads-clause-stalled
+returns-then-loads-clause-stalled c e =
+    let i : Idle c.args.self.now c.runs.new.self = idle c.args.self.now c.runs.new.self c.requires.unit c.requires.open c.requires.miss c.requires.lets c.if-runs.ensures.window c.if-runs.ensures.same
+    c.runs.ensures.rest c.runs.ensures.noted in
+    loaded_stalls c.runs.new.self c.loads.new.self i.lets c.if-loads.ensures.window c.loads.ensures.rest
+
+pub returns-clause-stalled : goal.returns-clause-stalled
+returns-clause-stalled c e =
+    let none = retired_unstalled c.loads.new.self c.retires.new.self c.retires.result c.retires.ensures in
+    absurd (true≢false (sym e ∙ none))

@@ -1,4 +1,4 @@
-use Rattle.std.proofs.Common.{◌≡◌, ◌<◌, length, sym, ap, ◌∙◌, subst, arith}
+use Rattle.std.proofs.Common.{◌<◌, length, sym, subst, arith}
 use Rattle.std.specs.Prelude.{slice_index}
 use Rattle.unit.specs.Creators.{IsCreator}
 use Rattle.unit.specs.Slots.{place_from, ring_of}
