@@ -1,6 +1,6 @@
 //! Command lines, and the runs that they ask for.
 mod blamed;
-mod by_hand;
+mod driven;
 mod handed_on;
 mod runs;
 mod tallies;
