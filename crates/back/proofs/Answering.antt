@@ -23,7 +23,7 @@ use Rattle.inorder.proofs.Heads.{head_stays}
 use Rattle.inorder.proofs.Histories.{unit_sound}
 use Rattle.inorder.proofs.Positions.{at_below}
 use Rattle.inorder.proofs.Sound.{IsSound}
-use Rattle.ruu_words.specs.Content.{operand_value}
+use Rattle.ruu_words.specs.Content.{value_field}
 use Rattle.ruu_words.proofs.Stays.{back_stays}
 use Rattle.station.specs.Looking.{ShowsOperand, source_state}
 use Rattle.station.specs.declared.answers.SourceState.{SourceState}
@@ -38,7 +38,7 @@ use Rattle.back.proofs.Ranks.{InRing, in_ring}
 
 -- What an operand shows
 
-content_shown : (v : Option ℕ) (state : SourceState) (value : ℕ) → state ≡ source_state v → value ≡ operand_value v → content_in state value ≡ v
+content_shown : (v : Option ℕ) (state : SourceState) (value : ℕ) → state ≡ source_state v → value ≡ value_field v → content_in state value ≡ v
 content_shown None state value e f = ap (λ s. content_in s value) e
 content_shown (Some y) state value e f = λ i. content_in (e i) (f i)
 

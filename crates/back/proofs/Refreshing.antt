@@ -12,10 +12,11 @@ use Rattle.inorder.specs.Callers.{head_station}
 use Rattle.inorder.specs.Committed.{committed}
 use Rattle.inorder.specs.History.{IsLegal, back, unit_of}
 use Rattle.inorder.specs.OneHistory.{Adds}
-use Rattle.inorder.specs.Replies.{Has, IsNamed}
+use Rattle.inorder.specs.Replies.{Has}
 use Rattle.inorder.specs.Tenants.{Tenant}
 use Rattle.inorder.specs.Unit.{Sizes, at, is_old}
 use Rattle.inorder.proofs.Histories.{adds_on, starts_same, none_from, legal_before}
+use Rattle.ruu_words.specs.Kinds.{IsNamed}
 use Rattle.station.specs.Seats.{TheCore}
 use Rattle.station.specs.Writeback.{IsDeliveryOf, IsWalk}
 use Rattle.back.specs.Loads.{IsLiveLoad, WasBlocked, WasNotWaiting}
@@ -115,7 +116,7 @@ module _ (P : Program) (C : Sizes) (old new : List Entry) (head : ℕ) (head_is 
         let u = since_at P C point new f.when.within.before_return s.adds.legal q t is in
         let calm = none_from new point old f.when.within.before_return f.when.within.behind_call s.adds.one_table in
         let recent : is_old (unit_of P C new) q ≡ false = old_since P C new point f.when.within.before_return s.adds.legal calm q ∙ then_new in
-        record { tenant = u.tenant; is = u.is; new = recent; station_is = u.since.station; tag_is = u.since.tag }
+        record { tenant = u.tenant; is = u.is; new = recent; station_is = u.since.station; tag_is = u.since.tag; fact = tt }
 
     held : HoldsBack P f.p (station_behind head C.ring f.place) store (unit_of P C point)
     held = f.when.fact

@@ -15,21 +15,20 @@ use Rattle.inorder.specs.declared.history.Source.TheVariants.{First, Second}
 use Rattle.inorder.specs.declared.history.Step.{Step}
 use Rattle.inorder.specs.declared.history.Step.TheVariants.{On}
 use Rattle.inorder.specs.Callers.{CanLoad}
-use Rattle.inorder.specs.History.{IsLegal, StartsWith, back, entry, taken_of, unit_of, renewals}
+use Rattle.inorder.specs.History.{IsLegal, StartsWith, back, entry, unit_of, renewals}
 use Rattle.inorder.specs.OneHistory.{Adds}
 use Rattle.inorder.specs.Legal.{Allowed, May, applied, changed}
 use Rattle.inorder.specs.Memory.{load_value}
-use Rattle.inorder.specs.Replies.{Has, IsNamed, IsStale}
+use Rattle.inorder.specs.Replies.{Has, IsStale}
 use Rattle.inorder.specs.Tenants.{Done, Live, Squashed, Tenant}
 use Rattle.inorder.specs.Unit.{Sizes, UpdateUnit, older, younger}
 use Rattle.inorder.proofs.Ends.{Acted, IsNotBacks, exact}
-use Rattle.inorder.proofs.Histories.{adds_on, allowed_steps, legal_before, unit_lasts, none_to, none_from}
+use Rattle.inorder.proofs.Histories.{adds_on, legal_before, unit_lasts, none_to, none_from}
 use Rattle.inorder.proofs.Loading.{gone_stays, load_stays}
 use Rattle.inorder.proofs.Moves.{IsActed, IsLeft, at_changed}
 use Rattle.inorder.proofs.Sound.{IsSound}
-use Rattle.inorder.proofs.Tags.{tagged}
-use Rattle.ruu_words.specs.Kinds.{IsTenant}
-use Rattle.ruu_words.proofs.Stays.{any_stays, back_stays}
+use Rattle.ruu_words.specs.Kinds.{IsNamed, IsTenant}
+use Rattle.ruu_words.proofs.Stays.{back_stays, named_on, named_stays, one_named, with_fact}
 use Rattle.station.specs.Moments.{WasOnce}
 use Rattle.station.specs.Writeback.{IsWalk, IsWritten, MaySettle, WasStale}
 use Rattle.back.specs.Loads.{IsWaitingLoad}
@@ -39,7 +38,7 @@ use Rattle.back.specs.declared.port.Load.{Load}
 use Rattle.back.proofs.OwnEntries.{EndsWith, added_own, split_last}
 use Rattle.back.proofs.PortStays.{asked_stays}
 use Rattle.back.proofs.Trying.{once_earlier, once_later, once_now, starts_on}
-use Rattle.inorder.proofs.Recent.{live_is_recent, names_recent}
+use Rattle.inorder.proofs.Recent.{live_is_recent}
 
 apart : Live ≡ Squashed → ⊥
 apart x = cc x
@@ -67,20 +66,12 @@ done_stays P C p v U by s a h = ⊎_elim
 
 module _ (P : Program) (C : Sizes) (old new : List Entry) where
   -- a tenant keeps its name
-  named_on : (before : List Entry) → StartsWith new before → IsLegal P C new →
+  named_behind : (before : List Entry) → StartsWith new before → IsLegal P C new →
       renewals new ≡ renewals before → (p station tag : ℕ) → IsNamed (unit_of P C before) p station tag →
       IsNamed (unit_of P C new) p station tag
-  named_on before starts legal same p station tag n =
-      let i = any_stays P C p station tag starts.more before (subst (IsLegal P C) starts.is legal) (sym (ap renewals starts.is) ∙ same)
-      (record { tenant = n.tenant; is = n.is; new = n.new; station_is = n.station_is; tag_is = n.tag_is; fact = tt }) in
-      subst (λ h. IsNamed (unit_of P C h) p station tag) (sym starts.is) (record { tenant = i.tenant; is = i.is; new = i.new; station_is = i.station_is; tag_is = i.tag_is })
-
-  pub named_later : (events : List Event) → Adds P C back old new events → (p station tag : ℕ) → IsNamed (unit_of P C old) p station tag → IsNamed (unit_of P C new) p station tag
-  named_later events a p station tag n = named_on old a.begins a.legal a.one_table p station tag n
-
-  one_named : IsLegal P C new → (p q station tag : ℕ) → IsNamed (unit_of P C new) p station tag → IsNamed (unit_of P C new) q station tag → p ≡ q
-  one_named legal p q station tag n m =
-      names_recent C (unit_of P C new) (tagged P C (taken_of new) (allowed_steps P C new legal)) p q n.tenant m.tenant n.is m.is n.new m.new (n.station_is ∙ sym m.station_is) (n.tag_is ∙ sym m.tag_is)
+  named_behind before starts legal same p station tag n =
+      subst (λ h. IsNamed (unit_of P C h) p station tag) (sym starts.is)
+      (named_stays P C p station tag starts.more before (subst (IsLegal P C) starts.is legal) (sym (ap renewals starts.is) ∙ same) n)
 
   -- A load got its value: what was seen before that, and what has come since
   module _ (station tag : ℕ) (w : IsWritten P C back old new station tag LoadIt (λ q. IsWalk P C new q)) where
@@ -126,8 +117,8 @@ module _ (P : Program) (C : Sizes) (old new : List Entry) where
         a = legal_then.1.1
 
         n : IsNamed (unit_of P C new) w.p a.tenant.station a.tenant.tag
-        n = named_on before starts w.adds.legal (none_from new before old starts (record { more = ends.earlier; is = refl }) w.adds.one_table) w.p a.tenant.station a.tenant.tag
-            (record { tenant = a.tenant; is = a.is; new = live_is_recent P C before legal_then.0 w.p a.tenant a.is a.may.live; station_is = refl; tag_is = refl })
+        n = named_behind before starts w.adds.legal (none_from new before old starts (record { more = ends.earlier; is = refl }) w.adds.one_table) w.p a.tenant.station a.tenant.tag
+            (record { tenant = a.tenant; is = a.is; new = live_is_recent P C before legal_then.0 w.p a.tenant a.is a.may.live; station_is = refl; tag_is = refl; fact = tt })
 
   -- and it is done with that value
   module _ (station tag p address v : ℕ) (named : IsNamed (unit_of P C old) p station tag) (can : CanLoad P (unit_of P C old) p address v ⊎ IsStale (unit_of P C old) p) where
@@ -138,21 +129,14 @@ module _ (P : Program) (C : Sizes) (old new : List Entry) where
         let all = new_is station tag w in
         let point = before station tag w in
         let here = legal_then station tag w in
-        let same : p ≡ w.p = one_named w.adds.legal p w.p station tag (named_later (w.behind ++ Does (On w.p LoadIt) ∷ []) w.adds p station tag named) w.named in
+        let same : p ≡ w.p = one_named P C new w.adds.legal p w.p station tag (named_on P C back p station tag (w.behind ++ Does (On w.p LoadIt) ∷ []) old new w.adds named) w.named in
         let can_here = back_stays P C (λ U. CanLoad P U p address v ⊎ IsStale U p) step s.earlier old here.0
         (none_to new point old (record { more = s.later ++ e ∷ []; is = all ∙ sym (append_assoc s.later (e ∷ []) point) }) (record { more = s.earlier; is = refl }) w.adds.one_table) s.not_own
         can in
         let done = at_load (unit_of P C point) w.p here.1.1 (subst (λ x. CanLoad P (unit_of P C point) x address v ⊎ IsStale (unit_of P C point) x) same can_here) in
         let there = unit_lasts P C (λ U. Has U w.p (λ t. t.fate ≡ Done v)) (λ U by z al ok h. done_stays P C w.p v U by z al h) s.later (e ∷ point) (subst (IsLegal P C) all w.adds.legal) done in
         let now = subst (λ h. Has (unit_of P C h) w.p (λ t. t.fate ≡ Done v)) (sym all) there in
-        record {
-          tenant = w.named.tenant;
-          is = w.named.is;
-          new = w.named.new;
-          station_is = w.named.station_is;
-          tag_is = w.named.tag_is;
-          fact = subst (λ (x : Tenant). x.fate ≡ Done v) (same_Some now.tenant w.named.tenant (sym now.is ∙ w.named.is)) now.fact;
-        }
+        with_fact (λ t. t.fate ≡ Done v) w.named (subst (λ (x : Tenant). x.fate ≡ Done v) (same_Some now.tenant w.named.tenant (sym now.is ∙ w.named.is)) now.fact)
       where
         step : (U : UpdateUnit) (by : ℕ) (s : Step) → IsNotBacks s → Allowed P C U by s →
             IsSound P U.tenants → CanLoad P U p address v ⊎ IsStale U p →
@@ -182,7 +166,7 @@ module _ (P : Program) (C : Sizes) (old new : List Entry) where
       let new_is : new ≡ s.later ++ e ∷ before = w.adds.begins.is ∙ (ap (λ z. z ++ old) s.is ∙ append_assoc s.later (e ∷ s.earlier) old) in
       let legal = subst (IsLegal P C) new_is w.adds.legal in
       let here = legal_before P C s.later (e ∷ before) legal in
-      let same : w.p ≡ p = sym (one_named w.adds.legal p w.p station tag (named_later (Refuses (Stale w.p) ∷ []) w.adds p station tag named) w.named) in
+      let same : w.p ≡ p = one_named P C new w.adds.legal w.p p station tag w.named (named_on P C back p station tag (Refuses (Stale w.p) ∷ []) old new w.adds named) in
       let there = unit_lasts P C (λ U. IsStale U w.p) (λ U by z al ok h. gone_stays P C U by z al w.p h) s.later (e ∷ before) legal here.1.1 in
       subst (λ x. IsStale (unit_of P C new) x) same (subst (λ h. IsStale (unit_of P C h) w.p) (sym new_is) there)
 
@@ -195,7 +179,7 @@ pub may_settle : (P : Program) (C : Sizes) (seen : List Entry) (p station tag ad
     CanLoad P (unit_of P C seen) p address v ⊎ IsStale (unit_of P C seen) p → MaySettle P C seen station tag v
 may_settle P C seen p station tag address v n c = record {
   address = address;
-  can = record { p = p; named = record { tenant = n.tenant; is = n.is; new = n.new; station_is = n.station_is; tag_is = n.tag_is; fact = tt }; can = c };
+  can = record { p = p; named = n; can = c };
 }
 
 -- The whole
@@ -206,7 +190,7 @@ module _ (P : Program) (C : Sizes) (old mid late : List Entry) (first : Adds P C
     both = adds_on P C back old mid late [] [] first then
 
     pub named_late : IsNamed (unit_of P C late) w.p station l.tag
-    named_late = named_later P C mid late [] then w.p station l.tag w.named
+    named_late = named_on P C back w.p station l.tag [] mid late then w.named
 
     pub asked_late : IsAskedInOrder P (unit_of P C late) w.p station l
     asked_late = asked_stays P C mid late then w.p station l w.asked

@@ -12,7 +12,7 @@ use Rattle.instructions.specs.declared.op.Kind.TheVariants.{Computes, Jumps, Lin
 use Rattle.inorder.specs.declared.history.Entry.{Entry}
 use Rattle.inorder.specs.History.{IsLegal, StartsWith, back, taken_of, unit_of}
 use Rattle.inorder.specs.OneHistory.{Adds}
-use Rattle.inorder.specs.Replies.{Has, IsNamed, IsStale}
+use Rattle.inorder.specs.Replies.{Has, IsStale}
 use Rattle.inorder.specs.StationWords.{IsAddr, IsBusy, IsDone, IsFree, IsMiss, IsOpen, IsStop, HasFate, StationState as State, live_word, station_word}
 use Rattle.inorder.specs.Tenants.{Addr, Busy, Done, Fate, Live, Miss, Open, Squashed, Stopped, Tenant}
 use Rattle.inorder.specs.Unit.{Sizes, UpdateUnit, at, older, recent, younger}
@@ -27,6 +27,7 @@ use Rattle.inorder.proofs.Tags.{tagged}
 use Rattle.ruu_words.specs.declared.station.StationState.{StationState}
 use Rattle.ruu_words.specs.Content.{HasValue, code}
 use Rattle.ruu_words.specs.States.{state_code}
+use Rattle.ruu_words.specs.Kinds.{IsNamed}
 use Rattle.station.specs.Looking.{Shows}
 use Rattle.station.specs.Moments.{WasOnce}
 use Rattle.back.specs.Loads.{IsWaitingLoad}
@@ -227,6 +228,7 @@ module _ (P : Program) (C : Sizes) (old mid new : List Entry) (a : Adds P C back
         station_is = w.1 ∙
             first.1.fact.station_is;
         tag_is = w.2 ∙ first.1.fact.tag_is;
+        fact = tt;
       }
     where
       long_enough : p < length (unit_of P C new).tenants

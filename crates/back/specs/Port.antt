@@ -6,13 +6,14 @@ use Rattle.instructions.specs.declared.instr.Instr.{Instr}
 use Rattle.inorder.specs.declared.history.Entry.{Entry}
 use Rattle.inorder.specs.Callers.{CanLoad}
 use Rattle.inorder.specs.Loads.{access_entry, access_width, entry_of, is_store}
-use Rattle.inorder.specs.Replies.{Has, IsNamed, IsStale}
+use Rattle.inorder.specs.Replies.{Has, IsStale}
 use Rattle.inorder.specs.Tenants.{Addr, Fate, Live, Tenant, instr, kind_of}
 use Rattle.inorder.specs.Unit.{UpdateUnit, at}
 use Rattle.lsq.specs.declared.entry.Entry.{Entry as QueueEntry}
 use Rattle.lsq.specs.LoadRule.{lacks_address, overlaps}
 use Rattle.ruu_words.specs.declared.station.StationState.{StationState}
 use Rattle.ruu_words.specs.declared.station.StationState.TheVariants.{Addr as ShowsAddr}
+use Rattle.ruu_words.specs.Kinds.{IsNamed}
 use Rattle.station.specs.Seats.{TheCore}
 use Rattle.station.specs.declared.answers.SourceState.{SourceState}
 use Rattle.station.specs.declared.answers.SourceState.TheVariants.{Val}

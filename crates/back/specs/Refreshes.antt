@@ -10,10 +10,10 @@ use Rattle.inorder.specs.declared.history.Refusal.TheVariants.{Stale}
 use Rattle.inorder.specs.declared.history.Step.TheVariants.{On}
 use Rattle.inorder.specs.History.{unit_of}
 use Rattle.inorder.specs.OneHistory.{Adds}
-use Rattle.inorder.specs.Replies.{Has, IsNamed}
+use Rattle.inorder.specs.Replies.{Has}
 use Rattle.inorder.specs.Tenants.{Done}
 use Rattle.inorder.specs.Unit.{Sizes}
-use Rattle.ruu_words.specs.Kinds.{IsTenant}
+use Rattle.ruu_words.specs.Kinds.{IsNamed, IsTenant}
 use Rattle.station.specs.Moments.{WasOnce}
 use Rattle.station.specs.Seats.{TheCore}
 use Rattle.station.specs.Writeback.{IsWalk}

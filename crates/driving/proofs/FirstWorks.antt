@@ -1,5 +1,5 @@
 -- What comes of the work on the first of two tenants: the second has its value.
-use Rattle.std.proofs.Common.{◌≡◌, ◌≢◌, ℕ, ◌<◌, Bool, true, false, cond, List, [], ◌∷◌, ◌++◌, map, length, refl, sym, ap, ◌∙◌, subst}
+use Rattle.std.proofs.Common.{◌≡◌, ◌≢◌, ℕ, Bool, true, false, cond, List, [], ◌∷◌, ◌++◌, map, length, refl, sym, ap, ◌∙◌, subst}
 use Rattle.instructions.specs.Operations.{outcome_of}
 use Rattle.instructions.specs.Programs.{Program, instr_of}
 use Rattle.instructions.specs.declared.stop.Outcome.{Outcome}
@@ -14,7 +14,7 @@ use Rattle.inorder.specs.declared.history.Source.TheVariants.{First, Second}
 use Rattle.inorder.specs.declared.history.Step.TheVariants.{On}
 use Rattle.inorder.specs.History.{IsLegal, entry, own, unit_of}
 use Rattle.inorder.specs.Legal.{MayAct, applied}
-use Rattle.inorder.specs.Replies.{IsStale, JobFields, last_tag}
+use Rattle.inorder.specs.Replies.{IsStale, JobFields}
 use Rattle.inorder.specs.Steps.{finished}
 use Rattle.inorder.specs.Tenants.{Tenant, kind_of, needs}
 use Rattle.inorder.specs.Unit.{Sizes, UpdateUnit}
@@ -22,7 +22,7 @@ use Rattle.station.specs.declared.answers.Finish.{Finish as Answer}
 use Rattle.station.specs.declared.answers.Finish.TheVariants.{Finished, Stale}
 use Rattle.station.specs.Seats.{TheCore}
 use Rattle.station.specs.Writeback.{FinishAnswers, IsCarried, IsWalk, job_outcome}
-use Rattle.driving.specs.Chains.{IsChain, IsWorkedOut, first_result}
+use Rattle.driving.specs.Chains.{IsWorkedOut, first_result}
 use Rattle.driving.proofs.SetUp.{IsSetUp}
 use Rattle.driving.proofs.Known.{exactly}
 use Rattle.driving.proofs.LinkedTenants.{a_busy, a_done, b_linked, b_ready, is_claim, is_finish, nobody_squashed, two, walked}
@@ -33,32 +33,17 @@ either true n = refl
 either false n = refl
 
 module _ (core : TheCore) (predicted : ℕ) (set : IsSetUp core predicted) where
-  abbrev chain : IsChain core.program
-  chain = set.chain
-
-  abbrev ring : 1 < core.sizes.ring
-  ring = set.ring
-
-  abbrev queue : 0 < core.sizes.queue
-  queue = set.queue
-
-  abbrev tags : core.sizes.first_tag < last_tag
-  tags = set.tags
-
   abbrev P : Program
   P = core.program
 
   abbrev C : Sizes
   C = core.sizes
 
-  abbrev a : Tenant
-  a = a_of P C
-
   abbrev b : Tenant
   b = b_linked P C predicted
 
-  module _ (v : ℕ) (makes : first_result P ≡ Value v) (by : ℕ) (outcome : Outcome) (old new : List Entry) (unit : unit_of P C old ≡ two b a) (alone : (n : ℕ) → n ≢ by → own n new ≡ own n old)
-      (w : IsWorkedOut core by a 0 outcome old new) where
+  module _ (v : ℕ) (makes : first_result P ≡ Value v) (by : ℕ) (outcome : Outcome) (old new : List Entry) (unit : unit_of P C old ≡ two b (a_of P C)) (alone : (n : ℕ) → n ≢ by → own n new ≡ own n old)
+      (w : IsWorkedOut core by (a_of P C) 0 outcome old new) where
     claimed_is : w.mid ≡ entry by (Does (On w.claimed.holds.p Claim)) ∷ old
     claimed_is = exactly by old w.mid (Does (On w.claimed.holds.p Claim) ∷ []) w.claimed.adds.begins w.alone w.claimed.adds.mine
 
@@ -73,8 +58,8 @@ module _ (core : TheCore) (predicted : ℕ) (set : IsSetUp core predicted) where
     computes : job_outcome P w.job ≡ Value v
     computes =
         let f = w.fields_are in
-        let first : w.job.a ≡ 0 = ap (λ (z : JobFields). z.first) f ∙ either (needs (kind_of P a) First) 0 in
-        let second : w.job.b ≡ 0 = ap (λ (z : JobFields). z.second) f ∙ either (needs (kind_of P a) Second) 0 in
+        let first : w.job.a ≡ 0 = ap (λ (z : JobFields). z.first) f ∙ either (needs (kind_of P (a_of P C)) First) 0 in
+        let second : w.job.b ≡ 0 = ap (λ (z : JobFields). z.second) f ∙ either (needs (kind_of P (a_of P C)) Second) 0 in
         (λ i. outcome_of (instr_of P (f i).index) (f i).half (f i).pc (first i) (second i) (length P.bytes)) ∙ makes
 
     alone_mid : (n : ℕ) → n ≢ by → own n new ≡ own n w.mid
@@ -102,7 +87,7 @@ module _ (core : TheCore) (predicted : ℕ) (set : IsSetUp core predicted) where
             let unit_fin : unit_of P C fin ≡ two b (a_done P C predicted v) =
             (λ i. applied P C (busy i) by (On (here i) Finish))
             ∙ ap (λ o. two b (finished (a_busy P C predicted by) o)) makes in
-            ap (unit_of P C) is ∙ walked P C predicted chain ring queue tags v by x.p new fin unit_fin here walk.deliveries walk.each legal
+            ap (unit_of P C) is ∙ walked P C predicted set.chain set.ring set.queue set.tags v by x.p new fin unit_fin here walk.deliveries walk.each legal
           where
             behind : (ds : List Event) (d : Event) → map (entry by) (ds ++ d ∷ []) ++ w.mid ≡ map (entry by) ds ++ entry by d ∷ w.mid
             behind [] d = refl

@@ -16,7 +16,7 @@ use Rattle.inorder.specs.History.{IsLegal, IsWalked, MayAdd, entry, front, unit_
 use Rattle.inorder.specs.Legal.{MayAct, applied}
 use Rattle.inorder.specs.Replies.{last_tag}
 use Rattle.inorder.specs.Steps.{delivered, linked, new_tenant}
-use Rattle.inorder.specs.Tenants.{AtLet, Busy, Done, Linked, Live, Open, Squashed, Tenant, Unlinked, operand}
+use Rattle.inorder.specs.Tenants.{AtLet, Busy, Done, Linked, Live, Open, Squashed, Tenant, Unlinked}
 use Rattle.inorder.specs.Unit.{Sizes, UpdateUnit, older, value_of}
 use Rattle.station.specs.Asking.{IsQuestion}
 use Rattle.station.specs.Writeback.{IsDeliveryOf}

@@ -1,5 +1,5 @@
 -- Lists of records: the last one.
-use Rattle.std.proofs.Common.{◌≡◌, ◌≢◌, ℕ, suc, ◌+◌, List, [], ◌∷◌, ◌++◌, length, refl, ap, arith, length-append}
+use Rattle.std.proofs.Common.{◌≡◌, ◌≢◌, ℕ, ◌+◌, List, [], ◌∷◌, ◌++◌, length, refl, ap, arith, length-append}
 use Rattle.front.specs.declared.path.record.Record.{Record}
 
 pub record AreSame (xs ys : List Record) (x y : Record) : Type 0 where

@@ -20,9 +20,10 @@ use Rattle.inorder.proofs.Histories.{adds_on, unit_sound}
 use Rattle.inorder.proofs.Letting.{LetStays}
 use Rattle.inorder.proofs.Positions.{at_below, at_more, at_new}
 use Rattle.inorder.proofs.OneCaller.Creators.{found_at}
-use Rattle.ruu_words.specs.Kinds.{IsAny, IsTenant}
+use Rattle.ruu_words.specs.Kinds.{IsNamed}
 use Rattle.ruu_words.proofs.Drafting.{still_let}
-use Rattle.ruu_words.proofs.Stays.{any_stays}
+use Rattle.ruu_words.proofs.Stays.{named_on, named_stays}
+use Rattle.ruu_words.proofs.StationWords.{one_tag}
 use Rattle.station.specs.declared.answers.Supply.{Supply}
 use Rattle.station.specs.declared.answers.Supply.TheVariants.{From as GivenFrom, Known as GivenKnown}
 use Rattle.station.specs.declared.answers.Tenant.{Tenant as NewTenant}
@@ -37,13 +38,13 @@ use Rattle.front.specs.Path.{record_for, rested_at}
 use Rattle.front.specs.Questions.{Asks, IsDispatched}
 use Rattle.front.specs.Trail.{is_link, record_of}
 use Rattle.front.proofs.LetKnown.{let_known}
-use Rattle.front.proofs.Named.{one_named, stands_right}
+use Rattle.front.proofs.Named.{stands_right}
 use Rattle.front.proofs.Tables.{table_let, table_stable}
 use Rattle.front.specs.CreateTable.{HasTable, IsEntered}
 use Rattle.front.specs.declared.path.counted.Table.{Table}
 use Rattle.front.proofs.Pending.{IsPending, pending_stable}
 use Rattle.front.proofs.Places.{kept_new, notes_length}
-use Rattle.front.proofs.Questioned.{HasAsked, has_asked, later}
+use Rattle.front.proofs.Questioned.{HasAsked, has_asked}
 use Rattle.front.proofs.Splitting.{event_legal, no_event, stays, stays_behind}
 use Rattle.station.proofs.Splitting.{LastEvent, last_event}
 use Rattle.front.proofs.Stations.{live_fewer}
@@ -178,12 +179,12 @@ module _ (P : Program) (C : Sizes) (old : List Entry) (legal : IsLegal P C old) 
       table_behind =
           let there : HasTable P M (rested_at base) T = stays P C (λ V. HasTable P V (rested_at base) T) (table_stable P C (rested_at base) T) old point l.before table in
           let after = table_let P C M front index predicted (supply_of first) (supply_of second) (rested_at base) T T' there ready.stands.past (subst (λ z. z < 32) place inside)
-          (λ p q t u a b is is'. one_named P C (entry front (let_of tenant) ∷ point) legal_let p q t u is is' (new_behind p a) (new_behind q b)) (subst (IsEntered T T') (sym kept_of) entered)
+          (λ p q t u a b is is'. one_tag P C (entry front (let_of tenant) ∷ point) legal_let p q t u is is' (new_behind p a) (new_behind q b)) (subst (IsEntered T T') (sym kept_of) entered)
           in
           stays_behind P C (λ V. HasTable P V (rested_at base) T') (table_stable P C (rested_at base) T') old new (let_of tenant) [] l after
 
     -- its place in the unit
-    pub named_new : IsTenant (applied P C M front let_step) (length M.tenants) f.station tag IsAny
+    pub named_new : IsNamed (applied P C M front let_step) (length M.tenants) f.station tag
     named_new = record { tenant = new_one; is = at_new new_one M.tenants; new = new_there M new_one; station_is = sym place; tag_is = sym tag_there; fact = tt }
 
     unlinked : (c : Option ℕ) (s : Supply) (a g : ℕ) → s ≡ GivenFrom a g → (let_operand c (supply_of s)).way ≡ Unlinked
@@ -246,16 +247,16 @@ module _ (P : Program) (C : Sizes) (old : List Entry) (legal : IsLegal P C old) 
 
     -- the whole, with its questions
     module _ (mid end : List Entry) (asks_first : Asks P C new mid f.station tag First first) (asks_second : Asks P C mid end f.station tag Second second) where
-      named_after : IsTenant (unit_of P C new) (length M.tenants) f.station tag IsAny
+      named_after : IsNamed (unit_of P C new) (length M.tenants) f.station tag
       named_after =
-          subst (λ z. IsTenant (unit_of P C z) (length M.tenants) f.station tag IsAny) (sym l.is) (any_stays P C (length M.tenants) f.station tag l.after (entry front (let_of tenant) ∷ point) l.legal
+          subst (λ z. IsNamed (unit_of P C z) (length M.tenants) f.station tag) (sym l.is) (named_stays P C (length M.tenants) f.station tag l.after (entry front (let_of tenant) ∷ point) l.legal
           (sym (ap renewals l.is) ∙ l.since) named_new)
 
       one : HasAsked P C new mid (length M.tenants) First first
       one = has_asked P C new mid adds.legal (length M.tenants) f.station tag First first named_after asks_first
 
-      named_mid : IsTenant (unit_of P C mid) (length M.tenants) f.station tag IsAny
-      named_mid = later P C new mid one.events one.adds (length M.tenants) f.station tag named_after
+      named_mid : IsNamed (unit_of P C mid) (length M.tenants) f.station tag
+      named_mid = named_on P C front (length M.tenants) f.station tag one.events new mid one.adds named_after
 
       two : HasAsked P C mid end (length M.tenants) Second second
       two = has_asked P C mid end one.adds.legal (length M.tenants) f.station tag Second second named_mid asks_second

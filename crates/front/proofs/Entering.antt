@@ -7,7 +7,6 @@ use Rattle.inorder.specs.History.{IsLegal, unit_of}
 use Rattle.inorder.specs.Unit.{Sizes, UpdateUnit, at, front_half, front_pc, next_station, recent, value_of}
 use Rattle.inorder.proofs.Positions.{at_below}
 use Rattle.station.specs.Seats.{Caller}
-use Rattle.front.proofs.Fronts.{nobody}
 use Rattle.front.specs.declared.path.base_state.Base.{Base}
 use Rattle.front.specs.declared.path.counted.Counted.{Counted}
 use Rattle.front.specs.declared.path.counted.Table.{Table}

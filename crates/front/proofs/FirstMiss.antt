@@ -11,8 +11,9 @@ use Rattle.inorder.specs.Callers.{IsMissing}
 use Rattle.inorder.specs.Tenants.{Tenant, stands_on_path}
 use Rattle.inorder.specs.Unit.{Sizes, UpdateUnit, at}
 use Rattle.inorder.proofs.Histories.{adds_on}
-use Rattle.ruu_words.specs.Kinds.{IsAny, IsTenant}
-use Rattle.ruu_words.proofs.Stays.{place_stays}
+use Rattle.ruu_words.specs.Kinds.{IsNamed}
+use Rattle.ruu_words.proofs.Stays.{named_of, place_stays}
+use Rattle.ruu_words.proofs.StationWords.{one_tag}
 use Rattle.front.specs.Path.{rested_at}
 use Rattle.front.specs.declared.path.base_state.Base.{Base}
 use Rattle.front.specs.declared.path.record.Record.{Record}
@@ -25,7 +26,7 @@ use Rattle.front.specs.Trail.{Note, record_of, trail}
 use Rattle.front.proofs.InQueue.{IsOrdered, IsSplit, drop_get, ordered, split_whats}
 use Rattle.front.proofs.Lists.{all_both, all_front, all_map, all_rest, all_two}
 use Rattle.front.proofs.Misses.{gone_miss, named_miss}
-use Rattle.front.proofs.Named.{notes_noted, one_named}
+use Rattle.front.proofs.Named.{notes_noted}
 use Rattle.front.proofs.Trails.{IsNoted, trail_all}
 use Rattle.inorder.specs.Replies.{Has}
 use Rattle.inorder.proofs.Recent.{old_since}
@@ -94,7 +95,7 @@ module _ (P : Program) (C : Sizes) (h : List Entry) (legal : IsLegal P C h) (rec
       (all_both NoMissBefore (k.gone ++ s.before) (s.one ∷ s.after) (all_both NoMissBefore k.gone s.before gone before) ((λ lt x t is m. less_not s.one.at s.one.at lt refl), after))
 
   -- the miss that has its name is the first
-  pub is_first : (new : List Entry) → IsLegal P C new → StartsWith new h → renewals new ≡ renewals h → (p : ℕ) → IsTenant (unit_of P C new) p one.station one.tag IsAny → IsFirst U p
+  pub is_first : (new : List Entry) → IsLegal P C new → StartsWith new h → renewals new ≡ renewals h → (p : ℕ) → IsNamed (unit_of P C new) p one.station one.tag → IsFirst U p
   is_first new new_legal starts renewed p named =
       let noted : IsNoted P U.tenants s.one = (all_rest (IsNoted P U.tenants) s.before (s.one ∷ s.after) noted_all).0 in
       let t = noted.tenant in
@@ -104,7 +105,7 @@ module _ (P : Program) (C : Sizes) (h : List Entry) (legal : IsLegal P C h) (rec
       (sym starts.is) still in
       let untold = (all_rest (λ n. rested_at base ≤ n.at) s.before (s.one ∷ s.after) (subst (AllByRecursion (λ n. rested_at base ≤ n.at)) s.is k.untold)).0 in
       let recent_one = old_since P C new h starts new_legal renewed s.one.at ∙ kept_new P C U records base (IsFolded U (rested_at base)) k s.one.at untold in
-      let same : p ≡ s.one.at = one_named P C new new_legal p s.one.at named.tenant there.tenant named.is there.is named.new recent_one
+      let same : p ≡ s.one.at = one_tag P C new new_legal p s.one.at named.tenant there.tenant named.is there.is named.new recent_one
       (named.station_is ∙ sym (there.fact.0 ∙ ap (λ (z : Record). z.station) what)) (named.tag_is ∙ sym (there.fact.1 ∙ ap (λ (z : Record). z.tag) what)) in
       λ q x u lt is m. trail_all P NoMissBefore U.tenants none_before q u is (ap stands_on_path m.live) (subst (λ z. q < z) same lt) x u is m
 
@@ -118,7 +119,6 @@ recovered P C begin mid old new legal records base k m first adds kept kept_base
     let events = map squash_event cut.squashes in
     let both : Adds P C front begin old events = subst (λ z. Adds P C front begin old z) (append-nil events) (adds_on P C front begin mid old [] events adds cut.adds) in
     let here : slice_get records m.at ≡ Some i.one = sym (get_taken records m.at) ∙ (ap (λ z. slice_get z m.at) (sym rest) ∙ i.here) in
-    let t = i.miss.tenant in
     let oldest = is_first P C begin legal records base k m.at i.one here first old both.legal both.begins both.one_table i.miss.p
-    (record { tenant = t.tenant; is = t.is; new = t.new; station_is = t.station_is; tag_is = t.tag_is; fact = tt }) in
+    (named_of i.miss.tenant) in
     mend_done P C begin old new kept kept_base k' m i long oldest squashed (record { squashes = cut.squashes; count = cut.count; adds = both }) s

@@ -6,7 +6,7 @@ use Rattle.inorder.specs.declared.history.Entry.{Entry}
 use Rattle.inorder.specs.History.{IsLegal, front, taken_of, unit_of}
 use Rattle.inorder.specs.Callers.{IsLastAt, IsMissing}
 use Rattle.inorder.specs.StationWords.{HasFate, IsBusy as IsBusyState, IsDone as IsDoneState, IsFree, IsMiss as IsMissState, IsOpen as IsOpenState, IsAddr as IsAddrState, IsStop as IsStopState}
-use Rattle.inorder.specs.StationWords.{NamedBy, StationState as Shown, StationWord, last_of, live_word, station_word, word_by, word_of}
+use Rattle.inorder.specs.StationWords.{NamedBy, StationState as Shown, StationWord, live_word, station_word}
 use Rattle.inorder.specs.Tenants.{Live, Miss, Tenant}
 use Rattle.inorder.specs.Unit.{at, recent, Sizes, UpdateUnit, younger}
 use Rattle.inorder.proofs.Histories.{allowed_steps}

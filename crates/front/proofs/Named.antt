@@ -1,16 +1,15 @@
 -- What is kept of a tenant names it.
-use Rattle.std.proofs.Common.{◌≡◌, ℕ, suc, ◌<◌, zero, false, List, [], ◌∷◌, ◌++◌, Some, sym, subst, mod-lt}
+use Rattle.std.proofs.Common.{◌≡◌, ℕ, suc, ◌<◌, zero, List, [], ◌∷◌, ◌++◌, Some, sym, subst, mod-lt}
 use Rattle.std.specs.List.{AllByRecursion}
 use Rattle.std.specs.Prelude.{slice_get}
 use Rattle.instructions.specs.Programs.{Program}
 use Rattle.inorder.specs.declared.history.Entry.{Entry}
 use Rattle.inorder.specs.History.{IsLegal, taken_of, unit_of}
 use Rattle.inorder.specs.Tenants.{Tenant}
-use Rattle.inorder.specs.Unit.{Sizes, UpdateUnit, at, is_old, recent}
+use Rattle.inorder.specs.Unit.{Sizes, UpdateUnit, at, recent}
 use Rattle.inorder.proofs.Histories.{allowed_steps}
 use Rattle.inorder.proofs.Positions.{at_more}
 use Rattle.inorder.proofs.Stations.{Stands as StandsRight, stands}
-use Rattle.inorder.proofs.Tags.{tagged}
 use Rattle.front.specs.declared.path.base_state.Base.{Base}
 use Rattle.front.specs.declared.path.record.Record.{Record}
 use Rattle.front.specs.Knows.{Stands, whats}
@@ -18,7 +17,6 @@ use Rattle.front.specs.Trail.{Note}
 use Rattle.front.proofs.Lists.{all_rest}
 use Rattle.front.proofs.Places.{notes_placed}
 use Rattle.front.proofs.Trails.{ArePlacedFrom, IsNoted, trail_noted}
-use Rattle.inorder.proofs.Recent.{names_recent}
 
 -- a fact of all records
 pub all_whats : (Q : Record → Type 0) (xs : List Note) → AllByRecursion (λ n. Q n.what) xs → AllByRecursion Q (whats xs)
@@ -40,9 +38,6 @@ module _ (P : Program) (C : Sizes) (h : List Entry) (legal : IsLegal P C h) wher
 
   pub stands_right : StandsRight C (recent U)
   stands_right = stands P C (taken_of h) (allowed_steps P C h legal)
-
-  pub one_named : (p q : ℕ) (t u : Tenant) → at U.tenants p ≡ Some t → at U.tenants q ≡ Some u → is_old U p ≡ false → is_old U q ≡ false → t.station ≡ u.station → t.tag ≡ u.tag → p ≡ q
-  one_named p q t u e f = names_recent C U (tagged P C (taken_of h) (allowed_steps P C h legal)) p q t u e f
 
   module _ (records : List Record) (base : Base) (Again : Note → Type 0) (k : Stands P C U records base Again) where
     pub notes_noted : AllByRecursion (IsNoted P U.tenants) k.notes

@@ -24,7 +24,7 @@ use Rattle.inorder.proofs.Grows.{sound_mid}
 use Rattle.inorder.proofs.Letting.{IsBesides}
 use Rattle.inorder.proofs.Moves.{Goes, IsNoLink, came, goes}
 use Rattle.inorder.proofs.Sound.{IsSound}
-use Rattle.ruu_words.specs.Kinds.{IsAny, IsTenant}
+use Rattle.ruu_words.specs.Kinds.{IsNamed, IsTenant}
 use Rattle.station.specs.Asking.{IsAsking, IsQuestion}
 use Rattle.front.specs.declared.path.base_state.Base.{Base}
 use Rattle.front.specs.Knows.{FrontKnows}
@@ -36,7 +36,7 @@ use Rattle.inorder.proofs.Recent.{old_kept}
 pub record IsPending (k : Source) (r q station tag s g : ℕ) (U : UpdateUnit) : Type 0 where
   pub asks : IsTenant U r station tag (IsAsking k q)
   pub last : IsLastAt U r station
-  pub creator : IsTenant U q s g IsAny
+  pub creator : IsNamed U q s g
   pub creator_last : IsLastAt U q s
 
 module _ (P : Program) (C : Sizes) (U : UpdateUnit) (by : ℕ) where

@@ -1,15 +1,15 @@
 -- The questions behind a let, one after another.
-use Rattle.std.proofs.Common.{◌≡◌, ℕ, ◌<◌, List, [], refl, sym, ap, ◌∙◌, subst}
+use Rattle.std.proofs.Common.{◌≡◌, ℕ, ◌<◌, List, [], refl, sym, subst}
 use Rattle.instructions.specs.Programs.{Program}
 use Rattle.inorder.specs.declared.history.Entry.{Entry}
 use Rattle.inorder.specs.declared.history.Event.{Event}
 use Rattle.inorder.specs.declared.history.Source.{Source}
 use Rattle.inorder.specs.declared.history.Source.TheVariants.{First, Second}
-use Rattle.inorder.specs.History.{IsLegal, front, unit_of, renewals}
+use Rattle.inorder.specs.History.{IsLegal, front, unit_of}
 use Rattle.inorder.specs.OneHistory.{Adds}
 use Rattle.inorder.specs.Unit.{Sizes}
-use Rattle.ruu_words.specs.Kinds.{IsAny, IsTenant}
-use Rattle.ruu_words.proofs.Stays.{any_stays}
+use Rattle.ruu_words.specs.Kinds.{IsNamed}
+use Rattle.ruu_words.proofs.Stays.{named_on, one_named}
 use Rattle.station.specs.declared.answers.Supply.{Supply}
 use Rattle.station.specs.declared.answers.Supply.TheVariants.{From, Known}
 use Rattle.station.specs.Asking.{IsQuestion}
@@ -22,7 +22,6 @@ use Rattle.front.specs.declared.path.counted.Table.{Table}
 use Rattle.front.proofs.Tables.{question_leaves_table, table_stable}
 use Rattle.front.specs.Questions.{Asks, MayAskFor}
 use Rattle.front.specs.Turns.{IsAskedFor}
-use Rattle.front.proofs.Named.{one_named}
 use Rattle.front.proofs.Pending.{IsPending, first_leaves, pending_stable, question_leaves}
 use Rattle.front.proofs.Splitting.{stays_under}
 use Rattle.front.proofs.Stays.{knows_stable}
@@ -45,14 +44,8 @@ module _ (P : Program) (C : Sizes) where
     pub knows : (records : List Record) (base : Base) → FrontKnows P C (unit_of P C old) records base → FrontKnows P C (unit_of P C new) records base
     pub table : (told : ℕ) (T : Table) → HasTable P (unit_of P C old) told T → HasTable P (unit_of P C new) told T
 
-  pub later : (old new : List Entry) (es : List Event) → Adds P C front old new es → (r station tag : ℕ) →
-      IsTenant (unit_of P C old) r station tag IsAny → IsTenant (unit_of P C new) r station tag IsAny
-  later old new es a r station tag i =
-      subst (λ z. IsTenant (unit_of P C z) r station tag IsAny) (sym a.begins.is) (any_stays P C r station tag a.begins.more old (subst (IsLegal P C) a.begins.is a.legal)
-      (sym (ap renewals a.begins.is) ∙ a.one_table) i)
-
   pub has_asked : (old new : List Entry) → IsLegal P C old → (r station tag : ℕ) (k : Source) (s : Supply) →
-      IsTenant (unit_of P C old) r station tag IsAny → Asks P C old new station tag k s →
+      IsNamed (unit_of P C old) r station tag → Asks P C old new station tag k s →
       HasAsked old new r k s
   has_asked old new legal r station tag k (Known v) i e = record {
     events = [];
@@ -62,9 +55,8 @@ module _ (P : Program) (C : Sizes) where
     table = λ told T x. subst (λ h. HasTable P (unit_of P C h) told T) (sym e) x;
   }
   has_asked old new legal r station tag k (From a g) i w =
-      let now = later old new w.events w.adds r station tag i in
-      let same : w.r ≡ r = one_named P C new w.adds.legal w.r r w.named.tenant now.tenant w.named.is now.is w.named.new now.new (w.named.station_is ∙ sym now.station_is)
-      (w.named.tag_is ∙ sym now.tag_is) in
+      let now = named_on P C front r station tag w.events old new w.adds i in
+      let same = one_named P C new w.adds.legal w.r r station tag w.named now in
       record {
         events = w.events;
         asks = subst (λ z. IsQuestion z k w.events) same w.question;

@@ -1,5 +1,5 @@
 -- A recovery as a whole.
-use Rattle.std.proofs.Common.{◌≡◌, ℕ, zero, suc, ◌+◌, ◌<◌, List, [], ◌∷◌, ◌++◌, length, map, take, Some, sym, ap, ◌∙◌, subst, arith, length-append}
+use Rattle.std.proofs.Common.{◌≡◌, ℕ, zero, suc, ◌+◌, ◌<◌, List, [], ◌∷◌, ◌++◌, length, map, take, Some, sym, ap, subst, arith, length-append}
 use Rattle.std.specs.Prelude.{slice_get}
 use Rattle.instructions.specs.Programs.{Program}
 use Rattle.inorder.specs.declared.history.Act.TheVariants.{Mend}
@@ -10,7 +10,8 @@ use Rattle.inorder.specs.History.{IsLegal, front, unit_of}
 use Rattle.inorder.specs.OneHistory.{Adds}
 use Rattle.inorder.specs.Unit.{Sizes}
 use Rattle.inorder.proofs.Histories.{adds_on}
-use Rattle.ruu_words.specs.Kinds.{IsAny, IsTenant}
+use Rattle.ruu_words.specs.Kinds.{IsNamed}
+use Rattle.ruu_words.proofs.Stays.{named_of}
 use Rattle.station.specs.Recovery.{IsMended as IsMendedThere, SeesMiss, SeesWrongPath, WasSquashed}
 use Rattle.front.specs.declared.path.base_state.Base.{Base}
 use Rattle.front.specs.declared.path.record.Record.{Record}
@@ -91,14 +92,7 @@ module _ (P : Program) (C : Sizes) where
         next = m.next;
         miss = record {
           p = _;
-          named = subst (λ z. IsTenant (unit_of P C h) z m.station i.one.tag IsAny) same (record {
-            tenant = t.tenant;
-            is = t.is;
-            new = t.new;
-            station_is = t.station_is ∙ sym i.station;
-            tag_is = t.tag_is;
-            fact = tt;
-          });
+          named = subst (λ (z : ℕ × ℕ). IsNamed (unit_of P C h) z.0 z.1 i.one.tag) (λ j. (same j, sym i.station j)) (named_of i.miss.tenant);
           can = can;
         };
       }
@@ -121,7 +115,7 @@ module _ (P : Program) (C : Sizes) where
         is = record {
           p = s.p;
           tag = i.one.tag;
-          named = subst (λ y. IsTenant (unit_of P C new) s.p y i.one.tag IsAny) (sym i.station) z.named;
+          named = subst (λ y. IsNamed (unit_of P C new) s.p y i.one.tag) (sym i.station) z.named;
           first = subst (IsFirst (unit_of P C begin)) same first;
           squashes = cut.squashes;
           count = cut.count;

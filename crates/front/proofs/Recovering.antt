@@ -21,8 +21,9 @@ use Rattle.inorder.proofs.Histories.{unit_sound}
 use Rattle.inorder.proofs.Moves.{IsActed, IsLeft, at_changed, goes}
 use Rattle.inorder.proofs.Positions.{at_below}
 use Rattle.inorder.proofs.Sound.{IsSound}
-use Rattle.ruu_words.specs.Kinds.{IsAny, IsTenant}
-use Rattle.ruu_words.proofs.Stays.{any_stays, place_stays}
+use Rattle.ruu_words.specs.Kinds.{IsNamed, IsTenant}
+use Rattle.ruu_words.proofs.Stays.{named_of, named_stays, place_stays}
+use Rattle.ruu_words.proofs.StationWords.{one_tag}
 use Rattle.front.specs.Path.{rested_at}
 use Rattle.front.specs.declared.path.base_state.Base.{Base}
 use Rattle.front.specs.declared.path.record.Record.{Record}
@@ -34,7 +35,7 @@ use Rattle.front.specs.Trail.{Note, record_of, trail}
 use Rattle.front.proofs.CutKnown.{acted, at_last, can_mend, can_squash, mend_known, mend_trail, mended_note, squash_known, squash_trail}
 use Rattle.front.proofs.Cuts.{both_same}
 use Rattle.front.proofs.Lists.{Last, all_front, all_rest, all_two, last_cases, whats_append}
-use Rattle.front.proofs.Named.{all_get, all_whats, at_past, one_named}
+use Rattle.front.proofs.Named.{all_get, all_whats, at_past}
 use Rattle.front.proofs.Places.{kept_new}
 use Rattle.front.proofs.Splitting.{IsStable, event_legal, stays, stays_behind}
 use Rattle.station.proofs.Splitting.{last_event}
@@ -106,7 +107,7 @@ module _ (P : Program) (C : Sizes) (h : List Entry) (legal : IsLegal P C h) (res
           let below = at_below o.ts n.at i.tenant i.is in
           let there : at U.tenants n.at ≡ Some i.tenant = ap (λ z. at z n.at) o.split ∙ at_past o.ys (o.tenant ∷ o.ts) n.at i.tenant
           (Rattle.inorder.proofs.Positions.at_more o.tenant o.ts n.at i.tenant i.is) in
-          let same : p ≡ n.at = one_named P C h legal p n.at t i.tenant is there new (kept_new P C U (rest ++ one ∷ []) base (IsFolded U (rested_at base)) k n.at behind)
+          let same : p ≡ n.at = one_tag P C h legal p n.at t i.tenant is there new (kept_new P C U (rest ++ one ∷ []) base (IsFolded U (rested_at base)) k n.at behind)
           (place ∙ ap (λ (z : Record). z.station) (sym i.what)) (tag ∙ ap (λ (z : Record). z.tag) (sym i.what)) in
           let last : x.at ≡ length o.ts = ap (λ (z : Note). z.at) o.is in
           omega (arith, same, below, last)
@@ -125,7 +126,7 @@ module _ (P : Program) (C : Sizes) (h : List Entry) (legal : IsLegal P C h) (res
       let there = at_last P C U ok (k.gone ++ fs) x o in
       let what : record_of P o.tenant ≡ one = ap (λ (z : Note). z.what) (sym o.is) ∙ sym same_records.ones in
       let new = kept_new P C U (rest ++ one ∷ []) base (IsFolded U (rested_at base)) k x.at (all_rest (λ n. rested_at base ≤ n.at) fs (x ∷ []) untold).0 in
-      one_named P C h legal p x.at m.tenant o.tenant m.is there m.new new (m.station_is ∙ ap (λ (z : Record). z.station) (sym what)) (m.tag_is ∙ ap (λ (z : Record). z.tag) (sym what))
+      one_tag P C h legal p x.at m.tenant o.tenant m.is there m.new new (m.station_is ∙ ap (λ (z : Record). z.station) (sym what)) (m.tag_is ∙ ap (λ (z : Record). z.tag) (sym what))
 
   pub last_missing : (next p : ℕ) → IsMissOf p one next U → Has U x.at (IsMissing next)
   last_missing next p m = record { tenant = m.tenant; is = ap (at U.tenants) (sym (last_position next p m)) ∙ m.is; fact = m.fact }
@@ -183,7 +184,7 @@ module _ (P : Program) (C : Sizes) (old new : List Entry) (rest : List Record) (
       }
 
   -- the station of the one that was squashed
-  its_station : (p : ℕ) → (adds : Adds P C front old new (Does (On p Squash) ∷ [])) → (station tag : ℕ) → IsTenant (unit_of P C new) p station tag IsAny
+  its_station : (p : ℕ) → (adds : Adds P C front old new (Does (On p Squash) ∷ [])) → (station tag : ℕ) → IsNamed (unit_of P C new) p station tag
       → (n : Note) → IsNoted P (unit_of P C (last_event P C front old new (Does (On p Squash)) [] adds).point).tenants n → p ≡ n.at → station ≡ n.what.station
   its_station p adds station tag named n noted at_p =
       let l = last_event P C front old new (Does (On p Squash)) [] adds in
@@ -197,7 +198,7 @@ module _ (P : Program) (C : Sizes) (old new : List Entry) (rest : List Record) (
       sym named.station_is ∙ (ap (λ (z : Tenant). z.station) (same_Some named.tenant here.tenant (sym named.is ∙ here.is)) ∙ (here.fact.0 ∙ ap (λ (z : Record). z.station) noted.what))
 
   -- its table
-  pub squash_table : (p : ℕ) → Adds P C front old new (Does (On p Squash) ∷ []) → (station tag : ℕ) → IsTenant (unit_of P C new) p station tag IsAny → (T T' : Table)
+  pub squash_table : (p : ℕ) → Adds P C front old new (Does (On p Squash) ∷ []) → (station tag : ℕ) → IsNamed (unit_of P C new) p station tag → (T T' : Table)
       → HasTable P (unit_of P C old) (rested_at base) T → IsRestored T T' station → HasTable P (unit_of P C new) (rested_at base) T'
   squash_table p adds station tag named T T' table restored =
       let l = last_event P C front old new (Does (On p Squash)) [] adds in
@@ -247,7 +248,7 @@ module _ (P : Program) (C : Sizes) (old new : List Entry) (rest : List Record) (
 
   pub record MendedOne (p next : ℕ) : Type 0 where
     pub knows : FrontKnows P C (unit_of P C new) (rest ++ record one { next = next } ∷ []) base
-    pub named : IsTenant (unit_of P C new) p one.station one.tag IsAny
+    pub named : IsNamed (unit_of P C new) p one.station one.tag
     pub same : (q : ℕ) → IsMissOf q one next (unit_of P C old) → q ≡ p
 
   pub mend_step : (p : ℕ) → Adds P C front old new (Does (On p Mend) ∷ []) → (next q : ℕ) → IsMissOf q one next (unit_of P C old) → MendedOne p next
@@ -264,21 +265,21 @@ module _ (P : Program) (C : Sizes) (old new : List Entry) (rest : List Record) (
       let at_p = acts_at P C l.point legal.0 rest one base there p a.tenant a.is a.may.live a.may.youngest in
       let at_q = last_position P C l.point legal.0 rest one base there next q missing in
       let same : q ≡ p = at_q ∙ sym at_p in
-      let point_named : IsTenant (unit_of P C l.point) p one.station one.tag IsAny = subst (λ z. IsTenant (unit_of P C l.point) z one.station one.tag IsAny) same
-      (record { tenant = missing.tenant; is = missing.is; new = missing.new; station_is = missing.station_is; tag_is = missing.tag_is; fact = tt }) in
+      let point_named : IsNamed (unit_of P C l.point) p one.station one.tag = subst (λ z. IsNamed (unit_of P C l.point) z one.station one.tag) same
+      (named_of missing) in
       let long : (l.after ++ entry front (Does (On p Mend)) ∷ []) ++ l.point ≡ l.after ++ entry front (Does (On p Mend)) ∷ l.point = append_assoc l.after (entry front (Does (On p Mend)) ∷ []) l.point
       in
-      let named = any_stays P C p one.station one.tag (l.after ++ entry front (Does (On p Mend)) ∷ []) l.point (subst (IsLegal P C) (sym long) l.legal) (ap renewals (long ∙ sym l.is) ∙ l.since)
+      let named = named_stays P C p one.station one.tag (l.after ++ entry front (Does (On p Mend)) ∷ []) l.point (subst (IsLegal P C) (sym long) l.legal) (ap renewals (long ∙ sym l.is) ∙ l.since)
       point_named in
       record {
         knows = stays_behind P C (λ U. FrontKnows P C U (rest ++ record one { next = next } ∷ []) base) (knows_stable P C (rest ++ record one { next = next } ∷ []) base) old new (Does (On p Mend)) []
             l behind;
-        named = subst (λ z. IsTenant (unit_of P C z) p one.station one.tag IsAny) (long ∙ sym l.is) named;
+        named = subst (λ z. IsNamed (unit_of P C z) p one.station one.tag) (long ∙ sym l.is) named;
         same = λ r mr. one_named_old r q mr m ∙ same;
       }
     where
       one_named_old : (r q : ℕ) → IsMissOf r one next (unit_of P C old) → IsMissOf q one next (unit_of P C old) → r ≡ q
-      one_named_old r q mr m = one_named P C old (adds_old) r q mr.tenant m.tenant mr.is m.is mr.new m.new (mr.station_is ∙ sym m.station_is) (mr.tag_is ∙ sym m.tag_is)
+      one_named_old r q mr m = one_tag P C old (adds_old) r q mr.tenant m.tenant mr.is m.is mr.new m.new (mr.station_is ∙ sym m.station_is) (mr.tag_is ∙ sym m.tag_is)
         where
           adds_old : IsLegal P C old
           adds_old = Rattle.inorder.proofs.Histories.legal_before P C adds.begins.more old (subst (IsLegal P C) adds.begins.is adds.legal)

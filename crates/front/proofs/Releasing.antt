@@ -19,6 +19,7 @@ use Rattle.inorder.proofs.Histories.{allowed_steps, unit_sound}
 use Rattle.inorder.proofs.Positions.{not_eqb}
 use Rattle.inorder.proofs.Makers.{left_when_retired, stops_made}
 use Rattle.ruu_words.specs.Content.{HasValue}
+use Rattle.ruu_words.proofs.StationWords.{one_tag}
 use Rattle.front.specs.declared.path.base_state.Base.{Base}
 use Rattle.front.specs.declared.path.Path.{Path}
 use Rattle.front.specs.declared.path.record.Record.{Record}
@@ -29,7 +30,7 @@ use Rattle.front.specs.Path.{Releases, made_of, rested_at, with_left}
 use Rattle.front.specs.Trail.{Note, is_link, record_of}
 use Rattle.front.proofs.CreateVector.{newest_both}
 use Rattle.front.proofs.Lists.{all_both, all_map, whats_length}
-use Rattle.front.proofs.Named.{notes_noted, one_named, stands_right}
+use Rattle.front.proofs.Named.{notes_noted, stands_right}
 use Rattle.front.proofs.Places.{kept_new, notes_length, oldest_place}
 use Rattle.front.proofs.Supplies.{link_made}
 use Rattle.front.proofs.Trails.{IsNoted}
@@ -74,7 +75,7 @@ module _ (P : Program) (C : Sizes) (h : List Entry) (legal : IsLegal P C h) wher
       its_left =
           let i = gone.tenant in
           let new = kept_new P C U records base Again k n.at (subst (AllByRecursion (λ n. rested_at base ≤ n.at)) e k.untold).0 in
-          let p : gone.p ≡ n.at = one_named P C h legal gone.p n.at i.tenant noted.tenant i.is noted.is i.new new (i.station_is ∙ ap (λ (z : Record). z.station) (sym noted.what))
+          let p : gone.p ≡ n.at = one_tag P C h legal gone.p n.at i.tenant noted.tenant i.is noted.is i.new new (i.station_is ∙ ap (λ (z : Record). z.station) (sym noted.what))
           (i.tag_is ∙ ap (λ (z : Record). z.tag) (sym noted.what)) in
           subst (HasLeft left) (same_Some i.tenant noted.tenant (sym i.is ∙ (ap (at U.tenants) p ∙ noted.is))) i.fact
 

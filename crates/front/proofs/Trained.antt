@@ -33,11 +33,12 @@ use Rattle.front.specs.Knows.{IsFolded, IsNewest, FrontKnows}
 use Rattle.front.specs.Training.{leaver_if, leaver_in, untold}
 use Rattle.front.specs.Trail.{Note, is_guessed, trail}
 use Rattle.front.proofs.Lists.{all_both, all_front, all_two}
-use Rattle.front.proofs.Named.{notes_noted, one_named, stands_right}
+use Rattle.front.proofs.Named.{notes_noted, stands_right}
 use Rattle.front.proofs.Places.{kept_new, others_next}
 use Rattle.front.proofs.Stations.{LastSpot}
 use Rattle.front.proofs.Trails.{IsNoted, trail_all, trail_noted}
 use Rattle.inorder.proofs.Recent.{last_of_recent, new_by}
+use Rattle.ruu_words.proofs.StationWords.{one_tag}
 
 -- Where a tenant that has retired went on
 
@@ -205,7 +206,7 @@ module _ {S : Type 0} (Learns : S → ℕ → ℕ → S → Type 0) (P : Program
       let i = gone.tenant in
       let untold_one = (subst (AllByRecursion (λ n. rested_at base ≤ n.at)) e k.untold).0 in
       let new = kept_new P C U records base (IsFolded U (rested_at base)) k n.at untold_one in
-      let p : gone.p ≡ n.at = one_named P C h legal gone.p n.at i.tenant t i.is noted.is i.new new (i.station_is ∙ ap (λ (z : Record). z.station) (sym noted.what))
+      let p : gone.p ≡ n.at = one_tag P C h legal gone.p n.at i.tenant t i.is noted.is i.new new (i.station_is ∙ ap (λ (z : Record). z.station) (sym noted.what))
       (i.tag_is ∙ ap (λ (z : Record). z.tag) (sym noted.what)) in
       let one : i.tenant ≡ t = same_Some i.tenant t (sym i.is ∙ (ap (at U.tenants) p ∙ noted.is)) in
       let retired : t.standing ≡ Retired = ap (λ (z : Tenant). z.standing) (sym one) ∙ i.fact.retired in

@@ -4,7 +4,7 @@ use Rattle.instructions.specs.Programs.{Program}
 use Rattle.inorder.specs.Callers.{IsLastAt}
 use Rattle.inorder.specs.Tenants.{Tenant}
 use Rattle.inorder.specs.Unit.{UpdateUnit, at, creator, value_of}
-use Rattle.ruu_words.specs.Kinds.{IsAny, IsTenant}
+use Rattle.ruu_words.specs.Kinds.{IsNamed}
 use Rattle.front.specs.declared.answers.Made.{Made}
 use Rattle.front.specs.declared.answers.Made.TheVariants.{Base, Made as IsMade}
 
@@ -13,7 +13,7 @@ pub record IsMaker (P : Program) (U : UpdateUnit) (told r station tag : ℕ) : T
   pub p : ℕ
   pub creates : creator P U.tenants r ≡ Some p
   pub untold : told ≤ p
-  pub named : IsTenant U p station tag IsAny
+  pub named : IsNamed U p station tag
   pub last : IsLastAt U p station
 
 -- This is the value of its creator, whose station was let again or which is one of the first `told`, or

@@ -6,8 +6,8 @@ use Rattle.inorder.specs.declared.history.Event.{Event}
 use Rattle.inorder.specs.declared.history.Source.{Source}
 use Rattle.inorder.specs.History.{front, unit_of}
 use Rattle.inorder.specs.OneHistory.{Adds}
-use Rattle.inorder.specs.Replies.{IsNamed}
 use Rattle.inorder.specs.Unit.{Sizes, front_half}
+use Rattle.ruu_words.specs.Kinds.{IsNamed}
 use Rattle.station.specs.declared.answers.Supply.{Supply}
 use Rattle.station.specs.declared.answers.Supply.TheVariants.{From, Known}
 use Rattle.station.specs.Asking.{IsQuestion, MayAsk}

@@ -13,7 +13,7 @@ use Rattle.inorder.specs.OneHistory.{Adds}
 use Rattle.inorder.specs.Replies.{HasNoMiss}
 use Rattle.inorder.specs.Tenants.{Tenant}
 use Rattle.inorder.specs.Unit.{Sizes, UpdateUnit, at}
-use Rattle.ruu_words.specs.Kinds.{IsAny, IsTenant}
+use Rattle.ruu_words.specs.Kinds.{IsNamed, IsTenant}
 use Rattle.front.specs.declared.answers.Recovery.{Recovery}
 use Rattle.front.specs.declared.answers.Recovery.TheVariants.{Mended, NoMiss}
 use Rattle.front.specs.declared.path.record.Record.{Record}
@@ -33,7 +33,7 @@ IsFirst U p =
 pub record MissIsMended (P : Program) (C : Sizes) (old new : List Entry) (station squashed : ℕ) : Type 0 where
   pub p : ℕ
   pub tag : ℕ
-  pub named : IsTenant (unit_of P C new) p station tag IsAny
+  pub named : IsNamed (unit_of P C new) p station tag
   pub first : IsFirst (unit_of P C old) p
   pub squashes : List ℕ
   pub count : length squashes ≡ squashed

@@ -14,10 +14,10 @@ use Rattle.inorder.specs.Laws.{IsNoRetire, OnlyRetirementsCommit}
 use Rattle.inorder.specs.Legal.{Allowed, May, Taken, applied, changed, reached}
 use Rattle.inorder.specs.Machine.{State}
 use Rattle.inorder.specs.Steps.{MayDeliver, linked, retired}
-use Rattle.inorder.specs.Tenants.{IsThere, Live, Tenant, is_first, kind_of}
+use Rattle.inorder.specs.Tenants.{IsThere, Tenant, is_first, kind_of}
 use Rattle.inorder.specs.Unit.{Sizes, UpdateUnit, at, older, younger}
 use Rattle.inorder.proofs.Basics.{split_at}
-use Rattle.inorder.proofs.Commits.{act_stays, by_others, by_retire, is_other, live_not, over_ahead}
+use Rattle.inorder.proofs.Commits.{act_stays, by_others, by_retire, is_other, is_retiring, over_ahead}
 use Rattle.inorder.proofs.Follows.{commits_retired}
 use Rattle.inorder.proofs.Grows.{sound_mid}
 use Rattle.inorder.proofs.InOrderStep.{needs_of}
@@ -116,30 +116,11 @@ pub ahead_by_retire : (P : Program) (C : Sizes) (U : UpdateUnit) (by p n : ℕ) 
     ahead P (applied P C U by (On p (Retire n))).tenants ≡ cond (commits (retired t n)) (with_retired
     (is_first P (retired t n)) P (retired t n) (ahead P U.tenants)) (ahead P U.tenants)
 ahead_by_retire P C U by p n t sound a e =
-    ap (ahead P) (parts P vs by p (Retire n) t e)
-    ∙ over_ahead P t (retired t n) ts ys live s
-    ∙ ap (λ v. cond (commits (retired t n)) (with_retired (is_first P (retired t n)) P (retired t n) v) v) (sym before)
-  where
-    vs : List Tenant
-    vs = U.tenants
-
-    ys : List Tenant
-    ys = younger vs p
-
-    ts : List Tenant
-    ts = older vs p
-
-    same : a.tenant ≡ t
-    same = let f = a.is in cc (sym f ∙ e)
-
-    live : t.standing ≡ Live
-    live = ap (λ x. x.standing) (sym same) ∙ a.may.live
-
-    s : IsSound P (ys ++ t ∷ ts)
-    s = subst (IsSound P) (split_at vs p t e) sound
-
-    before : ahead P vs ≡ ahead P ts
-    before = ap (ahead P) (split_at vs p t e) ∙ over_ahead P t t ts ys live s ∙ ahead_if P t ts false (live_not t live)
+    let us = U.tenants in
+    let r = is_retiring P C U by p n t sound a e in
+    ap (ahead P) (parts P us by p (Retire n) t e)
+    ∙ over_ahead P t (retired t n) (older us p) (younger us p) r.live r.sound
+    ∙ ap (λ v. cond (commits (retired t n)) (with_retired (is_first P (retired t n)) P (retired t n) v) v) (sym r.ahead_is)
 
 pub all_commits : (P : Program) (C : Sizes) (history : List Taken) (by : ℕ) →
     OnlyRetirementsCommit P C history by

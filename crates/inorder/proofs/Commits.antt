@@ -54,24 +54,24 @@ over_ahead P t u ts [] live s = refl
 over_ahead P t u ts (y ∷ ys) live s =
     ahead_if P y (ys ++ u ∷ ts) false (later P t u ts ys y live s.0) ∙ over_ahead P t u ts ys live s.1
 
-pub by_retire : (P : Program) (C : Sizes) (U : UpdateUnit) (by p n : ℕ) (t : Tenant) → IsSound P U.tenants →
-    Allowed P C U by (On p (Retire n)) → at U.tenants p ≡ Some t →
-    committed P (applied P C U by (On p (Retire n))).tenants ≡ cond (completes P (retired t n)) (with_tenant P
-    (retired t n) (ahead P U.tenants)) (committed P U.tenants)
-by_retire P C U by p n t sound a e =
-    ap (committed P) (parts P vs by p (Retire n) t e)
-    ∙ over P t (retired t n) ts ys live s
-    ∙ ap (λ v. cond (completes P (retired t n)) (with_tenant P (retired t n) (ahead P ts)) v) (sym before)
-    ∙ ap (λ v. cond (completes P (retired t n)) (with_tenant P (retired t n) v) (committed P vs)) (sym before_ahead)
+-- what a retirement begins with: its tenant is live, all are sound, and those behind it leave the state ahead
+pub record IsRetiring (P : Program) (us : List Tenant) (p : ℕ) (t : Tenant) : Type 0 where
+  pub live : t.standing ≡ Live
+  pub sound : IsSound P (younger us p ++ t ∷ older us p)
+  pub ahead_is : ahead P us ≡ ahead P (older us p)
+
+pub is_retiring : (P : Program) (C : Sizes) (U : UpdateUnit) (by p n : ℕ) (t : Tenant) → IsSound P U.tenants →
+    Allowed P C U by (On p (Retire n)) → at U.tenants p ≡ Some t → IsRetiring P U.tenants p t
+is_retiring P C U by p n t sound a e = record {
+  live = live;
+  sound = s;
+  ahead_is =
+      ap (ahead P) (split_at us p t e) ∙ over_ahead P t t (older us p) (younger us p) live s
+      ∙ ahead_if P t (older us p) false (live_not t live);
+}
   where
-    vs : List Tenant
-    vs = U.tenants
-
-    ys : List Tenant
-    ys = younger vs p
-
-    ts : List Tenant
-    ts = older vs p
+    us : List Tenant
+    us = U.tenants
 
     same : a.tenant ≡ t
     same = let f = a.is in cc (sym f ∙ e)
@@ -79,18 +79,24 @@ by_retire P C U by p n t sound a e =
     live : t.standing ≡ Live
     live = ap (λ x. x.standing) (sym same) ∙ a.may.live
 
-    s : IsSound P (ys ++ t ∷ ts)
-    s = subst (IsSound P) (split_at vs p t e) sound
+    s : IsSound P (younger us p ++ t ∷ older us p)
+    s = subst (IsSound P) (split_at us p t e) sound
 
-    before : committed P vs ≡ committed P ts
-    before =
-        ap (committed P) (split_at vs p t e) ∙ over P t t ts ys live s
-        ∙ committed_if P t ts false (not_complete P t (live_not t live))
-
-    before_ahead : ahead P vs ≡ ahead P ts
-    before_ahead =
-        ap (ahead P) (split_at vs p t e) ∙ over_ahead P t t ts ys live s
-        ∙ ahead_if P t ts false (live_not t live)
+pub by_retire : (P : Program) (C : Sizes) (U : UpdateUnit) (by p n : ℕ) (t : Tenant) → IsSound P U.tenants →
+    Allowed P C U by (On p (Retire n)) → at U.tenants p ≡ Some t →
+    committed P (applied P C U by (On p (Retire n))).tenants ≡ cond (completes P (retired t n)) (with_tenant P
+    (retired t n) (ahead P U.tenants)) (committed P U.tenants)
+by_retire P C U by p n t sound a e =
+    let us = U.tenants in
+    let ts = older us p in
+    let r = is_retiring P C U by p n t sound a e in
+    let before : committed P us ≡ committed P ts =
+    ap (committed P) (split_at us p t e) ∙ over P t t ts (younger us p) r.live r.sound
+    ∙ committed_if P t ts false (not_complete P t (live_not t r.live)) in
+    ap (committed P) (parts P us by p (Retire n) t e)
+    ∙ over P t (retired t n) ts (younger us p) r.live r.sound
+    ∙ ap (λ v. cond (completes P (retired t n)) (with_tenant P (retired t n) (ahead P ts)) v) (sym before)
+    ∙ ap (λ v. cond (completes P (retired t n)) (with_tenant P (retired t n) v) (committed P us)) (sym r.ahead_is)
 
 -- The other steps keep the count, and so the state
 

@@ -1,5 +1,5 @@
 -- Creators are older than the tenants whose sources they give.
-use Rattle.std.proofs.Common.{◌≡◌, ◌⊎◌, ℕ, ◌<◌, Bool, true, false, cond, eqb, List, [], ◌∷◌, length, Option, Some, None, refl, sym, ap, ◌∙◌, subst, inl, inr, ⊎_elim, eqb-true}
+use Rattle.std.proofs.Common.{◌≡◌, ◌⊎◌, ℕ, ◌<◌, Bool, true, false, cond, eqb, List, [], ◌∷◌, length, Some, None, refl, sym, ap, ◌∙◌, subst, inl, inr, ⊎_elim, eqb-true}
 use Rattle.instructions.specs.Instruction.{first_of, second_of}
 use Rattle.instructions.specs.Programs.{Program, instr_of}
 use Rattle.inorder.specs.declared.history.Source.{Source}
@@ -7,9 +7,8 @@ use Rattle.inorder.specs.declared.history.Source.TheVariants.{First, Second}
 use Rattle.inorder.specs.declared.history.Step.{Step}
 use Rattle.inorder.specs.declared.history.Step.TheVariants.{Let, On, Renew}
 use Rattle.inorder.specs.declared.history.Supply.{Supply}
-use Rattle.inorder.specs.declared.history.Supply.TheVariants.{From, Known}
 use Rattle.inorder.specs.Legal.{Allowed, AreAllowed, Taken, applied, reached}
-use Rattle.inorder.specs.Steps.{let_operand, new_tenant}
+use Rattle.inorder.specs.Steps.{new_tenant}
 use Rattle.inorder.specs.Tenants.{Tenant, operand}
 use Rattle.inorder.specs.Unit.{Sizes, UpdateUnit, at, can_be_written, creator, last_writer, made_by, older, value_of}
 use Rattle.inorder.proofs.Basics.{Below, last_writer_below}

@@ -2,6 +2,7 @@
 pub mod Examples
 mod Decided
 mod DecidedSteps
+mod DecidedHistory
 pub mod SharedRun
 mod LoopRun
 mod WrongPathRun

@@ -105,3 +105,32 @@ pub record IsSoundAt (P : Program) (ts : List Tenant) (t : Tenant) : Type 0 wher
 abbrev pub IsSound : Program → List Tenant → Type 0
 IsSound P [] = Unit {0}
 IsSound P (t ∷ ts) = IsSoundAt P ts t × IsSound P ts
+
+-- A tenant with another fate and standing, and with what it made
+
+pub own_with : (P : Program) (ts : List Tenant) (t : Tenant) (f : Fate) (made : Option ℕ) (st : Standing) →
+    IsOwn P ts t →
+    FateBy (kind_of P t) (computed P t) t.pc t.predicted t.next made t.first.value t.second.value st f →
+    IsOwn P ts (record t { fate = f; made = made; standing = st })
+own_with P ts t f made st own fate = record {
+  first = own.first;
+  second = own.second;
+  place = own.place;
+  inside = own.inside;
+  goes_on = own.goes_on;
+  fate = fate;
+}
+
+pub placed_with : (P : Program) (ts : List Tenant) (t : Tenant) (f : Fate) (made : Option ℕ) (st : Standing) →
+    IsInPlace P ts t → LoadIs P ts (instr P t) (computed P t) (kind_of P t) f →
+    (st ≡ Retired → AllByRecursion IsSettled ts) → (st ≡ Retired → CanRetire (kind_of P t) t.second.value f) →
+    IsInPlace P ts (record t { fate = f; made = made; standing = st })
+placed_with P ts t f made st placed load settled can = record {
+  first = placed.first;
+  second = placed.second;
+  pc = placed.pc;
+  half = placed.half;
+  load = load;
+  settled = settled;
+  can = can;
+}

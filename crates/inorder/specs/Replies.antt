@@ -1,6 +1,6 @@
 -- When each reply is allowed, by the unit at its point. A reply that is not here names the step
 -- that was made.
-use Rattle.std.specs.Prelude.{◌≡◌, ◌≢◌, ℕ, ◌-◌, ◌^◌, ◌<◌, Bool, true, false, ◌&&◌, length, Some, None, if◌then◌else◌}
+use Rattle.std.specs.Prelude.{◌≡◌, ◌≢◌, ℕ, ◌-◌, ◌^◌, ◌<◌, Bool, true, ◌&&◌, length, Some, None, if◌then◌else◌}
 use Rattle.std.specs.List.{AllByRecursion}
 use Rattle.instructions.specs.declared.op.Half.{Half}
 use Rattle.instructions.specs.Instruction.{is_access, kind}
@@ -10,19 +10,11 @@ use Rattle.inorder.specs.declared.history.Source.{Source}
 use Rattle.inorder.specs.declared.history.Source.TheVariants.{First, Second}
 use Rattle.inorder.specs.Steps.{CanRetire, IsNoRetiredStop}
 use Rattle.inorder.specs.Tenants.{IsNotLive, IsThere, Linked, Live, Miss, Open, Retired, Squashed, Stopped, Tenant, is_live, kind_of, missing, needs, operand, operand_value}
-use Rattle.inorder.specs.Unit.{Sizes, UpdateUnit, at, front_pc, how_many, is_old, next_tag, older, recent, value_of}
+use Rattle.inorder.specs.Unit.{Sizes, UpdateUnit, at, front_pc, how_many, next_tag, older, recent, value_of}
 
 -- No tenant gets this tag, so that the tag behind each tenant's has its bits too
 abbrev pub last_tag : ℕ
 last_tag = 2 ^ 28 - 1
-
--- The tenant at this position, let since the last renewal, is of this station, with this tag
-pub record IsNamed (U : UpdateUnit) (p station tag : ℕ) : Type 0 where
-  pub tenant : Tenant
-  pub is : at U.tenants p ≡ Some tenant
-  pub new : is_old U p ≡ false
-  pub station_is : tenant.station ≡ station
-  pub tag_is : tenant.tag ≡ tag
 
 -- It is live, and not claimed
 pub record IsOpen (t : Tenant) : Type 0 where

@@ -43,13 +43,13 @@ use Rattle.ruu_words.specs.declared.rule.Draft.TheVariants.{Nothing}
 use Rattle.ruu_words.specs.declared.rule.View.{View}
 use Rattle.ruu_words.specs.Content.{HasValue, IsOperand, IsOperandOf, IsStation, operand_unit}
 use Rattle.ruu_words.specs.Fields.{state_of, word_value}
-use Rattle.ruu_words.specs.Kinds.{Answers, HasLink, IsAny, IsMade, IsTenant, IsInTime, IsUnmade, Questions}
+use Rattle.ruu_words.specs.Kinds.{Answers, HasLink, IsMade, IsNamed, IsTenant, IsInTime, IsUnmade, Questions}
 use Rattle.ruu_words.proofs.Building.{looks, marks}
 use Rattle.ruu_words.proofs.Delivery.{by_value, delivers, link_on}
 use Rattle.ruu_words.specs.Plans.{Plan, Plans}
 use Rattle.ruu_words.proofs.Linking.{last_stays}
 use Rattle.ruu_words.proofs.StationWords.{its_word}
-use Rattle.ruu_words.proofs.Stays.{any_stays, front_stays, tenant_stays}
+use Rattle.ruu_words.proofs.Stays.{front_stays, named_stays, tenant_stays}
 
 -- others than the front squash none
 pub path_on : (P : Program) (by : ℕ) (act : Act) (ys : List Tenant) (t : Tenant) (ts : List Tenant) → IsBesidesAct act → May P by act ys t ts → on_path t ≡ true →
@@ -175,7 +175,7 @@ module _ (P : Program) (C : Sizes) where
             let value : word_value n ≡ m.0 = subst (λ o. HasValue o (word_value n)) m.1 free.value in
             inr (inl free.state, made m.0 m.2 value)
 
-  pub question_plan : (id : ℕ) (v : View) (p g r q : ℕ) (k : Source) → id ≡ front → v.draft ≡ Nothing → Has (unit_of P C v.seen) r (HasAsked k q) → IsTenant (unit_of P C v.seen) q p g IsAny →
+  pub question_plan : (id : ℕ) (v : View) (p g r q : ℕ) (k : Source) → id ≡ front → v.draft ≡ Nothing → Has (unit_of P C v.seen) r (HasAsked k q) → IsNamed (unit_of P C v.seen) q p g →
       IsLastAt (unit_of P C v.seen) q p
       → Plans P C id v (Station p) (λ n. n) (Questions P C r k q)
   question_plan id v p g r q k is_front none asked creator last between d legal same apart caller mine draft n small content =
@@ -183,7 +183,7 @@ module _ (P : Program) (C : Sizes) where
       let apart_front : own front between ≡ [] = subst (λ z. own z between ≡ []) is_front apart in
       let quiet : d ≡ Nothing = sym (mine is_front) ∙ none in
       let i = front_stays P C (λ U. Has U r (HasAsked k q)) (λ U by s b a ok x. asked_stays P C k q r U by s b a ok x) between v.seen legal apart_front asked in
-      let j = any_stays P C q p g between v.seen legal same creator in
+      let j = named_stays P C q p g between v.seen legal same creator in
       let l = front_stays P C (λ U. IsLastAt U q p) (λ U by s b a ok x. last_stays P C U by s b a ok q p x) between v.seen legal apart_front last in ⊎_elim
       (λ (x : IsUnmade (state_of n) × IsInTime (unit_of P C h) r k q).
       marks P C id h d legal draft (Station p) n (Asked r k) (is_front, inr x.1.asked) content (Questions P C r k q n) (quiet, inl (x.0, refl, x.1)))

@@ -27,6 +27,21 @@ use Rattle.ruu_words.specs.Plans.{Plan}
 use Rattle.ruu_words.proofs.Groups.{MayStep, draft_stays, info_stays, link_other, operand_drafted}
 use Rattle.inorder.proofs.Histories.{allowed_steps, unit_sound}
 
+-- a kind of step that tells more
+pub plan_as : (P : Program) (C : Sizes) (id : ℕ) (h : List Entry) (d : Draft) (x : Place) (new : ℕ) (Kind More : List Entry → Draft → List Event → Type 0) →
+    ((d' : Draft) (events : List Event) → Kind h d' events → More h d' events) → Plan P C id h d x new Kind → Plan P C id h d x new More
+plan_as P C id h d x new Kind More f p = record {
+  events = p.events;
+  draft = p.draft;
+  mine = p.mine;
+  legal = p.legal;
+  same = p.same;
+  proper = p.proper;
+  here = p.here;
+  else = p.else;
+  kind = f p.draft p.events p.kind;
+}
+
 -- an act that changes a station is no link
 no_link : (act : Act) → ChangesStation act → IsNoLinkAct act
 no_link (Link k) h = absurd h

@@ -20,12 +20,12 @@ use Rattle.ruu_words.specs.declared.rule.Role.TheVariants.{Worker}
 use Rattle.ruu_words.specs.declared.rule.View.{View}
 use Rattle.ruu_words.specs.Content.{IsStation}
 use Rattle.ruu_words.specs.Fields.{state_of, tag_of}
-use Rattle.ruu_words.specs.Kinds.{Claims, Finds, IsAny, IsClosed, IsTenant, Looks, Peeks, Reads, Rechecks, adds_nothing}
+use Rattle.ruu_words.specs.Kinds.{Claims, Finds, IsClosed, IsNamed, IsTenant, Looks, Peeks, Reads, Rechecks, adds_nothing}
 use Rattle.ruu_words.specs.Views.{IsCaller}
 use Rattle.ruu_words.proofs.Building.{changes, looks, tells}
 use Rattle.ruu_words.specs.Plans.{Plan, Plans}
 use Rattle.ruu_words.proofs.StationWords.{its_word, live_last, live_state, not_open, one_live, open_state, still_live, the_tenant}
-use Rattle.ruu_words.proofs.Stays.{any_stays, ready_stays, tenant_stays, was_open_stays}
+use Rattle.ruu_words.proofs.Stays.{named_of, named_stays, ready_stays, tenant_stays, was_open_stays, with_fact}
 
 module _ (P : Program) (C : Sizes) where
   pub look_plan : (id : ℕ) (v : View) (s : ℕ) → Plans P C id v (Station s) (λ n. n) (Looks P C s)
@@ -66,7 +66,7 @@ module _ (P : Program) (C : Sizes) where
           }
 
   -- a tenant of the station, where the word is, or is not, that of an open tenant with its tag
-  module _ (h : List Entry) (legal : IsLegal P C h) (p s g old n : ℕ) (old_is : IsStation (live_word g Open) old) (i : IsTenant (unit_of P C h) p s g IsAny)
+  module _ (h : List Entry) (legal : IsLegal P C h) (p s g old n : ℕ) (old_is : IsStation (live_word g Open) old) (i : IsNamed (unit_of P C h) p s g)
       (content : IsStation (station_word C (recent (unit_of P C h)) s) n) where
     pub opened : n ≡ old → IsOpen i.tenant
     opened hit =
@@ -79,21 +79,21 @@ module _ (P : Program) (C : Sizes) where
         let l = its_word P C h legal p s n i.tenant i.is i.station_is o.live content in
         miss (one_live g Open n old (subst (λ (z : ℕ × Fate). IsStation (live_word z.0 z.1) n) (λ j. (i.tag_is j, o.fate j)) l) old_is)
 
-  pub recheck_plan : (id : ℕ) (v : View) (s g old p : ℕ) → v.role ≡ Worker → IsStation (live_word g Open) old → IsTenant (unit_of P C v.seen) p s g IsAny → WasOpen P C v.seen p
+  pub recheck_plan : (id : ℕ) (v : View) (s g old p : ℕ) → v.role ≡ Worker → IsStation (live_word g Open) old → IsNamed (unit_of P C v.seen) p s g → WasOpen P C v.seen p
       → Plans P C id v (Station s) (λ n. n) (Rechecks P C s g old)
   recheck_plan id v s g old p role old_is seen before between d legal same apart caller mine draft n small content =
       let h : List Entry = between ++ v.seen in
       let worker : IsUnit id = subst (λ r. IsCaller r id) role caller in
-      let now = any_stays P C p s g between v.seen legal same seen in
+      let now = named_stays P C p s g between v.seen legal same seen in
       dite (ℕ_discrete n old)
       (λ hit.
       let o = opened h legal p s g old n old_is now content hit in
       looks P C id h d legal draft (Station s) n content (Rechecks P C s g old n)
-      (inl (hit, record { p = p; tenant = record { tenant = now.tenant; is = now.is; new = now.new; station_is = now.station_is; tag_is = now.tag_is; fact = o }; added = refl })))
+      (inl (hit, record { p = p; tenant = with_fact IsOpen now o; added = refl })))
       (λ miss.
       let c = closed h legal p s g old n old_is now content miss in
       tells P C id h d legal draft (Station s) n (Moved p) (worker, was_open_stays P C between v.seen p before, record { tenant = now.tenant; is = now.is; fact = c }) content (Rechecks P C s g old n)
-      (inr (miss, record { p = p; tenant = record { tenant = now.tenant; is = now.is; new = now.new; station_is = now.station_is; tag_is = now.tag_is; fact = c }; added = refl })))
+      (inr (miss, record { p = p; tenant = with_fact IsClosed now c; added = refl })))
 
   pub claim_plan : (id : ℕ) (v : View) (s g old new p : ℕ) → v.role ≡ Worker → IsStation (live_word g Open) old → IsStation (live_word g (Busy id)) new →
       IsTenant (unit_of P C v.seen) p s g (IsReady P) → WasOpen P C v.seen p
@@ -103,15 +103,15 @@ module _ (P : Program) (C : Sizes) where
       let worker : IsUnit id = subst (λ r. IsCaller r id) role caller in
       let now = tenant_stays P C p s g (IsReady P) (ready_stays P) between v.seen legal same ready in
       let t = now.tenant in
-      let any : IsTenant (unit_of P C h) p s g IsAny = record { tenant = t; is = now.is; new = now.new; station_is = now.station_is; tag_is = now.tag_is; fact = tt } in
+      let named = named_of now in
       exchanged n old new (λ z. Plan P C id h d (Station s) z (Claims P C s g old n))
       (λ hit.
-      let o = opened h legal p s g old n old_is any content hit in
+      let o = opened h legal p s g old n old_is named content hit in
       subst (λ x. Plan P C id h d (Station x) new (Claims P C s g old n)) now.station_is
       (changes P C id h d legal draft p Claim t tt (inr tt) worker (record { tenant = t; is = now.is; may = record { live = o.live; fate = o.fate; needs = now.fact } }) now.is new
       (still_live t.standing (suc t.tag) t.tag (Busy id) t.made new o.live (subst (λ (z : ℕ). IsStation (live_word z (Busy id)) new) (sym now.tag_is) new_is))
-      (Claims P C s g old n) (inl (hit, record { p = p; tenant = record { tenant = t; is = now.is; new = now.new; station_is = now.station_is; tag_is = now.tag_is; fact = o }; added = refl }))))
+      (Claims P C s g old n) (inl (hit, record { p = p; tenant = with_fact IsOpen now o; added = refl }))))
       (λ miss.
-      let c = closed h legal p s g old n old_is any content miss in
+      let c = closed h legal p s g old n old_is named content miss in
       tells P C id h d legal draft (Station s) n (Moved p) (worker, was_open_stays P C between v.seen p before, record { tenant = t; is = now.is; fact = c }) content (Claims P C s g old n)
-      (inr (miss, record { p = p; tenant = record { tenant = t; is = now.is; new = now.new; station_is = now.station_is; tag_is = now.tag_is; fact = c }; added = refl })))
+      (inr (miss, record { p = p; tenant = with_fact IsClosed now c; added = refl })))

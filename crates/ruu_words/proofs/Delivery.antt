@@ -44,7 +44,7 @@ use Rattle.inorder.proofs.Histories.{allowed_steps, unit_sound}
 use Rattle.ruu_words.proofs.Packing.{same_word}
 use Rattle.ruu_words.proofs.Reading.{Among, among, has_last, its_operand, operand_last, waits}
 use Rattle.ruu_words.proofs.StationWords.{find_last}
-use Rattle.ruu_words.proofs.Stays.{tenant_stays}
+use Rattle.ruu_words.proofs.Stays.{named_of, tenant_stays}
 
 module _ (P : Program) (C : Sizes) where
   pub link_on : (k : Source) (q : ℕ) (by : ℕ) (s : Step) (t t' : Tenant) → Goes by s t t' → HasLink k q t → HasLink k q t'
@@ -208,6 +208,6 @@ module _ (P : Program) (C : Sizes) where
       let m = made_stays P C q val between v.seen legal made in
       exchanged n old new (λ z. Plan P C id h d (Operand s k) z (Delivers P C s k g old n))
       (λ hit. delivers id h d legal draft s k g val old n new r q old_is new_is i m hit content (Delivers P C s k g old n)
-      (inl (hit, record { p = r; tenant = record { tenant = i.tenant; is = i.is; new = i.new; station_is = i.station_is; tag_is = i.tag_is; fact = tt }; added = refl })))
+      (inl (hit, record { p = r; tenant = named_of i; added = refl })))
       (λ miss. looks P C id h d legal draft (Operand s k) n content (Delivers P C s k g old n)
       (inr (miss, refl, λ r' t' is' station' tag'. settled h legal d draft s k g old n old_is content miss r' t' is' station' tag')))

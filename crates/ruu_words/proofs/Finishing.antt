@@ -16,6 +16,7 @@ use Rattle.inorder.specs.Steps.{finished}
 use Rattle.inorder.specs.Tenants.{Addr, Busy, Done, Fate, Live, Squashed, Stopped, Tenant}
 use Rattle.inorder.specs.Unit.{Sizes, recent}
 use Rattle.inorder.proofs.Moves.{Goes}
+use Rattle.inorder.specs.Replies.{IsSquashed}
 use Rattle.ruu_words.specs.declared.place.Place.TheVariants.{Station}
 use Rattle.ruu_words.specs.declared.rule.Role.TheVariants.{Worker}
 use Rattle.ruu_words.specs.declared.rule.View.{View}
@@ -25,7 +26,7 @@ use Rattle.ruu_words.specs.Views.{IsCaller}
 use Rattle.ruu_words.proofs.Building.{changes, tells}
 use Rattle.ruu_words.specs.Plans.{Plan, Plans}
 use Rattle.ruu_words.proofs.StationWords.{its_word, one_live, still_live, the_tenant}
-use Rattle.ruu_words.proofs.Stays.{computed_stays, ready_stays, tenant_stays_apart}
+use Rattle.ruu_words.proofs.Stays.{computed_stays, ready_stays, tenant_stays_apart, with_fact}
 
 finished_word : (t : Tenant) (o : Outcome) (k n : ℕ) → t.standing ≡ Live → IsStation (live_word t.tag (fate_of t.predicted o)) n → IsStation (word_of k (Some (finished t o))) n
 finished_word t (Value v) k n live w = still_live t.standing k t.tag (Done v) (Some v) n live w
@@ -68,14 +69,7 @@ module _ (P : Program) (C : Sizes) where
         hit,
         record {
           p = p;
-          tenant = record {
-            tenant = t;
-            is = now.is;
-            new = now.new;
-            station_is = now.station_is;
-            tag_is = now.tag_is;
-            fact = now.fact.computes;
-          };
+          tenant = with_fact _ now now.fact.computes;
           added = refl;
         },
       ))))
@@ -86,7 +80,7 @@ module _ (P : Program) (C : Sizes) where
       absurd (miss (one_live g (Busy id) n old (subst (λ (z : ℕ × Fate). IsStation (live_word z.0 z.1) n) (λ i. (now.tag_is i, now.fact.held.fate i)) l) old_is)))
       (λ e. e) now.fact.held.stays in
       tells P C id h d legal draft (Station s) n (Stale p) (unit_or_back worker, record { tenant = t; is = now.is; fact = gone }) content (Finishes P C s g outcome old n)
-      (inr (miss, record { p = p; tenant = record { tenant = t; is = now.is; new = now.new; station_is = now.station_is; tag_is = now.tag_is; fact = gone }; added = refl })))
+      (inr (miss, record { p = p; tenant = with_fact IsSquashed now gone; added = refl })))
     where
       unit_or_back : IsUnit id → IsUnitOrBack id
       unit_or_back w = omega arith

@@ -7,15 +7,15 @@ use Rattle.atomic_table.proofs.Lists.{at_set}
 use Rattle.instructions.specs.Programs.{Program}
 use Rattle.inorder.specs.declared.history.Entry.{Entry}
 use Rattle.inorder.specs.declared.history.Event.{Event}
-use Rattle.inorder.specs.History.{IsLegal, StartsWith, entry, front, own, renewals, unit_of}
+use Rattle.inorder.specs.History.{StartsWith, entry, front, own, renewals, unit_of}
 use Rattle.inorder.specs.Unit.{Sizes}
 use Rattle.ruu_words.specs.declared.place.Place.{Place}
 use Rattle.ruu_words.specs.declared.rule.Draft.{Draft}
 use Rattle.ruu_words.specs.declared.rule.View.{View}
-use Rattle.ruu_words.specs.Content.{Content, IsDraft}
+use Rattle.ruu_words.specs.Content.{Content}
 use Rattle.ruu_words.specs.Places.{IsPlace, index}
 use Rattle.ruu_words.specs.Plans.{Plan, Plans}
-use Rattle.ruu_words.specs.Views.{ViewFits, IsAlive, IsCaller, IsOf}
+use Rattle.ruu_words.specs.Views.{ViewFits, IsAlive, IsOf}
 use Rattle.ruu_words.specs.Rule.{IsKept, Keeps}
 use Rattle.ruu_words.specs.Telling.{Tells}
 use Rattle.inorder.proofs.Histories.{own-append, own_none, own_of_other, renewals_more, starts_longer, starts_more, starts_same}

@@ -19,12 +19,12 @@ use Rattle.ruu_words.specs.declared.rule.Role.TheVariants.{Back}
 use Rattle.ruu_words.specs.declared.rule.View.{View}
 use Rattle.ruu_words.specs.Content.{IsStation}
 use Rattle.ruu_words.specs.Fields.{tag_of}
-use Rattle.ruu_words.specs.Kinds.{IsAny, IsTenant, Writes}
+use Rattle.ruu_words.specs.Kinds.{IsNamed, IsTenant, Writes}
 use Rattle.ruu_words.specs.Views.{IsCaller}
 use Rattle.ruu_words.proofs.Building.{changes}
 use Rattle.ruu_words.specs.Plans.{Plan, Plans}
 use Rattle.ruu_words.proofs.StationWords.{its_word, live_state, one_at, still_live}
-use Rattle.ruu_words.proofs.Stays.{any_stays, back_stays, front_stays}
+use Rattle.ruu_words.proofs.Stays.{back_stays, front_stays, named_stays}
 
 mended_word : (t : Tenant) (k x n : ℕ) (f : Fate) → f ≡ Miss x → t.standing ≡ Live → IsStation (live_word t.tag (Done x)) n → IsStation (word_of k (Some (mended_as t f))) n
 mended_word t k x n f e live w = subst (λ f. IsStation (word_of k (Some (mended_as t f))) n) (sym e) (still_live t.standing k t.tag (Done x) t.made n live w)
@@ -46,12 +46,12 @@ module _ (P : Program) (C : Sizes) where
       let w = its_word P C h legal p s n t is station_is live content in
       record { tenant = t; is = is; new = live_is_recent P C h legal p t is live; station_is = station_is; tag_is = sym (live_state t.tag n t.fate w).0; fact = w }
 
-  pub squash_plan : (id : ℕ) (v : View) (s g p new : ℕ) → id ≡ front → v.draft ≡ Nothing → IsTenant (unit_of P C v.seen) p s g IsAny → CanSquash (unit_of P C v.seen) p
+  pub squash_plan : (id : ℕ) (v : View) (s g p new : ℕ) → id ≡ front → v.draft ≡ Nothing → IsNamed (unit_of P C v.seen) p s g → CanSquash (unit_of P C v.seen) p
       → IsStation (record { tag = suc g; state = IsFree; value = None }) new → Plans P C id v (Station s) (λ _. new) (Writes P C (Does (On p Squash)) p s)
   squash_plan id v s g p new is_front none named can word between d legal same apart caller mine draft n small content =
       let h : List Entry = between ++ v.seen in
       let U : UpdateUnit = unit_of P C h in
-      let i = any_stays P C p s g between v.seen legal same named in
+      let i = named_stays P C p s g between v.seen legal same named in
       let c = front_stays P C (λ U. CanSquash U p) (λ U by s b a ok q. squash_stays P C U by s b a ok p q) between v.seen legal (subst (λ z. own z between ≡ []) is_front apart) can in
       let t : Tenant = c.tenant.tenant in
       let one : i.tenant ≡ t = one_at P C h legal p i.tenant t i.is c.tenant.is in
@@ -62,12 +62,12 @@ module _ (P : Program) (C : Sizes) where
       (subst (λ z. IsStation (record { tag = suc z; state = IsFree; value = None }) new) (sym tag) word)
       (Writes P C (Does (On p Squash)) p s n) (record { added = refl; found = found h legal p s n t c.tenant.is at_s c.tenant.fact content }))
 
-  pub mend_plan : (id : ℕ) (v : View) (s g p x new : ℕ) → id ≡ front → v.draft ≡ Nothing → IsTenant (unit_of P C v.seen) p s g IsAny → CanMend (unit_of P C v.seen) p x
+  pub mend_plan : (id : ℕ) (v : View) (s g p x new : ℕ) → id ≡ front → v.draft ≡ Nothing → IsNamed (unit_of P C v.seen) p s g → CanMend (unit_of P C v.seen) p x
       → IsStation (live_word g (Done x)) new → Plans P C id v (Station s) (λ _. new) (Writes P C (Does (On p Mend)) p s)
   mend_plan id v s g p x new is_front none named can word between d legal same apart caller mine draft n small content =
       let h : List Entry = between ++ v.seen in
       let U : UpdateUnit = unit_of P C h in
-      let i = any_stays P C p s g between v.seen legal same named in
+      let i = named_stays P C p s g between v.seen legal same named in
       let c = front_stays P C (λ U. CanMend U p x) (λ U by s b a ok q. mend_stays P C U by s b a ok p x q) between v.seen legal (subst (λ z. own z between ≡ []) is_front apart) can in
       let t : Tenant = c.miss.tenant in
       let one : i.tenant ≡ t = one_at P C h legal p i.tenant t i.is c.miss.is in
@@ -81,13 +81,13 @@ module _ (P : Program) (C : Sizes) where
       (Writes P C (Does (On p Mend)) p s n) (record { added = refl; found = found h legal p s n t c.miss.is at_s c.miss.fact.live content }))
 
   -- m is what is kept of a stop
-  pub retire_plan : (id : ℕ) (v : View) (s g p m new : ℕ) (f : Fate) → v.role ≡ Back → m < 2 ^ 32 → IsTenant (unit_of P C v.seen) p s g IsAny → CanLeave P (unit_of P C v.seen) p f
+  pub retire_plan : (id : ℕ) (v : View) (s g p m new : ℕ) (f : Fate) → v.role ≡ Back → m < 2 ^ 32 → IsNamed (unit_of P C v.seen) p s g → CanLeave P (unit_of P C v.seen) p f
       → IsStation (record { tag = suc g; state = IsFree; value = left_value f (Some m) }) new → Plans P C id v (Station s) (λ _. new) (Writes P C (Does (On p (Retire m))) p s)
   retire_plan id v s g p m new f role word_m named can word between d legal same apart caller mine draft n small content =
       let h : List Entry = between ++ v.seen in
       let U : UpdateUnit = unit_of P C h in
       let is_back : id ≡ back = subst (λ r. IsCaller r id) role caller in
-      let i = any_stays P C p s g between v.seen legal same named in
+      let i = named_stays P C p s g between v.seen legal same named in
       let c = back_stays P C (λ U. CanLeave P U p f) (λ U by s b a ok q. leave_stays P C U by s b a ok p f q) between v.seen legal same (subst (λ z. own z between ≡ []) is_back apart) can in
       let t : Tenant = c.tenant in
       let one : i.tenant ≡ t = one_at P C h legal p i.tenant t i.is c.is in

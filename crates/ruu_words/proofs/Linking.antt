@@ -35,12 +35,12 @@ use Rattle.ruu_words.specs.declared.rule.Draft.TheVariants.{Nothing}
 use Rattle.ruu_words.specs.declared.rule.View.{View}
 use Rattle.ruu_words.specs.Content.{Content, IsDraft, IsLinkWord, IsStation}
 use Rattle.ruu_words.specs.Fields.{pack_link}
-use Rattle.ruu_words.specs.Kinds.{Asks, IsAny, IsTenant, ReadsLink}
+use Rattle.ruu_words.specs.Kinds.{Asks, IsNamed, IsTenant, ReadsLink}
 use Rattle.ruu_words.proofs.Building.{looks}
 use Rattle.ruu_words.specs.Plans.{Plans}
 use Rattle.ruu_words.proofs.Groups.{WasLinked, draft_stays, info_stays, link_stays, operand_drafted}
 use Rattle.inorder.proofs.Histories.{allowed_steps, unit_sound}
-use Rattle.ruu_words.proofs.Stays.{any_stays, front_stays, tenant_stays_apart}
+use Rattle.ruu_words.proofs.Stays.{front_stays, named_stays, tenant_stays_apart}
 
 linked_name : (ts : List Tenant) (k : Source) (t : Tenant) → ((linked ts t k).station ≡ t.station) × ((linked ts t k).tag ≡ t.tag)
 linked_name ts First t = (refl, refl)
@@ -170,7 +170,7 @@ module _ (P : Program) (C : Sizes) where
 
   pub link_plan : (id : ℕ) (v : View) (p c gp gc : ℕ) (k : Source) (r q new : ℕ) → id ≡ front →
       v.draft ≡ Nothing → IsTenant (unit_of P C v.seen) r c gc (CanAsk k q) →
-      IsTenant (unit_of P C v.seen) q p gp IsAny → IsLastAt (unit_of P C v.seen) r c → new ≡ pack_link gp gc
+      IsNamed (unit_of P C v.seen) q p gp → IsLastAt (unit_of P C v.seen) r c → new ≡ pack_link gp gc
       → Plans P C id v (LinkPlace p c k) (λ _. new) (λ _. Asks P C r k)
   link_plan id v p c gp gc k r q new is_front none consumer producer last new_is between d legal same apart caller mine draft n small content =
       let h : List Entry = between ++ v.seen in
@@ -178,7 +178,7 @@ module _ (P : Program) (C : Sizes) where
       let not_own : own front between ≡ [] = subst (λ z. own z between ≡ []) is_front apart in
       let i = tenant_stays_apart P C front r c gc (CanAsk k q) (λ U by step t t' other theirs may m f. ask_stays k q by step t t' (no_link C U by step other theirs) m f) between v.seen legal same
       not_own consumer in
-      let j = any_stays P C q p gp between v.seen legal same producer in
+      let j = named_stays P C q p gp between v.seen legal same producer in
       let l = front_stays P C (λ U. IsLastAt U r c) (λ U by s b a ok x. last_stays P C U by s b a ok r c x) between v.seen legal not_own last in
       let may : Allowed P C U id (On r (Link k)) = record { tenant = i.tenant; is = i.is; may = record { way = i.fact.way } } in
       let quiet : d ≡ Nothing = sym (mine is_front) ∙ none in

@@ -40,7 +40,7 @@ use Rattle.ruu_words.proofs.Building.{looks, tells}
 use Rattle.ruu_words.specs.Plans.{Plans}
 use Rattle.inorder.proofs.Histories.{allowed_steps, unit_sound}
 use Rattle.ruu_words.proofs.StationWords.{find_last}
-use Rattle.ruu_words.proofs.Stays.{tenant_stays, was_open_stays}
+use Rattle.ruu_words.proofs.Stays.{tenant_stays, was_open_stays, with_fact}
 
 pub has_last : (U : List Tenant) (p : ℕ) (t : Tenant) → at U p ≡ Some t → last_of U t.station ≢ None
 has_last [] p t h = λ e. cc h
@@ -214,22 +214,15 @@ module _ (P : Program) (C : Sizes) where
         there,
         record {
           p = p;
-          tenant = record {
-            tenant = t;
-            is = now.is;
-            new = now.new;
-            station_is = now.station_is;
-            tag_is = now.tag_is;
-            fact = delivered t.tag (operand k t).value n w there;
-          };
+          tenant = with_fact _ now (delivered t.tag (operand k t).value n w there);
           added = refl;
         },
       )))
       (λ not. let waiting = least P k t now.fact (waits t.tag (operand k t).value n w not) in
       tells P C id h d legal draft (Operand s k) n (Waiting p k) (worker, was, record { tenant = t; is = now.is; fact = waiting }) content (ReadsSource P C s g k n)
-      (inr (inl (tag, not, record { p = p; tenant = record { tenant = t; is = now.is; new = now.new; station_is = now.station_is; tag_is = now.tag_is; fact = waiting }; added = refl })))))
+      (inr (inl (tag, not, record { p = p; tenant = with_fact _ now waiting; added = refl })))))
       (λ ne.
       let left = not_live P C h legal d draft s k n content p t now.is now.station_is (λ e. ne (sym e ∙ now.tag_is)) in
       let closed : IsClosed t = λ o. left o.live in
       tells P C id h d legal draft (Operand s k) n (Moved p) (worker, was, record { tenant = t; is = now.is; fact = closed }) content (ReadsSource P C s g k n)
-      (inr (inr (ne, record { p = p; tenant = record { tenant = t; is = now.is; new = now.new; station_is = now.station_is; tag_is = now.tag_is; fact = closed }; added = refl }))))
+      (inr (inr (ne, record { p = p; tenant = with_fact IsClosed now closed; added = refl }))))

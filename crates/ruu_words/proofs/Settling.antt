@@ -10,7 +10,7 @@ use Rattle.inorder.specs.Callers.{CanLoad}
 use Rattle.inorder.proofs.Recent.{live_is_recent}
 use Rattle.inorder.specs.History.{IsLegal, IsUnitOrBack, back, own, renewals, unit_of}
 use Rattle.inorder.specs.Memory.{load_value}
-use Rattle.inorder.specs.Replies.{IsStale}
+use Rattle.inorder.specs.Replies.{IsSquashed, IsStale}
 use Rattle.inorder.specs.StationWords.{live_word, station_word}
 use Rattle.inorder.specs.Tenants.{Addr, Done, Fate, Live, Squashed, Tenant}
 use Rattle.inorder.specs.Unit.{Sizes, UpdateUnit, older, recent}
@@ -19,12 +19,12 @@ use Rattle.ruu_words.specs.declared.place.Place.TheVariants.{Station}
 use Rattle.ruu_words.specs.declared.rule.Role.TheVariants.{Back}
 use Rattle.ruu_words.specs.declared.rule.View.{View}
 use Rattle.ruu_words.specs.Content.{IsStation}
-use Rattle.ruu_words.specs.Kinds.{IsAny, IsTenant, Settles}
+use Rattle.ruu_words.specs.Kinds.{IsNamed, Settles}
 use Rattle.ruu_words.specs.Views.{IsCaller}
 use Rattle.ruu_words.proofs.Building.{changes, tells}
 use Rattle.ruu_words.specs.Plans.{Plan, Plans}
 use Rattle.ruu_words.proofs.StationWords.{its_word, one_at, one_live, still_live, the_tenant}
-use Rattle.ruu_words.proofs.Stays.{any_stays, back_stays}
+use Rattle.ruu_words.proofs.Stays.{back_stays, named_stays, with_fact}
 
 module _ (P : Program) (C : Sizes) where
   -- what the back has seen of a load: it may be answered, or is squashed
@@ -35,20 +35,20 @@ module _ (P : Program) (C : Sizes) where
       more seen legal same none can
 
   pub settle_plan : (id : ℕ) (v : View) (s g p a val old new : ℕ) → v.role ≡ Back → IsStation (live_word g (Addr a)) old → IsStation (live_word g (Done val)) new →
-      IsTenant (unit_of P C v.seen) p s g IsAny
+      IsNamed (unit_of P C v.seen) p s g
       → CanLoad P (unit_of P C v.seen) p a val ⊎ IsStale (unit_of P C v.seen) p
       → Plans P C id v (Station s) (λ n. either (n == old) new n) (Settles P C s g old)
   settle_plan id v s g p a val old new role old_is new_is named can between d legal same apart caller mine draft n small content =
       let h : List Entry = between ++ v.seen in
       let U : UpdateUnit = unit_of P C h in
       let is_back : id ≡ back = subst (λ r. IsCaller r id) role caller in
-      let i = any_stays P C p s g between v.seen legal same named in
+      let i = named_stays P C p s g between v.seen legal same named in
       let now = load_lasts p a val between v.seen legal same (subst (λ z. own z between ≡ []) is_back apart) can in
       let stale : IsStale U p → n ≢ old → Plan P C id h d (Station s) n (Settles P C s g old n) = λ x miss.
       let one : i.tenant ≡ x.tenant = one_at P C h legal p i.tenant x.tenant i.is x.is in
       let gone : i.tenant.standing ≡ Squashed = ap (λ (z : Tenant). z.standing) one ∙ x.fact in
       tells P C id h d legal draft (Station s) n (Stale p) (or_back is_back, record { tenant = i.tenant; is = i.is; fact = gone }) content (Settles P C s g old n)
-      (inr (miss, record { p = p; tenant = record { tenant = i.tenant; is = i.is; new = i.new; station_is = i.station_is; tag_is = i.tag_is; fact = gone }; added = refl })) in
+      (inr (miss, record { p = p; tenant = with_fact IsSquashed i gone; added = refl })) in
       exchanged n old new (λ z. Plan P C id h d (Station s) z (Settles P C s g old n))
       (λ hit.
       let word : IsStation (station_word C (recent U) s) old = subst (IsStation (station_word C (recent U) s)) hit content in

@@ -1,5 +1,5 @@
 -- What a caller has seen of a tenant stays true.
-use Rattle.std.proofs.Common.{◌≡◌, ◌≢◌, ℕ, false, List, [], ◌++◌, map, Option, Some, None, refl, sym, ap, ◌∙◌, subst}
+use Rattle.std.proofs.Common.{◌≡◌, ◌≢◌, ℕ, ◌<◌, false, List, [], ◌++◌, map, Option, Some, None, refl, sym, ap, ◌∙◌, subst}
 use Rattle.std.specs.Prelude.{length, unwrap_or}
 use Rattle.std.proofs.lemmas.Option.{same_Some}
 use Rattle.instructions.specs.Instruction.{kind}
@@ -19,19 +19,32 @@ use Rattle.inorder.specs.declared.history.Step.TheVariants.{Let, On, Renew}
 use Rattle.inorder.specs.Callers.{IsReady}
 use Rattle.inorder.specs.History.{IsLegal, IsTheirs, WasOpen, back, entry, front, own, renewals, unit_of}
 use Rattle.inorder.specs.Legal.{Allowed, applied}
-use Rattle.inorder.specs.Replies.{Has, IsOpen}
+use Rattle.inorder.specs.OneHistory.{Adds}
+use Rattle.inorder.specs.Replies.{Has, IsOpen, last_tag}
 use Rattle.inorder.specs.Tenants.{Tenant, computed, kind_of, missing_of, operand_value}
 use Rattle.inorder.specs.Unit.{Sizes, UpdateUnit, at, is_old}
 use Rattle.inorder.proofs.Ends.{IsNotBacks}
 use Rattle.inorder.proofs.Letting.{IsBesides}
 use Rattle.inorder.proofs.Moves.{Goes, goes}
+use Rattle.inorder.proofs.Serving.{are_small}
 use Rattle.inorder.proofs.Sound.{IsSound}
 use Rattle.ruu_words.specs.declared.rule.Draft.{Draft}
 use Rattle.ruu_words.specs.declared.rule.View.{View}
-use Rattle.ruu_words.specs.Kinds.{IsAny, IsTenant}
+use Rattle.ruu_words.specs.Kinds.{IsAny, IsNamed, IsTenant}
 use Rattle.ruu_words.specs.Telling.{Grows}
 use Rattle.inorder.proofs.Histories.{none_between, only_front_renews, starts_longer, unit_lasts, unit_lasts_apart, unit_lasts_here}
 use Rattle.inorder.proofs.Recent.{old_same}
+use Rattle.ruu_words.proofs.StationWords.{one_tag}
+
+-- A tenant that is named, and what is true of it
+
+-- this is true of it too
+abbrev pub with_fact : {U : UpdateUnit} {p s g : ℕ} {Fact : Tenant → Type 0} (Other : Tenant → Type 0) (i : IsTenant U p s g Fact) → Other i.tenant → IsTenant U p s g Other
+with_fact Other i fact = record { tenant = i.tenant; is = i.is; new = i.new; station_is = i.station_is; tag_is = i.tag_is; fact = fact }
+
+-- its name alone
+abbrev pub named_of : {U : UpdateUnit} {p s g : ℕ} {Fact : Tenant → Type 0} → IsTenant U p s g Fact → IsNamed U p s g
+named_of i = with_fact IsAny i tt
 
 -- Where a step goes on from what was seen
 
@@ -118,9 +131,19 @@ module _ (P : Program) (C : Sizes) where
   tenant_stays p s g Fact keeps more seen legal same i = since p s g Fact more seen legal same i
       (fact_stays p (IsAs s g Fact) (λ by step t t' m f. (m.station ∙ f.0, m.tag ∙ f.1, keeps by step t t' m f.2)) more seen legal (as_named p s g Fact (unit_of P C seen) i))
 
-  pub any_stays : (p s g : ℕ) (more seen : List Entry) → IsLegal P C (more ++ seen) → renewals (more ++ seen) ≡ renewals seen → IsTenant (unit_of P C seen) p s g IsAny →
-      IsTenant (unit_of P C (more ++ seen)) p s g IsAny
-  any_stays p s g more seen legal same i = tenant_stays p s g IsAny (λ by step t t' m f. tt) more seen legal same i
+  -- its name
+  pub named_stays : (p s g : ℕ) (more seen : List Entry) → IsLegal P C (more ++ seen) → renewals (more ++ seen) ≡ renewals seen → IsNamed (unit_of P C seen) p s g →
+      IsNamed (unit_of P C (more ++ seen)) p s g
+  named_stays p s g more seen legal same i = tenant_stays p s g IsAny (λ by step t t' m f. tt) more seen legal same i
+
+  -- the same over what a caller has seen
+  pub named_on : (by p s g : ℕ) (es : List Event) (old new : List Entry) → Adds P C by old new es → IsNamed (unit_of P C old) p s g → IsNamed (unit_of P C new) p s g
+  named_on by p s g es old new a i = subst (λ z. IsNamed (unit_of P C z) p s g) (sym a.begins.is)
+      (named_stays p s g a.begins.more old (subst (IsLegal P C) a.begins.is a.legal) (sym (ap renewals a.begins.is) ∙ a.one_table) i)
+
+  -- no other tenant has it
+  pub one_named : (h : List Entry) → IsLegal P C h → (p q s g : ℕ) → IsNamed (unit_of P C h) p s g → IsNamed (unit_of P C h) q s g → p ≡ q
+  one_named h legal p q s g i j = one_tag P C h legal p q i.tenant j.tenant i.is j.is i.new j.new (i.station_is ∙ sym j.station_is) (i.tag_is ∙ sym j.tag_is)
 
   -- the same of what the steps of other callers keep
   pub tenant_stays_apart : (id p s g : ℕ) (Fact : Tenant → Type 0)
@@ -132,6 +155,10 @@ module _ (P : Program) (C : Sizes) where
       record { tenant = m.tenant; is = m.is; fact = (m.goes.station ∙ q.fact.0, m.goes.tag ∙ q.fact.1, keeps U by step q.tenant m.tenant other theirs a m.goes q.fact.2) })
       more seen legal none (as_named p s g Fact (unit_of P C seen) i))
 
+  -- its tag has its bits
+  pub tag_small : (h : List Entry) → IsLegal P C h → (p s g : ℕ) → IsNamed (unit_of P C h) p s g → g < last_tag
+  tag_small h legal p s g i = subst (λ z. z < last_tag) i.tag_is (are_small P C h legal p i.tenant i.is)
+
   -- What a tenant was when it was open
   pub record IsSince (u t : Tenant) : Type 0 where
     pub opens : IsOpen t → IsOpen u
@@ -139,17 +166,10 @@ module _ (P : Program) (C : Sizes) where
     pub predicted : t.predicted ≡ u.predicted
 
   -- a tenant that is open was open before, with the same instruction: so an info word that was read in between is its own
-  pub opened_before : (p s g : ℕ) (more seen : List Entry) → IsLegal P C (more ++ seen) → renewals (more ++ seen) ≡ renewals seen → (i : IsTenant (unit_of P C seen) p s g IsAny) →
+  pub opened_before : (p s g : ℕ) (more seen : List Entry) → IsLegal P C (more ++ seen) → renewals (more ++ seen) ≡ renewals seen → (i : IsNamed (unit_of P C seen) p s g) →
       (j : IsTenant (unit_of P C (more ++ seen)) p s g IsOpen) → IsSince i.tenant j.tenant
   opened_before p s g more seen legal same i j =
-      let k = tenant_stays p s g (IsSince i.tenant) goes_on more seen legal same (record {
-        tenant = i.tenant;
-        is = i.is;
-        new = i.new;
-        station_is = i.station_is;
-        tag_is = i.tag_is;
-        fact = record { opens = λ o. o; index = refl; predicted = refl };
-      }) in
+      let k = tenant_stays p s g (IsSince i.tenant) goes_on more seen legal same (with_fact (IsSince i.tenant) i (record { opens = λ o. o; index = refl; predicted = refl })) in
       subst (IsSince i.tenant) (same_Some k.tenant j.tenant (sym k.is ∙ j.is)) k.fact
     where
       goes_on : (by : ℕ) (step : Step) (t t' : Tenant) → Goes by step t t' → IsSince i.tenant t → IsSince i.tenant t'

@@ -61,16 +61,16 @@ abbrev pub operand_code : Option ℕ → ℕ
 operand_code None = 1
 operand_code (Some v) = 2
 
--- The value in an operand's word
-abbrev pub operand_value : Option ℕ → ℕ
-operand_value None = 0
-operand_value (Some v) = v
+-- The value field of an operand's word: 0 while the source waits
+abbrev pub value_field : Option ℕ → ℕ
+value_field None = 0
+value_field (Some v) = v
 
 -- The word n is that of this operand
 pub record IsOperandOf (o : OperandWord) (n : ℕ) : Type 0 where
   pub tag : tag_of n ≡ o.tag
   pub state : state_of n ≡ operand_code o.value
-  pub value : word_value n ≡ operand_value o.value
+  pub value : word_value n ≡ value_field o.value
 
 -- The same; a station that has had no tenant has the word 0
 abbrev pub IsOperand : Option OperandWord → ℕ → Type 0

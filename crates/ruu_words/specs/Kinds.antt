@@ -39,6 +39,10 @@ pub record IsTenant (U : UpdateUnit) (p station tag : ℕ) (Fact : Tenant → Ty
 abbrev pub IsAny : Tenant → Type 0
 IsAny t = ⊤
 
+-- The tenant at p, let since the last renewal, is of this station, with this tag
+abbrev pub IsNamed : UpdateUnit → ℕ → ℕ → ℕ → Type 0
+IsNamed U p station tag = IsTenant U p station tag IsAny
+
 -- It is not open
 abbrev pub IsClosed : Tenant → Type 0
 IsClosed t = ¬ IsOpen t

@@ -1,6 +1,5 @@
 -- Views: what a seat of a table has seen, whose it is, and which numbers it may give away.
 use Rattle.std.specs.Prelude.{⊤, ◌≡◌, ◌⊎◌, ℕ, ◌+◌, ◌*◌, ◌<◌, ◌≤◌, List, []}
-use mathlib.Core.Option.{some}
 use Rattle.inorder.specs.declared.history.Entry.{Entry}
 use Rattle.inorder.specs.History.{IsUnit, StartsWith, back, front, own}
 use Rattle.ruu_words.specs.declared.rule.Draft.{Draft}

@@ -26,27 +26,26 @@ use Rattle.inorder.proofs.Histories.{adds_on, legal_before, starts_longer, unit_
 use Rattle.inorder.proofs.Letting.{IsBesides}
 use Rattle.inorder.proofs.Moves.{came}
 use Rattle.inorder.proofs.Serving.{linked_creator, linked_way}
-use Rattle.ruu_words.specs.declared.place.Place.{Place}
 use Rattle.ruu_words.specs.declared.place.Place.TheVariants.{Link as LinkPlace, Operand, Station}
 use Rattle.ruu_words.specs.declared.rule.Draft.{Draft}
 use Rattle.ruu_words.specs.declared.rule.Draft.TheVariants.{Nothing}
 use Rattle.ruu_words.specs.declared.rule.View.{View}
 use Rattle.ruu_words.specs.Content.{IsOperandOf}
 use Rattle.ruu_words.specs.Fields.{pack_link, state_of, word_value}
-use Rattle.ruu_words.specs.Kinds.{Answers, Asks, HasLink, IsAny, IsInTime, IsMade, IsTenant, IsUnmade, Questions}
+use Rattle.ruu_words.specs.Kinds.{Answers, Asks, HasLink, IsInTime, IsMade, IsNamed, IsTenant, IsUnmade, Questions}
 use Rattle.ruu_words.specs.Telling.{Grows}
 use Rattle.ruu_words.proofs.Asking.{answer_plan, path_on, question_plan}
 use Rattle.ruu_words.proofs.Delivery.{link_on}
-use Rattle.ruu_words.specs.Plans.{Plan, Plans}
+use Rattle.ruu_words.specs.Plans.{Plans}
 use Rattle.ruu_words.proofs.Linking.{last_stays, link_plan}
 use Rattle.ruu_words.proofs.StationWords.{one_at}
-use Rattle.ruu_words.proofs.Stays.{any_stays, front_stays, tenant_stays, same_before}
+use Rattle.ruu_words.proofs.Stays.{front_stays, named_of, named_stays, one_named, same_before, tenant_stays, with_fact}
+use Rattle.ruu_words.proofs.Building.{plan_as}
 use Rattle.station.specs.declared.answers.Ask.TheVariants.{Delivered, Linked}
-use Rattle.station.specs.Asking.{AskAnswers, IsAsking, MayAsk}
+use Rattle.station.specs.Asking.{AskAnswers, MayAsk}
 use Rattle.station.specs.Wakeup.{CanAnswer, Ends, Finds, HasAskedFrom, HasAskedOf, Links}
 use Rattle.station.specs.Writeback.{val_word, wait_word}
 use Rattle.station.proofs.Adding.{adds_these}
-use Rattle.station.proofs.Carrying.{one_named}
 use Rattle.station.proofs.Seated.{next_stays}
 use Rattle.station.proofs.Writing.{acted}
 use Rattle.inorder.proofs.Recent.{counts_same}
@@ -70,37 +69,19 @@ not_both n m u = ⊎_elim (λ e. u.0 e) (λ e. u.1 e) m
 to_link : (k : Source) (q : ℕ) (t : Tenant) → HasAsked k q t → HasLink k q t
 to_link k q t a = record { in_time = a.in_time; way = a.way; creator = a.creator }
 
--- less is said of a tenant
-pub weaker : (U : UpdateUnit) (p s g : ℕ) (F G : Tenant → Type 0) → ((t : Tenant) → F t → G t) → IsTenant U p s g F → IsTenant U p s g G
-weaker U p s g F G f i = record { tenant = i.tenant; is = i.is; new = i.new; station_is = i.station_is; tag_is = i.tag_is; fact = f i.tenant i.fact }
-
 module _ (P : Program) (C : Sizes) where
   -- Plans of the tenants that are named
-
-  plan_as : (id : ℕ) (h : List Entry) (d : Draft) (x : Place) (new : ℕ) (K K' : List Entry → Draft → List Event → Type 0) (p : Plan P C id h d x new K) →
-      ((d' : Draft) (es : List Event) → K h d' es → K' h d' es) → Plan P C id h d x new K'
-  plan_as id h d x new K K' p f = record {
-    events = p.events;
-    draft = p.draft;
-    mine = p.mine;
-    legal = p.legal;
-    same = p.same;
-    proper = p.proper;
-    here = p.here;
-    else = p.else;
-    kind = f p.draft p.events p.kind;
-  }
 
   pub links_plan : (id : ℕ) (v : View) (s g : ℕ) (k : Source) (a b new : ℕ) → id ≡ front → v.draft ≡ Nothing → MayAsk P C v.seen s g k a b → new ≡ pack_link b g →
       Plans P C id v (LinkPlace a s k) (λ _. new) (λ _. Links P C s g k)
   links_plan id v s g k a b new is none may word between d legal same apart caller mine draft n small content =
       let h : List Entry = between ++ v.seen in
       let U = unit_of P C v.seen in
-      let can = weaker U may.r s g (IsAsking k may.q) (CanAsk k may.q) (λ t f. f.can) may.asks in
-      let named = any_stays P C may.r s g between v.seen legal same (weaker U may.r s g (IsAsking k may.q) IsAny (λ t f. tt) may.asks) in
-      plan_as id h d (LinkPlace a s k) new (Asks P C may.r k) (Links P C s g k)
+      let can = with_fact (CanAsk k may.q) may.asks may.asks.fact.can in
+      let named = named_stays P C may.r s g between v.seen legal same (named_of may.asks) in
+      plan_as P C id h d (LinkPlace a s k) new (Asks P C may.r k) (Links P C s g k)
+      (λ d' es x r i. subst (λ z. Asks P C z k h d' es) (one_named P C h legal may.r r s g named i) x)
       (link_plan P C id v a s b g k may.r may.q new is none can may.creator may.last word between d legal same apart caller mine draft n small content)
-      (λ d' es x r i. subst (λ z. Asks P C z k h d' es) (one_named P C h legal may.r r s g IsAny IsAny named i) x)
 
   pub finds_plan : (id : ℕ) (v : View) (s g : ℕ) (k : Source) (a b : ℕ) → id ≡ front → v.draft ≡ Nothing → HasAskedFrom P C v.seen s g k a b →
       Plans P C id v (Station a) (λ n. n) (λ n. Finds P C s g k a b n)
@@ -109,13 +90,13 @@ module _ (P : Program) (C : Sizes) where
       let U = unit_of P C v.seen in
       let r = asked.r in
       let q = asked.q in
-      let named = any_stays P C r s g between v.seen legal same (weaker U r s g (HasAsked k q) IsAny (λ t f. tt) asked.of.asks) in
-      let creator = any_stays P C q a b between v.seen legal same asked.of.creator in
-      plan_as id h d (Station a) n (Questions P C r k q n) (Finds P C s g k a b n)
+      let named = named_stays P C r s g between v.seen legal same (named_of asked.of.asks) in
+      let creator = named_stays P C q a b between v.seen legal same asked.of.creator in
+      plan_as P C id h d (Station a) n (Questions P C r k q n) (Finds P C s g k a b n)
+      (λ d' es x r' i q' j.
+      subst (λ (z : ℕ × ℕ). Questions P C z.0 k z.1 n h d' es) (λ l. (one_named P C h legal r r' s g named i l, one_named P C h legal q q' a b creator j l)) x)
       (question_plan P C id v a b r q k is none (record { tenant = asked.of.asks.tenant; is = asked.of.asks.is; fact = asked.of.asks.fact }) asked.of.creator asked.of.creator_last between d legal same
       apart caller mine draft n small content)
-      (λ d' es x r' i q' j.
-      subst (λ (z : ℕ × ℕ). Questions P C z.0 k z.1 n h d' es) (λ l. (one_named P C h legal r r' s g IsAny IsAny named i l, one_named P C h legal q q' a b IsAny IsAny creator j l)) x)
 
   pub ends_plan : (id : ℕ) (v : View) (s g : ℕ) (k : Source) (val old new : ℕ) → id ≡ front → v.draft ≡ Nothing → IsOperandOf (wait_word g) old → IsOperandOf (val_word g val) new →
       CanAnswer P C v.seen s g k val
@@ -125,10 +106,10 @@ module _ (P : Program) (C : Sizes) where
       let U = unit_of P C v.seen in
       let r = can.r in
       let q = can.q in
-      let named = any_stays P C r s g between v.seen legal same (weaker U r s g (HasLink k q) IsAny (λ t f. tt) can.asks) in
-      plan_as id h d (Operand s k) (either (n == old) new n) (Answers P C r k old n) (Ends P C s g k old n)
+      let named = named_stays P C r s g between v.seen legal same (named_of can.asks) in
+      plan_as P C id h d (Operand s k) (either (n == old) new n) (Answers P C r k old n) (Ends P C s g k old n)
+      (λ d' es x r' i. subst (λ z. Answers P C z k old n h d' es) (one_named P C h legal r r' s g named i) x)
       (answer_plan P C id v s g r q val old new k is none old_is new_is can.asks can.last can.made between d legal same apart caller mine draft n small content)
-      (λ d' es x r' i. subst (λ z. Answers P C z k old n h d' es) (one_named P C h legal r r' s g IsAny IsAny named i) x)
 
   -- What stays
 
@@ -206,13 +187,13 @@ module _ (P : Program) (C : Sizes) where
       let legal = behind by is v w (Links P C s g k) e in
       let none = apart by is v w (Links P C s g k) e in
       let calm = no_renewal by is v w (Links P C s g k) e in
-      let named = any_stays P C r s g e.between v.seen legal calm (weaker U r s g (IsAsking k q) IsAny (λ t f. tt) may.asks) in
+      let named = named_stays P C r s g e.between v.seen legal calm (named_of may.asks) in
       let told = e.kind r named in
       let new : List Entry = entry by (Does (On r (Link k))) ∷ h in
       let seen : w.seen ≡ new = seen_by by is v w (Links P C s g k) e (Does (On r (Link k)) ∷ []) told.added in
       let legal2 : IsLegal P C new = subst (IsLegal P C) seen e.legal in
       let from : IsTenant (unit_of P C h) r s g (λ t. (operand k t).creator ≡ Some q) = tenant_stays P C r s g (λ t. (operand k t).creator ≡ Some q) (λ b st t t' m f. m.creator k ∙ f) e.between v.seen
-      legal calm (weaker U r s g (IsAsking k q) (λ t. (operand k t).creator ≡ Some q) (λ t f. f.can.creator) may.asks) in
+      legal calm (with_fact (λ t. (operand k t).creator ≡ Some q) may.asks may.asks.fact.can.creator) in
       let path = front_stays P C (λ U. Has U r (λ t. on_path t ≡ true)) (λ U b st ok x sound i. path_stays U b st ok x r i) e.between v.seen legal none
       (record { tenant = may.asks.tenant; is = may.asks.is; fact = may.asks.fact.path }) in
       let same : path.tenant ≡ from.tenant = one_at P C h legal r path.tenant from.tenant path.is from.is in
@@ -225,7 +206,7 @@ module _ (P : Program) (C : Sizes) where
       let asked : HasAskedOf P C new s g k a b r q = record {
         asks = acted P C by r s g (Link k) (λ t. (operand k t).creator ≡ Some q) h legal2 from (HasAsked k q) there;
         last = last_linked by r r s k h legal2 (last_on r s e.between v.seen legal none may.last);
-        creator = any_stays P C q a b (entry by (Does (On r (Link k))) ∷ e.between) v.seen legal2 calm may.creator;
+        creator = named_stays P C q a b (entry by (Does (On r (Link k))) ∷ e.between) v.seen legal2 calm may.creator;
         creator_last = last_linked by r q a k h legal2 (last_on q a e.between v.seen legal none may.creator_last);
       } in
       record {
@@ -248,13 +229,13 @@ module _ (P : Program) (C : Sizes) where
 
     asks_mid : IsTenant (unit_of P C (e.between ++ v.seen)) x.r s g (HasLink k x.q)
     asks_mid = tenant_stays P C x.r s g (HasLink k x.q) (λ b st t t' m f. link_on P C k x.q b st t t' m f) e.between v.seen legal_mid calm_mid
-        (weaker (unit_of P C v.seen) x.r s g (HasAsked k x.q) (HasLink k x.q) (to_link k x.q) x.of.asks)
+        (with_fact (HasLink k x.q) x.of.asks (to_link k x.q x.of.asks.tenant x.of.asks.fact))
 
-    creator_mid : IsTenant (unit_of P C (e.between ++ v.seen)) x.q a b IsAny
-    creator_mid = any_stays P C x.q a b e.between v.seen legal_mid calm_mid x.of.creator
+    creator_mid : IsNamed (unit_of P C (e.between ++ v.seen)) x.q a b
+    creator_mid = named_stays P C x.q a b e.between v.seen legal_mid calm_mid x.of.creator
 
     told_mid : Questions P C x.r k x.q n (e.between ++ v.seen) w.draft e.events
-    told_mid = e.kind x.r (weaker (unit_of P C (e.between ++ v.seen)) x.r s g (HasLink k x.q) IsAny (λ t f. tt) asks_mid) x.q creator_mid
+    told_mid = e.kind x.r (named_of asks_mid) x.q creator_mid
 
     pub quiet_mid : w.draft ≡ Nothing
     quiet_mid = told_mid.0
@@ -272,7 +253,7 @@ module _ (P : Program) (C : Sizes) where
           r = x.r;
           q = x.q;
           asks = subst (λ z. IsTenant (unit_of P C z) x.r s g (HasLink k x.q)) (sym seen) asks_mid;
-          creator = subst (λ z. IsTenant (unit_of P C z) x.q a b IsAny) (sym seen) creator_mid;
+          creator = subst (λ z. IsNamed (unit_of P C z) x.q a b) (sym seen) creator_mid;
           events = Marks (Asked x.r k) ∷ Does (On x.r (Link k)) ∷ [];
           question = inl refl;
           adds = adds_on P C by old v.seen w.seen (Does (On x.r (Link k)) ∷ []) (Marks (Asked x.r k) ∷ []) x.adds (adds_these P C by v w (Finds P C s g k a b n) (Marks (Asked x.r k) ∷ []) e t.0);
@@ -318,11 +299,11 @@ module _ (P : Program) (C : Sizes) where
       asks_end = tenant_stays P C x.r s g (HasLink k x.q) (λ b st t t' m f. link_on P C k x.q b st t t' m f) f.between w.seen legal_end calm_end
           (subst (λ z. IsTenant (unit_of P C z) x.r s g (HasLink k x.q)) (sym (seen_made made)) asks_mid)
 
-      creator_end : IsTenant (unit_of P C (f.between ++ w.seen)) x.q a b IsAny
-      creator_end = any_stays P C x.q a b f.between w.seen legal_end calm_end (subst (λ z. IsTenant (unit_of P C z) x.q a b IsAny) (sym (seen_made made)) creator_mid)
+      creator_end : IsNamed (unit_of P C (f.between ++ w.seen)) x.q a b
+      creator_end = named_stays P C x.q a b f.between w.seen legal_end calm_end (subst (λ z. IsNamed (unit_of P C z) x.q a b) (sym (seen_made made)) creator_mid)
 
       told_end : Answers P C x.r k o m (f.between ++ w.seen) y.draft f.events
-      told_end = f.kind x.r (weaker (unit_of P C (f.between ++ w.seen)) x.r s g (HasLink k x.q) IsAny (λ t f. tt) asks_end)
+      told_end = f.kind x.r (named_of asks_end)
 
       pub quiet_end : y.draft ≡ Nothing
       quiet_end = told_end.0
@@ -353,13 +334,13 @@ module _ (P : Program) (C : Sizes) where
           let worth : value_of (older us x.r) (operand k asks_end.tenant).creator ≡ Some may.may.value = ap (λ (z : Tenant). value_of (older us x.r) (operand k z).creator) one ∙ may.may.is_made in
           let there = acted P C by x.r s g (Deliver k) (HasLink k x.q) h legal.0 asks_end (λ t. IsThere (operand k t).value) (may.may.value, value_there (older us x.r) k asks_end.tenant ∙ worth) in
           let asks = tenant_stays P C x.r s g (HasLink k x.q) (λ b st t t' m f. link_on P C k x.q b st t t' m f) (entry by (Does (On x.r (Deliver k))) ∷ []) h legal.0 refl asks_end in
-          let creator = any_stays P C x.q a b (entry by (Does (On x.r (Deliver k))) ∷ []) h legal.0 refl creator_end in
+          let creator = named_stays P C x.q a b (entry by (Does (On x.r (Deliver k))) ∷ []) h legal.0 refl creator_end in
           record {
             reply = record {
               r = x.r;
               q = x.q;
               asks = subst (λ z. IsTenant (unit_of P C z) x.r s g (HasLink k x.q)) (sym seen) asks;
-              creator = subst (λ z. IsTenant (unit_of P C z) x.q a b IsAny) (sym seen) creator;
+              creator = subst (λ z. IsNamed (unit_of P C z) x.q a b) (sym seen) creator;
               events = es ++ Does (On x.r (Link k)) ∷ [];
               question = inr refl;
               adds = adds_end es added;
@@ -378,7 +359,7 @@ module _ (P : Program) (C : Sizes) where
               r = x.r;
               q = x.q;
               asks = subst (λ z. IsTenant (unit_of P C z) x.r s g (HasLink k x.q)) (sym seen) asks_end;
-              creator = subst (λ z. IsTenant (unit_of P C z) x.q a b IsAny) (sym seen) creator_end;
+              creator = subst (λ z. IsNamed (unit_of P C z) x.q a b) (sym seen) creator_end;
               events = es ++ Does (On x.r (Link k)) ∷ [];
               question = inl refl;
               adds = adds_end es added;

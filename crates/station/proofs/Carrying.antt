@@ -30,14 +30,14 @@ use Rattle.ruu_words.specs.declared.rule.Role.TheVariants.{Back, Front, Spent, S
 use Rattle.ruu_words.specs.declared.rule.View.{View}
 use Rattle.ruu_words.specs.Content.{NamesLink}
 use Rattle.ruu_words.specs.Fields.{consumer_of, pack_link, producer_of, tag_of}
-use Rattle.ruu_words.specs.Kinds.{Delivers, Finds, HasLink, IsAny, IsTenant, ReadsLink}
+use Rattle.ruu_words.specs.Kinds.{Delivers, Finds, HasLink, IsAny, IsNamed, IsTenant, ReadsLink}
 use Rattle.ruu_words.specs.Views.{IsCaller}
 use Rattle.ruu_words.specs.Telling.{Grows}
 use Rattle.ruu_words.proofs.Building.{marks}
 use Rattle.ruu_words.proofs.Delivery.{link_on}
 use Rattle.ruu_words.specs.Plans.{Plans}
 use Rattle.ruu_words.proofs.StationWords.{one_tag}
-use Rattle.ruu_words.proofs.Stays.{any_stays, tenant_stays, same_before}
+use Rattle.ruu_words.proofs.Stays.{named_of, named_on, named_stays, one_named, same_before, tenant_stays}
 use Rattle.ruu_words.proofs.Walking.{IsServedOr, is_walked, served_but_named, served_but_stays, served_unless_named, served_with_it}
 use Rattle.station.specs.Carrying.{EndsWalk, HasValueOf, HasWalked, IsCarrying, IsServedAll, IsServing, IsWriter, Makes, OfTenant}
 use Rattle.station.specs.Writeback.{CanDeliver, IsDeliveryOf}
@@ -125,22 +125,10 @@ module _ (P : Program) (C : Sizes) where
   pub value_on : (by s g v : ℕ) (fs : List Event) (old new : List Entry) → Adds P C by old new fs → HasValueOf P C old s g v → HasValueOf P C new s g v
   value_on by s g v fs old new a h = record { p = h.p; named = makes_on by h.p s g v fs old new a h.named }
 
-  pub any_on : (by p s g : ℕ) (fs : List Event) (old new : List Entry) → Adds P C by old new fs → IsTenant (unit_of P C old) p s g IsAny → IsTenant (unit_of P C new) p s g IsAny
-  any_on by p s g fs old new a i =
-      subst (λ z. IsTenant (unit_of P C z) p s g IsAny) (sym a.begins.is) (any_stays P C p s g a.begins.more old (subst (IsLegal P C) a.begins.is a.legal) (sym (ap renewals a.begins.is) ∙ a.one_table)
-      i)
-
-  -- one station and one tag
-  pub one_named : (h : List Entry) → IsLegal P C h → (p q s g : ℕ) (F G : Tenant → Type 0) → IsTenant (unit_of P C h) p s g F → IsTenant (unit_of P C h) q s g G → p ≡ q
-  one_named h legal p q s g F G i j = one_tag P C h legal p q i.tenant j.tenant i.is j.is i.new j.new (i.station_is ∙ sym j.station_is) (i.tag_is ∙ sym j.tag_is)
-
   -- the tenant that is named has made the value
-  made_of : (h : List Entry) → IsLegal P C h → (q s g v : ℕ) → HasValueOf P C h s g v → IsTenant (unit_of P C h) q s g IsAny → HasMade (unit_of P C h) q v
+  made_of : (h : List Entry) → IsLegal P C h → (q s g v : ℕ) → HasValueOf P C h s g v → IsNamed (unit_of P C h) q s g → HasMade (unit_of P C h) q v
   made_of h legal q s g v m i =
-      subst (λ z. HasMade (unit_of P C h) z v) (one_named h legal m.p q s g (Makes v) IsAny m.named i) (record { tenant = m.named.tenant; is = m.named.is; made = m.named.fact })
-
-  pub any_of : (h : List Entry) (s g v : ℕ) (m : HasValueOf P C h s g v) → IsTenant (unit_of P C h) m.p s g IsAny
-  any_of h s g v m = record { tenant = m.named.tenant; is = m.named.is; new = m.named.new; station_is = m.named.station_is; tag_is = m.named.tag_is; fact = tt }
+      subst (λ z. HasMade (unit_of P C h) z v) (one_named P C h legal m.p q s g (named_of m.named) i) (record { tenant = m.named.tenant; is = m.named.is; made = m.named.fact })
 
   -- One link
 
@@ -160,7 +148,7 @@ module _ (P : Program) (C : Sizes) where
     -- it names another producer
     pub serves_nobody : producer_of n ≢ g → OfTenant P C v0.seen p g (λ q. IsServing P C by q c k v0.seen v1.seen)
     serves_nobody other q i =
-        let now = any_stays P C q p g g1.between v0.seen legal1 same1 i in
+        let now = named_stays P C q p g g1.between v0.seen legal1 same1 i in
         record {
           events = [];
           each = tt;
@@ -170,7 +158,7 @@ module _ (P : Program) (C : Sizes) where
         }
 
     -- it names this one: its consumer asked for the value
-    asks_it : 1 ≤ C.first_tag → producer_of n ≡ g → (q : ℕ) → IsTenant (unit_of P C v0.seen) q p g IsAny → (r : ℕ) × IsTenant (unit_of P C v1.seen) r c (consumer_of n) (HasLink k q)
+    asks_it : 1 ≤ C.first_tag → producer_of n ≡ g → (q : ℕ) → IsNamed (unit_of P C v0.seen) q p g → (r : ℕ) × IsTenant (unit_of P C v1.seen) r c (consumer_of n) (HasLink k q)
     asks_it first names q i = subst (λ z. (r : ℕ) × IsTenant (unit_of P C z) r c (consumer_of n) (HasLink k q)) (sym seen1) (⊎_elim
         (λ (none : n ≡ 0).
         let its = recent_at (unit_of P C (g1.between ++ v0.seen)) q m.tenant m.is m.new in
@@ -197,12 +185,12 @@ module _ (P : Program) (C : Sizes) where
         ))
         g1.kind.word.names)
       where
-        m : IsTenant (unit_of P C (g1.between ++ v0.seen)) q p g IsAny
-        m = any_stays P C q p g g1.between v0.seen legal1 same1 i
+        m : IsNamed (unit_of P C (g1.between ++ v0.seen)) q p g
+        m = named_stays P C q p g g1.between v0.seen legal1 same1 i
 
     pub can_deliver : 1 ≤ C.first_tag → HasValueOf P C v0.seen p g val → producer_of n ≡ g → CanDeliver P C v1.seen c k (consumer_of n) val
     can_deliver first made names =
-        let asks = asks_it first names made.p (any_of v0.seen p g val made) in
+        let asks = asks_it first names made.p (named_of made.named) in
         record {
           consumer = asks.0;
           producer = made.p;
@@ -211,17 +199,17 @@ module _ (P : Program) (C : Sizes) where
         }
 
     -- and has it now, had it, or has left
-    module _ (old n2 : ℕ) (v2 : View) (to : tag_of old ≡ consumer_of n) (g2 : Grows P C by v1 v2 (Delivers P C c k (tag_of old) old n2)) (q : ℕ) (i : IsTenant (unit_of P C v0.seen) q p g IsAny)
+    module _ (old n2 : ℕ) (v2 : View) (to : tag_of old ≡ consumer_of n) (g2 : Grows P C by v1 v2 (Delivers P C c k (tag_of old) old n2)) (q : ℕ) (i : IsNamed (unit_of P C v0.seen) q p g)
         (made0 : HasValueOf P C v0.seen p g val) (r : ℕ) (asks : IsTenant (unit_of P C v1.seen) r c (consumer_of n) (HasLink k q)) where
       abbrev U2 : UpdateUnit
       U2 = unit_of P C (g2.between ++ v1.seen)
 
       made_mid : HasMade (unit_of P C v1.seen) q val
-      made_mid = made_of v1.seen g1.legal q p g val (value_on by p g val [] v0.seen v1.seen adds1 made0) (any_on by q p g [] v0.seen v1.seen adds1 i)
+      made_mid = made_of v1.seen g1.legal q p g val (value_on by p g val [] v0.seen v1.seen adds1 made0) (named_on P C by q p g [] v0.seen v1.seen adds1 i)
 
       but : AreLinked (unit_of P C v1.seen) q c k (IsServedOr k (consumer_of n))
       but =
-          let now = any_stays P C q p g g1.between v0.seen legal1 same1 i in
+          let now = named_stays P C q p g g1.between v0.seen legal1 same1 i in
           subst (λ z. AreLinked (unit_of P C z) q c k (IsServedOr k (consumer_of n))) (sym seen1)
           (served_but_named P C (g1.between ++ v0.seen) legal1 q p c n k now.tenant now.is now.station_is g1.kind.word)
 
@@ -241,11 +229,10 @@ module _ (P : Program) (C : Sizes) where
             is = now.now;
             fact = (a.may.value, value_there (older U2.tenants f.p) k t ∙ a.may.is_made);
           } in
-          let named : IsTenant (unit_of P C new) f.p c (consumer_of n) IsAny = any_stays P C f.p c (consumer_of n) (entry by act ∷ []) (g2.between ++ v1.seen) legal2 refl
-          (record { tenant = f.tenant.tenant; is = f.tenant.is; new = f.tenant.new; station_is = f.tenant.station_is; tag_is = f.tenant.tag_is ∙ to; fact = tt }) in
+          let named = named_stays P C f.p c (consumer_of n) (entry by act ∷ []) (g2.between ++ v1.seen) legal2 refl (subst (λ z. IsNamed U2 f.p c z) to f.tenant) in
           let asks2 : IsTenant (unit_of P C new) r c (consumer_of n) (HasLink k q) = tenant_stays P C r c (consumer_of n) (HasLink k q) (λ b step x x' m l. link_on P C k q b step x x' m l) more
           v1.seen legal2 (same_before P C by v1 v2 (Delivers P C c k (tag_of old) old n2) g2) asks in
-          let one : r ≡ f.p = one_named new legal2 r f.p c (consumer_of n) (HasLink k q) IsAny asks2 named in
+          let one : r ≡ f.p = one_named P C new legal2 r f.p c (consumer_of n) (named_of asks2) named in
           let served : IsServed (unit_of P C new) q c k = served_with_it P C (unit_of P C new) q c (consumer_of n) k (served_but_stays P C q val c (consumer_of n) k more v1.seen legal2 made_mid but)
           (λ x y at_x station tag. ⊎_elim
           (λ fresh. inl (subst (λ z. IsDelivered (unit_of P C new) z k) (one_tag P C new legal2 f.p x named.tenant y named.is at_x named.new fresh (named.station_is ∙ sym station)
@@ -322,26 +309,26 @@ module _ (P : Program) (C : Sizes) where
   -- The same of the tenant that is named, by the number that the seat has at each step
 
   pub legal_behind : (by s g val n : ℕ) (k : Source) (old new : List Entry) → HasValueOf P C old s g val → OfTenant P C old s g (λ q. IsServing P C by q n k old new) → IsLegal P C new
-  legal_behind by s g val n k old new made all = (all made.p (any_of old s g val made)).adds.legal
+  legal_behind by s g val n k old new made all = (all made.p (named_of made.named)).adds.legal
 
   pub value_behind : (by s g val n : ℕ) (k : Source) (old new : List Entry) → (made : HasValueOf P C old s g val) → OfTenant P C old s g (λ q. IsServing P C by q n k old new) →
       HasValueOf P C new s g val
-  value_behind by s g val n k old new made all = let x = all made.p (any_of old s g val made) in value_on by s g val x.events old new x.adds made
+  value_behind by s g val n k old new made all = let x = all made.p (named_of made.named) in value_on by s g val x.events old new x.adds made
 
   pub carries_both : (by s g val n m id id' : ℕ) (old a b new : List Entry) → m ≡ suc n → id ≡ by → id' ≡ by → IsLegal P C old → HasValueOf P C old s g val
       → OfTenant P C old s g (λ q. IsCarrying P C by q n old a) → OfTenant P C a s g (λ q. IsServing P C id q n First a b) → OfTenant P C b s g (λ q. IsServing P C id' q n Second b new)
       → OfTenant P C old s g (λ q. IsCarrying P C by q m old new)
   carries_both by s g val n m id id' old a b new next is is' legal made carry one other q i =
       let x = carry q i in
-      let ia = any_on by q s g x.events old a x.adds i in
+      let ia = named_on P C by q s g x.events old a x.adds i in
       let y : IsServing P C by q n First a b = subst (λ z. IsServing P C z q n First a b) is (one q ia) in
-      let ib = any_on by q s g y.events a b y.adds ia in
+      let ib = named_on P C by q s g y.events a b y.adds ia in
       let z : IsServing P C by q n Second b new = subst (λ z. IsServing P C z q n Second b new) is' (other q ib) in
       subst (λ w. IsCarrying P C by q w old new) (sym next) (carries_on by q val n old a b new (made_of old legal q s g val made i) x y z)
 
   pub all_served : (by s g val n : ℕ) (old new : List Entry) → C.ring ≤ n → HasValueOf P C old s g val → OfTenant P C old s g (λ q. IsCarrying P C by q n old new) → IsServedAll P C new s g val
   all_served by s g val n old new end made carry =
-      let x = carry made.p (any_of old s g val made) in
+      let x = carry made.p (named_of made.named) in
       record { q = made.p; named = makes_on by made.p s g val x.events old new x.adds made.named; served = λ c k below. x.served c k (omega arith) }
 
   -- the last load
@@ -353,13 +340,13 @@ module _ (P : Program) (C : Sizes) where
       let now = is_walked P C h legal q (λ c k below. served_stays P C q val c k between v.seen legal made (all.served c k below)) in
       let named = makes_stays q s g val between v.seen legal same all.named in
       marks P C id h d legal draft x n (Walked q) (writes v.role id writer caller, now) content (EndsWalk P C s g)
-      (λ p i. record { added = ap (λ z. Marks (Walked z) ∷ []) (one_named h legal q p s g (Makes val) IsAny named i) })
+      (λ p i. record { added = ap (λ z. Marks (Walked z) ∷ []) (one_named P C h legal q p s g (named_of named) i) })
 
-  walks_out : (by q s g n : ℕ) (old : List Entry) (v w : View) → IsCarrying P C by q n old v.seen → IsTenant (unit_of P C old) q s g IsAny → (e : Grows P C by v w (EndsWalk P C s g)) →
+  walks_out : (by q s g n : ℕ) (old : List Entry) (v w : View) → IsCarrying P C by q n old v.seen → IsNamed (unit_of P C old) q s g → (e : Grows P C by v w (EndsWalk P C s g)) →
       HasWalked P C by q old w.seen
   walks_out by q s g n old v w c i e =
       let h : List Entry = e.between ++ v.seen in
-      let named = any_stays P C q s g e.between v.seen (legal_behind e) (same_before P C by v w (EndsWalk P C s g) e) (any_on by q s g c.events old v.seen c.adds i) in
+      let named = named_stays P C q s g e.between v.seen (legal_behind e) (same_before P C by v w (EndsWalk P C s g) e) (named_on P C by q s g c.events old v.seen c.adds i) in
       let added : e.events ≡ Marks (Walked q) ∷ [] = (e.kind q named).added in
       let adds : Adds P C by v.seen w.seen (Marks (Walked q) ∷ []) = adds_these P C by v w (EndsWalk P C s g) (Marks (Walked q) ∷ []) e added in
       record {

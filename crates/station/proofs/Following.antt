@@ -28,9 +28,9 @@ use Rattle.inorder.proofs.Ends.{miss_stays}
 use Rattle.inorder.proofs.Histories.{legal_before, own-append, own_none, unit_sound}
 use Rattle.inorder.proofs.Moves.{IsActed, IsLeft, at_changed, came, goes}
 use Rattle.inorder.proofs.Positions.{at_below, at_more, at_new, younger_at}
-use Rattle.ruu_words.specs.Kinds.{IsAny, IsTenant}
+use Rattle.ruu_words.specs.Kinds.{IsNamed, IsTenant}
 use Rattle.ruu_words.proofs.Drafting.{still_let}
-use Rattle.ruu_words.proofs.Stays.{any_stays, front_stays}
+use Rattle.ruu_words.proofs.Stays.{front_stays, named_of, named_on, named_stays}
 use Rattle.station.specs.declared.answers.Supply.TheVariants.{From}
 use Rattle.station.specs.declared.answers.Tenant.{Tenant as NewTenant}
 use Rattle.station.specs.Asking.{IsAsking, IsQuestion, MayAsk}
@@ -72,7 +72,7 @@ module _ (P : Program) (C : Sizes) where
 
   -- right behind the let
   asked_now : (h : List Entry) (t : NewTenant) (k : Source) (a g q : ℕ) → IsLegal P C (entry front (let_of t) ∷ h) → MayLetOut P C (unit_of P C h) t → supply k t ≡ From a g
-      → creator P (unit_of P C h).tenants (register k (instr_of P t.index)) ≡ Some q → IsTenant (unit_of P C h) q a g IsAny
+      → creator P (unit_of P C h).tenants (register k (instr_of P t.index)) ≡ Some q → IsNamed (unit_of P C h) q a g
       → MayAsk P C (entry front (let_of t) ∷ h) (next_station C (recent (unit_of P C h))) (next_tag C (recent (unit_of P C h))) k a g
   asked_now h t k a g q legal m is creates named =
       let U : UpdateUnit = unit_of P C h in
@@ -96,7 +96,7 @@ module _ (P : Program) (C : Sizes) where
           fact = record { can = record { way = ap (λ (o : Operand). o.way) now; creator = ap (λ (o : Operand). o.creator) now ∙ creates }; path = refl };
         };
         last = λ x u less at_x same. let small = at_below (n ∷ U.tenants) x u at_x in absurd (omega arith);
-        creator = any_stays P C q a g (entry front (let_of t) ∷ []) h legal refl named;
+        creator = named_stays P C q a g (entry front (let_of t) ∷ []) h legal refl named;
         creator_last = λ x u less at_x same. go x u c (subst (λ z. z < x) (sym position) less) n refl at_x (same ∙ sym at_a);
       }
     where
@@ -127,8 +127,8 @@ lets_are_asked P C old new t k a g m from adds =
     let was = its_operand P C (unit_of P C old) t k ∙ ap (λ z. let_operand c (supply_of z)) from.given in
     let now = its_operand P C (unit_of P C (more ++ old)) t k ∙ ap (λ z. let_operand c' (supply_of z)) from.given in
     let same : c' ≡ c = sym (ap (λ (o : Operand). o.creator) now) ∙ (ap (λ (x : Tenant). (operand k x).creator) stay.new ∙ ap (λ (o : Operand). o.creator) was) in
-    let asked = asked_now P C (more ++ old) t k a g from.q legal may from.given (same ∙ from.creates) (any_stays P C from.q a g more old legal.0 (sym (ap renewals is) ∙ l.before.one_table) from.named)
-    in
+    let named = named_stays P C from.q a g more old legal.0 (sym (ap renewals is) ∙ l.before.one_table) from.named in
+    let asked = asked_now P C (more ++ old) t k a g from.q legal may from.given (same ∙ from.creates) named in
     let here : MayAsk P C (entry front e ∷ l.point) (next_station C (recent (unit_of P C old))) (next_tag C (recent (unit_of P C old))) k a g =
     subst (λ (z : List Entry × (ℕ × ℕ)). MayAsk P C (entry front e ∷ z.0) z.1.0 z.1.1 k a g) (λ i. (sym is i, (ap (λ (x : Tenant). x.station) stay.new i, stay.tag i))) asked in
     (fronts_stay P C (entry front e ∷ l.point) new (behind_last P C old new e [] l)).asks (next_station C (recent (unit_of P C old))) (next_tag C (recent (unit_of P C old))) k a g here
@@ -191,7 +191,7 @@ module _ (P : Program) (C : Sizes) (s g : ℕ) (j : Source) (a b : ℕ) where
             })
             (at_changed P U.tenants front r act al.tenant al.is m.r t m.asks.is);
         last = λ x u less is same. let was = came P C U front r act al ok x u is in m.last x was.tenant less was.is (sym was.goes.station ∙ same);
-        creator = any_stays P C m.q a b (entry front (Does (On r act)) ∷ []) h legal refl m.creator;
+        creator = named_stays P C m.q a b (entry front (Does (On r act)) ∷ []) h legal refl m.creator;
         creator_last = λ x u less is same. let was = came P C U front r act al ok x u is in m.creator_last x was.tenant less was.is (sym was.goes.station ∙ same);
       }
 
@@ -283,10 +283,7 @@ misses_stay_squashing P C old new s g station tag x q ne m =
   where
     apart : (l : LastEvent P C front old new (Does (On q.p Squash)) []) → q.p ≢ m.p
     apart l same =
-        let is = q.adds.begins.is in
-        let named = any_stays P C m.p station tag q.adds.begins.more old (subst (IsLegal P C) is q.adds.legal) (sym (ap renewals is) ∙ q.adds.one_table)
-        (record { tenant = m.named.tenant; is = m.named.is; new = m.named.new; station_is = m.named.station_is; tag_is = m.named.tag_is; fact = tt }) in
-        let now = subst (λ z. IsTenant (unit_of P C z) m.p station tag IsAny) (sym is) named in
+        let now = named_on P C front m.p station tag (Does (On q.p Squash) ∷ []) old new q.adds (named_of m.named) in
         let one : q.named.tenant ≡ now.tenant = found q.named.tenant now.tenant (sym q.named.is ∙ (ap (at (unit_of P C new).tenants) same ∙ now.is)) in
         ⊎_elim
         (λ n. n (sym now.station_is ∙ (ap (λ (z : Tenant). z.station) (sym one) ∙ q.named.station_is)))
@@ -346,7 +343,7 @@ misses_are_recovered P C seen s g x m =
     dite (ℕ_discrete y.q m.p)
     (λ (same : y.q ≡ m.p). inr (record {
       p = m.p;
-      named = record { tenant = t.tenant; is = t.is; new = t.new; station_is = t.station_is; tag_is = t.tag_is; fact = tt };
+      named = named_of t;
       can = record { miss = miss; youngest = λ r v less at_r. y.youngest r v (subst (λ z. z < r) (sym same) less) at_r };
     }))
     (λ ne. let above = y.above in inl (record {

@@ -26,12 +26,12 @@ use Rattle.ruu_words.specs.declared.rule.Draft.TheVariants.{Nothing}
 use Rattle.ruu_words.specs.declared.rule.View.{View}
 use Rattle.ruu_words.specs.Content.{IsStation}
 use Rattle.ruu_words.specs.Fields.{tag_of, word_value}
-use Rattle.ruu_words.specs.Kinds.{IsAny, IsTenant}
+use Rattle.ruu_words.specs.Kinds.{IsNamed}
 use Rattle.ruu_words.specs.Telling.{Grows}
 use Rattle.ruu_words.proofs.Building.{changes}
 use Rattle.ruu_words.specs.Plans.{Plan, Plans}
 use Rattle.ruu_words.proofs.StationWords.{its_word, one_at, still_live}
-use Rattle.ruu_words.proofs.Stays.{any_stays, front_stays}
+use Rattle.ruu_words.proofs.Stays.{front_stays, named_stays}
 use Rattle.station.specs.Recovery.{HasMiss, IsMended, Mends, SeesMiss}
 use Rattle.station.proofs.Adding.{adds_these}
 use Rattle.station.proofs.Seated.{next_stays}
@@ -45,7 +45,7 @@ module _ (P : Program) (C : Sizes) where
   pub miss_on : (s g x : ℕ) (more seen : List Entry) → IsLegal P C (more ++ seen) → own front more ≡ [] → HasMiss P C seen s g x → HasMiss P C (more ++ seen) s g x
   miss_on s g x more seen legal none m = record {
     p = m.p;
-    named = any_stays P C m.p s g more seen legal (none_renewed P C more seen legal none) m.named;
+    named = named_stays P C m.p s g more seen legal (none_renewed P C more seen legal none) m.named;
     can = front_stays P C (λ U. CanMend U m.p x) (λ U by st b a ok q. mend_stays P C U by st b a ok m.p x q) more seen legal none m.can;
   }
 
@@ -93,11 +93,11 @@ module _ (P : Program) (C : Sizes) where
       (cases_lt p q))
 
   abbrev IsMissAt : (p s g x : ℕ) → List Entry → Type 0
-  IsMissAt p s g x h = IsTenant (unit_of P C h) p s g IsAny × CanMend (unit_of P C h) p x
+  IsMissAt p s g x h = IsNamed (unit_of P C h) p s g × CanMend (unit_of P C h) p x
 
   miss_at : (p s g x : ℕ) (more seen : List Entry) → IsLegal P C (more ++ seen) → own front more ≡ [] → IsMissAt p s g x seen → IsMissAt p s g x (more ++ seen)
   miss_at p s g x more seen legal none m = (
-    any_stays P C p s g more seen legal (none_renewed P C more seen legal none) m.0,
+    named_stays P C p s g more seen legal (none_renewed P C more seen legal none) m.0,
     front_stays P C (λ U. CanMend U p x) (λ U by st b a ok q. mend_stays P C U by st b a ok p x q) more seen legal none m.1,
   )
 
@@ -127,7 +127,7 @@ module _ (P : Program) (C : Sizes) where
         p = p;
         tag = g;
         next = x;
-        named = subst (λ h. IsTenant (unit_of P C h) p s g IsAny) (sym seen2) (any_stays P C p s g (entry by (Does (On m.miss.p Mend)) ∷ []) last legal2 refl m2.0);
+        named = subst (λ h. IsNamed (unit_of P C h) p s g) (sym seen2) (named_stays P C p s g (entry by (Does (On m.miss.p Mend)) ∷ []) last legal2 refl m2.0);
         can = sees.miss.can;
         adds = subst (λ z. Adds P C by v0.seen w.seen (Does (On z Mend) ∷ [])) one adds;
       }

@@ -19,7 +19,7 @@ use Rattle.inorder.specs.Callers.{IsReady}
 use Rattle.inorder.specs.History.{IsLegal, StartsWith, entry, unit_of, renewals}
 use Rattle.inorder.specs.OneHistory.{Adds}
 use Rattle.inorder.specs.Legal.{applied, change_at}
-use Rattle.inorder.specs.Replies.{Has, IsOpen, job_of, last_tag, needed}
+use Rattle.inorder.specs.Replies.{Has, IsOpen, job_of, needed}
 use Rattle.inorder.specs.Tenants.{Busy, Tenant, kind_of, missing_of, needs, operand_value}
 use Rattle.inorder.specs.Unit.{Sizes, UpdateUnit, at, older, younger, is_old}
 use Rattle.inorder.proofs.Basics.{split_at}
@@ -27,16 +27,15 @@ use Rattle.inorder.proofs.Grows.{sound_mid}
 use Rattle.inorder.proofs.Histories.{adds_on, starts_longer, starts_same, unit_sound}
 use Rattle.inorder.proofs.Moves.{Goes}
 use Rattle.inorder.proofs.Positions.{at_replaced_here}
-use Rattle.inorder.proofs.Serving.{are_small}
 use Rattle.inorder.proofs.Sound.{IsSound}
 use Rattle.ruu_words.specs.declared.rule.Draft.{Draft}
 use Rattle.ruu_words.specs.declared.rule.View.{View}
 use Rattle.ruu_words.specs.Content.{IsInfoOf}
 use Rattle.ruu_words.specs.Fields.{half_of, index_of, predicted_of, state_of, tag_of, word_value}
-use Rattle.ruu_words.specs.Kinds.{Claims, Finds, IsAny, IsClosed, IsTenant, Peeks, ReadsInfo, ReadsSource, Rechecks, refuses}
+use Rattle.ruu_words.specs.Kinds.{Claims, Finds, IsAny, IsClosed, IsNamed, IsTenant, Peeks, ReadsInfo, ReadsSource, Rechecks, refuses}
 use Rattle.ruu_words.specs.Telling.{Grows}
-use Rattle.ruu_words.proofs.StationWords.{one_at, one_tag}
-use Rattle.ruu_words.proofs.Stays.{any_stays, tenant_stays, same_before}
+use Rattle.ruu_words.proofs.StationWords.{one_at}
+use Rattle.ruu_words.proofs.Stays.{named_of, named_on, one_named, same_before, tenant_stays, with_fact}
 use Rattle.station.specs.declared.answers.Claim.{Claim as Answer}
 use Rattle.station.specs.declared.answers.Claim.TheVariants.{Job as Claimed, Moved, NotOpen, Waiting}
 use Rattle.station.specs.declared.answers.Job.{Job}
@@ -122,13 +121,7 @@ module _ (P : Program) (C : Sizes) where
       let seen : w.seen ≡ entry by (Refuses (r f.p)) ∷ h = g.is ∙ ap (λ es. map (entry by) es ++ h) f.added in
       record {
         p = f.p;
-        named = subst (λ z. Rattle.inorder.specs.Replies.IsNamed (U z) f.p s t) (sym seen) (record {
-          tenant = f.tenant.tenant;
-          is = f.tenant.is;
-          new = f.tenant.new;
-          station_is = f.tenant.station_is;
-          tag_is = f.tenant.tag_is;
-        });
+        named = subst (λ z. IsNamed (U z) f.p s t) (sym seen) (named_of f.tenant);
         adds = adds_these P C by v w Kind (Refuses (r f.p) ∷ []) g f.added;
       }
 
@@ -142,14 +135,7 @@ module _ (P : Program) (C : Sizes) where
       let seen : w.seen ≡ h = x.is ∙ ap (λ es. map (entry by) es ++ h) f.added in
       let same : Some (word_value n) ≡ Some value = ap Some (sym says.2) in
       let fact : SourceIs true k value f.tenant.tenant = f.tenant.fact ∙ same in
-      let named : IsTenant (U h) f.p s g (SourceIs needed k value) = record {
-        tenant = f.tenant.tenant;
-        is = f.tenant.is;
-        new = f.tenant.new;
-        station_is = f.tenant.station_is;
-        tag_is = f.tenant.tag_is;
-        fact = subst (λ b. SourceIs b k value f.tenant.tenant) (sym is) fact;
-      } in
+      let named = with_fact (SourceIs needed k value) f.tenant (subst (λ b. SourceIs b k value f.tenant.tenant) (sym is) fact) in
       record { p = f.p; named = subst (λ z. IsTenant (U z) f.p s g (SourceIs needed k value)) (sym seen) named; adds = adds_these P C by v w (ReadsSource P C s g k n) [] x f.added })
       (λ other. ⊎_elim (λ waits. absurd (waits.1 says.1)) (λ moved. absurd (moved.0 says.0)) other)
       x.kind
@@ -164,9 +150,6 @@ module _ (P : Program) (C : Sizes) where
       (λ b. inr (b.1, told_of by v w (ReadsSource P C s g k n) x s g IsClosed HasMoved moved.1)) says)
       other)
       x.kind
-
-  pub tag_small : (h : List Entry) → IsLegal P C h → (p s g : ℕ) (Fact : Tenant → Type 0) → IsTenant (U h) p s g Fact → g < last_tag
-  tag_small h legal p s g Fact i = subst (λ z. z < last_tag) i.tag_is (are_small P C h legal p i.tenant i.is)
 
   its_own : (h : List Entry) → IsLegal P C h → (p : ℕ) (t : Tenant) → at (U h).tenants p ≡ Some t → Rattle.inorder.proofs.Sound.IsOwn P (older (U h).tenants p) t
   its_own h legal p t is =
@@ -187,7 +170,7 @@ module _ (P : Program) (C : Sizes) where
     pub has_seen : (A B : Tenant → Type 0) (seen : List Entry) → ((t : Tenant) → A t → B t) → Ready A seen → HasSeen P C seen s g B
     has_seen A B seen f r = record {
       p = r.p;
-      named = record { tenant = r.named.tenant; is = r.named.is; new = r.named.new; station_is = r.named.station_is; tag_is = r.named.tag_is; fact = f r.named.tenant r.named.fact };
+      named = with_fact B r.named (f r.named.tenant r.named.fact);
       was = record { point = r.opened.point; starts = r.opened.within.before_return; opened = r.opened.fact };
     }
 
@@ -209,18 +192,11 @@ module _ (P : Program) (C : Sizes) where
     -- two facts of the tenant
     both_of : (A B D : Tenant → Type 0) (seen : List Entry) (q : ℕ) → IsLegal P C seen → ((t : Tenant) → A t → B t → D t) → Ready A seen → IsTenant (U seen) q s g B → Ready D seen
     both_of A B D seen q legal f r i =
-        let here : r.p ≡ q = one_tag P C seen legal r.p q r.named.tenant i.tenant r.named.is i.is r.named.new i.new (r.named.station_is ∙ sym i.station_is) (r.named.tag_is ∙ sym i.tag_is) in
+        let here = one_named P C seen legal r.p q s g (named_of r.named) (named_of i) in
         let one : i.tenant ≡ r.named.tenant = one_at P C seen legal q i.tenant r.named.tenant i.is (ap (at (U seen).tenants) (sym here) ∙ r.named.is) in
         record {
           p = r.p;
-          named = record {
-            tenant = r.named.tenant;
-            is = r.named.is;
-            new = r.named.new;
-            station_is = r.named.station_is;
-            tag_is = r.named.tag_is;
-            fact = f r.named.tenant r.named.fact (subst B one i.fact);
-          };
+          named = with_fact D r.named (f r.named.tenant r.named.fact (subst B one i.fact));
           opened = r.opened;
           adds = r.adds;
         }
@@ -230,11 +206,8 @@ module _ (P : Program) (C : Sizes) where
     refused A seen new r x told =
         let more : List Entry = told.adds.begins.more in
         let legal : IsLegal P C (more ++ seen) = subst (IsLegal P C) told.adds.begins.is told.adds.legal in
-        let any : IsTenant (U seen) x.p s g IsAny = record { tenant = x.named.tenant; is = x.named.is; new = x.named.new; station_is = x.named.station_is; tag_is = x.named.tag_is; fact = tt } in
-        let still : IsTenant (U new) x.p s g IsAny = subst (λ z. IsTenant (U z) x.p s g IsAny) (sym told.adds.begins.is)
-        (any_stays P C x.p s g more seen legal (sym (ap renewals told.adds.begins.is) ∙ told.adds.one_table) any) in
-        let here : x.p ≡ told.p = one_tag P C new told.adds.legal x.p told.p still.tenant told.named.tenant still.is told.named.is still.new told.named.new
-        (still.station_is ∙ sym told.named.station_is) (still.tag_is ∙ sym told.named.tag_is) in
+        let still = named_on P C by x.p s g (r told.p ∷ []) seen new told.adds (named_of x.named) in
+        let here = one_named P C new told.adds.legal x.p told.p s g still told.named in
         let longer = starts_longer seen x.opened.point more x.opened.within.before_return in
         record {
           p = told.p;
@@ -262,7 +235,7 @@ module _ (P : Program) (C : Sizes) where
         let adds : Adds P C by old w.seen [] = subst (λ z. Adds P C by z w.seen []) (sym same) (adds_these P C by v w (Peeks P C s n) [] x f.added) in
         record {
           p = f.p;
-          named = record { tenant = i.tenant; is = i.is; new = i.new; station_is = i.station_is; tag_is = i.tag_is ∙ tag; fact = tt };
+          named = subst (λ z. IsNamed (U w.seen) f.p s z) tag (named_of i);
           opened = record { point = w.seen; within = record { before_return = starts_same w.seen; behind_call = adds.begins }; fact = record { tenant = i.tenant; is = i.is; fact = i.fact } };
           adds = adds;
         })
@@ -279,14 +252,7 @@ module _ (P : Program) (C : Sizes) where
         let is : at (U h).tenants now.p ≡ Some now.named.tenant = ap (λ z. at (U z).tenants now.p) (sym seen) ∙ now.named.is in
         record {
           p = now.p;
-          named = record {
-            tenant = now.named.tenant;
-            is = now.named.is;
-            new = now.named.new;
-            station_is = now.named.station_is;
-            tag_is = now.named.tag_is;
-            fact = λ o. x.kind.its now.p now.named.tenant is now.named.station_is o.live;
-          };
+          named = with_fact (HasInfo n) now.named (λ o. x.kind.its now.p now.named.tenant is now.named.station_is o.live);
           opened = now.opened;
           adds = now.adds;
         }
@@ -320,14 +286,7 @@ module _ (P : Program) (C : Sizes) where
         let j = seen.named in
         record {
           p = seen.p;
-          named = record {
-            tenant = j.tenant;
-            is = j.is;
-            new = j.new;
-            station_is = j.station_is;
-            tag_is = j.tag_is;
-            fact = record { half_is = j.fact.half_is; index_is = j.fact.index_is; predicted_is = j.fact.predicted_is };
-          };
+          named = with_fact (IsClaimable d i x) j (record { half_is = j.fact.half_is; index_is = j.fact.index_is; predicted_is = j.fact.predicted_is });
           opened = record { point = old; within = record { before_return = starts_same old; behind_call = starts_same old }; fact = record { tenant = j.tenant; is = j.is; fact = j.fact.is_open } };
           adds = adds_none P C by old legal;
         }
@@ -407,8 +366,7 @@ module _ (P : Program) (C : Sizes) where
           let legal : IsLegal P C (entry by (Does e) ∷ h) = subst (IsLegal P C) seen y.legal in
           let same : IsTenant (U h) r.p s g (HasBoth d i x a both b) = tenant_stays P C r.p s g (HasBoth d i x a both b) (both_stable d i x a both b) y.between v.seen legal.0
           (same_before P C by v w (Claims P C s g word n) y) r.named in
-          let here : r.p ≡ f.p = one_tag P C h legal.0 r.p f.p same.tenant f.tenant.tenant same.is f.tenant.is same.new f.tenant.new (same.station_is ∙ sym f.tenant.station_is)
-          (same.tag_is ∙ sym f.tenant.tag_is) in
+          let here = one_named P C h legal.0 r.p f.p s g (named_of same) (named_of f.tenant) in
           let t : Tenant = f.tenant.tenant in
           let one : same.tenant ≡ t = one_at P C h legal.0 f.p same.tenant t (ap (at (U h).tenants) (sym here) ∙ same.is) f.tenant.is in
           let fact : HasBoth d i x a both b t = subst (HasBoth d i x a both b) one same.fact in

@@ -19,7 +19,7 @@ use Rattle.inorder.specs.declared.history.Step.TheVariants.{Let, On, Renew}
 use Rattle.inorder.specs.Callers.{IsReady}
 use Rattle.inorder.specs.History.{IsLegal, IsTheirAct, IsTheirs, IsUnit, MayAdd, StartsWith, back, entry, front, own, taken_of, unit_of, renewals}
 use Rattle.inorder.specs.Legal.{Allowed, May, applied, changed}
-use Rattle.inorder.specs.Replies.{Has, HasMoved as Gone, IsNamed, IsOpen, IsWaiting, JobFields, job_of}
+use Rattle.inorder.specs.Replies.{Has, HasMoved as Gone, IsOpen, IsWaiting, JobFields, job_of}
 use Rattle.inorder.specs.Steps.{CanRetire, let_operand, new_tenant}
 use Rattle.inorder.specs.Tenants.{Live, Tenant, kind_of, missing}
 use Rattle.inorder.specs.Unit.{at, creator, front_half, front_pc, next_station, next_tag, older, recent, Sizes, UpdateUnit, younger}
@@ -27,10 +27,10 @@ use Rattle.inorder.proofs.Histories.{allowed_steps, legal_before, no_length, own
 use Rattle.inorder.proofs.Moves.{Goes, IsActed, IsLeft, at_changed, goes}
 use Rattle.inorder.proofs.Positions.{at_new, younger_at}
 use Rattle.inorder.proofs.Stations.{is_ring, stands}
-use Rattle.ruu_words.specs.Kinds.{IsAny, IsTenant}
+use Rattle.ruu_words.specs.Kinds.{IsAny, IsNamed, IsTenant}
 use Rattle.ruu_words.proofs.StationWords.{one_at}
 use Rattle.ruu_words.proofs.Drafting.{still_let}
-use Rattle.ruu_words.proofs.Stays.{any_stays, ready_stays, tenant_stays, place_stays}
+use Rattle.ruu_words.proofs.Stays.{named_of, named_on, named_stays, place_stays, ready_stays, tenant_stays}
 use Rattle.station.specs.declared.answers.Claim.{Claim as Answer}
 use Rattle.station.specs.declared.answers.Claim.TheVariants.{Job as Claimed, Moved, NotOpen, Waiting}
 use Rattle.station.specs.declared.answers.Job.{Job}
@@ -119,7 +119,7 @@ module _ (P : Program) (C : Sizes) where
       pub legal : IsLegal P C point
       pub may : MayAdd P C point by e
       pub is_open : Has (unit_of P C point) p IsOpen
-      pub named : IsTenant (unit_of P C point) p s g IsAny
+      pub named : IsNamed (unit_of P C point) p s g
       pub job : HasJob p (job_of P t.tenant) (unit_of P C point)
 
     there : (e : Event) → (l : LastEvent P C by old new e []) → IsThere e l.point
@@ -131,12 +131,11 @@ module _ (P : Program) (C : Sizes) where
         let mine : own by rest ≡ [] = own_none by rest old (ap (own by) (sym is) ∙ l.before.mine) in
         let others : (n : ℕ) → n ≢ back → own n rest ≡ [] = λ n ne. dite (ℕ_discrete n by) (λ (same : n ≡ by). subst (λ i. own i rest ≡ []) (sym same) mine) (λ apart. other l n ne apart) in
         let all = only_back rest others in
-        let named : IsTenant (unit_of P C old) p s g IsAny = record { tenant = t.tenant; is = t.is; new = t.new; station_is = t.station_is; tag_is = t.tag_is; fact = tt } in
         record {
           legal = behind.0;
           may = behind.1;
           is_open = subst (λ h. Has (unit_of P C h) p IsOpen) (sym is) (open_lasts p rest old legal all (record { tenant = t.tenant; is = t.is; fact = t.fact.is_open }));
-          named = subst (λ h. IsTenant (unit_of P C h) p s g IsAny) (sym is) (any_stays P C p s g rest old legal (sym (ap renewals is) ∙ l.before.one_table) named);
+          named = named_on P C by p s g [] old l.point l.before (named_of t);
           job = subst (λ h. HasJob p (job_of P t.tenant) (unit_of P C h)) (sym is) (job_lasts p (job_of P t.tenant) rest old legal
               (record { tenant = t.tenant; is = t.is; fact = (t.fact.ready, refl) }));
         }
@@ -162,9 +161,9 @@ module _ (P : Program) (C : Sizes) where
         let m : List Entry = was.point in
         let legal_m : IsLegal P C m = legal_before P C was.within.before_return.more m (subst (IsLegal P C) (was.within.before_return.is) legal_new) in
         let same_m = sym (ap renewals was.within.behind_call.is) ∙ none_to new m old was.within.before_return was.within.behind_call one_table in
-        let p_at = any_stays P C p s g was.within.behind_call.more old (subst (IsLegal P C) was.within.behind_call.is legal_m) same_m
-        (record { tenant = t.tenant; is = t.is; new = t.new; station_is = t.station_is; tag_is = t.tag_is; fact = tt }) in
-        let p_m = subst (λ h. IsTenant (unit_of P C h) p s g IsAny) (sym was.within.behind_call.is) p_at in
+        let p_at = named_stays P C p s g was.within.behind_call.more old (subst (IsLegal P C) was.within.behind_call.is legal_m) same_m
+        (named_of t) in
+        let p_m = subst (λ h. IsNamed (unit_of P C h) p s g) (sym was.within.behind_call.is) p_at in
         let q_m : was.fact.tenant.station ≡ s = station_of m was.within.before_return q was.fact.tenant was.fact.is named in
         let q_p : here.tenant.station ≡ s = station_of l.point (record { more = l.after ++ entry by e ∷ []; is = l.is ∙ sym (append_assoc l.after (entry by e ∷ []) l.point) }) q here.tenant here.is
         named in
@@ -260,10 +259,9 @@ ready_tenants_stay P C old new s g p begins legal_new quiet t =
     let is : new ≡ more ++ old = begins.is in
     let legal : IsLegal P C (more ++ old) = subst (IsLegal P C) is legal_new in
     let none : (n : ℕ) → n ≢ back → own n more ≡ [] = λ n ne. own_none n more old (ap (own n) (sym is) ∙ quiet n ne) in
-    let named : IsTenant (unit_of P C old) p s g IsAny = record { tenant = t.tenant; is = t.is; new = t.new; station_is = t.station_is; tag_is = t.tag_is; fact = tt } in
     let o = open_lasts P C p more old legal (only_back more none) (record { tenant = t.tenant; is = t.is; fact = t.fact.is_open }) in
     let j = job_lasts P C p (job_of P t.tenant) more old legal (record { tenant = t.tenant; is = t.is; fact = (t.fact.ready, refl) }) in
-    let i = any_stays P C p s g more old legal (none_renewed P C more old legal (none front (λ e. cc e))) named in
+    let i = named_stays P C p s g more old legal (none_renewed P C more old legal (none front (λ e. cc e))) (named_of t) in
     let open_job : o.tenant ≡ j.tenant = one_at P C (more ++ old) legal p o.tenant j.tenant o.is j.is in
     let named_job : i.tenant ≡ j.tenant = one_at P C (more ++ old) legal p i.tenant j.tenant i.is j.is in
     subst (λ z. IsStill P C z s g p t.tenant) (sym is) (record {

@@ -1,6 +1,5 @@
 -- The steps of a retirement.
 use Rattle.std.proofs.Common.{◌≡◌, ◌≢◌, ℕ, suc, ◌+◌, ◌%◌, ◌<◌, Bool, true, false, cond, List, [], ◌∷◌, ◌++◌, map, length, Some, refl, sym, ap, ◌∙◌, subst, inl, inr, ⊎_elim, arith}
-use native.Mathlib.Decide.{ℕ_discrete}
 use Rattle.std.proofs.Math.Nat.{mod-add-mod}
 use Rattle.std.specs.List.{AllByRecursion}
 use Rattle.instructions.specs.declared.op.Half.{Half}
@@ -40,7 +39,6 @@ use Rattle.inorder.proofs.Sound.{IsSound}
 use Rattle.inorder.proofs.Stations.{is_ring, stands}
 use Rattle.ruu_words.specs.declared.place.Place.{Place}
 use Rattle.ruu_words.specs.declared.place.Place.TheVariants.{Operand, Station}
-use Rattle.ruu_words.specs.declared.rule.Draft.{Draft}
 use Rattle.ruu_words.specs.declared.rule.Role.TheVariants.{Back}
 use Rattle.ruu_words.specs.declared.rule.View.{View}
 use Rattle.ruu_words.specs.declared.station.StationState.{StationState}
@@ -49,13 +47,13 @@ use Rattle.ruu_words.specs.declared.station.StationState.TheVariants.{Stop as St
 use Rattle.ruu_words.specs.declared.station.StationWord.{StationWord}
 use Rattle.ruu_words.specs.Content.{IsStation}
 use Rattle.ruu_words.specs.Fields.{half_of, index_of, state_of, tag_of, word_value}
-use Rattle.ruu_words.specs.Kinds.{Heads, IsAny, IsEarly, IsTenant, ReadsData, ReadsInfo, Tells, Writes}
+use Rattle.ruu_words.specs.Kinds.{Heads, IsEarly, IsNamed, IsTenant, ReadsData, ReadsInfo, Tells, Writes}
 use Rattle.ruu_words.specs.States.{state_code}
 use Rattle.ruu_words.specs.Views.{IsCaller}
 use Rattle.ruu_words.specs.Telling.{Grows}
-use Rattle.ruu_words.proofs.Building.{tells}
+use Rattle.ruu_words.proofs.Building.{plan_as, tells}
 use Rattle.ruu_words.proofs.Ending.{data_plan, head_plan, over_plan}
-use Rattle.ruu_words.specs.Plans.{Plan, Plans}
+use Rattle.ruu_words.specs.Plans.{Plans}
 use Rattle.ruu_words.proofs.Leaving.{retire_plan}
 use Rattle.ruu_words.proofs.StationWords.{addr_state, done_state, live_state, one_at}
 use Rattle.ruu_words.proofs.Stays.{back_stays, same_before}
@@ -144,21 +142,6 @@ end_stays s w = record {
 
 map_head : (U : UpdateUnit) (p : ℕ) (A B : Tenant → Type 0) → ((t : Tenant) → A t → B t) → IsHead U p A → IsHead U p B
 map_head U p A B f i = record { tenant = i.tenant; is = i.is; live = i.live; oldest = i.oldest; goes_on = i.goes_on; fact = f i.tenant i.fact }
-
--- a kind of step that tells more
-plan_as : (P : Program) (C : Sizes) (id : ℕ) (h : List Entry) (d : Draft) (x : Place) (new : ℕ) (K L : List Entry → Draft → List Event → Type 0) →
-    ((e : Draft) (es : List Event) → K h e es → L h e es) → Plan P C id h d x new K → Plan P C id h d x new L
-plan_as P C id h d x new K L f p = record {
-  events = p.events;
-  draft = p.draft;
-  mine = p.mine;
-  legal = p.legal;
-  same = p.same;
-  proper = p.proper;
-  here = p.here;
-  else = p.else;
-  kind = f p.draft p.events p.kind;
-}
 
 abbrev last_fate : Last → Fate
 last_fate (WasDone v) = Done v
@@ -353,7 +336,7 @@ module _ (P : Program) (C : Sizes) where
       let m : ℕ = kept_value l.last in
       let value : word_value new ≡ m = word.value in
       let fits : m < 4294967296 = omega arith in
-      let named : IsTenant (U v.seen) may.p l.station l.tag IsAny = record {
+      let named : IsNamed (U v.seen) may.p l.station l.tag = record {
         tenant = i.tenant;
         is = i.is;
         new = live_is_recent P C v.seen (legal_before P C between v.seen legal) may.p i.tenant i.is i.live;

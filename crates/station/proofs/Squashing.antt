@@ -24,7 +24,6 @@ use Rattle.inorder.proofs.Basics.{split_at}
 use Rattle.inorder.proofs.Ends.{may_squash, squash_stays}
 use Rattle.inorder.proofs.Grows.{all_mid}
 use Rattle.inorder.proofs.Histories.{adds_on, allowed_steps, unit_sound, none_renewed}
-use Rattle.inorder.proofs.Serving.{are_small}
 use Rattle.inorder.proofs.Sound.{IsSettled, IsSound, SettledBy}
 use Rattle.inorder.proofs.Stations.{is_ring, stands}
 use Rattle.ruu_words.specs.declared.place.Place.TheVariants.{Station}
@@ -33,12 +32,12 @@ use Rattle.ruu_words.specs.declared.rule.Draft.TheVariants.{Nothing}
 use Rattle.ruu_words.specs.declared.rule.View.{View}
 use Rattle.ruu_words.specs.Content.{IsStation}
 use Rattle.ruu_words.specs.Fields.{tag_of}
-use Rattle.ruu_words.specs.Kinds.{IsAny, IsTenant}
+use Rattle.ruu_words.specs.Kinds.{IsNamed}
 use Rattle.ruu_words.specs.Telling.{Grows}
 use Rattle.ruu_words.proofs.Building.{changes}
 use Rattle.ruu_words.specs.Plans.{Plan, Plans}
 use Rattle.ruu_words.proofs.StationWords.{its_word, live_state, one_at}
-use Rattle.ruu_words.proofs.Stays.{any_stays, front_stays}
+use Rattle.ruu_words.proofs.Stays.{front_stays, named_stays, tag_small}
 use Rattle.station.specs.Recovery.{HasYoungest, SeesWrongPath, Squashes, WasSquashed}
 use Rattle.station.proofs.Adding.{adds_these}
 use Rattle.inorder.proofs.Recent.{IsRecentAt, live_is_recent, recent_at, recent_change, younger_recent}
@@ -131,7 +130,7 @@ module _ (P : Program) (C : Sizes) where
   pub youngest_on : (s g : ℕ) (more seen : List Entry) → IsLegal P C (more ++ seen) → own front more ≡ [] → HasYoungest P C seen s g → HasYoungest P C (more ++ seen) s g
   youngest_on s g more seen legal none y = record {
     p = y.p;
-    named = any_stays P C y.p s g more seen legal (none_renewed P C more seen legal none) y.named;
+    named = named_stays P C y.p s g more seen legal (none_renewed P C more seen legal none) y.named;
     can = front_stays P C (λ U. CanSquash U y.p) (λ U by st b a ok q. squash_stays P C U by st b a ok y.p q) more seen legal none y.can;
   }
 
@@ -143,9 +142,6 @@ module _ (P : Program) (C : Sizes) where
       let live : y.named.tenant.standing ≡ Live = ap (λ (z : Tenant). z.standing) (same_tenant h legal s g y) ∙ y.can.tenant.fact in
       let w = its_word P C h legal y.p s n y.named.tenant y.named.is y.named.station_is live word in
       (live_state y.named.tenant.tag n y.named.tenant.fate w).0 ∙ y.named.tag_is
-
-  pub youngest_small : (h : List Entry) → IsLegal P C h → (s g : ℕ) → HasYoungest P C h s g → g < last_tag
-  youngest_small h legal s g y = subst (λ z. z < last_tag) y.named.tag_is (are_small P C h legal y.p y.named.tenant y.named.is)
 
   pub squashes_plan : (id : ℕ) (v : View) (s g new : ℕ) → id ≡ front → v.draft ≡ Nothing → HasYoungest P C v.seen s g → IsStation (record { tag = suc g; state = IsFree; value = None }) new →
       Plans P C id v (Station s) (λ _. new) (λ _. Squashes P C s g)
@@ -199,12 +195,12 @@ module _ (P : Program) (C : Sizes) where
         let c1 : CanSquash (U v1.seen) m.p = subst (λ h. CanSquash (U h) m.p) (sym seen1) (can_stay m.p g1.between v0.seen legal1 g1.not_own m.can) in
         let c2 : CanSquash (U last) m.p = can_stay m.p g2.between v1.seen legal2.0 g2.not_own c1 in
         let one : p ≡ m.p = one_youngest (U last) p m.p g2.kind.youngest.can c2 in
-        let named = any_stays P C p s g (entry by (Does (On p Squash)) ∷ []) last legal2 refl g2.kind.youngest.named in
+        let named = named_stays P C p s g (entry by (Does (On p Squash)) ∷ []) last legal2 refl g2.kind.youngest.named in
         let adds = adds_on P C by v0.seen v1.seen w.seen [] (Does (On p Squash) ∷ []) (adds_these P C by v0 v1 Kind [] g1 none)
         (adds_these P C by v1 w (Squashes P C s g) (Does (On p Squash) ∷ []) g2 g2.kind.added) in
         record {
           p = m.p;
-          named = subst (λ (z : List Entry × ℕ). IsTenant (U z.0) z.1 s g IsAny) (λ i. (sym seen2 i, one i)) named;
+          named = subst (λ (z : List Entry × ℕ). IsNamed (U z.0) z.1 s g) (λ i. (sym seen2 i, one i)) named;
           can = m.can;
           adds = subst (λ z. Adds P C by v0.seen w.seen (Does (On z Squash) ∷ [])) one adds;
         }
@@ -243,6 +239,6 @@ module _ {v w : TheCall} {next ring n : ℕ} (legal : IsLegalCall v) (by_is : v.
       let was : HasYoungest P C old station g = youngest_in P C old legal next ring ring_is (subst (λ m. next < m) (sym ring_is) small) next_is may in
       let now : HasYoungest P C h station g = youngest_on P C station g took.grows.between old looked.legal looked.none was in
       let tag_is : tag ≡ g = read ∙ youngest_word P C h looked.legal station g n now took.grows.kind.content in (
-        subst (λ z. z < last_tag) (sym tag_is) (youngest_small P C old legal station g was),
+        subst (λ z. z < last_tag) (sym tag_is) (tag_small P C old legal was.p station g was.named),
         subst (λ (z : Of × (List Entry × ℕ)). HasYoungest z.0.0.program z.0.0.sizes z.1.0 station z.1.1) (λ i. (sym (of_one v w took.same) i, (sym looked.is i, sym tag_is i))) now,
       )

@@ -21,14 +21,14 @@ use Rattle.ruu_words.specs.Kinds.{IsTenant}
 use Rattle.ruu_words.proofs.Drafting.{still_let}
 use Rattle.ruu_words.proofs.Settling.{load_lasts}
 use Rattle.ruu_words.proofs.StationWords.{one_at}
-use Rattle.ruu_words.proofs.Stays.{any_stays, front_stays}
+use Rattle.ruu_words.proofs.Stays.{front_stays, named_stays, with_fact}
 use Rattle.station.specs.declared.answers.Tenant.{Tenant}
 use Rattle.station.specs.Asking.{IsAsking, MayAsk}
 use Rattle.station.specs.Laws.{BacksStay, FrontsStay}
 use Rattle.station.specs.Letting.{MayLetOut, supply_of}
 use Rattle.station.specs.Recovery.{SeesMiss, SeesWrongPath}
 use Rattle.station.specs.Writeback.{MaySettle}
-use Rattle.station.proofs.Asking.{last_on, path_stays, weaker}
+use Rattle.station.proofs.Asking.{last_on, path_stays}
 use Rattle.station.proofs.Mending.{miss_on}
 use Rattle.inorder.proofs.Recent.{old_kept}
 
@@ -72,16 +72,16 @@ module _ (P : Program) (C : Sizes) where
         tag_is = g.goes.tag ∙ i.tag_is;
         fact = record { way = g.goes.way (no_link st besides) k ∙ i.fact.way; creator = g.goes.creator k ∙ i.fact.creator };
       })
-      more seen legal none (weaker (unit_of P C seen) r s g (IsAsking k q) (CanAsk k q) (λ t f. f.can) may.asks) in
+      more seen legal none (with_fact (CanAsk k q) may.asks may.asks.fact.can) in
       let path = front_stays P C (λ U. Has U r (λ t. on_path t ≡ true)) (λ U by st besides ok sound i. path_stays P C U by st besides ok r i) more seen legal none
       (record { tenant = may.asks.tenant; is = may.asks.is; fact = may.asks.fact.path }) in
       let same : path.tenant ≡ can.tenant = one_at P C (more ++ seen) legal r path.tenant can.tenant path.is can.is in
       record {
         r = r;
         q = q;
-        asks = record { tenant = can.tenant; is = can.is; new = can.new; station_is = can.station_is; tag_is = can.tag_is; fact = record { can = can.fact; path = ap on_path (sym same) ∙ path.fact } };
+        asks = with_fact (IsAsking k q) can (record { can = can.fact; path = ap on_path (sym same) ∙ path.fact });
         last = last_on P C r s more seen legal none may.last;
-        creator = any_stays P C q a b more seen legal (none_renewed P C more seen legal none) may.creator;
+        creator = named_stays P C q a b more seen legal (none_renewed P C more seen legal none) may.creator;
         creator_last = last_on P C q a more seen legal none may.creator_last;
       }
 
@@ -100,7 +100,7 @@ module _ (P : Program) (C : Sizes) where
     address = may.address;
     can = record {
       p = may.can.p;
-      named = any_stays P C may.can.p s g more seen legal same may.can.named;
+      named = named_stays P C may.can.p s g more seen legal same may.can.named;
       can = load_lasts P C may.can.p may.address v more seen legal same none may.can.can;
     };
   }

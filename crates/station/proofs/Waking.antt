@@ -23,9 +23,9 @@ use Rattle.inorder.proofs.Histories.{adds_on, legal_before, unit_lasts}
 use Rattle.inorder.proofs.Moves.{goes}
 use Rattle.ruu_words.specs.declared.place.Place.{Place}
 use Rattle.ruu_words.specs.declared.rule.View.{View}
-use Rattle.ruu_words.specs.Kinds.{Delivers, Finds, Finishes, IsAny, IsTenant, ReadsLink, Settles}
+use Rattle.ruu_words.specs.Kinds.{Delivers, Finds, Finishes, IsAny, IsNamed, ReadsLink, Settles}
 use Rattle.ruu_words.specs.Telling.{Grows}
-use Rattle.ruu_words.proofs.Stays.{any_stays, same_before}
+use Rattle.ruu_words.proofs.Stays.{named_stays, same_before}
 use Rattle.station.specs.Carrying.{EndsWalk}
 use Rattle.station.specs.Steps.{Sees}
 use Rattle.station.specs.Waking.{HasWoken, IsAmong, IsSet, IsWith, Wakes}
@@ -166,10 +166,10 @@ module _ (P : Program) (C : Sizes) where
       wakes_both by first v.seen w.seen (λ s. ⊥) (λ s. ⊥) (λ s. ⊥) looked done (λ s no. no) (λ s no. no) (λ s no. absurd no)
 
   -- The last load of a walk marks the tenant that is named
-  pub wakes_ending : (by s g q : ℕ) (v w : View) → (e : Grows P C by v w (EndsWalk P C s g)) → IsTenant (unit_of P C v.seen) q s g IsAny → Wakes P C by v.seen w.seen (λ s. ⊥)
+  pub wakes_ending : (by s g q : ℕ) (v w : View) → (e : Grows P C by v w (EndsWalk P C s g)) → IsNamed (unit_of P C v.seen) q s g → Wakes P C by v.seen w.seen (λ s. ⊥)
   wakes_ending by s g q v w e named =
       let legal = legal_before P C (map (entry by) e.events) (e.between ++ v.seen) (subst (IsLegal P C) e.is e.legal) in
-      let added = (e.kind q (any_stays P C q s g e.between v.seen legal (same_before P C by v w (EndsWalk P C s g) e) named)).added in
+      let added = (e.kind q (named_stays P C q s g e.between v.seen legal (same_before P C by v w (EndsWalk P C s g) e) named)).added in
       wakes_nobody by v.seen w.seen (Marks (Walked q) ∷ []) (adds_these P C by v w (EndsWalk P C s g) (Marks (Walked q) ∷ []) e added) (none_in_mark (Walked q))
 
   -- The exchange of an operand
@@ -182,7 +182,7 @@ module _ (P : Program) (C : Sizes) where
     there f =
         let legal = subst (IsLegal P C) step.is step.legal in
         let same = sym (ap renewals step.is) ∙ step.same ∙ sym (same_before P C by v w (Delivers P C c k g old n) step) in
-        let named = any_stays P C f.p c g (map (entry by) step.events) (step.between ++ v.seen) legal same f.tenant in
+        let named = named_stays P C f.p c g (map (entry by) step.events) (step.between ++ v.seen) legal same f.tenant in
         subst (λ z. Has (unit_of P C z) f.p (λ t. t.station ≡ c)) (sym step.is) (record { tenant = named.tenant; is = named.is; fact = named.station_is })
 
     hit : (f : Found) → Wakes P C by v.seen w.seen (λ s. s ≡ c)

@@ -1,5 +1,5 @@
 -- The exchanges of a writeback, and what is carried behind them.
-use Rattle.std.proofs.Common.{◌≡◌, ◌≢◌, ℕ, ◌<◌, Bool, cond, List, [], ◌∷◌, ◌++◌, map, length, Some, refl, sym, ap, ◌∙◌, subst, inl, inr, ⊎_elim}
+use Rattle.std.proofs.Common.{◌≡◌, ◌≢◌, ℕ, Bool, cond, List, [], ◌∷◌, ◌++◌, map, length, Some, refl, sym, ap, ◌∙◌, subst, inl, inr, ⊎_elim}
 use Rattle.std.specs.List.{AllByRecursion}
 use Rattle.atomic_table.specs.Table.{Me}
 use Rattle.instructions.specs.declared.op.Half.{Half}
@@ -23,13 +23,12 @@ use Rattle.inorder.specs.History.{IsLegal, back, entry, own, unit_of, renewals}
 use Rattle.inorder.specs.OneHistory.{Adds}
 use Rattle.inorder.specs.Legal.{Allowed, changed}
 use Rattle.inorder.specs.Memory.{load_value}
-use Rattle.inorder.specs.Replies.{IsNamed, IsSquashed, IsStale, JobFields, last_tag}
+use Rattle.inorder.specs.Replies.{IsSquashed, IsStale, JobFields}
 use Rattle.inorder.specs.Steps.{finished}
 use Rattle.inorder.specs.Tenants.{Live, Squashed, Tenant, computed, kind_of, needs}
 use Rattle.inorder.specs.Unit.{Sizes, at, older}
 use Rattle.inorder.proofs.Histories.{adds_on}
 use Rattle.inorder.proofs.Moves.{IsActed, IsLeft, at_changed}
-use Rattle.inorder.proofs.Serving.{are_inside, are_small}
 use Rattle.inorder.proofs.Tags.{same_place}
 use Rattle.ruu_words.specs.declared.rule.Draft.{Draft}
 use Rattle.ruu_words.specs.declared.rule.Role.{Role}
@@ -38,12 +37,12 @@ use Rattle.ruu_words.specs.declared.rule.View.{View}
 use Rattle.ruu_words.specs.declared.place.Place.TheVariants.{Station}
 use Rattle.ruu_words.specs.Content.{IsStation}
 use Rattle.ruu_words.specs.Fields.{word_value}
-use Rattle.ruu_words.specs.Kinds.{Finds, Finishes, IsAny, IsTenant, Settles, refuses}
+use Rattle.ruu_words.specs.Kinds.{Finds, Finishes, IsAny, IsNamed, IsTenant, Settles, refuses}
 use Rattle.ruu_words.specs.Views.{IsCaller}
 use Rattle.ruu_words.specs.Telling.{Grows}
 use Rattle.ruu_words.proofs.Settling.{load_lasts}
 use Rattle.ruu_words.proofs.StationWords.{its_word, one_at}
-use Rattle.ruu_words.proofs.Stays.{any_stays, same_before}
+use Rattle.ruu_words.proofs.Stays.{named_of, named_on, named_stays, one_named, same_before}
 use Rattle.station.specs.declared.answers.Job.{Job}
 use Rattle.station.specs.declared.answers.Settle.{Settle}
 use Rattle.station.specs.declared.answers.Settle.TheVariants.{Settled, Stale as StaleLoad}
@@ -54,7 +53,7 @@ use Rattle.station.specs.Steps.{Sees}
 use Rattle.station.specs.Writeback.{CanSettle, HasTenant, IsCarried, IsDeliveryOf, IsWalk, IsWritten, MaySettle, SettleAnswers, WasStale, job_outcome}
 use Rattle.station.proofs.Adding.{adds_these}
 use Rattle.station.proofs.Backs.{IsNoRetirement, back_seated}
-use Rattle.station.proofs.Carrying.{all_append, any_on, one_named}
+use Rattle.station.proofs.Carrying.{all_append}
 use Rattle.inorder.proofs.Recent.{old_kept}
 
 -- A source that is not needed changes no outcome
@@ -91,16 +90,10 @@ module _ (P : Program) (C : Sizes) where
     };
   }
 
-  pub station_inside : (seen : List Entry) → IsLegal P C seen → (p s g : ℕ) (F : Tenant → Type 0) → IsTenant (unit_of P C seen) p s g F → s < C.ring
-  station_inside seen legal p s g F i = subst (λ z. z < C.ring) i.station_is (are_inside P C seen legal p i.tenant i.is)
-
-  pub tag_small : (seen : List Entry) → IsLegal P C seen → (p s g : ℕ) (F : Tenant → Type 0) → IsTenant (unit_of P C seen) p s g F → g < last_tag
-  tag_small seen legal p s g F i = subst (λ z. z < last_tag) i.tag_is (are_small P C seen legal p i.tenant i.is)
-
   -- The tenant of this station and tag was acted on
   pub record IsOut (by s g : ℕ) (act : Act) (old new : List Entry) : Type 0 where
     pub p : ℕ
-    pub named : IsTenant (unit_of P C new) p s g IsAny
+    pub named : IsNamed (unit_of P C new) p s g
     pub adds : Adds P C by old new (Does (On p act) ∷ [])
 
   -- and then this was carried
@@ -108,10 +101,9 @@ module _ (P : Program) (C : Sizes) where
       OfTenant P C mid s g (λ q. (es : List Event) × (Carried q es × Adds P C by mid new es)) → IsWritten P C by old new s g act Carried
   writes_out by s g act old mid new Carried out carry =
       let c = carry out.p out.named in
-      let named = any_on P C by out.p s g c.0 mid new c.1.1 out.named in
       record {
         p = out.p;
-        named = record { tenant = named.tenant; is = named.is; new = named.new; station_is = named.station_is; tag_is = named.tag_is };
+        named = named_on P C by out.p s g c.0 mid new c.1.1 out.named;
         behind = c.0;
         carried = c.1.0;
         adds = adds_on P C by old mid new (Does (On out.p act) ∷ []) c.0 out.adds c.1.1;
@@ -142,13 +134,7 @@ module _ (P : Program) (C : Sizes) where
       let seen : w.seen ≡ entry by (Refuses (Stale f.p)) ∷ h = e.is ∙ ap (λ es. map (entry by) es ++ h) f.added in
       record {
         p = f.p;
-        named = subst (λ z. IsNamed (unit_of P C z) f.p s g) (sym seen) (record {
-          tenant = f.tenant.tenant;
-          is = f.tenant.is;
-          new = f.tenant.new;
-          station_is = f.tenant.station_is;
-          tag_is = f.tenant.tag_is;
-        });
+        named = subst (λ z. IsNamed (unit_of P C z) f.p s g) (sym seen) (named_of f.tenant);
         adds = adds_these P C by v w Kind (Refuses (Stale f.p) ∷ []) e f.added;
       }
 
@@ -161,7 +147,7 @@ module _ (P : Program) (C : Sizes) where
       let legal : IsLegal P C (entry by (Does (On f.p act)) ∷ h) = subst (IsLegal P C) seen e.legal in
       record {
         p = f.p;
-        named = subst (λ z. IsTenant (unit_of P C z) f.p s g IsAny) (sym seen) (acted by f.p s g act F h legal f.tenant IsAny tt);
+        named = subst (λ z. IsNamed (unit_of P C z) f.p s g) (sym seen) (acted by f.p s g act F h legal f.tenant IsAny tt);
         adds = adds_these P C by v w Kind (Does (On f.p act) ∷ []) e f.added;
       }
 
@@ -233,7 +219,7 @@ module _ (P : Program) (C : Sizes) where
     can_settle =
         let h : List Entry = e1.between ++ v.seen in
         let c = may.can in
-        let named : IsTenant (unit_of P C h) c.p s g IsAny = any_stays P C c.p s g e1.between v.seen legal1 same1 c.named in
+        let named : IsNamed (unit_of P C h) c.p s g = named_stays P C c.p s g e1.between v.seen legal1 same1 c.named in
         let now = load_lasts P C c.p may.address val e1.between v.seen legal1 same1 own_none c.can in
         subst (λ z. CanSettle P C z s g (word_value n) val) (sym seen1) (record {
           p = c.p;
@@ -265,8 +251,8 @@ module _ (P : Program) (C : Sizes) where
         let none : own back e.between ≡ [] = subst (λ z. own z e.between ≡ []) (is_back v.role by role caller) e.not_own in
         let calm = same_before P C by v w (Settles P C s g old n) e in
         let now = load_lasts P C can.p a val e.between v.seen legal.0 calm none can.can in
-        let named : IsTenant (unit_of P C h) can.p s g IsAny = any_stays P C can.p s g e.between v.seen legal.0 calm can.named in
-        let one : can.p ≡ f.p = one_named P C h legal.0 can.p f.p s g IsAny IsAny named f.tenant in
+        let named : IsNamed (unit_of P C h) can.p s g = named_stays P C can.p s g e.between v.seen legal.0 calm can.named in
+        let one : can.p ≡ f.p = one_named P C h legal.0 can.p f.p s g named f.tenant in
         let allowed : Allowed P C (unit_of P C h) by (On f.p Load) = legal.1.1 in
         let same : f.tenant.tenant ≡ allowed.tenant = one_at P C h legal.0 f.p f.tenant.tenant allowed.tenant f.tenant.is allowed.is in
         let worth : load_value P (older us f.p) f.tenant.tenant ≡ val = ⊎_elim

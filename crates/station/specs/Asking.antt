@@ -14,7 +14,7 @@ use Rattle.inorder.specs.OneHistory.{Adds}
 use Rattle.inorder.specs.Replies.{Has, IsAskedInTime, IsDelivered}
 use Rattle.inorder.specs.Tenants.{Tenant, on_path}
 use Rattle.inorder.specs.Unit.{Sizes, UpdateUnit}
-use Rattle.ruu_words.specs.Kinds.{HasLink, IsAny, IsTenant}
+use Rattle.ruu_words.specs.Kinds.{HasLink, IsNamed, IsTenant}
 use Rattle.station.specs.declared.answers.Ask.{Ask}
 use Rattle.station.specs.declared.answers.Ask.TheVariants.{Delivered, Linked}
 use Rattle.station.specs.Moments.{WasOnce}
@@ -31,7 +31,7 @@ pub record MayAsk (P : Program) (C : Sizes) (seen : List Entry) (station tag : �
   pub q : ℕ
   pub asks : IsTenant (unit_of P C seen) r station tag (IsAsking k q)
   pub last : IsLastAt (unit_of P C seen) r station
-  pub creator : IsTenant (unit_of P C seen) q from_station from_tag IsAny
+  pub creator : IsNamed (unit_of P C seen) q from_station from_tag
   pub creator_last : IsLastAt (unit_of P C seen) q from_station
 
 -- The tenant has made nothing
@@ -56,7 +56,7 @@ pub record AskAnswers (P : Program) (C : Sizes) (by : ℕ) (old new : List Entry
   pub r : ℕ
   pub q : ℕ
   pub asks : IsTenant (unit_of P C new) r station tag (HasLink k q)
-  pub creator : IsTenant (unit_of P C new) q from_station from_tag IsAny
+  pub creator : IsNamed (unit_of P C new) q from_station from_tag
   pub events : List Event
   pub question : IsQuestion r k events
   pub adds : Adds P C by old new events

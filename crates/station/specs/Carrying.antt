@@ -15,7 +15,7 @@ use Rattle.inorder.specs.Unit.{Sizes}
 use Rattle.ruu_words.specs.declared.rule.Draft.{Draft}
 use Rattle.ruu_words.specs.declared.rule.Role.{Role}
 use Rattle.ruu_words.specs.declared.rule.Role.TheVariants.{Back, Front, Spent, Start, Worker}
-use Rattle.ruu_words.specs.Kinds.{IsAny, IsTenant, Walks}
+use Rattle.ruu_words.specs.Kinds.{IsNamed, IsTenant, Walks}
 use Rattle.station.specs.Writeback.{HasTenant, IsCarried, IsDeliveryOf, IsWalk}
 
 -- Units and the back write values
@@ -68,7 +68,7 @@ HasMadeOf P C seen station tag _ = ⊤
 -- Of the tenant of this station and tag
 abbrev pub OfTenant : Program → Sizes → List Entry → ℕ → ℕ → (ℕ → Type 0) → Type 0
 OfTenant P C seen station tag Fact =
-    (q : ℕ) → IsTenant (unit_of P C seen) q station tag IsAny → Fact q
+    (q : ℕ) → IsNamed (unit_of P C seen) q station tag → Fact q
 
 -- What the last load of a walk tells
 abbrev pub EndsWalk : Program → Sizes → ℕ → ℕ → List Entry → Draft → List Event → Type 0

@@ -13,13 +13,13 @@ use Rattle.inorder.specs.declared.history.Step.TheVariants.{On}
 use Rattle.inorder.specs.Callers.{IsHeld, IsReady}
 use Rattle.inorder.specs.History.{WasOpen, unit_of}
 use Rattle.inorder.specs.OneHistory.{Adds}
-use Rattle.inorder.specs.Replies.{Has, IsNamed, IsOpen, JobFields, job_of}
+use Rattle.inorder.specs.Replies.{Has, IsOpen, JobFields, job_of}
 use Rattle.inorder.specs.StationWords.{live_word}
 use Rattle.inorder.specs.Tenants.{Busy, IsThere, Tenant, kind_of, needs, operand}
 use Rattle.inorder.specs.Unit.{is_old, Sizes}
 use Rattle.ruu_words.specs.Content.{IsStation}
 use Rattle.ruu_words.specs.Fields.{state_of, tag_of, word_value}
-use Rattle.ruu_words.specs.Kinds.{IsTenant}
+use Rattle.ruu_words.specs.Kinds.{IsNamed, IsTenant}
 use Rattle.station.specs.declared.answers.Claim.{Claim}
 use Rattle.station.specs.declared.answers.Claim.TheVariants.{Job as Claimed, Moved, NotOpen, Waiting}
 use Rattle.station.specs.declared.answers.Job.{Job}

@@ -10,7 +10,7 @@ use Rattle.inorder.specs.Callers.{IsMissing}
 use Rattle.inorder.specs.History.{front, unit_of}
 use Rattle.inorder.specs.OneHistory.{Adds}
 use Rattle.inorder.specs.Unit.{Sizes, creator, next_station, next_tag, recent}
-use Rattle.ruu_words.specs.Kinds.{IsAny, IsTenant}
+use Rattle.ruu_words.specs.Kinds.{IsNamed}
 use Rattle.station.specs.declared.answers.Ask.{Ask}
 use Rattle.station.specs.declared.answers.Supply.{Supply}
 use Rattle.station.specs.declared.answers.Supply.TheVariants.{From}
@@ -37,7 +37,7 @@ pub record ComesFrom (P : Program) (C : Sizes) (seen : List Entry) (t : Tenant) 
   pub q : ℕ
   pub given : supply k t ≡ From station tag
   pub creates : creator P (unit_of P C seen).tenants (register k (instr_of P t.index)) ≡ Some q
-  pub named : IsTenant (unit_of P C seen) q station tag IsAny
+  pub named : IsNamed (unit_of P C seen) q station tag
 
 -- The tenant that was let can be asked for it
 abbrev pub LetsAreAsked : Type 0

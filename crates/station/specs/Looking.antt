@@ -13,7 +13,7 @@ use Rattle.inorder.specs.Unit.{Sizes, at, recent}
 use Rattle.ruu_words.specs.declared.place.Place.{Place}
 use Rattle.ruu_words.specs.declared.rule.Draft.{Draft}
 use Rattle.ruu_words.specs.declared.station.StationState.{StationState}
-use Rattle.ruu_words.specs.Content.{Content, HasValue, IsDraft, code, info_unit, operand_unit, operand_value}
+use Rattle.ruu_words.specs.Content.{Content, HasValue, IsDraft, code, info_unit, operand_unit, value_field}
 use Rattle.ruu_words.specs.States.{state_code}
 use Rattle.station.specs.declared.answers.Seen.{Seen}
 use Rattle.station.specs.declared.answers.SourceState.{SourceState}
@@ -66,7 +66,7 @@ source_state (Some v) = Val
 abbrev pub ShowsOperand : Option OperandWord → ℕ → SourceState → ℕ → Type 0
 ShowsOperand None tag state value = (tag ≡ 0) × (state ≡ Unset) × (value ≡ 0)
 ShowsOperand (Some o) tag state value =
-    (tag ≡ o.tag) × (state ≡ source_state o.value) × (value ≡ operand_value o.value)
+    (tag ≡ o.tag) × (state ≡ source_state o.value) × (value ≡ value_field o.value)
 
 -- An operand word is that of the station's last tenant, or of the let in progress
 pub record SeesOperand (P : Program) (C : Sizes) (h : List Entry) (s : ℕ) (k : Source) (seen : Seen SourceState) : Type 0 where

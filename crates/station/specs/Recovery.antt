@@ -12,13 +12,13 @@ use Rattle.inorder.specs.OneHistory.{Adds}
 use Rattle.inorder.specs.Unit.{Sizes}
 use Rattle.ruu_words.specs.declared.rule.Draft.{Draft}
 use Rattle.ruu_words.specs.declared.rule.Draft.TheVariants.{Nothing}
-use Rattle.ruu_words.specs.Kinds.{IsAny, IsTenant}
+use Rattle.ruu_words.specs.Kinds.{IsNamed}
 
 -- In what was seen the station's tenant with this tag is a miss that goes on at `next`, and the
 -- youngest live tenant
 pub record HasMiss (P : Program) (C : Sizes) (seen : List Entry) (station tag next : ℕ) : Type 0 where
   pub p : ℕ
-  pub named : IsTenant (unit_of P C seen) p station tag IsAny
+  pub named : IsNamed (unit_of P C seen) p station tag
   pub can : CanMend (unit_of P C seen) p next
 
 -- In what was seen the station's tenant is such a miss
@@ -40,7 +40,7 @@ pub record IsMended (P : Program) (C : Sizes) (by station : ℕ) (old new : List
   pub p : ℕ
   pub tag : ℕ
   pub next : ℕ
-  pub named : IsTenant (unit_of P C new) p station tag IsAny
+  pub named : IsNamed (unit_of P C new) p station tag
   pub can : CanMend (unit_of P C old) p next
   pub adds : Adds P C by old new (Does (On p Mend) ∷ [])
 
@@ -52,7 +52,7 @@ pub record SeesWrongPath (P : Program) (C : Sizes) (seen : List Entry) : Type 0 
 -- In what was seen it is the station's tenant with this tag
 pub record HasYoungest (P : Program) (C : Sizes) (seen : List Entry) (station tag : ℕ) : Type 0 where
   pub p : ℕ
-  pub named : IsTenant (unit_of P C seen) p station tag IsAny
+  pub named : IsNamed (unit_of P C seen) p station tag
   pub can : CanSquash (unit_of P C seen) p
 
 -- What the write tells: it was squashed, and no let is in progress
@@ -64,6 +64,6 @@ pub record Squashes (P : Program) (C : Sizes) (s g : ℕ) (h : List Entry) (d : 
 -- That tenant, of this station and tag, was squashed
 pub record WasSquashed (P : Program) (C : Sizes) (by station tag : ℕ) (old new : List Entry) : Type 0 where
   pub p : ℕ
-  pub named : IsTenant (unit_of P C new) p station tag IsAny
+  pub named : IsNamed (unit_of P C new) p station tag
   pub can : CanSquash (unit_of P C old) p
   pub adds : Adds P C by old new (Does (On p Squash) ∷ [])

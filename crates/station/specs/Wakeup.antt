@@ -8,14 +8,14 @@ use Rattle.inorder.specs.Callers.{HasAsked, HasMade, IsLastAt}
 use Rattle.inorder.specs.History.{unit_of}
 use Rattle.inorder.specs.Unit.{Sizes}
 use Rattle.ruu_words.specs.declared.rule.Draft.{Draft}
-use Rattle.ruu_words.specs.Kinds.{Answers, Asks, HasLink, IsAny, IsTenant, Questions}
+use Rattle.ruu_words.specs.Kinds.{Answers, Asks, HasLink, IsNamed, IsTenant, Questions}
 use Rattle.station.specs.Carrying.{OfTenant}
 
 -- Tenant r, the station's last, has asked for its source k from tenant q, the last of another station
 pub record HasAskedOf (P : Program) (C : Sizes) (seen : List Entry) (station tag : ℕ) (k : Source) (from_station from_tag r q : ℕ) : Type 0 where
   pub asks : IsTenant (unit_of P C seen) r station tag (HasAsked k q)
   pub last : IsLastAt (unit_of P C seen) r station
-  pub creator : IsTenant (unit_of P C seen) q from_station from_tag IsAny
+  pub creator : IsNamed (unit_of P C seen) q from_station from_tag
   pub creator_last : IsLastAt (unit_of P C seen) q from_station
 
 -- In what was seen there are two such tenants

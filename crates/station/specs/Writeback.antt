@@ -18,13 +18,13 @@ use Rattle.inorder.specs.Callers.{CanLoad}
 use Rattle.inorder.specs.History.{unit_of}
 use Rattle.inorder.specs.OneHistory.{Adds}
 use Rattle.inorder.specs.OperandWords.{OperandWord}
-use Rattle.inorder.specs.Replies.{Has, IsNamed, IsStale}
+use Rattle.inorder.specs.Replies.{Has, IsStale}
 use Rattle.inorder.specs.StationWords.{live_word}
 use Rattle.inorder.specs.Tenants.{Fate, Tenant, operand}
 use Rattle.inorder.specs.Unit.{Sizes}
 use Rattle.ruu_words.specs.Content.{IsOperandOf, IsStation}
 use Rattle.ruu_words.specs.Fields.{tag_of, word_value}
-use Rattle.ruu_words.specs.Kinds.{HasLink, IsAny, IsTenant}
+use Rattle.ruu_words.specs.Kinds.{HasLink, IsNamed, IsTenant}
 use Rattle.inorder.specs.Callers.{HasMade}
 use Rattle.station.specs.declared.answers.Finish.{Finish}
 use Rattle.station.specs.declared.answers.Finish.TheVariants.{Finished, Stale}
@@ -40,7 +40,7 @@ pub record HasTenant (P : Program) (C : Sizes) (seen : List Entry) (station tag 
 -- The load may be answered with this value, unless it was squashed
 pub record CanSettle (P : Program) (C : Sizes) (seen : List Entry) (station tag address value : ℕ) : Type 0 where
   pub p : ℕ
-  pub named : IsTenant (unit_of P C seen) p station tag IsAny
+  pub named : IsNamed (unit_of P C seen) p station tag
   pub can : CanLoad P (unit_of P C seen) p address value ⊎ IsStale (unit_of P C seen) p
 
 -- Source k of the tenant was asked for, and its creator has made this value

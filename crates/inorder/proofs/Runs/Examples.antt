@@ -1,5 +1,5 @@
 -- What the example runs share: one step and its caller, one entry, and what differs.
-use Rattle.std.proofs.Common.{◌≡◌, ◌≢◌, ◌⊎◌, ℕ, ◌<◌, ltb, eqb, Bool, true, false, Option, Some, None, sym, ◌∙◌, subst, arith, ltb-true, false-eqb}
+use Rattle.std.proofs.Common.{◌≡◌, ◌≢◌, ◌⊎◌, ℕ, ◌<◌, ltb, eqb, Bool, true, false, Option, Some, None, sym, ◌∙◌, subst, ltb-true, false-eqb}
 use Rattle.std.specs.List.{AllByRecursion}
 use Rattle.instructions.specs.declared.op.Kind.TheVariants.{Computes, Jumps, Links, Loads, Stores}
 use Rattle.instructions.specs.declared.stop.Stop.{Stop}
@@ -10,7 +10,7 @@ use Rattle.inorder.specs.declared.history.Refusal.{Refusal}
 use Rattle.inorder.specs.declared.history.Source.{Source}
 use Rattle.inorder.specs.declared.history.Source.TheVariants.{First, Second}
 use Rattle.inorder.specs.declared.history.Step.{Step}
-use Rattle.inorder.specs.History.{IsUnit, IsWalked, entry}
+use Rattle.inorder.specs.History.{IsWalked, entry}
 use Rattle.inorder.specs.Legal.{Taken}
 use Rattle.inorder.specs.Replies.{HasNoOpen, IsOpen}
 use Rattle.inorder.specs.Tenants.{Addr, AtLet, Busy, Done, IsNotLive, IsThere, Linked, Live, Open, Retired, Squashed, Stopped, Tenant, operand}
@@ -28,12 +28,6 @@ refused by refusal = entry by (Refuses refusal)
 
 abbrev pub marks : ℕ → Mark → Entry
 marks by mark = entry by (Marks mark)
-
-pub unit_2 : IsUnit 2
-unit_2 = omega arith
-
-pub unit_3 : IsUnit 3
-unit_3 = omega arith
 
 pub less : (m n : ℕ) → ltb m n ≡ true → m < n
 less m n e = ltb-true m n e
@@ -82,9 +76,6 @@ at_let_not_linked e = cc
 
 pub none_not_some : {X : Type 0} (x : X) → None ≢ Some x
 none_not_some x e = cc
-
-pub some_apart : (m n : ℕ) → eqb m n ≡ false → Some m ≢ Some n
-some_apart m n e same = let both : m ≡ n = cc same in apart m n e both
 
 -- What is true of a tenant is true of the one that stands there
 pub known : (Fact : Tenant → Type 0) (o : Option Tenant) (t u : Tenant) → o ≡ Some t → o ≡ Some u → Fact t → Fact u

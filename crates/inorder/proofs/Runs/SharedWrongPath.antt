@@ -1,5 +1,5 @@
 -- A mispredicted branch with two units, as a legal history: what was claimed on the wrong path is stale.
-use Rattle.std.proofs.Common.{◌≡◌, List, [], ◌∷◌, refl, sym, true≢false}
+use Rattle.std.proofs.Common.{◌≡◌, List, [], ◌∷◌, refl}
 use Rattle.instructions.specs.Operations.{checked_address, computed_by, jump_target, loaded}
 use Rattle.instructions.specs.Programs.{instr_at}
 use Rattle.inorder.specs.declared.history.Act.TheVariants.{Claim, Finish, Mend, Squash}
@@ -10,7 +10,9 @@ use Rattle.inorder.specs.declared.history.Supply.TheVariants.{Known}
 use Rattle.inorder.specs.History.{IsLegal, front, unit_of}
 use Rattle.inorder.specs.Replies.{Has, HasNoMiss}
 use Rattle.inorder.specs.Tenants.{Tenant}
-use Rattle.inorder.proofs.Runs.Examples.{does, less, refused, squashed_not_live, unit_2, unit_3}
+use Rattle.inorder.proofs.Runs.Decided.{given}
+use Rattle.inorder.proofs.Runs.DecidedHistory.{is_legal}
+use Rattle.inorder.proofs.Runs.Examples.{does, refused}
 use Rattle.inorder.proofs.Runs.WrongPathRun.{four_stations, skips}
 
 -- The branch is predicted not taken, and both tenants are claimed. The branch is a miss
@@ -23,55 +25,6 @@ mispredicted =
     does front (Let 0 0x400004 (Known 0) (Known 0)) ∷
     []
 
-mispredicted_legal : IsLegal skips four_stations mispredicted
-unfolding instr_at computed_by jump_target checked_address loaded
-mispredicted_legal = (
-  (
-    (
-      (
-        (
-          tt,
-          (
-            (refl, less _ _ refl),
-            record {
-              room = less _ _ refl;
-              queue = λ e. absurd (true≢false (sym e));
-              is_there = less _ _ refl;
-              pc = refl;
-              small = less _ _ refl;
-              predicts = tt;
-              first_is = refl;
-              second_is = refl;
-            },
-          ),
-        ),
-        (
-          (refl, less _ _ refl),
-          record {
-            room = less _ _ refl;
-            queue = λ e. less _ _ refl;
-            is_there = less _ _ refl;
-            pc = refl;
-            small = less _ _ refl;
-            predicts = refl;
-            first_is = refl;
-            second_is = refl;
-          },
-        ),
-      ),
-      (
-        unit_2,
-        record { tenant = _; is = refl; may = record { live = refl; fate = refl; needs = refl } },
-      ),
-    ),
-    (
-      unit_3,
-      record { tenant = _; is = refl; may = record { live = refl; fate = refl; needs = refl } },
-    ),
-  ),
-  (unit_2, record { tenant = _; is = refl; may = record { live = refl; fate = refl } }),
-)
-
 -- The front recovers, and lets the station of the wrong path again. The other unit is told so
 abbrev pub recovered : List Entry
 recovered =
@@ -83,59 +36,7 @@ recovered =
 
 recovered_legal : IsLegal skips four_stations recovered
 unfolding instr_at computed_by jump_target checked_address loaded
-recovered_legal = (
-  (
-    (
-      (
-        mispredicted_legal,
-        (
-          refl,
-          record {
-            tenant = _;
-            is = refl;
-            may = record {
-              live = refl;
-              youngest = tt;
-              p = 0;
-              miss = _;
-              x = 0x400008;
-              miss_at = refl;
-              miss_live = refl;
-              miss_fate = refl;
-            };
-          },
-        ),
-      ),
-      (
-        refl,
-        record {
-          tenant = _;
-          is = refl;
-          may = record {
-            live = refl;
-            youngest = (squashed_not_live, tt);
-            x = 0x400008;
-            fate = refl;
-          };
-        },
-      ),
-    ),
-    (
-      (refl, less _ _ refl),
-      record {
-        room = less _ _ refl;
-        queue = λ e. absurd (true≢false (sym e));
-        is_there = less _ _ refl;
-        pc = refl;
-        small = less _ _ refl;
-        predicts = refl;
-        first_is = refl;
-        second_is = refl;
-      },
-    ),
-  ),
-  (less _ _ refl, record { tenant = _; is = refl; fact = refl }),
-)
+recovered_legal = given (is_legal skips four_stations recovered) refl
 
 -- The new tenant has the station of the squashed one, and the next tag
 abbrev IsSecondOfStation1 : Tenant → Type 0

@@ -15,7 +15,22 @@ use Rattle.inorder.specs.Steps.{HasAddress, MayClaim, MayFinish, MayLoad, finish
 use Rattle.inorder.specs.Tenants.{Addr, Busy, Done, Fate, Live, Miss, Stopped, Tenant, computed, instr, kind_of, made_at_let, missing_of}
 use Rattle.inorder.proofs.Theorem.DeliveryKept.{fresh_grows, live_not_retired}
 use Rattle.inorder.proofs.Grows.{Grows}
-use Rattle.inorder.proofs.Sound.{DoneBy, FateBy, FateIs, GoesOn, HasRead, IsSoundAt, LoadIs, Needs}
+use Rattle.inorder.proofs.Sound.{DoneBy, FateBy, FateIs, GoesOn, HasRead, IsSoundAt, LoadIs, Needs, own_with, placed_with}
+
+-- A live tenant with another fate, and with what it made
+
+pub remade : (P : Program) (ts : List Tenant) (t : Tenant) (f : Fate) (made : Option ℕ) → t.standing ≡ Live →
+    FateBy (kind_of P t)
+    (computed P t) t.pc t.predicted t.next made t.first.value t.second.value t.standing f →
+    LoadIs P ts (instr P t) (computed P t) (kind_of P t) f → IsSoundAt P ts t →
+    IsSoundAt P ts (record t { fate = f; made = made })
+remade P ts t f made live fate load s =
+    record {
+      own = own_with P ts t f made t.standing s.own fate;
+      placed = λ on.
+          placed_with P ts t f made t.standing (s.placed on) load (λ e. live_not_retired t live e)
+          (λ e. live_not_retired t live e);
+    }
 
 -- Claim
 
@@ -44,28 +59,9 @@ pub claim_sound : (P : Program) (ts : List Tenant) (t : Tenant) (caller : ℕ) �
     IsSoundAt P ts t → IsSoundAt P ts (record t { fate = Busy caller })
 claim_sound P ts t caller m s =
     let f = subst (FateIs P t) m.fate s.own.fate in
-    record {
-      own =
-          record {
-            first = s.own.first;
-            second = s.own.second;
-            place = s.own.place;
-            inside = s.own.inside;
-            goes_on = s.own.goes_on;
-            fate = (f.0, f.1, needed (kind_of P t) t.first.value t.second.value m.needs);
-          };
-      placed =
-          λ on. let q = s.placed on in
-          record {
-            first = q.first;
-            second = q.second;
-            pc = q.pc;
-            half = q.half;
-            load = load_busy P ts (instr P t) _ caller (kind_of P t);
-            settled = λ e. live_not_retired t m.live e;
-            can = λ e. live_not_retired t m.live e;
-          };
-    }
+    remade P ts t (Busy caller) t.made m.live
+    (f.0, f.1, needed (kind_of P t) t.first.value t.second.value m.needs)
+    (load_busy P ts (instr P t) _ caller (kind_of P t)) s
 
 pub claim_grows : (P : Program) (t : Tenant) (caller : ℕ) → MayClaim P t →
     Grows P t (record t { fate = Busy caller })
@@ -182,36 +178,6 @@ load_ends P ts i o c Jumps = tt
 load_ends P ts i o c Links = tt
 load_ends P ts i o c Loads = tt
 load_ends P ts i o c Stores = tt
-
--- another fate, and what is made
-pub remade : (P : Program) (ts : List Tenant) (t : Tenant) (f : Fate) (made : Option ℕ) → t.standing ≡ Live →
-    FateBy (kind_of P t)
-    (computed P t) t.pc t.predicted t.next made t.first.value t.second.value t.standing f →
-    LoadIs P ts (instr P t) (computed P t) (kind_of P t) f → IsSoundAt P ts t →
-    IsSoundAt P ts (record t { fate = f; made = made })
-remade P ts t f made live fate load s =
-    record {
-      own =
-          record {
-            first = s.own.first;
-            second = s.own.second;
-            place = s.own.place;
-            inside = s.own.inside;
-            goes_on = s.own.goes_on;
-            fate = fate;
-          };
-      placed =
-          λ on. let q = s.placed on in
-          record {
-            first = q.first;
-            second = q.second;
-            pc = q.pc;
-            half = q.half;
-            load = load;
-            settled = λ e. live_not_retired t live e;
-            can = λ e. live_not_retired t live e;
-          };
-    }
 
 pub finish_sound : (P : Program) (ts : List Tenant) (t : Tenant) (caller : ℕ) (o : Outcome) →
     computed P t ≡ o → MayFinish t caller → IsSoundAt P ts t → IsSoundAt P ts (finished t o)

@@ -11,7 +11,7 @@ use Rattle.inorder.specs.Tenants.{Addr, Busy, Done, Fate, IsNotLive, Live, Miss,
 use Rattle.inorder.proofs.Theorem.DeliveryKept.{live_not_retired, live_on, live_unsettled, stores_self}
 use Rattle.inorder.proofs.Theorem.FinishKept.{next_goes_on, next_is_done, next_load}
 use Rattle.inorder.proofs.Grows.{Grows, StoredGrows}
-use Rattle.inorder.proofs.Sound.{FateBy, FateIs, IsSettled, IsSoundAt, SettledBy}
+use Rattle.inorder.proofs.Sound.{FateBy, FateIs, IsSettled, IsSoundAt, SettledBy, own_with, placed_with}
 
 -- Retire
 
@@ -53,27 +53,14 @@ pub retire_sound : (P : Program) (ts : List Tenant) (t : Tenant) (n : ℕ) → M
     IsSoundAt P ts t → IsSoundAt P ts (retired t n)
 retire_sound P ts t n m s =
     let q = s.placed (live_on t m.live) in
+    let made = made_at_end t.fate t.made n in
     record {
       own =
-          record {
-            first = s.own.first;
-            second = s.own.second;
-            place = s.own.place;
-            inside = s.own.inside;
-            goes_on = s.own.goes_on;
-            fate = retire_fate (kind_of P t)
-                (computed P t) t.pc t.predicted t.next t.made t.first.value t.second.value t.standing n t.fate s.own.fate;
-          };
-      placed =
-          λ on. record {
-            first = q.first;
-            second = q.second;
-            pc = q.pc;
-            half = q.half;
-            load = q.load;
-            settled = λ e. settled_from ts m.oldest m.no_stop;
-            can = λ e. m.can;
-          };
+          own_with P ts t t.fate made Retired s.own
+          (retire_fate (kind_of P t)
+          (computed P t) t.pc t.predicted t.next t.made t.first.value t.second.value t.standing n t.fate s.own.fate);
+      placed = λ on.
+          placed_with P ts t t.fate made Retired q q.load (λ e. settled_from ts m.oldest m.no_stop) (λ e. m.can);
     }
 
 pub retire_grows : (P : Program) (ts : List Tenant) (t : Tenant) (n : ℕ) → MayRetire P n ts t →
@@ -115,15 +102,9 @@ squash_sound P ts t live s =
     (computed P t) t.pc t.predicted t.next t.made t.first.value t.second.value st t.fate) live s.own.fate in
     record {
       own =
-          record {
-            first = s.own.first;
-            second = s.own.second;
-            place = s.own.place;
-            inside = s.own.inside;
-            goes_on = s.own.goes_on;
-            fate = squash_fate (kind_of P t)
-                (computed P t) t.pc t.predicted t.next t.made t.first.value t.second.value t.fate f;
-          };
+          own_with P ts t t.fate t.made Squashed s.own
+          (squash_fate (kind_of P t)
+          (computed P t) t.pc t.predicted t.next t.made t.first.value t.second.value t.fate f);
       placed = λ on. absurd (true≢false (sym on));
     }
 

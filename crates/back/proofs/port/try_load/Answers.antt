@@ -3,8 +3,9 @@ use Rattle.instructions.specs.Instruction.{width}
 use Rattle.inorder.specs.declared.history.Act.TheVariants.{Load as LoadIt}
 use Rattle.inorder.specs.OneHistory.{Adds}
 use Rattle.inorder.specs.Machine.{State}
-use Rattle.inorder.specs.Replies.{Has, IsNamed}
+use Rattle.inorder.specs.Replies.{Has}
 use Rattle.inorder.proofs.SettledMemory.{length_memory}
+use Rattle.ruu_words.specs.Kinds.{IsNamed}
 use Rattle.station.specs.Writeback.{IsWalk, IsWritten, MaySettle, WasStale}
 use Rattle.back.specs.Backs.{unit_in}
 use Rattle.back.specs.Loads.{IsWaitingLoad}

@@ -5,9 +5,10 @@ use Rattle.station.specs.Carrying.{HasValueOf, IsServedAll, IsServing, OfTenant}
 use Rattle.station.specs.Seats.{TheCore}
 use Rattle.station.specs.Waking.{Wakes}
 use Rattle.station.proofs.Calls.{after, before, joined, legal_at, taken}
-use Rattle.station.proofs.Carrying.{all_served, any_of, carries_both, legal_behind, value_behind, walks_away}
+use Rattle.station.proofs.Carrying.{all_served, carries_both, legal_behind, value_behind, walks_away}
 use Rattle.station.proofs.Waking.{either_one, either_other, one_of, wakes_before, wakes_ending, wakes_on}
 use Rattle.station.proofs.call.Call.walk.Goals as goal
+use Rattle.ruu_words.proofs.Stays.{named_of}
 
 pub serve-first-requires-clause-made : goal.serve-first-requires-clause-made
 serve-first-requires-clause-made g c = after (λ z. HasValueOf z.0.program z.0.sizes c.loop-to.self.view.seen c.args.from.0 c.args.from.1 c.args.value) c.loop-to.invariant.same
@@ -84,5 +85,5 @@ returns g c =
       reply = walks_away v.core.program v.core.sizes v.view.by c.args.from.0 c.args.from.1 c.loop-to.to v.view.by v.view.seen at.view c.end_walk.new.self.view refl c.loop-to.invariant.carries end;
       woken = wakes_before P C v.view.by v.view.by c.loop-to.woken v.view.seen at.view.seen w.seen refl c.loop-to.invariant.wakes
           (wakes_ending P C v.view.by c.args.from.0 c.args.from.1 c.loop-to.invariant.made.p at.view w end
-          (any_of P C at.view.seen c.args.from.0 c.args.from.1 c.args.value c.loop-to.invariant.made));
+          (named_of c.loop-to.invariant.made.named));
     }

@@ -13,10 +13,11 @@ use Rattle.ruu_words.specs.Content.{IsStation}
 use Rattle.ruu_words.specs.Fields.{tag_of}
 use Rattle.ruu_words.specs.Kinds.{Claims}
 use Rattle.ruu_words.specs.Telling.{Grows}
+use Rattle.ruu_words.proofs.Stays.{named_of, tag_small}
 use Rattle.station.specs.Calls.{IsSameCall, IsLegalCall}
 use Rattle.station.proofs.Calls.{Of, joined, legal_at, of_one, program_at, taken}
-use Rattle.station.specs.Claiming.{HasSeen, HasSource, IsNext, IsOpenAs, SourceAnswers}
-use Rattle.station.proofs.Opened.{HasBoth, HasFirst, IsClaimable, Ready, begins, claim_moved, claimed, index_inside, ready_seen, second_next, source_refused, tag_small, takes_first, takes_second}
+use Rattle.station.specs.Claiming.{HasSeen, HasSource, IsNext, SourceAnswers}
+use Rattle.station.proofs.Opened.{HasBoth, HasFirst, IsClaimable, Ready, begins, claim_moved, claimed, index_inside, ready_seen, second_next, source_refused, takes_first, takes_second}
 use Rattle.station.proofs.claims.Call+UnitPart.claim_open.Goals as goal
 
 pub instr-requires : goal.instr-requires
@@ -111,8 +112,7 @@ open_word-open-requires c =
     let P = v.core.program in
     let C = v.core.sizes in
     let legal : IsLegalCall v = legal_at c.self.invariant c.self.view_is in
-    let small : c.args.tag < last_tag = tag_small P C v.view.seen legal c.requires.p c.args.station c.args.tag (IsOpenAs c.args.info.half c.args.info.index c.args.info.predicted)
-    c.requires.named in
+    let small : c.args.tag < last_tag = tag_small P C v.view.seen legal c.requires.p c.args.station c.args.tag (named_of c.requires.named) in
     omega arith
 
 pub claim_tenant-found-requires-clause-words : goal.claim_tenant-found-requires-clause-words

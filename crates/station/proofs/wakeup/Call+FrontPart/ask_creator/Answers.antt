@@ -1,11 +1,9 @@
 use Rattle.std.proofs.Common.{◌∙◌, refl, arith}
 use Rattle.ruu_words.specs.Fields.{tag_of, word_value}
-use Rattle.ruu_words.specs.Kinds.{IsAny}
-use Rattle.station.specs.Asking.{IsAsking}
+use Rattle.ruu_words.proofs.Stays.{named_of, tag_small}
 use Rattle.station.specs.Wakeup.{CanAnswer, HasAskedFrom}
 use Rattle.station.proofs.Asking.{answered_by, asked_now, is_answered, is_linked, quiet_found}
 use Rattle.station.proofs.Calls.{after, caller_at, joined, legal_at, next_kept, taken}
-use Rattle.station.proofs.Writing.{tag_small}
 use Rattle.station.proofs.wakeup.Call+FrontPart.ask_creator.Goals as goal
 
 pub link_word-link-requires-clause-producer : goal.link_word-link-requires-clause-producer
@@ -14,7 +12,7 @@ link_word-link-requires-clause-producer c =
     let P = v.core.program in
     let C = v.core.sizes in
     let may = c.requires.may in
-    let small = tag_small P C v.view.seen (legal_at c.self.invariant c.self.view_is) may.q c.args.from.0 c.args.from.1 IsAny may.creator in
+    let small = tag_small P C v.view.seen (legal_at c.self.invariant c.self.view_is) may.q c.args.from.0 c.args.from.1 may.creator in
     omega arith
 
 pub link_word-link-requires-clause-consumer : goal.link_word-link-requires-clause-consumer
@@ -23,7 +21,7 @@ link_word-link-requires-clause-consumer c =
     let P = v.core.program in
     let C = v.core.sizes in
     let may = c.requires.may in
-    let small = tag_small P C v.view.seen (legal_at c.self.invariant c.self.view_is) may.r c.args.of.0 c.args.of.1 (IsAsking c.args.k may.q) may.asks in
+    let small = tag_small P C v.view.seen (legal_at c.self.invariant c.self.view_is) may.r c.args.of.0 c.args.of.1 (named_of may.asks) in
     omega arith
 
 pub look_at_creator-found-requires-clause-draft : goal.look_at_creator-found-requires-clause-draft
@@ -68,7 +66,7 @@ waiting_word-old-requires c =
     let P = v.core.program in
     let C = v.core.sizes in
     let may = c.requires.may in
-    let small = tag_small P C v.view.seen (legal_at c.self.invariant c.self.view_is) may.r c.args.of.0 c.args.of.1 (IsAsking c.args.k may.q) may.asks in
+    let small = tag_small P C v.view.seen (legal_at c.self.invariant c.self.view_is) may.r c.args.of.0 c.args.of.1 (named_of may.asks) in
     omega arith
 
 pub take_value-requires-clause-draft : goal.take_value-requires-clause-draft

@@ -2,15 +2,16 @@ use Rattle.std.proofs.Common.{◌≡◌, ℕ, [], refl, sym, ◌∙◌, subst, a
 use Rattle.ruu_words.specs.declared.place.Place.TheVariants.{Station}
 use Rattle.ruu_words.specs.declared.rule.Role.TheVariants.{Back}
 use Rattle.ruu_words.specs.Fields.{tag_of, word_value}
-use Rattle.ruu_words.specs.Kinds.{IsAny, Settles}
+use Rattle.ruu_words.specs.Kinds.{Settles}
 use Rattle.ruu_words.specs.Views.{IsCaller}
 use Rattle.ruu_words.specs.Telling.{Grows}
+use Rattle.ruu_words.proofs.Stays.{tag_small}
 use Rattle.station.specs.Steps.{Sees}
 use Rattle.station.specs.Carrying.{HasValueOf, HasWalked, OfTenant}
 use Rattle.station.specs.Seats.{TheCore}
 use Rattle.station.specs.Writeback.{CanSettle}
 use Rattle.station.proofs.Adding.{adds_these}
-use Rattle.station.proofs.Writing.{can_settle, settle_all, settle_made, settle_out, settle_stale, stale_after, tag_small}
+use Rattle.station.proofs.Writing.{can_settle, settle_all, settle_made, settle_out, settle_stale, stale_after}
 use Rattle.station.specs.Calls.{IsLegalCall}
 use Rattle.station.specs.Waking.{IsSet, Wakes}
 use Rattle.station.proofs.Calls.{Of, before, joined, legal_at, of_one, role_at, taken}
@@ -26,7 +27,7 @@ address_word-old-requires c =
     let v = c.args.self.now in
     let legal : IsLegalCall v = legal_at c.self.invariant c.self.view_is in
     let can = c.requires.can in
-    let small = tag_small v.core.program v.core.sizes v.view.seen legal can.p c.args.station c.args.tag IsAny can.named in
+    let small = tag_small v.core.program v.core.sizes v.view.seen legal can.p c.args.station c.args.tag can.named in
     omega arith
 
 pub settle_tenant-found-requires-clause-load : goal.settle_tenant-found-requires-clause-load

@@ -5,11 +5,12 @@ use Rattle.ruu_words.specs.Content.{IsStation}
 use Rattle.ruu_words.specs.Fields.{tag_of}
 use Rattle.ruu_words.specs.Kinds.{Finishes, fate_of}
 use Rattle.ruu_words.specs.Telling.{Grows}
+use Rattle.ruu_words.proofs.Stays.{named_of, tag_small}
 use Rattle.inorder.specs.History.{IsLegal}
 use Rattle.station.specs.Carrying.{HasCarried, HasMadeOf, OfTenant}
 use Rattle.station.specs.Seats.{TheCore}
 use Rattle.station.specs.Writeback.{HasTenant}
-use Rattle.station.proofs.Writing.{finish_all, finish_made, finish_out, finish_stale, job_held, tag_small}
+use Rattle.station.proofs.Writing.{finish_all, finish_made, finish_out, finish_stale, job_held}
 use Rattle.station.specs.Calls.{IsLegalCall}
 use Rattle.station.proofs.Calls.{legal_at}
 use Rattle.station.specs.Waking.{IsSet, Wakes}
@@ -24,7 +25,7 @@ busy_word-old-requires c =
     let P = v.core.program in
     let job = c.args.job in
     let held = job_held P v.core.sizes v.view.by v.view.seen job c.args.outcome c.requires.job c.requires.outcome in
-    let small = tag_small P v.core.sizes v.view.seen legal held.p job.station job.tag (HasJob P v.view.by job.predicted c.args.outcome) held.named in
+    let small = tag_small P v.core.sizes v.view.seen legal held.p job.station job.tag (named_of held.named) in
     omega arith
 
 pub outcome_word-new-requires : goal.outcome_word-new-requires
@@ -34,7 +35,7 @@ outcome_word-new-requires c =
     let P = v.core.program in
     let job = c.args.job in
     let held = job_held P v.core.sizes v.view.by v.view.seen job c.args.outcome c.requires.job c.requires.outcome in
-    let small = tag_small P v.core.sizes v.view.seen legal held.p job.station job.tag (HasJob P v.view.by job.predicted c.args.outcome) held.named in
+    let small = tag_small P v.core.sizes v.view.seen legal held.p job.station job.tag (named_of held.named) in
     omega arith
 
 pub finish_tenant-found-requires-clause-words : goal.finish_tenant-found-requires-clause-words
