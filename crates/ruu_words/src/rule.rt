@@ -64,7 +64,7 @@ pub struct View {
 pub struct OneHistory;
 
 impl TableRule<u8, View, Setup> for OneHistory {
-    ghost use Rattle.std.specs.Prelude.{⊤, []};
+    ghost use Rattle.std.specs.Prelude.{[]};
     ghost use Rattle.ruu_words.specs.Views.{first_view};
     ghost use Rattle.ruu_words.specs.Rule.{Kept};
 
@@ -75,5 +75,7 @@ impl TableRule<u8, View, Setup> for OneHistory {
 
 // What a step tells is picked where it is made.
 impl Play<u8, View> for Brand {
+    ghost use Rattle.std.specs.Prelude.{⊤};
+
     ghost then = { λ _ _ _ _. ⊤ };
 }

@@ -1,5 +1,5 @@
 //! Snapshots.
-ghost use Rattle.std.specs.Prelude.{⊤, ◌≡◌};
+ghost use Rattle.std.specs.Prelude.{◌≡◌};
 ghost use Rattle.snapshots.specs.Snapshots.{opening};
 
 use left_right::Absorb;
@@ -28,6 +28,8 @@ impl Snap {
 
 // What is published is the newest snapshot; that needs no memory.
 impl Absorb<Snap> for Snap {
+    ghost use Rattle.std.specs.Prelude.{⊤};
+
     type State = Snap;
 
     ghost state = { λ shown. shown };

@@ -88,8 +88,11 @@ fn oldest_ready(window: &Window, ahead: &Ahead, from: usize) -> Option<Ready>
 fn settles(kind: Kind, stage: Stage) -> bool
     ensures { result ≡ settled_by kind stage }
 {
-    matches!(stage, Stage::Done | Stage::Stops(_))
-        || (matches!(stage, Stage::Addr(_)) && matches!(kind, Kind::Stores))
+    match stage {
+        Stage::Done | Stage::Stops(_) => true,
+        Stage::Addr(_) => matches!(kind, Kind::Stores),
+        _ => false,
+    }
 }
 
 #[inline(always)]

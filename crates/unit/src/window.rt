@@ -16,9 +16,9 @@ pub struct Window {
     creators: [Creators; 32],
     // by register, the slot of its newest writer
     newest: [u8; 34],
-    len: usize,
     // the slot of the oldest tenant
     start: usize,
+    len: usize,
     // how many tenants reach memory
     accesses: usize,
 }
