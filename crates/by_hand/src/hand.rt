@@ -1,11 +1,13 @@
 //! A unit that is driven by commands.
-ghost use Rattle.std.specs.Prelude.{◌≡◌, ◌≢◌, ◌+◌, ◌-◌, ◌^◌, ◌<◌, IfSome, IfOk, IfErr, Ok, OnOk, None};
+ghost use Rattle.std.specs.Prelude.{◌≡◌, ◌-◌, ◌^◌, ◌<◌, IfSome, IfOk, IfErr, OnOk, Ok, Some, None};
 ghost use Rattle.isa.specs.Listing.{listing};
-ghost use Rattle.devices.specs.Counted.{failures_of, known_by};
-ghost use Rattle.by_hand.specs.ByHand.{HasBrokenOff, IsBroken, IsDriven, WasBrokenOff, IsTranscriptOf, script_refusal};
+ghost use Rattle.devices.specs.Counted.{failures_of};
+ghost use Rattle.by_hand.specs.ByHand.{script_refusal};
+ghost use Rattle.by_hand.specs.Replies.{HasAnswered, IsLeftByHand, IsUndrivenBy, listing_from};
 ghost use Rattle.requests.specs.Predictors.{IsChosen};
-ghost use Rattle.without_threads.specs.Went.{HoldsOfInput, IsOfOneThread, refused};
-ghost use Rattle.without_threads.specs.declared.went.Line.TheVariants.{Nothing, Refused};
+ghost use Rattle.without_threads.specs.Replies.{IfRefused};
+ghost use Rattle.without_threads.specs.Went.{IsOfOneThread, refused};
+ghost use Rattle.without_threads.specs.declared.went.Line.TheVariants.{Nothing};
 
 use bench::MOST_TAKEN;
 use devices::{Counted, read_up_to, write_whole};
@@ -34,32 +36,18 @@ pub fn go_by_hand<T: Wait, R: Read + Drop, I: BufRead, W: Write>(
 ) -> Went
     requires reader_room { IfSome reader (λ r. failures_of r < 2 ^ 64 - 1) }
     requires writer_room { failures_of writer.old < 2 ^ 64 - 1 }
-    // Without a reader nothing is driven, and only then is opening blamed.
+    // Without a reader nothing is driven.
     ensures open { reader ≡ None → result ≡ refused Refusal.Open }
-    ensures unopened { reader ≡ None → writer.new ≡ writer.old }
-    ensures opened { result.line ≡ Refused Refusal.Open → reader ≡ None }
     // What was written whole answers the listing and the script.
-    ensures answer { result.line ≡ Nothing → HoldsOfInput R.remaining reader (λ input.
-        IsDriven hand.now (listing input) result.status (I.remaining script.old)
-        (known_by W.contents writer.old) (known_by W.contents writer.new)) }
-    ensures quiet { result.line ≡ Nothing → failures_of writer.new ≡ failures_of writer.old }
+    ensures answer { result.line ≡ Nothing → HasAnswered W.contents hand.now
+        (listing_from R.remaining reader) (I.remaining script.old)
+        writer.old writer.new result.status }
     ensures line { IsOfOneThread result.line }
-    // There is no log to blame.
-    ensures unlogged { result.line ≢ Refused Refusal.Trace }
     // A refusal has a status of its own.
-    ensures refused { (refusal : Refusal) → result.line ≡ Refused refusal →
-        result ≡ refused refusal }
-    // Only after a failed call of the writer is it refused for that.
-    ensures write { result.line ≡ Refused Refusal.Write →
-        failures_of writer.new ≡ failures_of writer.old + 1 }
-    ensures broken { result.line ≡ Refused Refusal.Write → HoldsOfInput R.remaining reader
-        (λ input. IsBroken hand.now (listing input) (I.remaining script.old)
-        (known_by W.contents writer.old) (known_by W.contents writer.new)) }
-    // Any other refusal comes behind whole answers, or before anything is written.
-    ensures left { (refusal : Refusal) → result.line ≡ Refused refusal → refusal ≢ Refusal.Write →
-        HoldsOfInput R.remaining reader (λ input.
-        WasBrokenOff hand.now (listing input) (I.remaining script.old)
-        (known_by W.contents writer.old) (known_by W.contents writer.new)) }
+    ensures refused { IfRefused result.line (λ refusal. result ≡ refused refusal) }
+    // The writer is blamed for one failed call, and only then; else whole answers went out, or none.
+    ensures left { IfRefused result.line (IsLeftByHand R.remaining W.contents hand.now
+        reader (I.remaining script.old) writer.old writer.new) }
 {
     let Some(mut reader) = reader else {
         return refused(Refusal::Open);
@@ -84,23 +72,12 @@ fn driven<T: Wait, R: Read, I: BufRead, W: Write>(
 ) -> Result<u8, Refusal>
     requires reader_room { failures_of reader.old < 2 ^ 64 - 1 }
     requires writer_room { failures_of writer.old < 2 ^ 64 - 1 }
-    ensures ok { IfOk result (λ status. IfSome (known_by R.remaining reader.old) (λ input.
-        IsDriven hand.now (listing input) status (I.remaining script.old)
-        (known_by W.contents writer.old) (known_by W.contents writer.new))) }
-    ensures quiet { OnOk result (failures_of writer.new ≡ failures_of writer.old) }
-    ensures err { IfErr result (λ refusal. IsOfOneThread (Refused refusal)) }
-    ensures opened { IfErr result (λ refusal. refusal ≢ Refusal.Open) }
-    ensures unlogged { IfErr result (λ refusal. refusal ≢ Refusal.Trace) }
-    ensures write { IfErr result (λ refusal. refusal ≡ Refusal.Write →
-        failures_of writer.new ≡ failures_of writer.old + 1) }
-    ensures broken { IfErr result (λ refusal. refusal ≡ Refusal.Write →
-        IfSome (known_by R.remaining reader.old) (λ input.
-        IsBroken hand.now (listing input) (I.remaining script.old)
-        (known_by W.contents writer.old) (known_by W.contents writer.new))) }
-    ensures left { IfErr result (λ refusal. refusal ≢ Refusal.Write →
-        IfSome (known_by R.remaining reader.old) (λ input.
-        WasBrokenOff hand.now (listing input) (I.remaining script.old)
-        (known_by W.contents writer.old) (known_by W.contents writer.new))) }
+    ensures ok { IfOk result (HasAnswered W.contents hand.now
+        (listing_from R.remaining (Some reader.old)) (I.remaining script.old)
+        writer.old writer.new) }
+    ensures err { IfErr result (IsUndrivenBy W.contents hand.now
+        (listing_from R.remaining (Some reader.old)) (I.remaining script.old)
+        writer.old writer.new) }
 {
     let listing = read_up_to(alloc, reader, MOST_TAKEN)?;
     answered(wait, alloc, hand, listing.as_slice(), script, writer)
@@ -116,21 +93,10 @@ fn answered<T: Wait, I: BufRead, W: Write>(
     writer: &mut Counted<W>,
 ) -> Result<u8, Refusal>
     requires writer_room { failures_of writer.old < 2 ^ 64 - 1 }
-    ensures ok { IfOk result (λ status.
-        IsDriven hand.now (listing bytes.now) status (I.remaining script.old)
-        (known_by W.contents writer.old) (known_by W.contents writer.new)) }
-    ensures quiet { OnOk result (failures_of writer.new ≡ failures_of writer.old) }
-    ensures err { IfErr result (λ refusal. IsOfOneThread (Refused refusal)) }
-    ensures opened { IfErr result (λ refusal. refusal ≢ Refusal.Open) }
-    ensures unlogged { IfErr result (λ refusal. refusal ≢ Refusal.Trace) }
-    ensures write { IfErr result (λ refusal. refusal ≡ Refusal.Write →
-        failures_of writer.new ≡ failures_of writer.old + 1) }
-    ensures broken { IfErr result (λ refusal. refusal ≡ Refusal.Write →
-        IsBroken hand.now (listing bytes.now) (I.remaining script.old)
-        (known_by W.contents writer.old) (known_by W.contents writer.new)) }
-    ensures left { IfErr result (λ refusal. refusal ≢ Refusal.Write →
-        WasBrokenOff hand.now (listing bytes.now) (I.remaining script.old)
-        (known_by W.contents writer.old) (known_by W.contents writer.new)) }
+    ensures ok { IfOk result (HasAnswered W.contents hand.now
+        (Some (listing bytes.now)) (I.remaining script.old) writer.old writer.new) }
+    ensures err { IfErr result (IsUndrivenBy W.contents hand.now
+        (Some (listing bytes.now)) (I.remaining script.old) writer.old writer.new) }
 {
     match parse(alloc, bytes) {
         Ok(program) => {
@@ -160,20 +126,10 @@ fn drive_by<J: Naming, T: Wait, I: BufRead, W: Write>(
     requires named { program.now ≡ J.program }
     requires predictor { IsChosen hand.now.predictor predictor }
     requires writer_room { failures_of writer.old < 2 ^ 64 - 1 }
-    ensures ok { OnOk result (IsTranscriptOf hand.now program.now 0 (I.remaining script.old)
-        (known_by W.contents writer.old) (known_by W.contents writer.new)) }
-    ensures quiet { OnOk result (failures_of writer.new ≡ failures_of writer.old) }
-    ensures err { IfErr result (λ refusal. IsOfOneThread (Refused refusal)) }
-    ensures opened { IfErr result (λ refusal. refusal ≢ Refusal.Open) }
-    ensures unlogged { IfErr result (λ refusal. refusal ≢ Refusal.Trace) }
-    ensures write { IfErr result (λ refusal. refusal ≡ Refusal.Write →
-        failures_of writer.new ≡ failures_of writer.old + 1) }
-    ensures broken { IfErr result (λ refusal. refusal ≡ Refusal.Write →
-        HasBrokenOff hand.now program.now (I.remaining script.old)
-        (known_by W.contents writer.old) (known_by W.contents writer.new)) }
-    ensures left { IfErr result (λ refusal. refusal ≢ Refusal.Write →
-        WasBrokenOff hand.now (Ok program.now) (I.remaining script.old)
-        (known_by W.contents writer.old) (known_by W.contents writer.new)) }
+    ensures ok { OnOk result (HasAnswered W.contents hand.now
+        (Some (Ok program.now)) (I.remaining script.old) writer.old writer.new 0) }
+    ensures err { IfErr result (IsUndrivenBy W.contents hand.now
+        (Some (Ok program.now)) (I.remaining script.old) writer.old writer.new) }
 {
     let mut driven = Session::<Chosen, J>::new(alloc, program, &hand.config, predictor)?;
     let told = drive::drive(wait, alloc, &mut driven, script, writer);

@@ -5,4 +5,4 @@ mod hand;
 
 pub use hand::go_by_hand;
 pub use requests::{ByHand, Request, requested};
-pub use without_threads::{Line, Refusal, Went};
+pub use without_threads::{Line, Refusal, Went, end, refused};

@@ -4,6 +4,8 @@ use Rattle.std.specs.Io.BufRead.{drop_through, strip_last, take_through}
 use Rattle.std.specs.Io.KnownBytes.{Appends, IsAtEnd}
 use Rattle.drive.specs.Sessions.{TheSession}
 use Rattle.drive.specs.Transcripts.{IsToldOfLine, IsTranscript}
+use Rattle.drive.specs.declared.script.Fault.{Fault}
+use Rattle.drive.specs.declared.script.Fault.TheVariants.{Read, Memory, Write}
 
 -- A line of a script without what ends it
 abbrev pub line_of : List ℕ → List ℕ
@@ -87,3 +89,9 @@ pub record HasBroken (from : Option (List ℕ)) (old : TheSession)
   pub count : ℕ
   pub all : AreTold from to old new before between count
   pub cut : LineIsCut to new (count + 1) between after
+
+-- How many calls of the writer failed where a script was not answered to its end
+abbrev pub failed_writes : Fault → ℕ
+failed_writes Read = 0
+failed_writes Memory = 0
+failed_writes Write = 1

@@ -4,12 +4,12 @@
 
 mod calls;
 mod commands;
-mod digits;
 mod lines;
 mod meeting;
 mod names;
 mod parties;
 mod reads;
+mod register_texts;
 mod renewal;
 mod replies;
 mod reports;

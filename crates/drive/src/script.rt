@@ -2,7 +2,7 @@
 ghost use Rattle.std.specs.Prelude.{◌≡◌, ◌≢◌, ◌+◌, ◌-◌, ◌^◌, ◌<◌, true, false, IfErr, IfOk, OnOk};
 ghost use Rattle.std.specs.Io.BufRead.{strip_last};
 ghost use Rattle.devices.specs.Counted.{failures_of, known_by};
-ghost use Rattle.drive.specs.Scripts.{HasBroken, HasDriven, HasTold, LineIsCut, NothingWasLeft, LineIsTold, line_of};
+ghost use Rattle.drive.specs.Scripts.{HasBroken, HasDriven, HasTold, LineIsCut, LineIsTold, NothingWasLeft, failed_writes, line_of};
 
 use crate::lines::told;
 use crate::session::Session;
@@ -82,8 +82,8 @@ fn tell_line<P: Predictor + Drop, J: Naming, R: Wait, I: BufRead, W: Write>(
         NothingWasLeft (I.remaining reader.old) session.old session.new
         (known_by W.contents writer.old) (known_by W.contents writer.new)) }
     ensures silent { IfErr result (λ fault. fault ≢ Fault.Write → writer.new ≡ writer.old) }
-    ensures write { IfErr result (λ fault. fault ≡ Fault.Write →
-        failures_of writer.new ≡ failures_of writer.old + 1) }
+    ensures write { IfErr result (λ fault.
+        failures_of writer.new ≡ failures_of writer.old + failed_writes fault) }
     ensures cut { IfErr result (λ fault. fault ≡ Fault.Write →
         LineIsCut (I.remaining reader.old) session.old number
         (known_by W.contents writer.old) (known_by W.contents writer.new)) }
@@ -124,13 +124,14 @@ pub fn drive<P: Predictor + Drop, J: Naming, R: Wait, I: BufRead, W: Write>(
     ensures ok { OnOk result (HasDriven (I.remaining reader.old) session.old session.new
         (known_by W.contents writer.old) (known_by W.contents writer.new)) }
     ensures quiet { OnOk result (failures_of writer.new ≡ failures_of writer.old) }
+    // The writer is blamed for one failed call, and only then.
+    ensures write { IfErr result (λ fault.
+        failures_of writer.new ≡ failures_of writer.old + failed_writes fault) }
     // Where the script or memory ends early, some of its lines were answered, and those alone.
     ensures told { IfErr result (λ fault. fault ≢ Fault.Write →
         HasTold (I.remaining reader.old) session.old
         (known_by W.contents writer.old) (known_by W.contents writer.new)) }
     // Where the writer fails, a proper beginning of one more answer went out.
-    ensures write { IfErr result (λ fault. fault ≡ Fault.Write →
-        failures_of writer.new ≡ failures_of writer.old + 1) }
     ensures broken { IfErr result (λ fault. fault ≡ Fault.Write →
         HasBroken (I.remaining reader.old) session.old
         (known_by W.contents writer.old) (known_by W.contents writer.new)) }

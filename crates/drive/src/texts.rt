@@ -2,14 +2,14 @@
 ghost use Rattle.std.specs.Prelude.{◌≡◌, ◌++◌, IfOk, OnOk, string_bytes};
 ghost use Rattle.drive.specs.Texts.{claimed_text, commit_text, half_text, held_text, look_text, made_text, place_text, recovery_text, refresh_text, refusal_text, reply_line, reply_text, snap_text, source_text, state_text, front_turn_text, finish_text, values_text};
 
-use crate::digits::{Word, push_registers};
+use crate::register_texts::push_registers;
 use crate::replies::{Refusal, Reply};
 use crate::units::{Claimed, Held};
 use crate::word_texts::{info_text, operand_text, rest_text};
 use back::{Commit, Refresh, Snap};
 use front::{Made, Recovery, Turn};
 use instructions::Half;
-use isa::report_text;
+use isa::{Hexadecimal, report_text};
 use station::{Finish, Seen, Source, StationState};
 use std::alloc::{AllocError, Global};
 
@@ -48,7 +48,7 @@ fn state(state: StationState) -> &'static str
 fn snap_text(alloc: Global, snap: &Snap) -> Result<String, AllocError>
     ensures { IfOk result (λ text. string_bytes text ≡ snap_text snap.now) }
 {
-    let pc = Word(snap.pc);
+    let pc = Hexadecimal(snap.pc);
     let n = snap.n;
     let mut out = format!(in alloc; "Snap n {n} pc {pc}")?;
     push_registers(&mut out, &snap.registers)?;
@@ -64,7 +64,7 @@ fn turn_text(alloc: Global, turn: Turn) -> Result<String, AllocError>
         Turn::QueueFull => format!(in alloc; "QueueFull"),
         Turn::Spent => format!(in alloc; "Spent"),
         Turn::Let { station, tag, pc } => {
-            let pc = Word(pc);
+            let pc = Hexadecimal(pc);
             format!(in alloc; "Let station {station} tag {tag} pc {pc}")
         }
     }
@@ -85,8 +85,8 @@ fn recovery_text(alloc: Global, recovery: Recovery) -> Result<String, AllocError
 fn push_values(out: &mut String, held: &Held) -> Result<(), AllocError>
     ensures { OnOk result (string_bytes out.new ≡ string_bytes out.old ++ values_text held.now) }
 {
-    let (pc, predicted) = (Word(held.pc), Word(held.predicted));
-    let (a, b) = (Word(held.a), Word(held.b));
+    let (pc, predicted) = (Hexadecimal(held.pc), Hexadecimal(held.predicted));
+    let (a, b) = (Hexadecimal(held.a), Hexadecimal(held.b));
     write!(out, " pc {pc} predicted {predicted} a {a} b {b}")?;
     Ok(())
 }
@@ -140,7 +140,7 @@ fn refresh_text(alloc: Global, refresh: Refresh) -> Result<String, AllocError>
             tag,
             value,
         } => {
-            let value = Word(value);
+            let value = Hexadecimal(value);
             format!(in alloc; "Loaded station {station} tag {tag} value {value}")
         }
         Refresh::Blocked { load, store } => {
@@ -155,11 +155,11 @@ fn commit_text(alloc: Global, commit: Commit) -> Result<String, AllocError>
 {
     match commit {
         Commit::Retired { pc, n } => {
-            let pc = Word(pc);
+            let pc = Hexadecimal(pc);
             format!(in alloc; "Retired pc {pc} n {n}")
         }
         Commit::Half { pc } => {
-            let pc = Word(pc);
+            let pc = Hexadecimal(pc);
             format!(in alloc; "Half pc {pc}")
         }
         Commit::NotDone => format!(in alloc; "NotDone"),
@@ -174,7 +174,7 @@ fn made_text(alloc: Global, made: Made) -> Result<String, AllocError>
     match made {
         Made::Made { station, tag } => format!(in alloc; "Made station {station} tag {tag}"),
         Made::Base(value) => {
-            let value = Word(value);
+            let value = Hexadecimal(value);
             format!(in alloc; "Base {value}")
         }
     }
@@ -184,7 +184,7 @@ fn look_text(alloc: Global, seen: &Seen<StationState>) -> Result<String, AllocEr
     ensures { IfOk result (λ text. string_bytes text ≡ look_text seen.now) }
 {
     let (tag, state) = (seen.tag, state(seen.state));
-    let value = Word(seen.value);
+    let value = Hexadecimal(seen.value);
     format!(in alloc; "Seen tag {tag} state {state} value {value}")
 }
 

@@ -2,10 +2,10 @@
 ghost use Rattle.std.specs.Prelude.{◌≡◌, IfOk, string_bytes};
 ghost use Rattle.drive.specs.Texts.{info_text, operand_state_text, seen_operand_text, rest_text};
 
-use crate::digits::Word;
 use crate::replies::Info;
 use crate::texts::half;
 use front::Rest;
+use isa::Hexadecimal;
 use station::{Seen, SourceState};
 use std::alloc::{AllocError, Global};
 
@@ -24,7 +24,7 @@ pub(crate) fn operand_text(alloc: Global, seen: &Seen<SourceState>) -> Result<St
     ensures { IfOk result (λ text. string_bytes text ≡ seen_operand_text seen.now) }
 {
     let (tag, state) = (seen.tag, operand_state(seen.state));
-    let value = Word(seen.value);
+    let value = Hexadecimal(seen.value);
     format!(in alloc; "Seen tag {tag} state {state} value {value}")
 }
 
@@ -33,7 +33,7 @@ pub(crate) fn info_text(alloc: Global, info: &Info) -> Result<String, AllocError
     ensures { IfOk result (λ text. string_bytes text ≡ info_text info.now) }
 {
     let (index, half) = (info.index, half(info.half));
-    let predicted = Word(info.predicted);
+    let predicted = Hexadecimal(info.predicted);
     format!(in alloc; "Info index {index} half {half} predicted {predicted}")
 }
 

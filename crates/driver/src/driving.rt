@@ -1,5 +1,5 @@
 //! A unit that is driven from standard input.
-use by_hand::{ByHand, Line, Refusal, Went, go_by_hand};
+use by_hand::{ByHand, Refusal, Went, go_by_hand, refused};
 use devices::Counted;
 use std::fs::File;
 use std::io::{self, BufReader, IsTerminal, Read};
@@ -36,10 +36,7 @@ pub fn drive<T: Wait>(rt: &HostRuntime, wait: &T, hand: &ByHand<'_>) -> Went {
         is_wanted: !hand.quiet_prompt && rt.stdin().is_terminal() && rt.stderr().is_terminal(),
     };
     let Ok(mut script) = BufReader::new(rt.alloc(), input) else {
-        return Went {
-            status: 5,
-            line: Line::Refused(Refusal::Memory),
-        };
+        return refused(Refusal::Memory);
     };
     let reader = File::open(rt, hand.file).ok().map(Counted::new);
     let mut writer = Counted::new(rt.stdout());

@@ -1,12 +1,9 @@
 //! The program `driver`, which is `./ruu drive`: its words, its file and its standard streams.
 #![tactic(auto)]
 
-ghost use Rattle.std.specs.Prelude.{◌≡◌};
-ghost use Rattle.std.specs.Process.{exit_status};
-
 mod driving;
 
-use by_hand::{Line, Request, Went, requested};
+use by_hand::{Request, end, requested};
 use driving::drive;
 use requests::{of_another_program, refuse, words};
 use std::process::ExitCode;
@@ -22,13 +19,4 @@ fn main(rt: HostRuntime) -> ExitCode {
         Ok(Request::Check(_)) => refuse(&rt, &of_another_program(rt.alloc(), "check", "ruu")),
         Err(no_run) => refuse(&rt, &no_run),
     }
-}
-
-fn end(rt: &HostRuntime, went: Went) -> ExitCode
-    ensures { exit_status result ≡ went.status }
-{
-    if went.line != Line::Nothing {
-        let _ = eprintln!(rt; "{}", went.line);
-    }
-    ExitCode::from(went.status)
 }

@@ -1,5 +1,5 @@
 -- Bits at the hashes of names: what is set is found again, and all else stays.
-use Rattle.std.proofs.Common.{◌≡◌, ◌≢◌, ℕ, ◌-◌, ◌*◌, ◌/◌, ◌%◌, ◌^◌, ◌<◌, ◌⊎◌, true}
+use Rattle.std.proofs.Common.{◌≡◌, ◌≢◌, ℕ, ◌-◌, ◌*◌, ◌/◌, ◌%◌, ◌^◌, ◌<◌, ◌≤◌, ◌⊎◌, true}
 use Rattle.std.proofs.Common.{List, length, get_or, slice_set, bit_and, bit_or, refl, sym, ap, ◌∙◌, arith, inl, inr, eqb-true}
 use Rattle.std.specs.Prelude.{slice_index_or}
 use Rattle.std.proofs.lemmas.Bool.{cases_lt}
@@ -35,7 +35,7 @@ both_bit x y k is =
     grind (arith, or, and, one, small, is)
 
 -- a bit as the code makes it
-pub one_bit : (k : ℕ) → k < 64 → 1 * 2 ^ k % 18446744073709551616 ≡ 2 ^ k
+one_bit : (k : ℕ) → k < 64 → 1 * 2 ^ k % 18446744073709551616 ≡ 2 ^ k
 one_bit k lt = let below : 2 ^ k < 2 ^ 64 = pow_below k 64 lt in grind (arith, below)
 
 -- ---- all words
@@ -44,10 +44,10 @@ one_bit k lt = let below : 2 ^ k < 2 ^ 64 = pow_below k 64 lt in grind (arith, b
 abbrev pub place : List Bits → List ℕ → ℕ
 place all name = start_of (short_hash name) (length all - 1)
 
-pub place_is : (all : List Bits) (name : List ℕ) (hash at n : ℕ) → hash ≡ short_hash name → n ≡ length all → at ≡ start_of hash (n - 1) → at ≡ place all name
+place_is : (all : List Bits) (name : List ℕ) (hash at n : ℕ) → hash ≡ short_hash name → n ≡ length all → at ≡ start_of hash (n - 1) → at ≡ place all name
 place_is all name hash at n h l e = e ∙ ap (λ (m : ℕ). start_of hash (m - 1)) l ∙ ap (λ (m : ℕ). start_of m (length all - 1)) h
 
-pub word_is : (all : List Bits) (at : ℕ) (b : Bits) → at < length all → b ≡ get_or all at b → slice_index_or all at (record { met = 0; needed = 0 }) ≡ b
+word_is : (all : List Bits) (at : ℕ) (b : Bits) → at < length all → b ≡ get_or all at b → slice_index_or all at (record { met = 0; needed = 0 }) ≡ b
 word_is all at b lt e = get_or_default all at (record { met = 0; needed = 0 }) b lt ∙ sym e
 
 module _ (all : List Bits) (at : ℕ) (b : Bits) (lt : at < length all) where
@@ -101,37 +101,52 @@ module _ (all : List Bits) (at : ℕ) (b : Bits) (lt : at < length all) where
 
 -- ---- a name that is met, and one that is needed
 
-module _ (all : List Bits) (name : List ℕ) (at k mask : ℕ) (old : Bits) (lt : at < length all) (place_is : at ≡ start_of (short_hash name) (length all - 1))
-    (bit_is : k ≡ bit_of (short_hash name)) (mask_is : mask ≡ 2 ^ k) (was : slice_index_or all at (record { met = 0; needed = 0 }) ≡ old) where
-  met_now : Bits
+-- the place of a name's bit, and the word that was there
+pub record IsFound (all : List Bits) (name : List ℕ) (at k mask : ℕ) (old : Bits) : Type 0 where
+  pub low : at < length all
+  pub placed : at ≡ place all name
+  pub bit : k ≡ bit_of (short_hash name)
+  pub masked : mask ≡ 2 ^ k
+  pub was : slice_index_or all at (record { met = 0; needed = 0 }) ≡ old
+
+-- as the code finds it, from the hash and the number of words
+pub is_found : (all : List Bits) (name : List ℕ) (hash wide n at k : ℕ) (old : Bits) → 1 ≤ length all → n ≡ length all
+    → hash ≡ short_hash name → wide ≡ hash → at ≡ start_of wide (n - 1) → at ≤ n - 1 → k ≡ bit_of hash → k < 64
+    → old ≡ get_or all at old → IsFound all name at k (1 * 2 ^ k % 18446744073709551616) old
+is_found all name hash wide n at k old some size hashed same start small bit low is =
+    let here : at < length all = omega (arith, some, size, small) in
+    record {
+      low = here;
+      placed = place_is all name wide at n (same ∙ hashed) size start;
+      bit = bit ∙ ap bit_of hashed;
+      masked = one_bit k low;
+      was = word_is all at old here is;
+    }
+
+module _ (all : List Bits) (name : List ℕ) (at k mask : ℕ) (old : Bits) (f : IsFound all name at k mask old) where
+  -- the word once the name is met
+  abbrev pub met_now : Bits
   met_now = record { met = bit_or old.met mask; needed = bit_or old.needed (bit_and old.met mask) }
 
-  needed_now : Bits
+  -- the word once the name is needed
+  abbrev pub needed_now : Bits
   needed_now = record { met = old.met; needed = bit_or old.needed mask }
 
-  pub meet_kept : AreKept all (slice_set all at (record { met = bit_or old.met mask; needed = bit_or old.needed (bit_and old.met mask) }))
-  meet_kept = all_kept all at (record { met = bit_or old.met mask; needed = bit_or old.needed (bit_and old.met mask) }) lt old was
+  pub meet_kept : AreKept all (slice_set all at met_now)
+  meet_kept = all_kept all at met_now f.low old f.was
       (λ j is. keep_bit old.met mask j is) (λ j is. keep_bit old.needed (bit_and old.met mask) j is)
 
-  pub need_kept : AreKept all (slice_set all at (record { met = old.met; needed = bit_or old.needed mask }))
-  need_kept = all_kept all at (record { met = old.met; needed = bit_or old.needed mask }) lt old was (λ j is. is) (λ j is. keep_bit old.needed mask j is)
+  pub need_kept : AreKept all (slice_set all at needed_now)
+  need_kept = all_kept all at needed_now f.low old f.was (λ j is. is) (λ j is. keep_bit old.needed mask j is)
 
-  pub meet_met : WasMet (slice_set all at (record { met = bit_or old.met mask; needed = bit_or old.needed (bit_and old.met mask) })) name
-  meet_met =
-      rw (here all at (record { met = bit_or old.met mask; needed = bit_or old.needed (bit_and old.met mask) }) lt name (sym place_is), sym bit_is, mask_is)
-      (set_bit old.met k)
+  pub meet_met : WasMet (slice_set all at met_now) name
+  meet_met = rw (here all at met_now f.low name (sym f.placed), sym f.bit, f.masked) (set_bit old.met k)
 
-  pub meet_needed : WasMet all name → is_needed (slice_set all at (record { met = bit_or old.met mask; needed = bit_or old.needed (bit_and old.met mask) })) name ≡ true
+  pub meet_needed : WasMet all name → is_needed (slice_set all at met_now) name ≡ true
   meet_needed m =
-      let front : bits_for all name ≡ old = ap (λ (n : ℕ). slice_index_or all n (record { met = 0; needed = 0 })) (sym place_is) ∙ was in
-      let bit : old.met / 2 ^ k % 2 ≡ 1 = rw (front, sym bit_is) at m in
-      rw (
-        here all at (record { met = bit_or old.met mask; needed = bit_or old.needed (bit_and old.met mask) }) lt name (sym place_is),
-        sym bit_is,
-        mask_is,
-        both_bit old.met old.needed k bit,
-      ) refl
+      let front : bits_for all name ≡ old = ap (λ (n : ℕ). slice_index_or all n (record { met = 0; needed = 0 })) (sym f.placed) ∙ f.was in
+      let bit : old.met / 2 ^ k % 2 ≡ 1 = rw (front, sym f.bit) at m in
+      rw (here all at met_now f.low name (sym f.placed), sym f.bit, f.masked, both_bit old.met old.needed k bit) refl
 
-  pub need_needed : is_needed (slice_set all at (record { met = old.met; needed = bit_or old.needed mask })) name ≡ true
-  need_needed =
-      rw (here all at (record { met = old.met; needed = bit_or old.needed mask }) lt name (sym place_is), sym bit_is, mask_is, set_bit old.needed k) refl
+  pub need_needed : is_needed (slice_set all at needed_now) name ≡ true
+  need_needed = rw (here all at needed_now f.low name (sym f.placed), sym f.bit, f.masked, set_bit old.needed k) refl

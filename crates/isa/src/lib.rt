@@ -10,7 +10,7 @@ pub use instructions::{
     Predictor, Program, Reg, Stop, Taken, loaded, outcome, outcome_of, pc_plus_4,
 };
 pub use listing::{FaultKind, InstrText, Label, Naming, TextFault, parse, text_is_read_back};
-pub use report::{Hexadecimal, fault_text, report_text};
+pub use report::{Hexadecimal, RegisterName, fault_text, report_text};
 
 #[cfg(test)]
 mod tests;

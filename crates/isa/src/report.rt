@@ -20,11 +20,11 @@ impl fmt::Display for Hexadecimal {
     }
 }
 
-// what a report calls a register
+/// What a report calls a register, by its number.
 #[derive(Clone, Copy)]
-struct Name(usize);
+pub struct RegisterName(pub usize);
 
-impl fmt::Display for Name {
+impl fmt::Display for RegisterName {
     ghost output = { λ name. Some (register_name name.0) };
 
     fn fmt<W: fmt::Write>(&self, f: &mut fmt::Formatter<W>) -> fmt::Result {
@@ -43,7 +43,7 @@ fn push_registers(out: &mut String, registers: &[u32; 34]) -> Result<(), AllocEr
 {
     for (r, value) in registers.iter().enumerate() {
         if *value != 0 {
-            let name = Name(r);
+            let name = RegisterName(r);
             let value = Hexadecimal(*value);
             write!(out, "{name} {value}\n")?;
         }

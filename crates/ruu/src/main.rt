@@ -1,13 +1,10 @@
 //! The program `ruu`: its words, its file and its standard streams.
 #![tactic(auto)]
 
-ghost use Rattle.std.specs.Prelude.{◌≡◌};
-ghost use Rattle.std.specs.Process.{exit_status};
-
 mod teller;
 mod watching;
 
-use command::{Asked, Line, Request, Went, check, go, is_standard_input, requested};
+use command::{Asked, Request, check, end, go, is_standard_input, requested};
 use devices::Counted;
 use pool::Open;
 use requests::{of_another_program, refuse, words};
@@ -75,13 +72,4 @@ fn check_from<R: Read + Drop>(rt: &HostRuntime, input: R) -> ExitCode {
     let reader = Counted::new(input);
     let mut writer = Counted::new(rt.stdout());
     end(rt, check(rt.alloc(), Some(reader), &mut writer))
-}
-
-fn end(rt: &HostRuntime, went: Went) -> ExitCode
-    ensures { exit_status result ≡ went.status }
-{
-    if went.line != Line::Nothing {
-        let _ = eprintln!(rt; "{}", went.line);
-    }
-    ExitCode::from(went.status)
 }

@@ -1,6 +1,5 @@
 //! A run whose turns are told.
-use crate::end;
-use command::{Asked, go_watched, is_standard_input};
+use command::{Asked, end, go_watched, is_standard_input};
 use devices::Counted;
 use std::fs::{File, Metadata};
 use std::io::{self, Read};

@@ -1,3 +1,3 @@
 pub mod Answered
 mod Pictures
-pub mod Taken
+mod Taken

@@ -17,12 +17,6 @@ pub ok_taken : {T E : Type 0} (r : Result T E) (F : T → Result Program (ℕ ×
 ok_taken (Ok x) F known bytes slice read same is = found_taken (F x) known bytes slice read same is
 ok_taken (Err e) F known bytes slice read same is = tt
 
-pub err_taken : {T E : Type 0} (r : Result T E) (When : E → Type 0) (F : Result Program (ℕ × FaultKind) → Type 0) (known : Option (List ℕ)) (bytes slice : List ℕ)
-    → IfSome known (λ input. bytes ≡ take most_taken input) → slice ≡ bytes → IfErr r (λ e. When e → F (listing slice))
-    → IfErr r (λ e. When e → IfSome known (λ input. F (listing input)))
-err_taken (Ok x) When F known bytes slice read same is = tt
-err_taken (Err e) When F known bytes slice read same is = λ when. found_taken F known bytes slice read same (is when)
-
 pub cut_taken : {T E : Type 0} (r : Result T E) (F : E → Result Program (ℕ × FaultKind) → Type 0) (known : Option (List ℕ)) (bytes slice : List ℕ)
     → IfSome known (λ input. bytes ≡ take most_taken input) → slice ≡ bytes → IfErr r (λ e. F e (listing slice))
     → IfErr r (λ e. IfSome known (λ input. F e (listing input)))

@@ -3,6 +3,7 @@
 
 mod checking;
 mod drawing;
+mod ending;
 mod one_thread;
 mod progress;
 mod statuses;
@@ -11,6 +12,7 @@ mod watching;
 mod went;
 
 pub use checking::check;
+pub use ending::end;
 pub use one_thread::run;
 pub use progress::Progress;
 pub use statuses::{refused, written};

@@ -43,23 +43,11 @@ fn a_line_names_what_was_refused_or_done(rt: HostRuntime) -> Result<(), Fail> {
 // What a program may do with the tallies that its gate is told.
 #[test]
 fn progress_is_told_in_the_words_of_a_tally(rt: HostRuntime) -> Result<(), Fail> {
-    let tally = Tally {
-        lets: 1,
-        claims: 2,
-        finishes: 3,
-        stale: 4,
-        loads: 5,
-        retires: 6,
-        squashes: 7,
-        mends: 8,
-        hints: 9,
-        renewals: 10,
-    };
-    let line = Progress { tally }.to_string(rt.alloc())?;
+    let line = Progress { tally: TALLY }.to_string(rt.alloc())?;
     assert_eq!(rt;
         line.as_str(),
-        "progress lets 1 claims 2 finishes 3 stale 4 loads 5 retires 6 squashes 7 mends 8 hints 9 \
-         renewals 10"
+        "progress lets 1 claims 20 finishes 300 stale 4 loads 50 retires 600 squashes 7 \
+         mends 18446744073709551615 hints 9 renewals 10"
     );
     Ok(())
 }

@@ -1,24 +1,15 @@
-use Rattle.std.proofs.Common.{◌<◌, length, ap, ◌∙◌, arith}
-use Rattle.isa.specs.Needed.{bit_of}
-use Rattle.isa.proofs.NeededBits.{one_bit, place_is, word_is, need_kept, need_needed}
+use Rattle.std.proofs.Common.{arith}
+use Rattle.isa.proofs.NeededBits.{is_found, need_kept, need_needed}
 use Rattle.isa.proofs.listing.needed.need.Goals as goal
 
 pub returns-clause-kept : goal.returns-clause-kept
 returns-clause-kept c =
-    let lt : c.start_of-at.result < length c.args.all.now.items = omega (arith, c.start_of-at.ensures.small, c.len.ensures, c.requires.room) in
-    let place = place_is c.args.all.now.items c.args.name.now c.from.result c.start_of-at.result c.len.result
-    (c.from.ensures ∙ c.short_hash-hash.ensures) (omega (arith, c.len.ensures))
-    c.start_of-at.ensures.value in
-    need_kept c.args.all.now.items c.args.name.now c.start_of-at.result c.bit_of.result _ c.index-before.result.now lt place
-    (c.bit_of.ensures.value ∙ ap bit_of c.short_hash-hash.ensures) (one_bit c.bit_of.result c.bit_of.ensures.small)
-    (word_is c.args.all.now.items c.start_of-at.result c.index-before.result.now lt c.index-before.ensures)
+    need_kept _ c.args.name.now _ _ _ c.index-before.result.now (is_found c.args.all.now.items _ c.short_hash-hash.result c.from.result
+    c.len.result _ _ _ c.requires.room (omega (arith, c.len.ensures)) c.short_hash-hash.ensures c.from.ensures c.start_of-at.ensures.value
+    c.start_of-at.ensures.small c.bit_of.ensures.value c.bit_of.ensures.small c.index-before.ensures)
 
 pub returns-clause-needed : goal.returns-clause-needed
 returns-clause-needed c =
-    let lt : c.start_of-at.result < length c.args.all.now.items = omega (arith, c.start_of-at.ensures.small, c.len.ensures, c.requires.room) in
-    let place = place_is c.args.all.now.items c.args.name.now c.from.result c.start_of-at.result c.len.result
-    (c.from.ensures ∙ c.short_hash-hash.ensures) (omega (arith, c.len.ensures))
-    c.start_of-at.ensures.value in
-    need_needed c.args.all.now.items c.args.name.now c.start_of-at.result c.bit_of.result _ c.index-before.result.now lt place
-    (c.bit_of.ensures.value ∙ ap bit_of c.short_hash-hash.ensures) (one_bit c.bit_of.result c.bit_of.ensures.small)
-    (word_is c.args.all.now.items c.start_of-at.result c.index-before.result.now lt c.index-before.ensures)
+    need_needed _ c.args.name.now _ _ _ c.index-before.result.now (is_found c.args.all.now.items _ c.short_hash-hash.result c.from.result
+    c.len.result _ _ _ c.requires.room (omega (arith, c.len.ensures)) c.short_hash-hash.ensures c.from.ensures c.start_of-at.ensures.value
+    c.start_of-at.ensures.small c.bit_of.ensures.value c.bit_of.ensures.small c.index-before.ensures)
