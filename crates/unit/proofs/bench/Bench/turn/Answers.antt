@@ -38,7 +38,8 @@ invariant_of-self-in-Some-next_unless g c =
     let unit : StandsForSome b = subst StandsForSome (sym same) c.self.invariant.0 in
     let none : b.over ≡ None = subst (λ x. x.over ≡ None) (sym same) c.in_default.is in
     let miss : NoneGives miss_in b.window = subst (λ x. NoneGives miss_in x.window) (sym same) c.if-recovers.ensures.window in
-    let can : CanLet b.program.now b.ring b.queue b.committed.pc b.low b.window next = subst (NextIs b.program.now b.ring b.queue b.committed.pc b.low b.window) c.in-Some-next_unless.is c.next_unless.ensures in
+    let can : CanLet b.program.now b.ring b.queue b.committed.pc b.low b.window next = subst (NextIs b.program.now b.ring b.queue b.committed.pc b.low b.window)
+    c.in-Some-next_unless.is c.next_unless.ensures in
     let guess = c.guess-predicted.ensures in
     let fixed = guess_fixed g.P.Predictor.Predicts g.P.Predictor.Learns _ next.pc next.instr c.guess-predicted.result guess.middle c.guess-predicted.new.predictor guess.asked in
     let shows = let_shows b c.let_out.new.self next c.guess-predicted.result unit none miss can c.guess-predicted.type_inv fixed c.let_out.ensures.window c.let_out.ensures.leavers
@@ -53,7 +54,8 @@ returns-in-Some-next_unless-clause-falls g c =
     let unit : StandsForSome b = subst StandsForSome (sym same) c.self.invariant.0 in
     let none : b.over ≡ None = subst (λ x. x.over ≡ None) (sym same) c.in_default.is in
     let miss : NoneGives miss_in b.window = subst (λ x. NoneGives miss_in x.window) (sym same) c.if-recovers.ensures.window in
-    let can : CanLet b.program.now b.ring b.queue b.committed.pc b.low b.window next = subst (NextIs b.program.now b.ring b.queue b.committed.pc b.low b.window) c.in-Some-next_unless.is c.next_unless.ensures in
+    let can : CanLet b.program.now b.ring b.queue b.committed.pc b.low b.window next = subst (NextIs b.program.now b.ring b.queue b.committed.pc b.low b.window)
+    c.in-Some-next_unless.is c.next_unless.ensures in
     let guess = c.guess-predicted.ensures in
     let fixed = guess_fixed g.P.Predictor.Predicts g.P.Predictor.Learns _ next.pc next.instr c.guess-predicted.result guess.middle c.guess-predicted.new.predictor guess.asked in
     let shows = let_shows b c.let_out.new.self next c.guess-predicted.result unit none miss can c.guess-predicted.type_inv fixed c.let_out.ensures.window c.let_out.ensures.leavers
@@ -68,7 +70,8 @@ returns-in-Some-next_unless-clause-turn g c =
     let unit : StandsForSome b = subst StandsForSome (sym same) c.self.invariant.0 in
     let none : b.over ≡ None = subst (λ x. x.over ≡ None) (sym same) c.in_default.is in
     let miss : NoneGives miss_in b.window = subst (λ x. NoneGives miss_in x.window) (sym same) c.if-recovers.ensures.window in
-    let can : CanLet b.program.now b.ring b.queue b.committed.pc b.low b.window next = subst (NextIs b.program.now b.ring b.queue b.committed.pc b.low b.window) c.in-Some-next_unless.is c.next_unless.ensures in
+    let can : CanLet b.program.now b.ring b.queue b.committed.pc b.low b.window next = subst (NextIs b.program.now b.ring b.queue b.committed.pc b.low b.window)
+    c.in-Some-next_unless.is c.next_unless.ensures in
     let turn = let_bench g.P.Predictor.Predicts g.P.Predictor.Learns (fields b c.self.inside.predictor) (fields c.let_out.new.self c.guess-predicted.new.predictor) next c.guess-predicted.result
     c.leaver-left.result unit none miss can c.guess-predicted.type_inv c.leaver-left.ensures c.guess-predicted.ensures c.let_out.ensures.window c.let_out.ensures.leavers c.let_out.ensures.rest
     in
@@ -80,5 +83,6 @@ returns-clause-turn g c =
     let turn = plain_turn g.P.Predictor.Predicts g.P.Predictor.Learns (fields c.recovers.new.self c.self.inside.predictor) (fields c.moves-turn.new.self c.self.inside.predictor) c.moves-turn.result
     c.moves-turn.ensures.plain c.moves-turn.ensures.turn refl in
     subst (λ x. IsTurn g.P.Predictor.Predicts g.P.Predictor.Learns x c.moves-turn.result (fields c.moves-turn.new.self c.self.inside.predictor)) c.self.view_is
-    (subst (λ x. IsTurn g.P.Predictor.Predicts g.P.Predictor.Learns (fields x c.self.inside.predictor) c.moves-turn.result (fields c.moves-turn.new.self c.self.inside.predictor)) c.if-recovers.ensures.same
+    (subst (λ x. IsTurn g.P.Predictor.Predicts g.P.Predictor.Learns (fields x c.self.inside.predictor) c.moves-turn.result (fields c.moves-turn.new.self c.self.inside.predictor))
+    c.if-recovers.ensures.same
     turn)
