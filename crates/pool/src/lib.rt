@@ -6,6 +6,7 @@ mod answer;
 mod bounds;
 mod commit;
 mod compute;
+mod crew;
 mod dispatch;
 mod floor;
 mod gate;

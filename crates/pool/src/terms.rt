@@ -6,6 +6,7 @@ ghost use Rattle.pool.specs.Terms.{AreReady, GivesBack};
 use crate::answer::Refusal;
 use crate::bounds::Bounds;
 use crate::commit::Committer;
+use crate::crew::Crew;
 use crate::dispatch::{Begin, Dispatcher, Left};
 use crate::floor::Floor;
 use crate::gate::Gate;
@@ -49,58 +50,54 @@ fn in_threads<
     G: Gate + Sync,
     R: Threads + Wait + Sync,
 >(
-    wait: &'x R,
-    floor: &'x Floor<K>,
-    core: &'x Core,
-    gate: &'x G,
+    crew: &'x Crew<'x, K, G, R>,
     units: u32,
     dispatcher: Dispatcher<P>,
     unit: UnitSeat,
     count: WorkerSeat,
     committer: &'c mut Committer<J, K>,
 ) -> (&'c mut Committer<J, K>, Option<Given<P>>)
-    requires ready { AreReady floor.now.hints.ring core.now dispatcher.begin
+    requires ready { AreReady crew.now.floor.now.hints.ring crew.now.core.now dispatcher.begin
         dispatcher.seat unit committer.old.back.core }
-    requires front_count { dispatcher.count.of ≡ floor.now.counts }
-    requires count { count.of ≡ floor.now.counts }
-    requires counts { floor.now.counts ≡ K.counts }
+    requires front_count { dispatcher.count.of ≡ crew.now.floor.now.counts }
+    requires count { count.of ≡ crew.now.floor.now.counts }
     requires begun { committer.old.over ≡ Err Refusal.Thread }
     requires units { units ≤ 64 }
-    ensures core { result.0.now.back.core ≡ core.now }
+    ensures core { result.0.now.back.core ≡ crew.now.core.now }
     ensures may { IfSome result.1 (λ given. IsAtRest result.0.now) }
-    ensures left { IfSome result.1 (λ given. GivesBack core.now given.left.seat given.left.still) }
-    ensures unit { IfSome result.1 (λ given. given.unit.core ≡ core.now) }
+    ensures left { IfSome result.1 (λ given.
+        GivesBack crew.now.core.now given.left.seat given.left.still) }
+    ensures unit { IfSome result.1 (λ given. given.unit.core ≡ crew.now.core.now) }
 {
     thread::scope(
         thread::scope_env(),
-        wait,
+        crew.wait,
         move |scope| -> (&mut Committer<J, K>, Option<Given<P>>)
-            requires ready { AreReady floor.now.hints.ring core.now
+            requires ready { AreReady crew.now.floor.now.hints.ring crew.now.core.now
                 dispatcher.begin dispatcher.seat unit committer.now.back.core }
-            requires front_count { dispatcher.count.of ≡ floor.now.counts }
-            requires count { count.of ≡ floor.now.counts }
-            requires counts { floor.now.counts ≡ K.counts }
+            requires front_count { dispatcher.count.of ≡ crew.now.floor.now.counts }
+            requires count { count.of ≡ crew.now.floor.now.counts }
             requires begun { committer.now.over ≡ Err Refusal.Thread }
             requires units { units ≤ 64 }
-            ensures core { result.0.now.back.core ≡ core.entry.now }
+            ensures core { result.0.now.back.core ≡ crew.entry.now.core.now }
             ensures may { IfSome result.1 (λ given. IsAtRest result.0.now) }
             ensures left { IfSome result.1 (λ given.
-                GivesBack core.entry.now given.left.seat given.left.still) }
-            ensures unit { IfSome result.1 (λ given. given.unit.core ≡ core.entry.now) }
+                GivesBack crew.entry.now.core.now given.left.seat given.left.still) }
+            ensures unit { IfSome result.1 (λ given. given.unit.core ≡ crew.entry.now.core.now) }
         {
-            let Some(dispatching) = start_dispatch(wait, scope, floor, core, dispatcher) else {
+            let Some(dispatching) = start_dispatch(scope, crew, dispatcher) else {
                 return (committer, None);
             };
-            let started = start_units(wait, scope, floor, core, gate, units, unit, count);
+            let started = start_units(scope, crew, units, unit, count);
             let Some(unit) = started else {
-                floor.close();
+                crew.floor.close();
                 return (committer, None);
             };
-            if !committer.run(wait, floor, core, gate) {
-                floor.close();
+            if !committer.run(crew) {
+                crew.floor.close();
                 return (committer, None);
             }
-            let given = match dispatching.join(wait) {
+            let given = match dispatching.join(crew.wait) {
                 Some(left) => Some(Given { left, unit }),
                 None => None,
             };
@@ -154,9 +151,13 @@ fn run_term<
         count: front_count,
         left: turns,
     };
-    let (committer, given) = in_threads(
-        wait, floor, &core, gate, units, dispatcher, unit, unit_count, committer,
-    );
+    let crew = Crew {
+        wait,
+        floor,
+        core: &core,
+        gate,
+    };
+    let (committer, given) = in_threads(&crew, units, dispatcher, unit, unit_count, committer);
     let Some(Given { left, unit }) = given else {
         return (committer, None);
     };

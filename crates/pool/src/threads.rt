@@ -2,7 +2,9 @@
 ghost use Rattle.std.specs.Prelude.{◌≡◌, ◌<◌, ◌≤◌, IfSome};
 ghost use Rattle.pool.specs.Terms.{Begins, GivesBack};
 
+use crate::bounds::Bounds;
 use crate::compute::{Worker, work};
+use crate::crew::Crew;
 use crate::dispatch::{Dispatcher, Left, dispatch};
 use crate::floor::Floor;
 use crate::gate::Gate;
@@ -51,48 +53,43 @@ pub(crate) type Leaving<P> = PromisedHandle<Option<Left<P>>, Leaves>;
 pub(crate) fn start_dispatch<
     's,
     E: 's,
-    K: Ring + Send + Sync + 's,
+    K: Bounds + Ring + Send + Sync + 's,
     P: Predictor + Drop + Send + 's,
+    G: Sync + 's,
     R: Wait + Sync + 's,
 >(
-    wait: &'s R,
     scope: &Scope<'s, E>,
-    floor: &'s Floor<K>,
-    core: &'s Core,
+    crew: &'s Crew<'s, K, G, R>,
     dispatcher: Dispatcher<P>,
 ) -> Option<Leaving<P>>
-    requires begins { Begins core.now dispatcher.begin dispatcher.seat }
-    requires count { dispatcher.count.of ≡ floor.now.counts }
-    requires hints { floor.now.hints.ring ≡ core.now.sizes.ring }
-    ensures { IfSome result (λ thread. thread.promise.0.value ≡ core.now) }
+    requires begins { Begins crew.now.core.now dispatcher.begin dispatcher.seat }
+    requires count { dispatcher.count.of ≡ crew.now.floor.now.counts }
+    ensures { IfSome result (λ thread. thread.promise.0.value ≡ crew.now.core.now) }
 {
-    let promise = Leaves(Snapshot::of(core));
+    let promise = Leaves(Snapshot::of(crew.core));
     let job = move || -> Option<Left<P>>
-        requires begins { Begins core.now dispatcher.begin dispatcher.seat }
-        requires count { dispatcher.count.of ≡ floor.now.counts }
-        requires hints { floor.now.hints.ring ≡ core.now.sizes.ring }
-        ensures { IfSome result (λ left. GivesBack core.entry.now left.seat left.still) }
-    { dispatch(wait, floor, core, dispatcher) };
+        requires begins { Begins crew.now.core.now dispatcher.begin dispatcher.seat }
+        requires count { dispatcher.count.of ≡ crew.now.floor.now.counts }
+        ensures { IfSome result (λ left.
+            GivesBack crew.entry.now.core.now left.seat left.still) }
+    { dispatch(crew, dispatcher) };
     scope.spawn_with(promise, job).ok()
 }
 
-fn start_unit<'s, E: 's, K: Ring + Send + Sync + 's, G: Gate + Sync + 's, R: Wait + Sync + 's>(
-    wait: &'s R,
-    scope: &Scope<'s, E>,
-    floor: &'s Floor<K>,
-    core: &'s Core,
-    gate: &'s G,
-    worker: Worker,
-) -> bool
-    requires core { worker.seat.core ≡ core.now }
-    requires count { worker.count.of ≡ floor.now.counts }
-    requires hints { floor.now.hints.ring ≡ core.now.sizes.ring }
+fn start_unit<
+    's,
+    E: 's,
+    K: Bounds + Ring + Send + Sync + 's,
+    G: Gate + Sync + 's,
+    R: Wait + Sync + 's,
+>(scope: &Scope<'s, E>, crew: &'s Crew<'s, K, G, R>, worker: Worker) -> bool
+    requires core { worker.seat.core ≡ crew.now.core.now }
+    requires count { worker.count.of ≡ crew.now.floor.now.counts }
 {
     let job = move ||
-        requires core { worker.seat.core ≡ core.now }
-        requires count { worker.count.of ≡ floor.now.counts }
-        requires hints { floor.now.hints.ring ≡ core.now.sizes.ring }
-    { work(wait, floor, core, gate, worker) };
+        requires core { worker.seat.core ≡ crew.now.core.now }
+        requires count { worker.count.of ≡ crew.now.floor.now.counts }
+    { work(crew, worker) };
     scope.spawn(job).is_ok()
 }
 
@@ -100,30 +97,26 @@ fn start_unit<'s, E: 's, K: Ring + Send + Sync + 's, G: Gate + Sync + 's, R: Wai
 pub(crate) fn start_units<
     's,
     E: 's,
-    K: Ring + Send + Sync + 's,
+    K: Bounds + Ring + Send + Sync + 's,
     G: Gate + Sync + 's,
     R: Wait + Sync + 's,
 >(
-    wait: &'s R,
     scope: &Scope<'s, E>,
-    floor: &'s Floor<K>,
-    core: &'s Core,
-    gate: &'s G,
+    crew: &'s Crew<'s, K, G, R>,
     units: u32,
     seat: UnitSeat,
     count: WorkerSeat,
 ) -> Option<UnitSeat>
-    requires core { seat.core ≡ core.now }
-    requires count { count.of ≡ floor.now.counts }
-    requires hints { floor.now.hints.ring ≡ core.now.sizes.ring }
+    requires core { seat.core ≡ crew.now.core.now }
+    requires count { count.of ≡ crew.now.floor.now.counts }
     requires units { units ≤ 64 }
-    ensures { IfSome result (λ rest. rest.core ≡ core.now) }
+    ensures { IfSome result (λ rest. rest.core ≡ crew.now.core.now) }
 {
     let mut rest = seat;
     let mut all = count;
     for unit in 0..units {
-        let (own, others) = core.split(rest);
-        let (count, counts) = floor.counts.split_workers(all);
+        let (own, others) = crew.core.split(rest);
+        let (count, counts) = crew.floor.counts.split_workers(all);
         rest = others;
         all = counts;
         let worker = Worker {
@@ -131,7 +124,7 @@ pub(crate) fn start_units<
             seat: own,
             count,
         };
-        if !start_unit(wait, scope, floor, core, gate, worker) {
+        if !start_unit(scope, crew, worker) {
             return None;
         }
     }
