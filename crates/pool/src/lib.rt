@@ -12,6 +12,7 @@ mod floor;
 mod gate;
 mod gathered;
 mod hinting;
+mod making;
 mod rest;
 mod running;
 mod search;

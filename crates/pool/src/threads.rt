@@ -4,9 +4,8 @@ ghost use Rattle.pool.specs.Terms.{Begins, GivesBack};
 
 use crate::bounds::Bounds;
 use crate::compute::{Worker, work};
-use crate::crew::Crew;
+use crate::crew::{Crew, Hall};
 use crate::dispatch::{Dispatcher, Left, dispatch};
-use crate::floor::Floor;
 use crate::gate::Gate;
 use crate::watch::watch;
 use back::{Naming, Snapper};
@@ -103,18 +102,16 @@ pub(crate) fn start_units<
 >(
     scope: &Scope<'s, E>,
     crew: &'s Crew<'s, K, G, R>,
-    units: u32,
     seat: UnitSeat,
     count: WorkerSeat,
 ) -> Option<UnitSeat>
     requires core { seat.core ≡ crew.now.core.now }
     requires count { count.of ≡ crew.now.floor.now.counts }
-    requires units { units ≤ 64 }
     ensures { IfSome result (λ rest. rest.core ≡ crew.now.core.now) }
 {
     let mut rest = seat;
     let mut all = count;
-    for unit in 0..units {
+    for unit in 0..crew.floor.units {
         let (own, others) = crew.core.split(rest);
         let (count, counts) = crew.floor.counts.split_workers(all);
         rest = others;
@@ -135,31 +132,22 @@ pub(crate) fn start_units<
 pub(crate) fn start_snappers<
     's,
     E: 's,
-    K: Ring + Send + Sync + 's,
+    K: Bounds + Ring + Send + Sync + 's,
     J: Naming + Send + Sync + 's,
     G: Gate + Sync + 's,
     R: Wait + Sync + 's,
->(
-    wait: &'s R,
-    scope: &Scope<'s, E>,
-    floor: &'s Floor<K>,
-    gate: &'s G,
-    places: u32,
-    mut first: Snapper<J>,
-) -> bool
+>(scope: &Scope<'s, E>, hall: &'s Hall<'s, K, G, R>, places: u32, mut first: Snapper<J>) -> bool
     requires { places ≤ 64 }
 {
     for place in 1..places {
         if let Ok(snapper) = first.another() {
             let job = move ||
                 requires { place < 64 }
-            { watch(wait, floor, gate, place + 1, snapper) };
+            { watch(hall, place + 1, snapper) };
             if scope.spawn(job).is_err() {
                 return false;
             }
         }
     }
-    scope
-        .spawn(move || watch(wait, floor, gate, 1, first))
-        .is_ok()
+    scope.spawn(move || watch(hall, 1, first)).is_ok()
 }
