@@ -1,5 +1,5 @@
 //! Runs a program in threads, and joins them.
-ghost use Rattle.std.specs.Prelude.{◌≡◌, ◌≤◌, Err, IfOk};
+ghost use Rattle.std.specs.Prelude.{◌≡◌, IfOk};
 ghost use Rattle.counts.specs.Shares.{all_parts};
 ghost use Rattle.pool.specs.Making.{HasRun, IsMade};
 ghost use Rattle.pool.specs.Runs.{IsLimit, RunIsRight, IsWithinLimit, LeavesTurns, TakesTurns, TellsRenewals};
@@ -51,17 +51,15 @@ fn in_threads<
     first: Snapper<J>,
     committer: &'x mut Committer<J, K>,
 )
-    requires ready { IsReady hall.now.floor.now.hints.ring hall.now.floor.now.counts
+    requires { IsReady hall.now.floor.now.hints.ring hall.now.floor.now.counts
         term committer.old }
-    requires places { places ≤ 64 }
 {
     thread::scope(
         thread::scope_env(),
         hall.wait,
         move |scope|
-            requires ready { IsReady hall.now.floor.now.hints.ring hall.now.floor.now.counts
+            requires { IsReady hall.now.floor.now.hints.ring hall.now.floor.now.counts
                 term committer.now }
-            requires places { places ≤ 64 }
         {
             if start_snappers(scope, hall, places, first) {
                 run_terms(hall, alloc, term, committer);

@@ -1,5 +1,5 @@
 //! Starts the threads of a run.
-ghost use Rattle.std.specs.Prelude.{◌≡◌, ◌<◌, ◌≤◌, IfSome};
+ghost use Rattle.std.specs.Prelude.{◌≡◌, ◌≤◌, IfSome};
 ghost use Rattle.pool.specs.Terms.{Begins, GivesBack};
 
 use crate::bounds::Bounds;
@@ -128,6 +128,17 @@ pub(crate) fn start_units<
     Some(rest)
 }
 
+fn start_snapper<
+    's,
+    E: 's,
+    K: Bounds + Ring + Send + Sync + 's,
+    J: Naming + Send + Sync + 's,
+    G: Gate + Sync + 's,
+    R: Wait + Sync + 's,
+>(scope: &Scope<'s, E>, hall: &'s Hall<'s, K, G, R>, place: u32, snapper: Snapper<J>) -> bool {
+    scope.spawn(move || watch(hall, place, snapper)).is_ok()
+}
+
 /// Starts the snapshot threads. A place that gives no snapper has none.
 pub(crate) fn start_snappers<
     's,
@@ -136,18 +147,13 @@ pub(crate) fn start_snappers<
     J: Naming + Send + Sync + 's,
     G: Gate + Sync + 's,
     R: Wait + Sync + 's,
->(scope: &Scope<'s, E>, hall: &'s Hall<'s, K, G, R>, places: u32, mut first: Snapper<J>) -> bool
-    requires { places ≤ 64 }
-{
+>(scope: &Scope<'s, E>, hall: &'s Hall<'s, K, G, R>, places: u32, mut first: Snapper<J>) -> bool {
     for place in 1..places {
         if let Ok(snapper) = first.another() {
-            let job = move ||
-                requires { place < 64 }
-            { watch(hall, place + 1, snapper) };
-            if scope.spawn(job).is_err() {
+            if !start_snapper(scope, hall, place + 1, snapper) {
                 return false;
             }
         }
     }
-    scope.spawn(move || watch(hall, 1, first)).is_ok()
+    start_snapper(scope, hall, 1, first)
 }
