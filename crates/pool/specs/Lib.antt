@@ -1,5 +1,6 @@
 pub mod Committing
 pub mod HintsPut
+pub mod Making
 pub mod Runs
 pub mod Terms
 pub mod Turns

@@ -10,5 +10,4 @@ use Rattle.station.specs.Seats.{TheCore}
 pub record Works (core : TheCore) (counts : TableId) (hints : TheHints) (unit : Unit) : Type 0 where
   pub core_is : unit.seat.core ≡ core
   pub count_is : unit.count.seat.of ≡ counts
-  pub ring_is : hints.ring ≡ core.sizes.ring
   pub searches : Searches hints unit.search

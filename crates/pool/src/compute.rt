@@ -6,7 +6,8 @@ ghost use Rattle.pool.specs.Units.{Works};
 ghost use Rattle.station.specs.Claiming.{ClaimAnswers, Holds};
 ghost use Rattle.station.specs.Seats.{IsSameSeat};
 
-use crate::floor::Floor;
+use crate::bounds::Bounds;
+use crate::crew::Crew;
 use crate::gate::Gate;
 use crate::gathered::Gathered;
 use crate::hinting::hint_each;
@@ -48,13 +49,18 @@ fn compute(core: &Core, seat: &mut UnitSeat, job: Job) -> Finish
 
 // Waits while the gate holds the unit and it has turns left, and says how many it has then. Another unit
 // works meanwhile.
-fn wait_at<K: Ring, G: Gate>(floor: &Floor<K>, gate: &G, unit: u32, station: u32, turns: u32) -> u32
+fn wait_at<K: Bounds + Ring, G: Gate, R>(
+    crew: &Crew<'_, K, G, R>,
+    unit: u32,
+    station: u32,
+    turns: u32,
+) -> u32
     ensures { result ≤ turns }
 {
     let mut left = turns;
-    while gate.held(unit, station) && 0 < left && !floor.is_over() {
+    while crew.gate.held(unit, station) && 0 < left && !crew.floor.is_over() {
         if left == turns {
-            floor.call(1);
+            crew.floor.call(1);
         }
         left -= 1;
         yield_now();
@@ -83,81 +89,87 @@ pub(crate) struct Unit {
 }
 
 // The unit goes to work.
-fn enter<K: Ring>(floor: &Floor<K>, core: &Core, worker: Worker) -> Unit
-    requires core { worker.seat.core ≡ core.now }
-    requires count { worker.count.of ≡ floor.now.counts }
-    requires hints { floor.now.hints.ring ≡ core.now.sizes.ring }
-    ensures { Works core.now floor.now.counts floor.now.hints result }
+fn enter<K: Bounds + Ring, G, R>(crew: &Crew<'_, K, G, R>, worker: Worker) -> Unit
+    requires core { worker.seat.core ≡ crew.now.core.now }
+    requires count { worker.count.of ≡ crew.now.floor.now.counts }
+    ensures { Works crew.now.core.now crew.now.floor.now.counts crew.now.floor.now.hints result }
 {
     let Worker { unit, seat, count } = worker;
     Unit {
         number: unit,
         seat,
         count: Gathered::new(count),
-        search: Search::new(&floor.hints),
-        rest: Rest::after(core.ring() as u32 / 2),
+        search: Search::new(&crew.floor.hints),
+        rest: Rest::after(crew.core.ring() as u32 / 2),
         row: 0,
     }
 }
 
 // Counts the claim of a job, and whether its station came as a hint. Where it has found work as often as the queue
 // takes hints, and never looked in vain without one, there is enough for another unit.
-fn count_claim<K: Ring>(floor: &Floor<K>, core: &Core, unit: &mut Unit, candidate: Candidate)
-    requires { Works core.now floor.now.counts floor.now.hints unit.old }
+fn count_claim<K: Bounds + Ring, G, R>(
+    crew: &Crew<'_, K, G, R>,
+    unit: &mut Unit,
+    candidate: Candidate,
+)
+    requires { Works crew.now.core.now crew.now.floor.now.counts crew.now.floor.now.hints unit.old }
     ensures seat { unit.new.seat ≡ unit.old.seat }
-    ensures works { Works core.now floor.now.counts floor.now.hints unit.new }
+    ensures works { Works crew.now.core.now crew.now.floor.now.counts
+        crew.now.floor.now.hints unit.new }
 {
     unit.rest.begin_again();
-    unit.count.count(&floor.counts, Total::Claims, 1);
+    unit.count.count(&crew.floor.counts, Total::Claims, 1);
     if let Candidate::Hinted(_) = candidate {
-        unit.count.count(&floor.counts, Total::Hints, 1);
+        unit.count.count(&crew.floor.counts, Total::Hints, 1);
     }
-    if unit.row < 2 * core.ring() {
+    if unit.row < 2 * crew.core.ring() {
         unit.row += 1;
     } else {
         unit.row = 0;
-        floor.call_for_work();
+        crew.floor.call_for_work();
     }
 }
 
 // Finishes a job, counts that, and hints whom its result woke.
-fn finish<K: Ring, R: Wait>(wait: &R, floor: &Floor<K>, core: &Core, unit: &mut Unit, job: Job)
-    requires works { Works core.now floor.now.counts floor.now.hints unit.old }
-    requires job { Holds core.now.program core.now.sizes unit.old.seat.by unit.old.seat.seen job }
-    requires legal { IsLegal core.now.program core.now.sizes unit.old.seat.seen }
-    ensures { Works core.now floor.now.counts floor.now.hints unit.new }
+fn finish<K: Bounds + Ring, G, R: Wait>(crew: &Crew<'_, K, G, R>, unit: &mut Unit, job: Job)
+    requires works { Works crew.now.core.now crew.now.floor.now.counts
+        crew.now.floor.now.hints unit.old }
+    requires job { Holds crew.now.core.now.program crew.now.core.now.sizes
+        unit.old.seat.by unit.old.seat.seen job }
+    requires legal { IsLegal crew.now.core.now.program crew.now.core.now.sizes unit.old.seat.seen }
+    ensures { Works crew.now.core.now crew.now.floor.now.counts crew.now.floor.now.hints unit.new }
 {
-    if let Finish::Stale = compute(core, &mut unit.seat, job) {
-        unit.count.count(&floor.counts, Total::Stale, 1);
+    if let Finish::Stale = compute(crew.core, &mut unit.seat, job) {
+        unit.count.count(&crew.floor.counts, Total::Stale, 1);
         return;
     }
-    unit.count.count(&floor.counts, Total::Finishes, 1);
+    unit.count.count(&crew.floor.counts, Total::Finishes, 1);
     let woken = unit.seat.woken();
     hint_each(
-        wait,
-        &floor.hints,
+        crew.wait,
+        &crew.floor.hints,
         &mut unit.search.hinter,
-        core.ring(),
+        crew.core.ring(),
         woken,
     );
 }
 
 // One turn, and as many more as the gate holds the unit: claims one station, and finishes the job that it gets.
 // Without one it rests.
-fn turn<K: Ring, G: Gate, R: Wait>(
-    wait: &R,
-    floor: &Floor<K>,
-    core: &Core,
-    gate: &G,
+fn turn<K: Bounds + Ring, G: Gate, R: Wait>(
+    crew: &Crew<'_, K, G, R>,
     unit: &mut Unit,
     left: u32,
 ) -> u32
-    requires { Works core.now floor.now.counts floor.now.hints unit.old }
-    ensures works { Works core.now floor.now.counts floor.now.hints unit.new }
+    requires { Works crew.now.core.now crew.now.floor.now.counts crew.now.floor.now.hints unit.old }
+    ensures works { Works crew.now.core.now crew.now.floor.now.counts
+        crew.now.floor.now.hints unit.new }
     ensures left { result ≤ left }
 {
-    let candidate = unit.search.next(wait, &floor.hints, core.ring());
-    let job = match claim(core, &mut unit.seat, candidate) {
+    let candidate = unit
+        .search
+        .next(crew.wait, &crew.floor.hints, crew.core.ring());
+    let job = match claim(crew.core, &mut unit.seat, candidate) {
         Claim::Job(job) => job,
         Claim::NotOpen | Claim::Waiting { tag: _, k: _ } | Claim::Moved { tag: _ } => {
             if let Candidate::Next(_) = candidate {
@@ -167,34 +179,28 @@ fn turn<K: Ring, G: Gate, R: Wait>(
             return left;
         }
     };
-    count_claim(floor, core, unit, candidate);
-    let left = wait_at(floor, gate, unit.number, candidate.station() as u32, left);
-    finish(wait, floor, core, unit, job);
+    count_claim(crew, unit, candidate);
+    let left = wait_at(crew, unit.number, candidate.station() as u32, left);
+    finish(crew, unit, job);
     left
 }
 
 /// Looks for work at the stations that are hinted, and without a hint in ring order, one a turn, and finishes what
 /// it has claimed. It rests until it is called, calls another when it has no turn left,
 /// and keeps those that it has left when the term is over.
-pub(crate) fn work<K: Ring, G: Gate, R: Wait>(
-    wait: &R,
-    floor: &Floor<K>,
-    core: &Core,
-    gate: &G,
-    worker: Worker,
-)
-    requires core { worker.seat.core ≡ core.now }
-    requires count { worker.count.of ≡ floor.now.counts }
-    requires hints { floor.now.hints.ring ≡ core.now.sizes.ring }
+pub(crate) fn work<K: Bounds + Ring, G: Gate, R: Wait>(crew: &Crew<'_, K, G, R>, worker: Worker)
+    requires core { worker.seat.core ≡ crew.now.core.now }
+    requires count { worker.count.of ≡ crew.now.floor.now.counts }
 {
+    let floor = crew.floor;
     let number = worker.unit;
-    if !floor.is_called(wait, number) {
+    if !floor.is_called(crew.wait, number) {
         return;
     }
-    let mut unit = enter(floor, core, worker);
+    let mut unit = enter(crew, worker);
     let mut left = floor.turns_left(number);
     while 0 < left && !floor.is_over() {
-        left = turn(wait, floor, core, gate, &mut unit, left - 1);
+        left = turn(crew, &mut unit, left - 1);
     }
     unit.count.add(&floor.counts);
     floor.keep_turns(number, left);

@@ -5,7 +5,8 @@ ghost use Rattle.hints.specs.Hinted.{IsEndOf};
 ghost use Rattle.pool.specs.Terms.{Begins, GivesBack};
 ghost use Rattle.pool.specs.declared.dispatch.Stepped.TheVariants.{Rested};
 
-use crate::floor::Floor;
+use crate::bounds::Bounds;
+use crate::crew::Crew;
 use crate::gathered::Gathered;
 use crate::rest::Rest;
 use counts::{Total, WorkerSeat};
@@ -29,31 +30,28 @@ enum Stepped {
 
 // Lets the next instruction, and hints its station. Where the tags of the station are spent it looks whether
 // anybody is live.
-fn let_next<K: Ring, P: Predictor + Drop, R: Wait>(
-    wait: &R,
-    floor: &Floor<K>,
-    core: &Core,
+fn let_next<K: Bounds + Ring, P: Predictor + Drop, G, R: Wait>(
+    crew: &Crew<'_, K, G, R>,
     front: &mut Front<P>,
     count: &mut Gathered,
     hinter: &mut Hinter,
 ) -> Stepped
-    requires core { front.old.core ≡ core.now }
-    requires count { count.old.seat.of ≡ floor.now.counts }
-    requires hints { floor.now.hints.ring ≡ core.now.sizes.ring }
-    requires hinter { IsEndOf floor.now.hints hinter.old }
-    ensures core { front.new.core ≡ core.now }
-    ensures count { count.new.seat.of ≡ floor.now.counts }
-    ensures hinter { IsEndOf floor.now.hints hinter.new }
+    requires core { front.old.core ≡ crew.now.core.now }
+    requires count { count.old.seat.of ≡ crew.now.floor.now.counts }
+    requires hinter { IsEndOf crew.now.floor.now.hints hinter.old }
+    ensures core { front.new.core ≡ crew.now.core.now }
+    ensures count { count.new.seat.of ≡ crew.now.floor.now.counts }
+    ensures hinter { IsEndOf crew.now.floor.now.hints hinter.new }
     ensures rested { result ≡ Rested → front.new.rested ≡ true }
 {
-    let _ring = core.ring();
-    match front.turn(core) {
+    let _ring = crew.core.ring();
+    match front.turn(crew.core) {
         Turn::Let { station, .. } => {
-            count.count(&floor.counts, Total::Lets, 1);
-            floor.hints.push(wait, hinter, station as u32);
+            count.count(&crew.floor.counts, Total::Lets, 1);
+            crew.floor.hints.push(crew.wait, hinter, station as u32);
             Stepped::Worked
         }
-        Turn::Spent => match front.rest(core) {
+        Turn::Spent => match front.rest(crew.core) {
             Rests::Idle => Stepped::Rested,
             Rests::Live => Stepped::Idle,
         },
@@ -62,29 +60,26 @@ fn let_next<K: Ring, P: Predictor + Drop, R: Wait>(
 }
 
 // One recovery, and one let where there is no miss.
-fn step<K: Ring, P: Predictor + Drop, R: Wait>(
-    wait: &R,
-    floor: &Floor<K>,
-    core: &Core,
+fn step<K: Bounds + Ring, P: Predictor + Drop, G, R: Wait>(
+    crew: &Crew<'_, K, G, R>,
     front: &mut Front<P>,
     count: &mut Gathered,
     hinter: &mut Hinter,
 ) -> Stepped
-    requires core { front.old.core ≡ core.now }
-    requires count { count.old.seat.of ≡ floor.now.counts }
-    requires hints { floor.now.hints.ring ≡ core.now.sizes.ring }
-    requires hinter { IsEndOf floor.now.hints hinter.old }
-    ensures core { front.new.core ≡ core.now }
-    ensures count { count.new.seat.of ≡ floor.now.counts }
-    ensures hinter { IsEndOf floor.now.hints hinter.new }
+    requires core { front.old.core ≡ crew.now.core.now }
+    requires count { count.old.seat.of ≡ crew.now.floor.now.counts }
+    requires hinter { IsEndOf crew.now.floor.now.hints hinter.old }
+    ensures core { front.new.core ≡ crew.now.core.now }
+    ensures count { count.new.seat.of ≡ crew.now.floor.now.counts }
+    ensures hinter { IsEndOf crew.now.floor.now.hints hinter.new }
     ensures rested { result ≡ Rested → front.new.rested ≡ true }
 {
-    if let Recovery::Mended { squashed, .. } = front.recover(core) {
-        count.count(&floor.counts, Total::Squashes, squashed as u64);
-        count.count(&floor.counts, Total::Mends, 1);
+    if let Recovery::Mended { squashed, .. } = front.recover(crew.core) {
+        count.count(&crew.floor.counts, Total::Squashes, squashed as u64);
+        count.count(&crew.floor.counts, Total::Mends, 1);
         return Stepped::Worked;
     }
-    let_next(wait, floor, core, front, count, hinter)
+    let_next(crew, front, count, hinter)
 }
 
 /// How the front of a term begins.
@@ -137,35 +132,33 @@ fn leave<P: Predictor + Drop>(core: &Core, front: Front<P>, turns: u32) -> Left<
 
 /// Lets instructions out, and recovers from misses. Where the tags of a station are spent and nobody is live, the
 /// term is over, and the front leaves.
-pub(crate) fn dispatch<K: Ring, P: Predictor + Drop, R: Wait>(
-    wait: &R,
-    floor: &Floor<K>,
-    core: &Core,
+pub(crate) fn dispatch<K: Bounds + Ring, P: Predictor + Drop, G, R: Wait>(
+    crew: &Crew<'_, K, G, R>,
     dispatcher: Dispatcher<P>,
 ) -> Option<Left<P>>
-    requires begins { Begins core.now dispatcher.begin dispatcher.seat }
-    requires count { dispatcher.count.of ≡ floor.now.counts }
-    requires hints { floor.now.hints.ring ≡ core.now.sizes.ring }
-    ensures { IfSome result (λ left. GivesBack core.now left.seat left.still) }
+    requires begins { Begins crew.now.core.now dispatcher.begin dispatcher.seat }
+    requires count { dispatcher.count.of ≡ crew.now.floor.now.counts }
+    ensures { IfSome result (λ left. GivesBack crew.now.core.now left.seat left.still) }
 {
+    let floor = crew.floor;
     let Dispatcher {
         seat,
         begin,
         count,
         left,
     } = dispatcher;
-    let mut front = enter(core, seat, begin);
+    let mut front = enter(crew.core, seat, begin);
     let mut count = Gathered::new(count);
     let mut hinter = floor.hints.hinter();
     let mut rest = Rest::after(PATIENCE);
     for taken in 0..left {
-        match step(wait, floor, core, &mut front, &mut count, &mut hinter) {
+        match step(crew, &mut front, &mut count, &mut hinter) {
             Stepped::Worked => rest.begin_again(),
             Stepped::Idle => rest.rest(),
             Stepped::Rested => {
                 count.add(&floor.counts);
                 floor.rest();
-                return Some(leave(core, front, left - 1 - taken));
+                return Some(leave(crew.core, front, left - 1 - taken));
             }
         }
         if floor.is_closed() {

@@ -1,4 +1,6 @@
 //! What the threads of one run share.
+ghost use Rattle.std.specs.Prelude.{◌≤◌};
+
 use counts::Counts;
 use hints::{Hints, Ring};
 use instructions::Memory;
@@ -12,6 +14,7 @@ use std::sync::atomic::{AtomicBool, AtomicU32, AtomicU64};
 pub(crate) struct Floor<K: Ring> {
     pub counts: Counts,
     pub hints: Hints<K>,
+    pub units: u32,
     pub turns: u32,
     closed: AtomicBool,
     // tags are spent and nobody is live: the core is to be renewed
@@ -24,6 +27,7 @@ pub(crate) struct Floor<K: Ring> {
     most: AtomicU64,
     // the turns that each unit has left
     left: Vec<AtomicU32>,
+    pub ghost few: { units ≤ 64 },
 }
 
 // So many units, none of which has taken a turn.
@@ -45,6 +49,7 @@ impl<K: Ring> Floor<K> {
         units: u32,
         turns: u32,
     ) -> Result<Self, Memory>
+        requires { units ≤ 64 }
         ensures counts { IfOk result (λ floor. floor.counts ≡ counts) }
         ensures hints { IfOk result (λ floor. floor.hints ≡ hints) }
     {
@@ -52,6 +57,7 @@ impl<K: Ring> Floor<K> {
         Ok(Floor {
             counts,
             hints,
+            units,
             turns,
             closed: AtomicBool::new(false),
             rested: AtomicBool::new(false),

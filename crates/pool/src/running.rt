@@ -1,29 +1,39 @@
 //! Runs a program in threads, and joins them.
-ghost use Rattle.std.specs.Prelude.{◌≡◌, Err, IfOk};
-ghost use Rattle.back.specs.Backs.{HasRetiredNothing, IsNewBack};
+ghost use Rattle.std.specs.Prelude.{◌≡◌, IfOk};
 ghost use Rattle.counts.specs.Shares.{all_parts};
+ghost use Rattle.pool.specs.Making.{HasRun, IsMade};
 ghost use Rattle.pool.specs.Runs.{IsLimit, RunIsRight, IsWithinLimit, LeavesTurns, TakesTurns, TellsRenewals};
-ghost use Rattle.pool.specs.Terms.{AreReady};
+ghost use Rattle.pool.specs.Terms.{IsReady};
 
 use crate::answer::{Refusal, Run, RunInTurns};
 use crate::bounds::Bounds;
 use crate::commit::Committer;
+use crate::crew::Hall;
 use crate::dispatch::Begin;
-use crate::floor::Floor;
 use crate::gate::Gate;
+use crate::making::{Made, make};
 use crate::terms::{Term, run_terms};
 use crate::threads::start_snappers;
 use crate::turns::Turns;
-use back::{Back, Naming, Snapper};
+use back::{Naming, Snapper};
 use counts::{CountSeat, Counts};
-use hints::{Hints, Ring};
+use hints::Ring;
 use instructions::{Config, Memory, Predictor, Program};
-use station::{BackSeat, Core};
 use std::alloc::Global;
 use std::marker::Brand;
 use std::sync::Wait;
 use std::thread;
 use std::thread::Threads;
+
+// What a run is given: how its threads wait, where it allocates, the program, how it is to run, and the gate.
+#[derive(Drop)]
+struct Task<'x, G, R> {
+    wait: &'x R,
+    alloc: Global,
+    program: &'x Program,
+    config: &'x Config,
+    gate: &'x G,
+}
 
 // Starts the snapshot threads, runs all terms, and returns when each thread has ended.
 fn in_threads<
@@ -34,117 +44,104 @@ fn in_threads<
     G: Gate + Sync,
     R: Threads + Wait + Sync,
 >(
-    wait: &'x R,
+    hall: &'x Hall<'x, K, G, R>,
     alloc: Global,
-    floor: &'x Floor<K>,
-    gate: &'x G,
-    config: Config,
+    places: u32,
     term: Term<P>,
     first: Snapper<J>,
     committer: &'x mut Committer<J, K>,
 )
-    requires ready { AreReady floor.now.hints.ring term.core term.begin term.seat
-        term.unit committer.old.back.core }
-    requires count { term.count.of ≡ floor.now.counts }
-    requires counts { floor.now.counts ≡ K.counts }
-    requires begun { committer.old.over ≡ Err Refusal.Thread }
+    requires { IsReady hall.now.floor.now.hints.ring hall.now.floor.now.counts
+        term committer.old }
 {
     thread::scope(
         thread::scope_env(),
-        wait,
+        hall.wait,
         move |scope|
-            requires ready { AreReady floor.now.hints.ring term.core term.begin
-                term.seat term.unit committer.now.back.core }
-            requires count { term.count.of ≡ floor.now.counts }
-            requires counts { floor.now.counts ≡ K.counts }
-            requires begun { committer.now.over ≡ Err Refusal.Thread }
+            requires { IsReady hall.now.floor.now.hints.ring hall.now.floor.now.counts
+                term committer.now }
         {
-            if start_snappers(wait, scope, floor, gate, config.places(), first) {
-                run_terms(wait, alloc, floor, gate, config.units(), term, committer);
+            if start_snappers(scope, hall, places, first) {
+                run_terms(hall, alloc, term, committer);
             }
-            floor.close();
+            hall.floor.close();
         },
     )
 }
 
-// The back at a core, and its first snapper.
-fn back_at<J: Naming>(
-    alloc: Global,
-    core: &Core,
-    seat: BackSeat,
-    program: &Program,
-    config: &Config,
-) -> Result<(Back<J>, Snapper<J>), Memory>
-    requires core { seat.core ≡ core.now }
-    requires program { program.now ≡ core.now.program }
-    requires named { program.now ≡ J.program }
-    requires fresh { HasRetiredNothing seat }
-    ensures { IfOk result (λ made. IsNewBack seat made.0) }
+// Runs what was made.
+fn run_made<
+    J: Naming + Send + Sync,
+    K: Bounds + Ring + Send + Sync,
+    P: Predictor + Drop + Send,
+    G: Gate + Sync,
+    R: Threads + Wait + Sync,
+>(task: &Task<'_, G, R>, made: Made<J, K>, predictor: P) -> RunInTurns
+    requires { IsMade K.counts made }
+    ensures { HasRun J.program K.limit K.turns result }
 {
-    Back::new(alloc, core, seat, program, config).map_err(|refused| refused.0)
+    let Made {
+        floor,
+        mut committer,
+        core,
+        front,
+        unit,
+        count,
+        snapper,
+    } = made;
+    let term = Term {
+        core,
+        seat: front,
+        begin: Begin::Fresh(predictor),
+        turns: task.config.turns(),
+        unit,
+        count,
+    };
+    let hall = Hall {
+        wait: task.wait,
+        floor: &floor,
+        gate: task.gate,
+    };
+    in_threads(
+        &hall,
+        task.alloc,
+        task.config.places(),
+        term,
+        snapper,
+        &mut committer,
+    );
+    committer.end(task.wait, &floor)
 }
 
 fn run_named<
-    'x,
     J: Naming + Send + Sync,
     K: Bounds + Ring + Send + Sync,
     P: Predictor + Drop + Send,
     G: Gate + Sync,
     R: Threads + Wait + Sync,
 >(
-    wait: &'x R,
-    alloc: Global,
+    task: &Task<'_, G, R>,
     counts: Counts,
     count: CountSeat,
-    program: &'x Program,
-    config: &Config,
     predictor: P,
-    gate: &'x G,
 ) -> Result<RunInTurns, Memory>
     requires counts { counts ≡ K.counts }
     requires count { count ≡ record { of = counts; shares = all_parts } }
-    requires program { program.now ≡ J.program }
-    requires limit { config.now.limit ≡ K.limit }
-    requires turns { config.now.turns ≡ K.turns }
-    requires ring { config.now.ring ≡ K.ring }
-    ensures right { IfOk result (λ r. RunIsRight J.program r.run) }
-    ensures within { IfOk result (λ r. IsWithinLimit config.now.limit r.run) }
-    ensures all { IfOk result (λ r. r.turns.all ≡ config.now.turns) }
-    ensures left { IfOk result (λ r. LeavesTurns r.turns r.renewals r.run) }
-    ensures renewals { IfOk result (λ r. TellsRenewals r.renewals r.run) }
-    ensures limit { IfOk result (λ r. IsLimit config.now.limit r.turns.left r.run) }
+    requires program { task.now.program.now ≡ J.program }
+    requires limit { task.now.config.now.limit ≡ K.limit }
+    requires turns { task.now.config.now.turns ≡ K.turns }
+    requires ring { task.now.config.now.ring ≡ K.ring }
+    ensures { IfOk result (HasRun J.program K.limit K.turns) }
 {
-    let (core, front_seat, back_seat, unit_seat) = Core::make(alloc, program, config)?;
-    let hints = Hints::<K>::new(alloc, core.ring())?;
-    let (back, snapper) = back_at::<J>(alloc, &core, back_seat, program, config)?;
-    let (back_count, workers) = counts.split_worker(count);
-    let floor = match Floor::new(alloc, counts, hints, config.units(), config.turns()) {
-        Ok(floor) => floor,
-        Err(memory) => {
-            back.end(wait);
-            return Err(memory);
-        }
-    };
-    let mut committer = Committer::<J, K>::new(back, back_count, config.limit(), config.turns());
-    let term = Term {
-        core,
-        seat: front_seat,
-        begin: Begin::Fresh(predictor),
-        turns: config.turns(),
-        unit: unit_seat,
-        count: workers,
-    };
-    in_threads(
-        wait,
-        alloc,
-        &floor,
-        gate,
-        *config,
-        term,
-        snapper,
-        &mut committer,
-    );
-    Ok(committer.end(wait, &floor))
+    let made = make::<J, K, R>(
+        task.wait,
+        task.alloc,
+        task.program,
+        task.config,
+        counts,
+        count,
+    )?;
+    Ok(run_made(task, made, predictor))
 }
 
 // What is answered where memory is wanting before a thread has begun.
@@ -176,10 +173,14 @@ pub fn run_in_turns<'x, P: Predictor + Drop + Send, G: Gate + Sync, R: Threads +
     let Ok((counts, count)) = Counts::make(alloc) else {
         return wants_memory(config);
     };
-    let result = run_named::<Brand, Brand, P, G, R>(
-        wait, alloc, counts, count, program, config, predictor, gate,
-    );
-    match result {
+    let task = Task {
+        wait,
+        alloc,
+        program,
+        config,
+        gate,
+    };
+    match run_named::<Brand, Brand, P, G, R>(&task, counts, count, predictor) {
         Ok(run) => run,
         Err(_) => wants_memory(config),
     }

@@ -1,24 +1,23 @@
 //! The terms of a run: in each, threads work at one core, and give back what they hold where that is to be renewed.
-ghost use Rattle.std.specs.Prelude.{◌≡◌, ◌≤◌, Err, IfSome};
-ghost use Rattle.pool.specs.Committing.{IsAtRest};
-ghost use Rattle.pool.specs.Terms.{AreReady, GivesBack};
+ghost use Rattle.std.specs.Prelude.{◌≡◌, IfSome};
+ghost use Rattle.pool.specs.Terms.{AreAt, Begins, IsGivenBack, IsReady, MayCommit};
 
-use crate::answer::Refusal;
 use crate::bounds::Bounds;
 use crate::commit::Committer;
+use crate::crew::{Crew, Hall};
 use crate::dispatch::{Begin, Dispatcher, Left};
 use crate::floor::Floor;
 use crate::gate::Gate;
 use crate::threads::{start_dispatch, start_units, units_at_once};
 use back::Naming;
-use counts::WorkerSeat;
+use counts::{Counts, WorkerSeat};
 use hints::Ring;
 use instructions::Predictor;
 use station::{Core, FrontSeat, UnitSeat};
 use std::alloc::Global;
 use std::sync::Wait;
 use std::thread;
-use std::thread::Threads;
+use std::thread::{Scope, Threads};
 
 /// What a term begins with: the core, its seats, the turns that the dispatch thread has left, and the seat from which
 /// those of its threads are cut that they count with.
@@ -32,6 +31,14 @@ pub(crate) struct Term<P: Predictor + Drop> {
     pub count: WorkerSeat,
 }
 
+/// What the threads of a term own: the dispatch thread its part, and the units the seats from which theirs are cut.
+#[derive(Drop)]
+pub(crate) struct Hands<P: Predictor + Drop> {
+    pub dispatcher: Dispatcher<P>,
+    pub unit: UnitSeat,
+    pub count: WorkerSeat,
+}
+
 /// What the threads of a term give back where its core is to be renewed.
 #[derive(Drop)]
 pub(crate) struct Given<P: Predictor + Drop> {
@@ -39,7 +46,50 @@ pub(crate) struct Given<P: Predictor + Drop> {
     pub unit: UnitSeat,
 }
 
-// Starts the threads of a term, commits, and returns when each thread has ended.
+// Starts the threads of a term, and commits.
+fn begin<
+    's,
+    'c,
+    E: 's,
+    J: Naming,
+    K: Bounds + Ring + Send + Sync + 's,
+    P: Predictor + Drop + Send + 's,
+    G: Gate + Sync + 's,
+    R: Threads + Wait + Sync + 's,
+>(
+    scope: &Scope<'s, E>,
+    crew: &'s Crew<'s, K, G, R>,
+    hands: Hands<P>,
+    committer: &'c mut Committer<J, K>,
+) -> (&'c mut Committer<J, K>, Option<Given<P>>)
+    requires hands { AreAt crew.now.core.now crew.now.floor.now.counts hands }
+    requires commits { MayCommit crew.now.core.now committer.old }
+    ensures { IfSome result.1 (λ given. IsGivenBack crew.now.core.now given result.0.now) }
+{
+    let Hands {
+        dispatcher,
+        unit,
+        count,
+    } = hands;
+    let Some(dispatching) = start_dispatch(scope, crew, dispatcher) else {
+        return (committer, None);
+    };
+    let Some(unit) = start_units(scope, crew, unit, count) else {
+        crew.floor.close();
+        return (committer, None);
+    };
+    if !committer.run(crew) {
+        crew.floor.close();
+        return (committer, None);
+    }
+    let given = match dispatching.join(crew.wait) {
+        Some(left) => Some(Given { left, unit }),
+        None => None,
+    };
+    (committer, given)
+}
+
+// The same, and returns when each thread has ended.
 fn in_threads<
     'x,
     'c,
@@ -49,64 +99,97 @@ fn in_threads<
     G: Gate + Sync,
     R: Threads + Wait + Sync,
 >(
-    wait: &'x R,
-    floor: &'x Floor<K>,
-    core: &'x Core,
-    gate: &'x G,
-    units: u32,
-    dispatcher: Dispatcher<P>,
-    unit: UnitSeat,
-    count: WorkerSeat,
+    crew: &'x Crew<'x, K, G, R>,
+    hands: Hands<P>,
     committer: &'c mut Committer<J, K>,
 ) -> (&'c mut Committer<J, K>, Option<Given<P>>)
-    requires ready { AreReady floor.now.hints.ring core.now dispatcher.begin
-        dispatcher.seat unit committer.old.back.core }
-    requires front_count { dispatcher.count.of ≡ floor.now.counts }
-    requires count { count.of ≡ floor.now.counts }
-    requires counts { floor.now.counts ≡ K.counts }
-    requires begun { committer.old.over ≡ Err Refusal.Thread }
-    requires units { units ≤ 64 }
-    ensures core { result.0.now.back.core ≡ core.now }
-    ensures may { IfSome result.1 (λ given. IsAtRest result.0.now) }
-    ensures left { IfSome result.1 (λ given. GivesBack core.now given.left.seat given.left.still) }
-    ensures unit { IfSome result.1 (λ given. given.unit.core ≡ core.now) }
+    requires hands { AreAt crew.now.core.now crew.now.floor.now.counts hands }
+    requires commits { MayCommit crew.now.core.now committer.old }
+    ensures { IfSome result.1 (λ given. IsGivenBack crew.now.core.now given result.0.now) }
 {
     thread::scope(
         thread::scope_env(),
-        wait,
+        crew.wait,
         move |scope| -> (&mut Committer<J, K>, Option<Given<P>>)
-            requires ready { AreReady floor.now.hints.ring core.now
-                dispatcher.begin dispatcher.seat unit committer.now.back.core }
-            requires front_count { dispatcher.count.of ≡ floor.now.counts }
-            requires count { count.of ≡ floor.now.counts }
-            requires counts { floor.now.counts ≡ K.counts }
-            requires begun { committer.now.over ≡ Err Refusal.Thread }
-            requires units { units ≤ 64 }
-            ensures core { result.0.now.back.core ≡ core.entry.now }
-            ensures may { IfSome result.1 (λ given. IsAtRest result.0.now) }
-            ensures left { IfSome result.1 (λ given.
-                GivesBack core.entry.now given.left.seat given.left.still) }
-            ensures unit { IfSome result.1 (λ given. given.unit.core ≡ core.entry.now) }
-        {
-            let Some(dispatching) = start_dispatch(wait, scope, floor, core, dispatcher) else {
-                return (committer, None);
-            };
-            let started = start_units(wait, scope, floor, core, gate, units, unit, count);
-            let Some(unit) = started else {
-                floor.close();
-                return (committer, None);
-            };
-            if !committer.run(wait, floor, core, gate) {
-                floor.close();
-                return (committer, None);
-            }
-            let given = match dispatching.join(wait) {
-                Some(left) => Some(Given { left, unit }),
-                None => None,
-            };
-            (committer, given)
-        },
+            requires hands { AreAt crew.now.core.now crew.now.floor.now.counts hands }
+            requires commits { MayCommit crew.now.core.now committer.now }
+            ensures { IfSome result.1 (λ given.
+                IsGivenBack crew.entry.now.core.now given result.0.now) }
+        { begin(scope, crew, hands, committer) },
     )
+}
+
+// A core, what the threads of its term own, and the seat from which those of the next one are cut that they count with.
+struct Staffed<P: Predictor + Drop> {
+    core: Core,
+    hands: Hands<P>,
+    count: WorkerSeat,
+}
+
+// Cuts what the threads of a term own.
+fn staff<P: Predictor + Drop>(counts: &Counts, term: Term<P>) -> Staffed<P>
+    requires begins { Begins term.core term.begin term.seat }
+    requires unit { term.unit.core ≡ term.core }
+    requires count { term.count.of ≡ counts.now }
+    ensures core { result.core ≡ term.core }
+    ensures hands { AreAt term.core counts.now result.hands }
+    ensures count { result.count.of ≡ counts.now }
+{
+    let Term {
+        core,
+        seat,
+        begin,
+        turns,
+        unit,
+        count,
+    } = term;
+    let (rest, own) = counts.split_workers(count);
+    let (front_count, unit_count) = counts.split_workers(own);
+    let dispatcher = Dispatcher {
+        seat,
+        begin,
+        count: front_count,
+        left: turns,
+    };
+    let hands = Hands {
+        dispatcher,
+        unit,
+        count: unit_count,
+    };
+    Staffed {
+        core,
+        hands,
+        count: rest,
+    }
+}
+
+// What the next term begins with, where there is memory for another core.
+fn next_term<J: Naming, K: Bounds + Ring, P: Predictor + Drop>(
+    alloc: Global,
+    floor: &Floor<K>,
+    core: Core,
+    given: Given<P>,
+    count: WorkerSeat,
+    committer: &mut Committer<J, K>,
+) -> Option<Term<P>>
+    requires counts { floor.now.counts ≡ K.counts }
+    requires count { count.of ≡ floor.now.counts }
+    requires ring { floor.now.hints.ring ≡ core.sizes.ring }
+    requires given { IsGivenBack core given committer.old }
+    ensures { IfSome result (λ next.
+        IsReady floor.now.hints.ring floor.now.counts next committer.new) }
+{
+    let Given { left, unit } = given;
+    let Left { seat, still, turns } = left;
+    let (core, seat, unit) = committer.renew(alloc, floor, core, seat, unit)?;
+    Some(Term {
+        core,
+        seat,
+        begin: Begin::Again(still),
+        turns,
+        unit,
+        count,
+    })
 }
 
 // One term, and what the next one begins with where the core was renewed.
@@ -118,62 +201,29 @@ fn run_term<
     G: Gate + Sync,
     R: Threads + Wait + Sync,
 >(
-    wait: &R,
+    hall: &Hall<'_, K, G, R>,
     alloc: Global,
-    floor: &Floor<K>,
-    gate: &G,
-    units: u32,
     term: Term<P>,
     committer: &'c mut Committer<J, K>,
 ) -> (&'c mut Committer<J, K>, Option<Term<P>>)
-    requires ready { AreReady floor.now.hints.ring term.core term.begin term.seat
-        term.unit committer.old.back.core }
-    requires count { term.count.of ≡ floor.now.counts }
-    requires counts { floor.now.counts ≡ K.counts }
-    requires begun { committer.old.over ≡ Err Refusal.Thread }
-    requires units { units ≤ 64 }
-    ensures begun { IfSome result.1 (λ next. result.0.now.over ≡ Err Refusal.Thread) }
-    ensures count { IfSome result.1 (λ next. next.count.of ≡ floor.now.counts) }
-    ensures ready { IfSome result.1 (λ next. AreReady floor.now.hints.ring
-        next.core next.begin next.seat next.unit result.0.now.back.core) }
+    requires { IsReady hall.now.floor.now.hints.ring hall.now.floor.now.counts term committer.old }
+    ensures { IfSome result.1 (λ next. IsReady hall.now.floor.now.hints.ring
+        hall.now.floor.now.counts next result.0.now) }
 {
-    let Term {
-        core,
-        seat,
-        begin,
-        turns,
-        unit,
-        count,
-    } = term;
-    floor.begin(units_at_once(wait));
-    let (rest, own) = floor.counts.split_workers(count);
-    let (front_count, unit_count) = floor.counts.split_workers(own);
-    let dispatcher = Dispatcher {
-        seat,
-        begin,
-        count: front_count,
-        left: turns,
+    hall.floor.begin(units_at_once(hall.wait));
+    let Staffed { core, hands, count } = staff(&hall.floor.counts, term);
+    let crew = Crew {
+        wait: hall.wait,
+        floor: hall.floor,
+        core: &core,
+        gate: hall.gate,
     };
-    let (committer, given) = in_threads(
-        wait, floor, &core, gate, units, dispatcher, unit, unit_count, committer,
-    );
-    let Some(Given { left, unit }) = given else {
+    let (committer, given) = in_threads(&crew, hands, committer);
+    let Some(given) = given else {
         return (committer, None);
     };
-    let Left { seat, still, turns } = left;
-    let renewed = committer.renew(alloc, floor, core, seat, unit);
-    let Some((core, seat, unit)) = renewed else {
-        return (committer, None);
-    };
-    let next = Term {
-        core,
-        seat,
-        begin: Begin::Again(still),
-        turns,
-        unit,
-        count: rest,
-    };
-    (committer, Some(next))
+    let next = next_term(alloc, hall.floor, core, given, count, committer);
+    (committer, next)
 }
 
 /// Terms, until the run is over.
@@ -183,26 +233,13 @@ pub(crate) fn run_terms<
     P: Predictor + Drop + Send,
     G: Gate + Sync,
     R: Threads + Wait + Sync,
->(
-    wait: &R,
-    alloc: Global,
-    floor: &Floor<K>,
-    gate: &G,
-    units: u32,
-    first: Term<P>,
-    committer: &mut Committer<J, K>,
-)
-    requires ready { AreReady floor.now.hints.ring first.core first.begin
-        first.seat first.unit committer.old.back.core }
-    requires count { first.count.of ≡ floor.now.counts }
-    requires counts { floor.now.counts ≡ K.counts }
-    requires begun { committer.old.over ≡ Err Refusal.Thread }
-    requires units { units ≤ 64 }
+>(hall: &Hall<'_, K, G, R>, alloc: Global, first: Term<P>, committer: &mut Committer<J, K>)
+    requires { IsReady hall.now.floor.now.hints.ring hall.now.floor.now.counts first committer.old }
 {
     let mut term = first;
     let mut committer = committer;
-    for _ in wait.forever() {
-        let (after, next) = run_term(wait, alloc, floor, gate, units, term, committer);
+    for _ in hall.wait.forever() {
+        let (after, next) = run_term(hall, alloc, term, committer);
         committer = after;
         match next {
             Some(next) => term = next,

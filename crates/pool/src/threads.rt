@@ -1,10 +1,11 @@
 //! Starts the threads of a run.
-ghost use Rattle.std.specs.Prelude.{◌≡◌, ◌<◌, ◌≤◌, IfSome};
+ghost use Rattle.std.specs.Prelude.{◌≡◌, ◌≤◌, IfSome};
 ghost use Rattle.pool.specs.Terms.{Begins, GivesBack};
 
+use crate::bounds::Bounds;
 use crate::compute::{Worker, work};
+use crate::crew::{Crew, Hall};
 use crate::dispatch::{Dispatcher, Left, dispatch};
-use crate::floor::Floor;
 use crate::gate::Gate;
 use crate::watch::watch;
 use back::{Naming, Snapper};
@@ -51,48 +52,43 @@ pub(crate) type Leaving<P> = PromisedHandle<Option<Left<P>>, Leaves>;
 pub(crate) fn start_dispatch<
     's,
     E: 's,
-    K: Ring + Send + Sync + 's,
+    K: Bounds + Ring + Send + Sync + 's,
     P: Predictor + Drop + Send + 's,
+    G: Sync + 's,
     R: Wait + Sync + 's,
 >(
-    wait: &'s R,
     scope: &Scope<'s, E>,
-    floor: &'s Floor<K>,
-    core: &'s Core,
+    crew: &'s Crew<'s, K, G, R>,
     dispatcher: Dispatcher<P>,
 ) -> Option<Leaving<P>>
-    requires begins { Begins core.now dispatcher.begin dispatcher.seat }
-    requires count { dispatcher.count.of ≡ floor.now.counts }
-    requires hints { floor.now.hints.ring ≡ core.now.sizes.ring }
-    ensures { IfSome result (λ thread. thread.promise.0.value ≡ core.now) }
+    requires begins { Begins crew.now.core.now dispatcher.begin dispatcher.seat }
+    requires count { dispatcher.count.of ≡ crew.now.floor.now.counts }
+    ensures { IfSome result (λ thread. thread.promise.0.value ≡ crew.now.core.now) }
 {
-    let promise = Leaves(Snapshot::of(core));
+    let promise = Leaves(Snapshot::of(crew.core));
     let job = move || -> Option<Left<P>>
-        requires begins { Begins core.now dispatcher.begin dispatcher.seat }
-        requires count { dispatcher.count.of ≡ floor.now.counts }
-        requires hints { floor.now.hints.ring ≡ core.now.sizes.ring }
-        ensures { IfSome result (λ left. GivesBack core.entry.now left.seat left.still) }
-    { dispatch(wait, floor, core, dispatcher) };
+        requires begins { Begins crew.now.core.now dispatcher.begin dispatcher.seat }
+        requires count { dispatcher.count.of ≡ crew.now.floor.now.counts }
+        ensures { IfSome result (λ left.
+            GivesBack crew.entry.now.core.now left.seat left.still) }
+    { dispatch(crew, dispatcher) };
     scope.spawn_with(promise, job).ok()
 }
 
-fn start_unit<'s, E: 's, K: Ring + Send + Sync + 's, G: Gate + Sync + 's, R: Wait + Sync + 's>(
-    wait: &'s R,
-    scope: &Scope<'s, E>,
-    floor: &'s Floor<K>,
-    core: &'s Core,
-    gate: &'s G,
-    worker: Worker,
-) -> bool
-    requires core { worker.seat.core ≡ core.now }
-    requires count { worker.count.of ≡ floor.now.counts }
-    requires hints { floor.now.hints.ring ≡ core.now.sizes.ring }
+fn start_unit<
+    's,
+    E: 's,
+    K: Bounds + Ring + Send + Sync + 's,
+    G: Gate + Sync + 's,
+    R: Wait + Sync + 's,
+>(scope: &Scope<'s, E>, crew: &'s Crew<'s, K, G, R>, worker: Worker) -> bool
+    requires core { worker.seat.core ≡ crew.now.core.now }
+    requires count { worker.count.of ≡ crew.now.floor.now.counts }
 {
     let job = move ||
-        requires core { worker.seat.core ≡ core.now }
-        requires count { worker.count.of ≡ floor.now.counts }
-        requires hints { floor.now.hints.ring ≡ core.now.sizes.ring }
-    { work(wait, floor, core, gate, worker) };
+        requires core { worker.seat.core ≡ crew.now.core.now }
+        requires count { worker.count.of ≡ crew.now.floor.now.counts }
+    { work(crew, worker) };
     scope.spawn(job).is_ok()
 }
 
@@ -100,30 +96,24 @@ fn start_unit<'s, E: 's, K: Ring + Send + Sync + 's, G: Gate + Sync + 's, R: Wai
 pub(crate) fn start_units<
     's,
     E: 's,
-    K: Ring + Send + Sync + 's,
+    K: Bounds + Ring + Send + Sync + 's,
     G: Gate + Sync + 's,
     R: Wait + Sync + 's,
 >(
-    wait: &'s R,
     scope: &Scope<'s, E>,
-    floor: &'s Floor<K>,
-    core: &'s Core,
-    gate: &'s G,
-    units: u32,
+    crew: &'s Crew<'s, K, G, R>,
     seat: UnitSeat,
     count: WorkerSeat,
 ) -> Option<UnitSeat>
-    requires core { seat.core ≡ core.now }
-    requires count { count.of ≡ floor.now.counts }
-    requires hints { floor.now.hints.ring ≡ core.now.sizes.ring }
-    requires units { units ≤ 64 }
-    ensures { IfSome result (λ rest. rest.core ≡ core.now) }
+    requires core { seat.core ≡ crew.now.core.now }
+    requires count { count.of ≡ crew.now.floor.now.counts }
+    ensures { IfSome result (λ rest. rest.core ≡ crew.now.core.now) }
 {
     let mut rest = seat;
     let mut all = count;
-    for unit in 0..units {
-        let (own, others) = core.split(rest);
-        let (count, counts) = floor.counts.split_workers(all);
+    for unit in 0..crew.floor.units {
+        let (own, others) = crew.core.split(rest);
+        let (count, counts) = crew.floor.counts.split_workers(all);
         rest = others;
         all = counts;
         let worker = Worker {
@@ -131,42 +121,39 @@ pub(crate) fn start_units<
             seat: own,
             count,
         };
-        if !start_unit(wait, scope, floor, core, gate, worker) {
+        if !start_unit(scope, crew, worker) {
             return None;
         }
     }
     Some(rest)
 }
 
+fn start_snapper<
+    's,
+    E: 's,
+    K: Bounds + Ring + Send + Sync + 's,
+    J: Naming + Send + Sync + 's,
+    G: Gate + Sync + 's,
+    R: Wait + Sync + 's,
+>(scope: &Scope<'s, E>, hall: &'s Hall<'s, K, G, R>, place: u32, snapper: Snapper<J>) -> bool {
+    scope.spawn(move || watch(hall, place, snapper)).is_ok()
+}
+
 /// Starts the snapshot threads. A place that gives no snapper has none.
 pub(crate) fn start_snappers<
     's,
     E: 's,
-    K: Ring + Send + Sync + 's,
+    K: Bounds + Ring + Send + Sync + 's,
     J: Naming + Send + Sync + 's,
     G: Gate + Sync + 's,
     R: Wait + Sync + 's,
->(
-    wait: &'s R,
-    scope: &Scope<'s, E>,
-    floor: &'s Floor<K>,
-    gate: &'s G,
-    places: u32,
-    mut first: Snapper<J>,
-) -> bool
-    requires { places ≤ 64 }
-{
+>(scope: &Scope<'s, E>, hall: &'s Hall<'s, K, G, R>, places: u32, mut first: Snapper<J>) -> bool {
     for place in 1..places {
         if let Ok(snapper) = first.another() {
-            let job = move ||
-                requires { place < 64 }
-            { watch(wait, floor, gate, place + 1, snapper) };
-            if scope.spawn(job).is_err() {
+            if !start_snapper(scope, hall, place + 1, snapper) {
                 return false;
             }
         }
     }
-    scope
-        .spawn(move || watch(wait, floor, gate, 1, first))
-        .is_ok()
+    start_snapper(scope, hall, 1, first)
 }

@@ -1,7 +1,8 @@
 //! What a snapshot thread does.
 ghost use Rattle.snapshots.specs.Snapshots.{IsSnapshotOf};
 
-use crate::floor::Floor;
+use crate::bounds::Bounds;
+use crate::crew::Hall;
 use crate::gate::Gate;
 use hints::Ring;
 use snapshots::{Naming, Snap, Snapper};
@@ -16,22 +17,21 @@ fn tell<J: Naming, G: Gate>(gate: &G, place: u32, snap: &Snap)
 
 /// Takes snapshots and tells the gate of them, once at least: the first at once, and one more each time that a
 /// snapshot was shown, or the run is over.
-pub(crate) fn watch<K: Ring, J: Naming, G: Gate, R: Wait>(
-    wait: &R,
-    floor: &Floor<K>,
-    gate: &G,
+pub(crate) fn watch<K: Bounds + Ring, J: Naming, G: Gate, R: Wait>(
+    hall: &Hall<'_, K, G, R>,
     place: u32,
     mut snapper: Snapper<J>,
 ) {
+    let floor = hall.floor;
     for _ in 0..floor.turns {
         let news = floor.news();
         let closed = floor.is_closed();
         if let Ok(snap) = snapper.take() {
-            tell::<J, G>(gate, place, &snap);
+            tell::<J, G>(hall.gate, place, &snap);
         }
         if closed {
             break;
         }
-        floor.wait_for_more(wait, news);
+        floor.wait_for_more(hall.wait, news);
     }
 }

@@ -9,7 +9,7 @@ ghost use Rattle.pool.specs.declared.commit.Why.{Why};
 use super::{Committer, Why};
 use crate::answer::Refusal;
 use crate::bounds::Bounds;
-use crate::floor::Floor;
+use crate::crew::Crew;
 use crate::gate::Gate;
 use crate::hinting::hint_each;
 use crate::rest::Rest;
@@ -17,7 +17,6 @@ use back::{Commit, Mark, Naming, Refresh};
 use counts::{Tally, Total};
 use hints::{Hinter, Ring};
 use instructions::Memory;
-use station::Core;
 use std::sync::Wait;
 
 // It shows each so many instructions.
@@ -43,69 +42,61 @@ enum Turned {
 
 impl<J: Naming, K: Bounds + Ring> Committer<J, K> {
     // Shows the state, and tells the gate what was counted until then.
-    fn show<G: Gate, R: Wait>(&mut self, wait: &R, floor: &Floor<K>, gate: &G) -> Result<(), Memory>
-        requires counts { floor.now.counts ≡ K.counts }
+    fn show<G: Gate, R: Wait>(&mut self, crew: &Crew<'_, K, G, R>) -> Result<(), Memory>
         ensures back { IsSameBack self.old.back (record self.new.back
             { shown = self.old.back.shown }) }
         ensures turns { self.new.turns ≡ self.old.turns }
         ensures renewals { self.new.renewals ≡ self.old.renewals }
         ensures over { self.new.over ≡ self.old.over }
     {
-        let mark = self.back.show(wait)?;
-        let tally = floor.counts.read(&mut self.count);
-        tell(gate, &mark, &tally);
+        let mark = self.back.show(crew.wait)?;
+        let tally = crew.floor.counts.read(&mut self.count);
+        tell(crew.gate, &mark, &tally);
         Ok(())
     }
 
     // One refresh. Hints whom a load woke. False where nothing was loaded.
-    fn refresh<R: Wait>(
-        &mut self,
-        wait: &R,
-        floor: &Floor<K>,
-        core: &Core,
-        hinter: &mut Hinter,
-    ) -> bool
-        requires core { self.old.back.core ≡ core.now }
-        requires counts { floor.now.counts ≡ K.counts }
-        requires hints { floor.now.hints.ring ≡ core.now.sizes.ring }
-        requires hinter { IsEndOf floor.now.hints hinter.old }
-        ensures core { self.new.back.core ≡ core.now }
+    fn refresh<G, R: Wait>(&mut self, crew: &Crew<'_, K, G, R>, hinter: &mut Hinter) -> bool
+        requires core { self.old.back.core ≡ crew.now.core.now }
+        requires hinter { IsEndOf crew.now.floor.now.hints hinter.old }
+        ensures core { self.new.back.core ≡ crew.now.core.now }
         ensures ended { self.new.back.ended ≡ self.old.back.ended }
         ensures turns { self.new.turns ≡ self.old.turns }
         ensures renewals { self.new.renewals ≡ self.old.renewals }
         ensures over { self.new.over ≡ self.old.over }
-        ensures hinter { IsEndOf floor.now.hints hinter.new }
+        ensures hinter { IsEndOf crew.now.floor.now.hints hinter.new }
     {
-        let Refresh::Loaded { .. } = self.back.refresh(core) else {
+        let Refresh::Loaded { .. } = self.back.refresh(crew.core) else {
             return false;
         };
-        floor.counts.add(&mut self.count, Total::Loads, 1);
+        crew.floor.counts.add(&mut self.count, Total::Loads, 1);
         let woken = self.back.woken();
-        hint_each(wait, &floor.hints, hinter, core.ring(), woken);
+        hint_each(
+            crew.wait,
+            &crew.floor.hints,
+            hinter,
+            crew.core.ring(),
+            woken,
+        );
         true
     }
 
     // One commit and one refresh. A refused snapshot is want of memory.
     fn turn<G: Gate, R: Wait>(
         &mut self,
-        wait: &R,
-        floor: &Floor<K>,
-        core: &Core,
-        gate: &G,
+        crew: &Crew<'_, K, G, R>,
         hinter: &mut Hinter,
     ) -> Result<Turned, Memory>
-        requires core { self.old.back.core ≡ core.now }
-        requires counts { floor.now.counts ≡ K.counts }
-        requires hints { floor.now.hints.ring ≡ core.now.sizes.ring }
-        requires hinter { IsEndOf floor.now.hints hinter.old }
+        requires core { self.old.back.core ≡ crew.now.core.now }
+        requires hinter { IsEndOf crew.now.floor.now.hints hinter.old }
         requires begun { self.old.over ≡ Err Refusal.Memory }
         requires taken { (back_state self.old.back).count +
             self.old.turns.left < self.old.turns.all }
-        ensures core { self.new.back.core ≡ core.now }
+        ensures core { self.new.back.core ≡ crew.now.core.now }
         ensures begun { self.new.over ≡ Err Refusal.Memory }
         ensures turns { self.new.turns ≡ self.old.turns }
         ensures renewals { self.new.renewals ≡ self.old.renewals }
-        ensures hinter { IsEndOf floor.now.hints hinter.new }
+        ensures hinter { IsEndOf crew.now.floor.now.hints hinter.new }
         ensures over { IfOk result (λ turned. (why : Why) → turned ≡ Over why →
             Because K.limit self.new.back self.new.turns.left why) }
     {
@@ -113,13 +104,13 @@ impl<J: Naming, K: Bounds + Ring> Committer<J, K> {
             return Ok(Turned::Over(Why::AtLimit));
         }
         let mut turned = Turned::Idle;
-        match self.back.commit(core) {
+        match self.back.commit(crew.core) {
             Commit::Ended(_) => return Ok(Turned::Over(Why::AtEnd)),
             Commit::Retired { n, .. } => {
-                floor.counts.add(&mut self.count, Total::Retires, 1);
+                crew.floor.counts.add(&mut self.count, Total::Retires, 1);
                 if n % SHOWN_EACH == 0 {
-                    self.show(wait, floor, gate)?;
-                    floor.tell();
+                    self.show(crew)?;
+                    crew.floor.tell();
                 }
                 turned = Turned::Worked;
             }
@@ -127,7 +118,7 @@ impl<J: Naming, K: Bounds + Ring> Committer<J, K> {
             Commit::Half { .. } => turned = Turned::Worked,
             Commit::NotDone | Commit::Empty => {}
         }
-        if self.refresh(wait, floor, core, hinter) {
+        if self.refresh(crew, hinter) {
             turned = Turned::Worked;
         }
         Ok(turned)
@@ -135,27 +126,19 @@ impl<J: Naming, K: Bounds + Ring> Committer<J, K> {
 
     // Commits until the program has ended, the limit is reached or no turn is left, and then says which. It says
     // nothing where the core is to be renewed.
-    fn turns<G: Gate, R: Wait>(
-        &mut self,
-        wait: &R,
-        floor: &Floor<K>,
-        core: &Core,
-        gate: &G,
-    ) -> Result<Option<Why>, Memory>
-        requires core { self.old.back.core ≡ core.now }
-        requires counts { floor.now.counts ≡ K.counts }
-        requires hints { floor.now.hints.ring ≡ core.now.sizes.ring }
+    fn turns<G: Gate, R: Wait>(&mut self, crew: &Crew<'_, K, G, R>) -> Result<Option<Why>, Memory>
+        requires core { self.old.back.core ≡ crew.now.core.now }
         requires begun { self.old.over ≡ Err Refusal.Memory }
-        ensures core { self.new.back.core ≡ core.now }
+        ensures core { self.new.back.core ≡ crew.now.core.now }
         ensures begun { self.new.over ≡ Err Refusal.Memory }
         ensures over { IfOk result (IsReason K.limit self.new) }
     {
-        let mut hinter = floor.hints.hinter();
+        let mut hinter = crew.floor.hints.hinter();
         let mut rest = Rest::after(PATIENCE);
         while self.turns.take() {
-            match self.turn(wait, floor, core, gate, &mut hinter)? {
+            match self.turn(crew, &mut hinter)? {
                 Turned::Worked => rest.begin_again(),
-                Turned::Idle if floor.has_rested() => return Ok(None),
+                Turned::Idle if crew.floor.has_rested() => return Ok(None),
                 Turned::Idle => rest.rest(),
                 Turned::Over(why) => return Ok(Some(why)),
             }
@@ -164,47 +147,31 @@ impl<J: Naming, K: Bounds + Ring> Committer<J, K> {
     }
 
     // The same, and shows the last state where the run is over.
-    fn shown<G: Gate, R: Wait>(
-        &mut self,
-        wait: &R,
-        floor: &Floor<K>,
-        core: &Core,
-        gate: &G,
-    ) -> Result<Option<Why>, Memory>
-        requires core { self.old.back.core ≡ core.now }
-        requires counts { floor.now.counts ≡ K.counts }
-        requires hints { floor.now.hints.ring ≡ core.now.sizes.ring }
+    fn shown<G: Gate, R: Wait>(&mut self, crew: &Crew<'_, K, G, R>) -> Result<Option<Why>, Memory>
+        requires core { self.old.back.core ≡ crew.now.core.now }
         requires begun { self.old.over ≡ Err Refusal.Memory }
-        ensures core { self.new.back.core ≡ core.now }
+        ensures core { self.new.back.core ≡ crew.now.core.now }
         ensures begun { self.new.over ≡ Err Refusal.Memory }
         ensures over { IfOk result (IsReason K.limit self.new) }
     {
-        let why = self.turns(wait, floor, core, gate)?;
+        let why = self.turns(crew)?;
         if why.is_some() {
-            self.show(wait, floor, gate)?;
+            self.show(crew)?;
         }
         Ok(why)
     }
 
     /// Commits until there is no more to commit. Where the run is over it shows the last state, and keeps why it is
     /// over. True where it is not, and the core is to be renewed.
-    pub(crate) fn run<G: Gate, R: Wait>(
-        &mut self,
-        wait: &R,
-        floor: &Floor<K>,
-        core: &Core,
-        gate: &G,
-    ) -> bool
-        requires core { self.old.back.core ≡ core.now }
-        requires counts { floor.now.counts ≡ K.counts }
-        requires hints { floor.now.hints.ring ≡ core.now.sizes.ring }
+    pub(crate) fn run<G: Gate, R: Wait>(&mut self, crew: &Crew<'_, K, G, R>) -> bool
+        requires core { self.old.back.core ≡ crew.now.core.now }
         requires fresh { self.old.over ≡ Err Refusal.Thread }
-        ensures core { self.new.back.core ≡ core.now }
+        ensures core { self.new.back.core ≡ crew.now.core.now }
         ensures has_run { self.new.over ≢ Err Refusal.Thread }
         ensures rested { result ≡ true → IsAtRest self.new }
     {
         self.over = Err(Refusal::Memory);
-        let Ok(reason) = self.shown(wait, floor, core, gate) else {
+        let Ok(reason) = self.shown(crew) else {
             return false;
         };
         if let Some(why) = reason {

@@ -4,4 +4,4 @@ use Rattle.pool.proofs.dispatch.dispatch.Given as goal
 
 abbrev pub invariant-loop-taken : goal.invariant-loop-taken
 invariant-loop-taken g l =
-    (l.front.core ≡ l.core) × (l.count.seat.of ≡ l.floor.counts) × IsEndOf l.floor.hints l.hinter
+    (l.front.core ≡ l.crew.core.now) × (l.count.seat.of ≡ l.crew.floor.now.counts) × IsEndOf l.crew.floor.now.hints l.hinter

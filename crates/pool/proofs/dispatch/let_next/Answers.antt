@@ -4,10 +4,10 @@ use Rattle.pool.proofs.dispatch.let_next.Goals as goal
 
 pub overflow_cast-station : goal.overflow_cast-station
 overflow_cast-station g c =
-    let below : c.in-Let.station < c.args.core.now.sizes.ring = in_ring _ _ _ c.in-Let.ensures.reply.lets.station_is (omega (arith, c.ring-ring.ensures.least, c.ring-ring.ensures.value)) in
+    let below : c.in-Let.station < c.args.crew.now.core.now.sizes.ring = in_ring _ _ _ c.in-Let.ensures.reply.lets.station_is (omega (arith, c.ring-ring.ensures.least, c.ring-ring.ensures.value)) in
     omega (arith, below, c.ring-ring.ensures.most, c.ring-ring.ensures.value)
 
 pub push-requires-clause-station : goal.push-requires-clause-station
 push-requires-clause-station g c =
-    let below : c.in-Let.station < c.args.core.now.sizes.ring = in_ring _ _ _ c.in-Let.ensures.reply.lets.station_is (omega (arith, c.ring-ring.ensures.least, c.ring-ring.ensures.value)) in
-    omega (arith, below, c.requires.hints)
+    let below : c.in-Let.station < c.args.crew.now.core.now.sizes.ring = in_ring _ _ _ c.in-Let.ensures.reply.lets.station_is (omega (arith, c.ring-ring.ensures.least, c.ring-ring.ensures.value)) in
+    omega (arith, below, c.args.crew.now.ring)

@@ -1,10 +1,10 @@
 use Rattle.pool.proofs.running.run_in_turns.Given as goal
 
 abbrev pub ghosts-run_named-J-Naming : goal.ghosts-run_named-J-Naming
-ghosts-run_named-J-Naming g a = record { program = a.program.now }
+ghosts-run_named-J-Naming g a = record { program = a.task.now.program.now }
 
 abbrev pub ghosts-run_named-K-Bounds : goal.ghosts-run_named-K-Bounds
-ghosts-run_named-K-Bounds g a = record { counts = a.counts; limit = a.config.now.limit; turns = a.config.now.turns }
+ghosts-run_named-K-Bounds g a = record { counts = a.counts; limit = a.task.now.config.now.limit; turns = a.task.now.config.now.turns }
 
 abbrev pub ghosts-run_named-K-Ring : goal.ghosts-run_named-K-Ring
-ghosts-run_named-K-Ring g a = record { ring = a.config.now.ring }
+ghosts-run_named-K-Ring g a = record { ring = a.task.now.config.now.ring }

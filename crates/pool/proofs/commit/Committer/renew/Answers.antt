@@ -1,4 +1,4 @@
-use Rattle.std.proofs.Common.{ℕ, ◌≡◌, ◌+◌, ◌<◌, ◌^◌, ◌∙◌, ap, arith}
+use Rattle.std.proofs.Common.{◌≡◌, ◌+◌, ◌<◌, ◌^◌, ◌∙◌, ap, arith}
 use Rattle.pool.specs.Committing.{TheCommitter}
 use Rattle.pool.specs.Turns.{TheTurns}
 use Rattle.pool.proofs.commit.Committer.renew.Goals as goal

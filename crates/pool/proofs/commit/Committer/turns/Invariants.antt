@@ -5,7 +5,7 @@ use Rattle.pool.proofs.commit.Committer.turns.Given as goal
 
 abbrev pub invariant-loop-rest : goal.invariant-loop-rest
 invariant-loop-rest g l =
-    (l.self.back.core ≡ l.core) × (l.self.over ≡ Err Memory) × IsEndOf l.floor.hints l.hinter
+    (l.self.back.core ≡ l.crew.core.now) × (l.self.over ≡ Err Memory) × IsEndOf l.crew.floor.now.hints l.hinter
 
 abbrev pub decreases-loop-rest : goal.decreases-loop-rest
 decreases-loop-rest g l = l.self.turns.left

@@ -1,0 +1,38 @@
+-- What a run is made of, before a thread has begun, and what it is when all have ended.
+use Rattle.std.specs.Prelude.{◌≡◌, ℕ, None}
+use Rattle.atomic_table.specs.Seated.{TableId}
+use Rattle.back.specs.Backs.{back_state}
+use Rattle.front.specs.Fronts.{IsUnused}
+use Rattle.instructions.specs.Programs.{Program}
+use Rattle.pool.specs.Runs.{IsLimit, IsWithinLimit, LeavesTurns, RunIsRight, TellsRenewals}
+use Rattle.pool.specs.Terms.{MayCommit}
+use Rattle.pool.specs.declared.answer.RunInTurns.{RunInTurns}
+use Rattle.pool.specs.declared.making.Made.{Made}
+use Rattle.pool.specs.declared.making.Parts.{Parts}
+
+-- All parts are at the core, the hints are made for its ring, and the back is at the start of the program
+pub record AreParts {J K : Type 0} (parts : Parts J K) : Type 0 where
+  pub front : IsUnused parts.core parts.front
+  pub unit_is : parts.unit.core ≡ parts.core
+  pub ring_is : parts.hints.ring ≡ parts.core.sizes.ring
+  pub back_is : parts.back.core ≡ parts.core
+  pub start : (back_state parts.back).count ≡ 0
+  pub going : parts.back.ended ≡ None
+
+-- The same with these totals, on which the floor stands and of which the seat is, and with a commit side that may begin
+pub record IsMade {J K : Type 0} (counts : TableId) (made : Made J K) : Type 0 where
+  pub front : IsUnused made.core made.front
+  pub unit_is : made.unit.core ≡ made.core
+  pub ring_is : made.floor.hints.ring ≡ made.core.sizes.ring
+  pub counts_are : made.floor.counts ≡ counts
+  pub count_is : made.count.of ≡ counts
+  pub commits : MayCommit made.core made.committer
+
+-- All that is said of a run of this program, with this limit and so many turns
+pub record HasRun (P : Program) (limit turns : ℕ) (r : RunInTurns) : Type 0 where
+  pub right : RunIsRight P r.run
+  pub within : IsWithinLimit limit r.run
+  pub all : r.turns.all ≡ turns
+  pub left : LeavesTurns r.turns r.renewals r.run
+  pub renewals : TellsRenewals r.renewals r.run
+  pub limit_is : IsLimit limit r.turns.left r.run
