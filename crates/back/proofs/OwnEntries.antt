@@ -19,7 +19,7 @@ pub record IsSplit (by : ℕ) (es : List Entry) (e : Entry) (rest : List Entry) 
   pub not_own : own by later ≡ []
   pub rest_is : own by earlier ≡ rest
 
-heads : (x y : Entry) (xs ys : List Entry) → x ∷ xs ≡ y ∷ ys → (x ≡ y) × (xs ≡ ys)
+pub heads : (x y : Entry) (xs ys : List Entry) → x ∷ xs ≡ y ∷ ys → (x ≡ y) × (xs ≡ ys)
 heads x y xs ys e = (cc e, cc e)
 
 pub split_own : (by : ℕ) (es : List Entry) (e : Entry) (rest : List Entry) → own by es ≡ e ∷ rest → IsSplit by es e rest

@@ -1,5 +1,5 @@
 -- What was seen of the older stores answers a load.
-use Rattle.std.proofs.Common.{◌≡◌, ℕ, ◌+◌, ◌%◌, ◌<◌, ◌≤◌, Bool, true, false, ◌&&◌, List, length, Some, None, refl, sym, ap, ◌∙◌, subst, inl, inr, arith, true≢false, unwrap_or, zero-le}
+use Rattle.std.proofs.Common.{◌≡◌, ℕ, ◌+◌, ◌%◌, ◌<◌, ◌≤◌, Bool, true, false, ◌&&◌, List, length, Some, None, refl, sym, ap, ◌∙◌, subst, inl, inr, arith, unwrap_or, zero-le}
 use Rattle.std.proofs.lemmas.Bool.{cases_lt}
 use Rattle.std.specs.Prelude.{slice_index, is_none}
 use Rattle.instructions.specs.Instruction.{is_access, width}
@@ -24,6 +24,7 @@ use Rattle.inorder.proofs.Positions.{at_below}
 use Rattle.inorder.proofs.QueueBytes.{store_accesses, store_is}
 use Rattle.inorder.proofs.QueuePlaces.{access_live, at_older, older_length}
 use Rattle.inorder.proofs.Sound.{IsSound}
+use Rattle.inorder.proofs.Pairs.{and_left}
 use Rattle.back.specs.Loads.{IsWaitingLoad}
 use Rattle.back.specs.Port.{AtStation, HasFound, HasMet, HasUnknown, IsBlockedAt, IsKnown, IsLoadOf, IsMet, DoesNotWaitFor, station_behind}
 use Rattle.back.specs.declared.port.Load.{Load}
@@ -53,10 +54,6 @@ store_live : (P : Program) (u : Tenant) → u.standing ≡ Live → is_store (ki
 store_live P u live s = ap (λ y. stands_live y && is_access (kind_of P u)) live ∙ store_accesses (kind_of P u) (store_is (kind_of P u) s)
 
 -- lacking or overlapping, it is a store
-first_true : (a b : Bool) → (a && b) ≡ true → a ≡ true
-first_true true b e = refl
-first_true false b e = absurd (true≢false (sym e))
-
 module _ (P : Program) (C : Sizes) (U : UpdateUnit) (ok : IsSound P U.tenants) (ring : InRing C U) (n head place : ℕ)
     (head_is : head ≡ head_station C U) (inside : head < C.ring) (small : place < C.ring) (p : ℕ) (below : p < n) (l : Load) (it : Has U p (IsLoadOf P (station_behind head C.ring place) l)) where
   abbrev us : List Tenant
@@ -190,7 +187,7 @@ module _ (P : Program) (C : Sizes) (U : UpdateUnit) (ok : IsSound P U.tenants) (
   by_unknown s h =
       let x = older_at s h.bound in
       let lacks = h.it x.q x.tenant (below_n x.q x.before_it) x.is x.alive x.station in
-      let store = first_true (is_store (kind_of P x.tenant)) (is_none (entry_of P x.tenant).address) lacks in
+      let store = and_left (is_store (kind_of P x.tenant)) (is_none (entry_of P x.tenant).address) lacks in
       let f = found_at lacks_address (λ j. Unit {0}) s x store lacks
       (λ r v is alive lt after. known_not_lacking P v (h.younger (rank us r) (rank_after s x r v is after) (rank_below r v is alive lt) r v (below_n r lt) is alive (stands r v is alive))) in
       blocked_by lacks_address s x f store (blocked_lacking P us p t a ok it.is live it.fact.load.kind it.fact.fate x.q x.tenant f)

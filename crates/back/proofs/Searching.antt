@@ -18,6 +18,7 @@ use Rattle.inorder.specs.Loads.{address_by, entry_of, is_store}
 use Rattle.inorder.specs.Tenants.{Addr, Busy, Done, Fate, Miss, Open, Stopped, Tenant, computed, kind_of}
 use Rattle.inorder.specs.Unit.{Sizes, UpdateUnit}
 use Rattle.inorder.proofs.QueueBytes.{same_width, store_is}
+use Rattle.inorder.proofs.Pairs.{and_left}
 use Rattle.back.specs.Port.{AtStation, HasFound, HasMet, HasUnknown, IsEntryOf, IsKnown, IsMet, DoesNotWaitFor, Lacks, shown_address, station_behind, load_entry}
 use Rattle.back.specs.declared.port.Load.{Load}
 use Rattle.back.proofs.PortStays.{known_lasts, length_grows, met_lasts, passed_lasts, station_stays}
@@ -67,10 +68,6 @@ none_taken : (o : Option ℕ) (stored a w : ℕ) → taken_from o stored None a 
 none_taken None stored a w = refl
 none_taken (Some b) stored a w = refl
 
-first_true : (a b : Bool) → (a && b) ≡ true → a ≡ true
-first_true true b e = refl
-first_true false b e = absurd (true≢false (sym e))
-
 and_false : (b : Bool) → (b && false) ≡ false
 and_false true = refl
 and_false false = refl
@@ -111,8 +108,8 @@ module _ (e : QueueEntry) (l : Load) where
 
   -- what blocks is a store
   blocks_store : Blocks (lacks_address e) (overlaps a w e) raw_of → e.store ≡ true
-  blocks_store (Lacking b) = first_true e.store (is_none e.address) b
-  blocks_store (Overlapping b c r) = first_true e.store (meets e.address (bytes e.width) a w) c
+  blocks_store (Lacking b) = and_left e.store (is_none e.address) b
+  blocks_store (Overlapping b c r) = and_left e.store (meets e.address (bytes e.width) a w) c
 
   blocks_over : (b : ℕ) → e.address ≡ Some b → Blocks (lacks_address e) (overlaps a w e) raw_of → overlaps a w e ≡ true
   blocks_over b ad (Lacking h) = let no = sym h ∙ (ap (λ o. e.store && is_none o) ad ∙ and_false e.store) in absurd (true≢false no)

@@ -38,7 +38,7 @@ use Rattle.back.specs.Commits.{IsRetiredStopOf}
 use Rattle.back.specs.Kept.{EndIs, KeepsUnit}
 use Rattle.back.specs.Kept.WhyEnded.{ByStop, Nowhere}
 use Rattle.station.specs.Moments.{IsWithin}
-use Rattle.back.proofs.OwnEntries.{added_legal, added_own}
+use Rattle.back.proofs.OwnEntries.{added_legal, added_own, heads}
 use Rattle.inorder.proofs.Recent.{counts_same}
 
 -- Steps
@@ -166,9 +166,6 @@ others_quiet P C h e n same other m = go e.event same m
     go (Does s) q m = not_retire s (not_backs C (unit_of P C h) e.by s (λ is. let more : suc n ≡ n = subst (λ z. renewed_by (Does z) n ≡ n) is q in absurd (omega (arith, more))) m.0 other)
     go (Refuses r) q m = tt
     go (Marks k) q m = tt
-
-heads : (x y : Entry) (xs ys : List Entry) → x ∷ xs ≡ y ∷ ys → (x ≡ y) × (xs ≡ ys)
-heads x y xs ys e = (cc e, cc e)
 
 module _ (P : Program) (C : Sizes) where
   pub all_quiet : (more seen : List Entry) (events : List Event) → IsLegal P C (more ++ seen) →

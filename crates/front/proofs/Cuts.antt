@@ -6,13 +6,13 @@ pub record AreSame (xs ys : List Record) (x y : Record) : Type 0 where
   pub fronts : xs ≡ ys
   pub ones : x ≡ y
 
-tail_of : (a b : Record) (xs ys : List Record) → a ∷ xs ≡ b ∷ ys → xs ≡ ys
+pub tail_of : (a b : Record) (xs ys : List Record) → a ∷ xs ≡ b ∷ ys → xs ≡ ys
 tail_of a b xs ys e = cc e
 
-head_of : (a b : Record) (xs ys : List Record) → a ∷ xs ≡ b ∷ ys → a ≡ b
+pub head_of : (a b : Record) (xs ys : List Record) → a ∷ xs ≡ b ∷ ys → a ≡ b
 head_of a b xs ys e = cc e
 
-not_none : (xs : List Record) (x : Record) → xs ++ x ∷ [] ≢ []
+pub not_none : (xs : List Record) (x : Record) → xs ++ x ∷ [] ≢ []
 not_none xs x e = let n = ap (λ z. length z) e in let m = length-append xs (x ∷ []) in absurd (omega arith)
 
 pub both_same : (xs ys : List Record) (x y : Record) → xs ++ x ∷ [] ≡ ys ++ y ∷ [] → AreSame xs ys x y

@@ -17,7 +17,7 @@ use Rattle.ruu_words.proofs.StationWords.{one_tag}
 use Rattle.front.specs.Path.{rested_at}
 use Rattle.front.specs.declared.path.base_state.Base.{Base}
 use Rattle.front.specs.declared.path.record.Record.{Record}
-use Rattle.front.specs.Knows.{IsFolded, IsGone, FrontKnows, whats}
+use Rattle.front.specs.Knows.{IsFolded, IsGone, FrontKnows}
 use Rattle.front.specs.Recoveries.{IsCut, IsFirst, IsMissAt, IsNoLiveMiss, squash_event}
 use Rattle.front.specs.declared.recovery.Missed.{Missed}
 use Rattle.station.specs.Recovery.{IsMended as IsMendedThere}
@@ -26,7 +26,7 @@ use Rattle.front.specs.Trail.{Note, record_of, trail}
 use Rattle.front.proofs.InQueue.{IsOrdered, IsSplit, drop_get, ordered, split_whats}
 use Rattle.front.proofs.Lists.{all_both, all_front, all_map, all_rest, all_two}
 use Rattle.front.proofs.Misses.{gone_miss, named_miss}
-use Rattle.front.proofs.Named.{notes_noted}
+use Rattle.front.proofs.Named.{notes_noted, of_whats}
 use Rattle.front.proofs.Trails.{IsNoted, trail_all}
 use Rattle.inorder.specs.Replies.{Has}
 use Rattle.inorder.proofs.Recent.{old_since}
@@ -53,10 +53,6 @@ get_taken xs i = let one : i + 1 ≡ suc i = omega arith in ap (λ z. slice_get 
     go [] i = refl
     go (x ∷ xs) zero = refl
     go (x ∷ xs) (suc i) = go xs i
-
-of_whats : (Q : Record → Type 0) (xs : List Note) → AllByRecursion Q (whats xs) → AllByRecursion (λ n. Q n.what) xs
-of_whats Q [] a = tt
-of_whats Q (x ∷ xs) a = (a.0, of_whats Q xs a.1)
 
 less_not : (p q : ℕ) → p < q → p ≡ q → ⊥
 less_not p q h e = absurd (omega (arith, h, e))

@@ -37,6 +37,7 @@ use Rattle.front.proofs.Resting.{left_path, nobody_stable, retired_left}
 use Rattle.front.proofs.Splitting.{IsStable, stays}
 use Rattle.front.proofs.Stays.{goes_stays, quiet_of, stands_stay}
 use Rattle.front.proofs.Trails.{IsNoted, trail_noted}
+use Rattle.front.proofs.Cuts.{tail_of}
 
 -- any tenant
 abbrev pub IsAnyone : Note → Type 0
@@ -119,9 +120,6 @@ module _ (core : TheCore) (old new : List Entry) (path path' : Path) (adds : Add
         stands = subst (λ z. Stands P C U path'.records z IsAnyone) (sym base_is) stands;
         goes = subst (GoesOnAt P C U) (sym base_is) (record { pc = goes.pc; half = goes.half; station = goes.station });
       }
-    where
-      tail_of : (a b : Record) (us vs : List Record) → a ∷ us ≡ b ∷ vs → us ≡ vs
-      tail_of a b us vs e = cc e
 
 -- the predictor is told of one more
 pub told_more : {S : Type 0} (Learns : S → ℕ → ℕ → S → Type 0) (all left rest : List Record) (x : Record) (a b c : S) →

@@ -35,6 +35,7 @@ use Rattle.front.proofs.CutKnown.{live_on}
 use Rattle.front.proofs.Lists.{Last, all_both, all_front, all_map, all_rest, all_two, last_cases, last_same}
 use Rattle.front.proofs.Named.{notes_noted}
 use Rattle.front.proofs.Trails.{IsNoted, trail_noted, trail_off, trail_on}
+use Rattle.front.proofs.Cuts.{head_of, tail_of}
 
 -- Records
 
@@ -180,12 +181,6 @@ split_whats (n ∷ notes) [] x younger e = record {
   rest = tail_of n.what x (whats notes) younger e;
   prior = refl;
 }
-  where
-    head_of : (a b : Record) (xs ys : List Record) → a ∷ xs ≡ b ∷ ys → a ≡ b
-    head_of a b xs ys e = cc e
-
-    tail_of : (a b : Record) (xs ys : List Record) → a ∷ xs ≡ b ∷ ys → xs ≡ ys
-    tail_of a b xs ys e = cc e
 split_whats (n ∷ notes) (y ∷ older) x younger e =
     let s = split_whats notes older x younger (tail_of n.what y (whats notes) (older ++ x ∷ younger) e) in
     record {
@@ -197,12 +192,6 @@ split_whats (n ∷ notes) (y ∷ older) x younger e =
       rest = s.rest;
       prior = λ i. head_of n.what y (whats notes) (older ++ x ∷ younger) e i ∷ s.prior i;
     }
-  where
-    head_of : (a b : Record) (xs ys : List Record) → a ∷ xs ≡ b ∷ ys → a ≡ b
-    head_of a b xs ys e = cc e
-
-    tail_of : (a b : Record) (xs ys : List Record) → a ∷ xs ≡ b ∷ ys → xs ≡ ys
-    tail_of a b xs ys e = cc e
 
 access_on_path : (P : Program) (t : Tenant) → is_live_access P t ≡ true → on_path t ≡ true
 access_on_path P t h = go t.standing refl

@@ -21,6 +21,7 @@ use Rattle.front.specs.Rests.{TellsEach, TellsRecords, all_untold, is_let_to, is
 use Rattle.front.specs.Training.{leaver_if}
 use Rattle.front.specs.Trail.{Note, is_guessed, note, trail}
 use Rattle.station.specs.Renewals.{HasNobody}
+use Rattle.station.proofs.Waking.{either_other}
 use Rattle.front.proofs.Lists.{Last, all_front, all_rest, all_two, last_cases, last_same, whats_append}
 use Rattle.front.proofs.Resting.{left_path}
 use Rattle.front.proofs.Trained.{went_on}
@@ -82,11 +83,7 @@ there_again (y ∷ ys) ts s q u is le place = dite (ℕ_discrete q (length ts))
     let there : at (glue ys (y ∷ ts)) q ≡ Some y = ap (at (glue ys (y ∷ ts))) same ∙ at_glue ys (y ∷ ts) (length ts) y (at_new y ts) in
     let one : y ≡ u = same_Some y u (sym there ∙ is) in
     ap (λ b. b || is_let_to ys s) (eq-eqb y.station s (ap (λ (z : Tenant). z.station) one ∙ place)))
-    (λ ne. or_true (eqb y.station s) (is_let_to ys s) (there_again ys (y ∷ ts) s q u is (omega (arith, le, ne)) place))
-  where
-    or_true : (a b : Bool) → b ≡ true → (a || b) ≡ true
-    or_true true b e = refl
-    or_true false b e = e
+    (λ ne. either_other (eqb y.station s) (is_let_to ys s) (there_again ys (y ∷ ts) s q u is (omega (arith, le, ne)) place))
 
 module _ {S : Type 0} (Learns : S → ℕ → ℕ → S → Type 0) (P : Program) (U : UpdateUnit) (ok : IsSound P U.tenants) (nobody : HasNobody U) (told : ℕ) where
   abbrev IsIn : Note → Type 0

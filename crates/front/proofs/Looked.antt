@@ -38,6 +38,7 @@ use Rattle.front.proofs.Places.{known_half, known_pc, known_place, notes_length}
 use Rattle.front.proofs.Splitting.{IsStable, stays}
 use Rattle.front.proofs.Stations.{next_tag_is, oldest_left}
 use Rattle.front.proofs.Stays.{knows_stable, place_stays, quiet_of}
+use Rattle.front.proofs.Cuts.{head_of}
 use Rattle.inorder.proofs.Recent.{counts_same, old_kept}
 use Rattle.inorder.proofs.Letting.{IsBesides}
 
@@ -78,9 +79,6 @@ pub record FirstNote (notes : List Note) (x : Record) : Type 0 where
 pub first_note : (notes : List Note) (x : Record) (xs : List Record) → whats notes ≡ x ∷ xs → FirstNote notes x
 first_note [] x xs e = absurd (cc e)
 first_note (n ∷ ns) x xs e = record { one = n; rest = ns; is = refl; what = head_of n.what x (whats ns) xs e }
-  where
-    head_of : (a b : Record) (us vs : List Record) → a ∷ us ≡ b ∷ vs → a ≡ b
-    head_of a b us vs e = cc e
 
 module _ (P : Program) (C : Sizes) (old h : List Entry) (records : List Record) (base : Base) (k : FrontKnows P C (unit_of P C old) records base) (adds : Adds P C front old h [])
     (ring station : ℕ) (ring_is : ring ≡ C.ring) (least : 2 ≤ ring) (station_is : station ≡ station_of_next ring base records) (seen : Seen StationState) (sees : SeesStation P C h station seen) where

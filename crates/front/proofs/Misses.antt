@@ -21,12 +21,12 @@ use Rattle.station.specs.Looking.{SeesStation}
 use Rattle.front.specs.Path.{rested_at}
 use Rattle.front.specs.declared.path.base_state.Base.{Base}
 use Rattle.front.specs.declared.path.record.Record.{Record}
-use Rattle.front.specs.Knows.{IsFolded, IsGone, IsNewest, FrontKnows, whats}
+use Rattle.front.specs.Knows.{IsFolded, IsGone, IsNewest, FrontKnows}
 use Rattle.front.specs.Recoveries.{IsMiss, IsNoLiveMiss, may_miss}
 use Rattle.front.specs.Trail.{Note, record_of}
 use Rattle.front.proofs.Lists.{all_both, all_map, all_two}
 use Rattle.front.proofs.Looks.{finds_miss, live_there, same_place, shows_miss}
-use Rattle.front.proofs.Named.{all_get, all_whats, notes_noted}
+use Rattle.front.proofs.Named.{all_get, all_whats, notes_noted, of_whats}
 use Rattle.front.proofs.Splitting.{IsStable, stays}
 use Rattle.front.proofs.Trails.{IsNoted, trail_all}
 use Rattle.inorder.proofs.Fated.{follows_from}
@@ -138,7 +138,3 @@ module _ (P : Program) (C : Sizes) where
         (of_whats (IsNoLiveMiss U) k.notes (subst (AllByRecursion (IsNoLiveMiss U)) k.are all)) in
         let everybody = subst (AllByRecursion Q) (sym k.path) (all_both Q k.gone k.notes (all_map (IsGone U) Q gone_miss k.gone k.retired) named) in
         trail_all P Q U.tenants everybody p t is (ap stands_on_path live) x t is (record { live = live; fate = fate })
-      where
-        of_whats : (Q : Record → Type 0) (xs : List Note) → AllByRecursion Q (whats xs) → AllByRecursion (λ n. Q n.what) xs
-        of_whats Q [] a = tt
-        of_whats Q (x ∷ xs) a = (a.0, of_whats Q xs a.1)

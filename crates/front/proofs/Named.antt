@@ -23,6 +23,10 @@ pub all_whats : (Q : Record → Type 0) (xs : List Note) → AllByRecursion (λ 
 all_whats Q [] a = tt
 all_whats Q (x ∷ xs) a = (a.0, all_whats Q xs a.1)
 
+pub of_whats : (Q : Record → Type 0) (xs : List Note) → AllByRecursion Q (whats xs) → AllByRecursion (λ n. Q n.what) xs
+of_whats Q [] a = tt
+of_whats Q (x ∷ xs) a = (a.0, of_whats Q xs a.1)
+
 pub all_get : (Q : Record → Type 0) (xs : List Record) → AllByRecursion Q xs → (i : ℕ) (x : Record) → slice_get xs i ≡ Some x → Q x
 all_get Q [] a i x e = absurd (cc e)
 all_get Q (y ∷ xs) a zero x e = let same : y ≡ x = cc e in subst Q same a.0

@@ -1,5 +1,5 @@
 -- The steps of a recovery, with what others add between them.
-use Rattle.std.proofs.Common.{◌≡◌, ◌≢◌, ℕ, refl, ◌<◌, List, [], ◌∷◌, ◌++◌, length, Some, sym, ap, ◌∙◌, subst, ⊎_elim, arith, length-append, append_assoc, ◌≤◌, false}
+use Rattle.std.proofs.Common.{◌≡◌, ◌≢◌, ℕ, refl, ◌<◌, List, [], ◌∷◌, ◌++◌, length, Some, sym, ap, ◌∙◌, subst, ⊎_elim, arith, append_assoc, ◌≤◌, false}
 use Rattle.std.specs.List.{AllByRecursion}
 use Rattle.std.specs.Prelude.{slice_get}
 use Rattle.std.proofs.lemmas.Option.{same_Some}
@@ -33,7 +33,7 @@ use Rattle.front.specs.declared.path.counted.Table.{Table}
 use Rattle.front.proofs.Tables.{table_cut, table_mended, table_stable}
 use Rattle.front.specs.Trail.{Note, record_of, trail}
 use Rattle.front.proofs.CutKnown.{acted, at_last, can_mend, can_squash, mend_known, mend_trail, mended_note, squash_known, squash_trail}
-use Rattle.front.proofs.Cuts.{both_same}
+use Rattle.front.proofs.Cuts.{both_same, not_none}
 use Rattle.front.proofs.Lists.{Last, all_front, all_rest, all_two, last_cases, whats_append}
 use Rattle.front.proofs.Named.{all_get, all_whats, at_past}
 use Rattle.front.proofs.Places.{kept_new}
@@ -43,9 +43,6 @@ use Rattle.front.proofs.Stays.{knows_stable}
 use Rattle.front.proofs.Trails.{IsLastOn, IsNoted, last_on, trail_noted}
 use Rattle.inorder.proofs.Letting.{IsBesides}
 use Rattle.inorder.proofs.Recent.{old_kept}
-
-no_records : (xs : List Record) (x : Record) → xs ++ x ∷ [] ≢ []
-no_records xs x e = let n = ap (λ z. length z) e in let m = length-append xs (x ∷ []) in absurd (omega arith)
 
 -- a live miss of this name
 abbrev pub IsMissOf : ℕ → Record → ℕ → UpdateUnit → Type 0
@@ -73,7 +70,7 @@ module _ (P : Program) (C : Sizes) (h : List Entry) (legal : IsLegal P C h) (res
   ok = unit_sound P C h legal
 
   pub youngest_note : Last k.notes
-  youngest_note = ⊎_elim (λ e. absurd (no_records rest one (k.are ∙ ap whats e))) (λ l. l) (last_cases k.notes)
+  youngest_note = ⊎_elim (λ e. absurd (not_none rest one (k.are ∙ ap whats e))) (λ l. l) (last_cases k.notes)
 
   abbrev fs : List Note
   fs = youngest_note.front

@@ -34,12 +34,7 @@ use Rattle.front.proofs.Named.{notes_noted, stands_right}
 use Rattle.front.proofs.Places.{kept_new, notes_length, oldest_place}
 use Rattle.front.proofs.Supplies.{link_made}
 use Rattle.front.proofs.Trails.{IsNoted}
-
-head_of : (a b : Record) (us vs : List Record) → a ∷ us ≡ b ∷ vs → a ≡ b
-head_of a b us vs e = cc e
-
-tail_of : (a b : Record) (us vs : List Record) → a ∷ us ≡ b ∷ vs → us ≡ vs
-tail_of a b us vs e = cc e
+use Rattle.front.proofs.Cuts.{head_of, tail_of}
 
 -- whoever leaves, nobody more is told
 pub released_told : (ring left : ℕ) (old : Path) (result : Option Record) (new : Path) → Releases ring left old result new → rested_at new.base ≡ rested_at old.base

@@ -1,5 +1,5 @@
 -- What a call of the front has added, taken apart: what others keep behind its last event, and what stays.
-use Rattle.std.proofs.Common.{◌≡◌, ℕ, List, [], ◌∷◌, ◌++◌, length, refl, sym, ap, ◌∙◌, subst, arith, length-append}
+use Rattle.std.proofs.Common.{◌≡◌, ℕ, List, [], ◌∷◌, sym, ap, ◌∙◌, subst}
 use Rattle.std.specs.List.{AllByRecursion}
 use Rattle.instructions.specs.Programs.{Program}
 use Rattle.inorder.specs.declared.history.Entry.{Entry}
@@ -14,11 +14,7 @@ use Rattle.inorder.proofs.Histories.{legal_before, own-append, unit_sound}
 use Rattle.inorder.proofs.Letting.{IsBesides}
 use Rattle.inorder.proofs.Sound.{IsSound}
 use Rattle.ruu_words.proofs.Stays.{front_stays}
-use Rattle.station.proofs.Splitting.{LastEvent, last_event}
-
-no_more : (xs ys : List Entry) → xs ++ ys ≡ ys → xs ≡ []
-no_more [] ys e = refl
-no_more (x ∷ xs) ys e = let n = ap (λ z. length z) e in let m = length-append xs ys in absurd (omega arith)
+use Rattle.station.proofs.Splitting.{LastEvent, last_event, no_more}
 
 module _ (P : Program) (C : Sizes) where
   pub no_event : (by : ℕ) (old new : List Entry) → (a : Adds P C by old new []) → own by a.begins.more ≡ []

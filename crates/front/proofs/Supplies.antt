@@ -1,9 +1,8 @@
 -- What a new tenant is given: it is right, and what comes from its creator can be asked for.
-use Rattle.std.proofs.Common.{◌≡◌, ◌≢◌, ℕ, ◌<◌, Bool, true, false, cond, List, ◌++◌, length, Option, Some, refl, sym, ap, ◌∙◌, subst, arith, true≢false, ◌≤◌}
+use Rattle.std.proofs.Common.{◌≡◌, ◌≢◌, ℕ, ◌<◌, Bool, true, false, cond, List, ◌++◌, Option, Some, refl, sym, ap, ◌∙◌, subst, arith, true≢false, ◌≤◌}
 use Rattle.std.specs.List.{AllByRecursion}
 use Rattle.std.specs.Prelude.{slice_index}
 use Rattle.instructions.specs.Instruction.{pc_plus_4}
-use Rattle.instructions.specs.Operations.{outcome_by}
 use Rattle.instructions.specs.Programs.{Program}
 use Rattle.instructions.specs.declared.op.Kind.{Kind}
 use Rattle.instructions.specs.declared.op.Kind.TheVariants.{Computes, Jumps, Links, Loads, Stores}
@@ -12,13 +11,14 @@ use Rattle.instructions.specs.declared.stop.Outcome.TheVariants.{Address, Next, 
 use Rattle.inorder.specs.declared.history.Entry.{Entry}
 use Rattle.inorder.specs.History.{IsLegal, unit_of}
 use Rattle.inorder.specs.Steps.{MayComeFrom, MaySupply}
-use Rattle.inorder.specs.Tenants.{Addr, Busy, Done, Fate, Miss, Open, Standing, Stopped, Tenant, computed, instr, kind_of, operand_value}
+use Rattle.inorder.specs.Tenants.{Addr, Busy, Done, Fate, Miss, Open, Standing, Stopped, Tenant, computed, kind_of}
 use Rattle.inorder.specs.Unit.{Sizes, UpdateUnit, at, creator, made_by, next_station, older, recent, value_of, younger}
 use Rattle.inorder.proofs.Basics.{split_at}
 use Rattle.inorder.proofs.Grows.{sound_mid}
 use Rattle.inorder.proofs.Histories.{unit_sound}
 use Rattle.inorder.proofs.Positions.{at_below, younger_from}
 use Rattle.inorder.proofs.Sound.{FateBy, IsSound}
+use Rattle.inorder.proofs.OneCaller.Creators.{links_go}
 use Rattle.station.specs.declared.answers.Supply.TheVariants.{From as GivenFrom, Known as GivenKnown}
 use Rattle.station.specs.Letting.{supply_of}
 use Rattle.front.specs.Path.{rested_at}
@@ -43,9 +43,6 @@ links_made o pc pr nx made a b st (Addr x) na nh h = absurd (na x h.1)
 links_made o pc pr nx made a b st (Done x) na nh h = h.0.2
 links_made o pc pr nx made a b st (Miss x) na nh h = h.0
 links_made o pc pr nx made a b st (Stopped x) na nh h = absurd (nh x h.1)
-
-links_go : (P : Program) (t : Tenant) → kind_of P t ≡ Links → (x : ℕ) × (computed P t ≡ Next x)
-links_go P t e = (_, ap (λ k. outcome_by k (instr P t) t.half t.pc (operand_value t.first) (operand_value t.second) (length P.bytes)) e)
 
 pub is_links : (k : Kind) → is_link k ≡ true → k ≡ Links
 is_links Computes e = absurd (cc e)

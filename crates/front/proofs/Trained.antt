@@ -38,6 +38,7 @@ use Rattle.front.proofs.Places.{kept_new, others_next}
 use Rattle.front.proofs.Stations.{LastSpot}
 use Rattle.front.proofs.Trails.{IsNoted, trail_all, trail_noted}
 use Rattle.inorder.proofs.Recent.{last_of_recent, new_by}
+use Rattle.inorder.proofs.OneCaller.Creators.{links_go}
 use Rattle.ruu_words.proofs.StationWords.{one_tag}
 
 -- Where a tenant that has retired went on
@@ -62,9 +63,6 @@ plain_next k after next o g a b n = plain o n ∙ sym (goes k g a b)
 
 jumps_go : (P : Program) (t : Tenant) → kind_of P t ≡ Jumps → (x : ℕ) × (computed P t ≡ Next x)
 jumps_go P t e = (_, ap (λ k. outcome_by k (instr P t) t.half t.pc (operand_value t.first) (operand_value t.second) (length P.bytes)) e)
-
-links_go : (P : Program) (t : Tenant) → kind_of P t ≡ Links → (x : ℕ) × (computed P t ≡ Next x)
-links_go P t e = (_, ap (λ k. outcome_by k (instr P t) t.half t.pc (operand_value t.first) (operand_value t.second) (length P.bytes)) e)
 
 no_jump : (P : Program) (t : Tenant) (o : Outcome) → computed P t ≡ o → ((x : ℕ) → o ≢ Next x) → kind_of P t ≢ Jumps
 no_jump P t o e n k = let g = jumps_go P t k in n g.0 (sym e ∙ g.1)

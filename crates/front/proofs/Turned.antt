@@ -31,9 +31,7 @@ use Rattle.front.proofs.Releasing.{next_is}
 use Rattle.front.proofs.Splitting.{stays}
 use Rattle.front.proofs.Stays.{knows_stable}
 use Rattle.front.proofs.Trained.{nobody_told, oldest_told}
-
-head_of : (a b : Record) (us vs : List Record) → a ∷ us ≡ b ∷ vs → a ≡ b
-head_of a b us vs e = cc e
+use Rattle.front.proofs.Cuts.{head_of}
 
 -- where nothing was added before
 pub lets_since : (P : Program) (C : Sizes) (begin old new : List Entry) (station tag pc predicted : ℕ) →

@@ -1,32 +1,19 @@
 //! Backs that end at once, and that leave their core.
 ghost use Rattle.std.specs.Prelude.{◌≡◌};
 
-use crate::drive::{by_hand, commits, finish_one, half, let_at, made};
+use crate::drive::{Setup, by_hand, commits, finish_one, half, let_at, set_up};
 use back::{Commit, Mark, Naming, Refresh};
-use instructions::{Config, Ending, Program, Stop};
+use instructions::{Ending, Program, Stop};
 use station::StationState;
-use std::alloc::Global;
 use std::marker::Brand;
 use std::process::Abort;
 use std::sync::Wait;
 use std::test::Fail;
 
-fn no_instruction<J: Naming, R: Wait + Abort>(
-    rt: &R,
-    alloc: Global,
-    program: &Program,
-    config: &Config,
-) -> Result<(), Fail>
-    requires { program.now ≡ J.program }
+fn no_instruction<J: Naming, R: Wait + Abort>(rt: &R, setup: &Setup) -> Result<(), Fail>
+    requires { setup.now.program ≡ J.program }
 {
-    let (core, _front, mut back, _snapper, mut unit) = by_hand::<J>(
-        rt,
-        alloc,
-        program,
-        config,
-        2,
-        &[],
-    )?;
+    let (core, _front, mut back, _snapper, mut unit) = by_hand::<J>(rt, setup, 2, &[])?;
     back.meet(&core, &mut unit);
     let word = back.look(&core, 1);
     let idle = back.refresh(&core);
@@ -47,29 +34,22 @@ fn no_instruction<J: Naming, R: Wait + Abort>(
 
 #[test]
 fn a_back_without_an_instruction_ends_at_once(rt: HostRuntime) -> Result<(), Fail> {
-    let (program, config) = made(rt.alloc(), b"", 2, 1, 1)?;
-    no_instruction::<Brand, _>(&rt, rt.alloc(), &program, &config)
+    let setup = set_up(rt.alloc(), b"", 2, 1, 1)?;
+    no_instruction::<Brand, _>(&rt, &setup)
 }
 
 // A back leaves before it has retired anybody, and enters again; so it does behind the first half of a multiplication.
 // Its snapper reads on.
-fn leave_and_enter<J: Naming, R: Wait + Abort>(
-    rt: &R,
-    alloc: Global,
-    program: &Program,
-    config: &Config,
-) -> Result<(), Fail>
-    requires { program.now ≡ J.program }
+fn leave_and_enter<J: Naming, R: Wait + Abort>(rt: &R, setup: &Setup) -> Result<(), Fail>
+    requires { setup.now.program ≡ J.program }
 {
     let (core, _front, fresh, mut snapper, mut unit) = by_hand::<J>(
         rt,
-        alloc,
-        program,
-        config,
+        setup,
         4,
         &[let_at(0, 1, 0x0040_0000)],
     )?;
-    assert!(rt; finish_one(&core, program, &mut unit, 0));
+    assert!(rt; finish_one(&core, &setup.program, &mut unit, 0));
     assert!(rt; fresh.ended().is_none());
     let (given, still) = fresh.leave();
     let mut entered = still.enter_again(given);
@@ -91,6 +71,6 @@ fn leave_and_enter<J: Naming, R: Wait + Abort>(
 
 #[test]
 fn a_back_goes_on_where_it_left(rt: HostRuntime) -> Result<(), Fail> {
-    let (program, config) = made(rt.alloc(), b"mult $0,$0\nbreak\n", 4, 1, 1)?;
-    leave_and_enter::<Brand, _>(&rt, rt.alloc(), &program, &config)
+    let setup = set_up(rt.alloc(), b"mult $0,$0\nbreak\n", 4, 1, 1)?;
+    leave_and_enter::<Brand, _>(&rt, &setup)
 }

@@ -27,6 +27,29 @@ pub fn made(
     Ok((program, config))
 }
 
+/// What a row begins with.
+#[derive(Drop)]
+pub struct Setup {
+    pub alloc: Global,
+    pub program: Program,
+    pub config: Config,
+}
+
+pub fn set_up(
+    alloc: Global,
+    listing: &[u8],
+    ring: u64,
+    places: u64,
+    first_tag: u64,
+) -> Result<Setup, Fail> {
+    let (program, config) = made(alloc, listing, ring, places, first_tag)?;
+    Ok(Setup {
+        alloc,
+        program,
+        config,
+    })
+}
+
 pub fn let_at(station: usize, tag: u32, pc: u32) -> Turn {
     Turn::Let { station, tag, pc }
 }
@@ -140,24 +163,23 @@ pub type Hands<'a, J> = (Core, Front<'a, NotTaken>, Back<J>, Snapper<J>, UnitSea
 /// The core of so many stations that the configuration has. Its front has taken these turns.
 pub fn by_hand<'a, J: Naming>(
     rt: &impl Abort,
-    alloc: Global,
-    program: &'a Program,
-    config: &Config,
+    setup: &'a Setup,
     ring: usize,
     turns: &[Turn],
 ) -> Result<Hands<'a, J>, Fail>
-    requires { program.now ≡ J.program }
-    ensures program { IfOk result (λ made. made.0.program ≡ program.now) }
+    requires { setup.now.program ≡ J.program }
+    ensures program { IfOk result (λ made. made.0.program ≡ setup.now.program) }
     ensures ring { IfOk result (λ made. made.0.sizes.ring ≡ ring) }
     ensures front { IfOk result (λ made. made.1.core ≡ made.0) }
     ensures back { IfOk result (λ made. made.2.core ≡ made.0) }
     ensures unit { IfOk result (λ made. made.4.core ≡ made.0) }
 {
-    let (core, seat, back_seat, unit) = Core::make(alloc, program, config)?;
+    let alloc = setup.alloc;
+    let (core, seat, back_seat, unit) = Core::make(alloc, &setup.program, &setup.config)?;
     assert!(rt; core.ring() == ring);
-    let mut front = Front::new(&core, seat, program, NotTaken);
+    let mut front = Front::new(&core, seat, &setup.program, NotTaken);
     takes(rt, &core, &mut front, turns);
-    let (back, snapper) = back_at::<J>(alloc, &core, back_seat, program, config)?;
+    let (back, snapper) = back_at::<J>(alloc, &core, back_seat, &setup.program, &setup.config)?;
     Ok((core, front, back, snapper, unit))
 }
 

@@ -1,12 +1,11 @@
 //! Multiplications, whose two halves retire one by one.
 ghost use Rattle.std.specs.Prelude.{◌≡◌, ◌≤◌};
 
-use crate::drive::{by_hand, commits, finish_one, half, let_at, made, retired, takes};
+use crate::drive::{Setup, by_hand, commits, finish_one, half, let_at, retired, set_up, takes};
 use back::{Back, Commit, Naming, Snapper};
 use front::{Recovery, Turn};
-use instructions::{Config, End, Ending, Program, Stop};
+use instructions::{End, Ending, Program, Stop};
 use station::{Core, UnitSeat};
-use std::alloc::Global;
 use std::marker::Brand;
 use std::process::Abort;
 use std::sync::Wait;
@@ -68,26 +67,14 @@ fn ends_with(rt: &impl Abort, end: &End, n: u64, pc: u32, low: u32) {
     assert_eq!(rt; (end.registers[LO], end.registers[HI]), (low, 0));
 }
 
-fn snapshots_of_a_product<J: Naming, R: Wait + Abort>(
-    rt: &R,
-    alloc: Global,
-    program: &Program,
-    config: &Config,
-) -> Result<(), Fail>
-    requires { program.now ≡ J.program }
+fn snapshots_of_a_product<J: Naming, R: Wait + Abort>(rt: &R, setup: &Setup) -> Result<(), Fail>
+    requires { setup.now.program ≡ J.program }
 {
-    let (core, _front, mut back, mut snapper, mut unit) = by_hand::<J>(
-        rt,
-        alloc,
-        program,
-        config,
-        4,
-        &square(),
-    )?;
-    first_half_retires(rt, &core, program, &mut unit, &mut back);
+    let (core, _front, mut back, mut snapper, mut unit) = by_hand::<J>(rt, setup, 4, &square())?;
+    first_half_retires(rt, &core, &setup.program, &mut unit, &mut back);
     let between = shown(rt, &mut back, &mut snapper);
-    assert!(rt; finish_one(&core, program, &mut unit, 2));
-    assert!(rt; finish_one(&core, program, &mut unit, 3));
+    assert!(rt; finish_one(&core, &setup.program, &mut unit, 2));
+    assert!(rt; finish_one(&core, &setup.program, &mut unit, 3));
     let answers = [retired(0x0040_0004, 2), retired(0x0040_0008, 3)];
     commits(rt, &core, &mut back, &answers);
     let behind = shown(rt, &mut back, &mut snapper);
@@ -101,27 +88,15 @@ fn snapshots_of_a_product<J: Naming, R: Wait + Abort>(
 
 #[test]
 fn a_snapshot_between_two_halves_is_the_one_before_them(rt: HostRuntime) -> Result<(), Fail> {
-    let (program, config) = made(rt.alloc(), SQUARE, 4, 1, 1)?;
-    snapshots_of_a_product::<Brand, _>(&rt, rt.alloc(), &program, &config)
+    let setup = set_up(rt.alloc(), SQUARE, 4, 1, 1)?;
+    snapshots_of_a_product::<Brand, _>(&rt, &setup)
 }
 
-fn end_between_halves<J: Naming, R: Wait + Abort>(
-    rt: &R,
-    alloc: Global,
-    program: &Program,
-    config: &Config,
-) -> Result<(), Fail>
-    requires { program.now ≡ J.program }
+fn end_between_halves<J: Naming, R: Wait + Abort>(rt: &R, setup: &Setup) -> Result<(), Fail>
+    requires { setup.now.program ≡ J.program }
 {
-    let (core, _front, mut back, _snapper, mut unit) = by_hand::<J>(
-        rt,
-        alloc,
-        program,
-        config,
-        4,
-        &square(),
-    )?;
-    first_half_retires(rt, &core, program, &mut unit, &mut back);
+    let (core, _front, mut back, _snapper, mut unit) = by_hand::<J>(rt, setup, 4, &square())?;
+    first_half_retires(rt, &core, &setup.program, &mut unit, &mut back);
     let n = back.n();
     let end = back.end(rt);
     assert_eq!(rt; (n, end.outcome), (1, Ending::Limit));
@@ -132,18 +107,13 @@ fn end_between_halves<J: Naming, R: Wait + Abort>(
 
 #[test]
 fn an_end_between_two_halves_is_the_state_before_them(rt: HostRuntime) -> Result<(), Fail> {
-    let (program, config) = made(rt.alloc(), SQUARE, 4, 1, 1)?;
-    end_between_halves::<Brand, _>(&rt, rt.alloc(), &program, &config)
+    let setup = set_up(rt.alloc(), SQUARE, 4, 1, 1)?;
+    end_between_halves::<Brand, _>(&rt, &setup)
 }
 
 // The first half has its value when both are squashed.
-fn both_squashed<J: Naming, R: Wait + Abort>(
-    rt: &R,
-    alloc: Global,
-    program: &Program,
-    config: &Config,
-) -> Result<(), Fail>
-    requires { program.now ≡ J.program }
+fn both_squashed<J: Naming, R: Wait + Abort>(rt: &R, setup: &Setup) -> Result<(), Fail>
+    requires { setup.now.program ≡ J.program }
 {
     let lets = [
         let_at(0, 1, 0x0040_0000),
@@ -151,19 +121,17 @@ fn both_squashed<J: Naming, R: Wait + Abort>(
         let_at(2, 1, 0x0040_0008),
         let_at(3, 1, 0x0040_0008),
     ];
-    let (core, mut front, mut back, _snapper, mut unit) = by_hand::<J>(
-        rt, alloc, program, config, 4, &lets,
-    )?;
-    assert!(rt; finish_one(&core, program, &mut unit, 0));
-    assert!(rt; finish_one(&core, program, &mut unit, 2));
-    assert!(rt; finish_one(&core, program, &mut unit, 1));
+    let (core, mut front, mut back, _snapper, mut unit) = by_hand::<J>(rt, setup, 4, &lets)?;
+    assert!(rt; finish_one(&core, &setup.program, &mut unit, 0));
+    assert!(rt; finish_one(&core, &setup.program, &mut unit, 2));
+    assert!(rt; finish_one(&core, &setup.program, &mut unit, 1));
     let mended = Recovery::Mended {
         station: 1,
         squashed: 2,
     };
     assert_eq!(rt; front.recover(&core), mended);
     takes(rt, &core, &mut front, &[let_at(2, 2, 0x0040_000c)]);
-    assert!(rt; finish_one(&core, program, &mut unit, 2));
+    assert!(rt; finish_one(&core, &setup.program, &mut unit, 2));
     let answers = [
         retired(0x0040_0000, 1),
         retired(0x0040_0004, 2),
@@ -178,6 +146,6 @@ fn both_squashed<J: Naming, R: Wait + Abort>(
 #[test]
 fn a_branch_squashes_both_halves(rt: HostRuntime) -> Result<(), Fail> {
     let listing = b"addiu $1,$0,3\nbeq $0,$0,E\nmult $1,$1\nE: break\n";
-    let (program, config) = made(rt.alloc(), listing, 4, 1, 1)?;
-    both_squashed::<Brand, _>(&rt, rt.alloc(), &program, &config)
+    let setup = set_up(rt.alloc(), listing, 4, 1, 1)?;
+    both_squashed::<Brand, _>(&rt, &setup)
 }

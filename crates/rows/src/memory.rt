@@ -1,11 +1,9 @@
 //! Loads behind stores.
-ghost use Rattle.std.specs.Prelude.{◌≡◌, ◌≤◌};
+ghost use Rattle.std.specs.Prelude.{◌≡◌};
 
-use crate::drive::{by_hand, commits, finish_one, let_at, made, retired};
-use back::{Back, Commit, Naming, Refresh};
-use instructions::{Config, Ending, Program, Stop};
-use station::{Core, UnitSeat};
-use std::alloc::Global;
+use crate::drive::{Setup, by_hand, commits, finish_one, let_at, retired, set_up};
+use back::{Commit, Naming, Refresh};
+use instructions::{Ending, Stop};
 use std::marker::Brand;
 use std::process::Abort;
 use std::sync::Wait;
@@ -22,44 +20,8 @@ fn loaded(station: usize, value: u32) -> Refresh {
 }
 
 // The address of the load comes first, then that of the store, and its data last.
-fn forwards<J: Naming>(
-    rt: &impl Abort,
-    core: &Core,
-    program: &Program,
-    unit: &mut UnitSeat,
-    back: &mut Back<J>,
-)
-    requires unit { unit.old.core ≡ core.now }
-    requires back { back.old.core ≡ core.now }
-    requires program { program.now ≡ core.now.program }
-    requires ring { 4 ≤ core.now.sizes.ring }
-{
-    assert_eq!(rt; back.refresh(core), Refresh::Idle);
-    assert!(rt; finish_one(core, program, unit, 2));
-    assert_eq!(rt; back.refresh(core), BLOCKED);
-    assert!(rt; finish_one(core, program, unit, 1));
-    assert_eq!(rt; back.refresh(core), BLOCKED);
-    assert!(rt; finish_one(core, program, unit, 0));
-    assert_eq!(rt; back.refresh(core), loaded(2, 7));
-    let answers = [
-        retired(0x0040_0000, 1),
-        retired(0x0040_0004, 2),
-        retired(0x0040_0008, 3),
-        Commit::NotDone,
-    ];
-    commits(rt, core, back, &answers);
-    assert!(rt; finish_one(core, program, unit, 3));
-    let ended = Commit::Ended(Stop::Break);
-    commits(rt, core, back, &[ended, ended]);
-}
-
-fn load_behind_a_store<J: Naming, R: Wait + Abort>(
-    rt: &R,
-    alloc: Global,
-    program: &Program,
-    config: &Config,
-) -> Result<(), Fail>
-    requires { program.now ≡ J.program }
+fn load_behind_a_store<J: Naming, R: Wait + Abort>(rt: &R, setup: &Setup) -> Result<(), Fail>
+    requires { setup.now.program ≡ J.program }
 {
     let lets = [
         let_at(0, 1, 0x0040_0000),
@@ -67,10 +29,24 @@ fn load_behind_a_store<J: Naming, R: Wait + Abort>(
         let_at(2, 1, 0x0040_0008),
         let_at(3, 1, 0x0040_000c),
     ];
-    let (core, _front, mut back, _snapper, mut unit) = by_hand::<J>(
-        rt, alloc, program, config, 4, &lets,
-    )?;
-    forwards(rt, &core, program, &mut unit, &mut back);
+    let (core, _front, mut back, _snapper, mut unit) = by_hand::<J>(rt, setup, 4, &lets)?;
+    assert_eq!(rt; back.refresh(&core), Refresh::Idle);
+    assert!(rt; finish_one(&core, &setup.program, &mut unit, 2));
+    assert_eq!(rt; back.refresh(&core), BLOCKED);
+    assert!(rt; finish_one(&core, &setup.program, &mut unit, 1));
+    assert_eq!(rt; back.refresh(&core), BLOCKED);
+    assert!(rt; finish_one(&core, &setup.program, &mut unit, 0));
+    assert_eq!(rt; back.refresh(&core), loaded(2, 7));
+    let answers = [
+        retired(0x0040_0000, 1),
+        retired(0x0040_0004, 2),
+        retired(0x0040_0008, 3),
+        Commit::NotDone,
+    ];
+    commits(rt, &core, &mut back, &answers);
+    assert!(rt; finish_one(&core, &setup.program, &mut unit, 3));
+    let ended = Commit::Ended(Stop::Break);
+    commits(rt, &core, &mut back, &[ended, ended]);
     let end = back.end(rt);
     assert_eq!(rt;
         (end.n, end.pc, end.outcome),
@@ -84,24 +60,17 @@ fn load_behind_a_store<J: Naming, R: Wait + Abort>(
 #[test]
 fn a_load_waits_for_the_data_of_a_store(rt: HostRuntime) -> Result<(), Fail> {
     let listing = b".space 4\naddiu $1,$0,7\nsw $1,0($0)\nlw $2,0($0)\nbreak\n";
-    let (program, config) = made(rt.alloc(), listing, 4, 1, 1)?;
-    load_behind_a_store::<Brand, _>(&rt, rt.alloc(), &program, &config)
+    let setup = set_up(rt.alloc(), listing, 4, 1, 1)?;
+    load_behind_a_store::<Brand, _>(&rt, &setup)
 }
 
 // A load's value goes to the one that asked for it, and the back tells its station.
-fn woken_by_a_load<J: Naming, R: Wait + Abort>(
-    rt: &R,
-    alloc: Global,
-    program: &Program,
-    config: &Config,
-) -> Result<(), Fail>
-    requires { program.now ≡ J.program }
+fn woken_by_a_load<J: Naming, R: Wait + Abort>(rt: &R, setup: &Setup) -> Result<(), Fail>
+    requires { setup.now.program ≡ J.program }
 {
     let lets = [let_at(0, 1, 0x0040_0000), let_at(1, 1, 0x0040_0004)];
-    let (core, _front, mut back, _snapper, mut unit) = by_hand::<J>(
-        rt, alloc, program, config, 4, &lets,
-    )?;
-    assert!(rt; finish_one(&core, program, &mut unit, 0));
+    let (core, _front, mut back, _snapper, mut unit) = by_hand::<J>(rt, setup, 4, &lets)?;
+    assert!(rt; finish_one(&core, &setup.program, &mut unit, 0));
     let before = back.woken();
     let found = back.refresh(&core);
     let woken = back.woken();
@@ -116,24 +85,17 @@ fn woken_by_a_load<J: Naming, R: Wait + Abort>(
 #[test]
 fn a_load_wakes_its_consumer(rt: HostRuntime) -> Result<(), Fail> {
     let listing = b".word 7\nlw $1,0($0)\naddu $2,$1,$1\nbreak\n";
-    let (program, config) = made(rt.alloc(), listing, 4, 1, 1)?;
-    woken_by_a_load::<Brand, _>(&rt, rt.alloc(), &program, &config)
+    let setup = set_up(rt.alloc(), listing, 4, 1, 1)?;
+    woken_by_a_load::<Brand, _>(&rt, &setup)
 }
 
-fn from_memory<J: Naming, R: Wait + Abort>(
-    rt: &R,
-    alloc: Global,
-    program: &Program,
-    config: &Config,
-) -> Result<(), Fail>
-    requires { program.now ≡ J.program }
+fn from_memory<J: Naming, R: Wait + Abort>(rt: &R, setup: &Setup) -> Result<(), Fail>
+    requires { setup.now.program ≡ J.program }
 {
     let lets = [let_at(0, 1, 0x0040_0000), let_at(1, 1, 0x0040_0004)];
-    let (core, _front, mut back, _snapper, mut unit) = by_hand::<J>(
-        rt, alloc, program, config, 4, &lets,
-    )?;
-    assert!(rt; finish_one(&core, program, &mut unit, 0));
-    assert!(rt; finish_one(&core, program, &mut unit, 1));
+    let (core, _front, mut back, _snapper, mut unit) = by_hand::<J>(rt, setup, 4, &lets)?;
+    assert!(rt; finish_one(&core, &setup.program, &mut unit, 0));
+    assert!(rt; finish_one(&core, &setup.program, &mut unit, 1));
     let found = back.refresh(&core);
     let answers = [
         retired(0x0040_0000, 1),
@@ -151,24 +113,17 @@ fn from_memory<J: Naming, R: Wait + Abort>(
 #[test]
 fn a_load_reads_committed_memory_past_another_store(rt: HostRuntime) -> Result<(), Fail> {
     let listing = b".word 0x80,9\nsb $0,4($0)\nlb $1,0($0)\n";
-    let (program, config) = made(rt.alloc(), listing, 4, 1, 1)?;
-    from_memory::<Brand, _>(&rt, rt.alloc(), &program, &config)
+    let setup = set_up(rt.alloc(), listing, 4, 1, 1)?;
+    from_memory::<Brand, _>(&rt, &setup)
 }
 
-fn part_of_a_store<J: Naming, R: Wait + Abort>(
-    rt: &R,
-    alloc: Global,
-    program: &Program,
-    config: &Config,
-) -> Result<(), Fail>
-    requires { program.now ≡ J.program }
+fn part_of_a_store<J: Naming, R: Wait + Abort>(rt: &R, setup: &Setup) -> Result<(), Fail>
+    requires { setup.now.program ≡ J.program }
 {
     let lets = [let_at(0, 1, 0x0040_0000), let_at(1, 1, 0x0040_0004)];
-    let (core, _front, mut back, _snapper, mut unit) = by_hand::<J>(
-        rt, alloc, program, config, 4, &lets,
-    )?;
-    assert!(rt; finish_one(&core, program, &mut unit, 0));
-    assert!(rt; finish_one(&core, program, &mut unit, 1));
+    let (core, _front, mut back, _snapper, mut unit) = by_hand::<J>(rt, setup, 4, &lets)?;
+    assert!(rt; finish_one(&core, &setup.program, &mut unit, 0));
+    assert!(rt; finish_one(&core, &setup.program, &mut unit, 1));
     let blocked = back.refresh(&core);
     let store = [retired(0x0040_0000, 1), Commit::NotDone];
     commits(rt, &core, &mut back, &store);
@@ -185,27 +140,20 @@ fn part_of_a_store<J: Naming, R: Wait + Abort>(
 #[test]
 fn a_load_waits_until_a_store_of_a_part_is_committed(rt: HostRuntime) -> Result<(), Fail> {
     let listing = b".word 0x11223344\nsb $0,1($0)\nlw $2,0($0)\nbreak\n";
-    let (program, config) = made(rt.alloc(), listing, 4, 1, 1)?;
-    part_of_a_store::<Brand, _>(&rt, rt.alloc(), &program, &config)
+    let setup = set_up(rt.alloc(), listing, 4, 1, 1)?;
+    part_of_a_store::<Brand, _>(&rt, &setup)
 }
 
-fn fault<J: Naming, R: Wait + Abort>(
-    rt: &R,
-    alloc: Global,
-    program: &Program,
-    config: &Config,
-) -> Result<(), Fail>
-    requires { program.now ≡ J.program }
+fn fault<J: Naming, R: Wait + Abort>(rt: &R, setup: &Setup) -> Result<(), Fail>
+    requires { setup.now.program ≡ J.program }
 {
     let (core, _front, mut back, _snapper, mut unit) = by_hand::<J>(
         rt,
-        alloc,
-        program,
-        config,
+        setup,
         4,
         &[let_at(0, 1, 0x0040_0000)],
     )?;
-    assert!(rt; finish_one(&core, program, &mut unit, 0));
+    assert!(rt; finish_one(&core, &setup.program, &mut unit, 0));
     let idle = back.refresh(&core);
     commits(rt, &core, &mut back, &[Commit::Ended(Stop::Unaligned)]);
     let end = back.end(rt);
@@ -219,6 +167,6 @@ fn fault<J: Naming, R: Wait + Abort>(
 
 #[test]
 fn an_unaligned_load_stops(rt: HostRuntime) -> Result<(), Fail> {
-    let (program, config) = made(rt.alloc(), b"lw $1,2($0)\n", 4, 1, 1)?;
-    fault::<Brand, _>(&rt, rt.alloc(), &program, &config)
+    let setup = set_up(rt.alloc(), b"lw $1,2($0)\n", 4, 1, 1)?;
+    fault::<Brand, _>(&rt, &setup)
 }

@@ -1,12 +1,13 @@
 //! A job that is held while its station is let again and again.
 ghost use Rattle.std.specs.Prelude.{◌≡◌, ◌≤◌};
 
-use crate::drive::{by_hand, commits, finish_job, finish_one, let_at, made, retired, takes};
+use crate::drive::{
+    Setup, by_hand, commits, finish_job, finish_one, let_at, retired, set_up, takes,
+};
 use back::{Back, Naming};
 use front::{Front, Recovery, Turn};
-use instructions::{Config, NotTaken, Program};
+use instructions::{NotTaken, Program};
 use station::{Claim, Core, Finish, StationState, UnitSeat};
-use std::alloc::Global;
 use std::marker::Brand;
 use std::process::Abort;
 use std::sync::Wait;
@@ -75,20 +76,13 @@ fn finishes_late<'a, J: Naming>(
     }
 }
 
-fn job_over_lets<J: Naming, R: Wait + Abort>(
-    rt: &R,
-    alloc: Global,
-    program: &Program,
-    config: &Config,
-) -> Result<(), Fail>
-    requires { program.now ≡ J.program }
+fn job_over_lets<J: Naming, R: Wait + Abort>(rt: &R, setup: &Setup) -> Result<(), Fail>
+    requires { setup.now.program ≡ J.program }
 {
     let lets = [let_at(0, 1, 0x0040_0000), let_at(1, 1, 0x0040_0004)];
-    let (core, mut front, mut back, _snapper, unit) = by_hand::<J>(
-        rt, alloc, program, config, 2, &lets,
-    )?;
+    let (core, mut front, mut back, _snapper, unit) = by_hand::<J>(rt, setup, 2, &lets)?;
     let units = core.split(unit);
-    let late = finishes_late(rt, &core, program, &mut front, units, &mut back);
+    let late = finishes_late(rt, &core, &setup.program, &mut front, units, &mut back);
     let word = front.look(&core, 1);
     let end = back.end(rt);
     assert_eq!(rt; late, Some(Finish::Stale));
@@ -100,6 +94,6 @@ fn job_over_lets<J: Naming, R: Wait + Abort>(
 #[test]
 fn a_job_is_stale_over_several_lets(rt: HostRuntime) -> Result<(), Fail> {
     let listing = b"L: beq $0,$0,L\naddiu $1,$0,1\n";
-    let (program, config) = made(rt.alloc(), listing, 2, 1, 1)?;
-    job_over_lets::<Brand, _>(&rt, rt.alloc(), &program, &config)
+    let setup = set_up(rt.alloc(), listing, 2, 1, 1)?;
+    job_over_lets::<Brand, _>(&rt, &setup)
 }

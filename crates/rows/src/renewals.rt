@@ -1,10 +1,10 @@
 //! Cores that are renewed where their tags are spent.
 ghost use Rattle.std.specs.Prelude.{◌≡◌, ◌≤◌, IfOk};
 
-use crate::drive::{by_hand, commits, finish_one, half, let_at, made, retired, takes};
+use crate::drive::{Setup, by_hand, commits, finish_one, half, let_at, retired, set_up, takes};
 use back::{Back, Commit, Naming, Snapper, a_back_enters_behind_a_renewal};
 use front::{Front, Rest, Turn, a_front_enters_behind_a_renewal};
-use instructions::{Config, Ending, NotTaken, Program, Stop};
+use instructions::{Ending, NotTaken, Program, Stop};
 use station::{Core, UnitSeat};
 use std::alloc::Global;
 use std::marker::Brand;
@@ -95,30 +95,32 @@ fn renewed<'a, J: Naming, R: Wait>(
 }
 
 // The tags of row 16 are spent, and its program goes on.
-fn goes_on<J: Naming, R: Wait + Abort>(
-    rt: &R,
-    alloc: Global,
-    program: &Program,
-    config: &Config,
-) -> Result<(), Fail>
-    requires { program.now ≡ J.program }
+fn goes_on<J: Naming, R: Wait + Abort>(rt: &R, setup: &Setup) -> Result<(), Fail>
+    requires { setup.now.program ≡ J.program }
 {
-    let (core, mut front, mut back, _snapper, mut unit) = by_hand::<J>(
-        rt,
-        alloc,
-        program,
-        config,
-        2,
-        &[],
-    )?;
+    let (core, mut front, mut back, _snapper, mut unit) = by_hand::<J>(rt, setup, 2, &[])?;
     let both = [retired(0x0040_0000, 1), retired(0x0040_0004, 2)];
-    spend(rt, &core, program, &mut front, &mut unit, &mut back, &both);
+    spend(
+        rt,
+        &core,
+        &setup.program,
+        &mut front,
+        &mut unit,
+        &mut back,
+        &both,
+    );
     let (core, mut front, mut back, mut unit) = renewed(
-        rt, alloc, core, front, back, unit, program,
+        rt,
+        setup.alloc,
+        core,
+        front,
+        back,
+        unit,
+        &setup.program,
     )?;
     assert!(rt; core.ring() == 2);
     takes(rt, &core, &mut front, &[let_at(0, LAST, 0x0040_0008)]);
-    assert!(rt; finish_one(&core, program, &mut unit, 0));
+    assert!(rt; finish_one(&core, &setup.program, &mut unit, 0));
     commits(rt, &core, &mut back, &[Commit::Ended(Stop::Break)]);
     let end = back.end(rt);
     assert_eq!(rt;
@@ -131,45 +133,39 @@ fn goes_on<J: Naming, R: Wait + Abort>(
 
 #[test]
 fn a_program_goes_on_behind_a_renewal(rt: HostRuntime) -> Result<(), Fail> {
-    let (program, config) = made(rt.alloc(), SUM, 2, 1, LAST as u64)?;
-    goes_on::<Brand, _>(&rt, rt.alloc(), &program, &config)
+    let setup = set_up(rt.alloc(), SUM, 2, 1, LAST as u64)?;
+    goes_on::<Brand, _>(&rt, &setup)
 }
 
 // What the first half has made for LO waits for the second, and that knows its sources.
-fn between_halves<J: Naming, R: Wait + Abort>(
-    rt: &R,
-    alloc: Global,
-    program: &Program,
-    config: &Config,
-) -> Result<(), Fail>
-    requires { program.now ≡ J.program }
+fn between_halves<J: Naming, R: Wait + Abort>(rt: &R, setup: &Setup) -> Result<(), Fail>
+    requires { setup.now.program ≡ J.program }
 {
-    let (core, mut front, mut back, _snapper, mut unit) = by_hand::<J>(
-        rt,
-        alloc,
-        program,
-        config,
-        2,
-        &[],
-    )?;
+    let (core, mut front, mut back, _snapper, mut unit) = by_hand::<J>(rt, setup, 2, &[])?;
     let first_half = [retired(0x0040_0000, 1), half(0x0040_0004)];
     spend(
         rt,
         &core,
-        program,
+        &setup.program,
         &mut front,
         &mut unit,
         &mut back,
         &first_half,
     );
     let (core, mut front, mut back, mut unit) = renewed(
-        rt, alloc, core, front, back, unit, program,
+        rt,
+        setup.alloc,
+        core,
+        front,
+        back,
+        unit,
+        &setup.program,
     )?;
     assert!(rt; core.ring() == 2);
     let lets = [let_at(0, LAST, 0x0040_0004), let_at(1, LAST, 0x0040_0008)];
     takes(rt, &core, &mut front, &lets);
-    assert!(rt; finish_one(&core, program, &mut unit, 0));
-    assert!(rt; finish_one(&core, program, &mut unit, 1));
+    assert!(rt; finish_one(&core, &setup.program, &mut unit, 0));
+    assert!(rt; finish_one(&core, &setup.program, &mut unit, 1));
     let answers = [retired(0x0040_0004, 2), Commit::Ended(Stop::Break)];
     commits(rt, &core, &mut back, &answers);
     let end = back.end(rt);
@@ -180,8 +176,8 @@ fn between_halves<J: Naming, R: Wait + Abort>(
 
 #[test]
 fn a_product_is_renewed_between_its_halves(rt: HostRuntime) -> Result<(), Fail> {
-    let (program, config) = made(rt.alloc(), SQUARE, 2, 1, LAST as u64)?;
-    between_halves::<Brand, _>(&rt, rt.alloc(), &program, &config)
+    let setup = set_up(rt.alloc(), SQUARE, 2, 1, LAST as u64)?;
+    between_halves::<Brand, _>(&rt, &setup)
 }
 
 // Count and pc of what is shown.
@@ -199,33 +195,35 @@ fn shown<J: Naming, R: Wait + Abort>(
 }
 
 // A snapper stays good.
-fn snapshots<J: Naming, R: Wait + Abort>(
-    rt: &R,
-    alloc: Global,
-    program: &Program,
-    config: &Config,
-) -> Result<(), Fail>
-    requires { program.now ≡ J.program }
+fn snapshots<J: Naming, R: Wait + Abort>(rt: &R, setup: &Setup) -> Result<(), Fail>
+    requires { setup.now.program ≡ J.program }
 {
-    let (core, mut front, mut back, mut snapper, mut unit) = by_hand::<J>(
-        rt,
-        alloc,
-        program,
-        config,
-        2,
-        &[],
-    )?;
+    let (core, mut front, mut back, mut snapper, mut unit) = by_hand::<J>(rt, setup, 2, &[])?;
     let both = [retired(0x0040_0000, 1), retired(0x0040_0004, 2)];
-    spend(rt, &core, program, &mut front, &mut unit, &mut back, &both);
+    spend(
+        rt,
+        &core,
+        &setup.program,
+        &mut front,
+        &mut unit,
+        &mut back,
+        &both,
+    );
     let before = shown(rt, &mut back, &mut snapper);
     let (core, mut front, mut back, mut unit) = renewed(
-        rt, alloc, core, front, back, unit, program,
+        rt,
+        setup.alloc,
+        core,
+        front,
+        back,
+        unit,
+        &setup.program,
     )?;
     assert!(rt; core.ring() == 2);
     let still = snapper.take().ok();
     let again = shown(rt, &mut back, &mut snapper);
     takes(rt, &core, &mut front, &[let_at(0, LAST, 0x0040_0008)]);
-    assert!(rt; finish_one(&core, program, &mut unit, 0));
+    assert!(rt; finish_one(&core, &setup.program, &mut unit, 0));
     commits(rt, &core, &mut back, &[retired(0x0040_0008, 3)]);
     let behind = shown(rt, &mut back, &mut snapper);
     let end = back.end(rt);
@@ -238,6 +236,6 @@ fn snapshots<J: Naming, R: Wait + Abort>(
 
 #[test]
 fn snapshots_go_on_behind_a_renewal(rt: HostRuntime) -> Result<(), Fail> {
-    let (program, config) = made(rt.alloc(), LONGER, 2, 1, LAST as u64)?;
-    snapshots::<Brand, _>(&rt, rt.alloc(), &program, &config)
+    let setup = set_up(rt.alloc(), LONGER, 2, 1, LAST as u64)?;
+    snapshots::<Brand, _>(&rt, &setup)
 }

@@ -1,29 +1,21 @@
 //! What the back sees of a station that it retires.
 ghost use Rattle.std.specs.Prelude.{◌≡◌};
 
-use crate::drive::{by_hand, commits, finish_one, let_at, made, retired};
+use crate::drive::{Setup, by_hand, commits, finish_one, let_at, retired, set_up};
 use back::{Commit, Naming};
-use instructions::{Config, Program, Stop};
+use instructions::Stop;
 use station::StationState;
-use std::alloc::Global;
 use std::marker::Brand;
 use std::process::Abort;
 use std::sync::Wait;
 use std::test::Fail;
 
-fn met_a_unit<J: Naming, R: Wait + Abort>(
-    rt: &R,
-    alloc: Global,
-    program: &Program,
-    config: &Config,
-) -> Result<(), Fail>
-    requires { program.now ≡ J.program }
+fn met_a_unit<J: Naming, R: Wait + Abort>(rt: &R, setup: &Setup) -> Result<(), Fail>
+    requires { setup.now.program ≡ J.program }
 {
     let lets = [let_at(0, 1, 0x0040_0000), let_at(1, 1, 0x0040_0004)];
-    let (core, _front, mut back, _snapper, mut unit) = by_hand::<J>(
-        rt, alloc, program, config, 2, &lets,
-    )?;
-    assert!(rt; finish_one(&core, program, &mut unit, 0));
+    let (core, _front, mut back, _snapper, mut unit) = by_hand::<J>(rt, setup, 2, &lets)?;
+    assert!(rt; finish_one(&core, &setup.program, &mut unit, 0));
     back.meet(&core, &mut unit);
     let done = back.look(&core, 0);
     commits(
@@ -33,7 +25,7 @@ fn met_a_unit<J: Naming, R: Wait + Abort>(
         &[retired(0x0040_0000, 1), Commit::NotDone],
     );
     let free = back.look(&core, 0);
-    assert!(rt; finish_one(&core, program, &mut unit, 1));
+    assert!(rt; finish_one(&core, &setup.program, &mut unit, 1));
     let going = back.ended();
     commits(rt, &core, &mut back, &[Commit::Ended(Stop::Break)]);
     let ended = back.ended();
@@ -46,6 +38,6 @@ fn met_a_unit<J: Naming, R: Wait + Abort>(
 
 #[test]
 fn a_station_that_is_left_has_the_next_tag(rt: HostRuntime) -> Result<(), Fail> {
-    let (program, config) = made(rt.alloc(), b"addiu $1,$0,5\nbreak\n", 2, 1, 1)?;
-    met_a_unit::<Brand, _>(&rt, rt.alloc(), &program, &config)
+    let setup = set_up(rt.alloc(), b"addiu $1,$0,5\nbreak\n", 2, 1, 1)?;
+    met_a_unit::<Brand, _>(&rt, &setup)
 }

@@ -1,13 +1,12 @@
 //! Snapshots of what was committed.
 ghost use Rattle.std.specs.Prelude.{◌≡◌};
 
-use crate::drive::{back_at, by_hand, commits, finish_one, let_at, made, retired, takes};
+use crate::drive::{Setup, back_at, by_hand, commits, finish_one, let_at, retired, set_up, takes};
 use back::{Back, Gone, Mark, Naming, NoPlace, Snap, Snapper};
 use front::Front;
-use instructions::{Config, NotTaken, Program};
+use instructions::{Config, NotTaken};
 use isa::parse;
 use station::Core;
-use std::alloc::Global;
 use std::marker::Brand;
 use std::process::Abort;
 use std::sync::Wait;
@@ -33,25 +32,18 @@ fn take_alike<J: Naming>(rt: &impl Abort, snapper: &mut Snapper<J>, mark: &Mark)
     snap
 }
 
-fn three_commits<J: Naming, R: Wait + Abort>(
-    rt: &R,
-    alloc: Global,
-    program: &Program,
-    config: &Config,
-) -> Result<(), Fail>
-    requires { program.now ≡ J.program }
+fn three_commits<J: Naming, R: Wait + Abort>(rt: &R, setup: &Setup) -> Result<(), Fail>
+    requires { setup.now.program ≡ J.program }
 {
     let lets = [
         let_at(0, 1, 0x0040_0000),
         let_at(1, 1, 0x0040_0004),
         let_at(2, 1, 0x0040_0008),
     ];
-    let (core, _front, mut back, mut snapper, mut unit) = by_hand::<J>(
-        rt, alloc, program, config, 4, &lets,
-    )?;
-    assert!(rt; finish_one(&core, program, &mut unit, 0));
-    assert!(rt; finish_one(&core, program, &mut unit, 1));
-    assert!(rt; finish_one(&core, program, &mut unit, 2));
+    let (core, _front, mut back, mut snapper, mut unit) = by_hand::<J>(rt, setup, 4, &lets)?;
+    assert!(rt; finish_one(&core, &setup.program, &mut unit, 0));
+    assert!(rt; finish_one(&core, &setup.program, &mut unit, 1));
+    assert!(rt; finish_one(&core, &setup.program, &mut unit, 2));
     let answers = [
         retired(0x0040_0000, 1),
         retired(0x0040_0004, 2),
@@ -73,19 +65,15 @@ fn three_commits<J: Naming, R: Wait + Abort>(
 #[test]
 fn a_mark_names_what_is_taken(rt: HostRuntime) -> Result<(), Fail> {
     let listing = b"addiu $1,$0,1\naddiu $2,$0,2\naddiu $3,$0,3\nbreak\n";
-    let (program, config) = made(rt.alloc(), listing, 4, 2, 1)?;
-    three_commits::<Brand, _>(&rt, rt.alloc(), &program, &config)
+    let setup = set_up(rt.alloc(), listing, 4, 2, 1)?;
+    three_commits::<Brand, _>(&rt, &setup)
 }
 
 // What is refused memory, here or there, is tried once more.
-fn refused_once<J: Naming, R: Wait + Abort>(
-    rt: &R,
-    alloc: Global,
-    program: &Program,
-    config: &Config,
-) -> Result<(), Fail>
-    requires { program.now ≡ J.program }
+fn refused_once<J: Naming, R: Wait + Abort>(rt: &R, setup: &Setup) -> Result<(), Fail>
+    requires { setup.now.program ≡ J.program }
 {
+    let (alloc, program, config) = (setup.alloc, &setup.program, &setup.config);
     let Ok((core, seat, back_seat, mut unit)) = Core::make(alloc, program, config) else {
         return Ok(());
     };
@@ -121,26 +109,18 @@ fn what_is_refused_memory_is_done_at_the_next_try(rt: HostRuntime) -> Result<(),
         Ok(program) => program,
         Err(_) => parse(rt.alloc(), listing)?,
     };
-    let config = Config::new(4, 2, 1, 1, 1, 1_000, 1_000)?;
-    refused_once::<Brand, _>(&rt, rt.alloc(), &program, &config)
+    let setup = Setup {
+        alloc: rt.alloc(),
+        program,
+        config: Config::new(4, 2, 1, 1, 1, 1_000, 1_000)?,
+    };
+    refused_once::<Brand, _>(&rt, &setup)
 }
 
-fn one_place<J: Naming, R: Wait + Abort>(
-    rt: &R,
-    alloc: Global,
-    program: &Program,
-    config: &Config,
-) -> Result<(), Fail>
-    requires { program.now ≡ J.program }
+fn one_place<J: Naming, R: Wait + Abort>(rt: &R, setup: &Setup) -> Result<(), Fail>
+    requires { setup.now.program ≡ J.program }
 {
-    let (_core, _front, back, mut snapper, _unit) = by_hand::<J>(
-        rt,
-        alloc,
-        program,
-        config,
-        2,
-        &[],
-    )?;
+    let (_core, _front, back, mut snapper, _unit) = by_hand::<J>(rt, setup, 2, &[])?;
     let second = snapper.another().map(|_| ());
     let taken = snapper.take().ok();
     back.end(rt);
@@ -151,6 +131,6 @@ fn one_place<J: Naming, R: Wait + Abort>(
 
 #[test]
 fn one_place_takes_no_second_snapper(rt: HostRuntime) -> Result<(), Fail> {
-    let (program, config) = made(rt.alloc(), b"break\n", 2, 1, 1)?;
-    one_place::<Brand, _>(&rt, rt.alloc(), &program, &config)
+    let setup = set_up(rt.alloc(), b"break\n", 2, 1, 1)?;
+    one_place::<Brand, _>(&rt, &setup)
 }

@@ -1,11 +1,10 @@
 //! Rings that are full, and tags that are spent.
 ghost use Rattle.std.specs.Prelude.{◌≡◌};
 
-use crate::drive::{by_hand, commits, finish_one, let_at, made, retired, takes};
+use crate::drive::{Setup, by_hand, commits, finish_one, let_at, retired, set_up, takes};
 use back::{Commit, Naming};
 use front::Turn;
-use instructions::{Config, Ending, Program};
-use std::alloc::Global;
+use instructions::Ending;
 use std::marker::Brand;
 use std::process::Abort;
 use std::sync::Wait;
@@ -13,23 +12,16 @@ use std::test::Fail;
 
 const LISTING: &[u8] = b"addiu $1,$0,5\naddu $2,$1,$1\nbreak\n";
 
-fn spent_tags<J: Naming, R: Wait + Abort>(
-    rt: &R,
-    alloc: Global,
-    program: &Program,
-    config: &Config,
-) -> Result<(), Fail>
-    requires { program.now ≡ J.program }
+fn spent_tags<J: Naming, R: Wait + Abort>(rt: &R, setup: &Setup) -> Result<(), Fail>
+    requires { setup.now.program ≡ J.program }
 {
     let lets = [
         let_at(0, 0x0fff_fffe, 0x0040_0000),
         let_at(1, 0x0fff_fffe, 0x0040_0004),
     ];
-    let (core, mut front, mut back, _snapper, mut unit) = by_hand::<J>(
-        rt, alloc, program, config, 2, &lets,
-    )?;
-    assert!(rt; finish_one(&core, program, &mut unit, 0));
-    assert!(rt; finish_one(&core, program, &mut unit, 1));
+    let (core, mut front, mut back, _snapper, mut unit) = by_hand::<J>(rt, setup, 2, &lets)?;
+    assert!(rt; finish_one(&core, &setup.program, &mut unit, 0));
+    assert!(rt; finish_one(&core, &setup.program, &mut unit, 1));
     let both = [retired(0x0040_0000, 1), retired(0x0040_0004, 2)];
     commits(rt, &core, &mut back, &both);
     takes(rt, &core, &mut front, &[Turn::Spent]);
@@ -45,27 +37,20 @@ fn spent_tags<J: Naming, R: Wait + Abort>(
 
 #[test]
 fn tags_are_spent(rt: HostRuntime) -> Result<(), Fail> {
-    let (program, config) = made(rt.alloc(), LISTING, 2, 1, 0x0fff_fffe)?;
-    spent_tags::<Brand, _>(&rt, rt.alloc(), &program, &config)
+    let setup = set_up(rt.alloc(), LISTING, 2, 1, 0x0fff_fffe)?;
+    spent_tags::<Brand, _>(&rt, &setup)
 }
 
-fn full_ring<J: Naming, R: Wait + Abort>(
-    rt: &R,
-    alloc: Global,
-    program: &Program,
-    config: &Config,
-) -> Result<(), Fail>
-    requires { program.now ≡ J.program }
+fn full_ring<J: Naming, R: Wait + Abort>(rt: &R, setup: &Setup) -> Result<(), Fail>
+    requires { setup.now.program ≡ J.program }
 {
     let lets = [
         let_at(0, 1, 0x0040_0000),
         let_at(1, 1, 0x0040_0004),
         Turn::Full,
     ];
-    let (core, mut front, mut back, _snapper, mut unit) = by_hand::<J>(
-        rt, alloc, program, config, 2, &lets,
-    )?;
-    assert!(rt; finish_one(&core, program, &mut unit, 0));
+    let (core, mut front, mut back, _snapper, mut unit) = by_hand::<J>(rt, setup, 2, &lets)?;
+    assert!(rt; finish_one(&core, &setup.program, &mut unit, 0));
     commits(rt, &core, &mut back, &[retired(0x0040_0000, 1)]);
     takes(rt, &core, &mut front, &[let_at(0, 2, 0x0040_0008)]);
     let end = back.end(rt);
@@ -75,6 +60,6 @@ fn full_ring<J: Naming, R: Wait + Abort>(
 
 #[test]
 fn a_full_ring_goes_on_after_a_commit(rt: HostRuntime) -> Result<(), Fail> {
-    let (program, config) = made(rt.alloc(), LISTING, 2, 1, 1)?;
-    full_ring::<Brand, _>(&rt, rt.alloc(), &program, &config)
+    let setup = set_up(rt.alloc(), LISTING, 2, 1, 1)?;
+    full_ring::<Brand, _>(&rt, &setup)
 }

@@ -94,6 +94,11 @@ asked_stays P C k q r U by s b a ok i =
 not_ends : (x y : ℕ) → x ≡ y → y ≢ 0 → y ≢ 4 → IsUnmade x
 not_ends x y e a b = ((λ z. a (sym e ∙ z)), (λ z. b (sym e ∙ z)))
 
+-- after a delivery its source has the value
+pub value_there : (ts : List Tenant) (k : Source) (t : Tenant) → (operand k (delivered ts t k)).value ≡ value_of ts (operand k t).creator
+value_there ts First t = refl
+value_there ts Second t = refl
+
 module _ (P : Program) (C : Sizes) where
   -- a plan with a mark behind its events
   pub and_marks : (id : ℕ) (h : List Entry) (d : Draft) (x : Place) (new : ℕ) (Kind Kind' : List Entry → Draft → List Event → Type 0) (mark : Mark) (p : Plan P C id h d x new Kind)
@@ -192,11 +197,6 @@ module _ (P : Program) (C : Sizes) where
       (says h legal r q p k i j.tenant j.is j.new j.station_is l n content)
 
   -- The exchange
-
-  -- after a delivery its source has the value
-  value_there : (ts : List Tenant) (k : Source) (t : Tenant) → (operand k (delivered ts t k)).value ≡ value_of ts (operand k t).creator
-  value_there ts First t = refl
-  value_there ts Second t = refl
 
   pub answer_plan : (id : ℕ) (v : View) (c g r q val old new : ℕ) (k : Source) → id ≡ front → v.draft ≡ Nothing → IsOperandOf (record { tag = g; value = None }) old →
       IsOperandOf (record { tag = g; value = Some val }) new

@@ -26,7 +26,7 @@ use Rattle.ruu_words.specs.Plans.{Plan, Plans}
 use Rattle.ruu_words.proofs.StationWords.{its_word, live_state, one_at, still_live}
 use Rattle.ruu_words.proofs.Stays.{back_stays, front_stays, named_stays}
 
-mended_word : (t : Tenant) (k x n : ℕ) (f : Fate) → f ≡ Miss x → t.standing ≡ Live → IsStation (live_word t.tag (Done x)) n → IsStation (word_of k (Some (mended_as t f))) n
+pub mended_word : (t : Tenant) (k x n : ℕ) (f : Fate) → f ≡ Miss x → t.standing ≡ Live → IsStation (live_word t.tag (Done x)) n → IsStation (word_of k (Some (mended_as t f))) n
 mended_word t k x n f e live w = subst (λ f. IsStation (word_of k (Some (mended_as t f))) n) (sym e) (still_live t.standing k t.tag (Done x) t.made n live w)
 
 left_same : (f : Fate) (made : Option ℕ) (m : ℕ) → left_value f (made_at_end f made m) ≡ left_value f (Some m)

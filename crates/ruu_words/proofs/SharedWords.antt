@@ -7,9 +7,9 @@ use Rattle.inorder.specs.declared.history.Source.TheVariants.{First, Second}
 use Rattle.inorder.specs.History.{unit_of}
 use Rattle.inorder.specs.Tenants.{Linked, Live, Tenant, operand}
 use Rattle.inorder.specs.Unit.{Sizes, UpdateUnit, at}
-use Rattle.inorder.proofs.Runs.Examples.{at_let_not_linked, known}
+use Rattle.inorder.proofs.Runs.Examples.{at_let_not_linked, known, two_stations}
 use Rattle.inorder.proofs.Positions.{all_at}
-use Rattle.inorder.proofs.Runs.SharedRun.{adds, made, relet, two_stations}
+use Rattle.inorder.proofs.Runs.SharedRun.{adds, made, relet}
 use Rattle.ruu_words.specs.declared.place.Place.{Place}
 use Rattle.ruu_words.specs.declared.place.Place.TheVariants.{Info, Link, Operand, Station}
 use Rattle.ruu_words.specs.declared.rule.Draft.TheVariants.{Nothing}

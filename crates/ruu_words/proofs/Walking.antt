@@ -31,10 +31,10 @@ served_or_stays k g by s t t' m f = ⊎_elim
     (λ e. inr (m.tag ∙ e))
     f
 
-producer_is : (g c n : ℕ) → c < 268435456 → n ≡ pack_link g c → producer_of n ≡ g
+pub producer_is : (g c n : ℕ) → c < 268435456 → n ≡ pack_link g c → producer_of n ≡ g
 producer_is g c n small e = omega arith
 
-consumer_is : (g c n : ℕ) → c < 268435456 → n ≡ pack_link g c → consumer_of n ≡ c
+pub consumer_is : (g c n : ℕ) → c < 268435456 → n ≡ pack_link g c → consumer_of n ≡ c
 consumer_is g c n small e = omega arith
 
 module _ (P : Program) (C : Sizes) where

@@ -34,7 +34,7 @@ use Rattle.ruu_words.specs.Content.{IsOperandOf}
 use Rattle.ruu_words.specs.Fields.{pack_link, state_of, word_value}
 use Rattle.ruu_words.specs.Kinds.{Answers, Asks, HasLink, IsInTime, IsMade, IsNamed, IsTenant, IsUnmade, Questions}
 use Rattle.ruu_words.specs.Telling.{Grows}
-use Rattle.ruu_words.proofs.Asking.{answer_plan, path_on, question_plan}
+use Rattle.ruu_words.proofs.Asking.{answer_plan, path_on, question_plan, value_there}
 use Rattle.ruu_words.proofs.Delivery.{link_on}
 use Rattle.ruu_words.specs.Plans.{Plans}
 use Rattle.ruu_words.proofs.Linking.{last_stays, link_plan}
@@ -58,10 +58,6 @@ linked_path ts Second t = refl
 delivered_path : (ts : List Tenant) (k : Source) (t : Tenant) → on_path (delivered ts t k) ≡ on_path t
 delivered_path ts First t = refl
 delivered_path ts Second t = refl
-
-value_there : (ts : List Tenant) (k : Source) (t : Tenant) → (operand k (delivered ts t k)).value ≡ value_of ts (operand k t).creator
-value_there ts First t = refl
-value_there ts Second t = refl
 
 not_both : (n : ℕ) → IsMade n → IsUnmade n → ⊥
 not_both n m u = ⊎_elim (λ e. u.0 e) (λ e. u.1 e) m

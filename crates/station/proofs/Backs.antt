@@ -1,6 +1,5 @@
 -- What the back knows of the oldest live tenant stays true, up to its own retirements.
-use Rattle.std.proofs.Common.{◌≡◌, ◌⊎◌, ℕ, ◌%◌, Bool, true, false, cond, eqb, List, [], ◌∷◌, ◌++◌, map, length, take, sym, refl, ap, ◌∙◌, subst, inl, inr, ⊎_elim, arith, length-append}
-use Rattle.std.proofs.Math.Seq.{take-append_seam}
+use Rattle.std.proofs.Common.{◌≡◌, ◌⊎◌, ℕ, ◌%◌, Bool, true, false, cond, eqb, List, [], ◌∷◌, ◌++◌, map, sym, refl, ap, ◌∙◌, subst, inl, inr, ⊎_elim, arith}
 use Rattle.std.specs.List.{AllByRecursion}
 use Rattle.atomic_table.specs.Table.{Me}
 use Rattle.instructions.specs.Programs.{Program}
@@ -16,12 +15,12 @@ use Rattle.inorder.specs.OneHistory.{Adds}
 use Rattle.inorder.specs.Laws.{IsNoRetire}
 use Rattle.inorder.specs.Legal.{Allowed, applied, changed}
 use Rattle.inorder.specs.Steps.{IsNoRetiredStop}
-use Rattle.inorder.specs.Tenants.{Live, Tenant}
+use Rattle.inorder.specs.Tenants.{Tenant}
 use Rattle.inorder.specs.Unit.{Sizes, UpdateUnit, older, younger}
 use Rattle.inorder.proofs.Basics.{split_at}
 use Rattle.inorder.proofs.Ends.{IsNotBacks}
 use Rattle.inorder.proofs.Grows.{all_grows}
-use Rattle.inorder.proofs.Heads.{goes_on_stays, head_stays, over_stays}
+use Rattle.inorder.proofs.Heads.{goes_on_stays, head_stays, live_goes_on, over_stays}
 use Rattle.inorder.proofs.Histories.{own-append, unit_sound, none_between}
 use Rattle.inorder.proofs.Kept.{parts}
 use Rattle.inorder.proofs.Positions.{all_at, all_from}
@@ -29,6 +28,7 @@ use Rattle.inorder.proofs.Sound.{IsSound}
 use Rattle.ruu_words.specs.declared.rule.Role.TheVariants.{Back}
 use Rattle.ruu_words.specs.declared.rule.View.{View}
 use Rattle.station.specs.Seats.{HasRetiredStop, IsAtHead, IsSeated}
+use Rattle.station.proofs.Splitting.{cut_back}
 use Rattle.inorder.proofs.Recent.{counts_same}
 
 -- A step that is neither a retirement nor a renewal
@@ -49,9 +49,6 @@ is_load_or_not (On p (Retire n)) h = absurd h
 is_load_or_not (On p Squash) h = inl tt
 is_load_or_not (On p Mend) h = inl tt
 is_load_or_not Renew h = absurd h
-
-live_goes_on : (t : Tenant) → t.standing ≡ Live → IsNoRetiredStop t
-live_goes_on t live gone c f = let x = sym live ∙ gone in absurd (cc x)
 
 module _ (P : Program) (C : Sizes) where
   load_head : (U : UpdateUnit) (by p : ℕ) → Allowed P C U by (On p Load) → head_station C (applied P C U by (On p Load)) ≡ head_station C U
@@ -134,14 +131,6 @@ module _ (P : Program) (C : Sizes) where
       go by (Refuses r) may keep j = j
       go by (Marks m) may keep j = j
 
-  same_end : (xs ys zs : List Entry) → xs ++ zs ≡ ys ++ zs → xs ≡ ys
-  same_end xs ys zs e =
-      let wide = ap (λ l. length l) e in
-      let lx = length-append xs zs in
-      let ly = length-append ys zs in
-      let same : length xs ≡ length ys = omega arith in
-      sym (take-append_seam xs zs) ∙ ((λ i. take (same i) (e i)) ∙ take-append_seam ys zs)
-
   events_keep : (es : List Event) → AllByRecursion IsNoRetirement es → AllByRecursion Keeps (map (entry back) es)
   events_keep [] h = tt
   events_keep (e ∷ es) h = (h.0, events_keep es h.1)
@@ -152,7 +141,7 @@ module _ (P : Program) (C : Sizes) where
   back_on by station over old new es a keeps knows is =
       let more : List Entry = a.begins.more in
       let mine : own back new ≡ map (entry back) es ++ own back old = subst (λ z. own z new ≡ map (entry z) es ++ own z old) is a.mine in
-      let these : own back more ≡ map (entry back) es = same_end (own back more) (map (entry back) es) (own back old) (sym (own-append back more old) ∙ (ap (own back) (sym a.begins.is) ∙ mine)) in
+      let these : own back more ≡ map (entry back) es = cut_back (own back more) (map (entry back) es) (own back old) (sym (own-append back more old) ∙ (ap (own back) (sym a.begins.is) ∙ mine)) in
       let legal : IsLegal P C (more ++ old) = subst (IsLegal P C) a.begins.is a.legal in
       let none = all_keep more old legal (sym (ap renewals a.begins.is) ∙ a.one_table) (subst (AllByRecursion Keeps) (sym these) (events_keep es keeps)) in
       subst (λ h. IsAtHead C (unit_of P C h) station over) (sym a.begins.is) (at_head_on station over more old legal none (knows is))
@@ -180,7 +169,7 @@ module _ (P : Program) (C : Sizes) where
   pub stop_stays : (old new : List Entry) → Adds P C back old new [] → GoesOn (unit_of P C old) → GoesOn (unit_of P C new)
   stop_stays old new a g =
       let more : List Entry = a.begins.more in
-      let these : own back more ≡ [] = same_end (own back more) [] (own back old) (sym (own-append back more old) ∙ (ap (own back) (sym a.begins.is) ∙ a.mine)) in
+      let these : own back more ≡ [] = cut_back (own back more) [] (own back old) (sym (own-append back more old) ∙ (ap (own back) (sym a.begins.is) ∙ a.mine)) in
       let legal : IsLegal P C (more ++ old) = subst (IsLegal P C) a.begins.is a.legal in
       let none = all_keep more old legal (sym (ap renewals a.begins.is) ∙ a.one_table) (subst (AllByRecursion Keeps) (sym these) tt) in
       subst (λ h. GoesOn (unit_of P C h)) (sym a.begins.is) (goes_on_behind more old legal none g)

@@ -1,5 +1,5 @@
 -- A value goes along the links of its station.
-use Rattle.std.proofs.Common.{◌≡◌, ◌≢◌, ◌⊎◌, ℕ, suc, ◌<◌, ◌≤◌, Bool, true, false, cond, eqb, List, [], ◌∷◌, ◌++◌, map, length, Some, refl, sym, ap, ◌∙◌, subst, inl, ⊎_elim, arith, inr}
+use Rattle.std.proofs.Common.{◌≡◌, ◌≢◌, ◌⊎◌, ℕ, suc, ◌≤◌, Bool, true, false, cond, eqb, List, [], ◌∷◌, ◌++◌, map, length, Some, refl, sym, ap, ◌∙◌, subst, inl, ⊎_elim, arith, inr}
 use Rattle.std.specs.List.{AllByRecursion}
 use mathlib.Core.Logic.{dite}
 use native.Mathlib.Decide.{ℕ_discrete}
@@ -19,7 +19,7 @@ use Rattle.inorder.specs.Legal.{Allowed}
 use Rattle.inorder.specs.Replies.{Has, IsDelivered}
 use Rattle.inorder.specs.Steps.{delivered}
 use Rattle.inorder.specs.Tenants.{Live, Tenant, operand}
-use Rattle.inorder.specs.Unit.{at, older, recent, Sizes, UpdateUnit, value_of}
+use Rattle.inorder.specs.Unit.{at, older, recent, Sizes, UpdateUnit}
 use Rattle.inorder.proofs.Histories.{adds_on, allowed_steps, legal_before, unit_lasts}
 use Rattle.inorder.proofs.Moves.{IsActed, IsLeft, at_changed, goes}
 use Rattle.inorder.proofs.Serving.{AreLinked, are_small, made_stays, served_stays}
@@ -29,7 +29,7 @@ use Rattle.ruu_words.specs.declared.rule.Role.{Role}
 use Rattle.ruu_words.specs.declared.rule.Role.TheVariants.{Back, Front, Spent, Start, Worker}
 use Rattle.ruu_words.specs.declared.rule.View.{View}
 use Rattle.ruu_words.specs.Content.{NamesLink}
-use Rattle.ruu_words.specs.Fields.{consumer_of, pack_link, producer_of, tag_of}
+use Rattle.ruu_words.specs.Fields.{consumer_of, producer_of, tag_of}
 use Rattle.ruu_words.specs.Kinds.{Delivers, Finds, HasLink, IsAny, IsNamed, IsTenant, ReadsLink}
 use Rattle.ruu_words.specs.Views.{IsCaller}
 use Rattle.ruu_words.specs.Telling.{Grows}
@@ -38,7 +38,8 @@ use Rattle.ruu_words.proofs.Delivery.{link_on}
 use Rattle.ruu_words.specs.Plans.{Plans}
 use Rattle.ruu_words.proofs.StationWords.{one_tag}
 use Rattle.ruu_words.proofs.Stays.{named_of, named_on, named_stays, one_named, same_before, tenant_stays}
-use Rattle.ruu_words.proofs.Walking.{IsServedOr, is_walked, served_but_named, served_but_stays, served_unless_named, served_with_it}
+use Rattle.ruu_words.proofs.Walking.{IsServedOr, consumer_is, is_walked, producer_is, served_but_named, served_but_stays, served_unless_named, served_with_it}
+use Rattle.ruu_words.proofs.Asking.{value_there}
 use Rattle.station.specs.Carrying.{EndsWalk, HasValueOf, HasWalked, IsCarrying, IsServedAll, IsServing, IsWriter, Makes, OfTenant}
 use Rattle.station.specs.Writeback.{CanDeliver, IsDeliveryOf}
 use Rattle.station.proofs.Adding.{adds_these}
@@ -69,17 +70,6 @@ from_first C (u ∷ us) tags p t is = go (eqb p (length us)) refl (from_first C 
         let tag = tags.0 in
         subst (λ (z : Tenant). C.first_tag ≤ z.tag) same (omega arith)
     go false e more = more (ap (λ b. cond b (Some u) (at us p)) (sym e) ∙ is)
-
-producer_is : (g c n : ℕ) → c < 268435456 → n ≡ pack_link g c → producer_of n ≡ g
-producer_is g c n small e = omega arith
-
-consumer_is : (g c n : ℕ) → c < 268435456 → n ≡ pack_link g c → consumer_of n ≡ c
-consumer_is g c n small e = omega arith
-
--- after a delivery its source has the value
-value_there : (ts : List Tenant) (k : Source) (t : Tenant) → (operand k (delivered ts t k)).value ≡ value_of ts (operand k t).creator
-value_there ts First t = refl
-value_there ts Second t = refl
 
 module _ (P : Program) (C : Sizes) where
   -- What stays

@@ -20,7 +20,7 @@ use Rattle.inorder.specs.Replies.{Has, JobFields}
 use Rattle.inorder.specs.Steps.{finished}
 use Rattle.inorder.specs.Tenants.{Busy, Done, Live, Miss, Open, Tenant, computed}
 use Rattle.inorder.specs.Unit.{Sizes, UpdateUnit, at, older, younger}
-use Rattle.inorder.proofs.Histories.{legal_before, no_length, own-append, own_none, unit_sound, none_from, only_front_renews}
+use Rattle.inorder.proofs.Histories.{legal_before, no_length, none_from, only_front_renews, own-append, own_else, own_here, own_none, unit_sound}
 use Rattle.inorder.proofs.Moves.{IsActed, IsLeft, at_changed, goes}
 use Rattle.ruu_words.specs.Kinds.{IsTenant, fate_of}
 use Rattle.ruu_words.proofs.StationWords.{one_at, one_tag}
@@ -32,7 +32,7 @@ use Rattle.station.specs.Claiming.{Holds, IsClaimed}
 use Rattle.station.specs.Finishing.{ClaimedAreInFlight, HasFinished, HasOutcome, IsInFlight, IsLive, JobsAreFinished, JobsStayInFlight, OnlyUnits}
 use Rattle.station.specs.Writeback.{FinishAnswers, HasTenant, IsWritten, WasStale, job_outcome}
 use Rattle.station.proofs.Holding.{holds_seen}
-use Rattle.station.proofs.Splitting.{LastEvent, last_event, own_else, own_here}
+use Rattle.station.proofs.Splitting.{LastEvent, last_event}
 use Rattle.station.proofs.Writing.{is_job}
 use Rattle.inorder.proofs.Recent.{old_kept, old_since, live_is_recent}
 

@@ -1,8 +1,6 @@
 -- A job stays held until its caller finishes it.
-use Rattle.std.proofs.Common.{◌≡◌, ◌≢◌, ◌⊎◌, ℕ, Bool, true, false, cond, List, [], ◌∷◌, ◌++◌, map, length, take, Option, Some, None, refl, sym, ap, ◌∙◌, subst, inl, inr, ⊎_elim, arith, eqb, eq-eqb}
-use Rattle.std.proofs.Common.{length-append}
+use Rattle.std.proofs.Common.{◌≡◌, ◌≢◌, ◌⊎◌, ℕ, Bool, true, false, cond, List, [], ◌∷◌, ◌++◌, map, Option, Some, None, refl, sym, ap, ◌∙◌, subst, inl, inr, ⊎_elim, eqb, eq-eqb}
 use Rattle.std.specs.Prelude.{unwrap_or}
-use Rattle.std.proofs.Math.Seq.{take-append_seam}
 use Rattle.std.specs.List.{AllByRecursion}
 use Rattle.instructions.specs.Instruction.{kind}
 use Rattle.instructions.specs.Programs.{Program, instr_of}
@@ -40,6 +38,7 @@ use Rattle.station.specs.Claiming.{ClaimAnswers, Holds, IsJob, fields_of}
 use Rattle.station.specs.Laws.{AreTwo, IsNoFinish}
 use Rattle.station.specs.Writeback.{FinishAnswers, IsCarried, IsDeliveryOf}
 use Rattle.station.proofs.Carrying.{all_append}
+use Rattle.station.proofs.Splitting.{cut_back}
 use Rattle.inorder.proofs.Recent.{old_since}
 use Rattle.inorder.proofs.Renewing.{begins_again}
 
@@ -143,14 +142,6 @@ module _ (P : Program) (C : Sizes) (by : ℕ) where
           apart : true ≡ false → ⊥
           apart e = cc e
 
-  same_end : (xs ys zs : List Entry) → xs ++ zs ≡ ys ++ zs → xs ≡ ys
-  same_end xs ys zs e =
-      let wide = ap (λ l. length l) e in
-      let lx = length-append xs zs in
-      let ly = length-append ys zs in
-      let same : length xs ≡ length ys = omega arith in
-      sym (take-append_seam xs zs) ∙ ((λ i. take (same i) (e i)) ∙ take-append_seam ys zs)
-
   events_no_end : (p : ℕ) (es : List Event) → AllByRecursion (IsNoFinish p) es → AllByRecursion (λ e. IsNoFinish p e.event) (map (entry by) es)
   events_no_end p [] h = tt
   events_no_end p (e ∷ es) h = (h.0, events_no_end p es h.1)
@@ -159,7 +150,7 @@ module _ (P : Program) (C : Sizes) (by : ℕ) where
   pub holds_on : (old new : List Entry) (es : List Event) (j : Job) (h : Holds P C by old j) → Adds P C by old new es → AllByRecursion (IsNoFinish h.p) es → Holds P C by new j
   holds_on old new es j h a none =
       let more : List Entry = a.begins.more in
-      let these : own by more ≡ map (entry by) es = same_end (own by more) (map (entry by) es) (own by old) (sym (own-append by more old) ∙ (ap (own by) (sym a.begins.is) ∙ a.mine)) in
+      let these : own by more ≡ map (entry by) es = cut_back (own by more) (map (entry by) es) (own by old) (sym (own-append by more old) ∙ (ap (own by) (sym a.begins.is) ∙ a.mine)) in
       let all = all_no_end h.p more (subst (AllByRecursion (λ e. IsNoFinish h.p e.event)) (sym these) (events_no_end h.p es none)) in
       record {
         p = h.p;

@@ -1,5 +1,5 @@
 -- The steps of mending a miss.
-use Rattle.std.proofs.Common.{◌≡◌, ℕ, suc, ◌%◌, List, [], ◌∷◌, ◌++◌, map, Some, refl, sym, ap, ◌∙◌, subst, inl, ⊎_elim, arith}
+use Rattle.std.proofs.Common.{◌≡◌, ℕ, suc, ◌%◌, List, [], ◌∷◌, ◌++◌, map, refl, sym, ap, ◌∙◌, subst, inl, ⊎_elim, arith}
 use mathlib.Core.Logic.{dite}
 use native.Mathlib.Decide.{ℕ_discrete}
 use Rattle.std.proofs.lemmas.Bool.{cases_lt}
@@ -13,9 +13,8 @@ use Rattle.inorder.specs.Callers.{CanMend}
 use Rattle.inorder.specs.History.{IsLegal, entry, front, own, unit_of}
 use Rattle.inorder.specs.OneHistory.{Adds}
 use Rattle.inorder.specs.Legal.{Allowed, applied}
-use Rattle.inorder.specs.StationWords.{live_word, station_word, word_of}
-use Rattle.inorder.specs.Steps.{mended_as}
-use Rattle.inorder.specs.Tenants.{Done, Fate, Live, Miss, Tenant, on_path, stands_on_path}
+use Rattle.inorder.specs.StationWords.{live_word, station_word}
+use Rattle.inorder.specs.Tenants.{Done, Miss, Tenant, on_path, stands_on_path}
 use Rattle.inorder.specs.Unit.{Sizes, UpdateUnit, next_station, recent}
 use Rattle.inorder.proofs.Ends.{may_mend, mend_stays}
 use Rattle.inorder.proofs.Histories.{adds_on, none_renewed}
@@ -30,15 +29,13 @@ use Rattle.ruu_words.specs.Kinds.{IsNamed}
 use Rattle.ruu_words.specs.Telling.{Grows}
 use Rattle.ruu_words.proofs.Building.{changes}
 use Rattle.ruu_words.specs.Plans.{Plan, Plans}
-use Rattle.ruu_words.proofs.StationWords.{its_word, one_at, still_live}
+use Rattle.ruu_words.proofs.StationWords.{its_word, one_at}
 use Rattle.ruu_words.proofs.Stays.{front_stays, named_stays}
+use Rattle.ruu_words.proofs.Leaving.{mended_word}
 use Rattle.station.specs.Recovery.{HasMiss, IsMended, Mends, SeesMiss}
 use Rattle.station.proofs.Adding.{adds_these}
 use Rattle.station.proofs.Seated.{next_stays}
 use Rattle.inorder.proofs.Recent.{counts_same}
-
-mended_word : (t : Tenant) (k x n : ℕ) (f : Fate) → f ≡ Miss x → t.standing ≡ Live → IsStation (live_word t.tag (Done x)) n → IsStation (word_of k (Some (mended_as t f))) n
-mended_word t k x n f e live w = subst (λ f. IsStation (word_of k (Some (mended_as t f))) n) (sym e) (still_live t.standing k t.tag (Done x) t.made n live w)
 
 module _ (P : Program) (C : Sizes) where
   -- a miss that the front has seen is still there

@@ -23,7 +23,7 @@ use Rattle.inorder.specs.Replies.{Has, HasMoved as Gone, IsOpen, IsWaiting, JobF
 use Rattle.inorder.specs.Steps.{CanRetire, let_operand, new_tenant}
 use Rattle.inorder.specs.Tenants.{Live, Tenant, kind_of, missing}
 use Rattle.inorder.specs.Unit.{at, creator, front_half, front_pc, next_station, next_tag, older, recent, Sizes, UpdateUnit, younger}
-use Rattle.inorder.proofs.Histories.{allowed_steps, legal_before, no_length, own-append, own_none, unit_lasts, unit_sound, none_renewed, none_to}
+use Rattle.inorder.proofs.Histories.{allowed_steps, legal_before, no_length, none_renewed, none_to, own-append, own_else, own_here, own_none, unit_lasts, unit_sound}
 use Rattle.inorder.proofs.Moves.{Goes, IsActed, IsLeft, at_changed, goes}
 use Rattle.inorder.proofs.Positions.{at_new, younger_at}
 use Rattle.inorder.proofs.Stations.{is_ring, stands}
@@ -40,7 +40,7 @@ use Rattle.station.specs.Letting.{let_of, supply_of}
 use Rattle.station.specs.Moments.{WasOpenOnce}
 use Rattle.station.specs.Quiet.{ClaimsGiveJobs, IsClaimable, IsJobOf, IsLetAs, IsQuiet, IsStill, LetsAreOut, ReadyTenantsStay}
 use Rattle.station.proofs.Holding.{fields_stay}
-use Rattle.station.proofs.Splitting.{LastEvent, last_event, own_else, own_here}
+use Rattle.station.proofs.Splitting.{LastEvent, last_event}
 use Rattle.inorder.proofs.Recent.{live_is_last, old_are_gone, new_there}
 
 found : (x y : Tenant) → Some x ≡ Some y → x ≡ y

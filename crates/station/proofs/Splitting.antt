@@ -1,5 +1,5 @@
 -- What a call has added, taken apart: its last event, what others added behind it, and what was before.
-use Rattle.std.proofs.Common.{◌≡◌, ◌≢◌, ℕ, cond, List, [], ◌∷◌, ◌++◌, map, length, refl, sym, ap, ◌∙◌, subst, append_assoc, eq-eqb, ne_eqb, arith, length-append}
+use Rattle.std.proofs.Common.{◌≡◌, ℕ, List, [], ◌∷◌, ◌++◌, map, length, refl, sym, ap, ◌∙◌, subst, append_assoc, arith, length-append}
 use mathlib.Core.Logic.{dite}
 use native.Mathlib.Decide.{ℕ_discrete}
 use Rattle.instructions.specs.Programs.{Program}
@@ -8,19 +8,13 @@ use Rattle.inorder.specs.declared.history.Event.{Event}
 use Rattle.inorder.specs.History.{IsLegal, entry, own, renewals, StartsWith}
 use Rattle.inorder.specs.OneHistory.{Adds}
 use Rattle.inorder.specs.Unit.{Sizes}
-use Rattle.inorder.proofs.Histories.{legal_before, own-append, none_to, none_from}
+use Rattle.inorder.proofs.Histories.{legal_before, none_from, none_to, own-append, own_else, own_here}
 
-pub own_here : (by : ℕ) (e : Entry) (es : List Entry) → e.by ≡ by → own by (e ∷ es) ≡ e ∷ own by es
-own_here by e es h = ap (λ b. cond b (e ∷ own by es) (own by es)) (eq-eqb e.by by h)
-
-pub own_else : (by : ℕ) (e : Entry) (es : List Entry) → e.by ≢ by → own by (e ∷ es) ≡ own by es
-own_else by e es h = ap (λ b. cond b (e ∷ own by es) (own by es)) (ne_eqb e.by by h)
-
-no_more : (xs ys : List Entry) → xs ++ ys ≡ ys → xs ≡ []
+pub no_more : (xs ys : List Entry) → xs ++ ys ≡ ys → xs ≡ []
 no_more [] ys e = refl
 no_more (x ∷ xs) ys e = let n = ap (λ z. length z) e in let m = length-append xs ys in absurd (omega arith)
 
-cut_back : (xs ys zs : List Entry) → xs ++ zs ≡ ys ++ zs → xs ≡ ys
+pub cut_back : (xs ys zs : List Entry) → xs ++ zs ≡ ys ++ zs → xs ≡ ys
 cut_back [] ys zs e = sym (no_more ys zs (sym e))
 cut_back (x ∷ xs) [] zs e = no_more (x ∷ xs) zs e
 cut_back (x ∷ xs) (y ∷ ys) zs e = λ i. head_of x y (xs ++ zs) (ys ++ zs) e i ∷ cut_back xs ys zs (tail_of x y (xs ++ zs) (ys ++ zs) e) i

@@ -12,27 +12,16 @@ use Rattle.inorder.specs.Legal.{AreAllowed, Taken, reached}
 use Rattle.inorder.specs.OperandWords.{operand_word}
 use Rattle.inorder.specs.StationWords.{IsFree, live_word, station_word}
 use Rattle.inorder.specs.Tenants.{Busy, Done, Open, Tenant}
-use Rattle.inorder.specs.Unit.{Sizes, creator, recent}
+use Rattle.inorder.specs.Unit.{creator, recent}
 use Rattle.inorder.proofs.Runs.Decided.{given}
 use Rattle.inorder.proofs.Runs.DecidedSteps.{are_allowed}
-use Rattle.inorder.proofs.Runs.Examples.{taken}
+use Rattle.inorder.proofs.Runs.Examples.{four_entries, instr, program, taken}
 
 -- addiu $1,$0,1 / addiu $3,$0,3 / beq $0,$0,E / addu $2,$1,$1 / E: addu $4,$3,$3 / break
 abbrev pub dead_link : Program
 dead_link =
-    record {
-      code =
-          record { op = Addiu; target = 1; first = 0; second = 0; number = 1 } ∷
-          record { op = Addiu; target = 3; first = 0; second = 0; number = 3 } ∷
-          record { op = Beq; target = 0; first = 0; second = 0; number = 0x400010 } ∷
-          record { op = Addu; target = 2; first = 1; second = 1; number = 0 } ∷
-          record { op = Addu; target = 4; first = 3; second = 3; number = 0 } ∷
-          record { op = Break; target = 0; first = 0; second = 0; number = 0 } ∷ [];
-      bytes = [];
-    }
-
-abbrev pub ring_of_four : Sizes
-ring_of_four = record { ring = 4; queue = 4; first_tag = 1 }
+    program (instr Addiu 1 0 0 1 ∷ instr Addiu 3 0 0 3 ∷ instr Beq 0 0 0 0x400010 ∷ instr Addu 2 1 1 0
+    ∷ instr Addu 4 3 3 0 ∷ instr Break 0 0 0 0 ∷ [])
 
 -- A tenant on the wrong path is linked to the first instruction, which is at work
 abbrev pub linked_on_the_wrong_path : List Taken
@@ -48,9 +37,9 @@ linked_on_the_wrong_path =
     taken 0 (Let 0 0x400004 (Known 0) (Known 0)) ∷
     []
 
-linked_on_the_wrong_path_allowed : AreAllowed dead_link ring_of_four linked_on_the_wrong_path
+linked_on_the_wrong_path_allowed : AreAllowed dead_link four_entries linked_on_the_wrong_path
 unfolding instr_at computed_by jump_target checked_address loaded
-linked_on_the_wrong_path_allowed = given (are_allowed dead_link ring_of_four linked_on_the_wrong_path) refl
+linked_on_the_wrong_path_allowed = given (are_allowed dead_link four_entries linked_on_the_wrong_path) refl
 
 -- Its station is let again, and the new tenant is linked to another creator
 abbrev pub linked_elsewhere : List Taken
@@ -62,9 +51,9 @@ linked_elsewhere =
     taken 0 (On 3 Squash) ∷
     linked_on_the_wrong_path
 
-linked_elsewhere_allowed : AreAllowed dead_link ring_of_four linked_elsewhere
+linked_elsewhere_allowed : AreAllowed dead_link four_entries linked_elsewhere
 unfolding instr_at computed_by jump_target checked_address loaded
-linked_elsewhere_allowed = given (are_allowed dead_link ring_of_four linked_elsewhere) refl
+linked_elsewhere_allowed = given (are_allowed dead_link four_entries linked_elsewhere) refl
 
 -- The old links are served, and give the new tenant nothing
 abbrev pub old_link_served : List Taken
@@ -74,9 +63,9 @@ old_link_served =
     taken 2 (On 0 Finish) ∷
     linked_elsewhere
 
-old_link_served_allowed : AreAllowed dead_link ring_of_four old_link_served
+old_link_served_allowed : AreAllowed dead_link four_entries old_link_served
 unfolding instr_at computed_by jump_target checked_address loaded
-old_link_served_allowed = given (are_allowed dead_link ring_of_four old_link_served) refl
+old_link_served_allowed = given (are_allowed dead_link four_entries old_link_served) refl
 
 -- The first instruction has retired, and the second is at work
 abbrev pub as_in_the_picture : List Taken
@@ -85,9 +74,9 @@ as_in_the_picture =
     taken 1 (On 0 (Retire 0)) ∷
     old_link_served
 
-as_in_the_picture_allowed : AreAllowed dead_link ring_of_four as_in_the_picture
+as_in_the_picture_allowed : AreAllowed dead_link four_entries as_in_the_picture
 unfolding instr_at computed_by jump_target checked_address loaded
-as_in_the_picture_allowed = given (are_allowed dead_link ring_of_four as_in_the_picture) refl
+as_in_the_picture_allowed = given (are_allowed dead_link four_entries as_in_the_picture) refl
 
 -- The new tenant gets its own sources, and all retire in order
 abbrev pub links_ended : List Taken
@@ -106,26 +95,26 @@ links_ended =
     taken 3 (On 1 Finish) ∷
     as_in_the_picture
 
-links_ended_allowed : AreAllowed dead_link ring_of_four links_ended
+links_ended_allowed : AreAllowed dead_link four_entries links_ended
 unfolding instr_at computed_by jump_target checked_address loaded
-links_ended_allowed = given (are_allowed dead_link ring_of_four links_ended) refl
+links_ended_allowed = given (are_allowed dead_link four_entries links_ended) refl
 
 -- The operands of station 3 are those of its new tenant, and still wait
-still_waits : (operand_word (recent (reached dead_link ring_of_four old_link_served)) 3 First ≡ Some
+still_waits : (operand_word (recent (reached dead_link four_entries old_link_served)) 3 First ≡ Some
     (record { tag = 2; value = None })) × (operand_word (recent
-    (reached dead_link ring_of_four old_link_served)) 3 Second ≡ Some (record { tag = 2; value = None }))
+    (reached dead_link four_entries old_link_served)) 3 Second ≡ Some (record { tag = 2; value = None }))
 unfolding instr_at computed_by jump_target checked_address loaded
 still_waits = (refl, refl)
 
 abbrev pub picture : List Tenant
-picture = (reached dead_link ring_of_four as_in_the_picture).tenants
+picture = (reached dead_link four_entries as_in_the_picture).tenants
 
 -- What the ring shows then
 ring_then :
-    (station_word ring_of_four picture 0 ≡ record { tag = 2; state = IsFree; value = Some 1 }) ×
-    (station_word ring_of_four picture 1 ≡ live_word 1 (Busy 3)) ×
-    (station_word ring_of_four picture 2 ≡ live_word 1 (Done 0x00400010)) ×
-    (station_word ring_of_four picture 3 ≡ live_word 2 Open)
+    (station_word four_entries picture 0 ≡ record { tag = 2; state = IsFree; value = Some 1 }) ×
+    (station_word four_entries picture 1 ≡ live_word 1 (Busy 3)) ×
+    (station_word four_entries picture 2 ≡ live_word 1 (Done 0x00400010)) ×
+    (station_word four_entries picture 3 ≡ live_word 2 Open)
 unfolding instr_at computed_by jump_target checked_address loaded
 ring_then = (refl, refl, refl, refl)
 
@@ -136,7 +125,7 @@ creators_then :
 unfolding instr_at computed_by jump_target checked_address loaded
 creators_then = (refl, refl, refl, refl)
 
-links_committed : committed dead_link (reached dead_link ring_of_four links_ended).tenants ≡
+links_committed : committed dead_link (reached dead_link four_entries links_ended).tenants ≡
     record { registers = 0 ∷ 1 ∷ 0 ∷ 3 ∷ 6 ∷ replicate 29 0; memory = []; pc = 0x00400014; count = 4 }
 unfolding instr_at computed_by jump_target checked_address loaded
 links_committed = refl

@@ -23,7 +23,7 @@ use Rattle.inorder.specs.Tenants.{Addr, AtLet, Busy, Done, Fate, IsThere, Linked
 use Rattle.inorder.specs.Unit.{Sizes, UpdateUnit, at, next_tag, older, recent}
 use Rattle.inorder.proofs.Runs.Decided.{all, equal, has_left, is_apart, is_less, some_of, stands_live, stays_open, stores_not, then}
 use Rattle.inorder.proofs.Runs.DecidedSteps.{allowed, no_stop, none_live}
-use Rattle.inorder.proofs.Runs.Examples.{AreServedBy, IsServedBy, all_walked, at_let_not_linked, busy_not_open, none_not_some, none_open}
+use Rattle.inorder.proofs.Runs.Examples.{AreServedBy, IsServedBy, all_walked, at_let_not_linked, busy_not_open, late_not_in_time, none_not_some, none_open, unlinked_not_linked}
 
 -- The one, or else the other
 abbrev pub or_else : {X : Type 0} → Option X → Option X → Option X
@@ -151,12 +151,6 @@ may_refuse P C h by Over =
     Some (is_back, record { p = p; stop = stop }))))
 
 -- Marks
-
-pub late_not_in_time : Linked false ≢ Linked true
-late_not_in_time e = cc
-
-pub unlinked_not_linked : Unlinked ≢ Linked true
-unlinked_not_linked e = cc
 
 abbrev pub asked_in_time : (w : Way) → Option (w ≡ Linked true)
 asked_in_time (Linked true) = Some refl

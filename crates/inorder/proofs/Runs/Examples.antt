@@ -1,6 +1,9 @@
--- What the example runs share: one step and its caller, one entry, and what differs.
-use Rattle.std.proofs.Common.{◌≡◌, ◌≢◌, ◌⊎◌, ℕ, ◌<◌, ltb, eqb, Bool, true, false, Option, Some, None, sym, ◌∙◌, subst, ltb-true, false-eqb}
+-- What the example runs share: programs and sizes, one step and its caller, one entry, and what differs.
+use Rattle.std.proofs.Common.{◌≡◌, ◌≢◌, ◌⊎◌, ℕ, List, [], ◌<◌, ltb, eqb, Bool, true, false, Option, Some, None, sym, ◌∙◌, subst, ltb-true, false-eqb}
 use Rattle.std.specs.List.{AllByRecursion}
+use Rattle.instructions.specs.Programs.{Program}
+use Rattle.instructions.specs.declared.instr.Instr.{Instr}
+use Rattle.instructions.specs.declared.op.Op.{Op}
 use Rattle.instructions.specs.declared.op.Kind.TheVariants.{Computes, Jumps, Links, Loads, Stores}
 use Rattle.instructions.specs.declared.stop.Stop.{Stop}
 use Rattle.inorder.specs.declared.history.Entry.{Entry}
@@ -13,9 +16,32 @@ use Rattle.inorder.specs.declared.history.Step.{Step}
 use Rattle.inorder.specs.History.{IsWalked, entry}
 use Rattle.inorder.specs.Legal.{Taken}
 use Rattle.inorder.specs.Replies.{HasNoOpen, IsOpen}
-use Rattle.inorder.specs.Tenants.{Addr, AtLet, Busy, Done, IsNotLive, IsThere, Linked, Live, Open, Retired, Squashed, Stopped, Tenant, operand}
-use Rattle.inorder.specs.Unit.{UpdateUnit}
+use Rattle.inorder.specs.Tenants.{Addr, AtLet, Busy, Done, IsNotLive, IsThere, Linked, Live, Open, Retired, Squashed, Stopped, Tenant, Unlinked, operand}
+use Rattle.inorder.specs.Unit.{Sizes, UpdateUnit}
 use Rattle.inorder.proofs.Positions.{all_at}
+
+-- Programs and sizes
+
+abbrev pub instr : Op → (target first second number : ℕ) → Instr
+instr op target first second number = record { op = op; target = target; first = first; second = second; number = number }
+
+abbrev pub program_with : List Instr → List ℕ → Program
+program_with code bytes = record { code = code; bytes = bytes }
+
+abbrev pub program : List Instr → Program
+program code = program_with code []
+
+abbrev pub two_stations : Sizes
+two_stations = record { ring = 2; queue = 2; first_tag = 1 }
+
+-- and a queue of two, or of four
+abbrev pub four_stations : Sizes
+four_stations = record { ring = 4; queue = 2; first_tag = 1 }
+
+abbrev pub four_entries : Sizes
+four_entries = record { ring = 4; queue = 4; first_tag = 1 }
+
+-- Steps and entries
 
 abbrev pub taken : ℕ → Step → Taken
 taken by step = record { by = by; step = step }
@@ -28,6 +54,8 @@ refused by refusal = entry by (Refuses refusal)
 
 abbrev pub marks : ℕ → Mark → Entry
 marks by mark = entry by (Marks mark)
+
+-- What differs
 
 pub less : (m n : ℕ) → ltb m n ≡ true → m < n
 less m n e = ltb-true m n e
@@ -73,6 +101,12 @@ busy_not_open by e = cc
 
 pub at_let_not_linked : {in_time : Bool} → AtLet ≢ Linked in_time
 at_let_not_linked e = cc
+
+pub late_not_in_time : Linked false ≢ Linked true
+late_not_in_time e = cc
+
+pub unlinked_not_linked : Unlinked ≢ Linked true
+unlinked_not_linked e = cc
 
 pub none_not_some : {X : Type 0} (x : X) → None ≢ Some x
 none_not_some x e = cc

@@ -11,25 +11,15 @@ use Rattle.inorder.specs.declared.history.Supply.TheVariants.{From, Known}
 use Rattle.inorder.specs.Committed.{committed}
 use Rattle.inorder.specs.Legal.{AreAllowed, Taken, reached}
 use Rattle.inorder.specs.Runs.{after, stop}
-use Rattle.inorder.specs.Unit.{Sizes}
 use Rattle.inorder.proofs.Runs.Decided.{given}
 use Rattle.inorder.proofs.Runs.DecidedSteps.{are_allowed}
-use Rattle.inorder.proofs.Runs.Examples.{taken}
+use Rattle.inorder.proofs.Runs.Examples.{instr, program, taken, two_stations}
 
 -- addiu $1,$0,3 / L: addiu $1,$1,-1 / bne $1,$0,L / break
 abbrev pub loop : Program
 loop =
-    record {
-      code =
-          record { op = Addiu; target = 1; first = 0; second = 0; number = 3 } ∷
-          record { op = Addiu; target = 1; first = 1; second = 0; number = 0xffffffff } ∷
-          record { op = Bne; target = 0; first = 1; second = 0; number = 0x400004 } ∷
-          record { op = Break; target = 0; first = 0; second = 0; number = 0 } ∷ [];
-      bytes = [];
-    }
-
-abbrev pub two_stations : Sizes
-two_stations = record { ring = 2; queue = 2; first_tag = 1 }
+    program (instr Addiu 1 0 0 3 ∷ instr Addiu 1 1 0 0xffffffff ∷ instr Bne 0 1 0 0x400004
+    ∷ instr Break 0 0 0 0 ∷ [])
 
 -- The counter is 3, then 2; the second instruction waited for the first
 abbrev pub counted_to_two : List Taken

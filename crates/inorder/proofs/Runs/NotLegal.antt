@@ -1,5 +1,5 @@
 -- Entries that are not legal behind the example histories.
-use Rattle.std.proofs.Common.{◌≡◌, ◌≢◌, ℕ, zero, suc, List, [], ◌∷◌, Some, None, refl, false, true, ⊎_elim, arith}
+use Rattle.std.proofs.Common.{◌≡◌, ◌≢◌, ℕ, zero, suc, List, [], ◌∷◌, Some, None, refl, true, ⊎_elim, arith}
 use Rattle.std.specs.List.{AllByRecursion}
 use Rattle.instructions.specs.Operations.{checked_address, computed_by, jump_target, loaded}
 use Rattle.instructions.specs.Programs.{instr_at}
@@ -17,20 +17,17 @@ use Rattle.inorder.specs.Replies.{IsAskedInTime, IsDelivered, IsOpen, IsSpent}
 use Rattle.inorder.specs.Tenants.{Busy, IsNotLive, IsThere, Linked, Live, Squashed, Tenant, kind_of, missing, operand}
 use Rattle.inorder.specs.Steps.{CanRetire}
 use Rattle.inorder.specs.Unit.{Sizes, at, older}
-use Rattle.inorder.proofs.Runs.Examples.{apart, does, known, none_not_some, squashed_not_live}
+use Rattle.inorder.proofs.Runs.Examples.{apart, does, four_stations, known, late_not_in_time, none_not_some, squashed_not_live, two_stations}
 use Rattle.inorder.proofs.Positions.{at_below}
-use Rattle.inorder.proofs.Runs.SharedRun.{adds, asked, claimed, made, over, two_stations, walked}
+use Rattle.inorder.proofs.Runs.SharedRun.{adds, asked, claimed, made, over, walked}
 use Rattle.inorder.proofs.Runs.SharedWrongPath.{mispredicted, recovered}
-use Rattle.inorder.proofs.Runs.WrongPathRun.{four_stations, skips}
+use Rattle.inorder.proofs.Runs.WrongPathRun.{skips}
 
 busy_by_one : Busy 2 ≢ Busy 3
 busy_by_one e = cc
 
 none_there : ¬ IsThere None
 none_there there = none_not_some there.0 there.1
-
-late_not_in_time : Linked false ≢ Linked true
-late_not_in_time e = cc
 
 -- A finish by another caller than the one that has claimed
 finish_of_another : ¬ MayAdd adds two_stations claimed 3 (Does (On 0 Finish))

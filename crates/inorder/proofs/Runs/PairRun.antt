@@ -1,9 +1,7 @@
 -- Multiplications and divisions, computed by the definitions alone: in the in-order machine, and as two tenants of a unit.
-use Rattle.std.proofs.Common.{◌≡◌, ℕ, List, [], ◌∷◌, replicate, ◌++◌, Some, refl}
+use Rattle.std.proofs.Common.{◌≡◌, List, [], ◌∷◌, replicate, ◌++◌, Some, refl}
 use Rattle.instructions.specs.declared.end.Ending.TheVariants.{Stop as ByStop, Limit as ByLimit}
-use Rattle.instructions.specs.declared.instr.Instr.{Instr}
 use Rattle.instructions.specs.declared.op.Half.TheVariants.{High}
-use Rattle.instructions.specs.declared.op.Op.{Op}
 use Rattle.instructions.specs.declared.op.Op.TheVariants.{Addiu, Break, Div, Divu, Mfhi, Mflo, Mult, Multu}
 use Rattle.instructions.specs.declared.stop.Stop.TheVariants.{Break as BreakStop}
 use Rattle.instructions.specs.Operations.{computed_by}
@@ -14,18 +12,12 @@ use Rattle.inorder.specs.declared.history.Supply.TheVariants.{Known}
 use Rattle.inorder.specs.Committed.{ahead, committed}
 use Rattle.inorder.specs.Legal.{AreAllowed, Taken, reached}
 use Rattle.inorder.specs.Runs.{after, end_of}
-use Rattle.inorder.specs.Unit.{Sizes, front_half, front_pc}
+use Rattle.inorder.specs.Unit.{front_half, front_pc}
 use Rattle.inorder.proofs.Runs.Decided.{given}
 use Rattle.inorder.proofs.Runs.DecidedSteps.{are_allowed}
-use Rattle.inorder.proofs.Runs.Examples.{taken}
+use Rattle.inorder.proofs.Runs.Examples.{four_stations, instr, program, taken}
 
 -- ---- in order
-
-abbrev pub instr : Op → (target first second number : ℕ) → Instr
-instr op target first second number = record { op = op; target = target; first = first; second = second; number = number }
-
-abbrev pub program : List Instr → Program
-program code = record { code = code; bytes = [] }
 
 -- addiu $1,$0,-6 / addiu $2,$0,4 / mult $1,$2 / mflo $3 / mfhi $4 / break
 abbrev product_of_signs : Program
@@ -96,9 +88,6 @@ unfolding instr_at computed_by
 limit_before_a_pair = refl
 
 -- ---- in a unit
-
-abbrev four_stations : Sizes
-four_stations = record { ring = 4; queue = 2; first_tag = 1 }
 
 -- the first instruction has retired, and so has the first half of the second
 abbrev first_half_retired : List Taken

@@ -14,12 +14,12 @@ use Rattle.inorder.specs.Steps.{CanRetire}
 use Rattle.inorder.specs.Tenants.{Addr, Busy, Fate, Miss, Open, Squashed, Standing, Tenant, kind_of}
 use Rattle.inorder.specs.Unit.{creator}
 use Rattle.lsq.specs.LoadRule.{answer}
-use Rattle.inorder.proofs.Runs.DeadLinkRun.{dead_link, linked_elsewhere, linked_on_the_wrong_path, ring_of_four}
-use Rattle.inorder.proofs.Runs.Examples.{apart, busy_not_open, squashed_not_live, taken}
-use Rattle.inorder.proofs.Runs.LoopRun.{loop, two_stations}
-use Rattle.inorder.proofs.Runs.ReletRun.{four, job_on_the_wrong_path, relet, relets}
-use Rattle.inorder.proofs.Runs.StoreRun.{bytes_and_words, forwards, four_entries, load_has_address, stores_have_addresses, two_entries, word_forwarded}
-use Rattle.inorder.proofs.Runs.WrongPathRun.{fault_on_the_wrong_path, four_stations, recovered, skips}
+use Rattle.inorder.proofs.Runs.DeadLinkRun.{dead_link, linked_elsewhere, linked_on_the_wrong_path}
+use Rattle.inorder.proofs.Runs.Examples.{apart, busy_not_open, four_entries, four_stations, squashed_not_live, taken, two_stations}
+use Rattle.inorder.proofs.Runs.LoopRun.{loop}
+use Rattle.inorder.proofs.Runs.ReletRun.{job_on_the_wrong_path, relet, relets}
+use Rattle.inorder.proofs.Runs.StoreRun.{bytes_and_words, forwards, load_has_address, stores_have_addresses, word_forwarded}
+use Rattle.inorder.proofs.Runs.WrongPathRun.{fault_on_the_wrong_path, recovered, skips}
 
 -- the fate and standing of the tenant at a position
 fate_is : (o : Option Tenant) (t : Tenant) (f : Fate) → o ≡ Some t → option_map (λ u. u.fate) o ≡ Some f →
@@ -52,7 +52,7 @@ unfolding instr_at computed_by jump_target checked_address loaded
 wrong_path_stop_retires_not a = squashed_not_live (sym (standing_is _ a.tenant Squashed a.is refl) ∙ a.may.live)
 
 -- A load waits for the address of each older live store
-load_passes_no_store : ¬ Allowed forwards two_entries (reached forwards two_entries load_has_address) 1
+load_passes_no_store : ¬ Allowed forwards four_stations (reached forwards four_stations load_has_address) 1
     (On 2 Load)
 unfolding instr_at computed_by jump_target checked_address loaded
 load_passes_no_store a = let known = a.may.addresses.0 refl refl in open_not_addr known.0 known.1
@@ -64,39 +64,39 @@ unfolding instr_at computed_by jump_target checked_address loaded
 byte_blocks_word = refl
 
 -- A store without its address blocks, whatever it will be
-unknown_store_blocks : answer (queue_of forwards (reached forwards two_entries load_has_address).tenants) 1 ≡
+unknown_store_blocks : answer (queue_of forwards (reached forwards four_stations load_has_address).tenants) 1 ≡
     Blocked 0
 unfolding instr_at computed_by jump_target checked_address loaded
 unknown_store_blocks = refl
 
 -- The same store with address and data forwards its word
-store_forwards : answer (queue_of forwards (reached forwards two_entries word_forwarded).tenants) 1 ≡ Forward 7
+store_forwards : answer (queue_of forwards (reached forwards four_stations word_forwarded).tenants) 1 ≡ Forward 7
 unfolding instr_at computed_by jump_target checked_address loaded
 store_forwards = refl
 
 -- A tenant is not claimed a second time
-second_claim : ¬ Allowed relets four (reached relets four job_on_the_wrong_path) 3 (On 1 Claim)
+second_claim : ¬ Allowed relets four_entries (reached relets four_entries job_on_the_wrong_path) 3 (On 1 Claim)
 unfolding instr_at computed_by jump_target checked_address loaded
 second_claim a = busy_not_open 2 (sym (fate_is _ a.tenant (Busy 2) a.is refl) ∙ a.may.fate)
 
 -- A finish is that of the caller that has the job
-other_callers_finish : ¬ Allowed relets four (reached relets four job_on_the_wrong_path) 3 (On 1 Finish)
+other_callers_finish : ¬ Allowed relets four_entries (reached relets four_entries job_on_the_wrong_path) 3 (On 1 Finish)
 unfolding instr_at computed_by jump_target checked_address loaded
 other_callers_finish a =
     apart 2 3 refl (busy_by_one 2 3 (sym (fate_is _ a.tenant (Busy 2) a.is refl) ∙ a.may.fate))
 
 -- A job on the wrong path is stale once its tenant was squashed, also where the station was let again
-stale_finish : ¬ Allowed relets four (reached relets four relet) 2 (On 1 Finish)
+stale_finish : ¬ Allowed relets four_entries (reached relets four_entries relet) 2 (On 1 Finish)
 unfolding instr_at computed_by jump_target checked_address loaded
 stale_finish a = squashed_not_live (sym (standing_is _ a.tenant Squashed a.is refl) ∙ a.may.live)
 
 -- The wrong path creates nothing once it is squashed
-wrong_path_creates : creator dead_link (reached dead_link ring_of_four linked_on_the_wrong_path).tenants 2 ≡
+wrong_path_creates : creator dead_link (reached dead_link four_entries linked_on_the_wrong_path).tenants 2 ≡
     Some 3
 unfolding instr_at computed_by jump_target checked_address loaded
 wrong_path_creates = refl
 
-squashed_creates_nothing : creator dead_link (reached dead_link ring_of_four linked_elsewhere).tenants 2 ≡ None
+squashed_creates_nothing : creator dead_link (reached dead_link four_entries linked_elsewhere).tenants 2 ≡ None
 unfolding instr_at computed_by jump_target checked_address loaded
 squashed_creates_nothing = refl
 
@@ -120,7 +120,7 @@ queue_of_two_is_full =
     taken 0 (Let 0 0x400004 (Known 0) (Known 0)) ∷
     []
 
-full_queue : (by predicted : ℕ) (first second : Supply) → ¬ Allowed bytes_and_words two_entries
-    (reached bytes_and_words two_entries queue_of_two_is_full) by (Let 3 predicted first second)
+full_queue : (by predicted : ℕ) (first second : Supply) → ¬ Allowed bytes_and_words four_stations
+    (reached bytes_and_words four_stations queue_of_two_is_full) by (Let 3 predicted first second)
 unfolding instr_at computed_by jump_target checked_address loaded
 full_queue by predicted first second a = let room = a.queue refl in absurd (omega arith)

@@ -10,25 +10,15 @@ use Rattle.inorder.specs.Committed.{committed}
 use Rattle.inorder.specs.Legal.{AreAllowed, Taken, reached}
 use Rattle.inorder.specs.StationWords.{live_word, station_word}
 use Rattle.inorder.specs.Tenants.{Open}
-use Rattle.inorder.specs.Unit.{Sizes, recent}
+use Rattle.inorder.specs.Unit.{recent}
 use Rattle.inorder.proofs.Runs.Decided.{given}
 use Rattle.inorder.proofs.Runs.DecidedSteps.{are_allowed}
-use Rattle.inorder.proofs.Runs.Examples.{taken}
+use Rattle.inorder.proofs.Runs.Examples.{four_entries, instr, program, taken}
 
 -- beq $0,$0,E / addiu $1,$0,1 / E: addiu $2,$0,2 / break
 abbrev pub relets : Program
 relets =
-    record {
-      code =
-          record { op = Beq; target = 0; first = 0; second = 0; number = 0x400008 } ∷
-          record { op = Addiu; target = 1; first = 0; second = 0; number = 1 } ∷
-          record { op = Addiu; target = 2; first = 0; second = 0; number = 2 } ∷
-          record { op = Break; target = 0; first = 0; second = 0; number = 0 } ∷ [];
-      bytes = [];
-    }
-
-abbrev pub four : Sizes
-four = record { ring = 4; queue = 4; first_tag = 1 }
+    program (instr Beq 0 0 0 0x400008 ∷ instr Addiu 1 0 0 1 ∷ instr Addiu 2 0 0 2 ∷ instr Break 0 0 0 0 ∷ [])
 
 -- Caller 2 holds a job on the wrong path when the branch is found to be a miss
 abbrev pub job_on_the_wrong_path : List Taken
@@ -41,9 +31,9 @@ job_on_the_wrong_path =
     taken 0 (Let 0 0x400004 (Known 0) (Known 0)) ∷
     []
 
-job_on_the_wrong_path_allowed : AreAllowed relets four job_on_the_wrong_path
+job_on_the_wrong_path_allowed : AreAllowed relets four_entries job_on_the_wrong_path
 unfolding instr_at computed_by jump_target checked_address loaded
-job_on_the_wrong_path_allowed = given (are_allowed relets four job_on_the_wrong_path) refl
+job_on_the_wrong_path_allowed = given (are_allowed relets four_entries job_on_the_wrong_path) refl
 
 -- Its station is let again, under the next tag
 abbrev pub relet : List Taken
@@ -54,9 +44,9 @@ relet =
     taken 0 (On 2 Squash) ∷
     job_on_the_wrong_path
 
-relet_allowed : AreAllowed relets four relet
+relet_allowed : AreAllowed relets four_entries relet
 unfolding instr_at computed_by jump_target checked_address loaded
-relet_allowed = given (are_allowed relets four relet) refl
+relet_allowed = given (are_allowed relets four_entries relet) refl
 
 -- All retire in order; the old job is never finished
 abbrev pub relet_ended : List Taken
@@ -71,16 +61,16 @@ relet_ended =
     taken 3 (On 3 Claim) ∷
     relet
 
-relet_ended_allowed : AreAllowed relets four relet_ended
+relet_ended_allowed : AreAllowed relets four_entries relet_ended
 unfolding instr_at computed_by jump_target checked_address loaded
-relet_ended_allowed = given (are_allowed relets four relet_ended) refl
+relet_ended_allowed = given (are_allowed relets four_entries relet_ended) refl
 
 -- Station 1 shows the new tenant, open, with tag 2
-relet_word : station_word four (recent (reached relets four relet)) 1 ≡ live_word 2 Open
+relet_word : station_word four_entries (recent (reached relets four_entries relet)) 1 ≡ live_word 2 Open
 unfolding instr_at computed_by jump_target checked_address loaded
 relet_word = refl
 
-relet_committed : committed relets (reached relets four relet_ended).tenants ≡
+relet_committed : committed relets (reached relets four_entries relet_ended).tenants ≡
     record { registers = 0 ∷ 0 ∷ 2 ∷ replicate 31 0; memory = []; pc = 0x0040000c; count = 2 }
 unfolding instr_at computed_by jump_target checked_address loaded
 relet_committed = refl

@@ -12,18 +12,14 @@ use Rattle.inorder.specs.Committed.{committed}
 use Rattle.inorder.specs.Legal.{Allowed, AreAllowed, Taken, reached}
 use Rattle.inorder.specs.Runs.{after}
 use Rattle.inorder.specs.StationWords.{IsFree, IsOpen, station_word}
-use Rattle.inorder.specs.Unit.{Sizes, is_old, recent}
+use Rattle.inorder.specs.Unit.{is_old, recent}
 use Rattle.inorder.proofs.Runs.Decided.{given}
 use Rattle.inorder.proofs.Runs.DecidedSteps.{are_allowed}
-use Rattle.inorder.proofs.Runs.Examples.{taken}
-use Rattle.inorder.proofs.Runs.PairRun.{instr, program}
+use Rattle.inorder.proofs.Runs.Examples.{instr, program, taken, two_stations}
 
 -- addiu $1,$0,1 / addiu $1,$1,1 / break
 abbrev counts : Program
 counts = program (instr Addiu 1 0 0 1 ∷ instr Addiu 1 1 0 1 ∷ instr Break 0 0 0 0 ∷ [])
-
-abbrev two_stations : Sizes
-two_stations = record { ring = 2; queue = 2; first_tag = 1 }
 
 -- the first instruction has retired, and the core was renewed
 abbrev once : List Taken

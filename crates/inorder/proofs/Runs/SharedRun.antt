@@ -15,24 +15,14 @@ use Rattle.inorder.specs.Committed.{committed}
 use Rattle.inorder.specs.History.{IsLegal, back, front, unit_of}
 use Rattle.inorder.specs.Replies.{HasNoInstr, IsFull, IsLinkedSource}
 use Rattle.inorder.specs.Runs.{after, stop}
-use Rattle.inorder.specs.Unit.{Sizes}
 use Rattle.inorder.proofs.Runs.Decided.{given}
 use Rattle.inorder.proofs.Runs.DecidedHistory.{is_legal}
-use Rattle.inorder.proofs.Runs.Examples.{does, marks, refused}
+use Rattle.inorder.proofs.Runs.Examples.{does, instr, marks, program, refused, two_stations}
 
 -- addiu $1,$0,5 / addu $2,$1,$1 / break
 abbrev pub adds : Program
 adds =
-    record {
-      code =
-          record { op = Addiu; target = 1; first = 0; second = 0; number = 5 } ∷
-          record { op = Addu; target = 2; first = 1; second = 1; number = 0 } ∷
-          record { op = Break; target = 0; first = 0; second = 0; number = 0 } ∷ [];
-      bytes = [];
-    }
-
-abbrev pub two_stations : Sizes
-two_stations = record { ring = 2; queue = 2; first_tag = 1 }
+    program (instr Addiu 1 0 0 5 ∷ instr Addu 2 1 1 0 ∷ instr Break 0 0 0 0 ∷ [])
 
 -- Nobody is live at first. The front lets two tenants, and asks the first for both sources of the second
 abbrev pub asked : List Entry

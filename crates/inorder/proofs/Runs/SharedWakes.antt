@@ -18,9 +18,9 @@ use Rattle.inorder.specs.History.{back, entry, front, unit_of}
 use Rattle.inorder.specs.Tenants.{AtLet, Stopped, Tenant, operand}
 use Rattle.inorder.specs.Unit.{at}
 use Rattle.inorder.specs.Wakes.{AreMarked, IsMadeByCall, IsMarked, IsWalkedBehind, LosesNoWake}
-use Rattle.inorder.proofs.Runs.Examples.{computes_not_links, does, done_not_stop, known, marks, refused}
+use Rattle.inorder.proofs.Runs.Examples.{computes_not_links, does, done_not_stop, known, marks, refused, two_stations}
 use Rattle.inorder.proofs.Positions.{at_below}
-use Rattle.inorder.proofs.Runs.SharedRun.{adds, made, over, over_legal, two_stations, walked}
+use Rattle.inorder.proofs.Runs.SharedRun.{adds, made, over, over_legal, walked}
 use Rattle.inorder.proofs.Theorem.Waking.{loses_no_wake}
 
 abbrev tenants_over : List Tenant

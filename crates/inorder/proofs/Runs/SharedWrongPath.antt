@@ -12,8 +12,8 @@ use Rattle.inorder.specs.Replies.{Has, HasNoMiss}
 use Rattle.inorder.specs.Tenants.{Tenant}
 use Rattle.inorder.proofs.Runs.Decided.{given}
 use Rattle.inorder.proofs.Runs.DecidedHistory.{is_legal}
-use Rattle.inorder.proofs.Runs.Examples.{does, refused}
-use Rattle.inorder.proofs.Runs.WrongPathRun.{four_stations, skips}
+use Rattle.inorder.proofs.Runs.Examples.{does, four_stations, refused}
+use Rattle.inorder.proofs.Runs.WrongPathRun.{skips}
 
 -- The branch is predicted not taken, and both tenants are claimed. The branch is a miss
 abbrev pub mispredicted : List Entry

@@ -9,26 +9,15 @@ use Rattle.inorder.specs.declared.history.Step.TheVariants.{Let, On}
 use Rattle.inorder.specs.declared.history.Supply.TheVariants.{From, Known}
 use Rattle.inorder.specs.Committed.{committed}
 use Rattle.inorder.specs.Legal.{AreAllowed, Taken, reached}
-use Rattle.inorder.specs.Unit.{Sizes}
 use Rattle.inorder.proofs.Runs.Decided.{given}
 use Rattle.inorder.proofs.Runs.DecidedSteps.{are_allowed}
-use Rattle.inorder.proofs.Runs.Examples.{taken}
+use Rattle.inorder.proofs.Runs.Examples.{four_entries, four_stations, instr, program_with, taken}
 
 -- .space 4 / addiu $1,$0,-1 / sw $1,0($0) / sb $0,1($0) / lw $2,0($0) / break
 abbrev pub bytes_and_words : Program
 bytes_and_words =
-    record {
-      code =
-          record { op = Addiu; target = 1; first = 0; second = 0; number = 0xffffffff } ∷
-          record { op = Sw; target = 0; first = 0; second = 1; number = 0 } ∷
-          record { op = Sb; target = 0; first = 0; second = 0; number = 1 } ∷
-          record { op = Lw; target = 2; first = 0; second = 0; number = 0 } ∷
-          record { op = Break; target = 0; first = 0; second = 0; number = 0 } ∷ [];
-      bytes = replicate 4 0;
-    }
-
-abbrev pub four_entries : Sizes
-four_entries = record { ring = 4; queue = 4; first_tag = 1 }
+    program_with (instr Addiu 1 0 0 0xffffffff ∷ instr Sw 0 0 1 0 ∷ instr Sb 0 0 0 1 ∷ instr Lw 2 0 0 0
+    ∷ instr Break 0 0 0 0 ∷ []) (replicate 4 0)
 
 -- Load and stores have their addresses; the word store still waits for its data
 abbrev pub stores_have_addresses : List Taken
@@ -94,17 +83,7 @@ bytes_committed = refl
 -- .space 4 / addiu $1,$0,7 / sw $1,0($0) / lw $2,0($0) / break
 abbrev pub forwards : Program
 forwards =
-    record {
-      code =
-          record { op = Addiu; target = 1; first = 0; second = 0; number = 7 } ∷
-          record { op = Sw; target = 0; first = 0; second = 1; number = 0 } ∷
-          record { op = Lw; target = 2; first = 0; second = 0; number = 0 } ∷
-          record { op = Break; target = 0; first = 0; second = 0; number = 0 } ∷ [];
-      bytes = replicate 4 0;
-    }
-
-abbrev pub two_entries : Sizes
-two_entries = record { ring = 4; queue = 2; first_tag = 1 }
+    program_with (instr Addiu 1 0 0 7 ∷ instr Sw 0 0 1 0 ∷ instr Lw 2 0 0 0 ∷ instr Break 0 0 0 0 ∷ []) (replicate 4 0)
 
 -- The load has its address before the older store has one
 abbrev pub load_has_address : List Taken
@@ -118,9 +97,9 @@ load_has_address =
     taken 0 (Let 0 0x400004 (Known 0) (Known 0)) ∷
     []
 
-load_has_address_allowed : AreAllowed forwards two_entries load_has_address
+load_has_address_allowed : AreAllowed forwards four_stations load_has_address
 unfolding instr_at computed_by jump_target checked_address loaded
-load_has_address_allowed = given (are_allowed forwards two_entries load_has_address) refl
+load_has_address_allowed = given (are_allowed forwards four_stations load_has_address) refl
 
 -- The store has address and data, and the load takes its word while the store is live
 abbrev pub word_forwarded : List Taken
@@ -133,9 +112,9 @@ word_forwarded =
     taken 2 (On 1 Claim) ∷
     load_has_address
 
-word_forwarded_allowed : AreAllowed forwards two_entries word_forwarded
+word_forwarded_allowed : AreAllowed forwards four_stations word_forwarded
 unfolding instr_at computed_by jump_target checked_address loaded
-word_forwarded_allowed = given (are_allowed forwards two_entries word_forwarded) refl
+word_forwarded_allowed = given (are_allowed forwards four_stations word_forwarded) refl
 
 -- All retire in order
 abbrev pub forward_ended : List Taken
@@ -148,11 +127,11 @@ forward_ended =
     taken 1 (On 0 (Retire 0)) ∷
     word_forwarded
 
-forward_ended_allowed : AreAllowed forwards two_entries forward_ended
+forward_ended_allowed : AreAllowed forwards four_stations forward_ended
 unfolding instr_at computed_by jump_target checked_address loaded
-forward_ended_allowed = given (are_allowed forwards two_entries forward_ended) refl
+forward_ended_allowed = given (are_allowed forwards four_stations forward_ended) refl
 
-forward_committed : committed forwards (reached forwards two_entries forward_ended).tenants ≡
+forward_committed : committed forwards (reached forwards four_stations forward_ended).tenants ≡
     record { registers = 0 ∷ 7 ∷ 7 ∷ replicate 31 0; memory = 7 ∷ 0 ∷ 0 ∷ 0 ∷ []; pc = 0x0040000c; count = 3 }
 unfolding instr_at computed_by jump_target checked_address loaded
 forward_committed = refl

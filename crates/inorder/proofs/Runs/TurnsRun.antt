@@ -8,24 +8,14 @@ use Rattle.inorder.specs.declared.history.Step.TheVariants.{Let, On}
 use Rattle.inorder.specs.declared.history.Supply.TheVariants.{Known}
 use Rattle.inorder.specs.Committed.{committed}
 use Rattle.inorder.specs.Legal.{AreAllowed, Taken, reached}
-use Rattle.inorder.specs.Unit.{Sizes}
 use Rattle.inorder.proofs.Runs.Decided.{given}
 use Rattle.inorder.proofs.Runs.DecidedSteps.{are_allowed}
-use Rattle.inorder.proofs.Runs.Examples.{taken}
+use Rattle.inorder.proofs.Runs.Examples.{four_stations, instr, program, taken}
 
 -- beq $0,$0,E / lw $1,1($0) / E: break
 abbrev skips : Program
 skips =
-    record {
-      code =
-          record { op = Beq; target = 0; first = 0; second = 0; number = 0x400008 } ∷
-          record { op = Lw; target = 1; first = 0; second = 0; number = 1 } ∷
-          record { op = Break; target = 0; first = 0; second = 0; number = 0 } ∷ [];
-      bytes = [];
-    }
-
-abbrev four_stations : Sizes
-four_stations = record { ring = 4; queue = 2; first_tag = 1 }
+    program (instr Beq 0 0 0 0x400008 ∷ instr Lw 1 0 0 1 ∷ instr Break 0 0 0 0 ∷ [])
 
 -- Let, Let, Let, Ran: the branch is a miss
 abbrev four_turns : List Taken
