@@ -5,7 +5,7 @@ use Rattle.back.specs.Backs.{back_state}
 use Rattle.front.specs.Fronts.{IsUnused}
 use Rattle.instructions.specs.Programs.{Program}
 use Rattle.pool.specs.Runs.{IsLimit, IsWithinLimit, LeavesTurns, RunIsRight, TellsRenewals}
-use Rattle.pool.specs.Terms.{MayCommit}
+use Rattle.pool.specs.Terms.{IsReady}
 use Rattle.pool.specs.declared.answer.RunInTurns.{RunInTurns}
 use Rattle.pool.specs.declared.making.Made.{Made}
 use Rattle.pool.specs.declared.making.Parts.{Parts}
@@ -19,14 +19,10 @@ pub record AreParts {J K : Type 0} (parts : Parts J K) : Type 0 where
   pub start : (back_state parts.back).count ≡ 0
   pub going : parts.back.ended ≡ None
 
--- The same with these totals, on which the floor stands and of which the seat is, and with a commit side that may begin
-pub record IsMade {J K : Type 0} (counts : TableId) (made : Made J K) : Type 0 where
-  pub front : IsUnused made.core made.front
-  pub unit_is : made.unit.core ≡ made.core
-  pub ring_is : made.floor.hints.ring ≡ made.core.sizes.ring
+-- The floor stands on these totals, and the first term may begin
+pub record IsMade {J K S : Type 0} (counts : TableId) (made : Made J K S) : Type 0 where
   pub counts_are : made.floor.counts ≡ counts
-  pub count_is : made.count.of ≡ counts
-  pub commits : MayCommit made.core made.committer
+  pub ready : IsReady made.floor.hints.ring made.floor.counts made.term made.committer
 
 -- All that is said of a run of this program, with this limit and so many turns
 pub record HasRun (P : Program) (limit turns : ℕ) (r : RunInTurns) : Type 0 where

@@ -6,11 +6,13 @@ ghost use Rattle.pool.specs.Making.{AreParts, IsMade};
 
 use crate::bounds::Bounds;
 use crate::commit::Committer;
+use crate::dispatch::Begin;
 use crate::floor::Floor;
+use crate::terms::Term;
 use back::{Back, Naming, Snapper};
-use counts::{CountSeat, Counts, WorkerSeat};
+use counts::{CountSeat, Counts};
 use hints::{Hints, Ring};
-use instructions::{Config, Memory, Program};
+use instructions::{Config, Memory, Predictor, Program};
 use station::{BackSeat, Core, FrontSeat, UnitSeat};
 use std::alloc::Global;
 use std::sync::Wait;
@@ -25,15 +27,21 @@ pub(crate) struct Parts<J: Naming, K: Ring> {
     pub snapper: Snapper<J>,
 }
 
-/// The floor and the commit side of a run, with what its threads begin with.
-pub(crate) struct Made<J: Naming, K: Bounds + Ring> {
+/// The floor and the commit side of a run, its first term, and its first snapper.
+pub(crate) struct Made<J: Naming, K: Bounds + Ring, P: Predictor + Drop> {
     pub floor: Floor<K>,
     pub committer: Committer<J, K>,
-    pub core: Core,
-    pub front: FrontSeat,
-    pub unit: UnitSeat,
-    pub count: WorkerSeat,
+    pub term: Term<P>,
     pub snapper: Snapper<J>,
+}
+
+/// What a run is given: how its threads wait, where it allocates, the program, and how it is to run.
+#[derive(Drop)]
+pub(crate) struct Task<'x, R> {
+    pub wait: &'x R,
+    pub alloc: Global,
+    pub program: &'x Program,
+    pub config: &'x Config,
 }
 
 // The back at a core, and its first snapper.
@@ -77,22 +85,21 @@ fn make_parts<J: Naming, K: Ring>(
 }
 
 /// All that a run is made of. Without memory for the floor the back ends, which waits for its snappers.
-pub(crate) fn make<J: Naming, K: Bounds + Ring, R: Wait>(
-    wait: &R,
-    alloc: Global,
-    program: &Program,
-    config: &Config,
+pub(crate) fn make<J: Naming, K: Bounds + Ring, P: Predictor + Drop, R: Wait>(
+    task: &Task<'_, R>,
     counts: Counts,
     count: CountSeat,
-) -> Result<Made<J, K>, Memory>
+    predictor: P,
+) -> Result<Made<J, K, P>, Memory>
     requires counts { counts ≡ K.counts }
     requires count { count ≡ record { of = counts; shares = all_parts } }
-    requires program { program.now ≡ J.program }
-    requires limit { config.now.limit ≡ K.limit }
-    requires turns { config.now.turns ≡ K.turns }
-    requires ring { config.now.ring ≡ K.ring }
-    ensures { IfOk result (λ made. IsMade K.counts made) }
+    requires program { task.now.program.now ≡ J.program }
+    requires limit { task.now.config.now.limit ≡ K.limit }
+    requires turns { task.now.config.now.turns ≡ K.turns }
+    requires ring { task.now.config.now.ring ≡ K.ring }
+    ensures { IfOk result (IsMade K.counts) }
 {
+    let config = task.config;
     let Parts {
         core,
         front,
@@ -100,23 +107,28 @@ pub(crate) fn make<J: Naming, K: Bounds + Ring, R: Wait>(
         hints,
         back,
         snapper,
-    } = make_parts::<J, K>(alloc, program, config)?;
+    } = make_parts::<J, K>(task.alloc, task.program, config)?;
     let (back_count, workers) = counts.split_worker(count);
-    let floor = match Floor::new(alloc, counts, hints, config.units(), config.turns()) {
+    let floor = match Floor::new(task.alloc, counts, hints, config.units(), config.turns()) {
         Ok(floor) => floor,
         Err(memory) => {
-            back.end(wait);
+            back.end(task.wait);
             return Err(memory);
         }
     };
     let committer = Committer::<J, K>::new(back, back_count, config.limit(), config.turns());
+    let term = Term {
+        core,
+        seat: front,
+        begin: Begin::Fresh(predictor),
+        turns: config.turns(),
+        unit,
+        count: workers,
+    };
     Ok(Made {
         floor,
         committer,
-        core,
-        front,
-        unit,
-        count: workers,
+        term,
         snapper,
     })
 }

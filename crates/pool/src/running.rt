@@ -1,7 +1,7 @@
 //! Runs a program in threads, and joins them.
 ghost use Rattle.std.specs.Prelude.{◌≡◌, IfOk};
 ghost use Rattle.counts.specs.Shares.{all_parts};
-ghost use Rattle.pool.specs.Making.{HasRun, IsMade};
+ghost use Rattle.pool.specs.Making.{HasRun};
 ghost use Rattle.pool.specs.Runs.{IsLimit, RunIsRight, IsWithinLimit, LeavesTurns, TakesTurns, TellsRenewals};
 ghost use Rattle.pool.specs.Terms.{IsReady};
 
@@ -9,9 +9,8 @@ use crate::answer::{Refusal, Run, RunInTurns};
 use crate::bounds::Bounds;
 use crate::commit::Committer;
 use crate::crew::Hall;
-use crate::dispatch::Begin;
 use crate::gate::Gate;
-use crate::making::{Made, make};
+use crate::making::{Made, Task, make};
 use crate::terms::{Term, run_terms};
 use crate::threads::start_snappers;
 use crate::turns::Turns;
@@ -24,16 +23,6 @@ use std::marker::Brand;
 use std::sync::Wait;
 use std::thread;
 use std::thread::Threads;
-
-// What a run is given: how its threads wait, where it allocates, the program, how it is to run, and the gate.
-#[derive(Drop)]
-struct Task<'x, G, R> {
-    wait: &'x R,
-    alloc: Global,
-    program: &'x Program,
-    config: &'x Config,
-    gate: &'x G,
-}
 
 // Starts the snapshot threads, runs all terms, and returns when each thread has ended.
 fn in_threads<
@@ -69,50 +58,7 @@ fn in_threads<
     )
 }
 
-// Runs what was made.
-fn run_made<
-    J: Naming + Send + Sync,
-    K: Bounds + Ring + Send + Sync,
-    P: Predictor + Drop + Send,
-    G: Gate + Sync,
-    R: Threads + Wait + Sync,
->(task: &Task<'_, G, R>, made: Made<J, K>, predictor: P) -> RunInTurns
-    requires { IsMade K.counts made }
-    ensures { HasRun J.program K.limit K.turns result }
-{
-    let Made {
-        floor,
-        mut committer,
-        core,
-        front,
-        unit,
-        count,
-        snapper,
-    } = made;
-    let term = Term {
-        core,
-        seat: front,
-        begin: Begin::Fresh(predictor),
-        turns: task.config.turns(),
-        unit,
-        count,
-    };
-    let hall = Hall {
-        wait: task.wait,
-        floor: &floor,
-        gate: task.gate,
-    };
-    in_threads(
-        &hall,
-        task.alloc,
-        task.config.places(),
-        term,
-        snapper,
-        &mut committer,
-    );
-    committer.end(task.wait, &floor)
-}
-
+// Makes a run, starts its snapshot threads, runs all terms, and tells how it ended when each thread has.
 fn run_named<
     J: Naming + Send + Sync,
     K: Bounds + Ring + Send + Sync,
@@ -120,7 +66,8 @@ fn run_named<
     G: Gate + Sync,
     R: Threads + Wait + Sync,
 >(
-    task: &Task<'_, G, R>,
+    task: &Task<'_, R>,
+    gate: &G,
     counts: Counts,
     count: CountSeat,
     predictor: P,
@@ -133,15 +80,21 @@ fn run_named<
     requires ring { task.now.config.now.ring ≡ K.ring }
     ensures { IfOk result (HasRun J.program K.limit K.turns) }
 {
-    let made = make::<J, K, R>(
-        task.wait,
-        task.alloc,
-        task.program,
-        task.config,
-        counts,
-        count,
-    )?;
-    Ok(run_made(task, made, predictor))
+    let made = make::<J, K, P, R>(task, counts, count, predictor)?;
+    let Made {
+        floor,
+        mut committer,
+        term,
+        snapper,
+    } = made;
+    let hall = Hall {
+        wait: task.wait,
+        floor: &floor,
+        gate,
+    };
+    let places = task.config.places();
+    in_threads(&hall, task.alloc, places, term, snapper, &mut committer);
+    Ok(committer.end(task.wait, &floor))
 }
 
 // What is answered where memory is wanting before a thread has begun.
@@ -178,9 +131,8 @@ pub fn run_in_turns<'x, P: Predictor + Drop + Send, G: Gate + Sync, R: Threads +
         alloc,
         program,
         config,
-        gate,
     };
-    match run_named::<Brand, Brand, P, G, R>(&task, counts, count, predictor) {
+    match run_named::<Brand, Brand, P, G, R>(&task, gate, counts, count, predictor) {
         Ok(run) => run,
         Err(_) => wants_memory(config),
     }

@@ -17,7 +17,7 @@ use station::{Core, FrontSeat, UnitSeat};
 use std::alloc::Global;
 use std::sync::Wait;
 use std::thread;
-use std::thread::{Scope, Threads};
+use std::thread::Threads;
 
 /// What a term begins with: the core, its seats, the turns that the dispatch thread has left, and the seat from which
 /// those of its threads are cut that they count with.
@@ -46,54 +46,11 @@ pub(crate) struct Given<P: Predictor + Drop> {
     pub unit: UnitSeat,
 }
 
-// Starts the threads of a term, and commits.
-fn begin<
-    's,
-    'c,
-    E: 's,
-    J: Naming,
-    K: Bounds + Ring + Send + Sync + 's,
-    P: Predictor + Drop + Send + 's,
-    G: Gate + Sync + 's,
-    R: Threads + Wait + Sync + 's,
->(
-    scope: &Scope<'s, E>,
-    crew: &'s Crew<'s, K, G, R>,
-    hands: Hands<P>,
-    committer: &'c mut Committer<J, K>,
-) -> (&'c mut Committer<J, K>, Option<Given<P>>)
-    requires hands { AreAt crew.now.core.now crew.now.floor.now.counts hands }
-    requires commits { MayCommit crew.now.core.now committer.old }
-    ensures { IfSome result.1 (λ given. IsGivenBack crew.now.core.now given result.0.now) }
-{
-    let Hands {
-        dispatcher,
-        unit,
-        count,
-    } = hands;
-    let Some(dispatching) = start_dispatch(scope, crew, dispatcher) else {
-        return (committer, None);
-    };
-    let Some(unit) = start_units(scope, crew, unit, count) else {
-        crew.floor.close();
-        return (committer, None);
-    };
-    if !committer.run(crew) {
-        crew.floor.close();
-        return (committer, None);
-    }
-    let given = match dispatching.join(crew.wait) {
-        Some(left) => Some(Given { left, unit }),
-        None => None,
-    };
-    (committer, given)
-}
-
-// The same, and returns when each thread has ended.
+// Starts the threads of a term, commits, and returns when each thread has ended.
 fn in_threads<
     'x,
     'c,
-    J: Naming + Send + Sync,
+    J: Naming,
     K: Bounds + Ring + Send + Sync,
     P: Predictor + Drop + Send,
     G: Gate + Sync,
@@ -115,7 +72,32 @@ fn in_threads<
             requires commits { MayCommit crew.now.core.now committer.now }
             ensures { IfSome result.1 (λ given.
                 IsGivenBack crew.entry.now.core.now given result.0.now) }
-        { begin(scope, crew, hands, committer) },
+        {
+            // the closure owns them as a whole, as its clause says
+            let own = hands;
+            let Hands {
+                dispatcher,
+                unit,
+                count,
+            } = own;
+            let Some(dispatching) = start_dispatch(scope, crew, dispatcher) else {
+                return (committer, None);
+            };
+            let started = start_units(scope, crew, unit, count);
+            let Some(unit) = started else {
+                crew.floor.close();
+                return (committer, None);
+            };
+            if !committer.run(crew) {
+                crew.floor.close();
+                return (committer, None);
+            }
+            let given = match dispatching.join(crew.wait) {
+                Some(left) => Some(Given { left, unit }),
+                None => None,
+            };
+            (committer, given)
+        },
     )
 }
 
@@ -195,7 +177,7 @@ fn next_term<J: Naming, K: Bounds + Ring, P: Predictor + Drop>(
 // One term, and what the next one begins with where the core was renewed.
 fn run_term<
     'c,
-    J: Naming + Send + Sync,
+    J: Naming,
     K: Bounds + Ring + Send + Sync,
     P: Predictor + Drop + Send,
     G: Gate + Sync,
@@ -228,7 +210,7 @@ fn run_term<
 
 /// Terms, until the run is over.
 pub(crate) fn run_terms<
-    J: Naming + Send + Sync,
+    J: Naming,
     K: Bounds + Ring + Send + Sync,
     P: Predictor + Drop + Send,
     G: Gate + Sync,
