@@ -31,7 +31,7 @@ pub record MayCommit (core : TheCore) (committer : TheCommitter) : Type 0 where
   pub begun : committer.over ≡ Err Thread
 
 -- What the threads of a term own is at this core, and they add to these totals
-pub record AreAt {S : Type 0} (core : TheCore) (counts : TableId) (hands : Hands S) : Type 0 where
+pub record AreHandsAt {S : Type 0} (core : TheCore) (counts : TableId) (hands : Hands S) : Type 0 where
   pub begins : Begins core hands.dispatcher.begin hands.dispatcher.seat
   pub front_count : hands.dispatcher.count.of ≡ counts
   pub unit_is : hands.unit.core ≡ core
@@ -39,7 +39,7 @@ pub record AreAt {S : Type 0} (core : TheCore) (counts : TableId) (hands : Hands
 
 -- A term may begin: its parts and the commit side are at its core, which is made for this ring, and its threads add
 -- to these totals
-pub record IsReady {S : Type 0} (ring : ℕ) (counts : TableId) (term : Term S) (committer : TheCommitter) : Type 0 where
+pub record TermMayBegin {S : Type 0} (ring : ℕ) (counts : TableId) (term : Term S) (committer : TheCommitter) : Type 0 where
   pub ring_is : ring ≡ term.core.sizes.ring
   pub begins : Begins term.core term.begin term.seat
   pub unit_is : term.unit.core ≡ term.core

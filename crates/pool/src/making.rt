@@ -2,7 +2,7 @@
 ghost use Rattle.std.specs.Prelude.{◌≡◌, IfOk};
 ghost use Rattle.back.specs.Backs.{HasRetiredNothing, IsNewBack};
 ghost use Rattle.counts.specs.Shares.{all_parts};
-ghost use Rattle.pool.specs.Making.{AreParts, IsMade};
+ghost use Rattle.pool.specs.Making.{AreParts, RunIsMade};
 
 use crate::bounds::Bounds;
 use crate::commit::Committer;
@@ -97,7 +97,7 @@ pub(crate) fn make<J: Naming, K: Bounds + Ring, P: Predictor + Drop, R: Wait>(
     requires limit { task.now.config.now.limit ≡ K.limit }
     requires turns { task.now.config.now.turns ≡ K.turns }
     requires ring { task.now.config.now.ring ≡ K.ring }
-    ensures { IfOk result (IsMade K.counts) }
+    ensures { IfOk result (RunIsMade K.counts) }
 {
     let config = task.config;
     let Parts {

@@ -1,6 +1,6 @@
 //! The terms of a run: in each, threads work at one core, and give back what they hold where that is to be renewed.
 ghost use Rattle.std.specs.Prelude.{◌≡◌, IfSome};
-ghost use Rattle.pool.specs.Terms.{AreAt, Begins, IsGivenBack, IsReady, MayCommit};
+ghost use Rattle.pool.specs.Terms.{AreHandsAt, Begins, IsGivenBack, TermMayBegin, MayCommit};
 
 use crate::bounds::Bounds;
 use crate::commit::Committer;
@@ -60,7 +60,7 @@ fn in_threads<
     hands: Hands<P>,
     committer: &'c mut Committer<J, K>,
 ) -> (&'c mut Committer<J, K>, Option<Given<P>>)
-    requires hands { AreAt crew.now.core.now crew.now.floor.now.counts hands }
+    requires hands { AreHandsAt crew.now.core.now crew.now.floor.now.counts hands }
     requires commits { MayCommit crew.now.core.now committer.old }
     ensures { IfSome result.1 (λ given. IsGivenBack crew.now.core.now given result.0.now) }
 {
@@ -68,7 +68,7 @@ fn in_threads<
         thread::scope_env(),
         crew.wait,
         move |scope| -> (&mut Committer<J, K>, Option<Given<P>>)
-            requires hands { AreAt crew.now.core.now crew.now.floor.now.counts hands }
+            requires hands { AreHandsAt crew.now.core.now crew.now.floor.now.counts hands }
             requires commits { MayCommit crew.now.core.now committer.now }
             ensures { IfSome result.1 (λ given.
                 IsGivenBack crew.entry.now.core.now given result.0.now) }
@@ -114,7 +114,7 @@ fn staff<P: Predictor + Drop>(counts: &Counts, term: Term<P>) -> Staffed<P>
     requires unit { term.unit.core ≡ term.core }
     requires count { term.count.of ≡ counts.now }
     ensures core { result.core ≡ term.core }
-    ensures hands { AreAt term.core counts.now result.hands }
+    ensures hands { AreHandsAt term.core counts.now result.hands }
     ensures count { result.count.of ≡ counts.now }
 {
     let Term {
@@ -159,7 +159,7 @@ fn next_term<J: Naming, K: Bounds + Ring, P: Predictor + Drop>(
     requires ring { floor.now.hints.ring ≡ core.sizes.ring }
     requires given { IsGivenBack core given committer.old }
     ensures { IfSome result (λ next.
-        IsReady floor.now.hints.ring floor.now.counts next committer.new) }
+        TermMayBegin floor.now.hints.ring floor.now.counts next committer.new) }
 {
     let Given { left, unit } = given;
     let Left { seat, still, turns } = left;
@@ -188,8 +188,8 @@ fn run_term<
     term: Term<P>,
     committer: &'c mut Committer<J, K>,
 ) -> (&'c mut Committer<J, K>, Option<Term<P>>)
-    requires { IsReady hall.now.floor.now.hints.ring hall.now.floor.now.counts term committer.old }
-    ensures { IfSome result.1 (λ next. IsReady hall.now.floor.now.hints.ring
+    requires { TermMayBegin hall.now.floor.now.hints.ring hall.now.floor.now.counts term committer.old }
+    ensures { IfSome result.1 (λ next. TermMayBegin hall.now.floor.now.hints.ring
         hall.now.floor.now.counts next result.0.now) }
 {
     hall.floor.begin(units_at_once(hall.wait));
@@ -216,7 +216,7 @@ pub(crate) fn run_terms<
     G: Gate + Sync,
     R: Threads + Wait + Sync,
 >(hall: &Hall<'_, K, G, R>, alloc: Global, first: Term<P>, committer: &mut Committer<J, K>)
-    requires { IsReady hall.now.floor.now.hints.ring hall.now.floor.now.counts first committer.old }
+    requires { TermMayBegin hall.now.floor.now.hints.ring hall.now.floor.now.counts first committer.old }
 {
     let mut term = first;
     let mut committer = committer;
