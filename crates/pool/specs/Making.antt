@@ -5,7 +5,7 @@ use Rattle.back.specs.Backs.{back_state}
 use Rattle.front.specs.Fronts.{IsUnused}
 use Rattle.instructions.specs.Programs.{Program}
 use Rattle.pool.specs.Runs.{IsLimit, IsWithinLimit, LeavesTurns, RunIsRight, TellsRenewals}
-use Rattle.pool.specs.Terms.{TermMayBegin}
+use Rattle.pool.specs.Terms.{MayBegin}
 use Rattle.pool.specs.declared.answer.RunInTurns.{RunInTurns}
 use Rattle.pool.specs.declared.making.Made.{Made}
 use Rattle.pool.specs.declared.making.Parts.{Parts}
@@ -22,7 +22,7 @@ pub record AreParts {J K : Type 0} (parts : Parts J K) : Type 0 where
 -- The floor stands on these totals, and the first term may begin
 pub record RunIsMade {J K S : Type 0} (counts : TableId) (made : Made J K S) : Type 0 where
   pub counts_are : made.floor.counts ≡ counts
-  pub ready : TermMayBegin made.floor.hints.ring made.floor.counts made.term made.committer
+  pub ready : MayBegin made.floor.hints.ring made.floor.counts made.term made.committer
 
 -- All that is said of a run of this program, with this limit and so many turns
 pub record HasRun (P : Program) (limit turns : ℕ) (r : RunInTurns) : Type 0 where

@@ -39,7 +39,7 @@ pub record AreHandsAt {S : Type 0} (core : TheCore) (counts : TableId) (hands : 
 
 -- A term may begin: its parts and the commit side are at its core, which is made for this ring, and its threads add
 -- to these totals
-pub record TermMayBegin {S : Type 0} (ring : ℕ) (counts : TableId) (term : Term S) (committer : TheCommitter) : Type 0 where
+pub record MayBegin {S : Type 0} (ring : ℕ) (counts : TableId) (term : Term S) (committer : TheCommitter) : Type 0 where
   pub ring_is : ring ≡ term.core.sizes.ring
   pub begins : Begins term.core term.begin term.seat
   pub unit_is : term.unit.core ≡ term.core

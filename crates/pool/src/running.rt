@@ -3,7 +3,7 @@ ghost use Rattle.std.specs.Prelude.{◌≡◌, IfOk};
 ghost use Rattle.counts.specs.Shares.{all_parts};
 ghost use Rattle.pool.specs.Making.{HasRun};
 ghost use Rattle.pool.specs.Runs.{IsLimit, RunIsRight, IsWithinLimit, LeavesTurns, TakesTurns, TellsRenewals};
-ghost use Rattle.pool.specs.Terms.{TermMayBegin};
+ghost use Rattle.pool.specs.Terms.{MayBegin};
 
 use crate::answer::{Refusal, Run, RunInTurns};
 use crate::bounds::Bounds;
@@ -40,14 +40,14 @@ fn in_threads<
     first: Snapper<J>,
     committer: &'x mut Committer<J, K>,
 )
-    requires { TermMayBegin hall.now.floor.now.hints.ring hall.now.floor.now.counts
+    requires { MayBegin hall.now.floor.now.hints.ring hall.now.floor.now.counts
         term committer.old }
 {
     thread::scope(
         thread::scope_env(),
         hall.wait,
         move |scope|
-            requires { TermMayBegin hall.now.floor.now.hints.ring hall.now.floor.now.counts
+            requires { MayBegin hall.now.floor.now.hints.ring hall.now.floor.now.counts
                 term committer.now }
         {
             if start_snappers(scope, hall, places, first) {

@@ -1,6 +1,6 @@
 //! The terms of a run: in each, threads work at one core, and give back what they hold where that is to be renewed.
 ghost use Rattle.std.specs.Prelude.{◌≡◌, IfSome};
-ghost use Rattle.pool.specs.Terms.{AreHandsAt, Begins, IsGivenBack, TermMayBegin, MayCommit};
+ghost use Rattle.pool.specs.Terms.{AreHandsAt, Begins, IsGivenBack, MayBegin, MayCommit};
 
 use crate::bounds::Bounds;
 use crate::commit::Committer;
@@ -159,7 +159,7 @@ fn next_term<J: Naming, K: Bounds + Ring, P: Predictor + Drop>(
     requires ring { floor.now.hints.ring ≡ core.sizes.ring }
     requires given { IsGivenBack core given committer.old }
     ensures { IfSome result (λ next.
-        TermMayBegin floor.now.hints.ring floor.now.counts next committer.new) }
+        MayBegin floor.now.hints.ring floor.now.counts next committer.new) }
 {
     let Given { left, unit } = given;
     let Left { seat, still, turns } = left;
@@ -188,8 +188,8 @@ fn run_term<
     term: Term<P>,
     committer: &'c mut Committer<J, K>,
 ) -> (&'c mut Committer<J, K>, Option<Term<P>>)
-    requires { TermMayBegin hall.now.floor.now.hints.ring hall.now.floor.now.counts term committer.old }
-    ensures { IfSome result.1 (λ next. TermMayBegin hall.now.floor.now.hints.ring
+    requires { MayBegin hall.now.floor.now.hints.ring hall.now.floor.now.counts term committer.old }
+    ensures { IfSome result.1 (λ next. MayBegin hall.now.floor.now.hints.ring
         hall.now.floor.now.counts next result.0.now) }
 {
     hall.floor.begin(units_at_once(hall.wait));
@@ -216,7 +216,7 @@ pub(crate) fn run_terms<
     G: Gate + Sync,
     R: Threads + Wait + Sync,
 >(hall: &Hall<'_, K, G, R>, alloc: Global, first: Term<P>, committer: &mut Committer<J, K>)
-    requires { TermMayBegin hall.now.floor.now.hints.ring hall.now.floor.now.counts first committer.old }
+    requires { MayBegin hall.now.floor.now.hints.ring hall.now.floor.now.counts first committer.old }
 {
     let mut term = first;
     let mut committer = committer;
