@@ -216,7 +216,8 @@ pub(crate) fn run_terms<
     G: Gate + Sync,
     R: Threads + Wait + Sync,
 >(hall: &Hall<'_, K, G, R>, alloc: Global, first: Term<P>, committer: &mut Committer<J, K>)
-    requires { MayBegin hall.now.floor.now.hints.ring hall.now.floor.now.counts first committer.old }
+    requires { MayBegin hall.now.floor.now.hints.ring hall.now.floor.now.counts
+        first committer.old }
 {
     let mut term = first;
     let mut committer = committer;
