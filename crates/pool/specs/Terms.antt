@@ -37,9 +37,10 @@ pub record AreHandsAt {S : Type 0} (core : TheCore) (counts : TableId) (hands : 
   pub unit_is : hands.unit.core ≡ core
   pub count_is : hands.count.of ≡ counts
 
--- A term may begin: its parts and the commit side are at its core, which is made for this ring, and its threads add
--- to these totals
-pub record MayBegin {S : Type 0} (ring : ℕ) (counts : TableId) (term : Term S) (committer : TheCommitter) : Type 0 where
+-- A term may begin: its parts and the commit side are at its core, for whose ring the hints are made, and its threads
+-- add to these totals
+pub record MayBegin {S : Type 0} (ring : ℕ) (counts : TableId) (term : Term S)
+    (committer : TheCommitter) : Type 0 where
   pub ring_is : ring ≡ term.core.sizes.ring
   pub begins : Begins term.core term.begin term.seat
   pub unit_is : term.unit.core ≡ term.core
@@ -54,7 +55,8 @@ pub record GivesBack {S : Type 0} (core : TheCore) (seat : Caller) (still : TheS
   pub still_seen : still.seen ≡ seat.seen
 
 -- What a term gives back is at this core, and so is the commit side, which is at rest
-pub record IsGivenBack {S : Type 0} (core : TheCore) (given : Given S) (committer : TheCommitter) : Type 0 where
+pub record IsGivenBack {S : Type 0} (core : TheCore) (given : Given S)
+    (committer : TheCommitter) : Type 0 where
   pub left : GivesBack core given.left.seat given.left.still
   pub unit_is : given.unit.core ≡ core
   pub back_is : committer.back.core ≡ core
