@@ -47,9 +47,6 @@ pub fn queue_is_full(core: &Core, seat: &mut FrontSeat, path: &Path, instr: &Ins
         return false;
     }
     let queue = core.queue();
-    if queue == 0 {
-        return true;
-    }
     let Some(record) = access_before(&path.records, queue - 1) else {
         return false;
     };

@@ -20,8 +20,8 @@ use Rattle.inorder.specs.Tenants.{Addr, Live, Tenant, computed, instr, is_live_a
 use Rattle.inorder.specs.Unit.{Sizes, at, older, younger}
 use Rattle.lsq.specs.Bytes.{little_endian}
 use Rattle.lsq.specs.Entries.{bytes, load_by}
-use Rattle.lsq.specs.LastStores.{WaitsFor, byte_left, number_left}
-use Rattle.lsq.specs.LoadRule.{answer, answer_over, answer_to, overlaps}
+use Rattle.lsq.specs.LastStores.{CannotGive, WaitsFor, byte_left, number_left}
+use Rattle.lsq.specs.LoadRule.{answer, answer_over, answer_to}
 use Rattle.inorder.proofs.Basics.{number_there, split_at}
 use Rattle.inorder.proofs.Commits.{not_complete, over}
 use Rattle.inorder.proofs.Grows.{sound_mid}
@@ -177,7 +177,7 @@ module _ (P : Program) (ts : List Tenant) (p : ℕ) (t : Tenant) (a : ℕ) (soun
                 ∙ ap (λ z. Some (q, z)) (sym f.entry));
             why =
                 ⊎_elim (λ n. inl (ap (λ z. is_some z.address) same ∙ n)) (λ n. inr
-                (ap (overlaps a w) same ∙ n)) b.why;
+                (subst (CannotGive (queue_of P before) a w k) (sym same) n)) b.why;
           }
 
 pub loads_are_answered : (P : Program) (C : Sizes) (history : List Taken) → LoadsAreAnswered P C history

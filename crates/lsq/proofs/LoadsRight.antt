@@ -9,9 +9,9 @@ use Rattle.lsq.specs.declared.entry.Entry.{Entry}
 use Rattle.lsq.specs.declared.answer.Answer.TheVariants.{Forward, Memory, Blocked}
 use Rattle.lsq.specs.Bytes.{byte_of, little_endian}
 use Rattle.lsq.specs.Entries.{bytes}
-use Rattle.lsq.specs.LoadRule.{lacks_address, overlaps, taken_from, forwarded, by_overlap, by_lacking, youngest, answer_over}
-use Rattle.lsq.specs.LastStores.{byte_by_entry, byte_left, EntryHasAddress, ReadsStores, ReadsMemory, WaitsFor}
-use Rattle.lsq.proofs.Youngest.{FoundIs, SplitsAt, youngest_is}
+use Rattle.lsq.specs.LoadRule.{has_all_of, lacks_address, overlaps, taken_from, forwarded, by_overlap, by_lacking, youngest, answer_over}
+use Rattle.lsq.specs.LastStores.{byte_by_entry, byte_left, CannotGive, EntryHasAddress, ReadsStores, ReadsMemory, WaitsFor}
+use Rattle.lsq.proofs.Youngest.{FoundIs, SplitsAt, none_behind, youngest_is}
 use Rattle.lsq.proofs.LittleEndian.{byte_of-fits, little_endian-fits, byte_of-little_endian, if_there-some, if_there-same}
 use Rattle.lsq.proofs.StoresLeft.{all_known, byte_left-append, left_alone, left_by}
 
@@ -53,13 +53,28 @@ taken_is_some (Some b) (Some d) v a w raw h = go (leb b a) refl (leb (a + w) (b 
     go true i false j = absurd (nothing (subst Got (ap (λ q. q && leb (a + w) (b + v)) i ∙ j) h))
     go false i z j = absurd (nothing (subst Got (ap (λ q. q && leb (a + w) (b + v)) i) h))
 
+-- a store that gives a load nothing has no data, or not all bytes of the load
+taken_is_none : (address content : Option ℕ) (v a w : ℕ) → taken_from address v content a w ≡ None
+    → IsNone content ⊎ ((b : ℕ) → address ≡ Some b → has_all_of b v a w ≡ false)
+taken_is_none None content v a w h = inr (λ b e. absurd (cc e))
+taken_is_none (Some b) None v a w h = inl refl
+taken_is_none (Some b) (Some d) v a w h = inr (λ c e. let same : b ≡ c = cc e in subst lacks same (go (has_all_of b v a w) refl h))
+  where
+    lacks : ℕ → Type 0
+    lacks c = has_all_of c v a w ≡ false
+
+    go : (y : Bool) → has_all_of b v a w ≡ y
+        → cond y (Some (little_endian (λ x. byte_of (x - b) d) a w)) None ≡ None → lacks b
+    go true i q = absurd (cc q)
+    go false i q = i
+
 -- the three answers of the youngest overlapping store
 forwarded_is : (place raw : ℕ) (o : Option ℕ) → forwarded place o ≡ Forward raw → o ≡ Some raw
 forwarded_is place raw None h = absurd (cc)
 forwarded_is place raw (Some r) h = let e : r ≡ raw = cc in ap Some e
 
-blocked_is : (place p : ℕ) (o : Option ℕ) → forwarded place o ≡ Blocked p → place ≡ p
-blocked_is place p None h = cc
+blocked_is : (place p : ℕ) (o : Option ℕ) → forwarded place o ≡ Blocked p → (place ≡ p) × (o ≡ None)
+blocked_is place p None h = (cc, refl)
 blocked_is place p (Some r) h = absurd (cc)
 
 not_memory : (place : ℕ) (o : Option ℕ) → forwarded place o ≡ Memory → ⊥
@@ -163,20 +178,35 @@ module _ (older : List Entry) (a w : ℕ) where
   memory_is h = memory_by (youngest lacks_address older) (youngest_is lacks_address older 0) h
 
   waits : (test : Entry → Bool) (found : ℕ × Entry) (p : ℕ) → SplitsAt test 0 older found.0 found.1
-      → found.0 ≡ p → found.1.store ≡ true → (IsNone found.1.address ⊎ (overlaps a w found.1 ≡ true))
+      → found.0 ≡ p → found.1.store ≡ true → (IsNone found.1.address ⊎ CannotGive older a w p found.1)
       → WaitsFor older a w p
   waits test found p s e store why =
       record { entry = found.1; there = ap (slice_get older) (sym e) ∙ placed test found s; store = store; why = why }
 
-  blocked_over : (p : ℕ) (o : Option (ℕ × Entry)) → FoundIs (overlaps a w) 0 older o
-      → by_overlap o a w ≡ Blocked p → WaitsFor older a w p
-  blocked_over p None n h = absurd (cc)
-  blocked_over p (Some found) s h =
-      waits (overlaps a w) found p s (blocked_is found.0 p _ h) (first_true found.1.store _ s.passes) (inr s.passes)
+  cannot_give : (found : ℕ × Entry) (p : ℕ) → AllByRecursion EntryHasAddress older
+      → SplitsAt (overlaps a w) 0 older found.0 found.1 → found.0 ≡ p
+      → taken_from found.1.address (bytes found.1.width) found.1.content a w ≡ None
+      → CannotGive older a w p found.1
+  cannot_give found p known s e nothing = record {
+    known = known;
+    meets = s.passes;
+    youngest = λ k other less h. none_behind (overlaps a w) s.older s.younger found.1 k other s.none_younger
+        (omega (arith, less, e, s.place_is)) (sym (ap (λ es. slice_get es k) s.parts) ∙ h);
+    lacks = taken_is_none found.1.address found.1.content (bytes found.1.width) a w nothing;
+  }
+
+  blocked_over : (p : ℕ) (o : Option (ℕ × Entry)) → AllByRecursion EntryHasAddress older
+      → FoundIs (overlaps a w) 0 older o → by_overlap o a w ≡ Blocked p → WaitsFor older a w p
+  blocked_over p None known n h = absurd (cc)
+  blocked_over p (Some found) known s h =
+      let b = blocked_is found.0 p _ h in
+      waits (overlaps a w) found p s b.0 (first_true found.1.store _ s.passes)
+      (inr (cannot_give found p known s b.0 b.1))
 
   blocked_by : (p : ℕ) (o : Option (ℕ × Entry)) → FoundIs lacks_address 0 older o
       → by_lacking o older a w ≡ Blocked p → WaitsFor older a w p
-  blocked_by p None n h = blocked_over p (youngest (overlaps a w) older) (youngest_is (overlaps a w) older 0) h
+  blocked_by p None n h =
+      blocked_over p (youngest (overlaps a w) older) (all_known older n) (youngest_is (overlaps a w) older 0) h
   blocked_by p (Some found) s h =
       let same : found.0 ≡ p = cc in
       waits lacks_address found p s same (first_true found.1.store _ s.passes) (inl (none_is found.1.store _ s.passes))

@@ -1,7 +1,7 @@
 -- The youngest entry that passes a test is found from the young end, and splits the list.
-use Rattle.std.proofs.Common.{◌≡◌, ℕ, ◌+◌, ◌<◌, Bool, true, false, cond, List, [], ◌∷◌, ◌++◌, length, get_or, take, Option, Some, None, refl, sym, ap, ◌∙◌, arith}
+use Rattle.std.proofs.Common.{◌≡◌, ℕ, zero, suc, ◌+◌, ◌<◌, Bool, true, false, cond, List, [], ◌∷◌, ◌++◌, length, get_or, take, Option, Some, None, refl, sym, ap, ◌∙◌, arith}
 use Rattle.std.proofs.lemmas.List.{take_more, length-take-le}
-use Rattle.std.specs.List.{AllByRecursion}
+use Rattle.std.specs.List.{slice_get, AllByRecursion}
 use Rattle.lsq.specs.declared.entry.Entry.{Entry}
 use Rattle.lsq.specs.LoadRule.{or_older, youngest_from, youngest}
 
@@ -65,6 +65,21 @@ pub record SplitsAt (test : Entry → Bool) (at : ℕ) (es : List Entry) (place 
   pub place_is : place ≡ at + length older
   pub passes : test entry ≡ true
   pub none_younger : NonePasses test younger
+
+none_at : (test : Entry → Bool) (es : List Entry) (k : ℕ) (e : Entry) → NonePasses test es
+    → slice_get es k ≡ Some e → test e ≡ false
+none_at test [] k e n h = absurd (cc h)
+none_at test (x ∷ xs) zero e n h = let same : e ≡ x = cc h in ap test same ∙ n.0
+none_at test (x ∷ xs) (suc k) e n h = none_at test xs k e n.1 h
+
+-- behind the youngest that passes none does
+pub none_behind : (test : Entry → Bool) (xs ys : List Entry) (e : Entry) (k : ℕ) (other : Entry)
+    → NonePasses test ys → length xs < k → slice_get (xs ++ e ∷ ys) k ≡ Some other → test other ≡ false
+none_behind test [] ys e zero other n less h = absurd (omega (arith, less))
+none_behind test [] ys e (suc k) other n less h = none_at test ys k other n h
+none_behind test (x ∷ xs) ys e zero other n less h = absurd (omega (arith, less))
+none_behind test (x ∷ xs) ys e (suc k) other n less h =
+    none_behind test xs ys e k other n (omega (arith, less)) h
 
 -- what a find says of the list
 abbrev pub FoundIs : (Entry → Bool) → ℕ → List Entry → Option (ℕ × Entry) → Type 0

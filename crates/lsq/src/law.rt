@@ -7,7 +7,8 @@ ghost use Rattle.lsq.specs.LastStores.{ReadsStores, ReadsMemory, WaitsFor};
 
 /// Over all older entries, and a load of any width: what is forwarded is, byte for byte, what the
 /// last older store to that byte writes. At `Memory` no older store writes any of them. What
-/// blocks a load is an older store that has no address yet or overlaps it.
+/// blocks a load is an older store that has no address yet, or where each has one the youngest that
+/// overlaps the load, as long as that has no data yet or not all bytes of the load.
 pub fn loads_read_the_last_stores()
     ensures forward { (older : List Entry) (address width raw : ℕ) →
         answer_over older address width ≡ Forward raw → ReadsStores older address width raw }

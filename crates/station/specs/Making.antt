@@ -22,6 +22,7 @@ pub record IsCore (words : ℕ) (key : Setup) (P : Program) (ring queue first_ta
   pub first_tag_is : key.first_tag ≡ first_tag
   pub least : 2 ≤ ring
   pub most : ring ≤ 32
+  pub two_accesses : 2 ≤ queue
   pub from_one : 1 ≤ key.first_tag
   pub below : key.first_tag < last_tag
   pub small : length P.code ≤ 16384
@@ -80,6 +81,7 @@ pub record IsSetup (P : Program) (config : Settings) (setup : Setup) : Type 0 wh
   pub opening : setup.opening.views ≡ []
   pub least : 2 ≤ setup.ring
   pub most : setup.ring ≤ 32
+  pub two_accesses : 2 ≤ setup.queue
   pub tag : setup.first_tag < last_tag
   pub from_one : 1 ≤ setup.first_tag
   pub code : length setup.program.code ≤ 16384

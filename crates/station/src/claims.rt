@@ -1,5 +1,5 @@
 //! Claims.
-ghost use Rattle.std.specs.Prelude.{◌<◌, ◌≡◌, length, true};
+ghost use Rattle.std.specs.Prelude.{◌<◌, ◌≡◌, true};
 ghost use Rattle.instructions.specs.Programs.{address};
 ghost use Rattle.inorder.specs.declared.history.Source.TheVariants.{Second};
 ghost use Rattle.inorder.specs.Tenants.{needs};
@@ -19,12 +19,11 @@ use instructions::{Kind, Program};
 use ruu_words::InfoWord;
 use ruu_words::rule::View;
 
-// The address of an instruction. There are so few that it does not wrap.
-fn pc_of(program: &Program, index: u32) -> u32
-    requires { index < length program.now.code }
+// The address of an instruction. A program has so few that it does not wrap.
+fn pc_of(index: u32) -> u32
+    requires { index < 16384 }
     ensures { result ≡ address index }
 {
-    let _count = program.len();
     Program::START + 4 * index
 }
 
@@ -97,7 +96,7 @@ impl<'a> Call<'a, UnitPart> {
         if found != open {
             return Claim::Moved { tag };
         }
-        let pc = pc_of(&core.program, index);
+        let pc = pc_of(index);
         Claim::Job(Job {
             station,
             tag,

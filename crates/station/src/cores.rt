@@ -220,7 +220,8 @@ impl Core {
 
     /// How many loads and stores are in flight at most.
     pub fn queue(&self) -> usize
-        ensures { result ≡ self.now.sizes.queue }
+        ensures value { result ≡ self.now.sizes.queue }
+        ensures least { 2 ≤ result }
     {
         self.queue
     }

@@ -5,22 +5,16 @@ use Rattle.inorder.specs.History.{front, unit_of}
 use Rattle.inorder.specs.OneHistory.{Adds}
 use Rattle.front.specs.Knows.{FrontKnows}
 use Rattle.front.proofs.Crowded.{all_in, full_there, room_there}
-use Rattle.front.proofs.InQueue.{few_live, queue_room}
+use Rattle.front.proofs.InQueue.{few_live}
 use Rattle.front.proofs.Named.{small_stations}
 use Rattle.front.proofs.Splitting.{stays}
 use Rattle.front.proofs.Stays.{knows_stable}
 use Rattle.front.proofs.queue.queue_is_full.Goals as goal
 
-pub returns-then-queue-eq0-clause-reply : goal.returns-then-queue-eq0-clause-reply
-returns-then-queue-eq0-clause-reply c =
-    let most = queue_room c.args.core.now.program c.args.core.now.sizes c.args.seat.now.seen c.requires.legal in
-    let access = ap (λ o. is_access (kind o)) (sym c.op.ensures) ∙ (sym c.is_access.ensures ∙ c.if-not-is_access.false) in
-    (access, omega (arith, most, c.queue-queue.ensures, c.if-queue-eq0.true))
-
 pub returns-in_default-clause-reply : goal.returns-in_default-clause-reply
 returns-in_default-clause-reply c =
     let few = few_live c.args.core.now.program c.args.core.now.sizes c.args.seat.now.seen c.requires.legal c.args.path.now.records c.args.path.now.base c.requires.knows in
-    λ a. omega (arith, few, c.in_default.ensures, c.queue-queue.ensures, c.if-queue-eq0.false)
+    λ a. omega (arith, few, c.in_default.ensures, c.queue-queue.ensures.value, c.queue-queue.ensures.least)
 
 pub look-seen-requires-clause-station : goal.look-seen-requires-clause-station
 look-seen-requires-clause-station c =
@@ -41,7 +35,7 @@ returns-in-Free-clause-reply c =
     let adds : Adds P C front old h [] = subst (λ i. Adds P C i old h []) c.requires.by c.look-seen.ensures.history in
     let knows : FrontKnows P C (unit_of P C h) records base = stays P C (λ U. FrontKnows P C U records base) (knows_stable P C records base) old h adds c.requires.knows in
     let few = room_there P C h adds.legal records base knows _ c.in-Some.record c.in-Some.ensures c.look-seen.result c.look-seen.ensures.reply c.in-Free.is in
-    λ a. omega (arith, few, c.queue-queue.ensures, c.if-queue-eq0.false)
+    λ a. omega (arith, few, c.queue-queue.ensures.value, c.queue-queue.ensures.least)
 
 pub returns-clause-reply : goal.returns-clause-reply
 returns-clause-reply c =
@@ -54,7 +48,7 @@ returns-clause-reply c =
     let adds : Adds P C front old h [] = subst (λ i. Adds P C i old h []) c.requires.by c.look-seen.ensures.history in
     let knows : FrontKnows P C (unit_of P C h) records base = stays P C (λ U. FrontKnows P C U records base) (knows_stable P C records base) old h adds c.requires.knows in
     let access = ap (λ o. is_access (kind o)) (sym c.op.ensures) ∙ (sym c.is_access.ensures ∙ c.if-not-is_access.false) in
-    let whole : suc (c.queue-queue.result - 1) ≡ C.queue = omega (arith, c.queue-queue.ensures, c.if-queue-eq0.false) in (
+    let whole : suc (c.queue-queue.result - 1) ≡ C.queue = omega (arith, c.queue-queue.ensures.value, c.queue-queue.ensures.least) in (
       access,
       full_there P C h adds.legal records base knows _ c.in-Some.record c.in-Some.ensures c.look-seen.result c.look-seen.ensures.reply
           c.in_default-state.not-Free whole,

@@ -199,8 +199,10 @@ pc_of-pc-requires c =
     let C = v.core.sizes in
     let legal : IsLegalCall v = legal_at c.self.invariant c.self.view_is in
     let program = program_at c.core.inside.table.shared.key c.core.invariant.program c.core.view_is c.self.view_is in
+    let inside : c.args.info.index < length c.core.inside.program.code =
     subst (λ (z : Program). c.args.info.index < length z.code) (sym program) (index_inside P C v.view.seen legal c.requires.p c.args.station c.args.tag c.args.info.half c.args.info.index
-    c.args.info.predicted c.requires.named)
+    c.args.info.predicted c.requires.named) in
+    omega (arith, inside, c.core.invariant.small)
 
 pub returns : goal.returns
 returns c =
