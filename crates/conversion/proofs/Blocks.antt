@@ -1,5 +1,5 @@
 -- The lines of one instruction more.
-use Rattle.std.proofs.Common.{◌≡◌, ℕ, suc, ◌+◌, ◌*◌, ◌≤◌, ◌<◌, Bool, true, false, not, ◌&&◌, ◌==◌, List, [], ◌∷◌, ◌++◌, length, get_or, take, replicate, None, Ok, refl, ap, ◌∙◌, sym, subst, arith}
+use Rattle.std.proofs.Common.{◌≡◌, ℕ, suc, ◌+◌, ◌*◌, ◌≤◌, ◌<◌, Bool, true, false, not, ◌&&◌, ◌==◌, List, [], ◌∷◌, ◌++◌, length, get_or, take, replicate, None, Ok, refl, ap, ◌∙◌, subst, arith}
 use Rattle.std.proofs.Common.{inl, inr, length-take, take-suc}
 use Rattle.std.specs.Prelude.{codes, slice_index_or}
 use Rattle.std.specs.List.{list_all, slice_split}
@@ -16,7 +16,7 @@ use Rattle.instructions.specs.Instruction.{instr_with}
 use Rattle.instructions.specs.Programs.{address}
 use Rattle.isa.specs.Statement.{statement}
 use Rattle.isa.specs.Report.{hex8}
-use Rattle.isa.specs.Listing.{read, labels, is_double}
+use Rattle.isa.specs.Listing.{read, labels}
 use Rattle.isa.specs.InstrText.{text_of, label_text, said_of, is_nop, IsWritable}
 use Rattle.isa.proofs.TextBytes.{Of, of_append, all_of, of_other, inner, part_of, part_trimmed, before_whole, split_at}
 use Rattle.isa.proofs.TextOperands.{label_part, label_is_name}
@@ -115,7 +115,7 @@ module _ (marks : List Bool) (code : List Instr) (k : ℕ) (lt : k < length code
       let size : length (label_line k) + 1 ≤ 11 = omega (arith, label_size k) in
       let line : new ≡ text ++ as_line (label_line k) = grown ∙ ap (λ (t : List ℕ). text ++ t) (append-nil (as_line (label_line k))) in
       let next = text_label text new (take k code) (marked marks k) [] most is (label_line k) (label_printable k) line 11 size (label_text (address k)) (label_named k) (label_says_nothing k)
-      (subst (λ (n : ℕ). is_double (address n) (marked marks k) (label_text (address k) ∷ []) ≡ false) (sym so_many) (single marks k (omega arith))) (omega (arith, so_many)) (omega arith) in
+      (single marks k (omega arith)) (omega (arith, so_many)) (omega arith) in
       subst (λ (n : ℕ). IsText new (take k code) (marked marks k ++ (label_text (address k), address n) ∷ []) [] (most + 11)) so_many next
   with_label false text new most is grown =
       let same : new ≡ text = grown ∙ append-nil text in

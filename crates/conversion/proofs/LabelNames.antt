@@ -1,5 +1,5 @@
 -- The labels of two addresses differ, and each label that is used is in the table.
-use Rattle.std.proofs.Common.{◌≡◌, ℕ, zero, suc, ◌%◌, ◌/◌, ◌^◌, ◌≤◌, ◌<◌, Bool, true, false, ◌==◌, List, [], ◌∷◌, ◌++◌, get_or, Some, None, refl, ap, ◌∙◌, sym, arith, inl, inr}
+use Rattle.std.proofs.Common.{◌≡◌, ℕ, zero, suc, ◌%◌, ◌/◌, ◌^◌, ◌≤◌, ◌<◌, Bool, true, false, ◌==◌, List, [], ◌∷◌, ◌++◌, map, get_or, is_some, Some, None, refl, ap, ◌∙◌, sym, arith, inl, inr}
 use Rattle.std.specs.Prelude.{slice_index_or}
 use Rattle.std.specs.Char.{digit_value}
 use Rattle.std.specs.Map.{lookup}
@@ -10,8 +10,8 @@ use Rattle.std.proofs.lemmas.Slice.Eq.{bytes_eq-Decides}
 use Rattle.instructions.specs.Programs.{address}
 use Rattle.isa.specs.Report.{hex_digit, hex8}
 use Rattle.isa.specs.InstrText.{label_text}
-use Rattle.isa.specs.Listing.{is_double}
-use Rattle.isa.proofs.LabelTable.{lookup_push, lookup_keep}
+use Rattle.isa.specs.Listing.{stands_in, is_double}
+use Rattle.isa.proofs.LabelTable.{lookup_push, lookup_keep, stands_among}
 use Rattle.conversion.specs.Writing.{marked, with_mark}
 use Rattle.conversion.proofs.Few.{all_under, under}
 
@@ -75,8 +75,11 @@ none_before marks (suc k) n le lt = by (slice_index_or marks k false) (none_befo
         lookup_keep (names_it n) (marked marks k) (label_text (address k)) (address k) (other_name k n (omega arith) lt (λ e. omega arith)) ∙ none
     by false none = ap (lookup (names_it n)) (append-nil (marked marks k)) ∙ none
 
-pub single : (marks : List Bool) (k : ℕ) → k < 16384 → is_double (address k) (marked marks k) (label_text (address k) ∷ []) ≡ false
-single marks k lt = rw (none_before marks k k (omega arith) lt) refl
+pub single : (marks : List Bool) (k : ℕ) → k < 16384 → is_double (map (λ p. p.0) (marked marks k)) (label_text (address k) ∷ []) ≡ false
+single marks k lt =
+    let none : stands_in (map (λ p. p.0) (marked marks k)) (label_text (address k)) ≡ false =
+    sym (stands_among (label_text (address k)) (marked marks k)) ∙ ap is_some (none_before marks k k (omega arith) lt) in
+    rw none refl
 
 found_behind : (pairs : List (List ℕ × ℕ)) (n : ℕ) (more : List (List ℕ × ℕ)) → lookup (names_it n) pairs ≡ Some (address n)
     → lookup (names_it n) (pairs ++ more) ≡ Some (address n)

@@ -6,8 +6,9 @@ use Rattle.std.proofs.lemmas.List.{append-nil, length-append}
 use Rattle.instructions.specs.declared.instr.Instr.{Instr}
 use Rattle.instructions.specs.Programs.{address}
 use Rattle.isa.specs.Statement.{Parsed}
-use Rattle.isa.specs.Listing.{Lines, read, labels, labels_at, table, numbered, memory, instruction_count, is_double, fault_in, first_fault}
-use Rattle.isa.proofs.Behind.{numbered_push, table_push, memory_push}
+use Rattle.isa.specs.Listing.{Lines, read, labels, labels_at, table, numbered, memory, instruction_count, is_double, all_labels, fault_in, first_fault}
+use Rattle.isa.proofs.Behind.{numbered_push, table_push, memory_push, names_are as labels_are_names}
+use Rattle.isa.proofs.FirstFault.{first_behind, behind_none}
 use Rattle.conversion.specs.Writing.{as_line, unlines, printable, AllPrintable, Faultless, IsReadAs, AllRead, LinesSay, AllQuiet, IsText}
 use Rattle.conversion.proofs.Printed.{line_plain}
 
@@ -23,10 +24,13 @@ faultless_push before (b ∷ ls) l h f =
     let whole : (before ++ b ∷ []) ++ ls ≡ before ++ b ∷ ls = append_assoc before (b ∷ []) ls in
     (h.0, faultless_push (before ++ b ∷ []) ls l h.1 (subst (λ (c : Lines). fault_in c l ≡ None) (sym whole) f))
 
-pub faultless_none : (before ls : Lines) → Faultless before ls → first_fault before ls ≡ None
-unfolding first_fault
-faultless_none before [] h = refl
-faultless_none before (l ∷ ls) h = rw (h.0) (faultless_none (before ++ l ∷ []) ls h.1)
+none_behind : (before ls : Lines) → Faultless before ls → first_behind before ls ≡ None
+unfolding first_behind
+none_behind before [] h = refl
+none_behind before (l ∷ ls) h = rw (h.0) (none_behind (before ++ l ∷ []) ls h.1)
+
+pub faultless_none : (ls : Lines) → Faultless [] ls → first_fault ls ≡ None
+faultless_none ls h = sym (behind_none ls) ∙ none_behind [] ls h
 
 read_length : (ds : List (ℕ × Parsed)) (is : List Instr) → AllRead ds is → length ds ≡ length is
 read_length [] [] h = refl
@@ -48,11 +52,12 @@ module _ (ls : Lines) (code : List Instr) (names : List (List ℕ × ℕ)) (byte
   count_is = read_length (numbered 1 ls) code is.code_is
 
   module _ (ps : List Parsed) (bs : List ℕ) (said : read l ≡ Ok (record { code = ps; bytes = bs })) where
-    no_fault : is_double (address (length code)) names ns ≡ false → length code + length ps ≤ 16384 → length bytes + length bs ≤ 65536
+    no_fault : is_double (map (λ p. p.0) names) ns ≡ false → length code + length ps ≤ 16384 → length bytes + length bs ≤ 65536
         → fault_in ([] ++ ls) l ≡ None
     unfolding fault_in
     no_fault single short small =
-        rw (line_plain l clean, count_is, is.labels_are, labelled, single, is.bytes_are, said, le-ltb 16384 (length code + length ps) short, le-ltb 65536 (length bytes + length bs) small) refl
+        let before : all_labels ls ≡ map (λ p. p.0) names = sym (labels_are_names 0 ls) ∙ ap (map (λ p. p.0)) is.labels_are in
+        rw (line_plain l clean, count_is, before, labelled, single, is.bytes_are, said, le-ltb 16384 (length code + length ps) short, le-ltb 65536 (length bytes + length bs) small) refl
 
     names_are : table 0 (ls ++ l ∷ []) ≡ names ++ labels_at (address (length code)) ns
     names_are =
@@ -66,7 +71,7 @@ module _ (ls : Lines) (code : List Instr) (names : List (List ℕ × ℕ)) (byte
     numbers_are = numbered_push 1 ls l ∙ rw said refl
 
   -- without an instruction
-  pub push_bytes : (bs : List ℕ) → read l ≡ Ok (record { code = []; bytes = bs }) → is_double (address (length code)) names ns ≡ false
+  pub push_bytes : (bs : List ℕ) → read l ≡ Ok (record { code = []; bytes = bs }) → is_double (map (λ p. p.0) names) ns ≡ false
       → length code ≤ 16384 → length bytes + length bs ≤ 65536
       → LinesSay (ls ++ l ∷ []) code (names ++ labels_at (address (length code)) ns) (bytes ++ bs)
   push_bytes bs said single short small =
@@ -80,7 +85,7 @@ module _ (ls : Lines) (code : List Instr) (names : List (List ℕ × ℕ)) (byte
       }
 
   -- with an instruction
-  pub push_code : (p : Parsed) (i : Instr) → read l ≡ Ok (record { code = p ∷ []; bytes = [] }) → IsReadAs p i → is_double (address (length code)) names ns ≡ false
+  pub push_code : (p : Parsed) (i : Instr) → read l ≡ Ok (record { code = p ∷ []; bytes = [] }) → IsReadAs p i → is_double (map (λ p. p.0) names) ns ≡ false
       → length code < 16384 → length bytes ≤ 65536
       → LinesSay (ls ++ l ∷ []) (code ++ i ∷ []) (names ++ labels_at (address (length code)) ns) bytes
   push_code p i said stands single short small = record {
@@ -124,7 +129,7 @@ module _ (text new : List ℕ) (code : List Instr) (names : List (List ℕ × �
   text_quiet bare said small room =
       subst (λ (bs : List ℕ). IsText new code names bs (most + more)) (append-nil bytes) (text_bytes [] bare said small (omega arith))
 
-  pub text_label : (name : List ℕ) → labels l ≡ name ∷ [] → read l ≡ Ok (record { code = []; bytes = [] }) → is_double (address (length code)) names (name ∷ []) ≡ false
+  pub text_label : (name : List ℕ) → labels l ≡ name ∷ [] → read l ≡ Ok (record { code = []; bytes = [] }) → is_double (map (λ p. p.0) names) (name ∷ []) ≡ false
       → length code ≤ 16384 → length bytes ≤ 65536
       → IsText new code (names ++ (name, address (length code)) ∷ []) bytes (most + more)
   text_label name labelled said single small room = record {

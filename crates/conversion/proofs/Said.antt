@@ -64,7 +64,7 @@ module _ (marks : List Bool) (n : ℕ) (few : n ≤ 16384) (all : length marks �
       let lines : lines_of text ≡ ls ++ [] ∷ [] = ap lines_of is.is ∙ lines_are ls (is.written).printed in
       let names : table 0 (ls ++ [] ∷ []) ≡ marked marks n = last.labels_are ∙ append-nil (marked marks n) in
       let values : memory (ls ++ [] ∷ []) ≡ bytes = last.bytes_are ∙ append-nil bytes in
-      rw (le-ltb 4194304 (length text) is.short, lines, faultless_none [] (ls ++ [] ∷ []) last.faultless, names, values, all_resolved (numbered 1 (ls ++ [] ∷ [])) code last.code_is sound goes) refl
+      rw (le-ltb 4194304 (length text) is.short, lines, faultless_none (ls ++ [] ∷ []) last.faultless, names, values, all_resolved (numbered 1 (ls ++ [] ∷ [])) code last.code_is sound goes) refl
 
 -- before the first instruction
 pub text_begun : (marks : List Bool) (code : List Instr) → IsText [] (take 0 code) (marked marks 0) [] (200 * 0)

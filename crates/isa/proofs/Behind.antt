@@ -13,11 +13,11 @@ use Rattle.isa.specs.declared.listing.fault.FaultKind.TheVariants.{NotAscii, Too
 use Rattle.isa.specs.declared.listing.line.Target.{Target}
 use Rattle.instructions.specs.Programs.{address}
 use Rattle.isa.specs.Statement.{Parsed, Line, statement}
-use Rattle.isa.specs.Listing.{Lines, labels, read, code_in, bytes_in, labels_at, table, numbered, memory, instruction_count, is_double, fault_of, fault_in}
+use Rattle.isa.specs.Listing.{Lines, labels, read, code_in, bytes_in, labels_at, table, numbered, memory, instruction_count, is_double, all_labels, fault_of, fault_in}
 use Rattle.isa.specs.Late.{Mark, pairs, marks, IsLateLine}
 use Rattle.isa.specs.Held.{IsAdded, IsRead, name_of, rows}
 use Rattle.isa.proofs.Rows.{rows_length, rows_push}
-use Rattle.isa.proofs.LabelTable.{double_marks, pairs_append, pairs_of_marks}
+use Rattle.isa.proofs.LabelTable.{double_marks, names_append, pairs_append, pairs_of_marks}
 use Rattle.isa.proofs.Statements.{statement_empty}
 
 -- ---- one line more
@@ -52,6 +52,19 @@ pub memory_push : (before : Lines) (l : List ℕ) → memory (before ++ l ∷ []
 unfolding memory
 memory_push before l = flat_map-append (λ l. bytes_in (read l)) before (l ∷ []) ∙ ap (λ (t : List ℕ). memory before ++ t) (append-nil _)
 
+names_at : (a : ℕ) (names : List (List ℕ)) → map (λ p. p.0) (labels_at a names) ≡ names
+names_at a [] = refl
+names_at a (x ∷ xs) = ap (λ (ns : List (List ℕ)). x ∷ ns) (names_at a xs)
+
+-- the labels that have an address are all labels
+pub names_are : (n : ℕ) (ls : Lines) → map (λ p. p.0) (table n ls) ≡ all_labels ls
+unfolding table
+names_are n [] = refl
+names_are n (l ∷ ls) =
+    names_append (labels_at (address n) (labels l)) (table (n + length (code_in (read l))) ls)
+    ∙ ap (λ (ns : List (List ℕ)). ns ++ map (λ p. p.0) (table (n + length (code_in (read l))) ls)) (names_at (address n) (labels l))
+    ∙ ap (λ (ns : List (List ℕ)). labels l ++ ns) (names_are (n + length (code_in (read l))) ls)
+
 -- ---- this line
 
 module _ (before : Lines) (line text : List ℕ) (n : ℕ) (old : List Mark) (code : List Instr) (ts : List Target) (bytes : List ℕ)
@@ -79,10 +92,10 @@ module _ (before : Lines) (line text : List ℕ) (n : ℕ) (old : List Mark) (co
         added = marks n a (labels_of text);
         grown = named;
         fault = λ others.
-            let double : is_double (address (instruction_count before)) (table 0 before) (labels line) ≡ is_double a (pairs old) (labels_of text) =
-            rw (at_count, front, is.labels_are) refl in
+            let names : map (λ p. p.0) (pairs old) ≡ all_labels before = ap (map (λ p. p.0)) is.labels_are ∙ names_are 0 before in
+            let double : is_double (all_labels before) (labels line) ≡ is_double (map (λ p. p.0) (pairs old)) (labels_of text) = rw (names, front) refl in
             let other : fault_of (instruction_count before) (length (memory before)) (read line) ≡ f = rw (how_many_is, ← is.bytes_are, ← front) e in
-            elim (cases_Bool (is_double a (pairs old) (labels_of text))) [
+            elim (cases_Bool (is_double (map (λ p. p.0) (pairs old)) (labels_of text))) [
               | inl twice ↦ rw (double_marks n a (labels_of text) (pairs old), is_plain, double, twice) refl
               | inr once ↦ rw (double_marks n a (labels_of text) (pairs old), is_plain, double, once, other) refl
             ];

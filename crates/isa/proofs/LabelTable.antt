@@ -1,15 +1,18 @@
 -- The labels that were read, and the first one that stands twice.
-use Rattle.std.proofs.Common.{◌≡◌, ℕ, Bool, true, false, cond, List, [], ◌∷◌, ◌++◌, ◌+◌, ◌<◌, length, map, take, drop, get_or, Option, Some, None, refl, sym, ap, ◌∙◌, append_assoc, inl, inr}
+use Rattle.std.proofs.Common.{◌≡◌, ℕ, Bool, true, false, ◌||◌, cond, List, [], ◌∷◌, ◌++◌, ◌+◌, ◌<◌, length, map, take, drop, get_or, Option, Some, None, refl, sym, ap, ◌∙◌, append_assoc, inl, inr}
 use Rattle.std.specs.Prelude.{is_some, if◌then◌else◌}
+use Rattle.std.specs.Bool.{one_answer}
+use Rattle.std.specs.List.{list_any}
 use Rattle.std.specs.Map.{lookup}
 use Rattle.std.specs.Str.{bytes_eq}
 use Rattle.std.proofs.lemmas.Bool.{cases_Bool}
 use Rattle.std.proofs.lemmas.List.{append-nil, take_more, drop_more}
+use Rattle.std.proofs.lemmas.Slice.Eq.{bytes_eq-Decides}
 use Rattle.text.specs.Label.{labels_of}
 use Rattle.isa.specs.declared.listing.fault.FaultKind.{FaultKind}
 use Rattle.isa.specs.declared.listing.table.Entry.{Entry}
 use Rattle.isa.specs.Buckets.{pair, found}
-use Rattle.isa.specs.Listing.{is_double, labels_at}
+use Rattle.isa.specs.Listing.{stands_in, stands_twice, is_double, labels_at}
 use Rattle.isa.specs.Late.{Mark, mark, pairs, marks, double_line, or_other}
 
 -- a name behind pairs without it, and another name
@@ -61,12 +64,66 @@ one_mark n a held e held' text grown is only =
 
 -- ---- the first label that stands twice
 
-pub double_marks : (n a : ℕ) (names : List (List ℕ)) (held : List (List ℕ × ℕ)) → double_line held (marks n a names) ≡ (if is_double a held names then Some n else None)
-double_marks n a [] held = refl
-double_marks n a (x ∷ xs) held = elim (cases_Bool (is_some (lookup (λ k. bytes_eq k x) held))) [
-  | inl is ↦ rw is refl
-  | inr not ↦ rw not (double_marks n a xs (held ++ (x, a) ∷ []))
+four : (a b c d : Bool) → ((a || b) || (c || d)) ≡ ((a || c) || (b || d))
+four true b c d = refl
+four false true true d = refl
+four false true false d = refl
+four false false c d = refl
+
+five : (a b c d : Bool) → ((a || b) || (c || d)) ≡ (a || ((b || c) || d))
+five true b c d = refl
+five false true c d = refl
+five false false c d = refl
+
+either_way : (x y : List ℕ) → bytes_eq x y ≡ bytes_eq y x
+either_way x y =
+    let back = bytes_eq-Decides y x in
+    one_answer (bytes_eq x y) (bytes_eq y x) (bytes_eq-Decides x y) ((λ same. sym (back.0 same)), λ same. back.1 (sym same))
+
+-- among earlier names and one more: among the earlier ones, or it is the one
+one_name_more : (earlier : List (List ℕ)) (x name : List ℕ) → stands_in (earlier ++ x ∷ []) name ≡ (stands_in earlier name || bytes_eq name x)
+one_name_more [] x name = elim (cases_Bool (bytes_eq x name)) [
+  | inl is ↦ rw (is, sym (either_way x name) ∙ is) refl
+  | inr not ↦ rw (not, sym (either_way x name) ∙ not) refl
 ]
+one_name_more (y ∷ ys) x name = elim (cases_Bool (bytes_eq y name)) [ inl is ↦ rw is refl | inr not ↦ rw not (one_name_more ys x name) ]
+
+one_more : (earlier names : List (List ℕ)) (x : List ℕ)
+    → list_any (stands_in (earlier ++ x ∷ [])) names ≡ (list_any (stands_in earlier) names || stands_in names x)
+one_more earlier [] x = refl
+one_more earlier (y ∷ ys) x =
+    ap (λ (b : Bool). b || list_any (stands_in (earlier ++ x ∷ [])) ys) (one_name_more earlier x y)
+    ∙ ap (λ (b : Bool). (stands_in earlier y || bytes_eq y x) || b) (one_more earlier ys x)
+    ∙ four (stands_in earlier y) (bytes_eq y x) (list_any (stands_in earlier) ys) (stands_in ys x)
+
+double_more : (earlier names : List (List ℕ)) (x : List ℕ)
+    → is_double earlier (x ∷ names) ≡ (stands_in earlier x || is_double (earlier ++ x ∷ []) names)
+double_more earlier names x =
+    five (stands_in earlier x) (list_any (stands_in earlier) names) (stands_in names x) (stands_twice names)
+    ∙ ap (λ (b : Bool). stands_in earlier x || (b || stands_twice names)) (sym (one_more earlier names x))
+
+pub stands_among : (name : List ℕ) (held : List (List ℕ × ℕ)) → is_some (lookup (λ k. bytes_eq k name) held) ≡ stands_in (map (λ p. p.0) held) name
+stands_among name [] = refl
+stands_among name (p ∷ ps) = elim (cases_Bool (bytes_eq p.0 name)) [
+  | inl is ↦ rw is refl
+  | inr not ↦ rw not (stands_among name ps)
+]
+
+pub names_append : (xs ys : List (List ℕ × ℕ)) → map (λ p. p.0) (xs ++ ys) ≡ map (λ p. p.0) xs ++ map (λ p. p.0) ys
+names_append [] ys = refl
+names_append (x ∷ xs) ys = ap (λ (ns : List (List ℕ)). x.0 ∷ ns) (names_append xs ys)
+
+pub double_marks : (n a : ℕ) (names : List (List ℕ)) (held : List (List ℕ × ℕ))
+    → double_line held (marks n a names) ≡ (if is_double (map (λ p. p.0) held) names then Some n else None)
+double_marks n a [] held = refl
+double_marks n a (x ∷ xs) held =
+    let earlier : List (List ℕ) = map (λ p. p.0) held in
+    let rest : double_line (held ++ (x, a) ∷ []) (marks n a xs) ≡ (if is_double (earlier ++ x ∷ []) xs then Some n else None) =
+    double_marks n a xs (held ++ (x, a) ∷ []) ∙ ap (λ (ns : List (List ℕ)). if is_double ns xs then Some n else None) (names_append held ((x, a) ∷ [])) in
+    elim (cases_Bool (stands_in earlier x)) [
+      | inl is ↦ rw (stands_among x held, double_more earlier xs x, is) refl
+      | inr not ↦ rw (stands_among x held, double_more earlier xs x, not) rest
+    ]
 
 pub double_append : (held : List (List ℕ × ℕ)) (xs ys : List Mark) (others : Option (ℕ × FaultKind))
     → or_other (double_line held (xs ++ ys)) others ≡ or_other (double_line held xs) (or_other (double_line (held ++ pairs xs) ys) others)

@@ -11,6 +11,7 @@ pub mod FormSearch
 pub mod Statements
 pub mod Rows
 pub mod Behind
+pub mod FirstFault
 pub mod Whole
 pub mod Examples
 pub mod TextBytes

@@ -60,5 +60,5 @@ pub record IsFaultLine (before : Lines) (text : List ℕ) (n : ℕ) (old new : L
 -- what is held of lines that have no fault but for a label that stands twice
 pub record LinesAreRead (ls : Lines) (held : List Mark) (code : List Instr) (ts : List Target)
     (bytes : List ℕ) : Type 0 where
-  pub fault : or_other (double_line [] held) None ≡ first_fault [] ls
+  pub fault : or_other (double_line [] held) None ≡ first_fault ls
   pub read : IsRead ls (pairs held) code ts bytes

@@ -6,7 +6,7 @@ use Rattle.isa.specs.declared.listing.fault.FaultKind.{FaultKind}
 use Rattle.isa.specs.declared.listing.fault.FaultKind.TheVariants.{DoubleLabel}
 use Rattle.isa.specs.declared.listing.table.Entry.{Entry}
 use Rattle.isa.specs.Buckets.{pair}
-use Rattle.isa.specs.Listing.{Lines, fault_in, fault_at}
+use Rattle.isa.specs.Listing.{Lines, fault_in}
 
 -- a label with its address, and the number of its line
 abbrev pub Mark : Type 0
@@ -31,7 +31,12 @@ double_line held (m ∷ ms) =
     if is_some (lookup (λ k. bytes_eq k m.0.0) held) then Some m.1
     else double_line (held ++ m.0 ∷ []) ms
 
--- the fault of such a line, and without one another fault
+-- the fault of line n, or that of the lines behind it
+abbrev pub fault_at : ℕ → Option FaultKind → Option (ℕ × FaultKind) → Option (ℕ × FaultKind)
+fault_at n (Some k) others = Some (n, k)
+fault_at n None others = others
+
+-- the fault of a line whose label stands twice, and without one another fault
 abbrev pub or_other : Option ℕ → Option (ℕ × FaultKind) → Option (ℕ × FaultKind)
 or_other None other = other
 or_other (Some n) other = Some (n, DoubleLabel)

@@ -1,6 +1,7 @@
 -- A listing: its lines, the first fault, and the program.
-use Rattle.std.specs.Prelude.{ℕ, ◌+◌, ◌||◌, Bool, false, not, nat_lt, List, [], ◌∷◌, ◌++◌, length, map, is_some, Option, Some, None, Result, Ok, Err, if◌then◌else◌}
-use Rattle.std.specs.List.{flat_map}
+use Rattle.std.specs.Prelude.{ℕ, zero, suc, ◌+◌, ◌||◌, Bool, false, not, nat_lt, List, [], ◌∷◌, ◌++◌, length, map, take, slice_get, Option, Some, None, Result, Ok, Err, if◌then◌else◌}
+use Rattle.std.specs.List.{flat_map, list_any}
+use Rattle.std.specs.Option.{option_map, option_or, option_and_then}
 use Rattle.std.specs.Map.{lookup}
 use Rattle.std.specs.Str.{bytes_eq}
 use Rattle.text.specs.Line.{lines_of, before_comment}
@@ -63,11 +64,22 @@ instruction_count ls = length (numbered 1 ls)
 
 -- ---- the first fault
 
--- a label stands among earlier ones, or twice
-abbrev pub is_double : ℕ → List (List ℕ × ℕ) → List (List ℕ) → Bool
-is_double a earlier [] = false
-is_double a earlier (x ∷ xs) =
-    is_some (lookup (λ k. bytes_eq k x) earlier) || is_double a (earlier ++ (x, a) ∷ []) xs
+-- a name stands among these
+abbrev pub stands_in : List (List ℕ) → List ℕ → Bool
+stands_in names name = list_any (λ x. bytes_eq x name) names
+
+-- a name stands among these twice
+abbrev pub stands_twice : List (List ℕ) → Bool
+stands_twice [] = false
+stands_twice (x ∷ xs) = stands_in xs x || stands_twice xs
+
+-- one of these names stands among earlier ones, or twice among them
+abbrev pub is_double : List (List ℕ) → List (List ℕ) → Bool
+is_double earlier names = list_any (stands_in earlier) names || stands_twice names
+
+-- the labels of lines, in their order
+abbrev pub all_labels : Lines → List (List ℕ)
+all_labels ls = flat_map labels ls
 
 -- the fault of a statement behind n instructions and m bytes of data
 abbrev pub fault_of : ℕ → ℕ → Result Line FaultKind → Option FaultKind
@@ -80,20 +92,23 @@ fault_of n m (Err k) = Some k
 unfoldable pub fault_in : Lines → List ℕ → Option FaultKind
 fault_in before line =
     if not (is_plain_text (before_comment line)) then Some NotAscii
-    else (if is_double (address (instruction_count before)) (table 0 before) (labels line)
-    then Some DoubleLabel
+    else (if is_double (all_labels before) (labels line) then Some DoubleLabel
     else fault_of (instruction_count before) (length (memory before)) (read line))
 
--- the fault of line n, or that of the lines behind it
-abbrev pub fault_at : ℕ → Option FaultKind → Option (ℕ × FaultKind) → Option (ℕ × FaultKind)
-fault_at n (Some k) others = Some (n, k)
-fault_at n None others = others
+-- the fault of line n, counted from 1
+abbrev pub fault_of_line : Lines → ℕ → Option FaultKind
+fault_of_line ls zero = None
+fault_of_line ls (suc n) = option_and_then (fault_in (take n ls)) (slice_get ls n)
 
--- the first line with a fault, and its fault, among lines behind those before
-unfoldable pub first_fault : Lines → Lines → Option (ℕ × FaultKind)
-first_fault before [] = None
-first_fault before (l ∷ ls) =
-    fault_at (length before + 1) (fault_in before l) (first_fault (before ++ l ∷ []) ls)
+-- the first of lines 1 to n that has a fault, and its fault
+abbrev pub first_fault_to : Lines → ℕ → Option (ℕ × FaultKind)
+first_fault_to ls zero = None
+first_fault_to ls (suc n) =
+    option_or (first_fault_to ls n) (option_map (λ kind. (suc n, kind)) (fault_of_line ls (suc n)))
+
+-- the first line that has a fault, and its fault
+unfoldable pub first_fault : Lines → Option (ℕ × FaultKind)
+first_fault ls = first_fault_to ls (length ls)
 
 -- ---- the program
 
@@ -145,4 +160,4 @@ program_of ls None = with_bytes (memory ls) (resolved (table 0 ls) (numbered 1 l
 unfoldable pub listing : List ℕ → Result Program (ℕ × FaultKind)
 listing bytes =
     if nat_lt 4194304 (length bytes) then Err (0, TooLong)
-    else program_of (lines_of bytes) (first_fault [] (lines_of bytes))
+    else program_of (lines_of bytes) (first_fault (lines_of bytes))

@@ -114,7 +114,7 @@ fn read_lines<'a>(
         code.new.items targets.new.items memory.new.items) }
     ensures fault { IfErr result (λ f. f.kind ≢ FaultKind.Memory
         → or_other (double_line [] (map mark labels.new.items)) (Some (f.line, f.kind))
-        ≡ first_fault [] (lines_of bytes.entry.now)) }
+        ≡ first_fault (lines_of bytes.entry.now)) }
     ensures memory { IfErr result (λ f. f.kind ≡ FaultKind.Memory → f.line ≡ 0) }
 {
     let mut number = 0u32;
