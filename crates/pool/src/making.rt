@@ -109,14 +109,6 @@ pub(crate) fn make<J: Naming, K: Bounds + Ring, P: Predictor + Drop, R: Wait>(
         snapper,
     } = make_parts::<J, K>(task.alloc, task.program, config)?;
     let (back_count, workers) = counts.split_worker(count);
-    let floor = match Floor::new(task.alloc, counts, hints, config.units(), config.turns()) {
-        Ok(floor) => floor,
-        Err(memory) => {
-            back.end(task.wait);
-            return Err(memory);
-        }
-    };
-    let committer = Committer::<J, K>::new(back, back_count, config.limit(), config.turns());
     let term = Term {
         core,
         seat: front,
@@ -125,6 +117,15 @@ pub(crate) fn make<J: Naming, K: Bounds + Ring, P: Predictor + Drop, R: Wait>(
         unit,
         count: workers,
     };
+    let floor = match Floor::new(task.alloc, counts, hints, config.units(), config.turns()) {
+        Ok(floor) => floor,
+        Err(memory) => {
+            back.end(task.wait);
+            drop(term);
+            return Err(memory);
+        }
+    };
+    let committer = Committer::<J, K>::new(back, back_count, config.limit(), config.turns());
     Ok(Made {
         floor,
         committer,

@@ -163,7 +163,12 @@ fn next_term<J: Naming, K: Bounds + Ring, P: Predictor + Drop>(
 {
     let Given { left, unit } = given;
     let Left { seat, still, turns } = left;
-    let (core, seat, unit) = committer.renew(alloc, floor, core, seat, unit)?;
+    let Some((core, seat, unit)) = committer.renew(alloc, floor, core, seat, unit) else {
+        // by calls, as what is dropped in line is proved here part by part
+        drop(still);
+        drop(count);
+        return None;
+    };
     Some(Term {
         core,
         seat,
@@ -202,6 +207,8 @@ fn run_term<
     };
     let (committer, given) = in_threads(&crew, hands, committer);
     let Some(given) = given else {
+        drop(core);
+        drop(count);
         return (committer, None);
     };
     let next = next_term(alloc, hall.floor, core, given, count, committer);
@@ -229,4 +236,5 @@ pub(crate) fn run_terms<
             None => return,
         }
     }
+    drop(term);
 }
