@@ -81,14 +81,19 @@ fn in_threads<
                 count,
             } = own;
             let Some(dispatching) = start_dispatch(scope, crew, dispatcher) else {
+                drop(unit);
+                drop(count);
                 return (committer, None);
             };
             let started = start_units(scope, crew, unit, count);
             let Some(unit) = started else {
+                drop(dispatching);
                 crew.floor.close();
                 return (committer, None);
             };
             if !committer.run(crew) {
+                drop(dispatching);
+                drop(unit);
                 crew.floor.close();
                 return (committer, None);
             }
