@@ -52,6 +52,8 @@ fn in_threads<
         {
             if start_snappers(scope, hall, places, first) {
                 run_terms(hall, alloc, term, committer);
+            } else {
+                drop(term);
             }
             hall.floor.close();
         },

@@ -49,7 +49,13 @@ impl<J: Naming, K: Bounds + Ring> Committer<J, K> {
         let (seat, still) = back.leave();
         let (back, now) = match core.renew(alloc, front, seat, unit) {
             Ok((core, front, seat, unit)) => (still.enter(seat), Some((core, front, unit))),
-            Err(refused) => (still.enter_again(refused.3), None),
+            Err(refused) => {
+                let (_, core, front, seat, unit) = refused;
+                drop(core);
+                drop(front);
+                drop(unit);
+                (still.enter_again(seat), None)
+            }
         };
         let committer = Committer {
             back,
