@@ -1,4 +1,3 @@
 pub use Rattle.without_threads.specs.Went
 pub use Rattle.without_threads.specs.Answers
 pub use Rattle.without_threads.specs.Watched
-pub mod Threads

@@ -2,7 +2,6 @@
 #![tactic(auto)]
 
 mod running;
-mod threads;
 
 pub use requests::{
     Asked, BranchPredictor, NoRun, Request, Watch, asked, is_standard_input, requested, status,

@@ -1,20 +1,20 @@
 //! The run that a command line asks for.
-ghost use Rattle.std.specs.Prelude.{◌≡◌, ◌-◌, ◌^◌, ◌<◌, IfSome, IfOk, IfErr, None, true};
+ghost use Rattle.std.specs.Prelude.{◌≡◌, ◌-◌, ◌^◌, ◌<◌, IfSome, None, true};
 ghost use Rattle.devices.specs.Counted.{failures_of, Gives};
-ghost use Rattle.devices.specs.Replies.{HasReplied};
-ghost use Rattle.bench.specs.Answer.{most_taken};
 ghost use Rattle.without_threads.specs.Answers.{IsAnswerTo, IsAsAlone, IsSomeAnswerTo};
-ghost use Rattle.without_threads.specs.Replies.{HasWritten, IfRefused, IsLeftBy, IsUnansweredBy};
-ghost use Rattle.without_threads.specs.Went.{HoldsOfInput, IsOfOneThread, IsWhole, WasWritten, refused, went_of};
+ghost use Rattle.without_threads.specs.Replies.{HasWritten, IfRefused, IsLeftBy};
+ghost use Rattle.without_threads.specs.Went.{HoldsOfInput, IsOfOneThread, IsWhole, WasWritten, refused};
 
-use crate::{Asked, Refusal, Went, threads};
+use crate::{Asked, Refusal, Went};
 use devices::Counted;
-use pool::Gate;
+use instructions::Program;
+use pool::{Gate, run};
+use requests::Chosen;
 use std::alloc::Global;
 use std::io::{Read, Write};
 use std::sync::Wait;
 use std::thread::Threads;
-use without_threads::refused;
+use with_threads::go_by;
 
 /// Reads the listing, runs it and writes its report, or the line of the fault in its text. There is
 /// no reader where the file did not open. A failed read or write is not tried again. The gate
@@ -45,36 +45,8 @@ pub fn go<T: Threads + Wait + Sync, R: Read + Drop, W: Write, G: Gate + Sync>(
     ensures left { IfRefused result.line (IsLeftBy R.remaining W.contents reader
         writer.old writer.new (IsSomeAnswerTo asked.now)) }
 {
-    let Some(mut reader) = reader else {
-        return refused(Refusal::Open);
+    let by_threads = |program: &Program, predictor: Chosen| {
+        run(wait, alloc, program, &asked.config, predictor, gate)
     };
-    match ended(wait, alloc, asked, &mut reader, writer, gate) {
-        Ok(went) => went,
-        Err(refusal) => refused(refusal),
-    }
-}
-
-// On one thread or on several, as is asked for.
-fn ended<T: Threads + Wait + Sync, R: Read, W: Write, G: Gate + Sync>(
-    wait: &T,
-    alloc: Global,
-    asked: &Asked<'_>,
-    reader: &mut Counted<R>,
-    writer: &mut Counted<W>,
-    gate: &G,
-) -> Result<Went, Refusal>
-    requires reader_room { failures_of reader.old < 2 ^ 64 - 1 }
-    requires writer_room { failures_of writer.old < 2 ^ 64 - 1 }
-    ensures ok { IfOk result (λ went. HasReplied R.remaining W.contents most_taken
-        reader.old reader.new writer.old writer.new (IsAnswerTo asked.now went)) }
-    ensures line { IfOk result (λ went. WasWritten went.line) }
-    ensures alone { asked.now.alone ≡ true → IsOfOneThread (went_of result).line }
-    ensures err { IfErr result (IsUnansweredBy R.remaining W.contents
-        reader.old reader.new writer.old writer.new (IsSomeAnswerTo asked.now)) }
-{
-    if asked.alone {
-        without_threads::run(alloc, asked, reader, writer)
-    } else {
-        threads::run(wait, alloc, asked, reader, writer, gate)
-    }
+    go_by(&by_threads, alloc, asked, reader, writer)
 }

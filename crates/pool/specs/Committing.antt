@@ -6,8 +6,8 @@ use Rattle.counts.specs.declared.tally.Total.TheVariants.{Renewals, Retires}
 use Rattle.counts.specs.Reads.{HoldsAll}
 use Rattle.counts.specs.Seats.{Counter}
 use Rattle.counts.specs.Shares.{share_of}
-use Rattle.pool.specs.declared.answer.Refusal.{Refusal}
-use Rattle.pool.specs.declared.answer.Refusal.TheVariants.{Memory}
+use Rattle.run_ends.specs.declared.answer.Refusal.{Refusal}
+use Rattle.run_ends.specs.declared.answer.Refusal.TheVariants.{Memory}
 use Rattle.pool.specs.declared.commit.Why.{Why}
 use Rattle.pool.specs.declared.commit.Why.TheVariants.{AtEnd, AtLimit, Spent}
 use Rattle.pool.specs.Turns.{TheTurns}

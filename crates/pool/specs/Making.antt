@@ -4,11 +4,12 @@ use Rattle.atomic_table.specs.Seated.{TableId}
 use Rattle.back.specs.Backs.{back_state}
 use Rattle.front.specs.Fronts.{IsUnused}
 use Rattle.instructions.specs.Programs.{Program}
-use Rattle.pool.specs.Runs.{IsLimit, IsWithinLimit, LeavesTurns, RunIsRight, TellsRenewals}
+use Rattle.pool.specs.Runs.{IsLimit, LeavesTurns, TellsRenewals}
 use Rattle.pool.specs.Terms.{MayBegin}
 use Rattle.pool.specs.declared.answer.RunInTurns.{RunInTurns}
 use Rattle.pool.specs.declared.making.Made.{Made}
 use Rattle.pool.specs.declared.making.Parts.{Parts}
+use Rattle.run_ends.specs.Runs.{IsWithinLimit, RunIsRight}
 
 -- All parts are at the core, whose ring is so long, and the back is at the start of the program
 pub record AreParts {J : Type 0} (ring : ℕ) (parts : Parts J) : Type 0 where

@@ -6,7 +6,7 @@ use Rattle.inorder.specs.History.{unit_of}
 use Rattle.front.specs.Fronts.{IsUnused}
 use Rattle.front.specs.Stills.{FrontMayEnter, TheStillFront}
 use Rattle.pool.specs.Committing.{IsAtRest, TheCommitter}
-use Rattle.pool.specs.declared.answer.Refusal.TheVariants.{Thread}
+use Rattle.run_ends.specs.declared.answer.Refusal.TheVariants.{Thread}
 use Rattle.pool.specs.declared.dispatch.Begin.{Begin}
 use Rattle.pool.specs.declared.dispatch.Begin.TheVariants.{Again, Fresh}
 use Rattle.pool.specs.declared.terms.Given.{Given}

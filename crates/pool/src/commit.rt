@@ -5,7 +5,7 @@ ghost use Rattle.back.specs.Backs.{back_state};
 mod renewal;
 mod turning;
 
-use crate::answer::{Refusal, Run, RunInTurns};
+use crate::answer::RunInTurns;
 use crate::bounds::Bounds;
 use crate::floor::Floor;
 use crate::turns::Turns;
@@ -13,6 +13,7 @@ use back::{Back, Naming};
 use counts::CountSeat;
 use hints::Ring;
 use instructions::Ending;
+use run_ends::{Refusal, Run};
 use std::marker::{Model, PhantomData};
 use std::sync::Wait;
 
@@ -42,7 +43,7 @@ pub(crate) struct Committer<J: Naming, K: Bounds + Ring> {
 impl<J: Naming, K: Bounds + Ring> Model for Committer<J, K> {
     ghost use Rattle.std.specs.Prelude.{◌≡◌, Err, IfOk};
     ghost use Rattle.pool.specs.Committing.{Because, HasCounted, KeepsLimit, TheCommitter};
-    ghost use Rattle.pool.specs.declared.answer.Refusal.TheVariants.{Thread};
+    ghost use Rattle.run_ends.specs.declared.answer.Refusal.TheVariants.{Thread};
 
     ghost Value = { TheCommitter };
 
@@ -57,7 +58,8 @@ impl<J: Naming, K: Bounds + Ring> Model for Committer<J, K> {
 impl<J: Naming, K: Bounds + Ring> Committer<J, K> {
     ghost use Rattle.std.specs.Prelude.{◌≡◌, Err, None};
     ghost use Rattle.pool.specs.Committing.{HasCounted};
-    ghost use Rattle.pool.specs.Runs.{IsLimit, RunIsRight, IsWithinLimit, LeavesTurns, TellsRenewals};
+    ghost use Rattle.pool.specs.Runs.{IsLimit, LeavesTurns, TellsRenewals};
+    ghost use Rattle.run_ends.specs.Runs.{RunIsRight, IsWithinLimit};
 
     pub(crate) fn new(back: Back<J>, count: CountSeat, limit: u32, turns: u32) -> Self
         requires count { HasCounted K.counts back 0 count }
@@ -103,9 +105,13 @@ impl<J: Naming, K: Bounds + Ring> Committer<J, K> {
         let end = back.end(wait);
         let tally = floor.counts.read(&mut count);
         match (over, end.outcome) {
-            (Err(refusal), _) => Run::Refused(refusal).with(turns, renewals),
-            (Ok(_), Ending::Stop(_)) => Run::Ended(end, tally).with(turns, renewals),
-            (Ok(_), Ending::Limit) => Run::LimitReached(end, tally).with(turns, renewals),
+            (Err(refusal), _) => RunInTurns::of(Run::Refused(refusal), turns, renewals),
+            (Ok(_), Ending::Stop(_)) => RunInTurns::of(Run::Ended(end, tally), turns, renewals),
+            (Ok(_), Ending::Limit) => RunInTurns::of(
+                Run::LimitReached(end, tally),
+                turns,
+                renewals,
+            ),
         }
     }
 }

@@ -8,7 +8,6 @@ ghost use Rattle.station.specs.Seats.{IsSameSeat};
 
 use crate::bounds::Bounds;
 use crate::crew::Crew;
-use crate::gate::Gate;
 use crate::gathered::Gathered;
 use crate::hinting::hint_each;
 use crate::rest::Rest;
@@ -16,6 +15,7 @@ use crate::search::{Candidate, Search};
 use counts::{Total, WorkerSeat};
 use hints::Ring;
 use instructions::outcome_of;
+use run_ends::Gate;
 use station::{Claim, Core, Finish, Job, UnitSeat, a_job_is_of_the_program};
 use std::sync::Wait;
 use std::thread::yield_now;

@@ -2,14 +2,14 @@
 ghost use Rattle.std.specs.Prelude.{◌≡◌, IfOk};
 ghost use Rattle.counts.specs.Shares.{all_parts};
 ghost use Rattle.pool.specs.Making.{HasRun};
-ghost use Rattle.pool.specs.Runs.{IsLimit, RunIsRight, IsWithinLimit, LeavesTurns, TakesTurns, TellsRenewals};
+ghost use Rattle.pool.specs.Runs.{IsLimit, LeavesTurns, TellsRenewals};
 ghost use Rattle.pool.specs.Terms.{MayBegin};
+ghost use Rattle.run_ends.specs.Runs.{RunIsRight, IsWithinLimit, TakesTurns};
 
-use crate::answer::{Refusal, Run, RunInTurns};
+use crate::answer::RunInTurns;
 use crate::bounds::Bounds;
 use crate::commit::Committer;
 use crate::crew::Hall;
-use crate::gate::Gate;
 use crate::making::{Made, Task, make};
 use crate::terms::{Term, run_terms};
 use crate::threads::start_snappers;
@@ -18,6 +18,7 @@ use back::{Naming, Snapper};
 use counts::{CountSeat, Counts};
 use hints::Ring;
 use instructions::{Config, Memory, Predictor, Program};
+use run_ends::{Gate, Refusal, Run};
 use std::alloc::Global;
 use std::marker::Brand;
 use std::sync::Wait;
@@ -104,7 +105,7 @@ fn wants_memory(config: &Config) -> RunInTurns
     ensures run { result.run ≡ Run.Refused Refusal.Memory }
     ensures turns { result.turns.all ≡ config.now.turns }
 {
-    Run::Refused(Refusal::Memory).with(Turns::new(config.turns()), 0)
+    RunInTurns::of(Run::Refused(Refusal::Memory), Turns::new(config.turns()), 0)
 }
 
 /// Runs a program on as many unit threads as the configuration says, beside one that dispatches, one

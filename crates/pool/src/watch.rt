@@ -3,8 +3,8 @@ ghost use Rattle.snapshots.specs.Snapshots.{IsSnapshotOf};
 
 use crate::bounds::Bounds;
 use crate::crew::Hall;
-use crate::gate::Gate;
 use hints::Ring;
+use run_ends::Gate;
 use snapshots::{Naming, Snap, Snapper};
 use std::sync::Wait;
 

@@ -6,7 +6,6 @@ ghost use Rattle.pool.specs.Terms.{AreRenewed};
 ghost use Rattle.station.specs.Renewals.{HasNobody};
 
 use super::Committer;
-use crate::answer::Refusal;
 use crate::bounds::Bounds;
 use crate::floor::Floor;
 use back::{Naming, a_back_enters_behind_a_renewal};
@@ -14,6 +13,7 @@ use core::mem::replace_with;
 use counts::Total;
 use front::a_front_enters_behind_a_renewal;
 use hints::Ring;
+use run_ends::Refusal;
 use station::{Core, FrontSeat, UnitSeat};
 use std::alloc::Global;
 

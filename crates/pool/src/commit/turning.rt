@@ -7,16 +7,15 @@ ghost use Rattle.pool.specs.declared.commit.turning.Turned.TheVariants.{Over};
 ghost use Rattle.pool.specs.declared.commit.Why.{Why};
 
 use super::{Committer, Why};
-use crate::answer::Refusal;
 use crate::bounds::Bounds;
 use crate::crew::Crew;
-use crate::gate::Gate;
 use crate::hinting::hint_each;
 use crate::rest::Rest;
 use back::{Commit, Mark, Naming, Refresh};
 use counts::{Tally, Total};
 use hints::{Hinter, Ring};
 use instructions::Memory;
+use run_ends::{Gate, Refusal};
 use std::sync::Wait;
 
 // It shows each so many instructions.

@@ -1,6 +1,6 @@
 use Rattle.std.specs.Prelude.{◌≡◌, Err}
 use Rattle.hints.specs.Hinted.{IsEndOf}
-use Rattle.pool.specs.declared.answer.Refusal.TheVariants.{Memory}
+use Rattle.run_ends.specs.declared.answer.Refusal.TheVariants.{Memory}
 use Rattle.pool.proofs.commit.Committer.turns.Given as goal
 
 abbrev pub invariant-loop-rest : goal.invariant-loop-rest

@@ -1,4 +1,6 @@
 //! What a run tells its watcher, and what it asks.
+ghost use Rattle.std.specs.Prelude.{◌≡◌, false};
+
 use counts::Tally;
 use snapshots::Snap;
 
@@ -20,7 +22,9 @@ pub trait Gate {
 pub struct Open;
 
 impl Gate for Open {
-    fn held(&self, _unit: u32, _station: u32) -> bool {
+    fn held(&self, _unit: u32, _station: u32) -> bool
+        ensures { result ≡ false }
+    {
         false
     }
 

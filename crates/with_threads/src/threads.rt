@@ -3,51 +3,48 @@ ghost use Rattle.std.specs.Prelude.{◌≡◌, ◌-◌, ◌^◌, ◌<◌, IfOk, 
 ghost use Rattle.devices.specs.Counted.{failures_of};
 ghost use Rattle.devices.specs.Replies.{HasReplied};
 ghost use Rattle.bench.specs.Answer.{most_taken};
-ghost use Rattle.pool.specs.Runs.{RunIsRight, IsWithinLimit, TakesTurns};
 ghost use Rattle.without_threads.specs.Answers.{IsAnswerTo, IsSomeAnswerTo};
 ghost use Rattle.without_threads.specs.Replies.{IsUnansweredBy};
 ghost use Rattle.without_threads.specs.Went.{WasWritten};
-ghost use Rattle.command.specs.Threads.{ended_of, pool_refusal};
+ghost use Rattle.with_threads.specs.Threads.{IsRunOf, RunsAs, ended_of, run_refusal};
 ghost use Rattle.requests.specs.Predictors.{IsChosen};
 
-use crate::{Asked, Line, Refusal, Went};
 use bench::{MOST_TAKEN, Status};
 use devices::{Counted, InputFault, read_up_to, write_whole};
 use instructions::{End, Memory, Program};
 use isa::{FaultKind, fault_text, parse, report_text};
-use pool::{Gate, Run, Tally};
-use requests::{Chosen, choose};
+use requests::{Asked, Chosen, choose};
+use run_ends::{Run, Tally};
 use std::alloc::{AllocError, Global};
 use std::io::{Read, Write};
-use std::sync::Wait;
-use std::thread::Threads;
-use without_threads::written;
+use without_threads::{Line, Refusal, Went, written};
 
 // What a run on threads could not have.
 #[derive(Drop)]
-struct Missing(pool::Refusal);
+struct Missing(run_ends::Refusal);
 
 impl From<AllocError> for Missing {
     fn from(_error: AllocError) -> Missing {
-        Missing(pool::Refusal::Memory)
+        Missing(run_ends::Refusal::Memory)
     }
 }
 
 impl From<Memory> for Missing {
     fn from(_memory: Memory) -> Missing {
-        Missing(pool::Refusal::Memory)
+        Missing(run_ends::Refusal::Memory)
     }
 }
 
 /// Reads the listing, runs it on threads and writes its report.
-pub(crate) fn run<T: Threads + Wait + Sync, R: Read, W: Write, G: Gate + Sync>(
-    wait: &T,
+pub(crate) fn run<F: Fn(&Program, Chosen) -> Run, R: Read, W: Write>(
+    run: &F,
     alloc: Global,
     asked: &Asked<'_>,
     reader: &mut Counted<R>,
     writer: &mut Counted<W>,
-    gate: &G,
 ) -> Result<Went, Refusal>
+    requires callable { F.IsAlwaysCallable run.now }
+    requires runs { RunsAs asked.now.config F.Fn run.now }
     requires reader_room { failures_of reader.old < 2 ^ 64 - 1 }
     requires writer_room { failures_of writer.old < 2 ^ 64 - 1 }
     requires threads { asked.now.alone ≡ false }
@@ -62,9 +59,9 @@ pub(crate) fn run<T: Threads + Wait + Sync, R: Read, W: Write, G: Gate + Sync>(
         Err(InputFault::Read) => return Err(Refusal::Read),
         Err(InputFault::Memory) => return Err(Refusal::Memory),
     };
-    let (went, text) = match answer(wait, alloc, asked, listing.as_slice(), gate) {
+    let (went, text) = match answer(run, alloc, asked, listing.as_slice()) {
         Ok(answer) => answer,
-        Err(Missing(refusal)) => return Err(pool_refusal(refusal)),
+        Err(Missing(refusal)) => return Err(run_refusal(refusal)),
     };
     match write_whole(writer, text.as_str().as_bytes()) {
         Ok(()) => Ok(went),
@@ -73,13 +70,14 @@ pub(crate) fn run<T: Threads + Wait + Sync, R: Read, W: Write, G: Gate + Sync>(
 }
 
 // What is told of a listing, and what is written for it.
-fn answer<T: Threads + Wait + Sync, G: Gate + Sync>(
-    wait: &T,
+fn answer<F: Fn(&Program, Chosen) -> Run>(
+    run: &F,
     alloc: Global,
     asked: &Asked<'_>,
     bytes: &[u8],
-    gate: &G,
 ) -> Result<(Went, String), Missing>
+    requires callable { F.IsAlwaysCallable run.now }
+    requires runs { RunsAs asked.now.config F.Fn run.now }
     requires threads { asked.now.alone ≡ false }
     ensures ok { IfOk result (λ answer.
         IsAnswerTo asked.now answer.0 bytes.now (string_bytes answer.1)) }
@@ -88,12 +86,12 @@ fn answer<T: Threads + Wait + Sync, G: Gate + Sync>(
     match parse(alloc, bytes) {
         Ok(program) => {
             let predictor = choose(asked.predictor);
-            let run = predicted(wait, alloc, asked, &program, predictor, gate);
+            let run = predicted(run, asked, &program, predictor);
             let (end, tally) = ended(run)?;
             let text = report_text(alloc, &end)?;
             Ok((written(Status::of(end.outcome), Line::Tally(tally)), text))
         },
-        Err(fault) if fault.kind == FaultKind::Memory => Err(Missing(pool::Refusal::Memory)),
+        Err(fault) if fault.kind == FaultKind::Memory => Err(Missing(run_ends::Refusal::Memory)),
         Err(fault) => {
             let text = fault_text(alloc, &fault)?;
             Ok((written(Status::TextFault, Line::Nothing), text))
@@ -102,20 +100,18 @@ fn answer<T: Threads + Wait + Sync, G: Gate + Sync>(
 }
 
 // With the predictor that is asked for.
-fn predicted<T: Threads + Wait + Sync, G: Gate + Sync>(
-    wait: &T,
-    alloc: Global,
+fn predicted<F: Fn(&Program, Chosen) -> Run>(
+    run: &F,
     asked: &Asked<'_>,
     program: &Program,
     predictor: Chosen,
-    gate: &G,
 ) -> Run
+    requires callable { F.IsAlwaysCallable run.now }
+    requires runs { RunsAs asked.now.config F.Fn run.now }
     requires predictor { IsChosen asked.now.predictor predictor }
-    ensures right { RunIsRight program.now result }
-    ensures within { IsWithinLimit asked.now.config.limit result }
-    ensures turns { TakesTurns asked.now.config.turns result }
+    ensures { IsRunOf program.now asked.now.config result }
 {
-    pool::run(wait, alloc, program, &asked.config, predictor, gate)
+    run(program, predictor)
 }
 
 fn ended(run: Run) -> Result<(End, Tally), Missing>
@@ -127,11 +123,11 @@ fn ended(run: Run) -> Result<(End, Tally), Missing>
     }
 }
 
-fn pool_refusal(refusal: pool::Refusal) -> Refusal
-    ensures { result ≡ pool_refusal refusal }
+fn run_refusal(refusal: run_ends::Refusal) -> Refusal
+    ensures { result ≡ run_refusal refusal }
 {
     match refusal {
-        pool::Refusal::Memory => Refusal::Memory,
-        pool::Refusal::Thread => Refusal::Thread,
+        run_ends::Refusal::Memory => Refusal::Memory,
+        run_ends::Refusal::Thread => Refusal::Thread,
     }
 }

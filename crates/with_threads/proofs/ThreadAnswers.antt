@@ -13,20 +13,20 @@ use Rattle.bench.specs.Answer.{ending_status, most_taken}
 use Rattle.bench.specs.declared.outcome.Status.{Status}
 use Rattle.devices.specs.Replies.{HasNoReply}
 use Rattle.devices.specs.declared.counted.Counted.{Counted}
-use Rattle.pool.specs.declared.answer.Refusal.{Refusal as PoolRefusal}
-use Rattle.pool.specs.declared.answer.Refusal.TheVariants as pool
-use Rattle.pool.specs.declared.answer.Run.{Run}
-use Rattle.pool.specs.declared.answer.Run.TheVariants as run
+use Rattle.run_ends.specs.declared.answer.Refusal.{Refusal as RunRefusal}
+use Rattle.run_ends.specs.declared.answer.Refusal.TheVariants as refusal
+use Rattle.run_ends.specs.declared.answer.Run.{Run}
+use Rattle.run_ends.specs.declared.answer.Run.TheVariants as run
 use Rattle.counts.specs.declared.tally.Tally.{Tally as Totals}
-use Rattle.pool.specs.Runs.{IsAfter, RunIsRight, IsWithinLimit, TakesTurns}
+use Rattle.run_ends.specs.Runs.{IsAfter, RunIsRight, IsWithinLimit, TakesTurns}
 use Rattle.requests.specs.declared.request.Asked.{Asked}
 use Rattle.without_threads.specs.declared.went.Line.TheVariants.{Tally}
 use Rattle.without_threads.specs.declared.went.Went.{Went}
 use Rattle.without_threads.specs.Answers.{AsAlone, Early, IsAnswerFor, IsRunEnd, IsEndOfThreads, IsLineWith, IsReport}
 use Rattle.without_threads.specs.Went.{written_whole}
 use Rattle.without_threads.specs.Replies.{IsUnansweredBy}
-use Rattle.command.specs.Threads.{ended_of, pool_refusal}
-use Rattle.command.proofs.WholeRuns.{at_a_stop, at_the_limit}
+use Rattle.with_threads.specs.Threads.{ended_of, run_refusal}
+use Rattle.with_threads.proofs.WholeRuns.{at_a_stop, at_the_limit}
 
 -- what is known of the end that a run on threads has
 record IsKnown (config : Settings) (P : Program) (end : End) (totals : Totals) : Type 0 where
@@ -63,10 +63,10 @@ run_known config P (run.LimitReached e t) end totals right within turns is =
 run_known config P (run.Refused why) end totals right within turns is = absurd (grind arith)
 
 -- the report of that end
-pool_reports : (asked : Asked) (P : Program) (end : End) (totals : Totals) → asked.alone ≡ false
+thread_reports : (asked : Asked) (P : Program) (end : End) (totals : Totals) → asked.alone ≡ false
     → IsKnown asked.config P end totals
     → IsReport asked P (report_of end) (written_whole (ending_status end.outcome) (Tally totals))
-pool_reports asked P end totals is known = record {
+thread_reports asked P end totals is known = record {
   ending = end.outcome;
   state = state_in end;
   is = subst (λ b. IsRunEnd b asked.config P end.outcome (state_in end)) (sym is) (known.is, known.turns);
@@ -76,17 +76,17 @@ pool_reports asked P end totals is known = record {
 }
 
 -- the text and what is told where the threads have run the program of a listing
-pub pool_answers : (asked : Asked) (found : Result Program (ℕ × FaultKind)) (P : Program) (r : Run) (end : End) (totals : Totals)
+pub thread_answers : (asked : Asked) (found : Result Program (ℕ × FaultKind)) (P : Program) (r : Run) (end : End) (totals : Totals)
     (status : Status) (text : List ℕ) (went : Went) → asked.alone ≡ false → found ≡ Ok P → RunIsRight P r
     → IsWithinLimit asked.config.limit r → TakesTurns asked.config.turns r → ended_of r ≡ Some (end, totals)
     → status ≡ ending_status end.outcome → text ≡ report_of end
     → went ≡ written_whole status (Tally totals) → IsAnswerFor asked found text went
-pool_answers asked found P r end totals status text went is parsed right within turns ended same reported told =
-    rw (parsed, reported, told, same) (pool_reports asked P end totals is (run_known asked.config P r end totals right within turns ended))
+thread_answers asked found P r end totals status text went is parsed right within turns ended same reported told =
+    rw (parsed, reported, told, same) (thread_reports asked P end totals is (run_known asked.config P r end totals right within turns ended))
 
 -- what the threads could not have is blamed on no device
 pub refused_by_threads : {R W : Type 0} (remaining : R → Option (List ℕ)) (contents : W → Option (List ℕ)) (r r' : Counted R) (w w' : Counted W)
-    (IsText : List ℕ → List ℕ → Type 0) (why : PoolRefusal) → HasNoReply 0 remaining most_taken r r' w w'
-    → IsUnansweredBy remaining contents r r' w w' IsText (pool_refusal why)
-refused_by_threads remaining contents r r' w w' IsText pool.Memory is = is
-refused_by_threads remaining contents r r' w w' IsText pool.Thread is = is
+    (IsText : List ℕ → List ℕ → Type 0) (why : RunRefusal) → HasNoReply 0 remaining most_taken r r' w w'
+    → IsUnansweredBy remaining contents r r' w w' IsText (run_refusal why)
+refused_by_threads remaining contents r r' w w' IsText refusal.Memory is = is
+refused_by_threads remaining contents r r' w w' IsText refusal.Thread is = is

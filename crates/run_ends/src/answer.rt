@@ -1,0 +1,21 @@
+//! What a run answers.
+use counts::Tally;
+use instructions::End;
+
+/// What a run could not have.
+#[derive(Clone, Copy, Debug, PartialEq, Eq)]
+pub enum Refusal {
+    Memory,
+    /// A thread could not be started.
+    Thread,
+}
+
+/// How a run ended.
+#[derive(Drop)]
+pub enum Run {
+    /// The program stopped.
+    Ended(End, Tally),
+    /// The limit of instructions was reached, or the commit thread had no turn left.
+    LimitReached(End, Tally),
+    Refused(Refusal),
+}
