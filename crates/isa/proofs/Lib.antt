@@ -12,6 +12,9 @@ pub mod Statements
 pub mod Rows
 pub mod Behind
 pub mod FirstFault
+pub mod FaultTable
+pub mod LineKinds
+pub mod FaultOrder
 pub mod Whole
 pub mod Examples
 pub mod TextBytes

@@ -4,6 +4,7 @@ pub mod Operands
 pub mod Forms
 pub mod Statement
 pub mod Listing
+pub mod Faults
 pub mod NameHash
 pub mod Buckets
 pub mod Late

@@ -9,7 +9,10 @@ pub use instructions::{
     BadConfig, Bimod, Config, End, Ending, Half, Instr, Kind, Memory, NotTaken, Op, Outcome,
     Predictor, Program, Reg, Stop, Taken, loaded, outcome, outcome_of, pc_plus_4,
 };
-pub use listing::{FaultKind, InstrText, Label, Naming, TextFault, parse, text_is_read_back};
+pub use listing::{
+    FaultKind, InstrText, Label, Naming, TextFault, parse, text_is_read_back,
+    the_first_fault_is_named,
+};
 pub use report::{Hexadecimal, RegisterName, fault_text, report_text};
 
 #[cfg(test)]
