@@ -83,7 +83,9 @@ fn run_named<
     requires ring { task.now.config.now.ring ≡ K.ring }
     ensures { IfOk result (HasRun J.program K.limit K.turns) }
 {
-    let made = make::<J, K, P, R>(task, counts, count, predictor)?;
+    let Ok(made) = make::<J, K, P, R>(task, counts, count, predictor) else {
+        return Err(Memory);
+    };
     let Made {
         floor,
         mut committer,
