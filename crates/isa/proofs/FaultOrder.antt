@@ -1,5 +1,6 @@
 -- A listing that is refused: the first line with a fault, and the first kind of its table.
-use Rattle.std.proofs.Common.{◌≡◌, ◌≢◌, ℕ, zero, suc, ◌+◌, ◌<◌, ◌≤◌, ◌||◌, Bool, true, false, List, [], ◌∷◌, ◌++◌, length, map, take, Option, Some, None, Result, Ok, Err, refl, sym, ap, ◌∙◌, subst, arith, inl, inr}
+use Rattle.std.proofs.Common.{◌≡◌, ◌≢◌, ℕ, zero, suc, ◌+◌, ◌<◌, ◌≤◌, ◌||◌, Bool, true, false, List, [], ◌∷◌, ◌++◌, length, map, take, Option, Some, None, Result, Ok, Err, refl}
+use Rattle.std.proofs.Common.{sym, ap, ◌∙◌, subst, arith, inl, inr}
 use Rattle.std.specs.Prelude.{nat_lt, slice_get, is_some, if◌then◌else◌}
 use Rattle.std.specs.List.{find}
 use Rattle.std.specs.Map.{lookup}
@@ -16,8 +17,10 @@ use Rattle.instructions.specs.Programs.{Program}
 use Rattle.isa.specs.declared.listing.fault.FaultKind.{FaultKind}
 use Rattle.isa.specs.declared.listing.fault.FaultKind.TheVariants.{TooLong, UnknownLabel}
 use Rattle.isa.specs.Statement.{Parsed, Line}
-use Rattle.isa.specs.Listing.{Lines, labels, read, table, numbered, memory, instruction_count, stands_in, is_double, all_labels, fault_of, fault_in, fault_of_line, first_fault_to, first_fault, resolve, before_others, resolved, with_bytes, program_of, listing}
-use Rattle.isa.specs.Faults.{Fault, first_kind, statement_faults, are_too_long, line_faults, faults_if, faults_of_line, IsFaultless, IsFirstFault, is_unknown, unknown_label_line, IsUnknownLabel, HasNoFault}
+use Rattle.isa.specs.Listing.{Lines, labels, read, table, numbered, memory, instruction_count, stands_in, is_double, all_labels, fault_of, fault_in, fault_of_line, first_fault_to}
+use Rattle.isa.specs.Listing.{first_fault, resolve, before_others, resolved, with_bytes, program_of, listing}
+use Rattle.isa.specs.Faults.{Fault, first_kind, statement_faults, are_too_long, line_faults, faults_if, faults_of_line, IsFaultless, IsFirstFault, is_unknown, unknown_label_line}
+use Rattle.isa.specs.Faults.{IsUnknownLabel, HasNoFault}
 use Rattle.isa.proofs.LabelTable.{stands_among}
 use Rattle.isa.proofs.Behind.{numbered_push, memory_push, names_are}
 use Rattle.isa.proofs.Whole.{listing_long}

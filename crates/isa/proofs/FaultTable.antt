@@ -18,7 +18,8 @@ use Rattle.isa.specs.RegisterNames.{register, register_number, existing}
 use Rattle.isa.specs.Operands.{number, signed_half, label, offset, offset_and_register}
 use Rattle.isa.specs.Forms.{Form, has_word, has_word_and_count, forms, is_operation, form_with, form_of}
 use Rattle.isa.specs.Statement.{Parsed, fill, filled, instruction, space, words, data_words, is_word, with_operands, statement}
-use Rattle.isa.specs.Faults.{Fault, first_kind, register_faults, number_faults, label_faults, offset_faults, address_faults, operand_faults, operands_faults, slots_if, instruction_faults, is_size, size_faults, space_faults, words_faults, faults_with, statement_faults}
+use Rattle.isa.specs.Faults.{Fault, first_kind, register_faults, number_faults, label_faults, offset_faults, address_faults, operand_faults, operands_faults, slots_if}
+use Rattle.isa.specs.Faults.{instruction_faults, is_size, size_faults, space_faults, words_faults, faults_with, statement_faults}
 
 -- what is wrong, if something is
 abbrev pub error_of : {A : Type 0} → Result A FaultKind → Option FaultKind

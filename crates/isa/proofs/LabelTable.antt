@@ -64,16 +64,16 @@ one_mark n a held e held' text grown is only =
 
 -- ---- the first label that stands twice
 
-four : (a b c d : Bool) → ((a || b) || (c || d)) ≡ ((a || c) || (b || d))
-four true b c d = refl
-four false true true d = refl
-four false true false d = refl
-four false false c d = refl
+middle_exchanged : (a b c d : Bool) → ((a || b) || (c || d)) ≡ ((a || c) || (b || d))
+middle_exchanged true b c d = refl
+middle_exchanged false true true d = refl
+middle_exchanged false true false d = refl
+middle_exchanged false false c d = refl
 
-five : (a b c d : Bool) → ((a || b) || (c || d)) ≡ (a || ((b || c) || d))
-five true b c d = refl
-five false true c d = refl
-five false false c d = refl
+middle_joined : (a b c d : Bool) → ((a || b) || (c || d)) ≡ (a || ((b || c) || d))
+middle_joined true b c d = refl
+middle_joined false true c d = refl
+middle_joined false false c d = refl
 
 either_way : (x y : List ℕ) → bytes_eq x y ≡ bytes_eq y x
 either_way x y =
@@ -94,12 +94,12 @@ one_more earlier [] x = refl
 one_more earlier (y ∷ ys) x =
     ap (λ (b : Bool). b || list_any (stands_in (earlier ++ x ∷ [])) ys) (one_name_more earlier x y)
     ∙ ap (λ (b : Bool). (stands_in earlier y || bytes_eq y x) || b) (one_more earlier ys x)
-    ∙ four (stands_in earlier y) (bytes_eq y x) (list_any (stands_in earlier) ys) (stands_in ys x)
+    ∙ middle_exchanged (stands_in earlier y) (bytes_eq y x) (list_any (stands_in earlier) ys) (stands_in ys x)
 
 double_more : (earlier names : List (List ℕ)) (x : List ℕ)
     → is_double earlier (x ∷ names) ≡ (stands_in earlier x || is_double (earlier ++ x ∷ []) names)
 double_more earlier names x =
-    five (stands_in earlier x) (list_any (stands_in earlier) names) (stands_in names x) (stands_twice names)
+    middle_joined (stands_in earlier x) (list_any (stands_in earlier) names) (stands_in names x) (stands_twice names)
     ∙ ap (λ (b : Bool). stands_in earlier x || (b || stands_twice names)) (sym (one_more earlier names x))
 
 pub stands_among : (name : List ℕ) (held : List (List ℕ × ℕ)) → is_some (lookup (λ k. bytes_eq k name) held) ≡ stands_in (map (λ p. p.0) held) name

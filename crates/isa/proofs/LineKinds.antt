@@ -14,7 +14,8 @@ use Rattle.isa.specs.declared.listing.form.Slot.TheVariants.{Into, First, Second
 use Rattle.isa.specs.Forms.{form_with}
 use Rattle.isa.specs.Statement.{is_word}
 use Rattle.isa.specs.Listing.{Lines}
-use Rattle.isa.specs.Faults.{Fault, first_kind, register_faults, number_faults, offset_faults, address_faults, operand_faults, operands_faults, slots_if, instruction_faults, size_faults, space_faults, words_faults, faults_with, statement_faults, are_too_long, faults_if, faults_of_line}
+use Rattle.isa.specs.Faults.{Fault, first_kind, register_faults, number_faults, offset_faults, address_faults, operand_faults, operands_faults, slots_if, instruction_faults}
+use Rattle.isa.specs.Faults.{size_faults, space_faults, words_faults, faults_with, statement_faults, are_too_long, faults_if, faults_of_line}
 
 -- a kind that a line may have by itself
 abbrev is_own : FaultKind → Bool
