@@ -11,11 +11,11 @@ use Rattle.pool.specs.declared.making.Made.{Made}
 use Rattle.pool.specs.declared.making.Parts.{Parts}
 use Rattle.run_ends.specs.Runs.{IsWithinLimit, RunIsRight}
 
--- All parts are at the core, whose ring is so long, and the back is at the start of the program
-pub record AreParts {J : Type 0} (ring : ℕ) (parts : Parts J) : Type 0 where
-  pub ring_is : parts.core.sizes.ring ≡ ring
+-- All parts are at the core, the hints are made for its ring, and the back is at the start of the program
+pub record AreParts {J K : Type 0} (parts : Parts J K) : Type 0 where
   pub front : IsUnused parts.core parts.front
   pub unit_is : parts.unit.core ≡ parts.core
+  pub ring_is : parts.hints.ring ≡ parts.core.sizes.ring
   pub back_is : parts.back.core ≡ parts.core
   pub start : (back_state parts.back).count ≡ 0
   pub going : parts.back.ended ≡ None

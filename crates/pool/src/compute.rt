@@ -194,16 +194,17 @@ pub(crate) fn work<K: Bounds + Ring, G: Gate, R: Wait>(crew: &Crew<'_, K, G, R>,
 {
     let floor = crew.floor;
     let number = worker.unit;
+    if !floor.is_called(crew.wait, number) {
+        return;
+    }
     let mut unit = enter(crew, worker);
-    if floor.is_called(crew.wait, number) {
-        let mut left = floor.turns_left(number);
-        while 0 < left && !floor.is_over() {
-            left = turn(crew, &mut unit, left - 1);
-        }
-        unit.count.add(&floor.counts);
-        floor.keep_turns(number, left);
-        if left == 0 {
-            floor.call(1);
-        }
+    let mut left = floor.turns_left(number);
+    while 0 < left && !floor.is_over() {
+        left = turn(crew, &mut unit, left - 1);
+    }
+    unit.count.add(&floor.counts);
+    floor.keep_turns(number, left);
+    if left == 0 {
+        floor.call(1);
     }
 }

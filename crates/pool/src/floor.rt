@@ -3,7 +3,7 @@ ghost use Rattle.std.specs.Prelude.{◌≤◌};
 
 use counts::Counts;
 use hints::{Hints, Ring};
-use instructions::{Config, Memory};
+use instructions::Memory;
 use std::alloc::Global;
 use std::sync::Wait;
 use std::sync::atomic::Ordering::{Acquire, Release};
@@ -42,19 +42,23 @@ fn unit_turns(alloc: Global, units: u32, turns: u32) -> Result<Vec<AtomicU32>, M
 impl<K: Ring> Floor<K> {
     ghost use Rattle.std.specs.Prelude.{◌≡◌, IfOk};
 
-    /// The floor of a run with this configuration, and hints for its ring.
-    pub(crate) fn new(alloc: Global, counts: Counts, config: &Config) -> Result<Self, Memory>
-        requires { config.now.ring ≡ K.ring }
+    pub(crate) fn new(
+        alloc: Global,
+        counts: Counts,
+        hints: Hints<K>,
+        units: u32,
+        turns: u32,
+    ) -> Result<Self, Memory>
+        requires { units ≤ 64 }
         ensures counts { IfOk result (λ floor. floor.counts ≡ counts) }
-        ensures ring { IfOk result (λ floor. floor.hints.ring ≡ config.now.ring) }
+        ensures hints { IfOk result (λ floor. floor.hints ≡ hints) }
     {
-        let left = unit_turns(alloc, config.units(), config.turns())?;
-        let hints = Hints::<K>::new(alloc, config.ring() as usize)?;
+        let left = unit_turns(alloc, units, turns)?;
         Ok(Floor {
             counts,
             hints,
-            units: config.units(),
-            turns: config.turns(),
+            units,
+            turns,
             closed: AtomicBool::new(false),
             rested: AtomicBool::new(false),
             news: AtomicU64::new(0),

@@ -11,17 +11,18 @@ use crate::floor::Floor;
 use crate::terms::Term;
 use back::{Back, Naming, Snapper};
 use counts::{CountSeat, Counts};
-use hints::Ring;
+use hints::{Hints, Ring};
 use instructions::{Config, Memory, Predictor, Program};
 use station::{BackSeat, Core, FrontSeat, UnitSeat};
 use std::alloc::Global;
 use std::sync::Wait;
 
-/// A core with its seats, and the back with its first snapper.
-pub(crate) struct Parts<J: Naming> {
+/// A core with its seats, hints for its ring, and the back with its first snapper.
+pub(crate) struct Parts<J: Naming, K: Ring> {
     pub core: Core,
     pub front: FrontSeat,
     pub unit: UnitSeat,
+    pub hints: Hints<K>,
     pub back: Back<J>,
     pub snapper: Snapper<J>,
 }
@@ -61,30 +62,26 @@ fn back_at<J: Naming>(
 }
 
 // What needs no totals.
-fn make_parts<J: Naming>(
+fn make_parts<J: Naming, K: Ring>(
     alloc: Global,
     program: &Program,
     config: &Config,
-) -> Result<Parts<J>, Memory>
-    requires { program.now ≡ J.program }
-    ensures { IfOk result (AreParts config.now.ring) }
+) -> Result<Parts<J, K>, Memory>
+    requires program { program.now ≡ J.program }
+    requires ring { config.now.ring ≡ K.ring }
+    ensures { IfOk result AreParts }
 {
     let (core, front, seat, unit) = Core::make(alloc, program, config)?;
-    match back_at::<J>(alloc, &core, seat, program, config) {
-        Ok((back, snapper)) => Ok(Parts {
-            core,
-            front,
-            unit,
-            back,
-            snapper,
-        }),
-        Err(memory) => {
-            drop(core);
-            drop(front);
-            drop(unit);
-            Err(memory)
-        }
-    }
+    let hints = Hints::<K>::new(alloc, core.ring())?;
+    let (back, snapper) = back_at::<J>(alloc, &core, seat, program, config)?;
+    Ok(Parts {
+        core,
+        front,
+        unit,
+        hints,
+        back,
+        snapper,
+    })
 }
 
 /// All that a run is made of. Without memory for the floor the back ends, which waits for its snappers.
@@ -107,10 +104,19 @@ pub(crate) fn make<J: Naming, K: Bounds + Ring, P: Predictor + Drop, R: Wait>(
         core,
         front,
         unit,
+        hints,
         back,
         snapper,
-    } = make_parts::<J>(task.alloc, task.program, config)?;
+    } = make_parts::<J, K>(task.alloc, task.program, config)?;
     let (back_count, workers) = counts.split_worker(count);
+    let floor = match Floor::new(task.alloc, counts, hints, config.units(), config.turns()) {
+        Ok(floor) => floor,
+        Err(memory) => {
+            back.end(task.wait);
+            return Err(memory);
+        }
+    };
+    let committer = Committer::<J, K>::new(back, back_count, config.limit(), config.turns());
     let term = Term {
         core,
         seat: front,
@@ -119,15 +125,6 @@ pub(crate) fn make<J: Naming, K: Bounds + Ring, P: Predictor + Drop, R: Wait>(
         unit,
         count: workers,
     };
-    let floor = match Floor::new(task.alloc, counts, config) {
-        Ok(floor) => floor,
-        Err(memory) => {
-            back.end(task.wait);
-            drop(term);
-            return Err(memory);
-        }
-    };
-    let committer = Committer::<J, K>::new(back, back_count, config.limit(), config.turns());
     Ok(Made {
         floor,
         committer,

@@ -53,8 +53,6 @@ fn in_threads<
         {
             if start_snappers(scope, hall, places, first) {
                 run_terms(hall, alloc, term, committer);
-            } else {
-                drop(term);
             }
             hall.floor.close();
         },
@@ -83,9 +81,7 @@ fn run_named<
     requires ring { task.now.config.now.ring ≡ K.ring }
     ensures { IfOk result (HasRun J.program K.limit K.turns) }
 {
-    let Ok(made) = make::<J, K, P, R>(task, counts, count, predictor) else {
-        return Err(Memory);
-    };
+    let made = make::<J, K, P, R>(task, counts, count, predictor)?;
     let Made {
         floor,
         mut committer,

@@ -81,19 +81,14 @@ fn in_threads<
                 count,
             } = own;
             let Some(dispatching) = start_dispatch(scope, crew, dispatcher) else {
-                drop(unit);
-                drop(count);
                 return (committer, None);
             };
             let started = start_units(scope, crew, unit, count);
             let Some(unit) = started else {
-                drop(dispatching);
                 crew.floor.close();
                 return (committer, None);
             };
             if !committer.run(crew) {
-                drop(dispatching);
-                drop(unit);
                 crew.floor.close();
                 return (committer, None);
             }
@@ -168,12 +163,7 @@ fn next_term<J: Naming, K: Bounds + Ring, P: Predictor + Drop>(
 {
     let Given { left, unit } = given;
     let Left { seat, still, turns } = left;
-    let Some((core, seat, unit)) = committer.renew(alloc, floor, core, seat, unit) else {
-        // by calls, as what is dropped in line is proved here part by part
-        drop(still);
-        drop(count);
-        return None;
-    };
+    let (core, seat, unit) = committer.renew(alloc, floor, core, seat, unit)?;
     Some(Term {
         core,
         seat,
@@ -212,8 +202,6 @@ fn run_term<
     };
     let (committer, given) = in_threads(&crew, hands, committer);
     let Some(given) = given else {
-        drop(core);
-        drop(count);
         return (committer, None);
     };
     let next = next_term(alloc, hall.floor, core, given, count, committer);
@@ -241,5 +229,4 @@ pub(crate) fn run_terms<
             None => return,
         }
     }
-    drop(term);
 }

@@ -89,7 +89,7 @@ fn start_unit<
         requires core { worker.seat.core ≡ crew.now.core.now }
         requires count { worker.count.of ≡ crew.now.floor.now.counts }
     { work(crew, worker) };
-    scope.spawn(job).ok().is_some()
+    scope.spawn(job).is_ok()
 }
 
 /// Starts the units. Each has seen what the first seat has. The seat that is left has claimed nothing.
@@ -122,12 +122,9 @@ pub(crate) fn start_units<
             count,
         };
         if !start_unit(scope, crew, worker) {
-            drop(rest);
-            drop(all);
             return None;
         }
     }
-    drop(all);
     Some(rest)
 }
 
@@ -139,10 +136,7 @@ fn start_snapper<
     G: Gate + Sync + 's,
     R: Wait + Sync + 's,
 >(scope: &Scope<'s, E>, hall: &'s Hall<'s, K, G, R>, place: u32, snapper: Snapper<J>) -> bool {
-    scope
-        .spawn(move || watch(hall, place, snapper))
-        .ok()
-        .is_some()
+    scope.spawn(move || watch(hall, place, snapper)).is_ok()
 }
 
 /// Starts the snapshot threads. A place that gives no snapper has none.
@@ -157,7 +151,6 @@ pub(crate) fn start_snappers<
     for place in 1..places {
         if let Ok(snapper) = first.another() {
             if !start_snapper(scope, hall, place + 1, snapper) {
-                drop(first);
                 return false;
             }
         }

@@ -49,13 +49,7 @@ impl<J: Naming, K: Bounds + Ring> Committer<J, K> {
         let (seat, still) = back.leave();
         let (back, now) = match core.renew(alloc, front, seat, unit) {
             Ok((core, front, seat, unit)) => (still.enter(seat), Some((core, front, unit))),
-            Err(refused) => {
-                let (_, core, front, seat, unit) = refused;
-                drop(core);
-                drop(front);
-                drop(unit);
-                (still.enter_again(seat), None)
-            }
+            Err(refused) => (still.enter_again(refused.3), None),
         };
         let committer = Committer {
             back,
