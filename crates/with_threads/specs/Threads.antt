@@ -1,5 +1,5 @@
 -- What is told of a run on several threads.
-use Rattle.std.specs.Prelude.{Option, Some, None}
+use Rattle.std.specs.Prelude.{⊤, Option, Some, None}
 use Rattle.std.specs.Fn.{AnyResult, Shared}
 use denote.Ref.{Bor}
 use Rattle.instructions.specs.declared.end.End.{End}
@@ -22,7 +22,7 @@ pub record IsRunOf (P : Program) (config : Settings) (run : Run) : Type 0 where
   pub turns : TakesTurns config.turns run
 
 -- what is called with a program and a predictor gives a run of that program
-abbrev pub RunsAs : {F : Type 0} → Settings → Shared F (Bor Program × (Chosen × Unit {0})) Run → F → Type 0
+abbrev pub RunsAs : {F : Type 0} → Settings → Shared F (Bor Program × (Chosen × ⊤)) Run → F → Type 0
 RunsAs config calls f = (program : Bor Program) (predictor : Chosen)
     → AnyResult calls f (program, (predictor, tt)) (IsRunOf program.now config)
 
