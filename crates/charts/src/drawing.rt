@@ -42,8 +42,9 @@ fn push_instr(alloc: Global, out: &mut String, station: &Station) -> Result<(), 
     ensures { OnOk result (string_bytes out.new
         ≡ string_bytes out.old ++ padded (tenant_text station.now)) }
 {
-    let half = half_text(&station.instr, station.half);
-    let instr = InstrText::by_numbers(station.instr);
+    let instr = station.instr.to_instr();
+    let half = half_text(&instr, station.half);
+    let instr = InstrText::by_numbers(instr);
     let text = format!(in alloc; "{instr}{half}")?;
     out.push_str(text.as_str())?;
     let blanks = COLUMNS.saturating_sub(text.len());
@@ -88,7 +89,7 @@ fn push_behind_ran(
     match row.settled {
         None => push_mark(out, "-", ran, turn, mark),
         Some(settled) => {
-            let kind = row.station.instr.op().kind();
+            let kind = row.station.instr.to_instr().op().kind();
             push_mark(out, "-", ran, settled, settled_mark(kind))?;
             push_mark(out, "=", settled, turn, mark)
         }

@@ -47,8 +47,9 @@ fn push_let(out: &mut String, row: &Row) -> Result<(), AllocError>
 {
     let position = row.position;
     let pc = Hexadecimal(row.station.pc);
-    let half = half_text(&row.station.instr, row.station.half);
-    let instr = InstrText::by_numbers(row.station.instr);
+    let instr = row.station.instr.to_instr();
+    let half = half_text(&instr, row.station.half);
+    let instr = InstrText::by_numbers(instr);
     write!(
         out,
         "I\t{position}\t{position}\t0\nL\t{position}\t0\t{pc} {instr}{half}\nS\t{position}\t0\tDs\n"

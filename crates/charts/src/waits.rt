@@ -46,7 +46,7 @@ fn awaited(register: Reg, rows: &[Row]) -> Option<u64>
 pub(crate) fn entry(rows: &[Row], row: &Row) -> Event
     ensures { result ≡ let_event rows.now row.now }
 {
-    let instr = &row.station.instr;
+    let instr = row.station.instr.to_instr();
     let first = awaited(instr.first(), rows);
     let second = awaited(instr.second(), rows);
     Event::Let {

@@ -29,9 +29,6 @@ use Rattle.unit.proofs.Ranks.{let_falls, recover_falls}
 use Rattle.unit.proofs.Start.{unit_next}
 use Rattle.unit.proofs.Turns.{recovered_turn}
 
-abbrev pub fields : {S : Type 0} → Pipeline → S → BenchFields S
-fields b s = record { pipeline = b; predictor = s }
-
 -- The unit has ended before
 
 pub before_moves : (b : Pipeline) (c : Stop) → b.over ≡ Some c → Moves b (Over c) b
@@ -130,7 +127,7 @@ let_shows b later f guess h none nm to small predicts wl ll rest =
     falls = (ap (λ x. x.committed) rest, ap (λ x. x.low) rest, subst (λ W. rank 32 W < rank 32 b.window) (sym wl) (let_falls b.window (let_at f.instr f.half f.pc guess) room (omega arith)))
 
     same : SizesStay b later
-    same = record { program = ap (λ x. x.program) rest; ring = ap (λ x. x.ring) rest; queue = ap (λ x. x.queue) rest; first_tag = ap (λ x. x.first_tag) rest }
+    same = record { program = ap (λ x. x.program) rest; code = ap (λ x. x.code) rest; ring = ap (λ x. x.ring) rest; queue = ap (λ x. x.queue) rest; first_tag = ap (λ x. x.first_tag) rest }
 
     long : length later.leavers ≡ 32
     long = ap length ll ∙ Rattle.std.proofs.Common.length-set b.leavers _ _ ∙ h.leavers

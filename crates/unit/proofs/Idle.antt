@@ -13,7 +13,7 @@ use Rattle.unit.specs.Loads.{load_in}
 use Rattle.unit.specs.Notes.{AreNoted, miss_in}
 use Rattle.unit.specs.Stages.{CannotLet, LoadsTo, RunsTo}
 use Rattle.unit.specs.StandsFor.{StandsForSome}
-use Rattle.unit.specs.Turns.{Falls, IsPlain, Moves, SizesStay, rank}
+use Rattle.unit.specs.Turns.{Falls, IsOpen, IsPlain, Moves, SizesStay, rank}
 use Rattle.unit.specs.Window.{operands_in}
 use Rattle.unit.proofs.EndTurns.{Refused, can_leave, retires_falls, retires_turn, window_room}
 use Rattle.unit.proofs.Ranks.{load_falls, run_falls}
@@ -22,10 +22,10 @@ use Rattle.unit.proofs.Start.{retires_keeps, unit_next}
 use Rattle.unit.proofs.Turns.{moves_from}
 
 pub same_rest : (b later : Pipeline) (W : List Station) (m : Bool) (n : ℕ) → later ≡ record b { window = W; missed = m; settled = n } → SizesStay b later
-same_rest b later W m n e = record { program = ap (λ x. x.program) e; ring = ap (λ x. x.ring) e; queue = ap (λ x. x.queue) e; first_tag = ap (λ x. x.first_tag) e }
+same_rest b later W m n e = record { program = ap (λ x. x.program) e; code = ap (λ x. x.code) e; ring = ap (λ x. x.ring) e; queue = ap (λ x. x.queue) e; first_tag = ap (λ x. x.first_tag) e }
 
 same_both : (b c d : Pipeline) → SizesStay b c → SizesStay c d → SizesStay b d
-same_both b c d x y = record { program = y.program ∙ x.program; ring = y.ring ∙ x.ring; queue = y.queue ∙ x.queue; first_tag = y.first_tag ∙ x.first_tag }
+same_both b c d x y = record { program = y.program ∙ x.program; code = y.code ∙ x.code; ring = y.ring ∙ x.ring; queue = y.queue ∙ x.queue; first_tag = y.first_tag ∙ x.first_tag }
 
 -- b' is b, but for what is remembered, and nothing recovers, is let or is claimed there
 pub record Idle (b b' : Pipeline) : Type 0 where
@@ -66,6 +66,7 @@ idle b b' h none miss lets ready same rest noted =
           leavers = h.leavers;
           oldest = h.oldest;
           noted = subst (AreNoted b'.missed b'.settled) same noted;
+          code = h.code;
         }
 
 idle_same : (b b' : Pipeline) → Idle b b' → SizesStay b b'
@@ -171,3 +172,33 @@ retired_plain b later answer can to = go (slice_get b.window 0) to
     go : (o : Option Station) → RetiresTo b o answer later → IsPlain answer
     go None l = subst IsPlain (sym l.0) tt
     go (Some w) l = by w w.stage l
+
+-- a retirement that is no end leaves the unit open
+pub retired_open : (b later : Pipeline) (answer : Turn) → b.over ≡ None → RetiresTo b (slice_get b.window 0) answer later → IsOpen answer later
+retired_open b later answer none to = go (slice_get b.window 0) to
+  where
+    passes : (f : Bool) (w : Station) → PassesTo f b w answer later → IsOpen answer later
+    passes true w l = subst (λ a. IsOpen a later) (sym l.0) (ap (λ x. x.over) l.1 ∙ none)
+    passes false w l = subst (λ a. IsOpen a later) (sym l.0) (ap (λ x. x.over) l.1 ∙ none)
+
+    by : (w : Station) (g : Rattle.unit.specs.declared.station.Stage.Stage) → Rattle.unit.specs.Leaves.LeavesTo b w g answer later → IsOpen answer later
+    by w (Rattle.unit.specs.declared.station.Stage.TheVariants.Stops c) l = subst (λ a. IsOpen a later) (sym l.0) tt
+    by w Rattle.unit.specs.declared.station.Stage.TheVariants.Done l = passes (is_first_half w.instr.op w.half) w l
+    by w (Rattle.unit.specs.declared.station.Stage.TheVariants.Addr a) l = passes (is_first_half w.instr.op w.half) w l
+    by w Rattle.unit.specs.declared.station.Stage.TheVariants.Open l = passes (is_first_half w.instr.op w.half) w l
+    by w (Rattle.unit.specs.declared.station.Stage.TheVariants.Miss x) l = passes (is_first_half w.instr.op w.half) w l
+
+    go : (o : Option Station) → RetiresTo b o answer later → IsOpen answer later
+    go None l = subst (λ a. IsOpen a later) (sym l.0) tt
+    go (Some w) l = by w w.stage l
+
+-- so does any turn that is neither
+pub stays_open : (answer : Turn) (later : Pipeline) → ((c : Rattle.instructions.specs.declared.stop.Stop.Stop) → answer ≡ Rattle.unit.specs.declared.bench.Turn.TheVariants.Over c → ⊥) →
+    IsOpen answer later → later.over ≡ None
+stays_open Rattle.unit.specs.declared.bench.Turn.TheVariants.Recovered later n o = o
+stays_open Rattle.unit.specs.declared.bench.Turn.TheVariants.Let later n o = o
+stays_open Ran later n o = o
+stays_open Loaded later n o = o
+stays_open Rattle.unit.specs.declared.bench.Turn.TheVariants.Halved later n o = o
+stays_open Rattle.unit.specs.declared.bench.Turn.TheVariants.Retired later n o = o
+stays_open (Rattle.unit.specs.declared.bench.Turn.TheVariants.Over c) later n o = absurd (n c refl)

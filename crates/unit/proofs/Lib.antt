@@ -2,6 +2,7 @@ pub mod Waiting
 pub mod Scan
 pub mod Settled
 pub mod Sources
+pub mod Fetched
 pub mod Slots
 pub mod CreatorsKept
 pub mod WindowKept

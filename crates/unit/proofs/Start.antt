@@ -13,6 +13,7 @@ use Rattle.unit.specs.declared.pipeline.Pipeline.{Pipeline}
 use Rattle.unit.specs.declared.station.Stage.{Stage}
 use Rattle.unit.specs.declared.station.Stage.TheVariants.{Open, Addr, Done, Miss, Stops}
 use Rattle.unit.specs.declared.station.Station.{Station}
+use Rattle.unit.specs.Decoding.{IsDecoded}
 use Rattle.unit.specs.Leaves.{LeavesTo, PassesTo, RetiresTo, halved, left}
 use Rattle.unit.specs.Notes.{AreNoted}
 use Rattle.unit.specs.StandsFor.{OverIs, StandsFor, StandsForSome, sizes}
@@ -43,8 +44,8 @@ start_stands b w c o l n z most =
 
 pub start_unit : (b : Pipeline) → b.window ≡ [] → b.committed ≡ start b.program.now → b.over ≡ None →
     b.leavers ≡ replicate 32 nobody → b.low ≡ None → b.oldest ≡ 0 → b.settled ≡ 0 → 0 < b.ring → b.ring ≤ 32 →
-    2 ≤ b.queue → StandsForSome b
-start_unit b w c o l n f z room most least =
+    2 ≤ b.queue → IsDecoded b.code.items b.program.now → StandsForSome b
+start_unit b w c o l n f z room most least code =
     record {
       unit = Rattle.inorder.specs.Unit.empty_unit;
       reached = record { history = []; allowed = tt; is = refl; never = refl };
@@ -58,6 +59,7 @@ start_unit b w c o l n f z room most least =
         no_miss = λ q k h. let no : k < 0 = subst (λ W. k < length W) w h in absurd (omega (arith, no));
         are_settled = record { inside = omega (arith, z); each = λ k h. let no : k < 0 = subst (λ n. k < n) z h in absurd (omega (arith, no)) };
       };
+      code = code;
     }
 
 pub unit_next : (b later : Pipeline) (answer : Turn) → StandsForSome b → Moves b answer later → SizesStay b later →
@@ -76,6 +78,7 @@ unit_next b later answer h t e l n = go (t h.unit h.reached h.stands)
           leavers = l;
           oldest = subst (λ k. k < later.ring) (sym x.stands.oldest) (mod-lt (how_many is_retired x.unit.tenants) (subst (λ r. 0 < r) (sym e.ring) h.room));
           noted = n;
+          code = subst (λ p. IsDecoded later.code.items p.now) (sym e.program) (subst (λ v. IsDecoded v.items b.program.now) (sym e.code) h.code);
         }
       where
         same : sizes b ≡ sizes later
@@ -103,7 +106,7 @@ retires_keeps b later answer n to = go (slice_get b.window 0) to
     goes w e =
         plain _ e
         (record {
-          same = record { program = refl; ring = refl; queue = refl; first_tag = refl };
+          same = record { program = refl; code = refl; ring = refl; queue = refl; first_tag = refl };
           leavers = set_long b.leavers _ _;
           noted = noted_drop b.missed b.settled b.window n;
         })
@@ -112,7 +115,7 @@ retires_keeps b later answer n to = go (slice_get b.window 0) to
     halves w e =
         plain _ e
         (record {
-          same = record { program = refl; ring = refl; queue = refl; first_tag = refl };
+          same = record { program = refl; code = refl; ring = refl; queue = refl; first_tag = refl };
           leavers = set_long b.leavers _ _;
           noted = noted_drop b.missed b.settled b.window n;
         })
@@ -125,7 +128,7 @@ retires_keeps b later answer n to = go (slice_get b.window 0) to
     by w (Stops c) l =
         plain _ l.1
         (record {
-          same = record { program = refl; ring = refl; queue = refl; first_tag = refl };
+          same = record { program = refl; code = refl; ring = refl; queue = refl; first_tag = refl };
           leavers = refl;
           noted = noted_drop b.missed b.settled b.window n;
         })
@@ -135,5 +138,5 @@ retires_keeps b later answer n to = go (slice_get b.window 0) to
     by w (Miss x) l = passes (is_first_half w.instr.op w.half) w l
 
     go : (o : Option Station) → RetiresTo b o answer later → IsKept b later
-    go None l = plain b l.1 (record { same = record { program = refl; ring = refl; queue = refl; first_tag = refl }; leavers = refl; noted = n })
+    go None l = plain b l.1 (record { same = record { program = refl; code = refl; ring = refl; queue = refl; first_tag = refl }; leavers = refl; noted = n })
     go (Some w) l = by w w.stage l

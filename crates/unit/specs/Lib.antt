@@ -1,3 +1,4 @@
+pub mod Decoding
 pub mod Window
 pub mod Slots
 pub mod Creators

@@ -9,6 +9,7 @@ use Rattle.inorder.specs.Tenants.{Retired, Stopped, Tenant}
 use Rattle.inorder.specs.Unit.{Sizes, UpdateUnit, at, how_many}
 use Rattle.unit.specs.declared.pipeline.Pipeline.{Pipeline}
 use Rattle.unit.specs.Ahead.{low_of}
+use Rattle.unit.specs.Decoding.{IsDecoded}
 use Rattle.unit.specs.Leavers.{leaver}
 use Rattle.unit.specs.Notes.{AreNoted}
 use Rattle.unit.specs.Window.{window}
@@ -56,3 +57,4 @@ pub record StandsForSome (b : Pipeline) : Type 0 where
   pub leavers : length b.leavers ≡ 32
   pub oldest : b.oldest < b.ring
   pub noted : AreNoted b.missed b.settled b.window
+  pub code : IsDecoded b.code.items b.program.now

@@ -187,6 +187,7 @@ Falls _ b later =
 -- The sizes and the program stay
 pub record SizesStay (b later : Pipeline) : Type 0 where
   pub program : later.program ≡ b.program
+  pub code : later.code ≡ b.code
   pub ring : later.ring ≡ b.ring
   pub queue : later.queue ≡ b.queue
   pub first_tag : later.first_tag ≡ b.first_tag
@@ -195,6 +196,11 @@ pub record SizesStay (b later : Pipeline) : Type 0 where
 abbrev pub IsPlain : Turn → Type 0
 IsPlain Let = ⊥
 IsPlain _ = ⊤
+
+-- The unit goes on behind any turn that does not end it
+abbrev pub IsOpen : Turn → Pipeline → Type 0
+IsOpen (Over c) later = ⊤
+IsOpen _ later = later.over ≡ None
 
 -- Dispatch may be known to be stalled: then nothing can be let
 abbrev pub IsStalled : Bool → Pipeline → Type 0
@@ -210,6 +216,10 @@ stalled_after _ = false
 pub record BenchFields (S : Type 0) : Type 0 where
   pub pipeline : Pipeline
   pub predictor : S
+
+-- Those of a pipeline and a predictor
+abbrev pub fields : {S : Type 0} → Pipeline → S → BenchFields S
+fields b s = record { pipeline = b; predictor = s }
 
 -- What a turn does to a predictor, by what it says of being asked and told
 module _ {S : Type 0} (Predicts : S → ℕ → Instr → ℕ → S → Type 0) (Learns : S → ℕ → ℕ → S → Type 0) where

@@ -106,6 +106,17 @@ abbrev pub IsAdvanced : List Station → ℕ → Stage → Option ℕ → List S
 IsAdvanced ws i stage made later =
     (w : Station) → slice_get ws i ≡ Some w → later ≡ slice_set ws i (further_on w stage made)
 
+-- The station at i has reached a stage
+abbrev pub HasReached : List Station → ℕ → Stage → List Station → Type 0
+HasReached ws i stage later =
+    (w : Station) → slice_get ws i ≡ Some w → later ≡ slice_set ws i (record w { stage = stage })
+
+-- The station at i, of which this next pc was predicted, has come further by an outcome
+abbrev pub IsFinished : List Station → ℕ → Outcome → ℕ → List Station → Type 0
+IsFinished ws i o predicted later =
+    (w : Station) → slice_get ws i ≡ Some w → w.predicted ≡ predicted →
+    later ≡ slice_set ws i (station_after w o)
+
 -- The computed next pc of a miss
 abbrev pub miss_of : Stage → Option ℕ
 miss_of (Miss x) = Some x
@@ -152,10 +163,14 @@ half_in low ws = half_behind low (slice_get ws (length ws - 1))
 abbrev pub reaches_memory : Op → Bool
 reaches_memory op = is_access (kind op)
 
--- 1 for a station that reaches memory, else 0
+-- 1 for an instruction that reaches memory, else 0
+abbrev pub access_of : Instr → ℕ
+access_of i = if reaches_memory i.op then 1 else 0
+
+-- The same of a station
 abbrev pub access_at : Option Station → ℕ
 access_at None = 0
-access_at (Some w) = if reaches_memory w.instr.op then 1 else 0
+access_at (Some w) = access_of w.instr
 
 -- How many of the first k stations reach memory
 abbrev pub accesses : List Station → ℕ → ℕ

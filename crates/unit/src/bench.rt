@@ -9,7 +9,7 @@ ghost use Rattle.unit.specs.Turns.{Falls, IsTurn, SizesStay, stalled_after};
 
 use crate::pipeline::Pipeline;
 use crate::station::Station;
-use instructions::{Config, End, Ending, Memory, Predictor, Program, Stop, guess};
+use instructions::{Config, End, Ending, Memory, Predictor, Program, Stop};
 use std::alloc::Global;
 use std::marker::Model;
 
@@ -133,10 +133,7 @@ impl<'a, P: Predictor + Drop> Bench<'a, P> {
             self.stalled = false;
             return Turn::Recovered;
         }
-        if let Some(next) = self.pipeline.next_unless(self.stalled) {
-            let left = self.pipeline.leaver();
-            let predicted = guess(&mut self.predictor, left, &next.instr, next.half, next.pc);
-            self.pipeline.let_out(next, predicted);
+        if self.pipeline.lets(&mut self.predictor, self.stalled) {
             self.stalled = false;
             return Turn::Let;
         }
@@ -153,9 +150,18 @@ impl<'a, P: Predictor + Drop> Bench<'a, P> {
         ensures program { self.new.pipeline.program ≡ self.old.pipeline.program }
         ensures ends { RetiresOne result self.old.pipeline self.new.pipeline }
     {
+        self.stalled = false;
+        if let Some(code) = self.pipeline.over {
+            return Some(code);
+        }
         loop {
-            let _ = &self.pipeline;
-            match self.turn() {
+            if self.pipeline.recovers() {
+                continue;
+            }
+            if self.pipeline.lets(&mut self.predictor, false) {
+                continue;
+            }
+            match self.pipeline.moves() {
                 Turn::Over(code) => return Some(code),
                 Turn::Retired => return None,
                 _ => {}

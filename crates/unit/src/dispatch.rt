@@ -1,49 +1,30 @@
 //! Dispatch.
-ghost use Rattle.std.specs.Prelude.{◌≡◌, ◌<◌, ◌≤◌, ◌-◌, ◌+◌, ◌%◌, [], ◌∷◌, ◌++◌, length, take, slice_get, slice_set, Some, None};
+ghost use Rattle.std.specs.Prelude.{⊤, ◌≡◌, ◌<◌, ◌≤◌, ◌-◌, ◌+◌, ◌%◌, [], ◌∷◌, ◌++◌, length, take, slice_get, slice_set, Some, None};
 ghost use Rattle.instructions.specs.Instruction.{is_first_half};
+ghost use Rattle.instructions.specs.Programs.{instr_at};
 ghost use Rattle.inorder.specs.Unit.{half_after};
-ghost use Rattle.inorder.specs.Tenants.{made_at_let as made_at_let_of};
 ghost use Rattle.unit.specs.Ahead.{waiting_half as waiting_half_of};
-ghost use Rattle.unit.specs.Changes.{NextOf, next_place};
-ghost use Rattle.unit.specs.Turns.{IsStalled};
+ghost use Rattle.unit.specs.declared.bench.Turn.TheVariants.{Let};
+ghost use Rattle.unit.specs.Changes.{NextOf, NoneRecovers, next_place};
+ghost use Rattle.unit.specs.Decoding.{IsDecoded};
+ghost use Rattle.unit.specs.Givers.{Chosen};
+ghost use Rattle.unit.specs.StandsFor.{StandsForSome};
+ghost use Rattle.unit.specs.Turns.{Falls, IsStalled, IsTurn, SizesStay, fields};
 ghost use Rattle.unit.specs.Window.{half_in, let_at, next_in};
 
+use crate::decoded::Decoded;
+use crate::fetch::fetch;
+use crate::leaver::guess;
 use crate::pipeline::Pipeline;
-use crate::station::{Stage, Station};
-use instructions::{Half, Instr, Kind, Leaver, pc_plus_4};
+use crate::station::Station;
+use instructions::{Half, Leaver, Predictor};
 
 /// The instruction that can be let, its half, and its pc.
 #[derive(Clone, Copy)]
 pub struct Fetched {
-    pub instr: Instr,
+    pub instr: Decoded,
     pub half: Half,
     pub pc: u32,
-}
-
-// What an instruction at `pc` has made from the start.
-fn made_at_let(kind: Kind, pc: u32) -> Option<u32>
-    ensures { result ≡ made_at_let_of kind pc }
-{
-    match kind {
-        Kind::Links => Some(pc_plus_4(pc)),
-        _ => None,
-    }
-}
-
-// The station of a new tenant.
-fn new_station(next: Fetched, predicted: u32) -> Station
-    ensures { result ≡ let_at next.instr next.half next.pc predicted }
-{
-    Station {
-        instr: next.instr,
-        half: next.half,
-        destination: next.instr.destination(next.half),
-        pc: next.pc,
-        predicted,
-        next: predicted,
-        made: made_at_let(next.instr.op().kind(), next.pc),
-        stage: Stage::Open,
-    }
 }
 
 // A number below two rings modulo the ring size, without a division.
@@ -102,23 +83,29 @@ impl<'a> Pipeline<'a> {
 
     /// The next instruction, if it can be let.
     pub fn next(&self) -> Option<Fetched>
+        requires { IsDecoded self.now.code.items self.now.program.now }
         ensures { NextOf self.now result }
     {
         if self.ring <= self.window.len() {
             return None;
         }
         let (pc, half) = self.front();
-        let instr = self.program.fetch(pc)?;
-        if instr.op().is_access() && self.queue <= self.window.accesses() {
+        let instr = fetch(self.code.as_slice(), pc)?;
+        if instr.is_access() && self.queue <= self.window.accesses() {
             return None;
         }
-        Some(Fetched { instr, half, pc })
+        Some(Fetched {
+            instr: *instr,
+            half,
+            pc,
+        })
     }
 
     /// The same, where it may be known that none can.
     #[inline(always)]
     pub fn next_unless(&self, stalled: bool) -> Option<Fetched>
-        requires { IsStalled stalled self.now }
+        requires stalled { IsStalled stalled self.now }
+        requires code { IsDecoded self.now.code.items self.now.program.now }
         ensures { NextOf self.now result }
     {
         if stalled {
@@ -144,6 +131,8 @@ impl<'a> Pipeline<'a> {
         requires oldest { self.old.oldest < self.old.ring }
         requires most { self.old.ring ≤ 32 }
         requires room { length self.old.window < self.old.ring }
+        requires code { IsDecoded self.old.code.items self.old.program.now }
+        requires is { instr_at self.old.program.now next.pc ≡ Some next.instr }
         ensures window { self.new.window ≡
             self.old.window ++ let_at next.instr next.half next.pc predicted ∷ [] }
         ensures leavers { self.new.leavers ≡ slice_set self.old.leavers (next_place self.old) None }
@@ -152,6 +141,33 @@ impl<'a> Pipeline<'a> {
     {
         let station = self.station_at(self.window.len());
         self.leavers[station] = None;
-        self.window.push(new_station(next, predicted));
+        if let Some(instr) = fetch(self.code.as_slice(), next.pc) {
+            self.window.push(instr, next.half, next.pc, predicted);
+        }
+    }
+
+    /// Lets the next instruction, if one can be let: a predictor is told of who has left its station, and asked.
+    #[inline(always)]
+    pub fn lets<P: Predictor>(&mut self, predictor: &mut P, stalled: bool) -> bool
+        requires unit { StandsForSome self.old }
+        requires open { self.old.over ≡ None }
+        requires miss { NoneRecovers self.old }
+        requires stalled { IsStalled stalled self.old }
+        ensures turn { Chosen result (IsTurn P.Predicts P.Learns
+            (fields self.old predictor.old) Let (fields self.new predictor.new))
+            (NextOf self.old None) }
+        ensures falls { Chosen result (Falls Let self.old self.new) (self.new ≡ self.old) }
+        ensures kept { Chosen result ⊤ (predictor.new ≡ predictor.old) }
+        ensures unit { StandsForSome self.new }
+        ensures same { SizesStay self.old self.new }
+        ensures open { self.new.over ≡ None }
+    {
+        let Some(next) = self.next_unless(stalled) else {
+            return false;
+        };
+        let left = self.leaver();
+        let predicted = guess(predictor, left, &next.instr, next.half, next.pc);
+        self.let_out(next, predicted);
+        true
     }
 }

@@ -4,7 +4,7 @@ ghost use Rattle.unit.specs.Changes.{NoneRuns, RunsOldest, with_window};
 ghost use Rattle.unit.specs.Givers.{Chosen, gives};
 ghost use Rattle.unit.specs.Notes.{AreNoted, AreSettled, missed_after, settled_at, settled_by};
 ghost use Rattle.unit.specs.Stages.{FirstReady};
-ghost use Rattle.unit.specs.Window.{made_after as made_after_of, operands_by, operands_in, stage_after as stage_after_of};
+ghost use Rattle.unit.specs.Window.{IsFinished, operands_by, operands_in, stage_after};
 
 use crate::ahead::Ahead;
 use crate::pipeline::Pipeline;
@@ -54,7 +54,7 @@ fn sources(window: &Window, ahead: &Ahead, i: usize, station: &Station) -> Optio
     let creators = window.creators(i);
     let a = source(window, ahead, i, station.instr.first(), creators.first);
     let b = source(window, ahead, i, station.instr.second(), creators.second);
-    needed(station.instr.op().kind(), a, b)
+    needed(station.instr.kind(), a, b)
 }
 
 // What the station at `i` needs, if it can be claimed.
@@ -101,7 +101,7 @@ fn is_settled_at(window: &Window, i: usize) -> bool
 {
     match window.peek(i) {
         None => false,
-        Some(station) => settles(station.instr.op().kind(), station.stage),
+        Some(station) => settles(station.instr.kind(), station.stage),
     }
 }
 
@@ -119,42 +119,31 @@ fn settled(window: &Window, from: usize) -> usize
     window.len()
 }
 
-// How far a tenant comes by its outcome.
-#[inline(always)]
-fn stage_after(outcome: Outcome, predicted: u32) -> Stage
-    ensures { result ≡ stage_after_of outcome predicted }
-{
-    match outcome {
-        Outcome::Value(_) | Outcome::Pair(_, _) => Stage::Done,
-        Outcome::Next(x) if x == predicted => Stage::Done,
-        Outcome::Next(x) => Stage::Miss(x),
-        Outcome::Address(a) => Stage::Addr(a),
-        Outcome::Stop(c) => Stage::Stops(c),
-    }
-}
-
-// What it has made by its outcome.
-#[inline(always)]
-fn made_after(outcome: Outcome, made: Option<u32>) -> Option<u32>
-    ensures { result ≡ made_after_of outcome made }
-{
-    match outcome {
-        Outcome::Value(v) | Outcome::Pair(v, _) => Some(v),
-        _ => made,
-    }
-}
-
-// Some station is a miss, where one gets this stage.
-fn missed_by(missed: bool, stage: Stage) -> bool
-    ensures { result ≡ missed_after missed stage }
-{
-    match stage {
-        Stage::Miss(_) => true,
-        _ => missed,
-    }
-}
-
 impl<'a> Pipeline<'a> {
+    // The tenant at `at` comes further by its outcome.
+    #[inline(always)]
+    fn finish(&mut self, at: usize, outcome: Outcome, predicted: u32)
+        requires { at < length self.old.window }
+        ensures window { IsFinished self.old.window at outcome predicted self.new.window }
+        ensures missed { self.new.missed ≡
+            missed_after self.old.missed (stage_after outcome predicted) }
+        ensures rest { self.new ≡
+            record self.old { window = self.new.window; missed = self.new.missed } }
+    {
+        match outcome {
+            Outcome::Value(v) | Outcome::Pair(v, _) => self
+                .window
+                .advance(at, Stage::Done, Some(v)),
+            Outcome::Next(x) if x == predicted => self.window.reach(at, Stage::Done),
+            Outcome::Next(x) => {
+                self.missed = true;
+                self.window.reach(at, Stage::Miss(x));
+            }
+            Outcome::Address(a) => self.window.reach(at, Stage::Addr(a)),
+            Outcome::Stop(c) => self.window.reach(at, Stage::Stops(c)),
+        }
+    }
+
     /// Claims and finishes the oldest tenant that can be claimed.
     #[inline(always)]
     pub fn runs(&mut self) -> bool
@@ -173,11 +162,16 @@ impl<'a> Pipeline<'a> {
         };
         let Operands { a, b } = ready.operands;
         let size = self.program.size();
-        let outcome = outcome_of(&station.instr, station.half, station.pc, a, b, size);
-        let stage = stage_after(outcome, station.predicted);
-        let made = made_after(outcome, station.made);
-        self.missed = missed_by(self.missed, stage);
-        self.window.advance(ready.at, stage, made);
+        let outcome = outcome_of(
+            &station.instr.to_instr(),
+            station.half,
+            station.pc,
+            a,
+            b,
+            size,
+        );
+        let predicted = station.predicted;
+        self.finish(ready.at, outcome, predicted);
         self.settled = settled(&self.window, self.settled);
         true
     }

@@ -4,12 +4,15 @@
 mod ahead;
 mod bench;
 mod creators;
+mod decoded;
 mod dispatch;
 mod execute;
+mod fetch;
 mod forwarding;
 mod leaver;
 mod memory_port;
 mod pipeline;
+mod places;
 mod recovery;
 mod retire;
 #[cfg(test)]
@@ -22,4 +25,5 @@ mod window;
 mod writers;
 
 pub use bench::{Bench, Turn};
+pub use decoded::Decoded;
 pub use station::{Stage, Station};

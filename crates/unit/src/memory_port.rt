@@ -30,7 +30,7 @@ pub struct Answered {
 fn waits(station: &Station) -> Option<u32>
     ensures { result ≡ waits_of station.now }
 {
-    match (station.instr.op().kind(), station.stage) {
+    match (station.instr.kind(), station.stage) {
         (Kind::Loads, Stage::Addr(a)) => Some(a),
         _ => None,
     }

@@ -4,10 +4,12 @@ ghost use Rattle.inorder.specs.Machine.{start};
 ghost use Rattle.unit.specs.Changes.{NextOf, NoneRecovers, ahead_of};
 ghost use Rattle.unit.specs.StandsFor.{StandsFor, StandsForSome};
 ghost use Rattle.inorder.specs.Unit.{empty_unit};
-ghost use Rattle.unit.specs.Turns.{Falls, IsPlain, IsStalled, Moves, SizesStay, stalled_after};
+ghost use Rattle.unit.specs.Turns.{Falls, IsOpen, IsPlain, IsStalled, Moves, SizesStay, stalled_after};
 
 use crate::ahead::Ahead;
 use crate::bench::Turn;
+use crate::decoded::Decoded;
+use crate::fetch::decode_all;
 use crate::window::Window;
 use inorder::Committed;
 use instructions::{Config, Leaver, Memory, Program, Stop};
@@ -16,6 +18,8 @@ use std::alloc::Global;
 #[derive(Drop)]
 pub struct Pipeline<'a> {
     pub program: &'a Program,
+    // its instructions
+    pub code: Vec<Decoded>,
     pub ring: usize,
     pub queue: usize,
     pub first_tag: u32,
@@ -45,9 +49,11 @@ impl<'a> Pipeline<'a> {
         ensures fresh { IfOk result (λ b. StandsFor b empty_unit) }
     {
         let window = Window::new();
+        let code = decode_all(alloc, program)?;
         let committed = Committed::new(alloc, program)?;
         Ok(Pipeline {
             program,
+            code,
             ring: config.ring() as usize,
             queue: config.queue() as usize,
             first_tag: config.first_tag(),
@@ -86,6 +92,7 @@ impl<'a> Pipeline<'a> {
         ensures unit { StandsForSome self.new }
         ensures same { SizesStay self.old self.new }
         ensures plain { IsPlain result }
+        ensures open { IsOpen result self.new }
         ensures stalled { IsStalled (stalled_after result) self.new }
     {
         if self.runs() {

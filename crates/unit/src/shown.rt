@@ -6,7 +6,8 @@ use std::test::Fail;
 
 fn is_open(station: Option<Station>, op: Op) -> bool {
     match station {
-        Some(station) => station.instr.op() == op && matches!(station.stage, Stage::Open),
+        Some(station) => station.instr.to_instr().op() == op
+            && matches!(station.stage, Stage::Open),
         None => false,
     }
 }

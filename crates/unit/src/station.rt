@@ -1,5 +1,10 @@
 //! A live tenant, and how far it has come.
-use instructions::{Half, Instr, Reg, Stop};
+ghost use Rattle.std.specs.Prelude.{◌≡◌};
+ghost use Rattle.inorder.specs.Tenants.{made_at_let as made_at_let_of};
+ghost use Rattle.unit.specs.Window.{let_at};
+
+use crate::decoded::Decoded;
+use instructions::{Half, Kind, Reg, Stop, pc_plus_4};
 
 /// How far a tenant has come.
 #[derive(Clone, Copy)]
@@ -19,7 +24,7 @@ pub enum Stage {
 /// A live tenant.
 #[derive(Clone, Copy)]
 pub struct Station {
-    pub instr: Instr,
+    pub instr: Decoded,
     /// Of the instruction.
     pub half: Half,
     /// The register that it writes; 0 where it writes none.
@@ -32,4 +37,31 @@ pub struct Station {
     /// What it has made for its register.
     pub made: Option<u32>,
     pub stage: Stage,
+}
+
+// What an instruction at `pc` has made from the start.
+fn made_at_let(kind: Kind, pc: u32) -> Option<u32>
+    ensures { result ≡ made_at_let_of kind pc }
+{
+    match kind {
+        Kind::Links => Some(pc_plus_4(pc)),
+        _ => None,
+    }
+}
+
+/// The station of a half of an instruction that is let at a pc.
+#[inline(always)]
+pub(crate) fn new_station(instr: &Decoded, half: Half, pc: u32, predicted: u32) -> Station
+    ensures { result ≡ let_at instr.now half pc predicted }
+{
+    Station {
+        instr: *instr,
+        half,
+        destination: instr.destination(half),
+        pc,
+        predicted,
+        next: predicted,
+        made: made_at_let(instr.kind(), pc),
+        stage: Stage::Open,
+    }
 }

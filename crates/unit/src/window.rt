@@ -1,11 +1,12 @@
 //! The stations of the live tenants, the oldest first, and who makes what they read.
 ghost use Rattle.std.specs.Prelude.{◌≡◌, ◌<◌, ◌≤◌, ◌-◌, [], ◌∷◌, ◌++◌, length, take, drop, slice_get, slice_set, option_copied, Some};
 ghost use Rattle.unit.specs.Creators.{CreatorsAt, IsCreator, IsOfSame};
-ghost use Rattle.unit.specs.Slots.{place_from as place_in, slot_of as slot_in};
-ghost use Rattle.unit.specs.Window.{IsAdvanced, access_at, accesses as accesses_of};
+ghost use Rattle.unit.specs.Window.{HasReached, IsAdvanced, access_of, accesses as accesses_of, let_at};
 
 use crate::creators::Creators;
-use crate::station::{Stage, Station};
+use crate::decoded::Decoded;
+use crate::places::{place_of, slot_of};
+use crate::station::{Stage, Station, new_station};
 use instructions::{Half, Instr, Op, Reg};
 use std::marker::Model;
 
@@ -43,7 +44,7 @@ impl Model for Window {
 // A slot that nobody has used.
 fn unused() -> Station {
     Station {
-        instr: Instr::new(Op::Break, Reg::ZERO, Reg::ZERO, Reg::ZERO, 0),
+        instr: Decoded::new(Instr::new(Op::Break, Reg::ZERO, Reg::ZERO, Reg::ZERO, 0)),
         half: Half::Low,
         destination: Reg::ZERO,
         pc: 0,
@@ -54,31 +55,12 @@ fn unused() -> Station {
     }
 }
 
-// 1 for a tenant that reaches memory, else 0.
-fn access(station: &Station) -> usize
-    ensures value { result ≡ access_at (Some station.now) }
+// 1 for an instruction that reaches memory, else 0.
+fn access(instr: &Decoded) -> usize
+    ensures value { result ≡ access_of instr.now }
     ensures small { result ≤ 1 }
 {
-    if station.instr.op().is_access() { 1 } else { 0 }
-}
-
-// The slot of the tenant at `i`.
-fn slot_of(start: usize, i: usize) -> usize
-    requires start { start < 32 }
-    requires near { i ≤ 32 }
-    ensures value { result ≡ slot_in start i }
-    ensures small { result < 32 }
-{
-    (start + i) % 32
-}
-
-// The place of the tenant in a slot.
-fn place_of(slot: u8, start: usize) -> u8
-    requires { start < 32 }
-    ensures value { result ≡ place_in slot start }
-    ensures small { result < 32 }
-{
-    ((slot as usize + (32 - start)) % 32) as u8
+    if instr.is_access() { 1 } else { 0 }
 }
 
 impl Window {
@@ -184,17 +166,29 @@ impl Window {
         self.stations[slot].made = made;
     }
 
+    /// The tenant at `i` has reached a stage.
     #[inline(always)]
-    pub fn push(&mut self, station: Station)
-        requires { length self.old < 32 }
-        ensures { self.new ≡ self.old ++ station ∷ [] }
+    pub fn reach(&mut self, i: usize, stage: Stage)
+        requires { i < length self.old }
+        ensures { HasReached self.old i stage self.new }
     {
-        self.accesses += access(&station);
+        let slot = slot_of(self.start, i);
+        self.stations[slot].stage = stage;
+    }
+
+    /// Lets a half of an instruction at a pc.
+    #[inline(always)]
+    pub fn push(&mut self, instr: &Decoded, half: Half, pc: u32, predicted: u32)
+        requires { length self.old < 32 }
+        ensures { self.new ≡ self.old ++ let_at instr.now half pc predicted ∷ [] }
+    {
+        let station = new_station(instr, half, pc, predicted);
+        self.accesses += access(instr);
         let slot = slot_of(self.start, self.len);
         let r = station.destination.number() as usize;
         self.creators[slot] = Creators {
-            first: self.newest[station.instr.first().number() as usize],
-            second: self.newest[station.instr.second().number() as usize],
+            first: self.newest[instr.first().number() as usize],
+            second: self.newest[instr.second().number() as usize],
             replaced: self.newest[r],
         };
         self.newest[r] = slot as u8;
@@ -212,7 +206,7 @@ impl Window {
             return;
         };
         let r = station.destination.number() as usize;
-        self.accesses -= access(station);
+        self.accesses -= access(&station.instr);
         let slot = slot_of(self.start, last);
         self.newest[r] = self.creators[slot].replaced;
         self.len = last;
@@ -233,7 +227,7 @@ impl Window {
         requires { slice_get self.old 0 ≡ Some oldest.now }
         ensures { self.new ≡ drop 1 self.old }
     {
-        self.accesses -= access(oldest);
+        self.accesses -= access(&oldest.instr);
         self.start = slot_of(self.start, 1);
         self.len -= 1;
     }

@@ -1,13 +1,17 @@
-use Rattle.std.proofs.Common.{◌≡◌, suc}
+use Rattle.std.proofs.Common.{◌≡◌, suc, false, None}
+use Rattle.unit.specs.StandsFor.{StandsForSome}
 use Rattle.unit.proofs.Ends.{left}
 use Rattle.unit.proofs.bench.Bench.retires_one.Given as goal
 
-abbrev pub invariant-loop-code : goal.invariant-loop-code
-invariant-loop-code g l =
+abbrev pub invariant-loop-self : goal.invariant-loop-self
+invariant-loop-self g l =
     record {
-      program : l.self.pipeline.program ≡ l.fn.self.pipeline.program;
-      committed : l.self.pipeline.committed ≡ l.fn.self.pipeline.committed;
+      unit : StandsForSome l.self-inside.pipeline;
+      goes_on : l.self-inside.pipeline.over ≡ None;
+      unstalled : l.self-inside.stalled ≡ false;
+      program : l.self-inside.pipeline.program ≡ l.fn.self.pipeline.program;
+      committed : l.self-inside.pipeline.committed ≡ l.fn.self.pipeline.committed;
     }
 
-abbrev pub decreases-loop-code : goal.decreases-loop-code
-decreases-loop-code g l = left (suc l.fn.self.pipeline.committed.count) l.self.pipeline
+abbrev pub decreases-loop-self : goal.decreases-loop-self
+decreases-loop-self g l = left (suc l.fn.self.pipeline.committed.count) l.self-inside.pipeline

@@ -1,10 +1,10 @@
 -- Each answer of a turn that asks no predictor.
-use Rattle.std.proofs.Common.{sym, ◌∙◌, subst, true≢false}
+use Rattle.std.proofs.Common.{sym, ap, ◌∙◌, subst, true≢false}
 use Rattle.unit.specs.Changes.{registers_of}
 use Rattle.unit.specs.Givers.{NoneGives}
 use Rattle.unit.specs.Loads.{load_in}
 use Rattle.unit.proofs.EndTurns.{are_inside, stores_write_none}
-use Rattle.unit.proofs.Idle.{Idle, idle, leaves_after, loaded_shows, ran_shows, retired_plain, retired_shows}
+use Rattle.unit.proofs.Idle.{Idle, idle, leaves_after, loaded_shows, ran_shows, retired_open, retired_plain, retired_shows}
 use Rattle.unit.proofs.Stalls.{loaded_stalls, ran_stalls, retired_unstalled}
 use Rattle.unit.proofs.pipeline.Pipeline.moves.Goals as goal
 
@@ -121,3 +121,14 @@ pub returns-clause-stalled : goal.returns-clause-stalled
 returns-clause-stalled c e =
     let none = retired_unstalled c.loads.new.self c.retires.new.self c.retires.result c.retires.ensures in
     absurd (true≢false (sym e ∙ none))
+
+pub returns-then-runs-clause-open : goal.returns-then-runs-clause-open
+returns-then-runs-clause-open c = ap (λ x. x.over) c.runs.ensures.rest ∙ c.requires.open
+
+pub returns-then-loads-clause-open : goal.returns-then-loads-clause-open
+returns-then-loads-clause-open c = ap (λ x. x.over) c.loads.ensures.rest ∙ ap (λ x. x.over) c.runs.ensures.rest ∙ c.requires.open
+
+pub returns-clause-open : goal.returns-clause-open
+returns-clause-open c =
+    let none = ap (λ x. x.over) c.loads.ensures.rest ∙ ap (λ x. x.over) c.runs.ensures.rest ∙ c.requires.open in
+    retired_open c.loads.new.self c.retires.new.self c.retires.result none c.retires.ensures

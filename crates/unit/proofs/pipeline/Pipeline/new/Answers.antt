@@ -4,7 +4,7 @@ use Rattle.unit.proofs.pipeline.Pipeline.new.Goals as goal
 
 pub returns-clause-unit : goal.returns-clause-unit
 returns-clause-unit c = start_unit _ c.new-window.ensures c.in_ok-committed.ensures refl refl refl refl refl (omega (arith, c.ring.ensures.least))
-    (omega (arith, c.ring.ensures.most)) (omega (arith, c.queue.ensures.least))
+    (omega (arith, c.ring.ensures.most)) (omega (arith, c.queue.ensures.least)) c.in_ok-code.ensures
 
 pub returns-clause-fresh : goal.returns-clause-fresh
 returns-clause-fresh c = start_stands _ c.new-window.ensures c.in_ok-committed.ensures refl refl refl refl (omega (arith, c.ring.ensures.most))

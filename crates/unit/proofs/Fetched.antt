@@ -1,0 +1,47 @@
+-- The decoded instruction at an address.
+use Rattle.std.proofs.Common.{◌≡◌, ◌≢◌, ◌<◌, ◌≤◌, ◌-◌, ◌+◌, ◌/◌, ◌%◌, ◌^◌, ℕ, Bool, true, false, eqb, eqb-true, eq-eqb, List, length, None, refl, sym, ap, ◌∙◌, ⊎_elim, arith}
+use Rattle.std.specs.Prelude.{slice_get}
+use Rattle.std.proofs.lemmas.Bool.{cases_lt}
+use Rattle.std.proofs.lemmas.Option.{slice_get_past}
+use Rattle.instructions.specs.Programs.{Program, address, instr_at}
+use Rattle.instructions.specs.declared.instr.Instr.{Instr}
+use Rattle.unit.specs.Decoding.{IsDecoded}
+
+-- no instruction stands at an address that is none of the text's
+none_at : (P : Program) (pc : ℕ) → eqb (address ((pc - 0x00400000) / 4)) pc ≡ false → instr_at P pc ≡ None
+unfolding instr_at
+none_at P pc e = rw e refl
+
+some_at : (P : Program) (pc : ℕ) → eqb (address ((pc - 0x00400000) / 4)) pc ≡ true → instr_at P pc ≡ slice_get P.code ((pc - 0x00400000) / 4)
+unfolding instr_at
+some_at P pc e = rw e refl
+
+not_same : (a b : ℕ) → a ≢ b → eqb a b ≡ false
+not_same a b n = go (eqb a b) refl
+  where
+    go : (t : Bool) → eqb a b ≡ t → eqb a b ≡ false
+    go true e = absurd (n (eqb-true a b e))
+    go false e = e
+
+pub uneven_none : (P : Program) (pc : ℕ) → pc < 2 ^ 32 → (pc + 4290772992) % 4294967296 % 4 ≢ 0 → instr_at P pc ≡ None
+uneven_none P pc small n =
+    none_at P pc (not_same (address ((pc - 0x00400000) / 4)) pc (λ e. n (omega (arith, e, small))))
+
+pub even_is : (P : Program) (code : List Instr) (pc : ℕ) → IsDecoded code P → pc < 2 ^ 32 → (pc + 4290772992) % 4294967296 % 4 ≡ 0 →
+    slice_get code ((pc + 4290772992) % 4294967296 / 4) ≡ instr_at P pc
+even_is P code pc d small even = ⊎_elim (λ l. low l) (λ l. high l) (cases_lt pc 0x00400000)
+  where
+    k : ℕ
+    k = (pc + 4290772992) % 4294967296 / 4
+
+    low : pc < 0x00400000 → slice_get code k ≡ instr_at P pc
+    low l =
+        let past : length code ≤ k = omega (arith, l, d.few) in
+        let apart : address ((pc - 0x00400000) / 4) ≢ pc = λ e. omega (arith, e, l) in
+        slice_get_past code k past ∙ sym (none_at P pc (not_same (address ((pc - 0x00400000) / 4)) pc apart))
+
+    high : 0x00400000 ≤ pc → slice_get code k ≡ instr_at P pc
+    high l =
+        let same : k ≡ (pc - 0x00400000) / 4 = omega (arith, l, small) in
+        let whole : address ((pc - 0x00400000) / 4) ≡ pc = omega (arith, l, small, even) in
+        ap (slice_get code) same ∙ ap (λ x. slice_get x ((pc - 0x00400000) / 4)) d.is ∙ sym (some_at P pc (eq-eqb _ _ whole))

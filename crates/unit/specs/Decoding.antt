@@ -1,0 +1,38 @@
+-- What is kept of a decoded instruction.
+use Rattle.std.specs.Prelude.{◌≡◌, ◌≤◌, List, length, if◌then◌else◌}
+use Rattle.instructions.specs.Instruction.{destination, first_of, is_branch, is_pair, kind, second_of}
+use Rattle.instructions.specs.Programs.{Program}
+use Rattle.instructions.specs.declared.instr.Instr.{Instr}
+use Rattle.instructions.specs.declared.op.Half.TheVariants.{Low, High}
+use Rattle.instructions.specs.declared.op.Op.{Op}
+use Rattle.instructions.specs.declared.op.Op.TheVariants.{J, Jal, Jr, Jalr}
+use Rattle.unit.specs.declared.decoded.Decoded.TheInside.{Inside}
+use Rattle.unit.specs.declared.decoded.Goes.{Goes}
+use Rattle.unit.specs.declared.decoded.Goes.TheVariants.{Behind, Guessed, To}
+
+-- Where an operation goes on, as far as it tells
+abbrev pub goes_of : Op → Goes
+goes_of J = To
+goes_of Jal = To
+goes_of Jr = Guessed
+goes_of Jalr = Guessed
+goes_of op = if is_branch op then Guessed else Behind
+
+-- An instruction, and what is asked of it
+abbrev pub decode : Instr → Inside
+decode i =
+    record {
+      instr = i;
+      kind = kind i.op;
+      pair = is_pair i.op;
+      first = first_of i;
+      second = second_of i;
+      low = destination i Low;
+      high = destination i High;
+      goes = goes_of i.op;
+    }
+
+-- These are the decoded instructions of a program
+pub record IsDecoded (code : List Instr) (P : Program) : Type 0 where
+  pub is : code ≡ P.code
+  pub few : length code ≤ 16384

@@ -1,0 +1,150 @@
+//! Decoded instructions.
+ghost use Rattle.std.specs.Prelude.{◌≡◌};
+ghost use Rattle.instructions.specs.Instruction.{destination as destination_of, first_of, fixed_next as fixed_next_of, fixed_next_by, is_access as is_access_of, is_first_half as first_half, kind as kind_of, second_of};
+ghost use Rattle.unit.specs.Decoding.{goes_of as goes_in};
+
+use instructions::{Half, Instr, Kind, Op, Reg, pc_plus_4};
+use std::marker::Model;
+
+/// Where an operation goes on.
+#[derive(Clone, Copy)]
+pub enum Goes {
+    Behind,
+    To,
+    /// A predictor is asked.
+    Guessed,
+}
+
+/// An instruction, with what its window, its claim and its retirement ask of it, found out once.
+#[derive(Clone, Copy)]
+pub struct Decoded {
+    instr: Instr,
+    kind: Kind,
+    pair: bool,
+    first: Reg,
+    second: Reg,
+    low: Reg,
+    high: Reg,
+    goes: Goes,
+}
+
+impl Model for Decoded {
+    ghost use Rattle.std.specs.Prelude.{◌≡◌};
+    ghost use Rattle.std.proofs.Common.{sym};
+    ghost use Rattle.instructions.specs.declared.instr.Instr.{Instr};
+
+    ghost Value = { Instr };
+
+    ghost use Rattle.unit.specs.Decoding.{decode};
+
+    ghost view = { λ d. d.instr };
+
+    ghost invariant = { λ d. d ≡ decode d.instr };
+
+    ghost inverse = { decode };
+
+    ghost inverse_ok = { λ d h. sym h };
+}
+
+// Where an operation goes on, as far as it tells.
+fn goes_of(op: Op) -> Goes
+    ensures { result ≡ goes_in op }
+{
+    match op {
+        Op::J | Op::Jal => Goes::To,
+        Op::Jr | Op::Jalr => Goes::Guessed,
+        op if op.is_branch() => Goes::Guessed,
+        _ => Goes::Behind,
+    }
+}
+
+impl Decoded {
+    pub(crate) fn new(instr: Instr) -> Decoded
+        ensures { result ≡ instr }
+    {
+        let op = instr.op();
+        Decoded {
+            instr,
+            kind: op.kind(),
+            pair: op.is_pair(),
+            first: instr.first(),
+            second: instr.second(),
+            low: instr.destination(Half::Low),
+            high: instr.destination(Half::High),
+            goes: goes_of(op),
+        }
+    }
+
+    /// The instruction, as its program has it.
+    pub fn to_instr(self) -> Instr
+        ensures { result ≡ self }
+    {
+        self.instr
+    }
+
+    /// Its operation.
+    pub(crate) fn op(&self) -> Op
+        ensures { result ≡ self.now.op }
+    {
+        self.to_instr().op()
+    }
+
+    /// What its operation does.
+    pub(crate) fn kind(&self) -> Kind
+        ensures { result ≡ kind_of self.now.op }
+    {
+        self.kind
+    }
+
+    /// It is a load or store.
+    pub(crate) fn is_access(&self) -> bool
+        ensures { result ≡ is_access_of (kind_of self.now.op) }
+    {
+        matches!(self.kind, Kind::Loads | Kind::Stores)
+    }
+
+    /// The register of source 1; register 0 where it has none.
+    pub(crate) fn first(&self) -> Reg
+        ensures { result ≡ first_of self.now }
+    {
+        self.first
+    }
+
+    /// The register of source 2; register 0 where it has none.
+    pub(crate) fn second(&self) -> Reg
+        ensures { result ≡ second_of self.now }
+    {
+        self.second
+    }
+
+    /// It is the first of two halves.
+    pub(crate) fn is_first_half(&self, half: Half) -> bool
+        ensures { result ≡ first_half self.now.op half }
+    {
+        self.pair && half == Half::Low
+    }
+
+    /// The register that a half changes; register 0 where it changes none.
+    pub(crate) fn destination(&self, half: Half) -> Reg
+        ensures { result ≡ destination_of self.now half }
+    {
+        match half {
+            Half::Low => self.low,
+            Half::High => self.high,
+        }
+    }
+
+    /// The pc behind a half, unless a predictor is asked for it.
+    pub(crate) fn fixed_next(&self, half: Half, pc: u32) -> Option<u32>
+        ensures { result ≡ fixed_next_of self.now half pc }
+    {
+        if self.is_first_half(half) {
+            return Some(pc);
+        }
+        match self.goes {
+            Goes::Behind => Some(pc_plus_4(pc)),
+            Goes::To => Some(self.instr.number),
+            Goes::Guessed => None,
+        }
+    }
+}

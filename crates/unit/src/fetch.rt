@@ -1,0 +1,35 @@
+//! Fetch, from the decoded instructions of a program.
+ghost use Rattle.std.specs.Prelude.{◌≡◌, IfOk, option_copied};
+ghost use Rattle.instructions.specs.Programs.{Program as Text, instr_at};
+ghost use Rattle.unit.specs.Decoding.{IsDecoded};
+
+use crate::decoded::Decoded;
+use instructions::{Memory, Program};
+use std::alloc::Global;
+
+/// The instructions of a program, decoded.
+pub fn decode_all(alloc: Global, program: &Program) -> Result<Vec<Decoded>, Memory>
+    ensures { IfOk result (λ code. IsDecoded code.items program.now) }
+{
+    let mut code = Vec::with_capacity(alloc, program.len())?;
+    for i in 0..program.len() {
+        code.push(Decoded::new(*program.instr(i)))?;
+    }
+    Ok(code)
+}
+
+/// The instruction at an address, if it is that of one.
+#[inline(always)]
+pub fn fetch(code: &[Decoded], pc: u32) -> Option<&Decoded>
+    ensures { (P : Text) → IsDecoded code.now P → option_copied result ≡ instr_at P pc }
+{
+    let offset = pc.wrapping_sub(Program::START);
+    if offset % 4 != 0 {
+        return None;
+    }
+    let at = (offset / 4) as usize;
+    if code.len() <= at {
+        return None;
+    }
+    Some(&code[at])
+}
