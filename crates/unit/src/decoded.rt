@@ -11,6 +11,8 @@ use std::marker::Model;
 pub enum Goes {
     Behind,
     To,
+    /// Behind a second half; a first half stays where it is.
+    BehindBoth,
     /// A predictor is asked.
     Guessed,
 }
@@ -54,6 +56,7 @@ fn goes_of(op: Op) -> Goes
         Op::J | Op::Jal => Goes::To,
         Op::Jr | Op::Jalr => Goes::Guessed,
         op if op.is_branch() => Goes::Guessed,
+        op if op.is_pair() => Goes::BehindBoth,
         _ => Goes::Behind,
     }
 }
@@ -138,13 +141,11 @@ impl Decoded {
     pub(crate) fn fixed_next(&self, half: Half, pc: u32) -> Option<u32>
         ensures { result ≡ fixed_next_of self.now half pc }
     {
-        if self.is_first_half(half) {
-            return Some(pc);
-        }
-        match self.goes {
-            Goes::Behind => Some(pc_plus_4(pc)),
-            Goes::To => Some(self.instr.number),
-            Goes::Guessed => None,
+        match (self.goes, half) {
+            (Goes::BehindBoth, Half::Low) => Some(pc),
+            (Goes::Behind | Goes::BehindBoth, _) => Some(pc_plus_4(pc)),
+            (Goes::To, _) => Some(self.instr.number),
+            (Goes::Guessed, _) => None,
         }
     }
 }

@@ -70,6 +70,17 @@ impl<'a> Pipeline<'a> {
         wrapped(self.oldest + i, self.ring)
     }
 
+    /// The station behind that of the oldest tenant.
+    pub fn second_station(&self) -> usize
+        requires oldest { self.now.oldest < self.now.ring }
+        requires most { self.now.ring ≤ 32 }
+        ensures value { result ≡ (self.now.oldest + 1) % self.now.ring }
+        ensures small { result < self.now.ring }
+    {
+        let next = self.oldest + 1;
+        if next == self.ring { 0 } else { next }
+    }
+
     // The pc where the path goes on, and the half that comes there.
     fn front(&self) -> (u32, Half)
         ensures pc { result.0 ≡ next_in self.now.committed.pc self.now.window }

@@ -105,6 +105,18 @@ fn is_settled_at(window: &Window, i: usize) -> bool
     }
 }
 
+// How many of the oldest are known to be settled, where the tenant at `at` has come further.
+#[inline(always)]
+fn known_settled(window: &Window, from: usize, at: usize, settles: bool) -> usize
+    requires inside { at < length window.now }
+    requires from { AreSettled from window.now }
+    requires settles { settled_at (slice_get window.now at) ≡ settles }
+    ensures { AreSettled result window.now }
+{
+    prove!(at < window.len());
+    if at == from && settles { at + 1 } else { from }
+}
+
 // How many of the oldest are settled, where as many as `from` are known to be.
 #[inline(always)]
 fn settled(window: &Window, from: usize) -> usize
@@ -120,27 +132,39 @@ fn settled(window: &Window, from: usize) -> usize
 }
 
 impl<'a> Pipeline<'a> {
-    // The tenant at `at` comes further by its outcome.
+    // The tenant at `at` comes further by its outcome. Answers whether it is settled then.
     #[inline(always)]
-    fn finish(&mut self, at: usize, outcome: Outcome, predicted: u32)
+    fn finish(&mut self, at: usize, outcome: Outcome, kind: Kind, predicted: u32) -> bool
         requires { at < length self.old.window }
         ensures window { IsFinished self.old.window at outcome predicted self.new.window }
         ensures missed { self.new.missed ≡
             missed_after self.old.missed (stage_after outcome predicted) }
         ensures rest { self.new ≡
             record self.old { window = self.new.window; missed = self.new.missed } }
+        ensures settles { result ≡ settled_by kind (stage_after outcome predicted) }
     {
         match outcome {
-            Outcome::Value(v) | Outcome::Pair(v, _) => self
-                .window
-                .advance(at, Stage::Done, Some(v)),
-            Outcome::Next(x) if x == predicted => self.window.reach(at, Stage::Done),
+            Outcome::Value(v) | Outcome::Pair(v, _) => {
+                self.window.advance(at, Stage::Done, Some(v));
+                true
+            }
+            Outcome::Next(x) if x == predicted => {
+                self.window.reach(at, Stage::Done);
+                true
+            }
             Outcome::Next(x) => {
                 self.missed = true;
                 self.window.reach(at, Stage::Miss(x));
+                false
             }
-            Outcome::Address(a) => self.window.reach(at, Stage::Addr(a)),
-            Outcome::Stop(c) => self.window.reach(at, Stage::Stops(c)),
+            Outcome::Address(a) => {
+                self.window.reach(at, Stage::Addr(a));
+                matches!(kind, Kind::Stores)
+            }
+            Outcome::Stop(c) => {
+                self.window.reach(at, Stage::Stops(c));
+                true
+            }
         }
     }
 
@@ -171,8 +195,10 @@ impl<'a> Pipeline<'a> {
             size,
         );
         let predicted = station.predicted;
-        self.finish(ready.at, outcome, predicted);
-        self.settled = settled(&self.window, self.settled);
+        let kind = station.instr.kind();
+        let settles = self.finish(ready.at, outcome, kind, predicted);
+        let known = known_settled(&self.window, self.settled, ready.at, settles);
+        self.settled = settled(&self.window, known);
         true
     }
 }

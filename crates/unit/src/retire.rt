@@ -50,7 +50,7 @@ impl<'a> Pipeline<'a> {
         requires is { slice_get self.old.window 0 ≡ Some oldest.now }
         ensures { self.new ≡ shifted self.old }
     {
-        self.oldest = self.station_at(1);
+        self.oldest = self.second_station();
         self.window.shift(oldest);
         self.settled = self.settled.saturating_sub(1);
     }
