@@ -8,15 +8,15 @@ use Rattle.instructions.specs.declared.op.Op.{Op}
 use Rattle.instructions.specs.declared.op.Op.TheVariants.{J, Jal, Jr, Jalr}
 use Rattle.unit.specs.declared.decoded.Decoded.TheInside.{Inside}
 use Rattle.unit.specs.declared.decoded.Goes.{Goes}
-use Rattle.unit.specs.declared.decoded.Goes.TheVariants.{Behind, BehindBoth, Guessed, To}
+use Rattle.unit.specs.declared.decoded.Goes.TheVariants.{Behind, To, Varies}
 
 -- Where an operation goes on, as far as it tells
 abbrev pub goes_of : Op → Goes
 goes_of J = To
 goes_of Jal = To
-goes_of Jr = Guessed
-goes_of Jalr = Guessed
-goes_of op = if is_branch op then Guessed else (if is_pair op then BehindBoth else Behind)
+goes_of Jr = Varies
+goes_of Jalr = Varies
+goes_of op = if is_branch op then Varies else (if is_pair op then Varies else Behind)
 
 -- An instruction, and what is asked of it
 abbrev pub decode : Instr → Inside

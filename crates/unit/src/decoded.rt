@@ -11,10 +11,8 @@ use std::marker::Model;
 pub enum Goes {
     Behind,
     To,
-    /// Behind a second half; a first half stays where it is.
-    BehindBoth,
-    /// A predictor is asked.
-    Guessed,
+    /// A predictor is asked, or the half tells.
+    Varies,
 }
 
 /// An instruction, with what its window, its claim and its retirement ask of it, found out once.
@@ -54,9 +52,8 @@ fn goes_of(op: Op) -> Goes
 {
     match op {
         Op::J | Op::Jal => Goes::To,
-        Op::Jr | Op::Jalr => Goes::Guessed,
-        op if op.is_branch() => Goes::Guessed,
-        op if op.is_pair() => Goes::BehindBoth,
+        Op::Jr | Op::Jalr => Goes::Varies,
+        op if op.is_branch() || op.is_pair() => Goes::Varies,
         _ => Goes::Behind,
     }
 }
@@ -141,11 +138,12 @@ impl Decoded {
     pub(crate) fn fixed_next(&self, half: Half, pc: u32) -> Option<u32>
         ensures { result ≡ fixed_next_of self.now half pc }
     {
-        match (self.goes, half) {
-            (Goes::BehindBoth, Half::Low) => Some(pc),
-            (Goes::Behind | Goes::BehindBoth, _) => Some(pc_plus_4(pc)),
-            (Goes::To, _) => Some(self.instr.number),
-            (Goes::Guessed, _) => None,
+        match self.goes {
+            Goes::Behind => Some(pc_plus_4(pc)),
+            Goes::To => Some(self.instr.number),
+            Goes::Varies if self.is_first_half(half) => Some(pc),
+            Goes::Varies if self.pair => Some(pc_plus_4(pc)),
+            Goes::Varies => None,
         }
     }
 }
