@@ -13,7 +13,7 @@ use Rattle.unit.specs.Loads.{load_in}
 use Rattle.unit.specs.Notes.{AreNoted, miss_in}
 use Rattle.unit.specs.Stages.{CannotLet, LoadsTo, RunsTo}
 use Rattle.unit.specs.StandsFor.{StandsForSome}
-use Rattle.unit.specs.Turns.{Falls, IsOpen, IsPlain, Moves, SizesStay, rank}
+use Rattle.unit.specs.Turns.{Falls, StaysOpen, IsPlain, Moves, SizesStay, rank}
 use Rattle.unit.specs.Window.{operands_in}
 use Rattle.unit.proofs.EndTurns.{Refused, can_leave, retires_falls, retires_turn, window_room}
 use Rattle.unit.proofs.Ranks.{load_falls, run_falls}
@@ -174,27 +174,27 @@ retired_plain b later answer can to = go (slice_get b.window 0) to
     go (Some w) l = by w w.stage l
 
 -- a retirement that is no end leaves the unit open
-pub retired_open : (b later : Pipeline) (answer : Turn) → b.over ≡ None → RetiresTo b (slice_get b.window 0) answer later → IsOpen answer later
+pub retired_open : (b later : Pipeline) (answer : Turn) → b.over ≡ None → RetiresTo b (slice_get b.window 0) answer later → StaysOpen answer later
 retired_open b later answer none to = go (slice_get b.window 0) to
   where
-    passes : (f : Bool) (w : Station) → PassesTo f b w answer later → IsOpen answer later
-    passes true w l = subst (λ a. IsOpen a later) (sym l.0) (ap (λ x. x.over) l.1 ∙ none)
-    passes false w l = subst (λ a. IsOpen a later) (sym l.0) (ap (λ x. x.over) l.1 ∙ none)
+    passes : (f : Bool) (w : Station) → PassesTo f b w answer later → StaysOpen answer later
+    passes true w l = subst (λ a. StaysOpen a later) (sym l.0) (ap (λ x. x.over) l.1 ∙ none)
+    passes false w l = subst (λ a. StaysOpen a later) (sym l.0) (ap (λ x. x.over) l.1 ∙ none)
 
-    by : (w : Station) (g : Rattle.unit.specs.declared.station.Stage.Stage) → Rattle.unit.specs.Leaves.LeavesTo b w g answer later → IsOpen answer later
-    by w (Rattle.unit.specs.declared.station.Stage.TheVariants.Stops c) l = subst (λ a. IsOpen a later) (sym l.0) tt
+    by : (w : Station) (g : Rattle.unit.specs.declared.station.Stage.Stage) → Rattle.unit.specs.Leaves.LeavesTo b w g answer later → StaysOpen answer later
+    by w (Rattle.unit.specs.declared.station.Stage.TheVariants.Stops c) l = subst (λ a. StaysOpen a later) (sym l.0) tt
     by w Rattle.unit.specs.declared.station.Stage.TheVariants.Done l = passes (is_first_half w.instr.op w.half) w l
     by w (Rattle.unit.specs.declared.station.Stage.TheVariants.Addr a) l = passes (is_first_half w.instr.op w.half) w l
     by w Rattle.unit.specs.declared.station.Stage.TheVariants.Open l = passes (is_first_half w.instr.op w.half) w l
     by w (Rattle.unit.specs.declared.station.Stage.TheVariants.Miss x) l = passes (is_first_half w.instr.op w.half) w l
 
-    go : (o : Option Station) → RetiresTo b o answer later → IsOpen answer later
-    go None l = subst (λ a. IsOpen a later) (sym l.0) tt
+    go : (o : Option Station) → RetiresTo b o answer later → StaysOpen answer later
+    go None l = subst (λ a. StaysOpen a later) (sym l.0) tt
     go (Some w) l = by w w.stage l
 
 -- so does any turn that is neither
 pub stays_open : (answer : Turn) (later : Pipeline) → ((c : Rattle.instructions.specs.declared.stop.Stop.Stop) → answer ≡ Rattle.unit.specs.declared.bench.Turn.TheVariants.Over c → ⊥) →
-    IsOpen answer later → later.over ≡ None
+    StaysOpen answer later → later.over ≡ None
 stays_open Rattle.unit.specs.declared.bench.Turn.TheVariants.Recovered later n o = o
 stays_open Rattle.unit.specs.declared.bench.Turn.TheVariants.Let later n o = o
 stays_open Ran later n o = o

@@ -198,9 +198,9 @@ IsPlain Let = ⊥
 IsPlain _ = ⊤
 
 -- The unit goes on behind any turn that does not end it
-abbrev pub IsOpen : Turn → Pipeline → Type 0
-IsOpen (Over c) later = ⊤
-IsOpen _ later = later.over ≡ None
+abbrev pub StaysOpen : Turn → Pipeline → Type 0
+StaysOpen (Over c) later = ⊤
+StaysOpen _ later = later.over ≡ None
 
 -- Dispatch may be known to be stalled: then nothing can be let
 abbrev pub IsStalled : Bool → Pipeline → Type 0

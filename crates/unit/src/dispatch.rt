@@ -177,7 +177,7 @@ impl<'a> Pipeline<'a> {
             return false;
         };
         let left = self.leaver();
-        let predicted = guess(predictor, left, &next.instr, next.half, next.pc);
+        let predicted = guess(predictor, left, &next);
         self.let_out(next, predicted);
         true
     }

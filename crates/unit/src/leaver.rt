@@ -3,9 +3,9 @@ ghost use Rattle.std.specs.Prelude.{◌≡◌};
 ghost use Rattle.instructions.specs.Guesses.{Guesses};
 ghost use Rattle.unit.specs.Leavers.{told_at};
 
-use crate::decoded::Decoded;
+use crate::dispatch::Fetched;
 use crate::station::Station;
-use instructions::{Half, Leaver, Predictor, tell};
+use instructions::{Leaver, Predictor, tell};
 
 /// What the predictor is told of a tenant that retires.
 pub fn told_of(station: &Station) -> Option<Leaver>
@@ -20,21 +20,15 @@ pub fn told_of(station: &Station) -> Option<Leaver>
     }
 }
 
-/// Tells a predictor of who has left, and asks it where the next instruction goes on, unless that is fixed.
+/// Asks a predictor where the next instruction goes on, unless that is fixed, once it was told of who has left.
 #[inline(always)]
-pub fn guess<P: Predictor>(
-    predictor: &mut P,
-    left: Option<Leaver>,
-    instr: &Decoded,
-    half: Half,
-    pc: u32,
-) -> u32
-    ensures { Guesses P.Predicts P.Learns left instr.now half pc result
-        predictor.old predictor.new }
+pub fn guess<P: Predictor>(predictor: &mut P, left: Option<Leaver>, next: &Fetched) -> u32
+    ensures { Guesses P.Predicts P.Learns left next.now.instr next.now.half next.now.pc
+        result predictor.old predictor.new }
 {
     tell(predictor, left);
-    match instr.fixed_next(half, pc) {
+    match next.instr.fixed_next(next.half, next.pc) {
         Some(fixed) => fixed,
-        None => predictor.predict(pc, &instr.to_instr()),
+        None => predictor.predict(next.pc, &next.instr.to_instr()),
     }
 }

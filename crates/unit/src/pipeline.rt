@@ -4,7 +4,7 @@ ghost use Rattle.inorder.specs.Machine.{start};
 ghost use Rattle.unit.specs.Changes.{NextOf, NoneRecovers, ahead_of};
 ghost use Rattle.unit.specs.StandsFor.{StandsFor, StandsForSome};
 ghost use Rattle.inorder.specs.Unit.{empty_unit};
-ghost use Rattle.unit.specs.Turns.{Falls, IsOpen, IsPlain, IsStalled, Moves, SizesStay, stalled_after};
+ghost use Rattle.unit.specs.Turns.{Falls, StaysOpen, IsPlain, IsStalled, Moves, SizesStay, stalled_after};
 
 use crate::ahead::Ahead;
 use crate::bench::Turn;
@@ -92,7 +92,7 @@ impl<'a> Pipeline<'a> {
         ensures unit { StandsForSome self.new }
         ensures same { SizesStay self.old self.new }
         ensures plain { IsPlain result }
-        ensures open { IsOpen result self.new }
+        ensures open { StaysOpen result self.new }
         ensures stalled { IsStalled (stalled_after result) self.new }
     {
         if self.runs() {

@@ -37,7 +37,8 @@ lets-requires-clause-miss g c = subst NoneRecovers (sym c.if-recovers.ensures.sa
 pub returns-then-lets-clause-turn : goal.returns-then-lets-clause-turn
 returns-then-lets-clause-turn g c =
     subst (λ x. IsTurn g.P.Predictor.Predicts g.P.Predictor.Learns x Let (fields c.lets.new.self c.lets.new.predictor)) c.self.view_is
-    (subst (λ x. IsTurn g.P.Predictor.Predicts g.P.Predictor.Learns (fields x c.self.inside.predictor) Let (fields c.lets.new.self c.lets.new.predictor)) c.if-recovers.ensures.same c.if-lets.ensures.turn)
+    (subst (λ x. IsTurn g.P.Predictor.Predicts g.P.Predictor.Learns (fields x c.self.inside.predictor) Let (fields c.lets.new.self c.lets.new.predictor))
+    c.if-recovers.ensures.same c.if-lets.ensures.turn)
 
 pub returns-then-lets-clause-falls : goal.returns-then-lets-clause-falls
 returns-then-lets-clause-falls g c =
@@ -54,4 +55,5 @@ returns-clause-turn g c =
     let same = c.if-lets.ensures.falls ∙ c.if-recovers.ensures.same in
     let before = subst (λ x. IsTurn g.P.Predictor.Predicts g.P.Predictor.Learns (fields x c.lets.new.predictor) c.moves-turn.result (fields c.moves-turn.new.self c.lets.new.predictor)) same turn in
     subst (λ x. IsTurn g.P.Predictor.Predicts g.P.Predictor.Learns x c.moves-turn.result (fields c.moves-turn.new.self c.lets.new.predictor)) c.self.view_is
-    (subst (λ p. IsTurn g.P.Predictor.Predicts g.P.Predictor.Learns (fields c.self.inside.pipeline p) c.moves-turn.result (fields c.moves-turn.new.self c.lets.new.predictor)) c.if-lets.ensures.kept before)
+    (subst (λ p. IsTurn g.P.Predictor.Predicts g.P.Predictor.Learns (fields c.self.inside.pipeline p) c.moves-turn.result (fields c.moves-turn.new.self c.lets.new.predictor))
+    c.if-lets.ensures.kept before)
