@@ -30,6 +30,3 @@ pub use script::{Fault, drive};
 pub use session::Session;
 pub use texts::{line_of, text_of};
 pub use units::{Claimed, Held};
-
-#[cfg(test)]
-mod tests;

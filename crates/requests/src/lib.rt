@@ -10,8 +10,6 @@ mod reading;
 mod reading_by_hand;
 mod refusals;
 mod request;
-#[cfg(test)]
-mod tests;
 mod values;
 mod watches;
 

@@ -1,9 +1,11 @@
-//! Whole runs: on threads, on one thread, told turn by turn, and by command lines; and snapshots that one thread takes
-//! while another publishes.
+//! Whole runs: on threads, on one thread, told turn by turn, and by command lines; what the words of these ask for;
+//! snapshots that one thread takes while another publishes; and units driven by scripts.
 #![tactic(auto)]
 
 #[cfg(test)]
 mod bytes;
+#[cfg(test)]
+mod command_lines;
 #[cfg(test)]
 mod commands;
 #[cfg(test)]
@@ -12,6 +14,8 @@ mod failing;
 mod listings;
 #[cfg(test)]
 mod one_thread;
+#[cfg(test)]
+mod scripts;
 #[cfg(test)]
 mod snappers;
 #[cfg(test)]

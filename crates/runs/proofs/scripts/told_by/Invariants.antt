@@ -1,4 +1,4 @@
-use Rattle.drive.proofs.tests.told_by.Given as goal
+use Rattle.runs.proofs.scripts.told_by.Given as goal
 
 abbrev pub ghosts-transcript : goal.ghosts-transcript
 ghosts-transcript g a = record { program = a.program.now }

@@ -1,5 +1,5 @@
 //! Command lines, and the predictors that they ask for.
-mod command_lines;
 mod mistakes;
+mod options;
 mod predictors;
 mod watches;

@@ -1,6 +1,6 @@
 //! The predictor of each name.
-use crate::{BranchPredictor, choose};
 use instructions::{Instr, Op, Predictor, Reg};
+use requests::{BranchPredictor, choose};
 
 /// A branch at this pc, and where it goes if it is taken.
 const PC: u32 = 0x0040_0010;

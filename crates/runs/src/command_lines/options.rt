@@ -1,5 +1,5 @@
 //! Command lines: each option, its default, its limits and one past them; what is refused, and how.
-use crate::*;
+use requests::*;
 use std::alloc::Global;
 
 /// Ring, queue, units, turns and limit.

@@ -1,5 +1,5 @@
 //! Charts and logs: which words ask for them, and which may not.
-use crate::*;
+use requests::*;
 
 #[test]
 fn takes_a_chart_and_a_log(rt: HostRuntime) {

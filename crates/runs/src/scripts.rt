@@ -4,9 +4,9 @@ mod reading;
 
 ghost use Rattle.std.specs.Prelude.{◌≡◌};
 
-use super::*;
 use back::Naming;
 use devices::Counted;
+use drive::*;
 use instructions::{Config, NotTaken, Program};
 use isa::parse;
 use std::alloc::Global;

@@ -1,5 +1,5 @@
 //! What a mistake is told: it ends with the help of its command.
-use crate::*;
+use requests::*;
 
 fn is_told(no_run: &NoRun, end: &str) -> bool {
     match no_run {
