@@ -1,5 +1,5 @@
 -- What the calls of a back answer, from what its seat was answered.
-use Rattle.std.proofs.Common.{◌≡◌, ◌≤◌, ◌<◌, ◌%◌, ◌+◌, ℕ, [], Option, None, refl, sym, ap, ◌∙◌, subst, arith, zero-le}
+use Rattle.std.proofs.Common.{◌≡◌, ◌≤◌, ◌<◌, ◌%◌, ℕ, [], Option, None, refl, sym, ap, ◌∙◌, subst, arith, zero-le}
 use Rattle.instructions.specs.Programs.{Program}
 use Rattle.instructions.specs.declared.stop.Stop.{Stop}
 use Rattle.inorder.specs.History.{IsLegal, back}
@@ -52,17 +52,13 @@ module _ (P : Program) (seat seat' : Caller) (program : seat.core.program ≡ P)
   }
 
 -- the head is a station
-pub head_fits : (head x ring r : ℕ) → head ≡ x % ring → r ≡ ring → 2 ≤ r → r ≤ 32 → head + 1 < 18446744073709551616
-head_fits head x ring r e f least most =
-    let small : x % ring < ring = mod-lt x (omega (arith, f, least)) in omega (arith, e, f, most, small)
-
 pub head_small : (head x ring r : ℕ) → head ≡ x % ring → r ≡ ring → 2 ≤ r → head < r
 head_small head x ring r e f least =
     let small : x % ring < ring = mod-lt x (omega (arith, f, least)) in omega (arith, e, f, small)
 
 -- the same, of what the fields are
-pub kept_as : (P : Program) (seat : Caller) (state state' : State) (low low' : Option ℕ) (head ring ring' : ℕ) (ended ended' : Option Stop) (shown : Snap)
-    → BackIsKept P seat state low ((head + 1) % ring) ended shown → state ≡ state' → low ≡ low' → ring ≡ ring' → ended ≡ ended' →
-    BackIsKept P seat state' low' ((head + 1) % ring') ended' shown
-kept_as P seat state state' low low' head ring ring' ended ended' shown k s w r e =
-    subst (λ (z : State × Option ℕ × ℕ × Option Stop). BackIsKept P seat z.0 z.1 ((head + 1) % z.2) z.3 shown) (λ i. (s i, w i, r i, e i)) k
+pub kept_as : (P : Program) (seat : Caller) (state state' : State) (low low' : Option ℕ) (head head' : ℕ) (ended ended' : Option Stop) (shown : Snap)
+    → BackIsKept P seat state low head ended shown → state ≡ state' → low ≡ low' → head ≡ head' → ended ≡ ended' →
+    BackIsKept P seat state' low' head' ended' shown
+kept_as P seat state state' low low' head head' ended ended' shown k s w h e =
+    subst (λ (z : State × Option ℕ × ℕ × Option Stop). BackIsKept P seat z.0 z.1 z.2 z.3 shown) (λ i. (s i, w i, h i, e i)) k

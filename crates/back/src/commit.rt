@@ -7,7 +7,7 @@ ghost use Rattle.back.specs.Retirement.{StoreIsInside, low_in, goes_on_at, state
 
 use crate::answers::Commit;
 use crate::backs::Back;
-use inorder::Committed;
+use inorder::{Committed, wrapped};
 use instructions::{Half, Instr, Kind, Stop, pc_plus_4};
 use snapshots::Naming;
 use station::{Core, Last, Retire};
@@ -142,7 +142,7 @@ impl<J: Naming> Back<J> {
             // no stop has retired, or it would have ended
             Retire::Over => return Commit::Empty,
         };
-        self.head = (self.head + 1) % ring;
+        self.head = wrapped(self.head + 1, ring);
         self.ended = stop(last);
         self.low = commit_tenant(&mut self.committed, self.low, &instr, half, last);
         match (self.ended, self.low) {

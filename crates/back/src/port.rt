@@ -10,7 +10,7 @@ ghost use Rattle.back.specs.Trials.{NobodyWaits, ThisWaits, TriedAnswers, load_o
 ghost use Rattle.back.specs.Port.{Ceases, IsEntryThere, LoadIsInside, MayAnswer, MayBlock, Remains, SearchFinds, SearchMisses};
 
 use crate::entries::{address, ask, content, entry, entry_of};
-use inorder::Committed;
+use inorder::{Committed, wrapped};
 use instructions::{Kind, Op, Program, loaded};
 use lsq::{Answer, Entry};
 use station::{BackSeat, Core, Settle, Source};
@@ -80,7 +80,7 @@ fn search(
     let mut k = at;
     while k > 0 {
         k -= 1;
-        let store = look(core, seat, (head + k) % ring);
+        let store = look(core, seat, wrapped(head + k, ring));
         if let Answer::Blocked(_) = ask(store, asked) {
             if store.address.is_none() {
                 return Err(k);
@@ -126,7 +126,7 @@ fn answer(
         let raw = committed.number_at(load.address as usize, load.op.width() as usize);
         return Ok(loaded(load.op, raw));
     };
-    let data = core.operand(seat, (head + k) % ring, Source::Second);
+    let data = core.operand(seat, wrapped(head + k, ring), Source::Second);
     let content = content(data.state, data.value);
     match ask(Entry { content, ..store }, entry_of(load)) {
         Answer::Forward(raw) => Ok(loaded(load.op, raw)),
@@ -205,7 +205,7 @@ pub(crate) fn try_load(
         seat.old.woken seat.new.woken result }
 {
     let ring = core.ring();
-    let station = (head + at) % ring;
+    let station = wrapped(head + at, ring);
     let Some(load) = waiting(core, seat, station) else {
         return Tried::Passed;
     };
@@ -216,7 +216,7 @@ pub(crate) fn try_load(
         },
         Err(k) => {
             if is_still(core, seat, station, &load) {
-                Tried::Blocked((head + k) % ring)
+                Tried::Blocked(wrapped(head + k, ring))
             } else {
                 Tried::Passed
             }

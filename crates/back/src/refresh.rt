@@ -10,7 +10,7 @@ ghost use Rattle.back.specs.Wakings.{RefreshWakes};
 use crate::answers::Refresh;
 use crate::backs::Back;
 use crate::port::{Tried, try_load};
-use inorder::Committed;
+use inorder::{Committed, wrapped};
 use snapshots::Naming;
 use station::{BackSeat, Core};
 
@@ -37,7 +37,7 @@ fn scan(
 {
     let mut blocked = None;
     for at in 0..ring {
-        let station = (head + at) % ring;
+        let station = wrapped(head + at, ring);
         match try_load(core, seat, committed, head, at) {
             Tried::Passed => {}
             Tried::Blocked(store) => {

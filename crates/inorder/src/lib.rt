@@ -8,6 +8,7 @@ mod guards;
 pub mod history;
 mod laws;
 mod machine;
+mod ring;
 
 pub use accesses::{access_entry, access_width, is_store};
 pub use committed::Committed;
@@ -25,3 +26,4 @@ pub use laws::{
     stations_follow, values_are_words, what_is_past_is_past,
 };
 pub use machine::{Ended, Machine, Stepped};
+pub use ring::wrapped;

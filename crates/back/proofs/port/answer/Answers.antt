@@ -62,8 +62,9 @@ returns-in-Forward-clause-ok c p asked =
     let n = length (unit_in d old.seen).tenants in
     let found = subst (λ o. HasFound d.program (unit_in d mid.seen) n c.args.head d.sizes.ring 0 c.args.at l.address (width l.op) o) c.in-Some.is c.in-Ok.ensures.ok in
     let still = found_later d.program d.sizes old.seen mid.seen new.seen a b c.args.head d.sizes.ring 0 c.args.at l.address (width l.op) (k, e) found in
-    let shown = shows_content (unit_in d new.seen) ((c.args.head + k) % c.ring-ring.result) word.tag word.state word.value c.operand-data.ensures.reply.its n in
-    let shows = subst (λ r. AtStation (unit_in d new.seen) n ((c.args.head + k) % r) (λ u. u.second.value ≡ content_in word.state word.value)) c.ring-ring.ensures.value shown in
+    let station : c.wrapped.result ≡ (c.args.head + k) % d.sizes.ring = c.wrapped.ensures.value ∙ ap (λ r. (c.args.head + k) % r) c.ring-ring.ensures.value in
+    let shown = shows_content (unit_in d new.seen) c.wrapped.result word.tag word.state word.value c.operand-data.ensures.reply.its n in
+    let shows = subst (λ s. AtStation (unit_in d new.seen) n s (λ u. u.second.value ≡ content_in word.state word.value)) station shown in
     let says = (λ i. answer (record e { content = sym c.content-content.ensures i } ∷ sym c.entry_of.ensures i ∷ []) 1) ∙ sym c.ask.ensures in
     subst (λ v. CanLoad d.program (unit_in d new.seen) p l.address v ⊎ IsStale (unit_in d new.seen) p) (sym c.loaded-in-Forward.ensures)
     (forward_answers d.program d.sizes old.seen new.seen whole c.args.head c.args.at c.requires.head_is c.requires.head c.requires.at p l asked k e still (content_in word.state word.value) shows
@@ -85,8 +86,9 @@ returns-in_default-ask c =
     let n = length (unit_in d old.seen).tenants in
     let found = subst (λ o. HasFound d.program (unit_in d mid.seen) n c.args.head d.sizes.ring 0 c.args.at l.address (width l.op) o) c.in-Some.is c.in-Ok.ensures.ok in
     let still = found_later d.program d.sizes old.seen mid.seen new.seen a b c.args.head d.sizes.ring 0 c.args.at l.address (width l.op) (k, e) found in
-    let shown = shows_content (unit_in d new.seen) ((c.args.head + k) % c.ring-ring.result) word.tag word.state word.value c.operand-data.ensures.reply.its n in
-    let shows = subst (λ r. AtStation (unit_in d new.seen) n ((c.args.head + k) % r) (λ u. u.second.value ≡ content_in word.state word.value)) c.ring-ring.ensures.value shown in
+    let station : c.wrapped.result ≡ (c.args.head + k) % d.sizes.ring = c.wrapped.ensures.value ∙ ap (λ r. (c.args.head + k) % r) c.ring-ring.ensures.value in
+    let shown = shows_content (unit_in d new.seen) c.wrapped.result word.tag word.state word.value c.operand-data.ensures.reply.its n in
+    let shows = subst (λ s. AtStation (unit_in d new.seen) n s (λ u. u.second.value ≡ content_in word.state word.value)) station shown in
     let says = (λ i. answer (record e { content = sym c.content-content.ensures i } ∷ sym c.entry_of.ensures i ∷ []) 1) ∙ sym c.ask.ensures in
     record {
       kept = same_on old mid new c.search.ensures.kept c.operand-data.ensures.kept;

@@ -26,8 +26,8 @@ returns-then-is_none-clause-err c =
     let l = c.args.load.now in
     let a = subst (λ x. Adds d.program d.sizes x old.seen mid.seen []) c.requires.by k.invariant.history in
     let b = subst (λ x. Adds d.program d.sizes x mid.seen new.seen []) (k.invariant.kept.by ∙ c.requires.by) c.look-store.ensures.history in
-    let shows = subst (λ r. AtStation (unit_in d new.seen) (length (unit_in d mid.seen).tenants) ((c.args.head + (k.k - 1)) % r) (IsEntryOf d.program e)) c.ring-ring.ensures.value
-    c.look-store.ensures.shows in
+    let station : c.wrapped.result ≡ (c.args.head + (k.k - 1)) % d.sizes.ring = c.wrapped.ensures.value ∙ ap (λ r. (c.args.head + (k.k - 1)) % r) c.ring-ring.ensures.value in
+    let shows = subst (λ s. AtStation (unit_in d new.seen) (length (unit_in d mid.seen).tenants) s (IsEntryOf d.program e)) station c.look-store.ensures.shows in
     let some = c.loop-k-test.true in
     let next : k.k ≡ (k.k - 1) + 1 = omega (arith, some) in
     let bound = k.invariant.bound in
@@ -46,8 +46,8 @@ loop-k-preserved-then-is_none-2 c =
     let l = c.args.load.now in
     let a = subst (λ x. Adds d.program d.sizes x old.seen mid.seen []) c.requires.by k.invariant.history in
     let b = subst (λ x. Adds d.program d.sizes x mid.seen new.seen []) (k.invariant.kept.by ∙ c.requires.by) c.look-store.ensures.history in
-    let shows = subst (λ r. AtStation (unit_in d new.seen) (length (unit_in d mid.seen).tenants) ((c.args.head + (k.k - 1)) % r) (IsEntryOf d.program e)) c.ring-ring.ensures.value
-    c.look-store.ensures.shows in
+    let station : c.wrapped.result ≡ (c.args.head + (k.k - 1)) % d.sizes.ring = c.wrapped.ensures.value ∙ ap (λ r. (c.args.head + (k.k - 1)) % r) c.ring-ring.ensures.value in
+    let shows = subst (λ s. AtStation (unit_in d new.seen) (length (unit_in d mid.seen).tenants) s (IsEntryOf d.program e)) station c.look-store.ensures.shows in
     let some = c.loop-k-test.true in
     let next : k.k ≡ (k.k - 1) + 1 = omega (arith, some) in
     let bound = k.invariant.bound in
@@ -75,8 +75,8 @@ loop-k-preserved-else-is_none-2 c =
     let l = c.args.load.now in
     let a = subst (λ x. Adds d.program d.sizes x old.seen mid.seen []) c.requires.by k.invariant.history in
     let b = subst (λ x. Adds d.program d.sizes x mid.seen new.seen []) (k.invariant.kept.by ∙ c.requires.by) c.look-store.ensures.history in
-    let shows = subst (λ r. AtStation (unit_in d new.seen) (length (unit_in d mid.seen).tenants) ((c.args.head + (k.k - 1)) % r) (IsEntryOf d.program e)) c.ring-ring.ensures.value
-    c.look-store.ensures.shows in
+    let station : c.wrapped.result ≡ (c.args.head + (k.k - 1)) % d.sizes.ring = c.wrapped.ensures.value ∙ ap (λ r. (c.args.head + (k.k - 1)) % r) c.ring-ring.ensures.value in
+    let shows = subst (λ s. AtStation (unit_in d new.seen) (length (unit_in d mid.seen).tenants) s (IsEntryOf d.program e)) station c.look-store.ensures.shows in
     let some = c.loop-k-test.true in
     let next : k.k ≡ (k.k - 1) + 1 = omega (arith, some) in
     let bound = k.invariant.bound in
@@ -105,8 +105,8 @@ loop-k-preserved c =
     let l = c.args.load.now in
     let a = subst (λ x. Adds d.program d.sizes x old.seen mid.seen []) c.requires.by k.invariant.history in
     let b = subst (λ x. Adds d.program d.sizes x mid.seen new.seen []) (k.invariant.kept.by ∙ c.requires.by) c.look-store.ensures.history in
-    let shows = subst (λ r. AtStation (unit_in d new.seen) (length (unit_in d mid.seen).tenants) ((c.args.head + (k.k - 1)) % r) (IsEntryOf d.program e)) c.ring-ring.ensures.value
-    c.look-store.ensures.shows in
+    let station : c.wrapped.result ≡ (c.args.head + (k.k - 1)) % d.sizes.ring = c.wrapped.ensures.value ∙ ap (λ r. (c.args.head + (k.k - 1)) % r) c.ring-ring.ensures.value in
+    let shows = subst (λ s. AtStation (unit_in d new.seen) (length (unit_in d mid.seen).tenants) s (IsEntryOf d.program e)) station c.look-store.ensures.shows in
     let some = c.loop-k-test.true in
     let next : k.k ≡ (k.k - 1) + 1 = omega (arith, some) in
     let bound = k.invariant.bound in

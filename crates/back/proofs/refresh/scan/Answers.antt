@@ -1,4 +1,4 @@
-use Rattle.std.proofs.Common.{◌≡◌, ◌+◌, ◌%◌, ◌<◌, ℕ, Some, refl, sym, ◌∙◌, subst, arith}
+use Rattle.std.proofs.Common.{◌≡◌, ◌+◌, ◌%◌, ◌<◌, ℕ, Some, refl, sym, ap, ◌∙◌, subst, arith}
 use Rattle.inorder.specs.History.{back}
 use Rattle.back.specs.Port.{station_behind}
 use Rattle.back.specs.Refreshes.{HasFoundBlocked, HasLoaded, PortWasIdle}
@@ -39,7 +39,8 @@ returns-in-Loaded-clause-reply c =
     let inside : head < d.sizes.ring = let h = c.requires.head in omega (arith, h, ring) in
     let bound : k.at < d.sizes.ring = let less = c.loop-at-test.true in omega (arith, less, ring) in
     let x = subst (λ z. DidLoad d.program d.sizes z cur.seen new.seen (station_behind head d.sizes.ring k.at) c.in-Loaded.tag c.in-Loaded.value) by_cur c.in-Loaded.ensures.reply in
-    subst (λ (z : ℕ × ℕ). HasLoaded d.program d.sizes z.0 old.seen new.seen ((head + k.at) % z.1) c.in-Loaded.tag c.in-Loaded.value) (λ i. (sym c.requires.by i, sym ring i))
+    let station : c.wrapped-station.result ≡ (head + k.at) % d.sizes.ring = c.wrapped-station.ensures.value ∙ ap (λ r. (head + k.at) % r) ring in
+    subst (λ (z : ℕ × ℕ). HasLoaded d.program d.sizes z.0 old.seen new.seen z.1 c.in-Loaded.tag c.in-Loaded.value) (λ i. (sym c.requires.by i, sym station i))
     (loaded_on d.program d.sizes old.seen cur.seen new.seen head c.requires.head_is inside k.at bound k.blocked k.invariant.scanned c.in-Loaded.tag c.in-Loaded.value x)
 
 pub loop-at-preserved : goal.loop-at-preserved
@@ -52,6 +53,7 @@ loop-at-preserved c =
     let head = c.args.head in
     let by_cur = k.invariant.kept.by ∙ c.requires.by in
     let ring = c.requires.ring in
+    let station : c.wrapped-station.result ≡ (head + k.at) % d.sizes.ring = c.wrapped-station.ensures.value ∙ ap (λ r. (head + k.at) % r) ring in
     let kept = same_on old cur new k.invariant.kept c.try_load.ensures.kept in
     let woken : WakesNobody d.program d.sizes cur.by cur.seen new.seen cur.woken new.woken → WakesNobody d.program d.sizes old.by old.seen new.seen old.woken new.woken = λ w.
     nobody_on d.program d.sizes old.by old.seen cur.seen new.seen old.woken cur.woken new.woken k.invariant.woken
@@ -67,7 +69,7 @@ loop-at-preserved c =
       | in-Blocked+then-is_none w ↦ record {
         kept = kept;
         woken = woken (w.in-Blocked.ensures.woken);
-        scanned = subst (λ o. Scanned d.program d.sizes back old.seen new.seen head d.sizes.ring (k.at + 1) o) ((λ i. Some ((head + k.at) % sym ring i, w.in-Blocked.store)) ∙ sym w.blocked-is)
+        scanned = subst (λ o. Scanned d.program d.sizes back old.seen new.seen head d.sizes.ring (k.at + 1) o) ((λ i. Some (sym station i, w.in-Blocked.store)) ∙ sym w.blocked-is)
             (held_first d.program d.sizes old.seen cur.seen new.seen head d.sizes.ring k.at (k.at + 1) refl k.blocked k.invariant.scanned w.in-Blocked.store
             (subst (λ z. HasHeldBack d.program d.sizes z cur.seen new.seen (station_behind head d.sizes.ring k.at) w.in-Blocked.store) by_cur w.in-Blocked.ensures.reply)
             (is_nothing k.blocked w.is_none.result w.is_none.ensures w.if-is_none.true));

@@ -1,4 +1,4 @@
-use Rattle.std.proofs.Common.{◌≡◌, ℕ, List, [], ◌∷◌, Some, None, sym, ap, ◌∙◌, subst, arith}
+use Rattle.std.proofs.Common.{◌≡◌, ◌+◌, ◌%◌, ℕ, List, [], ◌∷◌, Some, None, sym, ap, ◌∙◌, subst, arith}
 use Rattle.instructions.specs.Programs.{instr_at}
 use Rattle.instructions.specs.declared.stop.Stop.TheVariants.{BadPc}
 use Rattle.inorder.specs.declared.history.Event.{Event}
@@ -12,7 +12,7 @@ use Rattle.back.specs.Backs.{TheBack, back_of}
 use Rattle.back.specs.Commits.{CommitAnswers, HasCommitted, HasEndedWith, HasHalved, WasRefused}
 use Rattle.back.specs.Kept.{BackIsKept}
 use Rattle.back.specs.Retirement.{stop_in}
-use Rattle.back.proofs.Calls.{head_fits, kept_as}
+use Rattle.back.proofs.Calls.{head_small, kept_as}
 use Rattle.back.proofs.CommitCalls.{did_commit, did_end, did_half, did_inside, ended_before, not_over, nowhere, refused, retired_kept}
 use Rattle.back.proofs.SeatKept.{kept_by}
 use Rattle.back.proofs.backs.Back.commit.Goals as goal
@@ -102,13 +102,19 @@ returns-in-Over-clause-reply g c =
     let found = (λ i. instr_at (program i) (sym c.pc-pc.ensures i)) ∙ (sym c.fetch.ensures ∙ c.in-Some-fetch.is) in
     absurd (not_over g.J.Naming.program b.committed b.low b.head b.publisher b.seat c.retire.new.seat c.retire.ensures.kept.core c.retire.ensures.kept.by k c.in-Some-fetch.instr found adds)
 
-pub overflow_add-self : goal.overflow_add-self
-overflow_add-self g c =
+pub overflow_add-self-inside : goal.overflow_add-self-inside
+overflow_add-self-inside g c =
     let e = c.ring-ring.ensures.value in
     let core = ap (λ (s : TheBack). s.core) c.self.view_is ∙ c.requires.core in
-    let small = head_fits c.self.inside.head _ _ c.ring-ring.result c.self.invariant.unit.head_is (e ∙ sym (ap (λ (d : TheCore). d.sizes.ring) core)) c.ring-ring.ensures.least c.ring-ring.ensures.most
-    in
-    omega (arith, small)
+    let small = head_small c.self.inside.head _ _ c.ring-ring.result c.self.invariant.unit.head_is (e ∙ sym (ap (λ (d : TheCore). d.sizes.ring) core)) c.ring-ring.ensures.least in
+    let most = c.ring-ring.ensures.most in omega (arith, small, most)
+
+pub wrapped-self-inside-requires : goal.wrapped-self-inside-requires
+wrapped-self-inside-requires g c =
+    let e = c.ring-ring.ensures.value in
+    let core = ap (λ (s : TheBack). s.core) c.self.view_is ∙ c.requires.core in
+    let small = head_small c.self.inside.head _ _ c.ring-ring.result c.self.invariant.unit.head_is (e ∙ sym (ap (λ (d : TheCore). d.sizes.ring) core)) c.ring-ring.ensures.least in
+    let least = c.ring-ring.ensures.least in omega (arith, small, least)
 
 -- what a retirement did
 pub commit_tenant-self-inside-requires-clause-inside : goal.commit_tenant-self-inside-requires-clause-inside
@@ -134,9 +140,10 @@ invariant_of-self-2 g c =
     let did = subst (λ (d : TheCore). IsRetired d.program d.sizes b.seat.by b.seat.seen c.retire.new.seat.seen r.station r.tag r.index r.half r.last) (sym core) r.ensures.reply in
     let kept = retired_kept g.J.Naming.program b.committed b.low b.head b.publisher b.seat c.retire.new.seat c.retire.ensures.kept.core c.retire.ensures.kept.by k c.in-Some-fetch.instr found
     r.station r.tag r.index r.half r.last did in
-    let ring = sym (c.ring-ring.ensures.value ∙ sym (ap (λ (d : TheCore). d.sizes.ring) core)) in
-    kept_as g.J.Naming.program c.retire.new.seat _ _ _ _ b.head b.seat.core.sizes.ring c.ring-ring.result _ _ b.publisher kept (sym c.commit_tenant-self-inside.ensures.state)
-    (sym c.commit_tenant-self-inside.ensures.low) ring (sym c.stop-self-inside.ensures)
+    let ring = c.ring-ring.ensures.value ∙ sym (ap (λ (d : TheCore). d.sizes.ring) core) in
+    let head = c.wrapped-self-inside.ensures.value ∙ ap (λ r. (b.head + 1) % r) ring in
+    kept_as g.J.Naming.program c.retire.new.seat _ _ _ _ _ _ _ _ b.publisher kept (sym c.commit_tenant-self-inside.ensures.state) (sym c.commit_tenant-self-inside.ensures.low) (sym head)
+    (sym c.stop-self-inside.ensures)
 
 pub returns-clause-reply : goal.returns-clause-reply
 returns-clause-reply g c =
