@@ -17,6 +17,7 @@ use crate::fetch::fetch;
 use crate::leaver::guess;
 use crate::pipeline::Pipeline;
 use crate::station::Station;
+use inorder::wrapped;
 use instructions::{Half, Leaver, Predictor};
 
 /// The instruction that can be let, its half, and its pc.
@@ -25,16 +26,6 @@ pub struct Fetched {
     pub instr: Decoded,
     pub half: Half,
     pub pc: u32,
-}
-
-// A number below two rings modulo the ring size, without a division.
-#[inline(always)]
-fn wrapped(n: usize, ring: usize) -> usize
-    requires { n < ring + ring }
-    ensures value { result ≡ n % ring }
-    ensures small { result < ring }
-{
-    if n < ring { n } else { n - ring }
 }
 
 // The half that comes next where nobody is live, by what waits for LO.
