@@ -12,6 +12,7 @@ mod record;
 use crate::fetch::Fetched;
 pub use base_state::Base;
 pub use counted::{Counted, Creators};
+use inorder::wrapped;
 use instructions::{Half, pc_plus_4};
 use record::new_record;
 pub use record::{Record, Records};
@@ -77,7 +78,7 @@ impl Path {
     {
         match self.records.last() {
             None => self.base.station % ring,
-            Some(record) => (record.station % ring + 1) % ring,
+            Some(record) => wrapped(record.station % ring + 1, ring),
         }
     }
 
