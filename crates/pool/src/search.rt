@@ -3,6 +3,7 @@ ghost use Rattle.std.specs.Prelude.{◌≡◌, ◌<◌, ◌≤◌};
 ghost use Rattle.pool.specs.HintsPut.{LooksAt, Searches, candidate_station};
 
 use hints::{Hinter, Hints, Ring};
+use inorder::wrapped;
 use std::sync::Wait;
 
 /// A station at which a unit looks for work.
@@ -63,7 +64,7 @@ impl Search {
             return Candidate::Hinted(station as usize);
         }
         let station = self.next;
-        self.next = (station + 1) % ring;
+        self.next = wrapped(station + 1, ring);
         Candidate::Next(station)
     }
 }
