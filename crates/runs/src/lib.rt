@@ -17,8 +17,12 @@ mod one_thread;
 #[cfg(test)]
 mod scripts;
 #[cfg(test)]
+mod shown;
+#[cfg(test)]
 mod snappers;
 #[cfg(test)]
 mod threads;
 #[cfg(test)]
 mod told;
+#[cfg(test)]
+mod turns;

@@ -15,10 +15,6 @@ mod pipeline;
 mod places;
 mod recovery;
 mod retire;
-#[cfg(test)]
-mod rows;
-#[cfg(test)]
-mod shown;
 mod source;
 mod station;
 mod window;

@@ -1,8 +1,8 @@
 //! What a bench shows of its live tenants.
-use crate::{Bench, Stage, Station, Turn};
 use instructions::{Config, NotTaken, Op};
 use isa::parse;
 use std::test::Fail;
+use unit::{Bench, Stage, Station, Turn};
 
 fn is_open(station: Option<Station>, op: Op) -> bool {
     match station {

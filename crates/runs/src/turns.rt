@@ -1,11 +1,11 @@
 //! Turns of listings, and runs beside the in-order machine.
-use crate::{Bench, Turn};
 use inorder::{Ended, Machine};
 use instructions::{Bimod, Config, Ending, NotTaken, Predictor, Program, Stop};
 use isa::parse;
 use std::alloc::Global;
 use std::process::Abort;
 use std::test::Fail;
+use unit::{Bench, Turn};
 
 fn config(ring: u64, queue: u64) -> Result<Config, Fail> {
     Ok(Config::new(ring, queue, 1, 1, 1, 1_000_000, 1_000_000)?)
