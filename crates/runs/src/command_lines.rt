@@ -1,4 +1,5 @@
 //! Command lines, and the predictors that they ask for.
+mod answers;
 mod mistakes;
 mod options;
 mod predictors;
