@@ -1,28 +1,20 @@
 //! The program `ruu`: its words, its file and its standard streams.
 #![tactic(auto)]
 
-ghost use Rattle.std.specs.Prelude.{◌-◌, ◌^◌, ◌<◌, IfSome};
-ghost use Rattle.devices.specs.Counted.{failures_of};
-
 mod teller;
 mod watching;
 
+use command::{Asked, Request, check, end, go, is_standard_input, requested};
 use devices::Counted;
-use instructions::Program;
-use pool::{Gate, Open};
-use requests::{
-    Asked, Chosen, Request, is_standard_input, of_another_program, refuse, requested, words,
-};
-use std::alloc::Global;
+use pool::Open;
+use requests::{of_another_program, refuse, words};
 use std::fs::File;
-use std::io::{Read, Write};
+use std::io::Read;
 use std::process::ExitCode;
 use std::sync::Wait;
 use std::thread::Threads;
 use teller::Teller;
 use watching::watch;
-use with_threads::go_by;
-use without_threads::{Went, check, end};
 
 fn main(rt: HostRuntime) -> ExitCode {
     let words = match words(&rt) {
@@ -60,24 +52,6 @@ fn run_from<T: Threads + Wait + Sync, R: Read + Drop>(
         go(wait, rt.alloc(), asked, reader, &mut writer, &Open)
     };
     end(rt, went)
-}
-
-// As `command::go`, above which this program is not proved: the run is by the threads of `pool`.
-fn go<T: Threads + Wait + Sync, R: Read + Drop, W: Write, G: Gate + Sync>(
-    wait: &T,
-    alloc: Global,
-    asked: &Asked<'_>,
-    reader: Option<Counted<R>>,
-    writer: &mut Counted<W>,
-    gate: &G,
-) -> Went
-    requires reader_room { IfSome reader (λ r. failures_of r < 2 ^ 64 - 1) }
-    requires writer_room { failures_of writer.old < 2 ^ 64 - 1 }
-{
-    let by_threads = |program: &Program, predictor: Chosen| {
-        pool::run(wait, alloc, program, &asked.config, predictor, gate)
-    };
-    go_by(&by_threads, alloc, asked, reader, writer)
 }
 
 // A file that does not open is named with the system's reason.

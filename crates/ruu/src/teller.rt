@@ -1,11 +1,11 @@
 //! Tells on standard error how far a run is.
+use command::Progress;
 use pool::{Gate, Tally};
 use snapshots::Snap;
 use std::io::IsTerminal;
 use std::sync::atomic::AtomicU64;
 use std::sync::atomic::Ordering::SeqCst;
 use std::time::Instant;
-use without_threads::Progress;
 
 // No tenth of a second was told of yet.
 const NEVER: u64 = u64::MAX;

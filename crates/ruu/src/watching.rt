@@ -1,12 +1,11 @@
 //! A run whose turns are told.
+use command::{Asked, end, go_watched, is_standard_input};
 use devices::Counted;
-use requests::{Asked, is_standard_input};
 use std::fs::{File, Metadata};
 use std::io::{self, Read};
 use std::os::unix::fs::MetadataExt;
 use std::path::Path;
 use std::process::ExitCode;
-use without_threads::{end, go_watched};
 
 // The link behind which the system keeps standard input.
 const STANDARD_INPUT: &str = "/dev/stdin";
