@@ -68,7 +68,7 @@ elsewhere() { # program, its other one, words
   "crates/$program/out/$program" "$@" < /dev/null > "$work/out" 2> "$work/err"
   status=$?
   [ $status -eq 3 ] && [ ! -s "$work/out" ] || fail "$program $1: status $status"
-  grep -q "the program $other has this command" "$work/err" || fail "$program $1: another text"
+  grep -q "the program $other answers these words" "$work/err" || fail "$program $1: another text"
 }
 
 build run ruu

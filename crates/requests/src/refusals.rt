@@ -34,11 +34,11 @@ pub(crate) fn usage(alloc: Global, command: &str, what: &str) -> NoRun
     }
 }
 
-/// Another program has this command.
+/// Another program answers the words of this command.
 pub fn of_another_program(alloc: Global, command: &str, program: &str) -> NoRun
     ensures { IsUsage result }
 {
-    match format!(in alloc; "the program {program} has this command, and ./ruu starts it") {
+    match format!(in alloc; "the program {program} answers these words, and ./ruu starts it") {
         Ok(text) => usage(alloc, command, text.as_str()),
         Err(_) => NoRun::Memory,
     }
