@@ -1,3 +1,2 @@
 pub use Rattle.without_threads.specs.Went
 pub use Rattle.without_threads.specs.Answers
-pub use Rattle.without_threads.specs.Watched

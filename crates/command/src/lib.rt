@@ -7,4 +7,4 @@ pub use requests::{
     Asked, BranchPredictor, NoRun, Request, Watch, asked, is_standard_input, requested, status,
 };
 pub use running::go;
-pub use without_threads::{Line, Progress, Refusal, Went, check, end, go_watched};
+pub use without_threads::{Line, Progress, Refusal, Went, end};

@@ -15,8 +15,11 @@ fn main(rt: HostRuntime) -> ExitCode {
     };
     match requested(rt.alloc(), words.as_slice()) {
         Ok(Request::Drive(hand)) => end(&rt, drive(&rt, &rt, &hand)),
+        Ok(Request::Run(asked)) if asked.watch.is_wanted() => {
+            refuse(&rt, &of_another_program(rt.alloc(), "run", "viewer"))
+        },
         Ok(Request::Run(_)) => refuse(&rt, &of_another_program(rt.alloc(), "run", "ruu")),
-        Ok(Request::Check(_)) => refuse(&rt, &of_another_program(rt.alloc(), "check", "ruu")),
+        Ok(Request::Check(_)) => refuse(&rt, &of_another_program(rt.alloc(), "check", "viewer")),
         Err(no_run) => refuse(&rt, &no_run),
     }
 }

@@ -2,9 +2,8 @@
 #![tactic(auto)]
 
 mod teller;
-mod watching;
 
-use command::{Asked, Request, check, end, go, is_standard_input, requested};
+use command::{Asked, Request, end, go, is_standard_input, requested};
 use devices::Counted;
 use pool::Open;
 use requests::{of_another_program, refuse, words};
@@ -14,7 +13,6 @@ use std::process::ExitCode;
 use std::sync::Wait;
 use std::thread::Threads;
 use teller::Teller;
-use watching::watch;
 
 fn main(rt: HostRuntime) -> ExitCode {
     let words = match words(&rt) {
@@ -22,9 +20,11 @@ fn main(rt: HostRuntime) -> ExitCode {
         Err(no_run) => return refuse(&rt, &no_run),
     };
     match requested(rt.alloc(), words.as_slice()) {
-        Ok(Request::Run(asked)) if asked.watch.is_wanted() => watch(&rt, &asked),
+        Ok(Request::Run(asked)) if asked.watch.is_wanted() => {
+            refuse(&rt, &of_another_program(rt.alloc(), "run", "viewer"))
+        },
         Ok(Request::Run(asked)) => run(&rt, &rt, &asked),
-        Ok(Request::Check(file)) => check_file(&rt, file),
+        Ok(Request::Check(_)) => refuse(&rt, &of_another_program(rt.alloc(), "check", "viewer")),
         Ok(Request::Drive(_)) => refuse(&rt, &of_another_program(rt.alloc(), "drive", "driver")),
         Err(no_run) => refuse(&rt, &no_run),
     }
@@ -52,24 +52,4 @@ fn run_from<T: Threads + Wait + Sync, R: Read + Drop>(
         go(wait, rt.alloc(), asked, reader, &mut writer, &Open)
     };
     end(rt, went)
-}
-
-// A file that does not open is named with the system's reason.
-fn check_file(rt: &HostRuntime, file: &str) -> ExitCode {
-    if is_standard_input(file) {
-        return check_from(rt, rt.stdin());
-    }
-    match File::open(rt, file) {
-        Ok(listing) => check_from(rt, listing),
-        Err(reason) => {
-            let _ = eprintln!(rt; "ruu: {file}: {reason}");
-            ExitCode::from(5)
-        },
-    }
-}
-
-fn check_from<R: Read + Drop>(rt: &HostRuntime, input: R) -> ExitCode {
-    let reader = Counted::new(input);
-    let mut writer = Counted::new(rt.stdout());
-    end(rt, check(rt.alloc(), Some(reader), &mut writer))
 }

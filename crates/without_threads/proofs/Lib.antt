@@ -1,3 +1,1 @@
 pub mod Answered
-mod Pictures
-mod Taken

@@ -6,8 +6,6 @@ use Rattle.devices.specs.declared.input.InputFault.{InputFault}
 use Rattle.devices.specs.declared.input.InputFault.TheVariants as input
 use Rattle.bench.specs.declared.outcome.Status.{Status}
 use Rattle.bench.specs.declared.outcome.Status.TheVariants as end
-use Rattle.charts.specs.declared.watched.Fault.{Fault as ChartFault}
-use Rattle.charts.specs.declared.watched.Fault.TheVariants as chart
 use Rattle.counts.specs.declared.tally.Tally.{Tally as Totals}
 use Rattle.without_threads.specs.declared.went.Went.{Went}
 use Rattle.without_threads.specs.declared.went.Line.{Line}
@@ -34,11 +32,6 @@ refused refusal = record { status = 5; line = Refused refusal }
 abbrev pub input_refusal : InputFault → Refusal
 input_refusal input.Read = Read
 input_refusal input.Memory = Memory
-
--- what is refused where a chart was not told to its end
-abbrev pub chart_refusal : ChartFault → Refusal
-chart_refusal chart.Memory = Memory
-chart_refusal chart.Write = Write
 
 -- a run, or its refusal
 abbrev pub went_of : Result Went Refusal → Went

@@ -1,7 +1,7 @@
 //! Listings that are read and not run: from readers that fail, and to writers that fail.
 use crate::failing::{FailingReader, FailingWriter, LISTING};
 use devices::Counted;
-use without_threads::{Line, Refusal, Went, check};
+use viewing::{Line, Refusal, Went, check};
 
 const GOOD: &[u8] = b".word 1,2\nloop: addiu $1,$1,-1\nend: again: bne $1,$0,loop\nbreak\n";
 

@@ -9,7 +9,7 @@ use std::alloc::Global;
 use std::io::Read;
 use std::process::Abort;
 use std::test::Fail;
-use without_threads::{Line, Refusal, Went, go_watched};
+use viewing::{Line, Refusal, Went, go_watched};
 
 const REPORT: &str = "stop break\ncount 2\npc 0x00400008\nr1 0x00000005\nr2 0x0000000a\n";
 

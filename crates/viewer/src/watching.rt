@@ -1,11 +1,11 @@
 //! A run whose turns are told.
-use command::{Asked, end, go_watched, is_standard_input};
 use devices::Counted;
 use std::fs::{File, Metadata};
 use std::io::{self, Read};
 use std::os::unix::fs::MetadataExt;
 use std::path::Path;
 use std::process::ExitCode;
+use viewing::{Asked, end, go_watched, is_standard_input};
 
 // The link behind which the system keeps standard input.
 const STANDARD_INPUT: &str = "/dev/stdin";

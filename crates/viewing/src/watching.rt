@@ -3,12 +3,11 @@ ghost use Rattle.std.specs.Prelude.{◌≡◌, ◌≢◌, ◌+◌, ◌-◌, ◌^
 ghost use Rattle.isa.specs.Listing.{listing};
 ghost use Rattle.devices.specs.Counted.{failures_of, known_by};
 ghost use Rattle.inorder.specs.Runs.{end_of, end_state};
-ghost use Rattle.without_threads.specs.Watched.{IsBegun, IsWatched, log_failures, outputs, writer_failures};
+ghost use Rattle.viewing.specs.Watched.{IsBegun, IsWatched, log_failures, outputs, writer_failures};
 ghost use Rattle.without_threads.specs.Went.{HoldsOfInput, IsOfOneThread, refused, status_number};
 ghost use Rattle.without_threads.specs.declared.went.Line.TheVariants.{Nothing, Refused};
 
 use crate::drawing::{draw, trace};
-use crate::{Line, Refusal, Went, refused, written};
 use bench::{Bench, MOST_TAKEN, Status};
 use devices::{Counted, read_up_to, write_whole};
 use instructions::{End, Memory, Program};
@@ -16,6 +15,7 @@ use isa::{FaultKind, fault_text, parse, report_text};
 use requests::{Asked, choose};
 use std::alloc::Global;
 use std::io::{Read, Write};
+use without_threads::{Line, Refusal, Went, refused, written};
 
 /// Reads the listing, runs it on the one-thread unit and writes its report; then, as they are asked
 /// for, the chart of that run behind the report, and its log. For a listing with a fault its line is

@@ -5,7 +5,7 @@ use Rattle.isa.specs.declared.listing.fault.FaultKind.{FaultKind}
 use Rattle.instructions.specs.Programs.{Program}
 use Rattle.isa.specs.Report.{fault_line}
 use Rattle.requests.specs.declared.request.Asked.{Asked}
-use Rattle.without_threads.specs.Watched.{IsWatched, Outputs}
+use Rattle.viewing.specs.Watched.{IsWatched, Outputs}
 
 -- the line of a fault
 pub fault_watched : (asked : Asked) (found : Result Program (ℕ × FaultKind)) (line : ℕ) (kind : FaultKind) (bytes : List ℕ)

@@ -15,7 +15,7 @@ use Rattle.requests.specs.declared.chosen.Chosen.{Chosen}
 use Rattle.requests.specs.declared.request.Asked.{Asked}
 use Rattle.without_threads.specs.declared.went.Refusal.{Refusal}
 use Rattle.without_threads.specs.declared.went.Refusal.TheVariants.{Memory, Trace, Write}
-use Rattle.without_threads.specs.Went.{chart_refusal, status_number}
+use Rattle.without_threads.specs.Went.{status_number}
 
 -- what is known of the bytes of the writer and of the log
 pub record Outputs : Type 0 where
@@ -63,6 +63,11 @@ IsTextOf asked (Err f) before after = IsReported asked (Err f) before.text after
 abbrev pub IsWatched : Asked → Result Program (ℕ × FaultKind) → (status : ℕ) → (before after : Outputs) → Type 0
 IsWatched asked found status before after =
     (status ≡ status_number (status_for asked.config.limit found)) × IsTextOf asked found before after
+
+-- what is refused where a chart was not told to its end
+abbrev pub chart_refusal : Fault → Refusal
+chart_refusal fault.Memory = Memory
+chart_refusal fault.Write = Write
 
 -- what is refused where a log was not told to its end
 abbrev pub log_refusal : Fault → Refusal

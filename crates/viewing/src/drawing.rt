@@ -1,18 +1,18 @@
 //! What became of each instruction of a run: its chart and its log.
 ghost use Rattle.std.specs.Prelude.{◌≡◌, ◌≢◌, ◌+◌, ◌-◌, ◌^◌, ◌<◌, IfErr, OnOk, OnErr, is_some};
 ghost use Rattle.devices.specs.Counted.{failures_of, known_by};
-ghost use Rattle.without_threads.specs.Watched.{HasBegun, HasToldWhole, IsRefusalOfFault, IsPicture};
-ghost use Rattle.without_threads.specs.Watched.{log_failures, log_refusal, writer_failures};
-ghost use Rattle.without_threads.specs.Went.{IsOfOneThread, chart_refusal};
+ghost use Rattle.viewing.specs.Watched.{HasBegun, HasToldWhole, IsRefusalOfFault, IsPicture};
+ghost use Rattle.viewing.specs.Watched.{chart_refusal, log_failures, log_refusal, writer_failures};
+ghost use Rattle.without_threads.specs.Went.{IsOfOneThread};
 ghost use Rattle.without_threads.specs.declared.went.Line.TheVariants.{Refused};
 
-use crate::Refusal;
 use charts::{Fault, Format, watch};
 use devices::Counted;
 use instructions::Program;
 use requests::{Asked, choose};
 use std::alloc::Global;
 use std::io::Write;
+use without_threads::Refusal;
 
 /// The chart, where it is wanted.
 pub(crate) fn draw<W: Write>(
@@ -35,10 +35,13 @@ pub(crate) fn draw<W: Write>(
     ensures begun { OnErr result (HasBegun Format.Chart asked.now program.now
         (known_by W.contents writer.old) (known_by W.contents writer.new)) }
 {
-    if asked.watch.chart {
-        picture(alloc, asked, program, Format::Chart, writer)?;
+    if !asked.watch.chart {
+        return Ok(());
     }
-    Ok(())
+    match picture(alloc, asked, program, Format::Chart, writer) {
+        Ok(()) => Ok(()),
+        Err(fault) => Err(chart_refusal(fault)),
+    }
 }
 
 /// The log, where it is wanted.
@@ -95,22 +98,20 @@ fn picture<W: Write>(
     Ok(())
 }
 
+fn chart_refusal(fault: Fault) -> Refusal
+    ensures { result ≡ chart_refusal fault }
+{
+    match fault {
+        Fault::Memory => Refusal::Memory,
+        Fault::Write => Refusal::Write,
+    }
+}
+
 fn log_refusal(fault: Fault) -> Refusal
     ensures { result ≡ log_refusal fault }
 {
     match fault {
         Fault::Memory => Refusal::Memory,
         Fault::Write => Refusal::Trace,
-    }
-}
-
-impl From<Fault> for Refusal {
-    ghost from_gives = { λ e refusal. refusal ≡ chart_refusal e };
-
-    fn from(fault: Fault) -> Refusal {
-        match fault {
-            Fault::Memory => Refusal::Memory,
-            Fault::Write => Refusal::Write,
-        }
     }
 }

@@ -2,18 +2,18 @@
 ghost use Rattle.std.specs.Prelude.{◌≡◌, ◌-◌, ◌^◌, ◌<◌, IfSome, None};
 ghost use Rattle.devices.specs.Counted.{failures_of};
 ghost use Rattle.bench.specs.Answer.{most_taken};
-ghost use Rattle.without_threads.specs.Checked.{IsCheck, IsSomeCheck, told_of_all};
+ghost use Rattle.viewing.specs.Checked.{IsCheck, IsSomeCheck, told_of_all};
 ghost use Rattle.without_threads.specs.Replies.{HasWritten, IfRefused, IsLeftBy};
 ghost use Rattle.without_threads.specs.Went.{IsOfOneThread, refused};
 ghost use Rattle.without_threads.specs.declared.went.Line.TheVariants.{Nothing};
 
-use crate::{Line, Refusal, Went, refused};
 use bench::MOST_TAKEN;
 use checks::told;
 use devices::{Counted, Reply, Unanswered, reply_to};
 use instructions::Memory;
 use std::alloc::Global;
 use std::io::{Read, Write};
+use without_threads::{Line, Refusal, Went, refused};
 
 // What answers a listing with what is told of it.
 #[derive(Drop)]

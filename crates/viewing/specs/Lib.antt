@@ -1,0 +1,4 @@
+pub use Rattle.without_threads.specs.Replies
+pub use Rattle.without_threads.specs.Went
+pub mod Checked
+pub mod Watched
