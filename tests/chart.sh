@@ -1,12 +1,14 @@
 #!/usr/bin/env bash
-# Runs of the one-thread unit whose turns are told, by `--chart` and `--trace`: of each example the report is that of
-# `--alone`, and the chart behind it is drawn anew from the log, which says of each turn who was let, went on and left.
-# Then what goes wrong: devices that fail, files that do not open, a log over the listing, want of memory. And a run of
-# 100,000 instructions is told in the memory of one of 100.
+# Runs of the one-thread unit whose turns are told, by `--chart` and `--trace`, which the program viewer makes: of each
+# example the report is that of `--alone`, and the chart behind it is drawn anew from the log, which says of each turn who
+# was let, went on and left. Then what goes wrong: devices that fail, files that do not open, a log over the listing, want
+# of memory. And a run of 100,000 instructions is told in the memory of one of 100.
 . "$(dirname "$0")/common.bash"
 build_refuse
 build run ruu
+build run viewer
 ruu=crates/ruu/out/ruu
+viewer=crates/viewer/out/viewer
 
 # Draws each tenant of a log, and compares the lines with those of the chart. The log and its pictures are described in
 # crates/charts/specs.
@@ -75,13 +77,13 @@ tell() { # listing, options
   shift
   "$ruu" run "$listing" --alone "$@" > "$work/report" 2> "$work/err"
   status=$?
-  "$ruu" run "$listing" --alone --chart --trace "$work/log" "$@" > "$work/out" 2> "$work/err"
+  "$viewer" run "$listing" --alone --chart --trace "$work/log" "$@" > "$work/out" 2> "$work/err"
   [ $? -eq $status ] && [ ! -s "$work/err" ] || fail "$listing $*: another status, or a line"
   head -c "$(stat -c %s "$work/report")" "$work/out" | cmp -s - "$work/report" || fail "$listing $*: another report"
   tail -c +$(($(stat -c %s "$work/report") + 1)) "$work/out" > "$work/chart"
-  "$ruu" run "$listing" --alone --chart "$@" > "$work/charted" 2> "$work/err"
+  "$viewer" run "$listing" --alone --chart "$@" > "$work/charted" 2> "$work/err"
   [ $? -eq $status ] && cmp -s "$work/charted" "$work/out" || fail "$listing $*: another chart without a log"
-  "$ruu" run "$listing" --alone --trace "$work/again" "$@" > "$work/logged" 2> "$work/err"
+  "$viewer" run "$listing" --alone --trace "$work/again" "$@" > "$work/logged" 2> "$work/err"
   [ $? -eq $status ] && cmp -s "$work/logged" "$work/report" && cmp -s "$work/again" "$work/log" \
     || fail "$listing $*: another log without a chart"
   [ "$(cat "$work/err")" = '' ] || fail "$listing $*: a line on standard error"
@@ -104,7 +106,7 @@ says() { # name, status, standard error
 }
 
 run() { # words
-  "$ruu" run "$@" > "$work/out" 2> "$work/err"
+  "$viewer" run "$@" > "$work/out" 2> "$work/err"
   status=$?
 }
 
@@ -119,7 +121,7 @@ says 'a full log' 5 'ruu: trace'
 cp "$work/out" "$work/beside"
 tell $listing
 cmp -s "$work/beside" "$work/charted" || fail 'a full log cuts the report or the chart'
-"$ruu" run $listing --alone --chart --trace "$work/log" > /dev/full 2> "$work/err"
+"$viewer" run $listing --alone --chart --trace "$work/log" > /dev/full 2> "$work/err"
 status=$?
 says 'a full standard output' 5 'ruu: write'
 [ ! -s "$work/log" ] || fail 'a log without its report'
@@ -146,12 +148,12 @@ run "$work/own.s" --alone --trace "$work/own.s"
 for log in "$work/./own.s" "$work/link.log" "$work/hard.log"; do
   run "$work/own.s" --alone --trace "$log"
   says 'the listing by another name' 3 "ruu: $log: it is the file of the listing"
-  "$ruu" run - --alone --trace "$log" < "$work/own.s" > "$work/out" 2> "$work/err"
+  "$viewer" run - --alone --trace "$log" < "$work/own.s" > "$work/out" 2> "$work/err"
   status=$?
   says 'the listing from standard input' 3 "ruu: $log: it is the file of the listing"
 done
 cmp -s "$work/own.s" $listing || fail 'the listing was overwritten'
-"$ruu" run - --alone --trace "$work/log" < $listing > "$work/out" 2> "$work/err" && cmp -s "$work/log" "$work/again" \
+"$viewer" run - --alone --trace "$work/log" < $listing > "$work/out" 2> "$work/err" && cmp -s "$work/log" "$work/again" \
   || fail 'standard input has another log'
 
 # without `--alone` they are mistakes
@@ -175,7 +177,7 @@ n=0 refused=0
 while :; do
   n=$((n + 1))
   : > "$work/log"
-  run_under /dev/null REFUSED=$n "$ruu" run $listing --bpred nottaken --ruu-size 4 --alone --chart --trace "$work/log"
+  run_under /dev/null REFUSED=$n "$viewer" run $listing --bpred nottaken --ruu-size 4 --alone --chart --trace "$work/log"
   $was_refused || break
   ! $is_held || fail "allocation $n refused: a block was held at the end"
   for of in out log; do
@@ -193,7 +195,7 @@ echo "each of $((n - 1)) allocations was refused in turn, $refused told"
 
 # the least room in which 100 instructions are told has room for 100,000
 within() { # kilobytes, limit
-  (ulimit -v "$1"; exec "$ruu" run tests/listings/limit.s --alone --chart --trace "$work/log" --limit "$2") > /dev/null 2>&1
+  (ulimit -v "$1"; exec "$viewer" run tests/listings/limit.s --alone --chart --trace "$work/log" --limit "$2") > /dev/null 2>&1
   [ $? -eq 4 ]
 }
 low=0 high=1048576

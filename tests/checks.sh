@@ -1,10 +1,13 @@
 #!/usr/bin/env bash
-# Reads the listings of tests/listings/check with `ruu check`, from the file and from standard input: what is written is
-# what stands beside each, with status 0 or 2. Then files that do not open, a writer that takes nothing, and want of memory.
+# Reads the listings of tests/listings/check with `ruu check`, which is the program viewer, from the file and from standard
+# input: what is written is what stands beside each, with status 0 or 2. Then files that do not open, a writer that takes
+# nothing, and want of memory.
 . "$(dirname "$0")/common.bash"
 build_refuse
 build run ruu
+build run viewer
 ruu=crates/ruu/out/ruu
+viewer=crates/viewer/out/viewer
 
 is_told() { # name, what is told, status, standard error
   [ "$status" -eq "$3" ] || fail "$1: status $status, and not $3"
@@ -17,10 +20,10 @@ for listing in tests/listings/check/*.s; do
   told=${listing%.s}.told
   wanted=0
   [[ $(head -c 5 "$told") != fault ]] || wanted=2
-  "$ruu" check "$listing" > "$work/out" 2> "$work/err"
+  "$viewer" check "$listing" > "$work/out" 2> "$work/err"
   status=$?
   is_told "$listing" "$told" $wanted ''
-  "$ruu" check - < "$listing" > "$work/out" 2> "$work/err"
+  "$viewer" check - < "$listing" > "$work/out" 2> "$work/err"
   status=$?
   is_told "$listing as standard input" "$told" $wanted ''
   # the line of the fault is that of a run
@@ -33,13 +36,13 @@ done
 [ $count -gt 10 ] || fail "only $count listings"
 
 : > "$work/none"
-"$ruu" check "$work/nowhere.s" > "$work/out" 2> "$work/err"
+"$viewer" check "$work/nowhere.s" > "$work/out" 2> "$work/err"
 status=$?
 is_told 'a file that is not there' "$work/none" 5 "ruu: $work/nowhere.s: No such file or directory (os error 2)"
-"$ruu" check examples > "$work/out" 2> "$work/err"
+"$viewer" check examples > "$work/out" 2> "$work/err"
 status=$?
 is_told 'a folder' "$work/none" 5 'ruu: read'
-"$ruu" check examples/sum.s > /dev/full 2> "$work/err"
+"$viewer" check examples/sum.s > /dev/full 2> "$work/err"
 status=$?
 : > "$work/out"
 is_told 'a full device' "$work/none" 5 'ruu: write'
@@ -50,7 +53,7 @@ for name in good bad_register; do
   n=0 refused=0
   while :; do
     n=$((n + 1))
-    run_under /dev/null REFUSED=$n "$ruu" check "tests/listings/check/$name.s"
+    run_under /dev/null REFUSED=$n "$viewer" check "tests/listings/check/$name.s"
     $was_refused || break
     if is_refused memory; then
       refused=$((refused + 1))

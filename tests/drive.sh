@@ -61,21 +61,31 @@ drive "$work/script" examples/double.s
 is_told 'lines that end otherwise' "$work/told" 0 ''
 echo 'what goes wrong has its word and its status'
 
-# what another program has is named with that program
-elsewhere() { # program, its other one, words
+# words that another program answers are told with that program
+elsewhere() { # program, the one that answers, words
   local program=$1 other=$2
   shift 2
   "crates/$program/out/$program" "$@" < /dev/null > "$work/out" 2> "$work/err"
   status=$?
-  [ $status -eq 3 ] && [ ! -s "$work/out" ] || fail "$program $1: status $status"
-  grep -q "the program $other answers these words" "$work/err" || fail "$program $1: another text"
+  [ $status -eq 3 ] && [ ! -s "$work/out" ] || fail "$program $*: status $status"
+  grep -qx "error: the program $other answers these words, and ./ruu starts it" "$work/err" || fail "$program $*: another text"
 }
 
 build run ruu
-elsewhere ruu driver drive examples/double.s
-elsewhere driver ruu run examples/double.s
-elsewhere driver ruu check examples/double.s
-echo 'each program names the other for a command that is not its own'
+build run viewer
+for program in ruu viewer; do
+  elsewhere $program driver drive examples/double.s
+done
+for program in viewer driver; do
+  elsewhere $program ruu run examples/double.s
+done
+for program in ruu driver; do
+  elsewhere $program viewer check examples/double.s
+  elsewhere $program viewer run examples/double.s --alone --chart
+  elsewhere $program viewer run examples/double.s --alone --trace="$work/log"
+done
+[ ! -e "$work/log" ] || fail 'a log by another program'
+echo 'each program names the one that answers what it does not'
 
 # each allocation is refused in turn: the refusal is named behind a beginning of the answers, or a snapshot was not
 # shown, or all is told as before

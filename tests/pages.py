@@ -38,9 +38,11 @@ def place(room):
     for it in os.listdir(ROOT):
         if it != "ruu":
             os.symlink(f"{ROOT}/{it}", f"{room}/{it}")
+    with open("ruu", encoding="utf-8") as it:
+        chooses, _, proves = it.read().partition("\nis_built() {\n")
+    here = re.sub(r"^here=.*$", f"here='{ROOT}'", chooses, flags=re.M)
     with open(f"{room}/ruu", "w", encoding="utf-8") as script:
-        script.write('#!/bin/sh\nname=ruu\n[ "$1" != drive ] || name=driver\n'
-                     f'exec "{ROOT}/crates/$name/out/$name" "$@"\n')
+        script.write(f"{here}\n{proves.splitlines()[-1]}\n")
     os.chmod(f"{room}/ruu", 0o755)
 
 

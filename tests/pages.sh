@@ -3,5 +3,6 @@
 # program disagree. Commands that prove or build are not run, but have to be there; so has each file that a page names.
 . "$(dirname "$0")/common.bash"
 build run ruu
+build run viewer
 build run driver
 python3 tests/pages.py || fail 'the pages disagree with the programs'
