@@ -9,7 +9,5 @@ mod lines;
 mod parts;
 mod registers;
 mod summary;
-#[cfg(test)]
-mod tests;
 
 pub use checking::told;

@@ -13,6 +13,3 @@ mod writing;
 pub use conversion::listing_of;
 pub use foreign::Foreign;
 pub use refusal::Refusal;
-
-#[cfg(test)]
-mod tests;

@@ -11,6 +11,3 @@ pub use seats::{CountSeat, WorkerSeat};
 pub use shares::{Share, Shares};
 pub use tally::{Tally, Total};
 pub use totals::Counts;
-
-#[cfg(test)]
-mod tests;

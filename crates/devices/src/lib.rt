@@ -10,6 +10,3 @@ pub use counted::Counted;
 pub use input::{InputFault, read_up_to};
 pub use output::{WriteFailed, write_whole};
 pub use reply::{Reply, Unanswered, reply_to};
-
-#[cfg(test)]
-mod tests;

@@ -13,6 +13,3 @@ mod symbol;
 pub use image::{Image, read_image};
 pub use refusal::Refusal;
 pub use symbol::{Function, name_at, read_functions};
-
-#[cfg(test)]
-mod tests;

@@ -7,6 +7,3 @@ mod queue;
 
 pub use hands::{Hand, Hinter, Ring};
 pub use queue::Hints;
-
-#[cfg(test)]
-mod tests;

@@ -26,6 +26,3 @@ pub use program::Program;
 pub use reg::Reg;
 pub use semantics::{loaded, outcome, outcome_of, pc_plus_4};
 pub use stop::{Outcome, Stop};
-
-#[cfg(test)]
-mod tests;

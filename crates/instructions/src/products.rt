@@ -81,6 +81,3 @@ pub fn signed_divided(half: Half, a: i32, b: i32) -> u32
         Half::High => signed_remainder(a, b),
     }
 }
-
-#[cfg(test)]
-mod tests;

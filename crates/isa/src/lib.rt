@@ -14,6 +14,3 @@ pub use listing::{
     the_first_fault_is_named,
 };
 pub use report::{Hexadecimal, RegisterName, fault_text, report_text};
-
-#[cfg(test)]
-mod tests;

@@ -191,6 +191,3 @@ pub fn parse(alloc: Global, bytes: &[u8]) -> Result<Program, TextFault>
     resolve_all(&labels, code.as_mut_slice(), targets.as_slice())?;
     Ok(Program::new(code, memory))
 }
-
-#[cfg(test)]
-mod tests;

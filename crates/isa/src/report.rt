@@ -106,6 +106,3 @@ pub fn fault_text(alloc: Global, fault: &TextFault) -> Result<String, AllocError
     let name = fault.kind.name();
     format!(in alloc; "fault line {line} {name}\n")
 }
-
-#[cfg(test)]
-mod tests;

@@ -11,6 +11,3 @@ pub use answer::{Answer, lacks_address, overlaps, taken_from};
 pub use entry::{Entry, Width};
 pub use law::loads_read_the_last_stores;
 pub use queue::{Full, MOST_ENTRIES, Queue};
-
-#[cfg(test)]
-mod tests;

@@ -12,6 +12,3 @@ pub use decoding::{Decoded, decode};
 pub use encoding::encode;
 pub use laws::{each_operation_has_a_word, each_word_is_written, one_word_for_each_instruction};
 pub use layout::{Layout, Shape, layout_of};
-
-#[cfg(test)]
-mod tests;

@@ -16,6 +16,3 @@ pub use link::LinkWord;
 pub use operand::{OperandState, OperandWord};
 pub use place::{Place, word_count};
 pub use station::{StationState, StationWord};
-
-#[cfg(test)]
-mod tests;

@@ -16,6 +16,3 @@ pub use line::{before_comment, next_code, next_line};
 pub use name::{is_name, is_plain_text};
 pub use number::{begins_number, decimal_in, first_is, number_in};
 pub use operand::{count_operands, next_operand, only_operand, operand_part, parenthesized};
-
-#[cfg(test)]
-mod tests;

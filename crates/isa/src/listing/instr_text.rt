@@ -193,6 +193,3 @@ impl fmt::Display for InstrText {
 pub fn text_is_read_back()
     ensures { TextIsReadBack }
 {}
-
-#[cfg(test)]
-mod tests;

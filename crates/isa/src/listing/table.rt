@@ -233,6 +233,3 @@ impl<'a> Labels<'a> {
         }
     }
 }
-
-#[cfg(test)]
-mod tests;

@@ -1,6 +1,5 @@
 //! Devices that fail in the middle, and what a reader keeps.
-
-use super::*;
+use devices::{Counted, InputFault, Reply, WriteFailed, read_up_to, reply_to, write_whole};
 use std::alloc::Global;
 use std::io::{self, ErrorKind, Read, Write};
 use std::test::Fail;
@@ -163,94 +162,4 @@ fn a_writer_with_room_gets_the_whole_text(rt: HostRuntime) {
     assert!(rt; matches!(writer.write(b""), Ok(0)));
     assert_eq!(rt; writer.failures(), 0);
     assert_eq!(rt; writer.into_inner().taken.as_slice(), text);
-}
-
-/// Counts its calls, and fails each second one of a kind.
-#[derive(Drop)]
-struct Noting {
-    reads: u64,
-    writes: u64,
-    flushes: u64,
-}
-
-// How a call goes after so many others.
-fn turn(before: u64) -> io::Result<()> {
-    if before % 2 == 1 {
-        return Err(io::Error::from(ErrorKind::TimedOut));
-    }
-    Ok(())
-}
-
-impl Read for Noting {
-    fn read(&mut self, buf: &mut [u8]) -> io::Result<usize> {
-        let before = self.reads;
-        self.reads = before.wrapping_add(1);
-        turn(before)?;
-        if buf.is_empty() {
-            return Ok(0);
-        }
-        buf[0] = b'a';
-        Ok(1)
-    }
-}
-
-impl Write for Noting {
-    fn write(&mut self, buf: &[u8]) -> io::Result<usize> {
-        let before = self.writes;
-        self.writes = before.wrapping_add(1);
-        turn(before)?;
-        Ok(buf.len())
-    }
-
-    fn flush(&mut self) -> io::Result<()> {
-        let before = self.flushes;
-        self.flushes = before.wrapping_add(1);
-        turn(before)
-    }
-}
-
-fn counted_device() -> Counted<Noting> {
-    Counted::new(Noting {
-        reads: 0,
-        writes: 0,
-        flushes: 0,
-    })
-}
-
-#[test]
-fn each_read_is_passed_on_once(rt: HostRuntime) {
-    let mut reader = counted_device();
-    let mut buf = [0u8; 2];
-    for calls in 1..=6 {
-        let given = reader.read(&mut buf);
-        match given {
-            Ok(n) => assert!(rt; calls % 2 == 1 && n == 1 && buf[0] == b'a'),
-            Err(error) => assert!(rt; calls % 2 == 0 && error.kind() == ErrorKind::TimedOut),
-        }
-        assert_eq!(rt; reader.failures(), calls / 2);
-    }
-    let inner = reader.into_inner();
-    assert_eq!(rt; inner.reads, 6);
-    assert_eq!(rt; inner.writes, 0);
-    assert_eq!(rt; inner.flushes, 0);
-}
-
-#[test]
-fn each_write_and_flush_is_passed_on_once(rt: HostRuntime) {
-    let mut writer = counted_device();
-    for calls in 1..=6 {
-        match writer.write(b"limit") {
-            Ok(n) => assert!(rt; calls % 2 == 1 && n == 5),
-            Err(error) => assert!(rt; calls % 2 == 0 && error.kind() == ErrorKind::TimedOut),
-        }
-        match writer.flush() {
-            Ok(()) => assert!(rt; calls % 2 == 1),
-            Err(error) => assert!(rt; calls % 2 == 0 && error.kind() == ErrorKind::TimedOut),
-        }
-        assert_eq!(rt; writer.failures(), calls / 2 * 2);
-    }
-    let inner = writer.into_inner();
-    assert_eq!(rt; inner.writes, 6);
-    assert_eq!(rt; inner.flushes, 6);
-    assert_eq!(rt; inner.reads, 0);
 }

@@ -1,5 +1,5 @@
 //! Small texts with their listings, and words that are refused.
-use crate::*;
+use conversion::{Foreign, Refusal, listing_of};
 use executables::Refusal as FileRefusal;
 use std::test::Fail;
 

@@ -1,6 +1,6 @@
 //! Instructions as text, with what is wanted written out.
-use crate::*;
 use instructions::{Instr, Op, Program, Reg};
+use isa::{InstrText, Naming, parse, text_is_read_back};
 use std::alloc::Global;
 use std::test::Fail;
 

@@ -1,7 +1,6 @@
-//! Each call once, on texts whose parts are written out.
-
-use super::*;
+//! The lexical layer: each call once, on texts whose parts are written out.
 use std::test::Fail;
+use text::*;
 
 #[test]
 fn cuts_lines_and_labels(rt: HostRuntime) -> Result<(), Fail> {

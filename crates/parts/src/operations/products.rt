@@ -1,5 +1,6 @@
 //! Border values of products and quotients, and the registers of the operations that make them.
-use crate::*;
+use crate::making::instr;
+use instructions::{Half, Kind, Op, Outcome, Reg, outcome, outcome_of};
 
 const MINUS_1: u32 = 0xffff_ffff;
 
@@ -10,16 +11,6 @@ const LEAST: u32 = 0x8000_0000;
 const MOST: u32 = 0x7fff_ffff;
 
 const PC: u32 = 0x0040_0000;
-
-fn instr(op: Op) -> Instr {
-    Instr {
-        op,
-        target: Reg::ZERO,
-        first: Reg::LINK,
-        second: Reg::ZERO,
-        number: 0,
-    }
-}
 
 #[test]
 fn products_and_quotients(rt: HostRuntime) {
@@ -46,11 +37,11 @@ fn products_and_quotients(rt: HostRuntime) {
         (Op::Divu, 12, 4, 3, 0),
     ];
     for (op, a, b, low, high) in cases {
-        let whole = outcome(&instr(op), PC, a, b, 0);
+        let whole = outcome(&instr(op, 0, 31, 0, 0), PC, a, b, 0);
         assert_eq!(rt; whole, Outcome::Pair(low, high), "{a:x} {b:x}");
-        let first = outcome_of(&instr(op), Half::Low, PC, a, b, 0);
+        let first = outcome_of(&instr(op, 0, 31, 0, 0), Half::Low, PC, a, b, 0);
         assert_eq!(rt; first, Outcome::Value(low));
-        let second = outcome_of(&instr(op), Half::High, PC, a, b, 0);
+        let second = outcome_of(&instr(op, 0, 31, 0, 0), Half::High, PC, a, b, 0);
         assert_eq!(rt; second, Outcome::Value(high));
     }
 }
@@ -59,14 +50,17 @@ fn products_and_quotients(rt: HostRuntime) {
 fn moves_pass_their_source_on(rt: HostRuntime) {
     for op in [Op::Mflo, Op::Mfhi, Op::Mtlo, Op::Mthi] {
         assert!(rt; !op.is_pair());
-        assert_eq!(rt; outcome(&instr(op), PC, LEAST, 5, 0), Outcome::Value(LEAST));
+        assert_eq!(rt;
+            outcome(&instr(op, 0, 31, 0, 0), PC, LEAST, 5, 0),
+            Outcome::Value(LEAST)
+        );
     }
 }
 
 #[test]
 fn halves_write_lo_and_hi(rt: HostRuntime) {
     for op in [Op::Mult, Op::Multu, Op::Div, Op::Divu] {
-        let pair = instr(op);
+        let pair = instr(op, 0, 31, 0, 0);
         assert!(rt; op.is_pair());
         assert_eq!(rt; op.kind(), Kind::Computes);
         assert_eq!(rt; pair.source(1), Some(Reg::LINK));

@@ -4,7 +4,7 @@ use Rattle.counts.specs.declared.shares.Shares.{Shares}
 use Rattle.counts.specs.declared.tally.Total.TheVariants.{Lets}
 use Rattle.counts.specs.Seats.{Counter}
 use Rattle.counts.specs.Shares.{all_parts, first_half, joined_of, plus, second_half, share_of}
-use Rattle.counts.proofs.tests.in_four.Goals as goal
+use Rattle.parts.proofs.totals.in_four.Goals as goal
 
 abbrev quarter : Share
 quarter = record { added = 0; parts = 1; halvings = 2 }

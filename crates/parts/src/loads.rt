@@ -1,7 +1,7 @@
 //! Rows of the queue and of its rule for loads.
-use crate::Answer::{Blocked, Forward, Memory};
-use crate::Width::{Byte, Half, Word};
-use crate::{Answer, Entry, Full, Queue, Width, loads_read_the_last_stores};
+use lsq::Answer::{Blocked, Forward, Memory};
+use lsq::Width::{Byte, Half, Word};
+use lsq::{Answer, Entry, Full, Queue, Width, loads_read_the_last_stores};
 use std::process::Abort;
 use std::test::Fail;
 

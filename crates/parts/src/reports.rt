@@ -1,6 +1,6 @@
 //! Reports, word by word.
-use crate::*;
 use instructions::{End, Ending, Stop};
+use isa::{FaultKind, TextFault, fault_text, report_text};
 use std::alloc::Global;
 use std::test::Fail;
 

@@ -1,7 +1,7 @@
 //! Hints on one thread, and want of memory.
 ghost use Rattle.std.specs.Prelude.{◌≡◌, IfOk};
 
-use crate::{Hints, Ring};
+use hints::{Hints, Ring};
 use std::alloc::{AllocError, Global};
 use std::marker::Brand;
 use std::sync::Wait;

@@ -1,5 +1,5 @@
 //! A small file, files like it with a fault, and cut ones.
-use crate::*;
+use executables::{Function, Refusal, name_at, read_functions, read_image};
 use std::test::Fail;
 
 // `addiu $2,$0,5` and `break`, and the word 42 at address 16, with 8 bytes more

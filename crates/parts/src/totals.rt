@@ -4,7 +4,7 @@ ghost use denote.Param.Send.{IsSync};
 ghost use Rattle.counts.specs.Shares.{all_parts, joined_of, plus, share_of};
 ghost use Rattle.counts.specs.declared.tally.Total.TheVariants.{Lets};
 
-use crate::{CountSeat, Counts, Tally, Total};
+use counts::{CountSeat, Counts, Tally, Total};
 use std::process::Abort;
 use std::test::*;
 use std::thread::{Threads, join};

@@ -1,5 +1,5 @@
 //! Listings that are read and not run.
-use crate::told;
+use checks::told;
 use std::test::Fail;
 
 const GOOD: &[u8] = b".word 1,2\nloop: addiu $1,$1,-1\nend: again: bne $1,$0,loop\nbreak\n";

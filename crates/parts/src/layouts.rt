@@ -1,9 +1,9 @@
 //! The words of the table of layouts.
-use crate::{
-    InfoWord, LinkWord, OperandState, OperandWord, Place, StationState, StationWord, word_count,
-};
 use inorder::history::Source;
 use instructions::Half;
+use ruu_words::{
+    InfoWord, LinkWord, OperandState, OperandWord, Place, StationState, StationWord, word_count,
+};
 
 #[test]
 fn words_are_those_of_the_layout(rt: HostRuntime) {

@@ -1,10 +1,10 @@
 //! Words of an assembler, and the instructions that they say.
-use crate::*;
-use instructions::{Op, Reg};
-
-fn reg(number: u8) -> Reg {
-    Reg::new(number).unwrap_or(Reg::ZERO)
-}
+use crate::making::reg;
+use instructions::Op;
+use machine_words::{
+    Decoded, decode, each_operation_has_a_word, each_word_is_written, encode,
+    one_word_for_each_instruction,
+};
 
 // the registers that it writes and reads, and its number
 fn decoded(op: Op, target: u8, first: u8, second: u8, number: u32) -> Decoded {
