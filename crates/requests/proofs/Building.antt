@@ -1,11 +1,11 @@
 -- What the building of the command line comes to.
-use Rattle.std.proofs.Common.{◌≡◌, ◌∙◌, ap, ap₂, true, ◌||◌, refl}
+use Rattle.std.proofs.Common.{◌≡◌, ◌∙◌, ap, ap₂, true, ◌||◌, refl, Result, Ok, Err, IfOk}
 use Rattle.clap.specs.Words.{AddsArg, AddsSubcommand, App, Rule, app_of, is_simple, with_rule, with_subcommand}
 use Rattle.clap.specs.Faults.{is_simple_and_free}
 use Rattle.clap.proofs.OnLiterals.{clap_on_literals}
 use Rattle.clap.specs.declared.builder.arg.Arg.{Arg}
 use Rattle.clap.specs.declared.builder.command.Command.{Command}
-use Rattle.requests.specs.Tool.{Becomes, IsArg, IsCommand, tool}
+use Rattle.requests.specs.Tool.{Becomes, HasBelow, IsArg, IsCommand, tool}
 
 pub extended : {app : App} {rule : Rule} {old new : Command} {arg : Arg}
     → IsCommand app old → IsArg rule arg → AddsArg old arg new → IsCommand (with_rule app rule) new
@@ -24,9 +24,10 @@ pub then : {one other : App → App} {old middle new : Command} → Becomes one 
 then first second = record { changes = λ app old. second.changes _ (first.changes app old) }
 
 -- a command with one more below it
-pub joined : {app below : App} {old one new : Command} → app_of old ≡ app → IsCommand below one → AddsSubcommand old one new
-    → app_of new ≡ with_subcommand app below.top
-joined old one adds = adds.shape one.local ∙ ap₂ with_subcommand old (ap (λ (a : App). a.top) one.is)
+pub joined : {E : Type 0} {app below : App} {old new : Command} (one : Result Command E) → app_of old ≡ app
+    → IfOk one (IsCommand below) → HasBelow old one new → app_of new ≡ with_subcommand app below.top
+joined (Ok one) old is adds = adds.shape is.local ∙ ap₂ with_subcommand old (ap (λ (a : App). a.top) is.is)
+joined (Err _) old is adds = elim adds []
 
 pub tool-is_simple : is_simple tool ≡ true
 unfolding clap_on_literals

@@ -1,6 +1,6 @@
 -- The command line, as clap reads it.
-use Rattle.std.specs.Prelude.{◌≡◌, Some, codes, true, false}
-use Rattle.clap.specs.Words.{App, Rule, Text, app_of, new_app, new_rule, rule_of}
+use Rattle.std.specs.Prelude.{◌≡◌, Result, Ok, Err, Some, codes, true, false, ⊥}
+use Rattle.clap.specs.Words.{AddsSubcommand, App, Rule, Text, app_of, new_app, new_rule, rule_of}
 use Rattle.clap.specs.Words.{with_rule, with_subcommand}
 use Rattle.clap.specs.Simple.{on_top}
 use Rattle.clap.specs.declared.builder.arg.Arg.{Arg}
@@ -69,3 +69,8 @@ pub record IsCommand (app : App) (command : Command) : Type 0 where
 -- whatever the old command stands for, the new one stands for that with this change
 pub record Becomes (change : App → App) (old new : Command) : Type 0 where
   pub changes : (app : App) → IsCommand app old → IsCommand (change app) new
+
+-- the new command is the old one with this one below it
+abbrev pub HasBelow : {E : Type 0} → Command → Result Command E → Command → Type 0
+HasBelow old (Ok one) new = AddsSubcommand old one new
+HasBelow old (Err _) new = ⊥

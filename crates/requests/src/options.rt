@@ -1,7 +1,7 @@
 //! The command line, as `clap` reads it and as its help shows it.
 ghost use Rattle.std.specs.Prelude.{◌≡◌, IfOk, codes};
 ghost use Rattle.clap.specs.Words.{app_of, new_app, with_rule};
-ghost use Rattle.requests.specs.Tool.{Becomes, IsArg, IsCommand, tool, run, check, drive};
+ghost use Rattle.requests.specs.Tool.{Becomes, HasBelow, IsArg, IsCommand, tool, run, check, drive};
 ghost use Rattle.requests.specs.Tool.{sized, bounded, viewed, with_version};
 ghost use Rattle.requests.specs.Tool.{file_rule, option_rule, flag_rule};
 
@@ -12,12 +12,19 @@ use std::alloc::{AllocError, Global};
 pub(crate) fn command<'a>(alloc: Global) -> Result<Command<'a>, AllocError>
     ensures { IfOk result (λ c. app_of c ≡ tool) }
 {
-    let run = run(alloc)?;
-    let running = top(alloc).subcommand(run)?;
-    let check = check(alloc)?;
-    let checking = running.subcommand(check)?;
-    let by_hand = by_hand(alloc)?;
-    checking.subcommand(by_hand)
+    let running = with_below(top(alloc), run(alloc))?;
+    let checking = with_below(running, check(alloc))?;
+    with_below(checking, by_hand(alloc))
+}
+
+// A command with one more below it.
+fn with_below<'a>(
+    command: Command<'a>,
+    below: Result<Command<'a>, AllocError>,
+) -> Result<Command<'a>, AllocError>
+    ensures { IfOk result (HasBelow command.entry below.entry) }
+{
+    command.subcommand(below?)
 }
 
 fn top<'a>(alloc: Global) -> Command<'a>

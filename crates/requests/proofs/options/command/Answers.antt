@@ -4,6 +4,6 @@ use Rattle.requests.proofs.options.command.Goals as goal
 
 pub returns : goal.returns
 returns c =
-    let running = joined c.top.ensures c.in_ok-run.ensures c.in_ok-running.ensures in
-    let checking = joined running c.in_ok-check.ensures c.in_ok-checking.ensures in
-    IfOk-weaker c.subcommand-3.result _ _ (λ _ adds. joined checking c.in_ok-by_hand.ensures adds) c.subcommand-3.ensures
+    let running = joined c.run.result c.top.ensures c.run.ensures c.in_ok-running.ensures in
+    let checking = joined c.check.result running c.check.ensures c.in_ok-checking.ensures in
+    IfOk-weaker c.with_below.result _ _ (joined c.by_hand.result checking c.by_hand.ensures) c.with_below.ensures
