@@ -27,7 +27,7 @@ then first second = record { changes = λ app old. second.changes _ (first.chang
 pub joined : {E : Type 0} {app below : App} {old new : Command} (one : Result Command E) → app_of old ≡ app
     → IfOk one (IsCommand below) → HasBelow old one new → app_of new ≡ with_subcommand app below.top
 joined (Ok one) old is adds = adds.shape is.local ∙ ap₂ with_subcommand old (ap (λ (a : App). a.top) is.is)
-joined (Err _) old is adds = elim adds []
+joined (Err _) old is adds = elim adds [ ]
 
 pub tool-is_simple : is_simple tool ≡ true
 unfolding clap_on_literals
