@@ -3,8 +3,9 @@
 
 Runs the command, looks each half second at the processes of the checker, and prints behind it a table of the seconds of one
 processor (user and system) of each crate: of its proof, of its tests, and of the edits that have to be refused. With --to the
-table goes to a file. What a process does behind the last look at it is counted in the last line alone, which is exact. Only
-what is proved anew costs anything: `rt ci --anew` proves all. The status is that of the command."""
+table goes to a file, where it is written anew each minute. What a process does behind the last look at it is counted in the
+last line alone, which is exact. Only what is proved anew costs anything: `rt ci --anew` proves all. The status is that of the
+command."""
 import collections
 import os
 import resource
@@ -66,22 +67,29 @@ def table(found, whole, took):
     return "\n".join(lines)
 
 
-def main(words):
-    to = None
-    if words[:1] == ["--to"]:
-        to, words = words[1], words[2:]
-    found, began = {}, time.monotonic()
-    run = subprocess.Popen(words)
-    while run.poll() is None:
-        look(found, run.pid)
-        time.sleep(0.5)
+def write(to, found, began):
     used = resource.getrusage(resource.RUSAGE_CHILDREN)
     text = table(found, used.ru_utime + used.ru_stime, time.monotonic() - began)
     if to is None:
         print(text)
-    else:
-        with open(to, "w", encoding="utf-8") as it:
-            it.write(text + "\n")
+        return
+    with open(to, "w", encoding="utf-8") as it:
+        it.write(text + "\n")
+
+
+def main(words):
+    to = None
+    if words[:1] == ["--to"]:
+        to, words = words[1], words[2:]
+    found, began, minutes = {}, time.monotonic(), 0
+    run = subprocess.Popen(words)
+    while run.poll() is None:
+        look(found, run.pid)
+        time.sleep(0.5)
+        if to is not None and time.monotonic() - began > 60 * (minutes + 1):
+            minutes += 1
+            write(to, found, began)
+    write(to, found, began)
     return run.returncode if run.returncode >= 0 else 128 - run.returncode
 
 
