@@ -7,18 +7,24 @@ use Rattle.instructions.specs.Programs.{Program}
 use Rattle.pool.specs.Runs.{IsLimit, LeavesTurns, TellsRenewals}
 use Rattle.pool.specs.Terms.{MayBegin}
 use Rattle.pool.specs.declared.answer.RunInTurns.{RunInTurns}
+use Rattle.pool.specs.declared.floor.Floor.{Floor}
 use Rattle.pool.specs.declared.making.Made.{Made}
 use Rattle.pool.specs.declared.making.Parts.{Parts}
 use Rattle.run_ends.specs.Runs.{IsWithinLimit, RunIsRight}
 
--- All parts are at the core, the hints are made for its ring, and the back is at the start of the program
-pub record AreParts {J K : Type 0} (parts : Parts J K) : Type 0 where
+-- All parts are at the core, which has this ring, and the back is at the start of the program
+pub record AreParts {J : Type 0} (ring : ℕ) (parts : Parts J) : Type 0 where
   pub front : IsUnused parts.core parts.front
   pub unit_is : parts.unit.core ≡ parts.core
-  pub ring_is : parts.hints.ring ≡ parts.core.sizes.ring
+  pub ring_is : parts.core.sizes.ring ≡ ring
   pub back_is : parts.back.core ≡ parts.core
   pub start : (back_state parts.back).count ≡ 0
   pub going : parts.back.ended ≡ None
+
+-- The floor stands on these totals, with hints for this ring
+pub record IsFloor {K : Type 0} (ring : ℕ) (counts : TableId) (floor : Floor K) : Type 0 where
+  pub counts_are : floor.counts ≡ counts
+  pub ring_is : floor.hints.ring ≡ ring
 
 -- The floor stands on these totals, and the first term may begin
 pub record RunIsMade {J K S : Type 0} (counts : TableId) (made : Made J K S) : Type 0 where

@@ -130,6 +130,34 @@ fn leave<P: Predictor + Drop>(core: &Core, front: Front<P>, turns: u32) -> Left<
     Left { seat, still, turns }
 }
 
+// The turns of a term. Where the tags of a station are spent and nobody is live they end, and so many are left.
+fn take_turns<K: Bounds + Ring, P: Predictor + Drop, G, R: Wait>(
+    crew: &Crew<'_, K, G, R>,
+    front: &mut Front<P>,
+    count: &mut Gathered,
+    turns: u32,
+) -> Option<u32>
+    requires core { front.old.core ≡ crew.now.core.now }
+    requires count { count.old.seat.of ≡ crew.now.floor.now.counts }
+    ensures core { front.new.core ≡ crew.now.core.now }
+    ensures count { count.new.seat.of ≡ crew.now.floor.now.counts }
+    ensures rested { IfSome result (λ _. front.new.rested ≡ true) }
+{
+    let mut hinter = crew.floor.hints.hinter();
+    let mut rest = Rest::after(PATIENCE);
+    for taken in 0..turns {
+        match step(crew, front, count, &mut hinter) {
+            Stepped::Worked => rest.begin_again(),
+            Stepped::Idle => rest.rest(),
+            Stepped::Rested => return Some(turns - 1 - taken),
+        }
+        if crew.floor.is_closed() {
+            break;
+        }
+    }
+    None
+}
+
 /// Lets instructions out, and recovers from misses. Where the tags of a station are spent and nobody is live, the
 /// term is over, and the front leaves.
 pub(crate) fn dispatch<K: Bounds + Ring, P: Predictor + Drop, G, R: Wait>(
@@ -140,7 +168,6 @@ pub(crate) fn dispatch<K: Bounds + Ring, P: Predictor + Drop, G, R: Wait>(
     requires count { dispatcher.count.of ≡ crew.now.floor.now.counts }
     ensures { IfSome result (λ left. GivesBack crew.now.core.now left.seat left.still) }
 {
-    let floor = crew.floor;
     let Dispatcher {
         seat,
         begin,
@@ -149,22 +176,9 @@ pub(crate) fn dispatch<K: Bounds + Ring, P: Predictor + Drop, G, R: Wait>(
     } = dispatcher;
     let mut front = enter(crew.core, seat, begin);
     let mut count = Gathered::new(count);
-    let mut hinter = floor.hints.hinter();
-    let mut rest = Rest::after(PATIENCE);
-    for taken in 0..left {
-        match step(crew, &mut front, &mut count, &mut hinter) {
-            Stepped::Worked => rest.begin_again(),
-            Stepped::Idle => rest.rest(),
-            Stepped::Rested => {
-                count.add(&floor.counts);
-                floor.rest();
-                return Some(leave(crew.core, front, left - 1 - taken));
-            }
-        }
-        if floor.is_closed() {
-            break;
-        }
-    }
-    count.add(&floor.counts);
-    None
+    let turns = take_turns(crew, &mut front, &mut count, left);
+    count.add(&crew.floor.counts);
+    let turns = turns?;
+    crew.floor.rest();
+    Some(leave(crew.core, front, turns))
 }

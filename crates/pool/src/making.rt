@@ -2,7 +2,7 @@
 ghost use Rattle.std.specs.Prelude.{◌≡◌, IfOk};
 ghost use Rattle.back.specs.Backs.{HasRetiredNothing, IsNewBack};
 ghost use Rattle.counts.specs.Shares.{all_parts};
-ghost use Rattle.pool.specs.Making.{AreParts, RunIsMade};
+ghost use Rattle.pool.specs.Making.{AreParts, IsFloor, RunIsMade};
 
 use crate::bounds::Bounds;
 use crate::commit::Committer;
@@ -15,14 +15,12 @@ use hints::{Hints, Ring};
 use instructions::{Config, Memory, Predictor, Program};
 use station::{BackSeat, Core, FrontSeat, UnitSeat};
 use std::alloc::Global;
-use std::sync::Wait;
 
-/// A core with its seats, hints for its ring, and the back with its first snapper.
-pub(crate) struct Parts<J: Naming, K: Ring> {
+/// A core with its seats, and the back with its first snapper.
+pub(crate) struct Parts<J: Naming> {
     pub core: Core,
     pub front: FrontSeat,
     pub unit: UnitSeat,
-    pub hints: Hints<K>,
     pub back: Back<J>,
     pub snapper: Snapper<J>,
 }
@@ -61,31 +59,44 @@ fn back_at<J: Naming>(
     Back::new(alloc, core, seat, program, config).map_err(|refused| refused.0)
 }
 
-// What needs no totals.
-fn make_parts<J: Naming, K: Ring>(
+// What stands at the core.
+fn make_parts<J: Naming>(
     alloc: Global,
     program: &Program,
     config: &Config,
-) -> Result<Parts<J, K>, Memory>
+) -> Result<Parts<J>, Memory>
     requires program { program.now ≡ J.program }
-    requires ring { config.now.ring ≡ K.ring }
-    ensures { IfOk result AreParts }
+    ensures { IfOk result (AreParts config.now.ring) }
 {
     let (core, front, seat, unit) = Core::make(alloc, program, config)?;
-    let hints = Hints::<K>::new(alloc, core.ring())?;
     let (back, snapper) = back_at::<J>(alloc, &core, seat, program, config)?;
     Ok(Parts {
         core,
         front,
         unit,
-        hints,
         back,
         snapper,
     })
 }
 
-/// All that a run is made of. Without memory for the floor the back ends, which waits for its snappers.
-pub(crate) fn make<J: Naming, K: Bounds + Ring, P: Predictor + Drop, R: Wait>(
+// The floor, with hints for the ring.
+fn make_floor<K: Bounds + Ring>(
+    alloc: Global,
+    config: &Config,
+    counts: Counts,
+) -> Result<Floor<K>, Memory>
+    requires counts { counts ≡ K.counts }
+    requires limit { config.now.limit ≡ K.limit }
+    requires turns { config.now.turns ≡ K.turns }
+    requires ring { config.now.ring ≡ K.ring }
+    ensures { IfOk result (IsFloor config.now.ring counts) }
+{
+    let hints = Hints::<K>::new(alloc, config.ring() as usize)?;
+    Floor::new(alloc, counts, hints, config.units(), config.turns())
+}
+
+/// All that a run is made of.
+pub(crate) fn make<J: Naming, K: Bounds + Ring, P: Predictor + Drop, R>(
     task: &Task<'_, R>,
     counts: Counts,
     count: CountSeat,
@@ -100,22 +111,15 @@ pub(crate) fn make<J: Naming, K: Bounds + Ring, P: Predictor + Drop, R: Wait>(
     ensures { IfOk result (RunIsMade K.counts) }
 {
     let config = task.config;
+    let floor = make_floor::<K>(task.alloc, config, counts)?;
     let Parts {
         core,
         front,
         unit,
-        hints,
         back,
         snapper,
-    } = make_parts::<J, K>(task.alloc, task.program, config)?;
-    let (back_count, workers) = counts.split_worker(count);
-    let floor = match Floor::new(task.alloc, counts, hints, config.units(), config.turns()) {
-        Ok(floor) => floor,
-        Err(memory) => {
-            back.end(task.wait);
-            return Err(memory);
-        }
-    };
+    } = make_parts::<J>(task.alloc, task.program, config)?;
+    let (back_count, workers) = floor.counts.split_worker(count);
     let committer = Committer::<J, K>::new(back, back_count, config.limit(), config.turns());
     let term = Term {
         core,
