@@ -1,6 +1,6 @@
 -- What the building of the command line comes to.
 use Rattle.std.proofs.Common.{◌≡◌, ◌∙◌, ap, ap₂, true, ◌||◌, refl, Result, Ok, Err, IfOk}
-use Rattle.clap.specs.Words.{AddsArg, AddsSubcommand, App, Rule, app_of, is_simple, with_rule, with_subcommand}
+use Rattle.clap.specs.Words.{AddsArg, App, Rule, app_of, is_simple, with_rule, with_subcommand}
 use Rattle.clap.specs.Faults.{is_simple_and_free}
 use Rattle.clap.proofs.OnLiterals.{clap_on_literals}
 use Rattle.clap.specs.declared.builder.arg.Arg.{Arg}
@@ -24,10 +24,10 @@ pub then : {one other : App → App} {old middle new : Command} → Becomes one 
 then first second = record { changes = λ app old. second.changes _ (first.changes app old) }
 
 -- a command with one more below it
-pub joined : {E : Type 0} {app below : App} {old new : Command} (one : Result Command E) → app_of old ≡ app
+pub joined : {E : Type 0} {app : App} (below : App) (old new : Command) (one : Result Command E) → app_of old ≡ app
     → IfOk one (IsCommand below) → HasBelow old one new → app_of new ≡ with_subcommand app below.top
-joined (Ok one) old is adds = adds.shape is.local ∙ ap₂ with_subcommand old (ap (λ (a : App). a.top) is.is)
-joined (Err _) old is adds = elim adds [ ]
+joined _ _ _ (Ok one) same is adds = adds.shape is.local ∙ ap₂ with_subcommand same (ap (λ (a : App). a.top) is.is)
+joined _ _ _ (Err _) same is adds = elim adds [ ]
 
 pub tool-is_simple : is_simple tool ≡ true
 unfolding clap_on_literals
