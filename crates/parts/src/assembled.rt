@@ -1,5 +1,6 @@
 //! Words of an assembler, and the instructions that they say.
 use crate::making::reg;
+use crate::same::{same, same_in};
 use instructions::Op;
 use machine_words::{
     Decoded, decode, each_operation_has_a_word, each_word_is_written, encode,
@@ -77,8 +78,8 @@ fn words_of_an_assembler(rt: HostRuntime) {
     ];
     let mut pc = 0x0040_0000u32;
     for (word, wanted) in cases {
-        assert_eq!(rt; decode(word, pc), Some(wanted), "{word:08x}");
-        assert_eq!(rt; encode(&wanted, pc), Some(word), "{wanted:?}");
+        same_in(&rt, &word, &decode(word, pc), &Some(wanted));
+        same_in(&rt, &wanted, &encode(&wanted, pc), &Some(word));
         pc = pc.wrapping_add(4);
     }
 }
@@ -106,16 +107,16 @@ fn words_of_no_operation(rt: HostRuntime) {
         0x0020_0813,
     ];
     for word in words {
-        assert_eq!(rt; decode(word, 0x0040_0000), None, "{word:08x}");
+        same_in(&rt, &word, &decode(word, 0x0040_0000), &None);
     }
 }
 
 #[test]
 fn targets_wrap_and_stay_in_their_region(rt: HostRuntime) {
     let back = decoded(Op::Beq, 0, 0, 0, 0xffff_fffc);
-    assert_eq!(rt; decode(0x1000_fffe, 0), Some(back));
+    same(&rt, &decode(0x1000_fffe, 0), &Some(back));
     let far = decoded(Op::J, 0, 0, 0, 0x1fff_fffc);
-    assert_eq!(rt; decode(0x0bff_ffff, 0x0fff_fffc), Some(far));
+    same(&rt, &decode(0x0bff_ffff, 0x0fff_fffc), &Some(far));
 }
 
 #[test]
@@ -135,7 +136,7 @@ fn no_word_for_what_does_not_fit(rt: HostRuntime) {
         decoded(Op::Mthi, 0, 1, 0, 0),
     ];
     for wanted in cases {
-        assert_eq!(rt; encode(&wanted, 0x0040_0000), None, "{wanted:?}");
+        same_in(&rt, &wanted, &encode(&wanted, 0x0040_0000), &None);
     }
 }
 

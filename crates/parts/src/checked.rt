@@ -1,4 +1,5 @@
 //! Listings that are read and not run.
+use crate::same::same;
 use checks::told;
 use std::test::Fail;
 
@@ -9,8 +10,8 @@ const NUMBERS: &[u8] = b"instructions 3\nlabels 3\nbytes of data 8\n";
 #[test]
 fn a_good_listing_is_counted(rt: HostRuntime) -> Result<(), Fail> {
     let (status, text) = told(rt.alloc(), GOOD)?;
-    assert_eq!(rt; status, 0);
-    assert_eq!(rt; text.as_slice(), NUMBERS);
+    same(&rt, &status, &0);
+    same(&rt, &text.as_slice(), &NUMBERS);
     Ok(())
 }
 
@@ -67,7 +68,7 @@ const FAULTS: [(&[u8], &[u8]); 12] = [
 fn a_fault_is_shown_in_its_line(rt: HostRuntime) -> Result<(), Fail> {
     for (listing, begins) in FAULTS {
         let (status, text) = told(rt.alloc(), listing)?;
-        assert_eq!(rt; status, 2);
+        same(&rt, &status, &2);
         assert!(rt; text.as_slice().starts_with(begins));
     }
     Ok(())
@@ -78,9 +79,9 @@ fn a_listing_that_is_too_long_as_a_whole_has_no_line(rt: HostRuntime) -> Result<
     let mut listing = Vec::new(rt.alloc());
     listing.resize(4_194_305, b'\n')?;
     let (status, text) = told(rt.alloc(), listing.as_slice())?;
-    assert_eq!(rt; status, 2);
+    same(&rt, &status, &2);
     let whole: &[u8] =
         b"fault line 0 TooLong\nA listing has at most 4194304 bytes, 16384 instructions and 65536 bytes of data.\n";
-    assert_eq!(rt; text.as_slice(), whole);
+    same(&rt, &text.as_slice(), &whole);
     Ok(())
 }

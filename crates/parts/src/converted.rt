@@ -1,4 +1,5 @@
 //! Small texts with their listings, and words that are refused.
+use crate::same::{same, same_in};
 use conversion::{Foreign, Refusal, listing_of};
 use executables::Refusal as FileRefusal;
 use std::test::Fail;
@@ -71,7 +72,7 @@ L00400020:
 ";
     let file = file_of(&rt, words.as_slice())?;
     let text = listing_of(rt.alloc(), file.as_slice()).map_err(|_| "refused")?;
-    assert_eq!(rt; text.as_str(), wanted);
+    same(&rt, &text.as_str(), &wanted);
     Ok(())
 }
 
@@ -100,7 +101,7 @@ fn names_the_word_that_is_refused(rt: HostRuntime) -> Result<(), Fail> {
             what,
         };
         let refusal = listing_of(rt.alloc(), file.as_slice()).err();
-        assert_eq!(rt; refusal, Some(wanted), "{word:08x}");
+        same_in(&rt, &word, &refusal, &Some(wanted));
     }
     Ok(())
 }
@@ -149,7 +150,7 @@ fn refuses_targets_and_slots(rt: HostRuntime) -> Result<(), Fail> {
     for (words, wanted) in cases {
         let file = file_of(&rt, words.as_slice())?;
         let refusal = listing_of(rt.alloc(), file.as_slice()).err();
-        assert_eq!(rt; refusal, Some(wanted), "{words:?}");
+        same_in(&rt, &words, &refusal, &Some(wanted));
     }
     Ok(())
 }
@@ -164,7 +165,7 @@ fn refuses_what_is_no_executable(rt: HostRuntime) -> Result<(), Fail> {
             FileRefusal::Cut
         };
         let refusal = listing_of(rt.alloc(), &file[..len]).err();
-        assert_eq!(rt; refusal, Some(Refusal::File { why }), "{len}");
+        same_in(&rt, &len, &refusal, &Some(Refusal::File { why }));
     }
     Ok(())
 }
@@ -177,9 +178,10 @@ fn says_why(rt: HostRuntime) -> Result<(), Fail> {
         what: Foreign::Lwl,
     };
     let text = format!(in rt.alloc(); "{refusal}")?;
-    assert_eq!(rt;
-        text.as_str(),
-        "the word 0x88410003 at 0x00400004 is no operation here: it is lwl"
+    same(
+        &rt,
+        &text.as_str(),
+        &"the word 0x88410003 at 0x00400004 is no operation here: it is lwl",
     );
     Ok(())
 }

@@ -1,4 +1,5 @@
 //! Devices that fail in the middle, and what a reader keeps.
+use crate::same::same;
 use devices::{Counted, InputFault, Reply, WriteFailed, read_up_to, reply_to, write_whole};
 use std::alloc::Global;
 use std::io::{self, ErrorKind, Read, Write};
@@ -88,9 +89,9 @@ fn an_input_is_answered_by_what_was_taken(rt: HostRuntime) -> Result<(), Fail> {
     let mut reader = Counted::new(input);
     let mut writer = Counted::new(Vec::new(rt.alloc()));
     let told = reply_to(rt.alloc(), &mut reader, &mut writer, Echo).ok();
-    assert_eq!(rt; told, Some(4));
-    assert_eq!(rt; writer.into_inner().as_slice(), b"stat".as_slice());
-    assert_eq!(rt; reader.into_inner(), b"ion".as_slice());
+    same(&rt, &told, &Some(4));
+    same(&rt, &writer.into_inner().as_slice(), &b"stat".as_slice());
+    same(&rt, &reader.into_inner(), &b"ion".as_slice());
     Ok(())
 }
 
@@ -101,9 +102,9 @@ fn the_first_bytes_are_read_and_the_others_stay(rt: HostRuntime) -> Result<(), F
         let first = most.min(input.len());
         let mut reader = Counted::new(input);
         let bytes = read_up_to(rt.alloc(), &mut reader, most)?;
-        assert_eq!(rt; bytes.as_slice(), &input[..first]);
-        assert_eq!(rt; reader.failures(), 0);
-        assert_eq!(rt; reader.into_inner(), &input[first..]);
+        same(&rt, &bytes.as_slice(), &&input[..first]);
+        same(&rt, &reader.failures(), &0);
+        same(&rt, &reader.into_inner(), &&input[first..]);
     }
     Ok(())
 }
@@ -112,7 +113,7 @@ fn the_first_bytes_are_read_and_the_others_stay(rt: HostRuntime) -> Result<(), F
 fn a_long_input_takes_several_reads(rt: HostRuntime) -> Result<(), Fail> {
     let mut reader = Counted::new(io::repeat(b'#'));
     let bytes = read_up_to(rt.alloc(), &mut reader, 20_000)?;
-    assert_eq!(rt; bytes.len(), 20_000);
+    same(&rt, &bytes.len(), &20_000);
     assert!(rt; bytes.iter().all(|byte| *byte == b'#'));
     Ok(())
 }
@@ -123,7 +124,7 @@ fn a_failed_read_is_a_fault_and_is_counted(rt: HostRuntime) {
         let mut reader = Counted::new(FailingReader { left });
         let went = read_up_to(rt.alloc(), &mut reader, 10);
         assert!(rt; matches!(&went, Err(InputFault::Read)));
-        assert_eq!(rt; reader.failures(), 1);
+        same(&rt, &reader.failures(), &1);
     }
 }
 
@@ -138,11 +139,11 @@ fn a_writer_that_fails_keeps_a_beginning(rt: HostRuntime) {
                 is_silent,
                 taken,
             });
-            assert_eq!(rt; write_whole(&mut writer, text), Err(WriteFailed));
-            assert_eq!(rt; writer.failures(), 1);
+            same(&rt, &write_whole(&mut writer, text), &Err(WriteFailed));
+            same(&rt, &writer.failures(), &1);
             assert!(rt; writer.flush().is_err());
-            assert_eq!(rt; writer.failures(), 2);
-            assert_eq!(rt; writer.into_inner().taken.as_slice(), &text[..room]);
+            same(&rt, &writer.failures(), &2);
+            same(&rt, &writer.into_inner().taken.as_slice(), &&text[..room]);
         }
     }
 }
@@ -157,9 +158,9 @@ fn a_writer_with_room_gets_the_whole_text(rt: HostRuntime) {
         taken,
     });
     let text: &[u8] = b"limit\ncount 3\n";
-    assert_eq!(rt; write_whole(&mut writer, text), Ok(()));
+    same(&rt, &write_whole(&mut writer, text), &Ok(()));
     assert!(rt; writer.flush().is_ok());
     assert!(rt; matches!(writer.write(b""), Ok(0)));
-    assert_eq!(rt; writer.failures(), 0);
-    assert_eq!(rt; writer.into_inner().taken.as_slice(), text);
+    same(&rt, &writer.failures(), &0);
+    same(&rt, &writer.into_inner().taken.as_slice(), &text);
 }

@@ -1,4 +1,5 @@
 //! A small file, files like it with a fault, and cut ones.
+use crate::same::{same, same_in};
 use executables::{Function, Refusal, name_at, read_functions, read_image};
 use std::test::Fail;
 
@@ -14,11 +15,15 @@ const FILE: [u8; 128] = [
 #[test]
 fn reads_text_and_data(rt: HostRuntime) -> Result<(), Fail> {
     let image = read_image(rt.alloc(), FILE.as_slice()).map_err(|_| "refused")?;
-    assert_eq!(rt; image.code(), [0x2402_0005u32, 0x0000_000d].as_slice());
-    assert_eq!(rt; image.bytes().len(), 65_536);
+    same(
+        &rt,
+        &image.code(),
+        &[0x2402_0005u32, 0x0000_000d].as_slice(),
+    );
+    same(&rt, &image.bytes().len(), &65_536);
     for (at, byte) in image.bytes().iter().enumerate() {
         let wanted = if at == 16 { 42 } else { 0 };
-        assert_eq!(rt; *byte, wanted, "{at}");
+        same_in(&rt, &at, &*byte, &wanted);
     }
     Ok(())
 }
@@ -98,15 +103,15 @@ fn names_what_is_wrong(rt: HostRuntime) {
         (104, [3, 0, 0, 0], Refusal::Segment { address: 16 }),
     ];
     for (at, bytes, wanted) in cases {
-        assert_eq!(rt; changed(&rt, at, bytes), Some(wanted), "{at}");
+        same_in(&rt, &at, &changed(&rt, at, bytes), &Some(wanted));
     }
 }
 
 #[test]
 fn a_segment_that_is_not_loaded_does_not_count(rt: HostRuntime) {
-    assert_eq!(rt; changed(&rt, 84, [6, 0, 0, 0]), None);
-    assert_eq!(rt; changed(&rt, 104, [0, 0, 0, 0]), None);
-    assert_eq!(rt; changed(&rt, 52, [0, 0, 0, 0]), Some(Refusal::NoText));
+    same(&rt, &changed(&rt, 84, [6, 0, 0, 0]), &None);
+    same(&rt, &changed(&rt, 104, [0, 0, 0, 0]), &None);
+    same(&rt, &changed(&rt, 52, [0, 0, 0, 0]), &Some(Refusal::NoText));
 }
 
 #[test]
@@ -118,7 +123,7 @@ fn each_beginning_is_refused(rt: HostRuntime) {
             Refusal::Cut
         };
         let refusal = read_image(rt.alloc(), &FILE[..len]).err();
-        assert_eq!(rt; refusal, Some(wanted), "{len}");
+        same_in(&rt, &len, &refusal, &Some(wanted));
     }
 }
 
@@ -149,9 +154,9 @@ fn names_the_function_and_no_variable(rt: HostRuntime) -> Result<(), Fail> {
         address: 0x0040_0000,
         name: 161,
     };
-    assert_eq!(rt; functions.as_slice(), [main].as_slice());
-    assert_eq!(rt; name_at(file.as_slice(), 161), b"main".as_slice());
-    assert_eq!(rt; name_at(file.as_slice(), 1_000_000), b"".as_slice());
+    same(&rt, &functions.as_slice(), &[main].as_slice());
+    same(&rt, &name_at(file.as_slice(), 161), &b"main".as_slice());
+    same(&rt, &name_at(file.as_slice(), 1_000_000), &b"".as_slice());
     Ok(())
 }
 

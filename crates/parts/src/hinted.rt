@@ -1,6 +1,7 @@
 //! Hints on one thread, and want of memory.
 ghost use Rattle.std.specs.Prelude.{◌≡◌, IfOk};
 
+use crate::same::same;
 use hints::{Hints, Ring};
 use std::alloc::{AllocError, Global};
 use std::marker::Brand;
@@ -50,7 +51,7 @@ fn hints_are_taken_in_order_and_dropped_where_the_queue_is_full(
     rt: HostRuntime,
 ) -> Result<(), Fail> {
     let (put, taken) = filled::<Brand, HostRuntime>(&rt, rt.alloc())?;
-    assert_eq!(rt; put, [true, true, true, true, false]);
-    assert_eq!(rt; taken, [Some(0), Some(1), Some(1), Some(0), None]);
+    same(&rt, &put, &[true, true, true, true, false]);
+    same(&rt, &taken, &[Some(0), Some(1), Some(1), Some(0), None]);
     Ok(())
 }

@@ -1,4 +1,5 @@
 //! The words of the table of layouts.
+use crate::same::same;
 use inorder::history::Source;
 use instructions::Half;
 use ruu_words::{
@@ -14,8 +15,8 @@ fn words_are_those_of_the_layout(rt: HostRuntime) {
     ];
     for (tag, state, value, word) in words {
         let fields = StationWord { tag, state, value };
-        assert_eq!(rt; fields.pack(), word);
-        assert_eq!(rt; StationWord::unpack(word), fields);
+        same(&rt, &fields.pack(), &word);
+        same(&rt, &StationWord::unpack(word), &fields);
     }
 }
 
@@ -25,9 +26,9 @@ fn other_words_are_those_of_the_layout(rt: HostRuntime) {
         producer: 1,
         consumer: 1,
     };
-    assert_eq!(rt; link.pack(), 0x0000_0010_0000_0100);
-    assert_eq!(rt; LinkWord::unpack(0x0000_0010_0000_0100), Some(link));
-    assert_eq!(rt; LinkWord::unpack(0), None);
+    same(&rt, &link.pack(), &0x0000_0010_0000_0100);
+    same(&rt, &LinkWord::unpack(0x0000_0010_0000_0100), &Some(link));
+    same(&rt, &LinkWord::unpack(0), &None);
     let infos = [
         (Half::Low, 1, 0x0040_0008, 0x0000_0001_0040_0008),
         (Half::High, 1, 0x0040_0008, 0x8000_0001_0040_0008),
@@ -39,16 +40,16 @@ fn other_words_are_those_of_the_layout(rt: HostRuntime) {
             index,
             predicted,
         };
-        assert_eq!(rt; info.pack(), word);
-        assert_eq!(rt; InfoWord::unpack(word), info);
+        same(&rt, &info.pack(), &word);
+        same(&rt, &InfoWord::unpack(word), &info);
     }
     let operand = OperandWord {
         tag: 2,
         state: OperandState::Val,
         value: 7,
     };
-    assert_eq!(rt; operand.pack(), 0x0000_0022_0000_0007);
-    assert_eq!(rt; OperandWord::unpack(0x0000_0022_0000_0007), operand);
+    same(&rt, &operand.pack(), &0x0000_0022_0000_0007);
+    same(&rt, &OperandWord::unpack(0x0000_0022_0000_0007), &operand);
 }
 
 #[test]
@@ -60,14 +61,14 @@ fn words_stand_at_their_places(rt: HostRuntime) {
         (Place::Link(3, 3, Source::Second), 47),
     ];
     for (place, index) in places {
-        assert_eq!(rt; place.index(4), index);
+        same(&rt, &place.index(4), &index);
     }
-    assert_eq!(rt; word_count(4), 48);
+    same(&rt, &word_count(4), &48);
     let left = StationWord {
         tag: 1,
         state: StationState::Stop,
         value: 0,
     }
     .left(7);
-    assert_eq!(rt; left.pack(), 0x0000_0020_0000_0007);
+    same(&rt, &left.pack(), &0x0000_0020_0000_0007);
 }

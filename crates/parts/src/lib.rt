@@ -33,4 +33,6 @@ mod programs;
 #[cfg(test)]
 mod reports;
 #[cfg(test)]
+mod same;
+#[cfg(test)]
 mod totals;

@@ -1,29 +1,30 @@
 //! The lexical layer: each call once, on texts whose parts are written out.
+use crate::same::same;
 use std::test::Fail;
 use text::*;
 
 #[test]
 fn cuts_lines_and_labels(rt: HostRuntime) -> Result<(), Fail> {
     let (line, rest) = next_line(b"L : j L# x\r\nbreak");
-    assert_eq!(rt; line, b"L : j L# x".as_slice());
-    assert_eq!(rt; rest, Some(b"break".as_slice()));
+    same(&rt, &line, &b"L : j L# x".as_slice());
+    same(&rt, &rest, &Some(b"break".as_slice()));
     let code = before_comment(line);
-    assert_eq!(rt; code, b"L : j L".as_slice());
+    same(&rt, &code, &b"L : j L".as_slice());
     let (label, statement) = next_label(code).ok_or("no label")?;
-    assert_eq!(rt; label, b"L".as_slice());
-    assert_eq!(rt; trim(statement), b"j L".as_slice());
+    same(&rt, &label, &b"L".as_slice());
+    same(&rt, &trim(statement), &b"j L".as_slice());
     assert!(rt; next_label(statement).is_none());
-    assert_eq!(rt; cut(code, b':').0, b"L ".as_slice());
+    same(&rt, &cut(code, b':').0, &b"L ".as_slice());
     Ok(())
 }
 
 #[test]
 fn cuts_words_and_operands(rt: HostRuntime) -> Result<(), Fail> {
     let (word, rest) = cut_word(b"addu\t $1 ,$2");
-    assert_eq!(rt; word, b"addu".as_slice());
+    same(&rt, &word, &b"addu".as_slice());
     let part = operand_part(rest).ok_or("no operands")?;
-    assert_eq!(rt; count_operands(Some(part)), 2);
-    assert_eq!(rt; next_operand(part).0, b"$1".as_slice());
+    same(&rt, &count_operands(Some(part)), &2);
+    same(&rt, &next_operand(part).0, &b"$1".as_slice());
     assert!(rt; operand_part(b" \t").is_none());
     assert!(rt; is_name(b"_a.9"));
     assert!(rt; !is_name(b"9a"));
@@ -47,10 +48,10 @@ fn reads_numbers(rt: HostRuntime) {
         (b"99999999999999999999999999", None),
     ];
     for (text, value) in cases {
-        assert_eq!(rt; number_in(text, 32768, 32767), value);
+        same(&rt, &number_in(text, 32768, 32767), &value);
     }
-    assert_eq!(rt; decimal_in(b"31", 31), Some(31));
-    assert_eq!(rt; decimal_in(b"32", 31), None);
+    same(&rt, &decimal_in(b"31", 31), &Some(31));
+    same(&rt, &decimal_in(b"32", 31), &None);
     assert!(rt; begins_number(b"+"));
     assert!(rt; !begins_number(b"x"));
 }

@@ -4,6 +4,7 @@ mod limits;
 mod written;
 
 use crate::making::instr;
+use crate::same::{same, same_in};
 use instructions::{Half, Instr, Op, Reg};
 use isa::{FaultKind, TextFault, parse};
 use std::test::Fail;
@@ -71,9 +72,9 @@ fn reads_each_form(rt: HostRuntime) -> Result<(), Fail> {
     ];
     for (text, wanted) in cases {
         let program = parse(rt.alloc(), text).map_err(|_| "refused")?;
-        assert_eq!(rt; program.len(), 1, "{wanted:?}");
-        assert_eq!(rt; *program.instr(0), wanted);
-        assert_eq!(rt; program.size(), 0);
+        same_in(&rt, &wanted, &program.len(), &1);
+        same(&rt, &*program.instr(0), &wanted);
+        same(&rt, &program.size(), &0);
     }
     Ok(())
 }
@@ -142,7 +143,7 @@ fn names_the_first_fault(rt: HostRuntime) {
     ];
     for (text, line, kind) in cases {
         let fault = parse(rt.alloc(), text).err();
-        assert_eq!(rt; fault, Some(TextFault { line, kind }));
+        same(&rt, &fault, &Some(TextFault { line, kind }));
     }
 }
 
@@ -153,18 +154,18 @@ fn directives_fill_memory(rt: HostRuntime) -> Result<(), Fail> {
     let wanted = [
         1u8, 0, 0, 0, 0xfe, 0xff, 0xff, 0xff, 0, 0, 0, 0x80, 0, 0, 0, 0, 0xff, 0xff, 0xff, 0xff,
     ];
-    assert_eq!(rt; program.bytes(), wanted.as_slice());
+    same(&rt, &program.bytes(), &wanted.as_slice());
     assert_eq!(rt; program.len(), 3);
-    assert_eq!(rt; program.instr(1).number(), 0x0040_0000);
-    assert_eq!(rt; program.instr(2).number(), 0x0040_0004);
+    same(&rt, &program.instr(1).number(), &0x0040_0000);
+    same(&rt, &program.instr(2).number(), &0x0040_0004);
     Ok(())
 }
 
 #[test]
 fn faults_have_names(rt: HostRuntime) {
-    assert_eq!(rt; FaultKind::NotAscii.code(), 1);
-    assert_eq!(rt; FaultKind::Memory.code(), 9);
-    assert_eq!(rt; FaultKind::UnknownLabel.name(), "UnknownLabel");
+    same(&rt, &FaultKind::NotAscii.code(), &1);
+    same(&rt, &FaultKind::Memory.code(), &9);
+    same(&rt, &FaultKind::UnknownLabel.name(), &"UnknownLabel");
 }
 
 #[test]
@@ -181,9 +182,9 @@ fn moves_name_lo_and_hi(rt: HostRuntime) -> Result<(), Fail> {
     ];
     for (i, (read, written)) in wanted.iter().enumerate() {
         let moved = program.instr(i);
-        assert_eq!(rt; moved.source(1), *read);
-        assert_eq!(rt; moved.source(2), None);
-        assert_eq!(rt; moved.written(Half::Low), *written);
+        same(&rt, &moved.source(1), &*read);
+        same(&rt, &moved.source(2), &None);
+        same(&rt, &moved.written(Half::Low), &*written);
     }
     Ok(())
 }
@@ -193,6 +194,6 @@ fn a_fault_says_its_line_and_why(rt: HostRuntime) -> Result<(), Fail> {
     let kind = FaultKind::UnknownLabel;
     let fault = TextFault { line: 3, kind };
     let text = format!(in rt.alloc(); "{fault}")?;
-    assert_eq!(rt; text.as_str(), "line 3: no line has this label");
+    same(&rt, &text.as_str(), &"line 3: no line has this label");
     Ok(())
 }

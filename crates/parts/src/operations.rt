@@ -2,6 +2,7 @@
 mod products;
 
 use crate::making::numbered;
+use crate::same::{same, same_in};
 use instructions::{Kind, Op, Outcome, Stop, loaded, outcome};
 
 const MINUS_1: u32 = 0xffff_ffff;
@@ -48,7 +49,7 @@ fn computes_values(rt: HostRuntime) {
     ];
     for (op, a, b, i, wanted) in cases {
         let got = outcome(&numbered(op, i), PC, a, b, 0);
-        assert_eq!(rt; got, Outcome::Value(wanted), "{a:x} {b:x} {i:x}");
+        same_in(&rt, &(a, b, i), &got, &Outcome::Value(wanted));
     }
 }
 
@@ -64,7 +65,7 @@ fn stops_at_signed_overflow_and_break(rt: HostRuntime) {
     ];
     for (op, a, b, i, wanted) in cases {
         let got = outcome(&numbered(op, i), PC, a, b, 0);
-        assert_eq!(rt; got, Outcome::Stop(wanted), "{a:x} {b:x} {i:x}");
+        same_in(&rt, &(a, b, i), &got, &Outcome::Stop(wanted));
     }
 }
 
@@ -93,7 +94,7 @@ fn jumps_and_branches(rt: HostRuntime) {
     ];
     for (op, a, b, wanted) in cases {
         let got = outcome(&numbered(op, TO), PC, a, b, 0);
-        assert_eq!(rt; got, Outcome::Next(wanted), "{a:x} {b:x}");
+        same_in(&rt, &(a, b), &got, &Outcome::Next(wanted));
     }
 }
 
@@ -112,7 +113,7 @@ fn checks_addresses(rt: HostRuntime) {
     ];
     for (op, a, offset, wanted) in cases {
         let got = outcome(&numbered(op, offset), PC, a, 0, 8);
-        assert_eq!(rt; got, wanted, "{a:x} {offset:x}");
+        same_in(&rt, &(a, offset), &got, &wanted);
     }
 }
 
@@ -128,7 +129,7 @@ fn extends_loaded_bytes(rt: HostRuntime) {
         (Op::Lw, LEAST, LEAST),
     ];
     for (op, raw, wanted) in cases {
-        assert_eq!(rt; loaded(op, raw), wanted, "{raw:x}");
+        same_in(&rt, &raw, &loaded(op, raw), &wanted);
     }
 }
 
@@ -146,8 +147,8 @@ fn sorts_operations(rt: HostRuntime) {
         (Op::Jalr, Kind::Links, 4, false),
     ];
     for (op, kind, width, branch) in cases {
-        assert_eq!(rt; op.kind(), kind);
-        assert_eq!(rt; op.width(), width);
-        assert_eq!(rt; op.is_branch(), branch);
+        same(&rt, &op.kind(), &kind);
+        same(&rt, &op.width(), &width);
+        same(&rt, &op.is_branch(), &branch);
     }
 }

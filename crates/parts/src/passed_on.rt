@@ -1,4 +1,5 @@
 //! Calls of a device that is counted, each passed on once.
+use crate::same::same;
 use devices::Counted;
 use std::io::{self, ErrorKind, Read, Write};
 
@@ -64,12 +65,12 @@ fn each_read_is_passed_on_once(rt: HostRuntime) {
             Ok(n) => assert!(rt; calls % 2 == 1 && n == 1 && buf[0] == b'a'),
             Err(error) => assert!(rt; calls % 2 == 0 && error.kind() == ErrorKind::TimedOut),
         }
-        assert_eq!(rt; reader.failures(), calls / 2);
+        same(&rt, &reader.failures(), &(calls / 2));
     }
     let inner = reader.into_inner();
-    assert_eq!(rt; inner.reads, 6);
-    assert_eq!(rt; inner.writes, 0);
-    assert_eq!(rt; inner.flushes, 0);
+    same(&rt, &inner.reads, &6);
+    same(&rt, &inner.writes, &0);
+    same(&rt, &inner.flushes, &0);
 }
 
 #[test]
@@ -84,10 +85,10 @@ fn each_write_and_flush_is_passed_on_once(rt: HostRuntime) {
             Ok(()) => assert!(rt; calls % 2 == 1),
             Err(error) => assert!(rt; calls % 2 == 0 && error.kind() == ErrorKind::TimedOut),
         }
-        assert_eq!(rt; writer.failures(), calls / 2 * 2);
+        same(&rt, &writer.failures(), &(calls / 2 * 2));
     }
     let inner = writer.into_inner();
-    assert_eq!(rt; inner.writes, 6);
-    assert_eq!(rt; inner.flushes, 6);
-    assert_eq!(rt; inner.reads, 0);
+    same(&rt, &inner.writes, &6);
+    same(&rt, &inner.flushes, &6);
+    same(&rt, &inner.reads, &0);
 }

@@ -4,6 +4,7 @@ ghost use denote.Param.Send.{IsSync};
 ghost use Rattle.counts.specs.Shares.{all_parts, joined_of, plus, share_of};
 ghost use Rattle.counts.specs.declared.tally.Total.TheVariants.{Lets};
 
+use crate::same::same;
 use counts::{CountSeat, Counts, Tally, Total};
 use std::process::Abort;
 use std::test::*;
@@ -88,7 +89,7 @@ fn four_threads_lose_no_addition(rt: HostRuntime) -> Result<(), Fail> {
         hints: 0,
         renewals: 0,
     };
-    assert_eq!(rt; tally, expected);
+    same(&rt, &tally, &expected);
     Ok(())
 }
 
@@ -118,7 +119,7 @@ fn each_total_is_its_own(rt: HostRuntime) -> Result<(), Fail> {
         hints: 10,
         renewals: 11,
     };
-    assert_eq!(rt; counts.read(&mut seat), expected);
+    same(&rt, &counts.read(&mut seat), &expected);
     Ok(())
 }
 
@@ -132,8 +133,8 @@ fn workers_count_all_but_what_the_first_keeps(rt: HostRuntime) -> Result<(), Fai
     counts.add_work(&mut one, Total::Claims, 1);
     counts.add_work(&mut other, Total::Claims, 1);
     let tally = counts.read(&mut seat);
-    assert_eq!(rt; tally.retires, 3);
-    assert_eq!(rt; tally.renewals, 2);
-    assert_eq!(rt; tally.claims, 2);
+    same(&rt, &tally.retires, &3);
+    same(&rt, &tally.renewals, &2);
+    same(&rt, &tally.claims, &2);
     Ok(())
 }

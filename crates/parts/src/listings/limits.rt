@@ -1,5 +1,6 @@
 //! Listings at the limits, and each beginning of one.
 use crate::making::instr;
+use crate::same::same;
 use instructions::Op;
 use isa::{FaultKind, TextFault, parse};
 use std::test::Fail;
@@ -33,7 +34,7 @@ fn limits_are_exact(rt: HostRuntime) -> Result<(), Fail> {
         let all = repeated(&rt, front, text, count)?;
         let fault = parse(rt.alloc(), all.as_slice()).err();
         let kind = FaultKind::TooLong;
-        assert_eq!(rt; fault, line.map(|line| TextFault { line, kind }));
+        same(&rt, &fault, &line.map(|line| TextFault { line, kind }));
     }
     Ok(())
 }
@@ -75,15 +76,15 @@ fn each_beginning_is_judged(rt: HostRuntime) -> Result<(), Fail> {
             text.push(*b)?;
             let parsed = parse(rt.alloc(), text.as_slice());
             if let Ok(program) = &parsed {
-                assert_eq!(rt; program.size(), 4);
-                assert_eq!(rt; program.len(), count);
+                same(&rt, &program.size(), &4);
+                same(&rt, &program.len(), &count);
                 for (i, instr) in wanted.iter().enumerate() {
                     if i < program.len() {
-                        assert_eq!(rt; *program.instr(i), *instr);
+                        same(&rt, &*program.instr(i), &*instr);
                     }
                 }
             }
-            assert_eq!(rt; parsed.err(), judged(line, *code));
+            same(&rt, &parsed.err(), &judged(line, *code));
         }
         line = line.saturating_add(1);
     }
