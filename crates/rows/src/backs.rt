@@ -2,6 +2,7 @@
 ghost use Rattle.std.specs.Prelude.{◌≡◌};
 
 use crate::drive::{Setup, by_hand, commits, finish_one, half, let_at, set_up};
+use crate::same::same;
 use back::{Commit, Mark, Naming, Refresh};
 use instructions::{Ending, Program, Stop};
 use station::StationState;
@@ -23,11 +24,12 @@ fn no_instruction<J: Naming, R: Wait + Abort>(rt: &R, setup: &Setup) -> Result<(
     let after = back.ended();
     let end = back.end(rt);
     assert!(rt; word.tag == 1 && word.state == StationState::Free);
-    assert_eq!(rt; (idle, before), (Refresh::Idle, None));
-    assert_eq!(rt; after, Some(Stop::BadPc));
-    assert_eq!(rt;
-        (end.n, end.pc, end.outcome),
-        (0, Program::START, Ending::Stop(Stop::BadPc))
+    same(rt, &(idle, before), &(Refresh::Idle, None));
+    same(rt, &after, &Some(Stop::BadPc));
+    same(
+        rt,
+        &(end.n, end.pc, end.outcome),
+        &(0, Program::START, Ending::Stop(Stop::BadPc)),
     );
     Ok(())
 }
@@ -61,11 +63,12 @@ fn leave_and_enter<J: Naming, R: Wait + Abort>(rt: &R, setup: &Setup) -> Result<
     let taken = snapper.take().ok();
     let n = again.n();
     let end = again.end(rt);
-    assert_eq!(rt;
-        (shown, taken.map(|snap| snap.pc)),
-        (Some(Mark { n: 0 }), Some(Program::START))
+    same(
+        rt,
+        &(shown, taken.map(|snap| snap.pc)),
+        &(Some(Mark { n: 0 }), Some(Program::START)),
     );
-    assert_eq!(rt; (n, end.n, end.registers[32]), (0, 0, 0));
+    same(rt, &(n, end.n, end.registers[32]), &(0, 0, 0));
     Ok(())
 }
 

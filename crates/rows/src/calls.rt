@@ -7,6 +7,7 @@ ghost use Rattle.inorder.specs.Replies.{last_tag};
 ghost use Rattle.station.specs.Seats.{IsSameSeat};
 
 use crate::drive::{finish_one, made, work};
+use crate::same::same;
 use instructions::{Half, Program};
 use station::{
     BackSeat, Core, FrontSeat, Last, Retire, Source, SourceState, StationState, Supply, Tenant,
@@ -49,9 +50,9 @@ fn a_let_is_seen_in_its_words(rt: HostRuntime) -> Result<(), Fail> {
     core.meet(&mut front, &mut back);
     let info = core.info(&mut back, 0);
     let source = core.operand(&mut back, 0, Source::First);
-    assert_eq!(rt; (tag, predicted), (1, 0x0040_0004));
+    same(&rt, &(tag, predicted), &(1, 0x0040_0004));
     assert!(rt; open.tag == 1 && open.state == StationState::Open);
-    assert_eq!(rt; info, (0, Half::Low, 0x0040_0004));
+    same(&rt, &info, &(0, Half::Low, 0x0040_0004));
     assert!(rt; source.tag == 1 && source.state == SourceState::Val && source.value == 0);
     Ok(())
 }
@@ -90,8 +91,8 @@ fn one_tenant_is_let_claimed_finished_and_retired(rt: HostRuntime) -> Result<(),
     let tried = tried_twice(&core, &program, unit, &mut front, &mut back);
     let retired = core.retire(&mut back);
     let empty = core.retire(&mut back);
-    assert_eq!(rt; tried, (true, false, (0, 0)));
-    assert_eq!(rt; back.woken(), 0);
+    same(&rt, &tried, &(true, false, (0, 0)));
+    same(&rt, &back.woken(), &0);
     assert!(rt;
         matches!(
             retired,

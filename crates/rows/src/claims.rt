@@ -3,6 +3,7 @@ ghost use Rattle.std.specs.Prelude.{◌≡◌, ◌<◌, ◌≤◌};
 ghost use Rattle.station.specs.Seats.{IsSameSeat};
 
 use crate::drive::{Done, finish_job, finish_one, let_at, made, takes};
+use crate::same::same;
 use front::{Front, Turn};
 use instructions::{NotTaken, Program};
 use station::{Claim, Core, Finish, Source, UnitSeat, jobs_stay};
@@ -63,12 +64,16 @@ fn a_value_comes_along_its_links(rt: HostRuntime) -> Result<(), Fail> {
         tag: 1,
         first: true,
     };
-    assert_eq!(rt; claim(&core, &program, &mut unit, 1), waiting);
-    assert_eq!(rt; claim(&core, &program, &mut unit, 0), job(0, 0));
-    assert_eq!(rt; unit.woken(), 2);
-    assert_eq!(rt; claim(&core, &program, &mut unit, 1), job(5, 5));
-    assert_eq!(rt; unit.woken(), 0);
-    assert_eq!(rt; claim(&core, &program, &mut unit, 1), Claimed::NotOpen);
+    same(&rt, &claim(&core, &program, &mut unit, 1), &waiting);
+    same(&rt, &claim(&core, &program, &mut unit, 0), &job(0, 0));
+    same(&rt, &unit.woken(), &2);
+    same(&rt, &claim(&core, &program, &mut unit, 1), &job(5, 5));
+    same(&rt, &unit.woken(), &0);
+    same(
+        &rt,
+        &claim(&core, &program, &mut unit, 1),
+        &Claimed::NotOpen,
+    );
     Ok(())
 }
 
@@ -81,7 +86,7 @@ fn a_question_finds_a_value_that_is_there(rt: HostRuntime) -> Result<(), Fail> {
     takes(&rt, &core, &mut front, &[let_at(0, 1, 0x0040_0000)]);
     assert!(rt; finish_one(&core, &program, &mut unit, 0));
     takes(&rt, &core, &mut front, &[let_at(1, 1, 0x0040_0004)]);
-    assert_eq!(rt; claim(&core, &program, &mut unit, 1), job(5, 5));
+    same(&rt, &claim(&core, &program, &mut unit, 1), &job(5, 5));
     Ok(())
 }
 
@@ -125,9 +130,10 @@ fn who_meets_a_claimer_finds_its_claim(rt: HostRuntime) -> Result<(), Fail> {
         first: true,
     };
     let answers = meets_with_a_job(&core, &program, &mut one, &mut other);
-    assert_eq!(rt;
-        answers,
-        Some((Claimed::NotOpen, waiting, Finish::Finished))
+    same(
+        &rt,
+        &answers,
+        &Some((Claimed::NotOpen, waiting, Finish::Finished)),
     );
     Ok(())
 }
@@ -142,9 +148,10 @@ fn two_units_claim_apart(rt: HostRuntime) -> Result<(), Fail> {
     takes(&rt, &core, &mut front, &first_two());
     front.meet(&core, &mut one);
     let answers = meets_with_a_job(&core, &program, &mut one, &mut other);
-    assert_eq!(rt;
-        answers,
-        Some((Claimed::NotOpen, job(0, 0), Finish::Finished))
+    same(
+        &rt,
+        &answers,
+        &Some((Claimed::NotOpen, job(0, 0), Finish::Finished)),
     );
     Ok(())
 }

@@ -4,6 +4,7 @@ ghost use Rattle.back.specs.Backs.{HasRetiredNothing};
 ghost use Rattle.station.specs.Claiming.{Holds};
 ghost use Rattle.station.specs.Seats.{IsSameSeat};
 
+use crate::same::same;
 use back::{Back, Commit, Naming, Snapper};
 use front::{Front, Turn};
 use instructions::{Config, NotTaken, Outcome, Predictor, Program, outcome_of};
@@ -66,7 +67,7 @@ pub fn takes<'a, P: Predictor + Drop>(
 {
     for turn in turns {
         let taken = front.turn(core);
-        assert_eq!(rt; taken, *turn);
+        same(rt, &taken, &*turn);
     }
 }
 
@@ -202,7 +203,7 @@ pub fn commits<J: Naming>(rt: &impl Abort, core: &Core, back: &mut Back<J>, answ
 {
     for answer in answers {
         let committed = commit(core, back);
-        assert_eq!(rt; committed, Some(*answer));
+        same(rt, &committed, &Some(*answer));
     }
 }
 

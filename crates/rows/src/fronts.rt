@@ -7,6 +7,7 @@ mod rests;
 mod stills;
 
 use crate::drive::{Done, finish_job, finished, let_at, made, takes, work};
+use crate::same::same;
 use front::{Front, Recovery, Turn};
 use instructions::{Instr, NotTaken, Outcome, Predictor, Program};
 use station::{BackSeat, Claim, Core, Finish, Retire, Source, StationState, UnitSeat};
@@ -94,15 +95,20 @@ fn a_station_is_let_again_under_an_old_job(rt: HostRuntime) -> Result<(), Fail> 
         return Err(Fail::new("no job"));
     };
     let word = front.look(&core, 1);
-    assert_eq!(rt; branch, Some(finished(0, 0, Outcome::Next(0x0040_0008))));
-    assert_eq!(rt;
-        recovery,
-        Recovery::Mended {
-            station: 0,
-            squashed: 2
-        }
+    same(
+        &rt,
+        &branch,
+        &Some(finished(0, 0, Outcome::Next(0x0040_0008))),
     );
-    assert_eq!(rt; stale.finish, Finish::Stale);
+    same(
+        &rt,
+        &recovery,
+        &Recovery::Mended {
+            station: 0,
+            squashed: 2,
+        },
+    );
+    same(&rt, &stale.finish, &Finish::Stale);
     assert!(rt; word.tag == 2 && word.state == StationState::Open);
     Ok(())
 }
@@ -131,18 +137,23 @@ fn a_link_dies_with_its_tenant(rt: HostRuntime) -> Result<(), Fail> {
     let waiting = waits(&core, &program, &mut other, 3);
     let three = work(&core, &program, &mut other, 1);
     let six = work(&core, &program, &mut other, 3);
-    assert_eq!(rt; branch, Some(finished(0, 0, Outcome::Next(0x0040_0010))));
-    assert_eq!(rt;
-        recovery,
-        Recovery::Mended {
-            station: 2,
-            squashed: 1
-        }
+    same(
+        &rt,
+        &branch,
+        &Some(finished(0, 0, Outcome::Next(0x0040_0010))),
     );
-    assert_eq!(rt; one, finished(0, 0, Outcome::Value(1)));
-    assert_eq!(rt; waiting, Some((2, true)));
-    assert_eq!(rt; three, Some(finished(0, 0, Outcome::Value(3))));
-    assert_eq!(rt; six, Some(finished(3, 3, Outcome::Value(6))));
+    same(
+        &rt,
+        &recovery,
+        &Recovery::Mended {
+            station: 2,
+            squashed: 1,
+        },
+    );
+    same(&rt, &one, &finished(0, 0, Outcome::Value(1)));
+    same(&rt, &waiting, &Some((2, true)));
+    same(&rt, &three, &Some(finished(0, 0, Outcome::Value(3))));
+    same(&rt, &six, &Some(finished(3, 3, Outcome::Value(6))));
     Ok(())
 }
 
@@ -158,7 +169,7 @@ fn the_queue_takes_two(rt: HostRuntime) -> Result<(), Fail> {
         Turn::QueueFull,
     ];
     takes(&rt, &core, &mut front, &lets);
-    assert_eq!(rt; front.recover(&core), Recovery::NoMiss);
+    same(&rt, &front.recover(&core), &Recovery::NoMiss);
     Ok(())
 }
 
@@ -192,13 +203,18 @@ fn a_predictor_may_answer_anything(rt: HostRuntime) -> Result<(), Fail> {
     );
     let branch = work(&core, &program, &mut unit, 0);
     let recovery = front.recover(&core);
-    assert_eq!(rt; branch, Some(finished(0, 0, Outcome::Next(0x0040_0004))));
-    assert_eq!(rt;
-        recovery,
-        Recovery::Mended {
+    same(
+        &rt,
+        &branch,
+        &Some(finished(0, 0, Outcome::Next(0x0040_0004))),
+    );
+    same(
+        &rt,
+        &recovery,
+        &Recovery::Mended {
             station: 0,
-            squashed: 0
-        }
+            squashed: 0,
+        },
     );
     takes(&rt, &core, &mut front, &[let_at(1, 1, 0x0040_0004)]);
     Ok(())

@@ -2,6 +2,7 @@
 ghost use Rattle.std.specs.Prelude.{◌≡◌, ◌≤◌};
 
 use crate::drive::{Setup, by_hand, commits, finish_one, half, let_at, retired, set_up, takes};
+use crate::same::same;
 use back::{Back, Commit, Naming, Snapper};
 use front::{Recovery, Turn};
 use instructions::{End, Ending, Program, Stop};
@@ -63,8 +64,8 @@ fn shown<J: Naming, R: Wait + Abort>(
 }
 
 fn ends_with(rt: &impl Abort, end: &End, n: u64, pc: u32, low: u32) {
-    assert_eq!(rt; (end.n, end.pc), (n, pc));
-    assert_eq!(rt; (end.registers[LO], end.registers[HI]), (low, 0));
+    same(rt, &(end.n, end.pc), &(n, pc));
+    same(rt, &(end.registers[LO], end.registers[HI]), &(low, 0));
 }
 
 fn snapshots_of_a_product<J: Naming, R: Wait + Abort>(rt: &R, setup: &Setup) -> Result<(), Fail>
@@ -79,10 +80,10 @@ fn snapshots_of_a_product<J: Naming, R: Wait + Abort>(rt: &R, setup: &Setup) -> 
     commits(rt, &core, &mut back, &answers);
     let behind = shown(rt, &mut back, &mut snapper);
     let end = back.end(rt);
-    assert_eq!(rt; between, (1, 0x0040_0004, 0, 0));
-    assert_eq!(rt; behind, (3, 0x0040_000c, 9, 0));
+    same(rt, &between, &(1, 0x0040_0004, 0, 0));
+    same(rt, &behind, &(3, 0x0040_000c, 9, 0));
     ends_with(rt, &end, 3, 0x0040_000c, 9);
-    assert_eq!(rt; end.registers[2], 9);
+    same(rt, &end.registers[2], &9);
     Ok(())
 }
 
@@ -99,9 +100,9 @@ fn end_between_halves<J: Naming, R: Wait + Abort>(rt: &R, setup: &Setup) -> Resu
     first_half_retires(rt, &core, &setup.program, &mut unit, &mut back);
     let n = back.n();
     let end = back.end(rt);
-    assert_eq!(rt; (n, end.outcome), (1, Ending::Limit));
+    same(rt, &(n, end.outcome), &(1, Ending::Limit));
     ends_with(rt, &end, 1, 0x0040_0004, 0);
-    assert_eq!(rt; end.registers[1], 0xffff_fffd);
+    same(rt, &end.registers[1], &0xffff_fffd);
     Ok(())
 }
 
@@ -129,7 +130,7 @@ fn both_squashed<J: Naming, R: Wait + Abort>(rt: &R, setup: &Setup) -> Result<()
         station: 1,
         squashed: 2,
     };
-    assert_eq!(rt; front.recover(&core), mended);
+    same(rt, &front.recover(&core), &mended);
     takes(rt, &core, &mut front, &[let_at(2, 2, 0x0040_000c)]);
     assert!(rt; finish_one(&core, &setup.program, &mut unit, 2));
     let answers = [

@@ -24,6 +24,8 @@ mod renewals;
 #[cfg(test)]
 mod retirement;
 #[cfg(test)]
+mod same;
+#[cfg(test)]
 mod snapshots_of_commits;
 #[cfg(test)]
 mod tags;

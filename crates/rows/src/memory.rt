@@ -2,6 +2,7 @@
 ghost use Rattle.std.specs.Prelude.{◌≡◌};
 
 use crate::drive::{Setup, by_hand, commits, finish_one, let_at, retired, set_up};
+use crate::same::same;
 use back::{Commit, Naming, Refresh};
 use instructions::{Ending, Stop};
 use std::marker::Brand;
@@ -30,13 +31,13 @@ fn load_behind_a_store<J: Naming, R: Wait + Abort>(rt: &R, setup: &Setup) -> Res
         let_at(3, 1, 0x0040_000c),
     ];
     let (core, _front, mut back, _snapper, mut unit) = by_hand::<J>(rt, setup, 4, &lets)?;
-    assert_eq!(rt; back.refresh(&core), Refresh::Idle);
+    same(rt, &back.refresh(&core), &Refresh::Idle);
     assert!(rt; finish_one(&core, &setup.program, &mut unit, 2));
-    assert_eq!(rt; back.refresh(&core), BLOCKED);
+    same(rt, &back.refresh(&core), &BLOCKED);
     assert!(rt; finish_one(&core, &setup.program, &mut unit, 1));
-    assert_eq!(rt; back.refresh(&core), BLOCKED);
+    same(rt, &back.refresh(&core), &BLOCKED);
     assert!(rt; finish_one(&core, &setup.program, &mut unit, 0));
-    assert_eq!(rt; back.refresh(&core), loaded(2, 7));
+    same(rt, &back.refresh(&core), &loaded(2, 7));
     let answers = [
         retired(0x0040_0000, 1),
         retired(0x0040_0004, 2),
@@ -48,12 +49,13 @@ fn load_behind_a_store<J: Naming, R: Wait + Abort>(rt: &R, setup: &Setup) -> Res
     let ended = Commit::Ended(Stop::Break);
     commits(rt, &core, &mut back, &[ended, ended]);
     let end = back.end(rt);
-    assert_eq!(rt;
-        (end.n, end.pc, end.outcome),
-        (3, 0x0040_000c, Ending::Stop(Stop::Break))
+    same(
+        rt,
+        &(end.n, end.pc, end.outcome),
+        &(3, 0x0040_000c, Ending::Stop(Stop::Break)),
     );
-    assert_eq!(rt; (end.registers[1], end.registers[2]), (7, 7));
-    assert_eq!(rt; end.memory.as_slice(), [7, 0, 0, 0].as_slice());
+    same(rt, &(end.registers[1], end.registers[2]), &(7, 7));
+    same(rt, &end.memory.as_slice(), &[7, 0, 0, 0].as_slice());
     Ok(())
 }
 
@@ -77,8 +79,8 @@ fn woken_by_a_load<J: Naming, R: Wait + Abort>(rt: &R, setup: &Setup) -> Result<
     let idle = back.refresh(&core);
     let after = back.woken();
     let end = back.end(rt);
-    assert_eq!(rt; (found, idle), (loaded(0, 7), Refresh::Idle));
-    assert_eq!(rt; (before, woken, after, end.n), (0, 2, 2, 0));
+    same(rt, &(found, idle), &(loaded(0, 7), Refresh::Idle));
+    same(rt, &(before, woken, after, end.n), &(0, 2, 2, 0));
     Ok(())
 }
 
@@ -104,9 +106,9 @@ fn from_memory<J: Naming, R: Wait + Abort>(rt: &R, setup: &Setup) -> Result<(), 
     ];
     commits(rt, &core, &mut back, &answers);
     let end = back.end(rt);
-    assert_eq!(rt; found, loaded(1, 0xffff_ff80));
-    assert_eq!(rt; (end.n, end.outcome), (2, Ending::Stop(Stop::BadPc)));
-    assert_eq!(rt; end.registers[1], 0xffff_ff80);
+    same(rt, &found, &loaded(1, 0xffff_ff80));
+    same(rt, &(end.n, end.outcome), &(2, Ending::Stop(Stop::BadPc)));
+    same(rt, &end.registers[1], &0xffff_ff80);
     Ok(())
 }
 
@@ -130,10 +132,14 @@ fn part_of_a_store<J: Naming, R: Wait + Abort>(rt: &R, setup: &Setup) -> Result<
     let found = back.refresh(&core);
     commits(rt, &core, &mut back, &[retired(0x0040_0004, 2)]);
     let end = back.end(rt);
-    assert_eq!(rt; blocked, Refresh::Blocked { load: 1, store: 0 });
-    assert_eq!(rt; found, loaded(1, 0x1122_0044));
-    assert_eq!(rt; end.registers[2], 0x1122_0044);
-    assert_eq!(rt; end.memory.as_slice(), [0x44, 0, 0x22, 0x11].as_slice());
+    same(rt, &blocked, &Refresh::Blocked { load: 1, store: 0 });
+    same(rt, &found, &loaded(1, 0x1122_0044));
+    same(rt, &end.registers[2], &0x1122_0044);
+    same(
+        rt,
+        &end.memory.as_slice(),
+        &[0x44, 0, 0x22, 0x11].as_slice(),
+    );
     Ok(())
 }
 
@@ -157,10 +163,11 @@ fn fault<J: Naming, R: Wait + Abort>(rt: &R, setup: &Setup) -> Result<(), Fail>
     let idle = back.refresh(&core);
     commits(rt, &core, &mut back, &[Commit::Ended(Stop::Unaligned)]);
     let end = back.end(rt);
-    assert_eq!(rt; idle, Refresh::Idle);
-    assert_eq!(rt;
-        (end.n, end.pc, end.outcome),
-        (0, 0x0040_0000, Ending::Stop(Stop::Unaligned))
+    same(rt, &idle, &Refresh::Idle);
+    same(
+        rt,
+        &(end.n, end.pc, end.outcome),
+        &(0, 0x0040_0000, Ending::Stop(Stop::Unaligned)),
     );
     Ok(())
 }

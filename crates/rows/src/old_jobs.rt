@@ -4,6 +4,7 @@ ghost use Rattle.std.specs.Prelude.{◌≡◌, ◌≤◌};
 use crate::drive::{
     Setup, by_hand, commits, finish_job, finish_one, let_at, retired, set_up, takes,
 };
+use crate::same::same;
 use back::{Back, Naming};
 use front::{Front, Recovery, Turn};
 use instructions::{NotTaken, Program};
@@ -37,12 +38,12 @@ fn lets_again<'a, J: Naming>(
     ensures front { front.new.core ≡ core.now }
 {
     assert!(rt; finish_one(core, program, other, 0));
-    assert_eq!(rt; front.recover(core), mended(0));
+    same(rt, &front.recover(core), &mended(0));
     takes(rt, core, front, &[let_at(1, 2, 0x0040_0000), Turn::Full]);
     commits(rt, core, back, &[retired(0x0040_0000, 1)]);
     takes(rt, core, front, &[let_at(0, 2, 0x0040_0004)]);
     assert!(rt; finish_one(core, program, other, 1));
-    assert_eq!(rt; front.recover(core), mended(1));
+    same(rt, &front.recover(core), &mended(1));
     takes(rt, core, front, &[let_at(0, 3, 0x0040_0000)]);
     commits(rt, core, back, &[retired(0x0040_0000, 2)]);
     takes(rt, core, front, &[let_at(1, 3, 0x0040_0004)]);
@@ -85,9 +86,9 @@ fn job_over_lets<J: Naming, R: Wait + Abort>(rt: &R, setup: &Setup) -> Result<()
     let late = finishes_late(rt, &core, &setup.program, &mut front, units, &mut back);
     let word = front.look(&core, 1);
     let end = back.end(rt);
-    assert_eq!(rt; late, Some(Finish::Stale));
+    same(rt, &late, &Some(Finish::Stale));
     assert!(rt; word.tag == 3 && word.state == StationState::Open);
-    assert_eq!(rt; (end.n, end.pc), (2, 0x0040_0000));
+    same(rt, &(end.n, end.pc), &(2, 0x0040_0000));
     Ok(())
 }
 

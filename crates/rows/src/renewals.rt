@@ -2,6 +2,7 @@
 ghost use Rattle.std.specs.Prelude.{◌≡◌, ◌≤◌, IfOk};
 
 use crate::drive::{Setup, by_hand, commits, finish_one, half, let_at, retired, set_up, takes};
+use crate::same::same;
 use back::{Back, Commit, Naming, Snapper, a_back_enters_behind_a_renewal};
 use front::{Front, Rest, Turn, a_front_enters_behind_a_renewal};
 use instructions::{Ending, NotTaken, Program, Stop};
@@ -123,11 +124,12 @@ fn goes_on<J: Naming, R: Wait + Abort>(rt: &R, setup: &Setup) -> Result<(), Fail
     assert!(rt; finish_one(&core, &setup.program, &mut unit, 0));
     commits(rt, &core, &mut back, &[Commit::Ended(Stop::Break)]);
     let end = back.end(rt);
-    assert_eq!(rt;
-        (end.n, end.pc, end.outcome),
-        (2, 0x0040_0008, Ending::Stop(Stop::Break))
+    same(
+        rt,
+        &(end.n, end.pc, end.outcome),
+        &(2, 0x0040_0008, Ending::Stop(Stop::Break)),
     );
-    assert_eq!(rt; (end.registers[1], end.registers[2]), (5, 10));
+    same(rt, &(end.registers[1], end.registers[2]), &(5, 10));
     Ok(())
 }
 
@@ -169,8 +171,8 @@ fn between_halves<J: Naming, R: Wait + Abort>(rt: &R, setup: &Setup) -> Result<(
     let answers = [retired(0x0040_0004, 2), Commit::Ended(Stop::Break)];
     commits(rt, &core, &mut back, &answers);
     let end = back.end(rt);
-    assert_eq!(rt; (end.n, end.pc), (2, 0x0040_0008));
-    assert_eq!(rt; (end.registers[LO], end.registers[HI]), (9, 0));
+    same(rt, &(end.n, end.pc), &(2, 0x0040_0008));
+    same(rt, &(end.registers[LO], end.registers[HI]), &(9, 0));
     Ok(())
 }
 
@@ -227,10 +229,10 @@ fn snapshots<J: Naming, R: Wait + Abort>(rt: &R, setup: &Setup) -> Result<(), Fa
     commits(rt, &core, &mut back, &[retired(0x0040_0008, 3)]);
     let behind = shown(rt, &mut back, &mut snapper);
     let end = back.end(rt);
-    assert_eq!(rt; still.map(|snap| snap.n), Some(2));
-    assert_eq!(rt; (before, again), ((2, 0x0040_0008), (2, 0x0040_0008)));
-    assert_eq!(rt; behind, (3, 0x0040_000c));
-    assert_eq!(rt; (end.n, end.registers[3]), (3, 11));
+    same(rt, &still.map(|snap| snap.n), &Some(2));
+    same(rt, &(before, again), &((2, 0x0040_0008), (2, 0x0040_0008)));
+    same(rt, &behind, &(3, 0x0040_000c));
+    same(rt, &(end.n, end.registers[3]), &(3, 11));
     Ok(())
 }
 

@@ -2,6 +2,7 @@
 ghost use Rattle.std.specs.Prelude.{◌≡◌};
 
 use crate::drive::{Setup, by_hand, commits, finish_one, let_at, retired, set_up};
+use crate::same::same;
 use back::{Commit, Naming};
 use instructions::Stop;
 use station::StationState;
@@ -32,7 +33,7 @@ fn met_a_unit<J: Naming, R: Wait + Abort>(rt: &R, setup: &Setup) -> Result<(), F
     back.end(rt);
     assert!(rt; done.state == StationState::Done && (done.tag, done.value) == (1, 5));
     assert!(rt; free.state == StationState::Free && free.tag == 2);
-    assert_eq!(rt; (going, ended), (None, Some(Stop::Break)));
+    same(rt, &(going, ended), &(None, Some(Stop::Break)));
     Ok(())
 }
 

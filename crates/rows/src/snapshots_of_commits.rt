@@ -2,6 +2,7 @@
 ghost use Rattle.std.specs.Prelude.{◌≡◌};
 
 use crate::drive::{Setup, back_at, by_hand, commits, finish_one, let_at, retired, set_up, takes};
+use crate::same::same;
 use back::{Back, Gone, Mark, Naming, NoPlace, Snap, Snapper};
 use front::Front;
 use instructions::{Config, NotTaken};
@@ -25,10 +26,10 @@ fn tries<J: Naming>(snapper: &mut Snapper<J>, most: u32) -> Option<Snapper<J>> {
 fn take_alike<J: Naming>(rt: &impl Abort, snapper: &mut Snapper<J>, mark: &Mark) -> Snap {
     snapper.learn(mark);
     let snap = snapper.take().expect(rt, "no snapshot");
-    assert_eq!(rt; snapper.take(), Ok(snap));
+    same(rt, &snapper.take(), &Ok(snap));
     let mut other = tries(snapper, 1000).expect(rt, "no second place");
     other.learn(mark);
-    assert_eq!(rt; other.take(), Ok(snap));
+    same(rt, &other.take(), &Ok(snap));
     snap
 }
 
@@ -53,12 +54,16 @@ fn three_commits<J: Naming, R: Wait + Abort>(rt: &R, setup: &Setup) -> Result<()
     let mark = back.show(rt).expect(rt, "nothing was shown");
     let snap = take_alike(rt, &mut snapper, &mark);
     let end = back.end(rt);
-    assert_eq!(rt; mark, Mark { n: 3 });
-    assert_eq!(rt; (snapper.take(), snapper.take()), (Err(Gone), Err(Gone)));
-    assert_eq!(rt; (snap.n, snap.pc), (3, 0x0040_000c));
+    same(rt, &mark, &Mark { n: 3 });
+    same(
+        rt,
+        &(snapper.take(), snapper.take()),
+        &(Err(Gone), Err(Gone)),
+    );
+    same(rt, &(snap.n, snap.pc), &(3, 0x0040_000c));
     let registers = (snap.registers[1], snap.registers[2], snap.registers[3]);
-    assert_eq!(rt; registers, (1, 2, 3));
-    assert_eq!(rt; end.registers, snap.registers);
+    same(rt, &registers, &(1, 2, 3));
+    same(rt, &end.registers, &snap.registers);
     Ok(())
 }
 
@@ -94,11 +99,15 @@ fn refused_once<J: Naming, R: Wait + Abort>(rt: &R, setup: &Setup) -> Result<(),
     let woken = back.woken();
     let end = back.end(rt);
     let shown = if first.is_some() { 1 } else { 0 };
-    assert_eq!(rt; before.map(|snap| snap.n), Some(shown));
-    assert_eq!(rt; first.or(second), Some(Mark { n: 1 }));
-    assert_eq!(rt; after.map(|snap| (snap.n, snap.registers[1])), Some((1, 1)));
-    assert_eq!(rt; (n, end.n, end.registers[1]), (1, 1, 1));
-    assert_eq!(rt; woken, 0);
+    same(rt, &before.map(|snap| snap.n), &Some(shown));
+    same(rt, &first.or(second), &Some(Mark { n: 1 }));
+    same(
+        rt,
+        &after.map(|snap| (snap.n, snap.registers[1])),
+        &Some((1, 1)),
+    );
+    same(rt, &(n, end.n, end.registers[1]), &(1, 1, 1));
+    same(rt, &woken, &0);
     Ok(())
 }
 
@@ -124,8 +133,12 @@ fn one_place<J: Naming, R: Wait + Abort>(rt: &R, setup: &Setup) -> Result<(), Fa
     let second = snapper.another().map(|_| ());
     let taken = snapper.take().ok();
     back.end(rt);
-    assert_eq!(rt; second, Err(NoPlace));
-    assert_eq!(rt; taken.map(|snap| (snap.n, snap.pc)), Some((0, 0x0040_0000)));
+    same(rt, &second, &Err(NoPlace));
+    same(
+        rt,
+        &taken.map(|snap| (snap.n, snap.pc)),
+        &Some((0, 0x0040_0000)),
+    );
     Ok(())
 }
 

@@ -2,6 +2,7 @@
 ghost use Rattle.std.specs.Prelude.{◌≡◌};
 
 use crate::drive::{Setup, by_hand, commits, finish_one, let_at, retired, set_up, takes};
+use crate::same::same;
 use back::{Commit, Naming};
 use front::Turn;
 use instructions::Ending;
@@ -27,11 +28,12 @@ fn spent_tags<J: Naming, R: Wait + Abort>(rt: &R, setup: &Setup) -> Result<(), F
     takes(rt, &core, &mut front, &[Turn::Spent]);
     commits(rt, &core, &mut back, &[Commit::Empty]);
     let end = back.end(rt);
-    assert_eq!(rt;
-        (end.n, end.pc, end.outcome),
-        (2, 0x0040_0008, Ending::Limit)
+    same(
+        rt,
+        &(end.n, end.pc, end.outcome),
+        &(2, 0x0040_0008, Ending::Limit),
     );
-    assert_eq!(rt; (end.registers[1], end.registers[2]), (5, 10));
+    same(rt, &(end.registers[1], end.registers[2]), &(5, 10));
     Ok(())
 }
 
@@ -54,7 +56,7 @@ fn full_ring<J: Naming, R: Wait + Abort>(rt: &R, setup: &Setup) -> Result<(), Fa
     commits(rt, &core, &mut back, &[retired(0x0040_0000, 1)]);
     takes(rt, &core, &mut front, &[let_at(0, 2, 0x0040_0008)]);
     let end = back.end(rt);
-    assert_eq!(rt; (end.n, end.pc), (1, 0x0040_0004));
+    same(rt, &(end.n, end.pc), &(1, 0x0040_0004));
     Ok(())
 }
 

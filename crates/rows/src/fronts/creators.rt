@@ -1,6 +1,7 @@
 //! The creator of a register, behind a recovery and behind a let of its station.
 use super::retires;
 use crate::drive::{finished, let_at, made, takes, work};
+use crate::same::same;
 use front::{Front, Made, Recovery};
 use instructions::{NotTaken, Outcome, Reg};
 use station::Core;
@@ -29,17 +30,22 @@ fn a_recovery_brings_the_older_creator_back(rt: HostRuntime) -> Result<(), Fail>
     let recovery = front.recover(&core);
     let after = front.creator(one);
     let none = front.creator(two);
-    assert_eq!(rt; branch, Some(finished(0, 0, Outcome::Next(0x0040_000c))));
-    assert_eq!(rt;
-        recovery,
-        Recovery::Mended {
-            station: 1,
-            squashed: 2
-        }
+    same(
+        &rt,
+        &branch,
+        &Some(finished(0, 0, Outcome::Next(0x0040_000c))),
     );
-    assert_eq!(rt; before, Made::Made { station: 2, tag: 1 });
-    assert_eq!(rt; after, Made::Made { station: 0, tag: 1 });
-    assert_eq!(rt; none, Made::Base(0));
+    same(
+        &rt,
+        &recovery,
+        &Recovery::Mended {
+            station: 1,
+            squashed: 2,
+        },
+    );
+    same(&rt, &before, &Made::Made { station: 2, tag: 1 });
+    same(&rt, &after, &Made::Made { station: 0, tag: 1 });
+    same(&rt, &none, &Made::Base(0));
     assert!(rt; touched > 0 && front.touched() > touched && front.touched() - touched <= 8);
     Ok(())
 }
@@ -54,22 +60,27 @@ fn a_creator_of_a_station_let_again_is_a_base_register(rt: HostRuntime) -> Resul
     let lets = [let_at(0, 1, 0x0040_0000), let_at(1, 1, 0x0040_0004)];
     takes(&rt, &core, &mut front, &lets);
     let one = work(&core, &program, &mut unit, 0);
-    assert_eq!(rt; one, Some(finished(0, 0, Outcome::Value(1))));
+    same(&rt, &one, &Some(finished(0, 0, Outcome::Value(1))));
     assert!(rt; retires(&core, &mut back, 0));
     takes(&rt, &core, &mut front, &[let_at(0, 2, 0x0040_0008)]);
     let branch = work(&core, &program, &mut unit, 1);
     let recovery = front.recover(&core);
-    assert_eq!(rt; branch, Some(finished(0, 0, Outcome::Next(0x0040_000c))));
-    assert_eq!(rt;
-        recovery,
-        Recovery::Mended {
+    same(
+        &rt,
+        &branch,
+        &Some(finished(0, 0, Outcome::Next(0x0040_000c))),
+    );
+    same(
+        &rt,
+        &recovery,
+        &Recovery::Mended {
             station: 1,
-            squashed: 1
-        }
+            squashed: 1,
+        },
     );
     let Some(first) = Reg::new(1) else {
         return Err(Fail::new("no register"));
     };
-    assert_eq!(rt; front.creator(first), Made::Base(1));
+    same(&rt, &front.creator(first), &Made::Base(1));
     Ok(())
 }

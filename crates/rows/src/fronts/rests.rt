@@ -1,6 +1,7 @@
 //! A front that rests.
 use super::retires;
 use crate::drive::{finished, let_at, made, takes, work};
+use crate::same::same;
 use front::{Front, Made, Recovery, Rest, Turn};
 use instructions::{Bimod, NotTaken, Outcome, Reg};
 use station::Core;
@@ -31,18 +32,20 @@ fn a_front_rests_when_all_have_left(rt: HostRuntime) -> Result<(), Fail> {
     let still = front.rest(&core);
     takes(&rt, &core, &mut front, &[let_at(2, 1, 0x0040_0008)]);
     let let_again = front.rest(&core);
-    assert_eq!(rt; five, Some(finished(0, 0, Outcome::Value(5))));
-    assert_eq!(rt; ten, Some(finished(5, 5, Outcome::Value(10))));
-    assert_eq!(rt;
-        (nobody_yet, open, one_left),
-        (Rest::Idle, Rest::Live, Rest::Live)
+    same(&rt, &five, &Some(finished(0, 0, Outcome::Value(5))));
+    same(&rt, &ten, &Some(finished(5, 5, Outcome::Value(10))));
+    same(
+        &rt,
+        &(nobody_yet, open, one_left),
+        &(Rest::Idle, Rest::Live, Rest::Live),
     );
-    assert_eq!(rt; made_by, Made::Made { station: 1, tag: 1 });
-    assert_eq!(rt;
-        (idle, still, let_again),
-        (Rest::Idle, Rest::Idle, Rest::Live)
+    same(&rt, &made_by, &Made::Made { station: 1, tag: 1 });
+    same(
+        &rt,
+        &(idle, still, let_again),
+        &(Rest::Idle, Rest::Idle, Rest::Live),
     );
-    assert_eq!(rt; base, Made::Base(10));
+    same(&rt, &base, &Made::Base(10));
     Ok(())
 }
 
@@ -61,17 +64,26 @@ fn a_rest_tells_of_the_last_branch_once(rt: HostRuntime) -> Result<(), Fail> {
     takes(&rt, &core, &mut front, &[let_at(1, 1, 0x0040_0000)]);
     let taken = work(&core, &program, &mut unit, 1);
     let none = front.recover(&core);
-    assert_eq!(rt; missed, Some(finished(0, 0, Outcome::Next(0x0040_0000))));
-    let squashed = 0;
-    assert_eq!(rt;
-        mended,
-        Recovery::Mended {
-            station: 0,
-            squashed
-        }
+    same(
+        &rt,
+        &missed,
+        &Some(finished(0, 0, Outcome::Next(0x0040_0000))),
     );
-    assert_eq!(rt; taken, Some(finished(0, 0, Outcome::Next(0x0040_0000))));
-    assert_eq!(rt; (idle, none), (Rest::Idle, Recovery::NoMiss));
+    let squashed = 0;
+    same(
+        &rt,
+        &mended,
+        &Recovery::Mended {
+            station: 0,
+            squashed,
+        },
+    );
+    same(
+        &rt,
+        &taken,
+        &Some(finished(0, 0, Outcome::Next(0x0040_0000))),
+    );
+    same(&rt, &(idle, none), &(Rest::Idle, Recovery::NoMiss));
     // the station of the branch that was told of at the rest: nobody is told again
     takes(
         &rt,

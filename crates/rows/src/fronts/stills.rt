@@ -1,6 +1,7 @@
 //! A front that leaves its core and enters it again.
 use super::retires;
 use crate::drive::{finished, let_at, made, takes, work};
+use crate::same::same;
 use front::{Front, Made, Rest};
 use instructions::{NotTaken, Outcome, Reg};
 use station::Core;
@@ -26,9 +27,9 @@ fn a_front_goes_on_where_it_left(rt: HostRuntime) -> Result<(), Fail> {
     };
     let (given, still) = front.leave();
     let mut again = still.enter_again(given, &program);
-    assert_eq!(rt; five, Some(finished(0, 0, Outcome::Value(5))));
-    assert_eq!(rt; ten, Some(finished(5, 5, Outcome::Value(10))));
-    assert_eq!(rt; again.creator(second), Made::Base(10));
+    same(&rt, &five, &Some(finished(0, 0, Outcome::Value(5))));
+    same(&rt, &ten, &Some(finished(5, 5, Outcome::Value(10))));
+    same(&rt, &again.creator(second), &Made::Base(10));
     takes(&rt, &core, &mut again, &[let_at(2, 1, 0x0040_0008)]);
     Ok(())
 }
