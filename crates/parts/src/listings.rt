@@ -4,7 +4,7 @@ mod limits;
 mod written;
 
 use crate::making::instr;
-use crate::same::{same, same_in};
+use crate::same::same;
 use instructions::{Half, Instr, Op, Reg};
 use isa::{FaultKind, TextFault, parse};
 use std::test::Fail;
@@ -72,7 +72,7 @@ fn reads_each_form(rt: HostRuntime) -> Result<(), Fail> {
     ];
     for (text, wanted) in cases {
         let program = parse(rt.alloc(), text).map_err(|_| "refused")?;
-        same_in(&rt, &wanted, &program.len(), &1);
+        assert_eq!(rt; program.len(), 1, "{wanted:?}");
         same(&rt, &*program.instr(0), &wanted);
         same(&rt, &program.size(), &0);
     }
