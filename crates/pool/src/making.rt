@@ -80,15 +80,8 @@ fn make_parts<J: Naming>(
 }
 
 // The floor, with hints for the ring.
-fn make_floor<K: Bounds + Ring>(
-    alloc: Global,
-    config: &Config,
-    counts: Counts,
-) -> Result<Floor<K>, Memory>
-    requires counts { counts ≡ K.counts }
-    requires limit { config.now.limit ≡ K.limit }
-    requires turns { config.now.turns ≡ K.turns }
-    requires ring { config.now.ring ≡ K.ring }
+fn make_floor<K: Ring>(alloc: Global, config: &Config, counts: Counts) -> Result<Floor<K>, Memory>
+    requires { config.now.ring ≡ K.ring }
     ensures { IfOk result (IsFloor config.now.ring counts) }
 {
     let hints = Hints::<K>::new(alloc, config.ring() as usize)?;
