@@ -94,7 +94,7 @@ const ABOUT: &str =
     './ruu listing FILE' writes the listing of an executable.";
 
 /// The version, and on a line of its own the kit by which it is proved.
-const VERSION: &str = "0.1.0\nrattle-kit-13b logic dac8208d650f15bf";
+const VERSION: &str = "0.1.0\nrattle-kit-13f logic dac8208d650f15bf";
 
 const RUN: &str = "Runs a listing of MIPS I instructions and writes a report of how it ended";
 
