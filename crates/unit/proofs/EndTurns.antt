@@ -166,7 +166,7 @@ source_first g r = go (Rattle.inorder.specs.Unit.can_be_written r)
     go true = (slice_index g r, refl)
     go false = (0, refl)
 
-both_there : (k : Kind) (x y : ℕ) → operands_by k (Some x) (Some y) ≡ Some (record { a = x; b = y })
+pub both_there : (k : Kind) (x y : ℕ) → operands_by k (Some x) (Some y) ≡ Some (record { a = x; b = y })
 both_there Stores x y = refl
 both_there Computes x y = refl
 both_there Jumps x y = refl

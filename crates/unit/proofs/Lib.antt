@@ -2,6 +2,7 @@ pub mod Waiting
 pub mod Scan
 pub mod Settled
 pub mod Sources
+pub mod Futures
 pub mod Fetched
 pub mod Slots
 pub mod CreatorsKept
@@ -27,3 +28,4 @@ pub mod Idle
 pub mod Stalls
 pub mod BenchTurns
 pub mod Ends
+pub mod Streams

@@ -129,12 +129,12 @@ noted_mended missed n at x W y first m s =
 
 -- The oldest leaves
 
-get_drop : (W : List Station) (k : ℕ) → slice_get (drop 1 W) k ≡ slice_get W (suc k)
+pub get_drop : (W : List Station) (k : ℕ) → slice_get (drop 1 W) k ≡ slice_get W (suc k)
 get_drop [] zero = refl
 get_drop [] (suc k) = refl
 get_drop (w ∷ W) k = refl
 
-length_drop : (W : List Station) → length (drop 1 W) ≡ length W - 1
+pub length_drop : (W : List Station) → length (drop 1 W) ≡ length W - 1
 length_drop [] = omega arith
 length_drop (w ∷ W) = omega arith
 

@@ -1,5 +1,6 @@
 -- What each stage of a turn does to the fields.
-use Rattle.std.specs.Prelude.{◌≡◌, ◌<◌, ℕ, suc, ◌+◌, ◌-◌, ◌%◌, Bool, List, length, Option, Some, None}
+use Rattle.std.specs.Prelude.{◌≡◌, ◌<◌, ℕ, suc, ◌+◌, ◌-◌, ◌%◌, Bool, List, length, Option, Some, None, slice_get, slice_set}
+use Rattle.instructions.specs.Operations.{outcome_of}
 use Rattle.instructions.specs.declared.end.Ending.{Ending}
 use Rattle.instructions.specs.declared.end.Ending.TheVariants.{Stop as ByStop}
 use Rattle.instructions.specs.declared.stop.Stop.{Stop}
@@ -7,13 +8,16 @@ use Rattle.inorder.specs.Committed.{ahead_by, with_low}
 use Rattle.inorder.specs.Machine.{State}
 use Rattle.inorder.specs.Runs.{end_from}
 use Rattle.unit.specs.declared.dispatch.Fetched.{Fetched}
+use Rattle.unit.specs.declared.execute.Ready.{Ready}
+use Rattle.unit.specs.declared.memory_port.Answered.{Answered}
 use Rattle.unit.specs.declared.pipeline.Pipeline.{Pipeline}
+use Rattle.unit.specs.declared.station.Stage.TheVariants.{Done}
 use Rattle.unit.specs.declared.station.Station.{Station}
-use Rattle.unit.specs.Givers.{NoneGives}
+use Rattle.unit.specs.Givers.{NoneGives, gives}
 use Rattle.unit.specs.Loads.{load_in}
 use Rattle.unit.specs.Notes.{miss_in}
 use Rattle.unit.specs.Stages.{LoadsTo, NextIs, RecoversTo, RunsTo}
-use Rattle.unit.specs.Window.{operands_in}
+use Rattle.unit.specs.Window.{further_on, operands_in, station_after}
 
 -- The window changes, and what is remembered of it
 abbrev pub with_window : Pipeline → List Station → Bool → ℕ → Pipeline
@@ -49,6 +53,22 @@ next_place b = (b.oldest + length b.window) % b.ring
 
 -- Execution
 
+-- The tenant at a place can be claimed, with these sources
+abbrev pub CanClaim : Pipeline → Ready → Type 0
+CanClaim b r = gives (operands_in (registers_of b)) b.window r.at ≡ Some r.operands
+
+-- What its station becomes
+abbrev pub ran_at : Pipeline → Ready → Station → Station
+ran_at b r w =
+    station_after w
+    (outcome_of w.instr w.half w.pc r.operands.a r.operands.b (length b.program.now.bytes))
+
+-- It is claimed and finished
+abbrev pub RunsAt : Pipeline → Ready → Pipeline → Type 0
+RunsAt b r later =
+    (w : Station) → slice_get b.window r.at ≡ Some w →
+    later.window ≡ slice_set b.window r.at (ran_at b r w)
+
 -- The oldest station that can be claimed is finished
 abbrev pub RunsOldest : Pipeline → Pipeline → Type 0
 RunsOldest b later = RunsTo (registers_of b) (length b.program.now.bytes) b.window later.window
@@ -58,6 +78,16 @@ abbrev pub NoneRuns : Pipeline → Type 0
 NoneRuns b = NoneGives (operands_in (registers_of b)) b.window
 
 -- The memory port
+
+-- The load at a place is not blocked, and has this value
+abbrev pub LoadGives : Pipeline → Answered → Type 0
+LoadGives b l = gives (load_in (registers_of b) b.committed.memory) b.window l.at ≡ Some l.value
+
+-- It gets its value
+abbrev pub LoadsAt : Pipeline → Answered → Pipeline → Type 0
+LoadsAt b l later =
+    (w : Station) → slice_get b.window l.at ≡ Some w →
+    later.window ≡ slice_set b.window l.at (further_on w Done (Some l.value))
 
 -- The oldest load that is not blocked gets its value
 abbrev pub LoadsOldest : Pipeline → Pipeline → Type 0

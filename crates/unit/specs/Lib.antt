@@ -14,3 +14,4 @@ pub mod Changes
 pub mod StandsFor
 pub mod Blocked
 pub mod Turns
+pub mod Steady

@@ -1,5 +1,5 @@
 //! The one-thread unit, as its callers see it.
-ghost use Rattle.std.specs.Prelude.{◌≡◌, ◌<◌, ◌-◌, ◌^◌, nat_lt, length, slice_get, IfOk};
+ghost use Rattle.std.specs.Prelude.{◌≡◌, ◌<◌, ◌≤◌, ◌-◌, ◌^◌, nat_lt, length, slice_get, IfOk};
 ghost use Rattle.inorder.specs.Machine.{start};
 ghost use Rattle.inorder.specs.Runs.{end_state};
 ghost use Rattle.unit.specs.Changes.{RetiresOne, run_from};
@@ -169,16 +169,30 @@ impl<'a, P: Predictor + Drop> Bench<'a, P> {
         }
     }
 
+    // Turns as long as the pipeline is in its steady state.
+    #[inline(always)]
+    fn streams(&mut self, limit: u64)
+        ensures program { self.new.pipeline.program ≡ self.old.pipeline.program }
+        ensures more { self.old.pipeline.committed.count ≤ self.new.pipeline.committed.count }
+        ensures ends { run_from self.new.pipeline limit ≡ run_from self.old.pipeline limit }
+    {
+        self.stalled = false;
+        self.pipeline.streams(&mut self.predictor, limit);
+    }
+
     // Turns until it stops, or its count has reached a limit.
     fn run_to(&mut self, limit: u64) -> Ending
         ensures { (result, self.new.pipeline.committed) ≡ run_from self.old.pipeline limit }
     {
-        while self.pipeline.committed.count() < limit {
+        loop {
+            self.streams(limit);
+            if limit <= self.pipeline.committed.count() {
+                return Ending::Limit;
+            }
             if let Some(code) = self.retires_one() {
                 return Ending::Stop(code);
             }
         }
-        Ending::Limit
     }
 
     /// Runs until it stops, or its count has reached a limit: as the in-order machine does.

@@ -148,7 +148,31 @@ impl<'a> Pipeline<'a> {
         }
     }
 
-    /// Lets the next instruction, if one can be let: a predictor is told of who has left its station, and asked.
+    /// Lets an instruction that can be let: a predictor is told of who has left its station, and asked. Answers
+    /// the predicted next pc.
+    #[inline(always)]
+    pub fn enters<P: Predictor>(&mut self, predictor: &mut P, next: Fetched) -> u32
+        requires unit { StandsForSome self.old }
+        requires open { self.old.over ≡ None }
+        requires miss { NoneRecovers self.old }
+        requires can { NextOf self.old (Some next) }
+        ensures turn { IsTurn P.Predicts P.Learns
+            (fields self.old predictor.old) Let (fields self.new predictor.new) }
+        ensures falls { Falls Let self.old self.new }
+        ensures unit { StandsForSome self.new }
+        ensures same { SizesStay self.old self.new }
+        ensures window { self.new.window ≡
+            self.old.window ++ let_at next.instr next.half next.pc result ∷ [] }
+        ensures rest { self.new ≡
+            record self.old { window = self.new.window; leavers = self.new.leavers } }
+    {
+        let left = self.leaver();
+        let predicted = guess(predictor, left, &next);
+        self.let_out(next, predicted);
+        predicted
+    }
+
+    /// Lets the next instruction, if one can be let.
     #[inline(always)]
     pub fn lets<P: Predictor>(&mut self, predictor: &mut P, stalled: bool) -> bool
         requires unit { StandsForSome self.old }
@@ -167,9 +191,7 @@ impl<'a> Pipeline<'a> {
         let Some(next) = self.next_unless(stalled) else {
             return false;
         };
-        let left = self.leaver();
-        let predicted = guess(predictor, left, &next);
-        self.let_out(next, predicted);
+        self.enters(predictor, next);
         true
     }
 }

@@ -1,6 +1,6 @@
 //! Execution.
 ghost use Rattle.std.specs.Prelude.{⊤, ◌≡◌, ◌<◌, ◌≤◌, [], ◌∷◌, ◌++◌, length, take, slice_get, Some, None};
-ghost use Rattle.unit.specs.Changes.{NoneRuns, RunsOldest, with_window};
+ghost use Rattle.unit.specs.Changes.{CanClaim, NoneRuns, RunsAt, RunsOldest, with_window};
 ghost use Rattle.unit.specs.Givers.{Chosen, gives};
 ghost use Rattle.unit.specs.Notes.{AreNoted, AreSettled, missed_after, settled_at, settled_by};
 ghost use Rattle.unit.specs.Stages.{FirstReady};
@@ -168,19 +168,17 @@ impl<'a> Pipeline<'a> {
         }
     }
 
-    /// Claims and finishes the oldest tenant that can be claimed.
+    /// Claims and finishes a tenant that can be claimed. Answers whether it is settled then.
     #[inline(always)]
-    pub fn runs(&mut self) -> bool
-        requires { AreNoted self.old.missed self.old.settled self.old.window }
-        ensures window { Chosen result (RunsOldest self.old self.new) (NoneRuns self.old) }
-        ensures same { Chosen result ⊤ (self.new.window ≡ self.old.window) }
+    pub fn claims(&mut self, ready: Ready) -> bool
+        requires ready { CanClaim self.old ready }
+        requires noted { AreNoted self.old.missed self.old.settled self.old.window }
+        ensures window { RunsAt self.old ready self.new }
         ensures rest { self.new ≡
-            with_window self.old self.new.window self.new.missed self.new.settled }
+            record self.old { window = self.new.window; missed = self.new.missed } }
+        ensures settles { settled_at (slice_get self.new.window ready.at) ≡ result }
         ensures noted { AreNoted self.new.missed self.new.settled self.new.window }
     {
-        let Some(ready) = oldest_ready(&self.window, &self.ahead(), self.settled) else {
-            return false;
-        };
         let Some(station) = self.window.peek(ready.at) else {
             return false;
         };
@@ -196,7 +194,23 @@ impl<'a> Pipeline<'a> {
         );
         let predicted = station.predicted;
         let kind = station.instr.kind();
-        let settles = self.finish(ready.at, outcome, kind, predicted);
+        self.finish(ready.at, outcome, kind, predicted)
+    }
+
+    /// Claims and finishes the oldest tenant that can be claimed.
+    #[inline(always)]
+    pub fn runs(&mut self) -> bool
+        requires { AreNoted self.old.missed self.old.settled self.old.window }
+        ensures window { Chosen result (RunsOldest self.old self.new) (NoneRuns self.old) }
+        ensures same { Chosen result ⊤ (self.new.window ≡ self.old.window) }
+        ensures rest { self.new ≡
+            with_window self.old self.new.window self.new.missed self.new.settled }
+        ensures noted { AreNoted self.new.missed self.new.settled self.new.window }
+    {
+        let Some(ready) = oldest_ready(&self.window, &self.ahead(), self.settled) else {
+            return false;
+        };
+        let settles = self.claims(ready);
         let known = known_settled(&self.window, self.settled, ready.at, settles);
         self.settled = settled(&self.window, known);
         true

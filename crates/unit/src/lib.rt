@@ -9,6 +9,7 @@ mod dispatch;
 mod execute;
 mod fetch;
 mod forwarding;
+mod future;
 mod leaver;
 mod memory_port;
 mod pipeline;
@@ -17,6 +18,7 @@ mod recovery;
 mod retire;
 mod source;
 mod station;
+mod steady;
 mod window;
 mod writers;
 

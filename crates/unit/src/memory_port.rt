@@ -2,7 +2,7 @@
 ghost use Rattle.std.specs.Prelude.{⊤, ◌≡◌, ◌<◌, ◌≤◌, ◌+◌, length};
 ghost use Rattle.instructions.specs.Instruction.{width as width_in};
 ghost use Rattle.lsq.specs.Entries.{bytes};
-ghost use Rattle.unit.specs.Changes.{LoadsOldest, NoneLoads};
+ghost use Rattle.unit.specs.Changes.{LoadGives, LoadsAt, LoadsOldest, NoneLoads};
 ghost use Rattle.unit.specs.Forwarding.{value_over};
 ghost use Rattle.unit.specs.Givers.{Chosen, gives};
 ghost use Rattle.inorder.specs.Loads.{access_width as width_of};
@@ -56,7 +56,7 @@ fn value_of(older: Older, ahead: &Ahead, op: Op, address: u32) -> Option<u32>
 
 // The value of the load at `i`, if it is one with its address that is not blocked.
 #[inline(always)]
-fn value_at(window: &Window, ahead: &Ahead, i: usize) -> Option<u32>
+pub fn value_at(window: &Window, ahead: &Ahead, i: usize) -> Option<u32>
     requires there { i < length window.now }
     requires inside { AreInside (length ahead.now.memory) window.now }
     requires stores { StoresWriteNone window.now }
@@ -86,6 +86,20 @@ fn oldest_answered(window: &Window, ahead: &Ahead, from: usize) -> Option<Answer
 }
 
 impl<'a> Pipeline<'a> {
+    /// A load that is not blocked gets its value.
+    #[inline(always)]
+    pub fn answers(&mut self, answered: Answered)
+        requires there { answered.at < length self.old.window }
+        requires answered { LoadGives self.old answered }
+        requires noted { AreNoted self.old.missed self.old.settled self.old.window }
+        ensures window { LoadsAt self.old answered self.new }
+        ensures rest { self.new ≡ record self.old { window = self.new.window } }
+        ensures noted { AreNoted self.new.missed self.new.settled self.new.window }
+    {
+        self.window
+            .advance(answered.at, Stage::Done, Some(answered.value));
+    }
+
     /// Answers the oldest load with its address that is not blocked.
     #[inline(always)]
     pub fn loads(&mut self) -> bool
@@ -100,8 +114,7 @@ impl<'a> Pipeline<'a> {
         let Some(answered) = oldest_answered(&self.window, &self.ahead(), self.settled) else {
             return false;
         };
-        self.window
-            .advance(answered.at, Stage::Done, Some(answered.value));
+        self.answers(answered);
         true
     }
 }

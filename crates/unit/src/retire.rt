@@ -83,9 +83,9 @@ impl<'a> Pipeline<'a> {
         Turn::Halved
     }
 
-    // The oldest tenant commits and leaves its station.
+    /// The oldest tenant commits and leaves its station.
     #[inline(always)]
-    fn leaves(&mut self, oldest: Station) -> Turn
+    pub fn leaves(&mut self, oldest: Station) -> Turn
         requires oldest { self.old.oldest < self.old.ring }
         requires most { self.old.ring ≤ 32 }
         requires leavers { length self.old.leavers ≡ 32 }

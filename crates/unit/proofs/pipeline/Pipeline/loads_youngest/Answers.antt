@@ -1,0 +1,35 @@
+use Rattle.std.proofs.Common.{length, sym, ap, ◌∙◌, subst, arith}
+use Rattle.unit.specs.Changes.{LoadGives}
+use Rattle.unit.specs.Givers.{gives}
+use Rattle.unit.specs.Loads.{AreInside, load_in}
+use Rattle.unit.proofs.EndTurns.{are_inside, stores_write_none}
+use Rattle.unit.proofs.Streams.{loaded_ends, loaded_youngest}
+use Rattle.unit.proofs.pipeline.Pipeline.loads_youngest.Goals as goal
+
+pub value_at-requires-clause-there : goal.value_at-requires-clause-there
+value_at-requires-clause-there c = omega (arith, c.requires.youngest)
+
+pub value_at-requires-clause-inside : goal.value_at-requires-clause-inside
+value_at-requires-clause-inside c = subst (λ s. AreInside (length s.memory) c.args.self.now.window) (sym c.ahead.ensures) (are_inside c.args.self.now c.requires.unit)
+
+pub value_at-requires-clause-stores : goal.value_at-requires-clause-stores
+value_at-requires-clause-stores c = stores_write_none c.args.self.now c.requires.unit
+
+pub answers-requires-clause-there : goal.answers-requires-clause-there
+answers-requires-clause-there c = omega (arith, c.requires.youngest)
+
+pub answers-requires-clause-answered : goal.answers-requires-clause-answered
+answers-requires-clause-answered c =
+    sym (ap (λ s. gives (load_in s.registers s.memory) c.args.self.now.window c.args.at) c.ahead.ensures) ∙ sym c.value_at.ensures ∙ c.in-Some.is
+
+pub returns-clause-unit : goal.returns-clause-unit
+returns-clause-unit c =
+    let b = c.args.self.now in
+    let answered : LoadGives b (record { at = c.args.at; value = c.in-Some.value }) =
+    sym (ap (λ s. gives (load_in s.registers s.memory) b.window c.args.at) c.ahead.ensures) ∙ sym c.value_at.ensures ∙ c.in-Some.is in
+    let shows = loaded_youngest b c.answers.new.self c.args.at c.in-Some.value c.requires.unit c.requires.goes_on c.requires.full c.requires.youngest c.requires.older answered
+    c.answers.ensures.window c.answers.ensures.rest c.answers.ensures.noted in
+    shows.unit
+
+pub returns-clause-window : goal.returns-clause-window
+returns-clause-window c = loaded_ends c.args.self.now c.answers.new.self c.args.at c.in-Some.value c.requires.youngest c.answers.ensures.window

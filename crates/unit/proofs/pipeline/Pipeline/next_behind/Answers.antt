@@ -1,0 +1,25 @@
+use Rattle.std.proofs.Common.{◌≡◌, ◌<◌, true, sym, ap, ◌∙◌, subst, arith, true≢false}
+use Rattle.std.specs.Prelude.{length, option_copied}
+use Rattle.unit.specs.Decoding.{IsDecoded}
+use Rattle.unit.specs.Window.{accesses, half_in, reaches_memory}
+use Rattle.unit.proofs.Streams.{half_passed}
+use Rattle.unit.proofs.pipeline.Pipeline.next_behind.Goals.{else-is_access-via-then-is_access+else-self-accesses, else-is_access-via-else-is_access}
+use Rattle.unit.proofs.pipeline.Pipeline.next_behind.Goals as goal
+
+pub returns-clause-next : goal.returns-clause-next
+returns-clause-next c =
+    let b = c.args.self.now in
+    let s = c.requires.steady in
+    let i = c.in_ok-instr.instr.now in
+    let free : reaches_memory i.op ≡ true → accesses b.window (length b.window) < b.queue =
+    elim c.else-is_access.branch [
+      | else-is_access-via-then-is_access+else-self-accesses w ↦ λ e. omega (arith, w.if-self-accesses.false, w.accesses.ensures)
+      | else-is_access-via-else-is_access w ↦ λ e. absurd (true≢false (sym e ∙ sym c.is_access.ensures ∙ w.if-is_access.false))
+    ] in
+    record {
+      room = omega (arith, s.free);
+      place = s.foresees.path;
+      half = sym (ap (λ l. half_in l b.window) s.whole ∙ half_passed b.window s.passed);
+      is = sym (c.fetch.ensures b.program.now (subst (λ l. IsDecoded l b.program.now) (sym c.as_slice.ensures.value) c.requires.code)) ∙ ap option_copied c.in_ok-instr.was;
+      free = free;
+    }

@@ -1,0 +1,86 @@
+//! What a tenant finds that is let next, where all live ones have made what they write.
+ghost use Rattle.std.specs.Prelude.{⊤, ◌≡◌, ◌≢◌, ◌<◌, [], true, false, length, slice_index};
+ghost use Rattle.instructions.specs.Instruction.{first_of, is_first_half, kind as kind_of, second_of};
+ghost use Rattle.instructions.specs.declared.stop.Stop.{Stop as Code};
+ghost use Rattle.unit.specs.declared.station.Stage.TheVariants.{Stops};
+ghost use Rattle.unit.specs.Givers.{Chosen};
+ghost use Rattle.unit.specs.Notes.{settled_by};
+ghost use Rattle.unit.specs.Steady.{Follows, Foresees};
+
+use crate::decoded::Decoded;
+use crate::execute::Operands;
+use crate::station::{Stage, Station};
+use inorder::Committed;
+use instructions::Kind;
+
+/// What each register holds behind the live tenants, and where the path goes on. The values are the future file of
+/// Smith and Pleszkun.
+#[derive(Clone, Copy)]
+pub struct Future {
+    pub values: [u32; 34],
+    pub pc: u32,
+}
+
+// It has ended, or is a store with its address, and does not stop.
+#[inline(always)]
+fn has_ended(station: &Station) -> bool
+    ensures settled { Chosen result
+        (settled_by (kind_of station.now.instr.op) station.now.stage ≡ true) ⊤ }
+    ensures goes_on { Chosen result ((c : Code) → station.now.stage ≢ Stops c) ⊤ }
+{
+    match station.stage {
+        Stage::Done => true,
+        Stage::Addr(_) => matches!(station.instr.kind(), Kind::Stores),
+        _ => false,
+    }
+}
+
+impl Future {
+    /// Where nobody is live.
+    pub fn new(committed: &Committed) -> Future
+        requires { length committed.now.registers ≡ 34 }
+        ensures { Foresees result committed.now.registers committed.now.pc [] }
+    {
+        let mut values = *committed.registers();
+        values[0] = 0;
+        Future {
+            values,
+            pc: committed.pc(),
+        }
+    }
+
+    /// The sources of an instruction.
+    #[inline(always)]
+    pub fn operands(&self, instr: &Decoded) -> Operands
+        requires { length self.now.values ≡ 34 }
+        ensures first { result.a ≡ slice_index self.now.values (first_of instr.now) }
+        ensures second { result.b ≡ slice_index self.now.values (second_of instr.now) }
+        ensures registers { (first_of instr.now < 34) × (second_of instr.now < 34) }
+    {
+        Operands {
+            a: self.values[instr.first().number() as usize],
+            b: self.values[instr.second().number() as usize],
+        }
+    }
+
+    /// Goes on behind a station, if that has ended and goes on itself.
+    #[inline(always)]
+    pub fn passes(&mut self, station: &Station) -> bool
+        requires all { length self.old.values ≡ 34 }
+        requires whole { is_first_half station.now.instr.op station.now.half ≡ false }
+        ensures { Chosen result (Follows self.old station.now self.new) ⊤ }
+    {
+        if !has_ended(station) {
+            return false;
+        }
+        let r = station.destination.number() as usize;
+        if r != 0 {
+            let Some(value) = station.made else {
+                return false;
+            };
+            self.values[r] = value;
+        }
+        self.pc = station.next;
+        true
+    }
+}
