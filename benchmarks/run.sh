@@ -1,7 +1,8 @@
 #!/usr/bin/env bash
 # Prints how the parser, the in-order machine and the one-thread unit compare with plain C programs of the same work,
-# and how the unit shared by threads compares with the one-thread unit, all measured in this run. The unit has a ring
-# of 16 stations and the predictor bimod. The threads run on the processors that this script may use (taskset).
+# the one-thread unit with SPIM, where that is installed, and the unit shared by threads with the one-thread unit, all
+# measured in this run. The unit has a ring of 16 stations and the predictor bimod. The threads run on the processors
+# that this script may use (taskset).
 set -eu
 cd "$(dirname "$0")/.."
 work=$(mktemp -d)
@@ -29,6 +30,20 @@ ratio() { # name, column of what is measured, in microseconds
     'BEGIN { printf "%-28s %9.1f ms   C %9.1f ms   ratio %.2f\n", name, here / 1000, c * 1000, here / 1e6 / c }'
 }
 
+# SPIM on the loop, where it is installed, beside the one-thread unit. It keeps register 1 for itself.
+spim_on_loop() {
+  command -v spim > /dev/null || return 0
+  { printf '.text\n.globl main\nmain:\n'; sed -E 's/#.*//; s/\$1\>/$9/g; s/\<break\>/ori $2,$0,10\nsyscall/' benchmarks/loop.s; } > "$work/loop.asm"
+  for _ in 1 2 3; do
+    local started
+    started=$(date +%s%N)
+    spim -file "$work/loop.asm" > /dev/null 2>&1
+    echo $((($(date +%s%N) - started) / 1000)) >> "$work/spim"
+  done
+  awk -v spim="$(least 1 spim)" -v here="$(least 4 here)" \
+    'BEGIN { printf "%-28s %9.1f ms   one-thread unit %9.1f ms   ratio %.1f\n", "SPIM, loop", spim / 1000, here / 1000, spim / here }'
+}
+
 for program in loop mixed; do
   python3 benchmarks/assemble.py "benchmarks/$program.s" > "$work/program.h"
   cc -O2 -I "$work" -o "$work/interpreter" benchmarks/interpreter.c
@@ -36,6 +51,7 @@ for program in loop mixed; do
   measure "benchmarks/$program.s" "$work/interpreter"
   ratio "in-order machine, $program" 3
   ratio "one-thread unit, $program" 4
+  [ "$program" != loop ] || spim_on_loop
 done
 
 cc -O2 -o "$work/split" benchmarks/split.c

@@ -1,18 +1,14 @@
 -- What the next tenant finds: where nobody is live, behind one station more, and where the oldest has left.
-use Rattle.std.proofs.Common.{◌≡◌, ◌≢◌, ◌<◌, ℕ, zero, suc, ◌-◌, true, false, cond, List, [], ◌∷◌, ◌++◌, length, Option, Some, None, refl, sym, ap, ◌∙◌, ⊎_elim, arith, eq-eqb, ne_eqb, length-append, length-set, true≢false}
+use Rattle.std.proofs.Common.{◌≡◌, ◌≢◌, ◌<◌, ℕ, zero, suc, ◌-◌, true, cond, List, [], ◌∷◌, ◌++◌, length, Option, Some, None, refl, sym, ap, ◌∙◌, ⊎_elim, arith, eq-eqb, ne_eqb, length-append, length-set, true≢false}
 use Rattle.std.proofs.lemmas.Bool.{cases_eq}
 use Rattle.std.proofs.lemmas.List.{get_or-set_same, get_or-set_other}
 use Rattle.circular_buffer.proofs.Places.{slice_get-some}
 use Rattle.std.specs.Prelude.{is_some, slice_get, slice_index, slice_set, unwrap_or}
-use Rattle.instructions.specs.Instruction.{is_first_half, kind}
-use Rattle.instructions.specs.declared.stop.Stop.{Stop}
 use Rattle.inorder.specs.Machine.{write}
 use Rattle.inorder.proofs.Basics.{read_same, read_other}
 use Rattle.unit.specs.declared.future.Future.{Future}
-use Rattle.unit.specs.declared.station.Stage.TheVariants.{Stops}
 use Rattle.unit.specs.declared.station.Station.{Station}
-use Rattle.unit.specs.Notes.{settled_by}
-use Rattle.unit.specs.Steady.{Follows, Foresees, AwaitsRetirement}
+use Rattle.unit.specs.Steady.{AwaitsRetirement, Foresees, GoesOnBehind}
 use Rattle.unit.specs.Window.{next_after, next_in, register_after, register_in, source_in}
 use Rattle.unit.proofs.Scan.{get_end, register_end}
 use Rattle.unit.proofs.Sources.{source_by}
@@ -128,35 +124,35 @@ foresees_left f registers pc w W s p h =
       path = h.path ∙ sym (path_left pc w W);
     }
 
--- A station that has ended, and goes on
+-- A station that writes a register, or none
 
-pub record EndsWell (w : Station) : Type 0 where
-  pub settled : settled_by (kind w.instr.op) w.stage ≡ true
-  pub on : (c : Stop) → w.stage ≢ Stops c
-  pub whole : is_first_half w.instr.op w.half ≡ false
-
-pub follows_writes : (f : Future) (w : Station) (v : ℕ) → length f.values ≡ 34 → EndsWell w → w.destination ≢ 0 → w.destination < 34 → w.made ≡ Some v →
-    Follows f w (record { values = slice_set f.values w.destination v; pc = w.next })
-follows_writes f w v s g d l m =
+pub behind_writes : (f : Future) (destination value next : ℕ) → length f.values ≡ 34 → destination ≢ 0 → destination < 34 →
+    GoesOnBehind f destination (Some value) next (record { values = slice_set f.values destination value; pc = next; station = f.station })
+behind_writes f destination value next s d l =
     record {
-      passed = record { settled = g.settled; goes_on = g.on; made = λ n. ap is_some m; whole = g.whole };
-      on = λ registers pc W h.
-          let inside : w.destination < length f.values = omega (arith, l, s) in
+      made = λ n. refl;
+      station = refl;
+      on = λ w e m n registers pc W h.
+          let apart : w.destination ≢ 0 = λ z. d (sym e ∙ z) in
+          let inside : w.destination < length f.values = omega (arith, l, s, e) in
+          let is : slice_set f.values w.destination value ≡ slice_set f.values destination value = ap (λ r. slice_set f.values r value) e in
           record {
-            all = length-set f.values w.destination v ∙ s;
-            values = λ r b. values_set registers f.values W w v r d inside m b (h.values r b);
-            path = sym (path_end pc W w);
+            all = length-set f.values destination value ∙ s;
+            values = λ r b. values_set registers f.values W w value r apart inside m b (h.values r b) ∙ ap (λ v. Some (slice_index v r)) is;
+            path = sym n ∙ sym (path_end pc W w);
           };
     }
 
-pub follows_none : (f : Future) (w : Station) → length f.values ≡ 34 → EndsWell w → w.destination ≡ 0 → Follows f w (record { values = f.values; pc = w.next })
-follows_none f w s g d =
+pub behind_none : (f : Future) (destination : ℕ) (value : Option ℕ) (next : ℕ) → length f.values ≡ 34 → destination ≡ 0 →
+    GoesOnBehind f destination value next (record { values = f.values; pc = next; station = f.station })
+behind_none f destination value next s d =
     record {
-      passed = record { settled = g.settled; goes_on = g.on; made = λ n. absurd (n d); whole = g.whole };
-      on = λ registers pc W h.
+      made = λ n. absurd (n d);
+      station = refl;
+      on = λ w e m n registers pc W h.
           record {
             all = s;
-            values = λ r b. values_same registers f.values W w r d b (h.values r b);
-            path = sym (path_end pc W w);
+            values = λ r b. values_same registers f.values W w r (e ∙ d) b (h.values r b);
+            path = sym n ∙ sym (path_end pc W w);
           };
     }

@@ -28,4 +28,7 @@ pub mod Idle
 pub mod Stalls
 pub mod BenchTurns
 pub mod Ends
-pub mod Streams
+pub mod Awaiting
+pub mod StreamsIn
+pub mod StreamsLoads
+pub mod StreamsOut

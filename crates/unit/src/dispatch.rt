@@ -116,32 +116,27 @@ impl<'a> Pipeline<'a> {
         self.next()
     }
 
-    /// Who has left the station that is let next, if the predictor is told of it.
-    pub fn leaver(&self) -> Option<Leaver>
-        requires oldest { self.now.oldest < self.now.ring }
-        requires most { self.now.ring ≤ 32 }
-        requires room { length self.now.window < self.now.ring }
-        ensures { slice_get self.now.leavers (next_place self.now) ≡ Some result }
+    /// Who has left a station, if the predictor is told of it.
+    pub fn leaver(&self, station: usize) -> Option<Leaver>
+        requires { station < 32 }
+        ensures { slice_get self.now.leavers station ≡ Some result }
     {
-        let station = self.station_at(self.window.len());
         self.leavers[station]
     }
 
     /// Lets the next instruction.
     #[inline(always)]
-    pub fn let_out(&mut self, next: Fetched, predicted: u32)
-        requires oldest { self.old.oldest < self.old.ring }
-        requires most { self.old.ring ≤ 32 }
-        requires room { length self.old.window < self.old.ring }
+    pub fn let_out(&mut self, next: Fetched, station: usize, predicted: u32)
+        requires small { station < 32 }
+        requires room { length self.old.window < 32 }
         requires code { IsDecoded self.old.code.items self.old.program.now }
         requires is { instr_at self.old.program.now next.pc ≡ Some next.instr }
         ensures window { self.new.window ≡
             self.old.window ++ let_at next.instr next.half next.pc predicted ∷ [] }
-        ensures leavers { self.new.leavers ≡ slice_set self.old.leavers (next_place self.old) None }
+        ensures leavers { self.new.leavers ≡ slice_set self.old.leavers station None }
         ensures rest { self.new ≡
             record self.old { window = self.new.window; leavers = self.new.leavers } }
     {
-        let station = self.station_at(self.window.len());
         self.leavers[station] = None;
         if let Some(instr) = fetch(self.code.as_slice(), next.pc) {
             self.window.push(instr, next.half, next.pc, predicted);
@@ -151,7 +146,8 @@ impl<'a> Pipeline<'a> {
     /// Lets an instruction that can be let: a predictor is told of who has left its station, and asked. Answers
     /// the predicted next pc.
     #[inline(always)]
-    pub fn enters<P: Predictor>(&mut self, predictor: &mut P, next: Fetched) -> u32
+    pub fn enters<P: Predictor>(&mut self, predictor: &mut P, next: Fetched, station: usize) -> u32
+        requires station { station ≡ next_place self.old }
         requires unit { StandsForSome self.old }
         requires open { self.old.over ≡ None }
         requires miss { NoneRecovers self.old }
@@ -166,9 +162,9 @@ impl<'a> Pipeline<'a> {
         ensures rest { self.new ≡
             record self.old { window = self.new.window; leavers = self.new.leavers } }
     {
-        let left = self.leaver();
+        let left = self.leaver(station);
         let predicted = guess(predictor, left, &next);
-        self.let_out(next, predicted);
+        self.let_out(next, station, predicted);
         predicted
     }
 
@@ -191,7 +187,8 @@ impl<'a> Pipeline<'a> {
         let Some(next) = self.next_unless(stalled) else {
             return false;
         };
-        self.enters(predictor, next);
+        let station = self.station_at(self.window.len());
+        self.enters(predictor, next, station);
         true
     }
 }

@@ -5,13 +5,13 @@ ghost use Rattle.instructions.specs.declared.stop.Stop.{Stop as Code};
 ghost use Rattle.unit.specs.declared.station.Stage.TheVariants.{Stops};
 ghost use Rattle.unit.specs.Givers.{Chosen};
 ghost use Rattle.unit.specs.Notes.{settled_by};
-ghost use Rattle.unit.specs.Steady.{Follows, Foresees};
+ghost use Rattle.unit.specs.Steady.{Follows, Foresees, GoesOnBehind};
 
 use crate::decoded::Decoded;
 use crate::execute::Operands;
 use crate::station::{Stage, Station};
 use inorder::Committed;
-use instructions::Kind;
+use instructions::{Kind, Reg};
 
 /// What each register holds behind the live tenants, and where the path goes on. The values are the future file of
 /// Smith and Pleszkun.
@@ -19,6 +19,8 @@ use instructions::Kind;
 pub struct Future {
     pub values: [u32; 34],
     pub pc: u32,
+    /// The station that is let next.
+    pub station: usize,
 }
 
 // It has ended, or is a store with its address, and does not stop.
@@ -37,15 +39,17 @@ fn has_ended(station: &Station) -> bool
 
 impl Future {
     /// Where nobody is live.
-    pub fn new(committed: &Committed) -> Future
+    pub fn new(committed: &Committed, station: usize) -> Future
         requires { length committed.now.registers ≡ 34 }
-        ensures { Foresees result committed.now.registers committed.now.pc [] }
+        ensures foresees { Foresees result committed.now.registers committed.now.pc [] }
+        ensures station { result.station ≡ station }
     {
         let mut values = *committed.registers();
         values[0] = 0;
         Future {
             values,
             pc: committed.pc(),
+            station,
         }
     }
 
@@ -63,6 +67,24 @@ impl Future {
         }
     }
 
+    /// Goes on behind a station that writes a register, if it has made what that gets, and goes on itself at `next`.
+    #[inline(always)]
+    pub fn goes_on(&mut self, destination: Reg, made: Option<u32>, next: u32) -> bool
+        requires { length self.old.values ≡ 34 }
+        ensures on { Chosen result (GoesOnBehind self.old destination made next self.new) ⊤ }
+        ensures same { Chosen result ⊤ (self.new ≡ self.old) }
+    {
+        let r = destination.number() as usize;
+        if r != 0 {
+            let Some(value) = made else {
+                return false;
+            };
+            self.values[r] = value;
+        }
+        self.pc = next;
+        true
+    }
+
     /// Goes on behind a station, if that has ended and goes on itself.
     #[inline(always)]
     pub fn passes(&mut self, station: &Station) -> bool
@@ -70,17 +92,6 @@ impl Future {
         requires whole { is_first_half station.now.instr.op station.now.half ≡ false }
         ensures { Chosen result (Follows self.old station.now self.new) ⊤ }
     {
-        if !has_ended(station) {
-            return false;
-        }
-        let r = station.destination.number() as usize;
-        if r != 0 {
-            let Some(value) = station.made else {
-                return false;
-            };
-            self.values[r] = value;
-        }
-        self.pc = station.next;
-        true
+        has_ended(station) && self.goes_on(station.destination, station.made, station.next)
     }
 }

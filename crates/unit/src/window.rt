@@ -17,11 +17,11 @@ pub struct Window {
     creators: [Creators; 32],
     // by register, the slot of its newest writer
     newest: [u8; 34],
+    // how many tenants reach memory
+    accesses: usize,
     // the slot of the oldest tenant
     start: usize,
     len: usize,
-    // how many tenants reach memory
-    accesses: usize,
 }
 
 impl Model for Window {

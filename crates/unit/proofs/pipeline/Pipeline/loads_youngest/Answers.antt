@@ -3,7 +3,7 @@ use Rattle.unit.specs.Changes.{LoadGives}
 use Rattle.unit.specs.Givers.{gives}
 use Rattle.unit.specs.Loads.{AreInside, load_in}
 use Rattle.unit.proofs.EndTurns.{are_inside, stores_write_none}
-use Rattle.unit.proofs.Streams.{loaded_ends, loaded_youngest}
+use Rattle.unit.proofs.StreamsLoads.{loaded_ends, loaded_youngest}
 use Rattle.unit.proofs.pipeline.Pipeline.loads_youngest.Goals as goal
 
 pub value_at-requires-clause-there : goal.value_at-requires-clause-there

@@ -2,7 +2,7 @@ use Rattle.std.proofs.Common.{◌≡◌, ◌<◌, true, sym, ap, ◌∙◌, subs
 use Rattle.std.specs.Prelude.{length, option_copied}
 use Rattle.unit.specs.Decoding.{IsDecoded}
 use Rattle.unit.specs.Window.{accesses, half_in, reaches_memory}
-use Rattle.unit.proofs.Streams.{half_passed}
+use Rattle.unit.proofs.Awaiting.{half_passed}
 use Rattle.unit.proofs.pipeline.Pipeline.next_behind.Goals.{else-is_access-via-then-is_access+else-self-accesses, else-is_access-via-else-is_access}
 use Rattle.unit.proofs.pipeline.Pipeline.next_behind.Goals as goal
 
