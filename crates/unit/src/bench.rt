@@ -169,23 +169,26 @@ impl<'a, P: Predictor + Drop> Bench<'a, P> {
         }
     }
 
-    // Turns as long as the pipeline is in its steady state.
+    // Turns as long as the pipeline is in its steady state. Answers at which count that is to be looked for again.
     #[inline(always)]
-    fn streams(&mut self, limit: u64)
+    fn streams(&mut self, limit: u64) -> u64
         ensures program { self.new.pipeline.program ≡ self.old.pipeline.program }
         ensures more { self.old.pipeline.committed.count ≤ self.new.pipeline.committed.count }
         ensures ends { run_from self.new.pipeline limit ≡ run_from self.old.pipeline limit }
     {
         self.stalled = false;
-        self.pipeline.streams(&mut self.predictor, limit);
+        self.pipeline.streams(&mut self.predictor, limit)
     }
 
     // Turns until it stops, or its count has reached a limit.
     fn run_to(&mut self, limit: u64) -> Ending
         ensures { (result, self.new.pipeline.committed) ≡ run_from self.old.pipeline limit }
     {
+        let mut again = 0;
         loop {
-            self.streams(limit);
+            if again <= self.pipeline.committed.count() {
+                again = self.streams(limit);
+            }
             if limit <= self.pipeline.committed.count() {
                 return Ending::Limit;
             }

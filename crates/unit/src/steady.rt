@@ -276,9 +276,10 @@ impl<'a> Pipeline<'a> {
         true
     }
 
-    /// Turns as long as the unit is in its steady state and its count has not reached a limit.
+    /// Turns as long as the unit is in its steady state and its count has not reached a limit. Answers at which count it
+    /// is to be looked for again: what keeps the unit out of it, as half of a pair, leaves within a ring of instructions.
     #[inline(always)]
-    pub fn streams<P: Predictor>(&mut self, predictor: &mut P, limit: u64)
+    pub fn streams<P: Predictor>(&mut self, predictor: &mut P, limit: u64) -> u64
         requires unit { StandsForSome self.old }
         ensures unit { StandsForSome self.new }
         ensures program { self.new.program ≡ self.old.program }
@@ -286,16 +287,17 @@ impl<'a> Pipeline<'a> {
         ensures ends { run_from self.new limit ≡ run_from self.old limit }
     {
         if self.settled + 1 != self.ring {
-            return;
+            return 0;
         }
         let Some(future) = self.future() else {
-            return;
+            return self.committed.count().saturating_add(self.ring as u64);
         };
         let mut future = future;
         while self.committed.count() < limit {
             if !self.streams_one(predictor, &mut future) {
-                return;
+                return 0;
             }
         }
+        0
     }
 }

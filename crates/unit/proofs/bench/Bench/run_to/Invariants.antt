@@ -2,12 +2,12 @@ use Rattle.std.proofs.Common.{◌≡◌, ◌-◌}
 use Rattle.unit.specs.Changes.{run_from}
 use Rattle.unit.proofs.bench.Bench.run_to.Given as goal
 
-abbrev pub invariant-loop-self : goal.invariant-loop-self
-invariant-loop-self g l =
+abbrev pub invariant-loop-again : goal.invariant-loop-again
+invariant-loop-again g l =
     record {
       program : l.self.pipeline.program ≡ l.fn.self.pipeline.program;
       ends : run_from l.self.pipeline l.limit ≡ run_from l.fn.self.pipeline l.limit;
     }
 
-abbrev pub decreases-loop-self : goal.decreases-loop-self
-decreases-loop-self g l = l.limit - l.self.pipeline.committed.count
+abbrev pub decreases-loop-again : goal.decreases-loop-again
+decreases-loop-again g l = l.limit - l.self.pipeline.committed.count
