@@ -1,7 +1,7 @@
 -- Up to four bytes fit 32 bits.
 use Rattle.std.proofs.Common.{◌≡◌, ◌<◌, ◌≤◌, ◌+◌, ◌-◌, ◌^◌, ℕ, arith, lit<, subst}
 use Rattle.std.proofs.Math.Nat.{pow-le-pow_right}
-use Rattle.inorder.proofs.data.number.Goals as goal
+use Rattle.inorder.proofs.data.number_of.Goals as goal
 
 at_most : (i j : ℕ) → i ≤ j → 256 ^ i ≤ 256 ^ j
 at_most i j h = pow-le-pow_right {n = 256} (lit< tt) {i = i} {j = j} h

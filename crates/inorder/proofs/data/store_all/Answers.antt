@@ -1,7 +1,7 @@
 -- One byte of what is still to be written.
 use Rattle.std.proofs.Common.{◌≡◌, suc, ◌+◌, ◌-◌, ◌/◌, ◌%◌, slice_set, sym, ap, ◌∙◌, arith}
 use Rattle.inorder.specs.Machine.{store_bytes}
-use Rattle.inorder.proofs.data.store.Goals as goal
+use Rattle.inorder.proofs.data.store_all.Goals as goal
 
 pub loop-k-preserved : goal.loop-k-preserved
 loop-k-preserved c =

@@ -1,6 +1,6 @@
 use Rattle.std.proofs.Common.{◌≡◌, ◌<◌, ◌+◌, ◌-◌, ◌^◌, slice_index}
 use Rattle.lsq.specs.Bytes.{little_endian}
-use Rattle.inorder.proofs.data.number.Given as goal
+use Rattle.inorder.proofs.data.number_of.Given as goal
 
 abbrev pub invariant-loop-k : goal.invariant-loop-k
 invariant-loop-k l =

@@ -1,6 +1,6 @@
 use Rattle.std.proofs.Common.{◌≡◌, ◌+◌, ◌-◌}
 use Rattle.inorder.specs.Machine.{store_bytes}
-use Rattle.inorder.proofs.data.store.Given as goal
+use Rattle.inorder.proofs.data.store_all.Given as goal
 
 -- what is still to be written onto what was written is all
 abbrev pub invariant-loop-k : goal.invariant-loop-k
