@@ -2,6 +2,7 @@
 #![tactic(auto)]
 
 mod ahead;
+mod arrival;
 mod bench;
 mod creators;
 mod decoded;
