@@ -33,6 +33,7 @@ ratio() { # name, column of what is measured, in microseconds
 # SPIM on the loop, where it is installed, beside the one-thread unit. It keeps register 1 for itself.
 spim_on_loop() {
   command -v spim > /dev/null || return 0
+  # shellcheck disable=SC2016
   { printf '.text\n.globl main\nmain:\n'; sed -E 's/#.*//; s/\$1\>/$9/g; s/\<break\>/ori $2,$0,10\nsyscall/' benchmarks/loop.s; } > "$work/loop.asm"
   for _ in 1 2 3; do
     local started
