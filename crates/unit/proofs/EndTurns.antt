@@ -65,6 +65,7 @@ use Rattle.unit.proofs.Ring.{mod_first}
 use Rattle.unit.proofs.RunTurns.{ahead_stands, cannot_let, nobody_claims, nobody_loads, knows}
 use Rattle.unit.proofs.Tests.{HasSources, has_sources, no_miss}
 use Rattle.unit.proofs.Turns.{none_in}
+use Rattle.unit.proofs.Untold.{oldest_apart, oldest_place, oldest_retired}
 use Rattle.unit.proofs.Waiting.{ahead_low, low_if, low_over, none_low, retired_over}
 use Rattle.unit.proofs.Windows.{half_worth, path_length, window_length}
 
@@ -443,10 +444,7 @@ leave b later answer w h f e ended to U r s = go (found P U.tenants 0 w (ap (λ 
         low_before = ap (low_of P) d.split ∙ low_over P t t ts ys d.live sound' ∙ low_if P t ts false (live_not t d.live)
 
         retired_before : how_many is_retired U.tenants ≡ how_many is_retired ts
-        retired_before =
-            ap (how_many is_retired) d.split
-            ∙ retired_over P t t ts ys d.live sound'
-            ∙ ap (λ x. cond (stands_retired x) (suc (how_many is_retired ts)) (how_many is_retired ts)) d.live
+        retired_before = oldest_retired P C U w d r
 
         next : (b.oldest + 1) % b.ring ≡ how_many is_retired V.tenants % b.ring
         next =
@@ -460,24 +458,11 @@ leave b later answer w h f e ended to U r s = go (found P U.tenants 0 w (ap (λ 
             ∙ drop_first P ys t ts first
             ∙ sym (window_behind P ys u ts first refl)
 
-        st : Stands C (ys ++ t ∷ ts)
-        st = subst (Stands C) d.split (stands_of P C U r)
-
         apart : AllByRecursion (λ y. y.station ≢ t.station) ys
-        apart = subst (AllByRecursion (λ y. y.station ≢ t.station)) (younger_middle ys t ts) (last_at (ys ++ t ∷ ts) (length ts) t st.apart (at_middle ys t ts) d.live)
-
-        path : how_many on_path ts ≡ how_many is_retired ts
-        path = omega (arith, path_length P ts, first)
+        apart = oldest_apart P C U w d r
 
         place : t.station ≡ b.oldest
-        place =
-            (placed_from ys (t ∷ ts) st.placed).0 (ap stands_on_path d.live)
-            ∙ ap (λ n. n % b.ring) (path ∙ sym retired_before)
-            ∙ sym s.oldest
-          where
-            placed_from : (xs us : List Tenant) → Rattle.inorder.proofs.Stations.ArePlaced C (xs ++ us) → Rattle.inorder.proofs.Stations.ArePlaced C us
-            placed_from [] us p = p
-            placed_from (x ∷ xs) us p = placed_from xs us p.1
+        place = oldest_place b U w d r s
 
         tells : (v : Option Leaver) → told_of P u ≡ v → (n : ℕ) → leaver P V.tenants n ≡ cond (eqb b.oldest n) v (leaver P U.tenants n)
         tells v q n = leaver_retire P ys t u ts b.oldest v place place apart q n ∙ ap (λ X. cond (eqb b.oldest n) v (leaver P X n)) (sym d.split)

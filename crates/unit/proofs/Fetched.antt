@@ -1,5 +1,5 @@
 -- The decoded instruction at an address.
-use Rattle.std.proofs.Common.{◌≡◌, ◌≢◌, ◌<◌, ◌≤◌, ◌-◌, ◌+◌, ◌/◌, ◌%◌, ◌^◌, ℕ, Bool, true, false, eqb, eqb-true, eq-eqb, List, length, None, refl, sym, ap, ◌∙◌, ⊎_elim, arith}
+use Rattle.std.proofs.Common.{◌≡◌, ◌≢◌, ◌<◌, ◌≤◌, ◌-◌, ◌+◌, ◌/◌, ◌%◌, ◌^◌, ℕ, Bool, true, false, eqb, eqb-true, eq-eqb, List, length, None, Some, refl, sym, ap, ◌∙◌, ⊎_elim, arith}
 use Rattle.std.specs.Prelude.{slice_get}
 use Rattle.std.proofs.lemmas.Bool.{cases_lt}
 use Rattle.std.proofs.lemmas.Option.{slice_get_past}
@@ -45,3 +45,10 @@ even_is P code pc d small even = ⊎_elim (λ l. low l) (λ l. high l) (cases_lt
         let same : k ≡ (pc - 0x00400000) / 4 = omega (arith, l, small) in
         let whole : address ((pc - 0x00400000) / 4) ≡ pc = omega (arith, l, small, even) in
         ap (slice_get code) same ∙ ap (λ x. slice_get x ((pc - 0x00400000) / 4)) d.is ∙ sym (some_at P pc (eq-eqb _ _ whole))
+
+-- where an instruction stands the code looks for it
+pub known_even : (P : Program) (pc : ℕ) (i : Instr) → pc < 2 ^ 32 → instr_at P pc ≡ Some i → (pc + 4290772992) % 4294967296 % 4 ≡ 0
+known_even P pc i small is = ⊎_elim odd (λ none. omega (arith, none)) (cases_lt 0 ((pc + 4290772992) % 4294967296 % 4))
+  where
+    odd : 0 < (pc + 4290772992) % 4294967296 % 4 → (pc + 4290772992) % 4294967296 % 4 ≡ 0
+    odd more = let none = uneven_none P pc small (omega (arith, more)) in absurd (cc (is, none))

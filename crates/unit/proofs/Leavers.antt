@@ -85,6 +85,11 @@ get_set (x ∷ xs) (suc k) (suc s) v h = let less : k < length xs = omega arith 
         go true e = e ∙ sym (eq-eqb (suc k) (suc s) (ap suc (eqb-true k s e)))
         go false e = e ∙ sym (ne_eqb (suc k) (suc s) (λ q. true≢false (sym (eq-eqb k s (omega (arith, q))) ∙ e)))
 
+pub set_same : (xs : List (Option Leaver)) (k : ℕ) (v : Option Leaver) → slice_get xs k ≡ Some v → slice_set xs k v ≡ xs
+set_same [] k v e = absurd (cc e)
+set_same (x ∷ xs) zero v e = let same : v ≡ x = cc e in ap (λ y. y ∷ xs) same
+set_same (x ∷ xs) (suc k) v e = ap (λ l. x ∷ l) (set_same xs k v e)
+
 some_cond : (b : Bool) (x y : Option Leaver) → cond b (Some x) (Some y) ≡ Some (cond b x y)
 some_cond true x y = refl
 some_cond false x y = refl

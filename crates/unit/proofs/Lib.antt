@@ -1,3 +1,4 @@
+pub mod Untold
 pub mod Waiting
 pub mod Scan
 pub mod Settled

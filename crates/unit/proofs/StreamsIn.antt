@@ -58,7 +58,7 @@ pub record HasEntered (b mid : Pipeline) (next : Fetched) (predicted : ℕ) : Ty
   pub window : mid.window ≡ b.window ++ let_at next.instr next.half next.pc predicted ∷ []
   pub rest : mid ≡ record b { window = mid.window; leavers = mid.leavers }
 
-entered_get : (b mid : Pipeline) (next : Fetched) (predicted at : ℕ) → HasEntered b mid next predicted → at ≡ length b.window →
+pub entered_get : (b mid : Pipeline) (next : Fetched) (predicted at : ℕ) → HasEntered b mid next predicted → at ≡ length b.window →
     slice_get mid.window at ≡ Some (let_at next.instr next.half next.pc predicted)
 entered_get b mid next predicted at e place = ap (λ W. slice_get W at) e.window ∙ ap (slice_get (b.window ++ let_at next.instr next.half next.pc predicted ∷ [])) place ∙
     get_end b.window [] (let_at next.instr next.half next.pc predicted)

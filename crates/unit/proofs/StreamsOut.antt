@@ -42,19 +42,25 @@ pub record IsDue (b : Pipeline) : Type 0 where
   pub whole : b.low ≡ None
   pub full : b.ring ≡ length b.window
   pub passed : AwaitRetirement b.window
+  pub settled : b.settled < length b.window
 
--- all are known to be settled
-pub due_noted : (b : Pipeline) → IsDue b → AreNoted b.missed (length b.window) b.window
-due_noted b d = record { no_miss = λ e. passed_no_miss b.window d.passed; are_settled = passed_settled b.window d.passed }
+-- one more is known to be settled
+due_noted : (b : Pipeline) → IsDue b → AreNoted b.missed (suc b.settled) b.window
+due_noted b d =
+    let each = (passed_settled b.window d.passed).each in
+    record {
+      no_miss = λ e. passed_no_miss b.window d.passed;
+      are_settled = record { inside = d.settled; each = λ k l. each k (let s = d.settled in omega (arith, l, s)) };
+    }
 
-due_idle : (b now : Pipeline) → IsDue b → now ≡ record b { settled = length b.window } → Idle b now
+due_idle : (b now : Pipeline) → IsDue b → now ≡ record b { settled = suc b.settled } → Idle b now
 due_idle b now d e =
     let each = (passed_settled b.window d.passed).each in
     idle b now d.unit d.goes_on (passed_no_miss b.window d.passed) (NoRoom (omega (arith, d.full))) (λ k l. settled_closed (registers_of b) b.window k (each k l)) (ap (λ x. x.window) e)
     (subst (λ x. x ≡ record b { window = x.window; missed = x.missed; settled = x.settled }) (sym e) refl)
     (subst (λ x. AreNoted x.missed x.settled x.window) (sym e) (due_noted b d))
 
-pub due_shows : (b now later : Pipeline) (w : Station) → IsDue b → now ≡ record b { settled = length b.window } →
+pub due_shows : (b now later : Pipeline) (w : Station) → IsDue b → now ≡ record b { settled = suc b.settled } →
     slice_get b.window 0 ≡ Some w → later ≡ left now w → Shows b Retired later
 due_shows b now later w d e is leaves =
     let each = (passed_settled b.window d.passed).each in
@@ -72,14 +78,14 @@ behind_last oldest n ring less e =
     sym (mod_first (oldest + 1) n ring ∙ ap (λ k. k % ring) sum ∙ add-mul-mod_self_left oldest ring 1 ∙ mod-eq_of_lt less)
 
 -- and the steady state is there again
-pub due_steady : (b now later : Pipeline) (w : Station) (f : Future) → IsDue b → now ≡ record b { settled = length b.window } → slice_get b.window 0 ≡ Some w → later ≡ left now w →
+pub due_steady : (b now later : Pipeline) (w : Station) (f : Future) → IsDue b → now ≡ record b { settled = suc b.settled } → slice_get b.window 0 ≡ Some w → later ≡ left now w →
     Foresees f b.committed.registers b.committed.pc b.window → f.station ≡ b.oldest → IsSteady later f
 due_steady b now later w f d e is leaves h at = subst (λ x. IsSteady x f) (sym (leaves ∙ ap (λ x. left x w) e)) (go b.window refl)
   where
     p : AwaitsRetirement w
     p = d.passed 0 w is
 
-    go : (W : List Station) → b.window ≡ W → IsSteady (left (record b { settled = length b.window }) w) f
+    go : (W : List Station) → b.window ≡ W → IsSteady (left (record b { settled = suc b.settled }) w) f
     go [] q = let no : Some w ≡ None = sym is ∙ ap (λ l. slice_get l 0) q in absurd (cc)
     go (x ∷ W) q =
         let same : x ≡ w = cc (sym (ap (λ l. slice_get l 0) q) ∙ is) in
@@ -100,6 +106,6 @@ due_steady b now later w f d e is leaves h at = subst (λ x. IsSteady x f) (sym 
 pub due_ended : (b : Pipeline) (w : Station) → IsDue b → slice_get b.window 0 ≡ Some w → HasEnded (length b.committed.memory) w.instr w.stage
 due_ended b w d is =
     let each = (passed_settled b.window d.passed).each in
-    let now : Pipeline = record b { settled = length b.window } in
+    let now : Pipeline = record b { settled = suc b.settled } in
     subst (OldestHasEnded (length b.committed.memory)) is
     (leaves_after b now (due_idle b now d refl) (λ k l. settled_unanswered (registers_of b) b.committed.memory b.window k (each k l)))

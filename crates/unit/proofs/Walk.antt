@@ -1,5 +1,5 @@
 -- Older stores, found from the youngest back among the tenants that write register 0.
-use Rattle.std.proofs.Common.{◌≡◌, ◌≢◌, ◌<◌, ◌≤◌, ◌+◌, ◌-◌, ℕ, zero, suc, Bool, true, false, cond, List, length, Option, Some, None, refl, sym, ap, ◌∙◌, subst, ⊎_elim, arith}
+use Rattle.std.proofs.Common.{◌≡◌, ◌≢◌, ◌<◌, ◌≤◌, ◌+◌, ◌-◌, ℕ, zero, suc, Bool, true, false, cond, List, length, take, if◌then◌else◌, Option, Some, None, refl, sym, ap, ◌∙◌, subst, ⊎_elim, arith}
 use Rattle.std.specs.Prelude.{min, slice_get}
 use Rattle.std.proofs.lemmas.Bool.{cases_lt}
 use Rattle.std.proofs.lemmas.Option.{slice_get_within}
@@ -13,7 +13,7 @@ use Rattle.unit.specs.declared.forwarding.Older.{Older}
 use Rattle.unit.specs.declared.forwarding.Older.TheVariants.{Elsewhere, Nearest, Unknown}
 use Rattle.unit.specs.declared.station.Station.{Station}
 use Rattle.unit.specs.Creators.{IsCreator, LastWriter, written_by}
-use Rattle.unit.specs.Forwarding.{joined_by, joined_if, older_of, preceded, preceded_by, store_at}
+use Rattle.unit.specs.Forwarding.{is_some_store, joined_by, joined_if, older_of, preceded, preceded_by, store_at}
 use Rattle.unit.specs.Loads.{StoresWriteNone, entries, entry_behind}
 use Rattle.unit.proofs.LookBack.{older_step}
 
@@ -166,6 +166,16 @@ looked_at registers W a n i at y o u h less known =
     ∙ after_one y (older_of (entries registers W at) a n) (store_at registers W (slice_get W at) at) a n
     ∙ ap (λ k. after later (older_of (entries registers W k) a n)) here
     ∙ ap (after later) (walked registers W a n i at o u h)
+
+-- a tenant that is no store is nothing to the load
+pub looked_none : (registers : List ℕ) (W : List Station) (a n i at : ℕ) (o : Option ℕ) → StoresWriteNone W → LastWriter W at 0 o → at < i → is_some_store (slice_get W at) ≡ false →
+    Looked registers W a n i Elsewhere (Some at) → Looked registers W a n i Elsewhere o
+looked_none registers W a n i at o u h less other known =
+    subst (λ s. Looked registers W a n i (preceded Elsewhere s a n) o) (none (slice_get W at) other) (looked_at registers W a n i at Elsewhere o u h less known)
+  where
+    none : (s : Option Station) → is_some_store s ≡ false → store_at registers W s at ≡ None
+    none None e = refl
+    none (Some w) e = ap (λ b. if b then Some (entry_behind registers (take at W) w) else None) e
 
 pub looked_past : (registers : List ℕ) (W : List Station) (a n i at : ℕ) (y : Older) (o : Option ℕ) → StoresWriteNone W → LastWriter W at 0 o → i ≤ at → Looked registers W a n i y (Some at) →
     Looked registers W a n i y o

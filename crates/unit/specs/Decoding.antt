@@ -1,7 +1,7 @@
 -- What is kept of a decoded instruction.
-use Rattle.std.specs.Prelude.{◌≡◌, ◌≤◌, List, length, if◌then◌else◌}
-use Rattle.instructions.specs.Instruction.{destination, first_of, is_branch, is_pair, kind, second_of}
-use Rattle.instructions.specs.Programs.{Program}
+use Rattle.std.specs.Prelude.{◌≡◌, ◌≤◌, ℕ, List, length, Some, if◌then◌else◌}
+use Rattle.instructions.specs.Instruction.{destination, first_of, is_access, is_branch, is_pair, kind, second_of}
+use Rattle.instructions.specs.Programs.{Program, instr_at}
 use Rattle.instructions.specs.declared.instr.Instr.{Instr}
 use Rattle.instructions.specs.declared.op.Half.TheVariants.{Low, High}
 use Rattle.instructions.specs.declared.op.Op.{Op}
@@ -24,6 +24,7 @@ decode i =
     record {
       instr = i;
       kind = kind i.op;
+      access = is_access (kind i.op);
       pair = is_pair i.op;
       first = first_of i;
       second = second_of i;
@@ -36,3 +37,10 @@ decode i =
 pub record IsDecoded (code : List Instr) (P : Program) : Type 0 where
   pub is : code ≡ P.code
   pub few : length code ≤ 16384
+
+-- They have one at this address
+pub record HasInstr (code : List Instr) (pc : ℕ) : Type 0 where
+  pub program : Program
+  pub decoded : IsDecoded code program
+  pub instr : Instr
+  pub is : instr_at program pc ≡ Some instr

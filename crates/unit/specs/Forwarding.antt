@@ -56,6 +56,11 @@ abbrev pub preceded : Older → Option Entry → ℕ → ℕ → Older
 preceded older None a n = older
 preceded older (Some e) a n = preceded_by older (lacks_address e) (overlaps a n e) e
 
+-- Whether there is a station, and it is a store
+abbrev pub is_some_store : Option Station → Bool
+is_some_store None = false
+is_some_store (Some w) = is_store (kind w.instr.op)
+
 -- What the queue holds of station i, if that is a store
 abbrev pub store_at : List ℕ → List Station → Option Station → ℕ → Option Entry
 store_at registers W None i = None

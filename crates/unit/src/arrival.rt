@@ -1,70 +1,83 @@
 //! An instruction arrives in the steady state: it is let, and is claimed, finished and answered as far as that can be
 //! done at once.
-ghost use Rattle.std.specs.Prelude.{⊤, ◌≡◌, ◌≤◌, suc, false, length, take, slice_get, slice_set, Some, None};
+ghost use Rattle.std.specs.Prelude.{⊤, ◌≡◌, ◌<◌, ◌≤◌, suc, [], ◌∷◌, ◌++◌, false, length, take, slice_get, slice_set, Some, None};
 ghost use Rattle.instructions.specs.Instruction.{is_first_half};
+ghost use Rattle.instructions.specs.Programs.{instr_at};
 ghost use Rattle.unit.specs.Changes.{NextOf};
+ghost use Rattle.unit.specs.Decoding.{IsDecoded};
 ghost use Rattle.unit.specs.declared.dispatch.Fetched.{Fetched as Next};
 ghost use Rattle.unit.specs.Givers.{Chosen};
 ghost use Rattle.unit.specs.Notes.{AreSettled, missed_after};
 ghost use Rattle.unit.specs.declared.station.Station.{Station as Last};
-ghost use Rattle.unit.specs.Window.{stage_after, station_after};
+ghost use Rattle.unit.specs.Window.{let_at, stage_after, station_after};
 ghost use Rattle.unit.specs.StandsFor.{StandsForSome};
 ghost use Rattle.unit.specs.Steady.{EndsWith, Follows, FollowsYoungest, IsSteady};
 
 use crate::dispatch::Fetched;
 use crate::execute::Operands;
 use crate::future::Future;
+use crate::leaver::guess;
 use crate::memory_port::{Answered, value_at};
 use crate::pipeline::Pipeline;
-use crate::station::{Stage, Station};
+use crate::station::{Stage, made_at_let};
 use instructions::{Kind, Outcome, Predictor, outcome_of};
 
 impl<'a> Pipeline<'a> {
-    // The tenant at `at` comes further by its outcome. Answers whether it has only to retire then; what the next one
-    // finds goes on behind it.
+    // Lets the next instruction, which has come further by its outcome at once. Answers whether it has only to retire
+    // then; what the next one finds goes on behind it.
     #[inline(always)]
     fn finishes(
         &mut self,
         future: &mut Future,
-        at: usize,
-        station: Station,
+        next: Fetched,
+        predicted: u32,
         outcome: Outcome,
     ) -> bool
-        requires there { slice_get self.old.window at ≡ Some station }
+        requires small { future.old.station < 32 }
+        requires room { length self.old.window < 32 }
+        requires code { IsDecoded self.old.code.items self.old.program.now }
+        requires is { instr_at self.old.program.now next.pc ≡ Some next.instr }
         requires all { length future.old.values ≡ 34 }
-        requires whole { is_first_half station.instr.op station.half ≡ false }
-        ensures window { self.new.window ≡
-            slice_set self.old.window at (station_after station outcome) }
+        requires whole { is_first_half next.instr.op next.half ≡ false }
+        ensures window { self.new.window ≡ self.old.window ++
+            station_after (let_at next.instr next.half next.pc predicted) outcome ∷ [] }
+        ensures leavers { self.new.leavers ≡
+            slice_set self.old.leavers future.old.station None }
         ensures missed { self.new.missed ≡
-            missed_after self.old.missed (stage_after outcome station.predicted) }
-        ensures rest { self.new ≡
-            record self.old { window = self.new.window; missed = self.new.missed } }
-        ensures follows { Chosen result
-            (Follows future.old (station_after station outcome) future.new)
+            missed_after self.old.missed (stage_after outcome predicted) }
+        ensures rest { self.new ≡ record self.old {
+          window = self.new.window;
+          leavers = self.new.leavers;
+          missed = self.new.missed;
+        } }
+        ensures follows { Chosen result (Follows future.old
+            (station_after (let_at next.instr next.half next.pc predicted) outcome) future.new)
             (future.new ≡ future.old) }
     {
-        let next = station.predicted;
+        let station = future.station;
+        let kind = next.instr.kind();
+        let destination = next.instr.destination(next.half);
+        let made = made_at_let(kind, next.pc);
         match outcome {
             Outcome::Value(v) | Outcome::Pair(v, _) => {
-                self.window.advance(at, Stage::Done, Some(v));
-                future.goes_on(station.destination, Some(v), station.next)
+                self.let_as(next, station, predicted, Some(v), Stage::Done);
+                future.goes_on(destination, Some(v), predicted)
             }
-            Outcome::Next(x) if x == next => {
-                self.window.reach(at, Stage::Done);
-                future.goes_on(station.destination, station.made, station.next)
+            Outcome::Next(x) if x == predicted => {
+                self.let_as(next, station, predicted, made, Stage::Done);
+                future.goes_on(destination, made, predicted)
             }
             Outcome::Next(x) => {
                 self.missed = true;
-                self.window.reach(at, Stage::Miss(x));
+                self.let_as(next, station, predicted, made, Stage::Miss(x));
                 false
             }
             Outcome::Address(a) => {
-                self.window.reach(at, Stage::Addr(a));
-                matches!(station.instr.kind(), Kind::Stores)
-                    && future.goes_on(station.destination, station.made, station.next)
+                self.let_as(next, station, predicted, made, Stage::Addr(a));
+                matches!(kind, Kind::Stores) && future.goes_on(destination, made, predicted)
             }
             Outcome::Stop(c) => {
-                self.window.reach(at, Stage::Stops(c));
+                self.let_as(next, station, predicted, made, Stage::Stops(c));
                 false
             }
         }
@@ -93,16 +106,13 @@ impl<'a> Pipeline<'a> {
             (FollowsYoungest future.old self.old.window self.new.window future.new)
             (future.new ≡ future.old) }
     {
-        let at = self.window.len();
-        self.enters(predictor, next, future.station);
-        let Some(station) = self.window.at(at) else {
-            return false;
-        };
-        let Operands { a, b } = future.operands(&station.instr);
+        let left = self.leaver(future.station);
+        let predicted = guess(predictor, left, &next);
+        let Operands { a, b } = future.operands(&next.instr);
         let size = self.program.size();
-        let instr = station.instr.to_instr();
-        let outcome = outcome_of(&instr, station.half, station.pc, a, b, size);
-        self.finishes(future, at, station, outcome)
+        let instr = next.instr.to_instr();
+        let outcome = outcome_of(&instr, next.half, next.pc, a, b, size);
+        self.finishes(future, next, predicted, outcome)
     }
 
     // Answers the youngest tenant, if it is a load that is not blocked.

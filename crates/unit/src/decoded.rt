@@ -20,6 +20,7 @@ pub enum Goes {
 pub struct Decoded {
     instr: Instr,
     kind: Kind,
+    access: bool,
     pair: bool,
     first: Reg,
     second: Reg,
@@ -66,6 +67,7 @@ impl Decoded {
         Decoded {
             instr,
             kind: op.kind(),
+            access: op.is_access(),
             pair: op.is_pair(),
             first: instr.first(),
             second: instr.second(),
@@ -100,7 +102,7 @@ impl Decoded {
     pub(crate) fn is_access(&self) -> bool
         ensures { result ≡ is_access_of (kind_of self.now.op) }
     {
-        matches!(self.kind, Kind::Loads | Kind::Stores)
+        self.access
     }
 
     /// The register of source 1; register 0 where it has none.

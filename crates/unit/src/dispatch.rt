@@ -10,13 +10,13 @@ ghost use Rattle.unit.specs.Decoding.{IsDecoded};
 ghost use Rattle.unit.specs.Givers.{Chosen};
 ghost use Rattle.unit.specs.StandsFor.{StandsForSome};
 ghost use Rattle.unit.specs.Turns.{Falls, IsStalled, IsTurn, SizesStay, fields};
-ghost use Rattle.unit.specs.Window.{half_in, let_at, next_in};
+ghost use Rattle.unit.specs.Window.{further_on, half_in, let_at, next_in};
 
 use crate::decoded::Decoded;
-use crate::fetch::fetch;
+use crate::fetch::{fetch, fetch_known};
 use crate::leaver::guess;
 use crate::pipeline::Pipeline;
-use crate::station::Station;
+use crate::station::{Stage, Station, made_at_let};
 use inorder::wrapped;
 use instructions::{Half, Leaver, Predictor};
 
@@ -124,6 +124,32 @@ impl<'a> Pipeline<'a> {
         self.leavers[station]
     }
 
+    /// Lets the next instruction, which has made this and has reached this stage at once.
+    #[inline(always)]
+    pub fn let_as(
+        &mut self,
+        next: Fetched,
+        station: usize,
+        predicted: u32,
+        made: Option<u32>,
+        stage: Stage,
+    )
+        requires small { station < 32 }
+        requires room { length self.old.window < 32 }
+        requires code { IsDecoded self.old.code.items self.old.program.now }
+        requires is { instr_at self.old.program.now next.pc ≡ Some next.instr }
+        ensures window { self.new.window ≡ self.old.window ++
+            further_on (let_at next.instr next.half next.pc predicted) stage made ∷ [] }
+        ensures leavers { self.new.leavers ≡ slice_set self.old.leavers station None }
+        ensures rest { self.new ≡
+            record self.old { window = self.new.window; leavers = self.new.leavers } }
+    {
+        self.leavers[station] = None;
+        let instr = fetch_known(self.code.as_slice(), next.pc);
+        self.window
+            .push(instr, next.half, next.pc, predicted, made, stage);
+    }
+
     /// Lets the next instruction.
     #[inline(always)]
     pub fn let_out(&mut self, next: Fetched, station: usize, predicted: u32)
@@ -137,10 +163,8 @@ impl<'a> Pipeline<'a> {
         ensures rest { self.new ≡
             record self.old { window = self.new.window; leavers = self.new.leavers } }
     {
-        self.leavers[station] = None;
-        if let Some(instr) = fetch(self.code.as_slice(), next.pc) {
-            self.window.push(instr, next.half, next.pc, predicted);
-        }
+        let made = made_at_let(next.instr.kind(), next.pc);
+        self.let_as(next, station, predicted, made, Stage::Open);
     }
 
     /// Lets an instruction that can be let: a predictor is told of who has left its station, and asked. Answers

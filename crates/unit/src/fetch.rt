@@ -1,7 +1,7 @@
 //! Fetch, from the decoded instructions of a program.
-ghost use Rattle.std.specs.Prelude.{◌≡◌, IfOk, option_copied};
+ghost use Rattle.std.specs.Prelude.{◌≡◌, IfOk, Some, option_copied};
 ghost use Rattle.instructions.specs.Programs.{Program as Text, instr_at};
-ghost use Rattle.unit.specs.Decoding.{IsDecoded};
+ghost use Rattle.unit.specs.Decoding.{HasInstr, IsDecoded};
 
 use crate::decoded::Decoded;
 use instructions::{Memory, Program};
@@ -32,4 +32,14 @@ pub fn fetch(code: &[Decoded], pc: u32) -> Option<&Decoded>
         return None;
     }
     Some(&code[at])
+}
+
+/// The same at an address that is known to be that of one.
+#[inline(always)]
+pub fn fetch_known(code: &[Decoded], pc: u32) -> &Decoded
+    requires { HasInstr code.now pc }
+    ensures { (P : Text) → IsDecoded code.now P → instr_at P pc ≡ Some result.now }
+{
+    let at = (pc.wrapping_sub(Program::START) / 4) as usize;
+    &code[at]
 }

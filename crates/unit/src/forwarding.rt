@@ -2,7 +2,7 @@
 ghost use Rattle.std.specs.Prelude.{◌≡◌, ◌<◌, ◌≤◌, length, take, slice_get, Some};
 ghost use Rattle.instructions.specs.Instruction.{second_of};
 ghost use Rattle.lsq.specs.Entries.{bytes};
-ghost use Rattle.unit.specs.Forwarding.{older_of, preceded as preceded_of, store_at as store_in};
+ghost use Rattle.unit.specs.Forwarding.{is_some_store, older_of, preceded as preceded_of, store_at as store_in};
 ghost use Rattle.unit.specs.Loads.{StoresWriteNone, address_of as address_by, entries, entry_behind};
 ghost use Rattle.unit.specs.Window.{source_in};
 
@@ -71,6 +71,17 @@ fn store_at(window: &Window, ahead: &Ahead, i: usize) -> Option<Entry>
     }
 }
 
+// Whether the station at `i` is a store.
+#[inline(always)]
+fn is_store_at(window: &Window, i: usize) -> bool
+    ensures { result ≡ is_some_store (slice_get window.now i) }
+{
+    match window.peek(i) {
+        Some(station) => matches!(station.instr.kind(), Kind::Stores),
+        None => false,
+    }
+}
+
 // What stores are to a load with what is an older one at most.
 #[inline(always)]
 fn preceded(older: Older, store: Option<Entry>, address: u32, width: Width) -> Older
@@ -98,6 +109,13 @@ pub fn look_back(window: &Window, ahead: &Ahead, i: usize, address: u32, width: 
 {
     let mut older = Older::Elsewhere;
     let mut writer = last_writer(window, Reg::ZERO);
+    // most often there is none
+    while let Some(at) = writer {
+        if at < i && is_store_at(window, at) {
+            break;
+        }
+        writer = writer_before(window, at, Reg::ZERO);
+    }
     while let Some(at) = writer {
         if at < i {
             older = preceded(older, store_at(window, ahead, at), address, width);

@@ -1,5 +1,5 @@
 //! Retirement.
-ghost use Rattle.std.specs.Prelude.{◌≡◌, ◌<◌, ◌≤◌, ◌-◌, ◌^◌, None, Some, length, slice_get, slice_set};
+ghost use Rattle.std.specs.Prelude.{◌≡◌, suc, ◌<◌, ◌≤◌, ◌-◌, ◌^◌, None, Some, length, slice_get, slice_set};
 ghost use Rattle.unit.specs.declared.bench.Turn.TheVariants.{Halved, Over, Retired};
 ghost use Rattle.unit.specs.Changes.{ahead_of};
 ghost use Rattle.unit.specs.Leaves.{HasEnded, OldestHasEnded, RetiresTo, ended, halved, left, shifted, with_station};
@@ -19,8 +19,42 @@ fn leave(leavers: &mut [Option<Leaver>; 32], station: usize, told: Option<Leaver
     leavers[station] = told;
 }
 
+// The same, where no predictor is to be told of the station yet.
+#[inline(always)]
+fn leave_untold(leavers: &mut [Option<Leaver>; 32], station: usize, told: Option<Leaver>)
+    requires inside { station < length leavers.old }
+    requires untold { slice_get leavers.old station ≡ Some None }
+    ensures { leavers.new ≡ slice_set leavers.old station told }
+{
+    match told {
+        None => {}
+        Some(_) => leavers[station] = told,
+    }
+}
+
 impl<'a> Pipeline<'a> {
-    // What the oldest tenant has made or stored is committed, and what has waited for it.
+    // What the oldest tenant has made or stored is committed, where nothing waits for LO.
+    #[inline(always)]
+    fn commits_whole(&mut self, oldest: &Station)
+        requires whole { self.old.low ≡ None }
+        requires count { self.old.committed.count < 2 ^ 64 - 1 }
+        requires can { HasEnded (length self.old.committed.memory)
+            oldest.now.instr oldest.now.stage }
+        ensures committed { self.new.committed ≡ with_station oldest.now self.old.committed }
+        ensures rest { self.new ≡ record self.old { committed = self.new.committed } }
+    {
+        if let Stage::Addr(address) = oldest.stage {
+            let second = oldest.instr.second();
+            let content = source(&self.window, &self.ahead(), 0, second, 0).unwrap_or(0);
+            let width = oldest.instr.op().width() as usize;
+            self.committed.store_at(address as usize, width, content);
+        }
+        let made = oldest.made.unwrap_or(0);
+        self.committed
+            .advance(oldest.destination, made, oldest.next);
+    }
+
+    // The same, and what has waited for it.
     #[inline(always)]
     fn commit(&mut self, oldest: &Station)
         requires count { self.old.committed.count < 2 ^ 64 - 1 }
@@ -29,17 +63,21 @@ impl<'a> Pipeline<'a> {
         ensures committed { self.new.committed ≡ with_station oldest.now (ahead_of self.old) }
         ensures rest { self.new ≡ record self.old { committed = self.new.committed; low = None } }
     {
-        if let Stage::Addr(address) = oldest.stage {
-            let second = oldest.instr.second();
-            let content = source(&self.window, &self.ahead(), 0, second, 0).unwrap_or(0);
-            let width = oldest.instr.op().width() as usize;
-            self.committed.store_at(address as usize, width, content);
-        }
         self.committed.settle(self.low);
         self.low = None;
-        let made = oldest.made.unwrap_or(0);
-        self.committed
-            .advance(oldest.destination, made, oldest.next);
+        self.commits_whole(oldest);
+    }
+
+    // The oldest station is free again. How many are settled is not counted down.
+    #[inline(always)]
+    fn frees(&mut self, oldest: &Station)
+        requires oldest { self.old.oldest < self.old.ring }
+        requires most { self.old.ring ≤ 32 }
+        requires is { slice_get self.old.window 0 ≡ Some oldest.now }
+        ensures { self.new ≡ record (shifted self.old) { settled = self.old.settled } }
+    {
+        self.oldest = self.second_station();
+        self.window.shift(oldest);
     }
 
     // The oldest station is free again.
@@ -50,8 +88,7 @@ impl<'a> Pipeline<'a> {
         requires is { slice_get self.old.window 0 ≡ Some oldest.now }
         ensures { self.new ≡ shifted self.old }
     {
-        self.oldest = self.second_station();
-        self.window.shift(oldest);
+        self.frees(oldest);
         self.settled = self.settled.saturating_sub(1);
     }
 
@@ -99,6 +136,24 @@ impl<'a> Pipeline<'a> {
         self.commit(&oldest);
         self.shift(&oldest);
         Turn::Retired
+    }
+
+    /// The same where nothing waits for LO and all are settled: one more is then than was known.
+    #[inline(always)]
+    pub fn leaves_settled(&mut self, oldest: Station)
+        requires oldest { self.old.oldest < self.old.ring }
+        requires most { self.old.ring ≤ 32 }
+        requires leavers { length self.old.leavers ≡ 32 }
+        requires whole { self.old.low ≡ None }
+        requires count { self.old.committed.count < 2 ^ 64 - 1 }
+        requires can { HasEnded (length self.old.committed.memory) oldest.instr oldest.stage }
+        requires is { slice_get self.old.window 0 ≡ Some oldest }
+        requires untold { slice_get self.old.leavers self.old.oldest ≡ Some None }
+        ensures { self.new ≡ left (record self.old { settled = suc self.old.settled }) oldest }
+    {
+        leave_untold(&mut self.leavers, self.oldest, told_of(&oldest));
+        self.commits_whole(&oldest);
+        self.frees(&oldest);
     }
 
     /// Retires the oldest tenant.

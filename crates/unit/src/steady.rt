@@ -50,7 +50,7 @@ impl<'a> Pipeline<'a> {
         if instr.is_first_half(Half::Low) {
             return None;
         }
-        if instr.is_access() && self.queue <= self.window.accesses() {
+        if self.queue <= self.window.accesses() && instr.is_access() {
             return None;
         }
         Some(Fetched {
@@ -68,6 +68,7 @@ impl<'a> Pipeline<'a> {
         requires whole { self.old.low ≡ None }
         requires full { self.old.ring ≡ length self.old.window }
         requires passed { AwaitRetirement self.old.window }
+        requires settled { self.old.settled < length self.old.window }
         requires count { self.old.committed.count < 2 ^ 64 - 1 }
         ensures unit { StandsForSome self.new }
         ensures program { self.new.program ≡ self.old.program }
@@ -76,11 +77,8 @@ impl<'a> Pipeline<'a> {
             Foresees f self.old.committed.registers self.old.committed.pc self.old.window →
             f.station ≡ self.old.oldest → IsSteady self.new f }
     {
-        let Some(oldest) = self.window.at(0) else {
-            return;
-        };
-        self.settled = self.window.len();
-        self.leaves(oldest);
+        let oldest = self.window.oldest();
+        self.leaves_settled(oldest);
     }
 
     // One turn of each stage: lets the next instruction, and retires the oldest tenant. Answers whether the unit is in

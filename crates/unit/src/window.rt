@@ -1,13 +1,13 @@
 //! The stations of the live tenants, the oldest first, and who makes what they read.
 ghost use Rattle.std.specs.Prelude.{◌≡◌, ◌<◌, ◌≤◌, ◌-◌, [], ◌∷◌, ◌++◌, length, take, drop, slice_get, slice_set, option_copied, Some};
 ghost use Rattle.unit.specs.Creators.{CreatorsAt, IsCreator, IsOfSame};
-ghost use Rattle.unit.specs.Window.{HasReached, IsAdvanced, access_of, accesses as accesses_of, let_at};
+ghost use Rattle.unit.specs.Window.{HasReached, IsAdvanced, access_of, accesses as accesses_of, further_on, let_at};
 
 use crate::creators::Creators;
 use crate::decoded::Decoded;
 use crate::places::{place_of, slot_of};
-use crate::station::{Stage, Station, new_station};
-use instructions::{Half, Instr, Op, Reg};
+use crate::station::{Stage, Station, unused};
+use instructions::{Half, Reg};
 use std::marker::Model;
 
 /// At most 32 stations, in a ring of slots.
@@ -39,20 +39,6 @@ impl Model for Window {
 
     ghost invariant = { λ w. IsWindow w.stations w.creators w.newest w.start w.len
         × (w.accesses ≡ accesses_of (ring_of w.stations w.start w.len) w.len) };
-}
-
-// A slot that nobody has used.
-fn unused() -> Station {
-    Station {
-        instr: Decoded::new(Instr::new(Op::Break, Reg::ZERO, Reg::ZERO, Reg::ZERO, 0)),
-        half: Half::Low,
-        destination: Reg::ZERO,
-        pc: 0,
-        predicted: 0,
-        next: 0,
-        made: None,
-        stage: Stage::Open,
-    }
 }
 
 // 1 for an instruction that reaches memory, else 0.
@@ -110,6 +96,15 @@ impl Window {
         }
         let slot = slot_of(self.start, i);
         Some(&self.stations[slot])
+    }
+
+    /// The oldest tenant, where there is one.
+    #[inline(always)]
+    pub fn oldest(&self) -> Station
+        requires { 0 < length self.now }
+        ensures { slice_get self.now 0 ≡ Some result }
+    {
+        self.stations[self.start]
     }
 
     /// The youngest tenant.
@@ -176,23 +171,41 @@ impl Window {
         self.stations[slot].stage = stage;
     }
 
-    /// Lets a half of an instruction at a pc.
+    /// Lets a half of an instruction at a pc, which has made this and has reached this stage at once.
     #[inline(always)]
-    pub fn push(&mut self, instr: &Decoded, half: Half, pc: u32, predicted: u32)
+    pub fn push(
+        &mut self,
+        instr: &Decoded,
+        half: Half,
+        pc: u32,
+        predicted: u32,
+        made: Option<u32>,
+        stage: Stage,
+    )
         requires { length self.old < 32 }
-        ensures { self.new ≡ self.old ++ let_at instr.now half pc predicted ∷ [] }
+        ensures { self.new ≡ self.old ++
+            further_on (let_at instr.now half pc predicted) stage made ∷ [] }
     {
-        let station = new_station(instr, half, pc, predicted);
         self.accesses += access(instr);
         let slot = slot_of(self.start, self.len);
-        let r = station.destination.number() as usize;
+        let destination = instr.destination(half);
+        let r = destination.number() as usize;
         self.creators[slot] = Creators {
             first: self.newest[instr.first().number() as usize],
             second: self.newest[instr.second().number() as usize],
             replaced: self.newest[r],
         };
         self.newest[r] = slot as u8;
-        self.stations[slot] = station;
+        self.stations[slot] = Station {
+            instr: *instr,
+            half,
+            destination,
+            pc,
+            predicted,
+            next: predicted,
+            made,
+            stage,
+        };
         self.len += 1;
     }
 

@@ -3,7 +3,7 @@ use Rattle.std.specs.Prelude.{length, option_copied}
 use Rattle.unit.specs.Decoding.{IsDecoded}
 use Rattle.unit.specs.Window.{accesses, half_in, reaches_memory}
 use Rattle.unit.proofs.Awaiting.{half_passed}
-use Rattle.unit.proofs.pipeline.Pipeline.next_behind.Goals.{else-is_access-via-then-is_access+else-self-accesses, else-is_access-via-else-is_access}
+use Rattle.unit.proofs.pipeline.Pipeline.next_behind.Goals.{else-self-accesses-via-else-self-accesses, else-self-accesses-via-then-self-accesses+else-is_access}
 use Rattle.unit.proofs.pipeline.Pipeline.next_behind.Goals as goal
 
 pub returns-clause-next : goal.returns-clause-next
@@ -12,9 +12,9 @@ returns-clause-next c =
     let s = c.requires.steady in
     let i = c.in_ok-instr.instr.now in
     let free : reaches_memory i.op ≡ true → accesses b.window (length b.window) < b.queue =
-    elim c.else-is_access.branch [
-      | else-is_access-via-then-is_access+else-self-accesses w ↦ λ e. omega (arith, w.if-self-accesses.false, w.accesses.ensures)
-      | else-is_access-via-else-is_access w ↦ λ e. absurd (true≢false (sym e ∙ sym c.is_access.ensures ∙ w.if-is_access.false))
+    elim c.else-self-accesses.branch [
+      | else-self-accesses-via-then-self-accesses+else-is_access w ↦ λ e. absurd (true≢false (sym e ∙ sym w.is_access.ensures ∙ w.if-is_access.false))
+      | else-self-accesses-via-else-self-accesses w ↦ λ e. omega (arith, w.if-self-accesses, c.accesses.ensures)
     ] in
     record {
       room = omega (arith, s.free);

@@ -1,4 +1,4 @@
-use Rattle.std.proofs.Common.{refl, sym, ap, subst}
+use Rattle.std.proofs.Common.{◌≤◌, [], ◌∷◌, length, refl, sym, ap, subst, arith, length-append}
 use Rattle.unit.specs.declared.future.Future.{Future}
 use Rattle.unit.specs.Steady.{AwaitRetirement, Foresees}
 use Rattle.unit.proofs.Awaiting.{passed_more}
@@ -9,6 +9,12 @@ streams_out-requires-clause-passed g c =
     let e = c.streams_in.ensures.window in
     let follows = c.if-not-streams_in.ensures.follows e.station e.is in
     subst AwaitRetirement (sym e.is) (passed_more c.args.self.now.window e.station c.requires.steady.passed follows.passed)
+
+pub streams_out-requires-clause-settled : goal.streams_out-requires-clause-settled
+streams_out-requires-clause-settled g c =
+    let e = c.streams_in.ensures.window in
+    let known : c.args.self.now.settled ≤ length c.args.self.now.window = c.requires.unit.noted.are_settled.inside in
+    omega (arith, known, ap length e.is, length-append c.args.self.now.window (e.station ∷ []), ap (λ x. x.settled) c.streams_in.ensures.rest)
 
 pub returns-clause-steady : goal.returns-clause-steady
 returns-clause-steady g c =

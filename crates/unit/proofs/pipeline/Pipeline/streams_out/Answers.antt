@@ -1,41 +1,42 @@
-use Rattle.std.proofs.Common.{◌≡◌, length, refl, sym, ap, ◌∙◌}
+use Rattle.std.proofs.Common.{suc, refl}
 use Rattle.unit.specs.declared.pipeline.Pipeline.{Pipeline}
 use Rattle.unit.proofs.Ends.{one_retired}
 use Rattle.unit.proofs.StreamsOut.{IsDue, due_ended, due_shows, due_steady}
+use Rattle.unit.proofs.Untold.{oldest_untold}
 use Rattle.unit.proofs.pipeline.Pipeline.streams_out.Goals as goal
 
-pub leaves-requires-clause-can : goal.leaves-requires-clause-can
-leaves-requires-clause-can c =
+pub leaves_settled-requires-clause-can : goal.leaves_settled-requires-clause-can
+leaves_settled-requires-clause-can c =
     let b = c.args.self.now in
     let r = c.requires in
-    let due : IsDue b = record { unit = r.unit; goes_on = r.goes_on; whole = r.whole; full = r.full; passed = r.passed } in
-    due_ended b c.in-Some.oldest due (sym c.at.ensures ∙ c.in-Some.is)
+    let due : IsDue b = record { unit = r.unit; goes_on = r.goes_on; whole = r.whole; full = r.full; passed = r.passed; settled = r.settled } in
+    due_ended b c.oldest-oldest.result due c.oldest-oldest.ensures
+
+pub leaves_settled-requires-clause-untold : goal.leaves_settled-requires-clause-untold
+leaves_settled-requires-clause-untold c = oldest_untold c.args.self.now c.oldest-oldest.result c.requires.unit c.oldest-oldest.ensures
 
 pub returns-clause-unit : goal.returns-clause-unit
 returns-clause-unit c =
     let b = c.args.self.now in
     let r = c.requires in
-    let due : IsDue b = record { unit = r.unit; goes_on = r.goes_on; whole = r.whole; full = r.full; passed = r.passed } in
-    let now : Pipeline = record b { settled = c.len-self.result } in
-    let same : now ≡ record b { settled = length b.window } = ap (λ n. record b { settled = n }) c.len-self.ensures.value in
-    let shows = due_shows b now c.leaves.new.self c.in-Some.oldest due same (sym c.at.ensures ∙ c.in-Some.is) c.leaves.ensures.later in
+    let due : IsDue b = record { unit = r.unit; goes_on = r.goes_on; whole = r.whole; full = r.full; passed = r.passed; settled = r.settled } in
+    let now : Pipeline = record b { settled = suc b.settled } in
+    let shows = due_shows b now c.leaves_settled.new.self c.oldest-oldest.result due refl c.oldest-oldest.ensures c.leaves_settled.ensures in
     shows.unit
 
 pub returns-clause-retires : goal.returns-clause-retires
 returns-clause-retires c =
     let b = c.args.self.now in
     let r = c.requires in
-    let due : IsDue b = record { unit = r.unit; goes_on = r.goes_on; whole = r.whole; full = r.full; passed = r.passed } in
-    let now : Pipeline = record b { settled = c.len-self.result } in
-    let same : now ≡ record b { settled = length b.window } = ap (λ n. record b { settled = n }) c.len-self.ensures.value in
-    let shows = due_shows b now c.leaves.new.self c.in-Some.oldest due same (sym c.at.ensures ∙ c.in-Some.is) c.leaves.ensures.later in
-    one_retired b b c.leaves.new.self r.unit shows.turn shows.same refl refl shows.falls
+    let due : IsDue b = record { unit = r.unit; goes_on = r.goes_on; whole = r.whole; full = r.full; passed = r.passed; settled = r.settled } in
+    let now : Pipeline = record b { settled = suc b.settled } in
+    let shows = due_shows b now c.leaves_settled.new.self c.oldest-oldest.result due refl c.oldest-oldest.ensures c.leaves_settled.ensures in
+    one_retired b b c.leaves_settled.new.self r.unit shows.turn shows.same refl refl shows.falls
 
 pub returns-clause-steady : goal.returns-clause-steady
 returns-clause-steady c f h at =
     let b = c.args.self.now in
     let r = c.requires in
-    let due : IsDue b = record { unit = r.unit; goes_on = r.goes_on; whole = r.whole; full = r.full; passed = r.passed } in
-    let now : Pipeline = record b { settled = c.len-self.result } in
-    let same : now ≡ record b { settled = length b.window } = ap (λ n. record b { settled = n }) c.len-self.ensures.value in
-    due_steady b now c.leaves.new.self c.in-Some.oldest f due same (sym c.at.ensures ∙ c.in-Some.is) c.leaves.ensures.later h at
+    let due : IsDue b = record { unit = r.unit; goes_on = r.goes_on; whole = r.whole; full = r.full; passed = r.passed; settled = r.settled } in
+    let now : Pipeline = record b { settled = suc b.settled } in
+    due_steady b now c.leaves_settled.new.self c.oldest-oldest.result f due refl c.oldest-oldest.ensures c.leaves_settled.ensures h at

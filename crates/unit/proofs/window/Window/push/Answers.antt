@@ -4,7 +4,7 @@ use Rattle.instructions.specs.Instruction.{first_of, second_of}
 use Rattle.unit.specs.declared.creators.Creators.{Creators}
 use Rattle.unit.specs.Creators.{IsWindow}
 use Rattle.unit.specs.Slots.{ring_of, slot_of}
-use Rattle.unit.specs.Window.{accesses, let_at}
+use Rattle.unit.specs.Window.{accesses, further_on, let_at}
 use Rattle.unit.proofs.Accesses.{accesses_most, count_push}
 use Rattle.unit.proofs.Slots.{ring_length, ring_push}
 use Rattle.unit.proofs.WindowKept.{window_let}
@@ -14,14 +14,14 @@ pub invariant_of-self : goal.invariant_of-self
 invariant_of-self c =
     let s = c.self.inside in
     let h = c.self.invariant.0 in
-    let w = let_at c.args.instr.now c.args.half c.args.pc c.args.predicted in
-    let is = c.new_station-station.ensures in
+    let w = further_on (let_at c.args.instr.now c.args.half c.args.pc c.args.predicted) c.args.stage c.args.made in
+    let is = ap (λ d. record w { destination = d }) c.destination-destination.ensures in
     let made : Creators = record { first = slice_index s.newest c.number.result; second = slice_index s.newest c.number-2.result; replaced = slice_index s.newest c.number-r.result } in
     let long = ring_length s.stations s.start s.len h.every_station h.begins h.most in
     let room : s.len < 32 = omega (arith, c.requires, ap length c.self.view_is, long) in
     let first : c.number.result ≡ first_of w.instr = c.number.ensures.value ∙ c.first.ensures in
     let second : c.number-2.result ≡ second_of w.instr = c.number-2.ensures.value ∙ c.second.ensures in
-    let r : c.number-r.result ≡ w.destination = c.number-r.ensures.value ∙ ap (λ x. x.destination) is in
+    let r : c.number-r.result ≡ w.destination = c.number-r.ensures.value ∙ c.destination-destination.ensures in
     let all = window_let s.stations s.creators s.newest s.start s.len w made h room (omega (arith, first, c.number.ensures.small)) (omega (arith, second, c.number-2.ensures.small))
     (omega (arith, r, c.number-r.ensures.small)) (ap (slice_index s.newest) first) (ap (slice_index s.newest) second)
     (ap (slice_index s.newest) r) in
@@ -48,10 +48,10 @@ pub returns : goal.returns
 returns c =
     let s = c.self.inside in
     let h = c.self.invariant.0 in
-    let w = let_at c.args.instr.now c.args.half c.args.pc c.args.predicted in
+    let w = further_on (let_at c.args.instr.now c.args.half c.args.pc c.args.predicted) c.args.stage c.args.made in
     let long = ring_length s.stations s.start s.len h.every_station h.begins h.most in
     let room : s.len < 32 = omega (arith, c.requires, ap length c.self.view_is, long) in
-    ap (λ x. ring_of (set s.stations c.slot_of-slot.result x) s.start (s.len + 1)) c.new_station-station.ensures
+    ap (λ d. ring_of (set s.stations c.slot_of-slot.result (record w { destination = d })) s.start (s.len + 1)) c.destination-destination.ensures
     ∙ ap (λ k. ring_of (set s.stations k w) s.start (s.len + 1)) c.slot_of-slot.ensures.value
     ∙ ring_push s.stations s.start s.len w h.every_station h.begins room
     ∙ ap (λ l. l ++ w ∷ []) c.self.view_is
