@@ -15,6 +15,8 @@ mod listings;
 #[cfg(test)]
 mod one_thread;
 #[cfg(test)]
+mod same;
+#[cfg(test)]
 mod scripts;
 #[cfg(test)]
 mod shown;

@@ -4,6 +4,7 @@ mod reading;
 
 ghost use Rattle.std.specs.Prelude.{◌≡◌};
 
+use crate::same::same;
 use back::Naming;
 use devices::Counted;
 use drive::*;
@@ -39,9 +40,9 @@ fn lines_are_commands(rt: HostRuntime) {
         (b"Turn", Line::Unknown),
     ];
     for (line, asked) in cases {
-        assert_eq!(rt; line_in(line), asked);
+        same(&rt, &line_in(line), &asked);
     }
-    assert_eq!(rt; unit_in(b"Z"), Some(25));
+    same(&rt, &unit_in(b"Z"), &Some(25));
     assert!(rt; UNITS == 64);
 }
 
@@ -96,7 +97,7 @@ Let station 1 tag 2 pc 0x00400008
 Stale
 Seen tag 2 state OPEN value 0x00000000
 ";
-    assert_eq!(rt; told.as_slice(), expected.as_slice());
+    same(&rt, &told.as_slice(), &expected.as_slice());
     Ok(())
 }
 
@@ -119,7 +120,7 @@ Mark n 2
 Learnt
 Snap n 2 pc 0x00400008 r1 0x00000005 r2 0x0000000a
 ";
-    assert_eq!(rt; told.as_slice(), expected.as_slice());
+    same(&rt, &told.as_slice(), &expected.as_slice());
     Ok(())
 }
 
@@ -139,7 +140,7 @@ line 8: unknown word
 line 9: claim takes a unit and a station
 Finished
 ";
-    assert_eq!(rt; told.as_slice(), expected.as_slice());
+    same(&rt, &told.as_slice(), &expected.as_slice());
     Ok(())
 }
 
@@ -156,7 +157,7 @@ Finished
 Retired pc 0x00400000 n 1
 Let station 0 tag 2 pc 0x00400008
 ";
-    assert_eq!(rt; told.as_slice(), expected.as_slice());
+    same(&rt, &told.as_slice(), &expected.as_slice());
     Ok(())
 }
 
@@ -174,7 +175,7 @@ Finished
 Job station 1 tag 1 index 1 half Low pc 0x00400004 predicted 0x00400008 a 0x00000005 b 0x00000005
 Finished
 ";
-    assert_eq!(rt; told.as_slice(), expected.as_slice());
+    same(&rt, &told.as_slice(), &expected.as_slice());
     Ok(())
 }
 
@@ -203,7 +204,7 @@ Retired pc 0x00400004 n 2
 Retired pc 0x00400008 n 3
 NotDone
 ";
-    assert_eq!(rt; told.as_slice(), expected.as_slice());
+    same(&rt, &told.as_slice(), &expected.as_slice());
     Ok(())
 }
 
@@ -231,6 +232,6 @@ Finished
 Job station 3 tag 2 index 4 half Low pc 0x00400010 predicted 0x00400014 a 0x00000003 b 0x00000003
 Finished
 ";
-    assert_eq!(rt; told.as_slice(), expected.as_slice());
+    same(&rt, &told.as_slice(), &expected.as_slice());
     Ok(())
 }

@@ -1,4 +1,5 @@
 //! What a bench shows of its live tenants.
+use crate::same::same;
 use instructions::{Config, NotTaken, Op};
 use isa::parse;
 use std::test::Fail;
@@ -23,15 +24,15 @@ fn the_live_tenants_stand_in_their_order(rt: HostRuntime) -> Result<(), Fail> {
         .enumerate()
     {
         assert!(rt; bench.has_room());
-        assert_eq!(rt; bench.turn(), Turn::Let);
-        assert_eq!(rt; bench.live(), let_out + 1);
+        same(&rt, &bench.turn(), &Turn::Let);
+        same(&rt, &bench.live(), &(let_out + 1));
         assert!(rt; is_open(bench.tenant(let_out), *op));
     }
     assert!(rt; bench.tenant(4).is_none());
     for turn in [Turn::Ran, Turn::Ran, Turn::Ran, Turn::Ran, Turn::Retired] {
         assert!(rt; bench.has_room());
-        assert_eq!(rt; bench.count(), 0);
-        assert_eq!(rt; bench.turn(), turn);
+        same(&rt, &bench.count(), &0);
+        same(&rt, &bench.turn(), &turn);
     }
     assert!(rt; bench.count() == 1 && bench.live() == 3);
     assert!(rt; matches!(bench.tenant(0), Some(oldest) if oldest.made == Some(25)));

@@ -2,6 +2,7 @@
 ghost use Rattle.std.specs.Prelude.{◌≡◌};
 ghost use Rattle.snapshots.specs.Snapshots.{IsSnapshotOf};
 
+use crate::same::same;
 use instructions::Memory;
 use snapshots::{Gone, Mark, Naming, NoPlace, Publisher, Snap, Snapper};
 use std::alloc::Global;
@@ -66,11 +67,11 @@ fn snapper_takes_what_its_mark_names(rt: HostRuntime) -> Result<(), Fail> {
     let third = snapper.take();
     let last = publisher.end(&rt);
     let gone = snapper.take();
-    assert_eq!(rt; first?, Snap::opening());
-    assert_eq!(rt; mark?, Mark { n: 3 });
-    assert_eq!(rt; (second?, third?), (after_three(), after_three()));
-    assert_eq!(rt; last, after_three());
-    assert_eq!(rt; gone, Err(Gone));
+    same(&rt, &first?, &Snap::opening());
+    same(&rt, &mark?, &Mark { n: 3 });
+    same(&rt, &(second?, third?), &(after_three(), after_three()));
+    same(&rt, &last, &after_three());
+    same(&rt, &gone, &Err(Gone));
     Ok(())
 }
 
@@ -83,9 +84,9 @@ fn nothing_older_than_a_mark_is_taken(rt: HostRuntime) -> Result<(), Fail> {
     let three = publisher.publish(&rt, after_three());
     let newer = snapper.take();
     publisher.end(&rt);
-    assert_eq!(rt; (one?, three?), (Mark { n: 1 }, Mark { n: 3 }));
-    assert_eq!(rt; older, Err(Gone));
-    assert_eq!(rt; newer?, after_three());
+    same(&rt, &(one?, three?), &(Mark { n: 1 }, Mark { n: 3 }));
+    same(&rt, &older, &Err(Gone));
+    same(&rt, &newer?, &after_three());
     Ok(())
 }
 
@@ -108,9 +109,9 @@ fn second_place_takes_a_second_snapper(rt: HostRuntime) -> Result<(), Fail> {
     drop(second);
     let again = tries(&mut first, 1000).is_some();
     publisher.end(&rt);
-    assert_eq!(rt; shown?, Mark { n: 1 });
+    same(&rt, &shown?, &Mark { n: 1 });
     assert!(rt; third && again);
-    assert_eq!(rt; taken, Some(Ok(after_one())));
+    same(&rt, &taken, &Some(Ok(after_one())));
     Ok(())
 }
 
@@ -120,8 +121,8 @@ fn one_place_takes_no_second_snapper(rt: HostRuntime) -> Result<(), Fail> {
     let second = first.another().map(|_| ());
     let taken = first.take();
     publisher.end(&rt);
-    assert_eq!(rt; second, Err(NoPlace));
-    assert_eq!(rt; taken?, Snap::opening());
+    same(&rt, &second, &Err(NoPlace));
+    same(&rt, &taken?, &Snap::opening());
     Ok(())
 }
 

@@ -1,4 +1,5 @@
 //! Turns of listings, and runs beside the in-order machine.
+use crate::same::{same, same_in};
 use inorder::{Ended, Machine};
 use instructions::{Bimod, Config, Ending, NotTaken, Predictor, Program, Stop};
 use isa::parse;
@@ -22,7 +23,7 @@ fn takes_turns(
     let mut bench = Bench::new(alloc, &program, config, NotTaken)?;
     for turn in turns {
         assert!(rt; bench.has_room());
-        assert_eq!(rt; bench.turn(), *turn);
+        same(rt, &bench.turn(), &*turn);
     }
     Ok(())
 }
@@ -67,15 +68,11 @@ fn an_ended_unit_stays_ended(rt: HostRuntime) -> Result<(), Fail> {
         let mut bench = Bench::new(rt.alloc(), &program, &config(ring, 2)?, NotTaken)?;
         turns_on(&rt, &mut bench, Turn::Over(Stop::Break));
         let end = bench.run(1000);
-        assert_eq!(rt; end.outcome, Ending::Stop(Stop::Break), "ring {ring}");
-        assert_eq!(rt; (end.n, end.pc), (1, 0x0040_0004), "ring {ring}");
+        same_in(&rt, &ring, &end.outcome, &Ending::Stop(Stop::Break));
+        same_in(&rt, &ring, &(end.n, end.pc), &(1, 0x0040_0004));
         let registers = (end.registers[1], end.registers[2], end.registers[3]);
-        assert_eq!(rt; registers, (3, 0, 0), "ring {ring}");
-        assert_eq!(rt;
-            end.memory.as_slice(),
-            [0, 0, 0, 0].as_slice(),
-            "ring {ring}"
-        );
+        same_in(&rt, &ring, &registers, &(3, 0, 0));
+        same_in(&rt, &ring, &end.memory.as_slice(), &[0, 0, 0, 0].as_slice());
     }
     Ok(())
 }
@@ -190,21 +187,13 @@ fn between_two_halves_all_is_as_before_the_first(rt: HostRuntime) -> Result<(), 
     let program = parse(rt.alloc(), b"addiu $1,$0,3\nmult $1,$1\nmflo $2\nbreak\n")?;
     for ring in [2, 4, 8, 16, 32] {
         let end = halved(&rt, rt.alloc(), &program, ring)?.run(1);
-        assert_eq!(rt; end.outcome, Ending::Limit, "ring {ring}");
-        assert_eq!(rt; (end.n, end.pc), (1, 0x0040_0004), "ring {ring}");
-        assert_eq!(rt;
-            (end.registers[1], end.registers[32]),
-            (3, 0),
-            "ring {ring}"
-        );
+        same_in(&rt, &ring, &end.outcome, &Ending::Limit);
+        same_in(&rt, &ring, &(end.n, end.pc), &(1, 0x0040_0004));
+        same_in(&rt, &ring, &(end.registers[1], end.registers[32]), &(3, 0));
         let end = halved(&rt, rt.alloc(), &program, ring)?.run(1000);
-        assert_eq!(rt; end.outcome, Ending::Stop(Stop::Break), "ring {ring}");
-        assert_eq!(rt; (end.n, end.pc), (3, 0x0040_000c), "ring {ring}");
-        assert_eq!(rt;
-            (end.registers[2], end.registers[32]),
-            (9, 9),
-            "ring {ring}"
-        );
+        same_in(&rt, &ring, &end.outcome, &Ending::Stop(Stop::Break));
+        same_in(&rt, &ring, &(end.n, end.pc), &(3, 0x0040_000c));
+        same_in(&rt, &ring, &(end.registers[2], end.registers[32]), &(9, 9));
     }
     Ok(())
 }
@@ -217,11 +206,11 @@ fn same_end(rt: &impl Abort, alloc: Global, program: &Program, ring: u64) -> Res
     };
     let bench = Bench::new(alloc, program, &config(ring, 2)?, Bimod::new())?;
     let end = bench.run(1000);
-    assert_eq!(rt; end.outcome, outcome);
-    assert_eq!(rt; end.n, machine.count());
-    assert_eq!(rt; end.pc, machine.pc());
-    assert_eq!(rt; end.registers, *machine.registers());
-    assert_eq!(rt; end.memory.as_slice(), machine.memory());
+    same(rt, &end.outcome, &outcome);
+    same(rt, &end.n, &machine.count());
+    same(rt, &end.pc, &machine.pc());
+    same(rt, &end.registers, &*machine.registers());
+    same(rt, &end.memory.as_slice(), &machine.memory());
     Ok(())
 }
 

@@ -1,6 +1,7 @@
 //! Devices that fail, and what is taken of a listing.
 use super::{LIMIT, config};
 use crate::failing::{FailingReader, FailingWriter, LISTING, REPORT};
+use crate::same::same;
 use bench::{Counted, Fault, Status, alone};
 use instructions::NotTaken;
 use std::test::Fail;
@@ -12,9 +13,9 @@ fn a_reader_that_fails_is_blamed(rt: HostRuntime) -> Result<(), Fail> {
         let mut reader = Counted::new(FailingReader { given: 0, most });
         let mut writer = Counted::new(Vec::new(rt.alloc()));
         let went = alone(rt.alloc(), &mut reader, &mut writer, &config, NotTaken);
-        assert_eq!(rt; went, Err(Fault::Read));
-        assert_eq!(rt; reader.failures(), 1);
-        assert_eq!(rt; writer.failures(), 0);
+        same(&rt, &went, &Err(Fault::Read));
+        same(&rt, &reader.failures(), &1);
+        same(&rt, &writer.failures(), &0);
         assert!(rt; writer.into_inner().is_empty());
     }
     Ok(())
@@ -23,16 +24,16 @@ fn a_reader_that_fails_is_blamed(rt: HostRuntime) -> Result<(), Fail> {
 #[test]
 fn a_writer_that_fails_is_blamed_and_keeps_a_beginning(rt: HostRuntime) -> Result<(), Fail> {
     let config = config(16, LIMIT)?;
-    assert_eq!(rt; REPORT.len(), 61);
+    same(&rt, &REPORT.len(), &61);
     for is_silent in [false, true] {
         for room in 0..REPORT.len() {
             let mut reader = Counted::new(LISTING);
             let mut writer = Counted::new(FailingWriter::new(rt.alloc(), room, is_silent));
             let went = alone(rt.alloc(), &mut reader, &mut writer, &config, NotTaken);
-            assert_eq!(rt; went, Err(Fault::Write));
-            assert_eq!(rt; reader.failures(), 0);
-            assert_eq!(rt; writer.failures(), 1);
-            assert_eq!(rt; writer.into_inner().taken.as_slice(), &REPORT[..room]);
+            same(&rt, &went, &Err(Fault::Write));
+            same(&rt, &reader.failures(), &0);
+            same(&rt, &writer.failures(), &1);
+            same(&rt, &writer.into_inner().taken.as_slice(), &&REPORT[..room]);
         }
     }
     Ok(())
@@ -57,9 +58,9 @@ fn a_long_listing_is_taken_up_to_one_byte_too_many(rt: HostRuntime) -> Result<()
         let mut reader = Counted::new(listing.as_slice());
         let mut writer = Counted::new(Vec::new(rt.alloc()));
         let went = alone(rt.alloc(), &mut reader, &mut writer, &config, NotTaken)?;
-        assert_eq!(rt; went, status);
-        assert_eq!(rt; reader.into_inner().len(), left);
-        assert_eq!(rt; writer.into_inner().as_slice(), text);
+        same(&rt, &went, &status);
+        same(&rt, &reader.into_inner().len(), &left);
+        same(&rt, &writer.into_inner().as_slice(), &text);
     }
     Ok(())
 }

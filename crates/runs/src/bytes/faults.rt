@@ -1,5 +1,6 @@
 //! Listings with a fault, and their lines.
 use super::{LIMIT, answer, config};
+use crate::same::same;
 use bench::Status;
 use std::test::Fail;
 
@@ -31,14 +32,19 @@ fn the_first_fault_is_named_with_its_line(rt: HostRuntime) -> Result<(), Fail> {
 fn bytes_that_are_no_ascii_stand_in_comments_alone(rt: HostRuntime) -> Result<(), Fail> {
     let config = config(16, LIMIT)?;
     let (status, text) = answer(rt.alloc(), b"\x80", &config)?;
-    assert_eq!(rt; text.as_slice(), b"fault line 1 NotAscii\n".as_slice());
-    assert_eq!(rt; status, Status::TextFault);
-    let (status, text) = answer(rt.alloc(), b"break # \x80", &config)?;
-    assert_eq!(rt;
-        text.as_slice(),
-        b"stop break\ncount 0\npc 0x00400000\n".as_slice()
+    same(
+        &rt,
+        &text.as_slice(),
+        &b"fault line 1 NotAscii\n".as_slice(),
     );
-    assert_eq!(rt; status, Status::Break);
+    same(&rt, &status, &Status::TextFault);
+    let (status, text) = answer(rt.alloc(), b"break # \x80", &config)?;
+    same(
+        &rt,
+        &text.as_slice(),
+        &b"stop break\ncount 0\npc 0x00400000\n".as_slice(),
+    );
+    same(&rt, &status, &Status::Break);
     Ok(())
 }
 
@@ -46,10 +52,11 @@ fn bytes_that_are_no_ascii_stand_in_comments_alone(rt: HostRuntime) -> Result<()
 fn operations_are_read_in_either_case(rt: HostRuntime) -> Result<(), Fail> {
     let config = config(16, LIMIT)?;
     let (status, text) = answer(rt.alloc(), b"LW $t0 , ( $sp )\nbreak\n", &config)?;
-    assert_eq!(rt;
-        text.as_slice(),
-        b"stop range\ncount 0\npc 0x00400000\n".as_slice()
+    same(
+        &rt,
+        &text.as_slice(),
+        &b"stop range\ncount 0\npc 0x00400000\n".as_slice(),
     );
-    assert_eq!(rt; status, Status::Stopped);
+    same(&rt, &status, &Status::Stopped);
     Ok(())
 }

@@ -1,11 +1,12 @@
 //! Command lines that ask for no run: help, the version and checks; and want of memory.
 use super::options::is_usage;
+use crate::same::same;
 use requests::*;
 
 #[test]
 fn tells_of_want_of_memory(rt: HostRuntime) {
     let no_run = NoRun::Memory;
-    assert_eq!(rt; status(&no_run), 5);
+    same(&rt, &status(&no_run), &5);
     let text = no_run.to_string(rt.alloc());
     assert!(rt; text.is_ok_and(|text| text.as_str() == "ruu: memory"));
 }
@@ -59,7 +60,7 @@ fn tells_a_check_from_a_run(rt: HostRuntime) {
         assert!(rt; false, "a check was asked for");
         return;
     };
-    assert_eq!(rt; file, "sum.s");
+    same(&rt, &file, &"sum.s");
     let no_run = asked(rt.alloc(), check.as_slice()).err();
     assert!(rt; no_run.is_some_and(|e| is_usage(&e)));
     let run = ["ruu", "run", "-", "--limit", "7"];
@@ -68,7 +69,7 @@ fn tells_a_check_from_a_run(rt: HostRuntime) {
         return;
     };
     assert!(rt; is_standard_input(asked.file));
-    assert_eq!(rt; asked.config.limit(), 7);
+    same(&rt, &asked.config.limit(), &7);
     for file in ["", "./-", "--", "sum.s"] {
         assert!(rt; !is_standard_input(file), "{file}");
     }

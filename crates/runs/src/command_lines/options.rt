@@ -1,4 +1,5 @@
 //! Command lines: each option, its default, its limits and one past them; what is refused, and how.
+use crate::same::{same, same_in};
 use requests::*;
 use std::alloc::Global;
 
@@ -28,15 +29,15 @@ const DEFAULTS: [u32; 5] = [16, 8, 2, 4_294_967_295, 1_000_000];
 #[test]
 fn has_defaults(rt: HostRuntime) {
     let words = ["ruu", "run", "sum.s"];
-    assert_eq!(rt; sizes(rt.alloc(), words.as_slice()), Some(DEFAULTS));
+    same(&rt, &sizes(rt.alloc(), words.as_slice()), &Some(DEFAULTS));
     match asked(rt.alloc(), words.as_slice()) {
         Ok(asked) => {
-            assert_eq!(rt; asked.file, "sum.s");
+            same(&rt, &asked.file, &"sum.s");
             assert!(rt; asked.predictor == BranchPredictor::Bimod);
             assert!(rt; !asked.alone);
             assert!(rt; !asked.progress);
-            assert_eq!(rt; asked.config.places(), 1);
-            assert_eq!(rt; asked.config.first_tag(), 1);
+            same(&rt, &asked.config.places(), &1);
+            same(&rt, &asked.config.first_tag(), &1);
         },
         Err(_no_run) => assert!(rt; false),
     }
@@ -79,10 +80,11 @@ fn takes_each_option_up_to_its_limits(rt: HostRuntime) {
     ];
     for (option, value, wanted) in cases {
         let words = ["ruu", "run", "sum.s", option, value];
-        assert_eq!(rt;
-            sizes(rt.alloc(), words.as_slice()),
-            Some(wanted),
-            "{option} {value}"
+        same_in(
+            &rt,
+            &(option, value),
+            &sizes(rt.alloc(), words.as_slice()),
+            &Some(wanted),
         );
     }
 }
@@ -110,7 +112,7 @@ fn takes_a_predictor_and_flags(rt: HostRuntime) {
                 assert!(rt; asked.predictor == wanted, "{word}");
                 assert!(rt; asked.alone);
                 assert!(rt; asked.progress);
-                assert_eq!(rt; asked.file, "-x.s");
+                same(&rt, &asked.file, &"-x.s");
             },
             Err(_no_run) => assert!(rt; false, "{word}"),
         }
@@ -129,7 +131,11 @@ fn takes_all_options_at_once(rt: HostRuntime) {
         "--limit=7",
         "sum.s",
     ];
-    assert_eq!(rt; sizes(rt.alloc(), words.as_slice()), Some([4, 4, 5, 6, 7]));
+    same(
+        &rt,
+        &sizes(rt.alloc(), words.as_slice()),
+        &Some([4, 4, 5, 6, 7]),
+    );
 }
 
 #[test]
@@ -207,7 +213,7 @@ fn refuses_a_ring_of_another_size(rt: HostRuntime) {
                     text.is_ok_and(|t| t.as_str() == "ruu: ruu-size must be 2, 4, 8, 16 or 32")
                 );
                 assert!(rt; matches!(no_run, NoRun::Ring), "{size}");
-                assert_eq!(rt; status(&no_run), 3);
+                same(&rt, &status(&no_run), &3);
             },
             Ok(_) => assert!(rt; false, "{size}"),
         }

@@ -1,4 +1,5 @@
 //! The predictor of each name.
+use crate::same::same;
 use instructions::{Instr, Op, Predictor, Reg};
 use requests::{BranchPredictor, choose};
 
@@ -19,8 +20,8 @@ fn each_answers_as_its_name_says(rt: HostRuntime) {
     for (which, before, learnt) in cases {
         let branch = Instr::new(Op::Bne, Reg::ZERO, Reg::ZERO, Reg::ZERO, TARGET);
         let mut predictor = choose(which);
-        assert_eq!(rt; predictor.predict(PC, &branch), before);
+        same(&rt, &predictor.predict(PC, &branch), &before);
         predictor.told(PC, TARGET);
-        assert_eq!(rt; predictor.predict(PC, &branch), learnt);
+        same(&rt, &predictor.predict(PC, &branch), &learnt);
     }
 }

@@ -1,4 +1,5 @@
 //! Charts and logs: which words ask for them, and which may not.
+use crate::same::{same, same_in};
 use requests::*;
 
 #[test]
@@ -21,9 +22,9 @@ fn takes_a_chart_and_a_log(rt: HostRuntime) {
     for (words, chart, log) in cases {
         match asked(rt.alloc(), words) {
             Ok(asked) => {
-                assert_eq!(rt; asked.watch.chart, chart, "{words:?}");
-                assert_eq!(rt; asked.watch.log, log, "{words:?}");
-                assert_eq!(rt; asked.watch.is_wanted(), chart || log.is_some());
+                same_in(&rt, &words, &asked.watch.chart, &chart);
+                same_in(&rt, &words, &asked.watch.log, &log);
+                same(&rt, &asked.watch.is_wanted(), &(chart || log.is_some()));
             },
             Err(_no_run) => assert!(rt; false, "{words:?}"),
         }

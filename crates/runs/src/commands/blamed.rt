@@ -1,5 +1,6 @@
 //! Files that do not open, and devices that fail.
 use crate::failing::{FailingReader, FailingWriter, LISTING, REPORT};
+use crate::same::{same, same_in};
 use command::{Line, Refusal, Went, asked, go};
 use devices::Counted;
 use pool::Open;
@@ -33,8 +34,8 @@ fn a_file_that_does_not_open_is_blamed(rt: HostRuntime) -> Result<(), Fail> {
         let reader: Option<Counted<FailingReader>> = None;
         let mut writer = Counted::new(FailingWriter::new(rt.alloc(), 0, false));
         let went = go(&rt, rt.alloc(), &asked, reader, &mut writer, &Open);
-        assert_eq!(rt; went, refused(Refusal::Open));
-        assert_eq!(rt; writer.failures(), 0);
+        same(&rt, &went, &refused(Refusal::Open));
+        same(&rt, &writer.failures(), &0);
         assert!(rt; writer.into_inner().taken.is_empty());
     }
     Ok(())
@@ -50,8 +51,8 @@ fn a_reader_that_fails_is_blamed_and_nothing_is_written(rt: HostRuntime) -> Resu
             let reader = Counted::new(FailingReader { given: 0, most });
             let mut writer = Counted::new(FailingWriter::new(rt.alloc(), 0, false));
             let went = go(&rt, rt.alloc(), &asked, Some(reader), &mut writer, &Open);
-            assert_eq!(rt; went, refused(Refusal::Read), "after {most} bytes");
-            assert_eq!(rt; writer.failures(), 0);
+            same_in(&rt, &most, &went, &refused(Refusal::Read));
+            same(&rt, &writer.failures(), &0);
             assert!(rt; writer.into_inner().taken.is_empty());
         }
     }
@@ -70,9 +71,9 @@ fn a_writer_that_fails_is_blamed_and_keeps_a_beginning(rt: HostRuntime) -> Resul
                     let reader = Counted::new(listing);
                     let mut writer = Counted::new(FailingWriter::new(rt.alloc(), room, is_silent));
                     let went = go(&rt, rt.alloc(), &asked, Some(reader), &mut writer, &Open);
-                    assert_eq!(rt; went, refused(Refusal::Write), "after {room} bytes");
-                    assert_eq!(rt; writer.failures(), 1);
-                    assert_eq!(rt; writer.into_inner().taken.as_slice(), &text[..room]);
+                    same_in(&rt, &room, &went, &refused(Refusal::Write));
+                    same(&rt, &writer.failures(), &1);
+                    same(&rt, &writer.into_inner().taken.as_slice(), &&text[..room]);
                 }
             }
         }
@@ -90,10 +91,10 @@ fn a_writer_with_just_enough_room_gets_the_whole_text(rt: HostRuntime) -> Result
             let reader = Counted::new(listing);
             let mut writer = Counted::new(FailingWriter::new(rt.alloc(), text.len(), false));
             let went = go(&rt, rt.alloc(), &asked, Some(reader), &mut writer, &Open);
-            assert_eq!(rt; went.status, status);
+            same(&rt, &went.status, &status);
             assert!(rt; !matches!(went.line, Line::Refused(_)));
-            assert_eq!(rt; writer.failures(), 0);
-            assert_eq!(rt; writer.into_inner().taken.as_slice(), text);
+            same(&rt, &writer.failures(), &0);
+            same(&rt, &writer.into_inner().taken.as_slice(), &text);
         }
     }
     Ok(())

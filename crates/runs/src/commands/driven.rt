@@ -1,5 +1,6 @@
 //! A unit driven by commands: command lines, answers, and devices that fail.
 use crate::failing::{FailingReader, FailingWriter, LISTING};
+use crate::same::{same, same_in};
 use by_hand::{ByHand, go_by_hand};
 use command::*;
 use devices::Counted;
@@ -42,10 +43,10 @@ fn a_command_line_asks_for_a_unit_to_drive(rt: HostRuntime) -> Result<(), Fail> 
     let Request::Drive(hand) = request else {
         return Err(Fail::new("there is nothing to drive"));
     };
-    assert_eq!(rt; hand.file, "double.s");
-    assert_eq!(rt; hand.config.ring(), 2);
-    assert_eq!(rt; hand.config.queue(), 2);
-    assert_eq!(rt; hand.config.first_tag(), 7);
+    same(&rt, &hand.file, &"double.s");
+    same(&rt, &hand.config.ring(), &2);
+    same(&rt, &hand.config.queue(), &2);
+    same(&rt, &hand.config.first_tag(), &7);
     assert!(rt; hand.quiet_prompt);
     let few = ["ruu", "drive", "double.s"];
     let Ok(fewer) = requested(rt.alloc(), few.as_slice()) else {
@@ -54,9 +55,9 @@ fn a_command_line_asks_for_a_unit_to_drive(rt: HostRuntime) -> Result<(), Fail> 
     let Request::Drive(plain) = fewer else {
         return Err(Fail::new("there is nothing to drive"));
     };
-    assert_eq!(rt; plain.config.ring(), 16);
-    assert_eq!(rt; plain.config.queue(), 8);
-    assert_eq!(rt; plain.config.first_tag(), 1);
+    same(&rt, &plain.config.ring(), &16);
+    same(&rt, &plain.config.queue(), &8);
+    same(&rt, &plain.config.first_tag(), &1);
     assert!(rt; plain.predictor == BranchPredictor::Bimod);
     assert!(rt; !plain.quiet_prompt);
     Ok(())
@@ -138,14 +139,19 @@ fn refused(refusal: Refusal) -> Went {
 #[test]
 fn commands_are_answered(rt: HostRuntime) -> Result<(), Fail> {
     let (went, _, text) = driven(&rt, rt.alloc(), Some(LISTING), SCRIPT, 1_000, false)?;
-    assert_eq!(rt;
-        went,
-        Went {
+    same(
+        &rt,
+        &went,
+        &Went {
             status: 0,
-            line: Line::Nothing
-        }
+            line: Line::Nothing,
+        },
     );
-    assert_eq!(rt; text.as_slice(), all(rt.alloc(), &ANSWERS)?.as_slice());
+    same(
+        &rt,
+        &text.as_slice(),
+        &all(rt.alloc(), &ANSWERS)?.as_slice(),
+    );
     Ok(())
 }
 
@@ -153,14 +159,19 @@ fn commands_are_answered(rt: HostRuntime) -> Result<(), Fail> {
 fn a_listing_with_a_fault_is_not_driven(rt: HostRuntime) -> Result<(), Fail> {
     let listing: &[u8] = b"nop\nadd $1,$2\n";
     let (went, _, text) = driven(&rt, rt.alloc(), Some(listing), SCRIPT, 1_000, false)?;
-    assert_eq!(rt;
-        went,
-        Went {
+    same(
+        &rt,
+        &went,
+        &Went {
             status: 2,
-            line: Line::Nothing
-        }
+            line: Line::Nothing,
+        },
     );
-    assert_eq!(rt; text.as_slice(), b"fault line 2 BadOperands\n".as_slice());
+    same(
+        &rt,
+        &text.as_slice(),
+        &b"fault line 2 BadOperands\n".as_slice(),
+    );
     Ok(())
 }
 
@@ -168,12 +179,12 @@ fn a_listing_with_a_fault_is_not_driven(rt: HostRuntime) -> Result<(), Fail> {
 fn a_listing_that_cannot_be_read_is_not_driven(rt: HostRuntime) -> Result<(), Fail> {
     let unopened: Option<FailingReader> = None;
     let (went, _, text) = driven(&rt, rt.alloc(), unopened, SCRIPT, 1_000, false)?;
-    assert_eq!(rt; went, refused(Refusal::Open));
+    same(&rt, &went, &refused(Refusal::Open));
     assert!(rt; text.is_empty());
     for most in 0..=LISTING.len() {
         let listing = FailingReader { given: 0, most };
         let (went, _, text) = driven(&rt, rt.alloc(), Some(listing), SCRIPT, 1_000, false)?;
-        assert_eq!(rt; went, refused(Refusal::Read), "after {most} bytes");
+        same_in(&rt, &most, &went, &refused(Refusal::Read));
         assert!(rt; text.is_empty());
     }
     Ok(())
@@ -192,9 +203,9 @@ fn a_writer_that_fails_keeps_a_beginning_of_the_answers(rt: HostRuntime) -> Resu
                 room,
                 is_silent,
             )?;
-            assert_eq!(rt; went, refused(Refusal::Write), "after {room} bytes");
-            assert_eq!(rt; failures, 1);
-            assert_eq!(rt; text.as_slice(), &whole.as_slice()[..room]);
+            same_in(&rt, &room, &went, &refused(Refusal::Write));
+            same(&rt, &failures, &1);
+            same(&rt, &text.as_slice(), &&whole.as_slice()[..room]);
         }
     }
     Ok(())

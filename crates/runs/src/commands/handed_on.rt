@@ -1,4 +1,5 @@
 //! Runs have the ring, queue, units, turns, predictor and gate that the command line and the caller name.
+use crate::same::{same, same_in};
 use command::{Line, Went, asked, go};
 use devices::Counted;
 use pool::{Gate, Tally};
@@ -67,9 +68,9 @@ fn a_run_has_as_many_stations_as_is_said(rt: HostRuntime) -> Result<(), Fail> {
         };
         let words = ["ruu", "run", "plain.s", "--ruu-size", ring];
         let went = watched(&rt, rt.alloc(), words.as_slice(), PLAIN, &gate)?;
-        assert_eq!(rt; went.status, 0);
-        assert_eq!(rt; gate.asked.load(SeqCst), all, "{ring}");
-        assert_eq!(rt; gate.told.load(SeqCst), 10);
+        same(&rt, &went.status, &0);
+        same_in(&rt, &ring, &gate.asked.load(SeqCst), &all);
+        same(&rt, &gate.told.load(SeqCst), &10);
     }
     Ok(())
 }
@@ -104,8 +105,8 @@ fn a_run_has_as_many_units_as_is_said(rt: HostRuntime) -> Result<(), Fail> {
             "ruu", "run", "plain.s", "--turns", "50000000", "--units", units,
         ];
         let went = watched(&rt, rt.alloc(), words.as_slice(), PLAIN, &gate)?;
-        assert_eq!(rt; went.status, 0, "{units}");
-        assert_eq!(rt; gate.asked.load(SeqCst), all, "{units}");
+        same_in(&rt, &units, &went.status, &0);
+        same_in(&rt, &units, &gate.asked.load(SeqCst), &all);
     }
     Ok(())
 }
@@ -162,8 +163,8 @@ fn a_run_has_the_queue_that_is_said(rt: HostRuntime) -> Result<(), Fail> {
             queue,
         ];
         let went = watched(&rt, rt.alloc(), words.as_slice(), STORES, &gate)?;
-        assert_eq!(rt; went.status, 0, "{queue}");
-        assert_eq!(rt; gate.in_time.load(SeqCst), in_time, "{queue}");
+        same_in(&rt, &queue, &went.status, &0);
+        same_in(&rt, &queue, &gate.in_time.load(SeqCst), &in_time);
     }
     Ok(())
 }
@@ -194,7 +195,7 @@ fn a_unit_has_the_turns_that_are_said(rt: HostRuntime) -> Result<(), Fail> {
         };
         let words = ["ruu", "run", "plain.s", "--units", "1", "--turns", turns];
         let went = watched(&rt, rt.alloc(), words.as_slice(), PLAIN, &gate)?;
-        assert_eq!(rt; went.status, 4, "{turns}");
+        same_in(&rt, &turns, &went.status, &4);
         assert!(rt; gate.asked.load(SeqCst) <= most, "{turns}");
     }
     Ok(())
@@ -239,9 +240,9 @@ fn a_run_has_the_predictor_that_is_said(rt: HostRuntime) -> Result<(), Fail> {
     let cases: [(&str, u64, u64); 3] = [("nottaken", 1, 4), ("taken", 0, 1), ("bimod", 1, 2)];
     for (predictor, forward, back) in cases {
         let once = mends(&rt, rt.alloc(), predictor, FORWARD)?;
-        assert_eq!(rt; once, forward, "{predictor}");
+        same_in(&rt, &predictor, &once, &forward);
         let often = mends(&rt, rt.alloc(), predictor, BACK)?;
-        assert_eq!(rt; often, back, "{predictor}");
+        same_in(&rt, &predictor, &often, &back);
     }
     Ok(())
 }

@@ -1,5 +1,6 @@
 //! What the threads of a run did, and runs that end early.
 use super::answer;
+use crate::same::{same, same_in};
 use command::Line;
 use pool::Tally;
 use std::process::Abort;
@@ -18,11 +19,12 @@ fn each_step_is_told_once(rt: HostRuntime) -> Result<(), Fail> {
         // the threads' race says how many of the three came as a hint
         assert!(rt; tally.hints <= 3, "{units}");
         let line = Line::Tally(Tally { hints: 1, ..tally }).to_string(rt.alloc())?;
-        assert_eq!(rt;
-            line.as_str(),
-            "tally lets 3 claims 3 finishes 3 stale 0 loads 0 retires 2 squashes 0 mends 0 hints 1 \
+        same_in(
+            &rt,
+            &units,
+            &line.as_str(),
+            &"tally lets 3 claims 3 finishes 3 stale 0 loads 0 retires 2 squashes 0 mends 0 hints 1 \
              renewals 0",
-            "{units}"
         );
     }
     Ok(())
@@ -40,7 +42,7 @@ fn few_turns_end_a_run_at_its_beginning(rt: HostRuntime) -> Result<(), Fail> {
     for (turns, most) in [("1", 1), ("2", 2)] {
         let words = ["ruu", "run", "double.s", "--turns", turns];
         let (went, text) = answer(&rt, rt.alloc(), words.as_slice(), LISTING)?;
-        assert_eq!(rt; went.status, 4);
+        same(&rt, &went.status, &4);
         let Line::Tally(tally) = went.line else {
             return Err(Fail::from("no tally"));
         };
@@ -55,8 +57,8 @@ fn few_turns_end_a_run_at_its_beginning(rt: HostRuntime) -> Result<(), Fail> {
 fn turns_are_nothing_to_the_one_thread_unit(rt: HostRuntime) -> Result<(), Fail> {
     let words = ["ruu", "run", "double.s", "--turns", "1", "--alone"];
     let (went, text) = answer(&rt, rt.alloc(), words.as_slice(), LISTING)?;
-    assert_eq!(rt; went.status, 0);
-    assert_eq!(rt; went.line, Line::Nothing);
+    same(&rt, &went.status, &0);
+    same(&rt, &went.line, &Line::Nothing);
     let report = b"stop break\ncount 2\npc 0x00400008\nr1 0x00000005\nr2 0x0000000a\n";
     assert!(rt; text.as_slice() == report.as_slice());
     Ok(())

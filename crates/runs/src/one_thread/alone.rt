@@ -3,6 +3,7 @@ ghost use Rattle.std.specs.Prelude.{◌-◌, ◌^◌, ◌<◌};
 ghost use Rattle.devices.specs.Counted.{failures_of};
 
 use crate::failing::{FailingReader, FailingWriter, LISTING, REPORT};
+use crate::same::{same, same_in};
 use bench::Status;
 use devices::Counted;
 use requests::asked;
@@ -49,8 +50,8 @@ fn a_report_or_the_line_of_a_fault_is_written(rt: HostRuntime) -> Result<(), Fai
         let mut writer = Counted::new(Vec::new(rt.alloc()));
         let line = Line::Nothing;
         let told = went(rt.alloc(), limit, &mut reader, &mut writer)?;
-        assert_eq!(rt; told, Ok(Went { status, line }));
-        assert_eq!(rt; writer.into_inner().as_slice(), text);
+        same(&rt, &told, &Ok(Went { status, line }));
+        same(&rt, &writer.into_inner().as_slice(), &text);
     }
     Ok(())
 }
@@ -61,17 +62,17 @@ fn a_device_that_fails_is_blamed_and_keeps_a_beginning(rt: HostRuntime) -> Resul
         let mut reader = Counted::new(FailingReader { given: 0, most });
         let mut writer = Counted::new(FailingWriter::new(rt.alloc(), 0, false));
         let told = went(rt.alloc(), "9", &mut reader, &mut writer)?;
-        assert_eq!(rt; told, Err(Refusal::Read), "after {most} bytes");
-        assert_eq!(rt; reader.failures(), 1);
+        same_in(&rt, &most, &told, &Err(Refusal::Read));
+        same(&rt, &reader.failures(), &1);
         assert!(rt; writer.into_inner().taken.is_empty());
     }
     for room in 0..REPORT.len() {
         let mut reader = Counted::new(LISTING);
         let mut writer = Counted::new(FailingWriter::new(rt.alloc(), room, false));
         let told = went(rt.alloc(), "9", &mut reader, &mut writer)?;
-        assert_eq!(rt; told, Err(Refusal::Write), "after {room} bytes");
-        assert_eq!(rt; writer.failures(), 1);
-        assert_eq!(rt; writer.into_inner().taken.as_slice(), &REPORT[..room]);
+        same_in(&rt, &room, &told, &Err(Refusal::Write));
+        same(&rt, &writer.failures(), &1);
+        same(&rt, &writer.into_inner().taken.as_slice(), &&REPORT[..room]);
     }
     Ok(())
 }
@@ -86,8 +87,8 @@ fn statuses_are_those_of_a_run(rt: HostRuntime) {
     ];
     for (end, status) in cases {
         let line = Line::Nothing;
-        assert_eq!(rt; written(end, line), Went { status, line });
+        same(&rt, &written(end, line), &Went { status, line });
     }
     let line = Line::Refused(Refusal::Open);
-    assert_eq!(rt; refused(Refusal::Open), Went { status: 5, line });
+    same(&rt, &refused(Refusal::Open), &Went { status: 5, line });
 }

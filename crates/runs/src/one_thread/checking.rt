@@ -1,5 +1,6 @@
 //! Listings that are read and not run: from readers that fail, and to writers that fail.
 use crate::failing::{FailingReader, FailingWriter, LISTING};
+use crate::same::{same, same_in};
 use devices::Counted;
 use viewing::{Line, Refusal, Went, check};
 
@@ -13,9 +14,9 @@ fn what_is_told_of_a_listing_is_written(rt: HostRuntime) {
     for (listing, status, text) in cases {
         let mut writer = Counted::new(Vec::new(rt.alloc()));
         let went = check(rt.alloc(), Some(Counted::new(listing)), &mut writer);
-        assert_eq!(rt; went.status, status);
-        assert_eq!(rt; went.line, Line::Nothing);
-        assert_eq!(rt; writer.into_inner().as_slice(), text);
+        same(&rt, &went.status, &status);
+        same(&rt, &went.line, &Line::Nothing);
+        same(&rt, &writer.into_inner().as_slice(), &text);
     }
 }
 
@@ -32,16 +33,17 @@ fn refused(refusal: Refusal) -> Went {
 fn a_file_that_does_not_open_and_a_read_that_fails_are_blamed(rt: HostRuntime) {
     let mut writer = Counted::new(FailingWriter::new(rt.alloc(), 0, false));
     let none: Option<Counted<FailingReader>> = None;
-    assert_eq!(rt;
-        check(rt.alloc(), none, &mut writer),
-        refused(Refusal::Open)
+    same(
+        &rt,
+        &check(rt.alloc(), none, &mut writer),
+        &refused(Refusal::Open),
     );
     for most in 0..=LISTING.len() {
         let mut writer = Counted::new(FailingWriter::new(rt.alloc(), 0, false));
         let reader = Counted::new(FailingReader { given: 0, most });
         let went = check(rt.alloc(), Some(reader), &mut writer);
-        assert_eq!(rt; went, refused(Refusal::Read), "after {most} bytes");
-        assert_eq!(rt; writer.failures(), 0);
+        same_in(&rt, &most, &went, &refused(Refusal::Read));
+        same(&rt, &writer.failures(), &0);
         assert!(rt; writer.into_inner().taken.is_empty());
     }
 }
@@ -52,9 +54,13 @@ fn a_write_that_fails_is_blamed_and_keeps_a_beginning(rt: HostRuntime) {
         for room in 0..NUMBERS.len() {
             let mut writer = Counted::new(FailingWriter::new(rt.alloc(), room, is_silent));
             let went = check(rt.alloc(), Some(Counted::new(GOOD)), &mut writer);
-            assert_eq!(rt; went, refused(Refusal::Write), "after {room} bytes");
-            assert_eq!(rt; writer.failures(), 1);
-            assert_eq!(rt; writer.into_inner().taken.as_slice(), &NUMBERS[..room]);
+            same_in(&rt, &room, &went, &refused(Refusal::Write));
+            same(&rt, &writer.failures(), &1);
+            same(
+                &rt,
+                &writer.into_inner().taken.as_slice(),
+                &&NUMBERS[..room],
+            );
         }
     }
 }

@@ -1,4 +1,5 @@
 //! The lines that tell of a run.
+use crate::same::same;
 use counts::Tally;
 use std::process::Abort;
 use std::test::*;
@@ -35,7 +36,7 @@ fn a_line_names_what_was_refused_or_done(rt: HostRuntime) -> Result<(), Fail> {
     ];
     for (line, text) in lines {
         let shown = line.to_string(rt.alloc())?;
-        assert_eq!(rt; shown.as_str(), text);
+        same(&rt, &shown.as_str(), &text);
     }
     Ok(())
 }
@@ -44,10 +45,11 @@ fn a_line_names_what_was_refused_or_done(rt: HostRuntime) -> Result<(), Fail> {
 #[test]
 fn progress_is_told_in_the_words_of_a_tally(rt: HostRuntime) -> Result<(), Fail> {
     let line = Progress { tally: TALLY }.to_string(rt.alloc())?;
-    assert_eq!(rt;
-        line.as_str(),
-        "progress lets 1 claims 20 finishes 300 stale 4 loads 50 retires 600 squashes 7 \
-         mends 18446744073709551615 hints 9 renewals 10"
+    same(
+        &rt,
+        &line.as_str(),
+        &"progress lets 1 claims 20 finishes 300 stale 4 loads 50 retires 600 squashes 7 \
+         mends 18446744073709551615 hints 9 renewals 10",
     );
     Ok(())
 }

@@ -3,6 +3,7 @@ ghost use Rattle.std.specs.Prelude.{◌-◌, ◌^◌, ◌<◌, IfSome};
 ghost use Rattle.devices.specs.Counted.{failures_of};
 
 use crate::failing::{FailingReader, FailingWriter, LISTING};
+use crate::same::{same, same_in};
 use devices::Counted;
 use requests::asked;
 use std::alloc::Global;
@@ -63,8 +64,8 @@ fn a_chart_stands_behind_the_report_and_a_log_beside_it(rt: HostRuntime) -> Resu
     ];
     for (words, chart, log) in cases {
         let (went, text, logged) = told(rt.alloc(), words, LISTING)?;
-        assert_eq!(rt; went.status, 0);
-        assert_eq!(rt; went.line, Line::Nothing);
+        same(&rt, &went.status, &0);
+        same(&rt, &went.line, &Line::Nothing);
         assert!(rt; is_both(text.as_slice(), REPORT, chart), "{words:?}");
         assert!(rt; logged.as_slice() == log.as_bytes(), "{words:?}");
     }
@@ -132,7 +133,7 @@ fn a_run_is_told_with_its_predictor_its_ring_and_its_limit(rt: HostRuntime) -> R
     ];
     for (words, listing, report, chart, status) in cases {
         let (went, text, _log) = told(rt.alloc(), words, listing)?;
-        assert_eq!(rt; went.status, status, "{words:?}");
+        same_in(&rt, &words, &went.status, &status);
         assert!(rt; is_both(text.as_slice(), report, chart), "{words:?}");
     }
     Ok(())
@@ -141,9 +142,13 @@ fn a_run_is_told_with_its_predictor_its_ring_and_its_limit(rt: HostRuntime) -> R
 #[test]
 fn a_listing_with_a_fault_has_its_line_alone(rt: HostRuntime) -> Result<(), Fail> {
     let (went, text, log) = told(rt.alloc(), &BOTH, b"nop\nnop\nadd $1,$2\n")?;
-    assert_eq!(rt; went.status, 2);
-    assert_eq!(rt; went.line, Line::Nothing);
-    assert_eq!(rt; text.as_slice(), b"fault line 3 BadOperands\n".as_slice());
+    same(&rt, &went.status, &2);
+    same(&rt, &went.line, &Line::Nothing);
+    same(
+        &rt,
+        &text.as_slice(),
+        &b"fault line 3 BadOperands\n".as_slice(),
+    );
     assert!(rt; log.is_empty());
     Ok(())
 }

@@ -1,5 +1,6 @@
 //! Meetings, reports, renewals and tables.
 use super::{THREE, told_by};
+use crate::same::same;
 use std::test::Fail;
 
 #[test]
@@ -26,7 +27,7 @@ count 1
 pc 0x00400004
 r1 0x00000005
 ";
-    assert_eq!(rt; told.as_slice(), expected.as_slice());
+    same(&rt, &told.as_slice(), &expected.as_slice());
     Ok(())
 }
 
@@ -51,7 +52,7 @@ count 1
 pc 0x00400004
 r1 0x00000005
 ";
-    assert_eq!(rt; told.as_slice(), expected.as_slice());
+    same(&rt, &told.as_slice(), &expected.as_slice());
     Ok(())
 }
 
@@ -73,6 +74,6 @@ creator 1: Made station 0 tag 1
 creator 2: Made station 1 tag 1
 line 4: table takes no operand
 ";
-    assert_eq!(rt; told.as_slice(), expected.as_slice());
+    same(&rt, &told.as_slice(), &expected.as_slice());
     Ok(())
 }

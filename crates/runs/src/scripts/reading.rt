@@ -1,5 +1,6 @@
 //! What is read of words, and rests.
 use super::{THREE, told_by};
+use crate::same::same;
 use std::test::Fail;
 
 #[test]
@@ -26,6 +27,6 @@ Base 0x0000000a
 line 16: operand takes a station and a source
 there is no such station
 ";
-    assert_eq!(rt; told.as_slice(), expected.as_slice());
+    same(&rt, &told.as_slice(), &expected.as_slice());
     Ok(())
 }

@@ -1,5 +1,6 @@
 //! What a gate sees, and what the tally counts.
 use super::{Shape, plain, run_listing};
+use crate::same::same;
 use pool::{Gate, Open, Run, Tally};
 use snapshots::Snap;
 use std::process::Abort;
@@ -55,9 +56,9 @@ fn two_units_work_at_once(rt: HostRuntime) -> Result<(), Fail> {
     let Run::Ended(end, _) = run else {
         return Err(Fail::from("ended"));
     };
-    assert_eq!(rt; end.n, 2);
+    same(&rt, &end.n, &2);
     assert!(rt; gate.other.load(SeqCst) != 0);
-    assert_eq!(rt; gate.told.load(SeqCst), 1);
+    same(&rt, &gate.told.load(SeqCst), &1);
     Ok(())
 }
 
@@ -95,8 +96,8 @@ fn a_unit_that_rests_works_where_another_is_held(rt: HostRuntime) -> Result<(), 
     let Run::Ended(end, _) = run else {
         return Err(Fail::from("ended"));
     };
-    assert_eq!(rt; end.n, 9);
-    assert_eq!(rt; gate.asked.load(SeqCst), gate.all);
+    same(&rt, &end.n, &9);
+    same(&rt, &gate.asked.load(SeqCst), &gate.all);
     Ok(())
 }
 
@@ -121,7 +122,7 @@ fn each_step_is_counted_once(rt: HostRuntime) -> Result<(), Fail> {
             hints: tally.hints,
             renewals: 0,
         };
-        assert_eq!(rt; tally, expected);
+        same(&rt, &tally, &expected);
         assert!(rt; tally.hints <= 3);
     }
     Ok(())
@@ -163,7 +164,7 @@ fn snapshots_are_taken_at_several_places(rt: HostRuntime) -> Result<(), Fail> {
             others: AtomicU64::new(0),
         };
         run_listing(&rt, rt.alloc(), LISTING, &shape, &gate)?;
-        assert_eq!(rt; gate.first.load(SeqCst), 1);
+        same(&rt, &gate.first.load(SeqCst), &1);
         if gate.others.load(SeqCst) == 1 {
             return Ok(());
         }
@@ -220,12 +221,12 @@ fn snapshots_are_shown_each_64_instructions_and_at_the_end(rt: HostRuntime) -> R
         let Run::Ended(end, _) = run else {
             return Err(Fail::from("ended"));
         };
-        assert_eq!(rt; end.n, 601);
-        assert_eq!(rt; gate.last.load(SeqCst), end.n);
-        assert_eq!(rt; gate.odd.load(SeqCst), end.n);
-        assert_eq!(rt; gate.retires.load(SeqCst), end.n);
-        assert_eq!(rt; gate.tallies.load(SeqCst), 10);
-        assert_eq!(rt; gate.odd_retires.load(SeqCst), end.n);
+        same(&rt, &end.n, &601);
+        same(&rt, &gate.last.load(SeqCst), &end.n);
+        same(&rt, &gate.odd.load(SeqCst), &end.n);
+        same(&rt, &gate.retires.load(SeqCst), &end.n);
+        same(&rt, &gate.tallies.load(SeqCst), &10);
+        same(&rt, &gate.odd_retires.load(SeqCst), &end.n);
     }
     Ok(())
 }

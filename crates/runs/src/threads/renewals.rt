@@ -1,5 +1,6 @@
 //! Runs whose tags are spent again and again.
 use super::{Shape, plain, report, run_listing};
+use crate::same::same;
 use instructions::NotTaken;
 use isa::parse;
 use pool::{Gate, Open, Run, Tally, run};
@@ -117,9 +118,9 @@ fn snapshots_go_on_over_renewals(rt: HostRuntime) -> Result<(), Fail> {
     let Run::Ended(end, tally) = run else {
         return Err(Fail::from("no end"));
     };
-    assert_eq!(rt; end.n, 601);
-    assert_eq!(rt; gate.last.load(SeqCst), 601);
-    assert_eq!(rt; gate.fell.load(SeqCst), 0);
+    same(&rt, &end.n, &601);
+    same(&rt, &gate.last.load(SeqCst), &601);
+    same(&rt, &gate.fell.load(SeqCst), &0);
     assert!(rt; 0 < gate.told.load(SeqCst) && 3 <= tally.renewals);
     Ok(())
 }
@@ -139,7 +140,7 @@ fn a_run_that_is_refused_memory_renews_at_the_next_try(rt: HostRuntime) -> Resul
     let Run::Ended(end, tally) = run else {
         return Err(Fail::from("no end"));
     };
-    assert_eq!(rt; end.n, 2);
-    assert_eq!(rt; tally.renewals, 1);
+    same(&rt, &end.n, &2);
+    same(&rt, &tally.renewals, &1);
     Ok(())
 }

@@ -1,6 +1,7 @@
 //! Devices that fail.
 use super::*;
 use crate::failing::FailingWriter;
+use crate::same::same;
 use charts::Fault;
 use std::process::Abort;
 
@@ -17,8 +18,8 @@ fn fails(rt: &impl Abort, alloc: Global, format: Format, is_silent: bool) -> Res
         let mut writer = Counted::new(failing);
         let told = watch(alloc, &program, &config, NotTaken, format, &mut writer);
         assert!(rt; matches!(&told, Err(Fault::Write)));
-        assert_eq!(rt; writer.failures(), 1);
-        assert_eq!(rt; writer.into_inner().taken.as_slice(), &whole[..room]);
+        same(rt, &writer.failures(), &1);
+        same(rt, &writer.into_inner().taken.as_slice(), &&whole[..room]);
     }
     Ok(())
 }

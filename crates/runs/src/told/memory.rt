@@ -1,5 +1,6 @@
 //! Want of memory.
 use super::*;
+use crate::same::same;
 use charts::Fault;
 use instructions::End;
 use std::io::{self, Write};
@@ -47,14 +48,14 @@ fn is_told(
     let config = config(16, 100)?;
     let (first, written) = once(alloc, program, &config, format);
     if first.is_ok() {
-        assert_eq!(rt; written, bytes);
+        same(rt, &written, &bytes);
         return Ok(());
     }
     assert!(rt; matches!(&first, Err(Fault::Memory)));
     assert!(rt; written <= bytes);
     let (second, all) = once(alloc, program, &config, format);
     assert!(rt; second.is_ok());
-    assert_eq!(rt; all, bytes);
+    same(rt, &all, &bytes);
     Ok(())
 }
 

@@ -1,5 +1,6 @@
 //! What is said of runs. The turns are those of the one-thread unit, counted by hand.
 use super::*;
+use crate::same::same;
 use std::process::Abort;
 
 fn says(
@@ -19,11 +20,11 @@ fn is_of_lines(rt: &impl Abort, told: &[u8], lines: &[&str]) -> Result<(), Fail>
     for line in lines {
         let line = line.as_bytes();
         assert!(rt; rest.len() > line.len(), "a line more");
-        assert_eq!(rt; &rest[..line.len()], line);
-        assert_eq!(rt; rest[line.len()], b'\n');
+        same(rt, &&rest[..line.len()], &line);
+        same(rt, &rest[line.len()], &b'\n');
         rest = &rest[line.len() + 1..];
     }
-    assert_eq!(rt; rest, b"".as_slice());
+    same(rt, &rest, &b"".as_slice());
     Ok(())
 }
 
